@@ -174,6 +174,83 @@ static void try_parts()
     check(all(bench.numbers(GWB_SOLID)) == Numbers32{1} && bench.depth() == 3, "a part is one command");
 }
 
+// A spoke of the top of a block, cut loose: an operator that makes vertex 9, and one that makes ring 7.
+static void give_steps(Workbench &bench)
+{
+    bench.mev(plus(7), plus(7), 13, 9, {2, 2, 4});
+    bench.kemr(plus(13), 7);
+}
+
+static void try_committed_drafts()
+{
+    Workbench bench = block();
+    Draft draft = bench.draft();
+    give_steps(bench);
+    check(bench.lone_vertex(7) == 9u && bench.count(1).vertices == 9, "readers and queries speak of the draft's model");
+    check(bench.depth() == 0 && bench.ahead() == 0, "in a draft nothing can be undone");
+    check(throws<RefusedBy<GWB_WHY_LOOP_TAKEN>>([&] { bench.mef(plus(7), plus(9), 20, 20, 1); }), "a step that is refused");
+    check(all(bench.rings(1)) == Numbers32{7}, "it leaves the draft open");
+    Workbench moved = std::move(bench);
+    draft.commit();
+    check(moved.depth() == 2 && all(moved.rings(1)) == Numbers32{7}, "the steps are one command");
+    check(throws<NoDraft>([&] { draft.commit(); }) && throws<NoDraft>([&] { draft.abandon(); }), "a draft that was committed");
+    moved.undo();
+    check(moved.count(1).vertices == 8 && moved.ahead() == 1, "they are undone at once");
+    moved.draft().commit();
+    check(moved.depth() == 2 && moved.ahead() == 0, "a draft of no steps is a command too");
+}
+
+static void try_abandoned_drafts()
+{
+    Workbench bench = block();
+    bench.undo();
+    {
+        Draft draft = bench.draft();
+        bench.mvfs(1, 1, 1, 1, {0, 0, 0});
+        Draft other = std::move(draft);
+        check(throws<NoDraft>([&] { draft.commit(); }) && bench.lone_vertex(1) == 1u, "a draft that was moved from");
+    }
+    check(all(bench.numbers(GWB_SOLID)).empty() && bench.ahead() == 1, "at the end of its scope a draft is abandoned");
+    bench.redo();
+    Draft draft = bench.draft();
+    give_steps(bench);
+    draft.abandon();
+    check(bench.count(1).vertices == 8 && bench.depth() == 1, "a draft that was abandoned");
+    check(throws<NoDraft>([&] { draft.abandon(); }), "one that was abandoned before");
+    auto fails = [&] {
+        Draft lost = bench.draft();
+        give_steps(bench);
+        bench.kvfs(1);
+    };
+    check(throws<RefusedBy<GWB_WHY_NOT_BARE>>(fails) && bench.count(1).vertices == 8, "an exception abandons the draft");
+}
+
+static void try_what_drafts_refuse()
+{
+    Workbench bench = block();
+    Draft draft = bench.draft();
+    give_steps(bench);
+    const std::function<void()> calls[] = {
+        [&] { bench.lamina(2, {{0, 0, 0}, {3, 0, 0}, {0, 3, 0}}); },
+        [&] { bench.block(2, {0, 0, 4}, {4, 4, 4}); },
+        [&] { bench.sweep(1, {0, 0, 1}); },
+        [&] { bench.glue(1, 2); },
+        [&] { bench.split(1, 0, 0, 1, -2, 2); },
+        [&] { bench.undo(); },
+        [&] { bench.redo(); },
+        [&] { bench.run("list"); },
+        [&] { (void)bench.draft(); },
+    };
+    for (std::size_t at = 0; at < std::size(calls); at++)
+        check(throws<InDraft>(calls[at]), ("what a draft does not take, with the place " + std::to_string(at)).c_str());
+    check(all(bench.rings(1)) == Numbers32{7} && bench.count(1).vertices == 9, "nothing has changed");
+    gwb_commit(bench.handle());
+    check(throws<NoDraft>([&] { draft.commit(); }) && bench.depth() == 2, "a draft that was committed by the call for C");
+    Draft closed = bench.draft();
+    gwb_close(bench.handle());
+    check(throws<Closed>([&] { closed.commit(); }), "the draft of a closed workbench");
+}
+
 template <class Bench, class = void> constexpr bool has_faces = false;
 template <class Bench> constexpr bool has_faces<Bench, std::void_t<decltype(std::declval<Bench>().faces(1))>> = true;
 
@@ -218,6 +295,7 @@ static void try_closed()
         [&] { bench.merge(1, 2); },
         [&] { bench.part({1}, 2); },
         [&] { bench.lamina(1, {}); },
+        [&] { (void)bench.draft(); },
         [&] { bench.block(1, {0, 0, 0}, {4, 4, 4}); },
         [&] { bench.sweep(1, {0, 0, 1}); },
         [&] { bench.glue(1, 2); },
@@ -250,7 +328,7 @@ static void try_closed()
 int main()
 {
     for (void (*part)() : {try_measures, try_refusals, try_what_is_said, try_operators, try_solids, try_readers, try_laminas, try_parts,
-                           try_moves, try_closed})
+                           try_committed_drafts, try_abandoned_drafts, try_what_drafts_refuse, try_moves, try_closed})
         part();
     std::cout << passed << " passed, " << failed << " failed\n";
     return failed == 0 ? 0 : 1;

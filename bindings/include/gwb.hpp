@@ -104,6 +104,21 @@ public:
     explicit NoCall(std::string_view command) : Misused(std::string(command) + ": these arguments make no command") {}
 };
 
+// A draft takes operators alone: no larger command, line, undo, redo or second draft.
+class InDraft : public Misused {
+public:
+    explicit InDraft(std::string_view command)
+        : Misused(std::string(command.substr(0, 100)) + ": a draft is open, which takes operators alone")
+    {
+    }
+};
+
+// The draft has ended.
+class NoDraft : public Misused {
+public:
+    explicit NoDraft(std::string_view command) : Misused(std::string(command) + ": there is no draft") {}
+};
+
 // Items of the caller that lie one after another: a list in braces, a std::vector, a std::array, in C++20 a std::span. It does not own
 // them, so it is for a parameter alone.
 template <class Item> class Items {
@@ -172,9 +187,12 @@ private:
     std::uint32_t owner_;
 };
 
+class Draft;
+
 // A session, closed at the end of its scope. It can be moved; one that was moved from is closed. Commands and queries throw RefusedBy where
 // a condition is false, and std::bad_alloc where memory is refused; then the model is as it was, and the command may be given again.
-// Readers are const. On a closed workbench every method throws Closed.
+// Readers are const. On a closed workbench every method throws Closed. While a draft is open, operators are its steps, readers and queries
+// speak of its model, and what it does not take throws InDraft.
 class Workbench {
 public:
     Workbench() : handle_(new gwb{})
@@ -227,9 +245,12 @@ public:
         told("split", gwb_split(held(), solid, a, b, c, d, above));
     }
 
+    // Opens a draft of the next command.
+    [[nodiscard]] Draft draft();
+
     void undo() { told("undo", gwb_undo(held())); }
     void redo() { told("redo", gwb_redo(held())); }
-    // How many commands can be undone, and how many redone.
+    // How many commands can be undone, and how many redone: none while a draft is open.
     std::size_t depth() const { return opened(gwb_depth(held())); }
     std::size_t ahead() const { return opened(gwb_ahead(held())); }
 
@@ -350,6 +371,8 @@ private:
         case GWB_MEMORY: throw std::bad_alloc();
         case GWB_CLOSED: throw Closed();
         case GWB_NO_CALL: throw NoCall(command);
+        case GWB_IN_DRAFT: throw InDraft(command);
+        case GWB_NO_DRAFT: throw NoDraft(command);
         case GWB_REFUSED: refuse(command, std::make_index_sequence<GWB_WHY_BAD_PART>());
         default: return static_cast<gwb_kind>(kind);
         }
@@ -409,6 +432,52 @@ private:
 
     std::unique_ptr<gwb, Close> handle_;
 };
+
+// A draft of a workbench's next command: the operators given while it is open become one command when it is committed, also where there
+// were none. At the end of its scope it is abandoned, unless it was committed: then the workbench is as it was before, what can be redone
+// included. A refused step changes nothing and leaves it open. Its workbench outlives it, and may be moved meanwhile.
+//
+//     gwb_session::Draft draft = bench.draft();
+//     bench.mev(plus(7), plus(7), 13, 9, {2, 2, 4});
+//     bench.kemr(plus(13), 7);
+//     draft.commit();
+class Draft {
+public:
+    Draft(Draft &&other) noexcept : handle_(std::exchange(other.handle_, nullptr)) {}
+    Draft &operator=(Draft &&) = delete;
+    ~Draft()
+    {
+        if (handle_ != nullptr)
+            gwb_abandon(handle_);
+    }
+
+    // Its steps are one command from here on. NoDraft where it has ended.
+    void commit() { end("commit", gwb_commit); }
+    // Its steps are taken back. NoDraft where it has ended.
+    void abandon() { end("abandon", gwb_abandon); }
+
+private:
+    friend class Workbench;
+    explicit Draft(gwb *handle) : handle_(handle) {}
+
+    void end(const char *command, std::uint32_t (*call)(gwb *))
+    {
+        if (handle_ == nullptr)
+            throw NoDraft(command);
+        switch (call(std::exchange(handle_, nullptr))) {
+        case GWB_CLOSED: throw Closed();
+        case GWB_NO_DRAFT: throw NoDraft(command);
+        }
+    }
+
+    gwb *handle_;
+};
+
+inline Draft Workbench::draft()
+{
+    told("draft", gwb_draft(held()));
+    return Draft(held());
+}
 
 } // namespace gwb_session
 #endif

@@ -7,6 +7,8 @@ pub const FAULT: u32 = 3;
 pub const MEMORY: u32 = 4;
 pub const LISTING: u32 = 8;
 pub const NO_CALL: u32 = 10;
+pub const IN_DRAFT: u32 = 11;
+pub const NO_DRAFT: u32 = 12;
 pub const FOUND: u32 = 1;
 
 /// A session as the library holds it. Nothing outside reads its fields.
@@ -103,6 +105,9 @@ extern "C" {
     pub fn gwb_sweep(g: *mut Handle, face: u32, dx: i64, dy: i64, dz: i64) -> u32;
     pub fn gwb_glue(g: *mut Handle, face: u32, other: u32) -> u32;
     pub fn gwb_split(g: *mut Handle, solid: u32, a: i64, b: i64, c: i64, d: i64, above: u32) -> u32;
+    pub fn gwb_draft(g: *mut Handle) -> u32;
+    pub fn gwb_commit(g: *mut Handle) -> u32;
+    pub fn gwb_abandon(g: *mut Handle) -> u32;
     pub fn gwb_undo(g: *mut Handle) -> u32;
     pub fn gwb_redo(g: *mut Handle) -> u32;
 

@@ -27,12 +27,14 @@
 #![warn(missing_docs)]
 
 mod calls;
+mod draft;
 mod error;
 mod numbers;
 mod refusal;
 mod rows;
 mod session;
 
+pub use draft::Draft;
 pub use error::Error;
 pub use numbers::Numbers;
 pub use refusal::Refusal;

@@ -1,6 +1,6 @@
 use crate::calls::{self, Handle, LastRefusal, Range, Wide, WidePlane, FOUND};
 use crate::numbers::Numbers;
-use crate::{Counts, Edge, Entity, Error, Face, Plane, Point, Refusal};
+use crate::{Counts, Draft, Edge, Entity, Error, Face, Plane, Point, Refusal};
 use std::fmt;
 use std::ops::RangeInclusive;
 use std::ptr::NonNull;
@@ -145,6 +145,15 @@ impl Session {
         self.told(unsafe { calls::gwb_split(self.handle(), solid, a, b, c, d, above) })
     }
 
+    /// Opens a draft of the next command.
+    ///
+    /// # Errors
+    /// [`Error::Memory`].
+    pub fn draft(&mut self) -> Result<Draft<'_>, Error> {
+        self.told(unsafe { calls::gwb_draft(self.handle()) })?;
+        Ok(Draft::new(self))
+    }
+
     /// Takes the last command back.
     pub fn undo(&mut self) -> Result<(), Error> {
         self.told(unsafe { calls::gwb_undo(self.handle()) })
@@ -155,13 +164,13 @@ impl Session {
         self.told(unsafe { calls::gwb_redo(self.handle()) })
     }
 
-    /// How many commands can be undone.
+    /// How many commands can be undone: none while a draft is open.
     #[must_use]
     pub fn depth(&self) -> usize {
         unsafe { calls::gwb_depth(self.handle()) }
     }
 
-    /// How many commands can be redone.
+    /// How many commands can be redone: none while a draft is open.
     #[must_use]
     pub fn ahead(&self) -> usize {
         unsafe { calls::gwb_ahead(self.handle()) }
@@ -290,12 +299,14 @@ impl Session {
     }
 
     /// What the kind of an answer says.
-    fn told(&self, kind: u32) -> Result<(), Error> {
+    pub(crate) fn told(&self, kind: u32) -> Result<(), Error> {
         match kind {
             calls::REFUSED => Err(self.refusal()),
             calls::FAULT => Err(Error::Fault(self.found(|g, number| unsafe { calls::gwb_last_fault(g, number) }).unwrap_or_default())),
             calls::MEMORY => Err(Error::Memory),
             calls::NO_CALL => Err(Error::NoCall),
+            calls::IN_DRAFT => Err(Error::InDraft),
+            calls::NO_DRAFT => Err(Error::NoDraft),
             0..=calls::LISTING => Ok(()),
             _ => Err(Error::Unknown(kind)),
         }

@@ -1,5 +1,5 @@
 //! A session from outside: what commands make, what refuses them, and what readers find.
-use gwb::{lone, minus, plus, version, Edge, Entity, Error, Face, Point, Refusal, Session};
+use gwb::{lone, minus, plus, version, Draft, Edge, Entity, Error, Face, Point, Refusal, Session};
 
 fn block() -> Session {
     let mut session = Session::new().unwrap();
@@ -137,6 +137,80 @@ fn faces_are_parted_from_a_solid() {
     assert_eq!(session.part(&[7], 3), refused(Refusal::BadPart, 1));
     session.part(&[7, 8, 9, 10, 11, 12], 3).unwrap();
     assert_eq!((session.six_volumes(1), session.six_volumes(3)), (Ok(384), Ok(6)));
+}
+
+/// A spoke of the top of a block, cut loose: vertex 9 and ring 7.
+fn give_steps(draft: &mut Draft<'_>) {
+    draft.mev(plus(7), plus(7), 13, 9, [2, 2, 4]).unwrap();
+    draft.kemr(plus(13), 7).unwrap();
+}
+
+#[test]
+fn a_draft_that_is_committed_is_one_command() {
+    let mut session = block();
+    let mut draft = session.draft().unwrap();
+    give_steps(&mut draft);
+    assert_eq!((draft.lone_vertex(7), draft.count(1).unwrap().vertices), (Some(9), 9));
+    assert_eq!((draft.depth(), draft.ahead(), draft.six_volumes(1), draft.plane(1).unwrap().flat), (0, 0, Ok(384), true));
+    assert_eq!(draft.kvfs(1), refused(Refusal::NotBare, 1));
+    assert_eq!(draft.rings(1).collect::<Vec<_>>(), [7]);
+    draft.commit().unwrap();
+    assert_eq!((session.depth(), session.lone_vertex(7)), (2, Some(9)));
+    session.undo().unwrap();
+    assert_eq!((session.count(1).unwrap().vertices, session.ahead()), (8, 1));
+    session.draft().unwrap().commit().unwrap();
+    assert_eq!((session.depth(), session.ahead()), (2, 0));
+}
+
+#[test]
+fn a_draft_that_is_dropped_leaves_no_trace() {
+    let mut session = block();
+    session.block(2, [9, 9, 9], [1, 1, 1]).unwrap();
+    session.undo().unwrap();
+    let before = listing(&mut session);
+    give_steps(&mut session.draft().unwrap());
+    assert_eq!(listing(&mut session), before);
+    assert_eq!((session.depth(), session.ahead()), (1, 1));
+    session.redo().unwrap();
+}
+
+#[test]
+fn every_operator_is_a_step() {
+    let mut session = Session::new().unwrap();
+    let mut draft = session.draft().unwrap();
+    draft.mvfs(1, 1, 1, 1, [0, 0, 0]).unwrap();
+    draft.mev(lone(1), lone(1), 1, 2, [3, 0, 0]).unwrap();
+    draft.mev(minus(1), minus(1), 2, 3, [0, 3, 0]).unwrap();
+    draft.mef(plus(1), minus(2), 3, 2, 2).unwrap();
+    draft.mev(plus(1), plus(1), 4, 4, [1, 1, 0]).unwrap();
+    draft.kemr(plus(4), 3).unwrap();
+    draft.ring_in(3, 1).unwrap();
+    draft.ring_out(3, 1).unwrap();
+    draft.outer(1, 1).unwrap();
+    draft.mfkrh(3, 9).unwrap();
+    draft.kfmrh(1, 9).unwrap();
+    draft.mekr(plus(3), lone(3), 4).unwrap();
+    draft.kev(plus(4)).unwrap();
+    draft.mvfs(2, 3, 3, 4, [9, 9, 9]).unwrap();
+    draft.merge(1, 2).unwrap();
+    draft.part(&[3], 5).unwrap();
+    draft.kvfs(5).unwrap();
+    draft.kef(plus(3)).unwrap();
+    assert_eq!(draft.count(1).map(|counts| (counts.vertices, counts.edges, counts.faces)), Ok((3, 2, 1)));
+    draft.commit().unwrap();
+    assert_eq!(session.depth(), 1);
+}
+
+#[test]
+fn a_draft_that_is_forgotten_stays_open() {
+    let mut session = block();
+    std::mem::forget(session.draft().unwrap());
+    let before = session.numbers(Entity::Face).count();
+    assert_eq!(session.block(2, [9, 9, 9], [1, 1, 1]), Err(Error::InDraft));
+    assert_eq!(session.lamina(2, &[]), Err(Error::InDraft));
+    assert_eq!((session.undo(), session.redo(), session.run("list")), (Err(Error::InDraft), Err(Error::InDraft), Err(Error::InDraft)));
+    assert!(matches!(session.draft(), Err(Error::InDraft)));
+    assert_eq!((session.numbers(Entity::Face).count(), Error::InDraft.to_string().contains("draft")), (before, true));
 }
 
 #[test]
