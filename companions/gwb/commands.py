@@ -3,12 +3,12 @@
 from typing import Optional, Sequence, Tuple
 
 from . import arguments
-from .conversation import Conversation
 from .results import Block, Corner, Count, Lamina, NewEdge, NewFace, NewSolid, Numbers, Plane, Split, Sweep
+from .steps import Steps
 from .vectors import Vector
 
 
-class Commands(Conversation):
+class Commands(Steps):
     """A running gwb. Each command is a method; one that isn't accepted raises Refused, Faulted or MemoryRefused."""
 
     def mvfs(self, point: Vector, *, solid: Optional[int] = None, face: Optional[int] = None,
@@ -128,14 +128,18 @@ class Commands(Conversation):
         return Split(number, lower, upper, made['face'], made['edge'], made['vertex'])
 
     def undo(self, *, command: bool = False) -> None:
-        """The last step is taken back: a command, or all those of a feature; with `command=True` one command of it."""
-        for _ in range(1 if arguments.flag('command', command) else self._journal.step_back()):
-            self._do('undo')
+        """The last step is taken back: a command, or all those of a feature; with `command=True` one command of it. A draft is one command."""
+        one = arguments.flag('command', command)
+        self._refuse_in_draft('undo')
+        for _ in range(1 if one else self._journal.step_back()):
+            self._go('undo')
 
     def redo(self, *, command: bool = False) -> None:
         """The step that was taken back last is done again; with `command=True` one command of it."""
-        for _ in range(1 if arguments.flag('command', command) else self._journal.step_ahead()):
-            self._do('redo')
+        one = arguments.flag('command', command)
+        self._refuse_in_draft('redo')
+        for _ in range(1 if one else self._journal.step_ahead()):
+            self._go('redo')
 
     def plane(self, face: int) -> Plane:
         """The plane of the face."""

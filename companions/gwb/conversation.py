@@ -1,15 +1,15 @@
 """What a workbench knows while it gives commands: those that were accepted, which are one step, and the numbers in use."""
 
-from contextlib import contextmanager
-from typing import Dict, Iterator, Optional, Sequence, Tuple, Union
+from typing import Dict, Optional, Sequence, Union
 
 from . import arguments
 from .calls import Call, Value, call_in
 from .complaints import complaint
-from .journal import KINDS, Greatest, Journal
+from .errors import InDraft
+from .journal import KINDS, Journal
 from .library import Library
 from .model import Model
-from .numbering import COUNTED_KINDS, GROWING, LARGER, Seeker, changes, fresh_counts
+from .numbering import COUNTED_KINDS, GROWING, LARGER, NOT_IN_DRAFTS, Seeker, changes, fresh_counts
 from .pipe import Pipe, find_program
 from .reading import FacePart, ListingReader, Reader
 from .replies import Reply
@@ -42,10 +42,12 @@ class Conversation:
         return self._lines.close()
 
     def ask(self, line: str) -> Reply:
-        """The reply to one line of the script language, whatever it is. What it makes, undoes or redoes is taken account of."""
+        """The reply to one line of the script language, whatever it is. What it makes, undoes or redoes is taken account of; of a draft
+        all is undone or redone."""
         words = arguments.text('line', line).split()
-        if words == ['redo'] and self._journal.has_given_up:
-            return _NOTHING_TO_REDO
+        self._refuse_in_draft(line)
+        if words in (['undo'], ['redo']):
+            return self._stepped(words[0])
         corners = self._prepared(words[0], int(words[1]) if words[1:] and words[1].isdecimal() else 0) if words else 0
         reply = self._lines.ask(line)
         if reply.word == 'ok':
@@ -74,8 +76,8 @@ class Conversation:
 
     def _do(self, word: str, *values: Value) -> Fresh:
         """Gives a command: the fresh numbers of a larger one. A complaint is raised."""
-        if word == 'redo' and self._journal.has_given_up:
-            raise complaint(word, _NOTHING_TO_REDO)
+        if word in NOT_IN_DRAFTS:
+            self._refuse_in_draft(word)
         call = Call(word, values)
         corners = self._prepared(word, call.number(0) if word == 'sweep' else 0)
         self._lines.do(call)
@@ -91,10 +93,6 @@ class Conversation:
     def _account(self, call: Call, corners: int) -> Fresh:
         """An accepted command changes what is known: the fresh numbers of a larger one."""
         self._held = None
-        if call.word in ('undo', 'redo'):
-            self._journal.at += 1 if call.word == 'redo' else -1
-            self._sizes.clear()
-            return {}
         fresh = self._fresh(call, corners) if call.word in LARGER else {}
         self._resize(call, fresh)
         made, killed = changes(call)
@@ -107,6 +105,32 @@ class Conversation:
         if self._grouped is False:
             self._grouped = True
         return fresh
+
+    def _go(self, word: str) -> None:
+        """Undoes or redoes one command, the word says which. A complaint is raised."""
+        reply = self._stepped(word)
+        if reply.is_complaint:
+            raise complaint(word, reply)
+
+    def _stepped(self, word: str) -> Reply:
+        """The reply where one command is undone or redone, the word says which."""
+        if word == 'redo' and self._journal.has_given_up:
+            return _NOTHING_TO_REDO
+        reply = self._lines.step(word, self._journal.calls_of(word))
+        if not reply.is_complaint:
+            self._journal.at += 1 if word == 'redo' else -1
+            self._changed()
+        return reply
+
+    def _changed(self) -> None:
+        """What was read or reckoned of the model no longer holds."""
+        self._held = None
+        self._sizes.clear()
+
+    def _refuse_in_draft(self, words: str) -> None:
+        """A draft takes operators alone."""
+        if self._journal.draft is not None:
+            raise InDraft(f'{words}: a draft is open, which takes operators alone')
 
     def _fresh(self, call: Call, corners: int) -> Fresh:
         """For each kind the fresh numbers of an accepted larger command, up to the greatest in use; those of a split have gaps."""
@@ -158,27 +182,3 @@ class Conversation:
 
     def _lies_on(self, face: int, plane: Sequence[int]) -> bool:
         return all(dot((plane[0], plane[1], plane[2]), point) + plane[3] == 0 for point in FacePart(self, face).points)
-
-    # Steps
-
-    @contextmanager
-    def _step(self) -> Iterator[None]:
-        """The commands given in it are one step to undo. Where one isn't accepted those before it are undone, and can't be redone."""
-        if self._grouped is not None:
-            yield
-            return
-        at, self._grouped = self._journal.at, False
-        try:
-            yield
-        except Exception:
-            self._grouped = None
-            self._give_up(at)
-            raise
-        finally:
-            self._grouped = None
-
-    def _give_up(self, at: int) -> None:
-        if self._journal.at > at:
-            while self._journal.at > at:
-                self._do('undo')
-            self._journal.give_up(at)

@@ -25,5 +25,13 @@ class Ended(CompanionError):
     """The program ended while a reply was awaited, or the session is closed."""
 
 
+class InDraft(CompanionError, RuntimeError):
+    """A draft is open, which takes operators alone; nothing has changed."""
+
+
+class NoDraft(CompanionError, RuntimeError):
+    """The draft has ended before its block did: a feature in it wasn't made whole."""
+
+
 class NotOne(CompanionError, LookupError):
     """One thing was wanted, and what was looked for is there more than once, or not at all."""

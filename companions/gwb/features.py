@@ -29,6 +29,7 @@ class Features(Selecting):
         Refused: FewPoints, RepeatedPoint, NoArea, NotInPlane, OutlineCrossed; AlongPlane: the vector lies in the plane of the points."""
         outline, way = arguments.points('points', points), arguments.point('along', along)
         number = self._new('solid', solid)
+        self._refuse_in_draft('profile')
         side = dot(simple_normal(outline), way)
         if side == 0:
             raise Impossible('AlongPlane', 0, f'the vector {way} lies in the plane of the points')
@@ -44,7 +45,7 @@ class Features(Selecting):
         says of points."""
         number, outline = arguments.number('face', face), arguments.points('points', points)
         path = clockwise_in(self._flat(number), number, outline)
-        with self._step():
+        with self._step(operators_alone=True):
             return self._draw(number, path)
 
     def pocket(self, face: int, points: Sequence[Vector], depth: int) -> Pocket:
@@ -60,6 +61,7 @@ class Features(Selecting):
         """A hole from the outline in the face through to the opposite face. Refused as pocket is; NoOpposite: there is nothing behind
         the outline; NotParallel: the face behind it isn't parallel; OutlineOutside: the outline isn't inside that one."""
         number, outline = arguments.number('face', face), arguments.points('points', points)
+        self._refuse_in_draft('hole')
         path = clockwise_in(self._flat(number), number, outline)
         model = self._model_of(self._faces_beside(number))
         other, way = _opposite(model, number, path[0])
@@ -79,6 +81,7 @@ class Features(Selecting):
         if not 3 <= count <= arguments.MOST_POINTS:
             raise ValueError(f'sides: {count} is outside 3 to {arguments.MOST_POINTS}')
         deep = None if depth is None else arguments.positive('depth', depth)
+        self._refuse_in_draft('drill')
         across = self._flat(number).across
         if across.count(0) != 2:
             raise Impossible('NotAcross', number, f"face {number} doesn't lie across an axis")
@@ -96,6 +99,7 @@ class Features(Selecting):
         numbers = arguments.numbers('solids', solids)
         if not numbers or len(set(numbers)) < len(numbers):
             raise ValueError('solids: different numbers are wanted, at least one')
+        self._refuse_in_draft('glue_all')
         pairs = _matches([(solid, face.number, face.outer.points) for solid in numbers
                           for face in self.solid(solid).faces if not face.rings])
         chain = _chain(numbers, pairs)
@@ -107,6 +111,7 @@ class Features(Selecting):
     def _raised(self, face: int, points: Sequence[Vector], length: int) -> Pocket:
         """The outline moved along the face's normal by the length, which is negative for a pocket."""
         number, outline = arguments.number('face', face), arguments.points('points', points)
+        self._refuse_in_draft('boss' if length > 0 else 'pocket')
         shape = self._flat(number)
         path = clockwise_in(shape, number, outline)
         way = steps_along(reduced(shape.across), length)

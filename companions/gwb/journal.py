@@ -1,6 +1,6 @@
 """What a session has done: its commands in order, which of them are one step to undo, and the greatest numbers then in use."""
 
-from typing import Dict, List, NamedTuple, Tuple
+from typing import Dict, List, NamedTuple, Optional, Tuple
 
 from .calls import Call
 
@@ -38,31 +38,40 @@ class Greatest:
 
 
 class Done(NamedTuple):
-    """An accepted command, whether a step to undo begins with it, and the greatest numbers after it."""
+    """An accepted command: its call, or those of its draft; whether a step to undo begins with it, and the greatest numbers after it."""
 
-    call: Call
+    calls: Tuple[Call, ...]
     begins: bool
     greatest: Greatest
 
 
 class Journal:
-    """The accepted commands; those from `at` on are undone. It grows by one entry a command, and holds no model."""
+    """The accepted commands; those from `at` on are undone; and the calls of the draft, while one is open. It holds no model."""
 
     def __init__(self) -> None:
         self._done: List[Done] = []
         self.at = 0
         self.given_up = 0
-        self._start = Greatest()
+        self.draft: Optional[List[Call]] = None
+        self._drafted = self._start = Greatest()
 
     @property
     def greatest(self) -> Greatest:
         """The greatest numbers in use now."""
+        if self.draft is not None:
+            return self._drafted
         return self._done[self.at - 1].greatest if self.at else self._start
 
     @property
     def lines(self) -> List[str]:
         """The lines of the commands that are held, undone ones left out."""
-        return [str(done.call) for done in self._done[:self.at]]
+        held = [call for done in self._done[:self.at] for call in done.calls]
+        return [str(call) for call in (*held, *(self.draft or ()))]
+
+    @property
+    def ahead(self) -> List[Done]:
+        """The commands that are undone."""
+        return self._done[self.at:]
 
     @property
     def has_given_up(self) -> bool:
@@ -70,17 +79,43 @@ class Journal:
         return self.given_up > 0 and self.at == len(self._done)
 
     def add(self, call: Call, begins: bool, greatest: Greatest) -> None:
-        """A command was accepted: what could be redone is dropped."""
+        """A command was accepted, or a step of the draft."""
+        if self.draft is not None:
+            self.draft.append(call)
+            self._drafted = greatest
+        else:
+            self._append(Done((call,), begins, greatest))
+
+    def open_draft(self) -> None:
+        """The calls from here on are steps of a draft."""
+        self._drafted, self.draft = self.greatest, []
+
+    def commit(self) -> None:
+        """The steps of the draft, of which there are some, become one command."""
+        self._append(Done(tuple(self.end_draft()), True, self._drafted))
+
+    def end_draft(self) -> List[Call]:
+        """The draft is left out: its calls."""
+        assert self.draft is not None, 'a draft is open'
+        calls, self.draft = self.draft, None
+        return calls
+
+    def _append(self, done: Done) -> None:
+        """What could be redone is dropped."""
         del self._done[self.at:]
-        self._done.append(Done(call, begins, greatest))
+        self._done.append(done)
         self.at += 1
         self.given_up = 0
 
-    def give_up(self, at: int) -> None:
-        """The commands from `at` on were undone for good: the program could redo them, the session doesn't."""
-        self.given_up = len(self._done) - at
-        del self._done[at:]
-        self.at = at
+    def give_up(self, undone: int, ahead: List[Done]) -> None:
+        """So many calls were undone for good, and these can be redone again: the program could redo the others too, the session doesn't."""
+        self.given_up = undone
+        self._done[self.at:] = ahead
+
+    def calls_of(self, word: str) -> int:
+        """How many calls the command has that `undo` or `redo` would take: 1 where there is none."""
+        place = self.at - 1 if word == 'undo' else self.at
+        return len(self._done[place].calls) if 0 <= place < len(self._done) else 1
 
     def step_back(self) -> int:
         """How many commands the last step has, of those that are held: 1 where there is none."""

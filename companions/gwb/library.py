@@ -1,12 +1,12 @@
 """The kernel in this process, the library `libgwb.so`: a command is a call of its own there, and the model is read without text."""
 
 import ctypes
-from typing import Any, Callable, Dict, Iterator, List, Optional, Tuple
+from typing import Any, Callable, Dict, Iterator, List, Optional, Sequence, Tuple, Type
 
 from .arguments import GREATEST_NUMBER
 from .calls import Call, Value
-from .complaints import Refused, complaint, refused
-from .errors import CompanionError, Ended, ProgramMissing
+from .complaints import Complaint, Refused, complaint, refused
+from .errors import CompanionError, Ended, InDraft, NoDraft, ProgramMissing
 from .journal import KINDS
 from .language import command_bytes
 from .model import Face, Loop, Model
@@ -17,8 +17,12 @@ from .vectors import Vector
 _NO_TEXT = ctypes.c_size_t(-1).value
 _ROOM = 4096
 _FEW = 64
-_OK, _MEMORY, _CLOSED = 1, 4, 9
+_OK, _MEMORY, _CLOSED, _IN_DRAFT, _NO_DRAFT = 1, 4, 9, 11, 12
 _TOLD = (5, 6, 7)
+# What is raised where there is no answer, and what it says.
+_NO_ANSWERS: Dict[int, Tuple[Type[CompanionError], str]] = {
+    _CLOSED: (Ended, 'the session is closed'), _IN_DRAFT: (InDraft, 'a draft is open, which takes operators alone'),
+    _NO_DRAFT: (NoDraft, 'there is no draft')}
 _FOUND = 1
 _ACCEPTED = Reply(('ok',))
 _WORD = ctypes.c_uint32
@@ -99,6 +103,7 @@ _COMMANDS = {
     'mfkrh': 'nn', 'ringmv': 'nnn', 'block': 'nxxxxxx', 'sweep': 'nxxx', 'glue': 'nn', 'split': 'nxxxxn', 'undo': '', 'redo': ''}
 _TYPES = {'n': _WORD, 'h': _WORD, 'x': ctypes.c_int64}
 _LONE = 0x80000000
+_DRAFTS = ('draft', 'commit', 'abandon')
 # The greatest edge or loop of which every half-edge and corner has a code.
 _GREATEST_CODED = 2 ** 30 - 1
 _NUMBER_RANGE = 1
@@ -120,7 +125,7 @@ def load(path: str) -> ctypes.PyDLL:
         ('gwb_last_refusal', _WORD, [ctypes.POINTER(Refusal)]), ('gwb_fresh', _WORD, [_WORD, ctypes.POINTER(Range)]),
         ('gwb_face_plane', _WORD, [_WORD, ctypes.POINTER(PlaneRow)]), ('gwb_volume', _WORD, [_WORD, ctypes.POINTER(Wide)]),
         ('gwb_count', _WORD, [_WORD, ctypes.POINTER(Counts)]),
-        ('gwb_lamina', _WORD, [_WORD, ctypes.POINTER(Point), size]),
+        ('gwb_lamina', _WORD, [_WORD, ctypes.POINTER(Point), size]), *((f'gwb_{name}', _WORD, []) for name in _DRAFTS),
         *((f'gwb_{name}', _WORD, [_TYPES[kind] for kind in kinds]) for name, kinds in _COMMANDS.items())]
     for name, result, arguments in calls:
         try:
@@ -155,7 +160,7 @@ class Library:
             raise ProgramMissing(str(error)) from None
         if not self._library.gwb_open(self._handle):
             raise MemoryError('no session was opened')
-        self._commands = {name: getattr(self._library, f'gwb_{name}') for name in _COMMANDS}
+        self._commands = {name: getattr(self._library, f'gwb_{name}') for name in (*_COMMANDS, *_DRAFTS)}
 
     def __del__(self) -> None:
         self.close()
@@ -165,8 +170,9 @@ class Library:
         data = command_bytes(line)
         if not self._handle.is_open:
             raise Ended('the session is closed')
-        if self._library.gwb_line(self._handle, data, len(data)) == _OK:
-            return _ACCEPTED
+        said = self._library.gwb_line(self._handle, data, len(data))
+        if said in (_OK, _IN_DRAFT):
+            return self._reply(said)
         return only_reply(self._text().decode('ascii').split('\n')[:-1])
 
     def do(self, call: Call) -> None:
@@ -179,7 +185,38 @@ class Library:
         else:
             said = self._commands[call.word](self._handle, *map(_code, corners), *(_way(call.plain) if call.word == 'ringmv' else call.plain))
         if said != _OK:
-            raise self._complaint(call, said)
+            raise complaint(str(call), self._reply(said))
+
+    def give(self, calls: Sequence[Call]) -> None:
+        """Gives the calls that are one command. A complaint is raised, and nothing has changed."""
+        if len(calls) == 1:
+            self.do(calls[0])
+            return
+        self.open_draft()
+        try:
+            for call in calls:
+                self.do(call)
+        except Complaint:
+            self.abandon(len(calls))
+            raise
+        self.commit()
+
+    def step(self, word: str, calls: int) -> Reply:
+        """Undoes or redoes a command, the word says which: the reply. A draft is one command, whatever calls it has."""
+        return self._reply(self._commands[word](self._handle))
+
+    def open_draft(self) -> None:
+        """Opens a draft. A complaint is raised."""
+        self.do(Call('draft'))
+
+    def commit(self) -> None:
+        """The steps of the draft are one command."""
+        self.do(Call('commit'))
+
+    def abandon(self, steps: int) -> bool:
+        """Takes the steps of the draft back; whether what could be redone before still can. A closed session has no steps."""
+        self._library.gwb_abandon(self._handle)
+        return True
 
     def fresh(self) -> Dict[str, range]:
         """For each kind the fresh numbers of the last command that was accepted, where there are any."""
@@ -231,17 +268,20 @@ class Library:
         """Asks a query, whose answer is written. A complaint is raised."""
         said = function(self._handle, number, row)
         if said not in _TOLD:
-            raise self._complaint(Call(word, (number,)), said)
+            raise complaint(str(Call(word, (number,))), self._reply(said))
 
-    def _complaint(self, call: Call, said: int) -> CompanionError:
-        """The error for an answer that isn't what was wanted."""
-        if said == _CLOSED:
-            return Ended('the session is closed')
+    def _reply(self, said: int) -> Reply:
+        """The reply to a command, whose answer is of this kind."""
+        if said in _NO_ANSWERS:
+            error, why = _NO_ANSWERS[said]
+            raise error(why)
+        if said == _OK:
+            return _ACCEPTED
         if said == _MEMORY:
-            return complaint(str(call), Reply(('memory',)))
+            return Reply(('memory',))
         refusal = Refusal()
         self._library.gwb_last_refusal(self._handle, refusal)
-        return refused(str(call), refusal.number, refusal.value)
+        return Reply((f'refused {refusal.number} {refusal.value}',))
 
     def half_edges(self, loop: int) -> Tuple[int, ...]:
         """The half-edges of a loop, from the least on: none of a lone loop, or of one that is not there."""

@@ -4,10 +4,10 @@ import os
 import shutil
 import subprocess
 from pathlib import Path
-from typing import Dict, Iterator, List
+from typing import Dict, Iterator, List, Sequence
 
 from .calls import Call
-from .complaints import complaint
+from .complaints import Complaint, complaint
 from .errors import Ended, ProgramMissing
 from .language import command_bytes
 from .listing import model_of
@@ -70,6 +70,37 @@ class Pipe:
         """Gives a command. A complaint is raised."""
         self._asked(call)
 
+    def give(self, calls: Sequence[Call]) -> None:
+        """Gives the calls that are one command. A complaint is raised, and those before it are undone."""
+        for given, call in enumerate(calls):
+            try:
+                self._asked(call)
+            except Complaint:
+                self.abandon(given)
+                raise
+
+    def step(self, word: str, calls: int) -> Reply:
+        """Undoes or redoes a command of so many calls, the word says which: the reply. Where it is a complaint, nothing has changed."""
+        for taken in range(calls):
+            reply = self.ask(word)
+            if reply.is_complaint:
+                self._repeat({'undo': 'redo', 'redo': 'undo'}[word], taken)
+                return reply
+        return ACCEPTED
+
+    def open_draft(self) -> None:
+        """Begins a draft, which the program has none of: its steps are commands."""
+
+    def commit(self) -> None:
+        """Ends the draft."""
+        if self._to.closed:
+            raise self._ended()
+
+    def abandon(self, steps: int) -> bool:
+        """Takes the steps of the draft back; whether what could be redone before still can."""
+        self._repeat('undo', steps)
+        return steps == 0
+
     def plane(self, face: int) -> Plane:
         """The plane of a face."""
         reply = self._asked(Call('plane', (face,)))
@@ -98,6 +129,10 @@ class Pipe:
         if not self._to.closed:
             self._process.communicate()
         return self._process.returncode
+
+    def _repeat(self, word: str, times: int) -> None:
+        for _ in range(times):
+            self._asked(Call(word))
 
     def _asked(self, call: Call) -> Reply:
         """The reply to a command. A complaint is raised."""

@@ -61,7 +61,7 @@ CASES = {
               {'face': NUMBER, 'center': POINT, 'radius': LENGTH, 'sides': (*LENGTH, 2, 65), 'depth': LENGTH[:3] + LENGTH[4:]}),
     'glue_all': ({'solids': [1]}, {'solids': (None, 1, '12', [], [1, 1], [1, '2'], [1, 2.0])}),
 }
-WITHOUT_ARGUMENTS = {'close', 'listing', 'page', 'script', 'show', 'solids', 'save', 'load'}
+WITHOUT_ARGUMENTS = {'close', 'draft', 'listing', 'page', 'script', 'show', 'solids', 'save', 'load'}
 
 
 class Silent:

@@ -25,7 +25,7 @@ class Play:
     def step(self, model):
         """One command; what it returned, and its name. A complaint is raised."""
         calls = (self.mvfs, self.kvfs, self.mev, self.kev, self.mef, self.kef, self.kemr, self.mekr, self.kfmrh, self.mfkrh,
-                 self.lamina, self.block, self.block, self.sweep, self.glue, self.split, self.undo, self.redo, self.line)
+                 self.lamina, self.block, self.block, self.sweep, self.glue, self.split, self.undo, self.redo, self.line, self.draft)
         call = self.random.choice(calls)
         return call.__name__, call(model)
 
@@ -89,6 +89,12 @@ class Play:
 
     def split(self, model):
         return self.bench.split(self.any(model.solids), (*self.random.choice(((1, 0, 0), (0, 1, 0), (0, 0, 1))), self.random.randrange(-3, 3)))
+
+    def draft(self, _):
+        """A draft of some operators, committed, or abandoned for one that is refused."""
+        with self.bench.draft():
+            for _ in range(self.random.randrange(5)):
+                self.random.choice((self.mvfs, self.mev, self.mef, self.kemr, self.kfmrh))(self.bench.listing())
 
     def undo(self, _):
         return [self.bench.undo() for _ in range(self.random.randrange(1, 4))] and None
