@@ -1,4 +1,4 @@
-/* A block is made, measured, cut in two and put back, and its faces are walked by readers. */
+/* A block is made, measured, cut in two and put back, its faces are walked by readers, and two operators become one command. */
 #include "gwb.h"
 #include "gwb_names.h"
 #include <inttypes.h>
@@ -97,6 +97,16 @@ static void print_vertices(gwb *g)
            count, highest, top.x, top.y, top.z);
 }
 
+/* Two operators as one command: an edge to the middle of face 1, which is cut off again, so that its end is a ring. */
+static void add_ring(gwb *g)
+{
+    say(g, "draft", gwb_draft(g));
+    say(g, "mev", gwb_mev(g, 2 * 9, 2 * 9, 14, 10, 2, 2, 4));
+    say(g, "kemr", gwb_kemr(g, 2 * 14, 7));
+    print_loop(g, 7);
+    say(g, "commit", gwb_commit(g));
+}
+
 int main(void)
 {
     gwb g = {0};
@@ -119,6 +129,8 @@ int main(void)
     /* an edge stands up from the corner at which the first half-edge of edge 7 starts */
     say(&g, "mev", gwb_mev(&g, 2 * 7, 2 * 7, 13, 9, 0, 0, 9));
     print_loop(&g, 1);
+    add_ring(&g);
+    printf("depth %zu\n", gwb_depth(&g));
     gwb_close(&g);
     return gwb_undo(&g) == GWB_CLOSED ? 0 : 1;
 }

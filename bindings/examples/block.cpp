@@ -1,7 +1,9 @@
-// A block is made, cut in two and put back; what is refused comes as an exception with the name of the condition.
+// A block is made, cut in two and put back, and two operators become one command; what is refused comes as an exception with the name of
+// the condition.
 #include "gwb.hpp"
 #include <iostream>
 
+using gwb_session::Draft;
 using gwb_session::Faulted;
 using gwb_session::Refused;
 using gwb_session::RefusedBy;
@@ -44,6 +46,15 @@ static void print_refusals(Workbench &bench)
     }
 }
 
+// Two operators as one command: an edge to the middle of face 1, which is cut off again, so that its end is a ring.
+static void add_ring(Workbench &bench)
+{
+    Draft draft = bench.draft();
+    bench.mev(gwb_session::plus(9), gwb_session::plus(9), 14, 10, {2, 2, 4});
+    bench.kemr(gwb_session::plus(14), 7);
+    draft.commit();
+}
+
 int main()
 {
     Workbench bench;
@@ -62,4 +73,6 @@ int main()
     // an edge stands up from the corner at which the first half-edge of edge 7 starts
     bench.mev(gwb_session::plus(7), gwb_session::plus(7), 13, 9, {0, 0, 9});
     std::cout << "vertex " << bench.edge(13).to << " is at height " << bench.vertex(9).z << '\n';
+    add_ring(bench);
+    std::cout << "ring 7 is at vertex " << bench.lone_vertex(7).value() << "; depth " << bench.depth() << '\n';
 }

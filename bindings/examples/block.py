@@ -1,5 +1,5 @@
 #!/usr/bin/env python3
-"""A block is made, cut in two and put back. It runs over the library and over the program alike.
+"""A block is made, cut in two and put back, and two operators become one command. It runs over the library and over the program alike.
 
     bindings/examples/block.py bindings/out/libgwb.so
     bindings/examples/block.py crates/gwb/out/gwb
@@ -26,6 +26,12 @@ def main():
         print(bench.volume(block.solid), bench.count(block.solid))
         print(len(bench.listing().faces), 'faces')
         print(bench.half_edges(bench.listing().faces[block.top].outer))
+        with bench.draft():
+            spur = bench.mev(9, 9, (2, 2, 4))
+            bench.kemr(spur.edge)
+        print(len(bench.face(block.top).rings), 'ring')
+        bench.undo()
+        print(len(bench.face(block.top).rings), 'rings')
 
 
 if __name__ == '__main__':

@@ -1,4 +1,4 @@
-//! A block is made, cut in two and put back, from Rust.
+//! A block is made, cut in two and put back, and two operators become one command, from Rust.
 use gwb::{plus, Error, Refusal, Session};
 
 /// Prints what each face of a solid has round it.
@@ -17,6 +17,14 @@ fn print_volume(session: &mut Session, solid: u32) -> Result<(), Error> {
         Err(other) => return Err(other),
     }
     Ok(())
+}
+
+/// Two operators as one command: an edge to the middle of face 1, which is cut off again, so that its end is a ring.
+fn add_ring(session: &mut Session) -> Result<(), Error> {
+    let mut draft = session.draft()?;
+    draft.mev(plus(9), plus(9), 14, 10, [2, 2, 4])?;
+    draft.kemr(plus(14), 7)?;
+    draft.commit()
 }
 
 fn main() -> Result<(), Error> {
@@ -39,6 +47,8 @@ fn main() -> Result<(), Error> {
     // an edge stands up from the corner at which the first half-edge of edge 7 starts
     session.mev(plus(7), plus(7), 13, 9, [0, 0, 9])?;
     println!("edge 13: {:?}, and its end is at {:?}", session.edge(13), session.vertex(9));
+    add_ring(&mut session)?;
+    println!("ring 7 is at vertex {:?}; depth {}", session.lone_vertex(7), session.depth());
     session.run("count 1")?;
     print!("{}", session.reply()?);
     Ok(())
