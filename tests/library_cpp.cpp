@@ -166,6 +166,7 @@ static void try_parts()
     bench.block(2, {9, 9, 9}, {1, 1, 1});
     bench.merge(1, 2);
     check(throws<RefusedBy<GWB_WHY_BAD_PART>>([&] { bench.part({1}, 3); }), "a face that can't be parted from its neighbours");
+    check(throws<RefusedBy<GWB_WHY_BAD_PART>>([&] { bench.part({7, 8, 9, 10, 12, 11}, 3); }), "faces whose numbers don't rise");
     check(throws<RefusedBy<GWB_WHY_NO_FACE>>([&] { bench.part({99}, 3); }), "a part of a face that is not there");
     check(throws<NoCall>([&] { bench.part({}, 3); }) && throws<NoCall>([&] { bench.part(Numbers32(), 3); }), "a part of no faces");
     bench.part(Numbers32{7, 8, 9, 10, 11, 12}, 3);

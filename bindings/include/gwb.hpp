@@ -225,8 +225,8 @@ public:
     void ring_in(std::uint32_t ring, std::uint32_t face) { told("ringmv", gwb_ringmv(held(), ring, face, 0)); }
     void ring_out(std::uint32_t ring, std::uint32_t face) { told("ringmv", gwb_ringmv(held(), ring, face, 1)); }
 
-    // Three operators that no script has: a ring of a face becomes its outer loop, two solids become the first, and faces of a solid become
-    // a new one. NoCall where there are no faces.
+    // Three operators that no script has: a ring of a face becomes its outer loop, two solids become the first, and faces of a solid, their
+    // numbers rising, become a new one. NoCall where there are no faces.
     void outer(std::uint32_t ring, std::uint32_t face) { told("outer", gwb_outer(held(), ring, face)); }
     void merge(std::uint32_t solid, std::uint32_t other) { told("merge", gwb_merge(held(), solid, other)); }
     void part(Items<std::uint32_t> faces, std::uint32_t solid) { told("part", gwb_part(held(), faces.data(), faces.size(), solid)); }

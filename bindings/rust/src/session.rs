@@ -106,7 +106,7 @@ impl Session {
         self.told(unsafe { calls::gwb_merge(self.handle(), solid, other) })
     }
 
-    /// A new solid of some faces of one, which have no edge in common with its others. No script has this operator.
+    /// A new solid of some faces of one, their numbers rising, which share no edge with its others. No script has this operator.
     ///
     /// # Errors
     /// [`Error::NoCall`] where there are no faces.

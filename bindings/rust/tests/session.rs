@@ -135,6 +135,7 @@ fn faces_are_parted_from_a_solid() {
     assert_eq!(session.part(&[], 3), Err(Error::NoCall));
     assert_eq!(session.part(&[99], 3), refused(Refusal::NoFace, 99));
     assert_eq!(session.part(&[7], 3), refused(Refusal::BadPart, 1));
+    assert_eq!(session.part(&[7, 8, 9, 10, 12, 11], 3), refused(Refusal::BadPart, 1));
     session.part(&[7, 8, 9, 10, 11, 12], 3).unwrap();
     assert_eq!((session.six_volumes(1), session.six_volumes(3)), (Ok(384), Ok(6)));
 }
