@@ -20,7 +20,8 @@ impl Arena {
         }
     }
 
-    /// The greatest number of a kind in use, or 0 where none is. The number is kept, so this walks over nothing.
+    /// The greatest number of a kind in use, or 0 where none is. It looks at the summaries of numbers from the last one down, as
+    /// `Numbers::last` does.
     pub fn greatest(&self, kind: Kind) -> u32
         ensures { IsGreatest self.now kind result }
     {
