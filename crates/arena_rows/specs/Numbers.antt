@@ -33,9 +33,9 @@ uses words n = is_set (word_at words (n / 64)) (n % 64)
 abbrev pub has_bits : List ℕ → ℕ → Bool
 has_bits words i = nat_lt 0 (word_at words i)
 
--- a summary's bits say which of 64 words have bits, and words come 16 at a time for the numbers up to 1,000,000
+-- a summary's bits say which of 64 words have bits, and words come 32 at a time for the numbers up to 1,000,000
 pub record AreSummed (words summaries : List ℕ) : Type 0 where
   pub right : (i : ℕ) → uses summaries i ≡ has_bits words i
   pub room : length words ≤ length summaries * 64
-  pub limit : length words ≤ 15632
-  pub summaries_limit : length summaries ≤ 256
+  pub limit : length words ≤ 15648
+  pub summaries_limit : length summaries ≤ 245

@@ -1,7 +1,7 @@
 //! Numbers in use, as two levels of bits.
 //!
 //! A word has a bit for each of 64 numbers, and a summary a bit for each of 64 words, which says whether the word has one set. So
-//! a summary stands for 4,096 numbers. A search looks at a word, and walks over summaries alone, of which there are 256 at most.
+//! a summary stands for 4,096 numbers. A search looks at a word, and walks over summaries alone, of which there are 245 at most.
 ghost use Rattle.std.specs.Prelude.{◌≡◌, ℕ, ◌+◌, ◌*◌, ◌/◌, ◌<◌, ◌≤◌, ◌≢◌, true, false, cond, nat_eq, [], length, Some, OnOk, IfOk, IsOk};
 ghost use Rattle.arena_rows.specs.ring_spots.Last.{IsLast};
 ghost use Rattle.arena_rows.specs.Numbers.{IsFirstIn, IsLastIn, IsNext, AreSummed, is_set, word_at, uses, has_bits};
@@ -12,8 +12,8 @@ use std::marker::Model;
 /// How many bits a word has.
 const WORD: u32 = 64;
 
-/// How many words come at a time where there is to be more room.
-const STEP: usize = 16;
+/// How many words come at a time where there is to be more room, so that they are asked for seldom.
+const STEP: u32 = 32;
 
 /// Numbers in use, up to 1,000,000. Each has its room before it comes into use.
 ///
@@ -108,8 +108,8 @@ impl Numbers {
         if (index as usize) < self.words.len() {
             return Ok(());
         }
-        reach(&mut self.summaries, index / WORD)?;
-        reach(&mut self.words, index)
+        reach(&mut self.summaries, index / WORD + 1)?;
+        reach(&mut self.words, index / STEP * STEP + STEP)
     }
 }
 
@@ -206,7 +206,7 @@ fn take(words: &mut Vec<u64>, summaries: &mut Vec<u64>, n: u32)
 
 /// The first word from `from` on that has bits.
 fn first_in(words: &[u64], from: u32) -> Option<u32>
-    requires { length words.now ≤ 15632 }
+    requires { length words.now ≤ 15648 }
     ensures { IsFirstIn (has_bits words.now) from (length words.now) result }
 {
     for i in from..words.len() as u32 {
@@ -219,7 +219,7 @@ fn first_in(words: &[u64], from: u32) -> Option<u32>
 
 /// The last word that has bits.
 fn last_in(words: &[u64]) -> Option<u32>
-    requires { length words.now ≤ 15632 }
+    requires { length words.now ≤ 15648 }
     ensures { IsLastIn (has_bits words.now) 0 (length words.now) result }
 {
     let mut i = words.len() as u32;
@@ -235,7 +235,7 @@ fn last_in(words: &[u64]) -> Option<u32>
 /// The least number in use of a word that has bits.
 fn first_of(words: &[u64], i: u32) -> u32
     requires there { has_bits words.now i ≡ true }
-    requires limit { length words.now ≤ 15632 }
+    requires limit { length words.now ≤ 15648 }
     ensures { IsFirstIn (uses words.now) (i * 64) ((i + 1) * 64) (Some result) }
 {
     i * WORD + lowest(words[i as usize])
@@ -244,7 +244,7 @@ fn first_of(words: &[u64], i: u32) -> u32
 /// The greatest number in use of a word that has bits.
 fn last_of(words: &[u64], i: u32) -> u32
     requires there { has_bits words.now i ≡ true }
-    requires limit { length words.now ≤ 15632 }
+    requires limit { length words.now ≤ 15648 }
     ensures { IsLastIn (uses words.now) (i * 64) ((i + 1) * 64) (Some result) }
 {
     i * WORD + highest(words[i as usize])
@@ -253,7 +253,7 @@ fn last_of(words: &[u64], i: u32) -> u32
 /// The least number in use above n, of those of its word.
 fn next_of(words: &[u64], n: u32) -> Option<u32>
     requires there { n / 64 < length words.now }
-    requires limit { length words.now ≤ 15632 }
+    requires limit { length words.now ≤ 15648 }
     ensures { IsFirstIn (uses words.now) (n + 1) ((n / 64 + 1) * 64) result }
 {
     let above = (words[(n / WORD) as usize] >> (n % WORD)) >> 1;
@@ -266,7 +266,7 @@ fn next_of(words: &[u64], n: u32) -> Option<u32>
 /// The least word above word i that has bits. It looks at the summary of i and at those above it.
 fn next_word(summaries: &[u64], i: u32) -> Option<u32>
     requires there { i / 64 < length summaries.now }
-    requires limit { length summaries.now ≤ 256 }
+    requires limit { length summaries.now ≤ 245 }
     ensures { IsNext (uses summaries.now) i result }
 {
     if let Some(found) = next_of(summaries, i) {
@@ -303,17 +303,16 @@ fn last(words: &[u64], summaries: &[u64]) -> u32
     }
 }
 
-/// Makes the words reach to word i, with some more.
-fn reach(words: &mut Vec<u64>, i: u32) -> Result<(), AllocError>
-    requires { i < 15632 }
+/// Makes the words `count` at least.
+fn reach(words: &mut Vec<u64>, count: u32) -> Result<(), AllocError>
     ensures same { (k : ℕ) → word_at words.new.items k ≡ word_at words.old.items k }
     ensures grows { length words.old.items ≤ length words.new.items }
-    ensures limit { (k : ℕ) → i / 16 * 16 + 16 ≤ k → length words.old.items ≤ k → length words.new.items ≤ k }
-    ensures ok { OnOk result (i < length words.new.items) }
+    ensures limit { (k : ℕ) → count ≤ k → length words.old.items ≤ k → length words.new.items ≤ k }
+    ensures ok { OnOk result (count ≤ length words.new.items) }
 {
-    let index = i as usize;
-    if words.len() <= index {
-        words.resize(index / STEP * STEP + STEP, 0)?;
+    let wanted = count as usize;
+    if words.len() < wanted {
+        words.resize(wanted, 0)?;
     }
     Ok(())
 }

@@ -202,7 +202,10 @@ fn reach<T: Copy>(cells: &mut Vec<T>, n: u32, hole: T) -> Result<(), AllocError>
     ensures ok { OnOk result (n < length cells.new.items) }
 {
     let index = n as usize;
-    if cells.len() <= index {
+    if cells.len() == index {
+        return cells.push(hole).map_err(|_| AllocError);
+    }
+    if cells.len() < index {
         cells.resize(index + 1, hole)?;
     }
     Ok(())

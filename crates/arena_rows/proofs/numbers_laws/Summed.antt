@@ -63,10 +63,10 @@ none-summed words summaries a b = subst (λ ws. AreSummed ws summaries) (sym a) 
 
 module _ (words summaries : List ℕ) (S : AreSummed words summaries) where
   -- more room for summaries, and for words
-  pub more_summaries : (after : List ℕ) → ((i : ℕ) → word_at after i ≡ word_at summaries i) → length summaries ≤ length after → length after ≤ 256 → AreSummed words after
+  pub more_summaries : (after : List ℕ) → ((i : ℕ) → word_at after i ≡ word_at summaries i) → length summaries ≤ length after → length after ≤ 245 → AreSummed words after
   more_summaries after same more most = record { right = λ i. uses_same summaries after same i ∙ S.right i; room = omega (arith, S.room, more); limit = S.limit; summaries_limit = most }
 
-  pub more_words : (new : List ℕ) → ((i : ℕ) → word_at new i ≡ word_at words i) → length new ≤ length summaries * 64 → length new ≤ 15632 → AreSummed new summaries
+  pub more_words : (new : List ℕ) → ((i : ℕ) → word_at new i ≡ word_at words i) → length new ≤ length summaries * 64 → length new ≤ 15648 → AreSummed new summaries
   more_words new same room most = record { right = λ i. S.right i ∙ sym (ap (nat_lt 0) (same i)); room = room; limit = most; summaries_limit = S.summaries_limit }
 
   -- ---- number n comes into use or goes out of it
