@@ -1,5 +1,5 @@
 -- The store after a cut and after a join.
-use Rattle.std.proofs.Common.{◌≡◌, ◌≢◌, ℕ, Bool, true, cond, nat_eq, List, [], length, Option, Some, None, is_some, refl, sym, ap, subst, ◌∙◌, eq-eqb, ne_eqb, inl, inr}
+use Rattle.std.proofs.Common.{◌≡◌, ◌≢◌, ℕ, Bool, true, cond, nat_eq, List, [], ◌∷◌, length, Option, Some, None, is_some, refl, sym, ap, subst, ◌∙◌, eq-eqb, ne_eqb, inl, inr}
 use Rattle.std.proofs.lemmas.Bool.Decides.{eqb_tells}
 use Rattle.std.proofs.lemmas.Option.{same_Some}
 use Rattle.boundary_model.specs.declared.Point.{Point}
@@ -10,19 +10,23 @@ use Rattle.boundary_model.specs.Table.{get, put, remove, get-put, same_table}
 use Rattle.arena_rows.specs.Rows.{row_at, map_row, table_of}
 use Rattle.boundary_model.specs.Model.{Model, cycle}
 use Rattle.arena_rows.specs.Store.{Store, loosened}
-use Rattle.arena_rows.specs.ring_spots.Spots.{Spots, live, label, ring, spliced_at, labelled, AreRings}
-use Rattle.arena_rows.specs.View.{store_of, RowsAreTied, held_content, loop_row, AreLoops}
+use Rattle.arena_rows.specs.ring_spots.Spots.{Spots, live, next, label, ring, spliced_at, labelled, AreRings}
+use Rattle.arena_rows.specs.View.{store_of, RowsAreTied, held_content, loop_row, AreLoops, StandsAt}
 use Rattle.arena_rows.proofs.Views.{get-table_of}
-use Rattle.boundary_model.specs.Rings.{cut_left, cut_right, joined}
-use Rattle.boundary_model.specs.Model.{has_half, loop_of, items_of, content, cycle_of}
+use Rattle.boundary_model.specs.Items.{IsIn}
+use Rattle.boundary_model.specs.Rings.{cut_left, cut_right, joined, successor, predecessor}
+use Rattle.boundary_model.proofs.Rings.{successor-predecessor}
+use Rattle.boundary_model.proofs.Members.{IsIn_one}
+use Rattle.arena_rows.proofs.ring_spots_laws.SpotLaws.{ring_same, next_in_ring}
+use Rattle.boundary_model.specs.Model.{has_half, loop_of, items_of, content, cycle_of, before}
 use Rattle.boundary_model.proofs.Tables.{row_some}
 use Rattle.arena_rows.specs.Store.{cut_loose, cut_to, join_loops, join_loose, loose_ring, held_row}
 use Rattle.arena_rows.specs.View.{Fits}
 use Rattle.arena_rows.proofs.Views.{has-row, fits-write, table_of-put}
 use Rattle.arena_rows.proofs.Writes.{row_here}
-use Rattle.arena_rows.proofs.Stands.{half_there, loop_of_is, cycle_of_is, content_row, face_row_of, loose_key_is, loose_ring_is}
-use Rattle.arena_rows.proofs.Tellings.{store_is, content_alike}
-use Rattle.arena_rows.proofs.Cutting.{IsBare, rings1, rings2, live2, AreLoops-cut, loose-cut_to, loose-cut_loose, edges-cut, loops-cut, ring_of_right, apart_rows, jrings1, a_live1, b_live1, jrings2, jlive2, jedges, jkept, jring_a, loose-join_loops, loose-join_loose, AreLoops-join}
+use Rattle.arena_rows.proofs.Stands.{half_there, loop_of_is, cycle_of_is, content_row, face_row_of, loose_key_is, loose_ring_is, next_successor}
+use Rattle.arena_rows.proofs.Tellings.{store_is, content_alike, same_loop}
+use Rattle.arena_rows.proofs.Cutting.{IsBare, rings1, rings2, live2, AreLoops-cut, loose-cut_to, loose-cut_loose, edges-cut, loops-cut, ring_of_right, apart_rows, jrings1, a_live1, b_live1, jrings2, jlive2, jedges, jkept, jring_of, loose-join_loops, loose-join_loose, AreLoops-join}
 use Rattle.arena_rows.proofs.Filling.{tied_with}
 
 pub record CutFacts (sp : Spots) (loops : List (Option LoopCell)) (a b l : ℕ) : Type 0 where
@@ -179,9 +183,9 @@ module _ (sp : Spots) (known : ℕ → Bool) (solids : List (Option Bool)) (face
     pub join_b_live : live (labelled sp jhere (ring sp b)) b ≡ true
     join_b_live = b_live1 sp loops R are tied.loops_fit.no_zero a b g.a_there g.b_there g.looped g.other
 
-    -- rows0 are the rows once b's loop is empty
-    module _ (cell : LoopCell) (found : row_at loops jhere ≡ Some cell) (rows0 : List (Option LoopCell)) (len0 : length rows0 ≡ length loops) (fits0 : Fits rows0) (rows : List (Option LoopCell)) (len : length rows ≡ length rows0)
-        (is1 : (q : ℕ) → row_at rows q ≡ cond (nat_eq q jhere) (Some (record { face = cell.face; held = At a })) (row_at rows0 q))
+    -- rows0 are the rows once b's loop is empty, and d is the entry of a's loop then
+    module _ (d : ℕ) (d_in : IsIn d (ring sp a)) (cell : LoopCell) (found : row_at loops jhere ≡ Some cell) (rows0 : List (Option LoopCell)) (len0 : length rows0 ≡ length loops) (fits0 : Fits rows0) (rows : List (Option LoopCell)) (len : length rows ≡ length rows0)
+        (is1 : (q : ℕ) → row_at rows q ≡ cond (nat_eq q jhere) (Some (record { face = cell.face; held = At d })) (row_at rows0 q))
         (empty_b : (c : LoopCell) → row_at rows0 jthere ≡ Some c → c.held ≡ Empty) (same : (q : ℕ) → q ≢ jthere → row_at rows0 q ≡ row_at loops q) where
       jfits : Fits rows
       jfits = fits-write rows0 rows jhere _ fits0 g.looped len is1
@@ -189,7 +193,7 @@ module _ (sp : Spots) (known : ℕ → Bool) (solids : List (Option Bool)) (face
       pub tied_join : (known' : ℕ → Bool) (new : Spots) → new ≡ jspots → RowsAreTied new known' solids faces rows vertices
       tied_join known' new e = subst (λ s. RowsAreTied s known' solids faces rows vertices) (sym e) (tied_with sp known solids faces loops vertices tied jspots known' rows
           (jrings2 sp loops R are tied.loops_fit.no_zero a b g.a_there g.b_there g.looped g.other) (jlive2 sp loops R are tied.loops_fit.no_zero a b g.a_there g.b_there g.looped g.other 0)
-          (AreLoops-join sp loops R are tied.loops_fit.no_zero a b g.a_there g.b_there g.looped g.other rows cell.face (row_here rows0 rows jhere _ is1)
+          (AreLoops-join sp loops R are tied.loops_fit.no_zero a b g.a_there g.b_there g.looped g.other d d_in rows cell.face (row_here rows0 rows jhere _ is1)
           (λ c at. empty_b c (sym (row_there rows0 rows jhere _ is1 jthere g.other) ∙ at)) (λ q n m. row_there rows0 rows jhere _ is1 q n ∙ same q m)) jfits)
 
       alike : (q : ℕ) (c : LoopCell) → q ≢ jhere → row_at rows0 q ≡ Some c → held_content jspots c.held ≡ held_content sp c.held
@@ -200,8 +204,8 @@ module _ (sp : Spots) (known : ℕ → Bool) (solids : List (Option Bool)) (face
 
       loops_join : (ys : List ℕ) → ys ≡ ring sp b → table_of (loop_row jspots) rows ≡ put (table_of (loop_row sp) rows0) (loop_of M a) (held_row M (loop_of M a) (cycle (joined a b (cycle_of M a) ys)))
       loops_join ys ey =
-          loops_table_rows sp jspots rows0 rows jhere (record { face = cell.face; held = At a }) is1 alike
-          ∙ ap (λ hs. put (table_of (loop_row sp) rows0) jhere (record { face = cell.face; content = cycle hs })) (jring_a sp loops R are tied.loops_fit.no_zero a b g.a_there g.b_there g.looped g.other)
+          loops_table_rows sp jspots rows0 rows jhere (record { face = cell.face; held = At d }) is1 alike
+          ∙ ap (λ hs. put (table_of (loop_row sp) rows0) jhere (record { face = cell.face; content = cycle hs })) (jring_of sp loops R are tied.loops_fit.no_zero a b g.a_there g.b_there g.looped g.other d d_in)
           ∙ ap (λ hs. put (table_of (loop_row sp) rows0) jhere (record { face = cell.face; content = cycle (joined a b (ring sp a) hs) })) (sym ey)
           ∙ ap (λ f. put (table_of (loop_row sp) rows0) jhere (record { face = f; content = cycle (joined a b (ring sp a) ys) })) (sym (face_row_of sp known solids faces loops vertices tied jhere cell found))
           ∙ ap (λ hs. put (table_of (loop_row sp) rows0) jhere (held_row M jhere (cycle (joined a b hs ys)))) (sym (cycle_of_is sp known solids faces loops vertices tied a g.a_there g.looped))
@@ -225,6 +229,51 @@ module _ (sp : Spots) (known : ℕ → Bool) (solids : List (Option Bool)) (face
           ∙ ap (λ f. put M.loops jthere (record { face = f; content = cycle [] })) (sym (face_row_of sp known solids faces loops vertices tied jthere cell2 found2))
           ∙ ap (λ m. put M.loops m (held_row M m (cycle []))) (sym (loop_of_is sp known solids faces loops vertices tied b g.b_there))))
           (loose-join_loops sp loops R are tied.loops_fit.no_zero a b g.a_there g.b_there g.looped g.other n)
+
+    -- a loose ring comes to a's loop, of which the row stays as it was
+    module _ (loose : jthere ≡ 0) where
+      abbrev row_a : StandsAt sp loops a jhere
+      row_a = are.stands a g.a_there g.looped
+
+      abbrev cell_a : LoopCell
+      cell_a = record { face = row_a.face; held = At row_a.entry }
+
+      entry_there : live sp row_a.entry ≡ true
+      entry_there = (are.entries jhere cell_a row_a.here).0
+
+      entry_in : IsIn row_a.entry (ring sp a)
+      entry_in = subst (IsIn row_a.entry) (sym (ring_same sp R row_a.entry a entry_there row_a.item)) (R.rings row_a.entry entry_there).item
+
+      as_it_was : (q : ℕ) → row_at loops q ≡ cond (nat_eq q jhere) (Some cell_a) (row_at loops q)
+      as_it_was q = elim (eqb_tells q jhere) [
+        | inl p ↦ ap (row_at loops) p.1 ∙ row_a.here ∙ sym (ap (λ t. cond t (Some cell_a) (row_at loops q)) p.0)
+        | inr p ↦ sym (ap (λ t. cond t (Some cell_a) (row_at loops q)) p.0)
+      ]
+
+      no_cell : (c : LoopCell) → row_at loops jthere ≡ Some c → c.held ≡ Empty
+      no_cell c at = let e = sym (ap (row_at loops) loose ∙ tied.loops_fit.no_zero) ∙ at in cc
+
+      pub tied_join_kept : (known' : ℕ → Bool) (new : Spots) → new ≡ jspots → RowsAreTied new known' solids faces loops vertices
+      tied_join_kept = tied_join row_a.entry entry_in cell_a row_a.here loops refl tied.loops_fit loops refl as_it_was no_cell (λ q m. refl)
+
+      pub store_join_kept : (known' : ℕ → Bool) → known' ≡ known → (new : Spots) → new ≡ jspots → store_of new known' solids faces loops vertices ≡ join_loose S a b
+      store_join_kept = store_join_loose row_a.entry entry_in cell_a row_a.here loops refl tied.loops_fit loops refl as_it_was no_cell (λ q m. refl) refl loose
+
+    -- the code that is alone leads to itself
+    pub next_alone : jthere ≡ 0 → loose_ring S b ≡ b ∷ [] → next sp b ≡ b
+    next_alone z alone = IsIn_one b (next sp b) (subst (IsIn (next sp b)) (sym (loose_ring_is sp known solids faces loops vertices tied b g.b_there z) ∙ alone) (next_in_ring sp R b g.b_there))
+
+  -- the code before b leads to it
+  pub next_before : (a b l : ℕ) → CutFacts sp loops a b l → a ≡ before M b → next sp a ≡ b
+  unfolding before
+  next_before a b l g is =
+      let n : label sp b ≢ 0 = λ z. g.looped (sym g.one ∙ z) in
+      let i : IsIn a (ring sp b) = same_loop sp loops R are b a g.b_there g.a_there n (sym g.one) in
+      let o = R.rings b g.b_there in
+      next_successor sp known solids faces loops vertices tied a g.a_there
+      ∙ (λ j. successor (ring_same sp R b a g.b_there i j) a)
+      ∙ ap (successor (ring sp b)) (is ∙ ap (λ hs. predecessor hs b) (cycle_of_is sp known solids faces loops vertices tied b g.b_there n))
+      ∙ successor-predecessor b (ring sp b) o.apart o.item
 
 -- the same rows at an equal number
 pub is_at : {X : Type 0} (rows new : List (Option X)) (n k : ℕ) (x : Option X) → n ≡ k → ((q : ℕ) → row_at new q ≡ cond (nat_eq q k) x (row_at rows q)) → (q : ℕ) → row_at new q ≡ cond (nat_eq q n) x (row_at rows q)

@@ -282,9 +282,6 @@ module _ (sp : Spots) (loops : List (Option LoopCell)) (R : AreRings sp) (are : 
     jring_out : (x : ℕ) → live sp x ≡ true → count x joint ≡ 0 → ring js2 x ≡ ring sp x
     jring_out x h n = (ring_aside js1 jrings1 a b a_live1 b_live1 b_apart one1 x (live-labelled sp jla ys x ∙ h) (ap (count x) joint1 ∙ n)).0 ∙ jring1 x
 
-    a_joint : IsIn a joint
-    a_joint = let i = (R.rings a a_there).item in omega (arith, jitems a)
-
     -- what is labelled otherwise is in neither
     jaway : (x : ℕ) → label sp x ≢ jla → label sp x ≢ jlb → count x joint ≡ 0
     jaway x n m = elim (IsIn_or_not x joint) [
@@ -297,9 +294,6 @@ module _ (sp : Spots) (loops : List (Option LoopCell)) (R : AreRings sp) (are : 
 
     pub jkept : (q c : ℕ) → q ≢ jla → q ≢ jlb → live sp c ≡ true → label sp c ≡ q → ring js2 c ≡ ring sp c
     jkept q c n m h e = jring_out c h (jaway c (λ z. n (sym e ∙ z)) (λ z. m (sym e ∙ z)))
-
-    pub jring_a : ring js2 a ≡ joint
-    jring_a = jring_in a a_joint
 
     jitem_ys : (x : ℕ) → IsIn x ys → IsIn x joint
     jitem_ys x i = omega (arith, jitems x)
@@ -332,8 +326,14 @@ module _ (sp : Spots) (loops : List (Option LoopCell)) (R : AreRings sp) (are : 
           | inr j ↦ jout_alike k (omega (arith, jitems k))
         ])
 
-    -- the rows after the join: loop b is empty, if it is a loop, and loop a has the entry a
-    module _ (new : List (Option LoopCell)) (fa : ℕ) (at_la : row_at new jla ≡ Some (record { face = fa; held = At a })) (at_lb : (cell : LoopCell) → row_at new jlb ≡ Some cell → cell.held ≡ Empty)
+    joint_in : (d : ℕ) → IsIn d xs → IsIn d joint
+    joint_in d i = omega (arith, i, jitems d)
+
+    pub jring_of : (d : ℕ) → IsIn d xs → ring js2 d ≡ joint
+    jring_of d i = jring_in d (joint_in d i)
+
+    -- the rows after the join: loop b is empty, if it is a loop, and loop a has an entry d of its own
+    module _ (d : ℕ) (d_in : IsIn d (ring sp a)) (new : List (Option LoopCell)) (fa : ℕ) (at_la : row_at new jla ≡ Some (record { face = fa; held = At d })) (at_lb : (cell : LoopCell) → row_at new jlb ≡ Some cell → cell.held ≡ Empty)
         (elsewhere : (q : ℕ) → q ≢ jla → q ≢ jlb → row_at new q ≡ row_at loops q) where
       jold : (q : ℕ) → q ≢ jla → q ≢ jlb → (held : Held) → HasEntry sp q held → HasEntry js2 q held
       jold q n m Empty e = tt
@@ -344,7 +344,7 @@ module _ (sp : Spots) (loops : List (Option LoopCell)) (R : AreRings sp) (are : 
 
       join_entries : (q : ℕ) (cell : LoopCell) → row_at new q ≡ Some cell → HasEntry js2 q cell.held
       join_entries q cell at = elim (eqb_tells q jla) [
-        | inl p ↦ subst (HasEntry js2 q) (ap (λ (c : LoopCell). c.held) (same_Some _ _ (sym (ap (row_at new) p.1 ∙ at_la) ∙ at))) (jlive2 a ∙ a_there, jlabel_in a a_joint ∙ sym p.1)
+        | inl p ↦ subst (HasEntry js2 q) (ap (λ (c : LoopCell). c.held) (same_Some _ _ (sym (ap (row_at new) p.1 ∙ at_la) ∙ at))) (jlive2 d ∙ (R.rings a a_there).awake d d_in, jlabel_in d (joint_in d d_in) ∙ sym p.1)
         | inr p ↦ elim (eqb_tells q jlb) [
           | inl r ↦ subst (HasEntry js2 q) (sym (at_lb cell (ap (row_at new) (sym r.1) ∙ at))) tt
           | inr r ↦ jold q p.1 r.1 cell.held (are.entries q cell (sym (elsewhere q p.1 r.1) ∙ at))
@@ -353,7 +353,7 @@ module _ (sp : Spots) (loops : List (Option LoopCell)) (R : AreRings sp) (are : 
 
       join_stands : (x : ℕ) → live js2 x ≡ true → label js2 x ≢ 0 → StandsAt js2 new x (label js2 x)
       join_stands x h n = elim (IsIn_or_not x joint) [
-        | inl i ↦ subst (StandsAt js2 new x) (sym (jlabel_in x i)) (record { face = fa; entry = a; here = at_la; item = subst (IsIn x) (sym jring_a) i })
+        | inl i ↦ subst (StandsAt js2 new x) (sym (jlabel_in x i)) (record { face = fa; entry = d; here = at_la; item = subst (IsIn x) (sym (jring_of d d_in)) i })
         | inr m ↦
             let e = jlabel_out x (omega (arith, jitems x)) in
             let there : live sp x ≡ true = sym (jlive2 x) ∙ h in

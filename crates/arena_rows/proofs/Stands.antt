@@ -108,7 +108,7 @@ module _ (sp : Spots) (known : ℕ → Bool) (solids : List (Option Bool)) (face
   unfolding loose_key
   loose_ring_is h a z = got_loose sp R h a z
 
-  next_successor : (h : ℕ) → live sp h ≡ true → next sp h ≡ successor (ring sp h) h
+  pub next_successor : (h : ℕ) → live sp h ≡ true → next sp h ≡ successor (ring sp h) h
   next_successor h a = next_is_successor (next sp) (ring sp h) h (R.rings h a).leads (R.rings h a).item
 
   prev_predecessor : (h r : ℕ) → live sp r ≡ true → next sp r ≡ h → r ≡ predecessor (ring sp h) h

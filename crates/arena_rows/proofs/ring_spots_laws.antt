@@ -12,3 +12,4 @@ pub mod LabelLaws
 pub mod LoopViews
 pub mod LabelEdges
 pub mod RingViews
+pub mod Alone

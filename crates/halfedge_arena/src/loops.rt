@@ -1,8 +1,8 @@
 //! Loops that are cut and joined.
-ghost use Rattle.std.specs.Prelude.{◌≡◌, ◌≢◌, true, []};
+ghost use Rattle.std.specs.Prelude.{◌≡◌, ◌≢◌, true, [], ◌∷◌};
 ghost use Rattle.boundary_model.specs.HalfEdge.{code};
-ghost use Rattle.boundary_model.specs.Model.{items_of, content, has_half, loop_of};
-ghost use Rattle.arena_rows.specs.Store.{has_number, cut, join};
+ghost use Rattle.boundary_model.specs.Model.{items_of, content, has_half, loop_of, before};
+ghost use Rattle.arena_rows.specs.Store.{has_number, loose_ring, cut, join};
 
 use crate::arena::Arena;
 use arena_rows::{Held, LoopCell};
@@ -77,5 +77,47 @@ impl Arena {
         };
         self.loops.write(gone, Some(empty));
         self.loops.write(kept, Some(cell));
+    }
+
+    /// Cuts b out of its loop, where a stands before it: `cut` with 0 and a part of one. b is loose then, alone in its ring.
+    ///
+    /// It walks over nothing.
+    pub fn cut_alone(&mut self, a: HalfEdge, b: HalfEdge)
+        requires a_there { has_half self.old.model (code a) ≡ true }
+        requires b_there { has_half self.old.model (code b) ≡ true }
+        requires looped { loop_of self.old.model (code a) ≢ 0 }
+        requires together { loop_of self.old.model (code b) ≡ loop_of self.old.model (code a) }
+        requires before { code a ≡ before self.old.model (code b) }
+        requires apart { code a ≢ code b }
+        ensures { self.new ≡ cut self.old (code a) (code b) 0 }
+    {
+        let _ = &self.rings;
+        let stays = a.code();
+        let goes = b.code();
+        let kept = self.rings.label(stays);
+        let face = self.loops.known(kept).face;
+        self.rings.cut_alone(stays, goes, 0);
+        let cell = LoopCell {
+            face,
+            held: Held::At(stays),
+        };
+        self.loops.write(kept, Some(cell));
+    }
+
+    /// Joins to a's loop a half-edge that is loose, alone in its ring: `join` with a ring of one. It stands after a then.
+    ///
+    /// It walks over nothing, and the loop's row stays as it was.
+    pub fn join_alone(&mut self, a: HalfEdge, b: HalfEdge)
+        requires a_there { has_half self.old.model (code a) ≡ true }
+        requires b_there { has_half self.old.model (code b) ≡ true }
+        requires looped { loop_of self.old.model (code a) ≢ 0 }
+        requires loose { loop_of self.old.model (code b) ≡ 0 }
+        requires alone { loose_ring self.old (code b) ≡ code b ∷ [] }
+        ensures { self.new ≡ join self.old (code a) (code b) }
+    {
+        let _ = &self.rings;
+        let first = a.code();
+        let second = b.code();
+        self.rings.join_alone(first, second);
     }
 }

@@ -10,7 +10,7 @@ ghost use Rattle.arena_rows.specs.Numbers.{IsNext};
 
 use crate::numbers::Numbers;
 use crate::ring_spots::labels::Label;
-use crate::ring_spots::{links, parts};
+use crate::ring_spots::{alone, links, parts};
 use raw_ring::Rings;
 use std::alloc::{AllocError, Global};
 use std::marker::Model;
@@ -151,6 +151,31 @@ impl EdgeRings {
         ensures known { contains_key self.new ≡ contains_key self.old }
     {
         parts::join(&mut self.rings, &mut self.labels, a, b);
+    }
+
+    /// Cuts b, which follows a, out of their ring. It stands in loop l then, alone, or in none where l is 0.
+    ///
+    /// It does what `cut` does, and walks over nothing.
+    pub fn cut_alone(&mut self, a: u32, b: u32, l: u32)
+        requires follows { next_of self.old a ≡ Some b }
+        requires apart { a ≢ b }
+        ensures spots { spot self.new ≡ labelled (spliced_at (spot self.old) a b) l (ring (spliced_at (spot self.old) a b) b) }
+        ensures known { contains_key self.new ≡ contains_key self.old }
+    {
+        alone::cut_alone(&mut self.rings, &mut self.labels, a, b, l);
+    }
+
+    /// Joins b, which is a ring of one, to the ring of a, which stands in a different loop, or one of them in none.
+    ///
+    /// It does what `join` does, writes one label, and walks over nothing.
+    pub fn join_alone(&mut self, a: u32, b: u32)
+        requires a { live (spot self.old) a ≡ true }
+        requires alone { next_of self.old b ≡ Some b }
+        requires apart { label (spot self.old) b ≢ label (spot self.old) a }
+        ensures spots { spot self.new ≡ spliced_at (labelled (spot self.old) (label (spot self.old) a) (ring (spot self.old) b)) a b }
+        ensures known { contains_key self.new ≡ contains_key self.old }
+    {
+        alone::join_alone(&mut self.rings, a, b);
     }
 
     /// Changes the vertex at which a half-edge starts.

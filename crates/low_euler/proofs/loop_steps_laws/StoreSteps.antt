@@ -100,10 +100,6 @@ module _ (s : Store) (g : ℕ) (stands : IsStanding s.model g) where
   g_in : IsIn g xs
   g_in = holds_in g (content M r) stands.stands
 
-  -- the half-edge before g stands in g's loop
-  pub before_looped : loop_of M p ≢ 0
-  before_looped e = stands.looped (sym stands.before_near ∙ e)
-
   -- a join after the half-edge before g
   module _ (h : ℕ) (loose : IsLoose s h) where
     abbrev as_join : ℕ → List ℕ → Store
@@ -112,9 +108,6 @@ module _ (s : Store) (g : ℕ) (stands : IsStanding s.model g) where
     ring_put : joined p h xs (h ∷ []) ≡ put_ring h g xs
     unfolding before
     ring_put = joined_before xs stands.apart g g_in h (loose.nowhere r)
-
-    pub loops_apart : loop_of M h ≢ loop_of M p
-    loops_apart e = before_looped (sym e ∙ in_no_loop M h loose.nowhere)
 
     pub join_puts : join s p h ≡ put_before s g h
     unfolding join_loose put_before

@@ -153,6 +153,9 @@ unfolding loose_key
 alone_key s h a = first_where_is (λ _ hs. holds h (cycle hs)) s.loose h (h ∷ []) a.ring (in-holds h (cycle (h ∷ [])) (omega (arith, tick_same h)))
     (λ q hs at t. a.only q hs at (holds_in h (cycle hs) t))
 
+pub alone_ring : (s : Store) (h : ℕ) → IsAlone s h → loose_ring s h ≡ h ∷ []
+alone_ring s h a = ap (λ k. unwrap_or (table.get s.loose k) []) (alone_key s h a) ∙ ap (λ o. unwrap_or o []) a.ring
+
 -- what stands alone still does where another goes
 pub alone_still : (s t : Store) (h m : ℕ) → m ≢ h → IsAlone s m → t.loose ≡ table.remove s.loose h → HasHalf t.model m → loop_of t.model m ≡ 0 → IsAlone t m
 alone_still s t h m ne a is there none = record {

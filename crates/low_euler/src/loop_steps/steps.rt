@@ -27,7 +27,7 @@ pub(crate) fn put_before(arena: &mut Arena, corner: HalfEdge, half: HalfEdge)
     ensures { arena.new ≡ put_before arena.old (code corner) (code half) }
 {
     let last = arena.prev(corner);
-    arena.join(last, half);
+    arena.join_alone(last, half);
 }
 
 /// Takes a half-edge out of its loop, which becomes lone where it held nothing else.
@@ -42,6 +42,6 @@ pub(crate) fn take_out(arena: &mut Arena, half: HalfEdge)
         arena.clear(emptied);
         arena.set_lone(emptied, vertex);
     } else {
-        arena.cut(last, half, 0);
+        arena.cut_alone(last, half);
     }
 }

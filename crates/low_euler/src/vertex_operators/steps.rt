@@ -17,7 +17,7 @@ pub(crate) fn put_half(arena: &mut Arena, corner: HalfEdge, half: HalfEdge)
     ensures { arena.new ≡ put_before arena.old (code corner) (code half) }
 {
     let before = arena.prev(corner);
-    arena.join(before, half);
+    arena.join_alone(before, half);
 }
 
 /// Takes a half-edge out of its loop; it stands alone then. A loop that held no other is left empty.
@@ -32,7 +32,7 @@ pub(crate) fn take_half(arena: &mut Arena, half: HalfEdge)
         let l = arena.loop_of(half);
         arena.clear(l);
     } else {
-        arena.cut(before, half, 0);
+        arena.cut_alone(before, half);
     }
 }
 

@@ -19,8 +19,8 @@ set_lone-requires-clause-bare c =
     let alone = sym (c.prev-last.ensures.in_loop c.requires.looped) ∙ steps.same_codes c.prev-last.result c.args.half (sym c.eq.ensures ∙ c.if-eq.true) in
     steps.cleared_bare c.args.arena.now (code c.args.half) c.requires alone _ _ c.loop_of-emptied.ensures c.clear.ensures
 
-pub cut-requires-clause-apart : goal.cut-requires-clause-apart
-cut-requires-clause-apart c = steps.differ_codes c.prev-last.result c.args.half (sym c.eq.ensures ∙ c.if-eq.false)
+pub cut_alone-requires-clause-apart : goal.cut_alone-requires-clause-apart
+cut_alone-requires-clause-apart c = steps.differ_codes c.prev-last.result c.args.half (sym c.eq.ensures ∙ c.if-eq.false)
 
 pub returns-then-eq : goal.returns-then-eq
 returns-then-eq c =
@@ -30,5 +30,5 @@ returns-then-eq c =
 pub returns-else-eq : goal.returns-else-eq
 returns-else-eq c =
     let e = c.prev-last.ensures.in_loop c.requires.looped in
-    c.cut.ensures ∙ ap (λ p. cut c.args.arena.now p (code c.args.half) 0) e
+    c.cut_alone.ensures ∙ ap (λ p. cut c.args.arena.now p (code c.args.half) 0) e
     ∙ steps.cut_takes_out c.args.arena.now (code c.args.half) c.requires (λ same. steps.differ_codes c.prev-last.result c.args.half (sym c.eq.ensures ∙ c.if-eq.false) (e ∙ same))
