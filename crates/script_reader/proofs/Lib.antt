@@ -8,6 +8,7 @@ pub mod PointLaws
 pub mod ScriptLaws
 pub mod WordLaws
 pub mod EndLaws
+pub mod FirstLaws
 pub mod LinedLaws
 pub mod LineLaws
 pub mod OptionLaws

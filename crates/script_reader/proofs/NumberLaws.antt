@@ -1,25 +1,116 @@
--- Digits that follow make no value smaller.
-use Rattle.std.proofs.Common.{◌≡◌, ℕ, ◌+◌, ◌-◌, ◌*◌, ◌<◌, ◌≤◌, List, [], ◌∷◌, true, Some, None, length, get_or, refl, le_refl, arith}
-use Rattle.std.proofs.lemmas.Grind.{common_steps}
+-- Digits up to a separator.
+use Rattle.std.proofs.Common.{◌≡◌, inl, inr, Bool, ℕ, ◌+◌, ◌-◌, ◌*◌, ◌^◌, ◌<◌, ◌≤◌, List, [], ◌∷◌, true, false, Option, Some, None, length, take, drop, get_or, refl, sym, ap, subst, le_refl, arith, ◌∙◌}
+use Rattle.std.specs.Prelude.{ℤ, nat_lt, option_map, option_and_then, ◌&&◌, if◌then◌else◌}
+use Rattle.std.specs.Char.{is_ascii_digit}
+use Rattle.std.proofs.lemmas.Bool.{cases_Bool}
+use Rattle.std.proofs.lemmas.List.{take_rest}
 use Rattle.std.proofs.lemmas.Bool.Decides.{nat_tests}
-use Rattle.script_reader.specs.Numbers.{value_after, all_digits, below}
+use Rattle.std.proofs.lemmas.Grind.{common_steps}
+use Rattle.script_reader.specs.Words.{is_space, word_len, first_by}
+use Rattle.script_reader.specs.Numbers.{value_after, all_digits, below, magnitude, number_of, negative, whole_of, digits_after}
+use Rattle.script_reader.specs.Places.{half_of}
+use Rattle.script_reader.specs.Spelling.{sign}
+use Rattle.euler_operators.specs.declared.HalfEdge.{HalfEdge}
+use Rattle.script_reader.proofs.FirstLaws.{first_longer}
 
-pub value_grows : (n : ℕ) (cs : List ℕ) → n ≤ value_after n cs
+value_grows : (n : ℕ) (cs : List ℕ) → n ≤ value_after n cs
 value_grows n [] = le_refl n
 value_grows n (c ∷ cs) = omega (arith, value_grows (n * 10 + (c - 48)) cs)
+
+-- a digit is no separator
+no_space : (c : ℕ) → is_ascii_digit c ≡ true → is_space c ≡ false
+no_space c digit = grind (arith, nat_tests)
+
+-- the value of digits that follow those of n, if it is below the limit
+abbrev small_after : ℕ → ℕ → List ℕ → Option ℕ
+small_after limit n cs = if all_digits cs && nat_lt (value_after n cs) limit then Some (value_after n cs) else None
+
+-- the first word's digits, after those of n
+abbrev first_after : ℕ → ℕ → List ℕ → Option (ℕ × List ℕ)
+first_after limit n line = first_by (small_after limit n) line
+
+none_after : (limit n : ℕ) (cs : List ℕ) → limit ≤ n → small_after limit n cs ≡ None
+none_after limit n cs le =
+    let grows = value_grows n cs in
+    let over : nat_lt (value_after n cs) limit ≡ false = grind (arith, nat_tests) in
+    elim (cases_Bool (all_digits cs)) [
+      | inl all ↦ rw (all, over) refl
+      | inr some ↦ rw some refl
+    ]
+
+first_digits : (limit n : ℕ) (line : List ℕ) → n < limit → digits_after limit n line ≡ first_after limit n line
+first_digits limit n [] lt = let small : nat_lt n limit ≡ true = grind (arith, nat_tests) in rw small refl
+first_digits limit n (c ∷ cs) lt =
+    let m : ℕ = n * 10 + (c - 48) in
+    elim (cases_Bool (is_space c)) [
+      | inl gap ↦ let small : nat_lt n limit ≡ true = grind (arith, nat_tests) in rw (gap, small) refl
+      | inr no_gap ↦
+          let longer = first_longer (small_after limit n) c cs no_gap in
+          elim (cases_Bool (is_ascii_digit c)) [
+            | inr other ↦
+                let stops : digits_after limit n (c ∷ cs) ≡ None = rw (no_gap, other) refl in
+                let none : first_by (λ (w : List ℕ). small_after limit n (c ∷ w)) cs ≡ None = rw other refl in
+                stops ∙ sym (longer ∙ none)
+            | inl digit ↦
+                let same : first_by (λ (w : List ℕ). small_after limit n (c ∷ w)) cs ≡ first_after limit m cs = rw digit refl in
+                elim (cases_Bool (nat_lt m limit)) [
+                  | inl small ↦
+                      let less : m < limit = grind (arith, nat_tests) in
+                      let goes_on : digits_after limit n (c ∷ cs) ≡ digits_after limit m cs = rw (no_gap, digit, small) refl in
+                      goes_on ∙ first_digits limit m cs less ∙ sym (longer ∙ same)
+                  | inr large ↦
+                      let le : limit ≤ m = grind (arith, nat_tests) in
+                      let stops : digits_after limit n (c ∷ cs) ≡ None = rw (no_gap, digit, large) refl in
+                      let none : first_after limit m cs ≡ None = rw (none_after limit m (take (word_len cs) cs) le) refl in
+                      stops ∙ sym (longer ∙ same ∙ none)
+                ]
+          ]
+    ]
 
 pub is_below : (limit v : ℕ) (cs : List ℕ) → 0 < length cs → value_after 0 cs ≡ v → v < limit → all_digits cs ≡ true → below limit cs ≡ Some v
 is_below limit v [] some e lt all = absurd (omega arith)
 is_below limit v (c ∷ cs) some e lt all = grind (arith, common_steps, nat_tests)
 
-pub not_below : (limit v : ℕ) (cs : List ℕ) → value_after 0 cs ≡ v → limit ≤ v → below limit cs ≡ None
-not_below limit v [] e lt = refl
-not_below limit v (c ∷ cs) e lt = grind (arith, common_steps, nat_tests)
+-- ---- a line that begins with a digit, and one that doesn't
 
-pub overflows : (limit n d : ℕ) (cs : List ℕ) → 1 ≤ length cs → d ≡ get_or cs 0 0 - 48 → limit ≤ n * 10 + d → limit ≤ value_after n cs
-overflows limit n d [] some e le = absurd (omega arith)
-overflows limit n d (c ∷ cs) some e le = omega (arith, value_grows (n * 10 + (c - 48)) cs)
+digits_are : (c : ℕ) (cs : List ℕ) → is_ascii_digit c ≡ true → digits_after (2 ^ 64) 0 (c ∷ cs) ≡ first_by magnitude (c ∷ cs)
+digits_are c cs digit =
+    let no_gap = no_space c digit in
+    first_digits (2 ^ 64) 0 (c ∷ cs) (omega arith) ∙ first_longer (small_after (2 ^ 64) 0) c cs no_gap ∙ sym (first_longer magnitude c cs no_gap)
 
-pub ended : (n : ℕ) (cs : List ℕ) → length cs < 1 → (value_after n cs ≡ n) × (all_digits cs ≡ true)
-ended n [] none = (refl, refl)
-ended n (c ∷ cs) none = absurd (omega arith)
+pub no_digits : (c : ℕ) (cs : List ℕ) → is_ascii_digit c ≡ false → first_by magnitude (c ∷ cs) ≡ None
+no_digits c cs other = elim (cases_Bool (is_space c)) [
+  | inl gap ↦ rw gap refl
+  | inr no_gap ↦ let none : first_by (λ (w : List ℕ). magnitude (c ∷ w)) cs ≡ None = rw other refl in first_longer magnitude c cs no_gap ∙ none
+]
+
+pub begins_digit : (line : List ℕ) → 1 ≤ length line → is_ascii_digit (get_or line 0 0) ≡ true → digits_after (2 ^ 64) 0 line ≡ first_by magnitude line
+begins_digit [] some digit = absurd (omega arith)
+begins_digit (c ∷ cs) some digit = digits_are c cs digit
+
+-- ---- a sign before the digits
+
+signed : {A : Type 0} (f : ℕ → Option A) (o : Option ℕ) (xs : List ℕ) (n : ℕ) (rest : List ℕ) (z : A) → option_map {U = ℕ × List ℕ} (λ (x : ℕ). (x, xs)) o ≡ Some (n, rest) → f n ≡ Some z
+    → option_map {U = A × List ℕ} (λ (x : A). (x, xs)) (option_and_then f o) ≡ Some (z, rest)
+signed {A} f (Some m) xs n rest z e h =
+    let same : (m, xs) ≡ (n, rest) = cc e in
+    let number : m ≡ n = ap (λ (p : ℕ × List ℕ). p.0) same in
+    let after : xs ≡ rest = ap (λ (p : ℕ × List ℕ). p.1) same in
+    rw (number, h, after) refl
+signed f None xs n rest z e h = absurd (cc e)
+
+pub minus : (line : List ℕ) (n : ℕ) (rest : List ℕ) (z : ℤ) → 1 ≤ length line → get_or line 0 0 ≡ 45 → first_by magnitude (take (length line - 1) (drop 1 line)) ≡ Some (n, rest) → negative n ≡ Some z → first_by whole_of line ≡ Some (z, rest)
+minus [] n rest z some is e h = absurd (omega arith)
+minus (c ∷ cs) n rest z some is e h =
+    let dash : c ≡ 45 = is in
+    let behind : first_by magnitude cs ≡ Some (n, rest) = subst (λ (xs : List ℕ). first_by magnitude xs ≡ Some (n, rest)) (take_rest (c ∷ cs) 1) e in
+    ap (λ (b : ℕ). first_by whole_of (b ∷ cs)) dash ∙ first_longer whole_of 45 cs refl ∙ signed negative (magnitude (take (word_len cs) cs)) (drop (word_len cs) cs) n rest z behind h
+
+unsigned : (b : Bool) (o : Option ℕ) (xs : List ℕ) → option_map {U = ℕ × List ℕ} (λ (n : ℕ). (n, xs)) o ≡ None
+    → option_map {U = HalfEdge × List ℕ} (λ (h : HalfEdge). (h, xs)) (option_map (λ (n : ℕ). record { edge = n; first = b }) o) ≡ None
+unsigned b (Some n) xs none = absurd (cc none)
+unsigned b None xs none = refl
+
+pub no_half : (b : Bool) (line digits : List ℕ) → line ≡ sign b ∷ digits → first_by number_of digits ≡ None → first_by half_of line ≡ None
+no_half true line digits is none = ap (first_by half_of) is ∙ first_longer half_of 43 digits refl ∙ unsigned true (number_of (take (word_len digits) digits)) (drop (word_len digits) digits) none
+no_half false line digits is none = ap (first_by half_of) is ∙ first_longer half_of 45 digits refl ∙ unsigned false (number_of (take (word_len digits) digits)) (drop (word_len digits) digits) none

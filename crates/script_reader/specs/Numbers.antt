@@ -1,6 +1,7 @@
 -- Whole numbers in decimal digits.
 use Rattle.std.specs.Prelude.{ℕ, ◌+◌, ◌-◌, ◌*◌, ◌^◌, Bool, true, ◌&&◌, ◌==◌, nat_lt, nat_le, List, [], ◌∷◌, Option, Some, None, option_and_then, ℤ, pos, neg_ℤ, if◌then◌else◌}
 use Rattle.std.specs.Char.{is_ascii_digit}
+use Rattle.script_reader.specs.Words.{is_space}
 
 -- the value of digits that follow those of n
 abbrev pub value_after : ℕ → List ℕ → ℕ
@@ -36,3 +37,8 @@ not_negative n = if nat_lt n (2 ^ 63) then Some (pos n) else None
 abbrev pub whole_of : List ℕ → Option ℤ
 whole_of [] = None
 whole_of (c ∷ cs) = if c == 45 then option_and_then negative (magnitude cs) else option_and_then not_negative (magnitude (c ∷ cs))
+
+-- the value of the digits up to the next separator, after those of n, where it stays below the limit, and what follows them
+abbrev pub digits_after : ℕ → ℕ → List ℕ → Option (ℕ × List ℕ)
+digits_after limit n [] = Some (n, [])
+digits_after limit n (c ∷ cs) = if is_space c then Some (n, c ∷ cs) else (if is_ascii_digit c && nat_lt (n * 10 + (c - 48)) limit then digits_after limit (n * 10 + (c - 48)) cs else None)

@@ -1,5 +1,5 @@
 -- The words of a line.
-use Rattle.std.specs.Prelude.{◌≡◌, ⊤, false, ℕ, Bool, ◌==◌, ◌||◌, List, [], ◌∷◌, if◌then◌else◌}
+use Rattle.std.specs.Prelude.{◌≡◌, ⊤, false, ℕ, Bool, ◌==◌, ◌||◌, List, [], ◌∷◌, take, drop, Option, option_map, if◌then◌else◌}
 use Rattle.std.specs.List.{position_or_len, onto_first}
 
 -- space, tab and carriage return
@@ -24,3 +24,7 @@ IsAtWord (b ∷ line) = is_space b ≡ false
 -- how many bytes that are none stand at the front
 abbrev pub word_len : List ℕ → ℕ
 word_len line = position_or_len is_space line
+
+-- what the bytes up to the next separator say, and what follows them
+abbrev pub first_by : {A : Type 0} → (List ℕ → Option A) → List ℕ → Option (A × List ℕ)
+first_by read line = option_map (λ x. (x, drop (word_len line) line)) (read (take (word_len line) line))

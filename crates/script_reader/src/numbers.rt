@@ -1,17 +1,20 @@
 //! Whole numbers in decimal digits.
-ghost use Rattle.std.specs.Prelude.{◌≡◌, ◌<◌, ◌^◌, nat_lt, Some, None, pos, neg_ℤ, if◌then◌else◌, ◌+◌};
-ghost use Rattle.script_reader.specs.Numbers.{magnitude, number_of, negative, whole_of};
+ghost use Rattle.std.specs.Prelude.{◌≡◌, ◌^◌, Some, None, MatchOption};
+ghost use Rattle.script_reader.specs.Numbers.{digits_after, magnitude, number_of, negative, whole_of};
+ghost use Rattle.script_reader.specs.Words.{first_by};
 
-/// The value of one digit or more, below 2^64.
-fn magnitude(digits: &[u8]) -> Option<u64>
-    ensures { result ≡ magnitude digits.now }
+use super::words::is_space;
+
+/// The value of the digits up to a separator or the end, below 2^64, and what follows them.
+fn digits(line: &[u8]) -> Option<(u64, &[u8])>
+    ensures { MatchOption result (digits_after (2 ^ 64) 0 line.now ≡ None) (λ r. digits_after (2 ^ 64) 0 line.now ≡ Some (r.0, r.1.now)) }
 {
-    if digits.is_empty() {
-        return None;
-    }
     let mut value = 0u64;
-    let mut rest = digits;
+    let mut rest = line;
     while let [first, others @ ..] = rest {
+        if is_space(*first) {
+            break;
+        }
         if !first.is_ascii_digit() {
             return None;
         }
@@ -25,18 +28,29 @@ fn magnitude(digits: &[u8]) -> Option<u64>
         value = sum;
         rest = others;
     }
-    Some(value)
+    Some((value, rest))
+}
+
+/// The first word as a number below 2^64, and what follows it.
+#[tactic(auto, using(crate::proofs::NumberLaws::no_digits))]
+fn magnitude(line: &[u8]) -> Option<(u64, &[u8])>
+    ensures { MatchOption result (first_by magnitude line.now ≡ None) (λ r. first_by magnitude line.now ≡ Some (r.0, r.1.now)) }
+{
+    match line {
+        [first, ..] if first.is_ascii_digit() => digits(line),
+        _ => None,
+    }
 }
 
 /// A number: digits with a value that fits.
-pub fn number_of(word: &[u8]) -> Option<u32>
-    ensures { result ≡ number_of word.now }
+pub fn number_of(line: &[u8]) -> Option<(u32, &[u8])>
+    ensures { MatchOption result (first_by number_of line.now ≡ None) (λ r. first_by number_of line.now ≡ Some (r.0, r.1.now)) }
 {
-    let value = magnitude(word)?;
+    let (value, rest) = magnitude(line)?;
     if value > u64::from(u32::MAX) {
         return None;
     }
-    Some(value as u32)
+    Some((value as u32, rest))
 }
 
 /// Below zero, or zero.
@@ -50,15 +64,16 @@ fn negative(value: u64) -> Option<i64>
 }
 
 /// A coordinate, a size or a coefficient: digits, with `-` before them or without.
-pub fn whole_of(word: &[u8]) -> Option<i64>
-    ensures { result ≡ whole_of word.now }
+pub fn whole_of(line: &[u8]) -> Option<(i64, &[u8])>
+    ensures { MatchOption result (first_by whole_of line.now ≡ None) (λ r. first_by whole_of line.now ≡ Some (r.0, r.1.now)) }
 {
-    if let [b'-', digits @ ..] = word {
-        return negative(magnitude(digits)?);
+    if let [b'-', digits @ ..] = line {
+        let (value, rest) = magnitude(digits)?;
+        return Some((negative(value)?, rest));
     }
-    let value = magnitude(word)?;
+    let (value, rest) = magnitude(line)?;
     if value >= 1 << 63 {
         return None;
     }
-    Some(value as i64)
+    Some((value as i64, rest))
 }

@@ -1,6 +1,6 @@
 //! Reads the words at one place of a command.
-ghost use Rattle.std.specs.Prelude.{◌≡◌, []};
-ghost use Rattle.script_reader.specs.Words.{words};
+ghost use Rattle.std.specs.Prelude.{◌≡◌, [], Some, None, MatchOption};
+ghost use Rattle.script_reader.specs.Words.{words, first_by};
 ghost use Rattle.script_reader.specs.Numbers.{number_of, whole_of};
 ghost use Rattle.script_reader.specs.Places.{Agrees, half_of, lone_of, corner_of, way_of, next_of, point_of, points_of};
 ghost use Rattle.script_reader.specs.declared.command.Fault.TheVariants.{BadWord, BadNumber};
@@ -8,7 +8,7 @@ ghost use Rattle.script_reader.specs.declared.command.Fault.TheVariants.{BadWord
 use super::command::Fault;
 use super::numbers::{number_of, whole_of};
 use super::polygon::Corners;
-use super::words::next_word;
+use super::words::{at_word, next_word};
 use euler_operators::{Corner, HalfEdge, Point};
 
 /// The last word of `ringmv`: the ring becomes a ring of the face, or its outer loop.
@@ -18,35 +18,38 @@ pub enum Way {
     Out,
 }
 
-fn half_of(word: &[u8]) -> Option<HalfEdge>
-    ensures { result ≡ half_of word.now }
+fn half_of(line: &[u8]) -> Option<(HalfEdge, &[u8])>
+    ensures { MatchOption result (first_by half_of line.now ≡ None) (λ r. first_by half_of line.now ≡ Some (r.0, r.1.now)) }
 {
-    let (sign, digits) = word.split_first()?;
+    let (sign, digits) = line.split_first()?;
     let first = match *sign {
         b'+' => true,
         b'-' => false,
         _ => return None,
     };
-    let edge = number_of(digits)?;
-    Some(HalfEdge { edge, first })
+    let Some((edge, rest)) = number_of(digits) else {
+        return None;
+    };
+    Some((HalfEdge { edge, first }, rest))
 }
 
-fn lone_of(word: &[u8]) -> Option<Corner>
-    ensures { result ≡ lone_of word.now }
+fn lone_of(line: &[u8]) -> Option<(Corner, &[u8])>
+    ensures { MatchOption result (first_by lone_of line.now ≡ None) (λ r. first_by lone_of line.now ≡ Some (r.0, r.1.now)) }
 {
-    let (sign, digits) = word.split_first()?;
+    let (sign, digits) = line.split_first()?;
     if *sign != b'@' {
         return None;
     }
-    Some(Corner::Lone(number_of(digits)?))
+    let (lone, rest) = number_of(digits)?;
+    Some((Corner::Lone(lone), rest))
 }
 
-fn corner_of(word: &[u8]) -> Option<Corner>
-    ensures { result ≡ corner_of word.now }
+fn corner_of(line: &[u8]) -> Option<(Corner, &[u8])>
+    ensures { MatchOption result (first_by corner_of line.now ≡ None) (λ r. first_by corner_of line.now ≡ Some (r.0, r.1.now)) }
 {
-    match half_of(word) {
-        Some(half) => Some(Corner::At(half)),
-        None => lone_of(word),
+    match half_of(line) {
+        Some((half, rest)) => Some((Corner::At(half), rest)),
+        None => lone_of(line),
     }
 }
 
@@ -66,36 +69,52 @@ fn way_of(word: &[u8]) -> Option<Way>
 pub fn number(line: &[u8]) -> Result<(u32, &[u8]), Fault>
     ensures { Agrees (λ x. (x.0, words x.1.now)) result (next_of BadNumber number_of (words line.now)) }
 {
-    let (word, rest) = next_word(line).ok_or(Fault::MissingWord)?;
-    let value = number_of(word).ok_or(Fault::BadNumber)?;
-    Ok((value, rest))
+    let Some(line) = at_word(line) else {
+        return Err(Fault::MissingWord);
+    };
+    match number_of(line) {
+        Some((value, rest)) => Ok((value, rest)),
+        None => Err(Fault::BadNumber),
+    }
 }
 
 /// A coordinate, a size or a coefficient.
 pub fn whole(line: &[u8]) -> Result<(i64, &[u8]), Fault>
     ensures { Agrees (λ x. (x.0, words x.1.now)) result (next_of BadNumber whole_of (words line.now)) }
 {
-    let (word, rest) = next_word(line).ok_or(Fault::MissingWord)?;
-    let value = whole_of(word).ok_or(Fault::BadNumber)?;
-    Ok((value, rest))
+    let Some(line) = at_word(line) else {
+        return Err(Fault::MissingWord);
+    };
+    match whole_of(line) {
+        Some((value, rest)) => Ok((value, rest)),
+        None => Err(Fault::BadNumber),
+    }
 }
 
 /// A half-edge.
 pub fn half(line: &[u8]) -> Result<(HalfEdge, &[u8]), Fault>
     ensures { Agrees (λ x. (x.0, words x.1.now)) result (next_of BadNumber half_of (words line.now)) }
 {
-    let (word, rest) = next_word(line).ok_or(Fault::MissingWord)?;
-    let value = half_of(word).ok_or(Fault::BadNumber)?;
-    Ok((value, rest))
+    let Some(line) = at_word(line) else {
+        return Err(Fault::MissingWord);
+    };
+    match half_of(line) {
+        Some((value, rest)) => Ok((value, rest)),
+        None => Err(Fault::BadNumber),
+    }
 }
 
 /// A corner.
 pub fn corner(line: &[u8]) -> Result<(Corner, &[u8]), Fault>
     ensures { Agrees (λ x. (x.0, words x.1.now)) result (next_of BadNumber corner_of (words line.now)) }
 {
-    let (word, rest) = next_word(line).ok_or(Fault::MissingWord)?;
-    let value = corner_of(word).ok_or(Fault::BadNumber)?;
-    Ok((value, rest))
+    let Some(line) = at_word(line) else {
+        return Err(Fault::MissingWord);
+    };
+    match corner_of(line) {
+        Some((value, rest)) => Ok((value, rest)),
+        None => Err(Fault::BadNumber),
+    }
 }
 
 /// `in` or `out`.

@@ -3,7 +3,7 @@ ghost use Rattle.std.specs.Prelude.{◌≡◌, ◌≤◌, ◌<◌, ◌∷◌, []
 ghost use Rattle.script_reader.specs.Words.{is_space, words, word_len, IsAtWord};
 
 /// Space, tab and carriage return separate words.
-fn is_space(byte: u8) -> bool
+pub(crate) fn is_space(byte: u8) -> bool
     ensures { result ≡ is_space byte }
 {
     byte == b' ' || byte == b'\t' || byte == b'\r'
@@ -47,13 +47,20 @@ fn split_word(line: &[u8]) -> (&[u8], &[u8])
     line.split_at(word_len(line))
 }
 
-/// The first word and what follows it, or nothing where the line has no word.
-pub fn next_word(line: &[u8]) -> Option<(&[u8], &[u8])>
-    ensures { MatchOption result (words line.now ≡ []) (λ r. words line.now ≡ r.0.now ∷ words r.1.now) }
+/// The line from its first word on, where it has a word.
+pub fn at_word(line: &[u8]) -> Option<&[u8]>
+    ensures { MatchOption result (words line.now ≡ []) (λ r. (words line.now ≡ words r.now) × (0 < length r.now) × IsAtWord r.now) }
 {
     let line = skip_gap(line);
     if line.is_empty() {
         return None;
     }
-    Some(split_word(line))
+    Some(line)
+}
+
+/// The first word and what follows it, or nothing where the line has no word.
+pub fn next_word(line: &[u8]) -> Option<(&[u8], &[u8])>
+    ensures { MatchOption result (words line.now ≡ []) (λ r. words line.now ≡ r.0.now ∷ words r.1.now) }
+{
+    Some(split_word(at_word(line)?))
 }

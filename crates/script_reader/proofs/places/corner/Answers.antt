@@ -1,0 +1,10 @@
+use Rattle.script_reader.specs.Places.{corner_of}
+use Rattle.script_reader.specs.declared.command.Fault.TheVariants.{BadNumber}
+use Rattle.script_reader.proofs.FirstLaws.{first_said, first_unsaid}
+use Rattle.script_reader.proofs.places.corner.Goals as goal
+
+pub returns-in-Some-corner_of : goal.returns-in-Some-corner_of
+returns-in-Some-corner_of c = first_said BadNumber corner_of c.args.line.now c.in-Some.line.now c.in-Some-corner_of.value c.in-Some-corner_of.rest.now c.in-Some.ensures.0 c.in-Some.ensures.1 c.in-Some.ensures.2 c.in-Some-corner_of.ensures
+
+pub returns-in-None : goal.returns-in-None
+returns-in-None c = first_unsaid BadNumber corner_of c.args.line.now c.in-Some.line.now c.in-Some.ensures.0 c.in-Some.ensures.1 c.in-Some.ensures.2 c.in-None.ensures
