@@ -1,5 +1,5 @@
 -- What the first word of a line says.
-use Rattle.std.proofs.Common.{◌≡◌, ℕ, ◌<◌, true, false, List, [], ◌∷◌, Option, Some, None, Ok, Err, length, take, drop, refl, ap, one-add}
+use Rattle.std.proofs.Common.{◌≡◌, ℕ, ◌<◌, false, List, ◌∷◌, Option, Some, None, Ok, Err, length, take, drop, refl, ap, one-add}
 use Rattle.std.specs.Prelude.{option_map}
 use Rattle.script_reader.specs.Words.{is_space, words, word_len, IsAtWord, first_by}
 use Rattle.script_reader.specs.Places.{Word, said, next_of}

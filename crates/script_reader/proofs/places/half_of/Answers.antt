@@ -1,4 +1,4 @@
-use Rattle.std.proofs.Common.{◌≡◌, ◌∷◌, true, false, rules}
+use Rattle.std.proofs.Common.{true, false, rules}
 use Rattle.script_reader.proofs.NumberLaws.{no_half}
 use Rattle.script_reader.proofs.places.half_of.Goals as goal
 use Rattle.script_reader.proofs.places.half_of.Goals.{in-43, in-45}
