@@ -10,27 +10,17 @@ ghost use Rattle.solid_listing.specs.Writing.{Puts};
 
 use crate::text::put_number;
 use crate::writing::{WriteFault, put};
-use arrayvec::ArrayVec;
 use euler_conditions::Arena;
 use euler_operators::HalfEdge;
 use solid_walks::least_item;
 use std::io::Write;
 
-/// Writes a space and a half-edge, its sign and its edge, piece by piece.
-fn put_signed<W: Write>(writer: &mut W, h: HalfEdge) -> Result<(), WriteFault>
-    ensures { Puts (W.contents writer.old) (W.contents writer.new) (32 ∷ half_word (code h)) result }
-{
-    put(writer, if h.first { b" +" } else { b" -" })?;
-    put_number(writer, h.edge)
-}
-
 /// Writes a space and a half-edge: its sign and its edge.
 fn put_half<W: Write>(writer: &mut W, h: HalfEdge) -> Result<(), WriteFault>
     ensures { Puts (W.contents writer.old) (W.contents writer.new) (32 ∷ half_word (code h)) result }
 {
-    let mut word = ArrayVec::<u8, 16>::new();
-    put_signed(&mut word, h)?;
-    put(writer, word.as_slice())
+    put(writer, if h.first { b" +" } else { b" -" })?;
+    put_number(writer, h.edge)
 }
 
 /// Writes the half-edges of a loop, each after a space, from its least one on, which is given.

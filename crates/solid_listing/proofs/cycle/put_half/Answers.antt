@@ -4,8 +4,8 @@ use Rattle.std.proofs.lemmas.Result.{err_from_is_err_and}
 use Rattle.solid_listing.specs.Writing.{Stops, Puts}
 use Rattle.solid_listing.proofs.HalfWords.{half_word_is}
 use Rattle.solid_listing.proofs.WritingLaws.{Stops-longer, puts_after}
-use Rattle.solid_listing.proofs.cycle.put_signed.Goals as goal
-use Rattle.solid_listing.proofs.cycle.put_signed.Goals.{then-h, else-h}
+use Rattle.solid_listing.proofs.cycle.put_half.Goals as goal
+use Rattle.solid_listing.proofs.cycle.put_half.Goals.{then-h, else-h}
 
 pub returns-in_err-put : goal.returns-in_err-put
 returns-in_err-put g c =

@@ -3,7 +3,7 @@ use Rattle.std.proofs.lemmas.Result.{err_from_is_err_and}
 use Rattle.solid_listing.specs.Lines.{spaced}
 use Rattle.solid_listing.proofs.LineLaws.{spaced_next}
 use Rattle.solid_listing.proofs.WritingLaws.{Stops-longer, wrote_more, stops_inside}
-use Rattle.solid_listing.proofs.text.put_pieces.Goals as goal
+use Rattle.solid_listing.proofs.text.put_words.Goals as goal
 
 pub returns-in_err-put : goal.returns-in_err-put
 returns-in_err-put g c =

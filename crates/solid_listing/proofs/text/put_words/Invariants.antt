@@ -1,7 +1,7 @@
 use Rattle.std.proofs.Common.{◌++◌, map, drop}
 use Rattle.solid_listing.specs.Lines.{spaced}
 use Rattle.solid_listing.proofs.WritingLaws.{Writes}
-use Rattle.solid_listing.proofs.text.put_pieces.Given as goal
+use Rattle.solid_listing.proofs.text.put_words.Given as goal
 
 abbrev pub invariant-loop-n : goal.invariant-loop-n
 invariant-loop-n g l = Writes (g.W.Write.contents l.fn.writer) (g.W.Write.contents l.writer)
