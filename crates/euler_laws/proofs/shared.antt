@@ -4,6 +4,8 @@ pub mod Rows
 pub mod Arcs
 pub mod EdgeMore
 pub mod EdgeLess
+pub mod Parts
+pub mod TwoRows
 pub mod Same
 pub mod Undo
 pub mod Rings

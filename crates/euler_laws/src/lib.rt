@@ -6,7 +6,8 @@
 //! The lemmas stand in folders: `mev`, `kev`, `mef` (with kef), `kemr`, `mekr`, `faces` (the operators that change only which face a loop
 //! is of, and mvfs and kvfs), `merge` (Merge and Part), and `shared` (half-edges round a vertex, loops and their walks, models that
 //! answer alike, what conditions say). `kev` and `mef` have both directions of undoing; `kemr` has how mekr takes it back, `mekr` how
-//! kemr does.
+//! kemr does. That a model stays sound is shown in four parts (`shared/Parts`: walks, vertices, faces, ranges), from what is said once
+//! of an edge that comes (`shared/EdgeMore`) or goes (`shared/EdgeLess`) and of two loops whose rows change (`shared/TwoRows`).
 //!
 //! # What is proved
 //!

@@ -1,21 +1,22 @@
 -- kfmrh makes a face a ring of another face, and mfkrh a ring a face: they keep a sound model sound and take each other back.
-use Rattle.std.proofs.Common.{◌≡◌, ◌≢◌, ℕ, nat_eq, Some, None, unwrap_or, is_some, IsTrue, refl, sym, ap, ◌∙◌, subst, arith, inl, inr, true≢false}
-use Rattle.std.proofs.lemmas.Bool.Decides.{nat_tests, eqb_tells}
+use Rattle.std.proofs.Common.{◌≡◌, ◌≢◌, ℕ, nat_eq, Some, None, is_some, IsTrue, refl, sym, ap, ◌∙◌, subst, inl, inr}
+use Rattle.std.proofs.lemmas.Bool.Decides.{eqb_tells}
 use Rattle.std.proofs.lemmas.Bool.{not-true, ne_eqb, eq-eqb, eqb-true, eqb-false}
 use Rattle.euler_operators.specs.HalfEdge.{mate}
 use Rattle.euler_operators.specs.Table as table
-use Rattle.euler_operators.specs.Table.{map_rows, tables}
-use Rattle.euler_operators.specs.Model.{Model, FaceRow, no_face, loop_of, face_of, solid_of, outer, is_number}
+use Rattle.euler_operators.specs.Table.{map_rows}
+use Rattle.euler_operators.specs.Model.{Model, FaceRow, loop_of, face_of, solid_of, outer, is_number}
 use Rattle.euler_operators.specs.Sound.{Sound, Has}
-use Rattle.euler_operators.proofs.Tables.{put-remove, remove-put, no_row}
-use Rattle.euler_operators.proofs.Models.{row_of, mate_there}
+use Rattle.euler_operators.proofs.Tables.{put-remove, remove-put, no_row, row_elsewhere}
+use Rattle.euler_operators.proofs.Models.{row_of, mate_there, solid_row, outer_row}
 use Rattle.euler_operators.proofs.Tests.{nat_eq_itself}
 use Rattle.euler_operators.specs.declared.Op.TheVariants.{Kfmrh, Mfkrh}
 use Rattle.euler_operators.specs.Conditions.{first_false, conditions}
 use Rattle.euler_operators.specs.Effect.{effect, inverse, kfmrh, mfkrh, loop_to_face}
 use Rattle.euler_laws.proofs.shared.Goes.{all_hold, none_refuses, not_false, taken}
 use Rattle.euler_laws.proofs.shared.Same.{solid_at}
-use Rattle.euler_laws.proofs.shared.Undo.{same_loops}
+use Rattle.euler_laws.proofs.shared.Undo.{same_loops, same_model}
+use Rattle.euler_laws.proofs.shared.Parts.{FaceSet, face_here, has_face, solid_other, outer_other, fit-put, fit-remove}
 use Rattle.euler_laws.proofs.shared.Faces.{SameWalks, sound-same, content-moved, loop-moved, face-moved, face-kept}
 use Rattle.euler_laws.proofs.shared.Rows.{face_there, no_rings_means, means_no_rings, never_outer, ring_test, test_ring}
 
@@ -61,30 +62,18 @@ module _ (M : Model) (sound : Sound M) (f g : ℕ) (goes : KillGoes M f g) where
   pub kill_face_else : (q : ℕ) → q ≢ l → face_of N q ≡ face_of M q
   kill_face_else q a = face-kept M N l f kill_loops q a
 
-  pub g_gone : table.get N.faces g ≡ None
+  pub kill_set : FaceSet M N g None
   unfolding kfmrh
-  g_gone = grind (arith, nat_tests, tables)
-
-  face_other : (p : ℕ) → p ≢ g → table.get N.faces p ≡ table.get M.faces p
-  unfolding kfmrh
-  face_other p a = grind (arith, nat_tests, tables)
+  kill_set = record { are = refl }
 
   not_g : (p : ℕ) → Has N.faces p → p ≢ g
-  not_g p t e = true≢false (sym t ∙ ap is_some (ap (table.get N.faces) e ∙ g_gone))
+  not_g p t = row_elsewhere N.faces p g t (face_here kill_set)
 
   face_on : (p : ℕ) → p ≢ g → Has M.faces p → Has N.faces p
-  face_on p a t = ap is_some (face_other p a) ∙ t
+  face_on p a t = has_face kill_set p a ∙ t
 
   face_back : (p : ℕ) → Has N.faces p → Has M.faces p
-  face_back p t = ap is_some (sym (face_other p (not_g p t))) ∙ t
-
-  pub kill_solid : (p : ℕ) → p ≢ g → solid_of N p ≡ solid_of M p
-  unfolding solid_of
-  kill_solid p a = ap (λ o. (unwrap_or o no_face).solid) (face_other p a)
-
-  pub kill_outer : (p : ℕ) → p ≢ g → outer N p ≡ outer M p
-  unfolding outer
-  kill_outer p a = ap (λ o. (unwrap_or o no_face).outer) (face_other p a)
+  face_back p t = sym (has_face kill_set p (not_g p t)) ∙ t
 
   not_face_g : (q : ℕ) → Has M.loops q → q ≢ l → face_of M q ≢ g
   not_face_g q t a e = a (sym (goes.no_rings q t e))
@@ -94,37 +83,34 @@ module _ (M : Model) (sound : Sound M) (f g : ℕ) (goes : KillGoes M f g) where
 
   kill_solid_at : (q : ℕ) → Has M.loops q → solid_at N q ≡ solid_at M q
   kill_solid_at q t = elim (eqb_tells q l) [
-    | inl e ↦ ap (λ y. solid_of N (face_of N y)) e.1 ∙ ap (solid_of N) kill_face_l ∙ kill_solid f goes.apart ∙ goes.one_solid ∙ ap (solid_of M) (sym l_face) ∙ sym (ap (λ y. solid_of M (face_of M y)) e.1)
-    | inr e ↦ ap (solid_of N) (kill_face_else q e.1) ∙ kill_solid (face_of M q) (not_face_g q t e.1)
+    | inl e ↦ ap (λ y. solid_of N (face_of N y)) e.1 ∙ ap (solid_of N) kill_face_l ∙ solid_other kill_set f goes.apart ∙ goes.one_solid ∙ ap (solid_of M) (sym l_face) ∙ sym (ap (λ y. solid_of M (face_of M y)) e.1)
+    | inr e ↦ ap (solid_of N) (kill_face_else q e.1) ∙ solid_other kill_set (face_of M q) (not_face_g q t e.1)
   ]
 
-  solids_same : N.solids ≡ M.solids
-  unfolding kfmrh
-  solids_same = refl
-
   pub sound-kfmrh : Sound N
+  unfolding kfmrh
   sound-kfmrh = sound-same M N sound kill_same (record {
     loops_of_faces = λ q t. elim (eqb_tells q l) [
       | inl e ↦ subst (Has N.faces) (sym (ap (face_of N) e.1 ∙ kill_face_l)) (face_on f goes.apart goes.f_there)
       | inr e ↦ subst (Has N.faces) (sym (kill_face_else q e.1)) (face_on _ (not_face_g q t e.1) (sound.loops_of_faces q t))
     ];
     outers_there = λ p t. let o = sound.outers_there p (face_back p t) in let a = not_g p t in
-        (subst (Has M.loops) (sym (kill_outer p a)) o.0, ap (face_of N) (kill_outer p a) ∙ kill_face_else (outer M p) (not_outer p (face_back p t) a) ∙ o.1);
-    faces_of_solids = λ p t. subst (λ y. Has y (solid_of N p)) (sym solids_same) (subst (Has M.solids) (sym (kill_solid p (not_g p t))) (sound.faces_of_solids p (face_back p t)));
-    solid_has_face = λ s t. let x = sound.solid_has_face s (subst (λ y. Has y s) solids_same t) in elim (eqb_tells x.0 g) [
-      | inl e ↦ (f, face_on f goes.apart goes.f_there, kill_solid f goes.apart ∙ goes.one_solid ∙ ap (solid_of M) (sym e.1) ∙ x.2)
-      | inr e ↦ (x.0, face_on x.0 e.1 x.1, kill_solid x.0 e.1 ∙ x.2)
+        (subst (Has M.loops) (sym (outer_other kill_set p a)) o.0, ap (face_of N) (outer_other kill_set p a) ∙ kill_face_else (outer M p) (not_outer p (face_back p t) a) ∙ o.1);
+    faces_of_solids = λ p t. subst (Has M.solids) (sym (solid_other kill_set p (not_g p t))) (sound.faces_of_solids p (face_back p t));
+    solid_has_face = λ s t. let x = sound.solid_has_face s t in elim (eqb_tells x.0 g) [
+      | inl e ↦ (f, face_on f goes.apart goes.f_there, solid_other kill_set f goes.apart ∙ goes.one_solid ∙ ap (solid_of M) (sym e.1) ∙ x.2)
+      | inr e ↦ (x.0, face_on x.0 e.1 x.1, solid_other kill_set x.0 e.1 ∙ x.2)
     ];
     one_solid = λ x t. kill_solid_at (loop_of M x) (ap is_some (row_of M sound x t)) ∙ sound.one_solid x t ∙ sym (kill_solid_at (loop_of M (mate x)) (ap is_some (row_of M sound (mate x) (mate_there M x t))));
-    solids_fit = λ n t. sound.solids_fit n (subst (λ y. Has y n) solids_same t);
-    faces_fit = λ n t. sound.faces_fit n (face_back n t);
+    solids_fit = sound.solids_fit;
+    faces_fit = fit-remove M.faces sound.faces_fit g;
   })
 
   pub make_goes : MakeGoes N l g
   make_goes = record {
     l_there = kill_same.loops l ∙ l_there;
-    face_free = g_gone;
-    is_ring = λ e. not_outer f goes.f_there goes.apart (sym (kill_outer f goes.apart) ∙ ap (outer N) (sym kill_face_l) ∙ e);
+    face_free = face_here kill_set;
+    is_ring = λ e. not_outer f goes.f_there goes.apart (sym (outer_other kill_set f goes.apart) ∙ ap (outer N) (sym kill_face_l) ∙ e);
     face_fits = sound.faces_fit g goes.g_there;
   }
 
@@ -148,38 +134,24 @@ module _ (M : Model) (sound : Sound M) (l f : ℕ) (goes : MakeGoes M l f) where
   pub make_face_else : (q : ℕ) → q ≢ l → face_of P q ≡ face_of M q
   make_face_else q a = face-kept M P l f make_loops q a
 
-  f_new : table.get P.faces f ≡ Some (record { solid = solid_of M (face_of M l); outer = l })
+  make_set : FaceSet M P f (Some (record { solid = solid_of M (face_of M l); outer = l }))
   unfolding mfkrh
-  f_new = grind (arith, nat_tests, tables)
-
-  face_other' : (p : ℕ) → p ≢ f → table.get P.faces p ≡ table.get M.faces p
-  unfolding mfkrh
-  face_other' p a = grind (arith, nat_tests, tables)
+  make_set = record { are = refl }
 
   pub not_f : (p : ℕ) → Has M.faces p → p ≢ f
-  not_f p t e = true≢false (sym t ∙ ap is_some (ap (table.get M.faces) e ∙ goes.face_free))
+  not_f p t = row_elsewhere M.faces p f t goes.face_free
 
   on : (p : ℕ) → Has M.faces p → Has P.faces p
-  on p t = ap is_some (face_other' p (not_f p t)) ∙ t
+  on p t = has_face make_set p (not_f p t) ∙ t
 
   old : (p : ℕ) → p ≢ f → Has P.faces p → Has M.faces p
-  old p a t = ap is_some (sym (face_other' p a)) ∙ t
-
-  make_solid : (p : ℕ) → p ≢ f → solid_of P p ≡ solid_of M p
-  unfolding solid_of
-  make_solid p a = ap (λ o. (unwrap_or o no_face).solid) (face_other' p a)
+  old p a t = sym (has_face make_set p a) ∙ t
 
   make_solid_f : solid_of P f ≡ solid_of M (face_of M l)
-  unfolding solid_of
-  make_solid_f = ap (λ o. (unwrap_or o no_face).solid) f_new
-
-  make_outer : (p : ℕ) → p ≢ f → outer P p ≡ outer M p
-  unfolding outer
-  make_outer p a = ap (λ o. (unwrap_or o no_face).outer) (face_other' p a)
+  make_solid_f = solid_row P f _ (face_here make_set)
 
   pub make_outer_f : outer P f ≡ l
-  unfolding outer
-  make_outer_f = ap (λ o. (unwrap_or o no_face).outer) f_new
+  make_outer_f = outer_row P f _ (face_here make_set)
 
   pub home : Has M.faces (face_of M l)
   home = sound.loops_of_faces l goes.l_there
@@ -187,40 +159,37 @@ module _ (M : Model) (sound : Sound M) (l f : ℕ) (goes : MakeGoes M l f) where
   make_solid_at : (q : ℕ) → Has M.loops q → solid_at P q ≡ solid_at M q
   make_solid_at q t = elim (eqb_tells q l) [
     | inl e ↦ ap (λ y. solid_of P (face_of P y)) e.1 ∙ ap (solid_of P) make_face_l ∙ make_solid_f ∙ sym (ap (λ y. solid_of M (face_of M y)) e.1)
-    | inr e ↦ ap (solid_of P) (make_face_else q e.1) ∙ make_solid (face_of M q) (not_f _ (sound.loops_of_faces q t))
+    | inr e ↦ ap (solid_of P) (make_face_else q e.1) ∙ solid_other make_set (face_of M q) (not_f _ (sound.loops_of_faces q t))
   ]
 
-  solids_same' : P.solids ≡ M.solids
-  unfolding mfkrh
-  solids_same' = refl
-
   pub sound-mfkrh : Sound P
+  unfolding mfkrh
   sound-mfkrh = sound-same M P sound make_same (record {
     loops_of_faces = λ q t. elim (eqb_tells q l) [
-      | inl e ↦ subst (Has P.faces) (sym (ap (face_of P) e.1 ∙ make_face_l)) (ap is_some f_new)
+      | inl e ↦ subst (Has P.faces) (sym (ap (face_of P) e.1 ∙ make_face_l)) (ap is_some (face_here make_set))
       | inr e ↦ subst (Has P.faces) (sym (make_face_else q e.1)) (on _ (sound.loops_of_faces q t))
     ];
     outers_there = λ p t. elim (eqb_tells p f) [
       | inl e ↦ let o : outer P p ≡ l = ap (outer P) e.1 ∙ make_outer_f in (subst (Has M.loops) (sym o) goes.l_there, ap (face_of P) o ∙ make_face_l ∙ sym e.1)
       | inr e ↦ let b = old p e.1 t in let o = sound.outers_there p b in
-          (subst (Has M.loops) (sym (make_outer p e.1)) o.0, ap (face_of P) (make_outer p e.1) ∙ make_face_else (outer M p) (never_outer M sound l goes.is_ring p b) ∙ o.1)
+          (subst (Has M.loops) (sym (outer_other make_set p e.1)) o.0, ap (face_of P) (outer_other make_set p e.1) ∙ make_face_else (outer M p) (never_outer M sound l goes.is_ring p b) ∙ o.1)
     ];
-    faces_of_solids = λ p t. subst (λ y. Has y (solid_of P p)) (sym solids_same') (elim (eqb_tells p f) [
+    faces_of_solids = λ p t. elim (eqb_tells p f) [
       | inl e ↦ subst (Has M.solids) (sym (ap (solid_of P) e.1 ∙ make_solid_f)) (sound.faces_of_solids _ home)
-      | inr e ↦ subst (Has M.solids) (sym (make_solid p e.1)) (sound.faces_of_solids p (old p e.1 t))
-    ]);
-    solid_has_face = λ s t. let x = sound.solid_has_face s (subst (λ y. Has y s) solids_same' t) in (x.0, on x.0 x.1, make_solid x.0 (not_f x.0 x.1) ∙ x.2);
+      | inr e ↦ subst (Has M.solids) (sym (solid_other make_set p e.1)) (sound.faces_of_solids p (old p e.1 t))
+    ];
+    solid_has_face = λ s t. let x = sound.solid_has_face s t in (x.0, on x.0 x.1, solid_other make_set x.0 (not_f x.0 x.1) ∙ x.2);
     one_solid = λ x t. make_solid_at (loop_of M x) (ap is_some (row_of M sound x t)) ∙ sound.one_solid x t ∙ sym (make_solid_at (loop_of M (mate x)) (ap is_some (row_of M sound (mate x) (mate_there M x t))));
-    solids_fit = λ n t. sound.solids_fit n (subst (λ y. Has y n) solids_same' t);
-    faces_fit = λ n t. elim (eqb_tells n f) [ inl e ↦ subst (λ y. IsTrue (is_number y)) (sym e.1) goes.face_fits | inr e ↦ sound.faces_fit n (old n e.1 t) ];
+    solids_fit = sound.solids_fit;
+    faces_fit = fit-put M.faces sound.faces_fit f _ goes.face_fits;
   })
 
   pub kill_goes : KillGoes P (face_of M l) f
   kill_goes = record {
     f_there = on _ home;
-    g_there = ap is_some f_new;
+    g_there = ap is_some (face_here make_set);
     apart = not_f _ home;
-    one_solid = make_solid _ (not_f _ home) ∙ sym make_solid_f;
+    one_solid = solid_other make_set _ (not_f _ home) ∙ sym make_solid_f;
     no_rings = λ q t e. make_outer_f ∙ elim (eqb_tells q l) [
       | inl a ↦ sym a.1
       | inr a ↦ absurd (not_f _ (sound.loops_of_faces q (sym (make_same.loops q) ∙ t)) (sym (make_face_else q a.1) ∙ e))
@@ -257,15 +226,12 @@ module _ (M : Model) (sound : Sound M) (f g : ℕ) (goes : KillGoes M f g) where
 
   b_faces : B.faces ≡ M.faces
   b_faces =
-      let s : solid_of A (face_of A (outer M g)) ≡ solid_of M g = ap (solid_of A) (kill_face_l M sound f g goes) ∙ kill_solid M sound f g goes f goes.apart ∙ goes.one_solid in
+      let s : solid_of A (face_of A (outer M g)) ≡ solid_of M g = ap (solid_of A) (kill_face_l M sound f g goes) ∙ solid_other (kill_set M sound f g goes) f goes.apart ∙ goes.one_solid in
       b_put (record { solid = solid_of M g; outer = outer M g }) (face_there M g goes.g_there) (λ i. record { solid = s i; outer = outer M g })
 
-  b_rest : (B.solids ≡ M.solids) × (B.edges ≡ M.edges) × (B.vertices ≡ M.vertices)
-  unfolding mfkrh kfmrh
-  b_rest = (refl, refl, refl)
-
   pub mfkrh-kfmrh : mfkrh (kfmrh M f g) (outer M g) g ≡ M
-  mfkrh-kfmrh = λ i. record { solids = b_rest.0 i; faces = b_faces i; loops = b_loops i; edges = b_rest.1 i; vertices = b_rest.2 i }
+  unfolding mfkrh kfmrh
+  mfkrh-kfmrh = same_model B M refl b_faces b_loops refl refl
 
 module _ (M : Model) (sound : Sound M) (l f : ℕ) (goes : MakeGoes M l f) where
   abbrev E : Model
@@ -299,12 +265,9 @@ module _ (M : Model) (sound : Sound M) (l f : ℕ) (goes : MakeGoes M l f) where
   unfolding mfkrh kfmrh
   g_faces = remove-put M.faces f _ goes.face_free
 
-  g_rest : (G.solids ≡ M.solids) × (G.edges ≡ M.edges) × (G.vertices ≡ M.vertices)
-  unfolding mfkrh kfmrh
-  g_rest = (refl, refl, refl)
-
   pub kfmrh-mfkrh : kfmrh (mfkrh M l f) (face_of M l) f ≡ M
-  kfmrh-mfkrh = λ i. record { solids = g_rest.0 i; faces = g_faces i; loops = g_loops i; edges = g_rest.1 i; vertices = g_rest.2 i }
+  unfolding mfkrh kfmrh
+  kfmrh-mfkrh = same_model G M refl g_faces g_loops refl refl
 
 -- ---- the operators
 

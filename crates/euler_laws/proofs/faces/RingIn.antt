@@ -13,7 +13,7 @@ use Rattle.euler_operators.specs.Effect.{effect, inverse, ring_in}
 use Rattle.euler_operators.proofs.Tests.{nat_eq_itself}
 use Rattle.euler_laws.proofs.shared.Goes.{all_hold, none_refuses, not_false}
 use Rattle.euler_laws.proofs.shared.Same.{solid_at}
-use Rattle.euler_laws.proofs.shared.Undo.{same_loops}
+use Rattle.euler_laws.proofs.shared.Undo.{same_loops, same_model}
 use Rattle.euler_laws.proofs.shared.Faces.{SameWalks, sound-same, content-moved, loop-moved, face-moved, face-kept}
 use Rattle.euler_laws.proofs.shared.Rows.{never_outer, ring_test, test_ring}
 
@@ -116,24 +116,9 @@ module _ (M : Model) (sound : Sound M) (l f : ℕ) (goes : RingGoes M l f) where
       ])
       (λ q _. (same N' snd l (face_of M l) back).contents q ∙ (same M sound l f goes).contents q)
 
-  solids-back : K.solids ≡ M.solids
-  unfolding ring_in
-  solids-back = refl
-
-  faces-back : K.faces ≡ M.faces
-  unfolding ring_in
-  faces-back = refl
-
-  edges-back : K.edges ≡ M.edges
-  unfolding ring_in
-  edges-back = refl
-
-  vertices-back : K.vertices ≡ M.vertices
-  unfolding ring_in
-  vertices-back = refl
-
   pub ring_in-ring_in : ring_in (ring_in M l f) l (face_of M l) ≡ M
-  ring_in-ring_in = λ i. record { solids = solids-back i; faces = faces-back i; loops = loops-back i; edges = edges-back i; vertices = vertices-back i }
+  unfolding ring_in
+  ring_in-ring_in = same_model K M refl refl loops-back refl refl
 
 -- ---- the operator
 

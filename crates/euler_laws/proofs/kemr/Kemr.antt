@@ -11,19 +11,21 @@ use Rattle.euler_operators.specs.declared.HalfEdge.{HalfEdge}
 use Rattle.euler_operators.specs.declared.Corner.{Corner}
 use Rattle.euler_operators.specs.HalfEdge.{code, half, mate, edge_of}
 use Rattle.euler_operators.specs.Table as table
-use Rattle.euler_operators.specs.Table.{Table}
 use Rattle.euler_operators.specs.Model.{Model, cycle, LoopRow, EdgeRow, items_of, tail, loop_of, content, cycle_of, face_of, outer, is_number, is_ring_of}
 use Rattle.euler_operators.specs.Sound.{Sound, Has, HasHalf}
-use Rattle.euler_operators.proofs.Halves.{edge_of-code, code-half, mate-mate}
+use Rattle.euler_operators.proofs.Halves.{edge_of-code, code-half, mate-mate, mate_other}
 use Rattle.euler_operators.proofs.Tables.{put-remove, two_undone, no_row}
 use Rattle.euler_operators.proofs.Models.{row_of}
 use Rattle.euler_operators.specs.declared.Op.TheVariants.{Kemr, Mekr}
 use Rattle.euler_operators.specs.Conditions.{first_false, conditions, corner_tail, corner_loop, corner_list, corner_known, corner_lone, corner_number, lone_vertex, is_lone}
 use Rattle.euler_operators.specs.Effect.{effect, inverse, kemr, mekr, corner_of, cycle_or_lone, edge_row}
 use Rattle.euler_laws.proofs.shared.Goes.{all_hold, none_refuses, not_false, taken}
-use Rattle.euler_laws.proofs.shared.EdgeLess.{edge_gone, tail_old}
+use Rattle.euler_laws.proofs.shared.Parts.{outer_stays}
+use Rattle.euler_laws.proofs.shared.EdgeLess.{OneLess, edge_gone, half_cases, tail_old}
+use Rattle.euler_laws.proofs.shared.TwoRows.{RowsSet, row_first, row_second, content_first, face_same}
 use Rattle.euler_laws.proofs.kemr.KemrSound as parted
 use Rattle.euler_laws.proofs.kemr.KemrSound.{KemrGoes, sound-kemr}
+use Rattle.euler_laws.proofs.shared.Undo.{same_model}
 use Rattle.euler_laws.proofs.shared.Rows.{edge_there, half_of, of_half}
 
 -- a corner of loop q at vertex v, from which the loop reads zs
@@ -139,17 +141,23 @@ module _ (M : Model) (sound : Sound M) (h l : ℕ) (goes : KemrGoes M h l) where
   sound-N : Sound N
   sound-N = sound-kemr M sound h l goes
 
+  less : OneLess M N h
+  less = parted.less M sound h l goes
+
+  abbrev set : RowsSet M N r l (parted.kept M sound h l goes) (Some (parted.new M sound h l goes))
+  set = parted.set M sound h l goes
+
   part_apart : (x : ℕ) → (count x X ≤ 1) × (count x Y ≤ 1)
   part_apart x = (omega (arith, parted.count_xs M sound h l goes x, (parted.cyc M sound h l goes).apart x), omega (arith, parted.count_xs M sound h l goes x, (parted.cyc M sound h l goes).apart x))
 
   old_tail : (y k : ℕ) → HasHalf N y → tail M y ≡ k → tail N y ≡ k
-  old_tail y k t e = tail_old M N h (parted.edges_are M sound h l goes) y (parted.old_half M sound h l goes y t).1 ∙ e
+  old_tail y k t e = tail_old less y (half_cases less y t).1 ∙ e
 
   each_Y : (y : ℕ) → IsIn y Y → (loop_of N y ≡ r) × HasHalf N y
-  each_Y y i = let p = parted.in_Y M sound h l goes y i in (sound-N.one_loop y r p.0, sound-N.only_edges y r p.0)
+  each_Y y i = let p = parted.in_Y M sound h l goes y i in (sound-N.one_loop y r p, sound-N.only_edges y r p)
 
   each_X : (y : ℕ) → IsIn y X → (loop_of N y ≡ l) × HasHalf N y
-  each_X y i = let p = parted.in_X M sound h l goes y i in (sound-N.one_loop y l p.0, sound-N.only_edges y l p.0)
+  each_X y i = let p = parted.in_X M sound h l goes y i in (sound-N.one_loop y l p, sound-N.only_edges y l p)
 
   first_Y : (y : ℕ) (ys : List ℕ) → Y ≡ y ∷ ys → tail N y ≡ tail M h
   first_Y y ys e = old_tail y (tail M h) (each_Y y (subst (IsIn y) (sym e) (omega (arith, tick_same y)))).1
@@ -161,16 +169,16 @@ module _ (M : Model) (sound : Sound M) (h l : ℕ) (goes : KemrGoes M h l) where
 
   pub put_goes : MekrGoes N (corner_of Y r) (corner_of X l) h r l (tail M h) (tail M m) Y X
   put_goes = record {
-    first = corner_here N sound-N Y r (tail M h) (parted.content_r M sound h l goes) (ap is_some (parted.loop_r M sound h l goes)) (λ x. (part_apart x).1) each_Y first_Y;
-    second = corner_here N sound-N X l (tail M m) (parted.content_l M sound h l goes) (ap is_some (parted.loop_l M sound h l goes)) (λ x. (part_apart x).0) each_X first_X;
-    edge_free = edge_gone M N h (parted.edges_are M sound h l goes);
+    first = corner_here N sound-N Y r (tail M h) (content_first set) (ap is_some (row_first set)) (λ x. (part_apart x).1) each_Y first_Y;
+    second = corner_here N sound-N X l (tail M m) (parted.content_l M sound h l goes) (ap is_some (row_second set)) (λ x. (part_apart x).0) each_X first_X;
+    edge_free = edge_gone less;
     edge_fits = sound.edges_fit (edge_of h) goes.h_there;
     loops_apart = parted.r_l M sound h l goes;
-    one_face = parted.face_same M sound h l goes r (parted.r_l M sound h l goes) ∙ sym (parted.face_l M sound h l goes);
-    ring_there = ap is_some (parted.loop_l M sound h l goes);
+    one_face = face_same set r (parted.r_l M sound h l goes) ∙ sym (parted.face_l M sound h l goes);
+    ring_there = ap is_some (row_second set);
     no_outer = λ e. parted.not_l M sound h l goes (outer M (face_of M r)) (sound.outers_there (face_of M r) (sound.loops_of_faces r (parted.has_r M sound h l goes))).0
-        (sym (parted.outer_same M sound h l goes (face_of M r)) ∙ ap (outer N) (sym (parted.face_l M sound h l goes)) ∙ e);
-    ends_apart = parted.u_w M sound h l goes;
+        (sym (outer_stays sound (parted.faces_stay M sound h l goes) (face_of M r)) ∙ ap (outer N) (sym (parted.face_l M sound h l goes)) ∙ e);
+    ends_apart = sound.ends_differ h goes.h_there;
   }
 
   abbrev C : Corner
@@ -183,7 +191,7 @@ module _ (M : Model) (sound : Sound M) (h l : ℕ) (goes : KemrGoes M h l) where
   K = mekr N C D h
 
   whole : canonical ((h ∷ X) ++ m ∷ Y) ≡ cycle_of M h
-  whole = ap canonical (sym (ring_split h m (cycle_of M h) (parted.h_in M sound h l goes) (parted.m_in M sound h l goes) (parted.hm M sound h l goes)))
+  whole = ap canonical (sym (ring_split h m (cycle_of M h) (parted.h_in M sound h l goes) (parted.m_in M sound h l goes) (mate_other h)))
       ∙ canonical-rotate_to h (cycle_of M h) (parted.cyc M sound h l goes).apart ∙ (parted.cyc M sound h l goes).from_least
 
   joined : canonical ((h ∷ corner_list N D) ++ m ∷ corner_list N C) ≡ cycle_of M h
@@ -198,7 +206,7 @@ module _ (M : Model) (sound : Sound M) (h l : ℕ) (goes : KemrGoes M h l) where
 
   loops-back : K.loops ≡ M.loops
   loops-back =
-      let f : face_of N r ≡ face_of M r = parted.face_same M sound h l goes r (parted.r_l M sound h l goes) in
+      let f : face_of N r ≡ face_of M r = face_same set r (parted.r_l M sound h l goes) in
       loops_put r l (record { face = face_of M r; content = cycle (cycle_of M h) }) put_goes.first.loop put_goes.second.loop (λ i. record { face = f i; content = cycle (joined i) })
       ∙ ap (λ t. table.remove (table.put t r (record { face = face_of M r; content = cycle (cycle_of M h) })) l) (parted.loops_are M sound h l goes)
       ∙ two_undone M.loops r l _ _ _ (parted.r_l M sound h l goes) (row_of M sound h goes.h_there) goes.loop_free
@@ -210,20 +218,9 @@ module _ (M : Model) (sound : Sound M) (h l : ℕ) (goes : KemrGoes M h l) where
   edges-back : K.edges ≡ M.edges
   edges-back = edges_put (edge_row h (tail M h) (tail M m)) (edge_there M h goes.h_there) (λ i. edge_row h (put_goes.first.vertex i) (put_goes.second.vertex i))
 
-  solids-back : K.solids ≡ M.solids
-  unfolding mekr kemr
-  solids-back = refl
-
-  faces-back : K.faces ≡ M.faces
-  unfolding mekr kemr
-  faces-back = refl
-
-  vertices-back : K.vertices ≡ M.vertices
-  unfolding mekr kemr
-  vertices-back = refl
-
   pub mekr-kemr_back : mekr (kemr M h l) (corner_of Y r) (corner_of X l) h ≡ M
-  mekr-kemr_back = λ i. record { solids = solids-back i; faces = faces-back i; loops = loops-back i; edges = edges-back i; vertices = vertices-back i }
+  unfolding mekr kemr
+  mekr-kemr_back = same_model K M refl refl loops-back edges-back refl
 
 -- ---- kemr
 

@@ -19,6 +19,7 @@ use Rattle.euler_laws.proofs.mev.MevSound.{MevGoes, sound-mev}
 use Rattle.euler_laws.proofs.kev.MevUndo.{kev-mev_at}
 use Rattle.euler_laws.proofs.kev.MevUndo as undo
 use Rattle.euler_laws.proofs.kev.MevLone.{kev-mev_lone}
+use Rattle.euler_laws.proofs.shared.EdgeMore.{half_h}
 use Rattle.euler_laws.proofs.mev.MevLoneSound as lones
 use Rattle.euler_laws.proofs.mev.MevLoneSound.{LoneGoes, sound-mev_lone}
 use Rattle.euler_laws.proofs.kev.KevSound.{KevGoes, sound-kev}
@@ -67,12 +68,12 @@ mev_is_undone M (At g) (At k) h v p sound e = kev-mev_at M sound (code g) (code 
 mev_is_undone M (At g) (Lone l) h v p sound e = absurd (mixed_first M g l h v p sound e)
 mev_is_undone M (Lone l) (At k) h v p sound e = absurd (mixed_second M l k h v p sound e)
 mev_is_undone M (Lone l) (Lone d) h v p sound e = let w = lone_goes M l d h v p e in
-    kev-mev_lone M sound l (code h) v p (lone_vertex (content M l)) w.is_lone w.loop_there w.edge_free w.vertex_free
+    kev-mev_lone M sound l (code h) v (lone_vertex (content M l)) p w
 
 -- mev at a lone loop leaves an edge that kev takes
 kev_goes_lone : (M : Model) (sound : Sound M) (l h v u : ℕ) (p : Point) → LoneGoes M l h v u p → KevGoes (mev_lone M l h v p) h
 kev_goes_lone M sound l h v u p goes = record {
-  h_there = lones.half_h M sound l h v u p goes;
+  h_there = half_h (lones.edge M sound l h v u p goes);
   no_parallel = lones.no_parallel-lone M sound l h v u p goes;
   not_bare = λ _. lones.after-h M sound l h v u p goes;
 }

@@ -15,6 +15,7 @@ use Rattle.euler_operators.proofs.Tables.{put-remove}
 use Rattle.euler_operators.proofs.Models.{in-holds, cycle_there, cycle_sound, content_cycle, row_of, mate_there}
 use Rattle.euler_operators.specs.Effect.{mev_lone, kev}
 use Rattle.euler_laws.proofs.shared.Fans.{loop_after}
+use Rattle.euler_laws.proofs.shared.EdgeMore.{OneMore, half_h, edge_other, tail-h, tail-m, tail_old}
 use Rattle.euler_laws.proofs.shared.Loops.{light}
 use Rattle.euler_laws.proofs.shared.Same.{mapped_some}
 use Rattle.euler_laws.proofs.shared.Undo.{same_loops, same_edges, same_model}
@@ -74,6 +75,9 @@ module _ (M : Model) (sound : Sound M) (h : ℕ) (goes : KevGoes M h) (bare : af
   abbrev K : Model
   K = mev_lone N l h w (point_of M w)
 
+  edge : OneMore N K h u w
+  edge = put.edge N sound-N l h w u (point_of M w) lone_goes
+
   abbrev hs : List ℕ
   hs = cycle_of M h
 
@@ -112,18 +116,18 @@ module _ (M : Model) (sound : Sound M) (h : ℕ) (goes : KevGoes M h) (bare : af
 
   has_edge : (e : ℕ) → table.has K.edges e ≡ table.has M.edges e
   has_edge e = elim (eqb_tells e (edge_of h)) [
-    | inl a ↦ ap (table.has K.edges) a.1 ∙ put.half_h N sound-N l h w u (point_of M w) lone_goes ∙ sym (ap (table.has M.edges) a.1 ∙ goes.h_there)
-    | inr a ↦ ap is_some (put.edge_other N sound-N l h w u (point_of M w) lone_goes e a.1)
+    | inl a ↦ ap (table.has K.edges) a.1 ∙ half_h edge ∙ sym (ap (table.has M.edges) a.1 ∙ goes.h_there)
+    | inr a ↦ ap is_some (edge_other edge e a.1)
         ∙ ap is_some (kill.edge_mapped M sound h goes e a.1) ∙ mapped_some _ (table.get M.edges e)
   ]
 
   tails : (x : ℕ) → HasHalf M x → tail K x ≡ tail M x
   tails x there = elim (eqb_tells (edge_of x) (edge_of h)) [
     | inl e ↦ elim (same_edge x h e.1) [
-      | inl q ↦ ap (tail K) q ∙ put.tail-h N sound-N l h w u (point_of M w) lone_goes ∙ sym (ap (tail M) q)
-      | inr q ↦ ap (tail K) q ∙ put.tail-m N sound-N l h w u (point_of M w) lone_goes ∙ sym (ap (tail M) q)
+      | inl q ↦ ap (tail K) q ∙ tail-h edge ∙ sym (ap (tail M) q)
+      | inr q ↦ ap (tail K) q ∙ tail-m edge ∙ sym (ap (tail M) q)
     ]
-    | inr e ↦ put.tail_old N sound-N l h w u (point_of M w) lone_goes x (kill.half_old M sound h goes x there e.1)
+    | inr e ↦ tail_old edge x (kill.half_old M sound h goes x there e.1)
         ∙ kill.tail_kept M sound h goes x there e.1 (kill.bare M sound h goes bare x there e.1).1
   ]
 
@@ -131,13 +135,6 @@ module _ (M : Model) (sound : Sound M) (h : ℕ) (goes : KevGoes M h) (bare : af
   unfolding kev mev_lone
   vertices-back = put-remove M.vertices w (point_of M w) point_there
 
-  solids-back : K.solids ≡ M.solids
-  unfolding kev mev_lone
-  solids-back = refl
-
-  faces-back : K.faces ≡ M.faces
-  unfolding kev mev_lone
-  faces-back = refl
-
   pub mev_lone-kev : mev_lone (kev M h) l h w (point_of M w) ≡ M
-  mev_lone-kev = same_model K M solids-back faces-back loops-back (same_edges K M has_edge tails) vertices-back
+  unfolding kev mev_lone
+  mev_lone-kev = same_model K M refl refl loops-back (same_edges K M has_edge tails) vertices-back

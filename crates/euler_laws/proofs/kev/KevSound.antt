@@ -2,8 +2,6 @@
 use Rattle.std.proofs.Common.{◌≡◌, ◌≢◌, ℕ, ◌+◌, Bool, true, false, cond, nat_eq, ◌||◌, List, [], ◌++◌, Option, Some, None, unwrap_or, is_some, refl, sym, ap, ◌∙◌, subst, arith, ◌⊎◌, inl, inr, true≢false}
 use Rattle.std.specs.Option.{option_map}
 use Rattle.std.proofs.lemmas.Bool.Decides.{nat_tests, eqb_tells}
-use Rattle.euler_operators.specs.declared.Point.{Point}
-use Rattle.euler_operators.specs.Points.{IsInRange}
 use Rattle.euler_operators.specs.Items.{count, tick, IsIn, IsApart}
 use Rattle.euler_operators.specs.Rings.{canonical, rest, IsRing}
 use Rattle.euler_operators.specs.Edits.{without, redirect}
@@ -14,17 +12,20 @@ use Rattle.euler_operators.proofs.Rings.{count_at}
 use Rattle.euler_operators.proofs.Edits.{without_none}
 use Rattle.euler_operators.specs.HalfEdge.{mate, edge_of, is_first}
 use Rattle.euler_operators.specs.Table as table
-use Rattle.euler_operators.specs.Table.{Table, tables}
-use Rattle.euler_operators.specs.Model.{Model, LoopContent, lone, cycle, EdgeRow, items_of, holds, tail, loop_of, content, after, round, tail_in, no_edge}
-use Rattle.euler_operators.specs.Sound.{Sound, Has, HasHalf, StandsIn, IsTail, IsLoneAt, NumbersFit}
+use Rattle.euler_operators.specs.Table.{tables}
+use Rattle.euler_operators.specs.Model.{Model, LoopContent, lone, cycle, EdgeRow, items_of, holds, tail, loop_of, content, after, tail_in, no_edge}
+use Rattle.euler_operators.specs.Sound.{Sound, Has, HasHalf, StandsIn, IsTail, IsLoneAt}
 use Rattle.euler_operators.proofs.Halves.{mate_other, edge_of-mate, mate-mate, same_edge, edges_apart, mate_edge_apart}
+use Rattle.euler_operators.proofs.Tables.{get-remove_here, get-remove_other, row_elsewhere}
 use Rattle.euler_operators.proofs.Models.{in-holds, holds_in, holds-none, cycle_there, mate_there}
 use Rattle.euler_operators.proofs.Tests.{or_true}
 use Rattle.euler_operators.specs.Effect.{kev, without_edge, moved_tail, cycle_or_lone}
-use Rattle.euler_laws.proofs.shared.Fans.{Fan, fan_of, half_after, loop_after, ring_reaches, fixed_reaches, two_reaches, none_in_fan}
-use Rattle.euler_laws.proofs.shared.Loops.{IsLoop, count_out, count_gone, apart_out, ring_out, light, loop_sound, Walks, loop_at, stands-walks, one_loop-walks, cycles-walks, ends_meet-walks, one_fan-walks}
+use Rattle.euler_laws.proofs.shared.Fans.{Fan, fan_of, half_after, loop_after, ring_reaches, two_reaches, none_in_fan}
+use Rattle.euler_laws.proofs.shared.Loops.{IsLoop, count_out, count_gone, apart_out, ring_out, light, loop_sound, Walks, loop_at}
 use Rattle.euler_laws.proofs.shared.Arcs.{fan_kev, fan_kev_other}
-use Rattle.euler_laws.proofs.shared.Same.{mapped_some, Rewritten, content-new, face-same, loop-same, SameFaces, solid_at, loops_of_faces-same, outers_there-same, faces_of_solids-same, solid_has_face-same, solids_fit-same, faces_fit-same, loops_fit-same, solid_at-same}
+use Rattle.euler_laws.proofs.shared.Same.{mapped_some, Rewritten, content-new, face-same, loop-same, SameFaces, solid_at, solid_at-same}
+use Rattle.euler_laws.proofs.shared.Parts.{VerticesHold, RangesHold, sound_of, fit-map, fit-remove, points-remove, stay_of_same, faces_hold}
+use Rattle.euler_laws.proofs.shared.EdgeLess.{next_other, alone_there}
 use Rattle.euler_laws.proofs.shared.Rows.{count_or_lone, loop_or_lone, was_empty, no_items}
 
 pub moved_in : (v w e : ℕ) (row : EdgeRow) (b : Bool) → tail_in (moved_tail v w e row) b ≡ cond (nat_eq (tail_in row b) v) w (tail_in row b)
@@ -218,8 +219,8 @@ module _ (M : Model) (sound : Sound M) (h : ℕ) (goes : KevGoes M h) where
   -- where after(m) is h nothing else starts at the two ends
   pub bare : after M m ≡ h → (x : ℕ) → HasHalf M x → edge_of x ≢ edge_of h → (tail M x ≢ u) × (tail M x ≢ w)
   bare e x there a = (
-    λ t. edges_apart x h a (fixed_reaches (round M) h x e (sound.one_fan h x goes.h_there there (sym t))),
-    λ t. not_m x a (fixed_reaches (round M) m x (ap (after M) (mate-mate h) ∙ goes.not_bare e) (sound.one_fan m x m_there there (sym t))),
+    alone_there M sound h goes.h_there e x there a,
+    alone_there M sound m m_there (ap (after M) (mate-mate h) ∙ goes.not_bare e) x there (λ t. a (t ∙ edge_of-mate h)),
   )
 
   pub apart_both : IsApart (ws ++ vs)
@@ -305,14 +306,14 @@ module _ (M : Model) (sound : Sound M) (h : ℕ) (goes : KevGoes M h) where
 
   pub vertex_gone : table.get N.vertices w ≡ None
   unfolding kev
-  vertex_gone = grind (arith, nat_tests, tables)
+  vertex_gone = get-remove_here M.vertices w
 
-  pub vertex_same : (t : ℕ) → t ≢ w → table.get N.vertices t ≡ table.get M.vertices t
+  vertex_same : (t : ℕ) → t ≢ w → table.get N.vertices t ≡ table.get M.vertices t
   unfolding kev
-  vertex_same t a = grind (arith, nat_tests, tables)
+  vertex_same t a = get-remove_other M.vertices w t a
 
-  pub not_w : (t : ℕ) → Has N.vertices t → t ≢ w
-  not_w t there e = true≢false (sym there ∙ ap is_some (ap (table.get N.vertices) e ∙ vertex_gone))
+  not_w : (t : ℕ) → Has N.vertices t → t ≢ w
+  not_w t there = row_elsewhere N.vertices t w there vertex_gone
 
   pub has_vertex : (t : ℕ) → t ≢ w → Has M.vertices t → Has N.vertices t
   has_vertex t a there = ap is_some (vertex_same t a) ∙ there
@@ -325,10 +326,10 @@ module _ (M : Model) (sound : Sound M) (h : ℕ) (goes : KevGoes M h) where
 
   -- after(h) isn't h, nor after(m) m
   pub h_on : after M h ≢ h
-  h_on e = u_w (ap (tail M) (sym e) ∙ sound.ends_meet h goes.h_there)
+  h_on = next_other M sound h goes.h_there
 
   pub m_on : after M m ≢ m
-  m_on e = u_w (sym (sym (ap (tail M) e) ∙ sound.ends_meet m m_there ∙ ap (tail M) (mate-mate h)))
+  m_on = next_other M sound m m_there
 
   -- a loop that is emptied was h and its mate
   pub emptied : (q : ℕ) → IsIn h (items_of (content M q)) ⊎ IsIn m (items_of (content M q)) → out (content M q) ≡ [] → (q ≡ loop_of M h) × (after M m ≡ h)
@@ -456,41 +457,30 @@ module _ (M : Model) (sound : Sound M) (h : ℕ) (goes : KevGoes M h) where
   pub one_solid-kev : (x : ℕ) → HasHalf N x → solid_at N (loop_of N x) ≡ solid_at N (loop_of N (mate x))
   one_solid-kev x there =
       let o = half_cases x there in
-      let old : (y : ℕ) → HasHalf M y → edge_of y ≢ edge_of h → solid_at N (loop_of N y) ≡ solid_at M (loop_of M y) = λ y t a. ap (solid_at N) (loop_old y t a) ∙ solid_at-same M N sound same (loop_of M y) in
+      let old : (y : ℕ) → HasHalf M y → edge_of y ≢ edge_of h → solid_at N (loop_of N y) ≡ solid_at M (loop_of M y) = λ y t a. ap (solid_at N) (loop_old y t a) ∙ solid_at-same M N same (loop_of M y) in
       old x o.0 o.1 ∙ sound.one_solid x o.0 ∙ sym (old (mate x) (mate_there M x o.0) (mate_edge_apart x h o.1))
 
-  pub edges_fit-kev : NumbersFit N.edges
-  edges_fit-kev e there =
-      let a : e ≢ edge_of h = λ q. true≢false (sym there ∙ ap is_some (ap (table.get N.edges) q ∙ edge_gone)) in
-      sound.edges_fit e (sym (mapped_some _ (table.get M.edges e)) ∙ ap is_some (sym (edge_mapped e a)) ∙ there)
-
-  pub points_fit-kev : (t : ℕ) (p : Point) → table.get N.vertices t ≡ Some p → IsInRange p
-  points_fit-kev t p at = sound.points_fit t p (sym (vertex_same t (not_w t (ap is_some at))) ∙ at)
-
-  -- a sound model stays sound under kev
-  pub sound-kev : Sound N
-  sound-kev = record {
-    stands = stands-walks N F walks;
-    only_edges = only;
-    one_loop = one_loop-walks N F walks;
-    cycles = cycles-walks N F walks;
-    ends_meet = ends_meet-walks N F walks;
+  vertices : VerticesHold N
+  vertices = record {
     tails_there = tails_there-kev;
     ends_differ = ends_differ-kev;
     lone_or_tail = lone_or_tail-kev;
     lone_is_no_tail = lone_is_no_tail-kev;
     one_lone = one_lone-kev;
-    one_fan = one_fan-walks N F walks;
-    loops_of_faces = loops_of_faces-same M N sound same;
-    outers_there = outers_there-same M N sound same;
     lone_at_vertex = lone_at_vertex-kev;
-    faces_of_solids = faces_of_solids-same M N sound same;
-    solid_has_face = solid_has_face-same M N sound same;
-    one_solid = one_solid-kev;
-    solids_fit = solids_fit-same M N sound same;
-    faces_fit = faces_fit-same M N sound same;
-    loops_fit = loops_fit-same M N sound same;
-    edges_fit = edges_fit-kev;
-    vertices_fit = λ t there. sound.vertices_fit t (vertex_back t there);
-    points_fit = points_fit-kev;
   }
+
+  ranges : RangesHold N
+  unfolding kev
+  ranges = record {
+    solids_fit = sound.solids_fit;
+    faces_fit = sound.faces_fit;
+    loops_fit = fit-map M.loops sound.loops_fit _;
+    edges_fit = fit-map _ (fit-remove M.edges sound.edges_fit (edge_of h)) _;
+    vertices_fit = fit-remove M.vertices sound.vertices_fit w;
+    points_fit = points-remove M.vertices sound.points_fit w;
+  }
+
+  -- a sound model stays sound under kev
+  pub sound-kev : Sound N
+  sound-kev = sound_of N F walks vertices (faces_hold sound (stay_of_same M N sound same) one_solid-kev) ranges

@@ -359,14 +359,7 @@ module _ (M : Model) (sound : Sound M) (h : ℕ) (goes : KevGoes M h) (open_end 
   unfolding kev mev_at
   vertices-back = put-remove M.vertices w (point_of M w) point_there
 
-  solids-back : K.solids ≡ M.solids
-  unfolding kev mev_at
-  solids-back = refl
-
-  faces-back : K.faces ≡ M.faces
-  unfolding kev mev_at
-  faces-back = refl
-
   -- mev takes kev back
   pub mev_at-kev : mev_at (kev M h) c d h w (point_of M w) ≡ M
-  mev_at-kev = same_model K M solids-back faces-back loops-back (same_edges K M has_edge tails) vertices-back
+  unfolding kev mev_at
+  mev_at-kev = same_model K M refl refl loops-back (same_edges K M has_edge tails) vertices-back

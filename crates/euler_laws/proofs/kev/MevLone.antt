@@ -1,5 +1,5 @@
 -- mev at a lone loop is taken back by kev.
-use Rattle.std.proofs.Common.{◌≡◌, ◌≢◌, ℕ, ◌+◌, true, false, cond, not, nat_eq, List, [], ◌∷◌, Option, Some, None, unwrap_or, is_some, refl, sym, ap, ◌∙◌, arith, true≢false, ◌||◌}
+use Rattle.std.proofs.Common.{◌≡◌, ◌≢◌, ℕ, ◌+◌, true, false, cond, nat_eq, List, [], ◌∷◌, Some, None, is_some, sym, ap, ◌∙◌, arith, ◌||◌}
 use Rattle.std.proofs.lemmas.Bool.Decides.{nat_tests}
 use Rattle.euler_operators.specs.declared.Point.{Point}
 use Rattle.euler_operators.specs.Items.{count, tick, IsIn}
@@ -8,17 +8,19 @@ use Rattle.euler_operators.specs.Edits.{without}
 use Rattle.euler_operators.proofs.Rotations.{count-canonical}
 use Rattle.euler_operators.proofs.Edits.{count-without}
 use Rattle.euler_operators.proofs.Lists.{tick_same, tick_other}
-use Rattle.euler_operators.specs.HalfEdge.{mate, edge_of, is_first, plus, minus}
+use Rattle.euler_operators.specs.HalfEdge.{mate, edge_of, plus, minus}
 use Rattle.euler_operators.specs.Table as table
-use Rattle.euler_operators.specs.Table.{Table, tables}
-use Rattle.euler_operators.specs.Model.{Model, lone, cycle, LoopRow, EdgeRow, items_of, holds, tail, tail_in, no_loop, content, face_of}
-use Rattle.euler_operators.specs.Sound.{Sound, Has}
-use Rattle.euler_operators.proofs.Halves.{mate_other, edge_of-mate, is_first-mate, plus_row, minus_row}
+use Rattle.euler_operators.specs.Model.{Model, lone, cycle, LoopRow, EdgeRow, items_of, holds, tail, tail_in, content, face_of}
+use Rattle.euler_operators.specs.Sound.{Sound}
+use Rattle.euler_operators.proofs.Halves.{mate_other, edge_of-mate, plus_row, minus_row}
 use Rattle.euler_operators.proofs.Tables.{remove-put, map_same, map-put, put_same}
 use Rattle.euler_operators.proofs.Models.{not_held, no_tail, holds-none, in-holds, tail_row}
 use Rattle.euler_operators.specs.Conditions.{lone_vertex}
 use Rattle.euler_operators.specs.Effect.{mev_lone, kev, moved_tail, edge_row, without_edge, cycle_or_lone}
-use Rattle.euler_laws.proofs.shared.Rows.{no_items}
+use Rattle.euler_laws.proofs.shared.EdgeMore.{OneMore, tail-h, tail-m}
+use Rattle.euler_laws.proofs.shared.Rows.{no_items, loop_row}
+use Rattle.euler_laws.proofs.mev.MevLoneSound as put
+use Rattle.euler_laws.proofs.mev.MevLoneSound.{LoneGoes}
 
 -- a loop of h and its mate loses both
 pub pair_gone : (h f l v : ℕ) → without_edge h v l (record { face = f; content = cycle (canonical (h ∷ mate h ∷ [])) }) ≡ record { face = f; content = lone v }
@@ -54,45 +56,31 @@ edge_taken M v w e row sound vertex_free edge_free =
     (λ is. no_tail M sound v vertex_free (plus q) (ap is_some tp) (tail_row M (plus q) r tp ∙ ap (tail_in r) p.1 ∙ is))
     (λ is. no_tail M sound v vertex_free (minus q) (ap is_some tm) (tail_row M (minus q) r tm ∙ ap (tail_in r) m.1 ∙ is)))
 
-module _ (M : Model) (sound : Sound M) (l h v : ℕ) (p : Point) (u : ℕ)
-    (is_lone : content M l ≡ lone u) (loop_there : Has M.loops l) (edge_free : table.get M.edges (edge_of h) ≡ None) (vertex_free : table.get M.vertices v ≡ None) where
+module _ (M : Model) (sound : Sound M) (l h v u : ℕ) (p : Point) (goes : LoneGoes M l h v u p) where
   abbrev N : Model
   N = mev_lone M l h v p
 
-  edge_there : table.get N.edges (edge_of h) ≡ Some (edge_row h u v)
-  unfolding mev_lone
-  edge_there = let e : lone_vertex (content M l) ≡ u = ap lone_vertex is_lone in grind (arith, nat_tests, tables, e)
-
-  tail-h : tail N h ≡ u
-  tail-h = tail_row N h _ edge_there ∙ elim (is_first h) as (λ b. tail_in (cond b (record { plus_tail = u; minus_tail = v }) (record { plus_tail = v; minus_tail = u })) b ≡ u) [ true ↦ refl | false ↦ refl ]
-
-  tail-m : tail N (mate h) ≡ v
-  tail-m = tail_row N (mate h) (edge_row h u v) (ap (table.get N.edges) (edge_of-mate h) ∙ edge_there) ∙ ap (tail_in (edge_row h u v)) (is_first-mate h)
-      ∙ elim (is_first h) as (λ b. tail_in (cond b (record { plus_tail = u; minus_tail = v }) (record { plus_tail = v; minus_tail = u })) (not b) ≡ v) [ true ↦ refl | false ↦ refl ]
-
-  row-lone : (o : Option LoopRow) → is_some o ≡ true → (unwrap_or o no_loop).content ≡ lone u → o ≡ Some (record { face = (unwrap_or o no_loop).face; content = lone u })
-  row-lone None t e = absurd (true≢false (sym t))
-  row-lone (Some row) t e = λ i. Some (record { face = row.face; content = e i })
+  edge : OneMore M N h u v
+  edge = put.edge M sound l h v u p goes
 
   loop-row : table.get M.loops l ≡ Some (record { face = face_of M l; content = lone u })
-  unfolding content face_of
-  loop-row = row-lone (table.get M.loops l) loop_there is_lone
+  loop-row = loop_row M l goes.loop_there ∙ ap (λ c. Some (record { face = face_of M l; content = c })) goes.is_lone
 
   abbrev pair : LoopRow
   pair = record { face = face_of M l; content = cycle (canonical (h ∷ mate h ∷ [])) }
 
   vertices-kev : (a : ℕ) → a ≡ v → table.remove (table.put M.vertices v p) a ≡ M.vertices
-  vertices-kev a e = ap (table.remove (table.put M.vertices v p)) e ∙ remove-put M.vertices v p vertex_free
+  vertices-kev a e = ap (table.remove (table.put M.vertices v p)) e ∙ remove-put M.vertices v p goes.vertex_free
 
   edges-kev : (a b : ℕ) (row : EdgeRow) → a ≡ v → table.map_rows (moved_tail a b) (table.remove (table.put M.edges (edge_of h) row) (edge_of h)) ≡ M.edges
-  edges-kev a b row e = ap (λ x. table.map_rows (moved_tail x b) (table.remove (table.put M.edges (edge_of h) row) (edge_of h))) e ∙ edge_taken M v b (edge_of h) row sound vertex_free edge_free
+  edges-kev a b row e = ap (λ x. table.map_rows (moved_tail x b) (table.remove (table.put M.edges (edge_of h) row) (edge_of h))) e ∙ edge_taken M v b (edge_of h) row sound goes.vertex_free goes.edge_free
 
   loops-kev : (a : ℕ) → a ≡ u → table.map_rows (without_edge h a) (table.put M.loops l pair) ≡ M.loops
   loops-kev a e = map-put (without_edge h a) M.loops l pair
       ∙ ap (λ t. table.put t l (without_edge h a l pair))
       (map_same (without_edge h a) M.loops (λ q row there. without_edge_alone h a q row
-      (holds-none h row.content (not_held M sound h edge_free q row there))
-      (holds-none (mate h) row.content (not_held M sound (mate h) (ap (table.get M.edges) (edge_of-mate h) ∙ edge_free) q row there))))
+      (holds-none h row.content (not_held M sound h goes.edge_free q row there))
+      (holds-none (mate h) row.content (not_held M sound (mate h) (ap (table.get M.edges) (edge_of-mate h) ∙ goes.edge_free) q row there))))
       ∙ ap (table.put M.loops l) (pair_gone h (face_of M l) l a ∙ ap (λ x. record { face = face_of M l; content = lone x }) e)
       ∙ put_same M.loops l _ loop-row
 
@@ -101,7 +89,7 @@ module _ (M : Model) (sound : Sound M) (l h v : ℕ) (p : Point) (u : ℕ)
   kev-mev_lone = λ i. record {
     solids = M.solids;
     faces = M.faces;
-    loops = loops-kev _ tail-h i;
-    edges = edges-kev _ (tail N h) (edge_row h (lone_vertex (content M l)) v) tail-m i;
-    vertices = vertices-kev _ tail-m i;
+    loops = loops-kev _ (tail-h edge) i;
+    edges = edges-kev _ (tail N h) (edge_row h (lone_vertex (content M l)) v) (tail-m edge) i;
+    vertices = vertices-kev _ (tail-m edge) i;
   }

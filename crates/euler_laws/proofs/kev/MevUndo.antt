@@ -175,14 +175,7 @@ module _ (M : Model) (sound : Sound M) (g k h v : ℕ) (p : Point) (goes : MevGo
   unfolding kev mev_at
   vertices-back = ap (table.remove (table.put M.vertices v p)) (put.tail-m M sound g k h v p goes) ∙ remove-put M.vertices v p goes.vertex_free
 
-  solids-back : K.solids ≡ M.solids
-  unfolding kev mev_at
-  solids-back = refl
-
-  faces-back : K.faces ≡ M.faces
-  unfolding kev mev_at
-  faces-back = refl
-
   -- kev takes mev back
   pub kev-mev_at : kev (mev_at M g k h v p) h ≡ M
-  kev-mev_at = same_model K M solids-back faces-back loops-back (same_edges K M has_edge tails) vertices-back
+  unfolding kev mev_at
+  kev-mev_at = same_model K M refl refl loops-back (same_edges K M has_edge tails) vertices-back

@@ -8,7 +8,6 @@ use Rattle.euler_operators.proofs.Operators.{mef-kef}
 use Rattle.euler_operators.specs.declared.HalfEdge.{HalfEdge}
 use Rattle.euler_operators.specs.HalfEdge.{code, half, mate, edge_of}
 use Rattle.euler_operators.specs.Table as table
-use Rattle.euler_operators.specs.Table.{Table, tables, same_table}
 use Rattle.euler_operators.specs.Model.{Model, cycle, FaceRow, EdgeRow, items_of, tail, loop_of, content, cycle_of, face_of, solid_of, outer, after, is_number}
 use Rattle.euler_operators.specs.Sound.{Sound, HasHalf}
 use Rattle.euler_operators.proofs.Halves.{edge_of-code, code-half, mate-mate}
@@ -19,12 +18,17 @@ use Rattle.euler_operators.specs.Conditions.{first_false, conditions, face_at}
 use Rattle.euler_operators.specs.Effect.{effect, inverse, mef, kef, edge_row}
 use Rattle.euler_laws.proofs.shared.Goes.{all_hold, none_refuses, not_false, taken}
 use Rattle.euler_laws.proofs.shared.Fans.{half_after, loop_after}
+use Rattle.euler_laws.proofs.shared.Parts.{face_here}
+use Rattle.euler_laws.proofs.shared.EdgeMore.{half_h}
+use Rattle.euler_laws.proofs.shared.EdgeLess.{OneLess, other_edge, half_old, tail_old, edge_gone}
+use Rattle.euler_laws.proofs.shared.TwoRows.{RowsSet, row_second, content_first, face_same, has_same}
 use Rattle.euler_laws.proofs.mef.MefUndo.{loops-mef}
 use Rattle.euler_laws.proofs.mef.MefSound as made
 use Rattle.euler_laws.proofs.mef.MefSound.{MefGoes}
 use Rattle.euler_laws.proofs.mef.Mef.{mef_goes}
 use Rattle.euler_laws.proofs.mef.KefSound as gone
 use Rattle.euler_laws.proofs.mef.KefSound.{KefGoes, sound-kef}
+use Rattle.euler_laws.proofs.shared.Undo.{same_model}
 use Rattle.euler_laws.proofs.shared.Rows.{face_there, edge_there, half_of, of_half, no_rings_means, means_no_rings, both_back}
 
 module _ (M : Model) (sound : Sound M) (h : ℕ) (goes : KefGoes M h) where
@@ -52,14 +56,20 @@ module _ (M : Model) (sound : Sound M) (h : ℕ) (goes : KefGoes M h) where
   pub sound-N : Sound N
   sound-N = sound-kef M sound h goes
 
+  less : OneLess M N h
+  less = gone.less M sound h goes
+
+  abbrev set : RowsSet M N r s (gone.kept M sound h goes) None
+  set = gone.set M sound h goes
+
   m_there : HasHalf M m
   m_there = mate_there M h goes.h_there
 
   g_edge : edge_of g ≢ edge_of h
-  g_edge = gone.other_edge M sound h goes g (gone.after_m M sound h goes) (gone.m_on M sound h goes)
+  g_edge = other_edge g h (gone.after_m M sound h goes) (gone.m_on M sound h goes)
 
   k_edge : edge_of k ≢ edge_of h
-  k_edge = gone.other_edge M sound h goes k (gone.h_on M sound h goes) (gone.after_h M sound h goes)
+  k_edge = other_edge k h (gone.h_on M sound h goes) (gone.after_h M sound h goes)
 
   g_in : IsIn g (cycle_of M m)
   g_in = subst (λ q. IsIn g (items_of (content M q))) (loop_after M sound m m_there) (cycle_there M sound g (half_after M sound m m_there))
@@ -74,20 +84,20 @@ module _ (M : Model) (sound : Sound M) (h : ℕ) (goes : KefGoes M h) where
   loop_k = gone.loop_joined M sound h goes k k_edge (inl k_in)
 
   tail_g : tail N g ≡ tail M h
-  tail_g = gone.tail_old M sound h goes g g_edge ∙ sound.ends_meet m m_there ∙ ap (tail M) (mate-mate h)
+  tail_g = tail_old less g g_edge ∙ sound.ends_meet m m_there ∙ ap (tail M) (mate-mate h)
 
   tail_k : tail N k ≡ tail M m
-  tail_k = gone.tail_old M sound h goes k k_edge ∙ sound.ends_meet h goes.h_there
+  tail_k = tail_old less k k_edge ∙ sound.ends_meet h goes.h_there
 
   pub put_goes : MefGoes N g k h f s
   put_goes = record {
-    g_there = gone.half_old M sound h goes g (half_after M sound m m_there) g_edge;
-    k_there = gone.half_old M sound h goes k (half_after M sound h goes.h_there) k_edge;
-    edge_free = gone.edge_gone M sound h goes;
-    face_free = gone.face_gone M sound h goes;
-    loop_free = gone.loop_s M sound h goes;
+    g_there = half_old less g (half_after M sound m m_there) g_edge;
+    k_there = half_old less k (half_after M sound h goes.h_there) k_edge;
+    edge_free = edge_gone less;
+    face_free = face_here (gone.face_set M sound h goes);
+    loop_free = row_second set;
     one_loop = loop_k ∙ sym loop_g;
-    ends_apart = λ e. gone.u_w M sound h goes (sym tail_g ∙ e ∙ tail_k);
+    ends_apart = λ e. sound.ends_differ h goes.h_there (sym tail_g ∙ e ∙ tail_k);
     edge_fits = sound.edges_fit (edge_of h) goes.h_there;
     face_fits = sound.faces_fit f (gone.face_f M sound h goes);
     loop_fits = sound.loops_fit s (gone.has_s M sound h goes);
@@ -97,7 +107,7 @@ module _ (M : Model) (sound : Sound M) (h : ℕ) (goes : KefGoes M h) where
   K = mef N g k h f s
 
   cycle_g : cycle_of N g ≡ kef_ring h m (cycle_of M h) (cycle_of M m)
-  cycle_g = ap (λ q. items_of (content N q)) loop_g ∙ ap items_of (gone.content_r M sound h goes)
+  cycle_g = ap (λ q. items_of (content N q)) loop_g ∙ ap items_of (content_first set)
 
   lists_back : (mef_old h g k (kef_ring h m (cycle_of M h) (cycle_of M m)) ≡ cycle_of M h) × (mef_new m g k (kef_ring h m (cycle_of M h) (cycle_of M m)) ≡ cycle_of M m)
   unfolding after
@@ -109,7 +119,7 @@ module _ (M : Model) (sound : Sound M) (h : ℕ) (goes : KefGoes M h) where
   loops-back =
       let a : mef_old h g k (cycle_of N g) ≡ cycle_of M h = ap (mef_old h g k) cycle_g ∙ lists_back.0 in
       let b : mef_new m g k (cycle_of N g) ≡ cycle_of M m = ap (mef_new m g k) cycle_g ∙ lists_back.1 in
-      let c : face_of N (loop_of N g) ≡ face_of M r = ap (face_of N) loop_g ∙ gone.face_same M sound h goes r (gone.r_s M sound h goes) in
+      let c : face_of N (loop_of N g) ≡ face_of M r = ap (face_of N) loop_g ∙ face_same set r (gone.r_s M sound h goes) in
       loops-mef N sound-N g k h f s put_goes.g_there put_goes.edge_free put_goes.loop_free
       ∙ (λ i. table.put (table.put N.loops (loop_g i) (record { face = c i; content = cycle (a i) })) s (record { face = f; content = cycle (b i) }))
       ∙ ap (λ t. table.put (table.put t r (record { face = face_of M r; content = cycle (cycle_of M h) })) s (record { face = f; content = cycle (cycle_of M m) })) (gone.loops_are M sound h goes)
@@ -133,16 +143,9 @@ module _ (M : Model) (sound : Sound M) (h : ℕ) (goes : KefGoes M h) where
   edges-back : K.edges ≡ M.edges
   edges-back = edges_put (edge_row h (tail M h) (tail M m)) (edge_there M h goes.h_there) (λ i. edge_row h (tail_g i) (tail_k i))
 
-  solids-back : K.solids ≡ M.solids
-  unfolding mef kef
-  solids-back = refl
-
-  vertices-back : K.vertices ≡ M.vertices
-  unfolding mef kef
-  vertices-back = refl
-
   pub mef-after-kef : mef (kef M h) g k h f s ≡ M
-  mef-after-kef = λ i. record { solids = solids-back i; faces = faces-back i; loops = loops-back i; edges = edges-back i; vertices = vertices-back i }
+  unfolding mef kef
+  mef-after-kef = same_model K M refl faces-back loops-back edges-back refl
 
 -- ---- conditions
 
@@ -238,14 +241,15 @@ kef_inverse_goes M h sound e =
 made_goes : (M : Model) (sound : Sound M) (g k h f l : ℕ) (goes : MefGoes M g k h f l) → KefGoes (mef M g k h f l) h
 made_goes M sound g k h f l goes =
     let N : Model = mef M g k h f l in
+    let set = made.set M sound g k h f l goes in
     let fm : face_at N (mate h) ≡ f = ap (face_of N) (made.loop_m M sound g k h f l goes) ∙ made.face_l M sound g k h f l goes in
-    let fh : face_at N h ≡ face_of M (loop_of M g) = ap (face_of N) (made.loop_h M sound g k h f l goes) ∙ made.face_kept M sound g k h f l goes (loop_of M g) (made.not_l M sound g k h f l goes _ (ap is_some (row_of M sound g goes.g_there))) in
+    let fh : face_at N h ≡ face_of M (loop_of M g) = ap (face_of N) (made.loop_h M sound g k h f l goes) ∙ face_same set (loop_of M g) (made.not_l M sound g k h f l goes _ (ap is_some (row_of M sound g goes.g_there))) in
     record {
-      h_there = made.half_h M sound g k h f l goes;
+      h_there = half_h (made.more M sound g k h f l goes);
       faces_apart = λ p. made.not_f M sound g k h f l goes (face_of M (loop_of M g)) (made.face_r M sound g k h f l goes) (sym fh ∙ p ∙ fm);
       no_rings = λ q there p. ap (outer N) fm ∙ made.outer_new M sound g k h f l goes ∙ elim (eqb_tells q l) [
         | inl a ↦ sym a.1
-        | inr a ↦ absurd (made.not_f M sound g k h f l goes (face_of M q) (sound.loops_of_faces q (made.loop_back M sound g k h f l goes q a.1 there)) (sym (made.face_kept M sound g k h f l goes q a.1) ∙ p ∙ fm))
+        | inr a ↦ absurd (made.not_f M sound g k h f l goes (face_of M q) (sound.loops_of_faces q (sym (has_same set q a.1) ∙ there)) (sym (face_same set q a.1) ∙ p ∙ fm))
       ];
     }
 

@@ -9,7 +9,7 @@ use Rattle.euler_operators.proofs.Rotations.{count-canonical}
 use Rattle.euler_operators.proofs.Lists.{count-append, tick_same, tick_other}
 use Rattle.euler_operators.specs.HalfEdge.{mate, edge_of}
 use Rattle.euler_operators.specs.Table as table
-use Rattle.euler_operators.specs.Table.{Table, tables, same_table}
+use Rattle.euler_operators.specs.Table.{Table, tables}
 use Rattle.euler_operators.specs.Model.{Model, LoopContent, cycle, LoopRow, items_of, holds, loop_of, content, face_of, cycle_of, solid_of}
 use Rattle.euler_operators.specs.Sound.{Sound, HasHalf}
 use Rattle.euler_operators.proofs.Halves.{mate_other, edge_of-mate}
@@ -17,6 +17,7 @@ use Rattle.euler_operators.proofs.Tables.{remove-put, map_one, first_where_is, t
 use Rattle.euler_operators.proofs.Models.{content_row, face_row, row_of, not_held, other_loop, in-holds, holds-none, cycle_there, cycle_sound}
 use Rattle.euler_operators.specs.Conditions.{face_at}
 use Rattle.euler_operators.specs.Effect.{mef, kef, where_held}
+use Rattle.euler_laws.proofs.shared.Undo.{same_model}
 use Rattle.euler_laws.proofs.shared.Rows.{where_held_none, where_held_there, one_row, count-halves}
 
 pub count-mef_old : (x h c e : ℕ) (hs : List ℕ) → count x (mef_old h c e hs) ≡ tick x h + count x (onward c e hs)
@@ -173,14 +174,6 @@ module _ (M : Model) (sound : Sound M) (g k h f l : ℕ)
   unfolding mef
   edges-kef = remove-put M.edges (edge_of h) _ edge_free
 
-  solids-mef : after_mef.solids ≡ M.solids
-  unfolding mef
-  solids-mef = refl
-
-  vertices-mef : after_mef.vertices ≡ M.vertices
-  unfolding mef
-  vertices-mef = refl
-
   pub kef-after-mef : kef (mef M g k h f l) h ≡ M
-  unfolding kef
-  kef-after-mef = λ i. record { solids = solids-mef i; faces = faces-kef i; loops = loops-kef i; edges = edges-kef i; vertices = vertices-mef i }
+  unfolding kef mef
+  kef-after-mef = same_model (kef after_mef h) M refl faces-kef loops-kef edges-kef refl

@@ -4,7 +4,7 @@ use Rattle.std.proofs.lemmas.Bool.Decides.{nat_tests, eqb_tells}
 use Rattle.std.proofs.lemmas.Bool.{not-true, not-false, eq-eqb, eqb-true}
 use Rattle.euler_operators.specs.HalfEdge.{mate, edge_of, plus, minus}
 use Rattle.euler_operators.specs.Table as table
-use Rattle.euler_operators.specs.Table.{Table, map_rows, tables}
+use Rattle.euler_operators.specs.Table.{map_rows, tables}
 use Rattle.euler_operators.specs.Model.{Model, FaceRow, no_face, loop_of, face_of, solid_of, outer, is_number, faces_of}
 use Rattle.euler_operators.specs.Sound.{Sound, Has, HasHalf}
 use Rattle.euler_operators.proofs.Halves.{plus_row, mate_plus, mate_minus}

@@ -11,17 +11,20 @@ use Rattle.euler_operators.specs.Operators.{after_mev}
 use Rattle.euler_operators.proofs.Lists.{tick_same, tick_other, IsIn_or_not}
 use Rattle.euler_operators.specs.HalfEdge.{mate, edge_of, is_first}
 use Rattle.euler_operators.specs.Table as table
-use Rattle.euler_operators.specs.Table.{Table, tables}
+use Rattle.euler_operators.specs.Table.{tables}
 use Rattle.euler_operators.specs.Model.{Model, LoopContent, lone, cycle, LoopRow, EdgeRow, items_of, holds, tail, loop_of, content, after, arc, tail_in, no_edge, is_number}
-use Rattle.euler_operators.specs.Sound.{Sound, Has, HasHalf, StandsIn, IsTail, IsLoneAt, NumbersFit}
+use Rattle.euler_operators.specs.Sound.{Sound, Has, HasHalf, StandsIn, IsLoneAt}
 use Rattle.euler_operators.proofs.Halves.{mate_other, edge_of-mate, mate-mate, same_edge}
+use Rattle.euler_operators.proofs.Tables.{get-put_here, get-put_other, row_elsewhere}
 use Rattle.euler_operators.proofs.Models.{tail_row, no_tail, in-holds, holds_in, cycle_there, mate_there}
 use Rattle.euler_operators.specs.Effect.{mev_at, edge_row, with_before, with_tails}
 use Rattle.euler_laws.proofs.shared.Fans.{Fan, fan_of}
-use Rattle.euler_laws.proofs.shared.Loops.{IsLoop, put_before, put_none, put_lone, lone_put, count_put_there, count_put_none, loop_put, loop_sound, none_free, Walks, loop_at, stands-walks, one_loop-walks, cycles-walks, ends_meet-walks, one_fan-walks}
+use Rattle.euler_laws.proofs.shared.Loops.{IsLoop, put_before, put_none, put_lone, lone_put, count_put_there, count_put_none, put_keeps, put_came, loop_put, loop_sound, none_free, Walks, loop_at}
 use Rattle.euler_laws.proofs.shared.Arcs.{halves_of_edge, arc_is, fan_mev, fan_mev_other}
-use Rattle.euler_laws.proofs.shared.Same.{map_twice, Rewritten, content-new, face-same, loop-same, SameFaces, solid_at, loops_of_faces-same, outers_there-same, faces_of_solids-same, solid_has_face-same, solids_fit-same, faces_fit-same, loops_fit-same, solid_at-same, one_solid_round}
-use Rattle.euler_laws.proofs.shared.Rows.{count-halves, tail_first, tail_second, one_row}
+use Rattle.euler_laws.proofs.shared.Same.{map_twice, mapped_some, Rewritten, content-new, face-same, loop-same, SameFaces, solid_at, solid_at-same, one_solid_round}
+use Rattle.euler_laws.proofs.shared.Rows.{count-halves, tail_first, tail_second}
+use Rattle.euler_laws.proofs.shared.Parts.{VerticesHold, RangesHold, sound_of, fit-put, fit-map, points-put, stay_of_same, faces_hold}
+use Rattle.euler_laws.proofs.shared.EdgeMore.{NewEnds, vertices-more}
 
 pub before_content : (g h q : ℕ) (row : LoopRow) → (with_before g h q row).content ≡ put_before g h row.content
 before_content g h q row = elim (holds g row.content) as (λ b. (cond b (record row { content = cycle (canonical (insert_before g h (items_of row.content))) }) row).content ≡ cond b (cycle (canonical (insert_before g h (items_of row.content)))) row.content) [ true ↦ refl | false ↦ refl ]
@@ -39,10 +42,6 @@ tails_mapped : (hs : List ℕ) (v x : ℕ) (o : Option EdgeRow) → is_some o �
     tail_in (unwrap_or (option_map (with_tails hs v (edge_of x)) o) no_edge) (is_first x) ≡ cond (nat_lt 0 (count x hs)) v (tail_in (unwrap_or o no_edge) (is_first x))
 tails_mapped hs v x None t = absurd (true≢false (sym t))
 tails_mapped hs v x (Some row) t = tails_of_row hs v x row
-
-mapped_some : (f : EdgeRow → EdgeRow) (o : Option EdgeRow) → is_some (option_map f o) ≡ is_some o
-mapped_some f None = refl
-mapped_some f (Some x) = refl
 
 -- what the conditions of mev at two half-edges say
 pub record MevGoes (M : Model) (g k h v : ℕ) (p : Point) : Type 0 where
@@ -139,38 +138,14 @@ module _ (M : Model) (sound : Sound M) (g k h v : ℕ) (p : Point) (goes : MevGo
   abbrev pub hs : ℕ → List ℕ
   hs q = items_of (content M q)
 
-  -- what the first step leaves
-  pub first_keeps : (x q : ℕ) → IsIn x (hs q) → IsIn x (items_of (first q))
-  first_keeps x q i = elim (IsIn_or_not g (hs q)) [
-    | inl a ↦ omega (arith, count_put_there x g h (content M q) a)
-    | inr a ↦ omega (arith, count_put_none x g h (content M q) a)
+  stands_N : (x q : ℕ) → IsIn x (items_of (put_before k m (first q))) → StandsIn N x q
+  stands_N x q i = in-holds x (content N q) (subst (λ c. IsIn x (items_of c)) (sym (content-N q)) i)
+
+  came : (x q : ℕ) → StandsIn N x q → ((x ≡ h) × StandsIn M g q) ⊎ (((x ≡ m) × StandsIn M k q) ⊎ StandsIn M x q)
+  came x q s = elim (put_came x k m (first q) (subst (λ c. IsIn x (items_of c)) (content-N q) (holds_in x (content N q) s))) [
+    | inl a ↦ elim (put_came k g h (content M q) a.1) [ inl b ↦ absurd (not_h k goes.k_there b.0) | inr b ↦ inr (inl (a.0, in-holds k (content M q) b)) ]
+    | inr a ↦ elim (put_came x g h (content M q) a) [ inl b ↦ inl (b.0, in-holds g (content M q) b.1) | inr b ↦ inr (inr (in-holds x (content M q) b)) ]
   ]
-
-  pub second_keeps : (x q : ℕ) → IsIn x (items_of (first q)) → StandsIn N x q
-  second_keeps x q i = in-holds x (content N q) (subst (λ c. IsIn x (items_of c)) (sym (content-N q)) (elim (IsIn_or_not k (items_of (first q))) [
-    | inl a ↦ omega (arith, count_put_there x k m (first q) a)
-    | inr a ↦ omega (arith, count_put_none x k m (first q) a)
-  ]))
-
-  pub first_came : (x q : ℕ) → IsIn x (items_of (first q)) → ((x ≡ h) × IsIn g (hs q)) ⊎ IsIn x (hs q)
-  first_came x q i = elim (IsIn_or_not g (hs q)) [
-    | inl a ↦ elim (eqb_tells x h) [ inl e ↦ inl (e.1, a) | inr e ↦ inr (omega (arith, count_put_there x g h (content M q) a, tick_other x h e.1)) ]
-    | inr a ↦ inr (omega (arith, count_put_none x g h (content M q) a))
-  ]
-
-  pub came : (x q : ℕ) → StandsIn N x q → ((x ≡ h) × StandsIn M g q) ⊎ (((x ≡ m) × StandsIn M k q) ⊎ StandsIn M x q)
-  came x q s = elim (IsIn_or_not k (items_of (first q))) [
-    | inl a ↦ elim (eqb_tells x m) [
-      | inl e ↦ elim (first_came k q a) [ inl b ↦ absurd (not_h k goes.k_there b.0) | inr b ↦ inr (inl (e.1, in-holds k (content M q) b)) ]
-      | inr e ↦ before_that (omega (arith, i, count_put_there x k m (first q) a, tick_other x m e.1))
-    ]
-    | inr a ↦ before_that (omega (arith, i, count_put_none x k m (first q) a))
-  ] where
-    i : IsIn x (items_of (new (content M q)))
-    i = subst (λ c. IsIn x (items_of c)) (content-N q) (holds_in x (content N q) s)
-
-    before_that : IsIn x (items_of (first q)) → ((x ≡ h) × StandsIn M g q) ⊎ (((x ≡ m) × StandsIn M k q) ⊎ StandsIn M x q)
-    before_that b = elim (first_came x q b) [ inl c ↦ inl (c.0, in-holds g (content M q) c.1) | inr c ↦ inr (inr (in-holds x (content M q) c)) ]
 
   -- ---- edges
 
@@ -232,7 +207,7 @@ module _ (M : Model) (sound : Sound M) (g k h v : ℕ) (p : Point) (goes : MevGo
 
   pub placed_h : StandsIn N h (loop_of M g) × ((q : ℕ) → StandsIn N h q → q ≡ loop_of M g)
   placed_h = (
-    second_keeps h (loop_of M g) (omega (arith, count_put_there h g h (content M (loop_of M g)) (cycle_there M sound g goes.g_there), tick_same h)),
+    stands_N h (loop_of M g) (put_keeps h k m (first (loop_of M g)) (omega (arith, count_put_there h g h (content M (loop_of M g)) (cycle_there M sound g goes.g_there), tick_same h))),
     λ q s. elim (came h q s) [
       | inl a ↦ sym (sound.one_loop g q a.1)
       | inr d ↦ elim d [ inl a ↦ absurd (mate_other h a.0) | inr a ↦ absurd (not_h h (sound.only_edges h q a) refl) ]
@@ -242,8 +217,8 @@ module _ (M : Model) (sound : Sound M) (g k h v : ℕ) (p : Point) (goes : MevGo
   pub placed_m : StandsIn N m (loop_of M k) × ((q : ℕ) → StandsIn N m q → q ≡ loop_of M k)
   placed_m =
       let l : ℕ = loop_of M k in
-      let i : IsIn k (items_of (first l)) = first_keeps k l (cycle_there M sound k goes.k_there) in (
-        in-holds m (content N l) (subst (λ c. IsIn m (items_of c)) (sym (content-N l)) (omega (arith, count_put_there m k m (first l) i, tick_same m))),
+      let i : IsIn k (items_of (first l)) = put_keeps k g h (content M l) (cycle_there M sound k goes.k_there) in (
+        stands_N m l (omega (arith, count_put_there m k m (first l) i, tick_same m)),
         λ q s. elim (came m q s) [
           | inl a ↦ absurd (mate_other h (sym a.0))
           | inr d ↦ elim d [ inl a ↦ sym (sound.one_loop k q a.1) | inr a ↦ absurd (not_m m (sound.only_edges m q a) refl) ]
@@ -252,7 +227,7 @@ module _ (M : Model) (sound : Sound M) (g k h v : ℕ) (p : Point) (goes : MevGo
 
   pub placed_old : (x : ℕ) → HasHalf M x → StandsIn N x (loop_of M x) × ((q : ℕ) → StandsIn N x q → q ≡ loop_of M x)
   placed_old x there = (
-    second_keeps x (loop_of M x) (first_keeps x (loop_of M x) (cycle_there M sound x there)),
+    stands_N x (loop_of M x) (put_keeps x k m (first (loop_of M x)) (put_keeps x g h (content M (loop_of M x)) (cycle_there M sound x there))),
     λ q s. elim (came x q s) [
       | inl a ↦ absurd (not_h x there a.0)
       | inr d ↦ elim d [ inl a ↦ absurd (not_m x there a.0) | inr a ↦ sym (sound.one_loop x q a) ]
@@ -378,49 +353,34 @@ module _ (M : Model) (sound : Sound M) (g k h v : ℕ) (p : Point) (goes : MevGo
 
   -- ---- vertices
 
-  pub vertex_new : table.get N.vertices v ≡ Some p
+  vertex_new : Has N.vertices v
   unfolding mev_at
-  vertex_new = grind (arith, nat_tests, tables)
+  vertex_new = ap is_some (get-put_here M.vertices v p)
 
-  pub vertex_same : (w : ℕ) → w ≢ v → table.get N.vertices w ≡ table.get M.vertices w
+  vertex_same : (w : ℕ) → w ≢ v → table.get N.vertices w ≡ table.get M.vertices w
   unfolding mev_at
-  vertex_same w a = grind (arith, nat_tests, tables)
+  vertex_same w a = get-put_other M.vertices v p w a
 
-  pub not_v : (w : ℕ) → Has M.vertices w → w ≢ v
-  not_v w there e = true≢false (sym there ∙ ap is_some (ap (table.get M.vertices) e ∙ goes.vertex_free))
+  not_v : (w : ℕ) → Has M.vertices w → w ≢ v
+  not_v w there = row_elsewhere M.vertices w v there goes.vertex_free
 
-  pub has_vertex : (w : ℕ) → Has M.vertices w → Has N.vertices w
+  has_vertex : (w : ℕ) → Has M.vertices w → Has N.vertices w
   has_vertex w there = ap is_some (vertex_same w (not_v w there)) ∙ there
 
-  pub lone_back : (q w : ℕ) → content N q ≡ lone w → content M q ≡ lone w
+  lone_back : (q w : ℕ) → IsLoneAt N q w → IsLoneAt M q w
   lone_back q w e = lone_put g h w (content M q) (lone_put k m w (first q) (sym (content-N q) ∙ e))
 
-  pub lone_on : (q w : ℕ) → content M q ≡ lone w → content N q ≡ lone w
-  lone_on q w e = content-N q ∙ ap new e ∙ ap (put_before k m) (put_lone g h w) ∙ put_lone k m w
-
-  pub tails_there-mev : (x : ℕ) → HasHalf N x → Has N.vertices (tail N x)
-  tails_there-mev x there = elim (half_cases x there) [
-    | inl o ↦ elim (IsIn_or_not x moved) [
-      | inl j ↦ subst (Has N.vertices) (sym (tail_moved x o j)) (ap is_some vertex_new)
-      | inr z ↦ subst (Has N.vertices) (sym (tail_kept x o z)) (has_vertex _ (sound.tails_there x o))
-    ]
-    | inr d ↦ elim d [
-      | inl q ↦ subst (Has N.vertices) (sym (ap (tail N) q ∙ tail-h)) (has_vertex _ (sound.tails_there g goes.g_there))
-      | inr q ↦ subst (Has N.vertices) (sym (ap (tail N) q ∙ tail-m)) (ap is_some vertex_new)
-    ]
-  ]
-
   -- a mate of what moves doesn't move
-  pub other_end : (x : ℕ) → IsIn x moved → HasHalf M (mate x) × (tail N (mate x) ≢ v)
-  other_end x j =
+  other_end : (x : ℕ) → IsIn x moved → tail N (mate x) ≢ v
+  other_end x j e =
       let o = moved_old x j in
       let t = mate_there M x o.0 in
-      (t, λ e. never_v (mate x) t (sym (tail_kept (mate x) t (not_moved (mate x) (λ s. sound.ends_differ x o.0 (o.1 ∙ sym s)))) ∙ e))
+      never_v (mate x) t (sym (tail_kept (mate x) t (not_moved (mate x) (λ s. sound.ends_differ x o.0 (o.1 ∙ sym s)))) ∙ e)
 
-  pub ends_differ-mev : (x : ℕ) → HasHalf N x → tail N x ≢ tail N (mate x)
-  ends_differ-mev x there same = elim (half_cases x there) [
+  ends_differ : (x : ℕ) → HasHalf N x → tail N x ≢ tail N (mate x)
+  ends_differ x there same = elim (half_cases x there) [
     | inl o ↦ let t = mate_there M x o in elim (IsIn_or_not x moved) [
-      | inl j ↦ (other_end x j).1 (sym same ∙ tail_moved x o j)
+      | inl j ↦ other_end x j (sym same ∙ tail_moved x o j)
       | inr z ↦ elim (IsIn_or_not (mate x) moved) [
         | inl j ↦ never_v x o (sym (tail_kept x o z) ∙ same ∙ tail_moved (mate x) t j)
         | inr y ↦ sound.ends_differ x o (sym (tail_kept x o z) ∙ same ∙ tail_kept (mate x) t y)
@@ -432,41 +392,27 @@ module _ (M : Model) (sound : Sound M) (g k h v : ℕ) (p : Point) (goes : MevGo
     ]
   ]
 
-  pub tail_at_u : IsTail N u
-  tail_at_u = record { half = h; there = half_h; starts = tail-h }
+  ends : NewEnds M N h u v
+  ends = record {
+    cases = half_cases;
+    old = half_old;
+    first = (half_h, tail-h);
+    second = (half_m, tail-m);
+    tails = λ x o. elim (IsIn_or_not x moved) [ inl j ↦ inr (tail_moved x o j, (moved_old x j).1) | inr z ↦ inl (tail_kept x o z) ];
+  }
 
-  pub lone_or_tail-mev : (w : ℕ) → Has N.vertices w → ((q : ℕ) × IsLoneAt N q w) ⊎ IsTail N w
-  lone_or_tail-mev w there = elim (eqb_tells w v) [
-    | inl e ↦ inr (record { half = m; there = half_m; starts = tail-m ∙ sym e.1 })
-    | inr e ↦ elim (sound.lone_or_tail w (ap is_some (sym (vertex_same w e.1)) ∙ there)) [
-      | inl a ↦ inl (a.0, lone_on a.0 w a.1)
-      | inr t ↦ elim (eqb_tells w u) [
-        | inl a ↦ inr (subst (IsTail N) (sym a.1) tail_at_u)
-        | inr a ↦ inr (record { half = t.half; there = half_old t.half t.there; starts = tail_kept t.half t.there (not_moved t.half (λ s. a.1 (sym t.starts ∙ s))) ∙ t.starts })
-      ]
-    ]
-  ]
+  vertices : VerticesHold N
+  vertices = vertices-more sound ends (record {
+    first_there = has_vertex u (sound.tails_there g goes.g_there);
+    second_there = vertex_new;
+    on = has_vertex;
+    back = λ w there a. ap is_some (sym (vertex_same w a)) ∙ there;
+    lone_back = λ q w e. let b = lone_back q w e in (b, λ a. sound.lone_is_no_tail q g goes.g_there (b ∙ ap lone a), not_v w (sound.lone_at_vertex q w b));
+    lone_on = λ q w e a b. content-N q ∙ ap new e ∙ ap (put_before k m) (put_lone g h w) ∙ put_lone k m w;
+  }) ends_differ
 
-  pub lone_at_vertex-mev : (q w : ℕ) → IsLoneAt N q w → Has N.vertices w
-  lone_at_vertex-mev q w a = has_vertex w (sound.lone_at_vertex q w (lone_back q w a))
-
-  pub lone_is_no_tail-mev : (q x : ℕ) → HasHalf N x → content N q ≢ lone (tail N x)
-  lone_is_no_tail-mev q x there is =
-      let back : content M q ≡ lone (tail N x) = lone_back q (tail N x) is in
-      let old : Has M.vertices (tail N x) = sound.lone_at_vertex q (tail N x) back in
-      elim (half_cases x there) [
-        | inl o ↦ elim (IsIn_or_not x moved) [
-          | inl j ↦ not_v (tail N x) old (tail_moved x o j)
-          | inr z ↦ sound.lone_is_no_tail q x o (back ∙ ap lone (tail_kept x o z))
-        ]
-        | inr d ↦ elim d [
-          | inl e ↦ sound.lone_is_no_tail q g goes.g_there (back ∙ ap lone (ap (tail N) e ∙ tail-h))
-          | inr e ↦ not_v (tail N x) old (ap (tail N) e ∙ tail-m)
-        ]
-      ]
-
-  pub one_solid-mev : (x : ℕ) → HasHalf N x → solid_at N (loop_of N x) ≡ solid_at N (loop_of N (mate x))
-  one_solid-mev x there = elim (half_cases x there) [
+  one_solid : (x : ℕ) → HasHalf N x → solid_at N (loop_of N x) ≡ solid_at N (loop_of N (mate x))
+  one_solid x there = elim (half_cases x there) [
     | inl o ↦ old x o ∙ sound.one_solid x o ∙ sym (old (mate x) (mate_there M x o))
     | inr d ↦ elim d [
       | inl e ↦ ap (λ y. solid_at N (loop_of N y)) e ∙ at_h ∙ sym (ap (λ y. solid_at N (loop_of N (mate y))) e ∙ at_m)
@@ -474,56 +420,25 @@ module _ (M : Model) (sound : Sound M) (g k h v : ℕ) (p : Point) (goes : MevGo
     ]
   ] where
     old : (y : ℕ) → HasHalf M y → solid_at N (loop_of N y) ≡ solid_at M (loop_of M y)
-    old y o = ap (solid_at N) (loop_old y o) ∙ solid_at-same M N sound same (loop_of M y)
+    old y o = ap (solid_at N) (loop_old y o) ∙ solid_at-same M N same (loop_of M y)
 
     at_h : solid_at N (loop_of N h) ≡ solid_at M (loop_of M g)
-    at_h = ap (solid_at N) loop_h ∙ solid_at-same M N sound same (loop_of M g)
+    at_h = ap (solid_at N) loop_h ∙ solid_at-same M N same (loop_of M g)
 
     at_m : solid_at N (loop_of N m) ≡ solid_at M (loop_of M g)
-    at_m = ap (solid_at N) loop_m ∙ solid_at-same M N sound same (loop_of M k) ∙ one_solid_round M sound g k goes.g_there goes.k_there (sym goes.one_tail)
+    at_m = ap (solid_at N) loop_m ∙ solid_at-same M N same (loop_of M k) ∙ one_solid_round M sound g k goes.g_there goes.k_there (sym goes.one_tail)
 
-  pub edges_fit-mev : NumbersFit N.edges
-  edges_fit-mev e there = elim (eqb_tells e (edge_of h)) [
-    | inl a ↦ subst (λ n. IsTrue (is_number n)) (sym a.1) goes.edge_fits
-    | inr a ↦ sound.edges_fit e (sym (mapped_some _ (table.get M.edges e)) ∙ ap is_some (sym (edge_mapped e a.1)) ∙ there)
-  ]
-
-  pub vertices_fit-mev : NumbersFit N.vertices
-  vertices_fit-mev w there = elim (eqb_tells w v) [
-    | inl a ↦ subst (λ n. IsTrue (is_number n)) (sym a.1) goes.vertex_fits
-    | inr a ↦ sound.vertices_fit w (ap is_some (sym (vertex_same w a.1)) ∙ there)
-  ]
-
-  pub points_fit-mev : (w : ℕ) (q : Point) → table.get N.vertices w ≡ Some q → IsInRange q
-  points_fit-mev w q at = elim (eqb_tells w v) [
-    | inl a ↦ subst IsInRange (one_row (sym vertex_new ∙ ap (table.get N.vertices) (sym a.1) ∙ at)) goes.point_fits
-    | inr a ↦ sound.points_fit w q (sym (vertex_same w a.1) ∙ at)
-  ]
+  ranges : RangesHold N
+  unfolding mev_at
+  ranges = record {
+    solids_fit = sound.solids_fit;
+    faces_fit = sound.faces_fit;
+    loops_fit = fit-map _ (fit-map M.loops sound.loops_fit _) _;
+    edges_fit = fit-put _ (fit-map M.edges sound.edges_fit _) (edge_of h) _ goes.edge_fits;
+    vertices_fit = fit-put M.vertices sound.vertices_fit v p goes.vertex_fits;
+    points_fit = points-put M.vertices sound.points_fit v p goes.point_fits;
+  }
 
   -- a sound model stays sound under mev
   pub sound-mev : Sound N
-  sound-mev = record {
-    stands = stands-walks N F walks;
-    only_edges = only;
-    one_loop = one_loop-walks N F walks;
-    cycles = cycles-walks N F walks;
-    ends_meet = ends_meet-walks N F walks;
-    tails_there = tails_there-mev;
-    ends_differ = ends_differ-mev;
-    lone_or_tail = lone_or_tail-mev;
-    lone_is_no_tail = lone_is_no_tail-mev;
-    one_lone = λ a b w x y. sound.one_lone a b w (lone_back a w x) (lone_back b w y);
-    one_fan = one_fan-walks N F walks;
-    loops_of_faces = loops_of_faces-same M N sound same;
-    outers_there = outers_there-same M N sound same;
-    lone_at_vertex = lone_at_vertex-mev;
-    faces_of_solids = faces_of_solids-same M N sound same;
-    solid_has_face = solid_has_face-same M N sound same;
-    one_solid = one_solid-mev;
-    solids_fit = solids_fit-same M N sound same;
-    faces_fit = faces_fit-same M N sound same;
-    loops_fit = loops_fit-same M N sound same;
-    edges_fit = edges_fit-mev;
-    vertices_fit = vertices_fit-mev;
-    points_fit = points_fit-mev;
-  }
+  sound-mev = sound_of N F walks vertices (faces_hold sound (stay_of_same M N sound same) one_solid) ranges

@@ -1,38 +1,64 @@
--- A model without one edge: its half-edges, and the fans of its vertices.
-use Rattle.std.proofs.Common.{◌≡◌, ◌≢◌, ℕ, ◌+◌, None, unwrap_or, is_some, sym, ap, ◌∙◌, arith, true≢false}
-use Rattle.std.proofs.lemmas.Bool.Decides.{nat_tests}
+-- A model without one edge: its half-edges, the fans of its vertices, and what stands at them.
+use Rattle.std.proofs.Common.{◌≡◌, ◌≢◌, ℕ, ◌+◌, List, None, unwrap_or, is_some, refl, sym, ap, ◌∙◌, subst, arith, ◌⊎◌, inl, inr}
+use Rattle.std.proofs.lemmas.Bool.Decides.{eqb_tells}
 use Rattle.euler_operators.specs.Items.{count, tick, IsIn}
 use Rattle.euler_operators.specs.Rings.{IsRing, rest}
-use Rattle.euler_operators.specs.Operators.{take_ring}
+use Rattle.euler_operators.specs.Operators.{take_ring, after_kef}
+use Rattle.euler_operators.proofs.Leads.{IsRing-redirect_other, IsRing-splice_other}
 use Rattle.euler_operators.proofs.Lists.{tick_same, tick_other}
 use Rattle.euler_operators.proofs.Rotations.{count-canonical}
 use Rattle.euler_operators.proofs.Rings.{count_at}
 use Rattle.euler_operators.specs.HalfEdge.{mate, edge_of, is_first}
 use Rattle.euler_operators.specs.Table as table
-use Rattle.euler_operators.specs.Table.{Table, tables}
-use Rattle.euler_operators.specs.Model.{Model, tail, tail_in, no_edge}
-use Rattle.euler_operators.specs.Sound.{HasHalf, NumbersFit}
-use Rattle.euler_laws.proofs.shared.Fans.{Fan}
+use Rattle.euler_operators.specs.Model.{Model, lone, tail, tail_in, no_edge, content, after, round}
+use Rattle.euler_operators.specs.Sound.{Sound, Has, HasHalf, IsTail, IsLoneAt}
+use Rattle.euler_operators.proofs.Halves.{edge_of-mate, mate-mate, same_edge, edges_apart, mate_edge_apart}
+use Rattle.euler_operators.proofs.Models.{mate_there}
+use Rattle.euler_operators.proofs.Tables.{get-remove_here, get-remove_other, row_elsewhere}
+use Rattle.euler_laws.proofs.shared.Fans.{Fan, fan_of, half_after, fixed_reaches, none_in_fan}
+use Rattle.euler_laws.proofs.shared.Arcs.{fan_kef_first, fan_kef_second, fan_kef_other}
+use Rattle.euler_laws.proofs.shared.Parts.{VerticesHold}
 
-module _ (M N : Model) (h : ℕ) (is : N.edges ≡ table.remove M.edges (edge_of h)) where
-  row_gone : table.get (table.remove M.edges (edge_of h)) (edge_of h) ≡ None
-  row_gone = grind (arith, nat_tests, tables)
+-- another half-edge than h and its mate is of another edge, and back
+pub other_edge : (x h : ℕ) → x ≢ h → x ≢ mate h → edge_of x ≢ edge_of h
+other_edge x h a b e = elim (same_edge x h e) [ inl q ↦ a q | inr q ↦ b q ]
 
-  row_kept : (e : ℕ) → e ≢ edge_of h → table.get (table.remove M.edges (edge_of h)) e ≡ table.get M.edges e
-  row_kept e a = grind (arith, nat_tests, tables)
+pub not_mate : (x h : ℕ) → edge_of x ≢ edge_of h → x ≢ mate h
+not_mate x h a e = a (ap edge_of e ∙ edge_of-mate h)
 
+pub ticks_apart : (x h : ℕ) → edge_of x ≢ edge_of h → tick x h + tick x (mate h) ≡ 0
+ticks_apart x h a = omega (arith, tick_other x h (edges_apart x h a), tick_other x (mate h) (not_mate x h a))
+
+-- ---- what a sound model says of one edge
+
+module _ (M : Model) (sound : Sound M) (h : ℕ) (there : HasHalf M h) where
+  -- what follows a half-edge starts elsewhere
+  pub next_other : after M h ≢ h
+  next_other e = sound.ends_differ h there (ap (tail M) (sym e) ∙ sound.ends_meet h there)
+
+  -- where it is the next round its vertex, nothing else starts there
+  pub alone_there : after M (mate h) ≡ h → (x : ℕ) → HasHalf M x → edge_of x ≢ edge_of h → tail M x ≢ tail M h
+  alone_there e x o a t = edges_apart x h a (fixed_reaches (round M) h x e (sound.one_fan h x there o (sym t)))
+
+-- ---- the edge of h is taken away
+
+pub record OneLess (M N : Model) (h : ℕ) : Type 0 where
+  pub edges : N.edges ≡ table.remove M.edges (edge_of h)
+  pub there : HasHalf M h
+
+module _ {M N : Model} {h : ℕ} (less : OneLess M N h) where
   pub edge_gone : table.get N.edges (edge_of h) ≡ None
-  edge_gone = ap (λ t. table.get t (edge_of h)) is ∙ row_gone
+  edge_gone = ap (λ t. table.get t (edge_of h)) less.edges ∙ get-remove_here M.edges (edge_of h)
 
   pub edge_other : (e : ℕ) → e ≢ edge_of h → table.get N.edges e ≡ table.get M.edges e
-  edge_other e a = ap (λ t. table.get t e) is ∙ row_kept e a
+  edge_other e a = ap (λ t. table.get t e) less.edges ∙ get-remove_other M.edges (edge_of h) e a
 
   pub half_old : (x : ℕ) → HasHalf M x → edge_of x ≢ edge_of h → HasHalf N x
   half_old x there a = ap is_some (edge_other (edge_of x) a) ∙ there
 
   pub half_cases : (x : ℕ) → HasHalf N x → HasHalf M x × (edge_of x ≢ edge_of h)
   half_cases x there =
-      let a : edge_of x ≢ edge_of h = λ e. true≢false (sym there ∙ ap is_some (ap (table.get N.edges) e ∙ edge_gone)) in
+      let a : edge_of x ≢ edge_of h = row_elsewhere N.edges (edge_of x) (edge_of h) there edge_gone in
       (ap is_some (sym (edge_other (edge_of x) a)) ∙ there, a)
 
   pub tail_old : (x : ℕ) → edge_of x ≢ edge_of h → tail N x ≡ tail M x
@@ -66,7 +92,150 @@ module _ (M N : Model) (h : ℕ) (is : N.edges ≡ table.remove M.edges (edge_of
     all = λ y there e. let o = half_cases y there in g.all y o.0 (sym (tail_old y o.1) ∙ e);
   }
 
-  pub edges_fit-less : NumbersFit M.edges → NumbersFit N.edges
-  edges_fit-less fit e there =
-      let a : e ≢ edge_of h = λ q. true≢false (sym there ∙ ap is_some (ap (table.get N.edges) q ∙ edge_gone)) in
-      fit e (ap is_some (sym (edge_other e a)) ∙ there)
+-- what follows what in a ring without the edge, after kef or kemr
+pub ring_kef-other : (next : ℕ → ℕ) (h m : ℕ) (hs : List ℕ) → count h hs ≡ 0 → count m hs ≡ 0 → IsRing next hs → IsRing (after_kef next h m) hs
+ring_kef-other next h m hs a b t = IsRing-redirect_other _ m _ hs b (IsRing-redirect_other _ h _ hs a (IsRing-splice_other next h m hs a b t))
+
+-- a lone loop is an old one, or new at an end at which nothing else started: loop q for h's end, loop k for its mate's
+pub record OldVertices (M N : Model) (h q k : ℕ) : Type 0 where
+  pub vertices : N.vertices ≡ M.vertices
+  pub lone_back : (p v : ℕ) → IsLoneAt N p v →
+      IsLoneAt M p v ⊎ (((p ≡ q) × (v ≡ tail M h) × (after M (mate h) ≡ h)) ⊎ ((p ≡ k) × (v ≡ tail M (mate h)) × (after M h ≡ mate h)))
+  pub lone_on : (p v : ℕ) → IsLoneAt M p v → IsLoneAt N p v
+  pub first_lone : after M (mate h) ≡ h → IsLoneAt N q (tail M h)
+  pub second_lone : after M h ≡ mate h → IsLoneAt N k (tail M (mate h))
+
+module _ {M N : Model} {h : ℕ} (sound : Sound M) (less : OneLess M N h) where
+  abbrev m : ℕ
+  m = mate h
+
+  abbrev u : ℕ
+  u = tail M h
+
+  abbrev w : ℕ
+  w = tail M m
+
+  abbrev F : ℕ → ℕ
+  F = after_kef (after M) h m
+
+  m_there : HasHalf M m
+  m_there = mate_there M h less.there
+
+  u_w : u ≢ w
+  u_w = sound.ends_differ h less.there
+
+  -- ---- fans
+
+  abbrev fan_h : Fan (after M) M u
+  fan_h = fan_of M sound h less.there
+
+  abbrev fan_m : Fan (after M) M w
+  fan_m = fan_of M sound m m_there
+
+  fan_u : after M m ≢ h → Fan F N u
+  fan_u ne = let i : IsIn h fan_h.items = fan_h.all h less.there refl in
+      fan_less less (after M) F u h fan_h i refl (λ y j n. other_edge y h n (λ p. u_w (sym (fan_h.of_it y j).1 ∙ ap (tail M) p)))
+      (fan_kef_first (after M) h fan_h.items fan_h.apart fan_h.ring i (none_in_fan M fan_h m (λ e. u_w (sym e))) ne)
+
+  fan_w : after M h ≢ m → Fan F N w
+  fan_w ne = let i : IsIn m fan_m.items = fan_m.all m m_there refl in
+      fan_less less (after M) F w m fan_m i (edge_of-mate h) (λ y j n. other_edge y h (λ p. u_w (ap (tail M) (sym p) ∙ (fan_m.of_it y j).1)) n)
+      (fan_kef_second (after M) h fan_m.items fan_m.apart fan_m.ring i (none_in_fan M fan_m h u_w) (λ e. ne (ap (after M) (sym (mate-mate h)) ∙ e)))
+
+  fan_else : (x : ℕ) → HasHalf M x → tail M x ≢ u → tail M x ≢ w → Fan F N (tail M x)
+  fan_else x o a b = let g = fan_of M sound x o in
+      fan_stays less (after M) F (tail M x) g
+      (λ y i. other_edge y h (λ e. a (sym (g.of_it y i).1 ∙ ap (tail M) e)) (λ e. b (sym (g.of_it y i).1 ∙ ap (tail M) e)))
+      (fan_kef_other (after M) h g.items g.apart g.ring (none_in_fan M g h (λ e. a (sym e))) (none_in_fan M g m (λ e. b (sym e))))
+
+  -- an end at which only this edge stood
+  bare_u : after M m ≡ h → (x : ℕ) → HasHalf M x → edge_of x ≢ edge_of h → tail M x ≢ u
+  bare_u = alone_there M sound h less.there
+
+  bare_w : after M h ≡ m → (x : ℕ) → HasHalf M x → edge_of x ≢ edge_of h → tail M x ≢ w
+  bare_w e x there a = alone_there M sound m m_there (ap (after M) (mate-mate h) ∙ e) x there (λ s. a (s ∙ edge_of-mate h))
+
+  pub fans-less : (x : ℕ) → HasHalf N x → Fan F N (tail N x)
+  fans-less x there = let o = half_cases less x there in subst (Fan F N) (sym (tail_old less x o.1)) (elim (eqb_tells (tail M x) u) [
+    | inl e ↦ subst (Fan F N) (sym e.1) (fan_u (λ b. bare_u b x o.0 o.1 e.1))
+    | inr e ↦ elim (eqb_tells (tail M x) w) [ inl p ↦ subst (Fan F N) (sym p.1) (fan_w (λ b. bare_w b x o.0 o.1 p.1)) | inr p ↦ fan_else x o.0 e.1 p.1 ]
+  ])
+
+  -- ---- vertices
+
+  module _ {q k : ℕ} (old : OldVertices M N h q k) where
+    -- something else starts where the edge did, or a loop is lone there
+    still : (v y : ℕ) → v ≡ tail M y → HasHalf M y → y ≢ h → y ≢ m → IsTail N v
+    still v y e t a b = let o = other_edge y h a b in record { half = y; there = half_old less y t o; starts = tail_old less y o ∙ sym e }
+
+    at_u : ((p : ℕ) × IsLoneAt N p u) ⊎ IsTail N u
+    at_u = elim (eqb_tells (after M m) h) [
+      | inl b ↦ inl (q, old.first_lone b.1)
+      | inr b ↦ inr (still u (after M m) (sym (sound.ends_meet m m_there ∙ ap (tail M) (mate-mate h))) (half_after M sound m m_there) b.1 (next_other M sound m m_there))
+    ]
+
+    at_w : ((p : ℕ) × IsLoneAt N p w) ⊎ IsTail N w
+    at_w = elim (eqb_tells (after M h) m) [
+      | inl b ↦ inl (k, old.second_lone b.1)
+      | inr b ↦ inr (still w (after M h) (sym (sound.ends_meet h less.there)) (half_after M sound h less.there) (next_other M sound h less.there) b.1)
+    ]
+
+    at_end : (x : ℕ) → HasHalf M x → ((p : ℕ) × IsLoneAt N p (tail M x)) ⊎ IsTail N (tail M x)
+    at_end x there = elim (eqb_tells (edge_of x) (edge_of h)) [
+      | inl e ↦ elim (same_edge x h e.1) [
+        | inl s ↦ subst (λ y. ((p : ℕ) × IsLoneAt N p (tail M y)) ⊎ IsTail N (tail M y)) (sym s) at_u
+        | inr s ↦ subst (λ y. ((p : ℕ) × IsLoneAt N p (tail M y)) ⊎ IsTail N (tail M y)) (sym s) at_w
+      ]
+      | inr e ↦ inr (record { half = x; there = half_old less x there e.1; starts = tail_old less x e.1 })
+    ]
+
+    -- no lone loop was at an end of the edge
+    none_at_u : (p v : ℕ) → IsLoneAt M p v → v ≢ u
+    none_at_u p v a e = sound.lone_is_no_tail p h less.there (a ∙ ap lone e)
+
+    none_at_w : (p v : ℕ) → IsLoneAt M p v → v ≢ w
+    none_at_w p v a e = sound.lone_is_no_tail p m m_there (a ∙ ap lone e)
+
+    one_lone-less : (a b v : ℕ) → IsLoneAt N a v → IsLoneAt N b v → a ≡ b
+    one_lone-less a b v x y = elim (old.lone_back a v x) [
+      | inl o ↦ elim (old.lone_back b v y) [
+        | inl p ↦ sound.one_lone a b v o p
+        | inr d ↦ elim d [ inl p ↦ absurd (none_at_u a v o p.1) | inr p ↦ absurd (none_at_w a v o p.1) ]
+      ]
+      | inr c ↦ elim (old.lone_back b v y) [
+        | inl p ↦ elim c [ inl o ↦ absurd (none_at_u b v p o.1) | inr o ↦ absurd (none_at_w b v p o.1) ]
+        | inr d ↦ elim c [
+          | inl o ↦ elim d [ inl p ↦ o.0 ∙ sym p.0 | inr p ↦ absurd (u_w (sym o.1 ∙ p.1)) ]
+          | inr o ↦ elim d [ inl p ↦ absurd (u_w (sym p.1 ∙ o.1)) | inr p ↦ o.0 ∙ sym p.0 ]
+        ]
+      ]
+    ]
+
+    lone_is_no_tail-less : (p x : ℕ) → HasHalf N x → content N p ≢ lone (tail N x)
+    lone_is_no_tail-less p x there e =
+        let o = half_cases less x there in
+        let s : tail N x ≡ tail M x = tail_old less x o.1 in
+        elim (old.lone_back p (tail N x) e) [
+          | inl a ↦ sound.lone_is_no_tail p x o.0 (a ∙ ap lone s)
+          | inr d ↦ elim d [ inl a ↦ bare_u a.2 x o.0 o.1 (sym s ∙ a.1) | inr a ↦ bare_w a.2 x o.0 o.1 (sym s ∙ a.1) ]
+        ]
+
+    on : (v : ℕ) → Has M.vertices v → Has N.vertices v
+    on v there = subst (λ y. Has y v) (sym old.vertices) there
+
+    pub vertices_hold-less : VerticesHold N
+    vertices_hold-less = record {
+      tails_there = λ x there. let o = half_cases less x there in subst (Has N.vertices) (sym (tail_old less x o.1)) (on _ (sound.tails_there x o.0));
+      ends_differ = λ x there e. let o = half_cases less x there in
+          sound.ends_differ x o.0 (sym (tail_old less x o.1) ∙ e ∙ tail_old less (mate x) (mate_edge_apart x h o.1));
+      lone_or_tail = λ v there. elim (sound.lone_or_tail v (subst (λ y. Has y v) old.vertices there)) [
+        | inl a ↦ inl (a.0, old.lone_on a.0 v a.1)
+        | inr x ↦ subst (λ y. ((p : ℕ) × IsLoneAt N p y) ⊎ IsTail N y) x.starts (at_end x.half x.there)
+      ];
+      lone_is_no_tail = lone_is_no_tail-less;
+      one_lone = one_lone-less;
+      lone_at_vertex = λ p v a. on v (elim (old.lone_back p v a) [
+        | inl o ↦ sound.lone_at_vertex p v o
+        | inr d ↦ elim d [ inl o ↦ subst (Has M.vertices) (sym o.1) (sound.tails_there h less.there) | inr o ↦ subst (Has M.vertices) (sym o.1) (sound.tails_there m m_there) ]
+      ]);
+    }

@@ -1,52 +1,59 @@
--- A model with one edge more: its half-edges, and the fans of its vertices.
-use Rattle.std.proofs.Common.{◌≡◌, ◌≢◌, ℕ, ◌+◌, [], ◌∷◌, Some, None, unwrap_or, is_some, IsTrue, sym, ap, ◌∙◌, subst, arith, ◌⊎◌, inl, inr, true≢false}
-use Rattle.std.proofs.lemmas.Bool.Decides.{nat_tests, eqb_tells}
+-- A model with one edge more: its half-edges, the fans of its vertices, and what stands at them.
+use Rattle.std.proofs.Common.{◌≡◌, ◌≢◌, ℕ, ◌+◌, List, [], ◌∷◌, Some, None, unwrap_or, is_some, refl, sym, ap, ◌∙◌, subst, arith, ◌⊎◌, inl, inr, true≢false}
+use Rattle.std.proofs.lemmas.Bool.Decides.{eqb_tells}
 use Rattle.euler_operators.specs.Items.{count, tick, IsIn}
 use Rattle.euler_operators.specs.Rings.{IsRing, rotate_to}
-use Rattle.euler_operators.specs.Operators.{put_ring}
+use Rattle.euler_operators.specs.Operators.{put_ring, after_mef}
+use Rattle.euler_operators.proofs.Leads.{IsRing-led_over_other, IsRing-splice_other}
 use Rattle.euler_operators.proofs.Lists.{tick_same, tick_other, tick_le, IsIn_or_not}
 use Rattle.euler_operators.proofs.Rotations.{count-canonical, count-rotate_to}
 use Rattle.euler_operators.specs.HalfEdge.{mate, edge_of, is_first}
 use Rattle.euler_operators.specs.Table as table
-use Rattle.euler_operators.specs.Table.{Table, tables}
-use Rattle.euler_operators.specs.Model.{Model, tail, tail_in, no_edge, is_number}
-use Rattle.euler_operators.specs.Sound.{HasHalf, NumbersFit}
-use Rattle.euler_operators.proofs.Halves.{edge_of-mate, same_edge}
-use Rattle.euler_operators.proofs.Models.{tail_row}
+use Rattle.euler_operators.specs.Model.{Model, lone, tail, tail_in, no_edge, after}
+use Rattle.euler_operators.specs.Sound.{Sound, Has, HasHalf, IsTail, IsLoneAt}
+use Rattle.euler_operators.proofs.Halves.{edge_of-mate, same_edge, mate-mate}
+use Rattle.euler_operators.proofs.Models.{tail_row, mate_there}
+use Rattle.euler_operators.proofs.Tables.{get-put_here, get-put_other}
 use Rattle.euler_operators.specs.Effect.{edge_row}
-use Rattle.euler_laws.proofs.shared.Fans.{Fan}
+use Rattle.euler_laws.proofs.shared.Fans.{Fan, fan_of}
+use Rattle.euler_laws.proofs.shared.Arcs.{fan_mef_first, fan_mef_second, fan_mef_other}
 use Rattle.euler_laws.proofs.shared.Rows.{tail_first, tail_second}
+use Rattle.euler_laws.proofs.shared.Parts.{VerticesHold}
 
-module _ (M N : Model) (h u w : ℕ) (is : N.edges ≡ table.put M.edges (edge_of h) (edge_row h u w)) (free : table.get M.edges (edge_of h) ≡ None) where
-  row_put : table.get (table.put M.edges (edge_of h) (edge_row h u w)) (edge_of h) ≡ Some (edge_row h u w)
-  row_put = grind (arith, nat_tests, tables)
+-- the edge of h is put, from u to w
+pub record OneMore (M N : Model) (h u w : ℕ) : Type 0 where
+  pub edges : N.edges ≡ table.put M.edges (edge_of h) (edge_row h u w)
+  pub free : table.get M.edges (edge_of h) ≡ None
+  pub ends_apart : u ≢ w
 
-  row_kept : (e : ℕ) → e ≢ edge_of h → table.get (table.put M.edges (edge_of h) (edge_row h u w)) e ≡ table.get M.edges e
-  row_kept e a = grind (arith, nat_tests, tables)
+-- what isn't of a fan doesn't stand in it
+pub not_in_fan : (next : ℕ → ℕ) (M : Model) (t : ℕ) (g : Fan next M t) (x : ℕ) → (HasHalf M x → tail M x ≢ t) → count x g.items ≡ 0
+not_in_fan next M t g x a = elim (IsIn_or_not x g.items) [ inl i ↦ absurd (a (g.of_it x i).0 (g.of_it x i).1) | inr n ↦ n ]
 
+module _ {M N : Model} {h u w : ℕ} (more : OneMore M N h u w) where
   pub edge_there : table.get N.edges (edge_of h) ≡ Some (edge_row h u w)
-  edge_there = ap (λ t. table.get t (edge_of h)) is ∙ row_put
+  edge_there = ap (λ t. table.get t (edge_of h)) more.edges ∙ get-put_here M.edges (edge_of h) (edge_row h u w)
 
   pub edge_other : (e : ℕ) → e ≢ edge_of h → table.get N.edges e ≡ table.get M.edges e
-  edge_other e a = ap (λ t. table.get t e) is ∙ row_kept e a
+  edge_other e a = ap (λ t. table.get t e) more.edges ∙ get-put_other M.edges (edge_of h) (edge_row h u w) e a
 
-  mate_there : table.get N.edges (edge_of (mate h)) ≡ Some (edge_row h u w)
-  mate_there = ap (table.get N.edges) (edge_of-mate h) ∙ edge_there
+  mate_row : table.get N.edges (edge_of (mate h)) ≡ Some (edge_row h u w)
+  mate_row = ap (table.get N.edges) (edge_of-mate h) ∙ edge_there
 
   pub half_h : HasHalf N h
   half_h = ap is_some edge_there
 
   pub half_m : HasHalf N (mate h)
-  half_m = ap is_some mate_there
+  half_m = ap is_some mate_row
 
   pub tail-h : tail N h ≡ u
   tail-h = tail_row N h (edge_row h u w) edge_there ∙ tail_first h u w
 
   pub tail-m : tail N (mate h) ≡ w
-  tail-m = tail_row N (mate h) (edge_row h u w) mate_there ∙ tail_second h u w
+  tail-m = tail_row N (mate h) (edge_row h u w) mate_row ∙ tail_second h u w
 
-  edge_apart : (x : ℕ) → HasHalf M x → edge_of x ≢ edge_of h
-  edge_apart x there e = true≢false (sym there ∙ ap is_some (ap (table.get M.edges) e ∙ free))
+  pub edge_apart : (x : ℕ) → HasHalf M x → edge_of x ≢ edge_of h
+  edge_apart x there e = true≢false (sym there ∙ ap is_some (ap (table.get M.edges) e ∙ more.free))
 
   pub not_h : (x : ℕ) → HasHalf M x → x ≢ h
   not_h x there e = edge_apart x there (ap edge_of e)
@@ -68,29 +75,37 @@ module _ (M N : Model) (h u w : ℕ) (is : N.edges ≡ table.put M.edges (edge_o
   ]
 
   -- of the half-edges that start at t, x alone is new
-  abbrev pub OneNew : ℕ → ℕ → Type 0
-  OneNew t x = (y : ℕ) → HasHalf N y → tail N y ≡ t → HasHalf M y ⊎ (y ≡ x)
+  abbrev pub StartsAt : ℕ → ℕ → Type 0
+  StartsAt t x = HasHalf N x × (tail N x ≡ t) × ((y : ℕ) → HasHalf N y → tail N y ≡ t → HasHalf M y ⊎ (y ≡ x))
 
-  pub new_at_u : u ≢ w → OneNew u h
-  new_at_u a y there e = elim (half_cases y there) [
-    | inl o ↦ inl o
-    | inr d ↦ elim d [ inl q ↦ inr q | inr q ↦ absurd (a (sym e ∙ ap (tail N) q ∙ tail-m)) ]
-  ]
+  pub first_starts : StartsAt u h
+  first_starts = (
+    half_h,
+    tail-h,
+    λ y there e. elim (half_cases y there) [
+      | inl o ↦ inl o
+      | inr d ↦ elim d [ inl q ↦ inr q | inr q ↦ absurd (more.ends_apart (sym e ∙ ap (tail N) q ∙ tail-m)) ]
+    ],
+  )
 
-  pub new_at_w : u ≢ w → OneNew w (mate h)
-  new_at_w a y there e = elim (half_cases y there) [
-    | inl o ↦ inl o
-    | inr d ↦ elim d [ inl q ↦ absurd (a (sym tail-h ∙ ap (tail N) (sym q) ∙ e)) | inr q ↦ inr q ]
-  ]
+  pub second_starts : StartsAt w (mate h)
+  second_starts = (
+    half_m,
+    tail-m,
+    λ y there e. elim (half_cases y there) [
+      | inl o ↦ inl o
+      | inr d ↦ elim d [ inl q ↦ absurd (more.ends_apart (sym tail-h ∙ ap (tail N) (sym q) ∙ e)) | inr q ↦ inr q ]
+    ],
+  )
 
   -- the fan of a vertex at which nothing started
-  pub fan_alone : (F : ℕ → ℕ) (t x : ℕ) → HasHalf N x → tail N x ≡ t → OneNew t x → ((y : ℕ) → HasHalf M y → tail M y ≢ t) → F (mate x) ≡ x → Fan F N t
-  fan_alone F t x there starts new bare on = record {
+  pub fan_alone : (F : ℕ → ℕ) (t x : ℕ) → StartsAt t x → ((y : ℕ) → HasHalf M y → tail M y ≢ t) → F (mate x) ≡ x → Fan F N t
+  fan_alone F t x new bare on = record {
     items = x ∷ [];
     apart = λ y. omega (arith, tick_le y x);
     ring = (on, tt);
-    of_it = λ y i. let e : y ≡ x = only y i in (subst (HasHalf N) (sym e) there, ap (tail N) e ∙ starts);
-    all = λ y o e. elim (new y o e) [
+    of_it = λ y i. let e : y ≡ x = only y i in (subst (HasHalf N) (sym e) new.0, ap (tail N) e ∙ new.1);
+    all = λ y o e. elim (new.2 y o e) [
       | inl b ↦ absurd (bare y b (sym (tail_old y b) ∙ e))
       | inr q ↦ omega (arith, ap (tick y) (sym q), tick_same y)
     ];
@@ -99,8 +114,8 @@ module _ (M N : Model) (h u w : ℕ) (is : N.edges ≡ table.put M.edges (edge_o
     only y i = elim (eqb_tells y x) [ inl e ↦ e.1 | inr e ↦ absurd (omega (arith, i, tick_other y x e.1)) ]
 
   -- a fan with one half-edge more
-  pub fan_more : (next F : ℕ → ℕ) (t x c : ℕ) (g : Fan next M t) → HasHalf N x → count x g.items ≡ 0 → tail N x ≡ t → OneNew t x → IsRing (λ y. F (mate y)) (put_ring x c g.items) → Fan F N t
-  fan_more next F t x c g there out starts new ring =
+  pub fan_more : (next F : ℕ → ℕ) (t x c : ℕ) (g : Fan next M t) → StartsAt t x → count x g.items ≡ 0 → IsRing (λ y. F (mate y)) (put_ring x c g.items) → Fan F N t
+  fan_more next F t x c g new out ring =
       let k : (y : ℕ) → count y (put_ring x c g.items) ≡ tick y x + count y g.items = λ y. omega (arith, count-canonical y (x ∷ rotate_to c g.items), count-rotate_to y c g.items) in
       record {
         items = put_ring x c g.items;
@@ -110,10 +125,10 @@ module _ (M N : Model) (h u w : ℕ) (is : N.edges ≡ table.put M.edges (edge_o
         ];
         ring = ring;
         of_it = λ y i. elim (eqb_tells y x) [
-          | inl e ↦ (subst (HasHalf N) (sym e.1) there, ap (tail N) e.1 ∙ starts)
+          | inl e ↦ (subst (HasHalf N) (sym e.1) new.0, ap (tail N) e.1 ∙ new.1)
           | inr e ↦ let o = g.of_it y (omega (arith, i, k y, tick_other y x e.1)) in (half_old y o.0, tail_old y o.0 ∙ o.1)
         ];
-        all = λ y o e. elim (new y o e) [
+        all = λ y o e. elim (new.2 y o e) [
           | inl b ↦ omega (arith, k y, g.all y b (sym (tail_old y b) ∙ e))
           | inr q ↦ omega (arith, k y, ap (tick y) (sym q), tick_same y)
         ];
@@ -132,12 +147,139 @@ module _ (M N : Model) (h u w : ℕ) (is : N.edges ≡ table.put M.edges (edge_o
     ];
   }
 
-  pub edges_fit-more : NumbersFit M.edges → IsTrue (is_number (edge_of h)) → NumbersFit N.edges
-  edges_fit-more fit one e there = elim (eqb_tells e (edge_of h)) [
-    | inl a ↦ subst (λ k. IsTrue (is_number k)) (sym a.1) one
-    | inr a ↦ fit e (ap is_some (sym (edge_other e a.1)) ∙ there)
+  -- the fans of the two ends, and each other
+  pub fans-more : (F : ℕ → ℕ) → Fan F N u → Fan F N w → ((x : ℕ) → HasHalf M x → u ≢ tail M x → w ≢ tail M x → Fan F N (tail M x)) → (x : ℕ) → HasHalf N x → Fan F N (tail N x)
+  fans-more F first second other x there = elim (half_cases x there) [
+    | inl o ↦ subst (Fan F N) (sym (tail_old x o)) (elim (eqb_tells (tail M x) u) [
+      | inl a ↦ subst (Fan F N) (sym a.1) first
+      | inr a ↦ elim (eqb_tells (tail M x) w) [ inl b ↦ subst (Fan F N) (sym b.1) second | inr b ↦ other x o (λ z. a.1 (sym z)) (λ z. b.1 (sym z)) ]
+    ])
+    | inr d ↦ elim d [ inl a ↦ subst (Fan F N) (sym (ap (tail N) a ∙ tail-h)) first | inr a ↦ subst (Fan F N) (sym (ap (tail N) a ∙ tail-m)) second ]
   ]
 
--- what isn't of a fan doesn't stand in it
-pub not_in_fan : (next : ℕ → ℕ) (M : Model) (t : ℕ) (g : Fan next M t) (x : ℕ) → (HasHalf M x → tail M x ≢ t) → count x g.items ≡ 0
-not_in_fan next M t g x a = elim (IsIn_or_not x g.items) [ inl i ↦ absurd (a (g.of_it x i).0 (g.of_it x i).1) | inr n ↦ n ]
+-- ---- the rings and fans where h is put before c at u, and its mate before e at w
+
+pub ring_mef-other : (next : ℕ → ℕ) (h m c e : ℕ) (hs : List ℕ) → count h hs ≡ 0 → count m hs ≡ 0 → count c hs ≡ 0 → count e hs ≡ 0 → IsRing next hs → IsRing (after_mef next h m c e) hs
+ring_mef-other next h m c e hs a b i j t = IsRing-splice_other _ h m hs a b (IsRing-led_over_other _ e m hs j b (IsRing-led_over_other next c h hs i a t))
+
+-- c starts at u and e at w, where they are there
+pub record PutBefore (M : Model) (h u w c e : ℕ) : Type 0 where
+  pub sound : Sound M
+  pub first : HasHalf M c → tail M c ≡ u
+  pub second : HasHalf M e → tail M e ≡ w
+  pub apart : h ≢ e
+
+module _ {M N : Model} {h u w c e : ℕ} (more : OneMore M N h u w) (put : PutBefore M h u w c e) where
+  abbrev F : ℕ → ℕ
+  F = after_mef (after M) h (mate h) c e
+
+  -- nothing new stands in an old fan, nor what starts elsewhere
+  out : (t : ℕ) (g : Fan (after M) M t) → (count h g.items ≡ 0) × (count (mate h) g.items ≡ 0) × (u ≢ t → count c g.items ≡ 0) × (w ≢ t → count e g.items ≡ 0)
+  out t g = (
+    not_in_fan (after M) M t g h (λ o z. not_h more h o refl),
+    not_in_fan (after M) M t g (mate h) (λ o z. not_m more (mate h) o refl),
+    λ a. not_in_fan (after M) M t g c (λ o z. a (sym (put.first o) ∙ z)),
+    λ a. not_in_fan (after M) M t g e (λ o z. a (sym (put.second o) ∙ z)),
+  )
+
+  pub fan_first : HasHalf M c → Fan F N u
+  fan_first there =
+      let g : Fan (after M) M u = subst (Fan (after M) M) (put.first there) (fan_of M put.sound c there) in
+      let n = out u g in
+      fan_more more (after M) F u h c g (first_starts more) n.0
+      (fan_mef_first (after M) h c e put.apart g.items g.apart n.0 n.1 g.ring (g.all c there (put.first there)) (n.3 (λ z. more.ends_apart (sym z))))
+
+  pub fan_second : HasHalf M e → Fan F N w
+  fan_second there =
+      let g : Fan (after M) M w = subst (Fan (after M) M) (put.second there) (fan_of M put.sound e there) in
+      let n = out w g in
+      fan_more more (after M) F w (mate h) e g (second_starts more) n.1
+      (fan_mef_second (after M) h c e put.apart g.items g.apart n.0 n.1 g.ring (g.all e there (put.second there)) (n.2 more.ends_apart))
+
+  pub fan_other : (x : ℕ) → HasHalf M x → u ≢ tail M x → w ≢ tail M x → Fan F N (tail M x)
+  fan_other x there a b =
+      let g : Fan (after M) M (tail M x) = fan_of M put.sound x there in
+      let n = out (tail M x) g in
+      fan_stays more (after M) F (tail M x) g a b (fan_mef_other (after M) h c e put.apart g.items g.apart n.0 n.1 g.ring (n.2 a) (n.3 b))
+
+-- ---- what stands at vertices
+
+-- an old half-edge starts where it did, or is moved from u to w
+pub record NewEnds (M N : Model) (h u w : ℕ) : Type 0 where
+  pub cases : (x : ℕ) → HasHalf N x → HasHalf M x ⊎ ((x ≡ h) ⊎ (x ≡ mate h))
+  pub old : (x : ℕ) → HasHalf M x → HasHalf N x
+  pub first : HasHalf N h × (tail N h ≡ u)
+  pub second : HasHalf N (mate h) × (tail N (mate h) ≡ w)
+  pub tails : (x : ℕ) → HasHalf M x → (tail N x ≡ tail M x) ⊎ ((tail N x ≡ w) × (tail M x ≡ u))
+
+-- u and w are vertices without a lone loop, other vertices and lone loops are as they were
+pub record NewVertices (M N : Model) (u w : ℕ) : Type 0 where
+  pub first_there : Has N.vertices u
+  pub second_there : Has N.vertices w
+  pub on : (v : ℕ) → Has M.vertices v → Has N.vertices v
+  pub back : (v : ℕ) → Has N.vertices v → v ≢ w → Has M.vertices v
+  pub lone_back : (q v : ℕ) → IsLoneAt N q v → IsLoneAt M q v × (v ≢ u) × (v ≢ w)
+  pub lone_on : (q v : ℕ) → IsLoneAt M q v → v ≢ u → v ≢ w → IsLoneAt N q v
+
+module _ {M N : Model} {h u w : ℕ} (sound : Sound M) (ends : NewEnds M N h u w) (new : NewVertices M N u w) where
+  tail_u : (v : ℕ) → v ≡ u → IsTail N v
+  tail_u v e = record { half = h; there = ends.first.0; starts = ends.first.1 ∙ sym e }
+
+  tail_w : (v : ℕ) → v ≡ w → IsTail N v
+  tail_w v e = record { half = mate h; there = ends.second.0; starts = ends.second.1 ∙ sym e }
+
+  old_tail : (v : ℕ) → IsTail M v → v ≢ u → IsTail N v
+  old_tail v t a = record {
+    half = t.half;
+    there = ends.old t.half t.there;
+    starts = elim (ends.tails t.half t.there) [ inl e ↦ e ∙ t.starts | inr e ↦ absurd (a (sym t.starts ∙ e.1)) ];
+  }
+
+  -- each tail is an old one, u or w
+  tail_cases : (x : ℕ) → HasHalf N x → (HasHalf M x × (tail N x ≡ tail M x)) ⊎ ((tail N x ≡ u) ⊎ (tail N x ≡ w))
+  tail_cases x there = elim (ends.cases x there) [
+    | inl o ↦ elim (ends.tails x o) [ inl e ↦ inl (o, e) | inr e ↦ inr (inr e.0) ]
+    | inr d ↦ elim d [ inl e ↦ inr (inl (ap (tail N) e ∙ ends.first.1)) | inr e ↦ inr (inr (ap (tail N) e ∙ ends.second.1)) ]
+  ]
+
+  pub vertices-more : ((x : ℕ) → HasHalf N x → tail N x ≢ tail N (mate x)) → VerticesHold N
+  vertices-more differ = record {
+    tails_there = λ x there. elim (tail_cases x there) [
+      | inl o ↦ subst (Has N.vertices) (sym o.1) (new.on _ (sound.tails_there x o.0))
+      | inr d ↦ elim d [ inl e ↦ subst (Has N.vertices) (sym e) new.first_there | inr e ↦ subst (Has N.vertices) (sym e) new.second_there ]
+    ];
+    ends_differ = differ;
+    lone_or_tail = λ v there. elim (eqb_tells v w) [
+      | inl b ↦ inr (tail_w v b.1)
+      | inr b ↦ elim (eqb_tells v u) [
+        | inl a ↦ inr (tail_u v a.1)
+        | inr a ↦ elim (sound.lone_or_tail v (new.back v there b.1)) [ inl l ↦ inl (l.0, new.lone_on l.0 v l.1 a.1 b.1) | inr t ↦ inr (old_tail v t a.1) ]
+      ]
+    ];
+    lone_is_no_tail = λ q x there e. let b = new.lone_back q (tail N x) e in elim (tail_cases x there) [
+      | inl o ↦ sound.lone_is_no_tail q x o.0 (b.0 ∙ ap lone o.1)
+      | inr d ↦ elim d [ inl s ↦ b.1 s | inr s ↦ b.2 s ]
+    ];
+    one_lone = λ q k v a b. sound.one_lone q k v (new.lone_back q v a).0 (new.lone_back k v b).0;
+    lone_at_vertex = λ q v a. new.on v (sound.lone_at_vertex q v (new.lone_back q v a).0);
+  }
+
+module _ {M N : Model} {h u w : ℕ} (sound : Sound M) (more : OneMore M N h u w) where
+  new_ends : NewEnds M N h u w
+  new_ends = record {
+    cases = half_cases more;
+    old = half_old more;
+    first = (half_h more, tail-h more);
+    second = (half_m more, tail-m more);
+    tails = λ x o. inl (tail_old more x o);
+  }
+
+  -- where old half-edges start where they did
+  pub vertices_hold-more : NewVertices M N u w → VerticesHold N
+  vertices_hold-more new = vertices-more sound new_ends new (λ x there same. elim (half_cases more x there) [
+    | inl o ↦ sound.ends_differ x o (sym (tail_old more x o) ∙ same ∙ tail_old more (mate x) (mate_there M x o))
+    | inr d ↦ elim d [
+      | inl a ↦ more.ends_apart (sym (tail-h more) ∙ ap (tail N) (sym a) ∙ same ∙ ap (λ y. tail N (mate y)) a ∙ tail-m more)
+      | inr a ↦ more.ends_apart (sym (tail-h more) ∙ ap (tail N) (sym (ap mate a ∙ mate-mate h)) ∙ sym same ∙ ap (tail N) a ∙ tail-m more)
+    ]
+  ])

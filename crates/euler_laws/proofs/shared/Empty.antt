@@ -2,7 +2,7 @@
 use Rattle.std.proofs.Common.{◌≡◌, ℕ, [], unwrap_or, is_some, sym, ap, ◌∙◌, arith, true≢false}
 use Rattle.euler_operators.specs.HalfEdge.{edge_of}
 use Rattle.euler_operators.specs.Table as table
-use Rattle.euler_operators.specs.Table.{Table, get-empty}
+use Rattle.euler_operators.specs.Table.{get-empty}
 use Rattle.euler_operators.specs.Model.{cycle, no_loop, empty_model, holds, content}
 use Rattle.euler_operators.specs.Sound.{Sound, Has, HasHalf, StandsIn, IsLoneAt}
 use Rattle.euler_operators.proofs.Models.{holds_in, never_lone}

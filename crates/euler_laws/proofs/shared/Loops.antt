@@ -11,7 +11,6 @@ use Rattle.euler_operators.proofs.Edits.{count-insert_before, count-without, wit
 use Rattle.euler_operators.proofs.Leads.{IsRing-redirect_other, IsRing-led_over_other}
 use Rattle.euler_operators.specs.HalfEdge.{mate, edge_of}
 use Rattle.euler_operators.specs.Table as table
-use Rattle.euler_operators.specs.Table.{Table, tables}
 use Rattle.euler_operators.specs.Model.{Model, LoopContent, lone, cycle, LoopRow, no_loop, items_of, holds, tail, loop_of, content, cycle_of, after, round}
 use Rattle.euler_operators.specs.Sound.{Sound, Has, HasHalf, StandsIn, Reaches, here, further, IsCycle}
 use Rattle.euler_operators.proofs.Tables.{first_where_is}
@@ -66,6 +65,16 @@ count_put_there x g h c i = ap (λ y. count x (items_of y)) (put_there g h c i) 
 
 pub count_put_none : (x g h : ℕ) (c : LoopContent) → count g (items_of c) ≡ 0 → count x (items_of (put_before g h c)) ≡ count x (items_of c)
 count_put_none x g h c n = ap (λ y. count x (items_of y)) (put_none g h c n)
+
+-- what stands in a loop after h is put before g
+pub put_keeps : (x g h : ℕ) (c : LoopContent) → IsIn x (items_of c) → IsIn x (items_of (put_before g h c))
+put_keeps x g h c i = elim (IsIn_or_not g (items_of c)) [ inl a ↦ omega (arith, i, count_put_there x g h c a) | inr a ↦ omega (arith, i, count_put_none x g h c a) ]
+
+pub put_came : (x g h : ℕ) (c : LoopContent) → IsIn x (items_of (put_before g h c)) → ((x ≡ h) × IsIn g (items_of c)) ⊎ IsIn x (items_of c)
+put_came x g h c i = elim (IsIn_or_not g (items_of c)) [
+  | inl a ↦ elim (eqb_tells x h) [ inl e ↦ inl (e.1, a) | inr e ↦ inr (omega (arith, i, count_put_there x g h c a, tick_other x h e.1)) ]
+  | inr a ↦ inr (omega (arith, i, count_put_none x g h c a))
+]
 
 pub light_put : (next : ℕ → ℕ) (g h : ℕ) (c : LoopContent) → count h (items_of c) ≡ 0 → IsLight next c → IsLight (led_over next g h) (put_before g h c)
 light_put next g h c n l = elim (IsIn_or_not g (items_of c)) [

@@ -47,6 +47,11 @@ solid_row M s there = go (table.get M.solids s) there where
   go None e = absurd (true≢false (sym e))
   go (Some tt) e = refl
 
+-- a loop that isn't there holds nothing
+pub content_none : (M : Model) (q : ℕ) → table.get M.loops q ≡ None → content M q ≡ cycle []
+unfolding content
+content_none M q none = ap (λ o. (unwrap_or o no_loop).content) none
+
 -- the row of a loop, from what the readers answer
 pub loop_row : (M : Model) (q : ℕ) → Has M.loops q → table.get M.loops q ≡ Some (record { face = face_of M q; content = content M q })
 unfolding content face_of

@@ -1,10 +1,11 @@
 -- Models whose loops are rewritten row by row, and what stays where faces and solids stay.
-use Rattle.std.proofs.Common.{◌≡◌, ℕ, [], Option, Some, None, is_some, unwrap_or, refl, sym, ap, ◌∙◌, subst}
+use Rattle.std.proofs.Common.{◌≡◌, ℕ, [], Option, Some, None, is_some, unwrap_or, refl, sym, ap, ◌∙◌}
 use Rattle.std.specs.Option.{option_map}
 use Rattle.euler_operators.specs.Table as table
-use Rattle.euler_operators.specs.Table.{Table, tables, same_table, map_rows, get-map_rows}
-use Rattle.euler_operators.specs.Model.{Model, LoopContent, cycle, no_face, LoopRow, no_loop, content, face_of, solid_of, outer, loop_of, tail}
-use Rattle.euler_operators.specs.Sound.{Sound, Has, HasHalf, NumbersFit}
+use Rattle.euler_operators.specs.Table.{Table, same_table, map_rows, get-map_rows}
+use Rattle.euler_operators.specs.Model.{Model, LoopContent, cycle, LoopRow, no_loop, content, face_of, solid_of, loop_of, tail}
+use Rattle.euler_operators.specs.Sound.{Sound, HasHalf}
+use Rattle.euler_operators.proofs.Models.{same_solid}
 use Rattle.euler_laws.proofs.shared.Fans.{loop_after, kept_round}
 
 pub map_twice : {X : Type 0} (f g : ℕ → X → X) (t : Table X) → map_rows f (map_rows g t) ≡ map_rows (λ q x. f q (g q x)) t
@@ -56,45 +57,8 @@ pub record SameFaces (M N : Model) : Type 0 where
 abbrev pub solid_at : Model → ℕ → ℕ
 solid_at X q = solid_of X (face_of X q)
 
-module _ (M N : Model) (sound : Sound M) (w : SameFaces M N) where
-  outer-same : (f : ℕ) → outer N f ≡ outer M f
-  unfolding outer
-  outer-same f = ap (λ t. (unwrap_or (table.get t f) no_face).outer) w.faces
-
-  solid-same : (f : ℕ) → solid_of N f ≡ solid_of M f
-  unfolding solid_of
-  solid-same f = ap (λ t. (unwrap_or (table.get t f) no_face).solid) w.faces
-
-  has_face : (f : ℕ) → Has M.faces f → Has N.faces f
-  has_face f t = subst (λ x. Has x f) (sym w.faces) t
-
-  face_back : (f : ℕ) → Has N.faces f → Has M.faces f
-  face_back f t = subst (λ x. Has x f) w.faces t
-
-  pub loops_of_faces-same : (q : ℕ) → Has N.loops q → Has N.faces (face_of N q)
-  loops_of_faces-same q t = subst (Has N.faces) (sym (w.face q)) (has_face _ (sound.loops_of_faces q (sym (w.loop q) ∙ t)))
-
-  pub outers_there-same : (f : ℕ) → Has N.faces f → Has N.loops (outer N f) × (face_of N (outer N f) ≡ f)
-  outers_there-same f t = let o = sound.outers_there f (face_back f t) in
-      (subst (Has N.loops) (sym (outer-same f)) (w.loop (outer M f) ∙ o.0), ap (face_of N) (outer-same f) ∙ w.face (outer M f) ∙ o.1)
-
-  pub faces_of_solids-same : (f : ℕ) → Has N.faces f → Has N.solids (solid_of N f)
-  faces_of_solids-same f t = subst (λ x. Has x (solid_of N f)) (sym w.solids) (subst (Has M.solids) (sym (solid-same f)) (sound.faces_of_solids f (face_back f t)))
-
-  pub solid_has_face-same : (s : ℕ) → Has N.solids s → (f : ℕ) × Has N.faces f × (solid_of N f ≡ s)
-  solid_has_face-same s t = let x = sound.solid_has_face s (subst (λ y. Has y s) w.solids t) in (x.0, has_face x.0 x.1, solid-same x.0 ∙ x.2)
-
-  pub solids_fit-same : NumbersFit N.solids
-  solids_fit-same n t = sound.solids_fit n (subst (λ y. Has y n) w.solids t)
-
-  pub faces_fit-same : NumbersFit N.faces
-  faces_fit-same n t = sound.faces_fit n (face_back n t)
-
-  pub loops_fit-same : NumbersFit N.loops
-  loops_fit-same n t = sound.loops_fit n (sym (w.loop n) ∙ t)
-
-  pub solid_at-same : (q : ℕ) → solid_at N q ≡ solid_at M q
-  solid_at-same q = ap (solid_of N) (w.face q) ∙ solid-same (face_of M q)
+pub solid_at-same : (M N : Model) → SameFaces M N → (q : ℕ) → solid_at N q ≡ solid_at M q
+solid_at-same M N w q = ap (solid_of N) (w.face q) ∙ same_solid M N (face_of M q) (ap (λ t. table.get t (face_of M q)) w.faces)
 
 -- the half-edges at one vertex lie in one solid
 pub one_solid_round : (M : Model) (sound : Sound M) (g k : ℕ) → HasHalf M g → HasHalf M k → tail M g ≡ tail M k → solid_at M (loop_of M k) ≡ solid_at M (loop_of M g)

@@ -13,7 +13,7 @@ use Rattle.euler_operators.proofs.Edits.{count-insert_before, insert_before-rota
 use Rattle.euler_operators.proofs.Leads.{kev_ring_is}
 use Rattle.euler_operators.specs.HalfEdge.{mate, edge_of, is_first, plus, minus}
 use Rattle.euler_operators.specs.Table as table
-use Rattle.euler_operators.specs.Table.{Table, same_table}
+use Rattle.euler_operators.specs.Table.{same_table}
 use Rattle.euler_operators.specs.Model.{Model, LoopRow, no_loop, EdgeRow, no_edge, tail_in, tail, content, face_of, is_number}
 use Rattle.euler_operators.specs.Sound.{Has, HasHalf}
 use Rattle.euler_operators.proofs.Halves.{plus_row, minus_row, mate_plus, mate_minus}

@@ -1,0 +1,175 @@
+-- Soundness in four parts: the walks of loops and vertices, what stands at vertices, faces and solids, and the ranges of numbers and points.
+use Rattle.std.proofs.Common.{◌≡◌, ◌≢◌, ℕ, Option, Some, None, is_some, IsTrue, sym, ap, ◌∙◌, subst, ◌⊎◌, inl, inr}
+use Rattle.std.proofs.lemmas.Bool.Decides.{eqb_tells}
+use Rattle.euler_operators.specs.declared.Point.{Point}
+use Rattle.euler_operators.specs.Points.{IsInRange}
+use Rattle.euler_operators.specs.HalfEdge.{mate}
+use Rattle.euler_operators.specs.Table as table
+use Rattle.euler_operators.specs.Table.{Table, get-map_rows}
+use Rattle.euler_operators.specs.Model.{Model, FaceRow, lone, tail, loop_of, content, face_of, solid_of, outer, is_number}
+use Rattle.euler_operators.specs.Sound.{Sound, Has, HasHalf, IsTail, IsLoneAt, NumbersFit}
+use Rattle.euler_operators.proofs.Models.{same_outer, same_solid}
+use Rattle.euler_operators.proofs.Tables.{get-put_here, get-put_other, get-remove_here, get-remove_other, row_elsewhere}
+use Rattle.euler_laws.proofs.shared.Loops.{Walks, stands-walks, one_loop-walks, cycles-walks, ends_meet-walks, one_fan-walks}
+use Rattle.euler_laws.proofs.shared.Rows.{one_row}
+use Rattle.euler_laws.proofs.shared.Same.{mapped_some, SameFaces, solid_at}
+
+-- what stands at vertices
+pub record VerticesHold (N : Model) : Type 0 where
+  pub tails_there : (h : ℕ) → HasHalf N h → Has N.vertices (tail N h)
+  pub ends_differ : (h : ℕ) → HasHalf N h → tail N h ≢ tail N (mate h)
+  pub lone_or_tail : (v : ℕ) → Has N.vertices v → ((l : ℕ) × IsLoneAt N l v) ⊎ IsTail N v
+  pub lone_is_no_tail : (l h : ℕ) → HasHalf N h → content N l ≢ lone (tail N h)
+  pub one_lone : (l k v : ℕ) → IsLoneAt N l v → IsLoneAt N k v → l ≡ k
+  pub lone_at_vertex : (l v : ℕ) → IsLoneAt N l v → Has N.vertices v
+
+-- faces, their loops and solids
+pub record FacesHold (N : Model) : Type 0 where
+  pub loops_of_faces : (l : ℕ) → Has N.loops l → Has N.faces (face_of N l)
+  pub outers_there : (f : ℕ) → Has N.faces f → Has N.loops (outer N f) × (face_of N (outer N f) ≡ f)
+  pub faces_of_solids : (f : ℕ) → Has N.faces f → Has N.solids (solid_of N f)
+  pub solid_has_face : (s : ℕ) → Has N.solids s → (f : ℕ) × Has N.faces f × (solid_of N f ≡ s)
+  pub one_solid : (h : ℕ) → HasHalf N h → solid_of N (face_of N (loop_of N h)) ≡ solid_of N (face_of N (loop_of N (mate h)))
+
+abbrev pub PointsFit : Table Point → Type 0
+PointsFit t = (v : ℕ) (p : Point) → table.get t v ≡ Some p → IsInRange p
+
+-- numbers and points are in range
+pub record RangesHold (N : Model) : Type 0 where
+  pub solids_fit : NumbersFit N.solids
+  pub faces_fit : NumbersFit N.faces
+  pub loops_fit : NumbersFit N.loops
+  pub edges_fit : NumbersFit N.edges
+  pub vertices_fit : NumbersFit N.vertices
+  pub points_fit : PointsFit N.vertices
+
+pub sound_of : (N : Model) (next : ℕ → ℕ) → Walks N next → VerticesHold N → FacesHold N → RangesHold N → Sound N
+sound_of N next walks vertices faces ranges = record {
+  stands = stands-walks N next walks;
+  only_edges = walks.only;
+  one_loop = one_loop-walks N next walks;
+  cycles = cycles-walks N next walks;
+  ends_meet = ends_meet-walks N next walks;
+  tails_there = vertices.tails_there;
+  ends_differ = vertices.ends_differ;
+  lone_or_tail = vertices.lone_or_tail;
+  lone_is_no_tail = vertices.lone_is_no_tail;
+  one_lone = vertices.one_lone;
+  one_fan = one_fan-walks N next walks;
+  loops_of_faces = faces.loops_of_faces;
+  outers_there = faces.outers_there;
+  lone_at_vertex = vertices.lone_at_vertex;
+  faces_of_solids = faces.faces_of_solids;
+  solid_has_face = faces.solid_has_face;
+  one_solid = faces.one_solid;
+  solids_fit = ranges.solids_fit;
+  faces_fit = ranges.faces_fit;
+  loops_fit = ranges.loops_fit;
+  edges_fit = ranges.edges_fit;
+  vertices_fit = ranges.vertices_fit;
+  points_fit = ranges.points_fit;
+}
+
+-- ---- ranges, where a row is put or taken away or rows are rewritten
+
+module _ {X : Type 0} (t : Table X) (fit : NumbersFit t) where
+  pub fit-put : (n : ℕ) (x : X) → IsTrue (is_number n) → NumbersFit (table.put t n x)
+  fit-put n x one q there = elim (eqb_tells q n) [
+    | inl e ↦ subst (λ k. IsTrue (is_number k)) (sym e.1) one
+    | inr e ↦ fit q (ap is_some (sym (get-put_other t n x q e.1)) ∙ there)
+  ]
+
+  pub fit-remove : (n : ℕ) → NumbersFit (table.remove t n)
+  fit-remove n q there = fit q (ap is_some (sym (get-remove_other t n q (row_elsewhere (table.remove t n) q n there (get-remove_here t n)))) ∙ there)
+
+  pub fit-map : (f : ℕ → X → X) → NumbersFit (table.map_rows f t)
+  fit-map f q there = fit q (sym (ap is_some (get-map_rows f t q) ∙ mapped_some (f q) (table.get t q)) ∙ there)
+
+module _ (t : Table Point) (fit : PointsFit t) (v : ℕ) where
+  pub points-put : (p : Point) → IsInRange p → PointsFit (table.put t v p)
+  points-put p one w q at = elim (eqb_tells w v) [
+    | inl e ↦ subst IsInRange (one_row (sym (get-put_here t v p) ∙ ap (table.get (table.put t v p)) (sym e.1) ∙ at)) one
+    | inr e ↦ fit w q (sym (get-put_other t v p w e.1) ∙ at)
+  ]
+
+  pub points-remove : PointsFit (table.remove t v)
+  points-remove w q at = fit w q (sym (get-remove_other t v w (row_elsewhere (table.remove t v) w v (ap is_some at) (get-remove_here t v))) ∙ at)
+
+-- ---- a row put or taken away
+
+abbrev pub set_row : {X : Type 0} → Table X → ℕ → Option X → Table X
+set_row t l None = table.remove t l
+set_row t l (Some x) = table.put t l x
+
+pub set_here : {X : Type 0} (t : Table X) (l : ℕ) (o : Option X) → table.get (set_row t l o) l ≡ o
+set_here t l None = get-remove_here t l
+set_here t l (Some x) = get-put_here t l x
+
+pub set_other : {X : Type 0} (t : Table X) (l : ℕ) (o : Option X) (q : ℕ) → q ≢ l → table.get (set_row t l o) q ≡ table.get t q
+set_other t l None q a = get-remove_other t l q a
+set_other t l (Some x) q a = get-put_other t l x q a
+
+-- the row of face f is put or taken away
+pub record FaceSet (M N : Model) (f : ℕ) (row : Option FaceRow) : Type 0 where
+  pub are : N.faces ≡ set_row M.faces f row
+
+module _ {M N : Model} {f : ℕ} {row : Option FaceRow} (set : FaceSet M N f row) where
+  pub face_here : table.get N.faces f ≡ row
+  face_here = ap (λ t. table.get t f) set.are ∙ set_here M.faces f row
+
+  face_other : (p : ℕ) → p ≢ f → table.get N.faces p ≡ table.get M.faces p
+  face_other p a = ap (λ t. table.get t p) set.are ∙ set_other M.faces f row p a
+
+  pub has_face : (p : ℕ) → p ≢ f → table.has N.faces p ≡ table.has M.faces p
+  has_face p a = ap is_some (face_other p a)
+
+  pub solid_other : (p : ℕ) → p ≢ f → solid_of N p ≡ solid_of M p
+  solid_other p a = same_solid M N p (face_other p a)
+
+  pub outer_other : (p : ℕ) → p ≢ f → outer N p ≡ outer M p
+  outer_other p a = same_outer M N p (face_other p a)
+
+-- ---- faces and solids that stay
+
+-- a loop that stays keeps its face, a new one is of an old face, and none that goes was an outer loop
+pub record FacesStay (M N : Model) : Type 0 where
+  pub faces : N.faces ≡ M.faces
+  pub solids : N.solids ≡ M.solids
+  pub kept : (q : ℕ) → Has M.loops q → Has N.loops q → face_of N q ≡ face_of M q
+  pub new : (q : ℕ) → Has N.loops q → Has M.loops q ⊎ Has M.faces (face_of N q)
+  pub outers : (f : ℕ) → Has M.faces f → Has N.loops (outer M f)
+
+module _ {M N : Model} (sound : Sound M) (stay : FacesStay M N) where
+  pub outer_stays : (f : ℕ) → outer N f ≡ outer M f
+  outer_stays f = same_outer M N f (ap (λ t. table.get t f) stay.faces)
+
+  pub solid_stays : (f : ℕ) → solid_of N f ≡ solid_of M f
+  solid_stays f = same_solid M N f (ap (λ t. table.get t f) stay.faces)
+
+  pub solid_kept : (q : ℕ) → Has M.loops q → Has N.loops q → solid_at N q ≡ solid_at M q
+  solid_kept q old now = ap (solid_of N) (stay.kept q old now) ∙ solid_stays (face_of M q)
+
+  face_on : (f : ℕ) → Has M.faces f → Has N.faces f
+  face_on f t = subst (λ y. Has y f) (sym stay.faces) t
+
+  face_back : (f : ℕ) → Has N.faces f → Has M.faces f
+  face_back f t = subst (λ y. Has y f) stay.faces t
+
+  pub faces_hold : ((x : ℕ) → HasHalf N x → solid_at N (loop_of N x) ≡ solid_at N (loop_of N (mate x))) → FacesHold N
+  faces_hold one = record {
+    loops_of_faces = λ q t. face_on (face_of N q) (elim (stay.new q t) [ inl o ↦ subst (Has M.faces) (sym (stay.kept q o t)) (sound.loops_of_faces q o) | inr n ↦ n ]);
+    outers_there = λ f t. let o = sound.outers_there f (face_back f t) in let k = stay.outers f (face_back f t) in
+        (subst (Has N.loops) (sym (outer_stays f)) k, ap (face_of N) (outer_stays f) ∙ stay.kept (outer M f) o.0 k ∙ o.1);
+    faces_of_solids = λ f t. subst (λ y. Has y (solid_of N f)) (sym stay.solids) (subst (Has M.solids) (sym (solid_stays f)) (sound.faces_of_solids f (face_back f t)));
+    solid_has_face = λ s t. let x = sound.solid_has_face s (subst (λ y. Has y s) stay.solids t) in (x.0, face_on x.0 x.1, solid_stays x.0 ∙ x.2);
+    one_solid = one;
+  }
+
+pub stay_of_same : (M N : Model) → Sound M → SameFaces M N → FacesStay M N
+stay_of_same M N sound same = record {
+  faces = same.faces;
+  solids = same.solids;
+  kept = λ q o n. same.face q;
+  new = λ q t. inl (sym (same.loop q) ∙ t);
+  outers = λ f t. same.loop (outer M f) ∙ (sound.outers_there f t).0;
+}
