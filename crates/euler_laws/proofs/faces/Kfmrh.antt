@@ -13,7 +13,7 @@ use Rattle.euler_operators.proofs.Tests.{nat_eq_itself}
 use Rattle.euler_operators.specs.declared.Op.TheVariants.{Kfmrh, Mfkrh}
 use Rattle.euler_operators.specs.Conditions.{first_false, conditions}
 use Rattle.euler_operators.specs.Effect.{effect, inverse, kfmrh, mfkrh, loop_to_face}
-use Rattle.euler_laws.proofs.shared.Goes.{all_hold, none_refuses, not_false, taken}
+use Rattle.euler_laws.proofs.shared.Goes.{◌also◌, all_hold, none_refuses, not_false, taken}
 use Rattle.euler_laws.proofs.shared.Same.{solid_at}
 use Rattle.euler_laws.proofs.shared.Undo.{same_loops, same_model}
 use Rattle.euler_laws.proofs.shared.Parts.{FaceSet, face_here, has_face, solid_other, outer_other, fit-put, fit-remove}
@@ -66,14 +66,23 @@ module _ (M : Model) (sound : Sound M) (f g : ℕ) (goes : KillGoes M f g) where
   unfolding kfmrh
   kill_set = record { are = refl }
 
+  pub g_gone : table.get N.faces g ≡ None
+  g_gone = face_here kill_set
+
   not_g : (p : ℕ) → Has N.faces p → p ≢ g
-  not_g p t = row_elsewhere N.faces p g t (face_here kill_set)
+  not_g p t = row_elsewhere N.faces p g t g_gone
 
   face_on : (p : ℕ) → p ≢ g → Has M.faces p → Has N.faces p
   face_on p a t = has_face kill_set p a ∙ t
 
   face_back : (p : ℕ) → Has N.faces p → Has M.faces p
   face_back p t = sym (has_face kill_set p (not_g p t)) ∙ t
+
+  pub kill_solid : (p : ℕ) → p ≢ g → solid_of N p ≡ solid_of M p
+  kill_solid = solid_other kill_set
+
+  pub kill_outer : (p : ℕ) → p ≢ g → outer N p ≡ outer M p
+  kill_outer = outer_other kill_set
 
   not_face_g : (q : ℕ) → Has M.loops q → q ≢ l → face_of M q ≢ g
   not_face_g q t a e = a (sym (goes.no_rings q t e))
@@ -83,8 +92,8 @@ module _ (M : Model) (sound : Sound M) (f g : ℕ) (goes : KillGoes M f g) where
 
   kill_solid_at : (q : ℕ) → Has M.loops q → solid_at N q ≡ solid_at M q
   kill_solid_at q t = elim (eqb_tells q l) [
-    | inl e ↦ ap (λ y. solid_of N (face_of N y)) e.1 ∙ ap (solid_of N) kill_face_l ∙ solid_other kill_set f goes.apart ∙ goes.one_solid ∙ ap (solid_of M) (sym l_face) ∙ sym (ap (λ y. solid_of M (face_of M y)) e.1)
-    | inr e ↦ ap (solid_of N) (kill_face_else q e.1) ∙ solid_other kill_set (face_of M q) (not_face_g q t e.1)
+    | inl e ↦ ap (λ y. solid_of N (face_of N y)) e.1 ∙ ap (solid_of N) kill_face_l ∙ kill_solid f goes.apart ∙ goes.one_solid ∙ ap (solid_of M) (sym l_face) ∙ sym (ap (λ y. solid_of M (face_of M y)) e.1)
+    | inr e ↦ ap (solid_of N) (kill_face_else q e.1) ∙ kill_solid (face_of M q) (not_face_g q t e.1)
   ]
 
   pub sound-kfmrh : Sound N
@@ -95,11 +104,11 @@ module _ (M : Model) (sound : Sound M) (f g : ℕ) (goes : KillGoes M f g) where
       | inr e ↦ subst (Has N.faces) (sym (kill_face_else q e.1)) (face_on _ (not_face_g q t e.1) (sound.loops_of_faces q t))
     ];
     outers_there = λ p t. let o = sound.outers_there p (face_back p t) in let a = not_g p t in
-        (subst (Has M.loops) (sym (outer_other kill_set p a)) o.0, ap (face_of N) (outer_other kill_set p a) ∙ kill_face_else (outer M p) (not_outer p (face_back p t) a) ∙ o.1);
-    faces_of_solids = λ p t. subst (Has M.solids) (sym (solid_other kill_set p (not_g p t))) (sound.faces_of_solids p (face_back p t));
+        (subst (Has M.loops) (sym (kill_outer p a)) o.0, ap (face_of N) (kill_outer p a) ∙ kill_face_else (outer M p) (not_outer p (face_back p t) a) ∙ o.1);
+    faces_of_solids = λ p t. subst (Has M.solids) (sym (kill_solid p (not_g p t))) (sound.faces_of_solids p (face_back p t));
     solid_has_face = λ s t. let x = sound.solid_has_face s t in elim (eqb_tells x.0 g) [
-      | inl e ↦ (f, face_on f goes.apart goes.f_there, solid_other kill_set f goes.apart ∙ goes.one_solid ∙ ap (solid_of M) (sym e.1) ∙ x.2)
-      | inr e ↦ (x.0, face_on x.0 e.1 x.1, solid_other kill_set x.0 e.1 ∙ x.2)
+      | inl e ↦ (f, face_on f goes.apart goes.f_there, kill_solid f goes.apart ∙ goes.one_solid ∙ ap (solid_of M) (sym e.1) ∙ x.2)
+      | inr e ↦ (x.0, face_on x.0 e.1 x.1, kill_solid x.0 e.1 ∙ x.2)
     ];
     one_solid = λ x t. kill_solid_at (loop_of M x) (ap is_some (row_of M sound x t)) ∙ sound.one_solid x t ∙ sym (kill_solid_at (loop_of M (mate x)) (ap is_some (row_of M sound (mate x) (mate_there M x t))));
     solids_fit = sound.solids_fit;
@@ -109,8 +118,8 @@ module _ (M : Model) (sound : Sound M) (f g : ℕ) (goes : KillGoes M f g) where
   pub make_goes : MakeGoes N l g
   make_goes = record {
     l_there = kill_same.loops l ∙ l_there;
-    face_free = face_here kill_set;
-    is_ring = λ e. not_outer f goes.f_there goes.apart (sym (outer_other kill_set f goes.apart) ∙ ap (outer N) (sym kill_face_l) ∙ e);
+    face_free = g_gone;
+    is_ring = λ e. not_outer f goes.f_there goes.apart (sym (kill_outer f goes.apart) ∙ ap (outer N) (sym kill_face_l) ∙ e);
     face_fits = sound.faces_fit g goes.g_there;
   }
 
@@ -226,7 +235,7 @@ module _ (M : Model) (sound : Sound M) (f g : ℕ) (goes : KillGoes M f g) where
 
   b_faces : B.faces ≡ M.faces
   b_faces =
-      let s : solid_of A (face_of A (outer M g)) ≡ solid_of M g = ap (solid_of A) (kill_face_l M sound f g goes) ∙ solid_other (kill_set M sound f g goes) f goes.apart ∙ goes.one_solid in
+      let s : solid_of A (face_of A (outer M g)) ≡ solid_of M g = ap (solid_of A) (kill_face_l M sound f g goes) ∙ kill_solid M sound f g goes f goes.apart ∙ goes.one_solid in
       b_put (record { solid = solid_of M g; outer = outer M g }) (face_there M g goes.g_there) (λ i. record { solid = s i; outer = outer M g })
 
   pub mfkrh-kfmrh : mfkrh (kfmrh M f g) (outer M g) g ≡ M
@@ -284,18 +293,15 @@ kfmrh_goes M f g e = let w = all_hold (conditions M (Kfmrh f g)) e in let t = w.
 pub kfmrh_accepted : (N : Model) (f g : ℕ) → Sound N → KillGoes N f g → first_false N (Kfmrh f g) ≡ None
 unfolding first_false conditions
 kfmrh_accepted N f g sound goes = none_refuses (conditions N (Kfmrh f g)) (
-  sound.faces_fit f goes.f_there,
-  (
-    sound.faces_fit g goes.g_there,
-    (
-      goes.f_there,
-      (
-        goes.g_there,
-        (not_false _ (ne_eqb _ _ goes.apart), (eq-eqb _ _ goes.one_solid, (not_false _ (means_no_rings N g goes.no_rings), tt))),
-      ),
-    ),
-  ),
-)
+    sound.faces_fit f goes.f_there
+    also sound.faces_fit g goes.g_there
+    also goes.f_there
+    also goes.g_there
+    also not_false _ (ne_eqb _ _ goes.apart)
+    also eq-eqb _ _ goes.one_solid
+    also not_false _ (means_no_rings N g goes.no_rings)
+    also tt
+    )
 
 pub mfkrh_goes : (M : Model) (l f : ℕ) → first_false M (Mfkrh l f) ≡ None → MakeGoes M l f
 unfolding first_false conditions
@@ -309,18 +315,13 @@ mfkrh_goes M l f e = let w = all_hold (conditions M (Mfkrh l f)) e in let t = w.
 pub mfkrh_accepted : (N : Model) (l f : ℕ) → Sound N → MakeGoes N l f → first_false N (Mfkrh l f) ≡ None
 unfolding first_false conditions
 mfkrh_accepted N l f sound goes = none_refuses (conditions N (Mfkrh l f)) (
-  sound.loops_fit l goes.l_there,
-  (
-    goes.face_fits,
-    (
-      goes.l_there,
-      (
-        not_false _ (taken _ goes.face_free),
-        (test_ring (table.has N.loops l) (nat_eq (face_of N l) (face_of N l)) (nat_eq (outer N (face_of N l)) l) goes.l_there (nat_eq_itself (face_of N l)) (ne_eqb _ _ goes.is_ring), tt),
-      ),
-    ),
-  ),
-)
+    sound.loops_fit l goes.l_there
+    also goes.face_fits
+    also goes.l_there
+    also not_false _ (taken _ goes.face_free)
+    also test_ring (table.has N.loops l) (nat_eq (face_of N l) (face_of N l)) (nat_eq (outer N (face_of N l)) l) goes.l_there (nat_eq_itself (face_of N l)) (ne_eqb _ _ goes.is_ring)
+    also tt
+    )
 
 pub kfmrh_keeps_sound : (M : Model) (f g : ℕ) → Sound M → first_false M (Kfmrh f g) ≡ None → Sound (effect M (Kfmrh f g))
 unfolding effect

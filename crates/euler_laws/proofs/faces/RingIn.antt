@@ -11,7 +11,7 @@ use Rattle.euler_operators.specs.declared.Op.TheVariants.{RingIn}
 use Rattle.euler_operators.specs.Conditions.{first_false, conditions}
 use Rattle.euler_operators.specs.Effect.{effect, inverse, ring_in}
 use Rattle.euler_operators.proofs.Tests.{nat_eq_itself}
-use Rattle.euler_laws.proofs.shared.Goes.{all_hold, none_refuses, not_false}
+use Rattle.euler_laws.proofs.shared.Goes.{◌also◌, all_hold, none_refuses, not_false}
 use Rattle.euler_laws.proofs.shared.Same.{solid_at}
 use Rattle.euler_laws.proofs.shared.Undo.{same_loops, same_model}
 use Rattle.euler_laws.proofs.shared.Faces.{SameWalks, sound-same, content-moved, loop-moved, face-moved, face-kept}
@@ -137,21 +137,15 @@ ring_in_goes M l f e = let w = all_hold (conditions M (RingIn l f)) e in let t =
 pub ring_in_accepted : (N : Model) (l f : ℕ) → Sound N → RingGoes N l f → face_of N l ≢ f → first_false N (RingIn l f) ≡ None
 unfolding first_false conditions
 ring_in_accepted N l f sound goes apart = none_refuses (conditions N (RingIn l f)) (
-  sound.loops_fit l goes.l_there,
-  (
-    sound.faces_fit f goes.f_there,
-    (
-      goes.l_there,
-      (
-        goes.f_there,
-        (
-          eq-eqb _ _ goes.one_solid,
-          (test_ring (table.has N.loops l) (nat_eq (face_of N l) (face_of N l)) (nat_eq (outer N (face_of N l)) l) goes.l_there (nat_eq_itself (face_of N l)) (ne_eqb _ _ goes.is_ring), (not_false _ (ne_eqb _ _ apart), tt)),
-        ),
-      ),
-    ),
-  ),
-)
+    sound.loops_fit l goes.l_there
+    also sound.faces_fit f goes.f_there
+    also goes.l_there
+    also goes.f_there
+    also eq-eqb _ _ goes.one_solid
+    also test_ring (table.has N.loops l) (nat_eq (face_of N l) (face_of N l)) (nat_eq (outer N (face_of N l)) l) goes.l_there (nat_eq_itself (face_of N l)) (ne_eqb _ _ goes.is_ring)
+    also not_false _ (ne_eqb _ _ apart)
+    also tt
+    )
 
 pub ring_in_keeps_sound : (M : Model) (l f : ℕ) → Sound M → first_false M (RingIn l f) ≡ None → Sound (effect M (RingIn l f))
 unfolding effect

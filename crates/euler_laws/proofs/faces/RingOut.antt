@@ -12,7 +12,7 @@ use Rattle.euler_operators.specs.declared.Op.TheVariants.{RingOut, Outer}
 use Rattle.euler_operators.specs.Conditions.{first_false, conditions}
 use Rattle.euler_operators.specs.Effect.{effect, inverse, ring_out, take_outer, loop_to_face, face_to_outer}
 use Rattle.euler_operators.proofs.Tests.{nat_eq_itself}
-use Rattle.euler_laws.proofs.shared.Goes.{all_hold, none_refuses}
+use Rattle.euler_laws.proofs.shared.Goes.{◌also◌, all_hold, none_refuses}
 use Rattle.euler_laws.proofs.shared.Same.{solid_at}
 use Rattle.euler_laws.proofs.shared.Undo.{same_loops}
 use Rattle.euler_laws.proofs.shared.Faces.{SameWalks, sound-same, content-moved, loop-moved, face-moved, face-kept}
@@ -270,40 +270,26 @@ outer_goes_so M l f e = let w = all_hold (conditions M (Outer l f)) e in let t =
 pub ring_out_accepted : (N : Model) (l f : ℕ) → Sound N → RingGoes N l f → first_false N (RingOut l f) ≡ None
 unfolding first_false conditions
 ring_out_accepted N l f sound goes = none_refuses (conditions N (RingOut l f)) (
-  sound.loops_fit l goes.l_there,
-  (
-    sound.faces_fit f goes.f_there,
-    (
-      goes.l_there,
-      (
-        goes.f_there,
-        (
-          eq-eqb _ _ goes.one_solid,
-          (test_ring (table.has N.loops l) (nat_eq (face_of N l) (face_of N l)) (nat_eq (outer N (face_of N l)) l) goes.l_there (nat_eq_itself (face_of N l)) (ne_eqb _ _ goes.is_ring), tt),
-        ),
-      ),
-    ),
-  ),
-)
+    sound.loops_fit l goes.l_there
+    also sound.faces_fit f goes.f_there
+    also goes.l_there
+    also goes.f_there
+    also eq-eqb _ _ goes.one_solid
+    also test_ring (table.has N.loops l) (nat_eq (face_of N l) (face_of N l)) (nat_eq (outer N (face_of N l)) l) goes.l_there (nat_eq_itself (face_of N l)) (ne_eqb _ _ goes.is_ring)
+    also tt
+    )
 
 pub outer_accepted : (N : Model) (l f : ℕ) → Sound N → RingGoes N l f → first_false N (Outer l f) ≡ None
 unfolding first_false conditions
 outer_accepted N l f sound goes = none_refuses (conditions N (Outer l f)) (
-  sound.loops_fit l goes.l_there,
-  (
-    sound.faces_fit f goes.f_there,
-    (
-      goes.l_there,
-      (
-        goes.f_there,
-        (
-          eq-eqb _ _ goes.one_solid,
-          (test_ring (table.has N.loops l) (nat_eq (face_of N l) (face_of N l)) (nat_eq (outer N (face_of N l)) l) goes.l_there (nat_eq_itself (face_of N l)) (ne_eqb _ _ goes.is_ring), tt),
-        ),
-      ),
-    ),
-  ),
-)
+    sound.loops_fit l goes.l_there
+    also sound.faces_fit f goes.f_there
+    also goes.l_there
+    also goes.f_there
+    also eq-eqb _ _ goes.one_solid
+    also test_ring (table.has N.loops l) (nat_eq (face_of N l) (face_of N l)) (nat_eq (outer N (face_of N l)) l) goes.l_there (nat_eq_itself (face_of N l)) (ne_eqb _ _ goes.is_ring)
+    also tt
+    )
 
 pub ring_out_keeps_sound : (M : Model) (l f : ℕ) → Sound M → first_false M (RingOut l f) ≡ None → Sound (effect M (RingOut l f))
 unfolding effect

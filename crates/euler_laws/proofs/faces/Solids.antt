@@ -12,7 +12,7 @@ use Rattle.euler_operators.proofs.Tests.{and_first, and_second}
 use Rattle.euler_operators.specs.declared.Op.TheVariants.{Mvfs, Kvfs}
 use Rattle.euler_operators.specs.Conditions.{first_false, conditions, bare_face, has_rings, is_empty, is_lone, lone_vertex, lists}
 use Rattle.euler_operators.specs.Effect.{effect, inverse, mvfs, kvfs_at, head_or_zero}
-use Rattle.euler_laws.proofs.shared.Goes.{all_hold, none_refuses, not_false, taken}
+use Rattle.euler_laws.proofs.shared.Goes.{◌also◌, all_hold, none_refuses, not_false, taken}
 use Rattle.euler_laws.proofs.shared.Rows.{face_there, point_row, lone_is, no_rings_means, means_no_rings, solid_row, loop_row}
 use Rattle.euler_laws.proofs.shared.Listed.{listed_passes, passes_listed, all_where-rises, one_listed}
 use Rattle.euler_laws.proofs.faces.OneSolid as more
@@ -166,14 +166,13 @@ ringless N f r = not-false (is_empty (rings_of N f)) r
 pub kvfs_accepted : (N : Model) (s f : ℕ) → Sound N → KvfsGoes N s f → first_false N (Kvfs s) ≡ None
 unfolding first_false conditions
 kvfs_accepted N s f sound goes = none_refuses (conditions N (Kvfs s)) (
-  sound.solids_fit s goes.s_there,
-  (
-    goes.s_there,
-    (ap (bare_face N) (faces_one N s f goes) ∙ bare, tt),
-  ),
-) where
-  bare : bare_face N (f ∷ []) ≡ true
-  bare = λ i. ringless N f (means_no_rings N f goes.no_rings) i && ap is_lone goes.is_bare i
+    sound.solids_fit s goes.s_there
+    also goes.s_there
+    also ap (bare_face N) (faces_one N s f goes) ∙ bare
+    also tt
+    ) where
+      bare : bare_face N (f ∷ []) ≡ true
+      bare = λ i. ringless N f (means_no_rings N f goes.no_rings) i && ap is_lone goes.is_bare i
 
 pub mvfs_goes : (M : Model) (s f l v : ℕ) (p : Point) → first_false M (Mvfs s f l v p) ≡ None → MvfsGoes M s f l v p
 unfolding first_false conditions
@@ -197,30 +196,17 @@ mvfs_keeps_sound M s f l v p sound e = sound-mvfs M s f l v p (mvfs_goes M s f l
 pub mvfs_accepted : (N : Model) (s f l v : ℕ) (p : Point) → MvfsGoes N s f l v p → first_false N (Mvfs s f l v p) ≡ None
 unfolding first_false conditions
 mvfs_accepted N s f l v p goes = none_refuses (conditions N (Mvfs s f l v p)) (
-  goes.solid_fits,
-  (
-    goes.face_fits,
-    (
-      goes.loop_fits,
-      (
-        goes.vertex_fits,
-        (
-          not_false _ (taken _ goes.solid_free),
-          (
-            not_false _ (taken _ goes.face_free),
-            (
-              not_false _ (taken _ goes.loop_free),
-              (
-                not_false _ (taken _ goes.vertex_free),
-                (goes.point_fits, tt),
-              ),
-            ),
-          ),
-        ),
-      ),
-    ),
-  ),
-)
+    goes.solid_fits
+    also goes.face_fits
+    also goes.loop_fits
+    also goes.vertex_fits
+    also not_false _ (taken _ goes.solid_free)
+    also not_false _ (taken _ goes.face_free)
+    also not_false _ (taken _ goes.loop_free)
+    also not_false _ (taken _ goes.vertex_free)
+    also goes.point_fits
+    also tt
+    )
 
 pub mvfs_is_undone : (M : Model) (s f l v : ℕ) (p : Point) → Sound M → first_false M (Mvfs s f l v p) ≡ None → effect (effect M (Mvfs s f l v p)) (inverse M (Mvfs s f l v p)) ≡ M
 unfolding effect inverse

@@ -19,7 +19,7 @@ use Rattle.euler_operators.proofs.Models.{row_of}
 use Rattle.euler_operators.specs.declared.Op.TheVariants.{Kemr, Mekr}
 use Rattle.euler_operators.specs.Conditions.{first_false, conditions, corner_tail, corner_loop, corner_list, corner_known, corner_lone, corner_number, lone_vertex, is_lone}
 use Rattle.euler_operators.specs.Effect.{effect, inverse, kemr, mekr, corner_of, cycle_or_lone, edge_row}
-use Rattle.euler_laws.proofs.shared.Goes.{all_hold, none_refuses, not_false, taken}
+use Rattle.euler_laws.proofs.shared.Goes.{◌also◌, all_hold, none_refuses, not_false, taken}
 use Rattle.euler_laws.proofs.shared.Parts.{outer_stays}
 use Rattle.euler_laws.proofs.shared.EdgeLess.{OneLess, edge_gone, half_cases, tail_old}
 use Rattle.euler_laws.proofs.shared.TwoRows.{RowsSet, row_first, row_second, content_first, face_same}
@@ -75,41 +75,22 @@ pub record MekrGoes (N : Model) (c d : Corner) (h q l u w : ℕ) (ys xs : List �
 pub mekr_accepted : (N : Model) (c d : Corner) (h : HalfEdge) (q l u w : ℕ) (ys xs : List ℕ) → MekrGoes N c d (code h) q l u w ys xs → first_false N (Mekr c d h) ≡ None
 unfolding first_false conditions
 mekr_accepted N c d h q l u w ys xs goes = none_refuses (conditions N (Mekr c d h)) (
-  goes.first.fits,
-  (
-    goes.second.fits,
-    (
-      ap is_number (sym (edge_of-code h)) ∙ goes.edge_fits,
-      (
-        goes.first.known,
-        (
-          goes.second.known,
-          (
-            goes.first.bare,
-            (
-              goes.second.bare,
-              (
-                not_false _ (taken _ (ap (table.get N.edges) (sym (edge_of-code h)) ∙ goes.edge_free)),
-                (
-                  not_false _ (ne_eqb _ _ (λ e. goes.loops_apart (sym goes.first.loop ∙ e ∙ goes.second.loop))),
-                  (
-                    eq-eqb _ _ (ap (face_of N) goes.first.loop ∙ goes.one_face ∙ sym (ap (face_of N) goes.second.loop)),
-                    (
-                      ap (λ x. is_ring_of N (face_of N x) x) goes.second.loop ∙ ring (table.has N.loops l) (face_of N l) (outer N (face_of N l)) l goes.ring_there goes.no_outer,
-                      (not_false _ (ne_eqb _ _ (λ e. goes.ends_apart (sym goes.first.vertex ∙ e ∙ goes.second.vertex))), tt),
-                    ),
-                  ),
-                ),
-              ),
-            ),
-          ),
-        ),
-      ),
-    ),
-  ),
-) where
-  ring : (b : Bool) (f o k : ℕ) → b ≡ true → o ≢ k → (b && nat_eq f f && not (nat_eq o k)) ≡ true
-  ring b f o k e n = grind (arith, nat_tests)
+    goes.first.fits
+    also goes.second.fits
+    also ap is_number (sym (edge_of-code h)) ∙ goes.edge_fits
+    also goes.first.known
+    also goes.second.known
+    also goes.first.bare
+    also goes.second.bare
+    also not_false _ (taken _ (ap (table.get N.edges) (sym (edge_of-code h)) ∙ goes.edge_free))
+    also not_false _ (ne_eqb _ _ (λ e. goes.loops_apart (sym goes.first.loop ∙ e ∙ goes.second.loop)))
+    also eq-eqb _ _ (ap (face_of N) goes.first.loop ∙ goes.one_face ∙ sym (ap (face_of N) goes.second.loop))
+    also ap (λ x. is_ring_of N (face_of N x) x) goes.second.loop ∙ ring (table.has N.loops l) (face_of N l) (outer N (face_of N l)) l goes.ring_there goes.no_outer
+    also not_false _ (ne_eqb _ _ (λ e. goes.ends_apart (sym goes.first.vertex ∙ e ∙ goes.second.vertex)))
+    also tt
+    ) where
+      ring : (b : Bool) (f o k : ℕ) → b ≡ true → o ≢ k → (b && nat_eq f f && not (nat_eq o k)) ≡ true
+      ring b f o k e n = grind (arith, nat_tests)
 
 pub kemr_goes : (M : Model) (h : HalfEdge) (l : ℕ) → first_false M (Kemr h l) ≡ None → KemrGoes M (code h) l
 unfolding first_false conditions

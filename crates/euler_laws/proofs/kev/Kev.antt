@@ -13,7 +13,7 @@ use Rattle.euler_operators.proofs.Halves.{edge_of-code, code-half}
 use Rattle.euler_operators.specs.declared.Op.TheVariants.{Mev, Kev}
 use Rattle.euler_operators.specs.Conditions.{first_false, conditions, lone_vertex}
 use Rattle.euler_operators.specs.Effect.{effect, inverse, mev_at, mev_lone, kev, kev_corner, kev_corner_mate}
-use Rattle.euler_laws.proofs.shared.Goes.{all_hold, none_refuses, not_false}
+use Rattle.euler_laws.proofs.shared.Goes.{◌also◌, all_hold, none_refuses, not_false}
 use Rattle.euler_laws.proofs.shared.Undo.{parallel_none, none_parallel}
 use Rattle.euler_laws.proofs.mev.MevSound.{MevGoes, sound-mev}
 use Rattle.euler_laws.proofs.kev.MevUndo.{kev-mev_at}
@@ -47,17 +47,14 @@ kev_goes M h sound e =
 pub kev_accepted : (N : Model) (h : HalfEdge) → Sound N → KevGoes N (code h) → first_false N (Kev h) ≡ None
 unfolding first_false conditions
 kev_accepted N h sound goes = none_refuses (conditions N (Kev h)) (
-  ap is_number (sym (edge_of-code h)) ∙ sound.edges_fit (edge_of (code h)) goes.h_there,
-  (
-    of_half N h goes.h_there,
-    (
-      eq-eqb _ _ (parallel_none N (code h) goes.no_parallel),
-      (not_false _ (end_not (after N (mate (code h))) (code h) (after N (code h)) (mate (code h)) goes.not_bare), tt),
-    ),
-  ),
-) where
-  end_not : (a h b m : ℕ) → (a ≡ h → b ≡ m) → (nat_eq a h && not (nat_eq b m)) ≡ false
-  end_not a h b m f = grind (arith, nat_tests)
+    ap is_number (sym (edge_of-code h)) ∙ sound.edges_fit (edge_of (code h)) goes.h_there
+    also of_half N h goes.h_there
+    also eq-eqb _ _ (parallel_none N (code h) goes.no_parallel)
+    also not_false _ (end_not (after N (mate (code h))) (code h) (after N (code h)) (mate (code h)) goes.not_bare)
+    also tt
+    ) where
+      end_not : (a h b m : ℕ) → (a ≡ h → b ≡ m) → (nat_eq a h && not (nat_eq b m)) ≡ false
+      end_not a h b m f = grind (arith, nat_tests)
 
 -- ---- mev
 

@@ -16,7 +16,7 @@ use Rattle.euler_operators.proofs.Models.{row_of, cycle_there, cycle_sound, mate
 use Rattle.euler_operators.specs.declared.Op.TheVariants.{Mef, Kef}
 use Rattle.euler_operators.specs.Conditions.{first_false, conditions, face_at}
 use Rattle.euler_operators.specs.Effect.{effect, inverse, mef, kef, edge_row}
-use Rattle.euler_laws.proofs.shared.Goes.{all_hold, none_refuses, not_false, taken}
+use Rattle.euler_laws.proofs.shared.Goes.{◌also◌, all_hold, none_refuses, not_false, taken}
 use Rattle.euler_laws.proofs.shared.Fans.{half_after, loop_after}
 use Rattle.euler_laws.proofs.shared.Parts.{face_here}
 use Rattle.euler_laws.proofs.shared.EdgeMore.{half_h}
@@ -162,54 +162,32 @@ kef_goes M h e =
 pub kef_accepted : (N : Model) (h : HalfEdge) → Sound N → KefGoes N (code h) → first_false N (Kef h) ≡ None
 unfolding first_false conditions
 kef_accepted N h sound goes = none_refuses (conditions N (Kef h)) (
-  ap is_number (sym (edge_of-code h)) ∙ sound.edges_fit (edge_of (code h)) goes.h_there,
-  (
-    of_half N h goes.h_there,
-    (
-      not_false _ (ne_eqb _ _ goes.faces_apart),
-      (not_false _ (means_no_rings N (face_at N (mate (code h))) goes.no_rings), tt),
-    ),
-  ),
-)
+    ap is_number (sym (edge_of-code h)) ∙ sound.edges_fit (edge_of (code h)) goes.h_there
+    also of_half N h goes.h_there
+    also not_false _ (ne_eqb _ _ goes.faces_apart)
+    also not_false _ (means_no_rings N (face_at N (mate (code h))) goes.no_rings)
+    also tt
+    )
 
 pub mef_accepted : (N : Model) (g k h : HalfEdge) (f l : ℕ) → Sound N → MefGoes N (code g) (code k) (code h) f l → first_false N (Mef g k h f l) ≡ None
 unfolding first_false conditions
 mef_accepted N g k h f l sound goes = none_refuses (conditions N (Mef g k h f l)) (
-  fit g goes.g_there,
-  (
-    fit k goes.k_there,
-    (
-      ap is_number (sym (edge_of-code h)) ∙ goes.edge_fits,
-      (
-        goes.face_fits,
-        (
-          goes.loop_fits,
-          (
-            of_half N g goes.g_there,
-            (
-              of_half N k goes.k_there,
-              (
-                not_false _ (taken _ (ap (table.get N.edges) (sym (edge_of-code h)) ∙ goes.edge_free)),
-                (
-                  not_false _ (taken _ goes.face_free),
-                  (
-                    not_false _ (taken _ goes.loop_free),
-                    (
-                      eq-eqb _ _ (sym goes.one_loop),
-                      (not_false _ (ne_eqb _ _ goes.ends_apart), tt),
-                    ),
-                  ),
-                ),
-              ),
-            ),
-          ),
-        ),
-      ),
-    ),
-  ),
-) where
-  fit : (x : HalfEdge) → HasHalf N (code x) → is_number x.edge ≡ true
-  fit x t = ap is_number (sym (edge_of-code x)) ∙ sound.edges_fit (edge_of (code x)) t
+    fit g goes.g_there
+    also fit k goes.k_there
+    also ap is_number (sym (edge_of-code h)) ∙ goes.edge_fits
+    also goes.face_fits
+    also goes.loop_fits
+    also of_half N g goes.g_there
+    also of_half N k goes.k_there
+    also not_false _ (taken _ (ap (table.get N.edges) (sym (edge_of-code h)) ∙ goes.edge_free))
+    also not_false _ (taken _ goes.face_free)
+    also not_false _ (taken _ goes.loop_free)
+    also eq-eqb _ _ (sym goes.one_loop)
+    also not_false _ (ne_eqb _ _ goes.ends_apart)
+    also tt
+    ) where
+      fit : (x : HalfEdge) → HasHalf N (code x) → is_number x.edge ≡ true
+      fit x t = ap is_number (sym (edge_of-code x)) ∙ sound.edges_fit (edge_of (code x)) t
 
 -- ---- kef
 

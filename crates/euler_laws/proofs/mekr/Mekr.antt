@@ -14,7 +14,7 @@ use Rattle.euler_operators.proofs.Tables.{remove-put}
 use Rattle.euler_operators.specs.declared.Op.TheVariants.{Kemr, Mekr}
 use Rattle.euler_operators.specs.Conditions.{first_false, conditions, corner_tail, corner_loop, corner_list}
 use Rattle.euler_operators.specs.Effect.{effect, inverse, kemr, mekr, cycle_or_lone, edge_row}
-use Rattle.euler_laws.proofs.shared.Goes.{none_refuses, not_false, taken}
+use Rattle.euler_laws.proofs.shared.Goes.{◌also◌, none_refuses, not_false, taken}
 use Rattle.euler_laws.proofs.shared.EdgeMore.{OneMore, half_h, tail-h, tail-m}
 use Rattle.euler_laws.proofs.shared.TwoRows.{RowsSet, row_second, content_first, face_same}
 use Rattle.euler_laws.proofs.kemr.KemrSound as parted
@@ -29,18 +29,13 @@ use Rattle.euler_laws.proofs.shared.Rows.{both_back, loop_row}
 pub kemr_accepted : (N : Model) (h : HalfEdge) (l : ℕ) → Sound N → KemrGoes N (code h) l → first_false N (Kemr h l) ≡ None
 unfolding first_false conditions
 kemr_accepted N h l sound goes = none_refuses (conditions N (Kemr h l)) (
-  ap is_number (sym (edge_of-code h)) ∙ sound.edges_fit (edge_of (code h)) goes.h_there,
-  (
-    goes.loop_fits,
-    (
-      ap (λ x. is_some (table.get N.edges x)) (sym (edge_of-code h)) ∙ goes.h_there,
-      (
-        not_false _ (taken _ goes.loop_free),
-        (eq-eqb _ _ goes.one_loop, tt),
-      ),
-    ),
-  ),
-)
+    ap is_number (sym (edge_of-code h)) ∙ sound.edges_fit (edge_of (code h)) goes.h_there
+    also goes.loop_fits
+    also ap (λ x. is_some (table.get N.edges x)) (sym (edge_of-code h)) ∙ goes.h_there
+    also not_false _ (taken _ goes.loop_free)
+    also eq-eqb _ _ goes.one_loop
+    also tt
+    )
 
 module _ (M : Model) (sound : Sound M) (h q l u w : ℕ) (Y X : List ℕ) (goes : JoinGoes M h q l u w Y X) where
   abbrev N : Model

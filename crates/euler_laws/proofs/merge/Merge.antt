@@ -12,7 +12,7 @@ use Rattle.euler_operators.proofs.Models.{row_of, mate_there}
 use Rattle.euler_operators.specs.declared.Op.TheVariants.{Merge}
 use Rattle.euler_operators.specs.Conditions.{first_false, conditions}
 use Rattle.euler_operators.specs.Effect.{effect, merge, faces_to_solid}
-use Rattle.euler_laws.proofs.shared.Goes.{all_hold, none_refuses, not_false}
+use Rattle.euler_laws.proofs.shared.Goes.{◌also◌, all_hold, none_refuses, not_false}
 use Rattle.euler_laws.proofs.shared.Rows.{face_there}
 use Rattle.euler_laws.proofs.shared.Faces.{sound-same}
 
@@ -158,9 +158,13 @@ merge_goes M s t e = let w = all_hold (conditions M (Merge s t)) e in let x = w.
 pub merge_accepted : (N : Model) (s t : ℕ) → Sound N → MergeGoes N s t → first_false N (Merge s t) ≡ None
 unfolding first_false conditions
 merge_accepted N s t sound goes = none_refuses (conditions N (Merge s t)) (
-  sound.solids_fit s goes.s_there,
-  (sound.solids_fit t goes.t_there, (goes.s_there, (goes.t_there, (not_false _ (ne_eqb _ _ goes.apart), tt)))),
-)
+    sound.solids_fit s goes.s_there
+    also sound.solids_fit t goes.t_there
+    also goes.s_there
+    also goes.t_there
+    also not_false _ (ne_eqb _ _ goes.apart)
+    also tt
+    )
 
 pub merge_keeps_sound : (M : Model) (s t : ℕ) → Sound M → first_false M (Merge s t) ≡ None → Sound (effect M (Merge s t))
 unfolding effect

@@ -14,7 +14,7 @@ use Rattle.euler_operators.proofs.Tables.{no_row}
 use Rattle.euler_operators.specs.declared.Op.TheVariants.{Mev}
 use Rattle.euler_operators.specs.Conditions.{first_false, conditions, lone_vertex, is_lone}
 use Rattle.euler_operators.specs.Effect.{effect}
-use Rattle.euler_laws.proofs.shared.Goes.{all_hold, none_refuses, not_false, taken}
+use Rattle.euler_laws.proofs.shared.Goes.{◌also◌, all_hold, none_refuses, not_false, taken}
 use Rattle.euler_laws.proofs.mev.MevSound.{MevGoes, sound-mev}
 use Rattle.euler_laws.proofs.mev.MevLoneSound.{LoneGoes, sound-mev_lone}
 use Rattle.euler_laws.proofs.shared.Rows.{half_of, of_half, lone_is, is_lone_of}
@@ -38,41 +38,22 @@ mev_goes M g k h v p e =
 pub mev_accepted : (N : Model) (g k h : HalfEdge) (v : ℕ) (p : Point) → Sound N → MevGoes N (code g) (code k) (code h) v p → first_false N (Mev (At g) (At k) h v p) ≡ None
 unfolding first_false conditions
 mev_accepted N g k h v p sound goes = none_refuses (conditions N (Mev (At g) (At k) h v p)) (
-  fit g goes.g_there,
-  (
-    fit k goes.k_there,
-    (
-      ap is_number (sym (edge_of-code h)) ∙ goes.edge_fits,
-      (
-        goes.vertex_fits,
-        (
-          of_half N g goes.g_there,
-          (
-            of_half N k goes.k_there,
-            (
-              refl,
-              (
-                refl,
-                (
-                  not_false _ (taken _ (ap (table.get N.edges) (sym (edge_of-code h)) ∙ goes.edge_free)),
-                  (
-                    not_false _ (taken _ goes.vertex_free),
-                    (
-                      goes.point_fits,
-                      (eq-eqb _ _ (sym goes.one_tail), tt),
-                    ),
-                  ),
-                ),
-              ),
-            ),
-          ),
-        ),
-      ),
-    ),
-  ),
-) where
-  fit : (x : HalfEdge) → HasHalf N (code x) → is_number x.edge ≡ true
-  fit x t = ap is_number (sym (edge_of-code x)) ∙ sound.edges_fit (edge_of (code x)) t
+    fit g goes.g_there
+    also fit k goes.k_there
+    also ap is_number (sym (edge_of-code h)) ∙ goes.edge_fits
+    also goes.vertex_fits
+    also of_half N g goes.g_there
+    also of_half N k goes.k_there
+    also refl
+    also refl
+    also not_false _ (taken _ (ap (table.get N.edges) (sym (edge_of-code h)) ∙ goes.edge_free))
+    also not_false _ (taken _ goes.vertex_free)
+    also goes.point_fits
+    also eq-eqb _ _ (sym goes.one_tail)
+    also tt
+    ) where
+      fit : (x : HalfEdge) → HasHalf N (code x) → is_number x.edge ≡ true
+      fit x t = ap is_number (sym (edge_of-code x)) ∙ sound.edges_fit (edge_of (code x)) t
 
 pub lone_goes : (M : Model) (l d : ℕ) (h : HalfEdge) (v : ℕ) (p : Point) → first_false M (Mev (Lone l) (Lone d) h v p) ≡ None → LoneGoes M l (code h) v (lone_vertex (content M l)) p
 unfolding first_false conditions
@@ -95,38 +76,19 @@ lone_accepted N l h v u p sound goes =
     let fits : is_number l ≡ true = sound.loops_fit l goes.loop_there in
     let is : is_lone (content N l) ≡ true = is_lone_of (content N l) u goes.is_lone in
     none_refuses (conditions N (Mev (Lone l) (Lone l) h v p)) (
-      fits,
-      (
-        fits,
-        (
-          ap is_number (sym (edge_of-code h)) ∙ goes.edge_fits,
-          (
-            goes.vertex_fits,
-            (
-              goes.loop_there,
-              (
-                goes.loop_there,
-                (
-                  is,
-                  (
-                    is,
-                    (
-                      not_false _ (taken _ (ap (table.get N.edges) (sym (edge_of-code h)) ∙ goes.edge_free)),
-                      (
-                        not_false _ (taken _ goes.vertex_free),
-                        (
-                          goes.point_fits,
-                          (eq-eqb _ _ refl, tt),
-                        ),
-                      ),
-                    ),
-                  ),
-                ),
-              ),
-            ),
-          ),
-        ),
-      ),
+    fits
+    also fits
+    also ap is_number (sym (edge_of-code h)) ∙ goes.edge_fits
+    also goes.vertex_fits
+    also goes.loop_there
+    also goes.loop_there
+    also is
+    also is
+    also not_false _ (taken _ (ap (table.get N.edges) (sym (edge_of-code h)) ∙ goes.edge_free))
+    also not_false _ (taken _ goes.vertex_free)
+    also goes.point_fits
+    also eq-eqb _ _ refl
+    also tt
     )
 
 -- a corner at a half-edge and a lone one are never at one vertex

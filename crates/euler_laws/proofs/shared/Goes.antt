@@ -9,6 +9,11 @@ all_step : (c : Condition) (cs : List Condition) (b : Bool) → c.holds ≡ b �
 all_step c cs true e is rest = (e, rest is)
 all_step c cs false e is rest = absurd (true≢false (ap is_some is))
 
+-- conditions that hold, one after the other: `first also second also tt`
+infixr 4 ◌also◌
+pub ◌also◌ : {A B : Type 0} → A → B → A × B
+◌also◌ a b = (a, b)
+
 -- where no condition refuses, each holds
 pub all_hold : (cs : List Condition) → first_refusal cs ≡ None → AllHold cs
 all_hold [] e = tt
