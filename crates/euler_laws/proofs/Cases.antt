@@ -8,8 +8,8 @@ use Rattle.euler_operators.specs.Conditions.{first_false}
 use Rattle.euler_operators.specs.Effect.{effect, inverse}
 use Rattle.euler_laws.proofs.mev.Mev.{mev_keeps_sound}
 use Rattle.euler_laws.proofs.kev.Kev.{mev_is_undone, mev_inverse_goes, kev_keeps_sound, kev_is_undone, kev_inverse_goes}
-use Rattle.euler_laws.proofs.mef.Mef.{mef_keeps_sound, mef_is_undone}
-use Rattle.euler_laws.proofs.mef.Kef.{mef_inverse_goes, kef_keeps_sound, kef_is_undone, kef_inverse_goes}
+use Rattle.euler_laws.proofs.mef.Mef.{mef_keeps_sound}
+use Rattle.euler_laws.proofs.mef.Kef.{mef_is_undone, mef_inverse_goes, kef_keeps_sound, kef_is_undone, kef_inverse_goes}
 use Rattle.euler_laws.proofs.kemr.Kemr.{kemr_keeps_sound, kemr_is_undone, kemr_inverse_goes}
 use Rattle.euler_laws.proofs.mekr.Mekr.{mekr_keeps_sound, mekr_is_undone, mekr_inverse_goes}
 use Rattle.euler_laws.proofs.faces.Solids.{mvfs_keeps_sound, mvfs_is_undone, mvfs_inverse_goes, kvfs_keeps_sound, kvfs_is_undone, kvfs_inverse_goes}

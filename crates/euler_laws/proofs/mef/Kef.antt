@@ -1,17 +1,17 @@
--- kef as an operator: it keeps a model sound, and mef takes it back; and kef passes its conditions after mef.
+-- kef as an operator: it keeps a model sound, and mef takes it back; and kef passes its conditions after mef and takes it back.
 use Rattle.std.proofs.Common.{◌≡◌, ◌≢◌, ℕ, true, Some, None, is_some, refl, sym, ap, ◌∙◌, subst, inl, inr}
 use Rattle.std.proofs.lemmas.Bool.Decides.{eqb_tells}
 use Rattle.std.proofs.lemmas.Bool.{not-true, ne_eqb, eq-eqb, eqb-false}
 use Rattle.euler_operators.specs.Items.{IsIn}
 use Rattle.euler_operators.specs.Operators.{mef_old, mef_new, kef_ring}
-use Rattle.euler_operators.proofs.Operators.{mef-kef}
+use Rattle.euler_operators.proofs.Operators.{mef-kef, kef-mef}
 use Rattle.euler_operators.specs.declared.HalfEdge.{HalfEdge}
 use Rattle.euler_operators.specs.HalfEdge.{code, half, mate, edge_of}
 use Rattle.euler_operators.specs.Table as table
 use Rattle.euler_operators.specs.Model.{Model, cycle, FaceRow, EdgeRow, items_of, tail, loop_of, content, cycle_of, face_of, solid_of, outer, after, is_number}
 use Rattle.euler_operators.specs.Sound.{Sound, HasHalf}
 use Rattle.euler_operators.proofs.Halves.{edge_of-code, code-half, mate-mate}
-use Rattle.euler_operators.proofs.Tables.{put-remove}
+use Rattle.euler_operators.proofs.Tables.{put-remove, remove-put, two_undone}
 use Rattle.euler_operators.proofs.Models.{row_of, cycle_there, cycle_sound, mate_there}
 use Rattle.euler_operators.specs.declared.Op.TheVariants.{Mef, Kef}
 use Rattle.euler_operators.specs.Conditions.{first_false, conditions, face_at}
@@ -22,7 +22,7 @@ use Rattle.euler_laws.proofs.shared.Parts.{face_here}
 use Rattle.euler_laws.proofs.shared.EdgeMore.{half_h}
 use Rattle.euler_laws.proofs.shared.EdgeLess.{OneLess, other_edge, half_old, tail_old, edge_gone}
 use Rattle.euler_laws.proofs.shared.TwoRows.{RowsSet, row_second, content_first, face_same, has_same}
-use Rattle.euler_laws.proofs.mef.MefUndo.{loops-mef}
+use Rattle.euler_laws.proofs.mef.MefUndo.{loops-mef, no_h, no_m}
 use Rattle.euler_laws.proofs.mef.MefSound as made
 use Rattle.euler_laws.proofs.mef.MefSound.{MefGoes}
 use Rattle.euler_laws.proofs.mef.Mef.{mef_goes}
@@ -230,6 +230,49 @@ made_goes M sound g k h f l goes =
         | inr a ↦ absurd (made.not_f M sound g k h f l goes (face_of M q) (sound.loops_of_faces q (sym (has_same set q a.1) ∙ there)) (sym (face_same set q a.1) ∙ p ∙ fm))
       ];
     }
+
+module _ (M : Model) (sound : Sound M) (g k h f l : ℕ) (goes : MefGoes M g k h f l) where
+  abbrev E : Model
+  E = mef M g k h f l
+
+  loop_h : loop_of E h ≡ loop_of M g
+  loop_h = made.loop_h M sound g k h f l goes
+
+  loop_m : loop_of E (mate h) ≡ l
+  loop_m = made.loop_m M sound g k h f l goes
+
+  -- the list of the kept loop, joined with that of the new one, is the old list
+  whole : kef_ring h (mate h) (cycle_of E h) (cycle_of E (mate h)) ≡ cycle_of M g
+  whole =
+      let a : cycle_of E h ≡ mef_old h g k (cycle_of M g) = ap (λ q. items_of (content E q)) loop_h ∙ ap items_of (content_first (made.set M sound g k h f l goes)) in
+      let b : cycle_of E (mate h) ≡ mef_new (mate h) g k (cycle_of M g) = ap (λ q. items_of (content E q)) loop_m ∙ ap items_of (made.content_l M sound g k h f l goes) in
+      let cy = cycle_sound M sound g goes.g_there in
+      (λ i. kef_ring h (mate h) (a i) (b i))
+      ∙ kef-mef h (mate h) g k (cycle_of M g) cy.apart (no_h M sound g k h f l goes.g_there goes.edge_free goes.loop_free) (no_m M sound g k h f l goes.g_there goes.edge_free goes.loop_free) ∙ cy.from_least
+
+  loops-made : (kef E h).loops ≡ M.loops
+  loops-made =
+      let c : face_of E (loop_of E h) ≡ face_of M (loop_of M g) = ap (face_of E) loop_h ∙ face_same (made.set M sound g k h f l goes) (loop_of M g) (made.set M sound g k h f l goes).apart in
+      gone.loops_are E (made.sound-mef M sound g k h f l goes) h (made_goes M sound g k h f l goes)
+      ∙ (λ i. table.remove (table.put E.loops (loop_h i) (record { face = c i; content = cycle (whole i) })) (loop_m i))
+      ∙ ap (λ t. table.remove (table.put t (loop_of M g) (record { face = face_of M (loop_of M g); content = cycle (cycle_of M g) })) l) (loops-mef M sound g k h f l goes.g_there goes.edge_free goes.loop_free)
+      ∙ two_undone M.loops (loop_of M g) l _ _ _ (made.set M sound g k h f l goes).apart (row_of M sound g goes.g_there) goes.loop_free
+
+  faces-made : table.remove E.faces (face_at E (mate h)) ≡ M.faces
+  unfolding mef
+  faces-made = ap (table.remove E.faces) (ap (face_of E) loop_m ∙ made.face_l M sound g k h f l goes) ∙ remove-put M.faces f _ goes.face_free
+
+  edges-made : table.remove E.edges (edge_of h) ≡ M.edges
+  unfolding mef
+  edges-made = remove-put M.edges (edge_of h) _ goes.edge_free
+
+  pub kef-after-mef : kef (mef M g k h f l) h ≡ M
+  unfolding kef mef
+  kef-after-mef = same_model (kef E h) M refl faces-made loops-made edges-made refl
+
+pub mef_is_undone : (M : Model) (g k h : HalfEdge) (f l : ℕ) → Sound M → first_false M (Mef g k h f l) ≡ None → effect (effect M (Mef g k h f l)) (inverse M (Mef g k h f l)) ≡ M
+unfolding effect inverse
+mef_is_undone M g k h f l sound e = kef-after-mef M sound (code g) (code k) (code h) f l (mef_goes M g k h f l e)
 
 pub mef_inverse_goes : (M : Model) (g k h : HalfEdge) (f l : ℕ) → Sound M → first_false M (Mef g k h f l) ≡ None → first_false (effect M (Mef g k h f l)) (inverse M (Mef g k h f l)) ≡ None
 unfolding effect inverse

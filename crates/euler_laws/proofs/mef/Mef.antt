@@ -1,4 +1,4 @@
--- mef as an operator: what its conditions say; it keeps a model sound, and kef takes it back.
+-- mef as an operator: what its conditions say, and that it keeps a model sound.
 use Rattle.std.proofs.Common.{◌≡◌, ℕ, None, is_some, sym, ap, ◌∙◌}
 use Rattle.std.proofs.lemmas.Bool.{not-true, eqb-true, eqb-false}
 use Rattle.euler_operators.specs.declared.HalfEdge.{HalfEdge}
@@ -10,9 +10,8 @@ use Rattle.euler_operators.proofs.Halves.{edge_of-code}
 use Rattle.euler_operators.proofs.Tables.{no_row}
 use Rattle.euler_operators.specs.declared.Op.TheVariants.{Mef}
 use Rattle.euler_operators.specs.Conditions.{first_false, conditions}
-use Rattle.euler_operators.specs.Effect.{effect, inverse}
+use Rattle.euler_operators.specs.Effect.{effect}
 use Rattle.euler_laws.proofs.shared.Goes.{all_hold}
-use Rattle.euler_laws.proofs.mef.MefUndo.{kef-after-mef}
 use Rattle.euler_laws.proofs.mef.MefSound.{MefGoes, sound-mef}
 
 pub mef_goes : (M : Model) (g k h : HalfEdge) (f l : ℕ) → first_false M (Mef g k h f l) ≡ None → MefGoes M (code g) (code k) (code h) f l
@@ -37,9 +36,3 @@ mef_goes M g k h f l e =
 pub mef_keeps_sound : (M : Model) (g k h : HalfEdge) (f l : ℕ) → Sound M → first_false M (Mef g k h f l) ≡ None → Sound (effect M (Mef g k h f l))
 unfolding effect
 mef_keeps_sound M g k h f l sound e = sound-mef M sound (code g) (code k) (code h) f l (mef_goes M g k h f l e)
-
--- its inverse takes it back
-pub mef_is_undone : (M : Model) (g k h : HalfEdge) (f l : ℕ) → Sound M → first_false M (Mef g k h f l) ≡ None → effect (effect M (Mef g k h f l)) (inverse M (Mef g k h f l)) ≡ M
-unfolding effect inverse
-mef_is_undone M g k h f l sound e = let w = mef_goes M g k h f l e in
-    kef-after-mef M sound (code g) (code k) (code h) f l w.g_there w.edge_free w.face_free w.loop_free

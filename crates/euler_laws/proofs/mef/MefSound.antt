@@ -104,7 +104,7 @@ module _ (M : Model) (sound : Sound M) (g k h f l : ℕ) (goes : MefGoes M g k h
     face = refl;
   }
 
-  content_l : content N l ≡ cycle (mef_new m g k xs)
+  pub content_l : content N l ≡ cycle (mef_new m g k xs)
   content_l = content_row N l new (row_second set)
 
   content_free : content M l ≡ cycle []
