@@ -23,7 +23,7 @@ use Rattle.euler_laws.proofs.shared.Undo.{after_first}
 use Rattle.euler_laws.proofs.shared.Rows.{where_held_none, where_held_there, content_none, count_or_lone, loop_or_lone, was_empty, after_second}
 use Rattle.euler_laws.proofs.shared.Parts.{VerticesHold, RangesHold, sound_of, fit-put, fit-remove, fit-map, FacesStay, solid_stays, solid_kept, faces_hold}
 use Rattle.euler_laws.proofs.shared.EdgeLess.{OneLess, ticks_apart, ring_kef-other, fans-less, vertices_hold-less}
-use Rattle.euler_laws.proofs.shared.TwoRows.{RowsSet, row_first, row_second, row_else, content_first, face_same, has_same, OneOf, TwoRows, which, in_both, content_other, Elsewhere, none_elsewhere, walks-rows, one_solid-rows, two_rows-less}
+use Rattle.euler_laws.proofs.shared.TwoRows.{RowsSet, row_first, row_second, row_else, content_first, face_same, has_same, OneOf, TwoRows, which, in_both, Elsewhere, none_elsewhere, walks-rows, one_solid-rows, two_rows-less}
 
 -- what the conditions of kemr say
 pub record KemrGoes (M : Model) (h l : ℕ) : Type 0 where
@@ -201,7 +201,7 @@ module _ (M : Model) (sound : Sound M) (h l : ℕ) (goes : KemrGoes M h l) where
       | inl p ↦ let x = was_empty Y u t (sym (content_first set) ∙ ap (content N) (sym p) ∙ e) in inl (p, x.1, empty_y x.0)
       | inr p ↦ let x = was_empty X w t (sym content_l ∙ ap (content N) (sym p) ∙ e) in inr (p, x.1, empty_x x.0)
     ])
-    | inr n ↦ inl (sym (content_other sound rows q n) ∙ e)
+    | inr n ↦ inl (sym (rows.other_content q n) ∙ e)
   ]
 
   vertices : VerticesHold N
@@ -209,7 +209,7 @@ module _ (M : Model) (sound : Sound M) (h l : ℕ) (goes : KemrGoes M h l) where
   vertices = vertices_hold-less sound less (record {
     vertices = refl;
     lone_back = lone_back;
-    lone_on = λ q t e. content_other sound rows q (
+    lone_on = λ q t e. rows.other_content q (
       λ p. never_lone xs t (sym (content_cycle M sound h goes.h_there) ∙ ap (content M) (sym p) ∙ e),
       λ p. never_lone [] t (sym content_free ∙ ap (content M) (sym p) ∙ e),
     ) ∙ e;

@@ -23,7 +23,7 @@ use Rattle.euler_laws.proofs.shared.Same.{solid_at}
 use Rattle.euler_laws.proofs.shared.Rows.{where_held_none, where_held_there, content_none}
 use Rattle.euler_laws.proofs.shared.Parts.{VerticesHold, FacesHold, RangesHold, sound_of, fit-remove, fit-map, FaceSet, face_here, has_face, solid_other, outer_other}
 use Rattle.euler_laws.proofs.shared.EdgeLess.{OneLess, ticks_apart, next_other, ring_kef-other, fans-less, vertices_hold-less}
-use Rattle.euler_laws.proofs.shared.TwoRows.{RowsSet, row_second, row_else, content_first, face_same, has_same, OneOf, TwoRows, which, in_both, content_other, loop_both, Elsewhere, none_elsewhere, walks-rows, one_solid-rows, two_rows-less}
+use Rattle.euler_laws.proofs.shared.TwoRows.{RowsSet, row_second, row_else, content_first, face_same, has_same, OneOf, TwoRows, which, in_both, loop_both, Elsewhere, none_elsewhere, walks-rows, one_solid-rows, two_rows-less}
 
 -- what the conditions of kef say
 pub record KefGoes (M : Model) (h : ℕ) : Type 0 where
@@ -201,11 +201,11 @@ module _ (M : Model) (sound : Sound M) (h : ℕ) (goes : KefGoes M h) where
   lone_back : (q t : ℕ) → IsLoneAt N q t → IsLoneAt M q t
   lone_back q t e = elim (which r s q) [
     | inl o ↦ absurd (elim o [ inl p ↦ never_lone zs t (sym (content_first set) ∙ ap (content N) (sym p) ∙ e) | inr p ↦ never_lone [] t (sym content_s ∙ ap (content N) (sym p) ∙ e) ])
-    | inr n ↦ sym (content_other sound rows q n) ∙ e
+    | inr n ↦ sym (rows.other_content q n) ∙ e
   ]
 
   lone_on : (q t : ℕ) → IsLoneAt M q t → IsLoneAt N q t
-  lone_on q t e = content_other sound rows q (
+  lone_on q t e = rows.other_content q (
     λ p. never_lone xs t (sym (content_cycle M sound h goes.h_there) ∙ ap (content M) (sym p) ∙ e),
     λ p. never_lone ys t (sym (content_cycle M sound m m_there) ∙ ap (content M) (sym p) ∙ e),
   ) ∙ e

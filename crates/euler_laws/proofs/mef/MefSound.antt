@@ -21,7 +21,7 @@ use Rattle.euler_laws.proofs.shared.Same.{solid_at}
 use Rattle.euler_laws.proofs.shared.Parts.{VerticesHold, FacesHold, RangesHold, sound_of, fit-put, fit-map, FaceSet, face_here, has_face, solid_other, outer_other}
 use Rattle.euler_laws.proofs.shared.EdgeMore.{OneMore, PutBefore, not_h, not_m, ring_mef-other, fans-more, fan_first, fan_second, fan_other, vertices_hold-more}
 use Rattle.euler_laws.proofs.shared.EdgeLess.{ticks_apart}
-use Rattle.euler_laws.proofs.shared.TwoRows.{RowsSet, row_second, row_else, content_first, face_same, has_same, OneOf, TwoRows, which, in_both, content_other, loop_both, Elsewhere, none_elsewhere, walks-rows, one_solid-rows, two_rows-more}
+use Rattle.euler_laws.proofs.shared.TwoRows.{RowsSet, row_second, row_else, content_first, face_same, has_same, OneOf, TwoRows, which, in_both, loop_both, Elsewhere, none_elsewhere, walks-rows, one_solid-rows, two_rows-more}
 use Rattle.euler_laws.proofs.mef.MefUndo.{loops-mef, no_h, no_m, count-mef_old, count-mef_new}
 
 -- what the conditions of mef say
@@ -164,11 +164,11 @@ module _ (M : Model) (sound : Sound M) (g k h f l : ℕ) (goes : MefGoes M g k h
   lone_back : (q v : ℕ) → IsLoneAt N q v → IsLoneAt M q v
   lone_back q v e = elim (which r l q) [
     | inl o ↦ absurd (elim o [ inl a ↦ never_lone _ v (sym (content_first set) ∙ ap (content N) (sym a) ∙ e) | inr a ↦ never_lone _ v (sym content_l ∙ ap (content N) (sym a) ∙ e) ])
-    | inr n ↦ sym (content_other sound rows q n) ∙ e
+    | inr n ↦ sym (rows.other_content q n) ∙ e
   ]
 
   lone_on : (q v : ℕ) → IsLoneAt M q v → IsLoneAt N q v
-  lone_on q v e = content_other sound rows q (
+  lone_on q v e = rows.other_content q (
     λ a. never_lone xs v (sym (content_cycle M sound g goes.g_there) ∙ ap (content M) (sym a) ∙ e),
     λ a. never_lone [] v (sym content_free ∙ ap (content M) (sym a) ∙ e),
   ) ∙ e

@@ -14,17 +14,19 @@ use Rattle.euler_operators.specs.Table as table
 use Rattle.euler_operators.specs.Table.{tables}
 use Rattle.euler_operators.specs.Model.{Model, LoopContent, lone, cycle, LoopRow, EdgeRow, items_of, holds, tail, loop_of, content, after, arc, tail_in, no_edge, is_number}
 use Rattle.euler_operators.specs.Sound.{Sound, Has, HasHalf, StandsIn, IsLoneAt}
-use Rattle.euler_operators.proofs.Halves.{mate_other, edge_of-mate, mate-mate, same_edge}
+use Rattle.euler_operators.proofs.Halves.{mate_other, edge_of-mate, mate-mate, same_edge, edges_apart}
 use Rattle.euler_operators.proofs.Tables.{get-put_here, get-put_other, row_elsewhere}
 use Rattle.euler_operators.proofs.Models.{tail_row, no_tail, in-holds, holds_in, cycle_there, mate_there}
 use Rattle.euler_operators.specs.Effect.{mev_at, edge_row, with_before, with_tails}
 use Rattle.euler_laws.proofs.shared.Fans.{Fan, fan_of}
-use Rattle.euler_laws.proofs.shared.Loops.{IsLoop, put_before, put_none, put_lone, lone_put, count_put_there, count_put_none, put_keeps, put_came, loop_put, loop_sound, none_free, Walks, loop_at}
+use Rattle.euler_laws.proofs.shared.Loops.{IsLoop, put_before, put_none, put_lone, lone_put, count_put_there, count_put_none, count_put_other, put_keeps, put_came, loop_put, loop_sound, none_free, Walks, loop_at}
 use Rattle.euler_laws.proofs.shared.Arcs.{halves_of_edge, arc_is, fan_mev, fan_mev_other}
 use Rattle.euler_laws.proofs.shared.Same.{map_twice, mapped_some, Rewritten, content-new, face-same, loop-same, SameFaces, solid_at, solid_at-same, one_solid_round}
 use Rattle.euler_laws.proofs.shared.Rows.{count-halves, tail_first, tail_second}
 use Rattle.euler_laws.proofs.shared.Parts.{VerticesHold, RangesHold, sound_of, fit-put, fit-map, points-put, stay_of_same, faces_hold}
 use Rattle.euler_laws.proofs.shared.EdgeMore.{NewEnds, vertices-more}
+use Rattle.euler_laws.proofs.shared.EdgeLess.{not_mate}
+use Rattle.euler_laws.proofs.shared.TwoRows.{OneOf, TwoRows, in_both, stands_both, of_edge, only, placed, one_solid-rows}
 
 pub before_content : (g h q : ℕ) (row : LoopRow) → (with_before g h q row).content ≡ put_before g h row.content
 before_content g h q row = elim (holds g row.content) as (λ b. (cond b (record row { content = cycle (canonical (insert_before g h (items_of row.content))) }) row).content ≡ cond b (cycle (canonical (insert_before g h (items_of row.content)))) row.content) [ true ↦ refl | false ↦ refl ]
@@ -205,58 +207,53 @@ module _ (M : Model) (sound : Sound M) (g k h v : ℕ) (p : Point) (goes : MevGo
 
   -- ---- walks
 
-  pub placed_h : StandsIn N h (loop_of M g) × ((q : ℕ) → StandsIn N h q → q ≡ loop_of M g)
-  placed_h = (
-    stands_N h (loop_of M g) (put_keeps h k m (first (loop_of M g)) (omega (arith, count_put_there h g h (content M (loop_of M g)) (cycle_there M sound g goes.g_there), tick_same h))),
-    λ q s. elim (came h q s) [
-      | inl a ↦ sym (sound.one_loop g q a.1)
-      | inr d ↦ elim d [ inl a ↦ absurd (mate_other h a.0) | inr a ↦ absurd (not_h h (sound.only_edges h q a) refl) ]
-    ],
-  )
+  abbrev r : ℕ
+  r = loop_of M g
 
-  pub placed_m : StandsIn N m (loop_of M k) × ((q : ℕ) → StandsIn N m q → q ≡ loop_of M k)
-  placed_m =
-      let l : ℕ = loop_of M k in
-      let i : IsIn k (items_of (first l)) = put_keeps k g h (content M l) (cycle_there M sound k goes.k_there) in (
-        stands_N m l (omega (arith, count_put_there m k m (first l) i, tick_same m)),
-        λ q s. elim (came m q s) [
-          | inl a ↦ absurd (mate_other h (sym a.0))
-          | inr d ↦ elim d [ inl a ↦ sym (sound.one_loop k q a.1) | inr a ↦ absurd (not_m m (sound.only_edges m q a) refl) ]
-        ],
-      )
+  abbrev s : ℕ
+  s = loop_of M k
 
-  pub placed_old : (x : ℕ) → HasHalf M x → StandsIn N x (loop_of M x) × ((q : ℕ) → StandsIn N x q → q ≡ loop_of M x)
-  placed_old x there = (
-    stands_N x (loop_of M x) (put_keeps x k m (first (loop_of M x)) (put_keeps x g h (content M (loop_of M x)) (cycle_there M sound x there))),
-    λ q s. elim (came x q s) [
-      | inl a ↦ absurd (not_h x there a.0)
-      | inr d ↦ elim d [ inl a ↦ absurd (not_m x there a.0) | inr a ↦ sym (sound.one_loop x q a) ]
-    ],
-  )
-
-  pub loop_h : loop_of N h ≡ loop_of M g
-  loop_h = loop_at N h (loop_of M g) placed_h.0 placed_h.1
-
-  pub loop_m : loop_of N m ≡ loop_of M k
-  loop_m = loop_at N m (loop_of M k) placed_m.0 placed_m.1
-
-  pub loop_old : (x : ℕ) → HasHalf M x → loop_of N x ≡ loop_of M x
-  loop_old x there = loop_at N x (loop_of M x) (placed_old x there).0 (placed_old x there).1
-
-  pub placed : (x : ℕ) → HasHalf N x → (q : ℕ) × StandsIn N x q × ((p : ℕ) → StandsIn N x p → p ≡ q)
-  placed x there = elim (half_cases x there) [
-    | inl o ↦ (loop_of M x, (placed_old x o).0, (placed_old x o).1)
-    | inr d ↦ elim d [
-      | inl e ↦ subst (λ y. (q : ℕ) × StandsIn N y q × ((p : ℕ) → StandsIn N y p → p ≡ q)) (sym e) (loop_of M g, placed_h.0, placed_h.1)
-      | inr e ↦ subst (λ y. (q : ℕ) × StandsIn N y q × ((p : ℕ) → StandsIn N y p → p ≡ q)) (sym e) (loop_of M k, placed_m.0, placed_m.1)
-    ]
+  at_h : (q : ℕ) → StandsIn N h q → r ≡ q
+  at_h q t = elim (came h q t) [
+    | inl a ↦ sound.one_loop g q a.1
+    | inr d ↦ elim d [ inl a ↦ absurd (mate_other h a.0) | inr a ↦ absurd (not_h h (sound.only_edges h q a) refl) ]
   ]
 
-  pub only : (x q : ℕ) → StandsIn N x q → HasHalf N x
-  only x q s = elim (came x q s) [
-    | inl a ↦ subst (HasHalf N) (sym a.0) half_h
-    | inr d ↦ elim d [ inl a ↦ subst (HasHalf N) (sym a.0) half_m | inr a ↦ half_old x (sound.only_edges x q a) ]
+  at_m : (q : ℕ) → StandsIn N m q → s ≡ q
+  at_m q t = elim (came m q t) [
+    | inl a ↦ absurd (mate_other h (sym a.0))
+    | inr d ↦ elim d [ inl a ↦ sound.one_loop k q a.1 | inr a ↦ absurd (not_m m (sound.only_edges m q a) refl) ]
   ]
+
+  at_old : (x q : ℕ) → x ≢ h → x ≢ m → StandsIn N x q → loop_of M x ≡ q
+  at_old x q a b t = elim (came x q t) [ inl e ↦ absurd (a e.0) | inr d ↦ elim d [ inl e ↦ absurd (b e.0) | inr o ↦ sound.one_loop x q o ] ]
+
+  stands_h : StandsIn N h r
+  stands_h = stands_N h r (put_keeps h k m (first r) (omega (arith, count_put_there h g h (content M r) (cycle_there M sound g goes.g_there), tick_same h)))
+
+  stands_m : StandsIn N m s
+  stands_m = stands_N m s (omega (arith, count_put_there m k m (first s) (put_keeps k g h (content M s) (cycle_there M sound k goes.k_there)), tick_same m))
+
+  not_in : (x q : ℕ) → q ≢ loop_of M x → count x (hs q) ≡ 0
+  not_in x q a = elim (IsIn_or_not x (hs q)) [ inl i ↦ absurd (a (sym (sound.one_loop x q (in-holds x (content M q) i)))) | inr n ↦ n ]
+
+  count_old : (x q : ℕ) → edge_of x ≢ edge_of h → count x (items_of (content N q)) ≡ count x (hs q)
+  count_old x q a = ap (λ c. count x (items_of c)) (content-N q) ∙ count_put_other x k m (first q) (not_mate x h a) ∙ count_put_other x g h (content M q) (edges_apart x h a)
+
+  rows : TwoRows M N (edge_of h) r s
+  rows = record {
+    other_content = λ q n. content-N q ∙ ap (put_before k m) (put_none g h (content M q) (not_in g q n.0)) ∙ put_none k m (content M q) (not_in k q n.1);
+    other_loop = λ q n. same.loop q;
+    other_edge = λ d a. ap is_some (edge_mapped d a) ∙ mapped_some _ (table.get M.edges d);
+    others = λ x a. omega (arith, count_old x r a, count_old x s a);
+    once = λ x t o. elim (eqb_tells x h) [
+      | inl a ↦ at_h s (subst (λ y. StandsIn N y s) a.1 o)
+      | inr a ↦ elim (eqb_tells x m) [ inl b ↦ sym (at_m r (subst (λ y. StandsIn N y r) b.1 t)) | inr b ↦ sym (at_old x r a.1 b.1 t) ∙ at_old x s a.1 b.1 o ]
+    ];
+    stood = λ x e t. absurd (edge_apart x t e);
+    stands = λ x e t. of_edge (λ y. 1 ≤ in_both N r s y) h x (stands_both N r s h r (inl refl) stands_h) (stands_both N r s m s (inr refl) stands_m) e;
+    there = λ x e i. of_edge (HasHalf N) h x half_h half_m e;
+  }
 
   pub first_no_m : (q : ℕ) → count m (items_of (first q)) ≡ 0
   first_no_m q = let z = none_free M sound m m_free q in elim (IsIn_or_not g (hs q)) [
@@ -345,11 +342,8 @@ module _ (M : Model) (sound : Sound M) (g k h v : ℕ) (p : Point) (goes : MevGo
     | inr d ↦ elim d [ inl q ↦ subst (Fan F N) (sym (ap (tail N) q ∙ tail-h)) fan_u | inr q ↦ subst (Fan F N) (sym (ap (tail N) q ∙ tail-m)) fan_v ]
   ]
 
-  pub mates : (x : ℕ) → HasHalf N x → HasHalf N (mate x)
-  mates x there = ap (λ q. is_some (table.get N.edges q)) (edge_of-mate x) ∙ there
-
   pub walks : Walks N F
-  walks = record { only = only; placed = placed; loops = loops; fans = fans; mates = mates }
+  walks = record { only = only sound rows; placed = placed sound rows; loops = loops; fans = fans; mates = λ x there. ap (λ q. is_some (table.get N.edges q)) (edge_of-mate x) ∙ there }
 
   -- ---- vertices
 
@@ -412,21 +406,9 @@ module _ (M : Model) (sound : Sound M) (g k h v : ℕ) (p : Point) (goes : MevGo
   }) ends_differ
 
   one_solid : (x : ℕ) → HasHalf N x → solid_at N (loop_of N x) ≡ solid_at N (loop_of N (mate x))
-  one_solid x there = elim (half_cases x there) [
-    | inl o ↦ old x o ∙ sound.one_solid x o ∙ sym (old (mate x) (mate_there M x o))
-    | inr d ↦ elim d [
-      | inl e ↦ ap (λ y. solid_at N (loop_of N y)) e ∙ at_h ∙ sym (ap (λ y. solid_at N (loop_of N (mate y))) e ∙ at_m)
-      | inr e ↦ ap (λ y. solid_at N (loop_of N y)) e ∙ at_m ∙ sym (ap (λ y. solid_at N (loop_of N y)) (ap mate e ∙ mate-mate h) ∙ at_h)
-    ]
-  ] where
-    old : (y : ℕ) → HasHalf M y → solid_at N (loop_of N y) ≡ solid_at M (loop_of M y)
-    old y o = ap (solid_at N) (loop_old y o) ∙ solid_at-same M N same (loop_of M y)
-
-    at_h : solid_at N (loop_of N h) ≡ solid_at M (loop_of M g)
-    at_h = ap (solid_at N) loop_h ∙ solid_at-same M N same (loop_of M g)
-
-    at_m : solid_at N (loop_of N m) ≡ solid_at M (loop_of M g)
-    at_m = ap (solid_at N) loop_m ∙ solid_at-same M N same (loop_of M k) ∙ one_solid_round M sound g k goes.g_there goes.k_there (sym goes.one_tail)
+  one_solid =
+      let both : (q : ℕ) → OneOf r s q → solid_at M q ≡ solid_at M r = λ q o. elim o [ inl e ↦ ap (solid_at M) e | inr e ↦ ap (solid_at M) e ∙ one_solid_round M sound g k goes.g_there goes.k_there (sym goes.one_tail) ] in
+      one_solid-rows sound rows (solid_at M r) (λ q o there. solid_at-same M N same q ∙ both q o) (λ q o there. both q o) (λ q n there. solid_at-same M N same q)
 
   ranges : RangesHold N
   unfolding mev_at

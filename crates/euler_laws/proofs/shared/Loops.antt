@@ -66,6 +66,9 @@ count_put_there x g h c i = ap (λ y. count x (items_of y)) (put_there g h c i) 
 pub count_put_none : (x g h : ℕ) (c : LoopContent) → count g (items_of c) ≡ 0 → count x (items_of (put_before g h c)) ≡ count x (items_of c)
 count_put_none x g h c n = ap (λ y. count x (items_of y)) (put_none g h c n)
 
+pub count_put_other : (x g h : ℕ) (c : LoopContent) → x ≢ h → count x (items_of (put_before g h c)) ≡ count x (items_of c)
+count_put_other x g h c a = elim (IsIn_or_not g (items_of c)) [ inl i ↦ omega (arith, count_put_there x g h c i, tick_other x h a) | inr n ↦ count_put_none x g h c n ]
+
 -- what stands in a loop after h is put before g
 pub put_keeps : (x g h : ℕ) (c : LoopContent) → IsIn x (items_of c) → IsIn x (items_of (put_before g h c))
 put_keeps x g h c i = elim (IsIn_or_not g (items_of c)) [ inl a ↦ omega (arith, i, count_put_there x g h c a) | inr a ↦ omega (arith, i, count_put_none x g h c a) ]

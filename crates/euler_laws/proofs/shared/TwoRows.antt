@@ -87,7 +87,8 @@ some_or_none (suc n) = inl (omega arith)
 
 -- but for edge e the loops r and s hold together what they held, each half-edge in one of them; what e has stands in the two
 pub record TwoRows (M N : Model) (e r s : ℕ) : Type 0 where
-  pub other_row : (q : ℕ) → q ≢ r → q ≢ s → table.get N.loops q ≡ table.get M.loops q
+  pub other_content : (q : ℕ) → Neither r s q → content N q ≡ content M q
+  pub other_loop : (q : ℕ) → Neither r s q → table.has N.loops q ≡ table.has M.loops q
   pub other_edge : (d : ℕ) → d ≢ e → table.has N.edges d ≡ table.has M.edges d
   pub others : (x : ℕ) → edge_of x ≢ e → in_both N r s x ≡ in_both M r s x
   pub once : (x : ℕ) → StandsIn N x r → StandsIn N x s → r ≡ s
@@ -96,17 +97,8 @@ pub record TwoRows (M N : Model) (e r s : ℕ) : Type 0 where
   pub there : (x : ℕ) → edge_of x ≡ e → 1 ≤ in_both N r s x → HasHalf N x
 
 module _ {M N : Model} {e r s : ℕ} (sound : Sound M) (rows : TwoRows M N e r s) where
-  pub content_other : (q : ℕ) → Neither r s q → content N q ≡ content M q
-  content_other q n = same_content M N q (rows.other_row q n.0 n.1)
-
-  pub face_other : (q : ℕ) → Neither r s q → face_of N q ≡ face_of M q
-  face_other q n = same_face M N q (rows.other_row q n.0 n.1)
-
-  pub has_other : (q : ℕ) → Neither r s q → table.has N.loops q ≡ table.has M.loops q
-  has_other q n = ap is_some (rows.other_row q n.0 n.1)
-
   stood_other : (x q : ℕ) → Neither r s q → StandsIn N x q → StandsIn M x q
-  stood_other x q n t = ap (holds x) (sym (content_other q n)) ∙ t
+  stood_other x q n t = ap (holds x) (sym (rows.other_content q n)) ∙ t
 
   half_on : (x : ℕ) → edge_of x ≢ e → HasHalf M x → HasHalf N x
   half_on x a t = rows.other_edge (edge_of x) a ∙ t
@@ -167,7 +159,7 @@ module _ {M N : Model} {e r s : ℕ} (sound : Sound M) (rows : TwoRows M N e r s
   ]
 
   stays : (x : ℕ) → HasHalf M x → Neither r s (loop_of M x) → StandsIn N x (loop_of M x)
-  stays x o n = ap (holds x) (content_other (loop_of M x) n) ∙ sound.stands x o
+  stays x o n = ap (holds x) (rows.other_content (loop_of M x) n) ∙ sound.stands x o
 
   stays_alone : (x : ℕ) → in_both N r s x ≡ 0 → (p : ℕ) → StandsIn N x p → p ≡ loop_of M x
   stays_alone x z p u = elim (which r s p) [
@@ -175,7 +167,7 @@ module _ {M N : Model} {e r s : ℕ} (sound : Sound M) (rows : TwoRows M N e r s
     | inr n ↦ sym (sound.one_loop x p (stood_other x p n u))
   ]
 
-  placed : (x : ℕ) → HasHalf N x → (q : ℕ) × StandsIn N x q × ((p : ℕ) → StandsIn N x p → p ≡ q)
+  pub placed : (x : ℕ) → HasHalf N x → (q : ℕ) × StandsIn N x q × ((p : ℕ) → StandsIn N x p → p ≡ q)
   placed x t = elim (place_cases x t) [
     | inl i ↦ let k = both_stand N r s x i in (k.0, k.2, one_of_two x k.0 k.1 k.2)
     | inr o ↦ (loop_of M x, stays x o.0 o.1, stays_alone x o.2)
@@ -207,7 +199,7 @@ module _ {M N : Model} {e r s : ℕ} (sound : Sound M) (rows : TwoRows M N e r s
     loops : (q : ℕ) → Has N.loops q → IsLoop next (content N q)
     loops q t = elim (which r s q) [
       | inl o ↦ two q o t
-      | inr n ↦ subst (IsLoop next) (sym (content_other q n)) (other_loop q (content M q) n refl (loop_sound M sound q (sym (has_other q n) ∙ t)))
+      | inr n ↦ subst (IsLoop next) (sym (rows.other_content q n)) (other_loop q (content M q) n refl (loop_sound M sound q (sym (rows.other_loop q n) ∙ t)))
     ]
 
     pub walks-rows : ((x : ℕ) → HasHalf N x → Fan next N (tail N x)) → Walks N next
@@ -245,12 +237,13 @@ pub record RowsChange (M N : Model) (h r s : ℕ) : Type 0 where
   pub once : (x : ℕ) → StandsIn N x r → StandsIn N x s → r ≡ s
 
 -- a fact of h and of its mate holds for each half of the edge
-of_edge : (P : ℕ → Type 0) (h x : ℕ) → P h → P (mate h) → edge_of x ≡ edge_of h → P x
+pub of_edge : (P : ℕ → Type 0) (h x : ℕ) → P h → P (mate h) → edge_of x ≡ edge_of h → P x
 of_edge P h x first second e = elim (same_edge x h e) [ inl a ↦ subst P (sym a) first | inr a ↦ subst P (sym a) second ]
 
 pub two_rows-more : {M N : Model} {h u w r s : ℕ} → OneMore M N h u w → RowsChange M N h r s → 1 ≤ in_both N r s h → 1 ≤ in_both N r s (mate h) → TwoRows M N (edge_of h) r s
 two_rows-more {M = M} {N = N} {h = h} {r = r} {s = s} edge rows first second = record {
-  other_row = rows.other_row;
+  other_content = λ q n. same_content M N q (rows.other_row q n.0 n.1);
+  other_loop = λ q n. ap is_some (rows.other_row q n.0 n.1);
   other_edge = λ d a. ap is_some (more.edge_other edge d a);
   others = rows.others;
   once = rows.once;
@@ -262,7 +255,8 @@ two_rows-more {M = M} {N = N} {h = h} {r = r} {s = s} edge rows first second = r
 pub two_rows-less : {M N : Model} {h r s : ℕ} → OneLess M N h → RowsChange M N h r s →
     1 ≤ in_both M r s h → 1 ≤ in_both M r s (mate h) → in_both N r s h ≡ 0 → in_both N r s (mate h) ≡ 0 → TwoRows M N (edge_of h) r s
 two_rows-less {M = M} {N = N} {h = h} {r = r} {s = s} edge rows first second gone mate_gone = record {
-  other_row = rows.other_row;
+  other_content = λ q n. same_content M N q (rows.other_row q n.0 n.1);
+  other_loop = λ q n. ap is_some (rows.other_row q n.0 n.1);
   other_edge = λ d a. ap is_some (less.edge_other edge d a);
   others = rows.others;
   once = rows.once;
