@@ -11,14 +11,14 @@ use Rattle.euler_operators.proofs.Tables.{put-remove, remove-put, no_row, row_el
 use Rattle.euler_operators.proofs.Models.{row_of, mate_there, solid_row, outer_row}
 use Rattle.euler_operators.proofs.Tests.{nat_eq_itself}
 use Rattle.euler_operators.specs.declared.Op.TheVariants.{Kfmrh, Mfkrh}
-use Rattle.euler_operators.specs.Conditions.{first_false, conditions}
+use Rattle.euler_operators.specs.Conditions.{AllHold, first_false, conditions}
 use Rattle.euler_operators.specs.Effect.{effect, inverse, kfmrh, mfkrh, loop_to_face}
 use Rattle.euler_laws.proofs.shared.Goes.{◌also◌, all_hold, none_refuses, not_false, taken}
 use Rattle.euler_laws.proofs.shared.Same.{solid_at}
 use Rattle.euler_laws.proofs.shared.Undo.{same_loops, same_model}
 use Rattle.euler_laws.proofs.shared.Parts.{FaceSet, face_here, has_face, solid_other, outer_other, fit-put, fit-remove}
 use Rattle.euler_laws.proofs.shared.Faces.{SameWalks, sound-same, content-moved, loop-moved, face-moved, face-kept}
-use Rattle.euler_laws.proofs.shared.Rows.{face_there, no_rings_means, means_no_rings, never_outer, ring_test, test_ring}
+use Rattle.euler_laws.proofs.shared.Rows.{face_there, no_rings_means, means_no_rings, never_outer, is_ring, test_ring}
 
 pub record KillGoes (M : Model) (f g : ℕ) : Type 0 where
   pub f_there : Has M.faces f
@@ -282,13 +282,15 @@ module _ (M : Model) (sound : Sound M) (l f : ℕ) (goes : MakeGoes M l f) where
 
 pub kfmrh_goes : (M : Model) (f g : ℕ) → first_false M (Kfmrh f g) ≡ None → KillGoes M f g
 unfolding first_false conditions
-kfmrh_goes M f g e = let w = all_hold (conditions M (Kfmrh f g)) e in let t = w.1.1 in record {
-  f_there = t.0;
-  g_there = t.1.0;
-  apart = eqb-false _ _ (not-true _ t.1.1.0);
-  one_solid = eqb-true _ _ t.1.1.1.0;
-  no_rings = no_rings_means M g (not-true _ t.1.1.1.1.0);
-}
+kfmrh_goes M f g e = named (all_hold (conditions M (Kfmrh f g)) e) where
+  named : AllHold (conditions M (Kfmrh f g)) → KillGoes M f g
+  named (_, (_, (f_known, (g_known, (faces_differ, (one_solid, (no_rings, _))))))) = record {
+    f_there = f_known;
+    g_there = g_known;
+    apart = eqb-false _ _ (not-true _ faces_differ);
+    one_solid = eqb-true _ _ one_solid;
+    no_rings = no_rings_means M g (not-true _ no_rings);
+  }
 
 pub kfmrh_accepted : (N : Model) (f g : ℕ) → Sound N → KillGoes N f g → first_false N (Kfmrh f g) ≡ None
 unfolding first_false conditions
@@ -305,12 +307,14 @@ kfmrh_accepted N f g sound goes = none_refuses (conditions N (Kfmrh f g)) (
 
 pub mfkrh_goes : (M : Model) (l f : ℕ) → first_false M (Mfkrh l f) ≡ None → MakeGoes M l f
 unfolding first_false conditions
-mfkrh_goes M l f e = let w = all_hold (conditions M (Mfkrh l f)) e in let t = w.1.1 in record {
-  l_there = t.0;
-  face_free = no_row _ (not-true _ t.1.0);
-  is_ring = eqb-false _ _ (ring_test (table.has M.loops l) (nat_eq (face_of M l) (face_of M l)) (nat_eq (outer M (face_of M l)) l) t.1.1.0);
-  face_fits = w.1.0;
-}
+mfkrh_goes M l f e = named (all_hold (conditions M (Mfkrh l f)) e) where
+  named : AllHold (conditions M (Mfkrh l f)) → MakeGoes M l f
+  named (_, (face_number, (l_known, (face_free, (l_ring, _))))) = record {
+    l_there = l_known;
+    face_free = no_row _ (not-true _ face_free);
+    is_ring = is_ring M l l_ring;
+    face_fits = face_number;
+  }
 
 pub mfkrh_accepted : (N : Model) (l f : ℕ) → Sound N → MakeGoes N l f → first_false N (Mfkrh l f) ≡ None
 unfolding first_false conditions

@@ -1,5 +1,5 @@
 -- RingIn, which takes a ring to another face of its solid: it keeps a sound model sound, and RingIn to the old face takes it back.
-use Rattle.std.proofs.Common.{◌≡◌, ◌≢◌, ℕ, cond, nat_eq, None, unwrap_or, refl, sym, ap, ◌∙◌, subst, inl, inr}
+use Rattle.std.proofs.Common.{◌≡◌, ◌≢◌, ℕ, cond, nat_eq, None, unwrap_or, refl, sym, ap, ◌∙◌, subst, inl, inr, List, [], ◌∷◌}
 use Rattle.std.proofs.lemmas.Bool.Decides.{eqb_tells}
 use Rattle.std.proofs.lemmas.Bool.{not-true, ne_eqb, eq-eqb, eqb-true, eqb-false}
 use Rattle.euler_operators.specs.HalfEdge.{mate}
@@ -8,14 +8,15 @@ use Rattle.euler_operators.specs.Table.{map_rows}
 use Rattle.euler_operators.specs.Model.{Model, no_face, loop_of, face_of, solid_of, outer}
 use Rattle.euler_operators.specs.Sound.{Sound, Has}
 use Rattle.euler_operators.specs.declared.Op.TheVariants.{RingIn}
-use Rattle.euler_operators.specs.Conditions.{first_false, conditions}
+use Rattle.euler_operators.specs.declared.Why.TheVariants.{SameFace}
+use Rattle.euler_operators.specs.Conditions.{Condition, never, AllHold, ring_and_face, first_false, conditions}
 use Rattle.euler_operators.specs.Effect.{effect, inverse, ring_in}
 use Rattle.euler_operators.proofs.Tests.{nat_eq_itself}
-use Rattle.euler_laws.proofs.shared.Goes.{◌also◌, all_hold, none_refuses, not_false}
+use Rattle.euler_laws.proofs.shared.Goes.{◌also◌, all_hold, all_hold-append, all_hold-front, all_hold-back, none_refuses, not_false}
 use Rattle.euler_laws.proofs.shared.Same.{solid_at}
 use Rattle.euler_laws.proofs.shared.Undo.{same_loops, same_model}
 use Rattle.euler_laws.proofs.shared.Faces.{SameWalks, sound-same, content-moved, loop-moved, face-moved, face-kept}
-use Rattle.euler_laws.proofs.shared.Rows.{never_outer, ring_test, test_ring}
+use Rattle.euler_laws.proofs.shared.Rows.{never_outer, is_ring, test_ring}
 
 -- loop l is a ring, and face f is of its solid
 pub record RingGoes (M : Model) (l f : ℕ) : Type 0 where
@@ -122,30 +123,38 @@ module _ (M : Model) (sound : Sound M) (l f : ℕ) (goes : RingGoes M l f) where
 
 -- ---- the operator
 
-pub ring_in_goes : (M : Model) (l f : ℕ) → first_false M (RingIn l f) ≡ None → RingGoes M l f × (face_of M l ≢ f)
-unfolding first_false conditions
-ring_in_goes M l f e = let w = all_hold (conditions M (RingIn l f)) e in let t = w.1.1 in (
-  record {
-    l_there = t.0;
-    f_there = t.1.0;
-    one_solid = eqb-true _ _ t.1.1.0;
-    is_ring = eqb-false _ _ (ring_test (table.has M.loops l) (nat_eq (face_of M l) (face_of M l)) (nat_eq (outer M (face_of M l)) l) t.1.1.1.0);
-  },
-  eqb-false _ _ (not-true _ t.1.1.1.1.0),
-)
+-- what the conditions of a ring and a face say, and back
+pub ring_goes : (M : Model) (l f : ℕ) → AllHold (ring_and_face M l f) → RingGoes M l f
+ring_goes M l f (_, (_, (l_known, (f_known, (one_solid, (l_ring, _)))))) = record {
+  l_there = l_known;
+  f_there = f_known;
+  one_solid = eqb-true _ _ one_solid;
+  is_ring = is_ring M l l_ring;
+}
 
-pub ring_in_accepted : (N : Model) (l f : ℕ) → Sound N → RingGoes N l f → face_of N l ≢ f → first_false N (RingIn l f) ≡ None
-unfolding first_false conditions
-ring_in_accepted N l f sound goes apart = none_refuses (conditions N (RingIn l f)) (
+pub ring_holds : (N : Model) (l f : ℕ) → Sound N → RingGoes N l f → AllHold (ring_and_face N l f)
+ring_holds N l f sound goes =
     sound.loops_fit l goes.l_there
     also sound.faces_fit f goes.f_there
     also goes.l_there
     also goes.f_there
     also eq-eqb _ _ goes.one_solid
     also test_ring (table.has N.loops l) (nat_eq (face_of N l) (face_of N l)) (nat_eq (outer N (face_of N l)) l) goes.l_there (nat_eq_itself (face_of N l)) (ne_eqb _ _ goes.is_ring)
-    also not_false _ (ne_eqb _ _ apart)
     also tt
-    )
+
+-- the ring isn't of that face already
+abbrev of_another : Model → ℕ → ℕ → List Condition
+of_another M l f = never (nat_eq (face_of M l) f) SameFace f ∷ []
+
+pub ring_in_goes : (M : Model) (l f : ℕ) → first_false M (RingIn l f) ≡ None → RingGoes M l f × (face_of M l ≢ f)
+unfolding first_false conditions
+ring_in_goes M l f e = let hold = all_hold (conditions M (RingIn l f)) e in
+    (ring_goes M l f (all_hold-front (ring_and_face M l f) (of_another M l f) hold), eqb-false _ _ (not-true _ (all_hold-back (ring_and_face M l f) (of_another M l f) hold).0))
+
+pub ring_in_accepted : (N : Model) (l f : ℕ) → Sound N → RingGoes N l f → face_of N l ≢ f → first_false N (RingIn l f) ≡ None
+unfolding first_false conditions
+ring_in_accepted N l f sound goes apart = none_refuses (conditions N (RingIn l f))
+    (all_hold-append (ring_and_face N l f) (of_another N l f) (ring_holds N l f sound goes) (not_false _ (ne_eqb _ _ apart) also tt))
 
 pub ring_in_keeps_sound : (M : Model) (l f : ℕ) → Sound M → first_false M (RingIn l f) ≡ None → Sound (effect M (RingIn l f))
 unfolding effect

@@ -2,7 +2,6 @@
 use Rattle.std.proofs.Common.{◌≡◌, ◌≢◌, ℕ, Bool, true, false, cond, nat_eq, Option, Some, None, unwrap_or, is_some, refl, sym, ap, ◌∙◌, subst, arith, ◌⊎◌, inl, inr, true≢false}
 use Rattle.std.specs.Option.{option_map}
 use Rattle.std.proofs.lemmas.Bool.Decides.{nat_tests, eqb_tells}
-use Rattle.std.proofs.lemmas.Bool.{ne_eqb, eq-eqb, eqb-true, eqb-false}
 use Rattle.euler_operators.specs.HalfEdge.{mate}
 use Rattle.euler_operators.specs.Table as table
 use Rattle.euler_operators.specs.Table.{map_rows, get-map_rows, same_table}
@@ -11,13 +10,12 @@ use Rattle.euler_operators.specs.Sound.{Sound, Has}
 use Rattle.euler_operators.specs.declared.Op.TheVariants.{RingOut, Outer}
 use Rattle.euler_operators.specs.Conditions.{first_false, conditions}
 use Rattle.euler_operators.specs.Effect.{effect, inverse, ring_out, take_outer, loop_to_face, face_to_outer}
-use Rattle.euler_operators.proofs.Tests.{nat_eq_itself}
-use Rattle.euler_laws.proofs.shared.Goes.{◌also◌, all_hold, none_refuses}
+use Rattle.euler_laws.proofs.shared.Goes.{all_hold, none_refuses}
 use Rattle.euler_laws.proofs.shared.Same.{solid_at}
 use Rattle.euler_laws.proofs.shared.Undo.{same_loops}
 use Rattle.euler_laws.proofs.shared.Faces.{SameWalks, sound-same, content-moved, loop-moved, face-moved, face-kept}
-use Rattle.euler_laws.proofs.faces.RingIn.{RingGoes}
-use Rattle.euler_laws.proofs.shared.Rows.{never_outer, ring_test, test_ring}
+use Rattle.euler_laws.proofs.faces.RingIn.{ring_goes, ring_holds, RingGoes}
+use Rattle.euler_laws.proofs.shared.Rows.{never_outer}
 
 face_alike : (a b : Option FaceRow) → is_some a ≡ is_some b → (is_some b ≡ true → (unwrap_or a no_face).solid ≡ (unwrap_or b no_face).solid) → (is_some b ≡ true → (unwrap_or a no_face).outer ≡ (unwrap_or b no_face).outer) → a ≡ b
 face_alike None None s f c = refl
@@ -251,45 +249,19 @@ module _ (M : Model) (sound : Sound M) (l f : ℕ) (goes : RingGoes M l f) where
 
 pub ring_out_goes : (M : Model) (l f : ℕ) → first_false M (RingOut l f) ≡ None → RingGoes M l f
 unfolding first_false conditions
-ring_out_goes M l f e = let w = all_hold (conditions M (RingOut l f)) e in let t = w.1.1 in record {
-  l_there = t.0;
-  f_there = t.1.0;
-  one_solid = eqb-true _ _ t.1.1.0;
-  is_ring = eqb-false _ _ (ring_test (table.has M.loops l) (nat_eq (face_of M l) (face_of M l)) (nat_eq (outer M (face_of M l)) l) t.1.1.1.0);
-}
+ring_out_goes M l f e = ring_goes M l f (all_hold (conditions M (RingOut l f)) e)
 
 pub outer_goes_so : (M : Model) (l f : ℕ) → first_false M (Outer l f) ≡ None → RingGoes M l f
 unfolding first_false conditions
-outer_goes_so M l f e = let w = all_hold (conditions M (Outer l f)) e in let t = w.1.1 in record {
-  l_there = t.0;
-  f_there = t.1.0;
-  one_solid = eqb-true _ _ t.1.1.0;
-  is_ring = eqb-false _ _ (ring_test (table.has M.loops l) (nat_eq (face_of M l) (face_of M l)) (nat_eq (outer M (face_of M l)) l) t.1.1.1.0);
-}
+outer_goes_so M l f e = ring_goes M l f (all_hold (conditions M (Outer l f)) e)
 
 pub ring_out_accepted : (N : Model) (l f : ℕ) → Sound N → RingGoes N l f → first_false N (RingOut l f) ≡ None
 unfolding first_false conditions
-ring_out_accepted N l f sound goes = none_refuses (conditions N (RingOut l f)) (
-    sound.loops_fit l goes.l_there
-    also sound.faces_fit f goes.f_there
-    also goes.l_there
-    also goes.f_there
-    also eq-eqb _ _ goes.one_solid
-    also test_ring (table.has N.loops l) (nat_eq (face_of N l) (face_of N l)) (nat_eq (outer N (face_of N l)) l) goes.l_there (nat_eq_itself (face_of N l)) (ne_eqb _ _ goes.is_ring)
-    also tt
-    )
+ring_out_accepted N l f sound goes = none_refuses (conditions N (RingOut l f)) (ring_holds N l f sound goes)
 
 pub outer_accepted : (N : Model) (l f : ℕ) → Sound N → RingGoes N l f → first_false N (Outer l f) ≡ None
 unfolding first_false conditions
-outer_accepted N l f sound goes = none_refuses (conditions N (Outer l f)) (
-    sound.loops_fit l goes.l_there
-    also sound.faces_fit f goes.f_there
-    also goes.l_there
-    also goes.f_there
-    also eq-eqb _ _ goes.one_solid
-    also test_ring (table.has N.loops l) (nat_eq (face_of N l) (face_of N l)) (nat_eq (outer N (face_of N l)) l) goes.l_there (nat_eq_itself (face_of N l)) (ne_eqb _ _ goes.is_ring)
-    also tt
-    )
+outer_accepted N l f sound goes = none_refuses (conditions N (Outer l f)) (ring_holds N l f sound goes)
 
 pub ring_out_keeps_sound : (M : Model) (l f : ℕ) → Sound M → first_false M (RingOut l f) ≡ None → Sound (effect M (RingOut l f))
 unfolding effect

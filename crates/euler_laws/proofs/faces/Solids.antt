@@ -10,7 +10,7 @@ use Rattle.euler_operators.specs.Sound.{Sound, Has}
 use Rattle.euler_operators.proofs.Tables.{put-remove, remove-put, no_row, row_some}
 use Rattle.euler_operators.proofs.Tests.{and_first, and_second}
 use Rattle.euler_operators.specs.declared.Op.TheVariants.{Mvfs, Kvfs}
-use Rattle.euler_operators.specs.Conditions.{first_false, conditions, bare_face, has_rings, is_empty, is_lone, lone_vertex, lists}
+use Rattle.euler_operators.specs.Conditions.{AllHold, first_false, conditions, bare_face, has_rings, is_empty, is_lone, lone_vertex, lists}
 use Rattle.euler_operators.specs.Effect.{effect, inverse, mvfs, kvfs_at, head_or_zero}
 use Rattle.euler_laws.proofs.shared.Goes.{◌also◌, all_hold, none_refuses, not_false, taken}
 use Rattle.euler_laws.proofs.shared.Rows.{face_there, point_row, lone_is, no_rings_means, means_no_rings, solid_row, loop_row}
@@ -176,17 +176,19 @@ kvfs_accepted N s f sound goes = none_refuses (conditions N (Kvfs s)) (
 
 pub mvfs_goes : (M : Model) (s f l v : ℕ) (p : Point) → first_false M (Mvfs s f l v p) ≡ None → MvfsGoes M s f l v p
 unfolding first_false conditions
-mvfs_goes M s f l v p e = let w = all_hold (conditions M (Mvfs s f l v p)) e in let t = w.1.1.1.1 in record {
-  solid_free = no_row _ (not-true _ t.0);
-  face_free = no_row _ (not-true _ t.1.0);
-  loop_free = no_row _ (not-true _ t.1.1.0);
-  vertex_free = no_row _ (not-true _ t.1.1.1.0);
-  solid_fits = w.0;
-  face_fits = w.1.0;
-  loop_fits = w.1.1.0;
-  vertex_fits = w.1.1.1.0;
-  point_fits = t.1.1.1.1.0;
-}
+mvfs_goes M s f l v p e = named (all_hold (conditions M (Mvfs s f l v p)) e) where
+  named : AllHold (conditions M (Mvfs s f l v p)) → MvfsGoes M s f l v p
+  named (solid_number, (face_number, (loop_number, (vertex_number, (solid_free, (face_free, (loop_free, (vertex_free, (in_range, _))))))))) = record {
+    solid_free = no_row _ (not-true _ solid_free);
+    face_free = no_row _ (not-true _ face_free);
+    loop_free = no_row _ (not-true _ loop_free);
+    vertex_free = no_row _ (not-true _ vertex_free);
+    solid_fits = solid_number;
+    face_fits = face_number;
+    loop_fits = loop_number;
+    vertex_fits = vertex_number;
+    point_fits = in_range;
+  }
 
 -- mvfs keeps a sound model sound
 pub mvfs_keeps_sound : (M : Model) (s f l v : ℕ) (p : Point) → Sound M → first_false M (Mvfs s f l v p) ≡ None → Sound (effect M (Mvfs s f l v p))

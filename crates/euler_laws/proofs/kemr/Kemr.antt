@@ -17,7 +17,7 @@ use Rattle.euler_operators.proofs.Halves.{edge_of-code, code-half, mate-mate, ma
 use Rattle.euler_operators.proofs.Tables.{put-remove, two_undone, no_row}
 use Rattle.euler_operators.proofs.Models.{row_of}
 use Rattle.euler_operators.specs.declared.Op.TheVariants.{Kemr, Mekr}
-use Rattle.euler_operators.specs.Conditions.{first_false, conditions, corner_tail, corner_loop, corner_list, corner_known, corner_lone, corner_number, lone_vertex, is_lone}
+use Rattle.euler_operators.specs.Conditions.{AllHold, first_false, conditions, corner_tail, corner_loop, corner_list, corner_known, corner_lone, corner_number, lone_vertex, is_lone}
 use Rattle.euler_operators.specs.Effect.{effect, inverse, kemr, mekr, corner_of, cycle_or_lone, edge_row}
 use Rattle.euler_laws.proofs.shared.Goes.{◌also◌, all_hold, none_refuses, not_false, taken}
 use Rattle.euler_laws.proofs.shared.Parts.{outer_stays}
@@ -94,14 +94,14 @@ mekr_accepted N c d h q l u w ys xs goes = none_refuses (conditions N (Mekr c d 
 
 pub kemr_goes : (M : Model) (h : HalfEdge) (l : ℕ) → first_false M (Kemr h l) ≡ None → KemrGoes M (code h) l
 unfolding first_false conditions
-kemr_goes M h l e =
-    let w = all_hold (conditions M (Kemr h l)) e in
-    record {
-      h_there = half_of M h w.1.1.0;
-      loop_free = no_row _ (not-true _ w.1.1.1.0);
-      one_loop = eqb-true _ _ w.1.1.1.1.0;
-      loop_fits = w.1.0;
-    }
+kemr_goes M h l e = named (all_hold (conditions M (Kemr h l)) e) where
+  named : AllHold (conditions M (Kemr h l)) → KemrGoes M (code h) l
+  named (_, (loop_number, (known, (loop_free, (one_loop, _))))) = record {
+    h_there = half_of M h known;
+    loop_free = no_row _ (not-true _ loop_free);
+    one_loop = eqb-true _ _ one_loop;
+    loop_fits = loop_number;
+  }
 
 module _ (M : Model) (sound : Sound M) (h l : ℕ) (goes : KemrGoes M h l) where
   abbrev pub N : Model

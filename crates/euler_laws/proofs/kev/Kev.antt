@@ -11,7 +11,7 @@ use Rattle.euler_operators.specs.Model.{Model, tail, loop_of, content, after, po
 use Rattle.euler_operators.specs.Sound.{Sound}
 use Rattle.euler_operators.proofs.Halves.{edge_of-code, code-half}
 use Rattle.euler_operators.specs.declared.Op.TheVariants.{Mev, Kev}
-use Rattle.euler_operators.specs.Conditions.{first_false, conditions, lone_vertex}
+use Rattle.euler_operators.specs.Conditions.{AllHold, first_false, conditions, lone_vertex}
 use Rattle.euler_operators.specs.Effect.{effect, inverse, mev_at, mev_lone, kev, kev_corner, kev_corner_mate}
 use Rattle.euler_laws.proofs.shared.Goes.{◌also◌, all_hold, none_refuses, not_false}
 use Rattle.euler_laws.proofs.shared.Undo.{parallel_none, none_parallel}
@@ -34,15 +34,16 @@ use Rattle.euler_laws.proofs.shared.Rows.{half_of, of_half}
 
 pub kev_goes : (M : Model) (h : HalfEdge) → Sound M → first_false M (Kev h) ≡ None → KevGoes M (code h)
 unfolding first_false conditions
-kev_goes M h sound e =
-    let w = all_hold (conditions M (Kev h)) e in
-    record {
-      h_there = half_of M h w.1.0;
-      no_parallel = none_parallel M (code h) sound.edges_fit (eqb-true _ _ w.1.1.0);
-      not_bare = λ b. not_end (after M (mate (code h))) (code h) (after M (code h)) (mate (code h)) (not-true _ w.1.1.1.0) b;
-    } where
-      not_end : (a h b m : ℕ) → (nat_eq a h && not (nat_eq b m)) ≡ false → a ≡ h → b ≡ m
-      not_end a h b m f e = grind (arith, nat_tests)
+kev_goes M h sound e = named (all_hold (conditions M (Kev h)) e) where
+  not_end : (a h b m : ℕ) → (nat_eq a h && not (nat_eq b m)) ≡ false → a ≡ h → b ≡ m
+  not_end a h b m f e = grind (arith, nat_tests)
+
+  named : AllHold (conditions M (Kev h)) → KevGoes M (code h)
+  named (_, (known, (no_parallel, (end_open, _)))) = record {
+    h_there = half_of M h known;
+    no_parallel = none_parallel M (code h) sound.edges_fit (eqb-true _ _ no_parallel);
+    not_bare = not_end (after M (mate (code h))) (code h) (after M (code h)) (mate (code h)) (not-true _ end_open);
+  }
 
 pub kev_accepted : (N : Model) (h : HalfEdge) → Sound N → KevGoes N (code h) → first_false N (Kev h) ≡ None
 unfolding first_false conditions

@@ -14,7 +14,7 @@ use Rattle.euler_operators.proofs.Halves.{edge_of-code, code-half, mate-mate}
 use Rattle.euler_operators.proofs.Tables.{put-remove, remove-put, two_undone}
 use Rattle.euler_operators.proofs.Models.{row_of, cycle_there, cycle_sound, mate_there}
 use Rattle.euler_operators.specs.declared.Op.TheVariants.{Mef, Kef}
-use Rattle.euler_operators.specs.Conditions.{first_false, conditions, face_at}
+use Rattle.euler_operators.specs.Conditions.{AllHold, first_false, conditions, face_at}
 use Rattle.euler_operators.specs.Effect.{effect, inverse, mef, kef, edge_row}
 use Rattle.euler_laws.proofs.shared.Goes.{◌also◌, all_hold, none_refuses, not_false, taken}
 use Rattle.euler_laws.proofs.shared.Fans.{half_after, loop_after}
@@ -151,13 +151,13 @@ module _ (M : Model) (sound : Sound M) (h : ℕ) (goes : KefGoes M h) where
 
 pub kef_goes : (M : Model) (h : HalfEdge) → first_false M (Kef h) ≡ None → KefGoes M (code h)
 unfolding first_false conditions
-kef_goes M h e =
-    let w = all_hold (conditions M (Kef h)) e in
-    record {
-      h_there = half_of M h w.1.0;
-      faces_apart = eqb-false _ _ (not-true _ w.1.1.0);
-      no_rings = no_rings_means M (face_at M (mate (code h))) (not-true _ w.1.1.1.0);
-    }
+kef_goes M h e = named (all_hold (conditions M (Kef h)) e) where
+  named : AllHold (conditions M (Kef h)) → KefGoes M (code h)
+  named (_, (known, (faces_apart, (no_rings, _)))) = record {
+    h_there = half_of M h known;
+    faces_apart = eqb-false _ _ (not-true _ faces_apart);
+    no_rings = no_rings_means M (face_at M (mate (code h))) (not-true _ no_rings);
+  }
 
 pub kef_accepted : (N : Model) (h : HalfEdge) → Sound N → KefGoes N (code h) → first_false N (Kef h) ≡ None
 unfolding first_false conditions

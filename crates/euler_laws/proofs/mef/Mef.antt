@@ -1,5 +1,5 @@
 -- mef as an operator: what its conditions say, and that it keeps a model sound.
-use Rattle.std.proofs.Common.{◌≡◌, ℕ, None, is_some, sym, ap, ◌∙◌}
+use Rattle.std.proofs.Common.{◌≡◌, ℕ, None, sym, ap, ◌∙◌}
 use Rattle.std.proofs.lemmas.Bool.{not-true, eqb-true, eqb-false}
 use Rattle.euler_operators.specs.declared.HalfEdge.{HalfEdge}
 use Rattle.euler_operators.specs.HalfEdge.{code}
@@ -9,28 +9,28 @@ use Rattle.euler_operators.specs.Sound.{Sound}
 use Rattle.euler_operators.proofs.Halves.{edge_of-code}
 use Rattle.euler_operators.proofs.Tables.{no_row}
 use Rattle.euler_operators.specs.declared.Op.TheVariants.{Mef}
-use Rattle.euler_operators.specs.Conditions.{first_false, conditions}
+use Rattle.euler_operators.specs.Conditions.{AllHold, first_false, conditions}
 use Rattle.euler_operators.specs.Effect.{effect}
 use Rattle.euler_laws.proofs.shared.Goes.{all_hold}
+use Rattle.euler_laws.proofs.shared.Rows.{half_of}
 use Rattle.euler_laws.proofs.mef.MefSound.{MefGoes, sound-mef}
 
 pub mef_goes : (M : Model) (g k h : HalfEdge) (f l : ℕ) → first_false M (Mef g k h f l) ≡ None → MefGoes M (code g) (code k) (code h) f l
 unfolding first_false conditions
-mef_goes M g k h f l e =
-    let w = all_hold (conditions M (Mef g k h f l)) e in
-    let t = w.1.1.1.1.1 in
-    record {
-      g_there = ap (λ x. is_some (table.get M.edges x)) (edge_of-code g) ∙ t.0;
-      k_there = ap (λ x. is_some (table.get M.edges x)) (edge_of-code k) ∙ t.1.0;
-      edge_free = ap (table.get M.edges) (edge_of-code h) ∙ no_row _ (not-true _ t.1.1.0);
-      face_free = no_row _ (not-true _ t.1.1.1.0);
-      loop_free = no_row _ (not-true _ t.1.1.1.1.0);
-      one_loop = sym (eqb-true _ _ t.1.1.1.1.1.0);
-      ends_apart = eqb-false _ _ (not-true _ t.1.1.1.1.1.1.0);
-      edge_fits = ap is_number (edge_of-code h) ∙ w.1.1.0;
-      face_fits = w.1.1.1.0;
-      loop_fits = w.1.1.1.1.0;
-    }
+mef_goes M g k h f l e = named (all_hold (conditions M (Mef g k h f l)) e) where
+  named : AllHold (conditions M (Mef g k h f l)) → MefGoes M (code g) (code k) (code h) f l
+  named (_, (_, (edge_number, (face_number, (loop_number, (g_known, (k_known, (edge_free, (face_free, (loop_free, (one_loop, (tails_differ, _)))))))))))) = record {
+    g_there = half_of M g g_known;
+    k_there = half_of M k k_known;
+    edge_free = ap (table.get M.edges) (edge_of-code h) ∙ no_row _ (not-true _ edge_free);
+    face_free = no_row _ (not-true _ face_free);
+    loop_free = no_row _ (not-true _ loop_free);
+    one_loop = sym (eqb-true _ _ one_loop);
+    ends_apart = eqb-false _ _ (not-true _ tails_differ);
+    edge_fits = ap is_number (edge_of-code h) ∙ edge_number;
+    face_fits = face_number;
+    loop_fits = loop_number;
+  }
 
 -- mef keeps a sound model sound
 pub mef_keeps_sound : (M : Model) (g k h : HalfEdge) (f l : ℕ) → Sound M → first_false M (Mef g k h f l) ≡ None → Sound (effect M (Mef g k h f l))

@@ -1,6 +1,5 @@
 -- The corners that mekr joins: a loop, its vertex, and the half-edges of the loop from the corner on, none where it is lone.
-use Rattle.std.proofs.Common.{◌≡◌, ◌≢◌, ℕ, Bool, true, not, nat_eq, ◌&&◌, List, [], ◌∷◌, None, is_some, IsTrue, refl, sym, ap, ◌∙◌, subst, arith, ◌⊎◌, inl, inr}
-use Rattle.std.proofs.lemmas.Bool.Decides.{nat_tests}
+use Rattle.std.proofs.Common.{◌≡◌, ◌≢◌, ℕ, true, List, [], ◌∷◌, None, is_some, IsTrue, refl, sym, ap, ◌∙◌, subst, arith, ◌⊎◌, inl, inr}
 use Rattle.std.proofs.lemmas.Bool.{not-true, eqb-true, eqb-false}
 use Rattle.euler_operators.specs.Items.{count, IsIn, IsApart, head_or}
 use Rattle.euler_operators.specs.Rings.{canonical, rotate_to, rest, IsRing}
@@ -19,10 +18,10 @@ use Rattle.euler_operators.proofs.Models.{in-holds, holds_in, row_of, content_cy
 use Rattle.euler_operators.proofs.Tables.{no_row}
 use Rattle.euler_operators.proofs.Members.{same_head}
 use Rattle.euler_operators.specs.declared.Op.TheVariants.{Mekr}
-use Rattle.euler_operators.specs.Conditions.{first_false, conditions, corner_tail, corner_loop, corner_list, corner_known, corner_lone}
+use Rattle.euler_operators.specs.Conditions.{AllHold, first_false, conditions, corner_tail, corner_loop, corner_list, corner_known, corner_lone}
 use Rattle.euler_operators.specs.Effect.{cycle_or_lone}
 use Rattle.euler_laws.proofs.shared.Loops.{light}
-use Rattle.euler_laws.proofs.shared.Rows.{items_or_lone, count_or_lone, lone_is}
+use Rattle.euler_laws.proofs.shared.Rows.{is_ring, items_or_lone, count_or_lone, lone_is}
 use Rattle.euler_laws.proofs.shared.Goes.{all_hold}
 
 -- loop q reads zs from a corner at vertex v on, or is lone there
@@ -71,25 +70,21 @@ pub record JoinGoes (M : Model) (h q l u w : ℕ) (Y X : List ℕ) : Type 0 wher
   pub no_outer : outer M (face_of M l) ≢ l
   pub ends_apart : u ≢ w
 
-pub ring_is : (b : Bool) (f o k : ℕ) → (b && nat_eq f f && not (nat_eq o k)) ≡ true → o ≢ k
-ring_is b f o k e p = grind (arith, nat_tests)
-
 pub join_goes : (M : Model) (c d : Corner) (h : HalfEdge) → Sound M → first_false M (Mekr c d h) ≡ None →
     JoinGoes M (code h) (corner_loop M c) (corner_loop M d) (corner_tail M c) (corner_tail M d) (corner_list M c) (corner_list M d)
 unfolding first_false conditions
-join_goes M c d h sound e =
-    let w = all_hold (conditions M (Mekr c d h)) e in
-    let t = w.1.1.1 in
-    record {
-      first = spot_of M sound c t.0 t.1.1.0;
-      second = spot_of M sound d t.1.0 t.1.1.1.0;
-      edge_free = ap (table.get M.edges) (edge_of-code h) ∙ no_row _ (not-true _ t.1.1.1.1.0);
-      edge_fits = ap is_number (edge_of-code h) ∙ w.1.1.0;
-      loops_apart = eqb-false _ _ (not-true _ t.1.1.1.1.1.0);
-      one_face = eqb-true _ _ t.1.1.1.1.1.1.0;
-      no_outer = ring_is (table.has M.loops (corner_loop M d)) (face_of M (corner_loop M d)) (outer M (face_of M (corner_loop M d))) (corner_loop M d) t.1.1.1.1.1.1.1.0;
-      ends_apart = eqb-false _ _ (not-true _ t.1.1.1.1.1.1.1.1.0);
-    }
+join_goes M c d h sound e = named (all_hold (conditions M (Mekr c d h)) e) where
+  named : AllHold (conditions M (Mekr c d h)) → JoinGoes M (code h) (corner_loop M c) (corner_loop M d) (corner_tail M c) (corner_tail M d) (corner_list M c) (corner_list M d)
+  named (_, (_, (edge_number, (c_known, (d_known, (c_lone, (d_lone, (edge_free, (loops_differ, (one_face, (d_ring, (tails_differ, _)))))))))))) = record {
+    first = spot_of M sound c c_known c_lone;
+    second = spot_of M sound d d_known d_lone;
+    edge_free = ap (table.get M.edges) (edge_of-code h) ∙ no_row _ (not-true _ edge_free);
+    edge_fits = ap is_number (edge_of-code h) ∙ edge_number;
+    loops_apart = eqb-false _ _ (not-true _ loops_differ);
+    one_face = eqb-true _ _ one_face;
+    no_outer = is_ring M (corner_loop M d) d_ring;
+    ends_apart = eqb-false _ _ (not-true _ tails_differ);
+  }
 
 first_of : (k : ℕ) (zs : List ℕ) → ((zs ≡ []) × (head_or k zs ≡ k)) ⊎ ((ys : List ℕ) × (zs ≡ head_or k zs ∷ ys))
 first_of k [] = inl (refl, refl)

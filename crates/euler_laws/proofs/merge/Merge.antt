@@ -10,7 +10,7 @@ use Rattle.euler_operators.specs.Model.{Model, FaceRow, no_face, no_loop, loop_o
 use Rattle.euler_operators.specs.Sound.{Sound, Has, HasHalf, NumbersFit}
 use Rattle.euler_operators.proofs.Models.{row_of, mate_there}
 use Rattle.euler_operators.specs.declared.Op.TheVariants.{Merge}
-use Rattle.euler_operators.specs.Conditions.{first_false, conditions}
+use Rattle.euler_operators.specs.Conditions.{AllHold, first_false, conditions}
 use Rattle.euler_operators.specs.Effect.{effect, merge, faces_to_solid}
 use Rattle.euler_laws.proofs.shared.Goes.{◌also◌, all_hold, none_refuses, not_false}
 use Rattle.euler_laws.proofs.shared.Rows.{face_there}
@@ -153,7 +153,9 @@ module _ (M : Model) (sound : Sound M) (s t : ℕ) (goes : MergeGoes M s t) wher
 
 pub merge_goes : (M : Model) (s t : ℕ) → first_false M (Merge s t) ≡ None → MergeGoes M s t
 unfolding first_false conditions
-merge_goes M s t e = let w = all_hold (conditions M (Merge s t)) e in let x = w.1.1 in record { s_there = x.0; t_there = x.1.0; apart = eqb-false _ _ (not-true _ x.1.1.0) }
+merge_goes M s t e = named (all_hold (conditions M (Merge s t)) e) where
+  named : AllHold (conditions M (Merge s t)) → MergeGoes M s t
+  named (_, (_, (s_known, (t_known, (solids_differ, _))))) = record { s_there = s_known; t_there = t_known; apart = eqb-false _ _ (not-true _ solids_differ) }
 
 pub merge_accepted : (N : Model) (s t : ℕ) → Sound N → MergeGoes N s t → first_false N (Merge s t) ≡ None
 unfolding first_false conditions

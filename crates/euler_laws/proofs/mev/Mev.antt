@@ -12,7 +12,7 @@ use Rattle.euler_operators.specs.Sound.{Sound, HasHalf}
 use Rattle.euler_operators.proofs.Halves.{edge_of-code}
 use Rattle.euler_operators.proofs.Tables.{no_row}
 use Rattle.euler_operators.specs.declared.Op.TheVariants.{Mev}
-use Rattle.euler_operators.specs.Conditions.{first_false, conditions, lone_vertex, is_lone}
+use Rattle.euler_operators.specs.Conditions.{AllHold, first_false, conditions, lone_vertex, is_lone}
 use Rattle.euler_operators.specs.Effect.{effect}
 use Rattle.euler_laws.proofs.shared.Goes.{◌also◌, all_hold, none_refuses, not_false, taken}
 use Rattle.euler_laws.proofs.mev.MevSound.{MevGoes, sound-mev}
@@ -21,19 +21,18 @@ use Rattle.euler_laws.proofs.shared.Rows.{half_of, of_half, lone_is, is_lone_of}
 
 pub mev_goes : (M : Model) (g k h : HalfEdge) (v : ℕ) (p : Point) → first_false M (Mev (At g) (At k) h v p) ≡ None → MevGoes M (code g) (code k) (code h) v p
 unfolding first_false conditions
-mev_goes M g k h v p e =
-    let w = all_hold (conditions M (Mev (At g) (At k) h v p)) e in
-    let t = w.1.1.1.1 in
-    record {
-      g_there = half_of M g t.0;
-      k_there = half_of M k t.1.0;
-      edge_free = ap (table.get M.edges) (edge_of-code h) ∙ no_row _ (not-true _ t.1.1.1.1.0);
-      vertex_free = no_row _ (not-true _ t.1.1.1.1.1.0);
-      one_tail = sym (eqb-true _ _ t.1.1.1.1.1.1.1.0);
-      edge_fits = ap is_number (edge_of-code h) ∙ w.1.1.0;
-      vertex_fits = w.1.1.1.0;
-      point_fits = t.1.1.1.1.1.1.0;
-    }
+mev_goes M g k h v p e = named (all_hold (conditions M (Mev (At g) (At k) h v p)) e) where
+  named : AllHold (conditions M (Mev (At g) (At k) h v p)) → MevGoes M (code g) (code k) (code h) v p
+  named (_, (_, (edge_number, (vertex_number, (g_known, (k_known, (_, (_, (edge_free, (vertex_free, (in_range, (one_tail, _)))))))))))) = record {
+    g_there = half_of M g g_known;
+    k_there = half_of M k k_known;
+    edge_free = ap (table.get M.edges) (edge_of-code h) ∙ no_row _ (not-true _ edge_free);
+    vertex_free = no_row _ (not-true _ vertex_free);
+    one_tail = sym (eqb-true _ _ one_tail);
+    edge_fits = ap is_number (edge_of-code h) ∙ edge_number;
+    vertex_fits = vertex_number;
+    point_fits = in_range;
+  }
 
 pub mev_accepted : (N : Model) (g k h : HalfEdge) (v : ℕ) (p : Point) → Sound N → MevGoes N (code g) (code k) (code h) v p → first_false N (Mev (At g) (At k) h v p) ≡ None
 unfolding first_false conditions
@@ -57,18 +56,17 @@ mev_accepted N g k h v p sound goes = none_refuses (conditions N (Mev (At g) (At
 
 pub lone_goes : (M : Model) (l d : ℕ) (h : HalfEdge) (v : ℕ) (p : Point) → first_false M (Mev (Lone l) (Lone d) h v p) ≡ None → LoneGoes M l (code h) v (lone_vertex (content M l)) p
 unfolding first_false conditions
-lone_goes M l d h v p e =
-    let w = all_hold (conditions M (Mev (Lone l) (Lone d) h v p)) e in
-    let t = w.1.1.1.1 in
-    record {
-      is_lone = lone_is (content M l) t.1.1.0;
-      loop_there = t.0;
-      edge_free = ap (table.get M.edges) (edge_of-code h) ∙ no_row _ (not-true _ t.1.1.1.1.0);
-      vertex_free = no_row _ (not-true _ t.1.1.1.1.1.0);
-      edge_fits = ap is_number (edge_of-code h) ∙ w.1.1.0;
-      vertex_fits = w.1.1.1.0;
-      point_fits = t.1.1.1.1.1.1.0;
-    }
+lone_goes M l d h v p e = named (all_hold (conditions M (Mev (Lone l) (Lone d) h v p)) e) where
+  named : AllHold (conditions M (Mev (Lone l) (Lone d) h v p)) → LoneGoes M l (code h) v (lone_vertex (content M l)) p
+  named (_, (_, (edge_number, (vertex_number, (l_known, (_, (l_lone, (_, (edge_free, (vertex_free, (in_range, _))))))))))) = record {
+    is_lone = lone_is (content M l) l_lone;
+    loop_there = l_known;
+    edge_free = ap (table.get M.edges) (edge_of-code h) ∙ no_row _ (not-true _ edge_free);
+    vertex_free = no_row _ (not-true _ vertex_free);
+    edge_fits = ap is_number (edge_of-code h) ∙ edge_number;
+    vertex_fits = vertex_number;
+    point_fits = in_range;
+  }
 
 pub lone_accepted : (N : Model) (l : ℕ) (h : HalfEdge) (v u : ℕ) (p : Point) → Sound N → LoneGoes N l (code h) v u p → first_false N (Mev (Lone l) (Lone l) h v p) ≡ None
 unfolding first_false conditions
@@ -94,17 +92,17 @@ lone_accepted N l h v u p sound goes =
 -- a corner at a half-edge and a lone one are never at one vertex
 pub mixed_first : (M : Model) (g : HalfEdge) (l : ℕ) (h : HalfEdge) (v : ℕ) (p : Point) → Sound M → first_false M (Mev (At g) (Lone l) h v p) ≡ None → ⊥
 unfolding first_false conditions
-mixed_first M g l h v p sound e =
-    let w = all_hold (conditions M (Mev (At g) (Lone l) h v p)) e in
-    let t = w.1.1.1.1 in
-    sound.lone_is_no_tail l (code g) (half_of M g t.0) (lone_is (content M l) t.1.1.1.0 ∙ ap lone (sym (eqb-true _ _ t.1.1.1.1.1.1.1.0)))
+mixed_first M g l h v p sound e = named (all_hold (conditions M (Mev (At g) (Lone l) h v p)) e) where
+  named : AllHold (conditions M (Mev (At g) (Lone l) h v p)) → ⊥
+  named (_, (_, (_, (_, (g_known, (_, (_, (l_lone, (_, (_, (_, (one_tail, _)))))))))))) =
+      sound.lone_is_no_tail l (code g) (half_of M g g_known) (lone_is (content M l) l_lone ∙ ap lone (sym (eqb-true _ _ one_tail)))
 
 pub mixed_second : (M : Model) (l : ℕ) (k h : HalfEdge) (v : ℕ) (p : Point) → Sound M → first_false M (Mev (Lone l) (At k) h v p) ≡ None → ⊥
 unfolding first_false conditions
-mixed_second M l k h v p sound e =
-    let w = all_hold (conditions M (Mev (Lone l) (At k) h v p)) e in
-    let t = w.1.1.1.1 in
-    sound.lone_is_no_tail l (code k) (half_of M k t.1.0) (lone_is (content M l) t.1.1.0 ∙ ap lone (eqb-true _ _ t.1.1.1.1.1.1.1.0))
+mixed_second M l k h v p sound e = named (all_hold (conditions M (Mev (Lone l) (At k) h v p)) e) where
+  named : AllHold (conditions M (Mev (Lone l) (At k) h v p)) → ⊥
+  named (_, (_, (_, (_, (_, (k_known, (l_lone, (_, (_, (_, (_, (one_tail, _)))))))))))) =
+      sound.lone_is_no_tail l (code k) (half_of M k k_known) (lone_is (content M l) l_lone ∙ ap lone (eqb-true _ _ one_tail))
 
 pub mev_keeps_sound : (M : Model) (c d : Corner) (h : HalfEdge) (v : ℕ) (p : Point) → Sound M → first_false M (Mev c d h v p) ≡ None → Sound (effect M (Mev c d h v p))
 unfolding effect

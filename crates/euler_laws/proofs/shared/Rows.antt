@@ -1,6 +1,7 @@
 -- What single rows and loops of a model say, and small facts that several operators share.
 use Rattle.std.proofs.Common.{◌≡◌, ◌≢◌, ℕ, ◌+◌, Bool, true, false, cond, not, nat_eq, ◌&&◌, List, [], ◌∷◌, ◌++◌, Option, Some, None, unwrap_or, is_some, refl, sym, ap, ◌∙◌, arith, true≢false}
 use Rattle.std.proofs.lemmas.Bool.Decides.{nat_tests}
+use Rattle.std.proofs.lemmas.Bool.{eqb-false}
 use Rattle.euler_operators.specs.declared.Point.{Point}
 use Rattle.euler_operators.specs.Items.{count, IsIn, IsApart, head_or}
 use Rattle.euler_operators.specs.Rings.{canonical, rotate_to, rest, upto, onward, between, beyond, successor, IsRing}
@@ -12,7 +13,7 @@ use Rattle.euler_operators.specs.declared.HalfEdge.{HalfEdge}
 use Rattle.euler_operators.specs.HalfEdge.{code, mate, edge_of, is_first, plus}
 use Rattle.euler_operators.specs.Table as table
 use Rattle.euler_operators.specs.Table.{Table, tables, same_table}
-use Rattle.euler_operators.specs.Model.{Model, LoopContent, lone, cycle, FaceRow, LoopRow, EdgeRow, no_face, no_edge, no_point, tail_in, items_of, holds, tail, face_of, outer, solid_of, point_of, no_loop, content, rings_of}
+use Rattle.euler_operators.specs.Model.{Model, LoopContent, lone, cycle, FaceRow, LoopRow, EdgeRow, no_face, no_edge, no_point, tail_in, items_of, holds, tail, face_of, outer, solid_of, point_of, no_loop, content, rings_of, is_ring_of}
 use Rattle.euler_operators.specs.Sound.{Sound, Has, HasHalf, IsCycle}
 use Rattle.euler_operators.proofs.Halves.{edge_of-code, edge_of-mate, is_first-mate, plus_row}
 use Rattle.euler_operators.proofs.Tables.{all_where_none, none_all_where, row_some}
@@ -160,6 +161,9 @@ ring_test true false true e = sym e
 ring_test true false false e = refl
 ring_test false b true e = sym e
 ring_test false b false e = refl
+
+pub is_ring : (M : Model) (l : ℕ) → is_ring_of M (face_of M l) l ≡ true → outer M (face_of M l) ≢ l
+is_ring M l e = eqb-false _ _ (ring_test (table.has M.loops l) (nat_eq (face_of M l) (face_of M l)) (nat_eq (outer M (face_of M l)) l) e)
 
 pub test_ring : (a b c : Bool) → a ≡ true → b ≡ true → c ≡ false → (a && b && not c) ≡ true
 test_ring a b c x y z = (λ i. x i && y i && not (z i))
