@@ -1,5 +1,6 @@
 -- The corners that mekr joins: a loop, its vertex, and the half-edges of the loop from the corner on, none where it is lone.
-use Rattle.std.proofs.Common.{◌≡◌, ◌≢◌, ℕ, true, List, [], ◌∷◌, None, is_some, IsTrue, refl, sym, ap, ◌∙◌, subst, arith, ◌⊎◌, inl, inr}
+use Rattle.std.proofs.Common.{◌≡◌, ◌≢◌, ℕ, true, List, [], ◌∷◌, None, is_some, IsTrue, refl, sym, ap, ◌∙◌, subst, arith, ◌⊎◌, inl, inr, Bool, not, nat_eq, ◌&&◌}
+use Rattle.std.proofs.lemmas.Bool.Decides.{nat_tests}
 use Rattle.std.proofs.lemmas.Bool.{not-true, eqb-true, eqb-false}
 use Rattle.euler_operators.specs.Items.{count, IsIn, IsApart, head_or}
 use Rattle.euler_operators.specs.Rings.{canonical, rotate_to, rest, IsRing}
@@ -69,6 +70,9 @@ pub record JoinGoes (M : Model) (h q l u w : ℕ) (Y X : List ℕ) : Type 0 wher
   pub one_face : face_of M q ≡ face_of M l
   pub no_outer : outer M (face_of M l) ≢ l
   pub ends_apart : u ≢ w
+
+pub ring_is : (b : Bool) (f o k : ℕ) → (b && nat_eq f f && not (nat_eq o k)) ≡ true → o ≢ k
+ring_is b f o k e p = grind (arith, nat_tests)
 
 pub join_goes : (M : Model) (c d : Corner) (h : HalfEdge) → Sound M → first_false M (Mekr c d h) ≡ None →
     JoinGoes M (code h) (corner_loop M c) (corner_loop M d) (corner_tail M c) (corner_tail M d) (corner_list M c) (corner_list M d)
