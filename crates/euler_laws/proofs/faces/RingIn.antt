@@ -1,13 +1,14 @@
 -- RingIn, which takes a ring to another face of its solid: it keeps a sound model sound, and RingIn to the old face takes it back.
-use Rattle.std.proofs.Common.{◌≡◌, ◌≢◌, ℕ, cond, nat_eq, None, unwrap_or, refl, sym, ap, ◌∙◌, subst, inl, inr, List, [], ◌∷◌}
+use Rattle.std.proofs.Common.{◌≡◌, ◌≢◌, ℕ, cond, nat_eq, None, refl, sym, ap, ◌∙◌, subst, inl, inr, List, [], ◌∷◌}
 use Rattle.std.proofs.lemmas.Bool.Decides.{eqb_tells}
 use Rattle.std.proofs.lemmas.Bool.{not-true, ne_eqb, eq-eqb, eqb-true, eqb-false}
 use Rattle.euler_operators.specs.HalfEdge.{mate}
 use Rattle.euler_operators.specs.Table as table
 use Rattle.euler_operators.specs.Table.{map_rows}
-use Rattle.euler_operators.specs.Model.{Model, no_face, loop_of, face_of, solid_of, outer}
+use Rattle.euler_operators.specs.Model.{Model, loop_of, face_of, solid_of, outer}
 use Rattle.euler_operators.specs.Sound.{Sound, Has}
 use Rattle.euler_operators.specs.declared.Op.TheVariants.{RingIn}
+use Rattle.euler_operators.proofs.Models.{same_outer, same_solid}
 use Rattle.euler_operators.specs.declared.Why.TheVariants.{SameFace}
 use Rattle.euler_operators.specs.Conditions.{Condition, never, AllHold, ring_and_face, first_false, conditions}
 use Rattle.euler_operators.specs.Effect.{effect, inverse, ring_in}
@@ -37,27 +38,13 @@ module _ (M : Model) (sound : Sound M) (l f : ℕ) (goes : RingGoes M l f) where
   unfolding ring_in
   same = record { edges = refl; vertices = refl; contents = content-moved M N l f loops_are; loops = loop-moved M N l f loops_are }
 
-  faces_same : N.faces ≡ M.faces
-  unfolding ring_in
-  faces_same = refl
-
-  solids_same : N.solids ≡ M.solids
-  unfolding ring_in
-  solids_same = refl
-
   pub outer_same : (p : ℕ) → outer N p ≡ outer M p
-  unfolding outer
-  outer_same p = ap (λ t. (unwrap_or (table.get t p) no_face).outer) faces_same
+  unfolding ring_in
+  outer_same p = same_outer M N p refl
 
   pub solid_same : (p : ℕ) → solid_of N p ≡ solid_of M p
-  unfolding solid_of
-  solid_same p = ap (λ t. (unwrap_or (table.get t p) no_face).solid) faces_same
-
-  face_on : (p : ℕ) → Has M.faces p → Has N.faces p
-  face_on p t = subst (λ y. Has y p) (sym faces_same) t
-
-  face_back : (p : ℕ) → Has N.faces p → Has M.faces p
-  face_back p t = subst (λ y. Has y p) faces_same t
+  unfolding ring_in
+  solid_same p = same_solid M N p refl
 
   pub face_l : face_of N l ≡ f
   face_l = face-moved M N l f loops_are goes.l_there
@@ -72,25 +59,27 @@ module _ (M : Model) (sound : Sound M) (l f : ℕ) (goes : RingGoes M l f) where
   ]
 
   pub sound-ring_in : Sound N
+  unfolding ring_in
   sound-ring_in = sound-same M N sound same (record {
     loops_of_faces = λ q t. elim (eqb_tells q l) [
-      | inl e ↦ subst (Has N.faces) (sym (ap (face_of N) e.1 ∙ face_l)) (face_on f goes.f_there)
-      | inr e ↦ subst (Has N.faces) (sym (face_else q e.1)) (face_on _ (sound.loops_of_faces q t))
+      | inl e ↦ subst (Has M.faces) (sym (ap (face_of N) e.1 ∙ face_l)) goes.f_there
+      | inr e ↦ subst (Has M.faces) (sym (face_else q e.1)) (sound.loops_of_faces q t)
     ];
-    outers_there = λ p t. let o = sound.outers_there p (face_back p t) in
-        (subst (Has M.loops) (sym (outer_same p)) o.0, ap (face_of N) (outer_same p) ∙ face_else (outer M p) (never_outer M sound l goes.is_ring p (face_back p t)) ∙ o.1);
-    faces_of_solids = λ p t. subst (λ y. Has y (solid_of N p)) (sym solids_same) (subst (Has M.solids) (sym (solid_same p)) (sound.faces_of_solids p (face_back p t)));
-    solid_has_face = λ s t. let x = sound.solid_has_face s (subst (λ y. Has y s) solids_same t) in (x.0, face_on x.0 x.1, solid_same x.0 ∙ x.2);
+    outers_there = λ p t. let o = sound.outers_there p t in
+        (subst (Has M.loops) (sym (outer_same p)) o.0, ap (face_of N) (outer_same p) ∙ face_else (outer M p) (never_outer M sound l goes.is_ring p t) ∙ o.1);
+    faces_of_solids = λ p t. subst (Has M.solids) (sym (solid_same p)) (sound.faces_of_solids p t);
+    solid_has_face = λ s t. let x = sound.solid_has_face s t in (x.0, x.1, solid_same x.0 ∙ x.2);
     one_solid = λ x t. solid_loop (loop_of M x) ∙ sound.one_solid x t ∙ sym (solid_loop (loop_of M (mate x)));
-    solids_fit = λ n t. sound.solids_fit n (subst (λ y. Has y n) solids_same t);
-    faces_fit = λ n t. sound.faces_fit n (face_back n t);
+    solids_fit = sound.solids_fit;
+    faces_fit = sound.faces_fit;
   })
 
   -- what the way back asks
   pub back_goes : RingGoes N l (face_of M l)
+  unfolding ring_in
   back_goes = record {
     l_there = same.loops l ∙ goes.l_there;
-    f_there = face_on _ (sound.loops_of_faces l goes.l_there);
+    f_there = sound.loops_of_faces l goes.l_there;
     one_solid = ap (solid_of N) face_l ∙ solid_same f ∙ sym goes.one_solid ∙ sym (solid_same (face_of M l));
     is_ring = λ e. never_outer M sound l goes.is_ring f goes.f_there (sym (outer_same f) ∙ ap (outer N) (sym face_l) ∙ e);
   }
