@@ -1,20 +1,20 @@
 -- A model, and the one with one more solid of one face, one lone loop and one vertex: where one is sound, the other is.
-use Rattle.std.proofs.Common.{◌≡◌, ◌≢◌, ℕ, List, [], Some, None, unwrap_or, is_some, IsTrue, refl, sym, ap, ◌∙◌, subst, ◌⊎◌, inl, inr}
+use Rattle.std.proofs.Common.{◌≡◌, ◌≢◌, ℕ, List, [], Some, None, is_some, IsTrue, refl, sym, ap, ◌∙◌, subst, ◌⊎◌, inl, inr}
 use Rattle.std.proofs.lemmas.Bool.Decides.{eqb_tells}
 use Rattle.euler_operators.specs.declared.Point.{Point}
 use Rattle.euler_operators.specs.Points.{IsInRange}
 use Rattle.euler_operators.specs.HalfEdge.{mate}
 use Rattle.euler_operators.specs.Table as table
 use Rattle.euler_operators.specs.Table.{Table}
-use Rattle.euler_operators.specs.Model.{Model, lone, cycle, FaceRow, LoopRow, no_face, no_loop, holds, tail, loop_of, content, cycle_of, face_of, solid_of, outer, after, is_number}
+use Rattle.euler_operators.specs.Model.{Model, lone, cycle, FaceRow, LoopRow, holds, tail, loop_of, content, cycle_of, face_of, solid_of, outer, after, is_number}
 use Rattle.euler_operators.specs.Sound.{Sound, Has, HasHalf}
-use Rattle.euler_operators.proofs.Models.{row_of, content_cycle, never_lone, mate_there}
+use Rattle.euler_operators.proofs.Models.{row_of, content_cycle, never_lone, mate_there, content_row, face_row as face_row_of, solid_row, outer_row, same_content, same_face, same_solid, same_outer}
 use Rattle.euler_operators.proofs.Tables.{get-put_here, get-put_other, row_elsewhere}
 use Rattle.euler_operators.specs.Effect.{mvfs}
 use Rattle.euler_laws.proofs.shared.Loops.{IsLoop, loop_sound, Walks, stands-walks, one_loop-walks, cycles-walks, ends_meet-walks, one_fan-walks, one_vertex}
 use Rattle.euler_laws.proofs.shared.Same.{solid_at}
 use Rattle.euler_laws.proofs.shared.Rings.{SameRings, half_back, tail_same, walks-rings, loop-rings, ends_differ-rings, tail-rings, edges_fit-rings}
-use Rattle.euler_laws.proofs.shared.Rows.{one_row}
+use Rattle.euler_laws.proofs.shared.Rows.{one_row, content_none}
 
 -- what the conditions of mvfs say
 pub record MvfsGoes (M : Model) (s f l v : ℕ) (p : Point) : Type 0 where
@@ -130,40 +130,31 @@ module _ (M : Model) (s f l v : ℕ) (p : Point) (goes : MvfsGoes M s f l v p) w
   -- ---- what the readers answer
 
   pub content_new : content N l ≡ lone v
-  unfolding content
-  content_new = ap (λ o. (unwrap_or o no_loop).content) loop_new
+  content_new = content_row N l loop_row loop_new
 
   pub content_other : (q : ℕ) → q ≢ l → content N q ≡ content M q
-  unfolding content
-  content_other q a = ap (λ o. (unwrap_or o no_loop).content) (loop_other q a)
+  content_other q a = same_content M N q (loop_other q a)
 
   content_free : content M l ≡ cycle []
-  unfolding content
-  content_free = ap (λ o. (unwrap_or o no_loop).content) goes.loop_free
+  content_free = content_none M l goes.loop_free
 
   pub face_of_new : face_of N l ≡ f
-  unfolding face_of
-  face_of_new = ap (λ o. (unwrap_or o no_loop).face) loop_new
+  face_of_new = face_row_of N l loop_row loop_new
 
   pub face_of_other : (q : ℕ) → q ≢ l → face_of N q ≡ face_of M q
-  unfolding face_of
-  face_of_other q a = ap (λ o. (unwrap_or o no_loop).face) (loop_other q a)
+  face_of_other q a = same_face M N q (loop_other q a)
 
   pub solid_of_new : solid_of N f ≡ s
-  unfolding solid_of
-  solid_of_new = ap (λ o. (unwrap_or o no_face).solid) face_new
+  solid_of_new = solid_row N f face_row face_new
 
   pub solid_of_other : (q : ℕ) → q ≢ f → solid_of N q ≡ solid_of M q
-  unfolding solid_of
-  solid_of_other q a = ap (λ o. (unwrap_or o no_face).solid) (face_other q a)
+  solid_of_other q a = same_solid M N q (face_other q a)
 
   pub outer_new : outer N f ≡ l
-  unfolding outer
-  outer_new = ap (λ o. (unwrap_or o no_face).outer) face_new
+  outer_new = outer_row N f face_row face_new
 
   pub outer_other : (q : ℕ) → q ≢ f → outer N q ≡ outer M q
-  unfolding outer
-  outer_other q a = ap (λ o. (unwrap_or o no_face).outer) (face_other q a)
+  outer_other q a = same_outer M N q (face_other q a)
 
   -- each loop holds the same half-edges
   pub stand_same : (x q : ℕ) → holds x (content N q) ≡ holds x (content M q)

@@ -85,26 +85,26 @@ module _ (M : Model) (sound : Sound M) (l f : ℕ) (goes : RingGoes M l f) where
   }
 
 module _ (M : Model) (sound : Sound M) (l f : ℕ) (goes : RingGoes M l f) where
-  abbrev N' : Model
-  N' = ring_in M l f
+  abbrev ringed : Model
+  ringed = ring_in M l f
 
   abbrev K : Model
-  K = ring_in N' l (face_of M l)
+  K = ring_in ringed l (face_of M l)
 
-  back : RingGoes N' l (face_of M l)
+  back : RingGoes ringed l (face_of M l)
   back = back_goes M sound l f goes
 
-  snd : Sound N'
-  snd = sound-ring_in M sound l f goes
+  sound_ringed : Sound ringed
+  sound_ringed = sound-ring_in M sound l f goes
 
   loops-back : K.loops ≡ M.loops
   loops-back = same_loops K M
-      (λ q. (same N' snd l (face_of M l) back).loops q ∙ (same M sound l f goes).loops q)
+      (λ q. (same ringed sound_ringed l (face_of M l) back).loops q ∙ (same M sound l f goes).loops q)
       (λ q _. elim (eqb_tells q l) [
-        | inl e ↦ ap (face_of K) e.1 ∙ face_l N' snd l (face_of M l) back ∙ sym (ap (face_of M) e.1)
-        | inr e ↦ face_else N' snd l (face_of M l) back q e.1 ∙ face_else M sound l f goes q e.1
+        | inl e ↦ ap (face_of K) e.1 ∙ face_l ringed sound_ringed l (face_of M l) back ∙ sym (ap (face_of M) e.1)
+        | inr e ↦ face_else ringed sound_ringed l (face_of M l) back q e.1 ∙ face_else M sound l f goes q e.1
       ])
-      (λ q _. (same N' snd l (face_of M l) back).contents q ∙ (same M sound l f goes).contents q)
+      (λ q _. (same ringed sound_ringed l (face_of M l) back).contents q ∙ (same M sound l f goes).contents q)
 
   pub ring_in-ring_in : ring_in (ring_in M l f) l (face_of M l) ≡ M
   unfolding ring_in

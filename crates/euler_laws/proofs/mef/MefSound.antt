@@ -63,11 +63,11 @@ module _ (M : Model) (sound : Sound M) (g k h f l : ℕ) (goes : MefGoes M g k h
   k_in : IsIn k xs
   k_in = subst (λ q. IsIn k (items_of (content M q))) goes.one_loop (cycle_there M sound k goes.k_there)
 
-  none_h : count h xs ≡ 0
-  none_h = no_h M sound g k h f l goes.g_there goes.edge_free goes.loop_free
+  h_not_listed : count h xs ≡ 0
+  h_not_listed = no_h M sound g k h f l goes.g_there goes.edge_free goes.loop_free
 
-  none_m : count m xs ≡ 0
-  none_m = no_m M sound g k h f l goes.g_there goes.edge_free goes.loop_free
+  mate_not_listed : count m xs ≡ 0
+  mate_not_listed = no_m M sound g k h f l goes.g_there goes.edge_free goes.loop_free
 
   apart_xs : IsApart xs
   apart_xs = (cycle_sound M sound g goes.g_there).apart
@@ -78,9 +78,9 @@ module _ (M : Model) (sound : Sound M) (g k h f l : ℕ) (goes : MefGoes M g k h
 
   apart_two : (x : ℕ) → count x (mef_old h g k xs) + count x (mef_new m g k xs) ≤ 1
   apart_two x = elim (eqb_tells x h) [
-    | inl a ↦ omega (arith, counted x, ap (λ y. count y xs) a.1, none_h, ap (λ y. tick y h) a.1, tick_same h, ap (λ y. tick y m) a.1, tick_other h m (mate_other h))
+    | inl a ↦ omega (arith, counted x, ap (λ y. count y xs) a.1, h_not_listed, ap (λ y. tick y h) a.1, tick_same h, ap (λ y. tick y m) a.1, tick_other h m (mate_other h))
     | inr a ↦ elim (eqb_tells x m) [
-      | inl b ↦ omega (arith, counted x, ap (λ y. count y xs) b.1, none_m, tick_other x h a.1, ap (λ y. tick y m) b.1, tick_same m)
+      | inl b ↦ omega (arith, counted x, ap (λ y. count y xs) b.1, mate_not_listed, tick_other x h a.1, ap (λ y. tick y m) b.1, tick_same m)
       | inr b ↦ omega (arith, counted x, tick_other x h a.1, tick_other x m b.1, apart_xs x)
     ]
   ]
@@ -138,7 +138,7 @@ module _ (M : Model) (sound : Sound M) (g k h f l : ℕ) (goes : MefGoes M g k h
   loop_m = loop_both sound rows m l (inr refl) (ap (holds m) content_l ∙ in-holds m (cycle (mef_new m g k xs)) (omega (arith, count-mef_new m m g k xs, tick_same m)))
 
   two_rings : IsRing F (mef_old h g k xs) × IsRing F (mef_new m g k xs)
-  two_rings = IsRing-mef h m g k xs apart_xs (mate_other h) none_h none_m (after M) g_in k_in (light M sound r).1
+  two_rings = IsRing-mef h m g k xs apart_xs (mate_other h) h_not_listed mate_not_listed (after M) g_in k_in (light M sound r).1
 
   two_loops : (q : ℕ) → OneOf r l q → Has N.loops q → IsLoop F (content N q)
   two_loops q o there = elim o [
