@@ -1,9 +1,4 @@
-pub mod RingSteps
-pub mod StoreSteps
-pub mod EdgeSteps
-pub mod Tails
 pub mod SolidRows
-pub mod PutRows
 pub mod LoneSteps
 pub mod CornerSteps
 pub mod Corners

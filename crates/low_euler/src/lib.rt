@@ -3,8 +3,8 @@
 //! `replay`, which answers nothing.
 //! A number that once had its room keeps it, so that an operator can be taken back, and applied again, when memory is spent.
 //!
-//! `vertex_operators` makes and kills vertices (mvfs, kvfs, mev, kev), `loop_operators` parts and joins loops (mef, kef, kemr, mekr) by
-//! the steps of `loop_steps`, and `face_operators` moves rings and faces (kfmrh, mfkrh, RingIn, RingOut, Outer, Merge, Part).
+//! `vertex_operators` makes and kills vertices (mvfs, kvfs, mev, kev), `loop_operators` parts and joins loops (mef, kef, kemr, mekr),
+//! both by `steps`, and `face_operators` moves rings and faces (kfmrh, mfkrh, RingIn, RingOut, Outer, Merge, Part).
 //!
 //! # What is proved
 //!
@@ -18,10 +18,10 @@ mod applying;
 mod face_operators;
 mod inverse;
 mod loop_operators;
-mod loop_steps;
 mod making;
 mod moving;
 mod reading;
+mod steps;
 mod vertex_operators;
 
 pub use applying::{apply, replay};

@@ -4,7 +4,6 @@
 
 mod edges;
 mod solids;
-mod steps;
 
 pub(crate) use edges::{kev, mev};
 pub(crate) use solids::{kvfs, mvfs};

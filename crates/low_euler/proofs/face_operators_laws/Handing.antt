@@ -6,7 +6,7 @@ use Rattle.std.proofs.lemmas.Bool.{eq-eqb}
 use Rattle.std.proofs.lemmas.List.{take_more}
 use Rattle.euler_operators.specs.Table as table
 use Rattle.euler_operators.specs.Table.{Table, map_rows, put, same_table, get-map_rows, get-put}
-use Rattle.euler_operators.specs.Model.{Model, FaceRow, no_face, outer, faces_of}
+use Rattle.euler_operators.specs.Model.{Model, FaceRow, no_face, outer}
 use Rattle.euler_operators.specs.Sound.{Has}
 use Rattle.euler_conditions.specs.Store.{Store, set_solid}
 use Rattle.euler_operators.specs.Conditions.{AllHold, need, never, is_bad_part, lists, conditions, first_false, faces_known, faces_in, numbers_in_range}
@@ -16,7 +16,7 @@ use Rattle.euler_operators.specs.Effect.{faces_to_solid}
 use Rattle.euler_operators.proofs.Tests.{or_true, or_false}
 use Rattle.euler_operators.proofs.Tables.{row_some}
 use Rattle.euler_laws.proofs.shared.Goes.{all_hold, all_hold-front, all_hold-back}
-use Rattle.euler_laws.proofs.shared.Listed.{listed_cases, listed_as}
+use Rattle.euler_laws.proofs.shared.Listed.{listed_cases}
 use Rattle.low_euler.specs.face_operators.Moving.{moved}
 
 abbrev given : List ℕ → ℕ → ℕ → FaceRow → FaceRow

@@ -1,7 +1,7 @@
 -- A rewriting of one row is a row that is put.
 use Rattle.std.proofs.Common.{◌≡◌, ℕ, cond, refl, ap, ◌∙◌}
 use Rattle.std.proofs.lemmas.Bool.{ne_eqb, eq-eqb}
-use Rattle.euler_operators.specs.Table.{Table, map_rows, put}
+use Rattle.euler_operators.specs.Table.{map_rows, put}
 use Rattle.euler_operators.specs.Model.{Model, FaceRow, LoopRow, content, face_of, solid_of, outer}
 use Rattle.euler_operators.specs.Sound.{Has}
 use Rattle.euler_operators.proofs.Tables.{map_one}

@@ -7,9 +7,9 @@ use Rattle.euler_operators.proofs.Rotations.{count-canonical}
 use Rattle.euler_operators.proofs.Rings.{count_at}
 use Rattle.euler_operators.proofs.Cuts.{count-joined}
 use Rattle.euler_operators.specs.declared.HalfEdge.{HalfEdge}
-use Rattle.euler_operators.specs.HalfEdge.{code, mate, edge_of, plus, minus}
+use Rattle.euler_operators.specs.HalfEdge.{code, mate, edge_of}
 use Rattle.euler_operators.specs.Table as table
-use Rattle.euler_operators.specs.Table.{Table, tables, same_table}
+use Rattle.euler_operators.specs.Table.{Table}
 use Rattle.euler_operators.specs.Model.{Model, LoopContent, LoopRow, cycle, items_of, content, face_of, loop_of, cycle_of, tail, after as after_half, has_half}
 use Rattle.euler_operators.specs.Sound.{Sound}
 use Rattle.euler_operators.proofs.Halves.{mate_other}
@@ -24,13 +24,13 @@ use Rattle.euler_laws.proofs.mef.KefSound.{KefGoes}
 use Rattle.euler_laws.proofs.mef.Kef.{kef_goes}
 use Rattle.euler_laws.proofs.shared.Rows.{cycle_filled}
 use Rattle.euler_conditions.specs.Store.{Store, join, take_edge, take_loop, take_face}
-use Rattle.low_euler.specs.loop_steps.Steps.{IsStanding, take_out}
-use Rattle.low_euler.proofs.loop_steps_laws.StoreSteps.{remove-put_same}
-use Rattle.low_euler.proofs.loop_steps_laws.RingSteps.{rest_joined, rest_both}
-use Rattle.low_euler.proofs.loop_steps_laws.TwoLoops as two
-use Rattle.low_euler.proofs.loop_steps_laws.TwoLoops.{TwoLoops}
-use Rattle.low_euler.proofs.loop_steps_laws.LooseRings.{pair, get_plus, get_minus, edge_gone, halves_back}
-use Rattle.low_euler.proofs.loop_steps_laws.SoundLoops.{sound_loops}
+use Rattle.low_euler.specs.steps.Steps.{IsStanding, take_out, kill_edge}
+use Rattle.low_euler.proofs.steps_laws.StoreSteps.{remove-put_same}
+use Rattle.low_euler.proofs.steps_laws.RingSteps.{rest_joined, rest_both}
+use Rattle.low_euler.proofs.steps_laws.TwoLoops as two
+use Rattle.low_euler.proofs.steps_laws.TwoLoops.{TwoLoops}
+use Rattle.low_euler.proofs.steps_laws.LooseRings.{pair, edge_gone, halves_back}
+use Rattle.low_euler.proofs.steps_laws.SoundLoops.{sound_loops}
 
 left_filled : (ys zs : List ℕ) → ys ≢ [] → ys ++ zs ≢ []
 left_filled [] zs ne e = ne refl
@@ -82,14 +82,8 @@ module _ (s : Store) (half : HalfEdge) (ok : Accepts s (Kef half)) where
   abbrev pub one : Store
   one = join s h m
 
-  abbrev pub first_out : Store
-  first_out = take_out one m
-
-  abbrev pub second_out : Store
-  second_out = take_out first_out h
-
   abbrev pub edgeless : Store
-  edgeless = take_edge second_out (edge_of h)
+  edgeless = kill_edge one h
 
   abbrev pub loopless : Store
   loopless = take_loop edgeless l
@@ -101,14 +95,8 @@ module _ (s : Store) (half : HalfEdge) (ok : Accepts s (Kef half)) where
   pub was_one : (q : Store) (n : ℕ) → n ≡ m → q ≡ join s h n → q ≡ one
   was_one q n en d = d ∙ ap (join s h) en
 
-  pub was_first : (p q : Store) (n : ℕ) → n ≡ m → p ≡ one → q ≡ take_out p n → q ≡ first_out
-  was_first p q n en e d = d ∙ ap (take_out p) en ∙ ap (λ t. take_out t m) e
-
-  pub was_second : (p q : Store) → p ≡ first_out → q ≡ take_out p h → q ≡ second_out
-  was_second p q e d = d ∙ ap (λ t. take_out t h) e
-
-  pub was_edgeless : (p q : Store) (e : ℕ) → e ≡ edge_of h → p ≡ second_out → q ≡ take_edge p e → q ≡ edgeless
-  was_edgeless p q e ee ep d = d ∙ ap (take_edge p) ee ∙ ap (λ t. take_edge t (edge_of h)) ep
+  pub was_edgeless : (p q : Store) → p ≡ one → q ≡ kill_edge p h → q ≡ edgeless
+  was_edgeless p q e d = d ∙ ap (λ t. kill_edge t h) e
 
   pub was_loopless : (p q : Store) (n : ℕ) → n ≡ l → p ≡ edgeless → q ≡ take_loop p n → q ≡ loopless
   was_loopless p q n en ep d = d ∙ ap (take_loop p) en ∙ ap (λ t. take_loop t l) ep
@@ -182,15 +170,15 @@ module _ (s : Store) (half : HalfEdge) (ok : Accepts s (Kef half)) where
   m_joined : IsIn m as_join
   m_joined = omega (arith, count-joined h m xs ys once h_in m_in m, m_in)
 
-  -- what the two that are taken out ask
-  pub mate_stands : (p : Store) (n : ℕ) → n ≡ m → p ≡ one → IsStanding p.model n
-  mate_stands p n en e = subst (IsStanding p.model) (sym en) (subst (λ (t : Store). IsStanding t.model m) (sym (e ∙ one_is))
-      (two.standing_r M r l (face_of M r) (face_of M l) all loops (cycle as_join) (cycle []) fits_two m m_joined))
+  -- what the edge that is killed asks
+  pub m_stands : IsStanding one.model m
+  m_stands = subst (λ (t : Store). IsStanding t.model m) (sym one_is)
+      (two.standing_r M r l (face_of M r) (face_of M l) all loops (cycle as_join) (cycle []) fits_two m m_joined)
 
   abbrev kept : List ℕ
   kept = canonical (B ++ h ∷ A)
 
-  first_is : first_out ≡ state (cycle kept) (cycle []) (table.put table.empty m (m ∷ []))
+  first_is : take_out one m ≡ state (cycle kept) (cycle []) (table.put table.empty m (m ∷ []))
   first_is = ap (λ t. take_out t m) one_is
       ∙ two.take_out_r M r l (face_of M r) (face_of M l) all loops s.room (cycle as_join) (cycle []) table.empty fits_two m m_joined
       ∙ ap (λ q. state (cycle_or_lone q (tail M m)) (cycle []) (table.put table.empty m (m ∷ []))) (rest_joined h m xs ys once h_in m_in)
@@ -205,29 +193,21 @@ module _ (s : Store) (half : HalfEdge) (ok : Accepts s (Kef half)) where
   h_kept : IsIn h kept
   h_kept = omega (arith, count_kept h, tick_same h)
 
-  pub h_stands : (p : Store) → p ≡ first_out → IsStanding p.model h
-  h_stands p e = subst (λ (t : Store). IsStanding t.model h) (sym (e ∙ first_is))
+  pub h_stands : IsStanding (take_out one m).model h
+  h_stands = subst (λ (t : Store). IsStanding t.model h) (sym first_is)
       (two.standing_r M r l (face_of M r) (face_of M l) all loops (cycle kept) (cycle []) fits_three h h_kept)
 
   some_follow : A ++ B ≢ []
   unfolding after_half
   some_follow = left_filled A B (λ e. laws.m_on M sound h goes (ap (head_or m) e))
 
-  second_is : second_out ≡ state (cycle (canonical (A ++ B))) (cycle []) (pair m h hm)
+  second_is : take_out (take_out one m) h ≡ state (cycle (canonical (A ++ B))) (cycle []) (pair m h hm)
   second_is = ap (λ t. take_out t h) first_is
       ∙ two.take_out_r M r l (face_of M r) (face_of M l) all loops s.room (cycle kept) (cycle []) (table.put table.empty m (m ∷ [])) fits_three h h_kept
       ∙ ap (λ q. state (cycle_or_lone q (tail M h)) (cycle []) (pair m h hm)) (rest_both h m xs ys once h_in m_in)
       ∙ ap (λ c. state c (cycle []) (pair m h hm)) (cycle_filled (A ++ B) (tail M h) some_follow)
 
-  -- what the edge and the loop that go ask
-  pub plus_loose : (p : Store) (e : ℕ) → e ≡ edge_of h → p ≡ second_out → table.get p.loose (plus e) ≡ Some (plus e ∷ [])
-  plus_loose p e ee q = subst (λ n. table.get p.loose (plus n) ≡ Some (plus n ∷ [])) (sym ee)
-      (ap (λ (t : Store). table.get t.loose (plus (edge_of h))) (q ∙ second_is) ∙ get_plus m h hm (edge_of h) (halves_back h))
-
-  pub minus_loose : (p : Store) (e : ℕ) → e ≡ edge_of h → p ≡ second_out → table.get p.loose (minus e) ≡ Some (minus e ∷ [])
-  minus_loose p e ee q = subst (λ n. table.get p.loose (minus n) ≡ Some (minus n ∷ [])) (sym ee)
-      (ap (λ (t : Store). table.get t.loose (minus (edge_of h))) (q ∙ second_is) ∙ get_minus m h hm (edge_of h) (halves_back h))
-
+  -- what the loop that goes asks
   abbrev less : Table LoopRow → Table (List ℕ) → Store
   less t z = record s { model = record M { loops = t; edges = table.remove M.edges (edge_of h) }; loose = z }
 

@@ -1,5 +1,5 @@
 -- What kemr's writers make of a store, one after another.
-use Rattle.std.proofs.Common.{◌≡◌, ◌≢◌, ℕ, ◌+◌, ◌≤◌, true, cond, List, [], ◌∷◌, ◌++◌, Some, is_some, unwrap_or, sym, ap, ◌∙◌, subst, arith}
+use Rattle.std.proofs.Common.{◌≡◌, ◌≢◌, ℕ, ◌+◌, true, cond, List, [], ◌∷◌, ◌++◌, is_some, unwrap_or, sym, ap, ◌∙◌, subst, arith}
 use Rattle.std.proofs.lemmas.Bool.{ne_eqb}
 use Rattle.euler_operators.specs.Items.{count, tick, IsIn, IsApart}
 use Rattle.euler_operators.specs.Rings.{between, beyond, cut_left, cut_right}
@@ -7,7 +7,7 @@ use Rattle.euler_operators.proofs.Lists.{count-append}
 use Rattle.euler_operators.proofs.Rotations.{count-canonical}
 use Rattle.euler_operators.proofs.Cuts.{count-cut, IsIn-cut}
 use Rattle.euler_operators.specs.declared.HalfEdge.{HalfEdge}
-use Rattle.euler_operators.specs.HalfEdge.{code, mate, edge_of, plus, minus}
+use Rattle.euler_operators.specs.HalfEdge.{code, mate, edge_of}
 use Rattle.euler_operators.specs.Table as table
 use Rattle.euler_operators.specs.Table.{Table}
 use Rattle.euler_operators.specs.Model.{Model, LoopContent, LoopRow, cycle, items_of, content, face_of, loop_of, cycle_of, tail, no_loop, has_half}
@@ -24,12 +24,12 @@ use Rattle.euler_laws.proofs.kemr.KemrSound as laws
 use Rattle.euler_laws.proofs.kemr.KemrSound.{KemrGoes}
 use Rattle.euler_laws.proofs.kemr.Kemr.{kemr_goes}
 use Rattle.euler_conditions.specs.Store.{Store, put_loop, cut, cut_loose, cut_to, take_edge}
-use Rattle.low_euler.specs.loop_steps.Steps.{IsStanding, take_out}
-use Rattle.low_euler.proofs.loop_steps_laws.RingSteps.{rest_left, rest_right}
-use Rattle.low_euler.proofs.loop_steps_laws.TwoLoops as two
-use Rattle.low_euler.proofs.loop_steps_laws.TwoLoops.{TwoLoops}
-use Rattle.low_euler.proofs.loop_steps_laws.LooseRings.{pair, get_plus, get_minus, edge_gone, halves_of}
-use Rattle.low_euler.proofs.loop_steps_laws.SoundLoops.{sound_loops}
+use Rattle.low_euler.specs.steps.Steps.{IsStanding, take_out, kill_edge}
+use Rattle.low_euler.proofs.steps_laws.RingSteps.{rest_left, rest_right}
+use Rattle.low_euler.proofs.steps_laws.TwoLoops as two
+use Rattle.low_euler.proofs.steps_laws.TwoLoops.{TwoLoops}
+use Rattle.low_euler.proofs.steps_laws.LooseRings.{pair, edge_gone, halves_back}
+use Rattle.low_euler.proofs.steps_laws.SoundLoops.{sound_loops}
 
 module _ (s : Store) (half : HalfEdge) (l : ℕ) (ok : Accepts s (Kemr half l)) where
   abbrev M : Model
@@ -76,14 +76,8 @@ module _ (s : Store) (half : HalfEdge) (l : ℕ) (ok : Accepts s (Kemr half l)) 
   abbrev pub parted : Store
   parted = cut looped h m l
 
-  abbrev pub first_out : Store
-  first_out = take_out parted h
-
-  abbrev pub second_out : Store
-  second_out = take_out first_out m
-
   abbrev pub made : Store
-  made = take_edge second_out (edge_of h)
+  made = kill_edge parted h
 
   -- what each call leaves
   pub was_looped : (q : Store) (f : ℕ) → f ≡ face_at M h → q ≡ put_loop s l f → q ≡ looped
@@ -91,12 +85,6 @@ module _ (s : Store) (half : HalfEdge) (l : ℕ) (ok : Accepts s (Kemr half l)) 
 
   pub was_parted : (p q : Store) (n : ℕ) → n ≡ m → p ≡ looped → q ≡ cut p h n l → q ≡ parted
   was_parted p q n en e d = d ∙ ap (λ x. cut p h x l) en ∙ ap (λ t. cut t h m l) e
-
-  pub was_first : (p q : Store) → p ≡ parted → q ≡ take_out p h → q ≡ first_out
-  was_first p q e d = d ∙ ap (λ t. take_out t h) e
-
-  pub was_second : (p q : Store) (n : ℕ) → n ≡ m → p ≡ first_out → q ≡ take_out p n → q ≡ second_out
-  was_second p q n en e d = d ∙ ap (take_out p) en ∙ ap (λ t. take_out t m) e
 
   -- the two loops, and the half-edges in them
   h_in : IsIn h xs
@@ -110,6 +98,9 @@ module _ (s : Store) (half : HalfEdge) (l : ℕ) (ok : Accepts s (Kemr half l)) 
 
   hm : h ≢ m
   hm = mate_other h
+
+  m_h : m ≢ h
+  m_h e = mate_other h (sym e)
 
   l_none : content M l ≡ cycle []
   unfolding content
@@ -183,41 +174,27 @@ module _ (s : Store) (half : HalfEdge) (l : ℕ) (ok : Accepts s (Kemr half l)) 
   m_right : IsIn m right
   m_right = (IsIn-cut h m xs once h_in m_in hm).1
 
-  -- what the two that are taken out ask
-  pub h_parted : IsStanding parted.model h
-  h_parted = subst (λ (t : Store). IsStanding t.model h) (sym parted_is) (two.standing_r M r l (face_of M r) (face_of M r) all loops (cycle left) (cycle right) fits_two h h_left)
+  -- what the edge that is killed asks
+  pub m_parted : IsStanding parted.model m
+  m_parted = subst (λ (t : Store). IsStanding t.model m) (sym parted_is) (two.standing_l M r l (face_of M r) (face_of M r) all loops (cycle left) (cycle right) fits_two m m_right)
 
-  first_is : first_out ≡ state (cycle_or_lone Y (tail M h)) (cycle right) (table.put table.empty h (h ∷ []))
-  first_is = ap (λ t. take_out t h) parted_is
-      ∙ two.take_out_r M r l (face_of M r) (face_of M r) all loops s.room (cycle left) (cycle right) table.empty fits_two h h_left
-      ∙ ap (λ q. state (cycle_or_lone q (tail M h)) (cycle right) (table.put table.empty h (h ∷ []))) (rest_left h m xs once h_in m_in hm)
+  first_is : take_out parted m ≡ state (cycle left) (cycle_or_lone X (tail M m)) (table.put table.empty m (m ∷ []))
+  first_is = ap (λ t. take_out t m) parted_is
+      ∙ two.take_out_l M r l (face_of M r) (face_of M r) all loops s.room (cycle left) (cycle right) table.empty fits_two m m_right
+      ∙ ap (λ q. state (cycle left) (cycle_or_lone q (tail M m)) (table.put table.empty m (m ∷ []))) (rest_right h m xs once h_in m_in hm)
 
-  fits_three : Fits (cycle_or_lone Y (tail M h)) (cycle right)
-  fits_three x = omega (arith, count_or_lone x Y (tail M h), fits_two x, kept x) where
-    kept : (x : ℕ) → count x Y ≤ count x left
-    kept x = omega (arith, laws.count_xs M sound h l goes x, count-cut h m xs once h_in m_in hm x, count_right x) where
-      count_right : (x : ℕ) → count x right ≡ tick x m + count x X
-      count_right x = count-canonical x (m ∷ X)
+  fits_three : Fits (cycle left) (cycle_or_lone X (tail M m))
+  fits_three x = omega (arith, count_or_lone x X (tail M m), fits_two x, count_right x) where
+    count_right : (x : ℕ) → count x right ≡ tick x m + count x X
+    count_right x = count-canonical x (m ∷ X)
 
-  m_first : IsStanding first_out.model m
-  m_first = subst (λ (t : Store). IsStanding t.model m) (sym first_is) (two.standing_l M r l (face_of M r) (face_of M r) all loops (cycle_or_lone Y (tail M h)) (cycle right) fits_three m m_right)
+  pub h_first : IsStanding (take_out parted m).model h
+  h_first = subst (λ (t : Store). IsStanding t.model h) (sym first_is) (two.standing_r M r l (face_of M r) (face_of M r) all loops (cycle left) (cycle_or_lone X (tail M m)) fits_three h h_left)
 
-  pub mate_stands : (p : Store) (n : ℕ) → n ≡ m → p ≡ first_out → IsStanding p.model n
-  mate_stands p n en e = subst (IsStanding p.model) (sym en) (subst (λ (t : Store). IsStanding t.model m) (sym e) m_first)
-
-  second_is : second_out ≡ state (cycle_or_lone Y (tail M h)) (cycle_or_lone X (tail M m)) (pair h m hm)
-  second_is = ap (λ t. take_out t m) first_is
-      ∙ two.take_out_l M r l (face_of M r) (face_of M r) all loops s.room (cycle_or_lone Y (tail M h)) (cycle right) (table.put table.empty h (h ∷ [])) fits_three m m_right
-      ∙ ap (λ q. state (cycle_or_lone Y (tail M h)) (cycle_or_lone q (tail M m)) (pair h m hm)) (rest_right h m xs once h_in m_in hm)
-
-  -- what the edge that goes asks
-  pub plus_loose : (p : Store) (e : ℕ) → e ≡ edge_of h → p ≡ second_out → table.get p.loose (plus e) ≡ Some (plus e ∷ [])
-  plus_loose p e ee q = subst (λ n. table.get p.loose (plus n) ≡ Some (plus n ∷ [])) (sym ee)
-      (ap (λ (t : Store). table.get t.loose (plus (edge_of h))) (q ∙ second_is) ∙ get_plus h m hm (edge_of h) (halves_of h))
-
-  pub minus_loose : (p : Store) (e : ℕ) → e ≡ edge_of h → p ≡ second_out → table.get p.loose (minus e) ≡ Some (minus e ∷ [])
-  minus_loose p e ee q = subst (λ n. table.get p.loose (minus n) ≡ Some (minus n ∷ [])) (sym ee)
-      (ap (λ (t : Store). table.get t.loose (minus (edge_of h))) (q ∙ second_is) ∙ get_minus h m hm (edge_of h) (halves_of h))
+  second_is : take_out (take_out parted m) h ≡ state (cycle_or_lone Y (tail M h)) (cycle_or_lone X (tail M m)) (pair m h m_h)
+  second_is = ap (λ t. take_out t h) first_is
+      ∙ two.take_out_r M r l (face_of M r) (face_of M r) all loops s.room (cycle left) (cycle_or_lone X (tail M m)) (table.put table.empty m (m ∷ [])) fits_three h h_left
+      ∙ ap (λ q. state (cycle_or_lone q (tail M h)) (cycle_or_lone X (tail M m)) (pair m h m_h)) (rest_left h m xs once h_in m_in hm)
 
   abbrev with_loops : Table LoopRow → Store
   with_loops t = record s { model = record M { loops = t; edges = table.remove M.edges (edge_of h) } }
@@ -226,9 +203,9 @@ module _ (s : Store) (half : HalfEdge) (l : ℕ) (ok : Accepts s (Kemr half l)) 
   made_is : made ≡ record s { model = kemr M h l }
   unfolding kemr take_edge
   made_is = ap (λ t. take_edge t (edge_of h)) second_is
-      ∙ ap (λ z. record s { model = record (two.holding M r l (face_of M r) (face_of M r) all loops (cycle_or_lone Y (tail M h)) (cycle_or_lone X (tail M m))) { edges = table.remove M.edges (edge_of h) }; loose = z }) (edge_gone h m hm (edge_of h) (halves_of h) ∙ sym bare)
+      ∙ ap (λ z. record s { model = record (two.holding M r l (face_of M r) (face_of M r) all loops (cycle_or_lone Y (tail M h)) (cycle_or_lone X (tail M m))) { edges = table.remove M.edges (edge_of h) }; loose = z }) (edge_gone m h m_h (edge_of h) (halves_back h) ∙ sym bare)
       ∙ ap with_loops (sym (laws.loops_are M sound h l goes))
 
-  pub was_made : (p q : Store) (e : ℕ) → e ≡ edge_of h → p ≡ second_out → q ≡ take_edge p e → q ≡ after s (Kemr half l)
+  pub was_made : (p q : Store) → p ≡ parted → q ≡ kill_edge p h → q ≡ after s (Kemr half l)
   unfolding effect
-  was_made p q e ee ep d = d ∙ ap (take_edge p) ee ∙ ap (λ t. take_edge t (edge_of h)) ep ∙ made_is
+  was_made p q e d = d ∙ ap (λ t. kill_edge t h) e ∙ made_is

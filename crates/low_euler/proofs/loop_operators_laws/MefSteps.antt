@@ -6,12 +6,13 @@ use Rattle.euler_operators.specs.Rings.{cut_right}
 use Rattle.euler_operators.specs.Operators.{put_ring, mef_old, mef_new}
 use Rattle.euler_operators.proofs.Lists.{count-append, tick_same}
 use Rattle.euler_operators.specs.declared.HalfEdge.{HalfEdge}
+use Rattle.euler_operators.specs.declared.Corner.TheVariants.{At}
 use Rattle.euler_operators.specs.HalfEdge.{code, mate, edge_of}
 use Rattle.euler_operators.specs.Table as table
 use Rattle.euler_operators.specs.Table.{Table}
 use Rattle.euler_operators.specs.Model.{Model, LoopRow, cycle, items_of, content, face_of, solid_of, loop_of, cycle_of, tail, no_loop, has_half}
 use Rattle.euler_operators.specs.Sound.{Sound}
-use Rattle.euler_operators.proofs.Halves.{mate_other}
+use Rattle.euler_operators.proofs.Halves.{mate_other, edge_of-code}
 use Rattle.euler_operators.proofs.Tables.{put_same}
 use Rattle.euler_operators.proofs.Models.{row_of, cycle_there, cycle_sound, number_real}
 use Rattle.euler_operators.specs.declared.Op.TheVariants.{Mef}
@@ -22,12 +23,13 @@ use Rattle.euler_laws.proofs.mef.MefSound.{MefGoes}
 use Rattle.euler_laws.proofs.mef.Mef.{mef_goes}
 use Rattle.euler_laws.proofs.mef.MefUndo.{loops-mef}
 use Rattle.euler_conditions.specs.Store.{Store, Extents, within, put_loop, cut, cut_loose, cut_to, put_face}
-use Rattle.low_euler.specs.loop_steps.Steps.{IsStanding, IsLoose, with_edge, put_before}
-use Rattle.low_euler.proofs.loop_steps_laws.RingSteps.{cut_old, cut_new, count_put}
-use Rattle.low_euler.proofs.loop_steps_laws.TwoLoops as two
-use Rattle.low_euler.proofs.loop_steps_laws.TwoLoops.{TwoLoops}
-use Rattle.low_euler.proofs.loop_steps_laws.LooseRings.{pair, pair_singles, get_first, left_second, pair_gone, singles_remove, key_is, ring_is}
-use Rattle.low_euler.proofs.loop_steps_laws.SoundLoops.{edged_loops, none_h, none_m}
+use Rattle.low_euler.specs.steps.Steps.{IsStanding, IsUnused, with_edge, put_before, make_edge}
+use Rattle.low_euler.proofs.steps_laws.RingSteps.{cut_old, cut_new, count_put}
+use Rattle.low_euler.proofs.steps_laws.TwoLoops as two
+use Rattle.low_euler.proofs.steps_laws.TwoLoops.{TwoLoops}
+use Rattle.low_euler.proofs.steps_laws.LooseRings.{pair, pair_singles, get_first, left_second, pair_gone, singles_remove, key_is}
+use Rattle.low_euler.proofs.steps_laws.SoundLoops.{edged_loops, none_first, none_second}
+use Rattle.low_euler.proofs.steps_laws.LoopsApart.{content-same}
 
 module _ (s : Store) (first second half : HalfEdge) (f l : ℕ) (ok : Accepts s (Mef first second half f l)) where
   abbrev M : Model
@@ -71,14 +73,14 @@ module _ (s : Store) (first second half : HalfEdge) (f l : ℕ) (ok : Accepts s 
   solid_there = sound.faces_of_solids (face_at M g) face_there
 
   -- the steps
-  abbrev pub edged : Store
-  edged = with_edge s h (tail M g) (tail M k)
-
   abbrev pub looped : Store
-  looped = put_loop edged l f
+  looped = put_loop s l f
+
+  abbrev pub edged : Store
+  edged = with_edge looped h (tail M g) (tail M k)
 
   abbrev pub first_in : Store
-  first_in = put_before looped g h
+  first_in = put_before edged g h
 
   abbrev pub second_in : Store
   second_in = put_before first_in k m
@@ -90,14 +92,11 @@ module _ (s : Store) (first second half : HalfEdge) (f l : ℕ) (ok : Accepts s 
   made = put_face parted f (solid_of M (face_at M g)) l
 
   -- what each call leaves
-  pub was_looped : (p q : Store) (a b : ℕ) → a ≡ tail M g → b ≡ tail M k → p ≡ with_edge s h a b → q ≡ put_loop p l f → q ≡ looped
-  was_looped p q a b ea eb e d = d ∙ ap (λ t. put_loop t l f) (e ∙ ap (λ v. with_edge s h v b) ea ∙ ap (with_edge s h (tail M g)) eb)
+  pub was_edged : (p : Store) (a b : ℕ) → p ≡ looped → a ≡ tail M g → b ≡ tail M k → with_edge p h a b ≡ edged
+  was_edged p a b e ea eb = ap (λ t. with_edge t h a b) e ∙ ap (λ v. with_edge looped h v b) ea ∙ ap (with_edge looped h (tail M g)) eb
 
-  pub was_first : (p q : Store) → p ≡ looped → q ≡ put_before p g h → q ≡ first_in
-  was_first p q e d = d ∙ ap (λ t. put_before t g h) e
-
-  pub was_second : (p q : Store) (n : ℕ) → n ≡ m → p ≡ first_in → q ≡ put_before p k n → q ≡ second_in
-  was_second p q n en e d = d ∙ ap (put_before p k) en ∙ ap (λ t. put_before t k m) e
+  pub was_second : (p q : Store) (a b : ℕ) → p ≡ looped → a ≡ tail M g → b ≡ tail M k → q ≡ make_edge p (At first) (At second) h a b → q ≡ second_in
+  was_second p q a b e ea eb d = d ∙ ap (λ t. put_before (put_before t g h) k m) (was_edged p a b e ea eb)
 
   pub was_parted : (p q : Store) (n : ℕ) → n ≡ m → p ≡ second_in → q ≡ cut p h n l → q ≡ parted
   was_parted p q n en e d = d ∙ ap (λ x. cut p h x l) en ∙ ap (λ t. cut t h m l) e
@@ -134,10 +133,10 @@ module _ (s : Store) (first second half : HalfEdge) (f l : ℕ) (ok : Accepts s 
   count_all x = omega (arith, count-append x xs (items_of (content M l)), ap (λ c. count x (items_of c)) l_none)
 
   no_h : count h xs ≡ 0
-  no_h = none_h M sound r l r_l r_real l_real h (edge_row h (tail M g) (tail M k)) goes.edge_free r
+  no_h = none_first M sound r l r_l r_real l_real h (edge_row h (tail M g) (tail M k)) goes.edge_free r
 
   no_m : count m xs ≡ 0
-  no_m = none_m M sound r l r_l r_real l_real h (edge_row h (tail M g) (tail M k)) goes.edge_free r
+  no_m = none_second M sound r l r_l r_real l_real h (edge_row h (tail M g) (tail M k)) goes.edge_free r
 
   g_in : IsIn g xs
   g_in = cycle_there M sound g goes.g_there
@@ -161,10 +160,12 @@ module _ (s : Store) (first second half : HalfEdge) (f l : ℕ) (ok : Accepts s 
   zs = put_ring m k ys
 
   -- the new loop is empty
-  looped_is : looped ≡ state xs [] pair_h
+  loops_looped : table.put M.loops l (record { face = f; content = cycle [] }) ≡ (state xs [] pair_h).model.loops
+  loops_looped = ap (λ t. table.put t l (record { face = f; content = cycle [] })) (sym (put_same M.loops r (record { face = face_of M r; content = cycle xs }) r_row))
+
+  edged_is : edged ≡ state xs [] pair_h
   unfolding with_edge put_loop
-  looped_is = ap (λ t. record s { model = record N { loops = table.put t l (record { face = f; content = cycle [] }) }; loose = table.put (table.put s.loose h (h ∷ [])) m (m ∷ []) })
-      (sym (put_same M.loops r (record { face = face_of M r; content = cycle xs }) r_row))
+  edged_is = ap (λ t. record s { model = record N { loops = t }; loose = table.put (table.put s.loose h (h ∷ [])) m (m ∷ []) }) loops_looped
       ∙ ap (λ z. state xs [] (table.put (table.put z h (h ∷ [])) m (m ∷ []))) bare
 
   fits_one : two.Fits N r l (face_of M r) f all loops (cycle xs) (cycle [])
@@ -182,18 +183,29 @@ module _ (s : Store) (first second half : HalfEdge) (f l : ℕ) (ok : Accepts s 
   m_all : IsIn m all
   m_all = omega (arith, tick_same m)
 
-  pub g_stands : IsStanding looped.model g
-  g_stands = subst (λ (t : Store). IsStanding t.model g) (sym looped_is) (two.standing_r N r l (face_of M r) f all loops (cycle xs) (cycle []) fits_one g g_in)
+  -- what the new edge asks
+  nowhere_looped : (x : ℕ) → IsIn x all → count x xs ≡ 0 → (q : ℕ) → count x (items_of (content looped.model q)) ≡ 0
+  unfolding put_loop
+  nowhere_looped x i n q = ap (λ c. count x (items_of c)) (content-same (state xs [] pair_h).model looped.model loops_looped q)
+      ∙ two.nowhere N r l (face_of M r) f all loops (cycle xs) (cycle []) fits_one x i (omega (arith, n)) q
 
-  pub h_loose : IsLoose looped h
-  h_loose = subst (λ (t : Store). IsLoose t h) (sym looped_is) (record {
-    there = loops.there h h_all;
-    nowhere = two.nowhere N r l (face_of M r) f all loops (cycle xs) (cycle []) fits_one h h_all (omega (arith, no_h));
-    alone = ring_is (state xs [] pair_h) h (pair_singles h m (mate_other h)) (get_first h m (mate_other h));
-  })
+  pub unused : IsUnused looped h
+  unfolding put_loop
+  unused = record { bare = bare; first = nowhere_looped h h_all no_h; second = nowhere_looped m m_all no_m }
+
+  pub edge_room : table.has looped.room.edges half.edge ≡ true
+  unfolding put_loop
+  edge_room = ok.room.0
+
+  pub edge_free : table.has looped.model.edges half.edge ≡ false
+  unfolding put_loop
+  edge_free = ap (table.has M.edges) (sym (edge_of-code half)) ∙ ap is_some goes.edge_free
+
+  pub g_stands : IsStanding edged.model g
+  g_stands = subst (λ (t : Store). IsStanding t.model g) (sym edged_is) (two.standing_r N r l (face_of M r) f all loops (cycle xs) (cycle []) fits_one g g_in)
 
   first_is : first_in ≡ state ys [] (table.remove pair_h h)
-  first_is = ap (λ t. put_before t g h) looped_is
+  first_is = ap (λ t. put_before t g h) edged_is
       ∙ two.put_before_r N r l (face_of M r) f all loops s.room (cycle xs) (cycle []) pair_h fits_one g h g_in
       ∙ ap (λ q. state ys [] (table.remove pair_h q)) (key_is (state xs [] pair_h) h (pair_singles h m (mate_other h)) (get_first h m (mate_other h)))
 
@@ -202,18 +214,6 @@ module _ (s : Store) (first second half : HalfEdge) (f l : ℕ) (ok : Accepts s 
 
   pub k_stands : IsStanding first_in.model k
   k_stands = subst (λ (t : Store). IsStanding t.model k) (sym first_is) (two.standing_r N r l (face_of M r) f all loops (cycle ys) (cycle []) fits_two k k_in_two)
-
-  m_h : tick m h ≡ 0
-  m_h = other m h (λ e. mate_other h (sym e)) where
-    other : (x y : ℕ) → x ≢ y → tick x y ≡ 0
-    other x y ne = ap (λ b. cond b 1 0) (ne_eqb x y ne)
-
-  pub m_loose : IsLoose first_in m
-  m_loose = subst (λ (t : Store). IsLoose t m) (sym first_is) (record {
-    there = loops.there m m_all;
-    nowhere = two.nowhere N r l (face_of M r) f all loops (cycle ys) (cycle []) fits_two m m_all (omega (arith, no_m, count_put m h g xs, m_h));
-    alone = ring_is (state ys [] (table.remove pair_h h)) m (singles_remove pair_h h (pair_singles h m (mate_other h))) (left_second h m (mate_other h));
-  })
 
   second_is : second_in ≡ state zs [] table.empty
   second_is = ap (λ t. put_before t k m) first_is
@@ -289,16 +289,3 @@ module _ (s : Store) (first second half : HalfEdge) (f l : ℕ) (ok : Accepts s 
 
   pub face_free : (p : Store) → p ≡ parted → table.has p.model.faces f ≡ false
   face_free p e = ap (λ (t : Store). table.has t.model.faces f) (e ∙ parted_is) ∙ ap is_some goes.face_free
-
--- a new edge leaves the room and the loops as they are
-pub loop_room : (s : Store) (h a b n : ℕ) → within n s.room.loops ≡ true → within n (with_edge s h a b).room.loops ≡ true
-unfolding with_edge
-loop_room s h a b n e = e
-
-pub loop_free : (s : Store) (h a b n : ℕ) → table.has s.model.loops n ≡ false → table.has (with_edge s h a b).model.loops n ≡ false
-unfolding with_edge
-loop_free s h a b n e = e
-
-pub face_room_edged : (s : Store) (h a b n : ℕ) → within n s.room.faces ≡ true → within n (with_edge s h a b).room.faces ≡ true
-unfolding with_edge
-face_room_edged s h a b n e = e

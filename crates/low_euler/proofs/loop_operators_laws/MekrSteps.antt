@@ -1,5 +1,5 @@
 -- What mekr's writers make of a store, one after another.
-use Rattle.std.proofs.Common.{◌≡◌, ◌≢◌, ℕ, ◌+◌, true, List, [], ◌∷◌, ◌++◌, None, is_some, refl, sym, ap, ◌∙◌, subst, arith, true≢false}
+use Rattle.std.proofs.Common.{◌≡◌, ◌≢◌, ℕ, ◌+◌, true, false, List, [], ◌∷◌, ◌++◌, None, is_some, refl, sym, ap, ◌∙◌, subst, arith, true≢false}
 use Rattle.euler_operators.specs.Items.{count, tick, IsIn, IsApart}
 use Rattle.euler_operators.specs.Rings.{canonical, rotate_to, joined}
 use Rattle.euler_operators.proofs.Lists.{count-append, tick_same, tick_other}
@@ -14,7 +14,7 @@ use Rattle.euler_operators.specs.Table as table
 use Rattle.euler_operators.specs.Table.{Table}
 use Rattle.euler_operators.specs.Model.{Model, LoopContent, lone, cycle, items_of, content, face_of, loop_of, has_half}
 use Rattle.euler_operators.specs.Sound.{Sound}
-use Rattle.euler_operators.proofs.Halves.{mate_other}
+use Rattle.euler_operators.proofs.Halves.{mate_other, edge_of-code}
 use Rattle.euler_operators.proofs.Tables.{put_same}
 use Rattle.euler_operators.proofs.Models.{cycle_there, number_real}
 use Rattle.euler_operators.specs.declared.Op.TheVariants.{Mekr}
@@ -25,12 +25,12 @@ use Rattle.euler_laws.proofs.shared.Goes.{all_hold}
 use Rattle.euler_laws.proofs.shared.Rows.{half_of, loop_row}
 use Rattle.euler_laws.proofs.mekr.MekrSpots.{JoinGoes, join_goes, count_spot}
 use Rattle.euler_conditions.specs.Store.{Store, join, take_loop, loose_key, loose_ring}
-use Rattle.low_euler.specs.loop_steps.Steps.{IsStanding, IsLoose, IsCorner, CanTake, with_edge, put_at}
-use Rattle.low_euler.proofs.loop_steps_laws.StoreSteps.{remove-put_same}
-use Rattle.low_euler.proofs.loop_steps_laws.TwoLoops as two
-use Rattle.low_euler.proofs.loop_steps_laws.TwoLoops.{TwoLoops}
-use Rattle.low_euler.proofs.loop_steps_laws.LooseRings.{AreSingles, pair, pair_singles, get_first, left_second, pair_gone, singles_remove, key_is, ring_is}
-use Rattle.low_euler.proofs.loop_steps_laws.SoundLoops.{edged_loops, none_h, none_m}
+use Rattle.low_euler.specs.steps.Steps.{IsStanding, IsUnused, IsCorner, CanTake, with_edge, put_at, make_edge}
+use Rattle.low_euler.proofs.steps_laws.StoreSteps.{remove-put_same}
+use Rattle.low_euler.proofs.steps_laws.TwoLoops as two
+use Rattle.low_euler.proofs.steps_laws.TwoLoops.{TwoLoops}
+use Rattle.low_euler.proofs.steps_laws.LooseRings.{AreSingles, pair, pair_singles, get_first, left_second, pair_gone, singles_remove, key_is, ring_is}
+use Rattle.low_euler.proofs.steps_laws.SoundLoops.{edged_loops, none_first, none_second}
 
 -- the two corners, by the conditions
 corner_there : (M : Model) (c : Corner) → (corner_known M c).holds ≡ true → (corner_lone M c).holds ≡ true → IsCorner M c
@@ -108,14 +108,11 @@ module _ (s : Store) (first second : Corner) (half : HalfEdge) (ok : Accepts s (
   made = take_loop one l
 
   -- what each call leaves
-  pub was_edged : (q : Store) (a b : ℕ) → a ≡ u → b ≡ w → q ≡ with_edge s h a b → q ≡ edged
-  was_edged q a b ea eb d = d ∙ ap (λ v. with_edge s h v b) ea ∙ ap (with_edge s h u) eb
+  pub was_edged : (a b : ℕ) → a ≡ u → b ≡ w → with_edge s h a b ≡ edged
+  was_edged a b ea eb = ap (λ v. with_edge s h v b) ea ∙ ap (with_edge s h u) eb
 
-  pub was_first : (p q : Store) → p ≡ edged → q ≡ put_at p first h → q ≡ first_in
-  was_first p q e d = d ∙ ap (λ t. put_at t first h) e
-
-  pub was_second : (p q : Store) (n : ℕ) → n ≡ m → p ≡ first_in → q ≡ put_at p second n → q ≡ second_in
-  was_second p q n en e d = d ∙ ap (put_at p second) en ∙ ap (λ t. put_at t second m) e
+  pub was_second : (q : Store) (a b : ℕ) → a ≡ u → b ≡ w → q ≡ make_edge s first second h a b → q ≡ second_in
+  was_second q a b ea eb d = d ∙ ap (λ t. put_at (put_at t first h) second m) (was_edged a b ea eb)
 
   pub was_one : (p q : Store) (n : ℕ) → n ≡ m → p ≡ second_in → q ≡ join p h n → q ≡ one
   was_one p q n en e d = d ∙ ap (join p h) en ∙ ap (λ t. join t h m) e
@@ -146,10 +143,10 @@ module _ (s : Store) (first second : Corner) (half : HalfEdge) (ok : Accepts s (
   loops = edged_loops M sound r l r_l r_real l_real h (edge_row h u w) goes.edge_free
 
   no_h : (q : ℕ) → count h (items_of (content M q)) ≡ 0
-  no_h = none_h M sound r l r_l r_real l_real h (edge_row h u w) goes.edge_free
+  no_h = none_first M sound r l r_l r_real l_real h (edge_row h u w) goes.edge_free
 
   no_m : (q : ℕ) → count m (items_of (content M q)) ≡ 0
-  no_m = none_m M sound r l r_l r_real l_real h (edge_row h u w) goes.edge_free
+  no_m = none_second M sound r l r_l r_real l_real h (edge_row h u w) goes.edge_free
 
   count_all : (x : ℕ) → count x all ≡ tick x h + tick x m + count x (items_of C) + count x (items_of D)
   count_all x = omega (arith, count-append x (items_of C) (items_of D))
@@ -191,12 +188,11 @@ module _ (s : Store) (first second : Corner) (half : HalfEdge) (ok : Accepts s (
   m_all : IsIn m all
   m_all = omega (arith, tick_same m)
 
-  pub h_loose : (p : Store) → p ≡ edged → IsLoose p h
-  h_loose p e = subst (λ (t : Store). IsLoose t h) (sym (e ∙ edged_is)) (record {
-    there = loops.there h h_all;
-    nowhere = two.nowhere N r l (face_of M r) (face_of M l) all loops C D fits_one h h_all (omega (arith, no_h r, no_h l));
-    alone = ring_is (state C D loose) h (pair_singles h m hm) (get_first h m hm);
-  })
+  pub unused : IsUnused s h
+  unused = record { bare = bare; first = no_h; second = no_m }
+
+  pub edge_free : table.has M.edges half.edge ≡ false
+  edge_free = ap (table.has M.edges) (sym (edge_of-code half)) ∙ ap is_some goes.edge_free
 
   -- ---- the first corner
 
@@ -210,8 +206,8 @@ module _ (s : Store) (first second : Corner) (half : HalfEdge) (ok : Accepts s (
     ap (λ q. items_of (content (state C D loose).model q)) e ∙ ap items_of (two.content_r N r l (face_of M r) (face_of M l) all loops C D) ∙ none_in_lone C (ap (λ q. is_lone (content M q)) (sym e) ∙ t.1),
   )
 
-  pub first_takes : (p : Store) → p ≡ edged → CanTake p.model first
-  first_takes p e = subst (λ (t : Store). CanTake t.model first) (sym (e ∙ edged_is)) (first_takes_at first refl first_there)
+  pub first_takes : CanTake edged.model first
+  first_takes = subst (λ (t : Store). CanTake t.model first) (sym edged_is) (first_takes_at first refl first_there)
 
   -- h and what the first corner's loop reads from there on
   abbrev ys : List ℕ
@@ -239,13 +235,6 @@ module _ (s : Store) (first second : Corner) (half : HalfEdge) (ok : Accepts s (
   fits_two : Fits (cycle ys) D
   fits_two x = omega (arith, count_all x, count_ys x)
 
-  pub m_loose : (p : Store) (n : ℕ) → n ≡ m → p ≡ first_in → IsLoose p n
-  m_loose p n en e = subst (IsLoose p) (sym en) (subst (λ (t : Store). IsLoose t m) (sym (e ∙ first_is)) (record {
-    there = loops.there m m_all;
-    nowhere = two.nowhere N r l (face_of M r) (face_of M l) all loops (cycle ys) D fits_two m m_all (omega (arith, no_m r, no_m l, count_ys m, m_h));
-    alone = ring_is (state (cycle ys) D (table.remove loose h)) m (singles_remove loose h (pair_singles h m hm)) (left_second h m hm);
-  }))
-
   -- ---- the second corner
 
   abbrev left : Table (List ℕ)
@@ -258,8 +247,8 @@ module _ (s : Store) (first second : Corner) (half : HalfEdge) (ok : Accepts s (
     ap (λ q. items_of (content (state (cycle ys) D left).model q)) e ∙ ap items_of (two.content_l N r l (face_of M r) (face_of M l) all loops (cycle ys) D) ∙ none_in_lone D (ap (λ q. is_lone (content M q)) (sym e) ∙ t.1),
   )
 
-  pub second_takes : (p : Store) → p ≡ first_in → CanTake p.model second
-  second_takes p e = subst (λ (t : Store). CanTake t.model second) (sym (e ∙ first_is)) (second_takes_at second refl second_there)
+  pub second_takes : CanTake first_in.model second
+  second_takes = subst (λ (t : Store). CanTake t.model second) (sym first_is) (second_takes_at second refl second_there)
 
   abbrev xs : List ℕ
   xs = canonical (m ∷ X)
@@ -313,38 +302,38 @@ module _ (s : Store) (first second : Corner) (half : HalfEdge) (ok : Accepts s (
   pub loops_apart : (p : Store) (n : ℕ) → n ≡ m → p ≡ second_in → loop_of p.model n ≢ loop_of p.model h
   loops_apart p n en e = subst (λ k. loop_of p.model k ≢ loop_of p.model h) (sym en) (subst (λ (t : Store). loop_of t.model m ≢ loop_of t.model h) (sym e) apart_second)
 
-  abbrev whole : List ℕ
-  whole = canonical ((h ∷ X) ++ m ∷ Y)
+  abbrev ring : List ℕ
+  ring = canonical ((h ∷ X) ++ m ∷ Y)
 
-  ring_is_whole : joined h m ys xs ≡ whole
-  ring_is_whole = (λ i. canonical ((h ∷ rest_canonical m X apart_X i) ++ m ∷ rest_canonical h Y apart_Y i)) where
+  ring_joined : joined h m ys xs ≡ ring
+  ring_joined = (λ i. canonical ((h ∷ rest_canonical m X apart_X i) ++ m ∷ rest_canonical h Y apart_Y i)) where
     apart_X : IsApart (m ∷ X)
     apart_X = apart_front m X (sym (count_D m) ∙ no_m l) goes.second.apart
 
     apart_Y : IsApart (h ∷ Y)
     apart_Y = apart_front h Y (sym (count_C h) ∙ no_h r) goes.first.apart
 
-  one_is : one ≡ state (cycle whole) (cycle []) table.empty
+  one_is : one ≡ state (cycle ring) (cycle []) table.empty
   one_is = ap (λ t. join t h m) second_is
       ∙ two.join_parts N r l (face_of M r) (face_of M l) all loops s.room ys xs table.empty fits_three h m h_in m_in
-      ∙ ap (λ ring. state (cycle ring) (cycle []) table.empty) ring_is_whole
+      ∙ ap (λ hs. state (cycle hs) (cycle []) table.empty) ring_joined
 
   -- ---- the loop that goes
 
   pub ring_there : (p : Store) (n : ℕ) → n ≡ l → p ≡ one → table.has p.model.loops n ≡ true
   ring_there p n en e = ap (table.has p.model.loops) en ∙ ap (λ (t : Store). table.has t.model.loops l) (e ∙ one_is)
-      ∙ ap is_some (two.get_l N r l (face_of M r) (face_of M l) all loops N.loops (record { face = face_of M r; content = cycle whole }) (record { face = face_of M l; content = cycle [] }))
+      ∙ ap is_some (two.get_l N r l (face_of M r) (face_of M l) all loops N.loops (record { face = face_of M r; content = cycle ring }) (record { face = face_of M l; content = cycle [] }))
 
   pub ring_bare : (p : Store) (n : ℕ) → n ≡ l → p ≡ one → items_of (content p.model n) ≡ []
   ring_bare p n en e = ap (λ q. items_of (content p.model q)) en ∙ ap (λ (t : Store). items_of (content t.model l)) (e ∙ one_is)
-      ∙ ap items_of (two.content_l N r l (face_of M r) (face_of M l) all loops (cycle whole) (cycle []))
+      ∙ ap items_of (two.content_l N r l (face_of M r) (face_of M l) all loops (cycle ring) (cycle []))
 
   -- together they are mekr
   made_is : made ≡ record s { model = mekr M first second h }
   unfolding mekr
   made_is = ap (λ t. take_loop t l) one_is
-      ∙ ap (λ t. record { model = record N { loops = t }; loose = table.empty; room = s.room }) (remove-put_same (table.put M.loops r (record { face = face_of M r; content = cycle whole })) l (record { face = face_of M l; content = cycle [] }))
-      ∙ ap (λ z. record { model = record N { loops = table.remove (table.put M.loops r (record { face = face_of M r; content = cycle whole })) l }; loose = z; room = s.room }) (sym bare)
+      ∙ ap (λ t. record { model = record N { loops = t }; loose = table.empty; room = s.room }) (remove-put_same (table.put M.loops r (record { face = face_of M r; content = cycle ring })) l (record { face = face_of M l; content = cycle [] }))
+      ∙ ap (λ z. record { model = record N { loops = table.remove (table.put M.loops r (record { face = face_of M r; content = cycle ring })) l }; loose = z; room = s.room }) (sym bare)
 
   pub was_made : (p q : Store) (n : ℕ) → n ≡ l → p ≡ one → q ≡ take_loop p n → q ≡ after s (Mekr first second half)
   unfolding effect

@@ -1,47 +1,30 @@
 -- An edge made at two half-edges by the writers of an arena.
-use Rattle.std.proofs.Common.{◌≡◌, ℕ, false, [], ◌∷◌, None, is_some, sym, ap, ◌∙◌}
+use Rattle.std.proofs.Common.{◌≡◌, ℕ, false, None, is_some, sym, ap, ◌∙◌}
 use Rattle.euler_operators.specs.declared.Point.{Point}
-use Rattle.euler_operators.specs.Points.{IsInRange}
 use Rattle.euler_operators.specs.declared.HalfEdge.{HalfEdge}
 use Rattle.euler_operators.specs.declared.Corner.TheVariants.{At}
 use Rattle.euler_operators.specs.HalfEdge.{code, mate, edge_of}
 use Rattle.euler_operators.specs.Table as table
 use Rattle.euler_operators.specs.Model.{Model, tail, arc}
-use Rattle.euler_operators.specs.Sound.{Sound, HasHalf}
-use Rattle.euler_operators.proofs.Halves.{mate_other, edge_of-code}
+use Rattle.euler_operators.specs.Sound.{Sound}
+use Rattle.euler_operators.proofs.Halves.{edge_of-code}
 use Rattle.euler_operators.specs.declared.Op.TheVariants.{Mev}
-use Rattle.euler_operators.specs.Effect.{effect, mev_at}
+use Rattle.euler_operators.specs.Effect.{effect, mev_at, with_before, with_tails, edge_row}
 use Rattle.euler_laws.proofs.mev.MevSound.{MevGoes}
 use Rattle.euler_laws.proofs.mev.Mev.{mev_goes}
-use Rattle.euler_conditions.specs.Store.{Store, put_vertex}
+use Rattle.euler_conditions.specs.Store.{Store, loose_key, put_vertex}
 use Rattle.euler_conditions.specs.Ready.{Accepts, after}
-use Rattle.low_euler.specs.loop_steps.Steps.{with_edge}
-use Rattle.low_euler.specs.vertex_operators.Steps.{LoopsStandApart, HasLoop, IsAlone, put_before, with_tails_at}
-use Rattle.low_euler.proofs.vertex_operators_laws.StoreSteps.{placed_of, placed-same, loop-same, placed-edge, loops_E, alone-first, alone-second, placed-put, loop-put, alone-put}
-use Rattle.low_euler.proofs.vertex_operators_laws.LoneSteps.{loose_again}
-use Rattle.low_euler.proofs.vertex_operators_laws.Tails.{loops-tails, loose-tails, half-tails, free-tails}
+use Rattle.low_euler.specs.steps.Steps.{IsStanding, IsUnused, with_edge, put_before, make_edge, with_tails_at}
+use Rattle.low_euler.proofs.steps_laws.LoopsApart.{LoopsStandApart, HasLoop, placed_of, placed-same, loop-same, standing_of, placed-edge, unused_of, loops_E, loops_put, placed-put, loop-put}
+use Rattle.low_euler.proofs.steps_laws.EdgeSteps.{first_key, first_loose, second_key, second_loose, none_loose}
+use Rattle.low_euler.proofs.steps_laws.Tails.{loops-tails, loose-tails, half-tails, free-tails}
 
 module _ (s : Store) (from to half : HalfEdge) (v : ℕ) (p : Point) (ok : Accepts s (Mev (At from) (At to) half v p)) where
   sound : Sound s.model
   sound = ok.ready.sound
 
-  bare : s.loose ≡ table.empty
-  bare = ok.ready.bare
-
-  goes : MevGoes s.model (code from) (code to) (code half) v p
+  pub goes : MevGoes s.model (code from) (code to) (code half) v p
   goes = mev_goes s.model from to half v p ok.holds
-
-  pub from_there : HasHalf s.model (code from)
-  from_there = goes.g_there
-
-  pub to_there : HasHalf s.model (code to)
-  to_there = goes.k_there
-
-  pub one_tail : tail s.model (code to) ≡ tail s.model (code from)
-  one_tail = goes.one_tail
-
-  pub point_fits : IsInRange p
-  point_fits = goes.point_fits
 
   abbrev M : Model
   M = s.model
@@ -61,61 +44,85 @@ module _ (s : Store) (from to half : HalfEdge) (v : ℕ) (p : Point) (ok : Accep
   abbrev u : ℕ
   u = tail s.model (code from)
 
-  abbrev pub A : Store
-  A = with_tails_at s (arc s.model (code from) (code to)) v
+  -- the steps
+  abbrev pub moved : Store
+  moved = put_vertex (with_tails_at s (arc s.model (code from) (code to)) v) v p
 
-  abbrev pub V : Store
-  V = put_vertex A v p
+  abbrev edged : Store
+  edged = with_edge moved h u v
 
-  abbrev pub E : Store
-  E = with_edge V (code half) (tail s.model (code from)) v
+  abbrev first_in : Store
+  first_in = put_before edged g h
 
-  abbrev pub P : Store
-  P = put_before E (code from) (code half)
+  -- what each call leaves
+  pub was_moved : (q t : Store) → q ≡ with_tails_at s (arc M g k) v → t ≡ put_vertex q v p → t ≡ moved
+  was_moved q t e d = d ∙ ap (λ z. put_vertex z v p) e
 
-  abbrev pub Q : Store
-  Q = put_before P (code to) (mate (code half))
+  pub was_edged : (q : Store) (a : ℕ) → q ≡ moved → a ≡ u → with_edge q h a v ≡ edged
+  was_edged q a e ea = ap (λ t. with_edge t h a v) e ∙ ap (λ x. with_edge moved h x v) ea
 
-  edge_free : table.get V.model.edges (edge_of h) ≡ None
-  edge_free = free-tails s (arc M g k) v (edge_of h) goes.edge_free
+  -- what the new edge asks
+  edge_none : table.get moved.model.edges (edge_of h) ≡ None
+  edge_none = free-tails s (arc M g k) v (edge_of h) goes.edge_free
 
-  pub number_free : table.has V.model.edges half.edge ≡ false
-  number_free = ap is_some (ap (table.get V.model.edges) (sym (edge_of-code half)) ∙ edge_free)
+  pub edge_free : table.has moved.model.edges half.edge ≡ false
+  edge_free = ap is_some (ap (table.get moved.model.edges) (sym (edge_of-code half)) ∙ edge_none)
 
-  placed_V : LoopsStandApart V.model
-  placed_V = placed-same M V.model (loops-tails s (arc M g k) v) (half-tails s (arc M g k) v) (placed_of M sound)
+  placed : LoopsStandApart moved.model
+  placed = placed-same M moved.model (loops-tails s (arc M g k) v) (half-tails s (arc M g k) v) (placed_of M sound)
 
-  bare_V : V.loose ≡ table.empty
-  bare_V = loose-tails s (arc M g k) v ∙ bare
+  bare : moved.loose ≡ table.empty
+  bare = loose-tails s (arc M g k) v ∙ ok.ready.bare
 
-  pub placed_E : LoopsStandApart E.model
-  placed_E = placed-edge V placed_V bare_V h u v edge_free
+  pub unused : IsUnused moved h
+  unused = unused_of moved placed bare h u v edge_none
 
-  pub first_alone : IsAlone E h
-  first_alone = alone-first V placed_V bare_V h u v edge_free
+  placed_edged : LoopsStandApart edged.model
+  placed_edged = placed-edge moved placed bare h u v edge_none
 
-  second_alone : IsAlone E m
-  second_alone = alone-second V placed_V bare_V h u v edge_free
+  loops_are : edged.model.loops ≡ M.loops
+  loops_are = loops_E moved placed bare h u v edge_none ∙ loops-tails s (arc M g k) v
 
-  loops_are : E.model.loops ≡ M.loops
-  loops_are = loops_E V placed_V bare_V h u v edge_free ∙ loops-tails s (arc M g k) v
+  from_in : HasLoop edged.model g
+  from_in = loop-same M edged.model loops_are g (sound.stands g goes.g_there)
 
-  pub from_in : HasLoop E.model g
-  from_in = loop-same M E.model loops_are g (sound.stands g goes.g_there)
+  pub from_stands : IsStanding edged.model g
+  from_stands = standing_of edged.model placed_edged g from_in
 
-  to_in : HasLoop E.model k
-  to_in = loop-same M E.model loops_are k (sound.stands k goes.k_there)
+  placed_first : LoopsStandApart first_in.model
+  placed_first = placed-put edged placed_edged g h from_in (first_loose moved h u v unused)
 
-  pub placed_P : LoopsStandApart P.model
-  placed_P = placed-put E placed_E g h from_in first_alone
+  to_in : HasLoop first_in.model k
+  to_in = loop-put edged placed_edged g h from_in (first_loose moved h u v unused) k (loop-same M edged.model loops_are k (sound.stands k goes.k_there))
 
-  pub to_placed : HasLoop P.model k
-  to_placed = loop-put E placed_E g h from_in first_alone k to_in
+  pub to_stands : IsStanding first_in.model k
+  to_stands = standing_of first_in.model placed_first k to_in
 
-  pub mate_alone : IsAlone P m
-  mate_alone = alone-put E placed_E g h from_in first_alone m (λ t. mate_other h (sym t)) second_alone
+  loops_made : (make_edge moved (At from) (At to) h u v).model.loops ≡ table.map_rows (with_before k m) (table.map_rows (with_before g h) M.loops)
+  loops_made =
+      loops_put first_in placed_first k m to_in (second_loose moved h u v unused (At from))
+      ∙ ap (table.map_rows (with_before k m)) (loops_put edged placed_edged g h from_in (first_loose moved h u v unused) ∙ ap (table.map_rows (with_before g h)) loops_are)
 
-  -- the writers make what mev makes
-  pub corner_made : Q ≡ after s (Mev (At from) (At to) half v p)
+  loose_made : (make_edge moved (At from) (At to) h u v).loose ≡ s.loose
+  unfolding put_before
+  loose_made =
+      ap (λ q. table.remove (table.remove edged.loose (loose_key edged h)) q) (second_key moved h u v unused (At from))
+      ∙ ap (λ q. table.remove (table.remove edged.loose q) m) (first_key moved h u v unused) ∙ none_loose moved h u v unused ∙ loose-tails s (arc M g k) v
+
+  -- together they are mev
+  pub made_is : make_edge moved (At from) (At to) h u v ≡ after s (Mev (At from) (At to) half v p)
   unfolding effect mev_at with_edge put_before with_tails_at
-  corner_made = ap (λ q. record s { model = effect M (Mev (At from) (At to) half v p); loose = q }) (loose_again s.loose h m (h ∷ []) (m ∷ []) bare)
+  made_is =
+      let loops : (make_edge moved (At from) (At to) h u v).model.loops ≡ table.map_rows (with_before k m) (table.map_rows (with_before g h) M.loops) = loops_made in
+      let loose : (make_edge moved (At from) (At to) h u v).loose ≡ s.loose = loose_made in
+      λ i. record s {
+        model = record M {
+          loops = loops i;
+          edges = table.put (table.map_rows (with_tails (arc M g k) v) M.edges) (edge_of h) (edge_row h u v);
+          vertices = table.put M.vertices v p;
+        };
+        loose = loose i;
+      }
+
+  pub was_made : (q t : Store) (a : ℕ) → q ≡ moved → a ≡ u → t ≡ make_edge q (At from) (At to) h a v → t ≡ after s (Mev (At from) (At to) half v p)
+  was_made q t a e ea d = d ∙ ap (λ z. put_before (put_before z g h) k m) (was_edged q a e ea) ∙ made_is

@@ -4,7 +4,7 @@ use Rattle.std.proofs.lemmas.Bool.{not-true}
 use Rattle.euler_operators.specs.declared.Point.{Point}
 use Rattle.euler_operators.specs.Points.{IsInRange}
 use Rattle.euler_operators.specs.Table as table
-use Rattle.euler_operators.specs.Table.{Table, tables, same_table}
+use Rattle.euler_operators.specs.Table.{Table}
 use Rattle.euler_operators.specs.Model.{Model, LoopRow, lone, cycle, items_of, no_loop, outer, face_of, faces_of, content}
 use Rattle.euler_operators.specs.declared.Op.TheVariants.{Mvfs, Kvfs}
 use Rattle.euler_operators.specs.Conditions.{first_false, conditions, bare_face, is_lone, lone_vertex}
@@ -31,6 +31,9 @@ module _ (M : Model) (s f l v : ℕ) (p : Point) (holds : first_false M (Mvfs s 
 module _ (s : Store) (n f l v : ℕ) (p : Point) where
   abbrev pub begun : Store
   begun = put_face (put_solid (put_vertex s v p) n) f n l
+
+  pub was_begun : (a b c : Store) → a ≡ put_vertex s v p → b ≡ put_solid a n → c ≡ put_face b f n l → c ≡ begun
+  was_begun a b c ea eb ec = ec ∙ ap (λ t. put_face t f n l) (eb ∙ ap (λ t. put_solid t n) ea)
 
   pub new_loop_there : table.has (put_loop begun l f).model.loops l ≡ true
   unfolding put_loop

@@ -2,9 +2,9 @@
 ghost use Rattle.std.specs.Prelude.{◌≡◌};
 ghost use Rattle.euler_conditions.specs.Ready.{Accepts, after};
 
-use crate::loop_steps::{put_before, put_edge, take_out};
+use crate::steps::{kill_edge, make_edge};
 use euler_conditions::Arena;
-use euler_operators::{HalfEdge, Kind, Op};
+use euler_operators::{Corner, HalfEdge, Kind, Op};
 
 /// Makes an edge between two corners of one loop, which parts the loop's face. `half` starts at the first corner.
 /// What follows the first corner up to before the second, and then the mate of `half`, becomes the outer loop of the
@@ -26,12 +26,16 @@ pub(crate) fn mef(
     let old_face = arena.face_of(arena.loop_of(first));
     let solid = arena.solid_of(old_face);
     prove!(arena.has(Kind::Solid, solid));
-    let mate = half.mate();
-    put_edge(arena, half, start, end);
     arena.put_loop(outer, face);
-    put_before(arena, first, half);
-    put_before(arena, second, mate);
-    arena.cut(half, mate, outer);
+    make_edge(
+        arena,
+        Corner::At(first),
+        Corner::At(second),
+        half,
+        start,
+        end,
+    );
+    arena.cut(half, half.mate(), outer);
     arena.put_face(face, solid, outer);
 }
 
@@ -45,9 +49,7 @@ pub(crate) fn kef(arena: &mut Arena, half: HalfEdge)
     let killed = arena.loop_of(mate);
     let face = arena.face_of(killed);
     arena.join(half, mate);
-    take_out(arena, mate);
-    take_out(arena, half);
-    arena.take_edge(half.edge);
+    kill_edge(arena, half);
     arena.take_loop(killed);
     arena.take_face(face);
 }

@@ -3,7 +3,7 @@
 ghost use Rattle.std.specs.Prelude.{◌≡◌};
 ghost use Rattle.euler_conditions.specs.Ready.{Accepts, after};
 
-use crate::loop_steps::{loop_at, put_at, put_edge, tail_at, take_out};
+use crate::steps::{kill_edge, loop_at, make_edge, tail_at};
 use euler_conditions::Arena;
 use euler_operators::{Corner, HalfEdge, Kind, Op};
 
@@ -14,14 +14,11 @@ pub(crate) fn kemr(arena: &mut Arena, half: HalfEdge, ring: u32)
     requires { Accepts arena.old (Op.Kemr half ring) }
     ensures { arena.new ≡ after arena.old (Op.Kemr half ring) }
 {
-    let mate = half.mate();
     let face = arena.face_of(arena.loop_of(half));
     prove!(arena.has(Kind::Face, face));
     arena.put_loop(ring, face);
-    arena.cut(half, mate, ring);
-    take_out(arena, half);
-    take_out(arena, mate);
-    arena.take_edge(half.edge);
+    arena.cut(half, half.mate(), ring);
+    kill_edge(arena, half);
 }
 
 /// Makes an edge between two corners of one face, of which the second stands in a ring. `half` starts at the first
@@ -34,10 +31,7 @@ pub(crate) fn mekr(arena: &mut Arena, first: Corner, second: Corner, half: HalfE
     let start = tail_at(arena, first);
     let end = tail_at(arena, second);
     let ring = loop_at(arena, second);
-    let mate = half.mate();
-    put_edge(arena, half, start, end);
-    put_at(arena, first, half);
-    put_at(arena, second, mate);
-    arena.join(half, mate);
+    make_edge(arena, first, second, half, start, end);
+    arena.join(half, half.mate());
     arena.take_loop(ring);
 }

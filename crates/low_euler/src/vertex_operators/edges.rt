@@ -2,9 +2,8 @@
 ghost use Rattle.std.specs.Prelude.{◌≡◌};
 ghost use Rattle.euler_conditions.specs.Ready.{Accepts, after};
 
-use crate::loop_steps::put_edge;
 use crate::reading;
-use crate::vertex_operators::steps;
+use crate::steps::{kill_edge, make_edge, move_tails};
 use euler_conditions::Arena;
 use euler_operators::{Corner, HalfEdge, Op, Point};
 
@@ -42,9 +41,7 @@ fn mev_lone(arena: &mut Arena, l: u32, half: HalfEdge, vertex: u32, point: Point
 {
     let old = reading::lone_vertex(arena, l);
     arena.put_vertex(vertex, point);
-    put_edge(arena, half, old, vertex);
-    arena.fill(l, half);
-    arena.join(half, half.mate());
+    make_edge(arena, Corner::Lone(l), Corner::At(half), half, old, vertex);
 }
 
 /// At two half-edges of one vertex.
@@ -60,11 +57,9 @@ fn mev_at(
     ensures { arena.new ≡ after arena.old (Op.Mev (Corner.At from) (Corner.At to) half vertex point) }
 {
     let old = arena.tail(from);
-    steps::move_tails(arena, from, to, vertex);
+    move_tails(arena, from, to, vertex);
     arena.put_vertex(vertex, point);
-    put_edge(arena, half, old, vertex);
-    steps::put_half(arena, from, half);
-    steps::put_half(arena, to, half.mate());
+    make_edge(arena, Corner::At(from), Corner::At(to), half, old, vertex);
 }
 
 /// Kills an edge, whose ends no other edge has, and the vertex at which the mate starts. What else started there starts
@@ -79,15 +74,8 @@ pub(crate) fn kev(arena: &mut Arena, half: HalfEdge)
     let mate = half.mate();
     let kept = arena.tail(half);
     let killed = arena.tail(mate);
-    let l = arena.loop_of(half);
     let following = arena.next(half);
-    let alone = arena.next(mate) == half;
-    steps::move_tails(arena, following, mate, kept);
-    steps::take_half(arena, half);
-    steps::take_half(arena, mate);
-    arena.take_edge(half.edge);
+    move_tails(arena, following, mate, kept);
+    kill_edge(arena, half);
     arena.take_vertex(killed);
-    if alone {
-        arena.set_lone(l, kept);
-    }
 }

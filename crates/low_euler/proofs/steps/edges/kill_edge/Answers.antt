@@ -1,0 +1,29 @@
+use Rattle.std.proofs.Common.{sym, ap, ◌∙◌, subst}
+use Rattle.euler_operators.specs.HalfEdge.{code, mate, plus, minus}
+use Rattle.euler_operators.proofs.Halves.{edge_of-code}
+use Rattle.euler_operators.specs.Table as table
+use Rattle.euler_conditions.specs.Store.{Store, take_edge}
+use Rattle.low_euler.specs.steps.Steps.{IsStanding, take_out}
+use Rattle.low_euler.proofs.steps_laws.EdgeSteps.{both_out}
+use Rattle.low_euler.proofs.steps.edges.kill_edge.Goals as goal
+
+pub take_out-requires : goal.take_out-requires
+take_out-requires c = subst (IsStanding c.args.arena.now.model) (sym c.mate.ensures) c.requires.mate
+
+pub take_out-requires-2 : goal.take_out-requires-2
+take_out-requires-2 c = subst (λ (t : Store). IsStanding t.model (code c.args.half)) (sym (c.take_out.ensures ∙ ap (take_out c.args.arena.now) c.mate.ensures)) c.requires.half
+
+pub take_edge-requires : goal.take_edge-requires
+take_edge-requires c =
+    let out = c.take_out-2.ensures ∙ ap (λ t. take_out t (code c.args.half)) (c.take_out.ensures ∙ ap (take_out c.args.arena.now) c.mate.ensures) in
+    let alone = both_out c.args.arena.now (code c.args.half) c.args.half.edge (sym (edge_of-code c.args.half)) in
+    record {
+      first = ap (λ (t : Store). table.get t.loose (plus c.args.half.edge)) out ∙ alone.0;
+      second = ap (λ (t : Store). table.get t.loose (minus c.args.half.edge)) out ∙ alone.1;
+    }
+
+pub returns : goal.returns
+returns c =
+    let out = c.take_out-2.ensures ∙ ap (λ t. take_out t (code c.args.half)) (c.take_out.ensures ∙ ap (take_out c.args.arena.now) c.mate.ensures) in
+    c.take_edge.ensures ∙ ap (λ t. take_edge t c.args.half.edge) out
+    ∙ ap (take_edge (take_out (take_out c.args.arena.now (mate (code c.args.half))) (code c.args.half))) (sym (edge_of-code c.args.half))

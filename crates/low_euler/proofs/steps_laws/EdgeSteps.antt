@@ -1,0 +1,135 @@
+-- What is loose while an edge is made between two corners, and once it is killed.
+use Rattle.std.proofs.Common.{◌≡◌, ◌≢◌, ℕ, true, List, [], ◌∷◌, Some, is_some, unwrap_or, refl, sym, ap, ◌∙◌, subst, arith, inl, inr, ◌⊎◌}
+use Rattle.std.proofs.lemmas.Bool.Decides.{nat_tests, eqb_tells}
+use Rattle.euler_operators.specs.Items.{count}
+use Rattle.euler_operators.specs.Operators.{put_ring}
+use Rattle.euler_operators.proofs.Lists.{tick_other}
+use Rattle.euler_operators.specs.declared.Corner.{Corner}
+use Rattle.euler_operators.specs.declared.Corner.TheVariants.{At, Lone}
+use Rattle.euler_operators.specs.HalfEdge.{code, mate, edge_of, plus, minus}
+use Rattle.euler_operators.proofs.Halves.{mate_other, edge_of-mate}
+use Rattle.euler_operators.specs.Table as table
+use Rattle.euler_operators.specs.Table.{Table, tables}
+use Rattle.euler_operators.specs.Model.{Model, cycle, items_of, no_loop, content, face_of, has_half, loop_of, cycle_of}
+use Rattle.euler_operators.proofs.Tables.{get-put_here, get-put_other}
+use Rattle.euler_operators.specs.Effect.{edge_row}
+use Rattle.euler_conditions.specs.Store.{Store, with_loop, loose_key, loose_ring, fill}
+use Rattle.low_euler.specs.steps.Steps.{IsLoose, IsUnused, with_edge, put_before, take_out, put_at}
+use Rattle.low_euler.proofs.steps_laws.RingSteps.{count_put}
+use Rattle.low_euler.proofs.steps_laws.LooseRings.{AreSingles, pair, pair_singles, get_first, left_second, pair_gone, singles_remove, key_is, ring_is, halves_of}
+
+-- a loop that gets another ring, without m, doesn't come to hold m
+none_with : (M : Model) (l m : ℕ) (ring : List ℕ) → count m ring ≡ 0 → ((q : ℕ) → count m (items_of (content M q)) ≡ 0) →
+    (q : ℕ) → count m (items_of (content (with_loop M l (cycle ring)) q)) ≡ 0
+unfolding content
+none_with M l m ring n none q = elim (eqb_tells q l) [
+  | inl e ↦ ap (λ k. count m (items_of (content (with_loop M l (cycle ring)) k))) e.1
+      ∙ ap (λ o. count m (items_of (unwrap_or o no_loop).content)) (get-put_here M.loops l (record { face = face_of M l; content = cycle ring })) ∙ n
+  | inr e ↦ ap (λ o. count m (items_of (unwrap_or o no_loop).content)) (get-put_other M.loops l (record { face = face_of M l; content = cycle ring }) q e.1) ∙ none q
+]
+
+module _ (s : Store) (h a b : ℕ) (unused : IsUnused s h) where
+  abbrev E : Store
+  E = with_edge s h a b
+
+  abbrev m : ℕ
+  m = mate h
+
+  h_m : h ≢ m
+  h_m = mate_other h
+
+  loose_is : E.loose ≡ pair h m h_m
+  unfolding with_edge
+  loose_is = ap (λ z. table.put (table.put z h (h ∷ [])) m (m ∷ [])) unused.bare
+
+  singles : AreSingles E.loose
+  singles = subst AreSingles (sym loose_is) (pair_singles h m h_m)
+
+  first_alone : table.get E.loose h ≡ Some (h ∷ [])
+  first_alone = ap (λ z. table.get z h) loose_is ∙ get_first h m h_m
+
+  first_there : has_half E.model h ≡ true
+  unfolding with_edge
+  first_there = ap is_some (get-put_here s.model.edges (edge_of h) (edge_row h a b))
+
+  second_there : has_half E.model m ≡ true
+  second_there = ap (table.has E.model.edges) (edge_of-mate h) ∙ first_there
+
+  content_E : (q : ℕ) → content E.model q ≡ content s.model q
+  unfolding with_edge content
+  content_E q = refl
+
+  none_first : (q : ℕ) → count h (items_of (content E.model q)) ≡ 0
+  none_first q = ap (λ c. count h (items_of c)) (content_E q) ∙ unused.first q
+
+  none_second : (q : ℕ) → count m (items_of (content E.model q)) ≡ 0
+  none_second q = ap (λ c. count m (items_of c)) (content_E q) ∙ unused.second q
+
+  -- both half-edges are loose: the one from the start on, under its own number, and the other once that is put at a corner
+  pub first_key : loose_key E h ≡ h
+  first_key = key_is E h singles first_alone
+
+  pub first_ring : loose_ring E h ≡ h ∷ []
+  first_ring = ring_is E h singles first_alone
+
+  pub first_loose : IsLoose E h
+  first_loose = record { there = first_there; nowhere = none_first; alone = first_ring }
+
+  -- h stands in a ring of loop l
+  abbrev put_in : ℕ → List ℕ → Store
+  put_in l ring = record E { model = with_loop E.model l (cycle ring); loose = table.remove E.loose (loose_key E h) }
+
+  module _ (l : ℕ) (ring : List ℕ) where
+    left_alone : table.get (put_in l ring).loose m ≡ Some (m ∷ [])
+    left_alone = ap (λ k. table.get (table.remove E.loose k) m) first_key ∙ ap (λ z. table.get (table.remove z h) m) loose_is ∙ left_second h m h_m
+
+    left_singles : AreSingles (put_in l ring).loose
+    left_singles = singles_remove E.loose (loose_key E h) singles
+
+    left_key : loose_key (put_in l ring) m ≡ m
+    left_key = key_is (put_in l ring) m left_singles left_alone
+
+    left_loose : count m ring ≡ 0 → IsLoose (put_in l ring) m
+    left_loose n = record { there = second_there; nowhere = none_with E.model l m ring n none_second; alone = ring_is (put_in l ring) m left_singles left_alone }
+
+  none_put : (g : ℕ) → count m (put_ring h g (cycle_of E.model g)) ≡ 0
+  none_put g =
+      let n : count m (cycle_of E.model g) ≡ 0 = none_second (loop_of E.model g) in
+      count_put m h g (cycle_of E.model g) ∙ omega (arith, tick_other m h (λ e. h_m (sym e)), n)
+
+  none_filled : count m (loose_ring E h) ≡ 0
+  none_filled = ap (count m) first_ring ∙ omega (arith, tick_other m h (λ e. h_m (sym e)))
+
+  pub second_key : (c : Corner) → loose_key (put_at E c h) m ≡ m
+  unfolding put_before fill
+  second_key (At g) = left_key (loop_of E.model (code g)) (put_ring h (code g) (cycle_of E.model (code g)))
+  second_key (Lone l) = left_key l (loose_ring E h)
+
+  pub second_loose : (c : Corner) → IsLoose (put_at E c h) m
+  unfolding put_before fill
+  second_loose (At g) = left_loose (loop_of E.model (code g)) (put_ring h (code g) (cycle_of E.model (code g))) (none_put (code g))
+  second_loose (Lone l) = left_loose l (loose_ring E h) none_filled
+
+  -- once both are put, nothing is loose
+  pub none_loose : table.remove (table.remove E.loose h) m ≡ s.loose
+  none_loose = ap (λ z. table.remove (table.remove z h) m) loose_is ∙ pair_gone h m h_m ∙ sym unused.bare
+
+-- ---- an edge that is killed
+
+two_alone : (t : Table (List ℕ)) (a b x : ℕ) → a ≢ b → (x ≡ a) ⊎ (x ≡ b) → table.get (table.put (table.put t a (a ∷ [])) b (b ∷ [])) x ≡ Some (x ∷ [])
+two_alone t a b x ne e = elim e [ inl q ↦ grind (arith, nat_tests, tables, q, ne) | inr q ↦ grind (arith, nat_tests, tables, q) ]
+
+abbrev left_loose_by : Store → ℕ → Table (List ℕ)
+left_loose_by s h = (take_out (take_out s (mate h)) h).loose
+
+-- its half-edges are loose, each alone
+pub both_out : (s : Store) (h e : ℕ) → e ≡ edge_of h → (table.get (left_loose_by s h) (plus e) ≡ Some (plus e ∷ [])) × (table.get (left_loose_by s h) (minus e) ≡ Some (minus e ∷ []))
+unfolding take_out
+both_out s h e is =
+    let m : ℕ = mate h in
+    let ne : m ≢ h = λ q. mate_other h (sym q) in
+    let at : (x : ℕ) → (x ≡ m) ⊎ (x ≡ h) → table.get (table.put (table.put s.loose m (m ∷ [])) h (h ∷ [])) x ≡ Some (x ∷ []) = λ x q. two_alone s.loose m h x ne q in
+    elim (halves_of h) [
+      | inl q ↦ (at (plus e) (inr (ap plus is ∙ q.0)), at (minus e) (inl (ap minus is ∙ q.1)))
+      | inr q ↦ (at (plus e) (inl (ap plus is ∙ q.0)), at (minus e) (inr (ap minus is ∙ q.1)))
+    ]

@@ -1,0 +1,93 @@
+-- Tables of loose rings of one half-edge each.
+use Rattle.std.proofs.Common.{◌≡◌, ◌≢◌, ℕ, cond, List, [], ◌∷◌, Some, None, unwrap_or, sym, ap, ◌∙◌, arith, ◌⊎◌, inl, inr}
+use Rattle.std.proofs.lemmas.Bool.Decides.{nat_tests, eqb_tells}
+use Rattle.euler_operators.specs.Items.{count, IsIn}
+use Rattle.euler_operators.proofs.Lists.{tick_same, tick_other}
+use Rattle.euler_operators.specs.HalfEdge.{mate, edge_of, plus, minus}
+use Rattle.euler_operators.specs.Table as table
+use Rattle.euler_operators.specs.Table.{Table, tables, same_table}
+use Rattle.euler_operators.specs.Model.{cycle, holds}
+use Rattle.euler_operators.proofs.Halves.{mate_cases}
+use Rattle.euler_operators.proofs.Tables.{first_where_is}
+use Rattle.euler_laws.proofs.shared.Rows.{one_row}
+use Rattle.euler_operators.proofs.Models.{in-holds, holds_in}
+use Rattle.euler_conditions.specs.Store.{Store, loose_key, loose_ring}
+
+-- each ring holds the half-edge alone under which it stands
+abbrev pub AreSingles : Table (List ℕ) → Type 0
+AreSingles z = (k : ℕ) (ks : List ℕ) → table.get z k ≡ Some ks → ks ≡ k ∷ []
+
+none_some : {X : Type 0} (x : X) → None ≡ Some x → ⊥
+none_some x e = cc
+
+pub singles_empty : AreSingles table.empty
+singles_empty k ks at = absurd (none_some ks (sym (table.get-empty k) ∙ at))
+
+pub singles_put : (z : Table (List ℕ)) (h : ℕ) → AreSingles z → AreSingles (table.put z h (h ∷ []))
+singles_put z h each k ks at =
+    let g = table.get-put z h (h ∷ []) k in
+    elim (eqb_tells k h) [
+      | inl e ↦ one_row (sym at ∙ g ∙ ap (λ b. cond b (Some (h ∷ [])) (table.get z k)) e.0) ∙ ap (λ x. x ∷ []) (sym e.1)
+      | inr e ↦ each k ks (sym (g ∙ ap (λ b. cond b (Some (h ∷ [])) (table.get z k)) e.0) ∙ at)
+    ]
+
+pub singles_remove : (z : Table (List ℕ)) (h : ℕ) → AreSingles z → AreSingles (table.remove z h)
+singles_remove z h each k ks at =
+    let g = table.get-remove z h k in
+    elim (eqb_tells k h) [
+      | inl e ↦ absurd (none_some ks (sym (g ∙ ap (λ b. cond b None (table.get z k)) e.0) ∙ at))
+      | inr e ↦ each k ks (sym (g ∙ ap (λ b. cond b None (table.get z k)) e.0) ∙ at)
+    ]
+
+module _ (s : Store) (h : ℕ) (each : AreSingles s.loose) (at : table.get s.loose h ≡ Some (h ∷ [])) where
+  one_item : (q : ℕ) (hs : List ℕ) → hs ≡ q ∷ [] → IsIn h hs → q ≡ h
+  one_item q hs e i = elim (eqb_tells h q) [ inl t ↦ sym t.1 | inr t ↦ absurd (omega (arith, i, ap (count h) e, tick_other h q t.1)) ]
+
+  -- its ring is found, and holds it alone
+  pub key_is : loose_key s h ≡ h
+  unfolding loose_key
+  key_is = first_where_is (λ _ hs. holds h (cycle hs)) s.loose h (h ∷ []) at (in-holds h (cycle (h ∷ [])) (omega (arith, tick_same h)))
+      (λ q hs found t. one_item q hs (each q hs found) (holds_in h (cycle hs) t))
+
+  pub ring_is : loose_ring s h ≡ h ∷ []
+  ring_is = ap (λ k. unwrap_or (table.get s.loose k) []) key_is ∙ ap (λ o. unwrap_or o []) at
+
+-- ---- two half-edges
+
+module _ (a b : ℕ) (ne : a ≢ b) where
+  -- each of the two alone in its ring
+  abbrev pub pair : Table (List ℕ)
+  pair = table.put (table.put table.empty a (a ∷ [])) b (b ∷ [])
+
+  pub pair_singles : AreSingles pair
+  pair_singles = singles_put (table.put table.empty a (a ∷ [])) b (singles_put table.empty a singles_empty)
+
+  pub get_first : table.get pair a ≡ Some (a ∷ [])
+  get_first = grind (arith, nat_tests, tables, ne)
+
+  pub get_second : table.get pair b ≡ Some (b ∷ [])
+  get_second = grind (arith, nat_tests, tables)
+
+  pub left_second : table.get (table.remove pair a) b ≡ Some (b ∷ [])
+  left_second = grind (arith, nat_tests, tables, ne)
+
+  pub pair_gone : table.remove (table.remove pair a) b ≡ table.empty
+  pair_gone = same_table _ _ (λ q. grind (arith, nat_tests, tables))
+
+  pub pair_gone_back : table.remove (table.remove pair b) a ≡ table.empty
+  pair_gone_back = same_table _ _ (λ q. grind (arith, nat_tests, tables))
+
+  -- where they are the two half-edges of an edge
+  module _ (e : ℕ) (halves : ((plus e ≡ a) × (minus e ≡ b)) ⊎ ((plus e ≡ b) × (minus e ≡ a))) where
+    pub edge_gone : table.remove (table.remove pair (plus e)) (minus e) ≡ table.empty
+    edge_gone = elim halves [
+      | inl h ↦ (λ i. table.remove (table.remove pair (h.0 i)) (h.1 i)) ∙ pair_gone
+      | inr h ↦ (λ i. table.remove (table.remove pair (h.0 i)) (h.1 i)) ∙ pair_gone_back
+    ]
+
+pub halves_of : (h : ℕ) → ((plus (edge_of h) ≡ h) × (minus (edge_of h) ≡ mate h)) ⊎ ((plus (edge_of h) ≡ mate h) × (minus (edge_of h) ≡ h))
+unfolding edge_of
+halves_of h = elim (mate_cases h) [ inl p ↦ inl (omega arith, omega arith) | inr p ↦ inr (omega arith, omega arith) ]
+
+pub halves_back : (h : ℕ) → ((plus (edge_of h) ≡ mate h) × (minus (edge_of h) ≡ h)) ⊎ ((plus (edge_of h) ≡ h) × (minus (edge_of h) ≡ mate h))
+halves_back h = elim (halves_of h) [ inl p ↦ inr p | inr p ↦ inl p ]

@@ -1,0 +1,169 @@
+-- What the arena's writers make of a store, where an edge is made and where one half-edge goes into a loop or leaves one.
+use Rattle.std.proofs.Common.{◌≡◌, ◌≢◌, ℕ, Bool, true, false, cond, List, [], ◌∷◌, is_some, sym, ap, ◌∙◌, arith}
+use Rattle.std.proofs.lemmas.Bool.Decides.{nat_tests}
+use Rattle.std.proofs.lemmas.Bool.{eq-eqb}
+use Rattle.euler_operators.specs.Items.{IsIn}
+use Rattle.euler_operators.specs.Rings.{rest, cut_left, cut_right, joined}
+use Rattle.euler_operators.specs.Operators.{put_ring, take_ring}
+use Rattle.euler_operators.specs.HalfEdge.{mate, edge_of, is_first, plus, minus, code}
+use Rattle.euler_operators.specs.declared.HalfEdge.{HalfEdge}
+use Rattle.euler_operators.specs.Table as table
+use Rattle.euler_operators.specs.Table.{Table, tables, same_table}
+use Rattle.euler_operators.specs.Model.{Model, EdgeRow, LoopRow, lone, cycle, items_of, content, face_of, loop_of, cycle_of, before, tail}
+use Rattle.euler_operators.proofs.Halves.{plus_row, minus_row, mate_plus, mate_minus}
+use Rattle.euler_operators.proofs.Tables.{get-put_here, put-put, put_turned}
+use Rattle.euler_operators.proofs.Models.{content_row, face_row, holds_in, held_row, in_no_loop}
+use Rattle.euler_operators.specs.Effect.{edge_row, cycle_or_lone}
+use Rattle.euler_laws.proofs.shared.Rows.{cycle_filled}
+use Rattle.euler_conditions.specs.Store as store
+use Rattle.euler_conditions.specs.Store.{Store, with_loop, with_lone, loosened, loose_key, loose_ring, join, join_loose, join_loops, cut, cut_loose, clear}
+use Rattle.low_euler.specs.steps.Steps.{IsStanding, IsLoose, with_edge, put_before, take_out}
+use Rattle.low_euler.proofs.steps_laws.RingSteps.{joined_before, cut_keeps, cut_takes, follows, nothing_follows, alone_list}
+
+pub remove-put_same : {X : Type 0} (t : Table X) (n : ℕ) (x : X) → table.remove (table.put t n x) n ≡ table.remove t n
+remove-put_same t n x = same_table _ _ (λ q. grind (arith, nat_tests, tables))
+
+-- ---- a new edge
+
+abbrev as_edge : Store → ℕ → ℕ → ℕ → EdgeRow → Store
+as_edge s h m n row = record s {
+  model = record s.model { edges = table.put s.model.edges n row };
+  loose = table.put (table.put s.loose h (h ∷ [])) m (m ∷ []);
+}
+
+with_edge_is : (s : Store) (h m n a b : ℕ) (f : Bool) → mate h ≡ m → edge_of h ≡ n → is_first h ≡ f →
+    with_edge s h a b ≡ as_edge s h m n (cond f (record { plus_tail = a; minus_tail = b }) (record { plus_tail = b; minus_tail = a }))
+unfolding with_edge
+with_edge_is s h m n a b f e g i =
+    ap (λ q. as_edge s h q (edge_of h) (edge_row h a b)) e
+    ∙ ap (λ q. as_edge s h m q (edge_row h a b)) g
+    ∙ ap (λ q. as_edge s h m n (cond q (record { plus_tail = a; minus_tail = b }) (record { plus_tail = b; minus_tail = a }))) i
+
+code_first : (h : HalfEdge) → h.first ≡ true → code h ≡ plus h.edge
+unfolding code
+code_first h e = ap (λ b. cond b (plus h.edge) (minus h.edge)) e
+
+code_second : (h : HalfEdge) → h.first ≡ false → code h ≡ minus h.edge
+unfolding code
+code_second h e = ap (λ b. cond b (plus h.edge) (minus h.edge)) e
+
+pub put_edge_first : (s : Store) (h : HalfEdge) (a b : ℕ) → h.first ≡ true → store.put_edge s h.edge a b ≡ with_edge s (code h) a b
+unfolding store.put_edge
+put_edge_first s h a b e = sym (ap (λ q. with_edge s q a b) (code_first h e)
+    ∙ with_edge_is s (plus h.edge) (minus h.edge) h.edge a b true (mate_plus h.edge) (plus_row h.edge).0 (plus_row h.edge).1)
+
+pub put_edge_second : (s : Store) (h : HalfEdge) (a b : ℕ) → h.first ≡ false → store.put_edge s h.edge b a ≡ with_edge s (code h) a b
+unfolding store.put_edge
+put_edge_second s h a b e =
+    let ne : plus h.edge ≢ minus h.edge = omega arith in
+    sym (ap (λ q. with_edge s q a b) (code_second h e)
+    ∙ with_edge_is s (minus h.edge) (plus h.edge) h.edge a b false (mate_minus h.edge) (minus_row h.edge).0 (minus_row h.edge).1
+    ∙ ap (λ t. record s { model = record s.model { edges = table.put s.model.edges h.edge (record { plus_tail = b; minus_tail = a }) }; loose = t })
+    (sym (put_turned s.loose (plus h.edge) (minus h.edge) (plus h.edge ∷ []) (minus h.edge ∷ []) ne)))
+
+-- ---- half-edges that go in and out
+
+module _ (s : Store) (g : ℕ) (stands : IsStanding s.model g) where
+  abbrev M : Model
+  M = s.model
+
+  abbrev r : ℕ
+  r = loop_of M g
+
+  abbrev xs : List ℕ
+  xs = cycle_of M g
+
+  abbrev p : ℕ
+  p = before M g
+
+  g_in : IsIn g xs
+  g_in = holds_in g (content M r) stands.stands
+
+  -- a join after the half-edge before g
+  module _ (h : ℕ) (loose : IsLoose s h) where
+    abbrev as_join : ℕ → List ℕ → Store
+    as_join l ys = record s { model = with_loop M l (cycle ys); loose = table.remove s.loose (loose_key s h) }
+
+    ring_put : joined p h xs (h ∷ []) ≡ put_ring h g xs
+    unfolding before
+    ring_put = joined_before xs stands.apart g g_in h (loose.nowhere r)
+
+    pub join_puts : join s p h ≡ put_before s g h
+    unfolding join_loose put_before
+    join_puts =
+        ap (λ b. cond b (join_loose s p h) (join_loops s p h)) (eq-eqb (loop_of M h) 0 (in_no_loop M h loose.nowhere))
+        ∙ ap (λ l. as_join l (joined p h (items_of (content M l)) (loose_ring s h))) stands.before_near
+        ∙ ap (λ ring. as_join r (joined p h xs ring)) loose.alone
+        ∙ ap (as_join r) ring_put
+
+  -- a cut after the half-edge before g
+  module _ (ne : p ≢ g) where
+    abbrev as_cut : ℕ → List ℕ → List ℕ → Store
+    as_cut l ys ring = record s { model = with_loop M l (cycle ys); loose = loosened ring s.loose }
+
+    ring_keeps : cut_left p g xs ≡ take_ring g xs
+    unfolding before
+    ring_keeps = cut_keeps xs stands.apart g g_in ne
+
+    ring_takes : cut_right p g xs ≡ g ∷ []
+    unfolding before
+    ring_takes = cut_takes xs stands.apart g g_in ne
+
+    some_follow : rest g xs ≢ []
+    unfolding before
+    some_follow = follows xs stands.apart g g_in ne
+
+    pub cut_takes_out : cut s p g 0 ≡ take_out s g
+    unfolding cut_loose take_out
+    cut_takes_out =
+        ap (λ l. as_cut l (cut_left p g (items_of (content M l))) (cut_right p g (items_of (content M l)))) stands.before_near
+        ∙ ap (λ ring. as_cut r (cut_left p g xs) ring) ring_takes
+        ∙ ap (λ ys. as_cut r ys (g ∷ [])) ring_keeps
+        ∙ ap (λ c. record s { model = with_loop M r c; loose = table.put s.loose g (g ∷ []) }) (sym (cycle_filled (rest g xs) (tail M g) some_follow))
+
+  -- where g is alone in its loop, the loop cleared and made lone
+  module _ (e : p ≡ g) where
+    none_follow : rest g xs ≡ []
+    unfolding before
+    none_follow = nothing_follows xs stands.apart g g_in e
+
+    abbrev bare_row : LoopRow
+    bare_row = record { face = face_of M r; content = cycle [] }
+
+    face_again : face_of (with_loop M r (cycle [])) r ≡ face_of M r
+    face_again = face_row (with_loop M r (cycle [])) r bare_row (get-put_here M.loops r bare_row)
+
+    one_item : xs ≡ g ∷ []
+    one_item = alone_list (cycle_of M g) stands.apart g g_in none_follow
+
+    row_there : table.has M.loops r ≡ true
+    row_there = ap is_some (held_row M g r stands.stands)
+
+    still_there : table.has (clear s r).model.loops r ≡ true
+    unfolding clear
+    still_there = ap is_some (get-put_here M.loops r bare_row)
+
+    now_bare : items_of (content (clear s r).model r) ≡ []
+    unfolding clear
+    now_bare = ap items_of (content_row (with_loop M r (cycle [])) r bare_row (get-put_here M.loops r bare_row))
+
+    clear_takes_out : with_lone (clear s r) r (tail M g) ≡ take_out s g
+    unfolding clear take_out
+    clear_takes_out =
+        ap (λ f. record s { model = record M { loops = table.put (table.put M.loops r bare_row) r (record { face = f; content = lone (tail M g) }) }; loose = loosened xs s.loose }) face_again
+        ∙ ap (λ t. record s { model = record M { loops = t }; loose = loosened xs s.loose }) (put-put M.loops r bare_row (record { face = face_of M r; content = lone (tail M g) }))
+        ∙ ap (λ ring. record s { model = with_loop M r (lone (tail M g)); loose = loosened ring s.loose }) one_item
+        ∙ ap (λ ys. record s { model = with_loop M r (cycle_or_lone ys (tail M g)); loose = table.put s.loose g (g ∷ []) }) (sym none_follow)
+
+    -- what the clearing and the setting ask, and what they leave
+    pub emptied_there : (n : ℕ) → n ≡ r → table.has M.loops n ≡ true
+    emptied_there n en = ap (table.has M.loops) en ∙ row_there
+
+    pub cleared_there : (q : Store) (n : ℕ) → n ≡ r → q ≡ clear s n → table.has q.model.loops n ≡ true
+    cleared_there q n en d = ap (λ (t : Store). table.has t.model.loops n) d ∙ ap (λ l. table.has (clear s l).model.loops l) en ∙ still_there
+
+    pub cleared_bare : (q : Store) (n : ℕ) → n ≡ r → q ≡ clear s n → items_of (content q.model n) ≡ []
+    cleared_bare q n en d = ap (λ (t : Store). items_of (content t.model n)) d ∙ ap (λ l. items_of (content (clear s l).model l)) en ∙ now_bare
+
+    pub was_emptied : (q t : Store) (n v : ℕ) → n ≡ r → v ≡ tail M g → q ≡ clear s n → t ≡ with_lone q n v → t ≡ take_out s g
+    was_emptied q t n v en ev d f = f ∙ ap (λ z. with_lone z n v) d ∙ ap (λ l. with_lone (clear s l) l v) en ∙ ap (with_lone (clear s r) r) ev ∙ clear_takes_out

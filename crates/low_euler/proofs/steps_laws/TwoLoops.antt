@@ -1,0 +1,255 @@
+-- Stores that differ in the contents of two loops only: what the readers answer there, and what the steps make of them.
+use Rattle.std.proofs.Common.{◌≡◌, ◌≢◌, ℕ, ◌+◌, ◌≤◌, cond, List, [], ◌∷◌, Some, unwrap_or, refl, sym, ap, ◌∙◌, subst, arith, inl, inr}
+use Rattle.std.proofs.lemmas.Bool.Decides.{nat_tests, eqb_tells}
+use Rattle.std.proofs.lemmas.Bool.{ne_eqb}
+use Rattle.euler_operators.specs.Items.{count, IsIn, IsApart}
+use Rattle.euler_operators.specs.Rings.{rest, predecessor, cut_left, cut_right, joined}
+use Rattle.euler_operators.specs.Operators.{put_ring}
+use Rattle.euler_operators.proofs.Rings.{IsIn_predecessor}
+use Rattle.euler_operators.specs.Table as table
+use Rattle.euler_operators.specs.Table.{Table, tables}
+use Rattle.euler_operators.specs.Model.{Model, LoopContent, LoopRow, cycle, holds, items_of, content, face_of, loop_of, cycle_of, before, tail, no_loop}
+use Rattle.euler_operators.specs.Sound.{HasHalf}
+use Rattle.euler_operators.proofs.Tables.{first_where_is, put-put, put_turned}
+use Rattle.euler_operators.proofs.Models.{content_row, face_row, in-holds, holds_in}
+use Rattle.euler_operators.specs.Effect.{cycle_or_lone}
+use Rattle.euler_conditions.specs.Store.{Store, Extents, loose_key, loose_ring, fill, join, join_loose, join_loops, cut_to}
+use Rattle.low_euler.specs.steps.Steps.{IsStanding, put_before, take_out}
+
+-- two loops of a model, and half-edges that stand in no other loop
+pub record TwoLoops (N : Model) (r l : ℕ) (all : List ℕ) : Type 0 where
+  pub apart : r ≢ l
+  pub first_real : r ≢ 0
+  pub second_real : l ≢ 0
+  pub once : IsApart all
+  pub there : (x : ℕ) → IsIn x all → HasHalf N x
+  pub others : (x q : ℕ) → IsIn x all → q ≢ r → q ≢ l → count x (items_of (content N q)) ≡ 0
+
+module _ (N : Model) (r l fr fl : ℕ) (all : List ℕ) (loops : TwoLoops N r l all) where
+  abbrev pub row_r : LoopContent → LoopRow
+  row_r c = record { face = fr; content = c }
+
+  abbrev pub row_l : LoopContent → LoopRow
+  row_l d = record { face = fl; content = d }
+
+  -- the model whose loops r and l hold c and d
+  abbrev pub holding : LoopContent → LoopContent → Model
+  holding c d = record N { loops = table.put (table.put N.loops r (row_r c)) l (row_l d) }
+
+  -- the two hold some of the half-edges, each once
+  abbrev pub Fits : LoopContent → LoopContent → Type 0
+  Fits c d = (x : ℕ) → count x (items_of c) + count x (items_of d) ≤ count x all
+
+  pub get_r : (t : Table LoopRow) (x y : LoopRow) → table.get (table.put (table.put t r x) l y) r ≡ Some x
+  get_r t x y = let a = loops.apart in grind (arith, nat_tests, tables, a)
+
+  pub get_l : (t : Table LoopRow) (x y : LoopRow) → table.get (table.put (table.put t r x) l y) l ≡ Some y
+  get_l t x y = grind (arith, nat_tests, tables)
+
+  get_else : (t : Table LoopRow) (x y : LoopRow) (q : ℕ) → q ≢ r → q ≢ l → table.get (table.put (table.put t r x) l y) q ≡ table.get t q
+  get_else t x y q a b = grind (arith, nat_tests, tables)
+
+  pub content_r : (c d : LoopContent) → content (holding c d) r ≡ c
+  content_r c d = content_row (holding c d) r (row_r c) (get_r N.loops (row_r c) (row_l d))
+
+  pub content_l : (c d : LoopContent) → content (holding c d) l ≡ d
+  content_l c d = content_row (holding c d) l (row_l d) (get_l N.loops (row_r c) (row_l d))
+
+  pub face_r : (c d : LoopContent) → face_of (holding c d) r ≡ fr
+  face_r c d = face_row (holding c d) r (row_r c) (get_r N.loops (row_r c) (row_l d))
+
+  pub face_l : (c d : LoopContent) → face_of (holding c d) l ≡ fl
+  face_l c d = face_row (holding c d) l (row_l d) (get_l N.loops (row_r c) (row_l d))
+
+  pub put_r : (c d e : LoopContent) → table.put (holding c d).loops r (row_r e) ≡ (holding e d).loops
+  put_r c d e = put_turned (table.put N.loops r (row_r c)) l r (row_l d) (row_r e) (λ q. loops.apart (sym q)) ∙ ap (λ t. table.put t l (row_l d)) (put-put N.loops r (row_r c) (row_r e))
+
+  pub put_l : (c d e : LoopContent) → table.put (holding c d).loops l (row_l e) ≡ (holding c e).loops
+  put_l c d e = put-put (table.put N.loops r (row_r c)) l (row_l d) (row_l e)
+
+  module _ (c d : LoopContent) (fits : Fits c d) where
+    abbrev P : Model
+    P = holding c d
+
+    content_else : (q : ℕ) → q ≢ r → q ≢ l → content P q ≡ content N q
+    unfolding content
+    content_else q a b = ap (λ o. (unwrap_or o no_loop).content) (get_else N.loops (row_r c) (row_l d) q a b)
+
+    count_else : (x q : ℕ) → IsIn x all → q ≢ r → q ≢ l → count x (items_of (content P q)) ≡ 0
+    count_else x q i a b = ap (λ k. count x (items_of k)) (content_else q a b) ∙ loops.others x q i a b
+
+    -- a half-edge of the first loop, or of the second, stands there
+    pub loop_r : (x : ℕ) → IsIn x (items_of c) → loop_of P x ≡ r
+    unfolding loop_of
+    loop_r x i = first_where_is (λ _ row. holds x row.content) P.loops r (row_r c) (get_r N.loops (row_r c) (row_l d)) (in-holds x c i)
+        (λ q y at h.
+        let j : IsIn x (items_of (content P q)) = holds_in x (content P q) (ap (holds x) (content_row P q y at) ∙ h) in
+        elim (eqb_tells q r) [
+          | inl a ↦ a.1
+          | inr a ↦ elim (eqb_tells q l) [
+            | inl b ↦ absurd (omega (arith, j, ap (λ k. count x (items_of (content P k))) b.1, ap (λ k. count x (items_of k)) (content_l c d), fits x, loops.once x, i))
+            | inr b ↦ absurd (omega (arith, j, count_else x q (omega (arith, fits x, i)) a.1 b.1))
+          ]
+        ])
+
+    pub loop_l : (x : ℕ) → IsIn x (items_of d) → loop_of P x ≡ l
+    unfolding loop_of
+    loop_l x i = first_where_is (λ _ row. holds x row.content) P.loops l (row_l d) (get_l N.loops (row_r c) (row_l d)) (in-holds x d i)
+        (λ q y at h.
+        let j : IsIn x (items_of (content P q)) = holds_in x (content P q) (ap (holds x) (content_row P q y at) ∙ h) in
+        elim (eqb_tells q l) [
+          | inl a ↦ a.1
+          | inr a ↦ elim (eqb_tells q r) [
+            | inl b ↦ absurd (omega (arith, j, ap (λ k. count x (items_of (content P k))) b.1, ap (λ k. count x (items_of k)) (content_r c d), fits x, loops.once x, i))
+            | inr b ↦ absurd (omega (arith, j, count_else x q (omega (arith, fits x, i)) b.1 a.1))
+          ]
+        ])
+
+    pub nowhere : (x : ℕ) → IsIn x all → count x (items_of c) + count x (items_of d) ≡ 0 → (q : ℕ) → count x (items_of (content P q)) ≡ 0
+    nowhere x i n q = elim (eqb_tells q r) [
+      | inl a ↦ omega (arith, n, ap (λ k. count x (items_of (content P k))) a.1, ap (λ k. count x (items_of k)) (content_r c d))
+      | inr a ↦ elim (eqb_tells q l) [
+        | inl b ↦ omega (arith, n, ap (λ k. count x (items_of (content P k))) b.1, ap (λ k. count x (items_of k)) (content_l c d))
+        | inr b ↦ count_else x q i a.1 b.1
+      ]
+    ]
+
+    pub cycle_r : (x : ℕ) → IsIn x (items_of c) → cycle_of P x ≡ items_of c
+    cycle_r x i = ap (λ q. items_of (content P q)) (loop_r x i) ∙ ap items_of (content_r c d)
+
+    pub cycle_l : (x : ℕ) → IsIn x (items_of d) → cycle_of P x ≡ items_of d
+    cycle_l x i = ap (λ q. items_of (content P q)) (loop_l x i) ∙ ap items_of (content_l c d)
+
+    before_r : (x : ℕ) → IsIn x (items_of c) → before P x ≡ predecessor (items_of c) x
+    unfolding before
+    before_r x i = ap (λ q. predecessor q x) (cycle_r x i)
+
+    before_l : (x : ℕ) → IsIn x (items_of d) → before P x ≡ predecessor (items_of d) x
+    unfolding before
+    before_l x i = ap (λ q. predecessor q x) (cycle_l x i)
+
+    half_P : (x : ℕ) → IsIn x all → HasHalf P x
+    half_P x i = loops.there x i
+
+    before_in_r : (x : ℕ) → IsIn x (items_of c) → IsIn (before P x) (items_of c)
+    before_in_r x i = subst (λ y. IsIn y (items_of c)) (sym (before_r x i)) (IsIn_predecessor x (items_of c) i)
+
+    before_in_l : (x : ℕ) → IsIn x (items_of d) → IsIn (before P x) (items_of d)
+    before_in_l x i = subst (λ y. IsIn y (items_of d)) (sym (before_l x i)) (IsIn_predecessor x (items_of d) i)
+
+    pub standing_r : (x : ℕ) → IsIn x (items_of c) → IsStanding P x
+    standing_r x i = record {
+      there = half_P x (omega (arith, fits x, i));
+      stands = ap (λ q. holds x (content P q)) (loop_r x i) ∙ ap (holds x) (content_r c d) ∙ in-holds x c i;
+      looped = λ e. loops.first_real (sym (loop_r x i) ∙ e);
+      apart = λ y. omega (arith, ap (count y) (cycle_r x i), fits y, loops.once y);
+      before_there = half_P (before P x) (omega (arith, fits (before P x), before_in_r x i));
+      before_near = loop_r (before P x) (before_in_r x i) ∙ sym (loop_r x i);
+    }
+
+    pub standing_l : (x : ℕ) → IsIn x (items_of d) → IsStanding P x
+    standing_l x i = record {
+      there = half_P x (omega (arith, fits x, i));
+      stands = ap (λ q. holds x (content P q)) (loop_l x i) ∙ ap (holds x) (content_l c d) ∙ in-holds x d i;
+      looped = λ e. loops.second_real (sym (loop_l x i) ∙ e);
+      apart = λ y. omega (arith, ap (count y) (cycle_l x i), fits y, loops.once y);
+      before_there = half_P (before P x) (omega (arith, fits (before P x), before_in_l x i));
+      before_near = loop_l (before P x) (before_in_l x i) ∙ sym (loop_l x i);
+    }
+
+  -- ---- the steps
+
+  module _ (R : Extents) where
+    -- the store whose loops r and l hold c and d, with loose rings z
+    abbrev pub state : LoopContent → LoopContent → Table (List ℕ) → Store
+    state c d z = record { model = holding c d; loose = z; room = R }
+
+    abbrev state_r : LoopContent → LoopContent → ℕ → ℕ → LoopContent → Table (List ℕ) → Store
+    state_r c d q f e z = record { model = record N { loops = table.put (holding c d).loops q (record { face = f; content = e }) }; loose = z; room = R }
+
+    -- a new content of the first loop, or of the second
+    new_r : (c d e : LoopContent) (z : Table (List ℕ)) (q : ℕ) → q ≡ r → state_r c d q (face_of (holding c d) q) e z ≡ state e d z
+    new_r c d e z q a = ap (λ k. state_r c d k (face_of (holding c d) k) e z) a ∙ ap (λ f. state_r c d r f e z) (face_r c d)
+        ∙ ap (λ t. record { model = record N { loops = t }; loose = z; room = R }) (put_r c d e)
+
+    new_l : (c d e : LoopContent) (z : Table (List ℕ)) (q : ℕ) → q ≡ l → state_r c d q (face_of (holding c d) q) e z ≡ state c e z
+    new_l c d e z q a = ap (λ k. state_r c d k (face_of (holding c d) k) e z) a ∙ ap (λ f. state_r c d l f e z) (face_l c d)
+        ∙ ap (λ t. record { model = record N { loops = t }; loose = z; room = R }) (put_l c d e)
+
+    module _ (c d : LoopContent) (z : Table (List ℕ)) (fits : Fits c d) where
+      pub put_before_r : (g h : ℕ) → IsIn g (items_of c) → put_before (state c d z) g h ≡ state (cycle (put_ring h g (items_of c))) d (table.remove z (loose_key (state c d z) h))
+      unfolding put_before
+      put_before_r g h i =
+          ap (λ hs. state_r c d (loop_of (holding c d) g) (face_of (holding c d) (loop_of (holding c d) g)) (cycle (put_ring h g hs)) (table.remove z (loose_key (state c d z) h))) (cycle_r c d fits g i)
+          ∙ new_r c d (cycle (put_ring h g (items_of c))) (table.remove z (loose_key (state c d z) h)) (loop_of (holding c d) g) (loop_r c d fits g i)
+
+      pub put_before_l : (g h : ℕ) → IsIn g (items_of d) → put_before (state c d z) g h ≡ state c (cycle (put_ring h g (items_of d))) (table.remove z (loose_key (state c d z) h))
+      unfolding put_before
+      put_before_l g h i =
+          ap (λ hs. state_r c d (loop_of (holding c d) g) (face_of (holding c d) (loop_of (holding c d) g)) (cycle (put_ring h g hs)) (table.remove z (loose_key (state c d z) h))) (cycle_l c d fits g i)
+          ∙ new_l c d (cycle (put_ring h g (items_of d))) (table.remove z (loose_key (state c d z) h)) (loop_of (holding c d) g) (loop_l c d fits g i)
+
+      tail_same : (x : ℕ) → tail (holding c d) x ≡ tail N x
+      unfolding tail
+      tail_same x = refl
+
+      pub take_out_r : (h : ℕ) → IsIn h (items_of c) → take_out (state c d z) h ≡ state (cycle_or_lone (rest h (items_of c)) (tail N h)) d (table.put z h (h ∷ []))
+      unfolding take_out
+      take_out_r h i =
+          ap (λ hs. state_r c d (loop_of (holding c d) h) (face_of (holding c d) (loop_of (holding c d) h)) (cycle_or_lone (rest h hs) (tail (holding c d) h)) (table.put z h (h ∷ []))) (cycle_r c d fits h i)
+          ∙ ap (λ v. state_r c d (loop_of (holding c d) h) (face_of (holding c d) (loop_of (holding c d) h)) (cycle_or_lone (rest h (items_of c)) v) (table.put z h (h ∷ []))) (tail_same h)
+          ∙ new_r c d (cycle_or_lone (rest h (items_of c)) (tail N h)) (table.put z h (h ∷ [])) (loop_of (holding c d) h) (loop_r c d fits h i)
+
+      pub take_out_l : (h : ℕ) → IsIn h (items_of d) → take_out (state c d z) h ≡ state c (cycle_or_lone (rest h (items_of d)) (tail N h)) (table.put z h (h ∷ []))
+      unfolding take_out
+      take_out_l h i =
+          ap (λ hs. state_r c d (loop_of (holding c d) h) (face_of (holding c d) (loop_of (holding c d) h)) (cycle_or_lone (rest h hs) (tail (holding c d) h)) (table.put z h (h ∷ []))) (cycle_l c d fits h i)
+          ∙ ap (λ v. state_r c d (loop_of (holding c d) h) (face_of (holding c d) (loop_of (holding c d) h)) (cycle_or_lone (rest h (items_of d)) v) (table.put z h (h ∷ []))) (tail_same h)
+          ∙ new_l c d (cycle_or_lone (rest h (items_of d)) (tail N h)) (table.put z h (h ∷ [])) (loop_of (holding c d) h) (loop_l c d fits h i)
+
+    -- the first loop takes the ring of a loose half-edge, or the second does
+    pub fill_r : (c d : LoopContent) (z : Table (List ℕ)) (q h : ℕ) → q ≡ r → fill (state c d z) q h ≡ state (cycle (loose_ring (state c d z) h)) d (table.remove z (loose_key (state c d z) h))
+    unfolding fill
+    fill_r c d z q h e = new_r c d (cycle (loose_ring (state c d z) h)) (table.remove z (loose_key (state c d z) h)) q e
+
+    pub fill_l : (c d : LoopContent) (z : Table (List ℕ)) (q h : ℕ) → q ≡ l → fill (state c d z) q h ≡ state c (cycle (loose_ring (state c d z) h)) (table.remove z (loose_key (state c d z) h))
+    unfolding fill
+    fill_l c d z q h e = new_l c d (cycle (loose_ring (state c d z) h)) (table.remove z (loose_key (state c d z) h)) q e
+
+    abbrev state_2 : LoopContent → LoopContent → ℕ → LoopRow → ℕ → LoopRow → Table (List ℕ) → Store
+    state_2 c d q x k y z = record { model = record N { loops = table.put (table.put (holding c d).loops q x) k y }; loose = z; room = R }
+
+    both : (c d e k : LoopContent) (z : Table (List ℕ)) → state_2 c d r (row_r e) l (row_l k) z ≡ state e k z
+    both c d e k z = ap (λ t. record { model = record N { loops = table.put t l (row_l k) }; loose = z; room = R }) (put_r c d e)
+        ∙ ap (λ t. record { model = record N { loops = t }; loose = z; room = R }) (put_l e d k)
+
+    -- the first loop is cut at two half-edges, and the part from the second on goes to the second loop
+    pub cut_parts : (xs : List ℕ) (d : LoopContent) (z : Table (List ℕ)) → Fits (cycle xs) d → (a b : ℕ) → IsIn a xs →
+        cut_to (state (cycle xs) d z) a b l ≡ state (cycle (cut_left a b xs)) (cycle (cut_right a b xs)) z
+    unfolding cut_to
+    cut_parts xs d z fits a b i =
+        let P : Model = holding (cycle xs) d in
+        ap (λ hs. state_2 (cycle xs) d (loop_of P a) (record { face = face_of P (loop_of P a); content = cycle (cut_left a b hs) }) l (record { face = face_of P l; content = cycle (cut_right a b hs) }) z) (cycle_r (cycle xs) d fits a i)
+        ∙ ap (λ q. state_2 (cycle xs) d q (record { face = face_of P q; content = cycle (cut_left a b xs) }) l (record { face = face_of P l; content = cycle (cut_right a b xs) }) z) (loop_r (cycle xs) d fits a i)
+        ∙ ap (λ f. state_2 (cycle xs) d r (record { face = f; content = cycle (cut_left a b xs) }) l (record { face = face_of P l; content = cycle (cut_right a b xs) }) z) (face_r (cycle xs) d)
+        ∙ ap (λ f. state_2 (cycle xs) d r (row_r (cycle (cut_left a b xs))) l (record { face = f; content = cycle (cut_right a b xs) }) z) (face_l (cycle xs) d)
+        ∙ both (cycle xs) d (cycle (cut_left a b xs)) (cycle (cut_right a b xs)) z
+
+    -- the two loops become one, and the second is empty
+    pub join_parts : (xs ys : List ℕ) (z : Table (List ℕ)) → Fits (cycle xs) (cycle ys) → (a b : ℕ) → IsIn a xs → IsIn b ys →
+        join (state (cycle xs) (cycle ys) z) a b ≡ state (cycle (joined a b xs ys)) (cycle []) z
+    unfolding join_loops
+    join_parts xs ys z fits a b i j =
+        let P : Model = holding (cycle xs) (cycle ys) in
+        let s : Store = state (cycle xs) (cycle ys) z in
+        let la = loop_r (cycle xs) (cycle ys) fits a i in
+        let lb = loop_l (cycle xs) (cycle ys) fits b j in
+        ap (λ t. cond t (join_loose s a b) (join_loops s a b)) (ne_eqb (loop_of P b) 0 (λ e. loops.second_real (sym lb ∙ e)))
+        ∙ ap (λ hs. state_2 (cycle xs) (cycle ys) (loop_of P b) (record { face = face_of P (loop_of P b); content = cycle [] }) (loop_of P a) (record { face = face_of P (loop_of P a); content = cycle (joined a b hs (cycle_of P b)) }) z) (cycle_r (cycle xs) (cycle ys) fits a i)
+        ∙ ap (λ hs. state_2 (cycle xs) (cycle ys) (loop_of P b) (record { face = face_of P (loop_of P b); content = cycle [] }) (loop_of P a) (record { face = face_of P (loop_of P a); content = cycle (joined a b xs hs) }) z) (cycle_l (cycle xs) (cycle ys) fits b j)
+        ∙ ap (λ q. state_2 (cycle xs) (cycle ys) q (record { face = face_of P q; content = cycle [] }) (loop_of P a) (record { face = face_of P (loop_of P a); content = cycle (joined a b xs ys) }) z) lb
+        ∙ ap (λ q. state_2 (cycle xs) (cycle ys) l (record { face = face_of P l; content = cycle [] }) q (record { face = face_of P q; content = cycle (joined a b xs ys) }) z) la
+        ∙ ap (λ f. state_2 (cycle xs) (cycle ys) l (record { face = f; content = cycle [] }) r (record { face = face_of P r; content = cycle (joined a b xs ys) }) z) (face_l (cycle xs) (cycle ys))
+        ∙ ap (λ f. state_2 (cycle xs) (cycle ys) l (row_l (cycle [])) r (record { face = f; content = cycle (joined a b xs ys) }) z) (face_r (cycle xs) (cycle ys))
+        ∙ ap (λ t. record { model = record N { loops = t }; loose = z; room = R })
+        (ap (λ t. table.put t r (row_r (cycle (joined a b xs ys)))) (put_l (cycle xs) (cycle ys) (cycle [])) ∙ put_r (cycle xs) (cycle []) (cycle (joined a b xs ys)))

@@ -1,0 +1,14 @@
+//! The steps of which the operators are made: an edge that is made between two corners or killed, a half-edge that goes into a
+//! loop or leaves one, and tails that move round a vertex. None takes memory or fails, and each but the last costs the same in
+//! every model.
+//!
+//! A store between two steps isn't sound, so each step asks only for what it stands on.
+
+mod corners;
+mod edges;
+mod halves;
+mod tails;
+
+pub(crate) use corners::{loop_at, tail_at};
+pub(crate) use edges::{kill_edge, make_edge};
+pub(crate) use tails::move_tails;

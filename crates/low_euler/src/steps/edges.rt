@@ -1,0 +1,56 @@
+//! An edge that is made between two corners, and one that is killed.
+ghost use Rattle.std.specs.Prelude.{◌≡◌, true, false};
+ghost use Rattle.euler_operators.specs.HalfEdge.{code, mate};
+ghost use Rattle.euler_conditions.specs.Store.{has_room, has_number};
+ghost use Rattle.low_euler.specs.steps.Steps.{IsStanding, IsUnused, CanTake, with_edge, put_at, take_out, make_edge, kill_edge};
+
+use crate::steps::corners::put_at;
+use crate::steps::halves::take_out;
+use euler_conditions::Arena;
+use euler_operators::{Corner, HalfEdge, Kind};
+
+/// Makes the edge of `half`, which starts at one vertex and ends at another. Both its half-edges are loose.
+fn put_edge(arena: &mut Arena, half: HalfEdge, start: u32, end: u32)
+    requires room { has_room arena.old Kind.Edge half.edge ≡ true }
+    requires free { has_number arena.old Kind.Edge half.edge ≡ false }
+    ensures { arena.new ≡ with_edge arena.old (code half) start end }
+{
+    if half.first {
+        arena.put_edge(half.edge, start, end);
+    } else {
+        arena.put_edge(half.edge, end, start);
+    }
+}
+
+/// Makes an edge between two corners: `half`, which starts at one vertex and ends at another, is put at the first, and then its
+/// mate at the second.
+pub(crate) fn make_edge(
+    arena: &mut Arena,
+    first: Corner,
+    second: Corner,
+    half: HalfEdge,
+    start: u32,
+    end: u32,
+)
+    requires room { has_room arena.old Kind.Edge half.edge ≡ true }
+    requires free { has_number arena.old Kind.Edge half.edge ≡ false }
+    requires unused { IsUnused arena.old (code half) }
+    requires first { CanTake (with_edge arena.old (code half) start end).model first }
+    requires second { CanTake (put_at (with_edge arena.old (code half) start end) first (code half)).model second }
+    ensures { arena.new ≡ make_edge arena.old first second (code half) start end }
+{
+    put_edge(arena, half, start, end);
+    put_at(arena, first, half);
+    put_at(arena, second, half.mate());
+}
+
+/// Kills an edge: the mate of `half` is taken out of its loop, and then `half`.
+pub(crate) fn kill_edge(arena: &mut Arena, half: HalfEdge)
+    requires mate { IsStanding arena.old.model (mate (code half)) }
+    requires half { IsStanding (take_out arena.old (mate (code half))).model (code half) }
+    ensures { arena.new ≡ kill_edge arena.old (code half) }
+{
+    take_out(arena, half.mate());
+    take_out(arena, half);
+    arena.take_edge(half.edge);
+}

@@ -1,0 +1,25 @@
+//! Half-edges of one vertex that start at another then.
+ghost use Rattle.std.specs.Prelude.{◌≡◌};
+ghost use Rattle.euler_operators.specs.HalfEdge.{code};
+ghost use Rattle.euler_operators.specs.Model.{arc, tail};
+ghost use Rattle.euler_operators.specs.Sound.{Sound, HasHalf};
+ghost use Rattle.low_euler.specs.steps.Steps.{with_tails_at};
+
+use euler_conditions::{Arena, same};
+use euler_operators::HalfEdge;
+
+/// Goes round a vertex from one half-edge up to before another, and lets each that it meets start at `vertex`.
+/// It costs as many steps as there are half-edges on the way.
+pub(crate) fn move_tails(arena: &mut Arena, from: HalfEdge, to: HalfEdge, vertex: u32)
+    requires sound { Sound arena.old.model }
+    requires from { HasHalf arena.old.model (code from) }
+    requires to { HasHalf arena.old.model (code to) }
+    requires one_tail { tail arena.old.model (code to) ≡ tail arena.old.model (code from) }
+    ensures { arena.new ≡ with_tails_at arena.old (arc arena.old.model (code from) (code to)) vertex }
+{
+    let mut half = from;
+    'round: while !same(half, to) {
+        arena.set_tail(half, vertex);
+        half = arena.next(half.mate());
+    }
+}
