@@ -6,6 +6,7 @@ pub mod Accepted
 pub mod Parts
 pub mod Inverses
 pub mod Undone
+pub mod Stepped
 pub mod Faces
 pub mod Merging
 pub mod vertex_operators_laws

@@ -2,26 +2,25 @@
 use Rattle.std.proofs.Common.{◌≡◌, ℕ, List, [], ◌∷◌, refl, sym, ap, ◌∙◌}
 use Rattle.euler_operators.specs.declared.Kind.{Kind}
 use Rattle.euler_operators.specs.declared.Kind.TheVariants.{Solid, Face, Loop, Edge, Vertex}
-use Rattle.euler_operators.specs.Model.{Model, faces_of}
+use Rattle.euler_operators.specs.Model.{Model}
 use Rattle.euler_conditions.specs.Store.{Store, has_room}
 use Rattle.euler_operators.specs.Conditions.{first_false}
 use Rattle.euler_operators.specs.Effect.{effect, inverse}
 use Rattle.euler_operators.specs.declared.Op.{Op}
-use Rattle.euler_operators.specs.declared.Op.TheVariants.{Mvfs, Kvfs, Mev, Kev, Mef, Kef, Kemr, Mekr, Kfmrh, Mfkrh, RingIn, RingOut, Outer, Merge, Part}
 use Rattle.euler_laws.proofs.Cases.{effect_keeps_sound, inverse_goes, inverse_undoes}
 use Rattle.euler_conditions.specs.Ready.{IsReady, AllRoom, HasRoomFor, Accepts, after, made}
 
 pub ready_after : (s : Store) (o : Op) → Accepts s o → IsReady (after s o)
 ready_after s o ok = record { sound = effect_keeps_sound s.model o ok.ready.sound ok.holds; bare = ok.ready.bare }
 
-same_room : (s : Store) (o : Op) (kind : Kind) (n : ℕ) → has_room s kind n ≡ has_room (after s o) kind n
+pub same_room : (s : Store) (o : Op) (kind : Kind) (n : ℕ) → has_room s kind n ≡ has_room (after s o) kind n
 same_room s o Solid n = refl
 same_room s o Face n = refl
 same_room s o Loop n = refl
 same_room s o Edge n = refl
 same_room s o Vertex n = refl
 
-room_after : (s : Store) (o : Op) (ks : List (Kind × ℕ)) → AllRoom s ks → AllRoom (after s o) ks
+pub room_after : (s : Store) (o : Op) (ks : List (Kind × ℕ)) → AllRoom s ks → AllRoom (after s o) ks
 room_after s o [] all = tt
 room_after s o (k ∷ ks) all = (sym (same_room s o k.0 k.1) ∙ all.0, room_after s o ks all.1)
 

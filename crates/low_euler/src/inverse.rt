@@ -11,7 +11,7 @@ use crate::reading;
 use euler_conditions::{Arena, corner_loop, loop_of, next, same};
 use euler_operators::{Corner, HalfEdge, Kind, Op};
 
-fn kvfs(arena: &Arena, solid: u32) -> Op
+pub(crate) fn kvfs(arena: &Arena, solid: u32) -> Op
     requires ready { IsReady arena.now }
     requires accepted { first_false arena.now.model (Op.Kvfs solid) ≡ None }
     ensures is { result ≡ inverse arena.now.model (Op.Kvfs solid) }
@@ -51,7 +51,7 @@ fn kev_corners(arena: &Arena, h: HalfEdge) -> (Corner, Corner)
     }
 }
 
-fn kev(arena: &Arena, h: HalfEdge) -> Op
+pub(crate) fn kev(arena: &Arena, h: HalfEdge) -> Op
     requires ready { IsReady arena.now }
     requires accepted { first_false arena.now.model (Op.Kev h) ≡ None }
     ensures is { result ≡ inverse arena.now.model (Op.Kev h) }
@@ -65,7 +65,7 @@ fn kev(arena: &Arena, h: HalfEdge) -> Op
     Op::Mev(first, second, h, killed, point)
 }
 
-fn kef(arena: &Arena, h: HalfEdge) -> Op
+pub(crate) fn kef(arena: &Arena, h: HalfEdge) -> Op
     requires ready { IsReady arena.now }
     requires accepted { first_false arena.now.model (Op.Kef h) ≡ None }
     ensures is { result ≡ inverse arena.now.model (Op.Kef h) }

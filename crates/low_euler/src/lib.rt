@@ -1,6 +1,6 @@
-//! The Euler operators in place. A caller tests an operator by `check`, asks for its room by `room_op`,
-//! the only call that takes memory, and then applies it: by `apply`, which answers the operator that takes it back, or by
-//! `replay`, which answers nothing.
+//! The Euler operators in place. A caller tests an operator by `check`, asks for its room by `room_op`, and then applies it: by
+//! `apply`, which answers the operator that takes it back, or by `replay`, which answers nothing. `advance` is `room_op` and `apply`
+//! in one. Only `room_op` and `advance` take memory.
 //! A number that once had its room keeps it, so that an operator can be taken back, and applied again, when memory is spent.
 //!
 //! `vertex_operators` makes and kills vertices (mvfs, kvfs, mev, kev), `loop_operators` parts and joins loops (mef, kef, kemr, mekr),
@@ -11,9 +11,11 @@
 //! Each operator in place leaves exactly its effect, and nothing else changed. `room_op` makes the room of all that an operator
 //! makes and keeps model and room, also on `AllocError`; where that room is there and no faces are listed it is Ok; `apply`
 //! leaves the effect, a sound model, and answers the inverse, which is accepted and takes the arena back; `replay` has the same
-//! effect. Neither can fail.
+//! effect. Neither can fail. `advance` makes the room, leaves the effect and answers the inverse; what the operator and its inverse make
+//! has its room then; on `AllocError` model and room are as after `room_op`.
 #![tactic(auto)]
 
+mod advancing;
 mod applying;
 mod face_operators;
 mod inverse;
@@ -24,6 +26,7 @@ mod reading;
 mod steps;
 mod vertex_operators;
 
+pub use advancing::advance;
 pub use applying::{apply, replay};
 pub use euler_conditions::{Arena, check};
 pub use making::{Room, room_op};

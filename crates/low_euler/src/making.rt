@@ -1,5 +1,5 @@
 //! What an operator takes with it: room for what it makes, and the faces that a merge moves.
-ghost use Rattle.std.specs.Prelude.{◌≡◌, [], OnOk, IfOk, IsOk, None};
+ghost use Rattle.std.specs.Prelude.{◌≡◌, [], ◌∷◌, OnOk, IfOk, IsOk, None};
 ghost use Rattle.euler_conditions.specs.Store.{HasGrown};
 ghost use Rattle.euler_operators.specs.Conditions.{first_false};
 ghost use Rattle.euler_conditions.specs.Ready.{IsReady, AllRoom, HasRoomFor};
@@ -16,17 +16,86 @@ pub struct Room {
     pub faces: FaceList,
 }
 
-/// Makes the room of each number. On `AllocError` the model is as it was, and no room is lost.
-fn make_room(arena: &mut Arena, numbers: &[(Kind, u32)]) -> Result<(), AllocError>
-    requires { AllFit numbers.now }
+/// Makes the room of one number. On `AllocError` the model is as it was, and no room is lost. It stands apart, so that the test
+/// whether the room is there is made in place.
+#[inline(never)]
+fn grow(arena: &mut Arena, number: (Kind, u32)) -> Result<(), AllocError>
+    requires { AllFit (number ∷ []) }
     ensures grown { HasGrown arena.old arena.new }
-    ensures ok { OnOk result (AllRoom arena.new numbers.now) }
-    ensures known { AllRoom arena.old numbers.now → IsOk result }
+    ensures ok { OnOk result (AllRoom arena.new (number ∷ [])) }
+    ensures known { AllRoom arena.old (number ∷ []) → IsOk result }
 {
-    for (kind, n) in numbers {
-        arena.room_for(*kind, *n)?;
+    arena.room_for(number.0, number.1)
+}
+
+/// Makes the room of one number where it isn't there, as `grow` does.
+#[inline(always)]
+fn room_for_one(arena: &mut Arena, number: (Kind, u32)) -> Result<(), AllocError>
+    requires { AllFit (number ∷ []) }
+    ensures grown { HasGrown arena.old arena.new }
+    ensures ok { OnOk result (AllRoom arena.new (number ∷ [])) }
+    ensures known { AllRoom arena.old (number ∷ []) → IsOk result }
+{
+    if arena.has_room(number.0, number.1) {
+        return Ok(());
     }
-    Ok(())
+    grow(arena, number)
+}
+
+/// Makes the room of two numbers, as `room_for_one` does.
+#[inline(always)]
+pub(crate) fn room_for_two(
+    arena: &mut Arena,
+    first: (Kind, u32),
+    second: (Kind, u32),
+) -> Result<(), AllocError>
+    requires { AllFit (first ∷ second ∷ []) }
+    ensures grown { HasGrown arena.old arena.new }
+    ensures ok { OnOk result (AllRoom arena.new (first ∷ second ∷ [])) }
+    ensures known { AllRoom arena.old (first ∷ second ∷ []) → IsOk result }
+{
+    room_for_one(arena, first)?;
+    room_for_one(arena, second)
+}
+
+/// Makes the room of three numbers, as `room_for_one` does.
+#[inline(always)]
+pub(crate) fn room_for_three(
+    arena: &mut Arena,
+    first: (Kind, u32),
+    second: (Kind, u32),
+    third: (Kind, u32),
+) -> Result<(), AllocError>
+    requires { AllFit (first ∷ second ∷ third ∷ []) }
+    ensures grown { HasGrown arena.old arena.new }
+    ensures ok { OnOk result (AllRoom arena.new (first ∷ second ∷ third ∷ [])) }
+    ensures known { AllRoom arena.old (first ∷ second ∷ third ∷ []) → IsOk result }
+{
+    room_for_one(arena, first)?;
+    room_for_two(arena, second, third)
+}
+
+/// Makes the room of a solid's number and of those of its face, its loop and its vertex, as `room_for_one` does.
+#[inline(always)]
+pub(crate) fn room_for_solid(
+    arena: &mut Arena,
+    solid: u32,
+    face: u32,
+    outer: u32,
+    vertex: u32,
+) -> Result<(), AllocError>
+    requires { AllFit ((Kind.Solid, solid) ∷ (Kind.Face, face) ∷ (Kind.Loop, outer) ∷ (Kind.Vertex, vertex) ∷ []) }
+    ensures grown { HasGrown arena.old arena.new }
+    ensures ok { OnOk result (AllRoom arena.new ((Kind.Solid, solid) ∷ (Kind.Face, face) ∷ (Kind.Loop, outer) ∷ (Kind.Vertex, vertex) ∷ [])) }
+    ensures known { AllRoom arena.old ((Kind.Solid, solid) ∷ (Kind.Face, face) ∷ (Kind.Loop, outer) ∷ (Kind.Vertex, vertex) ∷ []) → IsOk result }
+{
+    room_for_one(arena, (Kind::Solid, solid))?;
+    room_for_three(
+        arena,
+        (Kind::Face, face),
+        (Kind::Loop, outer),
+        (Kind::Vertex, vertex),
+    )
 }
 
 /// Makes the room of every number that an operator makes.
@@ -38,24 +107,18 @@ fn room_for_op(arena: &mut Arena, op: &Op) -> Result<(), AllocError>
     ensures known { HasRoomFor arena.old op.now → IsOk result }
 {
     match op {
-        Op::Mvfs(s, f, l, v, _) => make_room(
+        Op::Mvfs(s, f, l, v, _) => room_for_solid(arena, *s, *f, *l, *v),
+        Op::Mev(_, _, h, v, _) => room_for_two(arena, (Kind::Edge, h.edge), (Kind::Vertex, *v)),
+        Op::Mef(_, _, h, f, l) => room_for_three(
             arena,
-            &[
-                (Kind::Solid, *s),
-                (Kind::Face, *f),
-                (Kind::Loop, *l),
-                (Kind::Vertex, *v),
-            ],
+            (Kind::Edge, h.edge),
+            (Kind::Face, *f),
+            (Kind::Loop, *l),
         ),
-        Op::Mev(_, _, h, v, _) => make_room(arena, &[(Kind::Edge, h.edge), (Kind::Vertex, *v)]),
-        Op::Mef(_, _, h, f, l) => make_room(
-            arena,
-            &[(Kind::Edge, h.edge), (Kind::Face, *f), (Kind::Loop, *l)],
-        ),
-        Op::Kemr(_, l) => make_room(arena, &[(Kind::Loop, *l)]),
-        Op::Mekr(_, _, h) => make_room(arena, &[(Kind::Edge, h.edge)]),
-        Op::Mfkrh(_, f) => make_room(arena, &[(Kind::Face, *f)]),
-        Op::Part(_, t, _) => make_room(arena, &[(Kind::Solid, *t)]),
+        Op::Kemr(_, l) => room_for_one(arena, (Kind::Loop, *l)),
+        Op::Mekr(_, _, h) => room_for_one(arena, (Kind::Edge, h.edge)),
+        Op::Mfkrh(_, f) => room_for_one(arena, (Kind::Face, *f)),
+        Op::Part(_, t, _) => room_for_one(arena, (Kind::Solid, *t)),
         Op::Kvfs(_)
         | Op::Kev(_)
         | Op::Kef(_)

@@ -1,0 +1,45 @@
+-- An operator whose room was made is accepted then, and steps on.
+use Rattle.std.proofs.Common.{◌≡◌, ℕ, None, refl, sym, subst, ap, ◌∙◌}
+use Rattle.euler_operators.specs.declared.Point.{Point}
+use Rattle.euler_operators.specs.declared.Corner.{Corner}
+use Rattle.euler_operators.specs.declared.HalfEdge.{HalfEdge}
+use Rattle.euler_operators.specs.declared.Op.{Op}
+use Rattle.euler_operators.specs.declared.Op.TheVariants.{Mvfs, Kvfs, Mev, Kev, Mef, Kef}
+use Rattle.euler_operators.specs.Model.{Model}
+use Rattle.euler_operators.specs.Sound.{Sound}
+use Rattle.euler_operators.specs.Conditions.{first_false}
+use Rattle.euler_operators.specs.Effect.{effect, inverse}
+use Rattle.euler_conditions.specs.Store.{Store, has_room, HasGrown}
+use Rattle.euler_conditions.specs.Ready.{IsReady, HasRoomFor, Accepts, after, made}
+use Rattle.low_euler.specs.Room.{IsStepped}
+use Rattle.low_euler.proofs.Undone.{ready_after, same_room, room_after}
+
+pub accepted_grown : (r s : Store) (o : Op) → IsReady r → first_false r.model o ≡ None → HasGrown r s → HasRoomFor s o → Accepts s o
+accepted_grown r s o ready holds grown room = record {
+  ready = record { sound = subst Sound (sym grown.model) ready.sound; bare = grown.loose ∙ ready.bare };
+  holds = ap (λ (M : Model). first_false M o) grown.model ∙ holds;
+  room = room;
+}
+
+pub stepped_grown : (r s t : Store) (o i : Op) → HasGrown r s → Accepts s o → t ≡ after s o → i ≡ inverse r.model o → HasRoomFor s i → IsStepped r o t
+stepped_grown r s t o i grown ok is back room = record {
+  model = ap (λ (x : Store). x.model) is ∙ ap (λ (M : Model). effect M o) grown.model;
+  ready = subst IsReady (sym is) (ready_after s o ok);
+  kept = λ kind n there. ap (λ (x : Store). has_room x kind n) is ∙ (sym (same_room s o kind n) ∙ grown.kept kind n there);
+  room = subst (λ (x : Store). HasRoomFor x o) (sym is) (room_after s o (made o) ok.room);
+  inverse_room = subst (λ (x : Store). HasRoomFor x (inverse r.model o)) (sym is) (room_after s o (made (inverse r.model o)) (subst (HasRoomFor s) back room));
+}
+
+-- the inverses that name no more than the operator does
+module _ (M : Model) where
+  pub mvfs_back : (s f l v : ℕ) (p : Point) → Kvfs s ≡ inverse M (Mvfs s f l v p)
+  unfolding inverse
+  mvfs_back s f l v p = refl
+
+  pub mev_back : (c d : Corner) (h : HalfEdge) (v : ℕ) (p : Point) → Kev h ≡ inverse M (Mev c d h v p)
+  unfolding inverse
+  mev_back c d h v p = refl
+
+  pub mef_back : (g k h : HalfEdge) (f l : ℕ) → Kef h ≡ inverse M (Mef g k h f l)
+  unfolding inverse
+  mef_back g k h f l = refl

@@ -1,0 +1,23 @@
+use Rattle.std.specs.Prelude.{[], ◌∷◌}
+use Rattle.std.proofs.lemmas.Bool.{false≢true}
+use Rattle.std.proofs.lemmas.Result.{on_ok_weaker}
+use Rattle.low_euler.proofs.Made.{grown_more, room_kept}
+use Rattle.low_euler.proofs.making.room_for_two.Goals as goal
+
+pub room_for_one-requires : goal.room_for_one-requires
+room_for_one-requires c = (c.requires.0, tt)
+
+pub room_for_one-requires-2 : goal.room_for_one-requires-2
+room_for_one-requires-2 c = c.requires.1
+
+pub returns-in_err-room_for_one-clause-known : goal.returns-in_err-room_for_one-clause-known
+returns-in_err-room_for_one-clause-known c = λ all. absurd (false≢true (c.in_err-room_for_one.ensures.known (all.0, tt)))
+
+pub returns-clause-grown : goal.returns-clause-grown
+returns-clause-grown c = grown_more _ _ _ c.in_ok-room_for_one.ensures.grown c.room_for_one-2.ensures.grown
+
+pub returns-clause-ok : goal.returns-clause-ok
+returns-clause-ok c = on_ok_weaker c.room_for_one-2.result (λ others. (c.room_for_one-2.ensures.grown.kept c.args.first.0 c.args.first.1 c.in_ok-room_for_one.ensures.ok.0, others)) c.room_for_one-2.ensures.ok
+
+pub returns-clause-known : goal.returns-clause-known
+returns-clause-known c = λ all. c.room_for_one-2.ensures.known (room_kept _ _ (c.args.second ∷ []) c.in_ok-room_for_one.ensures.grown all.1)
