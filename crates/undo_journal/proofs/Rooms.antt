@@ -8,7 +8,8 @@ use Rattle.low_euler.specs.Store.{Store}
 use Rattle.euler_operators.specs.declared.Op.{Op}
 use Rattle.low_euler.specs.Ready.{AllRoom, HasRoomFor, made, after}
 use Rattle.undo_journal.specs.declared.record.Record.{Record}
-use Rattle.undo_journal.specs.Held.{AllHaveRoom, RecordsHaveRoom, all_after, KeepsRoom}
+use Rattle.low_euler.specs.Room.{KeepsRoom}
+use Rattle.undo_journal.specs.Held.{AllHaveRoom, RecordsHaveRoom, all_after}
 
 numbers_kept : (s t : Store) (ks : List (Kind × ℕ)) → KeepsRoom s t → AllRoom s ks → AllRoom t ks
 numbers_kept s t [] k all = tt

@@ -1,10 +1,8 @@
 -- What a session and a draft hold: one arena, the records of the commands, and a place among them.
-use Rattle.std.specs.Prelude.{◌≡◌, ℕ, ◌≤◌, true, List, [], ◌∷◌, length, take, drop, reverse}
-use Rattle.euler_operators.specs.declared.Kind.{Kind}
+use Rattle.std.specs.Prelude.{◌≡◌, ℕ, ◌≤◌, List, [], ◌∷◌, length, take, drop, reverse}
 use Rattle.euler_operators.specs.Model.{Model, empty_model}
-use Rattle.low_euler.specs.Store.{Store, has_room}
+use Rattle.low_euler.specs.Store.{Store}
 use Rattle.euler_operators.specs.declared.Op.{Op}
-use Rattle.euler_operators.specs.Effect.{effect, inverse}
 use Rattle.euler_laws.specs.Laws.{effects, AreAccepted}
 use Rattle.low_euler.specs.Ready.{IsReady, HasRoomFor}
 use Rattle.undo_journal.specs.declared.record.Record.{Record}
@@ -97,15 +95,3 @@ pub record IsDrafted (s : Store) (records : List Record) (place : ℕ) (forward 
 -- the arena after operators: its model is their effect, and nothing else has changed
 abbrev pub all_after : Store → List Op → Store
 all_after s ops = record s { model = effects s.model ops }
-
--- each number that had its room has it still
-abbrev pub KeepsRoom : Store → Store → Type 0
-KeepsRoom old new = (kind : Kind) (n : ℕ) → has_room old kind n ≡ true → has_room new kind n ≡ true
-
--- the arena after an operator whose room was made: what the operator and its inverse make has room
-pub record IsStepped (old : Store) (o : Op) (new : Store) : Type 0 where
-  pub model : new.model ≡ effect old.model o
-  pub ready : IsReady new
-  pub kept : KeepsRoom old new
-  pub room : HasRoomFor new o
-  pub inverse_room : HasRoomFor new (inverse old.model o)

@@ -151,7 +151,7 @@ impl Draft {
             forward: OpList::many(forward),
             back: OpList::many(back),
         };
-        records.push(record).unwrap();
+        records.push_reserved(record);
         Session {
             alloc,
             arena,

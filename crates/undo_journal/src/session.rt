@@ -1,5 +1,6 @@
 //! A session: one arena, the records of the commands, and the place among them.
-ghost use Rattle.std.specs.Prelude.{◌≡◌, ◌↔◌, ◌+◌, ◌<◌, OnOk, OnErr, IfOk, None, Some, Err, slice_index_or};
+ghost use Rattle.std.specs.Prelude.{◌≡◌, ◌↔◌, ◌+◌, ◌<◌, ◌≤◌, take, vec_len, OnOk, OnErr, IfOk, None, Some, Err, slice_index_or};
+ghost use Rattle.std.specs.Vec.{vec_capacity};
 ghost use Rattle.low_euler.specs.Ready.{IsReady};
 ghost use Rattle.undo_journal.specs.Machine.{held, depth, ahead, act_refusal, undo_refusal, redo_refusal};
 ghost use Rattle.undo_journal.specs.Journal.{new_journal, after_act, after_undo, after_redo};
@@ -11,11 +12,23 @@ ghost use Rattle.euler_operators.specs.Conditions.{verdict};
 ghost use Rattle.euler_operators.specs.declared.Refusal.{Refusal};
 
 use crate::record::{OpList, Record};
-use crate::steps::{advance, replay_all};
+use crate::steps::replay_all;
 use euler_operators::{Op, Refusal, Why};
-use low_euler::{Arena, check};
+use low_euler::{Arena, advance, check};
 use std::alloc::{AllocError, Global};
 use std::marker::Model;
+
+/// Drops the records from a place on. Where there is none, this is one test.
+fn drop_ahead(records: &mut Vec<Record>, place: usize)
+    ensures items { records.new.items ≡ take place records.old.items }
+    ensures capacity { vec_capacity records.new ≡ vec_capacity records.old }
+    ensures len { vec_len records.new ≤ vec_len records.old }
+{
+    if records.len() <= place {
+        return;
+    }
+    records.truncate(place);
+}
 
 /// Why a command did nothing: a condition that is false, or memory that was refused.
 #[derive(Debug, Drop)]
@@ -111,12 +124,12 @@ impl Session {
     {
         self.records.reserve(1)?;
         let inverse = advance(self.alloc, &mut *self.arena, &op)?;
-        self.records.truncate(self.place);
+        drop_ahead(&mut self.records, self.place);
         let record = Record {
             forward: OpList::one(op),
             back: OpList::one(inverse),
         };
-        self.records.push(record).unwrap();
+        self.records.push_reserved(record);
         self.place += 1;
         Ok(())
     }

@@ -1,14 +1,15 @@
 //! Operators applied in turn.
-ghost use Rattle.std.specs.Prelude.{◌≡◌, [], ◌∷◌, ◌++◌, OnOk, OnErr, IfOk, None};
+ghost use Rattle.std.specs.Prelude.{◌≡◌, [], ◌∷◌, ◌++◌, OnOk, OnErr, None};
 ghost use Rattle.low_euler.specs.Store.{HasGrown};
 ghost use Rattle.euler_operators.specs.Conditions.{first_false};
 ghost use Rattle.euler_operators.specs.Effect.{inverse};
 ghost use Rattle.euler_laws.specs.Laws.{AreAccepted};
 ghost use Rattle.low_euler.specs.Ready.{IsReady};
-ghost use Rattle.undo_journal.specs.Held.{AllHaveRoom, all_after, IsStepped};
+ghost use Rattle.low_euler.specs.Room.{IsStepped};
+ghost use Rattle.undo_journal.specs.Held.{AllHaveRoom, all_after};
 
 use euler_operators::Op;
-use low_euler::{Arena, apply, replay, room_op};
+use low_euler::{Arena, advance, replay};
 use std::alloc::{AllocError, Global};
 
 /// Applies operators in turn, each of which is accepted then and has its room. It takes no memory.
@@ -22,19 +23,6 @@ pub(crate) fn replay_all(arena: &mut Arena, ops: &[Op])
     for op in ops {
         replay(arena, op);
     }
-}
-
-/// Applies an operator that is accepted, and answers its inverse. All memory is taken before the change: on `AllocError` the model
-/// is as it was.
-pub(crate) fn advance(alloc: Global, arena: &mut Arena, op: &Op) -> Result<Op, AllocError>
-    requires ready { IsReady arena.old }
-    requires accepted { first_false arena.old.model op.now ≡ None }
-    ensures stepped { IfOk result (λ back. IsStepped arena.old op.now arena.new) }
-    ensures inverse { IfOk result (λ back. back ≡ inverse arena.old.model op.now) }
-    ensures err { OnErr result (HasGrown arena.old arena.new) }
-{
-    let room = room_op(alloc, arena, op)?;
-    Ok(apply(arena, op, room))
 }
 
 /// Applies an operator that is accepted, and appends it and its inverse to two lists. All memory is taken before the change:
@@ -58,7 +46,7 @@ pub(crate) fn step(
     forward.reserve(1)?;
     back.reserve(1)?;
     let inverse = advance(alloc, arena, &op)?;
-    forward.push(op).unwrap();
-    back.push(inverse).unwrap();
+    forward.push_reserved(op);
+    back.push_reserved(inverse);
     Ok(())
 }

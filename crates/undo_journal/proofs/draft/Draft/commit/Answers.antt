@@ -7,9 +7,9 @@ use Rattle.undo_journal.proofs.Kept.{kept_commit}
 use Rattle.undo_journal.proofs.Seen.{commit_seen}
 use Rattle.undo_journal.proofs.draft.Draft.commit.Goals as goal
 
-abbrev records : (c : goal.After-unwrap) → c.push.new.self.items ≡ take c.self.inside.place c.self.inside.records.items ++ command_of c.self.inside.forward.items c.self.inside.back.items ∷ []
+abbrev records : (c : goal.After-push_reserved) → c.push_reserved.new.self.items ≡ take c.self.inside.place c.self.inside.records.items ++ command_of c.self.inside.forward.items c.self.inside.back.items ∷ []
 records c =
-    (rw c.unwrap.ensures at c.push.ensures.items)
+    c.push_reserved.ensures.items
     ∙ ap (λ (rs : List Record). rs ++ record { forward = c.many.result; back = c.many-2.result } ∷ []) c.truncate.ensures.items
     ∙ ap (λ (ops : List Op). take c.self.inside.place c.self.inside.records.items ++ record { forward = ops; back = c.many-2.result } ∷ []) c.many.ensures
     ∙ ap (λ (ops : List Op). take c.self.inside.place c.self.inside.records.items ++ record { forward = c.self.inside.forward.items; back = ops } ∷ []) (c.many-2.ensures ∙ c.reverse.ensures.items)

@@ -5,7 +5,8 @@ use Rattle.euler_operators.specs.Conditions.{first_false}
 use Rattle.euler_operators.specs.Effect.{inverse}
 use Rattle.low_euler.specs.Store.{Store, HasGrown}
 use Rattle.undo_journal.specs.declared.record.Record.{Record}
-use Rattle.undo_journal.specs.Held.{journal_of, IsKept, IsStepped}
+use Rattle.low_euler.specs.Room.{IsStepped}
+use Rattle.undo_journal.specs.Held.{journal_of, IsKept}
 use Rattle.undo_journal.proofs.Kept.{kept_act, kept_grown}
 use Rattle.undo_journal.proofs.Seen.{goes_seen, act_seen}
 use Rattle.undo_journal.proofs.session.Session.accept.Goals as goal
@@ -19,10 +20,10 @@ invariant_of-self-in_err-inverse c =
     subst (λ (rs : List Record). IsKept c.advance.new.arena rs c.self.inside.place) (sym c.reserve.ensures.items)
     (kept_grown _ _ _ _ (subst (λ (s : Store). HasGrown s c.advance.new.arena) c.deref_mut.ensures.value c.in_err-inverse.ensures.err) c.self.invariant)
 
-abbrev records : (c : goal.After-self-2-1) → c.push.new.self.items ≡ take c.self.inside.place c.self.inside.records.items ++ record { forward = c.args.op ∷ []; back = inverse c.self.inside.arena.value.model c.args.op ∷ [] } ∷ []
+abbrev records : (c : goal.After-self-2-1) → c.push_reserved.new.self.items ≡ take c.self.inside.place c.self.inside.records.items ++ record { forward = c.args.op ∷ []; back = inverse c.self.inside.arena.value.model c.args.op ∷ [] } ∷ []
 records c =
-    (rw c.unwrap.ensures at c.push.ensures.items)
-    ∙ ap (λ (rs : List Record). rs ++ record { forward = c.one.result; back = c.one-2.result } ∷ []) (c.truncate.ensures.items ∙ ap (take c.self.inside.place) c.reserve.ensures.items)
+    c.push_reserved.ensures.items
+    ∙ ap (λ (rs : List Record). rs ++ record { forward = c.one.result; back = c.one-2.result } ∷ []) (c.drop_ahead.ensures.items ∙ ap (take c.self.inside.place) c.reserve.ensures.items)
     ∙ ap (λ (ops : List Op). take c.self.inside.place c.self.inside.records.items ++ record { forward = ops; back = c.one-2.result } ∷ []) c.one.ensures
     ∙ ap (λ (ops : List Op). take c.self.inside.place c.self.inside.records.items ++ record { forward = c.args.op ∷ []; back = ops } ∷ []) (c.one-2.ensures ∙ ap (λ (op : Op). op ∷ []) (c.in_ok-inverse.ensures.inverse ∙ ap (λ (s : Store). inverse s.model c.args.op) c.deref_mut.ensures.value))
 
