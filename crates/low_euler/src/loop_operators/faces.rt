@@ -10,6 +10,7 @@ use euler_operators::{Corner, HalfEdge, Kind, Op};
 /// What follows the first corner up to before the second, and then the mate of `half`, becomes the outer loop of the
 /// new face; the rest keeps its loop and its face. The cost is that of the shorter of the two loops, and of the places of
 /// the new loop and face among those of their owners.
+#[inline(always)]
 pub(crate) fn mef(
     arena: &mut Arena,
     first: HalfEdge,
@@ -41,6 +42,7 @@ pub(crate) fn mef(
 
 /// Kills an edge between two faces, with the face of the edge's mate and the one loop of that face. What stands in that
 /// loop goes to the loop of `half`, in the edge's place. The cost is that of the shorter of the two loops.
+#[inline(always)]
 pub(crate) fn kef(arena: &mut Arena, half: HalfEdge)
     requires { Accepts arena.old (Op.Kef half) }
     ensures { arena.new ≡ after arena.old (Op.Kef half) }

@@ -14,6 +14,7 @@ use euler_operators::{Corner, HalfEdge, Op, Point};
 ///
 /// The edge's and the vertex's numbers are free and have their room, and the point is in range. It costs as many steps
 /// as half-edges move to the new vertex, takes no memory and never fails.
+#[inline(always)]
 pub(crate) fn mev(
     arena: &mut Arena,
     first: Corner,
@@ -35,6 +36,7 @@ pub(crate) fn mev(
 }
 
 /// At a lone loop.
+#[inline(always)]
 fn mev_lone(arena: &mut Arena, l: u32, half: HalfEdge, vertex: u32, point: Point)
     requires { Accepts arena.old (Op.Mev (Corner.Lone l) (Corner.Lone l) half vertex point) }
     ensures { arena.new ≡ after arena.old (Op.Mev (Corner.Lone l) (Corner.Lone l) half vertex point) }
@@ -45,6 +47,7 @@ fn mev_lone(arena: &mut Arena, l: u32, half: HalfEdge, vertex: u32, point: Point
 }
 
 /// At two half-edges of one vertex.
+#[inline(always)]
 fn mev_at(
     arena: &mut Arena,
     from: HalfEdge,
@@ -67,6 +70,7 @@ fn mev_at(
 /// has another half-edge than `half`.
 ///
 /// It costs as many steps as half-edges start at the killed vertex, takes no memory and never fails.
+#[inline(always)]
 pub(crate) fn kev(arena: &mut Arena, half: HalfEdge)
     requires { Accepts arena.old (Op.Kev half) }
     ensures { arena.new ≡ after arena.old (Op.Kev half) }
