@@ -23,4 +23,4 @@ mod rows;
 
 pub use owner_chains::Chains;
 pub use ring_spots::EdgeRings;
-pub use rows::{FaceCell, Held, LoopCell, Row, Rows};
+pub use rows::{FaceCell, Held, LoopCell, Rows};

@@ -23,10 +23,10 @@ impl Arena {
         };
         if let Held::At(c) = old.held {
             self.rings.relabel(c, 0);
-            self.loops.write(l, Some(cell));
+            self.loops.set(l, cell);
             return;
         }
-        self.loops.write(l, Some(cell));
+        self.loops.set(l, cell);
     }
 
     /// Makes loop l lone at vertex v. It is there and holds no half-edge.
@@ -40,7 +40,7 @@ impl Arena {
             face: old.face,
             held: Held::Lone(v),
         };
-        self.loops.write(l, Some(cell));
+        self.loops.set(l, cell);
     }
 
     /// Puts the loose ring of h into loop l, which is there and holds no half-edge.
@@ -61,7 +61,7 @@ impl Arena {
             held: Held::At(item),
         };
         self.rings.relabel(item, l);
-        self.loops.write(l, Some(cell));
+        self.loops.set(l, cell);
     }
 
     /// Gives loop l, which is there, other content: what it held is a loose ring then, and l is lone at a vertex, or takes the

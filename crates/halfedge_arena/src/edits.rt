@@ -16,7 +16,7 @@ impl Arena {
         requires { has_room self.old Kind.Solid n ≡ true }
         ensures { self.new ≡ put_solid self.old n }
     {
-        self.solids.write(n, Some(true));
+        self.solids.put(n, true);
     }
 
     /// Solid n goes, which is there.
@@ -24,7 +24,7 @@ impl Arena {
         requires { has_number self.old Kind.Solid n ≡ true }
         ensures { self.new ≡ take_solid self.old n }
     {
-        self.solids.write(n, None);
+        self.solids.take(n);
     }
 
     /// A new face f of solid n with outer loop l. Number f is free and has its room, and so has the solid's number its room.
@@ -39,7 +39,7 @@ impl Arena {
         ensures { self.new ≡ put_face self.old f n l }
     {
         let cell = FaceCell { solid: n, outer: l };
-        self.faces.write(f, Some(cell));
+        self.faces.put(f, cell);
         self.solid_faces.insert(n, f);
     }
 
@@ -48,7 +48,7 @@ impl Arena {
         requires { has_number self.old Kind.Face f ≡ true }
         ensures { self.new ≡ take_face self.old f }
     {
-        self.faces.write(f, None);
+        self.faces.take(f);
         self.solid_faces.remove(f);
     }
 
@@ -59,7 +59,7 @@ impl Arena {
     {
         let solid = self.faces.known(f).solid;
         let cell = FaceCell { solid, outer: l };
-        self.faces.write(f, Some(cell));
+        self.faces.set(f, cell);
     }
 
     /// Face f, which is there, is of another solid, whose number has its room. Its place there is looked for as `put_face` does.
@@ -73,7 +73,7 @@ impl Arena {
             solid: n,
             outer: old.outer,
         };
-        self.faces.write(f, Some(cell));
+        self.faces.set(f, cell);
         self.solid_faces.remove(f);
         self.solid_faces.insert(n, f);
     }
@@ -84,7 +84,7 @@ impl Arena {
         requires range { IsInRange p }
         ensures { self.new ≡ put_vertex self.old v p }
     {
-        self.vertices.write(v, Some(PackedPoint::new(p)));
+        self.vertices.put(v, PackedPoint::new(p));
     }
 
     /// Vertex v goes, which is there.
@@ -92,7 +92,7 @@ impl Arena {
         requires { has_number self.old Kind.Vertex v ≡ true }
         ensures { self.new ≡ take_vertex self.old v }
     {
-        self.vertices.write(v, None);
+        self.vertices.take(v);
     }
 
     /// A new loop l of face f, which is empty. Number l is free and has its room, and so has the face's number its room.
@@ -109,7 +109,7 @@ impl Arena {
             face: f,
             held: Held::Empty,
         };
-        self.loops.write(l, Some(cell));
+        self.loops.put(l, cell);
         self.face_loops.insert(f, l);
     }
 
@@ -119,7 +119,7 @@ impl Arena {
         requires bare { items_of (content self.old.model l) ≡ [] }
         ensures { self.new ≡ take_loop self.old l }
     {
-        self.loops.write(l, None);
+        self.loops.take(l);
         self.face_loops.remove(l);
     }
 
@@ -134,7 +134,7 @@ impl Arena {
             face: f,
             held: old.held,
         };
-        self.loops.write(l, Some(cell));
+        self.loops.set(l, cell);
         self.face_loops.remove(l);
         self.face_loops.insert(f, l);
     }

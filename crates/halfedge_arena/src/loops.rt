@@ -32,7 +32,7 @@ impl Arena {
             face,
             held: Held::At(first),
         };
-        self.loops.write(kept, Some(cell));
+        self.loops.set(kept, cell);
         if l == 0 {
             return;
         }
@@ -41,7 +41,7 @@ impl Arena {
             face: other,
             held: Held::At(second),
         };
-        self.loops.write(l, Some(cell));
+        self.loops.set(l, cell);
     }
 
     /// Joins to a's loop another one, or a loose ring: `a Y` and `b X` become `a X b Y` under the number of a's loop. b's loop,
@@ -67,7 +67,7 @@ impl Arena {
             held: Held::At(first),
         };
         if gone == 0 {
-            self.loops.write(kept, Some(cell));
+            self.loops.set(kept, cell);
             return;
         }
         let other = self.loops.known(gone).face;
@@ -75,8 +75,8 @@ impl Arena {
             face: other,
             held: Held::Empty,
         };
-        self.loops.write(gone, Some(empty));
-        self.loops.write(kept, Some(cell));
+        self.loops.set(gone, empty);
+        self.loops.set(kept, cell);
     }
 
     /// Cuts b out of its loop, where a stands before it: `cut` with 0 and a part of one. b is loose then, alone in its ring.
@@ -101,7 +101,7 @@ impl Arena {
             face,
             held: Held::At(stays),
         };
-        self.loops.write(kept, Some(cell));
+        self.loops.set(kept, cell);
     }
 
     /// Joins to a's loop a half-edge that is loose, alone in its ring: `join` with a ring of one. It stands after a then.

@@ -13,7 +13,7 @@ use Rattle.arena_rows.proofs.owner_chains_laws.Linking.{same_link, IsRelinked, r
 use Rattle.arena_rows.proofs.owner_chains_laws.Tables.{owner_at, row_free, owners_of-put}
 use Rattle.arena_rows.proofs.owner_chains_laws.Counting.{owned-put, owned-put_other}
 
-pub record Comes (heads heads' : List Head) (links links' : List (Option Link)) (n : ℕ) (new : Link) : Type 0 where
+pub record Comes (heads heads' : List (Option Head)) (links links' : List (Option Link)) (n : ℕ) (new : Link) : Type 0 where
   pub are : AreChained heads links
   pub some : n ≢ 0
   pub free : link_at links n ≡ None
@@ -25,7 +25,7 @@ pub record Comes (heads heads' : List Head) (links links' : List (Option Link)) 
   pub head_rows : (q : ℕ) → head_at heads' q ≡ cond (nat_eq q new.owner) (gained n new (head_at heads new.owner)) (head_at heads q)
   pub head_len : length heads' ≡ length heads
 
-module _ (heads heads' : List Head) (links links' : List (Option Link)) (n : ℕ) (new : Link) (c : Comes heads heads' links links' n new) where
+module _ (heads heads' : List (Option Head)) (links links' : List (Option Link)) (n : ℕ) (new : Link) (c : Comes heads heads' links links' n new) where
   abbrev o : ℕ
   o = new.owner
 
@@ -175,7 +175,7 @@ module _ (heads heads' : List Head) (links links' : List (Option Link)) (n : ℕ
   put_is = λ i. record { owner_of = table_is i; owners_end = c.head_len i; items_end = c.len i }
 
 -- the new item, put between the one below it and the one that follows that
-pub coming : (heads heads' : List Head) (links links' : List (Option Link)) (o n p q : ℕ) → AreChained heads links → n ≢ 0 → get (owners_of links) n ≡ None → o < length heads → IsBelow (items links o) n p → q ≡ follower heads links o p →
+pub coming : (heads heads' : List (Option Head)) (links links' : List (Option Link)) (o n p q : ℕ) → AreChained heads links → n ≢ 0 → get (owners_of links) n ≡ None → o < length heads → IsBelow (items links o) n p → q ≡ follower heads links o p →
     ((k : ℕ) → link_at links' k ≡ linked_in n (record { owner = o; previous = p; next = q }) k (link_at links k)) → length links' ≡ length links →
     ((k : ℕ) → head_at heads' k ≡ cond (nat_eq k o) (gained n (record { owner = o; previous = p; next = q }) (head_at heads o)) (head_at heads k)) → length heads' ≡ length heads →
     Comes heads heads' links links' n (record { owner = o; previous = p; next = q })

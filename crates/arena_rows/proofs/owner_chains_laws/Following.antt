@@ -27,7 +27,7 @@ item_row links o n h = go (link_at links n) (λ i. link_at links n) h where
 pub is_item : (links : List (Option Link)) (n : ℕ) (link : Link) → link_at links n ≡ Some link → items links link.owner n ≡ true
 is_item links n link here = ap (is_of link.owner) here ∙ eq-eqb link.owner link.owner (λ i. link.owner)
 
-module _ (heads : List Head) (links : List (Option Link)) (are : AreChained heads links) (o : ℕ) where
+module _ (heads : List (Option Head)) (links : List (Option Link)) (are : AreChained heads links) (o : ℕ) where
   pub no_zero_item : items links o 0 ≡ false
   no_zero_item = ap (is_of o) are.no_zero
 

@@ -13,7 +13,7 @@ use Rattle.arena_rows.proofs.owner_chains_laws.Linking.{IsRelinked, relinked_row
 use Rattle.arena_rows.proofs.owner_chains_laws.Tables.{owner_at, owners_of-remove}
 use Rattle.arena_rows.proofs.owner_chains_laws.Counting.{owned-remove, owned-remove_other}
 
-pub record Goes (heads heads' : List Head) (links links' : List (Option Link)) (n : ℕ) (old : Link) : Type 0 where
+pub record Goes (heads heads' : List (Option Head)) (links links' : List (Option Link)) (n : ℕ) (old : Link) : Type 0 where
   pub are : AreChained heads links
   pub there : link_at links n ≡ Some old
   pub rows : (q : ℕ) → link_at links' q ≡ linked_out n old q (link_at links q)
@@ -22,10 +22,10 @@ pub record Goes (heads heads' : List Head) (links links' : List (Option Link)) (
   pub head_len : length heads' ≡ length heads
 
 -- an item's owner counts it
-pub counted : (heads : List Head) (links : List (Option Link)) (n : ℕ) (old : Link) → AreChained heads links → link_at links n ≡ Some old → (head_at heads old.owner).count ≡ length (owned old.owner (remove (owners_of links) n)) + 1
+pub counted : (heads : List (Option Head)) (links : List (Option Link)) (n : ℕ) (old : Link) → AreChained heads links → link_at links n ≡ Some old → (head_at heads old.owner).count ≡ length (owned old.owner (remove (owners_of links) n)) + 1
 counted heads links n old are there = are.counts old.owner ∙ owned-remove (owners_of links) n old.owner (owner_at links n ∙ ap owner_in there)
 
-module _ (heads heads' : List Head) (links links' : List (Option Link)) (n : ℕ) (old : Link) (c : Goes heads heads' links links' n old) where
+module _ (heads heads' : List (Option Head)) (links links' : List (Option Link)) (n : ℕ) (old : Link) (c : Goes heads heads' links links' n old) where
   abbrev o : ℕ
   o = old.owner
 

@@ -18,7 +18,7 @@ module _ (links : List (Option Link)) (o n : ℕ) where
   one_above m some above = ((above.found some).0, item_at links o m ∙ (above.found some).1, λ k l less. false_from_ne_true _ (λ h. omega (arith, less, (above.least k l (sym (item_at links o k) ∙ h)).1)))
 
 -- the same rows, and more
-module _ (heads heads' : List Head) (links links' : List (Option Link)) (are : AreChained heads links) (same_heads : (q : ℕ) → head_at heads' q ≡ head_at heads q) (same_links : (q : ℕ) → link_at links' q ≡ link_at links q) where
+module _ (heads heads' : List (Option Head)) (links links' : List (Option Link)) (are : AreChained heads links) (same_heads : (q : ℕ) → head_at heads' q ≡ head_at heads q) (same_links : (q : ℕ) → link_at links' q ≡ link_at links q) where
   same_items : (o k : ℕ) → items links' o k ≡ items links o k
   same_items o k = ap (is_of o) (same_links k)
 

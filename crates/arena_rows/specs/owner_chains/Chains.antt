@@ -12,8 +12,13 @@ link_at links n = slice_index_or links n None
 abbrev pub no_head : Head
 no_head = record { count = 0; first = 0; finger = 0 }
 
-abbrev pub head_at : List Head → ℕ → Head
-head_at heads o = slice_index_or heads o no_head
+abbrev pub head_in : Option Head → Head
+head_in None = no_head
+head_in (Some head) = head
+
+-- what an owner has
+abbrev pub head_at : List (Option Head) → ℕ → Head
+head_at heads o = head_in (slice_index_or heads o None)
 
 abbrev pub owner_in : Option Link → Option ℕ
 owner_in None = None
@@ -29,7 +34,7 @@ is_of o None = false
 is_of o (Some link) = nat_eq link.owner o
 
 -- what follows row n in the chain of owner o, whose first item follows 0
-abbrev pub follower : List Head → List (Option Link) → ℕ → ℕ → ℕ
+abbrev pub follower : List (Option Head) → List (Option Link) → ℕ → ℕ → ℕ
 follower heads links o n = cond (nat_eq n 0) (head_at heads o).first (next_in (link_at links n))
 
 -- the row of an item that leads on to another one, or back
@@ -88,7 +93,7 @@ items links o k = is_of o (link_at links k)
 abbrev pub owners_of : List (Option Link) → Table ℕ
 owners_of links = tabulate (λ k. owner_in (link_at links k)) (length links)
 
-abbrev pub view_of : List Head → List (Option Link) → Owners
+abbrev pub view_of : List (Option Head) → List (Option Link) → Owners
 view_of heads links = record { owner_of = owners_of links; owners_end = length heads; items_end = length links }
 
 -- each item leads back to the one before it of its owner
@@ -97,7 +102,7 @@ LeadBack links = (n : ℕ) (link : Link) → link_at links n ≡ Some link → I
 
 -- each item leads to the next one of its owner and to the one before; each owner has its first item, their count, and a
 -- finger on one of them
-pub record AreChained (heads : List Head) (links : List (Option Link)) : Type 0 where
+pub record AreChained (heads : List (Option Head)) (links : List (Option Link)) : Type 0 where
   pub no_zero : link_at links 0 ≡ None
   pub within : length links ≤ 1000001
   pub firsts : (o : ℕ) → IsAbove (items links o) 0 (head_at heads o).first

@@ -4,9 +4,8 @@ ghost use Rattle.boundary_model.specs.Table.{get, has};
 ghost use Rattle.arena_rows.specs.owner_chains.Owners.{no_owners, put, take, owned, IsNextItem, OwnersHaveGrown};
 
 use crate::owner_chains::places::{above, below};
-use crate::owner_chains::rows::{
-    Head, Link, find, follower, gain, head_of, link_in, link_out, lose, reach_heads, reach_links,
-};
+use crate::owner_chains::rows::{Head, Link, follower, gain, head_of, link_in, link_out, lose};
+use crate::rows::Rows;
 use std::alloc::{AllocError, Global};
 use std::marker::Model;
 
@@ -20,8 +19,8 @@ use std::marker::Model;
 /// nearest item of the owner, whichever is less.
 #[derive(Drop)]
 pub struct Chains {
-    heads: Vec<Head>,
-    links: Vec<Option<Link>>,
+    heads: Rows<Head>,
+    links: Rows<Link>,
 }
 
 impl Model for Chains {
@@ -33,9 +32,9 @@ impl Model for Chains {
 
     ghost use Rattle.arena_rows.specs.owner_chains.Chains.{view_of, AreChained};
 
-    ghost view = { λ a. view_of a.heads.items a.links.items };
+    ghost view = { λ a. view_of a.heads a.links };
 
-    ghost invariant = { λ a. AreChained a.heads.items a.links.items };
+    ghost invariant = { λ a. AreChained a.heads a.links };
 }
 
 impl Chains {
@@ -44,8 +43,8 @@ impl Chains {
         ensures { result ≡ no_owners }
     {
         Self {
-            heads: Vec::new(alloc),
-            links: Vec::new(alloc),
+            heads: Rows::new(alloc),
+            links: Rows::new(alloc),
         }
     }
 
@@ -91,7 +90,7 @@ impl Chains {
         requires { has self.old.owner_of n ≡ true }
         ensures { self.new ≡ take self.old n }
     {
-        let Some(gone) = find(&self.links, n) else {
+        let Some(gone) = self.links.find(n) else {
             unreachable!()
         };
         link_out(&mut self.links, n, gone);
@@ -106,7 +105,7 @@ impl Chains {
         ensures ok { OnOk result (owner < self.new.owners_end) }
         ensures known { owner < self.old.owners_end → IsOk result }
     {
-        reach_heads(&mut self.heads, owner)
+        self.heads.reach(owner)
     }
 
     /// Makes the rows reach to an item's number, at most 1,000,000. An `Err` comes only where memory is short, and then all is
@@ -117,7 +116,7 @@ impl Chains {
         ensures ok { OnOk result (n < self.new.items_end) }
         ensures known { n < self.old.items_end → IsOk result }
     {
-        reach_links(&mut self.links, n)
+        self.links.reach(n)
     }
 
     /// The same items, owners and room, in memory of its own. An `Err` comes only where memory is short.
@@ -125,8 +124,8 @@ impl Chains {
         ensures { IfOk result (λ copy. copy ≡ self.now) }
     {
         Ok(Chains {
-            heads: self.heads.to_vec(alloc)?,
-            links: self.links.to_vec(alloc)?,
+            heads: self.heads.copy(alloc)?,
+            links: self.links.copy(alloc)?,
         })
     }
 }

@@ -2,20 +2,21 @@
 ghost use Rattle.std.specs.Prelude.{◌≡◌, ◌≢◌, ◌<◌, true, false, length};
 ghost use Rattle.arena_rows.specs.owner_chains.Chains.{AreChained, IsAbove, IsBelow, IsClear, LeadBack, TellsPlace, items};
 
-use crate::owner_chains::rows::{Head, Link, find, follower, head_of};
+use crate::owner_chains::rows::{Head, Link, follower, head_of};
+use crate::rows::Rows;
 
 /// Whether n is an item of an owner.
-fn is_item(links: &[Option<Link>], owner: u32, n: u32) -> bool
+fn is_item(links: &Rows<Link>, owner: u32, n: u32) -> bool
     ensures { result ≡ items links.now owner n }
 {
-    match find(links, n) {
+    match links.find(n) {
         Some(link) => link.owner == owner,
         None => false,
     }
 }
 
 /// One step in an owner's chain from m towards the place of n. It stays at m where that is the place: the greatest item below n, or 0.
-fn toward(heads: &[Head], links: &[Option<Link>], owner: u32, m: u32, n: u32) -> u32
+fn toward(heads: &Rows<Head>, links: &Rows<Link>, owner: u32, m: u32, n: u32) -> u32
     requires chained { AreChained heads.now links.now }
     requires item { m ≢ 0 → items links.now owner m ≡ true }
     requires some { n ≢ 0 }
@@ -24,7 +25,7 @@ fn toward(heads: &[Head], links: &[Option<Link>], owner: u32, m: u32, n: u32) ->
     ensures place { result ≡ m → IsBelow (items links.now owner) n result }
 {
     if m > n {
-        return match find(links, m) {
+        return match links.find(m) {
             Some(link) => link.previous,
             None => 0,
         };
@@ -34,7 +35,7 @@ fn toward(heads: &[Head], links: &[Option<Link>], owner: u32, m: u32, n: u32) ->
 }
 
 /// The greatest item of an owner below n, or 0, if one of the two numbers at this distance from n is an item. No number nearer to n is.
-fn beside(links: &[Option<Link>], owner: u32, n: u32, distance: u32) -> Option<u32>
+fn beside(links: &Rows<Link>, owner: u32, n: u32, distance: u32) -> Option<u32>
     requires back { LeadBack links.now }
     requires apart { 0 < distance }
     requires lower { distance < n }
@@ -46,7 +47,7 @@ fn beside(links: &[Option<Link>], owner: u32, n: u32, distance: u32) -> Option<u
     if is_item(links, owner, low) {
         return Some(low);
     }
-    match find(links, n + distance) {
+    match links.find(n + distance) {
         Some(high) if high.owner == owner => Some(high.previous),
         _ => None,
     }
@@ -54,7 +55,7 @@ fn beside(links: &[Option<Link>], owner: u32, n: u32, distance: u32) -> Option<u
 
 /// The greatest item of an owner below n, or 0; n is none of its items. It goes on from three sides in turn, and ends where the
 /// first one tells: in the chain from the owner's finger, and number by number down and up from n.
-pub(crate) fn below(heads: &[Head], links: &[Option<Link>], owner: u32, n: u32) -> u32
+pub(crate) fn below(heads: &Rows<Head>, links: &Rows<Link>, owner: u32, n: u32) -> u32
     requires chained { AreChained heads.now links.now }
     requires some { n ≢ 0 }
     requires within { n < length links.now }
@@ -77,14 +78,14 @@ pub(crate) fn below(heads: &[Head], links: &[Option<Link>], owner: u32, n: u32) 
 
 /// The least item of an owner above n, or 0. One step where n is 0, an item of the owner or past the rows, else the search for the
 /// place of n.
-pub(crate) fn above(heads: &[Head], links: &[Option<Link>], owner: u32, n: u32) -> u32
+pub(crate) fn above(heads: &Rows<Head>, links: &Rows<Link>, owner: u32, n: u32) -> u32
     requires { AreChained heads.now links.now }
     ensures { IsAbove (items links.now owner) n result }
 {
     if n == 0 || is_item(links, owner, n) {
         return follower(heads, links, owner, n);
     }
-    if n as usize >= links.len() {
+    if !links.reaches(n) {
         return 0;
     }
     let place = below(heads, links, owner, n);

@@ -13,7 +13,7 @@ down c =
     let here : link_at c.args.links.now c.args.m ≡ Some c.in-Some.link = sym c.find.ensures ∙ c.in-Some.is in
     previous_below c.args.heads.now c.args.links.now c.requires.chained c.args.owner c.args.m c.in-Some.link here (owner_is c.args.links.now c.args.owner c.args.m c.in-Some.link here (c.requires.item some))
 
-up : (heads : List Head) (links : List (Option Link)) (o m next : ℕ) → AreChained heads links → (m ≢ 0 → items links o m ≡ true) → next ≡ follower heads links o m → IsAbove (items links o) m next
+up : (heads : List (Option Head)) (links : List (Option Link)) (o m next : ℕ) → AreChained heads links → (m ≢ 0 → items links o m ≡ true) → next ≡ follower heads links o m → IsAbove (items links o) m next
 up heads links o m next are there e = subst (IsAbove (items links o) m) (sym e) (follower_above heads links are o m there)
 
 pub returns-in-Some-clause-item : goal.returns-in-Some-clause-item

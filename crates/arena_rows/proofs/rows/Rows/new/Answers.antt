@@ -2,4 +2,4 @@ use Rattle.arena_rows.proofs.numbers_laws.Cells.{no_cells}
 use Rattle.arena_rows.proofs.rows.Rows.new.Goals as goal
 
 pub invariant_of-result : goal.invariant_of-result
-invariant_of-result g c = no_cells _ _ c.new.ensures.items c.new-2.ensures
+invariant_of-result g c = no_cells _ _ c.new-2.ensures

@@ -37,8 +37,8 @@ cut_alone-requires-clause-follows c =
 pub cut_alone-requires-clause-apart : goal.cut_alone-requires-clause-apart
 cut_alone-requires-clause-apart c e = c.requires.apart (sym c.code-stays.ensures ∙ e ∙ c.code-goes.ensures)
 
-pub write-requires : goal.write-requires
-write-requires c = row_within c.self.inside.loops _ (ap is_some c.known-face.ensures)
+pub set-requires : goal.set-requires
+set-requires c = ap is_some c.known-face.ensures
 
 pub invariant_of-self : goal.invariant_of-self
 invariant_of-self c =
@@ -46,10 +46,10 @@ invariant_of-self c =
     let ne : c.code-stays.result ≢ c.code-goes.result = λ e. c.requires.apart (sym c.code-stays.ensures ∙ e ∙ c.code-goes.ensures) in
     let kept : label (spot c.self.inside.rings) c.code-stays.result ≡ c.label-kept.result = ap or_zero c.label-kept.ensures in
     let found : row_at c.self.inside.loops (label (spot c.self.inside.rings) c.code-stays.result) ≡ Some c.known-face.result = ap (λ n. row_at c.self.inside.loops n) kept ∙ c.known-face.ensures in
-    let is1 = is_at c.self.inside.loops c.write.new.self _ _ _ kept c.write.ensures.rows in
+    let is1 = is_at c.self.inside.loops c.set.new.self _ _ _ kept c.set.ensures.rows in
     record {
-      tied = tied_cut_loose _ _ _ _ _ _ c.self.invariant.tied _ _ _ g ne c.known-face.result found _ c.write.ensures.len is1 _ refl _ c.cut_alone.ensures.spots;
-      indexed = indexed_same_loops _ _ _ _ _ c.self.invariant.indexed _ c.write.ensures.len (owner_kept (λ (cell : LoopCell). cell.face) _ _ _ _ _ found refl is1);
+      tied = tied_cut_loose _ _ _ _ _ _ c.self.invariant.tied _ _ _ g ne c.known-face.result found _ c.set.ensures.len is1 _ refl _ c.cut_alone.ensures.spots;
+      indexed = indexed_same_loops _ _ _ _ _ c.self.invariant.indexed _ c.set.ensures.len (owner_kept (λ (cell : LoopCell). cell.face) _ _ _ _ _ found refl is1);
     }
 
 pub returns : goal.returns
@@ -58,5 +58,5 @@ returns c =
     let ne : c.code-stays.result ≢ c.code-goes.result = λ e. c.requires.apart (sym c.code-stays.ensures ∙ e ∙ c.code-goes.ensures) in
     let kept : label (spot c.self.inside.rings) c.code-stays.result ≡ c.label-kept.result = ap or_zero c.label-kept.ensures in
     let found : row_at c.self.inside.loops (label (spot c.self.inside.rings) c.code-stays.result) ≡ Some c.known-face.result = ap (λ n. row_at c.self.inside.loops n) kept ∙ c.known-face.ensures in
-    let is1 = is_at c.self.inside.loops c.write.new.self _ _ _ kept c.write.ensures.rows in
-    rw (← c.self.view_is, ← c.code-stays.ensures, ← c.code-goes.ensures) (store_cut_loose _ _ _ _ _ _ c.self.invariant.tied _ _ _ g ne c.known-face.result found _ c.write.ensures.len is1 _ c.cut_alone.ensures.known refl _ c.cut_alone.ensures.spots ∙ cut_zero _ _ _ _ refl)
+    let is1 = is_at c.self.inside.loops c.set.new.self _ _ _ kept c.set.ensures.rows in
+    rw (← c.self.view_is, ← c.code-stays.ensures, ← c.code-goes.ensures) (store_cut_loose _ _ _ _ _ _ c.self.invariant.tied _ _ _ g ne c.known-face.result found _ c.set.ensures.len is1 _ c.cut_alone.ensures.known refl _ c.cut_alone.ensures.spots ∙ cut_zero _ _ _ _ refl)

@@ -5,14 +5,14 @@ use Rattle.arena_rows.proofs.owner_chains_laws.Coming.{Comes, coming, comes, put
 use Rattle.arena_rows.proofs.owner_chains.chains.Chains.insert.Goals as goal
 
 pub below-previous-requires-clause-free : goal.below-previous-requires-clause-free
-below-previous-requires-clause-free c = rw c.deref-2.ensures.value (ap (is_of c.args.owner) (row_free c.self.inside.links.items c.args.n (rw (← c.self.view_is) at c.requires.free)))
+below-previous-requires-clause-free c = ap (is_of c.args.owner) (row_free c.self.inside.links c.args.n (rw (← c.self.view_is) at c.requires.free))
 
 pub gain-requires-clause-limit : goal.gain-requires-clause-limit
-gain-requires-clause-limit c = omega (arith, c.self.invariant.counts c.args.owner, few_owned c.self.inside.links.items c.args.owner, c.self.invariant.within)
+gain-requires-clause-limit c = omega (arith, c.self.invariant.counts c.args.owner, few_owned c.self.inside.links c.args.owner, c.self.invariant.within)
 
-step : (c : goal.After-gain) → Comes c.self.inside.heads.items c.gain.new.heads.items c.self.inside.links.items c.link_in.new.links.items c.args.n (record { owner = c.args.owner; previous = c.below-previous.result; next = c.follower-next.result })
-step c = coming _ _ _ _ _ _ _ _ c.self.invariant c.requires.some (rw (← c.self.view_is) at c.requires.free) (rw (← c.self.view_is) at c.requires.owner_room) (rw c.deref-2.ensures.value at c.below-previous.ensures)
-    (rw (c.deref-3.ensures.value, c.deref-4.ensures.value) at c.follower-next.ensures) c.link_in.ensures.rows c.link_in.ensures.len c.gain.ensures.rows c.gain.ensures.len
+step : (c : goal.After-gain) → Comes c.self.inside.heads c.gain.new.heads c.self.inside.links c.link_in.new.links c.args.n (record { owner = c.args.owner; previous = c.below-previous.result; next = c.follower-next.result })
+step c = coming _ _ _ _ _ _ _ _ c.self.invariant c.requires.some (rw (← c.self.view_is) at c.requires.free) (rw (← c.self.view_is) at c.requires.owner_room) c.below-previous.ensures
+    c.follower-next.ensures c.link_in.ensures.rows c.link_in.ensures.len c.gain.ensures.rows c.gain.ensures.len
 
 pub invariant_of-self : goal.invariant_of-self
 invariant_of-self c = comes _ _ _ _ _ _ (step c)

@@ -5,16 +5,16 @@ use Rattle.arena_rows.proofs.owner_chains.chains.Chains.remove.Goals as goal
 
 pub unreachable-requires : goal.unreachable-requires
 unreachable-requires c =
-    let there = row_there c.self.inside.links.items c.args.n (rw (← c.self.view_is) at c.requires) in
-    true≢false (sym there ∙ ap is_some (sym (rw c.deref.ensures.value at c.find.ensures) ∙ c.in_default.is))
+    let there = row_there c.self.inside.links c.args.n (rw (← c.self.view_is) at c.requires) in
+    true≢false (sym there ∙ ap is_some (sym c.find.ensures ∙ c.in_default.is))
 
 pub lose-requires-clause-some : goal.lose-requires-clause-some
-lose-requires-clause-some c = omega (arith, counted _ _ c.args.n c.in-Some.gone c.self.invariant (sym (rw c.deref.ensures.value at c.find.ensures) ∙ c.in-Some.is))
+lose-requires-clause-some c = omega (arith, counted _ _ c.args.n c.in-Some.gone c.self.invariant (sym c.find.ensures ∙ c.in-Some.is))
 
-step : (c : goal.After-lose) → Goes c.self.inside.heads.items c.lose.new.heads.items c.self.inside.links.items c.link_out.new.links.items c.args.n c.in-Some.gone
+step : (c : goal.After-lose) → Goes c.self.inside.heads c.lose.new.heads c.self.inside.links c.link_out.new.links c.args.n c.in-Some.gone
 step c = record {
   are = c.self.invariant;
-  there = sym (rw c.deref.ensures.value at c.find.ensures) ∙ c.in-Some.is;
+  there = sym c.find.ensures ∙ c.in-Some.is;
   rows = c.link_out.ensures.rows;
   len = c.link_out.ensures.len;
   head_rows = c.lose.ensures.rows;
