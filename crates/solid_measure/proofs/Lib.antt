@@ -3,7 +3,7 @@ pub mod solid_counts_laws
 pub mod Areas
 pub mod AreaRounds
 pub mod LeastRounds
-pub mod FlatRounds
+pub mod FlatFaces
 pub mod Boundaries
 pub mod Planes
 pub mod Volumes

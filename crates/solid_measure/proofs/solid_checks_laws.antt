@@ -1,4 +1,4 @@
 pub mod Searches
-pub mod FaceWalks
+pub use Rattle.solid_walks.proofs.face_walks_laws.FaceWalks
 pub mod LoneLoops
 pub mod BentFaces

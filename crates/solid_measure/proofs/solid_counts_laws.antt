@@ -1,6 +1,6 @@
 pub mod HowMany
 pub mod Sums
-pub mod LoopRounds
+pub mod LoopCounts
 pub mod FaceSums
 pub mod Tallies
 pub mod WorkedScripts

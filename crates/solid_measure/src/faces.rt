@@ -4,16 +4,16 @@ ghost use Rattle.std.specs.List.{list_all};
 ghost use Rattle.euler_operators.specs.Points.{IsInRange};
 ghost use Rattle.euler_operators.specs.Ranges.{IsPlane, IsVectorWithin, IsWithin};
 ghost use Rattle.euler_operators.specs.Vectors.{direction, dot, is_on, moved, origin, same_point};
-ghost use Rattle.euler_operators.specs.Model.{content, items_of, outer, point_of, rings_of};
+ghost use Rattle.euler_operators.specs.Model.{content, items_of, outer, point_of};
 ghost use Rattle.solid_walks.specs.Store.{has_number};
 ghost use Rattle.solid_walks.specs.Ready.{IsReady};
-ghost use Rattle.shapes.specs.Faces.{corners, vertices_in};
+ghost use Rattle.shapes.specs.Faces.{corners};
 ghost use Rattle.solid_measure.specs.Measure.{anchor, area, area_limit, is_flat, normal, plane_of, read};
 
 use crate::Vector;
 use crate::loops::{loop_added, loop_lies_on, walk_round};
 use euler_operators::{Content, HalfEdge, Kind, Plane, Point, dot};
-use solid_walks::{Arena, start};
+use solid_walks::{Arena, loops_of, start};
 
 /// Where a face lies: the sum of the cross products over the half-edges of its loops, and the point of its first corner.
 #[derive(Drop)]
@@ -99,23 +99,6 @@ pub(crate) fn plane_of(arena: &Arena, f: u32) -> Plane
     }
 }
 
-/// Whether each vertex on the rings of the face lies on the plane.
-fn rings_lie_on(arena: &Arena, plane: Plane, f: u32) -> bool
-    requires ready { IsReady arena.now }
-    requires there { has_number arena.now Kind.Face f ≡ true }
-    requires plane { IsPlane plane }
-    ensures { result ≡ list_all (λ v. is_on plane (point_of arena.now.model v)) (vertices_in arena.now.model (rings_of arena.now.model f)) }
-{
-    let mut last = 0;
-    'rings: while let Some(ring) = arena.ring_after(f, last) {
-        if !loop_lies_on(arena, plane, ring) {
-            return false;
-        }
-        last = ring;
-    }
-    true
-}
-
 /// Whether each vertex on the loops of the face lies on the plane.
 fn face_lies_on(arena: &Arena, plane: Plane, f: u32) -> bool
     requires ready { IsReady arena.now }
@@ -123,7 +106,7 @@ fn face_lies_on(arena: &Arena, plane: Plane, f: u32) -> bool
     requires plane { IsPlane plane }
     ensures { result ≡ list_all (λ v. is_on plane (point_of arena.now.model v)) (corners arena.now.model f) }
 {
-    loop_lies_on(arena, plane, arena.outer(f)) && rings_lie_on(arena, plane, f)
+    loops_of(arena, f).all(|l| loop_lies_on(arena, plane, l))
 }
 
 /// Whether one of the plane's first three numbers isn't zero.

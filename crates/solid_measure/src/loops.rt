@@ -6,7 +6,7 @@ ghost use Rattle.euler_operators.specs.Ranges.{IsPlane, IsVectorWithin, normal_l
 ghost use Rattle.euler_operators.specs.Vectors.{moved, cross, is_on};
 ghost use Rattle.euler_operators.specs.Items.{IsIn, head_or};
 ghost use Rattle.euler_operators.specs.HalfEdge.{code};
-ghost use Rattle.euler_operators.specs.Model.{items_of, content, has_half, point_of, tail};
+ghost use Rattle.euler_operators.specs.Model.{items_of, content, cycle_of, has_half, point_of, tail};
 ghost use Rattle.solid_walks.specs.Store.{has_number};
 ghost use Rattle.solid_walks.specs.Ready.{IsReady};
 ghost use Rattle.shapes.specs.Faces.{start, finish, vertices_on};
@@ -16,7 +16,7 @@ use crate::Vector;
 use euler_operators::{
     Content, HALF_EDGE_CODES, HalfEdge, Kind, Plane, Point, Sign, cross_add, side,
 };
-use solid_walks::{Arena, finish, next, same, start};
+use solid_walks::{Arena, finish, items_round, next, same, start};
 
 /// The vector n plus the cross product of two points.
 fn crossed(n: Vector, p: Point, q: Point) -> Vector
@@ -101,24 +101,14 @@ fn lies_on(plane: Plane, p: Point) -> bool
     }
 }
 
-/// Whether each half-edge of loop l, in which `first` stands, starts on the plane.
-fn ring_lies_on(arena: &Arena, plane: Plane, l: u32, first: HalfEdge) -> bool
+/// Whether each half-edge of the loop in which `first` stands starts on the plane.
+fn ring_lies_on(arena: &Arena, plane: Plane, first: HalfEdge) -> bool
     requires ready { IsReady arena.now }
     requires plane { IsPlane plane }
-    requires item { IsIn (code first) (items_of (content arena.now.model l)) }
-    ensures { result ≡ list_all (λ v. is_on plane (point_of arena.now.model v)) (map (tail arena.now.model) (items_of (content arena.now.model l))) }
+    requires there { has_half arena.now.model (code first) ≡ true }
+    ensures { result ≡ list_all (λ v. is_on plane (point_of arena.now.model v)) (map (tail arena.now.model) (cycle_of arena.now.model (code first))) }
 {
-    let mut h = first;
-    'round: for _ in 0..HALF_EDGE_CODES {
-        if !lies_on(plane, start(arena, h)) {
-            return false;
-        }
-        h = next(arena, h);
-        if same(h, first) {
-            return true;
-        }
-    }
-    true
+    items_round(arena, first).all(|h| lies_on(plane, start(arena, h)))
 }
 
 /// Whether each vertex on the loop lies on the plane.
@@ -130,6 +120,6 @@ pub(crate) fn loop_lies_on(arena: &Arena, plane: Plane, l: u32) -> bool
 {
     match arena.content(l) {
         Content::Lone(v) => lies_on(plane, arena.point(v)),
-        Content::Ring(first) => ring_lies_on(arena, plane, l, first),
+        Content::Ring(first) => ring_lies_on(arena, plane, first),
     }
 }

@@ -1,5 +1,7 @@
 pub mod Above
-pub mod CycleWalks
 pub mod HalfCodes
-pub mod RingWalks
 pub mod TableWalks
+pub mod RingWalks
+pub mod FaceWalks
+pub mod CycleWalks
+pub mod Yielded

@@ -1,3 +1,4 @@
 pub mod Counters
+pub mod Left
 pub use Rattle.euler_conditions.specs.Ready
 pub use Rattle.euler_conditions.specs.Store

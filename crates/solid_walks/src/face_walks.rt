@@ -1,7 +1,10 @@
-//! Walks along the loops of a face and the half-edges of a loop, in the order of listings.
+//! Walks over the faces of a solid, the loops of a face and the half-edges of a loop, in the order of listings. Each is an iterator
+//! that contracts see as the list of what is still to come.
 
+mod faces;
 mod items;
 mod loops;
 
-pub use items::{items_from, least_item};
-pub use loops::face_loops;
+pub use faces::{Faces, faces_of};
+pub use items::{Items, items_from, items_round, least_item};
+pub use loops::{Loops, face_loops, loops_of, rings_of};

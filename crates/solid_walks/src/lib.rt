@@ -17,6 +17,9 @@ mod numbers;
 
 pub use around::leads;
 pub use euler_conditions::{Arena, next, same};
-pub use face_walks::{face_loops, items_from, least_item};
+pub use face_walks::{
+    Faces, Items, Loops, face_loops, faces_of, items_from, items_round, least_item, loops_of,
+    rings_of,
+};
 pub use halves::{finish, previous, start};
 pub use numbers::{Counters, check_left, counters_of};

@@ -8,7 +8,7 @@ use Rattle.solid_measure.specs.Measure.{is_flat}
 use Rattle.solid_walks.proofs.face_walks_laws.Above.{member}
 use Rattle.solid_measure.specs.solid_checks.Least.{lesser}
 use Rattle.solid_measure.proofs.solid_checks_laws.Searches.{IsLeast, one_least, least_same, least_either, least_rising, and_or}
-use Rattle.solid_measure.proofs.solid_checks_laws.FaceWalks.{member_both, faces_rise, both_rise}
+use Rattle.solid_walks.proofs.face_walks_laws.FaceWalks.{member_both, faces_rise, both_rise}
 
 module _ (M : Model) where
   abbrev is_bent : ℕ → Bool

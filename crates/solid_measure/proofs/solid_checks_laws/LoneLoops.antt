@@ -14,7 +14,7 @@ use Rattle.solid_walks.proofs.face_walks_laws.TableWalks.{passes, member_passing
 use Rattle.solid_walks.proofs.face_walks_laws.RingWalks.{member_rings}
 use Rattle.solid_measure.specs.solid_checks.Least.{lesser, least_such}
 use Rattle.solid_measure.proofs.solid_checks_laws.Searches.{IsLeast, one_least, least_same, least_either, least_listed, least_row}
-use Rattle.solid_measure.proofs.solid_checks_laws.FaceWalks.{lists_member, member_faces, member_both}
+use Rattle.solid_walks.proofs.face_walks_laws.FaceWalks.{lists_member, member_faces, member_both}
 
 last_true : (a b c : Bool) → c ≡ true → a && b && c ≡ a && b
 last_true true true c e = e

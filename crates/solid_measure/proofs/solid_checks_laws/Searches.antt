@@ -1,5 +1,6 @@
 -- The least number that passes a test.
 use Rattle.std.proofs.Common.{◌≡◌, ℕ, ◌<◌, Bool, true, false, cond, ◌&&◌, ◌||◌, nat_eq, nat_lt, nat_le, List, [], ◌∷◌, Option, Some, None, refl, sym, ap, ◌∙◌, arith, true≢false, inl, inr, subst}
+use Rattle.std.specs.List.{fold, find}
 use Rattle.std.proofs.lemmas.Bool.Decides.{nat_tests, eqb_tells}
 use Rattle.std.proofs.lemmas.Bool.{or_left, or_right}
 use Rattle.euler_operators.specs.Table.{Table, get, first_in, first_where, all_in, all_where}
@@ -117,3 +118,13 @@ lesser_of_three (Some a) (Some b) (Some c) = ap Some (grind (arith, nat_tests))
 pub lesser_none : (a : Option ℕ) → lesser a None ≡ a
 lesser_none None = refl
 lesser_none (Some a) = refl
+
+-- a walk that keeps the lesser of what it has and what it meets
+pub fold_lesser : (g : ℕ → Option ℕ) (total : List ℕ → Option ℕ) → total [] ≡ None → ((n : ℕ) (ns : List ℕ) → total (n ∷ ns) ≡ lesser (g n) (total ns)) → (o : Option ℕ) (ns : List ℕ) → fold (λ o n. lesser o (g n)) o ns ≡ lesser o (total ns)
+fold_lesser g total none more o [] = sym (lesser_none o) ∙ ap (lesser o) (sym none)
+fold_lesser g total none more o (n ∷ ns) = fold_lesser g total none more (lesser o (g n)) ns ∙ lesser_of_three o (g n) (total ns) ∙ ap (lesser o) (sym (more n ns))
+
+-- std's word for a search
+pub first_is : (p : ℕ → Bool) (ns : List ℕ) → find p ns ≡ first_such p ns
+first_is p [] = refl
+first_is p (n ∷ ns) = ap (λ o. cond (p n) (Some n) o) (first_is p ns)

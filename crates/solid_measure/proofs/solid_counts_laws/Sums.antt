@@ -17,7 +17,7 @@ use Rattle.shapes.proofs.walks.SolidFaces.{loops_short}
 same_met : (a b : Met) → a.vertices ≡ b.vertices → a.edges ≡ b.edges → a ≡ b
 same_met a b v e = λ i. record { vertices = v i; edges = e i }
 
-together_more : (a b c : Met) → together (together a b) c ≡ together a (together b c)
+pub together_more : (a b c : Met) → together (together a b) c ≡ together a (together b c)
 together_more a b c = same_met _ _ (omega arith) (omega arith)
 
 together_turned : (a b : Met) → together a b ≡ together b a
@@ -34,9 +34,6 @@ nothing_together a = same_met _ _ (omega arith) (omega arith)
 halves-append : (M : Model) (hs ks : List ℕ) → halves_met M (hs ++ ks) ≡ together (halves_met M hs) (halves_met M ks)
 halves-append M [] ks = sym (nothing_together (halves_met M ks))
 halves-append M (h ∷ hs) ks = ap (together (half_met M h)) (halves-append M hs ks) ∙ sym (together_more (half_met M h) (halves_met M hs) (halves_met M ks))
-
-pub halves_push : (M : Model) (hs : List ℕ) (h : ℕ) → halves_met M (hs ++ h ∷ []) ≡ together (halves_met M hs) (half_met M h)
-halves_push M hs h = halves-append M hs (h ∷ []) ∙ ap (together (halves_met M hs)) (together_nothing (half_met M h))
 
 -- it doesn't depend on where the walk starts
 pub halves_turned : (M : Model) (hs ks : List ℕ) → IsRotation hs ks → halves_met M hs ≡ halves_met M ks
@@ -66,9 +63,6 @@ is_lone_loop M l = is_lone (content M l)
 pub loops-append : (M : Model) (ls ks : List ℕ) → loops_met M (ls ++ ks) ≡ together (loops_met M ls) (loops_met M ks)
 loops-append M [] ks = sym (nothing_together (loops_met M ks))
 loops-append M (l ∷ ls) ks = ap (together (loop_met M (content M l))) (loops-append M ls ks) ∙ sym (together_more (loop_met M (content M l)) (loops_met M ls) (loops_met M ks))
-
-pub loops_push : (M : Model) (ls : List ℕ) (l : ℕ) → loops_met M (ls ++ l ∷ []) ≡ together (loops_met M ls) (loop_met M (content M l))
-loops_push M ls l = loops-append M ls (l ∷ []) ∙ ap (together (loops_met M ls)) (together_nothing (loop_met M (content M l)))
 
 pub loop_is : (M : Model) (l : ℕ) → loops_met M (l ∷ []) ≡ loop_met M (content M l)
 loop_is M l = together_nothing (loop_met M (content M l))

@@ -28,7 +28,7 @@ use Rattle.solid_measure.specs.declared.solid_counts.Tally.{Tally}
 use Rattle.solid_measure.specs.solid_counts.Sums.{IsFew, loops_met}
 use Rattle.solid_measure.proofs.solid_counts_laws.HowMany.{passing, passing_are, passing_apart, of_passing, in_passing, of_map, equally_many}
 use Rattle.solid_measure.proofs.solid_counts_laws.Sums.{is_lone_loop, loops_are, loops_few}
-use Rattle.solid_measure.proofs.solid_counts_laws.FaceSums.{all_rings_few}
+use Rattle.solid_measure.proofs.solid_counts_laws.FaceSums.{rings_few}
 use Rattle.shapes.specs.Walks.{leads, loops_in}
 use Rattle.euler_laws.proofs.shared.Counted.{counted_once}
 use Rattle.shapes.proofs.walks.FaceLoops.{different_items, items_counted, items_there}
@@ -261,7 +261,7 @@ module _ (M : Model) (sound : Sound M) (s : ℕ) where
     more_fits = omega (arith, ap (λ (n : Met). n.vertices) m, all_few.0, fs, faces_short M sound s)
 
     pub less_fits : met.edges + r ≤ 5000001
-    less_fits = omega (arith, ap (λ (n : Met). n.edges) m, all_few.1, rs, all_rings_few M sound s)
+    less_fits = omega (arith, ap (λ (n : Met). n.edges) m, all_few.1, rs, rings_few M sound s)
 
     sum_is : (a b : ℤ) → a ≡ pos (met.vertices + f) → b ≡ pos (met.edges + r) → to_z w64 (of_z w64 (to_z w64 (of_z w64 a) -ℤ to_z w64 (of_z w64 b))) ≡ pos (met.vertices + f) -ℤ pos (met.edges + r)
     sum_is a b ea eb =

@@ -9,7 +9,7 @@ ghost use Rattle.solid_measure.specs.solid_checks.Least.{least_such, only};
 
 use crate::solid_checks::least::lesser;
 use euler_operators::{Content, Kind};
-use solid_walks::Arena;
+use solid_walks::{Arena, faces_of, loops_of};
 
 /// Loop l, where it is lone.
 fn lone_loop(arena: &Arena, l: u32) -> Option<u32>
@@ -29,13 +29,7 @@ fn least_lone_of_face(arena: &Arena, f: u32) -> Option<u32>
     requires there { has_number arena.now Kind.Face f ≡ true }
     ensures { result ≡ least_such (λ l. is_lone (content arena.now.model l)) (loops_of arena.now.model f) }
 {
-    let mut least = lone_loop(arena, arena.outer(f));
-    let mut above = 0;
-    'rings: while let Some(l) = arena.ring_after(f, above) {
-        least = lesser(least, lone_loop(arena, l));
-        above = l;
-    }
-    least
+    loops_of(arena, f).fold(None, |least, l| lesser(least, lone_loop(arena, l)))
 }
 
 /// The least lone loop of the faces of solid s, if there is one. It looks at each of their loops once, and at no other.
@@ -43,13 +37,7 @@ pub fn least_lone(arena: &Arena, s: u32) -> Option<u32>
     requires { IsReady arena.now }
     ensures { result ≡ least_lone arena.now.model (faces_of arena.now.model s) }
 {
-    let mut least = None;
-    let mut above = 0;
-    'faces: while let Some(f) = arena.face_after(s, above) {
-        least = lesser(least, least_lone_of_face(arena, f));
-        above = f;
-    }
-    least
+    faces_of(arena, s).fold(None, |least, f| lesser(least, least_lone_of_face(arena, f)))
 }
 
 /// The least lone loop of the faces of two solids, if there is one.

@@ -9,7 +9,7 @@ ghost use Rattle.solid_measure.specs.solid_counts.Sums.{loops_met};
 use crate::solid_counts::loops::{face_met, together};
 use crate::solid_counts::{Met, Tally};
 use euler_operators::{Kind, Refusal, Why, is_number};
-use solid_walks::Arena;
+use solid_walks::{Arena, faces_of};
 
 /// The refusal of a query about solid s, if there is one: NumberRange, then NoSolid.
 pub(crate) fn refusal_of_solid(arena: &Arena, s: u32) -> Option<Refusal>
@@ -30,35 +30,22 @@ pub(crate) fn refusal_of_solid(arena: &Arena, s: u32) -> Option<Refusal>
     None
 }
 
-/// What the loops of the solid's faces count for.
-fn solid_met(arena: &Arena, s: u32) -> Met
+/// What the loops of the solid's faces count for, and how many of them are rings.
+fn solid_met(arena: &Arena, s: u32) -> (Met, u32)
     requires { IsReady arena.now }
-    ensures { result ≡ loops_met arena.now.model (loops_in arena.now.model (faces_of arena.now.model s)) }
+    ensures met { result.0 ≡ loops_met arena.now.model (loops_in arena.now.model (faces_of arena.now.model s)) }
+    ensures rings { result.1 ≡ length (rings_in arena.now.model (faces_of arena.now.model s)) }
 {
     let mut sum = Met {
         vertices: 0,
         edges: 0,
     };
-    let mut last = 0;
-    'faces: while let Some(f) = arena.face_after(s, last) {
-        sum = together(sum, face_met(arena, f));
-        last = f;
-    }
-    sum
-}
-
-/// How many rings the solid's faces have.
-fn ring_count(arena: &Arena, s: u32) -> u32
-    requires { IsReady arena.now }
-    ensures { result ≡ length (rings_in arena.now.model (faces_of arena.now.model s)) }
-{
     let mut rings = 0;
-    let mut last = 0;
-    'faces: while let Some(f) = arena.face_after(s, last) {
+    'faces: for f in faces_of(arena, s) {
+        sum = together(sum, face_met(arena, f));
         rings += arena.ring_count(f);
-        last = f;
     }
-    rings
+    (sum, rings)
 }
 
 /// The counts of a solid that is there.
@@ -66,9 +53,8 @@ fn tally(arena: &Arena, s: u32) -> Tally
     requires { IsReady arena.now }
     ensures { result ≡ counts arena.now.model s }
 {
-    let met = solid_met(arena, s);
+    let (met, rings) = solid_met(arena, s);
     let faces = arena.face_count(s);
-    let rings = ring_count(arena, s);
     Tally {
         v: met.vertices,
         e: met.edges,

@@ -2,11 +2,7 @@
 use Rattle.std.proofs.Common.{◌≡◌, ℕ, ◌<◌, ◌≤◌, Bool, true, false, cond, ◌||◌, nat_eq, nat_lt, List, [], ◌∷◌, refl, sym, ap, ◌∙◌, arith, true≢false, inl, inr}
 use Rattle.std.proofs.lemmas.Bool.Decides.{nat_tests, eqb_tells}
 use Rattle.std.proofs.lemmas.Bool.{or_right}
-
--- the numbers of the list that are greater than n
-abbrev pub above : ℕ → List ℕ → List ℕ
-above n [] = []
-above n (k ∷ ks) = cond (nat_lt n k) (k ∷ above n ks) (above n ks)
+pub use Rattle.solid_walks.specs.Left.{above}
 
 -- whether k stands in the list
 abbrev pub member : ℕ → List ℕ → Bool

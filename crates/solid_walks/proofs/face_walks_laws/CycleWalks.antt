@@ -9,14 +9,11 @@ use Rattle.euler_operators.specs.Model.{Model, content, loop_of, cycle_of}
 use Rattle.euler_operators.specs.Model as model
 use Rattle.euler_operators.specs.Sound.{Sound, HasHalf, StandsIn}
 use Rattle.euler_operators.proofs.Models.{in-holds, held_row, cycle_there, cycle_sound, number_real}
+pub use Rattle.solid_walks.specs.Left.{to_come}
 
 -- the items of a walk from h that has come to x, x among them
 abbrev pub seen : ℕ → List ℕ → ℕ → List ℕ
 seen h xs x = before x (rotate_to h xs) ++ x ∷ []
-
--- the items that are still to come
-abbrev pub to_come : ℕ → List ℕ → ℕ → List ℕ
-to_come h xs x = after x (rotate_to h xs)
 
 head_seen : (h x : ℕ) (ps qs zs : List ℕ) → ps ++ x ∷ qs ≡ h ∷ zs → IsIn h (ps ++ x ∷ [])
 head_seen h x [] qs zs e = let s : x ≡ h = cc in rw s (omega (arith, tick_same h))
@@ -76,6 +73,10 @@ module _ (h : ℕ) (xs : List ℕ) (apart : IsApart xs) (first : IsIn h xs) wher
   pub start_is : ys ≡ h ∷ to_come h xs h
   start_is = rotate_to_is h xs first ∙ ap (λ (zs : List ℕ). h ∷ zs) (sym (after_of h ys [] (rest h xs) (rotate_to_is h xs first) refl))
 
+-- an item of a loop is there, and its cycle is that loop's
+pub item_of : (M : Model) → Sound M → (l g : ℕ) → IsIn g (model.items_of (content M l)) → HasHalf M g × (cycle_of M g ≡ model.items_of (content M l))
+item_of M sound l g i = let s = in-holds g (content M l) i in (sound.only_edges g l s, ap (λ k. model.items_of (content M k)) (sound.one_loop g l s))
+
 -- the items of a half-edge's loop
 module _ (M : Model) (sound : Sound M) (h : ℕ) (there : HasHalf M h) where
   item_stands : (g : ℕ) → IsIn g (cycle_of M h) → StandsIn M g (loop_of M h)
@@ -97,6 +98,10 @@ module _ (M : Model) (sound : Sound M) (h : ℕ) (there : HasHalf M h) where
   pub next_item : (g r : ℕ) → IsIn g (cycle_of M h) → (loop_of M g ≢ 0 → r ≡ model.after M g) → r ≡ successor (cycle_of M h) g
   unfolding model.after
   next_item g r i n = n (looped g i) ∙ ap (λ (zs : List ℕ). successor zs g) (same_cycle g i)
+
+  -- those of a walk round the loop, from h on
+  pub round_there : (g : ℕ) → IsIn g (rotate_to h (cycle_of M h)) → HasHalf M g
+  round_there g i = item_there g (omega (arith, i, count-rotate_to g h (cycle_of M h)))
 
   pub cycle_apart : IsApart (cycle_of M h)
   cycle_apart = (cycle_sound M sound h there).apart

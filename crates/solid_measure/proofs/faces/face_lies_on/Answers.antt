@@ -1,19 +1,21 @@
-use Rattle.std.proofs.Common.{sym, ap, ◌∙◌}
+use Rattle.std.proofs.Common.{◌∙◌, subst, rules, tests, of_calls}
 use Rattle.std.specs.List.{list_all}
+use Rattle.std.proofs.lemmas.Iterator.Consumers.{YieldsList-from_first}
+use Rattle.std.proofs.lemmas.Iterator.Search.{all_from_yields_List}
 use Rattle.euler_operators.specs.Vectors.{is_on}
 use Rattle.euler_operators.specs.Model.{content, point_of}
-use Rattle.shapes.specs.Faces.{vertices_on}
-use Rattle.solid_measure.proofs.FlatRounds.{corners_on, corners_off}
+use Rattle.shapes.specs.Faces.{loops_of, vertices_on}
+use Rattle.euler_operators.specs.Items.{IsIn}
+use Rattle.solid_walks.proofs.face_walks_laws.FaceWalks.{loop_in}
+use Rattle.solid_walks.proofs.face_walks_laws.Yielded.{serves_listed}
+use Rattle.solid_measure.proofs.FlatFaces.{all_corners}
 use Rattle.solid_measure.proofs.faces.face_lies_on.Goals as goal
 
-pub returns-then-loop_lies_on : goal.returns-then-loop_lies_on
-returns-then-loop_lies_on c =
+pub returns : goal.returns
+returns c =
     let M = c.args.arena.now.model in let p = c.args.plane in
-    c.rings_lie_on.ensures ∙ sym (corners_on (λ v. is_on p (point_of M v)) M c.args.f
-    (sym (ap (λ l. list_all (λ v. is_on p (point_of M v)) (vertices_on M (content M l))) c.outer.ensures) ∙ sym c.loop_lies_on.ensures ∙ c.if-loop_lies_on.true))
+    all_from_yields_List (λ l. list_all (λ v. is_on p (point_of M v)) (vertices_on M (content M l))) _ _ c.all.result c.all.ensures.ran (YieldsList-from_first (λ l. l) (λ left. left) (loops_of M c.args.f) c.loops_of.ensures) (λ x b q k. search (rules, tests))
+    ∙ all_corners (λ v. is_on p (point_of M v)) M c.args.f
 
-pub returns-else-loop_lies_on : goal.returns-else-loop_lies_on
-returns-else-loop_lies_on c =
-    let M = c.args.arena.now.model in let p = c.args.plane in
-    c.if-loop_lies_on.false ∙ sym (corners_off (λ v. is_on p (point_of M v)) M c.args.f
-    (sym (ap (λ l. list_all (λ v. is_on p (point_of M v)) (vertices_on M (content M l))) c.outer.ensures) ∙ sym c.loop_lies_on.ensures ∙ c.if-loop_lies_on.false))
+pub all-requires-clause-callable : goal.all-requires-clause-callable
+all-requires-clause-callable c = serves_listed (λ l. l) c.loops_of.result (λ x q k. search rules) (λ l i. let there = loop_in c.args.arena.now.model c.requires.ready.sound c.args.f l c.requires.there (subst (IsIn l) c.loops_of.ensures i) in search of_calls)

@@ -4,7 +4,7 @@ use Rattle.std.specs.List.{list_all}
 use Rattle.euler_operators.specs.Vectors.{is_on, same_point, direction, origin}
 use Rattle.euler_operators.specs.Model.{point_of}
 use Rattle.shapes.specs.Faces.{corners}
-use Rattle.solid_measure.proofs.FlatRounds.{flat_as, flat_then, flat_else}
+use Rattle.solid_measure.proofs.FlatFaces.{flat_as, flat_then, flat_else}
 use Rattle.solid_measure.proofs.faces.is_flat.Goals as goal
 
 pub returns-then-has_direction : goal.returns-then-has_direction

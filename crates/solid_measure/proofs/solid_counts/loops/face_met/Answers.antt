@@ -1,31 +1,34 @@
-use Rattle.std.proofs.Common.{sym, ap, subst, ◌∙◌, arith}
+use Rattle.std.proofs.Common.{sym, ap, subst, ◌∙◌}
+use Rattle.euler_operators.specs.Items.{IsIn}
 use Rattle.euler_operators.specs.Model.{content}
-use Rattle.euler_laws.proofs.shared.FaceRings.{ring_there}
-use Rattle.euler_laws.proofs.shared.Bounds.{ring_number}
-use Rattle.solid_measure.specs.solid_counts.Sums.{IsFew, together, loop_met}
-use Rattle.solid_measure.proofs.solid_counts_laws.FaceSums.{loop_few, face_start, face_few, face_next, face_end}
+use Rattle.solid_walks.proofs.face_walks_laws.FaceWalks.{loop_in}
+use Rattle.solid_walks.proofs.face_walks_laws.Yielded.{yielded_in}
+use Rattle.solid_measure.specs.solid_counts.Sums.{IsFew, together, loop_met, loops_met}
+use Rattle.solid_measure.proofs.solid_counts_laws.Sums.{nothing_together}
+use Rattle.solid_measure.proofs.solid_counts_laws.FaceSums.{parts_few, counted_more, all_counted, face_few}
 use Rattle.solid_measure.proofs.solid_counts.loops.face_met.Goals as goal
 
-pub rings-init : goal.rings-init
-rings-init c =
-    let M = c.args.arena.now.model in record {
-      most = omega arith;
-      counted = c.loop_met-sum.ensures ∙ ap (λ l. loop_met M (content M l)) c.outer.ensures ∙ face_start M c.requires.ready.sound c.args.f;
-    }
+pub loops-init : goal.loops-init
+loops-init c = let M = c.args.arena.now.model in nothing_together _ ∙ ap (loops_met M) (c.into_iter-l-iterator.ensures.into_iter_gives ∙ c.loops_of-l-items.ensures)
+
+pub loop_met-requires-clause-there : goal.loop_met-requires-clause-there
+loop_met-requires-clause-there c =
+    loop_in c.args.arena.now.model c.requires.ready.sound c.args.f c.in-Some.l c.requires.there (subst (IsIn c.in-Some.l) (c.into_iter-l-iterator.ensures.into_iter_gives ∙ c.loops_of-l-items.ensures) (yielded_in (λ l. l) c.loops.yielded _ _ _ c.in-Some.l c.loops.yielded_by c.in-Some.ensures.steps))
 
 pub together-sum-requires-clause-a : goal.together-sum-requires-clause-a
-together-sum-requires-clause-a c = subst IsFew (sym c.rings.invariant.counted) (face_few c.args.arena.now.model c.requires.ready.sound c.args.f c.requires.there c.rings.last)
+together-sum-requires-clause-a c =
+    let M = c.args.arena.now.model in
+    (parts_few c.loops.sum (loop_met M (content M c.in-Some.l)) _ _ (ap (λ ls. together c.loops.sum (loops_met M ls)) (sym c.in-Some.ensures.steps) ∙ c.loops.invariant) (face_few M c.requires.ready.sound c.args.f c.requires.there)).0
 
 pub together-sum-requires-clause-b : goal.together-sum-requires-clause-b
 together-sum-requires-clause-b c =
-    let M = c.args.arena.now.model in let ring = c.in-Some.ring in subst IsFew (sym c.loop_met.ensures) (loop_few M c.requires.ready.sound ring (ring_there M c.args.f ring c.in-Some.ensures.1).0)
+    let M = c.args.arena.now.model in
+    subst IsFew (sym c.loop_met.ensures) (parts_few c.loops.sum (loop_met M (content M c.in-Some.l)) _ _ (ap (λ ls. together c.loops.sum (loops_met M ls)) (sym c.in-Some.ensures.steps) ∙ c.loops.invariant) (face_few M c.requires.ready.sound c.args.f c.requires.there)).1
 
-pub rings-preserved : goal.rings-preserved
-rings-preserved c =
-    let M = c.args.arena.now.model in let ring = c.in-Some.ring in record {
-      most = ring_number M c.requires.ready.sound ring (ring_there M c.args.f ring c.in-Some.ensures.1).0;
-      counted = c.together-sum.ensures ∙ (λ i. together (c.rings.invariant.counted i) (c.loop_met.ensures i)) ∙ face_next M c.requires.ready.sound c.args.f c.rings.last ring c.in-Some.ensures;
-    }
+pub loops-preserved : goal.loops-preserved
+loops-preserved c =
+    let M = c.args.arena.now.model in
+    counted_more c.loops.sum (loop_met M (content M c.in-Some.l)) _ _ (ap (λ ls. together c.loops.sum (loops_met M ls)) (sym c.in-Some.ensures.steps) ∙ c.loops.invariant) c.together-sum.result (c.together-sum.ensures ∙ ap (together c.loops.sum) c.loop_met.ensures)
 
 pub returns : goal.returns
-returns c = c.rings.invariant.counted ∙ face_end c.args.arena.now.model c.requires.ready.sound c.args.f c.rings.last c.in_default.ensures
+returns c = all_counted c.loops.sum _ _ c.loops.invariant (ap (loops_met c.args.arena.now.model) c.in-None.ensures.steps.0)

@@ -1,12 +1,7 @@
-use Rattle.std.proofs.Common.{◌≡◌, ◌≤◌, ◌-◌}
-use Rattle.solid_measure.proofs.solid_counts_laws.FaceSums.{face_met_to}
+use Rattle.std.proofs.Common.{◌≡◌}
+use Rattle.shapes.specs.Faces.{loops_of}
+use Rattle.solid_measure.specs.solid_counts.Sums.{together, loops_met}
 use Rattle.solid_measure.proofs.solid_counts.loops.face_met.Given as goal
 
-abbrev pub invariant-rings : goal.invariant-rings
-invariant-rings l = record {
-  most : l.last ≤ 1000000;
-  counted : l.sum ≡ face_met_to l.arena.model l.f l.last;
-}
-
-abbrev pub decreases-rings : goal.decreases-rings
-decreases-rings l = 1000000 - l.last
+abbrev pub invariant-loops : goal.invariant-loops
+invariant-loops l = together l.sum (loops_met l.arena.model l.l-iterator) ≡ loops_met l.arena.model (loops_of l.arena.model l.f)

@@ -1,29 +1,60 @@
-use Rattle.std.proofs.Common.{sym, subst, ◌∙◌, arith}
-use Rattle.solid_measure.specs.solid_counts.Sums.{IsFew, together}
-use Rattle.solid_walks.proofs.NextFace.{next_face}
-use Rattle.solid_measure.proofs.solid_counts_laws.FaceSums.{face_all_few, solid_start, solid_few, solid_next, solid_end}
+use Rattle.std.proofs.Common.{length, sym, ap, subst, ◌∙◌, arith}
+use Rattle.std.proofs.lemmas.List.{length-append}
+use Rattle.euler_operators.specs.Items.{IsIn}
+use Rattle.euler_operators.specs.Model.{rings_of}
+use Rattle.shapes.specs.Faces.{loops_of}
+use Rattle.shapes.specs.Walks.{loops_in}
+use Rattle.solid_walks.proofs.face_walks_laws.FaceWalks.{face_in}
+use Rattle.solid_walks.proofs.face_walks_laws.Yielded.{yielded_in}
+use Rattle.solid_measure.specs.solid_counts.Counts.{rings_in}
+use Rattle.solid_measure.specs.solid_counts.Sums.{IsFew, together, loops_met}
+use Rattle.solid_measure.proofs.solid_counts_laws.Sums.{nothing_together, loops-append}
+use Rattle.solid_measure.proofs.solid_counts_laws.FaceSums.{parts_few, counted_more, all_counted, solid_few, rings_few}
 use Rattle.solid_measure.proofs.solid_counts.solids.solid_met.Goals as goal
 
 pub faces-init : goal.faces-init
-faces-init c = record { most = omega arith; counted = solid_start c.args.arena.now.model c.requires.sound c.args.s }
+faces-init c =
+    let M = c.args.arena.now.model in record {
+      met = nothing_together _ ∙ ap (λ fs. loops_met M (loops_in M fs)) (c.into_iter-f-iterator.ensures.into_iter_gives ∙ c.faces_of-f-items.ensures);
+      rings = omega (arith, ap (λ fs. length (rings_in M fs)) (c.into_iter-f-iterator.ensures.into_iter_gives ∙ c.faces_of-f-items.ensures));
+    }
 
 pub face_met-requires-clause-there : goal.face_met-requires-clause-there
-face_met-requires-clause-there c = (next_face c.args.arena.now.model c.requires.sound c.args.s c.faces.last c.in-Some.f c.in-Some.ensures).0
+face_met-requires-clause-there c =
+    face_in c.args.arena.now.model c.requires.sound c.args.s c.in-Some.f (subst (IsIn c.in-Some.f) (c.into_iter-f-iterator.ensures.into_iter_gives ∙ c.faces_of-f-items.ensures) (yielded_in (λ f. f) c.faces.yielded _ _ _ c.in-Some.f c.faces.yielded_by c.in-Some.ensures.steps))
+
+pub ring_count-rings-requires : goal.ring_count-rings-requires
+ring_count-rings-requires c =
+    face_in c.args.arena.now.model c.requires.sound c.args.s c.in-Some.f (subst (IsIn c.in-Some.f) (c.into_iter-f-iterator.ensures.into_iter_gives ∙ c.faces_of-f-items.ensures) (yielded_in (λ f. f) c.faces.yielded _ _ _ c.in-Some.f c.faces.yielded_by c.in-Some.ensures.steps))
 
 pub together-sum-requires-clause-a : goal.together-sum-requires-clause-a
-together-sum-requires-clause-a c = subst IsFew (sym c.faces.invariant.counted) (solid_few c.args.arena.now.model c.requires.sound c.args.s c.faces.last)
+together-sum-requires-clause-a c =
+    let M = c.args.arena.now.model in
+    (parts_few c.faces.sum (loops_met M (loops_of M c.in-Some.f)) _ _
+    (ap (together c.faces.sum) (sym (loops-append M (loops_of M c.in-Some.f) (loops_in M c.next.new.self))) ∙ ap (λ fs. together c.faces.sum (loops_met M (loops_in M fs))) (sym c.in-Some.ensures.steps) ∙ c.faces.invariant.met) (solid_few M c.requires.sound c.args.s)).0
 
 pub together-sum-requires-clause-b : goal.together-sum-requires-clause-b
 together-sum-requires-clause-b c =
-    let M = c.args.arena.now.model in let f = c.in-Some.f in
-    subst IsFew (sym c.face_met.ensures) (face_all_few M c.requires.sound f (next_face M c.requires.sound c.args.s c.faces.last f c.in-Some.ensures).0)
+    let M = c.args.arena.now.model in
+    subst IsFew (sym c.face_met.ensures) (parts_few c.faces.sum (loops_met M (loops_of M c.in-Some.f)) _ _
+    (ap (together c.faces.sum) (sym (loops-append M (loops_of M c.in-Some.f) (loops_in M c.next.new.self))) ∙ ap (λ fs. together c.faces.sum (loops_met M (loops_in M fs))) (sym c.in-Some.ensures.steps) ∙ c.faces.invariant.met) (solid_few M c.requires.sound c.args.s)).1
+
+pub overflow_add-rings : goal.overflow_add-rings
+overflow_add-rings c =
+    let M = c.args.arena.now.model in
+    omega (arith, c.faces.invariant.rings, ap (λ fs. length (rings_in M fs)) c.in-Some.ensures.steps, c.ring_count-rings.ensures, length-append (rings_of M c.in-Some.f) (rings_in M c.next.new.self), rings_few M c.requires.sound c.args.s)
 
 pub faces-preserved : goal.faces-preserved
 faces-preserved c =
-    let M = c.args.arena.now.model in let f = c.in-Some.f in record {
-      most = (next_face M c.requires.sound c.args.s c.faces.last f c.in-Some.ensures).1;
-      counted = c.together-sum.ensures ∙ (λ i. together (c.faces.invariant.counted i) (c.face_met.ensures i)) ∙ solid_next M c.requires.sound c.args.s c.faces.last f c.in-Some.ensures;
+    let M = c.args.arena.now.model in record {
+      met = counted_more c.faces.sum (loops_met M (loops_of M c.in-Some.f)) _ _
+          (ap (together c.faces.sum) (sym (loops-append M (loops_of M c.in-Some.f) (loops_in M c.next.new.self))) ∙ ap (λ fs. together c.faces.sum (loops_met M (loops_in M fs))) (sym c.in-Some.ensures.steps) ∙ c.faces.invariant.met)
+          c.together-sum.result (c.together-sum.ensures ∙ ap (together c.faces.sum) c.face_met.ensures);
+      rings = omega (arith, c.faces.invariant.rings, ap (λ fs. length (rings_in M fs)) c.in-Some.ensures.steps, c.ring_count-rings.ensures, length-append (rings_of M c.in-Some.f) (rings_in M c.next.new.self));
     }
 
-pub returns : goal.returns
-returns c = c.faces.invariant.counted ∙ solid_end c.args.arena.now.model c.requires.sound c.args.s c.faces.last c.in_default.ensures
+pub returns-clause-met : goal.returns-clause-met
+returns-clause-met c = all_counted c.faces.sum _ _ c.faces.invariant.met (ap (λ fs. loops_met c.args.arena.now.model (loops_in c.args.arena.now.model fs)) c.in-None.ensures.steps.0)
+
+pub returns-clause-rings : goal.returns-clause-rings
+returns-clause-rings c = let M = c.args.arena.now.model in omega (arith, c.faces.invariant.rings, ap (λ fs. length (rings_in M fs)) c.in-None.ensures.steps.0)

@@ -1,12 +1,12 @@
-use Rattle.std.proofs.Common.{◌≡◌, ◌≤◌, ◌-◌}
-use Rattle.solid_measure.proofs.solid_counts_laws.FaceSums.{solid_met_to}
+use Rattle.std.proofs.Common.{◌≡◌, ◌+◌, length}
+use Rattle.euler_operators.specs.Model.{faces_of}
+use Rattle.shapes.specs.Walks.{loops_in}
+use Rattle.solid_measure.specs.solid_counts.Counts.{rings_in}
+use Rattle.solid_measure.specs.solid_counts.Sums.{together, loops_met}
 use Rattle.solid_measure.proofs.solid_counts.solids.solid_met.Given as goal
 
 abbrev pub invariant-faces : goal.invariant-faces
 invariant-faces l = record {
-  most : l.last ≤ 1000000;
-  counted : l.sum ≡ solid_met_to l.arena.model l.s l.last;
+  met : together l.sum (loops_met l.arena.model (loops_in l.arena.model l.f-iterator)) ≡ loops_met l.arena.model (loops_in l.arena.model (faces_of l.arena.model l.s));
+  rings : l.rings + length (rings_in l.arena.model l.f-iterator) ≡ length (rings_in l.arena.model (faces_of l.arena.model l.s));
 }
-
-abbrev pub decreases-faces : goal.decreases-faces
-decreases-faces l = 1000000 - l.last

@@ -3,12 +3,15 @@ use Rattle.std.proofs.Common.{◌≡◌, ℕ, ◌<◌, Bool, true, ◌&&◌, ◌
 use Rattle.std.proofs.lemmas.Bool.Decides.{nat_tests}
 use Rattle.euler_operators.specs.Table.{get, has}
 use Rattle.euler_operators.specs.Model.{Model, FaceRow, no_face, solid_of, faces_of}
-use Rattle.euler_operators.specs.Sound.{Sound}
+use Rattle.euler_operators.specs.Sound.{Sound, Has}
 use Rattle.euler_operators.specs.Conditions.{lists}
 use Rattle.euler_operators.proofs.Tests.{and_first}
 use Rattle.euler_operators.proofs.Models.{one_or_more}
-use Rattle.solid_walks.specs.Store.{IsNextFace, is_face_of}
-use Rattle.shapes.specs.Faces.{faces_of_both}
+use Rattle.euler_conditions.specs.Store.{IsNextFace, is_face_of}
+use Rattle.euler_operators.specs.Items.{IsIn}
+use Rattle.euler_laws.proofs.shared.Listed.{listed-from_in}
+use Rattle.shapes.specs.Faces.{faces_of_both, loops_of}
+use Rattle.shapes.proofs.walks.SolidFaces.{listed_face, face_of_loop}
 use Rattle.solid_walks.proofs.face_walks_laws.Above.{above, member, AllAbove, Rising, all_above, next_above, none_above, all_above_members}
 use Rattle.solid_walks.proofs.face_walks_laws.TableWalks.{passes, rising_passing, member_passing}
 
@@ -64,3 +67,9 @@ module _ (M : Model) where
 
     pub faces_from_zero : (s : ℕ) → above 0 (faces_of M s) ≡ faces_of M s
     faces_from_zero s = all_above 0 (faces_of M s) (faces_positive s)
+
+    pub face_in : (s f : ℕ) → IsIn f (faces_of M s) → Has M.faces f
+    face_in s f i = (listed_face M sound s f (listed-from_in f (faces_of M s) i)).0
+
+    pub loop_in : (f l : ℕ) → Has M.faces f → IsIn l (loops_of M f) → Has M.loops l
+    loop_in f l there i = (face_of_loop M sound f l there (listed-from_in l (loops_of M f) i)).0

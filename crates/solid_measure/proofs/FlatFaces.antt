@@ -1,0 +1,58 @@
+-- Whether all corners of a face lie on a plane: loop by loop, half-edge by half-edge.
+use Rattle.std.proofs.Common.{◌≡◌, ℕ, Bool, true, false, ◌&&◌, List, [], ◌∷◌, ◌++◌, map, not, refl, sym, ap, ◌∙◌, true≢false}
+use Rattle.std.specs.List.{list_all}
+use Rattle.euler_operators.specs.declared.Plane.{Plane}
+use Rattle.euler_operators.specs.Vectors.{is_on, same_point, direction, origin}
+use Rattle.euler_operators.specs.Rings.{IsRotation}
+use Rattle.euler_operators.specs.declared.Content.{Content}
+use Rattle.euler_operators.specs.declared.HalfEdge.{HalfEdge}
+use Rattle.euler_operators.specs.Model.{Model, LoopContent, lone, cycle, items_of, content, tail, point_of}
+use Rattle.solid_walks.specs.Store.{Tells}
+use Rattle.shapes.specs.Faces.{vertices_on, vertices_in, loops_of, corners}
+use Rattle.solid_measure.specs.Measure.{plane_of, is_flat}
+
+module _ (P : ℕ → Bool) where
+  all_joined : (xs ys : List ℕ) → list_all P (xs ++ ys) ≡ (list_all P xs && list_all P ys)
+  all_joined [] ys = refl
+  all_joined (x ∷ xs) ys = ap (λ b. P x && b) (all_joined xs ys) ∙ sym (and_more (P x) (list_all P xs) (list_all P ys)) where
+    and_more : (a b c : Bool) → ((a && b) && c) ≡ (a && (b && c))
+    and_more true b c = refl
+    and_more false b c = refl
+
+  -- it doesn't depend on where a ring is begun
+  pub all_turned : (xs ys : List ℕ) → IsRotation xs ys → list_all P xs ≡ list_all P ys
+  all_turned xs ys r = ap (list_all P) r.here ∙ all_joined r.front r.back ∙ turned (list_all P r.front) (list_all P r.back) ∙ sym (ap (list_all P) r.there ∙ all_joined r.back r.front) where
+    turned : (a b : Bool) → (a && b) ≡ (b && a)
+    turned true true = refl
+    turned true false = refl
+    turned false true = refl
+    turned false false = refl
+
+  pub all_mapped : (f : ℕ → ℕ) (xs : List ℕ) → list_all (λ x. P (f x)) xs ≡ list_all P (map f xs)
+  all_mapped f [] = refl
+  all_mapped f (x ∷ xs) = ap (λ b. P (f x) && b) (all_mapped f xs)
+
+  all_vertices : (M : Model) (ls : List ℕ) → list_all (λ l. list_all P (vertices_on M (content M l))) ls ≡ list_all P (vertices_in M ls)
+  all_vertices M [] = refl
+  all_vertices M (l ∷ ls) = ap (λ b. list_all P (vertices_on M (content M l)) && b) (all_vertices M ls) ∙ sym (all_joined (vertices_on M (content M l)) (vertices_in M ls))
+
+  pub all_corners : (M : Model) (f : ℕ) → list_all (λ l. list_all P (vertices_on M (content M l))) (loops_of M f) ≡ list_all P (corners M f)
+  unfolding corners
+  all_corners M f = all_vertices M (loops_of M f)
+
+-- the vertices on a loop that isn't lone
+pub ring_vertices : (M : Model) (s : Plane) (c : LoopContent) (h : HalfEdge) → Tells c (Content.Ring h) → list_all (λ v. is_on s (point_of M v)) (map (tail M) (items_of c)) ≡ list_all (λ v. is_on s (point_of M v)) (vertices_on M c)
+ring_vertices M s (lone v) h t = absurd t
+ring_vertices M s (cycle hs) h t = refl
+
+-- whether a face is flat, from its two tests
+pub flat_as : (M : Model) (f : ℕ) (s : Plane) (b : Bool) → s ≡ plane_of M f → b ≡ (not (same_point (direction s) origin) && list_all (λ v. is_on s (point_of M v)) (corners M f)) → b ≡ is_flat M f
+unfolding is_flat
+flat_as M f s b e is = is ∙ ap (λ p. not (same_point (direction p) origin) && list_all (λ v. is_on p (point_of M v)) (corners M f)) e
+
+pub flat_then : (a b : Bool) → a ≡ true → b ≡ (a && b)
+flat_then a b e = sym (ap (λ c. c && b) e)
+
+pub flat_else : (a b : Bool) → a ≡ false → a ≡ (a && b)
+flat_else true b e = absurd (true≢false e)
+flat_else false b e = refl
