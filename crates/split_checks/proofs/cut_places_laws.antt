@@ -3,6 +3,7 @@ pub mod RingTests
 pub mod Rings
 pub mod PlaceWalks
 pub mod Signs
+pub mod Heights
 pub mod Lists
 pub mod Cuts
 pub mod CrossingHalves

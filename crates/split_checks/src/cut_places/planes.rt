@@ -1,11 +1,11 @@
 //! The sides of a plane.
-ghost use Rattle.std.specs.Prelude.{◌≡◌};
-ghost use Rattle.euler_operators.specs.Points.{IsInRange};
-ghost use Rattle.euler_operators.specs.Ranges.{IsCutPlane};
+ghost use Rattle.std.specs.Prelude.{◌≡◌, ◌*ℤ◌, true};
+ghost use Rattle.euler_operators.specs.Points.{IsInRange, is_coordinate};
+ghost use Rattle.euler_operators.specs.Ranges.{IsCutPlane, IsWithin};
 ghost use Rattle.euler_operators.specs.Vectors.{are_opposite, height, sign_of};
 ghost use Rattle.split_checks.specs.cut_places.Sides.{lies, opposite_signs, same_sign};
 
-use euler_operators::{Plane, Point, Sign, side};
+use euler_operators::{Plane, Point, Sign};
 
 /// Whether two signs are one.
 pub(crate) fn same(a: Sign, b: Sign) -> bool
@@ -30,13 +30,40 @@ pub(crate) fn opposite(a: Sign, b: Sign) -> bool
     }
 }
 
+/// One of the first three numbers of a plane along which points are cut, times a coordinate: at most 10^18 in magnitude.
+fn scaled(number: i128, coordinate: i64) -> i64
+    requires number { IsWithin 1000000000 number }
+    requires coordinate { is_coordinate coordinate ≡ true }
+    ensures is { result ≡ number *ℤ coordinate }
+    ensures within { IsWithin 1000000000000000000 result }
+{
+    number as i64 * coordinate
+}
+
+/// The height of a point over a plane along which points are cut: at most 6 * 10^18 in magnitude, so that 64 bits hold it.
+fn height(plane: Plane, point: Point) -> i64
+    requires plane { IsCutPlane plane }
+    requires point { IsInRange point }
+    ensures { result ≡ height plane point }
+{
+    let level = scaled(plane.a, point.x) + scaled(plane.b, point.y);
+    level + scaled(plane.c, point.z) + plane.d as i64
+}
+
 /// On which side of the plane the point lies.
 pub(crate) fn side_of(plane: Plane, p: Point) -> Sign
     requires plane { IsCutPlane plane }
     requires p { IsInRange p }
     ensures { result ≡ sign_of (height plane p) }
 {
-    side(plane, p)
+    let height = height(plane, p);
+    if height < 0 {
+        Sign::Below
+    } else if height > 0 {
+        Sign::Above
+    } else {
+        Sign::On
+    }
 }
 
 /// Whether the point lies on that side of the plane.

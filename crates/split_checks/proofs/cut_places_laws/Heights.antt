@@ -1,0 +1,51 @@
+-- The height of a point over a plane along which points are cut, in 64 bits.
+use Rattle.std.proofs.Common.{◌≡◌, ℕ, ◌≤◌, ℤ, sym, ap, subst, ◌∙◌, arith}
+use Rattle.std.specs.Prelude.{◌+ℤ◌, ◌*ℤ◌, FitsSigned}
+use Rattle.std.proofs.lemmas.Int.{to_z-of_z, fits_signed_from_abs}
+use mir.Syntax.{w64}
+use Rattle.euler_operators.specs.declared.Point.{Point}
+use Rattle.euler_operators.specs.declared.Plane.{Plane}
+use Rattle.euler_operators.specs.Points.{IsInRange}
+use Rattle.euler_operators.specs.Ranges.{IsWithin, IsCutPlane}
+use Rattle.euler_operators.specs.Vectors.{height}
+use Rattle.euler_operators.proofs.Magnitudes.{coordinates, coordinate_is, fits, held, held_is, held_short, sum_within}
+
+-- what the code makes fits 64 bits, and is exact
+pub record Short (z y : ℤ) : Type 0 where
+  pub fits : FitsSigned w64 z
+  pub kept : held_short z ≡ y
+
+short : (m : ℕ) (z y : ℤ) → z ≡ y → IsWithin m y → m ≤ 9000000000000000000 → Short z y
+short m z y e w l =
+    let f = fits_signed_from_abs w64 y (omega (arith, w, l)) in
+    record { fits = subst (FitsSigned w64) (sym e) f; kept = ap held_short e ∙ to_z-of_z w64 y f }
+
+module _ (a b c : ℤ) (within_a : IsWithin 1000000000000000000 a) (within_b : IsWithin 1000000000000000000 b) where
+  level_within : IsWithin 2000000000000000000 (a +ℤ b)
+  level_within = sum_within a b _ _ _ within_a within_b (omega arith)
+
+  pub level_told : Short (held_short a +ℤ held_short b) (a +ℤ b)
+  level_told = short _ _ _ (λ i. (short _ a a (λ j. a) within_a (omega arith)).kept i +ℤ (short _ b b (λ j. b) within_b (omega arith)).kept i) level_within (omega arith)
+
+  module _ (within_c : IsWithin 1000000000000000000 c) where
+    rise_within : IsWithin 3000000000000000000 (a +ℤ b +ℤ c)
+    rise_within = sum_within (a +ℤ b) c _ _ _ level_within within_c (omega arith)
+
+    pub rise_told : Short (held_short (held_short a +ℤ held_short b) +ℤ held_short c) (a +ℤ b +ℤ c)
+    rise_told = short _ _ _ (λ i. level_told.kept i +ℤ (short _ c c (λ j. c) within_c (omega arith)).kept i) rise_within (omega arith)
+
+    module _ (p : Plane) (plane : IsCutPlane p) where
+      pub offset_told : Short (held p.d) p.d
+      offset_told = short _ _ _ (held_is p.d (fits _ p.d plane.1 (omega arith))) plane.1 (omega arith)
+
+      pub whole_told : Short (held_short (held_short (held_short a +ℤ held_short b) +ℤ held_short c) +ℤ held_short (held p.d)) (a +ℤ b +ℤ c +ℤ p.d)
+      whole_told = short _ _ _ (λ i. rise_told.kept i +ℤ offset_told.kept i) (sum_within (a +ℤ b +ℤ c) p.d _ _ 6000000000000000000 rise_within plane.1 (omega arith)) (omega arith)
+
+      pub height_told : (q : Point) → IsInRange q → a ≡ held p.a *ℤ held_short q.x → b ≡ held p.b *ℤ held_short q.y → c ≡ held p.c *ℤ held_short q.z
+          → held_short (held_short (held_short (held_short a +ℤ held_short b) +ℤ held_short c) +ℤ held_short (held p.d)) ≡ height p q
+      height_told q range is_a is_b is_c =
+          let xs = coordinates q range in let w = plane.0 in
+          let x : a ≡ p.a *ℤ q.x = is_a ∙ (λ i. held_is p.a (fits _ p.a w.0 (omega arith)) i *ℤ coordinate_is q.x xs.0 i) in
+          let y : b ≡ p.b *ℤ q.y = is_b ∙ (λ i. held_is p.b (fits _ p.b w.1 (omega arith)) i *ℤ coordinate_is q.y xs.1 i) in
+          let z : c ≡ p.c *ℤ q.z = is_c ∙ (λ i. held_is p.c (fits _ p.c w.2 (omega arith)) i *ℤ coordinate_is q.z xs.2 i) in
+          whole_told.kept ∙ (λ i. x i +ℤ y i +ℤ z i +ℤ p.d)
