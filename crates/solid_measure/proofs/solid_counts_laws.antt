@@ -1,6 +1,6 @@
 pub mod HowMany
 pub mod Sums
-pub mod LoopCounts
+pub mod LoopRounds
 pub mod FaceSums
 pub mod Tallies
 pub mod WorkedScripts

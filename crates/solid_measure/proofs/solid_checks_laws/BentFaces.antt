@@ -1,5 +1,5 @@
 -- The least face that isn't flat, solid by solid.
-use Rattle.std.proofs.Common.{◌≡◌, ℕ, Bool, true, false, cond, not, ◌&&◌, ◌||◌, List, ◌∷◌, Option, Some, sym, ap, ◌∙◌}
+use Rattle.std.proofs.Common.{◌≡◌, ℕ, Bool, not, ◌&&◌, ◌||◌, List, Option, sym, ap, ◌∙◌}
 use Rattle.euler_operators.specs.Model.{Model, faces_of}
 use Rattle.euler_operators.specs.Sound.{Sound}
 use Rattle.shapes.specs.Faces.{faces_of_both}
@@ -17,12 +17,6 @@ module _ (M : Model) where
   -- the first of some faces that isn't flat, if there is one
   abbrev pub first_bent : List ℕ → Option ℕ
   first_bent fs = first_such is_bent fs
-
-  pub bent_here : (f : ℕ) (fs : List ℕ) → is_bent f ≡ true → first_bent (f ∷ fs) ≡ Some f
-  bent_here f fs t = ap (λ b. cond b (Some f) (first_bent fs)) t
-
-  pub bent_later : (f : ℕ) (fs : List ℕ) → is_bent f ≡ false → first_bent (f ∷ fs) ≡ first_bent fs
-  bent_later f fs t = ap (λ b. cond b (Some f) (first_bent fs)) t
 
   module _ (sound : Sound M) where
     least_of_solid : (s : ℕ) → IsLeast (λ k. is_bent k && member k (faces_of M s)) (first_bent (faces_of M s))

@@ -44,10 +44,6 @@ module _ (M : Model) where
   lone_among [] = None
   lone_among (f ∷ fs) = lesser (lone_of (loops_of M f)) (lone_among fs)
 
-  pub loops_are : (f : ℕ) → loops_of M f ≡ outer M f ∷ rings_of M f
-  unfolding loops_of
-  loops_are f = refl
-
   -- loop k is lone and of one of these faces
   abbrev lone_in : List ℕ → ℕ → Bool
   lone_in fs k = is_lone (content M k) && (has M.loops k && lists fs (face_of M k))

@@ -1,19 +1,17 @@
 -- What is counted of the loops of a face, of the half-edges of a loop, and of a solid's rings, and how much that can be.
 use Rattle.std.proofs.Common.{◌≡◌, ℕ, ◌≤◌, List, [], ◌∷◌, length, sym, ap, ◌∙◌, arith}
 use Rattle.std.proofs.lemmas.List.{length-append}
-use Rattle.euler_operators.specs.Model.{Model, outer, rings_of, faces_of, cycle_of}
-use Rattle.euler_operators.specs.Sound.{Sound, Has, HasHalf}
-use Rattle.euler_operators.proofs.Models.{cycle_sound}
+use Rattle.euler_operators.specs.Model.{Model, outer, rings_of, faces_of}
+use Rattle.euler_operators.specs.Sound.{Sound, Has}
 use Rattle.euler_laws.proofs.shared.Listed.{listed-from_in}
 use Rattle.shapes.specs.Faces.{loops_of}
 use Rattle.shapes.specs.Walks.{loops_in}
 use Rattle.shapes.proofs.walks.FaceLoops.{loops_of_apart}
 use Rattle.shapes.proofs.walks.SolidFaces.{loops_short, all_loops_apart, loop_in_solid, face_of_loop}
-use Rattle.solid_walks.proofs.face_walks_laws.CycleWalks.{item_there}
 use Rattle.solid_measure.specs.declared.solid_counts.Met.{Met}
 use Rattle.solid_measure.specs.solid_counts.Counts.{rings_in}
-use Rattle.solid_measure.specs.solid_counts.Sums.{together, nothing, IsFew, halves_met, loops_met}
-use Rattle.solid_measure.proofs.solid_counts_laws.Sums.{together_more, together_nothing, halves_few, loops_few}
+use Rattle.solid_measure.specs.solid_counts.Sums.{together, nothing, IsFew, loops_met}
+use Rattle.solid_measure.proofs.solid_counts_laws.Sums.{together_more, together_nothing, loops_few}
 
 -- a walk has counted so much, next comes this, and then what is left
 module _ (sum met left total : Met) (counted : together sum (together met left) ≡ total) where
@@ -34,9 +32,6 @@ rings_fewer M [] = omega arith
 rings_fewer M (f ∷ fs) = omega (arith, rings_fewer M fs, length-append (rings_of M f) (rings_in M fs), length-append (outer M f ∷ rings_of M f) (loops_in M fs))
 
 module _ (M : Model) (sound : Sound M) where
-  pub ring_few : (h : ℕ) → HasHalf M h → IsFew (halves_met M (cycle_of M h))
-  ring_few h t = halves_few M sound (cycle_of M h) (record { apart = (cycle_sound M sound h t).apart; there = item_there M sound h t })
-
   pub face_few : (f : ℕ) → Has M.faces f → IsFew (loops_met M (loops_of M f))
   face_few f t = loops_few M sound (loops_of M f) (loops_of_apart M sound f) (λ l i. (face_of_loop M sound f l t (listed-from_in l (loops_of M f) i)).0)
 

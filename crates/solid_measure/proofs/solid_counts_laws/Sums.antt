@@ -35,6 +35,9 @@ halves-append : (M : Model) (hs ks : List ℕ) → halves_met M (hs ++ ks) ≡ t
 halves-append M [] ks = sym (nothing_together (halves_met M ks))
 halves-append M (h ∷ hs) ks = ap (together (half_met M h)) (halves-append M hs ks) ∙ sym (together_more (half_met M h) (halves_met M hs) (halves_met M ks))
 
+pub halves_push : (M : Model) (hs : List ℕ) (h : ℕ) → halves_met M (hs ++ h ∷ []) ≡ together (halves_met M hs) (half_met M h)
+halves_push M hs h = halves-append M hs (h ∷ []) ∙ ap (together (halves_met M hs)) (together_nothing (half_met M h))
+
 -- it doesn't depend on where the walk starts
 pub halves_turned : (M : Model) (hs ks : List ℕ) → IsRotation hs ks → halves_met M hs ≡ halves_met M ks
 halves_turned M hs ks r =

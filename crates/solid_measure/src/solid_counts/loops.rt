@@ -1,15 +1,16 @@
 //! Walks over the loops of a face.
 ghost use Rattle.std.specs.Prelude.{◌≡◌, true};
+ghost use Rattle.euler_operators.specs.Items.{IsIn};
 ghost use Rattle.euler_operators.specs.HalfEdge.{code};
-ghost use Rattle.euler_operators.specs.Model.{content, cycle_of, has_half};
+ghost use Rattle.euler_operators.specs.Model.{items_of, content};
 ghost use Rattle.solid_walks.specs.Store.{has_number};
 ghost use Rattle.solid_walks.specs.Ready.{IsReady};
 ghost use Rattle.shapes.specs.Faces.{loops_of};
 ghost use Rattle.solid_measure.specs.solid_counts.Sums.{IsFew, half_met, halves_met, loop_met, loops_met, together};
 
 use crate::solid_counts::Met;
-use euler_operators::{Content, HalfEdge, Kind};
-use solid_walks::{Arena, items_round, leads, loops_of};
+use euler_operators::{Content, HALF_EDGE_CODES, HalfEdge, Kind};
+use solid_walks::{Arena, leads, loops_of, next, same};
 
 /// What two walks have counted together.
 pub(crate) fn together(a: Met, b: Met) -> Met
@@ -35,18 +36,23 @@ fn half_met(arena: &Arena, h: HalfEdge) -> Met
     }
 }
 
-/// What the half-edges count for of the loop in which `first` stands.
-fn ring_met(arena: &Arena, first: HalfEdge) -> Met
+/// What the half-edges of loop l count for, in which `first` stands.
+fn ring_met(arena: &Arena, l: u32, first: HalfEdge) -> Met
     requires ready { IsReady arena.now }
-    requires there { has_half arena.now.model (code first) ≡ true }
-    ensures { result ≡ halves_met arena.now.model (cycle_of arena.now.model (code first)) }
+    requires item { IsIn (code first) (items_of (content arena.now.model l)) }
+    ensures { result ≡ halves_met arena.now.model (items_of (content arena.now.model l)) }
 {
     let mut sum = Met {
         vertices: 0,
         edges: 0,
     };
-    'round: for h in items_round(arena, first) {
+    let mut h = first;
+    'round: for _ in 0..HALF_EDGE_CODES {
         sum = together(sum, half_met(arena, h));
+        h = next(arena, h);
+        if same(h, first) {
+            return sum;
+        }
     }
     sum
 }
@@ -62,7 +68,7 @@ fn loop_met(arena: &Arena, l: u32) -> Met
             vertices: 1,
             edges: 0,
         },
-        Content::Ring(first) => ring_met(arena, first),
+        Content::Ring(first) => ring_met(arena, l, first),
     }
 }
 

@@ -1,4 +1,4 @@
-use Rattle.solid_measure.proofs.solid_counts_laws.LoopCounts.{half_is}
+use Rattle.solid_measure.proofs.solid_counts_laws.LoopRounds.{half_is}
 use Rattle.solid_measure.proofs.solid_counts.loops.half_met.Goals as goal
 
 pub returns : goal.returns
