@@ -1,5 +1,5 @@
 -- Behind the last line the answer stays.
-use Rattle.std.proofs.Common.{◌≡◌, ◌≢◌, inl, inr, ℕ, true, List, [], ◌++◌, length, Option, refl, sym, ap, subst, ◌∙◌, arith}
+use Rattle.std.proofs.Common.{◌≡◌, ◌≢◌, inl, inr, ℕ, true, false, List, [], ◌++◌, length, Option, refl, sym, ap, subst, ◌∙◌, arith}
 use Rattle.std.proofs.lemmas.List.{append-nil, nil_from_length}
 use Rattle.script_reader.specs.Newline.{Lacks, has_newline}
 use Rattle.script_reader.specs.Lines.{within_limit, FirstLine, Answers}
@@ -10,7 +10,7 @@ use Rattle.script_reader.specs.declared.lines.Ending.TheVariants.{Open, Ended, F
 use Rattle.script_reader.specs.declared.lines.Found.{Found}
 use Rattle.script_reader.specs.declared.lines.Found.TheVariants as found
 use Rattle.script_reader.specs.declared.lines.Lines.{Lines}
-use Rattle.script_reader.proofs.NewlineLaws.{has-lacks, has-newline}
+use Rattle.script_reader.proofs.NewlineLaws.{Lacks-front, has-lacks, has-newline}
 use Rattle.script_reader.proofs.LinesLaws.{limit_none}
 use Rattle.script_reader.specs.Ends.{IsLast}
 
@@ -64,3 +64,14 @@ stays remaining old mid new answer again w last v =
     let answered = subst (λ (e : Ending). Answers again e (unread_of mid ++ within_limit mid.taken v.advances.given) new.buffer.line new.buffer.unread) still.ending v.advances.answered in
     let second = only (ending_of mid) again (unread_of mid) new.buffer.line new.buffer.unread l.shut l.lacks l.quiet (subst (λ (xs : List ℕ). Answers again (ending_of mid) xs new.buffer.line new.buffer.unread) text answered) in
     (second ∙ sym l.stands, still)
+
+no_whole : (answer : Found) (e : Ending) (unread more line rest : List ℕ) → IsLast answer → Answers answer e (unread ++ more) line rest → has_newline unread ≡ false
+no_whole found.Line e unread more line rest last a = absurd last
+no_whole found.Long e unread more line rest last a = absurd last
+no_whole found.End e unread more line rest last a = has-lacks unread (Lacks-front unread more (subst Lacks (sym a.0) tt))
+no_whole found.Read e unread more line rest last a = has-lacks unread (Lacks-front unread more a.0)
+no_whole found.TooLong e unread more line rest last a = has-lacks unread (Lacks-front unread more a.0)
+
+-- where no line comes, none was there to its newline
+pub no_whole_line : {R : Type 0} (remaining : R → Option (List ℕ)) (old new : Lines R) (answer : Found) → IsLast answer → Went remaining old new answer → has_newline (unread_of old) ≡ false
+no_whole_line remaining old new answer last w = no_whole answer (ending_of new) (unread_of old) (within_limit old.taken w.advances.given) new.buffer.line new.buffer.unread last w.advances.answered

@@ -59,7 +59,8 @@ impl<R: Read> Lines<R> {
     ghost use Rattle.std.specs.Io.KnownBytes.{IsAtEnd};
     ghost use Rattle.script_reader.specs.Lines.{Reads, LastAnswer, Advances};
     ghost use Rattle.script_reader.specs.declared.lines.Ending.TheVariants.{Open, Ended};
-    ghost use Rattle.script_reader.specs.State.{has_line, IsStill};
+    ghost use Rattle.script_reader.specs.Newline.{has_newline};
+    ghost use Rattle.script_reader.specs.State.{has_line, unread_of, IsStill};
     ghost use Rattle.script_reader.specs.Next.{Gives};
     ghost use Rattle.script_reader.specs.contracts.lines.Lines.{the_row};
     ghost use Rattle.std.specs.Io.BufRead.{Rests};
@@ -153,6 +154,13 @@ impl<R: Read> Lines<R> {
             Found::Read => NextLine::Read,
             Found::TooLong => NextLine::TooLong,
         }
+    }
+
+    /// Whether the next line is there to its newline.
+    pub fn has_whole_line(&self) -> bool
+        ensures { result ≡ has_newline (unread_of self.now) }
+    {
+        self.buffer.has_newline()
     }
 
     /// Whether the next answer is there without a further read.

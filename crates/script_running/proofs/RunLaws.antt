@@ -3,7 +3,7 @@ use Rattle.std.proofs.Common.{◌≡◌, inl, inr, ℕ, ◌<◌, Bool, true, fal
 use Rattle.std.proofs.lemmas.List.{append-nil}
 use Rattle.std.proofs.lemmas.Bool.{false≢true}
 use Rattle.std.proofs.lemmas.Bool.Decides.{nat_tests}
-use Rattle.std.proofs.KnownBytes.{Appends-nil, Appends-trans, Appends-kept}
+use Rattle.std.proofs.KnownBytes.{Appends-nil, Appends-kept}
 use Rattle.std.specs.Prelude.{nat_lt, IfOk, IfErr, Result, if◌then◌else◌}
 use Rattle.std.specs.Io.KnownBytes.{Appends, Keeps, Consumes, IsAtEnd}
 use Rattle.script_reader.specs.Lines.{lines_of, within_limit}
@@ -19,7 +19,8 @@ use Rattle.script_reader.specs.declared.lines.Lines.{Lines}
 use Rattle.script_reader.specs.declared.lines.Found.{Found}
 use Rattle.script_reader.specs.declared.lines.Found.TheVariants as found
 use Rattle.script_reader.proofs.ScriptLaws.{has_begun, has_line_more, has_long_more, is_read_out, breaks_at_fault, breaks_at_limit, falls_by_line, falls_by_long}
-use Rattle.solid_listing.specs.Writing.{Stops}
+use Rattle.solid_listing.specs.Writing.{Stops, Puts, Outgoing, outgoing, Gathers}
+use Rattle.solid_listing.proofs.TellingLaws.{Breaks, Gathers-nil, Gathers-trans, Breaks-after, all_out, went_out}
 use Rattle.undo_journal.specs.Machine.{Machine, start}
 use Rattle.script_running.specs.script_judging.Judging.{Obeys, Judges, Answers, answer_text, no_lines, one_line, counted}
 use Rattle.script_running.specs.script_judging.Settling.{spelled}
@@ -40,40 +41,48 @@ use Rattle.script_running.proofs.Outputs.{text_at, counts_at, after_to, outs_so,
 abbrev pub Continues : Bool → List (List ℕ) → List ℕ → Machine → Summary → Type 0
 Continues stop heard out s n = (lines : List (List ℕ)) (rest : List ℕ) (k : Summary) → Outs stop s lines rest k → Outs stop start (heard ++ lines) (out ++ rest) (counted n k)
 
--- a run so far: what was heard and written, that the answers go on as the machine's, and that none stopped it
-pub record Progress {R : Type 0} (remaining : R → Option (List ℕ)) (first : Option (List ℕ)) (lines : Lines R) (old new : Option (List ℕ)) (stop : Bool) (s : Machine) (n : Summary) : Type 0 where
+-- a run so far: what was heard and told, that the answers go on as the machine's, and that none stopped it
+pub record Progress {R : Type 0} (remaining : R → Option (List ℕ)) (first : Option (List ℕ)) (lines : Lines R) (old : Option (List ℕ)) (new : Outgoing) (stop : Bool) (s : Machine) (n : Summary) : Type 0 where
   pub heard : List (List ℕ)
   pub read : HasRead remaining first lines heard
   pub out : List ℕ
-  pub appended : Appends old new out
+  pub gathered : Gathers (outgoing old []) new out
   pub runs : Continues stop heard out s n
   pub unstopped : was_stopped stop n ≡ false
 
 -- the next line was read, and judged
-pub record Turn {R : Type 0} (remaining : R → Option (List ℕ)) (first : Option (List ℕ)) (lines : Lines R) (old new : Option (List ℕ)) (stop : Bool) (s : Machine) (n : Summary) (a : Answer) (t : Machine) : Type 0 where
+pub record Turn {R : Type 0} (remaining : R → Option (List ℕ)) (first : Option (List ℕ)) (lines : Lines R) (old : Option (List ℕ)) (new : Outgoing) (stop : Bool) (s : Machine) (n : Summary) (a : Answer) (t : Machine) : Type 0 where
   pub heard : List (List ℕ)
   pub line : List ℕ
   pub read : HasRead remaining first lines (heard ++ line ∷ [])
   pub out : List ℕ
-  pub appended : Appends old new out
+  pub gathered : Gathers (outgoing old []) new out
   pub runs : Continues stop heard out s n
   pub unstopped : was_stopped stop n ≡ false
   pub judges : Judges s line a t
 
-pub begins : {R : Type 0} (remaining : R → Option (List ℕ)) (given : R) (lines : Lines R) (old : Option (List ℕ)) (stop : Bool) (s : Machine) → IsFresh given lines → s ≡ start → Progress remaining (remaining given) lines old old stop s no_lines
-begins remaining given lines old stop s fresh at_start = record {
+pub begins : {R : Type 0} (remaining : R → Option (List ℕ)) (given : R) (lines : Lines R) (old : Option (List ℕ)) (pending : List ℕ) (stop : Bool) (s : Machine) → IsFresh given lines → s ≡ start → pending ≡ []
+    → Progress remaining (remaining given) lines old (outgoing old pending) stop s no_lines
+begins remaining given lines old pending stop s fresh at_start none = record {
   heard = [];
   read = has_begun remaining given lines fresh;
   out = [];
-  appended = Appends-nil old;
+  gathered = subst (λ (t : List ℕ). Gathers (outgoing old []) (outgoing old t) []) (sym none) (Gathers-nil (outgoing old []));
   runs = λ ls rest k h. subst (λ (j : Summary). Outs stop start ls rest j) (sym (none_counted k)) (subst (λ (q : Machine). Outs stop q ls rest k) at_start h);
   unstopped = none_calm stop;
 }
 
--- flushing keeps what was written
-pub flushed : {R : Type 0} (remaining : R → Option (List ℕ)) (first : Option (List ℕ)) (lines : Lines R) (old mid new : Option (List ℕ)) (stop : Bool) (s : Machine) (n : Summary)
-    → Progress remaining first lines old mid stop s n → Keeps mid new → Progress remaining first lines old new stop s n
-flushed remaining first lines old mid new stop s n p k = record { heard = p.heard; read = p.read; out = p.out; appended = Appends-kept old mid new p.out p.appended k; runs = p.runs; unstopped = p.unstopped }
+-- what is pending may go out
+pub flushed : {R : Type 0} (remaining : R → Option (List ℕ)) (first : Option (List ℕ)) (lines : Lines R) (old : Option (List ℕ)) (mid new : Outgoing) (stop : Bool) (s : Machine) (n : Summary)
+    → Progress remaining first lines old mid stop s n → Gathers mid new [] → Progress remaining first lines old new stop s n
+flushed remaining first lines old mid new stop s n p k = record {
+  heard = p.heard;
+  read = p.read;
+  out = p.out;
+  gathered = subst (Gathers (outgoing old []) new) (append-nil p.out) (Gathers-trans (outgoing old []) mid new p.out [] p.gathered k);
+  runs = p.runs;
+  unstopped = p.unstopped;
+}
 
 long_told : (line : List ℕ) → 65536 < length line → command_of line ≡ Err LongLine
 long_told line h = let e : nat_lt 65536 (length line) ≡ true = grind (arith, nat_tests) in
@@ -81,36 +90,36 @@ long_told line h = let e : nat_lt 65536 (length line) ≡ true = grind (arith, n
 
 -- a line that was heard is answered, wherever a larger command was put
 pub answered_line : {R : Type 0} (remaining : R → Option (List ℕ)) (lines next : Lines R) (s t u : Machine) (later : Option Larger) (a b : Answer)
-    → Hears remaining lines next s t later (heard.Line a) → b ≡ a → u ≡ t → Hears remaining lines next s u None (heard.Line b)
+    → Hears remaining lines next s t later a heard.Line → b ≡ a → u ≡ t → Hears remaining lines next s u None b heard.Line
 answered_line remaining lines next s t u later a b h ea et = rw (ea, et) h
 
 -- a larger command that was heard is answered as it is carried out
-pub carried : {R : Type 0} (remaining : R → Option (List ℕ)) (lines next : Lines R) (s m t u : Machine) (later : Option Larger) (l : Larger) (a b : Answer)
-    → Hears remaining lines next s m later heard.Larger → later ≡ Some l → Obeys m (spelled l) a t → b ≡ a → u ≡ t → Hears remaining lines next s u None (heard.Line b)
-carried remaining lines next s m t u later l a b h is obeys ea et =
+pub carried : {R : Type 0} (remaining : R → Option (List ℕ)) (lines next : Lines R) (s m t u : Machine) (later : Option Larger) (l : Larger) (x a b : Answer)
+    → Hears remaining lines next s m later x heard.Larger → later ≡ Some l → Obeys m (spelled l) a t → b ≡ a → u ≡ t → Hears remaining lines next s u None b heard.Line
+carried remaining lines next s m t u later l x a b h is obeys ea et =
     let same : h.1.0 ≡ l = cc (h.1.1, is) in
     answered_line remaining lines next s t u None a b (inl (
       h.0,
       subst (λ (r : Result Command Fault). Answers s r a t) (sym h.1.2) (subst (λ (j : Larger). Obeys s (spelled j) a t) (sym same) (subst (λ (q : Machine). Obeys q (spelled l) a t) h.1.3 obeys)),
     )) ea et
 
-pub turn_of : {R : Type 0} (remaining : R → Option (List ℕ)) (first : Option (List ℕ)) (lines next : Lines R) (old new : Option (List ℕ)) (stop : Bool) (s : Machine) (n : Summary) (a : Answer) (t : Machine)
-    → Progress remaining first lines old new stop s n → Hears remaining lines next s t None (heard.Line a) → Turn remaining first next old new stop s n a t
+pub turn_of : {R : Type 0} (remaining : R → Option (List ℕ)) (first : Option (List ℕ)) (lines next : Lines R) (old : Option (List ℕ)) (new : Outgoing) (stop : Bool) (s : Machine) (n : Summary) (a : Answer) (t : Machine)
+    → Progress remaining first lines old new stop s n → Hears remaining lines next s t None a heard.Line → Turn remaining first next old new stop s n a t
 turn_of remaining first lines next old new stop s n a t p h = elim h [
-  | inl short ↦ record { heard = p.heard; line = line_of next; read = (has_line_more remaining first lines next p.heard p.read short.0).0; out = p.out; appended = p.appended; runs = p.runs; unstopped = p.unstopped; judges = short.1 }
+  | inl short ↦ record { heard = p.heard; line = line_of next; read = (has_line_more remaining first lines next p.heard p.read short.0).0; out = p.out; gathered = p.gathered; runs = p.runs; unstopped = p.unstopped; judges = short.1 }
   | inr long ↦
       let m = has_long_more remaining first lines next p.heard p.read long.0 in
-      record { heard = p.heard; line = m.0; read = m.1; out = p.out; appended = p.appended; runs = p.runs; unstopped = p.unstopped; judges = subst (λ (r : Result Command Fault). Answers s r a t) (sym (long_told m.0 m.2)) (long.1, long.2) }
+      record { heard = p.heard; line = m.0; read = m.1; out = p.out; gathered = p.gathered; runs = p.runs; unstopped = p.unstopped; judges = subst (λ (r : Result Command Fault). Answers s r a t) (sym (long_told m.0 m.2)) (long.1, long.2) }
 ]
 
 -- the run goes on
-pub goes_on : {R : Type 0} (remaining : R → Option (List ℕ)) (first : Option (List ℕ)) (lines : Lines R) (old mid new : Option (List ℕ)) (stop : Bool) (s : Machine) (n : Summary) (a : Answer) (t : Machine)
-    → Turn remaining first lines old mid stop s n a t → stops stop a ≡ false → Appends mid new (answer_text t a) → Progress remaining first lines old new stop t (counted n (one_line a))
+pub goes_on : {R : Type 0} (remaining : R → Option (List ℕ)) (first : Option (List ℕ)) (lines : Lines R) (old : Option (List ℕ)) (mid new : Outgoing) (stop : Bool) (s : Machine) (n : Summary) (a : Answer) (t : Machine)
+    → Turn remaining first lines old mid stop s n a t → stops stop a ≡ false → Gathers mid new (answer_text t a) → Progress remaining first lines old new stop t (counted n (one_line a))
 goes_on remaining first lines old mid new stop s n a t w calm h = record {
   heard = w.heard ++ w.line ∷ [];
   read = w.read;
   out = w.out ++ answer_text t a;
-  appended = Appends-trans old mid new w.out (answer_text t a) w.appended h;
+  gathered = Gathers-trans (outgoing old []) mid new w.out (answer_text t a) w.gathered h;
   runs = λ ls rest k o.
       let one = w.runs (w.line ∷ ls) (answer_text t a ++ rest) (counted (one_line a) k) (a, t, w.judges, inr (calm, (rest, k, refl, refl, o))) in
       let e1 : w.heard ++ w.line ∷ ls ≡ (w.heard ++ w.line ∷ []) ++ ls = sym (append_assoc w.heard (w.line ∷ []) ls) in
@@ -130,8 +139,8 @@ is_output stop given out n o none = outs_so stop start (lines_of (within_limit 0
     (outs_same stop start (lines_of (within_limit 0 given ++ [])) (lines_of (within_limit 0 given)) out out n n (ap lines_of (append-nil (within_limit 0 given))) refl refl o) none
 
 -- the answer stops the run
-pub stopped : {R : Type 0} (remaining : R → Option (List ℕ)) (first : Option (List ℕ)) (lines : Lines R) (old mid new : Option (List ℕ)) (stop : Bool) (s : Machine) (n m : Summary) (a : Answer) (t : Machine)
-    → Turn remaining first lines old mid stop s n a t → stops stop a ≡ true → Appends mid new (answer_text t a) → m ≡ counted n (one_line a) → Served first old new stop m
+stopped : {R : Type 0} (remaining : R → Option (List ℕ)) (first : Option (List ℕ)) (lines : Lines R) (old : Option (List ℕ)) (mid : Outgoing) (new : Option (List ℕ)) (stop : Bool) (s : Machine) (n m : Summary) (a : Answer) (t : Machine)
+    → (w : Turn remaining first lines old mid stop s n a t) → stops stop a ≡ true → Appends old new (w.out ++ answer_text t a) → m ≡ counted n (one_line a) → Served first old new stop m
 stopped remaining first lines old mid new stop s n m a t w bad h count =
     let outs : (more : List ℕ) → (IsAtEnd (remaining (reader_of lines)) → more ≡ []) → Outs stop start (lines_of (within_limit 0 w.read.given ++ more)) (w.out ++ answer_text t a) m = λ more guard.
     let behind = lines_of (unread_of lines ++ more) in
@@ -139,7 +148,7 @@ stopped remaining first lines old mid new stop s n m a t w bad h count =
     let all : lines_of (within_limit 0 w.read.given ++ more) ≡ w.heard ++ w.line ∷ behind = w.read.text more (λ e. guard (w.read.at_end e)) ∙ append_assoc w.heard (w.line ∷ []) behind in
     outs_same stop start (w.heard ++ w.line ∷ behind) (lines_of (within_limit 0 w.read.given ++ more)) (w.out ++ answer_text t a) (w.out ++ answer_text t a) (counted n (one_line a)) m (sym all) refl (sym count) one in
     record {
-      moves = record { given = w.read.given; left = remaining (reader_of lines); out = w.out ++ answer_text t a; consumed = w.read.consumed; appended = Appends-trans old mid new w.out (answer_text t a) w.appended h };
+      moves = record { given = w.read.given; left = remaining (reader_of lines); out = w.out ++ answer_text t a; consumed = w.read.consumed; appended = h };
       outs = outs;
       finished = λ e. absurd (false≢true (sym e ∙ ap (was_stopped stop) count ∙ stop_counted stop n a bad));
       output = is_output stop w.read.given (w.out ++ answer_text t a) m (outs [] (λ _. refl));
@@ -150,15 +159,15 @@ answered : (stop : Bool) (heard : List (List ℕ)) (out : List ℕ) (s : Machine
 answered stop heard out s n runs = outs_same stop start (heard ++ []) heard (out ++ []) out (counted n no_lines) n (append-nil heard) (append-nil out) (counted_none n) (runs [] [] no_lines (refl, refl))
 
 -- the end of the script
-pub ends : {R : Type 0} (remaining : R → Option (List ℕ)) (first : Option (List ℕ)) (lines next : Lines R) (old new : Option (List ℕ)) (stop : Bool) (s : Machine) (n : Summary)
-    → Progress remaining first lines old new stop s n → Went remaining lines next found.End → Served first old new stop n
-ends remaining first lines next old new stop s n p went =
+pub ends : {R : Type 0} (remaining : R → Option (List ℕ)) (first : Option (List ℕ)) (lines next : Lines R) (old : Option (List ℕ)) (new : Outgoing) (stop : Bool) (s : Machine) (n : Summary)
+    → Progress remaining first lines old new stop s n → Went remaining lines next found.End → new.pending ≡ [] → Served first old new.contents stop n
+ends remaining first lines next old new stop s n p went none =
     let r = is_read_out remaining first lines next p.heard p.read went in
     let outs : (more : List ℕ) → (IsAtEnd (remaining (reader_of next)) → more ≡ []) → Outs stop start (lines_of (within_limit 0 r.given ++ more)) p.out n = λ more guard.
     let all : lines_of (within_limit 0 r.given ++ more) ≡ p.heard = ap (λ (xs : List ℕ). lines_of (within_limit 0 r.given ++ xs)) (guard r.end) ∙ ap lines_of (append-nil (within_limit 0 r.given)) ∙ r.lines in
     outs_same stop start p.heard (lines_of (within_limit 0 r.given ++ more)) p.out p.out n n (sym all) refl refl (answered stop p.heard p.out s n p.runs) in
     record {
-      moves = record { given = r.given; left = remaining (reader_of next); out = p.out; consumed = r.consumed; appended = p.appended };
+      moves = record { given = r.given; left = remaining (reader_of next); out = p.out; consumed = r.consumed; appended = went_out old new p.out p.gathered none };
       outs = outs;
       finished = λ _. (r.end, r.within);
       output = is_output stop r.given p.out n (outs [] (λ _. refl));
@@ -196,23 +205,23 @@ breaks_off first last old new stop s n heard out answer b appended runs unstoppe
   unstopped = unstopped;
 }
 
-pub read_fails : {R : Type 0} (remaining : R → Option (List ℕ)) (first : Option (List ℕ)) (lines next : Lines R) (old new : Option (List ℕ)) (stop : Bool) (s : Machine) (n : Summary)
-    → Progress remaining first lines old new stop s n → Went remaining lines next found.Read → BreaksOff first old new stop
-read_fails remaining first lines next old new stop s n p went =
-    breaks_off first (remaining (reader_of next)) old new stop s n p.heard p.out found.Read (breaks_at_fault remaining first lines next p.heard p.read went) p.appended p.runs p.unstopped
+pub read_fails : {R : Type 0} (remaining : R → Option (List ℕ)) (first : Option (List ℕ)) (lines next : Lines R) (old : Option (List ℕ)) (new : Outgoing) (stop : Bool) (s : Machine) (n : Summary)
+    → Progress remaining first lines old new stop s n → Went remaining lines next found.Read → new.pending ≡ [] → BreaksOff first old new.contents stop
+read_fails remaining first lines next old new stop s n p went none =
+    breaks_off first (remaining (reader_of next)) old new.contents stop s n p.heard p.out found.Read (breaks_at_fault remaining first lines next p.heard p.read went) (went_out old new p.out p.gathered none) p.runs p.unstopped
 
-pub too_long : {R : Type 0} (remaining : R → Option (List ℕ)) (first : Option (List ℕ)) (lines next : Lines R) (old new : Option (List ℕ)) (stop : Bool) (s : Machine) (n : Summary)
-    → Progress remaining first lines old new stop s n → Went remaining lines next found.TooLong → (b : BreaksOff first old new stop) × IsTooLong b.moves.given
+pub too_long : {R : Type 0} (remaining : R → Option (List ℕ)) (first : Option (List ℕ)) (lines next : Lines R) (old : Option (List ℕ)) (new : Outgoing) (stop : Bool) (s : Machine) (n : Summary)
+    → Progress remaining first lines old new stop s n → Went remaining lines next found.TooLong → new.pending ≡ [] → (b : BreaksOff first old new.contents stop) × IsTooLong b.moves.given
 unfolding breaks_off
-too_long remaining first lines next old new stop s n p went =
+too_long remaining first lines next old new stop s n p went none =
     let e = breaks_at_limit remaining first lines next p.heard p.read went in
-    (breaks_off first (remaining (reader_of next)) old new stop s n p.heard p.out found.TooLong e p.appended p.runs p.unstopped, e.too_long refl)
+    (breaks_off first (remaining (reader_of next)) old new.contents stop s n p.heard p.out found.TooLong e (went_out old new p.out p.gathered none) p.runs p.unstopped, e.too_long refl)
 
--- a write failed
-pub write_fails : {R : Type 0} (remaining : R → Option (List ℕ)) (first : Option (List ℕ)) (lines : Lines R) (old mid new : Option (List ℕ)) (stop : Bool) (s : Machine) (n : Summary) (a : Answer) (t : Machine) (f : RunFault)
-    → Turn remaining first lines old mid stop s n a t → Stops mid new (answer_text t a) → f ≡ faults.Write → Runs first old new stop (Err f)
+-- a write failed, where the answer was told or before
+pub write_fails : {R : Type 0} (remaining : R → Option (List ℕ)) (first : Option (List ℕ)) (lines : Lines R) (old : Option (List ℕ)) (mid : Outgoing) (new : Option (List ℕ)) (stop : Bool) (s : Machine) (n : Summary) (a : Answer) (t : Machine) (f : RunFault)
+    → (w : Turn remaining first lines old mid stop s n a t) → Stops old new (w.out ++ answer_text t a) → f ≡ faults.Write → Runs first old new stop (Err f)
 write_fails remaining first lines old mid new stop s n a t f w h is_write = is_write_fault first old new stop f is_write (record {
-  moves = record { given = w.read.given; left = remaining (reader_of lines); out = w.out ++ h.front; consumed = w.read.consumed; appended = Appends-trans old mid new w.out h.front w.appended h.appended };
+  moves = record { given = w.read.given; left = remaining (reader_of lines); out = h.front; consumed = w.read.consumed; appended = h.appended };
   begun = λ more guard.
       let behind = lines_of (unread_of lines ++ more) in
       let all : lines_of (within_limit 0 w.read.given ++ more) ≡ w.heard ++ w.line ∷ behind = w.read.text more (λ e. guard (w.read.at_end e)) ∙ append_assoc w.heard (w.line ∷ []) behind in
@@ -220,30 +229,52 @@ write_fails remaining first lines old mid new stop s n a t f w h is_write = is_w
       let text = text_at (stops stop a) a t (output_from stop t behind) in
       let counts = counts_at (stops stop a) a (summary_from stop t behind) in
       let rest = if stops stop a then [] else output_from stop t behind in
-      let parts : w.out ++ text ≡ (w.out ++ h.front) ++ (h.rest ++ rest) =
-      ap (λ (xs : List ℕ). w.out ++ (xs ++ rest)) h.parts ∙ ap (λ (xs : List ℕ). w.out ++ xs) (append_assoc h.front h.rest rest) ∙ sym (append_assoc w.out h.front (h.rest ++ rest)) in (
+      let parts : w.out ++ text ≡ h.front ++ (h.rest ++ rest) =
+      sym (append_assoc w.out (answer_text t a) rest) ∙ ap (λ (xs : List ℕ). xs ++ rest) h.parts ∙ append_assoc h.front h.rest rest in (
         h.rest ++ rest,
         counted n counts,
-        outs_same stop start (w.heard ++ w.line ∷ behind) (lines_of (within_limit 0 w.read.given ++ more)) (w.out ++ text) ((w.out ++ h.front) ++ (h.rest ++ rest)) (counted n counts) (counted n counts) (sym all) parts refl
+        outs_same stop start (w.heard ++ w.line ∷ behind) (lines_of (within_limit 0 w.read.given ++ more)) (w.out ++ text) (h.front ++ (h.rest ++ rest)) (counted n counts) (counted n counts) (sym all) parts refl
             (w.runs (w.line ∷ behind) text counts (a, t, w.judges, next)),
       );
 })
 
--- a flush failed
-pub flush_fails : {R : Type 0} (remaining : R → Option (List ℕ)) (first : Option (List ℕ)) (lines : Lines R) (old new : Option (List ℕ)) (stop : Bool) (s : Machine) (n : Summary) (f : RunFault)
-    → Progress remaining first lines old new stop s n → f ≡ faults.Write → Runs first old new stop (Err f)
-flush_fails remaining first lines old new stop s n f p is_write = is_write_fault first old new stop f is_write (record {
-  moves = record { given = p.read.given; left = remaining (reader_of lines); out = p.out; consumed = p.read.consumed; appended = p.appended };
-  begun = λ more guard.
-      let behind = lines_of (unread_of lines ++ more) in
-      let text = output_from stop s behind in
-      let counts = summary_from stop s behind in (
-        text,
-        counted n counts,
-        outs_same stop start (p.heard ++ behind) (lines_of (within_limit 0 p.read.given ++ more)) (p.out ++ text) (p.out ++ text) (counted n counts) (counted n counts) (sym (p.read.text more (λ e. guard (p.read.at_end e)))) refl refl
-            (p.runs behind text counts (outs_to stop s behind)),
-      );
-})
+-- an answer could not be told
+pub telling_fails : {R : Type 0} (remaining : R → Option (List ℕ)) (first : Option (List ℕ)) (lines : Lines R) (old : Option (List ℕ)) (mid new : Outgoing) (stop : Bool) (s : Machine) (n : Summary) (a : Answer) (t : Machine) (f : RunFault)
+    → Turn remaining first lines old mid stop s n a t → Breaks mid new (answer_text t a) → f ≡ faults.Write → Runs first old new.contents stop (Err f)
+telling_fails remaining first lines old mid new stop s n a t f w h is_write =
+    write_fails remaining first lines old mid new.contents stop s n a t f w (Breaks-after (outgoing old []) mid new w.out (answer_text t a) w.gathered h) is_write
+
+-- the answer stops the run, and what is pending goes out
+pub stops_there : {R : Type 0} (remaining : R → Option (List ℕ)) (first : Option (List ℕ)) (lines : Lines R) (old : Option (List ℕ)) (mid new : Outgoing) (last : Option (List ℕ)) (stop : Bool) (s : Machine) (n m : Summary) (a : Answer) (t : Machine) (r : Result Summary RunFault)
+    → Turn remaining first lines old mid stop s n a t → stops stop a ≡ true → Gathers mid new (answer_text t a) → m ≡ counted n (one_line a)
+    → Puts new.contents last new.pending r → IfOk r (λ k. k ≡ m) → IfErr r (λ e. e ≡ faults.Write) → Runs first old last stop r
+stops_there remaining first lines old mid new last stop s n m a t (Ok k) w bad h count puts same no_fault =
+    let all = Gathers-trans (outgoing old []) mid new w.out (answer_text t a) w.gathered h in
+    let out = all_out {A = Summary} {E = RunFault} old new last [] (w.out ++ answer_text t a) (Ok k) refl all puts in
+    subst (λ (j : Summary). Served first old last stop j) (sym same) (stopped remaining first lines old mid last stop s n m a t w bad out count)
+stops_there remaining first lines old mid new last stop s n m a t (Err f) w bad h count puts same is_write =
+    let all = Gathers-trans (outgoing old []) mid new w.out (answer_text t a) w.gathered h in
+    let out = all_out {A = Summary} {E = RunFault} old new last [] (w.out ++ answer_text t a) (Err f) refl all puts in
+    write_fails remaining first lines old mid last stop s n a t f w out is_write
+
+-- what was pending could not go out
+pub flush_fails : {R : Type 0} (remaining : R → Option (List ℕ)) (first : Option (List ℕ)) (lines : Lines R) (old : Option (List ℕ)) (mid new : Outgoing) (stop : Bool) (s : Machine) (n : Summary) (f : RunFault)
+    → Progress remaining first lines old mid stop s n → Breaks mid new [] → f ≡ faults.Write → Runs first old new.contents stop (Err f)
+flush_fails remaining first lines old mid new stop s n f p broken is_write =
+    let h = subst (Stops old new.contents) (append-nil p.out) (Breaks-after (outgoing old []) mid new p.out [] p.gathered broken) in
+    is_write_fault first old new.contents stop f is_write (record {
+      moves = record { given = p.read.given; left = remaining (reader_of lines); out = h.front; consumed = p.read.consumed; appended = h.appended };
+      begun = λ more guard.
+          let behind = lines_of (unread_of lines ++ more) in
+          let text = output_from stop s behind in
+          let counts = summary_from stop s behind in (
+            h.rest ++ text,
+            counted n counts,
+            outs_same stop start (p.heard ++ behind) (lines_of (within_limit 0 p.read.given ++ more)) (p.out ++ text) (h.front ++ (h.rest ++ text)) (counted n counts) (counted n counts) (sym (p.read.text more (λ e. guard (p.read.at_end e))))
+                (ap (λ (xs : List ℕ). xs ++ text) h.parts ∙ append_assoc h.front h.rest text) refl
+                (p.runs behind text counts (outs_to stop s behind)),
+          );
+    })
 
 -- fresh lines have the reader that was given
 pub from_start : {R : Type 0} (remaining : R → Option (List ℕ)) (given : R) (lines : Lines R) (old new : Option (List ℕ)) (stop : Bool) (r : Result Summary RunFault)
@@ -259,6 +290,6 @@ pub nothing_begins : (first last old : Option (List ℕ)) → Consumes first las
 nothing_begins first last old none = (record { given = []; left = last; out = []; consumed = none; appended = Appends-nil old }, refl, refl)
 
 -- a line takes its bytes from what is to come
-pub falls : {R : Type 0} (remaining : R → Option (List ℕ)) (lines next : Lines R) (s : Machine) (a : Answer) (t : Machine) → Hears remaining lines next s t None (heard.Line a)
+pub falls : {R : Type 0} (remaining : R → Option (List ℕ)) (lines next : Lines R) (s : Machine) (a : Answer) (t : Machine) → Hears remaining lines next s t None a heard.Line
     → to_come (taken_of next) (unread_of next) < to_come (taken_of lines) (unread_of lines)
 falls remaining lines next s a t h = elim h [ inl short ↦ falls_by_line remaining lines next short.0 | inr long ↦ falls_by_long remaining lines next long.0 ]

@@ -1,17 +1,18 @@
 //! A whole run.
-ghost use Rattle.std.specs.Prelude.{◌≡◌, IfOk, IfErr};
+ghost use Rattle.std.specs.Prelude.{◌≡◌, [], false, IfOk, IfErr};
 ghost use Rattle.std.specs.Io.KnownBytes.{Keeps};
-ghost use Rattle.solid_listing.specs.Writing.{Puts};
-ghost use Rattle.script_reader.specs.State.{reader_of, IsFresh};
+ghost use Rattle.solid_listing.specs.Writing.{Puts, Tells, outgoing};
+ghost use Rattle.script_reader.specs.Newline.{has_newline};
+ghost use Rattle.script_reader.specs.State.{reader_of, unread_of, IsFresh};
 ghost use Rattle.undo_journal.specs.Machine.{Machine, start};
 ghost use Rattle.script_running.specs.script_judging.Judging.{answer_text};
 ghost use Rattle.script_running.specs.Outs.{stops};
 ghost use Rattle.script_running.specs.Runs.{Runs};
 ghost use Rattle.script_running.specs.Hearing.{Hears};
 
-use crate::script_judging::{Answer, Larger, Summary, carry_out, complains, judge};
+use crate::script_judging::{Answer, Larger, Summary, carry_out, complains, settle};
 use script_reader::{Fault, Lines, NextLine};
-use solid_listing::{Reply, write_listing, write_reply};
+use solid_listing::{Reply, Text, release, tell_listing, tell_reply};
 use std::alloc::Global;
 use std::io::{Read, Write};
 use thiserror::Error;
@@ -36,7 +37,8 @@ pub enum RunFault {
 
 /// What a step of a run heard.
 enum Heard {
-    Line(Answer),
+    /// A line was answered.
+    Line,
     /// A command that takes the session was put aside.
     Larger,
     End,
@@ -45,30 +47,48 @@ enum Heard {
 }
 
 /// The next line judged.
-fn hear<R: Read>(lines: &mut Lines<R>, session: &mut Session, later: &mut Option<Larger>) -> Heard
-    ensures { Hears R.remaining lines.old lines.new session.old.machine session.new.machine later.new result }
+fn hear<R: Read>(
+    lines: &mut Lines<R>,
+    session: &mut Session,
+    later: &mut Option<Larger>,
+    answer: &mut Answer,
+) -> Heard
+    ensures { Hears R.remaining lines.old lines.new session.old.machine session.new.machine later.new answer.new result }
 {
     match lines.next_line() {
-        NextLine::Line(line) => match judge(session, line, later) {
-            Some(answer) => Heard::Line(answer),
-            None => Heard::Larger,
-        },
-        NextLine::Long => Heard::Line(Answer::Reply(Reply::Fault(Fault::LongLine.code()))),
+        NextLine::Line(line) => {
+            if settle(session, line, later, answer) {
+                Heard::Line
+            } else {
+                Heard::Larger
+            }
+        }
+        NextLine::Long => {
+            *answer = Answer::Reply(Reply::Fault(Fault::LongLine.code()));
+            Heard::Line
+        }
         NextLine::End => Heard::End,
         NextLine::Read => Heard::Read,
         NextLine::TooLong => Heard::TooLong,
     }
 }
 
-/// Writes an answer.
-fn say<W: Write>(writer: &mut W, session: &Session, answer: &Answer) -> Result<(), RunFault>
-    ensures puts { Puts (W.contents writer.old) (W.contents writer.new) (answer_text session.now.machine answer.now) result }
+/// Puts an answer behind the text.
+fn say<W: Write>(
+    text: &mut Text,
+    writer: &mut W,
+    session: &Session,
+    answer: &Answer,
+) -> Result<(), RunFault>
+    ensures tells { Tells (outgoing (W.contents writer.old) text.old) (outgoing (W.contents writer.new) text.new) (answer_text session.now.machine answer.now) result }
     ensures fault { IfErr result (λ e. e ≡ RunFault.Write) }
 {
     match answer {
         Answer::Silent => Ok(()),
-        Answer::Reply(reply) => write_reply(reply, writer).map_err(|_| RunFault::Write),
-        Answer::Listing => write_listing(session.arena(), writer).map_err(|_| RunFault::Write),
+        Answer::Reply(reply) => tell_reply(reply, text, writer).map_err(|_| RunFault::Write),
+        Answer::Listing => {
+            tell_listing(session.arena(), text, writer).map_err(|_| RunFault::Write)
+        }
     }
 }
 
@@ -79,15 +99,50 @@ fn stops(stop: bool, answer: &Answer) -> bool
     stop && complains(answer)
 }
 
-/// Brings the answers out before a read that may wait.
-fn flush<R: Read, W: Write>(lines: &Lines<R>, writer: &mut W) -> Result<(), RunFault>
-    ensures kept { Keeps (W.contents writer.old) (W.contents writer.new) }
+/// Brings the answers out, to their end where a read comes that may wait.
+fn bring_out<W: Write>(text: &mut Text, writer: &mut W, waits: bool) -> Result<(), RunFault>
+    ensures tells { Tells (outgoing (W.contents writer.old) text.old) (outgoing (W.contents writer.new) text.new) [] result }
+    ensures none { text.new ≡ [] }
     ensures fault { IfErr result (λ e. e ≡ RunFault.Write) }
 {
-    if lines.has_line() {
+    let Ok(()) = release(text, writer) else {
+        return Err(RunFault::Write);
+    };
+    if !waits {
         return Ok(());
     }
-    writer.flush().map_err(|_| RunFault::Write)
+    match writer.flush() {
+        Ok(()) => Ok(()),
+        Err(_) => Err(RunFault::Write),
+    }
+}
+
+/// Brings the answers out where no whole line is left, to their end before a read that may wait.
+fn flush<R: Read, W: Write>(
+    lines: &Lines<R>,
+    text: &mut Text,
+    writer: &mut W,
+) -> Result<(), RunFault>
+    ensures tells { Tells (outgoing (W.contents writer.old) text.old) (outgoing (W.contents writer.new) text.new) [] result }
+    ensures none { has_newline (unread_of lines.now) ≡ false → text.new ≡ [] }
+    ensures fault { IfErr result (λ e. e ≡ RunFault.Write) }
+{
+    if lines.has_whole_line() {
+        return Ok(());
+    }
+    bring_out(text, writer, !lines.has_line())
+}
+
+/// Brings the answers out where the run stops.
+fn leave<W: Write>(text: &mut Text, writer: &mut W, summary: Summary) -> Result<Summary, RunFault>
+    ensures puts { Puts (W.contents writer.old) (W.contents writer.new) text.old result }
+    ensures ok { IfOk result (λ s. s ≡ summary) }
+    ensures fault { IfErr result (λ e. e ≡ RunFault.Write) }
+{
+    match release(text, writer) {
+        Ok(()) => Ok(summary),
+        Err(_) => Err(RunFault::Write),
+    }
 }
 
 /// Brings the last answers out.
@@ -114,30 +169,32 @@ fn run_lines<R: Read, W: Write>(
     requires start { session.machine ≡ start }
     ensures { Runs (R.remaining (reader_of lines.old)) (W.contents writer.old) (W.contents writer.new) stop result }
 {
+    let mut text = Text::new();
     let mut later = None;
+    let mut answer = Answer::Silent;
     let mut summary = Summary::default();
     'script: loop {
-        if let Err(fault) = flush(lines, writer) {
+        if let Err(fault) = flush(lines, &mut text, writer) {
             break Err(fault);
         }
-        let answer = match hear(lines, &mut session, &mut later) {
-            Heard::Line(answer) => answer,
+        match hear(lines, &mut session, &mut later, &mut answer) {
+            Heard::Line => {}
             Heard::Larger => {
                 let larger = later.take().unwrap();
-                let (next, answer) = carry_out(alloc, session, larger);
+                let (next, told) = carry_out(alloc, session, larger);
                 session = next;
-                answer
+                answer = told;
             }
             Heard::End => break Ok(summary),
             Heard::Read => break Err(RunFault::Read),
             Heard::TooLong => break Err(RunFault::TooLong),
-        };
+        }
         summary.count(&answer);
-        if let Err(fault) = say(writer, &session, &answer) {
+        if let Err(fault) = say(&mut text, writer, &session, &answer) {
             break Err(fault);
         }
         if stops(stop, &answer) {
-            break Ok(summary);
+            break leave(&mut text, writer, summary);
         }
     }
 }

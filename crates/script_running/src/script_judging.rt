@@ -3,6 +3,6 @@
 mod judging;
 mod larger;
 
-pub(crate) use judging::complains;
+pub(crate) use judging::{complains, settle};
 pub use judging::{Answer, Summary, judge};
 pub use larger::{Larger, carry_out};

@@ -5,6 +5,7 @@ pub mod LineLaws
 pub mod Walks
 pub mod WorkedTexts
 pub mod WritingLaws
+pub mod TellingLaws
 pub mod Parsing
 pub mod Words
 pub mod Lines

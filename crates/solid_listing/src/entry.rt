@@ -5,25 +5,32 @@ ghost use Rattle.euler_operators.specs.Sound.{Sound};
 ghost use Rattle.euler_conditions.specs.Store.{has_number};
 ghost use Rattle.solid_listing.specs.Lines.{spaced, line_text};
 ghost use Rattle.solid_listing.specs.Listing.{line, content_words};
-ghost use Rattle.solid_listing.specs.Writing.{Puts};
+ghost use Rattle.solid_listing.specs.Writing.{Tells, outgoing};
 
 use crate::cycle::write_cycle;
+use crate::pending::{Text, put};
 use crate::text::{put_line, put_spaced, put_words};
-use crate::writing::{WriteFault, put};
+use crate::writing::WriteFault;
 use euler_conditions::Arena;
 use euler_operators::{Content, HalfEdge, Kind};
 use std::io::Write;
 
 /// Writes the line of an edge.
-fn write_edge<W: Write>(arena: &Arena, e: u32, writer: &mut W) -> Result<(), WriteFault>
+fn write_edge<W: Write>(
+    arena: &Arena,
+    e: u32,
+    text: &mut Text,
+    writer: &mut W,
+) -> Result<(), WriteFault>
     requires { has_number arena.now Kind.Edge e ≡ true }
-    ensures { Puts (W.contents writer.old) (W.contents writer.new) (line_text (line arena.now.model Kind.Edge e)) result }
+    ensures { Tells (outgoing (W.contents writer.old) text.old) (outgoing (W.contents writer.new) text.new) (line_text (line arena.now.model Kind.Edge e)) result }
 {
     let plus = HalfEdge {
         edge: e,
         first: true,
     };
     put_line(
+        text,
         writer,
         b"edge",
         &[e, arena.tail(plus), arena.tail(plus.mate())],
@@ -31,63 +38,93 @@ fn write_edge<W: Write>(arena: &Arena, e: u32, writer: &mut W) -> Result<(), Wri
 }
 
 /// Writes the line of a vertex.
-fn write_vertex<W: Write>(arena: &Arena, v: u32, writer: &mut W) -> Result<(), WriteFault>
+fn write_vertex<W: Write>(
+    arena: &Arena,
+    v: u32,
+    text: &mut Text,
+    writer: &mut W,
+) -> Result<(), WriteFault>
     requires { has_number arena.now Kind.Vertex v ≡ true }
-    ensures { Puts (W.contents writer.old) (W.contents writer.new) (line_text (line arena.now.model Kind.Vertex v)) result }
+    ensures { Tells (outgoing (W.contents writer.old) text.old) (outgoing (W.contents writer.new) text.new) (line_text (line arena.now.model Kind.Vertex v)) result }
 {
     let p = arena.point(v);
-    put_line(writer, b"vertex", &[i64::from(v), p.x, p.y, p.z])
+    put_line(text, writer, b"vertex", &[i64::from(v), p.x, p.y, p.z])
 }
 
 /// Writes the rings of a face, each after a space. For a face without rings it looks at no loop.
-fn write_rings<W: Write>(arena: &Arena, f: u32, writer: &mut W) -> Result<(), WriteFault>
+fn write_rings<W: Write>(
+    arena: &Arena,
+    f: u32,
+    text: &mut Text,
+    writer: &mut W,
+) -> Result<(), WriteFault>
     requires sound { Sound arena.now.model }
     requires there { has_number arena.now Kind.Face f ≡ true }
-    ensures { Puts (W.contents writer.old) (W.contents writer.new) (spaced (map decimal (rings_of arena.now.model f))) result }
+    ensures { Tells (outgoing (W.contents writer.old) text.old) (outgoing (W.contents writer.new) text.new) (spaced (map decimal (rings_of arena.now.model f))) result }
 {
     if arena.ring_count(f) == 0 {
         return Ok(());
     }
     let mut above = 0;
     while let Some(l) = arena.ring_after(f, above) {
-        put_spaced(writer, l)?;
+        put_spaced(text, writer, l)?;
         above = l;
     }
     Ok(())
 }
 
 /// Writes the line of a face.
-fn write_face<W: Write>(arena: &Arena, f: u32, writer: &mut W) -> Result<(), WriteFault>
+fn write_face<W: Write>(
+    arena: &Arena,
+    f: u32,
+    text: &mut Text,
+    writer: &mut W,
+) -> Result<(), WriteFault>
     requires sound { Sound arena.now.model }
     requires there { has_number arena.now Kind.Face f ≡ true }
-    ensures { Puts (W.contents writer.old) (W.contents writer.new) (line_text (line arena.now.model Kind.Face f)) result }
+    ensures { Tells (outgoing (W.contents writer.old) text.old) (outgoing (W.contents writer.new) text.new) (line_text (line arena.now.model Kind.Face f)) result }
 {
-    put_words(writer, b"face", &[f, arena.solid_of(f), arena.outer(f)])?;
-    write_rings(arena, f, writer)?;
-    put(writer, b"\n")
+    put_words(
+        text,
+        writer,
+        b"face",
+        &[f, arena.solid_of(f), arena.outer(f)],
+    )?;
+    write_rings(arena, f, text, writer)?;
+    put(text, writer, b"\n")
 }
 
 /// Writes what a loop holds, each word after a space.
-fn write_content<W: Write>(arena: &Arena, l: u32, writer: &mut W) -> Result<(), WriteFault>
+fn write_content<W: Write>(
+    arena: &Arena,
+    l: u32,
+    text: &mut Text,
+    writer: &mut W,
+) -> Result<(), WriteFault>
     requires sound { Sound arena.now.model }
     requires there { has_number arena.now Kind.Loop l ≡ true }
-    ensures { Puts (W.contents writer.old) (W.contents writer.new) (spaced (content_words (content arena.now.model l))) result }
+    ensures { Tells (outgoing (W.contents writer.old) text.old) (outgoing (W.contents writer.new) text.new) (spaced (content_words (content arena.now.model l))) result }
 {
     match arena.content(l) {
-        Content::Lone(v) => put_words(writer, b" at", &[v]),
-        Content::Ring(h) => write_cycle(arena, h, writer),
+        Content::Lone(v) => put_words(text, writer, b" at", &[v]),
+        Content::Ring(h) => write_cycle(arena, h, text, writer),
     }
 }
 
 /// Writes the line of a loop.
-fn write_loop<W: Write>(arena: &Arena, l: u32, writer: &mut W) -> Result<(), WriteFault>
+fn write_loop<W: Write>(
+    arena: &Arena,
+    l: u32,
+    text: &mut Text,
+    writer: &mut W,
+) -> Result<(), WriteFault>
     requires sound { Sound arena.now.model }
     requires there { has_number arena.now Kind.Loop l ≡ true }
-    ensures { Puts (W.contents writer.old) (W.contents writer.new) (line_text (line arena.now.model Kind.Loop l)) result }
+    ensures { Tells (outgoing (W.contents writer.old) text.old) (outgoing (W.contents writer.new) text.new) (line_text (line arena.now.model Kind.Loop l)) result }
 {
-    put_words(writer, b"loop", &[l])?;
-    write_content(arena, l, writer)?;
-    put(writer, b"\n")
+    put_words(text, writer, b"loop", &[l])?;
+    write_content(arena, l, text, writer)?;
+    put(text, writer, b"\n")
 }
 
 /// Writes the line of a thing by its number.
@@ -95,17 +132,18 @@ pub fn write_entry<W: Write>(
     arena: &Arena,
     kind: Kind,
     n: u32,
+    text: &mut Text,
     writer: &mut W,
 ) -> Result<(), WriteFault>
     requires sound { Sound arena.now.model }
     requires there { has_number arena.now kind n ≡ true }
-    ensures { Puts (W.contents writer.old) (W.contents writer.new) (line_text (line arena.now.model kind n)) result }
+    ensures { Tells (outgoing (W.contents writer.old) text.old) (outgoing (W.contents writer.new) text.new) (line_text (line arena.now.model kind n)) result }
 {
     match kind {
-        Kind::Solid => put_line(writer, b"solid", &[n]),
-        Kind::Face => write_face(arena, n, writer),
-        Kind::Loop => write_loop(arena, n, writer),
-        Kind::Edge => write_edge(arena, n, writer),
-        Kind::Vertex => write_vertex(arena, n, writer),
+        Kind::Solid => put_line(text, writer, b"solid", &[n]),
+        Kind::Face => write_face(arena, n, text, writer),
+        Kind::Loop => write_loop(arena, n, text, writer),
+        Kind::Edge => write_edge(arena, n, text, writer),
+        Kind::Vertex => write_vertex(arena, n, text, writer),
     }
 }

@@ -4,19 +4,22 @@
 //!
 //! # What is proved
 //!
-//! `write_reply` and `write_listing` write exactly their text, or on a fault a prefix of it. Two sound models have equal listings
-//! exactly where they are equal.
+//! `write_reply` and `write_listing` write exactly their text, or on a fault a prefix of it. `tell_reply` and `tell_listing` put it behind
+//! a `Text` that is pending, of which a front may go out; `release` writes all of that. Two sound models have equal listings exactly
+//! where they are equal.
 #![tactic(auto)]
 
 mod cycle;
 mod entry;
 mod laws;
 mod listing;
+mod pending;
 mod reply;
 mod text;
 mod writing;
 
 pub use laws::listing_tells;
-pub use listing::write_listing;
-pub use reply::{Reply, write_reply};
+pub use listing::{tell_listing, write_listing};
+pub use pending::{Text, release};
+pub use reply::{Reply, tell_reply, write_reply};
 pub use writing::WriteFault;

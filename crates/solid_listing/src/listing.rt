@@ -2,31 +2,37 @@
 ghost use Rattle.euler_operators.specs.Sound.{Sound};
 ghost use Rattle.solid_listing.specs.Lines.{text_of};
 ghost use Rattle.solid_listing.specs.Listing.{kind_lines, lines, listing};
-ghost use Rattle.solid_listing.specs.Writing.{Puts};
+ghost use Rattle.solid_listing.specs.Writing.{Puts, Tells, outgoing};
 
 use crate::entry::write_entry;
-use crate::writing::{WriteFault, put};
+use crate::pending::{Text, put, release};
+use crate::writing::WriteFault;
 use euler_conditions::Arena;
 use euler_operators::Kind;
 use std::io::Write;
 
 /// Writes a line for each thing of a kind, by rising number.
-fn write_kind<W: Write>(arena: &Arena, kind: Kind, writer: &mut W) -> Result<(), WriteFault>
+fn write_kind<W: Write>(
+    arena: &Arena,
+    kind: Kind,
+    text: &mut Text,
+    writer: &mut W,
+) -> Result<(), WriteFault>
     requires { Sound arena.now.model }
-    ensures { Puts (W.contents writer.old) (W.contents writer.new) (text_of (kind_lines arena.now.model kind)) result }
+    ensures { Tells (outgoing (W.contents writer.old) text.old) (outgoing (W.contents writer.new) text.new) (text_of (kind_lines arena.now.model kind)) result }
 {
     let mut above = 0;
     while let Some(n) = arena.after_number(kind, above) {
-        write_entry(arena, kind, n, writer)?;
+        write_entry(arena, kind, n, text, writer)?;
         above = n;
     }
     Ok(())
 }
 
 /// Writes a line for each thing, kind after kind.
-fn write_lines<W: Write>(arena: &Arena, writer: &mut W) -> Result<(), WriteFault>
+fn write_lines<W: Write>(arena: &Arena, text: &mut Text, writer: &mut W) -> Result<(), WriteFault>
     requires { Sound arena.now.model }
-    ensures { Puts (W.contents writer.old) (W.contents writer.new) (text_of (lines arena.now.model)) result }
+    ensures { Tells (outgoing (W.contents writer.old) text.old) (outgoing (W.contents writer.new) text.new) (text_of (lines arena.now.model)) result }
 {
     for kind in [
         Kind::Solid,
@@ -35,21 +41,37 @@ fn write_lines<W: Write>(arena: &Arena, writer: &mut W) -> Result<(), WriteFault
         Kind::Edge,
         Kind::Vertex,
     ] {
-        write_kind(arena, kind, writer)?;
+        write_kind(arena, kind, text, writer)?;
     }
     Ok(())
 }
 
-/// Writes the listing of a model: a line for each solid, face, loop, edge and vertex, each kind by rising number,
-/// or the line `empty`. It takes no memory.
+/// Puts the listing of a model behind a text, which goes out where there is no room: a line for each solid, face, loop, edge
+/// and vertex, each kind by rising number, or the line `empty`. It takes no memory.
+///
+/// A fault comes where a write fails or takes no byte; what went out is then a prefix of the text and the listing.
+pub fn tell_listing<W: Write>(
+    arena: &Arena,
+    text: &mut Text,
+    writer: &mut W,
+) -> Result<(), WriteFault>
+    requires sound { Sound arena.now.model }
+    ensures { Tells (outgoing (W.contents writer.old) text.old) (outgoing (W.contents writer.new) text.new) (listing arena.now.model) result }
+{
+    if arena.greatest(Kind::Solid) == 0 {
+        return put(text, writer, b"empty\n");
+    }
+    write_lines(arena, text, writer)
+}
+
+/// Writes the listing of a model, as `tell_listing` tells it. It takes no memory.
 ///
 /// A fault comes where a write fails or takes no byte; what went out is then a prefix of the listing.
 pub fn write_listing<W: Write>(arena: &Arena, writer: &mut W) -> Result<(), WriteFault>
     requires sound { Sound arena.now.model }
     ensures { Puts (W.contents writer.old) (W.contents writer.new) (listing arena.now.model) result }
 {
-    if arena.greatest(Kind::Solid) == 0 {
-        return put(writer, b"empty\n");
-    }
-    write_lines(arena, writer)
+    let mut text = Text::new();
+    tell_listing(arena, &mut text, writer)?;
+    release(&mut text, writer)
 }

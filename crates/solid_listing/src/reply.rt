@@ -2,10 +2,11 @@
 ghost use Rattle.std.specs.Prelude.{◌++◌, codes};
 ghost use Rattle.solid_listing.specs.Lines.{spaced};
 ghost use Rattle.solid_listing.specs.Replies.{coefficient_words, reply_text};
-ghost use Rattle.solid_listing.specs.Writing.{Puts};
+ghost use Rattle.solid_listing.specs.Writing.{Puts, Tells, outgoing};
 
+use crate::pending::{Text, put, release};
 use crate::text::{put_line, put_words};
-use crate::writing::{WriteFault, put};
+use crate::writing::WriteFault;
 use euler_operators::Plane;
 use std::io::Write;
 
@@ -29,34 +30,63 @@ pub enum Reply {
 }
 
 /// Writes the line of a plane, but for its last word.
-fn write_coefficients<W: Write>(plane: &Plane, writer: &mut W) -> Result<(), WriteFault>
-    ensures { Puts (W.contents writer.old) (W.contents writer.new) (codes "plane" ++ spaced (coefficient_words plane.now)) result }
+fn write_coefficients<W: Write>(
+    plane: &Plane,
+    text: &mut Text,
+    writer: &mut W,
+) -> Result<(), WriteFault>
+    ensures { Tells (outgoing (W.contents writer.old) text.old) (outgoing (W.contents writer.new) text.new) (codes "plane" ++ spaced (coefficient_words plane.now)) result }
 {
-    put_words(writer, b"plane", &[plane.a, plane.b, plane.c, plane.d])
+    put_words(
+        text,
+        writer,
+        b"plane",
+        &[plane.a, plane.b, plane.c, plane.d],
+    )
 }
 
 /// Writes the line of a face's plane.
-fn write_plane<W: Write>(plane: &Plane, flat: bool, writer: &mut W) -> Result<(), WriteFault>
-    ensures { Puts (W.contents writer.old) (W.contents writer.new) (reply_text (Reply.Plane plane.now flat)) result }
+fn write_plane<W: Write>(
+    plane: &Plane,
+    flat: bool,
+    text: &mut Text,
+    writer: &mut W,
+) -> Result<(), WriteFault>
+    ensures { Tells (outgoing (W.contents writer.old) text.old) (outgoing (W.contents writer.new) text.new) (reply_text (Reply.Plane plane.now flat)) result }
 {
-    write_coefficients(plane, writer)?;
-    put(writer, if flat { b" flat\n" } else { b" bent\n" })
+    write_coefficients(plane, text, writer)?;
+    put(text, writer, if flat { b" flat\n" } else { b" bent\n" })
+}
+
+/// Puts the line of a reply behind a text, which goes out first where there is no room. It takes no memory.
+///
+/// A fault comes where a write fails or takes no byte; what went out is then a prefix of the text and the line.
+#[tactic(auto, unfolding(crate::specs::Replies::reply_text))]
+pub fn tell_reply<W: Write>(
+    reply: &Reply,
+    text: &mut Text,
+    writer: &mut W,
+) -> Result<(), WriteFault>
+    ensures { Tells (outgoing (W.contents writer.old) text.old) (outgoing (W.contents writer.new) text.new) (reply_text reply.now) result }
+{
+    match reply {
+        Reply::Done => put(text, writer, b"ok\n"),
+        Reply::Refused(why, value) => put_line(text, writer, b"refused", &[*why, *value]),
+        Reply::Fault(cause) => put_line(text, writer, b"fault", &[*cause]),
+        Reply::Memory => put(text, writer, b"memory\n"),
+        Reply::Plane(plane, flat) => write_plane(plane, *flat, text, writer),
+        Reply::Volume(n) => put_line(text, writer, b"volume", &[*n]),
+        Reply::Count(counts) => put_line(text, writer, b"count", counts),
+    }
 }
 
 /// Writes the line of a reply. It takes no memory.
 ///
 /// A fault comes where a write fails or takes no byte; what went out is then a prefix of the line.
-#[tactic(auto, unfolding(crate::specs::Replies::reply_text))]
 pub fn write_reply<W: Write>(reply: &Reply, writer: &mut W) -> Result<(), WriteFault>
     ensures { Puts (W.contents writer.old) (W.contents writer.new) (reply_text reply.now) result }
 {
-    match reply {
-        Reply::Done => put(writer, b"ok\n"),
-        Reply::Refused(why, value) => put_line(writer, b"refused", &[*why, *value]),
-        Reply::Fault(cause) => put_line(writer, b"fault", &[*cause]),
-        Reply::Memory => put(writer, b"memory\n"),
-        Reply::Plane(plane, flat) => write_plane(plane, *flat, writer),
-        Reply::Volume(n) => put_line(writer, b"volume", &[*n]),
-        Reply::Count(counts) => put_line(writer, b"count", counts),
-    }
+    let mut text = Text::new();
+    tell_reply(reply, &mut text, writer)?;
+    release(&mut text, writer)
 }

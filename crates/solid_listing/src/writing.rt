@@ -10,7 +10,7 @@ use thiserror::Error;
 pub struct WriteFault;
 
 /// Writes all of a text. Where a write takes a part of it, the next one goes on after that part.
-pub fn put<W: Write>(writer: &mut W, text: &[u8]) -> Result<(), WriteFault>
+pub(crate) fn write_whole<W: Write>(writer: &mut W, text: &[u8]) -> Result<(), WriteFault>
     ensures { Puts (W.contents writer.old) (W.contents writer.new) text.now result }
 {
     let mut rest = text;

@@ -1,5 +1,5 @@
 -- What a line comes to before the session moves: an answer, or a larger command that is yet to be carried out.
-use Rattle.std.specs.Prelude.{◌≡◌, ℕ, List, Option, Some, None, Ok}
+use Rattle.std.specs.Prelude.{◌≡◌, ℕ, Bool, true, false, List, Option, Some, None, Ok}
 use Rattle.undo_journal.specs.Machine.{Machine}
 use Rattle.script_reader.specs.declared.command.Command.{Command}
 use Rattle.script_reader.specs.declared.command.Command.TheVariants as command
@@ -16,6 +16,11 @@ spelled (larger.Block n p dx dy dz) = command.Block n p dx dy dz
 spelled (larger.Sweep f d) = command.Sweep f d
 spelled (larger.Glue f g) = command.Glue f g
 spelled (larger.Split n cs m) = command.Split n cs m
+
+-- the answer, if there is one
+abbrev pub answer_if : Bool → Answer → Option Answer
+answer_if true a = Some a
+answer_if false a = None
 
 -- a command is answered, or is a larger one that was put aside, and nothing has changed
 abbrev pub Settles : Machine → Command → Option Answer → Machine → Option Larger → Type 0

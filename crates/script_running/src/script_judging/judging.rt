@@ -2,7 +2,7 @@
 ghost use Rattle.std.specs.Prelude.{◌≡◌, ◌≢◌, ◌<◌, ◌≤◌, Some};
 ghost use Rattle.euler_conditions.specs.Ready.{IsReady};
 ghost use Rattle.script_running.specs.script_judging.Judging.{done, refused, outcome, told, plane_reply, volume_reply, count_reply, StaysUnlessDone, Moves, Acts, complains, one_line, counted};
-ghost use Rattle.script_running.specs.script_judging.Settling.{Settles, Decides};
+ghost use Rattle.script_running.specs.script_judging.Settling.{Settles, Decides, answer_if};
 ghost use Rattle.script_running.specs.Outs.{is_clean};
 ghost use Rattle.undo_journal.specs.Machine as machine;
 
@@ -74,7 +74,8 @@ pub(crate) fn complains(answer: &Answer) -> bool
     )
 }
 
-fn told_refusal(refusal: Refusal) -> Answer
+/// The answer to a command that is refused.
+fn refused(refusal: Refusal) -> Answer
     ensures { result ≡ refused refusal }
 {
     Answer::Reply(Reply::Refused(refusal.why.code(), refusal.number))
@@ -86,37 +87,37 @@ pub(crate) fn outcome(ended: Result<(), Failure>) -> Answer
 {
     match ended {
         Ok(()) => Answer::Reply(Reply::Done),
-        Err(Failure::Refused(refusal)) => told_refusal(refusal),
+        Err(Failure::Refused(refusal)) => refused(refusal),
         Err(Failure::Memory(_)) => Answer::Reply(Reply::Memory),
     }
 }
 
 #[tactic(auto, using(crate::proofs::script_judging_laws::Acted::acts_on, crate::proofs::script_judging_laws::Acted::stays))]
-fn act(session: &mut Session, op: Op) -> Answer
-    ensures answered { Acts (machine.act_refusal session.old.machine op) session.old.machine (machine.act session.old.machine op) result session.new.machine }
-    ensures kept { StaysUnlessDone result session.old session.new }
+fn act(session: &mut Session, op: Op, answer: &mut Answer)
+    ensures answered { Acts (machine.act_refusal session.old.machine op) session.old.machine (machine.act session.old.machine op) answer.new session.new.machine }
+    ensures kept { StaysUnlessDone answer.new session.old session.new }
 {
-    outcome(session.act(op))
+    *answer = outcome(session.act(op));
 }
 
-fn undo(session: &mut Session) -> Answer
-    ensures answered { Moves (machine.undo_refusal session.old.machine) session.old.machine (machine.undo session.old.machine) result session.new.machine }
-    ensures kept { StaysUnlessDone result session.old session.new }
+fn undo(session: &mut Session, answer: &mut Answer)
+    ensures answered { Moves (machine.undo_refusal session.old.machine) session.old.machine (machine.undo session.old.machine) answer.new session.new.machine }
+    ensures kept { StaysUnlessDone answer.new session.old session.new }
 {
-    match session.undo() {
+    *answer = match session.undo() {
         Ok(()) => Answer::Reply(Reply::Done),
-        Err(refusal) => told_refusal(refusal),
-    }
+        Err(refusal) => refused(refusal),
+    };
 }
 
-fn redo(session: &mut Session) -> Answer
-    ensures answered { Moves (machine.redo_refusal session.old.machine) session.old.machine (machine.redo session.old.machine) result session.new.machine }
-    ensures kept { StaysUnlessDone result session.old session.new }
+fn redo(session: &mut Session, answer: &mut Answer)
+    ensures answered { Moves (machine.redo_refusal session.old.machine) session.old.machine (machine.redo session.old.machine) answer.new session.new.machine }
+    ensures kept { StaysUnlessDone answer.new session.old session.new }
 {
-    match session.redo() {
+    *answer = match session.redo() {
         Ok(()) => Answer::Reply(Reply::Done),
-        Err(refusal) => told_refusal(refusal),
-    }
+        Err(refusal) => refused(refusal),
+    };
 }
 
 /// What a query gives.
@@ -125,7 +126,7 @@ fn told(given: Result<Reply, Refusal>) -> Answer
 {
     match given {
         Ok(reply) => Answer::Reply(reply),
-        Err(refusal) => told_refusal(refusal),
+        Err(refusal) => refused(refusal),
     }
 }
 
@@ -168,40 +169,66 @@ fn put_lamina(later: &mut Option<Larger>, solid: u32, polygon: &Polygon<'_>)
     *later = Some(Larger::Lamina(solid, polygon.corners()));
 }
 
-/// Answers a command, or puts a larger one in `later`.
-fn obey(session: &mut Session, command: Command, later: &mut Option<Larger>) -> Option<Answer>
-    ensures answered { Settles session.old.machine command.entry result session.new.machine later.new }
-    ensures kept { result ≢ Some done → session.new ≡ session.old }
+/// Answers a command, or puts a larger one in `later`; says whether there is an answer.
+fn obey(
+    session: &mut Session,
+    command: Command,
+    later: &mut Option<Larger>,
+    answer: &mut Answer,
+) -> bool
+    ensures answered { Settles session.old.machine command.entry (answer_if result answer.new) session.new.machine later.new }
+    ensures kept { answer_if result answer.new ≢ Some done → session.new ≡ session.old }
 {
     match command {
-        Command::Nothing => Some(Answer::Silent),
-        Command::Act(op) => Some(act(session, op)),
+        Command::Nothing => *answer = Answer::Silent,
+        Command::Act(op) => act(session, op, answer),
         Command::Lamina(solid, polygon) => {
             put_lamina(later, solid, &polygon);
-            None
+            return false;
         }
         Command::Block(solid, corner, dx, dy, dz) => {
             *later = Some(Larger::Block(solid, corner, dx, dy, dz));
-            None
+            return false;
         }
         Command::Sweep(face, way) => {
             *later = Some(Larger::Sweep(face, way));
-            None
+            return false;
         }
         Command::Glue(face, other) => {
             *later = Some(Larger::Glue(face, other));
-            None
+            return false;
         }
         Command::Split(solid, plane, above) => {
             *later = Some(Larger::Split(solid, plane, above));
-            None
+            return false;
         }
-        Command::Plane(face) => Some(told(plane_reply(session.arena(), face))),
-        Command::Volume(solid) => Some(told(volume_reply(session.arena(), solid))),
-        Command::Count(solid) => Some(told(count_reply(session.arena(), solid))),
-        Command::Undo => Some(undo(session)),
-        Command::Redo => Some(redo(session)),
-        Command::List => Some(Answer::Listing),
+        Command::Plane(face) => *answer = told(plane_reply(session.arena(), face)),
+        Command::Volume(solid) => *answer = told(volume_reply(session.arena(), solid)),
+        Command::Count(solid) => *answer = told(count_reply(session.arena(), solid)),
+        Command::Undo => undo(session, answer),
+        Command::Redo => redo(session, answer),
+        Command::List => *answer = Answer::Listing,
+    }
+    true
+}
+
+/// Judges a line into `answer`, or puts the larger command that it spells in `later`; says whether there is an answer. An answer has the
+/// size of a plane, so it is made where it is kept and not handed from call to call.
+pub(crate) fn settle(
+    session: &mut Session,
+    line: &[u8],
+    later: &mut Option<Larger>,
+    answer: &mut Answer,
+) -> bool
+    ensures answered { Decides session.old.machine line.now (answer_if result answer.new) session.new.machine later.new }
+    ensures kept { answer_if result answer.new ≢ Some done → session.new ≡ session.old }
+{
+    match read_line(line) {
+        Ok(command) => obey(session, command, later, answer),
+        Err(fault) => {
+            *answer = Answer::Reply(Reply::Fault(fault.code()));
+            true
+        }
     }
 }
 
@@ -211,8 +238,10 @@ pub fn judge(session: &mut Session, line: &[u8], later: &mut Option<Larger>) -> 
     ensures answered { Decides session.old.machine line.now result session.new.machine later.new }
     ensures kept { result ≢ Some done → session.new ≡ session.old }
 {
-    match read_line(line) {
-        Ok(command) => obey(session, command, later),
-        Err(fault) => Some(Answer::Reply(Reply::Fault(fault.code()))),
+    let mut answer = Answer::Silent;
+    if settle(session, line, later, &mut answer) {
+        Some(answer)
+    } else {
+        None
     }
 }

@@ -1,13 +1,14 @@
 use Rattle.std.proofs.Common.{◌+◌, ◌≤◌}
 use Rattle.script_reader.specs.State.{reader_of, taken_of, unread_of}
 use Rattle.script_reader.specs.Script.{to_come}
+use Rattle.solid_listing.specs.Writing.{outgoing}
 use Rattle.script_running.proofs.Counting.{IsWithin}
 use Rattle.script_running.proofs.RunLaws.{Progress}
 use Rattle.script_running.proofs.running.run_lines.Given as goal
 
 abbrev pub invariant-script : goal.invariant-script
 invariant-script g l = record {
-  progress : Progress g.R.Read.remaining (g.R.Read.remaining (reader_of l.fn.lines)) l.lines (g.W.Write.contents l.fn.writer) (g.W.Write.contents l.writer) l.stop l.session.machine l.summary;
+  progress : Progress g.R.Read.remaining (g.R.Read.remaining (reader_of l.fn.lines)) l.lines (g.W.Write.contents l.fn.writer) (outgoing (g.W.Write.contents l.writer) l.text) l.stop l.session.machine l.summary;
   within : IsWithin l.summary;
   bound : l.summary.lines + to_come (taken_of l.lines) (unread_of l.lines) ≤ 67108865;
 }

@@ -5,13 +5,14 @@ use Rattle.euler_operators.specs.Model.{cycle_of}
 use Rattle.solid_listing.specs.Lines.{spaced}
 use Rattle.solid_listing.specs.Listing.{half_word}
 use Rattle.solid_walks.proofs.face_walks_laws.CycleWalks.{to_come}
-use Rattle.solid_listing.proofs.WritingLaws.{Writes}
+use Rattle.solid_listing.proofs.TellingLaws.{Telling}
+use Rattle.solid_listing.specs.Writing.{outgoing}
 use Rattle.solid_listing.proofs.cycle.write_from.Given as goal
 
 abbrev pub invariant-round : goal.invariant-round
 invariant-round g l = record {
   at_in : IsIn (code l.at) (cycle_of l.arena.model (code l.first));
-  written : Writes (g.W.Write.contents l.fn.writer) (g.W.Write.contents l.writer)
+  written : Telling (outgoing (g.W.Write.contents l.fn.writer) l.fn.text) (outgoing (g.W.Write.contents l.writer) l.text)
       (spaced (map half_word (cycle_of l.arena.model (code l.first))))
       (spaced (map half_word (code l.at ∷ to_come (code l.first) (cycle_of l.arena.model (code l.first)) (code l.at))));
 }

@@ -2,7 +2,7 @@ use Rattle.std.proofs.Common.{ap, subst, ℕ, List}
 use Rattle.euler_operators.specs.Model.{content}
 use Rattle.solid_listing.specs.Lines.{spaced}
 use Rattle.solid_listing.specs.Listing.{content_words}
-use Rattle.solid_listing.specs.Writing.{Puts}
+use Rattle.solid_listing.specs.Writing.{outgoing, Tells}
 use Rattle.solid_listing.proofs.Contents.{lone_told, not_empty, told_there, told_words}
 use Rattle.solid_listing.proofs.entry.write_content.Goals as goal
 
@@ -15,9 +15,9 @@ write_cycle-requires-clause-there g c = told_there c.args.arena.now.model c.requ
 pub returns-in-Lone : goal.returns-in-Lone
 returns-in-Lone g c =
     let is = ap (λ k. spaced (content_words k)) (lone_told (content c.args.arena.now.model c.args.l) c.in-Lone.v c.in-Lone.ensures) in
-    subst (λ (t : List ℕ). Puts (g.W.Write.contents c.args.writer.now) (g.W.Write.contents c.put_words.new.writer) t c.put_words.result) is c.put_words.ensures
+    subst (λ (t : List ℕ). Tells (outgoing (g.W.Write.contents c.args.writer.now) c.args.text.now) (outgoing (g.W.Write.contents c.put_words.new.writer) c.put_words.new.text) t c.put_words.result) is c.put_words.ensures
 
 pub returns-in-Ring : goal.returns-in-Ring
 returns-in-Ring g c =
     let is = ap spaced (told_words c.args.arena.now.model c.requires.sound c.args.l c.in-Ring.h c.in-Ring.ensures) in
-    subst (λ (t : List ℕ). Puts (g.W.Write.contents c.args.writer.now) (g.W.Write.contents c.write_cycle.new.writer) t c.write_cycle.result) is c.write_cycle.ensures
+    subst (λ (t : List ℕ). Tells (outgoing (g.W.Write.contents c.args.writer.now) c.args.text.now) (outgoing (g.W.Write.contents c.write_cycle.new.writer) c.write_cycle.new.text) t c.write_cycle.result) is c.write_cycle.ensures

@@ -3,7 +3,7 @@ use Rattle.euler_operators.specs.HalfEdge.{plus, minus}
 use Rattle.euler_operators.specs.Model.{tail, has_half}
 use Rattle.euler_operators.proofs.Models.{mate_there}
 use Rattle.solid_listing.specs.Lines.{line_text}
-use Rattle.solid_listing.specs.Writing.{Puts}
+use Rattle.solid_listing.specs.Writing.{outgoing, Tells}
 use Rattle.solid_walks.proofs.face_walks_laws.HalfCodes.{code_plus, mate_plus, plus_there}
 use Rattle.solid_listing.proofs.entry.write_edge.Goals as goal
 
@@ -18,5 +18,5 @@ returns g c =
     let M = c.args.arena.now.model in
     let first : c.tail.result ≡ tail M (plus c.args.e) = c.tail.ensures ∙ ap (tail M) (code_plus c.args.e) in
     let second : c.tail-2.result ≡ tail M (minus c.args.e) = c.tail-2.ensures ∙ ap (tail M) (c.mate.ensures ∙ mate_plus c.args.e) in
-    subst (λ (t : List ℕ). Puts (g.W.Write.contents c.args.writer.now) (g.W.Write.contents c.put_line.new.writer) t c.put_line.result)
+    subst (λ (t : List ℕ). Tells (outgoing (g.W.Write.contents c.args.writer.now) c.args.text.now) (outgoing (g.W.Write.contents c.put_line.new.writer) c.put_line.new.text) t c.put_line.result)
     (λ i. line_text (codes "edge" ∷ map decimal (c.args.e ∷ first i ∷ second i ∷ []))) c.put_line.ensures

@@ -1,13 +1,12 @@
 use Rattle.std.proofs.Common.{◌≡◌, sym, subst, ℕ, List, [], ◌∷◌, ◌++◌, map, codes, decimal}
 use Rattle.std.proofs.lemmas.Result.{err_from_is_err_and}
-use Rattle.std.specs.Io.KnownBytes.{Appends}
 use Rattle.euler_operators.specs.declared.Kind.TheVariants.{Face}
 use Rattle.euler_operators.specs.Model.{Model, solid_of, outer, rings_of}
 use Rattle.solid_listing.specs.Lines.{spaced, line_text}
 use Rattle.solid_listing.specs.Listing.{line}
-use Rattle.solid_listing.specs.Writing.{Stops, Puts}
+use Rattle.solid_listing.specs.Writing.{Gathers, outgoing, Tells}
 use Rattle.solid_listing.proofs.LineLaws.{line_parts}
-use Rattle.solid_listing.proofs.WritingLaws.{Stops-longer, Stops-after, puts_after}
+use Rattle.solid_listing.proofs.TellingLaws.{Breaks, Breaks-longer, Breaks-after, tells_after}
 use Rattle.solid_listing.proofs.entry.write_face.Goals as goal
 
 -- the first words of the line, the rings, and the newline
@@ -27,33 +26,33 @@ pub returns-in_err-put_words : goal.returns-in_err-put_words
 returns-in_err-put_words g c =
     let M = c.args.arena.now.model in
     let f = c.args.f in
-    let a = g.W.Write.contents c.args.writer.now in
-    let b = g.W.Write.contents c.put_words.new.writer in
+    let a = outgoing (g.W.Write.contents c.args.writer.now) c.args.text.now in
+    let b = outgoing (g.W.Write.contents c.put_words.new.writer) c.put_words.new.text in
     let is = head_is M f c.solid_of.result c.outer.result c.solid_of.ensures c.outer.ensures in
     let p = err_from_is_err_and c.from_residual.result c.from_residual.ensures.1 in
-    rw p.1 (subst (Stops a b) (sym (parts M f)) (Stops-longer a b (head M f) (rings M f ++ 10 ∷ []) (subst (Stops a b) is c.in_err-put_words.ensures)))
+    rw p.1 (subst (Breaks a b) (sym (parts M f)) (Breaks-longer a b (head M f) (rings M f ++ 10 ∷ []) (subst (Breaks a b) is c.in_err-put_words.ensures)))
 
 pub returns-in_err-write_rings : goal.returns-in_err-write_rings
 returns-in_err-write_rings g c =
     let M = c.args.arena.now.model in
     let f = c.args.f in
-    let a = g.W.Write.contents c.args.writer.now in
-    let b = g.W.Write.contents c.put_words.new.writer in
+    let a = outgoing (g.W.Write.contents c.args.writer.now) c.args.text.now in
+    let b = outgoing (g.W.Write.contents c.put_words.new.writer) c.put_words.new.text in
     let is = head_is M f c.solid_of.result c.outer.result c.solid_of.ensures c.outer.ensures in
-    let d = g.W.Write.contents c.write_rings.new.writer in
+    let d = outgoing (g.W.Write.contents c.write_rings.new.writer) c.write_rings.new.text in
     let p = err_from_is_err_and c.from_residual-in_err-write_rings.result c.from_residual-in_err-write_rings.ensures.1 in
-    let wrote = subst (Appends a b) is c.in_ok-put_words.ensures in
-    rw p.1 (subst (Stops a d) (sym (parts M f)) (Stops-after a b d (head M f) (rings M f ++ 10 ∷ []) wrote (Stops-longer b d (rings M f) (10 ∷ []) c.in_err-write_rings.ensures)))
+    let wrote = subst (Gathers a b) is c.in_ok-put_words.ensures in
+    rw p.1 (subst (Breaks a d) (sym (parts M f)) (Breaks-after a b d (head M f) (rings M f ++ 10 ∷ []) wrote (Breaks-longer b d (rings M f) (10 ∷ []) c.in_err-write_rings.ensures)))
 
 pub returns : goal.returns
 returns g c =
     let M = c.args.arena.now.model in
     let f = c.args.f in
-    let a = g.W.Write.contents c.args.writer.now in
-    let b = g.W.Write.contents c.put_words.new.writer in
+    let a = outgoing (g.W.Write.contents c.args.writer.now) c.args.text.now in
+    let b = outgoing (g.W.Write.contents c.put_words.new.writer) c.put_words.new.text in
     let is = head_is M f c.solid_of.result c.outer.result c.solid_of.ensures c.outer.ensures in
-    let d = g.W.Write.contents c.write_rings.new.writer in
-    let e = g.W.Write.contents c.put.new.writer in
+    let d = outgoing (g.W.Write.contents c.write_rings.new.writer) c.write_rings.new.text in
+    let e = outgoing (g.W.Write.contents c.put.new.writer) c.put.new.text in
     let r = c.put.result in
-    let wrote = subst (Appends a b) is c.in_ok-put_words.ensures in
-    subst (λ (t : List ℕ). Puts a e t r) (sym (parts M f)) (puts_after a b e (head M f) (rings M f ++ 10 ∷ []) r wrote (puts_after b d e (rings M f) (10 ∷ []) r c.in_ok-write_rings.ensures c.put.ensures))
+    let wrote = subst (Gathers a b) is c.in_ok-put_words.ensures in
+    subst (λ (t : List ℕ). Tells a e t r) (sym (parts M f)) (tells_after a b e (head M f) (rings M f ++ 10 ∷ []) r wrote (tells_after b d e (rings M f) (10 ∷ []) r c.in_ok-write_rings.ensures c.put.ensures))

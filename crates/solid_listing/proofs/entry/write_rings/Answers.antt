@@ -1,35 +1,34 @@
 use Rattle.std.proofs.Common.{◌≡◌, ◌∙◌, ap, sym, subst, ℕ, List, [], ◌∷◌, map, length, decimal, arith, refl}
 use Rattle.std.proofs.lemmas.Result.{err_from_is_err_and}
-use Rattle.std.proofs.KnownBytes.{Appends-nil}
-use Rattle.std.specs.Io.KnownBytes.{Appends}
 use Rattle.euler_operators.specs.Model.{rings_of}
 use Rattle.solid_listing.specs.Lines.{spaced}
 use Rattle.solid_walks.proofs.face_walks_laws.Above.{above}
 use Rattle.solid_walks.proofs.face_walks_laws.RingWalks.{next_ring, no_ring, rings_from_zero}
-use Rattle.solid_listing.proofs.WritingLaws.{Writes, none_yet, wrote_more, stops_inside, all_written}
+use Rattle.solid_listing.proofs.TellingLaws.{Gathers-nil, Telling, none_yet, told_more, breaks_inside, all_told}
+use Rattle.solid_listing.specs.Writing.{Gathers, outgoing}
 use Rattle.solid_listing.proofs.entry.write_rings.Goals as goal
 
 pub loop-l-init : goal.loop-l-init
 loop-l-init g c =
     let M = c.args.arena.now.model in
-    let w = g.W.Write.contents c.args.writer.now in
+    let w = outgoing (g.W.Write.contents c.args.writer.now) c.args.text.now in
     let text = spaced (map decimal (rings_of M c.args.f)) in
-    subst (λ ns. Writes w w text (spaced (map decimal ns))) (sym (rings_from_zero M c.args.f c.requires.sound)) (none_yet w text)
+    subst (λ ns. Telling w w text (spaced (map decimal ns))) (sym (rings_from_zero M c.args.f c.requires.sound)) (none_yet w text)
 
 pub returns-in_err-put_spaced : goal.returns-in_err-put_spaced
 returns-in_err-put_spaced g c =
     let M = c.args.arena.now.model in
     let rings = rings_of M c.args.f in
-    let a = g.W.Write.contents c.args.writer.now in
-    let b = g.W.Write.contents c.loop-l.writer in
+    let a = outgoing (g.W.Write.contents c.args.writer.now) c.args.text.now in
+    let b = outgoing (g.W.Write.contents c.loop-l.writer) c.loop-l.text in
     let text = spaced (map decimal rings) in
-    let d = g.W.Write.contents c.put_spaced.new.writer in
+    let d = outgoing (g.W.Write.contents c.put_spaced.new.writer) c.put_spaced.new.text in
     let n = c.in-Some.l in
     let next = ap (λ ns. spaced (map decimal ns)) (next_ring M c.args.f c.loop-l.above n c.in-Some.ensures) in
     let rest = spaced (map decimal (above c.loop-l.above rings)) in
     let later = spaced (map decimal (above n rings)) in
     let p = err_from_is_err_and c.from_residual.result c.from_residual.ensures.1 in
-    rw p.1 (stops_inside a b d text rest later (32 ∷ decimal n) c.loop-l.invariant c.in_err-put_spaced.ensures next)
+    rw p.1 (breaks_inside a b d text rest later (32 ∷ decimal n) c.loop-l.invariant c.in_err-put_spaced.ensures next)
 
 pub loop-l-smaller : goal.loop-l-smaller
 loop-l-smaller g c = let next = next_ring c.args.arena.now.model c.args.f c.loop-l.above c.in-Some.l c.in-Some.ensures in omega (arith, ap length next)
@@ -38,23 +37,23 @@ pub loop-l-preserved : goal.loop-l-preserved
 loop-l-preserved g c =
     let M = c.args.arena.now.model in
     let rings = rings_of M c.args.f in
-    let a = g.W.Write.contents c.args.writer.now in
-    let b = g.W.Write.contents c.loop-l.writer in
+    let a = outgoing (g.W.Write.contents c.args.writer.now) c.args.text.now in
+    let b = outgoing (g.W.Write.contents c.loop-l.writer) c.loop-l.text in
     let text = spaced (map decimal rings) in
-    let d = g.W.Write.contents c.put_spaced.new.writer in
+    let d = outgoing (g.W.Write.contents c.put_spaced.new.writer) c.put_spaced.new.text in
     let n = c.in-Some.l in
     let next = ap (λ ns. spaced (map decimal ns)) (next_ring M c.args.f c.loop-l.above n c.in-Some.ensures) in
     let rest = spaced (map decimal (above c.loop-l.above rings)) in
     let later = spaced (map decimal (above n rings)) in
-    wrote_more a b d text rest later (32 ∷ decimal n) c.loop-l.invariant c.in_ok-put_spaced.ensures next
+    told_more a b d text rest later (32 ∷ decimal n) c.loop-l.invariant c.in_ok-put_spaced.ensures next
 
 pub returns : goal.returns
 returns g c =
     let M = c.args.arena.now.model in
-    let a = g.W.Write.contents c.args.writer.now in
-    let b = g.W.Write.contents c.loop-l.writer in
+    let a = outgoing (g.W.Write.contents c.args.writer.now) c.args.text.now in
+    let b = outgoing (g.W.Write.contents c.loop-l.writer) c.loop-l.text in
     let text = spaced (map decimal (rings_of M c.args.f)) in
-    all_written a b text (subst (λ ns. Writes a b text (spaced (map decimal ns))) (no_ring M c.args.f c.loop-l.above c.in_default.ensures) c.loop-l.invariant)
+    all_told a b text (subst (λ ns. Telling a b text (spaced (map decimal ns))) (no_ring M c.args.f c.loop-l.above c.in_default.ensures) c.loop-l.invariant)
 
 none_are : (ns : List ℕ) → length ns ≡ 0 → [] ≡ ns
 none_are [] e = refl
@@ -62,5 +61,5 @@ none_are (n ∷ ns) e = absurd (omega arith)
 
 pub returns-then-ring_count-eq0 : goal.returns-then-ring_count-eq0
 returns-then-ring_count-eq0 g c =
-    let w = g.W.Write.contents c.args.writer.now in
-    subst (λ ns. Appends w w (spaced (map decimal ns))) (none_are (rings_of c.args.arena.now.model c.args.f) (sym c.ring_count.ensures ∙ c.if-ring_count-eq0.true)) (Appends-nil w)
+    let w = outgoing (g.W.Write.contents c.args.writer.now) c.args.text.now in
+    subst (λ ns. Gathers w w (spaced (map decimal ns))) (none_are (rings_of c.args.arena.now.model c.args.f) (sym c.ring_count.ensures ∙ c.if-ring_count-eq0.true)) (Gathers-nil w)

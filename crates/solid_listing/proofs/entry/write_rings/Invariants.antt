@@ -2,11 +2,12 @@ use Rattle.std.proofs.Common.{length, map, decimal}
 use Rattle.euler_operators.specs.Model.{rings_of}
 use Rattle.solid_listing.specs.Lines.{spaced}
 use Rattle.solid_walks.proofs.face_walks_laws.Above.{above}
-use Rattle.solid_listing.proofs.WritingLaws.{Writes}
+use Rattle.solid_listing.proofs.TellingLaws.{Telling}
+use Rattle.solid_listing.specs.Writing.{outgoing}
 use Rattle.solid_listing.proofs.entry.write_rings.Given as goal
 
 abbrev pub invariant-loop-l : goal.invariant-loop-l
-invariant-loop-l g l = Writes (g.W.Write.contents l.fn.writer) (g.W.Write.contents l.writer)
+invariant-loop-l g l = Telling (outgoing (g.W.Write.contents l.fn.writer) l.fn.text) (outgoing (g.W.Write.contents l.writer) l.text)
     (spaced (map decimal (rings_of l.arena.model l.f)))
     (spaced (map decimal (above l.above (rings_of l.arena.model l.f))))
 

@@ -2,11 +2,12 @@ use Rattle.std.proofs.Common.{length, map}
 use Rattle.solid_listing.specs.Lines.{text_of}
 use Rattle.solid_listing.specs.Listing.{line, kind_lines, numbers_of}
 use Rattle.solid_walks.proofs.face_walks_laws.Above.{above}
-use Rattle.solid_listing.proofs.WritingLaws.{Writes}
+use Rattle.solid_listing.proofs.TellingLaws.{Telling}
+use Rattle.solid_listing.specs.Writing.{outgoing}
 use Rattle.solid_listing.proofs.listing.write_kind.Given as goal
 
 abbrev pub invariant-loop-n : goal.invariant-loop-n
-invariant-loop-n g l = Writes (g.W.Write.contents l.fn.writer) (g.W.Write.contents l.writer)
+invariant-loop-n g l = Telling (outgoing (g.W.Write.contents l.fn.writer) l.fn.text) (outgoing (g.W.Write.contents l.writer) l.text)
     (text_of (kind_lines l.arena.model l.kind))
     (text_of (map (line l.arena.model l.kind) (above l.above (numbers_of l.arena.model l.kind))))
 

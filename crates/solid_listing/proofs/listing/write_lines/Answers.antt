@@ -7,7 +7,8 @@ use Rattle.euler_operators.specs.declared.Kind.TheVariants.{Solid}
 use Rattle.euler_operators.specs.Model.{Model}
 use Rattle.solid_listing.specs.Lines.{line_text, text_of}
 use Rattle.solid_listing.specs.Listing.{kind_lines, kinds, lines}
-use Rattle.solid_listing.proofs.WritingLaws.{Writes, none_yet, wrote_more, stops_inside, all_written}
+use Rattle.solid_listing.proofs.TellingLaws.{Telling, none_yet, told_more, breaks_inside, all_told}
+use Rattle.solid_listing.specs.Writing.{outgoing}
 use Rattle.solid_listing.proofs.listing.write_lines.Goals as goal
 
 rest : Model → ℕ → List ℕ
@@ -20,7 +21,7 @@ next M i h = ap (λ ks. text_of (flat_map (kind_lines M) ks)) (drop_more kinds i
 
 pub loop-kind-init : goal.loop-kind-init
 unfolding lines
-loop-kind-init g c = none_yet (g.W.Write.contents c.args.writer.now) (text_of (lines c.args.arena.now.model))
+loop-kind-init g c = none_yet (outgoing (g.W.Write.contents c.args.writer.now) c.args.text.now) (text_of (lines c.args.arena.now.model))
 
 pub returns-in_err-write_kind : goal.returns-in_err-write_kind
 unfolding rest
@@ -28,7 +29,7 @@ returns-in_err-write_kind g c =
     let M = c.args.arena.now.model in
     let i = c.loop-kind.kind-index in
     let p = err_from_is_err_and c.from_residual.result c.from_residual.ensures.1 in
-    rw p.1 (stops_inside (g.W.Write.contents c.args.writer.now) (g.W.Write.contents c.loop-kind.writer) (g.W.Write.contents c.write_kind.new.writer)
+    rw p.1 (breaks_inside (outgoing (g.W.Write.contents c.args.writer.now) c.args.text.now) (outgoing (g.W.Write.contents c.loop-kind.writer) c.loop-kind.text) (outgoing (g.W.Write.contents c.write_kind.new.writer) c.write_kind.new.text)
     (text_of (lines M)) (rest M i) (rest M (i + 1)) (text_of (kind_lines M (get_or kinds i Solid))) c.loop-kind.invariant c.in_err-write_kind.ensures (next M i c.loop-kind-test.true))
 
 pub loop-kind-preserved : goal.loop-kind-preserved
@@ -36,15 +37,15 @@ unfolding rest
 loop-kind-preserved g c =
     let M = c.args.arena.now.model in
     let i = c.loop-kind.kind-index in
-    wrote_more (g.W.Write.contents c.args.writer.now) (g.W.Write.contents c.loop-kind.writer) (g.W.Write.contents c.write_kind.new.writer)
+    told_more (outgoing (g.W.Write.contents c.args.writer.now) c.args.text.now) (outgoing (g.W.Write.contents c.loop-kind.writer) c.loop-kind.text) (outgoing (g.W.Write.contents c.write_kind.new.writer) c.write_kind.new.text)
     (text_of (lines M)) (rest M i) (rest M (i + 1)) (text_of (kind_lines M (get_or kinds i Solid))) c.loop-kind.invariant c.in_ok-write_kind.ensures (next M i c.loop-kind-test.true)
 
 pub returns : goal.returns
 unfolding rest
 returns g c =
     let M = c.args.arena.now.model in
-    let a = g.W.Write.contents c.args.writer.now in
-    let b = g.W.Write.contents c.loop-kind.writer in
+    let a = outgoing (g.W.Write.contents c.args.writer.now) c.args.text.now in
+    let b = outgoing (g.W.Write.contents c.loop-kind.writer) c.loop-kind.text in
     let text = text_of (lines M) in
     let all : c.loop-kind.kind-index ≡ 5 = omega arith in
-    all_written a b text (subst (λ k. Writes a b text (rest M k)) all c.loop-kind.invariant)
+    all_told a b text (subst (λ k. Telling a b text (rest M k)) all c.loop-kind.invariant)

@@ -1,15 +1,14 @@
-use Rattle.std.proofs.Common.{sym, subst, List, ℕ}
-use Rattle.euler_operators.specs.declared.Kind.TheVariants.{Solid}
-use Rattle.euler_conditions.specs.Store.{IsGreatest}
-use Rattle.solid_listing.specs.Writing.{Puts}
-use Rattle.solid_listing.proofs.EmptyModels.{empty_text, lines_text}
+use Rattle.std.proofs.lemmas.Result.{err_from_is_err_and}
+use Rattle.solid_listing.specs.Listing.{listing}
+use Rattle.solid_listing.specs.Writing.{outgoing}
+use Rattle.solid_listing.proofs.TellingLaws.{all_out, breaks_from_none}
 use Rattle.solid_listing.proofs.listing.write_listing.Goals as goal
 
-pub returns-then-greatest-eq0 : goal.returns-then-greatest-eq0
-returns-then-greatest-eq0 g c =
-    let zero = subst (IsGreatest c.args.arena.now Solid) c.if-greatest-eq0.true c.greatest.ensures in
-    subst (λ (t : List ℕ). Puts (g.W.Write.contents c.args.writer.now) (g.W.Write.contents c.put.new.writer) t c.put.result) (sym (empty_text c.args.arena.now c.requires.sound zero)) c.put.ensures
+pub returns-in_err-tell_listing : goal.returns-in_err-tell_listing
+returns-in_err-tell_listing g c =
+    let p = err_from_is_err_and c.from_residual.result c.from_residual.ensures.1 in
+    rw p.1 (breaks_from_none (g.W.Write.contents c.args.writer.now) (outgoing (g.W.Write.contents c.tell_listing.new.writer) c.tell_listing.new.text) c.new-text.result (listing c.args.arena.now.model) c.new-text.ensures c.in_err-tell_listing.ensures)
 
 pub returns : goal.returns
-returns g c = subst (λ (t : List ℕ). Puts (g.W.Write.contents c.args.writer.now) (g.W.Write.contents c.write_lines.new.writer) t c.write_lines.result)
-    (sym (lines_text c.args.arena.now c.greatest.result c.greatest.ensures c.if-greatest-eq0.false)) c.write_lines.ensures
+returns g c = all_out (g.W.Write.contents c.args.writer.now) (outgoing (g.W.Write.contents c.tell_listing.new.writer) c.tell_listing.new.text) (g.W.Write.contents c.release.new.writer) c.new-text.result (listing c.args.arena.now.model) c.release.result
+    c.new-text.ensures c.in_ok-tell_listing.ensures c.release.ensures.puts

@@ -1,6 +1,6 @@
 use Rattle.std.proofs.Common.{length}
 use Rattle.solid_listing.proofs.WritingLaws.{Writes}
-use Rattle.solid_listing.proofs.writing.put.Given as goal
+use Rattle.solid_listing.proofs.writing.write_whole.Given as goal
 
 abbrev pub invariant-loop-rest : goal.invariant-loop-rest
 invariant-loop-rest g l = Writes (g.W.Write.contents l.fn.writer) (g.W.Write.contents l.writer) l.text l.rest

@@ -1,7 +1,7 @@
 use Rattle.std.proofs.Common.{◌∙◌, ◌-◌, ap, sym, ◌++◌, take, drop, length, List, ℕ}
 use Rattle.std.proofs.lemmas.List.{take-append-drop, take_rest}
 use Rattle.solid_listing.proofs.WritingLaws.{wrote_more}
-use Rattle.solid_listing.proofs.writing.put.Goals as goal
+use Rattle.solid_listing.proofs.writing.write_whole.Goals as goal
 
 pub loop-rest-preserved : goal.loop-rest-preserved
 loop-rest-preserved g c =

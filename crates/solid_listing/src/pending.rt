@@ -1,0 +1,87 @@
+//! A text that is put together before it goes out.
+ghost use Rattle.std.specs.Prelude.{◌≡◌, []};
+ghost use Rattle.solid_listing.specs.Writing.{Puts, Tells, outgoing};
+
+use crate::writing::{WriteFault, write_whole};
+use arrayvec::ArrayVec;
+use std::io::Write;
+use std::marker::Model;
+
+/// The text that is yet to go out: a write costs more than the few bytes of a word.
+#[derive(Drop)]
+pub struct Text {
+    bytes: ArrayVec<u8, 1024>,
+}
+
+impl Model for Text {
+    ghost use Rattle.std.specs.Prelude.{ℕ, List};
+
+    ghost Value = { List ℕ };
+
+    ghost view = { λ t. t.bytes.items };
+}
+
+impl Text {
+    ghost use Rattle.std.specs.Prelude.{◌≡◌, []};
+    ghost use Rattle.solid_listing.specs.Writing.{Takes};
+
+    /// No text.
+    pub fn new() -> Text
+        ensures { result ≡ [] }
+    {
+        Text {
+            bytes: ArrayVec::new(),
+        }
+    }
+
+    /// The bytes of the text.
+    fn bytes(&self) -> &[u8]
+        ensures { result.now ≡ self.now }
+    {
+        self.bytes.as_slice()
+    }
+
+    /// Drops the text.
+    fn clear(&mut self)
+        ensures { self.new ≡ [] }
+    {
+        self.bytes.clear();
+    }
+
+    /// Appends a piece, if there is room for it.
+    fn append(&mut self, piece: &[u8]) -> bool
+        ensures { Takes self.old self.new piece.now result }
+    {
+        self.bytes.try_extend_from_slice(piece).is_ok()
+    }
+}
+
+/// Writes the text.
+pub fn release<W: Write>(text: &mut Text, writer: &mut W) -> Result<(), WriteFault>
+    ensures puts { Puts (W.contents writer.old) (W.contents writer.new) text.old result }
+    ensures none { text.new ≡ [] }
+{
+    let released = write_whole(writer, text.bytes());
+    text.clear();
+    released
+}
+
+/// Puts a piece for which there is no room: the text goes out, and the piece after it.
+#[cold]
+#[inline(never)]
+fn put_past<W: Write>(text: &mut Text, writer: &mut W, piece: &[u8]) -> Result<(), WriteFault>
+    ensures { Tells (outgoing (W.contents writer.old) text.old) (outgoing (W.contents writer.new) text.new) piece.now result }
+{
+    release(text, writer)?;
+    write_whole(writer, piece)
+}
+
+/// Puts a piece behind the text. Where there is no room, the text goes out first.
+pub(crate) fn put<W: Write>(text: &mut Text, writer: &mut W, piece: &[u8]) -> Result<(), WriteFault>
+    ensures { Tells (outgoing (W.contents writer.old) text.old) (outgoing (W.contents writer.new) text.new) piece.now result }
+{
+    if text.append(piece) {
+        return Ok(());
+    }
+    put_past(text, writer, piece)
+}
