@@ -8,10 +8,12 @@ use Rattle.undo_journal.specs.Journal.{Journal, DraftJournal, after_step}
 use Rattle.undo_journal.specs.declared.session.Failure.{Failure}
 use Rattle.undo_journal.specs.declared.session.Failure.TheVariants as failure
 use Rattle.solid_listing.specs.declared.reply.Reply.TheVariants as reply
-use Rattle.script_running.specs.script_judging.Judging.{refused, outcome}
+use Rattle.script_reader.specs.declared.command.Command.{Command}
+use Rattle.script_running.specs.script_judging.Judging.{Obeys, refused, outcome}
+use Rattle.script_running.specs.declared.script_judging.judging.Answer.{Answer}
 use Rattle.script_running.specs.declared.script_judging.judging.Answer.TheVariants.{Reply as Told}
 pub use Rattle.script_running.proofs.script_judging_laws.Acted.{acts_on}
-use Rattle.gwb_c.specs.Stages.{shown, Steps}
+use Rattle.gwb_c.specs.Stages.{shown, Steps, Obeys_on}
 use Rattle.gwb_c.specs.declared.stage.Stage.{Stage}
 use Rattle.gwb_c.specs.declared.stage.Stage.TheVariants.{Session}
 
@@ -29,9 +31,10 @@ steps_on o d op (Err (failure.Memory m)) e ok iff err = told_memory o d op e (λ
 pub the_same : {X : Type 0} (x y : X) (o : Option X) → o ≡ Some x → o ≡ Some y → x ≡ y
 the_same x y o e f = cc
 
-pub same_session : (s t : Journal) (o : Option Stage) → o ≡ Some (Session s) → o ≡ Some (Session t) → s ≡ t
-same_session s t o e f = cc
-
 -- the model of the arena is the one shown
 pub seen : (g h : Stage) (o : Option Stage) → o ≡ Some g → o ≡ Some h → (M : Model) → M ≡ shown g → M ≡ shown h
 seen g h o e f M is = is ∙ ap shown (the_same g h o e f)
+
+-- a session goes on as the command is obeyed
+pub obeyed_on : (s : Journal) (k : Command) (a : Answer) (h : Stage) → Obeys_on (Session s) k a h → (t : Journal) × (Some h ≡ Some (Session t)) × Obeys s.machine k a t.machine
+obeyed_on s k a h x = (x.0, ap (λ (g : Stage). Some g) x.1, x.2)

@@ -7,3 +7,4 @@ pub mod Acting
 mod Queried
 pub mod Turning
 mod Hearing
+mod Unchanged

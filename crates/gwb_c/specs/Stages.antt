@@ -6,6 +6,7 @@ use Rattle.euler_operators.specs.Conditions.{first_false}
 use Rattle.euler_operators.specs.Model.{Model}
 use Rattle.undo_journal.specs.Machine.{held, depth, ahead}
 use Rattle.undo_journal.specs.Journal.{Journal, DraftJournal, new_draft, after_step}
+use Rattle.script_reader.specs.declared.command.Command.{Command}
 use Rattle.script_reader.specs.declared.command.Command.TheVariants as command
 use Rattle.solid_listing.specs.declared.reply.Reply.TheVariants as reply
 use Rattle.solid_listing.specs.Replies.{reply_text}
@@ -45,6 +46,21 @@ Steps (Some r) d op a e = (a ≡ refused r) × (e ≡ d)
 abbrev pub Acts_on : Stage → Op → Answer → Stage → Type 0
 Acts_on (Session s) op a g = (t : Journal) × (g ≡ Session t) × Obeys s.machine (command.Act op) a t.machine
 Acts_on (Drafting d) op a g = (e : OpenDraft) × (g ≡ Drafting e) × Steps (first_false d.draft.model op) d.draft op a e.draft
+
+-- a command of a session; a draft has none, and stays as it is
+abbrev pub Obeys_on : Stage → Command → Answer → Stage → Type 0
+Obeys_on (Session s) c a g = (t : Journal) × (g ≡ Session t) × Obeys s.machine c a t.machine
+Obeys_on (Drafting d) c a g = g ≡ Drafting d
+
+-- a command was done: no other changes the model shown
+abbrev pub is_done : Answer → Bool
+is_done (Told reply.Done) = true
+is_done _ = false
+
+-- the same of a line that may have spelled a command which is yet to be carried out
+abbrev pub was_done : Option Answer → Bool
+was_done None = false
+was_done (Some a) = is_done a
 
 -- a draft of a session's next command is opened, or memory was refused and the session is as it was
 abbrev pub Opens : Journal → Answer → Stage → Type 0

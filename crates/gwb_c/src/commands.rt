@@ -5,9 +5,10 @@ ghost use Rattle.script_running.specs.script_judging.Judging.{Obeys, outcome, re
 ghost use Rattle.script_running.specs.script_judging.Settling.{spelled};
 ghost use Rattle.euler_operators.specs.Conditions.{first_false};
 ghost use Rattle.gwb_c.specs.Handle.{Slot_obeys};
-ghost use Rattle.gwb_c.specs.Stages.{Steps, Acts_on};
+ghost use Rattle.gwb_c.specs.Stages.{Steps, Acts_on, Obeys_on};
 ghost use Rattle.gwb_c.specs.Calls.{Slot_acts, Slot_carries, Slot_does};
 
+use crate::counted_stage::CountedStage;
 use crate::slot::{Slot, carry_in, counted_in, taken};
 use crate::stage::Stage;
 use arrayvec::ArrayVec;
@@ -58,7 +59,7 @@ pub(crate) fn act_on(stage: &mut Stage, op: Op) -> Answer
     }
 }
 
-fn undo_on(session: &mut Session) -> Answer
+fn undo_in_session(session: &mut Session) -> Answer
     ensures { Obeys session.old.machine command.Undo result session.new.machine }
 {
     match session.undo() {
@@ -67,12 +68,32 @@ fn undo_on(session: &mut Session) -> Answer
     }
 }
 
-fn redo_on(session: &mut Session) -> Answer
+fn redo_in_session(session: &mut Session) -> Answer
     ensures { Obeys session.old.machine command.Redo result session.new.machine }
 {
     match session.redo() {
         Ok(()) => Answer::Reply(Reply::Done),
         Err(refusal) => told_refusal(refusal),
+    }
+}
+
+/// Takes the last command of a session back.
+pub(crate) fn undo_on(stage: &mut Stage) -> Answer
+    ensures { Obeys_on stage.old command.Undo result stage.new }
+{
+    match stage {
+        Stage::Session(session) => undo_in_session(session),
+        Stage::Drafting(_) => Answer::Silent,
+    }
+}
+
+/// Does the next command of a session again.
+pub(crate) fn redo_on(stage: &mut Stage) -> Answer
+    ensures { Obeys_on stage.old command.Redo result stage.new }
+{
+    match stage {
+        Stage::Session(session) => redo_in_session(session),
+        Stage::Drafting(_) => Answer::Silent,
     }
 }
 
@@ -92,23 +113,23 @@ fn act_in(slot: &mut Slot, op: Op)
     ensures { Slot_acts slot.old op slot.new }
 {
     if let Some(stage) = &mut slot.stage {
-        slot.answer = act_on(stage, op);
+        slot.answer = stage.act(op);
     }
 }
 
 fn undo_in(slot: &mut Slot)
     ensures { Slot_obeys slot.old command.Undo slot.new }
 {
-    if let Some(Stage::Session(session)) = &mut slot.stage {
-        slot.answer = undo_on(session);
+    if let Some(stage) = &mut slot.stage {
+        slot.answer = stage.undo();
     }
 }
 
 fn redo_in(slot: &mut Slot)
     ensures { Slot_obeys slot.old command.Redo slot.new }
 {
-    if let Some(Stage::Session(session)) = &mut slot.stage {
-        slot.answer = redo_on(session);
+    if let Some(stage) = &mut slot.stage {
+        slot.answer = stage.redo();
     }
 }
 
@@ -119,7 +140,7 @@ fn lamina_in(alloc: Global, slot: &mut Slot, solid: u32, points: &ArrayVec<Point
         return;
     };
     let (session, answer) = lamina_on(alloc, session, solid, points);
-    slot.stage = Some(Stage::Session(session));
+    slot.stage = Some(CountedStage::of(Stage::Session(session)));
     slot.answer = answer;
 }
 

@@ -5,6 +5,7 @@ ghost use Rattle.gwb_c.specs.Handle.{CallsOfSession, CallsOfDraft};
 ghost use Rattle.gwb_c.specs.Calls.{Slot_opens, Slot_drafts, Slot_closes, Slot_ends};
 ghost use Rattle.gwb_c.specs.Stages.{Opens};
 
+use crate::counted_stage::CountedStage;
 use crate::handle::{CLOSED, Gwb, IN_DRAFT, NO_DRAFT, put, take};
 use crate::slot::{Slot, counted_in, is_drafting, status, taken};
 use crate::stage::{OpenDraft, Stage};
@@ -33,7 +34,7 @@ fn open_in(slot: &mut Slot)
         return;
     };
     let (stage, answer) = opened(session);
-    slot.stage = Some(stage);
+    slot.stage = Some(CountedStage::of(stage));
     slot.answer = answer;
 }
 
@@ -49,13 +50,17 @@ fn open(slot: &mut Slot)
 fn commit_in(slot: &mut Slot)
     ensures { Slot_closes (λ d. after_commit d) slot.old slot.new }
 {
-    match slot.stage.take() {
-        Some(Stage::Drafting(open)) => {
-            slot.stage = Some(Stage::Session(open.commit()));
+    let Some(stage) = slot.stage.take() else {
+        return;
+    };
+    match stage.into_stage() {
+        Stage::Drafting(open) => {
+            slot.stage = Some(CountedStage::of(Stage::Session(open.commit())));
             slot.answer = Answer::Reply(Reply::Done);
         }
-        Some(Stage::Session(session)) => slot.stage = Some(Stage::Session(session)),
-        None => {}
+        Stage::Session(session) => {
+            slot.stage = Some(CountedStage::of(Stage::Session(session)));
+        }
     }
 }
 
@@ -71,13 +76,17 @@ fn commit(slot: &mut Slot)
 fn abandon_in(slot: &mut Slot)
     ensures { Slot_closes (λ d. d.session) slot.old slot.new }
 {
-    match slot.stage.take() {
-        Some(Stage::Drafting(open)) => {
-            slot.stage = Some(Stage::Session(open.abandon()));
+    let Some(stage) = slot.stage.take() else {
+        return;
+    };
+    match stage.into_stage() {
+        Stage::Drafting(open) => {
+            slot.stage = Some(CountedStage::of(Stage::Session(open.abandon())));
             slot.answer = Answer::Reply(Reply::Done);
         }
-        Some(Stage::Session(session)) => slot.stage = Some(Stage::Session(session)),
-        None => {}
+        Stage::Session(session) => {
+            slot.stage = Some(CountedStage::of(Stage::Session(session)));
+        }
     }
 }
 

@@ -5,7 +5,7 @@ ghost use Rattle.gwb_c.specs.Handle.{Opened, Hears, Numbers, Replies};
 
 use crate::handle::{CLOSED, Gwb, IN_DRAFT, put, take};
 use crate::slot::{Slot, copy_front, hear, is_drafting, made, status, text_of};
-use crate::stage::{ahead, arena, depth};
+use crate::stage::{ahead, depth};
 use std::alloc::Global;
 
 /// Opens a session that holds the empty model. False where memory is refused, or there is a session; then nothing has changed.
@@ -66,7 +66,7 @@ pub extern "C" fn gwb_reply(alloc: Global, gwb: &mut Gwb, buf: &mut [u8]) -> usi
     };
     let mut length = usize::MAX;
     if let Some(stage) = &slot.stage {
-        if let Some(text) = text_of(alloc, arena(stage), &slot.answer) {
+        if let Some(text) = text_of(alloc, stage.arena(), &slot.answer) {
             length = copy_front(&text, buf);
         }
     }
@@ -78,7 +78,7 @@ fn depth_of(slot: &Slot) -> usize
     ensures { Numbers undos (Some slot.now) result }
 {
     match &slot.stage {
-        Some(stage) => depth(stage),
+        Some(stage) => depth(stage.stage()),
         None => 0,
     }
 }
@@ -87,7 +87,7 @@ fn ahead_of(slot: &Slot) -> usize
     ensures { Numbers redos (Some slot.now) result }
 {
     match &slot.stage {
-        Some(stage) => ahead(stage),
+        Some(stage) => ahead(stage.stage()),
         None => 0,
     }
 }

@@ -1,12 +1,9 @@
 //! Fresh numbers: those that the last line brought into use above all that were in use before it.
 ghost use Rattle.std.specs.Prelude.{◌≡◌};
-ghost use Rattle.shapes.specs.Fresh.{taken_in};
 ghost use Rattle.solid_walks.specs.Counters.{taken_of};
-ghost use Rattle.euler_conditions.specs.Ready.{IsReady};
 ghost use Rattle.gwb_c.specs.FreshNumbers.{above, fresh_in};
 
-use euler_conditions::Arena;
-use solid_walks::{Counters, counters_of};
+use solid_walks::Counters;
 
 /// The numbers from the first to the last.
 #[repr(C)]
@@ -14,14 +11,6 @@ use solid_walks::{Counters, counters_of};
 pub struct Range {
     pub first: u32,
     pub last: u32,
-}
-
-/// The greatest numbers in use.
-pub(crate) fn counted(arena: &Arena) -> Counters
-    requires { IsReady arena.now }
-    ensures { taken_of result ≡ taken_in arena.now.model }
-{
-    counters_of(arena)
 }
 
 /// The numbers above the first bound, up to the second.

@@ -18,6 +18,7 @@
 
 mod answers;
 mod commands;
+mod counted_stage;
 mod cycles;
 mod drafts;
 mod exports;

@@ -6,7 +6,6 @@ ghost use Rattle.gwb_c.specs.Calls.{Slot_answers, Slot_asks};
 
 use crate::commands::told_refusal;
 use crate::slot::{Slot, counted_in};
-use crate::stage::arena;
 use euler_conditions::Arena;
 use euler_operators::Refusal;
 use script_running::Answer;
@@ -56,7 +55,7 @@ fn plane_in(slot: &mut Slot, face: u32)
     ensures { Slot_answers slot.old (λ M. plane_reply M face) slot.new }
 {
     if let Some(stage) = &slot.stage {
-        slot.answer = told(plane_reply(arena(stage), face));
+        slot.answer = told(plane_reply(stage.arena(), face));
     }
 }
 
@@ -73,7 +72,7 @@ fn volume_in(slot: &mut Slot, solid: u32)
     ensures { Slot_answers slot.old (λ M. volume_reply M solid) slot.new }
 {
     if let Some(stage) = &slot.stage {
-        slot.answer = told(volume_reply(arena(stage), solid));
+        slot.answer = told(volume_reply(stage.arena(), solid));
     }
 }
 
@@ -90,7 +89,7 @@ fn count_in(slot: &mut Slot, solid: u32)
     ensures { Slot_answers slot.old (λ M. count_reply M solid) slot.new }
 {
     if let Some(stage) = &slot.stage {
-        slot.answer = told(count_reply(arena(stage), solid));
+        slot.answer = told(count_reply(stage.arena(), solid));
     }
 }
 

@@ -6,10 +6,10 @@ ghost use Rattle.gwb_c.specs.Stages.{shown};
 ghost use Rattle.gwb_c.specs.Calls.{Leaves};
 ghost use Rattle.gwb_c.specs.Parting.{part_of, Moves_faces, Slot_parts, Slot_makes_part, Parts};
 
-use crate::commands::{act_on, told_refusal};
+use crate::commands::told_refusal;
+use crate::counted_stage::CountedStage;
 use crate::handle::{CLOSED, Gwb, NO_CALL, put, take};
 use crate::slot::{Slot, counted_in, status};
-use crate::stage::{Stage, arena};
 use euler_conditions::Arena;
 use euler_operators::{FaceList, Kind, Op, Refusal, Why, is_number};
 use script_running::Answer;
@@ -49,16 +49,16 @@ fn solid_of(arena: &Arena, face: u32) -> Result<u32, Refusal>
 }
 
 /// Parts some faces, of which there is one, from the solid of the first. Their list is made before the operator's conditions are tested.
-fn part_on(alloc: Global, stage: &mut Stage, faces: &[u32], made: u32) -> Answer
+fn part_on(alloc: Global, stage: &mut CountedStage, faces: &[u32], made: u32) -> Answer
     requires { 0 < length faces.now }
     ensures { Moves_faces (face_refusal (shown stage.old) (get_or faces.now 0 0)) stage.old (part_of (shown stage.old) faces.now made) result stage.new }
 {
-    let from = match solid_of(arena(stage), faces[0]) {
+    let from = match solid_of(stage.arena(), faces[0]) {
         Ok(from) => from,
         Err(refusal) => return told_refusal(refusal),
     };
     match listed(alloc, faces) {
-        Ok(list) => act_on(stage, Op::Part(from, made, list)),
+        Ok(list) => stage.act(Op::Part(from, made, list)),
         Err(_) => Answer::Reply(Reply::Memory),
     }
 }

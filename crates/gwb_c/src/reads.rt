@@ -5,11 +5,10 @@ ghost use Rattle.gwb_c.specs.Reading.{face_in, face_of_loop_in, edge_in, point_i
 ghost use Rattle.gwb_c.specs.Handle.{Reads, Finds, Lists, GivesFresh};
 
 use crate::answers::give;
-use crate::fresh::{Range, counted, fresh_of};
+use crate::fresh::{Range, fresh_of};
 use crate::handle::{ABSENT, CLOSED, FOUND, Gwb, put, take};
 use crate::readers::{EdgeRow, FaceRow, Place};
 use crate::slot::Slot;
-use crate::stage::arena;
 use crate::{cycles, readers};
 use std::alloc::Global;
 
@@ -23,7 +22,7 @@ pub extern "C" fn gwb_face(alloc: Global, gwb: &mut Gwb, face: u32, row: &mut Fa
         return CLOSED;
     };
     let told = match &slot.stage {
-        Some(stage) => give(readers::face(arena(stage), face), row),
+        Some(stage) => give(readers::face(stage.arena(), face), row),
         None => ABSENT,
     };
     put(gwb, slot);
@@ -40,7 +39,7 @@ pub extern "C" fn gwb_loop(alloc: Global, gwb: &mut Gwb, l: u32, face: &mut u32)
         return CLOSED;
     };
     let told = match &slot.stage {
-        Some(stage) => give(readers::face_of_loop(arena(stage), l), face),
+        Some(stage) => give(readers::face_of_loop(stage.arena(), l), face),
         None => ABSENT,
     };
     put(gwb, slot);
@@ -57,7 +56,7 @@ pub extern "C" fn gwb_edge(alloc: Global, gwb: &mut Gwb, edge: u32, row: &mut Ed
         return CLOSED;
     };
     let told = match &slot.stage {
-        Some(stage) => give(readers::edge(arena(stage), edge), row),
+        Some(stage) => give(readers::edge(stage.arena(), edge), row),
         None => ABSENT,
     };
     put(gwb, slot);
@@ -74,7 +73,7 @@ pub extern "C" fn gwb_vertex(alloc: Global, gwb: &mut Gwb, vertex: u32, place: &
         return CLOSED;
     };
     let told = match &slot.stage {
-        Some(stage) => give(readers::vertex(arena(stage), vertex), place),
+        Some(stage) => give(readers::vertex(stage.arena(), vertex), place),
         None => ABSENT,
     };
     put(gwb, slot);
@@ -91,7 +90,7 @@ pub extern "C" fn gwb_lone_vertex(alloc: Global, gwb: &mut Gwb, l: u32, vertex: 
         return CLOSED;
     };
     let told = match &slot.stage {
-        Some(stage) => give(readers::lone_vertex(arena(stage), l), vertex),
+        Some(stage) => give(readers::lone_vertex(stage.arena(), l), vertex),
         None => ABSENT,
     };
     put(gwb, slot);
@@ -108,7 +107,7 @@ pub extern "C" fn gwb_next_half_edge(alloc: Global, gwb: &mut Gwb, item: u32, ne
         return CLOSED;
     };
     let told = match &slot.stage {
-        Some(stage) => give(readers::next_half_edge(arena(stage), item), next),
+        Some(stage) => give(readers::next_half_edge(stage.arena(), item), next),
         None => ABSENT,
     };
     put(gwb, slot);
@@ -121,7 +120,7 @@ fn find_first_half_edge(slot: &Slot, l: u32, item: &mut u32) -> u32
     let Some(stage) = &slot.stage else {
         return ABSENT;
     };
-    match readers::first_half_edge(arena(stage), l) {
+    match readers::first_half_edge(stage.arena(), l) {
         Some(found) => {
             *item = found;
             FOUND
@@ -148,7 +147,7 @@ fn list_half_edges(slot: &Slot, l: u32, buf: &mut [u32]) -> usize
     ensures { Lists (AreHalfEdges l) (Some slot.now) buf.old buf.new result }
 {
     match &slot.stage {
-        Some(stage) => cycles::half_edges(arena(stage), l, buf),
+        Some(stage) => cycles::half_edges(stage.arena(), l, buf),
         None => 0,
     }
 }
@@ -174,7 +173,7 @@ fn find_ring_after(slot: &Slot, face: u32, n: u32, ring: &mut u32) -> u32
     let Some(stage) = &slot.stage else {
         return ABSENT;
     };
-    match readers::ring_after(arena(stage), face, n) {
+    match readers::ring_after(stage.arena(), face, n) {
         Some(found) => {
             *ring = found;
             FOUND
@@ -209,7 +208,7 @@ fn find_face_after(slot: &Slot, solid: u32, n: u32, face: &mut u32) -> u32
     let Some(stage) = &slot.stage else {
         return ABSENT;
     };
-    match readers::face_after(arena(stage), solid, n) {
+    match readers::face_after(stage.arena(), solid, n) {
         Some(found) => {
             *face = found;
             FOUND
@@ -244,7 +243,7 @@ fn find_number_after(slot: &Slot, entity: u32, n: u32, number: &mut u32) -> u32
     let Some(stage) = &slot.stage else {
         return ABSENT;
     };
-    match readers::number_after(arena(stage), entity, n) {
+    match readers::number_after(stage.arena(), entity, n) {
         Some(found) => {
             *number = found;
             FOUND
@@ -277,7 +276,7 @@ fn give_fresh(slot: &Slot, entity: u32, range: &mut Range) -> u32
     ensures { GivesFresh entity (Some slot.now) range.old range.new result }
 {
     match &slot.stage {
-        Some(stage) => give(fresh_of(slot.before, counted(arena(stage)), entity), range),
+        Some(stage) => give(fresh_of(slot.before, stage.greatest(), entity), range),
         None => ABSENT,
     }
 }

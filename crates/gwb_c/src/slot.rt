@@ -5,12 +5,12 @@ ghost use Rattle.undo_journal.specs.Journal.{Journal, new_journal};
 ghost use Rattle.script_running.specs.script_judging.Settling.{spelled};
 ghost use Rattle.gwb_c.specs.declared.stage.Stage.TheVariants as stages;
 ghost use Rattle.gwb_c.specs.Stages.{is_draft, text_in};
-ghost use Rattle.gwb_c.specs.Handle.{Counts_in, Decides_on, Slot_obeys, Slot_hears, Slot_finishes, Slot_notes, status_of, laid_over};
+ghost use Rattle.gwb_c.specs.Handle.{Counts_in, Slot_obeys, Slot_hears, Slot_finishes, Slot_notes, status_of, laid_over};
 
-use crate::fresh::counted;
-use crate::stage::{Stage, arena};
+use crate::counted_stage::CountedStage;
+use crate::stage::Stage;
 use euler_conditions::Arena;
-use script_running::{Answer, Larger, carry_out, judge};
+use script_running::{Answer, Larger, carry_out};
 use solid_listing::{Reply, write_listing, write_reply};
 use solid_walks::Counters;
 use std::alloc::Global;
@@ -19,7 +19,7 @@ use undo_journal::Session;
 /// A session or a draft, and the answer to the last command.
 #[derive(Drop)]
 pub struct Slot {
-    pub(crate) stage: Option<Stage>,
+    pub(crate) stage: Option<CountedStage>,
     pub(crate) answer: Answer,
     pub(crate) later: Option<Larger>,
     /// The greatest numbers in use before the last command.
@@ -36,7 +36,7 @@ pub(crate) fn made(alloc: Global) -> Option<Box<Slot, Global>>
     Box::new(
         alloc,
         Slot {
-            stage: Some(Stage::Session(session)),
+            stage: Some(CountedStage::of(Stage::Session(session))),
             answer: Answer::Silent,
             later: None,
             before: Counters {
@@ -55,13 +55,15 @@ pub(crate) fn taken(slot: &mut Slot) -> Option<Session>
     ensures session { (s : Journal) → slot.old.stage ≡ Some (stages.Session s) → result ≡ Some s }
     ensures later { slot.new.later ≡ slot.old.later }
 {
-    match slot.stage.take() {
-        Some(Stage::Session(session)) => Some(session),
-        Some(Stage::Drafting(open)) => {
-            slot.stage = Some(Stage::Drafting(open));
+    let Some(stage) = slot.stage.take() else {
+        return None;
+    };
+    match stage.into_stage() {
+        Stage::Session(session) => Some(session),
+        Stage::Drafting(open) => {
+            slot.stage = Some(CountedStage::of(Stage::Drafting(open)));
             None
         }
-        None => None,
     }
 }
 
@@ -73,7 +75,7 @@ pub(crate) fn carry_in(alloc: Global, slot: &mut Slot, larger: Larger)
         return;
     };
     let (session, answer) = carry_out(alloc, session, larger);
-    slot.stage = Some(Stage::Session(session));
+    slot.stage = Some(CountedStage::of(Stage::Session(session)));
     slot.answer = answer;
 }
 
@@ -86,16 +88,6 @@ fn finish(alloc: Global, slot: &mut Slot)
     carry_in(alloc, slot, larger);
 }
 
-/// The answer to a line, or none where it spells a larger command, which is put aside. A draft hears no line.
-fn judge_on(stage: &mut Stage, line: &[u8], later: &mut Option<Larger>) -> Option<Answer>
-    ensures { Decides_on stage.old line.now result stage.new later.new }
-{
-    match stage {
-        Stage::Session(session) => judge(session, line, later),
-        Stage::Drafting(_) => Some(Answer::Silent),
-    }
-}
-
 /// Answers a line, and keeps the answer.
 fn answer_line(alloc: Global, slot: &mut Slot, line: &[u8])
     ensures { Slot_hears slot.old line.now slot.new }
@@ -103,7 +95,7 @@ fn answer_line(alloc: Global, slot: &mut Slot, line: &[u8])
     let Some(stage) = &mut slot.stage else {
         return;
     };
-    match judge_on(stage, line, &mut slot.later) {
+    match stage.judge(line, &mut slot.later) {
         Some(answer) => slot.answer = answer,
         None => finish(alloc, slot),
     }
@@ -114,7 +106,7 @@ pub(crate) fn counted_in(slot: &Slot) -> Counters
     ensures { Counts_in slot.now result }
 {
     match &slot.stage {
-        Some(stage) => counted(arena(stage)),
+        Some(stage) => stage.greatest(),
         None => slot.before,
     }
 }
@@ -132,7 +124,10 @@ pub(crate) fn hear(alloc: Global, slot: &mut Slot, line: &[u8])
 pub(crate) fn is_drafting(slot: &Slot) -> bool
     ensures { result ≡ is_draft slot.now.stage }
 {
-    matches!(slot.stage, Some(Stage::Drafting(_)))
+    match &slot.stage {
+        Some(stage) => matches!(stage.stage(), Stage::Drafting(_)),
+        None => false,
+    }
 }
 
 /// What C is told of an answer.

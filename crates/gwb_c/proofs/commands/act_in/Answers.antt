@@ -6,5 +6,5 @@ use Rattle.gwb_c.proofs.commands.act_in.Goals as goal
 
 pub returns-in-Some : goal.returns-in-Some
 returns-in-Some c = λ g is.
-    let answer = c.act_on-slot.result in let h = c.act_on-slot.new.stage in
-    (h, refl, subst (λ (k : Stage). Acts_on k c.args.op answer h) (the_same c.in-Some.stage g c.args.slot.now.stage c.in-Some.is is) c.act_on-slot.ensures)
+    let answer = c.act-slot.result in let h = c.act-slot.new.self in
+    (h, refl, subst (λ (k : Stage). Acts_on k c.args.op answer h) (the_same c.in-Some.stage g c.args.slot.now.stage c.in-Some.is is) c.act-slot.ensures)

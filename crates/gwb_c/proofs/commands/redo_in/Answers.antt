@@ -1,13 +1,9 @@
-use Rattle.std.proofs.Common.{◌∙◌, Some, refl, ap, subst}
-use Rattle.undo_journal.specs.Journal.{Journal}
+use Rattle.std.proofs.Common.{subst}
 use Rattle.script_reader.specs.declared.command.Command.TheVariants as command
-use Rattle.script_running.specs.script_judging.Judging.{Obeys}
 use Rattle.gwb_c.specs.declared.stage.Stage.{Stage}
-use Rattle.gwb_c.proofs.Acting.{same_session}
+use Rattle.gwb_c.specs.Stages.{Obeys_on}
+use Rattle.gwb_c.proofs.Acting.{the_same, obeyed_on}
 use Rattle.gwb_c.proofs.commands.redo_in.Goals as goal
 
-pub returns-in-Some-Session : goal.returns-in-Some-Session
-returns-in-Some-Session c = λ s is.
-    let answer = c.redo_on-slot.result in let t = c.redo_on-slot.new.session in
-    let held = c.in-Some-Session.is ∙ ap (λ (g : Stage). Some g) c.in-Some-Session.field-0-is in
-    (t, refl, subst (λ (j : Journal). Obeys j.machine command.Redo answer t.machine) (same_session c.in-Some-Session.session s c.args.slot.now.stage held is) c.redo_on-slot.ensures)
+pub returns-in-Some : goal.returns-in-Some
+returns-in-Some c = λ s is. obeyed_on s command.Redo c.redo-slot.result c.redo-slot.new.self (subst (λ (g : Stage). Obeys_on g command.Redo c.redo-slot.result c.redo-slot.new.self) (the_same c.in-Some.stage _ c.args.slot.now.stage c.in-Some.is is) c.redo-slot.ensures)

@@ -1,7 +1,8 @@
-use Rattle.std.proofs.Common.{refl, subst}
+use Rattle.std.proofs.Common.{Some, ap, subst}
 use Rattle.undo_journal.specs.Journal.{Journal}
 use Rattle.script_running.specs.script_judging.Judging.{Obeys}
 use Rattle.script_running.specs.script_judging.Settling.{spelled}
+use Rattle.gwb_c.specs.declared.stage.Stage.{Stage}
 use Rattle.gwb_c.proofs.Acting.{the_same}
 use Rattle.gwb_c.proofs.slot.carry_in.Goals as goal
 
@@ -11,4 +12,4 @@ returns-in_default c = λ s is. absurd (c.in_default.not-Some s (c.taken.ensures
 pub returns : goal.returns
 returns c = λ s is.
     let t = c.carry_out-session.result.0 in let answer = c.carry_out-session.result.1 in
-    (t, refl, subst (λ (j : Journal). Obeys j.machine (spelled c.args.larger) answer t.machine) (the_same c.in-Some.session s c.taken.result c.in-Some.is (c.taken.ensures.session s is)) c.carry_out-session.ensures.answered)
+    (t, ap (λ (g : Stage). Some g) c.of.ensures, subst (λ (j : Journal). Obeys j.machine (spelled c.args.larger) answer t.machine) (the_same c.in-Some.session s c.taken.result c.in-Some.is (c.taken.ensures.session s is)) c.carry_out-session.ensures.answered)

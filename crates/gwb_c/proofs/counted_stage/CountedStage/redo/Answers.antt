@@ -1,0 +1,10 @@
+use Rattle.std.proofs.Common.{◌∙◌, sym, ap}
+use Rattle.shapes.specs.Fresh.{taken_in}
+use Rattle.gwb_c.proofs.Unchanged.{shows_redone}
+use Rattle.gwb_c.proofs.counted_stage.CountedStage.redo.Goals as goal
+
+pub greatest_after-self-inside-requires : goal.greatest_after-self-inside-requires
+greatest_after-self-inside-requires c = λ other. c.self.invariant ∙ ap taken_in (sym (shows_redone c.self.inside.stage c.redo_on-answer.result c.redo_on-answer.new.stage c.redo_on-answer.ensures (sym c.is_done.ensures ∙ other)))
+
+pub returns : goal.returns
+returns c = rw (← c.self.view_is) c.redo_on-answer.ensures
