@@ -7,7 +7,8 @@ use Rattle.arena_rows.specs.declared.rows.FaceCell.{FaceCell}
 use Rattle.arena_rows.specs.declared.rows.LoopCell.{LoopCell}
 use Rattle.arena_rows.specs.declared.rows.Held.TheVariants.{Empty, At}
 use Rattle.boundary_model.specs.Table.{get, put, remove, get-put, same_table}
-use Rattle.arena_rows.specs.Rows.{row_at, map_row, table_of}
+use Rattle.raw_cells.specs.Rows.{row_at}
+use Rattle.arena_rows.specs.Rows.{map_row, table_of}
 use Rattle.boundary_model.specs.Model.{Model, cycle}
 use Rattle.arena_rows.specs.Store.{Store, loosened}
 use Rattle.arena_rows.specs.ring_spots.Spots.{Spots, live, next, label, ring, spliced_at, labelled, AreRings}

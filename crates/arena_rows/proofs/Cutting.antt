@@ -8,7 +8,8 @@ use Rattle.arena_rows.specs.declared.rows.LoopCell.{LoopCell}
 use Rattle.arena_rows.specs.declared.rows.Held.{Held}
 use Rattle.arena_rows.specs.declared.rows.Held.TheVariants.{Empty, Lone, At}
 use Rattle.boundary_model.specs.Table.{put, remove, tabulate}
-use Rattle.arena_rows.specs.Rows.{row_at, table_of}
+use Rattle.raw_cells.specs.Rows.{row_at}
+use Rattle.arena_rows.specs.Rows.{table_of}
 use Rattle.boundary_model.specs.Model.{cycle}
 use Rattle.arena_rows.specs.Store.{loosened}
 use Rattle.arena_rows.specs.ring_spots.Spots.{Spots, codes, live, label, ring, spliced_at, labelled, AreRings}

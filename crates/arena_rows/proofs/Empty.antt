@@ -1,9 +1,11 @@
 -- The arena that holds nothing, the greatest number in use and the next one, and the room of numbers in use.
 use Rattle.std.proofs.Common.{◌-◌, ◌≡◌, ◌≢◌, ℕ, ◌≤◌, Bool, true, false, cond, nat_eq, nat_lt, nat_le, ◌&&◌, List, [], Option, Some, None, is_some, sym, ap, ◌∙◌, arith, true≢false, length}
 use Rattle.arena_rows.proofs.ring_spots_laws.SpotTables.{edge_live, edge_has_room, codes_are, nothing, edge_has}
-use Rattle.arena_rows.specs.Rows.{row_at, has_row, table_of}
-use Rattle.arena_rows.specs.ring_spots.Last.{IsLast, is_edge}
-use Rattle.arena_rows.proofs.ring_spots_laws.Lasts.{last_same}
+use Rattle.raw_cells.specs.Rows.{row_at, has_row}
+use Rattle.arena_rows.specs.Rows.{table_of}
+use Rattle.raw_cells.specs.Numbers.{IsLast}
+use Rattle.arena_rows.specs.ring_spots.Last.{is_edge}
+use Rattle.raw_cells.proofs.numbers_laws.Lasts.{last_same}
 use Rattle.arena_rows.specs.Store.{within, empty_store, Store, has_number, IsNextNumber}
 use Rattle.arena_rows.specs.View.{Fits, store_of, RowsAreTied, solid_row, face_row, loop_row}
 use Rattle.arena_rows.proofs.Views.{row_within, row_not_zero, table_of-empty, fits-empty, has_is}
@@ -18,7 +20,7 @@ use Rattle.boundary_model.specs.Items.{head_or}
 use Rattle.boundary_model.proofs.Tests.{and_false}
 use Rattle.arena_rows.specs.ring_spots.SpotTables.{edge_row, both_tails, edge_room, loose_row}
 use Rattle.boundary_model.specs.declared.Kind.{Kind}
-use Rattle.arena_rows.specs.Numbers.{IsNext}
+use Rattle.raw_cells.specs.Numbers.{IsNext}
 
 module _ (sp : Spots) (known : ℕ → Bool) (none : (q : ℕ) → sp q ≡ None) (unknown : (q : ℕ) → known q ≡ false) where
   dead : (c : ℕ) → live sp c ≢ true

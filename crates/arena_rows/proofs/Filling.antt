@@ -11,7 +11,7 @@ use Rattle.arena_rows.specs.declared.rows.LoopCell.{LoopCell}
 use Rattle.arena_rows.specs.declared.rows.Held.{Held}
 use Rattle.arena_rows.specs.declared.rows.Held.TheVariants.{Empty, Lone, At}
 use Rattle.boundary_model.specs.Table.{get, put, remove}
-use Rattle.arena_rows.specs.Rows.{row_at}
+use Rattle.raw_cells.specs.Rows.{row_at}
 use Rattle.boundary_model.specs.Model.{Model, cycle}
 use Rattle.arena_rows.specs.Store.{Store, loosened}
 use Rattle.arena_rows.specs.ring_spots.Spots.{Spots, live, label, ring, labelled, AreRings}

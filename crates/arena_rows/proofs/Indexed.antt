@@ -14,7 +14,8 @@ use Rattle.arena_rows.proofs.owner_chains_laws.Counting.{more}
 use Rattle.arena_rows.specs.ring_spots.Spots.{Spots}
 use Rattle.arena_rows.specs.declared.rows.FaceCell.{FaceCell}
 use Rattle.arena_rows.specs.declared.rows.LoopCell.{LoopCell}
-use Rattle.arena_rows.specs.Rows.{row_at, map_row, table_of, names}
+use Rattle.raw_cells.specs.Rows.{row_at}
+use Rattle.arena_rows.specs.Rows.{map_row, table_of, names}
 use Rattle.arena_rows.specs.View.{store_of, face_row, loop_row, solid_numbers, face_numbers, AreIndexed}
 use Rattle.arena_rows.proofs.Views.{get-table_of, read_row, table_of-same, table_of-put, table_of-remove, table_of-empty}
 

@@ -10,7 +10,6 @@ pub mod Rooms
 pub mod Empty
 pub mod Indexed
 pub mod Nexts
-pub mod numbers_laws
 pub mod owner_chains_laws
 pub mod ring_spots_laws
 pub use Rattle.raw_ring.proofs.Mapping as RawMapping

@@ -13,7 +13,8 @@ use Rattle.arena_rows.specs.owner_chains.Owners.{Owners, owned, is_owner, IsNext
 use Rattle.arena_rows.specs.ring_spots.Spots.{Spots}
 use Rattle.arena_rows.specs.declared.rows.FaceCell.{FaceCell}
 use Rattle.arena_rows.specs.declared.rows.LoopCell.{LoopCell}
-use Rattle.arena_rows.specs.Rows.{row_at, map_row}
+use Rattle.raw_cells.specs.Rows.{row_at}
+use Rattle.arena_rows.specs.Rows.{map_row}
 use Rattle.arena_rows.specs.Store.{is_face_of, IsNextFace, IsNextRing, only_item}
 use Rattle.arena_rows.specs.View.{store_of, face_row, loop_row, AreIndexed}
 use Rattle.arena_rows.proofs.Views.{get-table_of}

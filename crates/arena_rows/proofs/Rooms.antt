@@ -6,7 +6,7 @@ use Rattle.boundary_model.specs.declared.Point.{Point}
 use Rattle.arena_rows.specs.declared.rows.FaceCell.{FaceCell}
 use Rattle.arena_rows.specs.declared.rows.LoopCell.{LoopCell}
 use Rattle.boundary_model.specs.Table.{get}
-use Rattle.arena_rows.specs.Rows.{row_at}
+use Rattle.raw_cells.specs.Rows.{row_at}
 use Rattle.arena_rows.specs.Store.{Store}
 use Rattle.arena_rows.specs.ring_spots.Spots.{Spots, label}
 use Rattle.arena_rows.specs.View.{store_of, RowsAreTied, Fits, AreLoops, loop_row, face_row, solid_row}

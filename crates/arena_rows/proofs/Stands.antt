@@ -13,7 +13,8 @@ use Rattle.arena_rows.specs.declared.rows.Held.{Held}
 use Rattle.arena_rows.specs.declared.rows.Held.TheVariants.{Empty, Lone, At}
 use Rattle.boundary_model.specs.HalfEdge.{plus, minus, edge_of, is_first}
 use Rattle.boundary_model.specs.Table.{get}
-use Rattle.arena_rows.specs.Rows.{row_at, map_row}
+use Rattle.raw_cells.specs.Rows.{row_at}
+use Rattle.arena_rows.specs.Rows.{map_row}
 use Rattle.boundary_model.specs.Model.{Model, lone, cycle, LoopRow, holds, items_of, has_half, tail, tail_in, loop_of, content, face_of, cycle_of, after, before, no_loop, no_edge}
 use Rattle.arena_rows.specs.Store.{Store, loose_key, loose_ring}
 use Rattle.arena_rows.specs.ring_spots.Spots.{Spots, live, next, label, tail_at, ring, AreRings}

@@ -10,7 +10,8 @@ use Rattle.arena_rows.specs.declared.rows.LoopCell.{LoopCell}
 use Rattle.arena_rows.specs.declared.rows.Held.{Held}
 use Rattle.arena_rows.specs.declared.rows.Held.TheVariants.{Empty, Lone, At}
 use Rattle.boundary_model.specs.Table.{Table, get, put, tabulate, get-put, same_table}
-use Rattle.arena_rows.specs.Rows.{row_at, map_row, table_of}
+use Rattle.raw_cells.specs.Rows.{row_at}
+use Rattle.arena_rows.specs.Rows.{map_row, table_of}
 use Rattle.boundary_model.specs.Model.{cycle, LoopRow}
 use Rattle.arena_rows.specs.Store.{Store, loosened}
 use Rattle.arena_rows.specs.ring_spots.Spots.{Spots, codes, live, label, ring, AreRings}

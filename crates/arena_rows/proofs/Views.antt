@@ -2,7 +2,8 @@
 use Rattle.std.proofs.Common.{◌≡◌, ◌≢◌, ℕ, zero, suc, ◌-◌, ◌≤◌, ◌<◌, Bool, true, false, cond, nat_eq, nat_lt, nat_le, ◌&&◌, List, [], ◌∷◌, length, Option, Some, None, is_some, refl, sym, ap, ◌∙◌, arith, true≢false, ne_eqb}
 use Rattle.std.proofs.lemmas.Bool.Decides.{nat_tests}
 use Rattle.boundary_model.specs.Table.{get, put, remove, empty, get-empty, get-put, get-remove, get-tabulate, same_table}
-use Rattle.arena_rows.specs.Rows.{row_at, map_row, table_of}
+use Rattle.raw_cells.specs.Rows.{row_at}
+use Rattle.arena_rows.specs.Rows.{map_row, table_of}
 use Rattle.arena_rows.specs.View.{Fits}
 
 module _ {X : Type 0} where

@@ -10,7 +10,8 @@ use Rattle.arena_rows.specs.declared.rows.LoopCell.{LoopCell}
 use Rattle.arena_rows.specs.declared.rows.Held.{Held}
 use Rattle.arena_rows.specs.declared.rows.Held.TheVariants.{Empty}
 use Rattle.boundary_model.specs.Table.{Table}
-use Rattle.arena_rows.specs.Rows.{row_at, table_of}
+use Rattle.raw_cells.specs.Rows.{row_at}
+use Rattle.arena_rows.specs.Rows.{table_of}
 use Rattle.boundary_model.specs.Model.{cycle, FaceRow, LoopRow, items_of}
 use Rattle.arena_rows.specs.Store.{Store}
 use Rattle.arena_rows.specs.ring_spots.Spots.{Spots, live, label, ring}

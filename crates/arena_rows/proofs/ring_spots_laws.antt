@@ -4,7 +4,6 @@ pub mod SpotTables
 pub mod EdgeSpots
 pub mod Relabelling
 pub mod Lengths
-pub mod Lasts
 pub mod LiveEdges
 pub mod LabelTables
 pub mod LoopSpots

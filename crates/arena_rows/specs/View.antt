@@ -12,7 +12,8 @@ use Rattle.boundary_model.specs.Table.{Table, tabulate}
 use Rattle.boundary_model.specs.Model.{LoopContent, lone, cycle, FaceRow, LoopRow}
 use Rattle.arena_rows.specs.Store.{Store}
 use Rattle.arena_rows.specs.ring_spots.Spots.{Spots, codes, edges_end, live, label, ring, AreRings}
-use Rattle.arena_rows.specs.Rows.{row_at, table_of}
+use Rattle.raw_cells.specs.Rows.{row_at}
+use Rattle.arena_rows.specs.Rows.{table_of}
 use Rattle.arena_rows.specs.owner_chains.Owners.{Owners}
 
 abbrev pub solid_row : Bool → Unit {0}

@@ -1,5 +1,5 @@
 -- Faces without rings.
-use Rattle.std.proofs.Common.{◌≡◌, ℕ, ◌<◌, Bool, true, false, cond, not, nat_eq, ◌&&◌, List, [], ◌∷◌, length, Option, Some, None, is_some, unwrap_or, refl, sym, ap, arith, true≢false}
+use Rattle.std.proofs.Common.{◌≡◌, ℕ, Bool, true, false, cond, not, nat_eq, ◌&&◌, List, [], ◌∷◌, length, Option, Some, None, is_some, unwrap_or, refl, sym, ap, arith, true≢false}
 use Rattle.boundary_model.proofs.Tables.{passes, count-all_where}
 use Rattle.boundary_model.specs.Items.{count}
 use Rattle.boundary_model.specs.Table.{get}

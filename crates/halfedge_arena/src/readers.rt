@@ -7,7 +7,7 @@ ghost use Rattle.boundary_model.specs.Model.{cycle, point_of, solid_of, outer, f
 ghost use Rattle.arena_rows.specs.Store.{has_room, has_number, loose_ring, Tells, only_item};
 
 use crate::arena::Arena;
-use arena_rows::Held;
+use arena_rows::{Held, names};
 use boundary_model::{Content, HalfEdge, Kind, Point};
 
 impl Arena {
@@ -62,7 +62,7 @@ impl Arena {
     {
         let outer = self.faces.known(f).outer;
         let named = self.face_loops.count(f);
-        if self.loops.names(outer, f) {
+        if names(&self.loops, outer, f) {
             named - 1
         } else {
             named

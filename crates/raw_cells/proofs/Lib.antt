@@ -1,2 +1,3 @@
 pub mod Memory
+pub mod numbers_laws
 pub mod Sharing

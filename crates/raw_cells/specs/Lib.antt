@@ -1,2 +1,4 @@
 pub mod Blocks
+pub mod Numbers
 pub mod Ownership
+pub mod Rows

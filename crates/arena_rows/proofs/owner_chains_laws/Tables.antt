@@ -2,15 +2,21 @@
 use Rattle.std.proofs.Common.{◌≡◌, ℕ, zero, suc, ◌≤◌, ◌<◌, Bool, true, false, cond, nat_eq, nat_lt, List, [], ◌∷◌, length, Option, Some, None, is_some, refl, sym, ap, ◌∙◌, arith, true≢false}
 use Rattle.std.proofs.lemmas.Bool.Decides.{nat_tests}
 use Rattle.boundary_model.specs.Table.{get, put, remove, get-put, get-remove, get-tabulate, same_table}
+use Rattle.arena_rows.specs.declared.owner_chains.rows.Head.{Head}
 use Rattle.arena_rows.specs.declared.owner_chains.rows.Link.{Link}
 use Rattle.arena_rows.specs.owner_chains.Owners.{owned, is_owner}
-use Rattle.arena_rows.specs.owner_chains.Chains.{link_at, owner_in, is_of, items, owners_of}
+use Rattle.arena_rows.specs.owner_chains.Chains.{head_in, link_at, owner_in, is_of, items, owners_of}
 use Rattle.arena_rows.proofs.owner_chains_laws.Counting.{few}
 
 pub link_past : (links : List (Option Link)) (q : ℕ) → length links ≤ q → link_at links q ≡ None
 link_past [] q h = refl
 link_past (x ∷ links) zero h = absurd (omega arith)
 link_past (x ∷ links) (suc q) h = link_past links q (omega arith)
+
+-- an owner that has an item has its row
+pub head_there : (row : Option Head) → 1 ≤ (head_in row).count → is_some row ≡ true
+head_there None h = absurd (omega (arith, h))
+head_there (Some head) h = refl
 
 pub link_within : (links : List (Option Link)) (q : ℕ) → is_some (link_at links q) ≡ true → q < length links
 link_within [] q h = absurd (true≢false (sym h))

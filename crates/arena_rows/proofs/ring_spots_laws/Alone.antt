@@ -1,7 +1,8 @@
 -- A code that is alone in its ring, joined to a ring or cut from one.
-use Rattle.std.proofs.Common.{◌≡◌, ◌≢◌, ℕ, ◌<◌, Bool, true, false, cond, nat_eq, List, [], ◌∷◌, length, Option, Some, None, refl, sym, ap, subst, ◌∙◌, arith, eq-eqb, ne_eqb, inl, inr}
+use Rattle.std.proofs.Common.{◌≡◌, ◌≢◌, ℕ, Bool, true, false, cond, nat_eq, List, [], ◌∷◌, Option, Some, None, refl, sym, ap, subst, ◌∙◌, arith, eq-eqb, ne_eqb, inl, inr}
 use Rattle.std.proofs.lemmas.Bool.Decides.{eqb_tells}
 use Rattle.raw_ring.specs.Rings.{RingMap, Spot, spot, with_label}
+use Rattle.raw_cells.specs.Rows.{has_row}
 use Rattle.boundary_model.specs.Items.{count, IsIn}
 use Rattle.boundary_model.proofs.Lists.{IsIn_or_not, tick_le, tick_other}
 use Rattle.boundary_model.proofs.Rotations.{IsIn_head, canonical_one}
@@ -34,7 +35,7 @@ labelled_one m new c l alone is = λ i q. (known_step m new c l is q ∙ at q �
     | inr p ↦ ap (λ b. cond b (map_spot (λ s. record s { label = l }) (spot m q)) (spot m q)) (p.0 ∙ sym (is_in-no q (c ∷ []) (omega (arith, tick_other q c p.1))))
   ]
 
-module _ (sp : Spots) (known : ℕ → Bool) (rows : List Label) (a b : ℕ) (S : ShareLabel sp known rows a b) where
+module _ (sp : Spots) (known : ℕ → Bool) (rows : List (Option Label)) (a b : ℕ) (S : ShareLabel sp known rows a b) where
   -- h of the ring of a in place of a
   shared_at : (h : ℕ) → IsIn h (ring sp a) → ShareLabel sp known rows b h
   shared_at h i =
@@ -63,11 +64,11 @@ module _ (sp : Spots) (known : ℕ → Bool) (rows : List Label) (a b : ℕ) (S 
       abbrev h : ℕ
       h = holder rows (label sp b)
 
-      below : label sp b < length rows
-      below = S.table.below b S.b_there
+      shared_there : has_row rows (label sp b) ≡ true
+      shared_there = S.table.labels_there b S.b_there
 
       owned : own rows h ≡ label sp b
-      owned = S.table.owners.owned (label sp b) below
+      owned = S.table.owners.owned (label sp b) shared_there
 
       h_in : IsIn h (ring sp a)
       h_in = elim S.held [
@@ -97,23 +98,23 @@ module _ (sp : Spots) (known : ℕ → Bool) (rows : List Label) (a b : ℕ) (S 
             ∙ ap (λ t. cond t (holder rows (label sp h)) (holder rows q)) (ne_eqb q (own rows h) (λ e. p.1 (e ∙ owned ∙ sym label_h))))
       ]
 
-      pub labelled_own : (l : ℕ) → l ≡ own rows b → (b_known : b < length rows) → AreLabelled (labelled sp l (ring sp b)) known rows
-      labelled_own l e b_known = labelled-apart sp known rows b h T (labelled sp l (ring sp b)) rows (S.table.owners.holder_below (label sp b) below) b_known refl own_is holder_is (ap (λ n. labelled sp n (ring sp b)) e) known refl
+      pub labelled_own : (l : ℕ) → l ≡ own rows b → (b_known : has_row rows b ≡ true) → AreLabelled (labelled sp l (ring sp b)) known rows
+      labelled_own l e b_known = labelled-apart sp known rows b h T (labelled sp l (ring sp b)) rows (S.table.owners.holder_there (label sp b) shared_there) b_known refl own_is holder_is (ap (λ n. labelled sp n (ring sp b)) e) known refl
 
     -- where it owns that, a takes it in exchange for its own
-    pub labelled_given : (rows' : List Label) → a < length rows → b < length rows → length rows' ≡ length rows → (x : ℕ) → label sp b ≡ x →
+    pub labelled_given : (rows' : List (Option Label)) → has_row rows a ≡ true → has_row rows b ≡ true → has_row rows' ≡ has_row rows → (x : ℕ) → label sp b ≡ x →
         ((q : ℕ) → own rows' q ≡ cond (nat_eq q a) x (cond (nat_eq q (holder rows x)) (own rows a) (own rows q))) →
         ((q : ℕ) → holder rows' q ≡ cond (nat_eq q x) a (cond (nat_eq q (own rows a)) (holder rows x) (holder rows q))) →
         (l : ℕ) → l ≡ own rows' b → AreLabelled (labelled sp l (ring sp b)) known rows'
-    labelled_given rows' a_known b_known len x at own_is holder_is l e =
+    labelled_given rows' a_known b_known there x at own_is holder_is l e =
         let at_a : x ≡ label sp a = sym at ∙ S.one in
-        labelled-apart sp known rows b a (share_turned sp known rows a b S) (labelled sp l (ring sp b)) rows' a_known b_known len
+        labelled-apart sp known rows b a (share_turned sp known rows a b S) (labelled sp l (ring sp b)) rows' a_known b_known there
         (subst (λ n. (q : ℕ) → own rows' q ≡ cond (nat_eq q a) n (cond (nat_eq q (holder rows n)) (own rows a) (own rows q))) at_a own_is)
         (subst (λ n. (q : ℕ) → holder rows' q ≡ cond (nat_eq q n) a (cond (nat_eq q (own rows a)) (holder rows n) (holder rows q))) at_a holder_is)
         (ap (λ n. labelled sp n (ring sp b)) e) known refl
 
 -- two labels one after the other
-labelled_again : (sp : Spots) (rows rows' : List Label) (f l : ℕ) (hs : List ℕ) → loop_at rows' ≡ loop_at rows → labelled (in_loops rows' (labelled sp f hs)) l hs ≡ labelled (in_loops rows sp) l hs
+labelled_again : (sp : Spots) (rows rows' : List (Option Label)) (f l : ℕ) (hs : List ℕ) → loop_at rows' ≡ loop_at rows → labelled (in_loops rows' (labelled sp f hs)) l hs ≡ labelled (in_loops rows sp) l hs
 labelled_again sp rows rows' f l hs loops = λ i q. go (is_in q hs) (sp q) i where
   go : (t : Bool) (o : Option Spot) → cond t (map_spot (λ s. record s { label = l }) (map_spot (with_loop rows') (cond t (map_spot (λ s. record s { label = f }) o) o))) (map_spot (with_loop rows') (cond t (map_spot (λ s. record s { label = f }) o) o))
       ≡ cond t (map_spot (λ s. record s { label = l }) (map_spot (with_loop rows) o)) (map_spot (with_loop rows) o)
@@ -122,17 +123,17 @@ labelled_again sp rows rows' f l hs loops = λ i q. go (is_in q hs) (sp q) i whe
   go false o = ap (λ (g : ℕ → ℕ). map_spot (λ s. record s { label = g s.label }) o) loops
 
 -- the code that was cut off has a label that stands for loop l
-module _ (sp cutted : Spots) (known : ℕ → Bool) (rows rows' : List Label) (b free : ℕ) (R : AreRings cutted) (b_there : live cutted b ≡ true) (whole : AreLabelled (labelled cutted free (ring cutted b)) known rows') where
+module _ (sp cutted : Spots) (known : ℕ → Bool) (rows rows' : List (Option Label)) (b free : ℕ) (R : AreRings cutted) (b_there : live cutted b ≡ true) (whole : AreLabelled (labelled cutted free (ring cutted b)) known rows') where
   pub label_free : label (labelled cutted free (ring cutted b)) b ≡ free
   label_free = label-labelled_in cutted free (ring cutted b) b (R.rings b b_there).item b_there
 
   pub live_free : live (labelled cutted free (ring cutted b)) b ≡ true
   live_free = live-labelled cutted free (ring cutted b) b ∙ b_there
 
-  pub free_below : free < length rows'
-  free_below = subst (λ n. n < length rows') label_free (whole.table.below b live_free)
+  pub free_there : has_row rows' free ≡ true
+  free_there = subst (λ n. has_row rows' n ≡ true) label_free (whole.table.labels_there b live_free)
 
-  pub seen-cut_alone : (a l : ℕ) (new : Spots) (rows2 : List Label) → cutted ≡ spliced_at sp a b → new ≡ labelled cutted free (ring cutted b) → loop_at rows' ≡ loop_at rows → ((q : ℕ) → loop_at rows2 q ≡ cond (nat_eq q free) l (loop_at rows' q)) →
+  pub seen-cut_alone : (a l : ℕ) (new : Spots) (rows2 : List (Option Label)) → cutted ≡ spliced_at sp a b → new ≡ labelled cutted free (ring cutted b) → loop_at rows' ≡ loop_at rows → ((q : ℕ) → loop_at rows2 q ≡ cond (nat_eq q free) l (loop_at rows' q)) →
       in_loops rows2 new ≡ labelled (spliced_at (in_loops rows sp) a b) l (ring (spliced_at (in_loops rows sp) a b) b)
   seen-cut_alone a l new rows2 cut is loops stand =
       ap (in_loops rows2) is
@@ -144,7 +145,7 @@ module _ (sp cutted : Spots) (known : ℕ → Bool) (rows rows' : List Label) (b
       ∙ ap (λ (s : Spots). labelled s l (ring s b)) (loops-spliced rows sp a b)
 
 -- a code that was alone has got the label of a's ring, and stands there
-module _ (sp : Spots) (known : ℕ → Bool) (rows : List Label) (A : AreLabelled sp known rows) (a b : ℕ) (a_there : live sp a ≡ true) (b_there : live sp b ≡ true) (other : label sp b ≢ label sp a) (new : Spots) (is : new ≡ spliced_at (labelled sp (label sp a) (ring sp b)) a b) where
+module _ (sp : Spots) (known : ℕ → Bool) (rows : List (Option Label)) (A : AreLabelled sp known rows) (a b : ℕ) (a_there : live sp a ≡ true) (b_there : live sp b ≡ true) (other : label sp b ≢ label sp a) (new : Spots) (is : new ≡ spliced_at (labelled sp (label sp a) (ring sp b)) a b) where
   abbrev like_a : Spots
   like_a = labelled sp (label sp a) (ring sp b)
 
@@ -158,7 +159,7 @@ module _ (sp : Spots) (known : ℕ → Bool) (rows : List Label) (A : AreLabelle
       (λ q h n. ap (loop_at rows) (label-labelled_out sp (label sp a) (ring sp b) q n)))
 
 -- rings that are seen in different loops have different labels
-pub other_label : (rows : List Label) (m : RingMap) (a b : ℕ) → live (spot m) a ≡ true → live (spot m) b ≡ true → label (spot (map_in_loops rows m)) b ≢ label (spot (map_in_loops rows m)) a → label (spot m) b ≢ label (spot m) a
+pub other_label : (rows : List (Option Label)) (m : RingMap) (a b : ℕ) → live (spot m) a ≡ true → live (spot m) b ≡ true → label (spot (map_in_loops rows m)) b ≢ label (spot (map_in_loops rows m)) a → label (spot m) b ≢ label (spot m) a
 other_label rows m a b h k other e = other (seen_label rows m b k ∙ ap (loop_at rows) e ∙ sym (seen_label rows m a h))
 
 -- what is so once b, which followed a, is cut off
@@ -169,7 +170,7 @@ pub record CutOff (sp : Spots) (a b : ℕ) : Type 0 where
   pub live_cut : live (spliced_at sp a b) b ≡ true
   pub alone : ring (spliced_at sp a b) b ≡ b ∷ []
 
-pub cut_off : (sp : Spots) (known : ℕ → Bool) (rows : List Label) → AreLabelled sp known rows → (a b : ℕ) → live sp a ≡ true → next sp a ≡ b → a ≢ b → CutOff sp a b
+pub cut_off : (sp : Spots) (known : ℕ → Bool) (rows : List (Option Label)) → AreLabelled sp known rows → (a b : ℕ) → live sp a ≡ true → next sp a ≡ b → a ≢ b → CutOff sp a b
 cut_off sp known rows A a b h e ne =
     let together : IsIn b (ring sp a) = subst (λ z. IsIn z (ring sp a)) e (next_in_ring sp A.table.rings a h) in
     let k : live sp b ≡ true = (A.table.rings.rings a h).awake b together in

@@ -1,8 +1,9 @@
 -- Labels where edges come and go.
-use Rattle.std.proofs.Common.{◌≡◌, ◌≢◌, ℕ, ◌≤◌, ◌<◌, Bool, true, false, cond, nat_eq, List, [], ◌∷◌, length, Option, Some, None, is_some, refl, sym, ap, subst, ◌∙◌, arith, true≢false, eq-eqb, ne_eqb, ◌⊎◌, inl, inr}
+use Rattle.std.proofs.Common.{◌≡◌, ◌≢◌, ℕ, ◌≤◌, Bool, true, false, cond, nat_eq, List, [], ◌∷◌, Option, Some, None, is_some, refl, sym, ap, subst, ◌∙◌, arith, true≢false, eq-eqb, ne_eqb, ◌⊎◌, inl, inr}
 use Rattle.std.proofs.lemmas.Bool.{cases_eq}
 use Rattle.std.specs.FinMap.{insert, contains_key}
 use Rattle.raw_ring.specs.Rings.{Spot, RingMap, spot, or_zero, of_spot, ring_of_one, with_label}
+use Rattle.raw_cells.specs.Rows.{has_row}
 use Rattle.boundary_model.specs.Items.{IsIn}
 use Rattle.boundary_model.specs.HalfEdge.{plus, minus}
 use Rattle.boundary_model.proofs.Lists.{tick_le}
@@ -37,36 +38,34 @@ pub live-woken_other : (sp : Spots) (c t l q : ℕ) → q ≢ c → live (woken_
 live-woken_other sp c t l q n = ap (λ b. is_some (cond b (Some (record { next = c; tail = t; label = l })) (sp q))) (ne_eqb q c n)
 
 -- one more code is known
-pub reach_more : (known known' : ℕ → Bool) (end c : ℕ) → ((q : ℕ) → known q ≡ true → q < end) → c < end → ((q : ℕ) → q ≢ c → known' q ≡ known q) → (q : ℕ) → known' q ≡ true → q < end
-reach_more known known' end c reach below only q k = elim (cases_eq q c) [ inl e ↦ omega (arith, e, below) | inr n ↦ reach q (sym (only q n) ∙ k) ]
+pub codes_more : (known known' there : ℕ → Bool) (c : ℕ) → ((q : ℕ) → known q ≡ true → there q ≡ true) → there c ≡ true → ((q : ℕ) → q ≢ c → known' q ≡ known q) → (q : ℕ) → known' q ≡ true → there q ≡ true
+codes_more known known' there c old new only q k = elim (cases_eq q c) [ inl e ↦ ap there e ∙ new | inr n ↦ old q (sym (only q n) ∙ k) ]
 
 -- there is room for more labels
-module _ (sp : Spots) (known : ℕ → Bool) (rows new : List Label) (A : AreLabelled sp known rows) (h : HaveNewLabels rows new) where
-  pub labelled-room : (now : Spots) (known' : ℕ → Bool) → now ≡ sp → ((c : ℕ) → known' c ≡ true → c < length new) → length new ≤ 2000002 → AreLabelled now known' new
-  labelled-room now known' is reach limit = subst (λ s. AreLabelled s known' new) (sym is) (record {
+module _ (sp : Spots) (known : ℕ → Bool) (rows new : List (Option Label)) (A : AreLabelled sp known rows) (h : HaveNewLabels rows new) where
+  pub labelled-room : (now : Spots) (known' : ℕ → Bool) → now ≡ sp → ((c : ℕ) → known' c ≡ true → has_row new c ≡ true) → AreLabelled now known' new
+  labelled-room now known' is codes_there = subst (λ s. AreLabelled s known' new) (sym is) (record {
     table = record {
       rings = A.table.rings;
       owners = owned_more rows new h A.table.owners;
-      reach = reach;
-      below = λ c a. omega (arith, A.table.below c a, h.grows);
-      limit = limit;
+      codes_there = codes_there;
+      labels_there = λ c a. h.kept (label sp c) (A.table.labels_there c a);
     };
-    held = λ c a. subst (λ n. IsIn n (ring sp c)) (sym (holder_same rows new h (label sp c) (A.table.below c a))) (A.held c a);
+    held = λ c a. subst (λ n. IsIn n (ring sp c)) (sym (holder_same rows new h (label sp c) (A.table.labels_there c a))) (A.held c a);
   })
 
   pub loops-room : (now : Spots) → now ≡ sp → in_loops new now ≡ in_loops rows sp
-  loops-room now is = ap (in_loops new) is ∙ loops-same sp sp rows new (λ q. refl) (λ q a. loop_same rows new h (label sp q) (A.table.below q a))
+  loops-room now is = ap (in_loops new) is ∙ loops-same sp sp rows new (λ q. refl) (λ q a. loop_same rows new h (label sp q) (A.table.labels_there q a))
 
-module _ (sp : Spots) (known : ℕ → Bool) (rows : List Label) (A : AreLabelled sp known rows) where
+module _ (sp : Spots) (known : ℕ → Bool) (rows : List (Option Label)) (A : AreLabelled sp known rows) where
   -- a half-edge starts elsewhere
   pub labelled-retailed : (c v : ℕ) (now : Spots) (known' : ℕ → Bool) → now ≡ retailed sp c v → known' ≡ known → AreLabelled now known' rows
   labelled-retailed c v now known' is same = subst (λ k. AreLabelled now k rows) (sym same) (subst (λ s. AreLabelled s known rows) (sym is) (record {
     table = record {
       rings = AreRings-retailed sp A.table.rings c v;
       owners = A.table.owners;
-      reach = A.table.reach;
-      below = λ q a. subst (λ n. n < length rows) (sym (label-retailed sp c v q)) (A.table.below q (sym (live-retailed sp c v q) ∙ a));
-      limit = A.table.limit;
+      codes_there = A.table.codes_there;
+      labels_there = λ q a. subst (λ n. has_row rows n ≡ true) (sym (label-retailed sp c v q)) (A.table.labels_there q (sym (live-retailed sp c v q) ∙ a));
     };
     held = λ q a. subst (λ hs. IsIn (holder rows (label (retailed sp c v) q)) hs) (sym (ring-retailed sp A.table.rings c v q))
         (subst (λ n. IsIn (holder rows n) (ring sp q)) (sym (label-retailed sp c v q)) (A.held q (sym (live-retailed sp c v q) ∙ a)));
@@ -94,9 +93,8 @@ module _ (sp : Spots) (known : ℕ → Bool) (rows : List Label) (A : AreLabelle
       table = record {
         rings = s_rings sp A.table.rings e alone_plus alone_minus;
         owners = A.table.owners;
-        reach = A.table.reach;
-        below = λ c a. let l = s_left sp A.table.rings e alone_plus alone_minus c a in subst (λ n. n < length rows) (sym (label_left c a)) (A.table.below c l.2);
-        limit = A.table.limit;
+        codes_there = A.table.codes_there;
+        labels_there = λ c a. let l = s_left sp A.table.rings e alone_plus alone_minus c a in subst (λ n. has_row rows n ≡ true) (sym (label_left c a)) (A.table.labels_there c l.2);
       };
       held = λ c a. let l = s_left sp A.table.rings e alone_plus alone_minus c a in
           subst (λ hs. IsIn (holder rows (label less c)) hs) (sym (s_ring sp A.table.rings e alone_plus alone_minus c l.2 l.0 l.1).0) (subst (λ n. IsIn (holder rows n) (ring sp c)) (sym (label_left c a)) (A.held c l.2));
@@ -106,7 +104,7 @@ module _ (sp : Spots) (known : ℕ → Bool) (rows : List Label) (A : AreLabelle
   loops-asleep_both e now is = ap (in_loops rows) is ∙ loops-asleep rows (asleep sp (plus e)) (minus e) ∙ ap (λ s. asleep s (minus e)) (loops-asleep rows sp (plus e))
 
   -- an edge wakes, and each half-edge has the label that it owns
-  module _ (e u v : ℕ) (limit : e ≤ 1000000) (dead_plus : live sp (plus e) ≡ false) (dead_minus : live sp (minus e) ≡ false) (plus_known : plus e < length rows) (minus_known : minus e < length rows) where
+  module _ (e u v : ℕ) (limit : e ≤ 1000000) (dead_plus : live sp (plus e) ≡ false) (dead_minus : live sp (minus e) ≡ false) (plus_known : has_row rows (plus e) ≡ true) (minus_known : has_row rows (minus e) ≡ true) where
     abbrev wide : Spots
     wide = woken (woken sp (plus e) u) (minus e) v
 
@@ -183,13 +181,12 @@ module _ (sp : Spots) (known : ℕ → Bool) (rows : List Label) (A : AreLabelle
       table = record {
         rings = now_rings;
         owners = A.table.owners;
-        reach = A.table.reach;
-        below = λ c a. elim (cases_now c a) [
-          | inl p ↦ subst (λ n. n < length rows) (sym (ap (label now) p ∙ label_plus)) (A.table.owners.own_below (plus e) plus_known)
-          | inr (inl p) ↦ subst (λ n. n < length rows) (sym (ap (label now) p ∙ label_minus)) (A.table.owners.own_below (minus e) minus_known)
-          | inr (inr b) ↦ subst (λ n. n < length rows) (sym (now_label c b)) (A.table.below c b)
+        codes_there = A.table.codes_there;
+        labels_there = λ c a. elim (cases_now c a) [
+          | inl p ↦ subst (λ n. has_row rows n ≡ true) (sym (ap (label now) p ∙ label_plus)) (A.table.owners.own_there (plus e) plus_known)
+          | inr (inl p) ↦ subst (λ n. has_row rows n ≡ true) (sym (ap (label now) p ∙ label_minus)) (A.table.owners.own_there (minus e) minus_known)
+          | inr (inr b) ↦ subst (λ n. has_row rows n ≡ true) (sym (now_label c b)) (A.table.labels_there c b)
         ];
-        limit = A.table.limit;
       };
       held = λ c a. elim (cases_now c a) [
         | inl p ↦ holds c x a (ap (label now) p ∙ label_plus) (A.table.owners.held (plus e) plus_known ∙ sym p)
@@ -199,15 +196,15 @@ module _ (sp : Spots) (known : ℕ → Bool) (rows : List Label) (A : AreLabelle
     }
 
     -- no live code has the label that a sleeping one owns
-    not_own : (c q : ℕ) → c < length rows → live sp c ≡ false → live sp q ≡ true → label sp q ≢ own rows c
+    not_own : (c q : ℕ) → has_row rows c ≡ true → live sp c ≡ false → live sp q ≡ true → label sp q ≢ own rows c
     not_own c q below dead a is =
         let h : holder rows (label sp q) ≡ c = ap (holder rows) is ∙ A.table.owners.held c below in
         true≢false (sym (ap (live sp) (sym h) ∙ (A.table.rings.rings q a).awake (holder rows (label sp q)) (A.held q a)) ∙ dead)
 
-    module _ (new : Spots) (known' : ℕ → Bool) (rows' : List Label) (is : new ≡ now) (same : known' ≡ known) (own_same : own rows' ≡ own rows) (holders : holder rows' ≡ holder rows) (len : length rows' ≡ length rows)
+    module _ (new : Spots) (known' : ℕ → Bool) (rows' : List (Option Label)) (is : new ≡ now) (same : known' ≡ known) (own_same : own rows' ≡ own rows) (holders : holder rows' ≡ holder rows) (there : has_row rows' ≡ has_row rows)
         (loops : (q : ℕ) → loop_at rows' q ≡ cond (nat_eq q y) 0 (cond (nat_eq q x) 0 (loop_at rows q))) where
       pub labelled-woken : AreLabelled new known' rows'
-      labelled-woken = subst (λ k. AreLabelled new k rows') (sym same) (subst (λ s. AreLabelled s known rows') (sym is) (labelled_alike now known rows rows' now_labelled own_same holders len))
+      labelled-woken = subst (λ k. AreLabelled new k rows') (sym same) (subst (λ s. AreLabelled s known rows') (sym is) (labelled_alike now known rows rows' now_labelled own_same holders there))
 
       loop_y : loop_at rows' y ≡ 0
       loop_y = loops y ∙ ap (λ b. cond b 0 (cond (nat_eq y x) 0 (loop_at rows y))) (eq-eqb y y refl)

@@ -1,5 +1,6 @@
 -- Labels where rings are cut, joined and put into loops.
-use Rattle.std.proofs.Common.{◌≡◌, ◌≢◌, ℕ, ◌+◌, ◌<◌, Bool, true, List, length, refl, sym, ap, subst, ◌∙◌, arith, cond, nat_eq, eq-eqb, ne_eqb, ◌⊎◌, inl, inr}
+use Rattle.std.proofs.Common.{◌≡◌, ◌≢◌, ℕ, ◌+◌, Bool, true, List, Option, refl, sym, ap, subst, ◌∙◌, arith, cond, nat_eq, eq-eqb, ne_eqb, ◌⊎◌, inl, inr}
+use Rattle.raw_cells.specs.Rows.{has_row}
 use Rattle.boundary_model.specs.Items.{count, IsIn}
 use Rattle.boundary_model.specs.Rings.{cut_left, cut_right, joined}
 use Rattle.boundary_model.proofs.Lists.{IsIn_or_not}
@@ -17,25 +18,24 @@ module _ (sp : Spots) (R : AreRings sp) where
   shared_item a c x k h i j = subst (IsIn c) (sym (ring_meet sp R a c x k h i j)) (R.rings c h).item
 
 -- the same owners and labels: nothing changes but the loops for which labels stand
-pub labelled_alike : (sp : Spots) (known : ℕ → Bool) (rows new : List Label) → AreLabelled sp known rows → own new ≡ own rows → holder new ≡ holder rows → length new ≡ length rows → AreLabelled sp known new
-labelled_alike sp known rows new A o h len = record {
+pub labelled_alike : (sp : Spots) (known : ℕ → Bool) (rows new : List (Option Label)) → AreLabelled sp known rows → own new ≡ own rows → holder new ≡ holder rows → has_row new ≡ has_row rows → AreLabelled sp known new
+labelled_alike sp known rows new A o h there = record {
   table = record {
     rings = A.table.rings;
-    owners = subst (λ n. AreOwned (own new) (holder new) n) (sym len) (subst (λ f. AreOwned f (holder new) (length rows)) (sym o) (subst (λ f. AreOwned (own rows) f (length rows)) (sym h) A.table.owners));
-    reach = λ c k. omega (arith, len, A.table.reach c k);
-    below = λ c a. omega (arith, len, A.table.below c a);
-    limit = omega (arith, len, A.table.limit);
+    owners = subst (λ t. AreOwned (own new) (holder new) t) (sym there) (subst (λ f. AreOwned f (holder new) (has_row rows)) (sym o) (subst (λ f. AreOwned (own rows) f (has_row rows)) (sym h) A.table.owners));
+    codes_there = λ c k. ap (λ t. t c) there ∙ A.table.codes_there c k;
+    labels_there = λ c a. ap (λ t. t (label sp c)) there ∙ A.table.labels_there c a;
   };
   held = λ c a. subst (λ (f : ℕ → ℕ). IsIn (f (label sp c)) (ring sp c)) (sym h) (A.held c a);
 }
 
-module _ (sp : Spots) (known : ℕ → Bool) (rows : List Label) (A : AreLabelled sp known rows) where
+module _ (sp : Spots) (known : ℕ → Bool) (rows : List (Option Label)) (A : AreLabelled sp known rows) where
   -- two codes with one label stand in one ring
   same_label : (c d : ℕ) → live sp c ≡ true → live sp d ≡ true → label sp d ≡ label sp c → IsIn d (ring sp c)
   same_label c d h k e = shared_item sp A.table.rings c d (holder rows (label sp c)) h k (A.held c h) (subst (λ n. IsIn (holder rows n) (ring sp d)) e (A.held d k))
 
   -- the label of a ring stands for loop l now
-  pub loops-put : (new : List Label) (c l : ℕ) → live sp c ≡ true → ((q : ℕ) → loop_at new q ≡ cond (nat_eq q (label sp c)) l (loop_at rows q)) → in_loops new sp ≡ labelled (in_loops rows sp) l (ring sp c)
+  pub loops-put : (new : List (Option Label)) (c l : ℕ) → live sp c ≡ true → ((q : ℕ) → loop_at new q ≡ cond (nat_eq q (label sp c)) l (loop_at rows q)) → in_loops new sp ≡ labelled (in_loops rows sp) l (ring sp c)
   loops-put new c l h is = loops-labelled sp sp rows new l (ring sp c) (λ q. refl)
       (λ q k i. is (label sp q) ∙ ap (λ b. cond b l (loop_at rows (label sp q))) (eq-eqb (label sp q) (label sp c) ((A.table.rings.rings c h).one_label q i)))
       (λ q k n. is (label sp q) ∙ ap (λ b. cond b l (loop_at rows (label sp q))) (ne_eqb (label sp q) (label sp c) (λ e. let i = same_label c q h k e in absurd (omega arith))))
@@ -65,9 +65,8 @@ module _ (sp : Spots) (known : ℕ → Bool) (rows : List Label) (A : AreLabelle
       table = record {
         rings = AreRings-cut sp A.table.rings a b a_there cut_b_there together ne;
         owners = A.table.owners;
-        reach = A.table.reach;
-        below = λ c h. subst (λ n. n < length rows) (sym (label-spliced sp a b c)) (A.table.below c (sym (live-spliced sp a b c) ∙ h));
-        limit = A.table.limit;
+        codes_there = A.table.codes_there;
+        labels_there = λ c h. subst (λ n. has_row rows n ≡ true) (sym (label-spliced sp a b c)) (A.table.labels_there c (sym (live-spliced sp a b c) ∙ h));
       };
       a_there = live-spliced sp a b a ∙ a_there;
       b_there = live-spliced sp a b b ∙ cut_b_there;
@@ -109,12 +108,11 @@ module _ (sp : Spots) (known : ℕ → Bool) (rows : List Label) (A : AreLabelle
       table = record {
         rings = AreRings-labelled sp A.table.rings a lb a_there;
         owners = A.table.owners;
-        reach = A.table.reach;
-        below = λ c h. let k = sym (live-labelled sp lb (ring sp a) c) ∙ h in elim (IsIn_or_not c (ring sp a)) [
-          | inl i ↦ subst (λ n. n < length rows) (sym (label-labelled_in sp lb (ring sp a) c i k)) (A.table.below b b_there)
-          | inr n ↦ subst (λ n. n < length rows) (sym (label-labelled_out sp lb (ring sp a) c n)) (A.table.below c k)
+        codes_there = A.table.codes_there;
+        labels_there = λ c h. let k = sym (live-labelled sp lb (ring sp a) c) ∙ h in elim (IsIn_or_not c (ring sp a)) [
+          | inl i ↦ subst (λ n. has_row rows n ≡ true) (sym (label-labelled_in sp lb (ring sp a) c i k)) (A.table.labels_there b b_there)
+          | inr n ↦ subst (λ n. has_row rows n ≡ true) (sym (label-labelled_out sp lb (ring sp a) c n)) (A.table.labels_there c k)
         ];
-        limit = A.table.limit;
       };
       a_there = live-labelled sp lb (ring sp a) a ∙ a_there;
       b_there = live-labelled sp lb (ring sp a) b ∙ b_there;
@@ -135,7 +133,7 @@ module _ (sp : Spots) (known : ℕ → Bool) (rows : List Label) (A : AreLabelle
     relabelled-share new is = subst (λ s. IsRelabelled sp s a b) (sym is) (record { same = blank-labelled sp lb (ring sp a); others = λ q h n m. label-labelled_out sp lb (ring sp a) q n })
 
 -- which of the two comes first is the same
-pub share_turned : (sp : Spots) (known : ℕ → Bool) (rows : List Label) (a b : ℕ) → ShareLabel sp known rows a b → ShareLabel sp known rows b a
+pub share_turned : (sp : Spots) (known : ℕ → Bool) (rows : List (Option Label)) (a b : ℕ) → ShareLabel sp known rows a b → ShareLabel sp known rows b a
 share_turned sp known rows a b S = record {
   table = S.table;
   a_there = S.b_there;
@@ -152,7 +150,7 @@ share_turned sp known rows a b S = record {
 relabelled_turned : (sp new : Spots) (a b : ℕ) → IsRelabelled sp new a b → IsRelabelled sp new b a
 relabelled_turned sp new a b r = record { same = r.same; others = λ q h n m. r.others q h m n }
 
-module _ (sp : Spots) (known : ℕ → Bool) (rows : List Label) (A : AreLabelled sp known rows) (a b : ℕ) (a_there : live sp a ≡ true) (b_there : live sp b ≡ true) (other : label sp b ≢ label sp a) where
+module _ (sp : Spots) (known : ℕ → Bool) (rows : List (Option Label)) (A : AreLabelled sp known rows) (a b : ℕ) (a_there : live sp a ≡ true) (b_there : live sp b ≡ true) (other : label sp b ≢ label sp a) where
   pub share-one : (new : Spots) (known' : ℕ → Bool) → HaveOneLabel sp new a b → known' ≡ known → ShareLabel new known' rows a b
   share-one new known' (inl is) same = share-label sp known rows A a b a_there b_there other new known' is same
   share-one new known' (inr is) same = share_turned new known' rows b a (share-label sp known rows A b a b_there a_there (λ e. other (sym e)) new known' is same)
@@ -161,7 +159,7 @@ module _ (sp : Spots) (known : ℕ → Bool) (rows : List Label) (A : AreLabelle
   relabelled-one new (inl is) = relabelled-share sp known rows A a b a_there b_there other new is
   relabelled-one new (inr is) = relabelled_turned sp new b a (relabelled-share sp known rows A b a b_there a_there (λ e. other (sym e)) new is)
 
-module _ (sp : Spots) (known : ℕ → Bool) (rows : List Label) (a b : ℕ) (S : ShareLabel sp known rows a b) where
+module _ (sp : Spots) (known : ℕ → Bool) (rows : List (Option Label)) (a b : ℕ) (S : ShareLabel sp known rows a b) where
   abbrev x : ℕ
   x = label sp b
 
@@ -172,18 +170,18 @@ module _ (sp : Spots) (known : ℕ → Bool) (rows : List Label) (a b : ℕ) (S 
   ]
 
   -- the ring of b keeps the label, which b owns now, and the ring of a gets the label that a owns
-  module _ (new : Spots) (rows' : List Label) (b_known : b < length rows) (a_known : a < length rows) (len : length rows' ≡ length rows)
+  module _ (new : Spots) (rows' : List (Option Label)) (b_known : has_row rows b ≡ true) (a_known : has_row rows a ≡ true) (there : has_row rows' ≡ has_row rows)
       (own_is : (q : ℕ) → own rows' q ≡ cond (nat_eq q b) x (cond (nat_eq q (holder rows x)) (own rows b) (own rows q)))
       (holder_is : (q : ℕ) → holder rows' q ≡ cond (nat_eq q x) b (cond (nat_eq q (own rows b)) (holder rows x) (holder rows q)))
       (is : new ≡ labelled sp (own rows' a) (ring sp a)) where
     abbrev y : ℕ
     y = own rows' a
 
-    owners' : AreOwned (own rows') (holder rows') (length rows)
-    owners' = handed_over (own rows) (holder rows) (length rows) S.table.owners (own rows') (holder rows') b x b_known (S.table.below b S.b_there) own_is holder_is
+    owners' : AreOwned (own rows') (holder rows') (has_row rows)
+    owners' = handed_over (own rows) (holder rows) (has_row rows) S.table.owners (own rows') (holder rows') b x b_known (S.table.labels_there b S.b_there) own_is holder_is
 
     holder_of_x : holder rows' x ≡ b
-    holder_of_x = holder_x (own rows) (holder rows) (length rows) S.table.owners (own rows') (holder rows') b x b_known (S.table.below b S.b_there) own_is holder_is
+    holder_of_x = holder_x (own rows) (holder rows) (has_row rows) S.table.owners (own rows') (holder rows') b x b_known (S.table.labels_there b S.b_there) own_is holder_is
 
     abbrev now : Spots
     now = labelled sp y (ring sp a)
@@ -215,19 +213,18 @@ module _ (sp : Spots) (known : ℕ → Bool) (rows : List Label) (a b : ℕ) (S 
         let j : IsIn c (ring sp b) = shared_item sp S.table.rings b c b S.b_there h (S.table.rings.rings b S.b_there).item k in
         absurd (omega arith) in
         holds c (label sp c) (label-labelled_out sp y (ring sp a) c n)
-        (subst (λ w. IsIn w (ring sp c)) (sym (holder_other (own rows) (holder rows) (length rows) S.table.owners (own rows') (holder rows') b x b_known (S.table.below b S.b_there) own_is holder_is (label sp c) not_x not_own)) i)
+        (subst (λ w. IsIn w (ring sp c)) (sym (holder_other (own rows) (holder rows) (has_row rows) S.table.owners (own rows') (holder rows') b x b_known (S.table.labels_there b S.b_there) own_is holder_is (label sp c) not_x not_own)) i)
 
     now_labelled : AreLabelled now known rows'
     now_labelled = record {
       table = record {
         rings = AreRings-labelled sp S.table.rings a y S.a_there;
-        owners = subst (λ n. AreOwned (own rows') (holder rows') n) (sym len) owners';
-        reach = λ c k. omega (arith, len, S.table.reach c k);
-        below = λ c h. let k = sym (live_are c) ∙ h in elim (IsIn_or_not c (ring sp a)) [
-          | inl i ↦ subst (λ n. n < length rows') (sym (label-labelled_in sp y (ring sp a) c i k)) (omega (arith, len, owners'.own_below a a_known))
-          | inr n ↦ subst (λ n. n < length rows') (sym (label-labelled_out sp y (ring sp a) c n)) (omega (arith, len, S.table.below c k))
+        owners = subst (λ t. AreOwned (own rows') (holder rows') t) (sym there) owners';
+        codes_there = λ c k. ap (λ t. t c) there ∙ S.table.codes_there c k;
+        labels_there = λ c h. let k = sym (live_are c) ∙ h in elim (IsIn_or_not c (ring sp a)) [
+          | inl i ↦ subst (λ n. has_row rows' n ≡ true) (sym (label-labelled_in sp y (ring sp a) c i k)) (ap (λ t. t y) there ∙ owners'.own_there a a_known)
+          | inr n ↦ subst (λ n. has_row rows' n ≡ true) (sym (label-labelled_out sp y (ring sp a) c n)) (ap (λ t. t (label sp c)) there ∙ S.table.labels_there c k)
         ];
-        limit = omega (arith, len, S.table.limit);
       };
       held = λ c h. let k = sym (live_are c) ∙ h in elim (IsIn_or_not c (ring sp a)) [
         | inl i ↦ held_in_a c k i
@@ -247,9 +244,8 @@ module _ (sp : Spots) (known : ℕ → Bool) (rows : List Label) (a b : ℕ) (S 
     table = record {
       rings = AreRings-join sp S.table.rings a b S.a_there S.b_there S.apart S.one;
       owners = S.table.owners;
-      reach = S.table.reach;
-      below = λ c h. subst (λ n. n < length rows) (sym (label-spliced sp a b c)) (S.table.below c (sym (live-spliced sp a b c) ∙ h));
-      limit = S.table.limit;
+      codes_there = S.table.codes_there;
+      labels_there = λ c h. subst (λ n. has_row rows n ≡ true) (sym (label-spliced sp a b c)) (S.table.labels_there c (sym (live-spliced sp a b c) ∙ h));
     };
     held = λ c h. let k = sym (live-spliced sp a b c) ∙ h in elim (IsIn_or_not c (joined a b (ring sp a) (ring sp b))) [
       | inl i ↦ in_joint c k i

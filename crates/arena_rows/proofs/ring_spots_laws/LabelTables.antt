@@ -1,24 +1,68 @@
 -- The table of labels, where rows come and where a label gets another owner.
-use Rattle.std.proofs.Common.{◌≡◌, ◌≢◌, ℕ, ◌+◌, ◌≤◌, ◌<◌, cond, nat_eq, List, [], ◌∷◌, ◌++◌, length, refl, sym, ap, subst, ◌∙◌, arith, eq-eqb, ne_eqb, inl, inr}
+use Rattle.std.proofs.Common.{◌≡◌, ◌≢◌, ℕ, Bool, true, false, cond, nat_eq, List, Option, Some, is_some, unwrap_or, refl, sym, ap, subst, ◌∙◌, eq-eqb, ne_eqb, true≢false, ◌⊎◌, inl, inr}
 use Rattle.std.proofs.lemmas.Bool.Decides.{eqb_tells}
-use Rattle.std.proofs.lemmas.Bool.{cases_lt}
-use Rattle.std.proofs.lemmas.List.{get_or_append_left, get_or_push, length-append}
+use Rattle.raw_cells.specs.Rows.{row_at, has_row}
 use Rattle.arena_rows.specs.declared.ring_spots.labels.Label.{Label}
-use Rattle.arena_rows.specs.ring_spots.Labels.{new_label, own, holder, loop_at, AreOwned, HaveNewLabels}
+use Rattle.arena_rows.specs.ring_spots.Labels.{new_label, row_of, own, holder, loop_at, AreOwned, HaveNewLabels}
 
-pub one_new : (rows mid : List Label) (n : ℕ) → HaveNewLabels rows mid → length mid ≡ n → HaveNewLabels rows (mid ++ new_label n ∷ [])
-one_new rows mid n h e = let len : length (mid ++ new_label n ∷ []) ≡ length mid + 1 = length-append mid (new_label n ∷ []) in record {
-  grows = omega (arith, h.grows, len);
-  same = λ k l. get_or_append_left mid (new_label n ∷ []) (new_label 0) k (omega (arith, h.grows, l)) ∙ h.same k l;
-  added = λ k l m. elim (cases_lt k (length mid)) [
-    | inl p ↦ get_or_append_left mid (new_label n ∷ []) (new_label 0) k p ∙ h.added k l p
-    | inr p ↦ let is : length mid ≡ k = omega (arith, len) in get_or_push mid (new_label n) (new_label 0) k is ∙ ap new_label (sym e ∙ is)
-  ];
+yes_or_no : (b : Bool) → (b ≡ true) ⊎ (b ≡ false)
+yes_or_no true = inl refl
+yes_or_no false = inr refl
+
+-- one row is written, in place of another or where there was none
+module _ (rows new : List (Option Label)) (n : ℕ) (row : Label) (is : (q : ℕ) → row_at new q ≡ cond (nat_eq q n) (Some row) (row_at rows q)) where
+  read_here : (q : ℕ) → q ≡ n → row_at new q ≡ Some row
+  read_here q e = is q ∙ ap (λ b. cond b (Some row) (row_at rows q)) (eq-eqb q n e)
+
+  read_other : (q : ℕ) → q ≢ n → row_at new q ≡ row_at rows q
+  read_other q ne = is q ∙ ap (λ b. cond b (Some row) (row_at rows q)) (ne_eqb q n ne)
+
+  pub written : (f : Label → ℕ) (q : ℕ) → f (row_of new q) ≡ cond (nat_eq q n) (f row) (f (row_of rows q))
+  written f q = elim (eqb_tells q n) [
+    | inl p ↦ ap (λ o. f (unwrap_or o (new_label 0))) (read_here q p.1) ∙ sym (ap (λ b. cond b (f row) (f (row_of rows q))) p.0)
+    | inr p ↦ ap (λ o. f (unwrap_or o (new_label 0))) (read_other q p.1) ∙ sym (ap (λ b. cond b (f row) (f (row_of rows q))) p.0)
+  ]
+
+  -- what the new row has as the old one had it
+  pub unwritten : (f : Label → ℕ) (old : Label) → row_at rows n ≡ Some old → f row ≡ f old → (q : ℕ) → f (row_of new q) ≡ f (row_of rows q)
+  unwritten f old e same q = elim (eqb_tells q n) [
+    | inl p ↦ ap (λ o. f (unwrap_or o (new_label 0))) (read_here q p.1) ∙ same ∙ sym (ap (λ o. f (unwrap_or o (new_label 0))) (ap (row_at rows) p.1 ∙ e))
+    | inr p ↦ ap (λ o. f (unwrap_or o (new_label 0))) (read_other q p.1)
+  ]
+
+  pub still_there : (old : Label) → row_at rows n ≡ Some old → (q : ℕ) → has_row new q ≡ has_row rows q
+  still_there old e q = elim (eqb_tells q n) [
+    | inl p ↦ ap is_some (read_here q p.1) ∙ sym (ap is_some (ap (row_at rows) p.1 ∙ e))
+    | inr p ↦ ap is_some (read_other q p.1)
+  ]
+
+  pub there_now : has_row new n ≡ true
+  there_now = ap is_some (read_here n refl)
+
+  -- a new code, which owns the label of its own number
+  pub one_new : row ≡ new_label n → has_row rows n ≡ false → HaveNewLabels rows new
+  one_new e free = record {
+    kept = λ k h. ap is_some (read_other k (apart k h)) ∙ h;
+    same = λ k h. ap (λ o. unwrap_or o (new_label 0)) (read_other k (apart k h));
+    added = λ k f h. elim (eqb_tells k n) [
+      | inl p ↦ ap (λ o. unwrap_or o (new_label 0)) (read_here k p.1) ∙ e ∙ ap new_label (sym p.1)
+      | inr p ↦ absurd (true≢false (sym h ∙ ap is_some (read_other k p.1) ∙ f))
+    ];
+  } where
+    apart : (k : ℕ) → has_row rows k ≡ true → k ≢ n
+    apart k h p = true≢false (sym h ∙ ap (has_row rows) p ∙ free)
+
+-- no new code
+pub none_new : (rows new : List (Option Label)) → ((q : ℕ) → row_at new q ≡ row_at rows q) → HaveNewLabels rows new
+none_new rows new same = record {
+  kept = λ k h. ap is_some (same k) ∙ h;
+  same = λ k h. ap (λ o. unwrap_or o (new_label 0)) (same k);
+  added = λ k f h. absurd (true≢false (sym h ∙ ap is_some (same k) ∙ f));
 }
 
-module _ (own holder : ℕ → ℕ) (end : ℕ) (A : AreOwned own holder end) where
+module _ (own holder : ℕ → ℕ) (there : ℕ → Bool) (A : AreOwned own holder there) where
   -- a code becomes the owner of label x, and the code that owned it gets the other one's label
-  module _ (own' holder' : ℕ → ℕ) (c x : ℕ) (c_below : c < end) (x_below : x < end) (own_is : (q : ℕ) → own' q ≡ cond (nat_eq q c) x (cond (nat_eq q (holder x)) (own c) (own q)))
+  module _ (own' holder' : ℕ → ℕ) (c x : ℕ) (c_there : there c ≡ true) (x_there : there x ≡ true) (own_is : (q : ℕ) → own' q ≡ cond (nat_eq q c) x (cond (nat_eq q (holder x)) (own c) (own q)))
       (holder_is : (q : ℕ) → holder' q ≡ cond (nat_eq q x) c (cond (nat_eq q (own c)) (holder x) (holder q))) where
     own_c : own' c ≡ x
     own_c = own_is c ∙ ap (λ b. cond b x (cond (nat_eq c (holder x)) (own c) (own c))) (eq-eqb c c refl)
@@ -38,70 +82,70 @@ module _ (own holder : ℕ → ℕ) (end : ℕ) (A : AreOwned own holder end) wh
     pub holder_other : (q : ℕ) → q ≢ x → q ≢ own c → holder' q ≡ holder q
     holder_other q n m = holder_is q ∙ ap (λ b. cond b c (cond (nat_eq q (own c)) (holder x) (holder q))) (ne_eqb q x n) ∙ ap (λ b. cond b (holder x) (holder q)) (ne_eqb q (own c) m)
 
-    pub handed_over : AreOwned own' holder' end
+    pub handed_over : AreOwned own' holder' there
     handed_over = record {
-      own_below = λ q l. elim (eqb_tells q c) [
-        | inl p ↦ subst (λ z. z < end) (sym (ap own' p.1 ∙ own_c)) x_below
+      own_there = λ q l. elim (eqb_tells q c) [
+        | inl p ↦ subst (λ z. there z ≡ true) (sym (ap own' p.1 ∙ own_c)) x_there
         | inr n ↦ elim (eqb_tells q (holder x)) [
-          | inl r ↦ subst (λ z. z < end) (sym (own_before q n.1 r.1)) (A.own_below c c_below)
-          | inr m ↦ subst (λ z. z < end) (sym (own_other q n.1 m.1)) (A.own_below q l)
+          | inl r ↦ subst (λ z. there z ≡ true) (sym (own_before q n.1 r.1)) (A.own_there c c_there)
+          | inr m ↦ subst (λ z. there z ≡ true) (sym (own_other q n.1 m.1)) (A.own_there q l)
         ]
       ];
-      holder_below = λ q l. elim (eqb_tells q x) [
-        | inl p ↦ subst (λ z. z < end) (sym (ap holder' p.1 ∙ holder_x)) c_below
+      holder_there = λ q l. elim (eqb_tells q x) [
+        | inl p ↦ subst (λ z. there z ≡ true) (sym (ap holder' p.1 ∙ holder_x)) c_there
         | inr n ↦ elim (eqb_tells q (own c)) [
-          | inl r ↦ subst (λ z. z < end) (sym (holder_before q n.1 r.1)) (A.holder_below x x_below)
-          | inr m ↦ subst (λ z. z < end) (sym (holder_other q n.1 m.1)) (A.holder_below q l)
+          | inl r ↦ subst (λ z. there z ≡ true) (sym (holder_before q n.1 r.1)) (A.holder_there x x_there)
+          | inr m ↦ subst (λ z. there z ≡ true) (sym (holder_other q n.1 m.1)) (A.holder_there q l)
         ]
       ];
       held = λ q l. elim (eqb_tells q c) [
         | inl p ↦ ap holder' (ap own' p.1 ∙ own_c) ∙ holder_x ∙ sym p.1
         | inr n ↦ elim (eqb_tells q (holder x)) [
-          | inl r ↦ ap holder' (own_before q n.1 r.1) ∙ holder_before (own c) (λ e. n.1 (r.1 ∙ sym (ap holder e) ∙ A.held c c_below)) refl ∙ sym r.1
-          | inr m ↦ ap holder' (own_other q n.1 m.1) ∙ holder_other (own q) (λ e. m.1 (sym (A.held q l) ∙ ap holder e)) (λ e. n.1 (sym (A.held q l) ∙ ap holder e ∙ A.held c c_below)) ∙ A.held q l
+          | inl r ↦ ap holder' (own_before q n.1 r.1) ∙ holder_before (own c) (λ e. n.1 (r.1 ∙ sym (ap holder e) ∙ A.held c c_there)) refl ∙ sym r.1
+          | inr m ↦ ap holder' (own_other q n.1 m.1) ∙ holder_other (own q) (λ e. m.1 (sym (A.held q l) ∙ ap holder e)) (λ e. n.1 (sym (A.held q l) ∙ ap holder e ∙ A.held c c_there)) ∙ A.held q l
         ]
       ];
       owned = λ q l. elim (eqb_tells q x) [
         | inl p ↦ ap own' (ap holder' p.1 ∙ holder_x) ∙ own_c ∙ sym p.1
         | inr n ↦ elim (eqb_tells q (own c)) [
-          | inl r ↦ ap own' (holder_before q n.1 r.1) ∙ own_before (holder x) (λ e. n.1 (r.1 ∙ ap own (sym e) ∙ A.owned x x_below)) refl ∙ sym r.1
-          | inr m ↦ ap own' (holder_other q n.1 m.1) ∙ own_other (holder q) (λ e. m.1 (sym (A.owned q l) ∙ ap own e)) (λ e. n.1 (sym (A.owned q l) ∙ ap own e ∙ A.owned x x_below)) ∙ A.owned q l
+          | inl r ↦ ap own' (holder_before q n.1 r.1) ∙ own_before (holder x) (λ e. n.1 (r.1 ∙ ap own (sym e) ∙ A.owned x x_there)) refl ∙ sym r.1
+          | inr m ↦ ap own' (holder_other q n.1 m.1) ∙ own_other (holder q) (λ e. m.1 (sym (A.owned q l) ∙ ap own e)) (λ e. n.1 (sym (A.owned q l) ∙ ap own e ∙ A.owned x x_there)) ∙ A.owned q l
         ]
       ];
     }
 
-module _ (rows new : List Label) (h : HaveNewLabels rows new) where
-  pub own_same : (n : ℕ) → n < length rows → own new n ≡ own rows n
+module _ (rows new : List (Option Label)) (h : HaveNewLabels rows new) where
+  pub own_same : (n : ℕ) → has_row rows n ≡ true → own new n ≡ own rows n
   own_same n l = ap (λ (r : Label). r.own) (h.same n l)
 
-  pub holder_same : (n : ℕ) → n < length rows → holder new n ≡ holder rows n
+  pub holder_same : (n : ℕ) → has_row rows n ≡ true → holder new n ≡ holder rows n
   holder_same n l = ap (λ (r : Label). r.holder) (h.same n l)
 
-  pub loop_same : (n : ℕ) → n < length rows → loop_at new n ≡ loop_at rows n
+  pub loop_same : (n : ℕ) → has_row rows n ≡ true → loop_at new n ≡ loop_at rows n
   loop_same n l = ap (λ (r : Label). r.loop_number) (h.same n l)
 
-  own_new : (n : ℕ) → length rows ≤ n → n < length new → own new n ≡ n
-  own_new n l m = ap (λ (r : Label). r.own) (h.added n l m)
+  own_new : (n : ℕ) → has_row rows n ≡ false → has_row new n ≡ true → own new n ≡ n
+  own_new n f l = ap (λ (r : Label). r.own) (h.added n f l)
 
-  holder_new : (n : ℕ) → length rows ≤ n → n < length new → holder new n ≡ n
-  holder_new n l m = ap (λ (r : Label). r.holder) (h.added n l m)
+  holder_new : (n : ℕ) → has_row rows n ≡ false → has_row new n ≡ true → holder new n ≡ n
+  holder_new n f l = ap (λ (r : Label). r.holder) (h.added n f l)
 
-  pub owned_more : AreOwned (own rows) (holder rows) (length rows) → AreOwned (own new) (holder new) (length new)
+  pub owned_more : AreOwned (own rows) (holder rows) (has_row rows) → AreOwned (own new) (holder new) (has_row new)
   owned_more A = record {
-    own_below = λ n l. elim (cases_lt n (length rows)) [
-      | inl p ↦ subst (λ z. z < length new) (sym (own_same n p)) (omega (arith, A.own_below n p, h.grows))
-      | inr p ↦ subst (λ z. z < length new) (sym (own_new n p l)) l
+    own_there = λ n l. elim (yes_or_no (has_row rows n)) [
+      | inl p ↦ subst (λ z. has_row new z ≡ true) (sym (own_same n p)) (h.kept (own rows n) (A.own_there n p))
+      | inr f ↦ subst (λ z. has_row new z ≡ true) (sym (own_new n f l)) l
     ];
-    holder_below = λ n l. elim (cases_lt n (length rows)) [
-      | inl p ↦ subst (λ z. z < length new) (sym (holder_same n p)) (omega (arith, A.holder_below n p, h.grows))
-      | inr p ↦ subst (λ z. z < length new) (sym (holder_new n p l)) l
+    holder_there = λ n l. elim (yes_or_no (has_row rows n)) [
+      | inl p ↦ subst (λ z. has_row new z ≡ true) (sym (holder_same n p)) (h.kept (holder rows n) (A.holder_there n p))
+      | inr f ↦ subst (λ z. has_row new z ≡ true) (sym (holder_new n f l)) l
     ];
-    held = λ n l. elim (cases_lt n (length rows)) [
-      | inl p ↦ ap (holder new) (own_same n p) ∙ holder_same (own rows n) (A.own_below n p) ∙ A.held n p
-      | inr p ↦ ap (holder new) (own_new n p l) ∙ holder_new n p l
+    held = λ n l. elim (yes_or_no (has_row rows n)) [
+      | inl p ↦ ap (holder new) (own_same n p) ∙ holder_same (own rows n) (A.own_there n p) ∙ A.held n p
+      | inr f ↦ ap (holder new) (own_new n f l) ∙ holder_new n f l
     ];
-    owned = λ n l. elim (cases_lt n (length rows)) [
-      | inl p ↦ ap (own new) (holder_same n p) ∙ own_same (holder rows n) (A.holder_below n p) ∙ A.owned n p
-      | inr p ↦ ap (own new) (holder_new n p l) ∙ own_new n p l
+    owned = λ n l. elim (yes_or_no (has_row rows n)) [
+      | inl p ↦ ap (own new) (holder_same n p) ∙ own_same (holder rows n) (A.holder_there n p) ∙ A.owned n p
+      | inr f ↦ ap (own new) (holder_new n f l) ∙ own_new n f l
     ];
   }

@@ -40,7 +40,7 @@ blank-labelled sp l hs q = either but_label (is_in q hs) _ _ _ (go (sp q)) refl 
   go None = refl
   go (Some s) = refl
 
-pub blank-loops : (rows : List Label) (sp : Spots) (q : ℕ) → but_label (in_loops rows sp q) ≡ but_label (sp q)
+pub blank-loops : (rows : List (Option Label)) (sp : Spots) (q : ℕ) → but_label (in_loops rows sp q) ≡ but_label (sp q)
 blank-loops rows sp q = go (sp q) where
   go : (o : Option Spot) → but_label (map_spot (with_loop rows) o) ≡ but_label o
   go None = refl
@@ -65,7 +65,7 @@ module _ (sp new : Spots) (same : (q : ℕ) → but_label (new q) ≡ but_label 
     mates = λ c a. live-alike (mate c) ∙ R.mates c (sym (live-alike c) ∙ a);
   }
 
-module _ (rows : List Label) (sp : Spots) where
+module _ (rows : List (Option Label)) (sp : Spots) where
   pub live-loops : (q : ℕ) → live (in_loops rows sp) q ≡ live sp q
   live-loops = live-alike sp (in_loops rows sp) (blank-loops rows sp)
 
@@ -101,7 +101,7 @@ module _ (rows : List Label) (sp : Spots) where
     go n (Some s) = refl
 
 -- the loops where labels change: the items of hs stand in loop l now, and the others where they stood
-pub loops-labelled : (sp new : Spots) (rows rows' : List Label) (l : ℕ) (hs : List ℕ) → ((q : ℕ) → but_label (new q) ≡ but_label (sp q)) → ((q : ℕ) → live sp q ≡ true → IsIn q hs → loop_at rows' (label new q) ≡ l) →
+pub loops-labelled : (sp new : Spots) (rows rows' : List (Option Label)) (l : ℕ) (hs : List ℕ) → ((q : ℕ) → but_label (new q) ≡ but_label (sp q)) → ((q : ℕ) → live sp q ≡ true → IsIn q hs → loop_at rows' (label new q) ≡ l) →
     ((q : ℕ) → live sp q ≡ true → count q hs ≡ 0 → loop_at rows' (label new q) ≡ loop_at rows (label sp q)) → in_loops rows' new ≡ labelled (in_loops rows sp) l hs
 loops-labelled sp new rows rows' l hs same inside outside =
     same_spots (in_loops rows' new) (labelled (in_loops rows sp) l hs) (λ q. blank-loops rows' new q ∙ same q ∙ sym (blank-labelled (in_loops rows sp) l hs q ∙ blank-loops rows sp q)) (λ q a.
@@ -113,7 +113,7 @@ loops-labelled sp new rows rows' l hs same inside outside =
     ])
 
 -- nothing is seen of a change of labels that stand for the same loops
-pub loops-same : (sp new : Spots) (rows rows' : List Label) → ((q : ℕ) → but_label (new q) ≡ but_label (sp q)) → ((q : ℕ) → live sp q ≡ true → loop_at rows' (label new q) ≡ loop_at rows (label sp q)) → in_loops rows' new ≡ in_loops rows sp
+pub loops-same : (sp new : Spots) (rows rows' : List (Option Label)) → ((q : ℕ) → but_label (new q) ≡ but_label (sp q)) → ((q : ℕ) → live sp q ≡ true → loop_at rows' (label new q) ≡ loop_at rows (label sp q)) → in_loops rows' new ≡ in_loops rows sp
 loops-same sp new rows rows' same loops = same_spots (in_loops rows' new) (in_loops rows sp) (λ q. blank-loops rows' new q ∙ same q ∙ sym (blank-loops rows sp q)) (λ q a.
     let b : live new q ≡ true = sym (live-loops rows' new q) ∙ a in
     let c : live sp q ≡ true = sym (live-alike sp new same q) ∙ b in
@@ -121,7 +121,7 @@ loops-same sp new rows rows' same loops = same_spots (in_loops rows' new) (in_lo
 
 -- ---- the map that a contract sees
 
-module _ (rows : List Label) (m : RingMap) where
+module _ (rows : List (Option Label)) (m : RingMap) where
   pub get-loops : (q : ℕ) → get (map_in_loops rows m) q ≡ option_map (map_spot (with_loop rows)) (get m q)
   unfolding map_in_loops table.get
   get-loops q = get-from_entries nat_cmp_total (map_rows (λ _ o. map_spot (with_loop rows) o) (rows_of m)).rows q ∙ get-map_rows (λ _ o. map_spot (with_loop rows) o) (rows_of m) q ∙ ap (option_map (map_spot (with_loop rows))) (sym (get-entries m q))

@@ -18,7 +18,7 @@ labelled-spliced sp l hs a b = (λ i q. go (is_in q hs) (splice (next sp) a b q)
   go true n (Some s) = refl
   go false n o = refl
 
-module _ (sp now : Spots) (rows rows' : List Label) (a b kept : ℕ) (r : IsRelabelled sp now a b) (loops : loop_at rows' ≡ loop_at rows) (at_a : (q : ℕ) → live sp q ≡ true → IsIn q (ring sp a) → loop_at rows (label sp q) ≡ kept) where
+module _ (sp now : Spots) (rows rows' : List (Option Label)) (a b kept : ℕ) (r : IsRelabelled sp now a b) (loops : loop_at rows' ≡ loop_at rows) (at_a : (q : ℕ) → live sp q ≡ true → IsIn q (ring sp a) → loop_at rows (label sp q) ≡ kept) where
   rings_are : (q : ℕ) → ring now q ≡ ring sp q
   rings_are q = ring-alike sp now r.same q
 
@@ -70,9 +70,9 @@ module _ (sp now : Spots) (rows rows' : List Label) (a b kept : ℕ) (r : IsRela
         ]
       ])
 
-module _ (sp : Spots) (known : ℕ → Bool) (rows : List Label) (A : AreLabelled sp known rows) (a b : ℕ) (a_there : live sp a ≡ true) where
+module _ (sp : Spots) (known : ℕ → Bool) (rows : List (Option Label)) (A : AreLabelled sp known rows) (a b : ℕ) (a_there : live sp a ≡ true) where
   -- the cut ring and what came of its labels
-  pub seen-cut : (together : IsIn b (ring sp a)) (ne : a ≢ b) (cutted now : Spots) (rows' : List Label) (l : ℕ) → cutted ≡ spliced_at sp a b → IsRelabelled cutted now a b → loop_at rows' ≡ loop_at rows →
+  pub seen-cut : (together : IsIn b (ring sp a)) (ne : a ≢ b) (cutted now : Spots) (rows' : List (Option Label)) (l : ℕ) → cutted ≡ spliced_at sp a b → IsRelabelled cutted now a b → loop_at rows' ≡ loop_at rows →
       labelled (labelled (in_loops rows' now) (loop_at rows (label sp a)) (ring now a)) l (ring now b) ≡ labelled (spliced_at (in_loops rows sp) a b) l (ring (spliced_at (in_loops rows sp) a b) b)
   seen-cut together ne cutted now rows' l is r loops =
       let S = share-cut sp known rows A a b a_there together ne in

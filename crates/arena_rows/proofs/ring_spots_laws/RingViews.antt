@@ -1,5 +1,5 @@
 -- What a contract sees of rings: the codes that are live and known, and the numbers of the edges.
-use Rattle.std.proofs.Common.{◌≡◌, ℕ, Bool, true, List, [], Option, Some, None, is_some, option_map, Result, Ok, Err, OnOk, refl, sym, ap, subst, ◌∙◌, arith, true≢false}
+use Rattle.std.proofs.Common.{◌≡◌, ℕ, Bool, true, List, [], Option, Some, None, is_some, option_map, Result, Ok, Err, OnOk, refl, sym, ap, subst, ◌∙◌, true≢false}
 use Rattle.std.specs.Ordering.{nat_cmp}
 use Rattle.std.specs.Cmp.{nat_cmp_total}
 use Rattle.std.specs.FinMap.{contains_key, same_map, get-empty, nat_cmp-IsAntisymmetric}
@@ -14,13 +14,13 @@ use Rattle.arena_rows.proofs.ring_spots_laws.LiveEdges.{no_edges}
 use Rattle.arena_rows.proofs.ring_spots_laws.LoopSpots.{spot-loops, known-loops, get-loops, label-loops, ring-loops, live-loops}
 
 -- what holds of the loops of the codes holds of the map that is seen
-pub seen_as : (F : Spots → Spots) (rows rows' : List Label) (m new : RingMap) → in_loops rows' (spot new) ≡ F (in_loops rows (spot m)) → spot (map_in_loops rows' new) ≡ F (spot (map_in_loops rows m))
+pub seen_as : (F : Spots → Spots) (rows rows' : List (Option Label)) (m new : RingMap) → in_loops rows' (spot new) ≡ F (in_loops rows (spot m)) → spot (map_in_loops rows' new) ≡ F (spot (map_in_loops rows m))
 seen_as F rows rows' m new e = spot-loops rows' new ∙ e ∙ ap F (sym (spot-loops rows m))
 
-pub known_as : (rows rows' : List Label) (m new : RingMap) → contains_key new ≡ contains_key m → contains_key (map_in_loops rows' new) ≡ contains_key (map_in_loops rows m)
+pub known_as : (rows rows' : List (Option Label)) (m new : RingMap) → contains_key new ≡ contains_key m → contains_key (map_in_loops rows' new) ≡ contains_key (map_in_loops rows m)
 known_as rows rows' m new e = known-loops rows' new ∙ e ∙ sym (known-loops rows m)
 
-module _ (rows : List Label) (m : RingMap) where
+module _ (rows : List (Option Label)) (m : RingMap) where
   pub seen_live : (q : ℕ) → live (spot (map_in_loops rows m)) q ≡ live (spot m) q
   seen_live q = ap (λ (s : Spots). live s q) (spot-loops rows m) ∙ live-loops rows (spot m) q
 
@@ -65,21 +65,21 @@ module _ (rows : List Label) (m : RingMap) where
   seen_ok e (Err x) h = tt
 
   -- a ring in another loop
-  pub seen-put : (rows' : List Label) (from l : ℕ) → in_loops rows' (spot m) ≡ labelled (in_loops rows (spot m)) l (ring (spot m) from) → spot (map_in_loops rows' m) ≡ labelled (spot (map_in_loops rows m)) l (ring (spot (map_in_loops rows m)) from)
+  pub seen-put : (rows' : List (Option Label)) (from l : ℕ) → in_loops rows' (spot m) ≡ labelled (in_loops rows (spot m)) l (ring (spot m) from) → spot (map_in_loops rows' m) ≡ labelled (spot (map_in_loops rows m)) l (ring (spot (map_in_loops rows m)) from)
   seen-put rows' from l e = seen_as (λ s. labelled s l (ring s from)) rows rows' m m (e ∙ ap (labelled (in_loops rows (spot m)) l) (sym (ring-loops rows (spot m) from)))
 
   -- two rings in one
-  pub seen-joined : (rows' : List Label) (new : RingMap) (a b : ℕ) → live (spot m) a ≡ true → in_loops rows' (spot new) ≡ spliced_at (labelled (in_loops rows (spot m)) (loop_at rows (label (spot m) a)) (ring (spot m) b)) a b →
+  pub seen-joined : (rows' : List (Option Label)) (new : RingMap) (a b : ℕ) → live (spot m) a ≡ true → in_loops rows' (spot new) ≡ spliced_at (labelled (in_loops rows (spot m)) (loop_at rows (label (spot m) a)) (ring (spot m) b)) a b →
       spot (map_in_loops rows' new) ≡ spliced_at (labelled (spot (map_in_loops rows m)) (label (spot (map_in_loops rows m)) a) (ring (spot (map_in_loops rows m)) b)) a b
   seen-joined rows' new a b h e = seen_as (λ s. spliced_at (labelled s (label s a) (ring s b)) a b) rows rows' m new
       (e ∙ (λ i. spliced_at (labelled (in_loops rows (spot m)) (sym (label-loops rows (spot m) a h) i) (sym (ring-loops rows (spot m) b) i)) a b))
 
 -- with no code
-pub seen-empty : (rows : List Label) (m : RingMap) → m ≡ no_codes → map_in_loops rows m ≡ no_codes
+pub seen-empty : (rows : List (Option Label)) (m : RingMap) → m ≡ no_codes → map_in_loops rows m ≡ no_codes
 seen-empty rows m e = ap (map_in_loops rows) e ∙ same_map nat_cmp_total nat_cmp-IsAntisymmetric (map_in_loops rows no_codes) no_codes (λ q. get-loops rows no_codes q ∙ ap (option_map (map_spot (with_loop rows))) (get-empty nat_cmp q) ∙ sym (get-empty nat_cmp q))
 
-pub no_edge_rings : (m : RingMap) (rows : List Label) (words : List ℕ) → m ≡ no_codes → rows ≡ [] → words ≡ [] → AreEdgeRings m rows words
-no_edge_rings m rows words a b c = subst (λ (k : RingMap). AreEdgeRings k rows words) (sym a) (subst (λ (r : List Label). AreEdgeRings no_codes r words) (sym b) (record {
+pub no_edge_rings : (m : RingMap) (rows : List (Option Label)) (words : List ℕ) → m ≡ no_codes → rows ≡ [] → words ≡ [] → AreEdgeRings m rows words
+no_edge_rings m rows words a b c = subst (λ (k : RingMap). AreEdgeRings k rows words) (sym a) (subst (λ (r : List (Option Label)). AreEdgeRings no_codes r words) (sym b) (record {
   labelled = record {
     table = record {
       rings = record {
@@ -87,10 +87,9 @@ no_edge_rings m rows words a b c = subst (λ (k : RingMap). AreEdgeRings k rows 
         rings = λ q h. absurd (dead q h);
         mates = λ q h. absurd (dead q h);
       };
-      owners = record { own_below = λ n l. absurd (omega arith); holder_below = λ n l. absurd (omega arith); held = λ n l. absurd (omega arith); owned = λ n l. absurd (omega arith) };
-      reach = λ q k. absurd (true≢false (sym k ∙ known-empty q));
-      below = λ q h. absurd (dead q h);
-      limit = omega arith;
+      owners = record { own_there = λ n l. absurd (true≢false (sym l)); holder_there = λ n l. absurd (true≢false (sym l)); held = λ n l. absurd (true≢false (sym l)); owned = λ n l. absurd (true≢false (sym l)) };
+      codes_there = λ q k. absurd (true≢false (sym k ∙ known-empty q));
+      labels_there = λ q h. absurd (dead q h);
     };
     held = λ q h. absurd (dead q h);
   };

@@ -1,7 +1,8 @@
 -- Labels of rings, and the loops for which they stand.
-use Rattle.std.specs.Prelude.{◌≡◌, ℕ, ◌<◌, ◌≤◌, ◌⊎◌, Bool, true, List, length, Option, slice_index_or}
+use Rattle.std.specs.Prelude.{◌≡◌, ℕ, ◌⊎◌, Bool, true, false, List, Option, unwrap_or}
 use Rattle.std.specs.FinMap.{entries, entries_sorted, from_entries}
 use Rattle.raw_ring.specs.Rings.{RingMap, Spot}
+use Rattle.raw_cells.specs.Rows.{row_at, has_row}
 use Rattle.boundary_model.specs.Items.{count, IsIn}
 use Rattle.boundary_model.specs.Table.{Table, map_rows}
 use Rattle.arena_rows.specs.declared.ring_spots.labels.Label.{Label}
@@ -11,43 +12,42 @@ use Rattle.arena_rows.specs.ring_spots.Spots.{Spots, live, label, ring, map_spot
 abbrev pub new_label : ℕ → Label
 new_label n = record { own = n; holder = n; loop_number = 0 }
 
-abbrev pub row_of : List Label → ℕ → Label
-row_of rows n = slice_index_or rows n (new_label 0)
+abbrev pub row_of : List (Option Label) → ℕ → Label
+row_of rows n = unwrap_or (row_at rows n) (new_label 0)
 
 -- the label that code n owns
-abbrev pub own : List Label → ℕ → ℕ
+abbrev pub own : List (Option Label) → ℕ → ℕ
 own rows n = (row_of rows n).own
 
 -- the code that owns label n
-abbrev pub holder : List Label → ℕ → ℕ
+abbrev pub holder : List (Option Label) → ℕ → ℕ
 holder rows n = (row_of rows n).holder
 
 -- the loop for which label n stands, or 0
-abbrev pub loop_at : List Label → ℕ → ℕ
+abbrev pub loop_at : List (Option Label) → ℕ → ℕ
 loop_at rows n = (row_of rows n).loop_number
 
--- each code below the end owns one label below it, and each label has one holder
-pub record AreOwned (own holder : ℕ → ℕ) (end : ℕ) : Type 0 where
-  pub own_below : (n : ℕ) → n < end → own n < end
-  pub holder_below : (n : ℕ) → n < end → holder n < end
-  pub held : (n : ℕ) → n < end → holder (own n) ≡ n
-  pub owned : (n : ℕ) → n < end → own (holder n) ≡ n
+-- each code that is there owns one label that is there, and each label has one holder
+pub record AreOwned (own holder : ℕ → ℕ) (there : ℕ → Bool) : Type 0 where
+  pub own_there : (n : ℕ) → there n ≡ true → there (own n) ≡ true
+  pub holder_there : (n : ℕ) → there n ≡ true → there (holder n) ≡ true
+  pub held : (n : ℕ) → there n ≡ true → holder (own n) ≡ n
+  pub owned : (n : ℕ) → there n ≡ true → own (holder n) ≡ n
 
--- the table reaches to each known code and to each label of a live one
-pub record HaveLabels (sp : Spots) (known : ℕ → Bool) (rows : List Label) : Type 0 where
+-- each known code and each label of a live one has its row
+pub record HaveLabels (sp : Spots) (known : ℕ → Bool) (rows : List (Option Label)) : Type 0 where
   pub rings : AreRings sp
-  pub owners : AreOwned (own rows) (holder rows) (length rows)
-  pub reach : (c : ℕ) → known c ≡ true → c < length rows
-  pub below : (c : ℕ) → live sp c ≡ true → label sp c < length rows
-  pub limit : length rows ≤ 2000002
+  pub owners : AreOwned (own rows) (holder rows) (has_row rows)
+  pub codes_there : (c : ℕ) → known c ≡ true → has_row rows c ≡ true
+  pub labels_there : (c : ℕ) → live sp c ≡ true → has_row rows (label sp c) ≡ true
 
 -- each ring has a label, which one of its codes owns
-pub record AreLabelled (sp : Spots) (known : ℕ → Bool) (rows : List Label) : Type 0 where
+pub record AreLabelled (sp : Spots) (known : ℕ → Bool) (rows : List (Option Label)) : Type 0 where
   pub table : HaveLabels sp known rows
   pub held : (c : ℕ) → live sp c ≡ true → IsIn (holder rows (label sp c)) (ring sp c)
 
 -- the rings of a and b share a label, which one of their codes owns, and each other ring has one of its own
-pub record ShareLabel (sp : Spots) (known : ℕ → Bool) (rows : List Label) (a b : ℕ) : Type 0 where
+pub record ShareLabel (sp : Spots) (known : ℕ → Bool) (rows : List (Option Label)) (a b : ℕ) : Type 0 where
   pub table : HaveLabels sp known rows
   pub a_there : live sp a ≡ true
   pub b_there : live sp b ≡ true
@@ -70,20 +70,20 @@ abbrev pub HaveOneLabel : Spots → Spots → ℕ → ℕ → Type 0
 HaveOneLabel sp now a b = (now ≡ labelled sp (label sp b) (ring sp a)) ⊎ (now ≡ labelled sp (label sp a) (ring sp b))
 
 -- the same, with the loop in place of the label
-abbrev pub with_loop : List Label → Spot → Spot
+abbrev pub with_loop : List (Option Label) → Spot → Spot
 with_loop rows s = record s { label = loop_at rows s.label }
 
-abbrev pub in_loops : List Label → Spots → Spots
+abbrev pub in_loops : List (Option Label) → Spots → Spots
 in_loops rows sp q = map_spot (with_loop rows) (sp q)
 
 abbrev pub rows_of : RingMap → Table (Option Spot)
 rows_of m = record { rows = entries m; rising = entries_sorted m }
 
-unfoldable pub map_in_loops : List Label → RingMap → RingMap
+unfoldable pub map_in_loops : List (Option Label) → RingMap → RingMap
 map_in_loops rows m = from_entries (map_rows (λ _ o. map_spot (with_loop rows) o) (rows_of m)).rows
 
 -- the rows are as they were, and each new code owns the label of its own number
-pub record HaveNewLabels (old new : List Label) : Type 0 where
-  pub grows : length old ≤ length new
-  pub same : (n : ℕ) → n < length old → row_of new n ≡ row_of old n
-  pub added : (n : ℕ) → length old ≤ n → n < length new → row_of new n ≡ new_label n
+pub record HaveNewLabels (old new : List (Option Label)) : Type 0 where
+  pub kept : (n : ℕ) → has_row old n ≡ true → has_row new n ≡ true
+  pub same : (n : ℕ) → has_row old n ≡ true → row_of new n ≡ row_of old n
+  pub added : (n : ℕ) → has_row old n ≡ false → has_row new n ≡ true → row_of new n ≡ new_label n

@@ -5,7 +5,7 @@ ghost use Rattle.arena_rows.specs.owner_chains.Owners.{no_owners, put, take, own
 
 use crate::owner_chains::places::{above, below};
 use crate::owner_chains::rows::{Head, Link, follower, gain, head_of, link_in, link_out, lose};
-use crate::rows::Rows;
+use raw_cells::Rows;
 use std::alloc::{AllocError, Global};
 use std::marker::Model;
 
@@ -90,9 +90,7 @@ impl Chains {
         requires { has self.old.owner_of n ≡ true }
         ensures { self.new ≡ take self.old n }
     {
-        let Some(gone) = self.links.find(n) else {
-            unreachable!()
-        };
+        let gone = self.links.known(n);
         link_out(&mut self.links, n, gone);
         lose(&mut self.heads, gone);
     }

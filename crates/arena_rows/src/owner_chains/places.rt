@@ -3,7 +3,7 @@ ghost use Rattle.std.specs.Prelude.{◌≡◌, ◌≢◌, ◌<◌, true, false, 
 ghost use Rattle.arena_rows.specs.owner_chains.Chains.{AreChained, IsAbove, IsBelow, IsClear, LeadBack, TellsPlace, items};
 
 use crate::owner_chains::rows::{Head, Link, follower, head_of};
-use crate::rows::Rows;
+use raw_cells::Rows;
 
 /// Whether n is an item of an owner.
 fn is_item(links: &Rows<Link>, owner: u32, n: u32) -> bool

@@ -2,7 +2,7 @@
 ghost use Rattle.std.specs.Prelude.{◌≡◌, ℕ, ◌<◌, ◌≤◌, cond, nat_eq, length};
 ghost use Rattle.arena_rows.specs.owner_chains.Chains.{head_at, link_at, follower, leading_on, leading_back, linked_in, linked_out, gained, lost};
 
-use crate::rows::Rows;
+use raw_cells::Rows;
 
 /// What an owner has.
 #[derive(Clone, Copy)]
@@ -38,6 +38,14 @@ pub(crate) fn head_of(heads: &Rows<Head>, owner: u32) -> Head
             finger: 0,
         },
     }
+}
+
+/// What an owner has that has an item.
+fn known_head(heads: &Rows<Head>, owner: u32) -> Head
+    requires { 1 ≤ (head_at heads.now owner).count }
+    ensures { result ≡ head_at heads.now owner }
+{
+    heads.known(owner)
 }
 
 /// The item that follows n in an owner's chain, or 0. The first one follows 0.
@@ -125,17 +133,16 @@ pub(crate) fn gain(heads: &mut Rows<Head>, n: u32, new: Link)
 
 /// Takes an item from its owner.
 pub(crate) fn lose(heads: &mut Rows<Head>, old: Link)
-    requires there { old.owner < length heads.old }
-    requires some { 1 ≤ (head_at heads.old old.owner).count }
+    requires { 1 ≤ (head_at heads.old old.owner).count }
     ensures rows { (q : ℕ) → head_at heads.new q ≡ cond (nat_eq q old.owner) (lost old (head_at heads.old old.owner)) (head_at heads.old q) }
     ensures len { length heads.new ≡ length heads.old }
 {
-    let head = head_of(heads, old.owner);
+    let head = known_head(heads, old.owner);
     let is_first = old.previous == 0;
     let left = Head {
         count: head.count - 1,
         first: if is_first { old.next } else { head.first },
         finger: if is_first { old.next } else { old.previous },
     };
-    heads.put(old.owner, left);
+    heads.set(old.owner, left);
 }

@@ -7,6 +7,7 @@ ghost use Rattle.arena_rows.specs.ring_spots.Labels.{loop_at, in_loops, AreLabel
 
 use crate::ring_spots::labels::{Label, hand_over, own, stand_for};
 use crate::ring_spots::links;
+use raw_cells::Rows;
 use raw_ring::Rings;
 
 /// Puts b, which is alone in its ring, after a. It gets the label of a's ring.
@@ -22,12 +23,12 @@ pub(crate) fn join_alone(rings: &mut Rings, a: u32, b: u32)
 }
 
 /// Takes b, which follows a, out of their ring. It stands in loop l then, or is loose where l is 0.
-pub(crate) fn cut_alone(rings: &mut Rings, labels: &mut Vec<Label>, a: u32, b: u32, l: u32)
-    requires whole { AreLabelled (spot rings.old) (contains_key rings.old) labels.old.items }
+pub(crate) fn cut_alone(rings: &mut Rings, labels: &mut Rows<Label>, a: u32, b: u32, l: u32)
+    requires whole { AreLabelled (spot rings.old) (contains_key rings.old) labels.old }
     requires follows { next_of rings.old a ≡ Some b }
     requires apart { a ≢ b }
-    ensures whole { AreLabelled (spot rings.new) (contains_key rings.new) labels.new.items }
-    ensures spots { in_loops labels.new.items (spot rings.new) ≡ labelled (spliced_at (in_loops labels.old.items (spot rings.old)) a b) l (ring (spliced_at (in_loops labels.old.items (spot rings.old)) a b) b) }
+    ensures whole { AreLabelled (spot rings.new) (contains_key rings.new) labels.new }
+    ensures spots { in_loops labels.new (spot rings.new) ≡ labelled (spliced_at (in_loops labels.old (spot rings.old)) a b) l (ring (spliced_at (in_loops labels.old (spot rings.old)) a b) b) }
     ensures known { contains_key rings.new ≡ contains_key rings.old }
 {
     links::exchange(rings, a, b);
@@ -37,11 +38,11 @@ pub(crate) fn cut_alone(rings: &mut Rings, labels: &mut Vec<Label>, a: u32, b: u
 }
 
 /// A label for `part`, which is alone. The one that it shares with the ring of `rest` is owned in that ring then.
-fn free_label(rings: &Rings, labels: &mut Vec<Label>, part: u32, rest: u32) -> u32
-    requires shared { ShareLabel (spot rings.now) (contains_key rings.now) labels.old.items rest part }
+fn free_label(rings: &Rings, labels: &mut Rows<Label>, part: u32, rest: u32) -> u32
+    requires shared { ShareLabel (spot rings.now) (contains_key rings.now) labels.old rest part }
     requires alone { ring (spot rings.now) part ≡ part ∷ [] }
-    ensures whole { AreLabelled (labelled (spot rings.now) result (ring (spot rings.now) part)) (contains_key rings.now) labels.new.items }
-    ensures loops { loop_at labels.new.items ≡ loop_at labels.old.items }
+    ensures whole { AreLabelled (labelled (spot rings.now) result (ring (spot rings.now) part)) (contains_key rings.now) labels.new }
+    ensures loops { loop_at labels.new ≡ loop_at labels.old }
 {
     let shared = rings.label(part);
     let other = own(labels, part);

@@ -5,12 +5,12 @@ ghost use Rattle.raw_ring.specs.Rings.{spot, next_of, tail_of, label_of, IsLive,
 ghost use Rattle.boundary_model.specs.HalfEdge.{plus, minus};
 ghost use Rattle.boundary_model.specs.Items.{IsIn};
 ghost use Rattle.arena_rows.specs.ring_spots.Spots.{live, label, ring, labelled, woken, asleep, spliced_at, retailed};
-ghost use Rattle.arena_rows.specs.ring_spots.Last.{IsLast, is_edge};
-ghost use Rattle.arena_rows.specs.Numbers.{IsNext};
+ghost use Rattle.arena_rows.specs.ring_spots.Last.{is_edge};
+ghost use Rattle.raw_cells.specs.Numbers.{IsLast, IsNext};
 
-use crate::numbers::Numbers;
 use crate::ring_spots::labels::Label;
 use crate::ring_spots::{alone, links, parts};
+use raw_cells::{Numbers, Rows};
 use raw_ring::Rings;
 use std::alloc::{AllocError, Global};
 use std::marker::Model;
@@ -25,7 +25,7 @@ use std::marker::Model;
 #[derive(Drop)]
 pub struct EdgeRings {
     rings: Rings,
-    labels: Vec<Label>,
+    labels: Rows<Label>,
     edges: Numbers,
 }
 
@@ -38,9 +38,9 @@ impl Model for EdgeRings {
 
     ghost coded = { ring_map_code };
 
-    ghost view = { λ a. map_in_loops a.labels.items a.rings };
+    ghost view = { λ a. map_in_loops a.labels a.rings };
 
-    ghost invariant = { λ a. AreEdgeRings a.rings a.labels.items a.edges };
+    ghost invariant = { λ a. AreEdgeRings a.rings a.labels a.edges };
 }
 
 impl EdgeRings {
@@ -50,7 +50,7 @@ impl EdgeRings {
     {
         Self {
             rings: Rings::new(alloc),
-            labels: Vec::new(alloc),
+            labels: Rows::new(alloc),
             edges: Numbers::new(alloc),
         }
     }
@@ -61,7 +61,7 @@ impl EdgeRings {
     {
         Ok(EdgeRings {
             rings: self.rings.copy(alloc)?,
-            labels: self.labels.as_slice().to_vec(alloc)?,
+            labels: self.labels.copy(alloc)?,
             edges: self.edges.copy(alloc)?,
         })
     }

@@ -1,7 +1,9 @@
 //! The table of labels: which code owns each, and for which loop it stands.
-ghost use Rattle.std.specs.Prelude.{◌≡◌, ℕ, ◌<◌, ◌≤◌, cond, nat_eq, length, OnOk};
+ghost use Rattle.std.specs.Prelude.{◌≡◌, ℕ, ◌≤◌, true, cond, nat_eq, OnOk};
+ghost use Rattle.raw_cells.specs.Rows.{has_row};
 ghost use Rattle.arena_rows.specs.ring_spots.Labels.{own, holder, loop_at, HaveNewLabels};
 
+use raw_cells::Rows;
 use std::alloc::AllocError;
 
 /// What stands at number n: of the code n, and of the label n.
@@ -16,83 +18,113 @@ pub struct Label {
 }
 
 /// The label that a code owns.
-pub(crate) fn own(labels: &[Label], code: u32) -> u32
-    requires { code < length labels.now }
+pub(crate) fn own(labels: &Rows<Label>, code: u32) -> u32
+    requires { has_row labels.now code ≡ true }
     ensures { result ≡ own labels.now code }
 {
-    labels[code as usize].own
+    labels.known(code).own
+}
+
+/// The code that owns a label.
+fn holder(labels: &Rows<Label>, label: u32) -> u32
+    requires { has_row labels.now label ≡ true }
+    ensures { result ≡ holder labels.now label }
+{
+    labels.known(label).holder
 }
 
 /// The loop for which a label stands, or 0.
-pub(crate) fn loop_at(labels: &[Label], label: u32) -> u32
-    requires { label < length labels.now }
+pub(crate) fn loop_at(labels: &Rows<Label>, label: u32) -> u32
+    requires { has_row labels.now label ≡ true }
     ensures { result ≡ loop_at labels.now label }
 {
-    labels[label as usize].loop_number
+    labels.known(label).loop_number
 }
 
 /// Makes a label stand for a loop, or for none where l is 0.
-pub(crate) fn stand_for(labels: &mut Vec<Label>, label: u32, l: u32)
-    requires { label < length labels.old.items }
-    ensures loops { (q : ℕ) → loop_at labels.new.items q ≡ cond (nat_eq q label) l (loop_at labels.old.items q) }
-    ensures own { own labels.new.items ≡ own labels.old.items }
-    ensures holder { holder labels.new.items ≡ holder labels.old.items }
-    ensures len { length labels.new.items ≡ length labels.old.items }
+pub(crate) fn stand_for(labels: &mut Rows<Label>, label: u32, l: u32)
+    requires { has_row labels.old label ≡ true }
+    ensures loops { (q : ℕ) → loop_at labels.new q ≡ cond (nat_eq q label) l (loop_at labels.old q) }
+    ensures own { own labels.new ≡ own labels.old }
+    ensures holder { holder labels.new ≡ holder labels.old }
+    ensures there { has_row labels.new ≡ has_row labels.old }
 {
-    let mut row = labels[label as usize];
+    let mut row = labels.known(label);
     row.loop_number = l;
-    labels[label as usize] = row;
+    labels.set(label, row);
 }
 
 /// Makes a code the owner of a label. The code that owned it gets the other one's label.
-pub(crate) fn hand_over(labels: &mut Vec<Label>, code: u32, label: u32)
-    requires code { code < length labels.old.items }
-    requires label { label < length labels.old.items }
-    requires holder { holder labels.old.items label < length labels.old.items }
-    requires own { own labels.old.items code < length labels.old.items }
-    ensures own { (q : ℕ) → own labels.new.items q ≡ cond (nat_eq q code) label (cond (nat_eq q (holder labels.old.items label)) (own labels.old.items code) (own labels.old.items q)) }
-    ensures holder { (q : ℕ) → holder labels.new.items q ≡ cond (nat_eq q label) code (cond (nat_eq q (own labels.old.items code)) (holder labels.old.items label) (holder labels.old.items q)) }
-    ensures loops { loop_at labels.new.items ≡ loop_at labels.old.items }
-    ensures len { length labels.new.items ≡ length labels.old.items }
+pub(crate) fn hand_over(labels: &mut Rows<Label>, code: u32, label: u32)
+    requires code { has_row labels.old code ≡ true }
+    requires label { has_row labels.old label ≡ true }
+    requires holder { has_row labels.old (holder labels.old label) ≡ true }
+    requires own { has_row labels.old (own labels.old code) ≡ true }
+    ensures own { (q : ℕ) → own labels.new q ≡ cond (nat_eq q code) label (cond (nat_eq q (holder labels.old label)) (own labels.old code) (own labels.old q)) }
+    ensures holder { (q : ℕ) → holder labels.new q ≡ cond (nat_eq q label) code (cond (nat_eq q (own labels.old code)) (holder labels.old label) (holder labels.old q)) }
+    ensures loops { loop_at labels.new ≡ loop_at labels.old }
+    ensures there { has_row labels.new ≡ has_row labels.old }
 {
-    let before = labels[label as usize].holder;
-    let other = labels[code as usize].own;
+    let before = holder(labels, label);
+    let other = own(labels, code);
     tie(labels, before, other);
     tie(labels, code, label);
 }
 
 /// Writes that a code owns a label.
-fn tie(labels: &mut Vec<Label>, code: u32, label: u32)
-    requires code { code < length labels.old.items }
-    requires label { label < length labels.old.items }
-    ensures own { (q : ℕ) → own labels.new.items q ≡ cond (nat_eq q code) label (own labels.old.items q) }
-    ensures holder { (q : ℕ) → holder labels.new.items q ≡ cond (nat_eq q label) code (holder labels.old.items q) }
-    ensures loops { loop_at labels.new.items ≡ loop_at labels.old.items }
-    ensures len { length labels.new.items ≡ length labels.old.items }
+fn tie(labels: &mut Rows<Label>, code: u32, label: u32)
+    requires code { has_row labels.old code ≡ true }
+    requires label { has_row labels.old label ≡ true }
+    ensures own { (q : ℕ) → own labels.new q ≡ cond (nat_eq q code) label (own labels.old q) }
+    ensures holder { (q : ℕ) → holder labels.new q ≡ cond (nat_eq q label) code (holder labels.old q) }
+    ensures loops { loop_at labels.new ≡ loop_at labels.old }
+    ensures there { has_row labels.new ≡ has_row labels.old }
 {
-    let mut row = labels[code as usize];
-    row.own = label;
-    labels[code as usize] = row;
-    let mut row = labels[label as usize];
-    row.holder = code;
-    labels[label as usize] = row;
+    set_own(labels, code, label);
+    set_holder(labels, label, code);
 }
 
-/// Makes the table reach to a code. Each new code owns the label of its own number.
-pub(crate) fn reach(labels: &mut Vec<Label>, code: u32) -> Result<(), AllocError>
-    requires within { code ≤ 2000001 }
-    requires limit { length labels.old.items ≤ 2000002 }
-    ensures grown { HaveNewLabels labels.old.items labels.new.items }
-    ensures limit { length labels.new.items ≤ 2000002 }
-    ensures ok { OnOk result (code < length labels.new.items) }
+/// Writes the label that a code owns, and nothing else.
+fn set_own(labels: &mut Rows<Label>, code: u32, label: u32)
+    requires { has_row labels.old code ≡ true }
+    ensures own { (q : ℕ) → own labels.new q ≡ cond (nat_eq q code) label (own labels.old q) }
+    ensures holder { holder labels.new ≡ holder labels.old }
+    ensures loops { loop_at labels.new ≡ loop_at labels.old }
+    ensures there { has_row labels.new ≡ has_row labels.old }
 {
-    let first = labels.len() as u32;
-    'rows: for n in first..code + 1 {
-        labels.push(Label {
-            own: n,
-            holder: n,
-            loop_number: 0,
-        })?;
+    let mut row = labels.known(code);
+    row.own = label;
+    labels.set(code, row);
+}
+
+/// Writes the code that owns a label, and nothing else.
+fn set_holder(labels: &mut Rows<Label>, label: u32, code: u32)
+    requires { has_row labels.old label ≡ true }
+    ensures holder { (q : ℕ) → holder labels.new q ≡ cond (nat_eq q label) code (holder labels.old q) }
+    ensures own { own labels.new ≡ own labels.old }
+    ensures loops { loop_at labels.new ≡ loop_at labels.old }
+    ensures there { has_row labels.new ≡ has_row labels.old }
+{
+    let mut row = labels.known(label);
+    row.holder = code;
+    labels.set(label, row);
+}
+
+/// Makes a code have its row. A new one owns the label of its own number.
+pub(crate) fn add(labels: &mut Rows<Label>, code: u32) -> Result<(), AllocError>
+    requires { code ≤ 2000001 }
+    ensures grown { HaveNewLabels labels.old labels.new }
+    ensures ok { OnOk result (has_row labels.new code ≡ true) }
+{
+    if labels.has(code) {
+        return Ok(());
     }
+    labels.reach(code)?;
+    let row = Label {
+        own: code,
+        holder: code,
+        loop_number: 0,
+    };
+    labels.put(code, row);
     Ok(())
 }

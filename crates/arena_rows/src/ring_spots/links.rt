@@ -1,13 +1,15 @@
 //! Edges as pairs of nodes.
-ghost use Rattle.std.specs.Prelude.{◌≡◌, ◌≢◌, ◌<◌, ◌≤◌, ◌&&◌, ◌*◌, ◌+◌, nat_eq, nat_lt, nat_le, is_some, true, cond, Some, OnOk, ℕ, length};
+ghost use Rattle.std.specs.Prelude.{◌≡◌, ◌≢◌, ◌≤◌, ◌&&◌, ◌*◌, ◌+◌, nat_eq, nat_lt, nat_le, is_some, true, cond, Some, OnOk, ℕ};
 ghost use Rattle.std.specs.FinMap.{contains_key};
+ghost use Rattle.raw_cells.specs.Rows.{has_row};
 ghost use Rattle.raw_ring.specs.Rings.{spot, next_of, IsAsleep};
 ghost use Rattle.boundary_model.specs.HalfEdge.{plus, minus};
 ghost use Rattle.arena_rows.specs.ring_spots.Spots.{live, ring, labelled, woken, woken_as, asleep, spliced_at, retailed, AreRings};
 ghost use Rattle.arena_rows.specs.ring_spots.Labels.{own, holder, loop_at, in_loops, AreLabelled};
 
-use crate::ring_spots::labels::{Label, own, reach, stand_for};
+use crate::ring_spots::labels::{Label, add, own, stand_for};
 use boundary_model::{HALF_EDGE_CODES, NUMBER_LIMIT};
+use raw_cells::Rows;
 use raw_ring::Rings;
 use std::alloc::AllocError;
 
@@ -26,13 +28,13 @@ pub(crate) fn has_edge_room(rings: &Rings, e: u32) -> bool
 }
 
 /// Wakes both half-edges of an edge. Each has the label that it owns, which stands for no loop.
-pub(crate) fn wake_edge(rings: &mut Rings, labels: &mut Vec<Label>, e: u32, a: u32, b: u32)
-    requires whole { AreLabelled (spot rings.old) (contains_key rings.old) labels.old.items }
+pub(crate) fn wake_edge(rings: &mut Rings, labels: &mut Rows<Label>, e: u32, a: u32, b: u32)
+    requires whole { AreLabelled (spot rings.old) (contains_key rings.old) labels.old }
     requires limit { e ≤ 1000000 }
     requires first { IsAsleep rings.old (plus e) }
     requires second { IsAsleep rings.old (minus e) }
-    ensures whole { AreLabelled (spot rings.new) (contains_key rings.new) labels.new.items }
-    ensures spots { in_loops labels.new.items (spot rings.new) ≡ woken (woken (in_loops labels.old.items (spot rings.old)) (plus e) a) (minus e) b }
+    ensures whole { AreLabelled (spot rings.new) (contains_key rings.new) labels.new }
+    ensures spots { in_loops labels.new (spot rings.new) ≡ woken (woken (in_loops labels.old (spot rings.old)) (plus e) a) (minus e) b }
     ensures known { contains_key rings.new ≡ contains_key rings.old }
 {
     wake(rings, labels, 2 * e, a);
@@ -40,16 +42,16 @@ pub(crate) fn wake_edge(rings: &mut Rings, labels: &mut Vec<Label>, e: u32, a: u
 }
 
 /// Wakes a half-edge with the label that it owns, which stands for no loop.
-fn wake(rings: &mut Rings, labels: &mut Vec<Label>, code: u32, tail: u32)
+fn wake(rings: &mut Rings, labels: &mut Rows<Label>, code: u32, tail: u32)
     requires asleep { IsAsleep rings.old code }
-    requires code { code < length labels.old.items }
-    requires label { own labels.old.items code < length labels.old.items }
-    ensures spots { spot rings.new ≡ woken_as (spot rings.old) code tail (own labels.old.items code) }
+    requires code { has_row labels.old code ≡ true }
+    requires label { has_row labels.old (own labels.old code) ≡ true }
+    ensures spots { spot rings.new ≡ woken_as (spot rings.old) code tail (own labels.old code) }
     ensures known { contains_key rings.new ≡ contains_key rings.old }
-    ensures loops { (q : ℕ) → loop_at labels.new.items q ≡ cond (nat_eq q (own labels.old.items code)) 0 (loop_at labels.old.items q) }
-    ensures own { own labels.new.items ≡ own labels.old.items }
-    ensures holder { holder labels.new.items ≡ holder labels.old.items }
-    ensures len { length labels.new.items ≡ length labels.old.items }
+    ensures loops { (q : ℕ) → loop_at labels.new q ≡ cond (nat_eq q (own labels.old code)) 0 (loop_at labels.old q) }
+    ensures own { own labels.new ≡ own labels.old }
+    ensures holder { holder labels.new ≡ holder labels.old }
+    ensures there { has_row labels.new ≡ has_row labels.old }
 {
     let label = own(labels, code);
     rings.wake(code, tail);
@@ -108,28 +110,31 @@ pub(crate) fn retail(rings: &mut Rings, h: u32, v: u32)
 /// Gives both half-edges of an edge their nodes, and their labels.
 pub(crate) fn room_edge(
     rings: &mut Rings,
-    labels: &mut Vec<Label>,
+    labels: &mut Rows<Label>,
     e: u32,
 ) -> Result<(), AllocError>
-    requires whole { AreLabelled (spot rings.old) (contains_key rings.old) labels.old.items }
+    requires whole { AreLabelled (spot rings.old) (contains_key rings.old) labels.old }
     requires limit { e ≤ 1000000 }
-    ensures whole { AreLabelled (spot rings.new) (contains_key rings.new) labels.new.items }
-    ensures spots { in_loops labels.new.items (spot rings.new) ≡ in_loops labels.old.items (spot rings.old) }
+    ensures whole { AreLabelled (spot rings.new) (contains_key rings.new) labels.new }
+    ensures spots { in_loops labels.new (spot rings.new) ≡ in_loops labels.old (spot rings.old) }
     ensures kept { (c : ℕ) → contains_key rings.old c ≡ true → contains_key rings.new c ≡ true }
     ensures only { (q : ℕ) → q ≢ plus e → q ≢ minus e → contains_key rings.new q ≡ contains_key rings.old q }
     ensures ok { OnOk result ((contains_key rings.new (plus e) ≡ true) × (contains_key rings.new (minus e) ≡ true)) }
 {
-    reach(labels, 2 * e + 1)?;
-    room_code(rings, 2 * e)?;
-    room_code(rings, 2 * e + 1)
+    room_code(rings, labels, 2 * e)?;
+    room_code(rings, labels, 2 * e + 1)
 }
 
-fn room_code(rings: &mut Rings, c: u32) -> Result<(), AllocError>
-    requires { c ≤ 2000001 }
-    ensures spots { spot rings.new ≡ spot rings.old }
+/// Gives a half-edge its label and its node.
+fn room_code(rings: &mut Rings, labels: &mut Rows<Label>, c: u32) -> Result<(), AllocError>
+    requires whole { AreLabelled (spot rings.old) (contains_key rings.old) labels.old }
+    requires limit { c ≤ 2000001 }
+    ensures whole { AreLabelled (spot rings.new) (contains_key rings.new) labels.new }
+    ensures spots { in_loops labels.new (spot rings.new) ≡ in_loops labels.old (spot rings.old) }
     ensures kept { (q : ℕ) → contains_key rings.old q ≡ true → contains_key rings.new q ≡ true }
     ensures only { (q : ℕ) → q ≢ c → contains_key rings.new q ≡ contains_key rings.old q }
     ensures ok { OnOk result (contains_key rings.new c ≡ true) }
 {
+    add(labels, c)?;
     rings.room(c)
 }

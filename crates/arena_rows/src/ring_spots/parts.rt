@@ -9,18 +9,19 @@ ghost use Rattle.arena_rows.specs.ring_spots.Labels.{loop_at, in_loops, AreLabel
 use crate::ring_spots::labels::{Label, hand_over, loop_at, own, stand_for};
 use crate::ring_spots::links;
 use boundary_model::HALF_EDGE_CODES;
+use raw_cells::Rows;
 use raw_ring::Rings;
 
 /// Cuts the ring of a and b in two, of which b's stands in loop l then, or is loose where l is 0.
 ///
 /// It walks round the shorter one twice.
-pub(crate) fn cut(rings: &mut Rings, labels: &mut Vec<Label>, a: u32, b: u32, l: u32)
-    requires whole { AreLabelled (spot rings.old) (contains_key rings.old) labels.old.items }
+pub(crate) fn cut(rings: &mut Rings, labels: &mut Rows<Label>, a: u32, b: u32, l: u32)
+    requires whole { AreLabelled (spot rings.old) (contains_key rings.old) labels.old }
     requires a { live (spot rings.old) a ≡ true }
     requires together { IsIn b (ring (spot rings.old) a) }
     requires apart { a ≢ b }
-    ensures whole { AreLabelled (spot rings.new) (contains_key rings.new) labels.new.items }
-    ensures spots { in_loops labels.new.items (spot rings.new) ≡ labelled (spliced_at (in_loops labels.old.items (spot rings.old)) a b) l (ring (spliced_at (in_loops labels.old.items (spot rings.old)) a b) b) }
+    ensures whole { AreLabelled (spot rings.new) (contains_key rings.new) labels.new }
+    ensures spots { in_loops labels.new (spot rings.new) ≡ labelled (spliced_at (in_loops labels.old (spot rings.old)) a b) l (ring (spliced_at (in_loops labels.old (spot rings.old)) a b) b) }
     ensures known { contains_key rings.new ≡ contains_key rings.old }
 {
     let kept = loop_of(rings, labels, a);
@@ -33,13 +34,13 @@ pub(crate) fn cut(rings: &mut Rings, labels: &mut Vec<Label>, a: u32, b: u32, l:
 /// Joins the rings of a and b, which stand in different loops, or one of them in none. The joint ring stands in a's loop.
 ///
 /// It walks round the shorter one twice.
-pub(crate) fn join(rings: &mut Rings, labels: &mut Vec<Label>, a: u32, b: u32)
-    requires whole { AreLabelled (spot rings.old) (contains_key rings.old) labels.old.items }
+pub(crate) fn join(rings: &mut Rings, labels: &mut Rows<Label>, a: u32, b: u32)
+    requires whole { AreLabelled (spot rings.old) (contains_key rings.old) labels.old }
     requires a { live (spot rings.old) a ≡ true }
     requires b { live (spot rings.old) b ≡ true }
-    requires apart { loop_at labels.old.items (label (spot rings.old) b) ≢ loop_at labels.old.items (label (spot rings.old) a) }
-    ensures whole { AreLabelled (spot rings.new) (contains_key rings.new) labels.new.items }
-    ensures spots { in_loops labels.new.items (spot rings.new) ≡ spliced_at (labelled (in_loops labels.old.items (spot rings.old)) (loop_at labels.old.items (label (spot rings.old) a)) (ring (spot rings.old) b)) a b }
+    requires apart { loop_at labels.old (label (spot rings.old) b) ≢ loop_at labels.old (label (spot rings.old) a) }
+    ensures whole { AreLabelled (spot rings.new) (contains_key rings.new) labels.new }
+    ensures spots { in_loops labels.new (spot rings.new) ≡ spliced_at (labelled (in_loops labels.old (spot rings.old)) (loop_at labels.old (label (spot rings.old) a)) (ring (spot rings.old) b)) a b }
     ensures known { contains_key rings.new ≡ contains_key rings.old }
 {
     let kept = loop_of(rings, labels, a);
@@ -49,7 +50,7 @@ pub(crate) fn join(rings: &mut Rings, labels: &mut Vec<Label>, a: u32, b: u32)
 }
 
 /// The loop in which a live code stands, or 0.
-pub(crate) fn loop_of(rings: &Rings, labels: &[Label], code: u32) -> u32
+pub(crate) fn loop_of(rings: &Rings, labels: &Rows<Label>, code: u32) -> u32
     requires whole { AreLabelled (spot rings.now) (contains_key rings.now) labels.now }
     requires there { live (spot rings.now) code ≡ true }
     ensures { result ≡ loop_at labels.now (label (spot rings.now) code) }
@@ -58,21 +59,21 @@ pub(crate) fn loop_of(rings: &Rings, labels: &[Label], code: u32) -> u32
 }
 
 /// Puts the ring of a code into loop l, or into none where l is 0. It writes one number.
-pub(crate) fn put_in_loop(rings: &Rings, labels: &mut Vec<Label>, from: u32, l: u32)
-    requires whole { AreLabelled (spot rings.now) (contains_key rings.now) labels.old.items }
+pub(crate) fn put_in_loop(rings: &Rings, labels: &mut Rows<Label>, from: u32, l: u32)
+    requires whole { AreLabelled (spot rings.now) (contains_key rings.now) labels.old }
     requires there { live (spot rings.now) from ≡ true }
-    ensures whole { AreLabelled (spot rings.now) (contains_key rings.now) labels.new.items }
-    ensures spots { in_loops labels.new.items (spot rings.now) ≡ labelled (in_loops labels.old.items (spot rings.now)) l (ring (spot rings.now) from) }
+    ensures whole { AreLabelled (spot rings.now) (contains_key rings.now) labels.new }
+    ensures spots { in_loops labels.new (spot rings.now) ≡ labelled (in_loops labels.old (spot rings.now)) l (ring (spot rings.now) from) }
 {
     stand_for(labels, rings.label(from), l);
 }
 
 /// Gives the rings of a and b, which share a label, one each: the shorter one gets another.
-fn set_apart(rings: &mut Rings, labels: &mut Vec<Label>, a: u32, b: u32)
-    requires { ShareLabel (spot rings.old) (contains_key rings.old) labels.old.items a b }
-    ensures whole { AreLabelled (spot rings.new) (contains_key rings.new) labels.new.items }
+fn set_apart(rings: &mut Rings, labels: &mut Rows<Label>, a: u32, b: u32)
+    requires { ShareLabel (spot rings.old) (contains_key rings.old) labels.old a b }
+    ensures whole { AreLabelled (spot rings.new) (contains_key rings.new) labels.new }
     ensures spots { IsRelabelled (spot rings.old) (spot rings.new) a b }
-    ensures loops { loop_at labels.new.items ≡ loop_at labels.old.items }
+    ensures loops { loop_at labels.new ≡ loop_at labels.old }
     ensures known { contains_key rings.new ≡ contains_key rings.old }
 {
     if is_shorter(rings, a, b) {
@@ -83,11 +84,11 @@ fn set_apart(rings: &mut Rings, labels: &mut Vec<Label>, a: u32, b: u32)
 }
 
 /// Gives the ring of `part` the label that this code owns. The one that it shared with the ring of `rest` is owned by `rest` then.
-fn give_label(rings: &mut Rings, labels: &mut Vec<Label>, part: u32, rest: u32)
-    requires { ShareLabel (spot rings.old) (contains_key rings.old) labels.old.items part rest }
-    ensures whole { AreLabelled (spot rings.new) (contains_key rings.new) labels.new.items }
+fn give_label(rings: &mut Rings, labels: &mut Rows<Label>, part: u32, rest: u32)
+    requires { ShareLabel (spot rings.old) (contains_key rings.old) labels.old part rest }
+    ensures whole { AreLabelled (spot rings.new) (contains_key rings.new) labels.new }
     ensures spots { IsRelabelled (spot rings.old) (spot rings.new) part rest }
-    ensures loops { loop_at labels.new.items ≡ loop_at labels.old.items }
+    ensures loops { loop_at labels.new ≡ loop_at labels.old }
     ensures known { contains_key rings.new ≡ contains_key rings.old }
 {
     hand_over(labels, rest, rings.label(rest));

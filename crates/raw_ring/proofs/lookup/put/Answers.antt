@@ -1,7 +1,5 @@
-use Rattle.std.proofs.Common.{set, ap, ◌∙◌}
-use Rattle.std.proofs.lemmas.List.{map-set}
-use Rattle.raw_ring.specs.Tied.{row_in}
+use Rattle.raw_ring.proofs.Mapping.{rows_written}
 use Rattle.raw_ring.proofs.lookup.put.Goals as goal
 
 pub returns : goal.returns
-returns c = map-set row_in _ _ _ ∙ ap (set _ _) c.of.ensures
+returns c = rows_written _ _ _ _ c.requires c.put.ensures.len c.put.ensures.rows

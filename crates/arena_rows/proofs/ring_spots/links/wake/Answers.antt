@@ -1,8 +1,6 @@
-use Rattle.std.proofs.Common.{List, ap, ◌∙◌}
+use Rattle.std.proofs.Common.{ap, ◌∙◌}
 use Rattle.raw_ring.specs.Rings.{spot}
-use Rattle.arena_rows.specs.declared.ring_spots.labels.Label.{Label}
 use Rattle.arena_rows.specs.ring_spots.Spots.{woken_as}
-use Rattle.arena_rows.specs.ring_spots.Labels.{own}
 use Rattle.arena_rows.proofs.ring_spots_laws.LabelEdges.{spot-woken_as, live-woken_as, known-woken_as}
 use Rattle.arena_rows.proofs.ring_spots.links.wake.Goals as goal
 
@@ -11,7 +9,7 @@ set_label-requires c = live-woken_as _ _ c.args.code c.args.tail c.wake.ensures
 
 pub returns-clause-spots : goal.returns-clause-spots
 returns-clause-spots c = spot-woken_as _ _ _ c.args.code c.args.tail c.own-label.result c.wake.ensures c.set_label.ensures
-    ∙ ap (woken_as (spot c.args.rings.now) c.args.code c.args.tail) (c.own-label.ensures ∙ ap (λ (rows : List Label). own rows c.args.code) c.deref.ensures.value)
+    ∙ ap (woken_as (spot c.args.rings.now) c.args.code c.args.tail) c.own-label.ensures
 
 pub returns-clause-known : goal.returns-clause-known
 returns-clause-known c = known-woken_as _ _ _ c.args.code c.args.tail c.own-label.result c.requires.asleep.0 c.wake.ensures c.set_label.ensures

@@ -1,4 +1,5 @@
-use Rattle.std.proofs.Common.{ap, ◌∙◌, ◌≡◌, ◌<◌, ℕ, Bool, length, cond, nat_eq, sym, subst, arith}
+use Rattle.std.proofs.Common.{ap, ◌∙◌, ◌≡◌, ℕ, Bool, true, cond, nat_eq, sym, subst}
+use Rattle.raw_cells.specs.Rows.{has_row}
 use Rattle.raw_ring.specs.Rings.{spot}
 use Rattle.boundary_model.specs.HalfEdge.{plus, minus}
 use Rattle.boundary_model.proofs.Halves.{plus_other}
@@ -8,10 +9,10 @@ use Rattle.arena_rows.proofs.ring_spots_laws.LabelEdges.{live-woken_other, label
 use Rattle.arena_rows.proofs.ring_spots.links.wake_edge.Goals as goal
 
 pub wake-requires-clause-code : goal.wake-requires-clause-code
-wake-requires-clause-code c = c.requires.whole.table.reach (plus c.args.e) c.requires.first.0
+wake-requires-clause-code c = c.requires.whole.table.codes_there (plus c.args.e) c.requires.first.0
 
 pub wake-requires-clause-label : goal.wake-requires-clause-label
-wake-requires-clause-label c = c.requires.whole.table.owners.own_below (plus c.args.e) (c.requires.whole.table.reach (plus c.args.e) c.requires.first.0)
+wake-requires-clause-label c = c.requires.whole.table.owners.own_there (plus c.args.e) (c.requires.whole.table.codes_there (plus c.args.e) c.requires.first.0)
 
 pub wake-requires-2-clause-asleep : goal.wake-requires-2-clause-asleep
 wake-requires-2-clause-asleep c = (
@@ -20,28 +21,28 @@ wake-requires-2-clause-asleep c = (
 )
 
 pub wake-requires-2-clause-code : goal.wake-requires-2-clause-code
-wake-requires-2-clause-code c = omega (arith, c.wake.ensures.len, c.requires.whole.table.reach (minus c.args.e) c.requires.second.0)
+wake-requires-2-clause-code c = ap (λ (t : ℕ → Bool). t (minus c.args.e)) c.wake.ensures.there ∙ c.requires.whole.table.codes_there (minus c.args.e) c.requires.second.0
 
 pub wake-requires-2-clause-label : goal.wake-requires-2-clause-label
-wake-requires-2-clause-label c = subst (λ (f : ℕ → ℕ). f (minus c.args.e) < length c.wake.new.labels.items) (sym c.wake.ensures.own)
-    (omega (arith, c.wake.ensures.len, c.requires.whole.table.owners.own_below (minus c.args.e) (c.requires.whole.table.reach (minus c.args.e) c.requires.second.0)))
+wake-requires-2-clause-label c = subst (λ (f : ℕ → ℕ). has_row c.wake.new.labels (f (minus c.args.e)) ≡ true) (sym c.wake.ensures.own)
+    (ap (λ (t : ℕ → Bool). t (own c.args.labels.now (minus c.args.e))) c.wake.ensures.there ∙ c.requires.whole.table.owners.own_there (minus c.args.e) (c.requires.whole.table.codes_there (minus c.args.e) c.requires.second.0))
 
 pub returns : goal.returns
 returns c =
     let A = c.requires.whole in
-    let p = A.table.reach (plus c.args.e) c.requires.first.0 in
-    let m = A.table.reach (minus c.args.e) c.requires.second.0 in
-    let owns : own c.wake.new.labels.items (minus c.args.e) ≡ own c.args.labels.now.items (minus c.args.e) = ap (λ (f : ℕ → ℕ). f (minus c.args.e)) c.wake.ensures.own in
-    let is = c.wake-2.ensures.spots ∙ ap (λ (s : Spots). woken_as s (minus c.args.e) c.args.b (own c.wake.new.labels.items (minus c.args.e))) c.wake.ensures.spots
-    ∙ ap (woken_as (woken_as (spot c.args.rings.now) (plus c.args.e) c.args.a (own c.args.labels.now.items (plus c.args.e))) (minus c.args.e) c.args.b) owns in
+    let p = A.table.codes_there (plus c.args.e) c.requires.first.0 in
+    let m = A.table.codes_there (minus c.args.e) c.requires.second.0 in
+    let owns : own c.wake.new.labels (minus c.args.e) ≡ own c.args.labels.now (minus c.args.e) = ap (λ (f : ℕ → ℕ). f (minus c.args.e)) c.wake.ensures.own in
+    let is = c.wake-2.ensures.spots ∙ ap (λ (s : Spots). woken_as s (minus c.args.e) c.args.b (own c.wake.new.labels (minus c.args.e))) c.wake.ensures.spots
+    ∙ ap (woken_as (woken_as (spot c.args.rings.now) (plus c.args.e) c.args.a (own c.args.labels.now (plus c.args.e))) (minus c.args.e) c.args.b) owns in
     let known = c.wake-2.ensures.known ∙ c.wake.ensures.known in
     let own_same = c.wake-2.ensures.own ∙ c.wake.ensures.own in
     let holders = c.wake-2.ensures.holder ∙ c.wake.ensures.holder in
-    let len = c.wake-2.ensures.len ∙ c.wake.ensures.len in
-    let loops : (q : ℕ) → loop_at c.wake-2.new.labels.items q ≡ cond (nat_eq q (own c.args.labels.now.items (minus c.args.e))) 0 (cond (nat_eq q (own c.args.labels.now.items (plus c.args.e))) 0 (loop_at c.args.labels.now.items q)) =
-    λ q. c.wake-2.ensures.loops q ∙ ap (λ z. cond (nat_eq q z) 0 (loop_at c.wake.new.labels.items q)) owns ∙ ap (cond (nat_eq q (own c.args.labels.now.items (minus c.args.e))) 0) (c.wake.ensures.loops q) in
+    let there = c.wake-2.ensures.there ∙ c.wake.ensures.there in
+    let loops : (q : ℕ) → loop_at c.wake-2.new.labels q ≡ cond (nat_eq q (own c.args.labels.now (minus c.args.e))) 0 (cond (nat_eq q (own c.args.labels.now (plus c.args.e))) 0 (loop_at c.args.labels.now q)) =
+    λ q. c.wake-2.ensures.loops q ∙ ap (λ z. cond (nat_eq q z) 0 (loop_at c.wake.new.labels q)) owns ∙ ap (cond (nat_eq q (own c.args.labels.now (minus c.args.e))) 0) (c.wake.ensures.loops q) in
     record {
-      whole = labelled-woken _ _ _ A c.args.e c.args.a c.args.b c.requires.limit c.requires.first.1 c.requires.second.1 p m _ _ _ is known own_same holders len loops;
-      spots = loops-woken _ _ _ A c.args.e c.args.a c.args.b c.requires.limit c.requires.first.1 c.requires.second.1 p m _ _ _ is known own_same holders len loops;
+      whole = labelled-woken _ _ _ A c.args.e c.args.a c.args.b c.requires.limit c.requires.first.1 c.requires.second.1 p m _ _ _ is known own_same holders there loops;
+      spots = loops-woken _ _ _ A c.args.e c.args.a c.args.b c.requires.limit c.requires.first.1 c.requires.second.1 p m _ _ _ is known own_same holders there loops;
       known = known;
     }

@@ -1,6 +1,5 @@
-use Rattle.std.proofs.Common.{◌≡◌, List, ap, ◌∙◌}
+use Rattle.std.proofs.Common.{◌≡◌, ap, ◌∙◌}
 use Rattle.raw_ring.specs.Rings.{spot}
-use Rattle.arena_rows.specs.declared.ring_spots.labels.Label.{Label}
 use Rattle.arena_rows.specs.ring_spots.Spots.{Spots, label, ring, labelled}
 use Rattle.arena_rows.specs.ring_spots.Labels.{loop_at, in_loops}
 use Rattle.arena_rows.proofs.ring_spots_laws.LoopSpots.{live-alike}
@@ -23,7 +22,7 @@ put_in_loop-requires-2-clause-there c =
 
 pub returns-clause-spots : goal.returns-clause-spots
 returns-clause-spots c =
-    let kept : c.loop_of-kept.result ≡ loop_at c.args.labels.now.items (label (spot c.args.rings.now) c.args.a) = c.loop_of-kept.ensures ∙ ap (λ (rows : List Label). loop_at rows (label (spot c.args.rings.now) c.args.a)) c.deref.ensures.value in
+    let kept : c.loop_of-kept.result ≡ loop_at c.args.labels.now (label (spot c.args.rings.now) c.args.a) = c.loop_of-kept.ensures in
     c.put_in_loop-2.ensures.spots
-    ∙ ap (λ (s : Spots). labelled s c.args.l (ring (spot c.set_apart.new.rings) c.args.b)) (c.put_in_loop.ensures.spots ∙ ap (λ n. labelled (in_loops c.set_apart.new.labels.items (spot c.set_apart.new.rings)) n (ring (spot c.set_apart.new.rings) c.args.a)) kept)
+    ∙ ap (λ (s : Spots). labelled s c.args.l (ring (spot c.set_apart.new.rings) c.args.b)) (c.put_in_loop.ensures.spots ∙ ap (λ n. labelled (in_loops c.set_apart.new.labels (spot c.set_apart.new.rings)) n (ring (spot c.set_apart.new.rings) c.args.a)) kept)
     ∙ seen-cut _ _ _ c.requires.whole c.args.a c.args.b c.requires.a c.requires.together c.requires.apart _ _ _ c.args.l c.exchange.ensures.spots c.set_apart.ensures.spots c.set_apart.ensures.loops

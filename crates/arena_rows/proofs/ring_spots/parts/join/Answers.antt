@@ -1,6 +1,5 @@
-use Rattle.std.proofs.Common.{◌≡◌, List, ap, ◌∙◌}
+use Rattle.std.proofs.Common.{◌≡◌, ap, ◌∙◌}
 use Rattle.raw_ring.specs.Rings.{spot}
-use Rattle.arena_rows.specs.declared.ring_spots.labels.Label.{Label}
 use Rattle.arena_rows.specs.ring_spots.Spots.{Spots, live, label, ring, labelled}
 use Rattle.arena_rows.specs.ring_spots.Labels.{loop_at, in_loops}
 use Rattle.arena_rows.proofs.ring_spots_laws.SpotLaws.{live-spliced}
@@ -9,25 +8,25 @@ use Rattle.arena_rows.proofs.ring_spots_laws.LoopViews.{seen-join}
 use Rattle.arena_rows.proofs.ring_spots.parts.join.Goals as goal
 
 pub exchange-requires-clause-a : goal.exchange-requires-clause-a
-exchange-requires-clause-a c = (share-one _ _ _ c.requires.whole c.args.a c.args.b c.requires.a c.requires.b (λ e. c.requires.apart (ap (loop_at c.args.labels.now.items) e)) _ _ c.share_label.ensures.spots c.share_label.ensures.known).a_there
+exchange-requires-clause-a c = (share-one _ _ _ c.requires.whole c.args.a c.args.b c.requires.a c.requires.b (λ e. c.requires.apart (ap (loop_at c.args.labels.now) e)) _ _ c.share_label.ensures.spots c.share_label.ensures.known).a_there
 
 pub exchange-requires-clause-b : goal.exchange-requires-clause-b
-exchange-requires-clause-b c = (share-one _ _ _ c.requires.whole c.args.a c.args.b c.requires.a c.requires.b (λ e. c.requires.apart (ap (loop_at c.args.labels.now.items) e)) _ _ c.share_label.ensures.spots c.share_label.ensures.known).b_there
+exchange-requires-clause-b c = (share-one _ _ _ c.requires.whole c.args.a c.args.b c.requires.a c.requires.b (λ e. c.requires.apart (ap (loop_at c.args.labels.now) e)) _ _ c.share_label.ensures.spots c.share_label.ensures.known).b_there
 
 pub put_in_loop-requires-clause-whole : goal.put_in_loop-requires-clause-whole
 put_in_loop-requires-clause-whole c =
-    let S = share-one _ _ _ c.requires.whole c.args.a c.args.b c.requires.a c.requires.b (λ e. c.requires.apart (ap (loop_at c.args.labels.now.items) e)) _ _ c.share_label.ensures.spots c.share_label.ensures.known in
+    let S = share-one _ _ _ c.requires.whole c.args.a c.args.b c.requires.a c.requires.b (λ e. c.requires.apart (ap (loop_at c.args.labels.now) e)) _ _ c.share_label.ensures.spots c.share_label.ensures.known in
     labelled-join_to _ _ _ _ _ S _ _ c.exchange.ensures.spots c.exchange.ensures.known
 
 pub put_in_loop-requires-clause-there : goal.put_in_loop-requires-clause-there
 put_in_loop-requires-clause-there c =
-    let S = share-one _ _ _ c.requires.whole c.args.a c.args.b c.requires.a c.requires.b (λ e. c.requires.apart (ap (loop_at c.args.labels.now.items) e)) _ _ c.share_label.ensures.spots c.share_label.ensures.known in
+    let S = share-one _ _ _ c.requires.whole c.args.a c.args.b c.requires.a c.requires.b (λ e. c.requires.apart (ap (loop_at c.args.labels.now) e)) _ _ c.share_label.ensures.spots c.share_label.ensures.known in
     ap (λ (s : Spots). live s c.args.a) c.exchange.ensures.spots ∙ live-spliced (spot c.share_label.new.rings) c.args.a c.args.b c.args.a ∙ S.a_there
 
 pub returns-clause-spots : goal.returns-clause-spots
 returns-clause-spots c =
-    let kept : c.loop_of-kept.result ≡ loop_at c.args.labels.now.items (label (spot c.args.rings.now) c.args.a) = c.loop_of-kept.ensures ∙ ap (λ (rows : List Label). loop_at rows (label (spot c.args.rings.now) c.args.a)) c.deref.ensures.value in
-    let S = share-one _ _ _ c.requires.whole c.args.a c.args.b c.requires.a c.requires.b (λ e. c.requires.apart (ap (loop_at c.args.labels.now.items) e)) _ _ c.share_label.ensures.spots c.share_label.ensures.known in
-    let r = relabelled-one _ _ _ c.requires.whole c.args.a c.args.b c.requires.a c.requires.b (λ e. c.requires.apart (ap (loop_at c.args.labels.now.items) e)) _ c.share_label.ensures.spots in
-    c.put_in_loop.ensures.spots ∙ ap (λ n. labelled (in_loops c.args.labels.now.items (spot c.exchange.new.rings)) n (ring (spot c.exchange.new.rings) c.args.a)) kept
+    let kept : c.loop_of-kept.result ≡ loop_at c.args.labels.now (label (spot c.args.rings.now) c.args.a) = c.loop_of-kept.ensures in
+    let S = share-one _ _ _ c.requires.whole c.args.a c.args.b c.requires.a c.requires.b (λ e. c.requires.apart (ap (loop_at c.args.labels.now) e)) _ _ c.share_label.ensures.spots c.share_label.ensures.known in
+    let r = relabelled-one _ _ _ c.requires.whole c.args.a c.args.b c.requires.a c.requires.b (λ e. c.requires.apart (ap (loop_at c.args.labels.now) e)) _ c.share_label.ensures.spots in
+    c.put_in_loop.ensures.spots ∙ ap (λ n. labelled (in_loops c.args.labels.now (spot c.exchange.new.rings)) n (ring (spot c.exchange.new.rings) c.args.a)) kept
     ∙ seen-join _ _ _ c.requires.whole c.args.a c.args.b c.requires.a _ _ S r _ c.exchange.ensures.spots

@@ -2,11 +2,10 @@ use Rattle.std.proofs.Common.{sym, ◌∙◌, ap, is_some, ◌≡◌, ◌≢◌,
 use Rattle.arena_rows.specs.RawRings.{spot, or_zero}
 use Rattle.arena_rows.specs.declared.rows.LoopCell.{LoopCell}
 use Rattle.boundary_model.specs.HalfEdge.{code}
-use Rattle.arena_rows.specs.Rows.{row_at}
+use Rattle.arena_rows.specs.RawRows.{row_at}
 use Rattle.arena_rows.specs.ring_spots.Spots.{label}
 use Rattle.arena_rows.proofs.ring_spots_laws.RingMaps.{next_some}
 use Rattle.arena_rows.proofs.ring_spots_laws.SpotTables.{edge_below}
-use Rattle.arena_rows.proofs.Views.{row_within}
 use Rattle.arena_rows.proofs.Stands.{half_there}
 use Rattle.arena_rows.proofs.CutStore.{CutFacts, cut_facts, row_of, is_at, cut_zero, next_before, tied_cut_loose, store_cut_loose}
 use Rattle.arena_rows.proofs.Indexed.{indexed_same_loops, owner_kept}

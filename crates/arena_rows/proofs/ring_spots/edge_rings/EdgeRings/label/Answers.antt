@@ -1,14 +1,10 @@
-use Rattle.std.proofs.Common.{sym, ◌∙◌, List, ap}
-use Rattle.raw_ring.specs.Rings.{spot}
-use Rattle.arena_rows.specs.declared.ring_spots.labels.Label.{Label}
-use Rattle.arena_rows.specs.ring_spots.Spots.{label}
-use Rattle.arena_rows.specs.ring_spots.Labels.{loop_at}
+use Rattle.std.proofs.Common.{sym, ◌∙◌}
 use Rattle.arena_rows.proofs.ring_spots_laws.RingViews.{seen_live, seen_label_of}
 use Rattle.arena_rows.proofs.ring_spots.edge_rings.EdgeRings.label.Goals as goal
 
 pub loop_of-requires-clause-there : goal.loop_of-requires-clause-there
-loop_of-requires-clause-there c = sym (seen_live c.self.inside.labels.items c.self.inside.rings c.args.code) ∙ (rw (← c.self.view_is) at c.requires)
+loop_of-requires-clause-there c = sym (seen_live c.self.inside.labels c.self.inside.rings c.args.code) ∙ (rw (← c.self.view_is) at c.requires)
 
 pub returns : goal.returns
-returns c = rw (← c.self.view_is) (seen_label_of c.self.inside.labels.items c.self.inside.rings c.args.code _ (sym (seen_live c.self.inside.labels.items c.self.inside.rings c.args.code) ∙ (rw (← c.self.view_is) at c.requires))
-    (c.loop_of.ensures ∙ ap (λ (rows : List Label). loop_at rows (label (spot c.self.inside.rings) c.args.code)) c.deref.ensures.value))
+returns c = rw (← c.self.view_is) (seen_label_of c.self.inside.labels c.self.inside.rings c.args.code _ (sym (seen_live c.self.inside.labels c.self.inside.rings c.args.code) ∙ (rw (← c.self.view_is) at c.requires))
+    (c.loop_of.ensures))

@@ -12,18 +12,18 @@ use Rattle.arena_rows.proofs.ring_spots.edge_rings.EdgeRings.room_edge.Goals as 
 pub invariant_of-self-2 : goal.invariant_of-self-2
 invariant_of-self-2 c = record {
   labelled = c.room_edge.ensures.whole;
-  edges = edges_roomed _ _ c.self.invariant.edges _ c.reach.ensures.same c.reach.ensures.grows _ c.args.e c.in_ok-reach.ensures.ok (seen_as (λ (s : Spots). s) c.self.inside.labels.items c.room_edge.new.labels.items c.self.inside.rings c.room_edge.new.rings c.room_edge.ensures.spots)
-      (λ q n m. seen_known c.room_edge.new.labels.items c.room_edge.new.rings q ∙ c.room_edge.ensures.only q n m ∙ sym (seen_known c.self.inside.labels.items c.self.inside.rings q));
+  edges = edges_roomed _ _ c.self.invariant.edges _ c.reach.ensures.same c.reach.ensures.grows _ c.args.e c.in_ok-reach.ensures.ok (seen_as (λ (s : Spots). s) c.self.inside.labels c.room_edge.new.labels c.self.inside.rings c.room_edge.new.rings c.room_edge.ensures.spots)
+      (λ q n m. seen_known c.room_edge.new.labels c.room_edge.new.rings q ∙ c.room_edge.ensures.only q n m ∙ sym (seen_known c.self.inside.labels c.self.inside.rings q));
 }
 
 pub returns-clause-spots : goal.returns-clause-spots
-returns-clause-spots c = rw (← c.self.view_is) (seen_as (λ (s : Spots). s) c.self.inside.labels.items c.room_edge.new.labels.items c.self.inside.rings c.room_edge.new.rings c.room_edge.ensures.spots)
+returns-clause-spots c = rw (← c.self.view_is) (seen_as (λ (s : Spots). s) c.self.inside.labels c.room_edge.new.labels c.self.inside.rings c.room_edge.new.rings c.room_edge.ensures.spots)
 
 pub returns-clause-kept : goal.returns-clause-kept
-returns-clause-kept c = rw (← c.self.view_is) (λ q k. seen_known c.room_edge.new.labels.items c.room_edge.new.rings q ∙ c.room_edge.ensures.kept q (sym (seen_known c.self.inside.labels.items c.self.inside.rings q) ∙ k))
+returns-clause-kept c = rw (← c.self.view_is) (λ q k. seen_known c.room_edge.new.labels c.room_edge.new.rings q ∙ c.room_edge.ensures.kept q (sym (seen_known c.self.inside.labels c.self.inside.rings q) ∙ k))
 
 pub returns-clause-ok : goal.returns-clause-ok
-returns-clause-ok c = seen_ok c.room_edge.new.labels.items c.room_edge.new.rings c.args.e c.room_edge.result c.room_edge.ensures.ok
+returns-clause-ok c = seen_ok c.room_edge.new.labels c.room_edge.new.rings c.args.e c.room_edge.result c.room_edge.ensures.ok
 
 pub returns-then-has_edge_room-clause-ok : goal.returns-then-has_edge_room-clause-ok
 returns-then-has_edge_room-clause-ok c =

@@ -9,22 +9,22 @@ use Rattle.arena_rows.proofs.ring_spots_laws.RingViews.{seen_next, seen_as, know
 use Rattle.arena_rows.proofs.ring_spots.edge_rings.EdgeRings.sleep_edge.Goals as goal
 
 pub sleep_edge-requires-clause-first : goal.sleep_edge-requires-clause-first
-sleep_edge-requires-clause-first c = sym (seen_next c.self.inside.labels.items c.self.inside.rings (plus c.args.e)) ∙ (rw (← c.self.view_is) at c.requires.first)
+sleep_edge-requires-clause-first c = sym (seen_next c.self.inside.labels c.self.inside.rings (plus c.args.e)) ∙ (rw (← c.self.view_is) at c.requires.first)
 
 pub sleep_edge-requires-clause-second : goal.sleep_edge-requires-clause-second
-sleep_edge-requires-clause-second c = sym (seen_next c.self.inside.labels.items c.self.inside.rings (minus c.args.e)) ∙ (rw (← c.self.view_is) at c.requires.second)
+sleep_edge-requires-clause-second c = sym (seen_next c.self.inside.labels c.self.inside.rings (minus c.args.e)) ∙ (rw (← c.self.view_is) at c.requires.second)
 
 pub invariant_of-self : goal.invariant_of-self
 invariant_of-self c =
-    let p = sym (seen_next c.self.inside.labels.items c.self.inside.rings (plus c.args.e)) ∙ (rw (← c.self.view_is) at c.requires.first) in
-    let m = sym (seen_next c.self.inside.labels.items c.self.inside.rings (minus c.args.e)) ∙ (rw (← c.self.view_is) at c.requires.second) in
+    let p = sym (seen_next c.self.inside.labels c.self.inside.rings (plus c.args.e)) ∙ (rw (← c.self.view_is) at c.requires.first) in
+    let m = sym (seen_next c.self.inside.labels c.self.inside.rings (minus c.args.e)) ∙ (rw (← c.self.view_is) at c.requires.second) in
     record {
       labelled = labelled-asleep _ _ _ c.self.invariant.labelled c.args.e (IsLive-next _ _ _ p) (IsLive-next _ _ _ m) (ap or_zero p) (ap or_zero m) _ _ c.sleep_edge.ensures.spots c.sleep_edge.ensures.known;
-      edges = edges_asleep _ _ c.self.invariant.edges _ _ c.args.e (seen_as (λ (s : Spots). asleep (asleep s (plus c.args.e)) (minus c.args.e)) c.self.inside.labels.items c.self.inside.labels.items c.self.inside.rings c.sleep_edge.new.rings (loops-asleep_both _ _ _ c.self.invariant.labelled c.args.e _ c.sleep_edge.ensures.spots)) (known_as c.self.inside.labels.items c.self.inside.labels.items c.self.inside.rings c.sleep_edge.new.rings c.sleep_edge.ensures.known) c.take.ensures.uses c.take.ensures.len;
+      edges = edges_asleep _ _ c.self.invariant.edges _ _ c.args.e (seen_as (λ (s : Spots). asleep (asleep s (plus c.args.e)) (minus c.args.e)) c.self.inside.labels c.self.inside.labels c.self.inside.rings c.sleep_edge.new.rings (loops-asleep_both _ _ _ c.self.invariant.labelled c.args.e _ c.sleep_edge.ensures.spots)) (known_as c.self.inside.labels c.self.inside.labels c.self.inside.rings c.sleep_edge.new.rings c.sleep_edge.ensures.known) c.take.ensures.uses c.take.ensures.len;
     }
 
 pub returns-clause-spots : goal.returns-clause-spots
-returns-clause-spots c = rw (← c.self.view_is) (seen_as (λ (s : Spots). asleep (asleep s (plus c.args.e)) (minus c.args.e)) c.self.inside.labels.items c.self.inside.labels.items c.self.inside.rings c.sleep_edge.new.rings (loops-asleep_both _ _ _ c.self.invariant.labelled c.args.e _ c.sleep_edge.ensures.spots))
+returns-clause-spots c = rw (← c.self.view_is) (seen_as (λ (s : Spots). asleep (asleep s (plus c.args.e)) (minus c.args.e)) c.self.inside.labels c.self.inside.labels c.self.inside.rings c.sleep_edge.new.rings (loops-asleep_both _ _ _ c.self.invariant.labelled c.args.e _ c.sleep_edge.ensures.spots))
 
 pub returns-clause-known : goal.returns-clause-known
-returns-clause-known c = rw (← c.self.view_is) (known_as c.self.inside.labels.items c.self.inside.labels.items c.self.inside.rings c.sleep_edge.new.rings c.sleep_edge.ensures.known)
+returns-clause-known c = rw (← c.self.view_is) (known_as c.self.inside.labels c.self.inside.labels c.self.inside.rings c.sleep_edge.new.rings c.sleep_edge.ensures.known)

@@ -6,19 +6,19 @@ use Rattle.arena_rows.proofs.ring_spots_laws.LiveEdges.{edges_woken}
 use Rattle.arena_rows.proofs.ring_spots.edge_rings.EdgeRings.wake_edge.Goals as goal
 
 pub wake_edge-requires-clause-first : goal.wake_edge-requires-clause-first
-wake_edge-requires-clause-first c = (sym (seen_known c.self.inside.labels.items c.self.inside.rings (plus c.args.e)) ∙ (rw (← c.self.view_is) at c.requires.first).0, sym (seen_live c.self.inside.labels.items c.self.inside.rings (plus c.args.e)) ∙ (rw (← c.self.view_is) at c.requires.first).1)
+wake_edge-requires-clause-first c = (sym (seen_known c.self.inside.labels c.self.inside.rings (plus c.args.e)) ∙ (rw (← c.self.view_is) at c.requires.first).0, sym (seen_live c.self.inside.labels c.self.inside.rings (plus c.args.e)) ∙ (rw (← c.self.view_is) at c.requires.first).1)
 
 pub wake_edge-requires-clause-second : goal.wake_edge-requires-clause-second
-wake_edge-requires-clause-second c = (sym (seen_known c.self.inside.labels.items c.self.inside.rings (minus c.args.e)) ∙ (rw (← c.self.view_is) at c.requires.second).0, sym (seen_live c.self.inside.labels.items c.self.inside.rings (minus c.args.e)) ∙ (rw (← c.self.view_is) at c.requires.second).1)
+wake_edge-requires-clause-second c = (sym (seen_known c.self.inside.labels c.self.inside.rings (minus c.args.e)) ∙ (rw (← c.self.view_is) at c.requires.second).0, sym (seen_live c.self.inside.labels c.self.inside.rings (minus c.args.e)) ∙ (rw (← c.self.view_is) at c.requires.second).1)
 
 pub invariant_of-self : goal.invariant_of-self
 invariant_of-self c = record {
   labelled = c.wake_edge.ensures.whole;
-  edges = edges_woken _ _ c.self.invariant.edges _ _ c.args.e c.args.a c.args.b c.requires.limit (seen_as (λ (s : Spots). woken (woken s (plus c.args.e) c.args.a) (minus c.args.e) c.args.b) c.self.inside.labels.items c.wake_edge.new.labels.items c.self.inside.rings c.wake_edge.new.rings c.wake_edge.ensures.spots) (known_as c.self.inside.labels.items c.wake_edge.new.labels.items c.self.inside.rings c.wake_edge.new.rings c.wake_edge.ensures.known) c.put.ensures.uses c.put.ensures.len;
+  edges = edges_woken _ _ c.self.invariant.edges _ _ c.args.e c.args.a c.args.b c.requires.limit (seen_as (λ (s : Spots). woken (woken s (plus c.args.e) c.args.a) (minus c.args.e) c.args.b) c.self.inside.labels c.wake_edge.new.labels c.self.inside.rings c.wake_edge.new.rings c.wake_edge.ensures.spots) (known_as c.self.inside.labels c.wake_edge.new.labels c.self.inside.rings c.wake_edge.new.rings c.wake_edge.ensures.known) c.put.ensures.uses c.put.ensures.len;
 }
 
 pub returns-clause-spots : goal.returns-clause-spots
-returns-clause-spots c = rw (← c.self.view_is) (seen_as (λ (s : Spots). woken (woken s (plus c.args.e) c.args.a) (minus c.args.e) c.args.b) c.self.inside.labels.items c.wake_edge.new.labels.items c.self.inside.rings c.wake_edge.new.rings c.wake_edge.ensures.spots)
+returns-clause-spots c = rw (← c.self.view_is) (seen_as (λ (s : Spots). woken (woken s (plus c.args.e) c.args.a) (minus c.args.e) c.args.b) c.self.inside.labels c.wake_edge.new.labels c.self.inside.rings c.wake_edge.new.rings c.wake_edge.ensures.spots)
 
 pub returns-clause-known : goal.returns-clause-known
-returns-clause-known c = rw (← c.self.view_is) (known_as c.self.inside.labels.items c.wake_edge.new.labels.items c.self.inside.rings c.wake_edge.new.rings c.wake_edge.ensures.known)
+returns-clause-known c = rw (← c.self.view_is) (known_as c.self.inside.labels c.wake_edge.new.labels c.self.inside.rings c.wake_edge.new.rings c.wake_edge.ensures.known)

@@ -1,5 +1,0 @@
-use Rattle.arena_rows.proofs.numbers_laws.Words.{first_is}
-use Rattle.arena_rows.proofs.numbers.first_of.Goals as goal
-
-pub returns : goal.returns
-returns c = first_is c.args.words.now c.args.i c.lowest.result c.lowest.ensures.within c.lowest.ensures.there c.lowest.ensures.none

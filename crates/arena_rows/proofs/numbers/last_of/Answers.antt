@@ -1,5 +1,0 @@
-use Rattle.arena_rows.proofs.numbers_laws.Words.{last_is}
-use Rattle.arena_rows.proofs.numbers.last_of.Goals as goal
-
-pub returns : goal.returns
-returns c = last_is c.args.words.now c.args.i c.highest.result c.highest.ensures.within c.highest.ensures.there c.highest.ensures.none

@@ -1,5 +1,0 @@
-pub mod Bits
-pub mod Words
-pub mod Levels
-pub mod Summed
-pub mod Cells

@@ -1,5 +1,0 @@
-use Rattle.arena_rows.proofs.numbers_laws.Cells.{last_row}
-use Rattle.arena_rows.proofs.rows.Rows.last.Goals as goal
-
-pub returns : goal.returns
-returns g c = rw (← c.self.view_is) (last_row _ _ _ c.self.invariant _ c.last.ensures)

@@ -1,0 +1,12 @@
+use Rattle.std.proofs.Common.{◌≡◌, ◌≤◌, ◌<◌, ℕ, false, length}
+use Rattle.raw_cells.specs.Numbers.{has_bits}
+use Rattle.raw_cells.proofs.numbers.last_in.Given as goal
+
+abbrev pub invariant-down : goal.invariant-down
+invariant-down l = record {
+  most : l.i ≤ length l.words;
+  none : (k : ℕ) → l.i ≤ k → k < length l.words → has_bits l.words k ≡ false;
+}
+
+abbrev pub decreases-down : goal.decreases-down
+decreases-down l = l.i

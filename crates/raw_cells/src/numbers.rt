@@ -1,0 +1,317 @@
+//! Numbers in use, as two levels of bits.
+//!
+//! A word has a bit for each of 64 numbers, and a summary a bit for each of 64 words, which says whether the word has one set. So
+//! a summary stands for 4,096 numbers. A search looks at a word, and walks over summaries alone, of which there are 489 at most.
+ghost use Rattle.std.specs.Prelude.{◌≡◌, ℕ, ◌+◌, ◌*◌, ◌/◌, ◌<◌, ◌≤◌, ◌≢◌, true, false, cond, nat_eq, [], length, Some, OnOk, IfOk, IsOk};
+ghost use Rattle.raw_cells.specs.Numbers.{IsFirstIn, IsLastIn, IsLast, IsNext, AreSummed, is_set, word_at, uses, has_bits};
+
+use std::alloc::{AllocError, Global};
+use std::marker::Model;
+
+/// How many bits a word has.
+const WORD: u32 = 64;
+
+/// How many words come at a time where there is to be more room, so that they are asked for seldom.
+const STEP: u32 = 32;
+
+/// Numbers in use, up to 2,000,001. Each has its room before it comes into use.
+///
+/// A contract sees the words: bit k of word i says whether number 64 i + k is in use. Only `reach` and `copy` take memory.
+#[derive(Drop)]
+pub struct Numbers {
+    words: Vec<u64>,
+    summaries: Vec<u64>,
+}
+
+impl Model for Numbers {
+    ghost use Rattle.std.specs.Prelude.{List, ℕ};
+
+    ghost Value = { List ℕ };
+
+    ghost use Rattle.raw_cells.specs.Numbers.{AreSummed};
+
+    ghost view = { λ a. a.words.items };
+
+    ghost invariant = { λ a. AreSummed a.words.items a.summaries.items };
+}
+
+impl Numbers {
+    /// No number, and no room. It takes no memory.
+    pub fn new(alloc: Global) -> Self
+        ensures { result ≡ [] }
+    {
+        Self {
+            words: Vec::new(alloc),
+            summaries: Vec::new(alloc),
+        }
+    }
+
+    /// Numbers that are equal, in memory of their own.
+    pub fn copy(&self, alloc: Global) -> Result<Numbers, AllocError>
+        ensures { IfOk result (λ copy. copy ≡ self.now) }
+    {
+        Ok(Numbers {
+            words: self.words.as_slice().to_vec(alloc)?,
+            summaries: self.summaries.as_slice().to_vec(alloc)?,
+        })
+    }
+
+    /// Whether number n is in use.
+    pub fn contains(&self, n: u32) -> bool
+        ensures { result ≡ uses self.now n }
+    {
+        contains(&self.words, n)
+    }
+
+    /// Number n comes into use, which has its room. It writes one word, and a summary where the word was 0.
+    pub fn put(&mut self, n: u32)
+        requires { n / 64 < length self.old }
+        ensures uses { (q : ℕ) → uses self.new q ≡ cond (nat_eq q n) true (uses self.old q) }
+        ensures len { length self.new ≡ length self.old }
+    {
+        put(&mut self.words, &mut self.summaries, n);
+    }
+
+    /// Number n goes out of use, which has its room. It writes one word, and a summary where the word is 0 then.
+    pub fn take(&mut self, n: u32)
+        requires { n / 64 < length self.old }
+        ensures uses { (q : ℕ) → uses self.new q ≡ cond (nat_eq q n) false (uses self.old q) }
+        ensures len { length self.new ≡ length self.old }
+    {
+        take(&mut self.words, &mut self.summaries, n);
+    }
+
+    /// The least number in use above n, or none. It looks at two words, and at the summaries from that of n on.
+    pub fn after(&self, n: u32) -> Option<u32>
+        ensures { IsNext (uses self.now) n result }
+    {
+        next(&self.words, &self.summaries, n)
+    }
+
+    /// The greatest number in use, or 0 where none is. It looks at one word, and at the summaries from the last one down.
+    pub fn last(&self) -> u32
+        ensures { IsLast (uses self.now) result }
+    {
+        last(&self.words, &self.summaries)
+    }
+
+    /// Makes the room reach to number n. Where it does, this is one test, and no `Err` comes.
+    pub fn reach(&mut self, n: u32) -> Result<(), AllocError>
+        requires { n ≤ 2000001 }
+        ensures same { (q : ℕ) → uses self.new q ≡ uses self.old q }
+        ensures grows { length self.old ≤ length self.new }
+        ensures ok { OnOk result (n / 64 < length self.new) }
+        ensures known { n / 64 < length self.old → IsOk result }
+    {
+        let index = n / WORD;
+        if (index as usize) < self.words.len() {
+            return Ok(());
+        }
+        reach(&mut self.summaries, index / WORD + 1)?;
+        reach(&mut self.words, index / STEP * STEP + STEP)
+    }
+}
+
+/// Whether bit k of a word is set.
+fn is_set(word: u64, k: u32) -> bool
+    requires { k < 64 }
+    ensures { result ≡ is_set word k }
+{
+    (word >> k) & 1 == 1
+}
+
+/// The least bit of a word that is not 0.
+fn lowest(word: u64) -> u32
+    requires { 0 < word }
+    ensures within { result < 64 }
+    ensures there { is_set word result ≡ true }
+    ensures none { (k : ℕ) → k < result → is_set word k ≡ false }
+{
+    word.trailing_zeros()
+}
+
+/// The greatest bit of a word that is not 0.
+fn highest(word: u64) -> u32
+    requires { 0 < word }
+    ensures within { result < 64 }
+    ensures there { is_set word result ≡ true }
+    ensures none { (k : ℕ) → result < k → is_set word k ≡ false }
+{
+    63 - word.leading_zeros()
+}
+
+/// Whether number n is in use.
+fn contains(words: &[u64], n: u32) -> bool
+    ensures { result ≡ uses words.now n }
+{
+    match words.get((n / WORD) as usize) {
+        Some(word) => is_set(*word, n % WORD),
+        None => false,
+    }
+}
+
+/// Sets the bit of number n.
+fn set(words: &mut Vec<u64>, n: u32)
+    requires { n / 64 < length words.old.items }
+    ensures uses { (q : ℕ) → uses words.new.items q ≡ cond (nat_eq q n) true (uses words.old.items q) }
+    ensures others { (i : ℕ) → i ≢ n / 64 → word_at words.new.items i ≡ word_at words.old.items i }
+    ensures len { length words.new.items ≡ length words.old.items }
+{
+    let i = (n / WORD) as usize;
+    words[i] |= 1u64 << (n % WORD);
+}
+
+/// Clears the bit of number n.
+fn clear(words: &mut Vec<u64>, n: u32)
+    requires { n / 64 < length words.old.items }
+    ensures uses { (q : ℕ) → uses words.new.items q ≡ cond (nat_eq q n) false (uses words.old.items q) }
+    ensures others { (i : ℕ) → i ≢ n / 64 → word_at words.new.items i ≡ word_at words.old.items i }
+    ensures len { length words.new.items ≡ length words.old.items }
+{
+    let i = (n / WORD) as usize;
+    words[i] &= !(1u64 << (n % WORD));
+}
+
+/// Sets the bit of number n, and that of its word where the word was 0.
+fn put(words: &mut Vec<u64>, summaries: &mut Vec<u64>, n: u32)
+    requires room { n / 64 < length words.old.items }
+    requires summed { AreSummed words.old.items summaries.old.items }
+    ensures summed { AreSummed words.new.items summaries.new.items }
+    ensures uses { (q : ℕ) → uses words.new.items q ≡ cond (nat_eq q n) true (uses words.old.items q) }
+    ensures len { length words.new.items ≡ length words.old.items }
+{
+    let i = n / WORD;
+    let before = words[i as usize];
+    set(words, n);
+    if before == 0 {
+        set(summaries, i);
+    }
+}
+
+/// Clears the bit of number n, and that of its word where the word is 0 then.
+fn take(words: &mut Vec<u64>, summaries: &mut Vec<u64>, n: u32)
+    requires room { n / 64 < length words.old.items }
+    requires summed { AreSummed words.old.items summaries.old.items }
+    ensures summed { AreSummed words.new.items summaries.new.items }
+    ensures uses { (q : ℕ) → uses words.new.items q ≡ cond (nat_eq q n) false (uses words.old.items q) }
+    ensures len { length words.new.items ≡ length words.old.items }
+{
+    let i = n / WORD;
+    clear(words, n);
+    if words[i as usize] == 0 {
+        clear(summaries, i);
+    }
+}
+
+/// The first word from `from` on that has bits.
+fn first_in(words: &[u64], from: u32) -> Option<u32>
+    requires { length words.now ≤ 31264 }
+    ensures { IsFirstIn (has_bits words.now) from (length words.now) result }
+{
+    for i in from..words.len() as u32 {
+        if words[i as usize] != 0 {
+            return Some(i);
+        }
+    }
+    None
+}
+
+/// The last word that has bits.
+fn last_in(words: &[u64]) -> Option<u32>
+    requires { length words.now ≤ 31264 }
+    ensures { IsLastIn (has_bits words.now) 0 (length words.now) result }
+{
+    let mut i = words.len() as u32;
+    'down: while 0 < i {
+        i -= 1;
+        if words[i as usize] != 0 {
+            return Some(i);
+        }
+    }
+    None
+}
+
+/// The least number in use of a word that has bits.
+fn first_of(words: &[u64], i: u32) -> u32
+    requires there { has_bits words.now i ≡ true }
+    requires limit { length words.now ≤ 31264 }
+    ensures { IsFirstIn (uses words.now) (i * 64) ((i + 1) * 64) (Some result) }
+{
+    i * WORD + lowest(words[i as usize])
+}
+
+/// The greatest number in use of a word that has bits.
+fn last_of(words: &[u64], i: u32) -> u32
+    requires there { has_bits words.now i ≡ true }
+    requires limit { length words.now ≤ 31264 }
+    ensures { IsLastIn (uses words.now) (i * 64) ((i + 1) * 64) (Some result) }
+{
+    i * WORD + highest(words[i as usize])
+}
+
+/// The least number in use above n, of those of its word.
+fn next_of(words: &[u64], n: u32) -> Option<u32>
+    requires there { n / 64 < length words.now }
+    requires limit { length words.now ≤ 31264 }
+    ensures { IsFirstIn (uses words.now) (n + 1) ((n / 64 + 1) * 64) result }
+{
+    let above = (words[(n / WORD) as usize] >> (n % WORD)) >> 1;
+    if above == 0 {
+        return None;
+    }
+    Some(n + 1 + lowest(above))
+}
+
+/// The least word above word i that has bits. It looks at the summary of i and at those above it.
+fn next_word(summaries: &[u64], i: u32) -> Option<u32>
+    requires there { i / 64 < length summaries.now }
+    requires limit { length summaries.now ≤ 489 }
+    ensures { IsNext (uses summaries.now) i result }
+{
+    if let Some(found) = next_of(summaries, i) {
+        return Some(found);
+    }
+    let above = first_in(summaries, i / WORD + 1)?;
+    Some(first_of(summaries, above))
+}
+
+/// The least number in use above n. It looks at the word of n, at its summary and those above it, and at the word that has it.
+fn next(words: &[u64], summaries: &[u64], n: u32) -> Option<u32>
+    requires { AreSummed words.now summaries.now }
+    ensures { IsNext (uses words.now) n result }
+{
+    let i = n / WORD;
+    if words.len() <= i as usize {
+        return None;
+    }
+    if let Some(found) = next_of(words, n) {
+        return Some(found);
+    }
+    let above = next_word(summaries, i)?;
+    Some(first_of(words, above))
+}
+
+/// The greatest number in use, or 0. It looks at the summaries from the last one down, and at the word that has it.
+fn last(words: &[u64], summaries: &[u64]) -> u32
+    requires { AreSummed words.now summaries.now }
+    ensures { IsLast (uses words.now) result }
+{
+    match last_in(summaries) {
+        Some(summary) => last_of(words, last_of(summaries, summary)),
+        None => 0,
+    }
+}
+
+/// Makes the words `count` at least.
+fn reach(words: &mut Vec<u64>, count: u32) -> Result<(), AllocError>
+    ensures same { (k : ℕ) → word_at words.new.items k ≡ word_at words.old.items k }
+    ensures grows { length words.old.items ≤ length words.new.items }
+    ensures limit { (k : ℕ) → count ≤ k → length words.old.items ≤ k → length words.new.items ≤ k }
+    ensures ok { OnOk result (count ≤ length words.new.items) }
+{
+    let wanted = count as usize;
+    if words.len() < wanted {
+        words.resize(wanted, 0)?;
+    }
+    Ok(())
+}

@@ -1,0 +1,237 @@
+//! Rows by number.
+ghost use Rattle.std.specs.Prelude.{◌≡◌, ◌≢◌, ℕ, ◌<◌, ◌≤◌, ◌-◌, ◌&&◌, true, cond, nat_eq, nat_le, is_some, [], length, OnOk, IfOk, IsOk, Some, None, IsSome};
+ghost use Rattle.raw_cells.specs.Rows.{row_at, has_row};
+ghost use Rattle.raw_cells.specs.Numbers.{IsLast, IsNext, uses};
+
+use crate::cells::Cells;
+use crate::numbers::Numbers;
+use std::alloc::{AllocError, Global};
+use std::marker::Model;
+
+/// Rows by number: the numbers in use, whose cells are rows, and how many numbers have their room.
+///
+/// A contract sees the list of the rows that are there, one place for each number from 0 on. Only `reach` and `copy` take memory, and a
+/// cell isn't written before its number comes into use: so the first row of a great number costs no more than that of a small one.
+#[derive(Drop)]
+pub struct Rows<T: Copy> {
+    cells: Cells<T>,
+    used: Numbers,
+    room: u32,
+}
+
+impl<T: Copy> Model for Rows<T> {
+    ghost use Rattle.std.specs.Prelude.{List, Option, take};
+
+    ghost Value = { List (Option T) };
+
+    ghost use Rattle.raw_cells.specs.Numbers.{uses};
+    ghost use Rattle.raw_cells.specs.Rows.{rows_of, AreCells};
+
+    ghost view = { λ a. rows_of (uses a.used) (take a.room a.cells) };
+
+    ghost invariant = { λ a. AreCells a.cells a.used a.room };
+}
+
+impl<T: Copy> Rows<T> {
+    /// No row, and no room. It takes no memory.
+    pub fn new(alloc: Global) -> Self
+        ensures { result ≡ [] }
+    {
+        Self {
+            cells: Cells::new(alloc),
+            used: Numbers::new(alloc),
+            room: 0,
+        }
+    }
+
+    /// Rows that are equal, in memory of their own. Its cost is linear in the numbers that have their room.
+    pub fn copy(&self, alloc: Global) -> Result<Rows<T>, AllocError>
+        ensures { IfOk result (λ copy. copy ≡ self.now) }
+    {
+        Ok(Rows {
+            cells: moved(alloc, &self.cells, &self.used, self.room)?,
+            used: self.used.copy(alloc)?,
+            room: self.room,
+        })
+    }
+
+    /// Row n, which is there.
+    pub fn known(&self, n: u32) -> T
+        requires { IsSome (row_at self.now n) }
+        ensures { row_at self.now n ≡ Some result }
+    {
+        self.cells.get(n)
+    }
+
+    /// Row n, if it is there.
+    pub fn find(&self, n: u32) -> Option<T>
+        ensures { result ≡ row_at self.now n }
+    {
+        if self.used.contains(n) {
+            Some(self.cells.get(n))
+        } else {
+            None
+        }
+    }
+
+    /// Whether row n is there.
+    pub fn has(&self, n: u32) -> bool
+        ensures { result ≡ has_row self.now n }
+    {
+        self.used.contains(n)
+    }
+
+    /// The greatest number that has a row, or 0 where none has. It looks for it as `Numbers::last` does.
+    pub fn last(&self) -> u32
+        ensures { IsLast (has_row self.now) result }
+    {
+        self.used.last()
+    }
+
+    /// The least number above n that has a row, or none. It looks for it as `Numbers::after` does.
+    pub fn after(&self, n: u32) -> Option<u32>
+        ensures { IsNext (has_row self.now) n result }
+    {
+        self.used.after(n)
+    }
+
+    /// Row n comes, or another one in its place. This is one step, and it walks over nothing.
+    pub fn put(&mut self, n: u32, row: T)
+        requires { n < length self.old }
+        ensures rows { (q : ℕ) → row_at self.new q ≡ cond (nat_eq q n) (Some row) (row_at self.old q) }
+        ensures len { length self.new ≡ length self.old }
+    {
+        self.cells.put(n, row);
+        self.used.put(n);
+    }
+
+    /// Row n goes, if it is there. This is one step, and it walks over nothing.
+    pub fn take(&mut self, n: u32)
+        requires { n < length self.old }
+        ensures rows { (q : ℕ) → row_at self.new q ≡ cond (nat_eq q n) None (row_at self.old q) }
+        ensures len { length self.new ≡ length self.old }
+    {
+        self.used.take(n);
+    }
+
+    /// Another row in the place of row n, which is there. It writes the row alone, where `put` also notes that the number is in use.
+    pub fn set(&mut self, n: u32, row: T)
+        requires { IsSome (row_at self.old n) }
+        ensures rows { (q : ℕ) → row_at self.new q ≡ cond (nat_eq q n) (Some row) (row_at self.old q) }
+        ensures len { length self.new ≡ length self.old }
+    {
+        self.cells.put(n, row);
+    }
+
+    /// How many numbers have their room, from 0 on.
+    pub fn len(&self) -> u32
+        ensures { result ≡ length self.now }
+    {
+        self.room
+    }
+
+    /// Whether number n, from 1 on, has its room.
+    pub fn reaches(&self, n: u32) -> bool
+        ensures { result ≡ nat_le 1 n && nat_le n (length self.now - 1) }
+    {
+        n != 0 && n < self.room
+    }
+
+    /// Makes the rows reach to number n. Where they do, this is one test, and no `Err` comes.
+    pub fn reach(&mut self, n: u32) -> Result<(), AllocError>
+        requires { n ≤ 2000001 }
+        ensures same { (q : ℕ) → row_at self.new q ≡ row_at self.old q }
+        ensures grows { length self.old ≤ length self.new }
+        ensures limit { (k : ℕ) → n < k → length self.old ≤ k → length self.new ≤ k }
+        ensures ok { OnOk result (n < length self.new) }
+        ensures known { n < length self.old → IsOk result }
+    {
+        if n < self.room {
+            return Ok(());
+        }
+        self.used.reach(n)?;
+        widen(&mut self.cells, &self.used, self.room, n)?;
+        self.room = n + 1;
+        Ok(())
+    }
+}
+
+/// Makes the cells reach to number n. Those of the numbers in use stay as they are.
+fn widen<T: Copy>(cells: &mut Cells<T>, used: &Numbers, room: u32, n: u32) -> Result<(), AllocError>
+    requires limit { n ≤ 2000001 }
+    requires fits { room ≤ length cells.old }
+    requires written { (k : ℕ) → uses used.now k ≡ true → is_some (row_at cells.old k) ≡ true }
+    ensures same { (k : ℕ) → k < room → uses used.now k ≡ true → row_at cells.new k ≡ row_at cells.old k }
+    ensures fits { room ≤ length cells.new }
+    ensures ok { OnOk result (n < length cells.new) }
+{
+    if (n as usize) < cells.len() {
+        return Ok(());
+    }
+    let mut wider = Cells::with_count(cells.alloc(), count_for(n))?;
+    copy_rows(cells, used, room, &mut wider);
+    *cells = wider;
+    Ok(())
+}
+
+/// Cells of their own for the numbers that have their room, with what those of the numbers in use hold.
+fn moved<T: Copy>(
+    alloc: Global,
+    cells: &Cells<T>,
+    used: &Numbers,
+    room: u32,
+) -> Result<Cells<T>, AllocError>
+    requires limit { room ≤ 2000002 }
+    requires written { (k : ℕ) → uses used.now k ≡ true → is_some (row_at cells.now k) ≡ true }
+    ensures same { IfOk result (λ copy. (k : ℕ) → k < room → uses used.now k ≡ true → row_at copy k ≡ row_at cells.now k) }
+    ensures fits { IfOk result (λ copy. room ≤ length copy) }
+{
+    if room == 0 {
+        return Ok(Cells::new(alloc));
+    }
+    let mut copy = Cells::with_count(alloc, count_for(room - 1))?;
+    copy_rows(cells, used, room, &mut copy);
+    Ok(copy)
+}
+
+/// Writes the cells of the numbers in use into others.
+fn copy_rows<T: Copy>(cells: &Cells<T>, used: &Numbers, room: u32, copy: &mut Cells<T>)
+    requires fits { room ≤ length copy.old }
+    requires written { (k : ℕ) → uses used.now k ≡ true → is_some (row_at cells.now k) ≡ true }
+    ensures same { (k : ℕ) → k < room → uses used.now k ≡ true → row_at copy.new k ≡ row_at cells.now k }
+    ensures len { length copy.new ≡ length copy.old }
+{
+    'rows: for n in 0..room {
+        copy_row(cells, used, n, copy);
+    }
+}
+
+/// Writes the cell of number n into another one, where the number is in use.
+fn copy_row<T: Copy>(cells: &Cells<T>, used: &Numbers, n: u32, copy: &mut Cells<T>)
+    requires room { n < length copy.old }
+    requires written { uses used.now n ≡ true → is_some (row_at cells.now n) ≡ true }
+    ensures same { uses used.now n ≡ true → row_at copy.new n ≡ row_at cells.now n }
+    ensures others { (k : ℕ) → k ≢ n → row_at copy.new k ≡ row_at copy.old k }
+    ensures len { length copy.new ≡ length copy.old }
+{
+    if used.contains(n) {
+        copy.put(n, cells.get(n));
+    }
+}
+
+/// How many cells there are where number n has one. They are seldom more than needed by much, and where they are many they are all:
+/// cells that aren't written cost no memory, and those that are need not move again.
+fn count_for(n: u32) -> usize
+    requires { n ≤ 2000001 }
+    ensures { n < result }
+{
+    if n < 64 {
+        64
+    } else if n < 1024 {
+        1024
+    } else if n < 16384 {
+        16384
+    } else {
+        2000002
+    }
+}
