@@ -1,5 +1,6 @@
 pub mod Ready
 pub mod Ends
+pub mod Answer
 pub mod Parts
 pub use Rattle.halfedge_arena.specs.Store
 pub use Rattle.halfedge_arena.specs.Codes

@@ -2,7 +2,8 @@
 ghost use Rattle.std.specs.Prelude.{◌≡◌, true, [], ◌∷◌};
 ghost use Rattle.euler_operators.specs.Model.{content};
 ghost use Rattle.halfedge_arena.specs.Store.{has_number};
-ghost use Rattle.euler_operators.specs.Conditions.{corner_number, corner_known, corner_lone, corner_tail, corner_loop, is_lone, lone_vertex, first_refusal, verdict};
+ghost use Rattle.euler_operators.specs.Conditions.{corner_number, corner_known, corner_lone, corner_tail, corner_loop, is_lone, first_refusal, verdict};
+ghost use Rattle.euler_conditions.specs.Answer.{answer};
 ghost use Rattle.euler_conditions.specs.Ready.{IsReady};
 
 use crate::halves;
@@ -53,56 +54,36 @@ pub fn is_lone(arena: &Arena, l: u32) -> bool
     }
 }
 
-/// The vertex of a lone loop.
-fn lone_vertex(arena: &Arena, l: u32) -> u32
-    requires ready { IsReady arena.now }
-    requires there { has_number arena.now Kind.Loop l ≡ true }
-    requires lone { is_lone (content arena.now.model l) ≡ true }
-    ensures { result ≡ lone_vertex (content arena.now.model l) }
-{
-    match arena.content(l) {
-        Content::Lone(v) => v,
-        Content::Ring(_) => unreachable!(),
-    }
-}
-
-/// The loop of a corner without a half-edge is lone.
-pub(crate) fn lone(arena: &Arena, corner: Corner) -> Result<(), Refusal>
+/// The vertex of a corner, whose loop has to be lone where it has no half-edge.
+#[inline(always)]
+fn vertex(arena: &Arena, corner: Corner) -> Result<u32, Refusal>
     requires ready { IsReady arena.now }
     requires known { (corner_known arena.now.model corner).holds ≡ true }
-    ensures { result ≡ verdict (first_refusal (corner_lone arena.now.model corner ∷ [])) }
+    ensures { result ≡ answer (first_refusal (corner_lone arena.now.model corner ∷ [])) (corner_tail arena.now.model corner) }
 {
-    let Corner::Lone(l) = corner else {
-        return Ok(());
-    };
-    if !is_lone(arena, l) {
-        return refused(Why::NotLone, l);
+    match corner {
+        Corner::At(h) => Ok(halves::tail(arena, h)),
+        Corner::Lone(l) => match arena.content(l) {
+            Content::Lone(v) => Ok(v),
+            Content::Ring(_) => Err(Refusal {
+                why: Why::NotLone,
+                number: l,
+            }),
+        },
     }
-    Ok(())
 }
 
-/// Both corners are there: their edges or loops are, and the loops of those without a half-edge are lone.
-pub(crate) fn there(arena: &Arena, from: Corner, to: Corner) -> Result<(), Refusal>
+/// The vertices of two corners that are there: their edges or loops are, and the loops of those without a half-edge are lone.
+#[inline(always)]
+pub(crate) fn vertices(arena: &Arena, from: Corner, to: Corner) -> Result<(u32, u32), Refusal>
     requires { IsReady arena.now }
-    ensures { result ≡ verdict (first_refusal (corner_known arena.now.model from ∷ corner_known arena.now.model to ∷ corner_lone arena.now.model from ∷ corner_lone arena.now.model to ∷ [])) }
+    ensures { result ≡ answer (first_refusal (corner_known arena.now.model from ∷ corner_known arena.now.model to ∷ corner_lone arena.now.model from ∷ corner_lone arena.now.model to ∷ [])) (corner_tail arena.now.model from, corner_tail arena.now.model to) }
 {
     known(arena, from)?;
     known(arena, to)?;
-    lone(arena, from)?;
-    lone(arena, to)
-}
-
-/// The vertex of a corner.
-pub(crate) fn tail(arena: &Arena, corner: Corner) -> u32
-    requires ready { IsReady arena.now }
-    requires known { (corner_known arena.now.model corner).holds ≡ true }
-    requires lone { (corner_lone arena.now.model corner).holds ≡ true }
-    ensures { result ≡ corner_tail arena.now.model corner }
-{
-    match corner {
-        Corner::At(h) => halves::tail(arena, h),
-        Corner::Lone(l) => lone_vertex(arena, l),
-    }
+    let start = vertex(arena, from)?;
+    let end = vertex(arena, to)?;
+    Ok((start, end))
 }
 
 /// The loop in which a corner stands.

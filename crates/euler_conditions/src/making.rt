@@ -65,7 +65,7 @@ pub(crate) fn check_mev(
         made.edge,
         vertex,
     ])?;
-    corners::there(arena, from, to)?;
+    let (start, end) = corners::vertices(arena, from, to)?;
     if arena.has(Kind::Edge, made.edge) {
         return refused(Why::EdgeTaken, made.edge);
     }
@@ -75,9 +75,8 @@ pub(crate) fn check_mev(
     if !fits(point) {
         return refused(Why::PointRange, vertex);
     }
-    let tail = corners::tail(arena, to);
-    if corners::tail(arena, from) != tail {
-        return refused(Why::DifferentTails, tail);
+    if start != end {
+        return refused(Why::DifferentTails, end);
     }
     Ok(())
 }
@@ -140,7 +139,7 @@ pub(crate) fn check_mekr(
     ensures { result ≡ verdict (first_false arena.now.model (Op.Mekr from to made)) }
 {
     in_range(&[corners::number(from), corners::number(to), made.edge])?;
-    corners::there(arena, from, to)?;
+    let (start, end) = corners::vertices(arena, from, to)?;
     if arena.has(Kind::Edge, made.edge) {
         return refused(Why::EdgeTaken, made.edge);
     }
@@ -156,9 +155,8 @@ pub(crate) fn check_mekr(
     if !faces::is_ring(arena, ring) {
         return refused(Why::NotRing, ring);
     }
-    let tail = corners::tail(arena, from);
-    if tail == corners::tail(arena, to) {
-        return refused(Why::SameTail, tail);
+    if start == end {
+        return refused(Why::SameTail, start);
     }
     Ok(())
 }
