@@ -6,7 +6,7 @@ use Rattle.std.proofs.lemmas.Bool.Decides.{nat_tests, eqb_tells}
 use Rattle.std.proofs.lemmas.Bool.{and_parts, false_from_ne_true}
 use Rattle.std.proofs.lemmas.Option.{same_Some}
 use Rattle.euler_operators.specs.Table as table
-use Rattle.euler_operators.specs.Table.{Table, get, all_where, all_in, map_rows, put, get-map_rows}
+use Rattle.euler_operators.specs.Table.{Table, get, all_where, all_in}
 use Rattle.euler_operators.specs.Model.{Model, FaceRow, no_face, solid_of, faces_of, is_number}
 use Rattle.euler_operators.specs.Sound.{NumbersFit}
 use Rattle.euler_operators.proofs.Tables.{and_left, and_right, all_where_none, find_here, find_later, row_some}

@@ -10,6 +10,7 @@ use euler_conditions::Arena;
 use euler_operators::{Corner, HalfEdge, Kind};
 
 /// Makes the edge of `half`, which starts at one vertex and ends at another. Both its half-edges are loose.
+#[inline(always)]
 fn put_edge(arena: &mut Arena, half: HalfEdge, start: u32, end: u32)
     requires room { has_room arena.old Kind.Edge half.edge ≡ true }
     requires free { has_number arena.old Kind.Edge half.edge ≡ false }
@@ -24,6 +25,7 @@ fn put_edge(arena: &mut Arena, half: HalfEdge, start: u32, end: u32)
 
 /// Makes an edge between two corners: `half`, which starts at one vertex and ends at another, is put at the first, and then its
 /// mate at the second.
+#[inline(always)]
 pub(crate) fn make_edge(
     arena: &mut Arena,
     first: Corner,
