@@ -1,9 +1,6 @@
 mod OpenedCaps
 mod PartCaps
 mod Whole
-mod Steps
-mod DrawnWithin
-mod PartedWithin
 mod SplitCounts
 mod CapNormals
 mod Sizes

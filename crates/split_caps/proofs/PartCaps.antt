@@ -27,7 +27,7 @@ use Rattle.shapes.specs.Vectors.{negated}
 use Rattle.shapes.specs.split.Drawing.{Drawing}
 use Rattle.shapes.specs.split.Section.{below_halves, holes_in, is_hole, section_cycles}
 use Rattle.shapes.specs.split.Opening.{Caps, Opening, holes_closed, hole_closed, no_caps, outer_caps}
-use Rattle.shapes.specs.split.Split.{opened_at, split_drawn}
+use Rattle.shapes.specs.split.Split.{opened_at}
 use Rattle.shapes.proofs.measures.Products.{cross_moved}
 use Rattle.shapes.proofs.walks.SolidFaces.{face_of_loop}
 use Rattle.split_opening_laws.specs.sections.Capped.{HasCaps, IsPlain, cap_faces}
@@ -428,8 +428,3 @@ module _ (d : Drawing) (above : List ℕ) (s : ℕ) (p : Plane) (t : ℕ) (w : C
         let a = apart_at Y.model p all i l all_apart in
         let low = parted_normal one.lower own_flag (omega (arith, tick_same one.lower)) simple.0.there ∙ (have_normals own_flag).0 ∙ ap (λ hs. moved (sum_of (lowers Y.model hs)) (normal Y.model one.lower)) none ∙ none_moved (normal Y.model one.lower) in
         (ap (λ v. int_lt (dot v (direction p)) (pos 0)) low ∙ sym a.told ∙ own_flag, (normals_told own_flag).2)
-
--- ---- the split's model
-
-pub split_is : (d : Drawing) (above : List ℕ) (s : ℕ) (p : Plane) (t : ℕ) → CanBeSplit d above s p t → split_drawn d above s p t ≡ part (holes_closed (opened_at d above s p).model (opened_at d above s p).caps) s t (upper_faces above (opened_at d above s p).caps)
-split_is d above s p t w = split.split_is d above s p t w

@@ -12,7 +12,7 @@ use Rattle.euler_operators.specs.Table.{Table}
 use Rattle.euler_operators.specs.Model.{EdgeRow, Model, is_ring_of, loop_of, point_of, tail}
 use Rattle.euler_operators.specs.Sound.{Sound}
 use Rattle.euler_operators.specs.Conditions.{face_at, has_rings}
-use Rattle.euler_operators.specs.Effect.{effect, kfmrh, mev_at, part}
+use Rattle.euler_operators.specs.Effect.{effect, mev_at}
 use Rattle.euler_operators.proofs.Lists.{tick_same}
 use Rattle.euler_operators.proofs.Tables.{get-put_other}
 use Rattle.euler_laws.specs.Laws.{AreAccepted, effects, size}
@@ -21,7 +21,7 @@ use Rattle.euler_laws.proofs.mev.Mev.{mev_goes}
 use Rattle.shapes.specs.Fresh.{Growing, Taken, numbers_after}
 use Rattle.shapes.specs.split.Crossings.{next_cut}
 use Rattle.shapes.specs.split.Drawing.{Drawing, FacePairs, all_drawn, all_joined, draw_next, drawn_between, in_one_loop, join_next, joined_pair, loops_joined, next_drawn, ring_free, rings_above, stuck_at, with_rings}
-use Rattle.shapes.specs.split.Opening.{Caps, Opening, all_opened, both_lists, hole_closed, next_opened, opened_along, with_copies, with_rim}
+use Rattle.shapes.specs.split.Opening.{Opening, all_opened, both_lists, next_opened, opened_along, with_copies, with_rim}
 use Rattle.split_drawing_laws.specs.crossings.CrossingOps as crossings
 use Rattle.split_drawing_laws.specs.drawings.Pairs.{AllFit, pairs_in}
 use Rattle.split_drawing_laws.specs.drawings.Passing.{Drawable, Going, Joining, Ready}
@@ -218,22 +218,3 @@ openings_make above s p o (bs ∷ cs) w =
     ) where
       both : (a b n m k : ℕ) → b ≡ a + n → k ≡ n + m → b + m ≡ a + k
       both a b n m k e f = omega arith
-
--- ---- the holes closed, and the upper faces parted
-
-kill_keeps : (M : Model) (f g : ℕ) → ((kfmrh M f g).vertices ≡ M.vertices) × ((kfmrh M f g).edges ≡ M.edges)
-unfolding kfmrh
-kill_keeps M f g = (refl, refl)
-
-pub holes_keep : (o : Caps) (M : Model) (hs : List Caps) → let K = fold (hole_closed o) M hs in (K.vertices ≡ M.vertices) × (K.edges ≡ M.edges)
-holes_keep o M [] = (refl, refl)
-holes_keep o M (k ∷ ks) =
-    let A = kfmrh M o.lower k.lower in
-    let first = kill_keeps M o.lower k.lower in
-    let second = kill_keeps A o.upper k.upper in
-    let rest = holes_keep o (kfmrh A o.upper k.upper) ks in
-    (rest.0 ∙ second.0 ∙ first.0, rest.1 ∙ second.1 ∙ first.1)
-
-pub part_keeps : (M : Model) (s t : ℕ) (fs : List ℕ) → ((part M s t fs).vertices ≡ M.vertices) × ((part M s t fs).edges ≡ M.edges)
-unfolding part
-part_keeps M s t fs = (refl, refl)

@@ -2,17 +2,15 @@
 use Rattle.std.specs.Prelude.{filter}
 use Rattle.std.proofs.Common.{◌≡◌, ◌≢◌, ℕ, zero, suc, ◌+◌, ◌*◌, ◌-◌, ℤ, pos, neg_ℤ, ◌+ℤ◌, ◌-ℤ◌, Bool, true, false, cond, nat_eq, List, [], ◌∷◌, ◌++◌, length, map, is_some, refl, sym, ap, subst, ◌∙◌, arith, ne_eqb}
 use Rattle.std.proofs.lemmas.Int.{ints}
-use Rattle.std.proofs.lemmas.List.{append-nil}
 use Rattle.euler_operators.specs.declared.Op.{Op}
 use Rattle.euler_operators.specs.declared.Op.TheVariants.{Kef, Part}
 use Rattle.euler_operators.specs.HalfEdge.{half, minus}
 use Rattle.euler_operators.specs.declared.Plane.{Plane}
 use Rattle.euler_operators.specs.Items.{IsIn}
-use Rattle.euler_operators.specs.Table as table
 use Rattle.euler_operators.specs.Model.{Model, faces_of, is_ring_of, loop_of, solid_of}
 use Rattle.euler_operators.specs.Sound.{Sound}
-use Rattle.euler_operators.specs.Conditions.{face_at, strictly_rises}
-use Rattle.euler_operators.specs.Effect.{effect, part}
+use Rattle.euler_operators.specs.Conditions.{face_at}
+use Rattle.euler_operators.specs.Effect.{effect}
 use Rattle.euler_operators.proofs.Members.{count-filter}
 use Rattle.euler_operators.proofs.Models.{number_real}
 use Rattle.euler_laws.proofs.shared.Counted.{all_where_has}
@@ -26,7 +24,6 @@ use Rattle.shapes.specs.split.Places.{pair_count}
 use Rattle.shapes.specs.split.Sides.{crossing_edges, faces_above, straddles, straddling_faces}
 use Rattle.shapes.specs.split.Crossings.{next_cut, with_crossings}
 use Rattle.shapes.specs.split.Drawing.{Drawing, FacePairs, all_drawn, all_joined, draw_next, in_one_loop, join_next, next_drawn, ring_free, rings_above, straddling_pairs, undrawn, with_drawings}
-use Rattle.shapes.specs.split.Section.{below_halves, section_cycles}
 use Rattle.shapes.specs.split.Opening.{Caps, Opening, holes_closed, next_opened, outer_caps}
 use Rattle.shapes.specs.split.Split.{opened_at, upper_left}
 use Rattle.solid_measure.specs.solid_counts.Counts.{counts, rings_in}
@@ -43,90 +40,19 @@ use Rattle.split_drawing_laws.specs.drawings.DrawingOps.{draw_ops, drawing_ops, 
 use Rattle.split_opening_laws.specs.caps.CapOps.{cap_ops, joinings, partings}
 use Rattle.split_opening_laws.specs.opening.OpeningOps.{opening_ops}
 use Rattle.split_opening_laws.specs.strips.StripOps.{copy_ops, strip_ops}
-use Rattle.split_opening_laws.specs.sections.Capped.{HasCaps}
-use Rattle.split_opening_laws.specs.sections.InTurn.{CanBeOpenedInTurn, halves_in, upper_faces}
-use Rattle.split_opening_laws.proofs.sections.Capping.{caps_rise}
-use Rattle.split_opening_laws.proofs.sections.InTurn.{all_on}
+use Rattle.split_opening_laws.specs.sections.InTurn.{halves_in, upper_faces}
 use Rattle.split_laws.specs.SplitOps.{closing_ops, hole_ops, openings_ops, split_ops, upper_ops}
-use Rattle.split_laws.specs.volumes.Laws.{CanBeSplit}
-use Rattle.split_laws.proofs.Closed as closing
-use Rattle.split_laws.proofs.Holes.{AreClosed}
-use Rattle.split_laws.proofs.OldFaces.{solids_still}
 use Rattle.split_laws.proofs.Whole.{split_accepted, split_made}
 use Rattle.split_laws.proofs.drawn.Drawn.{begins, drawn_stays, never_stuck}
 use Rattle.split_laws.proofs.measures.Splittable.{can_be_split}
 use Rattle.undo_journal.specs.Machine.{Machine, held}
 use Rattle.plane_split.specs.Held.{IsSplit}
-use Rattle.command_laws.proofs.Owners.{Agree, agree_on, faces_many, is_either, is_of, loops_many, many_either, more_edges, more_faces, more_loops, more_vertices, not_either, others_kept, solid_of_edge, solid_of_loop, solid_of_vertex, vertices_many}
+use Rattle.command_laws.proofs.Owners.{Agree, faces_many, is_either, is_of, loops_many, many_either, more_edges, more_faces, more_loops, more_vertices, not_either, others_kept, solid_of_edge, solid_of_loop, solid_of_vertex, vertices_many}
 use Rattle.split_caps.specs.Capped.{caps_of, cycles_of}
 use Rattle.split_caps.specs.Counted.{SplitKeepsCounts, SplitMakesCounts, SplitSharesCounts, SplitSharesSums}
-use Rattle.split_caps.proofs.DrawnWithin.{drawings_within, within_on}
-use Rattle.split_caps.proofs.PartedWithin.{holes_within, openings_within}
-use Rattle.split_caps.proofs.Sizes.{cuts_make, faces_make, holes_keep, openings_make, part_keeps}
-use Rattle.split_caps.proofs.Steps.{Within, part_agrees}
-use Rattle.split_caps.proofs.Whole.{after_is, after_sound}
-
--- ---- the models before and after agree but for the two parts
-
-module _ (before after : Machine) (s : ℕ) (p : Plane) (t : ℕ) (sound : Sound (held before)) (made : IsSplit before after s p t) where
-  abbrev M : Model
-  M = held before
-
-  abbrev d : Drawing
-  d = with_drawings M s p
-
-  abbrev above : List ℕ
-  above = faces_above d.model p s
-
-  abbrev cycles : List (List ℕ)
-  cycles = section_cycles d.model (below_halves d.model above s)
-
-  abbrev begun : Opening
-  begun = record { model = d.model; taken = d.taken; caps = [] }
-
-  abbrev X : Opening
-  X = opened_at d above s p
-
-  abbrev K : Model
-  K = holes_closed X.model X.caps
-
-  abbrev us : List ℕ
-  us = upper_faces above X.caps
-
-  abbrev N : Model
-  N = part K s t us
-
-  can : CanBeSplit d above s p t
-  can = can_be_split M s p t sound made.0
-
-  bare : HasCaps above s begun
-  bare = record { plain = tt; all_rise = ap strictly_rises (append-nil above) ∙ can.above_rise; upper_rise = ap strictly_rises (append-nil above) ∙ can.above_rise }
-
-  caps : HasCaps above s X
-  caps = caps_rise above s p begun cycles can.opens bare
-
-  opened : CanBeOpenedInTurn above s X []
-  opened = all_on above s p begun cycles can.opens
-
-  closed : AreClosed X.model K s us (hole_ops X.caps) (filter (λ k. k.hole) X.caps)
-  closed = closing.closed d above s p can.opens bare can.no_stray
-
-  fresh : table.has K.solids t ≡ false
-  fresh = ap (λ u. table.has u t) (closed.solids ∙ solids_still above s p begun cycles) ∙ ap is_some can.fresh
-
-  to_closed : Within s M K
-  to_closed = within_on s M X.model K
-      (within_on s M d.model X.model (drawings_within M s p t sound (begins M s p t sound made.0)) (openings_within above s p begun cycles can.opens))
-      (holes_within X.model s X.caps opened.sound caps.plain closed.leads.accepted)
-
-  parts_agree : Agree M N (is_of s) (is_either s t)
-  parts_agree = agree_on M K N (is_of s) (is_of s) (is_either s t) to_closed (part_agrees K s t us closed.part.sound (after_sound before after s p t sound made) closed.part.of_solid fresh)
-
-  pub agree : Agree M (held after) (is_of s) (is_either s t)
-  agree = subst (λ P. Agree M P (is_of s) (is_either s t)) (sym (after_is before after s p t sound made)) parts_agree
-
-  pub apart : s ≢ t
-  apart = can.apart
+use Rattle.split_frames.proofs.PartedWithin.{holes_keep, part_keeps}
+use Rattle.split_frames.proofs.Parts.{after_is, agree, apart}
+use Rattle.split_caps.proofs.Sizes.{cuts_make, faces_make, openings_make}
 
 -- ---- each part's counts
 

@@ -1,31 +1,21 @@
-use Rattle.std.proofs.Common.{◌≡◌, ℕ, [], false, List, get_or, map, sym, ap, subst, ◌∙◌}
+use Rattle.std.proofs.Common.{◌≡◌, [], false, get_or, map, sym, subst}
 use Rattle.std.specs.Prelude.{int_lt, pos}
-use Rattle.euler_operators.specs.declared.Plane.{Plane}
-use Rattle.euler_operators.specs.Effect.{part}
-use Rattle.euler_operators.specs.Model.{Model}
-use Rattle.euler_operators.specs.Sound.{Sound}
 use Rattle.euler_operators.specs.Table as table
 use Rattle.euler_operators.specs.Vectors.{direction, dot, moved}
-use Rattle.undo_journal.specs.Machine.{Machine}
-use Rattle.plane_split.specs.Held.{IsSplit}
 use Rattle.shapes.specs.Measure.{normal}
 use Rattle.shapes.specs.Vectors.{negated}
 use Rattle.shapes.specs.split.Section.{holes_in, is_hole}
-use Rattle.shapes.specs.split.Split.{opened_at, split_model}
-use Rattle.split_opening_laws.specs.sections.InTurn.{upper_faces}
-use Rattle.split_laws.specs.volumes.Laws.{CanBeSplit}
 use Rattle.split_caps.specs.Laws.{CapsAreNumbered, CapsFaceApart, CapsHaveNormals, CapsStand, HolesAreClosed}
 use Rattle.undo_journal.specs.Machine.{held}
 use Rattle.shapes.specs.split.Sides.{faces_above}
-use Rattle.shapes.specs.split.Drawing.{Drawing, with_drawings}
+use Rattle.shapes.specs.split.Drawing.{with_drawings}
 use Rattle.split_laws.proofs.Flags.{flags_are}
 use Rattle.split_laws.proofs.drawn.Drawn.{can_open_all}
-use Rattle.split_laws.proofs.measures.Splittable.{can_be_split}
-use Rattle.split_laws.proofs.Whole.{split_sound}
-use Rattle.shapes.specs.split.Opening.{Opening, holes_closed}
+use Rattle.shapes.specs.split.Opening.{Opening}
 use Rattle.split_caps.specs.Capped.{IsCapOf, area_below, cap, cycles_of, sum_of}
 use Rattle.split_caps.proofs.OpenedCaps.{lowers_are, uppers_are}
-use Rattle.split_caps.proofs.PartCaps.{both_caps, both_gone, faces_apart, normals_told, split_is}
+use Rattle.split_caps.proofs.PartCaps.{both_caps, both_gone, faces_apart, normals_told}
+use Rattle.split_frames.proofs.Parts.{after_is, after_sound, can}
 
 pub caps_are_numbered : CapsAreNumbered
 caps_are_numbered before after s p t sound made =
@@ -36,29 +26,6 @@ caps_are_numbered before after s p t sound made =
     (lowers_are above s p begun (cycles_of M s p), uppers_are above s p begun (cycles_of M s p), flags_are above s p begun (cycles_of M s p) (can_open_all M s p t sound made.0))
 
 -- ---- the caps of cycle i
-
-module _ (before after : Machine) (s : ℕ) (p : Plane) (t : ℕ) (sound : Sound (held before)) (made : IsSplit before after s p t) where
-  abbrev M : Model
-  M = held before
-
-  abbrev d : Drawing
-  d = with_drawings M s p
-
-  abbrev above : List ℕ
-  above = faces_above d.model p s
-
-  can : CanBeSplit d above s p t
-  can = can_be_split M s p t sound made.0
-
-  abbrev N : Model
-  N = part (holes_closed (opened_at d above s p).model (opened_at d above s p).caps) s t (upper_faces above (opened_at d above s p).caps)
-
-  pub after_is : held after ≡ N
-  unfolding split_model
-  after_is = ap held made.1 ∙ split_is d above s p t can
-
-  pub after_sound : Sound N
-  after_sound = subst Sound (sym (ap held made.1) ∙ after_is) (split_sound M s p t sound made.0)
 
 pub caps_stand : CapsStand
 caps_stand before after s p t i sound made l outer =

@@ -1,6 +1,5 @@
-mod Staying
-mod Cut
-mod Drawn
-mod Opened
-mod Parted
+pub mod Steps
+pub mod DrawnWithin
+pub mod PartedWithin
+pub mod Parts
 mod Whole

@@ -1,88 +1,54 @@
 -- A whole split: other solids stay.
-use Rattle.std.proofs.Common.{◌≡◌, ℕ, List, [], None, subst, sym}
+use Rattle.std.proofs.Common.{◌≡◌, ℕ, false, sym, ap, ◌∙◌}
+use Rattle.std.proofs.lemmas.Bool.{ne_eqb}
 use Rattle.euler_operators.specs.declared.Plane.{Plane}
-use Rattle.euler_operators.specs.Model.{Model}
-use Rattle.euler_operators.specs.Sound.{Sound}
+use Rattle.euler_operators.specs.Table as table
+use Rattle.euler_operators.specs.Model.{Model, rings_of, solid_of}
+use Rattle.euler_operators.specs.Sound.{Sound, Has}
 use Rattle.euler_operators.proofs.Models.{same_solid}
-use Rattle.shapes.specs.split.Sides.{faces_above}
-use Rattle.shapes.specs.split.Crossings.{with_crossings}
-use Rattle.shapes.specs.split.Drawing.{Drawing, with_drawings}
-use Rattle.shapes.specs.split.Section.{below_halves, section_cycles}
-use Rattle.shapes.specs.split.Opening.{Opening}
-use Rattle.shapes.specs.split.Split.{opened_at, split_refusal, split_model}
-use Rattle.split_drawing_laws.proofs.crossings.Whole.{crossings_sound}
-use Rattle.split_opening_laws.specs.sections.Capped.{HasCaps}
-use Rattle.split_opening_laws.specs.sections.InTurn.{CanBeOpenedInTurn}
-use Rattle.split_opening_laws.proofs.sections.InTurn.{all_on}
-use Rattle.split_opening_laws.proofs.sections.Capping.{caps_rise}
-use Rattle.split_laws.proofs.drawn.Drawn.{begins, drawn_sound, can_open_all, no_caps}
 use Rattle.undo_journal.specs.Machine.{Machine, held}
-use Rattle.split_frames.specs.OthersStay.{OthersStay}
-use Rattle.split_frames.specs.Laws.{SplitKeepsRows, SplitKeepsOwners, SplitKeepsLoops, SplitKeepsEdges, SplitKeepsPoints, SplitKeepsShapes}
 use Rattle.plane_split.specs.Held.{IsSplit}
+use Rattle.split_frames.specs.Laws.{SplitKeepsRows, SplitKeepsOwners, SplitKeepsLoops, SplitKeepsEdges, SplitKeepsPoints, SplitKeepsShapes}
 use Rattle.command_laws.specs.LeftAlone.{OfOthers}
-use Rattle.command_laws.proofs.Standing.{stands}
-use Rattle.split_frames.proofs.Staying.{staying_on}
-use Rattle.split_frames.proofs.Cut.{crossings_stay}
-use Rattle.split_frames.proofs.Drawn.{drawings_stay}
-use Rattle.split_frames.proofs.Opened.{openings_stay}
-use Rattle.split_frames.proofs.Parted.{parting_stays}
-
-module _ (M : Model) (s : ℕ) (p : Plane) (t : ℕ) (sound : Sound M) (accepted : split_refusal M s p t ≡ None) where
-  abbrev d : Drawing
-  d = with_drawings M s p
-
-  abbrev above : List ℕ
-  above = faces_above (with_drawings M s p).model p s
-
-  abbrev cycles : List (List ℕ)
-  cycles = section_cycles (with_drawings M s p).model (below_halves (with_drawings M s p).model (faces_above (with_drawings M s p).model p s) s)
-
-  abbrev begun : Opening
-  begun = record { model = (with_drawings M s p).model; taken = (with_drawings M s p).taken; caps = [] }
-
-  abbrev o : Opening
-  o = opened_at (with_drawings M s p) (faces_above (with_drawings M s p).model p s) s p
-
-  opens : CanBeOpenedInTurn above s begun cycles
-  opens = can_open_all M s p t sound accepted
-
-  opened : CanBeOpenedInTurn above s (opened_at (with_drawings M s p) (faces_above (with_drawings M s p).model p s) s p) []
-  opened = all_on above s p begun cycles opens
-
-  caps : HasCaps above s (opened_at (with_drawings M s p) (faces_above (with_drawings M s p).model p s) s p)
-  caps = caps_rise above s p begun cycles opens (no_caps M s p t sound accepted)
-
-  drawn : OthersStay M (with_drawings M s p).model s
-  drawn = staying_on M (with_crossings M s p).model s sound (crossings_sound M s p t sound (begins M s p t sound accepted)) (crossings_stay M s p t sound (begins M s p t sound accepted)) (with_drawings M s p).model
-      (drawings_stay M s p t sound (begins M s p t sound accepted))
-
-  after_opening : OthersStay M (opened_at (with_drawings M s p) (faces_above (with_drawings M s p).model p s) s p).model s
-  after_opening = staying_on M (with_drawings M s p).model s sound (drawn_sound M s p t sound accepted) drawn o.model (openings_stay above s p begun cycles opens)
-
-  split_stays : OthersStay M (split_model M s p t) s
-  unfolding split_model
-  split_stays = staying_on M o.model s sound opened.sound after_opening (split_model M s p t) (parting_stays o.model s opened.sound above o.caps opened.upper_of_solid caps.plain t)
-
-held_stay : (before after : Machine) (s : ℕ) (p : Plane) (t : ℕ) → Sound (held before) → IsSplit before after s p t → OthersStay (held before) (held after) s
-held_stay before after s p t sound made = subst (λ x. OthersStay (held before) (held x) s) (sym made.1) (split_stays (held before) s p t sound made.0)
+use Rattle.command_laws.proofs.OnFaces.{vertex_there}
+use Rattle.command_laws.proofs.Owners.{is_either, solid_of_half, solid_of_loop}
+use Rattle.command_laws.proofs.Standing.{rings_same, stands}
+use Rattle.split_frames.proofs.Parts.{agree, point_kept}
 
 pub split_keeps_rows : SplitKeepsRows
-split_keeps_rows before after s p t sound made = (held_stay before after s p t sound made).rows
+split_keeps_rows before after s p t sound made k there ne = ((agree before after s p t sound made).faces k there (ne_eqb (solid_of (held before) k) s ne)).0
 
 pub split_keeps_owners : SplitKeepsOwners
-split_keeps_owners before after s p t sound made k there ne = same_solid (held before) (held after) k ((held_stay before after s p t sound made).rows k there ne)
+split_keeps_owners before after s p t sound made k there ne = same_solid (held before) (held after) k (split_keeps_rows before after s p t sound made k there ne)
 
 pub split_keeps_loops : SplitKeepsLoops
-split_keeps_loops before after s p t sound made = (held_stay before after s p t sound made).loops
+split_keeps_loops before after s p t sound made l there ne = (agree before after s p t sound made).loops l there (ne_eqb (solid_of_loop (held before) l) s ne)
 
 pub split_keeps_edges : SplitKeepsEdges
-split_keeps_edges before after s p t sound made = (held_stay before after s p t sound made).edges
+split_keeps_edges before after s p t sound made h there ne = (agree before after s p t sound made).edges h there (ne_eqb (solid_of_half (held before) h) s ne)
 
 pub split_keeps_points : SplitKeepsPoints
-split_keeps_points before after s p t sound made = (held_stay before after s p t sound made).points
+split_keeps_points before after s p t sound made l v i ne = point_kept before after s p t sound made v (vertex_there (held before) sound l v i)
+
+-- no loop more is of a face of another solid
+module _ (before after : Machine) (s : ℕ) (p : Plane) (t : ℕ) (sound : Sound (held before)) (made : IsSplit before after s p t) (k : ℕ) (there : Has (held before).faces k) (ne : OfOthers (held before) s k) where
+  abbrev M : Model
+  M = held before
+
+  abbrev N : Model
+  N = held after
+
+  row : table.get N.faces k ≡ table.get M.faces k
+  row = split_keeps_rows before after s p t sound made k there ne
+
+  off : is_either s t (solid_of N k) ≡ false
+  off = ap (is_either s t) (same_solid M N k row) ∙ ((agree before after s p t sound made).faces k there (ne_eqb (solid_of M k) s ne)).1
+
+  rings_kept : rings_of N k ≡ rings_of M k
+  rings_kept = rings_same M N k row (λ l has of. split_keeps_loops before after s p t sound made l has (λ e. ne (ap (solid_of M) (sym of) ∙ e)))
+      (λ l has of. (agree before after s p t sound made).loops_back l has (ap (λ j. is_either s t (solid_of N j)) of ∙ off))
 
 pub split_keeps_shapes : SplitKeepsShapes
 split_keeps_shapes before after s p t sound made k there ne =
-    let w = held_stay before after s p t sound made in
-    stands (held before) (held after) (OfOthers (held before) s) sound w.loops w.edges w.points k there ne (w.rows k there ne) (w.rings k there ne)
+    stands (held before) (held after) (OfOthers (held before) s) sound (split_keeps_loops before after s p t sound made) (split_keeps_edges before after s p t sound made) (split_keeps_points before after s p t sound made)
+    k there ne (row before after s p t sound made k there ne) (rings_kept before after s p t sound made k there ne)

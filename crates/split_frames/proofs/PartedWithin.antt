@@ -1,7 +1,7 @@
 -- A solid opened along its section, its holes closed and its upper faces parted: other solids stay as they were.
 use Rattle.std.specs.Prelude.{filter, fold}
 use Rattle.std.specs.Option.{option_map}
-use Rattle.std.proofs.Common.{◌≡◌, ◌≢◌, ℕ, ◌+◌, Bool, true, false, cond, not, ◌&&◌, List, [], ◌∷◌, length, map, Some, None, is_some, refl, sym, ap, subst, ◌∙◌, ◌⊎◌, inl, inr}
+use Rattle.std.proofs.Common.{◌≡◌, ◌≢◌, ℕ, ◌+◌, Bool, true, false, cond, not, ◌&&◌, List, [], ◌∷◌, length, map, Some, None, is_some, refl, sym, ap, subst, ◌∙◌, ◌⊎◌, inl, inr, arith}
 use Rattle.std.proofs.lemmas.Bool.{eqb-false}
 use Rattle.std.proofs.lemmas.Bool.Decides.{eqb_tells}
 use Rattle.euler_operators.specs.declared.Plane.{Plane}
@@ -14,7 +14,7 @@ use Rattle.euler_operators.specs.Table.{get-map_rows}
 use Rattle.euler_operators.specs.Model.{Model, LoopContent, content, cycle, face_of, holds, lone, solid_of, tail}
 use Rattle.euler_operators.specs.Sound.{Sound, Has, HasHalf}
 use Rattle.euler_operators.specs.Conditions.{face_at, first_false, lists}
-use Rattle.euler_operators.specs.Effect.{effect, kfmrh}
+use Rattle.euler_operators.specs.Effect.{effect, kfmrh, part}
 use Rattle.euler_operators.proofs.Halves.{mate_plus, plus_row, same_edge}
 use Rattle.euler_operators.proofs.Lists.{IsIn_or_not}
 use Rattle.euler_operators.proofs.Maps.{from_map}
@@ -35,14 +35,15 @@ use Rattle.split_opening_laws.specs.sections.InTurn.{CanBeOpenedInTurn}
 use Rattle.split_opening_laws.specs.strips.Opened.{CanBeOpened}
 use Rattle.split_opening_laws.proofs.sections.InTurn.{can_open, openings_sound, others_on}
 use Rattle.split_opening_laws.proofs.sections.OpenedFaces.{upper_row}
-use Rattle.split_opening_laws.proofs.sections.OpenedRows.{edges_are, face_still, faces_are, loop_row}
-use Rattle.split_opening_laws.proofs.sections.Pairs.{renamed_not}
+use Rattle.split_opening_laws.proofs.sections.OpenedRows.{edges_are, face_still, faces_are, loop_row, vertices_are}
+use Rattle.split_opening_laws.proofs.sections.Pairs.{in_numbers, renamed_not}
 use Rattle.split_opening_laws.proofs.sections.Rims.{rim_below}
+use Rattle.split_opening_laws.proofs.sections.StillFree.{copied_other}
 use Rattle.split_laws.specs.SplitOps.{closing_ops}
 use Rattle.split_laws.proofs.opened.Caps.{loop_kinds, lower_row}
 use Rattle.command_laws.proofs.Owners.{agree_none, is_of, solid_of_half, solid_of_loop}
-use Rattle.split_caps.proofs.Steps.{Within, kill_within}
-use Rattle.split_caps.proofs.DrawnWithin.{within_on}
+use Rattle.split_frames.proofs.Steps.{Within, kill_within}
+use Rattle.split_frames.proofs.DrawnWithin.{within_on}
 
 -- ---- opened along one cycle
 
@@ -137,6 +138,16 @@ module _ (M : Model) (above : List ℕ) (s : ℕ) (c : Taken) (bs : List ℕ) (w
       ∙ get-map_rows (opened_row M above mates copies) M.edges e ∙ ap (option_map (opened_row M above mates copies e)) row.1
       ∙ (λ i. Some (record { plus_tail = tail_left (plus e) row.0.plus_tail first i; minus_tail = tail_left (minus e) row.0.minus_tail second i })) ∙ sym row.1
 
+  -- ---- vertices
+
+  pub vertex_left : (v : ℕ) → Has M.vertices v → table.get (opened_along M above s c bs).vertices v ≡ table.get M.vertices v
+  vertex_left v there = ap (λ t. table.get t v) (vertices_are M above s c bs) ∙ copied_other M M.vertices (map (tail M) bs) (numbers_after c.vertex (length bs)) v none where
+    none : count v (numbers_after c.vertex (length bs)) ≡ 0
+    none = elim (IsIn_or_not v (numbers_after c.vertex (length bs))) [
+      | inl i ↦ absurd (omega (arith, (in_numbers c.vertex (length bs) v i).0, in_use_within M.vertices c.vertex w.free.vertices v there))
+      | inr z ↦ z
+    ]
+
   pub opened_within : Within s M (opened_along M above s c bs)
   opened_within = record {
     before = w.sound;
@@ -161,6 +172,16 @@ pub openings_within : (above : List ℕ) (s : ℕ) (p : Plane) (o : Opening) (cs
 openings_within above s p o [] w = agree_none o.model (is_of s) w.sound
 openings_within above s p o (bs ∷ cs) w = let n = next_opened p above s o bs in
     within_on s o.model n.model (all_opened p above s n cs).model (next_within above s p o bs cs w (openings_sound above s p o bs cs w)) (openings_within above s p n cs (others_on above s p o bs cs w))
+
+next_vertices : (above : List ℕ) (s : ℕ) (p : Plane) (o : Opening) (bs : List ℕ) (cs : List (List ℕ)) → CanBeOpenedInTurn above s o (bs ∷ cs) → (v : ℕ) → Has o.model.vertices v → table.get (next_opened p above s o bs).model.vertices v ≡ table.get o.model.vertices v
+unfolding next_opened
+next_vertices above s p o bs cs w = vertex_left o.model above s o.taken bs (can_open above s o bs cs w) (openings_sound above s p o bs cs w) (λ f l. w.upper_of_solid f (listed_front above (map (λ k. k.upper) o.caps) f l))
+
+pub openings_vertices : (above : List ℕ) (s : ℕ) (p : Plane) (o : Opening) (cs : List (List ℕ)) → CanBeOpenedInTurn above s o cs → (v : ℕ) → Has o.model.vertices v → table.get (all_opened p above s o cs).model.vertices v ≡ table.get o.model.vertices v
+openings_vertices above s p o [] w v there = refl
+openings_vertices above s p o (bs ∷ cs) w v there =
+    let first : table.get (next_opened p above s o bs).model.vertices v ≡ table.get o.model.vertices v = next_vertices above s p o bs cs w v there in
+    openings_vertices above s p (next_opened p above s o bs) cs (others_on above s p o bs cs w) v (ap is_some first ∙ there) ∙ first
 
 -- ---- the holes closed
 
@@ -206,3 +227,22 @@ holes_within M s ks sound plain go = let hs = filter (λ k. k.hole) ks in elim (
   | inl e ↦ subst (λ o. Within s M (fold (hole_closed o) M hs)) (sym e) (none_closed s M hs sound (subst (λ o. AreAccepted M (closing_ops o hs)) e go))
   | inr e ↦ closing_within s M M (outer_caps ks) hs (agree_none M (is_of s) sound) e.0 e.1 go
 ]
+
+-- ---- no vertex moves, once the solid is opened
+
+kill_keeps : (M : Model) (f g : ℕ) → ((kfmrh M f g).vertices ≡ M.vertices) × ((kfmrh M f g).edges ≡ M.edges)
+unfolding kfmrh
+kill_keeps M f g = (refl, refl)
+
+pub holes_keep : (o : Caps) (M : Model) (hs : List Caps) → let K = fold (hole_closed o) M hs in (K.vertices ≡ M.vertices) × (K.edges ≡ M.edges)
+holes_keep o M [] = (refl, refl)
+holes_keep o M (k ∷ ks) =
+    let A = kfmrh M o.lower k.lower in
+    let first = kill_keeps M o.lower k.lower in
+    let second = kill_keeps A o.upper k.upper in
+    let rest = holes_keep o (kfmrh A o.upper k.upper) ks in
+    (rest.0 ∙ second.0 ∙ first.0, rest.1 ∙ second.1 ∙ first.1)
+
+pub part_keeps : (M : Model) (s t : ℕ) (fs : List ℕ) → ((part M s t fs).vertices ≡ M.vertices) × ((part M s t fs).edges ≡ M.edges)
+unfolding part
+part_keeps M s t fs = (refl, refl)
