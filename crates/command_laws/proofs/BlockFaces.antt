@@ -13,8 +13,10 @@ use Rattle.sweeps_laws.proofs.lamina.Blocks.{blocks_have_bases, bases_rise}
 use Rattle.sweeps_laws.proofs.lamina.Walk.{lamina_is_sound}
 use Rattle.undo_journal.specs.Machine.{held}
 use Rattle.command_laws.specs.NewFaces.{nth, all_moved, side_over, turned_back, up_by, last_face, IsFaceOf, BlockHasTopAndBottom, BlockHasFourSides, BlockTakesSixFaces}
-use Rattle.command_laws.proofs.SweptFaces.{face_counted, model_far, model_sides, model_counted, model_other}
-use Rattle.command_laws.proofs.LaminaFaces.{lamina_faces, lamina_counted, lamina_second}
+use Rattle.command_laws.proofs.SweptLoops.{face_counted}
+use Rattle.command_laws.proofs.SweptFaces.{model_far, model_sides, model_other}
+use Rattle.command_laws.proofs.SweptRings.{model_counted}
+use Rattle.command_laws.proofs.LaminaFaces.{lamina_faces, lamina_counted}
 
 module _ (M : Model) (s : ℕ) (p : Point) (dx dy dz : ℤ) (sound : Sound M) (goes : block_refusal M s p dx dy dz ≡ None) where
   abbrev base : Model
@@ -36,22 +38,21 @@ module _ (M : Model) (s : ℕ) (p : Point) (dx dy dz : ℤ) (sound : Sound M) (g
       (model_far base (lamina_face M) (up_by dz) base_sound (bases_rise M s p dx dy dz sound goes) base_faces.0.plain))
 
   bottom : IsFaceOf (prism_model base (lamina_face M) (up_by dz)) ((taken_in M).face + 2) s (turned_back (base_of p dx dy))
-  bottom = let w = lamina_second M s (base_of p dx dy) sound (blocks_have_bases M s p dx dy dz goes) in
-      model_other base (lamina_face M) (up_by dz) base_sound (bases_rise M s p dx dy dz sound goes) base_faces.0.plain ((taken_in M).face + 2) s (turned_back (base_of p dx dy)) (apart (taken_in M).face) w.0 w.1 base_faces.1 where
-        apart : (g : ℕ) → g + 2 ≢ g + 1
-        apart g e = absurd (omega arith)
+  bottom = model_other base (lamina_face M) (up_by dz) base_sound (bases_rise M s p dx dy dz sound goes) ((taken_in M).face + 2) s (turned_back (base_of p dx dy)) (apart (taken_in M).face) base_faces.1 where
+    apart : (g : ℕ) → g + 2 ≢ g + 1
+    apart g e = absurd (omega arith)
 
   side : (i : ℕ) → i < 4 → IsFaceOf (prism_model base (lamina_face M) (up_by dz)) (table.greatest M.faces + 3 + i) s (side_over (up_by dz) (nth (base_of p dx dy) i) (nth (base_of p dx dy) (next_place 4 i)))
   side i l = let N = prism_model base (lamina_face M) (up_by dz) in
       subst (λ k. IsFaceOf N k s (side_over (up_by dz) (nth (base_of p dx dy) i) (nth (base_of p dx dy) (next_place 4 i)))) (ap (λ g. g + 1 + i) (lamina_counted M s (base_of p dx dy)) ∙ on (table.greatest M.faces) i)
       (subst (λ u. IsFaceOf N (table.greatest base.faces + 1 + i) u (side_over (up_by dz) (nth (base_of p dx dy) i) (nth (base_of p dx dy) (next_place 4 i)))) base_faces.0.solid
       (subst (λ ps. i < length ps → IsFaceOf N (table.greatest base.faces + 1 + i) (solid_of base (lamina_face M)) (side_over (up_by dz) (nth ps i) (nth ps (next_place (length ps) i)))) base_faces.0.points
-      (model_sides base (lamina_face M) (up_by dz) i base_sound (bases_rise M s p dx dy dz sound goes) base_faces.0.plain) l)) where
+      (model_sides base (lamina_face M) (up_by dz) base_sound (bases_rise M s p dx dy dz sound goes) base_faces.0.plain i) l)) where
         on : (g i : ℕ) → g + 2 + 1 + i ≡ g + 3 + i
         on g i = omega arith
 
   counted : table.greatest (prism_model base (lamina_face M) (up_by dz)).faces ≡ table.greatest M.faces + 6
-  counted = model_counted base (lamina_face M) (up_by dz) base_sound (bases_rise M s p dx dy dz sound goes) base_faces.0.plain
+  counted = model_counted base (lamina_face M) (up_by dz) base_sound (bases_rise M s p dx dy dz sound goes)
       ∙ (λ i. lamina_counted M s (base_of p dx dy) i + length (base_faces.0.points i)) ∙ six (table.greatest M.faces) where
         six : (g : ℕ) → g + 2 + 4 ≡ g + 6
         six g = omega arith

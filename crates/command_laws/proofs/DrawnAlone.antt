@@ -19,7 +19,7 @@ use Rattle.undo_journal.specs.Machine.{held}
 use Rattle.command_laws.specs.NewFaces.{up_by}
 use Rattle.command_laws.specs.LeftAlone.{Each}
 use Rattle.command_laws.specs.Framed.{LaminaKeepsOwners, LaminaKeepsLoops, LaminaKeepsEdges, LaminaKeepsPoints, LaminaKeepsShapes, BlockKeepsOwners, BlockKeepsLoops, BlockKeepsEdges, BlockKeepsPoints, BlockKeepsShapes}
-use Rattle.command_laws.proofs.Kept.{lamina_keeps_faces, block_keeps_faces}
+use Rattle.command_laws.proofs.Kept.{old_kept, lamina_kept, lamina_keeps_faces, block_keeps_faces}
 use Rattle.command_laws.proofs.OnFaces.{vertex_there}
 use Rattle.command_laws.proofs.SweptAlone.{prism_keeps_loops, prism_keeps_edges, prism_keeps_points, prism_keeps_rings}
 use Rattle.command_laws.proofs.Standing.{rings_same, stands}
@@ -38,17 +38,11 @@ points_keep t v ps zero q m = refl
 points_keep t v ps (suc n) q m = get-put_other (with_points t v ps n) (v + suc n) _ q (past q v n m) ∙ points_keep t v ps n q m
 
 module _ (M : Model) (s : ℕ) (ps : List Point) where
-  lamina_keeps : (l : ℕ) → Has M.loops l → table.get (lamina_model M s ps).loops l ≡ table.get M.loops l
+  pub lamina_keeps : (l : ℕ) → Has M.loops l → table.get (lamina_model M s ps).loops l ≡ table.get M.loops l
   unfolding lamina_model taken_in
-  lamina_keeps l there = let g = table.greatest M.loops in let m = at_most_greatest M.loops l there in
-      get-put_other (table.put M.loops (g + 1) _) (g + 2) _ l (two l g m) ∙ get-put_other M.loops (g + 1) _ l (one l g m) where
-        one : (k g : ℕ) → k ≤ g → k ≢ g + 1
-        one k g m e = absurd (omega arith)
+  lamina_keeps l there = old_kept M.loops (table.greatest M.loops) _ _ l (at_most_greatest M.loops l there)
 
-        two : (k g : ℕ) → k ≤ g → k ≢ g + 2
-        two k g m e = absurd (omega arith)
-
-  lamina_keeps_rows : Sound M → lamina_refusal M s ps ≡ None → (e : ℕ) → Has M.edges e → table.get (lamina_model M s ps).edges e ≡ table.get M.edges e
+  pub lamina_keeps_rows : Sound M → lamina_refusal M s ps ≡ None → (e : ℕ) → Has M.edges e → table.get (lamina_model M s ps).edges e ≡ table.get M.edges e
   unfolding lamina_model taken_in
   lamina_keeps_rows sound goes e there = let g = table.greatest M.edges in let m = at_most_greatest M.edges e there in
       get-put_other (with_path M.edges g (table.greatest M.vertices) (length ps - 1)) (g + length ps) _ e (last e g (length ps) m ((lamina_goes M s ps sound goes).many))
@@ -97,16 +91,6 @@ module _ (M : Model) (s : ℕ) (p : Point) (dx dy dz : ℤ) (sound : Sound M) (g
         past_new : (k g : ℕ) → k ≤ g → k ≢ g + 1
         past_new k g m e = absurd (omega arith)
 
-  lamina_kept_face : (k : ℕ) → Has M.faces k → table.get base.faces k ≡ table.get M.faces k
-  unfolding lamina_model taken_in
-  lamina_kept_face k there = let g = table.greatest M.faces in let m = at_most_greatest M.faces k there in
-      get-put_other (table.put M.faces (g + 1) _) (g + 2) _ k (two k g m) ∙ get-put_other M.faces (g + 1) _ k (one k g m) where
-        one : (k g : ℕ) → k ≤ g → k ≢ g + 1
-        one k g m e = absurd (omega arith)
-
-        two : (k g : ℕ) → k ≤ g → k ≢ g + 2
-        two k g m e = absurd (omega arith)
-
   block_keeps : (l : ℕ) → Has M.loops l → table.get (block_model M s p dx dy dz).loops l ≡ table.get M.loops l
   unfolding block_model
   block_keeps l there = let row = lamina_keeps M s (base_of p dx dy) l there in
@@ -125,7 +109,7 @@ module _ (M : Model) (s : ℕ) (p : Point) (dx dy dz : ℤ) (sound : Sound M) (g
   block_keeps_rings : (k : ℕ) → Has M.faces k → rings_of (block_model M s p dx dy dz) k ≡ rings_of M k
   unfolding block_model
   block_keeps_rings k there =
-      let row = lamina_kept_face k there in
+      let row = lamina_kept M s (base_of p dx dy) k (at_most_greatest M.faces k there) in
       prism_keeps_rings base (lamina_face M) (up_by dz) base_sound (bases_rise M s p dx dy dz sound goes) k (ap is_some row ∙ there)
       ∙ rings_same M base k row (λ l held of. lamina_keeps M s (base_of p dx dy) l held) (lamina_adds M s (base_of p dx dy) k there)
 

@@ -1,8 +1,9 @@
 -- The faces that were there before a command.
 use Rattle.std.specs.Prelude.{length}
-use Rattle.std.proofs.Common.{◌≡◌, ◌≢◌, ℕ, ◌+◌, ◌≤◌, ℤ, List, [], ◌∷◌, refl, sym, ap, subst, ◌∙◌, arith}
+use Rattle.std.proofs.Common.{◌≡◌, ℕ, ◌+◌, ◌≤◌, ℤ, List, [], ◌∷◌, refl, sym, ap, subst, ◌∙◌, arith}
 use Rattle.euler_operators.specs.declared.Point.{Point}
 use Rattle.euler_operators.specs.Table as table
+use Rattle.euler_operators.specs.Table.{Table}
 use Rattle.euler_operators.specs.Model.{Model, empty_model, items_of, content, solid_of}
 use Rattle.euler_operators.proofs.Tables.{get-put_other}
 use Rattle.shapes.specs.Faces.{loops_of}
@@ -32,19 +33,17 @@ loops_kept : (f : ℕ) (d : Point) (ls : List ℕ) (g : Growing) (k : ℕ) → k
 loops_kept f d [] g k m = refl
 loops_kept f d (l ∷ ls) g k m = loops_kept f d ls (raised f d g l) k (later_still f d g l k m) ∙ loop_kept f d g l k m
 
-prism_kept : (M : Model) (f : ℕ) (d : Point) (k : ℕ) → k ≤ table.greatest M.faces → table.get (prism_model M f d).faces k ≡ table.get M.faces k
+pub prism_kept : (M : Model) (f : ℕ) (d : Point) (k : ℕ) → k ≤ table.greatest M.faces → table.get (prism_model M f d).faces k ≡ table.get M.faces k
 unfolding prism_model taken_in
 prism_kept M f d k m = loops_kept f d (loops_of M f) (growing M) k m
 
-lamina_kept : (M : Model) (s : ℕ) (ps : List Point) (k : ℕ) → k ≤ table.greatest M.faces → table.get (lamina_model M s ps).faces k ≡ table.get M.faces k
-unfolding lamina_model taken_in
-lamina_kept M s ps k m = let g = table.greatest M.faces in let l = table.greatest M.loops in
-    get-put_other (table.put M.faces (g + 1) (record { solid = s; outer = l + 1 })) (g + 2) (record { solid = s; outer = l + 2 }) k (two k g m) ∙ get-put_other M.faces (g + 1) (record { solid = s; outer = l + 1 }) k (one k g m) where
-      one : (k g : ℕ) → k ≤ g → k ≢ g + 1
-      one k g m e = absurd (omega arith)
+-- two rows put after the numbers up to a
+pub old_kept : {X : Type 0} (t : Table X) (a : ℕ) (x y : X) (q : ℕ) → q ≤ a → table.get (table.put (table.put t (a + 1) x) (a + 2) y) q ≡ table.get t q
+old_kept t a x y q m = get-put_other (table.put t (a + 1) x) (a + 2) y q (λ e. absurd (omega arith)) ∙ get-put_other t (a + 1) x q (λ e. absurd (omega arith))
 
-      two : (k g : ℕ) → k ≤ g → k ≢ g + 2
-      two k g m e = absurd (omega arith)
+pub lamina_kept : (M : Model) (s : ℕ) (ps : List Point) (k : ℕ) → k ≤ table.greatest M.faces → table.get (lamina_model M s ps).faces k ≡ table.get M.faces k
+unfolding lamina_model taken_in
+lamina_kept M s ps k m = old_kept M.faces (table.greatest M.faces) _ _ k m
 
 block_kept : (M : Model) (s : ℕ) (p : Point) (dx dy dz : ℤ) (k : ℕ) → k ≤ table.greatest M.faces → table.get (block_model M s p dx dy dz).faces k ≡ table.get M.faces k
 unfolding block_model

@@ -9,7 +9,7 @@ use Rattle.euler_operators.specs.Rings.{canonical}
 use Rattle.euler_operators.specs.HalfEdge.{plus, minus}
 use Rattle.euler_operators.specs.Table as table
 use Rattle.euler_operators.specs.Table.{Table}
-use Rattle.euler_operators.specs.Model.{Model, EdgeRow, FaceRow, LoopRow, cycle, items_of, outer, content, point_of, rings_of}
+use Rattle.euler_operators.specs.Model.{Model, EdgeRow, FaceRow, LoopRow, cycle, outer, point_of, rings_of}
 use Rattle.euler_operators.specs.Sound.{Sound}
 use Rattle.euler_operators.proofs.Lists.{count-append, tick_other}
 use Rattle.euler_operators.proofs.Tables.{get-put_here, get-put_other, all_where_none}
@@ -27,7 +27,7 @@ use Rattle.sweeps_laws.proofs.FromSound.{sound_bounded}
 use Rattle.undo_journal.specs.Machine.{held}
 use Rattle.command_laws.specs.NewFaces.{nth, turned_back, last_face, IsFaceOf, LaminaHasTwoFaces, LaminaTakesTwoFaces}
 use Rattle.command_laws.proofs.Outlines.{take_next, points_are, plane_is}
-use Rattle.command_laws.proofs.SweptFaces.{face_counted}
+use Rattle.command_laws.proofs.SweptLoops.{face_counted}
 
 -- ---- the loop the other way round, from its least half-edge on
 
@@ -239,11 +239,6 @@ module _ (M : Model) (c : Taken) (s : ℕ) (a b : Point) (rest : List Point) (bo
           plane = plane_is drawn (c.face + 2) (c.loop + 2) halves_back plain_two out_is is sound (ap is_some loop_two) (subst (λ hs. 0 < length hs) (sym back_is) (omega arith)) (turned_back ps) told;
         }
 
-    pub two_ring : (content drawn (outer drawn (c.face + 2)) ≡ cycle (items_of (content drawn (outer drawn (c.face + 2))))) × (0 < length (items_of (content drawn (outer drawn (c.face + 2)))))
-    two_ring =
-        let is = ap (content drawn) (outer_row drawn (c.face + 2) second_face face_two) ∙ content_row drawn (c.loop + 2) second_loop loop_two in
-        (is ∙ ap (λ x. cycle (items_of x)) (sym is), subst (λ x. 0 < length (items_of x)) (sym is) (subst (λ hs. 0 < length hs) (sym back_is) (omega arith)))
-
 pub greatest_drawn : (M : Model) (c : Taken) (s : ℕ) (ps : List Point) → table.greatest M.faces ≤ c.face → table.greatest (lamina_at M c s ps).faces ≡ c.face + 2
 greatest_drawn M c s ps low = greatest-put_last (table.put M.faces (c.face + 1) (record { solid = s; outer = c.loop + 1 })) (c.face + 2) (record { solid = s; outer = c.loop + 2 })
     (omega (arith, greatest-put_last M.faces (c.face + 1) (record { solid = s; outer = c.loop + 1 }) (omega (arith, low))))
@@ -269,18 +264,6 @@ pub lamina_faces : (M : Model) (s : ℕ) (ps : List Point) → Sound M → lamin
     IsFaceOf (lamina_model M s ps) ((taken_in M).face + 1) s ps × IsFaceOf (lamina_model M s ps) ((taken_in M).face + 2) s (turned_back ps)
 lamina_faces M s ps sound goes = subst (λ N. IsFaceOf N ((taken_in M).face + 1) s ps × IsFaceOf N ((taken_in M).face + 2) s (turned_back ps)) (sym (lamina_is M s ps))
     (two_faces M s ps (many_points M s ps goes) (sound_bounded M sound) (subst Sound (lamina_is M s ps) (lamina_is_sound M s ps sound goes)))
-
-second_ring : (M : Model) (s : ℕ) (qs : List Point) → 3 ≤ length qs → Bounded M (taken_in M) → Sound (lamina_at M (taken_in M) s qs) → let N = lamina_at M (taken_in M) s qs in let x = content N (outer N ((taken_in M).face + 2)) in
-    (x ≡ cycle (items_of x)) × (0 < length (items_of x))
-second_ring M s [] many b sound = absurd (omega arith)
-second_ring M s (p ∷ []) many b sound = absurd (omega arith)
-second_ring M s (p ∷ q ∷ qs) many b sound = two_ring M (taken_in M) s p q qs b sound
-
--- the second face's outer loop isn't lone
-pub lamina_second : (M : Model) (s : ℕ) (qs : List Point) → Sound M → lamina_refusal M s qs ≡ None → let N = lamina_model M s qs in let x = content N (outer N ((taken_in M).face + 2)) in
-    (x ≡ cycle (items_of x)) × (0 < length (items_of x))
-lamina_second M s qs sound goes = subst (λ N. let x = content N (outer N ((taken_in M).face + 2)) in (x ≡ cycle (items_of x)) × (0 < length (items_of x))) (sym (lamina_is M s qs))
-    (second_ring M s qs (many_points M s qs goes) (sound_bounded M sound) (subst Sound (lamina_is M s qs) (lamina_is_sound M s qs sound goes)))
 
 pub lamina_has_two_faces : LaminaHasTwoFaces
 lamina_has_two_faces before after s ps sound made =

@@ -9,6 +9,7 @@ mod Accepted
 mod Glued
 pub mod OnFaces
 mod SweptAlone
+mod GluedRows
 mod GluedAlone
 mod DrawnAlone
 mod SweptLoops

@@ -1,5 +1,5 @@
 -- The counts of a lamina and of a block.
-use Rattle.std.proofs.Common.{◌≡◌, ◌≢◌, ℕ, zero, suc, ◌+◌, ◌-◌, ◌*◌, ◌≤◌, ◌<◌, ℤ, pos, ◌-ℤ◌, true, false, nat_eq, nat_le, List, [], ◌∷◌, append-nil, length, Some, None, is_some, refl, sym, ap, subst, ◌∙◌, arith, true≢false, ◌⊎◌, inl, inr}
+use Rattle.std.proofs.Common.{◌≡◌, ◌≢◌, ℕ, zero, suc, ◌+◌, ◌-◌, ◌*◌, ◌<◌, ℤ, pos, ◌-ℤ◌, true, false, nat_eq, nat_le, List, [], ◌∷◌, append-nil, length, Some, None, is_some, refl, sym, ap, subst, ◌∙◌, arith, true≢false, ◌⊎◌, inl, inr}
 use Rattle.std.proofs.lemmas.Int.{ints}
 use Rattle.std.proofs.lemmas.Bool.Decides.{nat_tests, eqb_tells}
 use Rattle.std.proofs.lemmas.Bool.{ne_eqb, eqb-false, not-true}
@@ -27,6 +27,8 @@ use Rattle.sweeps_laws.proofs.lamina.Walk.{lamina_is_sound}
 use Rattle.undo_journal.specs.Machine.{held}
 use Rattle.command_laws.specs.Counted.{BlockCounts, BlockKeepsCounts, LaminaCounts, LaminaKeepsCounts}
 use Rattle.command_laws.specs.NewFaces.{corner_points, up_by}
+use Rattle.command_laws.proofs.DrawnAlone.{lamina_keeps, lamina_keeps_rows}
+use Rattle.command_laws.proofs.Kept.{lamina_kept}
 use Rattle.command_laws.proofs.LaminaFaces.{lamina_faces}
 use Rattle.command_laws.proofs.Outlines.{as_many}
 use Rattle.command_laws.proofs.Owners.{Agree, is_of, others_kept, solid_of_edge, solid_of_loop}
@@ -76,12 +78,6 @@ module _ {X : Type 0} (t : Table X) (a : ℕ) (x y : X) where
 
 -- ---- rows put one after the other
 
-path_kept : (t : Table EdgeRow) (e v n q : ℕ) → q ≤ e → table.get (with_path t e v n) q ≡ table.get t q
-path_kept t e v zero q l = refl
-path_kept t e v (suc n) q l = get-put_other (with_path t e v n) (e + suc n) _ q (over q e n l) ∙ path_kept t e v n q l where
-  over : (q e n : ℕ) → q ≤ e → q ≢ e + suc n
-  over q e n l s = absurd (omega arith)
-
 path_past : (t : Table EdgeRow) (e v n q : ℕ) → e + n < q → table.get (with_path t e v n) q ≡ table.get t q
 path_past t e v zero q l = refl
 path_past t e v (suc n) q l = get-put_other (with_path t e v n) (e + suc n) _ q (other e n q l) ∙ path_past t e v n q (less e n q l) where
@@ -124,7 +120,13 @@ points_size t v ps free (suc n) = size-put_new (with_points t v ps n) (v + suc n
 
 -- ---- a lamina
 
-module _ (M : Model) (s : ℕ) (ps : List Point) (sound : Sound M) (some : 0 < length ps) (after : Sound (lamina_at M (taken_in M) s ps)) where
+fits : (M : Model) (s : ℕ) (ps : List Point) → lamina_refusal M s ps ≡ None → (table.has M.solids s ≡ false) × (0 < length ps)
+unfolding lamina_conditions
+fits M s ps e = let h = all_hold (lamina_conditions M s ps) e in (not-true (table.has M.solids s) h.1.0, some (length ps) h.1.1.0) where
+  some : (n : ℕ) → nat_le 3 n ≡ true → 0 < n
+  some n e = grind (arith, nat_tests)
+
+module _ (M : Model) (s : ℕ) (ps : List Point) (sound : Sound M) (goes : lamina_refusal M s ps ≡ None) (after : Sound (lamina_at M (taken_in M) s ps)) where
   abbrev c : Taken
   c = taken_in M
 
@@ -137,9 +139,6 @@ module _ (M : Model) (s : ℕ) (ps : List Point) (sound : Sound M) (some : 0 < l
   abbrev second_face : FaceRow
   second_face = record { solid = s; outer = c.loop + 2 }
 
-  over : (q a : ℕ) → q ≤ a → (q ≢ a + 1) × (q ≢ a + 2)
-  over q a l = ((λ e. absurd (omega arith)), (λ e. absurd (omega arith)))
-
   one_two : (a : ℕ) → a + 1 ≢ a + 2
   one_two a e = absurd (omega arith)
 
@@ -150,21 +149,16 @@ module _ (M : Model) (s : ℕ) (ps : List Point) (sound : Sound M) (some : 0 < l
   face_two = get-put_here (table.put M.faces (c.face + 1) first_face) (c.face + 2) second_face
 
   face_kept : (k : ℕ) → Has M.faces k → table.get N.faces k ≡ table.get M.faces k
-  unfolding taken_in
-  face_kept k there = let o = over k c.face (at_most_greatest M.faces k there) in two_kept M.faces c.face first_face second_face k o.0 o.1
+  unfolding lamina_model
+  face_kept k there = lamina_kept M s ps k (at_most_greatest M.faces k there)
 
   loop_kept : (q : ℕ) → Has M.loops q → table.get N.loops q ≡ table.get M.loops q
-  unfolding taken_in
-  loop_kept q there = let o = over q c.loop (at_most_greatest M.loops q there) in two_kept M.loops c.loop _ _ q o.0 o.1
+  unfolding lamina_model
+  loop_kept = lamina_keeps M s ps
 
   edge_kept : (q : ℕ) → Has M.edges q → table.get N.edges q ≡ table.get M.edges q
-  unfolding taken_in
-  edge_kept q there =
-      let low = at_most_greatest M.edges q there in
-      get-put_other (with_path M.edges (table.greatest M.edges) (table.greatest M.vertices) (length ps - 1)) (table.greatest M.edges + length ps) _ q (before (length ps) q (table.greatest M.edges) some low)
-      ∙ path_kept M.edges (table.greatest M.edges) (table.greatest M.vertices) (length ps - 1) q low where
-        before : (n q e : ℕ) → 0 < n → q ≤ e → q ≢ e + n
-        before n q e m l z = absurd (omega arith)
+  unfolding lamina_model
+  edge_kept = lamina_keeps_rows M s ps sound goes
 
   face_cases : (k : ℕ) → (table.get N.faces k ≡ table.get M.faces k) ⊎ (solid_of N k ≡ s)
   face_cases k = elim (eqb_tells k (c.face + 1)) [
@@ -199,15 +193,9 @@ module _ (M : Model) (s : ℕ) (ps : List Point) (sound : Sound M) (some : 0 < l
   unfolding taken_in
   made = counted_more M N s (length ps) (length ps) 2 agree
       (points_size M.vertices (table.greatest M.vertices) ps (λ q a. none_above M.vertices q a) (length ps))
-      (ring_size M.edges (table.greatest M.edges) (table.greatest M.vertices) (λ q a. none_above M.edges q a) (length ps) some)
+      (ring_size M.edges (table.greatest M.edges) (table.greatest M.vertices) (λ q a. none_above M.edges q a) (length ps) (fits M s ps goes).1)
       (two_size M.faces (table.greatest M.faces) first_face second_face (λ q a. none_above M.faces q a))
       (two_size M.loops (table.greatest M.loops) _ _ (λ q a. none_above M.loops q a))
-
-fits : (M : Model) (s : ℕ) (ps : List Point) → lamina_refusal M s ps ≡ None → (table.has M.solids s ≡ false) × (0 < length ps)
-unfolding lamina_conditions
-fits M s ps e = let h = all_hold (lamina_conditions M s ps) e in (not-true (table.has M.solids s) h.1.0, some (length ps) h.1.1.0) where
-  some : (n : ℕ) → nat_le 3 n ≡ true → 0 < n
-  some n e = grind (arith, nat_tests)
 
 told : (n : ℕ) → tally_of (0 + n) (0 + n) (0 + 2) 0 ≡ record { v = n; e = n; f = 2; r = 0; sum = pos 2 }
 told n = λ i. record { v = none n i; e = none n i; f = 2; r = 0; sum = two n i } where
@@ -221,7 +209,7 @@ pub model_counts : (M : Model) (s : ℕ) (ps : List Point) → Sound M → lamin
 unfolding lamina_model
 model_counts M s ps sound goes =
     let w = fits M s ps goes in
-    made M s ps sound w.1 (lamina_is_sound M s ps sound goes) ∙ ap (λ t. tally_of (t.v + length ps) (t.e + length ps) (t.f + 2) t.r) (nothing M s sound w.0) ∙ told (length ps)
+    made M s ps sound goes (lamina_is_sound M s ps sound goes) ∙ ap (λ t. tally_of (t.v + length ps) (t.e + length ps) (t.f + 2) t.r) (nothing M s sound w.0) ∙ told (length ps)
 
 pub lamina_counts : LaminaCounts
 lamina_counts before after s ps sound made = ap (λ m. counts (held m) s) made.1 ∙ model_counts (held before) s ps sound made.0
@@ -229,8 +217,8 @@ lamina_counts before after s ps sound made = ap (λ m. counts (held m) s) made.1
 -- every other solid counts as it did
 model_keeps : (M : Model) (s : ℕ) (ps : List Point) (u : ℕ) → Sound M → lamina_refusal M s ps ≡ None → u ≢ s → counts (lamina_model M s ps) u ≡ counts M u
 unfolding lamina_model
-model_keeps M s ps u sound goes ne = let w = fits M s ps goes in let out = ne_eqb u s ne in
-    others_kept M (lamina_at M (taken_in M) s ps) (is_of s) (is_of s) (agree M s ps sound w.1 (lamina_is_sound M s ps sound goes)) u out out
+model_keeps M s ps u sound goes ne = let out = ne_eqb u s ne in
+    others_kept M (lamina_at M (taken_in M) s ps) (is_of s) (is_of s) (agree M s ps sound goes (lamina_is_sound M s ps sound goes)) u out out
 
 pub lamina_keeps_counts : LaminaKeepsCounts
 lamina_keeps_counts before after s ps u sound made ne = ap (λ m. counts (held m) u) made.1 ∙ model_keeps (held before) s ps u sound made.0 ne

@@ -27,7 +27,7 @@ take_next (p ∷ ps) (suc k) l = ap (λ qs. p ∷ qs) (take_next ps k (less k (l
   less : (i n : ℕ) → suc i < suc n → i < n
   less i n l = omega arith
 
-starts_are : (M : Model) (hs : List ℕ) → map (point_of M) (map (tail M) hs) ≡ map (start M) hs
+pub starts_are : (M : Model) (hs : List ℕ) → map (point_of M) (map (tail M) hs) ≡ map (start M) hs
 starts_are M [] = refl
 starts_are M (h ∷ hs) = ap (λ ps. start M h ∷ ps) (starts_are M hs)
 

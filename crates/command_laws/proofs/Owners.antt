@@ -1,19 +1,20 @@
 -- The solid of each face, loop, edge and vertex; and so how many of each a solid has.
-use Rattle.std.proofs.Common.{◌≡◌, ◌≢◌, ℕ, ◌+◌, Bool, true, false, cond, not, nat_eq, ◌||◌, List, [], ◌∷◌, ◌++◌, length, map, Option, Some, None, is_some, unwrap_or, refl, sym, ap, subst, ◌∙◌, arith, true≢false, inl, inr}
+use Rattle.std.proofs.Common.{◌≡◌, ◌≢◌, ℕ, ◌+◌, Bool, true, false, cond, not, nat_eq, ◌||◌, List, [], ◌∷◌, ◌++◌, length, Option, Some, None, is_some, unwrap_or, refl, sym, ap, subst, ◌∙◌, arith, true≢false, inl, inr}
 use Rattle.std.proofs.lemmas.Bool.Decides.{eqb_tells, nat_tests}
-use Rattle.std.proofs.lemmas.Bool.{eq-eqb, ne_eqb, eqb-true, false_from_ne_true}
+use Rattle.std.proofs.lemmas.Bool.{eq-eqb, eqb-true, false_from_ne_true, not-false}
 use Rattle.std.proofs.lemmas.List.{length-append, append_assoc}
 use Rattle.euler_operators.specs.declared.Point.{Point}
 use Rattle.euler_operators.specs.Items.{count, IsIn, IsApart}
-use Rattle.euler_operators.specs.HalfEdge.{edge_of, is_first, plus}
+use Rattle.euler_operators.specs.HalfEdge.{edge_of, plus}
 use Rattle.euler_operators.specs.Table as table
 use Rattle.euler_operators.specs.Table.{Table, all_in}
-use Rattle.euler_operators.specs.Model.{Model, LoopContent, FaceRow, LoopRow, no_loop, no_edge, tail_in, lone, cycle, items_of, holds, content, face_of, loop_of, solid_of, tail, rings_of, faces_of}
+use Rattle.euler_operators.specs.Model.{Model, LoopContent, FaceRow, LoopRow, no_loop, lone, cycle, items_of, holds, content, face_of, loop_of, solid_of, tail, rings_of, faces_of}
 use Rattle.euler_operators.specs.Sound.{Sound, Has, HasHalf, StandsIn}
 use Rattle.euler_operators.specs.Conditions.{face_at, lists}
 use Rattle.euler_operators.proofs.Lists.{count-append, tick_same, tick_other, IsIn_or_not}
-use Rattle.euler_operators.proofs.Members.{IsIn-map, IsIn_one, same_length}
-use Rattle.euler_operators.proofs.Models.{content_row, solid_row, item_there, loop_there, cycle_there, in-holds, never_lone, same_solid, same_face, same_content, plus_there, plus_edge}
+use Rattle.euler_operators.proofs.Members.{IsIn-map, same_length}
+use Rattle.euler_operators.proofs.Rotations.{IsIn_head}
+use Rattle.euler_operators.proofs.Models.{content_row, solid_row, item_there, loop_there, cycle_there, never_lone, same_solid, same_face, same_content, plus_there, plus_edge}
 use Rattle.euler_operators.proofs.Tables.{passes, count-all_where, row_some}
 use Rattle.euler_laws.specs.Laws.{size}
 use Rattle.euler_laws.proofs.Sizes.{size_parts}
@@ -26,7 +27,9 @@ use Rattle.shapes.specs.Faces.{loops_of, vertices_on, vertices_in, corners, corn
 use Rattle.shapes.specs.Walks.{loops_in}
 use Rattle.shapes.proofs.walks.SolidFaces.{solid_loops, all_loops_apart, loop_in_solid, solid_has_loop}
 use Rattle.solid_measure.specs.solid_counts.Counts.{rings_in, tally_of, counts}
-use Rattle.solid_measure.proofs.solid_counts_laws.HowMany.{equally_many, of_map}
+use Rattle.solid_measure.proofs.solid_counts_laws.HowMany.{equally_many}
+use Rattle.command_laws.proofs.OnFaces.{item_loop, vertex_cases, vertex_there}
+use Rattle.command_laws.proofs.Standing.{tail_same}
 
 -- ---- rows that pass a test on their numbers
 
@@ -121,7 +124,7 @@ corners_are M [] = refl
 corners_are M (f ∷ fs) = ap (λ vs. vertices_in M (loops_of M f) ++ vs) (corners_are M fs) ∙ sym (vertices_joined M (loops_of M f) (loops_in M fs))
 
 -- a vertex on some loops is on one of them
-on_one : (M : Model) (ls : List ℕ) (v : ℕ) → IsIn v (vertices_in M ls) → (l : ℕ) × IsIn l ls × IsIn v (vertices_on M (content M l))
+pub on_one : (M : Model) (ls : List ℕ) (v : ℕ) → IsIn v (vertices_in M ls) → (l : ℕ) × IsIn l ls × IsIn v (vertices_on M (content M l))
 on_one M [] v i = absurd (omega arith)
 on_one M (l ∷ ls) v i = elim (IsIn_or_not v (vertices_on M (content M l))) [
   | inl j ↦ (l, omega (arith, tick_same l), j)
@@ -144,25 +147,17 @@ pub record OnSolid (M : Model) (s v : ℕ) : Type 0 where
 
 module _ (M : Model) (sound : Sound M) where
   -- two loops that a vertex is on are of one solid
-  half_on : (l v : ℕ) (hs : List ℕ) → content M l ≡ cycle hs → IsIn v (map (tail M) hs) → (h : ℕ) × HasHalf M h × (tail M h ≡ v) × (loop_of M h ≡ l)
-  half_on l v hs is i =
-      let m = of_map (tail M) v hs i in
-      let j : IsIn m.0 (items_of (content M l)) = subst (λ c. IsIn m.0 (items_of c)) (sym is) m.1 in
-      (m.0, item_there M sound l m.0 j, m.2, sound.one_loop m.0 l (in-holds m.0 (content M l) j))
-
-  lone_on : (v w : ℕ) → IsIn v (w ∷ []) → w ≡ v
-  lone_on v w i = sym (IsIn_one w v i)
-
   one_solid : (l k v : ℕ) → IsOn M v l → IsOn M v k → solid_of_loop M l ≡ solid_of_loop M k
-  one_solid l k v i j = go (content M l) (content M k) refl refl i j where
-    go : (a b : LoopContent) → content M l ≡ a → content M k ≡ b → IsIn v (vertices_on M a) → IsIn v (vertices_on M b) → solid_of_loop M l ≡ solid_of_loop M k
-    go (lone u) (lone w) p q i j = ap (solid_of_loop M) (sound.one_lone l k v (p ∙ ap lone (lone_on v u i)) (q ∙ ap lone (lone_on v w j)))
-    go (lone u) (cycle gs) p q i j = let h = half_on k v gs q j in absurd (sound.lone_is_no_tail l h.0 h.1 (p ∙ ap lone (lone_on v u i ∙ sym h.2)))
-    go (cycle hs) (lone w) p q i j = let h = half_on l v hs p i in absurd (sound.lone_is_no_tail k h.0 h.1 (q ∙ ap lone (lone_on v w j ∙ sym h.2)))
-    go (cycle hs) (cycle gs) p q i j =
-        let h = half_on l v hs p i in
-        let g = half_on k v gs q j in
-        ap (solid_of_loop M) (sym h.3) ∙ one_solid_round M sound g.0 h.0 g.1 h.1 (g.2 ∙ sym h.2) ∙ ap (solid_of_loop M) g.3
+  one_solid l k v i j = elim (vertex_cases M l v i) [
+    | inl p ↦ elim (vertex_cases M k v j) [
+      | inl q ↦ ap (solid_of_loop M) (sound.one_lone l k v p q)
+      | inr g ↦ absurd (sound.lone_is_no_tail l g.0 (item_there M sound k g.0 g.1) (p ∙ ap lone (sym g.2)))
+    ]
+    | inr h ↦ elim (vertex_cases M k v j) [
+      | inl q ↦ absurd (sound.lone_is_no_tail k h.0 (item_there M sound l h.0 h.1) (q ∙ ap lone (sym h.2)))
+      | inr g ↦ ap (solid_of_loop M) (sym (item_loop M sound l h.0 h.1)) ∙ one_solid_round M sound g.0 h.0 (item_there M sound k g.0 g.1) (item_there M sound l h.0 h.1) (g.2 ∙ sym h.2) ∙ ap (solid_of_loop M) (item_loop M sound k g.0 g.1)
+    ]
+  ]
 
   pub half_is_on : (h : ℕ) → HasHalf M h → IsOn M (tail M h) (loop_of M h)
   half_is_on h there = go (content M (loop_of M h)) (cycle_there M sound h there) where
@@ -170,13 +165,7 @@ module _ (M : Model) (sound : Sound M) where
     go (lone w) i = absurd (omega arith)
     go (cycle hs) i = IsIn-map (tail M) h hs i
 
-  -- what is on a loop is a vertex, and each vertex is on one
-  pub on_there : (l v : ℕ) → IsOn M v l → Has M.vertices v
-  on_there l v i = go (content M l) refl i where
-    go : (c : LoopContent) → content M l ≡ c → IsIn v (vertices_on M c) → Has M.vertices v
-    go (lone u) p i = sound.lone_at_vertex l v (p ∙ ap lone (lone_on v u i))
-    go (cycle hs) p i = let h = half_on l v hs p i in ap (table.has M.vertices) (sym h.2) ∙ sound.tails_there h.0 h.1
-
+  -- each vertex is on a loop
   lone_there : (l v : ℕ) → content M l ≡ lone v → Has M.loops l
   unfolding content
   lone_there l v e = go (table.get M.loops l) e where
@@ -202,7 +191,7 @@ module _ (M : Model) (sound : Sound M) where
 
   -- so a vertex is of the solid of each loop that it is on
   pub owner_is : (s v : ℕ) → OnSolid M s v → solid_of_vertex M v ≡ s
-  owner_is s v w = let h = home_on v (on_there w.loop v w.on) in one_solid (home M v) w.loop v h.1 w.on ∙ w.solid
+  owner_is s v w = let h = home_on v (vertex_there M sound w.loop v w.on) in one_solid (home M v) w.loop v h.1 w.on ∙ w.solid
 
   pub has_owner : (v : ℕ) → Has M.vertices v → OnSolid M (solid_of_vertex M v) v
   has_owner v there = let h = home_on v there in record { loop = home M v; there = h.0; solid = refl; on = h.1 }
@@ -266,10 +255,6 @@ pub record Agree (M N : Model) (a b : ℕ → Bool) : Type 0 where
   pub loops_back : (l : ℕ) → Has N.loops l → b (solid_of_loop N l) ≡ false → table.get N.loops l ≡ table.get M.loops l
   pub edges : (h : ℕ) → HasHalf M h → a (solid_of_half M h) ≡ false → table.get N.edges (edge_of h) ≡ table.get M.edges (edge_of h)
 
-same_tail : (M N : Model) (h : ℕ) → table.get N.edges (edge_of h) ≡ table.get M.edges (edge_of h) → tail N h ≡ tail M h
-unfolding tail
-same_tail M N h e = ap (λ o. tail_in (unwrap_or o no_edge) (is_first h)) e
-
 -- what is false at both, or true at both
 alike : (x y : Bool) → (x ≡ false → y ≡ false) → (y ≡ false → x ≡ false) → y ≡ x
 alike true true f g = refl
@@ -311,7 +296,7 @@ module _ (M N : Model) (a b : ℕ → Bool) (w : Agree M N a b) where
   half_kept h there out =
       let l = loop_kept (loop_of M h) (loop_there M w.before h there) out in
       let row = w.edges h there out in
-      (ap is_some row ∙ there, w.after.one_loop h (loop_of M h) (ap (holds h) l.3 ∙ w.before.stands h there), same_tail M N h row)
+      (ap is_some row ∙ there, w.after.one_loop h (loop_of M h) (ap (holds h) l.3 ∙ w.before.stands h there), tail_same M N h row)
 
   pub half_back : (h : ℕ) → HasHalf N h → b (solid_of_half N h) ≡ false → (HasHalf M h) × (loop_of N h ≡ loop_of M h) × (tail N h ≡ tail M h) × (a (solid_of_half M h) ≡ false)
   half_back h there out =
@@ -333,22 +318,22 @@ module _ (M N : Model) (a b : ℕ → Bool) (w : Agree M N a b) where
 
   -- and a vertex
   on_kept : (v l : ℕ) → Has M.loops l → a (solid_of_loop M l) ≡ false → IsOn M v l → IsOn N v l
-  on_kept v l there out on = go (content M l) refl on where
-    go : (c : LoopContent) → content M l ≡ c → IsIn v (vertices_on M c) → IsOn N v l
-    go (lone u) is i = subst (λ c. IsIn v (vertices_on N c)) (sym ((loop_kept l there out).3 ∙ is)) i
-    go (cycle hs) is i =
-        let h = half_on M w.before l v hs is i in
-        let k = half_kept h.0 h.1 (ap (λ q. a (solid_of_loop M q)) h.3 ∙ out) in
-        subst (λ u. IsOn N u l) (k.2 ∙ h.2) (subst (IsOn N (tail N h.0)) (k.1 ∙ h.3) (half_is_on N w.after h.0 k.0))
+  on_kept v l there out on = elim (vertex_cases M l v on) [
+    | inl is ↦ subst (λ c. IsIn v (vertices_on N c)) (sym ((loop_kept l there out).3 ∙ is)) (IsIn_head v [])
+    | inr h ↦
+        let at = item_loop M w.before l h.0 h.1 in
+        let k = half_kept h.0 (item_there M w.before l h.0 h.1) (ap (λ q. a (solid_of_loop M q)) at ∙ out) in
+        subst (λ u. IsOn N u l) (k.2 ∙ h.2) (subst (IsOn N (tail N h.0)) (k.1 ∙ at) (half_is_on N w.after h.0 k.0))
+  ]
 
   on_back : (v l : ℕ) → Has N.loops l → b (solid_of_loop N l) ≡ false → IsOn N v l → IsOn M v l
-  on_back v l there out on = go (content N l) refl on where
-    go : (c : LoopContent) → content N l ≡ c → IsIn v (vertices_on N c) → IsOn M v l
-    go (lone u) is i = subst (λ c. IsIn v (vertices_on M c)) (sym (sym (loop_back l there out).3 ∙ is)) i
-    go (cycle hs) is i =
-        let h = half_on N w.after l v hs is i in
-        let k = half_back h.0 h.1 (ap (λ q. b (solid_of_loop N q)) h.3 ∙ out) in
-        subst (λ u. IsOn M u l) (sym k.2 ∙ h.2) (subst (IsOn M (tail M h.0)) (sym k.1 ∙ h.3) (half_is_on M w.before h.0 k.0))
+  on_back v l there out on = elim (vertex_cases N l v on) [
+    | inl is ↦ subst (λ c. IsIn v (vertices_on M c)) (sym (sym (loop_back l there out).3 ∙ is)) (IsIn_head v [])
+    | inr h ↦
+        let at = item_loop N w.after l h.0 h.1 in
+        let k = half_back h.0 (item_there N w.after l h.0 h.1) (ap (λ q. b (solid_of_loop N q)) at ∙ out) in
+        subst (λ u. IsOn M u l) (sym k.2 ∙ h.2) (subst (IsOn M (tail M h.0)) (sym k.1 ∙ at) (half_is_on M w.before h.0 k.0))
+  ]
 
   vertex_kept : (v : ℕ) → Has M.vertices v → a (solid_of_vertex M v) ≡ false → Has N.vertices v × (solid_of_vertex N v ≡ solid_of_vertex M v) × (b (solid_of_vertex N v) ≡ false)
   vertex_kept v there out =
@@ -356,7 +341,7 @@ module _ (M N : Model) (a b : ℕ → Bool) (w : Agree M N a b) where
       let l = loop_kept o.loop o.there (ap a o.solid ∙ out) in
       let on = on_kept v o.loop o.there (ap a o.solid ∙ out) o.on in
       let is = owner_is N w.after (solid_of_vertex M v) v (record { loop = o.loop; there = l.0; solid = l.1 ∙ o.solid; on = on }) in
-      (on_there N w.after o.loop v on, is, ap b (is ∙ sym (l.1 ∙ o.solid)) ∙ l.2)
+      (vertex_there N w.after o.loop v on, is, ap b (is ∙ sym (l.1 ∙ o.solid)) ∙ l.2)
 
   vertex_back : (v : ℕ) → Has N.vertices v → b (solid_of_vertex N v) ≡ false → Has M.vertices v × (solid_of_vertex N v ≡ solid_of_vertex M v) × (a (solid_of_vertex M v) ≡ false)
   vertex_back v there out =
@@ -364,7 +349,7 @@ module _ (M N : Model) (a b : ℕ → Bool) (w : Agree M N a b) where
       let l = loop_back o.loop o.there (ap b o.solid ∙ out) in
       let on = on_back v o.loop o.there (ap b o.solid ∙ out) o.on in
       let is = owner_is M w.before (solid_of_vertex N v) v (record { loop = o.loop; there = l.0; solid = sym l.1 ∙ o.solid; on = on }) in
-      (on_there M w.before o.loop v on, sym is, ap a (is ∙ sym (sym l.1 ∙ o.solid)) ∙ l.2)
+      (vertex_there M w.before o.loop v on, sym is, ap a (is ∙ sym (sym l.1 ∙ o.solid)) ∙ l.2)
 
   -- ---- so what is of those solids changes as the whole does
 
@@ -392,61 +377,45 @@ module _ (M N : Model) (a b : ℕ → Bool) (w : Agree M N a b) where
   more_vertices = balanced (λ v. a (solid_of_vertex M v)) (λ v. b (solid_of_vertex N v)) M.vertices N.vertices (balance M.vertices N.vertices (solid_of_vertex M) (solid_of_vertex N)
       (λ v t o. let r = vertex_kept v t o in (r.0, r.2)) (λ v t o. let r = vertex_back v t o in (r.0, r.2)))
 
-  -- ---- and every other solid counts as it did
+-- ---- and every other solid counts as it did
 
-  module _ (u : ℕ) (out : a u ≡ false) (off : b u ≡ false) where
-    same_passing : (p q : ℕ → ℕ) (k : ℕ) {X : Type 0} (o w : Option X) → (is_some o ≡ true → p k ≡ u → (is_some w ≡ true) × (q k ≡ u)) → (is_some w ≡ true → q k ≡ u → (is_some o ≡ true) × (p k ≡ u)) →
-        passes (λ k _. is_of u (p k)) k o ≡ passes (λ k _. is_of u (q k)) k w
-    same_passing p q k None None there back = refl
-    same_passing p q k None (Some y) there back = sym (ap {B = ℕ} (λ c. cond c 1 0) (ne_eqb (q k) u (λ e. true≢false (sym (back refl e).0))))
-    same_passing p q k (Some x) None there back = ap {B = ℕ} (λ c. cond c 1 0) (ne_eqb (p k) u (λ e. true≢false (sym (there refl e).0)))
-    same_passing p q k (Some x) (Some y) there back = ap {B = ℕ} (λ c. cond c 1 0) (elim (eqb_tells (p k) u) [
-      | inl e ↦ e.0 ∙ sym (eq-eqb (q k) u (there refl e.1).1)
-      | inr e ↦ e.0 ∙ sym (ne_eqb (q k) u (λ z. e.1 (back refl z).1))
-    ])
+-- whether a solid is another than u
+abbrev all_but : ℕ → ℕ → Bool
+all_but u v = not (is_of u v)
 
-    kept_many : {X : Type 0} (t w : Table X) (p q : ℕ → ℕ) → ((k : ℕ) → Has t k → p k ≡ u → Has w k × (q k ≡ u)) → ((k : ℕ) → Has w k → q k ≡ u → Has t k × (p k ≡ u)) → many (λ k. is_of u (q k)) w ≡ many (λ k. is_of u (p k)) t
-    kept_many t w p q there back = sym (same_length (table.all_where (λ k _. is_of u (p k)) t) (table.all_where (λ k _. is_of u (q k)) w)
-        (λ k. count-all_where (λ k _. is_of u (p k)) t k ∙ same_passing p q k (table.get t k) (table.get w k) (there k) (back k) ∙ sym (count-all_where (λ k _. is_of u (q k)) w k)))
+module _ (M N : Model) (a b : ℕ → Bool) (w : Agree M N a b) (u : ℕ) (out : a u ≡ false) (off : b u ≡ false) where
+  -- so the models agree but for all others
+  of_u : (v : ℕ) → all_but u v ≡ false → v ≡ u
+  of_u v o = eqb-true v u (not-false (is_of u v) o)
 
-    same_faces : many (λ k. is_of u (solid_of N k)) N.faces ≡ many (λ k. is_of u (solid_of M k)) M.faces
-    same_faces = kept_many M.faces N.faces (solid_of M) (solid_of N)
-        (λ k t e. let r = (w.faces k t (ap a e ∙ out)).0 in (ap is_some r ∙ t, same_solid M N k r ∙ e))
-        (λ k t e. let r = (w.faces_back k t (ap b e ∙ off)).0 in (ap is_some (sym r) ∙ t, sym (same_solid M N k r) ∙ e))
+  within : Agree M N (all_but u) (all_but u)
+  within = record {
+    before = w.before;
+    after = w.after;
+    faces = λ k there o. ((w.faces k there (ap a (of_u (solid_of M k) o) ∙ out)).0, o);
+    faces_back = λ k there o. ((w.faces_back k there (ap b (of_u (solid_of N k) o) ∙ off)).0, o);
+    loops = λ l there o. w.loops l there (ap a (of_u (solid_of_loop M l) o) ∙ out);
+    loops_back = λ l there o. w.loops_back l there (ap b (of_u (solid_of_loop N l) o) ∙ off);
+    edges = λ h there o. w.edges h there (ap a (of_u (solid_of_half M h) o) ∙ out);
+  }
 
-    same_loops : many (λ l. is_of u (solid_of_loop N l)) N.loops ≡ many (λ l. is_of u (solid_of_loop M l)) M.loops
-    same_loops = kept_many M.loops N.loops (solid_of_loop M) (solid_of_loop N)
-        (λ l t e. let r = loop_kept l t (ap a e ∙ out) in (r.0, r.1 ∙ e)) (λ l t e. let r = loop_back l t (ap b e ∙ off) in (r.0, sym r.1 ∙ e))
+  same_many : {X : Type 0} (t v : Table X) (p q : ℕ → ℕ) → many (λ k. all_but u (q k)) v + size t ≡ many (λ k. all_but u (p k)) t + size v → many (λ k. is_of u (q k)) v ≡ many (λ k. is_of u (p k)) t
+  same_many t v p q e = omega (arith, e, size_parts (λ k _. is_of u (p k)) t, size_parts (λ k _. is_of u (q k)) v)
 
-    same_edges : many (λ e. is_of u (solid_of_edge N e)) N.edges ≡ many (λ e. is_of u (solid_of_edge M e)) M.edges
-    same_edges = kept_many M.edges N.edges (solid_of_edge M) (solid_of_edge N) there back where
-      there : (k : ℕ) → Has M.edges k → solid_of_edge M k ≡ u → Has N.edges k × (solid_of_edge N k ≡ u)
-      there k t e =
-          let half = plus_there M k t in
-          let h = half_kept (plus k) half (ap a e ∙ out) in
-          (plus_edge N k h.0, ap (solid_of_loop N) h.1 ∙ (loop_kept (loop_of M (plus k)) (loop_there M w.before (plus k) half) (ap a e ∙ out)).1 ∙ e)
+  pub others_kept : counts N u ≡ counts M u
+  unfolding counts
+  others_kept = λ i. tally_of (vertices i) (edges i) (faces i) (rings i) where
+    vertices : length (vertices_of N u) ≡ length (vertices_of M u)
+    vertices = vertices_many N w.after u ∙ same_many M.vertices N.vertices (solid_of_vertex M) (solid_of_vertex N) (more_vertices M N (all_but u) (all_but u) within) ∙ sym (vertices_many M w.before u)
 
-      back : (k : ℕ) → Has N.edges k → solid_of_edge N k ≡ u → Has M.edges k × (solid_of_edge M k ≡ u)
-      back k t e =
-          let half = plus_there N k t in
-          let h = half_back (plus k) half (ap b e ∙ off) in
-          (plus_edge M k h.0, ap (solid_of_loop M) (sym h.1) ∙ sym (loop_back (loop_of N (plus k)) (loop_there N w.after (plus k) half) (ap b e ∙ off)).1 ∙ e)
+    edges : many (λ e. is_of u (solid_of_edge N e)) N.edges ≡ many (λ e. is_of u (solid_of_edge M e)) M.edges
+    edges = same_many M.edges N.edges (solid_of_edge M) (solid_of_edge N) (more_edges M N (all_but u) (all_but u) within)
 
-    same_vertices : many (λ v. is_of u (solid_of_vertex N v)) N.vertices ≡ many (λ v. is_of u (solid_of_vertex M v)) M.vertices
-    same_vertices = kept_many M.vertices N.vertices (solid_of_vertex M) (solid_of_vertex N)
-        (λ v t e. let r = vertex_kept v t (ap a e ∙ out) in (r.0, r.1 ∙ e)) (λ v t e. let r = vertex_back v t (ap b e ∙ off) in (r.0, sym r.1 ∙ e))
+    faces : length (faces_of N u) ≡ length (faces_of M u)
+    faces = faces_many N w.after u ∙ same_many M.faces N.faces (solid_of M) (solid_of N) (more_faces M N (all_but u) (all_but u) within) ∙ sym (faces_many M w.before u)
 
-    pub others_kept : counts N u ≡ counts M u
-    unfolding counts
-    others_kept = λ i. tally_of (vertices i) (same_edges i) (faces i) (rings i) where
-      vertices : length (vertices_of N u) ≡ length (vertices_of M u)
-      vertices = vertices_many N w.after u ∙ same_vertices ∙ sym (vertices_many M w.before u)
-
-      faces : length (faces_of N u) ≡ length (faces_of M u)
-      faces = faces_many N w.after u ∙ same_faces ∙ sym (faces_many M w.before u)
-
-      rings : length (rings_in N (faces_of N u)) ≡ length (rings_in M (faces_of M u))
-      rings = omega (arith, loops_many N w.after u, loops_many M w.before u, same_loops, faces)
+    rings : length (rings_in N (faces_of N u)) ≡ length (rings_in M (faces_of M u))
+    rings = omega (arith, loops_many N w.after u, loops_many M w.before u, same_many M.loops N.loops (solid_of_loop M) (solid_of_loop N) (more_loops M N (all_but u) (all_but u) within), faces)
 
 -- ---- one change after another
 

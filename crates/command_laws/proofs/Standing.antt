@@ -1,29 +1,27 @@
 -- A face whose loops, edges and vertices are left alone stands as it did.
 use Rattle.std.specs.Prelude.{map}
-use Rattle.std.proofs.Common.{◌≡◌, ◌≢◌, ℕ, Bool, true, cond, not, nat_eq, ◌&&◌, List, [], ◌∷◌, ◌++◌, Option, Some, None, is_some, unwrap_or, refl, sym, ap, subst, ◌∙◌, arith, inl, inr, true≢false}
+use Rattle.std.proofs.Common.{◌≡◌, ◌≢◌, ℕ, Bool, cond, not, nat_eq, ◌&&◌, List, [], ◌∷◌, ◌++◌, Option, Some, None, is_some, unwrap_or, refl, sym, ap, subst, ◌∙◌, arith, inl, inr, true≢false}
 use Rattle.std.proofs.lemmas.List.{map-append}
 use Rattle.std.proofs.lemmas.Bool.{eqb-true, and_parts, ne_eqb}
 use Rattle.euler_operators.specs.Vectors.{moved, cross}
-use Rattle.euler_operators.specs.Items.{IsIn, SameItems}
+use Rattle.euler_operators.specs.Items.{IsIn}
 use Rattle.euler_operators.proofs.Lists.{tick_other}
 use Rattle.std.proofs.lemmas.Bool.Decides.{eqb_tells}
 use Rattle.euler_operators.proofs.Members.{IsIn_rest, IsIn-map}
 use Rattle.euler_operators.proofs.Rotations.{IsIn_head}
 use Rattle.euler_operators.specs.HalfEdge.{mate, edge_of, is_first}
 use Rattle.euler_operators.specs.Table as table
-use Rattle.euler_operators.specs.Table.{Table}
 use Rattle.euler_operators.specs.Model.{Model, LoopContent, LoopRow, lone, cycle, no_edge, no_point, items_of, tail, tail_in, content, face_of, outer, point_of, rings_of, after}
 use Rattle.euler_operators.specs.Sound.{Sound, Has, HasHalf}
-use Rattle.euler_operators.specs.Conditions.{face_at, strictly_rises}
+use Rattle.euler_operators.specs.Conditions.{face_at}
 use Rattle.euler_operators.proofs.Halves.{edge_of-mate}
 use Rattle.euler_operators.proofs.Models.{face_row, item_there, holds_in, same_content, same_outer, same_solid}
-use Rattle.euler_operators.proofs.Tables.{passes, count-all_where}
 use Rattle.euler_laws.proofs.shared.Fans.{half_after, loop_after}
-use Rattle.euler_laws.proofs.shared.Listed.{listed_passes, listed-from_in, IsIn-from_listed, all_where-rises}
-use Rattle.euler_laws.proofs.shared.RisingLists as rising_lists
+use Rattle.euler_laws.proofs.shared.Listed.{listed_passes, listed-from_in}
 use Rattle.shapes.specs.Faces.{start, finish, items_in, loops_of, boundary, vertices_on, vertices_in, corners}
 use Rattle.shapes.specs.Measure.{area, normal, anchor, first_vertex, plane_through, plane_of}
 use Rattle.shapes.proofs.Areas.{area-append}
+use Rattle.gluing_laws.proofs.Listed.{passed, same_search}
 use Rattle.command_laws.specs.NewFaces.{corner_points}
 use Rattle.command_laws.specs.Framed.{FacesStand}
 use Rattle.command_laws.specs.LeftAlone.{KeepsLoops, KeepsEdges, KeepsPoints, StandsAsBefore}
@@ -31,7 +29,7 @@ use Rattle.command_laws.proofs.OnFaces.{item_loop}
 
 -- ---- rows
 
-tail_same : (M N : Model) (h : ℕ) → table.get N.edges (edge_of h) ≡ table.get M.edges (edge_of h) → tail N h ≡ tail M h
+pub tail_same : (M N : Model) (h : ℕ) → table.get N.edges (edge_of h) ≡ table.get M.edges (edge_of h) → tail N h ≡ tail M h
 unfolding tail
 tail_same M N h e = ap (λ o. tail_in (unwrap_or o no_edge) (is_first h)) e
 
@@ -39,16 +37,7 @@ point_same : (M N : Model) (v : ℕ) → table.get N.vertices v ≡ table.get M.
 unfolding point_of
 point_same M N v e = ap (λ o. unwrap_or o no_point) e
 
--- ---- searches that agree on every number list the same
-
-rising_same : (xs ys : List ℕ) → strictly_rises xs ≡ true → strictly_rises ys ≡ true → SameItems xs ys → xs ≡ ys
-rising_same xs ys r s e =
-    let a = rising_lists.within xs ys r s (λ q i. listed-from_in q ys (omega (arith, e q, IsIn-from_listed q xs i))) in
-    let b = rising_lists.within ys xs s r (λ q i. listed-from_in q xs (omega (arith, e q, IsIn-from_listed q ys i))) in
-    a.1 (omega (arith, a.0, b.0))
-
-same_search : {X : Type 0} (p q : ℕ → X → Bool) (t u : Table X) → ((n : ℕ) → passes p n (table.get t n) ≡ passes q n (table.get u n)) → table.all_where p t ≡ table.all_where q u
-same_search p q t u e = rising_same (table.all_where p t) (table.all_where q u) (all_where-rises p t) (all_where-rises q u) (λ n. count-all_where p t n ∙ e n ∙ sym (count-all_where q u n))
+-- ---- rings
 
 -- where the loops of a face have the rows that they had, and no loop more is of it, it has the rings that it had
 module _ (M N : Model) (k : ℕ) (row : table.get N.faces k ≡ table.get M.faces k) (on : (l : ℕ) → Has M.loops l → face_of M l ≡ k → table.get N.loops l ≡ table.get M.loops l)
@@ -56,10 +45,10 @@ module _ (M N : Model) (k : ℕ) (row : table.get N.faces k ≡ table.get M.face
   abbrev is_ring : Model → ℕ → LoopRow → Bool
   is_ring X l row = nat_eq row.face k && not (nat_eq (outer X k) l)
 
-  not_of : (X : Model) (l : ℕ) (row : LoopRow) → row.face ≢ k → passes (is_ring X) l (Some row) ≡ 0
+  not_of : (X : Model) (l : ℕ) (row : LoopRow) → row.face ≢ k → passed (is_ring X) l (Some row) ≡ 0
   not_of X l row ne = ap (λ b. cond (b && not (nat_eq (outer X k) l)) 1 0) (ne_eqb row.face k ne)
 
-  each_loop : (l : ℕ) (o p : Option LoopRow) → table.get N.loops l ≡ o → table.get M.loops l ≡ p → passes (is_ring N) l o ≡ passes (is_ring M) l p
+  each_loop : (l : ℕ) (o p : Option LoopRow) → table.get N.loops l ≡ o → table.get M.loops l ≡ p → passed (is_ring N) l o ≡ passed (is_ring M) l p
   each_loop l None None e f = refl
   each_loop l (Some x) None e f = elim (eqb_tells x.face k) [
     | inl s ↦ absurd (true≢false (ap is_some (sym e ∙ back l (ap is_some e) (face_row N l x e ∙ s.1) ∙ f)))
@@ -70,9 +59,9 @@ module _ (M N : Model) (k : ℕ) (row : table.get N.faces k ≡ table.get M.face
     | inr s ↦ sym (not_of M l y s.1)
   ]
   each_loop l (Some x) (Some y) e f = elim (eqb_tells y.face k) [
-    | inl s ↦ ap (passes (is_ring N) l) (sym e ∙ on l (ap is_some f) (face_row M l y f ∙ s.1) ∙ f) ∙ ap (λ o. cond (nat_eq y.face k && not (nat_eq o l)) 1 0) (same_outer M N k row)
+    | inl s ↦ ap (passed (is_ring N) l) (sym e ∙ on l (ap is_some f) (face_row M l y f ∙ s.1) ∙ f) ∙ ap (λ o. cond (nat_eq y.face k && not (nat_eq o l)) 1 0) (same_outer M N k row)
     | inr s ↦ elim (eqb_tells x.face k) [
-      | inl u ↦ ap (passes (is_ring N) l) (sym e ∙ back l (ap is_some e) (face_row N l x e ∙ u.1) ∙ f) ∙ ap (λ o. cond (nat_eq y.face k && not (nat_eq o l)) 1 0) (same_outer M N k row)
+      | inl u ↦ ap (passed (is_ring N) l) (sym e ∙ back l (ap is_some e) (face_row N l x e ∙ u.1) ∙ f) ∙ ap (λ o. cond (nat_eq y.face k && not (nat_eq o l)) 1 0) (same_outer M N k row)
       | inr u ↦ not_of N l x u.1 ∙ sym (not_of M l y s.1)
     ]
   ]

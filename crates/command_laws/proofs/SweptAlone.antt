@@ -1,6 +1,6 @@
 -- What a sweep leaves as it was.
 use Rattle.std.specs.Prelude.{length}
-use Rattle.std.proofs.Common.{◌≡◌, ◌≢◌, ℕ, zero, suc, ◌+◌, ◌≤◌, ◌<◌, List, [], ◌∷◌, None, refl, ap, ◌∙◌, arith}
+use Rattle.std.proofs.Common.{◌≡◌, ◌≢◌, ℕ, zero, suc, ◌+◌, ◌≤◌, ◌<◌, List, [], ◌∷◌, None, refl, sym, ap, subst, ◌∙◌, arith}
 use Rattle.euler_operators.specs.declared.Point.{Point}
 use Rattle.euler_operators.specs.Items.{count, IsIn}
 use Rattle.euler_operators.proofs.Rotations.{IsIn_head}
@@ -18,9 +18,9 @@ use Rattle.shapes.proofs.fresh.Rows.{at_most_greatest}
 use Rattle.sweeps_laws.proofs.swept.Numbers.{riser_above, top_above}
 use Rattle.sweeps_laws.proofs.prism.Accepted.{begins}
 use Rattle.undo_journal.specs.Machine.{held}
-use Rattle.command_laws.specs.LeftAlone.{AllBut}
+use Rattle.command_laws.specs.LeftAlone.{AllBut, KeepsShapes}
 use Rattle.command_laws.specs.Framed.{SweepKeepsOwners, SweepKeepsLoops, SweepKeepsEdges, SweepKeepsPoints, SweepKeepsShapes}
-use Rattle.command_laws.proofs.Kept.{sweep_keeps_faces}
+use Rattle.command_laws.proofs.Kept.{prism_kept, sweep_keeps_faces}
 use Rattle.command_laws.proofs.OnFaces.{vertex_there}
 use Rattle.command_laws.proofs.Standing.{stands}
 use Rattle.command_laws.proofs.SweptLoops.{later_all, sweep_ready}
@@ -128,6 +128,11 @@ module _ (M : Model) (f : ℕ) (d : Point) (sound : Sound M) (goes : prism_refus
   unfolding prism_model taken_in
   prism_keeps_rings k there = (later_all f (solid_of M f) d (loops_of M f) (growing M) (sweep_ready M f d sound goes)).rings k (at_most_greatest M.faces k there)
 
+  pub prism_keeps_shapes : KeepsShapes (AllBut f) M (prism_model M f d)
+  prism_keeps_shapes k there ne =
+      stands M (prism_model M f d) (AllBut f) sound (prism_keeps_loops M f d sound goes) (λ h half other. prism_keeps_edges M f d (edge_of h) half)
+      (λ l v i other. prism_keeps_points M f d v (vertex_there M sound l v i)) k there ne (prism_kept M f d k (at_most_greatest M.faces k there)) (prism_keeps_rings k there)
+
 -- ---- the laws
 
 pub sweep_keeps_owners : SweepKeepsOwners
@@ -144,7 +149,4 @@ pub sweep_keeps_points : SweepKeepsPoints
 sweep_keeps_points before after f d sound made l v i alone = ap (λ x. table.get (held x).vertices v) made.1 ∙ prism_keeps_points (held before) f d v (vertex_there (held before) sound l v i)
 
 pub sweep_keeps_shapes : SweepKeepsShapes
-sweep_keeps_shapes before after f d sound made k there ne =
-    stands (held before) (held after) (AllBut f) sound (sweep_keeps_loops before after f d sound made) (λ h half other. sweep_keeps_edges before after f d made h half tt)
-    (λ l v i other. sweep_keeps_points before after f d sound made l v i tt) k there ne (sweep_keeps_faces before after f d made k (at_most_greatest (held before).faces k there))
-    (ap (λ x. rings_of (held x) k) made.1 ∙ prism_keeps_rings (held before) f d sound made.0 k there)
+sweep_keeps_shapes before after f d sound made = subst (λ x. KeepsShapes (AllBut f) (held before) (held x)) (sym made.1) (prism_keeps_shapes (held before) f d sound made.0)

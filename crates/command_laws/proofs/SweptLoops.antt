@@ -153,3 +153,7 @@ sweep_ready M f d sound goes = record {
   apart = (begins M f d sound goes).apart;
   last = refl;
 }
+
+pub face_counted : (M : Model) → (taken_in M).face ≡ table.greatest M.faces
+unfolding taken_in
+face_counted M = refl

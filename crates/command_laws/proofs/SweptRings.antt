@@ -1,7 +1,7 @@
 -- The far face and the sides of a sweep of a face that may have rings.
 use Rattle.std.specs.Prelude.{length, get_or, map}
 use Rattle.std.proofs.Common.{◌≡◌, ℕ, ◌+◌, ◌≤◌, ◌<◌, List, [], ◌∷◌, ◌++◌, Some, None, is_some, refl, sym, ap, subst, ◌∙◌, arith, append-nil}
-use Rattle.std.proofs.lemmas.List.{map-append}
+use Rattle.std.proofs.lemmas.List.{length-map, map-append}
 use Rattle.euler_operators.specs.declared.Point.{Point}
 use Rattle.euler_operators.specs.Vectors.{moved}
 use Rattle.euler_operators.specs.Items.{count, IsIn, before as ahead, after as behind}
@@ -27,9 +27,8 @@ use Rattle.undo_journal.specs.Machine.{held}
 use Rattle.command_laws.specs.NewFaces.{corner_points, nth, all_moved, side_over, last_face, IsFaceOf}
 use Rattle.command_laws.specs.RingedFaces.{loop_points, corner_count, IsFarFace, RingedFaceIsFar, RingedSidesStand, SweepTakesFaces}
 use Rattle.command_laws.proofs.Outlines.{nth_start, as_many, same_starts, ring_path}
-use Rattle.command_laws.proofs.SweptFaces.{face_counted}
 use Rattle.command_laws.proofs.MovedAreas.{moved_many, nth_moved, area_kept}
-use Rattle.command_laws.proofs.SweptLoops.{Ready, Later, items, swept_once, next, raised_is, after_ready, later_all, ready_all, from_append, taken_all, sweep_ready}
+use Rattle.command_laws.proofs.SweptLoops.{Ready, Later, items, swept_once, next, raised_is, after_ready, later_all, ready_all, from_append, taken_all, sweep_ready, face_counted}
 use Rattle.command_laws.proofs.SweptSides.{along_cycle, ring_is, ring_moved, items_taken, loop_low, side_stands}
 
 module _ (M : Model) (f : ℕ) (d : Point) (sound : Sound M) (goes : prism_refusal M f d ≡ None) where
@@ -39,17 +38,17 @@ module _ (M : Model) (f : ℕ) (d : Point) (sound : Sound M) (goes : prism_refus
   abbrev Z : Model
   Z = (prism_from f d (growing M) (loops_of M f)).model
 
-  prism_is : prism_model M f d ≡ (prism_from f d (growing M) (loops_of M f)).model
+  pub prism_is : prism_model M f d ≡ (prism_from f d (growing M) (loops_of M f)).model
   unfolding prism_model
   prism_is = refl
 
-  Z_sound : Sound Z
+  pub Z_sound : Sound Z
   Z_sound = subst Sound prism_is (prism_sound M f d sound goes)
 
   begun : Ready f (solid_of M f) (growing M) (loops_of M f)
   begun = sweep_ready M f d sound goes
 
-  whole : Later M Z (taken_in M) (loops_of M f)
+  pub whole : Later M Z (taken_in M) (loops_of M f)
   whole = later_all f s d (loops_of M f) (growing M) begun
 
   -- ---- at loop l, once the loops ls are swept
@@ -61,7 +60,7 @@ module _ (M : Model) (f : ℕ) (d : Point) (sound : Sound M) (goes : prism_refus
     all_ready : Ready f (solid_of M f) (growing M) (ls ++ l ∷ rs)
     all_ready = subst (Ready f s (growing M)) parts begun
 
-    now : Ready f (solid_of M f) g (l ∷ rs)
+    pub now : Ready f (solid_of M f) g (l ∷ rs)
     now = ready_all f s d ls (l ∷ rs) (growing M) all_ready
 
     before_ready : (ms ns : List ℕ) → Ready f (solid_of M f) (growing M) (ms ++ ns) → Ready f (solid_of M f) (growing M) ms
@@ -77,7 +76,7 @@ module _ (M : Model) (f : ℕ) (d : Point) (sound : Sound M) (goes : prism_refus
     earlier : Later M g.model (taken_in M) ls
     earlier = later_all f s d ls (growing M) (before_ready ls (l ∷ rs) all_ready)
 
-    l_path : IsPathOf M f l (items_of (content M l))
+    pub l_path : IsPathOf M f l (items_of (content M l))
     l_path = all_ready.paths l (omega (arith, count-append l ls (l ∷ rs), tick_same l))
 
     l_low : l ≤ (taken_in M).loop
@@ -112,7 +111,7 @@ module _ (M : Model) (f : ℕ) (d : Point) (sound : Sound M) (goes : prism_refus
     abbrev tops : List ℕ
     tops = top_items g.taken.edge (length hs) (length hs)
 
-    loop_then : content Z l ≡ cycle tops
+    pub loop_then : content Z l ≡ cycle tops
     loop_then = same_content (swept_once f s d g l rs now) Z l (rest.loops l (omega (arith, loop_low f s d g l rs now)) l_not_later) ∙ ring_is f s d g l rs now
 
     tops_moved : map (start Z) tops ≡ all_moved d (loop_points M l)
@@ -122,8 +121,14 @@ module _ (M : Model) (f : ℕ) (d : Point) (sound : Sound M) (goes : prism_refus
     loop_moved : loop_points Z l ≡ all_moved d (loop_points M l)
     loop_moved = along_cycle Z l tops loop_then ∙ tops_moved
 
-    loop_there : Has Z.loops l
+    pub loop_there : Has Z.loops l
     loop_there = ap is_some (rest.loops l (omega (arith, loop_low f s d g l rs now)) l_not_later ∙ loop_here g.model g.taken (solid_of g.model f) d hs f l)
+
+    points_some : 0 < length (loop_points M l)
+    points_some = subst (λ n. 0 < n) (sym (ap length (along_cycle M l (items_of (content M l)) l_path.content) ∙ as_many M (items_of (content M l)))) l_path.some_item
+
+    pub tops_some : 0 < length tops
+    tops_some = subst (λ n. 0 < n) (sym (sym (as_many Z tops) ∙ ap length tops_moved ∙ moved_many d (loop_points M l))) points_some
 
     area_moved : area Z (items_of (content Z l)) ≡ area M (items_of (content M l))
     area_moved = ap (λ x. area Z (items_of x)) loop_then
@@ -133,7 +138,7 @@ module _ (M : Model) (f : ℕ) (d : Point) (sound : Sound M) (goes : prism_refus
     many : length hs ≡ length (loop_points M l)
     many = sym (as_many g.model hs) ∙ ap length points_then
 
-    side_at : (i : ℕ) → i < length (loop_points M l) → IsFaceOf Z (table.greatest M.faces + corner_count M ls + 1 + i) (solid_of M f)
+    pub side_at : (i : ℕ) → i < length (loop_points M l) → IsFaceOf Z (table.greatest M.faces + corner_count M ls + 1 + i) (solid_of M f)
         (side_over d (nth (loop_points M l) i) (nth (loop_points M l) (next_place (length (loop_points M l)) i)))
     side_at i m =
         let ps = loop_points M l in
@@ -149,11 +154,11 @@ module _ (M : Model) (f : ℕ) (d : Point) (sound : Sound M) (goes : prism_refus
 
   -- ---- the far face
 
-  face_low : f ≤ (taken_in M).face
+  pub face_low : f ≤ (taken_in M).face
   unfolding taken_in
   face_low = at_most_greatest M.faces f (face_there M f d sound goes)
 
-  same_row : table.get Z.faces f ≡ table.get M.faces f
+  pub same_row : table.get Z.faces f ≡ table.get M.faces f
   same_row = whole.faces f face_low
 
   same_loops : loops_of Z f ≡ loops_of M f
@@ -176,7 +181,7 @@ module _ (M : Model) (f : ℕ) (d : Point) (sound : Sound M) (goes : prism_refus
   unfolding corners
   corners_moved = ap (λ ls. map (point_of Z) (vertices_in Z ls)) same_loops ∙ points_moved (loops_of M f) (λ l i. i)
 
-  outer_in : IsIn (outer M f) (loops_of M f)
+  pub outer_in : IsIn (outer M f) (loops_of M f)
   unfolding loops_of
   outer_in = IsIn_head (outer M f) (rings_of M f)
 
@@ -191,10 +196,9 @@ module _ (M : Model) (f : ℕ) (d : Point) (sound : Sound M) (goes : prism_refus
       let rs = behind l (loops_of M f) in
       let parts = split_at l (loops_of M f) outer_in in
       let p = begun.paths l outer_in in
-      let some : 0 < length (loop_points M l) = subst (λ n. 0 < n) (sym (ap length (along_cycle M l (items_of (content M l)) p.content) ∙ as_many M (items_of (content M l)))) p.some_item in
       ap (λ q. point_of Z (first_vertex Z (content Z q))) (same_outer M Z f same_row)
-      ∙ first_of Z l _ (loop_then ls rs l parts) (subst (λ n. 0 < n) (sym (sym (as_many Z _) ∙ ap length (tops_moved ls rs l parts) ∙ moved_many d (loop_points M l))) some)
-      ∙ ap (λ ps. nth ps 0) (each_moved l outer_in) ∙ nth_moved d (loop_points M l) 0 some
+      ∙ first_of Z l _ (loop_then ls rs l parts) (tops_some ls rs l parts)
+      ∙ ap (λ ps. nth ps 0) (each_moved l outer_in) ∙ nth_moved d (loop_points M l) 0 (points_some ls rs l parts)
       ∙ ap (λ q. moved q d) (sym (first_of M l (items_of (content M l)) p.content p.some_item))
 
   areas_moved : (ls : List ℕ) → ((l : ℕ) → IsIn l ls → IsIn l (loops_of M f)) → area Z (items_in Z ls) ≡ area M (items_in M ls)
@@ -212,7 +216,7 @@ module _ (M : Model) (f : ℕ) (d : Point) (sound : Sound M) (goes : prism_refus
   unfolding plane_of
   plane_moved = λ i. plane_through (normal_kept i) (anchor_moved i)
 
-  far_face : IsFarFace M Z f d
+  pub far_face : IsFarFace M Z f d
   far_face = record {
     there = ap is_some same_row ∙ face_there M f d sound goes;
     solid = same_solid M Z f same_row;
@@ -226,6 +230,10 @@ module _ (M : Model) (f : ℕ) (d : Point) (sound : Sound M) (goes : prism_refus
   unfolding corners
   all_counted = (ready_all f s d (loops_of M f) [] (growing M) (subst (Ready f s (growing M)) (sym (append-nil (loops_of M f))) begun)).last
       ∙ taken_all f s d M (loops_of M f) (growing M) begun (λ q i. refl) ∙ ap (λ n. n + length (vertices_in M (loops_of M f))) (face_counted M)
+
+-- as many faces more as the face has corners
+pub model_counted : (M : Model) (f : ℕ) (d : Point) → Sound M → prism_refusal M f d ≡ None → table.greatest (prism_model M f d).faces ≡ table.greatest M.faces + length (corner_points M f)
+model_counted M f d sound goes = ap (λ (N : Model). table.greatest N.faces) (prism_is M f d sound goes) ∙ all_counted M f d sound goes ∙ ap (λ n. table.greatest M.faces + n) (sym (length-map (corners M f) (point_of M)))
 
 -- ---- the laws
 

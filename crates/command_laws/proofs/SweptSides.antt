@@ -9,7 +9,7 @@ use Rattle.euler_operators.proofs.Lists.{IsIn_or_not}
 use Rattle.euler_operators.proofs.Members.{IsIn_rest}
 use Rattle.euler_operators.specs.HalfEdge.{edge_of, plus}
 use Rattle.euler_operators.specs.Table as table
-use Rattle.euler_operators.specs.Model.{Model, cycle, items_of, tail, content, point_of, solid_of, rings_of}
+use Rattle.euler_operators.specs.Model.{Model, cycle, items_of, content, point_of, solid_of, rings_of}
 use Rattle.euler_operators.specs.Sound.{Sound, Has}
 use Rattle.euler_operators.proofs.Models.{outer_row, solid_row, same_content}
 use Rattle.shapes.specs.Faces.{start, vertices_on}
@@ -21,15 +21,11 @@ use Rattle.sweeps_laws.proofs.swept.Lifted.{IsPathOf, within, rings_new, content
 use Rattle.sweeps_laws.proofs.swept.Kept.{counted}
 use Rattle.command_laws.specs.NewFaces.{nth, all_moved, side_over, IsFaceOf}
 use Rattle.command_laws.specs.RingedFaces.{loop_points}
-use Rattle.command_laws.proofs.Outlines.{take_next, nth_start, as_many, same_starts, points_are, plane_is}
+use Rattle.command_laws.proofs.Outlines.{take_next, nth_start, as_many, same_starts, starts_are, points_are, plane_is}
 use Rattle.command_laws.proofs.MovedAreas.{moved_many, nth_moved}
 use Rattle.command_laws.proofs.SweptLoops.{Ready, Later, items, path, swept_once, after_ready}
 
 -- ---- points
-
-pub starts_are : (M : Model) (hs : List ℕ) → map (point_of M) (map (tail M) hs) ≡ map (start M) hs
-starts_are M [] = refl
-starts_are M (h ∷ hs) = ap (λ ps. start M h ∷ ps) (starts_are M hs)
 
 pub along_cycle : (M : Model) (l : ℕ) (hs : List ℕ) → content M l ≡ cycle hs → loop_points M l ≡ map (start M) hs
 along_cycle M l hs is = ap (λ x. map (point_of M) (vertices_on M x)) is ∙ starts_are M hs
