@@ -28,6 +28,7 @@ use Rattle.shapes.specs.Walks.{loops_in}
 use Rattle.shapes.proofs.walks.SolidFaces.{solid_loops, all_loops_apart, loop_in_solid, solid_has_loop}
 use Rattle.solid_measure.specs.solid_counts.Counts.{rings_in, tally_of, counts}
 use Rattle.solid_measure.proofs.solid_counts_laws.HowMany.{equally_many}
+use Rattle.gluing_laws.proofs.Listed.{one_if}
 use Rattle.command_laws.proofs.OnFaces.{item_loop, vertex_cases, vertex_there}
 use Rattle.command_laws.proofs.Standing.{tail_same}
 
@@ -37,25 +38,29 @@ use Rattle.command_laws.proofs.Standing.{tail_same}
 abbrev pub many : {X : Type 0} → (ℕ → Bool) → Table X → ℕ
 many a t = length (table.all_where (λ k _. a k) t)
 
--- a row that stays passes as it did, and what is new or gone passes
-pub record Balance {X : Type 0} (a b : ℕ → Bool) (t u : Table X) : Type 0 where
-  pub kept : (k : ℕ) → Has t k → Has u k → b k ≡ a k
-  pub new : (k : ℕ) → table.has t k ≡ false → Has u k → b k ≡ true
-  pub gone : (k : ℕ) → Has t k → table.has u k ≡ false → a k ≡ true
+fails_never : (x : Bool) → (x ≡ false → ⊥) → one_if (not x) ≡ 0
+fails_never true f = refl
+fails_never false f = absurd (f refl)
+
+fails_alike : (x y : Bool) → (x ≡ false → y ≡ false) → (y ≡ false → x ≡ false) → one_if (not x) ≡ one_if (not y)
+fails_alike true true f g = refl
+fails_alike true false f g = absurd (true≢false (g refl))
+fails_alike false true f g = absurd (true≢false (f refl))
+fails_alike false false f g = refl
 
 module _ {X : Type 0} (a b : ℕ → Bool) where
-  same_left : (k : ℕ) (o w : Option X) → (is_some o ≡ true → is_some w ≡ true → b k ≡ a k) → (is_some o ≡ false → is_some w ≡ true → b k ≡ true) → (is_some o ≡ true → is_some w ≡ false → a k ≡ true) →
+  same_left : (k : ℕ) (o w : Option X) → (is_some o ≡ true → a k ≡ false → (is_some w ≡ true) × (b k ≡ false)) → (is_some w ≡ true → b k ≡ false → (is_some o ≡ true) × (a k ≡ false)) →
       passes (λ k _. not (a k)) k o ≡ passes (λ k _. not (b k)) k w
-  same_left k None None kept new gone = refl
-  same_left k None (Some y) kept new gone = sym (ap {B = ℕ} (λ c. cond (not c) 1 0) (new refl refl))
-  same_left k (Some x) None kept new gone = ap {B = ℕ} (λ c. cond (not c) 1 0) (gone refl refl)
-  same_left k (Some x) (Some y) kept new gone = ap {B = ℕ} (λ c. cond (not c) 1 0) (sym (kept refl refl))
+  same_left k None None there back = refl
+  same_left k None (Some y) there back = sym (fails_never (b k) (λ e. true≢false (sym (back refl e).0)))
+  same_left k (Some x) None there back = fails_never (a k) (λ e. true≢false (sym (there refl e).0))
+  same_left k (Some x) (Some y) there back = fails_alike (a k) (b k) (λ e. (there refl e).1) (λ e. (back refl e).1)
 
-  -- so as many more pass as there are rows more
-  pub balanced : (t u : Table X) → Balance a b t u → many b u + size t ≡ many a t + size u
-  balanced t u w =
+  -- where what doesn't pass stays, as many more pass as there are rows more
+  balanced : (t u : Table X) → ((k : ℕ) → Has t k → a k ≡ false → Has u k × (b k ≡ false)) → ((k : ℕ) → Has u k → b k ≡ false → Has t k × (a k ≡ false)) → many b u + size t ≡ many a t + size u
+  balanced t u there back =
       let rest : many (λ k. not (a k)) t ≡ many (λ k. not (b k)) u = same_length (table.all_where (λ k _. not (a k)) t) (table.all_where (λ k _. not (b k)) u)
-      (λ k. count-all_where (λ k _. not (a k)) t k ∙ same_left k (table.get t k) (table.get u k) (w.kept k) (w.new k) (w.gone k) ∙ sym (count-all_where (λ k _. not (b k)) u k)) in
+      (λ k. count-all_where (λ k _. not (a k)) t k ∙ same_left k (table.get t k) (table.get u k) (there k) (back k) ∙ sym (count-all_where (λ k _. not (b k)) u k)) in
       omega (arith, size_parts (λ k _. a k) t, size_parts (λ k _. b k) u, rest)
 
 -- whether a solid is solid s
@@ -255,127 +260,79 @@ pub record Agree (M N : Model) (a b : ℕ → Bool) : Type 0 where
   pub loops_back : (l : ℕ) → Has N.loops l → b (solid_of_loop N l) ≡ false → table.get N.loops l ≡ table.get M.loops l
   pub edges : (h : ℕ) → HasHalf M h → a (solid_of_half M h) ≡ false → table.get N.edges (edge_of h) ≡ table.get M.edges (edge_of h)
 
--- what is false at both, or true at both
-alike : (x y : Bool) → (x ≡ false → y ≡ false) → (y ≡ false → x ≡ false) → y ≡ x
-alike true true f g = refl
-alike true false f g = sym (g refl)
-alike false true f g = f refl
-alike false false f g = refl
-
--- a test that isn't false
-not_false : (x : Bool) → (x ≡ false → ⊥) → x ≡ true
-not_false true f = refl
-not_false false f = absurd (f refl)
-
 module _ (M N : Model) (a b : ℕ → Bool) (w : Agree M N a b) where
-  solid_there : (k : ℕ) → Has M.faces k → a (solid_of M k) ≡ false → solid_of N k ≡ solid_of M k
-  solid_there k there out = same_solid M N k (w.faces k there out).0
+  -- a face, a loop and a half-edge of another solid stay, and are of another solid
+  face_kept : (k : ℕ) → Has M.faces k → a (solid_of M k) ≡ false → Has N.faces k × (b (solid_of N k) ≡ false)
+  face_kept k there out = let r = w.faces k there out in (ap is_some r.0 ∙ there, ap b (same_solid M N k r.0) ∙ r.1)
 
-  solid_back : (k : ℕ) → Has N.faces k → b (solid_of N k) ≡ false → solid_of N k ≡ solid_of M k
-  solid_back k there out = same_solid M N k (w.faces_back k there out).0
-
-  -- a loop of another solid stays, of that solid
-  pub loop_kept : (l : ℕ) → Has M.loops l → a (solid_of_loop M l) ≡ false → (Has N.loops l) × (solid_of_loop N l ≡ solid_of_loop M l) × (b (solid_of_loop N l) ≡ false) × (content N l ≡ content M l)
+  loop_kept : (l : ℕ) → Has M.loops l → a (solid_of_loop M l) ≡ false → Has N.loops l × (b (solid_of_loop N l) ≡ false) × (content N l ≡ content M l)
   loop_kept l there out =
       let row = w.loops l there out in
-      let face = same_face M N l row in
-      let k = w.before.loops_of_faces l there in
-      let is = ap (solid_of N) face ∙ solid_there (face_of M l) k out in
-      (ap is_some row ∙ there, is, ap b is ∙ (w.faces (face_of M l) k out).1, same_content M N l row)
+      (ap is_some row ∙ there, ap (λ k. b (solid_of N k)) (same_face M N l row) ∙ (face_kept (face_of M l) (w.before.loops_of_faces l there) out).1, same_content M N l row)
 
-  pub loop_back : (l : ℕ) → Has N.loops l → b (solid_of_loop N l) ≡ false → (Has M.loops l) × (solid_of_loop N l ≡ solid_of_loop M l) × (a (solid_of_loop M l) ≡ false) × (content N l ≡ content M l)
-  loop_back l there out =
-      let row = w.loops_back l there out in
-      let face = same_face M N l row in
-      let k = w.after.loops_of_faces l there in
-      let is = solid_back (face_of N l) k out ∙ ap (solid_of M) face in
-      (ap is_some (sym row) ∙ there, is, ap a (sym is) ∙ (w.faces_back (face_of N l) k out).1, same_content M N l row)
-
-  -- and so does a half-edge
-  pub half_kept : (h : ℕ) → HasHalf M h → a (solid_of_half M h) ≡ false → (HasHalf N h) × (loop_of N h ≡ loop_of M h) × (tail N h ≡ tail M h)
+  pub half_kept : (h : ℕ) → HasHalf M h → a (solid_of_half M h) ≡ false → HasHalf N h × (b (solid_of_half N h) ≡ false) × (loop_of N h ≡ loop_of M h) × (tail N h ≡ tail M h)
   half_kept h there out =
       let l = loop_kept (loop_of M h) (loop_there M w.before h there) out in
       let row = w.edges h there out in
-      (ap is_some row ∙ there, w.after.one_loop h (loop_of M h) (ap (holds h) l.3 ∙ w.before.stands h there), tail_same M N h row)
+      let at : loop_of N h ≡ loop_of M h = w.after.one_loop h (loop_of M h) (ap (holds h) l.2 ∙ w.before.stands h there) in
+      (ap is_some row ∙ there, ap (λ q. b (solid_of_loop N q)) at ∙ l.1, at, tail_same M N h row)
 
-  pub half_back : (h : ℕ) → HasHalf N h → b (solid_of_half N h) ≡ false → (HasHalf M h) × (loop_of N h ≡ loop_of M h) × (tail N h ≡ tail M h) × (a (solid_of_half M h) ≡ false)
-  half_back h there out =
-      let l = loop_back (loop_of N h) (loop_there N w.after h there) out in
-      let stands : StandsIn M h (loop_of N h) = ap (holds h) (sym l.3) ∙ w.after.stands h there in
-      let had = w.before.only_edges h (loop_of N h) stands in
-      let at = w.before.one_loop h (loop_of N h) stands in
-      let other : a (solid_of_half M h) ≡ false = ap (λ q. a (solid_of_loop M q)) at ∙ l.2 in
-      (had, sym at, (half_kept h had other).2, other)
-
-  edge_kept : (e : ℕ) → Has M.edges e → a (solid_of_edge M e) ≡ false → Has N.edges e × (b (solid_of_edge N e) ≡ false)
-  edge_kept e there out =
-      let t = plus_there M e there in
-      let h = half_kept (plus e) t out in
-      (plus_edge N e h.0, ap (λ q. b (solid_of_loop N q)) h.1 ∙ (loop_kept (loop_of M (plus e)) (loop_there M w.before (plus e) t) out).2)
-
-  edge_back : (e : ℕ) → Has N.edges e → b (solid_of_edge N e) ≡ false → Has M.edges e × (a (solid_of_edge M e) ≡ false)
-  edge_back e there out = let h = half_back (plus e) (plus_there N e there) out in (plus_edge M e h.0, h.3)
-
-  -- and a vertex
-  on_kept : (v l : ℕ) → Has M.loops l → a (solid_of_loop M l) ≡ false → IsOn M v l → IsOn N v l
-  on_kept v l there out on = elim (vertex_cases M l v on) [
-    | inl is ↦ subst (λ c. IsIn v (vertices_on N c)) (sym ((loop_kept l there out).3 ∙ is)) (IsIn_head v [])
-    | inr h ↦
-        let at = item_loop M w.before l h.0 h.1 in
-        let k = half_kept h.0 (item_there M w.before l h.0 h.1) (ap (λ q. a (solid_of_loop M q)) at ∙ out) in
-        subst (λ u. IsOn N u l) (k.2 ∙ h.2) (subst (IsOn N (tail N h.0)) (k.1 ∙ at) (half_is_on N w.after h.0 k.0))
-  ]
-
-  on_back : (v l : ℕ) → Has N.loops l → b (solid_of_loop N l) ≡ false → IsOn N v l → IsOn M v l
-  on_back v l there out on = elim (vertex_cases N l v on) [
-    | inl is ↦ subst (λ c. IsIn v (vertices_on M c)) (sym (sym (loop_back l there out).3 ∙ is)) (IsIn_head v [])
-    | inr h ↦
-        let at = item_loop N w.after l h.0 h.1 in
-        let k = half_back h.0 (item_there N w.after l h.0 h.1) (ap (λ q. b (solid_of_loop N q)) at ∙ out) in
-        subst (λ u. IsOn M u l) (sym k.2 ∙ h.2) (subst (IsOn M (tail M h.0)) (sym k.1 ∙ at) (half_is_on M w.before h.0 k.0))
-  ]
-
-  vertex_kept : (v : ℕ) → Has M.vertices v → a (solid_of_vertex M v) ≡ false → Has N.vertices v × (solid_of_vertex N v ≡ solid_of_vertex M v) × (b (solid_of_vertex N v) ≡ false)
-  vertex_kept v there out =
-      let o = has_owner M w.before v there in
-      let l = loop_kept o.loop o.there (ap a o.solid ∙ out) in
-      let on = on_kept v o.loop o.there (ap a o.solid ∙ out) o.on in
-      let is = owner_is N w.after (solid_of_vertex M v) v (record { loop = o.loop; there = l.0; solid = l.1 ∙ o.solid; on = on }) in
-      (vertex_there N w.after o.loop v on, is, ap b (is ∙ sym (l.1 ∙ o.solid)) ∙ l.2)
-
-  vertex_back : (v : ℕ) → Has N.vertices v → b (solid_of_vertex N v) ≡ false → Has M.vertices v × (solid_of_vertex N v ≡ solid_of_vertex M v) × (a (solid_of_vertex M v) ≡ false)
-  vertex_back v there out =
-      let o = has_owner N w.after v there in
-      let l = loop_back o.loop o.there (ap b o.solid ∙ out) in
-      let on = on_back v o.loop o.there (ap b o.solid ∙ out) o.on in
-      let is = owner_is M w.before (solid_of_vertex N v) v (record { loop = o.loop; there = l.0; solid = sym l.1 ∙ o.solid; on = on }) in
-      (vertex_there M w.before o.loop v on, sym is, ap a (is ∙ sym (sym l.1 ∙ o.solid)) ∙ l.2)
-
-  -- ---- so what is of those solids changes as the whole does
-
-  balance : {X : Type 0} (t u : Table X) (p q : ℕ → ℕ) → ((k : ℕ) → Has t k → a (p k) ≡ false → Has u k × (b (q k) ≡ false)) → ((k : ℕ) → Has u k → b (q k) ≡ false → Has t k × (a (p k) ≡ false)) →
-      Balance (λ k. a (p k)) (λ k. b (q k)) t u
-  balance t u p q there back = record {
-    kept = λ k s n. alike (a (p k)) (b (q k)) (λ o. (there k s o).1) (λ o. (back k n o).1);
-    new = λ k s n. not_false (b (q k)) (λ o. true≢false (sym (back k n o).0 ∙ s));
-    gone = λ k s n. not_false (a (p k)) (λ o. true≢false (sym (there k s o).0 ∙ n));
+  -- so the models agree the other way round too
+  pub turned : Agree N M b a
+  turned = record {
+    before = w.after;
+    after = w.before;
+    faces = λ k there out. let r = w.faces_back k there out in (sym r.0, r.1);
+    faces_back = λ k there out. let r = w.faces k there out in (sym r.0, r.1);
+    loops = λ l there out. sym (w.loops_back l there out);
+    loops_back = λ l there out. sym (w.loops l there out);
+    edges = λ h there out.
+        let l = loop_of N h in
+        let k = face_of N l in
+        let has = loop_there N w.after h there in
+        let row = w.loops_back l has out in
+        let f = w.faces_back k (w.after.loops_of_faces l has) out in
+        let stands : StandsIn M h l = ap (holds h) (sym (same_content M N l row)) ∙ w.after.stands h there in
+        sym (w.edges h (w.before.only_edges h l stands) (ap (λ q. a (solid_of_loop M q)) (w.before.one_loop h l stands) ∙ ap (λ q. a (solid_of M q)) (sym (same_face M N l row)) ∙ ap a (sym (same_solid M N k f.0)) ∙ f.1));
   }
 
+module _ (M N : Model) (a b : ℕ → Bool) (w : Agree M N a b) where
+  edge_kept : (e : ℕ) → Has M.edges e → a (solid_of_edge M e) ≡ false → Has N.edges e × (b (solid_of_edge N e) ≡ false)
+  edge_kept e there out = let h = half_kept M N a b w (plus e) (plus_there M e there) out in (plus_edge N e h.0, h.1)
+
+  on_kept : (v l : ℕ) → Has M.loops l → a (solid_of_loop M l) ≡ false → IsOn M v l → IsOn N v l
+  on_kept v l there out on = elim (vertex_cases M l v on) [
+    | inl is ↦ subst (λ c. IsIn v (vertices_on N c)) (sym ((loop_kept M N a b w l there out).2 ∙ is)) (IsIn_head v [])
+    | inr h ↦
+        let at = item_loop M w.before l h.0 h.1 in
+        let k = half_kept M N a b w h.0 (item_there M w.before l h.0 h.1) (ap (λ q. a (solid_of_loop M q)) at ∙ out) in
+        subst (λ u. IsOn N u l) (k.3 ∙ h.2) (subst (IsOn N (tail N h.0)) (k.2 ∙ at) (half_is_on N w.after h.0 k.0))
+  ]
+
+  vertex_kept : (v : ℕ) → Has M.vertices v → a (solid_of_vertex M v) ≡ false → Has N.vertices v × (b (solid_of_vertex N v) ≡ false)
+  vertex_kept v there out =
+      let o = has_owner M w.before v there in
+      let l = loop_kept M N a b w o.loop o.there (ap a o.solid ∙ out) in
+      let on = on_kept v o.loop o.there (ap a o.solid ∙ out) o.on in
+      (vertex_there N w.after o.loop v on, ap b (owner_is N w.after (solid_of_loop N o.loop) v (record { loop = o.loop; there = l.0; solid = refl; on = on })) ∙ l.1)
+
+-- ---- so what is of those solids changes as the whole does
+
+module _ (M N : Model) (a b : ℕ → Bool) (w : Agree M N a b) where
+  abbrev back : Agree N M b a
+  back = turned M N a b w
+
   pub more_faces : many (λ k. b (solid_of N k)) N.faces + size M.faces ≡ many (λ k. a (solid_of M k)) M.faces + size N.faces
-  more_faces = balanced (λ k. a (solid_of M k)) (λ k. b (solid_of N k)) M.faces N.faces (balance M.faces N.faces (solid_of M) (solid_of N)
-      (λ k t o. let r = w.faces k t o in (ap is_some r.0 ∙ t, ap b (same_solid M N k r.0) ∙ r.1))
-      (λ k t o. let r = w.faces_back k t o in (ap is_some (sym r.0) ∙ t, ap a (sym (same_solid M N k r.0)) ∙ r.1)))
+  more_faces = balanced (λ k. a (solid_of M k)) (λ k. b (solid_of N k)) M.faces N.faces (face_kept M N a b w) (face_kept N M b a back)
 
   pub more_loops : many (λ l. b (solid_of_loop N l)) N.loops + size M.loops ≡ many (λ l. a (solid_of_loop M l)) M.loops + size N.loops
-  more_loops = balanced (λ l. a (solid_of_loop M l)) (λ l. b (solid_of_loop N l)) M.loops N.loops (balance M.loops N.loops (solid_of_loop M) (solid_of_loop N)
-      (λ l t o. let r = loop_kept l t o in (r.0, r.2)) (λ l t o. let r = loop_back l t o in (r.0, r.2)))
+  more_loops = balanced (λ l. a (solid_of_loop M l)) (λ l. b (solid_of_loop N l)) M.loops N.loops (λ l t o. let r = loop_kept M N a b w l t o in (r.0, r.1)) (λ l t o. let r = loop_kept N M b a back l t o in (r.0, r.1))
 
   pub more_edges : many (λ e. b (solid_of_edge N e)) N.edges + size M.edges ≡ many (λ e. a (solid_of_edge M e)) M.edges + size N.edges
-  more_edges = balanced (λ e. a (solid_of_edge M e)) (λ e. b (solid_of_edge N e)) M.edges N.edges (balance M.edges N.edges (solid_of_edge M) (solid_of_edge N) edge_kept edge_back)
+  more_edges = balanced (λ e. a (solid_of_edge M e)) (λ e. b (solid_of_edge N e)) M.edges N.edges (edge_kept M N a b w) (edge_kept N M b a back)
 
   pub more_vertices : many (λ v. b (solid_of_vertex N v)) N.vertices + size M.vertices ≡ many (λ v. a (solid_of_vertex M v)) M.vertices + size N.vertices
-  more_vertices = balanced (λ v. a (solid_of_vertex M v)) (λ v. b (solid_of_vertex N v)) M.vertices N.vertices (balance M.vertices N.vertices (solid_of_vertex M) (solid_of_vertex N)
-      (λ v t o. let r = vertex_kept v t o in (r.0, r.2)) (λ v t o. let r = vertex_back v t o in (r.0, r.2)))
+  more_vertices = balanced (λ v. a (solid_of_vertex M v)) (λ v. b (solid_of_vertex N v)) M.vertices N.vertices (vertex_kept M N a b w) (vertex_kept N M b a back)
 
 -- ---- and every other solid counts as it did
 
@@ -444,10 +401,7 @@ agree_on M N P a b c v w = record {
       let same = same_solid N P k y.0 in
       let x = v.faces_back k (ap is_some (sym y.0) ∙ there) (ap b (sym same) ∙ y.1) in
       (y.0 ∙ x.0, ap a same ∙ x.1);
-  loops = λ l there out. let x = loop_kept M N a b v l there out in w.loops l x.0 x.2 ∙ v.loops l there out;
-  loops_back = λ l there out. let y = loop_back N P b c w l there out in w.loops_back l there out ∙ v.loops_back l y.0 y.2;
-  edges = λ h there out.
-      let x = half_kept M N a b v h there out in
-      let l = loop_kept M N a b v (loop_of M h) (loop_there M v.before h there) out in
-      w.edges h x.0 (ap (λ q. b (solid_of_loop N q)) x.1 ∙ l.2) ∙ v.edges h there out;
+  loops = λ l there out. let x = loop_kept M N a b v l there out in w.loops l x.0 x.1 ∙ v.loops l there out;
+  loops_back = λ l there out. let y = loop_kept P N c b (turned N P b c w) l there out in w.loops_back l there out ∙ v.loops_back l y.0 y.1;
+  edges = λ h there out. let x = half_kept M N a b v h there out in w.edges h x.0 x.1 ∙ v.edges h there out;
 }

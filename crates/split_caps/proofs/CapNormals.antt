@@ -91,16 +91,13 @@ normals_are above s p o (bs ∷ cs) w caps =
 
 -- ---- two lists that tell the same
 
-module _ (f : Caps → Point) (g : List ℕ → Point) where
-  no_first : {v : Point} {vs : List Point} → v ∷ vs ≡ [] → ⊥
-  no_first e = cc
+no_first : {X : Type 0} {v : X} {vs : List X} → v ∷ vs ≡ [] → ⊥
+no_first e = cc
 
-  firsts : {u v : Point} {us vs : List Point} → u ∷ us ≡ v ∷ vs → (u ≡ v) × (us ≡ vs)
-  firsts e = (cc, cc)
+firsts : {X : Type 0} {u v : X} {us vs : List X} → u ∷ us ≡ v ∷ vs → (u ≡ v) × (us ≡ vs)
+firsts e = (cc, cc)
 
-  flags : {a b : Bool} {xs ys : List Bool} → a ∷ xs ≡ b ∷ ys → (a ≡ b) × (xs ≡ ys)
-  flags e = (cc, cc)
-
+module _ {X : Type 0} (f : Caps → X) (g : List ℕ → X) where
   pub told_at : (ks : List Caps) (cs : List (List ℕ)) (i : ℕ) → i < length ks → map f ks ≡ map g cs → f (get_or ks i no_caps) ≡ g (get_or cs i [])
   told_at [] cs i l e = absurd (omega (arith, l))
   told_at (k ∷ ks) [] i l e = absurd (no_first e)
@@ -111,7 +108,7 @@ module _ (f : Caps → Point) (g : List ℕ → Point) where
   told_filtered q [] [] e h = refl
   told_filtered q [] (c ∷ cs) e h = absurd (no_first (sym e))
   told_filtered q (k ∷ ks) [] e h = absurd (no_first e)
-  told_filtered q (k ∷ ks) (c ∷ cs) e h = one k.hole (q c) (flags h).0 (told_filtered q ks cs (firsts e).1 (flags h).1) (firsts e).0 where
+  told_filtered q (k ∷ ks) (c ∷ cs) e h = one k.hole (q c) (firsts h).0 (told_filtered q ks cs (firsts e).1 (firsts h).1) (firsts e).0 where
     one : (a b : Bool) → a ≡ b → map f (filter (λ k. k.hole) ks) ≡ map g (filter q cs) → f k ≡ g c → map f (cond a (k ∷ filter (λ k. k.hole) ks) (filter (λ k. k.hole) ks)) ≡ map g (cond b (c ∷ filter q cs) (filter q cs))
     one true true e r u = λ i. u i ∷ r i
     one false false e r u = r
@@ -273,25 +270,9 @@ outer_is (k ∷ ks) (suc i) l e one = go (outer_is ks i (omega (arith, l)) e) k.
 pub one_outer : (M : Model) (p : Plane) (cs : List (List ℕ)) (ks : List Caps) → map (λ k. k.hole) ks ≡ map (is_hole M p) cs → has_stray_hole M p cs ≡ false → 0 < length (filter (λ k. k.hole) ks) → length ks ≡ length (filter (λ k. k.hole) ks) + 1
 one_outer M p cs ks same stray some =
     let size : length ks ≡ length cs = sym (length-map ks (λ k. k.hole)) ∙ ap length same ∙ length-map cs (is_hole M p) in
-    let holes : length (filter (λ k. k.hole) ks) ≡ length (holes_in M p cs) = as_many ks cs same in
+    let holes : length (filter (λ k. k.hole) ks) ≡ length (holes_in M p cs) = sym (length-map (filter (λ k. k.hole) ks) (λ k. k.hole))
+    ∙ ap length (told_filtered (λ k. k.hole) (is_hole M p) (is_hole M p) ks cs same same) ∙ length-map (holes_in M p cs) (is_hole M p) in
     omega (arith, size, holes, not_stray (length (holes_in M p cs)) (length cs) stray (omega (arith, holes, some))) where
-      flag : {a b : Bool} {xs ys : List Bool} → a ∷ xs ≡ b ∷ ys → (a ≡ b) × (xs ≡ ys)
-      flag e = (cc, cc)
-
-      no_flag : {a : Bool} {xs : List Bool} → a ∷ xs ≡ [] → ⊥
-      no_flag e = cc
-
-      as_many : (ks : List Caps) (cs : List (List ℕ)) → map (λ k. k.hole) ks ≡ map (is_hole M p) cs → length (filter (λ k. k.hole) ks) ≡ length (holes_in M p cs)
-      as_many [] [] h = refl
-      as_many [] (c ∷ cs) h = absurd (no_flag (sym h))
-      as_many (k ∷ ks) [] h = absurd (no_flag h)
-      as_many (k ∷ ks) (c ∷ cs) h = one k.hole (is_hole M p c) (flag h).0 (as_many ks cs (flag h).1) where
-        one : (a b : Bool) → a ≡ b → length (filter (λ k. k.hole) ks) ≡ length (holes_in M p cs) → length (cond a (k ∷ filter (λ k. k.hole) ks) (filter (λ k. k.hole) ks)) ≡ length (cond b (c ∷ holes_in M p cs) (holes_in M p cs))
-        one true true e r = ap suc r
-        one false false e r = r
-        one true false e r = absurd (true≢false e)
-        one false true e r = absurd (true≢false (sym e))
-
       not_stray : (n m : ℕ) → (nat_lt 0 n && not (nat_eq m (n + 1))) ≡ false → 0 < n → m ≡ n + 1
       not_stray n m e l = grind (arith, nat_tests)
 

@@ -3,6 +3,7 @@ use Rattle.std.proofs.Common.{◌≡◌, ◌≢◌, ℕ, zero, suc, ◌+◌, ◌
 use Rattle.std.specs.Prelude.{filter, fold, pos, int_lt}
 use Rattle.std.specs.Option.{option_map}
 use Rattle.std.proofs.lemmas.Bool.Decides.{eqb_tells}
+use Rattle.std.proofs.lemmas.Bool.{false_from_ne_true}
 use Rattle.std.proofs.lemmas.List.{append-nil}
 use Rattle.euler_operators.specs.declared.Plane.{Plane}
 use Rattle.euler_operators.specs.declared.Point.{Point}
@@ -15,7 +16,7 @@ use Rattle.euler_operators.specs.Conditions.{face_at, lists, strictly_rises}
 use Rattle.euler_operators.specs.Effect.{kfmrh, part}
 use Rattle.euler_operators.proofs.Halves.{mate-mate}
 use Rattle.euler_operators.specs.HalfEdge.{mate}
-use Rattle.euler_operators.proofs.Lists.{count-append, tick_same, IsIn_or_not}
+use Rattle.euler_operators.proofs.Lists.{count-append, tick_same}
 use Rattle.euler_operators.proofs.Vectors.{none_moved}
 use Rattle.euler_operators.proofs.Models.{mate_there, outer_row, same_solid, solid_row}
 use Rattle.euler_laws.proofs.shared.Counted.{counted_once}
@@ -48,17 +49,10 @@ use Rattle.split_laws.proofs.volumes.Parted as parted
 use Rattle.split_laws.proofs.volumes.Split as split
 use Rattle.split_laws.proofs.volumes.Taken as taken
 use Rattle.split_laws.proofs.volumes.Taken.{CanTake}
+use Rattle.command_laws.proofs.Owners.{on_one}
 use Rattle.split_caps.specs.Capped.{IsCapOf, area_below, sum_of}
 use Rattle.split_caps.proofs.CapNormals.{both_opposite, closed_normals, lowers, normals_are, one_outer, outer_is, told_at, told_filtered, uppers}
 use Rattle.split_caps.proofs.OpenedCaps.{AllFaceApart, LiesOn, along_at, apart_at, caps_apart, outer_on, plain_at, plain_lies}
-
--- a vertex on some loops is on one of them
-on_one : (M : Model) (ls : List ℕ) (v : ℕ) → IsIn v (vertices_in M ls) → (l : ℕ) × IsIn l ls × IsIn v (vertices_on M (content M l))
-on_one M [] v i = absurd (omega arith)
-on_one M (l ∷ ls) v i = elim (IsIn_or_not v (vertices_on M (content M l))) [
-  | inl j ↦ (l, omega (arith, tick_same l), j)
-  | inr n ↦ let r = on_one M ls v (omega (arith, i, n, count-append v (vertices_on M (content M l)) (vertices_in M ls))) in (r.0, omega (arith, r.1), r.2)
-]
 
 -- ---- a cap becomes a ring of another
 
@@ -169,112 +163,6 @@ module _ (x : ℕ) where
   in_uppers (k ∷ ks) zero l = omega arith
   in_uppers (k ∷ ks) (suc i) l = omega (arith, in_uppers ks i (omega (arith, l)))
 
--- ---- a drawn model that is split
-
-module _ (d : Drawing) (above : List ℕ) (s : ℕ) (p : Plane) (t : ℕ) (w : CanBeSplit d above s p t) (i : ℕ) (l : i < length (opened_at d above s p).caps) where
-  abbrev begun : Opening
-  begun = record { model = d.model; taken = d.taken; caps = [] }
-
-  abbrev cycles : List (List ℕ)
-  cycles = section_cycles d.model (below_halves d.model above s)
-
-  abbrev X : Opening
-  X = opened_at d above s p
-
-  abbrev ks : List Caps
-  ks = X.caps
-
-  abbrev K : Model
-  K = holes_closed X.model ks
-
-  abbrev us : List ℕ
-  us = upper_faces above ks
-
-  abbrev k : Caps
-  k = get_or ks i no_caps
-
-  bare : HasCaps above s begun
-  bare = record { plain = tt; all_rise = ap strictly_rises (append-nil above) ∙ w.above_rise; upper_rise = ap strictly_rises (append-nil above) ∙ w.above_rise }
-
-  caps : HasCaps above s X
-  caps = caps_rise above s p begun cycles w.opens bare
-
-  once : (x : ℕ) → count x above + count x (cap_faces ks) ≤ 1
-  once x = omega (arith, counted_once x (above ++ cap_faces ks) caps.all_rise, count-append x above (cap_faces ks))
-
-  closed : AreClosed X.model K s us (hole_ops ks) (filter (λ k. k.hole) ks)
-  closed = closing.closed d above s p w.opens bare w.no_stray
-
-  plain : IsPlain X.model s k.lower × IsPlain X.model s k.upper
-  plain = plain_at X.model s ks i l caps.plain
-
-  along : LiesAlong X.model p k.lower × LiesAlong X.model p k.upper
-  along = along_at X.model p ks i l (openings_lie above s p begun cycles w.opens bare tt w.lie_on)
-
-  lower_unlisted : lists us k.lower ≡ false
-  lower_unlisted = not_listed k.lower us (omega (arith, once k.lower, caps_counted k.lower ks, in_lowers k.lower ks i l, tick_same k.lower, count-append k.lower above (map (λ k. k.upper) ks)))
-
-  upper_listed : lists us k.upper ≡ true
-  upper_listed = listed-from_in k.upper us (omega (arith, in_uppers k.upper ks i l, tick_same k.upper, count-append k.upper above (map (λ k. k.upper) ks)))
-
-  abbrev P : Model
-  P = part K s t us
-
-  -- what was there before the holes were closed, and is none of a hole's caps
-  cap_row : k.hole ≡ false → (f : ℕ) → 1 ≤ count f (k.lower ∷ k.upper ∷ []) → table.get K.faces f ≡ table.get X.model.faces f
-  cap_row e f j = closed.rows f (omega (arith, hole_apart f ks i l e, once f, j))
-
-  gone : k.hole ≡ true → (f : ℕ) → 1 ≤ count f (k.lower ∷ k.upper ∷ []) → table.has P.faces f ≡ false
-  gone e f j = ap is_some (parted.row_is K s t us f ∙ ap (option_map (parted.go K s t us f)) (closed.gone f (omega (arith, hole_in f ks i l e, j))))
-
-  stands_closed : (f : ℕ) → LiesOn X.model p f → cross (direction p) (normal X.model f) ≡ origin → Stands p f K
-  stands_closed f on across = closing_carries X.model s p ks (Stands p f) (λ A g h c was. still_stands A p f g h c was) (split.closes d above s p t w) (λ there. (on, across))
-
-  -- ---- parted
-
-  part_sound : Sound P → (f : ℕ) → Has P.faces f → LiesOn P p f → (v : ℕ) → lists (corners P f) v ≡ true → is_on p (point_of P v) ≡ true
-  unfolding corners
-  part_sound sound f there on v j =
-      let r = on_one P (loops_of P f) v (IsIn-from_listed v (vertices_in P (loops_of P f)) j) in
-      let q = face_of_loop P sound f r.0 there (listed-from_in r.0 (loops_of P f) r.1) in
-      on r.0 q.0 q.1 v r.2
-
-  part_on : (f : ℕ) → LiesOn K p f → LiesOn P p f
-  unfolding part face_of content point_of tail
-  part_on f on q there of v j = on q there of v (kept_vertices (content K q) j) where
-    kept_vertices : (c : LoopContent) → IsIn v (vertices_on P c) → IsIn v (vertices_on K c)
-    kept_vertices (lone u) j = j
-    kept_vertices (cycle hs) j = j
-
-  part_row : (f : ℕ) (row : FaceRow) → table.get K.faces f ≡ Some row → table.get P.faces f ≡ Some (parted.go K s t us f row)
-  part_row f row e = parted.row_is K s t us f ∙ ap (option_map (parted.go K s t us f)) e
-
-  part_solid : (f u : ℕ) (b : Bool) → Has K.faces f → solid_of K f ≡ u → lists us f ≡ b → solid_of P f ≡ cond b t u
-  part_solid f u b there of is = solid_row P f _ (part_row f _ (face_there K f there)) ∙ solid_either (lists us f) (record { solid = solid_of K f; outer = outer K f }) t ∙ (λ j. cond (is j) t (of j))
-
-  -- a cap of an outer cycle
-  one_cap : Sound P → (f : ℕ) (b : Bool) → k.hole ≡ false → 1 ≤ count f (k.lower ∷ k.upper ∷ []) → IsPlain X.model s f → LiesAlong X.model p f → lists us f ≡ b → IsCapOf P p (cond b t s) f
-  one_cap sound f b e j simple straight is =
-      let row = cap_row e f j in
-      let in_K : Has K.faces f = ap is_some row ∙ simple.there in
-      let stands = stands_closed f (plain_lies X.model p s f simple straight) straight.across in_K in
-      let there : Has P.faces f = ap is_some (part_row f _ (face_there K f in_K)) in
-      record {
-        there = there;
-        solid = part_solid f s b in_K (same_solid X.model K f row ∙ simple.of_solid) is;
-        on_plane = part_sound sound f there (part_on f stands.0);
-        across = ap (cross (direction p)) (part_normal K s t us f in_K) ∙ stands.1;
-      }
-
-  pub both_caps : Sound P → k.hole ≡ false → IsCapOf P p s k.lower × IsCapOf P p t k.upper
-  both_caps sound e = (
-    one_cap sound k.lower false e (omega (arith, tick_same k.lower)) plain.0 along.0 lower_unlisted,
-    one_cap sound k.upper true e (omega (arith, tick_same k.upper)) plain.1 along.1 upper_listed,
-  )
-
-  pub both_gone : k.hole ≡ true → (table.has P.faces k.lower ≡ false) × (table.has P.faces k.upper ≡ false)
-  both_gone e = (gone e k.lower (omega (arith, tick_same k.lower)), gone e k.upper (omega (arith, tick_same k.upper)))
-
 -- ---- some of the caps
 
 level_of : (us : List ℕ) (ks : List Caps) → ((j : ℕ) → j < length ks → let k = get_or ks j no_caps in (lists us k.lower ≡ false) × (lists us k.upper ≡ true)) → AreLevel us ks
@@ -299,132 +187,198 @@ opposite_sums : (M : Model) (p : Plane) (ks : List Caps) → AllFaceApart M p ks
 opposite_sums M p [] a = refl
 opposite_sums M p (k ∷ ks) a = both_opposite (normal M k.lower) (sum_of (lowers M ks)) (normal M k.upper) (sum_of (uppers M ks)) a.0.opposite (opposite_sums M p ks a.1)
 
--- ---- normals
+-- ---- a drawn model that is split
 
-module _ (d : Drawing) (above : List ℕ) (s : ℕ) (p : Plane) (t : ℕ) (w : CanBeSplit d above s p t) (i : ℕ) (l : i < length (opened_at d above s p).caps) where
-  abbrev started : Opening
-  started = record { model = d.model; taken = d.taken; caps = [] }
+module _ (d : Drawing) (above : List ℕ) (s : ℕ) (p : Plane) (t : ℕ) (w : CanBeSplit d above s p t) where
+  abbrev begun : Opening
+  begun = record { model = d.model; taken = d.taken; caps = [] }
 
-  abbrev round : List (List ℕ)
-  round = section_cycles d.model (below_halves d.model above s)
+  abbrev cycles : List (List ℕ)
+  cycles = section_cycles d.model (below_halves d.model above s)
 
-  abbrev Y : Opening
-  Y = opened_at d above s p
+  abbrev X : Opening
+  X = opened_at d above s p
 
-  abbrev all : List Caps
-  all = Y.caps
+  abbrev ks : List Caps
+  ks = X.caps
 
-  abbrev Z : Model
-  Z = holes_closed Y.model all
+  abbrev K : Model
+  K = holes_closed X.model ks
 
-  abbrev listed : List ℕ
-  listed = upper_faces above all
-
-  abbrev Q : Model
-  Q = part Z s t listed
-
-  abbrev one : Caps
-  one = get_or all i no_caps
+  abbrev us : List ℕ
+  us = upper_faces above ks
 
   abbrev holes : List Caps
-  holes = filter (λ k. k.hole) all
+  holes = filter (λ k. k.hole) ks
 
-  simple : IsPlain Y.model s one.lower × IsPlain Y.model s one.upper
-  simple = plain d above s p t w i l
+  abbrev P : Model
+  P = part K s t us
 
-  opened : CanBeOpenedInTurn above s Y []
-  opened = all_on above s p started round w.opens
+  bare : HasCaps above s begun
+  bare = record { plain = tt; all_rise = ap strictly_rises (append-nil above) ∙ w.above_rise; upper_rise = ap strictly_rises (append-nil above) ∙ w.above_rise }
 
-  all_apart : AllFaceApart Y.model p all
-  all_apart = caps_apart above s p started round w.opens (bare d above s p t w i l) tt
+  caps : HasCaps above s X
+  caps = caps_rise above s p begun cycles w.opens bare
 
-  all_along : AllLieAlong Y.model p all
-  all_along = openings_lie above s p started round w.opens (bare d above s p t w i l) tt w.lie_on
+  once : (x : ℕ) → count x above + count x (cap_faces ks) ≤ 1
+  once x = omega (arith, counted_once x (above ++ cap_faces ks) caps.all_rise, count-append x above (cap_faces ks))
+
+  closed : AreClosed X.model K s us (hole_ops ks) (filter (λ k. k.hole) ks)
+  closed = closing.closed d above s p w.opens bare w.no_stray
+
+  lower_unlisted : (i : ℕ) → i < length (opened_at d above s p).caps → lists us (get_or ks i no_caps).lower ≡ false
+  lower_unlisted i l = let x = (get_or ks i no_caps).lower in not_listed x us (omega (arith, once x, caps_counted x ks, in_lowers x ks i l, tick_same x, count-append x above (map (λ k. k.upper) ks)))
+
+  upper_listed : (i : ℕ) → i < length (opened_at d above s p).caps → lists us (get_or ks i no_caps).upper ≡ true
+  upper_listed i l = let x = (get_or ks i no_caps).upper in listed-from_in x us (omega (arith, in_uppers x ks i l, tick_same x, count-append x above (map (λ k. k.upper) ks)))
+
+  opened : CanBeOpenedInTurn above s X []
+  opened = all_on above s p begun cycles w.opens
+
+  all_apart : AllFaceApart X.model p ks
+  all_apart = caps_apart above s p begun cycles w.opens bare tt
+
+  all_along : AllLieAlong X.model p ks
+  all_along = openings_lie above s p begun cycles w.opens bare tt w.lie_on
 
   -- the flags and the normals of the caps below, by the cycles
-  flags : map (λ k. k.hole) all ≡ map (is_hole d.model p) round
-  flags = flags_are above s p started round w.opens
+  flags : map (λ k. k.hole) ks ≡ map (is_hole d.model p) cycles
+  flags = flags_are above s p begun cycles w.opens
 
-  areas : lowers Y.model all ≡ map (area_below d.model) round
-  areas = normals_are above s p started round w.opens (bare d above s p t w i l)
-
-  no_hole : one.hole ≡ false → is_hole d.model p (get_or round i []) ≡ false
-  no_hole e = sym (flag_at all round i l flags) ∙ e where
-    flag : {a b : Bool} {xs ys : List Bool} → a ∷ xs ≡ b ∷ ys → (a ≡ b) × (xs ≡ ys)
-    flag e = (cc, cc)
-
-    no_flag : {a : Bool} {xs : List Bool} → a ∷ xs ≡ [] → ⊥
-    no_flag e = cc
-
-    flag_at : (ks : List Caps) (cs : List (List ℕ)) (i : ℕ) → i < length ks → map (λ k. k.hole) ks ≡ map (is_hole d.model p) cs → (get_or ks i no_caps).hole ≡ is_hole d.model p (get_or cs i [])
-    flag_at [] cs i l e = absurd (omega (arith, l))
-    flag_at (k ∷ ks) [] i l e = absurd (no_flag e)
-    flag_at (k ∷ ks) (c ∷ cs) zero l e = (flag e).0
-    flag_at (k ∷ ks) (c ∷ cs) (suc i) l e = flag_at ks cs i (omega (arith, l)) (flag e).1
+  areas : lowers X.model ks ≡ map (area_below d.model) cycles
+  areas = normals_are above s p begun cycles w.opens bare
 
   -- no edge lies between an upper face and another
-  never_across : (x : ℕ) → HasHalf Y.model x → lists listed (face_at Y.model x) ≡ false → lists listed (face_at Y.model (mate x)) ≡ true → ⊥
+  never_across : (x : ℕ) → HasHalf X.model x → lists us (face_at X.model x) ≡ false → lists us (face_at X.model (mate x)) ≡ true → ⊥
   never_across x there f g = absurd (omega (arith, opened.between.only x there f g))
 
-  whole : (x : ℕ) → HasHalf Y.model x → lists listed (face_at Y.model x) ≡ lists listed (face_at Y.model (mate x))
-  whole x there = go (lists listed (face_at Y.model x)) (lists listed (face_at Y.model (mate x))) refl refl where
-    go : (a b : Bool) → lists listed (face_at Y.model x) ≡ a → lists listed (face_at Y.model (mate x)) ≡ b → lists listed (face_at Y.model x) ≡ lists listed (face_at Y.model (mate x))
+  whole : (x : ℕ) → HasHalf X.model x → lists us (face_at X.model x) ≡ lists us (face_at X.model (mate x))
+  whole x there = go (lists us (face_at X.model x)) (lists us (face_at X.model (mate x))) refl refl where
+    go : (a b : Bool) → lists us (face_at X.model x) ≡ a → lists us (face_at X.model (mate x)) ≡ b → lists us (face_at X.model x) ≡ lists us (face_at X.model (mate x))
     go true true e f = e ∙ sym f
     go false false e f = e ∙ sym f
     go false true e f = absurd (never_across x there e f)
-    go true false e f = absurd (never_across (mate x) (mate_there Y.model x there) f (ap (λ y. lists listed (face_at Y.model y)) (mate-mate x) ∙ e))
+    go true false e f = absurd (never_across (mate x) (mate_there X.model x there) f (ap (λ y. lists us (face_at X.model y)) (mate-mate x) ∙ e))
 
-  can_part : CanPart Y.model s listed
+  can_part : CanPart X.model s us
   can_part = record { sound = opened.sound; of_solid = λ f l there. opened.upper_of_solid f l; whole = whole }
 
-  can_take : length holes < length all → CanClose Y.model s listed (outer_caps all) holes
-  can_take less = can_close Y.model s listed all can_part (caps d above s p t w i l).plain (λ x. omega (arith, once d above s p t w i l x))
-      (level_of listed all (λ j m. (lower_unlisted d above s p t w j m, upper_listed d above s p t w j m))) less
+  -- ---- the caps of cycle i
 
-  -- what the caps of an outer cycle have once the holes are closed
-  abbrev HaveNormals : Caps → Type 0
-  HaveNormals c = (normal Z c.lower ≡ moved (sum_of (lowers Y.model holes)) (normal Y.model c.lower)) × (normal Z c.upper ≡ moved (sum_of (uppers Y.model holes)) (normal Y.model c.upper))
+  module _ (i : ℕ) (l : i < length (opened_at d above s p).caps) where
+    abbrev k : Caps
+    k = get_or ks i no_caps
 
-  have_normals : one.hole ≡ false → HaveNormals one
-  have_normals e = go holes refl where
-    go : (hs : List Caps) → holes ≡ hs → HaveNormals one
-    go [] none =
-        let same : Z ≡ Y.model = ap (λ hs. fold (hole_closed (outer_caps all)) Y.model hs) none in (
-          ap (λ A. normal A one.lower) same ∙ sym (none_moved (normal Y.model one.lower)) ∙ ap (λ hs. moved (sum_of (lowers Y.model hs)) (normal Y.model one.lower)) (sym none),
-          ap (λ A. normal A one.upper) same ∙ sym (none_moved (normal Y.model one.upper)) ∙ ap (λ hs. moved (sum_of (uppers Y.model hs)) (normal Y.model one.upper)) (sym none),
+    plain : IsPlain X.model s k.lower × IsPlain X.model s k.upper
+    plain = plain_at X.model s ks i l caps.plain
+
+    along : LiesAlong X.model p k.lower × LiesAlong X.model p k.upper
+    along = along_at X.model p ks i l (openings_lie above s p begun cycles w.opens bare tt w.lie_on)
+
+    -- what was there before the holes were closed, and is none of a hole's caps
+    cap_row : k.hole ≡ false → (f : ℕ) → 1 ≤ count f (k.lower ∷ k.upper ∷ []) → table.get K.faces f ≡ table.get X.model.faces f
+    cap_row e f j = closed.rows f (omega (arith, hole_apart f ks i l e, once f, j))
+
+    gone : k.hole ≡ true → (f : ℕ) → 1 ≤ count f (k.lower ∷ k.upper ∷ []) → table.has P.faces f ≡ false
+    gone e f j = ap is_some (parted.row_is K s t us f ∙ ap (option_map (parted.go K s t us f)) (closed.gone f (omega (arith, hole_in f ks i l e, j))))
+
+    stands_closed : (f : ℕ) → LiesOn X.model p f → cross (direction p) (normal X.model f) ≡ origin → Stands p f K
+    stands_closed f on across = closing_carries X.model s p ks (Stands p f) (λ A g h c was. still_stands A p f g h c was) (split.closes d above s p t w) (λ there. (on, across))
+
+    -- ---- parted
+
+    part_sound : Sound P → (f : ℕ) → Has P.faces f → LiesOn P p f → (v : ℕ) → lists (corners P f) v ≡ true → is_on p (point_of P v) ≡ true
+    unfolding corners
+    part_sound sound f there on v j =
+        let r = on_one P (loops_of P f) v (IsIn-from_listed v (vertices_in P (loops_of P f)) j) in
+        let q = face_of_loop P sound f r.0 there (listed-from_in r.0 (loops_of P f) r.1) in
+        on r.0 q.0 q.1 v r.2
+
+    part_on : (f : ℕ) → LiesOn K p f → LiesOn P p f
+    unfolding part face_of content point_of tail
+    part_on f on q there of v j = on q there of v (kept_vertices (content K q) j) where
+      kept_vertices : (c : LoopContent) → IsIn v (vertices_on P c) → IsIn v (vertices_on K c)
+      kept_vertices (lone u) j = j
+      kept_vertices (cycle hs) j = j
+
+    part_row : (f : ℕ) (row : FaceRow) → table.get K.faces f ≡ Some row → table.get P.faces f ≡ Some (parted.go K s t us f row)
+    part_row f row e = parted.row_is K s t us f ∙ ap (option_map (parted.go K s t us f)) e
+
+    part_solid : (f u : ℕ) (b : Bool) → Has K.faces f → solid_of K f ≡ u → lists us f ≡ b → solid_of P f ≡ cond b t u
+    part_solid f u b there of is = solid_row P f _ (part_row f _ (face_there K f there)) ∙ solid_either (lists us f) (record { solid = solid_of K f; outer = outer K f }) t ∙ (λ j. cond (is j) t (of j))
+
+    -- a cap of an outer cycle
+    one_cap : Sound P → (f : ℕ) (b : Bool) → k.hole ≡ false → 1 ≤ count f (k.lower ∷ k.upper ∷ []) → IsPlain X.model s f → LiesAlong X.model p f → lists us f ≡ b → IsCapOf P p (cond b t s) f
+    one_cap sound f b e j simple straight is =
+        let row = cap_row e f j in
+        let in_K : Has K.faces f = ap is_some row ∙ simple.there in
+        let stands = stands_closed f (plain_lies X.model p s f simple straight) straight.across in_K in
+        let there : Has P.faces f = ap is_some (part_row f _ (face_there K f in_K)) in
+        record {
+          there = there;
+          solid = part_solid f s b in_K (same_solid X.model K f row ∙ simple.of_solid) is;
+          on_plane = part_sound sound f there (part_on f stands.0);
+          across = ap (cross (direction p)) (part_normal K s t us f in_K) ∙ stands.1;
+        }
+
+    pub both_caps : Sound P → k.hole ≡ false → IsCapOf P p s k.lower × IsCapOf P p t k.upper
+    both_caps sound e = (
+      one_cap sound k.lower false e (omega (arith, tick_same k.lower)) plain.0 along.0 (lower_unlisted i l),
+      one_cap sound k.upper true e (omega (arith, tick_same k.upper)) plain.1 along.1 (upper_listed i l),
+    )
+
+    pub both_gone : k.hole ≡ true → (table.has P.faces k.lower ≡ false) × (table.has P.faces k.upper ≡ false)
+    both_gone e = (gone e k.lower (omega (arith, tick_same k.lower)), gone e k.upper (omega (arith, tick_same k.upper)))
+
+    -- ---- normals
+
+    no_hole : k.hole ≡ false → is_hole d.model p (get_or cycles i []) ≡ false
+    no_hole e = sym (told_at (λ k. k.hole) (is_hole d.model p) ks cycles i l flags) ∙ e
+
+    can_take : length holes < length ks → CanClose X.model s us (outer_caps ks) holes
+    can_take less = can_close X.model s us ks can_part caps.plain (λ x. omega (arith, once x))
+        (level_of us ks (λ j m. (lower_unlisted j m, upper_listed j m))) less
+
+    -- what the caps of an outer cycle have once the holes are closed
+    abbrev HaveNormals : Caps → Type 0
+    HaveNormals c = (normal K c.lower ≡ moved (sum_of (lowers X.model holes)) (normal X.model c.lower)) × (normal K c.upper ≡ moved (sum_of (uppers X.model holes)) (normal X.model c.upper))
+
+    have_normals : k.hole ≡ false → HaveNormals k
+    have_normals e = go holes refl where
+      go : (hs : List Caps) → holes ≡ hs → HaveNormals k
+      go [] none =
+          let same : K ≡ X.model = ap (λ hs. fold (hole_closed (outer_caps ks)) X.model hs) none in (
+            ap (λ A. normal A k.lower) same ∙ sym (none_moved (normal X.model k.lower)) ∙ ap (λ hs. moved (sum_of (lowers X.model hs)) (normal X.model k.lower)) (sym none),
+            ap (λ A. normal A k.upper) same ∙ sym (none_moved (normal X.model k.upper)) ∙ ap (λ hs. moved (sum_of (uppers X.model hs)) (normal X.model k.upper)) (sym none),
+          )
+      go (h ∷ hs) some =
+          let count = one_outer d.model p cycles ks flags w.no_stray (subst (λ xs. 0 < length xs) (sym some) (omega arith)) in
+          let is : outer_caps ks ≡ k = outer_is ks i l e count in
+          subst HaveNormals is (closed_normals X.model s us p (outer_caps ks) holes (can_take (omega (arith, count))) (some_way p w.lie_on.some_way)
+          (subst (λ o. LiesAlong X.model p o.lower) (sym is) along.0) (subst (λ o. LiesAlong X.model p o.upper) (sym is) along.1) (holes_along X.model p ks all_along))
+
+    parted_normal : (f : ℕ) → k.hole ≡ false → 1 ≤ count f (k.lower ∷ k.upper ∷ []) → Has X.model.faces f → normal P f ≡ normal K f
+    parted_normal f e j there = part_normal K s t us f (ap is_some (cap_row e f j) ∙ there)
+
+    pub normals_told : k.hole ≡ false → (is_hole d.model p (get_or cycles i []) ≡ false) × (normal P k.lower ≡ moved (sum_of (map (area_below d.model) (holes_in d.model p cycles))) (area_below d.model (get_or cycles i []))) × (normal P k.upper ≡ negated (normal P k.lower))
+    normals_told e =
+        let h = have_normals e in
+        let low = parted_normal k.lower e (omega (arith, tick_same k.lower)) plain.0.there in
+        let up = parted_normal k.upper e (omega (arith, tick_same k.upper)) plain.1.there in
+        let hole_areas = told_filtered (λ k. normal X.model k.lower) (area_below d.model) (is_hole d.model p) ks cycles areas flags in (
+          no_hole e,
+          low ∙ h.0 ∙ (λ j. moved (sum_of (hole_areas j)) (told_at (λ k. normal X.model k.lower) (area_below d.model) ks cycles i l areas j)),
+          up ∙ h.1 ∙ both_opposite (sum_of (lowers X.model holes)) (normal X.model k.lower) (sum_of (uppers X.model holes)) (normal X.model k.upper)
+              (opposite_sums X.model p holes (holes_apart X.model p ks all_apart)) (apart_at X.model p ks i l all_apart).opposite ∙ ap negated (sym h.0 ∙ sym low),
         )
-    go (h ∷ hs) some =
-        let count = one_outer d.model p round all flags w.no_stray (subst (λ xs. 0 < length xs) (sym some) (omega arith)) in
-        let is : outer_caps all ≡ one = outer_is all i l e count in
-        let straight = along d above s p t w i l in
-        subst HaveNormals is (closed_normals Y.model s listed p (outer_caps all) holes (can_take (omega (arith, count))) (some_way p w.lie_on.some_way)
-        (subst (λ o. LiesAlong Y.model p o.lower) (sym is) straight.0) (subst (λ o. LiesAlong Y.model p o.upper) (sym is) straight.1) (holes_along Y.model p all all_along))
 
-  parted_normal : (f : ℕ) → one.hole ≡ false → 1 ≤ count f (one.lower ∷ one.upper ∷ []) → Has Y.model.faces f → normal Q f ≡ normal Z f
-  parted_normal f e j there = part_normal Z s t listed f (ap is_some (cap_row d above s p t w i l e f j) ∙ there)
+    -- without holes
+    module _ (none : filter (λ k. k.hole) (opened_at d above s p).caps ≡ []) where
+      own_flag : k.hole ≡ false
+      own_flag = false_from_ne_true k.hole (λ e. absurd (omega (arith, hole_in k.lower ks i l e, tick_same k.lower, ap (λ hs. count k.lower (cap_faces hs)) none)))
 
-  pub normals_told : one.hole ≡ false → (is_hole d.model p (get_or round i []) ≡ false) × (normal Q one.lower ≡ moved (sum_of (map (area_below d.model) (holes_in d.model p round))) (area_below d.model (get_or round i []))) × (normal Q one.upper ≡ negated (normal Q one.lower))
-  normals_told e =
-      let h = have_normals e in
-      let low = parted_normal one.lower e (omega (arith, tick_same one.lower)) simple.0.there in
-      let up = parted_normal one.upper e (omega (arith, tick_same one.upper)) simple.1.there in
-      let hole_areas = told_filtered (λ k. normal Y.model k.lower) (area_below d.model) (is_hole d.model p) all round areas flags in (
-        no_hole e,
-        low ∙ h.0 ∙ (λ j. moved (sum_of (hole_areas j)) (told_at (λ k. normal Y.model k.lower) (area_below d.model) all round i l areas j)),
-        up ∙ h.1 ∙ both_opposite (sum_of (lowers Y.model holes)) (normal Y.model one.lower) (sum_of (uppers Y.model holes)) (normal Y.model one.upper)
-            (opposite_sums Y.model p holes (holes_apart Y.model p all all_apart)) (apart_at Y.model p all i l all_apart).opposite ∙ ap negated (sym h.0 ∙ sym low),
-      )
-
-  -- without holes
-  module _ (none : filter (λ k. k.hole) (opened_at d above s p).caps ≡ []) where
-    own_flag : one.hole ≡ false
-    own_flag = go one.hole refl where
-      go : (b : Bool) → one.hole ≡ b → b ≡ false
-      go false e = refl
-      go true e = absurd (omega (arith, hole_in one.lower all i l e, tick_same one.lower, ap (λ hs. count one.lower (cap_faces hs)) none))
-
-    pub faces_apart : (int_lt (dot (normal Q one.lower) (direction p)) (pos 0) ≡ false) × (normal Q one.upper ≡ negated (normal Q one.lower))
-    faces_apart =
-        let a = apart_at Y.model p all i l all_apart in
-        let low = parted_normal one.lower own_flag (omega (arith, tick_same one.lower)) simple.0.there ∙ (have_normals own_flag).0 ∙ ap (λ hs. moved (sum_of (lowers Y.model hs)) (normal Y.model one.lower)) none ∙ none_moved (normal Y.model one.lower) in
-        (ap (λ v. int_lt (dot v (direction p)) (pos 0)) low ∙ sym a.told ∙ own_flag, (normals_told own_flag).2)
+      pub faces_apart : (int_lt (dot (normal P k.lower) (direction p)) (pos 0) ≡ false) × (normal P k.upper ≡ negated (normal P k.lower))
+      faces_apart =
+          let a = apart_at X.model p ks i l all_apart in
+          let low = parted_normal k.lower own_flag (omega (arith, tick_same k.lower)) plain.0.there ∙ (have_normals own_flag).0 ∙ ap (λ hs. moved (sum_of (lowers X.model hs)) (normal X.model k.lower)) none ∙ none_moved (normal X.model k.lower) in
+          (ap (λ v. int_lt (dot v (direction p)) (pos 0)) low ∙ sym a.told ∙ own_flag, (normals_told own_flag).2)

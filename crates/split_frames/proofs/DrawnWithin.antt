@@ -2,7 +2,7 @@
 use Rattle.std.specs.Prelude.{flat_map, fold}
 use Rattle.std.specs.Option.{option_map}
 use Rattle.std.proofs.Common.{◌≡◌, ◌≢◌, ℕ, ◌+◌, nat_eq, nat_lt, ◌&&◌, Bool, true, false, cond, not, List, [], ◌∷◌, length, Some, is_some, refl, sym, ap, subst, ◌∙◌, arith, inl, inr}
-use Rattle.std.proofs.lemmas.Bool.{and_parts, eqb-false, eqb-true}
+use Rattle.std.proofs.lemmas.Bool.{and_parts, eqb-false, eqb-true, false_from_ne_true}
 use Rattle.euler_operators.specs.declared.Plane.{Plane}
 use Rattle.euler_operators.specs.Items.{count, IsIn}
 use Rattle.euler_operators.specs.Rings.{canonical}
@@ -13,7 +13,7 @@ use Rattle.euler_operators.specs.Model.{Model, LoopContent, LoopRow, content, cy
 use Rattle.euler_operators.specs.Sound.{Sound, Has, HasHalf}
 use Rattle.euler_operators.specs.Conditions.{face_at, has_rings, lists}
 use Rattle.euler_operators.specs.Effect.{edge_row}
-use Rattle.euler_operators.proofs.Halves.{mate_plus, plus_row, same_edge}
+use Rattle.euler_operators.proofs.Halves.{mate_plus, plus_row}
 use Rattle.euler_operators.proofs.Lists.{IsIn_or_not}
 use Rattle.euler_operators.proofs.Members.{IsIn_rest, count-filter}
 use Rattle.euler_operators.proofs.Models.{face_row, in-holds, plus_there, same_solid, solid_row}
@@ -41,7 +41,7 @@ use Rattle.split_drawing_laws.proofs.drawings.Passes.{draw_next_one, draw_next_t
 use Rattle.split_drawing_laws.proofs.drawings.Whole.{drawable, drawable_on, next_is, ready}
 use Rattle.split_drawing_laws.proofs.pairs.Whole.{can_be_drawn}
 use Rattle.command_laws.proofs.Owners.{agree_none, agree_on, is_of, solid_of_edge, solid_of_half, solid_of_loop}
-use Rattle.split_frames.proofs.Steps.{Within, draw_within, face_in, half_in, join_within, rings_within}
+use Rattle.split_frames.proofs.Steps.{Within, draw_within, face_in, half_in, join_within, own_edge, rings_within}
 
 pub within_on : (s : ℕ) (M N P : Model) → Within s M N → Within s N P → Within s M P
 within_on s M N P v w = agree_on M N P (is_of s) (is_of s) (is_of s) v w
@@ -86,16 +86,7 @@ module _ (M : Model) (s : ℕ) (p : Plane) (t : ℕ) (sound : Sound M) (begins :
       (ap is_some w.1, eqb-true (solid_of_edge M e) s w.2)
 
   uncut : (e : ℕ) → solid_of_edge M e ≢ s → lists (crossing_edges M p s) e ≡ false
-  uncut e ne = go (lists (crossing_edges M p s) e) refl where
-    go : (b : Bool) → lists (crossing_edges M p s) e ≡ b → lists (crossing_edges M p s) e ≡ false
-    go true at = absurd (ne (cut_edge e (IsIn-from_listed e (crossing_edges M p s) at)).1)
-    go false at = at
-
-  own_edge : (h : ℕ) → HasHalf M h → solid_of_edge M (edge_of h) ≡ solid_of_half M h
-  own_edge h there = elim (same_edge (plus (edge_of h)) h (plus_row (edge_of h)).0) [
-    | inl e ↦ ap (solid_of_half M) e
-    | inr e ↦ ap (solid_of_half M) e ∙ sym (sound.one_solid h there)
-  ]
+  uncut e ne = false_from_ne_true (lists (crossing_edges M p s) e) (λ at. ne (cut_edge e (IsIn-from_listed e (crossing_edges M p s) at)).1)
 
   edge_left : (h : ℕ) → HasHalf M h → solid_of_half M h ≢ s → table.get C.edges (edge_of h) ≡ table.get M.edges (edge_of h)
   edge_left h there ne =
@@ -104,7 +95,7 @@ module _ (M : Model) (s : ℕ) (p : Plane) (t : ℕ) (sound : Sound M) (begins :
       let tails = tails_stay M s p t sound begins e there in
       let same : table.get C.edges (edge_of (plus e)) ≡ table.get M.edges (edge_of (plus e)) =
       edge_there C (plus e) (kept.halves (plus e) was)
-      ∙ (λ i. Some (edge_row (plus e) (tails.1 (uncut e (λ o. ne (sym (own_edge h there) ∙ o))) i) ((ap (tail C) (mate_plus e) ∙ tails.0 ∙ ap (tail M) (sym (mate_plus e))) i)))
+      ∙ (λ i. Some (edge_row (plus e) (tails.1 (uncut e (λ o. ne (sym (own_edge M sound h there) ∙ o))) i) ((ap (tail C) (mate_plus e) ∙ tails.0 ∙ ap (tail M) (sym (mate_plus e))) i)))
       ∙ sym (edge_there M (plus e) was) in
       sym (ap (table.get C.edges) (plus_row e).0) ∙ same ∙ ap (table.get M.edges) (plus_row e).0
 

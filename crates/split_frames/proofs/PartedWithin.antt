@@ -2,7 +2,7 @@
 use Rattle.std.specs.Prelude.{filter, fold}
 use Rattle.std.specs.Option.{option_map}
 use Rattle.std.proofs.Common.{◌≡◌, ◌≢◌, ℕ, ◌+◌, Bool, true, false, cond, not, ◌&&◌, List, [], ◌∷◌, length, map, Some, None, is_some, refl, sym, ap, subst, ◌∙◌, ◌⊎◌, inl, inr, arith}
-use Rattle.std.proofs.lemmas.Bool.{eqb-false}
+use Rattle.std.proofs.lemmas.Bool.{eqb-false, false_from_ne_true}
 use Rattle.std.proofs.lemmas.Bool.Decides.{eqb_tells}
 use Rattle.euler_operators.specs.declared.Plane.{Plane}
 use Rattle.euler_operators.specs.declared.Op.TheVariants.{Kfmrh}
@@ -15,7 +15,7 @@ use Rattle.euler_operators.specs.Model.{Model, LoopContent, content, cycle, face
 use Rattle.euler_operators.specs.Sound.{Sound, Has, HasHalf}
 use Rattle.euler_operators.specs.Conditions.{face_at, first_false, lists}
 use Rattle.euler_operators.specs.Effect.{effect, kfmrh, part}
-use Rattle.euler_operators.proofs.Halves.{mate_plus, plus_row, same_edge}
+use Rattle.euler_operators.proofs.Halves.{mate_plus}
 use Rattle.euler_operators.proofs.Lists.{IsIn_or_not}
 use Rattle.euler_operators.proofs.Maps.{from_map}
 use Rattle.euler_operators.proofs.Members.{IsIn_rest}
@@ -42,7 +42,7 @@ use Rattle.split_opening_laws.proofs.sections.StillFree.{copied_other}
 use Rattle.split_laws.specs.SplitOps.{closing_ops}
 use Rattle.split_laws.proofs.opened.Caps.{loop_kinds, lower_row}
 use Rattle.command_laws.proofs.Owners.{agree_none, is_of, solid_of_half, solid_of_loop}
-use Rattle.split_frames.proofs.Steps.{Within, kill_within}
+use Rattle.split_frames.proofs.Steps.{Within, kill_within, own_edge}
 use Rattle.split_frames.proofs.DrawnWithin.{within_on}
 
 -- ---- opened along one cycle
@@ -71,10 +71,7 @@ module _ (M : Model) (above : List ℕ) (s : ℕ) (c : Taken) (bs : List ℕ) (w
   no_mate h ne = elim (IsIn_or_not h mates) [ inl i ↦ absurd (ne (mate_of h i)) | inr z ↦ z ]
 
   not_above : (h : ℕ) → solid_of_half M h ≢ s → lists above (face_at M h) ≡ false
-  not_above h ne = go (lists above (face_at M h)) refl where
-    go : (b : Bool) → lists above (face_at M h) ≡ b → lists above (face_at M h) ≡ false
-    go true e = absurd (ne (of (face_at M h) e))
-    go false e = e
+  not_above h ne = false_from_ne_true (lists above (face_at M h)) (λ e. ne (of (face_at M h) e))
 
   -- ---- faces
 
@@ -121,17 +118,11 @@ module _ (M : Model) (above : List ℕ) (s : ℕ) (c : Taken) (bs : List ℕ) (w
   tail_left : (h v : ℕ) → solid_of_half M h ≢ s → opened_tail M above mates copies h v ≡ v
   tail_left h v ne = ap (λ b. cond (b && not (lists mates h)) (renamed copies v) v) (not_above h ne)
 
-  own_edge : (h : ℕ) → HasHalf M h → solid_of_half M (plus (edge_of h)) ≡ solid_of_half M h
-  own_edge h there = elim (same_edge (plus (edge_of h)) h (plus_row (edge_of h)).0) [
-    | inl e ↦ ap (solid_of_half M) e
-    | inr e ↦ ap (solid_of_half M) e ∙ sym (w.sound.one_solid h there)
-  ]
-
   edge_left : (h : ℕ) → HasHalf M h → solid_of_half M h ≢ s → table.get N.edges (edge_of h) ≡ table.get M.edges (edge_of h)
   edge_left h there ne =
       let e = edge_of h in
       let row = row_some (table.get M.edges e) there in
-      let first : solid_of_half M (plus e) ≢ s = λ o. ne (sym (own_edge h there) ∙ o) in
+      let first : solid_of_half M (plus e) ≢ s = λ o. ne (sym (own_edge M w.sound h there) ∙ o) in
       let second : solid_of_half M (minus e) ≢ s = λ o. first (w.sound.one_solid (plus e) (plus_there M e there) ∙ ap (solid_of_half M) (mate_plus e) ∙ o) in
       ap (λ t. table.get t e) (edges_are M above s c bs)
       ∙ rim_below (table.map_rows (opened_row M above mates copies) M.edges) c.edge c.vertex (length bs) (length bs) e (in_use_within M.edges c.edge w.free.edges e there)

@@ -1,14 +1,15 @@
 -- One step of a split within a solid: whatever isn't of the solid stays, and nothing else comes to be of another.
-use Rattle.std.proofs.Common.{◌≡◌, ◌≢◌, ℕ, Bool, true, false, cond, List, Option, Some, None, is_some, refl, sym, ap, ◌∙◌, true≢false, ne_eqb, inl, inr}
+use Rattle.std.proofs.Common.{◌≡◌, ◌≢◌, ℕ, true, false, cond, List, Option, Some, None, is_some, refl, sym, ap, ◌∙◌, true≢false, ne_eqb, inl, inr}
 use Rattle.std.specs.Option.{option_map}
 use Rattle.std.proofs.lemmas.Bool.Decides.{eqb_tells}
-use Rattle.std.proofs.lemmas.Bool.{eqb-false}
-use Rattle.euler_operators.specs.HalfEdge.{edge_of}
+use Rattle.std.proofs.lemmas.Bool.{eqb-false, false_from_ne_true}
+use Rattle.euler_operators.specs.HalfEdge.{edge_of, plus}
 use Rattle.euler_operators.specs.Table as table
 use Rattle.euler_operators.specs.Model.{Model, FaceRow, LoopRow, face_of, loop_of, outer, solid_of}
 use Rattle.euler_operators.specs.Sound.{Sound, Has, HasHalf}
 use Rattle.euler_operators.specs.Conditions.{face_at, lists}
 use Rattle.euler_operators.specs.Effect.{faces_to_solid, kfmrh, loop_to_face, part}
+use Rattle.euler_operators.proofs.Halves.{plus_row, same_edge}
 use Rattle.euler_operators.proofs.Models.{face_row, loop_there, same_solid, solid_row}
 use Rattle.euler_operators.proofs.Tables.{get-put_other, get-remove_here, get-remove_other}
 use Rattle.euler_laws.proofs.faces.Kfmrh.{KillGoes, kill_face_l, kill_solid, sound-kfmrh}
@@ -17,18 +18,25 @@ use Rattle.shapes.specs.split.Drawing.{face_drawn, loops_joined, with_rings}
 use Rattle.split_drawing_laws.proofs.drawings.Drawn.{CanDraw, CanJoin, draw_sound, face_drawn_else, face_drawn_new, join_sound, loops_joined_faces}
 use Rattle.split_drawing_laws.proofs.drawings.Stays.{edges_are, joined_edges, row_else, row_gone, row_joined, row_other}
 use Rattle.split_drawing_laws.proofs.face_sides.Beside.{given_else, given_face, given_has, never_free, new_loop_face, old_loop_face}
-use Rattle.command_laws.proofs.Owners.{Agree, half_back, is_either, is_of, neither, not_either, solid_of_half, solid_of_loop}
+use Rattle.command_laws.proofs.Owners.{Agree, half_kept, is_either, is_of, neither, not_either, solid_of_edge, solid_of_half, solid_of_loop, turned}
 
 -- two models that agree but for one solid
 abbrev pub Within : ℕ → Model → Model → Type 0
 Within s M N = Agree M N (is_of s) (is_of s)
+
+-- an edge is of the solid of each of its halves
+pub own_edge : (M : Model) → Sound M → (h : ℕ) → HasHalf M h → solid_of_edge M (edge_of h) ≡ solid_of_half M h
+own_edge M sound h there = elim (same_edge (plus (edge_of h)) h (plus_row (edge_of h)).0) [
+  | inl e ↦ ap (solid_of_half M) e
+  | inr e ↦ ap (solid_of_half M) e ∙ sym (sound.one_solid h there)
+]
 
 module _ (s : ℕ) (M N : Model) (w : Within s M N) where
   -- what was of the solid is
   pub half_in : (h : ℕ) → HasHalf M h → HasHalf N h → solid_of_half M h ≡ s → solid_of_half N h ≡ s
   half_in h there now of = elim (eqb_tells (solid_of_half N h) s) [
     | inl e ↦ e.1
-    | inr e ↦ absurd (eqb-false (solid_of_half M h) s (half_back M N (is_of s) (is_of s) w h now e.0).3 of)
+    | inr e ↦ absurd (eqb-false (solid_of_half M h) s (half_kept N M (is_of s) (is_of s) (turned M N (is_of s) (is_of s) w) h now e.0).1 of)
   ]
 
   pub face_in : (k : ℕ) → Has N.faces k → solid_of M k ≡ s → solid_of N k ≡ s
@@ -97,20 +105,14 @@ module _ (N : Model) (ls : List ℕ) (k s : ℕ) (sound : Sound N) (after : Soun
   abbrev R : Model
   R = with_rings N ls k
 
-  not_given : (q : ℕ) → (lists ls q ≡ true → ⊥) → lists ls q ≡ false
-  not_given q none = go (lists ls q) refl where
-    go : (b : Bool) → lists ls q ≡ b → lists ls q ≡ false
-    go true e = absurd (none e)
-    go false e = e
-
   pub rings_within : Within s N (with_rings N ls k)
   rings_within = record {
     before = sound;
     after = after;
     faces = λ q there out. (refl, out);
     faces_back = λ q there out. (refl, out);
-    loops = λ q there out. given_else N ls k q (not_given q (λ i. eqb-false (solid_of_loop N q) s out (of q i)));
-    loops_back = λ q there out. given_else N ls k q (not_given q (λ i. eqb-false (solid_of_loop R q) s out (ap (solid_of R) (given_face N ls k q i (sym (given_has N ls k q) ∙ there)) ∙ same_solid N R k refl ∙ to)));
+    loops = λ q there out. given_else N ls k q (false_from_ne_true (lists ls q) (λ i. eqb-false (solid_of_loop N q) s out (of q i)));
+    loops_back = λ q there out. given_else N ls k q (false_from_ne_true (lists ls q) (λ i. eqb-false (solid_of_loop R q) s out (ap (solid_of R) (given_face N ls k q i (sym (given_has N ls k q) ∙ there)) ∙ same_solid N R k refl ∙ to)));
     edges = λ h there out. refl;
   }
 
@@ -179,12 +181,6 @@ module _ (N : Model) (s t : ℕ) (fs : List ℕ) (sound : Sound N) (after : Soun
   part_solid q there e = solid_row P q _ (part_row q ∙ ap (option_map (faces_to_solid (λ f _. lists fs f) t q)) (face_there N q there))
       ∙ solid_either (lists fs q) (record { solid = solid_of N q; outer = outer N q }) t ∙ ap (λ b. cond b t (solid_of N q)) e
 
-  unlisted : (q : ℕ) → (lists fs q ≡ true → ⊥) → lists fs q ≡ false
-  unlisted q none = go (lists fs q) refl where
-    go : (b : Bool) → lists fs q ≡ b → lists fs q ≡ false
-    go true e = absurd (none e)
-    go false e = e
-
   kept_loops : (q : ℕ) → table.get P.loops q ≡ table.get N.loops q
   unfolding part
   kept_loops q = refl
@@ -198,10 +194,10 @@ module _ (N : Model) (s t : ℕ) (fs : List ℕ) (sound : Sound N) (after : Soun
     before = sound;
     after = after;
     faces = λ q there out. let ne = eqb-false (solid_of N q) s out in (
-      part_kept q (unlisted q (λ i. ne (of q i there))),
+      part_kept q (false_from_ne_true (lists fs q) (λ i. ne (of q i there))),
       not_either s t (solid_of N q) ne (λ e. true≢false (sym (sound.faces_of_solids q there) ∙ ap (table.has N.solids) e ∙ fresh)),
     );
-    faces_back = λ q there out. let ne = neither s t (solid_of P q) out in (part_kept q (unlisted q (λ i. ne.1 (part_solid q (part_had q there) i))), ne_eqb (solid_of P q) s ne.0);
+    faces_back = λ q there out. let ne = neither s t (solid_of P q) out in (part_kept q (false_from_ne_true (lists fs q) (λ i. ne.1 (part_solid q (part_had q there) i))), ne_eqb (solid_of P q) s ne.0);
     loops = λ q there out. kept_loops q;
     loops_back = λ q there out. kept_loops q;
     edges = λ h there out. kept_edges (edge_of h);
