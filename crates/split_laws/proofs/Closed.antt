@@ -1,6 +1,7 @@
 -- The holes of a section closed once a solid is opened along it, and the upper faces that are left.
 use Rattle.std.proofs.Common.{◌≡◌, ℕ, ◌+◌, ◌≤◌, ◌<◌, Bool, true, false, List, [], ◌∷◌, ◌++◌, length, is_some, unwrap_or, refl, sym, ap, ◌∙◌, subst, arith}
 use Rattle.std.specs.Prelude.{map, filter, fold}
+use Rattle.std.proofs.lemmas.Bool.{false_from_ne_true}
 use Rattle.euler_operators.specs.declared.Plane.{Plane}
 use Rattle.euler_operators.specs.Items.{count}
 use Rattle.euler_operators.proofs.Lists.{tick_same, count-append}
@@ -27,16 +28,13 @@ use Rattle.split_laws.proofs.Closing.{CanPart}
 use Rattle.split_laws.proofs.Holes.{AreLevel, CanClose, AreClosed, none_closed, all_close, can_close, holes_counted}
 use Rattle.split_laws.proofs.Parting.{still_there, part_same}
 use Rattle.split_laws.proofs.Left.{left_are}
-use Rattle.split_laws.proofs.Flags.{flags_are, some_outer}
+use Rattle.split_laws.proofs.Flags.{flags_are, one_outer}
 use Rattle.split_laws.proofs.OldFaces.{IsOld, all_old}
 
 -- ---- which of the caps are listed
 
 pub not_listed : (x : ℕ) (ns : List ℕ) → count x ns ≡ 0 → lists ns x ≡ false
-not_listed x ns z = go (lists ns x) refl where
-  go : (b : Bool) → lists ns x ≡ b → lists ns x ≡ false
-  go false e = e
-  go true e = absurd (omega (arith, z, IsIn-from_listed x ns e))
+not_listed x ns z = false_from_ne_true (lists ns x) (λ e. absurd (omega (arith, z, IsIn-from_listed x ns e)))
 
 pub caps_counted : (x : ℕ) (ks : List Caps) → count x (cap_faces ks) ≡ count x (map (λ k. k.lower) ks) + count x (map (λ k. k.upper) ks)
 caps_counted x [] = refl
@@ -50,9 +48,6 @@ module _ (above : List ℕ) (all : List Caps) (once : (x : ℕ) → count x abov
     listed-from_in k.upper (upper_faces above all) (omega (arith, up k.upper, tick_same k.upper, count-append k.upper above (map (λ k. k.upper) all))),
     level_in ks (λ x. omega (arith, low x)) (λ x. omega (arith, up x)),
   )
-
-some_length : (k : Caps) (ks : List Caps) → 0 < length (k ∷ ks)
-some_length k ks = omega arith
 
 -- ---- all openings made
 
@@ -109,19 +104,21 @@ module _ (d : Drawing) (above : List ℕ) (s : ℕ) (p : Plane)
 
   -- ---- the holes closed
 
-  level : AreLevel us ks
+  pub level : AreLevel us ks
   level = level_in above ks once ks (λ x. omega arith) (λ x. omega arith)
 
   abbrev pub holes : List Caps
   holes = filter (λ k. k.hole) (opened_at d above s p).caps
 
+  pub can_take : length holes < length ks → CanClose X.model s us (outer_caps ks) holes
+  can_take = can_close X.model s us ks can_part caps.plain (λ x. omega (arith, once x)) level
+
   outer_left : (hs : List Caps) → holes ≡ hs → 0 < length hs → length holes < length ks
-  outer_left hs e l = some_outer D p cycles ks (flags_are above s p begun cycles opens) no_stray (subst (λ x. 0 < length x) (sym e) l)
+  outer_left hs e l = omega (arith, one_outer D p cycles ks (flags_are above s p begun cycles opens) no_stray (subst (λ x. 0 < length x) (sym e) l))
 
   close : (hs : List Caps) → holes ≡ hs → AreClosed X.model (fold (hole_closed (outer_caps ks)) X.model hs) s us (closing_ops (outer_caps ks) hs) hs
   close [] e = none_closed X.model s us can_part
-  close (h ∷ hs) e = all_close X.model s us (outer_caps ks) (h ∷ hs) (subst (CanClose X.model s us (outer_caps ks)) e
-      (can_close X.model s us ks can_part caps.plain (λ x. omega (arith, once x)) level (outer_left (h ∷ hs) e (some_length h hs))))
+  close (h ∷ hs) e = all_close X.model s us (outer_caps ks) (h ∷ hs) (subst (CanClose X.model s us (outer_caps ks)) e (can_take (outer_left (h ∷ hs) e (omega arith))))
 
   pub closed : AreClosed X.model K s us (hole_ops ks) holes
   closed = close holes refl

@@ -1,8 +1,8 @@
 -- Whether a cycle is a hole is told by the model before the openings.
-use Rattle.std.proofs.Common.{◌≡◌, ◌<◌, ℕ, suc, ◌+◌, Bool, true, false, cond, not, nat_eq, nat_lt, ◌&&◌, pos, List, [], ◌∷◌, ◌++◌, length, map, unwrap_or, refl, sym, ap, ◌∙◌, arith, inl, inr, true≢false}
+use Rattle.std.proofs.Common.{◌≡◌, ◌<◌, ℕ, suc, ◌+◌, Bool, true, false, cond, not, nat_eq, nat_lt, ◌&&◌, pos, List, [], ◌∷◌, ◌++◌, length, map, unwrap_or, refl, sym, ap, ◌∙◌, arith, inl, inr}
 use Rattle.std.specs.Prelude.{filter, flat_map, int_lt}
 use Rattle.std.proofs.lemmas.Bool.Decides.{nat_tests}
-use Rattle.std.proofs.lemmas.List.{append_assoc, append-nil, map-append}
+use Rattle.std.proofs.lemmas.List.{append_assoc, append-nil, length-map, map-append}
 use Rattle.euler_operators.specs.declared.Plane.{Plane}
 use Rattle.euler_operators.specs.Vectors.{dot, direction, cross, moved}
 use Rattle.euler_operators.specs.Items.{count, IsIn}
@@ -104,27 +104,13 @@ filter_trues f (x ∷ xs) = go (f x) (filter_trues f xs) where
   go true e = ap suc e
   go false e = e
 
-pub map_length : {X : Type 0} (f : X → Bool) (xs : List X) → length (map f xs) ≡ length xs
-map_length f [] = refl
-map_length f (x ∷ xs) = ap suc (map_length f xs)
-
 not_stray : (n m : ℕ) → (nat_lt 0 n && not (nat_eq m (n + 1))) ≡ false → 0 < n → m ≡ n + 1
-not_stray n m e l = go (nat_lt 0 n) (nat_eq m (n + 1)) less e refl where
-  less : nat_lt 0 n ≡ true
-  less = grind (arith, nat_tests)
+not_stray n m e l = grind (arith, nat_tests)
 
-  same : nat_eq m (n + 1) ≡ true → m ≡ n + 1
-  same t = grind (arith, nat_tests)
-
-  go : (a b : Bool) → a ≡ true → (a && not b) ≡ false → nat_eq m (n + 1) ≡ b → m ≡ n + 1
-  go true true t f is = same is
-  go true false t f is = absurd (true≢false f)
-  go false b t f is = absurd (true≢false (sym t))
-
--- where a hole isn't stray and there is one, not all caps are of holes
-pub some_outer : (M : Model) (p : Plane) (cs : List (List ℕ)) (ks : List Caps) → map (λ k. k.hole) ks ≡ map (is_hole M p) cs → has_stray_hole M p cs ≡ false → 0 < length (filter (λ k. k.hole) ks) →
-    length (filter (λ k. k.hole) ks) < length ks
-some_outer M p cs ks flags stray some =
+-- where a hole isn't stray and there is one, one cap alone is no hole's
+pub one_outer : (M : Model) (p : Plane) (cs : List (List ℕ)) (ks : List Caps) → map (λ k. k.hole) ks ≡ map (is_hole M p) cs → has_stray_hole M p cs ≡ false → 0 < length (filter (λ k. k.hole) ks) →
+    length ks ≡ length (filter (λ k. k.hole) ks) + 1
+one_outer M p cs ks flags stray some =
     let holes : length (filter (λ k. k.hole) ks) ≡ length (holes_in M p cs) = filter_trues (λ k. k.hole) ks ∙ ap trues flags ∙ sym (filter_trues (is_hole M p) cs) in
-    let all : length ks ≡ length cs = sym (map_length (λ k. k.hole) ks) ∙ ap length flags ∙ map_length (is_hole M p) cs in
+    let all : length ks ≡ length cs = sym (length-map ks (λ k. k.hole)) ∙ ap length flags ∙ length-map cs (is_hole M p) in
     omega (arith, holes, all, not_stray (length (holes_in M p cs)) (length cs) stray (omega (arith, holes, some)))

@@ -173,7 +173,7 @@ module _ (us : List ℕ) where
     go false r l = (w.0, w.1)
 
 module _ (N : Model) (s : ℕ) where
-  holes_plain : (ks : List Caps) → ArePlain N s ks → ArePlain N s (filter (λ k. k.hole) ks)
+  pub holes_plain : (ks : List Caps) → ArePlain N s ks → ArePlain N s (filter (λ k. k.hole) ks)
   holes_plain [] w = tt
   holes_plain (k ∷ ks) w = go k.hole (holes_plain ks w.2) where
     go : (b : Bool) → ArePlain N s (filter (λ k. k.hole) ks) → ArePlain N s (cond b (k ∷ filter (λ k. k.hole) ks) (filter (λ k. k.hole) ks))

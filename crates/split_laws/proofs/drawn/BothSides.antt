@@ -1,6 +1,6 @@
 -- Once the faces are drawn the solid has a face above and one that isn't.
-use Rattle.std.proofs.Common.{◌≡◌, ℕ, Bool, true, false, not, nat_eq, ◌&&◌, ◌||◌, List, None, is_some, unwrap_or, refl, sym, ap, ◌∙◌, subst, inl, inr, true≢false}
-use Rattle.std.proofs.lemmas.Bool.{eq-eqb, eqb-true}
+use Rattle.std.proofs.Common.{◌≡◌, ℕ, true, false, not, nat_eq, ◌&&◌, ◌||◌, List, None, is_some, unwrap_or, refl, sym, ap, ◌∙◌, subst, inl, inr, true≢false}
+use Rattle.std.proofs.lemmas.Bool.{eq-eqb, eqb-true, false_from_ne_true}
 use Rattle.std.specs.Prelude.{pos, int_lt}
 use Rattle.euler_operators.proofs.Tests.{first_fails}
 use Rattle.euler_operators.specs.declared.Plane.{Plane}
@@ -158,10 +158,7 @@ module _ (M : Model) (s : ℕ) (p : Plane) (t : ℕ) (sound : Sound M) (accepted
       ∙ ap (λ b. not b && not (int_lt (pos 0) (dot (normal D f) (direction p)))) e
 
   unlisted : (f : ℕ) → face_is_above D p f ≡ false → lists (faces_above D p s) f ≡ false
-  unlisted f e = go (lists (faces_above D p s) f) refl where
-    go : (b : Bool) → lists (faces_above D p s) f ≡ b → lists (faces_above D p s) f ≡ false
-    go false n = n
-    go true l = absurd (true≢false (sym (filter_passes (face_is_above D p) f (faces_of D s) (IsIn-from_listed f (faces_above D p s) l)) ∙ e))
+  unlisted f e = false_from_ne_true (lists (faces_above D p s) f) (λ l. true≢false (sym (filter_passes (face_is_above D p) f (faces_of D s) (IsIn-from_listed f (faces_above D p s) l)) ∙ e))
 
   pub some_above : HasFace (with_drawings M s p).model s (faces_above (with_drawings M s p).model p s) true
   some_above =

@@ -19,7 +19,7 @@ use Rattle.split_laws.specs.opened.Told.{LiesAlong, OutersAreOwn, AllLieAlong}
 use Rattle.split_laws.specs.volumes.Closing.{CanClose}
 use Rattle.split_laws.proofs.volumes.Taken as taken
 use Rattle.split_laws.proofs.volumes.Taken.{CanTake}
-use Rattle.split_laws.proofs.Holes.{holes_counted}
+use Rattle.split_laws.proofs.Holes.{holes_counted, holes_plain}
 
 -- a cap of solid s along the plane
 pub record IsCap (M : Model) (p : Plane) (s f : ℕ) : Type 0 where
@@ -163,14 +163,7 @@ module _ (M : Model) (s : ℕ) (p : Plane) where
     go true q later = subst AreCaps (sym (ap (λ b. cond b (outer_caps ks) k) q)) (later (sym (ap (λ b. not b || list_any (λ k. not k.hole) ks) q) ∙ e))
     go false q later = subst AreCaps (sym (ap (λ b. cond b (outer_caps ks) k) q)) (cap_of M p s k.lower w.0 a.0, cap_of M p s k.upper w.1 a.1)
 
-  holes_plain : (ks : List Caps) → ArePlain M s ks → ArePlain M s (filter (λ k. k.hole) ks)
-  holes_plain [] w = tt
-  holes_plain (k ∷ ks) w = go k.hole (holes_plain ks w.2) where
-    go : (b : Bool) → ArePlain M s (filter (λ k. k.hole) ks) → ArePlain M s (cond b (k ∷ filter (λ k. k.hole) ks) (filter (λ k. k.hole) ks))
-    go true later = (w.0, w.1, later)
-    go false later = later
-
-  holes_along : (ks : List Caps) → AllLieAlong M p ks → AllLieAlong M p (filter (λ k. k.hole) ks)
+  pub holes_along : (ks : List Caps) → AllLieAlong M p ks → AllLieAlong M p (filter (λ k. k.hole) ks)
   holes_along [] w = tt
   holes_along (k ∷ ks) w = go k.hole (holes_along ks w.2) where
     go : (b : Bool) → AllLieAlong M p (filter (λ k. k.hole) ks) → AllLieAlong M p (cond b (k ∷ filter (λ k. k.hole) ks) (filter (λ k. k.hole) ks))
@@ -199,7 +192,7 @@ closing_carries M s p ks holds step w now = elim w.closable [
       let hs : List Caps = filter (λ k. k.hole) ks in
       let c = outer_among M s p ks some w.plain w.along in
       subst holds (sym (closed_by M o hs))
-      (all_carry M p s (closing o hs) holds step w.outers w.some_way (taken_all M p s o hs c.0 c.1 (holes_plain M s p ks w.plain) (holes_along M s p ks w.along))
+      (all_carry M p s (closing o hs) holds step w.outers w.some_way (taken_all M p s o hs c.0 c.1 (holes_plain M s ks w.plain) (holes_along M s p ks w.along))
       (all_clear o hs (λ x. omega (arith, all_less x ks some, w.apart x))) now)
 ]
 

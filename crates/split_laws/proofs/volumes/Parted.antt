@@ -86,7 +86,7 @@ module _ (M : Model) (s t : ℕ) (fs : List ℕ) where
   unfolding loops_of
   loops_same k = λ i. outer_same k i ∷ rings_same k i
 
-  normal_same : (k : ℕ) → normal N k ≡ normal M k
+  pub normal_same : (k : ℕ) → normal N k ≡ normal M k
   unfolding normal boundary
   normal_same k = ap (λ ls. area N (items_in N ls)) (loops_same k) ∙ ap (area N) (items_same (loops_of M k)) ∙ area_kept M N (items_in M (loops_of M k)) (λ h i. (start_same h, start_same (mate h)))
 

@@ -1,9 +1,8 @@
 -- The six volumes of the two parts of a split solid.
-use Rattle.std.proofs.Common.{◌≡◌, ◌≢◌, ℕ, ◌+◌, ◌<◌, ◌+ℤ◌, Bool, true, false, cond, not, nat_eq, nat_lt, ◌&&◌, ◌||◌, List, [], ◌∷◌, ◌++◌, length, None, is_some, unwrap_or, refl, sym, ap, subst, ◌∙◌, arith, true≢false, ◌⊎◌, inl, inr}
+use Rattle.std.proofs.Common.{◌≡◌, ◌≢◌, ℕ, ◌<◌, suc, ◌+ℤ◌, Bool, true, false, cond, not, nat_eq, ◌||◌, List, [], ◌∷◌, ◌++◌, length, None, is_some, unwrap_or, refl, sym, ap, subst, ◌∙◌, arith, true≢false, ◌⊎◌, inl, inr}
 use Rattle.std.specs.Prelude.{map, filter}
 use Rattle.std.specs.List.{list_any}
-use Rattle.std.proofs.lemmas.Bool.Decides.{nat_tests, eqb_tells}
-use Rattle.std.proofs.lemmas.List.{append-nil, nil_from_length}
+use Rattle.std.proofs.lemmas.List.{append-nil}
 use Rattle.euler_operators.specs.declared.Plane.{Plane}
 use Rattle.euler_operators.proofs.Lists.{count-append}
 use Rattle.euler_operators.specs.Table as table
@@ -16,7 +15,7 @@ use Rattle.euler_operators.proofs.Tables.{get-put_here, get-put_other}
 use Rattle.shapes.specs.Measure.{six_volume}
 use Rattle.euler_laws.proofs.shared.Counted.{counted_once}
 use Rattle.shapes.specs.split.Drawing.{Drawing}
-use Rattle.shapes.specs.split.Section.{is_hole, holes_in, below_halves, section_cycles, has_stray_hole}
+use Rattle.shapes.specs.split.Section.{is_hole, below_halves, section_cycles, has_stray_hole}
 use Rattle.shapes.specs.split.Opening.{Caps, Opening, outer_caps, holes_closed}
 use Rattle.shapes.specs.split.Split.{opened_at, upper_left, split_drawn}
 use Rattle.split_opening_laws.specs.sections.InTurn.{upper_faces, CanBeOpenedInTurn}
@@ -28,50 +27,26 @@ use Rattle.split_laws.specs.volumes.Laws.{CanBeParted, CanBeSplit}
 use Rattle.split_laws.proofs.volumes.Parted.{part_shares, part_keeps}
 use Rattle.split_laws.proofs.volumes.Closed.{closing, all_taken, closed_by, closing_carries, closing_keeps}
 use Rattle.split_laws.proofs.opened.InTurn.{some_way, openings_keep, openings_lie}
-use Rattle.split_laws.proofs.Flags.{flags_are, map_length}
+use Rattle.split_laws.proofs.Flags.{flags_are, one_outer}
+use Rattle.split_laws.proofs.Closing.{solids_kept}
 use Rattle.split_laws.proofs.OldFaces.{solids_still}
 use Rattle.split_laws.proofs.Closed.{parted_alike}
 
 -- ---- which caps are those of holes
 
--- how many are true
-abbrev trues : List Bool → ℕ
-trues [] = 0
-trues (b ∷ bs) = cond b 1 0 + trues bs
-
-filtered : {X : Type 0} (p : X → Bool) (xs : List X) → length (filter p xs) ≡ trues (map p xs)
-filtered p [] = refl
-filtered p (x ∷ xs) = go (p x) (filtered p xs) where
-  go : (b : Bool) → length (filter p xs) ≡ trues (map p xs) → length (cond b (x ∷ filter p xs) (filter p xs)) ≡ cond b 1 0 + trues (map p xs)
-  go true e = omega (arith, e)
-  go false e = omega (arith, e)
-
-some_other : (ks : List Caps) → trues (map (λ k. k.hole) ks) < length ks → list_any (λ k. not k.hole) ks ≡ true
+some_other : (ks : List Caps) → length (filter (λ k. k.hole) ks) < length ks → list_any (λ k. not k.hole) ks ≡ true
 some_other [] l = absurd (omega (arith, l))
-some_other (k ∷ ks) l = go k.hole refl (λ m. some_other ks m) where
-  go : (b : Bool) → k.hole ≡ b → (trues (map (λ k. k.hole) ks) < length ks → list_any (λ k. not k.hole) ks ≡ true) → not k.hole || list_any (λ k. not k.hole) ks ≡ true
-  go true q later = ap (λ b. not b || list_any (λ k. not k.hole) ks) q ∙ later (omega (arith, l, ap {B = ℕ} (λ b. cond b 1 0) q))
-  go false q later = ap (λ b. not b || list_any (λ k. not k.hole) ks) q
-
-stray_cases : (n m : ℕ) → nat_lt 0 n && not (nat_eq m (n + 1)) ≡ false → (n ≡ 0) ⊎ (n < m)
-stray_cases n m e = elim (eqb_tells m (n + 1)) [
-  | inl q ↦ inr (omega (arith, q.1))
-  | inr q ↦ inl (zero_of n m e q.0)
-] where
-  zero_of : (n m : ℕ) → nat_lt 0 n && not (nat_eq m (n + 1)) ≡ false → nat_eq m (n + 1) ≡ false → n ≡ 0
-  zero_of n m e q = grind (arith, nat_tests)
+some_other (k ∷ ks) l = go k.hole (some_other ks) l where
+  go : (b : Bool) → (length (filter (λ k. k.hole) ks) < length ks → list_any (λ k. not k.hole) ks ≡ true) → length (cond b (k ∷ filter (λ k. k.hole) ks) (filter (λ k. k.hole) ks)) < suc (length ks) → not b || list_any (λ k. not k.hole) ks ≡ true
+  go true later l = later (omega (arith, l))
+  go false later l = refl
 
 closable_of : (M : Model) (p : Plane) (cs : List (List ℕ)) (ks : List Caps) → map (λ k. k.hole) ks ≡ map (is_hole M p) cs → has_stray_hole M p cs ≡ false →
     (list_any (λ k. not k.hole) ks ≡ true) ⊎ (filter (λ k. k.hole) ks ≡ [])
-closable_of M p cs ks same e =
-    let holes : length (holes_in M p cs) ≡ trues (map (λ k. k.hole) ks) = filtered (is_hole M p) cs ∙ ap trues (sym same) in
-    let size : length cs ≡ length ks = sym (map_length (is_hole M p) cs) ∙ ap length (sym same) ∙ map_length (λ k. k.hole) ks in
-    elim (stray_cases (length (holes_in M p cs)) (length cs) e) [
-      | inl z ↦ inr (nil_from_length (filter (λ k. k.hole) ks) (filtered (λ k. k.hole) ks ∙ sym holes ∙ z))
-      | inr l ↦ inl (some_other ks (omega (arith, l, holes, size)))
-    ]
-
--- a cycle is a hole after another one is opened if it was before
+closable_of M p cs ks same e = go (filter (λ k. k.hole) ks) refl where
+  go : (hs : List Caps) → filter (λ k. k.hole) ks ≡ hs → (list_any (λ k. not k.hole) ks ≡ true) ⊎ (filter (λ k. k.hole) ks ≡ [])
+  go [] is = inr is
+  go (h ∷ hs) is = inl (some_other ks (omega (arith, one_outer M p cs ks same e (subst (λ xs. 0 < length xs) (sym is) (omega arith)))))
 
 -- ---- solids and faces
 
@@ -151,10 +126,6 @@ module _ (d : Drawing) (above : List ℕ) (s : ℕ) (p : Plane) (t : ℕ) (w : C
 
 -- ---- both parts are solids
 
-taken_solids : (M : Model) (f g : ℕ) → (kfmrh M f g).solids ≡ M.solids
-unfolding kfmrh
-taken_solids M f g = refl
-
 parted_solids : (M : Model) (s t : ℕ) (fs : List ℕ) → (part M s t fs).solids ≡ table.put M.solids t tt
 unfolding part
 parted_solids M s t fs = refl
@@ -163,7 +134,7 @@ pub both_there : (d : Drawing) (above : List ℕ) (s : ℕ) (p : Plane) (t : ℕ
 both_there d above s p t w there =
     let X : Opening = opened_at d above s p in
     let K : Model = holes_closed X.model X.caps in
-    let closed : K.solids ≡ d.model.solids = closing_carries X.model s p X.caps (λ A. A.solids ≡ d.model.solids) (λ A f g c e. taken_solids A f g ∙ e) (closes d above s p t w) (solids_still above s p (begun d above s p t w) (cycles d above s p t w)) in
+    let closed : K.solids ≡ d.model.solids = closing_carries X.model s p X.caps (λ A. A.solids ≡ d.model.solids) (λ A f g c e. solids_kept A f g ∙ e) (closes d above s p t w) (solids_still above s p (begun d above s p t w) (cycles d above s p t w)) in
     let now : (split_drawn d above s p t).solids ≡ table.put K.solids t tt = parted_solids K s t (upper_left above X.caps) in (
       ap (λ u. table.has u s) now ∙ ap is_some (get-put_other K.solids t tt s w.apart) ∙ ap (λ u. table.has u s) closed ∙ there,
       ap (λ u. table.has u t) now ∙ ap is_some (get-put_here K.solids t tt),
