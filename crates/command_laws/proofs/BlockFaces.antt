@@ -1,6 +1,6 @@
 -- The six faces of a block.
 use Rattle.std.specs.Prelude.{length}
-use Rattle.std.proofs.Common.{◌≡◌, ◌≢◌, ℕ, ◌+◌, ◌<◌, ℤ, None, sym, ap, subst, ◌∙◌, arith, refl}
+use Rattle.std.proofs.Common.{◌≡◌, ℕ, ◌+◌, ◌<◌, ℤ, None, sym, ap, subst, ◌∙◌, arith, refl}
 use Rattle.euler_operators.specs.declared.Point.{Point}
 use Rattle.euler_operators.specs.Table as table
 use Rattle.euler_operators.specs.Model.{Model, solid_of}
@@ -38,9 +38,7 @@ module _ (M : Model) (s : ℕ) (p : Point) (dx dy dz : ℤ) (sound : Sound M) (g
       (model_far base (lamina_face M) (up_by dz) base_sound (bases_rise M s p dx dy dz sound goes) base_faces.0.plain))
 
   bottom : IsFaceOf (prism_model base (lamina_face M) (up_by dz)) ((taken_in M).face + 2) s (turned_back (base_of p dx dy))
-  bottom = model_other base (lamina_face M) (up_by dz) base_sound (bases_rise M s p dx dy dz sound goes) ((taken_in M).face + 2) s (turned_back (base_of p dx dy)) (apart (taken_in M).face) base_faces.1 where
-    apart : (g : ℕ) → g + 2 ≢ g + 1
-    apart g e = absurd (omega arith)
+  bottom = model_other base (lamina_face M) (up_by dz) base_sound (bases_rise M s p dx dy dz sound goes) ((taken_in M).face + 2) s (turned_back (base_of p dx dy)) (λ e. absurd (omega (arith, e))) base_faces.1
 
   side : (i : ℕ) → i < 4 → IsFaceOf (prism_model base (lamina_face M) (up_by dz)) (table.greatest M.faces + 3 + i) s (side_over (up_by dz) (nth (base_of p dx dy) i) (nth (base_of p dx dy) (next_place 4 i)))
   side i l = let N = prism_model base (lamina_face M) (up_by dz) in

@@ -1,6 +1,6 @@
 -- What a lamina and a block leave as they were.
 use Rattle.std.specs.Prelude.{length}
-use Rattle.std.proofs.Common.{◌≡◌, ◌≢◌, ℕ, zero, suc, ◌+◌, ◌-◌, ◌≤◌, ◌<◌, ℤ, List, None, is_some, sym, ap, subst, ◌∙◌, refl, arith, inl, inr}
+use Rattle.std.proofs.Common.{◌≡◌, ◌≢◌, ℕ, zero, suc, ◌+◌, ◌-◌, ◌≤◌, ℤ, List, None, is_some, sym, ap, subst, ◌∙◌, refl, arith, inl, inr}
 use Rattle.euler_operators.specs.declared.Point.{Point}
 use Rattle.euler_operators.specs.HalfEdge.{edge_of}
 use Rattle.euler_operators.specs.Table as table
@@ -45,10 +45,8 @@ module _ (M : Model) (s : ℕ) (ps : List Point) where
   pub lamina_keeps_rows : Sound M → lamina_refusal M s ps ≡ None → (e : ℕ) → Has M.edges e → table.get (lamina_model M s ps).edges e ≡ table.get M.edges e
   unfolding lamina_model taken_in
   lamina_keeps_rows sound goes e there = let g = table.greatest M.edges in let m = at_most_greatest M.edges e there in
-      get-put_other (with_path M.edges g (table.greatest M.vertices) (length ps - 1)) (g + length ps) _ e (last e g (length ps) m ((lamina_goes M s ps sound goes).many))
-      ∙ path_keeps M.edges g (table.greatest M.vertices) (length ps - 1) e m where
-        last : (e g n : ℕ) → e ≤ g → 3 ≤ n → e ≢ g + n
-        last e g n m l p = absurd (omega arith)
+      get-put_other (with_path M.edges g (table.greatest M.vertices) (length ps - 1)) (g + length ps) _ e (λ z. absurd (omega (arith, m, (lamina_goes M s ps sound goes).many, z)))
+      ∙ path_keeps M.edges g (table.greatest M.vertices) (length ps - 1) e m
 
   lamina_keeps_places : (v : ℕ) → Has M.vertices v → table.get (lamina_model M s ps).vertices v ≡ table.get M.vertices v
   unfolding lamina_model taken_in
@@ -63,14 +61,12 @@ module _ (M : Model) (s : ℕ) (ps : List Point) where
       let r = row_some (table.get (lamina_model M s ps).loops l) now in
       let face : r.0.face ≡ k = sym (face_row (lamina_model M s ps) l r.0 r.1) ∙ of in
       elim (get-put_cases (table.put M.loops (g + 1) _) (g + 2) _ l r.0 r.1) [
-        | inl q ↦ absurd (too_great k e (e + 2) (sym face ∙ ap (λ x. x.face) q.1) (at_most_greatest M.faces k there) (omega arith))
+        | inl q ↦ absurd (omega (arith, sym face ∙ ap (λ x. x.face) q.1, at_most_greatest M.faces k there))
         | inr q ↦ elim (get-put_cases M.loops (g + 1) _ l r.0 q.1) [
-          | inl u ↦ absurd (too_great k e (e + 1) (sym face ∙ ap (λ x. x.face) u.1) (at_most_greatest M.faces k there) (omega arith))
+          | inl u ↦ absurd (omega (arith, sym face ∙ ap (λ x. x.face) u.1, at_most_greatest M.faces k there))
           | inr u ↦ r.1 ∙ sym u.1
         ]
-      ] where
-        too_great : (k e n : ℕ) → k ≡ n → k ≤ e → e < n → ⊥
-        too_great k e n p m l = absurd (omega arith)
+      ]
 
 -- ---- a block
 
@@ -86,10 +82,7 @@ module _ (M : Model) (s : ℕ) (p : Point) (dx dy dz : ℤ) (sound : Sound M) (g
 
   old_face : (l : ℕ) → Has M.loops l → face_of base l ≢ lamina_face M
   unfolding taken_in
-  old_face l there e = past_new (face_of M l) (table.greatest M.faces) (at_most_greatest M.faces (face_of M l) (sound.loops_of_faces l there))
-      (sym (same_face M base l (lamina_keeps M s (base_of p dx dy) l there)) ∙ e) where
-        past_new : (k g : ℕ) → k ≤ g → k ≢ g + 1
-        past_new k g m e = absurd (omega arith)
+  old_face l there e = absurd (omega (arith, at_most_greatest M.faces (face_of M l) (sound.loops_of_faces l there), sym (same_face M base l (lamina_keeps M s (base_of p dx dy) l there)) ∙ e))
 
   block_keeps : (l : ℕ) → Has M.loops l → table.get (block_model M s p dx dy dz).loops l ≡ table.get M.loops l
   unfolding block_model

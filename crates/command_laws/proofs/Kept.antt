@@ -25,9 +25,7 @@ loop_kept f d g l k m = let hs = items_of (content g.model l) in
 
 later_still : (f : ℕ) (d : Point) (g : Growing) (l k : ℕ) → k ≤ g.taken.face → k ≤ (raised f d g l).taken.face
 unfolding raised
-later_still f d g l k m = more k g.taken.face (length (items_of (content g.model l))) m where
-  more : (k c n : ℕ) → k ≤ c → k ≤ c + n
-  more k c n m = omega arith
+later_still f d g l k m = omega (arith, m)
 
 loops_kept : (f : ℕ) (d : Point) (ls : List ℕ) (g : Growing) (k : ℕ) → k ≤ g.taken.face → table.get (prism_from f d g ls).model.faces k ≡ table.get g.model.faces k
 loops_kept f d [] g k m = refl

@@ -136,37 +136,25 @@ module _ (M : Model) (c : Taken) (s : ℕ) (a b : Point) (rest : List Point) (bo
   plain_one : rings_of drawn (c.face + 1) ≡ []
   plain_one = all_where_none (λ q row. nat_eq row.face (c.face + 1) && not (nat_eq (outer drawn (c.face + 1)) q)) drawn.loops (λ q y at. no_ring y.face (c.face + 1) (outer drawn (c.face + 1)) q (λ e.
       outer_row drawn (c.face + 1) first_face face_one ∙ elim (get-put_cases (table.put M.loops (c.loop + 1) first_loop) (c.loop + 2) second_loop q y at) [
-        | inl p ↦ absurd (other c.face y.face (ap (λ r. r.face) p.1) e)
-        | inr p ↦ elim (get-put_cases M.loops (c.loop + 1) first_loop q y p.1) [ inl r ↦ sym r.0 | inr r ↦ absurd (low c.face y.face (subst (λ k. k ≤ c.face) (face_row M q y r.1) (bounded.loop_faces q)) e) ]
-      ])) where
-        other : (k g : ℕ) → g ≡ k + 2 → g ≡ k + 1 → ⊥
-        other k g p e = absurd (omega arith)
-
-        low : (k g : ℕ) → g ≤ k → g ≡ k + 1 → ⊥
-        low k g p e = absurd (omega arith)
+        | inl p ↦ absurd (omega (arith, ap (λ r. r.face) p.1, e))
+        | inr p ↦ elim (get-put_cases M.loops (c.loop + 1) first_loop q y p.1) [ inl r ↦ sym r.0 | inr r ↦ absurd (omega (arith, subst (λ k. k ≤ c.face) (face_row M q y r.1) (bounded.loop_faces q), e)) ]
+      ]))
 
   plain_two : rings_of drawn (c.face + 2) ≡ []
   plain_two = all_where_none (λ q row. nat_eq row.face (c.face + 2) && not (nat_eq (outer drawn (c.face + 2)) q)) drawn.loops (λ q y at. no_ring y.face (c.face + 2) (outer drawn (c.face + 2)) q (λ e.
       outer_row drawn (c.face + 2) second_face face_two ∙ elim (get-put_cases (table.put M.loops (c.loop + 1) first_loop) (c.loop + 2) second_loop q y at) [
         | inl p ↦ sym p.0
         | inr p ↦ elim (get-put_cases M.loops (c.loop + 1) first_loop q y p.1) [
-          | inl r ↦ absurd (other c.face y.face (ap (λ r. r.face) r.1) e)
-          | inr r ↦ absurd (low c.face y.face (subst (λ k. k ≤ c.face) (face_row M q y r.1) (bounded.loop_faces q)) e)
+          | inl r ↦ absurd (omega (arith, ap (λ r. r.face) r.1, e))
+          | inr r ↦ absurd (omega (arith, subst (λ k. k ≤ c.face) (face_row M q y r.1) (bounded.loop_faces q), e))
         ]
-      ])) where
-        other : (k g : ℕ) → g ≡ k + 1 → g ≡ k + 2 → ⊥
-        other k g p e = absurd (omega arith)
-
-        low : (k g : ℕ) → g ≤ k → g ≡ k + 2 → ⊥
-        low k g p e = absurd (omega arith)
+      ]))
 
   -- ---- where half-edges start
 
   edge_at : (i : ℕ) → i < suc (length rest) → table.get drawn.edges (c.edge + suc i) ≡ Some (record { plus_tail = c.vertex + suc i; minus_tail = c.vertex + suc i + 1 })
-  edge_at i l = get-put_other (with_path M.edges c.edge c.vertex (length ps - 1)) (c.edge + suc (suc (length rest))) (record { plus_tail = c.vertex + suc (suc (length rest)); minus_tail = c.vertex + 1 }) (c.edge + suc i) (before c.edge i (length rest) l)
-      ∙ path_new M.edges c.edge c.vertex (length ps - 1) i (omega (arith, l)) where
-        before : (e i k : ℕ) → i < suc k → e + suc i ≢ e + suc (suc k)
-        before e i k l z = absurd (omega arith)
+  edge_at i l = get-put_other (with_path M.edges c.edge c.vertex (length ps - 1)) (c.edge + suc (suc (length rest))) (record { plus_tail = c.vertex + suc (suc (length rest)); minus_tail = c.vertex + 1 }) (c.edge + suc i) (λ e. absurd (omega (arith, l, e)))
+      ∙ path_new M.edges c.edge c.vertex (length ps - 1) i (omega (arith, l))
 
   last_edge_at : table.get drawn.edges (c.edge + suc (suc (length rest))) ≡ Some (record { plus_tail = c.vertex + suc (suc (length rest)); minus_tail = c.vertex + 1 })
   last_edge_at = get-put_here (with_path M.edges c.edge c.vertex (length ps - 1)) (c.edge + suc (suc (length rest))) (record { plus_tail = c.vertex + suc (suc (length rest)); minus_tail = c.vertex + 1 })
@@ -191,19 +179,12 @@ module _ (M : Model) (c : Taken) (s : ℕ) (a b : Point) (rest : List Point) (bo
   out_starts : (k : ℕ) → k ≤ suc (suc (length rest)) → map (start drawn) (out c.edge k) ≡ take k ps
   out_starts zero m = refl
   out_starts (suc k) m = map-append (start drawn) (out c.edge k) (plus (c.edge + suc k) ∷ [])
-      ∙ (λ t. out_starts k (before k (suc (suc (length rest))) m) t ++ plus_at k m t ∷ []) ∙ sym (take_next ps k m) where
-        before : (k n : ℕ) → suc k ≤ n → k ≤ n
-        before k n m = omega arith
+      ∙ (λ t. out_starts k (omega (arith, m)) t ++ plus_at k m t ∷ []) ∙ sym (take_next ps k m)
 
   earlier_starts : (j : ℕ) → j ≤ length rest → map (start drawn) (earlier c.edge j) ≡ reverse (take j rest)
   earlier_starts zero m = refl
-  earlier_starts (suc j) m = (λ t. minus_at (suc j) (inside j (length rest) m) t ∷ earlier_starts j (before j (length rest) m) t)
-      ∙ sym (reverse-append (take j rest) (nth rest j ∷ [])) ∙ ap reverse (sym (take_next rest j m)) where
-        inside : (j n : ℕ) → suc j ≤ n → suc j < suc n
-        inside j n m = omega arith
-
-        before : (k n : ℕ) → suc k ≤ n → k ≤ n
-        before k n m = omega arith
+  earlier_starts (suc j) m = (λ t. minus_at (suc j) (omega (arith, m)) t ∷ earlier_starts j (omega (arith, m)) t)
+      ∙ sym (reverse-append (take j rest) (nth rest j ∷ [])) ∙ ap reverse (sym (take_next rest j m))
 
   -- ---- the faces
 

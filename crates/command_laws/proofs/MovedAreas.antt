@@ -20,9 +20,7 @@ moved_many d (p ∷ ps) = ap suc (moved_many d ps)
 pub nth_moved : (d : Point) (ps : List Point) (k : ℕ) → k < length ps → nth (all_moved d ps) k ≡ moved (nth ps k) d
 nth_moved d [] k l = absurd (omega arith)
 nth_moved d (p ∷ ps) zero l = refl
-nth_moved d (p ∷ ps) (suc k) l = nth_moved d ps k (less k (length ps) l) where
-  less : (i n : ℕ) → suc i < suc n → i < n
-  less i n l = omega arith
+nth_moved d (p ∷ ps) (suc k) l = nth_moved d ps k (omega (arith, l))
 
 -- the area as a sum along the places
 area_sum : (M : Model) (hs : List ℕ) → area M hs ≡ sum_to (λ i. cross (start M (get_or hs i 0)) (finish M (get_or hs i 0))) (length hs)
@@ -53,21 +51,12 @@ module _ (M N : Model) (d : Point) (f g l k : ℕ) (hs ts : List ℕ) (was : IsP
       ∙ start_at (next_place (length hs) i) (next_within (length hs) i m) ∙ ap (λ p. moved p d) (sym (was.linked i m))
 
   linked : Linked from_at to_at d (length hs)
-  linked i m = was.linked i (before_next i (length hs) m) ∙ ap from_at (elim (next_cases (length hs) i) [ inl e ↦ absurd (last i (length hs) m e.0) | inr e ↦ e.1 ∙ one_more i ]) where
-    before_next : (i n : ℕ) → suc i < n → i < n
-    before_next i n m = omega arith
-
-    last : (i n : ℕ) → suc i < n → i + 1 ≡ n → ⊥
-    last i n m e = absurd (omega arith)
-
+  linked i m = was.linked i (omega (arith, m)) ∙ ap from_at (elim (next_cases (length hs) i) [ inl e ↦ absurd (omega (arith, m, e.0)) | inr e ↦ e.1 ∙ one_more i ]) where
     one_more : (i : ℕ) → i + 1 ≡ suc i
     one_more i = omega arith
 
   closed : (m : ℕ) → suc m ≡ length hs → to_at m ≡ from_at 0
-  closed m e = was.linked m (inside m (length hs) e) ∙ ap from_at (elim (next_cases (length hs) m) [ inl p ↦ p.1 | inr p ↦ absurd (p.0 (last m (length hs) e)) ]) where
-    inside : (m n : ℕ) → suc m ≡ n → m < n
-    inside m n e = omega arith
-
+  closed m e = was.linked m (omega (arith, e)) ∙ ap from_at (elim (next_cases (length hs) m) [ inl p ↦ p.1 | inr p ↦ absurd (p.0 (last m (length hs) e)) ]) where
     last : (m n : ℕ) → suc m ≡ n → m + 1 ≡ n
     last m n e = omega arith
 

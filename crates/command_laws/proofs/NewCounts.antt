@@ -63,16 +63,7 @@ module _ {X : Type 0} (t : Table X) (a : ℕ) (x y : X) where
   two_kept q m n = get-put_other (table.put t (a + 1) x) (a + 2) y q n ∙ get-put_other t (a + 1) x q m
 
   two_size : ((q : ℕ) → a < q → table.get t q ≡ None) → size two ≡ size t + 2
-  two_size free = size-put_new (table.put t (a + 1) x) (a + 2) y (get-put_other t (a + 1) x (a + 2) (apart a) ∙ free (a + 2) (above a)) ∙ ap (λ n. n + 1) (size-put_new t (a + 1) x (free (a + 1) (next a))) ∙ added (size t) where
-    apart : (a : ℕ) → a + 2 ≢ a + 1
-    apart a e = absurd (omega arith)
-
-    above : (a : ℕ) → a < a + 2
-    above a = omega arith
-
-    next : (a : ℕ) → a < a + 1
-    next a = omega arith
-
+  two_size free = size-put_new (table.put t (a + 1) x) (a + 2) y (get-put_other t (a + 1) x (a + 2) (λ e. absurd (omega (arith, e))) ∙ free (a + 2) (omega arith)) ∙ ap (λ n. n + 1) (size-put_new t (a + 1) x (free (a + 1) (omega arith))) ∙ added (size t) where
     added : (n : ℕ) → n + 1 + 1 ≡ n + 2
     added n = omega arith
 
@@ -80,21 +71,11 @@ module _ {X : Type 0} (t : Table X) (a : ℕ) (x y : X) where
 
 path_past : (t : Table EdgeRow) (e v n q : ℕ) → e + n < q → table.get (with_path t e v n) q ≡ table.get t q
 path_past t e v zero q l = refl
-path_past t e v (suc n) q l = get-put_other (with_path t e v n) (e + suc n) _ q (other e n q l) ∙ path_past t e v n q (less e n q l) where
-  other : (e n q : ℕ) → e + suc n < q → q ≢ e + suc n
-  other e n q l s = absurd (omega arith)
-
-  less : (e n q : ℕ) → e + suc n < q → e + n < q
-  less e n q l = omega arith
+path_past t e v (suc n) q l = get-put_other (with_path t e v n) (e + suc n) _ q (λ z. absurd (omega (arith, l, z))) ∙ path_past t e v n q (omega (arith, l))
 
 points_past : (t : Table Point) (v : ℕ) (ps : List Point) (n q : ℕ) → v + n < q → table.get (with_points t v ps n) q ≡ table.get t q
 points_past t v ps zero q l = refl
-points_past t v ps (suc n) q l = get-put_other (with_points t v ps n) (v + suc n) _ q (other v n q l) ∙ points_past t v ps n q (less v n q l) where
-  other : (e n q : ℕ) → e + suc n < q → q ≢ e + suc n
-  other e n q l s = absurd (omega arith)
-
-  less : (e n q : ℕ) → e + suc n < q → e + n < q
-  less e n q l = omega arith
+points_past t v ps (suc n) q l = get-put_other (with_points t v ps n) (v + suc n) _ q (λ z. absurd (omega (arith, l, z))) ∙ points_past t v ps n q (omega (arith, l))
 
 last : (e n : ℕ) → e + n < e + suc n
 last e n = omega arith
@@ -107,10 +88,7 @@ path_size t e v free zero = omega arith
 path_size t e v free (suc n) = size-put_new (with_path t e v n) (e + suc n) _ (path_past t e v n (e + suc n) (last e n) ∙ free (e + suc n) (first e n)) ∙ one_more (size (with_path t e v n)) (size t) n (path_size t e v free n)
 
 ring_size : (t : Table EdgeRow) (e v : ℕ) → ((q : ℕ) → e < q → table.get t q ≡ None) → (n : ℕ) → 0 < n → size (with_ring t e v n) ≡ size t + n
-ring_size t e v free n some = size-put_new (with_path t e v (n - 1)) (e + n) _ (path_past t e v (n - 1) (e + n) (less e n some) ∙ free (e + n) (omega arith)) ∙ ap (λ k. k + 1) (path_size t e v free (n - 1)) ∙ back (size t) n some where
-  less : (e n : ℕ) → 0 < n → e + (n - 1) < e + n
-  less e n l = omega arith
-
+ring_size t e v free n some = size-put_new (with_path t e v (n - 1)) (e + n) _ (path_past t e v (n - 1) (e + n) (omega (arith, some)) ∙ free (e + n) (omega arith)) ∙ ap (λ k. k + 1) (path_size t e v free (n - 1)) ∙ back (size t) n some where
   back : (a n : ℕ) → 0 < n → a + (n - 1) + 1 ≡ a + n
   back a n l = omega arith
 

@@ -23,9 +23,7 @@ use Rattle.command_laws.specs.NewFaces.{corner_points, nth, area_to, plane_round
 pub take_next : (ps : List Point) (k : ℕ) → k < length ps → take (suc k) ps ≡ take k ps ++ nth ps k ∷ []
 take_next [] k l = absurd (omega arith)
 take_next (p ∷ ps) zero l = refl
-take_next (p ∷ ps) (suc k) l = ap (λ qs. p ∷ qs) (take_next ps k (less k (length ps) l)) where
-  less : (i n : ℕ) → suc i < suc n → i < n
-  less i n l = omega arith
+take_next (p ∷ ps) (suc k) l = ap (λ qs. p ∷ qs) (take_next ps k (omega (arith, l)))
 
 pub starts_are : (M : Model) (hs : List ℕ) → map (point_of M) (map (tail M) hs) ≡ map (start M) hs
 starts_are M [] = refl
@@ -35,9 +33,7 @@ starts_are M (h ∷ hs) = ap (λ ps. start M h ∷ ps) (starts_are M hs)
 pub nth_start : (M : Model) (hs : List ℕ) (i : ℕ) → i < length hs → nth (map (start M) hs) i ≡ start M (get_or hs i 0)
 nth_start M [] i l = absurd (omega arith)
 nth_start M (h ∷ hs) zero l = refl
-nth_start M (h ∷ hs) (suc i) l = nth_start M hs i (less i (length hs) l) where
-  less : (i n : ℕ) → suc i < suc n → i < n
-  less i n l = omega arith
+nth_start M (h ∷ hs) (suc i) l = nth_start M hs i (omega (arith, l))
 
 pub as_many : (M : Model) (hs : List ℕ) → length (map (start M) hs) ≡ length hs
 as_many M [] = refl
@@ -61,9 +57,7 @@ place_inner : (next : ℕ → ℕ) (xs : List ℕ) (e i : ℕ) → IsPath next x
 place_inner next [] e i p l = absurd (omega arith)
 place_inner next (x ∷ []) e i p l = absurd (omega arith)
 place_inner next (x ∷ y ∷ ys) e zero p l = p.0
-place_inner next (x ∷ y ∷ ys) e (suc i) p l = place_inner next (y ∷ ys) e i p.1 (less i (length ys) l) where
-  less : (i n : ℕ) → suc (suc i) < suc (suc n) → suc i < suc n
-  less i n l = omega arith
+place_inner next (x ∷ y ∷ ys) e (suc i) p l = place_inner next (y ∷ ys) e i p.1 (omega (arith, l))
 
 place_last : (next : ℕ → ℕ) (xs : List ℕ) (e i : ℕ) → IsPath next xs e → suc i ≡ length xs → next (get_or xs i 0) ≡ e
 place_last next [] e i p l = absurd (omega arith)

@@ -1,6 +1,6 @@
 -- Several undos.
 use Rattle.std.specs.Prelude.{◌-◌, get_or}
-use Rattle.std.proofs.Common.{◌≡◌, ℕ, zero, suc, ◌≤◌, sym, ap, ◌∙◌, arith}
+use Rattle.std.proofs.Common.{◌≡◌, ℕ, zero, suc, sym, ap, ◌∙◌, arith}
 use Rattle.euler_operators.specs.Model.{empty_model}
 use Rattle.undo_journal.specs.Machine.{depth, undo}
 use Rattle.undo_journal.specs.Recorded.{model_at}
@@ -13,10 +13,7 @@ undos_go_back m zero l = sym (at_place m) ∙ ap (model_at m) (whole (depth m)) 
   whole n = omega arith
 undos_go_back m (suc n) l =
     let moved = undo_moves_the_place m in
-    undos_go_back (undo m) n (less n (depth m) (depth (undo m)) l moved.1)
+    undos_go_back (undo m) n (omega (arith, l, moved.1))
     ∙ ap (λ ms. get_or ms (depth (undo m) - n) empty_model) moved.0 ∙ ap (model_at m) (ap (λ k. k - n) moved.1 ∙ on (depth m) n) where
-      less : (n d e : ℕ) → suc n ≤ d → e ≡ d - 1 → n ≤ e
-      less n d e l p = omega arith
-
       on : (d n : ℕ) → d - 1 - n ≡ d - suc n
       on d n = omega arith

@@ -51,11 +51,9 @@ side_keeps c s d hs i M l = record {
 sides_keep : (c : Taken) (s : ℕ) (d : Point) (hs : List ℕ) (M : Model) (n : ℕ) → n ≤ length hs → Keeps M (with_sides c s d hs n M) c
 sides_keep c s d hs M zero l = record { loops = λ q m. refl; edges = λ q m. refl; vertices = λ q m. refl }
 sides_keep c s d hs M (suc n) l =
-    let a = sides_keep c s d hs M n (less n (length hs) l) in
+    let a = sides_keep c s d hs M n (omega (arith, l)) in
     let b = side_keeps c s d hs n (with_sides c s d hs n M) l in
-    record { loops = λ q m. b.loops q m ∙ a.loops q m; edges = λ q m. b.edges q m ∙ a.edges q m; vertices = λ q m. b.vertices q m ∙ a.vertices q m } where
-      less : (n k : ℕ) → suc n ≤ k → n ≤ k
-      less n k l = omega arith
+    record { loops = λ q m. b.loops q m ∙ a.loops q m; edges = λ q m. b.edges q m ∙ a.edges q m; vertices = λ q m. b.vertices q m ∙ a.vertices q m }
 
 all_of : (n : ℕ) → n ≤ n
 all_of n = omega arith

@@ -78,12 +78,7 @@ two_more a b n e = omega arith
 
 filled_size : {X : Type 0} (t : Table X) (a : ℕ) (x : ℕ → X) → ((q : ℕ) → a < q → table.get t q ≡ None) → (n : ℕ) → size (filled t a x n) ≡ size t + n
 filled_size t a x free zero = omega arith
-filled_size t a x free (suc n) = size-put_new (filled t a x n) (a + 1 + n) (x n) (filled_past t a x n (a + 1 + n) (past a n) ∙ free (a + 1 + n) (over a n)) ∙ one_more (size (filled t a x n)) (size t) n (filled_size t a x free n) where
-  past : (a n : ℕ) → a + n < a + 1 + n
-  past a n = omega arith
-
-  over : (a n : ℕ) → a < a + 1 + n
-  over a n = omega arith
+filled_size t a x free (suc n) = size-put_new (filled t a x n) (a + 1 + n) (x n) (filled_past t a x n (a + 1 + n) (omega arith) ∙ free (a + 1 + n) (omega arith)) ∙ one_more (size (filled t a x n)) (size t) n (filled_size t a x free n)
 
 no_more : (t : Tally) → t ≡ with_more t 0 0 0
 no_more t = λ i. record { v = zero_more t.v i; e = zero_more t.e i; f = zero_more t.f i; r = t.r; sum = t.sum } where
@@ -199,9 +194,7 @@ module _ (M : Model) (c : Taken) (f l : ℕ) (d : Point) (hs : List ℕ) (w : Re
   }
 
   pub step : (after : Sound N) → counts N s ≡ with_more (counts M s) (length hs) (2 * length hs) (length hs)
-  step after = counted_more M N s (length hs) (2 * length hs) (length hs) (agree after) (size_vertices (length hs)) (size_edges (length hs) (all (length hs))) (size_faces (length hs)) lifted_size ∙ evenly M s (length hs) where
-    all : (n : ℕ) → n ≤ n
-    all n = omega arith
+  step after = counted_more M N s (length hs) (2 * length hs) (length hs) (agree after) (size_vertices (length hs)) (size_edges (length hs) (omega arith)) (size_faces (length hs)) lifted_size ∙ evenly M s (length hs)
 
 swept : (M N : Model) (c : Taken) (f : ℕ) (d : Point) (ls : List ℕ) (s : ℕ) → Going M N c f d ls → solid_of N f ≡ s → let n = length (items_in M ls) in
     counts (prism_from f d (record { model = N; taken = c }) ls).model s ≡ with_more (counts N s) n (2 * n) n

@@ -46,10 +46,7 @@ more q a n m = omega arith
 -- as many rows put after the greatest number make it as much greater
 filled_last : (t : Table FaceRow) (a : ℕ) (x : ℕ → FaceRow) → table.greatest t ≤ a → (n : ℕ) → 0 < n → table.greatest (filled t a x n) ≡ a + n
 filled_last t a x low zero l = absurd (omega arith)
-filled_last t a x low (suc n) l = greatest-put_last (filled t a x n) (a + 1 + n) (x n) (below (table.greatest (filled t a x n)) a n (filled_greatest t a x low n)) ∙ same a n where
-  below : (g a n : ℕ) → g ≤ a + n → g < a + 1 + n
-  below g a n l = omega arith
-
+filled_last t a x low (suc n) l = greatest-put_last (filled t a x n) (a + 1 + n) (x n) (omega (arith, (filled_greatest t a x low n))) ∙ same a n where
   same : (a n : ℕ) → a + 1 + n ≡ a + suc n
   same a n = omega arith
 

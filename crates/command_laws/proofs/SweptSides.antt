@@ -67,11 +67,8 @@ module _ (f s : ℕ) (d : Point) (g : Growing) (l : ℕ) (ls : List ℕ) (w : Re
   tops_to : (k : ℕ) → k ≤ length hs → map (start Y) (top_items c.edge (length hs) k) ≡ take k (all_moved d (map (start X) hs))
   tops_to zero m = refl
   tops_to (suc k) m = map-append (start Y) (top_items c.edge (length hs) k) (plus (top_edge c.edge (length hs) k) ∷ [])
-      ∙ (λ t. tops_to k (before_last k (length hs) m) t ++ (top_start X c o d hs f l w.bounded r k m ∙ sym (here k m)) t ∷ [])
+      ∙ (λ t. tops_to k (omega (arith, m)) t ++ (top_start X c o d hs f l w.bounded r k m ∙ sym (here k m)) t ∷ [])
       ∙ sym (take_next (all_moved d (map (start X) hs)) k (subst (λ n. k < n) (sym (moved_many d (map (start X) hs) ∙ as_many X hs)) m)) where
-        before_last : (k n : ℕ) → suc k ≤ n → k ≤ n
-        before_last k n m = omega arith
-
         here : (k : ℕ) → k < length hs → nth (all_moved d (map (start X) hs)) k ≡ moved (start X (get_or hs k 0)) d
         here k m = nth_moved d (map (start X) hs) k (subst (λ n. k < n) (sym (as_many X hs)) m) ∙ ap (λ p. moved p d) (nth_start X hs k m)
 
@@ -101,14 +98,10 @@ module _ (f s : ℕ) (d : Point) (g : Growing) (l : ℕ) (ls : List ℕ) (w : Re
     round = side_items X c o d hs i
 
     row : table.get Z.faces k ≡ Some (side_face X c o d hs i)
-    row = later.faces k (new_low c.face i (length hs) m) ∙ ap (λ t. table.get t k) (faces_grown X c o d hs (length hs)) ∙ filled_new X.faces c.face (side_face X c o d hs) (length hs) i m where
-      new_low : (a i n : ℕ) → i < n → a + 1 + i ≤ a + n
-      new_low a i n m = omega arith
+    row = later.faces k (omega (arith, m)) ∙ ap (λ t. table.get t k) (faces_grown X c o d hs (length hs)) ∙ filled_new X.faces c.face (side_face X c o d hs) (length hs) i m
 
     none : rings_of Z k ≡ []
-    none = later.rings k (new_low c.face i (length hs) m) ∙ rings_new X c o d hs f l w.bounded r i m where
-      new_low : (a i n : ℕ) → i < n → a + 1 + i ≤ a + n
-      new_low a i n m = omega arith
+    none = later.rings k (omega (arith, m)) ∙ rings_new X c o d hs f l w.bounded r i m
 
     side_row : table.get Z.loops q ≡ table.get Y.loops q
     side_row = later.loops q (omega (arith, m)) (elim (IsIn_or_not q ls) [ inl j ↦ absurd (omega (arith, later_low q j)) | inr z ↦ z ])

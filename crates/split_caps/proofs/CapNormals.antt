@@ -1,14 +1,15 @@
 -- The normals of the caps: each cap below has the area of its cycle, and those of the holes that it takes in; the cap above is its opposite.
-use Rattle.std.specs.Prelude.{filter, fold}
-use Rattle.std.proofs.Common.{◌≡◌, ◌≢◌, ℕ, zero, suc, ◌+◌, ◌<◌, ◌≤◌, ℤ, ◌+ℤ◌, neg_ℤ, Bool, true, false, cond, not, nat_eq, nat_lt, ◌&&◌, List, [], ◌∷◌, ◌++◌, length, map, get_or, refl, sym, ap, subst, ◌∙◌, arith, true≢false}
+use Rattle.std.specs.Prelude.{filter}
+use Rattle.std.proofs.Common.{◌≡◌, ◌≢◌, ℕ, zero, suc, ◌+◌, ◌<◌, ◌≤◌, ℤ, ◌+ℤ◌, neg_ℤ, Bool, true, false, cond, nat_eq, List, [], ◌∷◌, ◌++◌, length, map, get_or, refl, sym, ap, subst, ◌∙◌, arith, true≢false, inl, inr}
 use Rattle.std.proofs.lemmas.Int.{ints}
-use Rattle.std.proofs.lemmas.Bool.Decides.{nat_tests}
-use Rattle.std.proofs.lemmas.List.{append-nil, append_assoc, length-map, map-append}
+use Rattle.std.proofs.lemmas.Bool.Decides.{eqb_tells}
+use Rattle.std.proofs.lemmas.Bool.{eq-eqb, ne_eqb}
+use Rattle.std.proofs.lemmas.List.{append-nil, append_assoc, map-append}
 use Rattle.euler_operators.specs.declared.Plane.{Plane}
 use Rattle.euler_operators.specs.declared.Point.{Point}
 use Rattle.euler_operators.specs.HalfEdge.{edge_of, mate}
-use Rattle.euler_operators.specs.Items.{IsIn, count, tick}
-use Rattle.euler_operators.specs.Vectors.{direction, moved, origin}
+use Rattle.euler_operators.specs.Items.{count, tick}
+use Rattle.euler_operators.specs.Vectors.{moved, origin}
 use Rattle.euler_operators.specs.Model.{Model}
 use Rattle.euler_operators.specs.Sound.{Has}
 use Rattle.euler_operators.specs.Effect.{kfmrh}
@@ -19,8 +20,8 @@ use Rattle.euler_operators.proofs.Vectors.{none_moved}
 use Rattle.shapes.specs.Measure.{normal}
 use Rattle.shapes.specs.Vectors.{negated}
 use Rattle.shapes.specs.Fresh.{Taken}
-use Rattle.shapes.specs.split.Section.{has_stray_hole, holes_in, is_hole}
-use Rattle.shapes.specs.split.Opening.{Caps, Opening, all_opened, hole_closed, next_opened, no_caps, opened_along, outer_caps}
+use Rattle.shapes.specs.split.Section.{is_hole}
+use Rattle.shapes.specs.split.Opening.{Caps, Opening, all_opened, holes_closed, next_opened, no_caps, opened_along, outer_caps}
 use Rattle.shapes.proofs.measures.Sums.{area_mates}
 use Rattle.split_opening_laws.specs.cycles.SectionCycles.{AreSectionCycles}
 use Rattle.split_opening_laws.specs.sections.Capped.{ArePlain, HasCaps, cap_faces}
@@ -28,13 +29,12 @@ use Rattle.split_opening_laws.specs.sections.InTurn.{CanBeOpenedInTurn}
 use Rattle.split_opening_laws.specs.strips.Opened.{CanBeOpened}
 use Rattle.split_opening_laws.proofs.sections.Capping.{caps_stay}
 use Rattle.split_opening_laws.proofs.sections.InTurn.{can_open, others_on}
-use Rattle.split_laws.specs.opened.Told.{AllLieAlong, LiesAlong}
-use Rattle.split_laws.proofs.Holes.{CanClose, others_can}
+use Rattle.split_laws.specs.volumes.Closing.{CanClose}
 use Rattle.split_laws.proofs.opened.Caps.{area_kept, lower_normal}
 use Rattle.split_laws.proofs.opened.Kept as kept
 use Rattle.split_laws.proofs.opened.Opened.{is_rewritten}
 use Rattle.split_laws.proofs.opened.Starts.{finish_old, start_old, swap}
-use Rattle.split_laws.proofs.volumes.Closed.{plain_alone}
+use Rattle.split_laws.proofs.volumes.Closed.{ClearOf, closing, closing_leads}
 use Rattle.split_laws.proofs.volumes.Taken as taken
 use Rattle.split_laws.proofs.volumes.Taken.{CanTake}
 use Rattle.split_caps.specs.Capped.{area_below, sum_of}
@@ -123,124 +123,69 @@ lowers M ks = map (λ k. normal M k.lower) ks
 abbrev pub uppers : Model → List Caps → List Point
 uppers M ks = map (λ k. normal M k.upper) ks
 
--- the second stands in a list in which the first does, and they differ
-differ : (x y : ℕ) (xs : List ℕ) → count x xs ≤ 1 → (x ≡ y → 2 ≤ count x xs) → x ≢ y
-differ x y xs once twice e = absurd (omega (arith, once, twice e))
+-- the normals of the faces that become rings of face x
+abbrev pub taken_by : Model → ℕ → List (ℕ × ℕ) → Point
+taken_by M x [] = origin
+taken_by M x (q ∷ qs) = cond (nat_eq q.0 x) (moved (normal M q.1) (taken_by M x qs)) (taken_by M x qs)
 
-module _ (A : Model) (s : ℕ) (us : List ℕ) (p : Plane) (o k : Caps) (ks : List Caps) (w : CanClose A s us o (k ∷ ks)) (way : direction p ≢ origin)
-    (low : LiesAlong A p o.lower) (up : LiesAlong A p o.upper) (all : AllLieAlong A p (k ∷ ks)) where
-  abbrev faces : List ℕ
-  faces = cap_faces (o ∷ k ∷ ks)
+-- face x becomes no ring
+abbrev IsNeverTaken : ℕ → List (ℕ × ℕ) → Type 0
+IsNeverTaken x [] = Unit {0}
+IsNeverTaken x (q ∷ qs) = (x ≢ q.1) × IsNeverTaken x qs
 
-  same_twice : (x y : ℕ) → x ≡ y → tick x y ≡ 1
-  same_twice x y e = ap (tick x) (sym e) ∙ tick_same x
+-- then its normal and those that it takes sum to t
+record Sums (x : ℕ) (t : Point) (qs : List (ℕ × ℕ)) (A : Model) : Type 0 where
+  never : IsNeverTaken x qs
+  sum : moved (taken_by A x qs) (normal A x) ≡ t
 
-  low_low : o.lower ≢ k.lower
-  low_low = differ o.lower k.lower faces (w.apart o.lower) (λ e. omega (arith, tick_same o.lower, same_twice o.lower k.lower e))
-
-  low_up : o.lower ≢ o.upper
-  low_up = differ o.lower o.upper faces (w.apart o.lower) (λ e. omega (arith, tick_same o.lower, same_twice o.lower o.upper e))
-
-  low_high : o.lower ≢ k.upper
-  low_high = differ o.lower k.upper faces (w.apart o.lower) (λ e. omega (arith, tick_same o.lower, same_twice o.lower k.upper e))
-
-  up_low : o.upper ≢ k.lower
-  up_low = differ o.upper k.lower faces (w.apart o.upper) (λ e. omega (arith, tick_same o.upper, same_twice o.upper k.lower e))
-
-  up_up : o.upper ≢ k.upper
-  up_up = differ o.upper k.upper faces (w.apart o.upper) (λ e. omega (arith, tick_same o.upper, same_twice o.upper k.upper e))
-
-  own : k.lower ≢ k.upper
-  own = differ k.lower k.upper faces (w.apart k.lower) (λ e. omega (arith, tick_same k.lower, same_twice k.lower k.upper e))
-
-  -- a later cap is none of the four
-  later : (x : ℕ) → IsIn x (cap_faces ks) → (x ≢ o.lower) × (x ≢ o.upper) × (x ≢ k.lower) × (x ≢ k.upper)
-  later x i = (
-    differ x o.lower faces (w.apart x) (λ e. omega (arith, i, same_twice x o.lower e)),
-    differ x o.upper faces (w.apart x) (λ e. omega (arith, i, same_twice x o.upper e)),
-    differ x k.lower faces (w.apart x) (λ e. omega (arith, i, same_twice x k.lower e)),
-    differ x k.upper faces (w.apart x) (λ e. omega (arith, i, same_twice x k.upper e)),
-  )
-
-  first : CanTake A p o.lower k.lower
-  first = record {
-    outers = w.part.sound.outers_there;
-    f_there = w.lower.there;
-    g_there = w.plain.0.there;
-    apart = low_low;
-    one_solid = w.plain.0.of_solid ∙ sym w.lower.of_solid;
-    alone = plain_alone A s k.lower w.plain.0;
-    f_along = low;
-    g_along = all.0;
-    some_way = way;
-  }
-
+module _ (A : Model) (p : Plane) (q : ℕ × ℕ) (w : CanTake A p q.0 q.1) where
   abbrev B : Model
-  B = kfmrh A o.lower k.lower
+  B = kfmrh A q.0 q.1
 
-  abbrev C : Model
-  C = kfmrh B o.upper k.upper
+  same_taken : (x : ℕ) (rs : List (ℕ × ℕ)) → ClearOf q.0 q.1 rs → taken_by B x rs ≡ taken_by A x rs
+  same_taken x [] c = refl
+  same_taken x (r ∷ rs) c = λ i. cond (nat_eq r.0 x) (moved (taken.normal_same A p q.0 q.1 w r.1 c.2 c.1 i) (same_taken x rs c.3 i)) (same_taken x rs c.3 i)
 
-  second : CanTake B p o.upper k.upper
-  second = record {
-    outers = taken.outers_still A p o.lower k.lower first;
-    f_there = taken.there_still A p o.lower k.lower first o.upper up_low w.upper.there;
-    g_there = taken.there_still A p o.lower k.lower first k.upper (λ e. own (sym e)) w.plain.1.there;
-    apart = up_up;
-    one_solid = taken.solid_same A p o.lower k.lower first k.upper (λ e. own (sym e)) ∙ w.plain.1.of_solid ∙ sym w.upper.of_solid ∙ sym (taken.solid_same A p o.lower k.lower first o.upper up_low);
-    alone = taken.rings_same A p o.lower k.lower first k.upper (λ e. low_high (sym e)) (λ e. own (sym e)) ∙ plain_alone A s k.upper w.plain.1;
-    f_along = taken.along_still A p o.lower k.lower first o.upper up_low up;
-    g_along = taken.along_still A p o.lower k.lower first k.upper (λ e. own (sym e)) all.1;
-    some_way = way;
+  sums_on : (x : ℕ) (t : Point) (rs : List (ℕ × ℕ)) → ClearOf q.0 q.1 rs → Sums x t (q ∷ rs) A → Sums x t rs B
+  sums_on x t rs c s = record {
+    never = s.never.1;
+    sum = elim (eqb_tells q.0 x) [
+      | inl e ↦
+          let taken_one : normal B x ≡ moved (normal A q.1) (normal A x) = ap (normal B) (sym e.1) ∙ taken.normal_f A p q.0 q.1 w ∙ ap (λ k. moved (normal A q.1) (normal A k)) e.1 in
+          (λ i. moved (same_taken x rs c i) (taken_one i)) ∙ moved_on (taken_by A x rs) (normal A q.1) (normal A x)
+          ∙ sym (ap (λ b. moved (cond b (moved (normal A q.1) (taken_by A x rs)) (taken_by A x rs)) (normal A x)) e.0) ∙ s.sum
+      | inr e ↦ (λ i. moved (same_taken x rs c i) (taken.normal_same A p q.0 q.1 w x (λ z. e.1 (sym z)) s.never.0 i))
+          ∙ sym (ap (λ b. moved (cond b (moved (normal A q.1) (taken_by A x rs)) (taken_by A x rs)) (normal A x)) e.0) ∙ s.sum
+    ];
   }
 
-  still_along : (x : ℕ) → x ≢ k.lower → x ≢ k.upper → LiesAlong A p x → LiesAlong C p x
-  still_along x a b along = taken.along_still B p o.upper k.upper second x b (taken.along_still A p o.lower k.lower first x a along)
+never_taken : (x : ℕ) (o : Caps) (hs : List Caps) → count x (cap_faces hs) ≡ 0 → IsNeverTaken x (closing o hs)
+never_taken x o [] z = tt
+never_taken x o (h ∷ hs) z = (
+  (λ e. absurd (omega (arith, z, tick_same x, ap (tick x) e))),
+  ((λ e. absurd (omega (arith, z, tick_same x, ap (tick x) e))), never_taken x o hs (omega (arith, z))),
+)
 
-  -- any other face
-  still_normal : (x : ℕ) → x ≢ o.lower → x ≢ o.upper → x ≢ k.lower → x ≢ k.upper → normal C x ≡ normal A x
-  still_normal x a b c d = taken.normal_same B p o.upper k.upper second x b d ∙ taken.normal_same A p o.lower k.lower first x a c
+-- once the holes are closed, a face that is no cap of theirs has its own normal and those that it took
+pub closed_normal : (M : Model) (s : ℕ) (p : Plane) (ks : List Caps) → CanClose M s p ks → (x : ℕ) → let hs = filter (λ k. k.hole) ks in count x (cap_faces hs) ≡ 0 →
+    normal (holes_closed M ks) x ≡ moved (taken_by M x (closing (outer_caps ks) hs)) (normal M x)
+closed_normal M s p ks w x z =
+    let o = outer_caps ks in
+    let hs = filter (λ k. k.hole) ks in
+    let t = moved (taken_by M x (closing o hs)) (normal M x) in
+    sym (none_moved (normal (holes_closed M ks) x)) ∙ (closing_leads M s p ks (Sums x t) (λ A q rs c clear n. sums_on A p q c x t rs clear n) w (record { never = never_taken x o hs z; sum = refl })).sum
 
-  pub lower_now : normal C o.lower ≡ moved (normal A k.lower) (normal A o.lower)
-  lower_now = taken.normal_same B p o.upper k.upper second o.lower low_up low_high ∙ taken.normal_f A p o.lower k.lower first
-
-  pub upper_now : normal C o.upper ≡ moved (normal A k.upper) (normal A o.upper)
-  upper_now = taken.normal_f B p o.upper k.upper second ∙ (λ i. moved
-      (taken.normal_same A p o.lower k.lower first k.upper (λ e. low_high (sym e)) (λ e. own (sym e)) i)
-      (taken.normal_same A p o.lower k.lower first o.upper (λ e. low_up (sym e)) up_low i))
-
-  pub low_still : LiesAlong C p o.lower
-  low_still = still_along o.lower low_low low_high low
-
-  pub up_still : LiesAlong C p o.upper
-  up_still = still_along o.upper up_low up_up up
-
-  pub later_along : (hs : List Caps) → ((x : ℕ) → IsIn x (cap_faces hs) → IsIn x (cap_faces ks)) → AllLieAlong A p hs → AllLieAlong C p hs
-  later_along [] within a = tt
-  later_along (h ∷ hs) within a =
-      let x = later h.lower (within h.lower (omega (arith, tick_same h.lower))) in
-      let y = later h.upper (within h.upper (omega (arith, tick_same h.upper))) in
-      (still_along h.lower x.2 x.3 a.0, still_along h.upper y.2 y.3 a.1, later_along hs (λ z i. within z (omega (arith, i))) a.2)
-
-  pub later_lowers : (hs : List Caps) → ((x : ℕ) → IsIn x (cap_faces hs) → IsIn x (cap_faces ks)) → lowers C hs ≡ lowers A hs
-  later_lowers [] within = refl
-  later_lowers (h ∷ hs) within = let x = later h.lower (within h.lower (omega (arith, tick_same h.lower))) in
-      λ i. still_normal h.lower x.0 x.1 x.2 x.3 i ∷ later_lowers hs (λ z j. within z (omega (arith, j))) i
-
-  pub later_uppers : (hs : List Caps) → ((x : ℕ) → IsIn x (cap_faces hs) → IsIn x (cap_faces ks)) → uppers C hs ≡ uppers A hs
-  later_uppers [] within = refl
-  later_uppers (h ∷ hs) within = let x = later h.upper (within h.upper (omega (arith, tick_same h.upper))) in
-      λ i. still_normal h.upper x.0 x.1 x.2 x.3 i ∷ later_uppers hs (λ z j. within z (omega (arith, j))) i
-
--- the outer cycle's caps have their own normals and those of the holes
-pub closed_normals : (A : Model) (s : ℕ) (us : List ℕ) (p : Plane) (o : Caps) (hs : List Caps) → CanClose A s us o hs → direction p ≢ origin → LiesAlong A p o.lower → LiesAlong A p o.upper → AllLieAlong A p hs →
-    let K = fold (hole_closed o) A hs in (normal K o.lower ≡ moved (sum_of (lowers A hs)) (normal A o.lower)) × (normal K o.upper ≡ moved (sum_of (uppers A hs)) (normal A o.upper))
-closed_normals A s us p o [] w way low up all = (sym (none_moved (normal A o.lower)), sym (none_moved (normal A o.upper)))
-closed_normals A s us p o (k ∷ ks) w way low up all =
-    let C = kfmrh (kfmrh A o.lower k.lower) o.upper k.upper in
-    let r = closed_normals C s us p o ks (others_can A s us o k ks w) way (low_still A s us p o k ks w way low up all) (up_still A s us p o k ks w way low up all) (later_along A s us p o k ks w way low up all ks (λ x i. i) all.2) in (
-      r.0 ∙ (λ i. moved (sum_of (later_lowers A s us p o k ks w way low up all ks (λ x j. j) i)) (lower_now A s us p o k ks w way low up all i)) ∙ moved_on (sum_of (lowers A ks)) (normal A k.lower) (normal A o.lower),
-      r.1 ∙ (λ i. moved (sum_of (later_uppers A s us p o k ks w way low up all ks (λ x j. j) i)) (upper_now A s us p o k ks w way low up all i)) ∙ moved_on (sum_of (uppers A ks)) (normal A k.upper) (normal A o.upper),
+-- the outer cycle's caps take those of the holes
+pub both_take : (M : Model) (o : Caps) (hs : List Caps) → o.lower ≢ o.upper → (taken_by M o.lower (closing o hs) ≡ sum_of (lowers M hs)) × (taken_by M o.upper (closing o hs) ≡ sum_of (uppers M hs))
+both_take M o [] ne = (refl, refl)
+both_take M o (h ∷ hs) ne =
+    let later = both_take M o hs ne in
+    let low = taken_by M o.lower (closing o hs) in
+    let up = taken_by M o.upper (closing o hs) in (
+      ap (λ b. cond b (moved (normal M h.lower) (cond (nat_eq o.upper o.lower) (moved (normal M h.upper) low) low)) (cond (nat_eq o.upper o.lower) (moved (normal M h.upper) low) low)) (eq-eqb o.lower o.lower refl)
+          ∙ ap (λ b. moved (normal M h.lower) (cond b (moved (normal M h.upper) low) low)) (ne_eqb o.upper o.lower (λ e. ne (sym e))) ∙ ap (moved (normal M h.lower)) later.0,
+      ap (λ b. cond b (moved (normal M h.lower) (cond (nat_eq o.upper o.upper) (moved (normal M h.upper) up) up)) (cond (nat_eq o.upper o.upper) (moved (normal M h.upper) up) up)) (ne_eqb o.lower o.upper ne)
+          ∙ ap (λ b. cond b (moved (normal M h.upper) up) up) (eq-eqb o.upper o.upper refl) ∙ ap (moved (normal M h.upper)) later.1,
     )
 
 -- ---- where there is a hole there is one outer cycle
@@ -266,15 +211,6 @@ outer_is (k ∷ ks) (suc i) l e one = go (outer_is ks i (omega (arith, l)) e) k.
   go : (length ks ≡ length (filter (λ k. k.hole) ks) + 1 → outer_caps ks ≡ get_or ks i no_caps) → (b : Bool) → k.hole ≡ b → suc (length ks) ≡ length (cond b (k ∷ filter (λ k. k.hole) ks) (filter (λ k. k.hole) ks)) + 1 → outer_caps (k ∷ ks) ≡ get_or ks i no_caps
   go later true is n = ap (λ b. cond b (outer_caps ks) k) is ∙ later (omega (arith, n))
   go later false is n = absurd (omega (arith, n, counted_holes ks i (omega (arith, l)) e))
-
-pub one_outer : (M : Model) (p : Plane) (cs : List (List ℕ)) (ks : List Caps) → map (λ k. k.hole) ks ≡ map (is_hole M p) cs → has_stray_hole M p cs ≡ false → 0 < length (filter (λ k. k.hole) ks) → length ks ≡ length (filter (λ k. k.hole) ks) + 1
-one_outer M p cs ks same stray some =
-    let size : length ks ≡ length cs = sym (length-map ks (λ k. k.hole)) ∙ ap length same ∙ length-map cs (is_hole M p) in
-    let holes : length (filter (λ k. k.hole) ks) ≡ length (holes_in M p cs) = sym (length-map (filter (λ k. k.hole) ks) (λ k. k.hole))
-    ∙ ap length (told_filtered (λ k. k.hole) (is_hole M p) (is_hole M p) ks cs same same) ∙ length-map (holes_in M p cs) (is_hole M p) in
-    omega (arith, size, holes, not_stray (length (holes_in M p cs)) (length cs) stray (omega (arith, holes, some))) where
-      not_stray : (n m : ℕ) → (nat_lt 0 n && not (nat_eq m (n + 1))) ≡ false → 0 < n → m ≡ n + 1
-      not_stray n m e l = grind (arith, nat_tests)
 
 -- ---- opposite vectors
 

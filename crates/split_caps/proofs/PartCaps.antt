@@ -1,57 +1,52 @@
 -- The caps once the holes are closed and the upper faces parted from the solid.
-use Rattle.std.proofs.Common.{◌≡◌, ◌≢◌, ℕ, zero, suc, ◌+◌, ◌<◌, ◌≤◌, Bool, true, false, cond, not, nat_eq, ◌&&◌, List, [], ◌∷◌, ◌++◌, length, map, get_or, Some, is_some, refl, sym, ap, subst, ◌∙◌, arith, true≢false, inl, inr}
-use Rattle.std.specs.Prelude.{filter, fold, pos, int_lt}
+use Rattle.std.proofs.Common.{◌≡◌, ◌≢◌, ℕ, zero, suc, ◌+◌, ◌<◌, ◌≤◌, Bool, true, false, cond, List, [], ◌∷◌, ◌++◌, length, map, get_or, Some, is_some, refl, sym, ap, subst, ◌∙◌, arith, true≢false, inl, inr}
+use Rattle.std.specs.Prelude.{filter, pos, int_lt}
 use Rattle.std.specs.Option.{option_map}
 use Rattle.std.proofs.lemmas.Bool.Decides.{eqb_tells}
 use Rattle.std.proofs.lemmas.Bool.{false_from_ne_true}
 use Rattle.std.proofs.lemmas.List.{append-nil}
 use Rattle.euler_operators.specs.declared.Plane.{Plane}
 use Rattle.euler_operators.specs.declared.Point.{Point}
-use Rattle.euler_operators.specs.Items.{count, IsIn}
+use Rattle.euler_operators.specs.Items.{count, IsIn, tick}
 use Rattle.euler_operators.specs.Vectors.{cross, direction, dot, is_on, moved, origin}
 use Rattle.euler_operators.specs.Table as table
-use Rattle.euler_operators.specs.Model.{Model, FaceRow, LoopContent, content, cycle, face_of, items_of, lone, outer, point_of, rings_of, solid_of, tail}
-use Rattle.euler_operators.specs.Sound.{Sound, Has, HasHalf}
-use Rattle.euler_operators.specs.Conditions.{face_at, lists, strictly_rises}
+use Rattle.euler_operators.specs.Model.{Model, FaceRow, LoopContent, content, cycle, face_of, lone, outer, point_of, solid_of, tail}
+use Rattle.euler_operators.specs.Sound.{Sound, Has}
+use Rattle.euler_operators.specs.Conditions.{lists, strictly_rises}
 use Rattle.euler_operators.specs.Effect.{kfmrh, part}
-use Rattle.euler_operators.proofs.Halves.{mate-mate}
-use Rattle.euler_operators.specs.HalfEdge.{mate}
 use Rattle.euler_operators.proofs.Lists.{count-append, tick_same}
 use Rattle.euler_operators.proofs.Vectors.{none_moved}
-use Rattle.euler_operators.proofs.Models.{mate_there, outer_row, same_solid, solid_row}
+use Rattle.euler_operators.proofs.Models.{same_solid, solid_row}
 use Rattle.euler_laws.proofs.shared.Counted.{counted_once}
 use Rattle.euler_laws.proofs.shared.Listed.{IsIn-from_listed, listed-from_in}
 use Rattle.euler_laws.proofs.shared.Rows.{face_there, solid_either}
-use Rattle.shapes.specs.Faces.{boundary, corners, finish, items_in, loops_of, start, vertices_in, vertices_on}
-use Rattle.shapes.specs.Measure.{area, normal}
+use Rattle.shapes.specs.Faces.{corners, loops_of, vertices_in, vertices_on}
+use Rattle.shapes.specs.Measure.{normal}
 use Rattle.shapes.specs.Vectors.{negated}
 use Rattle.shapes.specs.split.Drawing.{Drawing}
 use Rattle.shapes.specs.split.Section.{below_halves, holes_in, is_hole, section_cycles}
-use Rattle.shapes.specs.split.Opening.{Caps, Opening, holes_closed, hole_closed, no_caps, outer_caps}
+use Rattle.shapes.specs.split.Opening.{Caps, Opening, holes_closed, no_caps, outer_caps}
 use Rattle.shapes.specs.split.Split.{opened_at}
 use Rattle.shapes.proofs.measures.Products.{cross_moved}
 use Rattle.shapes.proofs.walks.SolidFaces.{face_of_loop}
 use Rattle.split_opening_laws.specs.sections.Capped.{HasCaps, IsPlain, cap_faces}
-use Rattle.split_opening_laws.specs.sections.InTurn.{CanBeOpenedInTurn, upper_faces}
-use Rattle.split_opening_laws.proofs.sections.InTurn.{all_on}
+use Rattle.split_opening_laws.specs.sections.InTurn.{upper_faces}
 use Rattle.split_opening_laws.proofs.sections.Capping.{caps_rise}
 use Rattle.split_laws.specs.SplitOps.{hole_ops}
 use Rattle.split_laws.specs.opened.Told.{AllLieAlong, LiesAlong}
 use Rattle.split_laws.specs.volumes.Laws.{CanBeSplit}
-use Rattle.split_laws.proofs.Closed as closing
-use Rattle.split_laws.proofs.Closed.{caps_counted, not_listed}
-use Rattle.split_laws.proofs.Flags.{flags_are}
-use Rattle.split_laws.proofs.Holes.{AreClosed, AreLevel, CanClose, can_close, holes_counted}
-use Rattle.split_laws.proofs.Closing.{CanPart}
-use Rattle.split_laws.proofs.opened.InTurn.{openings_lie, some_way}
-use Rattle.split_laws.proofs.volumes.Closed.{closing_carries}
+use Rattle.split_laws.proofs.Closed as after_closing
+use Rattle.split_laws.proofs.Flags.{flags_are, one_outer}
+use Rattle.split_laws.proofs.Holes.{AreClosed, AreLevel, holes_counted}
+use Rattle.split_laws.proofs.opened.InTurn.{openings_lie}
+use Rattle.split_laws.proofs.volumes.Closed.{closing, closing_carries}
 use Rattle.split_laws.proofs.volumes.Parted as parted
 use Rattle.split_laws.proofs.volumes.Split as split
 use Rattle.split_laws.proofs.volumes.Taken as taken
 use Rattle.split_laws.proofs.volumes.Taken.{CanTake}
 use Rattle.command_laws.proofs.Owners.{on_one}
 use Rattle.split_caps.specs.Capped.{IsCapOf, area_below, sum_of}
-use Rattle.split_caps.proofs.CapNormals.{both_opposite, closed_normals, lowers, normals_are, one_outer, outer_is, told_at, told_filtered, uppers}
+use Rattle.split_caps.proofs.CapNormals.{both_opposite, both_take, closed_normal, taken_by, lowers, normals_are, outer_is, told_at, told_filtered, uppers}
 use Rattle.split_caps.proofs.OpenedCaps.{AllFaceApart, LiesOn, along_at, apart_at, caps_apart, outer_on, plain_at, plain_lies}
 
 -- ---- a cap becomes a ring of another
@@ -101,35 +96,6 @@ module _ (M : Model) (p : Plane) (k f g : ℕ) (w : CanTake M p f g) where
       let w' = was (ap is_some (sym (taken.face_stays M p f g w k ne)) ∙ there) in
       (still_on w'.0, still_along ne w'.1)
 
--- ---- parting changes no normal
-
-module _ (M : Model) (s t : ℕ) (fs : List ℕ) where
-  part_items : (ls : List ℕ) → items_in (part M s t fs) ls ≡ items_in M ls
-  unfolding part content
-  part_items [] = refl
-  part_items (l ∷ ls) = ap (λ hs. items_of (content M l) ++ hs) (part_items ls)
-
-  part_area : (hs : List ℕ) → area (part M s t fs) hs ≡ area M hs
-  unfolding part tail point_of
-  part_area [] = refl
-  part_area (h ∷ hs) = ap (moved (cross (start M h) (finish M h))) (part_area hs)
-
-  outer_either : (b : Bool) (row : FaceRow) → (cond b (record row { solid = t }) row).outer ≡ row.outer
-  outer_either true row = refl
-  outer_either false row = refl
-
-  part_outer : (k : ℕ) → Has M.faces k → outer (part M s t fs) k ≡ outer M k
-  part_outer k there = outer_row (part M s t fs) k _ (parted.row_is M s t fs k ∙ ap (option_map (parted.go M s t fs k)) (face_there M k there)) ∙ outer_either (lists fs k) (record { solid = solid_of M k; outer = outer M k })
-
-  part_rings : (k : ℕ) → Has M.faces k → rings_of (part M s t fs) k ≡ rings_of M k
-  unfolding part
-  part_rings k there = ap (λ o. table.all_where (λ l row. nat_eq row.face k && not (nat_eq o l)) M.loops) (part_outer k there)
-
-  part_normal : (k : ℕ) → Has M.faces k → normal (part M s t fs) k ≡ normal M k
-  unfolding normal boundary loops_of
-  part_normal k there = (λ i. area (part M s t fs) (items_in (part M s t fs) (part_outer k there i ∷ part_rings k there i)))
-      ∙ ap (area (part M s t fs)) (part_items (outer M k ∷ rings_of M k)) ∙ part_area (items_in M (outer M k ∷ rings_of M k))
-
 -- ---- the caps of cycle i among all
 
 module _ (x : ℕ) where
@@ -153,28 +119,12 @@ module _ (x : ℕ) where
     go true r = omega (arith, r)
     go false r = r
 
-  in_lowers : (ks : List Caps) (i : ℕ) → i < length ks → count x ((get_or ks i no_caps).lower ∷ []) ≤ count x (map (λ k. k.lower) ks)
-  in_lowers [] i l = absurd (omega (arith, l))
-  in_lowers (k ∷ ks) zero l = omega arith
-  in_lowers (k ∷ ks) (suc i) l = omega (arith, in_lowers ks i (omega (arith, l)))
-
-  in_uppers : (ks : List Caps) (i : ℕ) → i < length ks → count x ((get_or ks i no_caps).upper ∷ []) ≤ count x (map (λ k. k.upper) ks)
-  in_uppers [] i l = absurd (omega (arith, l))
-  in_uppers (k ∷ ks) zero l = omega arith
-  in_uppers (k ∷ ks) (suc i) l = omega (arith, in_uppers ks i (omega (arith, l)))
-
 -- ---- some of the caps
 
-level_of : (us : List ℕ) (ks : List Caps) → ((j : ℕ) → j < length ks → let k = get_or ks j no_caps in (lists us k.lower ≡ false) × (lists us k.upper ≡ true)) → AreLevel us ks
-level_of us [] each = tt
-level_of us (k ∷ ks) each = let e = each 0 (omega arith) in (e.0, e.1, level_of us ks (λ j l. each (suc j) (omega (arith, l))))
-
-holes_along : (M : Model) (p : Plane) (ks : List Caps) → AllLieAlong M p ks → AllLieAlong M p (filter (λ k. k.hole) ks)
-holes_along M p [] a = tt
-holes_along M p (k ∷ ks) a = go k.hole (holes_along M p ks a.2) where
-  go : (b : Bool) → AllLieAlong M p (filter (λ k. k.hole) ks) → AllLieAlong M p (cond b (k ∷ filter (λ k. k.hole) ks) (filter (λ k. k.hole) ks))
-  go true r = (a.0, a.1, r)
-  go false r = r
+level_at : (us : List ℕ) (ks : List Caps) (i : ℕ) → i < length ks → AreLevel us ks → let k = get_or ks i no_caps in (lists us k.lower ≡ false) × (lists us k.upper ≡ true)
+level_at us [] i l a = absurd (omega (arith, l))
+level_at us (k ∷ ks) zero l a = (a.0, a.1)
+level_at us (k ∷ ks) (suc i) l a = level_at us ks i (omega (arith, l)) a.2
 
 holes_apart : (M : Model) (p : Plane) (ks : List Caps) → AllFaceApart M p ks → AllFaceApart M p (filter (λ k. k.hole) ks)
 holes_apart M p [] a = tt
@@ -224,16 +174,7 @@ module _ (d : Drawing) (above : List ℕ) (s : ℕ) (p : Plane) (t : ℕ) (w : C
   once x = omega (arith, counted_once x (above ++ cap_faces ks) caps.all_rise, count-append x above (cap_faces ks))
 
   closed : AreClosed X.model K s us (hole_ops ks) (filter (λ k. k.hole) ks)
-  closed = closing.closed d above s p w.opens bare w.no_stray
-
-  lower_unlisted : (i : ℕ) → i < length (opened_at d above s p).caps → lists us (get_or ks i no_caps).lower ≡ false
-  lower_unlisted i l = let x = (get_or ks i no_caps).lower in not_listed x us (omega (arith, once x, caps_counted x ks, in_lowers x ks i l, tick_same x, count-append x above (map (λ k. k.upper) ks)))
-
-  upper_listed : (i : ℕ) → i < length (opened_at d above s p).caps → lists us (get_or ks i no_caps).upper ≡ true
-  upper_listed i l = let x = (get_or ks i no_caps).upper in listed-from_in x us (omega (arith, in_uppers x ks i l, tick_same x, count-append x above (map (λ k. k.upper) ks)))
-
-  opened : CanBeOpenedInTurn above s X []
-  opened = all_on above s p begun cycles w.opens
+  closed = after_closing.closed d above s p w.opens bare w.no_stray
 
   all_apart : AllFaceApart X.model p ks
   all_apart = caps_apart above s p begun cycles w.opens bare tt
@@ -248,21 +189,6 @@ module _ (d : Drawing) (above : List ℕ) (s : ℕ) (p : Plane) (t : ℕ) (w : C
   areas : lowers X.model ks ≡ map (area_below d.model) cycles
   areas = normals_are above s p begun cycles w.opens bare
 
-  -- no edge lies between an upper face and another
-  never_across : (x : ℕ) → HasHalf X.model x → lists us (face_at X.model x) ≡ false → lists us (face_at X.model (mate x)) ≡ true → ⊥
-  never_across x there f g = absurd (omega (arith, opened.between.only x there f g))
-
-  whole : (x : ℕ) → HasHalf X.model x → lists us (face_at X.model x) ≡ lists us (face_at X.model (mate x))
-  whole x there = go (lists us (face_at X.model x)) (lists us (face_at X.model (mate x))) refl refl where
-    go : (a b : Bool) → lists us (face_at X.model x) ≡ a → lists us (face_at X.model (mate x)) ≡ b → lists us (face_at X.model x) ≡ lists us (face_at X.model (mate x))
-    go true true e f = e ∙ sym f
-    go false false e f = e ∙ sym f
-    go false true e f = absurd (never_across x there e f)
-    go true false e f = absurd (never_across (mate x) (mate_there X.model x there) f (ap (λ y. lists us (face_at X.model y)) (mate-mate x) ∙ e))
-
-  can_part : CanPart X.model s us
-  can_part = record { sound = opened.sound; of_solid = λ f l there. opened.upper_of_solid f l; whole = whole }
-
   -- ---- the caps of cycle i
 
   module _ (i : ℕ) (l : i < length (opened_at d above s p).caps) where
@@ -273,7 +199,10 @@ module _ (d : Drawing) (above : List ℕ) (s : ℕ) (p : Plane) (t : ℕ) (w : C
     plain = plain_at X.model s ks i l caps.plain
 
     along : LiesAlong X.model p k.lower × LiesAlong X.model p k.upper
-    along = along_at X.model p ks i l (openings_lie above s p begun cycles w.opens bare tt w.lie_on)
+    along = along_at X.model p ks i l all_along
+
+    level : (lists us k.lower ≡ false) × (lists us k.upper ≡ true)
+    level = level_at us ks i l (after_closing.level d above s p w.opens bare w.no_stray)
 
     -- what was there before the holes were closed, and is none of a hole's caps
     cap_row : k.hole ≡ false → (f : ℕ) → 1 ≤ count f (k.lower ∷ k.upper ∷ []) → table.get K.faces f ≡ table.get X.model.faces f
@@ -318,13 +247,13 @@ module _ (d : Drawing) (above : List ℕ) (s : ℕ) (p : Plane) (t : ℕ) (w : C
           there = there;
           solid = part_solid f s b in_K (same_solid X.model K f row ∙ simple.of_solid) is;
           on_plane = part_sound sound f there (part_on f stands.0);
-          across = ap (cross (direction p)) (part_normal K s t us f in_K) ∙ stands.1;
+          across = ap (cross (direction p)) (parted.normal_same K s t us f) ∙ stands.1;
         }
 
     pub both_caps : Sound P → k.hole ≡ false → IsCapOf P p s k.lower × IsCapOf P p t k.upper
     both_caps sound e = (
-      one_cap sound k.lower false e (omega (arith, tick_same k.lower)) plain.0 along.0 (lower_unlisted i l),
-      one_cap sound k.upper true e (omega (arith, tick_same k.upper)) plain.1 along.1 (upper_listed i l),
+      one_cap sound k.lower false e (omega (arith, tick_same k.lower)) plain.0 along.0 level.0,
+      one_cap sound k.upper true e (omega (arith, tick_same k.upper)) plain.1 along.1 level.1,
     )
 
     pub both_gone : k.hole ≡ true → (table.has P.faces k.lower ≡ false) × (table.has P.faces k.upper ≡ false)
@@ -335,41 +264,40 @@ module _ (d : Drawing) (above : List ℕ) (s : ℕ) (p : Plane) (t : ℕ) (w : C
     no_hole : k.hole ≡ false → is_hole d.model p (get_or cycles i []) ≡ false
     no_hole e = sym (told_at (λ k. k.hole) (is_hole d.model p) ks cycles i l flags) ∙ e
 
-    can_take : length holes < length ks → CanClose X.model s us (outer_caps ks) holes
-    can_take less = can_close X.model s us ks can_part caps.plain (λ x. omega (arith, once x))
-        (level_of us ks (λ j m. (lower_unlisted j m, upper_listed j m))) less
+    -- what a cap of an outer cycle takes, once the holes are closed
+    module _ (e : (get_or (opened_at d above s p).caps i no_caps).hole ≡ false) where
+      own : k.lower ≢ k.upper
+      own f = absurd (omega (arith, once k.lower, hole_apart k.lower ks i l e, tick_same k.lower, ap (tick k.lower) f))
 
-    -- what the caps of an outer cycle have once the holes are closed
-    abbrev HaveNormals : Caps → Type 0
-    HaveNormals c = (normal K c.lower ≡ moved (sum_of (lowers X.model holes)) (normal X.model c.lower)) × (normal K c.upper ≡ moved (sum_of (uppers X.model holes)) (normal X.model c.upper))
+      abbrev Take : Caps → Type 0
+      Take o = (taken_by X.model k.lower (closing o holes) ≡ sum_of (lowers X.model holes)) × (taken_by X.model k.upper (closing o holes) ≡ sum_of (uppers X.model holes))
 
-    have_normals : k.hole ≡ false → HaveNormals k
-    have_normals e = go holes refl where
-      go : (hs : List Caps) → holes ≡ hs → HaveNormals k
-      go [] none =
-          let same : K ≡ X.model = ap (λ hs. fold (hole_closed (outer_caps ks)) X.model hs) none in (
-            ap (λ A. normal A k.lower) same ∙ sym (none_moved (normal X.model k.lower)) ∙ ap (λ hs. moved (sum_of (lowers X.model hs)) (normal X.model k.lower)) (sym none),
-            ap (λ A. normal A k.upper) same ∙ sym (none_moved (normal X.model k.upper)) ∙ ap (λ hs. moved (sum_of (uppers X.model hs)) (normal X.model k.upper)) (sym none),
-          )
-      go (h ∷ hs) some =
-          let count = one_outer d.model p cycles ks flags w.no_stray (subst (λ xs. 0 < length xs) (sym some) (omega arith)) in
-          let is : outer_caps ks ≡ k = outer_is ks i l e count in
-          subst HaveNormals is (closed_normals X.model s us p (outer_caps ks) holes (can_take (omega (arith, count))) (some_way p w.lie_on.some_way)
-          (subst (λ o. LiesAlong X.model p o.lower) (sym is) along.0) (subst (λ o. LiesAlong X.model p o.upper) (sym is) along.1) (holes_along X.model p ks all_along))
+      take : Take (outer_caps ks)
+      take = go holes refl where
+        go : (hs : List Caps) → holes ≡ hs → Take (outer_caps ks)
+        go [] none = (
+          ap (λ hs. taken_by X.model k.lower (closing (outer_caps ks) hs)) none ∙ ap (λ hs. sum_of (lowers X.model hs)) (sym none),
+          ap (λ hs. taken_by X.model k.upper (closing (outer_caps ks) hs)) none ∙ ap (λ hs. sum_of (uppers X.model hs)) (sym none),
+        )
+        go (h ∷ hs) some =
+            let one = one_outer d.model p cycles ks flags w.no_stray (subst (λ xs. 0 < length xs) (sym some) (omega arith)) in
+            subst Take (sym (outer_is ks i l e one)) (both_take X.model k holes own)
 
-    parted_normal : (f : ℕ) → k.hole ≡ false → 1 ≤ count f (k.lower ∷ k.upper ∷ []) → Has X.model.faces f → normal P f ≡ normal K f
-    parted_normal f e j there = part_normal K s t us f (ap is_some (cap_row e f j) ∙ there)
+      lower_now : normal K k.lower ≡ moved (sum_of (lowers X.model holes)) (normal X.model k.lower)
+      lower_now = closed_normal X.model s p ks (split.closes d above s p t w) k.lower (omega (arith, once k.lower, hole_apart k.lower ks i l e, tick_same k.lower)) ∙ ap (λ v. moved v (normal X.model k.lower)) take.0
+
+      upper_now : normal K k.upper ≡ moved (sum_of (uppers X.model holes)) (normal X.model k.upper)
+      upper_now = closed_normal X.model s p ks (split.closes d above s p t w) k.upper (omega (arith, once k.upper, hole_apart k.upper ks i l e, tick_same k.upper)) ∙ ap (λ v. moved v (normal X.model k.upper)) take.1
 
     pub normals_told : k.hole ≡ false → (is_hole d.model p (get_or cycles i []) ≡ false) × (normal P k.lower ≡ moved (sum_of (map (area_below d.model) (holes_in d.model p cycles))) (area_below d.model (get_or cycles i []))) × (normal P k.upper ≡ negated (normal P k.lower))
     normals_told e =
-        let h = have_normals e in
-        let low = parted_normal k.lower e (omega (arith, tick_same k.lower)) plain.0.there in
-        let up = parted_normal k.upper e (omega (arith, tick_same k.upper)) plain.1.there in
+        let low = parted.normal_same K s t us k.lower in
+        let up = parted.normal_same K s t us k.upper in
         let hole_areas = told_filtered (λ k. normal X.model k.lower) (area_below d.model) (is_hole d.model p) ks cycles areas flags in (
           no_hole e,
-          low ∙ h.0 ∙ (λ j. moved (sum_of (hole_areas j)) (told_at (λ k. normal X.model k.lower) (area_below d.model) ks cycles i l areas j)),
-          up ∙ h.1 ∙ both_opposite (sum_of (lowers X.model holes)) (normal X.model k.lower) (sum_of (uppers X.model holes)) (normal X.model k.upper)
-              (opposite_sums X.model p holes (holes_apart X.model p ks all_apart)) (apart_at X.model p ks i l all_apart).opposite ∙ ap negated (sym h.0 ∙ sym low),
+          low ∙ lower_now e ∙ (λ j. moved (sum_of (hole_areas j)) (told_at (λ k. normal X.model k.lower) (area_below d.model) ks cycles i l areas j)),
+          up ∙ upper_now e ∙ both_opposite (sum_of (lowers X.model holes)) (normal X.model k.lower) (sum_of (uppers X.model holes)) (normal X.model k.upper)
+              (opposite_sums X.model p holes (holes_apart X.model p ks all_apart)) (apart_at X.model p ks i l all_apart).opposite ∙ ap negated (sym (lower_now e) ∙ sym low),
         )
 
     -- without holes
@@ -380,5 +308,5 @@ module _ (d : Drawing) (above : List ℕ) (s : ℕ) (p : Plane) (t : ℕ) (w : C
       pub faces_apart : (int_lt (dot (normal P k.lower) (direction p)) (pos 0) ≡ false) × (normal P k.upper ≡ negated (normal P k.lower))
       faces_apart =
           let a = apart_at X.model p ks i l all_apart in
-          let low = parted_normal k.lower own_flag (omega (arith, tick_same k.lower)) plain.0.there ∙ (have_normals own_flag).0 ∙ ap (λ hs. moved (sum_of (lowers X.model hs)) (normal X.model k.lower)) none ∙ none_moved (normal X.model k.lower) in
+          let low = parted.normal_same K s t us k.lower ∙ lower_now own_flag ∙ ap (λ hs. moved (sum_of (lowers X.model hs)) (normal X.model k.lower)) none ∙ none_moved (normal X.model k.lower) in
           (ap (λ v. int_lt (dot v (direction p)) (pos 0)) low ∙ sym a.told ∙ own_flag, (normals_told own_flag).2)

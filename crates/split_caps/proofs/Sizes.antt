@@ -169,28 +169,15 @@ rim_makes : (t : Table EdgeRow) (k y m : ℕ) → ((q : ℕ) → k < q → table
 rim_makes t k y m free zero = none (size t) where
   none : (n : ℕ) → n ≡ n + 0
   none n = omega arith
-rim_makes t k y m free (suc i) = size-put_new (with_rim t k y m i) (k + suc i) _ (rim_above t k y m i (k + suc i) (last k i) ∙ free (k + suc i) (above k i)) ∙ one_more (size (with_rim t k y m i)) (size t) i (rim_makes t k y m free i) where
-  last : (k i : ℕ) → k + i < k + suc i
-  last k i = omega arith
-
-  above : (k i : ℕ) → k < k + suc i
-  above k i = omega arith
+rim_makes t k y m free (suc i) = size-put_new (with_rim t k y m i) (k + suc i) _ (rim_above t k y m i (k + suc i) (omega arith) ∙ free (k + suc i) (omega arith)) ∙ one_more (size (with_rim t k y m i)) (size t) i (rim_makes t k y m free i)
 
 copies_make : (M : Model) (t : Table Point) (xs : List ℕ) (v : ℕ) → ((q : ℕ) → v < q → table.get t q ≡ None) → size (fold (λ t q. table.put t q.1 (point_of M q.0)) t (both_lists xs (numbers_after v (length xs)))) ≡ size t + length xs
 copies_make M t [] v free = none (size t) where
   none : (n : ℕ) → n ≡ n + 0
   none n = omega arith
 copies_make M t (x ∷ xs) v free =
-    copies_make M (table.put t (v + 1) (point_of M x)) xs (v + 1) (λ q l. get-put_other t (v + 1) (point_of M x) q (other v q l) ∙ free q (less v q l))
-    ∙ next_one (size t) (size (table.put t (v + 1) (point_of M x))) (length xs) (size-put_new t (v + 1) (point_of M x) (free (v + 1) (above v))) where
-      other : (v q : ℕ) → v + 1 < q → q ≢ v + 1
-      other v q l e = absurd (omega arith)
-
-      less : (v q : ℕ) → v + 1 < q → v < q
-      less v q l = omega arith
-
-      above : (v : ℕ) → v < v + 1
-      above v = omega arith
+    copies_make M (table.put t (v + 1) (point_of M x)) xs (v + 1) (λ q l. get-put_other t (v + 1) (point_of M x) q (λ e. absurd (omega (arith, l, e))) ∙ free q (omega (arith, l)))
+    ∙ next_one (size t) (size (table.put t (v + 1) (point_of M x))) (length xs) (size-put_new t (v + 1) (point_of M x) (free (v + 1) (omega arith)))
 
 opening_makes : (M : Model) (above : List ℕ) (s : ℕ) (c : Taken) (bs : List ℕ) → AreFree M c → let N = opened_along M above s c bs in (size N.vertices ≡ size M.vertices + length bs) × (size N.edges ≡ size M.edges + length bs)
 opening_makes M above s c bs free = (

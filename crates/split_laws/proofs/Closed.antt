@@ -110,7 +110,7 @@ module _ (d : Drawing) (above : List ℕ) (s : ℕ) (p : Plane)
   abbrev pub holes : List Caps
   holes = filter (λ k. k.hole) (opened_at d above s p).caps
 
-  pub can_take : length holes < length ks → CanClose X.model s us (outer_caps ks) holes
+  can_take : length holes < length ks → CanClose X.model s us (outer_caps ks) holes
   can_take = can_close X.model s us ks can_part caps.plain (λ x. omega (arith, once x)) level
 
   outer_left : (hs : List Caps) → holes ≡ hs → 0 < length hs → length holes < length ks

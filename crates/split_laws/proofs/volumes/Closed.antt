@@ -33,7 +33,7 @@ AllCanBeTaken M p s [] = Unit {0}
 AllCanBeTaken M p s (q ∷ qs) = IsCap M p s q.0 × IsCap M p s q.1 × (rings_of M q.1 ≡ []) × AllCanBeTaken M p s qs
 
 -- no later pair has the second cap of one, nor takes the first one
-abbrev ClearOf : ℕ → ℕ → List (ℕ × ℕ) → Type 0
+abbrev pub ClearOf : ℕ → ℕ → List (ℕ × ℕ) → Type 0
 ClearOf f g [] = Unit {0}
 ClearOf f g (q ∷ qs) = (q.0 ≢ g) × (q.1 ≢ g) × (q.1 ≢ f) × ClearOf f g qs
 
@@ -61,9 +61,10 @@ module _ (M : Model) (p : Plane) (f g s : ℕ) (w : CanTake M p f g) where
     all_still qs clear.3 can.3,
   )
 
--- what holds, and still does where one cap is taken, holds once all are
-pub all_carry : (M : Model) (p : Plane) (s : ℕ) (qs : List (ℕ × ℕ)) (holds : Model → Type 0) → ((A : Model) (f g : ℕ) → CanTake A p f g → holds A → holds (kfmrh A f g)) →
-    OutersAreOwn M → direction p ≢ origin → AllCanBeTaken M p s qs → AllClear qs → holds M → holds (all_taken M qs)
+-- what holds with the pairs that are left, and with the later ones where one cap is taken, holds with none once all are
+pub all_carry : (M : Model) (p : Plane) (s : ℕ) (qs : List (ℕ × ℕ)) (holds : List (ℕ × ℕ) → Model → Type 0) →
+    ((A : Model) (q : ℕ × ℕ) (rs : List (ℕ × ℕ)) → CanTake A p q.0 q.1 → ClearOf q.0 q.1 rs → holds (q ∷ rs) A → holds rs (kfmrh A q.0 q.1)) →
+    OutersAreOwn M → direction p ≢ origin → AllCanBeTaken M p s qs → AllClear qs → holds qs M → holds [] (all_taken M qs)
 all_carry M p s [] holds step outers way can clear now = now
 all_carry M p s (q ∷ qs) holds step outers way can clear now =
     let w : CanTake M p q.0 q.1 = record {
@@ -77,7 +78,7 @@ all_carry M p s (q ∷ qs) holds step outers way can clear now =
       g_along = can.1.along;
       some_way = way;
     } in
-    all_carry (kfmrh M q.0 q.1) p s qs holds step (taken.outers_still M p q.0 q.1 w) way (all_still M p q.0 q.1 s w qs clear.1 can.3) clear.2 (step M q.0 q.1 w now)
+    all_carry (kfmrh M q.0 q.1) p s qs holds step (taken.outers_still M p q.0 q.1 w) way (all_still M p q.0 q.1 s w qs clear.1 can.3) clear.2 (step M q qs w clear.1 now)
 
 -- ---- the caps of holes
 
@@ -163,7 +164,7 @@ module _ (M : Model) (s : ℕ) (p : Plane) where
     go true q later = subst AreCaps (sym (ap (λ b. cond b (outer_caps ks) k) q)) (later (sym (ap (λ b. not b || list_any (λ k. not k.hole) ks) q) ∙ e))
     go false q later = subst AreCaps (sym (ap (λ b. cond b (outer_caps ks) k) q)) (cap_of M p s k.lower w.0 a.0, cap_of M p s k.upper w.1 a.1)
 
-  pub holes_along : (ks : List Caps) → AllLieAlong M p ks → AllLieAlong M p (filter (λ k. k.hole) ks)
+  holes_along : (ks : List Caps) → AllLieAlong M p ks → AllLieAlong M p (filter (λ k. k.hole) ks)
   holes_along [] w = tt
   holes_along (k ∷ ks) w = go k.hole (holes_along ks w.2) where
     go : (b : Bool) → AllLieAlong M p (filter (λ k. k.hole) ks) → AllLieAlong M p (cond b (k ∷ filter (λ k. k.hole) ks) (filter (λ k. k.hole) ks))
@@ -183,18 +184,23 @@ all_less x (k ∷ ks) e = go k.hole refl (λ f. all_less x ks f) where
   go true q later = omega (arith, ap (told x k ks) q, later (sym (ap (λ b. not b || list_any (λ k. not k.hole) ks) q) ∙ e))
   go false q later = omega (arith, ap (told x k ks) q, holes_counted x ks)
 
-pub closing_carries : (M : Model) (s : ℕ) (p : Plane) (ks : List Caps) (holds : Model → Type 0) → ((A : Model) (f g : ℕ) → CanTake A p f g → holds A → holds (kfmrh A f g)) →
-    CanClose M s p ks → holds M → holds (holes_closed M ks)
-closing_carries M s p ks holds step w now = elim w.closable [
-  | inr none ↦ subst (λ hs. holds (fold (hole_closed (outer_caps ks)) M hs)) (sym none) now
+pub closing_leads : (M : Model) (s : ℕ) (p : Plane) (ks : List Caps) (holds : List (ℕ × ℕ) → Model → Type 0) →
+    ((A : Model) (q : ℕ × ℕ) (rs : List (ℕ × ℕ)) → CanTake A p q.0 q.1 → ClearOf q.0 q.1 rs → holds (q ∷ rs) A → holds rs (kfmrh A q.0 q.1)) →
+    CanClose M s p ks → holds (closing (outer_caps ks) (filter (λ k. k.hole) ks)) M → holds [] (holes_closed M ks)
+closing_leads M s p ks holds step w now = elim w.closable [
+  | inr none ↦ subst (λ hs. holds (closing (outer_caps ks) hs) M → holds [] (fold (hole_closed (outer_caps ks)) M hs)) (sym none) (λ h. h) now
   | inl some ↦
       let o : Caps = outer_caps ks in
       let hs : List Caps = filter (λ k. k.hole) ks in
       let c = outer_among M s p ks some w.plain w.along in
-      subst holds (sym (closed_by M o hs))
+      subst (holds []) (sym (closed_by M o hs))
       (all_carry M p s (closing o hs) holds step w.outers w.some_way (taken_all M p s o hs c.0 c.1 (holes_plain M s ks w.plain) (holes_along M s p ks w.along))
       (all_clear o hs (λ x. omega (arith, all_less x ks some, w.apart x))) now)
 ]
+
+pub closing_carries : (M : Model) (s : ℕ) (p : Plane) (ks : List Caps) (holds : Model → Type 0) → ((A : Model) (f g : ℕ) → CanTake A p f g → holds A → holds (kfmrh A f g)) →
+    CanClose M s p ks → holds M → holds (holes_closed M ks)
+closing_carries M s p ks holds step w now = closing_leads M s p ks (λ qs A. holds A) (λ A q rs c clear h. step A q.0 q.1 c h) w now
 
 pub closing_keeps : (M : Model) (s : ℕ) (p : Plane) (ks : List Caps) (u : ℕ) → CanClose M s p ks → six_volume (holes_closed M ks) u ≡ six_volume M u
 closing_keeps M s p ks u w = closing_carries M s p ks (λ A. six_volume A u ≡ six_volume M u) (λ A f g c e. taken.taken_keeps A p f g c u ∙ e) w refl
