@@ -1,5 +1,5 @@
 -- A list of calls is a history.
-use Rattle.std.proofs.Common.{◌≡◌, ℕ, zero, suc, ◌+◌, ◌<◌, ◌≤◌, inl, inr, Option, Some, None, List, [], ◌∷◌, ◌++◌, length, take, get_or, is_some, refl, sym, ap, subst, ◌∙◌, arith, true≢false}
+use Rattle.std.proofs.Common.{◌≡◌, ℕ, zero, suc, ◌+◌, ◌<◌, ◌≤◌, inl, inr, Option, Some, None, List, [], ◌∷◌, ◌++◌, length, take, get_or, refl, sym, ap, subst, ◌∙◌, arith}
 use Rattle.std.proofs.lemmas.Bool.{cases_lt}
 use Rattle.euler_operators.specs.Model.{Model, empty_model}
 use Rattle.euler_operators.specs.Sound.{Sound}
@@ -24,6 +24,7 @@ use Rattle.sweeps.specs.Calls.{LaminasAreCalls, BlocksAreCalls, SweepsAreCalls}
 use Rattle.gluing.specs.Calls.{GluesAreCalls}
 use Rattle.plane_split.specs.Calls.{SplitsAreCalls}
 use Rattle.call_lists.specs.Laws.{ListsAreHistories, ListsKeepConsistent}
+use Rattle.call_lists.proofs.Lists.{both_none}
 use Rattle.call_lists.specs.Making.{Moves, Acts, Tries, Makes}
 
 -- models that begin with the empty one, each sound, each made of the one before it by accepted operators
@@ -111,18 +112,14 @@ pub consistent_redo : (s : Machine) → IsConsistent s → IsConsistent (redo s)
 consistent_redo s c = consistent (redo s) (subst Whole (sym (redo_moves_the_place s).0) (whole s c))
 
 -- operators of which none is refused, each tried in its turn
-first_refused : (a b : Option Refusal) → first_of a b ≡ None → (a ≡ None) × (b ≡ None)
-first_refused None b e = (refl, e)
-first_refused (Some r) b e = absurd (true≢false (ap is_some e))
-
 accepted_all : (M : Model) (ops : List Op) → run_refusal M ops ≡ None → AreAccepted M ops
 accepted_all M [] e = tt
-accepted_all M (op ∷ ops) e = let both = first_refused (first_false M op) (run_refusal (effect M op) ops) e in (both.0, accepted_all (effect M op) ops both.1)
+accepted_all M (op ∷ ops) e = let both = both_none (first_false M op) (run_refusal (effect M op) ops) e in (both.0, accepted_all (effect M op) ops both.1)
 
 tried_all : (d : DraftState) (ops : List Op) → run_refusal d.model ops ≡ None → tried d ops ≡ record { session = d.session; model = effects d.model ops }
 tried_all d [] e = refl
 tried_all d (op ∷ ops) e =
-    let both = first_refused (first_false d.model op) (run_refusal (effect d.model op) ops) e in
+    let both = both_none (first_false d.model op) (run_refusal (effect d.model op) ops) e in
     ap (λ (o : Option Refusal). tried (unless o (draft_step d op) d) ops) both.0 ∙ tried_all (draft_step d op) ops both.1
 
 -- where a larger command of some operators is accepted, they make its model

@@ -27,7 +27,7 @@ first_some a b r e = ap (λ (x : Option Refusal). first_of x b) e
 stepped : (d : DraftState) (op : Op) (o : Option Refusal) → o ≡ None → unless o (draft_step d op) d ≡ draft_step d op
 stepped d op o e = ap (λ (x : Option Refusal). unless x (draft_step d op) d) e
 
-both_none : (a b : Option Refusal) → first_of a b ≡ None → (a ≡ None) × (b ≡ None)
+pub both_none : (a b : Option Refusal) → first_of a b ≡ None → (a ≡ None) × (b ≡ None)
 both_none None b e = (refl, e)
 both_none (Some r) b e = absurd (cc e)
 
