@@ -26,16 +26,13 @@ rim_cases t k y m zero q row at = inl at
 rim_cases t k y m (suc i) q row at = elim (get-put_cases (with_rim t k y m i) (k + suc i) _ q row at) [
   | inl p ↦ inr (
     subst (λ n. y < n) (sym (ap (λ r. r.plus_tail) p.1)) (either (nat_eq (suc i) m) (y + 1) (y + suc i + 1) (omega arith) (omega arith)),
-    subst (λ n. y < n) (sym (ap (λ r. r.minus_tail) p.1)) (past y i),
+    subst (λ n. y < n) (sym (ap (λ r. r.minus_tail) p.1)) (omega arith),
   )
   | inr p ↦ rim_cases t k y m i q row p.1
 ] where
   either : (b : Bool) (u v : ℕ) → y < u → y < v → y < cond b u v
   either true u v a c = a
   either false u v a c = c
-
-  past : (a b : ℕ) → a < a + suc b
-  past a b = omega arith
 
 -- an edge was there, or has one of the next i numbers
 pub rim_numbers : (t : Table EdgeRow) (k y m i q : ℕ) (row : EdgeRow) → table.get (with_rim t k y m i) q ≡ Some row → (table.get t q ≡ Some row) ⊎ ((k < q) × (q ≤ k + i))

@@ -1,5 +1,6 @@
 -- What is between the upper faces and the others, once a solid is opened along one cycle of several.
-use Rattle.std.proofs.Common.{◌≡◌, ℕ, ◌+◌, ◌≤◌, Bool, true, false, List, [], ◌∷◌, ◌++◌, length, map, is_some, unwrap_or, refl, sym, ap, subst, ◌∙◌, arith, true≢false, inl, inr}
+use Rattle.std.proofs.Common.{◌≡◌, ℕ, ◌+◌, ◌≤◌, true, false, List, [], ◌∷◌, ◌++◌, length, map, is_some, unwrap_or, sym, ap, subst, ◌∙◌, arith, true≢false, inl, inr}
+use Rattle.std.proofs.lemmas.Bool.{false_from_ne_true}
 use Rattle.std.proofs.lemmas.Bool.Decides.{eqb_tells}
 use Rattle.euler_operators.specs.Items.{count, IsIn}
 use Rattle.euler_operators.proofs.Lists.{count-append, IsIn_or_not}
@@ -28,12 +29,6 @@ use Rattle.split_opening_laws.proofs.sections.OpenedFaces.{upper_row, mate_face,
 last_listed : (fs : List ℕ) (u : ℕ) → lists (fs ++ u ∷ []) u ≡ true
 last_listed [] u = first_listed u []
 last_listed (g ∷ gs) u = rest_listed g u (gs ++ u ∷ []) (last_listed gs u)
-
-unlisted : (fs : List ℕ) (f : ℕ) → (lists fs f ≡ true → ⊥) → lists fs f ≡ false
-unlisted fs f ne = go (lists fs f) refl where
-  go : (b : Bool) → lists fs f ≡ b → lists fs f ≡ false
-  go true e = absurd (ne e)
-  go false e = e
 
 module _ (M : Model) (above : List ℕ) (s : ℕ) (c : Taken) (bs : List ℕ) (cs : List (List ℕ)) (fs : List ℕ)
     (sound : Sound M) (free : AreFree M c) (apart : AreApartCycles M above s (bs ∷ cs)) (upper_there : (f : ℕ) → lists fs f ≡ true → Has M.faces f)
@@ -77,7 +72,7 @@ module _ (M : Model) (above : List ℕ) (s : ℕ) (c : Taken) (bs : List ℕ) (c
 
   -- the cap below isn't an upper face
   below_unlisted : (b : ℕ) → IsIn b bs → lists (fs ++ u ∷ []) (c.face + 1) ≡ false
-  below_unlisted b i = other_last fs u (c.face + 1) (λ e. absurd (omega (arith, e, long bs i))) ∙ unlisted fs (c.face + 1) (λ l. absurd (omega (arith, upper_old (c.face + 1) l))) where
+  below_unlisted b i = other_last fs u (c.face + 1) (λ e. absurd (omega (arith, e, long bs i))) ∙ false_from_ne_true (lists fs (c.face + 1)) (λ l. absurd (omega (arith, upper_old (c.face + 1) l))) where
     long : (qs : List ℕ) → IsIn b qs → 1 ≤ length qs
     long [] i = absurd (omega arith)
     long (q ∷ qs) i = omega arith
