@@ -26,16 +26,13 @@ use Rattle.command_laws.proofs.Standing.{rings_same, stands}
 
 -- ---- a lamina
 
-past : (q a i : ℕ) → q ≤ a → q ≢ a + suc i
-past q a i m e = absurd (omega arith)
-
 path_keeps : (t : Table EdgeRow) (e v n q : ℕ) → q ≤ e → table.get (with_path t e v n) q ≡ table.get t q
 path_keeps t e v zero q m = refl
-path_keeps t e v (suc n) q m = get-put_other (with_path t e v n) (e + suc n) _ q (past q e n m) ∙ path_keeps t e v n q m
+path_keeps t e v (suc n) q m = get-put_other (with_path t e v n) (e + suc n) _ q (λ z. absurd (omega (arith, m, z))) ∙ path_keeps t e v n q m
 
 points_keep : (t : Table Point) (v : ℕ) (ps : List Point) (n q : ℕ) → q ≤ v → table.get (with_points t v ps n) q ≡ table.get t q
 points_keep t v ps zero q m = refl
-points_keep t v ps (suc n) q m = get-put_other (with_points t v ps n) (v + suc n) _ q (past q v n m) ∙ points_keep t v ps n q m
+points_keep t v ps (suc n) q m = get-put_other (with_points t v ps n) (v + suc n) _ q (λ z. absurd (omega (arith, m, z))) ∙ points_keep t v ps n q m
 
 module _ (M : Model) (s : ℕ) (ps : List Point) where
   pub lamina_keeps : (l : ℕ) → Has M.loops l → table.get (lamina_model M s ps).loops l ≡ table.get M.loops l

@@ -1,6 +1,6 @@
 -- The two faces of a lamina.
 use Rattle.std.specs.Prelude.{length, map, reverse, take, ◌-◌, nat_le}
-use Rattle.std.proofs.Common.{◌≡◌, ◌≢◌, ℕ, zero, suc, ◌+◌, ◌≤◌, ◌<◌, Bool, true, false, not, nat_eq, ◌&&◌, List, [], ◌∷◌, ◌++◌, Some, None, is_some, refl, sym, ap, subst, ◌∙◌, arith, inl, inr}
+use Rattle.std.proofs.Common.{◌≡◌, ◌≢◌, ℕ, zero, suc, ◌+◌, ◌≤◌, ◌<◌, true, not, nat_eq, ◌&&◌, List, [], ◌∷◌, ◌++◌, Some, None, is_some, refl, sym, ap, subst, ◌∙◌, arith, inl, inr}
 use Rattle.std.proofs.lemmas.List.{map-append, reverse-append}
 use Rattle.std.proofs.lemmas.Bool.Decides.{nat_tests, eqb_tells}
 use Rattle.euler_operators.specs.declared.Point.{Point}
@@ -17,6 +17,7 @@ use Rattle.euler_operators.proofs.Models.{content_row, face_row, solid_row, oute
 use Rattle.euler_laws.proofs.shared.Goes.{all_hold}
 use Rattle.shapes.specs.Faces.{start}
 use Rattle.shapes.specs.Fresh.{Taken, taken_in, numbers_after}
+use Rattle.euler_operators.proofs.Tests.{less_still, none_but}
 use Rattle.shapes.specs.Lamina.{lamina_conditions, lamina_refusal, lamina_at, lamina_model, with_points, with_path}
 use Rattle.shapes.proofs.fresh.Rows.{get-put_cases, greatest-put_last}
 use Rattle.sweeps_laws.specs.lamina.Path.{out, back}
@@ -26,7 +27,7 @@ use Rattle.sweeps_laws.proofs.swept.Lifted.{Bounded}
 use Rattle.sweeps_laws.proofs.FromSound.{sound_bounded}
 use Rattle.undo_journal.specs.Machine.{held}
 use Rattle.command_laws.specs.NewFaces.{nth, turned_back, last_face, IsFaceOf, LaminaHasTwoFaces, LaminaTakesTwoFaces}
-use Rattle.command_laws.proofs.Outlines.{take_next, points_are, plane_is}
+use Rattle.command_laws.proofs.Outlines.{take_next, take_whole, points_are, plane_is}
 use Rattle.command_laws.proofs.SweptLoops.{face_counted}
 
 -- ---- the loop the other way round, from its least half-edge on
@@ -56,9 +57,6 @@ back_from_first e j = ap canonical (back_last e j) ∙ first_moved (minus (e + 1
 other_place : (a i j : ℕ) → i ≢ j → a + suc i ≢ a + suc j
 other_place a i j ne e = ne (omega arith)
 
-less_still : (i j : ℕ) → i < suc j → i ≢ j → i < j
-less_still i j l ne = grind arith
-
 path_new : (t : Table EdgeRow) (e v j i : ℕ) → i < j → table.get (with_path t e v j) (e + suc i) ≡ Some (record { plus_tail = v + suc i; minus_tail = v + suc i + 1 })
 path_new t e v zero i l = absurd (omega arith)
 path_new t e v (suc j) i l = elim (eqb_tells i j) [
@@ -73,23 +71,6 @@ points_new t v ps (suc j) i l = elim (eqb_tells i j) [
   | inl p ↦ subst (λ k. table.get (with_points t v ps (suc j)) (v + suc k) ≡ Some (nth ps k)) (sym p.1) (get-put_here (with_points t v ps j) (v + suc j) (nth ps j))
   | inr p ↦ get-put_other (with_points t v ps j) (v + suc j) (nth ps j) (v + suc i) (other_place v i j p.1) ∙ points_new t v ps j i (less_still i j l p.1)
 ]
-
-take_whole : (ps : List Point) → take (length ps) ps ≡ ps
-take_whole [] = refl
-take_whole (p ∷ ps) = ap (λ qs. p ∷ qs) (take_whole ps)
-
--- a loop that isn't of a face, or is its outer one, is no ring of it
-no_ring : (g f o q : ℕ) → (g ≡ f → o ≡ q) → (nat_eq g f && not (nat_eq o q)) ≡ false
-no_ring g f o q same = elim (eqb_tells g f) [
-  | inl p ↦ (let e : nat_eq o q ≡ true = ap (λ k. nat_eq k q) (same p.1) ∙ alike q in ap (λ b. nat_eq g f && not b) e ∙ never (nat_eq g f))
-  | inr p ↦ ap (λ b. b && not (nat_eq o q)) p.0
-] where
-  alike : (n : ℕ) → nat_eq n n ≡ true
-  alike n = grind (arith, nat_tests)
-
-  never : (b : Bool) → (b && false) ≡ false
-  never true = refl
-  never false = refl
 
 -- ---- a lamina of the points a, b and others
 
@@ -118,30 +99,27 @@ module _ (M : Model) (c : Taken) (s : ℕ) (a b : Point) (rest : List Point) (bo
   abbrev second_loop : LoopRow
   second_loop = record { face = c.face + 2; content = cycle halves_back }
 
-  one_two : (n : ℕ) → n + 1 ≢ n + 2
-  one_two n e = absurd (omega arith)
-
   face_one : table.get drawn.faces (c.face + 1) ≡ Some first_face
-  face_one = get-put_other (table.put M.faces (c.face + 1) first_face) (c.face + 2) second_face (c.face + 1) (one_two c.face) ∙ get-put_here M.faces (c.face + 1) first_face
+  face_one = get-put_other (table.put M.faces (c.face + 1) first_face) (c.face + 2) second_face (c.face + 1) (λ z. absurd (omega (arith, z))) ∙ get-put_here M.faces (c.face + 1) first_face
 
   face_two : table.get drawn.faces (c.face + 2) ≡ Some second_face
   face_two = get-put_here (table.put M.faces (c.face + 1) first_face) (c.face + 2) second_face
 
   loop_one : table.get drawn.loops (c.loop + 1) ≡ Some first_loop
-  loop_one = get-put_other (table.put M.loops (c.loop + 1) first_loop) (c.loop + 2) second_loop (c.loop + 1) (one_two c.loop) ∙ get-put_here M.loops (c.loop + 1) first_loop
+  loop_one = get-put_other (table.put M.loops (c.loop + 1) first_loop) (c.loop + 2) second_loop (c.loop + 1) (λ z. absurd (omega (arith, z))) ∙ get-put_here M.loops (c.loop + 1) first_loop
 
   loop_two : table.get drawn.loops (c.loop + 2) ≡ Some second_loop
   loop_two = get-put_here (table.put M.loops (c.loop + 1) first_loop) (c.loop + 2) second_loop
 
   plain_one : rings_of drawn (c.face + 1) ≡ []
-  plain_one = all_where_none (λ q row. nat_eq row.face (c.face + 1) && not (nat_eq (outer drawn (c.face + 1)) q)) drawn.loops (λ q y at. no_ring y.face (c.face + 1) (outer drawn (c.face + 1)) q (λ e.
+  plain_one = all_where_none (λ q row. nat_eq row.face (c.face + 1) && not (nat_eq (outer drawn (c.face + 1)) q)) drawn.loops (λ q y at. none_but y.face (c.face + 1) (outer drawn (c.face + 1)) q (λ e.
       outer_row drawn (c.face + 1) first_face face_one ∙ elim (get-put_cases (table.put M.loops (c.loop + 1) first_loop) (c.loop + 2) second_loop q y at) [
         | inl p ↦ absurd (omega (arith, ap (λ r. r.face) p.1, e))
         | inr p ↦ elim (get-put_cases M.loops (c.loop + 1) first_loop q y p.1) [ inl r ↦ sym r.0 | inr r ↦ absurd (omega (arith, subst (λ k. k ≤ c.face) (face_row M q y r.1) (bounded.loop_faces q), e)) ]
       ]))
 
   plain_two : rings_of drawn (c.face + 2) ≡ []
-  plain_two = all_where_none (λ q row. nat_eq row.face (c.face + 2) && not (nat_eq (outer drawn (c.face + 2)) q)) drawn.loops (λ q y at. no_ring y.face (c.face + 2) (outer drawn (c.face + 2)) q (λ e.
+  plain_two = all_where_none (λ q row. nat_eq row.face (c.face + 2) && not (nat_eq (outer drawn (c.face + 2)) q)) drawn.loops (λ q y at. none_but y.face (c.face + 2) (outer drawn (c.face + 2)) q (λ e.
       outer_row drawn (c.face + 2) second_face face_two ∙ elim (get-put_cases (table.put M.loops (c.loop + 1) first_loop) (c.loop + 2) second_loop q y at) [
         | inl p ↦ sym p.0
         | inr p ↦ elim (get-put_cases M.loops (c.loop + 1) first_loop q y p.1) [

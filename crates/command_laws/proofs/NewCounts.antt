@@ -77,15 +77,9 @@ points_past : (t : Table Point) (v : ℕ) (ps : List Point) (n q : ℕ) → v + 
 points_past t v ps zero q l = refl
 points_past t v ps (suc n) q l = get-put_other (with_points t v ps n) (v + suc n) _ q (λ z. absurd (omega (arith, l, z))) ∙ points_past t v ps n q (omega (arith, l))
 
-last : (e n : ℕ) → e + n < e + suc n
-last e n = omega arith
-
-first : (e n : ℕ) → e < e + suc n
-first e n = omega arith
-
 path_size : (t : Table EdgeRow) (e v : ℕ) → ((q : ℕ) → e < q → table.get t q ≡ None) → (n : ℕ) → size (with_path t e v n) ≡ size t + n
 path_size t e v free zero = omega arith
-path_size t e v free (suc n) = size-put_new (with_path t e v n) (e + suc n) _ (path_past t e v n (e + suc n) (last e n) ∙ free (e + suc n) (first e n)) ∙ one_more (size (with_path t e v n)) (size t) n (path_size t e v free n)
+path_size t e v free (suc n) = size-put_new (with_path t e v n) (e + suc n) _ (path_past t e v n (e + suc n) (omega arith) ∙ free (e + suc n) (omega arith)) ∙ one_more (size (with_path t e v n)) (size t) n (path_size t e v free n)
 
 ring_size : (t : Table EdgeRow) (e v : ℕ) → ((q : ℕ) → e < q → table.get t q ≡ None) → (n : ℕ) → 0 < n → size (with_ring t e v n) ≡ size t + n
 ring_size t e v free n some = size-put_new (with_path t e v (n - 1)) (e + n) _ (path_past t e v (n - 1) (e + n) (omega (arith, some)) ∙ free (e + n) (omega arith)) ∙ ap (λ k. k + 1) (path_size t e v free (n - 1)) ∙ back (size t) n some where
@@ -94,7 +88,7 @@ ring_size t e v free n some = size-put_new (with_path t e v (n - 1)) (e + n) _ (
 
 points_size : (t : Table Point) (v : ℕ) (ps : List Point) → ((q : ℕ) → v < q → table.get t q ≡ None) → (n : ℕ) → size (with_points t v ps n) ≡ size t + n
 points_size t v ps free zero = omega arith
-points_size t v ps free (suc n) = size-put_new (with_points t v ps n) (v + suc n) _ (points_past t v ps n (v + suc n) (last v n) ∙ free (v + suc n) (first v n)) ∙ one_more (size (with_points t v ps n)) (size t) n (points_size t v ps free n)
+points_size t v ps free (suc n) = size-put_new (with_points t v ps n) (v + suc n) _ (points_past t v ps n (v + suc n) (omega arith) ∙ free (v + suc n) (omega arith)) ∙ one_more (size (with_points t v ps n)) (size t) n (points_size t v ps free n)
 
 -- ---- a lamina
 
@@ -117,11 +111,8 @@ module _ (M : Model) (s : ℕ) (ps : List Point) (sound : Sound M) (goes : lamin
   abbrev second_face : FaceRow
   second_face = record { solid = s; outer = c.loop + 2 }
 
-  one_two : (a : ℕ) → a + 1 ≢ a + 2
-  one_two a e = absurd (omega arith)
-
   face_one : table.get N.faces (c.face + 1) ≡ Some first_face
-  face_one = get-put_other (table.put M.faces (c.face + 1) first_face) (c.face + 2) second_face (c.face + 1) (one_two c.face) ∙ get-put_here M.faces (c.face + 1) first_face
+  face_one = get-put_other (table.put M.faces (c.face + 1) first_face) (c.face + 2) second_face (c.face + 1) (λ z. absurd (omega (arith, z))) ∙ get-put_here M.faces (c.face + 1) first_face
 
   face_two : table.get N.faces (c.face + 2) ≡ Some second_face
   face_two = get-put_here (table.put M.faces (c.face + 1) first_face) (c.face + 2) second_face
@@ -149,7 +140,7 @@ module _ (M : Model) (s : ℕ) (ps : List Point) (sound : Sound M) (goes : lamin
 
   loop_cases : (q : ℕ) → (table.get N.loops q ≡ table.get M.loops q) ⊎ (solid_of_loop N q ≡ s)
   loop_cases q = elim (eqb_tells q (c.loop + 1)) [
-    | inl e ↦ inr (ap (solid_of_loop N) e.1 ∙ ap (solid_of N) (face_row N (c.loop + 1) _ (get-put_other (table.put M.loops (c.loop + 1) _) (c.loop + 2) _ (c.loop + 1) (one_two c.loop) ∙ get-put_here M.loops (c.loop + 1) _)) ∙ solid_row N (c.face + 1) first_face face_one)
+    | inl e ↦ inr (ap (solid_of_loop N) e.1 ∙ ap (solid_of N) (face_row N (c.loop + 1) _ (get-put_other (table.put M.loops (c.loop + 1) _) (c.loop + 2) _ (c.loop + 1) (λ z. absurd (omega (arith, z))) ∙ get-put_here M.loops (c.loop + 1) _)) ∙ solid_row N (c.face + 1) first_face face_one)
     | inr m ↦ elim (eqb_tells q (c.loop + 2)) [
       | inl e ↦ inr (ap (solid_of_loop N) e.1 ∙ ap (solid_of N) (face_row N (c.loop + 2) _ (get-put_here (table.put M.loops (c.loop + 1) _) (c.loop + 2) _)) ∙ solid_row N (c.face + 2) second_face face_two)
       | inr n ↦ inl (two_kept M.loops c.loop _ _ q m.1 n.1)

@@ -13,6 +13,7 @@ use Rattle.euler_operators.proofs.Std.{IsIn-get_or}
 use Rattle.shapes.specs.Prism.{next_place}
 use Rattle.sweeps_laws.proofs.swept.Numbers.{next_cases}
 use Rattle.sweeps_laws.proofs.swept.Lifted.{IsPathOf}
+use Rattle.euler_operators.proofs.Members.{IsIn_rest}
 use Rattle.euler_operators.proofs.Rotations.{IsIn_head}
 use Rattle.euler_laws.proofs.shared.Loops.{loop_sound, IsLoop}
 use Rattle.shapes.specs.Faces.{start, finish, loops_of, items_in, boundary, corners, vertices_in, vertices_on}
@@ -24,6 +25,10 @@ pub take_next : (ps : List Point) (k : ℕ) → k < length ps → take (suc k) p
 take_next [] k l = absurd (omega arith)
 take_next (p ∷ ps) zero l = refl
 take_next (p ∷ ps) (suc k) l = ap (λ qs. p ∷ qs) (take_next ps k (omega (arith, l)))
+
+pub take_whole : (ps : List Point) → take (length ps) ps ≡ ps
+take_whole [] = refl
+take_whole (p ∷ ps) = ap (λ qs. p ∷ qs) (take_whole ps)
 
 pub starts_are : (M : Model) (hs : List ℕ) → map (point_of M) (map (tail M) hs) ≡ map (start M) hs
 starts_are M [] = refl
@@ -39,17 +44,14 @@ pub as_many : (M : Model) (hs : List ℕ) → length (map (start M) hs) ≡ leng
 as_many M [] = refl
 as_many M (h ∷ hs) = ap suc (as_many M hs)
 
-in_rest : (h x : ℕ) (xs : List ℕ) → IsIn h xs → IsIn h (x ∷ xs)
-in_rest h x xs i = omega (arith, i)
-
 pub same_starts : (M N : Model) (hs : List ℕ) → ((h : ℕ) → IsIn h hs → start N h ≡ start M h) → map (start N) hs ≡ map (start M) hs
 same_starts M N [] same = refl
-same_starts M N (h ∷ hs) same = λ t. same h (IsIn_head h hs) t ∷ same_starts M N hs (λ k i. same k (in_rest k h hs i)) t
+same_starts M N (h ∷ hs) same = λ t. same h (IsIn_head h hs) t ∷ same_starts M N hs (λ k i. same k (IsIn_rest k h hs i)) t
 
 area_round : (M : Model) (xs : List ℕ) (e : ℕ) → IsPath (after M) xs e → ((h : ℕ) → IsIn h xs → finish M h ≡ start M (after M h)) → area M xs ≡ area_to (start M e) (map (start M) xs)
 area_round M [] e p ends = refl
 area_round M (x ∷ []) e p ends = ap (λ q. moved (cross (start M x) q) origin) (ends x (IsIn_head x []) ∙ ap (start M) p.0)
-area_round M (x ∷ y ∷ ys) e p ends = λ t. moved (cross (start M x) ((ends x (IsIn_head x (y ∷ ys)) ∙ ap (start M) p.0) t)) (area_round M (y ∷ ys) e p.1 (λ h i. ends h (in_rest h x (y ∷ ys) i)) t)
+area_round M (x ∷ y ∷ ys) e p ends = λ t. moved (cross (start M x) ((ends x (IsIn_head x (y ∷ ys)) ∙ ap (start M) p.0) t)) (area_round M (y ∷ ys) e p.1 (λ h i. ends h (IsIn_rest h x (y ∷ ys) i)) t)
 
 -- ---- places of a ring
 

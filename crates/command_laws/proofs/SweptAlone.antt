@@ -33,19 +33,13 @@ record Keeps (M N : Model) (c : Taken) : Type 0 where
   edges : (q : ℕ) → q ≤ c.edge → table.get N.edges q ≡ table.get M.edges q
   vertices : (q : ℕ) → q ≤ c.vertex → table.get N.vertices q ≡ table.get M.vertices q
 
-not_new : (q a i : ℕ) → q ≤ a → q ≢ a + 1 + i
-not_new q a i m e = absurd (omega arith)
-
-not_above : (q a n : ℕ) → q ≤ a → a < n → q ≢ n
-not_above q a n m l e = absurd (omega arith)
-
 side_keeps : (c : Taken) (s : ℕ) (d : Point) (hs : List ℕ) (i : ℕ) (M : Model) → i < length hs → Keeps M (with_side c s d hs i M) c
 unfolding with_side
 side_keeps c s d hs i M l = record {
-  loops = λ q m. get-put_other M.loops (c.loop + 1 + i) _ q (not_new q c.loop i m);
-  edges = λ q m. get-put_other (table.put M.edges (riser c.edge i) _) (top_edge c.edge (length hs) i) _ q (not_above q c.edge (top_edge c.edge (length hs) i) m (top_above c.edge (length hs) i l))
-      ∙ get-put_other M.edges (riser c.edge i) _ q (not_above q c.edge (riser c.edge i) m (riser_above c.edge i));
-  vertices = λ q m. get-put_other M.vertices (c.vertex + 1 + i) _ q (not_new q c.vertex i m);
+  loops = λ q m. get-put_other M.loops (c.loop + 1 + i) _ q (λ z. absurd (omega (arith, m, z)));
+  edges = λ q m. get-put_other (table.put M.edges (riser c.edge i) _) (top_edge c.edge (length hs) i) _ q (λ z. absurd (omega (arith, m, top_above c.edge (length hs) i l, z)))
+      ∙ get-put_other M.edges (riser c.edge i) _ q (λ z. absurd (omega (arith, m, riser_above c.edge i, z)));
+  vertices = λ q m. get-put_other M.vertices (c.vertex + 1 + i) _ q (λ z. absurd (omega (arith, m, z)));
 }
 
 sides_keep : (c : Taken) (s : ℕ) (d : Point) (hs : List ℕ) (M : Model) (n : ℕ) → n ≤ length hs → Keeps M (with_sides c s d hs n M) c
@@ -55,32 +49,26 @@ sides_keep c s d hs M (suc n) l =
     let b = side_keeps c s d hs n (with_sides c s d hs n M) l in
     record { loops = λ q m. b.loops q m ∙ a.loops q m; edges = λ q m. b.edges q m ∙ a.edges q m; vertices = λ q m. b.vertices q m ∙ a.vertices q m }
 
-all_of : (n : ℕ) → n ≤ n
-all_of n = omega arith
-
 module _ (f : ℕ) (d : Point) where
   loop_keeps : (g : Growing) (l q : ℕ) → q ≤ g.taken.loop → q ≢ l → table.get (raised f d g l).model.loops q ≡ table.get g.model.loops q
   unfolding raised
   loop_keeps g l q m ne = let hs = items_of (content g.model l) in
       get-put_other (with_sides g.taken (solid_of g.model f) d hs (length hs) g.model).loops l _ q ne
-      ∙ (sides_keep g.taken (solid_of g.model f) d hs g.model (length hs) (all_of (length hs))).loops q m
+      ∙ (sides_keep g.taken (solid_of g.model f) d hs g.model (length hs) (omega arith)).loops q m
 
   loop_keeps_edges : (g : Growing) (l q : ℕ) → q ≤ g.taken.edge → table.get (raised f d g l).model.edges q ≡ table.get g.model.edges q
   unfolding raised
-  loop_keeps_edges g l q m = let hs = items_of (content g.model l) in (sides_keep g.taken (solid_of g.model f) d hs g.model (length hs) (all_of (length hs))).edges q m
+  loop_keeps_edges g l q m = let hs = items_of (content g.model l) in (sides_keep g.taken (solid_of g.model f) d hs g.model (length hs) (omega arith)).edges q m
 
   loop_keeps_points : (g : Growing) (l q : ℕ) → q ≤ g.taken.vertex → table.get (raised f d g l).model.vertices q ≡ table.get g.model.vertices q
   unfolding raised
-  loop_keeps_points g l q m = let hs = items_of (content g.model l) in (sides_keep g.taken (solid_of g.model f) d hs g.model (length hs) (all_of (length hs))).vertices q m
+  loop_keeps_points g l q m = let hs = items_of (content g.model l) in (sides_keep g.taken (solid_of g.model f) d hs g.model (length hs) (omega arith)).vertices q m
 
   -- ---- one loop after the other
 
-  more : (q a n : ℕ) → q ≤ a → q ≤ a + n
-  more q a n m = omega arith
-
   taken_on : (g : Growing) (l q : ℕ) → q ≤ g.taken.loop → q ≤ (raised f d g l).taken.loop
   unfolding raised
-  taken_on g l q m = more q g.taken.loop (length (items_of (content g.model l))) m
+  taken_on g l q m = omega (arith, m)
 
   taken_edges : (g : Growing) (l q : ℕ) → q ≤ g.taken.edge → q ≤ (raised f d g l).taken.edge
   unfolding raised
@@ -88,7 +76,7 @@ module _ (f : ℕ) (d : Point) where
 
   taken_points : (g : Growing) (l q : ℕ) → q ≤ g.taken.vertex → q ≤ (raised f d g l).taken.vertex
   unfolding raised
-  taken_points g l q m = more q g.taken.vertex (length (items_of (content g.model l))) m
+  taken_points g l q m = omega (arith, m)
 
   loops_from : (ls : List ℕ) (g : Growing) (q : ℕ) → q ≤ g.taken.loop → (IsIn q ls → ⊥) → table.get (prism_from f d g ls).model.loops q ≡ table.get g.model.loops q
   loops_from [] g q m none = refl

@@ -110,9 +110,6 @@ module _ (M : Model) (c : Taken) (f l : ℕ) (d : Point) (hs : List ℕ) (w : Re
   over : (q a i : ℕ) → q ≤ a → q ≢ a + 1 + i
   over q a i m e = absurd (omega arith)
 
-  less_one : (n m : ℕ) → suc n ≤ m → n ≤ m
-  less_one n m l = omega arith
-
   -- ---- rows
 
   face_kept : (k : ℕ) → Has M.faces k → table.get N.faces k ≡ table.get M.faces k
@@ -180,7 +177,7 @@ module _ (M : Model) (c : Taken) (f l : ℕ) (d : Point) (hs : List ℕ) (w : Re
       let free_t : table.get (S n).edges t ≡ None = sides_edges M c f l d hs w n t (λ j k. ((λ e. riser_no_top c.edge (length hs) j n (before j n (length hs) k m) m (sym e)), top_apart c.edge (length hs) n j m (before j n (length hs) k m) (λ e. less_apart j n k (sym e))))
       ∙ w.edges_free t (top_above c.edge (length hs) n m) in
       size-put_new (table.put (S n).edges r _) t _ (get-put_other (S n).edges r _ t (λ e. riser_no_top c.edge (length hs) n n m m (sym e)) ∙ free_t)
-      ∙ ap (λ k. k + 1) (size-put_new (S n).edges r _ free_r) ∙ two_more (size (S n).edges) (size M.edges) n (size_edges n (less_one n (length hs) m))
+      ∙ ap (λ k. k + 1) (size-put_new (S n).edges r _ free_r) ∙ two_more (size (S n).edges) (size M.edges) n (size_edges n (omega (arith, m)))
 
   pub agree : Sound N → Agree M N (is_of s) (is_of s)
   agree after = record {

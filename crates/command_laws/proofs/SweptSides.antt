@@ -21,7 +21,7 @@ use Rattle.sweeps_laws.proofs.swept.Lifted.{IsPathOf, within, rings_new, content
 use Rattle.sweeps_laws.proofs.swept.Kept.{counted}
 use Rattle.command_laws.specs.NewFaces.{nth, all_moved, side_over, IsFaceOf}
 use Rattle.command_laws.specs.RingedFaces.{loop_points}
-use Rattle.command_laws.proofs.Outlines.{take_next, nth_start, as_many, same_starts, starts_are, points_are, plane_is}
+use Rattle.command_laws.proofs.Outlines.{take_next, take_whole, nth_start, as_many, same_starts, starts_are, points_are, plane_is}
 use Rattle.command_laws.proofs.MovedAreas.{moved_many, nth_moved}
 use Rattle.command_laws.proofs.SweptLoops.{Ready, Later, items, path, swept_once, after_ready}
 
@@ -29,13 +29,6 @@ use Rattle.command_laws.proofs.SweptLoops.{Ready, Later, items, path, swept_once
 
 pub along_cycle : (M : Model) (l : ℕ) (hs : List ℕ) → content M l ≡ cycle hs → loop_points M l ≡ map (start M) hs
 along_cycle M l hs is = ap (λ x. map (point_of M) (vertices_on M x)) is ∙ starts_are M hs
-
-take_whole : (ps : List Point) → take (length ps) ps ≡ ps
-take_whole [] = refl
-take_whole (p ∷ ps) = ap (λ qs. p ∷ qs) (take_whole ps)
-
-all_of : (n : ℕ) → n ≤ n
-all_of n = omega arith
 
 -- ---- the new ring
 
@@ -58,9 +51,6 @@ module _ (f s : ℕ) (d : Point) (g : Growing) (l : ℕ) (ls : List ℕ) (w : Re
   abbrev Y : Model
   Y = swept_once f s d g l ls w
 
-  abbrev tops : List ℕ
-  tops = top_items c.edge (length hs) (length hs)
-
   pub ring_is : content (swept_once f s d g l ls w) l ≡ cycle (top_items g.taken.edge (length (items f s d g l ls w)) (length (items f s d g l ls w)))
   ring_is = content_here X c o d hs f l w.bounded r
 
@@ -73,7 +63,7 @@ module _ (f s : ℕ) (d : Point) (g : Growing) (l : ℕ) (ls : List ℕ) (w : Re
         here k m = nth_moved d (map (start X) hs) k (subst (λ n. k < n) (sym (as_many X hs)) m) ∙ ap (λ p. moved p d) (nth_start X hs k m)
 
   pub ring_moved : map (start (swept_once f s d g l ls w)) (top_items g.taken.edge (length (items f s d g l ls w)) (length (items f s d g l ls w))) ≡ all_moved d (map (start g.model) (items f s d g l ls w))
-  ring_moved = tops_to (length hs) (all_of (length hs)) ∙ ap (λ n. take n (all_moved d (map (start X) hs))) (sym (as_many X hs) ∙ sym (moved_many d (map (start X) hs))) ∙ take_whole (all_moved d (map (start X) hs))
+  ring_moved = tops_to (length hs) (omega arith) ∙ ap (λ n. take n (all_moved d (map (start X) hs))) (sym (as_many X hs) ∙ sym (moved_many d (map (start X) hs))) ∙ take_whole (all_moved d (map (start X) hs))
 
   -- what stands in a loop then is within the numbers taken
   pub items_taken : (q h : ℕ) → IsIn h (items_of (content (swept_once f s d g l ls w) q)) → edge_of h ≤ g.taken.edge + 2 * length (items f s d g l ls w)

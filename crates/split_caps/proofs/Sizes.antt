@@ -38,6 +38,9 @@ use Rattle.split_opening_laws.proofs.sections.InTurn.{others_on}
 use Rattle.split_opening_laws.proofs.sections.OpenedRows as opened
 use Rattle.split_opening_laws.proofs.sections.Rims.{rim_above}
 
+none : (n : ℕ) → n ≡ n + 0
+none n = omega arith
+
 one_more : (a b n : ℕ) → a ≡ b + n → a + 1 ≡ b + suc n
 one_more a b n e = omega arith
 
@@ -53,9 +56,7 @@ cut_once M p g e go =
     (size-put_new M.vertices (g.taken.vertex + 1) _ w.vertex_free, size-put_new _ (edge_of (code (half (plus (g.taken.edge + 1))))) _ (mapped_none _ M.edges (edge_of (code (half (plus (g.taken.edge + 1))))) w.edge_free) ∙ ap (λ n. n + 1) (size-map_rows _ M.edges))
 
 pub cuts_make : (M : Model) (p : Plane) (g : Growing) (es : List ℕ) → AreAccepted M (crossings.ops_from p g es) → let N = effects M (crossings.ops_from p g es) in (size N.vertices ≡ size M.vertices + length es) × (size N.edges ≡ size M.edges + length es)
-cuts_make M p g [] go = (none (size M.vertices), none (size M.edges)) where
-  none : (n : ℕ) → n ≡ n + 0
-  none n = omega arith
+cuts_make M p g [] go = (none (size M.vertices), none (size M.edges))
 cuts_make M p g (e ∷ es) go =
     let N = effect M (crossings.cut_edge p g e) in
     let first = cut_once M p g e (go.0, tt) in
@@ -76,9 +77,7 @@ module _ (M : Model) (f : ℕ) where
 
   -- a pair is joined, or left for the second pass
   joins_make : (d : Drawing) (qs : List (ℕ × ℕ)) (n : ℕ) → AllFit M f qs → Joining M f d qs n → let D = fold join_next d qs in size D.model.edges + length D.left ≡ size d.model.edges + length d.left + length qs
-  joins_make d [] n fit w = none (size d.model.edges + length d.left) where
-    none : (n : ℕ) → n ≡ n + 0
-    none n = omega arith
+  joins_make d [] n fit w = none (size d.model.edges + length d.left)
   joins_make d (q ∷ qs) n fit w =
       let D = join_next d q in
       joins_make D qs n fit.1 (join_one M f d q qs n fit.0 w).1 ∙ next_one (size d.model.edges + length d.left) (size D.model.edges + length D.left) (length qs) (go (in_one_loop d.model q) refl) where
@@ -95,9 +94,7 @@ module _ (M : Model) (f : ℕ) where
 
   -- a pair that is left is drawn, where the drawing isn't stuck
   draws_make : Sound M → f ≢ 0 → (d : Drawing) (qs : List (ℕ × ℕ)) (n : ℕ) → AllFit M f qs → Going M f d qs n → (fold (draw_next f) d qs).stuck ≡ 0 → size (fold (draw_next f) d qs).model.edges ≡ size d.model.edges + length qs
-  draws_make sound some d [] n fit w free = none (size d.model.edges) where
-    none : (n : ℕ) → n ≡ n + 0
-    none n = omega arith
+  draws_make sound some d [] n fit w free = none (size d.model.edges)
   draws_make sound some d (q ∷ qs) n fit w free = draws_make sound some (draw_next f d q) qs n fit.1 (draw_one M f sound d q qs n fit.0 w).1 free
       ∙ next_one (size d.model.edges) (size (draw_next f d q).model.edges) (length qs) (go (in_one_loop d.model q) refl) where
         stops : (d : Drawing) → (stuck_at f d).stuck ≢ 0
@@ -151,9 +148,7 @@ module _ (p : Plane) (f : ℕ) (qs : List (ℕ × ℕ)) (d : Drawing) (n : ℕ) 
         none a n = omega arith
 
 pub faces_make : (p : Plane) (d : Drawing) (fs : List FacePairs) (n : ℕ) → Drawable d fs n → ((f : ℕ) → IsIn f (map (λ q. q.face) fs) → f ≢ 0) → (fold (next_drawn p) d fs).stuck ≡ 0 → size (fold (next_drawn p) d fs).model.edges ≡ size d.model.edges + pairs_in fs
-faces_make p d [] n w some free = none (size d.model.edges) where
-  none : (n : ℕ) → n ≡ n + 0
-  none n = omega arith
+faces_make p d [] n w some free = none (size d.model.edges)
 faces_make p d (f ∷ fs) n w some free =
     let Y = next_drawn p d f in
     let is = next_is p d f fs n w in
@@ -166,15 +161,11 @@ faces_make p d (f ∷ fs) n w some free =
 -- ---- opened along a cycle
 
 rim_makes : (t : Table EdgeRow) (k y m : ℕ) → ((q : ℕ) → k < q → table.get t q ≡ None) → (i : ℕ) → size (with_rim t k y m i) ≡ size t + i
-rim_makes t k y m free zero = none (size t) where
-  none : (n : ℕ) → n ≡ n + 0
-  none n = omega arith
+rim_makes t k y m free zero = none (size t)
 rim_makes t k y m free (suc i) = size-put_new (with_rim t k y m i) (k + suc i) _ (rim_above t k y m i (k + suc i) (omega arith) ∙ free (k + suc i) (omega arith)) ∙ one_more (size (with_rim t k y m i)) (size t) i (rim_makes t k y m free i)
 
 copies_make : (M : Model) (t : Table Point) (xs : List ℕ) (v : ℕ) → ((q : ℕ) → v < q → table.get t q ≡ None) → size (fold (λ t q. table.put t q.1 (point_of M q.0)) t (both_lists xs (numbers_after v (length xs)))) ≡ size t + length xs
-copies_make M t [] v free = none (size t) where
-  none : (n : ℕ) → n ≡ n + 0
-  none n = omega arith
+copies_make M t [] v free = none (size t)
 copies_make M t (x ∷ xs) v free =
     copies_make M (table.put t (v + 1) (point_of M x)) xs (v + 1) (λ q l. get-put_other t (v + 1) (point_of M x) q (λ e. absurd (omega (arith, l, e))) ∙ free q (omega (arith, l)))
     ∙ next_one (size t) (size (table.put t (v + 1) (point_of M x))) (length xs) (size-put_new t (v + 1) (point_of M x) (free (v + 1) (omega arith)))
@@ -193,9 +184,7 @@ next_makes above s p o bs free = opening_makes o.model above s o.taken bs free
 
 pub openings_make : (above : List ℕ) (s : ℕ) (p : Plane) (o : Opening) (cs : List (List ℕ)) → CanBeOpenedInTurn above s o cs → let x = all_opened p above s o cs in
     (size x.model.vertices ≡ size o.model.vertices + length (halves_in cs)) × (size x.model.edges ≡ size o.model.edges + length (halves_in cs))
-openings_make above s p o [] w = (none (size o.model.vertices), none (size o.model.edges)) where
-  none : (n : ℕ) → n ≡ n + 0
-  none n = omega arith
+openings_make above s p o [] w = (none (size o.model.vertices), none (size o.model.edges))
 openings_make above s p o (bs ∷ cs) w =
     let n = next_opened p above s o bs in
     let first = next_makes above s p o bs w.free in
