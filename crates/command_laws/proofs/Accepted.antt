@@ -1,9 +1,10 @@
 -- When a block, a lamina and a sweep are accepted.
 use Rattle.std.specs.Prelude.{nat_le, length, map}
 use Rattle.std.specs.List.{list_all, list_any}
-use Rattle.std.proofs.Common.{◌≡◌, ℕ, suc, ◌+◌, ◌*◌, ◌≤◌, Bool, true, false, not, cond, nat_eq, ◌&&◌, ◌||◌, List, [], ◌∷◌, ◌++◌, Some, None, is_some, refl, sym, ap, subst, ◌∙◌, arith, true≢false, inl, inr}
-use Rattle.std.proofs.lemmas.Bool.{and_parts, eqb-true}
+use Rattle.std.proofs.Common.{◌≡◌, ℕ, ◌+◌, ◌*◌, ◌≤◌, Bool, true, false, not, cond, nat_eq, ◌&&◌, ◌||◌, List, [], ◌∷◌, ◌++◌, Some, None, is_some, refl, sym, ap, subst, ◌∙◌, arith, true≢false, inl, inr}
+use Rattle.std.proofs.lemmas.Bool.{and_parts, eq-eqb, eqb-true}
 use Rattle.std.proofs.lemmas.Bool.Decides.{nat_tests, eqb_tells}
+use Rattle.std.proofs.lemmas.List.{length-map}
 use Rattle.euler_operators.specs.declared.Point.{Point}
 use Rattle.euler_operators.specs.Points.{is_in_range}
 use Rattle.euler_operators.specs.Vectors.{moved, same_point}
@@ -12,7 +13,8 @@ use Rattle.euler_operators.specs.Model.{Model, LoopContent, LoopRow, lone, cycle
 use Rattle.euler_operators.specs.Conditions.{is_lone, lists}
 use Rattle.euler_operators.proofs.Models.{content_row}
 use Rattle.euler_operators.proofs.Tables.{first_where_zero, none_all_where}
-use Rattle.euler_laws.proofs.shared.Goes.{none_refuses}
+use Rattle.euler_operators.proofs.Tests.{and_false}
+use Rattle.euler_laws.proofs.shared.Goes.{◌also◌, none_refuses}
 use Rattle.shapes.specs.Faces.{corners, loops_of, vertices_in, vertices_on, least_lone}
 use Rattle.shapes.specs.Fresh.{taken_in, first_such, found}
 use Rattle.shapes.specs.Lamina.{lamina_conditions, first_far, first_repeated}
@@ -29,7 +31,8 @@ within k n l = grind (arith, nat_tests)
 pub blocks_fit : BlocksFit
 unfolding block_conditions taken_in
 blocks_fit m s p dx dy dz number free x y z near far left =
-    none_refuses (block_conditions (held m) s p dx dy dz) (number, (ap not free, (x, (y, (z, (near, (far, (within _ 1000000 left.of_faces, (within _ 1000000 left.of_loops, (within _ 1000000 left.of_edges, (within _ 1000000 left.of_vertices, tt)))))))))))
+    none_refuses (block_conditions (held m) s p dx dy dz) (number also ap not free also x also y also z also near also far also within _ 1000000 left.of_faces also within _ 1000000 left.of_loops
+    also within _ 1000000 left.of_edges also within _ 1000000 left.of_vertices also tt)
 
 -- ---- a lamina
 
@@ -69,19 +72,9 @@ all_new (p ∷ ps) = (refl, all_new ps)
 pub laminas_fit : LaminasFit
 unfolding lamina_conditions taken_in
 laminas_fit m s ps number free many near apart left =
-    none_refuses (lamina_conditions (held m) s ps) (
-      number,
-      (
-        ap not free,
-        (
-          within 3 (length ps) many,
-          (
-            ap (λ o. not (is_some o)) (all_near 0 ps near),
-            (ap (λ o. not (is_some o)) (none_repeated [] 0 ps (all_new ps) apart), (within _ 1000000 left.of_faces, (within _ 1000000 left.of_loops, (within _ 1000000 left.of_edges, (within _ 1000000 left.of_vertices, tt))))),
-          ),
-        ),
-      ),
-    )
+    none_refuses (lamina_conditions (held m) s ps) (number also ap not free also within 3 (length ps) many also ap (λ o. not (is_some o)) (all_near 0 ps near)
+    also ap (λ o. not (is_some o)) (none_repeated [] 0 ps (all_new ps) apart) also within _ 1000000 left.of_faces also within _ 1000000 left.of_loops
+    also within _ 1000000 left.of_edges also within _ 1000000 left.of_vertices also tt)
 
 -- ---- a sweep of a face without rings
 
@@ -90,13 +83,9 @@ none_far M d [] e = refl
 none_far M d (v ∷ vs) e = let w = and_parts (is_in_range (moved (point_of M v) d)) (list_all is_in_range (all_moved d (map (point_of M) vs))) e in
     ap (λ b. cond (not b) (Some v) (first_such (λ u. not (is_in_range (moved (point_of M u) d))) vs)) w.0 ∙ none_far M d vs w.1
 
-as_many : (M : Model) (vs : List ℕ) → length (map (point_of M) vs) ≡ length vs
-as_many M [] = refl
-as_many M (v ∷ vs) = ap suc (as_many M vs)
-
 module _ (M : Model) (f s : ℕ) (ps : List Point) (face : IsFaceOf M f s ps) where
   many : length ps ≡ length (corners M f)
-  many = ap length (sym face.points) ∙ as_many M (corners M f)
+  many = ap length (sym face.points) ∙ length-map (corners M f) (point_of M)
 
   corners_on : corners M f ≡ vertices_on M (content M (outer M f)) ++ []
   unfolding corners loops_of
@@ -110,20 +99,14 @@ module _ (M : Model) (f s : ℕ) (ps : List Point) (face : IsFaceOf M f s ps) wh
 
   pub none_lone : 2 ≤ length ps → least_lone M (f ∷ []) ≡ None
   none_lone l = ap found (first_where_zero (λ _ row. is_lone row.content && lists (f ∷ []) row.face) M.loops (λ q y at. each q y at (nat_eq f y.face) refl)) where
-    never : (b : Bool) → (b && false) ≡ false
-    never true = refl
-    never false = refl
-
     outer_is : (q : ℕ) (y : LoopRow) → (nat_eq y.face f && not (nat_eq (outer M f) q)) ≡ false → f ≡ y.face → outer M f ≡ q
     outer_is q y e same = elim (eqb_tells (outer M f) q) [
       | inl p ↦ p.1
-      | inr p ↦ absurd (true≢false (sym ((λ i. alike y.face f (sym same) i && not (p.0 i))) ∙ e))
-    ] where
-      alike : (a b : ℕ) → a ≡ b → nat_eq a b ≡ true
-      alike a b e = grind (arith, nat_tests)
+      | inr p ↦ absurd (true≢false (sym ((λ i. eq-eqb y.face f (sym same) i && not (p.0 i))) ∙ e))
+    ]
 
     each : (q : ℕ) (y : LoopRow) → table.get M.loops q ≡ Some y → (b : Bool) → nat_eq f y.face ≡ b → (is_lone y.content && (nat_eq f y.face || false)) ≡ false
-    each q y at false e = ap (λ b. is_lone y.content && (b || false)) e ∙ never (is_lone y.content)
+    each q y at false e = ap (λ b. is_lone y.content && (b || false)) e ∙ and_false (is_lone y.content)
     each q y at true e =
         let o = outer_is q y (none_all_where (λ l row. nat_eq row.face f && not (nat_eq (outer M f) l)) M.loops face.plain q y at) (eqb-true f y.face e) in
         ap (λ x. is_lone x && (nat_eq f y.face || false)) (sym (content_row M q y at) ∙ ap (content M) (sym o)) ∙ ap (λ b. b && (nat_eq f y.face || false)) (outer_cycles l)
@@ -133,25 +116,9 @@ unfolding prism_conditions taken_in
 sweeps_fit m f s ps d sound face some apart near left =
     let M = held m in
     let n = many M f s ps face in
-    none_refuses (prism_conditions M f d) (
-      sound.faces_fit f face.there,
-      (
-        face.there,
-        (
-          ap not apart,
-          (
-            ap (λ o. not (is_some o)) (none_lone M f s ps face some),
-            (
-              ap (λ o. not (is_some o)) (none_far M d (corners M f) (ap (λ qs. list_all is_in_range (all_moved d qs)) face.points ∙ near)),
-              (
-                within _ 1000000 (subst (λ k. table.greatest M.faces + k ≤ 1000000) n left.of_faces),
-                (
-                  within _ 1000000 (subst (λ k. table.greatest M.loops + k ≤ 1000000) n left.of_loops),
-                  (within _ 1000000 (subst (λ k. table.greatest M.edges + 2 * k ≤ 1000000) n left.of_edges), (within _ 1000000 (subst (λ k. table.greatest M.vertices + k ≤ 1000000) n left.of_vertices), tt)),
-                ),
-              ),
-            ),
-          ),
-        ),
-      ),
-    )
+    none_refuses (prism_conditions M f d) (sound.faces_fit f face.there also face.there also ap not apart also ap (λ o. not (is_some o)) (none_lone M f s ps face some)
+    also ap (λ o. not (is_some o)) (none_far M d (corners M f) (ap (λ qs. list_all is_in_range (all_moved d qs)) face.points ∙ near))
+    also within _ 1000000 (subst (λ k. table.greatest M.faces + k ≤ 1000000) n left.of_faces)
+    also within _ 1000000 (subst (λ k. table.greatest M.loops + k ≤ 1000000) n left.of_loops)
+    also within _ 1000000 (subst (λ k. table.greatest M.edges + 2 * k ≤ 1000000) n left.of_edges)
+    also within _ 1000000 (subst (λ k. table.greatest M.vertices + k ≤ 1000000) n left.of_vertices) also tt)
