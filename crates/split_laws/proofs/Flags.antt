@@ -1,5 +1,5 @@
 -- Whether a cycle is a hole is told by the model before the openings.
-use Rattle.std.proofs.Common.{◌≡◌, ◌<◌, ℕ, suc, ◌+◌, Bool, true, false, cond, not, nat_eq, nat_lt, ◌&&◌, pos, List, [], ◌∷◌, ◌++◌, length, map, unwrap_or, refl, sym, ap, ◌∙◌, arith, inl, inr}
+use Rattle.std.proofs.Common.{◌≡◌, ◌<◌, ◌≤◌, ℕ, suc, ◌+◌, Bool, true, false, cond, not, nat_eq, nat_lt, ◌&&◌, pos, List, [], ◌∷◌, ◌++◌, length, map, unwrap_or, refl, sym, ap, ◌∙◌, arith, inl, inr}
 use Rattle.std.specs.Prelude.{filter, flat_map, int_lt}
 use Rattle.std.proofs.lemmas.Bool.Decides.{nat_tests}
 use Rattle.std.proofs.lemmas.List.{append_assoc, append-nil, length-map, map-append}
@@ -30,19 +30,20 @@ use Rattle.split_opening_laws.proofs.sections.InTurn.{others_on}
 
 -- ---- one opening
 
+-- a vertex stays where it is
+pub vertex_still : (M : Model) (above : List ℕ) (s : ℕ) (c : Taken) (bs : List ℕ) (v : ℕ) → v ≤ c.vertex → table.get (opened_along M above s c bs).vertices v ≡ table.get M.vertices v
+vertex_still M above s c bs v low = ap (λ t. table.get t v) (vertices_are M above s c bs) ∙ copied_other M M.vertices (map (tail M) bs) (numbers_after c.vertex (length bs)) v (elim (IsIn_or_not v (numbers_after c.vertex (length bs))) [
+  | inl i ↦ absurd (omega (arith, low, (in_numbers c.vertex (length bs) v i).0))
+  | inr z ↦ z
+])
+
 module _ (M : Model) (above : List ℕ) (s : ℕ) (c : Taken) (bs : List ℕ) (sound : Sound M) (free : AreFree M c) (first : IsSectionCycle M above s bs) where
   abbrev N : Model
   N = opened_along M above s c bs
 
-  -- a vertex stays at its point
   point_still : (v : ℕ) → Has M.vertices v → point_of N v ≡ point_of M v
   unfolding point_of
-  point_still v there = ap (λ o. unwrap_or o no_point) (ap (λ t. table.get t v) (vertices_are M above s c bs) ∙ copied_other M M.vertices (map (tail M) bs) (numbers_after c.vertex (length bs)) v none) where
-    none : count v (numbers_after c.vertex (length bs)) ≡ 0
-    none = elim (IsIn_or_not v (numbers_after c.vertex (length bs))) [
-      | inl i ↦ absurd (omega (arith, (in_numbers c.vertex (length bs) v i).0, in_use_within M.vertices c.vertex free.vertices v there))
-      | inr z ↦ z
-    ]
+  point_still v there = ap (λ o. unwrap_or o no_point) (vertex_still M above s c bs v (in_use_within M.vertices c.vertex free.vertices v there))
 
   start_still : (h : ℕ) → HasHalf M h → tail N h ≡ tail M h → start N h ≡ start M h
   start_still h there e = ap (point_of N) e ∙ point_still (tail M h) (sound.tails_there h there)

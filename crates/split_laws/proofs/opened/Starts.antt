@@ -24,10 +24,11 @@ use Rattle.shapes.specs.Rewriting.{renamed}
 use Rattle.shapes.specs.split.Opening.{opened_tail, opened_row, with_rim, with_copies, both_lists, opened_along}
 use Rattle.split_opening_laws.specs.strips.Opened.{CanBeOpened}
 use Rattle.split_opening_laws.specs.strips.Strips.{copied}
-use Rattle.split_opening_laws.proofs.strips.Copied.{points_next, none_copied}
+use Rattle.split_opening_laws.proofs.strips.Copied.{points_next}
 use Rattle.split_opening_laws.proofs.strips.Cycle.{next_cases, next_below, low_edge, low_vertex}
 use Rattle.split_opening_laws.proofs.strips.Rows.{length-numbers_after, numbers_at, renamed_cases}
 use Rattle.split_opening_laws.proofs.sections.OpenedRows.{edges_are, vertices_are}
+use Rattle.split_laws.proofs.Flags.{vertex_still}
 use Rattle.split_opening_laws.proofs.sections.Rims.{rim_below}
 
 -- the row of each of the first i edges round a cap
@@ -60,11 +61,6 @@ module _ (M : Model) (above : List ℕ) (s : ℕ) (c : Taken) (bs : List ℕ) (w
 
   -- ---- points
 
-  low_points : (i v : ℕ) → i ≤ m → v ≤ c.vertex → table.get (with_copies M (copied M c bs i)) v ≡ table.get M.vertices v
-  low_points zero v le low = ap (λ ps. table.get (with_copies M ps) v) (none_copied M above s c bs w)
-  low_points (suc i) v le low = ap (λ t. table.get t v) (points_next M above s c bs w i (omega (arith, le)))
-      ∙ get-put_other (with_copies M (copied M c bs i)) (c.vertex + suc i) _ v (λ e. absurd (omega (arith, e, low))) ∙ low_points i v (omega (arith, le)) low
-
   copy_points : (i j : ℕ) → i ≤ m → j < i → table.get (with_copies M (copied M c bs i)) (c.vertex + suc j) ≡ Some (start M (get_or bs j 0))
   copy_points zero j le l = absurd (omega arith)
   copy_points (suc i) j le l = ap (λ t. table.get t (c.vertex + suc j)) (points_next M above s c bs w i (omega (arith, le))) ∙ elim (eqb_tells j i) [
@@ -76,7 +72,7 @@ module _ (M : Model) (above : List ℕ) (s : ℕ) (c : Taken) (bs : List ℕ) (w
   -- an old vertex has its point
   pub point_old : (v : ℕ) → v ≤ c.vertex → point_of N v ≡ point_of M v
   unfolding point_of
-  point_old v low = ap (λ o. unwrap_or o no_point) (ap (λ t. table.get t v) (vertices_are M above s c bs) ∙ low_points m v (omega arith) low)
+  point_old v low = ap (λ o. unwrap_or o no_point) (vertex_still M above s c bs v low)
 
   -- and each copy that of its vertex
   point_new : (j : ℕ) → j < m → point_of N (c.vertex + suc j) ≡ start M (get_or bs j 0)
