@@ -1,7 +1,6 @@
 -- Before two faces are glued: the first item of the one, and the half-edge of the other that starts where it does. And what opens
 -- the seam.
 use Rattle.std.proofs.Common.{◌≡◌, ◌≢◌, ℕ, ◌≤◌, Bool, true, false, cond, List, [], ◌∷◌, ◌++◌, refl, sym, ap, ◌∙◌, subst, None, Some, unwrap_or}
-use Rattle.std.proofs.lemmas.Bool.{not-true}
 use Rattle.euler_operators.specs.declared.Point.{Point}
 use Rattle.euler_operators.specs.Vectors.{same_point}
 use Rattle.euler_operators.specs.Items.{IsIn, head_or, last_or}
@@ -13,10 +12,9 @@ use Rattle.euler_operators.specs.Conditions.{is_lone}
 use Rattle.euler_operators.specs.declared.Op.{Op}
 use Rattle.euler_laws.specs.Laws.{effects, AreAccepted}
 use Rattle.euler_laws.proofs.Runs.{effects_keep_sound}
-use Rattle.euler_laws.proofs.shared.Goes.{all_hold}
 use Rattle.shapes.specs.Faces.{start, finish}
 use Rattle.shapes.specs.Fresh.{first_such}
-use Rattle.shapes.specs.glue.Glue.{rim, outline, partner, has_repeats, glue_conditions, glue_refusal}
+use Rattle.shapes.specs.glue.Glue.{rim, partner, glue_refusal}
 use Rattle.shapes.specs.glue.GlueOps.{fresh_edge, opening}
 use Rattle.shapes.specs.glue.Part.{glued_part}
 use Rattle.shapes.proofs.glue.Facing as facing
@@ -56,10 +54,6 @@ module _ (M : Model) (f g : ℕ) (sound : Sound M) (accepted : glue_refusal M f 
 
   pub first_held : is_lone (content M (outer M f)) ≡ false
   first_held = ap is_lone (facing.content_f M f g p hs (fresh_edge M) w)
-
-  pub points_apart : has_repeats (outline M g) ≡ false
-  unfolding glue_conditions
-  points_apart = not-true _ (all_hold (glue_conditions M f g) accepted).1.1.1.1.1.1.1.1.1.1.0
 
   shape : (h : ℕ) × (mid : List ℕ) × (last : ℕ) × (hs ≡ h ∷ (mid ++ last ∷ []))
   shape = facts.shape M f g sound accepted

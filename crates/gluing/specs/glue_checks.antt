@@ -1,3 +1,2 @@
-pub mod Rims
 pub mod Places
 pub mod Conditions

@@ -2,7 +2,5 @@
 
 mod checks;
 mod outlines;
-mod rims;
 
 pub(crate) use checks::check_glue;
-pub(crate) use rims::some_item;

@@ -1,19 +1,34 @@
-//! The outer loop of a face, and the half-edge of it that starts at a point.
-ghost use Rattle.std.specs.Prelude.{◌≡◌, true, false};
+//! The outer loop of a face: its half-edges, and the points at which they start.
+ghost use Rattle.std.specs.Prelude.{◌≡◌, true, false, IfOk};
 ghost use Rattle.euler_operators.specs.Items.{IsIn, head_or};
+ghost use Rattle.euler_operators.specs.Vectors.{same_point};
 ghost use Rattle.euler_operators.specs.HalfEdge.{code};
-ghost use Rattle.euler_operators.specs.Model.{content, has_half, outer};
+ghost use Rattle.euler_operators.specs.Model.{content, cycle_of, has_half, outer};
 ghost use Rattle.euler_conditions.specs.Ready.{IsReady};
 ghost use Rattle.euler_operators.specs.Conditions.{is_lone};
 ghost use Rattle.euler_conditions.specs.Store.{has_number};
 ghost use Rattle.shapes.specs.Faces.{start};
-ghost use Rattle.shapes.specs.glue.Glue.{has_repeats, outline, rim};
+ghost use Rattle.shapes.specs.glue.Glue.{outline, rim};
 ghost use Rattle.gluing.specs.Rims.{item_at};
 
-use crate::glue_checks::some_item;
 use euler_conditions::Arena;
-use euler_operators::{HalfEdge, Kind, Point};
-use solid_walks::least_item;
+use euler_operators::{Content, HalfEdge, Kind, Point};
+use solid_walks::{Items, items_of, least_item, start};
+use std::alloc::{AllocError, Global};
+
+/// Some half-edge of the outer loop of face f, which isn't lone.
+fn some_item(arena: &Arena, f: u32) -> HalfEdge
+    requires ready { IsReady arena.now }
+    requires there { has_number arena.now Kind.Face f ≡ true }
+    requires held { is_lone (content arena.now.model (outer arena.now.model f)) ≡ false }
+    ensures there { has_half arena.now.model (code result) ≡ true }
+    ensures inside { cycle_of arena.now.model (code result) ≡ rim arena.now.model f }
+{
+    match arena.content(arena.outer(f)) {
+        Content::Ring(h) => h,
+        Content::Lone(_) => unreachable!(),
+    }
+}
 
 /// The first half-edge of the outer loop of face f, which isn't lone, in the order of listings.
 pub(crate) fn first_item(arena: &Arena, f: u32) -> HalfEdge
@@ -26,20 +41,44 @@ pub(crate) fn first_item(arena: &Arena, f: u32) -> HalfEdge
     least_item(arena, some_item(arena, f))
 }
 
-/// The half-edge of the outer loop of face g that starts at a point. There is one, and no two of them start at one point.
+/// The half-edges of the outer loop of face f, which isn't lone, in the order of listings.
+fn rim(arena: &Arena, f: u32) -> Items<'_>
+    requires ready { IsReady arena.now }
+    requires there { has_number arena.now Kind.Face f ≡ true }
+    requires held { is_lone (content arena.now.model (outer arena.now.model f)) ≡ false }
+    ensures { result ≡ rim arena.now.model f }
+{
+    items_of(arena, some_item(arena, f))
+}
+
+/// The points of the corners of the outer loop of face f, which isn't lone, in the order of listings.
+pub(crate) fn outline(alloc: Global, arena: &Arena, f: u32) -> Result<Vec<Point>, AllocError>
+    requires ready { IsReady arena.now }
+    requires there { has_number arena.now Kind.Face f ≡ true }
+    requires held { is_lone (content arena.now.model (outer arena.now.model f)) ≡ false }
+    ensures { IfOk result (λ points. points.items ≡ outline arena.now.model f) }
+{
+    rim(arena, f).map(|item| start(arena, item)).collect(alloc)
+}
+
+/// Whether the half-edge starts at the point.
+fn starts_at(arena: &Arena, item: HalfEdge, point: Point) -> bool
+    requires ready { IsReady arena.now }
+    requires there { has_half arena.now.model (code item) ≡ true }
+    ensures { result ≡ same_point (start arena.now.model (code item)) point }
+{
+    start(arena, item) == point
+}
+
+/// The half-edge of the outer loop of face g that starts at a point, of which there is one.
 pub(crate) fn item_at(arena: &Arena, g: u32, point: Point) -> HalfEdge
     requires ready { IsReady arena.now }
     requires there { has_number arena.now Kind.Face g ≡ true }
-    requires apart { has_repeats (outline arena.now.model g) ≡ false }
     requires inside { IsIn (item_at arena.now.model g point) (rim arena.now.model g) }
     requires starts { start arena.now.model (item_at arena.now.model g point) ≡ point }
     ensures { code result ≡ item_at arena.now.model g point }
 {
-    let mut at = some_item(arena, g);
-    'round: loop {
-        at = arena.next(at);
-        if arena.point(arena.tail(at)) == point {
-            return at;
-        }
-    }
+    rim(arena, g)
+        .find(|item| starts_at(arena, *item, point))
+        .unwrap()
 }

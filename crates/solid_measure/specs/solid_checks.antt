@@ -1,1 +1,1 @@
-pub mod Least
+pub use Rattle.solid_walks.specs.Least

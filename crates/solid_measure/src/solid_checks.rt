@@ -1,7 +1,6 @@
 //! What the larger commands ask of whole solids: that no loop is lone, and that each face is flat.
 
 mod bent;
-mod least;
 mod lone;
 
 pub use bent::{least_bent, least_bent_of_both};

@@ -1,4 +1,5 @@
 pub mod face_walks_laws
+pub mod lone_laws
 pub mod NextRing
 pub mod NextFace
 pub mod TwoWays

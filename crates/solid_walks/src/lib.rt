@@ -1,25 +1,32 @@
-//! Walks over a solid: from face to face and from loop to loop, round a loop, and round a vertex. Beside them, the numbers that
-//! are left for what a larger command makes.
+//! Walks over a solid: from face to face and from loop to loop, round a loop, and round a vertex. Beside them, the lone loops of a face,
+//! and the numbers that are left for what a larger command makes.
 //!
-//! `face_walks` has the loops of a face and the half-edges of a loop in the order of listings, `around` the walk round a vertex, both
-//! ways, `numbers` the greatest numbers in use.
+//! `face_walks` has three iterators in the order of listings: `Faces` over the faces of a solid (`faces_of`), `Loops` over the loops of a
+//! face (`loops_of`, `rings_of`), `Items` once round a loop (`items_round` from a half-edge on, `items_of` from the least). A contract sees
+//! each as the list of what is still to come, so that what `all`, `find`, `fold`, `map` and `collect` answer is said of that list. `around`
+//! has the walk round a vertex, both ways, `numbers` the greatest numbers in use.
 //!
 //! # What is proved
 //!
-//! The loops of a face, outer first, then the rings rising; the half-edges of a loop from the least on. `leads`: whether a
-//! half-edge is of the least edge at its vertex, by a walk both ways round it.
+//! What an iterator gives is the list itself: the faces of a solid, rising; the loops of a face, the outer one first, then the rings,
+//! rising; the half-edges of a loop, each once, from the given one or from the least on. `leads`: whether a half-edge is of the least edge
+//! at its vertex, by a walk both ways round it. The least lone loop of a face.
 #![tactic(auto)]
 
 mod around;
 mod face_walks;
 mod halves;
+mod least;
+mod lone;
 mod numbers;
 
 pub use around::leads;
 pub use euler_conditions::{Arena, next, same};
 pub use face_walks::{
-    Faces, Items, Loops, face_loops, faces_of, items_from, items_round, least_item, loops_of,
+    Faces, Items, Loops, faces_of, items_from, items_of, items_round, least_item, loops_of,
     rings_of,
 };
 pub use halves::{finish, previous, start};
+pub use least::lesser;
+pub use lone::least_lone_of_face;
 pub use numbers::{Counters, check_left, counters_of};

@@ -2,7 +2,6 @@ mod Drawing
 pub mod RaisedItems
 mod RaisedLoops
 pub mod BlockSteps
-mod LoneLoops
 mod Tallies
 pub use Rattle.euler_operators.proofs.Cuts
 pub use Rattle.euler_operators.proofs.Leads

@@ -12,7 +12,6 @@ ghost use Rattle.sweeps.specs.Machine.{block, block_refusal};
 
 use crate::laminas::draw_lamina;
 use crate::raising::raise;
-use arrayvec::ArrayVec;
 use euler_conditions::Arena;
 use euler_operators::{
     Kind, Point, Refusal, Why, is_number, point_in_range, refused, sum, sum_in_range,
@@ -62,11 +61,11 @@ fn check_block(arena: &Arena, solid: u32, corner: Point, size: Point) -> Result<
 }
 
 /// The corners of a block's base.
-fn base(corner: Point, size: Point) -> ArrayVec<Point, 64>
+fn base(corner: Point, size: Point) -> [Point; 4]
     requires second { IsInRange (moved corner (vector size.x (pos 0) (pos 0))) }
     requires third { IsInRange (moved corner (vector size.x size.y (pos 0))) }
     requires fourth { IsInRange (moved corner (vector (pos 0) size.y (pos 0))) }
-    ensures { result.items ≡ base_of corner size.x size.y }
+    ensures { result ≡ base_of corner size.x size.y }
 {
     let mut along = size;
     along.y = 0;
@@ -79,12 +78,7 @@ fn base(corner: Point, size: Point) -> ArrayVec<Point, 64>
     let second = sum(corner, along);
     let third = sum(corner, across);
     let fourth = sum(corner, beside);
-    let mut points = ArrayVec::new();
-    points.push(corner);
-    points.push(second);
-    points.push(third);
-    points.push(fourth);
-    points
+    [corner, second, third, fourth]
 }
 
 /// Draws a block whose conditions hold: the lamina of its base, and then the sweep of the lamina's first face. Where memory is
@@ -102,7 +96,7 @@ fn draw_base_and_walls(
 {
     let taken = counters_of(draft.arena());
     let corners = base(corner, size);
-    draw_lamina(draft, solid, &corners)?;
+    draw_lamina(draft, solid, corners.as_slice())?;
     let mut up = size;
     up.x = 0;
     up.y = 0;

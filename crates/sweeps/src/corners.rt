@@ -1,67 +1,15 @@
-//! What is read off a face before it is swept: its lone loops and its corners.
-ghost use Rattle.std.specs.Prelude.{◌≡◌, ◌≤◌, ◌+◌, true, min, cond, nat_eq, map, [], ◌∷◌};
-ghost use Rattle.std.specs.Option.{option_or};
+//! The corners of a face that is to be swept: how many there are, and which of them goes out of range.
+ghost use Rattle.std.specs.Prelude.{◌≡◌, true, map, [], ◌∷◌};
 ghost use Rattle.euler_operators.specs.HalfEdge.{code};
 ghost use Rattle.euler_operators.specs.Model.{has_half, content, cycle_of, tail};
 ghost use Rattle.euler_conditions.specs.Store.{has_number};
 ghost use Rattle.euler_conditions.specs.Ready.{IsReady};
-ghost use Rattle.shapes.specs.Faces.{corners, least_lone, vertices_on};
-ghost use Rattle.shapes.specs.Fresh.{found};
-ghost use Rattle.sweeps.specs.Corners.{IsLoneRing, IsTally};
+ghost use Rattle.shapes.specs.Faces.{corners, vertices_on};
+ghost use Rattle.sweeps.specs.Corners.{joined, tally};
 
-use euler_conditions::{Arena, is_lone};
+use euler_conditions::Arena;
 use euler_operators::{Content, HalfEdge, Kind, Point, sum_in_range};
-use solid_walks::least_item;
-
-/// The least lone ring of face f, or 0.
-fn lone_ring(arena: &Arena, f: u32) -> u32
-    requires ready { IsReady arena.now }
-    requires there { has_number arena.now Kind.Face f ≡ true }
-    ensures { IsLoneRing arena.now.model f result }
-{
-    let mut last = 0;
-    'rings: while let Some(ring) = arena.ring_after(f, last) {
-        if is_lone(arena, ring) {
-            return ring;
-        }
-        last = ring;
-    }
-    0
-}
-
-/// The lesser of n and m, or n where m is 0.
-fn lesser(n: u32, m: u32) -> u32
-    ensures { result ≡ cond (nat_eq m 0) n (min n m) }
-{
-    if m != 0 && m < n { m } else { n }
-}
-
-/// The least lone loop of face f, or 0.
-fn lone_number(arena: &Arena, f: u32) -> u32
-    requires ready { IsReady arena.now }
-    requires there { has_number arena.now Kind.Face f ≡ true }
-    ensures { found result ≡ least_lone arena.now.model (f ∷ []) }
-{
-    let ring = lone_ring(arena, f);
-    let outer = arena.outer(f);
-    if is_lone(arena, outer) {
-        lesser(outer, ring)
-    } else {
-        ring
-    }
-}
-
-/// The least lone loop of face f, if there is one.
-pub(crate) fn lone_loop(arena: &Arena, f: u32) -> Option<u32>
-    requires ready { IsReady arena.now }
-    requires there { has_number arena.now Kind.Face f ≡ true }
-    ensures { result ≡ least_lone arena.now.model (f ∷ []) }
-{
-    match lone_number(arena, f) {
-        0 => None,
-        l => Some(l),
-    }
-}
+use solid_walks::{items_of, loops_of};
 
 /// What some corners are that a vector moves: how many, or 1,000,001 where they are more, and the vertex of the first whose moved
 /// point is out of range, if there is one.
@@ -71,11 +19,18 @@ pub(crate) struct Tally {
     pub far: Option<u32>,
 }
 
+/// The tally of no corner.
+const NO_CORNER: Tally = Tally {
+    count: 0,
+    far: None,
+};
+
 /// The tally of one corner.
+#[tactic(auto, unfolding(crate::specs::Corners::tally))]
 fn corner_tally(arena: &Arena, d: Point, v: u32) -> Tally
     requires ready { IsReady arena.now }
     requires there { has_number arena.now Kind.Vertex v ≡ true }
-    ensures { IsTally arena.now.model d (v ∷ []) result }
+    ensures { result ≡ tally arena.now.model d (v ∷ []) }
 {
     let far = if sum_in_range(arena.point(v), d) {
         None
@@ -85,16 +40,22 @@ fn corner_tally(arena: &Arena, d: Point, v: u32) -> Tally
     Tally { count: 1, far }
 }
 
-/// The tally of some corners and then others.
-fn joined(a: Tally, b: Tally) -> Tally
-    requires a { a.count ≤ 1000001 }
-    requires b { b.count ≤ 1000001 }
-    ensures count { result.count ≡ min (a.count + b.count) 1000001 }
-    ensures far { result.far ≡ option_or a.far b.far }
+/// The tally of the corner at which a half-edge starts.
+fn item_tally(arena: &Arena, d: Point, item: HalfEdge) -> Tally
+    requires ready { IsReady arena.now }
+    requires there { has_half arena.now.model (code item) ≡ true }
+    ensures { result ≡ tally arena.now.model d (tail arena.now.model (code item) ∷ []) }
 {
-    let count = a.count + b.count;
+    corner_tally(arena, d, arena.tail(item))
+}
+
+/// The tally of some corners and then others.
+#[tactic(auto, unfolding(crate::specs::Corners::joined))]
+fn joined(a: Tally, b: Tally) -> Tally
+    ensures { result ≡ joined a b }
+{
     Tally {
-        count: if count < 1_000_001 { count } else { 1_000_001 },
+        count: a.count.saturating_add(b.count).min(1_000_001),
         far: a.far.or(b.far),
     }
 }
@@ -103,25 +64,19 @@ fn joined(a: Tally, b: Tally) -> Tally
 fn ring_tally(arena: &Arena, d: Point, h: HalfEdge) -> Tally
     requires ready { IsReady arena.now }
     requires there { has_half arena.now.model (code h) ≡ true }
-    ensures { IsTally arena.now.model d (map (tail arena.now.model) (cycle_of arena.now.model (code h))) result }
+    ensures { result ≡ tally arena.now.model d (map (tail arena.now.model) (cycle_of arena.now.model (code h))) }
 {
-    let first = least_item(arena, h);
-    let mut tally = corner_tally(arena, d, arena.tail(first));
-    let mut at = first;
-    'round: loop {
-        at = arena.next(at);
-        if at == first {
-            return tally;
-        }
-        tally = joined(tally, corner_tally(arena, d, arena.tail(at)));
-    }
+    items_of(arena, h).fold(
+        NO_CORNER,
+        |met, item| joined(met, item_tally(arena, d, item)),
+    )
 }
 
 /// The tally of the corners of loop l.
 fn loop_tally(arena: &Arena, d: Point, l: u32) -> Tally
     requires ready { IsReady arena.now }
     requires there { has_number arena.now Kind.Loop l ≡ true }
-    ensures { IsTally arena.now.model d (vertices_on arena.now.model (content arena.now.model l)) result }
+    ensures { result ≡ tally arena.now.model d (vertices_on arena.now.model (content arena.now.model l)) }
 {
     match arena.content(l) {
         Content::Lone(v) => corner_tally(arena, d, v),
@@ -133,13 +88,7 @@ fn loop_tally(arena: &Arena, d: Point, l: u32) -> Tally
 pub(crate) fn face_tally(arena: &Arena, d: Point, f: u32) -> Tally
     requires ready { IsReady arena.now }
     requires there { has_number arena.now Kind.Face f ≡ true }
-    ensures { IsTally arena.now.model d (corners arena.now.model f) result }
+    ensures { result ≡ tally arena.now.model d (corners arena.now.model f) }
 {
-    let mut tally = loop_tally(arena, d, arena.outer(f));
-    let mut last = 0;
-    'rings: while let Some(ring) = arena.ring_after(f, last) {
-        tally = joined(tally, loop_tally(arena, d, ring));
-        last = ring;
-    }
-    tally
+    loops_of(arena, f).fold(NO_CORNER, |met, l| joined(met, loop_tally(arena, d, l)))
 }

@@ -104,18 +104,14 @@ fn point_at(points: &[Point], i: usize) -> Point
 
 /// Draws a lamina whose conditions hold: its operators, one after the other. Where memory is refused the draft holds what was
 /// drawn so far.
-pub(crate) fn draw_lamina(
-    draft: &mut Draft,
-    solid: u32,
-    points: &ArrayVec<Point, 64>,
-) -> Result<(), AllocError>
-    requires { spec.lamina_refusal draft.old.model solid points.now.items ≡ None }
-    ensures ok { OnOk result (draft.new.model ≡ lamina_model draft.old.model solid points.now.items) }
+pub(crate) fn draw_lamina(draft: &mut Draft, solid: u32, points: &[Point]) -> Result<(), AllocError>
+    requires few { length points.now ≤ 64 }
+    requires accepted { spec.lamina_refusal draft.old.model solid points.now ≡ None }
+    ensures ok { OnOk result (draft.new.model ≡ lamina_model draft.old.model solid points.now) }
     ensures session { draft.new.session ≡ draft.old.session }
 {
     let taken = counters_of(draft.arena());
-    let corners = points.as_slice();
-    let first = point_at(corners, 0);
+    let first = point_at(points, 0);
     draft.step_accepted(Op::Mvfs(
         solid,
         taken.faces + 1,
@@ -124,14 +120,14 @@ pub(crate) fn draw_lamina(
         first,
     ))?;
     let mut end = Corner::Lone(taken.loops + 1);
-    'further: for i in 1..corners.len() {
+    'further: for i in 1..points.len() {
         let edge = taken.edges + i as u32;
         let vertex = taken.vertices + 1 + i as u32;
-        let next = point_at(corners, i);
+        let next = point_at(points, i);
         draft.step_accepted(Op::Mev(end, end, HalfEdge::plus(edge), vertex, next))?;
         end = Corner::At(HalfEdge::minus(edge));
     }
-    let last = taken.edges + corners.len() as u32;
+    let last = taken.edges + points.len() as u32;
     let turn = HalfEdge::minus(last - 1);
     let start = HalfEdge::plus(taken.edges + 1);
     draft.step_accepted(Op::Mef(
@@ -167,7 +163,7 @@ pub fn lamina(
         Ok(draft) => draft,
         Err((session, error)) => return (session, Err(Failure::Memory(error))),
     };
-    match draw_lamina(&mut draft, solid, points) {
+    match draw_lamina(&mut draft, solid, points.as_slice()) {
         Ok(()) => (draft.commit(), Ok(())),
         Err(error) => (draft.abandon(), Err(Failure::Memory(error))),
     }

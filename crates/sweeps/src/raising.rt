@@ -18,7 +18,7 @@ ghost use Rattle.solid_walks.specs.Counters.{taken_of};
 
 use euler_conditions::Arena;
 use euler_operators::{Content, Corner, HalfEdge, Kind, Op, Point, sum};
-use solid_walks::{Counters, counters_of, face_loops, items_from};
+use solid_walks::{Counters, counters_of, items_from, rings_of};
 use std::alloc::{AllocError, Global};
 use undo_journal::Draft;
 
@@ -133,32 +133,6 @@ fn close_last(draft: &mut Draft, taken: &Counters, count: u32) -> Result<(), All
     ))
 }
 
-/// Sweeps loop l and answers how many items it had.
-fn raise_loop(
-    alloc: Global,
-    draft: &mut Draft,
-    taken: &Counters,
-    l: u32,
-    d: Point,
-) -> Result<u32, AllocError>
-    requires { Ready draft.old.model (taken_of taken.now) (face_of draft.old.model l) l d (items_of (content draft.old.model l)) }
-    ensures count { IfOk result (λ count. count ≡ length (items_of (content draft.old.model l))) }
-    ensures model { OnOk result (draft.new.model ≡ effects draft.old.model (ops.loop_ops draft.old.model (taken_of taken.now) d (items_of (content draft.old.model l)))) }
-    ensures session { draft.new.session ≡ draft.old.session }
-{
-    let items = loop_items(alloc, draft.arena(), l)?;
-    let count = items.len() as u32;
-    raise_item(draft, taken, items[0], 0, d)?;
-    let mut done = 0;
-    'items: while done + 1 < count {
-        raise_item(draft, taken, items[done as usize + 1], done + 1, d)?;
-        close_side(draft, taken, count, done)?;
-        done += 1;
-    }
-    close_last(draft, taken, count)?;
-    Ok(count)
-}
-
 /// The counters once a loop of so many items is swept.
 fn counted_on(taken: &Counters, count: u32) -> Counters
     requires faces_left { taken.now.faces + count ≤ 1000000 }
@@ -175,18 +149,46 @@ fn counted_on(taken: &Counters, count: u32) -> Counters
     }
 }
 
+/// Sweeps loop l and answers the counters after it.
+fn raise_loop(
+    alloc: Global,
+    draft: &mut Draft,
+    taken: &Counters,
+    l: u32,
+    d: Point,
+) -> Result<Counters, AllocError>
+    requires { Ready draft.old.model (taken_of taken.now) (face_of draft.old.model l) l d (items_of (content draft.old.model l)) }
+    ensures counters { IfOk result (λ after. taken_of after ≡ ops.taken_after (taken_of taken.now) (length (items_of (content draft.old.model l)))) }
+    ensures model { OnOk result (draft.new.model ≡ effects draft.old.model (ops.loop_ops draft.old.model (taken_of taken.now) d (items_of (content draft.old.model l)))) }
+    ensures session { draft.new.session ≡ draft.old.session }
+{
+    let items = loop_items(alloc, draft.arena(), l)?;
+    let count = items.len() as u32;
+    raise_item(draft, taken, items[0], 0, d)?;
+    let mut done = 0;
+    'items: while done + 1 < count {
+        raise_item(draft, taken, items[done as usize + 1], done + 1, d)?;
+        close_side(draft, taken, count, done)?;
+        done += 1;
+    }
+    close_last(draft, taken, count)?;
+    Ok(counted_on(taken, count))
+}
+
 /// Sweeps face f of the draft's model along d, where that isn't refused. On `AllocError` the draft may have taken some steps.
 pub(crate) fn raise(alloc: Global, draft: &mut Draft, f: u32, d: Point) -> Result<(), AllocError>
     requires { prism_refusal draft.old.model f d ≡ None }
     ensures model { OnOk result (draft.new.model ≡ prism_model draft.old.model f d) }
     ensures session { draft.new.session ≡ draft.old.session }
 {
-    let mut taken = counters_of(draft.arena());
-    let loops = face_loops(alloc, draft.arena(), f)?;
-    let mut rest = loops.as_slice();
-    'loops: while let [l, others @ ..] = rest {
-        let count = raise_loop(alloc, draft, &taken, *l, d)?;
-        taken = counted_on(&taken, count);
+    let arena = draft.arena();
+    let fresh = counters_of(arena);
+    let outer = arena.outer(f);
+    let rings: Vec<u32> = rings_of(arena, f).collect(alloc)?;
+    let mut taken = raise_loop(alloc, draft, &fresh, outer, d)?;
+    let mut rest = rings.as_slice();
+    'rings: while let [ring, others @ ..] = rest {
+        taken = raise_loop(alloc, draft, &taken, *ring, d)?;
         rest = others;
     }
     Ok(())

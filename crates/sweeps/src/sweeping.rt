@@ -8,11 +8,11 @@ ghost use Rattle.shapes.specs.Prism.{prism_refusal};
 ghost use Rattle.undo_journal.specs.Journal.{IsRecorded};
 ghost use Rattle.sweeps.specs.Machine.{sweep, sweep_refusal};
 
-use crate::corners::{face_tally, lone_loop};
+use crate::corners::face_tally;
 use crate::raising::raise;
 use euler_conditions::Arena;
 use euler_operators::{Kind, Point, Refusal, Why, is_number, refused};
-use solid_walks::{check_left, counters_of};
+use solid_walks::{check_left, counters_of, least_lone_of_face};
 use std::alloc::Global;
 use undo_journal::{Draft, Failure, Session};
 
@@ -28,7 +28,7 @@ fn is_zero(d: Point) -> bool
 /// Refused, in this order: NumberRange; NoFace; ZeroSweep with the face; LoneLoop with the least lone loop of the face; PointRange
 /// with the vertex of the first corner whose moved point is out of range; NumbersSpent with 2 for faces, 3 for loops, 4 for edges,
 /// 5 for vertices.
-#[tactic(auto, unfolding(shapes::specs::Prism::prism_conditions))]
+#[tactic(auto, unfolding(shapes::specs::Prism::prism_conditions, crate::specs::Corners::tally))]
 fn check_sweep(arena: &Arena, f: u32, d: Point) -> Result<(), Refusal>
     requires { IsReady arena.now }
     ensures { result ≡ verdict (prism_refusal arena.now.model f d) }
@@ -42,7 +42,7 @@ fn check_sweep(arena: &Arena, f: u32, d: Point) -> Result<(), Refusal>
     if is_zero(d) {
         return refused(Why::ZeroSweep, f);
     }
-    if let Some(l) = lone_loop(arena, f) {
+    if let Some(l) = least_lone_of_face(arena, f) {
         return refused(Why::LoneLoop, l);
     }
     let tally = face_tally(arena, d, f);

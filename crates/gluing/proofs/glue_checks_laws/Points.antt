@@ -1,5 +1,5 @@
 -- The test for equal points, and points that are met twice.
-use Rattle.std.proofs.Common.{◌≡◌, ℕ, zero, suc, ◌<◌, ℤ, Bool, true, false, ◌&&◌, ◌||◌, List, [], ◌∷◌, ◌++◌, length, refl, sym, ap, ◌∙◌, arith, true≢false}
+use Rattle.std.proofs.Common.{◌≡◌, ℕ, zero, suc, ◌+◌, ◌<◌, cond, Some, is_some, ℤ, Bool, true, false, ◌&&◌, ◌||◌, List, [], ◌∷◌, ◌++◌, length, refl, sym, ap, ◌∙◌, arith, true≢false}
 use Rattle.std.specs.Prelude.{get_or, reverse}
 use Rattle.std.specs.List.{list_any}
 use Rattle.std.specs.Ordering.{int_eq}
@@ -10,6 +10,7 @@ use Rattle.euler_operators.specs.Vectors.{same_point}
 use Rattle.euler_operators.proofs.Crossings.{same_int}
 use Rattle.euler_operators.proofs.Tests.{or_false}
 use Rattle.shapes.specs.glue.Glue.{has_repeats}
+use Rattle.gluing.specs.glue_checks.Places.{place_from}
 
 same_number : (m n : ℤ) → int_eq m n ≡ true → m ≡ n
 same_number m n e = grind arith
@@ -30,6 +31,14 @@ same_itself p = λ i. same_int p.x i && same_int p.y i && same_int p.z i
 
 pub same_turned : (p q : Point) → same_point p q ≡ same_point q p
 same_turned p q = λ i. numbers_turned p.x q.x i && numbers_turned p.y q.y i && numbers_turned p.z q.z i
+
+-- a point has a place in a list where it is one of it
+pub some_place : (n : ℕ) (p : Point) (ps : List Point) → is_some (place_from n p ps) ≡ list_any (same_point p) ps
+some_place n p [] = refl
+some_place n p (q ∷ qs) = elim (same_point q p) as (λ b. is_some (cond b (Some n) (place_from (n + 1) p qs)) ≡ b || list_any (same_point p) qs) [
+  | true ↦ refl
+  | false ↦ some_place (n + 1) p qs
+] ∙ ap (λ b. b || list_any (same_point p) qs) (same_turned q p)
 
 -- one point more is met
 four : (a b c d : Bool) → (a || b) || (c || d) ≡ (c || b) || (a || d)

@@ -8,7 +8,7 @@ ghost use Rattle.shapes.specs.glue.Glue.{glue_refusal};
 ghost use Rattle.gluing.specs.glue_checks.Conditions.{face_conditions, outline_conditions, solid_conditions};
 
 use crate::glue_checks::outlines::{backwards, has_repeats, is_rotation};
-use crate::glue_checks::rims::outline;
+use crate::rims::outline;
 use euler_conditions::Arena;
 use euler_operators::{Kind, Refusal, Why, is_number, refused};
 use solid_measure::{least_bent_of_both, least_lone_of_both};

@@ -1,5 +1,7 @@
 //! Lists of points compared: repeated points, and lists that are turns of one another.
 ghost use Rattle.std.specs.Prelude.{◌≡◌, ◌≤◌, ◌++◌, false, IfOk, drop, length, reverse, take};
+ghost use Rattle.std.specs.List.{list_any};
+ghost use Rattle.euler_operators.specs.Vectors.{same_point};
 ghost use Rattle.shapes.specs.glue.Glue.{has_repeats, is_rotation, same_points};
 ghost use Rattle.gluing.specs.glue_checks.Places.{place_from};
 
@@ -14,8 +16,40 @@ fn key_of(point: Point) -> (i64, i64, i64)
     (point.x, point.y, point.z)
 }
 
-/// Whether two of the points are equal. It takes n log n steps for n points.
+/// Whether two of the points are equal. Up to eight are compared each with each; more take n log n steps for n points, and memory.
 pub(crate) fn has_repeats(alloc: Global, points: &[Point]) -> Result<bool, AllocError>
+    ensures { IfOk result (λ found. found ≡ has_repeats points.now) }
+{
+    if points.len() <= 8 {
+        Ok(few_repeat(points))
+    } else {
+        many_repeat(alloc, points)
+    }
+}
+
+/// Whether the point is one of some points.
+fn is_among(point: Point, points: &[Point]) -> bool
+    ensures { result ≡ list_any (same_point point) points.now }
+{
+    place_of(point, points).is_some()
+}
+
+/// Whether two of the points are equal. Each is compared with those after it.
+fn few_repeat(points: &[Point]) -> bool
+    ensures { result ≡ has_repeats points.now }
+{
+    let mut rest = points;
+    'points: while let [point, others @ ..] = rest {
+        if is_among(*point, others) {
+            return true;
+        }
+        rest = others;
+    }
+    false
+}
+
+/// Whether two of the points are equal. It takes n log n steps for n points.
+fn many_repeat(alloc: Global, points: &[Point]) -> Result<bool, AllocError>
     ensures { IfOk result (λ found. found ≡ has_repeats points.now) }
 {
     let mut met = BTreeSet::new(alloc);

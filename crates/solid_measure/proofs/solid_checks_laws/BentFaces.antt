@@ -6,8 +6,8 @@ use Rattle.shapes.specs.Faces.{faces_of_both}
 use Rattle.shapes.specs.Fresh.{first_such}
 use Rattle.solid_measure.specs.Measure.{is_flat}
 use Rattle.solid_walks.proofs.face_walks_laws.Above.{member}
-use Rattle.solid_measure.specs.solid_checks.Least.{lesser}
-use Rattle.solid_measure.proofs.solid_checks_laws.Searches.{IsLeast, one_least, least_same, least_either, least_rising, and_or}
+use Rattle.solid_walks.specs.Least.{lesser}
+use Rattle.solid_walks.proofs.lone_laws.Searches.{IsLeast, one_least, least_same, least_either, least_rising, and_or}
 use Rattle.solid_walks.proofs.face_walks_laws.FaceWalks.{member_both, faces_rise, both_rise}
 
 module _ (M : Model) where

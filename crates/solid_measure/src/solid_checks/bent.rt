@@ -7,8 +7,7 @@ ghost use Rattle.shapes.specs.Fresh.{first_such};
 ghost use Rattle.solid_measure.specs.Measure.{is_flat};
 
 use crate::faces::is_flat;
-use crate::solid_checks::least::lesser;
-use solid_walks::{Arena, faces_of};
+use solid_walks::{Arena, faces_of, lesser};
 
 /// The least face of solid s that isn't flat, if there is one. It measures the faces of the solid up to that one.
 pub fn least_bent(arena: &Arena, s: u32) -> Option<u32>

@@ -98,6 +98,15 @@ pub fn least_item(arena: &Arena, h: HalfEdge) -> HalfEdge
     }
 }
 
+/// The half-edges of the loop in which h stands, from the least on.
+pub fn items_of(arena: &Arena, h: HalfEdge) -> Items<'_>
+    requires sound { Sound arena.now.model }
+    requires there { has_half arena.now.model (code h) ≡ true }
+    ensures { result ≡ cycle_of arena.now.model (code h) }
+{
+    items_round(arena, least_item(arena, h))
+}
+
 /// The half-edges of the loop in which h stands, from the least on, in a vector that grows with them. `AllocError` where memory
 /// is refused.
 pub fn items_from(alloc: Global, arena: &Arena, h: HalfEdge) -> Result<Vec<HalfEdge>, AllocError>
@@ -105,5 +114,5 @@ pub fn items_from(alloc: Global, arena: &Arena, h: HalfEdge) -> Result<Vec<HalfE
     requires there { has_half arena.now.model (code h) ≡ true }
     ensures { IfOk result (λ items. map code items.items ≡ cycle_of arena.now.model (code h)) }
 {
-    items_round(arena, least_item(arena, h)).collect(alloc)
+    items_of(arena, h).collect(alloc)
 }

@@ -1,5 +1,5 @@
 //! The loops of a face, one after another.
-ghost use Rattle.std.specs.Prelude.{◌≡◌, true, IfOk};
+ghost use Rattle.std.specs.Prelude.{◌≡◌, true};
 ghost use Rattle.std.specs.Iterator.{YieldsFirst, item_count};
 ghost use Rattle.euler_operators.specs.Model.{rings_of};
 ghost use Rattle.euler_operators.specs.Sound.{Sound};
@@ -8,7 +8,6 @@ ghost use Rattle.shapes.specs.Faces.{loops_of};
 
 use euler_conditions::Arena;
 use euler_operators::Kind;
-use std::alloc::{AllocError, Global};
 use std::marker::Model;
 
 /// The loops of a face that are still to come, seen as the list of their numbers.
@@ -84,14 +83,4 @@ impl<'a> Iterator for Loops<'a> {
             None => None,
         }
     }
-}
-
-/// The loops of face f, which is there, in a vector. `AllocError` where memory is refused. For a face without rings it looks at no
-/// other loop than the outer one.
-pub fn face_loops(alloc: Global, arena: &Arena, f: u32) -> Result<Vec<u32>, AllocError>
-    requires sound { Sound arena.now.model }
-    requires there { has_number arena.now Kind.Face f ≡ true }
-    ensures { IfOk result (λ loops. loops.items ≡ loops_of arena.now.model f) }
-{
-    loops_of(arena, f).collect(alloc)
 }

@@ -34,9 +34,6 @@ point-start-requires c = subst (Has c.arena-arena.result.now.model.vertices) (sy
 pub item_at-across-requires-clause-there : goal.item_at-across-requires-clause-there
 item_at-across-requires-clause-there c = opened.second_there c.arena-arena.result.now.model c.args.f c.args.g c.arena-arena.ensures.ready.sound (ap (λ X. glue_refusal X c.args.f c.args.g) c.arena-arena.ensures.model ∙ c.requires)
 
-pub item_at-across-requires-clause-apart : goal.item_at-across-requires-clause-apart
-item_at-across-requires-clause-apart c = opened.points_apart c.arena-arena.result.now.model c.args.f c.args.g c.arena-arena.ensures.ready.sound (ap (λ X. glue_refusal X c.args.f c.args.g) c.arena-arena.ensures.model ∙ c.requires)
-
 pub item_at-across-requires-clause-inside : goal.item_at-across-requires-clause-inside
 item_at-across-requires-clause-inside c =
     let M = c.arena-arena.result.now.model in

@@ -1,51 +1,36 @@
-use Rattle.std.proofs.Common.{◌≡◌, ◌∙◌, Bool, true, false, ◌&&◌, int_eq, refl, ap, sym, subst, true≢false}
+use Rattle.std.proofs.Common.{◌∙◌, ℕ, Bool, ap, sym, subst, rules, tests, of_calls, is_some}
+use Rattle.std.specs.Prelude.{unwrap_or}
+use Rattle.std.specs.Option.{option_map}
+use Rattle.std.proofs.lemmas.Iterator.Consumers.{YieldsList-from_first}
+use Rattle.std.proofs.lemmas.Iterator.Search.{find_from_yields_List}
+use Rattle.euler_operators.specs.Items.{IsIn}
+use Rattle.euler_operators.specs.Vectors.{same_point}
 use Rattle.euler_operators.specs.HalfEdge.{code}
-use Rattle.euler_operators.specs.Model.{content, outer, point_of}
-use Rattle.euler_operators.specs.Sound.{Has}
+use Rattle.euler_operators.specs.Model.{content, outer}
 use Rattle.euler_operators.proofs.Crossings.{same_as}
-use Rattle.shapes.proofs.glue.Points.{same_is}
+use Rattle.shapes.specs.Faces.{start}
+use Rattle.shapes.specs.glue.Glue.{rim}
+use Rattle.solid_walks.proofs.face_walks_laws.Yielded.{serves_listed}
+use Rattle.solid_walks.proofs.lone_laws.Searches.{first_is}
 use Rattle.gluing.specs.Rims.{item_at}
-use Rattle.gluing.proofs.Found.{rim_held, walk_begins, walked_there, walk_stays, walk_finds, walk_nears}
+use Rattle.gluing.proofs.Found.{rim_held, rim_there, is_found, some_mapped}
 use Rattle.gluing.proofs.rims.item_at.Goals as goal
 
--- the test for equal points, as the code has it
-alike : (a b c : Bool) → a && (b && c) ≡ (a && b) && c
-alike true b c = refl
-alike false b c = refl
+pub rim-requires-clause-held : goal.rim-requires-clause-held
+rim-requires-clause-held c = let M = c.args.arena.now.model in rim_held (content M (outer M c.args.g)) (item_at M c.args.g c.args.point) c.requires.inside
 
-pub some_item-at-requires-clause-held : goal.some_item-at-requires-clause-held
-some_item-at-requires-clause-held c = let M = c.args.arena.now.model in rim_held (content M (outer M c.args.g)) (item_at M c.args.g c.args.point) c.requires.inside
+pub find-requires-clause-callable : goal.find-requires-clause-callable
+find-requires-clause-callable c = serves_listed code c.rim.result (λ x q k. search rules) (λ x i. let there = rim_there c.args.arena.now.model c.requires.ready.sound c.args.g (code x) (subst (IsIn (code x)) c.rim.ensures i) in search of_calls)
 
-pub round-init : goal.round-init
-round-init c = walk_begins c.args.arena.now.model c.requires.ready.sound c.args.g c.args.point c.requires.inside (code c.some_item-at.result) c.some_item-at.ensures.there c.some_item-at.ensures.inside
+pub unwrap-requires : goal.unwrap-requires
+unwrap-requires c =
+    let M = c.args.arena.now.model in let test : ℕ → Bool = λ k. same_point (start M k) c.args.point in
+    some_mapped code c.find.result
+    (ap is_some (find_from_yields_List test _ _ c.find.result c.find.ensures.ran (YieldsList-from_first code (λ left. left) (rim M c.args.g) c.rim.ensures) (λ x b q k. search (rules, tests)) ∙ first_is test (rim M c.args.g))
+    ∙ is_found test (rim M c.args.g) (item_at M c.args.g c.args.point) c.requires.inside (same_as (start M (item_at M c.args.g c.args.point)) c.args.point c.requires.starts))
 
-pub next-at-requires : goal.next-at-requires
-next-at-requires c = walked_there c.args.arena.now.model c.requires.ready.sound c.args.g c.args.point c.requires.inside (code c.round.at) c.round.invariant
-
-pub tail-requires : goal.tail-requires
-tail-requires c =
-    let M = c.args.arena.now.model in
-    let i = walk_stays M c.requires.ready.sound c.args.g c.args.point c.requires.inside (code c.round.at) (code c.next-at.result) c.round.invariant c.next-at.ensures.in_loop in
-    walked_there M c.requires.ready.sound c.args.g c.args.point c.requires.inside (code c.next-at.result) i
-
-pub point-requires : goal.point-requires
-point-requires c =
-    let M = c.args.arena.now.model in
-    let i = walk_stays M c.requires.ready.sound c.args.g c.args.point c.requires.inside (code c.round.at) (code c.next-at.result) c.round.invariant c.next-at.ensures.in_loop in
-    subst (Has M.vertices) (sym c.tail.ensures) (c.requires.ready.sound.tails_there (code c.next-at.result) (walked_there M c.requires.ready.sound c.args.g c.args.point c.requires.inside (code c.next-at.result) i))
-
-pub returns-then-eq : goal.returns-then-eq
-returns-then-eq c =
-    let M = c.args.arena.now.model in
-    let i = walk_stays M c.requires.ready.sound c.args.g c.args.point c.requires.inside (code c.round.at) (code c.next-at.result) c.round.invariant c.next-at.ensures.in_loop in
-    walk_finds M c.requires.ready.sound c.args.g c.args.point c.requires.inside c.requires.starts c.requires.apart (code c.next-at.result) i
-    (sym (c.point.ensures.point ∙ ap (point_of M) c.tail.ensures) ∙ same_is c.point.result c.args.point (sym (alike (int_eq c.point.result.x c.args.point.x) _ _) ∙ sym c.eq.ensures ∙ c.if-eq.true))
-
-pub round-smaller : goal.round-smaller
-round-smaller c =
-    let M = c.args.arena.now.model in
-    walk_nears M c.requires.ready.sound c.args.g c.args.point c.requires.inside c.requires.starts (code c.round.at) (code c.next-at.result) c.round.invariant c.next-at.ensures.in_loop
-    (λ e. true≢false (sym (same_as c.point.result c.args.point (c.point.ensures.point ∙ ap (point_of M) c.tail.ensures ∙ e)) ∙ sym (alike (int_eq c.point.result.x c.args.point.x) _ _) ∙ sym c.eq.ensures ∙ c.if-eq.false))
-
-pub round-preserved : goal.round-preserved
-round-preserved c = walk_stays c.args.arena.now.model c.requires.ready.sound c.args.g c.args.point c.requires.inside (code c.round.at) (code c.next-at.result) c.round.invariant c.next-at.ensures.in_loop
+pub returns : goal.returns
+returns c =
+    let M = c.args.arena.now.model in let test : ℕ → Bool = λ k. same_point (start M k) c.args.point in
+    ap (λ o. unwrap_or o 0) (ap (option_map code) (sym c.unwrap.ensures)
+    ∙ find_from_yields_List test _ _ c.find.result c.find.ensures.ran (YieldsList-from_first code (λ left. left) (rim M c.args.g) c.rim.ensures) (λ x b q k. search (rules, tests)) ∙ first_is test (rim M c.args.g))

@@ -1,16 +1,21 @@
-use Rattle.std.proofs.Common.{ap, length, arith}
-use Rattle.solid_walks.proofs.face_walks_laws.RingWalks.{next_ring}
-use Rattle.sweeps.proofs.Tallies.{outer_met, ring_met, face_met}
+use Rattle.std.proofs.Common.{◌∙◌, [], refl, ap, subst, rules, tests, of_calls}
+use Rattle.std.specs.List.{fold}
+use Rattle.std.proofs.lemmas.Iterator.Consumers.{YieldsList-from_first, fold_from_yields_List}
+use Rattle.euler_operators.specs.Items.{IsIn}
+use Rattle.euler_operators.specs.Model.{content}
+use Rattle.shapes.specs.Faces.{corners, loops_of, vertices_in, vertices_on}
+use Rattle.solid_walks.proofs.face_walks_laws.FaceWalks.{loop_in}
+use Rattle.solid_walks.proofs.face_walks_laws.Yielded.{serves_folding}
+use Rattle.sweeps.specs.Corners.{joined, tally}
+use Rattle.sweeps.proofs.Tallies.{tally_none, fold_tallies}
 use Rattle.sweeps.proofs.corners.face_tally.Goals as goal
 
-pub rings-init : goal.rings-init
-rings-init c = outer_met c.args.arena.now.model c.args.d c.requires.ready.sound c.args.f c.outer.result c.outer.ensures c.loop_tally-tally.result c.loop_tally-tally.ensures
-
-pub rings-smaller : goal.rings-smaller
-rings-smaller c = let next = next_ring c.args.arena.now.model c.args.f c.rings.last c.in-Some.ring c.in-Some.ensures in omega (arith, ap length next)
-
-pub rings-preserved : goal.rings-preserved
-rings-preserved c = ring_met c.args.arena.now.model c.args.d c.args.f c.rings.last c.rings.tally c.rings.invariant c.in-Some.ring c.loop_tally.result c.joined-tally.result c.in-Some.ensures c.loop_tally.ensures c.joined-tally.ensures.count c.joined-tally.ensures.far
-
 pub returns : goal.returns
-returns c = face_met c.args.arena.now.model c.args.d c.args.f c.rings.last c.rings.tally c.rings.invariant c.in_default.ensures
+unfolding corners
+returns c =
+    let M = c.args.arena.now.model in let d = c.args.d in let ls = loops_of M c.args.f in
+    fold_from_yields_List _ (λ t l. joined t (tally M d (vertices_on M (content M l)))) _ c.fold.result c.fold.ensures.ran (YieldsList-from_first (λ l. l) (λ left. left) ls c.loops_of.ensures) (λ a x b q k. search (rules, tests))
+    ∙ ap (λ t. fold (λ t l. joined t (tally M d (vertices_on M (content M l)))) t ls) (tally_none M d) ∙ fold_tallies M d (λ l. vertices_on M (content M l)) (vertices_in M) refl (λ l ls. refl) [] ls
+
+pub fold-requires-clause-callable : goal.fold-requires-clause-callable
+fold-requires-clause-callable c = serves_folding (λ l. l) c.loops_of.result (λ a x q k. search rules) (λ a l i. let there = loop_in c.args.arena.now.model c.requires.ready.sound c.args.f l c.requires.there (subst (IsIn l) c.loops_of.ensures i) in search of_calls)

@@ -1,3 +1,4 @@
+use Rattle.std.proofs.Common.{◌∙◌}
 use Rattle.euler_conditions.proofs.Known.{filled}
 use Rattle.sweeps.proofs.Tallies.{half_told, ring_told}
 use Rattle.sweeps.proofs.corners.loop_tally.Goals as goal
@@ -9,4 +10,4 @@ pub ring_tally-requires-clause-there : goal.ring_tally-requires-clause-there
 ring_tally-requires-clause-there c = half_told c.args.arena.now.model c.args.d c.requires.ready.sound c.args.l c.in-Ring.h c.content.result c.in-Ring.is c.content.ensures
 
 pub returns-in-Ring : goal.returns-in-Ring
-returns-in-Ring c = ring_told c.args.arena.now.model c.args.d c.requires.ready.sound c.args.l c.in-Ring.h c.content.result c.in-Ring.is c.content.ensures c.ring_tally.result c.ring_tally.ensures
+returns-in-Ring c = c.ring_tally.ensures ∙ ring_told c.args.arena.now.model c.args.d c.requires.ready.sound c.args.l c.in-Ring.h c.content.result c.in-Ring.is c.content.ensures

@@ -1,50 +1,60 @@
-use Rattle.std.proofs.Common.{◌≡◌, ◌∙◌, ap, sym, subst, refl, arith, true}
+use Rattle.std.proofs.Common.{◌≡◌, ◌∙◌, Ok, ap, sym, subst, true}
+use Rattle.std.proofs.lemmas.Iterator.{items_from_collect}
+use Rattle.std.proofs.lemmas.Iterator.Consumers.{YieldsList-from_first}
 use Rattle.euler_operators.specs.Table.{has}
+use Rattle.euler_operators.specs.Model.{rings_of}
 use Rattle.euler_operators.specs.Sound.{Sound}
-use Rattle.shapes.specs.Faces.{loops_of}
-use Rattle.shapes.specs.Fresh.{taken_in}
 use Rattle.shapes.specs.Prism.{prism_from}
-use Rattle.sweeps_laws.specs.prism.SweepOps.{taken_after}
 use Rattle.sweeps_laws.proofs.prism.Whole.{Going}
-use Rattle.sweeps_laws.proofs.prism.Accepted.{face_there, begins}
+use Rattle.sweeps_laws.proofs.prism.Accepted.{face_there}
 use Rattle.solid_walks.specs.Counters.{taken_of}
 use Rattle.sweeps.proofs.RaisedLoops as raised
 use Rattle.sweeps.proofs.raising.raise.Goals as goal
 
-pub face_loops-requires-clause-there : goal.face_loops-requires-clause-there
-face_loops-requires-clause-there c = subst (λ X. has X.faces c.args.f ≡ true) (sym c.arena-2.ensures.model)
-    (face_there c.args.draft.now.model c.args.f c.args.d (subst Sound c.arena.ensures.model c.arena.ensures.ready.sound) c.requires)
+pub outer-outer-requires : goal.outer-outer-requires
+outer-outer-requires c = subst (λ X. has X.faces c.args.f ≡ true) (sym c.arena-arena.ensures.model)
+    (face_there c.args.draft.now.model c.args.f c.args.d (subst Sound c.arena-arena.ensures.model c.arena-arena.ensures.ready.sound) c.requires)
 
-pub loops-init : goal.loops-init
-loops-init c =
-    let M = c.args.draft.now.model in
-    let taken = c.counters_of-taken.ensures.is ∙ ap taken_in c.arena.ensures.model in
-    let loops = c.as_slice-rest.ensures.value ∙ c.in_ok-loops.ensures ∙ ap (λ X. loops_of X c.args.f) c.arena-2.ensures.model in
-    record {
-      going = subst (λ t. Going M M t c.args.f c.args.d c.as_slice-rest.result.now) (sym taken) (subst (Going M M (taken_in M) c.args.f c.args.d) (sym loops)
-          (begins M c.args.f c.args.d (subst Sound c.arena.ensures.model c.arena.ensures.ready.sound) c.requires));
-      model = (λ j. (prism_from c.args.f c.args.d (record { model = M; taken = taken j }) (loops j)).model) ∙ raised.prism_is M c.args.f c.args.d;
-      session = refl;
-    }
+pub rings_of-requires-clause-there : goal.rings_of-requires-clause-there
+rings_of-requires-clause-there c = subst (λ X. has X.faces c.args.f ≡ true) (sym c.arena-arena.ensures.model)
+    (face_there c.args.draft.now.model c.args.f c.args.d (subst Sound c.arena-arena.ensures.model c.arena-arena.ensures.ready.sound) c.requires)
 
 pub raise_loop-requires : goal.raise_loop-requires
-raise_loop-requires c = raised.loop_ready _ _ _ _ _ c.loops.rest.now c.in-len1-up.len_at_least c.loops.invariant.going
+raise_loop-requires c =
+    let M = c.args.draft.now.model in let A = c.arena-arena.result.now.model in let f = c.args.f in let d = c.args.d in
+    let k = taken_of c.counters_of-fresh.result in let outer = c.outer-outer.result in let rs = c.in_ok-rings.rings.items in
+    let rings = items_from_collect {E = Unit {0}} (Ok c.in_ok-rings.rings) c.in_ok-rings.ensures.ran (YieldsList-from_first (λ l. l) (λ left. left) (rings_of A f) c.rings_of.ensures) in
+    let going = raised.all_going M A c.arena-arena.ensures.model c.arena-arena.ensures.ready.sound f d c.requires k c.counters_of-fresh.ensures.is outer c.outer-outer.ensures rs rings in
+    raised.loop_ready M M k f d outer rs going
 
-pub counted_on-taken-requires-clause-faces_left : goal.counted_on-taken-requires-clause-faces_left
-counted_on-taken-requires-clause-faces_left c = omega (arith, (raised.loop_ready _ _ _ _ _ c.loops.rest.now c.in-len1-up.len_at_least c.loops.invariant.going).faces_left, c.in_ok-count.ensures.count)
+pub rings-init : goal.rings-init
+rings-init c =
+    let M = c.args.draft.now.model in let A = c.arena-arena.result.now.model in let f = c.args.f in let d = c.args.d in
+    let k = taken_of c.counters_of-fresh.result in let outer = c.outer-outer.result in let rs = c.in_ok-rings.rings.items in
+    let rings = items_from_collect {E = Unit {0}} (Ok c.in_ok-rings.rings) c.in_ok-rings.ensures.ran (YieldsList-from_first (λ l. l) (λ left. left) (rings_of A f) c.rings_of.ensures) in
+    let going = raised.all_going M A c.arena-arena.ensures.model c.arena-arena.ensures.ready.sound f d c.requires k c.counters_of-fresh.ensures.is outer c.outer-outer.ensures rs rings in
+    let X = c.raise_loop.new.draft.model in let t = taken_of c.in_ok-taken.taken in
+    record {
+      going = subst (Going M X t f d) (sym c.as_slice-rest.ensures.value) (raised.loop_next M M k f d outer rs going X c.in_ok-taken.ensures.model t c.in_ok-taken.ensures.counters);
+      model = ap (λ xs. (prism_from f d (record { model = X; taken = t }) xs).model) c.as_slice-rest.ensures.value
+          ∙ raised.loop_model M M k f d outer rs going X c.in_ok-taken.ensures.model t c.in_ok-taken.ensures.counters
+          ∙ raised.all_model M A c.arena-arena.ensures.model c.arena-arena.ensures.ready.sound f d c.requires k c.counters_of-fresh.ensures.is outer c.outer-outer.ensures rs rings;
+      session = c.in_ok-taken.ensures.session;
+    }
 
-pub counted_on-taken-requires-clause-loops_left : goal.counted_on-taken-requires-clause-loops_left
-counted_on-taken-requires-clause-loops_left c = omega (arith, (raised.loop_ready _ _ _ _ _ c.loops.rest.now c.in-len1-up.len_at_least c.loops.invariant.going).loops_left, c.in_ok-count.ensures.count)
+pub raise_loop-requires-in-len1-up : goal.raise_loop-requires-in-len1-up
+raise_loop-requires-in-len1-up c =
+    let M = c.args.draft.now.model in let N = c.rings.draft.model in let k = taken_of c.rings.taken in let rest = c.rings.rest.now in
+    raised.loop_ready M N k c.args.f c.args.d (raised.first rest) (raised.others rest) (raised.going_on M N k c.args.f c.args.d rest c.in-len1-up.len_at_least c.rings.invariant.going)
 
-pub counted_on-taken-requires-clause-edges_left : goal.counted_on-taken-requires-clause-edges_left
-counted_on-taken-requires-clause-edges_left c = omega (arith, (raised.loop_ready _ _ _ _ _ c.loops.rest.now c.in-len1-up.len_at_least c.loops.invariant.going).edges_left, c.in_ok-count.ensures.count)
-
-pub counted_on-taken-requires-clause-vertices_left : goal.counted_on-taken-requires-clause-vertices_left
-counted_on-taken-requires-clause-vertices_left c = omega (arith, (raised.loop_ready _ _ _ _ _ c.loops.rest.now c.in-len1-up.len_at_least c.loops.invariant.going).vertices_left, c.in_ok-count.ensures.count)
-
-pub loops-preserved : goal.loops-preserved
-loops-preserved c = record {
-  going = raised.loop_next _ _ _ _ _ c.loops.rest.now c.in-len1-up.len_at_least c.loops.invariant.going c.raise_loop.new.draft.model c.in_ok-count.ensures.model (taken_of c.counted_on-taken.result) (c.counted_on-taken.ensures ∙ ap (taken_after (taken_of c.loops.taken)) c.in_ok-count.ensures.count);
-  model = raised.loop_model _ _ _ _ _ c.loops.rest.now c.in-len1-up.len_at_least c.loops.invariant.going c.raise_loop.new.draft.model c.in_ok-count.ensures.model (taken_of c.counted_on-taken.result) (c.counted_on-taken.ensures ∙ ap (taken_after (taken_of c.loops.taken)) c.in_ok-count.ensures.count) ∙ c.loops.invariant.model;
-  session = c.in_ok-count.ensures.session ∙ c.loops.invariant.session;
-}
+pub rings-preserved : goal.rings-preserved
+rings-preserved c =
+    let M = c.args.draft.now.model in let N = c.rings.draft.model in let k = taken_of c.rings.taken in let rest = c.rings.rest.now in let f = c.args.f in let d = c.args.d in
+    let going = raised.going_on M N k f d rest c.in-len1-up.len_at_least c.rings.invariant.going in
+    let X = c.raise_loop-in-len1-up.new.draft.model in let t = taken_of c.in_ok-taken-2.taken in
+    record {
+      going = raised.loop_next M N k f d (raised.first rest) (raised.others rest) going X c.in_ok-taken-2.ensures.model t c.in_ok-taken-2.ensures.counters;
+      model = raised.loop_model M N k f d (raised.first rest) (raised.others rest) going X c.in_ok-taken-2.ensures.model t c.in_ok-taken-2.ensures.counters
+          ∙ raised.same_model M N k f d rest c.in-len1-up.len_at_least ∙ c.rings.invariant.model;
+      session = c.in_ok-taken-2.ensures.session ∙ c.rings.invariant.session;
+    }

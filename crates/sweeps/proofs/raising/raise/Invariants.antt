@@ -4,12 +4,12 @@ use Rattle.sweeps_laws.proofs.prism.Whole.{Going}
 use Rattle.solid_walks.specs.Counters.{taken_of}
 use Rattle.sweeps.proofs.raising.raise.Given as goal
 
-abbrev pub invariant-loops : goal.invariant-loops
-invariant-loops l = record {
+abbrev pub invariant-rings : goal.invariant-rings
+invariant-rings l = record {
   going : Going l.fn.draft.model l.draft.model (taken_of l.taken) l.f l.d l.rest;
   model : (prism_from l.f l.d (record { model = l.draft.model; taken = taken_of l.taken }) l.rest).model ≡ prism_model l.fn.draft.model l.f l.d;
   session : l.draft.session ≡ l.fn.draft.session;
 }
 
-abbrev pub decreases-loops : goal.decreases-loops
-decreases-loops l = length l.rest
+abbrev pub decreases-rings : goal.decreases-rings
+decreases-rings l = length l.rest

@@ -3,7 +3,7 @@ use Rattle.euler_operators.specs.Model.{items_of, content}
 use Rattle.euler_operators.specs.Conditions.{first_false, is_lone}
 use Rattle.euler_operators.specs.Effect.{effect}
 use Rattle.undo_journal.specs.Journal.{DraftJournal}
-use Rattle.sweeps_laws.specs.prism.SweepOps.{close, close_last}
+use Rattle.sweeps_laws.specs.prism.SweepOps.{close, close_last, taken_after}
 use Rattle.sweeps_laws.proofs.prism.Sides.{content_is, two_items}
 use Rattle.solid_walks.specs.Counters.{taken_of}
 use Rattle.sweeps.proofs.RaisedItems as raised
@@ -82,3 +82,18 @@ returns-clause-model c =
 
 pub returns-clause-session : goal.returns-clause-session
 returns-clause-session c = ap (λ (x : DraftJournal). x.session) c.in_ok-close_last.ensures.ok ∙ c.items.invariant.session
+
+pub counted_on-requires-clause-faces_left : goal.counted_on-requires-clause-faces_left
+counted_on-requires-clause-faces_left c = omega (arith, c.requires.faces_left, c.len-count.ensures ∙ c.in_ok-items.items.ok.0 ∙ raised.how_many _ _ _ _ _ _ c.requires c.in_ok-items.items.items (c.in_ok-items.ensures ∙ ap (λ X. items_of (content X c.args.l)) c.arena.ensures.model))
+
+pub counted_on-requires-clause-loops_left : goal.counted_on-requires-clause-loops_left
+counted_on-requires-clause-loops_left c = omega (arith, c.requires.loops_left, c.len-count.ensures ∙ c.in_ok-items.items.ok.0 ∙ raised.how_many _ _ _ _ _ _ c.requires c.in_ok-items.items.items (c.in_ok-items.ensures ∙ ap (λ X. items_of (content X c.args.l)) c.arena.ensures.model))
+
+pub counted_on-requires-clause-edges_left : goal.counted_on-requires-clause-edges_left
+counted_on-requires-clause-edges_left c = omega (arith, c.requires.edges_left, c.len-count.ensures ∙ c.in_ok-items.items.ok.0 ∙ raised.how_many _ _ _ _ _ _ c.requires c.in_ok-items.items.items (c.in_ok-items.ensures ∙ ap (λ X. items_of (content X c.args.l)) c.arena.ensures.model))
+
+pub counted_on-requires-clause-vertices_left : goal.counted_on-requires-clause-vertices_left
+counted_on-requires-clause-vertices_left c = omega (arith, c.requires.vertices_left, c.len-count.ensures ∙ c.in_ok-items.items.ok.0 ∙ raised.how_many _ _ _ _ _ _ c.requires c.in_ok-items.items.items (c.in_ok-items.ensures ∙ ap (λ X. items_of (content X c.args.l)) c.arena.ensures.model))
+
+pub returns-clause-counters : goal.returns-clause-counters
+returns-clause-counters c = c.counted_on.ensures ∙ ap (taken_after (taken_of c.args.taken.now)) (c.len-count.ensures ∙ c.in_ok-items.items.ok.0 ∙ raised.how_many _ _ _ _ _ _ c.requires c.in_ok-items.items.items (c.in_ok-items.ensures ∙ ap (λ X. items_of (content X c.args.l)) c.arena.ensures.model))

@@ -8,7 +8,7 @@ use Rattle.euler_operators.specs.Items.{IsIn}
 use Rattle.solid_walks.proofs.face_walks_laws.FaceWalks.{face_in}
 use Rattle.solid_walks.proofs.face_walks_laws.Yielded.{serves_listed}
 use Rattle.solid_measure.specs.Measure.{is_flat}
-use Rattle.solid_measure.proofs.solid_checks_laws.Searches.{first_is}
+use Rattle.solid_walks.proofs.lone_laws.Searches.{first_is}
 use Rattle.solid_measure.proofs.solid_checks.bent.least_bent.Goals as goal
 
 pub returns : goal.returns

@@ -1,20 +1,20 @@
-use Rattle.std.proofs.Common.{◌∙◌, refl, subst, rules, tests, of_calls, None}
+use Rattle.std.proofs.Common.{◌∙◌, subst, rules, tests, of_calls, None, [], ◌∷◌}
 use Rattle.std.proofs.lemmas.Iterator.Consumers.{YieldsList-from_first, fold_from_yields_List}
 use Rattle.euler_operators.specs.Model.{faces_of}
-use Rattle.shapes.specs.Faces.{loops_of}
 use Rattle.euler_operators.specs.Items.{IsIn}
+use Rattle.shapes.specs.Faces.{least_lone}
+use Rattle.solid_walks.specs.Least.{lesser}
 use Rattle.solid_walks.proofs.face_walks_laws.FaceWalks.{face_in}
 use Rattle.solid_walks.proofs.face_walks_laws.Yielded.{serves_folding}
-use Rattle.solid_measure.specs.solid_checks.Least.{lesser}
-use Rattle.solid_measure.proofs.solid_checks_laws.Searches.{fold_lesser}
-use Rattle.solid_measure.proofs.solid_checks_laws.LoneLoops.{lone_of, lone_among, among_is}
+use Rattle.solid_walks.proofs.lone_laws.Searches.{fold_lesser}
+use Rattle.solid_walks.proofs.lone_laws.LoneLoops.{least_none, least_more}
 use Rattle.solid_measure.proofs.solid_checks.lone.least_lone.Goals as goal
 
 pub returns : goal.returns
 returns c =
     let M = c.args.arena.now.model in let fs = faces_of M c.args.s in
-    fold_from_yields_List _ (λ o f. lesser o (lone_of M (loops_of M f))) None c.fold.result c.fold.ensures.ran (YieldsList-from_first (λ f. f) (λ left. left) fs c.faces_of.ensures) (λ a x b q k. search (rules, tests))
-    ∙ fold_lesser (λ f. lone_of M (loops_of M f)) (lone_among M) refl (λ f gs. refl) None fs ∙ among_is M c.requires.sound c.args.s
+    fold_from_yields_List _ (λ o f. lesser o (least_lone M (f ∷ []))) None c.fold.result c.fold.ensures.ran (YieldsList-from_first (λ f. f) (λ left. left) fs c.faces_of.ensures) (λ a x b q k. search (rules, tests))
+    ∙ fold_lesser (λ f. least_lone M (f ∷ [])) (least_lone M) (least_none M c.requires.sound) (least_more M c.requires.sound) None fs
 
 pub fold-requires-clause-callable : goal.fold-requires-clause-callable
 fold-requires-clause-callable c = serves_folding (λ f. f) c.faces_of.result (λ a x q k. search rules) (λ a f i. let there = face_in c.args.arena.now.model c.requires.sound c.args.s f (subst (IsIn f) c.faces_of.ensures i) in search of_calls)

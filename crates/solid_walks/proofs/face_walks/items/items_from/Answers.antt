@@ -1,15 +1,7 @@
-use Rattle.std.proofs.Common.{ap, sym, ◌∙◌}
 use Rattle.std.proofs.lemmas.Iterator.Consumers.{YieldsList-from_first, map_from_collect}
-use Rattle.euler_operators.specs.Items.{least}
-use Rattle.euler_operators.specs.Rings.{rotate_to, canonical}
 use Rattle.euler_operators.specs.HalfEdge.{code}
 use Rattle.euler_operators.specs.Model.{cycle_of}
-use Rattle.euler_operators.proofs.Models.{cycle_sound}
 use Rattle.solid_walks.proofs.face_walks.items.items_from.Goals as goal
 
 pub returns : goal.returns
-unfolding canonical
-returns c =
-    let M = c.args.arena.now.model in let h = code c.least_item.result in let l = c.least_item.ensures in
-    map_from_collect c.collect.result c.collect.ensures.ran (YieldsList-from_first code (λ left. left) (cycle_of M (code c.args.h))
-    (c.items_round.ensures ∙ (λ i. rotate_to ((l.least ∙ ap least (sym l.same_loop)) i) (cycle_of M h)) ∙ (cycle_sound M c.requires.sound h l.there).from_least ∙ l.same_loop))
+returns c = map_from_collect c.collect.result c.collect.ensures.ran (YieldsList-from_first code (λ left. left) (cycle_of c.args.arena.now.model (code c.args.h)) c.items_of.ensures)

@@ -1,7 +1,7 @@
 use Rattle.std.proofs.Common.{◌∙◌, ap, not}
 use Rattle.shapes.specs.glue.Glue.{has_repeats}
 use Rattle.gluing.proofs.glue_checks_laws.Keys.{is_met, key, met_more, was_met, first_met, first_new, none_in}
-use Rattle.gluing.proofs.glue_checks.outlines.has_repeats.Goals as goal
+use Rattle.gluing.proofs.glue_checks.outlines.many_repeat.Goals as goal
 
 pub points-init : goal.points-init
 points-init c = none_in c.new-met.result c.args.points.now c.new-met.ensures.empty

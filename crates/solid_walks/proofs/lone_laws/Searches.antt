@@ -8,7 +8,7 @@ use Rattle.euler_operators.proofs.Tests.{and_false}
 use Rattle.shapes.specs.Fresh.{first_such, found}
 use Rattle.solid_walks.proofs.face_walks_laws.Above.{member, AllAbove, Rising, not_member}
 use Rattle.solid_walks.proofs.face_walks_laws.TableWalks.{passes, rising_passing, member_passing}
-use Rattle.solid_measure.specs.solid_checks.Least.{only, lesser, least_such}
+use Rattle.solid_walks.specs.Least.{only, lesser, least_such}
 
 abbrev pub IsLeast : (ℕ → Bool) → Option ℕ → Type 0
 IsLeast p None = (k : ℕ) → p k ≡ false

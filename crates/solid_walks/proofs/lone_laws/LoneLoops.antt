@@ -1,20 +1,18 @@
--- The least lone loop of some faces, face by face.
+-- The least lone loop of a face, of some faces, of two solids.
 use Rattle.std.proofs.Common.{◌≡◌, ℕ, Bool, true, false, not, ◌&&◌, ◌||◌, nat_eq, List, [], ◌∷◌, Option, Some, None, is_some, unwrap_or, refl, sym, ap, ◌∙◌, arith, inl, inr}
 use Rattle.std.proofs.lemmas.Bool.Decides.{nat_tests, eqb_tells}
-use Rattle.std.proofs.lemmas.Bool.{or_right}
 use Rattle.euler_operators.specs.Table.{get, has, all_where}
 use Rattle.euler_operators.specs.Model.{Model, LoopRow, no_loop, face_of, outer, content, rings_of, faces_of}
 use Rattle.euler_operators.specs.Sound.{Sound, Has}
 use Rattle.euler_operators.specs.Conditions.{lists, is_lone}
-use Rattle.euler_operators.proofs.Tests.{and_first}
 use Rattle.euler_operators.proofs.Models.{one_or_more}
 use Rattle.shapes.specs.Faces.{loops_of, least_lone, faces_of_both}
 use Rattle.solid_walks.proofs.face_walks_laws.Above.{member, AllAbove, all_above_members}
 use Rattle.solid_walks.proofs.face_walks_laws.TableWalks.{passes, member_passing}
 use Rattle.solid_walks.proofs.face_walks_laws.RingWalks.{member_rings}
-use Rattle.solid_measure.specs.solid_checks.Least.{lesser, least_such}
-use Rattle.solid_measure.proofs.solid_checks_laws.Searches.{IsLeast, one_least, least_same, least_either, least_listed, least_row}
-use Rattle.solid_walks.proofs.face_walks_laws.FaceWalks.{lists_member, member_faces, member_both}
+use Rattle.solid_walks.specs.Least.{lesser, least_such}
+use Rattle.solid_walks.proofs.lone_laws.Searches.{IsLeast, one_least, least_same, least_either, least_listed, least_row}
+use Rattle.solid_walks.proofs.face_walks_laws.FaceWalks.{lists_member, member_both}
 
 last_true : (a b c : Bool) → c ≡ true → a && b && c ≡ a && b
 last_true true true c e = e
@@ -25,6 +23,12 @@ none_listed : (a b : Bool) → false ≡ a && (b && false)
 none_listed true true = refl
 none_listed true false = refl
 none_listed false b = refl
+
+one_listed : (a b c : Bool) → a && (b && c) ≡ a && (b && (c || false))
+one_listed true true true = refl
+one_listed true true false = refl
+one_listed true false c = refl
+one_listed false b c = refl
 
 spread : (a b c d : Bool) → (a && (b && c)) || (a && (b && d)) ≡ a && (b && (c || d))
 spread true true c d = refl
@@ -38,11 +42,6 @@ module _ (M : Model) where
   -- the least lone loop of some loops
   abbrev pub lone_of : List ℕ → Option ℕ
   lone_of ls = least_such lone_at ls
-
-  -- the least lone loop of some faces, face by face
-  abbrev pub lone_among : List ℕ → Option ℕ
-  lone_among [] = None
-  lone_among (f ∷ fs) = lesser (lone_of (loops_of M f)) (lone_among fs)
 
   -- loop k is lone and of one of these faces
   abbrev lone_in : List ℕ → ℕ → Bool
@@ -84,25 +83,29 @@ module _ (M : Model) where
           last_true (has M.loops k) (nat_eq (face_of M k) f) (not (nat_eq (outer M f) k)) (ap not ne) ∙ ap (λ b. has M.loops k && b) e)
     ]
 
-    among_least : (fs : List ℕ) → ((f : ℕ) → member f fs ≡ true → Has M.faces f) → IsLeast (lone_in fs) (lone_among fs)
-    among_least [] here = λ k. sym (none_listed (lone_at k) (has M.loops k))
-    among_least (f ∷ fs) here =
-        let rest = among_least fs (λ g m. here g (or_right (nat_eq g f) (member g fs) m)) in
-        least_same (λ k. (lone_at k && member k (loops_of M f)) || lone_in fs k) (lone_in (f ∷ fs))
-        (λ k. ap (λ b. (lone_at k && b) || lone_in fs k) (member_loops f k (here f (itself f))) ∙ spread (lone_at k) (has M.loops k) (nat_eq f (face_of M k)) (lists fs (face_of M k)))
-        (lone_among (f ∷ fs)) (least_either (λ k. lone_at k && member k (loops_of M f)) (lone_in fs) (least_such lone_at (loops_of M f)) (lone_among fs) (least_listed lone_at (loops_of M f)) rest) where
-          itself : (n : ℕ) → nat_eq n n || member n fs ≡ true
-          itself n = let e : nat_eq n n ≡ true = grind (arith, nat_tests) in ap (λ b. b || member n fs) e
+    -- the least lone loop of a face is the least of its loops that is lone
+    pub face_lone : (f : ℕ) → Has M.faces f → lone_of (loops_of M f) ≡ least_lone M (f ∷ [])
+    face_lone f here = one_least (lone_in (f ∷ [])) (lone_of (loops_of M f)) (least_lone M (f ∷ []))
+        (least_same (λ k. lone_at k && member k (loops_of M f)) (lone_in (f ∷ []))
+        (λ k. ap (λ b. lone_at k && b) (member_loops f k here) ∙ one_listed (lone_at k) (has M.loops k) (nat_eq f (face_of M k)))
+        (lone_of (loops_of M f)) (least_listed lone_at (loops_of M f)))
+        (found_least (f ∷ []))
 
-    -- face by face one finds the least of all
-    pub among_is : (s : ℕ) → lone_among (faces_of M s) ≡ least_lone M (faces_of M s)
-    among_is s = one_least (lone_in (faces_of M s)) (lone_among (faces_of M s)) (least_lone M (faces_of M s))
-        (among_least (faces_of M s) (λ f m. and_first (has M.faces f) _ (sym (member_faces M s f) ∙ m))) (found_least (faces_of M s))
+    -- that of one face more is the lesser of two
+    pub least_more : (f : ℕ) (fs : List ℕ) → least_lone M (f ∷ fs) ≡ lesser (least_lone M (f ∷ [])) (least_lone M fs)
+    least_more f fs = one_least (lone_in (f ∷ fs)) (least_lone M (f ∷ fs)) (lesser (least_lone M (f ∷ [])) (least_lone M fs)) (found_least (f ∷ fs))
+        (least_same (λ k. lone_in (f ∷ []) k || lone_in fs k) (lone_in (f ∷ fs))
+        (λ k. ap (λ b. b || lone_in fs k) (sym (one_listed (lone_at k) (has M.loops k) (nat_eq f (face_of M k)))) ∙ spread (lone_at k) (has M.loops k) (nat_eq f (face_of M k)) (lists fs (face_of M k)))
+        (lesser (least_lone M (f ∷ [])) (least_lone M fs))
+        (least_either (lone_in (f ∷ [])) (lone_in fs) (least_lone M (f ∷ [])) (least_lone M fs) (found_least (f ∷ [])) (found_least fs)))
+
+    pub least_none : least_lone M [] ≡ None
+    least_none = one_least (lone_in []) (least_lone M []) None (found_least []) (λ k. sym (none_listed (lone_at k) (has M.loops k)))
 
     both_lists : (s t k : ℕ) → lists (faces_of_both M s t) k ≡ lists (faces_of M s) k || lists (faces_of M t) k
     both_lists s t k = lists_member (faces_of_both M s t) k ∙ member_both M s t k ∙ sym (λ i. lists_member (faces_of M s) k i || lists_member (faces_of M t) k i)
 
-    -- and solid by solid
+    -- and that of two solids
     pub both_lone : (s t : ℕ) → lesser (least_lone M (faces_of M s)) (least_lone M (faces_of M t)) ≡ least_lone M (faces_of_both M s t)
     both_lone s t = one_least (lone_in (faces_of_both M s t)) (lesser (least_lone M (faces_of M s)) (least_lone M (faces_of M t))) (least_lone M (faces_of_both M s t))
         (least_same (λ k. lone_in (faces_of M s) k || lone_in (faces_of M t) k) (lone_in (faces_of_both M s t))

@@ -2,7 +2,7 @@ use Rattle.std.proofs.Common.{◌≡◌, ◌||◌, length}
 use Rattle.std.specs.List.{list_any}
 use Rattle.shapes.specs.glue.Glue.{has_repeats}
 use Rattle.gluing.proofs.glue_checks_laws.Keys.{is_met}
-use Rattle.gluing.proofs.glue_checks.outlines.has_repeats.Given as goal
+use Rattle.gluing.proofs.glue_checks.outlines.many_repeat.Given as goal
 
 abbrev pub invariant-points : goal.invariant-points
 invariant-points l = has_repeats l.points ≡ list_any (is_met l.met) l.rest || has_repeats l.rest

@@ -5,8 +5,8 @@ use Rattle.euler_operators.specs.Model.{content, outer, items_of}
 use Rattle.euler_operators.specs.Sound.{Has, StandsIn}
 use Rattle.euler_operators.proofs.Models.{in-holds}
 use Rattle.euler_conditions.specs.Store.{Tells}
-use Rattle.gluing.proofs.glue_checks.rims.some_item.Goals as goal
-use Rattle.gluing.proofs.glue_checks.rims.some_item.Goals.{In-Ring}
+use Rattle.gluing.proofs.rims.some_item.Goals as goal
+use Rattle.gluing.proofs.rims.some_item.Goals.{In-Ring}
 use Rattle.euler_conditions.proofs.Borders.{ring_has}
 
 pub content-requires-clause-filled : goal.content-requires-clause-filled

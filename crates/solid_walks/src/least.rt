@@ -1,9 +1,9 @@
 //! The lesser of numbers that may be missing.
 ghost use Rattle.std.specs.Prelude.{◌≡◌};
-ghost use Rattle.solid_measure.specs.solid_checks.Least.{lesser};
+ghost use Rattle.solid_walks.specs.Least.{lesser};
 
 /// The lesser of two numbers; of one alone, that one.
-pub(crate) fn lesser(m: Option<u32>, n: Option<u32>) -> Option<u32>
+pub fn lesser(m: Option<u32>, n: Option<u32>) -> Option<u32>
     ensures { result ≡ lesser m n }
 {
     match (m, n) {

@@ -1,0 +1,13 @@
+use Rattle.std.proofs.Common.{ap, sym, ◌∙◌}
+use Rattle.euler_operators.specs.Items.{least}
+use Rattle.euler_operators.specs.Rings.{rotate_to, canonical}
+use Rattle.euler_operators.specs.HalfEdge.{code}
+use Rattle.euler_operators.specs.Model.{cycle_of}
+use Rattle.euler_operators.proofs.Models.{cycle_sound}
+use Rattle.solid_walks.proofs.face_walks.items.items_of.Goals as goal
+
+pub returns : goal.returns
+unfolding canonical
+returns c =
+    let M = c.args.arena.now.model in let h = code c.least_item.result in let l = c.least_item.ensures in
+    c.items_round.ensures ∙ (λ i. rotate_to ((l.least ∙ ap least (sym l.same_loop)) i) (cycle_of M h)) ∙ (cycle_sound M c.requires.sound h l.there).from_least ∙ l.same_loop
