@@ -21,8 +21,8 @@ from_unsaid : {A : Type 0} (wrong : Fault) (o : Option A) (xs : List ℕ) → op
 from_unsaid wrong (Some y) xs e = absurd (cc e)
 from_unsaid wrong None xs e = refl
 
-pub first_said : {A : Type 0} (wrong : Fault) (read : Word → Option A) (line xs : List ℕ) (x : A) (rest : List ℕ) → words line ≡ words xs → 0 < length xs → IsAtWord xs → first_by read xs ≡ Some (x, rest) → next_of wrong read (words line) ≡ Ok (x, words rest)
-first_said wrong read line xs x rest same some front e = rw (same, first_word xs some front) (from_said wrong (read (take (word_len xs) xs)) (drop (word_len xs) xs) x rest e)
+pub first_said : {A : Type 0} (wrong : Fault) (read : Word → Option A) (ws : List Word) (xs : List ℕ) (x : A) (rest : List ℕ) → ws ≡ words xs → 0 < length xs → IsAtWord xs → first_by read xs ≡ Some (x, rest) → next_of wrong read ws ≡ Ok (x, words rest)
+first_said wrong read ws xs x rest same some front e = rw (same, first_word xs some front) (from_said wrong (read (take (word_len xs) xs)) (drop (word_len xs) xs) x rest e)
 
-pub first_unsaid : {A : Type 0} (wrong : Fault) (read : Word → Option A) (line xs : List ℕ) → words line ≡ words xs → 0 < length xs → IsAtWord xs → first_by read xs ≡ None → next_of wrong read (words line) ≡ Err wrong
-first_unsaid wrong read line xs same some front e = rw (same, first_word xs some front) (from_unsaid wrong (read (take (word_len xs) xs)) (drop (word_len xs) xs) e)
+pub first_unsaid : {A : Type 0} (wrong : Fault) (read : Word → Option A) (ws : List Word) (xs : List ℕ) → ws ≡ words xs → 0 < length xs → IsAtWord xs → first_by read xs ≡ None → next_of wrong read ws ≡ Err wrong
+first_unsaid wrong read ws xs same some front e = rw (same, first_word xs some front) (from_unsaid wrong (read (take (word_len xs) xs)) (drop (word_len xs) xs) e)

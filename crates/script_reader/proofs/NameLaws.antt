@@ -1,20 +1,21 @@
--- Searching through the names.
-use Rattle.std.proofs.Common.{◌≡◌, ℕ, ◌+◌, ◌<◌, Bool, false, List, [], ◌∷◌, length, drop, get_or, refl, sym, subst, ◌∙◌, Option, Some, add-one, drop-cons}
-use Rattle.std.specs.Prelude.{slice_get}
-use Rattle.std.specs.List.{find}
-use Rattle.std.specs.Str.{bytes_eq}
-use Rattle.script_reader.specs.Grammar.{word_of, name_of}
-use Rattle.script_reader.specs.declared.name.Name.{Name}
+-- A word by its letters.
+use Rattle.std.proofs.Common.{◌≡◌, ℕ, List, [], ◌∷◌, length, get_or, arith}
 
-pub skips : {A : Type 0} (test : A → Bool) (xs : List A) (i : ℕ) (d : A) (found : Option A) → i < length xs → test (get_or xs i d) ≡ false → find test (drop i xs) ≡ found → find test (drop (i + 1) xs) ≡ found
-skips {A} test xs i d found low fails before =
-    let step : find test (drop i xs) ≡ find test (drop (i + 1) xs) = rw (add-one, drop-cons xs i d low, fails) refl in
-    sym step ∙ before
+pub of_five : (w : List ℕ) (a b c d e : ℕ) → length w ≡ 5 → get_or w 0 0 ≡ a → get_or w 1 0 ≡ b → get_or w 2 0 ≡ c → get_or w 3 0 ≡ d → get_or w 4 0 ≡ e → w ≡ a ∷ b ∷ c ∷ d ∷ e ∷ []
+of_five [] a b c d e len e0 e1 e2 e3 e4 = absurd (omega (arith, len))
+of_five (x0 ∷ []) a b c d e len e0 e1 e2 e3 e4 = absurd (omega (arith, len))
+of_five (x0 ∷ x1 ∷ []) a b c d e len e0 e1 e2 e3 e4 = absurd (omega (arith, len))
+of_five (x0 ∷ x1 ∷ x2 ∷ []) a b c d e len e0 e1 e2 e3 e4 = absurd (omega (arith, len))
+of_five (x0 ∷ x1 ∷ x2 ∷ x3 ∷ []) a b c d e len e0 e1 e2 e3 e4 = absurd (omega (arith, len))
+of_five (x0 ∷ x1 ∷ x2 ∷ x3 ∷ x4 ∷ []) a b c d e len e0 e1 e2 e3 e4 = cc (e0, e1, e2, e3, e4)
+of_five (x0 ∷ x1 ∷ x2 ∷ x3 ∷ x4 ∷ x ∷ xs) a b c d e len e0 e1 e2 e3 e4 = absurd (omega (arith, len))
 
--- it is enough to search those that begin with the first letter
-pub begins : (word : List ℕ) (letter : ℕ) (some : List Name) → Some letter ≡ slice_get word 0 → ((letters : List ℕ) → find (λ n. bytes_eq (letter ∷ letters) (word_of n)) some ≡ name_of (letter ∷ letters))
-    → find (λ n. bytes_eq word (word_of n)) some ≡ name_of word
-begins [] letter some e h = absurd (cc e)
-begins (c ∷ cs) letter some e h =
-    let same : letter ≡ c = cc e in
-    subst (λ (b : ℕ). find (λ n. bytes_eq (b ∷ cs) (word_of n)) some ≡ name_of (b ∷ cs)) same (h cs)
+pub of_six : (w : List ℕ) (a b c d e f : ℕ) → length w ≡ 6 → get_or w 0 0 ≡ a → get_or w 1 0 ≡ b → get_or w 2 0 ≡ c → get_or w 3 0 ≡ d → get_or w 4 0 ≡ e → get_or w 5 0 ≡ f → w ≡ a ∷ b ∷ c ∷ d ∷ e ∷ f ∷ []
+of_six [] a b c d e f len e0 e1 e2 e3 e4 e5 = absurd (omega (arith, len))
+of_six (x0 ∷ []) a b c d e f len e0 e1 e2 e3 e4 e5 = absurd (omega (arith, len))
+of_six (x0 ∷ x1 ∷ []) a b c d e f len e0 e1 e2 e3 e4 e5 = absurd (omega (arith, len))
+of_six (x0 ∷ x1 ∷ x2 ∷ []) a b c d e f len e0 e1 e2 e3 e4 e5 = absurd (omega (arith, len))
+of_six (x0 ∷ x1 ∷ x2 ∷ x3 ∷ []) a b c d e f len e0 e1 e2 e3 e4 e5 = absurd (omega (arith, len))
+of_six (x0 ∷ x1 ∷ x2 ∷ x3 ∷ x4 ∷ []) a b c d e f len e0 e1 e2 e3 e4 e5 = absurd (omega (arith, len))
+of_six (x0 ∷ x1 ∷ x2 ∷ x3 ∷ x4 ∷ x5 ∷ []) a b c d e f len e0 e1 e2 e3 e4 e5 = cc (e0, e1, e2, e3, e4, e5)
+of_six (x0 ∷ x1 ∷ x2 ∷ x3 ∷ x4 ∷ x5 ∷ x ∷ xs) a b c d e f len e0 e1 e2 e3 e4 e5 = absurd (omega (arith, len))

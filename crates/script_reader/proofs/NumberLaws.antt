@@ -18,7 +18,7 @@ value_grows n [] = le_refl n
 value_grows n (c ∷ cs) = omega (arith, value_grows (n * 10 + (c - 48)) cs)
 
 -- a digit is no separator
-no_space : (c : ℕ) → is_ascii_digit c ≡ true → is_space c ≡ false
+pub no_space : (c : ℕ) → is_ascii_digit c ≡ true → is_space c ≡ false
 no_space c digit = grind (arith, nat_tests)
 
 -- the value of digits that follow those of n, if it is below the limit

@@ -1,5 +1,5 @@
 -- The grammar of a line: the table of the commands, with the words of each.
-use Rattle.std.specs.Prelude.{ℕ, Bool, true, false, ◌==◌, nat_lt, ◌&&◌, List, [], ◌∷◌, length, codes, Option, Some, None, Result, Ok, Err, if◌then◌else◌}
+use Rattle.std.specs.Prelude.{◌≡◌, ℕ, Bool, true, false, ◌==◌, nat_lt, ◌&&◌, List, [], ◌∷◌, length, codes, Option, Some, None, Result, Ok, Err, if◌then◌else◌}
 use Rattle.std.specs.List.{find}
 use Rattle.std.specs.Str.{bytes_eq}
 use Rattle.euler_operators.specs.declared.HalfEdge.{HalfEdge}
@@ -114,6 +114,11 @@ abbrev pub read_all : (ks : List Kind) → Builder ks → List Word → Result C
 read_all [] c [] = Ok c
 read_all [] c (w ∷ ws) = Err ExtraWord
 read_all (k ∷ ks) make ws = read k ws >>= λ x. read_all ks (make x.0) x.1
+
+-- no word is left; or one is, and whatever the command is, that is the line's fault
+abbrev pub Ends : List Word → Result (Unit {0}) Fault → Type 0
+Ends ws (Ok x) = ws ≡ []
+Ends ws (Err e) = (c : Command) → read_all [] c ws ≡ Err e
 
 abbrev pub name_of : Word → Option Name
 name_of word = find (λ n. bytes_eq word (word_of n)) names

@@ -98,3 +98,8 @@ read InOrOut ws = next_of BadWord way_of ws
 abbrev pub Agrees : {X Y : Type 0} → (X → Y) → Result X Fault → Result Y Fault → Type 0
 Agrees view (Ok x) found = found ≡ Ok (view x)
 Agrees view (Err e) found = found ≡ Err e
+
+-- what a call returned and the words that it left are what reading gives
+abbrev pub Takes : {A : Type 0} → Result (A × List Word) Fault → Result A Fault → List Word → Type 0
+Takes found (Ok x) left = found ≡ Ok (x, left)
+Takes found (Err e) left = found ≡ Err e

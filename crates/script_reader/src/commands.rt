@@ -1,149 +1,149 @@
 //! Reads the words after each command word.
-ghost use Rattle.std.specs.Prelude.{◌≡◌, []};
+ghost use Rattle.std.specs.Prelude.{◌≡◌};
 ghost use Rattle.script_reader.specs.Words.{words};
-ghost use Rattle.script_reader.specs.Grammar.{read_all, arguments};
+ghost use Rattle.script_reader.specs.Grammar.{arguments};
 ghost use Rattle.script_reader.specs.declared.name.Name.TheVariants as name;
 
 use super::command::{Command, Fault};
 use super::name::Name;
 use super::operators::{kef, kemr, kev, kfmrh, kvfs, mef, mekr, mev, mfkrh, mvfs, ringmv};
-use super::places::{number, point, whole};
+use super::places::Words;
 use super::polygon::Polygon;
-use super::words::next_word;
-
-/// The command, where no word is left over.
-pub(crate) fn finish<'a>(command: Command<'a>, rest: &[u8]) -> Result<Command<'a>, Fault>
-    ensures { result ≡ read_all [] command.entry (words rest.now) }
-{
-    match next_word(rest) {
-        None => Ok(command),
-        Some(_) => Err(Fault::ExtraWord),
-    }
-}
 
 #[tactic(auto, unfolding(crate::specs::Grammar::arguments))]
-fn lamina(line: &[u8]) -> Result<Command<'_>, Fault>
-    ensures { result ≡ arguments name.Lamina (words line.now) }
+fn lamina<'a>(words: &mut Words<'a>) -> Result<Command<'a>, Fault>
+    ensures { result ≡ arguments name.Lamina words.old }
 {
-    let (solid, rest) = number(line)?;
-    let polygon = Polygon::read(rest)?;
+    let solid = words.number()?;
+    let polygon = Polygon::read(words.rest())?;
     Ok(Command::Lamina(solid, polygon))
 }
 
 #[tactic(auto, unfolding(crate::specs::Grammar::arguments))]
-fn block(line: &[u8]) -> Result<Command<'_>, Fault>
-    ensures { result ≡ arguments name.Block (words line.now) }
+fn block<'a>(words: &mut Words<'a>) -> Result<Command<'a>, Fault>
+    ensures { result ≡ arguments name.Block words.old }
 {
-    let (solid, rest) = number(line)?;
-    let (place, rest) = point(rest)?;
-    let (dx, rest) = whole(rest)?;
-    let (dy, rest) = whole(rest)?;
-    let (dz, rest) = whole(rest)?;
-    finish(Command::Block(solid, place, dx, dy, dz), rest)
+    let solid = words.number()?;
+    let place = words.point()?;
+    let dx = words.whole()?;
+    let dy = words.whole()?;
+    let dz = words.whole()?;
+    words.finish()?;
+    Ok(Command::Block(solid, place, dx, dy, dz))
 }
 
 #[tactic(auto, unfolding(crate::specs::Grammar::arguments))]
-fn sweep(line: &[u8]) -> Result<Command<'_>, Fault>
-    ensures { result ≡ arguments name.Sweep (words line.now) }
+fn sweep<'a>(words: &mut Words<'a>) -> Result<Command<'a>, Fault>
+    ensures { result ≡ arguments name.Sweep words.old }
 {
-    let (face, rest) = number(line)?;
-    let (vector, rest) = point(rest)?;
-    finish(Command::Sweep(face, vector), rest)
+    let face = words.number()?;
+    let vector = words.point()?;
+    words.finish()?;
+    Ok(Command::Sweep(face, vector))
 }
 
 #[tactic(auto, unfolding(crate::specs::Grammar::arguments))]
-fn glue(line: &[u8]) -> Result<Command<'_>, Fault>
-    ensures { result ≡ arguments name.Glue (words line.now) }
+fn glue<'a>(words: &mut Words<'a>) -> Result<Command<'a>, Fault>
+    ensures { result ≡ arguments name.Glue words.old }
 {
-    let (kept, rest) = number(line)?;
-    let (killed, rest) = number(rest)?;
-    finish(Command::Glue(kept, killed), rest)
+    let kept = words.number()?;
+    let killed = words.number()?;
+    words.finish()?;
+    Ok(Command::Glue(kept, killed))
 }
 
 #[tactic(auto, unfolding(crate::specs::Grammar::arguments))]
-fn split(line: &[u8]) -> Result<Command<'_>, Fault>
-    ensures { result ≡ arguments name.Split (words line.now) }
+fn split<'a>(words: &mut Words<'a>) -> Result<Command<'a>, Fault>
+    ensures { result ≡ arguments name.Split words.old }
 {
-    let (solid, rest) = number(line)?;
-    let (a, rest) = whole(rest)?;
-    let (b, rest) = whole(rest)?;
-    let (c, rest) = whole(rest)?;
-    let (d, rest) = whole(rest)?;
-    let (above, rest) = number(rest)?;
-    finish(Command::Split(solid, [a, b, c, d], above), rest)
+    let solid = words.number()?;
+    let a = words.whole()?;
+    let b = words.whole()?;
+    let c = words.whole()?;
+    let d = words.whole()?;
+    let above = words.number()?;
+    words.finish()?;
+    Ok(Command::Split(solid, [a, b, c, d], above))
 }
 
 #[tactic(auto, unfolding(crate::specs::Grammar::arguments))]
-fn plane(line: &[u8]) -> Result<Command<'_>, Fault>
-    ensures { result ≡ arguments name.Plane (words line.now) }
+fn plane<'a>(words: &mut Words<'a>) -> Result<Command<'a>, Fault>
+    ensures { result ≡ arguments name.Plane words.old }
 {
-    let (face, rest) = number(line)?;
-    finish(Command::Plane(face), rest)
+    let face = words.number()?;
+    words.finish()?;
+    Ok(Command::Plane(face))
 }
 
 #[tactic(auto, unfolding(crate::specs::Grammar::arguments))]
-fn volume(line: &[u8]) -> Result<Command<'_>, Fault>
-    ensures { result ≡ arguments name.Volume (words line.now) }
+fn volume<'a>(words: &mut Words<'a>) -> Result<Command<'a>, Fault>
+    ensures { result ≡ arguments name.Volume words.old }
 {
-    let (solid, rest) = number(line)?;
-    finish(Command::Volume(solid), rest)
+    let solid = words.number()?;
+    words.finish()?;
+    Ok(Command::Volume(solid))
 }
 
 #[tactic(auto, unfolding(crate::specs::Grammar::arguments))]
-fn count(line: &[u8]) -> Result<Command<'_>, Fault>
-    ensures { result ≡ arguments name.Count (words line.now) }
+fn count<'a>(words: &mut Words<'a>) -> Result<Command<'a>, Fault>
+    ensures { result ≡ arguments name.Count words.old }
 {
-    let (solid, rest) = number(line)?;
-    finish(Command::Count(solid), rest)
+    let solid = words.number()?;
+    words.finish()?;
+    Ok(Command::Count(solid))
 }
 
 #[tactic(auto, unfolding(crate::specs::Grammar::arguments))]
-fn undo(line: &[u8]) -> Result<Command<'_>, Fault>
-    ensures { result ≡ arguments name.Undo (words line.now) }
+fn undo<'a>(words: &mut Words<'a>) -> Result<Command<'a>, Fault>
+    ensures { result ≡ arguments name.Undo words.old }
 {
-    finish(Command::Undo, line)
+    words.finish()?;
+    Ok(Command::Undo)
 }
 
 #[tactic(auto, unfolding(crate::specs::Grammar::arguments))]
-fn redo(line: &[u8]) -> Result<Command<'_>, Fault>
-    ensures { result ≡ arguments name.Redo (words line.now) }
+fn redo<'a>(words: &mut Words<'a>) -> Result<Command<'a>, Fault>
+    ensures { result ≡ arguments name.Redo words.old }
 {
-    finish(Command::Redo, line)
+    words.finish()?;
+    Ok(Command::Redo)
 }
 
 #[tactic(auto, unfolding(crate::specs::Grammar::arguments))]
-fn list(line: &[u8]) -> Result<Command<'_>, Fault>
-    ensures { result ≡ arguments name.List (words line.now) }
+fn list<'a>(words: &mut Words<'a>) -> Result<Command<'a>, Fault>
+    ensures { result ≡ arguments name.List words.old }
 {
-    finish(Command::List, line)
+    words.finish()?;
+    Ok(Command::List)
 }
 
 /// The command of this name, with the words in the rest of its line.
 pub fn arguments(name: Name, rest: &[u8]) -> Result<Command<'_>, Fault>
     ensures { result ≡ arguments name (words rest.now) }
 {
+    let mut words = Words::of(rest);
     match name {
-        Name::Mvfs => mvfs(rest),
-        Name::Kvfs => kvfs(rest),
-        Name::Mev => mev(rest),
-        Name::Kev => kev(rest),
-        Name::Mef => mef(rest),
-        Name::Kef => kef(rest),
-        Name::Kemr => kemr(rest),
-        Name::Mekr => mekr(rest),
-        Name::Kfmrh => kfmrh(rest),
-        Name::Mfkrh => mfkrh(rest),
-        Name::Ringmv => ringmv(rest),
-        Name::Lamina => lamina(rest),
-        Name::Block => block(rest),
-        Name::Sweep => sweep(rest),
-        Name::Glue => glue(rest),
-        Name::Split => split(rest),
-        Name::Plane => plane(rest),
-        Name::Volume => volume(rest),
-        Name::Count => count(rest),
-        Name::Undo => undo(rest),
-        Name::Redo => redo(rest),
-        Name::List => list(rest),
+        Name::Mvfs => mvfs(&mut words),
+        Name::Kvfs => kvfs(&mut words),
+        Name::Mev => mev(&mut words),
+        Name::Kev => kev(&mut words),
+        Name::Mef => mef(&mut words),
+        Name::Kef => kef(&mut words),
+        Name::Kemr => kemr(&mut words),
+        Name::Mekr => mekr(&mut words),
+        Name::Kfmrh => kfmrh(&mut words),
+        Name::Mfkrh => mfkrh(&mut words),
+        Name::Ringmv => ringmv(&mut words),
+        Name::Lamina => lamina(&mut words),
+        Name::Block => block(&mut words),
+        Name::Sweep => sweep(&mut words),
+        Name::Glue => glue(&mut words),
+        Name::Split => split(&mut words),
+        Name::Plane => plane(&mut words),
+        Name::Volume => volume(&mut words),
+        Name::Count => count(&mut words),
+        Name::Undo => undo(&mut words),
+        Name::Redo => redo(&mut words),
+        Name::List => list(&mut words),
     }
 }

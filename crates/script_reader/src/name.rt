@@ -1,8 +1,6 @@
 //! The command words.
-ghost use Rattle.std.specs.Prelude.{◌≡◌, ℕ, List, ◌∷◌};
-ghost use Rattle.std.specs.List.{find};
-ghost use Rattle.std.specs.Str.{bytes_eq};
-ghost use Rattle.script_reader.specs.Grammar.{word_of, name_of};
+ghost use Rattle.std.specs.Prelude.{◌≡◌};
+ghost use Rattle.script_reader.specs.Grammar.{name_of};
 
 /// The command words of a script.
 #[derive(Clone, Copy, Debug, PartialEq, Eq)]
@@ -31,65 +29,33 @@ pub enum Name {
     List,
 }
 
-/// The names that begin with this letter.
-fn names_by(letter: u8) -> &'static [Name]
-    ensures { (letters : List ℕ) → find (λ n. bytes_eq (letter ∷ letters) (word_of n)) result.now ≡ name_of (letter ∷ letters) }
-{
-    match letter {
-        b'm' => &[Name::Mvfs, Name::Mev, Name::Mef, Name::Mekr, Name::Mfkrh],
-        b'k' => &[Name::Kvfs, Name::Kev, Name::Kef, Name::Kemr, Name::Kfmrh],
-        b'r' => &[Name::Ringmv, Name::Redo],
-        b'l' => &[Name::Lamina, Name::List],
-        b's' => &[Name::Sweep, Name::Split],
-        b'b' => &[Name::Block],
-        b'g' => &[Name::Glue],
-        b'p' => &[Name::Plane],
-        b'v' => &[Name::Volume],
-        b'c' => &[Name::Count],
-        b'u' => &[Name::Undo],
-        _ => &[],
-    }
-}
-
-/// How a name is written.
-fn word_of(name: Name) -> &'static [u8]
-    ensures { result.now ≡ word_of name }
-{
-    match name {
-        Name::Mvfs => b"mvfs",
-        Name::Kvfs => b"kvfs",
-        Name::Mev => b"mev",
-        Name::Kev => b"kev",
-        Name::Mef => b"mef",
-        Name::Kef => b"kef",
-        Name::Kemr => b"kemr",
-        Name::Mekr => b"mekr",
-        Name::Kfmrh => b"kfmrh",
-        Name::Mfkrh => b"mfkrh",
-        Name::Ringmv => b"ringmv",
-        Name::Lamina => b"lamina",
-        Name::Block => b"block",
-        Name::Sweep => b"sweep",
-        Name::Glue => b"glue",
-        Name::Split => b"split",
-        Name::Plane => b"plane",
-        Name::Volume => b"volume",
-        Name::Count => b"count",
-        Name::Undo => b"undo",
-        Name::Redo => b"redo",
-        Name::List => b"list",
-    }
-}
-
-/// The name that is written so.
+/// The name that is written so. It is told by its letters, which costs less than to compare words.
 pub fn name_of(word: &[u8]) -> Option<Name>
     ensures { result ≡ name_of word.now }
 {
-    let first = word.first()?;
-    for name in names_by(*first) {
-        if word == word_of(*name) {
-            return Some(*name);
-        }
+    match word {
+        [b'm', b'v', b'f', b's'] => Some(Name::Mvfs),
+        [b'k', b'v', b'f', b's'] => Some(Name::Kvfs),
+        [b'm', b'e', b'v'] => Some(Name::Mev),
+        [b'k', b'e', b'v'] => Some(Name::Kev),
+        [b'm', b'e', b'f'] => Some(Name::Mef),
+        [b'k', b'e', b'f'] => Some(Name::Kef),
+        [b'k', b'e', b'm', b'r'] => Some(Name::Kemr),
+        [b'm', b'e', b'k', b'r'] => Some(Name::Mekr),
+        [b'k', b'f', b'm', b'r', b'h'] => Some(Name::Kfmrh),
+        [b'm', b'f', b'k', b'r', b'h'] => Some(Name::Mfkrh),
+        [b'r', b'i', b'n', b'g', b'm', b'v'] => Some(Name::Ringmv),
+        [b'l', b'a', b'm', b'i', b'n', b'a'] => Some(Name::Lamina),
+        [b'b', b'l', b'o', b'c', b'k'] => Some(Name::Block),
+        [b's', b'w', b'e', b'e', b'p'] => Some(Name::Sweep),
+        [b'g', b'l', b'u', b'e'] => Some(Name::Glue),
+        [b's', b'p', b'l', b'i', b't'] => Some(Name::Split),
+        [b'p', b'l', b'a', b'n', b'e'] => Some(Name::Plane),
+        [b'v', b'o', b'l', b'u', b'm', b'e'] => Some(Name::Volume),
+        [b'c', b'o', b'u', b'n', b't'] => Some(Name::Count),
+        [b'u', b'n', b'd', b'o'] => Some(Name::Undo),
+        [b'r', b'e', b'd', b'o'] => Some(Name::Redo),
+        [b'l', b'i', b's', b't'] => Some(Name::List),
+        _ => None,
     }
-    None
 }

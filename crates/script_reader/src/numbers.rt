@@ -6,16 +6,17 @@ ghost use Rattle.script_reader.specs.Words.{first_by};
 use super::words::is_space;
 
 /// The value of the digits up to a separator or the end, below 2^64, and what follows them.
+#[tactic(auto, using(crate::proofs::NumberLaws::no_space))]
 fn digits(line: &[u8]) -> Option<(u64, &[u8])>
     ensures { MatchOption result (digits_after (2 ^ 64) 0 line.now ≡ None) (λ r. digits_after (2 ^ 64) 0 line.now ≡ Some (r.0, r.1.now)) }
 {
     let mut value = 0u64;
     let mut rest = line;
     while let [first, others @ ..] = rest {
-        if is_space(*first) {
-            break;
-        }
         if !first.is_ascii_digit() {
+            if is_space(*first) {
+                break;
+            }
             return None;
         }
         let digit = u64::from(*first - b'0');

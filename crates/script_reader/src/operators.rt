@@ -1,12 +1,10 @@
 //! Reads the words after the command word of each Euler operator.
 ghost use Rattle.std.specs.Prelude.{◌≡◌};
-ghost use Rattle.script_reader.specs.Words.{words};
 ghost use Rattle.script_reader.specs.Grammar.{plus, arguments};
 ghost use Rattle.script_reader.specs.declared.name.Name.TheVariants as name;
 
 use super::command::{Command, Fault};
-use super::commands::finish;
-use super::places::{Way, corner, half, in_or_out, number, point};
+use super::places::{Way, Words};
 use euler_operators::{HalfEdge, Op};
 
 /// The half-edge with `+` of an edge, which is how a script gives a new edge.
@@ -17,121 +15,123 @@ fn plus(edge: u32) -> HalfEdge
 }
 
 #[tactic(auto, unfolding(crate::specs::Grammar::arguments))]
-pub(crate) fn mvfs(line: &[u8]) -> Result<Command<'_>, Fault>
-    ensures { result ≡ arguments name.Mvfs (words line.now) }
+pub(crate) fn mvfs<'a>(words: &mut Words<'a>) -> Result<Command<'a>, Fault>
+    ensures { result ≡ arguments name.Mvfs words.old }
 {
-    let (solid, rest) = number(line)?;
-    let (face, rest) = number(rest)?;
-    let (outer, rest) = number(rest)?;
-    let (vertex, rest) = number(rest)?;
-    let (place, rest) = point(rest)?;
-    finish(
-        Command::Act(Op::Mvfs(solid, face, outer, vertex, place)),
-        rest,
-    )
+    let solid = words.number()?;
+    let face = words.number()?;
+    let outer = words.number()?;
+    let vertex = words.number()?;
+    let place = words.point()?;
+    words.finish()?;
+    Ok(Command::Act(Op::Mvfs(solid, face, outer, vertex, place)))
 }
 
 #[tactic(auto, unfolding(crate::specs::Grammar::arguments))]
-pub(crate) fn kvfs(line: &[u8]) -> Result<Command<'_>, Fault>
-    ensures { result ≡ arguments name.Kvfs (words line.now) }
+pub(crate) fn kvfs<'a>(words: &mut Words<'a>) -> Result<Command<'a>, Fault>
+    ensures { result ≡ arguments name.Kvfs words.old }
 {
-    let (solid, rest) = number(line)?;
-    finish(Command::Act(Op::Kvfs(solid)), rest)
+    let solid = words.number()?;
+    words.finish()?;
+    Ok(Command::Act(Op::Kvfs(solid)))
 }
 
 #[tactic(auto, unfolding(crate::specs::Grammar::arguments))]
-pub(crate) fn mev(line: &[u8]) -> Result<Command<'_>, Fault>
-    ensures { result ≡ arguments name.Mev (words line.now) }
+pub(crate) fn mev<'a>(words: &mut Words<'a>) -> Result<Command<'a>, Fault>
+    ensures { result ≡ arguments name.Mev words.old }
 {
-    let (from, rest) = corner(line)?;
-    let (to, rest) = corner(rest)?;
-    let (edge, rest) = number(rest)?;
-    let (vertex, rest) = number(rest)?;
-    let (place, rest) = point(rest)?;
-    finish(
-        Command::Act(Op::Mev(from, to, plus(edge), vertex, place)),
-        rest,
-    )
+    let from = words.corner()?;
+    let to = words.corner()?;
+    let edge = words.number()?;
+    let vertex = words.number()?;
+    let place = words.point()?;
+    words.finish()?;
+    Ok(Command::Act(Op::Mev(from, to, plus(edge), vertex, place)))
 }
 
 #[tactic(auto, unfolding(crate::specs::Grammar::arguments))]
-pub(crate) fn kev(line: &[u8]) -> Result<Command<'_>, Fault>
-    ensures { result ≡ arguments name.Kev (words line.now) }
+pub(crate) fn kev<'a>(words: &mut Words<'a>) -> Result<Command<'a>, Fault>
+    ensures { result ≡ arguments name.Kev words.old }
 {
-    let (half, rest) = half(line)?;
-    finish(Command::Act(Op::Kev(half)), rest)
+    let half = words.half()?;
+    words.finish()?;
+    Ok(Command::Act(Op::Kev(half)))
 }
 
 #[tactic(auto, unfolding(crate::specs::Grammar::arguments))]
-pub(crate) fn mef(line: &[u8]) -> Result<Command<'_>, Fault>
-    ensures { result ≡ arguments name.Mef (words line.now) }
+pub(crate) fn mef<'a>(words: &mut Words<'a>) -> Result<Command<'a>, Fault>
+    ensures { result ≡ arguments name.Mef words.old }
 {
-    let (from, rest) = half(line)?;
-    let (to, rest) = half(rest)?;
-    let (edge, rest) = number(rest)?;
-    let (face, rest) = number(rest)?;
-    let (outer, rest) = number(rest)?;
-    finish(
-        Command::Act(Op::Mef(from, to, plus(edge), face, outer)),
-        rest,
-    )
+    let from = words.half()?;
+    let to = words.half()?;
+    let edge = words.number()?;
+    let face = words.number()?;
+    let outer = words.number()?;
+    words.finish()?;
+    Ok(Command::Act(Op::Mef(from, to, plus(edge), face, outer)))
 }
 
 #[tactic(auto, unfolding(crate::specs::Grammar::arguments))]
-pub(crate) fn kef(line: &[u8]) -> Result<Command<'_>, Fault>
-    ensures { result ≡ arguments name.Kef (words line.now) }
+pub(crate) fn kef<'a>(words: &mut Words<'a>) -> Result<Command<'a>, Fault>
+    ensures { result ≡ arguments name.Kef words.old }
 {
-    let (half, rest) = half(line)?;
-    finish(Command::Act(Op::Kef(half)), rest)
+    let half = words.half()?;
+    words.finish()?;
+    Ok(Command::Act(Op::Kef(half)))
 }
 
 #[tactic(auto, unfolding(crate::specs::Grammar::arguments))]
-pub(crate) fn kemr(line: &[u8]) -> Result<Command<'_>, Fault>
-    ensures { result ≡ arguments name.Kemr (words line.now) }
+pub(crate) fn kemr<'a>(words: &mut Words<'a>) -> Result<Command<'a>, Fault>
+    ensures { result ≡ arguments name.Kemr words.old }
 {
-    let (half, rest) = half(line)?;
-    let (ring, rest) = number(rest)?;
-    finish(Command::Act(Op::Kemr(half, ring)), rest)
+    let half = words.half()?;
+    let ring = words.number()?;
+    words.finish()?;
+    Ok(Command::Act(Op::Kemr(half, ring)))
 }
 
 #[tactic(auto, unfolding(crate::specs::Grammar::arguments))]
-pub(crate) fn mekr(line: &[u8]) -> Result<Command<'_>, Fault>
-    ensures { result ≡ arguments name.Mekr (words line.now) }
+pub(crate) fn mekr<'a>(words: &mut Words<'a>) -> Result<Command<'a>, Fault>
+    ensures { result ≡ arguments name.Mekr words.old }
 {
-    let (from, rest) = corner(line)?;
-    let (to, rest) = corner(rest)?;
-    let (edge, rest) = number(rest)?;
-    finish(Command::Act(Op::Mekr(from, to, plus(edge))), rest)
+    let from = words.corner()?;
+    let to = words.corner()?;
+    let edge = words.number()?;
+    words.finish()?;
+    Ok(Command::Act(Op::Mekr(from, to, plus(edge))))
 }
 
 #[tactic(auto, unfolding(crate::specs::Grammar::arguments))]
-pub(crate) fn kfmrh(line: &[u8]) -> Result<Command<'_>, Fault>
-    ensures { result ≡ arguments name.Kfmrh (words line.now) }
+pub(crate) fn kfmrh<'a>(words: &mut Words<'a>) -> Result<Command<'a>, Fault>
+    ensures { result ≡ arguments name.Kfmrh words.old }
 {
-    let (kept, rest) = number(line)?;
-    let (killed, rest) = number(rest)?;
-    finish(Command::Act(Op::Kfmrh(kept, killed)), rest)
+    let kept = words.number()?;
+    let killed = words.number()?;
+    words.finish()?;
+    Ok(Command::Act(Op::Kfmrh(kept, killed)))
 }
 
 #[tactic(auto, unfolding(crate::specs::Grammar::arguments))]
-pub(crate) fn mfkrh(line: &[u8]) -> Result<Command<'_>, Fault>
-    ensures { result ≡ arguments name.Mfkrh (words line.now) }
+pub(crate) fn mfkrh<'a>(words: &mut Words<'a>) -> Result<Command<'a>, Fault>
+    ensures { result ≡ arguments name.Mfkrh words.old }
 {
-    let (ring, rest) = number(line)?;
-    let (face, rest) = number(rest)?;
-    finish(Command::Act(Op::Mfkrh(ring, face)), rest)
+    let ring = words.number()?;
+    let face = words.number()?;
+    words.finish()?;
+    Ok(Command::Act(Op::Mfkrh(ring, face)))
 }
 
 #[tactic(auto, unfolding(crate::specs::Grammar::arguments))]
-pub(crate) fn ringmv(line: &[u8]) -> Result<Command<'_>, Fault>
-    ensures { result ≡ arguments name.Ringmv (words line.now) }
+pub(crate) fn ringmv<'a>(words: &mut Words<'a>) -> Result<Command<'a>, Fault>
+    ensures { result ≡ arguments name.Ringmv words.old }
 {
-    let (ring, rest) = number(line)?;
-    let (face, rest) = number(rest)?;
-    let (way, rest) = in_or_out(rest)?;
+    let ring = words.number()?;
+    let face = words.number()?;
+    let way = words.in_or_out()?;
     let op = match way {
         Way::In => Op::RingIn(ring, face),
         Way::Out => Op::RingOut(ring, face),
     };
-    finish(Command::Act(op), rest)
+    words.finish()?;
+    Ok(Command::Act(op))
 }

@@ -1,15 +1,14 @@
 //! Reads the words at one place of a command.
 ghost use Rattle.std.specs.Prelude.{◌≡◌, [], Some, None, MatchOption};
 ghost use Rattle.script_reader.specs.Words.{words, first_by};
-ghost use Rattle.script_reader.specs.Numbers.{number_of, whole_of};
-ghost use Rattle.script_reader.specs.Places.{Agrees, half_of, lone_of, corner_of, way_of, next_of, point_of, points_of};
-ghost use Rattle.script_reader.specs.declared.command.Fault.TheVariants.{BadWord, BadNumber};
+ghost use Rattle.script_reader.specs.Places.{Agrees, half_of, lone_of, corner_of, way_of, points_of};
 
 use super::command::Fault;
 use super::numbers::{number_of, whole_of};
 use super::polygon::Corners;
 use super::words::{at_word, next_word};
 use euler_operators::{Corner, HalfEdge, Point};
+use std::marker::Model;
 
 /// The last word of `ringmv`: the ring becomes a ring of the face, or its outer loop.
 #[derive(Clone, Copy, Debug, PartialEq, Eq)]
@@ -65,75 +64,140 @@ fn way_of(word: &[u8]) -> Option<Way>
     }
 }
 
-/// A number, and the rest of the line.
-pub fn number(line: &[u8]) -> Result<(u32, &[u8]), Fault>
-    ensures { Agrees (λ x. (x.0, words x.1.now)) result (next_of BadNumber number_of (words line.now)) }
-{
-    let Some(line) = at_word(line) else {
-        return Err(Fault::MissingWord);
-    };
-    match number_of(line) {
-        Some((value, rest)) => Ok((value, rest)),
-        None => Err(Fault::BadNumber),
+/// The words of a line that are yet to be read. Each call reads what stands at one place, and hands no part of the line back.
+#[derive(Drop)]
+pub struct Words<'a> {
+    rest: &'a [u8],
+}
+
+impl<'a> Model for Words<'a> {
+    ghost use Rattle.std.specs.Prelude.{List};
+    ghost use Rattle.script_reader.specs.Words.{words};
+    ghost use Rattle.script_reader.specs.Places.{Word};
+
+    ghost Value = { List Word };
+
+    ghost view = { λ w. words w.rest.now };
+}
+
+impl<'a> Words<'a> {
+    ghost use Rattle.std.specs.Prelude.{◌≡◌, [], IsTrue, ◌↔◌};
+    ghost use Rattle.script_reader.specs.Words.{words};
+    ghost use Rattle.script_reader.specs.Numbers.{number_of, whole_of};
+    ghost use Rattle.script_reader.specs.Places.{half_of, corner_of, way_of, next_of, point_of, Takes};
+    ghost use Rattle.script_reader.specs.Grammar.{Ends};
+    ghost use Rattle.script_reader.specs.declared.command.Fault.TheVariants.{BadWord, BadNumber};
+
+    /// The words of a line.
+    pub fn of(line: &'a [u8]) -> Words<'a>
+        ensures { result ≡ words line.now }
+    {
+        Words { rest: line }
     }
-}
 
-/// A coordinate, a size or a coefficient.
-pub fn whole(line: &[u8]) -> Result<(i64, &[u8]), Fault>
-    ensures { Agrees (λ x. (x.0, words x.1.now)) result (next_of BadNumber whole_of (words line.now)) }
-{
-    let Some(line) = at_word(line) else {
-        return Err(Fault::MissingWord);
-    };
-    match whole_of(line) {
-        Some((value, rest)) => Ok((value, rest)),
-        None => Err(Fault::BadNumber),
+    /// What is left of the line.
+    pub fn rest(&self) -> &'a [u8]
+        ensures { words result.now ≡ self.now }
+    {
+        self.rest
     }
-}
 
-/// A half-edge.
-pub fn half(line: &[u8]) -> Result<(HalfEdge, &[u8]), Fault>
-    ensures { Agrees (λ x. (x.0, words x.1.now)) result (next_of BadNumber half_of (words line.now)) }
-{
-    let Some(line) = at_word(line) else {
-        return Err(Fault::MissingWord);
-    };
-    match half_of(line) {
-        Some((value, rest)) => Ok((value, rest)),
-        None => Err(Fault::BadNumber),
+    /// Whether no word is left.
+    pub fn is_empty(&self) -> bool
+        ensures { IsTrue result ↔ (self.now ≡ []) }
+    {
+        at_word(self.rest).is_none()
     }
-}
 
-/// A corner.
-pub fn corner(line: &[u8]) -> Result<(Corner, &[u8]), Fault>
-    ensures { Agrees (λ x. (x.0, words x.1.now)) result (next_of BadNumber corner_of (words line.now)) }
-{
-    let Some(line) = at_word(line) else {
-        return Err(Fault::MissingWord);
-    };
-    match corner_of(line) {
-        Some((value, rest)) => Ok((value, rest)),
-        None => Err(Fault::BadNumber),
+    /// That no word is left.
+    pub fn finish(&self) -> Result<(), Fault>
+        ensures { Ends self.now result }
+    {
+        match at_word(self.rest) {
+            None => Ok(()),
+            Some(_) => Err(Fault::ExtraWord),
+        }
     }
-}
 
-/// `in` or `out`.
-pub fn in_or_out(line: &[u8]) -> Result<(Way, &[u8]), Fault>
-    ensures { Agrees (λ x. (x.0, words x.1.now)) result (next_of BadWord way_of (words line.now)) }
-{
-    let (word, rest) = next_word(line).ok_or(Fault::MissingWord)?;
-    let value = way_of(word).ok_or(Fault::BadWord)?;
-    Ok((value, rest))
-}
+    /// A number.
+    pub fn number(&mut self) -> Result<u32, Fault>
+        ensures { Takes (next_of BadNumber number_of self.old) result self.new }
+    {
+        let Some(line) = at_word(self.rest) else {
+            return Err(Fault::MissingWord);
+        };
+        let Some((value, rest)) = number_of(line) else {
+            return Err(Fault::BadNumber);
+        };
+        self.rest = rest;
+        Ok(value)
+    }
 
-/// Three coordinates.
-pub fn point(line: &[u8]) -> Result<(Point, &[u8]), Fault>
-    ensures { Agrees (λ x. (x.0, words x.1.now)) result (point_of (words line.now)) }
-{
-    let (x, rest) = whole(line)?;
-    let (y, rest) = whole(rest)?;
-    let (z, rest) = whole(rest)?;
-    Ok((Point { x, y, z }, rest))
+    /// A coordinate, a size or a coefficient.
+    pub fn whole(&mut self) -> Result<i64, Fault>
+        ensures { Takes (next_of BadNumber whole_of self.old) result self.new }
+    {
+        let Some(line) = at_word(self.rest) else {
+            return Err(Fault::MissingWord);
+        };
+        let Some((value, rest)) = whole_of(line) else {
+            return Err(Fault::BadNumber);
+        };
+        self.rest = rest;
+        Ok(value)
+    }
+
+    /// A half-edge.
+    pub fn half(&mut self) -> Result<HalfEdge, Fault>
+        ensures { Takes (next_of BadNumber half_of self.old) result self.new }
+    {
+        let Some(line) = at_word(self.rest) else {
+            return Err(Fault::MissingWord);
+        };
+        let Some((value, rest)) = half_of(line) else {
+            return Err(Fault::BadNumber);
+        };
+        self.rest = rest;
+        Ok(value)
+    }
+
+    /// A corner.
+    pub fn corner(&mut self) -> Result<Corner, Fault>
+        ensures { Takes (next_of BadNumber corner_of self.old) result self.new }
+    {
+        let Some(line) = at_word(self.rest) else {
+            return Err(Fault::MissingWord);
+        };
+        let Some((value, rest)) = corner_of(line) else {
+            return Err(Fault::BadNumber);
+        };
+        self.rest = rest;
+        Ok(value)
+    }
+
+    /// `in` or `out`.
+    pub fn in_or_out(&mut self) -> Result<Way, Fault>
+        ensures { Takes (next_of BadWord way_of self.old) result self.new }
+    {
+        let Some((word, rest)) = next_word(self.rest) else {
+            return Err(Fault::MissingWord);
+        };
+        let Some(value) = way_of(word) else {
+            return Err(Fault::BadWord);
+        };
+        self.rest = rest;
+        Ok(value)
+    }
+
+    /// Three coordinates.
+    pub fn point(&mut self) -> Result<Point, Fault>
+        ensures { Takes (point_of self.old) result self.new }
+    {
+        let x = self.whole()?;
+        let y = self.whole()?;
+        let z = self.whole()?;
+        Ok(Point { x, y, z })
+    }
 }
 
 /// As many points as there are words for, and no more than 64.
@@ -141,14 +205,12 @@ pub fn points(line: &[u8]) -> Result<Corners, Fault>
     ensures { Agrees (λ x. (x, [])) result (points_of 64 (words line.now)) }
 {
     let mut corners = Corners::new();
-    let mut rest = line;
-    while next_word(rest).is_some() {
+    let mut words = Words::of(line);
+    'more: while !words.is_empty() {
         if corners.is_full() {
             return Err(Fault::ExtraWord);
         }
-        let (corner, after) = point(rest)?;
-        corners.push(corner);
-        rest = after;
+        corners.push(words.point()?);
     }
     Ok(corners)
 }
