@@ -1,3 +1,4 @@
+pub mod Digits
 pub mod Contents
 pub mod EmptyModels
 pub mod HalfWords

@@ -22,3 +22,7 @@ reply_words (Count ns) = codes "count" ∷ map signed_decimal ns
 -- the line of a reply
 unfoldable pub reply_text : Reply → List ℕ
 reply_text r = line_text (reply_words r)
+
+-- how the line of a refusal begins, up to its value
+abbrev pub refused_head : ℕ → List ℕ
+refused_head why = codes "refused " ++ (decimal why ++ 32 ∷ [])

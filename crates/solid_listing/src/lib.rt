@@ -14,6 +14,7 @@ mod entry;
 mod laws;
 mod listing;
 mod pending;
+mod refusal;
 mod reply;
 mod text;
 mod writing;

@@ -5,6 +5,7 @@ ghost use Rattle.solid_listing.specs.Replies.{coefficient_words, reply_text};
 ghost use Rattle.solid_listing.specs.Writing.{Puts, Tells, outgoing};
 
 use crate::pending::{Text, put, release};
+use crate::refusal::put_refused;
 use crate::text::{put_line, put_words};
 use crate::writing::WriteFault;
 use euler_operators::Plane;
@@ -46,6 +47,7 @@ fn write_coefficients<W: Write>(
 }
 
 /// Writes the line of a face's plane.
+#[inline(never)]
 fn write_plane<W: Write>(
     plane: &Plane,
     flat: bool,
@@ -71,7 +73,7 @@ pub fn tell_reply<W: Write>(
 {
     match reply {
         Reply::Done => put(text, writer, b"ok\n"),
-        Reply::Refused(why, value) => put_line(text, writer, b"refused", &[*why, *value]),
+        Reply::Refused(why, value) => put_refused(text, writer, *why, *value),
         Reply::Fault(cause) => put_line(text, writer, b"fault", &[*cause]),
         Reply::Memory => put(text, writer, b"memory\n"),
         Reply::Plane(plane, flat) => write_plane(plane, *flat, text, writer),

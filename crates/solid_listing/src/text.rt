@@ -48,7 +48,8 @@ pub fn put_words<W: Write, I: Integer>(
     Ok(())
 }
 
-/// Writes the line of a word and numbers.
+/// Writes the line of a word and numbers. Its numbers' room is its own, so that no shorter line pays for it.
+#[inline(never)]
 pub fn put_line<W: Write, I: Integer>(
     text: &mut Text,
     writer: &mut W,
