@@ -8,7 +8,7 @@ ghost use Rattle.undo_journal.specs.Machine as machine;
 
 use crate::script_judging::larger::Larger;
 use euler_conditions::Arena;
-use euler_operators::{Op, Refusal};
+use euler_operators::{Op, Point, Refusal};
 use script_reader::{Command, Polygon, read_line};
 use solid_listing::{Reply, WriteFault};
 use solid_measure::{counts, is_flat, plane, six_volume};
@@ -162,11 +162,71 @@ fn count_reply(arena: &Arena, solid: u32) -> Result<Reply, Refusal>
     ]))
 }
 
-/// Puts a lamina in `later`. It alone has the room for the points, so that no other line pays for it.
+/// Answers a query of a face's plane. The rooms for what a query gives are here and in the next ones, so that no other line pays for them.
+#[inline(never)]
+fn tell_plane(arena: &Arena, face: u32, answer: &mut Answer)
+    requires { IsReady arena.now }
+    ensures { answer.new ≡ told (plane_reply arena.now.model face) }
+{
+    *answer = told(plane_reply(arena, face));
+}
+
+/// Answers a query of a solid's volume.
+#[inline(never)]
+fn tell_volume(arena: &Arena, solid: u32, answer: &mut Answer)
+    requires { IsReady arena.now }
+    ensures { answer.new ≡ told (volume_reply arena.now.model solid) }
+{
+    *answer = told(volume_reply(arena, solid));
+}
+
+/// Answers a query of a solid's counts.
+#[inline(never)]
+fn tell_count(arena: &Arena, solid: u32, answer: &mut Answer)
+    requires { IsReady arena.now }
+    ensures { answer.new ≡ told (count_reply arena.now.model solid) }
+{
+    *answer = told(count_reply(arena, solid));
+}
+
+/// Puts a lamina in `later`. The rooms for larger commands are here and in the next ones, so that no other line pays for them.
+#[inline(never)]
 fn put_lamina(later: &mut Option<Larger>, solid: u32, polygon: &Polygon<'_>)
     ensures { later.new ≡ Some (Larger.Lamina solid polygon.now) }
 {
     *later = Some(Larger::Lamina(solid, polygon.corners()));
+}
+
+/// Puts a block in `later`.
+#[inline(never)]
+fn put_block(later: &mut Option<Larger>, solid: u32, corner: Point, dx: i64, dy: i64, dz: i64)
+    ensures { later.new ≡ Some (Larger.Block solid corner dx dy dz) }
+{
+    *later = Some(Larger::Block(solid, corner, dx, dy, dz));
+}
+
+/// Puts a sweep in `later`.
+#[inline(never)]
+fn put_sweep(later: &mut Option<Larger>, face: u32, way: Point)
+    ensures { later.new ≡ Some (Larger.Sweep face way) }
+{
+    *later = Some(Larger::Sweep(face, way));
+}
+
+/// Puts a glue in `later`.
+#[inline(never)]
+fn put_glue(later: &mut Option<Larger>, face: u32, other: u32)
+    ensures { later.new ≡ Some (Larger.Glue face other) }
+{
+    *later = Some(Larger::Glue(face, other));
+}
+
+/// Puts a split in `later`.
+#[inline(never)]
+fn put_split(later: &mut Option<Larger>, solid: u32, plane: [i64; 4], above: u32)
+    ensures { later.new ≡ Some (Larger.Split solid plane above) }
+{
+    *later = Some(Larger::Split(solid, plane, above));
 }
 
 /// Answers a command, or puts a larger one in `later`; says whether there is an answer.
@@ -187,24 +247,24 @@ fn obey(
             return false;
         }
         Command::Block(solid, corner, dx, dy, dz) => {
-            *later = Some(Larger::Block(solid, corner, dx, dy, dz));
+            put_block(later, solid, corner, dx, dy, dz);
             return false;
         }
         Command::Sweep(face, way) => {
-            *later = Some(Larger::Sweep(face, way));
+            put_sweep(later, face, way);
             return false;
         }
         Command::Glue(face, other) => {
-            *later = Some(Larger::Glue(face, other));
+            put_glue(later, face, other);
             return false;
         }
         Command::Split(solid, plane, above) => {
-            *later = Some(Larger::Split(solid, plane, above));
+            put_split(later, solid, plane, above);
             return false;
         }
-        Command::Plane(face) => *answer = told(plane_reply(session.arena(), face)),
-        Command::Volume(solid) => *answer = told(volume_reply(session.arena(), solid)),
-        Command::Count(solid) => *answer = told(count_reply(session.arena(), solid)),
+        Command::Plane(face) => tell_plane(session.arena(), face, answer),
+        Command::Volume(solid) => tell_volume(session.arena(), solid, answer),
+        Command::Count(solid) => tell_count(session.arena(), solid, answer),
         Command::Undo => undo(session, answer),
         Command::Redo => redo(session, answer),
         Command::List => *answer = Answer::Listing,
