@@ -50,6 +50,7 @@ fn write_lines<W: Write>(arena: &Arena, text: &mut Text, writer: &mut W) -> Resu
 /// and vertex, each kind by rising number, or the line `empty`. It takes no memory.
 ///
 /// A fault comes where a write fails or takes no byte; what went out is then a prefix of the text and the listing.
+#[inline(never)]
 pub fn tell_listing<W: Write>(
     arena: &Arena,
     text: &mut Text,

@@ -104,20 +104,20 @@ fn undo(session: &mut Session, answer: &mut Answer)
     ensures answered { Moves (machine.undo_refusal session.old.machine) session.old.machine (machine.undo session.old.machine) answer.new session.new.machine }
     ensures kept { StaysUnlessDone answer.new session.old session.new }
 {
-    *answer = match session.undo() {
-        Ok(()) => Answer::Reply(Reply::Done),
-        Err(refusal) => refused(refusal),
-    };
+    match session.undo() {
+        Ok(()) => *answer = Answer::Reply(Reply::Done),
+        Err(refusal) => *answer = refused(refusal),
+    }
 }
 
 fn redo(session: &mut Session, answer: &mut Answer)
     ensures answered { Moves (machine.redo_refusal session.old.machine) session.old.machine (machine.redo session.old.machine) answer.new session.new.machine }
     ensures kept { StaysUnlessDone answer.new session.old session.new }
 {
-    *answer = match session.redo() {
-        Ok(()) => Answer::Reply(Reply::Done),
-        Err(refusal) => refused(refusal),
-    };
+    match session.redo() {
+        Ok(()) => *answer = Answer::Reply(Reply::Done),
+        Err(refusal) => *answer = refused(refusal),
+    }
 }
 
 /// What a query gives.
