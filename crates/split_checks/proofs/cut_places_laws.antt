@@ -8,4 +8,5 @@ pub mod Lists
 pub mod Cuts
 pub mod CrossingHalves
 pub mod Edges
+pub mod Searched
 pub mod Sorted

@@ -7,7 +7,6 @@ mod planes;
 mod rising;
 mod sides;
 
-pub use across::crossing_point;
 pub(crate) use faces::places;
 pub use halves::starts_on;
 pub(crate) use halves::{goes_up, is_place, touches};

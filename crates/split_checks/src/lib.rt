@@ -23,7 +23,7 @@ mod place_order;
 mod progress;
 
 pub use begin_checks::check_begin;
-pub use cut_places::{crossing_point, loop_reaches, reaches, starts_on};
-pub use cuts::{Cuts, FacePairs, Pair};
+pub use cut_places::{loop_reaches, reaches, starts_on};
+pub use cuts::{CutEdge, Cuts, FacePairs, Pair};
 pub use progress::Progress;
 pub use solid_measure::{Vector, half_added, normal};

@@ -53,6 +53,9 @@ module _ (M : Model) (s : ℕ) (p : Plane) where
     after_side : first_refusal (sectioning_conditions M s p) ≡ first_refusal (edge_conditions M p es ++ (face_conditions M p fs ++ numbers))
     after_side = ap (λ b. cond b (first_refusal (edge_conditions M p es ++ (face_conditions M p fs ++ numbers))) (Some (record { why = PlaneMisses; number = s }))) met
 
+    pub edges_refused : (e : ℕ) → first_such (is_off M p) es ≡ Some e → first_refusal (sectioning_conditions M s p) ≡ Some (record { why = NotLattice; number = e })
+    edges_refused e off = after_side ∙ ap (λ o. first_refusal (no_such o NotLattice ∷ face_conditions M p fs ++ numbers)) off
+
     module _ (whole : None ≡ first_such (is_off M p) es) where
       after_edges : first_refusal (sectioning_conditions M s p) ≡ first_refusal (face_conditions M p fs ++ numbers)
       after_edges = after_side ∙ ap (λ o. first_refusal (no_such o NotLattice ∷ face_conditions M p fs ++ numbers)) (sym whole)

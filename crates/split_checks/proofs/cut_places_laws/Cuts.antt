@@ -1,12 +1,8 @@
--- Where a plane meets a segment: what is told of it, and the same from either end.
+-- Where a plane meets a segment, as it is told.
 use Rattle.std.proofs.Common.{◌≡◌, Bool, true, false, cond, not, Option, Some, None, is_some, refl, sym, ap, ◌∙◌, true≢false}
 use Rattle.euler_operators.specs.declared.Point.{Point}
 use Rattle.euler_operators.specs.declared.Plane.{Plane}
 use Rattle.euler_operators.specs.Vectors.{cuts_lattice, cut_between, cut_point}
-
--- ---- signs
-
--- ---- what a cut point tells
 
 pub told_off : (s : Plane) (p q : Point) (found : Option Point) (off : Bool) → found ≡ cut_point s p q → is_some found ≡ not off → off ≡ not (cuts_lattice s p q)
 told_off s p q found off is e = back off (cuts_lattice s p q) (sym e ∙ ap is_some is ∙ some_where (cuts_lattice s p q)) where
@@ -25,11 +21,3 @@ told_point s p q r e = elim (cuts_lattice s p q) as (λ b. Some r ≡ cond b (So
 ] e where
   same : (x y : Point) → Some x ≡ Some y → x ≡ y
   same x y f = cc
-
-pub told_none : (s : Plane) (p q : Point) → None ≡ cut_point s p q → cuts_lattice s p q ≡ false
-told_none s p q e = elim (cuts_lattice s p q) as (λ b. None ≡ cond b (Some (cut_between s p q)) None → b ≡ false) [
-  | true ↦ λ f. absurd (true≢false (sym (ap is_some f)))
-  | false ↦ λ f. refl
-] e
-
--- ---- the same from either end

@@ -1,6 +1,6 @@
 -- The edges that a walk over the faces of a solid meets as crossing a plane are those of the solid that do.
 use Rattle.std.specs.Prelude.{filter}
-use Rattle.std.proofs.Common.{◌≡◌, ℕ, Bool, true, ◌&&◌, nat_eq, List, [], ◌∷◌, ◌++◌, length, map, is_some, refl, sym, ap, subst, ◌∙◌, arith, inl, inr, None}
+use Rattle.std.proofs.Common.{◌≡◌, ℕ, Bool, true, ◌&&◌, nat_eq, List, [], ◌∷◌, ◌++◌, length, map, is_some, refl, sym, ap, subst, ◌∙◌, arith, inl, inr}
 use Rattle.std.proofs.lemmas.Bool.{and_parts, eq-eqb, eqb-true}
 use Rattle.std.proofs.lemmas.Bool.Decides.{eqb_tells}
 use Rattle.std.proofs.lemmas.List.{map-append}
@@ -21,14 +21,13 @@ use Rattle.euler_laws.proofs.shared.Arcs.{halves_of_edge}
 use Rattle.euler_laws.proofs.shared.Listed.{listed_passes, passes_listed, all_where-rises, IsIn-from_listed, listed-from_in}
 use Rattle.solid_measure.proofs.face_walks_laws.TableWalks.{rising_passing}
 use Rattle.shapes.specs.Faces.{items_in, loops_of, boundary, edges_of}
-use Rattle.shapes.specs.Fresh.{first_such}
 use Rattle.solid_measure.proofs.solid_counts_laws.HowMany.{of_map, equally_many}
 use Rattle.shapes.specs.split.Sides.{crosses, straddles, straddling_faces, crossing_edges}
-use Rattle.split_checks.specs.cut_places.Crossings.{leads_across, crossings_met, IsCrossing, AreCrossing, is_off}
-use Rattle.split_checks.specs.cut_places.Places.{IsWholeFace, AreWholeFaces}
+use Rattle.split_checks.specs.cut_places.Crossings.{leads_across, crossings_met, IsCrossing, AreCrossing}
+use Rattle.split_checks.specs.cut_places.Places.{IsFaceAlong, AreFacesAlong}
 use Rattle.split_checks.specs.cut_places.Walks.{AreIn}
 use Rattle.split_checks.proofs.cut_places_laws.CrossingHalves.{plus_crosses}
-use Rattle.split_checks.proofs.cut_places_laws.Lists.{of_picked, picked_apart, picked_rise, none_passes}
+use Rattle.split_checks.proofs.cut_places_laws.Lists.{of_picked, picked_apart, picked_rise}
 use Rattle.solid_measure.proofs.face_walks_laws.Above.{Rising}
 use Rattle.shapes.specs.Walks.{loops_in}
 use Rattle.euler_laws.proofs.shared.Counted.{counted_once}
@@ -47,13 +46,13 @@ all_crossing : (M : Model) (p : Plane) (es : List ℕ) → ((e : ℕ) → IsIn e
 all_crossing M p [] each = tt
 all_crossing M p (e ∷ es) each = (each e (omega (arith, tick_same e)), all_crossing M p es (λ k i. each k (omega (arith, i))))
 
-all_whole : (M : Model) (p : Plane) (fs : List ℕ) → ((f : ℕ) → IsIn f fs → Has M.faces f × IsWholeFace M p f) → AreWholeFaces M p fs
-all_whole M p [] each = tt
-all_whole M p (f ∷ fs) each = let w = each f (omega (arith, tick_same f)) in (w.0, w.1, all_whole M p fs (λ k i. each k (omega (arith, i))))
+all_along : (M : Model) (p : Plane) (es fs : List ℕ) → ((f : ℕ) → IsIn f fs → Has M.faces f × IsFaceAlong M p es f) → AreFacesAlong M p es fs
+all_along M p es [] each = tt
+all_along M p es (f ∷ fs) each = let w = each f (omega (arith, tick_same f)) in (w.0, w.1, all_along M p es fs (λ k i. each k (omega (arith, i))))
 
-pub whole_there : (M : Model) (p : Plane) (fs : List ℕ) → AreWholeFaces M p fs → AreIn M.faces fs
-whole_there M p [] whole = tt
-whole_there M p (f ∷ fs) whole = (whole.0, whole_there M p fs whole.2)
+pub along_there : (M : Model) (p : Plane) (es fs : List ℕ) → AreFacesAlong M p es fs → AreIn M.faces fs
+along_there M p es [] along = tt
+along_there M p es (f ∷ fs) along = (along.0, along_there M p es fs along.2)
 
 module _ (M : Model) (sound : Sound M) (s : ℕ) (p : Plane) where
   abbrev halves : List ℕ
@@ -149,13 +148,12 @@ module _ (M : Model) (sound : Sound M) (s : ℕ) (p : Plane) where
       let l : IsIn (loop_of M h) (loops_of M f) = omega (arith, i, items_counted M sound (loops_of M f) h) in
       (items_there M sound (loops_of M f) h i, ap (solid_of M) (face_of_loop M sound f (loop_of M h) there (listed-from_in (loop_of M h) (loops_of M f) l)).1 ∙ of_s)
 
-  module _ (none : first_such (is_off M p) (crossing_edges M p s) ≡ None) where
-    whole_face : (f : ℕ) → Has M.faces f → solid_of M f ≡ s → IsWholeFace M p f
-    whole_face f there of_s h i c =
-        let b = boundary_half f h there of_s i in
-        none_passes (is_off M p) (crossing_edges M p s) none (edge_of h) (edge_in (edge_of h) b.0 (plus_solid h b.0 b.1) (sym (plus_crosses M p h) ∙ c))
+  face_along : (f : ℕ) → Has M.faces f → solid_of M f ≡ s → IsFaceAlong M p (crossing_edges M p s) f
+  face_along f there of_s h i c =
+      let b = boundary_half f h there of_s i in
+      edge_in (edge_of h) b.0 (plus_solid h b.0 b.1) (sym (plus_crosses M p h) ∙ c)
 
-    pub straddling_whole : AreWholeFaces M p (straddling_faces M p s)
-    straddling_whole = all_whole M p (straddling_faces M p s) (λ f i.
-        let l = listed_face M sound s f (listed-from_in f (faces_of M s) (of_picked (straddles M p) f (faces_of M s) i).0) in
-        (l.0, whole_face f l.0 l.1))
+  pub straddling_along : AreFacesAlong M p (crossing_edges M p s) (straddling_faces M p s)
+  straddling_along = all_along M p (crossing_edges M p s) (straddling_faces M p s) (λ f i.
+      let l = listed_face M sound s f (listed-from_in f (faces_of M s) (of_picked (straddles M p) f (faces_of M s) i).0) in
+      (l.0, face_along f l.0 l.1))

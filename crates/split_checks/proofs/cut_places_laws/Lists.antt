@@ -1,14 +1,11 @@
 -- Lists that a walk takes apart.
-use Rattle.std.proofs.Common.{◌≡◌, ℕ, ◌-◌, ◌≤◌, Bool, true, false, cond, ◌||◌, List, [], ◌∷◌, map, length, slice_index_or, refl, sym, ap, ◌∙◌, subst, arith, inl, inr, Some, is_some, true≢false, None}
+use Rattle.std.proofs.Common.{◌≡◌, ℕ, ◌-◌, ◌≤◌, Bool, true, false, cond, ◌||◌, List, [], ◌∷◌, map, length, slice_index_or, refl, sym, ap, subst, arith}
 use Rattle.std.specs.Prelude.{take, drop, filter}
 use Rattle.std.specs.List.{list_any}
 use Rattle.std.proofs.lemmas.List.{take_rest}
-use Rattle.std.proofs.lemmas.Bool.Decides.{eqb_tells}
 use Rattle.euler_operators.specs.declared.HalfEdge.{HalfEdge}
 use Rattle.euler_operators.specs.HalfEdge.{code}
 use Rattle.euler_operators.specs.Items.{IsIn, IsApart}
-use Rattle.euler_operators.proofs.Lists.{tick_other}
-use Rattle.shapes.specs.Fresh.{first_such}
 use Rattle.solid_measure.proofs.solid_counts_laws.HowMany.{passing, of_passing, passing_apart}
 use Rattle.solid_measure.proofs.face_walks_laws.Above.{AllAbove, Rising}
 
@@ -55,14 +52,3 @@ above_picked p n (x ∷ xs) a = elim (p x) as (λ b. AllAbove n (cond b (x ∷ f
 pub picked_rise : (p : ℕ → Bool) (xs : List ℕ) → Rising xs → Rising (filter p xs)
 picked_rise p [] r = tt
 picked_rise p (x ∷ xs) r = elim (p x) as (λ b. Rising (cond b (x ∷ filter p xs) (filter p xs))) [ true ↦ (above_picked p x xs r.0, picked_rise p xs r.1) | false ↦ picked_rise p xs r.1 ]
-
--- where a search finds none, none passes
-pub none_passes : (p : ℕ → Bool) (xs : List ℕ) → first_such p xs ≡ None → (x : ℕ) → IsIn x xs → p x ≡ false
-none_passes p [] e x i = absurd (omega arith)
-none_passes p (y ∷ ys) e x i = elim (p y) as (λ b. p y ≡ b → cond b (Some y) (first_such p ys) ≡ None → p x ≡ false) [
-  | true ↦ λ t e. absurd (true≢false (ap is_some e))
-  | false ↦ λ t e. elim (eqb_tells x y) [
-    | inl s ↦ ap p s.1 ∙ t
-    | inr n ↦ none_passes p ys e x (omega (arith, i, tick_other x y n.1))
-  ]
-] refl e

@@ -33,12 +33,15 @@ from_rising [] r = refl
 from_rising (x ∷ []) r = refl
 from_rising (x ∷ y ∷ ys) r = ap (λ b. b && strictly_rises (y ∷ ys)) (lt-ltb x y r.0.0) ∙ from_rising (y ∷ ys) r.1
 
+pub crossings_rise : (M : Model) → Sound M → (s : ℕ) (p : Plane) → strictly_rises (crossing_edges M p s) ≡ true
+crossings_rise M sound s p = from_rising (crossing_edges M p s) (rising M sound s p)
+
 -- the edges met, sorted, are those of the solid that cross, rising
 pub sorted_crossings : (M : Model) → Sound M → (s : ℕ) (p : Plane) (es : List ℕ) → IsPermutation (crossings_met M p (faces_of M s)) es → IsSorted nat_cmp es → es ≡ crossing_edges M p s
 sorted_crossings M sound s p es moved sorted =
     let met = crossings_met M p (faces_of M s) in
     let same = SameItems-from_permutation met es moved in
     let up = rises es (IsNonDecreasingBy-from_sort (λ x. x) es sorted) (λ x. omega (arith, met_apart M sound s p x, same x)) in
-    let w = within es (crossing_edges M p s) up (from_rising (crossing_edges M p s) (rising M sound s p))
+    let w = within es (crossing_edges M p s) up (crossings_rise M sound s p)
     (λ q l. listed-from_in q (crossing_edges M p s) (met_crosses M sound s p q (omega (arith, same q, IsIn-from_listed q es l)))) in
     w.1 (length_permutation met es moved ∙ as_many M sound s p)

@@ -10,11 +10,11 @@ use Rattle.euler_operators.proofs.Halves.{code-half}
 use Rattle.shapes.specs.Faces.{boundary, loops_of}
 use Rattle.shapes.proofs.walks.FaceLoops.{items_there}
 use Rattle.shapes.specs.split.Places.{is_place, place_point, places, sorted_in, sorted}
-use Rattle.split_checks.specs.cut_places.Places.{IsWholeFace}
+use Rattle.split_checks.specs.cut_places.Places.{IsFaceAlong}
 use Rattle.split_checks.specs.cut_places.Walks.{AreThere}
 use Rattle.split_checks.proofs.cut_places_laws.Lists.{of_picked}
 use Rattle.split_checks.proofs.cut_places_laws.Walks.{all_there}
-use Rattle.split_checks.specs.place_order.Order.{Key, AreWholePlaces, entries_of, places_of}
+use Rattle.split_checks.specs.place_order.Order.{Key, ArePlacesAlong, entries_of, places_of}
 
 pub at_some : {X : Type 0} (o : Option X) (x : X) (P : Type 0) (Q : X → Type 0) → o ≡ Some x → MatchOption o P Q → Q x
 at_some o x P Q e h = subst (λ y. MatchOption y P Q) e h
@@ -44,8 +44,8 @@ module _ (M : Model) (p : Plane) where
     pub held_in_order : places_of es ≡ sorted M p hs
     held_in_order = ap places_of placed ∙ held_places (sorted M p hs)
 
-    pub order_there : AreWholePlaces M p hs → AreThere M (places_of es)
-    order_there whole = subst (AreThere M) (sym held_in_order) (there_sorted hs (all_there M hs (λ h i. (whole h i).there)))
+    pub order_there : (along : List ℕ) → ArePlacesAlong M p along hs → AreThere M (places_of es)
+    order_there along whole = subst (AreThere M) (sym held_in_order) (there_sorted hs (all_there M hs (λ h i. (whole h i).there)))
 
   -- ---- the cut places of a face
 
@@ -58,5 +58,5 @@ module _ (M : Model) (p : Plane) where
     unfolding boundary
     item_there sound h i = items_there M sound (loops_of M f) h i
 
-    pub places_whole : Sound M → IsWholeFace M p f → AreWholePlaces M p (places M p f)
-    places_whole sound whole h i = let o = of_place h i in record { there = item_there sound h o.0; place = o.1; whole = whole h o.0 }
+    pub places_along : (along : List ℕ) → Sound M → IsFaceAlong M p along f → ArePlacesAlong M p along (places M p f)
+    places_along along sound face h i = let o = of_place h i in record { there = item_there sound h o.0; place = o.1; crossing = face h o.0 }

@@ -1,11 +1,19 @@
 -- The point of a cut place is where its half-edge starts, or where this crosses the plane.
-use Rattle.std.proofs.Common.{◌≡◌, ℕ, Bool, true, false, cond, ◌&&◌, ◌||◌, sym, ap, refl, true≢false}
+use Rattle.std.proofs.Common.{◌≡◌, ℕ, ◌<◌, Bool, true, false, cond, ◌&&◌, ◌||◌, List, map, length, slice_index_or, sym, ap, refl, ◌∙◌, true≢false}
+use Rattle.std.specs.Prelude.{get_or}
+use Rattle.std.proofs.lemmas.List.{get_or-map}
 use Rattle.euler_operators.specs.declared.Plane.{Plane}
 use Rattle.euler_operators.specs.Vectors.{are_opposite, is_on, cut_between}
+use Rattle.euler_operators.specs.declared.HalfEdge.{HalfEdge}
+use Rattle.euler_operators.specs.HalfEdge.{code, plus}
+use Rattle.euler_operators.proofs.Halves.{edge_of-code}
 use Rattle.euler_operators.specs.Model.{Model, before}
 use Rattle.shapes.specs.Faces.{start, finish}
 use Rattle.shapes.specs.split.Sides.{crosses}
 use Rattle.shapes.specs.split.Places.{is_place, place_point}
+use Rattle.split_checks.specs.declared.cuts.CutEdge.{CutEdge}
+use Rattle.split_checks.specs.Cuts.{cut_at}
+use Rattle.split_checks.proofs.cut_places_laws.CrossingHalves.{one_cut}
 
 module _ (M : Model) (p : Plane) where
   -- a cut place off the plane's own points is a half-edge that crosses
@@ -24,3 +32,10 @@ module _ (M : Model) (p : Plane) where
   pub point_off : (h : ℕ) → is_on p (start M h) ≡ false → cut_between p (start M h) (finish M h) ≡ place_point M p h
   unfolding place_point
   point_off h off = sym (ap (λ b. cond b (start M h) (cut_between p (start M h) (finish M h))) off)
+
+  -- an edge that crosses, found among those that do, has the point
+  pub point_found : (es : List ℕ) (cut : List CutEdge) (h : HalfEdge) (i : ℕ) (d : CutEdge) → cut ≡ map (cut_at M p) es → i < length es → get_or es i 0 ≡ h.edge
+      → crosses M p (code h) ≡ true → is_on p (start M (code h)) ≡ false → (slice_index_or cut i d).point ≡ place_point M p (code h)
+  point_found es cut h i d is lt at across off =
+      ap (λ (c : CutEdge). c.point) (ap (λ (cs : List CutEdge). slice_index_or cs i d) is ∙ get_or-map (cut_at M p) es i 0 d lt)
+      ∙ ap (λ e. cut_between p (start M (plus e)) (finish M (plus e))) (at ∙ sym (edge_of-code h)) ∙ one_cut M p (code h) across ∙ point_off (code h) off

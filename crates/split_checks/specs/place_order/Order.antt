@@ -1,5 +1,5 @@
 -- Cut places under their points, as entries of a map.
-use Rattle.std.specs.Prelude.{◌≡◌, ℕ, ℤ, true, false, List, map}
+use Rattle.std.specs.Prelude.{◌≡◌, ℕ, ℤ, true, List, map}
 use Rattle.euler_operators.specs.declared.Point.{Point}
 use Rattle.euler_operators.specs.declared.Plane.{Plane}
 use Rattle.euler_operators.specs.Items.{IsIn}
@@ -7,18 +7,25 @@ use Rattle.euler_operators.specs.declared.HalfEdge.{HalfEdge}
 use Rattle.euler_operators.specs.HalfEdge.{code, half, edge_of}
 use Rattle.euler_operators.specs.Model.{Model}
 use Rattle.euler_operators.specs.Sound.{HasHalf}
+use Rattle.euler_operators.specs.Conditions.{strictly_rises}
 use Rattle.shapes.specs.split.Sides.{crosses}
 use Rattle.shapes.specs.split.Places.{is_place, place_point}
-use Rattle.split_checks.specs.cut_places.Crossings.{is_off}
+use Rattle.split_checks.specs.declared.cuts.CutEdge.{CutEdge}
+use Rattle.split_checks.specs.Cuts.{cut_at}
 
--- a cut place whose point is on the lattice
-pub record IsWholePlace (M : Model) (p : Plane) (h : ℕ) : Type 0 where
+-- edges that cross the plane, rising, and each of them with the point at which it meets the plane
+pub record AreCrossings (M : Model) (p : Plane) (edges : List ℕ) (cut : List CutEdge) : Type 0 where
+  pub rising : strictly_rises edges ≡ true
+  pub points : cut ≡ map (cut_at M p) edges
+
+-- a cut place; where its half-edge crosses the plane, the edge is among these
+pub record IsPlaceAlong (M : Model) (p : Plane) (es : List ℕ) (h : ℕ) : Type 0 where
   pub there : HasHalf M h
   pub place : is_place M p h ≡ true
-  pub whole : crosses M p h ≡ true → is_off M p (edge_of h) ≡ false
+  pub crossing : crosses M p h ≡ true → IsIn (edge_of h) es
 
-abbrev pub AreWholePlaces : Model → Plane → List ℕ → Type 0
-AreWholePlaces M p hs = (h : ℕ) → IsIn h hs → IsWholePlace M p h
+abbrev pub ArePlacesAlong : Model → Plane → List ℕ → List ℕ → Type 0
+ArePlacesAlong M p es hs = (h : ℕ) → IsIn h hs → IsPlaceAlong M p es h
 
 -- a point as a key of a map
 abbrev pub Key : Type 0

@@ -7,16 +7,17 @@ ghost use Rattle.euler_operators.specs.Conditions.{first_refusal, verdict};
 ghost use Rattle.euler_operators.specs.Ranges.{IsCutPlane};
 ghost use Rattle.split_checks.specs.Cuts.{AreCuts, all_place_pairs, paired};
 ghost use Rattle.split_checks.specs.begin_checks.Conditions.{face_conditions, number_conditions, sectioning_conditions, solid_conditions};
-ghost use Rattle.split_checks.specs.cut_places.Places.{AreWholeFaces};
+ghost use Rattle.split_checks.specs.cut_places.Places.{AreFacesAlong};
+ghost use Rattle.split_checks.specs.place_order.Order.{AreCrossings};
 ghost use Rattle.shapes.specs.split.Sides.{reaches_above, reaches_below};
 ghost use Rattle.shapes.specs.split.Split.{first_conditions};
 
-use crate::begin_checks::crossings::first_off;
+use crate::begin_checks::crossings::cut_edges;
 use crate::begin_checks::flaws::{Flaw, first_flawed};
 use crate::begin_checks::numbers::{TOO_MANY, check_left, pair_count};
 use crate::begin_checks::planes::check_plane;
 use crate::cut_places::{rising_crossings, solid_reaches, straddling};
-use crate::cuts::{Cuts, FacePairs};
+use crate::cuts::{Crossings, Cuts, FacePairs};
 use crate::face_pairs::pairs_of_faces;
 use euler_conditions::Arena;
 use euler_operators::{Kind, Plane, Refusal, Sign, Why, is_number, refused};
@@ -78,11 +79,13 @@ fn check_faces(
     alloc: Global,
     arena: &Arena,
     plane: Plane,
+    crossings: Crossings<'_>,
     faces: &[u32],
 ) -> Result<Result<Vec<FacePairs>, Refusal>, AllocError>
     requires ready { IsReady arena.now }
     requires plane { IsCutPlane plane }
-    requires whole { AreWholeFaces arena.now.model plane faces.now }
+    requires crossings { AreCrossings arena.now.model plane crossings.edges.now crossings.cut.now }
+    requires whole { AreFacesAlong arena.now.model plane crossings.edges.now faces.now }
     ensures accepted { IfOk result (λ checked. IfOk checked (λ _. first_refusal (face_conditions arena.now.model plane faces.now) ≡ None)) }
     ensures paired { IfOk result (λ checked. IfOk checked (λ pairs. map paired pairs.items ≡ all_place_pairs arena.now.model plane faces.now)) }
     ensures refused { IfOk result (λ checked. IfErr checked (λ refusal. first_refusal (face_conditions arena.now.model plane faces.now) ≡ Some refusal)) }
@@ -93,7 +96,7 @@ fn check_faces(
     if let Some(f) = first_flawed(alloc, arena, plane, Flaw::CutOften, faces)? {
         return Ok(Err(refusal(Why::CutOften, f)));
     }
-    match pairs_of_faces(alloc, arena, plane, faces)? {
+    match pairs_of_faces(alloc, arena, plane, crossings, faces)? {
         Ok(pairs) => Ok(Ok(pairs)),
         Err(f) => Ok(Err(refusal(Why::CutCrossed, f))),
     }
@@ -116,17 +119,22 @@ fn check_section(
         return Ok(Err(refusal(Why::PlaneMisses, s)));
     }
     let edges = rising_crossings(alloc, arena, plane, s)?;
-    if let Some(e) = first_off(arena, plane, edges.as_slice()) {
-        return Ok(Err(refusal(Why::NotLattice, e)));
-    }
-    let cut = straddling(alloc, arena, plane, s)?;
-    let faces = match check_faces(alloc, arena, plane, cut.as_slice())? {
+    let cut = match cut_edges(alloc, arena, plane, edges.as_slice())? {
+        Ok(cut) => cut,
+        Err(e) => return Ok(Err(refusal(Why::NotLattice, e))),
+    };
+    let crossings = Crossings {
+        edges: edges.as_slice(),
+        cut: cut.as_slice(),
+    };
+    let cut_faces = straddling(alloc, arena, plane, s)?;
+    let faces = match check_faces(alloc, arena, plane, crossings, cut_faces.as_slice())? {
         Ok(faces) => faces,
         Err(refusal) => return Ok(Err(refusal)),
     };
     let pairs = pair_count(faces.as_slice());
     match check_left(arena, edges.len().min(TOO_MANY), pairs) {
-        Ok(()) => Ok(Ok(Cuts { edges, faces })),
+        Ok(()) => Ok(Ok(Cuts { edges: cut, faces })),
         Err(refusal) => Ok(Err(refusal)),
     }
 }

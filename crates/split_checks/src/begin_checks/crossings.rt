@@ -1,41 +1,57 @@
-//! Edges that cross a plane off the lattice.
-ghost use Rattle.std.specs.Prelude.{◌≡◌};
+//! The edges that cross a plane, each with the point at which it meets it.
+ghost use Rattle.std.specs.Prelude.{◌≡◌, is_none, map, None, Some, IfErr, IfOk, IfSome};
 ghost use Rattle.euler_conditions.specs.Ready.{IsReady};
 ghost use Rattle.euler_operators.specs.Ranges.{IsCutPlane};
 ghost use Rattle.shapes.specs.Fresh.{first_such};
+ghost use Rattle.split_checks.specs.Cuts.{cut_at};
 ghost use Rattle.split_checks.specs.cut_places.Crossings.{AreCrossing, IsCrossing, is_off};
 
+use crate::cuts::CutEdge;
 use euler_conditions::Arena;
 use euler_operators::{HalfEdge, Plane, cut_point};
 use solid_measure::{finish, start};
+use std::alloc::{AllocError, Global};
 
-/// Whether an edge that crosses the plane meets it off the lattice.
-fn is_off(arena: &Arena, plane: Plane, e: u32) -> bool
+/// An edge that crosses the plane, with the point at which it meets it; none where that is off the lattice.
+fn cut_edge(arena: &Arena, plane: Plane, e: u32) -> Option<CutEdge>
     requires ready { IsReady arena.now }
     requires plane { IsCutPlane plane }
     requires crossing { IsCrossing arena.now.model plane e }
-    ensures { result ≡ is_off arena.now.model plane e }
+    ensures off { is_none result ≡ is_off arena.now.model plane e }
+    ensures cut { IfSome result (λ cut. cut ≡ cut_at arena.now.model plane e) }
 {
     let h = HalfEdge {
         edge: e,
         first: true,
     };
-    cut_point(plane, start(arena, h), finish(arena, h)).is_none()
+    match cut_point(plane, start(arena, h), finish(arena, h)) {
+        Some(point) => Some(CutEdge { edge: e, point }),
+        None => None,
+    }
 }
 
-/// The first of some edges that cross the plane that meets it off the lattice, if there is one.
-pub(crate) fn first_off(arena: &Arena, plane: Plane, edges: &[u32]) -> Option<u32>
+/// Some edges that cross the plane, each with the point at which it meets it; or the first of them that meets it off the lattice.
+pub(crate) fn cut_edges(
+    alloc: Global,
+    arena: &Arena,
+    plane: Plane,
+    edges: &[u32],
+) -> Result<Result<Vec<CutEdge>, u32>, AllocError>
     requires ready { IsReady arena.now }
     requires plane { IsCutPlane plane }
     requires crossing { AreCrossing arena.now.model plane edges.now }
-    ensures { result ≡ first_such (is_off arena.now.model plane) edges.now }
+    ensures whole { IfOk result (λ found. IfOk found (λ _. first_such (is_off arena.now.model plane) edges.now ≡ None)) }
+    ensures cut { IfOk result (λ found. IfOk found (λ cut. cut.items ≡ map (cut_at arena.now.model plane) edges.now)) }
+    ensures off { IfOk result (λ found. IfErr found (λ e. first_such (is_off arena.now.model plane) edges.now ≡ Some e)) }
 {
+    let mut cut = Vec::new(alloc);
     let mut rest = edges;
     'edges: while let [e, others @ ..] = rest {
-        if is_off(arena, plane, *e) {
-            return Some(*e);
-        }
+        let Some(edge) = cut_edge(arena, plane, *e) else {
+            return Ok(Err(*e));
+        };
+        cut.push(edge)?;
         rest = others;
     }
-    None
+    Ok(Ok(cut))
 }

@@ -1,19 +1,17 @@
-//! The edges that cross a plane, and where they meet it.
-ghost use Rattle.std.specs.Prelude.{◌≡◌, ◌++◌, true, false, IfOk, OnOk};
+//! The edges that cross a plane.
+ghost use Rattle.std.specs.Prelude.{◌≡◌, ◌++◌, true, IfOk, OnOk};
 ghost use Rattle.euler_operators.specs.HalfEdge.{code, edge_of};
 ghost use Rattle.euler_operators.specs.Model.{content, cycle_of, faces_of, has_half, items_of};
 ghost use Rattle.euler_conditions.specs.Ready.{IsReady};
 ghost use Rattle.euler_conditions.specs.Store.{has_number};
 ghost use Rattle.euler_operators.specs.Ranges.{IsCutPlane};
-ghost use Rattle.euler_operators.specs.Vectors.{cut_between};
-ghost use Rattle.shapes.specs.Faces.{boundary, finish, start};
-ghost use Rattle.split_checks.specs.cut_places.Crossings.{crossings_in, crossings_met, is_off, leads_across};
-ghost use Rattle.shapes.specs.split.Sides.{crosses};
+ghost use Rattle.shapes.specs.Faces.{boundary};
+ghost use Rattle.split_checks.specs.cut_places.Crossings.{crossings_in, crossings_met, leads_across};
 
 use crate::cut_places::halves::crosses;
 use euler_conditions::Arena;
-use euler_operators::{Content, HalfEdge, Kind, Plane, Point, cut_point};
-use solid_measure::{finish, least_item, start};
+use euler_operators::{Content, HalfEdge, Kind, Plane};
+use solid_measure::least_item;
 use std::alloc::{AllocError, Global};
 
 /// The edge of the half-edge.
@@ -115,23 +113,4 @@ pub(crate) fn crossings(
         above = f;
     }
     Ok(edges)
-}
-
-/// The point at which the edge of a half-edge that crosses the plane meets it, on the lattice.
-pub fn crossing_point(arena: &Arena, plane: Plane, h: HalfEdge) -> Point
-    requires ready { IsReady arena.now }
-    requires there { has_half arena.now.model (code h) ≡ true }
-    requires plane { IsCutPlane plane }
-    requires crossing { crosses arena.now.model plane (code h) ≡ true }
-    requires whole { is_off arena.now.model plane (edge_of (code h)) ≡ false }
-    ensures { result ≡ cut_between plane (start arena.now.model (code h)) (finish arena.now.model (code h)) }
-{
-    let along = HalfEdge {
-        edge: h.edge,
-        first: true,
-    };
-    match cut_point(plane, start(arena, along), finish(arena, along)) {
-        Some(p) => p,
-        None => unreachable!(),
-    }
 }

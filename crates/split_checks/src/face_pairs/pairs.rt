@@ -9,12 +9,12 @@ ghost use Rattle.euler_conditions.specs.Ready.{IsReady};
 ghost use Rattle.euler_conditions.specs.Store.{has_number};
 ghost use Rattle.shapes.specs.split.Places.{in_pairs, is_crossed, is_up_and_down, place_pairs, place_point, sorted, up_first};
 ghost use Rattle.split_checks.specs.Cuts.{codes};
-ghost use Rattle.split_checks.specs.cut_places.Places.{IsWholeFace};
+ghost use Rattle.split_checks.specs.cut_places.Places.{IsFaceAlong};
 ghost use Rattle.split_checks.specs.cut_places.Walks.{AreThere};
-ghost use Rattle.split_checks.specs.place_order.Order.{IsWholePlace, places_of};
+ghost use Rattle.split_checks.specs.place_order.Order.{AreCrossings, IsPlaceAlong, places_of};
 
 use crate::cut_places::{goes_up, places};
-use crate::cuts::Pair;
+use crate::cuts::{Crossings, Pair};
 use crate::place_order::{Places, in_order, place_point};
 use euler_conditions::Arena;
 use euler_operators::{HalfEdge, Kind, Plane};
@@ -48,17 +48,20 @@ fn only_pair(
     alloc: Global,
     arena: &Arena,
     plane: Plane,
+    crossings: Crossings<'_>,
     first: HalfEdge,
     second: HalfEdge,
 ) -> Result<Option<Vec<Pair>>, AllocError>
     requires ready { IsReady arena.now }
     requires plane { IsCutPlane plane }
-    requires first { IsWholePlace arena.now.model plane (code first) }
-    requires second { IsWholePlace arena.now.model plane (code second) }
+    requires crossings { AreCrossings arena.now.model plane crossings.edges.now crossings.cut.now }
+    requires first { IsPlaceAlong arena.now.model plane crossings.edges.now (code first) }
+    requires second { IsPlaceAlong arena.now.model plane crossings.edges.now (code second) }
     ensures crossed { IfOk result (λ found. is_none found ≡ same_point (place_point arena.now.model plane (code first)) (place_point arena.now.model plane (code second)) || not (is_up_and_down arena.now.model plane (code first, code second))) }
     ensures pairs { IfOk result (λ found. IfSome found (λ pairs. map codes pairs.items ≡ map (up_first arena.now.model plane) (in_pairs (sorted arena.now.model plane (code first ∷ code second ∷ []))))) }
 {
-    if place_point(arena, plane, first) == place_point(arena, plane, second) {
+    let met = place_point(arena, plane, crossings, first);
+    if met == place_point(arena, plane, crossings, second) {
         return Ok(None);
     }
     let Some(pair) = up_and_down(arena, plane, first, second) else {
@@ -102,20 +105,22 @@ pub(crate) fn pairs_of_face(
     alloc: Global,
     arena: &Arena,
     plane: Plane,
+    crossings: Crossings<'_>,
     f: u32,
 ) -> Result<Option<Vec<Pair>>, AllocError>
     requires ready { IsReady arena.now }
     requires there { has_number arena.now Kind.Face f ≡ true }
     requires plane { IsCutPlane plane }
-    requires whole { IsWholeFace arena.now.model plane f }
+    requires crossings { AreCrossings arena.now.model plane crossings.edges.now crossings.cut.now }
+    requires whole { IsFaceAlong arena.now.model plane crossings.edges.now f }
     ensures crossed { IfOk result (λ found. is_none found ≡ is_crossed arena.now.model plane f) }
     ensures pairs { IfOk result (λ found. IfSome found (λ pairs. map codes pairs.items ≡ place_pairs arena.now.model plane f)) }
 {
     let met = places(alloc, arena, plane, f)?;
     if let [first, second] = met.as_slice() {
-        return only_pair(alloc, arena, plane, *first, *second);
+        return only_pair(alloc, arena, plane, crossings, *first, *second);
     }
-    match in_order(alloc, arena, plane, met)? {
+    match in_order(alloc, arena, plane, crossings, met)? {
         Some(order) => pairs_in_order(alloc, arena, plane, order),
         None => Ok(None),
     }

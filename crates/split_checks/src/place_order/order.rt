@@ -3,9 +3,10 @@ ghost use Rattle.std.specs.Prelude.{◌≡◌, true, false, map, IfOk, MatchOpti
 ghost use Rattle.euler_operators.specs.HalfEdge.{code};
 ghost use Rattle.euler_conditions.specs.Ready.{IsReady};
 ghost use Rattle.euler_operators.specs.Ranges.{IsCutPlane};
-ghost use Rattle.split_checks.specs.place_order.Order.{AreWholePlaces, entries_of};
+ghost use Rattle.split_checks.specs.place_order.Order.{AreCrossings, ArePlacesAlong, entries_of};
 ghost use Rattle.shapes.specs.split.Places.{some_meet, sorted};
 
+use crate::cuts::Crossings;
 use crate::place_order::points::{key_of, place_point};
 use euler_conditions::Arena;
 use euler_operators::{HalfEdge, Plane};
@@ -20,18 +21,20 @@ pub(crate) fn in_order(
     alloc: Global,
     arena: &Arena,
     plane: Plane,
+    crossings: Crossings<'_>,
     places: Vec<HalfEdge>,
 ) -> Result<Option<Places>, AllocError>
     requires ready { IsReady arena.now }
     requires plane { IsCutPlane plane }
-    requires whole { AreWholePlaces arena.now.model plane (map code places.items) }
+    requires crossings { AreCrossings arena.now.model plane crossings.edges.now crossings.cut.now }
+    requires whole { ArePlacesAlong arena.now.model plane crossings.edges.now (map code places.items) }
     ensures { IfOk result (λ found. MatchOption found (some_meet arena.now.model plane (map code places.items) ≡ true)
         (λ order. (some_meet arena.now.model plane (map code places.items) ≡ false) × (order.entries ≡ entries_of arena.now.model plane (sorted arena.now.model plane (map code places.items))))) }
 {
     let mut left = places;
     let mut order = BTreeMap::new(alloc);
     'places: while let Some(h) = left.pop() {
-        let met = order.insert(key_of(place_point(arena, plane, h)), h)?;
+        let met = order.insert(key_of(place_point(arena, plane, crossings, h)), h)?;
         if met.is_some() {
             return Ok(None);
         }

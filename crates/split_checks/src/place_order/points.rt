@@ -3,25 +3,34 @@ ghost use Rattle.std.specs.Prelude.{◌≡◌};
 ghost use Rattle.euler_operators.specs.HalfEdge.{code};
 ghost use Rattle.euler_conditions.specs.Ready.{IsReady};
 ghost use Rattle.euler_operators.specs.Ranges.{IsCutPlane};
-ghost use Rattle.split_checks.specs.place_order.Order.{IsWholePlace, key};
+ghost use Rattle.split_checks.specs.place_order.Order.{AreCrossings, IsPlaceAlong, key};
 ghost use Rattle.shapes.specs.split.Places.{place_point};
 
-use crate::cut_places::{crossing_point, starts_on};
+use crate::cut_places::starts_on;
+use crate::cuts::Crossings;
 use euler_conditions::Arena;
 use euler_operators::{HalfEdge, Plane, Point};
 use solid_measure::start;
 
-/// The point of a cut place, which is on the lattice.
-pub(crate) fn place_point(arena: &Arena, plane: Plane, h: HalfEdge) -> Point
+/// The point of a cut place, where its edge is among the crossings or it starts on the plane.
+pub(crate) fn place_point(
+    arena: &Arena,
+    plane: Plane,
+    crossings: Crossings<'_>,
+    h: HalfEdge,
+) -> Point
     requires ready { IsReady arena.now }
     requires plane { IsCutPlane plane }
-    requires place { IsWholePlace arena.now.model plane (code h) }
+    requires crossings { AreCrossings arena.now.model plane crossings.edges.now crossings.cut.now }
+    requires place { IsPlaceAlong arena.now.model plane crossings.edges.now (code h) }
     ensures { result ≡ place_point arena.now.model plane (code h) }
 {
     if starts_on(arena, plane, h) {
-        start(arena, h)
-    } else {
-        crossing_point(arena, plane, h)
+        return start(arena, h);
+    }
+    match crossings.edges.binary_search(&h.edge) {
+        Ok(i) => crossings.cut[i].point,
+        Err(_) => unreachable!(),
     }
 }
 

@@ -1,15 +1,18 @@
 -- Edges that are still to be cut.
-use Rattle.std.proofs.Common.{◌≡◌, ℕ, ◌+◌, ◌≤◌, true, false, not, List, [], ◌∷◌, length, slice_index_or, None, refl, sym, ap, ◌∙◌, subst, arith}
+use Rattle.std.proofs.Common.{◌≡◌, ℕ, ◌+◌, ◌≤◌, List, [], ◌∷◌, length, map, slice_index_or, None, refl, sym, ap, ◌∙◌, subst, arith}
+use Rattle.euler_operators.specs.declared.Point.{Point}
 use Rattle.euler_operators.specs.declared.Plane.{Plane}
+use Rattle.euler_operators.specs.declared.Corner.TheVariants.{At}
+use Rattle.euler_operators.specs.declared.Op.TheVariants.{Mev}
 use Rattle.euler_operators.specs.Ranges.{IsCutPlane}
-use Rattle.euler_operators.specs.Vectors.{are_opposite, cuts_lattice}
+use Rattle.euler_operators.specs.Vectors.{are_opposite, cut_between}
 use Rattle.euler_operators.proofs.Magnitudes.{coordinate_within, offset_within}
-use Rattle.euler_operators.specs.Items.{count, IsIn}
+use Rattle.euler_operators.specs.Items.{count}
 use Rattle.euler_operators.proofs.Lists.{tick_same}
 use Rattle.euler_operators.proofs.Halves.{mate_plus}
 use Rattle.euler_operators.proofs.Models.{plus_there, minus_there}
-use Rattle.euler_operators.specs.HalfEdge.{plus, minus}
-use Rattle.euler_operators.specs.Model.{Model}
+use Rattle.euler_operators.specs.HalfEdge.{half, plus, minus}
+use Rattle.euler_operators.specs.Model.{Model, after, no_point}
 use Rattle.euler_operators.specs.Sound.{Sound}
 use Rattle.euler_operators.specs.Conditions.{AllHold, first_false}
 use Rattle.euler_operators.specs.Effect.{effect}
@@ -23,7 +26,9 @@ use Rattle.split_drawing_laws.specs.crossings.CrossingOps.{cut_edge}
 use Rattle.split_drawing_laws.proofs.crossings.Steps.{CutGoes, cut_accepted, cut_made}
 use Rattle.split_drawing_laws.proofs.crossings.Runs.{cut_at, Crossing, Going, kept_start, goes_now, next_model, going_on}
 use Rattle.split_drawing_laws.proofs.crossings.Whole as whole
-use Rattle.split_checks.specs.cut_places.Crossings.{IsCrossing, is_off}
+use Rattle.split_checks.specs.declared.cuts.CutEdge.{CutEdge}
+use Rattle.split_checks.specs.Cuts as cuts
+use Rattle.split_checks.specs.cut_places.Crossings.{IsCrossing}
 use Rattle.split_checks.proofs.cut_places_laws.Lists.{others, parts}
 use Rattle.split_drawing.specs.edge_cutting.Begins.{CanBeCut}
 
@@ -32,7 +37,6 @@ pub record Cutting (M : Model) (s : ℕ) (p : Plane) (N : Model) (rs : List ℕ)
   pub sound : Sound M
   pub done : List ℕ
   pub going : Going M p (growing N) done rs
-  pub whole : (e : ℕ) → IsIn e rs → cuts_lattice p (start M (plus e)) (finish M (plus e)) ≡ true
   pub made : (all_cut p (growing N) rs).model ≡ (with_crossings M s p).model
 
 plane_within : (M : Model) (s : ℕ) (p : Plane) (t : ℕ) → AllHold (first_conditions M s p t) → IsCutPlane p
@@ -50,7 +54,6 @@ begins M s p sound can = record {
   sound = sound;
   done = [];
   going = whole.begins M s p can.0 sound can.1;
-  whole = (whole.can_cut M s p can.0 sound can.1).whole;
   made = refl;
 }
 
@@ -58,9 +61,31 @@ begins M s p sound can = record {
 pub all_taken : (M : Model) (s : ℕ) (p : Plane) (N : Model) → Cutting M s p N [] → N ≡ (with_crossings M s p).model
 all_taken M s p N c = c.made
 
+-- the edges to be cut, and each with the point at which it meets the plane
+abbrev pub edges_in : List CutEdge → List ℕ
+edges_in cs = map (λ c. c.edge) cs
+
+abbrev pub AreAt : Model → Plane → List CutEdge → Type 0
+AreAt M p [] = Unit {0}
+AreAt M p (c ∷ cs) = (c.point ≡ cut_at M p c.edge) × AreAt M p cs
+
+pub all_at : (M : Model) (p : Plane) (es : List ℕ) → AreAt M p (map (cuts.cut_at M p) es)
+all_at M p [] = tt
+all_at M p (e ∷ es) = (refl, all_at M p es)
+
+pub edges_at : (M : Model) (p : Plane) (es : List ℕ) → edges_in (map (cuts.cut_at M p) es) ≡ es
+edges_at M p [] = refl
+edges_at M p (e ∷ es) = ap (λ (xs : List ℕ). e ∷ xs) (edges_at M p es)
+
+abbrev pub no_cut : CutEdge
+no_cut = record { edge = 0; point = no_point }
+
 -- the next one, of a list as the code opens it
-pub opened : (M : Model) (s : ℕ) (p : Plane) (N : Model) (rs : List ℕ) (d : ℕ) → 1 ≤ length rs → Cutting M s p N rs → Cutting M s p N (slice_index_or rs 0 d ∷ others rs)
-opened M s p N rs d l c = subst (Cutting M s p N) (parts rs d l) c
+pub opened : (M : Model) (s : ℕ) (p : Plane) (N : Model) (cs : List CutEdge) (d : CutEdge) → 1 ≤ length cs → Cutting M s p N (edges_in cs) → Cutting M s p N ((slice_index_or cs 0 d).edge ∷ edges_in (others cs))
+opened M s p N cs d l c = subst (λ xs. Cutting M s p N (edges_in xs)) (parts cs d l) c
+
+pub opened_at : (M : Model) (p : Plane) (cs : List CutEdge) (d : CutEdge) → 1 ≤ length cs → AreAt M p cs → ((slice_index_or cs 0 d).point ≡ cut_at M p (slice_index_or cs 0 d).edge) × AreAt M p (others cs)
+opened_at M p cs d l a = subst (AreAt M p) (parts cs d l) a
 
 module _ (M : Model) (s : ℕ) (p : Plane) (N : Model) (e : ℕ) (rs : List ℕ) (c : Cutting M s p N (e ∷ rs)) where
   goes : CutGoes N e ((taken_in N).edge + 1) ((taken_in N).vertex + 1) (cut_at N p e)
@@ -82,12 +107,13 @@ module _ (M : Model) (s : ℕ) (p : Plane) (N : Model) (e : ℕ) (rs : List ℕ)
   far : finish N (plus e) ≡ finish M (plus e)
   far = ap (start N) (mate_plus e) ∙ kept_start M N c.sound c.going.cut.kept (minus e) (minus_there M e crossing.there) (c.going.cut.minus_tails e crossing.there) ∙ sym (ap (start M) (mate_plus e))
 
-  -- it still crosses the plane, and meets it on the lattice
+  -- it still crosses the plane
   pub next_crosses : IsCrossing N p e
   next_crosses = record { there = goes.can.there; crossing = (λ i. are_opposite p (near i) (far i)) ∙ crossing.crossing }
 
-  pub next_whole : is_off N p e ≡ false
-  next_whole = (λ i. not (cuts_lattice p (near i) (far i))) ∙ ap not (c.whole e (omega (arith, tick_same e)))
+  -- cut where it meets the plane as M has it, it is cut as the rewriting cuts it
+  pub next_op : (q : Point) → q ≡ cut_at M p e → Mev (At (half (plus e))) (At (half (after N (minus e)))) (half (plus ((taken_in N).edge + 1))) ((taken_in N).vertex + 1) q ≡ cut_edge p (growing N) e
+  next_op q is = λ i. Mev (At (half (plus e))) (At (half (after N (minus e)))) (half (plus ((taken_in N).edge + 1))) ((taken_in N).vertex + 1) ((is ∙ (λ j. cut_between p (sym near j) (sym far j))) i)
 
   pub edge_left : (taken_in N).edge + 1 ≤ 1000000
   edge_left = omega (arith, c.going.edges_left)
@@ -107,6 +133,5 @@ module _ (M : Model) (s : ℕ) (p : Plane) (N : Model) (e : ℕ) (rs : List ℕ)
         sound = c.sound;
         done = e ∷ c.done;
         going = subst (λ h. Going M p h (e ∷ c.done) rs) same on;
-        whole = λ x i. c.whole x (omega (arith, i));
         made = ap (λ (h : Growing). (all_cut p h rs).model) (sym same) ∙ c.made;
       }

@@ -3,8 +3,8 @@ use Rattle.euler_operators.specs.HalfEdge.{code}
 use Rattle.euler_operators.proofs.Lists.{tick_same}
 use Rattle.shapes.specs.split.Places.{places, some_meet, sorted, sorted_pairs, in_pairs, up_first, place_pairs}
 use Rattle.split_checks.specs.Cuts.{codes}
-use Rattle.split_checks.specs.place_order.Order.{AreWholePlaces, entries_of, places_of}
-use Rattle.split_checks.proofs.place_order_laws.Ordered.{at_some, at_none, held_in_order, order_there, places_whole}
+use Rattle.split_checks.specs.place_order.Order.{ArePlacesAlong, entries_of, places_of}
+use Rattle.split_checks.proofs.place_order_laws.Ordered.{at_some, at_none, held_in_order, order_there, places_along}
 use Rattle.split_checks.proofs.cut_places_laws.Lists.{no_half, two_codes}
 use Rattle.split_checks.proofs.face_pairs_laws.Meetings.{crossed_by, ordered, two_crossed}
 use Rattle.split_checks.proofs.face_pairs.pairs.pairs_of_face.Goals as goal
@@ -13,13 +13,13 @@ pub only_pair-requires-clause-first : goal.only_pair-requires-clause-first
 only_pair-requires-clause-first c =
     let M = c.args.arena.now.model in let p = c.args.plane in let met = c.as_slice.result.now in
     let is = two_codes met (places M p c.args.f) c.in-len2.len_at_least (omega (arith, c.in-len2.len_below)) (ap (map code) c.as_slice.ensures.value ∙ c.in_ok-met.ensures) in
-    subst (AreWholePlaces M p) (sym is) (places_whole M p c.args.f c.requires.ready.sound c.requires.whole) (code (slice_index_or met 0 no_half)) (omega (arith, tick_same (code (slice_index_or met 0 no_half))))
+    subst (ArePlacesAlong M p c.args.crossings.edges.now) (sym is) (places_along M p c.args.f c.args.crossings.edges.now c.requires.ready.sound c.requires.whole) (code (slice_index_or met 0 no_half)) (omega (arith, tick_same (code (slice_index_or met 0 no_half))))
 
 pub only_pair-requires-clause-second : goal.only_pair-requires-clause-second
 only_pair-requires-clause-second c =
     let M = c.args.arena.now.model in let p = c.args.plane in let met = c.as_slice.result.now in
     let is = two_codes met (places M p c.args.f) c.in-len2.len_at_least (omega (arith, c.in-len2.len_below)) (ap (map code) c.as_slice.ensures.value ∙ c.in_ok-met.ensures) in
-    subst (AreWholePlaces M p) (sym is) (places_whole M p c.args.f c.requires.ready.sound c.requires.whole) (code (slice_index_or met 1 no_half)) (omega (arith, tick_same (code (slice_index_or met 1 no_half))))
+    subst (ArePlacesAlong M p c.args.crossings.edges.now) (sym is) (places_along M p c.args.f c.args.crossings.edges.now c.requires.ready.sound c.requires.whole) (code (slice_index_or met 1 no_half)) (omega (arith, tick_same (code (slice_index_or met 1 no_half))))
 
 pub returns-in-len2-clause-crossed : goal.returns-in-len2-clause-crossed
 returns-in-len2-clause-crossed c =
@@ -37,13 +37,13 @@ returns-in-len2-clause-pairs c =
 pub in_order-requires-clause-whole : goal.in_order-requires-clause-whole
 in_order-requires-clause-whole c =
     let M = c.args.arena.now.model in let p = c.args.plane in
-    subst (AreWholePlaces M p) (sym c.in_ok-met.ensures) (places_whole M p c.args.f c.requires.ready.sound c.requires.whole)
+    subst (ArePlacesAlong M p c.args.crossings.edges.now) (sym c.in_ok-met.ensures) (places_along M p c.args.f c.args.crossings.edges.now c.requires.ready.sound c.requires.whole)
 
 pub pairs_in_order-requires-clause-there : goal.pairs_in_order-requires-clause-there
 pairs_in_order-requires-clause-there c =
     let M = c.args.arena.now.model in let p = c.args.plane in let hs : List ℕ = map code c.in_ok-met.met.items in
     let fact = at_some c.in_ok-order.field-0 c.in-Some.order (some_meet M p hs ≡ true) (λ order. (some_meet M p hs ≡ false) × (order.entries ≡ entries_of M p (sorted M p hs))) c.in-Some.is c.in_ok-order.ensures in
-    order_there M p hs c.in-Some.order.entries fact.1 (subst (AreWholePlaces M p) (sym c.in_ok-met.ensures) (places_whole M p c.args.f c.requires.ready.sound c.requires.whole))
+    order_there M p hs c.in-Some.order.entries fact.1 c.args.crossings.edges.now (subst (ArePlacesAlong M p c.args.crossings.edges.now) (sym c.in_ok-met.ensures) (places_along M p c.args.f c.args.crossings.edges.now c.requires.ready.sound c.requires.whole))
 
 pub returns-in-Some-clause-crossed : goal.returns-in-Some-clause-crossed
 returns-in-Some-clause-crossed c =

@@ -1,30 +1,40 @@
 use Rattle.std.proofs.Common.{◌∙◌, ap, sym, subst, refl}
 use Rattle.undo_journal.specs.Journal.{DraftJournal}
-use Rattle.split_drawing.proofs.edge_cutting_laws.Remaining.{Cutting, cut_plane, begins, opened, next_goes, next_crosses, next_whole, next_taken}
+use Rattle.euler_operators.specs.Conditions.{first_false}
+use Rattle.euler_operators.specs.Effect.{effect}
+use Rattle.shapes.specs.split.Sides.{crossing_edges}
+use Rattle.split_drawing.proofs.edge_cutting_laws.Remaining.{Cutting, AreAt, edges_in, no_cut, all_at, edges_at, begins, opened, opened_at, next_goes, next_crosses, next_op, next_taken, edge_left, vertex_left}
 use Rattle.split_drawing.proofs.edge_cutting.cutting.cut_edges.Goals as goal
 
 pub edges-init : goal.edges-init
 edges-init c =
-    let M = c.args.draft.now.model in
+    let M = c.args.draft.now.model in let p = c.args.plane.now in let es = crossing_edges M p c.args.s in
     record {
-      cutting = subst (Cutting M c.args.s c.args.plane.now M) (sym c.requires.edges) (begins M c.args.s c.args.plane.now c.requires.sound c.requires.begins);
+      cutting = subst (λ cs. Cutting M c.args.s p M (edges_in cs)) (sym c.requires.edges) (subst (Cutting M c.args.s p M) (sym (edges_at M p es)) (begins M c.args.s p c.requires.sound c.requires.begins));
+      points = subst (AreAt M p) (sym c.requires.edges) (all_at M p es);
       session = refl;
     }
 
-pub cut_edge-requires-clause-plane : goal.cut_edge-requires-clause-plane
-cut_edge-requires-clause-plane c = cut_plane c.args.draft.now.model c.args.s c.args.plane.now c.requires.begins
+pub cut_edge-requires-clause-there : goal.cut_edge-requires-clause-there
+cut_edge-requires-clause-there c = (next_crosses _ _ _ _ _ _ (opened c.args.draft.now.model c.args.s c.args.plane.now c.edges.draft.model c.edges.rest.now _ c.in-len1-up.len_at_least c.edges.invariant.cutting)).there
 
-pub cut_edge-requires-clause-crossing : goal.cut_edge-requires-clause-crossing
-cut_edge-requires-clause-crossing c = next_crosses _ _ _ _ _ _ (opened c.args.draft.now.model c.args.s c.args.plane.now c.edges.draft.model c.edges.rest.now _ c.in-len1-up.len_at_least c.edges.invariant.cutting)
+pub cut_edge-requires-clause-edge_left : goal.cut_edge-requires-clause-edge_left
+cut_edge-requires-clause-edge_left c = edge_left _ _ _ _ _ _ (opened c.args.draft.now.model c.args.s c.args.plane.now c.edges.draft.model c.edges.rest.now no_cut c.in-len1-up.len_at_least c.edges.invariant.cutting)
 
-pub cut_edge-requires-clause-whole : goal.cut_edge-requires-clause-whole
-cut_edge-requires-clause-whole c = next_whole _ _ _ _ _ _ (opened c.args.draft.now.model c.args.s c.args.plane.now c.edges.draft.model c.edges.rest.now _ c.in-len1-up.len_at_least c.edges.invariant.cutting)
+pub cut_edge-requires-clause-vertex_left : goal.cut_edge-requires-clause-vertex_left
+cut_edge-requires-clause-vertex_left c = vertex_left _ _ _ _ _ _ (opened c.args.draft.now.model c.args.s c.args.plane.now c.edges.draft.model c.edges.rest.now no_cut c.in-len1-up.len_at_least c.edges.invariant.cutting)
 
 pub cut_edge-requires-clause-accepted : goal.cut_edge-requires-clause-accepted
-cut_edge-requires-clause-accepted c = next_goes _ _ _ _ _ _ (opened c.args.draft.now.model c.args.s c.args.plane.now c.edges.draft.model c.edges.rest.now _ c.in-len1-up.len_at_least c.edges.invariant.cutting)
+cut_edge-requires-clause-accepted c =
+    let next = (opened c.args.draft.now.model c.args.s c.args.plane.now c.edges.draft.model c.edges.rest.now _ c.in-len1-up.len_at_least c.edges.invariant.cutting) in
+    ap (first_false c.edges.draft.model) (next_op _ _ _ _ _ _ next _ (opened_at c.args.draft.now.model c.args.plane.now c.edges.rest.now _ c.in-len1-up.len_at_least c.edges.invariant.points).0) ∙ next_goes _ _ _ _ _ _ next
 
 pub edges-preserved : goal.edges-preserved
-edges-preserved c = record {
-  cutting = next_taken _ _ _ _ _ _ (opened c.args.draft.now.model c.args.s c.args.plane.now c.edges.draft.model c.edges.rest.now _ c.in-len1-up.len_at_least c.edges.invariant.cutting) c.cut_edge.new.draft.model (ap (λ (d : DraftJournal). d.model) c.in_ok-cut_edge.ensures.ok);
-  session = ap (λ (d : DraftJournal). d.session) c.in_ok-cut_edge.ensures.ok ∙ c.edges.invariant.session;
-}
+edges-preserved c =
+    let next = (opened c.args.draft.now.model c.args.s c.args.plane.now c.edges.draft.model c.edges.rest.now _ c.in-len1-up.len_at_least c.edges.invariant.cutting) in
+    let at = (opened_at c.args.draft.now.model c.args.plane.now c.edges.rest.now _ c.in-len1-up.len_at_least c.edges.invariant.points) in
+    record {
+      cutting = next_taken _ _ _ _ _ _ next c.cut_edge.new.draft.model (ap (λ (d : DraftJournal). d.model) c.in_ok-cut_edge.ensures.ok ∙ ap (effect c.edges.draft.model) (next_op _ _ _ _ _ _ next _ at.0));
+      points = at.1;
+      session = ap (λ (d : DraftJournal). d.session) c.in_ok-cut_edge.ensures.ok ∙ c.edges.invariant.session;
+    }

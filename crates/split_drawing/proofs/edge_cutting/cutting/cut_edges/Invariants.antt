@@ -1,10 +1,11 @@
 use Rattle.std.proofs.Common.{◌≡◌, length}
-use Rattle.split_drawing.proofs.edge_cutting_laws.Remaining.{Cutting}
+use Rattle.split_drawing.proofs.edge_cutting_laws.Remaining.{Cutting, AreAt, edges_in}
 use Rattle.split_drawing.proofs.edge_cutting.cutting.cut_edges.Given as goal
 
 abbrev pub invariant-edges : goal.invariant-edges
 invariant-edges l = record {
-  cutting : Cutting l.fn.draft.model l.s l.plane l.draft.model l.rest;
+  cutting : Cutting l.fn.draft.model l.s l.plane l.draft.model (edges_in l.rest);
+  points : AreAt l.fn.draft.model l.plane l.rest;
   session : l.draft.session ≡ l.fn.draft.session;
 }
 

@@ -1,5 +1,5 @@
 use Rattle.std.proofs.Common.{◌∙◌}
-use Rattle.split_sections.proofs.section_edges_laws.Searched.{found_listed}
+use Rattle.split_checks.proofs.cut_places_laws.Searched.{found_listed}
 use Rattle.split_sections.proofs.section_edges.halves.is_listed.Goals as goal
 
 pub returns : goal.returns

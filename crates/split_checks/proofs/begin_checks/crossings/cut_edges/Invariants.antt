@@ -1,12 +1,14 @@
-use Rattle.std.proofs.Common.{◌≡◌, length}
+use Rattle.std.proofs.Common.{◌≡◌, ◌++◌, map, length}
 use Rattle.shapes.specs.Fresh.{first_such}
+use Rattle.split_checks.specs.Cuts.{cut_at}
 use Rattle.split_checks.specs.cut_places.Crossings.{AreCrossing, is_off}
-use Rattle.split_checks.proofs.begin_checks.crossings.first_off.Given as goal
+use Rattle.split_checks.proofs.begin_checks.crossings.cut_edges.Given as goal
 
 abbrev pub invariant-edges : goal.invariant-edges
 invariant-edges l = record {
   crossing : AreCrossing l.arena.model l.plane l.rest;
   first : first_such (is_off l.arena.model l.plane) l.rest ≡ first_such (is_off l.arena.model l.plane) l.edges;
+  made : l.cut.items ++ map (cut_at l.arena.model l.plane) l.rest ≡ map (cut_at l.arena.model l.plane) l.edges;
 }
 
 abbrev pub decreases-edges : goal.decreases-edges
