@@ -10,7 +10,7 @@ ghost use Rattle.split_sections.specs.section_checks.Sections.{IsSection};
 ghost use Rattle.plane_split.specs.Drawn.{IsDrawn};
 
 use crate::solid_opening::{open_section, part_upper};
-use euler_operators::{Plane, Refusal};
+use euler_operators::{NUMBER_LIMIT, Plane, Refusal};
 use split_drawing::{Cuts, Progress, draw_solid};
 use split_sections::{Section, check_later};
 use std::alloc::{AllocError, Global};
@@ -40,7 +40,7 @@ fn part_drawn(
 /// Splits solid s of the draft's model by the plane, where that can begin and these are its cuts: the edges that cross it are cut, the
 /// faces that straddle it are drawn, and then, where the solid can be opened along its section, what is above is parted as solid t. It
 /// tells the refusal where it can't. On a refusal or `AllocError` some steps may be taken.
-pub(crate) fn carry_out(
+fn take_steps(
     alloc: Global,
     draft: &mut Draft,
     s: u32,
@@ -62,4 +62,33 @@ pub(crate) fn carry_out(
     };
     part_drawn(alloc, draft, s, plane, t, &drawn, &section)?;
     Ok(Ok(()))
+}
+
+/// How many steps a split takes that makes these cuts, where each face has one pair of cut places, and the edges between these are all
+/// of its section and one cycle.
+fn usual_steps(cuts: &Cuts) -> usize {
+    let edges = cuts.edges.len().min(NUMBER_LIMIT as usize);
+    let faces = cuts.faces.len().min(NUMBER_LIMIT as usize);
+    edges + 4 * faces + 2
+}
+
+/// Takes the steps of a split, with the memory to list as many as most splits take at once. On a refusal or `AllocError` some may be
+/// taken.
+pub(crate) fn carry_out(
+    alloc: Global,
+    draft: &mut Draft,
+    s: u32,
+    plane: &Plane,
+    t: u32,
+    cuts: &Cuts,
+) -> Result<Result<(), Refusal>, AllocError>
+    requires sound { Sound draft.old.model }
+    requires begins { CanBegin draft.old.model s plane.now t }
+    requires cuts { AreCuts draft.old.model plane.now s cuts.now }
+    ensures carried { IfOk result (λ carried. carried ≡ verdict (split_refusal draft.old.model s plane.now t)) }
+    ensures model { (result ≡ Ok (Ok tt)) → (draft.new.model ≡ split_model draft.old.model s plane.now t) }
+    ensures session { draft.new.session ≡ draft.old.session }
+{
+    draft.reserve(usual_steps(cuts))?;
+    take_steps(alloc, draft, s, plane, t, cuts)
 }

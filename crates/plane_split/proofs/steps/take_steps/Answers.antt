@@ -5,7 +5,7 @@ use Rattle.split_drawing.specs.Progress.{drawing_of}
 use Rattle.split_sections.specs.section_checks.Sections.{IsSection}
 use Rattle.plane_split.proofs.Conditions.{plane_within, still_there, later_decide}
 use Rattle.plane_split.proofs.Parted.{split_is}
-use Rattle.plane_split.proofs.steps.carry_out.Goals as goal
+use Rattle.plane_split.proofs.steps.take_steps.Goals as goal
 
 pub check_later-requires-clause-plane : goal.check_later-requires-clause-plane
 check_later-requires-clause-plane c = plane_within c.args.draft.now.model c.args.s c.args.plane.now c.args.t c.requires.begins
