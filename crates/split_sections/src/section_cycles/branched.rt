@@ -19,6 +19,7 @@ fn ends_of(alloc: Global, arena: &Arena, halves: &[HalfEdge]) -> Result<Vec<u32>
     ensures { IfOk result (λ ends. SameItems ends.items (section_ends arena.now.model (map code halves.now))) }
 {
     let mut ends = Vec::new(alloc);
+    ends.reserve(halves.len().saturating_mul(2))?;
     let mut rest = halves;
     'halves: while let [half, others @ ..] = rest {
         ends.push(arena.tail(*half))?;

@@ -66,6 +66,7 @@ pub(crate) fn faces_above(
     ensures { IfOk result (λ found. found.items ≡ faces_above arena.now.model plane s) }
 {
     let mut faces = Vec::new(alloc);
+    faces.reserve(arena.face_count(s) as usize)?;
     let mut last = 0;
     'faces: while let Some(f) = arena.face_after(s, last) {
         if is_above(arena, plane, f) {

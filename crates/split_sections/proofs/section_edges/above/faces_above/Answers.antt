@@ -10,7 +10,7 @@ use Rattle.split_sections.proofs.section_edges.above.faces_above.Goals as goal
 pub faces-init : goal.faces-init
 faces-init c =
     let M = c.args.arena.now.model in let test = face_is_above M c.args.plane in
-    ap (λ (fs : List ℕ). fs ++ filter test (above 0 (faces_of M c.args.s))) c.new-faces.ensures.items
+    ap (λ (fs : List ℕ). fs ++ filter test (above 0 (faces_of M c.args.s))) (c.reserve.ensures.items ∙ c.new-faces.ensures.items)
     ∙ ap (filter test) (faces_from_zero M c.requires.ready.sound c.args.s)
 
 pub faces-smaller-in_ok-push : goal.faces-smaller-in_ok-push
