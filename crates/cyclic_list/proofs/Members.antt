@@ -16,10 +16,6 @@ IsIn_rest x y ys i = omega arith
 pub IsIn_one : (x y : ℕ) → IsIn y (x ∷ []) → y ≡ x
 IsIn_one x y i = elim (eqb_tells y x) [ inl p ↦ p.1 | inr p ↦ absurd (omega (arith, tick_other y x p.1)) ]
 
--- what stands behind the first item, if it is another
-pub IsIn_tail : (x y : ℕ) (ys : List ℕ) → IsIn x (y ∷ ys) → x ≢ y → IsIn x ys
-IsIn_tail x y ys i ne = omega (arith, i, tick_other x y ne)
-
 pub IsIn_first : (xs : List ℕ) (x : ℕ) → IsIn x xs → IsIn (head_or 0 xs) xs
 IsIn_first [] x i = absurd (omega (arith, i))
 IsIn_first (y ∷ ys) x i = IsIn_head y ys
