@@ -1,6 +1,6 @@
 -- The lists of an edge that is cut: what mev puts before an item and what is put after its neighbour.
 use Rattle.std.specs.Prelude.{flat_map}
-use Rattle.std.proofs.Common.{◌≡◌, ℕ, ◌+◌, ◌≤◌, true, false, cond, nat_eq, List, [], ◌∷◌, ◌++◌, refl, sym, ap, ◌∙◌, arith, inl, inr}
+use Rattle.std.proofs.Common.{◌≡◌, ℕ, ◌+◌, ◌≤◌, false, cond, nat_eq, List, [], ◌∷◌, ◌++◌, refl, sym, ap, ◌∙◌, arith, inl, inr}
 use Rattle.std.proofs.lemmas.Bool.Decides.{nat_tests, eqb_tells}
 use Rattle.euler_operators.specs.Items.{count, tick, IsIn, IsApart, head_or}
 use Rattle.euler_operators.specs.Rings.{rotate_to, canonical, rest, successor}
@@ -8,18 +8,13 @@ use Rattle.euler_operators.specs.Edits.{insert_before, insert_after}
 use Rattle.euler_operators.proofs.Edits.{insert_before-rotates, insert_after-rotates, count-insert_before, count-insert_after}
 use Rattle.euler_operators.proofs.Operators.{apart_front}
 use Rattle.euler_operators.proofs.Rings.{rotation_at, IsIn_successor}
+use Rattle.euler_operators.proofs.Tests.{nat_eq_turned}
 use Rattle.euler_operators.proofs.Rotations.{canonical_same, IsRotation-trans, rotate_to_same, rotate_to_head}
 use Rattle.euler_operators.specs.HalfEdge.{plus, minus}
 use Rattle.shapes.specs.split.Crossings.{doubled}
 
-tick_is : (x y : ℕ) → x ≡ y → tick x y ≡ 1
+pub tick_is : (x y : ℕ) → x ≡ y → tick x y ≡ 1
 tick_is x y e = grind (arith, nat_tests)
-
-tick_not : (x y : ℕ) → nat_eq y x ≡ false → tick x y ≡ 0
-tick_not x y e = grind (arith, nat_tests)
-
-apart_halves : (e h : ℕ) → h ≡ plus e → nat_eq h (minus e) ≡ false
-apart_halves e h is = grind (arith, nat_tests)
 
 module _ (e k : ℕ) where
   doubled_other : (h : ℕ) → nat_eq h (plus e) ≡ false → nat_eq h (minus e) ≡ false → doubled e k h ≡ h ∷ []
@@ -40,19 +35,14 @@ module _ (e k : ℕ) where
   doubled_plus (h ∷ hs) a b = elim (eqb_tells (plus e) h) [
     | inl p ↦
         let t : tick (plus e) h ≡ 1 = tick_is (plus e) h p.1 in
-        ap (λ b. cond b (plus k ∷ plus e ∷ []) (cond (nat_eq h (minus e)) (minus e ∷ minus k ∷ []) (h ∷ [])) ++ flat_map (doubled e k) hs) (turned h p.0)
+        ap (λ b. cond b (plus k ∷ plus e ∷ []) (cond (nat_eq h (minus e)) (minus e ∷ minus k ∷ []) (h ∷ [])) ++ flat_map (doubled e k) hs) (nat_eq_turned h (plus e) ∙ p.0)
         ∙ ap (λ t. plus k ∷ plus e ∷ t) (doubled_none hs (omega arith) (omega arith))
         ∙ ap (λ x. plus k ∷ x ∷ hs) p.1 ∙ sym (ap (λ b. cond b (plus k ∷ h ∷ hs) (h ∷ insert_before (plus e) (plus k) hs)) p.0)
     | inr p ↦
-        ap (λ t. t ++ flat_map (doubled e k) hs) (doubled_other h (turned_not h p.0) (absent (minus e) h hs b))
+        ap (λ t. t ++ flat_map (doubled e k) hs) (doubled_other h (nat_eq_turned h (plus e) ∙ p.0) (absent (minus e) h hs b))
         ∙ ap (λ t. h ∷ t) (doubled_plus hs (omega arith) (omega arith))
         ∙ sym (ap (λ b. cond b (plus k ∷ h ∷ hs) (h ∷ insert_before (plus e) (plus k) hs)) p.0)
-  ] where
-    turned : (h : ℕ) → nat_eq (plus e) h ≡ true → nat_eq h (plus e) ≡ true
-    turned h t = grind (arith, nat_tests)
-
-    turned_not : (h : ℕ) → nat_eq (plus e) h ≡ false → nat_eq h (plus e) ≡ false
-    turned_not h t = grind (arith, nat_tests)
+  ]
 
   -- a loop with its minus half alone gets the new minus half after it
   pub doubled_minus : (hs : List ℕ) → count (plus e) hs ≡ 0 → count (minus e) hs ≤ 1 → flat_map (doubled e k) hs ≡ insert_after (minus e) (minus k) hs
@@ -61,19 +51,14 @@ module _ (e k : ℕ) where
     | inl p ↦
         let t : tick (minus e) h ≡ 1 = tick_is (minus e) h p.1 in
         ap (λ t. t ++ flat_map (doubled e k) hs) (ap (λ b. cond b (plus k ∷ plus e ∷ []) (cond (nat_eq h (minus e)) (minus e ∷ minus k ∷ []) (h ∷ []))) (absent (plus e) h hs a)
-        ∙ ap (λ b. cond b (minus e ∷ minus k ∷ []) (h ∷ [])) (facing h p.0))
+        ∙ ap (λ b. cond b (minus e ∷ minus k ∷ []) (h ∷ [])) (nat_eq_turned h (minus e) ∙ p.0))
         ∙ ap (λ t. minus e ∷ minus k ∷ t) (doubled_none hs (omega arith) (omega arith))
         ∙ ap (λ x. x ∷ minus k ∷ hs) p.1 ∙ sym (ap (λ b. cond b (h ∷ minus k ∷ hs) (h ∷ insert_after (minus e) (minus k) hs)) p.0)
     | inr p ↦
-        ap (λ t. t ++ flat_map (doubled e k) hs) (doubled_other h (absent (plus e) h hs a) (facing_not h p.0))
+        ap (λ t. t ++ flat_map (doubled e k) hs) (doubled_other h (absent (plus e) h hs a) (nat_eq_turned h (minus e) ∙ p.0))
         ∙ ap (λ t. h ∷ t) (doubled_minus hs (omega arith) (omega arith))
         ∙ sym (ap (λ b. cond b (h ∷ minus k ∷ hs) (h ∷ insert_after (minus e) (minus k) hs)) p.0)
-  ] where
-    facing : (h : ℕ) → nat_eq (minus e) h ≡ true → nat_eq h (minus e) ≡ true
-    facing h t = grind (arith, nat_tests)
-
-    facing_not : (h : ℕ) → nat_eq (minus e) h ≡ false → nat_eq h (minus e) ≡ false
-    facing_not h t = grind (arith, nat_tests)
+  ]
 
 rotated_head : (m : ℕ) (r : List ℕ) → rotate_to (head_or m r) (r ++ m ∷ []) ≡ r ++ m ∷ []
 rotated_head m [] = rotate_to_head m []

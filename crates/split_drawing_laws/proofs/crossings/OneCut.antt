@@ -4,7 +4,8 @@ use Rattle.std.proofs.Common.{◌≡◌, ◌≢◌, ℕ, suc, ◌+◌, ◌*◌, 
 use Rattle.std.specs.Option.{option_map}
 use Rattle.std.specs.Ordering.{nat_cmp}
 use Rattle.std.specs.FinMap.Entries.{find}
-use Rattle.std.proofs.lemmas.Bool.Decides.{nat_tests, eqb_tells}
+use Rattle.std.proofs.lemmas.Bool.Decides.{eqb_tells}
+use Rattle.std.proofs.lemmas.Bool.{eq-eqb, ne_eqb}
 use Rattle.euler_operators.specs.declared.Point.{Point}
 use Rattle.euler_operators.specs.Items.{count, IsIn}
 use Rattle.euler_operators.specs.Rings.{canonical, successor}
@@ -19,7 +20,7 @@ use Rattle.euler_operators.specs.Table as table
 use Rattle.euler_operators.specs.Table.{Table, same_table, get-map_rows}
 use Rattle.euler_operators.specs.Model.{Model, LoopContent, lone, cycle, LoopRow, EdgeRow, items_of, holds, tail, loop_of, content, face_of, cycle_of, after, arc, round}
 use Rattle.euler_operators.specs.Sound.{Sound, Has, HasHalf}
-use Rattle.euler_operators.proofs.Tables.{map_one, put_turned}
+use Rattle.euler_operators.proofs.Tables.{map_one, put_turned, row_some}
 use Rattle.euler_operators.proofs.Models.{content_row, row_of, not_held, other_loop, in-holds, holds-none, none-holds, cycle_there, cycle_sound, minus_tail_row}
 use Rattle.shapes.specs.Rewriting.{rewritten, rewritten_row}
 use Rattle.euler_operators.specs.Effect.{mev_at, with_before, with_tails, edge_row}
@@ -37,13 +38,8 @@ maps_agree {X = X} f g h t agree = same_table _ _ (λ q. get-map_rows g (table.m
 
 arc_one : (next : ℕ → ℕ) (a b n m : ℕ) → a ≢ b → next a ≡ b → m ≡ suc (suc n) → rings.arc next a b m ≡ a ∷ []
 arc_one next a b n m apart leads e = ap (rings.arc next a b) e
-    ∙ ap (λ t. cond t [] (a ∷ cond (nat_eq (next a) b) [] (next a ∷ rings.arc next (next (next a)) b n))) (differs a b apart)
-    ∙ ap (λ t. a ∷ cond t [] (next a ∷ rings.arc next (next (next a)) b n)) (same (next a) b leads) where
-      differs : (a b : ℕ) → a ≢ b → nat_eq a b ≡ false
-      differs a b n = grind (arith, nat_tests)
-
-      same : (a b : ℕ) → a ≡ b → nat_eq a b ≡ true
-      same a b e = grind (arith, nat_tests)
+    ∙ ap (λ t. cond t [] (a ∷ cond (nat_eq (next a) b) [] (next a ∷ rings.arc next (next (next a)) b n))) (ne_eqb a b apart)
+    ∙ ap (λ t. a ∷ cond t [] (next a ∷ rings.arc next (next (next a)) b n)) (eq-eqb (next a) b leads)
 
 some_rows : {X : Type 0} (e : ℕ) (es : List (ℕ × X)) → is_some (find nat_cmp e es) ≡ true → (n : ℕ) × (2 * length es ≡ suc (suc n))
 some_rows e [] there = absurd (true≢false (sym there))
@@ -215,15 +211,11 @@ module _ (M : Model) (e k v : ℕ) (q : Point) (goes : CanCut M e k) where
       (map_one (with_tails (plus e ∷ []) v) M.edges e r at (λ x y n _. only_plus x y n) ∙ ap (table.put M.edges e) (the_plus r ∙ (λ i. record { plus_tail = v; minus_tail = sym (minus_tail_row M e r at) i })))
       ∙ put_turned M.edges e k (record { plus_tail = v; minus_tail = tail M (minus e) }) (record { plus_tail = tail M (plus e); minus_tail = v }) (λ s. let h : table.get M.edges e ≡ None = ap (table.get M.edges) s ∙ goes.edge_free in true≢false (ap is_some (sym at ∙ h)))
 
-  has_row : (o : Option EdgeRow) → is_some o ≡ true → (r : EdgeRow) × (o ≡ Some r)
-  has_row None t = absurd (true≢false (sym t))
-  has_row (Some r) t = (r, refl)
-
   -- the whole model
   pub cut_is_mev : mev_at M (plus e) (after M (minus e)) (plus k) v q ≡ edge_cut M e k v q
   unfolding mev_at edge_cut after
   cut_is_mev =
-      let r = has_row (table.get M.edges e) (ap (λ n. is_some (table.get M.edges n)) (sym (plus_row e).0) ∙ plus_there) in
+      let r = row_some (table.get M.edges e) (ap (λ n. is_some (table.get M.edges n)) (sym (plus_row e).0) ∙ plus_there) in
       λ i. record M {
         loops = ((λ j. table.map_rows (with_before next (mate_plus k j)) (table.map_rows (with_before (plus e) (plus k)) M.loops)) ∙ loops_agree) i;
         edges = edges_agree r.0 r.1 i;

@@ -52,6 +52,10 @@ two_meet M p x y (h ∷ hs) ne e i j = elim (eqb_tells x h) [
   later true f = refl
   later false f = f
 
+pub crossing_is_place : (M : Model) (p : Plane) (h : ℕ) → crosses M p h ≡ true → is_place M p h ≡ true
+unfolding is_place
+crossing_is_place M p h x = ap (λ b. b || (is_on p (start M h) && are_opposite p (start M (before M h)) (finish M h))) x
+
 -- ---- what the conditions say
 
 pub record Cuttable (M : Model) (s : ℕ) (p : Plane) : Type 0 where
@@ -137,10 +141,6 @@ module _ (M : Model) (sound : Sound M) (s : ℕ) (p : Plane) where
     pub minus_is : crosses M p (minus e) ≡ true
     minus_is = ap (are_opposite p (start M (minus e))) near_end ∙ minus_crosses
 
-    crossing_is_place : (h : ℕ) → crosses M p h ≡ true → is_place M p h ≡ true
-    unfolding is_place
-    crossing_is_place h x = ap (λ b. b || (is_on p (start M h) && are_opposite p (start M (before M h)) (finish M h))) x
-
     pub crossing_point : (h : ℕ) → crosses M p h ≡ true → place_point M p h ≡ cut_between p (start M h) (finish M h)
     unfolding place_point
     crossing_point h x = ap (λ b. cond b (start M h) (cut_between p (start M h) (finish M h))) (not_level (height p (start M h)) (height p (finish M h)) x)
@@ -202,8 +202,8 @@ module _ (M : Model) (sound : Sound M) (s : ℕ) (p : Plane) where
       places_meet : some_meet M p (places M p (face_of M l)) ≡ true
       unfolding places
       places_meet = two_meet M p (plus e) (minus e) (filter (is_place M p) (boundary M (face_of M l))) (λ q. omega arith) one_point
-          (IsIn-filter (is_place M p) (plus e) (boundary M (face_of M l)) (item_in_face M (plus e) l l_there first_in) (crossing_is_place (plus e) (edge_facts e i).2))
-          (IsIn-filter (is_place M p) (minus e) (boundary M (face_of M l)) (item_in_face M (minus e) l l_there second_in) (crossing_is_place (minus e) minus_is))
+          (IsIn-filter (is_place M p) (plus e) (boundary M (face_of M l)) (item_in_face M (plus e) l l_there first_in) (crossing_is_place M p (plus e) (edge_facts e i).2))
+          (IsIn-filter (is_place M p) (minus e) (boundary M (face_of M l)) (item_in_face M (minus e) l l_there second_in) (crossing_is_place M p (minus e) minus_is))
 
       is_then_crossed : is_crossed M p (face_of M l) ≡ true
       unfolding is_crossed

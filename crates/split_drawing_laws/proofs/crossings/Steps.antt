@@ -1,10 +1,10 @@
 -- One edge cut: the operator that does it, and what stays.
 use Rattle.std.specs.Prelude.{flat_map}
 use Rattle.std.proofs.Common.{◌≡◌, ◌≢◌, ℕ, ◌≤◌, true, cond, nat_eq, List, [], ◌∷◌, Some, None, is_some, unwrap_or, IsTrue, refl, sym, ap, ◌∙◌, subst, arith, inl, inr, true≢false}
-use Rattle.std.proofs.lemmas.Bool.Decides.{nat_tests, eqb_tells}
+use Rattle.std.proofs.lemmas.Bool.Decides.{eqb_tells}
 use Rattle.euler_operators.specs.declared.Point.{Point}
 use Rattle.euler_operators.specs.Points.{IsInRange}
-use Rattle.euler_operators.specs.Items.{count, tick, IsIn}
+use Rattle.euler_operators.specs.Items.{count, IsIn}
 use Rattle.euler_operators.specs.Rings.{rotate_to, canonical}
 use Rattle.euler_operators.proofs.Lists.{count-append, tick_same, tick_other}
 use Rattle.euler_operators.proofs.Rotations.{count-canonical}
@@ -27,6 +27,7 @@ use Rattle.euler_laws.proofs.Cases.{effect_keeps_sound}
 use Rattle.shapes.specs.Rewriting.{rewritten, rewritten_row}
 use Rattle.shapes.specs.split.Crossings.{doubled, edge_cut}
 use Rattle.split_drawing_laws.specs.crossings.Kept.{Kept}
+use Rattle.split_drawing_laws.proofs.crossings.Doubled.{tick_is}
 use Rattle.split_drawing_laws.proofs.crossings.OneCut.{CanCut, cut_is_mev, plus_there, minus_there, next_half}
 
 -- an item stands in the list where e's halves are doubled as often, or more
@@ -37,9 +38,7 @@ doubled_has e k h = elim (eqb_tells h (plus e)) [
     | inl b ↦ subst (λ xs. 1 ≤ count h xs) (sym (ap (λ t. cond t (plus k ∷ plus e ∷ []) (cond (nat_eq h (minus e)) (minus e ∷ minus k ∷ []) (h ∷ []))) a.0 ∙ ap (λ t. cond t (minus e ∷ minus k ∷ []) (h ∷ [])) b.0)) (omega (arith, tick_is h (minus e) b.1))
     | inr b ↦ subst (λ xs. 1 ≤ count h xs) (sym (ap (λ t. cond t (plus k ∷ plus e ∷ []) (cond (nat_eq h (minus e)) (minus e ∷ minus k ∷ []) (h ∷ []))) a.0 ∙ ap (λ t. cond t (minus e ∷ minus k ∷ []) (h ∷ [])) b.0)) (omega (arith, tick_same h))
   ]
-] where
-  tick_is : (x y : ℕ) → x ≡ y → tick x y ≡ 1
-  tick_is x y e = grind (arith, nat_tests)
+]
 
 still_in : (e k x : ℕ) (hs : List ℕ) → IsIn x hs → IsIn x (flat_map (doubled e k) hs)
 still_in e k x [] i = absurd (omega arith)

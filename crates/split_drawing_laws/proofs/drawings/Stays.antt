@@ -1,6 +1,6 @@
 -- What stays as an edge is drawn, as two loops are joined, and as a ring is moved.
 use Rattle.std.proofs.Common.{◌≡◌, ◌≢◌, ℕ, ◌+◌, ◌≤◌, ◌<◌, List, ◌∷◌, ◌++◌, Some, None, is_some, unwrap_or, refl, sym, ap, ◌∙◌, subst, arith, ◌⊎◌, inl, inr}
-use Rattle.std.proofs.lemmas.Bool.Decides.{nat_tests, eqb_tells}
+use Rattle.std.proofs.lemmas.Bool.Decides.{eqb_tells}
 use Rattle.euler_operators.specs.Items.{count, IsIn}
 use Rattle.euler_operators.specs.Rings.{rotate_to}
 use Rattle.euler_operators.specs.Operators.{mef_old, mef_new, mekr_ring}
@@ -8,12 +8,11 @@ use Rattle.euler_operators.proofs.Lists.{count-append, IsIn_or_not}
 use Rattle.euler_operators.proofs.Rotations.{count-canonical, count-rotate_to}
 use Rattle.euler_operators.specs.HalfEdge.{edge_of, is_first, plus, minus}
 use Rattle.euler_operators.specs.Table as table
-use Rattle.euler_operators.specs.Table.{Table, tables}
 use Rattle.euler_operators.specs.Model.{Model, cycle, no_edge, no_face, items_of, holds, tail, tail_in, loop_of, content, face_of, solid_of, cycle_of}
 use Rattle.euler_operators.specs.Sound.{Sound, Has, HasHalf}
 use Rattle.euler_operators.proofs.Halves.{plus_row, minus_row}
 use Rattle.euler_operators.proofs.Models.{content_row, face_row, tail_row, in-holds, cycle_there, same_content, same_face, loop_there}
-use Rattle.euler_operators.proofs.Tables.{row_elsewhere, get-put_here, get-put_other}
+use Rattle.euler_operators.proofs.Tables.{row_elsewhere, get-put_here, get-put_other, get-remove_here, get-remove_other}
 use Rattle.euler_operators.specs.Conditions.{face_at}
 use Rattle.euler_laws.proofs.shared.Rows.{count-halves}
 use Rattle.euler_laws.proofs.shared.Fans.{half_face}
@@ -31,6 +30,9 @@ kept_place : (M N : Model) → Sound M → Sound N → (x : ℕ) → HasHalf M x
 kept_place M N sound new x there e =
     let at : loop_of N x ≡ loop_of M x = new.one_loop x (loop_of M x) (ap (holds x) (same_content M N (loop_of M x) e) ∙ sound.stands x there) in
     (at, ap (face_of N) at ∙ same_face M N (loop_of M x) e)
+
+past : (a b : ℕ) → a < b → b ≢ a
+past a b less s = absurd (omega arith)
 
 -- ---- one edge more
 
@@ -133,9 +135,7 @@ module _ (M : Model) (u k e f l : ℕ) (can : CanDraw M u k e f l) where
     (λ above none. face_drawn_else M u k e f l q (λ s. past f q above s) ∙ none),
     (λ above none. row_else q (λ s. row_elsewhere M.loops (loop_of M u) q (loop_there M can.sound u can.u_there) none (sym s)) (λ s. past l q above s) ∙ none),
     (λ above none. ap (λ t. table.get t q) edges_are ∙ get-put_other M.edges e _ q (λ s. past e q above s) ∙ none),
-  ) where
-    past : (a b : ℕ) → a < b → b ≢ a
-    past a b less s = absurd (omega arith)
+  )
 
 -- ---- two loops joined
 
@@ -152,15 +152,11 @@ module _ (M : Model) (c d e : ℕ) (can : CanJoin M c d e) where
 
   pub row_other : (q : ℕ) → q ≢ loop_of M c → q ≢ loop_of M d → table.get (loops_joined M c d e).loops q ≡ table.get M.loops q
   unfolding loops_joined
-  row_other q a b = get-put_other _ (loop_of M c) _ q a ∙ removed M.loops (loop_of M d) q b where
-    removed : {X : Type 0} (t : Table X) (n q : ℕ) → q ≢ n → table.get (table.remove t n) q ≡ table.get t q
-    removed t n q ne = grind (arith, nat_tests, tables)
+  row_other q a b = get-put_other _ (loop_of M c) _ q a ∙ get-remove_other M.loops (loop_of M d) q b
 
   pub row_gone : table.get (loops_joined M c d e).loops (loop_of M d) ≡ None
   unfolding loops_joined
-  row_gone = get-put_other _ (loop_of M c) _ (loop_of M d) (λ s. can.loops_apart (sym s)) ∙ removed M.loops (loop_of M d) where
-    removed : {X : Type 0} (t : Table X) (n : ℕ) → table.get (table.remove t n) n ≡ None
-    removed t n = grind (arith, nat_tests, tables)
+  row_gone = get-put_other _ (loop_of M c) _ (loop_of M d) (λ s. can.loops_apart (sym s)) ∙ get-remove_here M.loops (loop_of M d)
 
   row_free : (q : ℕ) → table.get M.loops q ≡ None → table.get (loops_joined M c d e).loops q ≡ None
   row_free q none = row_other q (λ s. row_elsewhere M.loops (loop_of M c) q (loop_there M can.sound c can.c_there) none (sym s)) (λ s. row_elsewhere M.loops (loop_of M d) q (loop_there M can.sound d can.d_there) none (sym s)) ∙ none
@@ -214,6 +210,4 @@ module _ (M : Model) (c d e : ℕ) (can : CanJoin M c d e) where
     (λ none. ap (λ t. table.get t q) (loops_joined_faces M c d e) ∙ none),
     row_free q,
     (λ above none. ap (λ t. table.get t q) joined_edges ∙ get-put_other M.edges e _ q (λ s. past e q above s) ∙ none),
-  ) where
-    past : (a b : ℕ) → a < b → b ≢ a
-    past a b less s = absurd (omega arith)
+  )

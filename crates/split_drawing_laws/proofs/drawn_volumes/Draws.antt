@@ -9,7 +9,6 @@ use Rattle.euler_operators.specs.HalfEdge.{plus, minus}
 use Rattle.euler_operators.specs.Table as table
 use Rattle.euler_operators.specs.Model.{Model, no_face, lone, tail, content, outer, point_of, loop_of, face_of, solid_of, cycle_of}
 use Rattle.euler_operators.specs.Sound.{Sound, Has, HasHalf}
-use Rattle.euler_operators.proofs.Halves.{plus_row, minus_row}
 use Rattle.euler_operators.proofs.Models.{content_row, face_row, same_content, same_face, same_outer, never_lone}
 use Rattle.euler_operators.proofs.Tables.{row_elsewhere}
 use Rattle.euler_operators.specs.Conditions.{face_at}
@@ -23,8 +22,9 @@ use Rattle.shapes.specs.split.Drawing.{face_drawn}
 use Rattle.split_drawing_laws.specs.drawings.DrawnIn.{Stays}
 use Rattle.split_drawing_laws.proofs.drawings.Drawn.{CanDraw, draw_sound, face_drawn_new, face_drawn_else}
 use Rattle.split_drawing_laws.proofs.drawings.Stays.{stands_at, row_old, row_new, row_else, edges_are, draw_stays, draw_tails, draw_beside, draw_within}
-use Rattle.split_drawing_laws.proofs.drawn_volumes.Bounds.{OnFace, anchor_still, lone_there, bound_halves, bound_one, bound_none, point_still, start_still, area_still}
-use Rattle.split_drawing_laws.proofs.drawn_volumes.Edges.{half_there, plus_there, minus_there, half_cases, two_halves, no_area, normal_is}
+use Rattle.split_drawing_laws.proofs.loop_sides.After.{none_new}
+use Rattle.split_drawing_laws.proofs.drawn_volumes.Bounds.{OnFace, anchor_still, lone_there, bound_one, bound_none, point_still, start_still}
+use Rattle.split_drawing_laws.proofs.drawn_volumes.Edges.{half_there, plus_there, minus_there, half_cases, area_after, normal_kept, two_halves, no_area, normal_is}
 
 module _ (N : Model) (u k e g l : ℕ) (can : CanDraw N u k e g l) where
   abbrev K : Model
@@ -139,12 +139,6 @@ module _ (N : Model) (u k e g l : ℕ) (can : CanDraw N u k e g l) where
   g_now : Has K.faces g
   g_now = ap is_some face_new
 
-  no_plus : HasHalf N (plus e) → ⊥
-  no_plus there = true≢false (sym there ∙ ap is_some (ap (table.get N.edges) (plus_row e).0 ∙ can.edge_free))
-
-  no_minus : HasHalf N (minus e) → ⊥
-  no_minus there = true≢false (sym there ∙ ap is_some (ap (table.get N.edges) (minus_row e).0 ∙ can.edge_free))
-
   -- a half-edge that was there bounds one of the two if it bounded F
   old_counts : (h : ℕ) → HasHalf N h → count h (boundary K F) + count h (boundary K g) ≡ count h (boundary N F)
   old_counts h was =
@@ -162,9 +156,9 @@ module _ (N : Model) (u k e g l : ℕ) (can : CanDraw N u k e g l) where
   both : SameItems (boundary K F ++ boundary K g) (plus e ∷ minus e ∷ boundary N F)
   both h = two_halves h e (boundary K F) (boundary K g) (boundary N F)
       (λ is. let now : HasHalf K h = subst (HasHalf K) (sym is) (plus_there N K e _ (edges_are N u k e g l can)) in
-      (bound_one K K_sound F h now (ap (face_at K) is ∙ plus_face), bound_none K K_sound g h g_now (λ t s. not_new F F_there (sym plus_face ∙ sym (ap (face_at K) is) ∙ s)), bound_none N can.sound F h F_there (λ t s. no_plus (subst (HasHalf N) is t))))
+      (bound_one K K_sound F h now (ap (face_at K) is ∙ plus_face), bound_none K K_sound g h g_now (λ t s. not_new F F_there (sym plus_face ∙ sym (ap (face_at K) is) ∙ s)), bound_none N can.sound F h F_there (λ t s. (none_new N e h can.edge_free t).0 is)))
       (λ is. let now : HasHalf K h = subst (HasHalf K) (sym is) (minus_there N K e _ (edges_are N u k e g l can)) in
-      (bound_none K K_sound F h F_now (λ t s. not_new F F_there (sym s ∙ ap (face_at K) is ∙ minus_face)), bound_one K K_sound g h now (ap (face_at K) is ∙ minus_face), bound_none N can.sound F h F_there (λ t s. no_minus (subst (HasHalf N) is t))))
+      (bound_none K K_sound F h F_now (λ t s. not_new F F_there (sym s ∙ ap (face_at K) is ∙ minus_face)), bound_one K K_sound g h now (ap (face_at K) is ∙ minus_face), bound_none N can.sound F h F_there (λ t s. (none_new N e h can.edge_free t).1 is)))
       (λ a b. elim (half_there N h) [
         | inl was ↦ old_counts h was
         | inr not_was ↦
@@ -176,37 +170,16 @@ module _ (N : Model) (u k e g l : ℕ) (can : CanDraw N u k e g l) where
   normals_sum = (λ i. moved (normal_is K F i) (normal_is K g i)) ∙ sym (area-append K (boundary K F) (boundary K g))
       ∙ area_same K (boundary K F ++ boundary K g) (plus e ∷ minus e ∷ boundary N F) both
       ∙ no_area K e (boundary N F)
-      ∙ area_still N K can.sound stays (boundary N F) (bound_halves N can.sound F).there ∙ sym (normal_is N F)
+      ∙ area_after N K can.sound stays F
 
   -- another face keeps its half-edges
   pub normal_else : (f : ℕ) → Has N.faces f → f ≢ face_at N u → normal (face_drawn N u k e g l) f ≡ normal N f
-  normal_else f there ne = normal_is K f ∙ area_same K (boundary K f) (boundary N f) same ∙ area_still N K can.sound stays (boundary N f) (bound_halves N can.sound f).there ∙ sym (normal_is N f) where
-    f_now : Has K.faces f
-    f_now = stays.faces f there
-
-    not_at : (h : ℕ) → (HasHalf N h → ⊥) → HasHalf K h → face_at K h ≢ f
-    not_at h not_was now at = elim (cases h now) [
-      | inl was ↦ not_was was
-      | inr new ↦ elim new [
-        | inl is ↦ ne (sym at ∙ ap (face_at K) is ∙ plus_face)
-        | inr is ↦ not_new f there (sym at ∙ ap (face_at K) is ∙ minus_face)
-      ]
-    ]
-
-    same : SameItems (boundary K f) (boundary N f)
-    same h = elim (half_there N h) [
-      | inl was ↦ elim (eqb_tells (face_at N h) f) [
-        | inl at ↦ elim (face_then h was) [
-          | inl s ↦ bound_one K K_sound f h (stays.halves h was) (s ∙ at.1) ∙ sym (bound_one N can.sound f h was at.1)
-          | inr new ↦ absurd (ne (sym at.1 ∙ new.0))
-        ]
-        | inr at ↦ bound_none K K_sound f h f_now (λ t s. elim (face_then h was) [
-          | inl z ↦ at.1 (sym z ∙ s)
-          | inr new ↦ not_new f there (sym s ∙ new.1)
-        ]) ∙ sym (bound_none N can.sound f h there (λ t. at.1))
-      ]
-      | inr not_was ↦ bound_none K K_sound f h f_now (λ t. not_at h not_was t) ∙ sym (bound_none N can.sound f h there (λ t s. not_was t))
-    ]
+  normal_else f there ne = normal_kept N K can.sound K_sound stays f there
+      (λ h now at. elim (cases h now) [
+        | inl was ↦ elim (face_then h was) [ inl same ↦ (was, sym same ∙ at) | inr new ↦ absurd (not_new f there (sym at ∙ new.1)) ]
+        | inr new ↦ absurd (elim new [ inl is ↦ ne (sym at ∙ ap (face_at K) is ∙ plus_face) | inr is ↦ not_new f there (sym at ∙ ap (face_at K) is ∙ minus_face) ])
+      ])
+      (λ h was at. elim (face_then h was) [ inl same ↦ same ∙ at | inr new ↦ absurd (ne (sym at ∙ new.0)) ])
 
   pub outer_else : (f : ℕ) → Has N.faces f → outer (face_drawn N u k e g l) f ≡ outer N f
   outer_else f there = same_outer N K f (face_else f (not_new f there))

@@ -1,4 +1,4 @@
--- A model with one edge more: its half-edges, and rows that stay.
+-- A model with one edge more: its half-edges, and faces that keep theirs.
 use Rattle.std.proofs.Common.{◌≡◌, ◌≢◌, ℕ, ◌+◌, Bool, true, false, List, ◌∷◌, ◌++◌, Some, is_some, refl, sym, ap, ◌∙◌, arith, ◌⊎◌, inl, inr, true≢false}
 use Rattle.std.proofs.lemmas.Bool.Decides.{eqb_tells}
 use Rattle.euler_operators.specs.declared.Point.{Point}
@@ -8,13 +8,16 @@ use Rattle.euler_operators.proofs.Lists.{count-append, tick_same, tick_other}
 use Rattle.euler_operators.specs.HalfEdge.{mate, edge_of, plus, minus}
 use Rattle.euler_operators.specs.Table as table
 use Rattle.euler_operators.specs.Model.{Model, EdgeRow, has_half}
-use Rattle.euler_operators.specs.Sound.{HasHalf}
+use Rattle.euler_operators.specs.Sound.{Sound, Has, HasHalf}
+use Rattle.euler_operators.specs.Conditions.{face_at}
 use Rattle.euler_operators.proofs.Halves.{plus_row, minus_row, same_edge, mate_plus, plus_other}
 use Rattle.euler_operators.proofs.Tables.{get-put_here, get-put_other}
 use Rattle.shapes.specs.Faces.{start, finish, boundary}
 use Rattle.shapes.specs.Measure.{area, normal}
 use Rattle.shapes.proofs.Areas.{moved_more, nothing_moved}
-use Rattle.shapes.proofs.measures.Sums.{halves_cancel}
+use Rattle.shapes.proofs.measures.Sums.{area_same, halves_cancel}
+use Rattle.split_drawing_laws.specs.drawings.DrawnIn.{Stays}
+use Rattle.split_drawing_laws.proofs.drawn_volumes.Bounds.{bound_halves, bound_one, bound_none, area_still}
 
 pub half_there : (N : Model) (h : ℕ) → HasHalf N h ⊎ (HasHalf N h → ⊥)
 half_there N h = go (has_half N h) refl where
@@ -42,6 +45,37 @@ module _ (N K : Model) (e : ℕ) (row : EdgeRow) (is : K.edges ≡ table.put N.e
     | inl s ↦ elim (same_edge h (plus e) (s.1 ∙ sym (plus_row e).0)) [ inl t ↦ inr (inl t) | inr t ↦ inr (inr (t ∙ mate_plus e)) ]
     | inr s ↦ inl (sym (ap is_some (ap (λ t. table.get t (edge_of h)) is ∙ get-put_other N.edges e row (edge_of h) s.1)) ∙ there)
   ]
+
+-- ---- faces that keep their half-edges
+
+pub area_after : (N K : Model) → Sound N → Stays N K → (f : ℕ) → area K (boundary N f) ≡ normal N f
+area_after N K sound stays f = area_still N K sound stays (boundary N f) (bound_halves N sound f).there ∙ sym (normal_is N f)
+
+module _ (N K : Model) (sound : Sound N) (new : Sound K) (stays : Stays N K) (f : ℕ) (there : Has N.faces f) where
+  now : Has K.faces f
+  now = stays.faces f there
+
+  -- a half-edge that keeps its face bounds f as often as it did, and so does what is no half-edge of f
+  pub one_count : (h : ℕ) → HasHalf N h → face_at K h ≡ face_at N h → count h (boundary K f) ≡ count h (boundary N f)
+  one_count h was s = elim (eqb_tells (face_at N h) f) [
+    | inl at ↦ bound_one K new f h (stays.halves h was) (s ∙ at.1) ∙ sym (bound_one N sound f h was at.1)
+    | inr at ↦ bound_none K new f h now (λ t z. at.1 (sym s ∙ z)) ∙ sym (bound_none N sound f h there (λ t. at.1))
+  ]
+
+  pub no_count : (h : ℕ) → (HasHalf N h → ⊥) → (HasHalf K h → face_at K h ≢ f) → count h (boundary K f) ≡ count h (boundary N f)
+  no_count h not_was none = bound_none K new f h now none ∙ sym (bound_none N sound f h there (λ t s. not_was t))
+
+  -- with its half-edges it keeps its normal
+  pub normal_kept : ((h : ℕ) → HasHalf K h → face_at K h ≡ f → HasHalf N h × (face_at N h ≡ f)) → ((h : ℕ) → HasHalf N h → face_at N h ≡ f → face_at K h ≡ f) → normal K f ≡ normal N f
+  normal_kept back on = normal_is K f ∙ area_same K (boundary K f) (boundary N f) (λ h. elim (half_there N h) [
+    | inl was ↦ elim (eqb_tells (face_at N h) f) [
+      | inl at ↦ bound_one K new f h (stays.halves h was) (on h was at.1) ∙ sym (bound_one N sound f h was at.1)
+      | inr at ↦ bound_none K new f h now (λ t z. at.1 (back h t z).1) ∙ sym (bound_none N sound f h there (λ t. at.1))
+    ]
+    | inr not_was ↦ no_count h not_was (λ t z. not_was (back h t z).0)
+  ]) ∙ area_after N K sound stays f
+
+-- ---- lists
 
 -- how often h stands in two lists and in a third one with both halves of e, where each case is known
 pub two_halves : (h e : ℕ) (xs ys zs : List ℕ) →

@@ -11,18 +11,18 @@ use Rattle.euler_operators.specs.HalfEdge.{plus, minus}
 use Rattle.euler_operators.specs.Table as table
 use Rattle.euler_operators.specs.Model.{Model, lone, tail, content, outer, point_of, loop_of, face_of, cycle_of}
 use Rattle.euler_operators.specs.Sound.{Sound, Has, HasHalf}
-use Rattle.euler_operators.proofs.Halves.{plus_row, minus_row}
 use Rattle.euler_operators.proofs.Models.{content_row, face_row, same_content, same_face, same_outer, never_lone}
 use Rattle.euler_operators.specs.Conditions.{face_at}
 use Rattle.shapes.specs.Faces.{start, boundary}
-use Rattle.shapes.specs.Measure.{area, normal, anchor}
+use Rattle.shapes.specs.Measure.{normal, anchor}
 use Rattle.shapes.proofs.measures.Sums.{area_same}
 use Rattle.shapes.specs.split.Drawing.{loops_joined}
 use Rattle.split_drawing_laws.specs.drawings.DrawnIn.{Stays}
 use Rattle.split_drawing_laws.proofs.drawings.Drawn.{CanJoin, join_sound, loops_joined_faces}
 use Rattle.split_drawing_laws.proofs.drawings.Stays.{stands_at, row_joined, row_other, row_gone, joined_edges, join_stays, join_tails, join_faces}
-use Rattle.split_drawing_laws.proofs.drawn_volumes.Bounds.{OnFace, anchor_still, lone_there, bound_halves, bound_one, bound_none, point_still, start_still, area_still}
-use Rattle.split_drawing_laws.proofs.drawn_volumes.Edges.{half_there, plus_there, minus_there, half_cases, two_in, no_area, normal_is}
+use Rattle.split_drawing_laws.proofs.loop_sides.After.{none_new}
+use Rattle.split_drawing_laws.proofs.drawn_volumes.Bounds.{OnFace, anchor_still, lone_there, bound_one, bound_none, point_still, start_still}
+use Rattle.split_drawing_laws.proofs.drawn_volumes.Edges.{half_there, plus_there, minus_there, half_cases, area_after, one_count, no_count, normal_kept, two_in, no_area, normal_is}
 
 module _ (N : Model) (c d e : ℕ) (can : CanJoin N c d e) where
   abbrev K : Model
@@ -82,48 +82,26 @@ module _ (N : Model) (c d e : ℕ) (can : CanJoin N c d e) where
 
   -- ---- normals
 
-  no_plus : HasHalf N (plus e) → ⊥
-  no_plus there = true≢false (sym there ∙ ap is_some (ap (table.get N.edges) (plus_row e).0 ∙ can.edge_free))
-
-  no_minus : HasHalf N (minus e) → ⊥
-  no_minus there = true≢false (sym there ∙ ap is_some (ap (table.get N.edges) (minus_row e).0 ∙ can.edge_free))
-
   module _ (f : ℕ) (there : Has N.faces f) where
-    now : Has K.faces f
-    now = stays.faces f there
-
-    old_count : (h : ℕ) → HasHalf N h → count h (boundary K f) ≡ count h (boundary N f)
-    old_count h was = let same = join_faces N c d e can h was in elim (eqb_tells (face_at N h) f) [
-      | inl at ↦ bound_one K J_sound f h (stays.halves h was) (same ∙ at.1) ∙ sym (bound_one N can.sound f h was at.1)
-      | inr at ↦ bound_none K J_sound f h now (λ t s. at.1 (sym same ∙ s)) ∙ sym (bound_none N can.sound f h there (λ t. at.1))
-    ]
-
-    gone_count : (h : ℕ) → (HasHalf N h → ⊥) → (HasHalf K h → face_at K h ≢ f) → count h (boundary K f) ≡ count h (boundary N f)
-    gone_count h not_was none = bound_none K J_sound f h now none ∙ sym (bound_none N can.sound f h there (λ t s. not_was t))
-
-    area_after : area K (boundary N f) ≡ normal N f
-    area_after = area_still N K can.sound stays (boundary N f) (bound_halves N can.sound f).there ∙ sym (normal_is N f)
-
-    other_face : f ≢ F → (h : ℕ) → (HasHalf N h → ⊥) → HasHalf K h → face_at K h ≢ f
-    other_face ne h not_was t at = elim (cases h t) [
-      | inl was ↦ not_was was
-      | inr new ↦ elim new [ inl is ↦ ne (sym at ∙ ap (face_at K) is ∙ plus_face) | inr is ↦ ne (sym at ∙ ap (face_at K) is ∙ minus_face) ]
-    ]
+    same_count : (h : ℕ) → HasHalf N h → count h (boundary K f) ≡ count h (boundary N f)
+    same_count h was = one_count N K can.sound J_sound stays f there h was (join_faces N c d e can h was)
 
     normal_else : f ≢ F → normal K f ≡ normal N f
-    normal_else ne = normal_is K f ∙ area_same K (boundary K f) (boundary N f) (λ h. elim (half_there N h) [
-      | inl was ↦ old_count h was
-      | inr not_was ↦ gone_count h not_was (other_face ne h not_was)
-    ]) ∙ area_after
+    normal_else ne = normal_kept N K can.sound J_sound stays f there
+        (λ h now at. elim (cases h now) [
+          | inl was ↦ (was, sym (join_faces N c d e can h was) ∙ at)
+          | inr new ↦ absurd (elim new [ inl is ↦ ne (sym at ∙ ap (face_at K) is ∙ plus_face) | inr is ↦ ne (sym at ∙ ap (face_at K) is ∙ minus_face) ])
+        ])
+        (λ h was at. join_faces N c d e can h was ∙ at)
 
     normal_here : f ≡ F → normal K f ≡ normal N f
     normal_here at = normal_is K f ∙ area_same K (boundary K f) (plus e ∷ minus e ∷ boundary N f) (λ h. two_in h e (boundary K f) (boundary N f)
-        (λ is. (bound_one K J_sound f h (subst (HasHalf K) (sym is) (plus_there N K e _ (joined_edges N c d e can))) (ap (face_at K) is ∙ plus_face ∙ sym at), bound_none N can.sound f h there (λ t s. no_plus (subst (HasHalf N) is t))))
-        (λ is. (bound_one K J_sound f h (subst (HasHalf K) (sym is) (minus_there N K e _ (joined_edges N c d e can))) (ap (face_at K) is ∙ minus_face ∙ sym at), bound_none N can.sound f h there (λ t s. no_minus (subst (HasHalf N) is t))))
+        (λ is. (bound_one K J_sound f h (subst (HasHalf K) (sym is) (plus_there N K e _ (joined_edges N c d e can))) (ap (face_at K) is ∙ plus_face ∙ sym at), bound_none N can.sound f h there (λ t s. (none_new N e h can.edge_free t).0 is)))
+        (λ is. (bound_one K J_sound f h (subst (HasHalf K) (sym is) (minus_there N K e _ (joined_edges N c d e can))) (ap (face_at K) is ∙ minus_face ∙ sym at), bound_none N can.sound f h there (λ t s. (none_new N e h can.edge_free t).1 is)))
         (λ a b. elim (half_there N h) [
-          | inl was ↦ old_count h was
-          | inr not_was ↦ gone_count h not_was (λ t s. elim (cases h t) [ inl was ↦ not_was was | inr new ↦ elim new [ inl is ↦ a is | inr is ↦ b is ] ])
-        ])) ∙ no_area K e (boundary N f) ∙ area_after
+          | inl was ↦ same_count h was
+          | inr not_was ↦ no_count N K can.sound J_sound stays f there h not_was (λ t s. elim (cases h t) [ inl was ↦ not_was was | inr new ↦ elim new [ inl is ↦ a is | inr is ↦ b is ] ])
+        ])) ∙ no_area K e (boundary N f) ∙ area_after N K can.sound stays f
 
     pub normal_joined : normal (loops_joined N c d e) f ≡ normal N f
     normal_joined = elim (eqb_tells f F) [ inl at ↦ normal_here at.1 | inr ne ↦ normal_else ne.1 ]

@@ -15,12 +15,12 @@ use Rattle.euler_laws.proofs.shared.Faces.{SameWalks}
 use Rattle.euler_laws.proofs.faces.RingIn as moving
 use Rattle.euler_laws.proofs.faces.RingIn.{RingGoes, sound-ring_in}
 use Rattle.shapes.specs.Faces.{boundary}
-use Rattle.shapes.specs.Measure.{area, normal, anchor}
+use Rattle.shapes.specs.Measure.{normal, anchor}
 use Rattle.shapes.proofs.Areas.{area-append}
 use Rattle.shapes.proofs.measures.Sums.{area_same}
 use Rattle.split_drawing_laws.specs.drawings.DrawnIn.{Stays}
-use Rattle.split_drawing_laws.proofs.drawn_volumes.Bounds.{OnFace, anchor_still, bound_halves, bound_one, bound_none, point_still, start_still, area_still}
-use Rattle.split_drawing_laws.proofs.drawn_volumes.Edges.{half_there, normal_is}
+use Rattle.split_drawing_laws.proofs.drawn_volumes.Bounds.{OnFace, anchor_still, bound_one, bound_none, point_still, start_still}
+use Rattle.split_drawing_laws.proofs.drawn_volumes.Edges.{half_there, area_after, one_count, no_count, normal_kept, normal_is}
 
 -- loop l is a ring of face f and goes to another face k
 pub record CanMove (N : Model) (f l k : ℕ) : Type 0 where
@@ -108,18 +108,11 @@ module _ (N : Model) (f l k : ℕ) (can : CanMove N f l k) where
   f_now : Has K.faces f
   f_now = stays.faces f can.f_there
 
-  k_now : Has K.faces k
-  k_now = stays.faces k can.goes.f_there
+  one : (g h : ℕ) → Has N.faces g → HasHalf N h → face_at K h ≡ face_at N h → count h (boundary K g) ≡ count h (boundary N g)
+  one g h there = one_count N K can.sound moved_sound stays g there h
 
-  -- one face, where the half-edge keeps its own
-  one_count : (g h : ℕ) → Has N.faces g → HasHalf N h → face_at K h ≡ face_at N h → count h (boundary K g) ≡ count h (boundary N g)
-  one_count g h there was s = elim (eqb_tells (face_at N h) g) [
-    | inl at ↦ bound_one K moved_sound g h (stays.halves h was) (s ∙ at.1) ∙ sym (bound_one N can.sound g h was at.1)
-    | inr at ↦ bound_none K moved_sound g h (stays.faces g there) (λ t z. at.1 (sym s ∙ z)) ∙ sym (bound_none N can.sound g h there (λ t. at.1))
-  ]
-
-  no_count : (g h : ℕ) → Has N.faces g → (HasHalf N h → ⊥) → count h (boundary K g) ≡ count h (boundary N g)
-  no_count g h there not_was = bound_none K moved_sound g h (stays.faces g there) (λ t s. not_was (back h t)) ∙ sym (bound_none N can.sound g h there (λ t s. not_was t))
+  none : (g h : ℕ) → Has N.faces g → (HasHalf N h → ⊥) → count h (boundary K g) ≡ count h (boundary N g)
+  none g h there not_was = no_count N K can.sound moved_sound stays g there h not_was (λ t s. not_was (back h t))
 
   both : SameItems (boundary K f ++ boundary K k) (boundary N f ++ boundary N k)
   both h = elim (half_there N h) [
@@ -131,26 +124,22 @@ module _ (N : Model) (f l k : ℕ) (can : CanMove N f l k) where
           let c : count h (boundary N f) ≡ 1 = bound_one N can.sound f h was w.0 in
           let d : count h (boundary N k) ≡ 0 = bound_none N can.sound k h can.goes.f_there (λ t z. can.apart (sym w.0 ∙ z)) in
           omega (arith, a, b, c, d, count-append h (boundary K f) (boundary K k), count-append h (boundary N f) (boundary N k))
-      | inr s ↦ omega (arith, one_count f h can.f_there was (kept h was s.1), one_count k h can.goes.f_there was (kept h was s.1), count-append h (boundary K f) (boundary K k), count-append h (boundary N f) (boundary N k))
+      | inr s ↦ omega (arith, one f h can.f_there was (kept h was s.1), one k h can.goes.f_there was (kept h was s.1), count-append h (boundary K f) (boundary K k), count-append h (boundary N f) (boundary N k))
     ]
-    | inr not_was ↦ omega (arith, no_count f h can.f_there not_was, no_count k h can.goes.f_there not_was, count-append h (boundary K f) (boundary K k), count-append h (boundary N f) (boundary N k))
+    | inr not_was ↦ omega (arith, none f h can.f_there not_was, none k h can.goes.f_there not_was, count-append h (boundary K f) (boundary K k), count-append h (boundary N f) (boundary N k))
   ]
-
-  still : (g : ℕ) → area K (boundary N g) ≡ normal N g
-  still g = area_still N K can.sound stays (boundary N g) (bound_halves N can.sound g).there ∙ sym (normal_is N g)
 
   pub normals_sum : moved (normal (ring_in N l k) f) (normal (ring_in N l k) k) ≡ moved (normal N f) (normal N k)
   normals_sum = (λ i. moved (normal_is K f i) (normal_is K k i)) ∙ sym (area-append K (boundary K f) (boundary K k))
-      ∙ area_same K (boundary K f ++ boundary K k) (boundary N f ++ boundary N k) both ∙ area-append K (boundary N f) (boundary N k) ∙ (λ i. moved (still f i) (still k i))
+      ∙ area_same K (boundary K f ++ boundary K k) (boundary N f ++ boundary N k) both ∙ area-append K (boundary N f) (boundary N k) ∙ (λ i. moved (area_after N K can.sound stays f i) (area_after N K can.sound stays k i))
 
   pub normal_else : (g : ℕ) → Has N.faces g → g ≢ f → g ≢ k → normal (ring_in N l k) g ≡ normal N g
-  normal_else g there not_f not_k = normal_is K g ∙ area_same K (boundary K g) (boundary N g) (λ h. elim (half_there N h) [
-    | inl was ↦ elim (eqb_tells (loop_of N h) l) [
-      | inl s ↦ bound_none K moved_sound g h (stays.faces g there) (λ t z. not_k (sym z ∙ (gone h was s.1).1)) ∙ sym (bound_none N can.sound g h there (λ t z. not_f (sym z ∙ (gone h was s.1).0)))
-      | inr s ↦ one_count g h there was (kept h was s.1)
-    ]
-    | inr not_was ↦ no_count g h there not_was
-  ]) ∙ still g
+  normal_else g there not_f not_k = normal_kept N K can.sound moved_sound stays g there
+      (λ h now at. let was = back h now in elim (eqb_tells (loop_of N h) l) [
+        | inl s ↦ absurd (not_k (sym at ∙ (gone h was s.1).1))
+        | inr s ↦ (was, sym (kept h was s.1) ∙ at)
+      ])
+      (λ h was at. elim (eqb_tells (loop_of N h) l) [ inl s ↦ absurd (not_f (sym at ∙ (gone h was s.1).0)) | inr s ↦ kept h was s.1 ∙ at ])
 
   -- each face keeps its anchor
   pub anchor_moved : (g : ℕ) → Has N.faces g → anchor (ring_in N l k) g ≡ anchor N g

@@ -1,5 +1,5 @@
 -- The half-edges that start at the cut places of faces, each once.
-use Rattle.std.proofs.Common.{◌≡◌, ℕ, ◌≤◌, List, [], ◌∷◌, refl, ap, subst, arith, inl, inr}
+use Rattle.std.proofs.Common.{◌≡◌, ℕ, ◌≤◌, List, [], ◌∷◌, ap, subst, arith, inl, inr}
 use Rattle.std.proofs.lemmas.Bool.Decides.{eqb_tells}
 use Rattle.euler_operators.specs.declared.Plane.{Plane}
 use Rattle.euler_operators.specs.Items.{count, IsIn, IsApart}
@@ -7,17 +7,6 @@ use Rattle.euler_operators.proofs.Lists.{count-append, tick_same, tick_other, Is
 use Rattle.euler_operators.specs.Model.{Model}
 use Rattle.shapes.specs.split.Drawing.{drawn_pairs, all_pairs}
 use Rattle.split_drawing_laws.specs.loop_sides.Parted.{ends, all_ends}
-use Rattle.split_drawing_laws.proofs.pairs.Members.{members}
-
--- ---- a list mapped
-
--- ---- the half-edges of pairs
-
-pub ends_are : (qs : List (ℕ × ℕ)) → ends qs ≡ members qs
-ends_are [] = refl
-ends_are (q ∷ qs) = ap (λ ns. q.0 ∷ q.1 ∷ ns) (ends_are qs)
-
--- ---- the half-edges of the pairs of some faces
 
 module _ (M N : Model) (p : Plane) where
   pub in_all_ends : (f y : ℕ) (fs : List ℕ) → IsIn f fs → IsIn y (ends (drawn_pairs M N p f)) → IsIn y (all_ends (all_pairs M N p fs))

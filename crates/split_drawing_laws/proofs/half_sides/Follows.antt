@@ -1,15 +1,10 @@
 -- What follows what once an edge is cut.
-use Rattle.std.proofs.Common.{◌≡◌, ◌≢◌, ℕ, cond, refl, sym, ap, ◌∙◌, subst, arith, eq-eqb, ne_eqb}
-use Rattle.std.specs.Prelude.{◌==◌}
+use Rattle.std.proofs.Common.{◌≡◌, ◌≢◌, ℕ, refl, sym, ap, ◌∙◌, subst, arith}
 use Rattle.euler_operators.specs.declared.Point.{Point}
-use Rattle.euler_operators.specs.Edits.{redirect, led_over}
-use Rattle.euler_operators.specs.Rings.{predecessor}
 use Rattle.euler_operators.specs.Operators.{after_mev}
-use Rattle.euler_operators.proofs.Rings.{predecessor-successor}
 use Rattle.euler_operators.specs.HalfEdge.{mate, plus, minus}
-use Rattle.euler_operators.specs.Model.{Model, items_of, loop_of, content, cycle_of, after, before}
+use Rattle.euler_operators.specs.Model.{Model, loop_of, after, before}
 use Rattle.euler_operators.specs.Sound.{Sound, HasHalf}
-use Rattle.euler_operators.proofs.Models.{cycle_there, cycle_sound}
 use Rattle.euler_operators.proofs.Halves.{mate_plus}
 use Rattle.euler_operators.specs.Effect.{mev_at}
 use Rattle.euler_laws.proofs.shared.Fans.{loop_after}
@@ -18,38 +13,14 @@ use Rattle.euler_laws.proofs.mev.MevSound.{walks}
 use Rattle.shapes.specs.split.Crossings.{edge_cut}
 use Rattle.split_drawing_laws.proofs.crossings.OneCut.{cut_is_mev, minus_there}
 use Rattle.split_drawing_laws.proofs.crossings.Steps.{CutGoes, mev_goes, cut_keeps}
+use Rattle.split_drawing_laws.proofs.pairs.LoopPlaces.{before_after}
 use Rattle.split_drawing_laws.proofs.loop_sides.After.{none_new}
+use Rattle.split_drawing_laws.proofs.loop_sides.Follows.{mev_at_h, mev_at_d, mev_else}
 
 module _ (N : Model) (sound : Sound N) where
-  pub before_after : (x : ℕ) → HasHalf N x → before N (after N x) ≡ x
-  unfolding after before
-  before_after x there = ap (λ q. predecessor (items_of (content N q)) (after N x)) (loop_after N sound x there)
-      ∙ predecessor-successor x (cycle_of N x) (cycle_sound N sound x there).apart (cycle_there N sound x there)
-
   -- no two half-edges are followed by one
   pub after_once : (x y : ℕ) → HasHalf N x → HasHalf N y → after N x ≡ after N y → x ≡ y
-  after_once x y xt yt e = sym (before_after x xt) ∙ ap (before N) e ∙ before_after y yt
-
--- ---- what follows what, once h is put before c and m before d
-
-module _ (next : ℕ → ℕ) (h m c d : ℕ) where
-  inner : (x : ℕ) → x ≢ h → next x ≢ c → led_over next c h x ≡ next x
-  inner x a b = ap (λ t. cond t c (redirect next c h x)) (ne_eqb x h a) ∙ ap (λ t. cond t h (next x)) (ne_eqb (next x) c b)
-
-  outer : (x : ℕ) → x ≢ m → after_mev next h m c d x ≡ redirect (led_over next c h) d m x
-  outer x a = ap (λ t. cond t d (redirect (led_over next c h) d m x)) (ne_eqb x m a)
-
-  -- h leads to c
-  pub follows_new : h ≢ m → c ≢ d → after_mev next h m c d h ≡ c
-  follows_new hm cd = outer h hm ∙ ap (λ y. cond (y == d) m y) (ap (λ t. cond t c (redirect next c h h)) (eq-eqb h h refl)) ∙ ap (λ t. cond t m c) (ne_eqb c d cd)
-
-  -- what led to d leads to m
-  pub follows_last : (x : ℕ) → x ≢ h → x ≢ m → next x ≡ d → c ≢ d → after_mev next h m c d x ≡ m
-  follows_last x a b e cd = outer x b ∙ ap (λ y. cond (y == d) m y) (inner x a (λ s. cd (sym s ∙ e))) ∙ ap (λ t. cond t m (next x)) (eq-eqb (next x) d e)
-
-  -- elsewhere all stays
-  pub follows_same : (x : ℕ) → x ≢ h → x ≢ m → next x ≢ c → next x ≢ d → after_mev next h m c d x ≡ next x
-  follows_same x a b nc nd = outer x b ∙ ap (λ y. cond (y == d) m y) (inner x a nc) ∙ ap (λ t. cond t m (next x)) (ne_eqb (next x) d nd)
+  after_once x y xt yt e = sym (before_after N sound x xt) ∙ ap (before N) e ∙ before_after N sound y yt
 
 -- ---- edge e cut by the new edge k
 
@@ -75,15 +46,15 @@ module _ (N : Model) (e k v : ℕ) (q : Point) (goes : CutGoes N e k v q) where
 
   -- the new plus half leads to the old one
   pub after_first : HasHalf (edge_cut N e k v q) (plus k) → after (edge_cut N e k v q) (plus k) ≡ plus e
-  after_first there = leads (plus k) there ∙ follows_new (after N) (plus k) (mate (plus k)) (plus e) (after N (minus e)) halves_apart loops_apart
+  after_first there = leads (plus k) there ∙ mev_at_h (after N) (plus k) (mate (plus k)) (plus e) (after N (minus e)) halves_apart loops_apart
 
   -- the old minus half leads to the new one
   pub after_second : after (edge_cut N e k v q) (minus e) ≡ minus k
   after_second = leads (minus e) ((cut_keeps N e k v q goes).halves (minus e) second_half)
-      ∙ follows_last (after N) (plus k) (mate (plus k)) (plus e) (after N (minus e)) (minus e) (fresh (minus e) second_half).0 (fresh (minus e) second_half).1 refl loops_apart
+      ∙ mev_at_d (after N) (plus k) (mate (plus k)) (plus e) (after N (minus e)) (minus e) (fresh (minus e) second_half).0 (fresh (minus e) second_half).1 loops_apart refl
       ∙ mate_plus k
 
   -- the others lead where they did
   pub after_else : (x : ℕ) → HasHalf N x → x ≢ minus e → after N x ≢ plus e → after (edge_cut N e k v q) x ≡ after N x
   after_else x there a b = leads x ((cut_keeps N e k v q goes).halves x there)
-      ∙ follows_same (after N) (plus k) (mate (plus k)) (plus e) (after N (minus e)) x (fresh x there).0 (fresh x there).1 b (λ s. a (after_once N goes.can.sound x (minus e) there second_half s))
+      ∙ mev_else (after N) (plus k) (mate (plus k)) (plus e) (after N (minus e)) x (fresh x there).0 (fresh x there).1 b (λ s. a (after_once N goes.can.sound x (minus e) there second_half s))

@@ -33,9 +33,3 @@ level_end a b on = grind (arith, ints)
 
 pub crosses_back : (a b : ℤ) → opposite a b ≡ false → opposite b a ≡ false
 crosses_back a b x = grind (arith, ints)
-
-pub level_not_below : (n : ℤ) → int_eq n (pos 0) ≡ true → int_lt n (pos 0) ≡ false
-level_not_below n on = grind (arith, ints)
-
-pub level_not_above : (n : ℤ) → int_eq n (pos 0) ≡ true → int_lt (pos 0) n ≡ false
-level_not_above n on = grind (arith, ints)

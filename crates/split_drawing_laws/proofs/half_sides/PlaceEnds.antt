@@ -38,7 +38,6 @@ use Rattle.split_drawing_laws.proofs.pairs.Sorted.{count-sorted, sorted_apart}
 use Rattle.split_drawing_laws.proofs.pairs.Whole.{places_apart}
 use Rattle.split_drawing_laws.specs.loop_sides.Parted.{Crosses, AllCross, ends}
 use Rattle.split_drawing_laws.specs.half_sides.HalfSides.{half_is_above, side_of}
-use Rattle.split_drawing_laws.proofs.half_sides.EndLists.{ends_are}
 use Rattle.split_drawing_laws.proofs.half_sides.Heights.{side_ahead}
 use Rattle.split_drawing_laws.proofs.half_sides.Starts.{TurnAt, turn_at}
 
@@ -211,7 +210,7 @@ module _ (M : Model) (s : ℕ) (p : Plane) (t : ℕ) (sound : Sound M) (begins :
     -- ---- the half-edges of the pairs
 
     counted : (y : ℕ) → count y (ends (drawn_pairs M N p f)) ≡ count y (map (from_place N p) (places M p f))
-    counted y = ap (count y) (ends_are (drawn_pairs M N p f)) ∙ all_places_drawn M N p y f (places_even M sound p f ((can_cut M s p t sound begins).untouched f i))
+    counted y = all_places_drawn M N p y f (places_even M sound p f ((can_cut M s p t sound begins).untouched f i))
 
     pub place_in_ends : (h : ℕ) → IsIn h (places M p f) → IsIn (from_place N p h) (ends (drawn_pairs M N p f))
     place_in_ends h j = omega (arith, IsIn-map (from_place N p) h (places M p f) j, counted (from_place N p h))

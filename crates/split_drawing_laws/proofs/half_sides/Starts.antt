@@ -22,11 +22,12 @@ use Rattle.split_drawing_laws.specs.crossings.Kept.{Kept}
 use Rattle.split_drawing_laws.specs.crossings.Laws.{CanBegin}
 use Rattle.split_drawing_laws.proofs.crossings.Listed.{item_in_face}
 use Rattle.split_drawing_laws.proofs.crossings.Places.{plus_on, minus_off}
-use Rattle.split_drawing_laws.proofs.crossings.Premises.{Cuttable, edge_facts, plus_crosses, minus_crosses, minus_is}
+use Rattle.split_drawing_laws.proofs.crossings.Premises.{Cuttable, crossing_is_place, edge_facts, plus_crosses, minus_crosses, minus_is}
 use Rattle.split_drawing_laws.proofs.crossings.Runs.{kept_point, kept_start}
 use Rattle.split_drawing_laws.proofs.crossings.Whole.{can_cut, crossings_cut, crossings_keep, crossings_sound, not_cut}
 use Rattle.split_drawing_laws.proofs.pairs.LoopPlaces.{on_place}
-use Rattle.split_drawing_laws.proofs.half_sides.Follows.{before_after, after_once}
+use Rattle.split_drawing_laws.proofs.pairs.LoopPlaces.{before_after}
+use Rattle.split_drawing_laws.proofs.half_sides.Follows.{after_once}
 use Rattle.split_drawing_laws.proofs.half_sides.Heights.{level_start, level_end}
 use Rattle.split_drawing_laws.proofs.half_sides.Pieces.{CutBy, Pieces, crossing_pieces}
 
@@ -79,10 +80,6 @@ module _ (M : Model) (s : ℕ) (p : Plane) (t : ℕ) (sound : Sound M) (begins :
     | inl e ↦ subst (λ x. crosses M p x ≡ true) (sym e.0) (edge_facts M sound s p (edge_of h) i).2
     | inr e ↦ subst (λ x. crosses M p x ≡ true) (sym e.0) (minus_is M sound s p premises (edge_of h) i)
   ]
-
-  crossing_is_place : (h : ℕ) → crosses M p h ≡ true → is_place M p h ≡ true
-  unfolding is_place
-  crossing_is_place h x = ap (λ b. b || (is_on p (start M h) && are_opposite p (start M (before M h)) (finish M h))) x
 
   in_boundary : (h f : ℕ) → HasHalf M h → face_at M h ≡ f → IsIn h (boundary M f)
   in_boundary h f there at = subst (λ g. IsIn h (boundary M g)) at (item_in_face M h (loop_of M h) (loop_there M sound h there) (cycle_there M sound h there))
@@ -150,7 +147,7 @@ module _ (M : Model) (s : ℕ) (p : Plane) (t : ℕ) (sound : Sound M) (begins :
         let end : finish N (after N x) ≡ start M (minus e) = ap (finish N) is ∙ ap (start N) (mate_plus e) ∙ minus_start e w.old in
         record {
           place = plus e;
-          of_face = in_places (plus e) f (plus_there M e w.old) (sym (old_face (plus e) (plus_there M e w.old)) ∙ ap (face_at N) (sym is)) (crossing_is_place (plus e) (edge_facts M sound s p e i).2);
+          of_face = in_places (plus e) f (plus_there M e w.old) (sym (old_face (plus e) (plus_there M e w.old)) ∙ ap (face_at N) (sym is)) (crossing_is_place M p (plus e) (edge_facts M sound s p e i).2);
           is = ap (λ b. cond b (plus e) (after N (plus e))) (plus_on M s p t sound begins e i) ∙ sym is;
           ends = end ∙ sym (ap (start M) (mate_plus e));
           across = (λ j. are_opposite p ((ap (start N) from ∙ first_start e k i w) j) (end j)) ∙ plus_crosses M sound s p premises e i;
@@ -164,7 +161,7 @@ module _ (M : Model) (s : ℕ) (p : Plane) (t : ℕ) (sound : Sound M) (begins :
         let end : finish N (after N x) ≡ start M (plus e) = ap (finish N) is ∙ ap (start N) (mate_minus k) ∙ first_start e k i w in
         record {
           place = minus e;
-          of_face = in_places (minus e) f old (sym (second_face e k i w) ∙ ap (face_at N) (sym is)) (crossing_is_place (minus e) (minus_is M sound s p premises e i));
+          of_face = in_places (minus e) f old (sym (second_face e k i w) ∙ ap (face_at N) (sym is)) (crossing_is_place M p (minus e) (minus_is M sound s p premises e i));
           is = ap (λ b. cond b (minus e) (after N (minus e))) (minus_off M s p t sound begins e i) ∙ w.second ∙ sym is;
           ends = end ∙ sym (ap (start M) (mate_minus e));
           across = (λ j. are_opposite p ((ap (start N) from ∙ minus_start e w.old) j) (end j)) ∙ minus_crosses M sound s p premises e i;

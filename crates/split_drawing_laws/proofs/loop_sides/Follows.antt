@@ -3,48 +3,29 @@ use Rattle.std.proofs.Common.{◌≡◌, ◌≢◌, ℕ, ◌+◌, Bool, true, fa
 use Rattle.std.specs.Prelude.{◌==◌}
 use Rattle.std.proofs.lemmas.Bool.Decides.{eqb_tells}
 use Rattle.euler_operators.specs.Items.{count, tick, IsIn, IsApart}
-use Rattle.euler_operators.specs.Edits.{redirect, led_over}
 use Rattle.euler_operators.specs.Operators.{after_mev, after_mef}
 use Rattle.split_drawing_laws.specs.loop_sides.Parted.{Sided}
 use Rattle.euler_operators.proofs.Cuts.{splice_at, splice_at_other, splice_elsewhere}
 use Rattle.euler_operators.proofs.Lists.{tick_same, tick_other}
 
--- ---- what follows what
+-- ---- what follows what, once h is put before c and m before d
 
-module _ (next : ℕ → ℕ) (h m c d : ℕ) (hm : h ≢ m) (cd : c ≢ d) (hd : h ≢ d) where
-  led_first : led_over next c h h ≡ c
-  led_first = ap (λ b. cond b c (redirect next c h h)) (eq-eqb h h refl)
+module _ (next : ℕ → ℕ) (h m c d : ℕ) where
+  pub mev_at_h : h ≢ m → c ≢ d → after_mev next h m c d h ≡ c
+  mev_at_h hm cd = rw (ne_eqb h m hm, eq-eqb h h refl, ne_eqb c d cd) refl
 
-  pub follows_h : after_mef next h m c d h ≡ d
-  follows_h = splice_at (after_mev next h m c d) h m ∙ ap (λ b. cond b d (redirect (led_over next c h) d m m)) (eq-eqb m m refl)
-
-  pub follows_m : after_mef next h m c d m ≡ c
-  follows_m = splice_at_other (after_mev next h m c d) h m
-      ∙ ap (λ b. cond b d (redirect (led_over next c h) d m h)) (ne_eqb h m hm)
-      ∙ ap (λ y. cond (y == d) m y) led_first
-      ∙ ap (λ b. cond b m c) (ne_eqb c d cd)
+  mev_at_m : after_mev next h m c d m ≡ d
+  mev_at_m = rw (eq-eqb m m refl) refl
 
   module _ (x : ℕ) (xh : x ≢ h) (xm : x ≢ m) where
-    outer_step : after_mef next h m c d x ≡ redirect (led_over next c h) d m x
-    outer_step = splice_elsewhere (after_mev next h m c d) h m x xh xm ∙ ap (λ b. cond b d (redirect (led_over next c h) d m x)) (ne_eqb x m xm)
+    mev_at_c : h ≢ d → next x ≡ c → after_mev next h m c d x ≡ h
+    mev_at_c hd e = rw (ne_eqb x m xm, ne_eqb x h xh, eq-eqb (next x) c e, ne_eqb h d hd) refl
 
-    inner_step : led_over next c h x ≡ cond (next x == c) h (next x)
-    inner_step = ap (λ b. cond b c (redirect next c h x)) (ne_eqb x h xh)
+    pub mev_at_d : c ≢ d → next x ≡ d → after_mev next h m c d x ≡ m
+    mev_at_d cd e = rw (ne_eqb x m xm, ne_eqb x h xh, ne_eqb (next x) c (λ s. cd (sym s ∙ e)), eq-eqb (next x) d e) refl
 
-    pub follows_at_c : next x ≡ c → after_mef next h m c d x ≡ h
-    follows_at_c e = outer_step
-        ∙ ap (λ y. cond (y == d) m y) (inner_step ∙ ap (λ b. cond b h (next x)) (eq-eqb (next x) c e))
-        ∙ ap (λ b. cond b m h) (ne_eqb h d hd)
-
-    pub follows_at_d : next x ≡ d → after_mef next h m c d x ≡ m
-    follows_at_d e = outer_step
-        ∙ ap (λ y. cond (y == d) m y) (inner_step ∙ ap (λ b. cond b h (next x)) (ne_eqb (next x) c (λ s. cd (sym s ∙ e))))
-        ∙ ap (λ b. cond b m (next x)) (eq-eqb (next x) d e)
-
-    pub follows_else : next x ≢ c → next x ≢ d → after_mef next h m c d x ≡ next x
-    follows_else a b = outer_step
-        ∙ ap (λ y. cond (y == d) m y) (inner_step ∙ ap (λ b. cond b h (next x)) (ne_eqb (next x) c a))
-        ∙ ap (λ b. cond b m (next x)) (ne_eqb (next x) d b)
+    pub mev_else : next x ≢ c → next x ≢ d → after_mev next h m c d x ≡ next x
+    mev_else a b = rw (ne_eqb x m xm, ne_eqb x h xh, ne_eqb (next x) c a, ne_eqb (next x) d b) refl
 
 -- ---- sides
 
@@ -92,6 +73,9 @@ module _ (Old New : ℕ → Type 0) (next : ℕ → ℕ) (side : ℕ → Bool) (
   abbrev F : ℕ → ℕ
   F = after_mef next h m c d
 
+  as_mev : (x : ℕ) → Old x → F x ≡ after_mev next h m c d x
+  as_mev x o = splice_elsewhere (after_mev next h m c d) h m x (w.fresh x o).0 (w.fresh x o).1
+
   abbrev side' : ℕ → Bool
   side' = with_sides h m c d side
 
@@ -116,24 +100,24 @@ module _ (Old New : ℕ → Type 0) (next : ℕ → ℕ) (side : ℕ → Bool) (
   -- where one comes then from an old item
   at_c : (x : ℕ) → Old x → next x ≡ c → (side' (F x) ≡ side' x) × (count (F x) then_open ≡ 0)
   at_c x o e =
-      let g : F x ≡ h = follows_at_c next h m c d w.hm w.cd hd x (w.fresh x o).0 (w.fresh x o).1 e in
+      let g : F x ≡ h = as_mev x o ∙ mev_at_c next h m c d x (w.fresh x o).0 (w.fresh x o).1 hd e in
       let t : side c ≡ not (side x) = ap side (sym e) ∙ s.across x o (subst (λ y. IsIn y before) (sym e) c_in) in
       (ap side' g ∙ side_h h m c d side ∙ same_not (side d) (side x) (side c) w.sides t ∙ sym (old_side x o), ap (λ y. count y then_open) g ∙ not_open h w.none_new.0)
 
   at_d : (x : ℕ) → Old x → next x ≡ d → (side' (F x) ≡ side' x) × (count (F x) then_open ≡ 0)
   at_d x o e =
-      let g : F x ≡ m = follows_at_d next h m c d w.hm w.cd hd x (w.fresh x o).0 (w.fresh x o).1 e in
+      let g : F x ≡ m = as_mev x o ∙ mev_at_d next h m c d x (w.fresh x o).0 (w.fresh x o).1 w.cd e in
       let t : side d ≡ not (side x) = ap side (sym e) ∙ s.across x o (subst (λ y. IsIn y before) (sym e) d_in) in
       (ap side' g ∙ side_m h m c d side w.hm ∙ sym (not_not (side d) (side x) (side c) t w.sides) ∙ sym (old_side x o), ap (λ y. count y then_open) g ∙ not_open m w.none_new.1)
 
   at_h : (side' (F h) ≡ side' h) × (count (F h) then_open ≡ 0)
   at_h =
-      let g : F h ≡ d = follows_h next h m c d w.hm w.cd hd in
+      let g : F h ≡ d = splice_at (after_mev next h m c d) h m ∙ mev_at_m next h m c d in
       (ap side' g ∙ old_side d w.d_old ∙ sym (side_h h m c d side), ap (λ y. count y then_open) g ∙ d_closed)
 
   at_m : (side' (F m) ≡ side' m) × (count (F m) then_open ≡ 0)
   at_m =
-      let g : F m ≡ c = follows_m next h m c d w.hm w.cd hd in
+      let g : F m ≡ c = splice_at_other (after_mev next h m c d) h m ∙ mev_at_h next h m c d w.hm w.cd in
       (ap side' g ∙ old_side c w.c_old ∙ sym (side_m h m c d side w.hm), ap (λ y. count y then_open) g ∙ c_closed)
 
   abbrev Goes : ℕ → Type 0
@@ -144,7 +128,7 @@ module _ (Old New : ℕ → Type 0) (next : ℕ → ℕ) (side : ℕ → Bool) (
 
   elsewhere : (x : ℕ) → Old x → next x ≢ c → next x ≢ d → Goes x
   elsewhere x o a b =
-      let g : F x ≡ next x = follows_else next h m c d w.hm w.cd hd x (w.fresh x o).0 (w.fresh x o).1 a b in
+      let g : F x ≡ next x = as_mev x o ∙ mev_else next h m c d x (w.fresh x o).0 (w.fresh x o).1 a b in
       let t : side' (F x) ≡ side (next x) = ap side' g ∙ old_side (next x) (w.goes_on x o) in
       let n : count (next x) before ≡ count (F x) then_open = omega (arith, w.closed (next x), tick_other (next x) c a, tick_other (next x) d b) ∙ ap (λ y. count y then_open) (sym g) in (
         (λ z. t ∙ s.along x o (n ∙ z) ∙ sym (old_side x o)),

@@ -1,6 +1,6 @@
 -- The pairs of a list of places fit where any two of these places do.
 use Rattle.std.specs.Prelude.{map}
-use Rattle.std.proofs.Common.{◌≡◌, ◌≢◌, ℕ, zero, suc, ◌*◌, Bool, true, false, cond, List, [], ◌∷◌, length, refl, sym, ap, ◌∙◌, arith}
+use Rattle.std.proofs.Common.{◌≡◌, ◌≢◌, ℕ, ◌*◌, Bool, true, false, cond, List, [], ◌∷◌, length, refl, sym, ap, ◌∙◌, arith}
 use Rattle.std.proofs.lemmas.Bool.{eq-eqb}
 use Rattle.euler_operators.specs.declared.Plane.{Plane}
 use Rattle.euler_operators.specs.Items.{tick, IsIn, IsApart}
@@ -9,17 +9,13 @@ use Rattle.euler_operators.specs.Model.{Model, loop_of}
 use Rattle.shapes.specs.split.Places.{goes_up, in_pairs, up_first}
 use Rattle.shapes.specs.split.Drawing.{from_place, in_one_loop}
 use Rattle.split_drawing_laws.specs.drawings.Pairs.{Fits, AllFit, LoneInOneLoop}
-use Rattle.split_drawing_laws.proofs.pairs.Turns.{IsEven}
-
-two_fewer : (n k : ℕ) → suc (suc n) ≡ 2 * k → IsEven n
-two_fewer n zero e = absurd (omega (arith, e))
-two_fewer n (suc k) e = (k, omega (arith, e))
+use Rattle.split_drawing_laws.proofs.pairs.Turns.{IsEven, two_less}
 
 -- an even number of places are all in pairs
 pub all_paired : (hs : List ℕ) → IsEven (length hs) → length hs ≡ 2 * length (in_pairs hs)
 all_paired [] even = refl
 all_paired (h ∷ []) even = absurd (omega (arith, even.1))
-all_paired (h ∷ k ∷ ks) even = omega (arith, all_paired ks (two_fewer (length ks) even.0 even.1))
+all_paired (h ∷ k ∷ ks) even = omega (arith, all_paired ks (two_less (length ks) even))
 
 module _ (M N : Model) (p : Plane) where
   -- the half-edges that start at two places, in either order

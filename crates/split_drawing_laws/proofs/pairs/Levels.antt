@@ -18,7 +18,3 @@ side_turns a b c e = grind (arith, ints)
 
 pub side_stays : (a b c : ℤ) → crossed a b c ≡ false → int_eq b (pos 0) ≡ false → side_from b c ≡ side_from a b
 side_stays a b c e off = grind (arith, ints)
-
--- the side that is reached is that of c
-pub side_reached : (a b c : ℤ) → crossed a b c ≡ true → side_from b c ≡ int_lt (pos 0) c
-side_reached a b c e = grind (arith, ints)

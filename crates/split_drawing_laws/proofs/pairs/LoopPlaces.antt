@@ -4,13 +4,12 @@ use Rattle.std.specs.List.{list_any}
 use Rattle.std.proofs.Common.{◌≡◌, ℕ, ◌+◌, ◌≤◌, Bool, true, false, cond, not, ◌&&◌, ◌||◌, List, [], ◌∷◌, ◌++◌, length, refl, sym, ap, ◌∙◌, subst, arith, true≢false}
 use Rattle.std.proofs.lemmas.List.{length-append}
 use Rattle.std.proofs.lemmas.List.Elements.{filter-append}
-use Rattle.std.proofs.lemmas.Bool.Decides.{nat_tests}
 use Rattle.std.proofs.lemmas.Bool.{not-false}
 use Rattle.euler_operators.specs.declared.Plane.{Plane}
 use Rattle.euler_operators.specs.Vectors.{height, is_on}
-use Rattle.euler_operators.specs.Items.{count, tick, IsIn}
+use Rattle.euler_operators.specs.Items.{count, IsIn}
 use Rattle.euler_operators.specs.Rings.{successor, predecessor}
-use Rattle.euler_operators.proofs.Lists.{count-append}
+use Rattle.euler_operators.proofs.Lists.{count-append, tick_le}
 use Rattle.euler_operators.proofs.Rings.{predecessor-successor}
 use Rattle.euler_operators.specs.Model.{Model, items_of, content, outer, cycle_of, loop_of, before, after, point_of, rings_of}
 use Rattle.euler_operators.specs.Sound.{Sound, HasHalf}
@@ -28,9 +27,7 @@ use Rattle.split_drawing_laws.proofs.pairs.Levels.{crossed, side_from, side_turn
 
 count_within : (x : ℕ) (xs : List ℕ) → count x xs ≤ length xs
 count_within x [] = omega arith
-count_within x (y ∷ ys) = omega (arith, count_within x ys, tick_most x y) where
-  tick_most : (a b : ℕ) → tick a b ≤ 1
-  tick_most a b = grind (arith, nat_tests)
+count_within x (y ∷ ys) = omega (arith, count_within x ys, tick_le x y)
 
 some_picked : (t : ℕ → Bool) (xs : List ℕ) → list_any t xs ≡ true → 1 ≤ length (filter t xs)
 some_picked t [] e = absurd (true≢false (sym e))
@@ -54,6 +51,11 @@ then_false : (a b : Bool) → (a ≡ true → b ≡ true) → b ≡ false → a 
 then_false true b f e = absurd (true≢false (sym (f refl) ∙ e))
 then_false false b f e = refl
 
+pub before_after : (M : Model) → Sound M → (h : ℕ) → HasHalf M h → before M (after M h) ≡ h
+unfolding before after
+before_after M sound h there = ap (λ l. predecessor (items_of (content M l)) (successor (cycle_of M h) h)) (loop_after M sound h there)
+    ∙ predecessor-successor h (cycle_of M h) (cycle_sound M sound h there).apart (cycle_there M sound h there)
+
 module _ (M : Model) (sound : Sound M) (p : Plane) where
   -- ---- one loop
 
@@ -61,13 +63,8 @@ module _ (M : Model) (sound : Sound M) (p : Plane) where
   abbrev pub side : ℕ → Bool
   side h = side_from (height p (start M (before M h))) (height p (start M h))
 
-  before_after : (h : ℕ) → HasHalf M h → before M (after M h) ≡ h
-  unfolding before after
-  before_after h there = ap (λ l. predecessor (items_of (content M l)) (successor (cycle_of M h) h)) (loop_after M sound h there)
-      ∙ predecessor-successor h (cycle_of M h) (cycle_sound M sound h there).apart (cycle_there M sound h there)
-
   side_after : (h : ℕ) → HasHalf M h → side (after M h) ≡ side_from (height p (start M h)) (height p (finish M h))
-  side_after h there = λ i. side_from (height p (start M (before_after h there i))) (height p (point_of M (sound.ends_meet h there i)))
+  side_after h there = λ i. side_from (height p (start M (before_after M sound h there i))) (height p (point_of M (sound.ends_meet h there i)))
 
   place_is : (h : ℕ) → is_place M p h ≡ crossed (height p (start M (before M h))) (height p (start M h)) (height p (finish M h))
   unfolding is_place

@@ -1,28 +1,16 @@
 -- The pairs of an even number of places hold each of these places, as often as it stands among them.
-use Rattle.std.specs.Prelude.{◌-◌, map}
-use Rattle.std.proofs.Common.{◌≡◌, ℕ, suc, ◌+◌, Bool, true, false, cond, List, [], ◌∷◌, length, refl, sym, ap, ◌∙◌, subst, arith}
+use Rattle.std.specs.Prelude.{map}
+use Rattle.std.proofs.Common.{◌≡◌, ℕ, ◌+◌, Bool, true, false, cond, List, [], ◌∷◌, length, refl, sym, ap, ◌∙◌, subst, arith}
 use Rattle.euler_operators.specs.declared.Plane.{Plane}
 use Rattle.euler_operators.specs.Vectors.{lex_less}
 use Rattle.euler_operators.specs.Items.{count, tick}
 use Rattle.euler_operators.specs.Model.{Model}
-use Rattle.shapes.specs.split.Places.{place_point, goes_up, sorted_in, sorted, in_pairs, places, sorted_pairs, place_pairs}
+use Rattle.shapes.specs.split.Places.{place_point, goes_up, sorted_in, sorted, places, sorted_pairs, place_pairs}
 use Rattle.shapes.specs.split.Drawing.{from_place, drawn_pairs}
-use Rattle.split_drawing_laws.proofs.pairs.Turns.{IsEven}
+use Rattle.split_drawing_laws.specs.loop_sides.Parted.{ends}
+use Rattle.split_drawing_laws.proofs.pairs.Turns.{IsEven, two_less}
 use Rattle.split_drawing_laws.proofs.pairs.Sorted.{length-sorted}
 use Rattle.split_drawing_laws.proofs.pairs.Fitting.{between, drawn}
-
--- the members of some pairs
-abbrev pub members : List (ℕ × ℕ) → List ℕ
-members [] = []
-members (q ∷ qs) = q.0 ∷ q.1 ∷ members qs
-
-two_less : (n : ℕ) → IsEven (suc (suc n)) → IsEven n
-two_less n even = (even.0 - 1, omega (arith, even.1))
-
-pub members_paired : (hs : List ℕ) → IsEven (length hs) → members (in_pairs hs) ≡ hs
-members_paired [] even = refl
-members_paired (h ∷ []) even = absurd (omega (arith, even.1))
-members_paired (h ∷ k ∷ ks) even = ap (λ ns. h ∷ k ∷ ns) (members_paired ks (two_less (length ks) even))
 
 module _ (M N : Model) (p : Plane) (x : ℕ) where
   either_counted : (b : Bool) (h k m n : ℕ) → m ≡ n →
@@ -30,10 +18,10 @@ module _ (M N : Model) (p : Plane) (x : ℕ) where
   either_counted true h k m n e = omega (arith, e)
   either_counted false h k m n e = omega (arith, e)
 
-  members_drawn : (hs : List ℕ) → IsEven (length hs) → count x (members (drawn M N p hs)) ≡ count x (map (from_place N p) hs)
-  members_drawn [] even = refl
-  members_drawn (h ∷ []) even = absurd (omega (arith, even.1))
-  members_drawn (h ∷ k ∷ ks) even = either_counted (goes_up M p h) h k (count x (members (drawn M N p ks))) (count x (map (from_place N p) ks)) (members_drawn ks (two_less (length ks) even))
+  ends_drawn : (hs : List ℕ) → IsEven (length hs) → count x (ends (drawn M N p hs)) ≡ count x (map (from_place N p) hs)
+  ends_drawn [] even = refl
+  ends_drawn (h ∷ []) even = absurd (omega (arith, even.1))
+  ends_drawn (h ∷ k ∷ ks) even = either_counted (goes_up M p h) h k (count x (ends (drawn M N p ks))) (count x (map (from_place N p) ks)) (ends_drawn ks (two_less (length ks) even))
 
   started-sorted_in : (h : ℕ) (ks : List ℕ) → count x (map (from_place N p) (sorted_in M p h ks)) ≡ tick x (from_place N p h) + count x (map (from_place N p) ks)
   started-sorted_in h [] = refl
@@ -48,6 +36,6 @@ module _ (M N : Model) (p : Plane) (x : ℕ) where
   started-sorted (h ∷ hs) = started-sorted_in h (sorted M p hs) ∙ ap (λ n. tick x (from_place N p h) + n) (started-sorted hs)
 
   -- what starts at the cut places of a face, in the pairs between which edges are drawn
-  pub all_places_drawn : (f : ℕ) → IsEven (length (places M p f)) → count x (members (drawn_pairs M N p f)) ≡ count x (map (from_place N p) (places M p f))
+  pub all_places_drawn : (f : ℕ) → IsEven (length (places M p f)) → count x (ends (drawn_pairs M N p f)) ≡ count x (map (from_place N p) (places M p f))
   unfolding drawn_pairs place_pairs sorted_pairs
-  all_places_drawn f even = members_drawn (sorted M p (places M p f)) (subst IsEven (sym (length-sorted M p (places M p f))) even) ∙ started-sorted (places M p f)
+  all_places_drawn f even = ends_drawn (sorted M p (places M p f)) (subst IsEven (sym (length-sorted M p (places M p f))) even) ∙ started-sorted (places M p f)

@@ -1,6 +1,6 @@
 -- Sides that change round a ring: as often one way as the other, so an even number of times.
-use Rattle.std.specs.Prelude.{filter}
-use Rattle.std.proofs.Common.{◌≡◌, ℕ, ◌+◌, ◌*◌, Bool, true, false, cond, not, ◌&&◌, List, [], ◌∷◌, length, refl, sym, ap, ◌∙◌, arith, true≢false}
+use Rattle.std.specs.Prelude.{◌-◌, filter}
+use Rattle.std.proofs.Common.{◌≡◌, ℕ, suc, ◌+◌, ◌*◌, Bool, true, false, cond, not, ◌&&◌, List, [], ◌∷◌, length, refl, sym, ap, ◌∙◌, arith, true≢false}
 use Rattle.euler_operators.specs.Items.{IsIn, head_or}
 use Rattle.euler_operators.specs.Rings.{IsPath, IsRing}
 use Rattle.euler_operators.proofs.Lists.{tick_same}
@@ -15,6 +15,9 @@ falls next side x = side x && not (side (next x))
 -- twice some number
 abbrev pub IsEven : ℕ → Type 0
 IsEven n = (k : ℕ) × (n ≡ 2 * k)
+
+pub two_less : (n : ℕ) → IsEven (suc (suc n)) → IsEven n
+two_less n even = (even.0 - 1, omega (arith, even.1))
 
 pub even_sum : (m n : ℕ) → IsEven m → IsEven n → IsEven (m + n)
 even_sum m n a b = (a.0 + b.0, omega (arith, a.1, b.1))
