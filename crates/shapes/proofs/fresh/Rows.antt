@@ -7,9 +7,11 @@ use Rattle.std.specs.FinMap.Entries as entries
 use Rattle.std.specs.FinMap.Entries.{find, is_sorted, by_order}
 use Rattle.std.specs.Cmp.{unsigned_tied}
 use Rattle.std.specs.declared.cmp.Ordering.TheVariants.{Greater}
+use Rattle.std.proofs.lemmas.Bool.{leb-true, leb-false}
 use Rattle.euler_operators.proofs.Tables.{and_left, and_right, map-put, map_same}
 use Rattle.euler_operators.specs.Table as table
 use Rattle.euler_operators.specs.Table.{Table, all_in, greatest_in}
+use Rattle.euler_operators.proofs.Tests.{nat_eq_itself}
 
 -- every number of the rows is below n
 abbrev pub AllBelow : {X : Type 0} → ℕ → List (ℕ × X) → Type 0
@@ -82,14 +84,9 @@ free_above t k above = ap is_some (none_above t k above)
 -- no number in use is above the greatest
 pub at_most_greatest : {X : Type 0} (t : Table X) (k : ℕ) → table.has t k ≡ true → k ≤ table.greatest t
 at_most_greatest t k there = elim (nat_le k (table.greatest t)) as (λ b. nat_le k (table.greatest t) ≡ b → k ≤ table.greatest t) [
-  | true ↦ λ e. within k (table.greatest t) e
-  | false ↦ λ e. absurd (true≢false (sym there ∙ free_above t k (above k (table.greatest t) e)))
-] refl where
-  within : (a n : ℕ) → nat_le a n ≡ true → a ≤ n
-  within a n e = grind (arith, nat_tests)
-
-  above : (a n : ℕ) → nat_le a n ≡ false → n < a
-  above a n e = grind (arith, nat_tests)
+  | true ↦ λ e. leb-true k (table.greatest t) e
+  | false ↦ λ e. absurd (true≢false (sym there ∙ free_above t k (leb-false k (table.greatest t) e)))
+] refl
 
 -- a row that is found was put or was there
 pub get-put_cases : {X : Type 0} (t : Table X) (k : ℕ) (v : X) (q : ℕ) (x : X) → table.get (table.put t k v) q ≡ Some x → ((q ≡ k) × (x ≡ v)) ⊎ ((q ≢ k) × (table.get t q ≡ Some x))
@@ -105,9 +102,7 @@ pub map-put_last : {X : Type 0} (f : ℕ → X → X) (t : Table X) (k : ℕ) (v
 map-put_last f t k v alone = map-put f t k v ∙ ap (λ s. table.put s k (f k v)) (map_same f t alone)
 
 found_greatest : {X : Type 0} (e : ℕ × X) (es : List (ℕ × X)) → is_some (find nat_cmp (greatest_in (e ∷ es)) (e ∷ es)) ≡ true
-found_greatest e [] = ap (λ c. is_some (cond c (Some e.1) None)) (unsigned_tied e.0 e.0 ∙ same e.0) where
-  same : (n : ℕ) → nat_eq n n ≡ true
-  same n = grind (arith, nat_tests)
+found_greatest e [] = ap (λ c. is_some (cond c (Some e.1) None)) (unsigned_tied e.0 e.0 ∙ nat_eq_itself e.0)
 found_greatest e (f ∷ es) = either (eq_by_cmp nat_cmp (greatest_in (f ∷ es)) e.0) e.1 (find nat_cmp (greatest_in (f ∷ es)) (f ∷ es)) (found_greatest f es) where
   either : {X : Type 0} (c : Bool) (x : X) (o : Option X) → is_some o ≡ true → is_some (cond c (Some x) o) ≡ true
   either true x o i = refl

@@ -1,8 +1,7 @@
 -- Conditions in lists, conditions by search, and numbers that are left.
-use Rattle.std.specs.Prelude.{nat_le}
 use Rattle.std.proofs.Common.{◌≡◌, ℕ, ◌+◌, ◌≤◌, Bool, true, false, cond, not, nat_eq, ◌&&◌, List, [], ◌∷◌, ◌++◌, Option, Some, None, is_some, refl, ap, arith, true≢false}
 use Rattle.std.proofs.lemmas.Bool.Decides.{nat_tests}
-use Rattle.std.proofs.lemmas.Bool.{leb-true, eqb-true}
+use Rattle.std.proofs.lemmas.Bool.{leb-true, eqb-true, le-leb}
 use Rattle.euler_operators.specs.Table.{first_where}
 use Rattle.euler_operators.specs.Model.{Model, is_number}
 use Rattle.euler_operators.specs.Conditions.{Condition, AllHold, first_refusal, is_lone, lists}
@@ -67,9 +66,6 @@ pub record Left (c : Taken) (f l e v : ℕ) : Type 0 where
   pub edges : c.edge + e ≤ 1000000
   pub vertices : c.vertex + v ≤ 1000000
 
-fitting : (a n : ℕ) → a ≤ n → nat_le a n ≡ true
-fitting a n e = grind (arith, nat_tests)
-
 pub numbers_are_left : (c : Taken) (f l e v : ℕ) → AllHold (numbers_left c (record { faces = f; loops = l; edges = e; vertices = v })) → Left c f l e v
 numbers_are_left c f l e v h = record {
   faces = leb-true (c.face + f) 1000000 h.0;
@@ -79,11 +75,8 @@ numbers_are_left c f l e v h = record {
 }
 
 pub left_numbers_hold : (c : Taken) (f l e v : ℕ) → Left c f l e v → AllHold (numbers_left c (record { faces = f; loops = l; edges = e; vertices = v }))
-left_numbers_hold c f l e v h = (fitting _ _ h.faces, (fitting _ _ h.loops, (fitting _ _ h.edges, (fitting _ _ h.vertices, tt))))
+left_numbers_hold c f l e v h = (le-leb _ _ h.faces, (le-leb _ _ h.loops, (le-leb _ _ h.edges, (le-leb _ _ h.vertices, tt))))
 
 -- a number above 0 and within the limit
 pub number_fits : (n : ℕ) → 1 ≤ n → n ≤ 1000000 → is_number n ≡ true
 number_fits n a b = grind (arith, nat_tests)
-
-pub fitting_number : (n : ℕ) → is_number n ≡ true → (1 ≤ n) × (n ≤ 1000000)
-fitting_number n e = grind (arith, nat_tests)

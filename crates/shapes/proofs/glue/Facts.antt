@@ -1,5 +1,5 @@
 -- What it says that a glue isn't refused.
-use Rattle.std.proofs.Common.{◌≡◌, ◌≢◌, ℕ, suc, ◌≤◌, Bool, true, false, not, nat_eq, ◌&&◌, ◌||◌, List, [], ◌∷◌, ◌++◌, length, Some, None, unwrap_or, refl, sym, ap, ◌∙◌, subst, arith, inl, inr, true≢false}
+use Rattle.std.proofs.Common.{◌≡◌, ◌≢◌, ℕ, suc, Bool, true, false, not, nat_eq, ◌&&◌, ◌||◌, List, [], ◌∷◌, ◌++◌, length, Some, None, unwrap_or, refl, sym, ap, ◌∙◌, subst, arith, inl, inr, true≢false}
 use Rattle.std.specs.Prelude.{map, reverse}
 use Rattle.std.proofs.lemmas.Bool.Decides.{nat_tests}
 use Rattle.std.proofs.lemmas.Bool.{not-true, not-false, eqb-false}
@@ -369,9 +369,6 @@ module _ (M : Model) (f g : ℕ) (sound : Sound M) (accepted : glue_refusal M f 
       never_two M sound g g_there plain_g cycle_g flat_g (IsRotation-length items_g (a ∷ rest a items_g) turns ∙ ap suc one)
 
   -- ---- all of it
-
-  edge_left : fresh_edge M ≤ 1000000
-  edge_left = left.edges
 
   pub facing : Facing M f g partner_of items_f (fresh_edge M)
   unfolding taken_in

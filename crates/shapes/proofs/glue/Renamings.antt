@@ -1,13 +1,14 @@
 -- Renamings by lists of pairs, one pair more; and what they make of a ring.
-use Rattle.std.proofs.Common.{◌≡◌, ◌≢◌, ℕ, ◌+◌, true, false, cond, nat_eq, List, [], ◌∷◌, ◌++◌, None, refl, sym, ap, ◌∙◌, subst, arith, ◌⊎◌, inl, inr}
+use Rattle.std.proofs.Common.{◌≡◌, ◌≢◌, ℕ, ◌+◌, false, cond, nat_eq, List, [], ◌∷◌, ◌++◌, None, refl, sym, ap, ◌∙◌, subst, arith, ◌⊎◌, inl, inr}
 use Rattle.std.specs.Prelude.{map}
 use Rattle.std.proofs.lemmas.Bool.Decides.{nat_tests, eqb_tells}
+use Rattle.std.proofs.lemmas.Bool.{ne_eqb}
 use Rattle.euler_operators.specs.Items.{count, IsIn, IsApart, before, after}
 use Rattle.euler_operators.specs.Rings.{canonical, rest}
 use Rattle.euler_operators.proofs.Lists.{count-append, tick_same, tick_other, split_at, count-before}
 use Rattle.euler_operators.proofs.Rotations.{canonical-rotates, rest_same, rest_parts, canonical_same}
-use Rattle.euler_operators.proofs.Tests.{nat_eq_turned}
-use Rattle.euler_operators.proofs.Tables.{remove_turned}
+use Rattle.euler_operators.proofs.Tests.{nat_eq_turned, nat_eq_itself}
+use Rattle.euler_operators.proofs.Tables.{remove_turned, get-remove_other}
 use Rattle.euler_operators.specs.Table as table
 use Rattle.euler_operators.specs.Table.{Table, tables}
 use Rattle.shapes.specs.Rewriting.{renamed, without_rows}
@@ -41,21 +42,19 @@ module _ (from to : ℕ → ℕ) where
   renamed_more (h ∷ hs) k none u = elim (eqb_tells (from h) u) [
     | inl e ↦
         ap (λ b. cond b (to h) (renamed (paired from to (hs ++ k ∷ [])) u)) e.0
-        ∙ sym (ap (λ v. cond (nat_eq v (from k)) (to k) v) (ap (λ b. cond b (to h) (renamed (paired from to hs) u)) e.0) ∙ ap (λ b. cond b (to k) (to h)) (other (to h) (from k) (none h (omega (arith, tick_same h)))))
+        ∙ sym (ap (λ v. cond (nat_eq v (from k)) (to k) v) (ap (λ b. cond b (to h) (renamed (paired from to hs) u)) e.0) ∙ ap (λ b. cond b (to k) (to h)) (ne_eqb (to h) (from k) (none h (omega (arith, tick_same h)))))
     | inr ne ↦
         ap (λ b. cond b (to h) (renamed (paired from to (hs ++ k ∷ [])) u)) ne.0
         ∙ renamed_more hs k (λ j i. none j (omega (arith, i))) u
         ∙ sym (ap (λ v. cond (nat_eq v (from k)) (to k) v) (ap (λ b. cond b (to h) (renamed (paired from to hs) u)) ne.0))
-  ] where
-    other : (a b : ℕ) → a ≢ b → nat_eq a b ≡ false
-    other a b e = grind (arith, nat_tests)
+  ]
 
   -- the first item may as well come last, where no other starts where it does
   pub renamed_last : (hs : List ℕ) (k : ℕ) → ((h : ℕ) → IsIn h hs → from h ≢ from k) → (u : ℕ) → renamed (paired from to (k ∷ hs)) u ≡ renamed (paired from to (hs ++ k ∷ [])) u
   renamed_last [] k none u = refl
   renamed_last (h ∷ hs) k none u = elim (eqb_tells (from h) u) [
     | inl e ↦
-        let ne : nat_eq (from k) u ≡ false = other (from k) u (λ q. none h (omega (arith, tick_same h)) (e.1 ∙ sym q)) in
+        let ne : nat_eq (from k) u ≡ false = ne_eqb (from k) u (λ q. none h (omega (arith, tick_same h)) (e.1 ∙ sym q)) in
         ap (λ b. cond b (to k) (cond (nat_eq (from h) u) (to h) (renamed (paired from to hs) u))) ne
         ∙ ap (λ b. cond b (to h) (renamed (paired from to hs) u)) e.0
         ∙ sym (ap (λ b. cond b (to h) (renamed (paired from to (hs ++ k ∷ [])) u)) e.0)
@@ -63,9 +62,7 @@ module _ (from to : ℕ → ℕ) where
         ap (λ b. cond (nat_eq (from k) u) (to k) (cond b (to h) (renamed (paired from to hs) u))) ne.0
         ∙ renamed_last hs k (λ j i. none j (omega (arith, i))) u
         ∙ sym (ap (λ b. cond b (to h) (renamed (paired from to (hs ++ k ∷ [])) u)) ne.0)
-  ] where
-    other : (a b : ℕ) → a ≢ b → nat_eq a b ≡ false
-    other a b e = grind (arith, nat_tests)
+  ]
 
 -- ---- rows that go
 
@@ -81,9 +78,7 @@ pub without_there : {X : Type 0} (t : Table X) (ns : List ℕ) (n : ℕ) → cou
 without_there t [] n c = refl
 without_there t (k ∷ ns) n c =
     let ne : n ≢ k = λ e. omega (arith, c, tick_same n, subst (λ q. count n (q ∷ ns) ≡ 0) (sym e) c) in
-    without_there (table.remove t k) ns n (omega (arith, c, tick_other n k ne)) ∙ kept t k n ne where
-      kept : {X : Type 0} (t : Table X) (k n : ℕ) → n ≢ k → table.get (table.remove t k) n ≡ table.get t n
-      kept t k n ne = grind (arith, nat_tests, tables)
+    without_there (table.remove t k) ns n (omega (arith, c, tick_other n k ne)) ∙ get-remove_other t k n ne
 
 pub without_gone : {X : Type 0} (t : Table X) (ns : List ℕ) (n : ℕ) → IsIn n ns → table.get (without_rows t ns) n ≡ None
 without_gone t [] n i = absurd (omega (arith, i))
@@ -111,9 +106,7 @@ replaced_none m h (x ∷ xs) c = elim (eqb_tells x m) [
 ]
 
 replaced_here : (m h : ℕ) → replaced m h m ≡ h
-replaced_here m h = ap (λ b. cond b h m) (same m) where
-  same : (n : ℕ) → nat_eq n n ≡ true
-  same n = grind (arith, nat_tests)
+replaced_here m h = ap (λ b. cond b h m) (nat_eq_itself m)
 
 map_two : (f : ℕ → ℕ) (xs ys : List ℕ) → map f (xs ++ ys) ≡ map f xs ++ map f ys
 map_two f [] ys = refl

@@ -75,11 +75,6 @@ module _ (M : Model) (s : Plane) where
   pub told_alike : (a r q : Point) → direction s ≢ origin → cross (direction s) a ≡ origin → is_on s r ≡ true → is_on s q ≡ true → dot r a ≡ dot q a
   told_alike a r q ne flat on_r on_q = same_part (direction s) q r a flat ne (dot_turned q (direction s) ∙ on_plane s q on_q ∙ sym (on_plane s r on_r) ∙ dot_turned (direction s) r)
 
-  -- a closed path, told from two points of a plane on which it lies
-  pub path_told : (hs : List ℕ) (r q : Point) → IsClosed M hs → is_plane_of M s (map (tail M) hs) ≡ true → is_on s r ≡ true → is_on s q ≡ true → dot r (area M hs) ≡ dot q (area M hs)
-  path_told hs r q closed on on_r on_q = let a = and_parts (not (same_point (direction s) origin)) (are_on M s (map (tail M) hs)) on in
-      told_alike (area M hs) r q (some_direction s a.0) (flat_closed hs closed a.1) on_r on_q
-
   -- so for some loops
   pub loops_told : (ls : List ℕ) (r q : Point) → Sound M → is_plane_of M s (vertices_in M ls) ≡ true → is_on s r ≡ true → is_on s q ≡ true → dot r (area M (items_in M ls)) ≡ dot q (area M (items_in M ls))
   loops_told ls r q sound on on_r on_q = let a = and_parts (not (same_point (direction s) origin)) (are_on M s (vertices_in M ls)) on in

@@ -18,7 +18,7 @@ use Rattle.euler_laws.proofs.shared.Counted.{counted_once}
 use Rattle.euler_laws.proofs.shared.UpTo.{up_to, up_to_none, count_up_to, listed_up_to}
 use Rattle.shapes.specs.Faces.{loops_of}
 use Rattle.shapes.specs.Walks.{loops_in}
-use Rattle.shapes.proofs.walks.FaceLoops.{loops_to, listed_ring, ring_listed, loops_of_apart}
+use Rattle.shapes.proofs.walks.FaceLoops.{listed_ring, ring_listed, loops_of_apart}
 
 pub loops_joined : (M : Model) (fs gs : List ℕ) → loops_in M (fs ++ gs) ≡ loops_in M fs ++ loops_in M gs
 loops_joined M [] gs = refl
@@ -31,13 +31,6 @@ module _ (M : Model) (sound : Sound M) where
   face_of_loop f l t i = elim (listed_cases (outer M f) l (rings_of M f) i) [
     | inl e ↦ let o = sound.outers_there f t in (ap (table.has M.loops) e ∙ o.0, ap (face_of M) e ∙ o.1)
     | inr r ↦ ring_there M f l (listed_ring M sound f l r)
-  ]
-
-  -- also the loops up to a number
-  pub loops_to_there : (f : ℕ) → Has M.faces f → (n l : ℕ) → IsIn l (loops_to M f n) → Has M.loops l
-  loops_to_there f t n l i = elim (listed_cases (outer M f) l (up_to n (rings_of M f)) (listed-from_in l (loops_to M f n) i)) [
-    | inl e ↦ ap (table.has M.loops) e ∙ (sound.outers_there f t).0
-    | inr r ↦ (ring_there M f l (listed_ring M sound f l (listed_up_to l n (rings_of M f) r))).0
   ]
 
   loop_of_face : (l : ℕ) → Has M.loops l → IsIn l (loops_of M (face_of M l))
@@ -116,9 +109,6 @@ module _ (M : Model) (sound : Sound M) where
 
     pub solid_loops_apart : (n : ℕ) → IsApart (loops_in M (faces_to n))
     solid_loops_apart n l = omega (arith, loops_counted (faces_to n) l (faces_there n), count_up_to (face_of M l) n (faces_of M s), counted_once (face_of M l) (faces_of M s) faces_rise)
-
-    pub solid_loops_there : (n l : ℕ) → IsIn l (loops_in M (faces_to n)) → Has M.loops l
-    solid_loops_there n l i = loops_there (faces_to n) l (faces_there n) i
 
     -- the loops of the solid's faces
     abbrev pub solid_loops : List ℕ
