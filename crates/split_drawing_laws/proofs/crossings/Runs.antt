@@ -69,17 +69,19 @@ kept_on M N K a b = record {
   points = λ v there. b.points v (ap is_some (a.points v there) ∙ there) ∙ a.points v there;
 }
 
+-- an edge that isn't cut yet is where it was
+module _ (M N : Model) (p : Plane) (ds : List ℕ) (sound : Sound M) (a : AreCut M N p ds) (e : ℕ) (c : Crossing M p e) (uncut : count e ds ≡ 0) where
+  pub same_start : start N (plus e) ≡ start M (plus e)
+  same_start = kept_start M N sound a.kept (plus e) (plus_there M e c.there) (a.plus_tails e c.there uncut)
+
+  pub same_finish : finish N (plus e) ≡ finish M (plus e)
+  same_finish = ap (start N) (mate_plus e) ∙ kept_start M N sound a.kept (minus e) (minus_there M e c.there) (a.minus_tails e c.there) ∙ sym (ap (start M) (mate_plus e))
+
 -- one edge more
 module _ (M N : Model) (p : Plane) (ds : List ℕ) (sound : Sound M) (a : AreCut M N p ds) (e k v : ℕ) (c : Crossing M p e) (uncut : count e ds ≡ 0)
     (edge_free : table.get N.edges k ≡ None) (vertex_free : table.get N.vertices v ≡ None) (edge_fits : IsTrue (is_number k)) (vertex_fits : IsTrue (is_number v)) where
-  same_start : start N (plus e) ≡ start M (plus e)
-  same_start = kept_start M N sound a.kept (plus e) (plus_there M e c.there) (a.plus_tails e c.there uncut)
-
-  same_finish : finish N (plus e) ≡ finish M (plus e)
-  same_finish = ap (start N) (mate_plus e) ∙ kept_start M N sound a.kept (minus e) (minus_there M e c.there) (a.minus_tails e c.there) ∙ sym (ap (start M) (mate_plus e))
-
   same_cut : cut_at N p e ≡ cut_at M p e
-  same_cut = λ i. cut_between p (same_start i) (same_finish i)
+  same_cut = λ i. cut_between p (same_start M N p ds sound a e c uncut i) (same_finish M N p ds sound a e c uncut i)
 
   e_there : Has N.edges e
   e_there = kept_edge M N a.kept e c.there
@@ -170,7 +172,7 @@ pub record Gone (M : Model) (p : Plane) (g : Growing) (ds rs : List ℕ) : Type 
   pub same : (x : ℕ) → count x list ≡ count x ds + count x rs
 
 module _ (M : Model) (p : Plane) (sound : Sound M) (g : Growing) (ds : List ℕ) (e : ℕ) (rs : List ℕ) (w : Going M p g ds (e ∷ rs)) where
-  crossing_now : Crossing M p e
+  pub crossing_now : Crossing M p e
   crossing_now = w.crossing e (omega (arith, tick_same e))
 
   edge_is : g.taken.edge ≡ table.greatest g.model.edges
@@ -187,7 +189,7 @@ module _ (M : Model) (p : Plane) (sound : Sound M) (g : Growing) (ds : List ℕ)
   vertex_above : table.greatest g.model.vertices < g.taken.vertex + 1
   vertex_above = omega (arith, vertex_is)
 
-  uncut_now : count e ds ≡ 0
+  pub uncut_now : count e ds ≡ 0
   uncut_now = omega (arith, w.apart e, tick_same e)
 
   edge_free_now : table.get g.model.edges (g.taken.edge + 1) ≡ None

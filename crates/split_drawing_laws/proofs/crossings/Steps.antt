@@ -102,7 +102,7 @@ module _ (M : Model) (e k v : ℕ) (q : Point) (goes : CutGoes M e k v q) where
 
   -- ---- what stays
 
-  rewrites : Rewritten M (edge_cut M e k v q) (rewritten (flat_map (doubled e k)))
+  pub rewrites : Rewritten M (edge_cut M e k v q) (rewritten (flat_map (doubled e k)))
   unfolding edge_cut rotate_to canonical
   rewrites = record { rewrite = rewritten_row (flat_map (doubled e k)); is = refl; contents = λ n row. refl; faces = λ n row. refl; none = refl }
 

@@ -3,13 +3,12 @@ use Rattle.std.proofs.Common.{◌≡◌, ◌≢◌, ℕ, ◌+◌, true, List, []
 use Rattle.euler_operators.specs.declared.Point.{Point}
 use Rattle.euler_operators.specs.declared.Plane.{Plane}
 use Rattle.euler_operators.specs.Vectors.{are_opposite, cuts_lattice}
-use Rattle.euler_operators.specs.Items.{count, IsIn}
-use Rattle.euler_operators.proofs.Lists.{tick_same}
+use Rattle.euler_operators.specs.Items.{IsIn}
 use Rattle.euler_operators.specs.HalfEdge.{plus, minus}
-use Rattle.euler_operators.specs.Table as table
 use Rattle.euler_operators.specs.Model.{Model, loop_of, face_of, solid_of, outer}
-use Rattle.euler_operators.specs.Sound.{Sound, Has, HasHalf}
-use Rattle.euler_operators.proofs.Halves.{plus_row, minus_row, mate_plus}
+use Rattle.euler_operators.specs.Sound.{Sound, Has}
+use Rattle.euler_operators.proofs.Halves.{mate_plus}
+use Rattle.euler_operators.proofs.Models.{plus_there}
 use Rattle.euler_operators.proofs.Rotations.{IsIn_head}
 use Rattle.euler_operators.specs.Conditions.{face_at}
 use Rattle.shapes.specs.Faces.{start, finish}
@@ -17,7 +16,7 @@ use Rattle.shapes.specs.Fresh.{Growing}
 use Rattle.solid_measure_laws.proofs.Cuts.{cut_on_each, cut_keeps_area}
 use Rattle.shapes.specs.split.Crossings.{edge_cut, next_cut, all_cut}
 use Rattle.split_drawing_laws.proofs.crossings.Steps.{CutGoes}
-use Rattle.split_drawing_laws.proofs.crossings.Runs.{cut_at, Crossing, Going, goes_now, next_model, going_on, kept_start}
+use Rattle.split_drawing_laws.proofs.crossings.Runs.{cut_at, Crossing, same_start, same_finish, Going, crossing_now, uncut_now, goes_now, next_model, going_on}
 use Rattle.split_drawing_laws.proofs.cut_volumes.OneCut.{Between, keeps, plus_here, normal_stays}
 use Rattle.split_drawing_laws.proofs.cut_volumes.CutPlanes.{plane_stays, anchor_stays}
 use Rattle.split_drawing_laws.proofs.cut_volumes.Told.{Measured, measured_none, measured_on, solid_stays}
@@ -51,28 +50,19 @@ module _ (M : Model) (p : Plane) (s : ℕ) (sound : Sound M) (g : Growing) (ds :
   N = g.model
 
   crossing : Crossing M p e
-  crossing = w.crossing e (IsIn_head e rs)
+  crossing = crossing_now M p sound g ds e rs w
 
-  plus_half : HasHalf M (plus e)
-  plus_half = ap (table.has M.edges) (plus_row e).0 ∙ crossing.there
+  begins : start N (plus e) ≡ start M (plus e)
+  begins = same_start M N p ds sound w.cut e crossing (uncut_now M p sound g ds e rs w)
 
-  minus_half : HasHalf M (minus e)
-  minus_half = ap (table.has M.edges) (minus_row e).0 ∙ crossing.there
-
-  uncut : count e ds ≡ 0
-  uncut = omega (arith, w.apart e, tick_same e)
-
-  same_start : start N (plus e) ≡ start M (plus e)
-  same_start = kept_start M N sound w.cut.kept (plus e) plus_half (w.cut.plus_tails e crossing.there uncut)
-
-  same_finish : finish N (plus e) ≡ finish M (plus e)
-  same_finish = ap (start N) (mate_plus e) ∙ kept_start M N sound w.cut.kept (minus e) minus_half (w.cut.minus_tails e crossing.there) ∙ sym (ap (start M) (mate_plus e))
+  ends : finish N (plus e) ≡ finish M (plus e)
+  ends = same_finish M N p ds sound w.cut e crossing (uncut_now M p sound g ds e rs w)
 
   opposite_now : are_opposite p (start N (plus e)) (finish N (plus e)) ≡ true
-  opposite_now = (λ i. are_opposite p (same_start i) (same_finish i)) ∙ crossing.crossing
+  opposite_now = (λ i. are_opposite p (begins i) (ends i)) ∙ crossing.crossing
 
   whole_now : cuts_lattice p (start N (plus e)) (finish N (plus e)) ≡ true
-  whole_now = (λ i. cuts_lattice p (same_start i) (same_finish i)) ∙ o.whole e (IsIn_head e rs)
+  whole_now = (λ i. cuts_lattice p (begins i) (ends i)) ∙ o.whole e (IsIn_head e rs)
 
   between : Between (start N (plus e)) (finish N (plus e)) (cut_at N p e)
   between = record {
@@ -81,7 +71,7 @@ module _ (M : Model) (p : Plane) (s : ℕ) (sound : Sound M) (g : Growing) (ds :
   }
 
   of_s_now : solid_of N (face_at N (plus e)) ≡ s
-  of_s_now = solid_stays M N w.cut.kept.faces (face_at N (plus e)) ∙ ap (solid_of M) (ap (face_of N) (w.cut.kept.loop (plus e) plus_half) ∙ w.cut.kept.face (loop_of M (plus e))) ∙ o.of_s e (IsIn_head e rs)
+  of_s_now = solid_stays M N w.cut.kept.faces (face_at N (plus e)) ∙ ap (solid_of M) (ap (face_of N) (w.cut.kept.loop (plus e) (plus_there M e crossing.there)) ∙ w.cut.kept.face (loop_of M (plus e))) ∙ o.of_s e (IsIn_head e rs)
 
   pub next_measured : Measured g.model (next_cut p g e).model s
   next_measured = subst (λ X. Measured g.model X s) (sym (next_model M p sound g ds e rs w))

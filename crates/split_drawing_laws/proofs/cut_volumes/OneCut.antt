@@ -6,7 +6,7 @@ use Rattle.euler_operators.specs.declared.Point.{Point}
 use Rattle.euler_operators.specs.declared.Plane.{Plane}
 use Rattle.euler_operators.specs.Vectors.{origin, moved, cross, is_on}
 use Rattle.euler_operators.specs.Items.{IsIn}
-use Rattle.euler_operators.specs.Rings.{rotate_to, canonical}
+use Rattle.euler_operators.specs.Rings.{canonical}
 use Rattle.euler_operators.proofs.Rotations.{count-canonical, IsIn_head}
 use Rattle.euler_operators.specs.HalfEdge.{mate, edge_of, plus, minus}
 use Rattle.euler_operators.specs.Model.{Model, LoopContent, lone, cycle, no_face, items_of, tail, content, outer, point_of, rings_of}
@@ -15,9 +15,9 @@ use Rattle.euler_operators.specs.Table as table
 use Rattle.euler_operators.proofs.Halves.{plus_row, same_edge, edge_of-mate, mate_plus, mate_minus}
 use Rattle.euler_operators.proofs.Members.{IsIn_rest}
 use Rattle.euler_operators.proofs.Models.{item_there, mate_there}
-use Rattle.euler_laws.proofs.shared.Same.{Rewritten, content-new}
+use Rattle.euler_laws.proofs.shared.Same.{content-new}
 use Rattle.shapes.specs.Faces.{start, finish, loops_of, items_in, boundary}
-use Rattle.shapes.specs.Rewriting.{rewritten, rewritten_row}
+use Rattle.shapes.specs.Rewriting.{rewritten}
 use Rattle.shapes.specs.Measure.{area, normal}
 use Rattle.shapes.proofs.Areas.{area-append, moved_nothing, moved_turned}
 use Rattle.shapes.specs.Vectors.{negated}
@@ -25,7 +25,7 @@ use Rattle.shapes.proofs.measures.Sums.{area_same, cross_back, moved_back}
 use Rattle.shapes.specs.split.Crossings.{doubled, edge_cut}
 use Rattle.split_drawing_laws.specs.crossings.Kept.{Kept}
 use Rattle.split_drawing_laws.proofs.crossings.OneCut.{plus_there, minus_there}
-use Rattle.split_drawing_laws.proofs.crossings.Steps.{CutGoes, cut_sound, cut_keeps, point_new, tail_old, tail_new, tail_other}
+use Rattle.split_drawing_laws.proofs.crossings.Steps.{CutGoes, cut_sound, rewrites, cut_keeps, point_new, tail_old, tail_new, tail_other}
 use Rattle.split_drawing_laws.proofs.crossings.Runs.{kept_point}
 use Rattle.split_drawing_laws.proofs.cut_volumes.Corners.{same_rings}
 
@@ -100,12 +100,8 @@ module _ (M : Model) (e k v : ℕ) (q : Point) (goes : CutGoes M e k v q) where
 
   -- ---- loops
 
-  rewrites : Rewritten M (edge_cut M e k v q) (rewritten (flat_map (doubled e k)))
-  unfolding edge_cut rotate_to canonical
-  rewrites = record { rewrite = rewritten_row (flat_map (doubled e k)); is = refl; contents = λ n row. refl; faces = λ n row. refl; none = refl }
-
   pub content_cut : (l : ℕ) → content (edge_cut M e k v q) l ≡ rewritten (flat_map (doubled e k)) (content M l)
-  content_cut l = content-new M K (rewritten (flat_map (doubled e k))) rewrites l
+  content_cut l = content-new M K (rewritten (flat_map (doubled e k))) (rewrites M e k v q goes) l
 
   pub outer_stays : (f : ℕ) → outer (edge_cut M e k v q) f ≡ outer M f
   unfolding outer

@@ -9,7 +9,7 @@ use Rattle.euler_operators.proofs.Lists.{tick_same, tick_other, split_at, IsIn_o
 use Rattle.euler_operators.proofs.Members.{IsIn_rest, count_taken}
 use Rattle.euler_operators.proofs.Rotations.{IsIn_head}
 use Rattle.euler_operators.proofs.Models.{solid_row, same_solid}
-use Rattle.euler_operators.proofs.Vectors.{add_exchanged}
+use Rattle.euler_operators.proofs.Vectors.{none_add, add_assoc, add_exchanged}
 use Rattle.euler_operators.specs.Table as table
 use Rattle.euler_operators.specs.Model.{Model, solid_of, faces_of}
 use Rattle.euler_operators.specs.Sound.{Has}
@@ -79,23 +79,16 @@ changed_one w z k x e (f ∷ fs) each one = elim (eqb_tells f k) [
       (λ i. here i +ℤ rest i) ∙ over (z f) x (total z fs)
   | inr s ↦
       let more : total w fs ≡ total z fs +ℤ x = changed_one w z k x e fs (λ g j. each g (IsIn_rest g f fs j)) (omega (arith, one, tick_other k f (λ q. s.1 (sym q)))) in
-      (λ i. each f (IsIn_head f fs) s.1 i +ℤ more i) ∙ along (z f) (total z fs) x
+      (λ i. each f (IsIn_head f fs) s.1 i +ℤ more i) ∙ sym (add_assoc (z f) (total z fs) x)
 ] where
   over : (a b c : ℤ) → (a +ℤ b) +ℤ c ≡ (a +ℤ c) +ℤ b
   over a b c = omega (arith, ints)
 
-  along : (a b c : ℤ) → a +ℤ (b +ℤ c) ≡ (a +ℤ b) +ℤ c
-  along a b c = omega (arith, ints)
-
 -- ---- the order doesn't matter
 
 total_append : (w : ℕ → ℤ) (xs ys : List ℕ) → total w (xs ++ ys) ≡ total w xs +ℤ total w ys
-total_append w [] ys = none (total w ys) where
-  none : (a : ℤ) → a ≡ pos 0 +ℤ a
-  none a = omega (arith, ints)
-total_append w (x ∷ xs) ys = ap (λ v. w x +ℤ v) (total_append w xs ys) ∙ along (w x) (total w xs) (total w ys) where
-  along : (a b c : ℤ) → a +ℤ (b +ℤ c) ≡ (a +ℤ b) +ℤ c
-  along a b c = omega (arith, ints)
+total_append w [] ys = sym (none_add (total w ys))
+total_append w (x ∷ xs) ys = ap (λ v. w x +ℤ v) (total_append w xs ys) ∙ sym (add_assoc (w x) (total w xs) (total w ys))
 
 pub total_same : (w : ℕ → ℤ) (xs ys : List ℕ) → SameItems xs ys → total w xs ≡ total w ys
 total_same w [] ys s = ap (total w) (sym (no_items ys (λ x. sym (s x))))

@@ -115,11 +115,15 @@ module _ (M N : Model) (f : ℕ) (q : ℕ × ℕ) (e : ℕ) (joined : JoinedIn M
     go true r = leads_one N (loops_joined N q.1 q.0 e) (join_edge q.1 q.0 e) (join_accepted N q.1 q.0 e (can_back r)) (join_made N q.1 q.0 e (can_back r))
     go false r = leads_one N (loops_joined N q.0 q.1 e) (join_edge q.0 q.1 e) (join_accepted N q.0 q.1 e (can_on r)) (join_made N q.0 q.1 e (can_on r))
 
+  -- what holds of two loops joined in f holds of the pair joined
+  pub joined_either : (P : Model → Type 0) → ((c d : ℕ) → CanJoin N c d e → face_at N c ≡ f → face_at N d ≡ f → P (loops_joined N c d e)) → P (joined_pair N q e)
+  joined_either P each = go ringed refl where
+    go : (b : Bool) → ringed ≡ b → P (cond b (loops_joined N q.1 q.0 e) (loops_joined N q.0 q.1 e))
+    go true r = each q.1 q.0 (can_back r) k_face u_face
+    go false r = each q.0 q.1 (can_on r) u_face k_face
+
   pub pair_joined : JoinedIn M (joined_pair N q e) f
-  pair_joined = go ringed refl where
-    go : (b : Bool) → ringed ≡ b → JoinedIn M (cond b (loops_joined N q.1 q.0 e) (loops_joined N q.0 q.1 e)) f
-    go true r = joined_on q.1 q.0 (can_back r) k_face u_face
-    go false r = joined_on q.0 q.1 (can_on r) u_face k_face
+  pair_joined = joined_either (λ X. JoinedIn M X f) joined_on
 
   fresh_on : (c d : ℕ) → CanJoin N c d e → (t : Taken) → t.edge < e → Fresh N t → Fresh (loops_joined N c d e) (record t { edge = e })
   fresh_on c d can t less w = record {
@@ -129,10 +133,7 @@ module _ (M N : Model) (f : ℕ) (q : ℕ × ℕ) (e : ℕ) (joined : JoinedIn M
   }
 
   pub pair_fresh : (t : Taken) → t.edge < e → Fresh N t → Fresh (joined_pair N q e) (record t { edge = e })
-  pair_fresh t less w = go ringed refl where
-    go : (b : Bool) → ringed ≡ b → Fresh (cond b (loops_joined N q.1 q.0 e) (loops_joined N q.0 q.1 e)) (record t { edge = e })
-    go true r = fresh_on q.1 q.0 (can_back r) t less w
-    go false r = fresh_on q.0 q.1 (can_on r) t less w
+  pair_fresh t less w = joined_either (λ X. Fresh X (record t { edge = e })) (λ c d can at to. fresh_on c d can t less w)
 
 -- ---- an edge drawn between a pair
 

@@ -1,17 +1,20 @@
 -- The two passes over the pairs of a face.
-use Rattle.std.proofs.Common.{◌≡◌, ℕ, suc, ◌+◌, ◌<◌, Bool, true, false, cond, List, [], ◌∷◌, ◌++◌, length, None, refl, sym, ap, subst, arith, IsTrue}
+use Rattle.std.proofs.Common.{◌≡◌, ◌≢◌, ℕ, suc, ◌+◌, ◌<◌, Bool, true, false, cond, List, [], ◌∷◌, ◌++◌, length, None, refl, sym, ap, ◌∙◌, subst, arith, IsTrue, inl, inr}
 use Rattle.std.specs.Prelude.{fold}
+use Rattle.std.proofs.lemmas.Bool.Decides.{eqb_tells}
 use Rattle.euler_operators.specs.Table as table
 use Rattle.euler_operators.specs.Model.{Model, is_number}
 use Rattle.euler_operators.specs.Sound.{Sound}
+use Rattle.euler_operators.specs.Conditions.{face_at}
 use Rattle.shapes.proofs.fresh.Tests.{number_fits}
 use Rattle.shapes.specs.Fresh.{Taken}
-use Rattle.shapes.specs.split.Drawing.{Drawing, face_drawn, in_one_loop, joined_pair, join_next, draw_next, stuck_at}
+use Rattle.shapes.specs.split.Drawing.{Drawing, face_drawn, loops_joined, in_one_loop, joined_pair, join_next, draw_next, stuck_at}
 use Rattle.split_drawing_laws.specs.drawings.DrawingOps.{join_pair, join_ops, draw_pair, draw_ops}
 use Rattle.split_drawing_laws.specs.drawings.DrawnIn.{PairsHaveRoom}
 use Rattle.split_drawing_laws.specs.drawings.Pairs.{Fits, AllFit}
 use Rattle.split_drawing_laws.specs.drawings.Passing.{Joining, Going}
-use Rattle.split_drawing_laws.proofs.drawings.Pairs.{pair_leads, pair_joined, pair_fresh, pair_draws, pair_drawn, drawn_fresh}
+use Rattle.split_drawing_laws.proofs.drawings.Drawn.{CanDraw, CanJoin}
+use Rattle.split_drawing_laws.proofs.drawings.Pairs.{pair_leads, joined_either, pair_can, pair_joined, pair_fresh, pair_draws, pair_drawn, drawn_fresh}
 use Rattle.split_drawing_laws.proofs.drawings.Runs.{Leads, leads_none, leads_on}
 
 length_last : (qs : List (ℕ × ℕ)) (q : ℕ × ℕ) → length (qs ++ q ∷ []) ≡ length qs + 1
@@ -80,6 +83,10 @@ module _ (M : Model) (f : ℕ) (d : Drawing) (q : ℕ × ℕ) (qs : List (ℕ ×
   pub edge_fits_now : IsTrue (is_number (d.taken.edge + 1))
   edge_fits_now = edge_fits d.taken (length d.left + length qs + n) room_now
 
+  pub either_now : in_one_loop d.model q ≡ false → (P : Model → Type 0) →
+      ((c k : ℕ) → CanJoin d.model c k (d.taken.edge + 1) → face_at d.model c ≡ f → face_at d.model k ≡ f → P (loops_joined d.model c k (d.taken.edge + 1))) → P (joined_pair d.model q (d.taken.edge + 1))
+  either_now e = joined_either M d.model f q (d.taken.edge + 1) w.joined fits e edge_free edge_fits_now
+
   made : in_one_loop d.model q ≡ false → Next (join_next d q)
   made e = subst Next (sym (join_next_two d q e)) (
     subst (Leads d.model (joined_pair d.model q (d.taken.edge + 1))) (sym (ap (λ b. cond b [] (join_pair d.model q (d.taken.edge + 1) ∷ [])) e))
@@ -111,6 +118,18 @@ joins_go M f d (q ∷ qs) n fit w =
       leads = leads_on d.model (join_next d q).model (fold join_next (join_next d q) qs).model (cond (in_one_loop d.model q) [] (join_pair d.model q (d.taken.edge + 1) ∷ [])) (join_ops (join_next d q) qs) s.0 r.leads;
       state = r.state;
     }
+
+-- what each pair of the first pass keeps holds after it
+pub joins_keep : (M : Model) (f : ℕ) (P : Drawing → List (ℕ × ℕ) → Type 0) →
+    ((d : Drawing) (q : ℕ × ℕ) (qs : List (ℕ × ℕ)) (n : ℕ) → Fits M f q → Joining M f d (q ∷ qs) n → in_one_loop d.model q ≡ true → P d (q ∷ qs) → P (record d { left = d.left ++ q ∷ [] }) qs) →
+    ((d : Drawing) (q : ℕ × ℕ) (qs : List (ℕ × ℕ)) (n : ℕ) → Fits M f q → Joining M f d (q ∷ qs) n → in_one_loop d.model q ≡ false → P d (q ∷ qs) →
+    P (record d { model = joined_pair d.model q (d.taken.edge + 1); taken = record d.taken { edge = d.taken.edge + 1 } }) qs) →
+    (d : Drawing) (qs : List (ℕ × ℕ)) (n : ℕ) → AllFit M f qs → Joining M f d qs n → P d qs → P (fold join_next d qs) []
+joins_keep M f P stays joins d [] n fit w a = a
+joins_keep M f P stays joins d (q ∷ qs) n fit w a = joins_keep M f P stays joins (join_next d q) qs n fit.1 (join_one M f d q qs n fit.0 w).1 (go (in_one_loop d.model q) refl) where
+  go : (b : Bool) → in_one_loop d.model q ≡ b → P (join_next d q) qs
+  go true e = subst (λ x. P x qs) (sym (join_next_one d q e)) (stays d q qs n fit.0 w e a)
+  go false e = subst (λ x. P x qs) (sym (join_next_two d q e)) (joins d q qs n fit.0 w e a)
 
 -- ---- second pass
 
@@ -155,6 +174,10 @@ module _ (M : Model) (f : ℕ) (sound : Sound M) (d : Drawing) (q : ℕ × ℕ) 
   pub loop_open : table.get d.model.loops (d.taken.loop + 1) ≡ None
   loop_open = w.fresh.loops (d.taken.loop + 1) (next_above d.taken.loop)
 
+  pub can_now : in_one_loop d.model q ≡ true → CanDraw d.model q.0 q.1 (d.taken.edge + 1) (d.taken.face + 1) (d.taken.loop + 1)
+  can_now e = pair_can M d.model f q (d.taken.edge + 1) (d.taken.face + 1) (d.taken.loop + 1) sound w.drawn fits e edge_open face_open loop_open
+      (edge_fits d.taken (length qs + n) room_here) (face_fits d.taken (length qs + n) room_here) (loop_fits d.taken (length qs + n) room_here)
+
   cut : in_one_loop d.model q ≡ true → After (draw_next f d q)
   cut e = subst After (sym (draw_next_one f d q e)) (
     subst (Leads d.model (cut_off d q).model) (sym (ap (λ b. cond b (draw_pair d.taken q ∷ []) []) e))
@@ -189,3 +212,21 @@ draws_go M f d (q ∷ qs) n sound fit w =
       leads = leads_on d.model (draw_next f d q).model (fold (draw_next f) (draw_next f d q) qs).model (cond (in_one_loop d.model q) (draw_pair d.taken q ∷ []) []) (draw_ops f (draw_next f d q) qs) s.0 r.leads;
       state = r.state;
     }
+
+-- a face that is not 0 stops the drawing
+pub stuck_now : (f : ℕ) (d : Drawing) → f ≢ 0 → (stuck_at f d).stuck ≢ 0
+stuck_now f d some e = elim (eqb_tells d.stuck 0) [
+  | inl s ↦ some (sym (ap (λ b. cond b f d.stuck) s.0) ∙ e)
+  | inr s ↦ s.1 (sym (ap (λ b. cond b f d.stuck) s.0) ∙ e)
+]
+
+-- what each pair of the second pass keeps holds after it
+pub draws_keep : (M : Model) (f : ℕ) (P : Drawing → List (ℕ × ℕ) → Type 0) (sound : Sound M) →
+    ((d : Drawing) (q : ℕ × ℕ) (qs : List (ℕ × ℕ)) (n : ℕ) → Fits M f q → Going M f d (q ∷ qs) n → in_one_loop d.model q ≡ false → P d (q ∷ qs) → P (stuck_at f d) qs) →
+    ((d : Drawing) (q : ℕ × ℕ) (qs : List (ℕ × ℕ)) (n : ℕ) → Fits M f q → Going M f d (q ∷ qs) n → in_one_loop d.model q ≡ true → P d (q ∷ qs) → P (cut_off d q) qs) →
+    (d : Drawing) (qs : List (ℕ × ℕ)) (n : ℕ) → AllFit M f qs → Going M f d qs n → P d qs → P (fold (draw_next f) d qs) []
+draws_keep M f P sound stays draws d [] n fit w a = a
+draws_keep M f P sound stays draws d (q ∷ qs) n fit w a = draws_keep M f P sound stays draws (draw_next f d q) qs n fit.1 (draw_one M f sound d q qs n fit.0 w).1 (go (in_one_loop d.model q) refl) where
+  go : (b : Bool) → in_one_loop d.model q ≡ b → P (draw_next f d q) qs
+  go true e = subst (λ x. P x qs) (sym (draw_next_one f d q e)) (draws d q qs n fit.0 w e a)
+  go false e = subst (λ x. P x qs) (sym (draw_next_two f d q e)) (stays d q qs n fit.0 w e a)

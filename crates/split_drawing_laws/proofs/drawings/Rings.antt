@@ -164,6 +164,19 @@ pub rings_on : (N : Model) (l k : ℕ) (ls : List ℕ) → with_rings (ring_in N
 unfolding ring_in
 rings_on N l k ls = refl
 
+-- what each ring that is moved keeps holds once all are
+pub rings_keep : (M : Model) (f k : ℕ) (P : Model → Type 0) → ((N : Model) (l : ℕ) → DrawnIn M N f → RingOf N f l → Newer M N f k → P N → P (ring_in N l k)) →
+    (N : Model) (ls : List ℕ) → DrawnIn M N f → AreRings N f ls → IsApart ls → Newer M N f k → P N → P (with_rings N ls k)
+rings_keep M f k P each N [] drawn are d newer w = w
+rings_keep M f k P each N (l ∷ ls) drawn are d newer w =
+    let ring : RingOf N f l = are l (omega (arith, tick_same l)) in
+    subst P (rings_on N l k ls) (rings_keep M f k P each (ring_in N l k) ls
+    (moved_drawn M N f l k drawn ring newer)
+    (λ q i. moved_ring M N f l k drawn ring newer q (λ s. absurd (omega (arith, i, d q, ap (λ x. tick q x) (sym s), tick_same q))) (are q (omega (arith, i))))
+    (λ x. omega (arith, d x))
+    (moved_newer M N f l k drawn ring newer)
+    (each N l drawn ring newer w))
+
 pub rings_move : (M N : Model) (f k : ℕ) (ls : List ℕ) (c : Taken) → DrawnIn M N f → AreRings N f ls → IsApart ls → Newer M N f k → Fresh N c → Moved M N f k ls c
 rings_move M N f k [] c drawn are d newer fresh = record { leads = leads_none N; drawn = drawn; fresh = fresh }
 rings_move M N f k (l ∷ ls) c drawn are d newer fresh =

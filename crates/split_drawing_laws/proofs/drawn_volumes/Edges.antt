@@ -5,13 +5,13 @@ use Rattle.euler_operators.specs.declared.Point.{Point}
 use Rattle.euler_operators.specs.Vectors.{moved, cross}
 use Rattle.euler_operators.specs.Items.{count, tick}
 use Rattle.euler_operators.proofs.Lists.{count-append, tick_same, tick_other}
-use Rattle.euler_operators.specs.HalfEdge.{mate, edge_of, plus, minus}
+use Rattle.euler_operators.specs.HalfEdge.{mate, plus, minus}
 use Rattle.euler_operators.specs.Table as table
 use Rattle.euler_operators.specs.Model.{Model, EdgeRow, has_half}
 use Rattle.euler_operators.specs.Sound.{Sound, Has, HasHalf}
 use Rattle.euler_operators.specs.Conditions.{face_at}
-use Rattle.euler_operators.proofs.Halves.{plus_row, minus_row, same_edge, mate_plus, plus_other}
-use Rattle.euler_operators.proofs.Tables.{get-put_here, get-put_other}
+use Rattle.euler_operators.proofs.Halves.{plus_row, minus_row, mate_plus, plus_other}
+use Rattle.euler_operators.proofs.Tables.{get-put_here}
 use Rattle.shapes.specs.Faces.{start, finish, boundary}
 use Rattle.shapes.specs.Measure.{area, normal}
 use Rattle.shapes.proofs.Areas.{moved_more, nothing_moved}
@@ -39,12 +39,6 @@ module _ (N K : Model) (e : ℕ) (row : EdgeRow) (is : K.edges ≡ table.put N.e
 
   pub minus_there : HasHalf K (minus e)
   minus_there = ap is_some (ap (table.get K.edges) (minus_row e).0 ∙ row_now)
-
-  pub half_cases : (h : ℕ) → HasHalf K h → HasHalf N h ⊎ ((h ≡ plus e) ⊎ (h ≡ minus e))
-  half_cases h there = elim (eqb_tells (edge_of h) e) [
-    | inl s ↦ elim (same_edge h (plus e) (s.1 ∙ sym (plus_row e).0)) [ inl t ↦ inr (inl t) | inr t ↦ inr (inr (t ∙ mate_plus e)) ]
-    | inr s ↦ inl (sym (ap is_some (ap (λ t. table.get t (edge_of h)) is ∙ get-put_other N.edges e row (edge_of h) s.1)) ∙ there)
-  ]
 
 -- ---- faces that keep their half-edges
 

@@ -20,9 +20,9 @@ use Rattle.shapes.specs.split.Drawing.{loops_joined}
 use Rattle.split_drawing_laws.specs.drawings.DrawnIn.{Stays}
 use Rattle.split_drawing_laws.proofs.drawings.Drawn.{CanJoin, join_sound, loops_joined_faces}
 use Rattle.split_drawing_laws.proofs.drawings.Stays.{stands_at, row_joined, row_other, row_gone, joined_edges, join_stays, join_tails, join_faces}
-use Rattle.split_drawing_laws.proofs.loop_sides.After.{none_new}
+use Rattle.split_drawing_laws.proofs.loop_sides.After.{none_new, halves_joined}
 use Rattle.split_drawing_laws.proofs.drawn_volumes.Bounds.{OnFace, anchor_still, lone_there, bound_one, bound_none, point_still, start_still}
-use Rattle.split_drawing_laws.proofs.drawn_volumes.Edges.{half_there, plus_there, minus_there, half_cases, area_after, one_count, no_count, normal_kept, two_in, no_area, normal_is}
+use Rattle.split_drawing_laws.proofs.drawn_volumes.Edges.{half_there, plus_there, minus_there, area_after, one_count, no_count, normal_kept, two_in, no_area, normal_is}
 
 module _ (N : Model) (c d e : ℕ) (can : CanJoin N c d e) where
   abbrev K : Model
@@ -58,7 +58,7 @@ module _ (N : Model) (c d e : ℕ) (can : CanJoin N c d e) where
   minus_start = ap (point_of K) (join_tails N c d e can).1 ∙ point_still N K can.sound stays (tail N d)
 
   cases : (h : ℕ) → HasHalf K h → HasHalf N h ⊎ ((h ≡ plus e) ⊎ (h ≡ minus e))
-  cases h there = half_cases N K e _ (joined_edges N c d e can) h there
+  cases = halves_joined N c d e can
 
   lone_row : (q v : ℕ) → content K q ≡ lone v → table.get K.loops q ≡ table.get N.loops q
   lone_row q v is = row_other N c d e can q

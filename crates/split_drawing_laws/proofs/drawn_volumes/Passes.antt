@@ -1,25 +1,24 @@
 -- The two passes over the pairs of a face, and its rings: volumes and planes stay.
-use Rattle.std.proofs.Common.{◌≡◌, ◌≢◌, ℕ, ◌+◌, Bool, true, false, cond, List, [], ◌∷◌, None, is_some, IsTrue, refl, sym, ap, ◌∙◌, subst, arith, ◌⊎◌, inl, inr, true≢false}
+use Rattle.std.proofs.Common.{◌≡◌, ◌≢◌, ℕ, ◌+◌, List, [], None, is_some, refl, sym, ap, ◌∙◌, subst, ◌⊎◌, inl, inr, true≢false}
 use Rattle.std.specs.Prelude.{fold}
 use Rattle.std.proofs.lemmas.Bool.Decides.{eqb_tells}
 use Rattle.euler_operators.specs.declared.Plane.{Plane}
-use Rattle.euler_operators.specs.Items.{tick, IsApart}
-use Rattle.euler_operators.proofs.Lists.{tick_same}
+use Rattle.euler_operators.specs.Items.{IsApart}
 use Rattle.euler_operators.proofs.Models.{same_solid}
 use Rattle.euler_operators.specs.Table as table
-use Rattle.euler_operators.specs.Model.{Model, loop_of, outer, solid_of, is_ring_of, is_number}
+use Rattle.euler_operators.specs.Model.{Model, outer, solid_of}
 use Rattle.euler_operators.specs.Sound.{Sound, Has}
 use Rattle.euler_operators.specs.Conditions.{face_at}
 use Rattle.euler_operators.specs.Effect.{ring_in}
-use Rattle.shapes.specs.split.Drawing.{Drawing, face_drawn, loops_joined, in_one_loop, joined_pair, join_next, draw_next, with_rings}
+use Rattle.shapes.specs.split.Drawing.{Drawing, face_drawn, loops_joined, join_next, draw_next, with_rings}
 use Rattle.shapes.specs.Measure.{six_volume}
-use Rattle.split_drawing_laws.specs.drawings.DrawnIn.{JoinedIn, DrawnIn}
-use Rattle.split_drawing_laws.specs.drawings.Pairs.{Fits, AllFit}
+use Rattle.split_drawing_laws.specs.drawings.DrawnIn.{DrawnIn}
+use Rattle.split_drawing_laws.specs.drawings.Pairs.{AllFit}
 use Rattle.split_drawing_laws.proofs.drawings.Drawn.{CanDraw, CanJoin}
 use Rattle.split_drawing_laws.specs.drawings.Passing.{Joining, Going}
-use Rattle.split_drawing_laws.proofs.drawings.Pairs.{can_back, can_on, pair_can}
-use Rattle.split_drawing_laws.proofs.drawings.Passes.{join_one, join_next_one, join_next_two, draw_one, draw_next_one, draw_next_two, edge_free, edge_fits_now, edge_open, face_open, loop_open, room_here, edge_fits, face_fits, loop_fits}
-use Rattle.split_drawing_laws.proofs.drawings.Rings.{RingOf, AreRings, Newer, moved_drawn, moved_newer, moved_ring, rings_on}
+use Rattle.split_drawing_laws.proofs.drawings.Passes.{either_now, joins_keep, can_now, draws_keep}
+use Rattle.split_drawing_laws.proofs.drawings.Rings.{RingOf, AreRings, Newer, rings_keep}
+use Rattle.split_drawing_laws.proofs.face_sides.Beside.{never_free}
 use Rattle.split_drawing_laws.proofs.drawn_volumes.Bounds.{OnFace}
 use Rattle.split_drawing_laws.proofs.drawn_volumes.Draws as draws
 use Rattle.split_drawing_laws.proofs.drawn_volumes.Joins as joins
@@ -37,17 +36,14 @@ pub record Within (M X : Model) (f : ℕ) : Type 0 where
   pub old_solid : (g : ℕ) → Has M.faces g → solid_of X g ≡ solid_of M g
   pub new_solid : (g : ℕ) → Has X.faces g → table.get M.faces g ≡ None → solid_of X g ≡ solid_of M f
 
-pub never_free : (M : Model) (g : ℕ) → Has M.faces g → table.get M.faces g ≡ None → ⊥
-never_free M g there none = true≢false (sym there ∙ ap is_some none)
-
 pub nothing_within : (M : Model) (f : ℕ) → Within M M f
 nothing_within M f = record {
   volumes = λ v. refl;
   there = λ g there. there;
   olds = λ g there t on. on;
-  news = λ g there none. absurd (never_free M g there none);
+  news = λ g there none. absurd (never_free M.faces g there none);
   old_solid = λ g there. refl;
-  new_solid = λ g there none. absurd (never_free M g there none);
+  new_solid = λ g there none. absurd (never_free M.faces g there none);
 }
 
 -- face f of M lies on a plane
@@ -74,23 +70,10 @@ module _ (M : Model) (f : ℕ) (sound : Sound M) (f_there : Has M.faces f) (r : 
       new_solid = λ g there none. same_solid X J g (ap (λ t. table.get t g) same) ∙ w.new_solid g (was g there) none;
     }
 
-  pair_within : (X : Model) (q : ℕ × ℕ) (e : ℕ) → JoinedIn M X f → Fits M f q → in_one_loop X q ≡ false → table.get X.edges e ≡ None → IsTrue (is_number e) → Within M X f → Within M (joined_pair X q e) f
-  pair_within X q e joined fits two none number w = go (is_ring_of X (face_at X q.0) (loop_of X q.0)) refl where
-    go : (b : Bool) → is_ring_of X (face_at X q.0) (loop_of X q.0) ≡ b → Within M (cond b (loops_joined X q.1 q.0 e) (loops_joined X q.0 q.1 e)) f
-    go true s = join_within X q.1 q.0 e (can_back M X f q e joined fits two none number s) (joined.faces q.1 fits.k_there ∙ fits.k_face) w
-    go false s = join_within X q.0 q.1 e (can_on M X f q e joined fits two none number s) (joined.faces q.0 fits.u_there ∙ fits.u_face) w
-
-  join_step : (d : Drawing) (q : ℕ × ℕ) (qs : List (ℕ × ℕ)) (n : ℕ) → Fits M f q → Joining M f d (q ∷ qs) n → Within M d.model f → Within M (join_next d q).model f
-  join_step d q qs n fits w a = go (in_one_loop d.model q) refl where
-    go : (b : Bool) → in_one_loop d.model q ≡ b → Within M (join_next d q).model f
-    go true e = subst (λ x. Within M x.model f) (sym (join_next_one d q e)) a
-    go false e = subst (λ x. Within M x.model f) (sym (join_next_two d q e))
-        (pair_within d.model q (d.taken.edge + 1) w.joined fits e (edge_free M f d q qs n fits w) (edge_fits_now M f d q qs n fits w) a)
-
   -- first pass
   pub joins_within : (d : Drawing) (qs : List (ℕ × ℕ)) (n : ℕ) → AllFit M f qs → Joining M f d qs n → Within M d.model f → Within M (fold join_next d qs).model f
-  joins_within d [] n fit w a = a
-  joins_within d (q ∷ qs) n fit w a = joins_within (join_next d q) qs n fit.1 (join_one M f d q qs n fit.0 w).1 (join_step d q qs n fit.0 w a)
+  joins_within = joins_keep M f (λ x rs. Within M x.model f) (λ d q qs n fits w e a. a)
+      (λ d q qs n fits w e a. either_now M f d q qs n fits w e (λ X. Within M X f) (λ c k can at to. join_within d.model c k (d.taken.edge + 1) can at a))
 
   -- ---- an edge drawn
 
@@ -136,20 +119,10 @@ module _ (M : Model) (f : ℕ) (sound : Sound M) (f_there : Has M.faces f) (r : 
       ];
     }
 
-  draw_step : (d : Drawing) (q : ℕ × ℕ) (qs : List (ℕ × ℕ)) (n : ℕ) → Fits M f q → Going M f d (q ∷ qs) n → Within M d.model f → Within M (draw_next f d q).model f
-  draw_step d q qs n fits w a = go (in_one_loop d.model q) refl where
-    go : (b : Bool) → in_one_loop d.model q ≡ b → Within M (draw_next f d q).model f
-    go true e = subst (λ x. Within M x.model f) (sym (draw_next_one f d q e))
-        (draw_within d.model q.0 q.1 (d.taken.edge + 1) (d.taken.face + 1) (d.taken.loop + 1)
-        (pair_can M d.model f q (d.taken.edge + 1) (d.taken.face + 1) (d.taken.loop + 1) sound w.drawn fits e (edge_open M f sound d q qs n fits w) (face_open M f sound d q qs n fits w) (loop_open M f sound d q qs n fits w)
-        (edge_fits d.taken _ (room_here M f sound d q qs n fits w)) (face_fits d.taken _ (room_here M f sound d q qs n fits w)) (loop_fits d.taken _ (room_here M f sound d q qs n fits w)))
-        (w.drawn.within q.0 fits.u_there fits.u_face) a)
-    go false e = subst (λ x. Within M x.model f) (sym (draw_next_two f d q e)) a
-
   -- second pass
   pub draws_within : (d : Drawing) (qs : List (ℕ × ℕ)) (n : ℕ) → AllFit M f qs → Going M f d qs n → Within M d.model f → Within M (fold (draw_next f) d qs).model f
-  draws_within d [] n fit w a = a
-  draws_within d (q ∷ qs) n fit w a = draws_within (draw_next f d q) qs n fit.1 (draw_one M f sound d q qs n fit.0 w).1 (draw_step d q qs n fit.0 w a)
+  draws_within = draws_keep M f (λ x rs. Within M x.model f) sound (λ d q qs n fits w e a. a)
+      (λ d q qs n fits w e a. draw_within d.model q.0 q.1 (d.taken.edge + 1) (d.taken.face + 1) (d.taken.loop + 1) (can_now M f sound d q qs n fits w e) (w.drawn.within q.0 fits.u_there fits.u_face) a)
 
   -- ---- a ring moved to a new face
 
@@ -158,7 +131,7 @@ module _ (M : Model) (f : ℕ) (sound : Sound M) (f_there : Has M.faces f) (r : 
     R = ring_in X l k
 
     f_other : f ≢ k
-    f_other s = never_free M f f_there (ap (table.get M.faces) s ∙ newer.new)
+    f_other s = never_free M.faces f f_there (ap (table.get M.faces) s ∙ newer.new)
 
     can : CanMove X f l k
     can = record {
@@ -179,7 +152,7 @@ module _ (M : Model) (f : ℕ) (sound : Sound M) (f_there : Has M.faces f) (r : 
     move_within = record {
       volumes = λ v. move_volumes X f l k can r some (w.olds f f_there r on_f) (w.news k newer.there newer.new r on_f) v ∙ w.volumes v;
       there = λ g there. ap is_some (row_same g) ∙ w.there g there;
-      olds = λ g there t on. moves.else_on X f l k can t g (λ s. never_free M g there (ap (table.get M.faces) s ∙ newer.new)) (w.olds g there t on);
+      olds = λ g there t on. moves.else_on X f l k can t g (λ s. never_free M.faces g there (ap (table.get M.faces) s ∙ newer.new)) (w.olds g there t on);
       news = λ g there none t on. elim (eqb_tells g k) [
         | inl s ↦ subst (OnFace R t) (sym s.1) (moves.moved_on X f l k can t (w.olds f f_there t on) (w.news k newer.there newer.new t on))
         | inr s ↦ moves.else_on X f l k can t g s.1 (w.news g (has_was g there) none t on)
@@ -189,12 +162,4 @@ module _ (M : Model) (f : ℕ) (sound : Sound M) (f_there : Has M.faces f) (r : 
     }
 
   pub rings_within : (X : Model) (k : ℕ) (ls : List ℕ) → DrawnIn M X f → AreRings X f ls → IsApart ls → Newer M X f k → Within M X f → Within M (with_rings X ls k) f
-  rings_within X k [] drawn are d newer w = w
-  rings_within X k (l ∷ ls) drawn are d newer w =
-      let ring : RingOf X f l = are l (omega (arith, tick_same l)) in
-      subst (λ Y. Within M Y f) (rings_on X l k ls) (rings_within (ring_in X l k) k ls
-      (moved_drawn M X f l k drawn ring newer)
-      (λ q i. moved_ring M X f l k drawn ring newer q (λ s. absurd (omega (arith, i, d q, ap (λ x. tick q x) (sym s), tick_same q))) (are q (omega (arith, i))))
-      (λ x. omega (arith, d x))
-      (moved_newer M X f l k drawn ring newer)
-      (move_within X l k drawn ring newer w))
+  rings_within X k = rings_keep M f k (λ Y. Within M Y f) (λ Y l. move_within Y l k) X

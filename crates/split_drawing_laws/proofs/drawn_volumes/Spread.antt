@@ -19,8 +19,9 @@ use Rattle.split_drawing_laws.specs.drawings.Passing.{Ready, Drawable}
 use Rattle.split_drawing_laws.proofs.drawings.Faces.{begun_joining, joins, going, going_on, fitting_on, last, newer_face}
 use Rattle.split_drawing_laws.proofs.drawings.Rings.{rings_are, rings_apart}
 use Rattle.split_drawing_laws.proofs.drawings.Whole.{ready, drawable_on, next_is}
+use Rattle.split_drawing_laws.proofs.face_sides.Beside.{never_free}
 use Rattle.split_drawing_laws.proofs.drawn_volumes.Bounds.{OnFace}
-use Rattle.split_drawing_laws.proofs.drawn_volumes.Passes.{Within, never_free, nothing_within, joins_within, draws_within, rings_within}
+use Rattle.split_drawing_laws.proofs.drawn_volumes.Passes.{Within, nothing_within, joins_within, draws_within, rings_within}
 use Rattle.split_drawing_laws.proofs.drawn_volumes.Volumes.{IsPlane}
 
 staying : (M : Model) (f : ℕ) (b : Bool) (d : Drawing) → Within M d.model f → Within M (cond b (stuck_at f d) d).model f
@@ -108,7 +109,7 @@ module _ (B : Model) (s : ℕ) where
       go false e =
           let c : Comes B X s f = a.origin f f_there f_solid in
           let none : table.get X.faces g ≡ None = no_row (table.get X.faces g) e in
-          record { face = c.face; there = c.there; solid = c.solid; own = λ was. absurd (never_free X g (a.there g was) none); on = λ t on. w.news g there none t (c.on t on) }
+          record { face = c.face; there = c.there; solid = c.solid; own = λ was. absurd (never_free X.faces g (a.there g was) none); on = λ t on. w.news g there none t (c.on t on) }
 
   module _ (p : Plane) (flat : (f : ℕ) → Has B.faces f → solid_of B f ≡ s → LiesFlat B f) where
     next_spread : (d : Drawing) (q : FacePairs) (qs : List FacePairs) (n : ℕ) → Drawable d (q ∷ qs) n → Has B.faces q.face → solid_of B q.face ≡ s → Spread B d.model s → Spread B (next_drawn p d q).model s

@@ -17,7 +17,7 @@ use Rattle.split_drawing_laws.proofs.drawings.Drawn.{CanDraw, face_drawn_else}
 use Rattle.split_drawing_laws.specs.drawings.Passing.{Ready}
 use Rattle.split_drawing_laws.proofs.drawings.Faces.{face_goes, begun_joining, joins, going}
 use Rattle.split_drawing_laws.proofs.drawings.Pairs.{none_joined, joined_drawn, pair_can, stays_on}
-use Rattle.split_drawing_laws.proofs.drawings.Passes.{join_next_one, draw_next_one, cut_off, edge_fits, face_fits, loop_fits, room_as}
+use Rattle.split_drawing_laws.proofs.drawings.Passes.{join_next_one, stuck_now, draw_next_one, cut_off, edge_fits, face_fits, loop_fits, room_as}
 use Rattle.split_drawing_laws.proofs.drawings.Stays.{row_else, draw_stays}
 use Rattle.split_drawing_laws.specs.drawings.DrawnIn.{PairsHaveRoom}
 use Rattle.split_drawing_laws.proofs.loop_sides.SidesWhole.{draws_stuck}
@@ -189,15 +189,9 @@ module _ (B : Model) (side : ℕ → Bool) (p : Plane) (f : ℕ) (q r : ℕ × �
 
   not_stopped : stops ≡ false
   not_stopped = go stops refl where
-    stuck : (stuck_at f J).stuck ≢ 0
-    stuck e = elim (eqb_tells J.stuck 0) [
-      | inl s ↦ some (sym (ap (λ b. cond b f J.stuck) s.0) ∙ e)
-      | inr s ↦ s.1 (sym (ap (λ b. cond b f J.stuck) s.0) ∙ e)
-    ]
-
     go : (b : Bool) → stops ≡ b → stops ≡ false
     go false e = e
-    go true e = absurd (draws_stuck f (stuck_at f J) J.left stuck
+    go true e = absurd (draws_stuck f (stuck_at f J) J.left (stuck_now f J some)
         (sym (ap (λ b. (all_drawn f (cond b (stuck_at f J) J)).stuck) e) ∙ ap (λ x. x.stuck) (sym unshared) ∙ free))
 
   no_rings : has_rings J.model f ≡ false

@@ -67,15 +67,9 @@ module _ (M N : Model) (p : Plane) (ds : List ℕ) (a : AreCut M N p ds) (w : Pi
         there = edge_stays N e k v (cut_at N p e) goes j b.there;
         new = b.new;
         starts = tail_other N e k v (cut_at N p e) goes (plus j) (plus_there N j b.there) (λ s. new (sym (plus_row j).0 ∙ s)) ∙ b.starts;
-        first = after_else N e k v (cut_at N p e) goes (plus j) (plus_there N j b.there) (λ s. absurd (omega (arith, s))) (λ s. other (halved d e (sym b.first ∙ s))) ∙ b.first;
-        second = after_else N e k v (cut_at N p e) goes (minus d) (minus_there N d (in_n d b.old)) (λ s. other (odd_halved d e s)) (λ s. even_odd j e (sym b.second ∙ s)) ∙ b.second;
+        first = after_else N e k v (cut_at N p e) goes (plus j) (plus_there N j b.there) (λ s. absurd (omega (arith, s))) (λ s. other (omega (arith, sym b.first ∙ s))) ∙ b.first;
+        second = after_else N e k v (cut_at N p e) goes (minus d) (minus_there N d (in_n d b.old)) (λ s. other (omega (arith, s))) (λ s. even_odd j e (sym b.second ∙ s)) ∙ b.second;
       } where
-        halved : (x y : ℕ) → plus x ≡ plus y → x ≡ y
-        halved x y s = omega (arith, s)
-
-        odd_halved : (x y : ℕ) → minus x ≡ minus y → x ≡ y
-        odd_halved x y s = omega (arith, s)
-
         even_odd : (x y : ℕ) → minus x ≡ plus y → ⊥
         even_odd x y s = omega (arith, s)
 

@@ -1,35 +1,18 @@
 -- The sides of half-edges once a whole face is drawn.
-use Rattle.std.proofs.Common.{◌≡◌, ◌≢◌, ℕ, Bool, true, false, cond, nat_eq, nat_lt, ◌&&◌, List, [], ◌∷◌, ◌++◌, length, refl, sym, ap, subst, arith}
+use Rattle.std.proofs.Common.{◌≡◌, ◌≢◌, ℕ, Bool, true, false, cond, nat_eq, nat_lt, ◌&&◌, List, [], ◌++◌, length, refl, subst}
 use Rattle.std.proofs.lemmas.Bool.{eqb-true}
 use Rattle.euler_operators.specs.declared.Plane.{Plane}
-use Rattle.euler_operators.specs.Items.{tick, IsApart}
-use Rattle.euler_operators.proofs.Lists.{tick_same}
 use Rattle.euler_operators.specs.Model.{Model, content}
 use Rattle.euler_operators.specs.Conditions.{has_rings}
-use Rattle.euler_operators.specs.Effect.{ring_in}
 use Rattle.shapes.specs.Faces.{vertices_on}
 use Rattle.shapes.specs.split.Sides.{some_above}
 use Rattle.shapes.specs.split.Drawing.{Drawing, stuck_at, all_joined, ring_free, all_drawn, rings_above, with_rings, drawn_between}
-use Rattle.split_drawing_laws.specs.drawings.DrawnIn.{DrawnIn}
 use Rattle.split_drawing_laws.specs.loop_sides.Parted.{Parted, ends, AllCross, Open}
-use Rattle.split_drawing_laws.proofs.drawings.Rings.{RingOf, AreRings, Newer, rings_on, rings_are, rings_apart, moved_drawn, moved_ring, moved_newer}
+use Rattle.split_drawing_laws.proofs.drawings.Rings.{rings_keep, rings_are, rings_apart}
 use Rattle.split_drawing_laws.specs.drawings.Passing.{Ready}
 use Rattle.split_drawing_laws.proofs.drawings.Faces.{going_on, fitting_on, joins, going, last, newer_face, begun_joining}
 use Rattle.split_drawing_laws.proofs.loop_sides.Parting.{parted_moved}
 use Rattle.split_drawing_laws.proofs.loop_sides.SidesPassed.{append_none, AtJoin, joins_part, AtDraw, draws_part}
-
--- rings moved
-rings_part : (M B N : Model) (p : Plane) (first : ℕ → Bool) (S : ℕ → Type 0) (f k : ℕ) (ls places : List ℕ) → DrawnIn M N f → AreRings N f ls → IsApart ls → Newer M N f k →
-    Parted B N p first S places → Parted B (with_rings N ls k) p first S places
-rings_part M B N p first S f k [] places drawn are d newer w = w
-rings_part M B N p first S f k (l ∷ ls) places drawn are d newer w =
-    let ring : RingOf N f l = are l (omega (arith, tick_same l)) in
-    subst (λ X. Parted B X p first S places) (rings_on N l k ls) (rings_part M B (ring_in N l k) p first S f k ls places
-    (moved_drawn M N f l k drawn ring newer)
-    (λ q i. moved_ring M N f l k drawn ring newer q (λ s. absurd (omega (arith, i, d q, ap (λ x. tick q x) (sym s), tick_same q))) (are q (omega (arith, i))))
-    (λ x. omega (arith, d x))
-    (moved_newer M N f l k drawn ring newer)
-    (parted_moved M B N p first S f l k places drawn ring newer w))
 
 module _ (B : Model) (p : Plane) (first : ℕ → Bool) (S : ℕ → Type 0) (others : List ℕ) (f : ℕ) (qs : List (ℕ × ℕ)) (d : Drawing) (n : ℕ) (w : Ready p f qs d n)
     (some : f ≢ 0) (cross : AllCross B p first qs) (fine : Open B (ends qs ++ others)) (parted : Parted B d.model p first S (ends qs ++ others)) where
@@ -68,7 +51,8 @@ module _ (B : Model) (p : Plane) (first : ℕ → Bool) (S : ℕ → Type 0) (ot
     go true e free =
         let a = at_drawn free in (
           a.0,
-          rings_part d.model B L.model p first S f L.taken.face (rings_above L.model p f) others (last p f qs d n w).drawn
+          rings_keep d.model f L.taken.face (λ X. Parted B X p first S others) (λ N l. parted_moved d.model B N p first S f l L.taken.face others)
+              L.model (rings_above L.model p f) (last p f qs d n w).drawn
               (rings_are L.model f (λ l. some_above L.model p (vertices_on L.model (content L.model l))))
               (rings_apart L.model f (λ l. some_above L.model p (vertices_on L.model (content L.model l))))
               (newer_face p f qs d n w (eqb-true (length qs) 1 e)) a.1,

@@ -1,7 +1,6 @@
 -- The sides of half-edges through the two passes over the pairs of a face.
-use Rattle.std.proofs.Common.{◌≡◌, ◌≢◌, ℕ, ◌+◌, Bool, true, false, cond, not, List, [], ◌∷◌, ◌++◌, None, IsTrue, refl, sym, ap, ◌∙◌, subst, arith, inl, inr}
+use Rattle.std.proofs.Common.{◌≡◌, ◌≢◌, ℕ, ◌+◌, Bool, true, false, cond, not, List, [], ◌∷◌, ◌++◌, None, IsTrue, refl, sym, ap, subst, arith, ◌⊎◌, inl, inr}
 use Rattle.std.specs.Prelude.{fold}
-use Rattle.std.proofs.lemmas.Bool.Decides.{eqb_tells}
 use Rattle.euler_operators.specs.declared.Plane.{Plane}
 use Rattle.euler_operators.specs.Items.{count, tick}
 use Rattle.euler_operators.proofs.Lists.{count-append}
@@ -9,13 +8,13 @@ use Rattle.euler_operators.specs.Table as table
 use Rattle.euler_operators.specs.Model.{Model, loop_of, is_number, is_ring_of}
 use Rattle.euler_operators.specs.Sound.{Sound}
 use Rattle.euler_operators.specs.Conditions.{face_at}
-use Rattle.shapes.specs.split.Drawing.{Drawing, loops_joined, in_one_loop, joined_pair, join_next, draw_next, stuck_at}
+use Rattle.shapes.specs.split.Drawing.{Drawing, loops_joined, in_one_loop, joined_pair, join_next, draw_next}
 use Rattle.split_drawing_laws.specs.drawings.Pairs.{Fits, AllFit}
 use Rattle.split_drawing_laws.specs.loop_sides.Parted.{Parted, ends, Crosses, AllCross, Open}
 use Rattle.split_drawing_laws.specs.drawings.DrawnIn.{JoinedIn}
 use Rattle.split_drawing_laws.specs.drawings.Passing.{Joining, Going}
-use Rattle.split_drawing_laws.proofs.drawings.Pairs.{can_back, can_on, pair_can}
-use Rattle.split_drawing_laws.proofs.drawings.Passes.{join_one, join_next_one, join_next_two, draw_one, draw_next_one, draw_next_two, edge_free, edge_fits_now, edge_open, face_open, loop_open, room_here, edge_fits, face_fits, loop_fits}
+use Rattle.split_drawing_laws.proofs.drawings.Pairs.{can_back, can_on}
+use Rattle.split_drawing_laws.proofs.drawings.Passes.{edge_free, edge_fits_now, joins_keep, can_now, stuck_now, draws_keep}
 use Rattle.split_drawing_laws.proofs.loop_sides.Parting.{Opposed, parted_drawn, parted_joined}
 
 count-ends : (x : ℕ) (as_ bs : List (ℕ × ℕ)) → count x (ends (as_ ++ bs)) ≡ count x (ends as_) + count x (ends bs)
@@ -91,59 +90,41 @@ module _ (B : Model) (p : Plane) (first : ℕ → Bool) (S : ℕ → Type 0) (ot
   abbrev pub AtJoin : Drawing → List (ℕ × ℕ) → Type 0
   AtJoin d qs = AllCross B p first d.left × Open B (now (d.left ++ qs)) × Parted B d.model p first S (now (d.left ++ qs))
 
-  join_part : (d : Drawing) (q : ℕ × ℕ) (qs : List (ℕ × ℕ)) (n : ℕ) → Fits M f q → Joining M f d (q ∷ qs) n → Crosses B p first q → AtJoin d (q ∷ qs) → AtJoin (join_next d q) qs
-  join_part d q qs n fits w cross a = go (in_one_loop d.model q) refl where
-    go : (b : Bool) → in_one_loop d.model q ≡ b → AtJoin (join_next d q) qs
-    go true e = subst (λ x. AtJoin x qs) (sym (join_next_one d q e)) (
-      all_cross_last B p first d.left q a.0 cross,
-      subst (λ ps. Open B (now ps)) (sym (append_last d.left q qs)) a.1,
-      subst (λ ps. Parted B d.model p first S (now ps)) (sym (append_last d.left q qs)) a.2,
-    )
-    go false e = subst (λ x. AtJoin x qs) (sym (join_next_two d q e)) (
-      a.0,
-      fewer B (now (d.left ++ q ∷ qs)) (now (d.left ++ qs)) q.0 q.1 (closed_between d.left q qs) a.1,
-      pair_parted d.model q (d.taken.edge + 1) (now (d.left ++ q ∷ qs)) (now (d.left ++ qs)) w.joined fits e (edge_free M f d q qs n fits w) (edge_fits_now M f d q qs n fits w) cross a.1 (closed_between d.left q qs) a.2,
-    )
-
   pub joins_part : (d : Drawing) (qs : List (ℕ × ℕ)) (n : ℕ) → AllFit M f qs → Joining M f d qs n → AllCross B p first qs → AtJoin d qs → AtJoin (fold join_next d qs) []
-  joins_part d [] n fit w cross a = a
-  joins_part d (q ∷ qs) n fit w cross a = joins_part (join_next d q) qs n fit.1 (join_one M f d q qs n fit.0 w).1 cross.1 (join_part d q qs n fit.0 w cross.0 a)
+  joins_part d qs n fit w cross a = (joins_keep M f (λ x rs. AtJoin x rs × AllCross B p first rs)
+      (λ d q qs n fits w e a. (
+        (
+          all_cross_last B p first d.left q a.0.0 a.1.0,
+          subst (λ ps. Open B (now ps)) (sym (append_last d.left q qs)) a.0.1,
+          subst (λ ps. Parted B d.model p first S (now ps)) (sym (append_last d.left q qs)) a.0.2,
+        ),
+        a.1.1,
+      ))
+      (λ d q qs n fits w e a. (
+        (
+          a.0.0,
+          fewer B (now (d.left ++ q ∷ qs)) (now (d.left ++ qs)) q.0 q.1 (closed_between d.left q qs) a.0.1,
+          pair_parted d.model q (d.taken.edge + 1) (now (d.left ++ q ∷ qs)) (now (d.left ++ qs)) w.joined fits e (edge_free M f d q qs n fits w) (edge_fits_now M f d q qs n fits w) a.1.0 a.0.1 (closed_between d.left q qs) a.0.2,
+        ),
+        a.1.1,
+      )) d qs n fit w (a, cross)).0
 
   -- ---- second pass, where the drawing isn't stuck
 
   abbrev pub AtDraw : Drawing → List (ℕ × ℕ) → Type 0
   AtDraw d qs = Open B (now qs) × Parted B d.model p first S (now qs)
 
-  draw_part : (d : Drawing) (q : ℕ × ℕ) (qs : List (ℕ × ℕ)) (n : ℕ) (sound : Sound M) → Fits M f q → Going M f d (q ∷ qs) n → Crosses B p first q → in_one_loop d.model q ≡ true → AtDraw d (q ∷ qs) → AtDraw (draw_next f d q) qs
-  draw_part d q qs n sound fits w cross e a = subst (λ x. AtDraw x qs) (sym (draw_next_one f d q e)) (
-    fewer B (now (q ∷ qs)) (now qs) q.0 q.1 (closed_between [] q qs) a.0,
-    parted_drawn B d.model p first S q.0 q.1 (d.taken.edge + 1) (d.taken.face + 1) (d.taken.loop + 1) (now (q ∷ qs)) (now qs)
-        (pair_can M d.model f q (d.taken.edge + 1) (d.taken.face + 1) (d.taken.loop + 1) sound w.drawn fits e (edge_open M f sound d q qs n fits w) (face_open M f sound d q qs n fits w) (loop_open M f sound d q qs n fits w)
-        (edge_fits d.taken _ (room_here M f sound d q qs n fits w)) (face_fits d.taken _ (room_here M f sound d q qs n fits w)) (loop_fits d.taken _ (room_here M f sound d q qs n fits w)))
-        (opposed B p first q (now (q ∷ qs)) (now qs) cross a.0 (closed_between [] q qs)).0 a.1,
-  )
-
-  -- once stuck, the drawing stays so
-  stuck_now : (d : Drawing) → f ≢ 0 → (stuck_at f d).stuck ≢ 0
-  stuck_now d some e = elim (eqb_tells d.stuck 0) [
-    | inl s ↦ some (sym (ap (λ b. cond b f d.stuck) s.0) ∙ e)
-    | inr s ↦ s.1 (sym (ap (λ b. cond b f d.stuck) s.0) ∙ e)
-  ]
-
-  stuck_next : (d : Drawing) (q : ℕ × ℕ) → f ≢ 0 → d.stuck ≢ 0 → (draw_next f d q).stuck ≢ 0
-  stuck_next d q some is = go (in_one_loop d.model q) refl where
-    go : (b : Bool) → in_one_loop d.model q ≡ b → (draw_next f d q).stuck ≢ 0
-    go true e = subst (λ x. x.stuck ≢ 0) (sym (draw_next_one f d q e)) is
-    go false e = subst (λ x. x.stuck ≢ 0) (sym (draw_next_two f d q e)) (stuck_now d some)
-
-  stuck_on : (d : Drawing) (qs : List (ℕ × ℕ)) → f ≢ 0 → d.stuck ≢ 0 → (fold (draw_next f) d qs).stuck ≢ 0
-  stuck_on d [] some is = is
-  stuck_on d (q ∷ qs) some is = stuck_on (draw_next f d q) qs some (stuck_next d q some is)
-
   pub draws_part : (d : Drawing) (qs : List (ℕ × ℕ)) (n : ℕ) → Sound M → f ≢ 0 → AllFit M f qs → Going M f d qs n → AllCross B p first qs → (fold (draw_next f) d qs).stuck ≡ 0 → AtDraw d qs → AtDraw (fold (draw_next f) d qs) []
-  draws_part d [] n sound some fit w cross free a = a
-  draws_part d (q ∷ qs) n sound some fit w cross free a =
-      go (λ e. draws_part (draw_next f d q) qs n sound some fit.1 (draw_one M f sound d q qs n fit.0 w).1 cross.1 free (draw_part d q qs n sound fit.0 w cross.0 e a)) (in_one_loop d.model q) refl where
-        go : (in_one_loop d.model q ≡ true → AtDraw (fold (draw_next f) (draw_next f d q) qs) []) → (b : Bool) → in_one_loop d.model q ≡ b → AtDraw (fold (draw_next f) (draw_next f d q) qs) []
-        go on true e = on e
-        go on false e = absurd (stuck_on (draw_next f d q) qs some (subst (λ x. x.stuck ≢ 0) (sym (draw_next_two f d q e)) (stuck_now d some)) free)
+  draws_part d qs n sound some fit w cross free a = elim (draws_keep M f (λ x rs. (x.stuck ≢ 0) ⊎ (AtDraw x rs × AllCross B p first rs)) sound
+      (λ d q qs n fits w e a. inl (stuck_now f d some))
+      (λ d q qs n fits w e a. elim a [
+        | inl is ↦ inl is
+        | inr a ↦ inr (
+          (
+            fewer B (now (q ∷ qs)) (now qs) q.0 q.1 (closed_between [] q qs) a.0.0,
+            parted_drawn B d.model p first S q.0 q.1 (d.taken.edge + 1) (d.taken.face + 1) (d.taken.loop + 1) (now (q ∷ qs)) (now qs)
+                (can_now M f sound d q qs n fits w e) (opposed B p first q (now (q ∷ qs)) (now qs) a.1.0 a.0.0 (closed_between [] q qs)).0 a.0.1,
+          ),
+          a.1.1,
+        )
+      ]) d qs n fit w (inr (a, cross))) [ inl is ↦ absurd (is free) | inr a ↦ a.0 ]
