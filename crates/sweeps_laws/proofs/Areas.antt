@@ -7,19 +7,13 @@ use Rattle.euler_operators.specs.Conditions.{lists}
 use Rattle.euler_laws.proofs.shared.Listed.{first_listed, rest_listed}
 use Rattle.shapes.specs.Faces.{start, finish, items_in}
 use Rattle.shapes.specs.Measure.{area, normal, anchor, volume_in}
-use Rattle.euler_operators.proofs.Vectors.{moved_none, none_moved, moved_twice, add_none, none_add, add_assoc}
+use Rattle.shapes.proofs.Areas.{area-append}
+use Rattle.euler_operators.proofs.Vectors.{add_none, none_add, add_assoc}
 use Rattle.euler_operators.proofs.Sweeps.{sum_to, sum_first}
 use Rattle.euler_operators.proofs.Members.{IsIn_rest}
 use Rattle.euler_operators.proofs.Rotations.{IsIn_head}
 
 module _ (M : Model) where
-  pub area_append : (xs ys : List ℕ) → area M (xs ++ ys) ≡ moved (area M xs) (area M ys)
-  area_append [] ys = sym (none_moved (area M ys))
-  area_append (x ∷ xs) ys = ap (moved (cross (start M x) (finish M x))) (area_append xs ys) ∙ sym (moved_twice (cross (start M x) (finish M x)) (area M xs) (area M ys))
-
-  pub area_last : (xs : List ℕ) (h : ℕ) → area M (xs ++ h ∷ []) ≡ moved (area M xs) (cross (start M h) (finish M h))
-  area_last xs h = area_append xs (h ∷ []) ∙ ap (moved (area M xs)) (moved_none (cross (start M h) (finish M h)))
-
   -- the area as a sum along the places
   pub area_sum : (hs : List ℕ) → area M hs ≡ sum_to (λ i. cross (start M (get_or hs i 0)) (finish M (get_or hs i 0))) (length hs)
   area_sum [] = refl
@@ -42,9 +36,9 @@ module _ (M N : Model) where
   -- so have loops, where each has
   pub same_loops : (ls : List ℕ) → ((q : ℕ) → lists ls q ≡ true → area N (items_of (content N q)) ≡ area M (items_of (content M q))) → area N (items_in N ls) ≡ area M (items_in M ls)
   same_loops [] e = refl
-  same_loops (q ∷ ls) e = area_append N (items_of (content N q)) (items_in N ls)
+  same_loops (q ∷ ls) e = area-append N (items_of (content N q)) (items_in N ls)
       ∙ (λ i. moved (e q (first_listed q ls) i) (same_loops ls (λ k l. e k (rest_listed q k ls l)) i))
-      ∙ sym (area_append M (items_of (content M q)) (items_in M ls))
+      ∙ sym (area-append M (items_of (content M q)) (items_in M ls))
 
   -- and faces
   pub same_volumes : (ks : List ℕ) → ((k : ℕ) → lists ks k ≡ true → volume_of N k ≡ volume_of M k) → volume_in N ks ≡ volume_in M ks

@@ -31,9 +31,6 @@ four_back e = first_moved (minus (e + 1)) (minus (e + 4) ∷ minus (e + 3) ∷ m
   apart : IsApart (minus (e + 1) ∷ minus (e + 4) ∷ minus (e + 3) ∷ minus (e + 2) ∷ [])
   apart x = omega (arith, back_apart e 4 x)
 
-  above : (e i y : ℕ) → y ≡ minus (e + 1 + i) → minus (e + 1) ≤ y
-  above e i y p = omega arith
-
   low : (y : ℕ) → IsIn y (minus (e + 4) ∷ minus (e + 3) ∷ minus (e + 2) ∷ []) → minus (e + 1) ≤ y
   low y i = elim (in_cases y (minus (e + 4)) (minus (e + 3) ∷ minus (e + 2) ∷ []) i) [
     | inl p ↦ omega (arith, p)

@@ -1,8 +1,7 @@
 -- The six volumes of a block and of a lamina, and of the other solids.
-use Rattle.std.specs.Prelude.{length, get_or, nat_le, ◌-◌}
-use Rattle.std.proofs.Common.{◌≡◌, ◌≢◌, ℕ, suc, ◌+◌, ◌≤◌, ◌<◌, ℤ, pos, ◌+ℤ◌, ◌-ℤ◌, ◌*ℤ◌, true, false, nat_eq, List, [], None, is_some, refl, sym, ap, subst, ◌∙◌, arith, true≢false}
-use Rattle.std.proofs.lemmas.Bool.Decides.{nat_tests}
-use Rattle.std.proofs.lemmas.Bool.{not-true}
+use Rattle.std.specs.Prelude.{length, get_or, ◌-◌}
+use Rattle.std.proofs.Common.{◌≡◌, ℕ, suc, ◌+◌, ◌≤◌, ◌<◌, ℤ, pos, ◌+ℤ◌, ◌-ℤ◌, ◌*ℤ◌, true, false, nat_eq, List, [], None, is_some, refl, sym, ap, subst, ◌∙◌, arith, true≢false}
+use Rattle.std.proofs.lemmas.Bool.{not-true, ne_eqb, leb-true}
 use Rattle.euler_operators.specs.declared.Point.{Point}
 use Rattle.euler_operators.specs.Vectors.{dot}
 use Rattle.euler_operators.specs.Table as table
@@ -33,9 +32,7 @@ solid_free M s p dx dy dz e = not-true _ (all_hold (block_conditions M s p dx dy
 
 -- a solid that isn't there has no face
 no_faces : (M : Model) (s : ℕ) → Sound M → table.has M.solids s ≡ false → faces_of M s ≡ []
-no_faces M s sound free = all_where_none (λ _ row. nat_eq row.solid s) M.faces (λ k row at. other row.solid s (λ e. true≢false (sym (sound.faces_of_solids k (ap is_some at)) ∙ ap (table.has M.solids) (solid_row M k row at ∙ e) ∙ free))) where
-  other : (a b : ℕ) → a ≢ b → nat_eq a b ≡ false
-  other a b ne = grind (arith, nat_tests)
+no_faces M s sound free = all_where_none (λ _ row. nat_eq row.solid s) M.faces (λ k row at. ne_eqb row.solid s (λ e. true≢false (sym (sound.faces_of_solids k (ap is_some at)) ∙ ap (table.has M.solids) (solid_row M k row at ∙ e) ∙ free)))
 
 block_is : (M : Model) (s : ℕ) (p : Point) (dx dy dz : ℤ) → block_model M s p dx dy dz ≡ prism_model (lamina_at M (taken_in M) s (base_of p dx dy)) ((taken_in M).face + 1) (vector (pos 0) (pos 0) dz)
 unfolding block_model lamina_model
@@ -68,10 +65,7 @@ block_volume M s p dx dy dz sound e =
 -- a lamina has three points or more, and its solid is new
 lamina_new : (M : Model) (s : ℕ) (ps : List Point) → lamina_refusal M s ps ≡ None → (length ps ≡ suc (suc (suc (length ps - 3)))) × (table.has M.solids s ≡ false)
 unfolding lamina_conditions
-lamina_new M s ps e = let w = all_hold (lamina_conditions M s ps) e in (more (length ps) (three (length ps) w.1.1.0), not-true _ w.1.0) where
-  three : (n : ℕ) → nat_le 3 n ≡ true → 3 ≤ n
-  three n e = grind (arith, nat_tests)
-
+lamina_new M s ps e = let w = all_hold (lamina_conditions M s ps) e in (more (length ps) (leb-true 3 (length ps) w.1.1.0), not-true _ w.1.0) where
   more : (n : ℕ) → 3 ≤ n → n ≡ suc (suc (suc (n - 3)))
   more n l = omega (arith, l)
 

@@ -35,27 +35,20 @@ place_inner : (next : ℕ → ℕ) (xs : List ℕ) (e i : ℕ) → IsPath next x
 place_inner next [] e i p l = absurd (omega arith)
 place_inner next (x ∷ []) e i p l = absurd (omega arith)
 place_inner next (x ∷ y ∷ ys) e zero p l = p.0
-place_inner next (x ∷ y ∷ ys) e (suc i) p l = place_inner next (y ∷ ys) e i p.1 (less i (length ys) l) where
-  less : (i n : ℕ) → suc (suc i) < suc (suc n) → suc i < suc n
-  less i n l = omega arith
+place_inner next (x ∷ y ∷ ys) e (suc i) p l = place_inner next (y ∷ ys) e i p.1 (omega (arith, l))
 
 place_last : (next : ℕ → ℕ) (xs : List ℕ) (e i : ℕ) → IsPath next xs e → suc i ≡ length xs → next (get_or xs i 0) ≡ e
 place_last next [] e i p l = absurd (omega arith)
 place_last next (x ∷ []) e zero p l = p.0
 place_last next (x ∷ []) e (suc i) p l = absurd (omega arith)
 place_last next (x ∷ y ∷ ys) e zero p l = absurd (omega arith)
-place_last next (x ∷ y ∷ ys) e (suc i) p l = place_last next (y ∷ ys) e i p.1 (less i (length ys) l) where
-  less : (i n : ℕ) → suc (suc i) ≡ suc (suc n) → suc i ≡ suc n
-  less i n l = omega arith
+place_last next (x ∷ y ∷ ys) e (suc i) p l = place_last next (y ∷ ys) e i p.1 (omega (arith, l))
 
 place_next : (next : ℕ → ℕ) (xs : List ℕ) (i : ℕ) → IsRing next xs → i < length xs → next (get_or xs i 0) ≡ get_or xs (next_place (length xs) i) 0
 place_next next xs i r l = elim (next_cases (length xs) i) [
-  | inl p ↦ place_last next xs (head_or 0 xs) i r (one i (length xs) p.0) ∙ head_is xs ∙ ap (λ k. get_or xs k 0) (sym p.1)
+  | inl p ↦ place_last next xs (head_or 0 xs) i r (omega (arith, p.0)) ∙ head_is xs ∙ ap (λ k. get_or xs k 0) (sym p.1)
   | inr p ↦ place_inner next xs (head_or 0 xs) i r (inner i (length xs) l p.0) ∙ ap (λ k. get_or xs k 0) (same i ∙ sym p.1)
 ] where
-  one : (i n : ℕ) → i + 1 ≡ n → suc i ≡ n
-  one i n e = omega arith
-
   inner : (i n : ℕ) → i < n → i + 1 ≢ n → suc i < n
   inner i n l ne = grind arith
 

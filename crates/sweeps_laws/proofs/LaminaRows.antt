@@ -1,7 +1,6 @@
 -- The rows of a lamina: its two faces and their loops.
 use Rattle.std.specs.Prelude.{length, map, reverse}
-use Rattle.std.proofs.Common.{◌≡◌, ◌≢◌, ℕ, ◌+◌, ◌≤◌, Bool, true, cond, not, nat_eq, ◌&&◌, List, [], ◌∷◌, ◌++◌, Some, is_some, sym, ap, subst, ◌∙◌, arith, ◌⊎◌, inl, inr, None}
-use Rattle.std.proofs.lemmas.Bool.Decides.{nat_tests}
+use Rattle.std.proofs.Common.{◌≡◌, ◌≢◌, ℕ, ◌+◌, ◌≤◌, Bool, cond, not, nat_eq, ◌&&◌, List, [], ◌∷◌, ◌++◌, Some, is_some, sym, ap, subst, ◌∙◌, arith, ◌⊎◌, inl, inr, None}
 use Rattle.euler_operators.specs.declared.Point.{Point}
 use Rattle.euler_operators.specs.Rings.{canonical}
 use Rattle.euler_operators.specs.HalfEdge.{plus, minus}
@@ -10,13 +9,13 @@ use Rattle.euler_operators.specs.Model.{Model, cycle, FaceRow, LoopRow, outer, s
 use Rattle.euler_operators.specs.Sound.{Has}
 use Rattle.euler_operators.proofs.Tables.{all_where_none, first_where_zero, get-put_here, get-put_other}
 use Rattle.euler_operators.proofs.Models.{face_row, solid_row, outer_row}
-use Rattle.euler_operators.proofs.Tests.{none_but}
+use Rattle.euler_operators.proofs.Tests.{none_but, nat_eq_itself}
 use Rattle.euler_operators.specs.Conditions.{is_lone, lists}
 use Rattle.shapes.specs.Faces.{least_lone}
 use Rattle.shapes.specs.Fresh.{Taken, numbers_after, found}
 use Rattle.shapes.specs.Lamina.{lamina_at}
 use Rattle.shapes.proofs.fresh.Rows.{get-put_cases, all_where-put_last, greatest-put_last}
-use Rattle.sweeps_laws.proofs.lamina.Blocks.{no_lone}
+use Rattle.sweeps_laws.proofs.lamina.Blocks.{one_or_two, low_not_one, no_lone}
 use Rattle.sweeps_laws.proofs.swept.Lifted.{Bounded}
 
 one_two : (a : ℕ) → a + 1 ≢ a + 2
@@ -69,25 +68,17 @@ module _ (M : Model) (c : Taken) (s : ℕ) (ps : List Point) where
 
     pub rings_one : rings_of drawn (c.face + 1) ≡ []
     rings_one = all_where_none (λ q row. nat_eq row.face (c.face + 1) && not (nat_eq (outer drawn (c.face + 1)) q)) drawn.loops (λ q y at. none_but y.face (c.face + 1) (outer drawn (c.face + 1)) q (λ e. elim (loop_cases q y at) [
-      | inl p ↦ absurd (other c.face y.face (ap (λ r. r.face) p.1) e)
+      | inl p ↦ absurd (one_or_two c.face y.face e (ap (λ r. r.face) p.1))
       | inr (inl p) ↦ outer_row drawn (c.face + 1) first_face face_one ∙ sym p.0
-      | inr (inr p) ↦ absurd (low c.face y.face p e)
-    ])) where
-      other : (k g : ℕ) → g ≡ k + 2 → g ≡ k + 1 → ⊥
-      other k g p e = absurd (omega arith)
-
-      low : (k g : ℕ) → g ≤ k → g ≡ k + 1 → ⊥
-      low k g p e = absurd (omega arith)
+      | inr (inr p) ↦ absurd (low_not_one c.face y.face p e)
+    ]))
 
     pub rings_two : rings_of drawn (c.face + 2) ≡ []
     rings_two = all_where_none (λ q row. nat_eq row.face (c.face + 2) && not (nat_eq (outer drawn (c.face + 2)) q)) drawn.loops (λ q y at. none_but y.face (c.face + 2) (outer drawn (c.face + 2)) q (λ e. elim (loop_cases q y at) [
       | inl p ↦ outer_row drawn (c.face + 2) second_face face_two ∙ sym p.0
-      | inr (inl p) ↦ absurd (other c.face y.face (ap (λ r. r.face) p.1) e)
+      | inr (inl p) ↦ absurd (one_or_two c.face y.face (ap (λ r. r.face) p.1) e)
       | inr (inr p) ↦ absurd (low c.face y.face p e)
     ])) where
-      other : (k g : ℕ) → g ≡ k + 1 → g ≡ k + 2 → ⊥
-      other k g p e = absurd (omega arith)
-
       low : (k g : ℕ) → g ≤ k → g ≡ k + 2 → ⊥
       low k g p e = absurd (omega arith)
 
@@ -96,10 +87,8 @@ module _ (M : Model) (c : Taken) (s : ℕ) (ps : List Point) where
     none_lone = ap found (first_where_zero (λ _ row. is_lone row.content && lists ((c.face + 1) ∷ []) row.face) drawn.loops (λ q y at. elim (loop_cases q y at) [
       | inl p ↦ ap (λ r. is_lone r.content && lists ((c.face + 1) ∷ []) r.face) p.1
       | inr (inl p) ↦ ap (λ r. is_lone r.content && lists ((c.face + 1) ∷ []) r.face) p.1
-      | inr (inr p) ↦ no_lone (is_lone y.content) (c.face + 1) y.face (above c.face y.face p)
-    ])) where
-      above : (k g : ℕ) → g ≤ k → k + 1 ≢ g
-      above k g p e = absurd (omega arith)
+      | inr (inr p) ↦ no_lone (is_lone y.content) (c.face + 1) y.face (λ e. low_not_one c.face y.face p (sym e))
+    ]))
 
     -- a search of the faces, and of the loops
     pub faces_found : (p : ℕ → FaceRow → Bool) → table.all_where p drawn.faces ≡ (table.all_where p M.faces ++ cond (p (c.face + 1) first_face) ((c.face + 1) ∷ []) []) ++ cond (p (c.face + 2) second_face) ((c.face + 2) ∷ []) []
@@ -117,6 +106,4 @@ module _ (M : Model) (c : Taken) (s : ℕ) (ps : List Point) where
     -- the faces of a solid that was not there
     pub faces_are : faces_of M s ≡ [] → faces_of drawn s ≡ (c.face + 1) ∷ (c.face + 2) ∷ []
     faces_are none = faces_found (λ _ row. nat_eq row.solid s)
-        ∙ (λ i. (none i ++ cond (same s i) ((c.face + 1) ∷ []) []) ++ cond (same s i) ((c.face + 2) ∷ []) []) where
-          same : (n : ℕ) → nat_eq n n ≡ true
-          same n = grind (arith, nat_tests)
+        ∙ (λ i. (none i ++ cond (nat_eq_itself s i) ((c.face + 1) ∷ []) []) ++ cond (nat_eq_itself s i) ((c.face + 2) ∷ []) [])

@@ -9,10 +9,9 @@ use Rattle.euler_operators.specs.Items.{count, IsIn, IsApart, head_or}
 use Rattle.euler_operators.specs.Rings.{canonical}
 use Rattle.euler_operators.specs.HalfEdge.{mate, plus, minus}
 use Rattle.euler_operators.specs.Table as table
-use Rattle.euler_operators.specs.Table.{Table}
-use Rattle.euler_operators.specs.Model.{Model, EdgeRow, cycle, no_point, items_of, tail, content, outer, point_of, faces_of}
+use Rattle.euler_operators.specs.Model.{Model, cycle, no_point, items_of, tail, content, outer, point_of, faces_of}
 use Rattle.euler_operators.specs.Conditions.{lists}
-use Rattle.euler_operators.proofs.Tables.{get-put_here, get-put_other}
+use Rattle.euler_operators.proofs.Tables.{get-put_other}
 use Rattle.euler_operators.proofs.Models.{content_row, outer_row, point_row, plus_tail_row, minus_tail_row}
 use Rattle.euler_operators.proofs.Halves.{mate_plus}
 use Rattle.euler_operators.proofs.Lists.{count-append, tick_same, tick_other}
@@ -21,13 +20,14 @@ use Rattle.euler_operators.proofs.Members.{IsIn-map}
 use Rattle.euler_laws.proofs.shared.Listed.{listed-from_in}
 use Rattle.shapes.specs.Faces.{items_in, vertices_in, vertices_on, corners, loops_of}
 use Rattle.shapes.specs.Fresh.{Taken, numbers_after}
-use Rattle.shapes.specs.Lamina.{with_points, with_path}
+use Rattle.shapes.specs.Lamina.{with_path}
 use Rattle.shapes.specs.Measure.{area, normal, anchor, first_vertex, is_flat, volume_in, six_volume}
 use Rattle.shapes.specs.Vectors.{negated}
 use Rattle.shapes.proofs.measures.Sums.{dot_back, area_same, area_back}
 use Rattle.shapes.proofs.measures.FlatFaces.{corner_told}
 use Rattle.sweeps_laws.specs.lamina.Path.{out, back}
 use Rattle.sweeps_laws.proofs.lamina.Lists.{out_first, plus_halves, minus_halves, back_apart, first_moved, canonical_first}
+use Rattle.sweeps_laws.proofs.lamina.Blocks.{path_new, points_new}
 use Rattle.sweeps_laws.proofs.LaminaRows as rows
 use Rattle.sweeps_laws.proofs.swept.Lifted.{Bounded}
 use Rattle.sweeps_laws.proofs.Loops.{normal_is}
@@ -63,29 +63,6 @@ mates (e ∷ es) = λ i. sym (mate_plus e) i ∷ mates es i
 second_in : (e j : ℕ) → IsIn (plus (e + 2)) (out e (suc (suc j)))
 second_in e zero = omega (arith, count-append (plus (e + 2)) (out e 1) (plus (e + 2) ∷ []), tick_same (plus (e + 2)))
 second_in e (suc j) = omega (arith, count-append (plus (e + 2)) (out e (suc (suc j))) (plus (e + suc (suc (suc j))) ∷ []), second_in e j)
-
--- ---- rows put one after the other
-
-other_place : (a i j : ℕ) → i ≢ j → a + suc i ≢ a + suc j
-other_place a i j ne e = ne (omega arith)
-
-less_still : (i j : ℕ) → i < suc j → i ≢ j → i < j
-less_still i j l ne = grind arith
-
-path_new : (t : Table EdgeRow) (e v j i : ℕ) → i < j → table.get (with_path t e v j) (e + suc i) ≡ Some (record { plus_tail = v + suc i; minus_tail = v + suc i + 1 })
-path_new t e v zero i l = absurd (omega arith)
-path_new t e v (suc j) i l = elim (eqb_tells i j) [
-  | inl p ↦ subst (λ k. table.get (with_path t e v (suc j)) (e + suc k) ≡ Some (record { plus_tail = v + suc k; minus_tail = v + suc k + 1 })) (sym p.1)
-      (get-put_here (with_path t e v j) (e + suc j) (record { plus_tail = v + suc j; minus_tail = v + suc j + 1 }))
-  | inr p ↦ get-put_other (with_path t e v j) (e + suc j) (record { plus_tail = v + suc j; minus_tail = v + suc j + 1 }) (e + suc i) (other_place e i j p.1) ∙ path_new t e v j i (less_still i j l p.1)
-]
-
-points_new : (t : Table Point) (v : ℕ) (ps : List Point) (j i : ℕ) → i < j → table.get (with_points t v ps j) (v + suc i) ≡ Some (get_or ps i no_point)
-points_new t v ps zero i l = absurd (omega arith)
-points_new t v ps (suc j) i l = elim (eqb_tells i j) [
-  | inl p ↦ subst (λ k. table.get (with_points t v ps (suc j)) (v + suc k) ≡ Some (get_or ps k no_point)) (sym p.1) (get-put_here (with_points t v ps j) (v + suc j) (get_or ps j no_point))
-  | inr p ↦ get-put_other (with_points t v ps j) (v + suc j) (get_or ps j no_point) (v + suc i) (other_place v i j p.1) ∙ points_new t v ps j i (less_still i j l p.1)
-]
 
 difference : (m n : ℤ) → m +ℤ (neg_ℤ n +ℤ pos 0) ≡ m -ℤ n
 difference m n = omega (arith, ints)

@@ -2,6 +2,7 @@
 use Rattle.std.specs.Prelude.{length, get_or, ◌-◌}
 use Rattle.std.proofs.Common.{◌≡◌, ◌≢◌, ℕ, zero, suc, ◌+◌, ◌≤◌, ◌<◌, Bool, false, cond, not, nat_eq, ◌&&◌, List, [], ◌∷◌, ◌++◌, unwrap_or, refl, sym, ap, ◌∙◌, arith, append-nil}
 use Rattle.std.proofs.lemmas.Bool.Decides.{nat_tests}
+use Rattle.std.proofs.lemmas.Bool.{ne_eqb}
 use Rattle.euler_operators.specs.declared.Point.{Point}
 use Rattle.euler_operators.specs.Vectors.{dot}
 use Rattle.euler_operators.specs.HalfEdge.{edge_of, is_first}
@@ -107,8 +108,6 @@ module _ (M : Model) (c : Taken) (s : ℕ) (ps : List Point) (some : 0 < length 
     -- every other solid keeps its six volumes
     pub lamina_keeps : (u : ℕ) → u ≢ s → six_volume drawn u ≡ six_volume M u
     lamina_keeps u ne = six_volume_is drawn u
-        ∙ ap (volume_in drawn) (rows.faces_found M c s ps b (λ _ row. nat_eq row.solid u) ∙ none_found (faces_of M u) (c.face + 1) (c.face + 2) _ _ (other s u ne) (other s u ne))
+        ∙ ap (volume_in drawn) (rows.faces_found M c s ps b (λ _ row. nat_eq row.solid u) ∙ none_found (faces_of M u) (c.face + 1) (c.face + 2) _ _ (ne_eqb s u (λ e. ne (sym e))) (ne_eqb s u (λ e. ne (sym e))))
         ∙ same_volumes M drawn (faces_of M u) (λ k i. let p = face_within M c b u k i in λ t. dot (anchor_kept k p.0 t) (normal_kept k p.0 t))
-        ∙ sym (six_volume_is M u) where
-          other : (a b : ℕ) → b ≢ a → nat_eq a b ≡ false
-          other a b ne = grind (arith, nat_tests)
+        ∙ sym (six_volume_is M u)

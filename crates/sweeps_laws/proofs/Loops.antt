@@ -21,7 +21,8 @@ use Rattle.euler_operators.proofs.Sweeps.{sum_to, moved_at, area_at, moved_ring,
 use Rattle.euler_operators.proofs.Rotations.{IsIn_head}
 use Rattle.euler_operators.proofs.Halves.{mate_plus, mate_minus}
 use Rattle.sweeps_laws.proofs.swept.Numbers.{next_cases}
-use Rattle.sweeps_laws.proofs.Areas.{area_last, area_sum, same_area, same_loops, same_volumes, volume_of}
+use Rattle.shapes.proofs.Areas.{area_push}
+use Rattle.sweeps_laws.proofs.Areas.{area_sum, same_area, same_loops, same_volumes, volume_of}
 use Rattle.sweeps_laws.proofs.swept.Sides.{Keeps, start_kept, finish_kept}
 use Rattle.sweeps_laws.proofs.swept.Lifted.{Bounded, IsPathOf, swept, keeps_swept, outer_new, content_here, content_old, content_new, outer_old, rings_old, rings_new, from_point, to_point, riser_start, riser_finish, top_start, top_finish, next_start, next_finish, item_start, item_finish}
 use Rattle.sweeps_laws.proofs.prism.Loops.{tops_head}
@@ -106,19 +107,13 @@ module _ (M : Model) (c : Taken) (s : ℕ) (d : Point) (hs : List ℕ) (f l : �
 
   tops_area : (k : ℕ) → k ≤ length hs → area after (top_items c.edge (length hs) k) ≡ sum_to (moved_at from_at to_at d) k
   tops_area zero m = refl
-  tops_area (suc k) m = area_last after (top_items c.edge (length hs) k) (plus (top_edge c.edge (length hs) k))
-      ∙ (λ t. moved (tops_area k (before k (length hs) m) t) (cross (top_start M c s d hs f l b r k m t) (over k m t))) where
-        before : (k n : ℕ) → suc k ≤ n → k ≤ n
-        before k n m = omega arith
-
+  tops_area (suc k) m = area_push after (top_items c.edge (length hs) k) (plus (top_edge c.edge (length hs) k))
+      ∙ (λ t. moved (tops_area k (omega (arith, m)) t) (cross (top_start M c s d hs f l b r k m t) (over k m t))) where
         over : (k : ℕ) (m : k < length hs) → finish after (plus (top_edge c.edge (length hs) k)) ≡ moved (to_at k) d
         over k m = ap (start after) (mate_plus (top_edge c.edge (length hs) k)) ∙ top_finish M c s d hs f l b r k m
 
   path_linked : Linked from_at to_at d (length hs)
-  path_linked i m = r.linked i (before i (length hs) m) ∙ ap from_at (elim (next_cases (length hs) i) [ inl e ↦ absurd (last i (length hs) m e.0) | inr e ↦ e.1 ∙ more i ]) where
-    before : (i n : ℕ) → suc i < n → i < n
-    before i n m = omega arith
-
+  path_linked i m = r.linked i (omega (arith, m)) ∙ ap from_at (elim (next_cases (length hs) i) [ inl e ↦ absurd (last i (length hs) m e.0) | inr e ↦ e.1 ∙ more i ]) where
     last : (i n : ℕ) → suc i < n → i + 1 ≡ n → ⊥
     last i n m e = absurd (omega arith)
 
@@ -126,17 +121,10 @@ module _ (M : Model) (c : Taken) (s : ℕ) (d : Point) (hs : List ℕ) (f l : �
     more i = omega arith
 
   path_closed : (m : ℕ) → suc m ≡ length hs → to_at m ≡ from_at 0
-  path_closed m e = r.linked m (before m (length hs) e) ∙ ap from_at (elim (next_cases (length hs) m) [ inl p ↦ p.1 | inr p ↦ absurd (p.0 (last m (length hs) e)) ]) where
-    before : (m n : ℕ) → suc m ≡ n → m < n
-    before m n e = omega arith
-
-    last : (m n : ℕ) → suc m ≡ n → m + 1 ≡ n
-    last m n e = omega arith
+  path_closed m e = r.linked m (omega (arith, e)) ∙ ap from_at (elim (next_cases (length hs) m) [ inl p ↦ p.1 | inr p ↦ absurd (p.0 (omega (arith, e))) ])
 
   pub area_lifted : area after (top_items c.edge (length hs) (length hs)) ≡ area M hs
-  area_lifted = tops_area (length hs) (all (length hs)) ∙ ring_moved from_at to_at d (length hs) r.some_item path_linked path_closed ∙ sym (area_sum M hs) where
-    all : (n : ℕ) → n ≤ n
-    all n = omega arith
+  area_lifted = tops_area (length hs) (omega arith) ∙ ring_moved from_at to_at d (length hs) r.some_item path_linked path_closed ∙ sym (area_sum M hs)
 
   pub loop_area : (q : ℕ) → q ≤ c.loop → area after (items_of (content after q)) ≡ area M (items_of (content M q))
   loop_area q m = elim (eqb_tells q l) [

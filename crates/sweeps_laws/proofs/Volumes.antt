@@ -1,7 +1,7 @@
 -- One loop of a face swept: what the six volumes grow by.
-use Rattle.std.proofs.Common.{◌≡◌, ◌≢◌, ℕ, zero, suc, ◌+◌, ◌≤◌, pos, ◌+ℤ◌, ◌*ℤ◌, Bool, true, false, cond, nat_eq, List, [], ◌∷◌, ◌++◌, length, is_some, refl, sym, ap, ◌∙◌, arith, inl, inr}
-use Rattle.std.proofs.lemmas.Bool.Decides.{nat_tests, eqb_tells}
-use Rattle.std.proofs.lemmas.Bool.{eqb-true}
+use Rattle.std.proofs.Common.{◌≡◌, ◌≢◌, ℕ, zero, suc, ◌+◌, ◌≤◌, pos, ◌+ℤ◌, ◌*ℤ◌, Bool, true, cond, nat_eq, List, [], ◌∷◌, ◌++◌, length, is_some, refl, sym, ap, ◌∙◌, arith, inl, inr}
+use Rattle.std.proofs.lemmas.Bool.Decides.{eqb_tells}
+use Rattle.std.proofs.lemmas.Bool.{eqb-true, eq-eqb, ne_eqb}
 use Rattle.euler_operators.specs.declared.Point.{Point}
 use Rattle.euler_operators.specs.Vectors.{dot}
 use Rattle.euler_operators.specs.Table as table
@@ -16,6 +16,7 @@ use Rattle.shapes.specs.Measure.{area, normal, volume_in, six_volume}
 use Rattle.shapes.proofs.fresh.Rows.{at_most_greatest}
 use Rattle.euler_operators.proofs.Vectors.{add_none, add_assoc}
 use Rattle.euler_operators.proofs.Sweeps.{total_to, same_total, area_at, sides_volume}
+use Rattle.euler_operators.proofs.Tests.{nat_eq_itself}
 use Rattle.sweeps_laws.proofs.swept.Filled.{filled, filled_search, filled_none}
 use Rattle.sweeps_laws.proofs.Areas.{area_sum, volume_of, volume_last}
 use Rattle.sweeps_laws.proofs.swept.Sides.{side_face, faces_grown}
@@ -43,12 +44,10 @@ module _ (M : Model) (c : Taken) (s : ℕ) (d : Point) (hs : List ℕ) (f l : �
   sides_after : (n : ℕ) → volume_in after (table.all_where of_solid (filled M.faces c.face (side_face M c s d hs) n)) ≡ volume_in after (faces_of M s) +ℤ total_to (λ i. volume_of after (c.face + 1 + i)) n
   sides_after zero = sym (add_none (volume_in after (faces_of M s)))
   sides_after (suc n) = ap (volume_in after) (filled_search M.faces c.face (side_face M c s d hs) b.faces of_solid n
-      ∙ ap (λ t. table.all_where of_solid (filled M.faces c.face (side_face M c s d hs) n) ++ cond t ((c.face + 1 + n) ∷ []) []) (same s))
+      ∙ ap (λ t. table.all_where of_solid (filled M.faces c.face (side_face M c s d hs) n) ++ cond t ((c.face + 1 + n) ∷ []) []) (nat_eq_itself s))
       ∙ volume_last after (table.all_where of_solid (filled M.faces c.face (side_face M c s d hs) n)) (c.face + 1 + n)
       ∙ ap (λ v. v +ℤ volume_of after (c.face + 1 + n)) (sides_after n)
-      ∙ add_assoc (volume_in after (faces_of M s)) (total_to (λ i. volume_of after (c.face + 1 + i)) n) (volume_of after (c.face + 1 + n)) where
-        same : (n : ℕ) → nat_eq n n ≡ true
-        same n = grind (arith, nat_tests)
+      ∙ add_assoc (volume_in after (faces_of M s)) (total_to (λ i. volume_of after (c.face + 1 + i)) n) (volume_of after (c.face + 1 + n))
 
   sides_add : total_to (λ i. volume_of after (c.face + 1 + i)) (length hs) ≡ pos 2 *ℤ dot (area M hs) d
   sides_add = same_total (λ i. volume_of after (c.face + 1 + i)) (λ i. pos 2 *ℤ dot (area_at (from_at M c s d hs f l b r) (to_at M c s d hs f l b r) d i) d) (length hs) (side_is M c s d hs f l b r)
@@ -69,23 +68,17 @@ module _ (M : Model) (c : Taken) (s : ℕ) (d : Point) (hs : List ℕ) (f l : �
   -- an outer loop swept
   pub outer_adds : outer M f ≡ l → Has M.faces f → solid_of M f ≡ s → six_volume after s ≡ (six_volume M s +ℤ dot d (normal M f)) +ℤ pos 2 *ℤ dot (area M hs) d
   outer_adds e there of = volume_after ∙ ap (λ v. v +ℤ pos 2 *ℤ dot (area M hs) d)
-      (faces_moved M c s d hs f l b r (faces_of M s) (all_where-rises of_solid M.faces) (passes_listed of_solid M.faces f (record { solid = solid_of M f; outer = outer M f }) (face_there M f there) (equal (solid_of M f) s of)) e each
+      (faces_moved M c s d hs f l b r (faces_of M s) (all_where-rises of_solid M.faces) (passes_listed of_solid M.faces f (record { solid = solid_of M f; outer = outer M f }) (face_there M f there) (eq-eqb (solid_of M f) s of)) e each
       ∙ ap (λ v. v +ℤ dot d (normal M f)) (sym (six_volume_is M s))) where
-        equal : (a b : ℕ) → a ≡ b → nat_eq a b ≡ true
-        equal a b e = grind (arith, nat_tests)
-
         each : (k : ℕ) → lists (faces_of M s) k ≡ true → (k ≤ c.face) × (k ≢ f → outer M k ≢ l)
         each k i = let p = face_within M c b s k i in (p.0, other_outer k p.1)
 
   -- another solid than that of the face
   pub others_kept : (u : ℕ) → u ≢ s → solid_of M f ≡ s → six_volume after u ≡ six_volume M u
   others_kept u ne of = six_volume_is after u ∙ ap (volume_in after) faces_same ∙ faces_kept M c s d hs f l b r (faces_of M u) each ∙ sym (six_volume_is M u) where
-    other : (a b : ℕ) → b ≢ a → nat_eq a b ≡ false
-    other a b ne = grind (arith, nat_tests)
-
     faces_same : faces_of after u ≡ faces_of M u
     faces_same = ap (table.all_where (λ _ row. nat_eq row.solid u)) (faces_grown M c s d hs (length hs))
-        ∙ filled_none M.faces c.face (side_face M c s d hs) b.faces (λ _ row. nat_eq row.solid u) (length hs) (λ i. other s u ne)
+        ∙ filled_none M.faces c.face (side_face M c s d hs) b.faces (λ _ row. nat_eq row.solid u) (length hs) (λ i. ne_eqb s u (λ e. ne (sym e)))
 
     each : (k : ℕ) → lists (faces_of M u) k ≡ true → (k ≤ c.face) × (outer M k ≢ l)
     each k i = let p = face_within M c b u k i in (p.0, other_outer k p.1 (λ e. ne (sym p.2 ∙ ap (solid_of M) e ∙ of)))

@@ -13,7 +13,7 @@ use Rattle.shapes.specs.Fresh.{Taken, Growing, growing, taken_in}
 use Rattle.shapes.specs.Prism.{raised, prism_from, prism_model}
 use Rattle.shapes.specs.Measure.{area, normal, six_volume}
 use Rattle.euler_operators.proofs.Vectors.{dot_moved, dot_origin, dot_turned, twice_sum, three_times, add_none, add_assoc}
-use Rattle.sweeps_laws.proofs.Areas.{area_append}
+use Rattle.shapes.proofs.Areas.{area-append}
 use Rattle.sweeps_laws.proofs.swept.Lifted.{Bounded, IsPathOf, swept, within}
 use Rattle.sweeps_laws.proofs.Loops.{normal_is, loops_area}
 use Rattle.sweeps_laws.proofs.Volumes.{ring_adds, outer_adds, others_kept}
@@ -45,7 +45,7 @@ module _ (f : ℕ) (d : Point) (s : ℕ) where
       (v +ℤ pos 2 *ℤ dot (area M (items_of (content M l))) d) +ℤ pos 2 *ℤ dot (area M (items_in M ls)) d ≡ v +ℤ pos 2 *ℤ dot (area M (items_in M (l ∷ ls))) d
   both M l ls v = add_assoc v (pos 2 *ℤ dot (area M (items_of (content M l))) d) (pos 2 *ℤ dot (area M (items_in M ls)) d)
       ∙ ap (λ x. v +ℤ x) (sym (twice_sum (dot (area M (items_of (content M l))) d) (dot (area M (items_in M ls)) d))
-      ∙ ap (λ x. pos 2 *ℤ x) (sym (dot_moved (area M (items_of (content M l))) (area M (items_in M ls)) d) ∙ ap (λ a. dot a d) (sym (area_append M (items_of (content M l)) (items_in M ls)))))
+      ∙ ap (λ x. pos 2 *ℤ x) (sym (dot_moved (area M (items_of (content M l))) (area M (items_in M ls)) d) ∙ ap (λ a. dot a d) (sym (area-append M (items_of (content M l)) (items_in M ls)))))
 
   after_least : (l : ℕ) (ls : List ℕ) → strictly_rises (l ∷ ls) ≡ true → (q : ℕ) → lists ls q ≡ true → q ≢ l
   after_least l ls up q i = greater l q (rises_apart l q ls up i) where

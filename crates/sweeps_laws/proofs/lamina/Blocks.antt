@@ -2,7 +2,7 @@
 use Rattle.std.specs.Prelude.{length, get_or, map, reverse, int_le}
 use Rattle.std.specs.Ordering.{int_eq}
 use Rattle.std.specs.Cmp.{signed_Decides}
-use Rattle.std.proofs.Common.{◌≡◌, ◌≢◌, ℕ, zero, suc, ◌+◌, ◌*◌, ◌≤◌, ◌<◌, ℤ, pos, negsuc, ◌+ℤ◌, Bool, true, false, cond, not, nat_eq, nat_le, ◌&&◌, ◌||◌, List, [], ◌∷◌, ◌++◌, Some, None, is_some, unwrap_or, refl, sym, ap, ◌∙◌, arith, true≢false, ◌⊎◌, inl, inr, Option}
+use Rattle.std.proofs.Common.{◌≡◌, ◌≢◌, ℕ, zero, suc, ◌+◌, ◌*◌, ◌≤◌, ◌<◌, ℤ, pos, negsuc, ◌+ℤ◌, Bool, true, false, cond, not, nat_eq, nat_le, ◌&&◌, ◌||◌, List, [], ◌∷◌, ◌++◌, Some, None, is_some, unwrap_or, refl, sym, ap, ◌∙◌, subst, arith, true≢false, ◌⊎◌, inl, inr, Option}
 use Rattle.std.proofs.lemmas.Bool.Decides.{nat_tests, eqb_tells}
 use Rattle.std.proofs.lemmas.Int.{ints}
 use Rattle.euler_operators.specs.declared.Point.{Point}
@@ -155,25 +155,36 @@ blocks_have_bases M s p dx dy dz e =
 
 -- ---- the tables of a lamina
 
+-- the first two numbers above k are different, and above all up to k
+pub one_or_two : (k n : ℕ) → n ≡ k + 1 → n ≡ k + 2 → ⊥
+one_or_two k n a b = absurd (omega arith)
+
+pub low_not_one : (k n : ℕ) → n ≤ k → n ≡ k + 1 → ⊥
+low_not_one k n a b = absurd (omega arith)
+
 apart_by : (e i j : ℕ) → i ≢ j → e + suc i ≢ e + suc j
 apart_by e i j ne q = ne (omega arith)
 
 edge_row_at : ℕ → ℕ → EdgeRow
 edge_row_at v i = record { plus_tail = v + suc i; minus_tail = v + suc i + 1 }
 
-path_row : (t : Table EdgeRow) (e v j i : ℕ) → i < j → table.get (with_path t e v j) (e + suc i) ≡ Some (edge_row_at v i)
-unfolding edge_row_at
-path_row t e v zero i l = absurd (omega (arith, l))
-path_row t e v (suc j) i l = elim (eqb_tells i j) [
-  | inl p ↦ ap (λ k. table.get (with_path t e v (suc j)) (e + suc k)) p.1 ∙ get-put_here (with_path t e v j) (e + suc j) (edge_row_at v j) ∙ ap (λ k. Some (edge_row_at v k)) (sym p.1)
-  | inr p ↦ get-put_other (with_path t e v j) (e + suc j) (edge_row_at v j) (e + suc i) (apart_by e i j p.1) ∙ path_row t e v j i (less_still i j l p.1)
+pub path_new : (t : Table EdgeRow) (e v j i : ℕ) → i < j → table.get (with_path t e v j) (e + suc i) ≡ Some (record { plus_tail = v + suc i; minus_tail = v + suc i + 1 })
+path_new t e v zero i l = absurd (omega arith)
+path_new t e v (suc j) i l = elim (eqb_tells i j) [
+  | inl p ↦ subst (λ k. table.get (with_path t e v (suc j)) (e + suc k) ≡ Some (record { plus_tail = v + suc k; minus_tail = v + suc k + 1 })) (sym p.1)
+      (get-put_here (with_path t e v j) (e + suc j) (record { plus_tail = v + suc j; minus_tail = v + suc j + 1 }))
+  | inr p ↦ get-put_other (with_path t e v j) (e + suc j) (record { plus_tail = v + suc j; minus_tail = v + suc j + 1 }) (e + suc i) (apart_by e i j p.1) ∙ path_new t e v j i (less_still i j l p.1)
 ]
 
-point_row : (t : Table Point) (v : ℕ) (ps : List Point) (j i : ℕ) → i < j → table.get (with_points t v ps j) (v + suc i) ≡ Some (get_or ps i no_point)
-point_row t v ps zero i l = absurd (omega (arith, l))
-point_row t v ps (suc j) i l = elim (eqb_tells i j) [
+path_row : (t : Table EdgeRow) (e v j i : ℕ) → i < j → table.get (with_path t e v j) (e + suc i) ≡ Some (edge_row_at v i)
+unfolding edge_row_at
+path_row t e v j i l = path_new t e v j i l
+
+pub points_new : (t : Table Point) (v : ℕ) (ps : List Point) (j i : ℕ) → i < j → table.get (with_points t v ps j) (v + suc i) ≡ Some (get_or ps i no_point)
+points_new t v ps zero i l = absurd (omega (arith, l))
+points_new t v ps (suc j) i l = elim (eqb_tells i j) [
   | inl p ↦ ap (λ k. table.get (with_points t v ps (suc j)) (v + suc k)) p.1 ∙ get-put_here (with_points t v ps j) (v + suc j) (get_or ps j no_point) ∙ ap (λ k. Some (get_or ps k no_point)) (sym p.1)
-  | inr p ↦ get-put_other (with_points t v ps j) (v + suc j) (get_or ps j no_point) (v + suc i) (apart_by v i j p.1) ∙ point_row t v ps j i (less_still i j l p.1)
+  | inr p ↦ get-put_other (with_points t v ps j) (v + suc j) (get_or ps j no_point) (v + suc i) (apart_by v i j p.1) ∙ points_new t v ps j i (less_still i j l p.1)
 ]
 
 pub no_lone : (b : Bool) (f g : ℕ) → f ≢ g → (b && (nat_eq f g || false)) ≡ false
@@ -238,24 +249,17 @@ module _ (M : Model) (sound : Sound M) (c : Taken) (is : c ≡ taken_in M) (s : 
 
   rings_one : rings_of base (c.face + 1) ≡ []
   rings_one = all_where_none (λ q row. nat_eq row.face (c.face + 1) && not (nat_eq (outer base (c.face + 1)) q)) base.loops (λ q y at. none_but y.face (c.face + 1) (outer base (c.face + 1)) q (λ e. elim (loop_cases q y at) [
-    | inl p ↦ absurd (other c.face y.face (ap (λ r. r.face) p.1) e)
+    | inl p ↦ absurd (one_or_two c.face y.face e (ap (λ r. r.face) p.1))
     | inr (inl p) ↦ outer_one ∙ sym p.0
-    | inr (inr p) ↦ absurd (low c.face y.face p e)
-  ])) where
-    other : (k f : ℕ) → f ≡ k + 2 → f ≡ k + 1 → ⊥
-    other k f p e = absurd (omega arith)
-
-    low : (k f : ℕ) → f ≤ k → f ≡ k + 1 → ⊥
-    low k f p e = absurd (omega arith)
+    | inr (inr p) ↦ absurd (low_not_one c.face y.face p e)
+  ]))
 
   none_lone : least_lone base ((c.face + 1) ∷ []) ≡ None
   none_lone = ap found (first_where_zero (λ _ row. is_lone row.content && lists ((c.face + 1) ∷ []) row.face) base.loops (λ q y at. elim (loop_cases q y at) [
     | inl p ↦ ap (λ r. is_lone r.content && lists ((c.face + 1) ∷ []) r.face) p.1
     | inr (inl p) ↦ ap (λ r. is_lone r.content && lists ((c.face + 1) ∷ []) r.face) p.1
-    | inr (inr p) ↦ no_lone (is_lone y.content) (c.face + 1) y.face (above c.face y.face p)
-  ])) where
-    above : (k f : ℕ) → f ≤ k → k + 1 ≢ f
-    above k f p e = absurd (omega arith)
+    | inr (inr p) ↦ no_lone (is_lone y.content) (c.face + 1) y.face (λ e. low_not_one c.face y.face p (sym e))
+  ]))
 
   -- its vertices and their points
   tail_at : (i : ℕ) (row : EdgeRow) → table.get base.edges (c.edge + suc i) ≡ Some row → tail base (plus (c.edge + suc i)) ≡ row.plus_tail
@@ -273,7 +277,7 @@ module _ (M : Model) (sound : Sound M) (c : Taken) (is : c ≡ taken_in M) (s : 
 
   point_at : (i : ℕ) → i < 4 → point_of base (c.vertex + suc i) ≡ get_or (a ∷ b ∷ g ∷ h ∷ []) i no_point
   unfolding point_of
-  point_at i l = ap (λ o. unwrap_or o no_point) (point_row M.vertices c.vertex (a ∷ b ∷ g ∷ h ∷ []) 4 i l)
+  point_at i l = ap (λ o. unwrap_or o no_point) (points_new M.vertices c.vertex (a ∷ b ∷ g ∷ h ∷ []) 4 i l)
 
   abbrev base_vertices : List ℕ
   base_vertices = (c.vertex + 1) ∷ (c.vertex + 2) ∷ (c.vertex + 3) ∷ (c.vertex + 4) ∷ []

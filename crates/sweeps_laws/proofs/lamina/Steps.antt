@@ -1,7 +1,6 @@
 -- Each operator of a lamina is accepted, and leads from one model of the path to the next.
-use Rattle.std.specs.Prelude.{map, reverse, length, get_or, nat_eq, ◌-◌}
+use Rattle.std.specs.Prelude.{map, reverse, length, get_or, ◌-◌}
 use Rattle.std.proofs.Common.{◌≡◌, ◌≢◌, ℕ, zero, suc, ◌+◌, ◌≤◌, ◌<◌, true, cond, List, [], ◌∷◌, ◌++◌, Some, None, unwrap_or, is_some, refl, sym, ap, ◌∙◌, arith, IsTrue}
-use Rattle.std.proofs.lemmas.Bool.Decides.{nat_tests}
 use Rattle.euler_operators.specs.declared.Point.{Point}
 use Rattle.euler_operators.specs.Points.{IsInRange}
 use Rattle.euler_operators.specs.Items.{count, IsIn}
@@ -19,6 +18,7 @@ use Rattle.euler_operators.proofs.Models.{in-holds, holds-none, not_held, conten
 use Rattle.euler_operators.proofs.Tables.{map_same, get-put_here, get-put_other, put-put}
 use Rattle.euler_operators.specs.Conditions.{first_false, lone_vertex, face_at}
 use Rattle.euler_operators.specs.Effect.{effect, edge_row, where_held, with_before, with_tails, mvfs, mev_lone, mev_at, mef}
+use Rattle.euler_operators.proofs.Tests.{nat_eq_itself}
 use Rattle.euler_laws.proofs.shared.Rows.{where_held_none, where_held_there, edge_row_plus}
 use Rattle.euler_laws.proofs.mev.Mev.{lone_accepted, mev_accepted}
 use Rattle.euler_laws.proofs.mev.MevLoneSound.{LoneGoes}
@@ -56,9 +56,7 @@ first_row t e v (suc j) = get-put_other (with_path t e v (suc j)) (e + suc (suc 
 
 pub arc_itself : (next : ℕ → ℕ) (g n : ℕ) → rings.arc next g g n ≡ []
 arc_itself next g zero = refl
-arc_itself next g (suc n) = ap (λ b. cond b [] (g ∷ rings.arc next (next g) g n)) (same g) where
-  same : (g : ℕ) → nat_eq g g ≡ true
-  same g = grind (arith, nat_tests)
+arc_itself next g (suc n) = ap (λ b. cond b [] (g ∷ rings.arc next (next g) g n)) (nat_eq_itself g)
 
 pub arc_none : (M : Model) (g : ℕ) → arc M g g ≡ []
 unfolding arc

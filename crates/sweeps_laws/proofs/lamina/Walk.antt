@@ -1,8 +1,7 @@
 -- From the conditions of a lamina: its operators in order, and the model that they leave.
-use Rattle.std.specs.Prelude.{length, get_or, nat_le, ◌-◌}
+use Rattle.std.specs.Prelude.{length, get_or, ◌-◌}
 use Rattle.std.proofs.Common.{◌≡◌, ℕ, zero, suc, ◌+◌, ◌≤◌, ◌<◌, true, false, cond, List, [], ◌∷◌, ◌++◌, Some, None, is_some, refl, sym, ap, subst, ◌∙◌, arith, true≢false}
-use Rattle.std.proofs.lemmas.Bool.Decides.{nat_tests}
-use Rattle.std.proofs.lemmas.Bool.{not-true}
+use Rattle.std.proofs.lemmas.Bool.{not-true, leb-true}
 use Rattle.euler_operators.specs.declared.Point.{Point}
 use Rattle.euler_operators.specs.Points.{is_in_range}
 use Rattle.euler_operators.specs.Model.{Model, no_point}
@@ -33,9 +32,6 @@ none_far i (p ∷ ps) e k l =
       at zero rest t l = t
       at (suc m) rest t l = rest m (omega (arith, l))
 
-three : (n : ℕ) → nat_le 3 n ≡ true → 3 ≤ n
-three n e = grind (arith, nat_tests)
-
 -- what the conditions say
 pub lamina_goes : (M : Model) (s : ℕ) (ps : List Point) → Sound M → lamina_refusal M s ps ≡ None → Goes M (taken_in M) s ps (length ps)
 unfolding lamina_conditions taken_in
@@ -49,7 +45,7 @@ lamina_goes M s ps sound e =
       vertices = refl;
       solid_free = no_row _ (not-true _ w.1.0);
       solid_fits = w.0;
-      many = three (length ps) w.1.1.0;
+      many = leb-true 3 (length ps) w.1.1.0;
       points_fit = none_far 0 ps (none_found (first_far 0 ps) w.1.1.1.0);
       left = numbers_are_left (taken_in M) 2 2 (length ps) (length ps) w.1.1.1.1.1;
     }

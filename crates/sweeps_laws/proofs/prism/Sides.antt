@@ -30,12 +30,6 @@ riser_is e i = elim (cases_eq i 0) [
   | inr p ↦ inr (omega arith, ap (λ b. cond b (e + 1) (e + 2 * i)) (ne_eqb i 0 p))
 ]
 
-pub top_inner : (e n i : ℕ) → i + 1 < n → top_edge e n i ≡ e + 2 * i + 3
-top_inner e n i h = ap (λ b. cond b (e + 2 * n) (e + 2 * i + 3)) (ne_eqb (i + 1) n (λ s. omega arith))
-
-pub top_last : (e n i : ℕ) → i + 1 ≡ n → top_edge e n i ≡ e + 2 * n
-top_last e n i h = ap (λ b. cond b (e + 2 * n) (e + 2 * i + 3)) (eq-eqb (i + 1) n h)
-
 pub next_inner : (n i : ℕ) → i + 1 < n → next_place n i ≡ suc i
 next_inner n i h = ap (λ b. cond b 0 (i + 1)) (ne_eqb (i + 1) n (λ s. omega arith)) ∙ omega arith
 

@@ -1,20 +1,19 @@
 -- Tables with rows put at the numbers after a, one after the other, and with one row rewritten.
 use Rattle.std.proofs.Common.{◌≡◌, ◌≢◌, ℕ, zero, suc, ◌+◌, ◌≤◌, ◌<◌, Bool, true, false, cond, nat_le, [], ◌∷◌, ◌++◌, Some, refl, sym, ap, subst, ◌∙◌, arith, ◌⊎◌, inl, inr, append-nil}
 use Rattle.std.proofs.lemmas.Bool.Decides.{nat_tests, eqb_tells}
+use Rattle.std.proofs.lemmas.Bool.{leb-true}
 use Rattle.euler_operators.specs.Table as table
 use Rattle.euler_operators.specs.Table.{Table}
 use Rattle.euler_operators.proofs.Tables.{get-put_here, get-put_other}
+use Rattle.euler_operators.proofs.Tests.{less_still}
 use Rattle.shapes.proofs.fresh.Rows.{all_where-put_last, greatest-put_last}
 
 -- a number is at most a, one of the n after a, or above these
 pub place_cases : (q a n : ℕ) → (q ≤ a) ⊎ (((i : ℕ) × (i < n) × (q ≡ a + 1 + i)) ⊎ (a + n < q))
 place_cases q a zero = elim (nat_le q a) as (λ b. nat_le q a ≡ b → (q ≤ a) ⊎ (((i : ℕ) × (i < 0) × (q ≡ a + 1 + i)) ⊎ (a + 0 < q))) [
-  | true ↦ λ e. inl (within q a e)
+  | true ↦ λ e. inl (leb-true q a e)
   | false ↦ λ e. inr (inr (above q a e))
 ] refl where
-  within : (a n : ℕ) → nat_le a n ≡ true → a ≤ n
-  within a n e = grind (arith, nat_tests)
-
   above : (q a : ℕ) → nat_le q a ≡ false → a + 0 < q
   above q a e = grind (arith, nat_tests)
 place_cases q a (suc n) = elim (place_cases q a n) [
@@ -49,38 +48,27 @@ module _ {X : Type 0} (t : Table X) (a : ℕ) (x : ℕ → X) where
   filled_new zero i l = absurd (omega arith)
   filled_new (suc n) i l = elim (eqb_tells i n) [
     | inl e ↦ subst (λ k. table.get (filled (suc n)) (a + 1 + k) ≡ Some (x k)) (sym e.1) (get-put_here (filled n) (a + 1 + n) (x n))
-    | inr e ↦ get-put_other (filled n) (a + 1 + n) (x n) (a + 1 + i) (other a n i e.1) ∙ filled_new n i (less i n l e.1)
+    | inr e ↦ get-put_other (filled n) (a + 1 + n) (x n) (a + 1 + i) (other a n i e.1) ∙ filled_new n i (less_still i n l e.1)
   ] where
     other : (a n i : ℕ) → i ≢ n → a + 1 + i ≢ a + 1 + n
     other a n i ne e = ne (omega arith)
 
-    less : (i n : ℕ) → i < suc n → i ≢ n → i < n
-    less i n l ne = grind arith
-
   pub filled_past : (n q : ℕ) → a + n < q → table.get (filled n) q ≡ table.get t q
   filled_past zero q l = refl
-  filled_past (suc n) q l = get-put_other (filled n) (a + 1 + n) (x n) q (other a n q l) ∙ filled_past n q (less a n q l) where
+  filled_past (suc n) q l = get-put_other (filled n) (a + 1 + n) (x n) q (other a n q l) ∙ filled_past n q (omega (arith, l)) where
     other : (a n q : ℕ) → a + suc n < q → q ≢ a + 1 + n
     other a n q l e = absurd (omega arith)
-
-    less : (a n q : ℕ) → a + suc n < q → a + n < q
-    less a n q l = omega arith
 
   module _ (free : table.greatest t ≤ a) where
     pub filled_greatest : (n : ℕ) → table.greatest (filled n) ≤ a + n
     filled_greatest zero = omega (arith, free)
-    filled_greatest (suc n) = at_most (table.greatest (filled (suc n))) a n (greatest-put_last (filled n) (a + 1 + n) (x n) (below (table.greatest (filled n)) a n (filled_greatest n))) where
+    filled_greatest (suc n) = at_most (table.greatest (filled (suc n))) a n (greatest-put_last (filled n) (a + 1 + n) (x n) (omega (arith, filled_greatest n))) where
       at_most : (g a n : ℕ) → g ≡ a + 1 + n → g ≤ a + suc n
       at_most g a n e = omega arith
 
-      below : (g a n : ℕ) → g ≤ a + n → g < a + 1 + n
-      below g a n l = omega arith
-
     -- a search lists the new numbers last, where they pass
     pub filled_search : (p : ℕ → X → Bool) (n : ℕ) → table.all_where p (filled (suc n)) ≡ table.all_where p (filled n) ++ cond (p (a + 1 + n) (x n)) ((a + 1 + n) ∷ []) []
-    filled_search p n = all_where-put_last (filled n) (a + 1 + n) (x n) (below (table.greatest (filled n)) a n (filled_greatest n)) p where
-      below : (g a n : ℕ) → g ≤ a + n → g < a + 1 + n
-      below g a n l = omega arith
+    filled_search p n = all_where-put_last (filled n) (a + 1 + n) (x n) (omega (arith, filled_greatest n)) p
 
     -- and lists what it did before, where no new number passes
     pub filled_none : (p : ℕ → X → Bool) (n : ℕ) → ((i : ℕ) → p (a + 1 + i) (x i) ≡ false) → table.all_where p (filled n) ≡ table.all_where p t

@@ -43,11 +43,9 @@ minus_within h e m p l = subst (λ k. k ≤ m) (sym (ap edge_of p ∙ (minus_row
 tops_within : (e n k h : ℕ) → k ≤ n → IsIn h (top_items e n k) → edge_of h ≤ e + 2 * n
 tops_within e n zero h l i = absurd (none_in h i)
 tops_within e n (suc k) h l i = elim (in_append h (top_items e n k) (plus (top_edge e n k) ∷ []) i) [
-  | inl j ↦ tops_within e n k h (before k n l) j
+  | inl j ↦ tops_within e n k h (omega (arith, l)) j
   | inr j ↦ elim (in_cases h (plus (top_edge e n k)) [] j) [ inl p ↦ plus_within h (top_edge e n k) (e + 2 * n) p (top_most e n k l) | inr z ↦ absurd (none_in h z) ]
-] where
-  before : (k n : ℕ) → suc k ≤ n → k ≤ n
-  before k n l = omega arith
+]
 
 row_within : (row : EdgeRow) (f : Bool) (m : ℕ) → row.plus_tail ≤ m → row.minus_tail ≤ m → tail_in row f ≤ m
 row_within row true m a b = a
@@ -76,34 +74,23 @@ module _ (M : Model) (c : Taken) (s : ℕ) (d : Point) (hs : List ℕ) (f l : �
       let N = grown M c s d hs k in
       let R = record N { edges = table.put N.edges (riser c.edge k) (side_riser M c s d hs k) } in
       put_within R (grown M c s d hs (suc k)) (top_edge c.edge (length hs) k) (side_top M c s d hs k) (c.vertex + length hs) (edges_step M c s d hs k)
-      (new c.vertex k (length hs) m) (new c.vertex (next_place (length hs) k) (length hs) (next_within (length hs) k m))
-      (put_within N R (riser c.edge k) (side_riser M c s d hs k) (c.vertex + length hs) refl (grown_within k (before k (length hs) m) (item M c s d hs k)) (new c.vertex k (length hs) m) (grown_within k (before k (length hs) m))) h where
-        before : (k n : ℕ) → suc k ≤ n → k ≤ n
-        before k n l = omega arith
-
-        new : (v k n : ℕ) → k < n → v + 1 + k ≤ v + n
-        new v k n l = omega arith
+      (omega (arith, m)) (omega (arith, next_within (length hs) k m))
+      (put_within N R (riser c.edge k) (side_riser M c s d hs k) (c.vertex + length hs) refl (grown_within k (omega (arith, m)) (item M c s d hs k)) (omega (arith, m)) (grown_within k (omega (arith, m)))) h
 
   more : (a x n : ℕ) → a ≤ x → a ≤ x + n
   more a x n l = omega arith
 
-  new_within : (a i n : ℕ) → i < n → a + 1 + i ≤ a + n
-  new_within a i n l = omega arith
-
-  all : (n : ℕ) → n ≤ n
-  all n = omega arith
-
   outers_after : (k : ℕ) → outer after k ≤ c.loop + length hs
   outers_after k = elim (place_cases k c.face (length hs)) [
     | inl o ↦ subst (λ x. x ≤ c.loop + length hs) (sym (outer_old M c s d hs f l b r k o)) (more (outer M k) c.loop (length hs) (b.outers k))
-    | inr (inl j) ↦ subst (λ x. x ≤ c.loop + length hs) (sym (ap (outer after) j.2 ∙ outer_new M c s d hs f l j.0 j.1)) (new_within c.loop j.0 (length hs) j.1)
+    | inr (inl j) ↦ subst (λ x. x ≤ c.loop + length hs) (sym (ap (outer after) j.2 ∙ outer_new M c s d hs f l j.0 j.1)) (omega (arith, j.1))
     | inr (inr p) ↦ subst (λ x. x ≤ c.loop + length hs) (sym (same_outer M after k (face_past M c s d hs f l k p))) (more (outer M k) c.loop (length hs) (b.outers k))
   ]
 
   loop_faces_after : (q : ℕ) → face_of after q ≤ c.face + length hs
   loop_faces_after q = elim (place_cases q c.loop (length hs)) [
     | inl o ↦ subst (λ x. x ≤ c.face + length hs) (sym (face_of_old M c s d hs f l b r q o)) (more (face_of M q) c.face (length hs) (b.loop_faces q))
-    | inr (inl j) ↦ subst (λ x. x ≤ c.face + length hs) (sym (ap (face_of after) j.2 ∙ face_of_new M c s d hs f l b r j.0 j.1)) (new_within c.face j.0 (length hs) j.1)
+    | inr (inl j) ↦ subst (λ x. x ≤ c.face + length hs) (sym (ap (face_of after) j.2 ∙ face_of_new M c s d hs f l b r j.0 j.1)) (omega (arith, j.1))
     | inr (inr p) ↦ subst (λ x. x ≤ c.face + length hs) (sym (face_of_past M c s d hs f l b r q p)) (more (face_of M q) c.face (length hs) (b.loop_faces q))
   ]
 
@@ -133,7 +120,7 @@ module _ (M : Model) (c : Taken) (s : ℕ) (d : Point) (hs : List ℕ) (f l : �
   items_after : (h q : ℕ) → IsIn h (items_of (content after q)) → edge_of h ≤ c.edge + 2 * length hs
   items_after h q i = elim (place_cases q c.loop (length hs)) [
     | inl o ↦ elim (eqb_tells q l) [
-      | inl e ↦ tops_within c.edge (length hs) (length hs) h (all (length hs)) (subst (λ x. IsIn h (items_of x)) (ap (content after) e.1 ∙ content_here M c s d hs f l b r) i)
+      | inl e ↦ tops_within c.edge (length hs) (length hs) h (omega arith) (subst (λ x. IsIn h (items_of x)) (ap (content after) e.1 ∙ content_here M c s d hs f l b r) i)
       | inr e ↦ was_within h q (subst (λ x. IsIn h (items_of x)) (content_old M c s d hs f l b r q e.1 o) i)
     ]
     | inr (inl j) ↦ side_within h j.0 j.1 (subst (λ x. IsIn h (items_of x)) (ap (content after) j.2 ∙ content_new M c s d hs f l b r j.0 j.1) i)
@@ -172,7 +159,7 @@ module _ (M : Model) (c : Taken) (s : ℕ) (d : Point) (hs : List ℕ) (f l : �
     outers = outers_after;
     loop_faces = loop_faces_after;
     items = items_after;
-    tails = λ h. subst (λ t. t ≤ c.vertex + length hs) (sym (tail_lifted M c s d hs f l h)) (grown_within (length hs) (all (length hs)) h);
+    tails = λ h. subst (λ t. t ≤ c.vertex + length hs) (sym (tail_lifted M c s d hs f l h)) (grown_within (length hs) (omega arith) h);
     lones = lones_after;
     own = own_after;
   }

@@ -74,12 +74,10 @@ module _ (M : Model) (c : Taken) (s : ℕ) (d : Point) (hs : List ℕ) (f l : �
   point_lifted v = refl
 
   pub keeps_swept : Keeps M swept c.edge c.vertex
-  keeps_swept = let k = keeps_grown M c s d hs (length hs) (all (length hs)) in record {
+  keeps_swept = let k = keeps_grown M c s d hs (length hs) (omega arith) in record {
     tails = λ h m. tail_lifted h ∙ k.tails h m;
     points = λ w m. point_lifted w ∙ k.points w m;
-  } where
-    all : (n : ℕ) → n ≤ n
-    all n = omega arith
+  }
 
   -- ---- faces
 

@@ -38,27 +38,18 @@ top_most e n i l = elim (top_cases e n i) [ inl p ↦ omega (arith, p.1) | inr p
 pub riser_apart : (e i j : ℕ) → i ≢ j → riser e i ≢ riser e j
 riser_apart e i j ne s = elim (riser_cases e i) [
   | inl p ↦ elim (riser_cases e j) [ inl q ↦ ne (p.0 ∙ sym q.0) | inr q ↦ odd e j (riser e i) (riser e j) p.1 q.1 s ]
-  | inr p ↦ elim (riser_cases e j) [ inl q ↦ odd e i (riser e j) (riser e i) q.1 p.1 (sym s) | inr q ↦ ne (same e i j (riser e i) (riser e j) p.1 q.1 s) ]
+  | inr p ↦ elim (riser_cases e j) [ inl q ↦ odd e i (riser e j) (riser e i) q.1 p.1 (sym s) | inr q ↦ ne (omega (arith, p.1, q.1, s)) ]
 ] where
   odd : (e j a b : ℕ) → a ≡ e + 1 → b ≡ e + 2 * j → a ≡ b → ⊥
   odd e j a b p q s = absurd (omega arith)
 
-  same : (e i j a b : ℕ) → a ≡ e + 2 * i → b ≡ e + 2 * j → a ≡ b → i ≡ j
-  same e i j a b p q s = omega arith
-
 pub top_apart : (e n i j : ℕ) → i < n → j < n → i ≢ j → top_edge e n i ≢ top_edge e n j
 top_apart e n i j l m ne s = elim (top_cases e n i) [
-  | inl p ↦ elim (top_cases e n j) [ inl q ↦ ne (last n i j p.0 q.0) | inr q ↦ odd e n j (top_edge e n i) (top_edge e n j) p.1 q.1 s ]
-  | inr p ↦ elim (top_cases e n j) [ inl q ↦ odd e n i (top_edge e n j) (top_edge e n i) q.1 p.1 (sym s) | inr q ↦ ne (same e i j (top_edge e n i) (top_edge e n j) p.1 q.1 s) ]
+  | inl p ↦ elim (top_cases e n j) [ inl q ↦ ne (omega (arith, p.0, q.0)) | inr q ↦ odd e n j (top_edge e n i) (top_edge e n j) p.1 q.1 s ]
+  | inr p ↦ elim (top_cases e n j) [ inl q ↦ odd e n i (top_edge e n j) (top_edge e n i) q.1 p.1 (sym s) | inr q ↦ ne (omega (arith, p.1, q.1, s)) ]
 ] where
-  last : (n i j : ℕ) → i + 1 ≡ n → j + 1 ≡ n → i ≡ j
-  last n i j p q = omega arith
-
   odd : (e n j a b : ℕ) → a ≡ e + 2 * n → b ≡ e + 2 * j + 3 → a ≡ b → ⊥
   odd e n j a b p q s = absurd (omega arith)
-
-  same : (e i j a b : ℕ) → a ≡ e + 2 * i + 3 → b ≡ e + 2 * j + 3 → a ≡ b → i ≡ j
-  same e i j a b p q s = omega arith
 
 pub riser_no_top : (e n i j : ℕ) → i < n → j < n → riser e i ≢ top_edge e n j
 riser_no_top e n i j l m s = elim (riser_cases e i) [

@@ -10,6 +10,7 @@ use Rattle.euler_operators.specs.Model.{Model, cycle, FaceRow, LoopRow, EdgeRow,
 use Rattle.euler_operators.proofs.Halves.{edge_of-mate}
 use Rattle.euler_operators.proofs.Models.{point_row}
 use Rattle.euler_operators.proofs.Tables.{get-put_here, get-put_other}
+use Rattle.euler_operators.proofs.Tests.{less_still}
 use Rattle.shapes.specs.Faces.{start, finish}
 use Rattle.shapes.specs.Fresh.{Taken}
 use Rattle.shapes.specs.Prism.{riser, top_edge, next_place, with_side, with_sides}
@@ -85,15 +86,12 @@ module _ (M : Model) (c : Taken) (s : ℕ) (d : Point) (hs : List ℕ) where
   apart_above : (q e r : ℕ) → q ≤ e → e < r → q ≢ r
   apart_above q e r l m s = absurd (omega arith)
 
-  less_one : (n m : ℕ) → suc n ≤ m → n ≤ m
-  less_one n m l = omega arith
-
   edges_kept : (n q : ℕ) → n ≤ length hs → q ≤ c.edge → table.get (grown n).edges q ≡ table.get M.edges q
   edges_kept zero q m l = refl
   edges_kept (suc n) q m l = ap (λ t. table.get t q) (edges_step n)
       ∙ get-put_other (table.put (grown n).edges (riser c.edge n) (side_riser n)) (top_edge c.edge (length hs) n) (side_top n) q (apart_above q c.edge (top_edge c.edge (length hs) n) l (top_above c.edge (length hs) n m))
       ∙ get-put_other (grown n).edges (riser c.edge n) (side_riser n) q (apart_above q c.edge (riser c.edge n) l (riser_above c.edge n))
-      ∙ edges_kept n q (less_one n (length hs) m) l
+      ∙ edges_kept n q (omega (arith, m)) l
 
   vertices_kept : (n w : ℕ) → w ≤ c.vertex → table.get (grown n).vertices w ≡ table.get M.vertices w
   vertices_kept n w l = ap (λ t. table.get t w) (vertices_grown n) ∙ filled_old M.vertices c.vertex side_point n w l
@@ -116,16 +114,11 @@ module _ (M : Model) (c : Taken) (s : ℕ) (d : Point) (hs : List ℕ) where
   riser_grown : (n i : ℕ) → n ≤ length hs → i < n → table.get (grown n).edges (riser c.edge i) ≡ Some (side_riser i)
   riser_grown zero i m l = absurd (omega arith)
   riser_grown (suc n) i m l = ap (λ t. table.get t (riser c.edge i)) (edges_step n)
-      ∙ get-put_other (table.put (grown n).edges (riser c.edge n) (side_riser n)) (top_edge c.edge (length hs) n) (side_top n) (riser c.edge i) (riser_no_top c.edge (length hs) i n (before_all i n (length hs) l m) m)
+      ∙ get-put_other (table.put (grown n).edges (riser c.edge n) (side_riser n)) (top_edge c.edge (length hs) n) (side_top n) (riser c.edge i) (riser_no_top c.edge (length hs) i n (omega (arith, l, m)) m)
       ∙ elim (eqb_tells i n) [
         | inl e ↦ subst (λ k. table.get (table.put (grown n).edges (riser c.edge n) (side_riser n)) (riser c.edge k) ≡ Some (side_riser k)) (sym e.1) (get-put_here (grown n).edges (riser c.edge n) (side_riser n))
-        | inr e ↦ get-put_other (grown n).edges (riser c.edge n) (side_riser n) (riser c.edge i) (riser_apart c.edge i n e.1) ∙ riser_grown n i (less_one n (length hs) m) (before_last i n l e.1)
-      ] where
-        before_all : (i n m : ℕ) → i < suc n → suc n ≤ m → i < m
-        before_all i n m l k = omega arith
-
-        before_last : (i n : ℕ) → i < suc n → i ≢ n → i < n
-        before_last i n l ne = grind arith
+        | inr e ↦ get-put_other (grown n).edges (riser c.edge n) (side_riser n) (riser c.edge i) (riser_apart c.edge i n e.1) ∙ riser_grown n i (omega (arith, m)) (less_still i n l e.1)
+      ]
 
   top_grown : (n i : ℕ) → n ≤ length hs → i < n → table.get (grown n).edges (top_edge c.edge (length hs) i) ≡ Some (side_top i)
   top_grown zero i m l = absurd (omega arith)
@@ -133,33 +126,19 @@ module _ (M : Model) (c : Taken) (s : ℕ) (d : Point) (hs : List ℕ) where
       ∙ elim (eqb_tells i n) [
         | inl e ↦ subst (λ k. table.get (table.put (table.put (grown n).edges (riser c.edge n) (side_riser n)) (top_edge c.edge (length hs) n) (side_top n)) (top_edge c.edge (length hs) k) ≡ Some (side_top k)) (sym e.1)
             (get-put_here (table.put (grown n).edges (riser c.edge n) (side_riser n)) (top_edge c.edge (length hs) n) (side_top n))
-        | inr e ↦ get-put_other (table.put (grown n).edges (riser c.edge n) (side_riser n)) (top_edge c.edge (length hs) n) (side_top n) (top_edge c.edge (length hs) i) (top_apart c.edge (length hs) i n (before_all i n (length hs) l m) m e.1)
-            ∙ get-put_other (grown n).edges (riser c.edge n) (side_riser n) (top_edge c.edge (length hs) i) (λ p. riser_no_top c.edge (length hs) n i m (before_all i n (length hs) l m) (sym p))
-            ∙ top_grown n i (less_one n (length hs) m) (before_last i n l e.1)
-      ] where
-        before_all : (i n m : ℕ) → i < suc n → suc n ≤ m → i < m
-        before_all i n m l k = omega arith
-
-        before_last : (i n : ℕ) → i < suc n → i ≢ n → i < n
-        before_last i n l ne = grind arith
+        | inr e ↦ get-put_other (table.put (grown n).edges (riser c.edge n) (side_riser n)) (top_edge c.edge (length hs) n) (side_top n) (top_edge c.edge (length hs) i) (top_apart c.edge (length hs) i n (omega (arith, l, m)) m e.1)
+            ∙ get-put_other (grown n).edges (riser c.edge n) (side_riser n) (top_edge c.edge (length hs) i) (λ p. riser_no_top c.edge (length hs) n i m (omega (arith, l, m)) (sym p))
+            ∙ top_grown n i (omega (arith, m)) (less_still i n l e.1)
+      ]
 
   module _ (items : (i : ℕ) → i < length hs → edge_of (item i) ≤ c.edge) (bounded : (h : ℕ) → tail M h ≤ c.vertex) where
     -- the rows of the new edges and vertices, once all sides are there
     pub riser_row : (i : ℕ) → i < length hs → table.get (grown (length hs)).edges (riser c.edge i) ≡ Some (record { plus_tail = tail M (item i); minus_tail = c.vertex + 1 + i })
-    riser_row i l = riser_grown (length hs) i (all (length hs)) l ∙ ap (λ v. Some (record { plus_tail = v; minus_tail = c.vertex + 1 + i })) ((keeps_grown i (before i (length hs) l)).tails (item i) (items i l)) where
-      all : (n : ℕ) → n ≤ n
-      all n = omega arith
-
-      before : (i n : ℕ) → i < n → i ≤ n
-      before i n l = omega arith
+    riser_row i l = riser_grown (length hs) i (omega arith) l ∙ ap (λ v. Some (record { plus_tail = v; minus_tail = c.vertex + 1 + i })) ((keeps_grown i (omega (arith, l))).tails (item i) (items i l))
 
     pub top_row : (i : ℕ) → i < length hs → table.get (grown (length hs)).edges (top_edge c.edge (length hs) i) ≡ Some (side_top i)
-    top_row i l = top_grown (length hs) i (all (length hs)) l where
-      all : (n : ℕ) → n ≤ n
-      all n = omega arith
+    top_row i l = top_grown (length hs) i (omega arith) l
 
     pub point_grown : (i : ℕ) → i < length hs → point_of (grown (length hs)) (c.vertex + 1 + i) ≡ moved (start M (item i)) d
     point_grown i l = point_row (grown (length hs)) (c.vertex + 1 + i) (side_point i) (ap (λ t. table.get t (c.vertex + 1 + i)) (vertices_grown (length hs)) ∙ filled_new M.vertices c.vertex side_point (length hs) i l)
-        ∙ ap (λ p. moved p d) (start_kept M (grown i) c.edge c.vertex (keeps_grown i (before i (length hs) l)) bounded (item i) (items i l)) where
-          before : (i n : ℕ) → i < n → i ≤ n
-          before i n l = omega arith
+        ∙ ap (λ p. moved p d) (start_kept M (grown i) c.edge c.vertex (keeps_grown i (omega (arith, l))) bounded (item i) (items i l))
