@@ -84,12 +84,6 @@ module _ (M : Model) (f g : ℕ) (partner_of : ℕ → ℕ) (hs : List ℕ) (x l
   pub around_l : Around N l f (seam partner_of more)
   around_l = record { sound = w.sound; at = at_l }
 
-  kept_else : (q : ℕ) → q ≢ l → q ≢ r → table.get kept q ≡ table.get M.loops q
-  kept_else q a b = grind (arith, nat_tests, tables)
-
-  kept_l : table.get kept l ≡ None
-  kept_l = grind (arith, nat_tests, tables)
-
   kept_r : table.get kept r ≡ None
   kept_r = grind (arith, nat_tests, tables)
 
