@@ -4,8 +4,8 @@ use Rattle.std.specs.Option.{option_map}
 use Rattle.std.specs.Ordering.{nat_cmp}
 use Rattle.std.specs.Cmp.{nat_cmp_total}
 use Rattle.std.specs.FinMap.Entries as entries
-use Rattle.std.proofs.lemmas.Bool.Decides.{nat_tests, eqb_tells}
-use Rattle.std.proofs.lemmas.Bool.{and_parts, eq-eqb, eqb-true}
+use Rattle.std.proofs.lemmas.Bool.Decides.{eqb_tells}
+use Rattle.std.proofs.lemmas.Bool.{and_parts, eq-eqb, eqb-true, ltb-true}
 use Rattle.euler_operators.specs.Table.{Table, put, remove, get, map_rows, map_entries, get-map_rows, all_where, all_in}
 use Rattle.euler_operators.specs.Model.{Model, LoopRow, face_of, outer}
 use Rattle.euler_operators.specs.Sound.{Sound, Has}
@@ -89,15 +89,12 @@ less_listed n q (m ∷ ns) a l = elim (eqb_tells m n) [
   ]
 ]
 
-less_true : (a b : ℕ) → nat_lt a b ≡ true → a < b
-less_true a b e = grind (arith, nat_tests)
-
 -- what stands after the first item of a rising list is greater
 pub rises_apart : (n q : ℕ) (ns : List ℕ) → strictly_rises (n ∷ ns) ≡ true → lists ns q ≡ true → n < q
 rises_apart n q [] r l = absurd (true≢false (sym l))
 rises_apart n q (m ∷ ns) r l =
     let w = and_parts (nat_lt n m) (strictly_rises (m ∷ ns)) r in
-    let a : n < m = less_true n m w.0 in
+    let a : n < m = ltb-true n m w.0 in
     elim (listed_cases m q ns l) [ inl e ↦ subst (λ k. n < k) (sym e) a | inr k ↦ (let b : m < q = rises_apart m q ns w.1 k in omega arith) ]
 
 pub rises_on : (n : ℕ) (ns : List ℕ) → strictly_rises (n ∷ ns) ≡ true → strictly_rises ns ≡ true

@@ -4,10 +4,9 @@ use Rattle.std.proofs.lemmas.Bool.Decides.{nat_tests, eqb_tells}
 use Rattle.std.proofs.lemmas.Bool.{not-true, not-false, eq-eqb, eqb-true}
 use Rattle.euler_operators.specs.declared.Point.{Point}
 use Rattle.euler_operators.specs.Table as table
-use Rattle.euler_operators.specs.Table.{Table, tables}
 use Rattle.euler_operators.specs.Model.{Model, lone, no_face, content, face_of, solid_of, outer, point_of, faces_of, rings_of}
 use Rattle.euler_operators.specs.Sound.{Sound, Has}
-use Rattle.euler_operators.proofs.Tables.{put-remove, remove-put, no_row, row_some}
+use Rattle.euler_operators.proofs.Tables.{put-remove, remove-put, no_row, row_some, get-remove_here}
 use Rattle.euler_operators.proofs.Tests.{and_first, and_second}
 use Rattle.euler_operators.specs.declared.Op.TheVariants.{Mvfs, Kvfs}
 use Rattle.euler_operators.specs.Conditions.{AllHold, first_false, conditions, bare_face, has_rings, is_empty, is_lone, lone_vertex, lists}
@@ -54,9 +53,7 @@ module _ (M : Model) (sound : Sound M) (s f : ℕ) (goes : KvfsGoes M s f) where
 
   gone : (table.get K.solids s ≡ None) × (table.get K.faces f ≡ None) × (table.get K.loops l ≡ None) × (table.get K.vertices v ≡ None)
   unfolding kvfs_at
-  gone = (removed M.solids s, removed M.faces f, removed M.loops l, removed M.vertices v) where
-    removed : {X : Type 0} (t : Table X) (n : ℕ) → table.get (table.remove t n) n ≡ None
-    removed t n = grind (arith, nat_tests, tables)
+  gone = (get-remove_here M.solids s, get-remove_here M.faces f, get-remove_here M.loops l, get-remove_here M.vertices v)
 
   pub put_goes : MvfsGoes K s f l v p
   put_goes = record {

@@ -15,7 +15,7 @@ use Rattle.euler_operators.specs.Table as table
 use Rattle.euler_operators.specs.Model.{Model, lone, cycle, items_of, tail, after, loop_of, content, cycle_of, face_of, outer, is_number}
 use Rattle.euler_operators.specs.Sound.{Sound, Has, HasHalf, StandsIn}
 use Rattle.euler_operators.proofs.Halves.{edge_of-code}
-use Rattle.euler_operators.proofs.Models.{in-holds, holds_in, row_of, content_cycle, cycle_there, cycle_sound}
+use Rattle.euler_operators.proofs.Models.{in-holds, row_of, content_cycle, cycle_there, cycle_sound}
 use Rattle.euler_operators.proofs.Tables.{no_row}
 use Rattle.euler_operators.proofs.Members.{same_head}
 use Rattle.euler_operators.specs.declared.Op.TheVariants.{Mekr}
@@ -108,9 +108,6 @@ module _ (M : Model) (sound : Sound M) (q v : ℕ) (zs : List ℕ) (spot : Spot 
 
   pub loop_there : (x : ℕ) → IsIn x zs → loop_of M x ≡ q
   loop_there x i = sound.one_loop x q (stands_there x i)
-
-  pub in_spot : (x : ℕ) → StandsIn M x q → IsIn x zs
-  in_spot x s = omega (arith, holds_in x (content M q) s, count_spot x)
 
   pub ring_there : IsRing (after M) zs
   ring_there = IsRing-same (after M) (canonical zs) zs (IsRotation-sym zs (canonical zs) (canonical-rotates zs))

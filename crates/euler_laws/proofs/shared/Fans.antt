@@ -1,9 +1,9 @@
 -- The half-edges that leave a vertex, as a ring.
-use Rattle.std.proofs.Common.{◌≡◌, ◌≢◌, ℕ, ◌≤◌, cond, List, [], ◌∷◌, ◌++◌, is_some, refl, sym, ap, ◌∙◌, subst, arith, ◌⊎◌, inl, inr}
-use Rattle.std.proofs.lemmas.Bool.Decides.{nat_tests, eqb_tells}
-use Rattle.euler_operators.specs.Items.{count, tick, IsIn, IsApart, head_or, before, after as after_item}
+use Rattle.std.proofs.Common.{◌≡◌, ◌≢◌, ℕ, cond, List, [], ◌∷◌, ◌++◌, is_some, refl, sym, ap, ◌∙◌, subst, arith, ◌⊎◌, inl, inr}
+use Rattle.std.proofs.lemmas.Bool.Decides.{eqb_tells}
+use Rattle.euler_operators.specs.Items.{count, IsIn, IsApart, head_or, before, after as after_item}
 use Rattle.euler_operators.specs.Rings.{rest, successor, predecessor, IsPath, IsRing}
-use Rattle.euler_operators.proofs.Lists.{count-append, tick_same, tick_other, split_at, IsIn_or_not}
+use Rattle.euler_operators.proofs.Lists.{count-append, tick_same, tick_other, split_at, IsIn_or_not, tick_le}
 use Rattle.euler_operators.proofs.Operators.{apart_back}
 use Rattle.euler_operators.proofs.Rings.{rotation_at, count_at, IsRing-same, IsIn_successor, IsIn_predecessor, successor-predecessor, IsPath-append, IsPath-left, ring_stays}
 use Rattle.euler_operators.specs.HalfEdge.{mate}
@@ -79,9 +79,7 @@ way_on next g w y =
     ]
 
 way_of : (next : ℕ → ℕ) (g w : ℕ) → Reaches next g w → Way next g w
-way_of next g w here = record { front = []; apart = λ z. omega (arith, tick_le z g); path = (refl, tt); starts = refl } where
-  tick_le : (a b : ℕ) → tick a b ≤ 1
-  tick_le a b = grind (arith, nat_tests)
+way_of next g w here = record { front = []; apart = λ z. omega (arith, tick_le z g); path = (refl, tt); starts = refl }
 way_of next g w (further {h = x} p) = way_on next g x (way_of next g x p)
 
 -- the half-edges that start at v, each once, each followed by the next one round

@@ -1,10 +1,9 @@
 -- The numbers of a table whose rows pass a test: which they are, and that they rise.
 use Rattle.std.proofs.Common.{◌≡◌, ◌≢◌, ℕ, Bool, true, false, cond, nat_eq, nat_lt, ◌<◌, ◌&&◌, ◌||◌, T, List, [], ◌∷◌, ◌++◌, Some, ne_eqb, refl, sym, ap, subst, ◌∙◌, arith, true≢false, ◌⊎◌, inl, inr}
 use Rattle.std.specs.Ordering.{nat_cmp}
-use Rattle.std.specs.Cmp.{unsigned_tied}
 use Rattle.std.specs.FinMap.Entries.{find, is_sorted, below_all}
 use Rattle.std.proofs.lemmas.Bool.Decides.{nat_tests, eqb_tells}
-use Rattle.std.proofs.lemmas.Bool.{false_from_ne_true}
+use Rattle.std.proofs.lemmas.Bool.{false_from_ne_true, lt-ltb}
 use Rattle.std.proofs.lemmas.Option.{same_Some}
 use Rattle.euler_operators.specs.Items.{tick, IsIn}
 use Rattle.euler_operators.proofs.Lists.{tick_same, tick_other}
@@ -53,9 +52,6 @@ other_last [] u f ne = ap (λ b. b || false) (ne_eqb u f (λ e. ne (sym e)))
 other_last (g ∷ gs) u f ne = ap (λ b. nat_eq g f || b) (other_last gs u f ne)
 
 module _ {X : Type 0} where
-  pub find_in : (q : ℕ) (e : ℕ × X) (es : List (ℕ × X)) → find nat_cmp q (e ∷ es) ≡ cond (nat_eq q e.0) (Some e.1) (find nat_cmp q es)
-  find_in q e es = ap (λ b. cond b (Some e.1) (find nat_cmp q es)) (unsigned_tied q e.0)
-
   -- what is found past the numbers below k is greater
   pub found_past : (k q : ℕ) (es : List (ℕ × X)) (y : X) → T (below_all nat_cmp k es) → find nat_cmp q es ≡ Some y → k < q
   found_past k q [] y h is = cc
@@ -101,11 +97,9 @@ module _ {X : Type 0} where
   rises_past : (p : ℕ → X → Bool) (k : ℕ) (es : List (ℕ × X)) → T (below_all nat_cmp k es) → T (is_sorted nat_cmp es) → strictly_rises (k ∷ all_in p es) ≡ true
   rises_past p k [] h s = refl
   rises_past p k (e ∷ es) h s = elim (p e.0 e.1) as (λ b. strictly_rises (k ∷ cond b (e.0 ∷ all_in p es) (all_in p es)) ≡ true) [
-    | true ↦ ap (λ b. b && strictly_rises (e.0 ∷ all_in p es)) (less k e.0 (less_means k e.0 (and_left _ _ h))) ∙ rises_past p e.0 es (and_left _ _ s) (and_right _ _ s)
+    | true ↦ ap (λ b. b && strictly_rises (e.0 ∷ all_in p es)) (lt-ltb k e.0 (less_means k e.0 (and_left _ _ h))) ∙ rises_past p e.0 es (and_left _ _ s) (and_right _ _ s)
     | false ↦ rises_past p k es (and_right _ _ h) (and_right _ _ s)
-  ] where
-    less : (a b : ℕ) → a < b → nat_lt a b ≡ true
-    less a b l = grind (arith, nat_tests)
+  ]
 
   rises_in : (p : ℕ → X → Bool) (es : List (ℕ × X)) → T (is_sorted nat_cmp es) → strictly_rises (all_in p es) ≡ true
   rises_in p [] s = refl

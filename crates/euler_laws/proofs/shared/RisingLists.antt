@@ -3,12 +3,8 @@ use Rattle.std.proofs.Common.{◌≡◌, ◌≢◌, ℕ, zero, suc, ◌+◌, ◌
 use Rattle.std.proofs.lemmas.Bool.Decides.{eqb_tells}
 use Rattle.std.proofs.lemmas.Bool.{and_parts}
 use Rattle.euler_operators.specs.Conditions.{lists, lists_all, strictly_rises}
-use Rattle.euler_operators.proofs.Tests.{less_and}
 use Rattle.euler_laws.proofs.shared.Listed.{first_listed, rest_listed, listed_cases}
 use Rattle.euler_laws.proofs.Sizes.{rises_on, rises_apart}
-
-pub rises_parts : (m k : ℕ) (ns : List ℕ) → strictly_rises (m ∷ k ∷ ns) ≡ true → (m < k) × (strictly_rises (k ∷ ns) ≡ true)
-rises_parts m k ns r = less_and m k (strictly_rises (k ∷ ns)) r
 
 pub listed_at : (fs : List ℕ) (i : ℕ) → i < length fs → lists fs (get_or fs i 0) ≡ true
 listed_at [] i l = absurd (omega arith)

@@ -25,14 +25,6 @@ pub up_to_all : (n : ℕ) (ns : List ℕ) → ((k : ℕ) → lists ns k ≡ true
 up_to_all n [] h = refl
 up_to_all n (m ∷ ms) h = takes m n ms (h m (first_listed m ms)) ∙ ap (λ xs. m ∷ xs) (up_to_all n ms (λ k l. h k (rest_listed m k ms l)))
 
--- nothing stands between two numbers
-pub up_to_same : (n m : ℕ) (ns : List ℕ) → n ≤ m → ((k : ℕ) → lists ns k ≡ true → n < k → m < k) → up_to m ns ≡ up_to n ns
-up_to_same n m [] l h = refl
-up_to_same n m (a ∷ bs) l h = let rest = up_to_same n m bs l (λ k i. h k (rest_listed a k bs i)) in elim (at_most_or_above a n) [
-  | inl s ↦ takes a m bs (omega (arith, s, l)) ∙ ap (λ xs. a ∷ xs) rest ∙ sym (takes a n bs s)
-  | inr s ↦ drops a m bs (h a (first_listed a bs) s) ∙ rest ∙ sym (drops a n bs s)
-]
-
 -- m is the next number of the list after n
 pub up_to_next : (n m : ℕ) (ns : List ℕ) → strictly_rises ns ≡ true → lists ns m ≡ true → n < m → ((k : ℕ) → lists ns k ≡ true → n < k → m ≤ k) → up_to m ns ≡ up_to n ns ++ m ∷ []
 up_to_next n m [] r i l h = absurd (true≢false (sym i))
