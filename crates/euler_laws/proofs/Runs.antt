@@ -1,8 +1,9 @@
 -- Lists of operators, each accepted in its turn, and their inverses.
-use Rattle.std.proofs.Common.{◌≡◌, List, [], ◌∷◌, ◌++◌, refl, sym, ap, subst, ◌∙◌}
+use Rattle.std.proofs.Common.{◌≡◌, List, [], ◌∷◌, ◌++◌, None, refl, sym, ap, subst, ◌∙◌}
 use Rattle.euler_operators.specs.Model.{Model}
 use Rattle.euler_operators.specs.Sound.{Sound}
 use Rattle.euler_operators.specs.declared.Op.{Op}
+use Rattle.euler_operators.specs.Conditions.{first_false}
 use Rattle.euler_operators.specs.Effect.{effect, inverse}
 use Rattle.euler_laws.specs.Laws.{IsAccepted, effects, AreAccepted, inverses}
 use Rattle.euler_laws.proofs.Cases.{effect_keeps_sound, inverse_goes, inverse_undoes}
@@ -39,3 +40,28 @@ inverses_go M (op ∷ ops) sound a =
     let s : Sound N = effect_keeps_sound M op sound a.0 in
     AreAccepted-append (effects N ops) (inverses N ops) (inverse M op ∷ []) (inverses_go N ops s a.1)
     (subst (λ X. IsAccepted X (inverse M op)) (sym (inverses_undo N ops s a.1)) (inverse_goes M op sound a.0), tt)
+
+-- ---- from one model to another
+
+-- some operators are accepted in turn and make N of M
+pub record Leads (M N : Model) (ops : List Op) : Type 0 where
+  pub accepted : AreAccepted M ops
+  pub made : effects M ops ≡ N
+
+pub leads_none : (M : Model) → Leads M M []
+leads_none M = record { accepted = tt; made = refl }
+
+pub leads_one : (M N : Model) (op : Op) → first_false M op ≡ None → effect M op ≡ N → Leads M N (op ∷ [])
+leads_one M N op a e = record { accepted = (a, tt); made = e }
+
+pub leads_on : (M N K : Model) (ops more : List Op) → Leads M N ops → Leads N K more → Leads M K (ops ++ more)
+leads_on M N K ops more a b = record {
+  accepted = AreAccepted-append M ops more a.accepted (subst (λ X. AreAccepted X more) (sym a.made) b.accepted);
+  made = effects-append M ops more ∙ ap (λ X. effects X more) a.made ∙ b.made;
+}
+
+pub leads_first : (M N K : Model) (op : Op) (more : List Op) → first_false M op ≡ None → effect M op ≡ N → Leads N K more → Leads M K (op ∷ more)
+leads_first M N K op more a e b = leads_on M N K (op ∷ []) more (leads_one M N op a e) b
+
+pub leads_sound : (M N : Model) (ops : List Op) → Sound M → Leads M N ops → Sound N
+leads_sound M N ops sound a = subst Sound a.made (effects_keep_sound M ops sound a.accepted)

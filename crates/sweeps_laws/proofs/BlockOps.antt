@@ -1,12 +1,11 @@
 -- The operators of a block: those of its base, and then those of the sweep.
-use Rattle.std.proofs.Common.{◌≡◌, ℕ, ℤ, pos, None, sym, ap, subst, ◌∙◌}
+use Rattle.std.proofs.Common.{◌≡◌, ℕ, ℤ, pos, None}
 use Rattle.euler_operators.specs.declared.Point.{Point}
 use Rattle.euler_operators.specs.Model.{Model}
 use Rattle.euler_operators.specs.Sound.{Sound}
-use Rattle.euler_laws.specs.Laws.{AreAccepted, effects}
-use Rattle.euler_laws.proofs.Runs.{effects-append, AreAccepted-append}
+use Rattle.euler_laws.proofs.Runs.{Leads, leads_on}
 use Rattle.shapes.specs.Lamina.{lamina_refusal, lamina_model, lamina_face}
-use Rattle.shapes.specs.Prism.{prism_refusal}
+use Rattle.shapes.specs.Prism.{prism_refusal, prism_model}
 use Rattle.shapes.specs.Block.{vector, base_of, block_refusal, block_model}
 use Rattle.sweeps_laws.specs.lamina.Path.{lamina_operators}
 use Rattle.sweeps_laws.specs.prism.SweepOps.{sweep_ops}
@@ -29,31 +28,24 @@ module _ (M : Model) (s : ℕ) (p : Point) (dx dy dz : ℤ) (sound : Sound M) (e
   base_sound : Sound base
   base_sound = lamina_is_sound M s (base_of p dx dy) sound goes
 
-  base_made : effects M (lamina_operators M s (base_of p dx dy)) ≡ base
-  base_made = operators_make_lamina M s (base_of p dx dy) sound goes
-
   rise : prism_refusal base (lamina_face M) up ≡ None
   rise = bases_rise M s p dx dy dz sound e
 
-  pub accepted : AreAccepted M (block_ops M s p dx dy dz)
-  unfolding block_ops
-  accepted = AreAccepted-append M (lamina_operators M s (base_of p dx dy)) (sweep_ops base (lamina_face M) up) (operators_are_accepted M s (base_of p dx dy) sound goes)
-      (subst (λ N. AreAccepted N (sweep_ops base (lamina_face M) up)) (sym base_made) (sweep_accepted base (lamina_face M) up base_sound rise))
-
-  pub made : effects M (block_ops M s p dx dy dz) ≡ block_model M s p dx dy dz
+  led : Leads M (block_model M s p dx dy dz) (block_ops M s p dx dy dz)
   unfolding block_ops block_model
-  made = effects-append M (lamina_operators M s (base_of p dx dy)) (sweep_ops base (lamina_face M) up)
-      ∙ ap (λ N. effects N (sweep_ops base (lamina_face M) up)) base_made ∙ sweep_is_prism base (lamina_face M) up base_sound rise
+  led = leads_on M base (prism_model base (lamina_face M) up) (lamina_operators M s (base_of p dx dy)) (sweep_ops base (lamina_face M) up)
+      (record { accepted = operators_are_accepted M s (base_of p dx dy) sound goes; made = operators_make_lamina M s (base_of p dx dy) sound goes })
+      (record { accepted = sweep_accepted base (lamina_face M) up base_sound rise; made = sweep_is_prism base (lamina_face M) up base_sound rise })
 
   pub block_sound : Sound (block_model M s p dx dy dz)
   unfolding block_model
   block_sound = prism_sound base (lamina_face M) up base_sound rise
 
 pub blocks_are_accepted : BlocksAreAccepted
-blocks_are_accepted = accepted
+blocks_are_accepted M s p dx dy dz sound e = (led M s p dx dy dz sound e).accepted
 
 pub operators_make_blocks : OperatorsMakeBlocks
-operators_make_blocks = made
+operators_make_blocks M s p dx dy dz sound e = (led M s p dx dy dz sound e).made
 
 pub blocks_are_sound : BlocksAreSound
 blocks_are_sound = block_sound

@@ -1,6 +1,6 @@
 -- From the conditions of a lamina: its operators in order, and the model that they leave.
 use Rattle.std.specs.Prelude.{length, get_or, ◌-◌}
-use Rattle.std.proofs.Common.{◌≡◌, ℕ, zero, suc, ◌+◌, ◌≤◌, ◌<◌, true, false, cond, List, [], ◌∷◌, ◌++◌, Some, None, is_some, refl, sym, ap, subst, ◌∙◌, arith, true≢false}
+use Rattle.std.proofs.Common.{◌≡◌, ℕ, zero, suc, ◌+◌, ◌≤◌, ◌<◌, true, false, cond, List, [], ◌∷◌, ◌++◌, Some, None, is_some, refl, ap, subst, ◌∙◌, arith, true≢false}
 use Rattle.std.proofs.lemmas.Bool.{not-true, leb-true}
 use Rattle.euler_operators.specs.declared.Point.{Point}
 use Rattle.euler_operators.specs.Points.{is_in_range}
@@ -11,8 +11,7 @@ use Rattle.euler_operators.specs.Effect.{effect}
 use Rattle.euler_operators.proofs.Tables.{no_row}
 use Rattle.euler_laws.proofs.shared.Goes.{all_hold}
 use Rattle.euler_laws.proofs.Cases.{effect_keeps_sound}
-use Rattle.euler_laws.proofs.Runs.{effects-append, AreAccepted-append}
-use Rattle.euler_laws.specs.Laws.{AreAccepted, effects}
+use Rattle.euler_laws.proofs.Runs.{Leads, leads_none, leads_one, leads_on, leads_first, leads_sound}
 use Rattle.shapes.proofs.fresh.Tests.{none_found, numbers_are_left}
 use Rattle.shapes.specs.Fresh.{Taken, taken_in}
 use Rattle.shapes.specs.Lamina.{first_far, lamina_conditions, lamina_refusal, lamina_at, lamina_model}
@@ -75,41 +74,30 @@ module _ (M : Model) (c : Taken) (s : ℕ) (ps : List Point) (n : ℕ) (goes : G
   close_made (suc j) all is = last_made M c s ps n goes j (path_sound (suc j) (omega (arith, all))) (is ∙ all)
 
 module _ (M : Model) (c : Taken) (s : ℕ) (ps : List Point) (n : ℕ) (goes : Goes M c s ps n) where
-  walked : (j : ℕ) → j < n → AreAccepted (path_at M c s ps 0) (further_points c ps j) × (effects (path_at M c s ps 0) (further_points c ps j) ≡ path_at M c s ps j)
-  walked zero l = (tt, refl)
-  walked (suc j) l =
-      let so_far = walked j (omega (arith, l)) in
-      let accepted : first_false (path_at M c s ps j) (next_point c ps j) ≡ None = next_accepted M c s ps n goes j l (path_sound M c s ps n goes j (omega (arith, l))) in (
-        AreAccepted-append (path_at M c s ps 0) (further_points c ps j) (next_point c ps j ∷ []) so_far.0 (subst (λ N. AreAccepted N (next_point c ps j ∷ [])) (sym so_far.1) (accepted, tt)),
-        effects-append (path_at M c s ps 0) (further_points c ps j) (next_point c ps j ∷ []) ∙ ap (λ N. effect N (next_point c ps j)) so_far.1 ∙ next_made M c s ps n goes j,
-      )
+  walked : (j : ℕ) → j < n → Leads (path_at M c s ps 0) (path_at M c s ps j) (further_points c ps j)
+  walked zero l = leads_none (path_at M c s ps 0)
+  walked (suc j) l = let m : j < n = omega (arith, l) in
+      leads_on (path_at M c s ps 0) (path_at M c s ps j) (path_at M c s ps (suc j)) (further_points c ps j) (next_point c ps j ∷ []) (walked j m)
+      (leads_one (path_at M c s ps j) (path_at M c s ps (suc j)) (next_point c ps j) (next_accepted M c s ps n goes j l (path_sound M c s ps n goes j m)) (next_made M c s ps n goes j))
 
-  all_accepted : (j : ℕ) → n ≡ suc j → AreAccepted M (first_point c s ps ∷ further_points c ps j ++ last_edge c j ∷ [])
-  all_accepted j all = let way = walked j (omega (arith, all)) in (
-    first_accepted M c s ps n goes,
-    subst (λ N. AreAccepted N (further_points c ps j ++ last_edge c j ∷ [])) (sym (first_made M c s ps n goes))
-        (AreAccepted-append (path_at M c s ps 0) (further_points c ps j) (last_edge c j ∷ []) way.0 (subst (λ N. AreAccepted N (last_edge c j ∷ [])) (sym way.1) (close_accepted M c s ps n goes j all, tt))),
-  )
-
-  all_made : (j : ℕ) → n ≡ suc j → length ps ≡ n → effects M (first_point c s ps ∷ further_points c ps j ++ last_edge c j ∷ []) ≡ lamina_at M c s ps
-  all_made j all is = ap (λ N. effects N (further_points c ps j ++ last_edge c j ∷ [])) (first_made M c s ps n goes)
-      ∙ effects-append (path_at M c s ps 0) (further_points c ps j) (last_edge c j ∷ []) ∙ ap (λ N. effect N (last_edge c j)) (walked j (omega (arith, all))).1 ∙ close_made M c s ps n goes j all is
-
-  all_sound : (j : ℕ) → n ≡ suc j → length ps ≡ n → Sound (lamina_at M c s ps)
-  all_sound j all is = subst Sound (close_made M c s ps n goes j all is)
-      (effect_keeps_sound (path_at M c s ps j) (last_edge c j) (path_sound M c s ps n goes j (omega (arith, all))) (close_accepted M c s ps n goes j all))
+  all_lead : (j : ℕ) → n ≡ suc j → length ps ≡ n → Leads M (lamina_at M c s ps) (first_point c s ps ∷ further_points c ps j ++ last_edge c j ∷ [])
+  all_lead j all is =
+      leads_first M (path_at M c s ps 0) (lamina_at M c s ps) (first_point c s ps) (further_points c ps j ++ last_edge c j ∷ []) (first_accepted M c s ps n goes) (first_made M c s ps n goes)
+      (leads_on (path_at M c s ps 0) (path_at M c s ps j) (lamina_at M c s ps) (further_points c ps j) (last_edge c j ∷ []) (walked j (omega (arith, all)))
+      (leads_one (path_at M c s ps j) (lamina_at M c s ps) (last_edge c j) (close_accepted M c s ps n goes j all) (close_made M c s ps n goes j all is)))
 
 one_less : (n : ℕ) → 3 ≤ n → n ≡ suc (n - 1)
 one_less n l = omega (arith, l)
 
+lamina_leads : (M : Model) (s : ℕ) (ps : List Point) → Sound M → lamina_refusal M s ps ≡ None → Leads M (lamina_model M s ps) (lamina_operators M s ps)
+unfolding lamina_operators lamina_model
+lamina_leads M s ps sound e = let goes = lamina_goes M s ps sound e in all_lead M (taken_in M) s ps (length ps) goes (length ps - 1) (one_less (length ps) goes.many) refl
+
 pub operators_are_accepted : OperatorsAreAccepted
-unfolding lamina_operators
-operators_are_accepted M s ps sound e = let goes = lamina_goes M s ps sound e in all_accepted M (taken_in M) s ps (length ps) goes (length ps - 1) (one_less (length ps) goes.many)
+operators_are_accepted M s ps sound e = (lamina_leads M s ps sound e).accepted
 
 pub operators_make_lamina : OperatorsMakeLamina
-unfolding lamina_operators lamina_model
-operators_make_lamina M s ps sound e = let goes = lamina_goes M s ps sound e in all_made M (taken_in M) s ps (length ps) goes (length ps - 1) (one_less (length ps) goes.many) refl
+operators_make_lamina M s ps sound e = (lamina_leads M s ps sound e).made
 
 pub lamina_is_sound : LaminaIsSound
-unfolding lamina_model
-lamina_is_sound M s ps sound e = let goes = lamina_goes M s ps sound e in all_sound M (taken_in M) s ps (length ps) goes (length ps - 1) (one_less (length ps) goes.many) refl
+lamina_is_sound M s ps sound e = leads_sound M (lamina_model M s ps) (lamina_operators M s ps) sound (lamina_leads M s ps sound e)

@@ -143,12 +143,12 @@ module _ (M : Model) (f : ℕ) (d : Point) (sound : Sound M) (accepted : prism_r
   -- no operator of a sweep is refused
   pub sweep_accepted : AreAccepted M (sweep_ops M f d)
   unfolding sweep_ops
-  sweep_accepted = (loops_swept M M (taken_in M) f d (loops_of M f) begins).0
+  sweep_accepted = (loops_swept M M (taken_in M) f d (loops_of M f) begins).accepted
 
   -- and they leave the prism
   pub sweep_is_prism : effects M (sweep_ops M f d) ≡ prism_model M f d
   unfolding sweep_ops prism_model
-  sweep_is_prism = (loops_swept M M (taken_in M) f d (loops_of M f) begins).1
+  sweep_is_prism = (loops_swept M M (taken_in M) f d (loops_of M f) begins).made
 
   pub prism_sound : Sound (prism_model M f d)
   prism_sound = subst Sound sweep_is_prism (effects_keep_sound M (sweep_ops M f d) sound sweep_accepted)

@@ -22,7 +22,7 @@ use Rattle.euler_operators.specs.Conditions.{first_false}
 use Rattle.euler_operators.specs.Effect.{effect}
 use Rattle.euler_laws.specs.Laws.{AreAccepted, effects}
 use Rattle.euler_laws.proofs.Cases.{effect_keeps_sound}
-use Rattle.euler_laws.proofs.Runs.{effects-append, AreAccepted-append, effects_keep_sound}
+use Rattle.euler_laws.proofs.Runs.{Leads, leads_one, leads_on, leads_sound}
 use Rattle.euler_laws.proofs.shared.Undo.{same_model}
 use Rattle.shapes.specs.Faces.{start}
 use Rattle.shapes.specs.Fresh.{Taken}
@@ -95,21 +95,18 @@ module _ (M : Model) (c : Taken) (f l : ℕ) (d : Point) (hs : List ℕ) (w : Re
   -- ---- the rounds
 
   abbrev pub Rounds : ℕ → Type 0
-  Rounds i = AreAccepted M (rounds M c d hs i) × (effects M (rounds M c d hs i) ≡ prism_part c f l d hs i M)
+  Rounds i = Leads M (prism_part c f l d hs i M) (rounds M c d hs i)
 
   part_sound : (i : ℕ) → Rounds i → Sound (prism_part c f l d hs i M)
-  part_sound i r = subst Sound r.1 (effects_keep_sound M (rounds M c d hs i) w.sound r.0)
+  part_sound i = leads_sound M (prism_part c f l d hs i M) (rounds M c d hs i) w.sound
 
   pub rounds_go : (i : ℕ) → i < length hs → Rounds i
-  rounds_go zero lt = ((first_accepted, tt), first_is)
+  rounds_go zero lt = leads_one M (prism_part c f l d hs 0 M) (raise M c d hs 0) first_accepted first_is
   rounds_go (suc i) lt =
       let r : Rounds i = rounds_go i (omega arith) in
-      let s : Sound (prism_part c f l d hs i M) = part_sound i r in (
-        AreAccepted-append M (rounds M c d hs i) (raise M c d hs (suc i) ∷ close c (length hs) i ∷ []) r.0
-            (subst (λ X. AreAccepted X (raise M c d hs (suc i) ∷ close c (length hs) i ∷ [])) (sym r.1) (round_accepted M c f l d hs w i lt s)),
-        effects-append M (rounds M c d hs i) (raise M c d hs (suc i) ∷ close c (length hs) i ∷ [])
-            ∙ ap (λ X. effects X (raise M c d hs (suc i) ∷ close c (length hs) i ∷ [])) r.1 ∙ round_is M c f l d hs w i lt s,
-      )
+      let s : Sound (prism_part c f l d hs i M) = part_sound i r in
+      leads_on M (prism_part c f l d hs i M) (prism_part c f l d hs (suc i) M) (rounds M c d hs i) (raise M c d hs (suc i) ∷ close c (length hs) i ∷ []) r
+      (record { accepted = round_accepted M c f l d hs w i lt s; made = round_is M c f l d hs w i lt s })
 
   -- the row of the first top edge
   first_top : (i : ℕ) → i < length hs → table.get (with_sides c (solid_of M f) d hs (suc i) M).edges (top_edge c.edge (length hs) 0) ≡ Some (record { plus_tail = c.vertex + 1 + 0; minus_tail = c.vertex + 1 + next_place (length hs) 0 })
@@ -274,10 +271,10 @@ module _ (M : Model) (c : Taken) (f l : ℕ) (d : Point) (hs : List ℕ) (w : Re
   swept_at : (j : ℕ) → suc (suc j) ≡ length hs → Swept (rounds M c d hs (suc j) ++ close_last c (length hs) (suc j) ∷ [])
   swept_at j last =
       let r : Rounds (suc j) = rounds_go (suc j) (omega (arith, last)) in
-      let s : Sound (prism_part c f l d hs (suc j) M) = part_sound (suc j) r in (
-        AreAccepted-append M (rounds M c d hs (suc j)) (close_last c (length hs) (suc j) ∷ []) r.0 (subst (λ X. AreAccepted X (close_last c (length hs) (suc j) ∷ [])) (sym r.1) (last_accepted j last s)),
-        effects-append M (rounds M c d hs (suc j)) (close_last c (length hs) (suc j) ∷ []) ∙ ap (λ X. effects X (close_last c (length hs) (suc j) ∷ [])) r.1 ∙ last_is j last s,
-      )
+      let s : Sound (prism_part c f l d hs (suc j) M) = part_sound (suc j) r in
+      let led = leads_on M (prism_part c f l d hs (suc j) M) (lifted (with_sides c (solid_of M f) d hs (length hs) M) f l (top_items c.edge (length hs) (length hs))) (rounds M c d hs (suc j)) (close_last c (length hs) (suc j) ∷ []) r
+      (record { accepted = last_accepted j last s; made = last_is j last s }) in
+      (led.accepted, led.made)
 
   pub loop_swept : Swept (loop_ops M c d hs)
   loop_swept =

@@ -50,10 +50,10 @@ module _ (M : Model) (c : Taken) (f l : ℕ) (d : Point) (hs : List ℕ) (w : Re
 
   module _ (i : ℕ) (lt : i < length hs) where
     pub turn_half : (h : ℕ) → IsIn h hs → HasHalf (N i) h
-    turn_half h j = subst (λ X. HasHalf X h) (sym (rounds_go M c f l d hs w i lt).1) (part_half i h (half_there M c f l d hs w h j))
+    turn_half h j = subst (λ X. HasHalf X h) (sym (rounds_go M c f l d hs w i lt).made) (part_half i h (half_there M c f l d hs w h j))
 
     pub turn_start : (h : ℕ) → IsIn h hs → start (N i) h ≡ start M h
-    turn_start h j = ap (λ X. start X h) (rounds_go M c f l d hs w i lt).1 ∙ part_start i h (half_there M c f l d hs w h j)
+    turn_start h j = ap (λ X. start X h) (rounds_go M c f l d hs w i lt).made ∙ part_start i h (half_there M c f l d hs w h j)
 
     pub turn_range : (h : ℕ) → IsIn h hs → IsInRange (moved (start (N i) h) d)
     turn_range h j = subst (λ p. IsInRange (moved p d)) (sym (turn_start h j)) (w.points_fit h j)
@@ -68,7 +68,7 @@ module _ (M : Model) (c : Taken) (f l : ℕ) (d : Point) (hs : List ℕ) (w : Re
     raises = ap (λ p. Mev (At (half (get_or hs (suc i) 0))) (At (half (get_or hs (suc i) 0))) (half (plus (riser c.edge (suc i)))) (c.vertex + 1 + suc i) (moved p d)) (turn_start i (omega arith) (get_or hs (suc i) 0) g_in)
 
     both : AreAccepted (N i) (raise M c d hs (suc i) ∷ close c (length hs) i ∷ [])
-    both = AreAccepted-back M (rounds M c d hs i) (raise M c d hs (suc i) ∷ close c (length hs) i ∷ []) (rounds_go M c f l d hs w (suc i) lt).0
+    both = AreAccepted-back M (rounds M c d hs i) (raise M c d hs (suc i) ∷ close c (length hs) i ∷ []) (rounds_go M c f l d hs w (suc i) lt).accepted
 
     pub raise_accepted : first_false (N i) (raise_item (N i) c d (get_or hs (suc i) 0) (suc i)) ≡ None
     raise_accepted = ap (first_false (N i)) raises ∙ both.0

@@ -1,5 +1,5 @@
 -- The loops of a face swept one after the other.
-use Rattle.std.proofs.Common.{◌≡◌, ◌≢◌, ℕ, zero, suc, ◌+◌, ◌-◌, ◌*◌, ◌≤◌, ◌<◌, List, [], ◌∷◌, ◌++◌, length, Some, None, is_some, refl, sym, ap, ◌∙◌, subst, arith}
+use Rattle.std.proofs.Common.{◌≡◌, ◌≢◌, ℕ, zero, suc, ◌+◌, ◌-◌, ◌*◌, ◌≤◌, ◌<◌, List, [], ◌∷◌, ◌++◌, length, Some, None, is_some, sym, ap, ◌∙◌, subst, arith}
 use Rattle.std.specs.Prelude.{get_or, map}
 use Rattle.std.proofs.lemmas.List.{length-append, length-map}
 use Rattle.euler_operators.specs.declared.Point.{Point}
@@ -20,7 +20,7 @@ use Rattle.euler_operators.proofs.Tables.{get-put_other, in_use_within}
 use Rattle.euler_operators.specs.declared.Op.{Op}
 use Rattle.euler_operators.specs.declared.Op.TheVariants.{Mev}
 use Rattle.euler_laws.specs.Laws.{AreAccepted, effects}
-use Rattle.euler_laws.proofs.Runs.{effects-append, AreAccepted-append, effects_keep_sound}
+use Rattle.euler_laws.proofs.Runs.{Leads, leads_none, leads_on, effects_keep_sound}
 use Rattle.shapes.specs.Faces.{start, vertices_on, vertices_in}
 use Rattle.shapes.specs.Fresh.{Taken}
 use Rattle.shapes.specs.Prism.{riser, top_items, with_sides, lifted, raised, raised_over, prism_from}
@@ -155,12 +155,11 @@ module _ (M N : Model) (c : Taken) (f l : ℕ) (d : Point) (ls : List ℕ) (g : 
     turn_model = (λ j. (prism_from f d (record { model = is_swept j; taken = taken_after c (length (same_items j)) }) ls).model) ∙ ap (λ q. (prism_from f d q ls).model) (sym raised_is)
 
 -- the operators of the loops are accepted, and sweep them
-pub loops_swept : (M N : Model) (c : Taken) (f : ℕ) (d : Point) (ls : List ℕ) → Going M N c f d ls → AreAccepted N (ops_from M d c ls) × (effects N (ops_from M d c ls) ≡ (prism_from f d (record { model = N; taken = c }) ls).model)
-loops_swept M N c f d [] g = (tt, refl)
+pub loops_swept : (M N : Model) (c : Taken) (f : ℕ) (d : Point) (ls : List ℕ) → Going M N c f d ls → Leads N (prism_from f d (record { model = N; taken = c }) ls).model (ops_from M d c ls)
+loops_swept M N c f d [] g = leads_none N
 loops_swept M N c f d (l ∷ ls) g =
     let hs : List ℕ = items_of (content M l) in
     let more : List Op = ops_from M d (taken_after c (length hs)) ls in
-    let rest = loops_swept M (N' M N c f l d ls g) (taken_after c (length hs)) f d ls (next M N c f l d ls g) in (
-      AreAccepted-append N (loop_ops M c d hs) more (accepted M N c f l d ls g) (subst (λ X. AreAccepted X more) (sym (swept M N c f l d ls g)) rest.0),
-      effects-append N (loop_ops M c d hs) more ∙ ap (λ X. effects X more) (swept M N c f l d ls g) ∙ rest.1 ∙ ap (λ q. (prism_from f d q ls).model) (sym (raised_is M N c f l d ls g)),
-    )
+    leads_on N (N' M N c f l d ls g) (prism_from f d (record { model = N; taken = c }) (l ∷ ls)).model (loop_ops M c d hs) more
+    (record { accepted = accepted M N c f l d ls g; made = swept M N c f l d ls g })
+    (subst (λ X. Leads (N' M N c f l d ls g) X more) (ap (λ q. (prism_from f d q ls).model) (sym (raised_is M N c f l d ls g))) (loops_swept M (N' M N c f l d ls g) (taken_after c (length hs)) f d ls (next M N c f l d ls g)))
