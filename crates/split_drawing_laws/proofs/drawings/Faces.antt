@@ -4,17 +4,19 @@ use Rattle.std.proofs.lemmas.Bool.{eqb-true}
 use Rattle.euler_operators.specs.declared.Plane.{Plane}
 use Rattle.euler_operators.specs.Model.{Model, content}
 use Rattle.euler_operators.specs.declared.Op.{Op}
-use Rattle.euler_operators.specs.Conditions.{has_rings}
+use Rattle.euler_operators.specs.Conditions.{has_rings, face_at}
+use Rattle.euler_operators.specs.Effect.{ring_in}
 use Rattle.shapes.specs.Faces.{vertices_on}
 use Rattle.shapes.specs.split.Sides.{some_above}
-use Rattle.shapes.specs.split.Drawing.{Drawing, stuck_at, all_joined, ring_free, all_drawn, rings_above, with_rings, drawn_between}
+use Rattle.shapes.specs.split.Drawing.{Drawing, face_drawn, loops_joined, stuck_at, all_joined, ring_free, all_drawn, rings_above, with_rings, drawn_between}
 use Rattle.split_drawing_laws.specs.drawings.DrawingOps.{draw_ops, ring_ops, share_ops, drawn_ops, join_ops, face_ops}
 use Rattle.split_drawing_laws.specs.drawings.DrawnIn.{DrawnIn, Fresh, PairsHaveRoom}
-use Rattle.split_drawing_laws.specs.drawings.Pairs.{AllFit}
+use Rattle.split_drawing_laws.specs.drawings.Pairs.{Fits, AllFit}
+use Rattle.split_drawing_laws.proofs.drawings.Drawn.{CanDraw, CanJoin}
 use Rattle.split_drawing_laws.proofs.drawings.Pairs.{none_joined, joined_drawn, drawn_newer}
 use Rattle.split_drawing_laws.specs.drawings.Passing.{Ready, Joining, Going}
-use Rattle.split_drawing_laws.proofs.drawings.Passes.{Joins, joins_go, join_next_one, Draws, draws_go, draw_next_one, cut_off, room_as, edge_fits, face_fits, loop_fits}
-use Rattle.split_drawing_laws.proofs.drawings.Rings.{Newer, Moved, rings_move, rings_are, rings_apart}
+use Rattle.split_drawing_laws.proofs.drawings.Passes.{either_now, Joins, joins_go, joins_keep, join_next_one, can_now, draws_keep, Draws, draws_go, draw_next_one, cut_off, room_as, edge_fits, face_fits, loop_fits}
+use Rattle.split_drawing_laws.proofs.drawings.Rings.{RingOf, Newer, Moved, rings_keep, rings_move, rings_are, rings_apart}
 use Rattle.split_drawing_laws.proofs.drawings.Runs.{Leads, leads_none, leads_on}
 
 -- being stuck changes nothing else
@@ -137,3 +139,43 @@ module _ (p : Plane) (f : ℕ) (qs : List (ℕ × ℕ)) (d : Drawing) (n : ℕ) 
         fresh = s.2;
         room = s.3;
       }
+
+-- what holds of a model, and stays as loops of f are joined, edges are drawn in f and its rings are moved, holds once f is drawn
+module _ (p : Plane) (f : ℕ) (qs : List (ℕ × ℕ)) (d : Drawing) (n : ℕ) (w : Ready p f qs d n) (P : Model → Type 0)
+    (join : (N : Model) (c k e : ℕ) → CanJoin N c k e → face_at N c ≡ f → P N → P (loops_joined N c k e))
+    (draw : (N : Model) (q : ℕ × ℕ) (e g l : ℕ) → CanDraw N q.0 q.1 e g l → DrawnIn d.model N f → Fits d.model f q → P N → P (face_drawn N q.0 q.1 e g l))
+    (move : (N : Model) (l k : ℕ) → DrawnIn d.model N f → RingOf N f l → Newer d.model N f k → P N → P (ring_in N l k)) where
+  abbrev joined : Drawing
+  joined = all_joined qs d
+
+  abbrev free : Drawing
+  free = ring_free f qs joined
+
+  abbrev ended : Drawing
+  ended = all_drawn f free
+
+  abbrev stopped : Bool
+  stopped = nat_lt 1 (length qs) && has_rings joined.model f
+
+  joined_keeps : P d.model → P joined.model
+  joined_keeps = joins_keep d.model f (λ x rs. P x.model) (λ x q rs m fits u e a. a)
+      (λ x q rs m fits u e a. either_now d.model f x q rs m fits u e P (λ c k can at to. join x.model c k (x.taken.edge + 1) can at a)) (record d { left = [] }) qs n w.fit (begun_joining p f qs d n w)
+
+  stopped_keeps : (b : Bool) → P joined.model → P (cond b (stuck_at f joined) joined).model
+  stopped_keeps true a = a
+  stopped_keeps false a = a
+
+  ended_keeps : P free.model → P ended.model
+  ended_keeps = draws_keep d.model f (λ x rs. P x.model) w.sound (λ x q rs m fits u e a. a)
+      (λ x q rs m fits u e a. draw x.model q (x.taken.edge + 1) (x.taken.face + 1) (x.taken.loop + 1) (can_now d.model f w.sound x q rs m fits u e) u.drawn fits a)
+      free free.left n (fitting_on d.model f f stopped joined (joins p f qs d n w).state.pairs) (going_on d.model f n stopped joined (going p f qs d n w))
+
+  shared_keeps : (b : Bool) → nat_eq (length qs) 1 ≡ b → P ended.model → P (cond b (record ended { model = with_rings ended.model (rings_above ended.model p f) ended.taken.face }) ended).model
+  shared_keeps true e a = rings_keep d.model f ended.taken.face P (λ N l. move N l ended.taken.face) ended.model (rings_above ended.model p f) (last p f qs d n w).drawn
+      (rings_are ended.model f (λ l. some_above ended.model p (vertices_on ended.model (content ended.model l))))
+      (rings_apart ended.model f (λ l. some_above ended.model p (vertices_on ended.model (content ended.model l))))
+      (newer_face p f qs d n w (eqb-true (length qs) 1 e)) a
+  shared_keeps false e a = a
+
+  pub between_keeps : P d.model → P (drawn_between p f qs d).model
+  between_keeps a = shared_keeps (nat_eq (length qs) 1) refl (ended_keeps (stopped_keeps stopped (joined_keeps a)))

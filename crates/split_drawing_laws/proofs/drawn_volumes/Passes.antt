@@ -1,23 +1,18 @@
--- The two passes over the pairs of a face, and its rings: volumes and planes stay.
-use Rattle.std.proofs.Common.{◌≡◌, ◌≢◌, ℕ, ◌+◌, List, [], None, is_some, refl, sym, ap, ◌∙◌, subst, ◌⊎◌, inl, inr, true≢false}
-use Rattle.std.specs.Prelude.{fold}
+-- Two loops of a face joined, an edge drawn in it, and a ring of it moved: volumes and planes stay.
+use Rattle.std.proofs.Common.{◌≡◌, ◌≢◌, ℕ, [], None, is_some, refl, sym, ap, ◌∙◌, subst, ◌⊎◌, inl, inr, true≢false}
 use Rattle.std.proofs.lemmas.Bool.Decides.{eqb_tells}
 use Rattle.euler_operators.specs.declared.Plane.{Plane}
-use Rattle.euler_operators.specs.Items.{IsApart}
 use Rattle.euler_operators.proofs.Models.{same_solid}
 use Rattle.euler_operators.specs.Table as table
 use Rattle.euler_operators.specs.Model.{Model, outer, solid_of}
 use Rattle.euler_operators.specs.Sound.{Sound, Has}
 use Rattle.euler_operators.specs.Conditions.{face_at}
 use Rattle.euler_operators.specs.Effect.{ring_in}
-use Rattle.shapes.specs.split.Drawing.{Drawing, face_drawn, loops_joined, join_next, draw_next, with_rings}
+use Rattle.shapes.specs.split.Drawing.{face_drawn, loops_joined}
 use Rattle.shapes.specs.Measure.{six_volume}
 use Rattle.split_drawing_laws.specs.drawings.DrawnIn.{DrawnIn}
-use Rattle.split_drawing_laws.specs.drawings.Pairs.{AllFit}
 use Rattle.split_drawing_laws.proofs.drawings.Drawn.{CanDraw, CanJoin}
-use Rattle.split_drawing_laws.specs.drawings.Passing.{Joining, Going}
-use Rattle.split_drawing_laws.proofs.drawings.Passes.{either_now, joins_keep, can_now, draws_keep}
-use Rattle.split_drawing_laws.proofs.drawings.Rings.{RingOf, AreRings, Newer, rings_keep}
+use Rattle.split_drawing_laws.proofs.drawings.Rings.{RingOf, Newer}
 use Rattle.split_drawing_laws.proofs.face_sides.Beside.{never_free}
 use Rattle.split_drawing_laws.proofs.drawn_volumes.Bounds.{OnFace}
 use Rattle.split_drawing_laws.proofs.drawn_volumes.Draws as draws
@@ -60,7 +55,7 @@ module _ (M : Model) (f : ℕ) (sound : Sound M) (f_there : Has M.faces f) (r : 
     was : (g : ℕ) → Has J.faces g → Has X.faces g
     was g there = subst (λ t. Has t g) same there
 
-    join_within : Within M J f
+    pub join_within : Within M (loops_joined X c d e) f
     join_within = record {
       volumes = λ v. join_volumes X c d e can r some (subst (OnFace X r) (sym at) (w.olds f f_there r on_f)) v ∙ w.volumes v;
       there = λ g there. subst (λ t. Has t g) (sym same) (w.there g there);
@@ -69,11 +64,6 @@ module _ (M : Model) (f : ℕ) (sound : Sound M) (f_there : Has M.faces f) (r : 
       old_solid = λ g there. same_solid X J g (ap (λ t. table.get t g) same) ∙ w.old_solid g there;
       new_solid = λ g there none. same_solid X J g (ap (λ t. table.get t g) same) ∙ w.new_solid g (was g there) none;
     }
-
-  -- first pass
-  pub joins_within : (d : Drawing) (qs : List (ℕ × ℕ)) (n : ℕ) → AllFit M f qs → Joining M f d qs n → Within M d.model f → Within M (fold join_next d qs).model f
-  joins_within = joins_keep M f (λ x rs. Within M x.model f) (λ d q qs n fits w e a. a)
-      (λ d q qs n fits w e a. either_now M f d q qs n fits w e (λ X. Within M X f) (λ c k can at to. join_within d.model c k (d.taken.edge + 1) can at a))
 
   -- ---- an edge drawn
 
@@ -103,7 +93,7 @@ module _ (M : Model) (f : ℕ) (sound : Sound M) (f_there : Has M.faces f) (r : 
     was_there : (h : ℕ) → h ≢ g → Has K.faces h → Has X.faces h
     was_there h ne there = sym (ap is_some (draws.face_else X u k e g l can h ne)) ∙ there
 
-    draw_within : Within M K f
+    pub draw_within : Within M (face_drawn X u k e g l) f
     draw_within = record {
       volumes = λ v. draw_volumes X u k e g l can r some (comes_on r on_f) v ∙ w.volumes v;
       there = λ h there. ap is_some (old_row h (w.there h there)) ∙ w.there h there;
@@ -118,11 +108,6 @@ module _ (M : Model) (f : ℕ) (sound : Sound M) (f_there : Has M.faces f) (r : 
         | inr s ↦ same_solid X K h (draws.face_else X u k e g l can h s.1) ∙ w.new_solid h (was_there h s.1 there) none
       ];
     }
-
-  -- second pass
-  pub draws_within : (d : Drawing) (qs : List (ℕ × ℕ)) (n : ℕ) → AllFit M f qs → Going M f d qs n → Within M d.model f → Within M (fold (draw_next f) d qs).model f
-  draws_within = draws_keep M f (λ x rs. Within M x.model f) sound (λ d q qs n fits w e a. a)
-      (λ d q qs n fits w e a. draw_within d.model q.0 q.1 (d.taken.edge + 1) (d.taken.face + 1) (d.taken.loop + 1) (can_now M f sound d q qs n fits w e) (w.drawn.within q.0 fits.u_there fits.u_face) a)
 
   -- ---- a ring moved to a new face
 
@@ -148,7 +133,7 @@ module _ (M : Model) (f : ℕ) (sound : Sound M) (f_there : Has M.faces f) (r : 
     has_was : (g : ℕ) → Has R.faces g → Has X.faces g
     has_was g there = sym (ap is_some (row_same g)) ∙ there
 
-    move_within : Within M R f
+    pub move_within : Within M (ring_in X l k) f
     move_within = record {
       volumes = λ v. move_volumes X f l k can r some (w.olds f f_there r on_f) (w.news k newer.there newer.new r on_f) v ∙ w.volumes v;
       there = λ g there. ap is_some (row_same g) ∙ w.there g there;
@@ -160,6 +145,3 @@ module _ (M : Model) (f : ℕ) (sound : Sound M) (f_there : Has M.faces f) (r : 
       old_solid = λ g there. same_solid X R g (row_same g) ∙ w.old_solid g there;
       new_solid = λ g there none. same_solid X R g (row_same g) ∙ w.new_solid g (has_was g there) none;
     }
-
-  pub rings_within : (X : Model) (k : ℕ) (ls : List ℕ) → DrawnIn M X f → AreRings X f ls → IsApart ls → Newer M X f k → Within M X f → Within M (with_rings X ls k) f
-  rings_within X k = rings_keep M f k (λ Y. Within M Y f) (λ Y l. move_within Y l k) X

@@ -1,66 +1,31 @@
 -- Faces drawn one after the other: volumes stay, and each face of the solid lies on the planes of one that was there before.
-use Rattle.std.proofs.Common.{◌≡◌, ℕ, ◌+◌, Bool, true, false, cond, nat_eq, nat_lt, ◌&&◌, List, [], ◌∷◌, length, None, refl, sym, ◌∙◌, subst, arith}
-use Rattle.std.proofs.lemmas.Bool.{eqb-true}
+use Rattle.std.proofs.Common.{◌≡◌, ℕ, ◌+◌, Bool, true, false, List, [], ◌∷◌, None, refl, sym, ◌∙◌, subst, arith}
 use Rattle.std.specs.Prelude.{fold, map}
 use Rattle.euler_operators.specs.declared.Plane.{Plane}
 use Rattle.euler_operators.specs.Items.{IsIn}
 use Rattle.euler_operators.proofs.Lists.{tick_same}
 use Rattle.euler_operators.proofs.Tables.{no_row}
 use Rattle.euler_operators.specs.Table as table
-use Rattle.euler_operators.specs.Model.{Model, content, solid_of}
+use Rattle.euler_operators.specs.Model.{Model, solid_of}
 use Rattle.euler_operators.specs.Sound.{Has}
-use Rattle.euler_operators.specs.Conditions.{has_rings}
-use Rattle.shapes.specs.Faces.{vertices_on}
 use Rattle.shapes.specs.Measure.{six_volume}
-use Rattle.shapes.specs.split.Sides.{some_above}
-use Rattle.shapes.specs.split.Drawing.{Drawing, stuck_at, all_joined, ring_free, all_drawn, rings_above, with_rings, drawn_between, FacePairs, next_drawn}
+use Rattle.shapes.specs.split.Drawing.{Drawing, drawn_between, FacePairs, next_drawn}
 use Rattle.split_drawing_laws.specs.drawings.Pairs.{pairs_in}
 use Rattle.split_drawing_laws.specs.drawings.Passing.{Ready, Drawable}
-use Rattle.split_drawing_laws.proofs.drawings.Faces.{begun_joining, joins, going, going_on, fitting_on, last, newer_face}
-use Rattle.split_drawing_laws.proofs.drawings.Rings.{rings_are, rings_apart}
+use Rattle.split_drawing_laws.proofs.drawings.Faces.{between_keeps}
 use Rattle.split_drawing_laws.proofs.drawings.Whole.{ready, drawable_on, next_is}
 use Rattle.split_drawing_laws.proofs.face_sides.Beside.{never_free}
 use Rattle.split_drawing_laws.proofs.drawn_volumes.Bounds.{OnFace}
-use Rattle.split_drawing_laws.proofs.drawn_volumes.Passes.{Within, nothing_within, joins_within, draws_within, rings_within}
+use Rattle.split_drawing_laws.proofs.drawn_volumes.Passes.{Within, nothing_within, join_within, draw_within, move_within}
 use Rattle.split_drawing_laws.proofs.drawn_volumes.Volumes.{IsPlane}
-
-staying : (M : Model) (f : ℕ) (b : Bool) (d : Drawing) → Within M d.model f → Within M (cond b (stuck_at f d) d).model f
-staying M f true d w = w
-staying M f false d w = w
 
 -- ---- one face
 
-module _ (p : Plane) (f : ℕ) (qs : List (ℕ × ℕ)) (d : Drawing) (n : ℕ) (w : Ready p f qs d n) (there : Has d.model.faces f) (r : Plane) (some : IsPlane r) (on : OnFace d.model r f) where
-  abbrev M : Model
-  M = d.model
-
-  abbrev J : Drawing
-  J = all_joined qs d
-
-  abbrev stops : Bool
-  stops = nat_lt 1 (length qs) && has_rings J.model f
-
-  abbrev R : Drawing
-  R = ring_free f qs J
-
-  abbrev L : Drawing
-  L = all_drawn f (ring_free f qs (all_joined qs d))
-
-  joined : Within M J.model f
-  joined = joins_within M f w.sound there r some on (record d { left = [] }) qs n w.fit (begun_joining p f qs d n w) (nothing_within M f)
-
-  drawn : Within M L.model f
-  drawn = draws_within M f w.sound there r some on R R.left n (fitting_on M f f stops J (joins p f qs d n w).state.pairs) (going_on M f n stops J (going p f qs d n w)) (staying M f stops J joined)
-
-  shared : (b : Bool) → nat_eq (length qs) 1 ≡ b → Within M (cond b (record L { model = with_rings L.model (rings_above L.model p f) L.taken.face }) L).model f
-  shared true e = rings_within M f w.sound there r some on L.model L.taken.face (rings_above L.model p f) (last p f qs d n w).drawn
-      (rings_are L.model f (λ l. some_above L.model p (vertices_on L.model (content L.model l))))
-      (rings_apart L.model f (λ l. some_above L.model p (vertices_on L.model (content L.model l))))
-      (newer_face p f qs d n w (eqb-true (length qs) 1 e)) drawn
-  shared false e = drawn
-
-  pub face_within : Within d.model (drawn_between p f qs d).model f
-  face_within = shared (nat_eq (length qs) 1) refl
+face_within : (p : Plane) (f : ℕ) (qs : List (ℕ × ℕ)) (d : Drawing) (n : ℕ) → Ready p f qs d n → Has d.model.faces f → (r : Plane) → IsPlane r → OnFace d.model r f → Within d.model (drawn_between p f qs d).model f
+face_within p f qs d n w there r some on = between_keeps p f qs d n w (λ X. Within d.model X f)
+    (join_within d.model f w.sound there r some on)
+    (λ N q e g l can drawn fits. draw_within d.model f w.sound there r some on N q.0 q.1 e g l can (drawn.within q.0 fits.u_there fits.u_face))
+    (move_within d.model f w.sound there r some on) (nothing_within d.model f)
 
 -- ---- some faces
 
