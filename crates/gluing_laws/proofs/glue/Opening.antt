@@ -36,6 +36,7 @@ use Rattle.euler_laws.proofs.kev.Kev.{kev_accepted}
 use Rattle.euler_laws.proofs.kev.MevUndo.{as_cycle}
 use Rattle.euler_laws.specs.Laws.{effects, AreAccepted}
 use Rattle.euler_laws.proofs.Cases.{effect_keeps_sound}
+use Rattle.euler_laws.proofs.Runs.{Leads, leads_one, leads_first}
 use Rattle.sweeps_laws.proofs.prism.Steps.{edge_plus}
 use Rattle.shapes.specs.Rewriting.{rewritten, rewritten_row, renamed}
 use Rattle.shapes.specs.glue.Glue.{renamed_tails}
@@ -448,27 +449,14 @@ module _ (M : Model) (f g : ℕ) (partner_of : ℕ → ℕ) (h : ℕ) (mid : Lis
   C_X = λ i. record { solids = solids_then i; faces = faces_then i; loops = loops_then i; edges = edges_then i; vertices = vertices_then i }
 
   -- the four operators are accepted, and then no item is glued yet but the end of the last one
+  pub opened : Leads M X (opening M f g h k x)
+  opened = leads_first M M1 X (Merge s t) (Kfmrh f g ∷ Mekr (At (half h)) (At (half k)) (half (plus x)) ∷ Kev (half (plus x)) ∷ []) merge_ok M1_is
+      (leads_first M1 A X (Kfmrh f g) (Mekr (At (half h)) (At (half k)) (half (plus x)) ∷ Kev (half (plus x)) ∷ []) kfmrh_ok A_is
+      (leads_first A B X (Mekr (At (half h)) (At (half k)) (half (plus x))) (Kev (half (plus x)) ∷ []) mekr_ok B_is
+      (leads_one B X (Kev (half (plus x))) kev_ok (C_is ∙ C_X))))
+
   pub opening_accepted : AreAccepted M (opening M f g h k x)
-  opening_accepted = (
-    merge_ok,
-    (
-      subst (λ Y. first_false Y (Kfmrh f g) ≡ None) (sym M1_is) kfmrh_ok,
-      (
-        subst (λ Y. first_false (effect Y (Kfmrh f g)) (Mekr (At (half h)) (At (half k)) (half (plus x))) ≡ None) (sym M1_is)
-            (subst (λ Y. first_false Y (Mekr (At (half h)) (At (half k)) (half (plus x))) ≡ None) (sym A_is) mekr_ok),
-        (
-          subst (λ Y. first_false (effect (effect Y (Kfmrh f g)) (Mekr (At (half h)) (At (half k)) (half (plus x)))) (Kev (half (plus x))) ≡ None) (sym M1_is)
-              (subst (λ Y. first_false (effect Y (Mekr (At (half h)) (At (half k)) (half (plus x)))) (Kev (half (plus x))) ≡ None) (sym A_is)
-              (subst (λ Y. first_false Y (Kev (half (plus x))) ≡ None) (sym B_is) kev_ok)),
-          tt,
-        ),
-      ),
-    ),
-  )
+  opening_accepted = opened.accepted
 
   pub opening_is : effects M (opening M f g h k x) ≡ X
-  opening_is =
-      ap (λ Y. effect (effect (effect Y (Kfmrh f g)) (Mekr (At (half h)) (At (half k)) (half (plus x)))) (Kev (half (plus x)))) M1_is
-      ∙ ap (λ Y. effect (effect Y (Mekr (At (half h)) (At (half k)) (half (plus x)))) (Kev (half (plus x)))) A_is
-      ∙ ap (λ Y. effect Y (Kev (half (plus x)))) B_is
-      ∙ C_is ∙ C_X
+  opening_is = opened.made

@@ -30,8 +30,8 @@ use Rattle.euler_laws.proofs.kev.Kev.{kev_accepted}
 use Rattle.euler_laws.proofs.mef.KefSound as kill
 use Rattle.euler_laws.proofs.mef.KefSound.{KefGoes}
 use Rattle.euler_laws.proofs.mef.Kef.{kef_accepted}
-use Rattle.euler_laws.specs.Laws.{effects, AreAccepted}
 use Rattle.euler_laws.proofs.Cases.{effect_keeps_sound}
+use Rattle.euler_laws.proofs.Runs.{Leads, leads_one, leads_first}
 use Rattle.euler_laws.proofs.shared.KnownLoop.{Around, apart_xs, loop_is, half_is}
 use Rattle.sweeps_laws.proofs.prism.Steps.{with_chord, mef_does, mef_fits}
 use Rattle.shapes.specs.glue.GlueOps.{closing}
@@ -345,14 +345,6 @@ module _ (N : Model) (l f g h k : ℕ) (qs : List ℕ) (x s r : ℕ) (c : Closes
   closed_is = ap (kef B) (code-half (mate g)) ∙ kef_is
 
   -- the three operators
-  pub closing_accepted : AreAccepted N (closing g k x s r)
-  closing_accepted = (
-    mef_ok,
-    (
-      subst (λ X. first_false X (Kev (half (minus x))) ≡ None) (sym A_is) kev_ok,
-      (subst (λ X. first_false (effect X (Kev (half (minus x)))) (Kef (half (mate g))) ≡ None) (sym A_is) (subst (λ X. first_false X (Kef (half (mate g))) ≡ None) (sym B_is) kef_ok), tt),
-    ),
-  )
-
-  pub closing_is : effects N (closing g k x s r) ≡ closed
-  closing_is = ap (λ X. effect (effect X (Kev (half (minus x)))) (Kef (half (mate g)))) A_is ∙ ap (λ X. effect X (Kef (half (mate g)))) B_is ∙ closed_is
+  pub closing_leads : Leads N closed (closing g k x s r)
+  closing_leads = leads_first N A closed (Mef (half g) (half k) (half (plus x)) s r) (Kev (half (minus x)) ∷ Kef (half (mate g)) ∷ []) mef_ok A_is
+      (leads_first A B closed (Kev (half (minus x))) (Kef (half (mate g)) ∷ []) kev_ok B_is (leads_one B closed (Kef (half (mate g))) kef_ok closed_is))

@@ -29,7 +29,7 @@ use Rattle.shapes.proofs.glue.Facing.{Facing, side}
 use Rattle.gluing_laws.proofs.glue.Stages as stages
 use Rattle.gluing_laws.proofs.glue.Stages.{Stage}
 use Rattle.gluing_laws.proofs.glue.Mates as mates
-use Rattle.gluing_laws.proofs.glue.Round.{Closes, closed, closing_accepted, closing_is}
+use Rattle.gluing_laws.proofs.glue.Round.{Closes, closed, closing_leads}
 
 module _ (M : Model) (f g : ℕ) (partner_of : ℕ → ℕ) (hs : List ℕ) (x last : ℕ) (done : List ℕ) (h k : ℕ) (more : List ℕ) (w : Stage M f g partner_of hs x last done (h ∷ k ∷ more)) (later : IsIn last (k ∷ more)) where
   abbrev N : Model
@@ -232,7 +232,7 @@ module _ (M : Model) (f g : ℕ) (partner_of : ℕ → ℕ) (hs : List ℕ) (x l
 
   -- the three operators of the item are accepted, and then it is glued too
   pub turn_accepted : AreAccepted N (closing (partner_of h) k x g r)
-  turn_accepted = closing_accepted N l f (partner_of h) h k qs x g r closes
+  turn_accepted = (closing_leads N l f (partner_of h) h k qs x g r closes).accepted
 
   pub turn_is : effects N (closing (partner_of h) k x g r) ≡ X
-  turn_is = closing_is N l f (partner_of h) h k qs x g r closes ∙ (λ i. record { solids = solids_next i; faces = faces_next i; loops = loops_next i; edges = edges_next i; vertices = vertices_next i })
+  turn_is = (closing_leads N l f (partner_of h) h k qs x g r closes).made ∙ (λ i. record { solids = solids_next i; faces = faces_next i; loops = loops_next i; edges = edges_next i; vertices = vertices_next i })

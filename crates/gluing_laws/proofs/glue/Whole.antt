@@ -7,21 +7,20 @@ use Rattle.euler_operators.specs.Model.{Model, outer}
 use Rattle.euler_operators.specs.Sound.{Sound}
 use Rattle.euler_operators.specs.declared.Op.{Op}
 use Rattle.euler_laws.specs.Laws.{effects, AreAccepted}
-use Rattle.euler_laws.proofs.Runs.{effects-append, AreAccepted-append, effects_keep_sound}
+use Rattle.euler_laws.proofs.Runs.{effects_keep_sound, Leads, leads_on, leads_sound}
 use Rattle.shapes.specs.glue.GlueOps.{opening, closing, closings}
 use Rattle.shapes.specs.glue.Part.{glued_part}
 use Rattle.shapes.proofs.glue.Facing.{Facing}
 use Rattle.gluing_laws.proofs.glue.Stages.{Stage}
 use Rattle.gluing_laws.proofs.glue.Turn.{turn_accepted, turn_is}
 use Rattle.gluing_laws.proofs.glue.Ending.{glued_all, ending_ok, ending_is}
-use Rattle.gluing_laws.proofs.glue.Opening.{opening_accepted, opening_is}
+use Rattle.gluing_laws.proofs.glue.Opening.{opened}
 
 module _ (M : Model) (f g : ℕ) (partner_of : ℕ → ℕ) (hs : List ℕ) (x : ℕ) where
   -- the rest of the items, and then the solids are glued
   pub closings_go : (done : List ℕ) (h : ℕ) (more : List ℕ) → Stage M f g partner_of hs x (last_or h more) done (h ∷ more) →
-      AreAccepted (glued_part M f g partner_of (last_or h more) done (h ∷ more)) (closings partner_of x g (outer M g) (h ∷ more))
-      × (effects (glued_part M f g partner_of (last_or h more) done (h ∷ more)) (closings partner_of x g (outer M g) (h ∷ more)) ≡ glued_all M f g partner_of hs)
-  closings_go done h [] w = ((ending_ok M f g partner_of hs x done h w, tt), ending_is M f g partner_of hs x done h w ∙ ap (glued_all M f g partner_of) (sym w.split))
+      Leads (glued_part M f g partner_of (last_or h more) done (h ∷ more)) (glued_all M f g partner_of hs) (closings partner_of x g (outer M g) (h ∷ more))
+  closings_go done h [] w = record { accepted = (ending_ok M f g partner_of hs x done h w, tt); made = ending_is M f g partner_of hs x done h w ∙ ap (glued_all M f g partner_of) (sym w.split) }
   closings_go done h (k ∷ ks) w =
       let last : ℕ = last_or k ks in
       let later : IsIn last (k ∷ ks) = IsIn_last k ks in
@@ -36,8 +35,7 @@ module _ (M : Model) (f g : ℕ) (partner_of : ℕ → ℕ) (hs : List ℕ) (x :
         last_in = later;
         sound = subst Sound is (effects_keep_sound N ops w.sound accepted);
       } in
-      let rest = closings_go (done ++ h ∷ []) k ks next in
-      (AreAccepted-append N ops then accepted (subst (λ X. AreAccepted X then) (sym is) rest.0), effects-append N ops then ∙ ap (λ X. effects X then) is ∙ rest.1)
+      leads_on N (glued_part M f g partner_of last (done ++ h ∷ []) (k ∷ ks)) (glued_all M f g partner_of hs) ops then (record { accepted = accepted; made = is }) (closings_go (done ++ h ∷ []) k ks next)
 
 -- all operators of a glue
 module _ (M : Model) (f g : ℕ) (partner_of : ℕ → ℕ) (h : ℕ) (mid : List ℕ) (last x : ℕ) (w : Facing M f g partner_of (h ∷ (mid ++ last ∷ [])) x) where
@@ -55,15 +53,12 @@ module _ (M : Model) (f g : ℕ) (partner_of : ℕ → ℕ) (h : ℕ) (mid : Lis
     facing = w;
     split = refl;
     last_in = subst (λ n. IsIn n hs) (last_or_push h last mid) (IsIn_last h (mid ++ last ∷ []));
-    sound = subst Sound (opening_is M f g partner_of h mid last x w) (effects_keep_sound M start_ops w.sound (opening_accepted M f g partner_of h mid last x w));
+    sound = leads_sound M (glued_part M f g partner_of last [] hs) start_ops w.sound (opened M f g partner_of h mid last x w);
   }
 
-  goes : AreAccepted (glued_part M f g partner_of last [] hs) other_ops × (effects (glued_part M f g partner_of last [] hs) other_ops ≡ glued_all M f g partner_of hs)
-  goes = subst (λ n. Stage M f g partner_of hs x n [] hs → AreAccepted (glued_part M f g partner_of n [] hs) other_ops × (effects (glued_part M f g partner_of n [] hs) other_ops ≡ glued_all M f g partner_of hs))
+  goes : Leads (glued_part M f g partner_of last [] hs) (glued_all M f g partner_of hs) other_ops
+  goes = subst (λ n. Stage M f g partner_of hs x n [] hs → Leads (glued_part M f g partner_of n [] hs) (glued_all M f g partner_of hs) other_ops)
       (last_or_push h last mid) (closings_go M f g partner_of hs x [] h (mid ++ last ∷ [])) begins
 
-  pub all_accepted : AreAccepted M (start_ops ++ other_ops)
-  all_accepted = AreAccepted-append M start_ops other_ops (opening_accepted M f g partner_of h mid last x w) (subst (λ X. AreAccepted X other_ops) (sym (opening_is M f g partner_of h mid last x w)) goes.0)
-
-  pub all_is : effects M (start_ops ++ other_ops) ≡ glued_all M f g partner_of hs
-  all_is = effects-append M start_ops other_ops ∙ ap (λ X. effects X other_ops) (opening_is M f g partner_of h mid last x w) ∙ goes.1
+  pub all_lead : Leads M (glued_all M f g partner_of hs) (start_ops ++ other_ops)
+  all_lead = leads_on M (glued_part M f g partner_of last [] hs) (glued_all M f g partner_of hs) start_ops other_ops (opened M f g partner_of h mid last x w) goes
