@@ -1,5 +1,5 @@
 -- Two loops of a face joined, an edge drawn in it, and a ring of it moved: volumes and planes stay.
-use Rattle.std.proofs.Common.{◌≡◌, ◌≢◌, ℕ, [], None, is_some, refl, sym, ap, ◌∙◌, subst, ◌⊎◌, inl, inr, true≢false}
+use Rattle.std.proofs.Common.{◌≡◌, ◌≢◌, ℕ, None, is_some, refl, sym, ap, ◌∙◌, subst, ◌⊎◌, inl, inr}
 use Rattle.std.proofs.lemmas.Bool.Decides.{eqb_tells}
 use Rattle.euler_operators.specs.declared.Plane.{Plane}
 use Rattle.euler_operators.proofs.Models.{same_solid}
