@@ -3,29 +3,29 @@ use Rattle.std.proofs.Common.{◌≡◌, ◌≢◌, ℕ, true, false, cond, not,
 use Rattle.std.specs.Prelude.{map}
 use Rattle.std.specs.Option.{option_map}
 use Rattle.std.proofs.lemmas.Bool.Decides.{nat_tests, eqb_tells}
-use Rattle.std.proofs.lemmas.Bool.{ne_eqb, eqb-true}
-use Rattle.euler_operators.specs.Vectors.{moved, dot, cross}
+use Rattle.std.proofs.lemmas.Bool.{ne_eqb}
+use Rattle.euler_operators.specs.Vectors.{moved, dot}
 use Rattle.euler_operators.specs.Items.{count, IsIn, head_or}
 use Rattle.euler_operators.specs.Rings.{canonical}
-use Rattle.euler_operators.proofs.Lists.{tick_same}
-use Rattle.euler_operators.proofs.Rotations.{count-canonical, canonical_nil, IsIn_head}
+use Rattle.euler_operators.proofs.Lists.{tick_same, tick_other}
+use Rattle.euler_operators.proofs.Rotations.{count-canonical, canonical_nil}
 use Rattle.euler_operators.proofs.Maps.{from_map}
 use Rattle.euler_operators.specs.Table as table
 use Rattle.euler_operators.specs.Table.{Table, tables, get-map_rows}
 use Rattle.euler_operators.specs.Model.{Model, LoopContent, lone, cycle, FaceRow, LoopRow, no_face, no_loop, items_of, tail, content, face_of, outer, solid_of, point_of, rings_of}
 use Rattle.euler_operators.specs.Sound.{Has, StandsIn}
 use Rattle.euler_operators.proofs.Models.{in-holds, face_row}
-use Rattle.euler_operators.proofs.Tests.{and_first}
-use Rattle.euler_operators.proofs.Members.{IsIn_rest, IsIn_first}
+use Rattle.euler_operators.proofs.Members.{IsIn_first}
 use Rattle.euler_operators.specs.Conditions.{lists}
 use Rattle.euler_operators.specs.Effect.{faces_to_solid}
-use Rattle.euler_laws.proofs.shared.Listed.{first_listed, rest_listed, listed_cases, listed_passes, listed_front}
+use Rattle.euler_laws.proofs.shared.Listed.{first_listed, rest_listed, listed_front}
 use Rattle.shapes.specs.Faces.{start, items_in, loops_of, boundary, corners, vertices_on}
 use Rattle.shapes.specs.Rewriting.{rewritten, rewritten_row}
 use Rattle.shapes.specs.Measure.{area, normal, anchor, first_vertex, is_flat}
+use Rattle.shapes.proofs.walks.SolidFaces.{face_of_loop}
 use Rattle.shapes.proofs.Areas.{area-append}
 use Rattle.shapes.proofs.measures.FlatFaces.{corner_told}
-use Rattle.shapes.proofs.measures.Sums.{area_same}
+use Rattle.shapes.proofs.measures.Sums.{area_same, area_renamed}
 use Rattle.gluing_laws.proofs.Listed.{one_if, passed, same_search, volume_of}
 use Rattle.gluing_laws.proofs.Seams as seams
 use Rattle.gluing_laws.proofs.Seams.{Seamed, Glued}
@@ -38,10 +38,8 @@ listed_map : (a : ℕ → ℕ) (x : ℕ) (xs : List ℕ) → IsIn x xs → lists
 listed_map a x [] i = absurd (omega (arith, i))
 listed_map a x (y ∷ ys) i = elim (eqb_tells x y) [
   | inl e ↦ ap (λ k. lists (a y ∷ map a ys) (a k)) e.1 ∙ first_listed (a y) (map a ys)
-  | inr e ↦ rest_listed (a y) (a x) (map a ys) (listed_map a x ys (later x y ys i e.1))
-] where
-  later : (x y : ℕ) (ys : List ℕ) → IsIn x (y ∷ ys) → x ≢ y → IsIn x ys
-  later x y ys i ne = grind (arith, nat_tests)
+  | inr e ↦ rest_listed (a y) (a x) (map a ys) (listed_map a x ys (omega (arith, i, tick_other x y e.1)))
+]
 
 -- the items of a face's outer loop start at corners
 pub corner_at : (M : Model) (k : ℕ) (cs : List ℕ) (y : ℕ) → content M (outer M k) ≡ cycle cs → IsIn y cs → lists (corners M k) (tail M y) ≡ true
@@ -51,14 +49,6 @@ corner_at M k cs y is i = listed_front (vertices_on M (content M (outer M k))) _
 -- and so tell what the anchor does
 pub item_told : (M : Model) (k : ℕ) (cs : List ℕ) (y : ℕ) → is_flat M k ≡ true → content M (outer M k) ≡ cycle cs → IsIn y cs → dot (start M y) (normal M k) ≡ dot (anchor M k) (normal M k)
 item_told M k cs y flat is i = corner_told M k (tail M y) flat (corner_at M k cs y is i)
-
--- the loops of a face are of it
-loop_face : (M : Model) (k l : ℕ) → face_of M (outer M k) ≡ k → lists (loops_of M k) l ≡ true → face_of M l ≡ k
-unfolding loops_of
-loop_face M k l own i = elim (listed_cases (outer M k) l (rings_of M k) i) [
-  | inl e ↦ ap (face_of M) e ∙ own
-  | inr j ↦ let r = listed_passes (λ q row. nat_eq row.face k && not (nat_eq (outer M k) q)) M.loops l j in face_row M l r.0 r.1 ∙ eqb-true r.0.face k (and_first _ _ r.2)
-]
 
 module _ (M N : Model) (f g : ℕ) (partner_of : ℕ → ℕ) (hs gs : List ℕ) (w : Seamed M f g partner_of hs gs) (n : Glued M N f g partner_of hs) where
   abbrev swap : ℕ → ℕ
@@ -95,13 +85,9 @@ module _ (M N : Model) (f g : ℕ) (partner_of : ℕ → ℕ) (hs gs : List ℕ)
   unfolding content
   content_is l a b = ap (λ o. (unwrap_or o no_loop).content) (loop_row l a b) ∙ content_in l (table.get M.loops l)
 
-  swapped_area : (cs : List ℕ) → ((y : ℕ) → IsIn y cs → StaysHere (swap y) y) → area N (map swap cs) ≡ area M cs
-  swapped_area [] e = refl
-  swapped_area (y ∷ ys) e = let p = e y (IsIn_head y ys) in λ i. moved (cross (p.0 i) (p.1 i)) (swapped_area ys (λ z j. e z (IsIn_rest z y ys j)) i)
-
   content_area : (c : LoopContent) → ((y : ℕ) → IsIn y (items_of c) → StaysHere (swap y) y) → area N (items_of (rewritten (map swap) c)) ≡ area M (items_of c)
   content_area (lone v) e = refl
-  content_area (cycle cs) e = area_same N (canonical (map swap cs)) (map swap cs) (λ x. count-canonical x (map swap cs)) ∙ swapped_area cs e
+  content_area (cycle cs) e = area_same N (canonical (map swap cs)) (map swap cs) (λ x. count-canonical x (map swap cs)) ∙ area_renamed M N swap cs e
 
   each_swapped : (l : ℕ) → l ≢ outer M g → (y : ℕ) → IsIn y (items_of (content M l)) → StaysHere (swap y) y
   each_swapped l b y i =
@@ -193,7 +179,7 @@ module _ (M N : Model) (f g : ℕ) (partner_of : ℕ → ℕ) (hs gs : List ℕ)
 
     pub normal_is : normal N k ≡ normal M k
     unfolding normal boundary
-    normal_is = ap (λ ls. area N (items_in N ls)) loops_are ∙ loops_area (loops_of M k) (λ l i. loop_else l (loop_face M k l own i))
+    normal_is = ap (λ ls. area N (items_in N ls)) loops_are ∙ loops_area (loops_of M k) (λ l i. loop_else l (face_of_loop M w.sound k l there i).1)
 
     -- ---- anchors
 

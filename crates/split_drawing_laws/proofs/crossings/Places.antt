@@ -1,24 +1,22 @@
 -- Where the cut places of a face are, once the edges are cut.
 use Rattle.std.specs.Prelude.{filter}
-use Rattle.std.proofs.Common.{◌≡◌, ℕ, Bool, true, false, cond, not, nat_eq, ◌&&◌, ◌||◌, None, is_some, unwrap_or, refl, sym, ap, ◌∙◌, subst, arith, inl, inr, true≢false}
-use Rattle.std.proofs.lemmas.Bool.Decides.{eqb_tells}
+use Rattle.std.proofs.Common.{◌≡◌, ℕ, Bool, true, false, cond, nat_eq, ◌&&◌, ◌||◌, None, is_some, unwrap_or, refl, sym, ap, ◌∙◌, subst, arith, inl, inr, true≢false}
 use Rattle.std.proofs.lemmas.Bool.{eq-eqb, eqb-true}
 use Rattle.euler_operators.specs.declared.Plane.{Plane}
 use Rattle.euler_operators.specs.Vectors.{height, are_opposite, is_on, cut_between}
 use Rattle.euler_operators.specs.Items.{count, IsIn}
-use Rattle.euler_operators.proofs.Lists.{tick_other, IsIn_or_not}
+use Rattle.euler_operators.proofs.Lists.{IsIn_or_not}
 use Rattle.euler_operators.specs.HalfEdge.{edge_of, plus, minus}
-use Rattle.euler_operators.specs.Model.{Model, tail, loop_of, face_of, solid_of, no_face, outer, after, before, point_of, faces_of}
+use Rattle.euler_operators.specs.Model.{Model, tail, loop_of, solid_of, no_face, after, before, point_of, faces_of}
 use Rattle.euler_operators.specs.Sound.{Sound, Has, HasHalf}
 use Rattle.euler_operators.proofs.Halves.{mate_plus, mate_minus}
-use Rattle.euler_operators.proofs.Models.{face_row, plus_there, minus_there}
-use Rattle.euler_operators.proofs.Tests.{and_first}
+use Rattle.euler_operators.proofs.Models.{plus_there, minus_there}
 use Rattle.euler_operators.proofs.Members.{IsIn-filter, count-filter, filter_passes}
 use Rattle.euler_operators.proofs.Crossings.{opposite_turned, level_on, not_level}
 use Rattle.euler_operators.specs.Conditions.{first_refusal, face_at, lists}
 use Rattle.euler_laws.proofs.shared.Arcs.{halves_of_edge}
 use Rattle.euler_laws.proofs.shared.Fans.{half_after, loop_after}
-use Rattle.euler_laws.proofs.shared.Listed.{IsIn-from_listed}
+use Rattle.euler_laws.proofs.shared.Listed.{IsIn-from_listed, listed-from_in}
 use Rattle.shapes.specs.Faces.{start, finish, loops_of, boundary, edges_of}
 use Rattle.shapes.specs.split.Sides.{crosses, straddles, straddling_faces, crossing_edges}
 use Rattle.shapes.specs.split.Places.{is_place, place_point, places}
@@ -29,27 +27,19 @@ use Rattle.split_drawing_laws.specs.crossings.AtPlace.{AtPlace}
 use Rattle.split_drawing_laws.proofs.crossings.Runs.{kept_start}
 use Rattle.split_drawing_laws.proofs.crossings.Premises.{crossing_here, crossing_point, one_point, minus_crosses}
 use Rattle.split_drawing_laws.proofs.crossings.Whole.{can_cut, gone, is_cut, listed_edge, crossings_cut, crossings_keep, crossings_sound}
+use Rattle.shapes.proofs.walks.SolidFaces.{face_of_loop}
 use Rattle.shapes.proofs.walks.FaceLoops.{items_counted, items_there}
 use Rattle.euler_laws.proofs.shared.Counted.{all_where_has}
 
 module _ (M : Model) (sound : Sound M) (f : ℕ) (there : Has M.faces f) where
-  -- the loops of a face are of that face, and so are its half-edges
-  of_face : (l : ℕ) → IsIn l (loops_of M f) → face_of M l ≡ f
-  unfolding loops_of
-  of_face l i = elim (eqb_tells l (outer M f)) [
-    | inl e ↦ ap (face_of M) e.1 ∙ (sound.outers_there f there).1
-    | inr e ↦
-        let w = all_where_has (λ k row. nat_eq row.face f && not (nat_eq (outer M f) k)) M.loops l (omega (arith, i, tick_other l (outer M f) e.1)) in
-        face_row M l w.0 w.1 ∙ eqb-true w.0.face f (and_first (nat_eq w.0.face f) (not (nat_eq (outer M f) l)) w.2)
-  ]
-
+  -- the half-edges of the loops of a face are of that face
   pub item_there : (h : ℕ) → IsIn h (boundary M f) → HasHalf M h
   unfolding boundary
   item_there h i = items_there M sound (loops_of M f) h i
 
   pub item_face : (h : ℕ) → IsIn h (boundary M f) → face_at M h ≡ f
   unfolding boundary
-  item_face h i = of_face (loop_of M h) (omega (arith, i, items_counted M sound (loops_of M f) h))
+  item_face h i = (face_of_loop M sound f (loop_of M h) there (listed-from_in (loop_of M h) (loops_of M f) (omega (arith, i, items_counted M sound (loops_of M f) h)))).1
 
 module _ (M : Model) (s : ℕ) (p : Plane) (t : ℕ) (sound : Sound M) (accepted : first_refusal (first_conditions M s p t) ≡ None) where
   abbrev N : Model

@@ -1,16 +1,15 @@
 -- Faces by their half-edges: which half-edges bound a face, and when all corners of a face lie on a plane.
-use Rattle.std.proofs.Common.{◌≡◌, ◌≢◌, ℕ, true, not, nat_eq, ◌&&◌, List, [], ◌∷◌, Option, Some, None, is_some, unwrap_or, refl, sym, ap, ◌∙◌, subst, arith, inl, inr}
-use Rattle.std.proofs.lemmas.Bool.Decides.{eqb_tells}
-use Rattle.std.proofs.lemmas.Bool.{and_parts, eqb-true}
+use Rattle.std.proofs.Common.{◌≡◌, ◌≢◌, ℕ, true, ◌&&◌, List, [], ◌∷◌, Option, Some, None, is_some, unwrap_or, refl, sym, ap, ◌∙◌, subst, arith, inl, inr}
+use Rattle.std.proofs.lemmas.Bool.{and_parts}
 use Rattle.euler_operators.specs.declared.Plane.{Plane}
 use Rattle.euler_operators.specs.Vectors.{moved, cross, is_on}
 use Rattle.euler_operators.specs.Items.{count, IsIn}
-use Rattle.euler_operators.proofs.Lists.{tick_other, IsIn_or_not}
+use Rattle.euler_operators.proofs.Lists.{IsIn_or_not}
 use Rattle.euler_operators.specs.HalfEdge.{mate}
 use Rattle.euler_operators.specs.Table as table
 use Rattle.euler_operators.specs.Model.{Model, LoopContent, LoopRow, lone, cycle, no_loop, no_point, items_of, tail, content, outer, point_of, loop_of, face_of}
 use Rattle.euler_operators.specs.Sound.{Sound, Has, HasHalf}
-use Rattle.euler_operators.proofs.Models.{cycle_there, face_row, loop_there, item_there, never_lone, mate_there}
+use Rattle.euler_operators.proofs.Models.{cycle_there, loop_there, item_there, never_lone, mate_there}
 use Rattle.euler_operators.proofs.Members.{IsIn_rest, all_mapped}
 use Rattle.euler_operators.proofs.Rotations.{IsIn_head}
 use Rattle.euler_operators.specs.Conditions.{face_at}
@@ -21,8 +20,9 @@ use Rattle.split_drawing_laws.proofs.crossings.Listed.{loop_in_face, item_in_fac
 use Rattle.split_drawing_laws.proofs.crossings.Places.{item_face}
 use Rattle.split_drawing_laws.specs.drawings.DrawnIn.{Stays}
 use Rattle.split_drawing_laws.proofs.cut_volumes.Corners.{loop_on, loops_on, item_on, item_loop}
+use Rattle.shapes.proofs.walks.SolidFaces.{face_of_loop}
 use Rattle.shapes.proofs.walks.FaceLoops.{AreHalves, different_items, loops_of_apart}
-use Rattle.euler_laws.proofs.shared.Counted.{all_where_has}
+use Rattle.euler_laws.proofs.shared.Listed.{listed-from_in}
 
 -- the half-edges and the lone vertices of face f lie on the plane
 pub record OnFace (N : Model) (t : Plane) (f : ℕ) : Type 0 where
@@ -40,13 +40,7 @@ lone_there N q v e = go (table.get N.loops q) e where
 module _ (N : Model) (sound : Sound N) where
   -- the loops of a face are of it
   pub loop_facts : (f : ℕ) → Has N.faces f → (q : ℕ) → IsIn q (loops_of N f) → Has N.loops q × (face_of N q ≡ f)
-  unfolding loops_of
-  loop_facts f there q i = elim (eqb_tells q (outer N f)) [
-    | inl e ↦ let o = sound.outers_there f there in (subst (Has N.loops) (sym e.1) o.0, ap (face_of N) e.1 ∙ o.1)
-    | inr e ↦
-        let w = all_where_has (λ k row. nat_eq row.face f && not (nat_eq (outer N f) k)) N.loops q (omega (arith, i, tick_other q (outer N f) e.1)) in
-        (ap is_some w.1, face_row N q w.0 w.1 ∙ eqb-true w.0.face f (and_parts (nat_eq w.0.face f) (not (nat_eq (outer N f) q)) w.2).0)
-  ]
+  loop_facts f there q i = face_of_loop N sound f q there (listed-from_in q (loops_of N f) i)
 
   -- ---- half-edges
 

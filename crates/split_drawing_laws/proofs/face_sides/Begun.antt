@@ -1,19 +1,19 @@
 -- What the first conditions of a split say of the loops of its solid, once edges are cut: each holds a half-edge, which tells its side.
 use Rattle.std.specs.Prelude.{map}
-use Rattle.std.proofs.Common.{◌≡◌, ◌≢◌, ℕ, Bool, true, false, nat_eq, ◌&&◌, ◌||◌, List, [], ◌∷◌, is_some, refl, sym, ap, ◌∙◌, subst, arith, inl, inr, true≢false}
+use Rattle.std.proofs.Common.{◌≡◌, ℕ, Bool, true, false, nat_eq, ◌&&◌, ◌||◌, List, [], ◌∷◌, is_some, refl, sym, ap, ◌∙◌, subst, arith, inl, inr, true≢false}
 use Rattle.std.proofs.lemmas.Bool.Decides.{eqb_tells}
 use Rattle.std.proofs.lemmas.Bool.{eq-eqb, eqb-true}
 use Rattle.euler_operators.proofs.Tests.{first_fails}
 use Rattle.euler_operators.specs.declared.Plane.{Plane}
 use Rattle.euler_operators.specs.Vectors.{is_above}
-use Rattle.euler_operators.specs.Items.{count, IsIn}
-use Rattle.euler_operators.proofs.Lists.{tick_same, tick_other}
+use Rattle.euler_operators.specs.Items.{count, IsIn, head_or}
+use Rattle.euler_operators.proofs.Lists.{tick_other}
 use Rattle.euler_operators.specs.Table as table
 use Rattle.euler_operators.specs.Model.{Model, cycle, items_of, content, tail, loop_of, face_of, solid_of, outer, after, cycle_of, point_of, faces_of}
 use Rattle.euler_operators.specs.Sound.{Sound, Has, HasHalf}
 use Rattle.euler_operators.proofs.Models.{in-holds, content_cycle, cycle_there, same_outer}
 use Rattle.euler_operators.proofs.Tables.{zero_first_where}
-use Rattle.euler_operators.proofs.Members.{IsIn-map, IsIn-filter}
+use Rattle.euler_operators.proofs.Members.{IsIn-map, IsIn-filter, IsIn_one, IsIn_some_head}
 use Rattle.euler_operators.proofs.Maps.{from_map}
 use Rattle.euler_operators.specs.Conditions.{face_at, is_lone, lists}
 use Rattle.euler_laws.proofs.shared.Fans.{half_after, loop_after}
@@ -29,9 +29,10 @@ use Rattle.shapes.specs.split.Drawing.{from_place, drawn_pairs, all_pairs}
 use Rattle.shapes.specs.split.Split.{first_conditions}
 use Rattle.split_drawing_laws.specs.crossings.Kept.{Kept}
 use Rattle.split_drawing_laws.specs.crossings.Laws.{CanBegin}
-use Rattle.split_drawing_laws.proofs.crossings.Listed.{any_passes, item_in_face}
+use Rattle.split_drawing_laws.proofs.crossings.Listed.{item_in_face}
 use Rattle.split_drawing_laws.proofs.crossings.Places.{at_place, face_facts}
 use Rattle.split_drawing_laws.proofs.crossings.Whole.{can_cut, crossings_keep, crossings_sound, same_solid}
+use Rattle.split_drawing_laws.proofs.pairs.LoopPlaces.{none_passes}
 use Rattle.split_drawing_laws.proofs.pairs.Whole.{can_be_drawn, outer_cut}
 use Rattle.split_drawing_laws.specs.drawings.Pairs.{AllFit, LoneInOneLoop, FacesFit}
 use Rattle.split_drawing_laws.specs.loop_sides.Parted.{ends}
@@ -56,10 +57,6 @@ face_fits M N p f (g ∷ gs) w i = elim (eqb_tells f g) [
   | inl e ↦ subst (λ h. AllFit N h (drawn_pairs M N p h) × LoneInOneLoop N (drawn_pairs M N p h)) (sym e.1) w.0
   | inr e ↦ face_fits M N p f gs w.1 (omega (arith, i, tick_other f g e.1))
 ]
-
-some_item : (hs : List ℕ) → hs ≢ [] → (h : ℕ) × IsIn h hs
-some_item [] ne = absurd (ne refl)
-some_item (h ∷ hs) ne = (h, omega (arith, tick_same h))
 
 module _ (M : Model) (s : ℕ) (p : Plane) (t : ℕ) (sound : Sound M) (begins : CanBegin M s p t) where
   abbrev N : Model
@@ -94,10 +91,10 @@ module _ (M : Model) (s : ℕ) (p : Plane) (t : ℕ) (sound : Sound M) (begins :
   loop_holds q there of_s =
       let was : Has M.loops q = sym (keep.loops q) ∙ there in
       let is : content M q ≡ cycle (items_of (content M q)) = is_cycle q was (ap (solid_of M) (sym (keep.face q)) ∙ sym (same_solid M s p t sound begins (face_of N q)) ∙ of_s) in
-      let h = some_item (items_of (content M q)) (sound.cycles q (items_of (content M q)) was is).some_item in
-      let holds_h = in-holds h.0 (content M q) h.1 in
-      let h_there : HasHalf M h.0 = sound.only_edges h.0 q holds_h in
-      record { half = h.0; old = keep.halves h.0 h_there; at = keep.loop h.0 h_there ∙ sound.one_loop h.0 q holds_h }
+      let h = head_or 0 (items_of (content M q)) in
+      let holds_h = in-holds h (content M q) (IsIn_some_head (items_of (content M q)) (sound.cycles q (items_of (content M q)) was is).some_item) in
+      let h_there : HasHalf M h = sound.only_edges h q holds_h in
+      record { half = h; old = keep.halves h h_there; at = keep.loop h h_there ∙ sound.one_loop h q holds_h }
 
   not_listed : (g : ℕ) → count g fs ≡ 0 → lists fs g ≡ false
   not_listed g z = go (lists fs g) refl where
@@ -150,11 +147,7 @@ module _ (M : Model) (s : ℕ) (p : Plane) (t : ℕ) (sound : Sound M) (begins :
           record { held = record { half = z.0; old = w.0; at = w.1 }; on = side_own z.0 w.1 ∙ ap (λ b. b || is_above p (finish N z.0)) up }
 
       not_above : some_above N p (vertices_on N (content N r)) ≡ false → (z : ℕ) → IsIn z xs → is_above p (start N z) ≡ false
-      not_above e z j = go (is_above p (start N z)) refl where
-        go : (b : Bool) → is_above p (start N z) ≡ b → is_above p (start N z) ≡ false
-        go false a = a
-        go true a = absurd (true≢false (sym (any_passes (λ v. is_above p (point_of N v)) (tail N z) (map (tail N) xs) (IsIn-map (tail N) z xs j) a)
-            ∙ sym (ap (λ c. some_above N p (vertices_on N c)) content_is) ∙ e))
+      not_above e z j = none_passes (λ v. is_above p (point_of N v)) (tail N z) (map (tail N) xs) (sym (ap (λ c. some_above N p (vertices_on N c)) content_is) ∙ e) (IsIn-map (tail N) z xs j)
 
       next_in : IsIn (after N h) xs
       next_in = subst (λ q. IsIn (after N h) (items_of (content N q))) (loop_after N new_sound h some_half.old) (cycle_there N new_sound (after N h) (half_after N new_sound h some_half.old))
@@ -203,11 +196,9 @@ module _ (M : Model) (s : ℕ) (p : Plane) (t : ℕ) (sound : Sound M) (begins :
       | inl a ↦ ap (loop_of N) (sym a.1) ∙ x_loop
       | inr a ↦
           let two : IsIn (from_place N p x) (q.0 ∷ q.1 ∷ []) = subst (λ qs. IsIn (from_place N p x) (ends qs)) e x_end in
-          let one : from_place N p x ≡ q.1 = only (from_place N p x) q.1 (omega (arith, two, tick_other (from_place N p x) q.0 a.1)) in
+          let one : from_place N p x ≡ q.1 = IsIn_one q.1 (from_place N p x) (omega (arith, two, tick_other (from_place N p x) q.0 a.1)) in
           eqb-true (loop_of N q.0) (loop_of N q.1) (subst (LoneInOneLoop N) e fits.1) ∙ ap (loop_of N) (sym one) ∙ x_loop
-    ] where
-      only : (a b : ℕ) → IsIn a (b ∷ []) → a ≡ b
-      only a b j = elim (eqb_tells a b) [ inl y ↦ y.1 | inr y ↦ absurd (omega (arith, j, tick_other a b y.1)) ]
+    ]
 
     pub pairs_of : PairsOf N (side_of M s p) p f (drawn_pairs M N p f)
     pairs_of = record {

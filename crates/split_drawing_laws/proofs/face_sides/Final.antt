@@ -1,15 +1,14 @@
 -- From the first conditions of a split to the sides of its loops and faces.
 use Rattle.std.proofs.Common.{◌≡◌, ℕ, Bool, true, false, not, nat_eq, ◌&&◌, ◌||◌, List, [], ◌∷◌, map, is_some, unwrap_or, refl, sym, ap, ◌∙◌, subst, arith, inl, inr}
-use Rattle.std.proofs.lemmas.Bool.Decides.{eqb_tells}
 use Rattle.std.proofs.lemmas.Bool.{eq-eqb, eqb-true}
 use Rattle.euler_operators.specs.declared.Plane.{Plane}
 use Rattle.euler_operators.specs.Vectors.{is_above, is_below}
 use Rattle.euler_operators.specs.Items.{IsIn}
-use Rattle.euler_operators.proofs.Lists.{count-append, tick_same, tick_other, IsIn_or_not}
-use Rattle.euler_operators.specs.Model.{Model, LoopContent, cycle, items_of, content, has_half, tail, loop_of, face_of, solid_of, outer, point_of, faces_of, no_face}
+use Rattle.euler_operators.proofs.Lists.{count-append, tick_same, IsIn_or_not}
+use Rattle.euler_operators.specs.Model.{Model, LoopContent, cycle, items_of, content, has_half, tail, loop_of, face_of, solid_of, point_of, faces_of, no_face}
 use Rattle.euler_operators.specs.Sound.{Sound, Has, HasHalf}
-use Rattle.euler_operators.proofs.Models.{in-holds, content_cycle, face_row, never_lone, same_solid as solid_same}
-use Rattle.euler_operators.proofs.Tests.{and_first, and_false}
+use Rattle.euler_operators.proofs.Models.{in-holds, content_cycle, never_lone, same_solid as solid_same}
+use Rattle.euler_operators.proofs.Tests.{and_false}
 use Rattle.euler_operators.proofs.Maps.{from_map}
 use Rattle.euler_operators.specs.Conditions.{face_at, lists}
 use Rattle.euler_laws.proofs.shared.Listed.{IsIn-from_listed}
@@ -34,7 +33,7 @@ use Rattle.split_drawing_laws.proofs.half_sides.Taking.{take_sides}
 use Rattle.split_drawing_laws.specs.face_sides.Lone.{NoLoopIsLone}
 use Rattle.split_drawing_laws.specs.face_sides.Laws.{IsDrawn}
 use Rattle.split_drawing_laws.proofs.crossings.Listed.{loop_in_face}
-use Rattle.split_drawing_laws.proofs.drawn_volumes.Bounds.{lone_there}
+use Rattle.split_drawing_laws.proofs.drawn_volumes.Bounds.{lone_there, loop_facts}
 use Rattle.split_drawing_laws.proofs.face_sides.Begun.{sided_first, pairs_of}
 use Rattle.split_drawing_laws.proofs.face_sides.OneFace.{IsSided}
 use Rattle.split_drawing_laws.proofs.face_sides.Same.{none_from}
@@ -145,29 +144,20 @@ module _ (M : Model) (s : ℕ) (p : Plane) (t : ℕ) (sound : Sound M) (begins :
     abbrev b : Bool
     b = sided.0
 
-    loop_facts : (q : ℕ) → IsIn q (loops_of D f) → Has D.loops q × (face_of D q ≡ f)
-    unfolding loops_of
-    loop_facts q i = elim (eqb_tells q (outer D f)) [
-      | inl e ↦ let o = D_sound.outers_there f there in (subst (Has D.loops) (sym e.1) o.0, ap (face_of D) e.1 ∙ o.1)
-      | inr e ↦
-          let w = all_where_has (λ k row. nat_eq row.face f && not (nat_eq (outer D f) k)) D.loops q (omega (arith, i, tick_other q (outer D f) e.1)) in
-          (ap is_some w.1, face_row D q w.0 w.1 ∙ eqb-true w.0.face f (and_first (nat_eq w.0.face f) (not (nat_eq (outer D f) q)) w.2))
-    ]
-
     loop_cycle : (q : ℕ) → IsIn q (loops_of D f) → content D q ≡ cycle (items_of (content D q))
     loop_cycle q i =
-        let w = sided.1 q (loop_facts q i).0 (loop_facts q i).1 in
+        let w = sided.1 q (loop_facts D D_sound f there q i).0 (loop_facts D D_sound f there q i).1 in
         cycle_of_items (content D q) _ (ap (content D) (sym w.held.at) ∙ content_cycle D D_sound w.held.half (stage.stays.halves w.held.half w.held.old))
 
     item_lies : (h q : ℕ) → IsIn q (loops_of D f) → IsIn h (items_of (content D q)) → LiesOn p b (start D h)
     item_lies h q i j =
-        let w = sided.1 q (loop_facts q i).0 (loop_facts q i).1 in
+        let w = sided.1 q (loop_facts D D_sound f there q i).0 (loop_facts D D_sound f there q i).1 in
         let stands = in-holds h (content D q) j in
         let h_there : HasHalf D h = D_sound.only_edges h q stands in
         let at : loop_of D h ≡ q = D_sound.one_loop h q stands in
         let same : parted.side h ≡ b = loop_on_one_side N D p side (λ x. is_own M s p x ≡ true) D_sound parted h w.held.half h_there (stage.stays.halves w.held.half w.held.old) (at ∙ sym w.held.at)
         ∙ parted.kept w.held.half w.held.old ∙ w.on in
-        subst (λ c. LiesOn p c (start D h)) same (parted.level h h_there (is_own_then h (ap (λ l. solid_of D (face_of D l)) at ∙ ap (solid_of D) (loop_facts q i).1 ∙ of_s)))
+        subst (λ c. LiesOn p c (start D h)) same (parted.level h h_there (is_own_then h (ap (λ l. solid_of D (face_of D l)) at ∙ ap (solid_of D) (loop_facts D D_sound f there q i).1 ∙ of_s)))
 
     corner_lies : (v : ℕ) → IsIn v (corners D f) → LiesOn p b (point_of D v)
     unfolding corners

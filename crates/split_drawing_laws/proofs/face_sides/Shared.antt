@@ -1,5 +1,5 @@
 -- A face with one pair: its loop is cut in two, and the rings above go to the new face.
-use Rattle.std.proofs.Common.{◌≡◌, ◌≢◌, ℕ, Bool, true, false, not, nat_eq, ◌&&◌, is_some, refl, sym, ap, ◌∙◌, subst, inl, inr, true≢false}
+use Rattle.std.proofs.Common.{◌≡◌, ◌≢◌, ℕ, Bool, true, false, nat_eq, is_some, refl, sym, ap, ◌∙◌, subst, inl, inr, true≢false}
 use Rattle.std.proofs.lemmas.Bool.Decides.{eqb_tells}
 use Rattle.std.proofs.lemmas.Bool.{ne_eqb, eq-eqb}
 use Rattle.std.specs.Prelude.{List}
@@ -10,6 +10,7 @@ use Rattle.euler_operators.specs.Sound.{Sound, Has, HasHalf, StandsIn}
 use Rattle.euler_operators.specs.Conditions.{face_at, lists}
 use Rattle.euler_operators.proofs.Members.{IsIn-filter, filter_passes}
 use Rattle.euler_operators.proofs.Models.{same_face}
+use Rattle.euler_laws.proofs.shared.Rows.{test_ring}
 use Rattle.euler_laws.proofs.shared.Listed.{IsIn-from_listed, listed-from_in}
 use Rattle.shapes.specs.Faces.{vertices_on}
 use Rattle.shapes.specs.split.Sides.{some_above}
@@ -81,9 +82,7 @@ module _ (B N : Model) (side : ℕ → Bool) (p : Plane) (f u k e g l : ℕ) (c 
   passes_not : (r : ℕ) → Has K.loops r → face_of K r ≡ f → outer K f ≢ r → lists ls r ≡ false → test r ≡ false
   passes_not r there face inner not_listed = go (test r) refl where
     ring : is_ring_of K f r ≡ true
-    ring = three (table.has K.loops r) (nat_eq (face_of K r) f) (nat_eq (outer K f) r) there (eq-eqb (face_of K r) f face) (ne_eqb (outer K f) r inner) where
-      three : (a b d : Bool) → a ≡ true → b ≡ true → d ≡ false → (a && b && not d) ≡ true
-      three a b d x y z = (λ i. x i && y i && not (z i))
+    ring = test_ring (table.has K.loops r) (nat_eq (face_of K r) f) (nat_eq (outer K f) r) there (eq-eqb (face_of K r) f face) (ne_eqb (outer K f) r inner)
 
     go : (b : Bool) → test r ≡ b → test r ≡ false
     go false e = e

@@ -32,6 +32,7 @@ use Rattle.split_drawing_laws.proofs.drawings.Counted.{straddling_apart, faces_a
 use Rattle.split_drawing_laws.specs.loop_sides.Laws.{TakeSides}
 use Rattle.split_drawing_laws.specs.loop_sides.Parted.{LiesOn, FacesCross, ends, all_ends}
 use Rattle.split_drawing_laws.specs.half_sides.HalfSides.{half_is_above, side_of, is_own}
+use Rattle.split_drawing_laws.proofs.pairs.LoopPlaces.{none_passes}
 use Rattle.split_drawing_laws.proofs.half_sides.EndLists.{in_all_ends, from_all_ends, all_ends_apart}
 use Rattle.split_drawing_laws.proofs.half_sides.Heights.{side_kept, side_changed, starts_above, starts_below, crosses_back}
 use Rattle.split_drawing_laws.proofs.half_sides.PlaceEnds.{side_within, place_face, place_there, place_on, pairs_cross, place_in_ends, place_of_end, ends_once}
@@ -100,10 +101,6 @@ module _ (M : Model) (s : ℕ) (p : Plane) (t : ℕ) (sound : Sound M) (begins :
     of_solid : IsIn f (faces_of M s)
     of_solid = all_where_in (λ _ row. nat_eq row.solid s) M.faces f _ (face_there M f (half_face M sound g there)) (eq-eqb (solid_of M f) s of_s)
 
-    above_then : (b : Bool) → is_above p (start M g) ≡ b → reaches_above M p f ≡ false → is_above p (start M g) ≡ false
-    above_then false a none = a
-    above_then true a none = absurd (true≢false (sym (any_passes (λ v. is_above p (point_of M v)) (tail M g) (corners M f) corner a) ∙ none))
-
     below_then : (b : Bool) → is_below p (start M g) ≡ b → reaches_above M p f ≡ true → is_below p (start M g) ≡ false
     below_then false a up = a
     below_then true a up = absurd (true≢false
@@ -111,7 +108,7 @@ module _ (M : Model) (s : ℕ) (p : Plane) (t : ℕ) (sound : Sound M) (begins :
 
     go : (b : Bool) → reaches_above M p f ≡ b → LiesOn p b (start M g)
     go true up = below_then (is_below p (start M g)) refl up
-    go false none = above_then (is_above p (start M g)) refl none
+    go false none = none_passes (λ v. is_above p (point_of M v)) (tail M g) (corners M f) none corner
 
   lies_beside : (h : ℕ) → HasHalf N h → solid_of N (face_at N h) ≡ s → lists fs (face_at N h) ≡ false → LiesOn p (side h) (start N h)
   lies_beside h there of_s beside = elim (comes_from M s p t sound begins h there) [
