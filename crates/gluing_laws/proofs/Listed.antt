@@ -1,17 +1,11 @@
--- How often a number stands in what a search lists, and volumes of lists of faces in any order.
-use Rattle.std.proofs.Common.{◌≡◌, ℕ, ◌≤◌, ℤ, ◌+ℤ◌, Bool, true, false, cond, List, [], ◌∷◌, ◌++◌, Option, Some, None, is_some, refl, sym, ap, ◌∙◌, arith, true≢false}
-use Rattle.euler_operators.specs.Vectors.{dot}
-use Rattle.euler_operators.specs.Items.{count, IsIn, SameItems, before, after}
-use Rattle.euler_operators.proofs.Lists.{tick_same, split_at}
+-- How often a number stands in what a search lists. The volumes of lists of faces are passed on.
+use Rattle.std.proofs.Common.{◌≡◌, ℕ, ◌≤◌, Bool, true, false, cond, List, Option, Some, None, is_some, refl, sym, ap, ◌∙◌, arith, true≢false}
+use Rattle.euler_operators.specs.Items.{count, SameItems}
 use Rattle.euler_operators.specs.Table as table
 use Rattle.euler_operators.specs.Table.{Table}
-use Rattle.euler_operators.specs.Model.{Model}
 use Rattle.euler_operators.specs.Conditions.{lists, strictly_rises}
-use Rattle.euler_laws.proofs.shared.Listed.{first_listed, listed_passes, listed_as, all_where-rises, IsIn-from_listed, listed-from_in}
-use Rattle.euler_laws.proofs.shared.Rows.{no_items}
-use Rattle.shapes.specs.Measure.{anchor, normal, volume_in}
-use Rattle.euler_operators.proofs.Vectors.{add_assoc, none_add, add_exchanged}
-use Rattle.euler_operators.proofs.Members.{count_taken}
+use Rattle.euler_laws.proofs.shared.Listed.{listed_passes, listed_as, all_where-rises, IsIn-from_listed, listed-from_in}
+pub use Rattle.shapes.proofs.measures.Sums.{volume_of, volume_append, volume_same, same_volumes}
 use Rattle.euler_laws.proofs.shared.RisingLists.{within}
 use Rattle.euler_laws.proofs.shared.Counted.{counted_once, none_counted}
 
@@ -56,31 +50,3 @@ count_where {X = X} p t k = count_listed k (table.all_where p t) (all_where-rise
 -- searches that agree on every number list the same
 pub same_search : {X Y : Type 0} (p : ℕ → X → Bool) (q : ℕ → Y → Bool) (t : Table X) (u : Table Y) → ((k : ℕ) → passed p k (table.get t k) ≡ passed q k (table.get u k)) → table.all_where p t ≡ table.all_where q u
 same_search p q t u e = rising_same (table.all_where p t) (table.all_where q u) (all_where-rises p t) (all_where-rises q u) (λ k. count_where p t k ∙ e k ∙ sym (count_where q u k))
-
--- ---- volumes
-
-module _ (M : Model) where
-  abbrev pub volume_of : ℕ → ℤ
-  volume_of k = dot (anchor M k) (normal M k)
-
-  pub volume_append : (xs ys : List ℕ) → volume_in M (xs ++ ys) ≡ volume_in M xs +ℤ volume_in M ys
-  volume_append [] ys = sym (none_add (volume_in M ys))
-  volume_append (x ∷ xs) ys = ap (λ v. volume_of x +ℤ v) (volume_append xs ys) ∙ sym (add_assoc (volume_of x) (volume_in M xs) (volume_in M ys))
-
-  -- the order of the faces doesn't matter
-  pub volume_same : (xs ys : List ℕ) → SameItems xs ys → volume_in M xs ≡ volume_in M ys
-  volume_same [] ys s = ap (volume_in M) (sym (no_items ys (λ x. sym (s x))))
-  volume_same (x ∷ xs) ys s =
-      let i : IsIn x ys = omega (arith, s x, tick_same x) in
-      let e = split_at x ys i in
-      ap (λ v. volume_of x +ℤ v) (volume_same xs (before x ys ++ after x ys) (λ y. count_taken x y xs ys s e) ∙ volume_append (before x ys) (after x ys))
-      ∙ add_exchanged (volume_of x) (volume_in M (before x ys)) (volume_in M (after x ys))
-      ∙ sym (ap (volume_in M) e ∙ volume_append (before x ys) (x ∷ after x ys))
-
-module _ (M N : Model) where
-  -- faces that each have the volume that they had
-  pub same_volumes : (ks : List ℕ) → ((k : ℕ) → lists ks k ≡ true → volume_of N k ≡ volume_of M k) → volume_in N ks ≡ volume_in M ks
-  same_volumes [] e = refl
-  same_volumes (k ∷ ks) e = λ i. e k (first_listed k ks) i +ℤ same_volumes ks (λ q l. e q (later k q ks l)) i where
-    later : (k q : ℕ) (ks : List ℕ) → lists ks q ≡ true → lists (k ∷ ks) q ≡ true
-    later k q ks l = listed-from_in q (k ∷ ks) (omega (arith, IsIn-from_listed q ks l))

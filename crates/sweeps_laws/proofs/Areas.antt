@@ -1,14 +1,15 @@
--- Areas of lists of half-edges, and volumes of lists of faces.
-use Rattle.std.proofs.Common.{◌≡◌, ℕ, ℤ, ◌+ℤ◌, true, List, [], ◌∷◌, ◌++◌, length, get_or, refl, sym, ap, ◌∙◌}
-use Rattle.euler_operators.specs.Vectors.{moved, dot, cross}
+-- Areas of lists of half-edges and of loops, as sums along the places and where each stays; the volume of one face more.
+use Rattle.std.proofs.Common.{◌≡◌, ℕ, ◌+ℤ◌, true, List, [], ◌∷◌, ◌++◌, length, get_or, refl, sym, ap, ◌∙◌}
+use Rattle.euler_operators.specs.Vectors.{moved, cross}
 use Rattle.euler_operators.specs.Items.{IsIn}
 use Rattle.euler_operators.specs.Model.{Model, items_of, content}
 use Rattle.euler_operators.specs.Conditions.{lists}
 use Rattle.euler_laws.proofs.shared.Listed.{first_listed, rest_listed}
 use Rattle.shapes.specs.Faces.{start, finish, items_in}
-use Rattle.shapes.specs.Measure.{area, normal, anchor, volume_in}
+use Rattle.shapes.specs.Measure.{area, volume_in}
 use Rattle.shapes.proofs.Areas.{area-append}
-use Rattle.euler_operators.proofs.Vectors.{add_none, none_add, add_assoc}
+use Rattle.shapes.proofs.measures.Sums.{volume_of, volume_append}
+use Rattle.euler_operators.proofs.Vectors.{add_none}
 use Rattle.euler_operators.proofs.Sweeps.{sum_to, sum_first}
 use Rattle.euler_operators.proofs.Members.{IsIn_rest}
 use Rattle.euler_operators.proofs.Rotations.{IsIn_head}
@@ -19,13 +20,8 @@ module _ (M : Model) where
   area_sum [] = refl
   area_sum (h ∷ hs) = ap (moved (cross (start M h) (finish M h))) (area_sum hs) ∙ sum_first (λ i. cross (start M (get_or (h ∷ hs) i 0)) (finish M (get_or (h ∷ hs) i 0))) (length hs)
 
-  -- what face k adds to the six volumes
-  abbrev pub volume_of : ℕ → ℤ
-  volume_of k = dot (anchor M k) (normal M k)
-
-  pub volume_last : (ks : List ℕ) (k : ℕ) → volume_in M (ks ++ k ∷ []) ≡ volume_in M ks +ℤ volume_of k
-  volume_last [] k = add_none (volume_of k) ∙ sym (none_add (volume_of k))
-  volume_last (x ∷ xs) k = ap (λ v. volume_of x +ℤ v) (volume_last xs k) ∙ sym (add_assoc (volume_of x) (volume_in M xs) (volume_of k))
+  pub volume_last : (ks : List ℕ) (k : ℕ) → volume_in M (ks ++ k ∷ []) ≡ volume_in M ks +ℤ volume_of M k
+  volume_last ks k = volume_append M ks (k ∷ []) ∙ ap (λ v. volume_in M ks +ℤ v) (add_none (volume_of M k))
 
 module _ (M N : Model) where
   -- half-edges that start and end where they did have the area that they had
@@ -39,8 +35,3 @@ module _ (M N : Model) where
   same_loops (q ∷ ls) e = area-append N (items_of (content N q)) (items_in N ls)
       ∙ (λ i. moved (e q (first_listed q ls) i) (same_loops ls (λ k l. e k (rest_listed q k ls l)) i))
       ∙ sym (area-append M (items_of (content M q)) (items_in M ls))
-
-  -- and faces
-  pub same_volumes : (ks : List ℕ) → ((k : ℕ) → lists ks k ≡ true → volume_of N k ≡ volume_of M k) → volume_in N ks ≡ volume_in M ks
-  same_volumes [] e = refl
-  same_volumes (k ∷ ks) e = λ i. e k (first_listed k ks) i +ℤ same_volumes ks (λ q l. e q (rest_listed k q ks l)) i

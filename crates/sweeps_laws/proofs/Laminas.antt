@@ -16,7 +16,8 @@ use Rattle.shapes.specs.Fresh.{Taken}
 use Rattle.shapes.specs.Lamina.{with_points, with_path, with_ring}
 use Rattle.shapes.specs.Measure.{area, normal, anchor, first_vertex, volume_in, six_volume}
 use Rattle.sweeps_laws.proofs.LaminaRows as rows
-use Rattle.sweeps_laws.proofs.Areas.{same_area, same_loops, same_volumes}
+use Rattle.shapes.proofs.measures.Sums.{same_volumes}
+use Rattle.sweeps_laws.proofs.Areas.{same_area, same_loops}
 use Rattle.sweeps_laws.proofs.swept.Sides.{Keeps, start_kept, finish_kept}
 use Rattle.sweeps_laws.proofs.swept.Lifted.{Bounded}
 use Rattle.sweeps_laws.proofs.Loops.{normal_is, first_kept, loops_within}

@@ -22,7 +22,8 @@ use Rattle.euler_operators.proofs.Rotations.{IsIn_head}
 use Rattle.euler_operators.proofs.Halves.{mate_plus, mate_minus}
 use Rattle.sweeps_laws.proofs.swept.Numbers.{next_cases}
 use Rattle.shapes.proofs.Areas.{area_push}
-use Rattle.sweeps_laws.proofs.Areas.{area_sum, same_area, same_loops, same_volumes, volume_of}
+use Rattle.shapes.proofs.measures.Sums.{same_volumes, volume_of}
+use Rattle.sweeps_laws.proofs.Areas.{area_sum, same_area, same_loops}
 use Rattle.sweeps_laws.proofs.swept.Sides.{Keeps, start_kept, finish_kept}
 use Rattle.sweeps_laws.proofs.swept.Lifted.{Bounded, IsPathOf, swept, keeps_swept, outer_new, content_here, content_old, content_new, outer_old, rings_old, rings_new, from_point, to_point, riser_start, riser_finish, top_start, top_finish, next_start, next_finish, item_start, item_finish}
 use Rattle.sweeps_laws.proofs.prism.Loops.{tops_head}

@@ -18,7 +18,8 @@ use Rattle.euler_operators.proofs.Vectors.{add_none, add_assoc}
 use Rattle.euler_operators.proofs.Sweeps.{total_to, same_total, area_at, sides_volume}
 use Rattle.euler_operators.proofs.Tests.{nat_eq_itself}
 use Rattle.sweeps_laws.proofs.swept.Filled.{filled, filled_search, filled_none}
-use Rattle.sweeps_laws.proofs.Areas.{area_sum, volume_of, volume_last}
+use Rattle.shapes.proofs.measures.Sums.{volume_of}
+use Rattle.sweeps_laws.proofs.Areas.{area_sum, volume_last}
 use Rattle.sweeps_laws.proofs.swept.Sides.{side_face, faces_grown}
 use Rattle.sweeps_laws.proofs.swept.Lifted.{Bounded, IsPathOf, swept}
 use Rattle.sweeps_laws.proofs.Loops.{side_is, faces_kept, faces_moved, from_at, to_at}

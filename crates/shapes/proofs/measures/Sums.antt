@@ -1,5 +1,5 @@
--- The areas of lists of half-edges: the order doesn't matter, and the other halves of the edges have the opposite area.
-use Rattle.std.proofs.Common.{◌≡◌, ℕ, ◌+◌, ℤ, pos, ◌+ℤ◌, ◌-ℤ◌, ◌*ℤ◌, neg_ℤ, List, [], ◌∷◌, ◌++◌, map, reverse, refl, sym, ap, ◌∙◌, arith, inl, inr}
+-- The areas of lists of half-edges and the volumes of lists of faces: the order doesn't matter, and the other halves of edges have the opposite area.
+use Rattle.std.proofs.Common.{◌≡◌, ℕ, ◌+◌, true, ℤ, pos, ◌+ℤ◌, ◌-ℤ◌, ◌*ℤ◌, neg_ℤ, List, [], ◌∷◌, ◌++◌, map, reverse, refl, sym, ap, ◌∙◌, arith, inl, inr}
 use Rattle.std.proofs.lemmas.Bool.Decides.{eqb_tells}
 use Rattle.std.proofs.lemmas.Int.{ints}
 use Rattle.std.proofs.lemmas.List.Sorted.{IsPermutation-reverse}
@@ -11,12 +11,14 @@ use Rattle.euler_operators.proofs.Std.{SameItems-from_permutation}
 use Rattle.euler_operators.specs.HalfEdge.{mate}
 use Rattle.euler_operators.specs.Model.{Model}
 use Rattle.euler_operators.proofs.Halves.{mate-mate}
+use Rattle.euler_operators.specs.Conditions.{lists}
+use Rattle.euler_laws.proofs.shared.Listed.{listed-from_in}
 use Rattle.euler_laws.proofs.shared.Rows.{no_items}
 use Rattle.shapes.specs.Faces.{start, finish}
-use Rattle.shapes.specs.Measure.{area}
+use Rattle.shapes.specs.Measure.{area, normal, anchor, volume_in}
 use Rattle.shapes.proofs.Areas.{area-append}
 use Rattle.euler_operators.proofs.Integers.{dif, dif-parts, difs, neg-dif, same_dif}
-use Rattle.euler_operators.proofs.Vectors.{same_vector, add_exchanged}
+use Rattle.euler_operators.proofs.Vectors.{same_vector, none_add, add_assoc, add_exchanged}
 use Rattle.euler_operators.proofs.Members.{IsIn_rest, count_taken}
 use Rattle.euler_operators.proofs.Rotations.{IsIn_head}
 use Rattle.shapes.specs.Vectors.{negated}
@@ -106,6 +108,49 @@ module _ (M : Model) where
 pub area_renamed : (M N : Model) (g : ℕ → ℕ) (hs : List ℕ) → ((h : ℕ) → IsIn h hs → (start N (g h) ≡ start M h) × (finish N (g h) ≡ finish M h)) → area N (map g hs) ≡ area M hs
 area_renamed M N g [] e = refl
 area_renamed M N g (h ∷ hs) e = let p = e h (IsIn_head h hs) in λ i. moved (cross (p.0 i) (p.1 i)) (area_renamed M N g hs (λ x j. e x (IsIn_rest x h hs j)) i)
+
+-- ---- volumes of lists of faces
+
+abbrev pub total : (ℕ → ℤ) → List ℕ → ℤ
+total w [] = pos 0
+total w (f ∷ fs) = w f +ℤ total w fs
+
+-- what a face adds to the six volumes
+abbrev pub volume_of : Model → ℕ → ℤ
+volume_of M f = dot (anchor M f) (normal M f)
+
+pub volume_is : (M : Model) (fs : List ℕ) → volume_in M fs ≡ total (volume_of M) fs
+volume_is M [] = refl
+volume_is M (f ∷ fs) = ap (λ v. volume_of M f +ℤ v) (volume_is M fs)
+
+pub unchanged : (w z : ℕ → ℤ) (fs : List ℕ) → ((f : ℕ) → IsIn f fs → w f ≡ z f) → total w fs ≡ total z fs
+unchanged w z [] each = refl
+unchanged w z (f ∷ fs) each = λ i. each f (IsIn_head f fs) i +ℤ unchanged w z fs (λ g j. each g (IsIn_rest g f fs j)) i
+
+-- the order doesn't matter
+total_append : (w : ℕ → ℤ) (xs ys : List ℕ) → total w (xs ++ ys) ≡ total w xs +ℤ total w ys
+total_append w [] ys = sym (none_add (total w ys))
+total_append w (x ∷ xs) ys = ap (λ v. w x +ℤ v) (total_append w xs ys) ∙ sym (add_assoc (w x) (total w xs) (total w ys))
+
+pub total_same : (w : ℕ → ℤ) (xs ys : List ℕ) → SameItems xs ys → total w xs ≡ total w ys
+total_same w [] ys s = ap (total w) (sym (no_items ys (λ x. sym (s x))))
+total_same w (x ∷ xs) ys s =
+    let i : IsIn x ys = omega (arith, s x, tick_same x) in
+    let e = split_at x ys i in
+    ap (λ v. w x +ℤ v) (total_same w xs (before x ys ++ after x ys) (λ y. count_taken x y xs ys s e) ∙ total_append w (before x ys) (after x ys))
+    ∙ add_exchanged (w x) (total w (before x ys)) (total w (after x ys))
+    ∙ sym (ap (total w) e ∙ total_append w (before x ys) (x ∷ after x ys))
+
+module _ (M : Model) where
+  pub volume_append : (xs ys : List ℕ) → volume_in M (xs ++ ys) ≡ volume_in M xs +ℤ volume_in M ys
+  volume_append xs ys = volume_is M (xs ++ ys) ∙ total_append (volume_of M) xs ys ∙ sym (λ i. volume_is M xs i +ℤ volume_is M ys i)
+
+  pub volume_same : (xs ys : List ℕ) → SameItems xs ys → volume_in M xs ≡ volume_in M ys
+  volume_same xs ys s = volume_is M xs ∙ total_same (volume_of M) xs ys s ∙ sym (volume_is M ys)
+
+-- faces that each have the volume that they had
+pub same_volumes : (M N : Model) (ks : List ℕ) → ((k : ℕ) → lists ks k ≡ true → volume_of N k ≡ volume_of M k) → volume_in N ks ≡ volume_in M ks
+same_volumes M N ks e = volume_is N ks ∙ unchanged (volume_of N) (volume_of M) ks (λ k i. e k (listed-from_in k ks i)) ∙ sym (volume_is M ks)
 
 -- ---- counting
 

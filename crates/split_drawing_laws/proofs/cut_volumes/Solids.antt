@@ -1,21 +1,21 @@
 -- The faces of a solid, and sums over them.
-use Rattle.std.proofs.Common.{◌≡◌, ◌≢◌, ℕ, ◌≤◌, ℤ, pos, ◌+ℤ◌, nat_eq, List, [], ◌∷◌, ◌++◌, is_some, refl, sym, ap, ◌∙◌, arith, inl, inr}
+use Rattle.std.proofs.Common.{◌≡◌, ◌≢◌, ℕ, ◌≤◌, ℤ, ◌+ℤ◌, nat_eq, List, [], ◌∷◌, is_some, sym, ap, ◌∙◌, arith, inl, inr}
 use Rattle.std.proofs.lemmas.Int.{ints}
 use Rattle.std.proofs.lemmas.Bool.Decides.{eqb_tells}
 use Rattle.std.proofs.lemmas.Bool.{eq-eqb, eqb-true}
-use Rattle.euler_operators.specs.Vectors.{dot}
-use Rattle.euler_operators.specs.Items.{count, tick, IsIn, SameItems, before, after}
-use Rattle.euler_operators.proofs.Lists.{tick_same, tick_other, split_at, IsIn_or_not}
-use Rattle.euler_operators.proofs.Members.{IsIn_rest, count_taken}
+use Rattle.euler_operators.specs.Items.{count, tick, IsIn}
+use Rattle.euler_operators.proofs.Lists.{tick_same, tick_other, IsIn_or_not}
+use Rattle.euler_operators.proofs.Members.{IsIn_rest}
 use Rattle.euler_operators.proofs.Rotations.{IsIn_head}
 use Rattle.euler_operators.proofs.Models.{solid_row, same_solid}
-use Rattle.euler_operators.proofs.Vectors.{none_add, add_assoc, add_exchanged}
+use Rattle.euler_operators.proofs.Vectors.{add_assoc}
 use Rattle.euler_operators.specs.Table as table
 use Rattle.euler_operators.specs.Model.{Model, solid_of, faces_of}
 use Rattle.euler_operators.specs.Sound.{Has}
 use Rattle.euler_laws.proofs.shared.Listed.{all_where-rises}
-use Rattle.euler_laws.proofs.shared.Rows.{face_there, no_items}
-use Rattle.shapes.specs.Measure.{normal, anchor, volume_in, six_volume}
+use Rattle.euler_laws.proofs.shared.Rows.{face_there}
+use Rattle.shapes.specs.Measure.{six_volume}
+use Rattle.shapes.proofs.measures.Sums.{total, volume_of, volume_is, unchanged}
 use Rattle.euler_laws.proofs.shared.Counted.{counted_once, all_where_has, all_where_in}
 
 -- ---- the faces of a solid
@@ -48,25 +48,9 @@ same_count M N u f e = elim (IsIn_or_not f (faces_of M u)) [
 
 -- ---- sums
 
-abbrev pub total : (ℕ → ℤ) → List ℕ → ℤ
-total w [] = pos 0
-total w (f ∷ fs) = w f +ℤ total w fs
-
--- what a face adds to the six volumes
-abbrev pub told : Model → ℕ → ℤ
-told M f = dot (anchor M f) (normal M f)
-
-volume_is : (M : Model) (fs : List ℕ) → volume_in M fs ≡ total (told M) fs
-volume_is M [] = refl
-volume_is M (f ∷ fs) = ap (λ v. told M f +ℤ v) (volume_is M fs)
-
-pub six_is : (M : Model) (u : ℕ) → six_volume M u ≡ total (told M) (faces_of M u)
+pub six_is : (M : Model) (u : ℕ) → six_volume M u ≡ total (volume_of M) (faces_of M u)
 unfolding six_volume
 six_is M u = volume_is M (faces_of M u)
-
-pub unchanged : (w z : ℕ → ℤ) (fs : List ℕ) → ((f : ℕ) → IsIn f fs → w f ≡ z f) → total w fs ≡ total z fs
-unchanged w z [] each = refl
-unchanged w z (f ∷ fs) each = λ i. each f (IsIn_head f fs) i +ℤ unchanged w z fs (λ g j. each g (IsIn_rest g f fs j)) i
 
 -- where one number changes by x, so does the sum
 pub changed_one : (w z : ℕ → ℤ) (k : ℕ) (x : ℤ) → w k ≡ z k +ℤ x → (fs : List ℕ) → ((f : ℕ) → IsIn f fs → f ≢ k → w f ≡ z f) → count k fs ≡ 1 → total w fs ≡ total z fs +ℤ x
@@ -83,18 +67,3 @@ changed_one w z k x e (f ∷ fs) each one = elim (eqb_tells f k) [
 ] where
   over : (a b c : ℤ) → (a +ℤ b) +ℤ c ≡ (a +ℤ c) +ℤ b
   over a b c = omega (arith, ints)
-
--- ---- the order doesn't matter
-
-total_append : (w : ℕ → ℤ) (xs ys : List ℕ) → total w (xs ++ ys) ≡ total w xs +ℤ total w ys
-total_append w [] ys = sym (none_add (total w ys))
-total_append w (x ∷ xs) ys = ap (λ v. w x +ℤ v) (total_append w xs ys) ∙ sym (add_assoc (w x) (total w xs) (total w ys))
-
-pub total_same : (w : ℕ → ℤ) (xs ys : List ℕ) → SameItems xs ys → total w xs ≡ total w ys
-total_same w [] ys s = ap (total w) (sym (no_items ys (λ x. sym (s x))))
-total_same w (x ∷ xs) ys s =
-    let i : IsIn x ys = omega (arith, s x, tick_same x) in
-    let e = split_at x ys i in
-    ap (λ v. w x +ℤ v) (total_same w xs (before x ys ++ after x ys) (λ y. count_taken x y xs ys s e) ∙ total_append w (before x ys) (after x ys))
-    ∙ add_exchanged (w x) (total w (before x ys)) (total w (after x ys))
-    ∙ sym (ap (total w) e ∙ total_append w (before x ys) (x ∷ after x ys))

@@ -24,7 +24,8 @@ use Rattle.split_drawing_laws.proofs.drawn_volumes.Draws as draws
 use Rattle.split_drawing_laws.proofs.drawn_volumes.Joins as joins
 use Rattle.split_drawing_laws.proofs.drawn_volumes.Moves as moves
 use Rattle.split_drawing_laws.proofs.drawn_volumes.Moves.{CanMove}
-use Rattle.split_drawing_laws.proofs.cut_volumes.Solids.{solid_facts, counted_in, counted_out, same_count, total, told, six_is, unchanged, changed_one, total_same}
+use Rattle.shapes.proofs.measures.Sums.{total, volume_of, unchanged, total_same}
+use Rattle.split_drawing_laws.proofs.cut_volumes.Solids.{solid_facts, counted_in, counted_out, same_count, six_is, changed_one}
 
 -- the plane has a direction
 abbrev pub IsPlane : Plane → Type 0
@@ -32,7 +33,7 @@ IsPlane r = not (same_point (direction r) origin) ≡ true
 
 -- what a face adds, told from a point of a plane on which it lies
 module _ (N : Model) (sound : Sound N) (r : Plane) (some : IsPlane r) where
-  pub told_from : (f : ℕ) (p : Point) → Has N.faces f → OnFace N r f → is_on r p ≡ true → told N f ≡ dot p (normal N f)
+  pub told_from : (f : ℕ) (p : Point) → Has N.faces f → OnFace N r f → is_on r p ≡ true → volume_of N f ≡ dot p (normal N f)
   told_from f p there w on = sym (told_anywhere N r f p sound there (λ i. some i && face_on N sound r f there w i) on)
 
   pub anchor_lies : (f : ℕ) → Has N.faces f → OnFace N r f → is_on r (anchor N f) ≡ true
@@ -59,14 +60,14 @@ module _ (N : Model) (u k e g l : ℕ) (can : CanDraw N u k e g l) (r : Plane) (
   g_now : Has K.faces g
   g_now = ap is_some (draws.face_new N u k e g l can)
 
-  split : told N F ≡ told K F +ℤ told K g
+  split : volume_of N F ≡ volume_of K F +ℤ volume_of K g
   split =
       let p : Point = anchor N F in
       let on : is_on r p ≡ true = anchor_lies N can.sound r some F F_there w in
       ap (dot p) (sym (draws.normals_sum N u k e g l can)) ∙ dot_sum p (normal K F) (normal K g)
       ∙ sym (λ i. told_from K new_sound r some F p F_now (draws.old_on N u k e g l can r F F_there w) on i +ℤ told_from K new_sound r some g p g_now (draws.new_on N u k e g l can r w) on i)
 
-  else_told : (f : ℕ) → Has N.faces f → f ≢ F → told N f ≡ told K f
+  else_told : (f : ℕ) → Has N.faces f → f ≢ F → volume_of N f ≡ volume_of K f
   else_told f there ne = sym (λ i. dot (draws.anchor_else N u k e g l can f there ne i) (draws.normal_else N u k e g l can f there ne i))
 
   g_was : (v : ℕ) → count g (faces_of N v) ≡ 0
@@ -98,10 +99,10 @@ module _ (N : Model) (u k e g l : ℕ) (can : CanDraw N u k e g l) (r : Plane) (
 
   pub draw_volumes : (v : ℕ) → six_volume (face_drawn N u k e g l) v ≡ six_volume N v
   draw_volumes v = six_is K v ∙ elim (eqb_tells (solid_of N F) v) [
-    | inl at ↦ total_same (told K) (faces_of K v) (g ∷ faces_of N v) (with_new v at.1) ∙ turned (told K g) (total (told K) (faces_of N v))
-        ∙ sym (changed_one (told N) (told K) F (told K g) split (faces_of N v) (λ f i ne. else_told f (solid_facts N v f i).0 ne) (counted_in N F v F_there at.1))
-    | inr ne ↦ total_same (told K) (faces_of K v) (faces_of N v) (without v ne.1)
-        ∙ sym (unchanged (told N) (told K) (faces_of N v) (λ f i. else_told f (solid_facts N v f i).0 (λ s. ne.1 (ap (solid_of N) (sym s) ∙ (solid_facts N v f i).1))))
+    | inl at ↦ total_same (volume_of K) (faces_of K v) (g ∷ faces_of N v) (with_new v at.1) ∙ turned (volume_of K g) (total (volume_of K) (faces_of N v))
+        ∙ sym (changed_one (volume_of N) (volume_of K) F (volume_of K g) split (faces_of N v) (λ f i ne. else_told f (solid_facts N v f i).0 ne) (counted_in N F v F_there at.1))
+    | inr ne ↦ total_same (volume_of K) (faces_of K v) (faces_of N v) (without v ne.1)
+        ∙ sym (unchanged (volume_of N) (volume_of K) (faces_of N v) (λ f i. else_told f (solid_facts N v f i).0 (λ s. ne.1 (ap (solid_of N) (sym s) ∙ (solid_facts N v f i).1))))
   ] ∙ sym (six_is N v)
 
 -- ---- two loops joined
@@ -110,7 +111,7 @@ module _ (N : Model) (c d e : ℕ) (can : CanJoin N c d e) (r : Plane) (some : I
   abbrev J : Model
   J = loops_joined N c d e
 
-  joined_told : (f : ℕ) → Has N.faces f → told J f ≡ told N f
+  joined_told : (f : ℕ) → Has N.faces f → volume_of J f ≡ volume_of N f
   joined_told f there = elim (eqb_tells f (face_at N c)) [
     | inl at ↦
         let here : OnFace N r f = subst (OnFace N r) (sym at.1) w in
@@ -120,8 +121,8 @@ module _ (N : Model) (c d e : ℕ) (can : CanJoin N c d e) (r : Plane) (some : I
   ]
 
   pub join_volumes : (v : ℕ) → six_volume (loops_joined N c d e) v ≡ six_volume N v
-  join_volumes v = six_is J v ∙ ap (λ t. total (told J) (table.all_where (λ _ row. nat_eq row.solid v) t)) (joins.faces_joined N c d e can)
-      ∙ unchanged (told J) (told N) (faces_of N v) (λ f i. joined_told f (solid_facts N v f i).0) ∙ sym (six_is N v)
+  join_volumes v = six_is J v ∙ ap (λ t. total (volume_of J) (table.all_where (λ _ row. nat_eq row.solid v) t)) (joins.faces_joined N c d e can)
+      ∙ unchanged (volume_of J) (volume_of N) (faces_of N v) (λ f i. joined_told f (solid_facts N v f i).0) ∙ sym (six_is N v)
 
 -- ---- a ring moved
 
@@ -135,16 +136,16 @@ module _ (N : Model) (f l k : ℕ) (can : CanMove N f l k) (r : Plane) (some : I
   now : (h : ℕ) → Has N.faces h → Has R.faces h
   now h there = subst (λ t. Has t h) (sym (moves.faces_moved N f l k can)) there
 
-  both_told : told N f +ℤ told N k ≡ told R f +ℤ told R k
+  both_told : volume_of N f +ℤ volume_of N k ≡ volume_of R f +ℤ volume_of R k
   both_told =
       let p : Point = anchor N f in
       let on : is_on r p ≡ true = anchor_lies N can.sound r some f can.f_there w in
-      ap (λ x. told N f +ℤ x) (told_from N can.sound r some k p can.goes.f_there z on) ∙ sym (dot_sum p (normal N f) (normal N k))
+      ap (λ x. volume_of N f +ℤ x) (told_from N can.sound r some k p can.goes.f_there z on) ∙ sym (dot_sum p (normal N f) (normal N k))
       ∙ ap (dot p) (sym (moves.normals_sum N f l k can)) ∙ dot_sum p (normal R f) (normal R k)
       ∙ sym (λ i. told_from R ring_sound r some f p (now f can.f_there) (moves.else_on N f l k can r f can.apart w) on i
       +ℤ told_from R ring_sound r some k p (now k can.goes.f_there) (moves.moved_on N f l k can r w z) on i)
 
-  same_told : (h : ℕ) → Has N.faces h → h ≢ f → h ≢ k → told N h ≡ told R h
+  same_told : (h : ℕ) → Has N.faces h → h ≢ f → h ≢ k → volume_of N h ≡ volume_of R h
   same_told h there a b = sym (λ i. dot (moves.anchor_moved N f l k can h there i) (moves.normal_else N f l k can h there a b i))
 
   one_solid : solid_of N f ≡ solid_of N k
@@ -152,15 +153,15 @@ module _ (N : Model) (f l k : ℕ) (can : CanMove N f l k) (r : Plane) (some : I
 
   -- k as it was, and the others as they are then
   mid : ℕ → ℤ
-  mid h = cond (nat_eq h k) (told N h) (told R h)
+  mid h = cond (nat_eq h k) (volume_of N h) (volume_of R h)
 
-  mid_k : mid k ≡ told N k
+  mid_k : mid k ≡ volume_of N k
   unfolding mid
-  mid_k = ap (λ b. cond b (told N k) (told R k)) (eq-eqb k k refl)
+  mid_k = ap (λ b. cond b (volume_of N k) (volume_of R k)) (eq-eqb k k refl)
 
-  mid_else : (h : ℕ) → h ≢ k → mid h ≡ told R h
+  mid_else : (h : ℕ) → h ≢ k → mid h ≡ volume_of R h
   unfolding mid
-  mid_else h ne = ap (λ b. cond b (told N h) (told R h)) (ne_eqb h k ne)
+  mid_else h ne = ap (λ b. cond b (volume_of N h) (volume_of R h)) (ne_eqb h k ne)
 
   gap : (a b : ℤ) → a ≡ b +ℤ (a -ℤ b)
   gap a b = omega (arith, ints)
@@ -169,15 +170,15 @@ module _ (N : Model) (f l k : ℕ) (can : CanMove N f l k) (r : Plane) (some : I
   no_gap a b c d t e = omega (arith, ints)
 
   pub move_volumes : (v : ℕ) → six_volume (ring_in N l k) v ≡ six_volume N v
-  move_volumes v = six_is R v ∙ ap (λ t. total (told R) (table.all_where (λ _ row. nat_eq row.solid v) t)) (moves.faces_moved N f l k can) ∙ sym (elim (eqb_tells (solid_of N f) v) [
+  move_volumes v = six_is R v ∙ ap (λ t. total (volume_of R) (table.all_where (λ _ row. nat_eq row.solid v) t)) (moves.faces_moved N f l k can) ∙ sym (elim (eqb_tells (solid_of N f) v) [
     | inl at ↦
-        changed_one (told N) mid f (told N f -ℤ told R f) (gap (told N f) (told R f) ∙ ap (λ x. x +ℤ (told N f -ℤ told R f)) (sym (mid_else f can.apart))) (faces_of N v)
+        changed_one (volume_of N) mid f (volume_of N f -ℤ volume_of R f) (gap (volume_of N f) (volume_of R f) ∙ ap (λ x. x +ℤ (volume_of N f -ℤ volume_of R f)) (sym (mid_else f can.apart))) (faces_of N v)
         (λ h i ne. elim (eqb_tells h k) [
-          | inl s ↦ ap (told N) s.1 ∙ sym (ap mid s.1 ∙ mid_k)
+          | inl s ↦ ap (volume_of N) s.1 ∙ sym (ap mid s.1 ∙ mid_k)
           | inr s ↦ same_told h (solid_facts N v h i).0 ne s.1 ∙ sym (mid_else h s.1)
         ]) (counted_in N f v can.f_there at.1)
-        ∙ ap (λ x. x +ℤ (told N f -ℤ told R f)) (changed_one mid (told R) k (told N k -ℤ told R k) (mid_k ∙ gap (told N k) (told R k)) (faces_of N v) (λ h i ne. mid_else h ne) (counted_in N k v can.goes.f_there (sym one_solid ∙ at.1)))
-        ∙ no_gap (told N f) (told N k) (told R f) (told R k) (total (told R) (faces_of N v)) both_told
-    | inr ne ↦ unchanged (told N) (told R) (faces_of N v) (λ h i. let w = solid_facts N v h i in
+        ∙ ap (λ x. x +ℤ (volume_of N f -ℤ volume_of R f)) (changed_one mid (volume_of R) k (volume_of N k -ℤ volume_of R k) (mid_k ∙ gap (volume_of N k) (volume_of R k)) (faces_of N v) (λ h i ne. mid_else h ne) (counted_in N k v can.goes.f_there (sym one_solid ∙ at.1)))
+        ∙ no_gap (volume_of N f) (volume_of N k) (volume_of R f) (volume_of R k) (total (volume_of R) (faces_of N v)) both_told
+    | inr ne ↦ unchanged (volume_of N) (volume_of R) (faces_of N v) (λ h i. let w = solid_facts N v h i in
         same_told h w.0 (λ s. ne.1 (ap (solid_of N) (sym s) ∙ w.1)) (λ s. ne.1 (one_solid ∙ ap (solid_of N) (sym s) ∙ w.1)))
   ]) ∙ sym (six_is N v)
