@@ -1,7 +1,9 @@
 -- Conditions in lists, conditions by search, and numbers that are left.
-use Rattle.std.proofs.Common.{◌≡◌, ℕ, ◌+◌, ◌≤◌, Bool, true, false, cond, not, nat_eq, ◌&&◌, List, [], ◌∷◌, ◌++◌, Option, Some, None, is_some, refl, ap, arith, true≢false}
-use Rattle.std.proofs.lemmas.Bool.Decides.{nat_tests}
+use Rattle.std.proofs.Common.{◌≡◌, ℕ, ◌+◌, ◌≤◌, Bool, true, false, cond, not, nat_eq, ◌&&◌, List, [], ◌∷◌, ◌++◌, Option, Some, None, is_some, refl, ap, ◌∙◌, arith, inl, inr, true≢false}
+use Rattle.std.proofs.lemmas.Bool.Decides.{nat_tests, eqb_tells}
 use Rattle.std.proofs.lemmas.Bool.{leb-true, eqb-true, le-leb}
+use Rattle.euler_operators.specs.Items.{IsIn}
+use Rattle.euler_operators.proofs.Lists.{tick_other}
 use Rattle.euler_operators.specs.Table.{first_where}
 use Rattle.euler_operators.specs.Model.{Model, is_number}
 use Rattle.euler_operators.specs.Conditions.{Condition, AllHold, first_refusal, is_lone, lists}
@@ -40,24 +42,16 @@ zero_found n e = elim (nat_eq n 0) as (λ b. nat_eq n 0 ≡ b → cond b None (S
 pub none_is_lone : (M : Model) (fs : List ℕ) → least_lone M fs ≡ None → first_where (λ _ row. is_lone row.content && lists fs row.face) M.loops ≡ 0
 none_is_lone M fs e = zero_found (first_where (λ _ row. is_lone row.content && lists fs row.face) M.loops) e
 
--- a test is false of each number of a list
-abbrev pub NoneSuch : (ℕ → Bool) → List ℕ → Type 0
-NoneSuch p [] = Unit {0}
-NoneSuch p (n ∷ ns) = (p n ≡ false) × NoneSuch p ns
-
 -- where a search finds nothing, the test is false of each number
-pub none_such : (p : ℕ → Bool) (ns : List ℕ) → first_such p ns ≡ None → NoneSuch p ns
-none_such p [] e = tt
-none_such p (n ∷ ns) e =
-    elim (p n) as (λ b. p n ≡ b → cond b (Some n) (first_such p ns) ≡ None → NoneSuch p (n ∷ ns)) [
-      | true ↦ λ is e. absurd (true≢false (ap is_some e))
-      | false ↦ λ is e. (is, none_such p ns e)
-    ] refl e
-
--- of each number that stands at a place of the list
-pub none_such-append : (p : ℕ → Bool) (ns ms : List ℕ) → NoneSuch p (ns ++ ms) → NoneSuch p ns × NoneSuch p ms
-none_such-append p [] ms h = (tt, h)
-none_such-append p (n ∷ ns) ms h = let r = none_such-append p ns ms h.1 in ((h.0, r.0), r.1)
+pub none_such : (p : ℕ → Bool) (ns : List ℕ) → first_such p ns ≡ None → (x : ℕ) → IsIn x ns → p x ≡ false
+none_such p [] e x i = absurd (omega arith)
+none_such p (n ∷ ns) e x i = elim (p n) as (λ b. p n ≡ b → cond b (Some n) (first_such p ns) ≡ None → p x ≡ false) [
+  | true ↦ λ is e. absurd (true≢false (ap is_some e))
+  | false ↦ λ is e. elim (eqb_tells x n) [
+    | inl s ↦ ap p s.1 ∙ is
+    | inr s ↦ none_such p ns e x (omega (arith, i, tick_other x n s.1))
+  ]
+] refl e
 
 -- so many numbers are left
 pub record Left (c : Taken) (f l e v : ℕ) : Type 0 where

@@ -1,5 +1,5 @@
 -- What it says that a glue isn't refused.
-use Rattle.std.proofs.Common.{◌≡◌, ◌≢◌, ℕ, suc, Bool, true, false, not, nat_eq, ◌&&◌, ◌||◌, List, [], ◌∷◌, ◌++◌, length, Some, None, unwrap_or, refl, sym, ap, ◌∙◌, subst, arith, inl, inr, true≢false}
+use Rattle.std.proofs.Common.{◌≡◌, ◌≢◌, ℕ, suc, true, false, not, nat_eq, ◌&&◌, ◌||◌, List, [], ◌∷◌, ◌++◌, length, Some, None, unwrap_or, refl, sym, ap, ◌∙◌, subst, arith, true≢false}
 use Rattle.std.specs.Prelude.{map, reverse}
 use Rattle.std.proofs.lemmas.Bool.Decides.{nat_tests}
 use Rattle.std.proofs.lemmas.Bool.{not-true, not-false, eqb-false}
@@ -24,11 +24,11 @@ use Rattle.euler_operators.proofs.Members.{no_cons}
 use Rattle.euler_operators.proofs.Crossings.{same_as}
 use Rattle.euler_operators.specs.Conditions.{AllHold, is_lone, lists, has_rings}
 use Rattle.euler_laws.proofs.shared.Goes.{all_hold}
-use Rattle.euler_laws.proofs.shared.Listed.{listed_as, listed_cases}
+use Rattle.euler_laws.proofs.shared.Listed.{listed_as, IsIn-from_listed}
 use Rattle.euler_laws.proofs.shared.Rows.{loop_row, face_there, no_rings_means, not_lone_cycle, empty_is}
 use Rattle.euler_laws.proofs.shared.Loops.{IsLoop, loop_sound}
 use Rattle.shapes.proofs.fresh.Rows.{none_above}
-use Rattle.shapes.proofs.fresh.Tests.{NoneSuch, none_found, none_is_lone, none_such, Left, numbers_are_left, number_fits}
+use Rattle.shapes.proofs.fresh.Tests.{none_found, none_is_lone, none_such, Left, numbers_are_left, number_fits}
 use Rattle.shapes.specs.Faces.{start, finish, boundary, items_in, loops_of, faces_of_both, least_lone}
 use Rattle.shapes.specs.Fresh.{first_such, taken_in}
 use Rattle.shapes.specs.Measure.{area, normal, is_flat, plane_of}
@@ -36,15 +36,6 @@ use Rattle.shapes.specs.glue.Glue.{rim, outline, has_repeats, is_rotation, partn
 use Rattle.shapes.specs.glue.GlueOps.{fresh_edge}
 use Rattle.shapes.proofs.glue.Facing.{Facing}
 use Rattle.shapes.proofs.glue.Points.{same_is, once, turned_list, other_list, such_is, there_and_back}
-
--- ---- searches
-
-none_listed : (p : ℕ → Bool) (ns : List ℕ) (n : ℕ) → NoneSuch p ns → lists ns n ≡ true → p n ≡ false
-none_listed p [] n none l = absurd (true≢false (sym l))
-none_listed p (k ∷ ns) n none l = elim (listed_cases k n ns l) [
-  | inl e ↦ ap p e ∙ none.0
-  | inr m ↦ none_listed p ns n none.1 m
-]
 
 -- ---- a loop of a sound model
 
@@ -265,8 +256,7 @@ module _ (M : Model) (f g : ℕ) (sound : Sound M) (accepted : glue_refusal M f 
   cycle_g = is_cycle g g_there listed_g
 
   flat_g : is_flat M g ≡ true
-  flat_g = not-false (is_flat M g) (none_listed (λ k. not (is_flat M k)) fs g
-      (none_such (λ k. not (is_flat M k)) fs none_bent) listed_g)
+  flat_g = not-false (is_flat M g) (none_such (λ k. not (is_flat M k)) fs none_bent g (IsIn-from_listed g fs listed_g))
 
   has_f : Has M.loops (outer M f)
   has_f = (sound.outers_there f f_there).0

@@ -1,13 +1,14 @@
--- The loops of a face, and the half-edges of some loops, are different ones.
-use Rattle.std.proofs.Common.{◌≡◌, ℕ, ◌≤◌, ◌<◌, Bool, true, false, not, nat_eq, nat_le, ◌&&◌, List, [], ◌∷◌, ◌++◌, length, Some, is_some, refl, sym, ap, ◌∙◌, arith, true≢false, inl, inr}
+-- The loops of a face, and the half-edges of some loops, are different ones; and the items of loops start at their vertices.
+use Rattle.std.proofs.Common.{◌≡◌, ℕ, ◌≤◌, ◌<◌, Bool, true, false, not, nat_eq, nat_le, ◌&&◌, List, [], ◌∷◌, ◌++◌, length, Some, is_some, refl, sym, ap, ◌∙◌, subst, arith, true≢false, inl, inr}
 use Rattle.std.specs.Prelude.{unwrap_or}
 use Rattle.std.proofs.lemmas.Bool.Decides.{nat_tests, eqb_tells}
 use Rattle.std.proofs.lemmas.List.{append_assoc}
 use Rattle.euler_operators.specs.Items.{count, tick, IsIn, IsApart}
 use Rattle.euler_operators.proofs.Lists.{count-append, tick_same, tick_other, IsIn_or_not}
 use Rattle.euler_operators.specs.Table as table
-use Rattle.euler_operators.specs.Model.{Model, LoopRow, no_loop, items_of, content, loop_of, outer, face_of, rings_of, is_ring_of}
+use Rattle.euler_operators.specs.Model.{Model, LoopContent, lone, cycle, LoopRow, no_loop, items_of, content, tail, loop_of, outer, face_of, rings_of, is_ring_of}
 use Rattle.euler_operators.specs.Sound.{Sound, HasHalf}
+use Rattle.euler_operators.proofs.Members.{IsIn-map}
 use Rattle.euler_operators.proofs.Models.{in-holds}
 use Rattle.euler_operators.proofs.Tables.{row_some}
 use Rattle.euler_operators.specs.Conditions.{lists, strictly_rises}
@@ -16,7 +17,7 @@ use Rattle.euler_laws.proofs.shared.FaceRings.{ring_there}
 use Rattle.euler_laws.proofs.shared.Bounds.{steps, steps_are, length_below, half_below}
 use Rattle.euler_laws.proofs.shared.Counted.{none_counted, counted_once}
 use Rattle.euler_laws.proofs.shared.UpTo.{up_to, up_to_none, count_up_to}
-use Rattle.shapes.specs.Faces.{items_in, loops_of}
+use Rattle.shapes.specs.Faces.{items_in, loops_of, vertices_on, vertices_in}
 use Rattle.shapes.proofs.walks.Rounds.{half_in, items_apart}
 
 -- the outer loop of a face and its rings that don't pass n
@@ -34,6 +35,21 @@ halves_short M sound hs a = omega (arith, steps_are, length_below steps hs a.apa
 pub items_joined : (M : Model) (ls ks : List ℕ) → items_in M (ls ++ ks) ≡ items_in M ls ++ items_in M ks
 items_joined M [] ks = refl
 items_joined M (l ∷ ls) ks = ap (λ xs. items_of (content M l) ++ xs) (items_joined M ls ks) ∙ sym (append_assoc (items_of (content M l)) (items_in M ls) (items_in M ks))
+
+module _ (M : Model) where
+  -- the items of a loop start at its vertices
+  tail_on : (h : ℕ) (c : LoopContent) → IsIn h (items_of c) → IsIn (tail M h) (vertices_on M c)
+  tail_on h (lone v) i = absurd (omega arith)
+  tail_on h (cycle hs) i = IsIn-map (tail M) h hs i
+
+  pub tail_in : (h l : ℕ) (ls : List ℕ) → IsIn l ls → IsIn h (items_of (content M l)) → IsIn (tail M h) (vertices_in M ls)
+  tail_in h l [] i j = absurd (omega arith)
+  tail_in h l (k ∷ ls) i j = elim (eqb_tells l k) [
+    | inl s ↦ let now : IsIn (tail M h) (vertices_on M (content M k)) = subst (λ q. IsIn (tail M h) (vertices_on M (content M q))) s.1 (tail_on h (content M l) j) in
+        omega (arith, now, count-append (tail M h) (vertices_on M (content M k)) (vertices_in M ls))
+    | inr s ↦ let later : IsIn (tail M h) (vertices_in M ls) = tail_in h l ls (omega (arith, i, tick_other l k s.1)) j in
+        omega (arith, later, count-append (tail M h) (vertices_on M (content M k)) (vertices_in M ls))
+  ]
 
 module _ (M : Model) (sound : Sound M) where
   one_item : (l x : ℕ) → count x (items_of (content M l)) ≤ tick (loop_of M x) l

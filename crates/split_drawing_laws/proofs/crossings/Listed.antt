@@ -1,17 +1,17 @@
 -- Lists that tests pick from, and the items and corners of faces.
-use Rattle.std.specs.Prelude.{map, filter}
+use Rattle.std.specs.Prelude.{filter}
 use Rattle.std.specs.List.{list_any}
 use Rattle.std.proofs.Common.{◌≡◌, ℕ, ◌+◌, ◌≤◌, Bool, true, false, cond, not, nat_eq, ◌&&◌, ◌||◌, List, [], ◌∷◌, refl, sym, ap, ◌∙◌, subst, arith, inl, inr}
 use Rattle.std.proofs.lemmas.Bool.Decides.{eqb_tells}
 use Rattle.std.proofs.lemmas.Bool.{ne_eqb, eq-eqb}
 use Rattle.euler_operators.specs.Items.{count, tick, IsIn}
 use Rattle.euler_operators.proofs.Lists.{count-append, tick_same, tick_other}
-use Rattle.euler_operators.specs.Model.{Model, LoopContent, lone, cycle, items_of, content, outer, tail, face_of, rings_of}
+use Rattle.euler_operators.specs.Model.{Model, items_of, content, outer, tail, face_of, rings_of}
 use Rattle.euler_operators.specs.Sound.{Has}
 use Rattle.euler_laws.proofs.shared.Goes.{not_false}
 use Rattle.euler_laws.proofs.shared.Rows.{loop_row}
-use Rattle.shapes.proofs.fresh.Tests.{NoneSuch}
-use Rattle.shapes.specs.Faces.{loops_of, items_in, boundary, vertices_on, vertices_in, corners}
+pub use Rattle.shapes.proofs.walks.FaceLoops.{tail_in}
+use Rattle.shapes.specs.Faces.{loops_of, items_in, boundary, corners}
 use Rattle.euler_laws.proofs.shared.Counted.{all_where_in}
 
 -- ---- lists
@@ -33,13 +33,6 @@ any_passes p x (n ∷ ns) i e = elim (eqb_tells x n) [
   later : (b : Bool) → list_any p ns ≡ true → (b || list_any p ns) ≡ true
   later true f = refl
   later false f = f
-
-pub none_at : (p : ℕ → Bool) (x : ℕ) (ns : List ℕ) → NoneSuch p ns → IsIn x ns → p x ≡ false
-none_at p x [] n i = absurd (omega arith)
-none_at p x (m ∷ ns) n i = elim (eqb_tells x m) [
-  | inl s ↦ ap p s.1 ∙ n.0
-  | inr s ↦ none_at p x ns n.1 (omega (arith, i, tick_other x m s.1))
-]
 
 -- ---- the loops of a face
 
@@ -67,26 +60,6 @@ module _ (M : Model) where
         omega (arith, later, count-append h (items_of (content M k)) (items_in M ls))
   ]
 
-  mapped_in : (h : ℕ) (hs : List ℕ) → IsIn h hs → IsIn (tail M h) (map (tail M) hs)
-  mapped_in h [] i = absurd (omega arith)
-  mapped_in h (g ∷ hs) i = elim (eqb_tells h g) [
-    | inl s ↦ here (tail M h) (tail M g) (map (tail M) hs) (ap (tail M) s.1)
-    | inr s ↦ omega (arith, mapped_in h hs (omega (arith, i, tick_other h g s.1)))
-  ]
-
-  pub tail_on : (h : ℕ) (c : LoopContent) → IsIn h (items_of c) → IsIn (tail M h) (vertices_on M c)
-  tail_on h (lone v) i = absurd (omega arith)
-  tail_on h (cycle hs) i = mapped_in h hs i
-
-  pub tail_in : (h l : ℕ) (ls : List ℕ) → IsIn l ls → IsIn h (items_of (content M l)) → IsIn (tail M h) (vertices_in M ls)
-  tail_in h l [] i j = absurd (omega arith)
-  tail_in h l (k ∷ ls) i j = elim (eqb_tells l k) [
-    | inl s ↦ let now : IsIn (tail M h) (vertices_on M (content M k)) = subst (λ q. IsIn (tail M h) (vertices_on M (content M q))) s.1 (tail_on h (content M l) j) in
-        omega (arith, now, count-append (tail M h) (vertices_on M (content M k)) (vertices_in M ls))
-    | inr s ↦ let later : IsIn (tail M h) (vertices_in M ls) = tail_in h l ls (omega (arith, i, tick_other l k s.1)) j in
-        omega (arith, later, count-append (tail M h) (vertices_on M (content M k)) (vertices_in M ls))
-  ]
-
   -- the items of a loop are items of its face, and start at its corners
   pub item_in_face : (h l : ℕ) → Has M.loops l → IsIn h (items_of (content M l)) → IsIn h (boundary M (face_of M l))
   unfolding boundary
@@ -94,4 +67,4 @@ module _ (M : Model) where
 
   pub tail_in_face : (h l : ℕ) → Has M.loops l → IsIn h (items_of (content M l)) → IsIn (tail M h) (corners M (face_of M l))
   unfolding corners
-  tail_in_face h l there i = tail_in h l (loops_of M (face_of M l)) (loop_in_face l there) i
+  tail_in_face h l there i = tail_in M h l (loops_of M (face_of M l)) (loop_in_face l there) i

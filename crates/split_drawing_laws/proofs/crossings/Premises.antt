@@ -27,7 +27,7 @@ use Rattle.shapes.specs.Fresh.{first_such, taken_in}
 use Rattle.shapes.specs.split.Sides.{crosses, straddles, straddling_faces, crossing_edges, reaches_above, reaches_below}
 use Rattle.shapes.specs.split.Places.{is_place, place_point, places, some_meet, is_touched, is_cut_often, is_crossed, is_up_and_down, sorted_pairs, pair_count}
 use Rattle.shapes.specs.split.Split.{first_conditions}
-use Rattle.split_drawing_laws.proofs.crossings.Listed.{any_passes, none_at, item_in_face, tail_in_face}
+use Rattle.split_drawing_laws.proofs.crossings.Listed.{any_passes, item_in_face, tail_in_face}
 use Rattle.split_drawing_laws.proofs.crossings.Runs.{Crossing}
 use Rattle.euler_laws.proofs.shared.Counted.{all_where_has, all_where_in}
 
@@ -106,11 +106,10 @@ module _ (M : Model) (sound : Sound M) (s : ℕ) (p : Plane) where
     cuttable =
         record {
           whole = λ e i. not-false (cuts_lattice p (start M (plus e)) (finish M (plus e)))
-              (none_at (λ x. not (cuts_lattice p (start M (plus x)) (finish M (plus x)))) e (crossing_edges M p s)
-              (none_such (λ x. not (cuts_lattice p (start M (plus x)) (finish M (plus x)))) (crossing_edges M p s) none_off) i);
-          untouched = λ f i. none_at (is_touched M p) f (straddling_faces M p s) (none_such (is_touched M p) (straddling_faces M p s) none_touched) i;
-          not_often = λ f i. none_at (is_cut_often M p) f (straddling_faces M p s) (none_such (is_cut_often M p) (straddling_faces M p s) none_often) i;
-          uncrossed = λ f i. none_at (is_crossed M p) f (straddling_faces M p s) (none_such (is_crossed M p) (straddling_faces M p s) none_crossed) i;
+              (none_such (λ x. not (cuts_lattice p (start M (plus x)) (finish M (plus x)))) (crossing_edges M p s) none_off e i);
+          untouched = λ f i. none_such (is_touched M p) (straddling_faces M p s) none_touched f i;
+          not_often = λ f i. none_such (is_cut_often M p) (straddling_faces M p s) none_often f i;
+          uncrossed = λ f i. none_such (is_crossed M p) (straddling_faces M p s) none_crossed f i;
           left = numbers;
         }
 

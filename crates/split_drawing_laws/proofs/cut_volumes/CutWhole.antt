@@ -17,7 +17,6 @@ use Rattle.shapes.proofs.measures.FlatFaces.{are_on}
 use Rattle.shapes.specs.split.Sides.{crossing_edges}
 use Rattle.shapes.specs.split.Crossings.{with_crossings}
 use Rattle.shapes.specs.split.Split.{first_conditions}
-use Rattle.split_drawing_laws.proofs.crossings.Listed.{none_at}
 use Rattle.split_drawing_laws.proofs.crossings.Premises.{Cuttable, edge_facts}
 use Rattle.split_drawing_laws.proofs.crossings.Whole.{can_cut, begins, crossings_sound}
 use Rattle.split_drawing_laws.proofs.cut_volumes.CutRuns.{OfSolid, all_measured}
@@ -32,8 +31,7 @@ module _ (M : Model) (s : ℕ) (p : Plane) (t : ℕ) (sound : Sound M) (accepted
   none_bent hold = none_found (first_such (λ f. not (is_flat M f)) (faces_of M s)) hold.1.1.1.1.1.1.1.1.1.1.0
 
   listed_flat : (f : ℕ) → IsIn f (faces_of M s) → is_flat M f ≡ true
-  listed_flat f i = not-false (is_flat M f) (none_at (λ g. not (is_flat M g)) f (faces_of M s)
-      (none_such (λ g. not (is_flat M g)) (faces_of M s) (none_bent (all_hold (first_conditions M s p t) accepted))) i)
+  listed_flat f i = not-false (is_flat M f) (none_such (λ g. not (is_flat M g)) (faces_of M s) (none_bent (all_hold (first_conditions M s p t) accepted)) f i)
 
   pub all_flat : (f : ℕ) → Has M.faces f → solid_of M f ≡ s → is_flat M f ≡ true
   all_flat f there of_s = listed_flat f (in_solid M f s there of_s)
