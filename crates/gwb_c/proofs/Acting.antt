@@ -36,5 +36,5 @@ pub seen : (g h : Stage) (o : Option Stage) → o ≡ Some g → o ≡ Some h �
 seen g h o e f M is = is ∙ ap shown (the_same g h o e f)
 
 -- a session goes on as the command is obeyed
-pub obeyed_on : (s : Journal) (k : Command) (a : Answer) (h : Stage) → Obeys_on (Session s) k a h → (t : Journal) × (Some h ≡ Some (Session t)) × Obeys s.machine k a t.machine
-obeyed_on s k a h x = (x.0, ap (λ (g : Stage). Some g) x.1, x.2)
+pub obeyed_on : (s : Journal) (k : Command) (a b : Answer) (h : Stage) → a ≡ b → Obeys_on (Session s) k b h → (t : Journal) × (Some h ≡ Some (Session t)) × Obeys s.machine k a t.machine
+obeyed_on s k a b h is x = (x.0, ap (λ (g : Stage). Some g) x.1, subst (λ (c : Answer). Obeys s.machine k c x.0.machine) (sym is) x.2)

@@ -1,14 +1,16 @@
 -- A command that was not done leaves the model shown as it is.
-use Rattle.std.proofs.Common.{◌≡◌, ◌∙◌, false, true≢false, inl, inr, Option, Some, None, sym, ap}
-use Rattle.std.specs.Prelude.{◌⊎◌}
+use Rattle.std.proofs.Common.{◌≡◌, ◌∙◌, false, true≢false, inl, inr, Option, Some, None, refl, sym, ap}
+use Rattle.std.specs.Prelude.{◌⊎◌, Result, Ok, Err, is_ok}
 use Rattle.euler_operators.specs.declared.Op.{Op}
 use Rattle.euler_operators.specs.declared.Refusal.{Refusal}
 use Rattle.euler_operators.specs.Conditions.{first_false}
 use Rattle.undo_journal.specs.Machine.{Machine, held, act, act_refusal, undo, undo_refusal, redo, redo_refusal}
 use Rattle.undo_journal.specs.Journal.{Journal, DraftJournal}
+use Rattle.undo_journal.specs.declared.session.Failure.{Failure}
+use Rattle.undo_journal.specs.declared.session.Failure.TheVariants as failure
 use Rattle.script_reader.specs.declared.command.Command.TheVariants as command
 use Rattle.solid_listing.specs.declared.reply.Reply.TheVariants as reply
-use Rattle.script_running.specs.script_judging.Judging.{Moves, Acts, done}
+use Rattle.script_running.specs.script_judging.Judging.{Moves, Acts, done, outcome}
 use Rattle.script_running.specs.declared.script_judging.judging.Answer.{Answer}
 use Rattle.script_running.specs.declared.script_judging.judging.Answer.TheVariants.{Reply as Told}
 use Rattle.gwb_c.specs.Stages.{shown, is_done, was_done, Steps, Acts_on, Obeys_on}
@@ -17,6 +19,12 @@ use Rattle.gwb_c.specs.declared.stage.Stage.TheVariants.{Session, Drafting}
 
 not_done : (a : Answer) → is_done a ≡ false → a ≡ done → ⊥
 not_done a other is = true≢false (sym (ap is_done is) ∙ other)
+
+-- a command that ended in a failure was not done
+pub not_done_on_failure : (ended : Result (Unit {0}) Failure) → is_ok ended ≡ false → is_done (outcome ended) ≡ false
+not_done_on_failure (Ok _) e = absurd (true≢false e)
+not_done_on_failure (Err (failure.Refused r)) e = refl
+not_done_on_failure (Err (failure.Memory m)) e = refl
 
 -- either it was done, or memory was refused
 memory_refused : {P Q : Type 0} (a : Answer) → ((a ≡ done) × P) ⊎ ((a ≡ Told reply.Memory) × Q) → is_done a ≡ false → Q

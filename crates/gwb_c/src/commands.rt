@@ -25,7 +25,8 @@ pub(crate) fn told_refusal(refusal: Refusal) -> Answer
 }
 
 /// The answer to a command that ended so.
-fn outcome(ended: Result<(), Failure>) -> Answer
+#[inline(always)]
+pub(crate) fn outcome(ended: Result<(), Failure>) -> Answer
     ensures { result ≡ outcome ended }
 {
     match ended {
@@ -36,22 +37,25 @@ fn outcome(ended: Result<(), Failure>) -> Answer
 }
 
 #[tactic(auto, using(crate::proofs::Acting::acts_on))]
-fn act_in_session(session: &mut Session, op: Op) -> Answer
-    ensures { Obeys session.old.machine (command.Act op) result session.new.machine }
+#[inline(always)]
+fn act_in_session(session: &mut Session, op: Op) -> Result<(), Failure>
+    ensures { Obeys session.old.machine (command.Act op) (outcome result) session.new.machine }
 {
-    outcome(session.act(op))
+    session.act(op)
 }
 
 #[tactic(auto, using(crate::proofs::Acting::steps_on))]
-fn step_in_draft(draft: &mut Draft, op: Op) -> Answer
-    ensures { Steps (first_false draft.old.model op) draft.old op result draft.new }
+#[inline(always)]
+fn step_in_draft(draft: &mut Draft, op: Op) -> Result<(), Failure>
+    ensures { Steps (first_false draft.old.model op) draft.old op (outcome result) draft.new }
 {
-    outcome(draft.step(op))
+    draft.step(op)
 }
 
 /// One operator: in a session a command, in a draft a step.
-pub(crate) fn act_on(stage: &mut Stage, op: Op) -> Answer
-    ensures { Acts_on stage.old op result stage.new }
+#[inline(always)]
+pub(crate) fn act_on(stage: &mut Stage, op: Op) -> Result<(), Failure>
+    ensures { Acts_on stage.old op (outcome result) stage.new }
 {
     match stage {
         Stage::Session(session) => act_in_session(session, op),
@@ -59,41 +63,45 @@ pub(crate) fn act_on(stage: &mut Stage, op: Op) -> Answer
     }
 }
 
-fn undo_in_session(session: &mut Session) -> Answer
-    ensures { Obeys session.old.machine command.Undo result session.new.machine }
+#[inline(always)]
+fn undo_in_session(session: &mut Session) -> Result<(), Failure>
+    ensures { Obeys session.old.machine command.Undo (outcome result) session.new.machine }
 {
     match session.undo() {
-        Ok(()) => Answer::Reply(Reply::Done),
-        Err(refusal) => told_refusal(refusal),
+        Ok(()) => Ok(()),
+        Err(refusal) => Err(Failure::Refused(refusal)),
     }
 }
 
-fn redo_in_session(session: &mut Session) -> Answer
-    ensures { Obeys session.old.machine command.Redo result session.new.machine }
+#[inline(always)]
+fn redo_in_session(session: &mut Session) -> Result<(), Failure>
+    ensures { Obeys session.old.machine command.Redo (outcome result) session.new.machine }
 {
     match session.redo() {
-        Ok(()) => Answer::Reply(Reply::Done),
-        Err(refusal) => told_refusal(refusal),
+        Ok(()) => Ok(()),
+        Err(refusal) => Err(Failure::Refused(refusal)),
     }
 }
 
 /// Takes the last command of a session back.
-pub(crate) fn undo_on(stage: &mut Stage) -> Answer
-    ensures { Obeys_on stage.old command.Undo result stage.new }
+#[inline(always)]
+pub(crate) fn undo_on(stage: &mut Stage) -> Result<(), Failure>
+    ensures { Obeys_on stage.old command.Undo (outcome result) stage.new }
 {
     match stage {
         Stage::Session(session) => undo_in_session(session),
-        Stage::Drafting(_) => Answer::Silent,
+        Stage::Drafting(_) => Ok(()),
     }
 }
 
 /// Does the next command of a session again.
-pub(crate) fn redo_on(stage: &mut Stage) -> Answer
-    ensures { Obeys_on stage.old command.Redo result stage.new }
+#[inline(always)]
+pub(crate) fn redo_on(stage: &mut Stage) -> Result<(), Failure>
+    ensures { Obeys_on stage.old command.Redo (outcome result) stage.new }
 {
     match stage {
         Stage::Session(session) => redo_in_session(session),
-        Stage::Drafting(_) => Answer::Silent,
+        Stage::Drafting(_) => Ok(()),
     }
 }
 
@@ -109,27 +117,33 @@ fn lamina_on(
     (session, outcome(ended))
 }
 
+#[inline(always)]
 fn act_in(slot: &mut Slot, op: Op)
     ensures { Slot_acts slot.old op slot.new }
 {
     if let Some(stage) = &mut slot.stage {
-        slot.answer = stage.act(op);
+        let ended = stage.act(op);
+        slot.answer = outcome(ended);
     }
 }
 
+#[inline(always)]
 fn undo_in(slot: &mut Slot)
     ensures { Slot_obeys slot.old command.Undo slot.new }
 {
     if let Some(stage) = &mut slot.stage {
-        slot.answer = stage.undo();
+        let ended = stage.undo();
+        slot.answer = outcome(ended);
     }
 }
 
+#[inline(always)]
 fn redo_in(slot: &mut Slot)
     ensures { Slot_obeys slot.old command.Redo slot.new }
 {
     if let Some(stage) = &mut slot.stage {
-        slot.answer = stage.redo();
+        let ended = stage.redo();
+        slot.answer = outcome(ended);
     }
 }
 
@@ -145,6 +159,7 @@ fn lamina_in(alloc: Global, slot: &mut Slot, solid: u32, points: &ArrayVec<Point
 }
 
 /// One operator: in a session a command, in a draft a step.
+#[inline(always)]
 pub(crate) fn act(slot: &mut Slot, op: Op)
     ensures { Slot_carries slot.old op slot.new }
 {
@@ -154,6 +169,7 @@ pub(crate) fn act(slot: &mut Slot, op: Op)
 }
 
 /// Takes the last command back.
+#[inline(always)]
 pub(crate) fn undo(slot: &mut Slot)
     ensures { Slot_does slot.old command.Undo slot.new }
 {
@@ -163,6 +179,7 @@ pub(crate) fn undo(slot: &mut Slot)
 }
 
 /// Does the next command again.
+#[inline(always)]
 pub(crate) fn redo(slot: &mut Slot)
     ensures { Slot_does slot.old command.Redo slot.new }
 {

@@ -3,6 +3,7 @@ ghost use Rattle.std.specs.Prelude.{◌≡◌, false};
 ghost use Rattle.euler_conditions.specs.Ready.{IsReady};
 ghost use Rattle.shapes.specs.Fresh.{taken_in};
 ghost use Rattle.solid_walks.specs.Counters.{taken_of};
+ghost use Rattle.script_running.specs.script_judging.Judging.{outcome};
 ghost use Rattle.script_reader.specs.declared.command.Command.TheVariants as command;
 ghost use Rattle.gwb_c.specs.Stages.{shown, is_done, was_done, Acts_on, Obeys_on};
 ghost use Rattle.gwb_c.specs.Handle.{Decides_on};
@@ -15,6 +16,7 @@ use script_running::{Answer, Larger, judge};
 use solid_listing::Reply;
 use solid_walks::{Counters, counters_of};
 use std::marker::Model;
+use undo_journal::Failure;
 
 /// A session or a draft, and the greatest numbers in use in the model that it shows.
 #[derive(Drop)]
@@ -59,6 +61,7 @@ fn was_done(answer: &Option<Answer>) -> bool
 }
 
 /// The greatest numbers after a command, from those before it.
+#[inline(always)]
 fn greatest_after(done: bool, stage: &Stage, greatest: Counters) -> Counters
     requires { done ≡ false → taken_of greatest ≡ taken_in (shown stage.now) }
     ensures { taken_of result ≡ taken_in (shown stage.now) }
@@ -119,30 +122,33 @@ impl CountedStage {
     }
 
     /// One operator: in a session a command, in a draft a step.
-    pub(crate) fn act(&mut self, op: Op) -> Answer
-        ensures { Acts_on self.old op result self.new }
+    #[inline(always)]
+    pub(crate) fn act(&mut self, op: Op) -> Result<(), Failure>
+        ensures { Acts_on self.old op (outcome result) self.new }
     {
-        let answer = act_on(&mut self.stage, op);
-        self.greatest = greatest_after(is_done(&answer), &self.stage, self.greatest);
-        answer
+        let ended = act_on(&mut self.stage, op);
+        self.greatest = greatest_after(ended.is_ok(), &self.stage, self.greatest);
+        ended
     }
 
     /// Takes the last command of a session back.
-    pub(crate) fn undo(&mut self) -> Answer
-        ensures { Obeys_on self.old command.Undo result self.new }
+    #[inline(always)]
+    pub(crate) fn undo(&mut self) -> Result<(), Failure>
+        ensures { Obeys_on self.old command.Undo (outcome result) self.new }
     {
-        let answer = undo_on(&mut self.stage);
-        self.greatest = greatest_after(is_done(&answer), &self.stage, self.greatest);
-        answer
+        let ended = undo_on(&mut self.stage);
+        self.greatest = greatest_after(ended.is_ok(), &self.stage, self.greatest);
+        ended
     }
 
     /// Does the next command of a session again.
-    pub(crate) fn redo(&mut self) -> Answer
-        ensures { Obeys_on self.old command.Redo result self.new }
+    #[inline(always)]
+    pub(crate) fn redo(&mut self) -> Result<(), Failure>
+        ensures { Obeys_on self.old command.Redo (outcome result) self.new }
     {
-        let answer = redo_on(&mut self.stage);
-        self.greatest = greatest_after(is_done(&answer), &self.stage, self.greatest);
-        answer
+        let ended = redo_on(&mut self.stage);
+        self.greatest = greatest_after(ended.is_ok(), &self.stage, self.greatest);
+        ended
     }
 
     /// The answer to a line, or none where it spells a larger command, which is put aside. A draft hears no line.

@@ -18,6 +18,7 @@ fn plus(edge: u32) -> HalfEdge
 }
 
 /// The corner that C means: below 2^31 the one at the tail of a half-edge, from there on that of a lone loop.
+#[inline(always)]
 fn corner(code: u32) -> Corner
     ensures { result ≡ corner_of code }
 {
@@ -29,6 +30,7 @@ fn corner(code: u32) -> Corner
 }
 
 /// One operator, in a session a command, in a draft a step.
+#[inline(always)]
 fn act(alloc: Global, gwb: &mut Gwb, op: Op) -> u32
     ensures { Carries gwb.old.held.value op gwb.new.held.value result }
 {

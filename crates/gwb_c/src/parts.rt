@@ -6,7 +6,7 @@ ghost use Rattle.gwb_c.specs.Stages.{shown};
 ghost use Rattle.gwb_c.specs.Calls.{Leaves};
 ghost use Rattle.gwb_c.specs.Parting.{part_of, Moves_faces, Slot_parts, Slot_makes_part, Parts};
 
-use crate::commands::told_refusal;
+use crate::commands::{outcome, told_refusal};
 use crate::counted_stage::CountedStage;
 use crate::handle::{CLOSED, Gwb, NO_CALL, put, take};
 use crate::slot::{Slot, counted_in, status};
@@ -58,7 +58,7 @@ fn part_on(alloc: Global, stage: &mut CountedStage, faces: &[u32], made: u32) ->
         Err(refusal) => return told_refusal(refusal),
     };
     match listed(alloc, faces) {
-        Ok(list) => stage.act(Op::Part(from, made, list)),
+        Ok(list) => outcome(stage.act(Op::Part(from, made, list))),
         Err(_) => Answer::Reply(Reply::Memory),
     }
 }

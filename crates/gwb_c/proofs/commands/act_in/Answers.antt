@@ -1,4 +1,6 @@
-use Rattle.std.proofs.Common.{refl, subst}
+use Rattle.std.proofs.Common.{refl, sym, subst}
+use Rattle.script_running.specs.script_judging.Judging.{outcome}
+use Rattle.script_running.specs.declared.script_judging.judging.Answer.{Answer}
 use Rattle.gwb_c.specs.declared.stage.Stage.{Stage}
 use Rattle.gwb_c.specs.Stages.{Acts_on}
 use Rattle.gwb_c.proofs.Acting.{the_same}
@@ -6,5 +8,5 @@ use Rattle.gwb_c.proofs.commands.act_in.Goals as goal
 
 pub returns-in-Some : goal.returns-in-Some
 returns-in-Some c = λ g is.
-    let answer = c.act-slot.result in let h = c.act-slot.new.self in
-    (h, refl, subst (λ (k : Stage). Acts_on k c.args.op answer h) (the_same c.in-Some.stage g c.args.slot.now.stage c.in-Some.is is) c.act-slot.ensures)
+    let ended = c.act-ended.result in let h = c.act-ended.new.self in
+    (h, refl, subst (λ (a : Answer). Acts_on g c.args.op a h) (sym c.outcome-slot.ensures) (subst (λ (k : Stage). Acts_on k c.args.op (outcome ended) h) (the_same c.in-Some.stage g c.args.slot.now.stage c.in-Some.is is) c.act-ended.ensures))

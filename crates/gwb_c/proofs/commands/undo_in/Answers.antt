@@ -1,9 +1,13 @@
 use Rattle.std.proofs.Common.{subst}
 use Rattle.script_reader.specs.declared.command.Command.TheVariants as command
+use Rattle.script_running.specs.script_judging.Judging.{outcome}
 use Rattle.gwb_c.specs.declared.stage.Stage.{Stage}
 use Rattle.gwb_c.specs.Stages.{Obeys_on}
 use Rattle.gwb_c.proofs.Acting.{the_same, obeyed_on}
 use Rattle.gwb_c.proofs.commands.undo_in.Goals as goal
 
 pub returns-in-Some : goal.returns-in-Some
-returns-in-Some c = λ s is. obeyed_on s command.Undo c.undo-slot.result c.undo-slot.new.self (subst (λ (g : Stage). Obeys_on g command.Undo c.undo-slot.result c.undo-slot.new.self) (the_same c.in-Some.stage _ c.args.slot.now.stage c.in-Some.is is) c.undo-slot.ensures)
+returns-in-Some c = λ s is.
+    let told = outcome c.undo-ended.result in let h = c.undo-ended.new.self in
+    obeyed_on s command.Undo c.outcome-slot.result told h c.outcome-slot.ensures
+    (subst (λ (g : Stage). Obeys_on g command.Undo told h) (the_same c.in-Some.stage _ c.args.slot.now.stage c.in-Some.is is) c.undo-ended.ensures)

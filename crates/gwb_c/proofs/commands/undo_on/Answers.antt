@@ -1,6 +1,6 @@
 use Rattle.std.proofs.Common.{refl, sym, subst}
 use Rattle.script_reader.specs.declared.command.Command.TheVariants as command
-use Rattle.script_running.specs.declared.script_judging.judging.Answer.TheVariants.{Silent}
+use Rattle.script_running.specs.script_judging.Judging.{done, outcome}
 use Rattle.gwb_c.specs.declared.stage.Stage.{Stage}
 use Rattle.gwb_c.specs.declared.stage.Stage.TheVariants.{Session}
 use Rattle.gwb_c.specs.Stages.{Obeys_on}
@@ -9,7 +9,7 @@ use Rattle.gwb_c.proofs.commands.undo_on.Goals as goal
 pub returns-in-Session : goal.returns-in-Session
 returns-in-Session c =
     let t = c.undo_in_session.new.session in
-    subst (λ (g : Stage). Obeys_on g command.Undo c.undo_in_session.result (Session t)) (sym c.in-Session.is) (t, refl, c.undo_in_session.ensures)
+    subst (λ (g : Stage). Obeys_on g command.Undo (outcome c.undo_in_session.result) (Session t)) (sym c.in-Session.is) (t, refl, c.undo_in_session.ensures)
 
 pub returns-in-Drafting : goal.returns-in-Drafting
-returns-in-Drafting c = subst (λ (g : Stage). Obeys_on g command.Undo Silent g) (sym c.in-Drafting.is) refl
+returns-in-Drafting c = subst (λ (g : Stage). Obeys_on g command.Undo done g) (sym c.in-Drafting.is) refl

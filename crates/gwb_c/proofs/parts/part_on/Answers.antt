@@ -4,6 +4,8 @@ use Rattle.euler_operators.specs.declared.Op.TheVariants as operator
 use Rattle.euler_operators.specs.declared.Refusal.{Refusal}
 use Rattle.euler_operators.specs.Model.{Model, solid_of}
 use Rattle.solid_measure.specs.Measure.{face_refusal}
+use Rattle.script_running.specs.script_judging.Judging.{outcome}
+use Rattle.script_running.specs.declared.script_judging.judging.Answer.{Answer}
 use Rattle.gwb_c.specs.Stages.{shown, Acts_on}
 use Rattle.gwb_c.specs.Parting.{part_of, Moves_faces}
 use Rattle.gwb_c.proofs.Queried.{is_refused, is_told}
@@ -22,5 +24,5 @@ returns-in-Ok-listed c =
     let a_face : face_refusal (shown g) f ≡ None = subst (λ (M : Model). face_refusal M f ≡ None) c.arena.ensures.model told.0 in
     let from : c.in-Ok.from ≡ solid_of (shown g) f = told.1 ∙ ap (λ (M : Model). solid_of M f) c.arena.ensures.model in
     let op_is : operator.Part c.in-Ok.from c.args.made c.in-Ok-listed.list ≡ part_of (shown g) fs c.args.made = λ i. operator.Part (from i) c.args.made (c.in-Ok-listed.ensures i) in
-    subst (λ (o : Option Refusal). Moves_faces o g (part_of (shown g) fs c.args.made) c.act.result h) (sym a_face)
-    (inl (subst (λ (op : Op). Acts_on g op c.act.result h) op_is c.act.ensures))
+    subst (λ (o : Option Refusal). Moves_faces o g (part_of (shown g) fs c.args.made) c.outcome.result h) (sym a_face)
+    (inl (subst (λ (a : Answer). Acts_on g (part_of (shown g) fs c.args.made) a h) (sym c.outcome.ensures) (subst (λ (op : Op). Acts_on g op (outcome c.act.result) h) op_is c.act.ensures)))

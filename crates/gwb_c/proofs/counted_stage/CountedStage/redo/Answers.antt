@@ -1,10 +1,11 @@
 use Rattle.std.proofs.Common.{◌∙◌, sym, ap}
 use Rattle.shapes.specs.Fresh.{taken_in}
-use Rattle.gwb_c.proofs.Unchanged.{shows_redone}
+use Rattle.script_running.specs.script_judging.Judging.{outcome}
+use Rattle.gwb_c.proofs.Unchanged.{not_done_on_failure, shows_redone}
 use Rattle.gwb_c.proofs.counted_stage.CountedStage.redo.Goals as goal
 
 pub greatest_after-self-inside-requires : goal.greatest_after-self-inside-requires
-greatest_after-self-inside-requires c = λ other. c.self.invariant ∙ ap taken_in (sym (shows_redone c.self.inside.stage c.redo_on-answer.result c.redo_on-answer.new.stage c.redo_on-answer.ensures (sym c.is_done.ensures ∙ other)))
+greatest_after-self-inside-requires c = λ other. c.self.invariant ∙ ap taken_in (sym (shows_redone c.self.inside.stage (outcome c.redo_on-ended.result) c.redo_on-ended.new.stage c.redo_on-ended.ensures (not_done_on_failure c.redo_on-ended.result (sym c.is_ok.ensures.value ∙ other))))
 
 pub returns : goal.returns
-returns c = rw (← c.self.view_is) c.redo_on-answer.ensures
+returns c = rw (← c.self.view_is) c.redo_on-ended.ensures
