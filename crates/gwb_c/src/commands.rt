@@ -24,15 +24,15 @@ pub(crate) fn told_refusal(refusal: Refusal) -> Answer
     Answer::Reply(Reply::Refused(refusal.why.code(), refusal.number))
 }
 
-/// The answer to a command that ended so.
+/// Writes the answer to a command that ended so.
 #[inline(always)]
-pub(crate) fn outcome(ended: Result<(), Failure>) -> Answer
-    ensures { result ≡ outcome ended }
+pub(crate) fn tell(ended: Result<(), Failure>, answer: &mut Answer)
+    ensures { answer.new ≡ outcome ended }
 {
     match ended {
-        Ok(()) => Answer::Reply(Reply::Done),
-        Err(Failure::Refused(refusal)) => told_refusal(refusal),
-        Err(Failure::Memory(_)) => Answer::Reply(Reply::Memory),
+        Ok(()) => *answer = Answer::Reply(Reply::Done),
+        Err(Failure::Refused(refusal)) => *answer = told_refusal(refusal),
+        Err(Failure::Memory(_)) => *answer = Answer::Reply(Reply::Memory),
     }
 }
 
@@ -110,11 +110,10 @@ fn lamina_on(
     session: Session,
     solid: u32,
     points: &ArrayVec<Point, 64>,
-) -> (Session, Answer)
-    ensures { Obeys session.machine (command.Lamina solid points.now.items) result.1 result.0.machine }
+) -> (Session, Result<(), Failure>)
+    ensures { Obeys session.machine (command.Lamina solid points.now.items) (outcome result.1) result.0.machine }
 {
-    let (session, ended) = sweeps::lamina(alloc, session, solid, points);
-    (session, outcome(ended))
+    sweeps::lamina(alloc, session, solid, points)
 }
 
 #[inline(always)]
@@ -123,7 +122,7 @@ fn act_in(slot: &mut Slot, op: Op)
 {
     if let Some(stage) = &mut slot.stage {
         let ended = stage.act(op);
-        slot.answer = outcome(ended);
+        tell(ended, &mut slot.answer);
     }
 }
 
@@ -133,7 +132,7 @@ fn undo_in(slot: &mut Slot)
 {
     if let Some(stage) = &mut slot.stage {
         let ended = stage.undo();
-        slot.answer = outcome(ended);
+        tell(ended, &mut slot.answer);
     }
 }
 
@@ -143,7 +142,7 @@ fn redo_in(slot: &mut Slot)
 {
     if let Some(stage) = &mut slot.stage {
         let ended = stage.redo();
-        slot.answer = outcome(ended);
+        tell(ended, &mut slot.answer);
     }
 }
 
@@ -153,9 +152,9 @@ fn lamina_in(alloc: Global, slot: &mut Slot, solid: u32, points: &ArrayVec<Point
     let Some(session) = taken(slot) else {
         return;
     };
-    let (session, answer) = lamina_on(alloc, session, solid, points);
+    let (session, ended) = lamina_on(alloc, session, solid, points);
     slot.stage = Some(CountedStage::of(Stage::Session(session)));
-    slot.answer = answer;
+    tell(ended, &mut slot.answer);
 }
 
 /// One operator: in a session a command, in a draft a step.

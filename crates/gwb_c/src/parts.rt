@@ -2,19 +2,19 @@
 ghost use Rattle.std.specs.Prelude.{◌≡◌, ◌<◌, [], length, get_or, IfOk};
 ghost use Rattle.euler_operators.specs.Model.{solid_of};
 ghost use Rattle.solid_measure.specs.Measure.{answer, face_refusal};
+ghost use Rattle.script_running.specs.script_judging.Judging.{outcome};
 ghost use Rattle.gwb_c.specs.Stages.{shown};
 ghost use Rattle.gwb_c.specs.Calls.{Leaves};
 ghost use Rattle.gwb_c.specs.Parting.{part_of, Moves_faces, Slot_parts, Slot_makes_part, Parts};
 
-use crate::commands::{outcome, told_refusal};
+use crate::commands::tell;
 use crate::counted_stage::CountedStage;
 use crate::handle::{CLOSED, Gwb, NO_CALL, put, take};
 use crate::slot::{Slot, counted_in, status};
 use euler_conditions::Arena;
 use euler_operators::{FaceList, Kind, Op, Refusal, Why, is_number};
-use script_running::Answer;
-use solid_listing::Reply;
 use std::alloc::{AllocError, Global};
+use undo_journal::Failure;
 
 /// Some faces as an operator holds them.
 fn listed(alloc: Global, faces: &[u32]) -> Result<FaceList, AllocError>
@@ -49,17 +49,17 @@ fn solid_of(arena: &Arena, face: u32) -> Result<u32, Refusal>
 }
 
 /// Parts some faces, of which there is one, from the solid of the first. Their list is made before the operator's conditions are tested.
-fn part_on(alloc: Global, stage: &mut CountedStage, faces: &[u32], made: u32) -> Answer
+fn part_on(alloc: Global, stage: &mut CountedStage, faces: &[u32], made: u32) -> Result<(), Failure>
     requires { 0 < length faces.now }
-    ensures { Moves_faces (face_refusal (shown stage.old) (get_or faces.now 0 0)) stage.old (part_of (shown stage.old) faces.now made) result stage.new }
+    ensures { Moves_faces (face_refusal (shown stage.old) (get_or faces.now 0 0)) stage.old (part_of (shown stage.old) faces.now made) (outcome result) stage.new }
 {
     let from = match solid_of(stage.arena(), faces[0]) {
         Ok(from) => from,
-        Err(refusal) => return told_refusal(refusal),
+        Err(refusal) => return Err(Failure::Refused(refusal)),
     };
     match listed(alloc, faces) {
-        Ok(list) => outcome(stage.act(Op::Part(from, made, list))),
-        Err(_) => Answer::Reply(Reply::Memory),
+        Ok(list) => stage.act(Op::Part(from, made, list)),
+        Err(error) => Err(Failure::Memory(error)),
     }
 }
 
@@ -68,7 +68,8 @@ fn part_in(alloc: Global, slot: &mut Slot, faces: &[u32], made: u32)
     ensures { Slot_parts slot.old faces.now made slot.new }
 {
     if let Some(stage) = &mut slot.stage {
-        slot.answer = part_on(alloc, stage, faces, made);
+        let ended = part_on(alloc, stage, faces, made);
+        tell(ended, &mut slot.answer);
     }
 }
 

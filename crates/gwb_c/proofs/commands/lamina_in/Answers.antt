@@ -1,7 +1,8 @@
-use Rattle.std.proofs.Common.{Some, ap, subst}
+use Rattle.std.proofs.Common.{Some, sym, ap, subst}
 use Rattle.undo_journal.specs.Journal.{Journal}
 use Rattle.script_reader.specs.declared.command.Command.TheVariants as command
-use Rattle.script_running.specs.script_judging.Judging.{Obeys}
+use Rattle.script_running.specs.script_judging.Judging.{Obeys, outcome}
+use Rattle.script_running.specs.declared.script_judging.judging.Answer.{Answer}
 use Rattle.gwb_c.specs.declared.stage.Stage.{Stage}
 use Rattle.gwb_c.proofs.Acting.{the_same}
 use Rattle.gwb_c.proofs.commands.lamina_in.Goals as goal
@@ -11,5 +12,9 @@ returns-in_default c = λ s is. absurd (c.in_default.not-Some s (c.taken.ensures
 
 pub returns : goal.returns
 returns c = λ s is.
-    let t = c.lamina_on-session.result.0 in let answer = c.lamina_on-session.result.1 in
-    (t, ap (λ (g : Stage). Some g) c.of.ensures, subst (λ (j : Journal). Obeys j.machine (command.Lamina c.args.solid c.args.points.now.items) answer t.machine) (the_same c.in-Some.session s c.taken.result c.in-Some.is (c.taken.ensures.session s is)) c.lamina_on-session.ensures)
+    let t = c.lamina_on-session.result.0 in let told = outcome c.lamina_on-session.result.1 in let k = command.Lamina c.args.solid c.args.points.now.items in (
+      t,
+      ap (λ (g : Stage). Some g) c.of.ensures,
+      subst (λ (a : Answer). Obeys s.machine k a t.machine) (sym c.tell.ensures)
+          (subst (λ (j : Journal). Obeys j.machine k told t.machine) (the_same c.in-Some.session s c.taken.result c.in-Some.is (c.taken.ensures.session s is)) c.lamina_on-session.ensures),
+    )
