@@ -37,7 +37,6 @@ pub(crate) fn tell(ended: Result<(), Failure>, answer: &mut Answer)
 }
 
 #[tactic(auto, using(crate::proofs::Acting::acts_on))]
-#[inline(always)]
 fn act_in_session(session: &mut Session, op: Op) -> Result<(), Failure>
     ensures { Obeys session.old.machine (command.Act op) (outcome result) session.new.machine }
 {
@@ -45,7 +44,6 @@ fn act_in_session(session: &mut Session, op: Op) -> Result<(), Failure>
 }
 
 #[tactic(auto, using(crate::proofs::Acting::steps_on))]
-#[inline(always)]
 fn step_in_draft(draft: &mut Draft, op: Op) -> Result<(), Failure>
     ensures { Steps (first_false draft.old.model op) draft.old op (outcome result) draft.new }
 {
@@ -63,7 +61,6 @@ pub(crate) fn act_on(stage: &mut Stage, op: Op) -> Result<(), Failure>
     }
 }
 
-#[inline(always)]
 fn undo_in_session(session: &mut Session) -> Result<(), Failure>
     ensures { Obeys session.old.machine command.Undo (outcome result) session.new.machine }
 {
@@ -73,7 +70,6 @@ fn undo_in_session(session: &mut Session) -> Result<(), Failure>
     }
 }
 
-#[inline(always)]
 fn redo_in_session(session: &mut Session) -> Result<(), Failure>
     ensures { Obeys session.old.machine command.Redo (outcome result) session.new.machine }
 {
@@ -84,7 +80,6 @@ fn redo_in_session(session: &mut Session) -> Result<(), Failure>
 }
 
 /// Takes the last command of a session back.
-#[inline(always)]
 pub(crate) fn undo_on(stage: &mut Stage) -> Result<(), Failure>
     ensures { Obeys_on stage.old command.Undo (outcome result) stage.new }
 {
@@ -95,7 +90,6 @@ pub(crate) fn undo_on(stage: &mut Stage) -> Result<(), Failure>
 }
 
 /// Does the next command of a session again.
-#[inline(always)]
 pub(crate) fn redo_on(stage: &mut Stage) -> Result<(), Failure>
     ensures { Obeys_on stage.old command.Redo (outcome result) stage.new }
 {
@@ -126,7 +120,6 @@ fn act_in(slot: &mut Slot, op: Op)
     }
 }
 
-#[inline(always)]
 fn undo_in(slot: &mut Slot)
     ensures { Slot_obeys slot.old command.Undo slot.new }
 {
@@ -136,7 +129,6 @@ fn undo_in(slot: &mut Slot)
     }
 }
 
-#[inline(always)]
 fn redo_in(slot: &mut Slot)
     ensures { Slot_obeys slot.old command.Redo slot.new }
 {
@@ -168,7 +160,6 @@ pub(crate) fn act(slot: &mut Slot, op: Op)
 }
 
 /// Takes the last command back.
-#[inline(always)]
 pub(crate) fn undo(slot: &mut Slot)
     ensures { Slot_does slot.old command.Undo slot.new }
 {
@@ -178,7 +169,6 @@ pub(crate) fn undo(slot: &mut Slot)
 }
 
 /// Does the next command again.
-#[inline(always)]
 pub(crate) fn redo(slot: &mut Slot)
     ensures { Slot_does slot.old command.Redo slot.new }
 {

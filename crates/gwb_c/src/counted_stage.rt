@@ -132,7 +132,6 @@ impl CountedStage {
     }
 
     /// Takes the last command of a session back.
-    #[inline(always)]
     pub(crate) fn undo(&mut self) -> Result<(), Failure>
         ensures { Obeys_on self.old command.Undo (outcome result) self.new }
     {
@@ -142,7 +141,6 @@ impl CountedStage {
     }
 
     /// Does the next command of a session again.
-    #[inline(always)]
     pub(crate) fn redo(&mut self) -> Result<(), Failure>
         ensures { Obeys_on self.old command.Redo (outcome result) self.new }
     {

@@ -29,7 +29,8 @@ fn corner(code: u32) -> Corner
     }
 }
 
-/// One operator, in a session a command, in a draft a step.
+/// One operator, in a session a command, in a draft a step. It is inlined with all that it calls here, so that the operator is built where
+/// the session takes it, and not handed on from call to call.
 #[inline(always)]
 fn act(alloc: Global, gwb: &mut Gwb, op: Op) -> u32
     ensures { Carries gwb.old.held.value op gwb.new.held.value result }

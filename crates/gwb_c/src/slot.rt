@@ -102,7 +102,6 @@ fn answer_line(alloc: Global, slot: &mut Slot, line: &[u8])
 }
 
 /// The greatest numbers in use.
-#[inline(always)]
 pub(crate) fn counted_in(slot: &Slot) -> Counters
     ensures { Counts_in slot.now result }
 {
@@ -132,7 +131,6 @@ pub(crate) fn is_drafting(slot: &Slot) -> bool
 }
 
 /// What C is told of an answer.
-#[inline(always)]
 pub(crate) fn status(answer: &Answer) -> u32
     ensures { result ≡ status_of answer.now }
 {
