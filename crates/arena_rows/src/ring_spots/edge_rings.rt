@@ -70,7 +70,7 @@ impl EdgeRings {
     pub fn has_edge(&self, e: u32) -> bool
         ensures { result ≡ is_edge (spot self.now) e }
     {
-        links::has_edge(&self.rings, e)
+        self.edges.contains(e)
     }
 
     /// The greatest edge in use, or 0 where none is. It looks for it as `Numbers::last` does.

@@ -1,5 +1,5 @@
 //! Edges as pairs of nodes.
-ghost use Rattle.std.specs.Prelude.{◌≡◌, ◌≢◌, ◌≤◌, ◌&&◌, ◌*◌, ◌+◌, nat_eq, nat_lt, nat_le, is_some, true, cond, Some, OnOk, ℕ};
+ghost use Rattle.std.specs.Prelude.{◌≡◌, ◌≢◌, ◌≤◌, ◌&&◌, ◌*◌, ◌+◌, nat_eq, nat_lt, nat_le, true, cond, Some, OnOk, ℕ};
 ghost use Rattle.std.specs.FinMap.{contains_key};
 ghost use Rattle.raw_cells.specs.Rows.{has_row};
 ghost use Rattle.raw_ring.specs.Rings.{spot, next_of, IsAsleep};
@@ -12,13 +12,6 @@ use boundary_model::{HALF_EDGE_CODES, NUMBER_LIMIT};
 use raw_cells::Rows;
 use raw_ring::Rings;
 use std::alloc::AllocError;
-
-/// Whether the first half-edge of an edge is live.
-pub(crate) fn has_edge(rings: &Rings, e: u32) -> bool
-    ensures { result ≡ nat_le e 1000000 && is_some (spot rings.now (plus e)) }
-{
-    e <= NUMBER_LIMIT && rings.is_live(2 * e)
-}
 
 /// Whether both half-edges of an edge have their nodes.
 pub(crate) fn has_edge_room(rings: &Rings, e: u32) -> bool
