@@ -1,39 +1,75 @@
 -- The faces that were there before a command.
 use Rattle.std.specs.Prelude.{length}
-use Rattle.std.proofs.Common.{◌≡◌, ℕ, ◌+◌, ◌≤◌, ℤ, List, [], ◌∷◌, refl, sym, ap, subst, ◌∙◌, arith}
+use Rattle.std.proofs.Common.{◌≡◌, ℕ, zero, suc, ◌+◌, ◌≤◌, ◌<◌, ℤ, List, [], ◌∷◌, refl, sym, ap, subst, ◌∙◌, arith}
 use Rattle.euler_operators.specs.declared.Point.{Point}
 use Rattle.euler_operators.specs.Table as table
 use Rattle.euler_operators.specs.Table.{Table}
 use Rattle.euler_operators.specs.Model.{Model, empty_model, items_of, content, solid_of}
 use Rattle.euler_operators.proofs.Tables.{get-put_other}
 use Rattle.shapes.specs.Faces.{loops_of}
-use Rattle.shapes.specs.Fresh.{Growing, growing, taken_in}
+use Rattle.shapes.specs.Fresh.{Growing, Taken, growing, taken_in}
 use Rattle.shapes.specs.Lamina.{lamina_model, lamina_face}
-use Rattle.shapes.specs.Prism.{raised, prism_from, prism_model}
+use Rattle.shapes.specs.Prism.{raised, prism_from, prism_model, riser, top_edge, with_side, with_sides}
 use Rattle.shapes.specs.Block.{base_of, block_model}
-use Rattle.sweeps_laws.proofs.swept.Filled.{filled_old}
-use Rattle.sweeps_laws.proofs.swept.Sides.{side_face, faces_grown}
+use Rattle.sweeps_laws.proofs.swept.Numbers.{riser_above, top_above}
 use Rattle.undo_journal.specs.Machine.{held}
 use Rattle.command_laws.specs.NewFaces.{up_by}
 use Rattle.command_laws.specs.Kept.{LaminaKeepsFaces, BlockKeepsFaces, SweepKeepsFaces, StartHasNoFace}
 use Rattle.command_laws.proofs.LaminaFaces.{lamina_counted}
 
-loop_kept : (f : ℕ) (d : Point) (g : Growing) (l k : ℕ) → k ≤ g.taken.face → table.get (raised f d g l).model.faces k ≡ table.get g.model.faces k
-unfolding raised
-loop_kept f d g l k m = let hs = items_of (content g.model l) in
-    ap (λ t. table.get t k) (faces_grown g.model g.taken (solid_of g.model f) d hs (length hs)) ∙ filled_old g.model.faces g.taken.face (side_face g.model g.taken (solid_of g.model f) d hs) (length hs) k m
+-- the rows of the numbers that are taken stay
+pub record Keeps (M N : Model) (c : Taken) : Type 0 where
+  pub faces : (q : ℕ) → q ≤ c.face → table.get N.faces q ≡ table.get M.faces q
+  pub edges : (q : ℕ) → q ≤ c.edge → table.get N.edges q ≡ table.get M.edges q
+  pub vertices : (q : ℕ) → q ≤ c.vertex → table.get N.vertices q ≡ table.get M.vertices q
 
-later_still : (f : ℕ) (d : Point) (g : Growing) (l k : ℕ) → k ≤ g.taken.face → k ≤ (raised f d g l).taken.face
-unfolding raised
-later_still f d g l k m = omega (arith, m)
+side_keeps : (c : Taken) (s : ℕ) (d : Point) (hs : List ℕ) (i : ℕ) (M : Model) → i < length hs → Keeps M (with_side c s d hs i M) c
+unfolding with_side
+side_keeps c s d hs i M l = record {
+  faces = λ q m. get-put_other M.faces (c.face + 1 + i) _ q (λ z. absurd (omega (arith, m, z)));
+  edges = λ q m. get-put_other (table.put M.edges (riser c.edge i) _) (top_edge c.edge (length hs) i) _ q (λ z. absurd (omega (arith, m, top_above c.edge (length hs) i l, z)))
+      ∙ get-put_other M.edges (riser c.edge i) _ q (λ z. absurd (omega (arith, m, riser_above c.edge i, z)));
+  vertices = λ q m. get-put_other M.vertices (c.vertex + 1 + i) _ q (λ z. absurd (omega (arith, m, z)));
+}
 
-loops_kept : (f : ℕ) (d : Point) (ls : List ℕ) (g : Growing) (k : ℕ) → k ≤ g.taken.face → table.get (prism_from f d g ls).model.faces k ≡ table.get g.model.faces k
-loops_kept f d [] g k m = refl
-loops_kept f d (l ∷ ls) g k m = loops_kept f d ls (raised f d g l) k (later_still f d g l k m) ∙ loop_kept f d g l k m
+sides_keep : (c : Taken) (s : ℕ) (d : Point) (hs : List ℕ) (M : Model) (n : ℕ) → n ≤ length hs → Keeps M (with_sides c s d hs n M) c
+sides_keep c s d hs M zero l = record { faces = λ q m. refl; edges = λ q m. refl; vertices = λ q m. refl }
+sides_keep c s d hs M (suc n) l =
+    let a = sides_keep c s d hs M n (omega (arith, l)) in
+    let b = side_keeps c s d hs n (with_sides c s d hs n M) l in
+    record { faces = λ q m. b.faces q m ∙ a.faces q m; edges = λ q m. b.edges q m ∙ a.edges q m; vertices = λ q m. b.vertices q m ∙ a.vertices q m }
+
+module _ (f : ℕ) (d : Point) where
+  loop_keeps : (g : Growing) (l : ℕ) → Keeps g.model (raised f d g l).model g.taken
+  unfolding raised
+  loop_keeps g l =
+      let hs = items_of (content g.model l) in
+      let w = sides_keep g.taken (solid_of g.model f) d hs g.model (length hs) (omega arith) in
+      record { faces = w.faces; edges = w.edges; vertices = w.vertices }
+
+  taken_more : (g : Growing) (l : ℕ) → let c = g.taken in let t = (raised f d g l).taken in (c.face ≤ t.face) × (c.edge ≤ t.edge) × (c.vertex ≤ t.vertex)
+  unfolding raised
+  taken_more g l = (omega arith, omega arith, omega arith)
+
+  loops_keep : (ls : List ℕ) (g : Growing) → Keeps g.model (prism_from f d g ls).model g.taken
+  loops_keep [] g = record { faces = λ q m. refl; edges = λ q m. refl; vertices = λ q m. refl }
+  loops_keep (l ∷ ls) g =
+      let a = loop_keeps g l in
+      let b = loops_keep ls (raised f d g l) in
+      let t = taken_more g l in
+      record {
+        faces = λ q m. b.faces q (omega (arith, m, t.0)) ∙ a.faces q m;
+        edges = λ q m. b.edges q (omega (arith, m, t.1)) ∙ a.edges q m;
+        vertices = λ q m. b.vertices q (omega (arith, m, t.2)) ∙ a.vertices q m;
+      }
+
+pub prism_keeps : (M : Model) (f : ℕ) (d : Point) → Keeps M (prism_model M f d) (taken_in M)
+unfolding prism_model
+prism_keeps M f d = loops_keep f d (loops_of M f) (growing M)
 
 pub prism_kept : (M : Model) (f : ℕ) (d : Point) (k : ℕ) → k ≤ table.greatest M.faces → table.get (prism_model M f d).faces k ≡ table.get M.faces k
-unfolding prism_model taken_in
-prism_kept M f d k m = loops_kept f d (loops_of M f) (growing M) k m
+unfolding taken_in
+prism_kept M f d k m = (prism_keeps M f d).faces k m
 
 -- two rows put after the numbers up to a
 pub old_kept : {X : Type 0} (t : Table X) (a : ℕ) (x y : X) (q : ℕ) → q ≤ a → table.get (table.put (table.put t (a + 1) x) (a + 2) y) q ≡ table.get t q
