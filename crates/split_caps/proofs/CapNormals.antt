@@ -1,6 +1,6 @@
 -- The normals of the caps: each cap below has the area of its cycle, and those of the holes that it takes in; the cap above is its opposite.
 use Rattle.std.specs.Prelude.{filter}
-use Rattle.std.proofs.Common.{◌≡◌, ◌≢◌, ℕ, zero, suc, ◌+◌, ◌<◌, ◌≤◌, ℤ, ◌+ℤ◌, neg_ℤ, Bool, true, false, cond, nat_eq, List, [], ◌∷◌, ◌++◌, length, map, get_or, refl, sym, ap, subst, ◌∙◌, arith, true≢false, inl, inr}
+use Rattle.std.proofs.Common.{◌≡◌, ◌≢◌, ℕ, zero, suc, ◌+◌, ◌<◌, ◌≤◌, ℤ, ◌+ℤ◌, Bool, true, false, cond, nat_eq, List, [], ◌∷◌, ◌++◌, length, map, get_or, refl, sym, ap, subst, ◌∙◌, arith, true≢false, inl, inr}
 use Rattle.std.proofs.lemmas.Int.{ints}
 use Rattle.std.proofs.lemmas.Bool.Decides.{eqb_tells}
 use Rattle.std.proofs.lemmas.Bool.{eq-eqb, ne_eqb}
@@ -22,7 +22,7 @@ use Rattle.shapes.specs.Vectors.{negated}
 use Rattle.shapes.specs.Fresh.{Taken}
 use Rattle.shapes.specs.split.Section.{is_hole}
 use Rattle.shapes.specs.split.Opening.{Caps, Opening, all_opened, holes_closed, next_opened, no_caps, opened_along, outer_caps}
-use Rattle.shapes.proofs.measures.Sums.{area_mates}
+use Rattle.shapes.proofs.measures.Sums.{area_mates, moved_back}
 use Rattle.split_opening_laws.specs.cycles.SectionCycles.{AreSectionCycles}
 use Rattle.split_opening_laws.specs.sections.Capped.{ArePlain, HasCaps, cap_faces}
 use Rattle.split_opening_laws.specs.sections.InTurn.{CanBeOpenedInTurn}
@@ -45,11 +45,6 @@ moved_on : (a b c : Point) → moved a (moved b c) ≡ moved (moved b a) c
 moved_on a b c = λ i. record { x = on a.x b.x c.x i; y = on a.y b.y c.y i; z = on a.z b.z c.z i } where
   on : (a b c : ℤ) → a +ℤ (b +ℤ c) ≡ b +ℤ a +ℤ c
   on a b c = omega (arith, ints)
-
-moved_back : (a b : Point) → moved (negated a) (negated b) ≡ negated (moved a b)
-moved_back a b = λ i. record { x = back a.x b.x i; y = back a.y b.y i; z = back a.z b.z i } where
-  back : (a b : ℤ) → neg_ℤ a +ℤ neg_ℤ b ≡ neg_ℤ (a +ℤ b)
-  back a b = omega (arith, ints)
 
 -- ---- the caps below, once the solid is opened
 

@@ -12,6 +12,7 @@ use Rattle.euler_operators.specs.Sound.{Sound}
 use Rattle.euler_operators.specs.Conditions.{face_at}
 use Rattle.euler_operators.specs.Effect.{effect}
 use Rattle.euler_operators.proofs.Members.{count-filter}
+use Rattle.euler_operators.proofs.Vectors.{add_assoc, none_add}
 use Rattle.euler_operators.proofs.Models.{number_real}
 use Rattle.euler_laws.proofs.shared.Counted.{all_where_has}
 use Rattle.euler_laws.specs.Laws.{AreAccepted, all_rings, effects, euler_number, growth, size}
@@ -89,20 +90,14 @@ total [] = pos 0
 total (op ∷ ops) = growth op +ℤ total ops
 
 total-append : (xs ys : List Op) → total (xs ++ ys) ≡ total xs +ℤ total ys
-total-append [] ys = none (total ys) where
-  none : (a : ℤ) → a ≡ pos 0 +ℤ a
-  none a = omega (arith, ints)
-total-append (x ∷ xs) ys = ap (λ z. growth x +ℤ z) (total-append xs ys) ∙ regrouped (growth x) (total xs) (total ys) where
-  regrouped : (a b c : ℤ) → a +ℤ (b +ℤ c) ≡ a +ℤ b +ℤ c
-  regrouped a b c = omega (arith, ints)
+total-append [] ys = sym (none_add (total ys))
+total-append (x ∷ xs) ys = ap (λ z. growth x +ℤ z) (total-append xs ys) ∙ sym (add_assoc (growth x) (total xs) (total ys))
 
 run_grows : (M : Model) (ops : List Op) → Sound M → AreAccepted M ops → euler_number (effects M ops) ≡ euler_number M +ℤ total ops
 run_grows M [] sound go = none (euler_number M) where
   none : (a : ℤ) → a ≡ a +ℤ pos 0
   none a = omega (arith, ints)
-run_grows M (op ∷ ops) sound go = run_grows (effect M op) ops (effect_keeps_sound M op sound go.0) go.1 ∙ ap (λ z. z +ℤ total ops) (grows M op sound go.0) ∙ regrouped (euler_number M) (growth op) (total ops) where
-  regrouped : (a b c : ℤ) → a +ℤ b +ℤ c ≡ a +ℤ (b +ℤ c)
-  regrouped a b c = omega (arith, ints)
+run_grows M (op ∷ ops) sound go = run_grows (effect M op) ops (effect_keeps_sound M op sound go.0) go.1 ∙ ap (λ z. z +ℤ total ops) (grows M op sound go.0) ∙ add_assoc (euler_number M) (growth op) (total ops)
 
 -- two lists of operators that add nothing
 abbrev AddsNothing : List Op → Type 0
