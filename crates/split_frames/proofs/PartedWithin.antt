@@ -1,7 +1,7 @@
 -- A solid opened along its section, its holes closed and its upper faces parted: other solids stay as they were.
 use Rattle.std.specs.Prelude.{filter, fold}
 use Rattle.std.specs.Option.{option_map}
-use Rattle.std.proofs.Common.{◌≡◌, ◌≢◌, ℕ, ◌+◌, Bool, true, false, cond, not, ◌&&◌, List, [], ◌∷◌, length, map, Some, None, is_some, refl, sym, ap, subst, ◌∙◌, ◌⊎◌, inl, inr, arith}
+use Rattle.std.proofs.Common.{◌≡◌, ◌≢◌, ℕ, ◌+◌, Bool, true, false, cond, not, ◌&&◌, List, [], ◌∷◌, length, map, Some, None, is_some, refl, sym, ap, subst, ◌∙◌, ◌⊎◌, inl, inr}
 use Rattle.std.proofs.lemmas.Bool.{eqb-false, false_from_ne_true}
 use Rattle.std.proofs.lemmas.Bool.Decides.{eqb_tells}
 use Rattle.euler_operators.specs.declared.Plane.{Plane}
@@ -35,11 +35,11 @@ use Rattle.split_opening_laws.specs.sections.InTurn.{CanBeOpenedInTurn}
 use Rattle.split_opening_laws.specs.strips.Opened.{CanBeOpened}
 use Rattle.split_opening_laws.proofs.sections.InTurn.{can_open, openings_sound, others_on}
 use Rattle.split_opening_laws.proofs.sections.OpenedFaces.{upper_row}
-use Rattle.split_opening_laws.proofs.sections.OpenedRows.{edges_are, face_still, faces_are, loop_row, vertices_are}
-use Rattle.split_opening_laws.proofs.sections.Pairs.{in_numbers, renamed_not}
+use Rattle.split_opening_laws.proofs.sections.OpenedRows.{edges_are, face_still, faces_are, loop_row}
+use Rattle.split_opening_laws.proofs.sections.Pairs.{renamed_not}
 use Rattle.split_opening_laws.proofs.sections.Rims.{rim_below}
-use Rattle.split_opening_laws.proofs.sections.StillFree.{copied_other}
 use Rattle.split_laws.specs.SplitOps.{closing_ops}
+use Rattle.split_laws.proofs.Flags.{vertex_still}
 use Rattle.split_laws.proofs.opened.Caps.{loop_kinds, lower_row}
 use Rattle.command_laws.proofs.Owners.{agree_none, is_of, solid_of_half, solid_of_loop}
 use Rattle.split_frames.proofs.Steps.{Within, kill_within, own_edge}
@@ -129,16 +129,6 @@ module _ (M : Model) (above : List ℕ) (s : ℕ) (c : Taken) (bs : List ℕ) (w
       ∙ get-map_rows (opened_row M above mates copies) M.edges e ∙ ap (option_map (opened_row M above mates copies e)) row.1
       ∙ (λ i. Some (record { plus_tail = tail_left (plus e) row.0.plus_tail first i; minus_tail = tail_left (minus e) row.0.minus_tail second i })) ∙ sym row.1
 
-  -- ---- vertices
-
-  pub vertex_left : (v : ℕ) → Has M.vertices v → table.get (opened_along M above s c bs).vertices v ≡ table.get M.vertices v
-  vertex_left v there = ap (λ t. table.get t v) (vertices_are M above s c bs) ∙ copied_other M M.vertices (map (tail M) bs) (numbers_after c.vertex (length bs)) v none where
-    none : count v (numbers_after c.vertex (length bs)) ≡ 0
-    none = elim (IsIn_or_not v (numbers_after c.vertex (length bs))) [
-      | inl i ↦ absurd (omega (arith, (in_numbers c.vertex (length bs) v i).0, in_use_within M.vertices c.vertex w.free.vertices v there))
-      | inr z ↦ z
-    ]
-
   pub opened_within : Within s M (opened_along M above s c bs)
   opened_within = record {
     before = w.sound;
@@ -166,7 +156,7 @@ openings_within above s p o (bs ∷ cs) w = let n = next_opened p above s o bs i
 
 next_vertices : (above : List ℕ) (s : ℕ) (p : Plane) (o : Opening) (bs : List ℕ) (cs : List (List ℕ)) → CanBeOpenedInTurn above s o (bs ∷ cs) → (v : ℕ) → Has o.model.vertices v → table.get (next_opened p above s o bs).model.vertices v ≡ table.get o.model.vertices v
 unfolding next_opened
-next_vertices above s p o bs cs w = vertex_left o.model above s o.taken bs (can_open above s o bs cs w) (openings_sound above s p o bs cs w) (λ f l. w.upper_of_solid f (listed_front above (map (λ k. k.upper) o.caps) f l))
+next_vertices above s p o bs cs w v there = vertex_still o.model above s o.taken bs v (in_use_within o.model.vertices o.taken.vertex w.free.vertices v there)
 
 pub openings_vertices : (above : List ℕ) (s : ℕ) (p : Plane) (o : Opening) (cs : List (List ℕ)) → CanBeOpenedInTurn above s o cs → (v : ℕ) → Has o.model.vertices v → table.get (all_opened p above s o cs).model.vertices v ≡ table.get o.model.vertices v
 openings_vertices above s p o [] w v there = refl
