@@ -81,15 +81,24 @@ fn refused(refusal: Refusal) -> Answer
     Answer::Reply(Reply::Refused(refusal.why.code(), refusal.number))
 }
 
+/// Answers a command that ended so.
+fn tell_outcome(ended: Result<(), Failure>, answer: &mut Answer)
+    ensures { answer.new ≡ outcome ended }
+{
+    match ended {
+        Ok(()) => *answer = Answer::Reply(Reply::Done),
+        Err(Failure::Refused(refusal)) => *answer = refused(refusal),
+        Err(Failure::Memory(_)) => *answer = Answer::Reply(Reply::Memory),
+    }
+}
+
 /// The answer to a command that ended so.
 pub(crate) fn outcome(ended: Result<(), Failure>) -> Answer
     ensures { result ≡ outcome ended }
 {
-    match ended {
-        Ok(()) => Answer::Reply(Reply::Done),
-        Err(Failure::Refused(refusal)) => refused(refusal),
-        Err(Failure::Memory(_)) => Answer::Reply(Reply::Memory),
-    }
+    let mut answer = Answer::Silent;
+    tell_outcome(ended, &mut answer);
+    answer
 }
 
 #[tactic(auto, using(crate::proofs::script_judging_laws::Acted::acts_on, crate::proofs::script_judging_laws::Acted::stays))]
@@ -97,7 +106,7 @@ fn act(session: &mut Session, op: Op, answer: &mut Answer)
     ensures answered { Acts (machine.act_refusal session.old.machine op) session.old.machine (machine.act session.old.machine op) answer.new session.new.machine }
     ensures kept { StaysUnlessDone answer.new session.old session.new }
 {
-    *answer = outcome(session.act(op));
+    tell_outcome(session.act(op), answer);
 }
 
 fn undo(session: &mut Session, answer: &mut Answer)
