@@ -57,12 +57,12 @@ pub(crate) fn is_touched(arena: &Arena, plane: Plane, f: u32) -> bool
     if loop_is_touched(arena, plane, arena.outer(f)) {
         return true;
     }
-    let mut above = 0;
-    'rings: while let Some(l) = arena.ring_after(f, above) {
+    let mut last = 0;
+    'rings: while let Some(l) = arena.ring_after(f, last) {
         if loop_is_touched(arena, plane, l) {
             return true;
         }
-        above = l;
+        last = l;
     }
     false
 }
@@ -106,12 +106,12 @@ fn rings_are_cut(arena: &Arena, plane: Plane, f: u32) -> bool
     requires plane { IsCutPlane plane }
     ensures { result ≡ list_all (loop_is_cut arena.now.model plane) (rings_of arena.now.model f) }
 {
-    let mut above = 0;
-    'rings: while let Some(l) = arena.ring_after(f, above) {
+    let mut last = 0;
+    'rings: while let Some(l) = arena.ring_after(f, last) {
         if !loop_is_cut(arena, plane, l) {
             return false;
         }
-        above = l;
+        last = l;
     }
     true
 }

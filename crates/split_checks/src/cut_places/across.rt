@@ -87,10 +87,10 @@ fn push_crossings(
     ensures { OnOk result (edges.new.items ≡ edges.old.items ++ crossings_in arena.now.model plane (boundary arena.now.model f)) }
 {
     push_loop_crossings(arena, plane, arena.outer(f), edges)?;
-    let mut above = 0;
-    'rings: while let Some(l) = arena.ring_after(f, above) {
+    let mut last = 0;
+    'rings: while let Some(l) = arena.ring_after(f, last) {
         push_loop_crossings(arena, plane, l, edges)?;
-        above = l;
+        last = l;
     }
     Ok(())
 }
@@ -107,10 +107,10 @@ pub(crate) fn crossings(
     ensures { IfOk result (λ edges. edges.items ≡ crossings_met arena.now.model plane (faces_of arena.now.model s)) }
 {
     let mut edges = Vec::new(alloc);
-    let mut above = 0;
-    'faces: while let Some(f) = arena.face_after(s, above) {
+    let mut last = 0;
+    'faces: while let Some(f) = arena.face_after(s, last) {
         push_crossings(arena, plane, f, &mut edges)?;
-        above = f;
+        last = f;
     }
     Ok(edges)
 }

@@ -74,10 +74,10 @@ pub(crate) fn places(
 {
     let mut found = Vec::new(alloc);
     push_loop_places(arena, plane, arena.outer(f), &mut found)?;
-    let mut above = 0;
-    'rings: while let Some(l) = arena.ring_after(f, above) {
+    let mut last = 0;
+    'rings: while let Some(l) = arena.ring_after(f, last) {
         push_loop_places(arena, plane, l, &mut found)?;
-        above = l;
+        last = l;
     }
     Ok(found)
 }

@@ -58,12 +58,12 @@ pub fn reaches(arena: &Arena, plane: Plane, side: Sign, f: u32) -> bool
     if loop_reaches(arena, plane, side, arena.outer(f)) {
         return true;
     }
-    let mut above = 0;
-    'rings: while let Some(l) = arena.ring_after(f, above) {
+    let mut last = 0;
+    'rings: while let Some(l) = arena.ring_after(f, last) {
         if loop_reaches(arena, plane, side, l) {
             return true;
         }
-        above = l;
+        last = l;
     }
     false
 }
@@ -74,12 +74,12 @@ pub(crate) fn solid_reaches(arena: &Arena, plane: Plane, side: Sign, s: u32) -> 
     requires plane { IsCutPlane plane }
     ensures { result ≡ list_any (reaches side arena.now.model plane) (faces_of arena.now.model s) }
 {
-    let mut above = 0;
-    'faces: while let Some(f) = arena.face_after(s, above) {
+    let mut last = 0;
+    'faces: while let Some(f) = arena.face_after(s, last) {
         if reaches(arena, plane, side, f) {
             return true;
         }
-        above = f;
+        last = f;
     }
     false
 }
@@ -107,12 +107,12 @@ pub(crate) fn straddling(
     ensures { IfOk result (λ faces. faces.items ≡ straddling_faces arena.now.model plane s) }
 {
     let mut faces = Vec::new(alloc);
-    let mut above = 0;
-    'faces: while let Some(f) = arena.face_after(s, above) {
+    let mut last = 0;
+    'faces: while let Some(f) = arena.face_after(s, last) {
         if straddles(arena, plane, f) {
             faces.push(f)?;
         }
-        above = f;
+        last = f;
     }
     Ok(faces)
 }

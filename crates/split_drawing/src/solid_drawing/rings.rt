@@ -23,12 +23,12 @@ fn rings_above(alloc: Global, arena: &Arena, plane: Plane, f: u32) -> Result<Vec
     ensures { IfOk result (λ rings. rings.items ≡ rings_above arena.now.model plane f) }
 {
     let mut rings = Vec::new(alloc);
-    let mut above = 0;
-    'rings: while let Some(l) = arena.ring_after(f, above) {
+    let mut last = 0;
+    'rings: while let Some(l) = arena.ring_after(f, last) {
         if loop_reaches(arena, plane, Sign::Above, l) {
             rings.push(l)?;
         }
-        above = l;
+        last = l;
     }
     Ok(rings)
 }

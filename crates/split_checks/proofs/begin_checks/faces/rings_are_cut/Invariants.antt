@@ -6,7 +6,7 @@ use Rattle.solid_measure.proofs.face_walks_laws.Above.{above}
 use Rattle.split_checks.proofs.begin_checks.faces.rings_are_cut.Given as goal
 
 abbrev pub invariant-rings : goal.invariant-rings
-invariant-rings l = list_all (loop_is_cut l.arena.model l.plane) (above l.above (rings_of l.arena.model l.f)) ≡ list_all (loop_is_cut l.arena.model l.plane) (rings_of l.arena.model l.f)
+invariant-rings l = list_all (loop_is_cut l.arena.model l.plane) (above l.last (rings_of l.arena.model l.f)) ≡ list_all (loop_is_cut l.arena.model l.plane) (rings_of l.arena.model l.f)
 
 abbrev pub decreases-rings : goal.decreases-rings
-decreases-rings l = length (above l.above (rings_of l.arena.model l.f))
+decreases-rings l = length (above l.last (rings_of l.arena.model l.f))

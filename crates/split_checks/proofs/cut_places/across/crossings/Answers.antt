@@ -14,16 +14,16 @@ faces-init c =
     ∙ ap (crossings_met M p) (faces_from_zero M c.requires.ready.sound c.args.s)
 
 pub faces-smaller : goal.faces-smaller
-faces-smaller c = let next = next_face c.args.arena.now.model c.args.s c.faces.above c.in-Some.f c.in-Some.ensures in omega (arith, ap length next)
+faces-smaller c = let next = next_face c.args.arena.now.model c.args.s c.faces.last c.in-Some.f c.in-Some.ensures in omega (arith, ap length next)
 
 pub faces-preserved : goal.faces-preserved
 faces-preserved c =
     let M = c.args.arena.now.model in let p = c.args.plane in let s = c.args.s in let f = c.in-Some.f in
     let old = c.faces.edges.items in let rest = crossings_met M p (above f (faces_of M s)) in
     ap (λ (es : List ℕ). es ++ rest) c.in_ok-push_crossings.ensures ∙ append_assoc old (crossings_in M p (boundary M f)) rest
-    ∙ ap (λ (fs : List ℕ). old ++ crossings_met M p fs) (sym (next_face M s c.faces.above f c.in-Some.ensures)) ∙ c.faces.invariant
+    ∙ ap (λ (fs : List ℕ). old ++ crossings_met M p fs) (sym (next_face M s c.faces.last f c.in-Some.ensures)) ∙ c.faces.invariant
 
 pub returns : goal.returns
 returns c =
     let M = c.args.arena.now.model in let s = c.args.s in
-    sym (append-nil c.faces.edges.items) ∙ ap (λ (fs : List ℕ). c.faces.edges.items ++ crossings_met M c.args.plane fs) (sym (no_face_left M s c.faces.above c.in_default.ensures)) ∙ c.faces.invariant
+    sym (append-nil c.faces.edges.items) ∙ ap (λ (fs : List ℕ). c.faces.edges.items ++ crossings_met M c.args.plane fs) (sym (no_face_left M s c.faces.last c.in_default.ensures)) ∙ c.faces.invariant

@@ -5,7 +5,7 @@ use Rattle.split_checks.specs.cut_places.Crossings.{crossings_met}
 use Rattle.split_checks.proofs.cut_places.across.crossings.Given as goal
 
 abbrev pub invariant-faces : goal.invariant-faces
-invariant-faces l = l.edges.items ++ crossings_met l.arena.model l.plane (above l.above (faces_of l.arena.model l.s)) ≡ crossings_met l.arena.model l.plane (faces_of l.arena.model l.s)
+invariant-faces l = l.edges.items ++ crossings_met l.arena.model l.plane (above l.last (faces_of l.arena.model l.s)) ≡ crossings_met l.arena.model l.plane (faces_of l.arena.model l.s)
 
 abbrev pub decreases-faces : goal.decreases-faces
-decreases-faces l = length (above l.above (faces_of l.arena.model l.s))
+decreases-faces l = length (above l.last (faces_of l.arena.model l.s))

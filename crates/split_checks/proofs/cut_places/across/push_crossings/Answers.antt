@@ -18,17 +18,17 @@ rings-init c =
     ∙ ap (λ (es : List ℕ). had ++ es) (sym (crossings_both M p first rest) ∙ ap (crossings_in M p) (outer_items M f c.requires.ready.sound))
 
 pub rings-smaller : goal.rings-smaller
-rings-smaller c = let next = next_ring c.args.arena.now.model c.args.f c.rings.above c.in-Some.l c.in-Some.ensures in omega (arith, ap length next)
+rings-smaller c = let next = next_ring c.args.arena.now.model c.args.f c.rings.last c.in-Some.l c.in-Some.ensures in omega (arith, ap length next)
 
 pub rings-preserved : goal.rings-preserved
 rings-preserved c =
     let M = c.args.arena.now.model in let f = c.args.f in let l = c.in-Some.l in let p = c.args.plane in
     let had = c.rings.edges.items in let more = items_of (content M l) in let rest = items_in M (above l (rings_of M f)) in
     ap (λ (es : List ℕ). es ++ crossings_in M p rest) c.in_ok-push_loop_crossings-2.ensures ∙ append_assoc had (crossings_in M p more) (crossings_in M p rest)
-    ∙ ap (λ (es : List ℕ). had ++ es) (sym (crossings_both M p more rest) ∙ ap (crossings_in M p) (sym (ring_items M f c.rings.above l c.in-Some.ensures)))
+    ∙ ap (λ (es : List ℕ). had ++ es) (sym (crossings_both M p more rest) ∙ ap (crossings_in M p) (sym (ring_items M f c.rings.last l c.in-Some.ensures)))
     ∙ c.rings.invariant
 
 pub returns : goal.returns
 returns c =
     let M = c.args.arena.now.model in let had = c.rings.edges.items in
-    sym (append-nil had) ∙ ap (λ (hs : List ℕ). had ++ crossings_in M c.args.plane hs) (sym (no_items M c.args.f c.rings.above c.in_default.ensures)) ∙ c.rings.invariant
+    sym (append-nil had) ∙ ap (λ (hs : List ℕ). had ++ crossings_in M c.args.plane hs) (sym (no_items M c.args.f c.rings.last c.in_default.ensures)) ∙ c.rings.invariant

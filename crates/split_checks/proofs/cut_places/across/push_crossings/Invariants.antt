@@ -6,7 +6,7 @@ use Rattle.split_checks.specs.cut_places.Crossings.{crossings_in}
 use Rattle.split_checks.proofs.cut_places.across.push_crossings.Given as goal
 
 abbrev pub invariant-rings : goal.invariant-rings
-invariant-rings l = l.edges.items ++ crossings_in l.arena.model l.plane (items_in l.arena.model (above l.above (rings_of l.arena.model l.f))) ≡ l.fn.edges.items ++ crossings_in l.arena.model l.plane (boundary l.arena.model l.f)
+invariant-rings l = l.edges.items ++ crossings_in l.arena.model l.plane (items_in l.arena.model (above l.last (rings_of l.arena.model l.f))) ≡ l.fn.edges.items ++ crossings_in l.arena.model l.plane (boundary l.arena.model l.f)
 
 abbrev pub decreases-rings : goal.decreases-rings
-decreases-rings l = length (above l.above (rings_of l.arena.model l.f))
+decreases-rings l = length (above l.last (rings_of l.arena.model l.f))

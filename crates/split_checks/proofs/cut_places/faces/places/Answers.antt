@@ -21,17 +21,17 @@ rings-init c =
     ∙ sym (filter-append test (items_of (content M _)) rest) ∙ ap (filter test) (outer_items M f c.requires.ready.sound)
 
 pub rings-smaller : goal.rings-smaller
-rings-smaller c = let next = next_ring c.args.arena.now.model c.args.f c.rings.above c.in-Some.l c.in-Some.ensures in omega (arith, ap length next)
+rings-smaller c = let next = next_ring c.args.arena.now.model c.args.f c.rings.last c.in-Some.l c.in-Some.ensures in omega (arith, ap length next)
 
 pub rings-preserved : goal.rings-preserved
 rings-preserved c =
     let M = c.args.arena.now.model in let f = c.args.f in let l = c.in-Some.l in let test = is_place M c.args.plane in
     let had = map code c.rings.found.items in let more = items_of (content M l) in let rest = items_in M (above l (rings_of M f)) in
     ap (λ (hs : List ℕ). hs ++ filter test rest) c.in_ok-push_loop_places-2.ensures ∙ append_assoc had (filter test more) (filter test rest)
-    ∙ ap (λ (hs : List ℕ). had ++ hs) (sym (filter-append test more rest) ∙ ap (filter test) (sym (ring_items M f c.rings.above l c.in-Some.ensures)))
+    ∙ ap (λ (hs : List ℕ). had ++ hs) (sym (filter-append test more rest) ∙ ap (filter test) (sym (ring_items M f c.rings.last l c.in-Some.ensures)))
     ∙ c.rings.invariant
 
 pub returns : goal.returns
 returns c =
     let M = c.args.arena.now.model in let had = map code c.rings.found.items in
-    sym (append-nil had) ∙ ap (λ (hs : List ℕ). had ++ filter (is_place M c.args.plane) hs) (sym (no_items M c.args.f c.rings.above c.in_default.ensures)) ∙ c.rings.invariant
+    sym (append-nil had) ∙ ap (λ (hs : List ℕ). had ++ filter (is_place M c.args.plane) hs) (sym (no_items M c.args.f c.rings.last c.in_default.ensures)) ∙ c.rings.invariant

@@ -22,17 +22,17 @@ rings-init c =
 pub returns-then-loop_reaches-2 : goal.returns-then-loop_reaches-2
 returns-then-loop_reaches-2 c =
     let M = c.args.arena.now.model in let f = c.args.f in let p = c.args.plane in let side = c.args.side in let l = c.in-Some.l in
-    sym (ring_lies M f side p c.rings.above l c.in-Some.ensures ∙ ap (λ b. b || some_lie side M p (vertices_in M (above l (rings_of M f)))) (sym c.loop_reaches-in-Some.ensures ∙ c.if-loop_reaches-2.true))
+    sym (ring_lies M f side p c.rings.last l c.in-Some.ensures ∙ ap (λ b. b || some_lie side M p (vertices_in M (above l (rings_of M f)))) (sym c.loop_reaches-in-Some.ensures ∙ c.if-loop_reaches-2.true))
     ∙ c.rings.invariant
 
 pub rings-smaller : goal.rings-smaller
-rings-smaller c = let next = next_ring c.args.arena.now.model c.args.f c.rings.above c.in-Some.l c.in-Some.ensures in omega (arith, ap length next)
+rings-smaller c = let next = next_ring c.args.arena.now.model c.args.f c.rings.last c.in-Some.l c.in-Some.ensures in omega (arith, ap length next)
 
 pub rings-preserved : goal.rings-preserved
 rings-preserved c =
     let M = c.args.arena.now.model in let f = c.args.f in let p = c.args.plane in let side = c.args.side in let l = c.in-Some.l in
-    sym (ring_lies M f side p c.rings.above l c.in-Some.ensures ∙ ap (λ b. b || some_lie side M p (vertices_in M (above l (rings_of M f)))) (sym c.loop_reaches-in-Some.ensures ∙ c.if-loop_reaches-2.false))
+    sym (ring_lies M f side p c.rings.last l c.in-Some.ensures ∙ ap (λ b. b || some_lie side M p (vertices_in M (above l (rings_of M f)))) (sym c.loop_reaches-in-Some.ensures ∙ c.if-loop_reaches-2.false))
     ∙ c.rings.invariant
 
 pub returns : goal.returns
-returns c = sym (none_lies c.args.arena.now.model c.args.f c.args.side c.args.plane c.rings.above c.in_default.ensures) ∙ c.rings.invariant
+returns c = sym (none_lies c.args.arena.now.model c.args.f c.args.side c.args.plane c.rings.last c.in_default.ensures) ∙ c.rings.invariant

@@ -12,17 +12,17 @@ faces-init c = let M = c.args.arena.now.model in ap (list_any (reaches c.args.si
 pub returns-then-reaches : goal.returns-then-reaches
 returns-then-reaches c =
     let M = c.args.arena.now.model in let s = c.args.s in let f = c.in-Some.f in let test = reaches c.args.side M c.args.plane in
-    sym (ap (λ b. b || list_any test (above f (faces_of M s))) (sym c.reaches.ensures ∙ c.if-reaches.true)) ∙ ap (list_any test) (sym (next_face M s c.faces.above f c.in-Some.ensures)) ∙ c.faces.invariant
+    sym (ap (λ b. b || list_any test (above f (faces_of M s))) (sym c.reaches.ensures ∙ c.if-reaches.true)) ∙ ap (list_any test) (sym (next_face M s c.faces.last f c.in-Some.ensures)) ∙ c.faces.invariant
 
 pub faces-smaller : goal.faces-smaller
-faces-smaller c = let next = next_face c.args.arena.now.model c.args.s c.faces.above c.in-Some.f c.in-Some.ensures in omega (arith, ap length next)
+faces-smaller c = let next = next_face c.args.arena.now.model c.args.s c.faces.last c.in-Some.f c.in-Some.ensures in omega (arith, ap length next)
 
 pub faces-preserved : goal.faces-preserved
 faces-preserved c =
     let M = c.args.arena.now.model in let s = c.args.s in let f = c.in-Some.f in let test = reaches c.args.side M c.args.plane in
-    sym (ap (λ b. b || list_any test (above f (faces_of M s))) (sym c.reaches.ensures ∙ c.if-reaches.false)) ∙ ap (list_any test) (sym (next_face M s c.faces.above f c.in-Some.ensures)) ∙ c.faces.invariant
+    sym (ap (λ b. b || list_any test (above f (faces_of M s))) (sym c.reaches.ensures ∙ c.if-reaches.false)) ∙ ap (list_any test) (sym (next_face M s c.faces.last f c.in-Some.ensures)) ∙ c.faces.invariant
 
 pub returns : goal.returns
 returns c =
     let M = c.args.arena.now.model in let s = c.args.s in
-    ap (list_any (reaches c.args.side M c.args.plane)) (sym (no_face_left M s c.faces.above c.in_default.ensures)) ∙ c.faces.invariant
+    ap (list_any (reaches c.args.side M c.args.plane)) (sym (no_face_left M s c.faces.last c.in_default.ensures)) ∙ c.faces.invariant

@@ -6,7 +6,7 @@ use Rattle.split_checks.specs.cut_places.Sides.{reaches}
 use Rattle.split_checks.proofs.cut_places.sides.solid_reaches.Given as goal
 
 abbrev pub invariant-faces : goal.invariant-faces
-invariant-faces l = list_any (reaches l.side l.arena.model l.plane) (above l.above (faces_of l.arena.model l.s)) ≡ list_any (reaches l.side l.arena.model l.plane) (faces_of l.arena.model l.s)
+invariant-faces l = list_any (reaches l.side l.arena.model l.plane) (above l.last (faces_of l.arena.model l.s)) ≡ list_any (reaches l.side l.arena.model l.plane) (faces_of l.arena.model l.s)
 
 abbrev pub decreases-faces : goal.decreases-faces
-decreases-faces l = length (above l.above (faces_of l.arena.model l.s))
+decreases-faces l = length (above l.last (faces_of l.arena.model l.s))

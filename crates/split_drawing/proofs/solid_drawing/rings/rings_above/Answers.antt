@@ -21,26 +21,26 @@ rings-init c =
     ∙ ap (filter (reaches M c.args.plane)) (rings_from_zero M c.args.f c.requires.ready.sound)
 
 pub loop_reaches-requires-clause-there : goal.loop_reaches-requires-clause-there
-loop_reaches-requires-clause-there c = ring_there c.args.arena.now.model c.args.f c.rings.above c.in-Some.l c.in-Some.ensures
+loop_reaches-requires-clause-there c = ring_there c.args.arena.now.model c.args.f c.rings.last c.in-Some.l c.in-Some.ensures
 
 pub rings-smaller-in_ok-push : goal.rings-smaller-in_ok-push
-rings-smaller-in_ok-push c = let next = next_ring c.args.arena.now.model c.args.f c.rings.above c.in-Some.l c.in-Some.ensures in omega (arith, ap length next)
+rings-smaller-in_ok-push c = let next = next_ring c.args.arena.now.model c.args.f c.rings.last c.in-Some.l c.in-Some.ensures in omega (arith, ap length next)
 
 pub rings-preserved-in_ok-push : goal.rings-preserved-in_ok-push
 rings-preserved-in_ok-push c =
     let M = c.args.arena.now.model in let f = c.args.f in let l = c.in-Some.l in let test = reaches M c.args.plane in let rest = filter test (above l (rings_of M f)) in
     ap (λ (ls : List ℕ). ls ++ rest) c.in_ok-push.ensures.items ∙ append_assoc c.rings.rings.items (l ∷ []) rest
-    ∙ ap (λ (ls : List ℕ). c.rings.rings.items ++ ls) (sym (ap (filter test) (next_ring M f c.rings.above l c.in-Some.ensures) ∙ ap (λ b. cond b (l ∷ rest) rest) (sym c.loop_reaches.ensures ∙ c.if-loop_reaches.true))) ∙ c.rings.invariant
+    ∙ ap (λ (ls : List ℕ). c.rings.rings.items ++ ls) (sym (ap (filter test) (next_ring M f c.rings.last l c.in-Some.ensures) ∙ ap (λ b. cond b (l ∷ rest) rest) (sym c.loop_reaches.ensures ∙ c.if-loop_reaches.true))) ∙ c.rings.invariant
 
 pub rings-smaller : goal.rings-smaller
-rings-smaller c = let next = next_ring c.args.arena.now.model c.args.f c.rings.above c.in-Some.l c.in-Some.ensures in omega (arith, ap length next)
+rings-smaller c = let next = next_ring c.args.arena.now.model c.args.f c.rings.last c.in-Some.l c.in-Some.ensures in omega (arith, ap length next)
 
 pub rings-preserved : goal.rings-preserved
 rings-preserved c =
     let M = c.args.arena.now.model in let f = c.args.f in let l = c.in-Some.l in let test = reaches M c.args.plane in let rest = filter test (above l (rings_of M f)) in
-    ap (λ (ls : List ℕ). c.rings.rings.items ++ ls) (sym (ap (filter test) (next_ring M f c.rings.above l c.in-Some.ensures) ∙ ap (λ b. cond b (l ∷ rest) rest) (sym c.loop_reaches.ensures ∙ c.if-loop_reaches.false))) ∙ c.rings.invariant
+    ap (λ (ls : List ℕ). c.rings.rings.items ++ ls) (sym (ap (filter test) (next_ring M f c.rings.last l c.in-Some.ensures) ∙ ap (λ b. cond b (l ∷ rest) rest) (sym c.loop_reaches.ensures ∙ c.if-loop_reaches.false))) ∙ c.rings.invariant
 
 pub returns : goal.returns
 returns c =
     let M = c.args.arena.now.model in let f = c.args.f in
-    sym (append-nil c.rings.rings.items) ∙ ap (λ (ls : List ℕ). c.rings.rings.items ++ filter (reaches M c.args.plane) ls) (sym (no_ring M f c.rings.above c.in_default.ensures)) ∙ c.rings.invariant
+    sym (append-nil c.rings.rings.items) ∙ ap (λ (ls : List ℕ). c.rings.rings.items ++ filter (reaches M c.args.plane) ls) (sym (no_ring M f c.rings.last c.in_default.ensures)) ∙ c.rings.invariant
