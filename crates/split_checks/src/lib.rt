@@ -11,8 +11,8 @@
 //! none where two points are equal, or `AllocError`. `pairs_of_face`: the pairs of the cut places of a face in that order, the up
 //! place first, or none where two points are equal or a pair isn't one up and one down, or `AllocError`. `check_begin`: the first
 //! false one of the conditions with which a split begins, with its value; or none, and then exactly what the plane cuts of the
-//! solid: the edges that cross it, rising, and the faces that straddle it, rising, each with the pairs of its cut places; or
-//! `AllocError`.
+//! solid: the edges that cross it, rising, each with the point at which it meets it, and the faces that straddle it, rising, each
+//! with the pairs of its cut places; or `AllocError`.
 #![tactic(auto)]
 
 mod begin_checks;
