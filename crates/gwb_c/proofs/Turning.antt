@@ -2,8 +2,8 @@
 use Rattle.std.proofs.Common.{◌≡◌, ◌∙◌, ℕ, Bool, true, false, Option, Some, refl, sym, subst}
 use Rattle.std.specs.Prelude.{not}
 use Rattle.gwb_c.specs.Handle.{Unless, Calls, CallsOfSession, CallsOfDraft, status_of}
-use Rattle.gwb_c.specs.Stages.{is_draft}
-use Rattle.gwb_c.specs.declared.slot.Slot.{Slot}
+use Rattle.session_slots.specs.Stages.{is_draft}
+use Rattle.session_slots.specs.declared.slot.Slot.{Slot}
 
 module _ (R : Slot → Slot → Type 0) (o : Option Slot) (x : Slot) (is : o ≡ Some x) (new : Option Slot) where
   pub turned_away : is_draft x.stage ≡ true → new ≡ Some x → CallsOfSession R o new 11

@@ -8,58 +8,29 @@ use Rattle.euler_operators.specs.declared.Point.{Point}
 use Rattle.euler_operators.specs.declared.Refusal.{Refusal}
 use Rattle.euler_operators.specs.Model.{Model}
 use Rattle.solid_listing.specs.declared.reply.Reply.{Reply}
-use Rattle.undo_journal.specs.Journal.{Journal, DraftJournal}
 use Rattle.script_reader.specs.declared.command.Command.{Command}
-use Rattle.script_running.specs.script_judging.Judging.{done, told}
 use Rattle.script_running.specs.declared.script_judging.judging.Answer.{Answer}
-use Rattle.gwb_c.specs.Handle.{Counts_in, Slot_obeys, Calls, CallsOfSession, Recalls, RecallsBy}
-use Rattle.gwb_c.specs.Stages.{shown, Acts_on, Opens}
-use Rattle.gwb_c.specs.declared.stage.OpenDraft.{OpenDraft}
-use Rattle.gwb_c.specs.declared.stage.Stage.{Stage}
-use Rattle.gwb_c.specs.declared.stage.Stage.TheVariants.{Session, Drafting}
-use Rattle.gwb_c.specs.declared.readers.Place.{Place}
-use Rattle.gwb_c.specs.declared.slot.Slot.{Slot}
+use Rattle.session_slots.specs.Slots.{Slot_does, Slot_carries, Slot_asks}
+use Rattle.session_slots.specs.Parting.{Slot_makes_part}
+use Rattle.session_slots.specs.declared.readers.Place.{Place}
+use Rattle.session_slots.specs.declared.slot.Slot.{Slot}
+use Rattle.gwb_c.specs.Handle.{Calls, CallsOfSession, Recalls, RecallsBy}
 
--- a command of the session is obeyed, and the greatest numbers in use before it are kept
-abbrev pub Slot_does : Slot → Command → Slot → Type 0
-Slot_does old c new = Slot_obeys old c new × Counts_in old new.before
-
+-- a call that is a command of the session
 abbrev pub Does : Option Slot → Command → Option Slot → ℕ → Type 0
 Does old c new kind = CallsOfSession (λ x y. Slot_does x c y) old new kind
 
--- an operator: in a session a command, in a draft a step
-abbrev pub Slot_acts : Slot → Op → Slot → Type 0
-Slot_acts old op new = (g : Stage) → old.stage ≡ Some g → (h : Stage) × (new.stage ≡ Some h) × Acts_on g op new.answer h
-
-abbrev pub Slot_carries : Slot → Op → Slot → Type 0
-Slot_carries old op new = Slot_acts old op new × Counts_in old new.before
-
+-- a call that is an operator: in a session a command, in a draft a step
 abbrev pub Carries : Option Slot → Op → Option Slot → ℕ → Type 0
 Carries old op new kind = Calls (λ x y. Slot_carries x op y) old new kind
 
--- a query is told what the model shown gives, and the session or the draft stays as it is
-abbrev pub Slot_answers : Slot → (Model → Result Reply Refusal) → Slot → Type 0
-Slot_answers old f new = (g : Stage) → old.stage ≡ Some g → (new.stage ≡ Some g) × (new.answer ≡ told (f (shown g)))
-
-abbrev pub Slot_asks : Slot → (Model → Result Reply Refusal) → Slot → Type 0
-Slot_asks old f new = Slot_answers old f new × Counts_in old new.before
-
+-- a call that is a query
 abbrev pub Asks : Option Slot → (Model → Result Reply Refusal) → Option Slot → ℕ → Type 0
 Asks old f new kind = Calls (λ x y. Slot_asks x f y) old new kind
 
--- a draft of the session's next command is opened, or memory was refused
-abbrev pub Slot_opens : Slot → Slot → Type 0
-Slot_opens old new = (s : Journal) → old.stage ≡ Some (Session s) → (h : Stage) × (new.stage ≡ Some h) × Opens s new.answer h
-
-abbrev pub Slot_drafts : Slot → Slot → Type 0
-Slot_drafts old new = Slot_opens old new × Counts_in old new.before
-
--- a draft ends in a session: f says in which
-abbrev pub Slot_closes : (DraftJournal → Journal) → Slot → Slot → Type 0
-Slot_closes f old new = (d : OpenDraft) → old.stage ≡ Some (Drafting d) → (new.stage ≡ Some (Session (f d.draft))) × (new.answer ≡ done)
-
-abbrev pub Slot_ends : (DraftJournal → Journal) → Slot → Slot → Type 0
-Slot_ends f old new = Slot_closes f old new × Counts_in old new.before
+-- a call that makes faces of a solid one of their own
+abbrev pub Parts : Option Slot → List ℕ → ℕ → Option Slot → ℕ → Type 0
+Parts old fs t new kind = Calls (λ x y. Slot_makes_part x fs t y) old new kind
 
 -- C is told a kind alone, and nothing has changed; a closed handle tells that it is closed
 abbrev pub Leaves : Option Slot → ℕ → Option Slot → ℕ → Type 0

@@ -1,23 +1,20 @@
 -- What C's calls do to the session behind a handle.
-use Rattle.std.specs.Prelude.{◌≡◌, ◌⊎◌, ◌-◌, ◌^◌, ℕ, Bool, true, false, not, List, ◌++◌, length, take, drop, Option, Some, None}
+use Rattle.std.specs.Prelude.{◌≡◌, ◌⊎◌, ◌-◌, ◌^◌, ℕ, Bool, true, false, not, List, length, Option, Some, None}
 use Rattle.euler_operators.specs.Model.{Model}
-use Rattle.undo_journal.specs.Journal.{Journal, new_journal}
-use Rattle.script_reader.specs.declared.command.Command.{Command}
+use Rattle.undo_journal.specs.Journal.{new_journal}
 use Rattle.solid_listing.specs.declared.reply.Reply.TheVariants as reply
-use Rattle.script_running.specs.script_judging.Judging.{Judges, Obeys}
-use Rattle.script_running.specs.script_judging.Settling.{spelled, Decides}
-use Rattle.script_running.specs.declared.script_judging.larger.Larger.{Larger}
 use Rattle.script_running.specs.declared.script_judging.judging.Answer.{Answer}
 use Rattle.script_running.specs.declared.script_judging.judging.Answer.TheVariants.{Silent, Reply as Told, Listing}
 use Rattle.shapes.specs.Fresh.{taken_in}
 use Rattle.solid_walks.specs.Counters.{taken_of}
-use Rattle.solid_walks.specs.declared.numbers.Counters.{Counters}
-use Rattle.gwb_c.specs.FreshNumbers.{fresh_in}
-use Rattle.gwb_c.specs.declared.fresh.Range.{Range}
-use Rattle.gwb_c.specs.Stages.{shown, is_draft, text_in}
-use Rattle.gwb_c.specs.declared.stage.Stage.{Stage}
-use Rattle.gwb_c.specs.declared.stage.Stage.TheVariants.{Session, Drafting}
-use Rattle.gwb_c.specs.declared.slot.Slot.{Slot}
+use Rattle.session_slots.specs.FreshNumbers.{fresh_in}
+use Rattle.session_slots.specs.Stages.{shown, is_draft, text_in}
+use Rattle.session_slots.specs.Slots.{Slot_notes}
+use Rattle.session_slots.specs.Written.{laid_over, WritesOne}
+use Rattle.session_slots.specs.declared.fresh.Range.{Range}
+use Rattle.session_slots.specs.declared.stage.Stage.{Stage}
+use Rattle.session_slots.specs.declared.stage.Stage.TheVariants.{Session}
+use Rattle.session_slots.specs.declared.slot.Slot.{Slot}
 
 -- what C is told of an answer
 abbrev pub status_of : Answer → ℕ
@@ -47,31 +44,6 @@ Opened None new true = (stage_in new ≡ Some (Session new_journal)) × (answer_
 Opened None new false = new ≡ None
 Opened (Some x) new opened = (opened ≡ false) × (new ≡ Some x)
 
--- a session answers the line, or the larger command that it spells was put aside; a draft hears none
-abbrev pub Decides_on : Stage → List ℕ → Option Answer → Stage → Option Larger → Type 0
-Decides_on (Session s) line a g later = (t : Journal) × (g ≡ Session t) × Decides s.machine line a t.machine later
-Decides_on (Drafting d) line a g later = (a ≡ Some Silent) × (g ≡ Drafting d)
-
--- a session goes on as the line is answered, and the answer is kept
-abbrev pub Slot_hears : Slot → List ℕ → Slot → Type 0
-Slot_hears old line new = (s : Journal) → old.stage ≡ Some (Session s) → (t : Journal) × (new.stage ≡ Some (Session t)) × Judges s.machine line new.answer t.machine
-
--- a session goes on as the command is obeyed, and the answer is kept
-abbrev pub Slot_obeys : Slot → Command → Slot → Type 0
-Slot_obeys old c new = (s : Journal) → old.stage ≡ Some (Session s) → (t : Journal) × (new.stage ≡ Some (Session t)) × Obeys s.machine c new.answer t.machine
-
--- the greatest numbers in use in the model shown
-abbrev pub Counts_in : Slot → Counters → Type 0
-Counts_in x n = (g : Stage) → x.stage ≡ Some g → taken_of n ≡ taken_in (shown g)
-
--- and the greatest numbers in use before the line are kept
-abbrev pub Slot_notes : Slot → List ℕ → Slot → Type 0
-Slot_notes old line new = Slot_hears old line new × Counts_in old new.before
-
--- the larger command that was put aside is obeyed
-abbrev pub Slot_finishes : Slot → Slot → Type 0
-Slot_finishes old new = (l : Larger) → old.later ≡ Some l → Slot_obeys old (spelled l) new
-
 -- C is told a number alone, and nothing has changed; or R leads to a slot, and C is told the kind of its answer
 abbrev pub Unless : Bool → ℕ → (Slot → Slot → Type 0) → Slot → Option Slot → ℕ → Type 0
 Unless true n R x new kind = (new ≡ Some x) × (kind ≡ n)
@@ -100,10 +72,6 @@ Hears old line new kind = CallsOfSession (λ x y. Slot_notes x line y) old new k
 abbrev pub Numbers : (Stage → ℕ) → Option Slot → ℕ → Type 0
 Numbers f None n = n ≡ 2 ^ 64 - 1
 Numbers f (Some x) n = (g : Stage) → x.stage ≡ Some g → n ≡ f g
-
--- the items of the first list in the places of the second, as far as there is room; what they don't reach stays
-abbrev pub laid_over : List ℕ → List ℕ → List ℕ
-laid_over xs old = take (length old) xs ++ drop (length xs) old
 
 -- the text of the answer, as far as there is room, and its length; or memory was refused, and nothing is written
 abbrev pub Writes : List ℕ → List ℕ → List ℕ → ℕ → Type 0
@@ -147,10 +115,6 @@ Finds R (Some y) old new told = (g : Stage) → y.stage ≡ Some g → ((told �
 abbrev pub GivesFresh : ℕ → Option Slot → Range → Range → ℕ → Type 0
 GivesFresh k None old new told = (told ≡ 9) × (new ≡ old)
 GivesFresh k (Some y) old new told = (g : Stage) → y.stage ≡ Some g → Gives (fresh_in (taken_of y.before) (taken_in (shown g)) k) old new told
-
--- one of the lists that R allows is written, as far as there is room, and its length told
-abbrev pub WritesOne : (List ℕ → Type 0) → List ℕ → List ℕ → ℕ → Type 0
-WritesOne R old new n = (xs : List ℕ) × R xs × (n ≡ length xs) × (new ≡ laid_over xs old)
 
 -- a list that a relation to the model shown allows; a closed handle has none
 abbrev pub Lists : (Model → List ℕ → Type 0) → Option Slot → List ℕ → List ℕ → ℕ → Type 0

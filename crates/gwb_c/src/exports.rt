@@ -1,11 +1,11 @@
 //! Calls of C: sessions, and lines as text.
 ghost use Rattle.std.specs.Prelude.{◌≡◌, Some, None};
-ghost use Rattle.gwb_c.specs.Stages.{undos, redos};
+ghost use Rattle.session_slots.specs.Stages.{undos, redos};
 ghost use Rattle.gwb_c.specs.Handle.{Opened, Hears, Numbers, Replies};
 
 use crate::handle::{CLOSED, Gwb, IN_DRAFT, put, take};
-use crate::slot::{Slot, copy_front, hear, is_drafting, made, status, text_of};
-use crate::stage::{ahead, depth};
+use crate::told::status;
+use session_slots::{Slot, ahead, copy_front, depth, hear, is_drafting, made, text_of};
 use std::alloc::Global;
 
 /// Opens a session that holds the empty model. False where memory is refused, or there is a session; then nothing has changed.

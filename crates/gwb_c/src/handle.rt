@@ -2,7 +2,7 @@
 ghost use Rattle.std.specs.Prelude.{◌≡◌, ◌↔◌, IsTrue, IsSome, Some, None, MatchOption};
 
 use crate::held::Held;
-use crate::slot::Slot;
+use session_slots::Slot;
 use std::alloc::Global;
 use std::mem;
 
@@ -14,11 +14,6 @@ pub(crate) const NO_CALL: u32 = 10;
 pub(crate) const IN_DRAFT: u32 = 11;
 
 pub(crate) const NO_DRAFT: u32 = 12;
-
-/// What a call says of a value that is there or not.
-pub(crate) const FOUND: u32 = 1;
-
-pub(crate) const ABSENT: u32 = 0;
 
 /// A session, or none before `gwb_open` and after `gwb_close`.
 #[repr(C)]

@@ -1,9 +1,9 @@
 //! The pointer that C keeps.
 ghost use Rattle.std.specs.Prelude.{◌≡◌, Option, None, Some, IsSome};
-ghost use Rattle.gwb_c.specs.declared.slot.Slot.{Slot};
+ghost use Rattle.session_slots.specs.declared.slot.Slot.{Slot};
 
 use crate::loose::Loose;
-use crate::slot::Slot;
+use session_slots::Slot;
 use std::alloc::Global;
 use std::marker::Model;
 use std::ptr;

@@ -3,12 +3,11 @@ ghost use Rattle.std.specs.Prelude.{◌≡◌, ◌<◌, ◌≤◌, length};
 ghost use Rattle.script_reader.specs.declared.command.Command.TheVariants as command;
 ghost use Rattle.gwb_c.specs.Calls.{Does, Leaves, point_of, polygon_of};
 
-use crate::commands;
 use crate::handle::{CLOSED, Gwb, IN_DRAFT, NO_CALL, put, take};
-use crate::readers::Place;
-use crate::slot::{is_drafting, status};
+use crate::told::status;
 use arrayvec::ArrayVec;
 use euler_operators::Point;
+use session_slots::{Place, is_drafting};
 use std::alloc::Global;
 
 /// A polygon has no more points.
@@ -53,7 +52,7 @@ pub extern "C" fn gwb_lamina(alloc: Global, gwb: &mut Gwb, solid: u32, points: &
         return IN_DRAFT;
     }
     let mut slot = slot;
-    commands::lamina(alloc, &mut slot, solid, &polygon(points));
+    session_slots::lamina(alloc, &mut slot, solid, &polygon(points));
     let kind = status(&slot.answer);
     put(gwb, slot);
     kind

@@ -4,11 +4,11 @@ ghost use Rattle.script_reader.specs.declared.command.Command.TheVariants as com
 ghost use Rattle.script_running.specs.script_judging.Settling.{spelled};
 ghost use Rattle.gwb_c.specs.Calls.{Does};
 
-use crate::commands;
 use crate::handle::{CLOSED, Gwb, IN_DRAFT, put, take};
-use crate::slot::{is_drafting, status};
+use crate::told::status;
 use euler_operators::Point;
 use script_running::Larger;
+use session_slots::is_drafting;
 use std::alloc::Global;
 
 /// Carries a larger command out on the session, if there is one.
@@ -23,7 +23,7 @@ fn carry(alloc: Global, gwb: &mut Gwb, larger: Larger) -> u32
         return IN_DRAFT;
     }
     let mut slot = slot;
-    commands::carry(alloc, &mut slot, larger);
+    session_slots::carry(alloc, &mut slot, larger);
     let kind = status(&slot.answer);
     put(gwb, slot);
     kind
@@ -115,7 +115,7 @@ pub extern "C" fn gwb_undo(alloc: Global, gwb: &mut Gwb) -> u32
         return IN_DRAFT;
     }
     let mut slot = slot;
-    commands::undo(&mut slot);
+    session_slots::undo(&mut slot);
     let kind = status(&slot.answer);
     put(gwb, slot);
     kind
@@ -134,7 +134,7 @@ pub extern "C" fn gwb_redo(alloc: Global, gwb: &mut Gwb) -> u32
         return IN_DRAFT;
     }
     let mut slot = slot;
-    commands::redo(&mut slot);
+    session_slots::redo(&mut slot);
     let kind = status(&slot.answer);
     put(gwb, slot);
     kind

@@ -2,7 +2,8 @@
 //!
 //! `exports` has the calls that take and give text, `operators`, `larger`, `laminas`, `parts` and `queries` those that are a command each,
 //! `drafts` those that make operators one command, `recalls` those that give the last answer as values, `reads` those that read the model
-//! shown; the contract of each says what the handle stands for before and after it. `bindings/include/gwb.h` declares them for C.
+//! shown; the contract of each says what the handle stands for before and after it. What is done to that stands in `session_slots`, and `told`
+//! has the numbers by which C is told. `bindings/include/gwb.h` declares the calls for C.
 //!
 //! # What is proved
 //!
@@ -16,32 +17,22 @@
 //! (`Slot_ends`); what a draft or a session has not changes nothing (`CallsOfSession`, `CallsOfDraft`).
 #![tactic(auto)]
 
-mod answers;
-mod commands;
-mod counted_stage;
-mod cycles;
 mod drafts;
 mod exports;
-mod fresh;
 mod handle;
 mod held;
 mod laminas;
 mod larger;
 mod loose;
-mod measures;
 mod operators;
 mod parts;
 mod queries;
-mod readers;
 mod reads;
 mod recalls;
-mod slot;
-mod stage;
 #[cfg(test)]
 mod tests;
+mod told;
 mod version;
 
-pub use answers::{Counts, PlaneRow, Refused, Wide};
-pub use fresh::Range;
 pub use handle::Gwb;
-pub use readers::{EdgeRow, FaceRow, Place};
+pub use session_slots::{Counts, EdgeRow, FaceRow, Place, PlaneRow, Range, Refused, Wide};

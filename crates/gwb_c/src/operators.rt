@@ -4,9 +4,8 @@ ghost use Rattle.euler_operators.specs.HalfEdge.{half};
 ghost use Rattle.script_reader.specs.Grammar.{plus};
 ghost use Rattle.gwb_c.specs.Calls.{Carries, corner_of};
 
-use crate::commands;
 use crate::handle::{CLOSED, Gwb, put, take};
-use crate::slot::status;
+use crate::told::status;
 use euler_operators::{Corner, HalfEdge, Op, Point};
 use std::alloc::Global;
 
@@ -39,7 +38,7 @@ fn act(alloc: Global, gwb: &mut Gwb, op: Op) -> u32
         return CLOSED;
     };
     let mut slot = slot;
-    commands::act(&mut slot, op);
+    session_slots::act(&mut slot, op);
     let kind = status(&slot.answer);
     put(gwb, slot);
     kind

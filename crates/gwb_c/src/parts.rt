@@ -1,86 +1,10 @@
 //! Calls of C: faces of a solid that become a solid of their own.
-ghost use Rattle.std.specs.Prelude.{◌≡◌, ◌<◌, [], length, get_or, IfOk};
-ghost use Rattle.euler_operators.specs.Model.{solid_of};
-ghost use Rattle.solid_measure.specs.Measure.{answer, face_refusal};
-ghost use Rattle.script_running.specs.script_judging.Judging.{outcome};
-ghost use Rattle.gwb_c.specs.Stages.{shown};
-ghost use Rattle.gwb_c.specs.Calls.{Leaves};
-ghost use Rattle.gwb_c.specs.Parting.{part_of, Moves_faces, Slot_parts, Slot_makes_part, Parts};
+ghost use Rattle.std.specs.Prelude.{◌≡◌, ◌<◌, [], length};
+ghost use Rattle.gwb_c.specs.Calls.{Leaves, Parts};
 
-use crate::commands::tell;
-use crate::counted_stage::CountedStage;
 use crate::handle::{CLOSED, Gwb, NO_CALL, put, take};
-use crate::slot::{Slot, counted_in, status};
-use euler_conditions::Arena;
-use euler_operators::{FaceList, Kind, Op, Refusal, Why, is_number};
-use std::alloc::{AllocError, Global};
-use undo_journal::Failure;
-
-/// Some faces as an operator holds them.
-fn listed(alloc: Global, faces: &[u32]) -> Result<FaceList, AllocError>
-    ensures { IfOk result (λ list. list ≡ faces.now) }
-{
-    let mut list = FaceList::new(alloc);
-    let mut rest = faces;
-    'faces: while let [first, others @ ..] = rest {
-        list.push(*first)?;
-        rest = others;
-    }
-    Ok(list)
-}
-
-/// The solid of a face. Refused where there is no such face.
-fn solid_of(arena: &Arena, face: u32) -> Result<u32, Refusal>
-    ensures { result ≡ answer (face_refusal arena.now.model face) (solid_of arena.now.model face) }
-{
-    if !is_number(face) {
-        return Err(Refusal {
-            why: Why::NumberRange,
-            number: face,
-        });
-    }
-    if !arena.has(Kind::Face, face) {
-        return Err(Refusal {
-            why: Why::NoFace,
-            number: face,
-        });
-    }
-    Ok(arena.solid_of(face))
-}
-
-/// Parts some faces, of which there is one, from the solid of the first. Their list is made before the operator's conditions are tested.
-fn part_on(alloc: Global, stage: &mut CountedStage, faces: &[u32], made: u32) -> Result<(), Failure>
-    requires { 0 < length faces.now }
-    ensures { Moves_faces (face_refusal (shown stage.old) (get_or faces.now 0 0)) stage.old (part_of (shown stage.old) faces.now made) (outcome result) stage.new }
-{
-    let from = match solid_of(stage.arena(), faces[0]) {
-        Ok(from) => from,
-        Err(refusal) => return Err(Failure::Refused(refusal)),
-    };
-    match listed(alloc, faces) {
-        Ok(list) => stage.act(Op::Part(from, made, list)),
-        Err(error) => Err(Failure::Memory(error)),
-    }
-}
-
-fn part_in(alloc: Global, slot: &mut Slot, faces: &[u32], made: u32)
-    requires { 0 < length faces.now }
-    ensures { Slot_parts slot.old faces.now made slot.new }
-{
-    if let Some(stage) = &mut slot.stage {
-        let ended = part_on(alloc, stage, faces, made);
-        tell(ended, &mut slot.answer);
-    }
-}
-
-fn part(alloc: Global, slot: &mut Slot, faces: &[u32], made: u32)
-    requires { 0 < length faces.now }
-    ensures { Slot_makes_part slot.old faces.now made slot.new }
-{
-    let before = counted_in(slot);
-    part_in(alloc, slot, faces, made);
-    slot.before = before;
-}
+use crate::told::status;
+use std::alloc::Global;
 
 /// Makes a new solid of some faces of one. No faces make no call.
 #[unsafe(no_mangle)]
@@ -96,7 +20,7 @@ pub extern "C" fn gwb_part(alloc: Global, gwb: &mut Gwb, faces: &[u32], solid: u
         return NO_CALL;
     }
     let mut slot = slot;
-    part(alloc, &mut slot, faces, solid);
+    session_slots::part(alloc, &mut slot, faces, solid);
     let kind = status(&slot.answer);
     put(gwb, slot);
     kind

@@ -1,15 +1,14 @@
 //! Calls of C: queries. Each answers as the line does that spells the same query, and writes the value where the answer tells it.
 ghost use Rattle.std.specs.Prelude.{◌≡◌};
 ghost use Rattle.script_running.specs.script_judging.Judging.{plane_reply, volume_reply, count_reply};
-ghost use Rattle.gwb_c.specs.Answered.{counts_in, volume_in, plane_in, whole, whole_plane};
+ghost use Rattle.session_slots.specs.Answered.{counts_in, volume_in, plane_in, whole, whole_plane};
 ghost use Rattle.gwb_c.specs.Calls.{Asks, Tells, TellsBy};
 
-use crate::answers::{
-    Counts, PlaneRow, Wide, counts_of, give, give_plane, give_wide, plane_of, volume_of,
-};
 use crate::handle::{CLOSED, Gwb, put, take};
-use crate::measures;
-use crate::slot::status;
+use crate::told::{give, give_plane, give_wide, status};
+use session_slots::{
+    Counts, PlaneRow, Wide, counts_of, plane_of, tell_count, tell_plane, tell_volume, volume_of,
+};
 use std::alloc::Global;
 
 /// The plane of a face, and whether the face is flat.
@@ -27,7 +26,7 @@ pub extern "C" fn gwb_face_plane(
         return CLOSED;
     };
     let mut slot = slot;
-    measures::tell_plane(&mut slot, face);
+    tell_plane(&mut slot, face);
     let kind = status(&slot.answer);
     give_plane(plane_of(&slot.answer), plane);
     put(gwb, slot);
@@ -49,7 +48,7 @@ pub extern "C" fn gwb_volume(
         return CLOSED;
     };
     let mut slot = slot;
-    measures::tell_volume(&mut slot, solid);
+    tell_volume(&mut slot, solid);
     let kind = status(&slot.answer);
     give_wide(volume_of(&slot.answer), six_volumes);
     put(gwb, slot);
@@ -66,7 +65,7 @@ pub extern "C" fn gwb_count(alloc: Global, gwb: &mut Gwb, solid: u32, counts: &m
         return CLOSED;
     };
     let mut slot = slot;
-    measures::tell_count(&mut slot, solid);
+    tell_count(&mut slot, solid);
     let kind = status(&slot.answer);
     give(counts_of(&slot.answer), counts);
     put(gwb, slot);

@@ -1,15 +1,12 @@
 //! Calls of C: the model held, read without text. Each says 1 where the value is there, and writes it; 0 where it is not there, and 9
 //! where there is no session: then nothing is written.
 ghost use Rattle.std.specs.Prelude.{◌≡◌, Some};
-ghost use Rattle.gwb_c.specs.Reading.{face_in, face_of_loop_in, edge_in, point_in, lone_in, after_in, IsRingAfter, IsFaceAfter, AreHalfEdges, IsFirst, kind_of, IsNumberAfter};
+ghost use Rattle.session_slots.specs.Reading.{face_in, face_of_loop_in, edge_in, point_in, lone_in, after_in, IsRingAfter, IsFaceAfter, AreHalfEdges, IsFirst, kind_of, IsNumberAfter};
 ghost use Rattle.gwb_c.specs.Handle.{Reads, Finds, Lists, GivesFresh};
 
-use crate::answers::give;
-use crate::fresh::{Range, fresh_of};
-use crate::handle::{ABSENT, CLOSED, FOUND, Gwb, put, take};
-use crate::readers::{EdgeRow, FaceRow, Place};
-use crate::slot::Slot;
-use crate::{cycles, readers};
+use crate::handle::{CLOSED, Gwb, put, take};
+use crate::told::{ABSENT, FOUND, give};
+use session_slots::{EdgeRow, FaceRow, Place, Range, Slot, fresh_of};
 use std::alloc::Global;
 
 /// The solid and the outer loop of a face.
@@ -22,7 +19,7 @@ pub extern "C" fn gwb_face(alloc: Global, gwb: &mut Gwb, face: u32, row: &mut Fa
         return CLOSED;
     };
     let told = match &slot.stage {
-        Some(stage) => give(readers::face(stage.arena(), face), row),
+        Some(stage) => give(session_slots::face(stage.arena(), face), row),
         None => ABSENT,
     };
     put(gwb, slot);
@@ -39,7 +36,7 @@ pub extern "C" fn gwb_loop(alloc: Global, gwb: &mut Gwb, l: u32, face: &mut u32)
         return CLOSED;
     };
     let told = match &slot.stage {
-        Some(stage) => give(readers::face_of_loop(stage.arena(), l), face),
+        Some(stage) => give(session_slots::face_of_loop(stage.arena(), l), face),
         None => ABSENT,
     };
     put(gwb, slot);
@@ -56,7 +53,7 @@ pub extern "C" fn gwb_edge(alloc: Global, gwb: &mut Gwb, edge: u32, row: &mut Ed
         return CLOSED;
     };
     let told = match &slot.stage {
-        Some(stage) => give(readers::edge(stage.arena(), edge), row),
+        Some(stage) => give(session_slots::edge(stage.arena(), edge), row),
         None => ABSENT,
     };
     put(gwb, slot);
@@ -73,7 +70,7 @@ pub extern "C" fn gwb_vertex(alloc: Global, gwb: &mut Gwb, vertex: u32, place: &
         return CLOSED;
     };
     let told = match &slot.stage {
-        Some(stage) => give(readers::vertex(stage.arena(), vertex), place),
+        Some(stage) => give(session_slots::vertex(stage.arena(), vertex), place),
         None => ABSENT,
     };
     put(gwb, slot);
@@ -90,7 +87,7 @@ pub extern "C" fn gwb_lone_vertex(alloc: Global, gwb: &mut Gwb, l: u32, vertex: 
         return CLOSED;
     };
     let told = match &slot.stage {
-        Some(stage) => give(readers::lone_vertex(stage.arena(), l), vertex),
+        Some(stage) => give(session_slots::lone_vertex(stage.arena(), l), vertex),
         None => ABSENT,
     };
     put(gwb, slot);
@@ -107,7 +104,7 @@ pub extern "C" fn gwb_next_half_edge(alloc: Global, gwb: &mut Gwb, item: u32, ne
         return CLOSED;
     };
     let told = match &slot.stage {
-        Some(stage) => give(readers::next_half_edge(stage.arena(), item), next),
+        Some(stage) => give(session_slots::next_half_edge(stage.arena(), item), next),
         None => ABSENT,
     };
     put(gwb, slot);
@@ -120,7 +117,7 @@ fn find_first_half_edge(slot: &Slot, l: u32, item: &mut u32) -> u32
     let Some(stage) = &slot.stage else {
         return ABSENT;
     };
-    match readers::first_half_edge(stage.arena(), l) {
+    match session_slots::first_half_edge(stage.arena(), l) {
         Some(found) => {
             *item = found;
             FOUND
@@ -147,7 +144,7 @@ fn list_half_edges(slot: &Slot, l: u32, buf: &mut [u32]) -> usize
     ensures { Lists (AreHalfEdges l) (Some slot.now) buf.old buf.new result }
 {
     match &slot.stage {
-        Some(stage) => cycles::half_edges(stage.arena(), l, buf),
+        Some(stage) => session_slots::half_edges(stage.arena(), l, buf),
         None => 0,
     }
 }
@@ -173,7 +170,7 @@ fn find_ring_after(slot: &Slot, face: u32, n: u32, ring: &mut u32) -> u32
     let Some(stage) = &slot.stage else {
         return ABSENT;
     };
-    match readers::ring_after(stage.arena(), face, n) {
+    match session_slots::ring_after(stage.arena(), face, n) {
         Some(found) => {
             *ring = found;
             FOUND
@@ -208,7 +205,7 @@ fn find_face_after(slot: &Slot, solid: u32, n: u32, face: &mut u32) -> u32
     let Some(stage) = &slot.stage else {
         return ABSENT;
     };
-    match readers::face_after(stage.arena(), solid, n) {
+    match session_slots::face_after(stage.arena(), solid, n) {
         Some(found) => {
             *face = found;
             FOUND
@@ -243,7 +240,7 @@ fn find_number_after(slot: &Slot, entity: u32, n: u32, number: &mut u32) -> u32
     let Some(stage) = &slot.stage else {
         return ABSENT;
     };
-    match readers::number_after(stage.arena(), entity, n) {
+    match session_slots::number_after(stage.arena(), entity, n) {
         Some(found) => {
             *number = found;
             FOUND

@@ -1,14 +1,14 @@
 //! Calls of C: the last answer, as values. Each says 1 where the value is there, and writes it; 0 where the last answer is of another
 //! kind, and 9 where there is no session: then nothing is written.
 ghost use Rattle.std.specs.Prelude.{◌≡◌};
-ghost use Rattle.gwb_c.specs.Answered.{refusal_in, fault_in, counts_in, volume_in, plane_in, whole, whole_plane};
+ghost use Rattle.session_slots.specs.Answered.{refusal_in, fault_in, counts_in, volume_in, plane_in, whole, whole_plane};
 ghost use Rattle.gwb_c.specs.Handle.{Recalls, RecallsBy};
 
-use crate::answers::{
-    Counts, PlaneRow, Refused, Wide, counts_of, fault_of, give, give_plane, give_wide, plane_of,
-    refusal_of, volume_of,
-};
 use crate::handle::{CLOSED, Gwb, put, take};
+use crate::told::{give, give_plane, give_wide};
+use session_slots::{
+    Counts, PlaneRow, Refused, Wide, counts_of, fault_of, plane_of, refusal_of, volume_of,
+};
 use std::alloc::Global;
 
 /// What the last answer refused.

@@ -1,17 +1,15 @@
 //! The calls over worked scripts, and as they answer a caller who has too little room, too long a line or no session.
-use crate::answers::{PlaneRow, Refused, Wide};
 use crate::drafts::{gwb_abandon, gwb_commit, gwb_draft};
 use crate::exports::{gwb_ahead, gwb_close, gwb_depth, gwb_line, gwb_open, gwb_reply};
-use crate::fresh::Range;
 use crate::handle::{Gwb, closed};
 use crate::laminas::gwb_lamina;
 use crate::larger::{gwb_block, gwb_redo, gwb_undo};
 use crate::operators::{gwb_kemr, gwb_kev, gwb_kvfs, gwb_merge, gwb_mev, gwb_mvfs, gwb_ringmv};
 use crate::parts::gwb_part;
 use crate::queries::gwb_volume;
-use crate::readers::{FaceRow, Place};
 use crate::reads::{gwb_face, gwb_fresh, gwb_half_edges, gwb_number_after};
 use crate::recalls::{gwb_last_fault, gwb_last_plane, gwb_last_refusal, gwb_last_volume};
+use session_slots::{FaceRow, Place, PlaneRow, Range, Refused, Wide};
 use std::alloc::Global;
 use std::fmt::Debug;
 use std::process::Abort;

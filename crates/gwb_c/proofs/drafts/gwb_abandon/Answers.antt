@@ -1,7 +1,7 @@
 use Rattle.std.proofs.Common.{◌∙◌, true, false, ap, subst}
-use Rattle.gwb_c.specs.declared.slot.Slot.{Slot}
+use Rattle.session_slots.specs.declared.slot.Slot.{Slot}
 use Rattle.gwb_c.specs.Handle.{status_of}
-use Rattle.gwb_c.specs.Calls.{Slot_ends}
+use Rattle.session_slots.specs.Slots.{Slot_ends}
 use Rattle.gwb_c.proofs.Turning.{no_draft_here, goes_on_in_draft, is_so}
 use Rattle.gwb_c.proofs.drafts.gwb_abandon.Goals as goal
 

@@ -1,7 +1,7 @@
 use Rattle.std.proofs.Common.{◌∙◌, true, false, ap, subst}
-use Rattle.gwb_c.specs.declared.slot.Slot.{Slot}
+use Rattle.session_slots.specs.declared.slot.Slot.{Slot}
 use Rattle.gwb_c.specs.Handle.{status_of}
-use Rattle.gwb_c.specs.Calls.{Slot_drafts}
+use Rattle.session_slots.specs.Slots.{Slot_drafts}
 use Rattle.gwb_c.proofs.Turning.{turned_away, goes_on_in_session, is_so}
 use Rattle.gwb_c.proofs.drafts.gwb_draft.Goals as goal
 

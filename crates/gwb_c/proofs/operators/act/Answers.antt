@@ -1,7 +1,7 @@
 use Rattle.std.proofs.Common.{◌∙◌, ap, subst}
-use Rattle.gwb_c.specs.declared.slot.Slot.{Slot}
+use Rattle.session_slots.specs.declared.slot.Slot.{Slot}
 use Rattle.gwb_c.specs.Handle.{status_of}
-use Rattle.gwb_c.specs.Calls.{Slot_carries}
+use Rattle.session_slots.specs.Slots.{Slot_carries}
 use Rattle.gwb_c.proofs.Turning.{goes_on}
 use Rattle.gwb_c.proofs.operators.act.Goals as goal
 

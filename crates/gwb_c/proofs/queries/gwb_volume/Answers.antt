@@ -1,9 +1,9 @@
 use Rattle.std.proofs.Common.{◌∙◌, refl, sym, ap, subst}
 use Rattle.script_running.specs.script_judging.Judging.{volume_reply}
-use Rattle.gwb_c.specs.declared.slot.Slot.{Slot}
-use Rattle.gwb_c.specs.Answered.{volume_in, whole}
+use Rattle.session_slots.specs.declared.slot.Slot.{Slot}
+use Rattle.session_slots.specs.Answered.{volume_in, whole}
 use Rattle.gwb_c.specs.Handle.{RecallsBy, GivesBy, status_of}
-use Rattle.gwb_c.specs.Calls.{Slot_asks}
+use Rattle.session_slots.specs.Slots.{Slot_asks}
 use Rattle.gwb_c.proofs.Turning.{goes_on}
 use Rattle.gwb_c.proofs.queries.gwb_volume.Goals as goal
 

@@ -1,7 +1,7 @@
 use Rattle.std.proofs.Common.{inl, inr, Some, None, refl, subst}
 use Rattle.euler_operators.specs.Model.{Model}
-use Rattle.gwb_c.specs.Reading.{IsFaceAfter}
-use Rattle.gwb_c.proofs.Acting.{seen}
+use Rattle.session_slots.specs.Reading.{IsFaceAfter}
+use Rattle.session_slots.proofs.Acting.{seen}
 use Rattle.gwb_c.proofs.reads.find_face_after.Goals as goal
 
 pub returns-in-Some-face_after : goal.returns-in-Some-face_after

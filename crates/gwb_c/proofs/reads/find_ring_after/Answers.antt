@@ -1,7 +1,7 @@
 use Rattle.std.proofs.Common.{inl, inr, Some, None, refl, subst}
 use Rattle.euler_operators.specs.Model.{Model}
-use Rattle.gwb_c.specs.Reading.{IsRingAfter}
-use Rattle.gwb_c.proofs.Acting.{seen}
+use Rattle.session_slots.specs.Reading.{IsRingAfter}
+use Rattle.session_slots.proofs.Acting.{seen}
 use Rattle.gwb_c.proofs.reads.find_ring_after.Goals as goal
 
 pub returns-in-Some-ring_after : goal.returns-in-Some-ring_after

@@ -1,4 +1,0 @@
-use Rattle.gwb_c.proofs.commands.lamina.Goals as goal
-
-pub returns : goal.returns
-returns c = (c.lamina_in.ensures, c.counted_in-before.ensures)

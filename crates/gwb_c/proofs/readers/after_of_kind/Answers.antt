@@ -1,6 +1,0 @@
-use Rattle.std.proofs.Common.{refl}
-use Rattle.gwb_c.proofs.Numbers.{next_held}
-use Rattle.gwb_c.proofs.readers.after_of_kind.Goals as goal
-
-pub returns : goal.returns
-returns c = next_held c.args.arena.now _ refl c.args.kind c.args.n c.after_number.result c.after_number.ensures

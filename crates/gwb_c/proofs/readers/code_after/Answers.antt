@@ -1,5 +1,0 @@
-use Rattle.euler_operators.proofs.Models.{number_fits}
-use Rattle.gwb_c.proofs.readers.code_after.Goals as goal
-
-pub code-requires : goal.code-requires
-code-requires c = number_fits _ (c.requires.ready.sound.edges_fit _ c.next.ensures.there)

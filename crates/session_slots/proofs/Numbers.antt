@@ -1,0 +1,58 @@
+-- What an arena tells of the model that it holds.
+use Rattle.std.proofs.Common.{◌≡◌, ℕ, false, [], Option, Some, None, is_some, unwrap_or, true≢false, refl, ap, subst}
+use Rattle.euler_operators.specs.Items.{IsIn}
+use Rattle.euler_operators.specs.HalfEdge.{code}
+use Rattle.euler_operators.specs.Table.{has}
+use Rattle.euler_operators.specs.Model.{Model, LoopContent, LoopRow, no_loop, lone, cycle, items_of, content, cycle_of}
+use Rattle.euler_operators.specs.declared.HalfEdge.{HalfEdge}
+use Rattle.euler_operators.specs.declared.Content.TheVariants as told
+use Rattle.euler_operators.specs.declared.Kind.{Kind}
+use Rattle.euler_operators.specs.declared.Kind.TheVariants.{Solid, Face, Loop, Edge, Vertex}
+use Rattle.euler_operators.specs.Sound.{Sound}
+use Rattle.euler_operators.proofs.Models.{in-holds}
+use Rattle.euler_conditions.specs.Store.{Store, IsNextNumber, Tells}
+use Rattle.session_slots.specs.Reading.{store_of, IsItemOf}
+
+here : (s : Store) (k : Kind) (n : ℕ) (o : Option ℕ) → IsNextNumber s k n o → IsNextNumber (store_of s.model) k n o
+here s Solid n None h = h
+here s Solid n (Some m) h = h
+here s Face n None h = h
+here s Face n (Some m) h = h
+here s Loop n None h = h
+here s Loop n (Some m) h = h
+here s Edge n None h = h
+here s Edge n (Some m) h = h
+here s Vertex n None h = h
+here s Vertex n (Some m) h = h
+
+pub next_held : (s : Store) (M : Model) → s.model ≡ M → (k : Kind) (n : ℕ) (o : Option ℕ) → IsNextNumber s k n o → IsNextNumber (store_of M) k n o
+next_held s M is k n o h = subst (λ (N : Model). IsNextNumber (store_of N) k n o) is (here s k n o h)
+
+pub lone_item : (c : LoopContent) (v : ℕ) → Tells c (told.Lone v) → IsItemOf c None
+lone_item (lone w) v e = tt
+lone_item (cycle hs) v e = absurd e
+
+pub ring_item : (c : LoopContent) (h : HalfEdge) → Tells c (told.Ring h) → IsItemOf c (Some (code h))
+ring_item (lone v) h e = absurd e
+ring_item (cycle hs) h e = e
+
+in_ring : (c : LoopContent) (h : HalfEdge) → Tells c (told.Ring h) → IsIn (code h) (items_of c)
+in_ring (lone v) h e = absurd e
+in_ring (cycle hs) h e = e
+
+-- the cycle of the half-edge that is told is the loop's
+pub told_cycle : (M : Model) → Sound M → (l : ℕ) (h : HalfEdge) → Tells (content M l) (told.Ring h) → cycle_of M (code h) ≡ items_of (content M l)
+told_cycle M sound l h t = ap (λ k. items_of (content M k)) (sound.one_loop (code h) l (in-holds (code h) (content M l) (in_ring (content M l) h t)))
+
+-- a lone loop has no half-edge
+pub lone_items : (c : LoopContent) (v : ℕ) → Tells c (told.Lone v) → items_of c ≡ []
+lone_items (lone w) v e = refl
+lone_items (cycle hs) v e = absurd e
+
+-- a loop that is not there has no half-edge
+pub absent_items : (M : Model) (l : ℕ) → has M.loops l ≡ false → items_of (content M l) ≡ []
+unfolding content
+absent_items M l none = go _ none where
+  go : (o : Option LoopRow) → is_some o ≡ false → items_of (unwrap_or o no_loop).content ≡ []
+  go None e = refl
+  go (Some row) e = absurd (true≢false e)

@@ -1,0 +1,19 @@
+use Rattle.std.proofs.Common.{Some, subst, sym, ℕ}
+use Rattle.euler_operators.specs.Model.{content}
+use Rattle.euler_conditions.proofs.Known.{filled}
+use Rattle.solid_listing.proofs.Contents.{told_there}
+use Rattle.solid_walks.proofs.face_walks_laws.HalfCodes.{edge_fits}
+use Rattle.session_slots.specs.Reading.{IsItemOf}
+use Rattle.session_slots.proofs.Numbers.{ring_item}
+use Rattle.session_slots.proofs.readers.item_at.Goals as goal
+
+pub content-requires-clause-filled : goal.content-requires-clause-filled
+content-requires-clause-filled c = filled c.args.arena.now.model c.requires.ready.sound c.args.l c.requires.there
+
+pub code-requires : goal.code-requires
+code-requires c = let M = c.args.arena.now.model in edge_fits M c.requires.ready.sound c.in-Ring.half (told_there M c.requires.ready.sound c.args.l c.in-Ring.half c.in-Ring.ensures)
+
+pub returns-in-Ring : goal.returns-in-Ring
+returns-in-Ring c =
+    let held = content c.args.arena.now.model c.args.l in
+    subst (λ (n : ℕ). IsItemOf held (Some n)) (sym c.code.ensures) (ring_item held c.in-Ring.half c.in-Ring.ensures)

@@ -1,0 +1,143 @@
+//! The last answer, as values.
+ghost use Rattle.std.specs.Prelude.{◌≡◌, ◌+◌, ◌*◌, ◌<◌, ◌≤ℤ◌, pos, unsigned_abs};
+ghost use Rattle.session_slots.specs.Answered.{refusal_in, fault_in, counts_in, volume_in, plane_in, whole, whole_plane};
+
+use euler_operators::Plane;
+use script_running::Answer;
+use solid_listing::Reply;
+
+/// What a refusal names: the number of the condition that is false, and the value that goes with it.
+#[repr(C)]
+#[derive(Clone, Copy)]
+pub struct Refused {
+    pub number: u32,
+    pub value: u32,
+}
+
+/// What a count counts: vertices, edges, faces and rings, and `v - e + f - r`.
+#[repr(C)]
+#[derive(Clone, Copy)]
+pub struct Counts {
+    pub vertices: i64,
+    pub edges: i64,
+    pub faces: i64,
+    pub rings: i64,
+    pub sum: i64,
+}
+
+/// A number in two halves: `high * 2^64 + low`.
+#[repr(C)]
+#[derive(Clone, Copy)]
+pub struct Wide {
+    pub high: i64,
+    pub low: u64,
+}
+
+/// The plane of a face: the points at which `a x + b y + c z + d` is zero; and whether the face is flat, 1, or bent, 0.
+#[repr(C)]
+#[derive(Clone, Copy)]
+pub struct PlaneRow {
+    pub a: Wide,
+    pub b: Wide,
+    pub c: Wide,
+    pub d: Wide,
+    pub flat: u32,
+}
+
+/// A number that is not negative, in two halves.
+fn split_in_words(n: u128) -> (i64, u64)
+    requires { n < 170141183460469231731687303715884105728 }
+    ensures value { n ≡ unsigned_abs result.0 * 18446744073709551616 + result.1 }
+    ensures sign { pos 0 ≤ℤ result.0 }
+{
+    let word = 1 << 64;
+    ((n / word) as i64, (n % word) as u64)
+}
+
+/// A number in two halves.
+pub fn halves(n: i128) -> Wide
+    ensures { whole result ≡ n }
+{
+    if n >= 0 {
+        let (high, low) = split_in_words(n as u128);
+        Wide { high, low }
+    } else {
+        let (high, low) = split_in_words(-(n + 1) as u128);
+        Wide {
+            high: -1 - high,
+            low: u64::MAX - low,
+        }
+    }
+}
+
+/// What the refusal names, if the answer is one.
+pub fn refusal_of(answer: &Answer) -> Option<Refused>
+    ensures { result ≡ refusal_in answer.now }
+{
+    match answer {
+        Answer::Reply(Reply::Refused(number, value)) => Some(Refused {
+            number: *number,
+            value: *value,
+        }),
+        _ => None,
+    }
+}
+
+/// The number of the fault, if the answer is one.
+pub fn fault_of(answer: &Answer) -> Option<u32>
+    ensures { result ≡ fault_in answer.now }
+{
+    match answer {
+        Answer::Reply(Reply::Fault(number)) => Some(*number),
+        _ => None,
+    }
+}
+
+/// The counts, if the answer tells them.
+pub fn counts_of(answer: &Answer) -> Option<Counts>
+    ensures { result ≡ counts_in answer.now }
+{
+    match answer {
+        Answer::Reply(Reply::Count([vertices, edges, faces, rings, sum])) => Some(Counts {
+            vertices: *vertices,
+            edges: *edges,
+            faces: *faces,
+            rings: *rings,
+            sum: *sum,
+        }),
+        _ => None,
+    }
+}
+
+/// Six times the volume, if the answer tells it.
+pub fn volume_of(answer: &Answer) -> Option<i128>
+    ensures { result ≡ volume_in answer.now }
+{
+    match answer {
+        Answer::Reply(Reply::Volume(n)) => Some(*n),
+        _ => None,
+    }
+}
+
+/// The plane and whether its face is flat, if the answer tells them.
+pub fn plane_of(answer: &Answer) -> Option<(Plane, u32)>
+    ensures { result ≡ plane_in answer.now }
+{
+    match answer {
+        Answer::Reply(Reply::Plane(plane, flat)) => Some((*plane, u32::from(*flat))),
+        _ => None,
+    }
+}
+
+/// A plane whose coefficients are in halves.
+pub fn plane_row(plane: Plane, flat: u32) -> PlaneRow
+    ensures { whole_plane result ≡ (plane, flat) }
+{
+    PlaneRow {
+        a: halves(plane.a),
+        b: halves(plane.b),
+        c: halves(plane.c),
+        d: halves(plane.d),
+        flat,
+    }
+}

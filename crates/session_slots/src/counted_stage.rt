@@ -1,0 +1,160 @@
+//! A session or a draft with the greatest numbers in use, which are read anew only where the model shown may have changed.
+ghost use Rattle.std.specs.Prelude.{◌≡◌, false};
+ghost use Rattle.euler_conditions.specs.Ready.{IsReady};
+ghost use Rattle.shapes.specs.Fresh.{taken_in};
+ghost use Rattle.solid_walks.specs.Counters.{taken_of};
+ghost use Rattle.script_running.specs.script_judging.Judging.{outcome};
+ghost use Rattle.script_reader.specs.declared.command.Command.TheVariants as command;
+ghost use Rattle.session_slots.specs.Stages.{shown, is_done, was_done, Acts_on, Obeys_on};
+ghost use Rattle.session_slots.specs.Slots.{Decides_on};
+
+use crate::commands::{act_on, redo_on, undo_on};
+use crate::stage::{Stage, arena};
+use euler_conditions::Arena;
+use euler_operators::Op;
+use script_running::{Answer, Larger, judge};
+use solid_listing::Reply;
+use solid_walks::{Counters, counters_of};
+use std::marker::Model;
+use undo_journal::Failure;
+
+/// A session or a draft, and the greatest numbers in use in the model that it shows.
+#[derive(Drop)]
+pub struct CountedStage {
+    stage: Stage,
+    greatest: Counters,
+}
+
+impl Model for CountedStage {
+    ghost use Rattle.std.specs.Prelude.{◌≡◌};
+    ghost use Rattle.session_slots.specs.declared.stage.Stage.{Stage};
+    ghost use Rattle.session_slots.specs.contracts.stage.Stage.{the_row};
+
+    ghost Value = { Stage };
+
+    ghost coded = { the_row.coded };
+
+    ghost use Rattle.shapes.specs.Fresh.{taken_in};
+    ghost use Rattle.solid_walks.specs.Counters.{taken_of};
+    ghost use Rattle.session_slots.specs.Stages.{shown};
+
+    ghost view = { λ c. c.stage };
+
+    ghost invariant = { λ c. taken_of c.greatest ≡ taken_in (shown c.stage) };
+}
+
+/// Whether a command was done.
+fn is_done(answer: &Answer) -> bool
+    ensures { result ≡ is_done answer.now }
+{
+    matches!(answer, Answer::Reply(Reply::Done))
+}
+
+/// The same of a line, whose command may be yet to be carried out.
+fn was_done(answer: &Option<Answer>) -> bool
+    ensures { result ≡ was_done answer.now }
+{
+    match answer {
+        Some(answer) => is_done(answer),
+        None => false,
+    }
+}
+
+/// The greatest numbers after a command, from those before it.
+#[inline(always)]
+fn greatest_after(done: bool, stage: &Stage, greatest: Counters) -> Counters
+    requires { done ≡ false → taken_of greatest ≡ taken_in (shown stage.now) }
+    ensures { taken_of result ≡ taken_in (shown stage.now) }
+{
+    if done {
+        counters_of(arena(stage))
+    } else {
+        greatest
+    }
+}
+
+/// The answer to a line, or none where it spells a larger command, which is put aside. A draft hears no line.
+fn judge_on(stage: &mut Stage, line: &[u8], later: &mut Option<Larger>) -> Option<Answer>
+    ensures answered { Decides_on stage.old line.now result stage.new later.new }
+    ensures kept { was_done result ≡ false → shown stage.new ≡ shown stage.old }
+{
+    match stage {
+        Stage::Session(session) => judge(session, line, later),
+        Stage::Drafting(_) => Some(Answer::Silent),
+    }
+}
+
+impl CountedStage {
+    /// Reads the greatest numbers.
+    pub(crate) fn of(stage: Stage) -> CountedStage
+        ensures { result ≡ stage }
+    {
+        let greatest = counters_of(arena(&stage));
+        CountedStage { stage, greatest }
+    }
+
+    pub fn stage(&self) -> &Stage
+        ensures { result.now ≡ self.now }
+    {
+        &self.stage
+    }
+
+    pub(crate) fn into_stage(self) -> Stage
+        ensures { result ≡ self }
+    {
+        let CountedStage { stage, greatest: _ } = self;
+        stage
+    }
+
+    /// The arena of the model shown.
+    pub fn arena(&self) -> &Arena
+        ensures model { result.now.model ≡ shown self.now }
+        ensures ready { IsReady result.now }
+    {
+        arena(&self.stage)
+    }
+
+    /// The greatest numbers in use.
+    pub fn greatest(&self) -> Counters
+        ensures { taken_of result ≡ taken_in (shown self.now) }
+    {
+        self.greatest
+    }
+
+    /// One operator: in a session a command, in a draft a step.
+    #[inline(always)]
+    pub(crate) fn act(&mut self, op: Op) -> Result<(), Failure>
+        ensures { Acts_on self.old op (outcome result) self.new }
+    {
+        let ended = act_on(&mut self.stage, op);
+        self.greatest = greatest_after(ended.is_ok(), &self.stage, self.greatest);
+        ended
+    }
+
+    /// Takes the last command of a session back.
+    pub(crate) fn undo(&mut self) -> Result<(), Failure>
+        ensures { Obeys_on self.old command.Undo (outcome result) self.new }
+    {
+        let ended = undo_on(&mut self.stage);
+        self.greatest = greatest_after(ended.is_ok(), &self.stage, self.greatest);
+        ended
+    }
+
+    /// Does the next command of a session again.
+    pub(crate) fn redo(&mut self) -> Result<(), Failure>
+        ensures { Obeys_on self.old command.Redo (outcome result) self.new }
+    {
+        let ended = redo_on(&mut self.stage);
+        self.greatest = greatest_after(ended.is_ok(), &self.stage, self.greatest);
+        ended
+    }
+
+    /// The answer to a line, or none where it spells a larger command, which is put aside. A draft hears no line.
+    pub(crate) fn judge(&mut self, line: &[u8], later: &mut Option<Larger>) -> Option<Answer>
+        ensures { Decides_on self.old line.now result self.new later.new }
+    {
+        let answer = judge_on(&mut self.stage, line, later);
+        self.greatest = greatest_after(was_done(&answer), &self.stage, self.greatest);
+        answer
+    }
+}

@@ -1,0 +1,46 @@
+//! Sessions and drafts in slots: a session or a draft of its next command, beside the answer to the last command and the greatest numbers
+//! in use before it.
+//!
+//! `stage` has a session or a draft, `counted_stage` this with the greatest numbers in use, `slot` what a line does to a slot; `commands`,
+//! `drafts`, `parts` and `measures` what a command, a draft, a part and a query do that are given as values. `answers` and `fresh` give the
+//! last answer and the numbers that it made as values, `readers` and `cycles` read the model shown.
+//!
+//! # What is proved
+//!
+//! Each call on a slot, in words of the plain machine: `hear` answers a line as the machine may (`Slot_notes`); `act` makes an operator a
+//! command of a session, and a step of a draft (`Slot_carries`); `undo`, `redo`, `carry` and `lamina` do what the line does that spells the
+//! same command (`Slot_does`), `part` what the operator does (`Slot_makes_part`); a query tells what the model shown gives, and changes no
+//! more (`Slot_asks`). `commit` makes a draft one command, and `abandon` leaves no trace of it (`Slot_ends`). The greatest numbers in use are
+//! those of the model shown, whatever was done. What the last answer told, and what a reader tells, are equations, but for where a loop's
+//! list of half-edges begins.
+#![tactic(auto)]
+
+mod answers;
+mod commands;
+mod counted_stage;
+mod cycles;
+mod drafts;
+mod fresh;
+mod measures;
+mod parts;
+mod readers;
+mod slot;
+mod stage;
+
+pub use answers::{
+    Counts, PlaneRow, Refused, Wide, counts_of, fault_of, halves, plane_of, plane_row, refusal_of,
+    volume_of,
+};
+pub use commands::{act, carry, lamina, redo, undo};
+pub use counted_stage::CountedStage;
+pub use cycles::half_edges;
+pub use drafts::{abandon, commit, open};
+pub use fresh::{Range, fresh_of};
+pub use measures::{tell_count, tell_plane, tell_volume};
+pub use parts::part;
+pub use readers::{
+    EdgeRow, FaceRow, Place, edge, face, face_after, face_of_loop, first_half_edge, lone_vertex,
+    next_half_edge, number_after, ring_after, vertex,
+};
+pub use slot::{Slot, copy_front, hear, is_drafting, made, text_of};
+pub use stage::{OpenDraft, Stage, ahead, depth};
