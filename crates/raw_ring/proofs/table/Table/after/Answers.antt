@@ -1,0 +1,5 @@
+use Rattle.raw_ring.proofs.Joining.{next-joined}
+use Rattle.raw_ring.proofs.table.Table.after.Goals as goal
+
+pub returns : goal.returns
+returns c = rw (← c.self.view_is) (next-joined _ _ _ _ c.after.ensures)

@@ -1,0 +1,195 @@
+//! The table of codes.
+ghost use Rattle.std.specs.Prelude.{◌≡◌, ℕ, ◌<◌, ◌≤◌, [], true, false, Some, None, IsSome, length, set, OnOk};
+ghost use Rattle.raw_cells.specs.Rows.{row_at, has_row};
+ghost use Rattle.raw_cells.specs.Numbers.{IsNext};
+ghost use Rattle.raw_ring.specs.Table.{LiesAt, HasLabel, is_awake, woken, asleep, relabelled};
+
+use crate::node::NodePtr;
+use crate::row::Row;
+use raw_cells::Rows;
+use std::alloc::{AllocError, Global};
+use std::marker::Model;
+
+/// The greatest code that may be known.
+const LAST_CODE: u32 = 2_000_001;
+
+/// How many codes get their room at a time, so that it is asked for seldom.
+const STEP: u32 = 64;
+
+/// The rows of the known codes.
+///
+/// Labels stand apart from the places of nodes, and only those of live codes are there: so a row takes 12 bytes, and nothing in it
+/// says whether its code is live. Only `reach` takes memory.
+#[derive(Drop)]
+pub(crate) struct Table {
+    places: Rows<NodePtr>,
+    labels: Rows<u32>,
+}
+
+impl Model for Table {
+    ghost use Rattle.std.specs.Prelude.{List, Option};
+    ghost use Rattle.raw_ring.specs.declared.row.Row.{Row};
+
+    ghost Value = { List (Option Row) };
+
+    ghost use Rattle.raw_cells.specs.Rows.{row_at};
+    ghost use Rattle.raw_ring.specs.Joined.{joined, AreJoined};
+
+    ghost view = { λ t. joined t.places (row_at t.labels) };
+
+    ghost invariant = { λ t. AreJoined t.places t.labels };
+}
+
+impl Table {
+    /// No row, and no room. It takes no memory.
+    pub(crate) fn new(alloc: Global) -> Table
+        ensures { result ≡ [] }
+    {
+        Table {
+            places: Rows::new(alloc),
+            labels: Rows::new(alloc),
+        }
+    }
+
+    /// Whether a code has a row.
+    pub(crate) fn has(&self, code: u32) -> bool
+        ensures { result ≡ has_row self.now code }
+    {
+        self.places.has(code)
+    }
+
+    /// Whether a code has a row and is live.
+    pub(crate) fn is_live(&self, code: u32) -> bool
+        ensures { result ≡ is_awake (row_at self.now code) }
+    {
+        self.labels.has(code)
+    }
+
+    /// How many codes have their room, from 0 on.
+    pub(crate) fn len(&self) -> u32
+        ensures { result ≡ length self.now }
+    {
+        self.places.len()
+    }
+
+    /// The least code above this one that has a row, or none.
+    pub(crate) fn after(&self, code: u32) -> Option<u32>
+        ensures { IsNext (has_row self.now) code result }
+    {
+        self.places.after(code)
+    }
+
+    /// The row of a code, if it has one.
+    pub(crate) fn find(&self, code: u32) -> Option<Row>
+        ensures { result ≡ row_at self.now code }
+    {
+        match self.places.find(code) {
+            Some(at) => Some(self.row(code, at)),
+            None => None,
+        }
+    }
+
+    /// The row of a code whose node lies there.
+    fn row(&self, code: u32, at: NodePtr) -> Row
+        requires { LiesAt (row_at self.now code) at }
+        ensures { row_at self.now code ≡ Some result }
+    {
+        match self.labels.find(code) {
+            Some(label) => Row {
+                at,
+                label,
+                live: true,
+            },
+            None => Row {
+                at,
+                label: 0,
+                live: false,
+            },
+        }
+    }
+
+    /// Where the node of a code lies, which has a row.
+    pub(crate) fn place(&self, code: u32) -> NodePtr
+        requires { IsSome (row_at self.now code) }
+        ensures { LiesAt (row_at self.now code) result }
+    {
+        self.places.known(code)
+    }
+
+    /// The label of a live code.
+    pub(crate) fn label(&self, code: u32) -> u32
+        requires { is_awake (row_at self.now code) ≡ true }
+        ensures { HasLabel (row_at self.now code) result }
+    {
+        self.labels.known(code)
+    }
+
+    /// A new code gets a row, in which it is asleep.
+    pub(crate) fn add(&mut self, code: u32, at: NodePtr)
+        requires room { code < length self.old }
+        requires new { row_at self.old code ≡ None }
+        ensures { self.new ≡ set self.old code (Some (record { at = at; label = 0; live = false })) }
+    {
+        self.places.put(code, at);
+    }
+
+    /// A code that has a row is live then, with the label 0.
+    pub(crate) fn wake(&mut self, code: u32)
+        requires { IsSome (row_at self.old code) }
+        ensures { self.new ≡ set self.old code (woken (row_at self.old code)) }
+    {
+        self.labels.put(code, 0);
+    }
+
+    /// A code that has a row is asleep then.
+    pub(crate) fn sleep(&mut self, code: u32)
+        requires { IsSome (row_at self.old code) }
+        ensures { self.new ≡ set self.old code (asleep (row_at self.old code)) }
+    {
+        self.labels.take(code);
+    }
+
+    /// A live code gets a label.
+    pub(crate) fn relabel(&mut self, code: u32, label: u32)
+        requires { is_awake (row_at self.old code) ≡ true }
+        ensures { self.new ≡ set self.old code (relabelled label (row_at self.old code)) }
+    {
+        self.labels.set(code, label);
+    }
+
+    /// Makes the rows reach to a code. Where they do, this is one test, and no `Err` comes.
+    pub(crate) fn reach(&mut self, code: u32) -> Result<(), AllocError>
+        requires { code ≤ 2000001 }
+        ensures same { (q : ℕ) → row_at self.new q ≡ row_at self.old q }
+        ensures fits { length self.old ≤ 2000002 → length self.new ≤ 2000002 }
+        ensures ok { OnOk result (code < length self.new) }
+    {
+        if code < self.places.len() {
+            return Ok(());
+        }
+        self.widen(code)
+    }
+
+    /// Makes the rows reach to a code, and on to the end of its step.
+    #[inline(never)]
+    fn widen(&mut self, code: u32) -> Result<(), AllocError>
+        requires { code ≤ 2000001 }
+        ensures same { (q : ℕ) → row_at self.new q ≡ row_at self.old q }
+        ensures fits { length self.old ≤ 2000002 → length self.new ≤ 2000002 }
+        ensures ok { OnOk result (code < length self.new) }
+    {
+        let last = last_of_step(code);
+        self.labels.reach(last)?;
+        self.places.reach(last)
+    }
+}
+
+/// The last code of the step in which a code stands.
+fn last_of_step(code: u32) -> u32
+    requires { code ≤ 2000001 }
+    ensures from { code ≤ result }
+    ensures limit { result ≤ 2000001 }
+{
+    let last = code / STEP * STEP + (STEP - 1);
+    if last < LAST_CODE { last } else { LAST_CODE }
+}
