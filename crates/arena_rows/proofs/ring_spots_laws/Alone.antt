@@ -2,14 +2,13 @@
 use Rattle.std.proofs.Common.{◌≡◌, ◌≢◌, ℕ, Bool, true, false, cond, nat_eq, List, [], ◌∷◌, Option, Some, None, refl, sym, ap, subst, ◌∙◌, arith, eq-eqb, ne_eqb, inl, inr}
 use Rattle.std.proofs.lemmas.Bool.Decides.{eqb_tells}
 use Rattle.raw_ring.specs.Rings.{RingMap, Spot, spot, with_label}
-use Rattle.raw_cells.specs.Rows.{has_row}
 use Rattle.boundary_model.specs.Items.{count, IsIn}
 use Rattle.boundary_model.proofs.Lists.{IsIn_or_not, tick_le, tick_other}
 use Rattle.boundary_model.proofs.Rotations.{IsIn_head, canonical_one}
 use Rattle.boundary_model.proofs.Members.{IsIn_one}
 use Rattle.arena_rows.specs.declared.ring_spots.labels.Label.{Label}
 use Rattle.arena_rows.specs.ring_spots.Spots.{Spots, live, next, label, ring, is_in, map_spot, labelled, spliced_at, AreRings}
-use Rattle.arena_rows.specs.ring_spots.Labels.{own, holder, loop_at, with_loop, in_loops, map_in_loops, AreLabelled, ShareLabel}
+use Rattle.arena_rows.specs.ring_spots.Labels.{own, holder, loop_at, with_loop, in_loops, map_in_loops, AreLabelled, ShareLabel, has_label}
 use Rattle.arena_rows.proofs.ring_spots_laws.SpotLaws.{ring_is, ring_same, ring_meet, next_in_ring, is_in-yes, is_in-no, label-labelled_in, label-labelled_out, live-labelled, ring-labelled, next-spliced}
 use Rattle.arena_rows.proofs.ring_spots_laws.Relabelling.{known_step}
 use Rattle.arena_rows.proofs.ring_spots_laws.LoopSpots.{blank-labelled, loops-labelled, loops-spliced, ring-loops}
@@ -64,7 +63,7 @@ module _ (sp : Spots) (known : ℕ → Bool) (rows : List (Option Label)) (a b :
       abbrev h : ℕ
       h = holder rows (label sp b)
 
-      shared_there : has_row rows (label sp b) ≡ true
+      shared_there : has_label rows (label sp b) ≡ true
       shared_there = S.table.labels_there b S.b_there
 
       owned : own rows h ≡ label sp b
@@ -98,11 +97,11 @@ module _ (sp : Spots) (known : ℕ → Bool) (rows : List (Option Label)) (a b :
             ∙ ap (λ t. cond t (holder rows (label sp h)) (holder rows q)) (ne_eqb q (own rows h) (λ e. p.1 (e ∙ owned ∙ sym label_h))))
       ]
 
-      pub labelled_own : (l : ℕ) → l ≡ own rows b → (b_known : has_row rows b ≡ true) → AreLabelled (labelled sp l (ring sp b)) known rows
+      pub labelled_own : (l : ℕ) → l ≡ own rows b → (b_known : has_label rows b ≡ true) → AreLabelled (labelled sp l (ring sp b)) known rows
       labelled_own l e b_known = labelled-apart sp known rows b h T (labelled sp l (ring sp b)) rows (S.table.owners.holder_there (label sp b) shared_there) b_known refl own_is holder_is (ap (λ n. labelled sp n (ring sp b)) e) known refl
 
     -- where it owns that, a takes it in exchange for its own
-    pub labelled_given : (rows' : List (Option Label)) → has_row rows a ≡ true → has_row rows b ≡ true → has_row rows' ≡ has_row rows → (x : ℕ) → label sp b ≡ x →
+    pub labelled_given : (rows' : List (Option Label)) → has_label rows a ≡ true → has_label rows b ≡ true → has_label rows' ≡ has_label rows → (x : ℕ) → label sp b ≡ x →
         ((q : ℕ) → own rows' q ≡ cond (nat_eq q a) x (cond (nat_eq q (holder rows x)) (own rows a) (own rows q))) →
         ((q : ℕ) → holder rows' q ≡ cond (nat_eq q x) a (cond (nat_eq q (own rows a)) (holder rows x) (holder rows q))) →
         (l : ℕ) → l ≡ own rows' b → AreLabelled (labelled sp l (ring sp b)) known rows'
@@ -130,8 +129,8 @@ module _ (sp cutted : Spots) (known : ℕ → Bool) (rows rows' : List (Option L
   pub live_free : live (labelled cutted free (ring cutted b)) b ≡ true
   live_free = live-labelled cutted free (ring cutted b) b ∙ b_there
 
-  pub free_there : has_row rows' free ≡ true
-  free_there = subst (λ n. has_row rows' n ≡ true) label_free (whole.table.labels_there b live_free)
+  pub free_there : has_label rows' free ≡ true
+  free_there = subst (λ n. has_label rows' n ≡ true) label_free (whole.table.labels_there b live_free)
 
   pub seen-cut_alone : (a l : ℕ) (new : Spots) (rows2 : List (Option Label)) → cutted ≡ spliced_at sp a b → new ≡ labelled cutted free (ring cutted b) → loop_at rows' ≡ loop_at rows → ((q : ℕ) → loop_at rows2 q ≡ cond (nat_eq q free) l (loop_at rows' q)) →
       in_loops rows2 new ≡ labelled (spliced_at (in_loops rows sp) a b) l (ring (spliced_at (in_loops rows sp) a b) b)

@@ -3,7 +3,6 @@ use Rattle.std.proofs.Common.{◌≡◌, ◌≢◌, ℕ, ◌≤◌, Bool, true, 
 use Rattle.std.proofs.lemmas.Bool.{cases_eq}
 use Rattle.std.specs.FinMap.{insert, contains_key}
 use Rattle.raw_ring.specs.Rings.{Spot, RingMap, spot, or_zero, of_spot, ring_of_one, with_label}
-use Rattle.raw_cells.specs.Rows.{has_row}
 use Rattle.boundary_model.specs.Items.{IsIn}
 use Rattle.boundary_model.specs.HalfEdge.{plus, minus}
 use Rattle.boundary_model.proofs.Lists.{tick_le}
@@ -11,7 +10,7 @@ use Rattle.boundary_model.proofs.Rotations.{IsIn_head, canonical_one}
 use Rattle.boundary_model.proofs.Members.{IsIn_one}
 use Rattle.arena_rows.specs.declared.ring_spots.labels.Label.{Label}
 use Rattle.arena_rows.specs.ring_spots.Spots.{Spots, live, next, label, ring, map_spot, woken, woken_as, asleep, retailed, AreRings}
-use Rattle.arena_rows.specs.ring_spots.Labels.{own, holder, loop_at, with_loop, in_loops, but_label, AreLabelled, HaveNewLabels}
+use Rattle.arena_rows.specs.ring_spots.Labels.{own, holder, loop_at, with_loop, in_loops, but_label, AreLabelled, HaveNewLabels, has_label}
 use Rattle.arena_rows.proofs.ring_spots_laws.SpotLaws.{ring_is, live-retailed, label-retailed, ring-retailed, AreRings-retailed}
 use Rattle.arena_rows.proofs.ring_spots_laws.RingMaps.{spot-insert, known-with, known-same}
 use Rattle.arena_rows.proofs.ring_spots_laws.Relabelling.{known_step}
@@ -43,7 +42,7 @@ codes_more known known' there c old new only q k = elim (cases_eq q c) [ inl e �
 
 -- there is room for more labels
 module _ (sp : Spots) (known : ℕ → Bool) (rows new : List (Option Label)) (A : AreLabelled sp known rows) (h : HaveNewLabels rows new) where
-  pub labelled-room : (now : Spots) (known' : ℕ → Bool) → now ≡ sp → ((c : ℕ) → known' c ≡ true → has_row new c ≡ true) → AreLabelled now known' new
+  pub labelled-room : (now : Spots) (known' : ℕ → Bool) → now ≡ sp → ((c : ℕ) → known' c ≡ true → has_label new c ≡ true) → AreLabelled now known' new
   labelled-room now known' is codes_there = subst (λ s. AreLabelled s known' new) (sym is) (record {
     table = record {
       rings = A.table.rings;
@@ -65,7 +64,7 @@ module _ (sp : Spots) (known : ℕ → Bool) (rows : List (Option Label)) (A : A
       rings = AreRings-retailed sp A.table.rings c v;
       owners = A.table.owners;
       codes_there = A.table.codes_there;
-      labels_there = λ q a. subst (λ n. has_row rows n ≡ true) (sym (label-retailed sp c v q)) (A.table.labels_there q (sym (live-retailed sp c v q) ∙ a));
+      labels_there = λ q a. subst (λ n. has_label rows n ≡ true) (sym (label-retailed sp c v q)) (A.table.labels_there q (sym (live-retailed sp c v q) ∙ a));
     };
     held = λ q a. subst (λ hs. IsIn (holder rows (label (retailed sp c v) q)) hs) (sym (ring-retailed sp A.table.rings c v q))
         (subst (λ n. IsIn (holder rows n) (ring sp q)) (sym (label-retailed sp c v q)) (A.held q (sym (live-retailed sp c v q) ∙ a)));
@@ -94,7 +93,7 @@ module _ (sp : Spots) (known : ℕ → Bool) (rows : List (Option Label)) (A : A
         rings = s_rings sp A.table.rings e alone_plus alone_minus;
         owners = A.table.owners;
         codes_there = A.table.codes_there;
-        labels_there = λ c a. let l = s_left sp A.table.rings e alone_plus alone_minus c a in subst (λ n. has_row rows n ≡ true) (sym (label_left c a)) (A.table.labels_there c l.2);
+        labels_there = λ c a. let l = s_left sp A.table.rings e alone_plus alone_minus c a in subst (λ n. has_label rows n ≡ true) (sym (label_left c a)) (A.table.labels_there c l.2);
       };
       held = λ c a. let l = s_left sp A.table.rings e alone_plus alone_minus c a in
           subst (λ hs. IsIn (holder rows (label less c)) hs) (sym (s_ring sp A.table.rings e alone_plus alone_minus c l.2 l.0 l.1).0) (subst (λ n. IsIn (holder rows n) (ring sp c)) (sym (label_left c a)) (A.held c l.2));
@@ -104,7 +103,7 @@ module _ (sp : Spots) (known : ℕ → Bool) (rows : List (Option Label)) (A : A
   loops-asleep_both e now is = ap (in_loops rows) is ∙ loops-asleep rows (asleep sp (plus e)) (minus e) ∙ ap (λ s. asleep s (minus e)) (loops-asleep rows sp (plus e))
 
   -- an edge wakes, and each half-edge has the label that it owns
-  module _ (e u v : ℕ) (limit : e ≤ 1000000) (dead_plus : live sp (plus e) ≡ false) (dead_minus : live sp (minus e) ≡ false) (plus_known : has_row rows (plus e) ≡ true) (minus_known : has_row rows (minus e) ≡ true) where
+  module _ (e u v : ℕ) (limit : e ≤ 1000000) (dead_plus : live sp (plus e) ≡ false) (dead_minus : live sp (minus e) ≡ false) (plus_known : has_label rows (plus e) ≡ true) (minus_known : has_label rows (minus e) ≡ true) where
     abbrev wide : Spots
     wide = woken (woken sp (plus e) u) (minus e) v
 
@@ -183,9 +182,9 @@ module _ (sp : Spots) (known : ℕ → Bool) (rows : List (Option Label)) (A : A
         owners = A.table.owners;
         codes_there = A.table.codes_there;
         labels_there = λ c a. elim (cases_now c a) [
-          | inl p ↦ subst (λ n. has_row rows n ≡ true) (sym (ap (label now) p ∙ label_plus)) (A.table.owners.own_there (plus e) plus_known)
-          | inr (inl p) ↦ subst (λ n. has_row rows n ≡ true) (sym (ap (label now) p ∙ label_minus)) (A.table.owners.own_there (minus e) minus_known)
-          | inr (inr b) ↦ subst (λ n. has_row rows n ≡ true) (sym (now_label c b)) (A.table.labels_there c b)
+          | inl p ↦ subst (λ n. has_label rows n ≡ true) (sym (ap (label now) p ∙ label_plus)) (A.table.owners.own_there (plus e) plus_known)
+          | inr (inl p) ↦ subst (λ n. has_label rows n ≡ true) (sym (ap (label now) p ∙ label_minus)) (A.table.owners.own_there (minus e) minus_known)
+          | inr (inr b) ↦ subst (λ n. has_label rows n ≡ true) (sym (now_label c b)) (A.table.labels_there c b)
         ];
       };
       held = λ c a. elim (cases_now c a) [
@@ -196,12 +195,12 @@ module _ (sp : Spots) (known : ℕ → Bool) (rows : List (Option Label)) (A : A
     }
 
     -- no live code has the label that a sleeping one owns
-    not_own : (c q : ℕ) → has_row rows c ≡ true → live sp c ≡ false → live sp q ≡ true → label sp q ≢ own rows c
+    not_own : (c q : ℕ) → has_label rows c ≡ true → live sp c ≡ false → live sp q ≡ true → label sp q ≢ own rows c
     not_own c q below dead a is =
         let h : holder rows (label sp q) ≡ c = ap (holder rows) is ∙ A.table.owners.held c below in
         true≢false (sym (ap (live sp) (sym h) ∙ (A.table.rings.rings q a).awake (holder rows (label sp q)) (A.held q a)) ∙ dead)
 
-    module _ (new : Spots) (known' : ℕ → Bool) (rows' : List (Option Label)) (is : new ≡ now) (same : known' ≡ known) (own_same : own rows' ≡ own rows) (holders : holder rows' ≡ holder rows) (there : has_row rows' ≡ has_row rows)
+    module _ (new : Spots) (known' : ℕ → Bool) (rows' : List (Option Label)) (is : new ≡ now) (same : known' ≡ known) (own_same : own rows' ≡ own rows) (holders : holder rows' ≡ holder rows) (there : has_label rows' ≡ has_label rows)
         (loops : (q : ℕ) → loop_at rows' q ≡ cond (nat_eq q y) 0 (cond (nat_eq q x) 0 (loop_at rows q))) where
       pub labelled-woken : AreLabelled new known' rows'
       labelled-woken = subst (λ k. AreLabelled new k rows') (sym same) (subst (λ s. AreLabelled s known rows') (sym is) (labelled_alike now known rows rows' now_labelled own_same holders there))

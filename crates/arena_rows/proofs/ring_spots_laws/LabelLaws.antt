@@ -1,13 +1,12 @@
 -- Labels where rings are cut, joined and put into loops.
 use Rattle.std.proofs.Common.{◌≡◌, ◌≢◌, ℕ, ◌+◌, Bool, true, List, Option, refl, sym, ap, subst, ◌∙◌, arith, cond, nat_eq, eq-eqb, ne_eqb, ◌⊎◌, inl, inr}
-use Rattle.raw_cells.specs.Rows.{has_row}
 use Rattle.boundary_model.specs.Items.{count, IsIn}
 use Rattle.boundary_model.specs.Rings.{cut_left, cut_right, joined}
 use Rattle.boundary_model.proofs.Lists.{IsIn_or_not}
 use Rattle.boundary_model.proofs.Cuts.{IsIn-cut}
 use Rattle.arena_rows.specs.declared.ring_spots.labels.Label.{Label}
 use Rattle.arena_rows.specs.ring_spots.Spots.{Spots, live, label, ring, labelled, spliced_at, AreRings}
-use Rattle.arena_rows.specs.ring_spots.Labels.{own, holder, loop_at, in_loops, AreOwned, AreLabelled, ShareLabel, IsRelabelled, HaveOneLabel}
+use Rattle.arena_rows.specs.ring_spots.Labels.{own, holder, loop_at, in_loops, AreOwned, AreLabelled, ShareLabel, IsRelabelled, HaveOneLabel, has_label}
 use Rattle.arena_rows.proofs.ring_spots_laws.SpotLaws.{ring_same, ring_meet, live-labelled, ring-labelled, label-labelled_in, label-labelled_out, AreRings-labelled, live-spliced, label-spliced, AreRings-cut, ring_left, ring_right, ring_beside, cut_items, AreRings-join, ring_joint, ring_aside, join_items}
 use Rattle.arena_rows.proofs.ring_spots_laws.LabelTables.{handed_over, holder_x, holder_other}
 use Rattle.arena_rows.proofs.ring_spots_laws.LoopSpots.{blank-labelled, loops-labelled}
@@ -18,11 +17,11 @@ module _ (sp : Spots) (R : AreRings sp) where
   shared_item a c x k h i j = subst (IsIn c) (sym (ring_meet sp R a c x k h i j)) (R.rings c h).item
 
 -- the same owners and labels: nothing changes but the loops for which labels stand
-pub labelled_alike : (sp : Spots) (known : ℕ → Bool) (rows new : List (Option Label)) → AreLabelled sp known rows → own new ≡ own rows → holder new ≡ holder rows → has_row new ≡ has_row rows → AreLabelled sp known new
+pub labelled_alike : (sp : Spots) (known : ℕ → Bool) (rows new : List (Option Label)) → AreLabelled sp known rows → own new ≡ own rows → holder new ≡ holder rows → has_label new ≡ has_label rows → AreLabelled sp known new
 labelled_alike sp known rows new A o h there = record {
   table = record {
     rings = A.table.rings;
-    owners = subst (λ t. AreOwned (own new) (holder new) t) (sym there) (subst (λ f. AreOwned f (holder new) (has_row rows)) (sym o) (subst (λ f. AreOwned (own rows) f (has_row rows)) (sym h) A.table.owners));
+    owners = subst (λ t. AreOwned (own new) (holder new) t) (sym there) (subst (λ f. AreOwned f (holder new) (has_label rows)) (sym o) (subst (λ f. AreOwned (own rows) f (has_label rows)) (sym h) A.table.owners));
     codes_there = λ c k. ap (λ t. t c) there ∙ A.table.codes_there c k;
     labels_there = λ c a. ap (λ t. t (label sp c)) there ∙ A.table.labels_there c a;
   };
@@ -66,7 +65,7 @@ module _ (sp : Spots) (known : ℕ → Bool) (rows : List (Option Label)) (A : A
         rings = AreRings-cut sp A.table.rings a b a_there cut_b_there together ne;
         owners = A.table.owners;
         codes_there = A.table.codes_there;
-        labels_there = λ c h. subst (λ n. has_row rows n ≡ true) (sym (label-spliced sp a b c)) (A.table.labels_there c (sym (live-spliced sp a b c) ∙ h));
+        labels_there = λ c h. subst (λ n. has_label rows n ≡ true) (sym (label-spliced sp a b c)) (A.table.labels_there c (sym (live-spliced sp a b c) ∙ h));
       };
       a_there = live-spliced sp a b a ∙ a_there;
       b_there = live-spliced sp a b b ∙ cut_b_there;
@@ -110,8 +109,8 @@ module _ (sp : Spots) (known : ℕ → Bool) (rows : List (Option Label)) (A : A
         owners = A.table.owners;
         codes_there = A.table.codes_there;
         labels_there = λ c h. let k = sym (live-labelled sp lb (ring sp a) c) ∙ h in elim (IsIn_or_not c (ring sp a)) [
-          | inl i ↦ subst (λ n. has_row rows n ≡ true) (sym (label-labelled_in sp lb (ring sp a) c i k)) (A.table.labels_there b b_there)
-          | inr n ↦ subst (λ n. has_row rows n ≡ true) (sym (label-labelled_out sp lb (ring sp a) c n)) (A.table.labels_there c k)
+          | inl i ↦ subst (λ n. has_label rows n ≡ true) (sym (label-labelled_in sp lb (ring sp a) c i k)) (A.table.labels_there b b_there)
+          | inr n ↦ subst (λ n. has_label rows n ≡ true) (sym (label-labelled_out sp lb (ring sp a) c n)) (A.table.labels_there c k)
         ];
       };
       a_there = live-labelled sp lb (ring sp a) a ∙ a_there;
@@ -170,18 +169,18 @@ module _ (sp : Spots) (known : ℕ → Bool) (rows : List (Option Label)) (a b :
   ]
 
   -- the ring of b keeps the label, which b owns now, and the ring of a gets the label that a owns
-  module _ (new : Spots) (rows' : List (Option Label)) (b_known : has_row rows b ≡ true) (a_known : has_row rows a ≡ true) (there : has_row rows' ≡ has_row rows)
+  module _ (new : Spots) (rows' : List (Option Label)) (b_known : has_label rows b ≡ true) (a_known : has_label rows a ≡ true) (there : has_label rows' ≡ has_label rows)
       (own_is : (q : ℕ) → own rows' q ≡ cond (nat_eq q b) x (cond (nat_eq q (holder rows x)) (own rows b) (own rows q)))
       (holder_is : (q : ℕ) → holder rows' q ≡ cond (nat_eq q x) b (cond (nat_eq q (own rows b)) (holder rows x) (holder rows q)))
       (is : new ≡ labelled sp (own rows' a) (ring sp a)) where
     abbrev y : ℕ
     y = own rows' a
 
-    owners' : AreOwned (own rows') (holder rows') (has_row rows)
-    owners' = handed_over (own rows) (holder rows) (has_row rows) S.table.owners (own rows') (holder rows') b x b_known (S.table.labels_there b S.b_there) own_is holder_is
+    owners' : AreOwned (own rows') (holder rows') (has_label rows)
+    owners' = handed_over (own rows) (holder rows) (has_label rows) S.table.owners (own rows') (holder rows') b x b_known (S.table.labels_there b S.b_there) own_is holder_is
 
     holder_of_x : holder rows' x ≡ b
-    holder_of_x = holder_x (own rows) (holder rows) (has_row rows) S.table.owners (own rows') (holder rows') b x b_known (S.table.labels_there b S.b_there) own_is holder_is
+    holder_of_x = holder_x (own rows) (holder rows) (has_label rows) S.table.owners (own rows') (holder rows') b x b_known (S.table.labels_there b S.b_there) own_is holder_is
 
     abbrev now : Spots
     now = labelled sp y (ring sp a)
@@ -213,7 +212,7 @@ module _ (sp : Spots) (known : ℕ → Bool) (rows : List (Option Label)) (a b :
         let j : IsIn c (ring sp b) = shared_item sp S.table.rings b c b S.b_there h (S.table.rings.rings b S.b_there).item k in
         absurd (omega arith) in
         holds c (label sp c) (label-labelled_out sp y (ring sp a) c n)
-        (subst (λ w. IsIn w (ring sp c)) (sym (holder_other (own rows) (holder rows) (has_row rows) S.table.owners (own rows') (holder rows') b x b_known (S.table.labels_there b S.b_there) own_is holder_is (label sp c) not_x not_own)) i)
+        (subst (λ w. IsIn w (ring sp c)) (sym (holder_other (own rows) (holder rows) (has_label rows) S.table.owners (own rows') (holder rows') b x b_known (S.table.labels_there b S.b_there) own_is holder_is (label sp c) not_x not_own)) i)
 
     now_labelled : AreLabelled now known rows'
     now_labelled = record {
@@ -222,8 +221,8 @@ module _ (sp : Spots) (known : ℕ → Bool) (rows : List (Option Label)) (a b :
         owners = subst (λ t. AreOwned (own rows') (holder rows') t) (sym there) owners';
         codes_there = λ c k. ap (λ t. t c) there ∙ S.table.codes_there c k;
         labels_there = λ c h. let k = sym (live_are c) ∙ h in elim (IsIn_or_not c (ring sp a)) [
-          | inl i ↦ subst (λ n. has_row rows' n ≡ true) (sym (label-labelled_in sp y (ring sp a) c i k)) (ap (λ t. t y) there ∙ owners'.own_there a a_known)
-          | inr n ↦ subst (λ n. has_row rows' n ≡ true) (sym (label-labelled_out sp y (ring sp a) c n)) (ap (λ t. t (label sp c)) there ∙ S.table.labels_there c k)
+          | inl i ↦ subst (λ n. has_label rows' n ≡ true) (sym (label-labelled_in sp y (ring sp a) c i k)) (ap (λ t. t y) there ∙ owners'.own_there a a_known)
+          | inr n ↦ subst (λ n. has_label rows' n ≡ true) (sym (label-labelled_out sp y (ring sp a) c n)) (ap (λ t. t (label sp c)) there ∙ S.table.labels_there c k)
         ];
       };
       held = λ c h. let k = sym (live_are c) ∙ h in elim (IsIn_or_not c (ring sp a)) [
@@ -245,7 +244,7 @@ module _ (sp : Spots) (known : ℕ → Bool) (rows : List (Option Label)) (a b :
       rings = AreRings-join sp S.table.rings a b S.a_there S.b_there S.apart S.one;
       owners = S.table.owners;
       codes_there = S.table.codes_there;
-      labels_there = λ c h. subst (λ n. has_row rows n ≡ true) (sym (label-spliced sp a b c)) (S.table.labels_there c (sym (live-spliced sp a b c) ∙ h));
+      labels_there = λ c h. subst (λ n. has_label rows n ≡ true) (sym (label-spliced sp a b c)) (S.table.labels_there c (sym (live-spliced sp a b c) ∙ h));
     };
     held = λ c h. let k = sym (live-spliced sp a b c) ∙ h in elim (IsIn_or_not c (joined a b (ring sp a) (ring sp b))) [
       | inl i ↦ in_joint c k i

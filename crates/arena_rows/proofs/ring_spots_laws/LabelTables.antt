@@ -1,9 +1,9 @@
--- The table of labels, where rows come and where a label gets another owner.
-use Rattle.std.proofs.Common.{◌≡◌, ◌≢◌, ℕ, Bool, true, false, cond, nat_eq, List, Option, Some, is_some, unwrap_or, refl, sym, ap, subst, ◌∙◌, eq-eqb, ne_eqb, true≢false, ◌⊎◌, inl, inr}
-use Rattle.std.proofs.lemmas.Bool.Decides.{eqb_tells}
-use Rattle.raw_cells.specs.Rows.{row_at, has_row}
+-- The table of labels, where rows are written, where labels come and where one gets another owner.
+use Rattle.std.proofs.Common.{◌≡◌, ◌≢◌, ℕ, zero, suc, ◌<◌, ◌≤◌, Bool, true, false, cond, nat_eq, nat_lt, List, [], ◌∷◌, length, Option, Some, None, unwrap_or, Result, Ok, Err, OnOk, refl, sym, ap, subst, ◌∙◌, arith, eq-eqb, ne_eqb, ◌⊎◌, inl, inr}
+use Rattle.std.proofs.lemmas.Bool.Decides.{eqb_tells, nat_tests}
+use Rattle.raw_cells.specs.Rows.{row_at}
 use Rattle.arena_rows.specs.declared.ring_spots.labels.Label.{Label}
-use Rattle.arena_rows.specs.ring_spots.Labels.{new_label, row_of, own, holder, loop_at, AreOwned, HaveNewLabels}
+use Rattle.arena_rows.specs.ring_spots.Labels.{new_label, row_of, has_label, own, holder, loop_at, AreOwned, HaveNewLabels}
 
 yes_or_no : (b : Bool) → (b ≡ true) ⊎ (b ≡ false)
 yes_or_no true = inl refl
@@ -19,45 +19,58 @@ module _ (rows new : List (Option Label)) (n : ℕ) (row : Label) (is : (q : ℕ
 
   pub written : (f : Label → ℕ) (q : ℕ) → f (row_of new q) ≡ cond (nat_eq q n) (f row) (f (row_of rows q))
   written f q = elim (eqb_tells q n) [
-    | inl p ↦ ap (λ o. f (unwrap_or o (new_label 0))) (read_here q p.1) ∙ sym (ap (λ b. cond b (f row) (f (row_of rows q))) p.0)
-    | inr p ↦ ap (λ o. f (unwrap_or o (new_label 0))) (read_other q p.1) ∙ sym (ap (λ b. cond b (f row) (f (row_of rows q))) p.0)
+    | inl p ↦ ap (λ o. f (unwrap_or o (new_label q))) (read_here q p.1) ∙ sym (ap (λ b. cond b (f row) (f (row_of rows q))) p.0)
+    | inr p ↦ ap (λ o. f (unwrap_or o (new_label q))) (read_other q p.1) ∙ sym (ap (λ b. cond b (f row) (f (row_of rows q))) p.0)
   ]
 
   -- what the new row has as the old one had it
-  pub unwritten : (f : Label → ℕ) (old : Label) → row_at rows n ≡ Some old → f row ≡ f old → (q : ℕ) → f (row_of new q) ≡ f (row_of rows q)
-  unwritten f old e same q = elim (eqb_tells q n) [
-    | inl p ↦ ap (λ o. f (unwrap_or o (new_label 0))) (read_here q p.1) ∙ same ∙ sym (ap (λ o. f (unwrap_or o (new_label 0))) (ap (row_at rows) p.1 ∙ e))
-    | inr p ↦ ap (λ o. f (unwrap_or o (new_label 0))) (read_other q p.1)
+  pub unwritten : (f : Label → ℕ) → f row ≡ f (row_of rows n) → (q : ℕ) → f (row_of new q) ≡ f (row_of rows q)
+  unwritten f same q = elim (eqb_tells q n) [
+    | inl p ↦ ap (λ o. f (unwrap_or o (new_label q))) (read_here q p.1) ∙ same ∙ ap (λ k. f (row_of rows k)) (sym p.1)
+    | inr p ↦ ap (λ o. f (unwrap_or o (new_label q))) (read_other q p.1)
   ]
 
-  pub still_there : (old : Label) → row_at rows n ≡ Some old → (q : ℕ) → has_row new q ≡ has_row rows q
-  still_there old e q = elim (eqb_tells q n) [
-    | inl p ↦ ap is_some (read_here q p.1) ∙ sym (ap is_some (ap (row_at rows) p.1 ∙ e))
-    | inr p ↦ ap is_some (read_other q p.1)
-  ]
+-- what number n has already
+pub already : (f : ℕ → ℕ) (n x : ℕ) → f n ≡ x → (q : ℕ) → f q ≡ cond (nat_eq q n) x (f q)
+already f n x is q = elim (eqb_tells q n) [
+  | inl p ↦ ap f p.1 ∙ is ∙ sym (ap (λ b. cond b x (f q)) p.0)
+  | inr p ↦ sym (ap (λ b. cond b x (f q)) p.0)
+]
 
-  pub there_now : has_row new n ≡ true
-  there_now = ap is_some (read_here n refl)
+within : (n k : ℕ) → nat_lt n k ≡ true → n < k
+within n k h = grind (arith, nat_tests)
 
-  -- a new code, which owns the label of its own number
-  pub one_new : row ≡ new_label n → has_row rows n ≡ false → HaveNewLabels rows new
-  one_new e free = record {
-    kept = λ k h. ap is_some (read_other k (apart k h)) ∙ h;
-    same = λ k h. ap (λ o. unwrap_or o (new_label 0)) (read_other k (apart k h));
-    added = λ k f h. elim (eqb_tells k n) [
-      | inl p ↦ ap (λ o. unwrap_or o (new_label 0)) (read_here k p.1) ∙ e ∙ ap new_label (sym p.1)
-      | inr p ↦ absurd (true≢false (sym h ∙ ap is_some (read_other k p.1) ∙ f))
-    ];
-  } where
-    apart : (k : ℕ) → has_row rows k ≡ true → k ≢ n
-    apart k h p = true≢false (sym h ∙ ap (has_row rows) p ∙ free)
+beyond : (n k : ℕ) → nat_lt n k ≡ false → k ≤ n
+beyond n k h = grind (arith, nat_tests)
 
--- no new code
-pub none_new : (rows new : List (Option Label)) → ((q : ℕ) → row_at new q ≡ row_at rows q) → HaveNewLabels rows new
-none_new rows new same = record {
-  kept = λ k h. ap is_some (same k) ∙ h;
-  same = λ k h. ap (λ o. unwrap_or o (new_label 0)) (same k);
-  added = λ k f h. absurd (true≢false (sym h ∙ ap is_some (same k) ∙ f));
+inside : (n k : ℕ) → n < k → nat_lt n k ≡ true
+inside n k h = grind (arith, nat_tests)
+
+no_row : (rows : List (Option Label)) (n : ℕ) → length rows ≤ n → row_at rows n ≡ None
+no_row [] n h = refl
+no_row (x ∷ rows) zero h = absurd (omega (arith, h))
+no_row (x ∷ rows) (suc n) h = no_row rows n (omega (arith, h))
+
+pub label_within : (rows : List (Option Label)) (n : ℕ) → has_label rows n ≡ true → n < length rows
+label_within rows n h = within n (length rows) h
+
+pub no_label : (n : ℕ) → has_label [] n ≡ true → ⊥
+no_label n h = let none = within n 0 h in omega arith
+
+-- the label before one that is there
+pub label_below : (rows : List (Option Label)) (m n : ℕ) → m ≤ n → has_label rows n ≡ true → has_label rows m ≡ true
+label_below rows m n h there = inside m (length rows) (omega (arith, h, within n (length rows) there))
+
+pub label_reached : {E : Type 0} (r : Result (Unit {0}) E) (rows : List (Option Label)) (n : ℕ) → OnOk r (n < length rows) → OnOk r (has_label rows n ≡ true)
+label_reached (Ok x) rows n h = inside n (length rows) h
+label_reached (Err e) rows n h = tt
+
+-- there is room for more labels
+pub more_labels : (rows new : List (Option Label)) → ((q : ℕ) → row_at new q ≡ row_at rows q) → length rows ≤ length new → HaveNewLabels rows new
+more_labels rows new same grows = record {
+  kept = λ k h. inside k (length new) (omega (arith, grows, within k (length rows) h));
+  same = λ k h. ap (λ o. unwrap_or o (new_label k)) (same k);
+  added = λ k f h. ap (λ o. unwrap_or o (new_label k)) (same k ∙ no_row rows k (beyond k (length rows) f));
 }
 
 module _ (own holder : ℕ → ℕ) (there : ℕ → Bool) (A : AreOwned own holder there) where
@@ -115,36 +128,36 @@ module _ (own holder : ℕ → ℕ) (there : ℕ → Bool) (A : AreOwned own hol
     }
 
 module _ (rows new : List (Option Label)) (h : HaveNewLabels rows new) where
-  pub own_same : (n : ℕ) → has_row rows n ≡ true → own new n ≡ own rows n
+  pub own_same : (n : ℕ) → has_label rows n ≡ true → own new n ≡ own rows n
   own_same n l = ap (λ (r : Label). r.own) (h.same n l)
 
-  pub holder_same : (n : ℕ) → has_row rows n ≡ true → holder new n ≡ holder rows n
+  pub holder_same : (n : ℕ) → has_label rows n ≡ true → holder new n ≡ holder rows n
   holder_same n l = ap (λ (r : Label). r.holder) (h.same n l)
 
-  pub loop_same : (n : ℕ) → has_row rows n ≡ true → loop_at new n ≡ loop_at rows n
+  pub loop_same : (n : ℕ) → has_label rows n ≡ true → loop_at new n ≡ loop_at rows n
   loop_same n l = ap (λ (r : Label). r.loop_number) (h.same n l)
 
-  own_new : (n : ℕ) → has_row rows n ≡ false → has_row new n ≡ true → own new n ≡ n
+  own_new : (n : ℕ) → has_label rows n ≡ false → has_label new n ≡ true → own new n ≡ n
   own_new n f l = ap (λ (r : Label). r.own) (h.added n f l)
 
-  holder_new : (n : ℕ) → has_row rows n ≡ false → has_row new n ≡ true → holder new n ≡ n
+  holder_new : (n : ℕ) → has_label rows n ≡ false → has_label new n ≡ true → holder new n ≡ n
   holder_new n f l = ap (λ (r : Label). r.holder) (h.added n f l)
 
-  pub owned_more : AreOwned (own rows) (holder rows) (has_row rows) → AreOwned (own new) (holder new) (has_row new)
+  pub owned_more : AreOwned (own rows) (holder rows) (has_label rows) → AreOwned (own new) (holder new) (has_label new)
   owned_more A = record {
-    own_there = λ n l. elim (yes_or_no (has_row rows n)) [
-      | inl p ↦ subst (λ z. has_row new z ≡ true) (sym (own_same n p)) (h.kept (own rows n) (A.own_there n p))
-      | inr f ↦ subst (λ z. has_row new z ≡ true) (sym (own_new n f l)) l
+    own_there = λ n l. elim (yes_or_no (has_label rows n)) [
+      | inl p ↦ subst (λ z. has_label new z ≡ true) (sym (own_same n p)) (h.kept (own rows n) (A.own_there n p))
+      | inr f ↦ subst (λ z. has_label new z ≡ true) (sym (own_new n f l)) l
     ];
-    holder_there = λ n l. elim (yes_or_no (has_row rows n)) [
-      | inl p ↦ subst (λ z. has_row new z ≡ true) (sym (holder_same n p)) (h.kept (holder rows n) (A.holder_there n p))
-      | inr f ↦ subst (λ z. has_row new z ≡ true) (sym (holder_new n f l)) l
+    holder_there = λ n l. elim (yes_or_no (has_label rows n)) [
+      | inl p ↦ subst (λ z. has_label new z ≡ true) (sym (holder_same n p)) (h.kept (holder rows n) (A.holder_there n p))
+      | inr f ↦ subst (λ z. has_label new z ≡ true) (sym (holder_new n f l)) l
     ];
-    held = λ n l. elim (yes_or_no (has_row rows n)) [
+    held = λ n l. elim (yes_or_no (has_label rows n)) [
       | inl p ↦ ap (holder new) (own_same n p) ∙ holder_same (own rows n) (A.own_there n p) ∙ A.held n p
       | inr f ↦ ap (holder new) (own_new n f l) ∙ holder_new n f l
     ];
-    owned = λ n l. elim (yes_or_no (has_row rows n)) [
+    owned = λ n l. elim (yes_or_no (has_label rows n)) [
       | inl p ↦ ap (own new) (holder_same n p) ∙ own_same (holder rows n) (A.holder_there n p) ∙ A.owned n p
       | inr f ↦ ap (own new) (holder_new n f l) ∙ own_new n f l
     ];

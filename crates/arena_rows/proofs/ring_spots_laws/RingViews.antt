@@ -10,6 +10,7 @@ use Rattle.arena_rows.specs.ring_spots.Spots.{Spots, live, label, ring, labelled
 use Rattle.arena_rows.specs.ring_spots.Labels.{loop_at, with_loop, in_loops, map_in_loops}
 use Rattle.arena_rows.specs.ring_spots.Edges.{AreEdgeRings}
 use Rattle.arena_rows.proofs.ring_spots_laws.RingMaps.{no_codes, spot-empty, known-empty}
+use Rattle.arena_rows.proofs.ring_spots_laws.LabelTables.{no_label}
 use Rattle.arena_rows.proofs.ring_spots_laws.LiveEdges.{no_edges}
 use Rattle.arena_rows.proofs.ring_spots_laws.LoopSpots.{spot-loops, known-loops, get-loops, label-loops, ring-loops, live-loops}
 
@@ -87,7 +88,7 @@ no_edge_rings m rows words a b c = subst (λ (k : RingMap). AreEdgeRings k rows 
         rings = λ q h. absurd (dead q h);
         mates = λ q h. absurd (dead q h);
       };
-      owners = record { own_there = λ n l. absurd (true≢false (sym l)); holder_there = λ n l. absurd (true≢false (sym l)); held = λ n l. absurd (true≢false (sym l)); owned = λ n l. absurd (true≢false (sym l)) };
+      owners = record { own_there = λ n l. absurd (no_label n l); holder_there = λ n l. absurd (no_label n l); held = λ n l. absurd (no_label n l); owned = λ n l. absurd (no_label n l) };
       codes_there = λ q k. absurd (true≢false (sym k ∙ known-empty q));
       labels_there = λ q h. absurd (dead q h);
     };

@@ -1,8 +1,8 @@
 -- Labels of rings, and the loops for which they stand.
-use Rattle.std.specs.Prelude.{◌≡◌, ℕ, ◌⊎◌, Bool, true, false, List, Option, unwrap_or}
+use Rattle.std.specs.Prelude.{◌≡◌, ℕ, ◌⊎◌, Bool, true, false, nat_lt, List, length, Option, unwrap_or}
 use Rattle.std.specs.FinMap.{entries, entries_sorted, from_entries}
 use Rattle.raw_ring.specs.Rings.{RingMap, Spot}
-use Rattle.raw_cells.specs.Rows.{row_at, has_row}
+use Rattle.raw_cells.specs.Rows.{row_at}
 use Rattle.boundary_model.specs.Items.{count, IsIn}
 use Rattle.boundary_model.specs.Table.{Table, map_rows}
 use Rattle.arena_rows.specs.declared.ring_spots.labels.Label.{Label}
@@ -12,8 +12,13 @@ use Rattle.arena_rows.specs.ring_spots.Spots.{Spots, live, label, ring, map_spot
 abbrev pub new_label : ℕ → Label
 new_label n = record { own = n; holder = n; loop_number = 0 }
 
+-- row n, which is not written before it says anything else
 abbrev pub row_of : List (Option Label) → ℕ → Label
-row_of rows n = unwrap_or (row_at rows n) (new_label 0)
+row_of rows n = unwrap_or (row_at rows n) (new_label n)
+
+-- whether there is a label n, and room for its row
+abbrev pub has_label : List (Option Label) → ℕ → Bool
+has_label rows n = nat_lt n (length rows)
 
 -- the label that code n owns
 abbrev pub own : List (Option Label) → ℕ → ℕ
@@ -34,12 +39,12 @@ pub record AreOwned (own holder : ℕ → ℕ) (there : ℕ → Bool) : Type 0 w
   pub held : (n : ℕ) → there n ≡ true → holder (own n) ≡ n
   pub owned : (n : ℕ) → there n ≡ true → own (holder n) ≡ n
 
--- each known code and each label of a live one has its row
+-- each known code and each label of a live one is there
 pub record HaveLabels (sp : Spots) (known : ℕ → Bool) (rows : List (Option Label)) : Type 0 where
   pub rings : AreRings sp
-  pub owners : AreOwned (own rows) (holder rows) (has_row rows)
-  pub codes_there : (c : ℕ) → known c ≡ true → has_row rows c ≡ true
-  pub labels_there : (c : ℕ) → live sp c ≡ true → has_row rows (label sp c) ≡ true
+  pub owners : AreOwned (own rows) (holder rows) (has_label rows)
+  pub codes_there : (c : ℕ) → known c ≡ true → has_label rows c ≡ true
+  pub labels_there : (c : ℕ) → live sp c ≡ true → has_label rows (label sp c) ≡ true
 
 -- each ring has a label, which one of its codes owns
 pub record AreLabelled (sp : Spots) (known : ℕ → Bool) (rows : List (Option Label)) : Type 0 where
@@ -84,6 +89,6 @@ map_in_loops rows m = from_entries (map_rows (λ _ o. map_spot (with_loop rows) 
 
 -- the rows are as they were, and each new code owns the label of its own number
 pub record HaveNewLabels (old new : List (Option Label)) : Type 0 where
-  pub kept : (n : ℕ) → has_row old n ≡ true → has_row new n ≡ true
-  pub same : (n : ℕ) → has_row old n ≡ true → row_of new n ≡ row_of old n
-  pub added : (n : ℕ) → has_row old n ≡ false → has_row new n ≡ true → row_of new n ≡ new_label n
+  pub kept : (n : ℕ) → has_label old n ≡ true → has_label new n ≡ true
+  pub same : (n : ℕ) → has_label old n ≡ true → row_of new n ≡ row_of old n
+  pub added : (n : ℕ) → has_label old n ≡ false → has_label new n ≡ true → row_of new n ≡ new_label n

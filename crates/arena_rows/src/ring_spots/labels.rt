@@ -1,12 +1,13 @@
 //! The table of labels: which code owns each, and for which loop it stands.
 ghost use Rattle.std.specs.Prelude.{◌≡◌, ℕ, ◌≤◌, true, cond, nat_eq, OnOk};
-ghost use Rattle.raw_cells.specs.Rows.{has_row};
-ghost use Rattle.arena_rows.specs.ring_spots.Labels.{own, holder, loop_at, HaveNewLabels};
+ghost use Rattle.arena_rows.specs.ring_spots.Labels.{row_of, has_label, own, holder, loop_at, HaveNewLabels};
 
 use raw_cells::Rows;
 use std::alloc::AllocError;
 
 /// What stands at number n: of the code n, and of the label n.
+///
+/// No row is written before it has something to say: till then code n owns label n, which stands for no loop.
 #[derive(Clone, Copy)]
 pub struct Label {
     /// The label that code n owns.
@@ -17,53 +18,67 @@ pub struct Label {
     pub loop_number: u32,
 }
 
+/// What stands at number n, whether its row is written or not.
+fn row_of(labels: &Rows<Label>, n: u32) -> Label
+    ensures { result ≡ row_of labels.now n }
+{
+    match labels.find(n) {
+        Some(row) => row,
+        None => Label {
+            own: n,
+            holder: n,
+            loop_number: 0,
+        },
+    }
+}
+
 /// The label that a code owns.
 pub(crate) fn own(labels: &Rows<Label>, code: u32) -> u32
-    requires { has_row labels.now code ≡ true }
     ensures { result ≡ own labels.now code }
 {
-    labels.known(code).own
+    row_of(labels, code).own
 }
 
 /// The code that owns a label.
 fn holder(labels: &Rows<Label>, label: u32) -> u32
-    requires { has_row labels.now label ≡ true }
     ensures { result ≡ holder labels.now label }
 {
-    labels.known(label).holder
+    row_of(labels, label).holder
 }
 
 /// The loop for which a label stands, or 0.
 pub(crate) fn loop_at(labels: &Rows<Label>, label: u32) -> u32
-    requires { has_row labels.now label ≡ true }
     ensures { result ≡ loop_at labels.now label }
 {
-    labels.known(label).loop_number
+    row_of(labels, label).loop_number
 }
 
 /// Makes a label stand for a loop, or for none where l is 0.
 pub(crate) fn stand_for(labels: &mut Rows<Label>, label: u32, l: u32)
-    requires { has_row labels.old label ≡ true }
+    requires { has_label labels.old label ≡ true }
     ensures loops { (q : ℕ) → loop_at labels.new q ≡ cond (nat_eq q label) l (loop_at labels.old q) }
     ensures own { own labels.new ≡ own labels.old }
     ensures holder { holder labels.new ≡ holder labels.old }
-    ensures there { has_row labels.new ≡ has_row labels.old }
+    ensures there { has_label labels.new ≡ has_label labels.old }
 {
-    let mut row = labels.known(label);
+    let mut row = row_of(labels, label);
+    if row.loop_number == l {
+        return;
+    }
     row.loop_number = l;
-    labels.set(label, row);
+    labels.put(label, row);
 }
 
 /// Makes a code the owner of a label. The code that owned it gets the other one's label.
 pub(crate) fn hand_over(labels: &mut Rows<Label>, code: u32, label: u32)
-    requires code { has_row labels.old code ≡ true }
-    requires label { has_row labels.old label ≡ true }
-    requires holder { has_row labels.old (holder labels.old label) ≡ true }
-    requires own { has_row labels.old (own labels.old code) ≡ true }
+    requires code { has_label labels.old code ≡ true }
+    requires label { has_label labels.old label ≡ true }
+    requires holder { has_label labels.old (holder labels.old label) ≡ true }
+    requires own { has_label labels.old (own labels.old code) ≡ true }
     ensures own { (q : ℕ) → own labels.new q ≡ cond (nat_eq q code) label (cond (nat_eq q (holder labels.old label)) (own labels.old code) (own labels.old q)) }
     ensures holder { (q : ℕ) → holder labels.new q ≡ cond (nat_eq q label) code (cond (nat_eq q (own labels.old code)) (holder labels.old label) (holder labels.old q)) }
     ensures loops { loop_at labels.new ≡ loop_at labels.old }
-    ensures there { has_row labels.new ≡ has_row labels.old }
+    ensures there { has_label labels.new ≡ has_label labels.old }
 {
     let before = holder(labels, label);
     let other = own(labels, code);
@@ -73,12 +88,12 @@ pub(crate) fn hand_over(labels: &mut Rows<Label>, code: u32, label: u32)
 
 /// Writes that a code owns a label.
 fn tie(labels: &mut Rows<Label>, code: u32, label: u32)
-    requires code { has_row labels.old code ≡ true }
-    requires label { has_row labels.old label ≡ true }
+    requires code { has_label labels.old code ≡ true }
+    requires label { has_label labels.old label ≡ true }
     ensures own { (q : ℕ) → own labels.new q ≡ cond (nat_eq q code) label (own labels.old q) }
     ensures holder { (q : ℕ) → holder labels.new q ≡ cond (nat_eq q label) code (holder labels.old q) }
     ensures loops { loop_at labels.new ≡ loop_at labels.old }
-    ensures there { has_row labels.new ≡ has_row labels.old }
+    ensures there { has_label labels.new ≡ has_label labels.old }
 {
     set_own(labels, code, label);
     set_holder(labels, label, code);
@@ -86,45 +101,35 @@ fn tie(labels: &mut Rows<Label>, code: u32, label: u32)
 
 /// Writes the label that a code owns, and nothing else.
 fn set_own(labels: &mut Rows<Label>, code: u32, label: u32)
-    requires { has_row labels.old code ≡ true }
+    requires { has_label labels.old code ≡ true }
     ensures own { (q : ℕ) → own labels.new q ≡ cond (nat_eq q code) label (own labels.old q) }
     ensures holder { holder labels.new ≡ holder labels.old }
     ensures loops { loop_at labels.new ≡ loop_at labels.old }
-    ensures there { has_row labels.new ≡ has_row labels.old }
+    ensures there { has_label labels.new ≡ has_label labels.old }
 {
-    let mut row = labels.known(code);
+    let mut row = row_of(labels, code);
     row.own = label;
-    labels.set(code, row);
+    labels.put(code, row);
 }
 
 /// Writes the code that owns a label, and nothing else.
 fn set_holder(labels: &mut Rows<Label>, label: u32, code: u32)
-    requires { has_row labels.old label ≡ true }
+    requires { has_label labels.old label ≡ true }
     ensures holder { (q : ℕ) → holder labels.new q ≡ cond (nat_eq q label) code (holder labels.old q) }
     ensures own { own labels.new ≡ own labels.old }
     ensures loops { loop_at labels.new ≡ loop_at labels.old }
-    ensures there { has_row labels.new ≡ has_row labels.old }
+    ensures there { has_label labels.new ≡ has_label labels.old }
 {
-    let mut row = labels.known(label);
+    let mut row = row_of(labels, label);
     row.holder = code;
-    labels.set(label, row);
+    labels.put(label, row);
 }
 
-/// Makes a code have its row. A new one owns the label of its own number.
-pub(crate) fn add(labels: &mut Rows<Label>, code: u32) -> Result<(), AllocError>
+/// Makes the labels reach to a code. A new code owns the label of its own number.
+pub(crate) fn reach(labels: &mut Rows<Label>, code: u32) -> Result<(), AllocError>
     requires { code ≤ 2000001 }
     ensures grown { HaveNewLabels labels.old labels.new }
-    ensures ok { OnOk result (has_row labels.new code ≡ true) }
+    ensures ok { OnOk result (has_label labels.new code ≡ true) }
 {
-    if labels.has(code) {
-        return Ok(());
-    }
-    labels.reach(code)?;
-    let row = Label {
-        own: code,
-        holder: code,
-        loop_number: 0,
-    };
-    labels.put(code, row);
-    Ok(())
+    labels.reach(code)
 }

@@ -1,13 +1,12 @@
 //! Edges as pairs of nodes.
 ghost use Rattle.std.specs.Prelude.{◌≡◌, ◌≢◌, ◌≤◌, ◌&&◌, ◌*◌, ◌+◌, nat_eq, nat_lt, nat_le, true, cond, Some, OnOk, ℕ};
 ghost use Rattle.std.specs.FinMap.{contains_key};
-ghost use Rattle.raw_cells.specs.Rows.{has_row};
 ghost use Rattle.raw_ring.specs.Rings.{spot, next_of, IsAsleep};
 ghost use Rattle.boundary_model.specs.HalfEdge.{plus, minus};
 ghost use Rattle.arena_rows.specs.ring_spots.Spots.{live, ring, labelled, woken, woken_as, asleep, spliced_at, retailed, AreRings};
-ghost use Rattle.arena_rows.specs.ring_spots.Labels.{own, holder, loop_at, in_loops, AreLabelled};
+ghost use Rattle.arena_rows.specs.ring_spots.Labels.{has_label, own, holder, loop_at, in_loops, AreLabelled};
 
-use crate::ring_spots::labels::{Label, add, own, stand_for};
+use crate::ring_spots::labels::{Label, own, reach, stand_for};
 use boundary_model::{HALF_EDGE_CODES, NUMBER_LIMIT};
 use raw_cells::Rows;
 use raw_ring::Rings;
@@ -37,14 +36,14 @@ pub(crate) fn wake_edge(rings: &mut Rings, labels: &mut Rows<Label>, e: u32, a: 
 /// Wakes a half-edge with the label that it owns, which stands for no loop.
 fn wake(rings: &mut Rings, labels: &mut Rows<Label>, code: u32, tail: u32)
     requires asleep { IsAsleep rings.old code }
-    requires code { has_row labels.old code ≡ true }
-    requires label { has_row labels.old (own labels.old code) ≡ true }
+    requires code { has_label labels.old code ≡ true }
+    requires label { has_label labels.old (own labels.old code) ≡ true }
     ensures spots { spot rings.new ≡ woken_as (spot rings.old) code tail (own labels.old code) }
     ensures known { contains_key rings.new ≡ contains_key rings.old }
     ensures loops { (q : ℕ) → loop_at labels.new q ≡ cond (nat_eq q (own labels.old code)) 0 (loop_at labels.old q) }
     ensures own { own labels.new ≡ own labels.old }
     ensures holder { holder labels.new ≡ holder labels.old }
-    ensures there { has_row labels.new ≡ has_row labels.old }
+    ensures there { has_label labels.new ≡ has_label labels.old }
 {
     let label = own(labels, code);
     rings.wake(code, tail);
@@ -114,20 +113,21 @@ pub(crate) fn room_edge(
     ensures only { (q : ℕ) → q ≢ plus e → q ≢ minus e → contains_key rings.new q ≡ contains_key rings.old q }
     ensures ok { OnOk result ((contains_key rings.new (plus e) ≡ true) × (contains_key rings.new (minus e) ≡ true)) }
 {
+    reach(labels, 2 * e + 1)?;
     room_code(rings, labels, 2 * e)?;
     room_code(rings, labels, 2 * e + 1)
 }
 
-/// Gives a half-edge its label and its node.
-fn room_code(rings: &mut Rings, labels: &mut Rows<Label>, c: u32) -> Result<(), AllocError>
-    requires whole { AreLabelled (spot rings.old) (contains_key rings.old) labels.old }
+/// Gives a half-edge its node. Its label is there.
+fn room_code(rings: &mut Rings, labels: &Rows<Label>, c: u32) -> Result<(), AllocError>
+    requires whole { AreLabelled (spot rings.old) (contains_key rings.old) labels.now }
     requires limit { c ≤ 2000001 }
-    ensures whole { AreLabelled (spot rings.new) (contains_key rings.new) labels.new }
-    ensures spots { in_loops labels.new (spot rings.new) ≡ in_loops labels.old (spot rings.old) }
+    requires label { has_label labels.now c ≡ true }
+    ensures whole { AreLabelled (spot rings.new) (contains_key rings.new) labels.now }
+    ensures spots { spot rings.new ≡ spot rings.old }
     ensures kept { (q : ℕ) → contains_key rings.old q ≡ true → contains_key rings.new q ≡ true }
     ensures only { (q : ℕ) → q ≢ c → contains_key rings.new q ≡ contains_key rings.old q }
     ensures ok { OnOk result (contains_key rings.new c ≡ true) }
 {
-    add(labels, c)?;
     rings.room(c)
 }

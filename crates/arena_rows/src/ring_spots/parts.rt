@@ -51,8 +51,7 @@ pub(crate) fn join(rings: &mut Rings, labels: &mut Rows<Label>, a: u32, b: u32)
 
 /// The loop in which a live code stands, or 0.
 pub(crate) fn loop_of(rings: &Rings, labels: &Rows<Label>, code: u32) -> u32
-    requires whole { AreLabelled (spot rings.now) (contains_key rings.now) labels.now }
-    requires there { live (spot rings.now) code ≡ true }
+    requires { live (spot rings.now) code ≡ true }
     ensures { result ≡ loop_at labels.now (label (spot rings.now) code) }
 {
     loop_at(labels, rings.label(code))

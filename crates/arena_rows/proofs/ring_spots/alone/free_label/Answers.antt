@@ -1,7 +1,6 @@
 use Rattle.std.proofs.Common.{◌≡◌, ℕ, Bool, true, ap, subst, ◌∙◌}
-use Rattle.raw_cells.specs.Rows.{has_row}
 use Rattle.raw_ring.specs.Rings.{or_zero}
-use Rattle.arena_rows.specs.ring_spots.Labels.{own}
+use Rattle.arena_rows.specs.ring_spots.Labels.{own, has_label}
 use Rattle.arena_rows.proofs.ring_spots_laws.RingMaps.{live_known}
 use Rattle.arena_rows.proofs.ring_spots_laws.Alone.{labelled_own, labelled_given}
 use Rattle.arena_rows.proofs.ring_spots.alone.free_label.Goals as goal
@@ -15,16 +14,13 @@ pub hand_over-requires-clause-code : goal.hand_over-requires-clause-code
 hand_over-requires-clause-code c = c.requires.shared.table.codes_there _ (live_known _ _ c.requires.shared.a_there)
 
 pub hand_over-requires-clause-label : goal.hand_over-requires-clause-label
-hand_over-requires-clause-label c = subst (λ n. has_row c.args.labels.now n ≡ true) (ap or_zero c.label-shared.ensures) (c.requires.shared.table.labels_there _ c.requires.shared.b_there)
+hand_over-requires-clause-label c = subst (λ n. has_label c.args.labels.now n ≡ true) (ap or_zero c.label-shared.ensures) (c.requires.shared.table.labels_there _ c.requires.shared.b_there)
 
 pub hand_over-requires-clause-holder : goal.hand_over-requires-clause-holder
-hand_over-requires-clause-holder c = c.requires.shared.table.owners.holder_there _ (subst (λ n. has_row c.args.labels.now n ≡ true) (ap or_zero c.label-shared.ensures) (c.requires.shared.table.labels_there _ c.requires.shared.b_there))
+hand_over-requires-clause-holder c = c.requires.shared.table.owners.holder_there _ (subst (λ n. has_label c.args.labels.now n ≡ true) (ap or_zero c.label-shared.ensures) (c.requires.shared.table.labels_there _ c.requires.shared.b_there))
 
 pub hand_over-requires-clause-own : goal.hand_over-requires-clause-own
 hand_over-requires-clause-own c = c.requires.shared.table.owners.own_there _ (c.requires.shared.table.codes_there _ (live_known _ _ c.requires.shared.a_there))
-
-pub own-requires : goal.own-requires
-own-requires c = ap (λ (t : ℕ → Bool). t c.args.part) c.hand_over.ensures.there ∙ c.requires.shared.table.codes_there c.args.part (live_known _ _ c.requires.shared.b_there)
 
 pub returns-clause-whole : goal.returns-clause-whole
 returns-clause-whole c =

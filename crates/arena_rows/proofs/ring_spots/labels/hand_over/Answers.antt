@@ -1,13 +1,12 @@
 use Rattle.std.proofs.Common.{ℕ, Bool, ap, ◌∙◌, cond, nat_eq}
-use Rattle.raw_cells.specs.Rows.{has_row}
-use Rattle.arena_rows.specs.ring_spots.Labels.{own, holder}
+use Rattle.arena_rows.specs.ring_spots.Labels.{own, holder, has_label}
 use Rattle.arena_rows.proofs.ring_spots.labels.hand_over.Goals as goal
 
 pub tie-requires-clause-code : goal.tie-requires-clause-code
-tie-requires-clause-code c = ap (has_row c.args.labels.now) c.holder-before.ensures ∙ c.requires.holder
+tie-requires-clause-code c = ap (has_label c.args.labels.now) c.holder-before.ensures ∙ c.requires.holder
 
 pub tie-requires-clause-label : goal.tie-requires-clause-label
-tie-requires-clause-label c = ap (has_row c.args.labels.now) c.own-other.ensures ∙ c.requires.own
+tie-requires-clause-label c = ap (has_label c.args.labels.now) c.own-other.ensures ∙ c.requires.own
 
 pub tie-requires-2-clause-code : goal.tie-requires-2-clause-code
 tie-requires-2-clause-code c = ap (λ (t : ℕ → Bool). t c.args.code) c.tie.ensures.there ∙ c.requires.code

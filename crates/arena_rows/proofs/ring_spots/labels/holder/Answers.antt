@@ -1,6 +1,6 @@
-use Rattle.std.proofs.Common.{sym, ap, unwrap_or}
-use Rattle.arena_rows.specs.ring_spots.Labels.{new_label}
+use Rattle.std.proofs.Common.{ap}
+use Rattle.arena_rows.specs.declared.ring_spots.labels.Label.{Label}
 use Rattle.arena_rows.proofs.ring_spots.labels.holder.Goals as goal
 
 pub returns : goal.returns
-returns c = sym (ap (λ o. (unwrap_or o (new_label 0)).holder) c.known.ensures)
+returns c = ap (λ (r : Label). r.holder) c.row_of.ensures

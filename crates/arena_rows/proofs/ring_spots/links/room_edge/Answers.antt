@@ -1,5 +1,22 @@
-use Rattle.std.proofs.Common.{◌≡◌, Bool, true, Result, Ok, Err, OnOk, ◌∙◌}
+use Rattle.std.proofs.Common.{◌≡◌, Bool, true, Result, Ok, Err, OnOk, refl, ◌∙◌, arith}
+use Rattle.arena_rows.proofs.ring_spots_laws.LabelTables.{label_below}
+use Rattle.arena_rows.proofs.ring_spots_laws.LabelEdges.{labelled-room, loops-room}
 use Rattle.arena_rows.proofs.ring_spots.links.room_edge.Goals as goal
+
+pub returns-in_err-reach-clause-whole : goal.returns-in_err-reach-clause-whole
+returns-in_err-reach-clause-whole c = labelled-room _ _ _ _ c.requires.whole c.reach.ensures.grown _ _ refl (λ q k. c.reach.ensures.grown.kept q (c.requires.whole.table.codes_there q k))
+
+pub returns-in_err-reach-clause-spots : goal.returns-in_err-reach-clause-spots
+returns-in_err-reach-clause-spots c = loops-room _ _ _ _ c.requires.whole c.reach.ensures.grown _ refl
+
+pub room_code-requires-clause-whole : goal.room_code-requires-clause-whole
+room_code-requires-clause-whole c = labelled-room _ _ _ _ c.requires.whole c.reach.ensures.grown _ _ refl (λ q k. c.reach.ensures.grown.kept q (c.requires.whole.table.codes_there q k))
+
+pub room_code-requires-clause-label : goal.room_code-requires-clause-label
+room_code-requires-clause-label c = label_below _ _ _ (omega arith) c.in_ok-reach.ensures.ok
+
+pub returns-in_err-room_code-clause-spots : goal.returns-in_err-room_code-clause-spots
+returns-in_err-room_code-clause-spots c = loops-room _ _ _ _ c.requires.whole c.reach.ensures.grown _ c.room_code.ensures.spots
 
 pub returns-in_err-room_code-clause-only : goal.returns-in_err-room_code-clause-only
 returns-in_err-room_code-clause-only c q n m = c.room_code.ensures.only q n
@@ -11,7 +28,7 @@ both_known p m (Err e) first second = tt
 pub returns : goal.returns
 returns c = record {
   whole = c.room_code-2.ensures.whole;
-  spots = c.room_code-2.ensures.spots ∙ c.room_code.ensures.spots;
+  spots = loops-room _ _ _ _ c.requires.whole c.reach.ensures.grown _ (c.room_code-2.ensures.spots ∙ c.room_code.ensures.spots);
   kept = λ q k. c.room_code-2.ensures.kept q (c.room_code.ensures.kept q k);
   only = λ q n m. c.room_code-2.ensures.only q m ∙ c.room_code.ensures.only q n;
   ok = both_known _ _ c.room_code-2.result (c.room_code-2.ensures.kept _ c.in_ok-room_code.ensures.ok) c.room_code-2.ensures.ok;

@@ -1,10 +1,9 @@
 use Rattle.std.proofs.Common.{ap, ◌∙◌, ◌≡◌, ℕ, Bool, true, cond, nat_eq, sym, subst}
-use Rattle.raw_cells.specs.Rows.{has_row}
 use Rattle.raw_ring.specs.Rings.{spot}
 use Rattle.boundary_model.specs.HalfEdge.{plus, minus}
 use Rattle.boundary_model.proofs.Halves.{plus_other}
 use Rattle.arena_rows.specs.ring_spots.Spots.{Spots, live, woken_as}
-use Rattle.arena_rows.specs.ring_spots.Labels.{own, loop_at}
+use Rattle.arena_rows.specs.ring_spots.Labels.{own, loop_at, has_label}
 use Rattle.arena_rows.proofs.ring_spots_laws.LabelEdges.{live-woken_other, labelled-woken, loops-woken}
 use Rattle.arena_rows.proofs.ring_spots.links.wake_edge.Goals as goal
 
@@ -24,7 +23,7 @@ pub wake-requires-2-clause-code : goal.wake-requires-2-clause-code
 wake-requires-2-clause-code c = ap (λ (t : ℕ → Bool). t (minus c.args.e)) c.wake.ensures.there ∙ c.requires.whole.table.codes_there (minus c.args.e) c.requires.second.0
 
 pub wake-requires-2-clause-label : goal.wake-requires-2-clause-label
-wake-requires-2-clause-label c = subst (λ (f : ℕ → ℕ). has_row c.wake.new.labels (f (minus c.args.e)) ≡ true) (sym c.wake.ensures.own)
+wake-requires-2-clause-label c = subst (λ (f : ℕ → ℕ). has_label c.wake.new.labels (f (minus c.args.e)) ≡ true) (sym c.wake.ensures.own)
     (ap (λ (t : ℕ → Bool). t (own c.args.labels.now (minus c.args.e))) c.wake.ensures.there ∙ c.requires.whole.table.owners.own_there (minus c.args.e) (c.requires.whole.table.codes_there (minus c.args.e) c.requires.second.0))
 
 pub returns : goal.returns

@@ -1,7 +1,7 @@
 use Rattle.std.proofs.Common.{◌≡◌, ℕ, Bool, true, ap, subst, ◌∙◌}
-use Rattle.raw_cells.specs.Rows.{has_row}
 use Rattle.raw_ring.specs.Rings.{or_zero, spot}
 use Rattle.arena_rows.specs.ring_spots.Spots.{labelled, ring}
+use Rattle.arena_rows.specs.ring_spots.Labels.{has_label}
 use Rattle.arena_rows.proofs.ring_spots_laws.RingMaps.{live_known}
 use Rattle.arena_rows.proofs.ring_spots_laws.LabelLaws.{labelled-apart, relabelled-apart}
 use Rattle.arena_rows.proofs.ring_spots.parts.give_label.Goals as goal
@@ -10,16 +10,13 @@ pub hand_over-requires-clause-code : goal.hand_over-requires-clause-code
 hand_over-requires-clause-code c = c.requires.table.codes_there _ (live_known _ _ c.requires.b_there)
 
 pub hand_over-requires-clause-label : goal.hand_over-requires-clause-label
-hand_over-requires-clause-label c = subst (λ n. has_row c.args.labels.now n ≡ true) (ap or_zero c.label.ensures) (c.requires.table.labels_there _ c.requires.b_there)
+hand_over-requires-clause-label c = subst (λ n. has_label c.args.labels.now n ≡ true) (ap or_zero c.label.ensures) (c.requires.table.labels_there _ c.requires.b_there)
 
 pub hand_over-requires-clause-holder : goal.hand_over-requires-clause-holder
-hand_over-requires-clause-holder c = c.requires.table.owners.holder_there _ (subst (λ n. has_row c.args.labels.now n ≡ true) (ap or_zero c.label.ensures) (c.requires.table.labels_there _ c.requires.b_there))
+hand_over-requires-clause-holder c = c.requires.table.owners.holder_there _ (subst (λ n. has_label c.args.labels.now n ≡ true) (ap or_zero c.label.ensures) (c.requires.table.labels_there _ c.requires.b_there))
 
 pub hand_over-requires-clause-own : goal.hand_over-requires-clause-own
 hand_over-requires-clause-own c = c.requires.table.owners.own_there _ (c.requires.table.codes_there _ (live_known _ _ c.requires.b_there))
-
-pub own-requires : goal.own-requires
-own-requires c = ap (λ (t : ℕ → Bool). t c.args.part) c.hand_over.ensures.there ∙ c.requires.table.codes_there c.args.part (live_known _ _ c.requires.a_there)
 
 pub returns-clause-whole : goal.returns-clause-whole
 returns-clause-whole c =
