@@ -6,9 +6,9 @@ use Rattle.arena_rows.specs.declared.owner_chains.rows.Head.{Head}
 use Rattle.arena_rows.specs.declared.owner_chains.rows.Link.{Link}
 use Rattle.arena_rows.specs.owner_chains.Owners as owners
 use Rattle.arena_rows.specs.owner_chains.Owners.{owned, is_owner}
-use Rattle.arena_rows.specs.owner_chains.Chains.{AreChained, IsAbove, IsBelow, items, is_of, link_at, owner_in, head_at, linked_in, relinked, gained, owners_of, follower, view_of}
+use Rattle.arena_rows.specs.owner_chains.Chains.{AreChained, IsAbove, IsBelow, items, is_of, link_at, owner_in, head_at, linked_in, relinked, gained, owners_of, view_of}
 use Rattle.arena_rows.proofs.owner_chains_laws.Order.{IsPlace, above_same, below_same, between, above_new, above_previous, above_other, below_new, below_next, below_other}
-use Rattle.arena_rows.proofs.owner_chains_laws.Following.{owner_is, follower_above}
+use Rattle.arena_rows.proofs.owner_chains_laws.Following.{owner_is}
 use Rattle.arena_rows.proofs.owner_chains_laws.Linking.{same_link, IsRelinked, relinked_row, owner_in-relinked, none_relinked, is_of-owner_in}
 use Rattle.arena_rows.proofs.owner_chains_laws.Tables.{owner_at, row_free, owners_of-put}
 use Rattle.arena_rows.proofs.owner_chains_laws.Counting.{owned-put, owned-put_other}
@@ -175,17 +175,17 @@ module _ (heads heads' : List (Option Head)) (links links' : List (Option Link))
   put_is = λ i. record { owner_of = table_is i; owners_end = c.head_len i; items_end = c.len i }
 
 -- the new item, put between the one below it and the one that follows that
-pub coming : (heads heads' : List (Option Head)) (links links' : List (Option Link)) (o n p q : ℕ) → AreChained heads links → n ≢ 0 → get (owners_of links) n ≡ None → o < length heads → IsBelow (items links o) n p → q ≡ follower heads links o p →
+pub coming : (heads heads' : List (Option Head)) (links links' : List (Option Link)) (o n p q : ℕ) → AreChained heads links → n ≢ 0 → get (owners_of links) n ≡ None → o < length heads → IsBelow (items links o) n p → IsAbove (items links o) p q →
     ((k : ℕ) → link_at links' k ≡ linked_in n (record { owner = o; previous = p; next = q }) k (link_at links k)) → length links' ≡ length links →
     ((k : ℕ) → head_at heads' k ≡ cond (nat_eq k o) (gained n (record { owner = o; previous = p; next = q }) (head_at heads o)) (head_at heads k)) → length heads' ≡ length heads →
     Comes heads heads' links links' n (record { owner = o; previous = p; next = q })
-coming heads heads' links links' o n p q are some free reached below follows rows len head_rows head_len = record {
+coming heads heads' links links' o n p q are some free reached below next rows len head_rows head_len = record {
   are = are;
   some = some;
   free = row_free links n free;
   reached = reached;
   below = below;
-  next = subst (IsAbove (items links o) p) (sym follows) (follower_above heads links are o p (λ h. (below.found h).1));
+  next = next;
   rows = rows;
   len = len;
   head_rows = head_rows;

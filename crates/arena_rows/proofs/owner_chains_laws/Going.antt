@@ -8,7 +8,7 @@ use Rattle.arena_rows.specs.owner_chains.Owners as owners
 use Rattle.arena_rows.specs.owner_chains.Owners.{owned, is_owner}
 use Rattle.arena_rows.specs.owner_chains.Chains.{AreChained, IsAbove, IsBelow, items, is_of, link_at, owner_in, head_at, linked_out, relinked, lost, owners_of, view_of}
 use Rattle.arena_rows.proofs.owner_chains_laws.Order.{above_same, below_same, above_joined, above_left, below_joined, below_left}
-use Rattle.arena_rows.proofs.owner_chains_laws.Following.{owner_is}
+use Rattle.arena_rows.proofs.owner_chains_laws.Following.{owner_is, item_row}
 use Rattle.arena_rows.proofs.owner_chains_laws.Linking.{IsRelinked, relinked_row, owner_in-relinked, none_relinked, is_of-owner_in}
 use Rattle.arena_rows.proofs.owner_chains_laws.Tables.{owner_at, owners_of-remove}
 use Rattle.arena_rows.proofs.owner_chains_laws.Counting.{owned-remove, owned-remove_other}
@@ -24,6 +24,12 @@ pub record Goes (heads heads' : List (Option Head)) (links links' : List (Option
 -- an item's owner counts it
 pub counted : (heads : List (Option Head)) (links : List (Option Link)) (n : ℕ) (old : Link) → AreChained heads links → link_at links n ≡ Some old → (head_at heads old.owner).count ≡ length (owned old.owner (remove (owners_of links) n)) + 1
 counted heads links n old are there = are.counts old.owner ∙ owned-remove (owners_of links) n old.owner (owner_at links n ∙ ap owner_in there)
+
+-- an owner that counts none has none
+pub no_items : (heads : List (Option Head)) (links : List (Option Link)) → AreChained heads links → (o : ℕ) → (head_at heads o).count ≡ 0 → (k : ℕ) → items links o k ≡ true → ⊥
+no_items heads links are o none k there =
+    let row = item_row links o k there in
+    let some = counted heads links k row.link are row.here in omega (arith, none, some, ap (λ w. (head_at heads w).count) row.owner)
 
 module _ (heads heads' : List (Option Head)) (links links' : List (Option Link)) (n : ℕ) (old : Link) (c : Goes heads heads' links links' n old) where
   abbrev o : ℕ

@@ -1,9 +1,10 @@
 -- What becomes of a row where two items are led elsewhere.
-use Rattle.std.proofs.Common.{◌≡◌, ◌≢◌, ℕ, Bool, true, false, cond, nat_eq, Option, Some, None, refl, sym, ap}
+use Rattle.std.proofs.Common.{◌≡◌, ◌≢◌, ℕ, Bool, true, false, cond, nat_eq, List, Option, Some, None, is_some, refl, sym, ap, ◌∙◌, inl, inr}
+use Rattle.std.proofs.lemmas.Bool.Decides.{eqb_tells}
 use Rattle.std.proofs.lemmas.Bool.{eqb-true, eqb-false}
 use Rattle.arena_rows.specs.declared.owner_chains.rows.Link.{Link}
 use Rattle.arena_rows.specs.owner_chains.Owners.{is_owner}
-use Rattle.arena_rows.specs.owner_chains.Chains.{owner_in, is_of, leading_on, leading_back, relinked}
+use Rattle.arena_rows.specs.owner_chains.Chains.{link_at, owner_in, is_of, leading_on, leading_back, relinked}
 
 pub same_link : (x y : Link) → Some x ≡ Some y → x ≡ y
 same_link x y e = cc
@@ -90,3 +91,30 @@ module _ (a x b y q : ℕ) where
 pub is_of-owner_in : (o : ℕ) (row : Option Link) → is_of o row ≡ is_owner o (owner_in row)
 is_of-owner_in o None = refl
 is_of-owner_in o (Some link) = refl
+
+-- an item that is led elsewhere, where f says how
+pub led_row : (f : Option Link → Option Link) (links new : List (Option Link)) (n : ℕ) (old row : Link) → link_at links n ≡ Some old → Some row ≡ f (Some old) → ((q : ℕ) → link_at new q ≡ cond (nat_eq q n) (Some row) (link_at links q)) → (q : ℕ) →
+    link_at new q ≡ cond (nat_eq q n) (f (link_at links q)) (link_at links q)
+led_row f links new n old row here is rows q = rows q ∙ (elim (eqb_tells q n) [
+  | inl p ↦ ap (λ b. cond b (Some row) (link_at links q)) p.0 ∙ is ∙ ap f (sym here ∙ ap (link_at links) (sym p.1)) ∙ sym (ap (λ b. cond b (f (link_at links q)) (link_at links q)) p.0)
+  | inr p ↦ ap (λ b. cond b (Some row) (link_at links q)) p.0 ∙ sym (ap (λ b. cond b (f (link_at links q)) (link_at links q)) p.0)
+])
+
+-- and where there is none
+pub led_none : (f : Option Link → Option Link) (links : List (Option Link)) (n : ℕ) → f None ≡ None → link_at links 0 ≡ None → n ≡ 0 → (q : ℕ) → link_at links q ≡ cond (nat_eq q n) (f (link_at links q)) (link_at links q)
+led_none f links n none zero is q = elim (eqb_tells q n) [
+  | inl p ↦ let gone : link_at links q ≡ None = ap (link_at links) (p.1 ∙ is) ∙ zero in gone ∙ sym none ∙ ap f (sym gone) ∙ sym (ap (λ b. cond b (f (link_at links q)) (link_at links q)) p.0)
+  | inr p ↦ sym (ap (λ b. cond b (f (link_at links q)) (link_at links q)) p.0)
+]
+
+-- where a row is led elsewhere, no row comes or goes
+pub led_there : (f : Option Link → Option Link) (links new : List (Option Link)) (n : ℕ) → ((row : Option Link) → is_some (f row) ≡ is_some row) → ((q : ℕ) → link_at new q ≡ cond (nat_eq q n) (f (link_at links q)) (link_at links q)) → (q : ℕ) →
+    is_some (link_at new q) ≡ is_some (link_at links q)
+led_there f links new n keeps rows q = ap is_some (rows q) ∙ (elim (nat_eq q n) as (λ b. is_some (cond b (f (link_at links q)) (link_at links q)) ≡ is_some (link_at links q)) [ true ↦ keeps (link_at links q) | false ↦ refl ])
+
+pub on_there : (to : ℕ) (row : Option Link) → is_some (leading_on to row) ≡ is_some row
+on_there to None = refl
+on_there to (Some link) = refl
+
+pub zero_led : (f : Option Link → Option Link) (links new : List (Option Link)) (n : ℕ) → f None ≡ None → ((q : ℕ) → link_at new q ≡ cond (nat_eq q n) (f (link_at links q)) (link_at links q)) → link_at links 0 ≡ None → link_at new 0 ≡ None
+zero_led f links new n none rows zero = rows 0 ∙ (elim (nat_eq 0 n) as (λ b. cond b (f (link_at links 0)) (link_at links 0) ≡ None) [ true ↦ ap f zero ∙ none | false ↦ zero ])

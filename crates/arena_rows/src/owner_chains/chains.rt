@@ -3,8 +3,8 @@ ghost use Rattle.std.specs.Prelude.{◌≡◌, ◌≢◌, ◌<◌, ◌≤◌, tr
 ghost use Rattle.boundary_model.specs.Table.{get, has};
 ghost use Rattle.arena_rows.specs.owner_chains.Owners.{no_owners, put, take, owned, IsNextItem, OwnersHaveGrown};
 
-use crate::owner_chains::places::{above, below};
-use crate::owner_chains::rows::{Head, Link, follower, gain, head_of, link_in, link_out, lose};
+use crate::owner_chains::places::{above, place_of};
+use crate::owner_chains::rows::{Head, Link, gain, head_of, link_in, link_out, lose};
 use raw_cells::Rows;
 use std::alloc::{AllocError, Global};
 use std::marker::Model;
@@ -74,15 +74,15 @@ impl Chains {
         requires free { get self.old.owner_of n ≡ None }
         ensures { self.new ≡ put self.old n owner }
     {
-        let previous = below(&self.heads, &self.links, owner, n);
-        let next = follower(&self.heads, &self.links, owner, previous);
+        let head = head_of(&self.heads, owner);
+        let place = place_of(&self.heads, &self.links, owner, head, n);
         let new = Link {
             owner,
-            previous,
-            next,
+            previous: place.previous,
+            next: place.next,
         };
         link_in(&mut self.links, n, new);
-        gain(&mut self.heads, n, new);
+        gain(&mut self.heads, n, new, head);
     }
 
     /// Item n goes, which is there. The finger moves to a neighbour. It walks over nothing.

@@ -1,9 +1,18 @@
 //! The place of a number among an owner's items.
 ghost use Rattle.std.specs.Prelude.{◌≡◌, ◌≢◌, ◌<◌, true, false, length};
-ghost use Rattle.arena_rows.specs.owner_chains.Chains.{AreChained, IsAbove, IsBelow, IsClear, LeadBack, TellsPlace, items};
+ghost use Rattle.arena_rows.specs.owner_chains.Chains.{AreChained, IsAbove, IsBelow, IsClear, LeadBack, TellsPlace, head_at, items};
 
 use crate::owner_chains::rows::{Head, Link, follower, head_of};
 use raw_cells::Rows;
+
+/// Two items of an owner, or 0, between which a number stands.
+#[derive(Clone, Copy)]
+pub(crate) struct Place {
+    /// The greatest item below the number, or 0.
+    pub(crate) previous: u32,
+    /// The least item above that one, or 0.
+    pub(crate) next: u32,
+}
 
 /// Whether n is an item of an owner.
 fn is_item(links: &Rows<Link>, owner: u32, n: u32) -> bool
@@ -74,6 +83,59 @@ pub(crate) fn below(heads: &Rows<Head>, links: &Rows<Link>, owner: u32, n: u32) 
         m = next;
     }
     0
+}
+
+/// The place of n among an owner's items; n is none of them. One step where the owner has none, or where n comes right after the
+/// finger, else the search from three sides.
+pub(crate) fn place_of(
+    heads: &Rows<Head>,
+    links: &Rows<Link>,
+    owner: u32,
+    head: Head,
+    n: u32,
+) -> Place
+    requires chained { AreChained heads.now links.now }
+    requires head { head ≡ head_at heads.now owner }
+    requires some { n ≢ 0 }
+    requires within { n < length links.now }
+    requires free { items links.now owner n ≡ false }
+    ensures below { IsBelow (items links.now owner) n result.previous }
+    ensures next { IsAbove (items links.now owner) result.previous result.next }
+{
+    if head.count == 0 {
+        return Place {
+            previous: 0,
+            next: 0,
+        };
+    }
+    if head.finger == 0 || head.finger > n {
+        return search(heads, links, owner, n);
+    }
+    let next = links.known(head.finger).next;
+    if next != 0 && next < n {
+        return search(heads, links, owner, n);
+    }
+    Place {
+        previous: head.finger,
+        next,
+    }
+}
+
+/// The place of n among an owner's items, wherever the finger is.
+#[inline(never)]
+fn search(heads: &Rows<Head>, links: &Rows<Link>, owner: u32, n: u32) -> Place
+    requires chained { AreChained heads.now links.now }
+    requires some { n ≢ 0 }
+    requires within { n < length links.now }
+    requires free { items links.now owner n ≡ false }
+    ensures below { IsBelow (items links.now owner) n result.previous }
+    ensures next { IsAbove (items links.now owner) result.previous result.next }
+{
+    let previous = below(heads, links, owner, n);
+    Place {
+        previous,
+        next: follower(heads, links, owner, previous),
+    }
 }
 
 /// The least item of an owner above n, or 0. One step where n is 0, an item of the owner or past the rows, else the search for the

@@ -1,5 +1,5 @@
 //! The rows of owners and of items.
-ghost use Rattle.std.specs.Prelude.{◌≡◌, ℕ, ◌<◌, ◌≤◌, cond, nat_eq, length};
+ghost use Rattle.std.specs.Prelude.{◌≡◌, ◌≢◌, ℕ, ◌<◌, ◌≤◌, cond, nat_eq, length, None, IsSome};
 ghost use Rattle.arena_rows.specs.owner_chains.Chains.{head_at, link_at, follower, leading_on, leading_back, linked_in, linked_out, gained, lost};
 
 use raw_cells::Rows;
@@ -61,40 +61,51 @@ pub(crate) fn follower(heads: &Rows<Head>, links: &Rows<Link>, owner: u32, n: u3
     }
 }
 
-/// Makes item n lead on to another one. Nothing changes where n isn't there.
+/// Makes item n lead on to another one. Nothing changes where n is 0.
 fn lead_on(links: &mut Rows<Link>, n: u32, to: u32)
+    requires zero { link_at links.old 0 ≡ None }
+    requires there { n ≢ 0 → IsSome (link_at links.old n) }
     ensures rows { (q : ℕ) → link_at links.new q ≡ cond (nat_eq q n) (leading_on to (link_at links.old q)) (link_at links.old q) }
     ensures len { length links.new ≡ length links.old }
 {
-    if let Some(old) = links.find(n) {
-        let row = Link {
-            owner: old.owner,
-            previous: old.previous,
-            next: to,
-        };
-        links.set(n, row);
+    if n == 0 {
+        return;
     }
+    let old = links.known(n);
+    let row = Link {
+        owner: old.owner,
+        previous: old.previous,
+        next: to,
+    };
+    links.set(n, row);
 }
 
-/// Makes item n lead back to another one. Nothing changes where n isn't there.
+/// Makes item n lead back to another one. Nothing changes where n is 0.
 fn lead_back(links: &mut Rows<Link>, n: u32, to: u32)
+    requires zero { link_at links.old 0 ≡ None }
+    requires there { n ≢ 0 → IsSome (link_at links.old n) }
     ensures rows { (q : ℕ) → link_at links.new q ≡ cond (nat_eq q n) (leading_back to (link_at links.old q)) (link_at links.old q) }
     ensures len { length links.new ≡ length links.old }
 {
-    if let Some(old) = links.find(n) {
-        let row = Link {
-            owner: old.owner,
-            previous: to,
-            next: old.next,
-        };
-        links.set(n, row);
+    if n == 0 {
+        return;
     }
+    let old = links.known(n);
+    let row = Link {
+        owner: old.owner,
+        previous: to,
+        next: old.next,
+    };
+    links.set(n, row);
 }
 
 /// Puts item n into the chain, between the two to which it leads.
 #[tactic(auto, unfolding(crate::specs::owner_chains::Chains::linked_in))]
 pub(crate) fn link_in(links: &mut Rows<Link>, n: u32, new: Link)
-    requires { n < length links.old }
+    requires within { n < length links.old }
+    requires zero { link_at links.old 0 ≡ None }
+    requires previous { new.previous ≢ 0 → IsSome (link_at links.old new.previous) }
+    requires next { new.next ≢ 0 → IsSome (link_at links.old new.next) }
     ensures rows { (q : ℕ) → link_at links.new q ≡ linked_in n new q (link_at links.old q) }
     ensures len { length links.new ≡ length links.old }
 {
@@ -106,7 +117,10 @@ pub(crate) fn link_in(links: &mut Rows<Link>, n: u32, new: Link)
 /// Takes item n out of the chain: the two to which it leads then lead to each other.
 #[tactic(auto, unfolding(crate::specs::owner_chains::Chains::linked_out))]
 pub(crate) fn link_out(links: &mut Rows<Link>, n: u32, old: Link)
-    requires { n < length links.old }
+    requires within { n < length links.old }
+    requires zero { link_at links.old 0 ≡ None }
+    requires previous { old.previous ≢ 0 → IsSome (link_at links.old old.previous) }
+    requires next { old.next ≢ 0 → IsSome (link_at links.old old.next) }
     ensures rows { (q : ℕ) → link_at links.new q ≡ linked_out n old q (link_at links.old q) }
     ensures len { length links.new ≡ length links.old }
 {
@@ -115,20 +129,24 @@ pub(crate) fn link_out(links: &mut Rows<Link>, n: u32, old: Link)
     links.take(n);
 }
 
-/// Gives an owner a new item n, which is in the chain.
-pub(crate) fn gain(heads: &mut Rows<Head>, n: u32, new: Link)
+/// Gives an owner a new item n, which is in the chain, and says so in what the owner has.
+pub(crate) fn gain(heads: &mut Rows<Head>, n: u32, new: Link, old: Head)
+    requires old { old ≡ head_at heads.old new.owner }
     requires there { new.owner < length heads.old }
     requires limit { (head_at heads.old new.owner).count ≤ 1000001 }
     ensures rows { (q : ℕ) → head_at heads.new q ≡ cond (nat_eq q new.owner) (gained n new (head_at heads.old new.owner)) (head_at heads.old q) }
     ensures len { length heads.new ≡ length heads.old }
 {
-    let old = head_of(heads, new.owner);
     let head = Head {
         count: old.count + 1,
         first: if new.previous == 0 { n } else { old.first },
         finger: n,
     };
-    heads.put(new.owner, head);
+    if old.count == 0 {
+        heads.put(new.owner, head);
+    } else {
+        heads.set(new.owner, head);
+    }
 }
 
 /// Takes an item from its owner.

@@ -1,0 +1,10 @@
+use Rattle.std.proofs.Common.{refl, ◌∙◌}
+use Rattle.arena_rows.specs.owner_chains.Chains.{leading_on}
+use Rattle.arena_rows.proofs.owner_chains_laws.Linking.{led_there, on_there, zero_led}
+use Rattle.arena_rows.proofs.owner_chains.rows.link_in.Goals as goal
+
+pub lead_back-requires-clause-zero : goal.lead_back-requires-clause-zero
+lead_back-requires-clause-zero c = zero_led (leading_on c.args.n) _ _ _ refl c.lead_on.ensures.rows c.requires.zero
+
+pub lead_back-requires-clause-there : goal.lead_back-requires-clause-there
+lead_back-requires-clause-there c = λ some. led_there (leading_on c.args.n) _ _ _ (on_there c.args.n) c.lead_on.ensures.rows _ ∙ c.requires.next some
