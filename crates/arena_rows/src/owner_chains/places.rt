@@ -150,6 +150,5 @@ pub(crate) fn above(heads: &Rows<Head>, links: &Rows<Link>, owner: u32, n: u32) 
     if !links.reaches(n) {
         return 0;
     }
-    let place = below(heads, links, owner, n);
-    follower(heads, links, owner, place)
+    search(heads, links, owner, n).next
 }
