@@ -1,5 +1,6 @@
 //! The table of labels: which code owns each, and for which loop it stands.
-ghost use Rattle.std.specs.Prelude.{◌≡◌, ℕ, ◌≤◌, true, cond, nat_eq, OnOk};
+ghost use Rattle.std.specs.Prelude.{◌≡◌, ℕ, ◌≤◌, true, cond, nat_eq, length, Some, OnOk};
+ghost use Rattle.raw_cells.specs.Rows.{row_at};
 ghost use Rattle.arena_rows.specs.ring_spots.Labels.{row_of, has_label, own, holder, loop_at, HaveNewLabels};
 
 use raw_cells::Rows;
@@ -29,6 +30,20 @@ fn row_of(labels: &Rows<Label>, n: u32) -> Label
             holder: n,
             loop_number: 0,
         },
+    }
+}
+
+/// Writes row n. Where it is there already, that its number is in use needn't be noted.
+#[inline]
+fn write(labels: &mut Rows<Label>, n: u32, row: Label)
+    requires { has_label labels.old n ≡ true }
+    ensures rows { (q : ℕ) → row_at labels.new q ≡ cond (nat_eq q n) (Some row) (row_at labels.old q) }
+    ensures len { length labels.new ≡ length labels.old }
+{
+    if labels.has(n) {
+        labels.set(n, row);
+    } else {
+        labels.put(n, row);
     }
 }
 
@@ -66,7 +81,7 @@ pub(crate) fn stand_for(labels: &mut Rows<Label>, label: u32, l: u32)
         return;
     }
     row.loop_number = l;
-    labels.put(label, row);
+    write(labels, label, row);
 }
 
 /// Makes a code the owner of a label. The code that owned it gets the other one's label.
@@ -109,7 +124,7 @@ fn set_own(labels: &mut Rows<Label>, code: u32, label: u32)
 {
     let mut row = row_of(labels, code);
     row.own = label;
-    labels.put(code, row);
+    write(labels, code, row);
 }
 
 /// Writes the code that owns a label, and nothing else.
@@ -122,7 +137,7 @@ fn set_holder(labels: &mut Rows<Label>, label: u32, code: u32)
 {
     let mut row = row_of(labels, label);
     row.holder = code;
-    labels.put(label, row);
+    write(labels, label, row);
 }
 
 /// Makes the labels reach to a code. A new code owns the label of its own number.

@@ -1,0 +1,5 @@
+use Rattle.arena_rows.proofs.ring_spots_laws.LabelTables.{label_within}
+use Rattle.arena_rows.proofs.ring_spots.labels.write.Goals as goal
+
+pub put-requires : goal.put-requires
+put-requires c = label_within _ _ c.requires
