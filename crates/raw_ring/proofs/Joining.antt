@@ -1,158 +1,127 @@
--- The table of codes, by its places and labels.
---     row_at-joined, length-joined, has-joined, awake-joined      what is read
---     place_there, label_there      the place of a row, and the label of a live one
---     row_added, label_written, label_gone      a place and a label that are written
---     joined_set, joined_added, joined_reached      the tie of the two
-use Rattle.std.proofs.Common.{◌≡◌, ◌≢◌, ℕ, zero, suc, ◌<◌, ◌≤◌, Bool, true, false, cond, List, [], ◌∷◌, length, set, Option, Some, None, IsSome, is_some, Result, Ok, Err, OnOk, refl, sym, ap, ◌∙◌, subst, arith, nat_eq, inl, inr, true≢false}
-use Rattle.std.proofs.lemmas.Option.{same_Some}
+-- The table of codes, by its columns.
+--     row_at-joined, length-joined, has-joined, next-joined      what is read
+--     place_there, label_there, live_there, lies_at, has_label      the parts of a row
+--     changed      one row is written;  column_here, column_other      one column
+--     joined_reached, rows_reached, ok_more      the columns reach further
+use Rattle.std.proofs.Common.{◌≡◌, ◌≢◌, ℕ, zero, suc, ◌<◌, ◌≤◌, Bool, true, false, cond, List, [], ◌∷◌, length, set, Option, Some, None, IsSome, is_some, Result, Ok, Err, OnOk, refl, sym, ap, ◌∙◌, subst, arith, nat_eq, inl, inr, true≢false, eq-eqb, ne_eqb}
 use Rattle.std.proofs.lemmas.Bool.Decides.{eqb_tells}
 use Rattle.raw_cells.specs.Numbers.{IsNext}
 use Rattle.raw_cells.specs.Rows.{row_at, has_row}
 use Rattle.raw_ring.specs.declared.node.NodePtr.{NodePtr}
 use Rattle.raw_ring.specs.declared.row.Row.{Row}
 use Rattle.raw_ring.specs.Rings.{or_zero}
-use Rattle.raw_ring.specs.Table.{is_awake, LiesAt, HasLabel, woken, asleep, relabelled}
-use Rattle.raw_ring.specs.Joined.{with_label, joined, AreJoined}
+use Rattle.raw_ring.specs.Table.{LiesAt, HasLabel}
+use Rattle.raw_ring.specs.Joined.{or_false, marks, with_marks, joined, AreJoined}
 use Rattle.raw_ring.proofs.Mapping.{rows_written, row_within}
 use Rattle.raw_ring.proofs.Pointers.{some_of}
 
 abbrev Places : Type 0
 Places = List (Option NodePtr)
 
-abbrev Labels : Type 0
-Labels = List (Option ℕ)
+row_at_from : (ps : Places) (m : ℕ → ℕ × Bool) (q : ℕ) → row_at (joined ps m) q ≡ with_marks (row_at ps q) (m q)
+row_at_from [] m q = refl
+row_at_from (p ∷ ps) m zero = refl
+row_at_from (p ∷ ps) m (suc q) = row_at_from ps (λ k. m (suc k)) q
 
-row_at_from : (ps : Places) (f : ℕ → Option ℕ) (q : ℕ) → row_at (joined ps f) q ≡ with_label (row_at ps q) (f q)
-row_at_from [] f q = refl
-row_at_from (p ∷ ps) f zero = refl
-row_at_from (p ∷ ps) f (suc q) = row_at_from ps (λ k. f (suc k)) q
+length_from : (ps : Places) (m : ℕ → ℕ × Bool) → length (joined ps m) ≡ length ps
+length_from [] m = refl
+length_from (p ∷ ps) m = omega (arith, length_from ps (λ k. m (suc k)))
 
-length_from : (ps : Places) (f : ℕ → Option ℕ) → length (joined ps f) ≡ length ps
-length_from [] f = refl
-length_from (p ∷ ps) f = omega (arith, length_from ps (λ k. f (suc k)))
+some_with : (p : Option NodePtr) (m : ℕ × Bool) → is_some (with_marks p m) ≡ is_some p
+some_with None m = refl
+some_with (Some p) m = refl
 
-pub row_at-joined : (ps : Places) (ls : Labels) (q : ℕ) → row_at (joined ps (row_at ls)) q ≡ with_label (row_at ps q) (row_at ls q)
-row_at-joined ps ls q = row_at_from ps (row_at ls) q
+-- a column in which one row is written
+pub column_here : {X : Type 0} (xs new : List (Option X)) (c : ℕ) (x : X) → ((q : ℕ) → row_at new q ≡ cond (nat_eq q c) (Some x) (row_at xs q)) → row_at new c ≡ Some x
+column_here xs new c x is = is c ∙ ap (λ b. cond b (Some x) (row_at xs c)) (eq-eqb c c refl)
 
-pub length-joined : (ps : Places) (ls : Labels) → length (joined ps (row_at ls)) ≡ length ps
-length-joined ps ls = length_from ps (row_at ls)
+pub column_other : {X : Type 0} (xs new : List (Option X)) (c : ℕ) (x : X) → ((q : ℕ) → row_at new q ≡ cond (nat_eq q c) (Some x) (row_at xs q)) → (q : ℕ) → q ≢ c → row_at new q ≡ row_at xs q
+column_other xs new c x is q ne = is q ∙ ap (λ b. cond b (Some x) (row_at xs q)) (ne_eqb q c ne)
 
-some_with : (p : Option NodePtr) (l : Option ℕ) → is_some (with_label p l) ≡ is_some p
-some_with None l = refl
-some_with (Some p) l = refl
+-- a row that was there is there
+pub column_there : {X : Type 0} (xs new : List (Option X)) (c : ℕ) (x : X) → ((q : ℕ) → row_at new q ≡ cond (nat_eq q c) (Some x) (row_at xs q)) → (q : ℕ) → has_row xs q ≡ true → has_row new q ≡ true
+column_there xs new c x is q h = ap is_some (is q) ∙ (elim (nat_eq q c) as (λ b. is_some (cond b (Some x) (row_at xs q)) ≡ true) [ true ↦ refl | false ↦ h ])
 
-pub has-joined : (ps : Places) (ls : Labels) (q : ℕ) → has_row (joined ps (row_at ls)) q ≡ has_row ps q
-has-joined ps ls q = ap is_some (row_at-joined ps ls q) ∙ some_with (row_at ps q) (row_at ls q)
+-- where a row is written in both, one of the first column has its row in the second
+pub column_with : {X Y : Type 0} (xs xs' : List (Option X)) (ys ys' : List (Option Y)) (c : ℕ) (x : X) (y : Y) (k : ℕ) → ((q : ℕ) → row_at xs' q ≡ cond (nat_eq q c) (Some x) (row_at xs q)) → ((q : ℕ) → row_at ys' q ≡ cond (nat_eq q c) (Some y) (row_at ys q)) →
+    (has_row xs k ≡ true → has_row ys k ≡ true) → has_row xs' k ≡ true → has_row ys' k ≡ true
+column_with xs xs' ys ys' c x y k in_first in_second with h = ap is_some (in_second k) ∙ (elim (nat_eq k c) as (λ b. is_some (cond b (Some x) (row_at xs k)) ≡ true → is_some (cond b (Some y) (row_at ys k)) ≡ true) [
+  | true ↦ λ _. refl
+  | false ↦ with
+]) (sym (ap is_some (in_first k)) ∙ h)
 
--- the least code above another
-pub next-joined : (ps : Places) (ls : Labels) (n : ℕ) (o : Option ℕ) → IsNext (has_row ps) n o → IsNext (has_row (joined ps (row_at ls))) n o
-next-joined ps ls n o h = let same : has_row ps ≡ has_row (joined ps (row_at ls)) = λ i q. sym (has-joined ps ls q) i in subst (λ f. IsNext f n o) same h
-
-pub joined_none : AreJoined [] []
-joined_none = record { reach = omega arith; placed = λ k h. absurd (true≢false (sym h)) }
-
-awake_with : (p : Option NodePtr) (l : Option ℕ) → (is_some l ≡ true → is_some p ≡ true) → is_awake (with_label p l) ≡ is_some l
-awake_with (Some p) l placed = refl
-awake_with None None placed = refl
-awake_with None (Some l) placed = placed refl
-
-pub awake-joined : (ps : Places) (ls : Labels) → AreJoined ps ls → (q : ℕ) → is_awake (row_at (joined ps (row_at ls)) q) ≡ has_row ls q
-awake-joined ps ls J q = ap is_awake (row_at-joined ps ls q) ∙ awake_with (row_at ps q) (row_at ls q) (J.placed q)
-
-pub found_none : (ps : Places) (ls : Labels) (q : ℕ) → row_at ps q ≡ None → None ≡ row_at (joined ps (row_at ls)) q
-found_none ps ls q e = sym (row_at-joined ps ls q ∙ ap (λ o. with_label o (row_at ls q)) e)
-
-pub found_row : (ps : Places) (ls : Labels) (q : ℕ) (at : NodePtr) (l : Option ℕ) → row_at ps q ≡ Some at → row_at ls q ≡ l → with_label (Some at) l ≡ row_at (joined ps (row_at ls)) q
-found_row ps ls q at l e f = sym (row_at-joined ps ls q ∙ (λ i. with_label (e i) (f i)))
-
-with_at : (o : Option NodePtr) (l : Option ℕ) (at : NodePtr) → LiesAt (with_label o l) at → with_label o l ≡ with_label (Some at) l
-with_at None l at h = absurd (true≢false (sym (ap is_some h.2)))
-with_at (Some p) l at h = ap (λ q. with_label (Some q) l) (ap (λ (r : Row). r.at) (same_Some _ _ h.2))
+pub joined_none : AreJoined [] [] []
+joined_none = record { reach_labels = omega arith; reach_lives = omega arith; labelled = λ k h. absurd (true≢false (sym h)); marked = λ k h. absurd (true≢false (sym h)) }
 
 pub ok_more : {X E : Type 0} (r : Result X E) (m n k l : ℕ) → m ≤ n → l ≡ k → OnOk r (n < k) → OnOk r (m < l)
 ok_more (Ok x) m n k l above same h = omega (arith, above, same, h)
 ok_more (Err e) m n k l above same h = tt
 
-module _ (ps : Places) (ls : Labels) (c : ℕ) where
-  pub row_read : (at : NodePtr) (l : Option ℕ) → LiesAt (row_at (joined ps (row_at ls)) c) at → row_at ls c ≡ l → row_at (joined ps (row_at ls)) c ≡ with_label (Some at) l
-  row_read at l h e = row_at-joined ps ls c ∙ with_at (row_at ps c) (row_at ls c) at (subst (λ o. LiesAt o at) (row_at-joined ps ls c) h) ∙ ap (with_label (Some at)) e
+module _ (ps : Places) (ls : List (Option ℕ)) (vs : List (Option Bool)) where
+  abbrev rows : List (Option Row)
+  rows = joined ps (marks ls vs)
 
-  pub place_there : IsSome (row_at (joined ps (row_at ls)) c) → IsSome (row_at ps c)
-  place_there h = sym (has-joined ps ls c) ∙ h
+  pub row_at-joined : (q : ℕ) → row_at rows q ≡ with_marks (row_at ps q) (marks ls vs q)
+  row_at-joined q = row_at_from ps (marks ls vs) q
 
-  pub lies_at : (at : NodePtr) → row_at ps c ≡ Some at → LiesAt (row_at (joined ps (row_at ls)) c) at
-  lies_at at e = (or_zero (row_at ls c), is_some (row_at ls c), sym (found_row ps ls c at (row_at ls c) e refl))
+  pub length-joined : length rows ≡ length ps
+  length-joined = length_from ps (marks ls vs)
 
-  pub label_there : AreJoined ps ls → is_awake (row_at (joined ps (row_at ls)) c) ≡ true → IsSome (row_at ls c)
-  label_there J h = sym (awake-joined ps ls J c) ∙ h
+  pub has-joined : (q : ℕ) → has_row rows q ≡ has_row ps q
+  has-joined q = ap is_some (row_at-joined q) ∙ some_with (row_at ps q) (marks ls vs q)
 
-  pub has_label : AreJoined ps ls → (l : ℕ) → row_at ls c ≡ Some l → HasLabel (row_at (joined ps (row_at ls)) c) l
-  has_label J l e = let at = some_of (row_at ps c) (J.placed c (ap is_some e)) in (at.0, sym (found_row ps ls c at.0 (Some l) at.1 e))
+  pub next-joined : (n : ℕ) (o : Option ℕ) → IsNext (has_row ps) n o → IsNext (has_row rows) n o
+  next-joined n o h = let same : has_row ps ≡ has_row rows = λ i q. sym (has-joined q) i in subst (λ f. IsNext f n o) same h
 
-  pub place_within : IsSome (row_at (joined ps (row_at ls)) c) → c < length ps
-  place_within h = let r = some_of (row_at (joined ps (row_at ls)) c) h in omega (arith, row_within _ c r.0 r.1, length-joined ps ls)
+  pub found_none : (q : ℕ) → row_at ps q ≡ None → None ≡ row_at rows q
+  found_none q e = sym (row_at-joined q ∙ ap (λ o. with_marks o (marks ls vs q)) e)
 
-  -- a label is written, or goes
-  module _ (ls' : Labels) (l : Option ℕ) (at : NodePtr) (placed : row_at ps c ≡ Some at) (is : (q : ℕ) → row_at ls' q ≡ cond (nat_eq q c) l (row_at ls q)) where
-    abbrev r' : Row
-    r' = record { at = at; label = or_zero l; live = is_some l }
+  pub found_row : (q : ℕ) (at : NodePtr) (l : ℕ) (v : Bool) → row_at ps q ≡ Some at → row_at ls q ≡ Some l → row_at vs q ≡ Some v → Some (record { at = at; label = l; live = v }) ≡ row_at rows q
+  found_row q at l v e f g = sym (row_at-joined q ∙ (λ i. with_marks (e i) (or_zero (f i), or_false (g i))))
 
-    written_at : (q : ℕ) → row_at (joined ps (row_at ls')) q ≡ cond (nat_eq q c) (Some r') (row_at (joined ps (row_at ls)) q)
-    written_at q = row_at-joined ps ls' q ∙ ap (with_label (row_at ps q)) (is q) ∙ (elim (eqb_tells q c) [
-      | inl p ↦ ap (λ b. with_label (row_at ps q) (cond b l (row_at ls q))) p.0 ∙ ap (λ o. with_label o l) (ap (row_at ps) p.1 ∙ placed) ∙ sym (ap (λ b. cond b (Some r') (row_at (joined ps (row_at ls)) q)) p.0)
-      | inr p ↦ ap (λ b. with_label (row_at ps q) (cond b l (row_at ls q))) p.0 ∙ sym (row_at-joined ps ls q) ∙ sym (ap (λ b. cond b (Some r') (row_at (joined ps (row_at ls)) q)) p.0)
-    ])
+  module _ (c : ℕ) where
+    pub place_there : IsSome (row_at rows c) → IsSome (row_at ps c)
+    place_there h = sym (has-joined c) ∙ h
 
-    pub label_written : joined ps (row_at ls') ≡ set (joined ps (row_at ls)) c (Some r')
-    label_written = rows_written _ _ c r' (row_within _ c _ (row_at-joined ps ls c ∙ ap (λ o. with_label o (row_at ls c)) placed)) (length-joined ps ls' ∙ sym (length-joined ps ls)) written_at
+    pub place_within : IsSome (row_at rows c) → c < length ps
+    place_within h = let r = some_of (row_at rows c) h in omega (arith, row_within rows c r.0 r.1, length-joined)
 
-    pub joined_written : AreJoined ps ls → length ls' ≡ length ls → AreJoined ps ls'
-    joined_written J len = record {
-      reach = omega (arith, J.reach, len);
-      placed = λ q h. elim (eqb_tells q c) [
-        | inl p ↦ ap is_some (ap (row_at ps) p.1 ∙ placed)
-        | inr p ↦ J.placed q (sym (ap is_some (is q ∙ ap (λ b. cond b l (row_at ls q)) p.0)) ∙ h)
-      ];
-    }
+    pub lies_at : (at : NodePtr) → row_at ps c ≡ Some at → LiesAt (row_at rows c) at
+    lies_at at e = (or_zero (row_at ls c), or_false (row_at vs c), row_at-joined c ∙ ap (λ o. with_marks o (marks ls vs c)) e)
 
-    before : row_at (joined ps (row_at ls)) c ≡ with_label (Some at) (row_at ls c)
-    before = sym (found_row ps ls c at (row_at ls c) placed refl)
+    pub has_label : IsSome (row_at rows c) → (l : ℕ) → row_at ls c ≡ Some l → HasLabel (row_at rows c) l
+    has_label h l e = let at = some_of (row_at ps c) (place_there h) in (at.0, or_false (row_at vs c), row_at-joined c ∙ (λ i. with_marks (at.1 i) (or_zero (e i), or_false (row_at vs c))))
 
-    pub row_changed : (f : Option Row → Option Row) → f (with_label (Some at) (row_at ls c)) ≡ Some r' → joined ps (row_at ls') ≡ set (joined ps (row_at ls)) c (f (row_at (joined ps (row_at ls)) c))
-    row_changed f e = label_written ∙ ap (set (joined ps (row_at ls)) c) (sym e ∙ ap f (sym before))
+    -- one row is written
+    pub changed : (ps' : Places) (ls' : List (Option ℕ)) (vs' : List (Option Bool)) (r : Row) → c < length ps → length ps' ≡ length ps → with_marks (row_at ps' c) (marks ls' vs' c) ≡ Some r →
+        ((q : ℕ) → q ≢ c → with_marks (row_at ps' q) (marks ls' vs' q) ≡ with_marks (row_at ps q) (marks ls vs q)) → joined ps' (marks ls' vs') ≡ set rows c (Some r)
+    changed ps' ls' vs' r within len here others =
+        rows_written rows (joined ps' (marks ls' vs')) c r (omega (arith, within, length-joined)) (length_from ps' (marks ls' vs') ∙ len ∙ sym length-joined)
+        (λ q. row_at_from ps' (marks ls' vs') q ∙ (elim (eqb_tells q c) [
+          | inl p ↦ ap (λ k. with_marks (row_at ps' k) (marks ls' vs' k)) p.1 ∙ here ∙ sym (ap (λ b. cond b (Some r) (row_at rows q)) p.0)
+          | inr p ↦ others q p.1 ∙ sym (row_at-joined q) ∙ sym (ap (λ b. cond b (Some r) (row_at rows q)) p.0)
+        ]))
 
-  -- a place is written
-  module _ (ps' : Places) (at : NodePtr) (J : AreJoined ps ls) (within : c < length (joined ps (row_at ls))) (none : row_at (joined ps (row_at ls)) c ≡ None) (is : (q : ℕ) → row_at ps' q ≡ cond (nat_eq q c) (Some at) (row_at ps q)) (len : length ps' ≡ length ps) where
-    abbrev new : Row
-    new = record { at = at; label = 0; live = false }
+    -- the marks of a place are written
+    pub marks_changed : (ls' : List (Option ℕ)) (vs' : List (Option Bool)) (f : Option Row → Option Row) (at : NodePtr) (r : Row) → row_at ps c ≡ Some at → f (with_marks (Some at) (marks ls vs c)) ≡ Some r → with_marks (Some at) (marks ls' vs' c) ≡ Some r →
+        ((q : ℕ) → q ≢ c → row_at ls' q ≡ row_at ls q) → ((q : ℕ) → q ≢ c → row_at vs' q ≡ row_at vs q) → joined ps (marks ls' vs') ≡ set rows c (f (row_at rows c))
+    marks_changed ls' vs' f at r placed was here same_labels same_lives =
+        let row_is : row_at rows c ≡ with_marks (Some at) (marks ls vs c) = row_at-joined c ∙ ap (λ o. with_marks o (marks ls vs c)) placed in
+        changed ps ls' vs' r (place_within (ap is_some row_is)) refl (ap (λ o. with_marks o (marks ls' vs' c)) placed ∙ here)
+        (λ q ne i. with_marks (row_at ps q) (or_zero (same_labels q ne i), or_false (same_lives q ne i)))
+        ∙ ap (set rows c) (sym was ∙ ap f (sym row_is))
 
-    no_label : row_at ls c ≡ None
-    no_label = none_of (row_at ls c) (sym (awake-joined ps ls J c) ∙ ap is_awake none) where
-      none_of : (o : Option ℕ) → is_some o ≡ false → o ≡ None
-      none_of None e = refl
-      none_of (Some l) e = absurd (true≢false e)
-
-    placed_at : (q : ℕ) → row_at (joined ps' (row_at ls)) q ≡ cond (nat_eq q c) (Some new) (row_at (joined ps (row_at ls)) q)
-    placed_at q = row_at-joined ps' ls q ∙ ap (λ o. with_label o (row_at ls q)) (is q) ∙ (elim (eqb_tells q c) [
-      | inl p ↦ ap (λ b. with_label (cond b (Some at) (row_at ps q)) (row_at ls q)) p.0 ∙ ap (with_label (Some at)) (ap (row_at ls) p.1 ∙ no_label) ∙ sym (ap (λ b. cond b (Some new) (row_at (joined ps (row_at ls)) q)) p.0)
-      | inr p ↦ ap (λ b. with_label (cond b (Some at) (row_at ps q)) (row_at ls q)) p.0 ∙ sym (row_at-joined ps ls q) ∙ sym (ap (λ b. cond b (Some new) (row_at (joined ps (row_at ls)) q)) p.0)
-    ])
-
-    pub row_added : joined ps' (row_at ls) ≡ set (joined ps (row_at ls)) c (Some new)
-    row_added = rows_written _ _ c new within (length-joined ps' ls ∙ len ∙ sym (length-joined ps ls)) placed_at
-
-    pub joined_added : AreJoined ps' ls
-    joined_added = record {
-      reach = omega (arith, J.reach, len);
-      placed = λ q h. ap is_some (is q) ∙ (elim (nat_eq q c) as (λ b. is_some (cond b (Some at) (row_at ps q)) ≡ true) [ true ↦ refl | false ↦ J.placed q h ]);
-    }
-
--- both reach further
-pub joined_reached : (ps ps' : Places) (ls ls' : Labels) → AreJoined ps ls → ((q : ℕ) → row_at ps' q ≡ row_at ps q) → ((q : ℕ) → row_at ls' q ≡ row_at ls q) → length ps' ≤ length ls' → AreJoined ps' ls'
-joined_reached ps ps' ls ls' J same_places same_labels reach = record {
-  reach = reach;
-  placed = λ q h. ap is_some (same_places q) ∙ J.placed q (sym (ap is_some (same_labels q)) ∙ h);
+-- all columns reach further
+pub joined_reached : (ps ps' : Places) (ls ls' : List (Option ℕ)) (vs vs' : List (Option Bool)) → AreJoined ps ls vs → ((q : ℕ) → row_at ps' q ≡ row_at ps q) → ((q : ℕ) → row_at ls' q ≡ row_at ls q) → ((q : ℕ) → row_at vs' q ≡ row_at vs q) →
+    length ps' ≤ length ls' → length ps' ≤ length vs' → AreJoined ps' ls' vs'
+joined_reached ps ps' ls ls' vs vs' J same_places same_labels same_lives reach_labels reach_lives = record {
+  reach_labels = reach_labels;
+  reach_lives = reach_lives;
+  labelled = λ q h. ap is_some (same_labels q) ∙ J.labelled q (sym (ap is_some (same_places q)) ∙ h);
+  marked = λ q h. ap is_some (same_lives q) ∙ J.marked q (sym (ap is_some (same_places q)) ∙ h);
 }
 
-pub rows_reached : (ps ps' : Places) (ls ls' : Labels) → ((q : ℕ) → row_at ps' q ≡ row_at ps q) → ((q : ℕ) → row_at ls' q ≡ row_at ls q) → (q : ℕ) → row_at (joined ps' (row_at ls')) q ≡ row_at (joined ps (row_at ls)) q
-rows_reached ps ps' ls ls' same_places same_labels q = row_at-joined ps' ls' q ∙ (λ i. with_label (same_places q i) (same_labels q i)) ∙ sym (row_at-joined ps ls q)
+pub rows_reached : (ps ps' : Places) (ls ls' : List (Option ℕ)) (vs vs' : List (Option Bool)) → ((q : ℕ) → row_at ps' q ≡ row_at ps q) → ((q : ℕ) → row_at ls' q ≡ row_at ls q) → ((q : ℕ) → row_at vs' q ≡ row_at vs q) →
+    (q : ℕ) → row_at (joined ps' (marks ls' vs')) q ≡ row_at (joined ps (marks ls vs)) q
+rows_reached ps ps' ls ls' vs vs' same_places same_labels same_lives q =
+    row_at-joined ps' ls' vs' q ∙ (λ i. with_marks (same_places q i) (or_zero (same_labels q i), or_false (same_lives q i))) ∙ sym (row_at-joined ps ls vs q)

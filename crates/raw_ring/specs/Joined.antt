@@ -1,20 +1,30 @@
--- The rows of codes, by the places of their nodes and the labels of those that are live.
-use Rattle.std.specs.Prelude.{◌≡◌, ℕ, suc, ◌≤◌, true, List, [], ◌∷◌, length, Option, Some, None, is_some}
-use Rattle.raw_cells.specs.Rows.{has_row}
+-- The rows of codes, by three columns: where their nodes lie, their labels, and which of them are live.
+use Rattle.std.specs.Prelude.{◌≡◌, ℕ, suc, ◌≤◌, Bool, true, false, List, [], ◌∷◌, length, Option, Some, None}
+use Rattle.raw_cells.specs.Rows.{row_at, has_row}
 use Rattle.raw_ring.specs.declared.node.NodePtr.{NodePtr}
 use Rattle.raw_ring.specs.declared.row.Row.{Row}
 use Rattle.raw_ring.specs.Rings.{or_zero}
 
--- the row of a place and of a label, which a live code has
-abbrev pub with_label : Option NodePtr → Option ℕ → Option Row
-with_label None label = None
-with_label (Some at) label = Some (record { at = at; label = or_zero label; live = is_some label })
+abbrev pub or_false : Option Bool → Bool
+or_false None = false
+or_false (Some b) = b
 
-abbrev pub joined : List (Option NodePtr) → (ℕ → Option ℕ) → List (Option Row)
-joined [] label = []
-joined (place ∷ places) label = with_label place (label 0) ∷ joined places (λ k. label (suc k))
+-- the label of code q, and whether it is live
+abbrev pub marks : List (Option ℕ) → List (Option Bool) → ℕ → ℕ × Bool
+marks labels lives q = (or_zero (row_at labels q), or_false (row_at lives q))
 
--- each label has its place
-pub record AreJoined (places : List (Option NodePtr)) (labels : List (Option ℕ)) : Type 0 where
-  pub reach : length places ≤ length labels
-  pub placed : (k : ℕ) → has_row labels k ≡ true → has_row places k ≡ true
+-- the row of a place and its marks
+abbrev pub with_marks : Option NodePtr → ℕ × Bool → Option Row
+with_marks None m = None
+with_marks (Some at) m = Some (record { at = at; label = m.0; live = m.1 })
+
+abbrev pub joined : List (Option NodePtr) → (ℕ → ℕ × Bool) → List (Option Row)
+joined [] m = []
+joined (place ∷ places) m = with_marks place (m 0) ∷ joined places (λ k. m (suc k))
+
+-- each place has its label, and is noted to be live or not
+pub record AreJoined (places : List (Option NodePtr)) (labels : List (Option ℕ)) (lives : List (Option Bool)) : Type 0 where
+  pub reach_labels : length places ≤ length labels
+  pub reach_lives : length places ≤ length lives
+  pub labelled : (k : ℕ) → has_row places k ≡ true → has_row labels k ≡ true
+  pub marked : (k : ℕ) → has_row places k ≡ true → has_row lives k ≡ true

@@ -3,18 +3,13 @@ use Rattle.std.specs.Prelude.{◌≡◌, ℕ, Bool, true, false, Option, Some, N
 use Rattle.raw_ring.specs.declared.node.NodePtr.{NodePtr}
 use Rattle.raw_ring.specs.declared.row.Row.{Row}
 
--- whether there is a row of a live code
-abbrev pub is_awake : Option Row → Bool
-is_awake None = false
-is_awake (Some r) = r.live
-
 -- there is a row, and its node lies there
 abbrev pub LiesAt : Option Row → NodePtr → Type 0
 LiesAt o at = (label : ℕ) × (live : Bool) × (o ≡ Some (record { at = at; label = label; live = live }))
 
--- there is a row of a live code with that label
+-- there is a row with that label
 abbrev pub HasLabel : Option Row → ℕ → Type 0
-HasLabel o label = (at : NodePtr) × (o ≡ Some (record { at = at; label = label; live = true }))
+HasLabel o label = (at : NodePtr) × (live : Bool) × (o ≡ Some (record { at = at; label = label; live = live }))
 
 -- the row with its code live and the label 0, asleep, and with another label
 abbrev pub woken : Option Row → Option Row
@@ -23,7 +18,7 @@ woken (Some r) = Some (record { at = r.at; label = 0; live = true })
 
 abbrev pub asleep : Option Row → Option Row
 asleep None = None
-asleep (Some r) = Some (record { at = r.at; label = 0; live = false })
+asleep (Some r) = Some (record { at = r.at; label = r.label; live = false })
 
 abbrev pub relabelled : ℕ → Option Row → Option Row
 relabelled l None = None

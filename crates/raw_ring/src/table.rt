@@ -2,7 +2,7 @@
 ghost use Rattle.std.specs.Prelude.{◌≡◌, ℕ, ◌<◌, ◌≤◌, [], true, false, Some, None, IsSome, length, set, OnOk};
 ghost use Rattle.raw_cells.specs.Rows.{row_at, has_row};
 ghost use Rattle.raw_cells.specs.Numbers.{IsNext};
-ghost use Rattle.raw_ring.specs.Table.{LiesAt, HasLabel, is_awake, woken, asleep, relabelled};
+ghost use Rattle.raw_ring.specs.Table.{LiesAt, HasLabel, woken, asleep, relabelled};
 
 use crate::node::NodePtr;
 use crate::row::Row;
@@ -18,12 +18,13 @@ const STEP: u32 = 64;
 
 /// The rows of the known codes.
 ///
-/// Labels stand apart from the places of nodes, and only those of live codes are there: so a row takes 12 bytes, and nothing in it
-/// says whether its code is live. Only `reach` takes memory.
+/// Where nodes lie, labels and what is live stand apart: so a row takes 13 bytes, and nothing is lost between its parts. All three of
+/// a code are written where it becomes known, and a change is one write then. Only `reach` takes memory.
 #[derive(Drop)]
 pub(crate) struct Table {
     places: Rows<NodePtr>,
     labels: Rows<u32>,
+    lives: Rows<bool>,
 }
 
 impl Model for Table {
@@ -32,12 +33,11 @@ impl Model for Table {
 
     ghost Value = { List (Option Row) };
 
-    ghost use Rattle.raw_cells.specs.Rows.{row_at};
-    ghost use Rattle.raw_ring.specs.Joined.{joined, AreJoined};
+    ghost use Rattle.raw_ring.specs.Joined.{joined, marks, AreJoined};
 
-    ghost view = { λ t. joined t.places (row_at t.labels) };
+    ghost view = { λ t. joined t.places (marks t.labels t.lives) };
 
-    ghost invariant = { λ t. AreJoined t.places t.labels };
+    ghost invariant = { λ t. AreJoined t.places t.labels t.lives };
 }
 
 impl Table {
@@ -48,6 +48,7 @@ impl Table {
         Table {
             places: Rows::new(alloc),
             labels: Rows::new(alloc),
+            lives: Rows::new(alloc),
         }
     }
 
@@ -56,13 +57,6 @@ impl Table {
         ensures { result ≡ has_row self.now code }
     {
         self.places.has(code)
-    }
-
-    /// Whether a code has a row and is live.
-    pub(crate) fn is_live(&self, code: u32) -> bool
-        ensures { result ≡ is_awake (row_at self.now code) }
-    {
-        self.labels.has(code)
     }
 
     /// How many codes have their room, from 0 on.
@@ -84,27 +78,12 @@ impl Table {
         ensures { result ≡ row_at self.now code }
     {
         match self.places.find(code) {
-            Some(at) => Some(self.row(code, at)),
+            Some(at) => Some(Row {
+                at,
+                label: self.labels.known(code),
+                live: self.lives.known(code),
+            }),
             None => None,
-        }
-    }
-
-    /// The row of a code whose node lies there.
-    fn row(&self, code: u32, at: NodePtr) -> Row
-        requires { LiesAt (row_at self.now code) at }
-        ensures { row_at self.now code ≡ Some result }
-    {
-        match self.labels.find(code) {
-            Some(label) => Row {
-                at,
-                label,
-                live: true,
-            },
-            None => Row {
-                at,
-                label: 0,
-                live: false,
-            },
         }
     }
 
@@ -116,9 +95,9 @@ impl Table {
         self.places.known(code)
     }
 
-    /// The label of a live code.
+    /// The label of a code, which has a row.
     pub(crate) fn label(&self, code: u32) -> u32
-        requires { is_awake (row_at self.now code) ≡ true }
+        requires { IsSome (row_at self.now code) }
         ensures { HasLabel (row_at self.now code) result }
     {
         self.labels.known(code)
@@ -130,6 +109,8 @@ impl Table {
         requires new { row_at self.old code ≡ None }
         ensures { self.new ≡ set self.old code (Some (record { at = at; label = 0; live = false })) }
     {
+        self.labels.put(code, 0);
+        self.lives.put(code, false);
         self.places.put(code, at);
     }
 
@@ -138,7 +119,8 @@ impl Table {
         requires { IsSome (row_at self.old code) }
         ensures { self.new ≡ set self.old code (woken (row_at self.old code)) }
     {
-        self.labels.put(code, 0);
+        self.labels.set(code, 0);
+        self.lives.set(code, true);
     }
 
     /// A code that has a row is asleep then.
@@ -146,12 +128,12 @@ impl Table {
         requires { IsSome (row_at self.old code) }
         ensures { self.new ≡ set self.old code (asleep (row_at self.old code)) }
     {
-        self.labels.take(code);
+        self.lives.set(code, false);
     }
 
-    /// A live code gets a label.
+    /// A code that has a row gets a label.
     pub(crate) fn relabel(&mut self, code: u32, label: u32)
-        requires { is_awake (row_at self.old code) ≡ true }
+        requires { IsSome (row_at self.old code) }
         ensures { self.new ≡ set self.old code (relabelled label (row_at self.old code)) }
     {
         self.labels.set(code, label);
@@ -180,6 +162,7 @@ impl Table {
     {
         let last = last_of_step(code);
         self.labels.reach(last)?;
+        self.lives.reach(last)?;
         self.places.reach(last)
     }
 }

@@ -1,12 +1,30 @@
-use Rattle.std.proofs.Common.{arith}
-use Rattle.raw_ring.proofs.Joining.{length-joined, row_added, joined_added}
+use Rattle.std.proofs.Common.{◌<◌, length, arith}
+use Rattle.raw_ring.specs.Rings.{or_zero}
+use Rattle.raw_ring.specs.Joined.{or_false, with_marks}
+use Rattle.raw_ring.proofs.Joining.{length-joined, changed, column_here, column_other, column_with}
 use Rattle.raw_ring.proofs.table.Table.add.Goals as goal
 
 pub put-requires : goal.put-requires
-put-requires c = let within = rw (← c.self.view_is) at c.requires.room in omega (arith, within, length-joined c.self.inside.places c.self.inside.labels)
+put-requires c = let room = rw (← c.self.view_is) at c.requires.room in omega (arith, room, length-joined c.self.inside.places c.self.inside.labels c.self.inside.lives, c.self.invariant.reach_labels)
+
+pub put-requires-2 : goal.put-requires-2
+put-requires-2 c = let room = rw (← c.self.view_is) at c.requires.room in omega (arith, room, length-joined c.self.inside.places c.self.inside.labels c.self.inside.lives, c.self.invariant.reach_lives)
+
+pub put-requires-3 : goal.put-requires-3
+put-requires-3 c = let room = rw (← c.self.view_is) at c.requires.room in omega (arith, room, length-joined c.self.inside.places c.self.inside.labels c.self.inside.lives)
 
 pub invariant_of-self : goal.invariant_of-self
-invariant_of-self c = joined_added _ _ _ _ _ c.self.invariant (rw (← c.self.view_is) at c.requires.room) (rw (← c.self.view_is) at c.requires.new) c.put.ensures.rows c.put.ensures.len
+invariant_of-self c = record {
+  reach_labels = omega (arith, c.self.invariant.reach_labels, c.put.ensures.len, c.put-3.ensures.len);
+  reach_lives = omega (arith, c.self.invariant.reach_lives, c.put-2.ensures.len, c.put-3.ensures.len);
+  labelled = λ k h. column_with _ _ _ _ _ _ _ _ c.put-3.ensures.rows c.put.ensures.rows (c.self.invariant.labelled k) h;
+  marked = λ k h. column_with _ _ _ _ _ _ _ _ c.put-3.ensures.rows c.put-2.ensures.rows (c.self.invariant.marked k) h;
+}
 
 pub returns : goal.returns
-returns c = rw (← c.self.view_is) (row_added _ _ _ _ _ c.self.invariant (rw (← c.self.view_is) at c.requires.room) (rw (← c.self.view_is) at c.requires.new) c.put.ensures.rows c.put.ensures.len)
+returns c =
+    let here = column_here _ _ _ _ c.put-3.ensures.rows in let label = column_here _ _ _ _ c.put.ensures.rows in let live = column_here _ _ _ _ c.put-2.ensures.rows in
+    let within : c.args.code < length c.self.inside.places = (let room = rw (← c.self.view_is) at c.requires.room in omega (arith, room, length-joined c.self.inside.places c.self.inside.labels c.self.inside.lives)) in
+    rw (← c.self.view_is)
+    (changed c.self.inside.places c.self.inside.labels c.self.inside.lives _ _ _ _ _ within c.put-3.ensures.len (λ i. with_marks (here i) (or_zero (label i), or_false (live i)))
+    (λ q ne i. with_marks (column_other _ _ _ _ c.put-3.ensures.rows q ne i) (or_zero (column_other _ _ _ _ c.put.ensures.rows q ne i), or_false (column_other _ _ _ _ c.put-2.ensures.rows q ne i))))

@@ -4,4 +4,4 @@ use Rattle.raw_ring.proofs.table.Table.reach.Goals as goal
 
 pub returns-then-code-len-clause-ok : goal.returns-then-code-len-clause-ok
 returns-then-code-len-clause-ok c =
-    let len : length c.args.self.now ≡ length c.self.inside.places = rw (← c.self.view_is) (length-joined c.self.inside.places c.self.inside.labels) in omega (arith, len, c.len.ensures, c.if-code-len.true)
+    let len : length c.args.self.now ≡ length c.self.inside.places = rw (← c.self.view_is) (length-joined c.self.inside.places c.self.inside.labels c.self.inside.lives) in omega (arith, len, c.len.ensures, c.if-code-len.true)

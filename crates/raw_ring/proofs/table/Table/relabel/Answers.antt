@@ -1,22 +1,26 @@
-use Rattle.std.proofs.Common.{Some, ap}
-use Rattle.raw_ring.specs.declared.row.Row.{Row}
+use Rattle.std.proofs.Common.{Some, refl, arith}
+use Rattle.raw_cells.specs.Rows.{row_at}
+use Rattle.raw_ring.specs.Rings.{or_zero}
+use Rattle.raw_ring.specs.Joined.{or_false, with_marks}
 use Rattle.raw_ring.specs.Table.{relabelled}
 use Rattle.raw_ring.proofs.Pointers.{some_of}
-use Rattle.raw_ring.proofs.Joining.{label_there, joined_written, row_changed}
+use Rattle.raw_ring.proofs.Joining.{place_there, marks_changed, column_here, column_other, column_there}
 use Rattle.raw_ring.proofs.table.Table.relabel.Goals as goal
 
 pub set-requires : goal.set-requires
-set-requires c = label_there _ _ _ c.self.invariant (rw (← c.self.view_is) at c.requires)
+set-requires c = c.self.invariant.labelled _ (place_there c.self.inside.places c.self.inside.labels c.self.inside.lives _ (rw (← c.self.view_is) at c.requires))
 
 pub invariant_of-self : goal.invariant_of-self
-invariant_of-self c =
-    let there = label_there _ _ _ c.self.invariant (rw (← c.self.view_is) at c.requires) in
-    let place = some_of _ (c.self.invariant.placed _ there) in
-    joined_written _ _ _ _ (Some c.args.label) place.0 place.1 c.set.ensures.rows c.self.invariant c.set.ensures.len
+invariant_of-self c = record {
+  reach_labels = omega (arith, c.self.invariant.reach_labels, c.set.ensures.len);
+  reach_lives = omega (arith, c.self.invariant.reach_lives);
+  labelled = λ k h. column_there _ _ _ _ c.set.ensures.rows k (c.self.invariant.labelled k h);
+  marked = λ k h. c.self.invariant.marked k h;
+}
 
 pub returns : goal.returns
 returns c =
-    let there = label_there _ _ _ c.self.invariant (rw (← c.self.view_is) at c.requires) in
-    let place = some_of _ (c.self.invariant.placed _ there) in
+    let place = some_of _ (place_there c.self.inside.places c.self.inside.labels c.self.inside.lives _ (rw (← c.self.view_is) at c.requires)) in
+    let label = column_here _ _ _ _ c.set.ensures.rows in
     rw (← c.self.view_is)
-    (row_changed _ _ _ _ (Some c.args.label) place.0 place.1 c.set.ensures.rows (relabelled c.args.label) (ap (λ b. Some (record { at = place.0; label = c.args.label; live = b })) there))
+    (marks_changed c.self.inside.places c.self.inside.labels c.self.inside.lives _ _ _ (relabelled c.args.label) place.0 _ place.1 refl (λ i. with_marks (Some place.0) (or_zero (label i), or_false (row_at c.self.inside.lives c.args.code))) (column_other _ _ _ _ c.set.ensures.rows) (λ q ne. refl))
