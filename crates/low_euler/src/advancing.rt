@@ -1,4 +1,5 @@
-//! An operator with all that it takes: its room, the change, and the operator that takes it back.
+//! An operator with all that it takes: its room, the change, and the operator that takes it back, which is written where the caller
+//! keeps it.
 ghost use Rattle.std.specs.Prelude.{◌≡◌, OnOk, OnErr, IfOk, None};
 ghost use Rattle.euler_conditions.specs.Store.{HasGrown};
 ghost use Rattle.euler_operators.specs.Conditions.{first_false};
@@ -20,27 +21,29 @@ fn mvfs(
     outer: u32,
     vertex: u32,
     point: Point,
-) -> Result<Op, AllocError>
+    back: &mut Op,
+) -> Result<(), AllocError>
     requires ready { IsReady arena.old }
     requires accepted { first_false arena.old.model (Op.Mvfs solid face outer vertex point) ≡ None }
     ensures stepped { OnOk result (IsStepped arena.old (Op.Mvfs solid face outer vertex point) arena.new) }
-    ensures inverse { IfOk result (λ back. back ≡ inverse arena.old.model (Op.Mvfs solid face outer vertex point)) }
+    ensures inverse { OnOk result (back.new ≡ inverse arena.old.model (Op.Mvfs solid face outer vertex point)) }
     ensures err { OnErr result (HasGrown arena.old arena.new) }
 {
     room_for_solid(arena, solid, face, outer, vertex)?;
     vertex_operators::mvfs(arena, solid, face, outer, vertex, point);
-    Ok(Op::Kvfs(solid))
+    *back = Op::Kvfs(solid);
+    Ok(())
 }
 
-fn kvfs(arena: &mut Arena, solid: u32) -> Op
+fn kvfs(arena: &mut Arena, solid: u32, back: &mut Op)
     requires ready { IsReady arena.old }
     requires accepted { first_false arena.old.model (Op.Kvfs solid) ≡ None }
     ensures stepped { IsStepped arena.old (Op.Kvfs solid) arena.new }
-    ensures inverse { result ≡ inverse arena.old.model (Op.Kvfs solid) }
+    ensures inverse { back.new ≡ inverse arena.old.model (Op.Kvfs solid) }
 {
-    let back = inverses::kvfs(arena, solid);
+    let inverse = inverses::kvfs(arena, solid);
     vertex_operators::kvfs(arena, solid);
-    back
+    *back = inverse;
 }
 
 fn mev(
@@ -50,27 +53,29 @@ fn mev(
     half: HalfEdge,
     vertex: u32,
     point: Point,
-) -> Result<Op, AllocError>
+    back: &mut Op,
+) -> Result<(), AllocError>
     requires ready { IsReady arena.old }
     requires accepted { first_false arena.old.model (Op.Mev from to half vertex point) ≡ None }
     ensures stepped { OnOk result (IsStepped arena.old (Op.Mev from to half vertex point) arena.new) }
-    ensures inverse { IfOk result (λ back. back ≡ inverse arena.old.model (Op.Mev from to half vertex point)) }
+    ensures inverse { OnOk result (back.new ≡ inverse arena.old.model (Op.Mev from to half vertex point)) }
     ensures err { OnErr result (HasGrown arena.old arena.new) }
 {
     room_for_two(arena, (Kind::Edge, half.edge), (Kind::Vertex, vertex))?;
     vertex_operators::mev(arena, from, to, half, vertex, point);
-    Ok(Op::Kev(half))
+    *back = Op::Kev(half);
+    Ok(())
 }
 
-fn kev(arena: &mut Arena, half: HalfEdge) -> Op
+fn kev(arena: &mut Arena, half: HalfEdge, back: &mut Op)
     requires ready { IsReady arena.old }
     requires accepted { first_false arena.old.model (Op.Kev half) ≡ None }
     ensures stepped { IsStepped arena.old (Op.Kev half) arena.new }
-    ensures inverse { result ≡ inverse arena.old.model (Op.Kev half) }
+    ensures inverse { back.new ≡ inverse arena.old.model (Op.Kev half) }
 {
-    let back = inverses::kev(arena, half);
+    let inverse = inverses::kev(arena, half);
     vertex_operators::kev(arena, half);
-    back
+    *back = inverse;
 }
 
 fn mef(
@@ -80,11 +85,12 @@ fn mef(
     half: HalfEdge,
     face: u32,
     outer: u32,
-) -> Result<Op, AllocError>
+    back: &mut Op,
+) -> Result<(), AllocError>
     requires ready { IsReady arena.old }
     requires accepted { first_false arena.old.model (Op.Mef from to half face outer) ≡ None }
     ensures stepped { OnOk result (IsStepped arena.old (Op.Mef from to half face outer) arena.new) }
-    ensures inverse { IfOk result (λ back. back ≡ inverse arena.old.model (Op.Mef from to half face outer)) }
+    ensures inverse { OnOk result (back.new ≡ inverse arena.old.model (Op.Mef from to half face outer)) }
     ensures err { OnErr result (HasGrown arena.old arena.new) }
 {
     room_for_three(
@@ -94,53 +100,67 @@ fn mef(
         (Kind::Loop, outer),
     )?;
     loop_operators::mef(arena, from, to, half, face, outer);
-    Ok(Op::Kef(half))
+    *back = Op::Kef(half);
+    Ok(())
 }
 
-fn kef(arena: &mut Arena, half: HalfEdge) -> Op
+fn kef(arena: &mut Arena, half: HalfEdge, back: &mut Op)
     requires ready { IsReady arena.old }
     requires accepted { first_false arena.old.model (Op.Kef half) ≡ None }
     ensures stepped { IsStepped arena.old (Op.Kef half) arena.new }
-    ensures inverse { result ≡ inverse arena.old.model (Op.Kef half) }
+    ensures inverse { back.new ≡ inverse arena.old.model (Op.Kef half) }
 {
-    let back = inverses::kef(arena, half);
+    let inverse = inverses::kef(arena, half);
     loop_operators::kef(arena, half);
-    back
+    *back = inverse;
 }
 
-/// An operator by `room_op` and then `apply`.
+/// An operator by `room_op` and then `apply`, with its inverse in `back`.
 #[inline(never)]
-fn step_by_step(alloc: Global, arena: &mut Arena, op: &Op) -> Result<Op, AllocError>
+fn step_by_step(alloc: Global, arena: &mut Arena, op: &Op, back: &mut Op) -> Result<(), AllocError>
     requires ready { IsReady arena.old }
     requires accepted { first_false arena.old.model op.now ≡ None }
     ensures stepped { OnOk result (IsStepped arena.old op.now arena.new) }
-    ensures inverse { IfOk result (λ back. back ≡ inverse arena.old.model op.now) }
+    ensures inverse { OnOk result (back.new ≡ inverse arena.old.model op.now) }
     ensures err { OnErr result (HasGrown arena.old arena.new) }
 {
     let room = room_op(alloc, arena, op)?;
-    Ok(apply(arena, op, room))
+    *back = apply(arena, op, room);
+    Ok(())
 }
 
-/// Makes the room of an operator that is accepted, applies it, and answers the operator that takes it back: what `room_op` and then
-/// `apply` do, with the operator looked at once. What the operator and its inverse make has its room then, and no room is lost.
+/// Makes the room of an operator that is accepted, applies it, and puts the operator that takes it back in the place of `back`: what
+/// `room_op` and then `apply` do, with the operator looked at once and its inverse written once. What the operator and its inverse
+/// make has its room then, and no room is lost.
 ///
 /// All memory is taken before the change: on `AllocError` the model is as it was.
-pub fn advance(alloc: Global, arena: &mut Arena, op: &Op) -> Result<Op, AllocError>
+pub fn advance(alloc: Global, arena: &mut Arena, op: &Op, back: &mut Op) -> Result<(), AllocError>
     requires ready { IsReady arena.old }
     requires accepted { first_false arena.old.model op.now ≡ None }
     ensures stepped { OnOk result (IsStepped arena.old op.now arena.new) }
-    ensures inverse { IfOk result (λ back. back ≡ inverse arena.old.model op.now) }
+    ensures inverse { OnOk result (back.new ≡ inverse arena.old.model op.now) }
     ensures err { OnErr result (HasGrown arena.old arena.new) }
 {
     match op {
         Op::Mvfs(solid, face, outer, vertex, point) => {
-            mvfs(arena, *solid, *face, *outer, *vertex, *point)
+            mvfs(arena, *solid, *face, *outer, *vertex, *point, back)
         }
-        Op::Kvfs(solid) => Ok(kvfs(arena, *solid)),
-        Op::Mev(from, to, half, vertex, point) => mev(arena, *from, *to, *half, *vertex, *point),
-        Op::Kev(half) => Ok(kev(arena, *half)),
-        Op::Mef(from, to, half, face, outer) => mef(arena, *from, *to, *half, *face, *outer),
-        Op::Kef(half) => Ok(kef(arena, *half)),
-        _ => step_by_step(alloc, arena, op),
+        Op::Kvfs(solid) => {
+            kvfs(arena, *solid, back);
+            Ok(())
+        }
+        Op::Mev(from, to, half, vertex, point) => {
+            mev(arena, *from, *to, *half, *vertex, *point, back)
+        }
+        Op::Kev(half) => {
+            kev(arena, *half, back);
+            Ok(())
+        }
+        Op::Mef(from, to, half, face, outer) => mef(arena, *from, *to, *half, *face, *outer, back),
+        Op::Kef(half) => {
+            kef(arena, *half, back);
+            Ok(())
+        }
+        _ => step_by_step(alloc, arena, op, back),
     }
 }

@@ -11,7 +11,7 @@
 //! Each operator in place leaves exactly its effect, and nothing else changed. `room_op` makes the room of all that an operator
 //! makes and keeps model and room, also on `AllocError`; where that room is there and no faces are listed it is Ok; `apply`
 //! leaves the effect, a sound model, and answers the inverse, which is accepted and takes the arena back; `replay` has the same
-//! effect. Neither can fail. `advance` makes the room, leaves the effect and answers the inverse; what the operator and its inverse make
+//! effect. Neither can fail. `advance` makes the room, leaves the effect and writes the inverse; what the operator and its inverse make
 //! has its room then; on `AllocError` model and room are as after `room_op`.
 #![tactic(auto)]
 

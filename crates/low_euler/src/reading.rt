@@ -1,4 +1,4 @@
-//! What an arena says of half-edges, corners and lone loops.
+//! The corner after a half-edge, the vertex of a lone loop, and that a number in use has its room.
 ghost use Rattle.std.specs.Prelude.{◌≡◌, true, nat_eq, cond};
 ghost use Rattle.euler_operators.specs.HalfEdge.{code, half};
 ghost use Rattle.euler_operators.specs.Model.{after, content};

@@ -123,7 +123,9 @@ impl Session {
         ensures err { OnErr result (self.new ≡ self.old) }
     {
         self.records.reserve(1)?;
-        let inverse = advance(self.alloc, &mut *self.arena, &op)?;
+        // `advance` writes another one in its place
+        let mut inverse = Op::Kvfs(0);
+        advance(self.alloc, &mut *self.arena, &op, &mut inverse)?;
         drop_ahead(&mut self.records, self.place);
         let record = Record {
             forward: OpList::one(op),

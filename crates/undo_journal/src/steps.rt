@@ -45,7 +45,9 @@ pub(crate) fn step(
 {
     forward.reserve(1)?;
     back.reserve(1)?;
-    let inverse = advance(alloc, arena, &op)?;
+    // `advance` writes another one in its place
+    let mut inverse = Op::Kvfs(0);
+    advance(alloc, arena, &op, &mut inverse)?;
     forward.push_reserved(op);
     back.push_reserved(inverse);
     Ok(())

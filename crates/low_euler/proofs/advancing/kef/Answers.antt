@@ -8,6 +8,6 @@ kef-requires c = accepted_grown c.args.arena.now c.args.arena.now (Kef c.args.ha
 
 pub returns-clause-stepped : goal.returns-clause-stepped
 returns-clause-stepped c =
-    stepped_grown c.args.arena.now c.args.arena.now c.kef.new.arena (Kef c.args.half) c.kef-back.result (grown_same _)
+    stepped_grown c.args.arena.now c.args.arena.now c.kef.new.arena (Kef c.args.half) c.kef-inverse.result (grown_same _)
     (accepted_grown c.args.arena.now c.args.arena.now (Kef c.args.half) c.requires.ready c.requires.accepted (grown_same _) tt)
-    c.kef.ensures c.kef-back.ensures.is c.kef-back.ensures.room
+    c.kef.ensures c.kef-inverse.ensures.is c.kef-inverse.ensures.room
