@@ -21,7 +21,7 @@ pub before_there : (M : Model) → Sound M → (x : ℕ) → HasHalf M x → Has
 unfolding before
 before_there M sound x t = sound.only_edges (predecessor (cycle_of M x) x) (loop_of M x) (in-holds _ (content M (loop_of M x)) (IsIn_predecessor x (cycle_of M x) (cycle_there M sound x t)))
 
-before_after : (M : Model) → Sound M → (x : ℕ) → HasHalf M x → before M (after M x) ≡ x
+pub before_after : (M : Model) → Sound M → (x : ℕ) → HasHalf M x → before M (after M x) ≡ x
 unfolding before after
 before_after M sound x t = ap (λ l. predecessor (items_of (content M l)) (successor (cycle_of M x) x)) (loop_after M sound x t) ∙ predecessor-successor x (cycle_of M x) (cycle_sound M sound x t).apart (cycle_there M sound x t)
 
@@ -37,6 +37,12 @@ pub record Unseen (M : Model) (h a b n : ℕ) : Type 0 where
   pub behind_there : HasHalf M b
   pub seen : (x : ℕ) → HasHalf M x → tail M x ≡ tail M h → (edge_of h ≤ edge_of x) ⊎ IsIn x between
   pub short : length between ≤ n
+
+-- the walk has come to a on one side, and looks at b on the other
+pub record Facing (M : Model) (h a b n : ℕ) : Type 0 where
+  pub last : ℕ
+  pub walk : Unseen M h a last n
+  pub comes : b ≡ mate (before M last)
 
 -- edges compared by their numbers
 pub less : (g h : HalfEdge) (x : ℕ) → code g ≡ x → g.edge < h.edge → edge_of x < edge_of (code h)
@@ -189,3 +195,16 @@ module _ (M : Model) (sound : Sound M) (h : ℕ) (there : HasHalf M h) where
         short = omega (arith, w.short, ap (λ (q : List ℕ). length q) s.split, length-append s.left (y ∷ []));
       }
     ]
+
+  pub faced_there : (a b n : ℕ) → Facing M h a b n → HasHalf M b
+  faced_there a b n w = subst (HasHalf M) (sym w.comes) (mate_there M (before M w.last) (before_there M sound w.last w.walk.behind_there))
+
+  pub met_back : (a b n : ℕ) → Facing M h a b n → b ≡ a → leads M h ≡ true
+  met_back a b n w e = met_behind a w.last n w.walk (sym w.comes ∙ e)
+
+  pub lesser_back : (a b n : ℕ) → Facing M h a b n → b ≢ a → edge_of b < edge_of h → leads M h ≡ false
+  lesser_back a b n w ne l = lesser_behind a w.last n w.walk (λ e. ne (w.comes ∙ e)) (subst (λ x. edge_of x < edge_of h) w.comes l)
+
+  pub step_back : (a b n : ℕ) → Facing M h a b n → b ≢ a → edge_of h ≤ edge_of b → Unseen M h a b n
+  step_back a b n w ne l =
+      subst (λ x. Unseen M h a x n) (sym w.comes) (step_behind a w.last n w.walk (λ e. ne (w.comes ∙ e)) (subst (λ x. edge_of h ≤ edge_of x) w.comes l))

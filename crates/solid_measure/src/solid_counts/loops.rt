@@ -2,7 +2,7 @@
 ghost use Rattle.std.specs.Prelude.{◌≡◌, true};
 ghost use Rattle.euler_operators.specs.Items.{IsIn};
 ghost use Rattle.euler_operators.specs.HalfEdge.{code};
-ghost use Rattle.euler_operators.specs.Model.{items_of, content};
+ghost use Rattle.euler_operators.specs.Model.{before, items_of, content};
 ghost use Rattle.solid_walks.specs.Store.{has_number};
 ghost use Rattle.solid_walks.specs.Ready.{IsReady};
 ghost use Rattle.shapes.specs.Faces.{loops_of};
@@ -10,7 +10,7 @@ ghost use Rattle.solid_measure.specs.solid_counts.Sums.{IsFew, half_met, halves_
 
 use crate::solid_counts::Met;
 use euler_operators::{Content, HALF_EDGE_CODES, HalfEdge, Kind};
-use solid_walks::{Arena, leads, loops_of, next, same};
+use solid_walks::{Arena, leads, loops_of, next, previous, same};
 
 /// What two walks have counted together.
 pub(crate) fn together(a: Met, b: Met) -> Met
@@ -24,14 +24,16 @@ pub(crate) fn together(a: Met, b: Met) -> Met
     }
 }
 
-/// A half-edge counts for a vertex where it is of the least edge there, and for an edge where it is the plus one.
-fn half_met(arena: &Arena, h: HalfEdge) -> Met
+/// A half-edge counts for a vertex where it is of the least edge there, and for an edge where it is the plus one. `last` comes
+/// before it in its loop.
+fn half_met(arena: &Arena, last: HalfEdge, h: HalfEdge) -> Met
     requires ready { IsReady arena.now }
     requires there { has_number arena.now Kind.Edge h.edge ≡ true }
+    requires last { code last ≡ before arena.now.model (code h) }
     ensures { result ≡ half_met arena.now.model (code h) }
 {
     Met {
-        vertices: u32::from(leads(arena, h)),
+        vertices: u32::from(leads(arena, last, h)),
         edges: u32::from(h.first),
     }
 }
@@ -46,9 +48,11 @@ fn ring_met(arena: &Arena, l: u32, first: HalfEdge) -> Met
         vertices: 0,
         edges: 0,
     };
+    let mut last = previous(arena, first);
     let mut h = first;
     'round: for _ in 0..HALF_EDGE_CODES {
-        sum = together(sum, half_met(arena, h));
+        sum = together(sum, half_met(arena, last, h));
+        last = h;
         h = next(arena, h);
         if same(h, first) {
             return sum;

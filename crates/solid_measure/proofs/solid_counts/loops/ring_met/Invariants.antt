@@ -1,8 +1,9 @@
-use Rattle.std.proofs.Common.{◌-◌}
+use Rattle.std.proofs.Common.{◌≡◌, ◌-◌}
 use Rattle.euler_operators.specs.HalfEdge.{code}
+use Rattle.euler_operators.specs.Model.{before}
 use Rattle.euler_laws.proofs.shared.Bounds.{steps}
 use Rattle.solid_measure.proofs.solid_counts_laws.LoopRounds.{MetRound}
 use Rattle.solid_measure.proofs.solid_counts.loops.ring_met.Given as goal
 
 abbrev pub invariant-round : goal.invariant-round
-invariant-round l = MetRound l.arena.model l.l (code l.first) (code l.h) (steps - l.counter) l.sum
+invariant-round l = MetRound l.arena.model l.l (code l.first) (code l.h) (steps - l.counter) l.sum × (code l.last ≡ before l.arena.model (code l.h))
