@@ -12,8 +12,8 @@ ghost use Rattle.solid_measure.specs.Measure.{anchor, area, area_limit, is_flat,
 
 use crate::Vector;
 use crate::loops::{loop_added, loop_lies_on, walk_round};
-use euler_operators::{Content, HalfEdge, Kind, Plane, Point, dot};
-use solid_walks::{Arena, loops_of, start};
+use euler_operators::{Content, Kind, Plane, Point, dot};
+use solid_walks::{Arena, loops_of, start_of_code};
 
 /// Where a face lies: the sum of the cross products over the half-edges of its loops, and the point of its first corner.
 #[derive(Drop)]
@@ -42,7 +42,7 @@ fn outer_frame(arena: &Arena, f: u32) -> Frame
             let round = walk_round(arena, normal, outer, first);
             Frame {
                 normal: round.sum,
-                anchor: start(arena, HalfEdge::of_code(round.least)),
+                anchor: start_of_code(arena, round.least),
             }
         }
     }

@@ -16,7 +16,7 @@ use crate::Vector;
 use euler_operators::{
     Content, HALF_EDGE_CODES, HalfEdge, Kind, Plane, Point, Sign, cross_add, side,
 };
-use solid_walks::{Arena, finish, items_round, next, same, start};
+use solid_walks::{Arena, finish, items_round, next_code, start, start_of_code};
 
 /// The vector n plus the cross product of two points.
 fn crossed(n: Vector, p: Point, q: Point) -> Vector
@@ -44,7 +44,7 @@ pub fn half_added(arena: &Arena, n: Vector, h: HalfEdge) -> Vector
 pub(crate) struct Round {
     /// A vector plus the cross products over the half-edges of the loop.
     pub(crate) sum: Vector,
-    /// The place of the loop's first item in the order of listings.
+    /// The code of the loop's first item in the order of listings.
     pub(crate) least: u32,
 }
 
@@ -58,19 +58,20 @@ pub(crate) fn walk_round(arena: &Arena, n: Vector, l: u32, first: HalfEdge) -> R
     ensures least { result.least ≡ head_or 0 (items_of (content arena.now.model l)) }
     ensures there { has_half arena.now.model result.least ≡ true }
 {
+    let begin = first.code();
     let mut sum = n;
-    let mut least = first.code();
-    let mut h = first;
-    let mut from = start(arena, first);
+    let mut least = begin;
+    let mut code = begin;
+    let mut from = start_of_code(arena, begin);
     'round: for _ in 0..HALF_EDGE_CODES {
-        let after = next(arena, h);
-        let to = start(arena, after);
+        let next = next_code(arena, code);
+        let to = start_of_code(arena, next);
         sum = crossed(sum, from, to);
-        least = least.min(h.code());
-        if same(after, first) {
+        least = least.min(code);
+        if next == begin {
             return Round { sum, least };
         }
-        h = after;
+        code = next;
         from = to;
     }
     Round { sum, least }

@@ -1,16 +1,15 @@
 -- The walk round a vertex from h both ways, which leaves a stretch between its two ends unseen.
-use Rattle.std.proofs.Common.{◌≡◌, ◌≢◌, ℕ, ◌+◌, ◌≤◌, ◌<◌, true, false, List, [], ◌∷◌, ◌++◌, length, refl, sym, ap, subst, ◌∙◌, arith, ◌⊎◌, inl, inr}
+use Rattle.std.proofs.Common.{◌≡◌, ◌≢◌, ℕ, ◌+◌, ◌/◌, ◌≤◌, ◌<◌, true, false, List, [], ◌∷◌, ◌++◌, length, refl, sym, ap, subst, ◌∙◌, arith, ◌⊎◌, inl, inr}
 use Rattle.std.proofs.lemmas.Bool.Decides.{eqb_tells}
 use Rattle.std.proofs.lemmas.List.{length-append}
 use Rattle.euler_operators.specs.Items.{count, tick, IsIn, IsApart, last_or}
 use Rattle.euler_operators.specs.Rings.{rest, successor, predecessor, IsPath}
 use Rattle.euler_operators.proofs.Lists.{count-append, tick_same, tick_other}
 use Rattle.euler_operators.proofs.Rings.{rotation_at, count_at, IsRing-same, front_of, IsPath-left, IsPath_at, IsIn_predecessor, predecessor-successor}
-use Rattle.euler_operators.specs.declared.HalfEdge.{HalfEdge}
-use Rattle.euler_operators.specs.HalfEdge.{code, mate, edge_of}
+use Rattle.euler_operators.specs.HalfEdge.{mate, edge_of}
 use Rattle.euler_operators.specs.Model.{Model, items_of, content, cycle_of, loop_of, tail, after, before, round}
 use Rattle.euler_operators.specs.Sound.{Sound, HasHalf}
-use Rattle.euler_operators.proofs.Halves.{edge_of-code, mate-mate}
+use Rattle.euler_operators.proofs.Halves.{mate-mate}
 use Rattle.euler_operators.proofs.Models.{in-holds, cycle_there, cycle_sound, mate_there}
 use Rattle.euler_laws.proofs.shared.Fans.{Fan, fan_of, loop_after}
 use Rattle.euler_laws.proofs.shared.Bounds.{steps, length_below, half_below}
@@ -44,12 +43,14 @@ pub record Facing (M : Model) (h a b n : ℕ) : Type 0 where
   pub walk : Unseen M h a last n
   pub comes : b ≡ mate (before M last)
 
--- edges compared by their numbers
-pub less : (g h : HalfEdge) (x : ℕ) → code g ≡ x → g.edge < h.edge → edge_of x < edge_of (code h)
-less g h x e l = omega (arith, l, edge_of-code g, edge_of-code h, ap edge_of e)
+-- edges compared by the halves of codes
+pub less : (x h : ℕ) → x / 2 < h / 2 → edge_of x < edge_of h
+unfolding edge_of
+less x h l = l
 
-pub not_less : (g h : HalfEdge) (x : ℕ) → code g ≡ x → h.edge ≤ g.edge → edge_of (code h) ≤ edge_of x
-not_less g h x e l = omega (arith, l, edge_of-code g, edge_of-code h, ap edge_of e)
+pub not_less : (x h : ℕ) → h / 2 ≤ x / 2 → edge_of h ≤ edge_of x
+unfolding edge_of
+not_less x h l = l
 
 no_first : (x y : ℕ) (xs : List ℕ) → y ≡ x → count x (y ∷ xs) ≡ 0 → ⊥
 no_first x y xs e n = absurd (omega (arith, n, ap (tick x) e, tick_same x))

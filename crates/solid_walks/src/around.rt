@@ -1,44 +1,44 @@
 //! Walks round a vertex.
 ghost use Rattle.std.specs.Prelude.{◌≡◌, true};
-ghost use Rattle.euler_operators.specs.HalfEdge.{code};
-ghost use Rattle.euler_operators.specs.Model.{before};
-ghost use Rattle.euler_conditions.specs.Store.{has_number};
+ghost use Rattle.euler_operators.specs.Model.{before, has_half};
 ghost use Rattle.euler_conditions.specs.Ready.{IsReady};
 ghost use Rattle.shapes.specs.Walks.{leads};
 
-use crate::halves;
-use euler_conditions::{Arena, mate, same};
-use euler_operators::{HALF_EDGE_CODES, HalfEdge, Kind};
+use crate::codes::{back, mate_code, round};
+use euler_conditions::Arena;
+use euler_operators::HALF_EDGE_CODES;
 
-/// Whether h is of the least edge at its vertex. `previous` comes before h in its loop, so its edge ends at that vertex.
+/// Whether the half-edge of a code is of the least edge at its vertex; `previous` is the code of the item before it in its loop, whose
+/// edge ends at that vertex.
 ///
 /// It goes round the vertex both ways, a step back and a step ahead in turn, to the first lesser edge or until all were seen; the
 /// first step back is that to the edge of `previous`. So to ask this of all d half-edges at a vertex takes about d log d steps, in
 /// whatever order their numbers stand.
-pub fn leads(arena: &Arena, previous: HalfEdge, h: HalfEdge) -> bool
+pub fn leads(arena: &Arena, previous: u32, code: u32) -> bool
     requires ready { IsReady arena.now }
-    requires there { has_number arena.now Kind.Edge h.edge ≡ true }
-    requires previous { code previous ≡ before arena.now.model (code h) }
-    ensures { result ≡ leads arena.now.model (code h) }
+    requires there { has_half arena.now.model code ≡ true }
+    requires previous { previous ≡ before arena.now.model code }
+    ensures { result ≡ leads arena.now.model code }
 {
-    let mut ahead = h;
-    let mut behind = mate(previous);
+    let edge = code / 2;
+    let mut ahead = code;
+    let mut behind = mate_code(previous);
     'round: for _ in 0..HALF_EDGE_CODES {
-        if same(behind, ahead) {
+        if behind == ahead {
             return true;
         }
-        if behind.edge < h.edge {
+        if behind / 2 < edge {
             return false;
         }
-        let next = halves::round(arena, ahead);
-        if same(next, behind) {
+        let next = round(arena, ahead);
+        if next == behind {
             return true;
         }
-        if next.edge < h.edge {
+        if next / 2 < edge {
             return false;
         }
         ahead = next;
-        behind = halves::back(arena, behind);
+        behind = back(arena, behind);
     }
     true
 }

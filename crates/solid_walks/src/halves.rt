@@ -1,14 +1,13 @@
 //! What an arena says of a half-edge whose edge is there.
 ghost use Rattle.std.specs.Prelude.{◌≡◌, true};
-ghost use Rattle.euler_operators.specs.HalfEdge.{code, mate};
-ghost use Rattle.euler_operators.specs.Model.{before, has_half, round};
-ghost use Rattle.euler_conditions.specs.Store.{has_number};
+ghost use Rattle.euler_operators.specs.HalfEdge.{code};
+ghost use Rattle.euler_operators.specs.Model.{before, has_half};
 ghost use Rattle.euler_conditions.specs.Ready.{IsReady};
 ghost use Rattle.euler_operators.specs.Points.{IsInRange};
 ghost use Rattle.shapes.specs.Faces.{finish, start};
 
-use euler_conditions::{Arena, mate, next};
-use euler_operators::{HalfEdge, Kind, Point};
+use euler_conditions::Arena;
+use euler_operators::{HalfEdge, Point};
 
 /// The point at which the half-edge starts.
 pub fn start(arena: &Arena, h: HalfEdge) -> Point
@@ -38,24 +37,4 @@ pub fn previous(arena: &Arena, h: HalfEdge) -> HalfEdge
     ensures there { has_half arena.now.model (code result) ≡ true }
 {
     arena.prev(h)
-}
-
-/// The next half-edge that leaves the same vertex.
-pub(crate) fn round(arena: &Arena, h: HalfEdge) -> HalfEdge
-    requires ready { IsReady arena.now }
-    requires there { has_number arena.now Kind.Edge h.edge ≡ true }
-    ensures round { code result ≡ round arena.now.model (code h) }
-    ensures there { has_number arena.now Kind.Edge result.edge ≡ true }
-{
-    next(arena, mate(h))
-}
-
-/// The half-edge that leaves the same vertex, and that this one is the next of.
-pub(crate) fn back(arena: &Arena, h: HalfEdge) -> HalfEdge
-    requires ready { IsReady arena.now }
-    requires there { has_number arena.now Kind.Edge h.edge ≡ true }
-    ensures back { code result ≡ mate (before arena.now.model (code h)) }
-    ensures there { has_number arena.now Kind.Edge result.edge ≡ true }
-{
-    mate(previous(arena, h))
 }

@@ -3,8 +3,8 @@
 //!
 //! `face_walks` has three iterators in the order of listings: `Faces` over the faces of a solid (`faces_of`), `Loops` over the loops of a
 //! face (`loops_of`, `rings_of`), `Items` once round a loop (`items_round` from a half-edge on, `items_of` from the least). A contract sees
-//! each as the list of what is still to come, so that what `all`, `find`, `fold`, `map` and `collect` answer is said of that list. `around`
-//! has the walk round a vertex, both ways, `numbers` the greatest numbers in use.
+//! each as the list of what is still to come, so that what `all`, `find`, `fold`, `map` and `collect` answer is said of that list. `codes` has
+//! the steps of a walk over half-edges by their codes, `around` the walk round a vertex, both ways, `numbers` the greatest numbers in use.
 //!
 //! # What is proved
 //!
@@ -14,6 +14,7 @@
 #![tactic(auto)]
 
 mod around;
+mod codes;
 mod face_walks;
 mod halves;
 mod least;
@@ -21,6 +22,7 @@ mod lone;
 mod numbers;
 
 pub use around::leads;
+pub use codes::{next_code, previous_code, start_of_code};
 pub use euler_conditions::{Arena, next, same};
 pub use face_walks::{
     Faces, Items, Loops, faces_of, items_from, items_of, items_round, least_item, loops_of,

@@ -1,13 +1,12 @@
 -- What a walk round a loop counts.
-use Rattle.std.proofs.Common.{◌≡◌, ◌≢◌, ℕ, ◌+◌, Bool, true, false, cond, [], ◌∷◌, ◌++◌, sym, ap, subst, ◌∙◌, arith}
+use Rattle.std.proofs.Common.{◌≡◌, ◌≢◌, ℕ, ◌+◌, ◌%◌, nat_eq, Bool, true, false, cond, [], ◌∷◌, ◌++◌, sym, ap, subst, ◌∙◌, arith}
 use mir.Val.{bool_byte}
 use Rattle.euler_operators.specs.Items.{IsIn}
-use Rattle.euler_operators.specs.HalfEdge.{code}
+use Rattle.euler_operators.specs.HalfEdge.{code, is_first}
 use Rattle.euler_operators.specs.declared.Content.TheVariants as Content
 use Rattle.euler_operators.specs.declared.HalfEdge.{HalfEdge}
 use Rattle.euler_operators.specs.Model.{Model, LoopContent, lone, cycle, items_of, content, after}
 use Rattle.euler_operators.specs.Sound.{Sound}
-use Rattle.euler_operators.proofs.Halves.{is_first-code}
 use Rattle.solid_walks.specs.Store.{Tells}
 use Rattle.euler_laws.proofs.shared.Bounds.{steps}
 use Rattle.solid_measure.specs.declared.solid_counts.Met.{Met}
@@ -63,5 +62,6 @@ bit true = λ i. 1
 bit false = λ i. 0
 
 -- what the code counts for a half-edge
-pub half_is : (M : Model) (h : HalfEdge) (b : Bool) (v e : ℕ) → b ≡ leads M (code h) → v ≡ bool_byte b → e ≡ bool_byte h.first → ◌≡◌ {A = Met} (record { vertices = v; edges = e }) (half_met M (code h))
-half_is M h b v e l p q = λ i. record { vertices = (p ∙ bit b ∙ ap (λ b. cond b 1 0) l) i; edges = (q ∙ bit h.first ∙ ap (λ b. cond b 1 0) (sym (is_first-code h))) i }
+pub half_is : (M : Model) (h : ℕ) (b : Bool) (v e : ℕ) → b ≡ leads M h → v ≡ bool_byte b → e ≡ bool_byte (nat_eq (h % 2) 0) → ◌≡◌ {A = Met} (record { vertices = v; edges = e }) (half_met M h)
+unfolding is_first
+half_is M h b v e l p q = λ i. record { vertices = (p ∙ bit b ∙ ap (λ b. cond b 1 0) l) i; edges = (q ∙ bit (nat_eq (h % 2) 0)) i }

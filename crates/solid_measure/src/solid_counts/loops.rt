@@ -2,7 +2,7 @@
 ghost use Rattle.std.specs.Prelude.{◌≡◌, true};
 ghost use Rattle.euler_operators.specs.Items.{IsIn};
 ghost use Rattle.euler_operators.specs.HalfEdge.{code};
-ghost use Rattle.euler_operators.specs.Model.{before, items_of, content};
+ghost use Rattle.euler_operators.specs.Model.{before, has_half, items_of, content};
 ghost use Rattle.solid_walks.specs.Store.{has_number};
 ghost use Rattle.solid_walks.specs.Ready.{IsReady};
 ghost use Rattle.shapes.specs.Faces.{loops_of};
@@ -10,7 +10,7 @@ ghost use Rattle.solid_measure.specs.solid_counts.Sums.{IsFew, half_met, halves_
 
 use crate::solid_counts::Met;
 use euler_operators::{Content, HALF_EDGE_CODES, HalfEdge, Kind};
-use solid_walks::{Arena, leads, loops_of, next, previous, same};
+use solid_walks::{Arena, leads, loops_of, next_code, previous_code};
 
 /// What two walks have counted together.
 pub(crate) fn together(a: Met, b: Met) -> Met
@@ -24,17 +24,17 @@ pub(crate) fn together(a: Met, b: Met) -> Met
     }
 }
 
-/// A half-edge counts for a vertex where it is of the least edge there, and for an edge where it is the plus one. `last` comes
-/// before it in its loop.
-fn half_met(arena: &Arena, last: HalfEdge, h: HalfEdge) -> Met
+/// A half-edge counts for a vertex where it is of the least edge there, and for an edge where it is the plus one. `last` is the code
+/// of the item before it in its loop.
+fn half_met(arena: &Arena, last: u32, code: u32) -> Met
     requires ready { IsReady arena.now }
-    requires there { has_number arena.now Kind.Edge h.edge ≡ true }
-    requires last { code last ≡ before arena.now.model (code h) }
-    ensures { result ≡ half_met arena.now.model (code h) }
+    requires there { has_half arena.now.model code ≡ true }
+    requires last { last ≡ before arena.now.model code }
+    ensures { result ≡ half_met arena.now.model code }
 {
     Met {
-        vertices: u32::from(leads(arena, last, h)),
-        edges: u32::from(h.first),
+        vertices: u32::from(leads(arena, last, code)),
+        edges: u32::from(code % 2 == 0),
     }
 }
 
@@ -48,13 +48,14 @@ fn ring_met(arena: &Arena, l: u32, first: HalfEdge) -> Met
         vertices: 0,
         edges: 0,
     };
-    let mut last = previous(arena, first);
-    let mut h = first;
+    let begin = first.code();
+    let mut last = previous_code(arena, begin);
+    let mut code = begin;
     'round: for _ in 0..HALF_EDGE_CODES {
-        sum = together(sum, half_met(arena, last, h));
-        last = h;
-        h = next(arena, h);
-        if same(h, first) {
+        sum = together(sum, half_met(arena, last, code));
+        last = code;
+        code = next_code(arena, code);
+        if code == begin {
             return sum;
         }
     }

@@ -1,11 +1,10 @@
 use Rattle.std.proofs.Common.{◌≡◌, ℕ, refl, ap, ◌∙◌}
 use Rattle.euler_operators.specs.declared.Content.{Content}
 use Rattle.euler_operators.specs.declared.HalfEdge.{HalfEdge}
-use Rattle.euler_operators.specs.HalfEdge.{code, half}
+use Rattle.euler_operators.specs.HalfEdge.{code}
 use Rattle.euler_operators.specs.Items.{head_or}
 use Rattle.euler_operators.specs.Model.{Model, LoopContent, lone, cycle, content, has_half, items_of, point_of}
 use Rattle.euler_operators.specs.Table as table
-use Rattle.euler_operators.proofs.Halves.{code-half}
 use Rattle.solid_walks.specs.Store.{Tells}
 use Rattle.solid_walks.proofs.Known.{filled}
 use Rattle.shapes.specs.Faces.{start}
@@ -16,11 +15,8 @@ pub content-requires-clause-filled : goal.content-requires-clause-filled
 content-requires-clause-filled c =
     let M = c.args.arena.now.model in filled M c.requires.ready.sound c.outer-outer.result (ap (table.has M.loops) c.outer-outer.ensures ∙ (c.requires.ready.sound.outers_there c.args.f c.requires.there).0)
 
-coded : (h : HalfEdge) (k : ℕ) → h ≡ half k → code h ≡ k
-coded h k e = ap code e ∙ code-half k
-
-pub start-requires-clause-there : goal.start-requires-clause-there
-start-requires-clause-there c = ap (has_half c.args.arena.now.model) (coded _ _ c.of_code.ensures) ∙ c.walk_round-round.ensures.there
+pub start_of_code-requires-clause-there : goal.start_of_code-requires-clause-there
+start_of_code-requires-clause-there c = c.walk_round-round.ensures.there
 
 -- a ring's first vertex is that at which its least half-edge starts
 ring_first : (M : Model) (c : LoopContent) (first : HalfEdge) → Tells c (Content.Ring first) → start M (head_or 0 (items_of c)) ≡ point_of M (first_vertex M c)
@@ -30,5 +26,5 @@ ring_first M (cycle hs) first t = refl
 pub returns-in-Ring-clause-anchor : goal.returns-in-Ring-clause-anchor
 returns-in-Ring-clause-anchor c =
     let M = c.args.arena.now.model in
-    c.start.ensures.point ∙ ap (start M) (coded _ _ c.of_code.ensures ∙ c.walk_round-round.ensures.least) ∙ ring_first M (content M c.outer-outer.result) c.in-Ring.first c.in-Ring.ensures
+    c.start_of_code.ensures.point ∙ ap (start M) c.walk_round-round.ensures.least ∙ ring_first M (content M c.outer-outer.result) c.in-Ring.first c.in-Ring.ensures
     ∙ ap (λ l. point_of M (first_vertex M (content M l))) c.outer-outer.ensures

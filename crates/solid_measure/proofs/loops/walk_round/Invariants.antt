@@ -10,8 +10,8 @@ use Rattle.solid_measure.proofs.loops.walk_round.Given as goal
 
 abbrev pub invariant-round : goal.invariant-round
 invariant-round l = record {
-  from : l.from ≡ start l.arena.model (code l.h);
+  from : l.from ≡ start l.arena.model l.code;
   range : IsInRange l.from;
-  area : AreaRound l.arena.model l.l (code l.first) (code l.h) (steps - l.counter) (read l.fn.n) (read l.sum);
-  least : LeastRound l.arena.model l.l (code l.first) (code l.h) (steps - l.counter) l.least;
+  area : AreaRound l.arena.model l.l (code l.fn.first) l.code (steps - l.counter) (read l.fn.n) (read l.sum);
+  least : LeastRound l.arena.model l.l (code l.fn.first) l.code (steps - l.counter) l.least;
 }

@@ -1,68 +1,66 @@
-use Rattle.std.proofs.Common.{ℕ, ◌+◌, ◌-◌, sym, ap, subst, ◌∙◌, arith, refl}
-use Rattle.std.proofs.lemmas.Bool.{eqb-true, eqb-false}
-use Rattle.euler_operators.specs.HalfEdge.{code, mate}
+use Rattle.std.proofs.Common.{ℕ, ◌+◌, ◌-◌, ◌≤◌, ◌<◌, sym, ap, subst, ◌∙◌, arith}
+use Rattle.euler_operators.specs.HalfEdge.{edge_of, mate}
 use Rattle.euler_operators.specs.Model.{round}
-use Rattle.euler_laws.proofs.shared.Bounds.{steps, steps_are}
-use Rattle.euler_laws.proofs.shared.Rows.{half_of, of_half}
-use Rattle.solid_walks.proofs.TwoWays.{Unseen, Facing, unseen_start, unseen_ended, faced_there, met_back, lesser_back, step_back, met_ahead, lesser_ahead, step_ahead, not_less, less}
+use Rattle.euler_laws.proofs.shared.Bounds.{steps, steps_are, half_below}
+use Rattle.solid_walks.proofs.TwoWays.{Unseen, before_there, unseen_start, unseen_ended, faced_there, met_back, lesser_back, step_back, met_ahead, lesser_ahead, step_ahead, not_less, less}
 use Rattle.solid_walks.proofs.around.leads.Goals as goal
+
+pub mate_code-behind-requires : goal.mate_code-behind-requires
+mate_code-behind-requires c =
+    let M = c.args.arena.now.model in let s = c.requires.ready.sound in
+    let b = half_below M s _ (before_there M s c.args.code c.requires.there) in omega (arith, b, steps_are, c.requires.previous)
 
 pub round-init : goal.round-init
 round-init c =
-    let M = c.args.arena.now.model in let h : ℕ = code c.args.h in
+    let M = c.args.arena.now.model in let h : ℕ = c.args.code in
     record {
       last = h;
-      walk = subst (Unseen M h h h) (omega arith) (unseen_start M c.requires.ready.sound h (half_of M c.args.h c.requires.there));
-      comes = c.mate-behind.ensures.mate ∙ ap mate c.requires.previous;
+      walk = subst (Unseen M h h h) (omega arith) (unseen_start M c.requires.ready.sound h c.requires.there);
+      comes = c.mate_code-behind.ensures ∙ ap mate c.requires.previous;
     }
 
-pub returns-then-same : goal.returns-then-same
-returns-then-same c =
-    let M = c.args.arena.now.model in
-    sym (met_back M c.requires.ready.sound (code c.args.h) (half_of M c.args.h c.requires.there) (code c.round.ahead) (code c.round.behind) (steps - c.round.counter) c.round.invariant
-    (eqb-true (code c.round.behind) (code c.round.ahead) (sym c.same.ensures ∙ c.if-same.true)))
+pub returns-then-behind-ahead : goal.returns-then-behind-ahead
+returns-then-behind-ahead c = sym (met_back c.args.arena.now.model c.requires.ready.sound c.args.code c.requires.there c.round.ahead c.round.behind (steps - c.round.counter) c.round.invariant c.if-behind-ahead.true)
 
-pub returns-then-behind-h : goal.returns-then-behind-h
-returns-then-behind-h c =
-    let M = c.args.arena.now.model in
-    sym (lesser_back M c.requires.ready.sound (code c.args.h) (half_of M c.args.h c.requires.there) (code c.round.ahead) (code c.round.behind) (steps - c.round.counter) c.round.invariant
-    (eqb-false (code c.round.behind) (code c.round.ahead) (sym c.same.ensures ∙ c.if-same.false)) (less c.round.behind c.args.h (code c.round.behind) refl c.if-behind-h.true))
+pub returns-then-behind-edge : goal.returns-then-behind-edge
+returns-then-behind-edge c =
+    sym (lesser_back c.args.arena.now.model c.requires.ready.sound c.args.code c.requires.there c.round.ahead c.round.behind (steps - c.round.counter) c.round.invariant c.if-behind-ahead.false (less c.round.behind c.args.code c.if-behind-edge.true))
+
+pub returns-then-next-behind : goal.returns-then-next-behind
+returns-then-next-behind c =
+    let M = c.args.arena.now.model in let s = c.requires.ready.sound in let h : ℕ = c.args.code in let n : ℕ = steps - c.round.counter in
+    let back : Unseen M h c.round.ahead c.round.behind n =
+    step_back M s h c.requires.there c.round.ahead c.round.behind n c.round.invariant c.if-behind-ahead.false (not_less c.round.behind h c.if-behind-edge.false) in
+    sym (met_ahead M s h c.requires.there c.round.ahead c.round.behind n back (sym c.round-next.ensures ∙ c.if-next-behind.true))
+
+pub returns-then-next-edge : goal.returns-then-next-edge
+returns-then-next-edge c =
+    let M = c.args.arena.now.model in let s = c.requires.ready.sound in let h : ℕ = c.args.code in let n : ℕ = steps - c.round.counter in
+    let back : Unseen M h c.round.ahead c.round.behind n =
+    step_back M s h c.requires.there c.round.ahead c.round.behind n c.round.invariant c.if-behind-ahead.false (not_less c.round.behind h c.if-behind-edge.false) in
+    sym (lesser_ahead M s h c.requires.there c.round.ahead c.round.behind n back (λ e. c.if-next-behind.false (c.round-next.ensures ∙ e))
+    (subst (λ x. edge_of x < edge_of h) c.round-next.ensures (less c.round-next.result h c.if-next-edge.true)))
 
 pub round-next-requires-clause-there : goal.round-next-requires-clause-there
-round-next-requires-clause-there c = of_half c.args.arena.now.model c.round.ahead c.round.invariant.walk.ahead_there
-
-pub returns-then-same-2 : goal.returns-then-same-2
-returns-then-same-2 c =
-    let M = c.args.arena.now.model in let h : ℕ = code c.args.h in let t = half_of M c.args.h c.requires.there in let a : ℕ = code c.round.ahead in let b : ℕ = code c.round.behind in let n : ℕ = steps - c.round.counter in
-    let apart = eqb-false b a (sym c.same.ensures ∙ c.if-same.false) in
-    let back : Unseen M h a b n = step_back M c.requires.ready.sound h t a b n c.round.invariant apart (not_less c.round.behind c.args.h b refl c.if-behind-h.false) in
-    sym (met_ahead M c.requires.ready.sound h t a b n back (sym c.round-next.ensures.round ∙ eqb-true (code c.round-next.result) b (sym c.same-in-round.ensures ∙ c.if-same-2.true)))
-
-pub returns-then-next-h : goal.returns-then-next-h
-returns-then-next-h c =
-    let M = c.args.arena.now.model in let h : ℕ = code c.args.h in let t = half_of M c.args.h c.requires.there in let a : ℕ = code c.round.ahead in let b : ℕ = code c.round.behind in let n : ℕ = steps - c.round.counter in
-    let apart = eqb-false b a (sym c.same.ensures ∙ c.if-same.false) in
-    let other = eqb-false (code c.round-next.result) b (sym c.same-in-round.ensures ∙ c.if-same-2.false) in
-    let back : Unseen M h a b n = step_back M c.requires.ready.sound h t a b n c.round.invariant apart (not_less c.round.behind c.args.h b refl c.if-behind-h.false) in
-    sym (lesser_ahead M c.requires.ready.sound h t a b n back (λ e. other (c.round-next.ensures.round ∙ e)) (less c.round-next.result c.args.h (round M a) c.round-next.ensures.round c.if-next-h.true))
+round-next-requires-clause-there c = c.round.invariant.walk.ahead_there
 
 pub back-behind-requires-clause-there : goal.back-behind-requires-clause-there
 back-behind-requires-clause-there c =
-    let M = c.args.arena.now.model in let h : ℕ = code c.args.h in
-    of_half M c.round.behind (faced_there M c.requires.ready.sound h (half_of M c.args.h c.requires.there) (code c.round.ahead) (code c.round.behind) (steps - c.round.counter) c.round.invariant)
+    faced_there c.args.arena.now.model c.requires.ready.sound c.args.code c.requires.there c.round.ahead c.round.behind (steps - c.round.counter) c.round.invariant
 
 pub round-preserved : goal.round-preserved
 round-preserved c =
-    let M = c.args.arena.now.model in let h : ℕ = code c.args.h in let t = half_of M c.args.h c.requires.there in let a : ℕ = code c.round.ahead in let b : ℕ = code c.round.behind in let n : ℕ = steps - c.round.counter in
-    let apart = eqb-false b a (sym c.same.ensures ∙ c.if-same.false) in
-    let other = eqb-false (code c.round-next.result) b (sym c.same-in-round.ensures ∙ c.if-same-2.false) in
-    let back : Unseen M h a b n = step_back M c.requires.ready.sound h t a b n c.round.invariant apart (not_less c.round.behind c.args.h b refl c.if-behind-h.false) in
-    let both : Unseen M h (round M a) b (steps - (c.round.counter + 1)) =
-    step_ahead M c.requires.ready.sound h t a b n back (steps - (c.round.counter + 1)) (omega (arith, steps_are))
-    (λ e. other (c.round-next.ensures.round ∙ e)) (not_less c.round-next.result c.args.h (round M a) c.round-next.ensures.round c.if-next-h.false) in
-    record { last = b; walk = subst (λ x. Unseen M h x b (steps - (c.round.counter + 1))) (sym c.round-next.ensures.round) both; comes = c.back-behind.ensures.back }
+    let M = c.args.arena.now.model in let s = c.requires.ready.sound in let h : ℕ = c.args.code in let n : ℕ = steps - c.round.counter in
+    let back : Unseen M h c.round.ahead c.round.behind n =
+    step_back M s h c.requires.there c.round.ahead c.round.behind n c.round.invariant c.if-behind-ahead.false (not_less c.round.behind h c.if-behind-edge.false) in
+    let both : Unseen M h (round M c.round.ahead) c.round.behind (steps - (c.round.counter + 1)) =
+    step_ahead M s h c.requires.there c.round.ahead c.round.behind n back (steps - (c.round.counter + 1)) (omega (arith, steps_are)) (λ e. c.if-next-behind.false (c.round-next.ensures ∙ e))
+    (subst (λ x. edge_of h ≤ edge_of x) c.round-next.ensures (not_less c.round-next.result h c.if-next-edge.false)) in
+    record {
+      last = c.round.behind;
+      walk = subst (λ x. Unseen M h x c.round.behind (steps - (c.round.counter + 1))) (sym c.round-next.ensures) both;
+      comes = c.back-behind.ensures;
+    }
 
 pub returns : goal.returns
-returns c =
-    let M = c.args.arena.now.model in
-    sym (unseen_ended M c.requires.ready.sound (code c.args.h) (half_of M c.args.h c.requires.there) (code c.round.ahead) c.round.invariant.last (steps - c.round.counter) c.round.invariant.walk (omega (arith, steps_are)))
+returns c = sym (unseen_ended c.args.arena.now.model c.requires.ready.sound c.args.code c.requires.there c.round.ahead c.round.invariant.last (steps - c.round.counter) c.round.invariant.walk (omega (arith, steps_are)))

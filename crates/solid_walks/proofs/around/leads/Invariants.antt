@@ -1,8 +1,7 @@
 use Rattle.std.proofs.Common.{◌-◌}
-use Rattle.euler_operators.specs.HalfEdge.{code}
 use Rattle.euler_laws.proofs.shared.Bounds.{steps}
 use Rattle.solid_walks.proofs.TwoWays.{Facing}
 use Rattle.solid_walks.proofs.around.leads.Given as goal
 
 abbrev pub invariant-round : goal.invariant-round
-invariant-round l = Facing l.arena.model (code l.h) (code l.ahead) (code l.behind) (steps - l.counter)
+invariant-round l = Facing l.arena.model l.code l.ahead l.behind (steps - l.counter)

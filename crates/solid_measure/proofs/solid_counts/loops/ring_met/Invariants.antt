@@ -6,4 +6,7 @@ use Rattle.solid_measure.proofs.solid_counts_laws.LoopRounds.{MetRound}
 use Rattle.solid_measure.proofs.solid_counts.loops.ring_met.Given as goal
 
 abbrev pub invariant-round : goal.invariant-round
-invariant-round l = MetRound l.arena.model l.l (code l.first) (code l.h) (steps - l.counter) l.sum × (code l.last ≡ before l.arena.model (code l.h))
+invariant-round l = record {
+  met : MetRound l.arena.model l.l (code l.fn.first) l.code (steps - l.counter) l.sum;
+  last : l.last ≡ before l.arena.model l.code;
+}
