@@ -1,50 +1,60 @@
 -- What the steps of a block say, put together.
-use Rattle.std.specs.Prelude.{get_or}
-use Rattle.std.proofs.Common.{◌≡◌, ℕ, ◌+◌, ◌<◌, ℤ, pos, List, None, ap, ◌∙◌, subst}
+use Rattle.std.specs.Prelude.{get_or, map}
+use Rattle.std.proofs.Common.{◌≡◌, ℕ, ◌<◌, ℤ, pos, List, None, sym, ap, ◌∙◌, subst}
 use Rattle.euler_operators.specs.declared.Point.{Point}
 use Rattle.euler_operators.specs.Points.{IsInRange}
+use Rattle.euler_operators.specs.Vectors.{moved}
+use Rattle.euler_operators.specs.HalfEdge.{plus}
 use Rattle.euler_operators.specs.Model.{Model, no_point}
 use Rattle.euler_operators.specs.Sound.{Sound}
-use Rattle.shapes.specs.Fresh.{taken_in}
+use Rattle.shapes.specs.Fresh.{Taken, taken_in, numbers_after}
 use Rattle.shapes.specs.Lamina.{lamina_refusal, lamina_model, lamina_face}
 use Rattle.shapes.specs.Prism.{prism_refusal, prism_model}
 use Rattle.shapes.specs.Block.{vector, base_of, block_refusal, block_model}
-use Rattle.sweeps_laws.proofs.lamina.Walk.{lamina_goes}
+use Rattle.sweeps_laws.proofs.lamina.Walk.{lamina_goes, lamina_is_sound}
 use Rattle.sweeps_laws.proofs.lamina.Blocks.{blocks_have_bases, bases_rise}
-use Rattle.solid_walks.specs.Counters.{taken_of}
-use Rattle.solid_walks.specs.declared.numbers.Counters.{Counters}
+use Rattle.sweeps_laws.specs.prism.SweepOps.{loop_ops}
+use Rattle.euler_laws.specs.Laws.{effects}
+use Rattle.shapes.proofs.fresh.Tests.{Left}
+use Rattle.sweeps.specs.Raising.{CanRise, with_lamina}
+use Rattle.sweeps.proofs.Base.{base, base_rises, base_risen}
 
--- the arena that was read is the draft's, and sound
-pub record Read (M : Model) (k : Counters) : Type 0 where
-  pub store : Model
-  pub same : store ≡ M
-  pub sound : Sound store
-  pub counted : taken_of k ≡ taken_in store
-
-module _ (M : Model) (s : ℕ) (p : Point) (dx dy dz : ℤ) (e : block_refusal M s p dx dy dz ≡ None) where
+module _ (M : Model) (sound : Sound M) (s : ℕ) (p : Point) (dx dy dz : ℤ) (e : block_refusal M s p dx dy dz ≡ None) where
   -- the corners of the base are in range
-  pub corner_fits : (N : Model) → N ≡ M → Sound N → (i : ℕ) → i < 4 → IsInRange (get_or (base_of p dx dy) i no_point)
-  corner_fits N same sound = (lamina_goes M s (base_of p dx dy) (subst Sound same sound) (blocks_have_bases M s p dx dy dz e)).points_fit
+  pub corner_fits : (i : ℕ) → i < 4 → IsInRange (get_or (base_of p dx dy) i no_point)
+  corner_fits = (lamina_goes M s (base_of p dx dy) sound (blocks_have_bases M s p dx dy dz e)).points_fit
+
+  -- there are numbers left for its lamina
+  pub base_left : Left (taken_in M) 2 2 4 4
+  base_left = (lamina_goes M s (base_of p dx dy) sound (blocks_have_bases M s p dx dy dz e)).left
 
   -- its lamina can be made
   pub base_goes : (ps : List Point) → ps ≡ base_of p dx dy → lamina_refusal M s ps ≡ None
   base_goes ps is = ap (lamina_refusal M s) is ∙ blocks_have_bases M s p dx dy dz e
 
-  module _ (k : Counters) (read : Read M k) (ps : List Point) (is : ps ≡ base_of p dx dy) (N : Model) (made : N ≡ lamina_model M s ps) where
-    face_is : k.faces + 1 ≡ lamina_face M
-    face_is = ap (λ c. c.face + 1) (read.counted ∙ ap taken_in read.same)
-
+  module _ (ps : List Point) (is : ps ≡ base_of p dx dy) (N : Model) (made : N ≡ lamina_model M s ps) (d : Point) (up : d ≡ vector (pos 0) (pos 0) dz)
+      (hs : List ℕ) (holds : hs ≡ map plus (numbers_after (taken_in M).edge 4)) (k : Taken) (counted : k ≡ with_lamina (taken_in M) 4) where
     lamina_is : N ≡ lamina_model M s (base_of p dx dy)
     lamina_is = made ∙ ap (lamina_model M s) is
 
+    base_is : N ≡ base M sound s p (moved p (vector dx (pos 0) (pos 0))) (moved p (vector dx dy (pos 0))) (moved p (vector (pos 0) dy (pos 0)))
+    unfolding lamina_model
+    base_is = lamina_is
+
+    same : Sound N
+    same = subst Sound (sym made) (lamina_is_sound M s ps sound (base_goes ps is))
+
+    rise_goes : prism_refusal N (lamina_face M) d ≡ None
+    rise_goes = (λ i. prism_refusal (lamina_is i) (lamina_face M) (up i)) ∙ bases_rise M s p dx dy dz sound e
+
     -- and its first face swept
-    pub rise_goes : (d : Point) → d ≡ vector (pos 0) (pos 0) dz → prism_refusal N (k.faces + 1) d ≡ None
-    rise_goes d up = (λ i. prism_refusal (lamina_is i) (face_is i) (up i)) ∙ bases_rise M s p dx dy dz (subst Sound read.same read.sound) e
+    pub block_rises : CanRise N k d hs
+    block_rises = base_rises M sound s _ _ _ _ N base_is same d rise_goes hs holds k counted
 
     -- which makes the block
-    pub rise_makes : (d : Point) → d ≡ vector (pos 0) (pos 0) dz → prism_model N (k.faces + 1) d ≡ block_model M s p dx dy dz
+    pub block_risen : (X : Model) → X ≡ effects N (loop_ops N k d hs) → X ≡ block_model M s p dx dy dz
     unfolding block_model
-    rise_makes d up = λ i. prism_model (lamina_is i) (face_is i) (up i)
+    block_risen X x = base_risen M sound s _ _ _ _ N base_is same d rise_goes hs holds k counted X x ∙ (λ i. prism_model (lamina_is i) (lamina_face M) (up i))
 
 -- what holds of the sizes as they were passed on holds of the sizes
 pub at_sizes : (P : ℤ → ℤ → ℤ → Type 0) (a b g x y z : ℤ) → a ≡ x → b ≡ y → g ≡ z → P a b g → P x y z

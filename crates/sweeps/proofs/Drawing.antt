@@ -20,9 +20,9 @@ use Rattle.sweeps_laws.proofs.lamina.Walk.{lamina_goes, next_accepted, next_made
 use Rattle.solid_walks.specs.Counters.{taken_of}
 use Rattle.solid_walks.specs.declared.numbers.Counters.{Counters}
 
--- the premises, from what the calls before the first step say
-pub begun : (M N : Model) (k : Counters) (s : ℕ) (ps qs : List Point) → N ≡ M → Sound N → taken_of k ≡ taken_in N → qs ≡ ps → lamina_refusal M s ps ≡ None → Goes M (taken_of k) s qs (length qs)
-begun M N k s ps qs same sound is alike e = subst (λ c. Goes M c s qs (length qs)) (sym (is ∙ ap taken_in same)) (lamina_goes M s qs (subst Sound same sound) (ap (lamina_refusal M s) alike ∙ e))
+-- the premises, from what the steps are told
+pub begun : (M : Model) (k : Counters) (s : ℕ) (ps : List Point) → Sound M → taken_of k ≡ taken_in M → lamina_refusal M s ps ≡ None → Goes M (taken_of k) s ps (length ps)
+begun M k s ps sound is e = subst (λ c. Goes M c s ps (length ps)) (sym is) (lamina_goes M s ps sound e)
 
 -- where a verdict is no refusal
 pub passed : (o : Option Refusal) (u : Unit {0}) → verdict o ≡ Ok u → o ≡ None

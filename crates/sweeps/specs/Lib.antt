@@ -1,4 +1,5 @@
 pub mod Corners
+pub mod Raising
 pub mod Measures
 pub mod Machine
 pub mod Calls

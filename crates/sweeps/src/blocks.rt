@@ -1,22 +1,26 @@
 //! The block: a lamina swept up, as one command.
-ghost use Rattle.std.specs.Prelude.{◌≡◌, ◌↔◌, pos, None, Some, Err, OnOk, OnErr};
+ghost use Rattle.std.specs.Prelude.{◌≡◌, ◌≤◌, ◌↔◌, ◌+◌, pos, map, None, Some, Err, OnOk, OnErr};
 ghost use Rattle.euler_operators.specs.Points.{IsInRange, is_in_range};
 ghost use Rattle.euler_operators.specs.Vectors.{moved};
+ghost use Rattle.euler_operators.specs.HalfEdge.{code, plus};
 ghost use Rattle.euler_operators.specs.Conditions.{verdict};
 ghost use Rattle.euler_operators.specs.declared.Refusal.{Refusal};
 ghost use Rattle.euler_conditions.specs.Ready.{IsReady};
 ghost use Rattle.shapes.specs.Block.{vector, base_of, block_model};
 ghost use Rattle.shapes.specs.Block as spec;
+ghost use Rattle.shapes.specs.Fresh.{numbers_after, taken_in};
+ghost use Rattle.solid_walks.specs.Counters.{AreWithin, taken_of};
 ghost use Rattle.undo_journal.specs.Journal.{IsRecorded};
 ghost use Rattle.sweeps.specs.Machine.{block, block_refusal};
+ghost use Rattle.sweeps.specs.Raising.{with_lamina};
 
 use crate::laminas::draw_lamina;
-use crate::raising::raise;
+use crate::raising::raise_items;
 use euler_conditions::Arena;
 use euler_operators::{
-    Kind, Point, Refusal, Why, is_number, point_in_range, refused, sum, sum_in_range,
+    HalfEdge, Kind, Point, Refusal, Why, is_number, point_in_range, refused, sum, sum_in_range,
 };
-use solid_walks::{check_left, counters_of};
+use solid_walks::{Counters, check_left, counters_of};
 use std::alloc::{AllocError, Global};
 use undo_journal::{Draft, Failure, Session};
 
@@ -32,8 +36,15 @@ fn is_near(point: Point) -> bool
 /// Refused, in this order: NumberRange; SolidTaken; SizeRange with 1, 2 or 3 for the first size below 1; PointRange with 1 for
 /// the corner, 2 for the opposite one; NumbersSpent with 2 for faces, 3 for loops, 4 for edges, 5 for vertices.
 #[tactic(auto, unfolding(shapes::specs::Block::block_conditions))]
-fn check_block(arena: &Arena, solid: u32, corner: Point, size: Point) -> Result<(), Refusal>
-    requires { IsReady arena.now }
+fn check_block(
+    arena: &Arena,
+    taken: Counters,
+    solid: u32,
+    corner: Point,
+    size: Point,
+) -> Result<(), Refusal>
+    requires ready { IsReady arena.now }
+    requires taken { taken_of taken ≡ taken_in arena.now.model }
     ensures { result ≡ verdict (spec.block_refusal arena.now.model solid corner size.x size.y size.z) }
 {
     if !is_number(solid) {
@@ -57,7 +68,7 @@ fn check_block(arena: &Arena, solid: u32, corner: Point, size: Point) -> Result<
     if !sum_in_range(corner, size) {
         return refused(Why::PointRange, 2);
     }
-    check_left(counters_of(arena), 6, 6, 12, 8)
+    check_left(taken, 6, 6, 12, 8)
 }
 
 /// The corners of a block's base.
@@ -81,48 +92,80 @@ fn base(corner: Point, size: Point) -> [Point; 4]
     [corner, second, third, fourth]
 }
 
-/// Draws a block whose conditions hold: the lamina of its base, and then the sweep of the lamina's first face. Where memory is
-/// refused the draft holds what was drawn so far.
+/// The half-edges of the first face of a lamina with four corners, in the order of listings.
+fn base_items(taken: &Counters) -> [HalfEdge; 4]
+    requires { taken.now.edges + 4 ≤ 1000000 }
+    ensures { map code result ≡ map plus (numbers_after taken.now.edges 4) }
+{
+    let first = HalfEdge::plus(taken.edges + 1);
+    let second = HalfEdge::plus(taken.edges + 2);
+    let third = HalfEdge::plus(taken.edges + 3);
+    let fourth = HalfEdge::plus(taken.edges + 4);
+    [first, second, third, fourth]
+}
+
+/// The counters once a lamina with four corners is drawn.
+fn counted_with_base(taken: &Counters) -> Counters
+    requires faces { taken.now.faces + 2 ≤ 1000000 }
+    requires loops { taken.now.loops + 2 ≤ 1000000 }
+    requires edges { taken.now.edges + 4 ≤ 1000000 }
+    requires vertices { taken.now.vertices + 4 ≤ 1000000 }
+    ensures { taken_of result ≡ with_lamina (taken_of taken.now) 4 }
+{
+    Counters {
+        faces: taken.faces + 2,
+        loops: taken.loops + 2,
+        edges: taken.edges + 4,
+        vertices: taken.vertices + 4,
+    }
+}
+
+/// Draws a block whose conditions hold: the lamina of its base, and then the sweep of the lamina's first face, of which all half-edges are
+/// known. Where memory is refused the draft holds what was drawn so far.
 fn draw_base_and_walls(
-    alloc: Global,
     draft: &mut Draft,
+    taken: &Counters,
     solid: u32,
     corner: Point,
     size: Point,
 ) -> Result<(), AllocError>
-    requires { spec.block_refusal draft.old.model solid corner size.x size.y size.z ≡ None }
+    requires taken { taken_of taken.now ≡ taken_in draft.old.model }
+    requires within { AreWithin taken.now }
+    requires accepted { spec.block_refusal draft.old.model solid corner size.x size.y size.z ≡ None }
     ensures ok { OnOk result (draft.new.model ≡ block_model draft.old.model solid corner size.x size.y size.z) }
     ensures session { draft.new.session ≡ draft.old.session }
 {
-    let taken = counters_of(draft.arena());
+    draft.stays_consistent();
     let corners = base(corner, size);
-    draw_lamina(draft, solid, corners.as_slice())?;
+    draw_lamina(draft, taken, solid, corners.as_slice())?;
+    let items = base_items(taken);
     let mut up = size;
     up.x = 0;
     up.y = 0;
-    raise(alloc, draft, taken.faces + 1, up)
+    raise_items(draft, &counted_with_base(taken), items.as_slice(), up)
 }
 
 /// Draws a block whose conditions hold, with the memory for its thirteen steps taken at once. Where memory is refused the draft holds
 /// what was drawn so far.
 fn draw_block(
-    alloc: Global,
     draft: &mut Draft,
+    taken: &Counters,
     solid: u32,
     corner: Point,
     size: Point,
 ) -> Result<(), AllocError>
-    requires { spec.block_refusal draft.old.model solid corner size.x size.y size.z ≡ None }
+    requires taken { taken_of taken.now ≡ taken_in draft.old.model }
+    requires within { AreWithin taken.now }
+    requires accepted { spec.block_refusal draft.old.model solid corner size.x size.y size.z ≡ None }
     ensures ok { OnOk result (draft.new.model ≡ block_model draft.old.model solid corner size.x size.y size.z) }
     ensures session { draft.new.session ≡ draft.old.session }
 {
     draft.reserve(13)?;
-    draw_base_and_walls(alloc, draft, solid, corner, size)
+    draw_base_and_walls(draft, taken, solid, corner, size)
 }
 
 /// A block as one command, by its sizes in one vector.
 fn block_of(
-    alloc: Global,
     session: Session,
     solid: u32,
     corner: Point,
@@ -133,14 +176,16 @@ fn block_of(
     ensures refused { (refusal : Refusal) → ((result.1 ≡ Err (Failure.Refused refusal)) ↔ (block_refusal session.machine solid corner size.x size.y size.z ≡ Some refusal)) }
     ensures err { OnErr result.1 (result.0 ≡ session) }
 {
-    if let Err(refusal) = check_block(session.arena(), solid, corner, size) {
+    let arena = session.arena();
+    let taken = counters_of(arena);
+    if let Err(refusal) = check_block(arena, taken, solid, corner, size) {
         return (session, Err(Failure::Refused(refusal)));
     }
     let mut draft = match Draft::open(session) {
         Ok(draft) => draft,
         Err((session, error)) => return (session, Err(Failure::Memory(error))),
     };
-    match draw_block(alloc, &mut draft, solid, corner, size) {
+    match draw_block(&mut draft, &taken, solid, corner, size) {
         Ok(()) => (draft.commit(), Ok(())),
         Err(error) => (draft.abandon(), Err(Failure::Memory(error))),
     }
@@ -171,5 +216,5 @@ pub fn block(
         y: dy,
         z: dz,
     };
-    block_of(alloc, session, solid, corner, size)
+    block_of(session, solid, corner, size)
 }

@@ -6,8 +6,10 @@ ghost use Rattle.euler_operators.specs.Model.{no_point};
 ghost use Rattle.euler_operators.specs.Conditions.{verdict};
 ghost use Rattle.euler_conditions.specs.Ready.{IsReady};
 ghost use Rattle.euler_operators.specs.declared.Refusal.{Refusal};
+ghost use Rattle.shapes.specs.Fresh.{taken_in};
 ghost use Rattle.shapes.specs.Lamina.{lamina_model};
 ghost use Rattle.shapes.specs.Lamina as spec;
+ghost use Rattle.solid_walks.specs.Counters.{AreWithin, taken_of};
 ghost use Rattle.undo_journal.specs.Journal.{IsRecorded};
 ghost use Rattle.sweeps.specs.Machine.{lamina, lamina_refusal};
 
@@ -16,7 +18,7 @@ use euler_conditions::Arena;
 use euler_operators::{
     Corner, HalfEdge, Kind, Op, Point, Refusal, Why, is_number, point_in_range, refused,
 };
-use solid_walks::{check_left, counters_of};
+use solid_walks::{Counters, check_left, counters_of};
 use std::alloc::{AllocError, Global};
 use undo_journal::{Draft, Failure, Session};
 
@@ -71,8 +73,14 @@ fn first_repeated(points: &[Point]) -> Option<u32>
 /// Refused, in this order: NumberRange; SolidTaken; FewPoints with how many there are; PointRange and RepeatedPoint with the
 /// place, from 1, of the first such point; NumbersSpent with 2 for faces, 3 for loops, 4 for edges, 5 for vertices.
 #[tactic(auto, unfolding(shapes::specs::Lamina::lamina_conditions))]
-fn check_lamina(arena: &Arena, solid: u32, points: &ArrayVec<Point, 64>) -> Result<(), Refusal>
-    requires { IsReady arena.now }
+fn check_lamina(
+    arena: &Arena,
+    taken: Counters,
+    solid: u32,
+    points: &ArrayVec<Point, 64>,
+) -> Result<(), Refusal>
+    requires ready { IsReady arena.now }
+    requires taken { taken_of taken ≡ taken_in arena.now.model }
     ensures { result ≡ verdict (spec.lamina_refusal arena.now.model solid points.now.items) }
 {
     if !is_number(solid) {
@@ -91,7 +99,7 @@ fn check_lamina(arena: &Arena, solid: u32, points: &ArrayVec<Point, 64>) -> Resu
     if let Some(place) = first_repeated(points.as_slice()) {
         return refused(Why::RepeatedPoint, place);
     }
-    check_left(counters_of(arena), 2, 2, count, count)
+    check_left(taken, 2, 2, count, count)
 }
 
 /// Point i of some points.
@@ -104,13 +112,20 @@ fn point_at(points: &[Point], i: usize) -> Point
 
 /// Draws a lamina whose conditions hold: its operators, one after the other. Where memory is refused the draft holds what was
 /// drawn so far.
-pub(crate) fn draw_lamina(draft: &mut Draft, solid: u32, points: &[Point]) -> Result<(), AllocError>
+pub(crate) fn draw_lamina(
+    draft: &mut Draft,
+    taken: &Counters,
+    solid: u32,
+    points: &[Point],
+) -> Result<(), AllocError>
+    requires taken { taken_of taken.now ≡ taken_in draft.old.model }
+    requires within { AreWithin taken.now }
     requires few { length points.now ≤ 64 }
     requires accepted { spec.lamina_refusal draft.old.model solid points.now ≡ None }
     ensures ok { OnOk result (draft.new.model ≡ lamina_model draft.old.model solid points.now) }
     ensures session { draft.new.session ≡ draft.old.session }
 {
-    let taken = counters_of(draft.arena());
+    draft.stays_consistent();
     let first = point_at(points, 0);
     draft.step_accepted(Op::Mvfs(
         solid,
@@ -156,14 +171,16 @@ pub fn lamina(
     ensures refused { (refusal : Refusal) → ((result.1 ≡ Err (Failure.Refused refusal)) ↔ (lamina_refusal session.machine solid points.now.items ≡ Some refusal)) }
     ensures err { OnErr result.1 (result.0 ≡ session) }
 {
-    if let Err(refusal) = check_lamina(session.arena(), solid, points) {
+    let arena = session.arena();
+    let taken = counters_of(arena);
+    if let Err(refusal) = check_lamina(arena, taken, solid, points) {
         return (session, Err(Failure::Refused(refusal)));
     }
     let mut draft = match Draft::open(session) {
         Ok(draft) => draft,
         Err((session, error)) => return (session, Err(Failure::Memory(error))),
     };
-    match draw_lamina(&mut draft, solid, points.as_slice()) {
+    match draw_lamina(&mut draft, &taken, solid, points.as_slice()) {
         Ok(()) => (draft.commit(), Ok(())),
         Err(error) => (draft.abandon(), Err(Failure::Memory(error))),
     }

@@ -1,5 +1,5 @@
 //! A face swept operator by operator in a draft.
-ghost use Rattle.std.specs.Prelude.{◌≡◌, ◌≤◌, ◌<◌, ◌+◌, ◌-◌, ◌*◌, true, false, None, OnOk, OnErr, IfOk, length, map};
+ghost use Rattle.std.specs.Prelude.{◌≡◌, ◌≤◌, ◌<◌, ◌+◌, ◌-◌, ◌*◌, true, false, None, OnOk, OnErr, IfOk, get_or, length, map};
 ghost use Rattle.euler_operators.specs.Points.{IsInRange};
 ghost use Rattle.euler_operators.specs.Vectors.{moved};
 ghost use Rattle.euler_operators.specs.HalfEdge.{code};
@@ -14,11 +14,13 @@ ghost use Rattle.shapes.specs.Prism as prism;
 ghost use Rattle.shapes.specs.Prism.{prism_refusal, prism_model};
 ghost use Rattle.sweeps_laws.specs.prism.SweepOps as ops;
 ghost use Rattle.sweeps_laws.specs.prism.Ready.{Ready};
+ghost use Rattle.shapes.specs.Fresh.{taken_in};
 ghost use Rattle.solid_walks.specs.Counters.{taken_of};
+ghost use Rattle.sweeps.specs.Raising.{CanRise};
 
 use euler_conditions::Arena;
 use euler_operators::{Content, Corner, HalfEdge, Kind, Op, Point, sum};
-use solid_walks::{Counters, counters_of, items_from, rings_of};
+use solid_walks::{Counters, items_from, rings_of};
 use std::alloc::{AllocError, Global};
 use undo_journal::Draft;
 
@@ -149,6 +151,36 @@ fn counted_on(taken: &Counters, count: u32) -> Counters
     }
 }
 
+/// The half-edge at place i of some.
+fn item_at(items: &[HalfEdge], i: usize) -> HalfEdge
+    requires { i < length items.now }
+    ensures { result ≡ get_or items.now i result }
+{
+    items[i]
+}
+
+/// Sweeps the loop that holds these half-edges, in the order of listings. On `AllocError` the draft may have taken some steps.
+pub(crate) fn raise_items(
+    draft: &mut Draft,
+    taken: &Counters,
+    items: &[HalfEdge],
+    d: Point,
+) -> Result<(), AllocError>
+    requires { CanRise draft.old.model (taken_of taken.now) d (map code items.now) }
+    ensures model { OnOk result (draft.new.model ≡ effects draft.old.model (ops.loop_ops draft.old.model (taken_of taken.now) d (map code items.now))) }
+    ensures session { draft.new.session ≡ draft.old.session }
+{
+    let count = items.len() as u32;
+    raise_item(draft, taken, item_at(items, 0), 0, d)?;
+    let mut done = 0;
+    'items: while done + 1 < count {
+        raise_item(draft, taken, item_at(items, done as usize + 1), done + 1, d)?;
+        close_side(draft, taken, count, done)?;
+        done += 1;
+    }
+    close_last(draft, taken, count)
+}
+
 /// Sweeps loop l and answers the counters after it.
 fn raise_loop(
     alloc: Global,
@@ -163,29 +195,27 @@ fn raise_loop(
     ensures session { draft.new.session ≡ draft.old.session }
 {
     let items = loop_items(alloc, draft.arena(), l)?;
-    let count = items.len() as u32;
-    raise_item(draft, taken, items[0], 0, d)?;
-    let mut done = 0;
-    'items: while done + 1 < count {
-        raise_item(draft, taken, items[done as usize + 1], done + 1, d)?;
-        close_side(draft, taken, count, done)?;
-        done += 1;
-    }
-    close_last(draft, taken, count)?;
-    Ok(counted_on(taken, count))
+    raise_items(draft, taken, items.as_slice(), d)?;
+    Ok(counted_on(taken, items.len() as u32))
 }
 
 /// Sweeps face f of the draft's model along d, where that isn't refused. On `AllocError` the draft may have taken some steps.
-pub(crate) fn raise(alloc: Global, draft: &mut Draft, f: u32, d: Point) -> Result<(), AllocError>
-    requires { prism_refusal draft.old.model f d ≡ None }
+pub(crate) fn raise(
+    alloc: Global,
+    draft: &mut Draft,
+    taken: &Counters,
+    f: u32,
+    d: Point,
+) -> Result<(), AllocError>
+    requires taken { taken_of taken.now ≡ taken_in draft.old.model }
+    requires accepted { prism_refusal draft.old.model f d ≡ None }
     ensures model { OnOk result (draft.new.model ≡ prism_model draft.old.model f d) }
     ensures session { draft.new.session ≡ draft.old.session }
 {
     let arena = draft.arena();
-    let fresh = counters_of(arena);
     let outer = arena.outer(f);
     let rings: Vec<u32> = rings_of(arena, f).collect(alloc)?;
-    let mut taken = raise_loop(alloc, draft, &fresh, outer, d)?;
+    let mut taken = raise_loop(alloc, draft, taken, outer, d)?;
     let mut rest = rings.as_slice();
     'rings: while let [ring, others @ ..] = rest {
         taken = raise_loop(alloc, draft, &taken, *ring, d)?;

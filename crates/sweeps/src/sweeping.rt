@@ -4,7 +4,9 @@ ghost use Rattle.euler_operators.specs.Vectors.{origin, same_point};
 ghost use Rattle.euler_operators.specs.Conditions.{verdict};
 ghost use Rattle.euler_operators.specs.declared.Refusal.{Refusal};
 ghost use Rattle.euler_conditions.specs.Ready.{IsReady};
+ghost use Rattle.shapes.specs.Fresh.{taken_in};
 ghost use Rattle.shapes.specs.Prism.{prism_refusal};
+ghost use Rattle.solid_walks.specs.Counters.{taken_of};
 ghost use Rattle.undo_journal.specs.Journal.{IsRecorded};
 ghost use Rattle.sweeps.specs.Machine.{sweep, sweep_refusal};
 
@@ -12,7 +14,7 @@ use crate::corners::face_tally;
 use crate::raising::raise;
 use euler_conditions::Arena;
 use euler_operators::{Kind, Point, Refusal, Why, is_number, refused};
-use solid_walks::{check_left, counters_of, least_lone_of_face};
+use solid_walks::{Counters, check_left, counters_of, least_lone_of_face};
 use std::alloc::Global;
 use undo_journal::{Draft, Failure, Session};
 
@@ -29,8 +31,9 @@ fn is_zero(d: Point) -> bool
 /// with the vertex of the first corner whose moved point is out of range; NumbersSpent with 2 for faces, 3 for loops, 4 for edges,
 /// 5 for vertices.
 #[tactic(auto, unfolding(shapes::specs::Prism::prism_conditions, crate::specs::Corners::tally))]
-fn check_sweep(arena: &Arena, f: u32, d: Point) -> Result<(), Refusal>
-    requires { IsReady arena.now }
+fn check_sweep(arena: &Arena, taken: Counters, f: u32, d: Point) -> Result<(), Refusal>
+    requires ready { IsReady arena.now }
+    requires taken { taken_of taken ≡ taken_in arena.now.model }
     ensures { result ≡ verdict (prism_refusal arena.now.model f d) }
 {
     if !is_number(f) {
@@ -50,7 +53,7 @@ fn check_sweep(arena: &Arena, f: u32, d: Point) -> Result<(), Refusal>
         return refused(Why::PointRange, v);
     }
     let count = tally.count as usize;
-    check_left(counters_of(arena), count, count, 2 * count, count)
+    check_left(taken, count, count, 2 * count, count)
 }
 
 /// A sweep as one command: face f moves along d. At each corner of its loops a new edge rises to a new vertex, and each edge of
@@ -66,14 +69,16 @@ pub fn sweep(alloc: Global, session: Session, f: u32, d: Point) -> (Session, Res
     ensures refused { (refusal : Refusal) → ((result.1 ≡ Err (Failure.Refused refusal)) ↔ (sweep_refusal session.machine f d ≡ Some refusal)) }
     ensures err { OnErr result.1 (result.0 ≡ session) }
 {
-    if let Err(refusal) = check_sweep(session.arena(), f, d) {
+    let arena = session.arena();
+    let taken = counters_of(arena);
+    if let Err(refusal) = check_sweep(arena, taken, f, d) {
         return (session, Err(Failure::Refused(refusal)));
     }
     let mut draft = match Draft::open(session) {
         Ok(draft) => draft,
         Err((session, error)) => return (session, Err(Failure::Memory(error))),
     };
-    match raise(alloc, &mut draft, f, d) {
+    match raise(alloc, &mut draft, &taken, f, d) {
         Ok(()) => (draft.commit(), Ok(())),
         Err(error) => (draft.abandon(), Err(Failure::Memory(error))),
     }

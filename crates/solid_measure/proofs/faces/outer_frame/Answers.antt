@@ -1,9 +1,8 @@
-use Rattle.std.proofs.Common.{◌≡◌, ℕ, refl, ap, ◌∙◌}
+use Rattle.std.proofs.Common.{◌≡◌, refl, ap, ◌∙◌}
 use Rattle.euler_operators.specs.declared.Content.{Content}
 use Rattle.euler_operators.specs.declared.HalfEdge.{HalfEdge}
-use Rattle.euler_operators.specs.HalfEdge.{code}
 use Rattle.euler_operators.specs.Items.{head_or}
-use Rattle.euler_operators.specs.Model.{Model, LoopContent, lone, cycle, content, has_half, items_of, point_of}
+use Rattle.euler_operators.specs.Model.{Model, LoopContent, lone, cycle, content, items_of, point_of}
 use Rattle.euler_operators.specs.Table as table
 use Rattle.solid_walks.specs.Store.{Tells}
 use Rattle.solid_walks.proofs.Known.{filled}

@@ -1,28 +1,52 @@
-use Rattle.std.proofs.Common.{ap, arith, length, refl, ◌∙◌}
+use Rattle.std.proofs.Common.{◌≡◌, ap, arith, length, map, subst, sym, refl, ◌∙◌}
 use Rattle.std.proofs.lemmas.Result.{on_ok_weaker}
-use Rattle.sweeps.proofs.BlockSteps.{corner_fits, base_goes, rise_goes, rise_makes}
+use Rattle.euler_operators.specs.HalfEdge.{code, plus}
+use Rattle.euler_operators.specs.Model.{Model}
+use Rattle.shapes.proofs.fresh.Tests.{Left}
+use Rattle.shapes.specs.Fresh.{Taken, numbers_after, taken_in}
+use Rattle.solid_walks.specs.declared.numbers.Counters.{Counters}
+use Rattle.solid_walks.specs.Counters.{taken_of}
+use Rattle.sweeps.specs.Raising.{with_lamina}
+use Rattle.sweeps.proofs.BlockSteps.{corner_fits, base_left, base_goes, block_rises, block_risen}
 use Rattle.sweeps.proofs.blocks.draw_base_and_walls.Goals as goal
 
 pub base-corners-requires-clause-second : goal.base-corners-requires-clause-second
-base-corners-requires-clause-second c = corner_fits _ c.args.solid c.args.corner c.args.size.x c.args.size.y c.args.size.z c.requires _ c.arena.ensures.model c.arena.ensures.ready.sound 1 (omega arith)
+base-corners-requires-clause-second c = corner_fits _ c.stays_consistent.ensures.model c.args.solid c.args.corner c.args.size.x c.args.size.y c.args.size.z c.requires.accepted 1 (omega arith)
 
 pub base-corners-requires-clause-third : goal.base-corners-requires-clause-third
-base-corners-requires-clause-third c = corner_fits _ c.args.solid c.args.corner c.args.size.x c.args.size.y c.args.size.z c.requires _ c.arena.ensures.model c.arena.ensures.ready.sound 2 (omega arith)
+base-corners-requires-clause-third c = corner_fits _ c.stays_consistent.ensures.model c.args.solid c.args.corner c.args.size.x c.args.size.y c.args.size.z c.requires.accepted 2 (omega arith)
 
 pub base-corners-requires-clause-fourth : goal.base-corners-requires-clause-fourth
-base-corners-requires-clause-fourth c = corner_fits _ c.args.solid c.args.corner c.args.size.x c.args.size.y c.args.size.z c.requires _ c.arena.ensures.model c.arena.ensures.ready.sound 3 (omega arith)
+base-corners-requires-clause-fourth c = corner_fits _ c.stays_consistent.ensures.model c.args.solid c.args.corner c.args.size.x c.args.size.y c.args.size.z c.requires.accepted 3 (omega arith)
 
 pub draw_lamina-requires-clause-few : goal.draw_lamina-requires-clause-few
 draw_lamina-requires-clause-few c = let four = ap length (c.as_slice.ensures ∙ c.base-corners.ensures) in omega (arith, four)
 
 pub draw_lamina-requires-clause-accepted : goal.draw_lamina-requires-clause-accepted
-draw_lamina-requires-clause-accepted c = base_goes _ c.args.solid c.args.corner c.args.size.x c.args.size.y c.args.size.z c.requires _ (c.as_slice.ensures ∙ c.base-corners.ensures)
+draw_lamina-requires-clause-accepted c = base_goes _ c.stays_consistent.ensures.model c.args.solid c.args.corner c.args.size.x c.args.size.y c.args.size.z c.requires.accepted _ (c.as_slice.ensures ∙ c.base-corners.ensures)
 
-pub raise-requires : goal.raise-requires
-raise-requires c = rise_goes _ c.args.solid c.args.corner c.args.size.x c.args.size.y c.args.size.z c.requires c.counters_of-taken.result (record { store = c.arena.result.now.model; same = c.arena.ensures.model; sound = c.arena.ensures.ready.sound; counted = c.counters_of-taken.ensures.is }) c.as_slice.result.now (c.as_slice.ensures ∙ c.base-corners.ensures) _ c.in_ok-draw_lamina.ensures.ok _ refl
+left : (M : Model) (k : Counters) → taken_of k ≡ taken_in M → Left (taken_in M) 2 2 4 4 → Left (taken_of k) 2 2 4 4
+left M k is w = subst (λ t. Left t 2 2 4 4) (sym is) w
+
+pub base_items-items-requires : goal.base_items-items-requires
+base_items-items-requires c = (left _ c.args.taken.now c.requires.taken (base_left _ c.stays_consistent.ensures.model c.args.solid c.args.corner c.args.size.x c.args.size.y c.args.size.z c.requires.accepted)).edges
+
+pub counted_with_base-requires-clause-faces : goal.counted_with_base-requires-clause-faces
+counted_with_base-requires-clause-faces c = (left _ c.args.taken.now c.requires.taken (base_left _ c.stays_consistent.ensures.model c.args.solid c.args.corner c.args.size.x c.args.size.y c.args.size.z c.requires.accepted)).faces
+
+pub counted_with_base-requires-clause-loops : goal.counted_with_base-requires-clause-loops
+counted_with_base-requires-clause-loops c = (left _ c.args.taken.now c.requires.taken (base_left _ c.stays_consistent.ensures.model c.args.solid c.args.corner c.args.size.x c.args.size.y c.args.size.z c.requires.accepted)).loops
+
+pub counted_with_base-requires-clause-edges : goal.counted_with_base-requires-clause-edges
+counted_with_base-requires-clause-edges c = (left _ c.args.taken.now c.requires.taken (base_left _ c.stays_consistent.ensures.model c.args.solid c.args.corner c.args.size.x c.args.size.y c.args.size.z c.requires.accepted)).edges
+
+pub counted_with_base-requires-clause-vertices : goal.counted_with_base-requires-clause-vertices
+counted_with_base-requires-clause-vertices c = (left _ c.args.taken.now c.requires.taken (base_left _ c.stays_consistent.ensures.model c.args.solid c.args.corner c.args.size.x c.args.size.y c.args.size.z c.requires.accepted)).vertices
+
+pub raise_items-requires : goal.raise_items-requires
+raise_items-requires c = block_rises _ c.stays_consistent.ensures.model c.args.solid c.args.corner c.args.size.x c.args.size.y c.args.size.z c.requires.accepted c.as_slice.result.now (c.as_slice.ensures ∙ c.base-corners.ensures) _ c.in_ok-draw_lamina.ensures.ok _ refl _
+    (ap (map code) c.as_slice-2.ensures ∙ c.base_items-items.ensures ∙ ap (λ (t : Taken). map plus (numbers_after t.edge 4)) c.requires.taken) _ (c.counted_with_base.ensures ∙ ap (λ t. with_lamina t 4) c.requires.taken)
 
 pub returns-clause-ok : goal.returns-clause-ok
-returns-clause-ok c = on_ok_weaker c.raise.result (λ step. step ∙ rise_makes _ c.args.solid c.args.corner c.args.size.x c.args.size.y c.args.size.z c.requires c.counters_of-taken.result (record { store = c.arena.result.now.model; same = c.arena.ensures.model; sound = c.arena.ensures.ready.sound; counted = c.counters_of-taken.ensures.is }) c.as_slice.result.now (c.as_slice.ensures ∙ c.base-corners.ensures) _ c.in_ok-draw_lamina.ensures.ok _ refl) c.raise.ensures.model
-
-pub returns-clause-session : goal.returns-clause-session
-returns-clause-session c = c.raise.ensures.session ∙ c.in_ok-draw_lamina.ensures.session
+returns-clause-ok c = on_ok_weaker c.raise_items.result (λ step. block_risen _ c.stays_consistent.ensures.model c.args.solid c.args.corner c.args.size.x c.args.size.y c.args.size.z c.requires.accepted c.as_slice.result.now (c.as_slice.ensures ∙ c.base-corners.ensures) _ c.in_ok-draw_lamina.ensures.ok _ refl _
+    (ap (map code) c.as_slice-2.ensures ∙ c.base_items-items.ensures ∙ ap (λ (t : Taken). map plus (numbers_after t.edge 4)) c.requires.taken) _ (c.counted_with_base.ensures ∙ ap (λ t. with_lamina t 4) c.requires.taken) _ step) c.raise_items.ensures.model

@@ -3,35 +3,34 @@ use Rattle.std.proofs.lemmas.Bool.Decides.{nat_tests}
 use Rattle.std.proofs.lemmas.Result.{on_ok_weaker}
 use Rattle.euler_operators.specs.declared.Op.TheVariants.{Mef}
 use Rattle.euler_operators.proofs.Halves.{half-plus, half-minus}
-use Rattle.shapes.specs.Fresh.{taken_in}
 use Rattle.undo_journal.specs.Journal.{DraftJournal}
 use Rattle.sweeps.proofs.Drawing.{begun, first_is, first_goes, first_along, next_goes, next_along, last_goes, last_done}
 use Rattle.sweeps.proofs.laminas.draw_lamina.Goals as goal
 
 pub point_at-first-requires : goal.point_at-first-requires
 point_at-first-requires c =
-    let g = begun _ _ c.counters_of-taken.result c.args.solid _ c.args.points.now c.arena.ensures.model c.arena.ensures.ready.sound c.counters_of-taken.ensures.is refl c.requires.accepted in
+    let g = begun c.args.draft.now.model c.args.taken.now c.args.solid c.args.points.now c.stays_consistent.ensures.model c.requires.taken c.requires.accepted in
     omega (arith, g.many)
 
 pub step_accepted-requires : goal.step_accepted-requires
 step_accepted-requires c =
-    let g = begun _ _ c.counters_of-taken.result c.args.solid _ c.args.points.now c.arena.ensures.model c.arena.ensures.ready.sound c.counters_of-taken.ensures.is refl c.requires.accepted in
+    let g = begun c.args.draft.now.model c.args.taken.now c.args.solid c.args.points.now c.stays_consistent.ensures.model c.requires.taken c.requires.accepted in
     first_goes _ _ c.args.solid c.args.points.now g _ (first_is _ _ c.args.solid c.args.points.now g _ _ refl c.point_at-first.ensures)
 
 pub further-init : goal.further-init
 further-init c =
-    let g = begun _ _ c.counters_of-taken.result c.args.solid _ c.args.points.now c.arena.ensures.model c.arena.ensures.ready.sound c.counters_of-taken.ensures.is refl c.requires.accepted in
+    let g = begun c.args.draft.now.model c.args.taken.now c.args.solid c.args.points.now c.stays_consistent.ensures.model c.requires.taken c.requires.accepted in
     (first_along _ _ c.args.solid c.args.points.now g _ _ (ap (λ (d : DraftJournal). d.model) c.in_ok-step_accepted.ensures.ok) (first_is _ _ c.args.solid c.args.points.now g _ _ refl c.point_at-first.ensures), ap (λ (d : DraftJournal). d.session) c.in_ok-step_accepted.ensures.ok)
 
 pub step_accepted-requires-in-further : goal.step_accepted-requires-in-further
 step_accepted-requires-in-further c =
-    let g = begun _ _ c.counters_of-taken.result c.args.solid _ c.args.points.now c.arena.ensures.model c.arena.ensures.ready.sound c.counters_of-taken.ensures.is refl c.requires.accepted in
+    let g = begun c.args.draft.now.model c.args.taken.now c.args.solid c.args.points.now c.stays_consistent.ensures.model c.requires.taken c.requires.accepted in
     let l : c.further.i < length c.args.points.now = search rules in
     next_goes _ _ c.args.solid c.args.points.now g c.further.i _ c.further.end c.further.invariant.0 _ _ _ _ refl (c.plus.ensures ∙ half-plus _) refl c.point_at-next.ensures l
 
 pub further-preserved : goal.further-preserved
 further-preserved c =
-    let g = begun _ _ c.counters_of-taken.result c.args.solid _ c.args.points.now c.arena.ensures.model c.arena.ensures.ready.sound c.counters_of-taken.ensures.is refl c.requires.accepted in
+    let g = begun c.args.draft.now.model c.args.taken.now c.args.solid c.args.points.now c.stays_consistent.ensures.model c.requires.taken c.requires.accepted in
     let l : c.further.i < length c.args.points.now = search rules in (
       next_along _ _ c.args.solid c.args.points.now g c.further.i _ c.further.end c.further.invariant.0 _ _ _ _ refl (c.plus.ensures ∙ half-plus _) refl c.point_at-next.ensures l _ _ (ap (λ (d : DraftJournal). d.model) c.in_ok-step_accepted-2.ensures.ok) (c.minus.ensures ∙ half-minus _),
       ap (λ (d : DraftJournal). d.session) c.in_ok-step_accepted-2.ensures.ok ∙ c.further.invariant.1,
@@ -39,15 +38,15 @@ further-preserved c =
 
 pub step_accepted-requires-2 : goal.step_accepted-requires-2
 step_accepted-requires-2 c =
-    let g = begun _ _ c.counters_of-taken.result c.args.solid _ c.args.points.now c.arena.ensures.model c.arena.ensures.ready.sound c.counters_of-taken.ensures.is refl c.requires.accepted in
+    let g = begun c.args.draft.now.model c.args.taken.now c.args.solid c.args.points.now c.stays_consistent.ensures.model c.requires.taken c.requires.accepted in
     let e : c.further.i ≡ length c.args.points.now = grind (arith, nat_tests, c.further.invariant.0.within, c.further-test.false) in
     last_goes _ _ c.args.solid c.args.points.now g c.further.i _ c.further.end c.further.invariant.0 e _
-    (λ t. Mef ((c.minus-turn.ensures ∙ half-minus _) t) ((c.plus-start.ensures ∙ half-plus _) t) ((c.plus-2.ensures ∙ half-plus _) t) (c.counters_of-taken.result.faces + 2) (c.counters_of-taken.result.loops + 2))
+    (λ t. Mef ((c.minus-turn.ensures ∙ half-minus _) t) ((c.plus-start.ensures ∙ half-plus _) t) ((c.plus-2.ensures ∙ half-plus _) t) (c.args.taken.now.faces + 2) (c.args.taken.now.loops + 2))
 
 pub returns-clause-ok : goal.returns-clause-ok
 returns-clause-ok c =
-    let g = begun _ _ c.counters_of-taken.result c.args.solid _ c.args.points.now c.arena.ensures.model c.arena.ensures.ready.sound c.counters_of-taken.ensures.is refl c.requires.accepted in
+    let g = begun c.args.draft.now.model c.args.taken.now c.args.solid c.args.points.now c.stays_consistent.ensures.model c.requires.taken c.requires.accepted in
     let e : c.further.i ≡ length c.args.points.now = grind (arith, nat_tests, c.further.invariant.0.within, c.further-test.false) in
     on_ok_weaker c.step_accepted-2.result (λ step. last_done _ _ c.args.solid c.args.points.now g c.further.i _ c.further.end c.further.invariant.0 e _
-    (λ t. Mef ((c.minus-turn.ensures ∙ half-minus _) t) ((c.plus-start.ensures ∙ half-plus _) t) ((c.plus-2.ensures ∙ half-plus _) t) (c.counters_of-taken.result.faces + 2) (c.counters_of-taken.result.loops + 2))
-    _ (ap (λ (d : DraftJournal). d.model) step) (c.counters_of-taken.ensures.is ∙ ap taken_in c.arena.ensures.model)) c.step_accepted-2.ensures.ok
+    (λ t. Mef ((c.minus-turn.ensures ∙ half-minus _) t) ((c.plus-start.ensures ∙ half-plus _) t) ((c.plus-2.ensures ∙ half-plus _) t) (c.args.taken.now.faces + 2) (c.args.taken.now.loops + 2))
+    _ (ap (λ (d : DraftJournal). d.model) step) c.requires.taken) c.step_accepted-2.ensures.ok

@@ -4,6 +4,7 @@ use Rattle.std.proofs.lemmas.Iterator.Consumers.{YieldsList-from_first}
 use Rattle.euler_operators.specs.Table.{has}
 use Rattle.euler_operators.specs.Model.{rings_of}
 use Rattle.euler_operators.specs.Sound.{Sound}
+use Rattle.shapes.specs.Fresh.{taken_in}
 use Rattle.shapes.specs.Prism.{prism_from}
 use Rattle.sweeps_laws.proofs.prism.Whole.{Going}
 use Rattle.sweeps_laws.proofs.prism.Accepted.{face_there}
@@ -13,32 +14,32 @@ use Rattle.sweeps.proofs.raising.raise.Goals as goal
 
 pub outer-outer-requires : goal.outer-outer-requires
 outer-outer-requires c = subst (λ X. has X.faces c.args.f ≡ true) (sym c.arena-arena.ensures.model)
-    (face_there c.args.draft.now.model c.args.f c.args.d (subst Sound c.arena-arena.ensures.model c.arena-arena.ensures.ready.sound) c.requires)
+    (face_there c.args.draft.now.model c.args.f c.args.d (subst Sound c.arena-arena.ensures.model c.arena-arena.ensures.ready.sound) c.requires.accepted)
 
 pub rings_of-requires-clause-there : goal.rings_of-requires-clause-there
 rings_of-requires-clause-there c = subst (λ X. has X.faces c.args.f ≡ true) (sym c.arena-arena.ensures.model)
-    (face_there c.args.draft.now.model c.args.f c.args.d (subst Sound c.arena-arena.ensures.model c.arena-arena.ensures.ready.sound) c.requires)
+    (face_there c.args.draft.now.model c.args.f c.args.d (subst Sound c.arena-arena.ensures.model c.arena-arena.ensures.ready.sound) c.requires.accepted)
 
 pub raise_loop-requires : goal.raise_loop-requires
 raise_loop-requires c =
     let M = c.args.draft.now.model in let A = c.arena-arena.result.now.model in let f = c.args.f in let d = c.args.d in
-    let k = taken_of c.counters_of-fresh.result in let outer = c.outer-outer.result in let rs = c.in_ok-rings.rings.items in
+    let k = taken_of c.args.taken.now in let outer = c.outer-outer.result in let rs = c.in_ok-rings.rings.items in
     let rings = items_from_collect {E = Unit {0}} (Ok c.in_ok-rings.rings) c.in_ok-rings.ensures.ran (YieldsList-from_first (λ l. l) (λ left. left) (rings_of A f) c.rings_of.ensures) in
-    let going = raised.all_going M A c.arena-arena.ensures.model c.arena-arena.ensures.ready.sound f d c.requires k c.counters_of-fresh.ensures.is outer c.outer-outer.ensures rs rings in
+    let going = raised.all_going M A c.arena-arena.ensures.model c.arena-arena.ensures.ready.sound f d c.requires.accepted k (c.requires.taken ∙ ap taken_in (sym c.arena-arena.ensures.model)) outer c.outer-outer.ensures rs rings in
     raised.loop_ready M M k f d outer rs going
 
 pub rings-init : goal.rings-init
 rings-init c =
     let M = c.args.draft.now.model in let A = c.arena-arena.result.now.model in let f = c.args.f in let d = c.args.d in
-    let k = taken_of c.counters_of-fresh.result in let outer = c.outer-outer.result in let rs = c.in_ok-rings.rings.items in
+    let k = taken_of c.args.taken.now in let outer = c.outer-outer.result in let rs = c.in_ok-rings.rings.items in
     let rings = items_from_collect {E = Unit {0}} (Ok c.in_ok-rings.rings) c.in_ok-rings.ensures.ran (YieldsList-from_first (λ l. l) (λ left. left) (rings_of A f) c.rings_of.ensures) in
-    let going = raised.all_going M A c.arena-arena.ensures.model c.arena-arena.ensures.ready.sound f d c.requires k c.counters_of-fresh.ensures.is outer c.outer-outer.ensures rs rings in
+    let going = raised.all_going M A c.arena-arena.ensures.model c.arena-arena.ensures.ready.sound f d c.requires.accepted k (c.requires.taken ∙ ap taken_in (sym c.arena-arena.ensures.model)) outer c.outer-outer.ensures rs rings in
     let X = c.raise_loop.new.draft.model in let t = taken_of c.in_ok-taken.taken in
     record {
       going = subst (Going M X t f d) (sym c.as_slice-rest.ensures.value) (raised.loop_next M M k f d outer rs going X c.in_ok-taken.ensures.model t c.in_ok-taken.ensures.counters);
       model = ap (λ xs. (prism_from f d (record { model = X; taken = t }) xs).model) c.as_slice-rest.ensures.value
           ∙ raised.loop_model M M k f d outer rs going X c.in_ok-taken.ensures.model t c.in_ok-taken.ensures.counters
-          ∙ raised.all_model M A c.arena-arena.ensures.model c.arena-arena.ensures.ready.sound f d c.requires k c.counters_of-fresh.ensures.is outer c.outer-outer.ensures rs rings;
+          ∙ raised.all_model M A c.arena-arena.ensures.model c.arena-arena.ensures.ready.sound f d c.requires.accepted k (c.requires.taken ∙ ap taken_in (sym c.arena-arena.ensures.model)) outer c.outer-outer.ensures rs rings;
       session = c.in_ok-taken.ensures.session;
     }
 

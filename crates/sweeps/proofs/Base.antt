@@ -1,0 +1,114 @@
+-- The lamina of a block's base: its first face has one loop, of four half-edges, and these are ready to be swept.
+use Rattle.std.specs.Prelude.{map, length, reverse}
+use Rattle.std.proofs.Common.{◌≡◌, ◌≢◌, ℕ, ◌+◌, ◌≤◌, not, nat_eq, ◌&&◌, List, [], ◌∷◌, None, refl, sym, ap, subst, ◌∙◌, arith, inl, inr}
+use Rattle.euler_operators.specs.declared.Point.{Point}
+use Rattle.euler_operators.specs.HalfEdge.{plus, minus}
+use Rattle.euler_operators.specs.Rings.{canonical}
+use Rattle.euler_operators.specs.Table as table
+use Rattle.euler_operators.specs.Model.{Model, FaceRow, LoopRow, EdgeRow, cycle, content, items_of, outer, rings_of}
+use Rattle.euler_operators.specs.Sound.{Sound}
+use Rattle.euler_operators.proofs.Tables.{all_where_none, get-put_here, get-put_other}
+use Rattle.euler_operators.proofs.Models.{content_row, face_row, outer_row}
+use Rattle.euler_operators.proofs.Tests.{none_but}
+use Rattle.euler_laws.specs.Laws.{effects}
+use Rattle.shapes.proofs.fresh.Rows.{get-put_cases, greatest-put_last}
+use Rattle.shapes.specs.Fresh.{Taken, taken_in, numbers_after}
+use Rattle.shapes.specs.Lamina.{lamina_at, with_path}
+use Rattle.shapes.specs.Prism.{prism_refusal, prism_model}
+use Rattle.sweeps_laws.specs.prism.SweepOps.{loop_ops, taken_after}
+use Rattle.sweeps_laws.specs.prism.Ready.{Ready}
+use Rattle.sweeps_laws.proofs.FromSound.{sound_bounded}
+use Rattle.sweeps_laws.proofs.lamina.Blocks.{one_or_two, low_not_one}
+use Rattle.sweeps_laws.proofs.lamina.Steps.{greatest-with_path, greatest-with_points}
+use Rattle.sweeps.specs.Raising.{CanRise, with_lamina}
+use Rattle.sweeps.proofs.RaisedLoops as raised
+
+first_is_not_second : (a : ℕ) → a + 1 ≢ a + 2
+first_is_not_second a e = absurd (omega arith)
+
+module _ (M : Model) (sound : Sound M) (s : ℕ) (a b g h : Point) where
+  abbrev c : Taken
+  c = taken_in M
+
+  abbrev pub base : Model
+  base = lamina_at M c s (a ∷ b ∷ g ∷ h ∷ [])
+
+  abbrev first_face : FaceRow
+  first_face = record { solid = s; outer = c.loop + 1 }
+
+  abbrev second_face : FaceRow
+  second_face = record { solid = s; outer = c.loop + 2 }
+
+  abbrev items : List ℕ
+  items = map plus (numbers_after c.edge 4)
+
+  abbrev first_loop : LoopRow
+  first_loop = record { face = c.face + 1; content = cycle items }
+
+  outer_is : outer base (c.face + 1) ≡ c.loop + 1
+  outer_is = outer_row base (c.face + 1) first_face (get-put_other (table.put M.faces (c.face + 1) first_face) (c.face + 2) second_face (c.face + 1) (first_is_not_second c.face) ∙ get-put_here M.faces (c.face + 1) first_face)
+
+  items_are : items_of (content base (c.loop + 1)) ≡ items
+  items_are = ap items_of (content_row base (c.loop + 1) first_loop (get-put_other (table.put M.loops (c.loop + 1) first_loop) (c.loop + 2) _ (c.loop + 1) (first_is_not_second c.loop) ∙ get-put_here M.loops (c.loop + 1) first_loop))
+
+  -- the loops that were there are of other faces
+  no_rings : [] ≡ rings_of base (c.face + 1)
+  no_rings = sym (all_where_none (λ q row. nat_eq row.face (c.face + 1) && not (nat_eq (outer base (c.face + 1)) q)) base.loops (λ q y at. none_but y.face (c.face + 1) (outer base (c.face + 1)) q (λ e. elim (get-put_cases (table.put M.loops (c.loop + 1) first_loop) (c.loop + 2) _ q y at) [
+    | inl p ↦ absurd (one_or_two c.face y.face e (ap (λ (r : LoopRow). r.face) p.1))
+    | inr p ↦ elim (get-put_cases M.loops (c.loop + 1) first_loop q y p.1) [
+      | inl r ↦ outer_is ∙ sym r.0
+      | inr r ↦ absurd (low_not_one c.face y.face (subst (λ k. k ≤ c.face) (face_row M q y r.1) ((sound_bounded M sound).loop_faces q)) e)
+    ]
+  ])))
+
+  abbrev second_loop : LoopRow
+  second_loop = record { face = c.face + 2; content = cycle (canonical (reverse (map minus (numbers_after c.edge 4)))) }
+
+  abbrev last_edge : EdgeRow
+  last_edge = record { plus_tail = c.vertex + 4; minus_tail = c.vertex + 1 }
+
+  faces_taken : table.greatest base.faces ≡ c.face + 2
+  unfolding taken_in
+  faces_taken = greatest-put_last (table.put M.faces (c.face + 1) first_face) (c.face + 2) second_face (omega (arith, greatest-put_last M.faces (c.face + 1) first_face (omega arith)))
+
+  loops_taken : table.greatest base.loops ≡ c.loop + 2
+  unfolding taken_in
+  loops_taken = greatest-put_last (table.put M.loops (c.loop + 1) first_loop) (c.loop + 2) second_loop (omega (arith, greatest-put_last M.loops (c.loop + 1) first_loop (omega arith)))
+
+  edges_taken : table.greatest base.edges ≡ c.edge + 4
+  unfolding taken_in
+  edges_taken = greatest-put_last (with_path M.edges c.edge c.vertex 3) (c.edge + 4) last_edge (omega (arith, greatest-with_path M.edges c.edge c.vertex 3 refl))
+
+  vertices_taken : table.greatest base.vertices ≡ c.vertex + 4
+  unfolding taken_in
+  vertices_taken = greatest-with_points M.vertices c.vertex (a ∷ b ∷ g ∷ h ∷ []) 4 refl
+
+  taken_is : taken_in base ≡ with_lamina c 4
+  unfolding taken_in
+  taken_is = λ i. record { face = faces_taken i; loop = loops_taken i; edge = edges_taken i; vertex = vertices_taken i }
+
+  module _ (N : Model) (is : N ≡ base) (same : Sound N) (d : Point) (e : prism_refusal N (c.face + 1) d ≡ None) (hs : List ℕ) (holds : hs ≡ items) (k : Taken) (counted : k ≡ with_lamina c 4) where
+    taken : k ≡ taken_in N
+    taken = counted ∙ sym taken_is ∙ ap taken_in (sym is)
+
+    loop_is : c.loop + 1 ≡ outer N (c.face + 1)
+    loop_is = sym outer_is ∙ ap (λ X. outer X (c.face + 1)) (sym is)
+
+    rings_are : [] ≡ rings_of N (c.face + 1)
+    rings_are = no_rings ∙ ap (λ X. rings_of X (c.face + 1)) (sym is)
+
+    held : items_of (content N (c.loop + 1)) ≡ hs
+    held = ap (λ X. items_of (content X (c.loop + 1))) is ∙ items_are ∙ sym holds
+
+    pub base_rises : CanRise N k d hs
+    base_rises = record {
+      face = _;
+      loop_number = c.loop + 1;
+      ready = subst (Ready N k _ (c.loop + 1) d) held (raised.loop_ready N N k (c.face + 1) d (c.loop + 1) [] (raised.all_going N N refl same (c.face + 1) d e k taken (c.loop + 1) loop_is [] rings_are));
+    }
+
+    pub base_risen : (X : Model) → X ≡ effects N (loop_ops N k d hs) → X ≡ prism_model N (c.face + 1) d
+    base_risen X made =
+        raised.loop_model N N k (c.face + 1) d (c.loop + 1) [] (raised.all_going N N refl same (c.face + 1) d e k taken (c.loop + 1) loop_is [] rings_are) X (made ∙ ap (λ xs. effects N (loop_ops N k d xs)) (sym held))
+        (taken_after k (length (items_of (content N (c.loop + 1))))) refl
+        ∙ raised.all_model N N refl same (c.face + 1) d e k taken (c.loop + 1) loop_is [] rings_are

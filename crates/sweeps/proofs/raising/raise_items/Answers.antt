@@ -1,0 +1,78 @@
+use Rattle.std.proofs.Common.{◌≡◌, ◌∙◌, ap, refl, ℕ, ◌+◌, ◌-◌, ◌<◌, ◌≤◌, arith}
+use Rattle.std.proofs.lemmas.Result.{on_ok_weaker}
+use Rattle.euler_operators.specs.Conditions.{first_false}
+use Rattle.euler_operators.specs.Effect.{effect}
+use Rattle.undo_journal.specs.Journal.{DraftJournal}
+use Rattle.sweeps_laws.specs.prism.SweepOps.{close, close_last}
+use Rattle.sweeps_laws.proofs.prism.Sides.{two_items}
+use Rattle.solid_walks.specs.Counters.{taken_of}
+use Rattle.sweeps.proofs.RaisedItems as raised
+use Rattle.sweeps.proofs.raising.raise_items.Goals as goal
+
+pub item_at-requires : goal.item_at-requires
+item_at-requires c = let n = raised.how_many _ _ _ _ _ _ c.requires.ready c.args.items.now refl in omega (arith, two_items _ _ _ _ _ _ c.requires.ready, n)
+
+pub raise_item-requires-clause-there : goal.raise_item-requires-clause-there
+raise_item-requires-clause-there c = raised.there_first _ _ _ _ _ _ c.requires.ready c.args.items.now refl c.item_at.result c.item_at.ensures
+
+pub raise_item-requires-clause-edge_left : goal.raise_item-requires-clause-edge_left
+raise_item-requires-clause-edge_left c = omega (arith, two_items _ _ _ _ _ _ c.requires.ready, c.requires.ready.edges_left)
+
+pub raise_item-requires-clause-vertex_left : goal.raise_item-requires-clause-vertex_left
+raise_item-requires-clause-vertex_left c = omega (arith, two_items _ _ _ _ _ _ c.requires.ready, c.requires.ready.vertices_left)
+
+pub raise_item-requires-clause-range : goal.raise_item-requires-clause-range
+raise_item-requires-clause-range c = raised.range_first _ _ _ _ _ _ c.requires.ready c.args.items.now refl c.item_at.result c.item_at.ensures
+
+pub raise_item-requires-clause-accepted : goal.raise_item-requires-clause-accepted
+raise_item-requires-clause-accepted c = raised.accepted_first _ _ _ _ _ _ c.requires.ready c.args.items.now refl c.item_at.result c.item_at.ensures
+
+pub items-init : goal.items-init
+items-init c = record {
+  inside = omega (arith, two_items _ _ _ _ _ _ c.requires.ready);
+  model = ap (λ (x : DraftJournal). x.model) c.in_ok-raise_item.ensures.ok ∙ raised.after_first _ _ _ _ _ _ c.requires.ready c.args.items.now refl c.item_at.result c.item_at.ensures;
+  session = ap (λ (x : DraftJournal). x.session) c.in_ok-raise_item.ensures.ok;
+}
+
+more : (n k : ℕ) → k ≡ n → (i : ℕ) → i + 1 < k → i + 1 < n
+more n k e i lt = omega arith
+
+pub raise_item-requires-in-items-clause-there : goal.raise_item-requires-in-items-clause-there
+raise_item-requires-in-items-clause-there c = raised.there_next _ _ _ _ _ _ c.requires.ready c.args.items.now refl c.items.done c.items.draft.model c.items.invariant.model (more _ _ (raised.how_many _ _ _ _ _ _ c.requires.ready c.args.items.now refl) c.items.done c.items-test.true) c.item_at-in-items.result c.item_at-in-items.ensures
+
+pub raise_item-requires-in-items-clause-range : goal.raise_item-requires-in-items-clause-range
+raise_item-requires-in-items-clause-range c = raised.range_next _ _ _ _ _ _ c.requires.ready c.args.items.now refl c.items.done c.items.draft.model c.items.invariant.model (more _ _ (raised.how_many _ _ _ _ _ _ c.requires.ready c.args.items.now refl) c.items.done c.items-test.true) c.item_at-in-items.result c.item_at-in-items.ensures
+
+pub raise_item-requires-in-items-clause-accepted : goal.raise_item-requires-in-items-clause-accepted
+raise_item-requires-in-items-clause-accepted c = raised.accepted_next _ _ _ _ _ _ c.requires.ready c.args.items.now refl c.items.done c.items.draft.model c.items.invariant.model (more _ _ (raised.how_many _ _ _ _ _ _ c.requires.ready c.args.items.now refl) c.items.done c.items-test.true) c.item_at-in-items.result c.item_at-in-items.ensures
+
+pub close_side-requires-clause-accepted : goal.close_side-requires-clause-accepted
+close_side-requires-clause-accepted c = ap (λ n. first_false c.raise_item-in-items.new.draft.model (close (taken_of c.args.taken.now) n c.items.done)) (raised.how_many _ _ _ _ _ _ c.requires.ready c.args.items.now refl)
+    ∙ raised.closes_next _ _ _ _ _ _ c.requires.ready c.args.items.now refl c.items.done c.items.draft.model c.items.invariant.model (more _ _ (raised.how_many _ _ _ _ _ _ c.requires.ready c.args.items.now refl) c.items.done c.items-test.true) c.item_at-in-items.result c.item_at-in-items.ensures
+    c.raise_item-in-items.new.draft.model (ap (λ (x : DraftJournal). x.model) c.in_ok-raise_item-2.ensures.ok)
+
+pub items-preserved : goal.items-preserved
+items-preserved c = record {
+  inside = more _ _ (raised.how_many _ _ _ _ _ _ c.requires.ready c.args.items.now refl) c.items.done c.items-test.true;
+  model = ap (λ (x : DraftJournal). x.model) c.in_ok-close_side.ensures.ok
+      ∙ ap (λ n. effect c.raise_item-in-items.new.draft.model (close (taken_of c.args.taken.now) n c.items.done)) (raised.how_many _ _ _ _ _ _ c.requires.ready c.args.items.now refl)
+      ∙ raised.after_next _ _ _ _ _ _ c.requires.ready c.args.items.now refl c.items.done c.items.draft.model c.items.invariant.model (more _ _ (raised.how_many _ _ _ _ _ _ c.requires.ready c.args.items.now refl) c.items.done c.items-test.true) c.item_at-in-items.result c.item_at-in-items.ensures
+      c.raise_item-in-items.new.draft.model (ap (λ (x : DraftJournal). x.model) c.in_ok-raise_item-2.ensures.ok);
+  session = ap (λ (x : DraftJournal). x.session) c.in_ok-close_side.ensures.ok ∙ ap (λ (x : DraftJournal). x.session) c.in_ok-raise_item-2.ensures.ok ∙ c.items.invariant.session;
+}
+
+pub close_last-requires-clause-some : goal.close_last-requires-clause-some
+close_last-requires-clause-some c = let t = two_items _ _ _ _ _ _ c.requires.ready in omega (arith, t, raised.how_many _ _ _ _ _ _ c.requires.ready c.args.items.now refl)
+
+ends : (n k : ℕ) → k ≡ n → (i : ℕ) → k ≤ i + 1 → n ≤ i + 1
+ends n k e i h = omega arith
+
+pub close_last-requires-clause-accepted : goal.close_last-requires-clause-accepted
+close_last-requires-clause-accepted c = ap (λ n. first_false c.items.draft.model (close_last (taken_of c.args.taken.now) n (n - 1))) (raised.how_many _ _ _ _ _ _ c.requires.ready c.args.items.now refl)
+    ∙ raised.closes_last _ _ _ _ _ _ c.requires.ready c.args.items.now refl c.items.done c.items.draft.model c.items.invariant.model c.items.invariant.inside (ends _ _ (raised.how_many _ _ _ _ _ _ c.requires.ready c.args.items.now refl) c.items.done c.items-test.false)
+
+pub returns-clause-model : goal.returns-clause-model
+returns-clause-model c = on_ok_weaker c.close_last.result (λ step.
+    ap (λ (x : DraftJournal). x.model) step
+    ∙ ap (λ n. effect c.items.draft.model (close_last (taken_of c.args.taken.now) n (n - 1))) (raised.how_many _ _ _ _ _ _ c.requires.ready c.args.items.now refl)
+    ∙ raised.after_last _ _ _ _ _ _ c.requires.ready c.args.items.now refl c.items.done c.items.draft.model c.items.invariant.model c.items.invariant.inside (ends _ _ (raised.how_many _ _ _ _ _ _ c.requires.ready c.args.items.now refl) c.items.done c.items-test.false)) c.close_last.ensures.ok
