@@ -1,7 +1,7 @@
 -- What is counted of the loops of a face, of the half-edges of a loop, and of a solid's rings, and how much that can be.
 use Rattle.std.proofs.Common.{◌≡◌, ℕ, ◌≤◌, List, [], ◌∷◌, length, sym, ap, ◌∙◌, arith}
 use Rattle.std.proofs.lemmas.List.{length-append}
-use Rattle.euler_operators.specs.Model.{Model, outer, rings_of, faces_of}
+use Rattle.euler_operators.specs.Model.{Model, content, outer, rings_of, faces_of}
 use Rattle.euler_operators.specs.Sound.{Sound, Has}
 use Rattle.euler_laws.proofs.shared.Listed.{listed-from_in}
 use Rattle.shapes.specs.Faces.{loops_of}
@@ -10,7 +10,7 @@ use Rattle.shapes.proofs.walks.FaceLoops.{loops_of_apart}
 use Rattle.shapes.proofs.walks.SolidFaces.{loops_short, all_loops_apart, loop_in_solid, face_of_loop}
 use Rattle.solid_measure.specs.declared.solid_counts.Met.{Met}
 use Rattle.solid_measure.specs.solid_counts.Counts.{rings_in}
-use Rattle.solid_measure.specs.solid_counts.Sums.{together, nothing, IsFew, loops_met}
+use Rattle.solid_measure.specs.solid_counts.Sums.{together, nothing, IsFew, loop_met, loops_met}
 use Rattle.solid_measure.proofs.solid_counts_laws.Sums.{together_more, together_nothing, loops_few}
 
 -- a walk has counted so much, next comes this, and then what is left
@@ -25,6 +25,14 @@ module _ (sum met left total : Met) (counted : together sum (together met left) 
 
 pub all_counted : (sum left total : Met) → together sum left ≡ total → left ≡ nothing → sum ≡ total
 all_counted sum left total e none = sym (together_nothing sum) ∙ ap (together sum) (sym none) ∙ e
+
+-- a face without rings counts for what its outer loop does
+pub bare_face : (M : Model) (f n : ℕ) → n ≡ length (rings_of M f) → n ≡ 0 → loop_met M (content M (outer M f)) ≡ loops_met M (loops_of M f)
+unfolding loops_of
+bare_face M f n e z = go (rings_of M f) (sym e ∙ z) where
+  go : (rs : List ℕ) → length rs ≡ 0 → loop_met M (content M (outer M f)) ≡ loops_met M (outer M f ∷ rs)
+  go [] l = sym (together_nothing (loop_met M (content M (outer M f))))
+  go (r ∷ rs) l = absurd (omega (arith, l))
 
 rings_fewer : (M : Model) (fs : List ℕ) → length (rings_in M fs) ≤ length (loops_in M fs)
 unfolding loops_of

@@ -1,8 +1,8 @@
 //! Walks over the loops of a face.
-ghost use Rattle.std.specs.Prelude.{◌≡◌, true};
+ghost use Rattle.std.specs.Prelude.{◌≡◌, length, true};
 ghost use Rattle.euler_operators.specs.Items.{IsIn};
 ghost use Rattle.euler_operators.specs.HalfEdge.{code};
-ghost use Rattle.euler_operators.specs.Model.{before, has_half, items_of, content};
+ghost use Rattle.euler_operators.specs.Model.{before, has_half, items_of, content, rings_of};
 ghost use Rattle.solid_walks.specs.Store.{has_number};
 ghost use Rattle.solid_walks.specs.Ready.{IsReady};
 ghost use Rattle.shapes.specs.Faces.{loops_of};
@@ -77,12 +77,16 @@ fn loop_met(arena: &Arena, l: u32) -> Met
     }
 }
 
-/// What the loops of the face count for.
-pub(crate) fn face_met(arena: &Arena, f: u32) -> Met
+/// What the loops of face f count for, which has so many rings.
+pub(crate) fn face_met(arena: &Arena, f: u32, rings: u32) -> Met
     requires ready { IsReady arena.now }
     requires there { has_number arena.now Kind.Face f ≡ true }
+    requires rings { rings ≡ length (rings_of arena.now.model f) }
     ensures { result ≡ loops_met arena.now.model (loops_of arena.now.model f) }
 {
+    if rings == 0 {
+        return loop_met(arena, arena.outer(f));
+    }
     let mut sum = Met {
         vertices: 0,
         edges: 0,

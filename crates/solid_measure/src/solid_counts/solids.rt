@@ -42,8 +42,9 @@ fn solid_met(arena: &Arena, s: u32) -> (Met, u32)
     };
     let mut rings = 0;
     'faces: for f in faces_of(arena, s) {
-        sum = together(sum, face_met(arena, f));
-        rings += arena.ring_count(f);
+        let more = arena.ring_count(f);
+        sum = together(sum, face_met(arena, f, more));
+        rings += more;
     }
     (sum, rings)
 }

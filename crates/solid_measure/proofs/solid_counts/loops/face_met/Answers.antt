@@ -1,18 +1,19 @@
 use Rattle.std.proofs.Common.{sym, ap, subst, ◌∙◌}
 use Rattle.euler_operators.specs.Items.{IsIn}
+use Rattle.euler_operators.specs.Table as table
 use Rattle.euler_operators.specs.Model.{content}
 use Rattle.solid_walks.proofs.face_walks_laws.FaceWalks.{loop_in}
 use Rattle.solid_walks.proofs.face_walks_laws.Yielded.{yielded_in}
 use Rattle.solid_measure.specs.solid_counts.Sums.{IsFew, together, loop_met, loops_met}
 use Rattle.solid_measure.proofs.solid_counts_laws.Sums.{nothing_together}
-use Rattle.solid_measure.proofs.solid_counts_laws.FaceSums.{parts_few, counted_more, all_counted, face_few}
+use Rattle.solid_measure.proofs.solid_counts_laws.FaceSums.{bare_face, parts_few, counted_more, all_counted, face_few}
 use Rattle.solid_measure.proofs.solid_counts.loops.face_met.Goals as goal
 
 pub loops-init : goal.loops-init
 loops-init c = let M = c.args.arena.now.model in nothing_together _ ∙ ap (loops_met M) (c.into_iter-l-iterator.ensures.into_iter_gives ∙ c.loops_of-l-items.ensures)
 
-pub loop_met-requires-clause-there : goal.loop_met-requires-clause-there
-loop_met-requires-clause-there c =
+pub loop_met-requires-in-loops-clause-there : goal.loop_met-requires-in-loops-clause-there
+loop_met-requires-in-loops-clause-there c =
     loop_in c.args.arena.now.model c.requires.ready.sound c.args.f c.in-Some.l c.requires.there (subst (IsIn c.in-Some.l) (c.into_iter-l-iterator.ensures.into_iter_gives ∙ c.loops_of-l-items.ensures) (yielded_in (λ l. l) c.loops.yielded _ _ _ c.in-Some.l c.loops.yielded_by c.in-Some.ensures.steps))
 
 pub together-sum-requires-clause-a : goal.together-sum-requires-clause-a
@@ -23,12 +24,20 @@ together-sum-requires-clause-a c =
 pub together-sum-requires-clause-b : goal.together-sum-requires-clause-b
 together-sum-requires-clause-b c =
     let M = c.args.arena.now.model in
-    subst IsFew (sym c.loop_met.ensures) (parts_few c.loops.sum (loop_met M (content M c.in-Some.l)) _ _ (ap (λ ls. together c.loops.sum (loops_met M ls)) (sym c.in-Some.ensures.steps) ∙ c.loops.invariant) (face_few M c.requires.ready.sound c.args.f c.requires.there)).1
+    subst IsFew (sym c.loop_met-in-loops.ensures) (parts_few c.loops.sum (loop_met M (content M c.in-Some.l)) _ _ (ap (λ ls. together c.loops.sum (loops_met M ls)) (sym c.in-Some.ensures.steps) ∙ c.loops.invariant) (face_few M c.requires.ready.sound c.args.f c.requires.there)).1
 
 pub loops-preserved : goal.loops-preserved
 loops-preserved c =
     let M = c.args.arena.now.model in
-    counted_more c.loops.sum (loop_met M (content M c.in-Some.l)) _ _ (ap (λ ls. together c.loops.sum (loops_met M ls)) (sym c.in-Some.ensures.steps) ∙ c.loops.invariant) c.together-sum.result (c.together-sum.ensures ∙ ap (together c.loops.sum) c.loop_met.ensures)
+    counted_more c.loops.sum (loop_met M (content M c.in-Some.l)) _ _ (ap (λ ls. together c.loops.sum (loops_met M ls)) (sym c.in-Some.ensures.steps) ∙ c.loops.invariant) c.together-sum.result (c.together-sum.ensures ∙ ap (together c.loops.sum) c.loop_met-in-loops.ensures)
 
 pub returns : goal.returns
 returns c = all_counted c.loops.sum _ _ c.loops.invariant (ap (loops_met c.args.arena.now.model) c.in-None.ensures.steps.0)
+
+pub loop_met-requires-clause-there : goal.loop_met-requires-clause-there
+loop_met-requires-clause-there c = let M = c.args.arena.now.model in ap (table.has M.loops) c.outer.ensures ∙ (c.requires.ready.sound.outers_there c.args.f c.requires.there).0
+
+pub returns-then-rings-eq0 : goal.returns-then-rings-eq0
+returns-then-rings-eq0 c =
+    let M = c.args.arena.now.model in
+    c.loop_met.ensures ∙ ap (λ l. loop_met M (content M l)) c.outer.ensures ∙ bare_face M c.args.f c.args.rings c.requires.rings c.if-rings-eq0.true

@@ -23,8 +23,8 @@ pub face_met-requires-clause-there : goal.face_met-requires-clause-there
 face_met-requires-clause-there c =
     face_in c.args.arena.now.model c.requires.sound c.args.s c.in-Some.f (subst (IsIn c.in-Some.f) (c.into_iter-f-iterator.ensures.into_iter_gives ∙ c.faces_of-f-items.ensures) (yielded_in (λ f. f) c.faces.yielded _ _ _ c.in-Some.f c.faces.yielded_by c.in-Some.ensures.steps))
 
-pub ring_count-rings-requires : goal.ring_count-rings-requires
-ring_count-rings-requires c =
+pub ring_count-more-requires : goal.ring_count-more-requires
+ring_count-more-requires c =
     face_in c.args.arena.now.model c.requires.sound c.args.s c.in-Some.f (subst (IsIn c.in-Some.f) (c.into_iter-f-iterator.ensures.into_iter_gives ∙ c.faces_of-f-items.ensures) (yielded_in (λ f. f) c.faces.yielded _ _ _ c.in-Some.f c.faces.yielded_by c.in-Some.ensures.steps))
 
 pub together-sum-requires-clause-a : goal.together-sum-requires-clause-a
@@ -42,7 +42,7 @@ together-sum-requires-clause-b c =
 pub overflow_add-rings : goal.overflow_add-rings
 overflow_add-rings c =
     let M = c.args.arena.now.model in
-    omega (arith, c.faces.invariant.rings, ap (λ fs. length (rings_in M fs)) c.in-Some.ensures.steps, c.ring_count-rings.ensures, length-append (rings_of M c.in-Some.f) (rings_in M c.next.new.self), rings_few M c.requires.sound c.args.s)
+    omega (arith, c.faces.invariant.rings, ap (λ fs. length (rings_in M fs)) c.in-Some.ensures.steps, c.ring_count-more.ensures, length-append (rings_of M c.in-Some.f) (rings_in M c.next.new.self), rings_few M c.requires.sound c.args.s)
 
 pub faces-preserved : goal.faces-preserved
 faces-preserved c =
@@ -50,7 +50,7 @@ faces-preserved c =
       met = counted_more c.faces.sum (loops_met M (loops_of M c.in-Some.f)) _ _
           (ap (together c.faces.sum) (sym (loops-append M (loops_of M c.in-Some.f) (loops_in M c.next.new.self))) ∙ ap (λ fs. together c.faces.sum (loops_met M (loops_in M fs))) (sym c.in-Some.ensures.steps) ∙ c.faces.invariant.met)
           c.together-sum.result (c.together-sum.ensures ∙ ap (together c.faces.sum) c.face_met.ensures);
-      rings = omega (arith, c.faces.invariant.rings, ap (λ fs. length (rings_in M fs)) c.in-Some.ensures.steps, c.ring_count-rings.ensures, length-append (rings_of M c.in-Some.f) (rings_in M c.next.new.self));
+      rings = omega (arith, c.faces.invariant.rings, ap (λ fs. length (rings_in M fs)) c.in-Some.ensures.steps, c.ring_count-more.ensures, length-append (rings_of M c.in-Some.f) (rings_in M c.next.new.self));
     }
 
 pub returns-clause-met : goal.returns-clause-met
