@@ -1,9 +1,7 @@
 pub mod Bounds
-pub mod Edges
 pub mod Draws
 pub mod Joins
 pub mod Moves
 pub mod Volumes
-pub mod Passes
 pub mod Spread
 pub mod DrawWhole

@@ -1,8 +1,6 @@
 pub mod Beside
-pub mod Alone
 pub mod Passing
 pub mod Shared
-pub mod Same
 pub mod OneFace
 pub mod Stages
 pub mod Begun

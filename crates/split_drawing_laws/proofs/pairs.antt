@@ -1,9 +1,3 @@
-pub mod Turns
-pub mod Levels
-pub mod Sorted
-pub mod Fitting
-pub mod Members
 pub mod LoopPlaces
-pub mod Meetings
-pub mod Numbers
+pub mod Sorted
 pub mod Whole

@@ -32,7 +32,7 @@ use Rattle.split_drawing_laws.specs.crossings.Laws.{CanBegin}
 use Rattle.split_drawing_laws.specs.drawings.DrawnIn.{JoinedIn, Stays}
 use Rattle.split_drawing_laws.specs.drawings.Pairs.{AllFit, Fits, pairs_in}
 use Rattle.split_drawing_laws.specs.drawings.Passing.{Drawable, Going, Joining, Ready}
-use Rattle.split_drawing_laws.proofs.crossings.Doubled.{doubled_none}
+use Rattle.split_drawing_laws.proofs.crossings.OneCut.{doubled_none}
 use Rattle.split_drawing_laws.proofs.crossings.Whole.{crossings_keep, crossings_sound, tails_stay}
 use Rattle.split_drawing_laws.proofs.drawings.Drawn.{CanJoin}
 use Rattle.split_drawing_laws.proofs.drawings.Faces.{begun_joining, face_goes, fitting_on, going, going_on, joins, last, newer_face}

@@ -1,33 +1,109 @@
--- An edge cut at a new vertex is what mev makes at its plus half and the item after its minus half, where these stand in different loops.
+-- The lists of an edge that is cut: what mev puts before an item and what is put after its neighbour.
 use Rattle.std.specs.Prelude.{flat_map}
-use Rattle.std.proofs.Common.{◌≡◌, ◌≢◌, ℕ, suc, ◌+◌, ◌*◌, true, false, cond, nat_eq, nat_lt, List, [], ◌∷◌, length, Option, Some, None, is_some, refl, sym, ap, ◌∙◌, subst, arith, inl, inr, true≢false}
 use Rattle.std.specs.Option.{option_map}
 use Rattle.std.specs.Ordering.{nat_cmp}
 use Rattle.std.specs.FinMap.Entries.{find}
-use Rattle.std.proofs.lemmas.Bool.Decides.{eqb_tells}
+use Rattle.std.proofs.Common.{◌≡◌, ℕ, ◌+◌, ◌≤◌, false, cond, nat_eq, List, [], ◌∷◌, ◌++◌, refl, sym, ap, ◌∙◌, arith, inl, inr, ◌≢◌, suc, ◌*◌, true, nat_lt, length, Option, Some, None, is_some, subst, true≢false}
+use Rattle.std.proofs.lemmas.Bool.Decides.{nat_tests, eqb_tells}
 use Rattle.std.proofs.lemmas.Bool.{eq-eqb, ne_eqb}
+use Rattle.euler_operators.specs.Items.{count, tick, IsIn, IsApart, head_or}
+use Rattle.euler_operators.specs.Rings.{rotate_to, canonical, rest, successor}
+use Rattle.euler_operators.specs.Edits.{insert_before, insert_after}
+use Rattle.euler_operators.specs.HalfEdge.{plus, minus, edge_of}
 use Rattle.euler_operators.specs.declared.Point.{Point}
-use Rattle.euler_operators.specs.Items.{count, IsIn}
-use Rattle.euler_operators.specs.Rings.{canonical, successor}
 use Rattle.euler_operators.specs.Rings as rings
-use Rattle.euler_operators.specs.Edits.{insert_before}
-use Rattle.euler_operators.proofs.Edits.{count-insert_before}
-use Rattle.euler_operators.proofs.Rings.{IsIn_successor}
-use Rattle.euler_operators.proofs.Rotations.{count-canonical}
-use Rattle.euler_operators.proofs.Lists.{tick_same, tick_other}
-use Rattle.euler_operators.specs.HalfEdge.{edge_of, plus, minus}
 use Rattle.euler_operators.specs.Table as table
 use Rattle.euler_operators.specs.Table.{Table, same_table, get-map_rows}
 use Rattle.euler_operators.specs.Model.{Model, LoopContent, lone, cycle, LoopRow, EdgeRow, items_of, holds, tail, loop_of, content, face_of, cycle_of, after, arc, round}
 use Rattle.euler_operators.specs.Sound.{Sound, Has, HasHalf}
-use Rattle.euler_operators.proofs.Tables.{map_one, put_turned, row_some}
-use Rattle.euler_operators.proofs.Models.{content_row, row_of, not_held, other_loop, in-holds, holds-none, none-holds, cycle_there, cycle_sound, minus_tail_row}
-use Rattle.shapes.specs.Rewriting.{rewritten, rewritten_row}
 use Rattle.euler_operators.specs.Effect.{mev_at, with_before, with_tails, edge_row}
+use Rattle.euler_operators.proofs.Edits.{insert_before-rotates, insert_after-rotates, count-insert_before, count-insert_after}
+use Rattle.euler_operators.proofs.Operators.{apart_front}
+use Rattle.euler_operators.proofs.Rings.{rotation_at, IsIn_successor}
+use Rattle.euler_operators.proofs.Tests.{nat_eq_turned}
+use Rattle.euler_operators.proofs.Rotations.{canonical_same, IsRotation-trans, rotate_to_same, rotate_to_head, count-canonical}
+use Rattle.euler_operators.proofs.Lists.{tick_same, tick_other}
+use Rattle.euler_operators.proofs.Tables.{map_one, put_turned, row_some}
+use Rattle.euler_operators.proofs.Models.{content_row, row_of, not_held, other_loop, in-holds, holds-none, none-holds, cycle_there, cycle_sound, minus_tail_row, plus_there, minus_there}
+use Rattle.euler_operators.proofs.Halves.{plus_row, minus_row, mate_plus}
 use Rattle.euler_laws.proofs.shared.Rows.{where_held_none, where_held_there, one_row, edge_row_plus}
 use Rattle.shapes.specs.split.Crossings.{doubled, edge_cut}
-use Rattle.euler_operators.proofs.Halves.{plus_row, minus_row, mate_plus}
-use Rattle.split_drawing_laws.proofs.crossings.Doubled.{doubled_none, doubled_plus, doubled_minus, put_between}
+use Rattle.shapes.specs.Rewriting.{rewritten, rewritten_row}
+
+pub tick_is : (x y : ℕ) → x ≡ y → tick x y ≡ 1
+tick_is x y e = grind (arith, nat_tests)
+
+module _ (e k : ℕ) where
+  doubled_other : (h : ℕ) → nat_eq h (plus e) ≡ false → nat_eq h (minus e) ≡ false → doubled e k h ≡ h ∷ []
+  doubled_other h a b = ap (λ t. cond t (plus k ∷ plus e ∷ []) (cond (nat_eq h (minus e)) (minus e ∷ minus k ∷ []) (h ∷ []))) a ∙ ap (λ t. cond t (minus e ∷ minus k ∷ []) (h ∷ [])) b
+
+  absent : (x h : ℕ) (hs : List ℕ) → count x (h ∷ hs) ≡ 0 → nat_eq h x ≡ false
+  absent x h hs z = grind (arith, nat_tests)
+
+  -- a loop without the edge stays
+  pub doubled_none : (hs : List ℕ) → count (plus e) hs ≡ 0 → count (minus e) hs ≡ 0 → flat_map (doubled e k) hs ≡ hs
+  doubled_none [] a b = refl
+  doubled_none (h ∷ hs) a b = ap (λ t. t ++ flat_map (doubled e k) hs) (doubled_other h (absent (plus e) h hs a) (absent (minus e) h hs b))
+      ∙ ap (λ t. h ∷ t) (doubled_none hs (omega arith) (omega arith))
+
+  -- a loop with its plus half alone gets the new plus half before it
+  pub doubled_plus : (hs : List ℕ) → count (plus e) hs ≤ 1 → count (minus e) hs ≡ 0 → flat_map (doubled e k) hs ≡ insert_before (plus e) (plus k) hs
+  doubled_plus [] a b = refl
+  doubled_plus (h ∷ hs) a b = elim (eqb_tells (plus e) h) [
+    | inl p ↦
+        let t : tick (plus e) h ≡ 1 = tick_is (plus e) h p.1 in
+        ap (λ b. cond b (plus k ∷ plus e ∷ []) (cond (nat_eq h (minus e)) (minus e ∷ minus k ∷ []) (h ∷ [])) ++ flat_map (doubled e k) hs) (nat_eq_turned h (plus e) ∙ p.0)
+        ∙ ap (λ t. plus k ∷ plus e ∷ t) (doubled_none hs (omega arith) (omega arith))
+        ∙ ap (λ x. plus k ∷ x ∷ hs) p.1 ∙ sym (ap (λ b. cond b (plus k ∷ h ∷ hs) (h ∷ insert_before (plus e) (plus k) hs)) p.0)
+    | inr p ↦
+        ap (λ t. t ++ flat_map (doubled e k) hs) (doubled_other h (nat_eq_turned h (plus e) ∙ p.0) (absent (minus e) h hs b))
+        ∙ ap (λ t. h ∷ t) (doubled_plus hs (omega arith) (omega arith))
+        ∙ sym (ap (λ b. cond b (plus k ∷ h ∷ hs) (h ∷ insert_before (plus e) (plus k) hs)) p.0)
+  ]
+
+  -- a loop with its minus half alone gets the new minus half after it
+  pub doubled_minus : (hs : List ℕ) → count (plus e) hs ≡ 0 → count (minus e) hs ≤ 1 → flat_map (doubled e k) hs ≡ insert_after (minus e) (minus k) hs
+  doubled_minus [] a b = refl
+  doubled_minus (h ∷ hs) a b = elim (eqb_tells (minus e) h) [
+    | inl p ↦
+        let t : tick (minus e) h ≡ 1 = tick_is (minus e) h p.1 in
+        ap (λ t. t ++ flat_map (doubled e k) hs) (ap (λ b. cond b (plus k ∷ plus e ∷ []) (cond (nat_eq h (minus e)) (minus e ∷ minus k ∷ []) (h ∷ []))) (absent (plus e) h hs a)
+        ∙ ap (λ b. cond b (minus e ∷ minus k ∷ []) (h ∷ [])) (nat_eq_turned h (minus e) ∙ p.0))
+        ∙ ap (λ t. minus e ∷ minus k ∷ t) (doubled_none hs (omega arith) (omega arith))
+        ∙ ap (λ x. x ∷ minus k ∷ hs) p.1 ∙ sym (ap (λ b. cond b (h ∷ minus k ∷ hs) (h ∷ insert_after (minus e) (minus k) hs)) p.0)
+    | inr p ↦
+        ap (λ t. t ++ flat_map (doubled e k) hs) (doubled_other h (absent (plus e) h hs a) (nat_eq_turned h (minus e) ∙ p.0))
+        ∙ ap (λ t. h ∷ t) (doubled_minus hs (omega arith) (omega arith))
+        ∙ sym (ap (λ b. cond b (h ∷ minus k ∷ hs) (h ∷ insert_after (minus e) (minus k) hs)) p.0)
+  ]
+
+rotated_head : (m : ℕ) (r : List ℕ) → rotate_to (head_or m r) (r ++ m ∷ []) ≡ r ++ m ∷ []
+rotated_head m [] = rotate_to_head m []
+rotated_head m (z ∷ zs) = rotate_to_head z (zs ++ m ∷ [])
+
+-- the ring from the item after m on
+from_next : (m : ℕ) (xs : List ℕ) → IsApart xs → IsIn m xs → rotate_to (successor xs m) xs ≡ rest m xs ++ m ∷ []
+from_next m xs apart there =
+    rotate_to_same (successor xs m) xs (rest m xs ++ m ∷ [])
+    (IsRotation-trans xs (m ∷ rest m xs) (rest m xs ++ m ∷ []) apart (rotation_at m xs there) (record { front = m ∷ []; back = rest m xs; here = refl; there = refl }))
+    apart (IsIn_successor m xs there)
+    ∙ rotated_head m (rest m xs)
+
+-- put before the next item, or after this one: the same ring
+pub put_between : (m y : ℕ) (xs : List ℕ) → IsApart xs → IsIn m xs → count y xs ≡ 0 → canonical (insert_before (successor xs m) y xs) ≡ canonical (insert_after m y xs)
+put_between m y xs apart there free =
+    let c = successor xs m in
+    let c_there : IsIn c xs = IsIn_successor m xs there in
+    canonical_same (insert_before c y xs) (y ∷ rotate_to c xs) (insert_before-rotates c y xs c_there)
+    (λ x. let n : count x (insert_before c y xs) ≡ tick x y + count x xs = count-insert_before x c y xs c_there in let f : tick x y + count x xs ≤ 1 = apart_front y xs free apart x in omega arith)
+    ∙ ap (λ t. canonical (y ∷ t)) (from_next m xs apart there)
+    ∙ sym (canonical_same (insert_after m y xs) (y ∷ (rest m xs ++ m ∷ [])) (IsRotation-trans (insert_after m y xs) (m ∷ y ∷ rest m xs) (y ∷ (rest m xs ++ m ∷ [])) (after_apart m y xs apart there free)
+    (insert_after-rotates m y xs there) (record { front = m ∷ []; back = y ∷ rest m xs; here = refl; there = refl }))
+    (after_apart m y xs apart there free)) where
+      after_apart : (m y : ℕ) (xs : List ℕ) → IsApart xs → IsIn m xs → count y xs ≡ 0 → IsApart (insert_after m y xs)
+      after_apart m y xs apart there free = λ x. let n : count x (insert_after m y xs) ≡ tick x y + count x xs = count-insert_after x m y xs there in let f : tick x y + count x xs ≤ 1 = apart_front y xs free apart x in omega arith
+
+-- ---- an edge cut at a new vertex is what mev makes at its plus half and the item after its minus half, where these stand in different loops
 
 -- two rewritings after one another are a third, where they agree row by row
 maps_agree : {X : Type 0} (f g h : ℕ → X → X) (t : Table X) → ((q : ℕ) (x : X) → table.get t q ≡ Some x → g q (f q x) ≡ h q x) → table.map_rows g (table.map_rows f t) ≡ table.map_rows h t
@@ -75,12 +151,6 @@ module _ (M : Model) (e k v : ℕ) (q : Point) (goes : CanCut M e k) where
   abbrev second_row : LoopRow
   second_row = record { face = face_of M m; content = cycle ys }
 
-  pub plus_there : HasHalf M (plus e)
-  plus_there = ap (table.has M.edges) (plus_row e).0 ∙ goes.there
-
-  pub minus_there : HasHalf M (minus e)
-  minus_there = ap (table.has M.edges) (minus_row e).0 ∙ goes.there
-
   -- an item of one of the two loops isn't in the other
   in_one : (h : ℕ) → IsIn h ys → count h xs ≡ 0
   in_one h there = elim (holds h (content M l)) as (λ b. holds h (content M l) ≡ b → count h xs ≡ 0) [
@@ -89,16 +159,16 @@ module _ (M : Model) (e k v : ℕ) (q : Point) (goes : CanCut M e k) where
   ] refl
 
   next_there : IsIn next ys
-  next_there = IsIn_successor (minus e) ys (cycle_there M goes.sound (minus e) minus_there)
+  next_there = IsIn_successor (minus e) ys (cycle_there M goes.sound (minus e) (minus_there M e goes.there))
 
   no_new : (h : ℕ) → edge_of h ≡ k → (g : ℕ) → HasHalf M g → count h (cycle_of M g) ≡ 0
   no_new h is g there = not_held M goes.sound h (ap (table.get M.edges) is ∙ goes.edge_free) (loop_of M g) _ (row_of M goes.sound g there)
 
   at_a : table.get M.loops l ≡ Some first_row
-  at_a = row_of M goes.sound (plus e) plus_there
+  at_a = row_of M goes.sound (plus e) (plus_there M e goes.there)
 
   at_b : table.get M.loops m ≡ Some second_row
-  at_b = row_of M goes.sound (minus e) minus_there
+  at_b = row_of M goes.sound (minus e) (minus_there M e goes.there)
 
   abbrev first : ℕ → LoopRow → LoopRow
   first = with_before (plus e) (plus k)
@@ -119,7 +189,7 @@ module _ (M : Model) (e k v : ℕ) (q : Point) (goes : CanCut M e k) where
   rows_a : second l (first l first_row)
       ≡ both l first_row
   rows_a =
-      let there : IsIn (plus e) xs = cycle_there M goes.sound (plus e) plus_there in
+      let there : IsIn (plus e) xs = cycle_there M goes.sound (plus e) (plus_there M e goes.there) in
       ap (second l) (where_held_there (plus e) (λ hs. cycle (canonical (insert_before (plus e) (plus k) hs))) l first_row (in-holds (plus e) (cycle xs) there))
       ∙ where_held_none next (λ hs. cycle (canonical (insert_before next (minus k) hs))) l
       (record { face = face_of M l; content = cycle (canonical (insert_before (plus e) (plus k) xs)) })
@@ -128,7 +198,7 @@ module _ (M : Model) (e k v : ℕ) (q : Point) (goes : CanCut M e k) where
       ∙ count-insert_before next (plus e) (plus k) xs there
       ∙ (λ i. tick_other next (plus k) (new_apart next next_half) i + in_one next next_there i)))
       ∙ ap (λ hs. record { face = face_of M l; content = cycle (canonical hs) })
-      (sym (doubled_plus e k xs ((cycle_sound M goes.sound (plus e) plus_there).apart (plus e)) (in_one (minus e) (cycle_there M goes.sound (minus e) minus_there))))
+      (sym (doubled_plus e k xs ((cycle_sound M goes.sound (plus e) (plus_there M e goes.there)).apart (plus e)) (in_one (minus e) (cycle_there M goes.sound (minus e) (minus_there M e goes.there)))))
 
   -- the plus half isn't in the loop of the minus half
   no_plus : count (plus e) ys ≡ 0
@@ -143,8 +213,8 @@ module _ (M : Model) (e k v : ℕ) (q : Point) (goes : CanCut M e k) where
       ∙ where_held_there next (λ hs. cycle (canonical (insert_before next (minus k) hs))) m second_row
       (in-holds next (cycle ys) next_there)
       ∙ ap (λ hs. record { face = face_of M m; content = cycle hs })
-      (put_between (minus e) (minus k) ys (cycle_sound M goes.sound (minus e) minus_there).apart (cycle_there M goes.sound (minus e) minus_there) (no_new (minus k) (minus_row k).0 (minus e) minus_there)
-      ∙ ap canonical (sym (doubled_minus e k ys no_plus ((cycle_sound M goes.sound (minus e) minus_there).apart (minus e)))))
+      (put_between (minus e) (minus k) ys (cycle_sound M goes.sound (minus e) (minus_there M e goes.there)).apart (cycle_there M goes.sound (minus e) (minus_there M e goes.there)) (no_new (minus k) (minus_row k).0 (minus e) (minus_there M e goes.there))
+      ∙ ap canonical (sym (doubled_minus e k ys no_plus ((cycle_sound M goes.sound (minus e) (minus_there M e goes.there)).apart (minus e)))))
 
   -- a loop that holds neither stays
   stays : (n : ℕ) (row : LoopRow) → table.get M.loops n ≡ Some row → count (plus e) (items_of row.content) ≡ 0 → count (minus e) (items_of row.content) ≡ 0 → rewritten (flat_map (doubled e k)) row.content ≡ row.content
@@ -181,7 +251,7 @@ module _ (M : Model) (e k v : ℕ) (q : Point) (goes : CanCut M e k) where
   one_leaves : (t : Table EdgeRow) → M.edges ≡ t → arc M (plus e) (after M (minus e)) ≡ plus e ∷ []
   unfolding arc after table.get
   one_leaves t is =
-      let rows = some_rows e M.edges.rows (ap (λ n. is_some (find nat_cmp n M.edges.rows)) (sym (plus_row e).0) ∙ plus_there) in
+      let rows = some_rows e M.edges.rows (ap (λ n. is_some (find nat_cmp n M.edges.rows)) (sym (plus_row e).0) ∙ plus_there M e goes.there) in
       arc_one (round M) (plus e) next rows.0 (2 * length M.edges.rows)
       (λ s. true≢false (sym (in-holds (plus e) (cycle ys) (subst (λ x. IsIn x ys) (sym s) next_there)) ∙ holds-none (plus e) (cycle ys) no_plus))
       (ap (after M) (mate_plus e)) rows.1
@@ -215,7 +285,7 @@ module _ (M : Model) (e k v : ℕ) (q : Point) (goes : CanCut M e k) where
   pub cut_is_mev : mev_at M (plus e) (after M (minus e)) (plus k) v q ≡ edge_cut M e k v q
   unfolding mev_at edge_cut after
   cut_is_mev =
-      let r = row_some (table.get M.edges e) (ap (λ n. is_some (table.get M.edges n)) (sym (plus_row e).0) ∙ plus_there) in
+      let r = row_some (table.get M.edges e) (ap (λ n. is_some (table.get M.edges n)) (sym (plus_row e).0) ∙ plus_there M e goes.there) in
       λ i. record M {
         loops = ((λ j. table.map_rows (with_before next (mate_plus k j)) (table.map_rows (with_before (plus e) (plus k)) M.loops)) ∙ loops_agree) i;
         edges = edges_agree r.0 r.1 i;

@@ -1,35 +1,92 @@
--- What it says that the first conditions of a split hold: each edge that crosses the plane can be cut there.
+-- Lists that tests pick from, and the items and corners of faces.
 use Rattle.std.specs.Prelude.{filter, int_lt}
 use Rattle.std.specs.List.{list_any, list_all}
-use Rattle.std.proofs.Common.{◌≡◌, ◌≢◌, ℕ, ◌+◌, ◌≤◌, Bool, true, false, cond, not, nat_eq, ◌&&◌, ◌||◌, ℤ, pos, List, [], ◌∷◌, length, is_some, refl, sym, ap, ◌∙◌, subst, arith, ◌⊎◌, inl, inr, true≢false, None}
+use Rattle.std.proofs.Common.{◌≡◌, ℕ, ◌+◌, ◌≤◌, Bool, true, false, cond, not, nat_eq, ◌&&◌, ◌||◌, List, [], ◌∷◌, refl, sym, ap, ◌∙◌, subst, arith, inl, inr, ◌≢◌, ℤ, pos, length, is_some, ◌⊎◌, true≢false, None}
 use Rattle.std.proofs.lemmas.Bool.Decides.{eqb_tells}
-use Rattle.std.proofs.lemmas.Bool.{not-false, eq-eqb, eqb-true}
+use Rattle.std.proofs.lemmas.Bool.{ne_eqb, eq-eqb, not-false, eqb-true}
+use Rattle.euler_operators.specs.Items.{count, tick, IsIn}
+use Rattle.euler_operators.specs.Model.{Model, items_of, content, outer, tail, face_of, rings_of, loop_of, solid_of, point_of, before, faces_of}
+use Rattle.euler_operators.specs.Sound.{Has, Sound, HasHalf, StandsIn}
 use Rattle.euler_operators.specs.declared.Plane.{Plane}
 use Rattle.euler_operators.specs.Points.{IsInRange}
 use Rattle.euler_operators.specs.Vectors.{height, opposite, are_opposite, is_above, is_below, is_on, same_point, cuts_lattice, cut_between}
-use Rattle.euler_operators.specs.Items.{count, IsIn}
-use Rattle.euler_operators.proofs.Lists.{tick_other}
 use Rattle.euler_operators.specs.HalfEdge.{plus, minus}
 use Rattle.euler_operators.specs.Table as table
-use Rattle.euler_operators.specs.Model.{Model, items_of, content, tail, loop_of, face_of, solid_of, point_of, before, faces_of}
-use Rattle.euler_operators.specs.Sound.{Sound, Has, HasHalf, StandsIn}
+use Rattle.euler_operators.specs.Conditions.{AllHold, face_at}
+use Rattle.euler_operators.proofs.Lists.{count-append, tick_same, tick_other}
 use Rattle.euler_operators.proofs.Halves.{plus_row, minus_row, mate_plus, mate_minus}
-use Rattle.euler_operators.proofs.Models.{held_row, cycle_there}
+use Rattle.euler_operators.proofs.Models.{held_row, cycle_there, plus_there, minus_there}
 use Rattle.euler_operators.proofs.Members.{IsIn-filter, count-filter, filter_passes}
 use Rattle.euler_operators.proofs.Crossings.{same_as, cut_back, opposite_back, not_level, level_is, cut_fits}
-use Rattle.euler_operators.specs.Conditions.{AllHold, face_at}
-use Rattle.euler_laws.proofs.shared.Goes.{no_zero}
-use Rattle.euler_laws.proofs.shared.Rows.{face_there, point_row}
-use Rattle.solid_measure_laws.proofs.Cuts.{cut_on}
-use Rattle.shapes.proofs.fresh.Tests.{none_found, none_such, Left, numbers_are_left}
-use Rattle.shapes.specs.Faces.{start, finish, edges_of, boundary, corners}
+use Rattle.euler_laws.proofs.shared.Goes.{not_false, no_zero}
+use Rattle.euler_laws.proofs.shared.Rows.{loop_row, face_there, point_row}
+use Rattle.euler_laws.proofs.shared.Counted.{all_where_in, all_where_has}
+use Rattle.shapes.specs.Faces.{loops_of, items_in, boundary, corners, start, finish, edges_of}
 use Rattle.shapes.specs.Fresh.{first_such, taken_in}
 use Rattle.shapes.specs.split.Sides.{crosses, straddles, straddling_faces, crossing_edges, reaches_above, reaches_below}
 use Rattle.shapes.specs.split.Places.{is_place, place_point, places, some_meet, is_touched, is_cut_often, is_crossed, is_up_and_down, sorted_pairs, pair_count}
 use Rattle.shapes.specs.split.Split.{first_conditions}
-use Rattle.split_drawing_laws.proofs.crossings.Listed.{any_passes, item_in_face, tail_in_face}
+use Rattle.shapes.proofs.walks.FaceLoops.{tail_in}
+use Rattle.shapes.proofs.fresh.Tests.{none_found, none_such, Left, numbers_are_left}
+use Rattle.solid_measure_laws.proofs.Cuts.{cut_on}
 use Rattle.split_drawing_laws.proofs.crossings.Runs.{Crossing}
-use Rattle.euler_laws.proofs.shared.Counted.{all_where_has, all_where_in}
+
+-- ---- lists
+
+pub here : (x y : ℕ) (ns : List ℕ) → x ≡ y → IsIn x (y ∷ ns)
+here x y ns e = subst (λ k. 1 ≤ tick x k + count x ns) e (omega (arith, tick_same x))
+
+pub picked_none : (p : ℕ → Bool) (ns : List ℕ) → ((x : ℕ) → IsIn x ns → p x ≡ false) → filter p ns ≡ []
+picked_none p [] none = refl
+picked_none p (n ∷ ns) none = ap (λ b. cond b (n ∷ filter p ns) (filter p ns)) (none n (here n n ns refl)) ∙ picked_none p ns (λ x i. none x (omega (arith, i)))
+
+-- one that passes
+pub any_passes : (p : ℕ → Bool) (x : ℕ) (ns : List ℕ) → IsIn x ns → p x ≡ true → list_any p ns ≡ true
+any_passes p x [] i e = absurd (omega arith)
+any_passes p x (n ∷ ns) i e = elim (eqb_tells x n) [
+  | inl s ↦ ap (λ b. b || list_any p ns) (ap p (sym s.1) ∙ e)
+  | inr s ↦ later (p n) (any_passes p x ns (omega (arith, i, tick_other x n s.1)) e)
+] where
+  later : (b : Bool) → list_any p ns ≡ true → (b || list_any p ns) ≡ true
+  later true f = refl
+  later false f = f
+
+-- ---- the loops of a face
+
+module _ (M : Model) where
+  -- a loop is one of the loops of its face
+  pub loop_in_face : (l : ℕ) → Has M.loops l → IsIn l (loops_of M (face_of M l))
+  unfolding loops_of
+  loop_in_face l there = elim (eqb_tells l (outer M (face_of M l))) [
+    | inl s ↦ here l (outer M (face_of M l)) (rings_of M (face_of M l)) s.1
+    | inr s ↦
+        let ring : IsIn l (rings_of M (face_of M l)) = all_where_in (λ k row. nat_eq row.face (face_of M l) && not (nat_eq (outer M (face_of M l)) k)) M.loops l
+        (record { face = face_of M l; content = content M l }) (loop_row M l there)
+        (both (nat_eq (face_of M l) (face_of M l)) (nat_eq (outer M (face_of M l)) l) (eq-eqb (face_of M l) (face_of M l) refl) (ne_eqb (outer M (face_of M l)) l (λ e. s.1 (sym e)))) in
+        omega (arith, ring)
+  ] where
+    both : (a b : Bool) → a ≡ true → b ≡ false → (a && not b) ≡ true
+    both a b e f = ap (λ c. c && not b) e ∙ not_false b f
+
+  pub item_in : (h l : ℕ) (ls : List ℕ) → IsIn l ls → IsIn h (items_of (content M l)) → IsIn h (items_in M ls)
+  item_in h l [] i j = absurd (omega arith)
+  item_in h l (k ∷ ls) i j = elim (eqb_tells l k) [
+    | inl s ↦ let now : IsIn h (items_of (content M k)) = subst (λ q. IsIn h (items_of (content M q))) s.1 j in
+        omega (arith, now, count-append h (items_of (content M k)) (items_in M ls))
+    | inr s ↦ let later : IsIn h (items_in M ls) = item_in h l ls (omega (arith, i, tick_other l k s.1)) j in
+        omega (arith, later, count-append h (items_of (content M k)) (items_in M ls))
+  ]
+
+  -- the items of a loop are items of its face, and start at its corners
+  pub item_in_face : (h l : ℕ) → Has M.loops l → IsIn h (items_of (content M l)) → IsIn h (boundary M (face_of M l))
+  unfolding boundary
+  item_in_face h l there i = item_in h l (loops_of M (face_of M l)) (loop_in_face l there) i
+
+  pub tail_in_face : (h l : ℕ) → Has M.loops l → IsIn h (items_of (content M l)) → IsIn (tail M h) (corners M (face_of M l))
+  unfolding corners
+  tail_in_face h l there i = tail_in M h l (loops_of M (face_of M l)) (loop_in_face l there) i
+
+-- ---- what it says that the first conditions of a split hold: each edge that crosses the plane can be cut there
 
 -- ---- two places of a face with equal points
 
@@ -119,12 +176,6 @@ module _ (M : Model) (sound : Sound M) (s : ℕ) (p : Plane) where
     e_there : Has M.edges e
     e_there = (edge_facts e i).0
 
-    plus_there : HasHalf M (plus e)
-    plus_there = ap (table.has M.edges) (plus_row e).0 ∙ e_there
-
-    minus_there : HasHalf M (minus e)
-    minus_there = ap (table.has M.edges) (minus_row e).0 ∙ e_there
-
     far_end : finish M (plus e) ≡ start M (minus e)
     far_end = ap (start M) (mate_plus e)
 
@@ -154,13 +205,13 @@ module _ (M : Model) (sound : Sound M) (s : ℕ) (p : Plane) where
     -- both in loop l: then the face of that loop straddles, and has two places at one point
     module _ (l : ℕ) (first : loop_of M (plus e) ≡ l) (second : loop_of M (minus e) ≡ l) where
       first_in : IsIn (plus e) (items_of (content M l))
-      first_in = subst (λ q. IsIn (plus e) (items_of (content M q))) first (cycle_there M sound (plus e) plus_there)
+      first_in = subst (λ q. IsIn (plus e) (items_of (content M q))) first (cycle_there M sound (plus e) (plus_there M e e_there))
 
       second_in : IsIn (minus e) (items_of (content M l))
-      second_in = subst (λ q. IsIn (minus e) (items_of (content M q))) second (cycle_there M sound (minus e) minus_there)
+      second_in = subst (λ q. IsIn (minus e) (items_of (content M q))) second (cycle_there M sound (minus e) (minus_there M e e_there))
 
       l_there : Has M.loops l
-      l_there = ap is_some (held_row M (plus e) l (subst (λ q. StandsIn M (plus e) q) first (sound.stands (plus e) plus_there)))
+      l_there = ap is_some (held_row M (plus e) l (subst (λ q. StandsIn M (plus e) q) first (sound.stands (plus e) (plus_there M e e_there))))
 
       of_solid : solid_of M (face_of M l) ≡ s
       of_solid = ap (λ q. solid_of M (face_of M q)) (sym first) ∙ (edge_facts e i).1
@@ -220,5 +271,5 @@ module _ (M : Model) (sound : Sound M) (s : ℕ) (p : Plane) where
       apart = λ q. one_loop_absurd (loop_of M (minus e)) q refl;
       crossing = (edge_facts e i).2;
       level = level_is (height p (cut_between p (start M (plus e)) (finish M (plus e)))) (cut_on p (start M (plus e)) (finish M (plus e)) (edge_facts e i).2 (c.whole e i));
-      fits = cut_fits p (start M (plus e)) (finish M (plus e)) (point_there (plus e) plus_there) (subst IsInRange (sym far_end) (point_there (minus e) minus_there)) (edge_facts e i).2;
+      fits = cut_fits p (start M (plus e)) (finish M (plus e)) (point_there (plus e) (plus_there M e e_there)) (subst IsInRange (sym far_end) (point_there (minus e) (minus_there M e e_there))) (edge_facts e i).2;
     }

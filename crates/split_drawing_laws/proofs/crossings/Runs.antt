@@ -23,8 +23,7 @@ use Rattle.shapes.specs.split.Sides.{crosses}
 use Rattle.shapes.specs.split.Crossings.{edge_cut, next_cut, all_cut}
 use Rattle.split_drawing_laws.specs.crossings.CrossingOps.{cut_edge, ops_from}
 use Rattle.split_drawing_laws.specs.crossings.Kept.{Kept}
-use Rattle.split_drawing_laws.proofs.crossings.Steps.{CutGoes, cut_accepted, cut_made, cut_sound, cut_keeps, edge_other, point_new, tail_old, tail_new, tail_other}
-use Rattle.split_drawing_laws.proofs.crossings.Counters.{taken_then}
+use Rattle.split_drawing_laws.proofs.crossings.Steps.{CutGoes, cut_accepted, cut_made, cut_sound, cut_keeps, edge_other, point_new, tail_old, tail_new, tail_other, taken_then}
 
 -- where edge e meets the plane
 abbrev pub cut_at : Model → Plane → ℕ → Point

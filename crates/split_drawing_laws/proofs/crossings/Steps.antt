@@ -1,34 +1,36 @@
 -- One edge cut: the operator that does it, and what stays.
 use Rattle.std.specs.Prelude.{flat_map}
-use Rattle.std.proofs.Common.{◌≡◌, ◌≢◌, ℕ, ◌≤◌, true, cond, nat_eq, List, [], ◌∷◌, Some, None, is_some, unwrap_or, IsTrue, refl, sym, ap, ◌∙◌, subst, arith, inl, inr, true≢false}
+use Rattle.std.proofs.Common.{◌≡◌, ◌≢◌, ℕ, ◌≤◌, true, cond, nat_eq, List, [], ◌∷◌, Some, None, is_some, unwrap_or, IsTrue, refl, sym, ap, ◌∙◌, subst, arith, inl, inr, true≢false, ◌<◌}
 use Rattle.std.proofs.lemmas.Bool.Decides.{eqb_tells}
 use Rattle.euler_operators.specs.declared.Point.{Point}
 use Rattle.euler_operators.specs.Points.{IsInRange}
 use Rattle.euler_operators.specs.Items.{count, IsIn}
 use Rattle.euler_operators.specs.Rings.{rotate_to, canonical}
-use Rattle.euler_operators.proofs.Lists.{count-append, tick_same, tick_other}
-use Rattle.euler_operators.proofs.Rotations.{count-canonical}
 use Rattle.euler_operators.specs.declared.Corner.TheVariants.{At}
 use Rattle.euler_operators.specs.HalfEdge.{edge_of, is_first, plus, minus, half, code}
 use Rattle.euler_operators.specs.Table as table
 use Rattle.euler_operators.specs.Model.{Model, LoopContent, lone, cycle, EdgeRow, items_of, holds, tail, tail_in, loop_of, content, after, point_of, no_point, is_number}
 use Rattle.euler_operators.specs.Sound.{Sound, Has, HasHalf}
-use Rattle.euler_operators.proofs.Halves.{plus_row, minus_row, code-half, mate_minus}
-use Rattle.euler_operators.proofs.Models.{in-holds, holds_in, tail_row}
-use Rattle.euler_operators.proofs.Tables.{get-put_here, get-put_other}
 use Rattle.euler_operators.specs.declared.Op.{Op}
 use Rattle.euler_operators.specs.declared.Op.TheVariants.{Mev}
 use Rattle.euler_operators.specs.Conditions.{first_false}
 use Rattle.euler_operators.specs.Effect.{effect, mev_at}
+use Rattle.euler_operators.specs.Table.{Table}
+use Rattle.euler_operators.proofs.Lists.{count-append, tick_same, tick_other}
+use Rattle.euler_operators.proofs.Rotations.{count-canonical}
+use Rattle.euler_operators.proofs.Halves.{plus_row, minus_row, code-half, mate_minus}
+use Rattle.euler_operators.proofs.Models.{in-holds, holds_in, tail_row, plus_there, minus_there}
+use Rattle.euler_operators.proofs.Tables.{get-put_here, get-put_other, greatest-map, put_turned}
 use Rattle.euler_laws.proofs.shared.Same.{Rewritten, content-new, face-same, loop-same}
 use Rattle.euler_laws.proofs.mev.MevSound.{MevGoes}
 use Rattle.euler_laws.proofs.mev.Mev.{mev_accepted}
 use Rattle.euler_laws.proofs.Cases.{effect_keeps_sound}
 use Rattle.shapes.specs.Rewriting.{rewritten, rewritten_row}
 use Rattle.shapes.specs.split.Crossings.{doubled, edge_cut}
+use Rattle.shapes.specs.Fresh.{taken_in}
+use Rattle.shapes.proofs.fresh.Rows.{greatest-put_last, greatest_is, greatest_used, free_above, at_most_greatest}
 use Rattle.split_drawing_laws.specs.crossings.Kept.{Kept}
-use Rattle.split_drawing_laws.proofs.crossings.Doubled.{tick_is}
-use Rattle.split_drawing_laws.proofs.crossings.OneCut.{CanCut, cut_is_mev, plus_there, minus_there, next_half}
+use Rattle.split_drawing_laws.proofs.crossings.OneCut.{tick_is, CanCut, cut_is_mev, next_half}
 
 -- an item stands in the list where e's halves are doubled as often, or more
 doubled_has : (e k h : ℕ) → 1 ≤ count h (doubled e k h)
@@ -69,7 +71,7 @@ module _ (M : Model) (e k v : ℕ) (q : Point) (goes : CutGoes M e k v q) where
   N = edge_cut M e k v q
 
   next_starts : tail M (after M (minus e)) ≡ tail M (plus e)
-  next_starts = goes.can.sound.ends_meet (minus e) (minus_there M e k v q goes.can) ∙ ap (tail M) (mate_minus e)
+  next_starts = goes.can.sound.ends_meet (minus e) (minus_there M e goes.can.there) ∙ ap (tail M) (mate_minus e)
 
   next_is_there : HasHalf M (after M (minus e))
   unfolding after
@@ -77,7 +79,7 @@ module _ (M : Model) (e k v : ℕ) (q : Point) (goes : CutGoes M e k v q) where
 
   pub mev_goes : MevGoes M (plus e) (after M (minus e)) (plus k) v q
   mev_goes = record {
-    g_there = plus_there M e k v q goes.can;
+    g_there = plus_there M e goes.can.there;
     k_there = next_is_there;
     edge_free = ap (table.get M.edges) (plus_row k).0 ∙ goes.can.edge_free;
     vertex_free = goes.vertex_free;
@@ -182,3 +184,41 @@ module _ (M : Model) (e k v : ℕ) (q : Point) (goes : CutGoes M e k v q) where
   pub tail_other : (h : ℕ) → HasHalf M h → edge_of h ≢ e → tail (edge_cut M e k v q) h ≡ tail M h
   unfolding tail
   tail_other h there a = ap (λ o. tail_in (unwrap_or o (record { plus_tail = 0; minus_tail = 0 })) (is_first h)) (edge_other (edge_of h) a (apart_new (edge_of h) there))
+
+-- ---- the greatest numbers in use, as an edge is cut
+
+greatest-put_old : {X : Type 0} (t : Table X) (n : ℕ) (x : X) → Has t n → table.greatest (table.put t n x) ≡ table.greatest t
+greatest-put_old t n x there = greatest_is (table.put t n x) (table.greatest t)
+    (λ some. elim (eqb_tells (table.greatest t) n) [
+      | inl a ↦ ap (table.has (table.put t n x)) a.1 ∙ ap is_some (get-put_here t n x)
+      | inr a ↦ ap is_some (get-put_other t n x (table.greatest t) a.1) ∙ greatest_used t some
+    ])
+    (λ k above. ap is_some (get-put_other t n x k (λ s. past k above s)) ∙ free_above t k above) where
+      past : (k : ℕ) → table.greatest t < k → k ≢ n
+      past k above s = let l : n ≤ table.greatest t = at_most_greatest t n there in absurd (omega arith)
+
+module _ (M : Model) (e k v : ℕ) (q : Point) (there : Has M.edges e) (k_above : table.greatest M.edges < k) (v_above : table.greatest M.vertices < v) where
+  edges_greatest : table.greatest (edge_cut M e k v q).edges ≡ k
+  unfolding edge_cut
+  edges_greatest =
+      let apart : k ≢ e = λ s. let l : e ≤ table.greatest M.edges = at_most_greatest M.edges e there in absurd (omega arith) in
+      ap table.greatest (put_turned M.edges k e (record { plus_tail = tail M (plus e); minus_tail = v }) (record { plus_tail = v; minus_tail = tail M (minus e) }) apart)
+      ∙ greatest-put_last (table.put M.edges e (record { plus_tail = v; minus_tail = tail M (minus e) })) k (record { plus_tail = tail M (plus e); minus_tail = v })
+      (subst (λ n. n < k) (sym (greatest-put_old M.edges e (record { plus_tail = v; minus_tail = tail M (minus e) }) there)) k_above)
+
+  vertices_greatest : table.greatest (edge_cut M e k v q).vertices ≡ v
+  unfolding edge_cut
+  vertices_greatest = greatest-put_last M.vertices v q v_above
+
+  loops_greatest : table.greatest (edge_cut M e k v q).loops ≡ table.greatest M.loops
+  unfolding edge_cut
+  loops_greatest = greatest-map (rewritten_row (flat_map (doubled e k))) M.loops
+
+  faces_greatest : table.greatest (edge_cut M e k v q).faces ≡ table.greatest M.faces
+  unfolding edge_cut
+  faces_greatest = refl
+
+  -- the counters then
+  pub taken_then : taken_in (edge_cut M e k v q) ≡ record (taken_in M) { edge = k; vertex = v }
+  unfolding taken_in
+  taken_then = λ i. record { face = faces_greatest i; loop = loops_greatest i; edge = edges_greatest i; vertex = vertices_greatest i }

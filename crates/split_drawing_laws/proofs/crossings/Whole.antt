@@ -1,32 +1,53 @@
 -- All edges of a solid that cross a plane cut: from the first conditions of a split to the model.
-use Rattle.std.proofs.Common.{◌≡◌, ℕ, ◌≤◌, Bool, true, false, nat_eq, [], None, is_some, unwrap_or, refl, sym, ap, ◌∙◌, arith, inl, inr}
+use Rattle.std.specs.Prelude.{filter}
+use Rattle.std.proofs.Common.{◌≡◌, ℕ, ◌≤◌, Bool, true, false, nat_eq, [], None, is_some, unwrap_or, refl, sym, ap, ◌∙◌, arith, inl, inr, cond, ◌&&◌, ◌||◌, subst, true≢false}
 use Rattle.std.proofs.lemmas.Bool.{eq-eqb, eqb-true}
 use Rattle.euler_operators.specs.declared.Plane.{Plane}
-use Rattle.euler_operators.specs.Vectors.{are_opposite}
+use Rattle.euler_operators.specs.Vectors.{are_opposite, height, is_on, cut_between}
 use Rattle.euler_operators.specs.Items.{count, IsIn}
-use Rattle.euler_operators.specs.HalfEdge.{plus, minus}
+use Rattle.euler_operators.specs.HalfEdge.{plus, minus, edge_of}
 use Rattle.euler_operators.specs.Table as table
-use Rattle.euler_operators.specs.Model.{Model, tail, loop_of, face_of, solid_of, no_face}
-use Rattle.euler_operators.specs.Sound.{Sound, Has}
-use Rattle.euler_operators.proofs.Halves.{mate_plus}
-use Rattle.euler_operators.proofs.Members.{IsIn-filter, count-filter}
+use Rattle.euler_operators.specs.Model.{Model, tail, loop_of, face_of, solid_of, no_face, after, before, point_of, faces_of}
+use Rattle.euler_operators.specs.Sound.{Sound, Has, HasHalf}
+use Rattle.euler_operators.specs.Conditions.{first_refusal, face_at, lists}
+use Rattle.euler_operators.proofs.Halves.{mate_plus, mate_minus}
+use Rattle.euler_operators.proofs.Members.{IsIn-filter, count-filter, filter_passes}
 use Rattle.euler_operators.proofs.Models.{plus_there, minus_there}
 use Rattle.euler_operators.proofs.Tables.{row_some}
-use Rattle.euler_operators.specs.Conditions.{first_refusal, face_at, lists}
+use Rattle.euler_operators.proofs.Lists.{IsIn_or_not}
+use Rattle.euler_operators.proofs.Crossings.{opposite_turned, level_on, not_level}
 use Rattle.euler_laws.specs.Laws.{AreAccepted, effects}
 use Rattle.euler_laws.proofs.shared.Goes.{all_hold}
-use Rattle.euler_laws.proofs.shared.Listed.{all_where-rises}
-use Rattle.shapes.specs.Faces.{start, edges_of}
+use Rattle.euler_laws.proofs.shared.Listed.{all_where-rises, IsIn-from_listed, listed-from_in}
+use Rattle.euler_laws.proofs.shared.Counted.{counted_once, none_counted, all_where_has, all_where_in}
+use Rattle.euler_laws.proofs.shared.Arcs.{halves_of_edge}
+use Rattle.euler_laws.proofs.shared.Fans.{half_after, loop_after}
+use Rattle.shapes.specs.Faces.{start, edges_of, finish, loops_of, boundary}
 use Rattle.shapes.specs.Fresh.{taken_in, growing}
-use Rattle.shapes.specs.split.Sides.{crosses, crossing_edges}
+use Rattle.shapes.specs.split.Sides.{crosses, crossing_edges, straddles, straddling_faces}
 use Rattle.shapes.specs.split.Crossings.{with_crossings}
 use Rattle.shapes.specs.split.Split.{first_conditions}
+use Rattle.shapes.specs.split.Places.{is_place, place_point, places}
+use Rattle.shapes.specs.split.Drawing.{from_place}
+use Rattle.shapes.proofs.walks.SolidFaces.{face_of_loop}
+use Rattle.shapes.proofs.walks.FaceLoops.{items_counted, items_there}
 use Rattle.split_drawing_laws.specs.crossings.CrossingOps.{crossing_ops}
 use Rattle.split_drawing_laws.specs.crossings.Kept.{Kept}
-use Rattle.split_drawing_laws.proofs.crossings.Listed.{picked_none}
+use Rattle.split_drawing_laws.specs.crossings.AtPlace.{AtPlace}
+use Rattle.split_drawing_laws.proofs.crossings.Premises.{picked_none, Cuttable, cuttable, crossing_here, crossing_point, one_point, minus_crosses}
 use Rattle.split_drawing_laws.proofs.crossings.Runs.{AreCut, Going, Gone, all_gone, none_cut, kept_start}
-use Rattle.split_drawing_laws.proofs.crossings.Premises.{Cuttable, cuttable, crossing_here}
-use Rattle.euler_laws.proofs.shared.Counted.{counted_once, none_counted, all_where_has, all_where_in}
+
+-- ---- where the cut places of a face are, once the edges are cut
+
+module _ (M : Model) (sound : Sound M) (f : ℕ) (there : Has M.faces f) where
+  -- the half-edges of the loops of a face are of that face
+  pub item_there : (h : ℕ) → IsIn h (boundary M f) → HasHalf M h
+  unfolding boundary
+  item_there h i = items_there M sound (loops_of M f) h i
+
+  pub item_face : (h : ℕ) → IsIn h (boundary M f) → face_at M h ≡ f
+  unfolding boundary
+  item_face h i = (face_of_loop M sound f (loop_of M h) there (listed-from_in (loop_of M h) (loops_of M f) (omega (arith, i, items_counted M sound (loops_of M f) h)))).1
 
 module _ (M : Model) (s : ℕ) (p : Plane) (t : ℕ) (sound : Sound M) (accepted : first_refusal (first_conditions M s p t) ≡ None) where
   pub can_cut : Cuttable M s p
@@ -118,3 +139,124 @@ module _ (M : Model) (s : ℕ) (p : Plane) (t : ℕ) (sound : Sound M) (accepted
 
   pub tails_stay : (e : ℕ) → Has M.edges e → (tail (with_crossings M s p).model (minus e) ≡ tail M (minus e)) × (lists (crossing_edges M p s) e ≡ false → tail (with_crossings M s p).model (plus e) ≡ tail M (plus e))
   tails_stay e there = (crossings_cut.minus_tails e there, λ l. crossings_cut.plus_tails e there (not_cut e (none_counted e (crossing_edges M p s) l)))
+
+  -- a place that stays where it is
+  at_itself : (h : ℕ) → HasHalf M h → start N h ≡ place_point M p h → is_on p (start N h) ≡ true → AtPlace M N p h
+  at_itself h there starts on =
+      let is : h ≡ from_place N p h = sym (ap (λ b. cond b h (after N h)) on) in
+      record {
+        there = subst (HasHalf N) is (crossings_keep.halves h there);
+        starts = ap (start N) (sym is) ∙ starts;
+        loop = ap (loop_of N) (sym is) ∙ crossings_keep.loop h there;
+      }
+
+  -- an edge that crosses the plane: from its plus half the place is at that half, from its minus half at the next one
+  module _ (e : ℕ) (i : IsIn e (crossing_edges M p s)) where
+    crossing : (crosses M p (plus e) ≡ true)
+    crossing = (crossing_here M sound s p can_cut e i).crossing
+
+    e_there : Has M.edges e
+    e_there = (crossing_here M sound s p can_cut e i).there
+
+    plus_starts : start N (plus e) ≡ place_point M p (plus e)
+    plus_starts = crossings_cut.cut_starts e e_there (is_cut e i)
+        ∙ sym (crossing_point M sound s p can_cut e i (plus e) crossing)
+
+    pub plus_on : is_on p (start N (plus e)) ≡ true
+    plus_on = level_on (height p (start N (plus e)))
+        (ap (height p) (crossings_cut.cut_starts e e_there (is_cut e i)) ∙ (crossing_here M sound s p can_cut e i).level)
+
+    at_plus : AtPlace M N p (plus e)
+    at_plus = at_itself (plus e) (plus_there M e e_there) plus_starts plus_on
+
+    minus_stays : start N (minus e) ≡ start M (minus e)
+    minus_stays = kept_start M N sound crossings_keep (minus e) (minus_there M e e_there) (crossings_cut.minus_tails e e_there)
+
+    pub minus_off : is_on p (start N (minus e)) ≡ false
+    minus_off = ap (is_on p) minus_stays ∙ not_level (height p (start M (minus e))) (height p (start M (plus e))) (minus_crosses M sound s p can_cut e i)
+
+    minus_in_N : HasHalf N (minus e)
+    minus_in_N = crossings_keep.halves (minus e) (minus_there M e e_there)
+
+    at_minus : AtPlace M N p (minus e)
+    at_minus =
+        let is : after N (minus e) ≡ from_place N p (minus e) = sym (ap (λ b. cond b (minus e) (after N (minus e))) minus_off) in
+        let N_sound : Sound N = crossings_sound in
+        record {
+          there = subst (HasHalf N) is (half_after N N_sound (minus e) minus_in_N);
+          starts = ap (start N) (sym is) ∙ ap (point_of N) (N_sound.ends_meet (minus e) minus_in_N ∙ ap (tail N) (mate_minus e)) ∙ plus_starts ∙ one_point M sound s p can_cut e i;
+          loop = ap (loop_of N) (sym is) ∙ loop_after N N_sound (minus e) minus_in_N ∙ crossings_keep.loop (minus e) (minus_there M e e_there);
+        }
+
+  -- another edge stays where it is
+  module _ (e : ℕ) (e_there : Has M.edges e) (crosses_not : crosses M p (plus e) ≡ false) where
+    uncut : count e gone.list ≡ 0
+    uncut = elim (IsIn_or_not e (crossing_edges M p s)) [
+      | inl i ↦ absurd (true≢false (sym (filter_passes (λ x. crosses M p (plus x)) e (edges_of M s) i) ∙ crosses_not))
+      | inr z ↦ omega (arith, z, gone.same e)
+    ]
+
+    stays_plus : start N (plus e) ≡ start M (plus e)
+    stays_plus = kept_start M N sound crossings_keep (plus e) (plus_there M e e_there) (crossings_cut.plus_tails e e_there uncut)
+
+    stays_minus : start N (minus e) ≡ start M (minus e)
+    stays_minus = kept_start M N sound crossings_keep (minus e) (minus_there M e e_there) (crossings_cut.minus_tails e e_there)
+
+  on_place : (h : ℕ) → is_on p (start M h) ≡ true → place_point M p h ≡ start M h
+  unfolding place_point
+  on_place h on = ap (λ b. cond b (start M h) (cut_between p (start M h) (finish M h))) on
+
+  at_corner : (h : ℕ) → HasHalf M h → is_on p (start M h) ≡ true → start N h ≡ start M h → AtPlace M N p h
+  at_corner h there on same = at_itself h there (same ∙ sym (on_place h on)) (ap (is_on p) same ∙ on)
+
+  pub on_when : (h : ℕ) → is_place M p h ≡ true → crosses M p h ≡ false → is_on p (start M h) ≡ true
+  unfolding is_place
+  on_when h place off = go (crosses M p h) (is_on p (start M h)) (are_opposite p (start M (before M h)) (finish M h)) place off where
+    go : (a b c : Bool) → (a || (b && c)) ≡ true → a ≡ false → b ≡ true
+    go true b c e n = absurd (true≢false n)
+    go false true c e n = refl
+    go false false c e n = absurd (true≢false (sym e))
+
+  pub turned : (e : ℕ) (b : Bool) → crosses M p (minus e) ≡ b → crosses M p (plus e) ≡ b
+  turned e b is = ap (are_opposite p (start M (plus e))) (ap (start M) (mate_plus e)) ∙ opposite_turned (height p (start M (plus e))) (height p (start M (minus e)))
+      ∙ sym (ap (are_opposite p (start M (minus e))) (ap (start M) (mate_minus e))) ∙ is
+
+  pub in_crossing : (e : ℕ) → Has M.edges e → solid_of M (face_at M (plus e)) ≡ s → crosses M p (plus e) ≡ true → IsIn e (crossing_edges M p s)
+  in_crossing e there of_s c = IsIn-filter (λ x. crosses M p (plus x)) e (edges_of M s) (listed_edge e there (eq-eqb (solid_of M (face_at M (plus e))) s of_s)) c
+
+  of_plus : (e : ℕ) → Has M.edges e → solid_of M (face_at M (plus e)) ≡ s → is_place M p (plus e) ≡ true → AtPlace M N p (plus e)
+  of_plus e there of_s place = go (crosses M p (plus e)) refl where
+    go : (b : Bool) → crosses M p (plus e) ≡ b → AtPlace M N p (plus e)
+    go true c = at_plus e (in_crossing e there of_s c)
+    go false c = at_corner (plus e) (plus_there M e there) (on_when (plus e) place c) (stays_plus e there c)
+
+  of_minus : (e : ℕ) → Has M.edges e → solid_of M (face_at M (plus e)) ≡ s → is_place M p (minus e) ≡ true → AtPlace M N p (minus e)
+  of_minus e there of_s place = go (crosses M p (minus e)) refl where
+    go : (b : Bool) → crosses M p (minus e) ≡ b → AtPlace M N p (minus e)
+    go true c = at_minus e (in_crossing e there of_s (turned e true c))
+    go false c = at_corner (minus e) (minus_there M e there) (on_when (minus e) place c) (stays_minus e there (turned e false c))
+
+  pub face_facts : (f : ℕ) → IsIn f (straddling_faces M p s) → Has M.faces f × (solid_of M f ≡ s)
+  unfolding solid_of
+  face_facts f i =
+      let w = all_where_has (λ _ row. nat_eq row.solid s) M.faces f (omega (arith, i, count-filter (straddles M p) f (faces_of M s))) in
+      (ap is_some w.1, ap (λ o. (unwrap_or o no_face).solid) w.1 ∙ eqb-true w.0.solid s w.2)
+
+  -- a place of a face that straddles
+  place_is : (f h : ℕ) → IsIn f (straddling_faces M p s) → IsIn h (boundary M f) → is_place M p h ≡ true → AtPlace M N p h
+  place_is f h i j place =
+      let w = face_facts f i in
+      let there : Has M.edges (edge_of h) = item_there M sound f w.0 h j in
+      let of_s : solid_of M (face_at M h) ≡ s = ap (solid_of M) (item_face M sound f w.0 h j) ∙ w.1 in
+      elim (halves_of_edge h) [
+        | inl e ↦ subst (AtPlace M N p) (sym e.0) (of_plus (edge_of h) there (ap (λ x. solid_of M (face_at M x)) (sym e.0) ∙ of_s) (ap (is_place M p) (sym e.0) ∙ place))
+        | inr e ↦ subst (AtPlace M N p) (sym e.0) (of_minus (edge_of h) there
+            (sound.one_solid (plus (edge_of h)) (plus_there M (edge_of h) there) ∙ ap (λ x. solid_of M (face_at M x)) (mate_plus (edge_of h) ∙ sym e.0) ∙ of_s)
+            (ap (is_place M p) (sym e.0) ∙ place))
+      ]
+
+  pub at_place : (f h : ℕ) → lists (straddling_faces M p s) f ≡ true → lists (places M p f) h ≡ true → AtPlace M (with_crossings M s p).model p h
+  unfolding places
+  at_place f h i j =
+      let k : IsIn h (filter (is_place M p) (boundary M f)) = IsIn-from_listed h (places M p f) j in
+      place_is f h (IsIn-from_listed f (straddling_faces M p s) i) (omega (arith, k, count-filter (is_place M p) h (boundary M f))) (filter_passes (is_place M p) h (boundary M f) k)

@@ -1,5 +1,4 @@
-use Rattle.split_drawing_laws.proofs.crossings.Whole.{crossings_keep, none_crosses, tails_stay}
-use Rattle.split_drawing_laws.proofs.crossings.Places.{at_place}
+use Rattle.split_drawing_laws.proofs.crossings.Whole.{crossings_keep, none_crosses, tails_stay, at_place}
 use Rattle.split_drawing_laws.proofs.crossings_leave.Goals as goal
 
 pub returns : goal.returns

@@ -1,19 +1,140 @@
--- Faces on one plane: what they add to the six volumes, told from any corner.
-use Rattle.std.proofs.Common.{◌≡◌, ◌≢◌, ℕ, ◌+ℤ◌, neg_ℤ, true, not, nat_eq, ◌&&◌, List, [], ◌∷◌, unwrap_or, refl, sym, ap, ◌∙◌, subst, inl, inr}
+-- The faces of a solid, and sums over them.
+use Rattle.std.specs.List.{list_all}
+use Rattle.std.proofs.Common.{◌≡◌, ◌≢◌, ℕ, ◌≤◌, ℤ, ◌+ℤ◌, nat_eq, List, [], ◌∷◌, is_some, sym, ap, ◌∙◌, arith, inl, inr, Bool, true, ◌&&◌, ◌++◌, refl, subst, neg_ℤ, not, unwrap_or}
+use Rattle.std.proofs.lemmas.Int.{ints}
 use Rattle.std.proofs.lemmas.Bool.Decides.{eqb_tells}
-use Rattle.std.proofs.lemmas.Bool.{and_parts}
-use Rattle.euler_operators.specs.declared.Plane.{Plane}
-use Rattle.euler_operators.specs.Vectors.{origin, dot, same_point, direction}
-use Rattle.euler_operators.specs.Items.{IsIn}
+use Rattle.std.proofs.lemmas.Bool.{eq-eqb, eqb-true, and_parts}
+use Rattle.euler_operators.specs.Items.{count, tick, IsIn}
 use Rattle.euler_operators.specs.Table as table
-use Rattle.euler_operators.specs.Model.{Model, no_face, solid_of, faces_of}
-use Rattle.euler_operators.specs.Sound.{Sound, Has}
-use Rattle.shapes.specs.Faces.{corners}
-use Rattle.shapes.specs.Measure.{normal, anchor, plane_through, plane_of, is_flat, volume_in, six_volume}
-use Rattle.shapes.proofs.measures.FlatFaces.{are_on, anchor_on, plane_told}
-use Rattle.euler_operators.proofs.Vectors.{dot_turned}
-use Rattle.euler_operators.proofs.Members.{IsIn_rest}
+use Rattle.euler_operators.specs.Model.{Model, solid_of, faces_of, LoopContent, lone, cycle, items_of, tail, content, point_of, loop_of, cycle_of, is_ring_of, rings_of, after, no_face}
+use Rattle.euler_operators.specs.Sound.{Has, Sound}
+use Rattle.euler_operators.specs.declared.Plane.{Plane}
+use Rattle.euler_operators.specs.Vectors.{is_on, origin, dot, same_point, direction}
+use Rattle.euler_operators.specs.Conditions.{lists, strictly_rises}
+use Rattle.euler_operators.proofs.Lists.{tick_same, tick_other, IsIn_or_not}
+use Rattle.euler_operators.proofs.Members.{IsIn_rest, each_mapped}
 use Rattle.euler_operators.proofs.Rotations.{IsIn_head}
+use Rattle.euler_operators.proofs.Models.{solid_row, same_solid, in-holds, item_there}
+use Rattle.euler_operators.proofs.Vectors.{add_assoc, dot_turned}
+use Rattle.euler_operators.proofs.Rings.{IsIn_successor}
+use Rattle.euler_laws.proofs.shared.Listed.{all_where-rises}
+use Rattle.euler_laws.proofs.shared.Rows.{face_there}
+use Rattle.euler_laws.proofs.shared.Counted.{counted_once, all_where_has, all_where_in}
+use Rattle.euler_laws.proofs.shared.RisingLists.{within}
+use Rattle.shapes.specs.Measure.{six_volume, normal, anchor, plane_through, plane_of, is_flat, volume_in}
+use Rattle.shapes.specs.Faces.{start, finish, vertices_on, vertices_in, corners}
+use Rattle.shapes.proofs.measures.Sums.{total, volume_of, volume_is, unchanged}
+use Rattle.shapes.proofs.measures.FlatFaces.{list_parts, are_on, anchor_on, plane_told}
+use Rattle.shapes.proofs.walks.FaceLoops.{listed_ring, ring_listed, rings_rise}
+
+-- ---- the faces of a solid
+
+pub solid_facts : (M : Model) (u f : ℕ) → IsIn f (faces_of M u) → Has M.faces f × (solid_of M f ≡ u)
+solid_facts M u f i =
+    let r = all_where_has (λ _ row. nat_eq row.solid u) M.faces f i in
+    let there : Has M.faces f = ap is_some r.1 in
+    (there, solid_row M f r.0 r.1 ∙ eqb-true r.0.solid u r.2)
+
+pub in_solid : (M : Model) (f u : ℕ) → Has M.faces f → solid_of M f ≡ u → IsIn f (faces_of M u)
+in_solid M f u there of_u = all_where_in (λ _ row. nat_eq row.solid u) M.faces f _ (face_there M f there) (eq-eqb (solid_of M f) u of_u)
+
+pub counted : (M : Model) (u f : ℕ) → count f (faces_of M u) ≤ 1
+counted M u f = counted_once f (faces_of M u) (all_where-rises (λ _ row. nat_eq row.solid u) M.faces)
+
+pub counted_in : (M : Model) (f u : ℕ) → Has M.faces f → solid_of M f ≡ u → count f (faces_of M u) ≡ 1
+counted_in M f u there of_u = omega (arith, in_solid M f u there of_u, counted M u f)
+
+pub counted_out : (M : Model) (f u : ℕ) → (Has M.faces f → solid_of M f ≢ u) → count f (faces_of M u) ≡ 0
+counted_out M f u never = elim (IsIn_or_not f (faces_of M u)) [ inl i ↦ let w = solid_facts M u f i in absurd (never w.0 w.1) | inr z ↦ z ]
+
+pub same_count : (M N : Model) (u f : ℕ) → table.get N.faces f ≡ table.get M.faces f → count f (faces_of N u) ≡ count f (faces_of M u)
+same_count M N u f e = elim (IsIn_or_not f (faces_of M u)) [
+  | inl i ↦
+      let w = solid_facts M u f i in
+      counted_in N f u (ap is_some e ∙ w.0) (same_solid M N f e ∙ w.1) ∙ sym (counted_in M f u w.0 w.1)
+  | inr z ↦ counted_out N f u (λ there of_u. absurd (omega (arith, z, in_solid M f u (sym (ap is_some e) ∙ there) (sym (same_solid M N f e) ∙ of_u)))) ∙ sym z
+]
+
+-- ---- sums
+
+pub six_is : (M : Model) (u : ℕ) → six_volume M u ≡ total (volume_of M) (faces_of M u)
+unfolding six_volume
+six_is M u = volume_is M (faces_of M u)
+
+-- where one number changes by x, so does the sum
+pub changed_one : (w z : ℕ → ℤ) (k : ℕ) (x : ℤ) → w k ≡ z k +ℤ x → (fs : List ℕ) → ((f : ℕ) → IsIn f fs → f ≢ k → w f ≡ z f) → count k fs ≡ 1 → total w fs ≡ total z fs +ℤ x
+changed_one w z k x e [] each one = absurd (omega (arith, one))
+changed_one w z k x e (f ∷ fs) each one = elim (eqb_tells f k) [
+  | inl s ↦
+      let here : w f ≡ z f +ℤ x = ap w s.1 ∙ e ∙ ap (λ q. z q +ℤ x) (sym s.1) in
+      let gone : count k fs ≡ 0 = let t : tick k f ≡ 1 = ap (tick k) s.1 ∙ tick_same k in omega (arith, one, t) in
+      let rest : total w fs ≡ total z fs = unchanged w z fs (λ g j. each g (IsIn_rest g f fs j) (λ q. absurd (omega (arith, gone, ap (λ y. count y fs) (sym q), j)))) in
+      (λ i. here i +ℤ rest i) ∙ over (z f) x (total z fs)
+  | inr s ↦
+      let more : total w fs ≡ total z fs +ℤ x = changed_one w z k x e fs (λ g j. each g (IsIn_rest g f fs j)) (omega (arith, one, tick_other k f (λ q. s.1 (sym q)))) in
+      (λ i. each f (IsIn_head f fs) s.1 i +ℤ more i) ∙ sym (add_assoc (z f) (total z fs) x)
+] where
+  over : (a b c : ℤ) → (a +ℤ b) +ℤ c ≡ (a +ℤ c) +ℤ b
+  over a b c = omega (arith, ints)
+
+-- ---- corners on a plane, loop by loop and item by item; rings that are the same
+
+-- ---- lists
+
+module _ (p : ℕ → Bool) where
+  pub both_pass : (xs ys : List ℕ) → list_all p xs ≡ true → list_all p ys ≡ true → list_all p (xs ++ ys) ≡ true
+  both_pass [] ys a b = b
+  both_pass (x ∷ xs) ys a b = let s = and_parts (p x) (list_all p xs) a in λ i. s.0 i && both_pass xs ys s.1 b i
+
+-- ---- loops
+
+module _ (M : Model) (r : Plane) where
+  -- where the corners of some loops lie on the plane, so do those of each of them
+  pub loop_on : (ls : List ℕ) (l : ℕ) → are_on M r (vertices_in M ls) ≡ true → IsIn l ls → are_on M r (vertices_on M (content M l)) ≡ true
+  loop_on [] l on i = absurd (omega (arith, i))
+  loop_on (k ∷ ls) l on i = let a = list_parts (λ v. is_on r (point_of M v)) (vertices_on M (content M k)) (vertices_in M ls) on in elim (eqb_tells l k) [
+    | inl e ↦ ap (λ q. are_on M r (vertices_on M (content M q))) e.1 ∙ a.0
+    | inr e ↦ loop_on ls l a.1 (omega (arith, i, tick_other l k e.1))
+  ]
+
+  pub loops_on : (ls : List ℕ) → ((l : ℕ) → IsIn l ls → are_on M r (vertices_on M (content M l)) ≡ true) → are_on M r (vertices_in M ls) ≡ true
+  loops_on [] each = refl
+  loops_on (l ∷ ls) each = both_pass (λ v. is_on r (point_of M v)) (vertices_on M (content M l)) (vertices_in M ls) (each l (IsIn_head l ls)) (loops_on ls (λ k j. each k (IsIn_rest k l ls j)))
+
+  -- an item starts at a corner
+  pub item_on : (c : LoopContent) (h : ℕ) → are_on M r (vertices_on M c) ≡ true → IsIn h (items_of c) → is_on r (start M h) ≡ true
+  item_on (lone v) h on i = absurd (omega (arith, i))
+  item_on (cycle hs) h on i = each_mapped (λ v. is_on r (point_of M v)) (tail M) hs h on i
+
+module _ (M : Model) (sound : Sound M) where
+  pub item_loop : (l h : ℕ) → IsIn h (items_of (content M l)) → loop_of M h ≡ l
+  item_loop l h i = sound.one_loop h l (in-holds h (content M l) i)
+
+  -- what comes after an item of a loop is one of its items
+  pub next_item : (l h : ℕ) → IsIn h (items_of (content M l)) → IsIn (after M h) (items_of (content M l))
+  unfolding after
+  next_item l h i = subst (λ xs. IsIn (after M h) xs) (ap (λ q. items_of (content M q)) (item_loop l h i))
+      (IsIn_successor h (cycle_of M h) (subst (λ q. IsIn h (items_of (content M q))) (sym (item_loop l h i)) i))
+
+  -- so it ends at a corner
+  pub item_ends_on : (r : Plane) (l h : ℕ) → are_on M r (vertices_on M (content M l)) ≡ true → IsIn h (items_of (content M l)) → is_on r (finish M h) ≡ true
+  item_ends_on r l h on i = ap (λ v. is_on r (point_of M v)) (sym (sound.ends_meet h (item_there M sound l h i))) ∙ item_on M r (content M l) (after M h) on (next_item l h i)
+
+-- ---- rings
+
+-- rising lists of the same numbers are one
+pub rising_one : (xs ys : List ℕ) → strictly_rises xs ≡ true → strictly_rises ys ≡ true → ((q : ℕ) → lists xs q ≡ true → lists ys q ≡ true) → ((q : ℕ) → lists ys q ≡ true → lists xs q ≡ true) → xs ≡ ys
+rising_one xs ys a b to back =
+    let m = within xs ys a b to in
+    let n = within ys xs b a back in
+    m.1 (omega (arith, m.0, n.0))
+
+-- a face has the same rings in two models where the same loops are its rings
+pub same_rings : (M N : Model) → Sound M → Sound N → (f : ℕ) → ((l : ℕ) → is_ring_of N f l ≡ is_ring_of M f l) → rings_of N f ≡ rings_of M f
+same_rings M N a b f same = rising_one (rings_of N f) (rings_of M f) (rings_rise N b f) (rings_rise M a f)
+    (λ q i. ring_listed M a f q (sym (same q) ∙ listed_ring N b f q i)) (λ q i. ring_listed N b f q (same q ∙ listed_ring M a f q i))
+
+-- ---- faces on one plane: what they add to the six volumes, told from any corner
 
 -- N is M with its faces, their normals, the planes on which their corners lie, and the anchors of the faces of other solids than s
 pub record Measured (M N : Model) (s : ℕ) : Type 0 where

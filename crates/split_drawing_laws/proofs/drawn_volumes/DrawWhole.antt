@@ -10,8 +10,7 @@ use Rattle.shapes.specs.split.Sides.{straddling_faces}
 use Rattle.shapes.specs.split.Crossings.{with_crossings}
 use Rattle.shapes.specs.split.Drawing.{faces_drawn, undrawn, straddling_pairs, with_drawings}
 use Rattle.shapes.specs.split.Split.{first_conditions}
-use Rattle.split_drawing_laws.proofs.crossings.Places.{face_facts}
-use Rattle.split_drawing_laws.proofs.crossings.Whole.{crossings_sound}
+use Rattle.split_drawing_laws.proofs.crossings.Whole.{face_facts, crossings_sound}
 use Rattle.split_drawing_laws.proofs.pairs.Whole.{can_be_drawn}
 use Rattle.split_drawing_laws.specs.drawings.Laws.{CanBeDrawn}
 use Rattle.split_drawing_laws.proofs.drawings.Counted.{faces_are}
@@ -19,9 +18,8 @@ use Rattle.split_drawing_laws.proofs.drawings.Whole.{drawable, drawing_sound}
 use Rattle.split_drawing_laws.specs.drawn_volumes.Laws.{LiesOnOld}
 use Rattle.split_drawing_laws.proofs.drawn_volumes.Bounds.{OnFace, on_face, face_on}
 use Rattle.split_drawing_laws.proofs.cut_volumes.CutWhole.{all_flat, crossings_measured, crossings_volumes}
-use Rattle.split_drawing_laws.proofs.cut_volumes.Solids.{solid_facts, in_solid}
+use Rattle.split_drawing_laws.proofs.cut_volumes.Told.{solid_facts, in_solid, flat_on, solid_stays}
 use Rattle.split_drawing_laws.proofs.drawn_volumes.Spread.{Comes, Spread, LiesFlat, nothing_spread, all_spread}
-use Rattle.split_drawing_laws.proofs.cut_volumes.Told.{flat_on, solid_stays}
 use Rattle.split_drawing_laws.proofs.drawn_volumes.Volumes.{IsPlane}
 use Rattle.euler_laws.proofs.shared.Listed.{IsIn-from_listed, listed-from_in}
 

@@ -19,8 +19,7 @@ use Rattle.shapes.specs.Measure.{normal, anchor}
 use Rattle.shapes.proofs.Areas.{area-append}
 use Rattle.shapes.proofs.measures.Sums.{area_same}
 use Rattle.split_drawing_laws.specs.drawings.DrawnIn.{Stays}
-use Rattle.split_drawing_laws.proofs.drawn_volumes.Bounds.{OnFace, anchor_still, bound_one, bound_none, point_still, start_still}
-use Rattle.split_drawing_laws.proofs.drawn_volumes.Edges.{half_there, area_after, one_count, no_count, normal_kept, normal_is}
+use Rattle.split_drawing_laws.proofs.drawn_volumes.Bounds.{OnFace, anchor_still, bound_one, bound_none, point_still, start_still, half_there, area_after, one_count, no_count, normal_kept, normal_is}
 
 -- loop l is a ring of face f and goes to another face k
 pub record CanMove (N : Model) (f l k : ℕ) : Type 0 where

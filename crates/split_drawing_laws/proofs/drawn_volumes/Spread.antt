@@ -1,23 +1,160 @@
--- Faces drawn one after the other: volumes stay, and each face of the solid lies on the planes of one that was there before.
-use Rattle.std.proofs.Common.{◌≡◌, ℕ, ◌+◌, Bool, true, false, List, [], ◌∷◌, None, refl, sym, ◌∙◌, subst, arith}
+-- Two loops of a face joined, an edge drawn in it, and a ring of it moved: volumes and planes stay.
 use Rattle.std.specs.Prelude.{fold, map}
+use Rattle.std.proofs.Common.{◌≡◌, ◌≢◌, ℕ, None, is_some, refl, sym, ap, ◌∙◌, subst, ◌⊎◌, inl, inr, ◌+◌, Bool, true, false, List, [], ◌∷◌, arith}
+use Rattle.std.proofs.lemmas.Bool.Decides.{eqb_tells}
 use Rattle.euler_operators.specs.declared.Plane.{Plane}
+use Rattle.euler_operators.specs.Table as table
+use Rattle.euler_operators.specs.Model.{Model, outer, solid_of}
+use Rattle.euler_operators.specs.Sound.{Sound, Has}
+use Rattle.euler_operators.specs.Conditions.{face_at}
+use Rattle.euler_operators.specs.Effect.{ring_in}
 use Rattle.euler_operators.specs.Items.{IsIn}
+use Rattle.euler_operators.proofs.Models.{same_solid}
 use Rattle.euler_operators.proofs.Lists.{tick_same}
 use Rattle.euler_operators.proofs.Tables.{no_row}
-use Rattle.euler_operators.specs.Table as table
-use Rattle.euler_operators.specs.Model.{Model, solid_of}
-use Rattle.euler_operators.specs.Sound.{Has}
+use Rattle.euler_laws.proofs.shared.Fans.{half_face}
+use Rattle.shapes.specs.split.Drawing.{face_drawn, loops_joined, Drawing, drawn_between, FacePairs, next_drawn}
 use Rattle.shapes.specs.Measure.{six_volume}
-use Rattle.shapes.specs.split.Drawing.{Drawing, drawn_between, FacePairs, next_drawn}
+use Rattle.split_drawing_laws.specs.drawings.DrawnIn.{DrawnIn}
 use Rattle.split_drawing_laws.specs.drawings.Pairs.{pairs_in}
 use Rattle.split_drawing_laws.specs.drawings.Passing.{Ready, Drawable}
-use Rattle.split_drawing_laws.proofs.drawings.Faces.{between_keeps}
-use Rattle.split_drawing_laws.proofs.drawings.Whole.{ready, drawable_on, next_is}
+use Rattle.split_drawing_laws.proofs.drawings.Drawn.{CanDraw, CanJoin}
+use Rattle.split_drawing_laws.proofs.drawings.Rings.{RingOf, Newer}
 use Rattle.split_drawing_laws.proofs.face_sides.Beside.{never_free}
 use Rattle.split_drawing_laws.proofs.drawn_volumes.Bounds.{OnFace}
-use Rattle.split_drawing_laws.proofs.drawn_volumes.Passes.{Within, nothing_within, join_within, draw_within, move_within}
-use Rattle.split_drawing_laws.proofs.drawn_volumes.Volumes.{IsPlane}
+use Rattle.split_drawing_laws.proofs.drawn_volumes.Draws as draws
+use Rattle.split_drawing_laws.proofs.drawn_volumes.Joins as joins
+use Rattle.split_drawing_laws.proofs.drawn_volumes.Moves as moves
+use Rattle.split_drawing_laws.proofs.drawn_volumes.Moves.{CanMove}
+use Rattle.split_drawing_laws.proofs.drawn_volumes.Volumes.{IsPlane, draw_volumes, join_volumes, move_volumes}
+use Rattle.split_drawing_laws.proofs.drawings.Faces.{between_keeps}
+use Rattle.split_drawing_laws.proofs.drawings.Whole.{ready, drawable_on, next_is}
+
+-- X is M with edges drawn in face f: volumes stay, faces lie on the planes on which they lay, and new ones on those of f
+pub record Within (M X : Model) (f : ℕ) : Type 0 where
+  pub volumes : (v : ℕ) → six_volume X v ≡ six_volume M v
+  pub there : (g : ℕ) → Has M.faces g → Has X.faces g
+  pub olds : (g : ℕ) → Has M.faces g → (t : Plane) → OnFace M t g → OnFace X t g
+  pub news : (g : ℕ) → Has X.faces g → table.get M.faces g ≡ None → (t : Plane) → OnFace M t f → OnFace X t g
+  pub old_solid : (g : ℕ) → Has M.faces g → solid_of X g ≡ solid_of M g
+  pub new_solid : (g : ℕ) → Has X.faces g → table.get M.faces g ≡ None → solid_of X g ≡ solid_of M f
+
+pub nothing_within : (M : Model) (f : ℕ) → Within M M f
+nothing_within M f = record {
+  volumes = λ v. refl;
+  there = λ g there. there;
+  olds = λ g there t on. on;
+  news = λ g there none. absurd (never_free M.faces g there none);
+  old_solid = λ g there. refl;
+  new_solid = λ g there none. absurd (never_free M.faces g there none);
+}
+
+-- face f of M lies on a plane
+module _ (M : Model) (f : ℕ) (sound : Sound M) (f_there : Has M.faces f) (r : Plane) (some : IsPlane r) (on_f : OnFace M r f) where
+  -- ---- two loops joined
+
+  module _ (X : Model) (c d e : ℕ) (can : CanJoin X c d e) (at : face_at X c ≡ f) (w : Within M X f) where
+    abbrev J : Model
+    J = loops_joined X c d e
+
+    same : J.faces ≡ X.faces
+    same = joins.faces_joined X c d e can
+
+    was : (g : ℕ) → Has J.faces g → Has X.faces g
+    was g there = subst (λ t. Has t g) same there
+
+    pub join_within : Within M (loops_joined X c d e) f
+    join_within = record {
+      volumes = λ v. join_volumes X c d e can r some (subst (OnFace X r) (sym at) (w.olds f f_there r on_f)) v ∙ w.volumes v;
+      there = λ g there. subst (λ t. Has t g) (sym same) (w.there g there);
+      olds = λ g there t on. joins.joined_on X c d e can t g (w.olds g there t on);
+      news = λ g there none t on. joins.joined_on X c d e can t g (w.news g (was g there) none t on);
+      old_solid = λ g there. same_solid X J g (ap (λ t. table.get t g) same) ∙ w.old_solid g there;
+      new_solid = λ g there none. same_solid X J g (ap (λ t. table.get t g) same) ∙ w.new_solid g (was g there) none;
+    }
+
+  -- ---- an edge drawn
+
+  module _ (X : Model) (u k e g l : ℕ) (can : CanDraw X u k e g l) (drawn : (face_at X u ≡ f) ⊎ (table.get M.faces (face_at X u) ≡ None)) (w : Within M X f) where
+    abbrev K : Model
+    K = face_drawn X u k e g l
+
+    F_there : Has X.faces (face_at X u)
+    F_there = half_face X can.sound u can.u_there
+
+    -- u's face lies on the planes of f
+    comes_on : (t : Plane) → OnFace M t f → OnFace X t (face_at X u)
+    comes_on t on = elim drawn [
+      | inl s ↦ subst (OnFace X t) (sym s) (w.olds f f_there t on)
+      | inr none ↦ w.news (face_at X u) F_there none t on
+    ]
+
+    comes_solid : solid_of X (face_at X u) ≡ solid_of M f
+    comes_solid = elim drawn [
+      | inl s ↦ ap (solid_of X) s ∙ w.old_solid f f_there
+      | inr none ↦ w.new_solid (face_at X u) F_there none
+    ]
+
+    old_row : (h : ℕ) → Has X.faces h → table.get K.faces h ≡ table.get X.faces h
+    old_row h there = draws.face_else X u k e g l can h (draws.not_new X u k e g l can h there)
+
+    was_there : (h : ℕ) → h ≢ g → Has K.faces h → Has X.faces h
+    was_there h ne there = sym (ap is_some (draws.face_else X u k e g l can h ne)) ∙ there
+
+    pub draw_within : Within M (face_drawn X u k e g l) f
+    draw_within = record {
+      volumes = λ v. draw_volumes X u k e g l can r some (comes_on r on_f) v ∙ w.volumes v;
+      there = λ h there. ap is_some (old_row h (w.there h there)) ∙ w.there h there;
+      olds = λ h there t on. draws.old_on X u k e g l can t h (w.there h there) (w.olds h there t on);
+      news = λ h there none t on. elim (eqb_tells h g) [
+        | inl s ↦ subst (OnFace K t) (sym s.1) (draws.new_on X u k e g l can t (comes_on t on))
+        | inr s ↦ draws.old_on X u k e g l can t h (was_there h s.1 there) (w.news h (was_there h s.1 there) none t on)
+      ];
+      old_solid = λ h there. same_solid X K h (old_row h (w.there h there)) ∙ w.old_solid h there;
+      new_solid = λ h there none. elim (eqb_tells h g) [
+        | inl s ↦ ap (solid_of K) s.1 ∙ draws.solid_new X u k e g l can ∙ comes_solid
+        | inr s ↦ same_solid X K h (draws.face_else X u k e g l can h s.1) ∙ w.new_solid h (was_there h s.1 there) none
+      ];
+    }
+
+  -- ---- a ring moved to a new face
+
+  module _ (X : Model) (l k : ℕ) (drawn : DrawnIn M X f) (ring : RingOf X f l) (newer : Newer M X f k) (w : Within M X f) where
+    abbrev R : Model
+    R = ring_in X l k
+
+    f_other : f ≢ k
+    f_other s = never_free M.faces f f_there (ap (table.get M.faces) s ∙ newer.new)
+
+    can : CanMove X f l k
+    can = record {
+      sound = drawn.sound;
+      goes = record { l_there = ring.there; f_there = newer.there; one_solid = ap (solid_of X) ring.face ∙ newer.solid; is_ring = λ e. ring.inner (ap (outer X) (sym ring.face) ∙ e) };
+      face = ring.face;
+      f_there = w.there f f_there;
+      apart = f_other;
+    }
+
+    row_same : (g : ℕ) → table.get R.faces g ≡ table.get X.faces g
+    row_same g = ap (λ t. table.get t g) (moves.faces_moved X f l k can)
+
+    has_was : (g : ℕ) → Has R.faces g → Has X.faces g
+    has_was g there = sym (ap is_some (row_same g)) ∙ there
+
+    pub move_within : Within M (ring_in X l k) f
+    move_within = record {
+      volumes = λ v. move_volumes X f l k can r some (w.olds f f_there r on_f) (w.news k newer.there newer.new r on_f) v ∙ w.volumes v;
+      there = λ g there. ap is_some (row_same g) ∙ w.there g there;
+      olds = λ g there t on. moves.else_on X f l k can t g (λ s. never_free M.faces g there (ap (table.get M.faces) s ∙ newer.new)) (w.olds g there t on);
+      news = λ g there none t on. elim (eqb_tells g k) [
+        | inl s ↦ subst (OnFace R t) (sym s.1) (moves.moved_on X f l k can t (w.olds f f_there t on) (w.news k newer.there newer.new t on))
+        | inr s ↦ moves.else_on X f l k can t g s.1 (w.news g (has_was g there) none t on)
+      ];
+      old_solid = λ g there. same_solid X R g (row_same g) ∙ w.old_solid g there;
+      new_solid = λ g there none. same_solid X R g (row_same g) ∙ w.new_solid g (has_was g there) none;
+    }
+
+-- ---- faces drawn one after the other: volumes stay, and each face of the solid lies on the planes of one that was there before
 
 -- ---- one face
 

@@ -25,7 +25,7 @@ use Rattle.split_drawing_laws.proofs.drawn_volumes.Joins as joins
 use Rattle.split_drawing_laws.proofs.drawn_volumes.Moves as moves
 use Rattle.split_drawing_laws.proofs.drawn_volumes.Moves.{CanMove}
 use Rattle.shapes.proofs.measures.Sums.{total, volume_of, unchanged, total_same}
-use Rattle.split_drawing_laws.proofs.cut_volumes.Solids.{solid_facts, counted_in, counted_out, same_count, six_is, changed_one}
+use Rattle.split_drawing_laws.proofs.cut_volumes.Told.{solid_facts, counted_in, counted_out, same_count, six_is, changed_one}
 
 -- the plane has a direction
 abbrev pub IsPlane : Plane → Type 0

@@ -29,9 +29,8 @@ use Rattle.shapes.specs.split.Drawing.{from_place, drawn_pairs, all_pairs}
 use Rattle.shapes.specs.split.Split.{first_conditions}
 use Rattle.split_drawing_laws.specs.crossings.Kept.{Kept}
 use Rattle.split_drawing_laws.specs.crossings.Laws.{CanBegin}
-use Rattle.split_drawing_laws.proofs.crossings.Listed.{item_in_face}
-use Rattle.split_drawing_laws.proofs.crossings.Places.{at_place, face_facts}
-use Rattle.split_drawing_laws.proofs.crossings.Whole.{can_cut, crossings_keep, crossings_sound, same_solid}
+use Rattle.split_drawing_laws.proofs.crossings.Premises.{item_in_face}
+use Rattle.split_drawing_laws.proofs.crossings.Whole.{at_place, face_facts, can_cut, crossings_keep, crossings_sound, same_solid}
 use Rattle.split_drawing_laws.proofs.pairs.LoopPlaces.{none_passes}
 use Rattle.split_drawing_laws.proofs.pairs.Whole.{can_be_drawn, outer_cut}
 use Rattle.split_drawing_laws.specs.drawings.Pairs.{AllFit, LoneInOneLoop, FacesFit}
@@ -39,11 +38,10 @@ use Rattle.split_drawing_laws.specs.loop_sides.Parted.{ends}
 use Rattle.split_drawing_laws.specs.half_sides.HalfSides.{half_is_above, side_of}
 use Rattle.split_drawing_laws.proofs.half_sides.PlaceEnds.{side_within, place_in_ends, pairs_up}
 use Rattle.split_drawing_laws.proofs.half_sides.Taking.{side_beside}
-use Rattle.split_drawing_laws.proofs.face_sides.Alone.{Held}
+use Rattle.split_drawing_laws.proofs.face_sides.Beside.{Held}
 use Rattle.split_drawing_laws.proofs.face_sides.OneFace.{IsSided, PairsOf}
 use Rattle.split_drawing_laws.proofs.face_sides.Passing.{AllOld}
-use Rattle.split_drawing_laws.proofs.face_sides.Same.{any_from}
-use Rattle.split_drawing_laws.proofs.face_sides.Shared.{HeldOn}
+use Rattle.split_drawing_laws.proofs.face_sides.Shared.{any_from, HeldOn}
 use Rattle.euler_laws.proofs.shared.Counted.{all_where_in}
 
 -- the half-edges of pairs that fit are there

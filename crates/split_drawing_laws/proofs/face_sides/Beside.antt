@@ -1,19 +1,28 @@
 -- What stays beside a face in which edges are drawn: the rows of other faces and of their loops.
-use Rattle.std.proofs.Common.{◌≡◌, ◌≢◌, ℕ, Bool, true, false, cond, nat_eq, ◌||◌, List, [], ◌∷◌, Option, Some, None, is_some, unwrap_or, refl, sym, ap, ◌∙◌, subst, arith, ◌⊎◌, inl, inr, true≢false}
 use Rattle.std.specs.Prelude.{fold}
 use Rattle.std.specs.Option.{option_map}
+use Rattle.std.proofs.Common.{◌≡◌, ◌≢◌, ℕ, Bool, true, false, cond, nat_eq, ◌||◌, List, [], ◌∷◌, Option, Some, None, is_some, unwrap_or, refl, sym, ap, ◌∙◌, subst, arith, ◌⊎◌, inl, inr, true≢false, ◌++◌, ne_eqb}
 use Rattle.std.proofs.lemmas.Bool.Decides.{nat_tests, eqb_tells}
 use Rattle.euler_operators.specs.Table as table
 use Rattle.euler_operators.specs.Table.{Table, get-map_rows}
-use Rattle.euler_operators.specs.Model.{Model, LoopRow, no_loop, loop_of, face_of, content}
-use Rattle.euler_operators.specs.Sound.{Has}
-use Rattle.euler_operators.proofs.Models.{face_row, same_face}
+use Rattle.euler_operators.specs.Model.{Model, LoopRow, no_loop, loop_of, face_of, content, items_of, tail, outer, cycle_of}
+use Rattle.euler_operators.specs.Sound.{Has, HasHalf}
 use Rattle.euler_operators.specs.Conditions.{face_at, lists}
 use Rattle.euler_operators.specs.Effect.{loop_to_face}
-use Rattle.shapes.specs.split.Drawing.{face_drawn, loops_joined, with_rings}
-use Rattle.split_drawing_laws.proofs.drawings.Drawn.{CanDraw, CanJoin, face_drawn_else, loops_joined_faces}
-use Rattle.split_drawing_laws.proofs.drawings.Stays.{row_old, row_new, row_else, row_joined, row_gone, row_other}
+use Rattle.euler_operators.specs.Items.{IsIn, before}
+use Rattle.euler_operators.specs.Rings.{rotate_to, rest, upto, onward}
+use Rattle.euler_operators.specs.Operators.{mef_old, mef_new}
+use Rattle.euler_operators.specs.HalfEdge.{plus, minus}
+use Rattle.euler_operators.proofs.Models.{face_row, same_face, content_row, cycle_there, outer_row, same_outer, loop_there}
+use Rattle.euler_operators.proofs.Lists.{count-append, tick_same, from_is}
+use Rattle.euler_operators.proofs.Rotations.{rotate_to_is, count-rotate_to, count-canonical}
+use Rattle.euler_operators.proofs.Tables.{row_elsewhere}
 use Rattle.euler_laws.proofs.shared.Rows.{content_either}
+use Rattle.euler_laws.proofs.shared.Fans.{half_face}
+use Rattle.shapes.specs.split.Drawing.{face_drawn, loops_joined, with_rings}
+use Rattle.split_drawing_laws.specs.drawings.DrawnIn.{Stays}
+use Rattle.split_drawing_laws.proofs.drawings.Drawn.{CanDraw, CanJoin, face_drawn_else, loops_joined_faces, draw_sound, face_drawn_new}
+use Rattle.split_drawing_laws.proofs.drawings.Stays.{row_old, row_new, row_else, row_joined, row_gone, row_other, stands_at, draw_beside}
 
 -- N is M with edges drawn in face f: the faces of M keep their rows, and their loops theirs, but for those of f
 pub record Beside (M N : Model) (f : ℕ) : Type 0 where
@@ -50,40 +59,6 @@ module _ (M N : Model) (f c d e : ℕ) (can : CanJoin N c d e) (at : face_at N c
       ]
     ];
   }
-
--- ---- an edge drawn in f, or in a face that is new since
-
-module _ (N : Model) (u k e g l : ℕ) (can : CanDraw N u k e g l) where
-  abbrev K : Model
-  K = face_drawn N u k e g l
-
-  pub old_loop_face : face_of (face_drawn N u k e g l) (loop_of N u) ≡ face_at N u
-  old_loop_face = face_row K (loop_of N u) _ (row_old N u k e g l can)
-
-  pub new_loop_face : face_of (face_drawn N u k e g l) l ≡ g
-  new_loop_face = face_row K l _ (row_new N u k e g l can)
-
-  module _ (M : Model) (f : ℕ) (drawn : ComesOf M f (face_at N u)) (new : table.get M.faces g ≡ None) (w : Beside M N f) where
-    not_drawn : (h : ℕ) → h ≢ f → Has M.faces h → face_at N u ≢ h
-    not_drawn h ne old s = elim drawn [
-      | inl a ↦ ne (sym s ∙ a)
-      | inr a ↦ never_free M.faces h old (ap (table.get M.faces) (sym s) ∙ a)
-    ]
-
-    pub drawn_beside : Beside M (face_drawn N u k e g l) f
-    drawn_beside = record {
-      faces = λ h there. face_drawn_else N u k e g l h (λ s. never_free M.faces h there (ap (table.get M.faces) s ∙ new)) ∙ w.faces h there;
-      loops = λ q there ne old. elim (eqb_tells q (loop_of N u)) [
-        | inl a ↦ absurd (not_drawn (face_of K q) ne old (sym (ap (face_of K) a.1 ∙ old_loop_face)))
-        | inr a ↦ elim (eqb_tells q l) [
-          | inl b ↦ absurd (never_free M.faces (face_of K q) old (ap (table.get M.faces) (ap (face_of K) b.1 ∙ new_loop_face) ∙ new))
-          | inr b ↦
-              let same : table.get K.loops q ≡ table.get N.loops q = row_else N u k e g l can q a.1 b.1 in
-              let face : face_of K q ≡ face_of N q = same_face N K q same in
-              same ∙ w.loops q (ap is_some (sym same) ∙ there) (λ s. ne (face ∙ s)) (subst (Has M.faces) face old)
-        ]
-      ];
-    }
 
 -- ---- rings given to a face
 
@@ -141,3 +116,114 @@ module _ (N : Model) (ls : List ℕ) (k q : ℕ) where
     go : (o : Option LoopRow) → is_some o ≡ true → (unwrap_or (option_map (given ls k q) o) no_loop).face ≡ k
     go None t = absurd (true≢false (sym t))
     go (Some row) t = ap (λ b. (cond b (record row { face = k }) row).face) e
+
+-- ---- where a face has no ring, no face that is cut off it has one
+
+-- loop q of N holds a half-edge of B
+pub record Held (B N : Model) (q : ℕ) : Type 0 where
+  pub half : ℕ
+  pub old : HasHalf B half
+  pub at : loop_of N half ≡ q
+
+-- q is the outer loop of its face, and holds a half-edge of B
+pub record Lone (B N : Model) (q : ℕ) : Type 0 where
+  pub outer_is : outer N (face_of N q) ≡ q
+  pub held : Held B N q
+
+-- so is each loop of f, and of the faces that are new since M
+abbrev pub Alone : Model → Model → Model → ℕ → Type 0
+Alone B M N f = (q : ℕ) → Has N.loops q → ComesOf M f (face_of N q) → Lone B N q
+
+in_upto : (u k : ℕ) (xs : List ℕ) → u ≢ k → IsIn u xs → IsIn u (upto u k xs)
+in_upto u k xs ne i = subst (λ ys. IsIn u (before k ys)) (sym (rotate_to_is u xs i))
+    (subst (λ b. IsIn u (cond b [] (u ∷ before k (rest u xs)))) (sym (ne_eqb k u (λ s. ne (sym s)))) (omega (arith, tick_same u)))
+
+in_onward : (u k : ℕ) (xs : List ℕ) → IsIn k xs → IsIn k (onward u k xs)
+in_onward u k xs i = subst (IsIn k) (sym (from_is k (rotate_to u xs) (omega (arith, i, count-rotate_to k u xs)))) (omega (arith, tick_same k))
+
+-- ---- an edge drawn in f, or in a face that is new since
+
+module _ (N : Model) (u k e g l : ℕ) (can : CanDraw N u k e g l) where
+  abbrev K : Model
+  K = face_drawn N u k e g l
+
+  pub old_loop_face : face_of (face_drawn N u k e g l) (loop_of N u) ≡ face_at N u
+  old_loop_face = face_row K (loop_of N u) _ (row_old N u k e g l can)
+
+  pub new_loop_face : face_of (face_drawn N u k e g l) l ≡ g
+  new_loop_face = face_row K l _ (row_new N u k e g l can)
+
+  module _ (M : Model) (f : ℕ) (drawn : ComesOf M f (face_at N u)) (new : table.get M.faces g ≡ None) (w : Beside M N f) where
+    not_drawn : (h : ℕ) → h ≢ f → Has M.faces h → face_at N u ≢ h
+    not_drawn h ne old s = elim drawn [
+      | inl a ↦ ne (sym s ∙ a)
+      | inr a ↦ never_free M.faces h old (ap (table.get M.faces) (sym s) ∙ a)
+    ]
+
+    pub drawn_beside : Beside M (face_drawn N u k e g l) f
+    drawn_beside = record {
+      faces = λ h there. face_drawn_else N u k e g l h (λ s. never_free M.faces h there (ap (table.get M.faces) s ∙ new)) ∙ w.faces h there;
+      loops = λ q there ne old. elim (eqb_tells q (loop_of N u)) [
+        | inl a ↦ absurd (not_drawn (face_of K q) ne old (sym (ap (face_of K) a.1 ∙ old_loop_face)))
+        | inr a ↦ elim (eqb_tells q l) [
+          | inl b ↦ absurd (never_free M.faces (face_of K q) old (ap (table.get M.faces) (ap (face_of K) b.1 ∙ new_loop_face) ∙ new))
+          | inr b ↦
+              let same : table.get K.loops q ≡ table.get N.loops q = row_else N u k e g l can q a.1 b.1 in
+              let face : face_of K q ≡ face_of N q = same_face N K q same in
+              same ∙ w.loops q (ap is_some (sym same) ∙ there) (λ s. ne (face ∙ s)) (subst (Has M.faces) face old)
+        ]
+      ];
+    }
+
+  -- u's part of the loop is that of the new face, and k's stays
+  pub u_goes : loop_of (face_drawn N u k e g l) u ≡ l
+  u_goes = stands_at K (draw_sound N u k e g l can) u l (mef_new (minus e) u k (cycle_of N u)) (content_row K l _ (row_new N u k e g l can))
+      (omega (arith, in_upto u k (cycle_of N u) (λ s. can.apart (ap (tail N) s)) (cycle_there N can.sound u can.u_there), count-canonical u (upto u k (cycle_of N u) ++ minus e ∷ []), count-append u (upto u k (cycle_of N u)) (minus e ∷ [])))
+
+  k_in : IsIn k (cycle_of N u)
+  k_in = subst (λ q. IsIn k (items_of (content N q))) (sym can.one_loop) (cycle_there N can.sound k can.k_there)
+
+  pub k_stays : loop_of (face_drawn N u k e g l) k ≡ loop_of N u
+  k_stays = stands_at K (draw_sound N u k e g l can) k (loop_of N u) (mef_old (plus e) u k (cycle_of N u)) (content_row K (loop_of N u) _ (row_old N u k e g l can))
+      (omega (arith, in_onward u k (cycle_of N u) k_in, count-canonical k (plus e ∷ onward u k (cycle_of N u))))
+
+  -- a face of N keeps its outer loop
+  pub outer_kept : (h : ℕ) → Has N.faces h → outer (face_drawn N u k e g l) h ≡ outer N h
+  outer_kept h there = same_outer N K h (face_drawn_else N u k e g l h (row_elsewhere N.faces h g there can.face_free))
+
+  module _ (B M : Model) (f : ℕ) (stays : Stays B N) (u_old : HasHalf B u) (k_old : HasHalf B k) (drawn : ComesOf M f (face_at N u)) (a : Alone B M N f) where
+    at_new : Lone B K l
+    at_new = record {
+      outer_is = ap (outer K) new_loop_face ∙ outer_row K g _ (face_drawn_new N u k e g l);
+      held = record { half = u; old = u_old; at = u_goes };
+    }
+
+    at_old : Lone B K (loop_of N u)
+    at_old = record {
+      outer_is = ap (outer K) old_loop_face ∙ outer_kept (face_at N u) (half_face N can.sound u can.u_there) ∙ (a (loop_of N u) (loop_there N can.sound u can.u_there) drawn).outer_is;
+      held = record { half = k; old = k_old; at = k_stays };
+    }
+
+    at_other : (q : ℕ) → q ≢ loop_of N u → q ≢ l → Has K.loops q → ComesOf M f (face_of K q) → Lone B K q
+    at_other q x y there d =
+        let same : table.get K.loops q ≡ table.get N.loops q = row_else N u k e g l can q x y in
+        let face : face_of K q ≡ face_of N q = same_face N K q same in
+        let was : Has N.loops q = ap is_some (sym same) ∙ there in
+        let r : Lone B N q = a q was (subst (ComesOf M f) face d) in
+        record {
+          outer_is = ap (outer K) face ∙ outer_kept (face_of N q) (can.sound.loops_of_faces q was) ∙ r.outer_is;
+          held = record {
+            half = r.held.half;
+            old = r.held.old;
+            at = (draw_beside N u k e g l can r.held.half (stays.halves r.held.half r.held.old) (λ s. x (sym r.held.at ∙ s))).0 ∙ r.held.at;
+          };
+        }
+
+    pub draw_alone : Alone B M (face_drawn N u k e g l) f
+    draw_alone q there d = elim (eqb_tells q (loop_of N u)) [
+      | inl x ↦ subst (Lone B K) (sym x.1) at_old
+      | inr x ↦ elim (eqb_tells q l) [
+        | inl y ↦ subst (Lone B K) (sym y.1) at_new
+        | inr y ↦ at_other q x.1 y.1 there d
+      ]
+    ]

@@ -18,9 +18,8 @@ use Rattle.shapes.specs.split.Sides.{straddles, straddling_faces, reaches_above,
 use Rattle.shapes.specs.split.Crossings.{with_crossings}
 use Rattle.shapes.specs.split.Drawing.{all_pairs, faces_drawn, undrawn, straddling_pairs, with_drawings}
 use Rattle.split_drawing_laws.specs.crossings.Laws.{CanBegin}
-use Rattle.split_drawing_laws.proofs.crossings.Places.{face_facts}
-use Rattle.split_drawing_laws.proofs.crossings.Premises.{faces_not_zero}
-use Rattle.split_drawing_laws.proofs.crossings.Whole.{crossings_keep, crossings_sound, same_solid}
+use Rattle.split_drawing_laws.proofs.crossings.Whole.{face_facts, crossings_keep, crossings_sound, same_solid}
+use Rattle.split_drawing_laws.proofs.crossings.Premises.{faces_not_zero, loop_in_face}
 use Rattle.split_drawing_laws.proofs.pairs.Whole.{can_be_drawn}
 use Rattle.split_drawing_laws.specs.drawings.Laws.{CanBeDrawn}
 use Rattle.split_drawing_laws.proofs.drawings.Whole.{drawable, drawing_sound}
@@ -32,11 +31,10 @@ use Rattle.split_drawing_laws.specs.half_sides.HalfSides.{side_of, is_own}
 use Rattle.split_drawing_laws.proofs.half_sides.Taking.{take_sides}
 use Rattle.split_drawing_laws.specs.face_sides.Lone.{NoLoopIsLone}
 use Rattle.split_drawing_laws.specs.face_sides.Laws.{IsDrawn}
-use Rattle.split_drawing_laws.proofs.crossings.Listed.{loop_in_face}
 use Rattle.split_drawing_laws.proofs.drawn_volumes.Bounds.{lone_there, loop_facts}
 use Rattle.split_drawing_laws.proofs.face_sides.Begun.{sided_first, pairs_of}
 use Rattle.split_drawing_laws.proofs.face_sides.OneFace.{IsSided}
-use Rattle.split_drawing_laws.proofs.face_sides.Same.{none_from}
+use Rattle.split_drawing_laws.proofs.face_sides.Shared.{none_from}
 use Rattle.split_drawing_laws.proofs.face_sides.Stages.{Stage, AllPairsOf, all_done}
 use Rattle.split_drawing_laws.proofs.drawings.Counted.{faces_are}
 use Rattle.euler_laws.proofs.shared.Counted.{none_counted, all_where_has}

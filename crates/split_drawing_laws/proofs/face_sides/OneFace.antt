@@ -22,11 +22,9 @@ use Rattle.split_drawing_laws.proofs.drawings.Stays.{row_else, draw_stays}
 use Rattle.split_drawing_laws.specs.drawings.DrawnIn.{PairsHaveRoom}
 use Rattle.split_drawing_laws.proofs.loop_sides.SidesWhole.{draws_stuck}
 use Rattle.split_drawing_laws.proofs.half_sides.PlaceEnds.{AllUp}
-use Rattle.split_drawing_laws.proofs.face_sides.Alone.{Lone, Alone}
-use Rattle.split_drawing_laws.proofs.face_sides.Beside.{Beside, ComesOf, nothing_beside, drawn_beside, never_free, given_has, given_else, given_face}
+use Rattle.split_drawing_laws.proofs.face_sides.Beside.{Lone, Alone, Beside, ComesOf, nothing_beside, drawn_beside, never_free, given_has, given_else, given_face}
 use Rattle.split_drawing_laws.proofs.face_sides.Passing.{AllOld, Joined, joins_beside, Parting, draws_part}
-use Rattle.split_drawing_laws.proofs.face_sides.Same.{above_stays}
-use Rattle.split_drawing_laws.proofs.face_sides.Shared.{HeldOn, LiesOnSide, Cut, old_lies, new_lies}
+use Rattle.split_drawing_laws.proofs.face_sides.Shared.{above_stays, HeldOn, LiesOnSide, Cut, old_lies, new_lies}
 
 -- face f and its loops are in X as in B
 pub record Untouched (B X : Model) (f : ℕ) : Type 0 where

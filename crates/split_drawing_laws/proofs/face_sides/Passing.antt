@@ -12,8 +12,7 @@ use Rattle.split_drawing_laws.proofs.drawings.Pairs.{stays_on, was_free}
 use Rattle.split_drawing_laws.proofs.drawings.Passes.{either_now, joins_keep, cut_off, face_open, can_now, draws_keep}
 use Rattle.split_drawing_laws.proofs.drawings.Stays.{draw_stays}
 use Rattle.split_drawing_laws.proofs.drawings.Drawn.{loops_joined_faces}
-use Rattle.split_drawing_laws.proofs.face_sides.Alone.{Alone, draw_alone}
-use Rattle.split_drawing_laws.proofs.face_sides.Beside.{Beside, ComesOf, joined_beside, drawn_beside}
+use Rattle.split_drawing_laws.proofs.face_sides.Beside.{Alone, draw_alone, Beside, ComesOf, joined_beside, drawn_beside}
 
 -- the half-edges of pairs are in B
 abbrev pub AllOld : Model → List (ℕ × ℕ) → Type 0

@@ -1,45 +1,79 @@
--- The half-edges that start at the cut places of faces that straddle: on the plane, each once, and on the side to which the loop goes there.
+-- The half-edges that start at the cut places of faces, each once.
 use Rattle.std.specs.Prelude.{map}
 use Rattle.std.specs.List.{list_all}
-use Rattle.std.proofs.Common.{◌≡◌, ◌≢◌, ℕ, Bool, true, false, cond, not, ◌||◌, pos, List, [], ◌∷◌, refl, sym, ap, ◌∙◌, subst, arith, inl, inr, true≢false}
+use Rattle.std.proofs.Common.{◌≡◌, ℕ, ◌≤◌, List, [], ◌∷◌, ap, subst, arith, inl, inr, ◌≢◌, Bool, true, false, cond, not, ◌||◌, pos, refl, sym, ◌∙◌, true≢false}
 use Rattle.std.proofs.lemmas.Bool.Decides.{eqb_tells}
 use Rattle.std.proofs.lemmas.Bool.{and_parts}
 use Rattle.euler_operators.specs.declared.Plane.{Plane}
+use Rattle.euler_operators.specs.Items.{count, IsIn, IsApart, tick}
+use Rattle.euler_operators.specs.Model.{Model, loop_of, face_of, solid_of, after}
 use Rattle.euler_operators.specs.Vectors.{height, is_above, is_on, cut_between}
-use Rattle.euler_operators.specs.Items.{count, tick, IsIn, IsApart}
-use Rattle.euler_operators.proofs.Lists.{tick_same}
 use Rattle.euler_operators.specs.HalfEdge.{edge_of, plus}
 use Rattle.euler_operators.specs.Table as table
-use Rattle.euler_operators.specs.Model.{Model, loop_of, face_of, solid_of, after}
 use Rattle.euler_operators.specs.Sound.{Sound, Has, HasHalf}
+use Rattle.euler_operators.specs.Conditions.{face_at, differ}
+use Rattle.euler_operators.proofs.Lists.{count-append, tick_same, tick_other, IsIn_or_not}
 use Rattle.euler_operators.proofs.Halves.{plus_row, mate_plus}
 use Rattle.euler_operators.proofs.Members.{IsIn-map, IsApart-images, count-filter, filter_passes}
 use Rattle.euler_operators.proofs.Maps.{from_map}
 use Rattle.euler_operators.proofs.Crossings.{level_on}
-use Rattle.euler_operators.specs.Conditions.{face_at, differ}
 use Rattle.euler_laws.proofs.shared.Arcs.{halves_of_edge}
 use Rattle.euler_laws.proofs.shared.Fans.{back_of}
 use Rattle.euler_laws.proofs.shared.Listed.{listed-from_in}
+use Rattle.shapes.specs.split.Drawing.{drawn_pairs, all_pairs, from_place}
 use Rattle.shapes.specs.Faces.{start, finish, boundary}
 use Rattle.shapes.specs.split.Sides.{crosses, reaches_above, straddling_faces, crossing_edges}
 use Rattle.shapes.specs.split.Places.{is_place, place_point, places, goes_up, some_meet, is_crossed, is_up_and_down, in_pairs, sorted, sorted_pairs, place_pairs}
 use Rattle.shapes.specs.split.Crossings.{with_crossings}
-use Rattle.shapes.specs.split.Drawing.{from_place, drawn_pairs}
+use Rattle.split_drawing_laws.specs.loop_sides.Parted.{ends, all_ends, Crosses, AllCross}
 use Rattle.split_drawing_laws.specs.crossings.AtPlace.{AtPlace}
 use Rattle.split_drawing_laws.specs.crossings.Laws.{CanBegin}
-use Rattle.split_drawing_laws.proofs.crossings.Places.{at_place, item_there, item_face, face_facts, turned, in_crossing, on_when}
-use Rattle.split_drawing_laws.proofs.crossings.Premises.{Cuttable, edge_facts, crossing_here, crossing_point, one_point}
-use Rattle.split_drawing_laws.proofs.crossings.Whole.{can_cut, crossings_keep, crossings_sound}
-use Rattle.split_drawing_laws.proofs.pairs.Fitting.{between, drawn}
-use Rattle.split_drawing_laws.proofs.pairs.LoopPlaces.{places_even}
-use Rattle.split_drawing_laws.proofs.pairs.Meetings.{points_apart}
-use Rattle.split_drawing_laws.proofs.pairs.Members.{all_places_drawn}
-use Rattle.split_drawing_laws.proofs.pairs.Sorted.{count-sorted, sorted_apart}
-use Rattle.split_drawing_laws.proofs.pairs.Whole.{places_apart}
-use Rattle.split_drawing_laws.specs.loop_sides.Parted.{Crosses, AllCross, ends}
 use Rattle.split_drawing_laws.specs.half_sides.HalfSides.{half_is_above, side_of}
-use Rattle.split_drawing_laws.proofs.half_sides.Heights.{side_ahead}
-use Rattle.split_drawing_laws.proofs.half_sides.Starts.{TurnAt, turn_at}
+use Rattle.split_drawing_laws.proofs.crossings.Whole.{at_place, item_there, item_face, face_facts, turned, in_crossing, on_when, can_cut, crossings_keep, crossings_sound}
+use Rattle.split_drawing_laws.proofs.crossings.Premises.{Cuttable, edge_facts, crossing_here, crossing_point, one_point}
+use Rattle.split_drawing_laws.proofs.pairs.Sorted.{between, drawn, points_apart, all_places_drawn, count-sorted, sorted_apart}
+use Rattle.split_drawing_laws.proofs.pairs.LoopPlaces.{places_even}
+use Rattle.split_drawing_laws.proofs.pairs.Whole.{places_apart}
+use Rattle.split_drawing_laws.proofs.half_sides.Starts.{side_ahead, TurnAt, turn_at}
+
+module _ (M N : Model) (p : Plane) where
+  pub in_all_ends : (f y : ℕ) (fs : List ℕ) → IsIn f fs → IsIn y (ends (drawn_pairs M N p f)) → IsIn y (all_ends (all_pairs M N p fs))
+  in_all_ends f y [] i j = absurd (omega (arith, i))
+  in_all_ends f y (g ∷ fs) i j = elim (eqb_tells f g) [
+    | inl s ↦ let now : IsIn y (ends (drawn_pairs M N p g)) = subst (λ z. IsIn y (ends (drawn_pairs M N p z))) s.1 j in
+        omega (arith, now, count-append y (ends (drawn_pairs M N p g)) (all_ends (all_pairs M N p fs)))
+    | inr s ↦ omega (arith, in_all_ends f y fs (omega (arith, i, tick_other f g s.1)) j, count-append y (ends (drawn_pairs M N p g)) (all_ends (all_pairs M N p fs)))
+  ]
+
+  pub from_all_ends : (y : ℕ) (fs : List ℕ) → IsIn y (all_ends (all_pairs M N p fs)) → (f : ℕ) × IsIn f fs × IsIn y (ends (drawn_pairs M N p f))
+  from_all_ends y [] i = absurd (omega (arith, i))
+  from_all_ends y (g ∷ fs) i = elim (IsIn_or_not y (ends (drawn_pairs M N p g))) [
+    | inl j ↦ (g, omega (arith, tick_same g), j)
+    | inr z ↦
+        let r = from_all_ends y fs (omega (arith, i, z, count-append y (ends (drawn_pairs M N p g)) (all_ends (all_pairs M N p fs)))) in
+        (r.0, omega (arith, r.1), r.2)
+  ]
+
+  -- where those of each face stand once, and tell their face
+  pub all_ends_apart : (fs : List ℕ) → IsApart fs → ((f : ℕ) → IsIn f fs → IsApart (ends (drawn_pairs M N p f))) →
+      ((f g y : ℕ) → IsIn f fs → IsIn g fs → IsIn y (ends (drawn_pairs M N p f)) → IsIn y (ends (drawn_pairs M N p g)) → f ≡ g) → IsApart (all_ends (all_pairs M N p fs))
+  all_ends_apart [] apart each one y = omega arith
+  all_ends_apart (f ∷ fs) apart each one y =
+      let f_in : IsIn f (f ∷ fs) = omega (arith, tick_same f) in
+      let now : count y (ends (drawn_pairs M N p f)) ≤ 1 = each f f_in y in
+      let later : count y (all_ends (all_pairs M N p fs)) ≤ 1 = all_ends_apart fs (λ x. omega (arith, apart x)) (λ g i. each g (omega (arith, i))) (λ g h z i j. one g h z (omega (arith, i)) (omega (arith, j))) y in
+      elim (IsIn_or_not y (ends (drawn_pairs M N p f))) [
+        | inl i ↦ elim (IsIn_or_not y (all_ends (all_pairs M N p fs))) [
+          | inl j ↦
+              let r = from_all_ends y fs j in
+              let same : f ≡ r.0 = one f r.0 y f_in (omega (arith, r.1)) i r.2 in
+              absurd (omega (arith, apart f, tick_same f, r.1, ap (λ z. count z fs) same))
+          | inr z ↦ omega (arith, now, z, count-append y (ends (drawn_pairs M N p f)) (all_ends (all_pairs M N p fs)))
+        ]
+        | inr z ↦ omega (arith, later, z, count-append y (ends (drawn_pairs M N p f)) (all_ends (all_pairs M N p fs)))
+      ]
+
+-- ---- the half-edges that start at the cut places of faces that straddle: on the plane, each once, and on the side to which the loop goes there
 
 -- of each pair the first is above and the second below
 abbrev pub AllUp : (ℕ → Bool) → List (ℕ × ℕ) → Type 0

@@ -1,16 +1,19 @@
--- Where half-edges start once the crossing edges of a solid are cut, and where its loops then turn at the plane.
-use Rattle.std.proofs.Common.{◌≡◌, ℕ, Bool, true, false, cond, ◌&&◌, ◌||◌, List, sym, ap, ◌∙◌, subst, ◌⊎◌, inl, inr, true≢false}
+-- The side of a half-edge, by the heights of its ends.
+use Rattle.std.specs.Prelude.{int_lt}
+use Rattle.std.specs.Ordering.{int_eq}
+use Rattle.std.proofs.Common.{◌≡◌, true, false, not, ◌||◌, ℤ, pos, arith, ℕ, Bool, cond, ◌&&◌, List, sym, ap, ◌∙◌, subst, ◌⊎◌, inl, inr, true≢false}
+use Rattle.std.proofs.lemmas.Int.{ints}
+use Rattle.euler_operators.specs.Vectors.{opposite, height, are_opposite, is_on}
 use Rattle.euler_operators.specs.declared.Plane.{Plane}
-use Rattle.euler_operators.specs.Vectors.{height, are_opposite, is_on}
 use Rattle.euler_operators.specs.Items.{count, IsIn}
-use Rattle.euler_operators.proofs.Lists.{IsIn_or_not}
 use Rattle.euler_operators.specs.HalfEdge.{mate, edge_of, plus, minus}
 use Rattle.euler_operators.specs.Model.{Model, tail, loop_of, face_of, after, before, point_of}
 use Rattle.euler_operators.specs.Sound.{Sound, Has, HasHalf}
+use Rattle.euler_operators.specs.Conditions.{face_at}
+use Rattle.euler_operators.proofs.Lists.{IsIn_or_not}
 use Rattle.euler_operators.proofs.Halves.{edge_of-mate, mate_plus, mate_minus}
 use Rattle.euler_operators.proofs.Models.{cycle_there, plus_there, minus_there, loop_there, mate_there}
 use Rattle.euler_operators.proofs.Members.{IsIn-filter}
-use Rattle.euler_operators.specs.Conditions.{face_at}
 use Rattle.euler_laws.proofs.shared.Arcs.{halves_of_edge}
 use Rattle.euler_laws.proofs.shared.Fans.{half_after, loop_after, back_of}
 use Rattle.shapes.specs.Faces.{start, finish, boundary}
@@ -20,16 +23,42 @@ use Rattle.shapes.specs.split.Crossings.{with_crossings}
 use Rattle.shapes.specs.split.Drawing.{from_place}
 use Rattle.split_drawing_laws.specs.crossings.Kept.{Kept}
 use Rattle.split_drawing_laws.specs.crossings.Laws.{CanBegin}
-use Rattle.split_drawing_laws.proofs.crossings.Listed.{item_in_face}
-use Rattle.split_drawing_laws.proofs.crossings.Places.{plus_on, minus_off}
-use Rattle.split_drawing_laws.proofs.crossings.Premises.{Cuttable, crossing_is_place, edge_facts, plus_crosses, minus_crosses, minus_is}
+use Rattle.split_drawing_laws.proofs.crossings.Premises.{item_in_face, Cuttable, crossing_is_place, edge_facts, plus_crosses, minus_crosses, minus_is}
+use Rattle.split_drawing_laws.proofs.crossings.Whole.{plus_on, minus_off, can_cut, crossings_cut, crossings_keep, crossings_sound, not_cut}
 use Rattle.split_drawing_laws.proofs.crossings.Runs.{kept_point, kept_start}
-use Rattle.split_drawing_laws.proofs.crossings.Whole.{can_cut, crossings_cut, crossings_keep, crossings_sound, not_cut}
-use Rattle.split_drawing_laws.proofs.pairs.LoopPlaces.{on_place}
-use Rattle.split_drawing_laws.proofs.pairs.LoopPlaces.{before_after}
-use Rattle.split_drawing_laws.proofs.half_sides.Follows.{after_once}
-use Rattle.split_drawing_laws.proofs.half_sides.Heights.{level_start, level_end}
-use Rattle.split_drawing_laws.proofs.half_sides.Pieces.{CutBy, Pieces, crossing_pieces}
+use Rattle.split_drawing_laws.proofs.pairs.LoopPlaces.{on_place, before_after}
+use Rattle.split_drawing_laws.proofs.half_sides.Pieces.{after_once, CutBy, Pieces, crossing_pieces}
+
+-- b is where two half-edges meet: off the plane both lie on one side
+pub side_kept : (a b c : ℤ) → opposite a b ≡ false → opposite b c ≡ false → int_eq b (pos 0) ≡ false → (int_lt (pos 0) b || int_lt (pos 0) c) ≡ (int_lt (pos 0) a || int_lt (pos 0) b)
+side_kept a b c x y off = grind (arith, ints)
+
+-- and on it, between opposite ends, they lie on different sides
+pub side_changed : (a b c : ℤ) → int_eq b (pos 0) ≡ true → opposite a c ≡ true → (int_lt (pos 0) b || int_lt (pos 0) c) ≡ not (int_lt (pos 0) a || int_lt (pos 0) b)
+side_changed a b c on x = grind (arith, ints)
+
+-- what doesn't cross the plane starts on its closed side
+pub starts_above : (a b : ℤ) → opposite a b ≡ false → (int_lt (pos 0) a || int_lt (pos 0) b) ≡ true → int_lt a (pos 0) ≡ false
+starts_above a b x e = grind (arith, ints)
+
+pub starts_below : (a b : ℤ) → (int_lt (pos 0) a || int_lt (pos 0) b) ≡ false → int_lt (pos 0) a ≡ false
+starts_below a b e = grind (arith, ints)
+
+-- what starts on the plane lies where it ends
+pub side_ahead : (a b : ℤ) → int_eq a (pos 0) ≡ true → (int_lt (pos 0) a || int_lt (pos 0) b) ≡ int_lt (pos 0) b
+side_ahead a b on = grind (arith, ints)
+
+-- an end on the plane crosses nothing
+pub level_start : (a b : ℤ) → int_eq a (pos 0) ≡ true → opposite a b ≡ false
+level_start a b on = grind (arith, ints)
+
+pub level_end : (a b : ℤ) → int_eq b (pos 0) ≡ true → opposite a b ≡ false
+level_end a b on = grind (arith, ints)
+
+pub crosses_back : (a b : ℤ) → opposite a b ≡ false → opposite b a ≡ false
+crosses_back a b x = grind (arith, ints)
+
+-- ---- where half-edges start once the crossing edges of a solid are cut, and where its loops then turn at the plane
 
 -- what follows x in N starts at a cut place of M, and there the loop comes from one side and goes to the other
 pub record TurnAt (M N : Model) (p : Plane) (x : ℕ) : Type 0 where

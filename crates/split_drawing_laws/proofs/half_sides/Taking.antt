@@ -24,19 +24,15 @@ use Rattle.shapes.specs.split.Sides.{crosses, straddles, straddling_faces, reach
 use Rattle.shapes.specs.split.Crossings.{with_crossings}
 use Rattle.shapes.specs.split.Drawing.{drawn_pairs, all_pairs, straddling_pairs}
 use Rattle.split_drawing_laws.specs.crossings.Laws.{CanBegin}
-use Rattle.split_drawing_laws.proofs.crossings.Listed.{any_passes, tail_in_face}
-use Rattle.split_drawing_laws.proofs.crossings.Places.{face_facts}
-use Rattle.split_drawing_laws.proofs.crossings.Premises.{faces_not_zero}
-use Rattle.split_drawing_laws.proofs.crossings.Whole.{crossings_sound, same_solid, none_crosses}
+use Rattle.split_drawing_laws.proofs.crossings.Premises.{any_passes, tail_in_face, faces_not_zero}
+use Rattle.split_drawing_laws.proofs.crossings.Whole.{face_facts, crossings_sound, same_solid, none_crosses}
 use Rattle.split_drawing_laws.proofs.drawings.Counted.{straddling_apart, faces_are}
 use Rattle.split_drawing_laws.specs.loop_sides.Laws.{TakeSides}
 use Rattle.split_drawing_laws.specs.loop_sides.Parted.{LiesOn, FacesCross, ends, all_ends}
 use Rattle.split_drawing_laws.specs.half_sides.HalfSides.{half_is_above, side_of, is_own}
 use Rattle.split_drawing_laws.proofs.pairs.LoopPlaces.{none_passes}
-use Rattle.split_drawing_laws.proofs.half_sides.EndLists.{in_all_ends, from_all_ends, all_ends_apart}
-use Rattle.split_drawing_laws.proofs.half_sides.Heights.{side_kept, side_changed, starts_above, starts_below, crosses_back}
-use Rattle.split_drawing_laws.proofs.half_sides.PlaceEnds.{side_within, place_face, place_there, place_on, pairs_cross, place_in_ends, place_of_end, ends_once}
-use Rattle.split_drawing_laws.proofs.half_sides.Starts.{TurnAt, turn_at, comes_from}
+use Rattle.split_drawing_laws.proofs.half_sides.PlaceEnds.{in_all_ends, from_all_ends, all_ends_apart, side_within, place_face, place_there, place_on, pairs_cross, place_in_ends, place_of_end, ends_once}
+use Rattle.split_drawing_laws.proofs.half_sides.Starts.{side_kept, side_changed, starts_above, starts_below, crosses_back, TurnAt, turn_at, comes_from}
 use Rattle.split_drawing_laws.proofs.loop_sides.Parting.{on_both}
 use Rattle.euler_laws.proofs.shared.Counted.{all_where_in}
 

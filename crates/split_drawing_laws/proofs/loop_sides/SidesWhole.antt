@@ -1,24 +1,192 @@
--- The sides of half-edges once all faces are drawn: each loop lies on one closed side.
-use Rattle.std.proofs.Common.{◌≡◌, ◌≢◌, ℕ, Bool, true, false, cond, nat_eq, nat_lt, ◌&&◌, List, [], ◌∷◌, length, refl, sym, ap, ◌∙◌, subst, arith, inl, inr}
+-- The sides of half-edges through the two passes over the pairs of a face.
 use Rattle.std.specs.Prelude.{fold, map}
+use Rattle.std.proofs.Common.{◌≡◌, ◌≢◌, ℕ, ◌+◌, Bool, true, false, cond, not, List, [], ◌∷◌, ◌++◌, None, IsTrue, refl, sym, ap, subst, arith, ◌⊎◌, inl, inr, nat_eq, nat_lt, ◌&&◌, length, ◌∙◌}
+use Rattle.std.proofs.lemmas.Bool.{eqb-true}
 use Rattle.std.proofs.lemmas.Bool.Decides.{eqb_tells}
 use Rattle.euler_operators.specs.declared.Plane.{Plane}
-use Rattle.euler_operators.specs.Items.{IsIn}
-use Rattle.euler_operators.proofs.Lists.{tick_same}
-use Rattle.euler_operators.specs.Model.{Model, loop_of}
-use Rattle.euler_operators.specs.Sound.{HasHalf}
-use Rattle.shapes.specs.Faces.{start}
+use Rattle.euler_operators.specs.Items.{count, tick, IsIn}
+use Rattle.euler_operators.specs.Table as table
+use Rattle.euler_operators.specs.Model.{Model, loop_of, is_number, is_ring_of, content}
+use Rattle.euler_operators.specs.Sound.{Sound, HasHalf}
+use Rattle.euler_operators.specs.Conditions.{face_at, has_rings}
+use Rattle.euler_operators.proofs.Lists.{count-append, tick_same}
+use Rattle.shapes.specs.split.Drawing.{Drawing, loops_joined, in_one_loop, joined_pair, join_next, draw_next, stuck_at, all_joined, ring_free, all_drawn, rings_above, with_rings, drawn_between, FacePairs, next_drawn, faces_drawn, undrawn}
+use Rattle.shapes.specs.Faces.{vertices_on, start}
+use Rattle.shapes.specs.split.Sides.{some_above}
 use Rattle.shapes.specs.Fresh.{Growing}
+use Rattle.split_drawing_laws.specs.drawings.Pairs.{Fits, AllFit}
+use Rattle.split_drawing_laws.specs.loop_sides.Parted.{Parted, ends, Crosses, AllCross, Open, LiesOn, FacesCross, all_ends}
+use Rattle.split_drawing_laws.specs.drawings.DrawnIn.{JoinedIn}
+use Rattle.split_drawing_laws.specs.drawings.Passing.{Joining, Going, Ready, Drawable}
 use Rattle.split_drawing_laws.specs.drawings.Laws.{CanBeDrawn}
 use Rattle.split_drawing_laws.specs.loop_sides.Laws.{TakeSides}
-use Rattle.split_drawing_laws.proofs.loop_sides.Parting.{corners_on_one_side}
-use Rattle.euler_operators.specs.Conditions.{has_rings}
-use Rattle.shapes.specs.split.Drawing.{Drawing, stuck_at, in_one_loop, join_next, draw_next, all_joined, ring_free, all_drawn, rings_above, with_rings, drawn_between, FacePairs, next_drawn, faces_drawn, undrawn}
-use Rattle.split_drawing_laws.specs.loop_sides.Parted.{Parted, LiesOn, Open, FacesCross, all_ends}
-use Rattle.split_drawing_laws.proofs.drawings.Passes.{join_next_one, join_next_two, draw_next_one, draw_next_two}
-use Rattle.split_drawing_laws.specs.drawings.Passing.{Drawable}
+use Rattle.split_drawing_laws.proofs.drawings.Pairs.{can_back, can_on}
+use Rattle.split_drawing_laws.proofs.drawings.Passes.{edge_free, edge_fits_now, joins_keep, can_now, stuck_now, draws_keep, join_next_one, join_next_two, draw_next_one, draw_next_two}
+use Rattle.split_drawing_laws.proofs.loop_sides.Parting.{Opposed, parted_drawn, parted_joined, parted_moved, corners_on_one_side}
+use Rattle.split_drawing_laws.proofs.drawings.Rings.{rings_keep, rings_are, rings_apart}
+use Rattle.split_drawing_laws.proofs.drawings.Faces.{going_on, fitting_on, joins, going, last, newer_face, begun_joining}
 use Rattle.split_drawing_laws.proofs.drawings.Whole.{ready, drawable_on, next_is, drawable, drawing_sound}
-use Rattle.split_drawing_laws.proofs.loop_sides.SidesFaces.{face_parted}
+
+count-ends : (x : ℕ) (as_ bs : List (ℕ × ℕ)) → count x (ends (as_ ++ bs)) ≡ count x (ends as_) + count x (ends bs)
+count-ends x [] bs = omega arith
+count-ends x (q ∷ qs) bs = let s : count x (ends (qs ++ bs)) ≡ count x (ends qs) + count x (ends bs) = count-ends x qs bs in omega (arith, s)
+
+append_last : (ls : List (ℕ × ℕ)) (q : ℕ × ℕ) (qs : List (ℕ × ℕ)) → (ls ++ q ∷ []) ++ qs ≡ ls ++ q ∷ qs
+append_last [] q qs = refl
+append_last (l ∷ ls) q qs = ap (λ xs. l ∷ xs) (append_last ls q qs)
+
+pub append_none : (ls : List (ℕ × ℕ)) → ls ++ [] ≡ ls
+append_none [] = refl
+append_none (l ∷ ls) = ap (λ xs. l ∷ xs) (append_none ls)
+
+all_cross_last : (B : Model) (p : Plane) (first : ℕ → Bool) (qs : List (ℕ × ℕ)) (q : ℕ × ℕ) → AllCross B p first qs → Crosses B p first q → AllCross B p first (qs ++ q ∷ [])
+all_cross_last B p first [] q a w = (w, tt)
+all_cross_last B p first (r ∷ qs) q a w = (a.0, all_cross_last B p first qs q a.1 w)
+
+not_turned : (a b : Bool) → a ≡ not b → b ≡ not a
+not_turned a true e = sym (ap not e)
+not_turned a false e = sym (ap not e)
+
+fewer : (B : Model) (places rest : List ℕ) (c d : ℕ) → ((x : ℕ) → count x places ≡ count x rest + tick x c + tick x d) → Open B places → Open B rest
+fewer B places rest c d closed o = record {
+  there = λ x i. o.there x (omega (arith, i, closed x));
+  apart = λ x. omega (arith, o.apart x, closed x);
+}
+
+opposed : (B : Model) (p : Plane) (first : ℕ → Bool) (q : ℕ × ℕ) (places rest : List ℕ) → Crosses B p first q → Open B places →
+    ((x : ℕ) → count x places ≡ count x rest + tick x q.0 + tick x q.1) → Opposed B p first q.0 q.1 places rest × Opposed B p first q.1 q.0 places rest
+opposed B p first q places rest w o closed = (
+  record {
+    c_there = w.u_there;
+    d_there = w.k_there;
+    apart = w.apart;
+    c_on = w.u_on;
+    d_on = w.k_on;
+    sides = w.sides;
+    places_there = o.there;
+    places_apart = o.apart;
+    closed = closed;
+  },
+  record {
+    c_there = w.k_there;
+    d_there = w.u_there;
+    apart = λ s. w.apart (sym s);
+    c_on = w.k_on;
+    d_on = w.u_on;
+    sides = not_turned (first q.0) (first q.1) w.sides;
+    places_there = o.there;
+    places_apart = o.apart;
+    closed = λ x. omega (arith, closed x);
+  },
+)
+
+module _ (B : Model) (p : Plane) (first : ℕ → Bool) (S : ℕ → Type 0) (others : List ℕ) (M : Model) (f : ℕ) where
+  abbrev pub now : List (ℕ × ℕ) → List ℕ
+  now qs = ends qs ++ others
+
+  closed_between : (ls : List (ℕ × ℕ)) (q : ℕ × ℕ) (qs : List (ℕ × ℕ)) (x : ℕ) → count x (now (ls ++ q ∷ qs)) ≡ count x (now (ls ++ qs)) + tick x q.0 + tick x q.1
+  closed_between ls q qs x = omega (arith, count-append x (ends (ls ++ q ∷ qs)) others, count-append x (ends (ls ++ qs)) others, count-ends x ls (q ∷ qs), count-ends x ls qs)
+
+  -- a pair in different loops
+  pair_parted : (N : Model) (q : ℕ × ℕ) (e : ℕ) (places rest : List ℕ) → JoinedIn M N f → Fits M f q → in_one_loop N q ≡ false → table.get N.edges e ≡ None → IsTrue (is_number e) →
+      Crosses B p first q → Open B places → ((x : ℕ) → count x places ≡ count x rest + tick x q.0 + tick x q.1) → Parted B N p first S places → Parted B (joined_pair N q e) p first S rest
+  pair_parted N q e places rest joined fits two free efits cross open_now closed w = go (is_ring_of N (face_at N q.0) (loop_of N q.0)) refl where
+    go : (b : Bool) → is_ring_of N (face_at N q.0) (loop_of N q.0) ≡ b → Parted B (cond b (loops_joined N q.1 q.0 e) (loops_joined N q.0 q.1 e)) p first S rest
+    go true r = parted_joined B N p first S q.1 q.0 e places rest (can_back M N f q e joined fits two free efits r) (opposed B p first q places rest cross open_now closed).1 w
+    go false r = parted_joined B N p first S q.0 q.1 e places rest (can_on M N f q e joined fits two free efits r) (opposed B p first q places rest cross open_now closed).0 w
+
+  -- ---- first pass
+
+  abbrev pub AtJoin : Drawing → List (ℕ × ℕ) → Type 0
+  AtJoin d qs = AllCross B p first d.left × Open B (now (d.left ++ qs)) × Parted B d.model p first S (now (d.left ++ qs))
+
+  pub joins_part : (d : Drawing) (qs : List (ℕ × ℕ)) (n : ℕ) → AllFit M f qs → Joining M f d qs n → AllCross B p first qs → AtJoin d qs → AtJoin (fold join_next d qs) []
+  joins_part d qs n fit w cross a = (joins_keep M f (λ x rs. AtJoin x rs × AllCross B p first rs)
+      (λ d q qs n fits w e a. (
+        (
+          all_cross_last B p first d.left q a.0.0 a.1.0,
+          subst (λ ps. Open B (now ps)) (sym (append_last d.left q qs)) a.0.1,
+          subst (λ ps. Parted B d.model p first S (now ps)) (sym (append_last d.left q qs)) a.0.2,
+        ),
+        a.1.1,
+      ))
+      (λ d q qs n fits w e a. (
+        (
+          a.0.0,
+          fewer B (now (d.left ++ q ∷ qs)) (now (d.left ++ qs)) q.0 q.1 (closed_between d.left q qs) a.0.1,
+          pair_parted d.model q (d.taken.edge + 1) (now (d.left ++ q ∷ qs)) (now (d.left ++ qs)) w.joined fits e (edge_free M f d q qs n fits w) (edge_fits_now M f d q qs n fits w) a.1.0 a.0.1 (closed_between d.left q qs) a.0.2,
+        ),
+        a.1.1,
+      )) d qs n fit w (a, cross)).0
+
+  -- ---- second pass, where the drawing isn't stuck
+
+  abbrev pub AtDraw : Drawing → List (ℕ × ℕ) → Type 0
+  AtDraw d qs = Open B (now qs) × Parted B d.model p first S (now qs)
+
+  pub draws_part : (d : Drawing) (qs : List (ℕ × ℕ)) (n : ℕ) → Sound M → f ≢ 0 → AllFit M f qs → Going M f d qs n → AllCross B p first qs → (fold (draw_next f) d qs).stuck ≡ 0 → AtDraw d qs → AtDraw (fold (draw_next f) d qs) []
+  draws_part d qs n sound some fit w cross free a = elim (draws_keep M f (λ x rs. (x.stuck ≢ 0) ⊎ (AtDraw x rs × AllCross B p first rs)) sound
+      (λ d q qs n fits w e a. inl (stuck_now f d some))
+      (λ d q qs n fits w e a. elim a [
+        | inl is ↦ inl is
+        | inr a ↦ inr (
+          (
+            fewer B (now (q ∷ qs)) (now qs) q.0 q.1 (closed_between [] q qs) a.0.0,
+            parted_drawn B d.model p first S q.0 q.1 (d.taken.edge + 1) (d.taken.face + 1) (d.taken.loop + 1) (now (q ∷ qs)) (now qs)
+                (can_now M f sound d q qs n fits w e) (opposed B p first q (now (q ∷ qs)) (now qs) a.1.0 a.0.0 (closed_between [] q qs)).0 a.0.1,
+          ),
+          a.1.1,
+        )
+      ]) d qs n fit w (inr (a, cross))) [ inl is ↦ absurd (is free) | inr a ↦ a.0 ]
+
+-- ---- the sides of half-edges once a whole face is drawn
+
+module _ (B : Model) (p : Plane) (first : ℕ → Bool) (S : ℕ → Type 0) (others : List ℕ) (f : ℕ) (qs : List (ℕ × ℕ)) (d : Drawing) (n : ℕ) (w : Ready p f qs d n)
+    (some : f ≢ 0) (cross : AllCross B p first qs) (fine : Open B (ends qs ++ others)) (parted : Parted B d.model p first S (ends qs ++ others)) where
+  abbrev J : Drawing
+  J = all_joined qs d
+
+  abbrev stops : Bool
+  stops = nat_lt 1 (length qs) && has_rings J.model f
+
+  abbrev R : Drawing
+  R = ring_free f qs J
+
+  abbrev L : Drawing
+  L = all_drawn f R
+
+  at_joined : AtJoin B p first S others d.model f J []
+  at_joined = joins_part B p first S others d.model f (record d { left = [] }) qs n w.fit (begun_joining p f qs d n w) cross (tt, fine, parted)
+
+  -- pairs that are left, whether or not the face is stuck
+  abbrev Left : Drawing → Type 0
+  Left x = AllCross B p first x.left × AtDraw B p first S others d.model f x x.left
+
+  at_left : Left (ring_free f qs (all_joined qs d))
+  at_left = go stops (at_joined.0, (subst (λ ps. Open B (ends ps ++ others)) (append_none J.left) at_joined.1, subst (λ ps. Parted B J.model p first S (ends ps ++ others)) (append_none J.left) at_joined.2)) where
+    go : (b : Bool) → Left J → Left (cond b (stuck_at f J) J)
+    go true a = a
+    go false a = a
+
+  at_drawn : L.stuck ≡ 0 → AtDraw B p first S others d.model f L []
+  at_drawn free = draws_part B p first S others d.model f R R.left n w.sound some (fitting_on d.model f f stops J (joins p f qs d n w).state.pairs) (going_on d.model f n stops J (going p f qs d n w)) at_left.0 free at_left.1
+
+  pub face_parted : (drawn_between p f qs d).stuck ≡ 0 → Open B others × Parted B (drawn_between p f qs d).model p first S others
+  face_parted free = go (nat_eq (length qs) 1) refl free where
+    go : (b : Bool) → nat_eq (length qs) 1 ≡ b → (cond b (record L { model = with_rings L.model (rings_above L.model p f) L.taken.face }) L).stuck ≡ 0 →
+        Open B others × Parted B (cond b (record L { model = with_rings L.model (rings_above L.model p f) L.taken.face }) L).model p first S others
+    go true e free =
+        let a = at_drawn free in (
+          a.0,
+          rings_keep d.model f L.taken.face (λ X. Parted B X p first S others) (λ N l. parted_moved d.model B N p first S f l L.taken.face others)
+              L.model (rings_above L.model p f) (last p f qs d n w).drawn
+              (rings_are L.model f (λ l. some_above L.model p (vertices_on L.model (content L.model l))))
+              (rings_apart L.model f (λ l. some_above L.model p (vertices_on L.model (content L.model l))))
+              (newer_face p f qs d n w (eqb-true (length qs) 1 e)) a.1,
+        )
+    go false e free = at_drawn free
+
+-- ---- the sides of half-edges once all faces are drawn: each loop lies on one closed side
 
 -- ---- a drawing that is stuck stays so
 

@@ -1,44 +1,83 @@
--- From the first conditions of a split to the drawing of its faces.
-use Rattle.std.proofs.Common.{◌≡◌, ◌≢◌, ℕ, ◌*◌, true, false, not, nat_eq, ◌&&◌, List, [], ◌∷◌, length, is_some, refl, sym, ap, ◌∙◌, subst, arith}
+-- The numbers taken once the edges are cut, and those that are left.
 use Rattle.std.specs.List.{list_all}
+use Rattle.std.proofs.Common.{◌≡◌, ℕ, ◌+◌, List, [], ◌∷◌, length, refl, sym, ap, ◌∙◌, subst, arith, ◌≢◌, ◌*◌, true, false, not, nat_eq, ◌&&◌, is_some}
 use Rattle.std.proofs.lemmas.List.{length-map}
 use Rattle.euler_operators.specs.declared.Plane.{Plane}
-use Rattle.euler_operators.specs.Items.{IsIn, IsApart}
-use Rattle.euler_operators.proofs.Lists.{tick_same}
 use Rattle.euler_operators.specs.Model.{Model, tail, loop_of, face_of, outer, point_of, faces_of, rings_of}
+use Rattle.euler_operators.specs.Items.{IsIn, IsApart}
 use Rattle.euler_operators.specs.Sound.{Sound, Has}
+use Rattle.euler_operators.specs.Conditions.{face_at, lists}
+use Rattle.euler_operators.proofs.Lists.{tick_same}
 use Rattle.euler_operators.proofs.Tests.{not_or_fails}
 use Rattle.euler_operators.proofs.Members.{count-filter}
-use Rattle.euler_operators.specs.Conditions.{face_at, lists}
 use Rattle.euler_laws.specs.Laws.{AreAccepted, effects}
 use Rattle.euler_laws.proofs.Runs.{AreAccepted-append, effects-append}
+use Rattle.euler_laws.proofs.shared.Counted.{all_where_has}
+use Rattle.euler_laws.proofs.shared.Listed.{listed-from_in, IsIn-from_listed}
+use Rattle.shapes.specs.Fresh.{Taken, Growing, growing, taken_in}
+use Rattle.shapes.specs.split.Sides.{straddling_faces, crossing_edges, straddles}
+use Rattle.shapes.specs.split.Places.{pair_count, is_place, places, loop_is_cut, is_cut_often, sorted, in_pairs, up_first, sorted_pairs, place_pairs}
+use Rattle.shapes.specs.split.Crossings.{next_cut, all_cut, with_crossings}
+use Rattle.shapes.specs.split.Drawing.{straddling_pairs, from_place, drawn_pairs, all_pairs, with_drawings}
 use Rattle.shapes.specs.Faces.{loops_of, boundary}
-use Rattle.shapes.specs.split.Sides.{straddles, straddling_faces}
-use Rattle.shapes.specs.split.Places.{is_place, places, loop_is_cut, is_cut_often, sorted, in_pairs, up_first, sorted_pairs, place_pairs}
-use Rattle.shapes.specs.split.Crossings.{with_crossings}
-use Rattle.shapes.specs.split.Drawing.{from_place, drawn_pairs, all_pairs, straddling_pairs, with_drawings}
+use Rattle.shapes.proofs.fresh.Tests.{Left}
+use Rattle.shapes.proofs.walks.FaceLoops.{different_items, loops_of_apart}
+use Rattle.split_drawing_laws.specs.drawings.DrawnIn.{PairsHaveRoom, Fresh}
+use Rattle.split_drawing_laws.specs.drawings.Pairs.{pairs_in, Fits, AllFit, LoneInOneLoop, FacesFit}
 use Rattle.split_drawing_laws.specs.crossings.AtPlace.{AtPlace}
 use Rattle.split_drawing_laws.specs.crossings.CrossingOps.{crossing_ops}
 use Rattle.split_drawing_laws.specs.crossings.Laws.{CanBegin}
-use Rattle.split_drawing_laws.proofs.crossings.Places.{at_place, item_face}
-use Rattle.split_drawing_laws.proofs.crossings.Premises.{Cuttable}
-use Rattle.split_drawing_laws.proofs.crossings.Whole.{can_cut, crossings_accepted, crossings_made, crossings_sound, crossings_counted, crossings_keep}
 use Rattle.split_drawing_laws.specs.drawings.DrawingOps.{drawing_ops}
-use Rattle.split_drawing_laws.specs.drawings.DrawnIn.{Fresh}
-use Rattle.split_drawing_laws.specs.drawings.Pairs.{Fits, AllFit, LoneInOneLoop, FacesFit}
 use Rattle.split_drawing_laws.specs.drawings.Laws.{CanBeDrawn}
-use Rattle.split_drawing_laws.proofs.drawings.Counted.{fresh_taken, straddling_apart, faces_are}
-use Rattle.split_drawing_laws.proofs.drawings.Whole.{drawing_accepted, drawing_made, drawing_sound}
 use Rattle.split_drawing_laws.specs.pairs.Laws.{rewriting_ops}
-use Rattle.split_drawing_laws.proofs.pairs.Sorted.{count-sorted, sorted_apart, length-sorted}
-use Rattle.split_drawing_laws.proofs.pairs.Fitting.{all_paired, between, drawn, all_fit, lone_in_loop}
-use Rattle.split_drawing_laws.proofs.pairs.LoopPlaces.{places_even, two_outer}
-use Rattle.split_drawing_laws.proofs.pairs.Meetings.{points_apart}
-use Rattle.split_drawing_laws.proofs.pairs.Numbers.{pairs_room}
-use Rattle.split_drawing_laws.proofs.pairs.Turns.{IsEven}
-use Rattle.shapes.proofs.walks.FaceLoops.{different_items, loops_of_apart}
-use Rattle.euler_laws.proofs.shared.Counted.{all_where_has}
-use Rattle.euler_laws.proofs.shared.Listed.{listed-from_in, IsIn-from_listed}
+use Rattle.split_drawing_laws.proofs.drawings.Counted.{pairs_counted, fresh_taken, straddling_apart, faces_are}
+use Rattle.split_drawing_laws.proofs.crossings.Whole.{at_place, item_face, can_cut, crossings_accepted, crossings_made, crossings_sound, crossings_counted, crossings_keep}
+use Rattle.split_drawing_laws.proofs.crossings.Premises.{Cuttable}
+use Rattle.split_drawing_laws.proofs.drawings.Whole.{drawing_accepted, drawing_made, drawing_sound}
+use Rattle.split_drawing_laws.proofs.pairs.Sorted.{count-sorted, sorted_apart, length-sorted, all_paired, between, drawn, all_fit, lone_in_loop, points_apart}
+use Rattle.split_drawing_laws.proofs.pairs.LoopPlaces.{places_even, two_outer, IsEven}
+
+-- an edge and a vertex for each edge that is cut
+pub record Grown (c d : Taken) (n : ℕ) : Type 0 where
+  pub faces : d.face ≡ c.face
+  pub loops : d.loop ≡ c.loop
+  pub edges : d.edge ≡ c.edge + n
+
+module _ (p : Plane) where
+  next_taken : (g : Growing) (e : ℕ) → (next_cut p g e).taken ≡ record g.taken { edge = g.taken.edge + 1; vertex = g.taken.vertex + 1 }
+  unfolding next_cut
+  next_taken g e = refl
+
+  all_grown : (g : Growing) (es : List ℕ) → Grown g.taken (all_cut p g es).taken (length es)
+  all_grown g [] = record { faces = refl; loops = refl; edges = omega arith }
+  all_grown g (e ∷ es) =
+      let r : Grown (next_cut p g e).taken (all_cut p (next_cut p g e) es).taken (length es) = all_grown (next_cut p g e) es in
+      let n : (next_cut p g e).taken ≡ record g.taken { edge = g.taken.edge + 1; vertex = g.taken.vertex + 1 } = next_taken g e in
+      record {
+        faces = r.faces ∙ ap (λ c. c.face) n;
+        loops = r.loops ∙ ap (λ c. c.loop) n;
+        edges = omega (arith, r.edges, ap (λ c. c.edge) n);
+      }
+
+  module _ (M : Model) (s : ℕ) where
+    crossings_grown : Grown (taken_in M) (with_crossings M s p).taken (length (crossing_edges M p s))
+    unfolding with_crossings
+    crossings_grown = all_grown (growing M) (crossing_edges M p s)
+
+    -- room for the pairs that a split counts
+    pub pairs_room : Left (taken_in M) (pair_count M p (straddling_faces M p s)) (pair_count M p (straddling_faces M p s))
+        (length (crossing_edges M p s) + pair_count M p (straddling_faces M p s)) (length (crossing_edges M p s)) →
+        PairsHaveRoom (with_crossings M s p).taken (pairs_in (straddling_pairs M s p))
+    pairs_room left =
+        let g = crossings_grown in
+        subst (PairsHaveRoom (with_crossings M s p).taken) (sym (pairs_counted M (with_crossings M s p).model p (straddling_faces M p s)))
+        (record {
+          faces = omega (arith, g.faces, left.faces);
+          loops = omega (arith, g.loops, left.loops);
+          edges = omega (arith, g.edges, left.edges);
+        })
+
+-- ---- from the first conditions of a split to the drawing of its faces
 
 -- ---- the half-edges of a face
 

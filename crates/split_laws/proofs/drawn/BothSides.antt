@@ -28,12 +28,12 @@ use Rattle.shapes.specs.split.Crossings.{with_crossings}
 use Rattle.shapes.specs.split.Drawing.{with_drawings}
 use Rattle.shapes.specs.split.Split.{split_refusal}
 use Rattle.split_drawing_laws.specs.crossings.Laws.{CanBegin}
-use Rattle.split_drawing_laws.proofs.crossings.Listed.{any_passes, tail_in_face}
+use Rattle.split_drawing_laws.proofs.crossings.Premises.{any_passes, tail_in_face}
 use Rattle.split_drawing_laws.proofs.crossings.Whole.{crossings_cut, crossings_keep, crossings_sound, same_solid, not_cut}
 use Rattle.split_drawing_laws.proofs.half_sides.Pieces.{CutBy, crossing_pieces}
 use Rattle.split_drawing_laws.proofs.half_sides.Starts.{old_face}
 use Rattle.split_drawing_laws.proofs.face_sides.Final.{TailIn, tail_in, none_straddles}
-use Rattle.split_drawing_laws.proofs.face_sides.Same.{any_from}
+use Rattle.split_drawing_laws.proofs.face_sides.Shared.{any_from}
 use Rattle.split_laws.specs.drawn.Kept.{HasFace}
 use Rattle.split_laws.proofs.drawn.Drawn.{begins, none_lone, meets, never_stuck, drawn_sound, drawn_stays, drawn_keeps}
 use Rattle.euler_laws.proofs.shared.Counted.{all_where_has, all_where_in}

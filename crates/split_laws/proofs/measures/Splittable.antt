@@ -27,8 +27,7 @@ use Rattle.shapes.specs.split.Drawing.{with_drawings}
 use Rattle.shapes.specs.split.Section.{below_halves, section_cycles}
 use Rattle.shapes.specs.split.Split.{first_conditions, split_refusal}
 use Rattle.split_opening_laws.specs.cycles.SectionCycles.{IsBelowHalf, AreSectionCycles}
-use Rattle.split_drawing_laws.proofs.cut_volumes.Corners.{item_loop}
-use Rattle.split_drawing_laws.proofs.cut_volumes.Solids.{in_solid}
+use Rattle.split_drawing_laws.proofs.cut_volumes.Told.{item_loop, in_solid}
 use Rattle.split_drawing_laws.specs.drawn_volumes.Laws.{LiesOnOld}
 use Rattle.split_drawing_laws.proofs.drawn_volumes.Bounds.{OnFace, on_face}
 use Rattle.split_drawing_laws.proofs.drawn_volumes.DrawWhole.{drawn_lies}

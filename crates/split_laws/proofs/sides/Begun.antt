@@ -16,7 +16,7 @@ use Rattle.shapes.specs.Measure.{normal}
 use Rattle.shapes.specs.split.Sides.{reaches_above, reaches_below, straddles, face_is_above, faces_above}
 use Rattle.split_opening_laws.proofs.cycles.Meets.{count_filter}
 use Rattle.split_laws.specs.sides.Sided.{IsOnSide, AreSided}
-use Rattle.split_drawing_laws.proofs.crossings.Listed.{loop_in_face, tail_in}
+use Rattle.split_drawing_laws.proofs.crossings.Premises.{loop_in_face, tail_in}
 use Rattle.split_drawing_laws.proofs.pairs.LoopPlaces.{none_passes}
 
 module _ (M : Model) (p : Plane) (s : ℕ) where

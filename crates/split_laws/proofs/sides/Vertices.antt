@@ -16,7 +16,7 @@ use Rattle.shapes.specs.Faces.{start, loops_of, corners, corners_in, vertices_of
 use Rattle.shapes.proofs.walks.SolidFaces.{face_of_loop}
 use Rattle.split_drawing_laws.specs.face_sides.Lone.{NoLoopIsLone}
 use Rattle.split_drawing_laws.proofs.face_sides.Final.{TailIn, tail_in}
-use Rattle.split_drawing_laws.proofs.face_sides.Same.{none_from}
+use Rattle.split_drawing_laws.proofs.face_sides.Shared.{none_from}
 use Rattle.split_laws.specs.sides.Sided.{IsOfSolid}
 
 -- what isn't lone is a cycle
