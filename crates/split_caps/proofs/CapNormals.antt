@@ -27,12 +27,11 @@ use Rattle.split_opening_laws.specs.cycles.SectionCycles.{AreSectionCycles}
 use Rattle.split_opening_laws.specs.sections.Capped.{ArePlain, HasCaps, cap_faces}
 use Rattle.split_opening_laws.specs.sections.InTurn.{CanBeOpenedInTurn}
 use Rattle.split_opening_laws.specs.strips.Opened.{CanBeOpened}
-use Rattle.split_opening_laws.proofs.sections.Capping.{caps_stay}
-use Rattle.split_opening_laws.proofs.sections.InTurn.{can_open, others_on}
+use Rattle.split_opening_laws.proofs.sections.InTurn.{caps_stay, can_open, others_on}
 use Rattle.split_laws.specs.volumes.Closing.{CanClose}
 use Rattle.split_laws.proofs.opened.Caps.{area_kept, lower_normal}
 use Rattle.split_laws.proofs.opened.Kept as kept
-use Rattle.split_laws.proofs.opened.Opened.{is_rewritten}
+use Rattle.split_laws.proofs.opened.InTurn.{is_rewritten}
 use Rattle.split_laws.proofs.opened.Starts.{finish_old, start_old, swap}
 use Rattle.split_laws.proofs.volumes.Closed.{ClearOf, closing, closing_leads}
 use Rattle.split_laws.proofs.volumes.Taken as taken

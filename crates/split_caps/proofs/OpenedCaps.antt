@@ -20,12 +20,11 @@ use Rattle.shapes.proofs.measures.Sums.{area_mates}
 use Rattle.split_opening_laws.specs.sections.Capped.{ArePlain, HasCaps, IsPlain}
 use Rattle.split_opening_laws.specs.sections.InTurn.{CanBeOpenedInTurn}
 use Rattle.split_opening_laws.specs.strips.Opened.{CanBeOpened}
-use Rattle.split_opening_laws.proofs.sections.Capping.{caps_stay}
-use Rattle.split_opening_laws.proofs.sections.InTurn.{can_open, others_on}
+use Rattle.split_opening_laws.proofs.sections.InTurn.{caps_stay, can_open, others_on}
 use Rattle.split_laws.specs.opened.Told.{AllLieAlong, LiesAlong}
 use Rattle.split_laws.proofs.opened.Caps.{lower_normal, upper_normal}
 use Rattle.split_laws.proofs.opened.Kept as kept
-use Rattle.split_laws.proofs.opened.Opened.{is_rewritten}
+use Rattle.split_laws.proofs.opened.InTurn.{is_rewritten}
 use Rattle.split_laws.proofs.opened.Starts.{swap}
 use Rattle.split_caps.specs.Capped.{lower_numbers, upper_numbers}
 

@@ -31,16 +31,15 @@ use Rattle.shapes.proofs.measures.Products.{cross_moved}
 use Rattle.shapes.proofs.walks.SolidFaces.{face_of_loop}
 use Rattle.split_opening_laws.specs.sections.Capped.{HasCaps, IsPlain, cap_faces}
 use Rattle.split_opening_laws.specs.sections.InTurn.{upper_faces}
-use Rattle.split_opening_laws.proofs.sections.Capping.{caps_rise}
+use Rattle.split_opening_laws.proofs.sections.InTurn.{caps_rise}
 use Rattle.split_laws.specs.SplitOps.{hole_ops}
 use Rattle.split_laws.specs.opened.Told.{AllLieAlong, LiesAlong}
 use Rattle.split_laws.specs.volumes.Laws.{CanBeSplit}
-use Rattle.split_laws.proofs.Closed as after_closing
+use Rattle.split_laws.proofs.Whole as after_closing
 use Rattle.split_laws.proofs.Flags.{flags_are, one_outer}
 use Rattle.split_laws.proofs.Holes.{AreClosed, AreLevel, holes_counted}
 use Rattle.split_laws.proofs.opened.InTurn.{openings_lie}
 use Rattle.split_laws.proofs.volumes.Closed.{closing, closing_carries}
-use Rattle.split_laws.proofs.volumes.Parted as parted
 use Rattle.split_laws.proofs.volumes.Split as split
 use Rattle.split_laws.proofs.volumes.Taken as taken
 use Rattle.split_laws.proofs.volumes.Taken.{CanTake}
@@ -209,7 +208,7 @@ module _ (d : Drawing) (above : List ℕ) (s : ℕ) (p : Plane) (t : ℕ) (w : C
     cap_row e f j = closed.rows f (omega (arith, hole_apart f ks i l e, once f, j))
 
     gone : k.hole ≡ true → (f : ℕ) → 1 ≤ count f (k.lower ∷ k.upper ∷ []) → table.has P.faces f ≡ false
-    gone e f j = ap is_some (parted.row_is K s t us f ∙ ap (option_map (parted.go K s t us f)) (closed.gone f (omega (arith, hole_in f ks i l e, j))))
+    gone e f j = ap is_some (split.row_is K s t us f ∙ ap (option_map (split.go K s t us f)) (closed.gone f (omega (arith, hole_in f ks i l e, j))))
 
     stands_closed : (f : ℕ) → LiesOn X.model p f → cross (direction p) (normal X.model f) ≡ origin → Stands p f K
     stands_closed f on across = closing_carries X.model s p ks (Stands p f) (λ A g h c was. still_stands A p f g h c was) (split.closes d above s p t w) (λ there. (on, across))
@@ -230,8 +229,8 @@ module _ (d : Drawing) (above : List ℕ) (s : ℕ) (p : Plane) (t : ℕ) (w : C
       kept_vertices (lone u) j = j
       kept_vertices (cycle hs) j = j
 
-    part_row : (f : ℕ) (row : FaceRow) → table.get K.faces f ≡ Some row → table.get P.faces f ≡ Some (parted.go K s t us f row)
-    part_row f row e = parted.row_is K s t us f ∙ ap (option_map (parted.go K s t us f)) e
+    part_row : (f : ℕ) (row : FaceRow) → table.get K.faces f ≡ Some row → table.get P.faces f ≡ Some (split.go K s t us f row)
+    part_row f row e = split.row_is K s t us f ∙ ap (option_map (split.go K s t us f)) e
 
     part_solid : (f u : ℕ) (b : Bool) → Has K.faces f → solid_of K f ≡ u → lists us f ≡ b → solid_of P f ≡ cond b t u
     part_solid f u b there of is = solid_row P f _ (part_row f _ (face_there K f there)) ∙ solid_either (lists us f) (record { solid = solid_of K f; outer = outer K f }) t ∙ (λ j. cond (is j) t (of j))
@@ -247,7 +246,7 @@ module _ (d : Drawing) (above : List ℕ) (s : ℕ) (p : Plane) (t : ℕ) (w : C
           there = there;
           solid = part_solid f s b in_K (same_solid X.model K f row ∙ simple.of_solid) is;
           on_plane = part_sound sound f there (part_on f stands.0);
-          across = ap (cross (direction p)) (parted.normal_same K s t us f) ∙ stands.1;
+          across = ap (cross (direction p)) (split.normal_same K s t us f) ∙ stands.1;
         }
 
     pub both_caps : Sound P → k.hole ≡ false → IsCapOf P p s k.lower × IsCapOf P p t k.upper
@@ -291,8 +290,8 @@ module _ (d : Drawing) (above : List ℕ) (s : ℕ) (p : Plane) (t : ℕ) (w : C
 
     pub normals_told : k.hole ≡ false → (is_hole d.model p (get_or cycles i []) ≡ false) × (normal P k.lower ≡ moved (sum_of (map (area_below d.model) (holes_in d.model p cycles))) (area_below d.model (get_or cycles i []))) × (normal P k.upper ≡ negated (normal P k.lower))
     normals_told e =
-        let low = parted.normal_same K s t us k.lower in
-        let up = parted.normal_same K s t us k.upper in
+        let low = split.normal_same K s t us k.lower in
+        let up = split.normal_same K s t us k.upper in
         let hole_areas = told_filtered (λ k. normal X.model k.lower) (area_below d.model) (is_hole d.model p) ks cycles areas flags in (
           no_hole e,
           low ∙ lower_now e ∙ (λ j. moved (sum_of (hole_areas j)) (told_at (λ k. normal X.model k.lower) (area_below d.model) ks cycles i l areas j)),
@@ -308,5 +307,5 @@ module _ (d : Drawing) (above : List ℕ) (s : ℕ) (p : Plane) (t : ℕ) (w : C
       pub faces_apart : (int_lt (dot (normal P k.lower) (direction p)) (pos 0) ≡ false) × (normal P k.upper ≡ negated (normal P k.lower))
       faces_apart =
           let a = apart_at X.model p ks i l all_apart in
-          let low = parted.normal_same K s t us k.lower ∙ lower_now own_flag ∙ ap (λ hs. moved (sum_of (lowers X.model hs)) (normal X.model k.lower)) none ∙ none_moved (normal X.model k.lower) in
+          let low = split.normal_same K s t us k.lower ∙ lower_now own_flag ∙ ap (λ hs. moved (sum_of (lowers X.model hs)) (normal X.model k.lower)) none ∙ none_moved (normal X.model k.lower) in
           (ap (λ v. int_lt (dot v (direction p)) (pos 0)) low ∙ sym a.told ∙ own_flag, (normals_told own_flag).2)

@@ -52,7 +52,7 @@ use Rattle.command_laws.proofs.Owners.{Agree, faces_many, is_either, is_of, loop
 use Rattle.split_caps.specs.Capped.{caps_of, cycles_of}
 use Rattle.split_caps.specs.Counted.{SplitKeepsCounts, SplitMakesCounts, SplitSharesCounts, SplitSharesSums}
 use Rattle.split_frames.proofs.PartedWithin.{holes_keep, part_keeps}
-use Rattle.split_frames.proofs.Parts.{after_is, agree, apart}
+use Rattle.split_frames.proofs.Whole.{after_is, agree, apart}
 use Rattle.split_caps.proofs.Sizes.{cuts_make, faces_make, openings_make}
 
 -- ---- each part's counts

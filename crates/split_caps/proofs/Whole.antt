@@ -15,7 +15,7 @@ use Rattle.shapes.specs.split.Opening.{Opening}
 use Rattle.split_caps.specs.Capped.{IsCapOf, area_below, cap, cycles_of, sum_of}
 use Rattle.split_caps.proofs.OpenedCaps.{lowers_are, uppers_are}
 use Rattle.split_caps.proofs.PartCaps.{both_caps, both_gone, faces_apart, normals_told}
-use Rattle.split_frames.proofs.Parts.{after_is, after_sound, can}
+use Rattle.split_frames.proofs.Whole.{after_is, after_sound, can}
 
 pub caps_are_numbered : CapsAreNumbered
 caps_are_numbered before after s p t sound made =

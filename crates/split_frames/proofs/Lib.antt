@@ -1,5 +1,4 @@
 pub mod Steps
 pub mod DrawnWithin
 pub mod PartedWithin
-pub mod Parts
-mod Whole
+pub mod Whole

@@ -34,10 +34,8 @@ use Rattle.split_opening_laws.specs.sections.Capped.{ArePlain}
 use Rattle.split_opening_laws.specs.sections.InTurn.{CanBeOpenedInTurn}
 use Rattle.split_opening_laws.specs.strips.Opened.{CanBeOpened}
 use Rattle.split_opening_laws.proofs.sections.InTurn.{can_open, openings_sound, others_on}
-use Rattle.split_opening_laws.proofs.sections.OpenedFaces.{upper_row}
-use Rattle.split_opening_laws.proofs.sections.OpenedRows.{edges_are, face_still, faces_are, loop_row}
-use Rattle.split_opening_laws.proofs.sections.Pairs.{renamed_not}
-use Rattle.split_opening_laws.proofs.sections.Rims.{rim_below}
+use Rattle.split_opening_laws.proofs.sections.OpenedRows.{upper_row, edges_are, face_still, faces_are, loop_row}
+use Rattle.split_opening_laws.proofs.sections.Pairs.{renamed_not, rim_below}
 use Rattle.split_laws.specs.SplitOps.{closing_ops}
 use Rattle.split_laws.proofs.Flags.{vertex_still}
 use Rattle.split_laws.proofs.opened.Caps.{loop_kinds, lower_row}

@@ -1,19 +1,120 @@
--- A whole split: other solids stay.
-use Rattle.std.proofs.Common.{◌≡◌, ℕ, false, sym, ap, ◌∙◌}
+-- The models before and after a split agree but for the two parts, and each vertex keeps its point.
+use Rattle.std.specs.Prelude.{filter}
+use Rattle.std.proofs.Common.{◌≡◌, ◌≢◌, ℕ, false, List, [], is_some, sym, ap, subst, ◌∙◌}
+use Rattle.std.proofs.lemmas.List.{append-nil}
 use Rattle.std.proofs.lemmas.Bool.{ne_eqb}
 use Rattle.euler_operators.specs.declared.Plane.{Plane}
 use Rattle.euler_operators.specs.Table as table
 use Rattle.euler_operators.specs.Model.{Model, rings_of, solid_of}
 use Rattle.euler_operators.specs.Sound.{Sound, Has}
+use Rattle.euler_operators.specs.Conditions.{strictly_rises}
+use Rattle.euler_operators.specs.Effect.{part}
 use Rattle.euler_operators.proofs.Models.{same_solid}
+use Rattle.shapes.specs.split.Sides.{faces_above}
+use Rattle.shapes.specs.split.Drawing.{Drawing, with_drawings}
+use Rattle.shapes.specs.split.Section.{below_halves, section_cycles}
+use Rattle.shapes.specs.split.Opening.{Opening, holes_closed, outer_caps}
+use Rattle.shapes.specs.split.Split.{opened_at, split_model}
+use Rattle.split_drawing_laws.proofs.crossings.Whole.{crossings_keep}
+use Rattle.split_opening_laws.specs.sections.Capped.{HasCaps}
+use Rattle.split_opening_laws.specs.sections.InTurn.{CanBeOpenedInTurn, upper_faces}
+use Rattle.split_opening_laws.proofs.sections.InTurn.{caps_rise, all_on}
+use Rattle.split_laws.specs.SplitOps.{hole_ops}
+use Rattle.split_laws.specs.volumes.Laws.{CanBeSplit}
+use Rattle.split_laws.proofs.Whole as closing
+use Rattle.split_laws.proofs.Holes.{AreClosed}
+use Rattle.split_laws.proofs.Flags.{solids_still}
+use Rattle.split_laws.proofs.Whole.{split_sound}
+use Rattle.split_laws.proofs.drawn.Drawn.{begins, drawn_stays}
+use Rattle.split_laws.proofs.measures.Splittable.{can_be_split}
+use Rattle.split_laws.proofs.volumes.Split as split
 use Rattle.undo_journal.specs.Machine.{Machine, held}
 use Rattle.plane_split.specs.Held.{IsSplit}
-use Rattle.split_frames.specs.Laws.{SplitKeepsRows, SplitKeepsOwners, SplitKeepsLoops, SplitKeepsEdges, SplitKeepsPoints, SplitKeepsShapes}
 use Rattle.command_laws.specs.LeftAlone.{OfOthers}
+use Rattle.command_laws.proofs.Owners.{Agree, agree_on, is_either, is_of, solid_of_half, solid_of_loop}
 use Rattle.command_laws.proofs.OnFaces.{vertex_there}
-use Rattle.command_laws.proofs.Owners.{is_either, solid_of_half, solid_of_loop}
 use Rattle.command_laws.proofs.Standing.{rings_same, stands}
-use Rattle.split_frames.proofs.Parts.{agree, point_kept}
+use Rattle.split_frames.specs.Laws.{SplitKeepsRows, SplitKeepsOwners, SplitKeepsLoops, SplitKeepsEdges, SplitKeepsPoints, SplitKeepsShapes}
+use Rattle.split_frames.proofs.DrawnWithin.{drawings_within, within_on}
+use Rattle.split_frames.proofs.PartedWithin.{holes_keep, holes_within, openings_vertices, openings_within, part_keeps}
+use Rattle.split_frames.proofs.Steps.{Within, part_agrees}
+
+module _ (before after : Machine) (s : ℕ) (p : Plane) (t : ℕ) (sound : Sound (held before)) (made : IsSplit before after s p t) where
+  abbrev M : Model
+  M = held before
+
+  abbrev d : Drawing
+  d = with_drawings M s p
+
+  abbrev above : List ℕ
+  above = faces_above d.model p s
+
+  abbrev cycles : List (List ℕ)
+  cycles = section_cycles d.model (below_halves d.model above s)
+
+  abbrev begun : Opening
+  begun = record { model = d.model; taken = d.taken; caps = [] }
+
+  abbrev X : Opening
+  X = opened_at d above s p
+
+  abbrev K : Model
+  K = holes_closed X.model X.caps
+
+  abbrev us : List ℕ
+  us = upper_faces above X.caps
+
+  abbrev N : Model
+  N = part K s t us
+
+  pub can : CanBeSplit d above s p t
+  can = can_be_split M s p t sound made.0
+
+  pub after_is : held after ≡ N
+  unfolding split_model
+  after_is = ap held made.1 ∙ split.split_is d above s p t can
+
+  pub after_sound : Sound N
+  after_sound = subst Sound (sym (ap held made.1) ∙ after_is) (split_sound M s p t sound made.0)
+
+  bare : HasCaps above s begun
+  bare = record { plain = tt; all_rise = ap strictly_rises (append-nil above) ∙ can.above_rise; upper_rise = ap strictly_rises (append-nil above) ∙ can.above_rise }
+
+  caps : HasCaps above s X
+  caps = caps_rise above s p begun cycles can.opens bare
+
+  opened : CanBeOpenedInTurn above s X []
+  opened = all_on above s p begun cycles can.opens
+
+  closed : AreClosed X.model K s us (hole_ops X.caps) (filter (λ k. k.hole) X.caps)
+  closed = closing.closed d above s p can.opens bare can.no_stray
+
+  fresh : table.has K.solids t ≡ false
+  fresh = ap (λ u. table.has u t) (closed.solids ∙ solids_still above s p begun cycles) ∙ ap is_some can.fresh
+
+  to_closed : Within s M K
+  to_closed = within_on s M X.model K
+      (within_on s M d.model X.model (drawings_within M s p t sound (begins M s p t sound made.0)) (openings_within above s p begun cycles can.opens))
+      (holes_within X.model s X.caps opened.sound caps.plain closed.leads.accepted)
+
+  parts_agree : Agree M N (is_of s) (is_either s t)
+  parts_agree = agree_on M K N (is_of s) (is_of s) (is_either s t) to_closed (part_agrees K s t us closed.part.sound after_sound closed.part.of_solid fresh)
+
+  pub agree : Agree M (held after) (is_of s) (is_either s t)
+  agree = subst (λ P. Agree M P (is_of s) (is_either s t)) (sym after_is) parts_agree
+
+  pub apart : s ≢ t
+  apart = can.apart
+
+  drawn_point : (v : ℕ) → Has M.vertices v → table.get d.model.vertices v ≡ table.get M.vertices v
+  drawn_point v there = ap (λ u. table.get u v) (drawn_stays M s p t sound made.0).vertices ∙ (crossings_keep M s p t sound (begins M s p t sound made.0)).points v there
+
+  pub point_kept : (v : ℕ) → Has M.vertices v → table.get (held after).vertices v ≡ table.get M.vertices v
+  point_kept v there =
+      ap (λ P. table.get P.vertices v) after_is ∙ ap (λ u. table.get u v) ((part_keeps K s t us).0 ∙ (holes_keep (outer_caps X.caps) X.model (filter (λ k. k.hole) X.caps)).0)
+      ∙ openings_vertices above s p begun cycles can.opens v (ap is_some (drawn_point v there) ∙ there) ∙ drawn_point v there
+
+-- ---- a whole split: other solids stay
 
 pub split_keeps_rows : SplitKeepsRows
 split_keeps_rows before after s p t sound made k there ne = ((agree before after s p t sound made).faces k there (ne_eqb (solid_of (held before) k) s ne)).0
@@ -32,21 +133,15 @@ split_keeps_points before after s p t sound made l v i ne = point_kept before af
 
 -- no loop more is of a face of another solid
 module _ (before after : Machine) (s : ℕ) (p : Plane) (t : ℕ) (sound : Sound (held before)) (made : IsSplit before after s p t) (k : ℕ) (there : Has (held before).faces k) (ne : OfOthers (held before) s k) where
-  abbrev M : Model
-  M = held before
-
-  abbrev N : Model
-  N = held after
-
-  row : table.get N.faces k ≡ table.get M.faces k
+  row : table.get (held after).faces k ≡ table.get (held before).faces k
   row = split_keeps_rows before after s p t sound made k there ne
 
-  off : is_either s t (solid_of N k) ≡ false
-  off = ap (is_either s t) (same_solid M N k row) ∙ ((agree before after s p t sound made).faces k there (ne_eqb (solid_of M k) s ne)).1
+  off : is_either s t (solid_of (held after) k) ≡ false
+  off = ap (is_either s t) (same_solid (held before) (held after) k row) ∙ ((agree before after s p t sound made).faces k there (ne_eqb (solid_of (held before) k) s ne)).1
 
-  rings_kept : rings_of N k ≡ rings_of M k
-  rings_kept = rings_same M N k row (λ l has of. split_keeps_loops before after s p t sound made l has (λ e. ne (ap (solid_of M) (sym of) ∙ e)))
-      (λ l has of. (agree before after s p t sound made).loops_back l has (ap (λ j. is_either s t (solid_of N j)) of ∙ off))
+  rings_kept : rings_of (held after) k ≡ rings_of (held before) k
+  rings_kept = rings_same (held before) (held after) k row (λ l has of. split_keeps_loops before after s p t sound made l has (λ e. ne (ap (solid_of (held before)) (sym of) ∙ e)))
+      (λ l has of. (agree before after s p t sound made).loops_back l has (ap (λ j. is_either s t (solid_of (held after) j)) of ∙ off))
 
 pub split_keeps_shapes : SplitKeepsShapes
 split_keeps_shapes before after s p t sound made k there ne =

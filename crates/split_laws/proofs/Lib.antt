@@ -1,12 +1,8 @@
 pub mod drawn
 pub mod Openings
-pub mod Closing
 pub mod Holes
-pub mod Parting
 pub mod Left
 pub mod Flags
-pub mod OldFaces
-pub mod Closed
 pub mod Whole
 pub mod opened
 pub mod volumes

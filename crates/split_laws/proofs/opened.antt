@@ -1,5 +1,4 @@
 pub mod Starts
 pub mod Kept
 pub mod Caps
-pub mod Opened
 pub mod InTurn

@@ -1,4 +1,2 @@
 pub mod Sides
-pub mod Begun
-pub mod Lone
 pub mod Vertices

@@ -1,4 +1,3 @@
-pub mod Parted
 pub mod Taken
 pub mod Closed
 pub mod Split

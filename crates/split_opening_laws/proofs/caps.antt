@@ -1,5 +1,4 @@
 pub mod Gone
 mod Joined
 mod Parted
-pub mod Two
 pub mod Whole

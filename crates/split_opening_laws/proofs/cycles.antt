@@ -1,9 +1,6 @@
 pub mod Meets
-pub mod Changes
 pub mod Orbits
-pub mod Covers
 pub mod RisingLists
 pub mod BelowHalves
-pub mod Ends
 pub mod NextBelow
 pub mod Cycles

@@ -1,5 +1,2 @@
-mod Kept
-mod Rim
-pub mod Strips
 pub mod Opened
 pub mod Whole

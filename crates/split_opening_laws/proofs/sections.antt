@@ -1,9 +1,5 @@
 pub mod Pairs
-pub mod Rims
-pub mod OpenedRows
-pub mod CyclesStay
 pub mod StillFree
-pub mod OpenedFaces
+pub mod OpenedRows
 pub mod StillBetween
 pub mod InTurn
-pub mod Capping

@@ -1,6 +1,5 @@
 pub mod Rows
 pub mod Cycle
-pub mod Places
 pub mod Copied
 pub mod Strip
 pub mod Whole

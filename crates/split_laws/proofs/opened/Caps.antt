@@ -37,8 +37,7 @@ use Rattle.shapes.proofs.measures.Sums.{none_left, area_same, area_mates}
 use Rattle.shapes.specs.split.Opening.{both_lists, opened_along}
 use Rattle.split_opening_laws.specs.strips.Opened.{CanBeOpened}
 use Rattle.split_opening_laws.proofs.strips.Cycle.{next_cases, next_below, half_in, mate_start, place_of}
-use Rattle.split_opening_laws.proofs.sections.OpenedRows.{faces_are, loops_are}
-use Rattle.split_opening_laws.proofs.sections.OpenedFaces.{upper_row}
+use Rattle.split_opening_laws.proofs.sections.OpenedRows.{faces_are, loops_are, upper_row}
 use Rattle.split_laws.specs.opened.Told.{LiesAlong}
 use Rattle.split_laws.proofs.opened.Starts.{start_old, finish_old, back_along}
 use Rattle.gluing_laws.proofs.Adding.{only_loop}

@@ -1,38 +1,188 @@
--- The six volumes of a solid that is opened along all cycles of its section, one after the other.
-use Rattle.std.proofs.Common.{◌≡◌, ◌≢◌, ℕ, ◌+◌, true, false, not, ◌&&◌, List, [], ◌∷◌, ◌++◌, length, is_some, refl, sym, ap, subst, ◌∙◌, arith, true≢false, ◌⊎◌, inl, inr}
+-- The six volumes of a solid that is opened along a cycle on a plane, and those of the other solids.
 use Rattle.std.specs.Prelude.{map}
 use Rattle.std.specs.List.{list_all}
+use Rattle.std.proofs.Common.{◌≡◌, ◌≢◌, ℕ, ◌+◌, ℤ, pos, ◌+ℤ◌, neg_ℤ, Bool, true, not, nat_eq, List, ◌∷◌, length, None, is_some, refl, sym, ap, subst, ◌∙◌, arith, inl, inr, false, ◌&&◌, [], ◌++◌, true≢false, ◌⊎◌}
+use Rattle.std.proofs.lemmas.Bool.Decides.{eqb_tells}
+use Rattle.std.proofs.lemmas.Bool.{and_parts, ne_eqb, eq-eqb, eqb-true}
+use Rattle.std.proofs.lemmas.Int.{ints}
 use Rattle.euler_operators.specs.declared.Plane.{Plane}
-use Rattle.euler_operators.specs.Vectors.{origin, cross, same_point, direction, is_on}
-use Rattle.euler_operators.specs.Items.{count, IsIn}
-use Rattle.euler_operators.specs.Rings.{canonical}
-use Rattle.euler_operators.proofs.Lists.{count-append, tick_same}
-use Rattle.euler_operators.proofs.Rotations.{count-canonical, IsIn_head}
-use Rattle.euler_operators.proofs.Tables.{row_some}
+use Rattle.euler_operators.specs.Vectors.{origin, dot, same_point, direction, cross, is_on}
+use Rattle.euler_operators.specs.Items.{count, IsIn, SameItems}
+use Rattle.euler_operators.specs.HalfEdge.{mate, plus}
 use Rattle.euler_operators.specs.Table as table
-use Rattle.euler_operators.specs.Model.{Model, cycle, items_of, tail, content, outer, point_of}
+use Rattle.euler_operators.specs.Model.{Model, FaceRow, items_of, tail, content, face_of, loop_of, outer, solid_of, faces_of, cycle, point_of}
 use Rattle.euler_operators.specs.Sound.{Has, HasHalf}
-use Rattle.shapes.proofs.fresh.Rows.{get-put_cases}
+use Rattle.euler_operators.specs.Conditions.{lists}
+use Rattle.euler_operators.specs.Rings.{canonical}
+use Rattle.euler_operators.proofs.Lists.{tick_same, tick_other, IsIn_or_not, count-append}
+use Rattle.euler_operators.proofs.Maps.{from_map}
+use Rattle.euler_operators.proofs.Models.{in-holds}
+use Rattle.euler_operators.proofs.Tables.{in_use_within, get-put_other, row_some}
+use Rattle.euler_operators.proofs.Vectors.{none_added}
+use Rattle.euler_operators.proofs.Rotations.{count-canonical, IsIn_head}
+use Rattle.euler_laws.proofs.shared.Listed.{listed_passes, listed_as}
+use Rattle.euler_laws.proofs.shared.Rows.{face_there}
+use Rattle.shapes.specs.Fresh.{Taken, numbers_after}
+use Rattle.shapes.specs.Measure.{area, anchor, is_plane_of, volume_in, six_volume, normal}
+use Rattle.shapes.specs.split.Opening.{opened_along, Caps, Opening, next_opened, all_opened}
 use Rattle.shapes.specs.Faces.{start}
-use Rattle.shapes.specs.Fresh.{Taken}
 use Rattle.shapes.specs.Rewriting.{rewritten}
-use Rattle.shapes.specs.Measure.{normal, anchor, is_plane_of, six_volume}
-use Rattle.shapes.proofs.measures.FlatFaces.{told_alike}
 use Rattle.shapes.specs.split.Section.{is_hole}
-use Rattle.shapes.specs.split.Opening.{Caps, Opening, opened_along, next_opened, all_opened}
+use Rattle.shapes.proofs.measures.FlatFaces.{told_alike, some_direction}
+use Rattle.shapes.proofs.measures.Sums.{dot_back}
+use Rattle.shapes.proofs.fresh.Rows.{get-put_cases}
 use Rattle.split_opening_laws.specs.strips.Opened.{CanBeOpened}
 use Rattle.split_opening_laws.specs.sections.InTurn.{halves_in, CanBeOpenedInTurn}
 use Rattle.split_opening_laws.specs.sections.Capped.{ArePlain, HasCaps}
-use Rattle.split_opening_laws.proofs.sections.CyclesStay.{there_in}
-use Rattle.split_opening_laws.proofs.sections.OpenedRows.{faces_are}
-use Rattle.split_opening_laws.proofs.sections.InTurn.{can_open, others_on}
-use Rattle.split_opening_laws.proofs.sections.Capping.{caps_stay}
-use Rattle.split_laws.specs.opened.Told.{TellsAlike, AllTellAlike, LiesAlong, AllLieAlong}
+use Rattle.split_opening_laws.proofs.sections.OpenedRows.{faces_are, loop_row, face_still, upper_row}
+use Rattle.split_opening_laws.proofs.sections.Pairs.{renamed_not}
+use Rattle.split_opening_laws.proofs.sections.StillBetween.{there_in}
+use Rattle.split_opening_laws.proofs.sections.InTurn.{can_open, others_on, caps_stay}
+use Rattle.gluing_laws.proofs.Listed.{one_if, passed, count_where, same_search, volume_of, volume_same, same_volumes}
+use Rattle.split_laws.specs.opened.Told.{AllTellAlike, TellsAlike, LiesAlong, AllLieAlong}
 use Rattle.split_laws.specs.opened.Laws.{LieOn}
-use Rattle.split_laws.proofs.opened.Starts.{swap, start_old}
+use Rattle.split_laws.proofs.opened.Starts.{swap, point_old, swapped, start_old}
 use Rattle.split_laws.proofs.opened.Kept as kept
-use Rattle.split_laws.proofs.opened.Caps.{lower_along, upper_along, anchor_along}
-use Rattle.split_laws.proofs.opened.Opened.{is_rewritten, opening_keeps}
+use Rattle.split_laws.proofs.opened.Kept.{Rewritten}
+use Rattle.split_laws.proofs.opened.Caps.{lower_row, loop_kinds, lower_normal, upper_normal, cycle_across, lower_along, upper_along, anchor_along}
+
+module _ (M : Model) (above : List ℕ) (s : ℕ) (c : Taken) (bs : List ℕ) (w : CanBeOpened M above s c bs) where
+  abbrev N : Model
+  N = opened_along M above s c bs
+
+  abbrev lower : ℕ
+  lower = c.face + 1
+
+  abbrev upper : ℕ
+  upper = c.face + length bs + 1
+
+  -- its loops are rewritten, and the two new ones are of new faces
+  pub is_rewritten : Rewritten M N (swap M above s c bs w)
+  is_rewritten = record {
+    sound = w.sound;
+    faces = face_still M above s c bs w.sound w.free;
+    loops = loop_row M above s c bs w.sound w.free;
+    others = λ l row at. elim (loop_kinds M above s c bs w l row at) [
+      | inl q ↦ inr (ap (table.get M.faces) q.1 ∙ w.free.faces upper (omega arith))
+      | inr q ↦ elim q [
+        | inl r ↦ inr (ap (table.get M.faces) r.1 ∙ w.free.faces lower (omega arith))
+        | inr r ↦ inl r.0
+      ]
+    ];
+    stays = swapped M above s c bs w;
+    points = λ v there. point_old M above s c bs w v (in_use_within M.vertices c.vertex w.free.vertices v there);
+  }
+
+  -- ---- which faces there are
+
+  abbrev of : ℕ → ℕ → FaceRow → Bool
+  of u k row = nat_eq row.solid u
+
+  lower_free : table.get M.faces lower ≡ None
+  lower_free = w.free.faces lower (omega arith)
+
+  upper_free : table.get M.faces upper ≡ None
+  upper_free = w.free.faces upper (omega arith)
+
+  caps_apart : lower ≢ upper
+  caps_apart e = absurd (omega (arith, e, w.cycle.two_halves))
+
+  other_row : (k : ℕ) → k ≢ lower → k ≢ upper → table.get N.faces k ≡ table.get M.faces k
+  other_row k a b = ap (λ t. table.get t k) (faces_are M above s c bs) ∙ get-put_other _ upper _ k b ∙ get-put_other M.faces lower _ k a
+
+  abbrev SameAt : ℕ → Type 0
+  SameAt k = count k (faces_of N s) ≡ count k (lower ∷ upper ∷ faces_of M s)
+
+  at_lower : SameAt lower
+  at_lower =
+      let here : count lower (faces_of N s) ≡ 1 = count_where (of s) N.faces lower ∙ ap (passed (of s) lower) (lower_row M above s c bs w) ∙ ap one_if (eq-eqb s s refl) in
+      let none : count lower (faces_of M s) ≡ 0 = count_where (of s) M.faces lower ∙ ap (passed (of s) lower) lower_free in
+      omega (arith, here, none, tick_same lower, tick_other lower upper caps_apart)
+
+  at_upper : SameAt upper
+  at_upper =
+      let here : count upper (faces_of N s) ≡ 1 = count_where (of s) N.faces upper ∙ ap (passed (of s) upper) (upper_row M above s c bs) ∙ ap one_if (eq-eqb s s refl) in
+      let none : count upper (faces_of M s) ≡ 0 = count_where (of s) M.faces upper ∙ ap (passed (of s) upper) upper_free in
+      omega (arith, here, none, tick_same upper, tick_other upper lower (λ e. caps_apart (sym e)))
+
+  at_other : (k : ℕ) → k ≢ lower → k ≢ upper → SameAt k
+  at_other k a b =
+      let now : count k (faces_of N s) ≡ count k (faces_of M s) = count_where (of s) N.faces k ∙ ap (passed (of s) k) (other_row k a b) ∙ sym (count_where (of s) M.faces k) in
+      omega (arith, now, tick_other k lower a, tick_other k upper b)
+
+  -- the solid has its faces and the caps
+  pub same_faces : SameItems (faces_of N s) (lower ∷ upper ∷ faces_of M s)
+  same_faces k = elim (eqb_tells k lower) [
+    | inl e ↦ subst SameAt (sym e.1) at_lower
+    | inr a ↦ elim (eqb_tells k upper) [ inl e ↦ subst SameAt (sym e.1) at_upper | inr b ↦ at_other k a.1 b.1 ]
+  ]
+
+  -- another solid has its own
+  other_faces : (u : ℕ) → u ≢ s → faces_of N u ≡ faces_of M u
+  other_faces u ne = same_search (of u) (of u) N.faces M.faces (λ k. elim (eqb_tells k lower) [
+    | inl e ↦ ap (λ j. passed (of u) j (table.get N.faces j)) e.1 ∙ ap (passed (of u) lower) (lower_row M above s c bs w) ∙ ap one_if (ne_eqb s u (λ q. ne (sym q)))
+        ∙ sym (ap (λ j. passed (of u) j (table.get M.faces j)) e.1 ∙ ap (passed (of u) lower) lower_free)
+    | inr a ↦ elim (eqb_tells k upper) [
+      | inl e ↦ ap (λ j. passed (of u) j (table.get N.faces j)) e.1 ∙ ap (passed (of u) upper) (upper_row M above s c bs) ∙ ap one_if (ne_eqb s u (λ q. ne (sym q)))
+          ∙ sym (ap (λ j. passed (of u) j (table.get M.faces j)) e.1 ∙ ap (passed (of u) upper) upper_free)
+      | inr b ↦ ap (passed (of u) k) (other_row k a.1 b.1)
+    ]
+  ])
+
+  of_solid : (u k : ℕ) → lists (faces_of M u) k ≡ true → Has M.faces k × (solid_of M k ≡ u)
+  of_solid u k i =
+      let there : Has M.faces k = ap is_some (listed_passes (of u) M.faces k i).1 in
+      (there, eqb-true (solid_of M k) u (sym (listed_as (of u) M.faces k _ (face_there M k there)) ∙ i))
+
+  -- ---- another solid
+
+  module _ (u : ℕ) (ne : u ≢ s) where
+    no_mate : (k y : ℕ) → Has M.faces k → solid_of M k ≡ u → IsIn y (items_of (content M (outer M k))) → IsIn y (map mate bs) → ⊥
+    no_mate k y there is i j =
+        let r = from_map mate y bs j in
+        let at : face_of M (loop_of M y) ≡ k = ap (face_of M) (w.sound.one_loop y (outer M k) (in-holds y (content M (outer M k)) i)) ∙ (w.sound.outers_there k there).1 in
+        ne (sym is ∙ ap (solid_of M) (sym at) ∙ ap (λ h. solid_of M (face_of M (loop_of M h))) r.2 ∙ sym (w.sound.one_solid r.0 (w.cycle.halves r.0 r.1).there) ∙ (w.cycle.halves r.0 r.1).of_solid)
+
+    nothing_replaced : (k : ℕ) → Has M.faces k → solid_of M k ≡ u → (y : ℕ) → IsIn y (items_of (content M (outer M k))) → swap M above s c bs w y ≡ y
+    nothing_replaced k there is y i = elim (IsIn_or_not y (map mate bs)) [
+      | inl j ↦ absurd (no_mate k y there is i j)
+      | inr z ↦ renamed_not (map mate bs) (map plus (numbers_after c.edge (length bs))) y z
+    ]
+
+    other_keeps : six_volume N u ≡ six_volume M u
+    unfolding six_volume
+    other_keeps = ap (volume_in N) (other_faces u ne) ∙ same_volumes M N (faces_of M u)
+        (λ k i. let r = of_solid u k i in kept.volume_same M N (swap M above s c bs w) is_rewritten k r.0 (nothing_replaced k r.0 r.1))
+
+  -- ---- the solid
+
+  module _ (p : Plane) (on : is_plane_of M p (map (tail M) bs) ≡ true) where
+    opposite : (a b : ℤ) → a ≡ b → neg_ℤ a +ℤ b ≡ pos 0
+    opposite a b e = omega (arith, ints)
+
+    -- together the caps add nothing
+    caps_nothing : volume_of N lower +ℤ volume_of N upper ≡ pos 0
+    caps_nothing =
+        let a = area M bs in
+        (λ i. (ap (dot (anchor N lower)) (lower_normal M above s c bs w) ∙ dot_back (anchor N lower) a) i +ℤ ap (dot (anchor N upper)) (upper_normal M above s c bs w) i)
+        ∙ opposite (dot (anchor N lower) a) (dot (anchor N upper) a)
+        (told_alike N p a (anchor N lower) (anchor N upper) (some_direction p (and_parts (not (same_point (direction p) origin)) _ on).0) (cycle_across M above s c bs w p on)
+        (anchor_along N p lower (lower_along M above s c bs w p on)) (anchor_along N p upper (upper_along M above s c bs w p on)))
+
+    solid_keeps : AllTellAlike M s → six_volume N s ≡ six_volume M s
+    unfolding six_volume
+    solid_keeps alike = volume_same N (faces_of N s) (lower ∷ upper ∷ faces_of M s) same_faces
+        ∙ none_added (volume_of N lower) (volume_of N upper) (volume_in N (faces_of M s)) caps_nothing
+        ∙ same_volumes M N (faces_of M s) (λ k i. let r = of_solid s k i in kept.volume_is M N (swap M above s c bs w) is_rewritten k r.0 (alike k r.0 r.1))
+
+pub opening_keeps : (M : Model) (above : List ℕ) (s : ℕ) (c : Taken) (bs : List ℕ) (p : Plane) (u : ℕ) → CanBeOpened M above s c bs → AllTellAlike M s →
+    is_plane_of M p (map (tail M) bs) ≡ true → six_volume (opened_along M above s c bs) u ≡ six_volume M u
+opening_keeps M above s c bs p u w alike on = elim (eqb_tells u s) [
+  | inl e ↦ subst (λ v. six_volume (opened_along M above s c bs) v ≡ six_volume M v) (sym e.1) (solid_keeps M above s c bs w p on alike)
+  | inr e ↦ other_keeps M above s c bs w u e.1
+]
+
+-- ---- the six volumes of a solid that is opened along all cycles of its section, one after the other
 
 pub some_way : (p : Plane) → same_point (direction p) origin ≡ false → direction p ≢ origin
 some_way p e z = true≢false (sym (ap (λ v. same_point v origin) z) ∙ e)

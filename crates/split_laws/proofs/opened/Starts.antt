@@ -29,7 +29,7 @@ use Rattle.split_opening_laws.proofs.strips.Cycle.{next_cases, next_below, low_e
 use Rattle.split_opening_laws.proofs.strips.Rows.{length-numbers_after, numbers_at, renamed_cases}
 use Rattle.split_opening_laws.proofs.sections.OpenedRows.{edges_are, vertices_are}
 use Rattle.split_laws.proofs.Flags.{vertex_still}
-use Rattle.split_opening_laws.proofs.sections.Rims.{rim_below}
+use Rattle.split_opening_laws.proofs.sections.Pairs.{rim_below}
 
 -- the row of each of the first i edges round a cap
 abbrev rim_row : ℕ → ℕ → ℕ → EdgeRow

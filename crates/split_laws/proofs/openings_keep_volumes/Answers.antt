@@ -1,5 +1,4 @@
-use Rattle.split_laws.proofs.opened.InTurn.{openings_keep, openings_lie}
-use Rattle.split_laws.proofs.opened.Opened.{opening_keeps}
+use Rattle.split_laws.proofs.opened.InTurn.{openings_keep, openings_lie, opening_keeps}
 use Rattle.split_laws.proofs.openings_keep_volumes.Goals as goal
 
 pub returns : goal.returns

@@ -1,4 +1,4 @@
-use Rattle.split_laws.proofs.volumes.Parted.{part_shares, part_keeps}
+use Rattle.split_laws.proofs.volumes.Split.{part_shares, part_keeps}
 use Rattle.split_laws.proofs.parting_shares_volumes.Goals as goal
 
 pub returns : goal.returns

@@ -1,4 +1,4 @@
-use Rattle.split_opening_laws.proofs.sections.Capping.{caps_stay, caps_rise}
+use Rattle.split_opening_laws.proofs.sections.InTurn.{caps_stay, caps_rise}
 use Rattle.split_opening_laws.proofs.caps_have_no_rings.Goals as goal
 
 pub returns : goal.returns

@@ -1,34 +1,69 @@
--- One copy more is raised.
-use Rattle.std.proofs.Common.{◌≡◌, ℕ, suc, ◌+◌, ◌<◌, List, length, None, refl, sym, ap, ◌∙◌, subst, arith}
-use Rattle.std.specs.Prelude.{get_or}
-use Rattle.euler_operators.specs.HalfEdge.{mate, plus, minus, code, half}
+-- Where half-edges start once one copy more is raised.
+use Rattle.std.specs.Prelude.{map, get_or, nat_lt, not, ◌&&◌}
+use Rattle.std.proofs.Common.{◌≡◌, ◌≢◌, ℕ, suc, ◌+◌, ◌<◌, Bool, true, false, true≢false, cond, nat_eq, List, length, Some, is_some, refl, sym, ap, ◌∙◌, subst, arith, ◌⊎◌, inl, inr, None}
+use Rattle.std.proofs.lemmas.Bool.Decides.{nat_tests, eqb_tells}
+use Rattle.std.proofs.lemmas.Bool.{lt-ltb}
+use Rattle.euler_operators.specs.Items.{count, IsIn}
+use Rattle.euler_operators.specs.HalfEdge.{mate, edge_of, plus, minus, code, half}
 use Rattle.euler_operators.specs.Table as table
-use Rattle.euler_operators.specs.Model.{Model, tail, point_of, is_number}
-use Rattle.euler_operators.specs.Sound.{Sound}
-use Rattle.euler_operators.proofs.Halves.{code-half}
-use Rattle.euler_operators.specs.Conditions.{first_false}
-use Rattle.euler_operators.specs.Effect.{effect, mev_at}
-use Rattle.euler_laws.proofs.shared.Rows.{point_row}
+use Rattle.euler_operators.specs.Table.{Table}
+use Rattle.euler_operators.specs.Model.{Model, EdgeRow, tail, arc, point_of, is_number}
+use Rattle.euler_operators.specs.Sound.{Sound, HasHalf}
+use Rattle.euler_operators.specs.Conditions.{face_at, lists, first_false}
+use Rattle.euler_operators.specs.Effect.{with_tails, edge_row, effect, mev_at}
+use Rattle.euler_operators.proofs.Halves.{plus_row, minus_row, code-half}
+use Rattle.euler_operators.proofs.Tables.{map_alike}
+use Rattle.euler_operators.proofs.Models.{plus_tail_row, minus_tail_row}
+use Rattle.euler_laws.proofs.shared.Same.{map_twice}
+use Rattle.euler_laws.proofs.shared.Rows.{edge_row_plus, point_row}
 use Rattle.euler_laws.proofs.mev.MevSound.{MevGoes}
 use Rattle.euler_laws.proofs.mev.Mev.{mev_accepted}
-use Rattle.sweeps_laws.proofs.prism.Sides.{fits}
-use Rattle.sweeps_laws.proofs.prism.Steps.{edge_plus}
 use Rattle.shapes.specs.Fresh.{Taken}
-use Rattle.split_opening_laws.specs.strips.Strips.{copy_riser, copies_raised}
+use Rattle.shapes.specs.Prism.{next_place}
+use Rattle.shapes.specs.Rewriting.{renamed}
+use Rattle.shapes.specs.split.Opening.{opened_tail, opened_row}
+use Rattle.sweeps_laws.proofs.prism.Steps.{edge_plus}
+use Rattle.sweeps_laws.proofs.prism.Sides.{fits}
+use Rattle.split_opening_laws.specs.strips.Strips.{with_rows, copy_riser, riser_edge, copied, raised_items, raised_edge, copies_raised}
 use Rattle.split_opening_laws.specs.strips.StripOps.{place_before, raise_copy}
 use Rattle.split_opening_laws.specs.strips.Opened.{CanBeOpened}
+use Rattle.split_opening_laws.proofs.strips.Rows.{rows_same, rows_map}
 use Rattle.split_opening_laws.proofs.strips.Cycle as on
 use Rattle.split_opening_laws.proofs.strips.Cycle.{before_below, before_apart, next_apart, next-before, next_once}
 use Rattle.split_opening_laws.proofs.strips.Copied as copy
 use Rattle.split_opening_laws.proofs.copies.Raised as raised
-use Rattle.split_opening_laws.proofs.copies.Raised.{not_less}
+use Rattle.split_opening_laws.proofs.copies.Raised.{not_less, arc_first, arc_up, arc_down, arc_else}
 use Rattle.split_opening_laws.proofs.copies.Sides as sides
-use Rattle.split_opening_laws.proofs.copies.Moves.{edges_next}
 use Rattle.split_opening_laws.proofs.copies.Risers.{edge_free, loops_next}
+
+both_true : (a b : Bool) → (a && not b) ≡ true → (a ≡ true) × (b ≡ false)
+both_true true false e = (refl, refl)
+both_true true true e = (refl, sym e)
+both_true false b e = absurd (true≢false (sym e))
+
+first_false_of : (a b : Bool) → (a && not b) ≡ false → b ≡ false → a ≡ false
+first_false_of true false e f = e
+first_false_of true true e f = f
+first_false_of false b e f = refl
 
 module _ (M : Model) (above : List ℕ) (s : ℕ) (c : Taken) (bs : List ℕ) (w : CanBeOpened M above s c bs) (i : ℕ) (lt : i < length bs) (sound : Sound (copies_raised M above s c bs i)) where
   abbrev N : Model
   N = copies_raised M above s c bs i
+
+  abbrev m : ℕ
+  m = length bs
+
+  abbrev mates : List ℕ
+  mates = map mate bs
+
+  abbrev copies : List (ℕ × ℕ)
+  copies = copied M c bs i
+
+  abbrev copies' : List (ℕ × ℕ)
+  copies' = copied M c bs (suc i)
+
+  abbrev side : ℕ → Bool
+  side h = lists above (face_at (copies_raised M above s c bs i) h)
 
   abbrev x : ℕ
   x = tail M (get_or bs i 0)
@@ -44,6 +79,139 @@ module _ (M : Model) (above : List ℕ) (s : ℕ) (c : Taken) (bs : List ℕ) (w
 
   abbrev u : ℕ
   u = copy_riser c bs i
+
+  abbrev moved : List ℕ
+  moved = arc (copies_raised M above s c bs i) (minus (c.edge + suc i)) (mate (get_or bs (place_before (length bs) i) 0))
+
+  g_tail : tail N g ≡ x
+  g_tail = sides.g_tail M above s c bs w i lt sound
+
+  some_less : (h : ℕ) → IsIn h moved → nat_lt 0 (count h moved) ≡ true
+  some_less h at = lt-ltb 0 (count h moved) (omega (arith, at))
+
+  none_less : (h : ℕ) → count h moved ≡ 0 → nat_lt 0 (count h moved) ≡ false
+  none_less h none = not_less 0 (count h moved) (omega (arith, none))
+
+  -- what is above, and g, moves where it starts at the vertex
+  moves : (h : ℕ) → HasHalf N h → (side h ≡ true) ⊎ (h ≡ g) → nat_lt 0 (count h moved) ≡ nat_eq (tail N h) x
+  moves h there above_or = elim (eqb_tells (tail N h) x) [
+    | inl e ↦ elim above_or [
+      | inl t ↦ some_less h (arc_up N sound side g k (sides.splits M above s c bs w i lt sound) h there (e.1 ∙ sym g_tail) t) ∙ sym e.0
+      | inr q ↦ some_less h (subst (λ z. IsIn z moved) (sym q) (arc_first N sound side g k (sides.splits M above s c bs w i lt sound))) ∙ sym e.0
+    ]
+    | inr e ↦ none_less h (arc_else N sound side g k (sides.splits M above s c bs w i lt sound) h (λ q. e.1 (q ∙ g_tail))) ∙ sym e.0
+  ]
+
+  -- nothing else does
+  stays : (h : ℕ) → side h ≡ false → h ≢ g → nat_lt 0 (count h moved) ≡ false
+  stays h d ne = none_less h (arc_down N sound side g k (sides.splits M above s c bs w i lt sound) h d ne)
+
+  other_edge : (h e : ℕ) → edge_of h ≡ e → e ≢ c.edge + suc i → h ≢ g
+  other_edge h e is ne q = ne (sym is ∙ ap edge_of q ∙ (minus_row (c.edge + suc i)).0)
+
+  turned : (v : ℕ) → cond (nat_eq (renamed copies v) x) y (renamed copies v) ≡ renamed copies' v
+  turned v = sym (copy.copy_next M above s c bs w i v lt)
+
+  -- a half-edge that was there
+  old_moves : (h : ℕ) → HasHalf M h → cond (nat_lt 0 (count h moved)) y (opened_tail M above mates copies h (tail M h)) ≡ opened_tail M above mates copies' h (tail M h)
+  old_moves h there = elim (sides.tested M above s c bs w i lt sound (lists above (face_at M h) && not (lists mates h))) [
+    | inl t ↦
+        let two = both_true (lists above (face_at M h)) (lists mates h) t in
+        let is : opened_tail M above mates copies h (tail M h) ≡ renamed copies (tail M h) = ap (λ b. cond b (renamed copies (tail M h)) (tail M h)) t in
+        let at : tail N h ≡ renamed copies (tail M h) = raised.old_tail M above s c bs w i sound h there ∙ is in
+        let up : side h ≡ true = raised.old_side M above s c bs w i sound h there two.1 ∙ two.0 in
+        (λ n. cond ((moves h (raised.old_half M above s c bs w i sound h there) (inl up) ∙ ap (λ q. nat_eq q x) at) n) y (is n))
+        ∙ turned (tail M h)
+        ∙ sym (ap (λ b. cond b (renamed copies' (tail M h)) (tail M h)) t)
+    | inr f ↦
+        let is : opened_tail M above mates copies h (tail M h) ≡ tail M h = ap (λ b. cond b (renamed copies (tail M h)) (tail M h)) f in
+        let down : side h ≡ false = elim (sides.tested M above s c bs w i lt sound (lists mates h)) [
+          | inl l ↦ (sides.listed_side M above s c bs w i lt sound h l).0
+          | inr l ↦ raised.old_side M above s c bs w i sound h there l ∙ first_false_of (lists above (face_at M h)) (lists mates h) f l
+        ] in
+        (λ n. cond (stays h down (other_edge h (edge_of h) refl (λ e. omega (arith, e, on.low_edge M above s c bs w h there))) n) y (is n))
+        ∙ sym (ap (λ b. cond b (renamed copies' (tail M h)) (tail M h)) f)
+  ]
+
+  old_row : (e : ℕ) (row : EdgeRow) → table.get M.edges e ≡ Some row → with_tails moved y e (opened_row M above mates copies e row) ≡ opened_row M above mates copies' e row
+  old_row e row at =
+      let a : tail M (plus e) ≡ row.plus_tail = plus_tail_row M e row at in
+      let b : tail M (minus e) ≡ row.minus_tail = minus_tail_row M e row at in
+      let pt : HasHalf M (plus e) = ap (λ q. is_some (table.get M.edges q)) (plus_row e).0 ∙ ap is_some at in
+      let mt : HasHalf M (minus e) = ap (λ q. is_some (table.get M.edges q)) (minus_row e).0 ∙ ap is_some at in
+      λ n. record {
+        plus_tail = subst (λ v. cond (nat_lt 0 (count (plus e) moved)) y (opened_tail M above mates copies (plus e) v) ≡ opened_tail M above mates copies' (plus e) v) a (old_moves (plus e) pt) n;
+        minus_tail = subst (λ v. cond (nat_lt 0 (count (minus e) moved)) y (opened_tail M above mates copies (minus e) v) ≡ opened_tail M above mates copies' (minus e) v) b (old_moves (minus e) mt) n;
+      }
+
+  -- +cj and -cj
+  out_half : (j : ℕ) → j < m → HasHalf N (plus (c.edge + suc j))
+  out_half j below = ap (λ q. is_some (table.get N.edges q)) (plus_row (c.edge + suc j)).0 ∙ ap is_some (raised.out_edge M above s c bs w i sound j below)
+
+  out_row : (j : ℕ) → j < m → with_tails moved y (c.edge + suc j) (raised_edge M bs copies j) ≡ raised_edge M bs copies' j
+  out_row j below = λ n. record { plus_tail = first n; minus_tail = second n } where
+    v : ℕ
+    v = tail M (get_or bs j 0)
+
+    first : cond (nat_lt 0 (count (plus (c.edge + suc j)) moved)) y (renamed copies (tail M (mate (get_or bs j 0)))) ≡ renamed copies' (tail M (mate (get_or bs j 0)))
+    first =
+        ap (λ b. cond b y (renamed copies (tail M (mate (get_or bs j 0)))))
+        (moves (plus (c.edge + suc j)) (out_half j below) (inl (raised.out_side M above s c bs w i sound j below)) ∙ ap (λ q. nat_eq q x) (raised.out_tail M above s c bs w i sound j below))
+        ∙ turned (tail M (mate (get_or bs j 0)))
+
+    second : cond (nat_lt 0 (count (minus (c.edge + suc j)) moved)) y (renamed copies (tail M (get_or bs j 0))) ≡ renamed copies' (tail M (get_or bs j 0))
+    second =
+        ap (λ b. cond b y (renamed copies (tail M (get_or bs j 0)))) (elim (eqb_tells j i) [
+          | inl e ↦
+              moves (minus (c.edge + suc j)) (subst (λ q. HasHalf N (minus (c.edge + suc q))) (sym e.1) (sides.g_there M above s c bs w i lt sound)) (inr (ap (λ q. minus (c.edge + suc q)) e.1))
+              ∙ ap (λ q. nat_eq q x) (raised.back_tail M above s c bs w i sound j below)
+          | inr e ↦
+              stays (minus (c.edge + suc j)) (raised.strip_side M above s c bs w i sound j (minus (c.edge + suc j)) below (raised.back_in M above s c bs w i sound j))
+              (other_edge (minus (c.edge + suc j)) (c.edge + suc j) (minus_row (c.edge + suc j)).0 (λ q. e.1 (omega arith)))
+              ∙ sym (apart (renamed copies (tail M (get_or bs j 0))) x (λ q. e.1 (sides.back_start M above s c bs w i lt sound j below (raised.back_tail M above s c bs w i sound j below ∙ q))))
+        ])
+        ∙ turned (tail M (get_or bs j 0)) where
+          apart : (a b : ℕ) → a ≢ b → nat_eq a b ≡ false
+          apart a b ne = grind (arith, nat_tests)
+
+  -- the risers that stand
+  riser_row : (j : ℕ) → j < i → with_tails moved y (c.edge + m + suc j) (riser_edge M c bs j) ≡ riser_edge M c bs j
+  riser_row j less = λ n. record { plus_tail = ap (λ b. cond b y (tail M (get_or bs j 0))) rise_stays n; minus_tail = ap (λ b. cond b y (c.vertex + suc j)) fall_stays n } where
+    other : (h : ℕ) → edge_of h ≡ copy_riser c bs j → h ≢ g
+    other h is = other_edge h (copy_riser c bs j) is (λ e. omega arith)
+
+    rise_stays : nat_lt 0 (count (plus (copy_riser c bs j)) moved) ≡ false
+    rise_stays = stays (plus (copy_riser c bs j)) (raised.strip_side M above s c bs w i sound j (plus (copy_riser c bs j)) (omega arith) (raised.rise_in M above s c bs w i sound j less)) (other (plus (copy_riser c bs j)) (plus_row (copy_riser c bs j)).0)
+
+    at : next_place m (place_before m j) ≡ j
+    at = next-before m j (omega arith)
+
+    fall_stays : nat_lt 0 (count (minus (copy_riser c bs j)) moved) ≡ false
+    fall_stays = stays (minus (copy_riser c bs j))
+        (raised.strip_side M above s c bs w i sound (place_before m j) (minus (copy_riser c bs j)) (before_below m j (omega arith))
+        (subst (λ q. IsIn (minus (copy_riser c bs q)) (raised_items c bs i (place_before m j))) at (raised.fall_in M above s c bs w i sound (place_before m j) (subst (λ q. q < i) (sym at) less))))
+        (other (minus (copy_riser c bs j)) (minus_row (copy_riser c bs j)).0)
+
+  pub edges_next : table.put (table.map_rows (with_tails moved y) N.edges) (edge_of (plus u)) (edge_row (plus u) (tail N g) y) ≡ (copies_raised M above s c bs (suc i)).edges
+  unfolding copies_raised
+  edges_next =
+      let turn : ℕ → EdgeRow → EdgeRow = with_tails moved y in
+      let base : Table EdgeRow = table.map_rows (opened_row M above mates copies) M.edges in
+      let base' : Table EdgeRow = table.map_rows (opened_row M above mates copies') M.edges in
+      let inner : Table EdgeRow = with_rows base c.edge (raised_edge M bs copies) m in
+      (λ n. table.put (table.map_rows turn (raised.raised_edges M above s c bs w i sound n)) (edge_plus u n) ((edge_row_plus u (tail N g) y ∙ ap (λ v. record { plus_tail = v; minus_tail = y }) g_tail) n))
+      ∙ ap (λ t. table.put t u (riser_edge M c bs i)) (
+      rows_map turn inner (c.edge + m) (riser_edge M c bs) i
+      ∙ rows_same (table.map_rows turn inner) (c.edge + m) (λ j. turn (c.edge + m + suc j) (riser_edge M c bs j)) (riser_edge M c bs) i riser_row
+      ∙ ap (λ t. with_rows t (c.edge + m) (riser_edge M c bs) i) (
+      rows_map turn base c.edge (raised_edge M bs copies) m
+      ∙ rows_same (table.map_rows turn base) c.edge (λ j. turn (c.edge + suc j) (raised_edge M bs copies j)) (raised_edge M bs copies') m out_row
+      ∙ ap (λ t. with_rows t c.edge (raised_edge M bs copies') m)
+      (map_twice turn (opened_row M above mates copies) M.edges ∙ map_alike (λ e row. turn e (opened_row M above mates copies e row)) (opened_row M above mates copies') M.edges old_row)
+      )
+      )
+
+  -- ---- one copy more is raised
 
   -- ---- the operator is accepted
 
@@ -81,7 +249,7 @@ module _ (M : Model) (above : List ℕ) (s : ℕ) (c : Taken) (bs : List ℕ) (w
 
   mev_is : mev_at N g k (plus u) y (point_of M x) ≡ copies_raised M above s c bs (suc i)
   unfolding mev_at
-  mev_is = λ n. record { solids = solids_stay n; faces = faces_stay n; loops = loops_next M above s c bs w i lt sound n; edges = edges_next M above s c bs w i lt sound n; vertices = vertices_next n }
+  mev_is = λ n. record { solids = solids_stay n; faces = faces_stay n; loops = loops_next M above s c bs w i lt sound n; edges = edges_next n; vertices = vertices_next n }
 
   pub copy_is : effect N (raise_copy M c bs i) ≡ copies_raised M above s c bs (suc i)
   unfolding effect

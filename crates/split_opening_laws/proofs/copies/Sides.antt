@@ -23,8 +23,7 @@ use Rattle.split_opening_laws.proofs.strips.Cycle as on
 use Rattle.split_opening_laws.proofs.strips.Cycle.{next_below, before_below, next-before, next_once}
 use Rattle.split_opening_laws.proofs.strips.Copied as copy
 use Rattle.split_opening_laws.proofs.copies.Raised as raised
-use Rattle.split_opening_laws.proofs.copies.Raised.{not_less}
-use Rattle.split_opening_laws.proofs.copies.Arc.{Splits}
+use Rattle.split_opening_laws.proofs.copies.Raised.{not_less, Splits}
 use Rattle.euler_laws.proofs.shared.KnownLoop.{half_is, cycle_is, apart_xs}
 
 module _ (M : Model) (above : List ℕ) (s : ℕ) (c : Taken) (bs : List ℕ) (w : CanBeOpened M above s c bs) (i : ℕ) (lt : i < length bs) (sound : Sound (copies_raised M above s c bs i)) where

@@ -21,11 +21,9 @@ use Rattle.split_opening_laws.specs.cycles.Permuting.{Permutes}
 use Rattle.split_opening_laws.specs.cycles.SectionCycles.{AreOf, IsUnbranched, IsSectionCycle, AreSectionCycles, AreApartCycles}
 use Rattle.split_opening_laws.proofs.cycles.Meets.{known_by}
 use Rattle.split_opening_laws.proofs.cycles.RisingLists.{filter_rises}
-use Rattle.split_opening_laws.proofs.cycles.BelowHalves.{halves_rise, halves_apart, halves_are}
-use Rattle.split_opening_laws.proofs.cycles.Ends.{half_there, is_half}
+use Rattle.split_opening_laws.proofs.cycles.BelowHalves.{halves_rise, halves_apart, halves_are, half_there, is_half}
 use Rattle.split_opening_laws.proofs.cycles.NextBelow.{starts_apart, finishes_apart, next_starts, permutes}
-use Rattle.split_opening_laws.proofs.cycles.Orbits.{around, around_is, around_ring, around_apart, around_within}
-use Rattle.split_opening_laws.proofs.cycles.Covers.{leaders, leader_in, leader_least, covers}
+use Rattle.split_opening_laws.proofs.cycles.Orbits.{around, around_is, around_ring, around_apart, around_within, leaders, leader_in, leader_least, covers}
 
 -- ---- rings read by place
 

@@ -18,8 +18,7 @@ use Rattle.shapes.specs.split.Section.{below_halves, section_ends, next_below}
 use Rattle.split_opening_laws.specs.cycles.Permuting.{Permutes}
 use Rattle.split_opening_laws.specs.cycles.SectionCycles.{AreOf, IsUnbranched}
 use Rattle.split_opening_laws.proofs.cycles.Meets.{known_by}
-use Rattle.split_opening_laws.proofs.cycles.BelowHalves.{halves_apart}
-use Rattle.split_opening_laws.proofs.cycles.Ends.{half_there, starts_are_ends}
+use Rattle.split_opening_laws.proofs.cycles.BelowHalves.{halves_apart, half_there, starts_are_ends}
 
 -- where a number of the list passes, the first one that does is found
 first_found : (p : ℕ → Bool) (ns : List ℕ) (n : ℕ) → IsIn n ns → p n ≡ true → IsIn (unwrap_or (first_such p ns) 0) ns × (p (unwrap_or (first_such p ns) 0) ≡ true)

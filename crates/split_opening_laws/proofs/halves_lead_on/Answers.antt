@@ -1,4 +1,4 @@
-use Rattle.split_opening_laws.proofs.cycles.Ends.{starts_are_ends}
+use Rattle.split_opening_laws.proofs.cycles.BelowHalves.{starts_are_ends}
 use Rattle.split_opening_laws.proofs.cycles.NextBelow.{one_start, next_starts, permutes}
 use Rattle.split_opening_laws.proofs.halves_lead_on.Goals as goal
 

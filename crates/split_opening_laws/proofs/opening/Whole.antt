@@ -18,8 +18,7 @@ use Rattle.split_opening_laws.proofs.copies.Raising.{copies_accepted, copies_are
 use Rattle.split_opening_laws.specs.caps.CapOps.{cap_ops}
 use Rattle.split_opening_laws.proofs.caps.Whole.{caps_accepted, caps_made}
 use Rattle.split_opening_laws.specs.opening.OpeningOps.{opening_ops}
-use Rattle.split_opening_laws.proofs.opening.Strips.{raised_strips}
-use Rattle.split_opening_laws.proofs.opening.Opened.{capped_is_open}
+use Rattle.split_opening_laws.proofs.opening.Opened.{raised_strips, capped_is_open}
 
 -- the operators are accepted in turn and make N of M
 abbrev Leads : Model → Model → List Op → Type 0

@@ -1,4 +1,4 @@
-use Rattle.split_opening_laws.proofs.sections.CyclesStay.{cycles_stay}
+use Rattle.split_opening_laws.proofs.sections.StillBetween.{cycles_stay}
 use Rattle.split_opening_laws.proofs.sections.StillFree.{still_free}
 use Rattle.split_opening_laws.proofs.other_cycles_stay.Goals as goal
 

@@ -1,28 +1,42 @@
 -- What the tables say once a solid is opened along a cycle.
-use Rattle.std.proofs.Common.{◌≡◌, ℕ, ◌+◌, ◌≤◌, ◌<◌, Bool, true, false, cond, not, ◌&&◌, List, length, map, reverse, Option, Some, None, is_some, unwrap_or, refl, sym, ap, subst, ◌∙◌, arith, true≢false, ◌⊎◌, inl, inr}
 use Rattle.std.specs.Option.{option_map}
-use Rattle.euler_operators.specs.Items.{count, IsIn}
+use Rattle.std.proofs.Common.{◌≡◌, ℕ, ◌+◌, ◌≤◌, ◌<◌, Bool, true, false, cond, not, ◌&&◌, List, length, map, reverse, Option, Some, None, is_some, unwrap_or, refl, sym, ap, subst, ◌∙◌, arith, true≢false, ◌⊎◌, inl, inr, [], ◌∷◌}
+use Rattle.std.proofs.lemmas.List.{length-map}
+use Rattle.euler_operators.specs.Items.{count, IsIn, IsApart}
 use Rattle.euler_operators.specs.Rings.{canonical}
-use Rattle.euler_operators.proofs.Rotations.{count-canonical}
-use Rattle.euler_operators.proofs.Maps.{from_map, count-reverse}
 use Rattle.euler_operators.specs.HalfEdge.{mate, edge_of, is_first, plus, minus}
 use Rattle.euler_operators.specs.Table as table
 use Rattle.euler_operators.specs.Table.{get-map_rows}
 use Rattle.euler_operators.specs.Model.{Model, LoopContent, LoopRow, FaceRow, EdgeRow, lone, cycle, no_face, holds, items_of, tail, tail_in, content, cycle_of, loop_of, face_of, solid_of}
 use Rattle.euler_operators.specs.Sound.{Sound, Has, HasHalf}
-use Rattle.euler_operators.proofs.Halves.{plus_row, minus_row}
-use Rattle.euler_operators.proofs.Models.{holds_in, in-holds, face_row, content_row, tail_row, cycle_there, row_of}
-use Rattle.euler_operators.proofs.Tables.{first_where_is, in_use_within, row_some, get-put_other}
-use Rattle.euler_operators.proofs.Members.{IsIn-map}
 use Rattle.euler_operators.specs.Conditions.{face_at, lists}
+use Rattle.euler_operators.proofs.Rotations.{count-canonical}
+use Rattle.euler_operators.proofs.Maps.{from_map, count-reverse, IsApart-map}
+use Rattle.euler_operators.proofs.Halves.{plus_row, minus_row, mate-mate}
+use Rattle.euler_operators.proofs.Models.{holds_in, in-holds, face_row, content_row, tail_row, cycle_there, row_of}
+use Rattle.euler_operators.proofs.Tables.{first_where_is, in_use_within, row_some, get-put_other, get-put_here}
+use Rattle.euler_operators.proofs.Members.{IsIn-map}
 use Rattle.euler_laws.proofs.shared.Arcs.{halves_of_edge}
-use Rattle.shapes.proofs.fresh.Rows.{get-put_cases}
 use Rattle.shapes.specs.Fresh.{Taken, numbers_after}
 use Rattle.shapes.specs.Rewriting.{rewritten_row, renamed}
 use Rattle.shapes.specs.split.Opening.{opened_tail, opened_row, with_rim, with_copies, both_lists, opened_along}
+use Rattle.shapes.proofs.fresh.Rows.{get-put_cases}
 use Rattle.split_opening_laws.specs.Numbers.{AreFree}
-use Rattle.split_opening_laws.proofs.sections.Rims.{other_number, rim_below, rim_cases, rim_numbers}
-use Rattle.split_opening_laws.proofs.sections.Pairs.{renamed_one, renamed_not, in_numbers, numbers_in}
+use Rattle.split_opening_laws.proofs.sections.Pairs.{other_number, rim_below, rim_cases, rim_numbers, renamed_one, renamed_not, in_numbers, numbers_in, renamed_onto}
+use Rattle.split_opening_laws.proofs.strips.Rows.{length-numbers_after}
+
+-- ---- in which faces the half-edges of a section cycle and of its copy lie, once a solid is opened along it
+
+some_length : (x : ℕ) (xs : List ℕ) → IsIn x xs → 1 ≤ length xs
+some_length x [] i = absurd (omega arith)
+some_length x (y ∷ ys) i = omega arith
+
+mates_apart : (bs : List ℕ) → IsApart bs → IsApart (map mate bs)
+mates_apart bs d = IsApart-map mate bs (λ x i y j e. sym (mate-mate x) ∙ ap mate e ∙ mate-mate y) d
+
+-- a half-edge that is found in a loop lies in its face
+found_in : (N : Model) → Sound N → (h l : ℕ) (row : LoopRow) → table.get N.loops l ≡ Some row → holds h row.content ≡ true → face_at N h ≡ row.face
+found_in N sound h l row at is = ap (face_of N) (sound.one_loop h l (ap (holds h) (content_row N l row at) ∙ is)) ∙ face_row N l row at
 
 module _ (M : Model) (above : List ℕ) (s : ℕ) (c : Taken) (bs : List ℕ) where
   abbrev m : ℕ
@@ -218,3 +232,36 @@ module _ (M : Model) (above : List ℕ) (s : ℕ) (c : Taken) (bs : List ℕ) wh
         mapped : (o : Option EdgeRow) → is_some (option_map (opened_row M above mates copies (edge_of h)) o) ≡ is_some o
         mapped None = refl
         mapped (Some x) = refl
+
+  abbrev N : Model
+  N = opened_along M above s c bs
+
+  -- the cap above is a face of the solid
+  pub upper_row : table.get N.faces (c.face + length bs + 1) ≡ Some (record { solid = s; outer = c.loop + length bs + 1 })
+  upper_row = ap (λ t. table.get t (c.face + m + 1)) faces_are ∙ get-put_here _ (c.face + m + 1) _
+
+  module _ (then_sound : Sound (opened_along M above s c bs)) where
+    -- the mates lie in the cap below
+    pub mate_face : (h : ℕ) → IsIn h (map mate bs) → face_at N h ≡ c.face + 1
+    mate_face h i = found_in N then_sound h (c.loop + 1) _
+        (ap (λ t. table.get t (c.loop + 1)) loops_are ∙ get-put_other _ (c.loop + m + 1) _ (c.loop + 1) (λ e. absurd (omega (arith, e, some_length h (map mate bs) i, length-map bs mate))) ∙ get-put_here _ (c.loop + 1) _)
+        (in-holds h (cycle (canonical (reverse mates))) (omega (arith, i, count-canonical h (reverse mates), count-reverse h mates)))
+
+    -- the one half of an edge round the cap above lies in that cap
+    pub minus_face : (k : ℕ) → IsIn k (numbers_after c.edge (length bs)) → face_at N (minus k) ≡ c.face + length bs + 1
+    minus_face k i = found_in N then_sound (minus k) (c.loop + m + 1) _
+        (ap (λ t. table.get t (c.loop + m + 1)) loops_are ∙ get-put_here _ (c.loop + m + 1) _)
+        (in-holds (minus k) (cycle (map minus rim)) (IsIn-map minus k rim i))
+
+    -- and the other half stands in place of a mate
+    pub plus_face : Sound M → AreFree M c → IsApart bs → ((b : ℕ) → IsIn b (map mate bs) → HasHalf M b) → (k : ℕ) → IsIn k (numbers_after c.edge (length bs)) → (a : ℕ) × IsIn a (map mate bs) × (face_at N (plus k) ≡ face_at M a)
+    plus_face sound free d there k i =
+        let r = renamed_onto mates (map plus rim) (mates_apart bs d) (length-map bs mate ∙ sym (length-map rim plus ∙ length-numbers_after c.edge m)) (plus k) (IsIn-map plus k rim i) in
+        let t : HasHalf M r.0 = there r.0 r.1 in
+        let swap : ℕ → ℕ = renamed (both_lists mates (map plus rim)) in
+        let j : IsIn (plus k) (map swap (cycle_of M r.0)) = subst (λ x. IsIn x (map swap (cycle_of M r.0))) r.2 (IsIn-map swap r.0 (cycle_of M r.0) (cycle_there M sound r.0 t)) in (
+          r.0,
+          r.1,
+          found_in N then_sound (plus k) (loop_of M r.0) _ (loop_row sound free (loop_of M r.0) _ (row_of M sound r.0 t))
+              (in-holds (plus k) (cycle (canonical (map swap (cycle_of M r.0)))) (omega (arith, j, count-canonical (plus k) (map swap (cycle_of M r.0))))),
+        )

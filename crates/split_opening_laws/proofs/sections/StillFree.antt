@@ -15,8 +15,7 @@ use Rattle.shapes.specs.Fresh.{Taken, numbers_after}
 use Rattle.shapes.specs.Rewriting.{rewritten_row, renamed}
 use Rattle.shapes.specs.split.Opening.{opened_row, both_lists, opened_along, Opening, next_opened}
 use Rattle.split_opening_laws.specs.Numbers.{AreFree}
-use Rattle.split_opening_laws.proofs.sections.Pairs.{in_numbers}
-use Rattle.split_opening_laws.proofs.sections.Rims.{rim_above}
+use Rattle.split_opening_laws.proofs.sections.Pairs.{in_numbers, rim_above}
 use Rattle.split_opening_laws.proofs.sections.OpenedRows.{faces_are, loops_are, edges_are, vertices_are}
 
 past : (q n k : ℕ) → n < q → k ≤ n → q ≢ k

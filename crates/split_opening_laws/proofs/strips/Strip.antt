@@ -31,7 +31,6 @@ use Rattle.split_opening_laws.specs.strips.StripOps.{cut_strip}
 use Rattle.split_opening_laws.specs.strips.Opened.{CanBeOpened}
 use Rattle.split_opening_laws.proofs.strips.Rows.{rows_low, rows_high, rows_same, rows_map}
 use Rattle.split_opening_laws.proofs.strips.Cycle as on
-use Rattle.split_opening_laws.proofs.strips.Places as places
 
 -- an item of a ring of others, cut before the next one
 cut_one : (xs : List ℕ) (a : ℕ) → IsApart xs → IsIn a xs → successor xs a ≢ a → (upto a (successor xs a) xs ≡ a ∷ []) × (onward a (successor xs a) xs ≡ rest a xs)
@@ -152,10 +151,10 @@ module _ (M : Model) (above : List ℕ) (s : ℕ) (c : Taken) (bs : List ℕ) (w
     new = renamed (put_out c bs (suc i))
 
     kept : old a ≡ a
-    kept = places.out_other M above s c bs w i a (λ j less below same. let z = on.mates_differ M above s c bs w j i below lt same in omega (arith, z, less))
+    kept = on.out_other M above s c bs w i a (λ j less below same. let z = on.mates_differ M above s c bs w j i below lt same in omega (arith, z, less))
 
     place : (loop_of N a ≡ loop_of M a) × (face_at N a ≡ face_at M a)
-    place = subst (λ x. (loop_of N x ≡ loop_of M a) × (face_at N x ≡ face_at M a)) kept (places.old_place M above s c bs w N sound i i (strip_row c bs) (cut_loops i) a a_old)
+    place = subst (λ x. (loop_of N x ≡ loop_of M a) × (face_at N x ≡ face_at M a)) kept (on.old_place M above s c bs w N sound i i (strip_row c bs) (cut_loops i) a a_old)
 
     in_xs : IsIn a xs
     in_xs = cycle_there N sound a a_there
@@ -174,8 +173,8 @@ module _ (M : Model) (above : List ℕ) (s : ℕ) (c : Taken) (bs : List ℕ) (w
     -- the row of a loop that was there
     row_next : (q : ℕ) (row : LoopRow) → table.get M.loops q ≡ Some row → where_held a turn q (rewritten_row (map old) q row) ≡ rewritten_row (map new) q row
     row_next q row at =
-        let here = places.old_loop M above s c bs w N sound i i (strip_row c bs) (cut_loops i) q row at in
-        let more : (u : ℕ) → new u ≡ cond (nat_eq (old u) a) (plus e) (old u) = λ u. places.out_next M above s c bs w i u lt in
+        let here = on.old_loop M above s c bs w N sound i i (strip_row c bs) (cut_loops i) q row at in
+        let more : (u : ℕ) → new u ≡ cond (nat_eq (old u) a) (plus e) (old u) = λ u. on.out_next M above s c bs w i u lt in
         elim (eqb_tells q (loop_of N a)) [
           | inl p ↦
               let is : rewritten_row (map old) q row ≡ record { face = face_at N a; content = cycle xs } = one_row (sym here ∙ ap (table.get N.loops) p.1 ∙ row_of N sound a a_there) in
@@ -194,8 +193,8 @@ module _ (M : Model) (above : List ℕ) (s : ℕ) (c : Taken) (bs : List ℕ) (w
     strip_stays : (j : ℕ) → j < i → where_held a turn (c.loop + suc j) (strip_row c bs j) ≡ strip_row c bs j
     strip_stays j less = where_held_none a turn (c.loop + suc j) (strip_row c bs j)
         (other_loop N sound a (c.loop + suc j) (strip_row c bs j)
-        (λ q. omega (arith, q, place.0, places.low_loop M above s c bs w N sound i i (strip_row c bs) (cut_loops i) (loop_of M a) (ap is_some (row_of M w.sound a a_old))))
-        (places.new_loop M above s c bs w N sound i i (strip_row c bs) (cut_loops i) j less))
+        (λ q. omega (arith, q, place.0, on.low_loop M above s c bs w N sound i i (strip_row c bs) (cut_loops i) (loop_of M a) (ap is_some (row_of M w.sound a a_old))))
+        (on.new_loop M above s c bs w N sound i i (strip_row c bs) (cut_loops i) j less))
 
     loops_next : (mef N a k (plus e) f l).loops ≡ (strips_cut M s c bs (suc i)).loops
     unfolding mef

@@ -1,5 +1,4 @@
-use Rattle.split_opening_laws.proofs.caps.Two.{two_strips}
-use Rattle.split_opening_laws.proofs.caps.Whole.{joins, caps_accepted, caps_made, capped_sound}
+use Rattle.split_opening_laws.proofs.caps.Whole.{two_strips, joins, caps_accepted, caps_made, capped_sound}
 use Rattle.split_opening_laws.proofs.strips_make_caps.Goals as goal
 
 pub returns : goal.returns
