@@ -1,12 +1,12 @@
--- The holes of a section closed once a solid is opened along it, and the upper faces that are left.
+-- A split from its first operator to its two solids: the holes of the section closed, and the upper faces that are left parted.
 use Rattle.std.specs.Prelude.{map, filter, fold}
-use Rattle.std.proofs.Common.{◌≡◌, ℕ, ◌+◌, ◌≤◌, ◌<◌, Bool, true, false, List, [], ◌∷◌, ◌++◌, length, is_some, unwrap_or, refl, sym, ap, ◌∙◌, subst, arith, None}
+use Rattle.std.proofs.Common.{◌≡◌, ℕ, ◌+◌, ◌≤◌, ◌<◌, Bool, true, false, List, [], ◌∷◌, ◌++◌, length, is_some, unwrap_or, refl, sym, ap, ◌∙◌, subst, arith, None, IsTrue}
 use Rattle.std.proofs.lemmas.Bool.{false_from_ne_true}
 use Rattle.euler_operators.specs.declared.Plane.{Plane}
 use Rattle.euler_operators.specs.Items.{count}
 use Rattle.euler_operators.specs.HalfEdge.{mate}
 use Rattle.euler_operators.specs.Table as table
-use Rattle.euler_operators.specs.Model.{Model, no_face, solid_of}
+use Rattle.euler_operators.specs.Model.{Model, no_face, solid_of, is_number}
 use Rattle.euler_operators.specs.Sound.{Has, HasHalf, Sound}
 use Rattle.euler_operators.specs.Conditions.{face_at, lists}
 use Rattle.euler_operators.specs.Effect.{part}
@@ -20,8 +20,8 @@ use Rattle.euler_laws.proofs.shared.Counted.{counted_once, none_counted}
 use Rattle.euler_laws.proofs.Runs.{effects_keep_sound}
 use Rattle.shapes.specs.split.Drawing.{Drawing, with_drawings}
 use Rattle.shapes.specs.split.Section.{below_halves, section_cycles, has_stray_hole}
-use Rattle.shapes.specs.split.Opening.{Caps, Opening, outer_caps, hole_closed, holes_closed, all_opened}
-use Rattle.shapes.specs.split.Split.{opened_at, upper_left, split_above, split_refusal, split_model}
+use Rattle.shapes.specs.split.Opening.{Caps, Opening, outer_caps, hole_closed, holes_closed}
+use Rattle.shapes.specs.split.Split.{opened_at, upper_left, split_above, split_refusal, split_model, split_drawn}
 use Rattle.shapes.specs.split.Sides.{faces_above}
 use Rattle.split_opening_laws.specs.sections.Capped.{HasCaps, cap_faces}
 use Rattle.split_opening_laws.specs.sections.InTurn.{upper_faces, CanBeOpenedInTurn}
@@ -29,7 +29,7 @@ use Rattle.split_opening_laws.proofs.sections.InTurn.{above_there, all_on, caps_
 use Rattle.split_drawing_laws.specs.pairs.Laws.{rewriting_ops}
 use Rattle.split_drawing_laws.proofs.pairs.Whole.{rewritings_accepted, rewritings_made}
 use Rattle.split_drawing_laws.proofs.drawings.Runs.{Leads, leads_on}
-use Rattle.split_laws.specs.SplitOps.{closing_ops, hole_ops, openings_ops, upper_ops, ops_above, split_ops}
+use Rattle.split_laws.specs.SplitOps.{closing_ops, hole_ops, openings_ops, upper_ops, ops_above, split_ops, later_ops}
 use Rattle.split_laws.specs.drawn.Kept.{HasFace}
 use Rattle.split_laws.proofs.Holes.{CanPart, AreLevel, CanClose, AreClosed, none_closed, all_close, can_close, holes_counted}
 use Rattle.split_laws.proofs.Left.{still_there, part_same, left_are, BothSides, part_leads}
@@ -147,87 +147,47 @@ module _ (d : Drawing) (above : List ℕ) (s : ℕ) (p : Plane)
   pub parted_alike : (t : ℕ) → part K s t (upper_left above ks) ≡ part K s t us
   parted_alike t = ap (part K s t) (sym faces_left) ∙ part_same K s t us
 
+  -- ---- the operators from the drawn model on, where it has a face of the solid on either side
+
+  module _ (first_above : HasFace d.model s above true) (first_below : HasFace d.model s above false) (t : ℕ) (t_free : table.get d.model.solids t ≡ None) (t_fits : IsTrue (is_number t)) where
+    sides : BothSides K s us
+    sides =
+        let o = old first_below.face first_below.there in
+        record {
+          upper = first_above.face;
+          upper_there = ap is_some (left_row first_above.face first_above.there) ∙ first_above.there;
+          upper_listed = listed-from_in first_above.face us (omega (arith, IsIn-from_listed first_above.face above first_above.is, count-append first_above.face above (map (λ k. k.upper) ks)));
+          lower = first_below.face;
+          lower_there = ap is_some (left_row first_below.face first_below.there) ∙ first_below.there;
+          lower_of = solid_left first_below.face first_below.there ∙ first_below.of_solid;
+          lower_unlisted = not_listed first_below.face us (omega (arith, none_counted first_below.face above first_below.is, o.no_cap, caps_counted first_below.face ks, count-append first_below.face above (map (λ k. k.upper) ks)));
+        }
+
+    t_left : table.get K.solids t ≡ None
+    t_left = ap (λ u. table.get u t) (closed.solids ∙ solids_still above s p begun cycles) ∙ t_free
+
+    parted : Leads K (part K s t (upper_left above ks)) (Part s t (upper_left above ks) ∷ [])
+    parted = subst (λ fs. Leads K (part K s t fs) (Part s t fs ∷ [])) faces_left (part_leads K s t us closed.part sides caps.upper_rise t_left t_fits)
+
+    pub drawn_leads : Leads d.model (split_drawn d above s p t) (later_ops d above s p t)
+    drawn_leads = leads_on D X.model (part K s t (upper_left above ks)) (openings_ops above s p begun cycles) (upper_ops X above s t) (openings_go above s p begun cycles opens)
+        (leads_on X.model K (part K s t (upper_left above ks)) (hole_ops ks) (Part s t (upper_left above ks) ∷ []) closed.leads parted)
+
 -- ---- a split from its first operator to its two solids
 
--- ---- all openings made
-
 module _ (M : Model) (s : ℕ) (p : Plane) (t : ℕ) (sound : Sound M) (accepted : split_refusal M s p t ≡ None) where
-  abbrev D : Model
-  D = (with_drawings M s p).model
+  abbrev d : Drawing
+  d = with_drawings M s p
 
-  abbrev above : List ℕ
-  above = faces_above (with_drawings M s p).model p s
+  later : Leads d.model (split_above d s p t) (ops_above d s p t)
+  later = drawn_leads d (faces_above d.model p s) s p (can_open_all M s p t sound accepted) (no_caps M s p t sound accepted) (no_stray M s p t sound accepted)
+      (some_above M s p t sound accepted) (some_below M s p t sound accepted) t (t_free M s p t sound accepted) (t_fits M s p t sound accepted)
 
-  abbrev cycles : List (List ℕ)
-  cycles = section_cycles (with_drawings M s p).model (below_halves (with_drawings M s p).model (faces_above (with_drawings M s p).model p s) s)
-
-  abbrev begun : Opening
-  begun = record { model = (with_drawings M s p).model; taken = (with_drawings M s p).taken; caps = [] }
-
-  abbrev X : Opening
-  X = all_opened p above s begun cycles
-
-  abbrev ks : List Caps
-  ks = X.caps
-
-  abbrev us : List ℕ
-  us = upper_faces above ks
-
-  abbrev K : Model
-  K = holes_closed X.model ks
-
-  caps : HasCaps above s X
-  caps = closing.caps (with_drawings M s p) above s p (can_open_all M s p t sound accepted) (no_caps M s p t sound accepted) (no_stray M s p t sound accepted)
-
-  old : (f : ℕ) → Has D.faces f → IsOld D X f
-  old = closing.old (with_drawings M s p) above s p (can_open_all M s p t sound accepted) (no_caps M s p t sound accepted) (no_stray M s p t sound accepted)
-
-  closed : AreClosed X.model K s us (hole_ops ks) (filter (λ k. k.hole) ks)
-  closed = closing.closed (with_drawings M s p) above s p (can_open_all M s p t sound accepted) (no_caps M s p t sound accepted) (no_stray M s p t sound accepted)
-
-  faces_left : still_there K us ≡ upper_left above ks
-  faces_left = closing.faces_left (with_drawings M s p) above s p (can_open_all M s p t sound accepted) (no_caps M s p t sound accepted) (no_stray M s p t sound accepted)
-
-  -- ---- a face on either side is left
-
-  left_row : (f : ℕ) → Has D.faces f → table.get K.faces f ≡ table.get D.faces f
-  left_row = closing.left_row (with_drawings M s p) above s p (can_open_all M s p t sound accepted) (no_caps M s p t sound accepted) (no_stray M s p t sound accepted)
-
-  solid_left : (f : ℕ) → Has D.faces f → solid_of K f ≡ solid_of D f
-  solid_left = closing.solid_left (with_drawings M s p) above s p (can_open_all M s p t sound accepted) (no_caps M s p t sound accepted) (no_stray M s p t sound accepted)
-
-  sides : BothSides K s us
-  sides =
-      let a : HasFace D s above true = some_above M s p t sound accepted in
-      let b : HasFace D s above false = some_below M s p t sound accepted in
-      let o = old b.face b.there in
-      record {
-        upper = a.face;
-        upper_there = ap is_some (left_row a.face a.there) ∙ a.there;
-        upper_listed = listed-from_in a.face us (omega (arith, IsIn-from_listed a.face above a.is, count-append a.face above (map (λ k. k.upper) ks)));
-        lower = b.face;
-        lower_there = ap is_some (left_row b.face b.there) ∙ b.there;
-        lower_of = solid_left b.face b.there ∙ b.of_solid;
-        lower_unlisted = not_listed b.face us (omega (arith, none_counted b.face above b.is, o.no_cap, caps_counted b.face ks, count-append b.face above (map (λ k. k.upper) ks)));
-      }
-
-  t_left : table.get K.solids t ≡ None
-  t_left = ap (λ u. table.get u t) (closed.solids ∙ solids_still above s p begun cycles) ∙ t_free M s p t sound accepted
-
-  parted : Leads K (part K s t (upper_left above ks)) (Part s t (upper_left above ks) ∷ [])
-  parted = subst (λ fs. Leads K (part K s t fs) (Part s t fs ∷ [])) faces_left (part_leads K s t us closed.part sides caps.upper_rise t_left (t_fits M s p t sound accepted))
-
-  -- ---- all operators
-
-  later : Leads D (split_above (with_drawings M s p) s p t) (ops_above (with_drawings M s p) s p t)
-  later = leads_on D X.model (part K s t (upper_left above ks)) (openings_ops above s p begun cycles) (upper_ops X above s t) (openings_go above s p begun cycles (can_open_all M s p t sound accepted))
-      (leads_on X.model K (part K s t (upper_left above ks)) (hole_ops ks) (Part s t (upper_left above ks) ∷ []) closed.leads parted)
-
-  first : Leads M D (rewriting_ops M s p)
+  first : Leads M d.model (rewriting_ops M s p)
   first = record { accepted = rewritings_accepted M s p t sound (begins M s p t sound accepted); made = rewritings_made M s p t sound (begins M s p t sound accepted) }
 
-  all : Leads M (split_above (with_drawings M s p) s p t) (rewriting_ops M s p ++ ops_above (with_drawings M s p) s p t)
-  all = leads_on M D (split_above (with_drawings M s p) s p t) (rewriting_ops M s p) (ops_above (with_drawings M s p) s p t) first later
+  all : Leads M (split_above d s p t) (rewriting_ops M s p ++ ops_above d s p t)
+  all = leads_on M d.model (split_above d s p t) (rewriting_ops M s p) (ops_above d s p t) first later
 
   -- no operator of a split is refused
   pub split_accepted : AreAccepted M (split_ops M s p t)

@@ -1,7 +1,7 @@
 -- The six volumes of a solid that is opened along a cycle on a plane, and those of the other solids.
 use Rattle.std.specs.Prelude.{map}
 use Rattle.std.specs.List.{list_all}
-use Rattle.std.proofs.Common.{◌≡◌, ◌≢◌, ℕ, ◌+◌, ℤ, pos, ◌+ℤ◌, neg_ℤ, Bool, true, not, nat_eq, List, ◌∷◌, length, None, is_some, refl, sym, ap, subst, ◌∙◌, arith, inl, inr, false, ◌&&◌, [], ◌++◌, true≢false, ◌⊎◌}
+use Rattle.std.proofs.Common.{◌≡◌, ◌≢◌, ℕ, ◌+◌, ℤ, pos, ◌+ℤ◌, neg_ℤ, Bool, true, not, nat_eq, List, [], ◌∷◌, length, None, is_some, refl, sym, ap, subst, ◌∙◌, arith, inl, inr, false, ◌&&◌, ◌++◌, true≢false, ◌⊎◌}
 use Rattle.std.proofs.lemmas.Bool.Decides.{eqb_tells}
 use Rattle.std.proofs.lemmas.Bool.{and_parts, ne_eqb, eq-eqb, eqb-true}
 use Rattle.std.proofs.lemmas.Int.{ints}
@@ -196,16 +196,16 @@ pub along_alike : (M : Model) (p : Plane) (f : ℕ) → direction p ≢ origin �
 along_alike M p f way a h i = told_alike M p (normal M f) (start M h) (anchor M f) way a.across (a.on_plane h (omega (arith, i, ap (λ c. count h (items_of c)) a.outer_is))) (anchor_along M p f a)
 
 module _ (M : Model) (above : List ℕ) (s : ℕ) (c : Taken) (bs : List ℕ) (p : Plane) (w : CanBeOpened M above s c bs) (on : is_plane_of M p (map (tail M) bs) ≡ true) (way : direction p ≢ origin) where
-  abbrev N : Model
-  N = opened_along M above s c bs
+  abbrev K : Model
+  K = opened_along M above s c bs
 
   abbrev new : ℕ → ℕ
   new = swap M above s c bs w
 
   -- each face is a cap or was there
-  face_kinds : (f : ℕ) → Has N.faces f → (f ≡ c.face + length bs + 1) ⊎ ((f ≡ c.face + 1) ⊎ Has M.faces f)
+  face_kinds : (f : ℕ) → Has K.faces f → (f ≡ c.face + length bs + 1) ⊎ ((f ≡ c.face + 1) ⊎ Has M.faces f)
   face_kinds f there =
-      let r = row_some (table.get N.faces f) there in
+      let r = row_some (table.get K.faces f) there in
       elim (get-put_cases _ (c.face + length bs + 1) _ f r.0 (sym (ap (λ t. table.get t f) (faces_are M above s c bs)) ∙ r.1)) [
         | inl q ↦ inl q.0
         | inr q ↦ elim (get-put_cases M.faces (c.face + 1) _ f r.0 q.1) [
@@ -214,12 +214,12 @@ module _ (M : Model) (above : List ℕ) (s : ℕ) (c : Taken) (bs : List ℕ) (p
         ]
       ]
 
-  pub alike_still : AllTellAlike M s → AllTellAlike N s
+  pub alike_still : AllTellAlike M s → AllTellAlike K s
   alike_still alike f there of = elim (face_kinds f there) [
-    | inl e ↦ subst (TellsAlike N) (sym e) (along_alike N p (c.face + length bs + 1) way (upper_along M above s c bs w p on))
+    | inl e ↦ subst (TellsAlike K) (sym e) (along_alike K p (c.face + length bs + 1) way (upper_along M above s c bs w p on))
     | inr k ↦ elim k [
-      | inl e ↦ subst (TellsAlike N) (sym e) (along_alike N p (c.face + 1) way (lower_along M above s c bs w p on))
-      | inr t ↦ kept.still_alike M N new (is_rewritten M above s c bs w) f t (alike f t (sym (kept.solid_is M N new (is_rewritten M above s c bs w) f t) ∙ of))
+      | inl e ↦ subst (TellsAlike K) (sym e) (along_alike K p (c.face + 1) way (lower_along M above s c bs w p on))
+      | inr t ↦ kept.still_alike M K new (is_rewritten M above s c bs w) f t (alike f t (sym (kept.solid_is M K new (is_rewritten M above s c bs w) f t) ∙ of))
     ]
   ]
 
@@ -228,18 +228,18 @@ module _ (M : Model) (above : List ℕ) (s : ℕ) (c : Taken) (bs : List ℕ) (p
   no_item (x ∷ xs) ne e = absurd (omega (arith, ap (count (new x)) e, count-canonical (new x) (map new (x ∷ xs)), IsIn_head (new x) (map new xs)))
 
   -- a cap still lies along the plane
-  pub along_still : (f : ℕ) → Has M.faces f → LiesAlong M p f → LiesAlong N p f
+  pub along_still : (f : ℕ) → Has M.faces f → LiesAlong M p f → LiesAlong K p f
   along_still f t a =
       let r = is_rewritten M above s c bs w in
-      let now : content N (outer N f) ≡ cycle (canonical (map new a.items)) = kept.outer_content M N new r f t ∙ ap (λ x. rewritten (map new) x) a.outer_is in record {
+      let now : content K (outer K f) ≡ cycle (canonical (map new a.items)) = kept.outer_content M K new r f t ∙ ap (λ x. rewritten (map new) x) a.outer_is in record {
         items = canonical (map new a.items);
         some_item = no_item a.items a.some_item;
         outer_is = now;
-        on_plane = λ h i. let q = kept.corner_from M N new r f t h (omega (arith, i, ap (λ x. count h (items_of x)) now)) in ap (is_on p) q.2 ∙ a.on_plane q.0 (omega (arith, q.1, ap (λ x. count q.0 (items_of x)) a.outer_is));
-        across = ap (cross (direction p)) (kept.normal_is M N new r f t) ∙ a.across;
+        on_plane = λ h i. let q = kept.corner_from M K new r f t h (omega (arith, i, ap (λ x. count h (items_of x)) now)) in ap (is_on p) q.2 ∙ a.on_plane q.0 (omega (arith, q.1, ap (λ x. count q.0 (items_of x)) a.outer_is));
+        across = ap (cross (direction p)) (kept.normal_is M K new r f t) ∙ a.across;
       }
 
-  pub all_along_still : (ks : List Caps) → ArePlain M s ks → AllLieAlong M p ks → AllLieAlong N p ks
+  pub all_along_still : (ks : List Caps) → ArePlain M s ks → AllLieAlong M p ks → AllLieAlong K p ks
   all_along_still [] plain a = tt
   all_along_still (k ∷ ks) plain a = (along_still k.lower plain.0.there a.0, along_still k.upper plain.1.there a.1, all_along_still ks plain.2 a.2)
 

@@ -23,17 +23,13 @@ use Rattle.shapes.specs.split.Sides.{reaches_above, reaches_below, straddles, fa
 use Rattle.shapes.proofs.walks.SolidFaces.{face_of_loop}
 use Rattle.split_opening_laws.proofs.cycles.Meets.{count_filter}
 use Rattle.split_drawing_laws.specs.face_sides.Lone.{NoLoopIsLone}
-use Rattle.split_drawing_laws.proofs.crossings.Premises.{loop_in_face, tail_in}
+use Rattle.split_drawing_laws.proofs.crossings.Premises.{tail_in_face}
 use Rattle.split_drawing_laws.proofs.pairs.LoopPlaces.{none_passes}
 use Rattle.split_drawing_laws.proofs.face_sides.Final.{TailIn, tail_in}
 use Rattle.split_drawing_laws.proofs.face_sides.Shared.{none_from}
 use Rattle.split_laws.specs.sides.Sided.{IsOnSide, AreSided, IsOfSolid}
 
 module _ (M : Model) (p : Plane) (s : ℕ) where
-  corner_of : (l h : ℕ) → Has M.loops l → IsIn h (items_of (content M l)) → IsIn (tail M h) (corners M (face_of M l))
-  unfolding corners
-  corner_of l h there i = tail_in M h l (loops_of M (face_of M l)) (loop_in_face M l there) i
-
   not_above : (f : ℕ) → face_is_above M p f ≡ false → reaches_above M p f ≡ false
   unfolding face_is_above
   not_above f e = first (reaches_above M p f) _ e where
@@ -55,7 +51,7 @@ module _ (M : Model) (p : Plane) (s : ℕ) where
     of = passes_listed _ M.faces (face_of M l) _ (face_there M (face_of M l) i.face_there) (eq-eqb (solid_of M (face_of M l)) s i.of_solid)
 
     corner : IsIn (tail M h) (corners M (face_of M l))
-    corner = corner_of l h i.loop_there i.item
+    corner = tail_in_face M h l i.loop_there i.item
 
     unlisted : (b : Bool) → lists (faces_above M p s) (face_of M l) ≡ b → face_is_above M p (face_of M l) ≡ false → b ≡ false
     unlisted true e q = absurd (true≢false (sym (filter_passes (face_is_above M p) (face_of M l) (faces_of M s) (IsIn-from_listed (face_of M l) (faces_above M p s) e)) ∙ q))
