@@ -1,47 +1,47 @@
 -- Edges cut and faces drawn within a solid: other solids stay as they were.
 use Rattle.std.specs.Prelude.{flat_map, fold}
 use Rattle.std.specs.Option.{option_map}
-use Rattle.std.proofs.Common.{◌≡◌, ◌≢◌, ℕ, ◌+◌, nat_eq, nat_lt, ◌&&◌, Bool, true, false, cond, not, List, [], ◌∷◌, length, Some, is_some, refl, sym, ap, subst, ◌∙◌, arith, inl, inr}
-use Rattle.std.proofs.lemmas.Bool.{and_parts, eqb-false, eqb-true, false_from_ne_true}
+use Rattle.std.proofs.Common.{◌≡◌, ◌≢◌, ℕ, ◌+◌, nat_eq, false, List, [], ◌∷◌, Some, is_some, refl, sym, ap, subst, ◌∙◌, arith, inl, inr}
+use Rattle.std.proofs.lemmas.Bool.{eqb-false, eqb-true, false_from_ne_true}
 use Rattle.euler_operators.specs.declared.Plane.{Plane}
 use Rattle.euler_operators.specs.Items.{count, IsIn}
 use Rattle.euler_operators.specs.Rings.{canonical}
 use Rattle.euler_operators.specs.HalfEdge.{edge_of, minus, plus}
 use Rattle.euler_operators.specs.Table as table
 use Rattle.euler_operators.specs.Table.{get-map_rows}
-use Rattle.euler_operators.specs.Model.{Model, LoopContent, LoopRow, content, cycle, face_of, faces_of, is_ring_of, items_of, lone, loop_of, outer, rings_of, solid_of, tail}
+use Rattle.euler_operators.specs.Model.{Model, LoopContent, LoopRow, content, cycle, face_of, faces_of, items_of, lone, solid_of, tail}
 use Rattle.euler_operators.specs.Sound.{Sound, Has, HasHalf}
-use Rattle.euler_operators.specs.Conditions.{face_at, has_rings, lists}
-use Rattle.euler_operators.specs.Effect.{edge_row}
+use Rattle.euler_operators.specs.Conditions.{face_at, lists}
+use Rattle.euler_operators.specs.Effect.{edge_row, ring_in}
 use Rattle.euler_operators.proofs.Halves.{mate_plus, plus_row}
 use Rattle.euler_operators.proofs.Lists.{IsIn_or_not}
 use Rattle.euler_operators.proofs.Members.{IsIn_rest, count-filter}
-use Rattle.euler_operators.proofs.Models.{face_row, in-holds, plus_there, same_solid, solid_row}
+use Rattle.euler_operators.proofs.Models.{in-holds, plus_there, same_solid, solid_row}
 use Rattle.euler_operators.proofs.Rotations.{IsIn_head}
 use Rattle.euler_laws.proofs.shared.Counted.{all_where_has}
 use Rattle.euler_laws.proofs.shared.Listed.{IsIn-from_listed}
 use Rattle.euler_laws.proofs.shared.Rows.{edge_there, loop_row}
-use Rattle.shapes.specs.Faces.{edges_of, vertices_on}
+use Rattle.euler_laws.proofs.shared.Fans.{half_face}
+use Rattle.shapes.specs.Faces.{edges_of}
 use Rattle.shapes.specs.Fresh.{Growing, growing}
 use Rattle.shapes.specs.Rewriting.{rewritten, rewritten_row}
-use Rattle.shapes.specs.split.Sides.{crosses, crossing_edges, some_above, straddles, straddling_faces}
+use Rattle.shapes.specs.split.Sides.{crosses, crossing_edges, straddles, straddling_faces}
 use Rattle.shapes.specs.split.Crossings.{all_cut, doubled, edge_cut, next_cut, with_crossings}
-use Rattle.shapes.specs.split.Drawing.{Drawing, FacePairs, all_drawn, all_joined, all_pairs, draw_next, drawn_between, face_drawn, faces_drawn, in_one_loop, join_next, joined_pair, loops_joined, next_drawn, ring_free, rings_above, straddling_pairs, stuck_at, undrawn, with_drawings, with_rings}
+use Rattle.shapes.specs.split.Drawing.{Drawing, FacePairs, all_pairs, drawn_between, face_drawn, faces_drawn, loops_joined, next_drawn, straddling_pairs, undrawn, with_drawings}
 use Rattle.split_drawing_laws.specs.crossings.Kept.{Kept}
 use Rattle.split_drawing_laws.specs.crossings.Laws.{CanBegin}
-use Rattle.split_drawing_laws.specs.drawings.DrawnIn.{JoinedIn, Stays}
-use Rattle.split_drawing_laws.specs.drawings.Pairs.{AllFit, Fits, pairs_in}
-use Rattle.split_drawing_laws.specs.drawings.Passing.{Drawable, Going, Joining, Ready}
+use Rattle.split_drawing_laws.specs.drawings.DrawnIn.{Stays, DrawnIn}
+use Rattle.split_drawing_laws.specs.drawings.Pairs.{Fits, pairs_in}
+use Rattle.split_drawing_laws.specs.drawings.Passing.{Drawable, Ready}
 use Rattle.split_drawing_laws.proofs.crossings.OneCut.{doubled_none}
 use Rattle.split_drawing_laws.proofs.crossings.Whole.{crossings_keep, crossings_sound, tails_stay}
-use Rattle.split_drawing_laws.proofs.drawings.Drawn.{CanJoin}
-use Rattle.split_drawing_laws.proofs.drawings.Faces.{begun_joining, face_goes, fitting_on, going, going_on, joins, last, newer_face}
-use Rattle.split_drawing_laws.proofs.drawings.Pairs.{can_back, can_on, pair_can}
-use Rattle.split_drawing_laws.proofs.drawings.Passes.{draw_next_one, draw_next_two, draw_one, edge_fits, edge_fits_now, edge_free, edge_open, face_fits, face_open, join_next_one, join_next_two, join_one, loop_fits, loop_open, room_here}
+use Rattle.split_drawing_laws.proofs.drawings.Drawn.{CanJoin, CanDraw}
+use Rattle.split_drawing_laws.proofs.drawings.Faces.{face_goes, between_keeps}
 use Rattle.split_drawing_laws.proofs.drawings.Whole.{drawable, drawable_on, next_is, ready}
+use Rattle.split_drawing_laws.proofs.drawings.Rings.{RingOf, Newer, moved_drawn}
 use Rattle.split_drawing_laws.proofs.pairs.Whole.{can_be_drawn}
 use Rattle.command_laws.proofs.Owners.{agree_none, agree_on, is_of, solid_of_edge, solid_of_half, solid_of_loop}
-use Rattle.split_frames.proofs.Steps.{Within, draw_within, face_in, half_in, join_within, own_edge, rings_within}
+use Rattle.split_frames.proofs.Steps.{Within, draw_within, face_in, half_in, join_within, own_edge, ring_within}
 
 pub within_on : (s : ℕ) (M N P : Model) → Within s M N → Within s N P → Within s M P
 within_on s M N P v w = agree_on M N P (is_of s) (is_of s) (is_of s) v w
@@ -134,85 +134,27 @@ module _ (M : Model) (s : ℕ) (p : Plane) (t : ℕ) (sound : Sound M) (begins :
     edges = λ h there out. edge_left h there (eqb-false (solid_of_half M h) s out);
   }
 
--- ---- loops of a face joined
+-- ---- one face drawn, and one after the other
 
-module _ (s : ℕ) (M : Model) (f : ℕ) (of : solid_of M f ≡ s) where
-  -- a half-edge of the face, in a model that agrees
-  of_half : (N : Model) (h : ℕ) → Within s M N → HasHalf M h → HasHalf N h → face_at M h ≡ f → solid_of_half N h ≡ s
-  of_half N h w there now at = half_in s M N w h there now (ap (solid_of M) at ∙ of)
+module _ (s : ℕ) (p : Plane) (f : ℕ) (qs : List (ℕ × ℕ)) (d : Drawing) (n : ℕ) (w : Ready p f qs d n) (of : solid_of d.model f ≡ s) where
+  abbrev B : Model
+  B = d.model
 
-  pair_within : (N : Model) (q : ℕ × ℕ) (e : ℕ) → JoinedIn M N f → Fits M f q → in_one_loop N q ≡ false →
-      (is_ring_of N (face_at N q.0) (loop_of N q.0) ≡ true → CanJoin N q.1 q.0 e) → (is_ring_of N (face_at N q.0) (loop_of N q.0) ≡ false → CanJoin N q.0 q.1 e) → Within s M N → Within s M (joined_pair N q e)
-  pair_within N q e joined fits two back on w = go (is_ring_of N (face_at N q.0) (loop_of N q.0)) refl where
-    go : (b : Bool) → is_ring_of N (face_at N q.0) (loop_of N q.0) ≡ b → Within s M (cond b (loops_joined N q.1 q.0 e) (loops_joined N q.0 q.1 e))
-    go true is = within_on s M N (loops_joined N q.1 q.0 e) w (join_within N q.1 q.0 e s (back is) (of_half N q.1 w fits.k_there (joined.stays.halves q.1 fits.k_there) fits.k_face))
-    go false is = within_on s M N (loops_joined N q.0 q.1 e) w (join_within N q.0 q.1 e s (on is) (of_half N q.0 w fits.u_there (joined.stays.halves q.0 fits.u_there) fits.u_face))
+  join : (N : Model) (c k e : ℕ) → CanJoin N c k e → face_at N c ≡ f → Within s B N → Within s B (loops_joined N c k e)
+  join N c k e can at a = within_on s B N (loops_joined N c k e) a
+      (join_within N c k e s can (ap (solid_of N) at ∙ face_in s B N a f (subst (Has N.faces) at (half_face N can.sound c can.c_there)) of))
 
-  joins_within : (d : Drawing) (qs : List (ℕ × ℕ)) (n : ℕ) → AllFit M f qs → Joining M f d qs n → Within s M d.model → Within s M (fold join_next d qs).model
-  joins_within d [] n fit w a = a
-  joins_within d (q ∷ qs) n fit w a = joins_within (join_next d q) qs n fit.1 (join_one M f d q qs n fit.0 w).1 (go (in_one_loop d.model q) refl) where
-    go : (b : Bool) → in_one_loop d.model q ≡ b → Within s M (join_next d q).model
-    go true e = subst (λ x. Within s M x.model) (sym (join_next_one d q e)) a
-    go false e = subst (λ x. Within s M x.model) (sym (join_next_two d q e))
-        (pair_within d.model q (d.taken.edge + 1) w.joined fit.0 e
-        (can_back M d.model f q (d.taken.edge + 1) w.joined fit.0 e (edge_free M f d q qs n fit.0 w) (edge_fits_now M f d q qs n fit.0 w))
-        (can_on M d.model f q (d.taken.edge + 1) w.joined fit.0 e (edge_free M f d q qs n fit.0 w) (edge_fits_now M f d q qs n fit.0 w)) a)
+  draw : (N : Model) (q : ℕ × ℕ) (e g l : ℕ) → CanDraw N q.0 q.1 e g l → DrawnIn B N f → Fits B f q → Within s B N → Within s B (face_drawn N q.0 q.1 e g l)
+  draw N q e g l can drawn fits a = within_on s B N (face_drawn N q.0 q.1 e g l) a
+      (draw_within N q.0 q.1 e g l s can (half_in s B N a q.0 fits.u_there can.u_there (ap (solid_of B) fits.u_face ∙ of)))
 
-  -- ---- edges drawn in it
-
-  draws_within : Sound M → (d : Drawing) (qs : List (ℕ × ℕ)) (n : ℕ) → AllFit M f qs → Going M f d qs n → Within s M d.model → Within s M (fold (draw_next f) d qs).model
-  draws_within sound d [] n fit w a = a
-  draws_within sound d (q ∷ qs) n fit w a = draws_within sound (draw_next f d q) qs n fit.1 (draw_one M f sound d q qs n fit.0 w).1 (go (in_one_loop d.model q) refl) where
-    go : (b : Bool) → in_one_loop d.model q ≡ b → Within s M (draw_next f d q).model
-    go true e =
-        let room = room_here M f sound d q qs n fit.0 w in
-        let can = pair_can M d.model f q (d.taken.edge + 1) (d.taken.face + 1) (d.taken.loop + 1) sound w.drawn fit.0 e
-        (edge_open M f sound d q qs n fit.0 w) (face_open M f sound d q qs n fit.0 w) (loop_open M f sound d q qs n fit.0 w)
-        (edge_fits d.taken (length qs + n) room) (face_fits d.taken (length qs + n) room) (loop_fits d.taken (length qs + n) room) in
-        subst (λ x. Within s M x.model) (sym (draw_next_one f d q e))
-        (within_on s M d.model (face_drawn d.model q.0 q.1 (d.taken.edge + 1) (d.taken.face + 1) (d.taken.loop + 1)) a
-        (draw_within d.model q.0 q.1 (d.taken.edge + 1) (d.taken.face + 1) (d.taken.loop + 1) s can (of_half d.model q.0 a fit.0.u_there (w.drawn.stays.halves q.0 fit.0.u_there) fit.0.u_face)))
-    go false e = subst (λ x. Within s M x.model) (sym (draw_next_two f d q e)) a
-
-stuck_within : (s : ℕ) (M : Model) (g : ℕ) (b : Bool) (d : Drawing) → Within s M d.model → Within s M (cond b (stuck_at g d) d).model
-stuck_within s M g true d a = a
-stuck_within s M g false d a = a
-
--- ---- one face, and one after the other
-
-module _ (s : ℕ) (p : Plane) (f : ℕ) (qs : List (ℕ × ℕ)) (d : Drawing) (n : ℕ) (w : Ready p f qs d n) (of : solid_of d.model f ≡ s) (there : Has d.model.faces f) where
-  abbrev J : Drawing
-  J = all_joined qs d
-
-  abbrev stops : Bool
-  stops = nat_lt 1 (length qs) && has_rings J.model f
-
-  abbrev R : Drawing
-  R = ring_free f qs J
-
-  abbrev L : Drawing
-  L = all_drawn f R
-
-  drawn : Within s d.model L.model
-  drawn = draws_within s d.model f of w.sound R R.left n (fitting_on d.model f f stops J (joins p f qs d n w).state.pairs) (going_on d.model f n stops J (going p f qs d n w))
-      (stuck_within s d.model f stops J (joins_within s d.model f of (record d { left = [] }) qs n w.fit (begun_joining p f qs d n w) (agree_none d.model (is_of s) w.sound)))
-
-  face_now : solid_of L.model f ≡ s
-  face_now = face_in s d.model L.model drawn f ((last p f qs d n w).drawn.stays.faces f there) of
-
-  ring_of : (l : ℕ) → lists (rings_above L.model p f) l ≡ true → solid_of_loop L.model l ≡ s
-  ring_of l i =
-      let r = all_where_has (λ l row. nat_eq row.face f && not (nat_eq (outer L.model f) l)) L.model.loops l
-      (omega (arith, IsIn-from_listed l (rings_above L.model p f) i, count-filter (λ l. some_above L.model p (vertices_on L.model (content L.model l))) l (rings_of L.model f))) in
-      ap (solid_of L.model) (face_row L.model l r.0 r.1 ∙ eqb-true r.0.face f (and_parts (nat_eq r.0.face f) (not (nat_eq (outer L.model f) l)) r.2).0) ∙ face_now
-
-  shared : (b : Bool) → nat_eq (length qs) 1 ≡ b → let S = cond b (record L { model = with_rings L.model (rings_above L.model p f) L.taken.face }) L in Sound S.model → Within s d.model S.model
-  shared false e sound = drawn
-  shared true e sound = within_on s d.model L.model (with_rings L.model (rings_above L.model p f) L.taken.face) drawn
-      (rings_within L.model (rings_above L.model p f) L.taken.face s drawn.after sound ring_of (sym (newer_face p f qs d n w (eqb-true (length qs) 1 e)).solid ∙ face_now))
+  move : (N : Model) (l k : ℕ) → DrawnIn B N f → RingOf N f l → Newer B N f k → Within s B N → Within s B (ring_in N l k)
+  move N l k drawn ring newer a =
+      let now : solid_of N f ≡ s = face_in s B N a f (drawn.stays.faces f newer.old) of in
+      within_on s B N (ring_in N l k) a (ring_within N l k s drawn.sound (moved_drawn B N f l k drawn ring newer).sound ring.there (ap (solid_of N) ring.face ∙ now) (sym newer.solid ∙ now))
 
   pub face_within : Within s d.model (drawn_between p f qs d).model
-  face_within = shared (nat_eq (length qs) 1) refl (face_goes p f qs d n w).drawn.sound
+  face_within = between_keeps p f qs d n w (Within s d.model) join draw move (agree_none d.model (is_of s) w.sound)
 
 -- all these faces are there, and of the solid
 abbrev AreOf : ℕ → Model → List FacePairs → Type 0
@@ -229,7 +171,7 @@ faces_within s p d (q ∷ qs) n w a =
     let Y = next_drawn p d q in
     let now = ready p d q qs n w in
     let is = next_is p d q qs n w in
-    let one : Within s d.model Y.model = subst (λ x. Within s d.model x.model) (sym is) (face_within s p q.face q.pairs d (pairs_in qs + n) now a.0.1 a.0.0) in
+    let one : Within s d.model Y.model = subst (λ x. Within s d.model x.model) (sym is) (face_within s p q.face q.pairs d (pairs_in qs + n) now a.0.1) in
     let stays : Stays d.model Y.model = subst (λ x. Stays d.model x.model) (sym is) (face_goes p q.face q.pairs d (pairs_in qs + n) now).drawn.stays in
     within_on s d.model Y.model (fold (next_drawn p) Y qs).model one (faces_within s p Y qs n (drawable_on p d q qs n w) (still_of s d.model Y.model qs one stays a.1))
 

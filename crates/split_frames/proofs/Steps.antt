@@ -5,19 +5,20 @@ use Rattle.std.proofs.lemmas.Bool.Decides.{eqb_tells}
 use Rattle.std.proofs.lemmas.Bool.{eqb-false, false_from_ne_true}
 use Rattle.euler_operators.specs.HalfEdge.{edge_of, plus}
 use Rattle.euler_operators.specs.Table as table
-use Rattle.euler_operators.specs.Model.{Model, FaceRow, LoopRow, face_of, loop_of, outer, solid_of}
+use Rattle.euler_operators.specs.Model.{Model, FaceRow, LoopRow, face_of, loop_of, outer, solid_of, content}
 use Rattle.euler_operators.specs.Sound.{Sound, Has, HasHalf}
 use Rattle.euler_operators.specs.Conditions.{face_at, lists}
-use Rattle.euler_operators.specs.Effect.{faces_to_solid, kfmrh, loop_to_face, part}
+use Rattle.euler_operators.specs.Effect.{faces_to_solid, kfmrh, loop_to_face, part, ring_in}
+use Rattle.euler_operators.specs.Table.{Table}
 use Rattle.euler_operators.proofs.Halves.{plus_row, same_edge}
 use Rattle.euler_operators.proofs.Models.{face_row, loop_there, same_solid, solid_row}
 use Rattle.euler_operators.proofs.Tables.{get-put_other, get-remove_here, get-remove_other}
 use Rattle.euler_laws.proofs.faces.Kfmrh.{KillGoes, kill_face_l, kill_solid, sound-kfmrh}
-use Rattle.euler_laws.proofs.shared.Rows.{face_there, solid_either}
-use Rattle.shapes.specs.split.Drawing.{face_drawn, loops_joined, with_rings}
+use Rattle.euler_laws.proofs.shared.Rows.{face_there, solid_either, loop_row}
+use Rattle.shapes.specs.split.Drawing.{face_drawn, loops_joined}
 use Rattle.split_drawing_laws.proofs.drawings.Drawn.{CanDraw, CanJoin, draw_sound, face_drawn_else, face_drawn_new, join_sound, loops_joined_faces}
 use Rattle.split_drawing_laws.proofs.drawings.Stays.{edges_are, joined_edges, row_else, row_gone, row_joined, row_other}
-use Rattle.split_drawing_laws.proofs.face_sides.Beside.{given_else, given_face, given_has, never_free, new_loop_face, old_loop_face}
+use Rattle.split_drawing_laws.proofs.face_sides.Beside.{never_free, new_loop_face, old_loop_face}
 use Rattle.command_laws.proofs.Owners.{Agree, half_kept, is_either, is_of, neither, not_either, solid_of_edge, solid_of_half, solid_of_loop, turned}
 
 -- two models that agree but for one solid
@@ -99,20 +100,34 @@ module _ (N : Model) (c d e s : ℕ) (can : CanJoin N c d e) (of : solid_of_half
     edges = λ h there out. ap (λ t. table.get t (edge_of h)) (joined_edges N c d e can) ∙ get-put_other N.edges e _ (edge_of h) (λ z. never_free N.edges (edge_of h) there (ap (table.get N.edges) z ∙ can.edge_free));
   }
 
--- ---- rings given to another face
+-- ---- a ring given to another face
 
-module _ (N : Model) (ls : List ℕ) (k s : ℕ) (sound : Sound N) (after : Sound (with_rings N ls k)) (of : (l : ℕ) → lists ls l ≡ true → solid_of_loop N l ≡ s) (to : solid_of N k ≡ s) where
+-- another loop keeps its row
+loop_else : (t : Table LoopRow) (l k q : ℕ) → q ≢ l → table.get (table.map_rows (loop_to_face l k) t) q ≡ table.get t q
+loop_else t l k q ne = table.get-map_rows (loop_to_face l k) t q ∙ go (table.get t q) where
+  go : (o : Option LoopRow) → option_map (loop_to_face l k q) o ≡ o
+  go None = refl
+  go (Some row) = ap (λ b. Some (cond b (record row { face = k }) row)) (ne_eqb q l ne)
+
+module _ (N : Model) (l k s : ℕ) (sound : Sound N) (after : Sound (ring_in N l k)) (there : Has N.loops l) (of : solid_of_loop N l ≡ s) (to : solid_of N k ≡ s) where
   abbrev R : Model
-  R = with_rings N ls k
+  R = ring_in N l k
 
-  pub rings_within : Within s N (with_rings N ls k)
-  rings_within = record {
+  ring_now : solid_of_loop R l ≡ s
+  unfolding ring_in
+  ring_now = ap (solid_of R) (face_row R l _ (table.get-map_rows (loop_to_face l k) N.loops l ∙ ap (option_map (loop_to_face l k l)) (loop_row N l there)) ∙ face_either (nat_eq l l) (eq-eqb l l refl)) ∙ same_solid N R k refl ∙ to where
+    face_either : (b : Bool) → b ≡ true → (cond b (record { face = k; content = content N l }) (record { face = face_of N l; content = content N l })).face ≡ k
+    face_either b e = ap (λ b. (cond b (record { face = k; content = content N l }) (record { face = face_of N l; content = content N l })).face) e
+
+  pub ring_within : Within s N (ring_in N l k)
+  unfolding ring_in
+  ring_within = record {
     before = sound;
     after = after;
     faces = λ q there out. (refl, out);
     faces_back = λ q there out. (refl, out);
-    loops = λ q there out. given_else N ls k q (false_from_ne_true (lists ls q) (λ i. eqb-false (solid_of_loop N q) s out (of q i)));
-    loops_back = λ q there out. given_else N ls k q (false_from_ne_true (lists ls q) (λ i. eqb-false (solid_of_loop R q) s out (ap (solid_of R) (given_face N ls k q i (sym (given_has N ls k q) ∙ there)) ∙ same_solid N R k refl ∙ to)));
+    loops = λ q there out. loop_else N.loops l k q (λ z. eqb-false (solid_of_loop N q) s out (ap (solid_of_loop N) z ∙ of));
+    loops_back = λ q there out. loop_else N.loops l k q (λ z. eqb-false (solid_of_loop R q) s out (ap (solid_of_loop R) z ∙ ring_now));
     edges = λ h there out. refl;
   }
 
@@ -132,10 +147,7 @@ module _ (N : Model) (sound : Sound N) (f g s : ℕ) (goes : KillGoes N f g) (of
 
   killed_loop : (q : ℕ) → q ≢ outer N g → table.get K.loops q ≡ table.get N.loops q
   unfolding kfmrh
-  killed_loop q ne = table.get-map_rows (loop_to_face (outer N g) f) N.loops q ∙ go (table.get N.loops q) where
-    go : (o : Option LoopRow) → option_map (loop_to_face (outer N g) f q) o ≡ o
-    go None = refl
-    go (Some row) = ap (λ b. Some (cond b (record row { face = f }) row)) (ne_eqb q (outer N g) ne)
+  killed_loop q ne = loop_else N.loops (outer N g) f q ne
 
   killed_edges : K.edges ≡ N.edges
   unfolding kfmrh

@@ -20,7 +20,7 @@ use Rattle.split_drawing_laws.proofs.drawings.Pairs.{none_joined, joined_drawn, 
 use Rattle.split_drawing_laws.proofs.drawings.Passes.{join_next_one, stuck_now, draw_next_one, cut_off, edge_fits, face_fits, loop_fits, room_as}
 use Rattle.split_drawing_laws.proofs.drawings.Stays.{row_else, draw_stays}
 use Rattle.split_drawing_laws.specs.drawings.DrawnIn.{PairsHaveRoom}
-use Rattle.split_drawing_laws.proofs.loop_sides.SidesWhole.{draws_stuck}
+use Rattle.split_drawing_laws.proofs.loop_sides.SidesWhole.{draws_go_on}
 use Rattle.split_drawing_laws.proofs.half_sides.PlaceEnds.{AllUp}
 use Rattle.split_drawing_laws.proofs.face_sides.Beside.{Lone, Alone, Beside, ComesOf, nothing_beside, drawn_beside, never_free, given_has, given_else, given_face}
 use Rattle.split_drawing_laws.proofs.face_sides.Passing.{AllOld, Joined, joins_beside, Parting, draws_part}
@@ -189,7 +189,7 @@ module _ (B : Model) (side : ℕ → Bool) (p : Plane) (f : ℕ) (q r : ℕ × �
   not_stopped = go stops refl where
     go : (b : Bool) → stops ≡ b → stops ≡ false
     go false e = e
-    go true e = absurd (draws_stuck f (stuck_at f J) J.left (stuck_now f J some)
+    go true e = absurd ((draws_go_on f (stuck_at f J) J.left).stuck (stuck_now f J some)
         (sym (ap (λ b. (all_drawn f (cond b (stuck_at f J) J)).stuck) e) ∙ ap (λ x. x.stuck) (sym unshared) ∙ free))
 
   no_rings : has_rings J.model f ≡ false

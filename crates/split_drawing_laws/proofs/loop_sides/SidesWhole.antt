@@ -21,7 +21,7 @@ use Rattle.split_drawing_laws.specs.drawings.Passing.{Joining, Going, Ready, Dra
 use Rattle.split_drawing_laws.specs.drawings.Laws.{CanBeDrawn}
 use Rattle.split_drawing_laws.specs.loop_sides.Laws.{TakeSides}
 use Rattle.split_drawing_laws.proofs.drawings.Pairs.{can_back, can_on}
-use Rattle.split_drawing_laws.proofs.drawings.Passes.{edge_free, edge_fits_now, joins_keep, can_now, stuck_now, draws_keep, join_next_one, join_next_two, draw_next_one, draw_next_two}
+use Rattle.split_drawing_laws.proofs.drawings.Passes.{edge_free, edge_fits_now, joins_keep, can_now, stuck_now, draws_keep, cut_off}
 use Rattle.split_drawing_laws.proofs.loop_sides.Parting.{Opposed, parted_drawn, parted_joined, parted_moved, corners_on_one_side}
 use Rattle.split_drawing_laws.proofs.drawings.Rings.{rings_keep, rings_are, rings_apart}
 use Rattle.split_drawing_laws.proofs.drawings.Faces.{going_on, fitting_on, joins, going, last, newer_face, begun_joining}
@@ -188,47 +188,59 @@ module _ (B : Model) (p : Plane) (first : ℕ → Bool) (S : ℕ → Type 0) (ot
 
 -- ---- the sides of half-edges once all faces are drawn: each loop lies on one closed side
 
--- ---- a drawing that is stuck stays so
+-- ---- what a drawing keeps, whatever is drawn
 
-stuck_more : (f : ℕ) (d : Drawing) → d.stuck ≢ 0 → (stuck_at f d).stuck ≢ 0
-stuck_more f d is e = elim (eqb_tells d.stuck 0) [
-  | inl s ↦ is s.1
-  | inr s ↦ is (sym (ap (λ b. cond b f d.stuck) s.0) ∙ e)
-]
+-- D is d with something drawn: it takes no vertex, and where d is stuck D is
+pub record GoesOn (d D : Drawing) : Type 0 where
+  pub vertex : D.taken.vertex ≡ d.taken.vertex
+  pub stuck : d.stuck ≢ 0 → D.stuck ≢ 0
 
-joins_stuck : (d : Drawing) (qs : List (ℕ × ℕ)) → d.stuck ≢ 0 → (fold join_next d qs).stuck ≢ 0
-joins_stuck d [] is = is
-joins_stuck d (q ∷ qs) is = joins_stuck (join_next d q) qs (go (in_one_loop d.model q) refl) where
-  go : (b : Bool) → in_one_loop d.model q ≡ b → (join_next d q).stuck ≢ 0
-  go true e = subst (λ x. x.stuck ≢ 0) (sym (join_next_one d q e)) is
-  go false e = subst (λ x. x.stuck ≢ 0) (sym (join_next_two d q e)) is
+goes_through : (d D E : Drawing) → GoesOn d D → GoesOn D E → GoesOn d E
+goes_through d D E a b = record { vertex = b.vertex ∙ a.vertex; stuck = λ is. b.stuck (a.stuck is) }
 
-pub draws_stuck : (f : ℕ) (d : Drawing) (qs : List (ℕ × ℕ)) → d.stuck ≢ 0 → (fold (draw_next f) d qs).stuck ≢ 0
-draws_stuck f d [] is = is
-draws_stuck f d (q ∷ qs) is = draws_stuck f (draw_next f d q) qs (go (in_one_loop d.model q) refl) where
-  go : (b : Bool) → in_one_loop d.model q ≡ b → (draw_next f d q).stuck ≢ 0
-  go true e = subst (λ x. x.stuck ≢ 0) (sym (draw_next_one f d q e)) is
-  go false e = subst (λ x. x.stuck ≢ 0) (sym (draw_next_two f d q e)) (stuck_more f d is)
+goes_either : (b : Bool) (d D E : Drawing) → GoesOn d D → GoesOn d E → GoesOn d (cond b D E)
+goes_either true d D E x y = x
+goes_either false d D E x y = y
 
-face_stuck : (p : Plane) (f : ℕ) (qs : List (ℕ × ℕ)) (d : Drawing) → d.stuck ≢ 0 → (drawn_between p f qs d).stuck ≢ 0
-face_stuck p f qs d is = shared (nat_eq (length qs) 1) (all_drawn f (ring_free f qs (all_joined qs d)))
-    (draws_stuck f (ring_free f qs (all_joined qs d)) (ring_free f qs (all_joined qs d)).left
-    (freed (nat_lt 1 (length qs) && has_rings (all_joined qs d).model f) (all_joined qs d) (joins_stuck (record d { left = [] }) qs is))) where
-      freed : (b : Bool) (x : Drawing) → x.stuck ≢ 0 → (cond b (stuck_at f x) x).stuck ≢ 0
-      freed true x s = stuck_more f x s
-      freed false x s = s
+goes_all : {X : Type 0} (step : Drawing → X → Drawing) → ((d : Drawing) (x : X) → GoesOn d (step d x)) → (d : Drawing) (xs : List X) → GoesOn d (fold step d xs)
+goes_all step each d [] = record { vertex = refl; stuck = λ is. is }
+goes_all step each d (x ∷ xs) = goes_through d (step d x) (fold step (step d x) xs) (each d x) (goes_all step each (step d x) xs)
 
-      shared : (b : Bool) (x : Drawing) → x.stuck ≢ 0 → (cond b (record x { model = with_rings x.model (rings_above x.model p f) x.taken.face }) x).stuck ≢ 0
-      shared true x s = s
-      shared false x s = s
+goes_stuck : (f : ℕ) (d : Drawing) → GoesOn d (stuck_at f d)
+goes_stuck f d = record {
+  vertex = refl;
+  stuck = λ is e. elim (eqb_tells d.stuck 0) [ inl s ↦ is s.1 | inr s ↦ is (sym (ap (λ b. cond b f d.stuck) s.0) ∙ e) ];
+}
 
-faces_stuck : (p : Plane) (d : Drawing) (fs : List FacePairs) → d.stuck ≢ 0 → (fold (next_drawn p) d fs).stuck ≢ 0
+join_goes : (d : Drawing) (q : ℕ × ℕ) → GoesOn d (join_next d q)
+unfolding join_next
+join_goes d q = goes_either (in_one_loop d.model q) d (record d { left = d.left ++ q ∷ [] }) (record d { model = joined_pair d.model q (d.taken.edge + 1); taken = record d.taken { edge = d.taken.edge + 1 } })
+    (record { vertex = refl; stuck = λ is. is }) (record { vertex = refl; stuck = λ is. is })
+
+draw_goes : (f : ℕ) (d : Drawing) (q : ℕ × ℕ) → GoesOn d (draw_next f d q)
+unfolding draw_next
+draw_goes f d q = goes_either (in_one_loop d.model q) d (cut_off d q) (stuck_at f d) (record { vertex = refl; stuck = λ is. is }) (goes_stuck f d)
+
+pub draws_go_on : (f : ℕ) (d : Drawing) (qs : List (ℕ × ℕ)) → GoesOn d (fold (draw_next f) d qs)
+draws_go_on f d qs = goes_all (draw_next f) (draw_goes f) d qs
+
+face_goes_on : (p : Plane) (d : Drawing) (f : FacePairs) → GoesOn d (next_drawn p d f)
 unfolding next_drawn
-faces_stuck p d [] is = is
-faces_stuck p d (f ∷ fs) is = faces_stuck p (next_drawn p d f) fs (face_stuck p f.face f.pairs d is)
+face_goes_on p d f =
+    let J = all_joined f.pairs d in
+    let R = ring_free f.face f.pairs J in
+    let L = all_drawn f.face R in
+    let first = goes_all join_next join_goes (record d { left = [] }) f.pairs in
+    goes_through d J (next_drawn p d f) (record { vertex = first.vertex; stuck = first.stuck })
+    (goes_through J R (next_drawn p d f) (goes_either (nat_lt 1 (length f.pairs) && has_rings J.model f.face) J (stuck_at f.face J) J (goes_stuck f.face J) (record { vertex = refl; stuck = λ is. is }))
+    (goes_through R L (next_drawn p d f) (draws_go_on f.face R R.left)
+    (goes_either (nat_eq (length f.pairs) 1) L (record L { model = with_rings L.model (rings_above L.model p f.face) L.taken.face }) L (record { vertex = refl; stuck = λ is. is }) (record { vertex = refl; stuck = λ is. is }))))
+
+pub faces_go_on : (p : Plane) (d : Drawing) (fs : List FacePairs) → GoesOn d (fold (next_drawn p) d fs)
+faces_go_on p d fs = goes_all (next_drawn p) (face_goes_on p) d fs
 
 pub not_stuck : (p : Plane) (d : Drawing) (fs : List FacePairs) → (fold (next_drawn p) d fs).stuck ≡ 0 → d.stuck ≡ 0
-not_stuck p d fs free = elim (eqb_tells d.stuck 0) [ inl e ↦ e.1 | inr e ↦ absurd (faces_stuck p d fs e.1 free) ]
+not_stuck p d fs free = elim (eqb_tells d.stuck 0) [ inl e ↦ e.1 | inr e ↦ absurd ((faces_go_on p d fs).stuck e.1 free) ]
 
 -- ---- all faces
 

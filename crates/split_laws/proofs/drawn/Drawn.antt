@@ -1,6 +1,5 @@
 -- What the conditions of a split say once the faces are drawn: the solid can be opened along its section.
-use Rattle.std.proofs.Common.{◌≡◌, ℕ, ◌+◌, ◌*◌, ◌<◌, Bool, true, false, cond, nat_eq, nat_lt, ◌&&◌, List, [], ◌∷◌, ◌++◌, length, None, is_some, unwrap_or, IsTrue, refl, ap, ◌∙◌, subst, arith}
-use Rattle.std.specs.Prelude.{fold}
+use Rattle.std.proofs.Common.{◌≡◌, ℕ, ◌+◌, ◌*◌, ◌<◌, true, false, nat_eq, List, [], ◌++◌, length, None, is_some, unwrap_or, IsTrue, ap, ◌∙◌, subst, arith}
 use Rattle.std.proofs.lemmas.List.{append-nil}
 use Rattle.std.proofs.lemmas.Bool.{and_parts, not-true, eqb-true}
 use Rattle.std.specs.List.{list_any}
@@ -8,7 +7,7 @@ use Rattle.euler_operators.specs.declared.Plane.{Plane}
 use Rattle.euler_operators.specs.Table as table
 use Rattle.euler_operators.specs.Model.{Model, no_face, solid_of, is_number, faces_of}
 use Rattle.euler_operators.specs.Sound.{Sound, Has}
-use Rattle.euler_operators.specs.Conditions.{AllHold, lists, strictly_rises, has_rings}
+use Rattle.euler_operators.specs.Conditions.{AllHold, lists, strictly_rises}
 use Rattle.euler_operators.proofs.Members.{count-filter}
 use Rattle.euler_operators.proofs.Tables.{no_row}
 use Rattle.euler_laws.proofs.shared.Goes.{all_hold, none_refuses, all_hold-front, all_hold-back}
@@ -19,7 +18,7 @@ use Rattle.shapes.specs.Faces.{least_lone}
 use Rattle.shapes.specs.Fresh.{found, taken_in}
 use Rattle.shapes.specs.split.Sides.{reaches_above, reaches_below, face_is_above, faces_above}
 use Rattle.shapes.specs.split.Crossings.{with_crossings}
-use Rattle.shapes.specs.split.Drawing.{Drawing, stuck_at, in_one_loop, join_next, all_joined, ring_free, draw_next, all_drawn, rings_above, with_rings, drawn_between, FacePairs, next_drawn, faces_drawn, undrawn, straddling_pairs, with_drawings}
+use Rattle.shapes.specs.split.Drawing.{Drawing, undrawn, straddling_pairs, with_drawings}
 use Rattle.shapes.specs.split.Section.{below_halves, section_ends, least_branched, section_cycles, has_stray_hole}
 use Rattle.shapes.specs.split.Split.{first_conditions, later_conditions, section_conditions, split_conditions, split_refusal}
 use Rattle.split_drawing_laws.specs.crossings.Laws.{CanBegin}
@@ -27,8 +26,8 @@ use Rattle.split_drawing_laws.proofs.crossings.Whole.{crossings_counted, crossin
 use Rattle.split_drawing_laws.proofs.pairs.Whole.{can_be_drawn, rewritings_sound}
 use Rattle.split_drawing_laws.specs.drawings.DrawnIn.{Stays, Fresh}
 use Rattle.split_drawing_laws.specs.drawings.Laws.{CanBeDrawn}
-use Rattle.split_drawing_laws.proofs.drawings.Passes.{join_next_one, join_next_two, draw_next_one, draw_next_two}
 use Rattle.split_drawing_laws.proofs.drawings.Whole.{drawing_stays, drawing_fresh}
+use Rattle.split_drawing_laws.proofs.loop_sides.SidesWhole.{faces_go_on}
 use Rattle.split_opening_laws.specs.cycles.SectionCycles.{IsUnbranched}
 use Rattle.split_opening_laws.proofs.cycles.RisingLists.{filter_rises}
 use Rattle.split_opening_laws.specs.sections.Capped.{HasCaps}
@@ -38,50 +37,6 @@ use Rattle.split_opening_laws.proofs.sections.InTurn.{can_be_opened}
 use Rattle.split_laws.specs.drawn.Kept.{KeepsSolids}
 use Rattle.split_laws.proofs.drawn.Solids.{drawing_keeps}
 use Rattle.euler_laws.proofs.shared.Counted.{all_where_has}
-
--- ---- drawing takes no vertex
-
-join_vertex : (d : Drawing) (q : ℕ × ℕ) → (join_next d q).taken.vertex ≡ d.taken.vertex
-join_vertex d q = go (in_one_loop d.model q) refl where
-  go : (b : Bool) → in_one_loop d.model q ≡ b → (join_next d q).taken.vertex ≡ d.taken.vertex
-  go true e = ap (λ x. x.taken.vertex) (join_next_one d q e)
-  go false e = ap (λ x. x.taken.vertex) (join_next_two d q e)
-
-joins_vertex : (d : Drawing) (qs : List (ℕ × ℕ)) → (fold join_next d qs).taken.vertex ≡ d.taken.vertex
-joins_vertex d [] = refl
-joins_vertex d (q ∷ qs) = joins_vertex (join_next d q) qs ∙ join_vertex d q
-
-draw_vertex : (f : ℕ) (d : Drawing) (q : ℕ × ℕ) → (draw_next f d q).taken.vertex ≡ d.taken.vertex
-draw_vertex f d q = go (in_one_loop d.model q) refl where
-  go : (b : Bool) → in_one_loop d.model q ≡ b → (draw_next f d q).taken.vertex ≡ d.taken.vertex
-  go true e = ap (λ x. x.taken.vertex) (draw_next_one f d q e)
-  go false e = ap (λ x. x.taken.vertex) (draw_next_two f d q e)
-
-draws_vertex : (f : ℕ) (d : Drawing) (qs : List (ℕ × ℕ)) → (fold (draw_next f) d qs).taken.vertex ≡ d.taken.vertex
-draws_vertex f d [] = refl
-draws_vertex f d (q ∷ qs) = draws_vertex f (draw_next f d q) qs ∙ draw_vertex f d q
-
-stuck_vertex : (f : ℕ) (b : Bool) (d : Drawing) → (cond b (stuck_at f d) d).taken.vertex ≡ d.taken.vertex
-stuck_vertex f true d = refl
-stuck_vertex f false d = refl
-
-shared_vertex : (p : Plane) (f : ℕ) (b : Bool) (d : Drawing) → (cond b (record d { model = with_rings d.model (rings_above d.model p f) d.taken.face }) d).taken.vertex ≡ d.taken.vertex
-shared_vertex p f true d = refl
-shared_vertex p f false d = refl
-
-face_vertex : (p : Plane) (f : ℕ) (qs : List (ℕ × ℕ)) (d : Drawing) → (drawn_between p f qs d).taken.vertex ≡ d.taken.vertex
-face_vertex p f qs d =
-    let J : Drawing = all_joined qs d in
-    let R : Drawing = ring_free f qs J in
-    shared_vertex p f (nat_eq (length qs) 1) (all_drawn f R) ∙ draws_vertex f R R.left ∙ stuck_vertex f (nat_lt 1 (length qs) && has_rings J.model f) J ∙ joins_vertex (record d { left = [] }) qs
-
-next_vertex : (p : Plane) (d : Drawing) (f : FacePairs) → (next_drawn p d f).taken.vertex ≡ d.taken.vertex
-unfolding next_drawn
-next_vertex p d f = face_vertex p f.face f.pairs d
-
-drawing_vertex : (p : Plane) (d : Drawing) (fs : List FacePairs) → (faces_drawn p d fs).taken.vertex ≡ d.taken.vertex
-drawing_vertex p d [] = refl
-drawing_vertex p d (f ∷ fs) = drawing_vertex p (next_drawn p d f) fs ∙ next_vertex p d f
 
 -- ---- a split that isn't refused
 
@@ -168,7 +123,7 @@ module _ (M : Model) (s : ℕ) (p : Plane) (t : ℕ) (sound : Sound M) (accepted
 
   last_vertex : d.taken.vertex ≡ table.greatest (with_crossings M s p).model.vertices
   unfolding with_drawings taken_in
-  last_vertex = drawing_vertex p (undrawn (with_crossings M s p)) (straddling_pairs M s p) ∙ ap (λ c. c.vertex) (crossings_counted M s p t sound begins)
+  last_vertex = (faces_go_on p (undrawn (with_crossings M s p)) (straddling_pairs M s p)).vertex ∙ ap (λ c. c.vertex) (crossings_counted M s p t sound begins)
 
   are_free : AreFree D d.taken
   are_free = record {
