@@ -14,10 +14,11 @@ use Rattle.euler_operators.specs.HalfEdge.{plus, minus}
 use Rattle.euler_operators.specs.Table as table
 use Rattle.euler_operators.specs.Conditions.{AllHold, face_at}
 use Rattle.euler_operators.proofs.Lists.{count-append, tick_same, tick_other}
-use Rattle.euler_operators.proofs.Halves.{plus_row, minus_row, mate_plus, mate_minus}
-use Rattle.euler_operators.proofs.Models.{held_row, cycle_there, plus_there, minus_there}
+use Rattle.euler_operators.proofs.Halves.{mate_plus, mate_minus}
+use Rattle.euler_operators.proofs.Models.{held_row, cycle_there, plus_there, minus_there, solid_row}
 use Rattle.euler_operators.proofs.Members.{IsIn-filter, count-filter, filter_passes}
 use Rattle.euler_operators.proofs.Crossings.{same_as, cut_back, opposite_back, not_level, level_is, cut_fits}
+use Rattle.euler_operators.proofs.Tables.{row_some}
 use Rattle.euler_laws.proofs.shared.Goes.{not_false, no_zero}
 use Rattle.euler_laws.proofs.shared.Rows.{loop_row, face_there, point_row}
 use Rattle.euler_laws.proofs.shared.Counted.{all_where_in, all_where_has}
@@ -50,6 +51,23 @@ any_passes p x (n ∷ ns) i e = elim (eqb_tells x n) [
   later : (b : Bool) → list_any p ns ≡ true → (b || list_any p ns) ≡ true
   later true f = refl
   later false f = f
+
+-- ---- the faces of a solid, and those of them that straddle
+
+pub solid_facts : (M : Model) (s f : ℕ) → IsIn f (faces_of M s) → Has M.faces f × (solid_of M f ≡ s)
+solid_facts M s f i =
+    let r = all_where_has (λ _ row. nat_eq row.solid s) M.faces f i in
+    (ap is_some r.1, solid_row M f r.0 r.1 ∙ eqb-true r.0.solid s r.2)
+
+pub in_solid : (M : Model) (f s : ℕ) → Has M.faces f → solid_of M f ≡ s → IsIn f (faces_of M s)
+in_solid M f s there of_s = all_where_in (λ _ row. nat_eq row.solid s) M.faces f _ (face_there M f there) (eq-eqb (solid_of M f) s of_s)
+
+pub face_facts : (M : Model) (s : ℕ) (p : Plane) (f : ℕ) → IsIn f (straddling_faces M p s) → Has M.faces f × (solid_of M f ≡ s)
+face_facts M s p f i = solid_facts M s f (omega (arith, i, count-filter (straddles M p) f (faces_of M s)))
+
+pub edge_listed : (M : Model) (s e : ℕ) → Has M.edges e → solid_of M (face_at M (plus e)) ≡ s → IsIn e (edges_of M s)
+edge_listed M s e there of_s = let w = row_some (table.get M.edges e) there in
+    all_where_in (λ x _. nat_eq (solid_of M (face_at M (plus x))) s) M.edges e w.0 w.1 (eq-eqb (solid_of M (face_at M (plus e))) s of_s)
 
 -- ---- the loops of a face
 
@@ -131,10 +149,7 @@ module _ (M : Model) (sound : Sound M) (s : ℕ) (p : Plane) where
       (ap is_some w.1, eqb-true (solid_of M (face_at M (plus e))) s w.2, filter_passes (λ x. crosses M p (plus x)) e (edges_of M s) i)
 
   pub faces_not_zero : (f : ℕ) → IsIn f (straddling_faces M p s) → f ≢ 0
-  faces_not_zero f i z =
-      let l : count f (straddling_faces M p s) ≤ count f (faces_of M s) = count-filter (straddles M p) f (faces_of M s) in
-      let w = all_where_has (λ _ row. nat_eq row.solid s) M.faces f (omega (arith, i, l)) in
-      no_zero f z (sound.faces_fit f (ap is_some w.1))
+  faces_not_zero f i z = no_zero f z (sound.faces_fit f (face_facts M s p f i).0)
 
   module _ (t : ℕ) (hold : AllHold (first_conditions M s p t)) where
     none_off : first_such (λ e. not (cuts_lattice p (start M (plus e)) (finish M (plus e)))) (crossing_edges M p s) ≡ None
@@ -217,7 +232,7 @@ module _ (M : Model) (sound : Sound M) (s : ℕ) (p : Plane) where
       of_solid = ap (λ q. solid_of M (face_of M q)) (sym first) ∙ (edge_facts e i).1
 
       face_in : IsIn (face_of M l) (faces_of M s)
-      face_in = all_where_in (λ _ row. nat_eq row.solid s) M.faces (face_of M l) _ (face_there M (face_of M l) (sound.loops_of_faces l l_there)) (eq-eqb (solid_of M (face_of M l)) s of_solid)
+      face_in = in_solid M (face_of M l) s (sound.loops_of_faces l l_there) of_solid
 
       plus_corner : IsIn (tail M (plus e)) (corners M (face_of M l))
       plus_corner = tail_in_face M (plus e) l l_there first_in

@@ -1,30 +1,29 @@
 -- All edges of a solid that cross a plane cut: from the first conditions of a split to the model.
 use Rattle.std.specs.Prelude.{filter}
 use Rattle.std.proofs.Common.{◌≡◌, ℕ, ◌≤◌, Bool, true, false, nat_eq, [], None, is_some, unwrap_or, refl, sym, ap, ◌∙◌, arith, inl, inr, cond, ◌&&◌, ◌||◌, subst, true≢false}
-use Rattle.std.proofs.lemmas.Bool.{eq-eqb, eqb-true}
+use Rattle.std.proofs.lemmas.Bool.{eqb-true, false_from_ne_true}
 use Rattle.euler_operators.specs.declared.Plane.{Plane}
 use Rattle.euler_operators.specs.Vectors.{are_opposite, height, is_on, cut_between}
 use Rattle.euler_operators.specs.Items.{count, IsIn}
 use Rattle.euler_operators.specs.HalfEdge.{plus, minus, edge_of}
 use Rattle.euler_operators.specs.Table as table
-use Rattle.euler_operators.specs.Model.{Model, tail, loop_of, face_of, solid_of, no_face, after, before, point_of, faces_of}
+use Rattle.euler_operators.specs.Model.{Model, tail, loop_of, face_of, solid_of, no_face, after, before, point_of}
 use Rattle.euler_operators.specs.Sound.{Sound, Has, HasHalf}
 use Rattle.euler_operators.specs.Conditions.{first_refusal, face_at, lists}
 use Rattle.euler_operators.proofs.Halves.{mate_plus, mate_minus}
 use Rattle.euler_operators.proofs.Members.{IsIn-filter, count-filter, filter_passes}
 use Rattle.euler_operators.proofs.Models.{plus_there, minus_there}
-use Rattle.euler_operators.proofs.Tables.{row_some}
 use Rattle.euler_operators.proofs.Lists.{IsIn_or_not}
 use Rattle.euler_operators.proofs.Crossings.{opposite_turned, level_on, not_level}
 use Rattle.euler_laws.specs.Laws.{AreAccepted, effects}
 use Rattle.euler_laws.proofs.shared.Goes.{all_hold}
 use Rattle.euler_laws.proofs.shared.Listed.{all_where-rises, IsIn-from_listed, listed-from_in}
-use Rattle.euler_laws.proofs.shared.Counted.{counted_once, none_counted, all_where_has, all_where_in}
+use Rattle.euler_laws.proofs.shared.Counted.{counted_once, none_counted, all_where_has}
 use Rattle.euler_laws.proofs.shared.Arcs.{halves_of_edge}
 use Rattle.euler_laws.proofs.shared.Fans.{half_after, loop_after}
 use Rattle.shapes.specs.Faces.{start, edges_of, finish, loops_of, boundary}
 use Rattle.shapes.specs.Fresh.{taken_in, growing}
-use Rattle.shapes.specs.split.Sides.{crosses, crossing_edges, straddles, straddling_faces}
+use Rattle.shapes.specs.split.Sides.{crosses, crossing_edges, straddling_faces}
 use Rattle.shapes.specs.split.Crossings.{with_crossings}
 use Rattle.shapes.specs.split.Split.{first_conditions}
 use Rattle.shapes.specs.split.Places.{is_place, place_point, places}
@@ -34,7 +33,7 @@ use Rattle.shapes.proofs.walks.FaceLoops.{items_counted, items_there}
 use Rattle.split_drawing_laws.specs.crossings.CrossingOps.{crossing_ops}
 use Rattle.split_drawing_laws.specs.crossings.Kept.{Kept}
 use Rattle.split_drawing_laws.specs.crossings.AtPlace.{AtPlace}
-use Rattle.split_drawing_laws.proofs.crossings.Premises.{picked_none, Cuttable, cuttable, crossing_here, crossing_point, one_point, minus_crosses}
+use Rattle.split_drawing_laws.proofs.crossings.Premises.{picked_none, Cuttable, cuttable, crossing_here, crossing_point, one_point, minus_crosses, face_facts, edge_listed}
 use Rattle.split_drawing_laws.proofs.crossings.Runs.{AreCut, Going, Gone, all_gone, none_cut, kept_start}
 
 -- ---- where the cut places of a face are, once the edges are cut
@@ -109,31 +108,23 @@ module _ (M : Model) (s : ℕ) (p : Plane) (t : ℕ) (sound : Sound M) (accepted
   same_face : (x : ℕ) → Has M.edges x → face_at N (plus x) ≡ face_at M (plus x)
   same_face x there = ap (face_of N) (crossings_keep.loop (plus x) (plus_there M x there)) ∙ crossings_keep.face (loop_of M (plus x))
 
-  same_crossing : (x : ℕ) → Has M.edges x → count x gone.list ≡ 0 → crosses N p (plus x) ≡ crosses M p (plus x)
-  same_crossing x there z =
-      let near : start N (plus x) ≡ start M (plus x) = kept_start M N sound crossings_keep (plus x) (plus_there M x there) (crossings_cut.plus_tails x there z) in
-      let far : start N (minus x) ≡ start M (minus x) = kept_start M N sound crossings_keep (minus x) (minus_there M x there) (crossings_cut.minus_tails x there) in
-      λ i. are_opposite p (near i) ((ap (start N) (mate_plus x) ∙ far ∙ sym (ap (start M) (mate_plus x))) i)
+  pub start_minus : (e : ℕ) → Has M.edges e → start N (minus e) ≡ start M (minus e)
+  start_minus e there = kept_start M N sound crossings_keep (minus e) (minus_there M e there) (crossings_cut.minus_tails e there)
 
-  pub listed_edge : (x : ℕ) → Has M.edges x → nat_eq (solid_of M (face_at M (plus x))) s ≡ true → IsIn x (edges_of M s)
-  listed_edge x there e = let w = row_some (table.get M.edges x) there in all_where_in (λ y _. nat_eq (solid_of M (face_at M (plus y))) s) M.edges x w.0 w.1 e
+  pub start_plus : (e : ℕ) → Has M.edges e → count e (crossing_edges M p s) ≡ 0 → start N (plus e) ≡ start M (plus e)
+  start_plus e there z = kept_start M N sound crossings_keep (plus e) (plus_there M e there) (crossings_cut.plus_tails e there (not_cut e z))
 
-  old_crossing : (x : ℕ) → Has M.edges x → count x gone.list ≡ 0 → solid_of N (face_at N (plus x)) ≡ s → crosses N p (plus x) ≡ false
-  old_crossing x there z of_s = go (crosses M p (plus x)) refl where
-    of_solid : solid_of M (face_at M (plus x)) ≡ s
-    of_solid = sym (ap (solid_of N) (same_face x there) ∙ same_solid (face_at M (plus x))) ∙ of_s
-
-    go : (b : Bool) → crosses M p (plus x) ≡ b → crosses N p (plus x) ≡ false
-    go false e = same_crossing x there z ∙ e
-    go true e =
-        let i : IsIn x (crossing_edges M p s) = IsIn-filter (λ y. crosses M p (plus y)) x (edges_of M s) (listed_edge x there (eq-eqb (solid_of M (face_at M (plus x))) s of_solid)) e in
-        absurd (omega (arith, i, z, gone.same x))
+  old_crossing : (x : ℕ) → Has M.edges x → count x (crossing_edges M p s) ≡ 0 → solid_of N (face_at N (plus x)) ≡ s → crosses N p (plus x) ≡ false
+  old_crossing x there z of_s = (λ i. are_opposite p (start_plus x there z i) ((ap (start N) (mate_plus x) ∙ start_minus x there ∙ sym (ap (start M) (mate_plus x))) i))
+      ∙ false_from_ne_true (crosses M p (plus x)) (λ e. absurd (omega (arith, z, IsIn-filter (λ y. crosses M p (plus y)) x (edges_of M s) (edge_listed M s x there of_solid) e))) where
+        of_solid : solid_of M (face_at M (plus x)) ≡ s
+        of_solid = sym (ap (solid_of N) (same_face x there) ∙ same_solid (face_at M (plus x))) ∙ of_s
 
   pub none_crosses : crossing_edges (with_crossings M s p).model p s ≡ []
   none_crosses = picked_none (λ x. crosses N p (plus x)) (edges_of N s) (λ x i.
       let w = all_where_has (λ y _. nat_eq (solid_of N (face_at N (plus y))) s) N.edges x i in
       elim (crossings_cut.cleared x (ap is_some w.1)) [
-        | inl o ↦ old_crossing x o.0 o.1 (eqb-true (solid_of N (face_at N (plus x))) s w.2)
+        | inl o ↦ old_crossing x o.0 (omega (arith, o.1, gone.same x)) (eqb-true (solid_of N (face_at N (plus x))) s w.2)
         | inr o ↦ o
       ])
 
@@ -169,11 +160,8 @@ module _ (M : Model) (s : ℕ) (p : Plane) (t : ℕ) (sound : Sound M) (accepted
     at_plus : AtPlace M N p (plus e)
     at_plus = at_itself (plus e) (plus_there M e e_there) plus_starts plus_on
 
-    minus_stays : start N (minus e) ≡ start M (minus e)
-    minus_stays = kept_start M N sound crossings_keep (minus e) (minus_there M e e_there) (crossings_cut.minus_tails e e_there)
-
     pub minus_off : is_on p (start N (minus e)) ≡ false
-    minus_off = ap (is_on p) minus_stays ∙ not_level (height p (start M (minus e))) (height p (start M (plus e))) (minus_crosses M sound s p can_cut e i)
+    minus_off = ap (is_on p) (start_minus e e_there) ∙ not_level (height p (start M (minus e))) (height p (start M (plus e))) (minus_crosses M sound s p can_cut e i)
 
     minus_in_N : HasHalf N (minus e)
     minus_in_N = crossings_keep.halves (minus e) (minus_there M e e_there)
@@ -189,18 +177,11 @@ module _ (M : Model) (s : ℕ) (p : Plane) (t : ℕ) (sound : Sound M) (accepted
         }
 
   -- another edge stays where it is
-  module _ (e : ℕ) (e_there : Has M.edges e) (crosses_not : crosses M p (plus e) ≡ false) where
-    uncut : count e gone.list ≡ 0
-    uncut = elim (IsIn_or_not e (crossing_edges M p s)) [
-      | inl i ↦ absurd (true≢false (sym (filter_passes (λ x. crosses M p (plus x)) e (edges_of M s) i) ∙ crosses_not))
-      | inr z ↦ omega (arith, z, gone.same e)
-    ]
-
-    stays_plus : start N (plus e) ≡ start M (plus e)
-    stays_plus = kept_start M N sound crossings_keep (plus e) (plus_there M e e_there) (crossings_cut.plus_tails e e_there uncut)
-
-    stays_minus : start N (minus e) ≡ start M (minus e)
-    stays_minus = kept_start M N sound crossings_keep (minus e) (minus_there M e e_there) (crossings_cut.minus_tails e e_there)
+  stays_plus : (e : ℕ) → Has M.edges e → crosses M p (plus e) ≡ false → start N (plus e) ≡ start M (plus e)
+  stays_plus e there off = start_plus e there (elim (IsIn_or_not e (crossing_edges M p s)) [
+    | inl i ↦ absurd (true≢false (sym (filter_passes (λ x. crosses M p (plus x)) e (edges_of M s) i) ∙ off))
+    | inr z ↦ z
+  ])
 
   on_place : (h : ℕ) → is_on p (start M h) ≡ true → place_point M p h ≡ start M h
   unfolding place_point
@@ -222,7 +203,7 @@ module _ (M : Model) (s : ℕ) (p : Plane) (t : ℕ) (sound : Sound M) (accepted
       ∙ sym (ap (are_opposite p (start M (minus e))) (ap (start M) (mate_minus e))) ∙ is
 
   pub in_crossing : (e : ℕ) → Has M.edges e → solid_of M (face_at M (plus e)) ≡ s → crosses M p (plus e) ≡ true → IsIn e (crossing_edges M p s)
-  in_crossing e there of_s c = IsIn-filter (λ x. crosses M p (plus x)) e (edges_of M s) (listed_edge e there (eq-eqb (solid_of M (face_at M (plus e))) s of_s)) c
+  in_crossing e there of_s c = IsIn-filter (λ x. crosses M p (plus x)) e (edges_of M s) (edge_listed M s e there of_s) c
 
   of_plus : (e : ℕ) → Has M.edges e → solid_of M (face_at M (plus e)) ≡ s → is_place M p (plus e) ≡ true → AtPlace M N p (plus e)
   of_plus e there of_s place = go (crosses M p (plus e)) refl where
@@ -234,18 +215,12 @@ module _ (M : Model) (s : ℕ) (p : Plane) (t : ℕ) (sound : Sound M) (accepted
   of_minus e there of_s place = go (crosses M p (minus e)) refl where
     go : (b : Bool) → crosses M p (minus e) ≡ b → AtPlace M N p (minus e)
     go true c = at_minus e (in_crossing e there of_s (turned e true c))
-    go false c = at_corner (minus e) (minus_there M e there) (on_when (minus e) place c) (stays_minus e there (turned e false c))
-
-  pub face_facts : (f : ℕ) → IsIn f (straddling_faces M p s) → Has M.faces f × (solid_of M f ≡ s)
-  unfolding solid_of
-  face_facts f i =
-      let w = all_where_has (λ _ row. nat_eq row.solid s) M.faces f (omega (arith, i, count-filter (straddles M p) f (faces_of M s))) in
-      (ap is_some w.1, ap (λ o. (unwrap_or o no_face).solid) w.1 ∙ eqb-true w.0.solid s w.2)
+    go false c = at_corner (minus e) (minus_there M e there) (on_when (minus e) place c) (start_minus e there)
 
   -- a place of a face that straddles
   place_is : (f h : ℕ) → IsIn f (straddling_faces M p s) → IsIn h (boundary M f) → is_place M p h ≡ true → AtPlace M N p h
   place_is f h i j place =
-      let w = face_facts f i in
+      let w = face_facts M s p f i in
       let there : Has M.edges (edge_of h) = item_there M sound f w.0 h j in
       let of_s : solid_of M (face_at M h) ≡ s = ap (solid_of M) (item_face M sound f w.0 h j) ∙ w.1 in
       elim (halves_of_edge h) [

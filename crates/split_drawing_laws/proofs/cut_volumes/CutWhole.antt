@@ -26,8 +26,8 @@ use Rattle.solid_measure_laws.proofs.Cuts.{cut_on_each, cut_keeps_area}
 use Rattle.split_drawing_laws.proofs.crossings.Steps.{CutGoes}
 use Rattle.split_drawing_laws.proofs.crossings.Runs.{cut_at, Crossing, same_start, same_finish, Going, crossing_now, uncut_now, goes_now, next_model, going_on}
 use Rattle.split_drawing_laws.proofs.cut_volumes.OneCut.{Between, keeps, normal_stays, plane_stays, anchor_stays}
-use Rattle.split_drawing_laws.proofs.cut_volumes.Told.{Measured, measured_none, measured_on, solid_stays, solid_facts, in_solid, same_plane, flat_still, all_volumes}
-use Rattle.split_drawing_laws.proofs.crossings.Premises.{Cuttable, edge_facts}
+use Rattle.split_drawing_laws.proofs.cut_volumes.Told.{Measured, measured_none, measured_on, solid_stays, same_plane, flat_still, all_volumes}
+use Rattle.split_drawing_laws.proofs.crossings.Premises.{Cuttable, edge_facts, solid_facts, in_solid}
 use Rattle.split_drawing_laws.proofs.crossings.Whole.{can_cut, begins, crossings_sound}
 
 -- ---- one edge of solid s cut

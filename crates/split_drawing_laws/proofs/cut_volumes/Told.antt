@@ -3,7 +3,7 @@ use Rattle.std.specs.List.{list_all}
 use Rattle.std.proofs.Common.{◌≡◌, ◌≢◌, ℕ, ◌≤◌, ℤ, ◌+ℤ◌, nat_eq, List, [], ◌∷◌, is_some, sym, ap, ◌∙◌, arith, inl, inr, Bool, true, ◌&&◌, ◌++◌, refl, subst, neg_ℤ, not, unwrap_or}
 use Rattle.std.proofs.lemmas.Int.{ints}
 use Rattle.std.proofs.lemmas.Bool.Decides.{eqb_tells}
-use Rattle.std.proofs.lemmas.Bool.{eq-eqb, eqb-true, and_parts}
+use Rattle.std.proofs.lemmas.Bool.{and_parts}
 use Rattle.euler_operators.specs.Items.{count, tick, IsIn}
 use Rattle.euler_operators.specs.Table as table
 use Rattle.euler_operators.specs.Model.{Model, solid_of, faces_of, LoopContent, lone, cycle, items_of, tail, content, point_of, loop_of, cycle_of, is_ring_of, rings_of, after, no_face}
@@ -14,29 +14,20 @@ use Rattle.euler_operators.specs.Conditions.{lists, strictly_rises}
 use Rattle.euler_operators.proofs.Lists.{tick_same, tick_other, IsIn_or_not}
 use Rattle.euler_operators.proofs.Members.{IsIn_rest, each_mapped}
 use Rattle.euler_operators.proofs.Rotations.{IsIn_head}
-use Rattle.euler_operators.proofs.Models.{solid_row, same_solid, in-holds, item_there}
+use Rattle.euler_operators.proofs.Models.{same_solid, in-holds, item_there}
 use Rattle.euler_operators.proofs.Vectors.{add_assoc, dot_turned}
 use Rattle.euler_operators.proofs.Rings.{IsIn_successor}
 use Rattle.euler_laws.proofs.shared.Listed.{all_where-rises}
-use Rattle.euler_laws.proofs.shared.Rows.{face_there}
-use Rattle.euler_laws.proofs.shared.Counted.{counted_once, all_where_has, all_where_in}
+use Rattle.euler_laws.proofs.shared.Counted.{counted_once}
 use Rattle.euler_laws.proofs.shared.RisingLists.{within}
 use Rattle.shapes.specs.Measure.{six_volume, normal, anchor, plane_through, plane_of, is_flat, volume_in}
 use Rattle.shapes.specs.Faces.{start, finish, vertices_on, vertices_in, corners}
 use Rattle.shapes.proofs.measures.Sums.{total, volume_of, volume_is, unchanged}
 use Rattle.shapes.proofs.measures.FlatFaces.{list_parts, are_on, anchor_on, plane_told}
 use Rattle.shapes.proofs.walks.FaceLoops.{listed_ring, ring_listed, rings_rise}
+use Rattle.split_drawing_laws.proofs.crossings.Premises.{solid_facts, in_solid}
 
 -- ---- the faces of a solid
-
-pub solid_facts : (M : Model) (u f : ℕ) → IsIn f (faces_of M u) → Has M.faces f × (solid_of M f ≡ u)
-solid_facts M u f i =
-    let r = all_where_has (λ _ row. nat_eq row.solid u) M.faces f i in
-    let there : Has M.faces f = ap is_some r.1 in
-    (there, solid_row M f r.0 r.1 ∙ eqb-true r.0.solid u r.2)
-
-pub in_solid : (M : Model) (f u : ℕ) → Has M.faces f → solid_of M f ≡ u → IsIn f (faces_of M u)
-in_solid M f u there of_u = all_where_in (λ _ row. nat_eq row.solid u) M.faces f _ (face_there M f there) (eq-eqb (solid_of M f) u of_u)
 
 pub counted : (M : Model) (u f : ℕ) → count f (faces_of M u) ≤ 1
 counted M u f = counted_once f (faces_of M u) (all_where-rises (λ _ row. nat_eq row.solid u) M.faces)

@@ -16,17 +16,9 @@ use Rattle.split_drawing_laws.specs.drawings.DrawingOps.{join_edge, join_pair, d
 use Rattle.split_drawing_laws.specs.drawings.DrawnIn.{JoinedIn, Stays, DrawnIn, Fresh}
 use Rattle.split_drawing_laws.specs.drawings.Pairs.{Fits}
 use Rattle.split_drawing_laws.proofs.drawings.Drawn.{CanDraw, draw_accepted, draw_made, draw_sound, CanJoin, join_accepted, join_made, join_sound}
-use Rattle.split_drawing_laws.proofs.drawings.Stays.{draw_stays, draw_beside, draw_within, draw_solid, draw_has, draw_free, join_stays, join_beside, join_faces, join_free}
+use Rattle.split_drawing_laws.proofs.drawings.Stays.{draw_stays, draw_beside, draw_within, draw_solid, draw_has, draw_free, join_stays, join_beside, join_faces, join_free, stays_on}
 use Rattle.split_drawing_laws.proofs.drawings.Rings.{Newer}
 use Rattle.split_drawing_laws.proofs.drawings.Runs.{Leads, leads_one}
-
-pub stays_on : (M N K : Model) → Stays M N → Stays N K → Stays M K
-stays_on M N K a b = record {
-  halves = λ h there. b.halves h (a.halves h there);
-  tails = λ h there. b.tails h (a.halves h there) ∙ a.tails h there;
-  vertices = b.vertices ∙ a.vertices;
-  faces = λ g there. b.faces g (a.faces g there);
-}
 
 pub none_joined : (M : Model) (f : ℕ) → Sound M → JoinedIn M M f
 none_joined M f sound = record {

@@ -27,6 +27,7 @@ use Rattle.shapes.specs.split.Drawing.{with_rings}
 use Rattle.split_drawing_laws.specs.drawings.DrawnIn.{Stays, DrawnIn, Fresh}
 use Rattle.split_drawing_laws.specs.drawings.DrawingOps.{ring_ops}
 use Rattle.split_drawing_laws.proofs.drawings.Runs.{Leads, leads_none, leads_one, leads_on}
+use Rattle.split_drawing_laws.proofs.drawings.Stays.{stays_on}
 
 -- l is a ring of face f
 pub record RingOf (N : Model) (f l : ℕ) : Type 0 where
@@ -46,9 +47,45 @@ pub record Newer (M N : Model) (f k : ℕ) : Type 0 where
 
 -- ---- one ring
 
+-- what stays as ring l is given to face k
+module _ (N : Model) (l k : ℕ) (sound : Sound N) (goes : RingGoes N l k) where
+  pub ring_sound : Sound (ring_in N l k)
+  ring_sound = sound-ring_in N sound l k goes
+
+  pub same_walks : SameWalks N (ring_in N l k)
+  same_walks = moved.same N sound l k goes
+
+  pub ring_faces : (ring_in N l k).faces ≡ N.faces
+  unfolding ring_in
+  ring_faces = refl
+
+  tail_is : (h : ℕ) → tail (ring_in N l k) h ≡ tail N h
+  unfolding tail
+  tail_is h = ap (λ t. tail_in (unwrap_or (table.get t (edge_of h)) no_edge) (is_first h)) same_walks.edges
+
+  pub ring_stays : Stays N (ring_in N l k)
+  ring_stays = record {
+    halves = λ h there. subst (λ t. Has t (edge_of h)) (sym same_walks.edges) there;
+    tails = λ h there. tail_is h;
+    vertices = same_walks.vertices;
+    faces = λ g there. subst (λ t. Has t g) (sym ring_faces) there;
+  }
+
+  pub ring_back : (h : ℕ) → HasHalf (ring_in N l k) h → HasHalf N h
+  ring_back h there = subst (λ t. Has t (edge_of h)) same_walks.edges there
+
+  pub place_is : (h : ℕ) → HasHalf N h → loop_of (ring_in N l k) h ≡ loop_of N h
+  place_is h there = ring_sound.one_loop h (loop_of N h) (ap (holds h) (same_walks.contents (loop_of N h)) ∙ sound.stands h there)
+
+  pub face_else : (q : ℕ) → q ≢ l → face_of (ring_in N l k) q ≡ face_of N q
+  face_else q ne = moved.face_else N sound l k goes q ne
+
+  pub face_kept : (h : ℕ) → HasHalf N h → loop_of N h ≢ l → face_at (ring_in N l k) h ≡ face_at N h
+  face_kept h there ne = ap (face_of (ring_in N l k)) (place_is h there) ∙ face_else (loop_of N h) ne
+
 module _ (M N : Model) (f l k : ℕ) (drawn : DrawnIn M N f) (ring : RingOf N f l) (newer : Newer M N f k) where
-  goes : RingGoes N l k
-  goes = record {
+  pub ring_goes : RingGoes N l k
+  ring_goes = record {
     l_there = ring.there;
     f_there = newer.there;
     one_solid = ap (solid_of N) ring.face ∙ newer.solid;
@@ -59,58 +96,27 @@ module _ (M N : Model) (f l k : ℕ) (drawn : DrawnIn M N f) (ring : RingOf N f 
   apart e = row_elsewhere M.faces f k newer.old newer.new (sym ring.face ∙ e)
 
   pub move_accepted : first_false N (RingIn l k) ≡ None
-  move_accepted = ring_in_accepted N l k drawn.sound goes apart
+  move_accepted = ring_in_accepted N l k drawn.sound ring_goes apart
 
   pub move_made : effect N (RingIn l k) ≡ ring_in N l k
   unfolding effect
   move_made = refl
 
-  new_sound : Sound (ring_in N l k)
-  new_sound = sound-ring_in N drawn.sound l k goes
-
-  same : SameWalks N (ring_in N l k)
-  same = moved.same N drawn.sound l k goes
-
-  faces_are : (ring_in N l k).faces ≡ N.faces
-  unfolding ring_in
-  faces_are = refl
-
-  tail_is : (h : ℕ) → tail (ring_in N l k) h ≡ tail N h
-  unfolding tail
-  tail_is h = ap (λ t. tail_in (unwrap_or (table.get t (edge_of h)) no_edge) (is_first h)) same.edges
-
-  place_is : (h : ℕ) → HasHalf N h → loop_of (ring_in N l k) h ≡ loop_of N h
-  place_is h there = new_sound.one_loop h (loop_of N h) (ap (holds h) (same.contents (loop_of N h)) ∙ drawn.sound.stands h there)
-
-  face_else : (q : ℕ) → q ≢ l → face_of (ring_in N l k) q ≡ face_of N q
-  face_else q ne = moved.face_else N drawn.sound l k goes q ne
-
-  face_now : (h : ℕ) → HasHalf N h → loop_of N h ≢ l → face_at (ring_in N l k) h ≡ face_at N h
-  face_now h there ne = ap (face_of (ring_in N l k)) (place_is h there) ∙ face_else (loop_of N h) ne
-
-  moved_stays : Stays M (ring_in N l k)
-  moved_stays = record {
-    halves = λ h there. subst (λ t. Has t (edge_of h)) (sym same.edges) (drawn.stays.halves h there);
-    tails = λ h there. tail_is h ∙ drawn.stays.tails h there;
-    vertices = same.vertices ∙ drawn.stays.vertices;
-    faces = λ g there. subst (λ t. Has t g) (sym faces_are) (drawn.stays.faces g there);
-  }
-
   pub moved_drawn : DrawnIn M (ring_in N l k) f
   moved_drawn = record {
-    sound = new_sound;
-    stays = moved_stays;
+    sound = ring_sound N l k drawn.sound ring_goes;
+    stays = stays_on M N (ring_in N l k) drawn.stays (ring_stays N l k drawn.sound ring_goes);
     beside = λ h there ne.
         let b = drawn.beside h there ne in
         let t : HasHalf N h = drawn.stays.halves h there in
-        (place_is h t ∙ b.0, face_now h t (λ e. ne (sym b.1 ∙ ap (face_of N) e ∙ ring.face)) ∙ b.1);
+        (place_is N l k drawn.sound ring_goes h t ∙ b.0, face_kept N l k drawn.sound ring_goes h t (λ e. ne (sym b.1 ∙ ap (face_of N) e ∙ ring.face)) ∙ b.1);
     within = λ h there is.
         let t : HasHalf N h = drawn.stays.halves h there in
         elim (eqb_tells (loop_of N h) l) [
-          | inl e ↦ inr (ap (table.get M.faces) (ap (face_of (ring_in N l k)) (place_is h t ∙ e.1) ∙ moved.face_l N drawn.sound l k goes) ∙ newer.new)
+          | inl e ↦ inr (ap (table.get M.faces) (ap (face_of (ring_in N l k)) (place_is N l k drawn.sound ring_goes h t ∙ e.1) ∙ moved.face_l N drawn.sound l k ring_goes) ∙ newer.new)
           | inr e ↦ elim (drawn.within h there is) [
-            | inl a ↦ inl (face_now h t e.1 ∙ a)
-            | inr a ↦ inr (ap (table.get M.faces) (face_now h t e.1) ∙ a)
+            | inl a ↦ inl (face_kept N l k drawn.sound ring_goes h t e.1 ∙ a)
+            | inr a ↦ inr (ap (table.get M.faces) (face_kept N l k drawn.sound ring_goes h t e.1) ∙ a)
           ]
         ];
   }
@@ -119,38 +125,27 @@ module _ (M N : Model) (f l k : ℕ) (drawn : DrawnIn M N f) (ring : RingOf N f 
   moved_newer = record {
     old = newer.old;
     new = newer.new;
-    there = subst (λ t. Has t k) (sym faces_are) newer.there;
-    solid = moved.solid_same N drawn.sound l k goes f ∙ newer.solid ∙ sym (moved.solid_same N drawn.sound l k goes k);
+    there = subst (λ t. Has t k) (sym (ring_faces N l k drawn.sound ring_goes)) newer.there;
+    solid = moved.solid_same N drawn.sound l k ring_goes f ∙ newer.solid ∙ sym (moved.solid_same N drawn.sound l k ring_goes k);
   }
 
   pub moved_ring : (q : ℕ) → q ≢ l → RingOf N f q → RingOf (ring_in N l k) f q
   moved_ring q ne r = record {
-    there = same.loops q ∙ r.there;
-    face = face_else q ne ∙ r.face;
-    inner = λ e. r.inner (sym (moved.outer_same N drawn.sound l k goes f) ∙ e);
-  }
-
-  pub now_stays : Stays N (ring_in N l k)
-  now_stays = record {
-    halves = λ h there. subst (λ t. Has t (edge_of h)) (sym same.edges) there;
-    tails = λ h there. tail_is h;
-    vertices = same.vertices;
-    faces = λ g there. subst (λ t. Has t g) (sym faces_are) there;
+    there = (same_walks N l k drawn.sound ring_goes).loops q ∙ r.there;
+    face = face_else N l k drawn.sound ring_goes q ne ∙ r.face;
+    inner = λ e. r.inner (sym (moved.outer_same N drawn.sound l k ring_goes f) ∙ e);
   }
 
   -- what follows what stays
   pub moved_after : (h : ℕ) → HasHalf N h → after (ring_in N l k) h ≡ after N h
   unfolding after
-  moved_after h there = ap (λ xs. successor xs h) (ap (λ q. items_of (content (ring_in N l k) q)) (place_is h there) ∙ ap items_of (same.contents (loop_of N h)))
-
-  pub moved_halves : (h : ℕ) → HasHalf (ring_in N l k) h → HasHalf N h
-  moved_halves h there = subst (λ t. Has t (edge_of h)) same.edges there
+  moved_after h there = ap (λ xs. successor xs h) (ap (λ q. items_of (content (ring_in N l k) q)) (place_is N l k drawn.sound ring_goes h there) ∙ ap items_of ((same_walks N l k drawn.sound ring_goes).contents (loop_of N h)))
 
   pub moved_fresh : (c : Taken) → Fresh N c → Fresh (ring_in N l k) c
   moved_fresh c w = record {
-    faces = λ q above. ap (λ t. table.get t q) faces_are ∙ w.faces q above;
-    loops = λ q above. no_row _ (same.loops q ∙ taken _ (w.loops q above));
-    edges = λ q above. ap (λ t. table.get t q) same.edges ∙ w.edges q above;
+    faces = λ q above. ap (λ t. table.get t q) (ring_faces N l k drawn.sound ring_goes) ∙ w.faces q above;
+    loops = λ q above. no_row _ ((same_walks N l k drawn.sound ring_goes).loops q ∙ taken _ (w.loops q above));
+    edges = λ q above. ap (λ t. table.get t q) (same_walks N l k drawn.sound ring_goes).edges ∙ w.edges q above;
   }
 
 -- ---- some rings

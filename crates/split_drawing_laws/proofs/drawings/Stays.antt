@@ -31,6 +31,14 @@ kept_place M N sound new x there e =
     let at : loop_of N x ≡ loop_of M x = new.one_loop x (loop_of M x) (ap (holds x) (same_content M N (loop_of M x) e) ∙ sound.stands x there) in
     (at, ap (face_of N) at ∙ same_face M N (loop_of M x) e)
 
+pub stays_on : (M N K : Model) → Stays M N → Stays N K → Stays M K
+stays_on M N K a b = record {
+  halves = λ h there. b.halves h (a.halves h there);
+  tails = λ h there. b.tails h (a.halves h there) ∙ a.tails h there;
+  vertices = b.vertices ∙ a.vertices;
+  faces = λ g there. b.faces g (a.faces g there);
+}
+
 past : (a b : ℕ) → a < b → b ≢ a
 past a b less s = absurd (omega arith)
 

@@ -15,11 +15,11 @@ use Rattle.split_drawing_laws.specs.drawings.DrawingOps.{face_ops, ops_from, dra
 use Rattle.split_drawing_laws.specs.drawings.DrawnIn.{Stays, DrawnIn, Fresh, PairsHaveRoom}
 use Rattle.split_drawing_laws.specs.drawings.Pairs.{Fits, AllFit, LoneInOneLoop, FacesFit, pairs_in}
 use Rattle.split_drawing_laws.specs.drawings.Laws.{CanBeDrawn}
-use Rattle.split_drawing_laws.proofs.drawings.Pairs.{stays_on}
 use Rattle.split_drawing_laws.proofs.drawings.Passes.{room_as}
 use Rattle.split_drawing_laws.specs.drawings.Passing.{Drawable, Ready}
 use Rattle.split_drawing_laws.proofs.drawings.Faces.{Gone, face_goes}
 use Rattle.split_drawing_laws.proofs.drawings.Runs.{Leads, leads_none, leads_on}
+use Rattle.split_drawing_laws.proofs.drawings.Stays.{stays_on}
 
 -- ---- the pairs of the faces that are still to be drawn
 

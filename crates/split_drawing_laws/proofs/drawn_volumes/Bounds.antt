@@ -1,5 +1,5 @@
 -- Faces by their half-edges: which half-edges bound a face, and when all corners of a face lie on a plane.
-use Rattle.std.proofs.Common.{◌≡◌, ◌≢◌, ℕ, true, ◌&&◌, List, [], ◌∷◌, Option, Some, None, is_some, unwrap_or, refl, sym, ap, ◌∙◌, subst, arith, inl, inr, ◌+◌, Bool, false, ◌++◌, ◌⊎◌, true≢false}
+use Rattle.std.proofs.Common.{◌≡◌, ◌≢◌, ℕ, true, ◌&&◌, List, [], ◌∷◌, Option, Some, None, is_some, unwrap_or, refl, sym, ap, ◌∙◌, subst, arith, inl, inr, Bool, false, ◌⊎◌, true≢false}
 use Rattle.std.proofs.lemmas.Bool.{and_parts}
 use Rattle.std.proofs.lemmas.Bool.Decides.{eqb_tells}
 use Rattle.euler_operators.specs.declared.Plane.{Plane}
@@ -11,7 +11,7 @@ use Rattle.euler_operators.specs.Model.{Model, LoopContent, LoopRow, lone, cycle
 use Rattle.euler_operators.specs.Sound.{Sound, Has, HasHalf}
 use Rattle.euler_operators.specs.Conditions.{face_at}
 use Rattle.euler_operators.specs.declared.Point.{Point}
-use Rattle.euler_operators.proofs.Lists.{IsIn_or_not, count-append, tick_same, tick_other}
+use Rattle.euler_operators.proofs.Lists.{IsIn_or_not, tick_same, tick_other}
 use Rattle.euler_operators.proofs.Models.{cycle_there, loop_there, item_there, never_lone, mate_there}
 use Rattle.euler_operators.proofs.Members.{IsIn_rest, all_mapped}
 use Rattle.euler_operators.proofs.Rotations.{IsIn_head}
@@ -167,31 +167,10 @@ module _ (N K : Model) (sound : Sound N) (new : Sound K) (stays : Stays N K) (f 
 
 -- ---- lists
 
--- how often h stands in two lists and in a third one with both halves of e, where each case is known
-pub two_halves : (h e : ℕ) (xs ys zs : List ℕ) →
-    (h ≡ plus e → (count h xs ≡ 1) × (count h ys ≡ 0) × (count h zs ≡ 0)) →
-    (h ≡ minus e → (count h xs ≡ 0) × (count h ys ≡ 1) × (count h zs ≡ 0)) →
-    (h ≢ plus e → h ≢ minus e → count h xs + count h ys ≡ count h zs) →
-    count h (xs ++ ys) ≡ count h (plus e ∷ minus e ∷ zs)
-two_halves h e xs ys zs first second else = elim (eqb_tells h (plus e)) [
-  | inl a ↦
-      let w = first a.1 in
-      let p : tick h (plus e) ≡ 1 = ap (λ x. tick x (plus e)) a.1 ∙ tick_same (plus e) in
-      let m : tick h (minus e) ≡ 0 = tick_other h (minus e) (λ s. plus_other e (sym a.1 ∙ s)) in
-      omega (arith, w.0, w.1, w.2, p, m, count-append h xs ys)
-  | inr a ↦ elim (eqb_tells h (minus e)) [
-    | inl b ↦
-        let w = second b.1 in
-        let m : tick h (minus e) ≡ 1 = ap (λ x. tick x (minus e)) b.1 ∙ tick_same (minus e) in
-        omega (arith, w.0, w.1, w.2, m, tick_other h (plus e) a.1, count-append h xs ys)
-    | inr b ↦ omega (arith, else a.1 b.1, tick_other h (plus e) a.1, tick_other h (minus e) b.1, count-append h xs ys)
-  ]
-]
-
--- and in one list
-pub two_in : (h e : ℕ) (xs zs : List ℕ) → (h ≡ plus e → (count h xs ≡ 1) × (count h zs ≡ 0)) → (h ≡ minus e → (count h xs ≡ 1) × (count h zs ≡ 0)) →
-    (h ≢ plus e → h ≢ minus e → count h xs ≡ count h zs) → count h xs ≡ count h (plus e ∷ minus e ∷ zs)
-two_in h e xs zs first second else = elim (eqb_tells h (plus e)) [
+-- n is how often h stands in a list with both halves of e, where each case is known
+pub two_halves : (h e n : ℕ) (zs : List ℕ) → (h ≡ plus e → (n ≡ 1) × (count h zs ≡ 0)) → (h ≡ minus e → (n ≡ 1) × (count h zs ≡ 0)) →
+    (h ≢ plus e → h ≢ minus e → n ≡ count h zs) → n ≡ count h (plus e ∷ minus e ∷ zs)
+two_halves h e n zs first second else = elim (eqb_tells h (plus e)) [
   | inl a ↦
       let w = first a.1 in
       let p : tick h (plus e) ≡ 1 = ap (λ x. tick x (plus e)) a.1 ∙ tick_same (plus e) in

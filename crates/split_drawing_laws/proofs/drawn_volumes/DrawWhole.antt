@@ -10,7 +10,8 @@ use Rattle.shapes.specs.split.Sides.{straddling_faces}
 use Rattle.shapes.specs.split.Crossings.{with_crossings}
 use Rattle.shapes.specs.split.Drawing.{faces_drawn, undrawn, straddling_pairs, with_drawings}
 use Rattle.shapes.specs.split.Split.{first_conditions}
-use Rattle.split_drawing_laws.proofs.crossings.Whole.{face_facts, crossings_sound}
+use Rattle.split_drawing_laws.proofs.crossings.Whole.{crossings_sound}
+use Rattle.split_drawing_laws.proofs.crossings.Premises.{face_facts, solid_facts, in_solid}
 use Rattle.split_drawing_laws.proofs.pairs.Whole.{can_be_drawn}
 use Rattle.split_drawing_laws.specs.drawings.Laws.{CanBeDrawn}
 use Rattle.split_drawing_laws.proofs.drawings.Counted.{faces_are}
@@ -18,7 +19,7 @@ use Rattle.split_drawing_laws.proofs.drawings.Whole.{drawable, drawing_sound}
 use Rattle.split_drawing_laws.specs.drawn_volumes.Laws.{LiesOnOld}
 use Rattle.split_drawing_laws.proofs.drawn_volumes.Bounds.{OnFace, on_face, face_on}
 use Rattle.split_drawing_laws.proofs.cut_volumes.CutWhole.{all_flat, crossings_measured, crossings_volumes}
-use Rattle.split_drawing_laws.proofs.cut_volumes.Told.{solid_facts, in_solid, flat_on, solid_stays}
+use Rattle.split_drawing_laws.proofs.cut_volumes.Told.{flat_on, solid_stays}
 use Rattle.split_drawing_laws.proofs.drawn_volumes.Spread.{Comes, Spread, LiesFlat, nothing_spread, all_spread}
 use Rattle.split_drawing_laws.proofs.drawn_volumes.Volumes.{IsPlane}
 use Rattle.euler_laws.proofs.shared.Listed.{IsIn-from_listed, listed-from_in}
@@ -65,7 +66,7 @@ module _ (M : Model) (s : ℕ) (p : Plane) (t : ℕ) (sound : Sound M) (accepted
   lies_flat f there of_s = record { plane = plane_of M f; some = some_plane f there of_s; on = on_plane f there of_s }
 
   of_s : (f : ℕ) → IsIn f fs → Has N.faces f × (solid_of N f ≡ s)
-  of_s f i = let w = face_facts M s p t sound accepted f i in (subst (λ x. Has x f) (sym same_faces) w.0, solid_stays M N same_faces f ∙ w.1)
+  of_s f i = let w = face_facts M s p f i in (subst (λ x. Has x f) (sym same_faces) w.0, solid_stays M N same_faces f ∙ w.1)
 
   spread : Spread N D s
   spread = all_spread N s p lies_flat (undrawn (with_crossings M s p)) (straddling_pairs M s p) 0 (drawable (with_crossings M s p) (straddling_pairs M s p) can)

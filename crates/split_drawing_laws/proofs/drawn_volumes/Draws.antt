@@ -4,7 +4,7 @@ use Rattle.std.proofs.lemmas.Bool.Decides.{eqb_tells}
 use Rattle.euler_operators.specs.declared.Plane.{Plane}
 use Rattle.euler_operators.specs.Vectors.{moved, is_on}
 use Rattle.euler_operators.specs.Items.{count, SameItems}
-use Rattle.euler_operators.proofs.Lists.{tick_same}
+use Rattle.euler_operators.proofs.Lists.{tick_same, count-append}
 use Rattle.euler_operators.specs.HalfEdge.{plus, minus}
 use Rattle.euler_operators.specs.Table as table
 use Rattle.euler_operators.specs.Model.{Model, no_face, lone, tail, content, outer, point_of, loop_of, face_of, solid_of, cycle_of}
@@ -153,11 +153,11 @@ module _ (N : Model) (u k e g l : ℕ) (can : CanDraw N u k e g l) where
       ]
 
   both : SameItems (boundary K F ++ boundary K g) (plus e ∷ minus e ∷ boundary N F)
-  both h = two_halves h e (boundary K F) (boundary K g) (boundary N F)
+  both h = count-append h (boundary K F) (boundary K g) ∙ two_halves h e (count h (boundary K F) + count h (boundary K g)) (boundary N F)
       (λ is. let now : HasHalf K h = subst (HasHalf K) (sym is) (plus_there N K e _ (edges_are N u k e g l can)) in
-      (bound_one K K_sound F h now (ap (face_at K) is ∙ plus_face), bound_none K K_sound g h g_now (λ t s. not_new F F_there (sym plus_face ∙ sym (ap (face_at K) is) ∙ s)), bound_none N can.sound F h F_there (λ t s. (none_new N e h can.edge_free t).0 is)))
+      (omega (arith, bound_one K K_sound F h now (ap (face_at K) is ∙ plus_face), bound_none K K_sound g h g_now (λ t s. not_new F F_there (sym plus_face ∙ sym (ap (face_at K) is) ∙ s))), bound_none N can.sound F h F_there (λ t s. (none_new N e h can.edge_free t).0 is)))
       (λ is. let now : HasHalf K h = subst (HasHalf K) (sym is) (minus_there N K e _ (edges_are N u k e g l can)) in
-      (bound_none K K_sound F h F_now (λ t s. not_new F F_there (sym s ∙ ap (face_at K) is ∙ minus_face)), bound_one K K_sound g h now (ap (face_at K) is ∙ minus_face), bound_none N can.sound F h F_there (λ t s. (none_new N e h can.edge_free t).1 is)))
+      (omega (arith, bound_none K K_sound F h F_now (λ t s. not_new F F_there (sym s ∙ ap (face_at K) is ∙ minus_face)), bound_one K K_sound g h now (ap (face_at K) is ∙ minus_face)), bound_none N can.sound F h F_there (λ t s. (none_new N e h can.edge_free t).1 is)))
       (λ a b. elim (half_there N h) [
         | inl was ↦ old_counts h was
         | inr not_was ↦

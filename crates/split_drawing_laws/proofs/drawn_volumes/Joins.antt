@@ -21,7 +21,7 @@ use Rattle.split_drawing_laws.specs.drawings.DrawnIn.{Stays}
 use Rattle.split_drawing_laws.proofs.drawings.Drawn.{CanJoin, join_sound, loops_joined_faces}
 use Rattle.split_drawing_laws.proofs.drawings.Stays.{stands_at, row_joined, row_other, row_gone, joined_edges, join_stays, join_tails, join_faces}
 use Rattle.split_drawing_laws.proofs.loop_sides.After.{none_new, halves_joined}
-use Rattle.split_drawing_laws.proofs.drawn_volumes.Bounds.{OnFace, anchor_still, lone_there, bound_one, bound_none, point_still, start_still, half_there, plus_there, minus_there, area_after, one_count, no_count, normal_kept, two_in, no_area, normal_is}
+use Rattle.split_drawing_laws.proofs.drawn_volumes.Bounds.{OnFace, anchor_still, lone_there, bound_one, bound_none, point_still, start_still, half_there, plus_there, minus_there, area_after, one_count, no_count, normal_kept, two_halves, no_area, normal_is}
 
 module _ (N : Model) (c d e : ℕ) (can : CanJoin N c d e) where
   abbrev K : Model
@@ -94,7 +94,7 @@ module _ (N : Model) (c d e : ℕ) (can : CanJoin N c d e) where
         (λ h was at. join_faces N c d e can h was ∙ at)
 
     normal_here : f ≡ F → normal K f ≡ normal N f
-    normal_here at = normal_is K f ∙ area_same K (boundary K f) (plus e ∷ minus e ∷ boundary N f) (λ h. two_in h e (boundary K f) (boundary N f)
+    normal_here at = normal_is K f ∙ area_same K (boundary K f) (plus e ∷ minus e ∷ boundary N f) (λ h. two_halves h e (count h (boundary K f)) (boundary N f)
         (λ is. (bound_one K J_sound f h (subst (HasHalf K) (sym is) (plus_there N K e _ (joined_edges N c d e can))) (ap (face_at K) is ∙ plus_face ∙ sym at), bound_none N can.sound f h there (λ t s. (none_new N e h can.edge_free t).0 is)))
         (λ is. (bound_one K J_sound f h (subst (HasHalf K) (sym is) (minus_there N K e _ (joined_edges N c d e can))) (ap (face_at K) is ∙ minus_face ∙ sym at), bound_none N can.sound f h there (λ t s. (none_new N e h can.edge_free t).1 is)))
         (λ a b. elim (half_there N h) [

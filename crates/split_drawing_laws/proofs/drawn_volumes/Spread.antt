@@ -19,7 +19,7 @@ use Rattle.split_drawing_laws.specs.drawings.DrawnIn.{DrawnIn}
 use Rattle.split_drawing_laws.specs.drawings.Pairs.{pairs_in}
 use Rattle.split_drawing_laws.specs.drawings.Passing.{Ready, Drawable}
 use Rattle.split_drawing_laws.proofs.drawings.Drawn.{CanDraw, CanJoin}
-use Rattle.split_drawing_laws.proofs.drawings.Rings.{RingOf, Newer}
+use Rattle.split_drawing_laws.proofs.drawings.Rings.{RingOf, Newer, ring_faces}
 use Rattle.split_drawing_laws.proofs.face_sides.Beside.{never_free}
 use Rattle.split_drawing_laws.proofs.drawn_volumes.Bounds.{OnFace}
 use Rattle.split_drawing_laws.proofs.drawn_volumes.Draws as draws
@@ -136,7 +136,7 @@ module _ (M : Model) (f : ℕ) (sound : Sound M) (f_there : Has M.faces f) (r : 
     }
 
     row_same : (g : ℕ) → table.get R.faces g ≡ table.get X.faces g
-    row_same g = ap (λ t. table.get t g) (moves.faces_moved X f l k can)
+    row_same g = ap (λ t. table.get t g) (ring_faces X l k can.sound can.goes)
 
     has_was : (g : ℕ) → Has R.faces g → Has X.faces g
     has_was g there = sym (ap is_some (row_same g)) ∙ there

@@ -18,6 +18,7 @@ use Rattle.shapes.specs.Measure.{normal, anchor, six_volume}
 use Rattle.shapes.proofs.measures.FlatFaces.{anchor_on, told_anywhere}
 use Rattle.shapes.specs.split.Drawing.{face_drawn, loops_joined}
 use Rattle.split_drawing_laws.proofs.drawings.Drawn.{CanDraw, CanJoin}
+use Rattle.split_drawing_laws.proofs.drawings.Rings.{ring_sound, ring_faces}
 use Rattle.euler_operators.proofs.Vectors.{dot_sum}
 use Rattle.split_drawing_laws.proofs.drawn_volumes.Bounds.{OnFace, face_on}
 use Rattle.split_drawing_laws.proofs.drawn_volumes.Draws as draws
@@ -25,7 +26,8 @@ use Rattle.split_drawing_laws.proofs.drawn_volumes.Joins as joins
 use Rattle.split_drawing_laws.proofs.drawn_volumes.Moves as moves
 use Rattle.split_drawing_laws.proofs.drawn_volumes.Moves.{CanMove}
 use Rattle.shapes.proofs.measures.Sums.{total, volume_of, unchanged, total_same}
-use Rattle.split_drawing_laws.proofs.cut_volumes.Told.{solid_facts, counted_in, counted_out, same_count, six_is, changed_one}
+use Rattle.split_drawing_laws.proofs.cut_volumes.Told.{counted_in, counted_out, same_count, six_is, changed_one}
+use Rattle.split_drawing_laws.proofs.crossings.Premises.{solid_facts}
 
 -- the plane has a direction
 abbrev pub IsPlane : Plane → Type 0
@@ -130,11 +132,8 @@ module _ (N : Model) (f l k : ℕ) (can : CanMove N f l k) (r : Plane) (some : I
   abbrev R : Model
   R = ring_in N l k
 
-  ring_sound : Sound R
-  ring_sound = moves.moved_sound N f l k can
-
   now : (h : ℕ) → Has N.faces h → Has R.faces h
-  now h there = subst (λ t. Has t h) (sym (moves.faces_moved N f l k can)) there
+  now h there = subst (λ t. Has t h) (sym (ring_faces N l k can.sound can.goes)) there
 
   both_told : volume_of N f +ℤ volume_of N k ≡ volume_of R f +ℤ volume_of R k
   both_told =
@@ -142,8 +141,8 @@ module _ (N : Model) (f l k : ℕ) (can : CanMove N f l k) (r : Plane) (some : I
       let on : is_on r p ≡ true = anchor_lies N can.sound r some f can.f_there w in
       ap (λ x. volume_of N f +ℤ x) (told_from N can.sound r some k p can.goes.f_there z on) ∙ sym (dot_sum p (normal N f) (normal N k))
       ∙ ap (dot p) (sym (moves.normals_sum N f l k can)) ∙ dot_sum p (normal R f) (normal R k)
-      ∙ sym (λ i. told_from R ring_sound r some f p (now f can.f_there) (moves.else_on N f l k can r f can.apart w) on i
-      +ℤ told_from R ring_sound r some k p (now k can.goes.f_there) (moves.moved_on N f l k can r w z) on i)
+      ∙ sym (λ i. told_from R (ring_sound N l k can.sound can.goes) r some f p (now f can.f_there) (moves.else_on N f l k can r f can.apart w) on i
+      +ℤ told_from R (ring_sound N l k can.sound can.goes) r some k p (now k can.goes.f_there) (moves.moved_on N f l k can r w z) on i)
 
   same_told : (h : ℕ) → Has N.faces h → h ≢ f → h ≢ k → volume_of N h ≡ volume_of R h
   same_told h there a b = sym (λ i. dot (moves.anchor_moved N f l k can h there i) (moves.normal_else N f l k can h there a b i))
@@ -170,7 +169,7 @@ module _ (N : Model) (f l k : ℕ) (can : CanMove N f l k) (r : Plane) (some : I
   no_gap a b c d t e = omega (arith, ints)
 
   pub move_volumes : (v : ℕ) → six_volume (ring_in N l k) v ≡ six_volume N v
-  move_volumes v = six_is R v ∙ ap (λ t. total (volume_of R) (table.all_where (λ _ row. nat_eq row.solid v) t)) (moves.faces_moved N f l k can) ∙ sym (elim (eqb_tells (solid_of N f) v) [
+  move_volumes v = six_is R v ∙ ap (λ t. total (volume_of R) (table.all_where (λ _ row. nat_eq row.solid v) t)) (ring_faces N l k can.sound can.goes) ∙ sym (elim (eqb_tells (solid_of N f) v) [
     | inl at ↦
         changed_one (volume_of N) mid f (volume_of N f -ℤ volume_of R f) (gap (volume_of N f) (volume_of R f) ∙ ap (λ x. x +ℤ (volume_of N f -ℤ volume_of R f)) (sym (mid_else f can.apart))) (faces_of N v)
         (λ h i ne. elim (eqb_tells h k) [

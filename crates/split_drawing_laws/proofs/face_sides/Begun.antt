@@ -1,8 +1,8 @@
 -- What the first conditions of a split say of the loops of its solid, once edges are cut: each holds a half-edge, which tells its side.
 use Rattle.std.specs.Prelude.{map}
-use Rattle.std.proofs.Common.{◌≡◌, ℕ, Bool, true, false, nat_eq, ◌&&◌, ◌||◌, List, [], ◌∷◌, is_some, refl, sym, ap, ◌∙◌, subst, arith, inl, inr}
+use Rattle.std.proofs.Common.{◌≡◌, ℕ, Bool, true, false, ◌&&◌, ◌||◌, List, [], ◌∷◌, is_some, refl, sym, ap, ◌∙◌, subst, arith, inl, inr}
 use Rattle.std.proofs.lemmas.Bool.Decides.{eqb_tells}
-use Rattle.std.proofs.lemmas.Bool.{eq-eqb, eqb-true}
+use Rattle.std.proofs.lemmas.Bool.{eqb-true, false_from_ne_true}
 use Rattle.euler_operators.proofs.Tests.{first_fails}
 use Rattle.euler_operators.specs.declared.Plane.{Plane}
 use Rattle.euler_operators.specs.Vectors.{is_above}
@@ -18,7 +18,7 @@ use Rattle.euler_operators.proofs.Maps.{from_map}
 use Rattle.euler_operators.specs.Conditions.{face_at, is_lone, lists}
 use Rattle.euler_laws.proofs.shared.Fans.{half_after, loop_after}
 use Rattle.euler_laws.proofs.shared.Goes.{all_hold, no_zero}
-use Rattle.euler_laws.proofs.shared.Rows.{loop_row, face_there, not_lone_cycle}
+use Rattle.euler_laws.proofs.shared.Rows.{loop_row, not_lone_cycle}
 use Rattle.euler_laws.proofs.shared.Listed.{IsIn-from_listed, listed-from_in}
 use Rattle.shapes.proofs.fresh.Tests.{none_found, none_is_lone}
 use Rattle.shapes.specs.Faces.{start, finish, least_lone, boundary, vertices_on}
@@ -29,8 +29,8 @@ use Rattle.shapes.specs.split.Drawing.{from_place, drawn_pairs, all_pairs}
 use Rattle.shapes.specs.split.Split.{first_conditions}
 use Rattle.split_drawing_laws.specs.crossings.Kept.{Kept}
 use Rattle.split_drawing_laws.specs.crossings.Laws.{CanBegin}
-use Rattle.split_drawing_laws.proofs.crossings.Premises.{item_in_face}
-use Rattle.split_drawing_laws.proofs.crossings.Whole.{at_place, face_facts, can_cut, crossings_keep, crossings_sound, same_solid}
+use Rattle.split_drawing_laws.proofs.crossings.Premises.{item_in_face, face_facts, in_solid}
+use Rattle.split_drawing_laws.proofs.crossings.Whole.{at_place, can_cut, crossings_keep, crossings_sound, same_solid}
 use Rattle.split_drawing_laws.proofs.pairs.LoopPlaces.{none_passes}
 use Rattle.split_drawing_laws.proofs.pairs.Whole.{can_be_drawn, outer_cut}
 use Rattle.split_drawing_laws.specs.drawings.Pairs.{AllFit, LoneInOneLoop, FacesFit}
@@ -42,7 +42,6 @@ use Rattle.split_drawing_laws.proofs.face_sides.Beside.{Held}
 use Rattle.split_drawing_laws.proofs.face_sides.OneFace.{IsSided, PairsOf}
 use Rattle.split_drawing_laws.proofs.face_sides.Passing.{AllOld}
 use Rattle.split_drawing_laws.proofs.face_sides.Shared.{any_from, HeldOn}
-use Rattle.euler_laws.proofs.shared.Counted.{all_where_in}
 
 -- the half-edges of pairs that fit are there
 fits_old : (N : Model) (f : ℕ) (qs : List (ℕ × ℕ)) → AllFit N f qs → AllOld N qs
@@ -82,7 +81,7 @@ module _ (M : Model) (s : ℕ) (p : Plane) (t : ℕ) (sound : Sound M) (begins :
   is_cycle q there of_s = not_lone_cycle (content M q) (first_fails (is_lone (content M q)) (lists (faces_of M s) (face_of M q))
       (zero_first_where (λ _ row. is_lone row.content && lists (faces_of M s) row.face) M.loops (λ l row at z. no_zero l z (sound.loops_fit l (ap is_some at))) none_lone q _ (loop_row M q there)) listed) where
         listed : lists (faces_of M s) (face_of M q) ≡ true
-        listed = listed-from_in (face_of M q) (faces_of M s) (all_where_in (λ _ row. nat_eq row.solid s) M.faces (face_of M q) _ (face_there M (face_of M q) (sound.loops_of_faces q there)) (eq-eqb (solid_of M (face_of M q)) s of_s))
+        listed = listed-from_in (face_of M q) (faces_of M s) (in_solid M (face_of M q) s (sound.loops_of_faces q there) of_s)
 
   -- so each holds a half-edge
   pub loop_holds : (q : ℕ) → Has (with_crossings M s p).model.loops q → solid_of (with_crossings M s p).model (face_of (with_crossings M s p).model q) ≡ s → Held (with_crossings M s p).model (with_crossings M s p).model q
@@ -94,12 +93,6 @@ module _ (M : Model) (s : ℕ) (p : Plane) (t : ℕ) (sound : Sound M) (begins :
       let h_there : HasHalf M h = sound.only_edges h q holds_h in
       record { half = h; old = keep.halves h h_there; at = keep.loop h h_there ∙ sound.one_loop h q holds_h }
 
-  not_listed : (g : ℕ) → count g fs ≡ 0 → lists fs g ≡ false
-  not_listed g z = go (lists fs g) refl where
-    go : (b : Bool) → lists fs g ≡ b → lists fs g ≡ false
-    go false e = e
-    go true e = absurd (let i : IsIn g fs = IsIn-from_listed g fs e in omega (arith, i, z))
-
   -- a face that doesn't straddle lies on one side
   pub sided_first : (g : ℕ) → Has (with_crossings M s p).model.faces g → solid_of (with_crossings M s p).model g ≡ s → count g (straddling_faces M p s) ≡ 0 → IsSided (with_crossings M s p).model (with_crossings M s p).model (side_of M s p) g
   sided_first g there of_s z = (
@@ -107,14 +100,14 @@ module _ (M : Model) (s : ℕ) (p : Plane) (t : ℕ) (sound : Sound M) (begins :
     λ q q_there at.
         let a : Held N N q = loop_holds q q_there (ap (solid_of N) at ∙ of_s) in
         let face : face_at N a.half ≡ g = ap (face_of N) a.at ∙ at in
-        record { held = a; on = side_beside M s p t sound begins a.half (ap (lists fs) face ∙ not_listed g z) ∙ ap (reaches_above M p) face },
+        record { held = a; on = side_beside M s p t sound begins a.half (ap (lists fs) face ∙ false_from_ne_true (lists fs g) (λ e. absurd (omega (arith, z, IsIn-from_listed g fs e)))) ∙ ap (reaches_above M p) face },
   )
 
   -- ---- the faces that straddle
 
   module _ (f : ℕ) (i : IsIn f (straddling_faces M p s)) where
     of_solid : solid_of N f ≡ s
-    of_solid = same_solid M s p t sound begins f ∙ (face_facts M s p t sound begins f i).1
+    of_solid = same_solid M s p t sound begins f ∙ (face_facts M s p f i).1
 
     -- a loop of f with a corner above holds a half-edge above, and one without holds one below
     module _ (r : ℕ) (there : Has N.loops r) (at : face_of N r ≡ f) where
@@ -173,7 +166,7 @@ module _ (M : Model) (s : ℕ) (p : Plane) (t : ℕ) (sound : Sound M) (begins :
     x = outer_place.0
 
     outer_facts : Has M.loops (outer M f) × (face_of M (outer M f) ≡ f)
-    outer_facts = sound.outers_there f (face_facts M s p t sound begins f i).0
+    outer_facts = sound.outers_there f (face_facts M s p f i).0
 
     x_place : IsIn x (places M p f)
     unfolding places

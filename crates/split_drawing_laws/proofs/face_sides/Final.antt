@@ -1,11 +1,11 @@
 -- From the first conditions of a split to the sides of its loops and faces.
-use Rattle.std.proofs.Common.{◌≡◌, ℕ, Bool, true, false, not, nat_eq, ◌&&◌, ◌||◌, List, [], ◌∷◌, map, is_some, unwrap_or, refl, sym, ap, ◌∙◌, subst, arith, inl, inr}
-use Rattle.std.proofs.lemmas.Bool.{eq-eqb, eqb-true}
+use Rattle.std.proofs.Common.{◌≡◌, ℕ, Bool, true, false, not, nat_eq, ◌&&◌, ◌||◌, List, [], ◌∷◌, map, refl, sym, ap, ◌∙◌, subst, arith, inl, inr}
+use Rattle.std.proofs.lemmas.Bool.{eq-eqb}
 use Rattle.euler_operators.specs.declared.Plane.{Plane}
 use Rattle.euler_operators.specs.Vectors.{is_above, is_below}
 use Rattle.euler_operators.specs.Items.{IsIn}
 use Rattle.euler_operators.proofs.Lists.{count-append, tick_same, IsIn_or_not}
-use Rattle.euler_operators.specs.Model.{Model, LoopContent, cycle, items_of, content, has_half, tail, loop_of, face_of, solid_of, point_of, faces_of, no_face}
+use Rattle.euler_operators.specs.Model.{Model, LoopContent, cycle, items_of, content, has_half, tail, loop_of, face_of, solid_of, point_of, faces_of}
 use Rattle.euler_operators.specs.Sound.{Sound, Has, HasHalf}
 use Rattle.euler_operators.proofs.Models.{in-holds, content_cycle, never_lone, same_solid as solid_same}
 use Rattle.euler_operators.proofs.Tests.{and_false}
@@ -18,8 +18,8 @@ use Rattle.shapes.specs.split.Sides.{straddles, straddling_faces, reaches_above,
 use Rattle.shapes.specs.split.Crossings.{with_crossings}
 use Rattle.shapes.specs.split.Drawing.{all_pairs, faces_drawn, undrawn, straddling_pairs, with_drawings}
 use Rattle.split_drawing_laws.specs.crossings.Laws.{CanBegin}
-use Rattle.split_drawing_laws.proofs.crossings.Whole.{face_facts, crossings_keep, crossings_sound, same_solid}
-use Rattle.split_drawing_laws.proofs.crossings.Premises.{faces_not_zero, loop_in_face}
+use Rattle.split_drawing_laws.proofs.crossings.Whole.{crossings_keep, crossings_sound, same_solid}
+use Rattle.split_drawing_laws.proofs.crossings.Premises.{faces_not_zero, loop_in_face, face_facts, solid_facts}
 use Rattle.split_drawing_laws.proofs.pairs.Whole.{can_be_drawn}
 use Rattle.split_drawing_laws.specs.drawings.Laws.{CanBeDrawn}
 use Rattle.split_drawing_laws.proofs.drawings.Whole.{drawable, drawing_sound}
@@ -37,7 +37,7 @@ use Rattle.split_drawing_laws.proofs.face_sides.OneFace.{IsSided}
 use Rattle.split_drawing_laws.proofs.face_sides.Shared.{none_from}
 use Rattle.split_drawing_laws.proofs.face_sides.Stages.{Stage, AllPairsOf, all_done}
 use Rattle.split_drawing_laws.proofs.drawings.Counted.{faces_are}
-use Rattle.euler_laws.proofs.shared.Counted.{none_counted, all_where_has}
+use Rattle.euler_laws.proofs.shared.Counted.{none_counted}
 
 cycle_of_items : (c : LoopContent) (zs : List ℕ) → c ≡ cycle zs → c ≡ cycle (items_of c)
 cycle_of_items c zs e = e ∙ ap (λ d. cycle (items_of d)) (sym e)
@@ -92,7 +92,7 @@ module _ (M : Model) (s : ℕ) (p : Plane) (t : ℕ) (sound : Sound M) (begins :
   -- ---- the faces, from the first one drawn to the last
 
   straddling_there : (f : ℕ) → IsIn f fs → Has N.faces f
-  straddling_there f i = subst (λ u. Has u f) (sym (crossings_keep M s p t sound begins).faces) (face_facts M s p t sound begins f i).0
+  straddling_there f i = subst (λ u. Has u f) (sym (crossings_keep M s p t sound begins).faces) (face_facts M s p f i).0
 
   none_done : Stage N N side s fs fs
   none_done = record {
@@ -119,7 +119,7 @@ module _ (M : Model) (s : ℕ) (p : Plane) (t : ℕ) (sound : Sound M) (begins :
   own_before : (h : ℕ) → HasHalf N h → solid_of D (face_at D h) ≡ s → solid_of N (face_at N h) ≡ s
   own_before h there of_s = go (lists fs (face_at N h)) refl where
     go : (b : Bool) → lists fs (face_at N h) ≡ b → solid_of N (face_at N h) ≡ s
-    go true e = same_solid M s p t sound begins (face_at N h) ∙ (face_facts M s p t sound begins (face_at N h) (IsIn-from_listed (face_at N h) fs e)).1
+    go true e = same_solid M s p t sound begins (face_at N h) ∙ (face_facts M s p (face_at N h) (IsIn-from_listed (face_at N h) fs e)).1
     go false e = sym (solid_same N D (face_at N h) (stage.rows (face_at N h) (half_face N N_sound h there))) ∙ ap (solid_of D) (sym (stage.kept h there (none_counted (face_at N h) fs e))) ∙ of_s
 
   is_own_then : (h : ℕ) → solid_of D (face_at D h) ≡ s → is_own M s p h ≡ true
@@ -194,11 +194,11 @@ loops_lie M D s p t sound begins drawn = subst (λ X. (x y : ℕ) → HasHalf X 
     drawn.1 (loops_are_sided M s p t sound begins drawn.0)
 
 pub none_straddles : (M D : Model) (s : ℕ) (p : Plane) (t : ℕ) → Sound M → CanBegin M s p t → IsDrawn M s p D → (f : ℕ) → lists (faces_of D s) f ≡ true → straddles D p f ≡ false
-unfolding with_drawings solid_of
+unfolding with_drawings
 none_straddles M D s p t sound begins drawn = subst (λ X. (f : ℕ) → lists (faces_of X s) f ≡ true → straddles X p f ≡ false) drawn.1 (λ f i.
     let X : Model = (faces_drawn p (undrawn (with_crossings M s p)) (straddling_pairs M s p)).model in
-    let w = all_where_has (λ _ row. nat_eq row.solid s) X.faces f (IsIn-from_listed f (faces_of X s) i) in
-    face_is_sided M s p t sound begins drawn.0 f (ap is_some w.1) (ap (λ o. (unwrap_or o no_face).solid) w.1 ∙ eqb-true w.0.solid s w.2))
+    let w = solid_facts X s f (IsIn-from_listed f (faces_of X s) i) in
+    face_is_sided M s p t sound begins drawn.0 f w.0 w.1)
 
 pub none_lone : (M D : Model) (s : ℕ) (p : Plane) (t : ℕ) → Sound M → CanBegin M s p t → IsDrawn M s p D → NoLoopIsLone D s
 unfolding with_drawings

@@ -1,6 +1,7 @@
 -- One face drawn: it and the faces that are cut off it each lie on one side.
 use Rattle.std.proofs.Common.{◌≡◌, ◌≢◌, ℕ, suc, ◌+◌, Bool, true, false, cond, nat_eq, nat_lt, ◌&&◌, List, [], ◌∷◌, length, None, is_some, refl, sym, ap, ◌∙◌, subst, arith, inl, inr, true≢false}
 use Rattle.std.proofs.lemmas.Bool.Decides.{nat_tests, eqb_tells}
+use Rattle.std.proofs.lemmas.Bool.{false_from_ne_true}
 use Rattle.euler_operators.specs.declared.Plane.{Plane}
 use Rattle.euler_operators.specs.Table as table
 use Rattle.euler_operators.specs.Model.{Model, holds, content, loop_of, face_of, outer}
@@ -16,9 +17,9 @@ use Rattle.split_drawing_laws.specs.drawings.DrawnIn.{Stays}
 use Rattle.split_drawing_laws.proofs.drawings.Drawn.{CanDraw, face_drawn_else}
 use Rattle.split_drawing_laws.specs.drawings.Passing.{Ready}
 use Rattle.split_drawing_laws.proofs.drawings.Faces.{face_goes, begun_joining, joins, going}
-use Rattle.split_drawing_laws.proofs.drawings.Pairs.{none_joined, joined_drawn, pair_can, stays_on}
+use Rattle.split_drawing_laws.proofs.drawings.Pairs.{none_joined, joined_drawn, pair_can}
 use Rattle.split_drawing_laws.proofs.drawings.Passes.{join_next_one, stuck_now, draw_next_one, cut_off, edge_fits, face_fits, loop_fits, room_as}
-use Rattle.split_drawing_laws.proofs.drawings.Stays.{row_else, draw_stays}
+use Rattle.split_drawing_laws.proofs.drawings.Stays.{row_else, draw_stays, stays_on}
 use Rattle.split_drawing_laws.specs.drawings.DrawnIn.{PairsHaveRoom}
 use Rattle.split_drawing_laws.proofs.loop_sides.SidesWhole.{draws_go_on}
 use Rattle.split_drawing_laws.proofs.half_sides.PlaceEnds.{AllUp}
@@ -186,11 +187,8 @@ module _ (B : Model) (side : ℕ → Bool) (p : Plane) (f : ℕ) (q r : ℕ × �
   unshared = ap (λ b. cond b (record (all_drawn f (ring_free f ps J)) { model = with_rings (all_drawn f (ring_free f ps J)).model (rings_above (all_drawn f (ring_free f ps J)).model p f) (all_drawn f (ring_free f ps J)).taken.face }) (all_drawn f (ring_free f ps J))) not_one
 
   not_stopped : stops ≡ false
-  not_stopped = go stops refl where
-    go : (b : Bool) → stops ≡ b → stops ≡ false
-    go false e = e
-    go true e = absurd ((draws_go_on f (stuck_at f J) J.left).stuck (stuck_now f J some)
-        (sym (ap (λ b. (all_drawn f (cond b (stuck_at f J) J)).stuck) e) ∙ ap (λ x. x.stuck) (sym unshared) ∙ free))
+  not_stopped = false_from_ne_true stops (λ e. (draws_go_on f (stuck_at f J) J.left).stuck (stuck_now f J some)
+      (sym (ap (λ b. (all_drawn f (cond b (stuck_at f J) J)).stuck) e) ∙ ap (λ x. x.stuck) (sym unshared) ∙ free))
 
   no_rings : has_rings J.model f ≡ false
   no_rings = second_of (nat_lt 1 (length ps)) (has_rings J.model f) more not_stopped where

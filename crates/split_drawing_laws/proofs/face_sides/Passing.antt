@@ -8,9 +8,9 @@ use Rattle.shapes.specs.split.Drawing.{Drawing, join_next, draw_next}
 use Rattle.split_drawing_laws.specs.drawings.DrawnIn.{Stays}
 use Rattle.split_drawing_laws.specs.drawings.Pairs.{AllFit}
 use Rattle.split_drawing_laws.specs.drawings.Passing.{Joining, Going}
-use Rattle.split_drawing_laws.proofs.drawings.Pairs.{stays_on, was_free}
+use Rattle.split_drawing_laws.proofs.drawings.Pairs.{was_free}
 use Rattle.split_drawing_laws.proofs.drawings.Passes.{either_now, joins_keep, cut_off, face_open, can_now, draws_keep}
-use Rattle.split_drawing_laws.proofs.drawings.Stays.{draw_stays}
+use Rattle.split_drawing_laws.proofs.drawings.Stays.{draw_stays, stays_on}
 use Rattle.split_drawing_laws.proofs.drawings.Drawn.{loops_joined_faces}
 use Rattle.split_drawing_laws.proofs.face_sides.Beside.{Alone, draw_alone, Beside, ComesOf, joined_beside, drawn_beside}
 

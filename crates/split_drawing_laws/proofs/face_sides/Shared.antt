@@ -3,12 +3,12 @@ use Rattle.std.specs.Prelude.{map, List}
 use Rattle.std.specs.List.{list_any}
 use Rattle.std.proofs.Common.{◌≡◌, ℕ, Bool, true, false, ◌||◌, List, [], ◌∷◌, unwrap_or, refl, sym, ap, ◌∙◌, arith, true≢false, ◌≢◌, nat_eq, is_some, subst, inl, inr}
 use Rattle.std.proofs.lemmas.Bool.Decides.{eqb_tells}
-use Rattle.std.proofs.lemmas.Bool.{ne_eqb, eq-eqb}
+use Rattle.std.proofs.lemmas.Bool.{ne_eqb, eq-eqb, false_from_ne_true}
 use Rattle.euler_operators.specs.declared.Plane.{Plane}
 use Rattle.euler_operators.specs.Vectors.{is_above}
 use Rattle.euler_operators.specs.Items.{IsIn}
 use Rattle.euler_operators.specs.Table as table
-use Rattle.euler_operators.specs.Model.{Model, LoopContent, lone, cycle, items_of, content, tail, point_of, no_point, holds, loop_of, face_of, outer, rings_of, is_ring_of}
+use Rattle.euler_operators.specs.Model.{Model, LoopContent, lone, cycle, items_of, content, tail, point_of, no_point, holds, loop_of, face_of, outer, rings_of}
 use Rattle.euler_operators.specs.Sound.{Sound, HasHalf, Has, StandsIn}
 use Rattle.euler_operators.specs.Conditions.{face_at, lists}
 use Rattle.euler_operators.proofs.Lists.{tick_same}
@@ -123,13 +123,9 @@ module _ (B N : Model) (side : ℕ → Bool) (p : Plane) (f u k e g l : ℕ) (c 
 
   -- a ring that isn't given away doesn't pass
   passes_not : (r : ℕ) → Has K.loops r → face_of K r ≡ f → outer K f ≢ r → lists ls r ≡ false → test r ≡ false
-  passes_not r there face inner not_listed = go (test r) refl where
-    ring : is_ring_of K f r ≡ true
-    ring = test_ring (table.has K.loops r) (nat_eq (face_of K r) f) (nat_eq (outer K f) r) there (eq-eqb (face_of K r) f face) (ne_eqb (outer K f) r inner)
-
-    go : (b : Bool) → test r ≡ b → test r ≡ false
-    go false e = e
-    go true e = absurd (true≢false (sym (listed-from_in r ls (IsIn-filter test r (rings_of K f) (IsIn-from_listed r (rings_of K f) (ring_listed K K_sound f r ring)) e)) ∙ not_listed))
+  passes_not r there face inner not_listed =
+      let ring = test_ring (table.has K.loops r) (nat_eq (face_of K r) f) (nat_eq (outer K f) r) there (eq-eqb (face_of K r) f face) (ne_eqb (outer K f) r inner) in
+      false_from_ne_true (test r) (λ e. true≢false (sym (listed-from_in r ls (IsIn-filter test r (rings_of K f) (IsIn-from_listed r (rings_of K f) (ring_listed K K_sound f r ring)) e)) ∙ not_listed))
 
   -- a ring of f then was one before, and its half-edge stays there
   module _ (r : ℕ) (there : Has K.loops r) (face : face_of K r ≡ f) (inner : outer K f ≢ r) where

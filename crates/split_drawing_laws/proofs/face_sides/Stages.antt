@@ -16,8 +16,8 @@ use Rattle.split_drawing_laws.specs.drawings.DrawnIn.{Stays, DrawnIn}
 use Rattle.split_drawing_laws.specs.drawings.Pairs.{pairs_in}
 use Rattle.split_drawing_laws.specs.drawings.Passing.{Ready, Drawable}
 use Rattle.split_drawing_laws.proofs.drawings.Faces.{face_goes}
-use Rattle.split_drawing_laws.proofs.drawings.Pairs.{stays_on}
 use Rattle.split_drawing_laws.proofs.drawings.Whole.{ready, drawable_on, next_is}
+use Rattle.split_drawing_laws.proofs.drawings.Stays.{stays_on}
 use Rattle.split_drawing_laws.proofs.loop_sides.SidesWhole.{not_stuck}
 use Rattle.split_drawing_laws.proofs.face_sides.OneFace.{Untouched, IsSided, PairsOf, FaceDone, face_done}
 use Rattle.split_drawing_laws.proofs.face_sides.Shared.{LiesOnSide}

@@ -6,7 +6,7 @@ use Rattle.std.proofs.lemmas.Bool.Decides.{eqb_tells}
 use Rattle.std.proofs.lemmas.Bool.{and_parts}
 use Rattle.euler_operators.specs.declared.Plane.{Plane}
 use Rattle.euler_operators.specs.Items.{count, IsIn, IsApart, tick}
-use Rattle.euler_operators.specs.Model.{Model, loop_of, face_of, solid_of, after}
+use Rattle.euler_operators.specs.Model.{Model, solid_of, after}
 use Rattle.euler_operators.specs.Vectors.{height, is_above, is_on, cut_between}
 use Rattle.euler_operators.specs.HalfEdge.{edge_of, plus}
 use Rattle.euler_operators.specs.Table as table
@@ -29,11 +29,11 @@ use Rattle.split_drawing_laws.specs.loop_sides.Parted.{ends, all_ends, Crosses, 
 use Rattle.split_drawing_laws.specs.crossings.AtPlace.{AtPlace}
 use Rattle.split_drawing_laws.specs.crossings.Laws.{CanBegin}
 use Rattle.split_drawing_laws.specs.half_sides.HalfSides.{half_is_above, side_of}
-use Rattle.split_drawing_laws.proofs.crossings.Whole.{at_place, item_there, item_face, face_facts, turned, in_crossing, on_when, can_cut, crossings_keep, crossings_sound}
-use Rattle.split_drawing_laws.proofs.crossings.Premises.{Cuttable, edge_facts, crossing_here, crossing_point, one_point}
+use Rattle.split_drawing_laws.proofs.crossings.Whole.{at_place, item_there, item_face, turned, in_crossing, on_when, can_cut, crossings_sound}
+use Rattle.split_drawing_laws.proofs.crossings.Premises.{Cuttable, edge_facts, crossing_here, crossing_point, one_point, face_facts}
 use Rattle.split_drawing_laws.proofs.pairs.Sorted.{between, drawn, points_apart, all_places_drawn, count-sorted, sorted_apart}
 use Rattle.split_drawing_laws.proofs.pairs.LoopPlaces.{places_even}
-use Rattle.split_drawing_laws.proofs.pairs.Whole.{places_apart}
+use Rattle.split_drawing_laws.proofs.pairs.Whole.{places_apart, place_face}
 use Rattle.split_drawing_laws.proofs.half_sides.Starts.{side_ahead, TurnAt, turn_at}
 
 module _ (M N : Model) (p : Plane) where
@@ -104,17 +104,11 @@ module _ (M : Model) (s : ℕ) (p : Plane) (t : ℕ) (sound : Sound M) (begins :
     unfolding places
     place_passes h j = filter_passes (is_place M p) h (boundary M f) j
 
-    face_there : Has M.faces f
-    face_there = (face_facts M s p t sound begins f i).0
-
     half_there : (h : ℕ) → IsIn h (places M p f) → HasHalf M h
-    half_there h j = item_there M sound f face_there h (in_face h j)
+    half_there h j = item_there M sound f (face_facts M s p f i).0 h (in_face h j)
 
     half_face : (h : ℕ) → IsIn h (places M p f) → face_at M h ≡ f
-    half_face h j = item_face M sound f face_there h (in_face h j)
-
-    pub place_face : (h : ℕ) → IsIn h (places M p f) → face_at N (from_place N p h) ≡ f
-    place_face h j = ap (face_of N) (at h j).loop ∙ (crossings_keep M s p t sound begins).face (loop_of M h) ∙ half_face h j
+    half_face h j = item_face M sound f (face_facts M s p f i).0 h (in_face h j)
 
     pub place_there : (h : ℕ) → IsIn h (places M p f) → HasHalf N (from_place N p h)
     place_there h j = (at h j).there
@@ -129,7 +123,7 @@ module _ (M : Model) (s : ℕ) (p : Plane) (t : ℕ) (sound : Sound M) (begins :
     edge_in : (h : ℕ) → IsIn h (places M p f) → crosses M p h ≡ true → IsIn (edge_of h) (crossing_edges M p s)
     edge_in h j c =
         let there : Has M.edges (edge_of h) = half_there h j in
-        let of_s : solid_of M (face_at M h) ≡ s = ap (solid_of M) (half_face h j) ∙ (face_facts M s p t sound begins f i).1 in
+        let of_s : solid_of M (face_at M h) ≡ s = ap (solid_of M) (half_face h j) ∙ (face_facts M s p f i).1 in
         elim (halves_of_edge h) [
           | inl e ↦ in_crossing M s p t sound begins (edge_of h) there (ap (λ x. solid_of M (face_at M x)) (sym e.0) ∙ of_s) (ap (crosses M p) (sym e.0) ∙ c)
           | inr e ↦ in_crossing M s p t sound begins (edge_of h) there
@@ -164,13 +158,13 @@ module _ (M : Model) (s : ℕ) (p : Plane) (t : ℕ) (sound : Sound M) (begins :
     finish_is : (h : ℕ) → IsIn h (places M p f) → finish N (from_place N p h) ≡ finish M h
     finish_is h j =
         let b = back_of N (crossings_sound M s p t sound begins) (from_place N p h) (place_there h j) in
-        let face : face_at N (after N b.0) ≡ f = ap (face_at N) b.2 ∙ place_face h j in
+        let face : face_at N (after N b.0) ≡ f = ap (face_at N) b.2 ∙ place_face M s p t sound begins f i h j in
         let w : TurnAt M N p b.0 = turn_at M s p t sound begins b.0 b.1 (ap (λ z. is_on p (start N z)) b.2 ∙ place_on h j) (subst (λ z. IsIn z fs) (sym face) i) in
         let same : w.place ≡ h = place_once w.place h (subst (λ z. IsIn w.place (places M p z)) face w.of_face) j (w.is ∙ b.2) in
         ap (finish N) (sym b.2) ∙ w.ends ∙ ap (finish M) same
 
     pub side_at : (h : ℕ) → IsIn h (places M p f) → side_of M s p (from_place N p h) ≡ goes_up M p h
-    side_at h j = side_within (from_place N p h) (subst (λ z. IsIn z fs) (sym (place_face h j)) i)
+    side_at h j = side_within (from_place N p h) (subst (λ z. IsIn z fs) (sym (place_face M s p t sound begins f i h j)) i)
         ∙ side_ahead (height p (start N (from_place N p h))) (height p (finish N (from_place N p h))) (place_on h j)
         ∙ ap (is_above p) (finish_is h j)
 

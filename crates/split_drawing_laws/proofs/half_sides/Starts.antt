@@ -8,7 +8,7 @@ use Rattle.euler_operators.specs.declared.Plane.{Plane}
 use Rattle.euler_operators.specs.Items.{count, IsIn}
 use Rattle.euler_operators.specs.HalfEdge.{mate, edge_of, plus, minus}
 use Rattle.euler_operators.specs.Model.{Model, tail, loop_of, face_of, after, before, point_of}
-use Rattle.euler_operators.specs.Sound.{Sound, Has, HasHalf}
+use Rattle.euler_operators.specs.Sound.{Sound, HasHalf}
 use Rattle.euler_operators.specs.Conditions.{face_at}
 use Rattle.euler_operators.proofs.Lists.{IsIn_or_not}
 use Rattle.euler_operators.proofs.Halves.{edge_of-mate, mate_plus, mate_minus}
@@ -24,8 +24,8 @@ use Rattle.shapes.specs.split.Drawing.{from_place}
 use Rattle.split_drawing_laws.specs.crossings.Kept.{Kept}
 use Rattle.split_drawing_laws.specs.crossings.Laws.{CanBegin}
 use Rattle.split_drawing_laws.proofs.crossings.Premises.{item_in_face, Cuttable, crossing_is_place, edge_facts, plus_crosses, minus_crosses, minus_is}
-use Rattle.split_drawing_laws.proofs.crossings.Whole.{plus_on, minus_off, can_cut, crossings_cut, crossings_keep, crossings_sound, not_cut}
-use Rattle.split_drawing_laws.proofs.crossings.Runs.{kept_point, kept_start}
+use Rattle.split_drawing_laws.proofs.crossings.Whole.{plus_on, minus_off, can_cut, crossings_keep, crossings_sound, start_minus, start_plus}
+use Rattle.split_drawing_laws.proofs.crossings.Runs.{kept_point}
 use Rattle.split_drawing_laws.proofs.pairs.LoopPlaces.{on_place, before_after}
 use Rattle.split_drawing_laws.proofs.half_sides.Pieces.{after_once, CutBy, Pieces, crossing_pieces}
 
@@ -89,16 +89,10 @@ module _ (M : Model) (s : ℕ) (p : Plane) (t : ℕ) (sound : Sound M) (begins :
 
   -- ---- old half-edges
 
-  minus_start : (e : ℕ) → Has M.edges e → start N (minus e) ≡ start M (minus e)
-  minus_start e there = kept_start M N sound keep (minus e) (minus_there M e there) ((crossings_cut M s p t sound begins).minus_tails e there)
-
-  plus_start : (e : ℕ) → Has M.edges e → count e es ≡ 0 → start N (plus e) ≡ start M (plus e)
-  plus_start e there z = kept_start M N sound keep (plus e) (plus_there M e there) ((crossings_cut M s p t sound begins).plus_tails e there (not_cut M s p t sound begins e z))
-
   uncut_start : (h : ℕ) → HasHalf M h → count (edge_of h) es ≡ 0 → start N h ≡ start M h
   uncut_start h there z = elim (halves_of_edge h) [
-    | inl e ↦ subst (λ x. start N x ≡ start M x) (sym e.0) (plus_start (edge_of h) there z)
-    | inr e ↦ subst (λ x. start N x ≡ start M x) (sym e.0) (minus_start (edge_of h) there)
+    | inl e ↦ subst (λ x. start N x ≡ start M x) (sym e.0) (start_plus M s p t sound begins (edge_of h) there z)
+    | inr e ↦ subst (λ x. start N x ≡ start M x) (sym e.0) (start_minus M s p t sound begins (edge_of h) there)
   ]
 
   pub old_face : (h : ℕ) → HasHalf M h → face_at N h ≡ face_at M h
@@ -150,7 +144,7 @@ module _ (M : Model) (s : ℕ) (p : Plane) (t : ℕ) (sound : Sound M) (begins :
         | inl i ↦ inl (ap (λ x. is_on p (start N x)) a.0 ∙ plus_on M s p t sound begins (edge_of h) i)
         | inr z ↦ old_comes h old (uncut_start h old z)
       ]
-      | inr a ↦ old_comes h old (ap (start N) a.0 ∙ minus_start (edge_of h) old ∙ ap (start M) (sym a.0))
+      | inr a ↦ old_comes h old (ap (start N) a.0 ∙ start_minus M s p t sound begins (edge_of h) old ∙ ap (start M) (sym a.0))
     ]
     | inr w ↦ elim (halves_of_edge h) [
       | inl a ↦ inr (plus w.0, plus_there M w.0 w.2.old, ap (start N) a.0 ∙ first_start w.0 (edge_of h) w.1 w.2, ap (face_at N) a.0 ∙ first_face w.0 (edge_of h) w.1 w.2)
@@ -173,7 +167,7 @@ module _ (M : Model) (s : ℕ) (p : Plane) (t : ℕ) (sound : Sound M) (begins :
         let k : ℕ = (pieces.cuts e i).0 in
         let w : CutBy M N e k = (pieces.cuts e i).1 in
         let from : x ≡ plus k = after_once N new_sound x (plus k) there (plus_there N k w.there) (is ∙ sym w.first) in
-        let end : finish N (after N x) ≡ start M (minus e) = ap (finish N) is ∙ ap (start N) (mate_plus e) ∙ minus_start e w.old in
+        let end : finish N (after N x) ≡ start M (minus e) = ap (finish N) is ∙ ap (start N) (mate_plus e) ∙ start_minus M s p t sound begins e w.old in
         record {
           place = plus e;
           of_face = in_places (plus e) f (plus_there M e w.old) (sym (old_face (plus e) (plus_there M e w.old)) ∙ ap (face_at N) (sym is)) (crossing_is_place M p (plus e) (edge_facts M sound s p e i).2);
@@ -193,7 +187,7 @@ module _ (M : Model) (s : ℕ) (p : Plane) (t : ℕ) (sound : Sound M) (begins :
           of_face = in_places (minus e) f old (sym (second_face e k i w) ∙ ap (face_at N) (sym is)) (crossing_is_place M p (minus e) (minus_is M sound s p premises e i));
           is = ap (λ b. cond b (minus e) (after N (minus e))) (minus_off M s p t sound begins e i) ∙ w.second ∙ sym is;
           ends = end ∙ sym (ap (start M) (mate_minus e));
-          across = (λ j. are_opposite p ((ap (start N) from ∙ minus_start e w.old) j) (end j)) ∙ minus_crosses M sound s p premises e i;
+          across = (λ j. are_opposite p ((ap (start N) from ∙ start_minus M s p t sound begins e w.old) j) (end j)) ∙ minus_crosses M sound s p premises e i;
         }
 
     -- at a corner of M

@@ -1,7 +1,7 @@
 -- From the first conditions of a split to the sides that half-edges take.
 use Rattle.std.specs.Prelude.{nat_eq}
 use Rattle.std.proofs.Common.{◌≡◌, ℕ, Bool, true, false, cond, not, ◌&&◌, ◌||◌, List, [], ◌∷◌, refl, sym, ap, ◌∙◌, subst, arith, inl, inr, true≢false}
-use Rattle.std.proofs.lemmas.Bool.{eq-eqb, eqb-true}
+use Rattle.std.proofs.lemmas.Bool.{eqb-true, false_from_ne_true}
 use Rattle.euler_operators.specs.declared.Plane.{Plane}
 use Rattle.euler_operators.specs.Vectors.{height, are_opposite, is_above, is_below, is_on}
 use Rattle.euler_operators.specs.Items.{count, IsIn}
@@ -13,28 +13,26 @@ use Rattle.euler_operators.specs.Sound.{Sound, Has, HasHalf}
 use Rattle.euler_operators.proofs.Halves.{plus_row, mate_plus, mate_minus}
 use Rattle.euler_operators.proofs.Models.{cycle_there, loop_there}
 use Rattle.euler_operators.proofs.Members.{IsIn-filter}
-use Rattle.euler_operators.proofs.Tables.{row_some}
 use Rattle.euler_operators.specs.Conditions.{face_at, lists}
 use Rattle.euler_laws.proofs.shared.Arcs.{halves_of_edge}
 use Rattle.euler_laws.proofs.shared.Fans.{half_after, loop_after, half_face}
-use Rattle.euler_laws.proofs.shared.Rows.{face_there}
 use Rattle.euler_laws.proofs.shared.Listed.{IsIn-from_listed, listed-from_in}
 use Rattle.shapes.specs.Faces.{start, finish, corners, edges_of}
 use Rattle.shapes.specs.split.Sides.{crosses, straddles, straddling_faces, reaches_above, reaches_below}
 use Rattle.shapes.specs.split.Crossings.{with_crossings}
 use Rattle.shapes.specs.split.Drawing.{drawn_pairs, all_pairs, straddling_pairs}
 use Rattle.split_drawing_laws.specs.crossings.Laws.{CanBegin}
-use Rattle.split_drawing_laws.proofs.crossings.Premises.{any_passes, tail_in_face, faces_not_zero}
-use Rattle.split_drawing_laws.proofs.crossings.Whole.{face_facts, crossings_sound, same_solid, none_crosses}
+use Rattle.split_drawing_laws.proofs.crossings.Premises.{any_passes, tail_in_face, faces_not_zero, face_facts, in_solid, edge_listed}
+use Rattle.split_drawing_laws.proofs.crossings.Whole.{crossings_sound, same_solid, none_crosses}
 use Rattle.split_drawing_laws.proofs.drawings.Counted.{straddling_apart, faces_are}
 use Rattle.split_drawing_laws.specs.loop_sides.Laws.{TakeSides}
 use Rattle.split_drawing_laws.specs.loop_sides.Parted.{LiesOn, FacesCross, ends, all_ends}
 use Rattle.split_drawing_laws.specs.half_sides.HalfSides.{half_is_above, side_of, is_own}
 use Rattle.split_drawing_laws.proofs.pairs.LoopPlaces.{none_passes}
-use Rattle.split_drawing_laws.proofs.half_sides.PlaceEnds.{in_all_ends, from_all_ends, all_ends_apart, side_within, place_face, place_there, place_on, pairs_cross, place_in_ends, place_of_end, ends_once}
+use Rattle.split_drawing_laws.proofs.pairs.Whole.{place_face}
+use Rattle.split_drawing_laws.proofs.half_sides.PlaceEnds.{in_all_ends, from_all_ends, all_ends_apart, side_within, place_there, place_on, pairs_cross, place_in_ends, place_of_end, ends_once}
 use Rattle.split_drawing_laws.proofs.half_sides.Starts.{side_kept, side_changed, starts_above, starts_below, crosses_back, TurnAt, turn_at, comes_from}
 use Rattle.split_drawing_laws.proofs.loop_sides.Parting.{on_both}
-use Rattle.euler_laws.proofs.shared.Counted.{all_where_in}
 
 module _ (M : Model) (s : ℕ) (p : Plane) (t : ℕ) (sound : Sound M) (begins : CanBegin M s p t) where
   abbrev N : Model
@@ -55,18 +53,13 @@ module _ (M : Model) (s : ℕ) (p : Plane) (t : ℕ) (sound : Sound M) (begins :
   side_beside h e = ap (λ b. cond b (half_is_above N p h) (reaches_above M p (face_at N h))) e
 
   straddling_solid : (f : ℕ) → IsIn f fs → solid_of N f ≡ s
-  straddling_solid f i = same_solid M s p t sound begins f ∙ (face_facts M s p t sound begins f i).1
+  straddling_solid f i = same_solid M s p t sound begins f ∙ (face_facts M s p f i).1
 
   -- ---- no half-edge of the solid crosses the plane
 
   plus_stays_aside : (e : ℕ) → Has N.edges e → solid_of N (face_at N (plus e)) ≡ s → crosses N p (plus e) ≡ false
-  plus_stays_aside e there of_s = go (crosses N p (plus e)) refl where
-    listed : IsIn e (edges_of N s)
-    listed = let w = row_some (table.get N.edges e) there in all_where_in (λ x _. nat_eq (solid_of N (face_at N (plus x))) s) N.edges e w.0 w.1 (eq-eqb (solid_of N (face_at N (plus e))) s of_s)
-
-    go : (b : Bool) → crosses N p (plus e) ≡ b → crosses N p (plus e) ≡ false
-    go false c = c
-    go true c = let i : IsIn e [] = subst (IsIn e) (none_crosses M s p t sound begins) (IsIn-filter (λ x. crosses N p (plus x)) e (edges_of N s) listed c) in absurd (omega (arith, i))
+  plus_stays_aside e there of_s = false_from_ne_true (crosses N p (plus e)) (λ c.
+      let i : IsIn e [] = subst (IsIn e) (none_crosses M s p t sound begins) (IsIn-filter (λ x. crosses N p (plus x)) e (edges_of N s) (edge_listed N s e there of_s) c) in absurd (omega (arith, i)))
 
   pub stays_aside : (h : ℕ) → HasHalf (with_crossings M s p).model h → solid_of (with_crossings M s p).model (face_at (with_crossings M s p).model h) ≡ s → crosses (with_crossings M s p).model p h ≡ false
   stays_aside h there of_s = elim (halves_of_edge h) [
@@ -95,7 +88,7 @@ module _ (M : Model) (s : ℕ) (p : Plane) (t : ℕ) (sound : Sound M) (begins :
     corner = tail_in_face M g (loop_of M g) (loop_there M sound g there) (cycle_there M sound g there)
 
     of_solid : IsIn f (faces_of M s)
-    of_solid = all_where_in (λ _ row. nat_eq row.solid s) M.faces f _ (face_there M f (half_face M sound g there)) (eq-eqb (solid_of M f) s of_s)
+    of_solid = in_solid M f s (half_face M sound g there) of_s
 
     below_then : (b : Bool) → is_below p (start M g) ≡ b → reaches_above M p f ≡ true → is_below p (start M g) ≡ false
     below_then false a up = a

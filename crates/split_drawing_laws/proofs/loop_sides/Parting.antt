@@ -25,9 +25,8 @@ use Rattle.shapes.specs.split.Drawing.{face_drawn, loops_joined}
 use Rattle.split_drawing_laws.specs.drawings.DrawnIn.{Stays, DrawnIn}
 use Rattle.split_drawing_laws.specs.loop_sides.Parted.{Sided, LiesOn, Parted}
 use Rattle.split_drawing_laws.proofs.drawings.Drawn.{CanDraw, CanJoin}
-use Rattle.split_drawing_laws.proofs.drawings.Stays.{draw_stays, join_stays, draw_tails, join_tails}
-use Rattle.split_drawing_laws.proofs.drawings.Rings.{RingOf, Newer, now_stays, moved_after, moved_halves}
-use Rattle.split_drawing_laws.proofs.drawings.Pairs.{stays_on}
+use Rattle.split_drawing_laws.proofs.drawings.Stays.{draw_stays, join_stays, draw_tails, join_tails, stays_on}
+use Rattle.split_drawing_laws.proofs.drawings.Rings.{RingOf, Newer, ring_goes, ring_stays, ring_back, moved_after}
 use Rattle.split_drawing_laws.proofs.loop_sides.Follows.{Closing, sides_close, with_sides, side_old}
 use Rattle.split_drawing_laws.proofs.loop_sides.After.{none_new, after_drawn, halves_drawn, after_joined, halves_joined}
 
@@ -132,21 +131,21 @@ parted_joined B N p first OfSolid c d e places rest can o w =
 module _ (M B N : Model) (p : Plane) (first : ℕ → Bool) (OfSolid : ℕ → Type 0) (f l k : ℕ) (places : List ℕ) (drawn : DrawnIn M N f) (ring : RingOf N f l) (newer : Newer M N f k)
     (w : Parted B N p first OfSolid places) where
   old_half : (x : ℕ) → HasHalf (ring_in N l k) x → HasHalf N x
-  old_half x there = moved_halves M N f l k drawn ring newer x there
+  old_half x there = ring_back N l k drawn.sound (ring_goes M N f l k drawn ring newer) x there
 
   leads_same : (x : ℕ) → HasHalf (ring_in N l k) x → after (ring_in N l k) x ≡ after N x
   leads_same x there = moved_after M N f l k drawn ring newer x (old_half x there)
 
   pub parted_moved : Parted B (ring_in N l k) p first OfSolid places
   parted_moved = record {
-    stays = stays_on B N (ring_in N l k) w.stays (now_stays M N f l k drawn ring newer);
+    stays = stays_on B N (ring_in N l k) w.stays (ring_stays N l k drawn.sound (ring_goes M N f l k drawn ring newer));
     side = w.side;
     kept = w.kept;
     sided = record {
       along = λ x there z. ap w.side (leads_same x there) ∙ w.sided.along x (old_half x there) (ap (λ y. count y places) (sym (leads_same x there)) ∙ z);
       across = λ x there i. ap w.side (leads_same x there) ∙ w.sided.across x (old_half x there) (subst (λ y. IsIn y places) (leads_same x there) i);
     };
-    level = λ h there mine. subst (LiesOn p (w.side h)) (sym (same_start N (ring_in N l k) h (now_stays M N f l k drawn ring newer) (old_half h there))) (w.level h (old_half h there) mine);
+    level = λ h there mine. subst (LiesOn p (w.side h)) (sym (same_start N (ring_in N l k) h (ring_stays N l k drawn.sound (ring_goes M N f l k drawn ring newer)) (old_half h there))) (w.level h (old_half h there) mine);
   }
 
 -- ---- no place is open

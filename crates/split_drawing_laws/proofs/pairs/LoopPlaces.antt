@@ -6,7 +6,7 @@ use Rattle.std.proofs.Common.{◌≡◌, Bool, true, false, cond, not, ◌&&◌,
 use Rattle.std.proofs.lemmas.Int.{ints}
 use Rattle.std.proofs.lemmas.List.{length-append}
 use Rattle.std.proofs.lemmas.List.Elements.{filter-append}
-use Rattle.std.proofs.lemmas.Bool.{not-false}
+use Rattle.std.proofs.lemmas.Bool.{not-false, false_from_ne_true}
 use Rattle.euler_operators.specs.Vectors.{opposite, height, is_on}
 use Rattle.euler_operators.specs.Items.{IsIn, head_or, count}
 use Rattle.euler_operators.specs.Rings.{IsPath, IsRing, successor, predecessor}
@@ -122,10 +122,7 @@ some_picked t (x ∷ xs) e = go (t x) e (some_picked t xs) where
 
 -- a test that no item passes is false of each
 pub none_passes : (t : ℕ → Bool) (x : ℕ) (xs : List ℕ) → list_any t xs ≡ false → IsIn x xs → t x ≡ false
-none_passes t x xs none i = go (t x) refl where
-  go : (b : Bool) → t x ≡ b → t x ≡ false
-  go true e = absurd (true≢false (sym (any_passes t x xs i e) ∙ none))
-  go false e = e
+none_passes t x xs none i = false_from_ne_true (t x) (λ e. true≢false (sym (any_passes t x xs i e) ∙ none))
 
 then_true : (a b : Bool) → (a && not b) ≡ false → a ≡ true → b ≡ true
 then_true true b e on = not-false b e

@@ -1,21 +1,20 @@
 -- The numbers taken once the edges are cut, and those that are left.
 use Rattle.std.specs.List.{list_all}
-use Rattle.std.proofs.Common.{◌≡◌, ℕ, ◌+◌, List, [], ◌∷◌, length, refl, sym, ap, ◌∙◌, subst, arith, ◌≢◌, ◌*◌, true, false, not, nat_eq, ◌&&◌, is_some}
+use Rattle.std.proofs.Common.{◌≡◌, ℕ, ◌+◌, List, [], ◌∷◌, length, refl, sym, ap, ◌∙◌, subst, arith, ◌≢◌, ◌*◌, true, false, not, nat_eq, ◌&&◌}
 use Rattle.std.proofs.lemmas.List.{length-map}
 use Rattle.euler_operators.specs.declared.Plane.{Plane}
-use Rattle.euler_operators.specs.Model.{Model, tail, loop_of, face_of, outer, point_of, faces_of, rings_of}
+use Rattle.euler_operators.specs.Model.{Model, tail, loop_of, face_of, outer, point_of, rings_of}
 use Rattle.euler_operators.specs.Items.{IsIn, IsApart}
-use Rattle.euler_operators.specs.Sound.{Sound, Has}
+use Rattle.euler_operators.specs.Sound.{Sound}
 use Rattle.euler_operators.specs.Conditions.{face_at, lists}
 use Rattle.euler_operators.proofs.Lists.{tick_same}
 use Rattle.euler_operators.proofs.Tests.{not_or_fails}
 use Rattle.euler_operators.proofs.Members.{count-filter}
 use Rattle.euler_laws.specs.Laws.{AreAccepted, effects}
 use Rattle.euler_laws.proofs.Runs.{AreAccepted-append, effects-append}
-use Rattle.euler_laws.proofs.shared.Counted.{all_where_has}
 use Rattle.euler_laws.proofs.shared.Listed.{listed-from_in, IsIn-from_listed}
 use Rattle.shapes.specs.Fresh.{Taken, Growing, growing, taken_in}
-use Rattle.shapes.specs.split.Sides.{straddling_faces, crossing_edges, straddles}
+use Rattle.shapes.specs.split.Sides.{straddling_faces, crossing_edges}
 use Rattle.shapes.specs.split.Places.{pair_count, is_place, places, loop_is_cut, is_cut_often, sorted, in_pairs, up_first, sorted_pairs, place_pairs}
 use Rattle.shapes.specs.split.Crossings.{next_cut, all_cut, with_crossings}
 use Rattle.shapes.specs.split.Drawing.{straddling_pairs, from_place, drawn_pairs, all_pairs, with_drawings}
@@ -32,7 +31,7 @@ use Rattle.split_drawing_laws.specs.drawings.Laws.{CanBeDrawn}
 use Rattle.split_drawing_laws.specs.pairs.Laws.{rewriting_ops}
 use Rattle.split_drawing_laws.proofs.drawings.Counted.{pairs_counted, fresh_taken, straddling_apart, faces_are}
 use Rattle.split_drawing_laws.proofs.crossings.Whole.{at_place, item_face, can_cut, crossings_accepted, crossings_made, crossings_sound, crossings_counted, crossings_keep}
-use Rattle.split_drawing_laws.proofs.crossings.Premises.{Cuttable}
+use Rattle.split_drawing_laws.proofs.crossings.Premises.{Cuttable, face_facts}
 use Rattle.split_drawing_laws.proofs.drawings.Whole.{drawing_accepted, drawing_made, drawing_sound}
 use Rattle.split_drawing_laws.proofs.pairs.Sorted.{count-sorted, sorted_apart, length-sorted, all_paired, between, drawn, all_fit, lone_in_loop, points_apart}
 use Rattle.split_drawing_laws.proofs.pairs.LoopPlaces.{places_even, two_outer, IsEven}
@@ -104,14 +103,11 @@ module _ (M : Model) (s : ℕ) (p : Plane) (t : ℕ) (sound : Sound M) (begins :
   -- ---- one face
 
   module _ (f : ℕ) (i : IsIn f (straddling_faces M p s)) where
-    face_there : Has M.faces f
-    face_there = ap is_some (all_where_has (λ _ row. nat_eq row.solid s) M.faces f (omega (arith, i, count-filter (straddles M p) f (faces_of M s)))).1
-
     at : (h : ℕ) → IsIn h (places M p f) → AtPlace M N p h
     at h j = at_place M s p t sound begins f h (listed-from_in f (straddling_faces M p s) i) (listed-from_in h (places M p f) j)
 
-    place_face : (h : ℕ) → IsIn h (places M p f) → face_at N (from_place N p h) ≡ f
-    place_face h j = ap (face_of N) (at h j).loop ∙ (crossings_keep M s p t sound begins).face (loop_of M h) ∙ item_face M sound f face_there h (places_in M sound f p h j)
+    pub place_face : (h : ℕ) → IsIn h (places M p f) → face_at N (from_place N p h) ≡ f
+    place_face h j = ap (face_of N) (at h j).loop ∙ (crossings_keep M s p t sound begins).face (loop_of M h) ∙ item_face M sound f (face_facts M s p f i).0 h (places_in M sound f p h j)
 
     starts_apart : (x y : ℕ) → IsIn x (places M p f) → IsIn y (places M p f) → x ≢ y → tail N (from_place N p x) ≢ tail N (from_place N p y)
     starts_apart x y j k ne e = points_apart M p f (premises.uncrossed f i) x y j k ne (sym (at x j).starts ∙ ap (point_of N) e ∙ (at y k).starts)

@@ -27,11 +27,12 @@ use Rattle.shapes.specs.split.Drawing.{with_drawings}
 use Rattle.shapes.specs.split.Section.{below_halves, section_cycles}
 use Rattle.shapes.specs.split.Split.{first_conditions, split_refusal}
 use Rattle.split_opening_laws.specs.cycles.SectionCycles.{IsBelowHalf, AreSectionCycles}
-use Rattle.split_drawing_laws.proofs.cut_volumes.Told.{item_loop, in_solid}
+use Rattle.split_drawing_laws.proofs.cut_volumes.Told.{item_loop}
 use Rattle.split_drawing_laws.specs.drawn_volumes.Laws.{LiesOnOld}
 use Rattle.split_drawing_laws.proofs.drawn_volumes.Bounds.{OnFace, on_face}
 use Rattle.split_drawing_laws.proofs.drawn_volumes.DrawWhole.{drawn_lies}
 use Rattle.split_drawing_laws.proofs.face_sides.Final.{none_straddles}
+use Rattle.split_drawing_laws.proofs.crossings.Premises.{in_solid}
 use Rattle.split_opening_laws.specs.sections.InTurn.{halves_in}
 use Rattle.split_laws.specs.opened.Laws.{LieOn}
 use Rattle.split_laws.specs.opened.Told.{AllTellAlike}
