@@ -3,5 +3,4 @@ pub mod Draws
 pub mod Joins
 pub mod Moves
 pub mod Volumes
-pub mod Spread
 pub mod DrawWhole

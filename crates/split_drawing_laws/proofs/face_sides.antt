@@ -1,5 +1,4 @@
 pub mod Beside
-pub mod Passing
 pub mod Shared
 pub mod OneFace
 pub mod Stages

@@ -1,4 +1,3 @@
 pub mod Follows
-pub mod After
 pub mod Parting
 pub mod SidesWhole

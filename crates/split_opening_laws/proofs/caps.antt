@@ -1,4 +1,3 @@
-pub mod Gone
-mod Joined
+pub mod Joined
 mod Parted
 pub mod Whole

@@ -22,7 +22,7 @@ use Rattle.shapes.specs.split.Drawing.{face_drawn}
 use Rattle.split_drawing_laws.specs.drawings.DrawnIn.{Stays}
 use Rattle.split_drawing_laws.proofs.drawings.Drawn.{CanDraw, draw_sound, face_drawn_new, face_drawn_else}
 use Rattle.split_drawing_laws.proofs.drawings.Stays.{stands_at, row_old, row_new, row_else, edges_are, draw_stays, draw_tails, draw_beside, draw_within}
-use Rattle.split_drawing_laws.proofs.loop_sides.After.{none_new, halves_drawn}
+use Rattle.split_drawing_laws.proofs.loop_sides.Parting.{none_new, halves_drawn}
 use Rattle.split_drawing_laws.proofs.drawn_volumes.Bounds.{OnFace, anchor_still, lone_there, bound_one, bound_none, point_still, start_still, half_there, plus_there, minus_there, area_after, normal_kept, two_halves, no_area, normal_is}
 
 module _ (N : Model) (u k e g l : ℕ) (can : CanDraw N u k e g l) where

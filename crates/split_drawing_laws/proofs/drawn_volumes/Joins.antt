@@ -20,7 +20,7 @@ use Rattle.shapes.specs.split.Drawing.{loops_joined}
 use Rattle.split_drawing_laws.specs.drawings.DrawnIn.{Stays}
 use Rattle.split_drawing_laws.proofs.drawings.Drawn.{CanJoin, join_sound, loops_joined_faces}
 use Rattle.split_drawing_laws.proofs.drawings.Stays.{stands_at, row_joined, row_other, row_gone, joined_edges, join_stays, join_tails, join_faces}
-use Rattle.split_drawing_laws.proofs.loop_sides.After.{none_new, halves_joined}
+use Rattle.split_drawing_laws.proofs.loop_sides.Parting.{none_new, halves_joined}
 use Rattle.split_drawing_laws.proofs.drawn_volumes.Bounds.{OnFace, anchor_still, lone_there, bound_one, bound_none, point_still, start_still, half_there, plus_there, minus_there, area_after, one_count, no_count, normal_kept, two_halves, no_area, normal_is}
 
 module _ (N : Model) (c d e : ℕ) (can : CanJoin N c d e) where

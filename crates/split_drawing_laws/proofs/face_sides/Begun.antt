@@ -39,8 +39,7 @@ use Rattle.split_drawing_laws.specs.half_sides.HalfSides.{half_is_above, side_of
 use Rattle.split_drawing_laws.proofs.half_sides.PlaceEnds.{side_within, place_in_ends, pairs_up}
 use Rattle.split_drawing_laws.proofs.half_sides.Taking.{side_beside}
 use Rattle.split_drawing_laws.proofs.face_sides.Beside.{Held}
-use Rattle.split_drawing_laws.proofs.face_sides.OneFace.{IsSided, PairsOf}
-use Rattle.split_drawing_laws.proofs.face_sides.Passing.{AllOld}
+use Rattle.split_drawing_laws.proofs.face_sides.OneFace.{IsSided, PairsOf, AllOld}
 use Rattle.split_drawing_laws.proofs.face_sides.Shared.{any_from, HeldOn}
 
 -- the half-edges of pairs that fit are there

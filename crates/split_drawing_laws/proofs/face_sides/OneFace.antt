@@ -1,31 +1,82 @@
--- One face drawn: it and the faces that are cut off it each lie on one side.
-use Rattle.std.proofs.Common.{◌≡◌, ◌≢◌, ℕ, suc, ◌+◌, Bool, true, false, cond, nat_eq, nat_lt, ◌&&◌, List, [], ◌∷◌, length, None, is_some, refl, sym, ap, ◌∙◌, subst, arith, inl, inr, true≢false}
+-- The two passes over the pairs of a face: what stays beside it, and that it stays without rings.
+use Rattle.std.specs.Prelude.{fold}
+use Rattle.std.proofs.Common.{◌≡◌, ℕ, ◌+◌, List, [], ◌∷◌, ◌++◌, ◌∙◌, ◌≢◌, suc, Bool, true, false, cond, nat_eq, nat_lt, ◌&&◌, length, None, is_some, refl, sym, ap, subst, arith, inl, inr, true≢false}
 use Rattle.std.proofs.lemmas.Bool.Decides.{nat_tests, eqb_tells}
 use Rattle.std.proofs.lemmas.Bool.{false_from_ne_true}
+use Rattle.euler_operators.specs.Model.{Model, holds, content, loop_of, face_of, outer}
+use Rattle.euler_operators.specs.Sound.{Sound, HasHalf, Has}
+use Rattle.euler_operators.specs.Conditions.{face_at, lists, has_rings}
 use Rattle.euler_operators.specs.declared.Plane.{Plane}
 use Rattle.euler_operators.specs.Table as table
-use Rattle.euler_operators.specs.Model.{Model, holds, content, loop_of, face_of, outer}
-use Rattle.euler_operators.specs.Sound.{Sound, Has, HasHalf}
-use Rattle.euler_operators.specs.Conditions.{face_at, lists, has_rings}
 use Rattle.euler_operators.proofs.Models.{same_content, same_face, same_outer, loop_there}
 use Rattle.euler_operators.proofs.Tables.{row_elsewhere}
 use Rattle.euler_laws.proofs.shared.Rows.{no_rings_means}
+use Rattle.shapes.specs.split.Drawing.{Drawing, join_next, draw_next, face_drawn, stuck_at, all_joined, ring_free, all_drawn, rings_above, with_rings, rings_shared, drawn_between}
 use Rattle.shapes.specs.Faces.{vertices_on}
 use Rattle.shapes.specs.split.Sides.{some_above}
-use Rattle.shapes.specs.split.Drawing.{Drawing, face_drawn, stuck_at, all_joined, ring_free, all_drawn, rings_above, with_rings, rings_shared, drawn_between}
-use Rattle.split_drawing_laws.specs.drawings.DrawnIn.{Stays}
-use Rattle.split_drawing_laws.proofs.drawings.Drawn.{CanDraw, face_drawn_else}
-use Rattle.split_drawing_laws.specs.drawings.Passing.{Ready}
+use Rattle.split_drawing_laws.specs.drawings.DrawnIn.{Stays, PairsHaveRoom}
+use Rattle.split_drawing_laws.specs.drawings.Pairs.{AllFit}
+use Rattle.split_drawing_laws.specs.drawings.Passing.{Joining, Going, Ready}
+use Rattle.split_drawing_laws.proofs.drawings.Pairs.{was_free, none_joined, joined_drawn, pair_can}
+use Rattle.split_drawing_laws.proofs.drawings.Passes.{either_now, joins_keep, cut_off, face_open, can_now, draws_keep, join_next_one, stuck_now, draw_next_one, edge_fits, face_fits, loop_fits, room_as}
+use Rattle.split_drawing_laws.proofs.drawings.Stays.{draw_stays, stays_on, row_else}
+use Rattle.split_drawing_laws.proofs.drawings.Drawn.{loops_joined_faces, CanDraw, face_drawn_else}
+use Rattle.split_drawing_laws.proofs.face_sides.Beside.{Alone, draw_alone, Beside, ComesOf, joined_beside, drawn_beside, Lone, nothing_beside, never_free, given_has, given_else, given_face}
 use Rattle.split_drawing_laws.proofs.drawings.Faces.{face_goes, begun_joining, joins, going}
-use Rattle.split_drawing_laws.proofs.drawings.Pairs.{none_joined, joined_drawn, pair_can}
-use Rattle.split_drawing_laws.proofs.drawings.Passes.{join_next_one, stuck_now, draw_next_one, cut_off, edge_fits, face_fits, loop_fits, room_as}
-use Rattle.split_drawing_laws.proofs.drawings.Stays.{row_else, draw_stays, stays_on}
-use Rattle.split_drawing_laws.specs.drawings.DrawnIn.{PairsHaveRoom}
 use Rattle.split_drawing_laws.proofs.loop_sides.SidesWhole.{draws_go_on}
 use Rattle.split_drawing_laws.proofs.half_sides.PlaceEnds.{AllUp}
-use Rattle.split_drawing_laws.proofs.face_sides.Beside.{Lone, Alone, Beside, ComesOf, nothing_beside, drawn_beside, never_free, given_has, given_else, given_face}
-use Rattle.split_drawing_laws.proofs.face_sides.Passing.{AllOld, Joined, joins_beside, Parting, draws_part}
 use Rattle.split_drawing_laws.proofs.face_sides.Shared.{above_stays, HeldOn, LiesOnSide, Cut, old_lies, new_lies}
+
+-- the half-edges of pairs are in B
+abbrev pub AllOld : Model → List (ℕ × ℕ) → Type 0
+AllOld B [] = Unit {0}
+AllOld B (q ∷ qs) = (HasHalf B q.0 × HasHalf B q.1) × AllOld B qs
+
+all_old_last : (B : Model) (qs : List (ℕ × ℕ)) (q : ℕ × ℕ) → AllOld B qs → HasHalf B q.0 × HasHalf B q.1 → AllOld B (qs ++ q ∷ [])
+all_old_last B [] q a w = (w, tt)
+all_old_last B (r ∷ qs) q a w = (a.0, all_old_last B qs q a.1 w)
+
+module _ (B M : Model) (f : ℕ) where
+  -- ---- first pass
+
+  -- what stands beside stays, and so do all faces
+  pub record Joined (d : Drawing) : Type 0 where
+    pub beside : Beside M d.model f
+    pub faces : d.model.faces ≡ M.faces
+    pub old : AllOld B d.left
+
+  pub joins_beside : (d : Drawing) (qs : List (ℕ × ℕ)) (n : ℕ) → AllFit M f qs → AllOld B qs → Joining M f d qs n → Joined d → Joined (fold join_next d qs)
+  joins_beside d qs n fit in_b w a = (joins_keep M f (λ x rs. Joined x × AllOld B rs)
+      (λ d q qs n fits w e a. (record { beside = a.0.beside; faces = a.0.faces; old = all_old_last B d.left q a.0.old a.1.0 }, a.1.1))
+      (λ d q qs n fits w e a.
+      let r = either_now M f d q qs n fits w e (λ X. Beside M X f × (X.faces ≡ M.faces))
+      (λ c k can at to. (joined_beside M d.model f c k (d.taken.edge + 1) can at a.0.beside, loops_joined_faces d.model c k (d.taken.edge + 1) ∙ a.0.faces)) in
+      (record { beside = r.0; faces = r.1; old = a.0.old }, a.1.1)) d qs n fit w (a, in_b)).0
+
+  -- ---- second pass, where no loop of the face is a ring
+
+  module _ (sound : Sound M) where
+    pub record Parting (d : Drawing) : Type 0 where
+      pub beside : Beside M d.model f
+      pub stays : Stays B d.model
+      pub alone : Alone B M d.model f
+
+    pub draws_part : (d : Drawing) (qs : List (ℕ × ℕ)) (n : ℕ) → AllFit M f qs → AllOld B qs → Going M f d qs n → Parting d → Parting (fold (draw_next f) d qs)
+    draws_part d qs n fit old w a = (draws_keep M f (λ x rs. Parting x × AllOld B rs) sound
+        (λ d q qs n fits w e a. (record { beside = a.0.beside; stays = a.0.stays; alone = a.0.alone }, a.1.1))
+        (λ d q qs n fits w e a.
+        let can = can_now M f sound d q qs n fits w e in
+        let drawn : ComesOf M f (face_at d.model q.0) = w.drawn.within q.0 fits.u_there fits.u_face in (
+          record {
+            beside = drawn_beside d.model q.0 q.1 (d.taken.edge + 1) (d.taken.face + 1) (d.taken.loop + 1) can M f drawn
+                (was_free M d.model w.drawn.stays (d.taken.face + 1) (face_open M f sound d q qs n fits w)) a.0.beside;
+            stays = stays_on B d.model (cut_off d q).model a.0.stays (draw_stays d.model q.0 q.1 (d.taken.edge + 1) (d.taken.face + 1) (d.taken.loop + 1) can);
+            alone = draw_alone d.model q.0 q.1 (d.taken.edge + 1) (d.taken.face + 1) (d.taken.loop + 1) can B M f a.0.stays a.1.0.0 a.1.0.1 drawn a.0.alone;
+          },
+          a.1.1,
+        )) d qs n fit w (a, old)).0
+
+-- ---- one face drawn: it and the faces that are cut off it each lie on one side
 
 -- face f and its loops are in X as in B
 pub record Untouched (B X : Model) (f : ℕ) : Type 0 where

@@ -23,7 +23,7 @@ use Rattle.shapes.specs.split.Split.{first_conditions}
 use Rattle.split_drawing_laws.proofs.crossings.OneCut.{cut_is_mev}
 use Rattle.split_drawing_laws.proofs.crossings.Steps.{CutGoes, mev_goes, cut_keeps, edge_stays, edge_other, edge_new, tail_new, tail_other}
 use Rattle.split_drawing_laws.proofs.pairs.LoopPlaces.{before_after}
-use Rattle.split_drawing_laws.proofs.loop_sides.After.{none_new}
+use Rattle.split_drawing_laws.proofs.loop_sides.Parting.{none_new}
 use Rattle.split_drawing_laws.proofs.loop_sides.Follows.{mev_at_h, mev_at_d, mev_else}
 use Rattle.split_drawing_laws.proofs.crossings.Runs.{AreCut, Crossing, Going, cut_at, goes_now, next_model, going_on}
 use Rattle.split_drawing_laws.proofs.crossings.Whole.{begins}

@@ -30,8 +30,7 @@ use Rattle.shapes.specs.Rewriting.{without_rows}
 use Rattle.split_opening_laws.specs.caps.Strips.{HasStrips, strip_riser}
 use Rattle.split_opening_laws.specs.caps.Caps.{joined_loop, joined_part, capped}
 use Rattle.split_opening_laws.specs.caps.CapOps.{partings}
-use Rattle.split_opening_laws.proofs.caps.Gone.{canonical_run, gone_first, gone_free, gone_below}
-use Rattle.split_opening_laws.proofs.caps.Joined.{joined_faces, joined_loops, joined_edges, at_first, at_else}
+use Rattle.split_opening_laws.proofs.caps.Joined.{canonical_run, gone_first, gone_free, gone_below, joined_faces, joined_loops, joined_edges, at_first, at_else}
 
 -- some items make a cycle
 some_cycle : (xs : List ℕ) (v : ℕ) → 1 ≤ length xs → cycle_or_lone xs v ≡ cycle (canonical xs)

@@ -1,5 +1,4 @@
-use Rattle.split_opening_laws.proofs.opening.Opened.{raised_strips, capped_is_open}
-use Rattle.split_opening_laws.proofs.opening.Whole.{opening_accepted, opening_made, opened_sound}
+use Rattle.split_opening_laws.proofs.opening.Whole.{raised_strips, capped_is_open, opening_accepted, opening_made, opened_sound}
 use Rattle.split_opening_laws.proofs.cycles_open_solids.Goals as goal
 
 pub returns : goal.returns

@@ -1,24 +1,73 @@
--- A solid opened along one cycle, from its first operator to its caps.
-use Rattle.std.proofs.Common.{◌≡◌, ℕ, List, ◌++◌, length, sym, ap, ◌∙◌, subst}
-use Rattle.std.specs.Prelude.{map}
-use Rattle.std.proofs.lemmas.List.{length-map}
-use Rattle.euler_operators.specs.HalfEdge.{mate}
-use Rattle.euler_operators.specs.Model.{Model}
-use Rattle.euler_operators.specs.Sound.{Sound}
+-- Once the copies are raised there are strips along the mates.
+use Rattle.std.specs.Prelude.{map, get_or, reverse}
+use Rattle.std.specs.Option.{option_map}
+use Rattle.std.proofs.Common.{◌≡◌, ℕ, suc, ◌+◌, ◌<◌, cond, nat_lt, List, [], ◌∷◌, ◌++◌, length, Option, Some, None, is_some, refl, sym, ap, ◌∙◌, subst, arith, inl, inr, true≢false, ◌≢◌, zero, ◌≤◌, nat_eq, ◌-◌}
+use Rattle.std.proofs.lemmas.Bool.{lt-ltb, cases_lt, ne_eqb, eq-eqb}
+use Rattle.std.proofs.lemmas.List.{length-map, get_or-map}
+use Rattle.std.proofs.lemmas.Bool.Decides.{eqb_tells}
+use Rattle.euler_operators.specs.Rings.{canonical}
+use Rattle.euler_operators.specs.HalfEdge.{mate, plus, minus}
+use Rattle.euler_operators.specs.Table as table
+use Rattle.euler_operators.specs.Table.{get-map_rows, Table, same_table}
+use Rattle.euler_operators.specs.Model.{Model, LoopRow, cycle, face_of, EdgeRow, FaceRow}
+use Rattle.euler_operators.specs.Sound.{Has, Sound}
 use Rattle.euler_operators.specs.declared.Op.{Op}
+use Rattle.euler_operators.proofs.Models.{face_row}
+use Rattle.euler_operators.proofs.Tables.{get-put_here, get-put_other, put-put}
 use Rattle.euler_laws.specs.Laws.{effects, AreAccepted}
 use Rattle.euler_laws.proofs.Runs.{effects-append, AreAccepted-append, effects_keep_sound}
-use Rattle.shapes.specs.Fresh.{Taken}
-use Rattle.shapes.specs.split.Opening.{opened_along}
-use Rattle.split_opening_laws.specs.strips.Strips.{strips_cut, copies_raised}
-use Rattle.split_opening_laws.specs.strips.StripOps.{strip_ops, copy_ops}
+use Rattle.shapes.specs.Fresh.{Taken, numbers_after}
+use Rattle.shapes.specs.Prism.{next_place}
+use Rattle.shapes.specs.Rewriting.{rewritten_row, renamed, without_rows}
+use Rattle.shapes.specs.split.Opening.{with_rim, opened_row, opened_along}
+use Rattle.sweeps_laws.proofs.prism.Sides.{fits}
+use Rattle.split_opening_laws.specs.strips.Strips.{with_rows, put_out, strip_face, raised_items, raised_loop, copies_raised, copied, raised_edge, riser_edge, strips_cut}
 use Rattle.split_opening_laws.specs.strips.Opened.{CanBeOpened}
+use Rattle.split_opening_laws.specs.caps.Strips.{HasStrips, strip_loop}
+use Rattle.split_opening_laws.specs.caps.Caps.{capped}
+use Rattle.split_opening_laws.specs.strips.StripOps.{strip_ops, copy_ops}
+use Rattle.split_opening_laws.specs.caps.CapOps.{cap_ops}
+use Rattle.split_opening_laws.specs.opening.OpeningOps.{opening_ops}
+use Rattle.split_opening_laws.proofs.strips.Rows.{rows_at, rows_high, rows_split, rows_low}
+use Rattle.split_opening_laws.proofs.strips.Cycle.{next_below, next_cases}
+use Rattle.split_opening_laws.proofs.caps.Joined.{gone_below, gone_within, gone_above}
+use Rattle.split_opening_laws.proofs.strips.Copied.{copy_at}
 use Rattle.split_opening_laws.proofs.strips.Whole.{strips_accepted, strips_are_cut}
 use Rattle.split_opening_laws.proofs.copies.Raising.{copies_accepted, copies_are_raised, raised_sound}
-use Rattle.split_opening_laws.specs.caps.CapOps.{cap_ops}
 use Rattle.split_opening_laws.proofs.caps.Whole.{caps_accepted, caps_made}
-use Rattle.split_opening_laws.specs.opening.OpeningOps.{opening_ops}
-use Rattle.split_opening_laws.proofs.opening.Opened.{raised_strips, capped_is_open}
+
+-- ---- rows that are put at fresh numbers and go again
+
+module _ {X : Type 0} (t : Table X) (k : ℕ) (row : ℕ → X) (free : (q : ℕ) → k < q → table.get t q ≡ None) where
+  -- all of them
+  pub gone_all : (n : ℕ) → without_rows (with_rows t k row n) (numbers_after k n) ≡ t
+  gone_all n = same_table _ _ (λ q. elim (cases_lt k q) [
+    | inl l ↦ elim (cases_lt (k + n) q) [
+      | inl a ↦ gone_above (with_rows t k row n) k n q a ∙ rows_high t k row n q a
+      | inr b ↦ gone_within (with_rows t k row n) k n q l b ∙ sym (free q l)
+    ]
+    | inr b ↦ gone_below (with_rows t k row n) k n q b ∙ rows_low t k row n q b
+  ])
+
+  -- all but the first
+  pub gone_later : (n : ℕ) → without_rows (with_rows t k row (suc n)) (numbers_after (k + 1) n) ≡ table.put t (k + 1) (row 0)
+  gone_later n = same_table _ _ (λ q. elim (eqb_tells q (k + 1)) [
+    | inl e ↦ subst (λ p. table.get (without_rows (with_rows t k row (suc n)) (numbers_after (k + 1) n)) p ≡ table.get (table.put t (k + 1) (row 0)) p) (sym e.1)
+        (gone_below (with_rows t k row (suc n)) (k + 1) n (k + 1) (omega arith) ∙ rows_at t k row (suc n) 0 (omega arith) ∙ sym (get-put_here t (k + 1) (row 0)))
+    | inr ne ↦ others q ne.1 ∙ sym (get-put_other t (k + 1) (row 0) q ne.1)
+  ]) where
+    others : (q : ℕ) → q ≢ k + 1 → table.get (without_rows (with_rows t k row (suc n)) (numbers_after (k + 1) n)) q ≡ table.get t q
+    others q ne = elim (cases_lt k q) [
+      | inl l ↦ elim (cases_lt (k + 1 + n) q) [
+        | inl a ↦ gone_above (with_rows t k row (suc n)) (k + 1) n q a ∙ rows_high t k row (suc n) q (omega (arith, a))
+        | inr b ↦ gone_within (with_rows t k row (suc n)) (k + 1) n q (past q l ne) b ∙ sym (free q l)
+      ]
+      | inr b ↦ gone_below (with_rows t k row (suc n)) (k + 1) n q (omega (arith, b)) ∙ rows_low t k row (suc n) q b
+    ] where
+      past : (q : ℕ) → k < q → q ≢ k + 1 → k + 1 < q
+      past q l ne = grind arith
+
+-- ---- a solid opened along one cycle, from its first operator to its caps
 
 -- the operators are accepted in turn and make N of M
 abbrev Leads : Model → Model → List Op → Type 0
@@ -35,22 +84,203 @@ module _ (M : Model) (above : List ℕ) (s : ℕ) (c : Taken) (bs : List ℕ) (w
   abbrev m : ℕ
   m = length bs
 
-  abbrev A : Model
-  A = strips_cut M s c bs m
+  abbrev hs : List ℕ
+  hs = map mate bs
 
   abbrev N : Model
   N = copies_raised M above s c bs m
 
+  abbrev rewrite : ℕ → LoopRow → LoopRow
+  rewrite = rewritten_row (map (renamed (put_out c bs m)))
+
+  pub size : length hs ≡ m
+  size = length-map bs mate
+
+  pub raised_faces : N.faces ≡ with_rows M.faces c.face (strip_face s c) m
+  unfolding copies_raised
+  raised_faces = refl
+
+  pub raised_loops : N.loops ≡ with_rows (table.map_rows rewrite M.loops) c.loop (raised_loop c bs m) m
+  unfolding copies_raised
+  raised_loops = refl
+
+  -- no loop was there above those taken
+  pub loops_free : (q : ℕ) → c.loop < q → table.get (table.map_rows rewrite M.loops) q ≡ None
+  loops_free q l = get-map_rows rewrite M.loops q ∙ ap (option_map (rewrite q)) (w.free.loops q l)
+
+  items_are : (j : ℕ) → j < m → raised_items c bs m j ≡ strip_loop c hs j
+  items_are j lt =
+      let k : ℕ = next_place m j in
+      ap (λ b. mate (get_or bs j 0) ∷ cond b (plus (c.edge + m + suc j) ∷ []) [] ++ minus (c.edge + suc j) ∷ cond (nat_lt k m) (minus (c.edge + m + suc k) ∷ []) []) (lt-ltb j m lt)
+      ∙ ap (λ b. mate (get_or bs j 0) ∷ plus (c.edge + m + suc j) ∷ minus (c.edge + suc j) ∷ cond b (minus (c.edge + m + suc k) ∷ []) []) (lt-ltb k m (next_below m j lt))
+      ∙ (λ i. sym (get_or-map mate bs j 0 0 lt) i ∷ plus (c.edge + sym size i + suc j) ∷ minus (c.edge + suc j) ∷ minus (c.edge + sym size i + suc (next_place (sym size i) j)) ∷ [])
+
+  row_at : (j : ℕ) → j < m → table.get N.loops (c.loop + suc j) ≡ Some (raised_loop c bs m j)
+  row_at j lt = ap (λ t. table.get t (c.loop + suc j)) raised_loops ∙ rows_at (table.map_rows rewrite M.loops) c.loop (raised_loop c bs m) m j lt
+
+  -- a loop that was there keeps its face
+  old_face : (q f : ℕ) → table.get N.loops q ≡ table.get (table.map_rows rewrite M.loops) q → Has N.loops q → face_of N q ≡ f → Has M.faces f
+  old_face q f is there e =
+      let at : table.get N.loops q ≡ option_map (rewrite q) (table.get M.loops q) = is ∙ get-map_rows rewrite M.loops q in
+      from (table.get M.loops q) refl at where
+        from : (o : Option LoopRow) → table.get M.loops q ≡ o → table.get N.loops q ≡ option_map (rewrite q) o → Has M.faces f
+        from None at new = absurd (true≢false (sym there ∙ ap is_some new))
+        from (Some row) at new = subst (Has M.faces) (face_row M q row at ∙ sym (face_row N q (rewrite q row) new) ∙ e) (w.sound.loops_of_faces q (ap is_some at))
+
+  alone : (j q : ℕ) → j < m → Has N.loops q → face_of N q ≡ c.face + suc j → c.loop + suc j ≡ q
+  alone j q lt there is = elim (rows_split (table.map_rows rewrite M.loops) c.loop (raised_loop c bs m) m q) [
+    | inl p ↦
+        let face : face_of N q ≡ c.face + suc p.0 = ap (face_of N) p.2 ∙ face_row N (c.loop + suc p.0) (raised_loop c bs m p.0) (row_at p.0 p.1) in
+        omega (arith, sym face ∙ is, p.2)
+    | inr p ↦ absurd (true≢false (sym (old_face q (c.face + suc j) (ap (λ t. table.get t q) raised_loops ∙ p) there is) ∙ ap is_some (w.free.faces (c.face + suc j) (omega arith))))
+  ]
+
+  pub raised_strips : HasStrips N s c hs
+  raised_strips = record {
+    some = omega (arith, size, w.cycle.two_halves);
+    loops = λ j lt. row_at j (within j lt) ∙ ap (λ xs. Some (record { face = c.face + suc j; content = cycle (canonical xs) })) (items_are j (within j lt));
+    faces = λ j lt. ap (λ t. table.get t (c.face + suc j)) raised_faces ∙ rows_at M.faces c.face (strip_face s c) m j (within j lt);
+    alone = λ j q lt. alone j q (within j lt);
+    face_free = ap (λ t. table.get t (c.face + length hs + 1)) raised_faces ∙ rows_high M.faces c.face (strip_face s c) m (c.face + length hs + 1) (omega (arith, size)) ∙ w.free.faces (c.face + length hs + 1) (omega arith);
+    loop_free = ap (λ t. table.get t (c.loop + length hs + 1)) raised_loops ∙ rows_high (table.map_rows rewrite M.loops) c.loop (raised_loop c bs m) m (c.loop + length hs + 1) (omega (arith, size)) ∙ loops_free (c.loop + length hs + 1) (omega arith);
+    face_fits = fits (c.face + length hs + 1) (omega arith) (omega (arith, size, w.left.faces));
+    loop_fits = fits (c.loop + length hs + 1) (omega arith) (omega (arith, size, w.left.loops));
+  } where
+    within : (j : ℕ) → j < length hs → j < m
+    within j lt = omega (arith, lt, size)
+
+  -- ---- the edges round the cap above lead from copy to copy
+
+  -- the edge at a place ends at the copy of the next one
+  next_is : (j : ℕ) → c.vertex + suc (next_place m j) ≡ cond (nat_eq (suc j) m) (c.vertex + 1) (c.vertex + suc j + 1)
+  next_is j = elim (next_cases m j) [
+    | inl p ↦ ap (λ i. c.vertex + suc i) p.1 ∙ sym (ap (λ b. cond b (c.vertex + 1) (c.vertex + suc j + 1)) (eq-eqb (suc j) m (omega (arith, p.0))))
+    | inr p ↦ ap (λ i. c.vertex + suc i) p.1 ∙ omega arith ∙ sym (ap (λ b. cond b (c.vertex + 1) (c.vertex + suc j + 1)) (ne_eqb (suc j) m (λ e. p.0 (omega (arith, e)))))
+  ]
+
+  abbrev rim : ℕ → EdgeRow
+  rim j = record { plus_tail = cond (nat_eq (suc j) m) (c.vertex + 1) (c.vertex + suc j + 1); minus_tail = c.vertex + suc j }
+
+  row_is : (j : ℕ) → j < m → raised_edge M bs (copied M c bs m) j ≡ rim j
+  row_is j lt = λ i. record {
+    plus_tail = (ap (renamed (copied M c bs m)) (sym (w.cycle.meet j lt)) ∙ copy_at M above s c bs w m (next_place m j) (next_below m j lt) (next_below m j lt) ∙ next_is j) i;
+    minus_tail = copy_at M above s c bs w m j lt lt i;
+  }
+
+  pub rim_is : (t : Table EdgeRow) (j : ℕ) → j ≤ m → with_rows t c.edge (raised_edge M bs (copied M c bs m)) j ≡ with_rim t c.edge c.vertex m j
+  rim_is t zero l = refl
+  rim_is t (suc j) l = λ i. table.put (rim_is t j (omega (arith, l)) i) (c.edge + suc j) (row_is j (omega (arith, l)) i)
+
+  -- ---- the caps made of the strips: the solid is open
+
+  abbrev C : Model
+  C = capped N s c hs
+
   abbrev X : Model
   X = opened_along M above s c bs
+
+  one_and_rest : m ≡ suc (m - 1)
+  one_and_rest = omega (arith, w.cycle.two_halves)
+
+  same_size : length hs ≡ m
+  same_size = size
+
+  abbrev face_at_end : ℕ → FaceRow
+  face_at_end k = record { solid = s; outer = c.loop + k + 1 }
+
+  abbrev lower : LoopRow
+  lower = record { face = c.face + 1; content = cycle (canonical (reverse hs)) }
+
+  abbrev upper : ℕ → LoopRow
+  upper k = record { face = c.face + k + 1; content = cycle (map minus (numbers_after c.edge k)) }
+
+  -- ---- faces
+
+  C_faces : C.faces ≡ table.put (without_rows N.faces (numbers_after (c.face + 1) (length hs - 1))) (c.face + length hs + 1) (face_at_end (length hs))
+  unfolding capped
+  C_faces = refl
+
+  X_faces : table.put (table.put M.faces (c.face + 1) (record { solid = s; outer = c.loop + 1 })) (c.face + m + 1) (face_at_end m) ≡ X.faces
+  unfolding opened_along
+  X_faces = refl
+
+  faces_open : C.faces ≡ X.faces
+  faces_open = C_faces
+      ∙ (λ i. table.put (without_rows (raised_faces i) (numbers_after (c.face + 1) (same_size i - 1))) (c.face + same_size i + 1) (face_at_end (same_size i)))
+      ∙ ap (λ k. table.put (without_rows (with_rows M.faces c.face (strip_face s c) k) (numbers_after (c.face + 1) (m - 1))) (c.face + m + 1) (face_at_end m)) one_and_rest
+      ∙ ap (λ t. table.put t (c.face + m + 1) (face_at_end m)) (gone_later M.faces c.face (strip_face s c) w.free.faces (m - 1))
+      ∙ X_faces
+
+  -- ---- loops
+
+  abbrev rewritten : Table LoopRow
+  rewritten = table.map_rows (rewritten_row (map (renamed (put_out c bs m)))) M.loops
+
+  C_loops : C.loops ≡ table.put (table.put (without_rows N.loops (numbers_after (c.loop + 1) (length hs - 1))) (c.loop + 1) lower) (c.loop + length hs + 1) (upper (length hs))
+  unfolding capped
+  C_loops = refl
+
+  X_loops : table.put (table.put rewritten (c.loop + 1) lower) (c.loop + m + 1) (upper m) ≡ X.loops
+  unfolding opened_along
+  X_loops = refl
+
+  loops_open : C.loops ≡ X.loops
+  loops_open = C_loops
+      ∙ (λ i. table.put (table.put (without_rows (raised_loops i) (numbers_after (c.loop + 1) (same_size i - 1))) (c.loop + 1) lower) (c.loop + same_size i + 1) (upper (same_size i)))
+      ∙ ap (λ k. table.put (table.put (without_rows (with_rows rewritten c.loop (raised_loop c bs m) k) (numbers_after (c.loop + 1) (m - 1))) (c.loop + 1) lower) (c.loop + m + 1) (upper m)) one_and_rest
+      ∙ ap (λ t. table.put (table.put t (c.loop + 1) lower) (c.loop + m + 1) (upper m)) (gone_later rewritten c.loop (raised_loop c bs m) loops_free (m - 1))
+      ∙ ap (λ t. table.put t (c.loop + m + 1) (upper m)) (put-put rewritten (c.loop + 1) (raised_loop c bs m 0) lower)
+      ∙ X_loops
+
+  -- ---- edges
+
+  abbrev opened : Table EdgeRow
+  opened = table.map_rows (opened_row M above hs (copied M c bs m)) M.edges
+
+  abbrev rimmed : Table EdgeRow
+  rimmed = with_rows opened c.edge (raised_edge M bs (copied M c bs m)) m
+
+  C_edges : C.edges ≡ without_rows N.edges (numbers_after (c.edge + length hs) (length hs))
+  unfolding capped
+  C_edges = refl
+
+  N_edges : N.edges ≡ with_rows rimmed (c.edge + m) (riser_edge M c bs) m
+  unfolding copies_raised
+  N_edges = refl
+
+  X_edges : with_rim opened c.edge c.vertex m m ≡ X.edges
+  unfolding opened_along
+  X_edges = refl
+
+  edges_free : (q : ℕ) → c.edge + m < q → table.get rimmed q ≡ None
+  edges_free q l = rows_high opened c.edge (raised_edge M bs (copied M c bs m)) m q l
+      ∙ get-map_rows (opened_row M above hs (copied M c bs m)) M.edges q
+      ∙ ap (option_map (opened_row M above hs (copied M c bs m) q)) (w.free.edges q (omega (arith, l)))
+
+  edges_open : C.edges ≡ X.edges
+  edges_open = C_edges
+      ∙ (λ i. without_rows (N_edges i) (numbers_after (c.edge + same_size i) (same_size i)))
+      ∙ gone_all rimmed (c.edge + m) (riser_edge M c bs) edges_free m
+      ∙ rim_is opened m (omega arith)
+      ∙ X_edges
+
+  kept : (C.solids ≡ X.solids) × (C.vertices ≡ X.vertices)
+  unfolding capped copies_raised opened_along
+  kept = (refl, refl)
+
+  pub capped_is_open : C ≡ X
+  capped_is_open = λ i. record { solids = kept.0 i; faces = faces_open i; loops = loops_open i; edges = edges_open i; vertices = kept.1 i }
+
+  abbrev A : Model
+  A = strips_cut M s c bs m
 
   abbrev sound : Sound N
   sound = raised_sound M above s c bs w
 
   last : Leads N X (cap_ops c m)
   last = subst (λ n. Leads N X (cap_ops c n)) (length-map bs mate) (
-    caps_accepted N s c (map mate bs) sound (raised_strips M above s c bs w),
-    caps_made N s c (map mate bs) sound (raised_strips M above s c bs w) ∙ capped_is_open M above s c bs w,
+    caps_accepted N s c (map mate bs) sound raised_strips,
+    caps_made N s c (map mate bs) sound raised_strips ∙ capped_is_open,
   )
 
   all : Leads M X (strip_ops M s c bs m ++ copy_ops M c bs m ++ cap_ops c m)
