@@ -1,6 +1,5 @@
-mod OpenedCaps
 mod PartCaps
 mod Whole
 mod SplitCounts
-mod CapNormals
+mod OpenedCaps
 mod Sizes

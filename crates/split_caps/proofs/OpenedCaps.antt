@@ -1,58 +1,56 @@
 -- The caps once a solid is opened along all cycles of its section: their numbers, their corners, and their normals.
-use Rattle.std.proofs.Common.{◌≡◌, ℕ, zero, suc, ◌+◌, ◌<◌, true, List, [], ◌∷◌, ◌++◌, length, map, get_or, refl, sym, ap, subst, ◌∙◌, arith}
-use Rattle.std.specs.Prelude.{ℤ, pos, neg_ℤ, int_lt}
+use Rattle.std.specs.Prelude.{pos, neg_ℤ, int_lt, filter}
+use Rattle.std.proofs.Common.{◌≡◌, ℕ, zero, suc, ◌+◌, ◌<◌, true, List, [], ◌∷◌, ◌++◌, length, map, get_or, refl, sym, ap, subst, ◌∙◌, arith, ◌≢◌, ◌≤◌, ℤ, ◌+ℤ◌, Bool, false, cond, nat_eq, true≢false, inl, inr}
 use Rattle.std.proofs.lemmas.Int.{ints}
 use Rattle.std.proofs.lemmas.List.{append_assoc, append-nil, map-append}
+use Rattle.std.proofs.lemmas.Bool.Decides.{eqb_tells}
+use Rattle.std.proofs.lemmas.Bool.{eq-eqb, ne_eqb}
 use Rattle.euler_operators.specs.declared.Plane.{Plane}
 use Rattle.euler_operators.specs.declared.Point.{Point}
-use Rattle.euler_operators.specs.Items.{IsIn}
-use Rattle.euler_operators.specs.Vectors.{direction, dot, is_on}
+use Rattle.euler_operators.specs.Items.{IsIn, count, tick}
+use Rattle.euler_operators.specs.Vectors.{direction, dot, is_on, moved, origin}
 use Rattle.euler_operators.specs.Model.{Model, content, face_of, outer, point_of, tail}
 use Rattle.euler_operators.specs.Sound.{Has}
+use Rattle.euler_operators.specs.HalfEdge.{edge_of, mate}
+use Rattle.euler_operators.specs.Effect.{kfmrh}
 use Rattle.euler_operators.proofs.Maps.{from_map}
+use Rattle.euler_operators.proofs.Lists.{tick_same}
+use Rattle.euler_operators.proofs.Models.{mate_there}
+use Rattle.euler_operators.proofs.Vectors.{none_moved}
 use Rattle.shapes.specs.Faces.{vertices_on}
 use Rattle.shapes.specs.Fresh.{Taken}
 use Rattle.shapes.specs.Measure.{area, normal}
 use Rattle.shapes.specs.Vectors.{negated}
 use Rattle.shapes.specs.split.Section.{is_hole}
-use Rattle.shapes.specs.split.Opening.{Caps, Opening, all_opened, next_opened, no_caps, opened_along}
-use Rattle.shapes.proofs.measures.Sums.{area_mates}
-use Rattle.split_opening_laws.specs.sections.Capped.{ArePlain, HasCaps, IsPlain}
+use Rattle.shapes.specs.split.Opening.{Caps, Opening, all_opened, no_caps, opened_along, holes_closed, outer_caps}
+use Rattle.shapes.proofs.measures.Sums.{area_mates, moved_back}
+use Rattle.split_opening_laws.specs.sections.Capped.{ArePlain, HasCaps, IsPlain, cap_faces}
 use Rattle.split_opening_laws.specs.sections.InTurn.{CanBeOpenedInTurn}
 use Rattle.split_opening_laws.specs.strips.Opened.{CanBeOpened}
-use Rattle.split_opening_laws.proofs.sections.InTurn.{caps_stay, can_open, others_on}
-use Rattle.split_laws.specs.opened.Told.{AllLieAlong, LiesAlong}
-use Rattle.split_laws.proofs.opened.Caps.{lower_normal, upper_normal}
+use Rattle.split_opening_laws.specs.cycles.SectionCycles.{AreSectionCycles}
+use Rattle.split_opening_laws.proofs.sections.InTurn.{can_open, openings_carry, capped_carry, new_caps}
+use Rattle.split_laws.specs.opened.Told.{LiesAlong}
+use Rattle.split_laws.specs.volumes.Closing.{CanClose}
+use Rattle.split_laws.proofs.opened.Caps.{lower_normal, upper_normal, area_kept}
 use Rattle.split_laws.proofs.opened.Kept as kept
 use Rattle.split_laws.proofs.opened.InTurn.{is_rewritten}
-use Rattle.split_laws.proofs.opened.Starts.{swap}
-use Rattle.split_caps.specs.Capped.{lower_numbers, upper_numbers}
+use Rattle.split_laws.proofs.opened.Starts.{swap, finish_old, start_old}
+use Rattle.split_laws.proofs.volumes.Closed.{ClearOf, closing, closing_leads}
+use Rattle.split_laws.proofs.volumes.Taken as taken
+use Rattle.split_laws.proofs.volumes.Taken.{CanTake}
+use Rattle.split_caps.specs.Capped.{lower_numbers, upper_numbers, area_below, sum_of}
 
 -- ---- numbers
 
-next_lowers : (above : List ℕ) (s : ℕ) (p : Plane) (o : Opening) (bs : List ℕ) → map (λ k. k.lower) (next_opened p above s o bs).caps ≡ map (λ k. k.lower) o.caps ++ (o.taken.face + 1) ∷ []
-unfolding next_opened
-next_lowers above s p o bs = map-append (λ k. k.lower) o.caps (record { lower = o.taken.face + 1; upper = o.taken.face + length bs + 1; hole = is_hole o.model p bs } ∷ [])
+pub lowers_are : (above : List ℕ) (s : ℕ) (p : Plane) (o : Opening) (cs : List (List ℕ)) → CanBeOpenedInTurn above s o cs → map (λ k. k.lower) (all_opened p above s o cs).caps ≡ map (λ k. k.lower) o.caps ++ lower_numbers o.taken.face cs
+lowers_are above s p o cs w = sym (append-nil (map (λ k. k.lower) (all_opened p above s o cs).caps))
+    ∙ openings_carry above s p (λ x ds. map (λ k. k.lower) x.caps ++ lower_numbers x.taken.face ds ≡ map (λ k. k.lower) o.caps ++ lower_numbers o.taken.face cs) (λ x bs ds w a.
+    ap (λ ks. ks ++ lower_numbers (x.taken.face + length bs + 1) ds) (map-append (λ k. k.lower) x.caps (new_caps p x bs ∷ [])) ∙ append_assoc (map (λ k. k.lower) x.caps) _ (lower_numbers (x.taken.face + length bs + 1) ds) ∙ a) o cs w refl
 
-next_uppers : (above : List ℕ) (s : ℕ) (p : Plane) (o : Opening) (bs : List ℕ) → map (λ k. k.upper) (next_opened p above s o bs).caps ≡ map (λ k. k.upper) o.caps ++ (o.taken.face + length bs + 1) ∷ []
-unfolding next_opened
-next_uppers above s p o bs = map-append (λ k. k.upper) o.caps (record { lower = o.taken.face + 1; upper = o.taken.face + length bs + 1; hole = is_hole o.model p bs } ∷ [])
-
-next_face : (above : List ℕ) (s : ℕ) (p : Plane) (o : Opening) (bs : List ℕ) → (next_opened p above s o bs).taken.face ≡ o.taken.face + length bs + 1
-unfolding next_opened
-next_face above s p o bs = refl
-
-pub lowers_are : (above : List ℕ) (s : ℕ) (p : Plane) (o : Opening) (cs : List (List ℕ)) → map (λ k. k.lower) (all_opened p above s o cs).caps ≡ map (λ k. k.lower) o.caps ++ lower_numbers o.taken.face cs
-lowers_are above s p o [] = sym (append-nil (map (λ k. k.lower) o.caps))
-lowers_are above s p o (bs ∷ cs) = lowers_are above s p (next_opened p above s o bs) cs
-    ∙ (λ i. next_lowers above s p o bs i ++ lower_numbers (next_face above s p o bs i) cs)
-    ∙ append_assoc (map (λ k. k.lower) o.caps) ((o.taken.face + 1) ∷ []) (lower_numbers (o.taken.face + length bs + 1) cs)
-
-pub uppers_are : (above : List ℕ) (s : ℕ) (p : Plane) (o : Opening) (cs : List (List ℕ)) → map (λ k. k.upper) (all_opened p above s o cs).caps ≡ map (λ k. k.upper) o.caps ++ upper_numbers o.taken.face cs
-uppers_are above s p o [] = sym (append-nil (map (λ k. k.upper) o.caps))
-uppers_are above s p o (bs ∷ cs) = uppers_are above s p (next_opened p above s o bs) cs
-    ∙ (λ i. next_uppers above s p o bs i ++ upper_numbers (next_face above s p o bs i) cs)
-    ∙ append_assoc (map (λ k. k.upper) o.caps) ((o.taken.face + length bs + 1) ∷ []) (upper_numbers (o.taken.face + length bs + 1) cs)
+pub uppers_are : (above : List ℕ) (s : ℕ) (p : Plane) (o : Opening) (cs : List (List ℕ)) → CanBeOpenedInTurn above s o cs → map (λ k. k.upper) (all_opened p above s o cs).caps ≡ map (λ k. k.upper) o.caps ++ upper_numbers o.taken.face cs
+uppers_are above s p o cs w = sym (append-nil (map (λ k. k.upper) (all_opened p above s o cs).caps))
+    ∙ openings_carry above s p (λ x ds. map (λ k. k.upper) x.caps ++ upper_numbers x.taken.face ds ≡ map (λ k. k.upper) o.caps ++ upper_numbers o.taken.face cs) (λ x bs ds w a.
+    ap (λ ks. ks ++ upper_numbers (x.taken.face + length bs + 1) ds) (map-append (λ k. k.upper) x.caps (new_caps p x bs ∷ [])) ∙ append_assoc (map (λ k. k.upper) x.caps) _ (upper_numbers (x.taken.face + length bs + 1) ds) ∙ a) o cs w refl
 
 -- ---- normals
 
@@ -70,61 +68,57 @@ twice_turned v = λ i. record { x = back v.x i; y = back v.y i; z = back v.z i }
   back : (a : ℤ) → a ≡ neg_ℤ (neg_ℤ a)
   back a = omega (arith, ints)
 
-module _ (M : Model) (above : List ℕ) (s : ℕ) (c : Taken) (bs : List ℕ) (p : Plane) (w : CanBeOpened M above s c bs) where
+module _ (M : Model) (above : List ℕ) (s : ℕ) (c : Taken) (bs : List ℕ) (w : CanBeOpened M above s c bs) where
   abbrev N : Model
   N = opened_along M above s c bs
 
-  new_apart : FacesApart N p (record { lower = c.face + 1; upper = c.face + length bs + 1; hole = is_hole M p bs })
+  old_normals : (ks : List Caps) → ArePlain M s ks → map (λ k. normal N k.lower) ks ≡ map (λ k. normal M k.lower) ks
+  old_normals [] plain = refl
+  old_normals (k ∷ ks) plain = λ i. kept.normal_is M N (swap M above s c bs w) (is_rewritten M above s c bs w) k.lower plain.0.there i ∷ old_normals ks plain.2 i
+
+  later_areas : (cs : List (List ℕ)) → AreSectionCycles M above s cs → map (area_below N) cs ≡ map (area_below M) cs
+  later_areas [] a = refl
+  later_areas (ds ∷ cs) a = λ i. area_kept M N (map mate ds) (λ h j.
+      let r = from_map mate h ds j in
+      let there = subst (λ x. Has M.edges (edge_of x)) (sym r.2) (mate_there M r.0 (a.0.halves r.0 r.1).there) in
+      (start_old M above s c bs w h there, finish_old M above s c bs w h there)) i ∷ later_areas cs a.1 i
+
+  new_normal : normal N (c.face + 1) ≡ area_below M bs
+  new_normal = lower_normal M above s c bs w ∙ sym (area_mates M bs)
+
+  new_apart : (p : Plane) → FacesApart N p (record { lower = c.face + 1; upper = c.face + length bs + 1; hole = is_hole M p bs })
   unfolding is_hole
-  new_apart = record {
+  new_apart p = record {
     opposite = upper_normal M above s c bs w ∙ twice_turned (area M bs) ∙ ap negated (sym (lower_normal M above s c bs w));
     told = ap (λ a. int_lt (dot a (direction p)) (pos 0)) (area_mates M bs ∙ sym (lower_normal M above s c bs w));
   }
 
-  still_apart : (k : Caps) → Has M.faces k.lower → Has M.faces k.upper → FacesApart M p k → FacesApart N p k
-  still_apart k low up a =
+  still_apart : (p : Plane) (k : Caps) → Has M.faces k.lower → Has M.faces k.upper → FacesApart M p k → FacesApart N p k
+  still_apart p k low up a =
       let r = is_rewritten M above s c bs w in
       let same_low = kept.normal_is M N (swap M above s c bs w) r k.lower low in
       let same_up = kept.normal_is M N (swap M above s c bs w) r k.upper up in
       record { opposite = same_up ∙ a.opposite ∙ ap negated (sym same_low); told = a.told ∙ ap (λ v. int_lt (dot v (direction p)) (pos 0)) (sym same_low) }
 
-  all_still : (ks : List Caps) → ArePlain M s ks → AllFaceApart M p ks → AllFaceApart N p ks
-  all_still [] plain a = tt
-  all_still (k ∷ ks) plain a = (still_apart k plain.0.there plain.1.there a.0, all_still ks plain.2 a.1)
+  all_still : (p : Plane) (ks : List Caps) → ArePlain M s ks → AllFaceApart M p ks → AllFaceApart N p ks
+  all_still p [] plain a = tt
+  all_still p (k ∷ ks) plain a = (still_apart p k plain.0.there plain.1.there a.0, all_still p ks plain.2 a.1)
 
 one_more : (M : Model) (p : Plane) (ks : List Caps) (k : Caps) → AllFaceApart M p ks → FacesApart M p k → AllFaceApart M p (ks ++ k ∷ [])
 one_more M p [] k a b = (b, tt)
 one_more M p (j ∷ ks) k a b = (a.0, one_more M p ks k a.1 b)
 
-next_apart : (above : List ℕ) (s : ℕ) (p : Plane) (o : Opening) (bs : List ℕ) (cs : List (List ℕ)) → CanBeOpenedInTurn above s o (bs ∷ cs) → ArePlain o.model s o.caps → AllFaceApart o.model p o.caps →
-    AllFaceApart (next_opened p above s o bs).model p (next_opened p above s o bs).caps
-unfolding next_opened
-next_apart above s p o bs cs w plain a =
-    let can = can_open above s o bs cs w in
-    one_more (opened_along o.model above s o.taken bs) p o.caps (record { lower = o.taken.face + 1; upper = o.taken.face + length bs + 1; hole = is_hole o.model p bs })
-    (all_still o.model above s o.taken bs p can o.caps plain a) (new_apart o.model above s o.taken bs p can)
-
 pub caps_apart : (above : List ℕ) (s : ℕ) (p : Plane) (o : Opening) (cs : List (List ℕ)) → CanBeOpenedInTurn above s o cs → HasCaps above s o → AllFaceApart o.model p o.caps →
     AllFaceApart (all_opened p above s o cs).model p (all_opened p above s o cs).caps
-caps_apart above s p o [] w caps a = a
-caps_apart above s p o (bs ∷ cs) w caps a = caps_apart above s p (next_opened p above s o bs) cs (others_on above s p o bs cs w) (caps_stay above s p o bs cs w caps) (next_apart above s p o bs cs w caps.plain a)
+caps_apart above s p o cs w caps a = capped_carry above s p (λ x ds. AllFaceApart x.model p x.caps) (λ x bs ds w caps a.
+    let can = can_open above s x bs ds w in
+    one_more (opened_along x.model above s x.taken bs) p x.caps (new_caps p x bs) (all_still x.model above s x.taken bs can p x.caps caps.plain a) (new_apart x.model above s x.taken bs can p)) o cs w caps a
 
--- ---- the caps of cycle i
-
-pub apart_at : (M : Model) (p : Plane) (ks : List Caps) (i : ℕ) → i < length ks → AllFaceApart M p ks → FacesApart M p (get_or ks i no_caps)
-apart_at M p [] i l a = absurd (omega (arith, l))
-apart_at M p (k ∷ ks) zero l a = a.0
-apart_at M p (k ∷ ks) (suc i) l a = apart_at M p ks i (omega (arith, l)) a.1
-
-pub along_at : (M : Model) (p : Plane) (ks : List Caps) (i : ℕ) → i < length ks → AllLieAlong M p ks → let k = get_or ks i no_caps in LiesAlong M p k.lower × LiesAlong M p k.upper
-along_at M p [] i l a = absurd (omega (arith, l))
-along_at M p (k ∷ ks) zero l a = (a.0, a.1)
-along_at M p (k ∷ ks) (suc i) l a = along_at M p ks i (omega (arith, l)) a.2
-
-pub plain_at : (M : Model) (s : ℕ) (ks : List Caps) (i : ℕ) → i < length ks → ArePlain M s ks → let k = get_or ks i no_caps in IsPlain M s k.lower × IsPlain M s k.upper
-plain_at M s [] i l a = absurd (omega (arith, l))
-plain_at M s (k ∷ ks) zero l a = (a.0, a.1)
-plain_at M s (k ∷ ks) (suc i) l a = plain_at M s ks i (omega (arith, l)) a.2
+-- what holds of all caps holds of those of cycle i
+pub all_at : (All : List Caps → Type 0) (One : Caps → Type 0) → ((k : Caps) (ks : List Caps) → All (k ∷ ks) → One k × All ks) → (ks : List Caps) (i : ℕ) → i < length ks → All ks → One (get_or ks i no_caps)
+all_at All One parts [] i l a = absurd (omega (arith, l))
+all_at All One parts (k ∷ ks) zero l a = (parts k ks a).0
+all_at All One parts (k ∷ ks) (suc i) l a = all_at All One parts ks i (omega (arith, l)) (parts k ks a).1
 
 -- ---- corners
 
@@ -140,3 +134,151 @@ outer_on M p f a v i =
 
 pub plain_lies : (M : Model) (p : Plane) (s f : ℕ) → IsPlain M s f → LiesAlong M p f → LiesOn M p f
 plain_lies M p s f plain a l there of v i = outer_on M p f a v (subst (λ q. IsIn v (vertices_on M (content M q))) (plain.no_ring l there of) i)
+
+-- ---- the normals of the caps: each cap below has the area of its cycle, and those of the holes that it takes in; the cap above is its opposite
+
+-- ---- vectors
+
+moved_on : (a b c : Point) → moved a (moved b c) ≡ moved (moved b a) c
+moved_on a b c = λ i. record { x = on a.x b.x c.x i; y = on a.y b.y c.y i; z = on a.z b.z c.z i } where
+  on : (a b c : ℤ) → a +ℤ (b +ℤ c) ≡ b +ℤ a +ℤ c
+  on a b c = omega (arith, ints)
+
+-- ---- the caps below, once the solid is opened
+
+abbrev pub lowers : Model → List Caps → List Point
+lowers M ks = map (λ k. normal M k.lower) ks
+
+abbrev pub uppers : Model → List Caps → List Point
+uppers M ks = map (λ k. normal M k.upper) ks
+
+pub normals_are : (above : List ℕ) (s : ℕ) (p : Plane) (o : Opening) (cs : List (List ℕ)) → CanBeOpenedInTurn above s o cs → HasCaps above s o →
+    let x = all_opened p above s o cs in map (λ k. normal x.model k.lower) x.caps ≡ map (λ k. normal o.model k.lower) o.caps ++ map (area_below o.model) cs
+normals_are above s p o cs w caps = sym (append-nil (lowers (all_opened p above s o cs).model (all_opened p above s o cs).caps))
+    ∙ capped_carry above s p (λ x ds. lowers x.model x.caps ++ map (area_below x.model) ds ≡ lowers o.model o.caps ++ map (area_below o.model) cs) (λ x bs ds w caps a.
+    let can = can_open above s x bs ds w in
+    (λ i. (map-append (λ k. normal (opened_along x.model above s x.taken bs) k.lower) x.caps (new_caps p x bs ∷ [])
+    ∙ (λ j. old_normals x.model above s x.taken bs can x.caps caps.plain j ++ new_normal x.model above s x.taken bs can j ∷ [])) i ++ later_areas x.model above s x.taken bs can ds w.cycles.cycles.1 i)
+    ∙ append_assoc (lowers x.model x.caps) (area_below x.model bs ∷ []) (map (area_below x.model) ds) ∙ a) o cs w caps refl
+
+-- ---- two lists that tell the same
+
+no_first : {X : Type 0} {v : X} {vs : List X} → v ∷ vs ≡ [] → ⊥
+no_first e = cc
+
+firsts : {X : Type 0} {u v : X} {us vs : List X} → u ∷ us ≡ v ∷ vs → (u ≡ v) × (us ≡ vs)
+firsts e = (cc, cc)
+
+module _ {X : Type 0} (f : Caps → X) (g : List ℕ → X) where
+  pub told_at : (ks : List Caps) (cs : List (List ℕ)) (i : ℕ) → i < length ks → map f ks ≡ map g cs → f (get_or ks i no_caps) ≡ g (get_or cs i [])
+  told_at [] cs i l e = absurd (omega (arith, l))
+  told_at (k ∷ ks) [] i l e = absurd (no_first e)
+  told_at (k ∷ ks) (c ∷ cs) zero l e = (firsts e).0
+  told_at (k ∷ ks) (c ∷ cs) (suc i) l e = told_at ks cs i (omega (arith, l)) (firsts e).1
+
+  pub told_filtered : (q : List ℕ → Bool) (ks : List Caps) (cs : List (List ℕ)) → map f ks ≡ map g cs → map (λ k. k.hole) ks ≡ map q cs → map f (filter (λ k. k.hole) ks) ≡ map g (filter q cs)
+  told_filtered q [] [] e h = refl
+  told_filtered q [] (c ∷ cs) e h = absurd (no_first (sym e))
+  told_filtered q (k ∷ ks) [] e h = absurd (no_first e)
+  told_filtered q (k ∷ ks) (c ∷ cs) e h = one k.hole (q c) (firsts h).0 (told_filtered q ks cs (firsts e).1 (firsts h).1) (firsts e).0 where
+    one : (a b : Bool) → a ≡ b → map f (filter (λ k. k.hole) ks) ≡ map g (filter q cs) → f k ≡ g c → map f (cond a (k ∷ filter (λ k. k.hole) ks) (filter (λ k. k.hole) ks)) ≡ map g (cond b (c ∷ filter q cs) (filter q cs))
+    one true true e r u = λ i. u i ∷ r i
+    one false false e r u = r
+    one true false e r u = absurd (true≢false e)
+    one false true e r u = absurd (true≢false (sym e))
+
+-- ---- the holes closed
+
+-- the normals of the faces that become rings of face x
+abbrev pub taken_by : Model → ℕ → List (ℕ × ℕ) → Point
+taken_by M x [] = origin
+taken_by M x (q ∷ qs) = cond (nat_eq q.0 x) (moved (normal M q.1) (taken_by M x qs)) (taken_by M x qs)
+
+-- face x becomes no ring
+abbrev IsNeverTaken : ℕ → List (ℕ × ℕ) → Type 0
+IsNeverTaken x [] = Unit {0}
+IsNeverTaken x (q ∷ qs) = (x ≢ q.1) × IsNeverTaken x qs
+
+-- then its normal and those that it takes sum to t
+record Sums (x : ℕ) (t : Point) (qs : List (ℕ × ℕ)) (A : Model) : Type 0 where
+  never : IsNeverTaken x qs
+  sum : moved (taken_by A x qs) (normal A x) ≡ t
+
+module _ (A : Model) (p : Plane) (q : ℕ × ℕ) (w : CanTake A p q.0 q.1) where
+  abbrev B : Model
+  B = kfmrh A q.0 q.1
+
+  same_taken : (x : ℕ) (rs : List (ℕ × ℕ)) → ClearOf q.0 q.1 rs → taken_by B x rs ≡ taken_by A x rs
+  same_taken x [] c = refl
+  same_taken x (r ∷ rs) c = λ i. cond (nat_eq r.0 x) (moved (taken.normal_same A p q.0 q.1 w r.1 c.2 c.1 i) (same_taken x rs c.3 i)) (same_taken x rs c.3 i)
+
+  sums_on : (x : ℕ) (t : Point) (rs : List (ℕ × ℕ)) → ClearOf q.0 q.1 rs → Sums x t (q ∷ rs) A → Sums x t rs B
+  sums_on x t rs c s = record {
+    never = s.never.1;
+    sum = elim (eqb_tells q.0 x) [
+      | inl e ↦
+          let taken_one : normal B x ≡ moved (normal A q.1) (normal A x) = ap (normal B) (sym e.1) ∙ taken.normal_f A p q.0 q.1 w ∙ ap (λ k. moved (normal A q.1) (normal A k)) e.1 in
+          (λ i. moved (same_taken x rs c i) (taken_one i)) ∙ moved_on (taken_by A x rs) (normal A q.1) (normal A x)
+          ∙ sym (ap (λ b. moved (cond b (moved (normal A q.1) (taken_by A x rs)) (taken_by A x rs)) (normal A x)) e.0) ∙ s.sum
+      | inr e ↦ (λ i. moved (same_taken x rs c i) (taken.normal_same A p q.0 q.1 w x (λ z. e.1 (sym z)) s.never.0 i))
+          ∙ sym (ap (λ b. moved (cond b (moved (normal A q.1) (taken_by A x rs)) (taken_by A x rs)) (normal A x)) e.0) ∙ s.sum
+    ];
+  }
+
+never_taken : (x : ℕ) (o : Caps) (hs : List Caps) → count x (cap_faces hs) ≡ 0 → IsNeverTaken x (closing o hs)
+never_taken x o [] z = tt
+never_taken x o (h ∷ hs) z = (
+  (λ e. absurd (omega (arith, z, tick_same x, ap (tick x) e))),
+  ((λ e. absurd (omega (arith, z, tick_same x, ap (tick x) e))), never_taken x o hs (omega (arith, z))),
+)
+
+-- once the holes are closed, a face that is no cap of theirs has its own normal and those that it took
+pub closed_normal : (M : Model) (s : ℕ) (p : Plane) (ks : List Caps) → CanClose M s p ks → (x : ℕ) → let hs = filter (λ k. k.hole) ks in count x (cap_faces hs) ≡ 0 →
+    normal (holes_closed M ks) x ≡ moved (taken_by M x (closing (outer_caps ks) hs)) (normal M x)
+closed_normal M s p ks w x z =
+    let o = outer_caps ks in
+    let hs = filter (λ k. k.hole) ks in
+    let t = moved (taken_by M x (closing o hs)) (normal M x) in
+    sym (none_moved (normal (holes_closed M ks) x)) ∙ (closing_leads M s p ks (Sums x t) (λ A q rs c clear n. sums_on A p q c x t rs clear n) w (record { never = never_taken x o hs z; sum = refl })).sum
+
+-- the outer cycle's caps take those of the holes
+pub both_take : (M : Model) (o : Caps) (hs : List Caps) → o.lower ≢ o.upper → (taken_by M o.lower (closing o hs) ≡ sum_of (lowers M hs)) × (taken_by M o.upper (closing o hs) ≡ sum_of (uppers M hs))
+both_take M o [] ne = (refl, refl)
+both_take M o (h ∷ hs) ne =
+    let later = both_take M o hs ne in
+    let low = taken_by M o.lower (closing o hs) in
+    let up = taken_by M o.upper (closing o hs) in (
+      ap (λ b. cond b (moved (normal M h.lower) (cond (nat_eq o.upper o.lower) (moved (normal M h.upper) low) low)) (cond (nat_eq o.upper o.lower) (moved (normal M h.upper) low) low)) (eq-eqb o.lower o.lower refl)
+          ∙ ap (λ b. moved (normal M h.lower) (cond b (moved (normal M h.upper) low) low)) (ne_eqb o.upper o.lower (λ e. ne (sym e))) ∙ ap (moved (normal M h.lower)) later.0,
+      ap (λ b. cond b (moved (normal M h.lower) (cond (nat_eq o.upper o.upper) (moved (normal M h.upper) up) up)) (cond (nat_eq o.upper o.upper) (moved (normal M h.upper) up) up)) (ne_eqb o.lower o.upper ne)
+          ∙ ap (λ b. cond b (moved (normal M h.upper) up) up) (eq-eqb o.upper o.upper refl) ∙ ap (moved (normal M h.upper)) later.1,
+    )
+
+-- ---- where there is a hole there is one outer cycle
+
+counted_holes : (ks : List Caps) (i : ℕ) → i < length ks → (get_or ks i no_caps).hole ≡ false → length (filter (λ k. k.hole) ks) < length ks
+counted_holes [] i l e = absurd (omega (arith, l))
+counted_holes (k ∷ ks) zero l e = omega (arith, ap (λ b. length (cond b (k ∷ filter (λ k. k.hole) ks) (filter (λ k. k.hole) ks))) e, no_more ks) where
+  no_more : (ks : List Caps) → length (filter (λ k. k.hole) ks) ≤ length ks
+  no_more [] = omega arith
+  no_more (k ∷ ks) = go k.hole (no_more ks) where
+    go : (b : Bool) → length (filter (λ k. k.hole) ks) ≤ length ks → length (cond b (k ∷ filter (λ k. k.hole) ks) (filter (λ k. k.hole) ks)) ≤ suc (length ks)
+    go true r = omega (arith, r)
+    go false r = omega (arith, r)
+counted_holes (k ∷ ks) (suc i) l e = go k.hole (counted_holes ks i (omega (arith, l)) e) where
+  go : (b : Bool) → length (filter (λ k. k.hole) ks) < length ks → length (cond b (k ∷ filter (λ k. k.hole) ks) (filter (λ k. k.hole) ks)) < suc (length ks)
+  go true r = omega (arith, r)
+  go false r = omega (arith, r)
+
+pub outer_is : (ks : List Caps) (i : ℕ) → i < length ks → (get_or ks i no_caps).hole ≡ false → length ks ≡ length (filter (λ k. k.hole) ks) + 1 → outer_caps ks ≡ get_or ks i no_caps
+outer_is [] i l e one = absurd (omega (arith, l))
+outer_is (k ∷ ks) zero l e one = ap (λ b. cond b (outer_caps ks) k) e
+outer_is (k ∷ ks) (suc i) l e one = go (outer_is ks i (omega (arith, l)) e) k.hole refl one where
+  go : (length ks ≡ length (filter (λ k. k.hole) ks) + 1 → outer_caps ks ≡ get_or ks i no_caps) → (b : Bool) → k.hole ≡ b → suc (length ks) ≡ length (cond b (k ∷ filter (λ k. k.hole) ks) (filter (λ k. k.hole) ks)) + 1 → outer_caps (k ∷ ks) ≡ get_or ks i no_caps
+  go later true is n = ap (λ b. cond b (outer_caps ks) k) is ∙ later (omega (arith, n))
+  go later false is n = absurd (omega (arith, n, counted_holes ks i (omega (arith, l)) e))
+
+-- ---- opposite vectors
+
+pub both_opposite : (a b u v : Point) → u ≡ negated a → v ≡ negated b → moved u v ≡ negated (moved a b)
+both_opposite a b u v e f = (λ i. moved (e i) (f i)) ∙ moved_back a b

@@ -1,10 +1,9 @@
 -- The caps once the holes are closed and the upper faces parted from the solid.
-use Rattle.std.proofs.Common.{◌≡◌, ◌≢◌, ℕ, zero, suc, ◌+◌, ◌<◌, ◌≤◌, Bool, true, false, cond, List, [], ◌∷◌, ◌++◌, length, map, get_or, Some, is_some, refl, sym, ap, subst, ◌∙◌, arith, true≢false, inl, inr}
+use Rattle.std.proofs.Common.{◌≡◌, ◌≢◌, ℕ, zero, suc, ◌+◌, ◌<◌, ◌≤◌, Bool, true, false, cond, List, [], ◌∷◌, length, map, get_or, Some, is_some, refl, sym, ap, subst, ◌∙◌, arith, true≢false, inl, inr}
 use Rattle.std.specs.Prelude.{filter, pos, int_lt}
 use Rattle.std.specs.Option.{option_map}
 use Rattle.std.proofs.lemmas.Bool.Decides.{eqb_tells}
 use Rattle.std.proofs.lemmas.Bool.{false_from_ne_true}
-use Rattle.std.proofs.lemmas.List.{append-nil}
 use Rattle.euler_operators.specs.declared.Plane.{Plane}
 use Rattle.euler_operators.specs.declared.Point.{Point}
 use Rattle.euler_operators.specs.Items.{count, IsIn, tick}
@@ -12,12 +11,11 @@ use Rattle.euler_operators.specs.Vectors.{cross, direction, dot, is_on, moved, o
 use Rattle.euler_operators.specs.Table as table
 use Rattle.euler_operators.specs.Model.{Model, FaceRow, LoopContent, content, cycle, face_of, lone, outer, point_of, solid_of, tail}
 use Rattle.euler_operators.specs.Sound.{Sound, Has}
-use Rattle.euler_operators.specs.Conditions.{lists, strictly_rises}
+use Rattle.euler_operators.specs.Conditions.{lists}
 use Rattle.euler_operators.specs.Effect.{kfmrh, part}
-use Rattle.euler_operators.proofs.Lists.{count-append, tick_same}
+use Rattle.euler_operators.proofs.Lists.{tick_same}
 use Rattle.euler_operators.proofs.Vectors.{none_moved}
 use Rattle.euler_operators.proofs.Models.{same_solid, solid_row}
-use Rattle.euler_laws.proofs.shared.Counted.{counted_once}
 use Rattle.euler_laws.proofs.shared.Listed.{IsIn-from_listed, listed-from_in}
 use Rattle.euler_laws.proofs.shared.Rows.{face_there, solid_either}
 use Rattle.shapes.specs.Faces.{corners, loops_of, vertices_in, vertices_on}
@@ -29,24 +27,21 @@ use Rattle.shapes.specs.split.Opening.{Caps, Opening, holes_closed, no_caps, out
 use Rattle.shapes.specs.split.Split.{opened_at}
 use Rattle.shapes.proofs.measures.Products.{cross_moved}
 use Rattle.shapes.proofs.walks.SolidFaces.{face_of_loop}
-use Rattle.split_opening_laws.specs.sections.Capped.{HasCaps, IsPlain, cap_faces}
+use Rattle.split_opening_laws.specs.sections.Capped.{IsPlain, cap_faces, ArePlain}
 use Rattle.split_opening_laws.specs.sections.InTurn.{upper_faces}
-use Rattle.split_opening_laws.proofs.sections.InTurn.{caps_rise}
 use Rattle.split_laws.specs.SplitOps.{hole_ops}
 use Rattle.split_laws.specs.opened.Told.{AllLieAlong, LiesAlong}
 use Rattle.split_laws.specs.volumes.Laws.{CanBeSplit}
 use Rattle.split_laws.proofs.Whole as after_closing
-use Rattle.split_laws.proofs.Flags.{flags_are, one_outer}
+use Rattle.split_laws.proofs.Flags.{one_outer}
 use Rattle.split_laws.proofs.Holes.{AreClosed, AreLevel, holes_counted}
-use Rattle.split_laws.proofs.opened.InTurn.{openings_lie}
 use Rattle.split_laws.proofs.volumes.Closed.{closing, closing_carries}
 use Rattle.split_laws.proofs.volumes.Split as split
 use Rattle.split_laws.proofs.volumes.Taken as taken
 use Rattle.split_laws.proofs.volumes.Taken.{CanTake}
 use Rattle.command_laws.proofs.Owners.{on_one}
 use Rattle.split_caps.specs.Capped.{IsCapOf, area_below, sum_of}
-use Rattle.split_caps.proofs.CapNormals.{both_opposite, both_take, closed_normal, taken_by, lowers, normals_are, outer_is, told_at, told_filtered, uppers}
-use Rattle.split_caps.proofs.OpenedCaps.{AllFaceApart, LiesOn, along_at, apart_at, caps_apart, outer_on, plain_at, plain_lies}
+use Rattle.split_caps.proofs.OpenedCaps.{both_opposite, both_take, closed_normal, taken_by, lowers, normals_are, outer_is, told_at, told_filtered, uppers, AllFaceApart, LiesOn, caps_apart, outer_on, plain_lies, all_at, FacesApart}
 
 -- ---- a cap becomes a ring of another
 
@@ -120,11 +115,6 @@ module _ (x : ℕ) where
 
 -- ---- some of the caps
 
-level_at : (us : List ℕ) (ks : List Caps) (i : ℕ) → i < length ks → AreLevel us ks → let k = get_or ks i no_caps in (lists us k.lower ≡ false) × (lists us k.upper ≡ true)
-level_at us [] i l a = absurd (omega (arith, l))
-level_at us (k ∷ ks) zero l a = (a.0, a.1)
-level_at us (k ∷ ks) (suc i) l a = level_at us ks i (omega (arith, l)) a.2
-
 holes_apart : (M : Model) (p : Plane) (ks : List Caps) → AllFaceApart M p ks → AllFaceApart M p (filter (λ k. k.hole) ks)
 holes_apart M p [] a = tt
 holes_apart M p (k ∷ ks) a = go k.hole (holes_apart M p ks a.1) where
@@ -163,30 +153,24 @@ module _ (d : Drawing) (above : List ℕ) (s : ℕ) (p : Plane) (t : ℕ) (w : C
   abbrev P : Model
   P = part K s t us
 
-  bare : HasCaps above s begun
-  bare = record { plain = tt; all_rise = ap strictly_rises (append-nil above) ∙ w.above_rise; upper_rise = ap strictly_rises (append-nil above) ∙ w.above_rise }
-
-  caps : HasCaps above s X
-  caps = caps_rise above s p begun cycles w.opens bare
-
   once : (x : ℕ) → count x above + count x (cap_faces ks) ≤ 1
-  once x = omega (arith, counted_once x (above ++ cap_faces ks) caps.all_rise, count-append x above (cap_faces ks))
+  once = split.once d above s p t w
 
   closed : AreClosed X.model K s us (hole_ops ks) (filter (λ k. k.hole) ks)
-  closed = after_closing.closed d above s p w.opens bare w.no_stray
+  closed = split.closed d above s p t w
 
   all_apart : AllFaceApart X.model p ks
-  all_apart = caps_apart above s p begun cycles w.opens bare tt
+  all_apart = caps_apart above s p begun cycles w.opens (split.bare d above s p t w) tt
 
   all_along : AllLieAlong X.model p ks
-  all_along = openings_lie above s p begun cycles w.opens bare tt w.lie_on
+  all_along = (split.closes d above s p t w).along
 
   -- the flags and the normals of the caps below, by the cycles
   flags : map (λ k. k.hole) ks ≡ map (is_hole d.model p) cycles
-  flags = flags_are above s p begun cycles w.opens
+  flags = split.flags d above s p t w
 
   areas : lowers X.model ks ≡ map (area_below d.model) cycles
-  areas = normals_are above s p begun cycles w.opens bare
+  areas = normals_are above s p begun cycles w.opens (split.bare d above s p t w)
 
   -- ---- the caps of cycle i
 
@@ -195,13 +179,16 @@ module _ (d : Drawing) (above : List ℕ) (s : ℕ) (p : Plane) (t : ℕ) (w : C
     k = get_or ks i no_caps
 
     plain : IsPlain X.model s k.lower × IsPlain X.model s k.upper
-    plain = plain_at X.model s ks i l caps.plain
+    plain = all_at (ArePlain X.model s) (λ k. IsPlain X.model s k.lower × IsPlain X.model s k.upper) (λ k ks a. ((a.0, a.1), a.2)) ks i l (split.caps d above s p t w).plain
 
     along : LiesAlong X.model p k.lower × LiesAlong X.model p k.upper
-    along = along_at X.model p ks i l all_along
+    along = all_at (AllLieAlong X.model p) (λ k. LiesAlong X.model p k.lower × LiesAlong X.model p k.upper) (λ k ks a. ((a.0, a.1), a.2)) ks i l all_along
 
     level : (lists us k.lower ≡ false) × (lists us k.upper ≡ true)
-    level = level_at us ks i l (after_closing.level d above s p w.opens bare w.no_stray)
+    level = all_at (AreLevel us) (λ k. (lists us k.lower ≡ false) × (lists us k.upper ≡ true)) (λ k ks a. ((a.0, a.1), a.2)) ks i l (after_closing.level d above s p w.opens (split.bare d above s p t w) w.no_stray)
+
+    apart : FacesApart X.model p k
+    apart = all_at (AllFaceApart X.model p) (FacesApart X.model p) (λ k ks a. a) ks i l all_apart
 
     -- what was there before the holes were closed, and is none of a hole's caps
     cap_row : k.hole ≡ false → (f : ℕ) → 1 ≤ count f (k.lower ∷ k.upper ∷ []) → table.get K.faces f ≡ table.get X.model.faces f
@@ -296,7 +283,7 @@ module _ (d : Drawing) (above : List ℕ) (s : ℕ) (p : Plane) (t : ℕ) (w : C
           no_hole e,
           low ∙ lower_now e ∙ (λ j. moved (sum_of (hole_areas j)) (told_at (λ k. normal X.model k.lower) (area_below d.model) ks cycles i l areas j)),
           up ∙ upper_now e ∙ both_opposite (sum_of (lowers X.model holes)) (normal X.model k.lower) (sum_of (uppers X.model holes)) (normal X.model k.upper)
-              (opposite_sums X.model p holes (holes_apart X.model p ks all_apart)) (apart_at X.model p ks i l all_apart).opposite ∙ ap negated (sym (lower_now e) ∙ sym low),
+              (opposite_sums X.model p holes (holes_apart X.model p ks all_apart)) apart.opposite ∙ ap negated (sym (lower_now e) ∙ sym low),
         )
 
     -- without holes
@@ -306,6 +293,5 @@ module _ (d : Drawing) (above : List ℕ) (s : ℕ) (p : Plane) (t : ℕ) (w : C
 
       pub faces_apart : (int_lt (dot (normal P k.lower) (direction p)) (pos 0) ≡ false) × (normal P k.upper ≡ negated (normal P k.lower))
       faces_apart =
-          let a = apart_at X.model p ks i l all_apart in
           let low = split.normal_same K s t us k.lower ∙ lower_now own_flag ∙ ap (λ hs. moved (sum_of (lowers X.model hs)) (normal X.model k.lower)) none ∙ none_moved (normal X.model k.lower) in
-          (ap (λ v. int_lt (dot v (direction p)) (pos 0)) low ∙ sym a.told ∙ own_flag, (normals_told own_flag).2)
+          (ap (λ v. int_lt (dot v (direction p)) (pos 0)) low ∙ sym apart.told ∙ own_flag, (normals_told own_flag).2)

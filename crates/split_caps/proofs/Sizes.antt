@@ -1,7 +1,6 @@
 -- How many vertices and edges a split makes.
 use Rattle.std.specs.Prelude.{fold}
-use Rattle.std.proofs.Common.{◌≡◌, ◌≢◌, ℕ, zero, suc, ◌+◌, ◌<◌, Bool, true, false, cond, nat_eq, nat_lt, ◌&&◌, List, [], ◌∷◌, ◌++◌, length, map, None, refl, sym, ap, subst, ◌∙◌, arith, inl, inr}
-use Rattle.std.proofs.lemmas.Bool.Decides.{eqb_tells}
+use Rattle.std.proofs.Common.{◌≡◌, ◌≢◌, ℕ, zero, suc, ◌+◌, ◌<◌, Bool, true, false, cond, nat_eq, nat_lt, ◌&&◌, List, [], ◌∷◌, length, map, None, refl, sym, ap, subst, ◌∙◌, arith, inl, inr, ◌⊎◌}
 use Rattle.std.proofs.lemmas.List.{length-append, length-map}
 use Rattle.euler_operators.specs.declared.Plane.{Plane}
 use Rattle.euler_operators.specs.declared.Point.{Point}
@@ -9,9 +8,9 @@ use Rattle.euler_operators.specs.HalfEdge.{code, edge_of, half, plus}
 use Rattle.euler_operators.specs.Items.{IsIn}
 use Rattle.euler_operators.specs.Table as table
 use Rattle.euler_operators.specs.Table.{Table}
-use Rattle.euler_operators.specs.Model.{EdgeRow, Model, is_ring_of, loop_of, point_of, tail}
+use Rattle.euler_operators.specs.Model.{EdgeRow, Model, point_of, tail}
 use Rattle.euler_operators.specs.Sound.{Sound}
-use Rattle.euler_operators.specs.Conditions.{face_at, has_rings}
+use Rattle.euler_operators.specs.Conditions.{has_rings}
 use Rattle.euler_operators.specs.Effect.{effect, mev_at}
 use Rattle.euler_operators.proofs.Lists.{tick_same}
 use Rattle.euler_operators.proofs.Tables.{get-put_other}
@@ -20,21 +19,20 @@ use Rattle.euler_laws.proofs.Sizes.{mapped_none, size-map_rows, size-put_new}
 use Rattle.euler_laws.proofs.mev.Mev.{mev_goes}
 use Rattle.shapes.specs.Fresh.{Growing, Taken, numbers_after}
 use Rattle.shapes.specs.split.Crossings.{next_cut}
-use Rattle.shapes.specs.split.Drawing.{Drawing, FacePairs, all_drawn, all_joined, draw_next, drawn_between, in_one_loop, join_next, joined_pair, loops_joined, next_drawn, ring_free, rings_above, stuck_at, with_rings}
-use Rattle.shapes.specs.split.Opening.{Opening, all_opened, both_lists, next_opened, opened_along, with_copies, with_rim}
+use Rattle.shapes.specs.split.Drawing.{Drawing, FacePairs, all_drawn, all_joined, draw_next, drawn_between, join_next, next_drawn, ring_free, rings_above, stuck_at, with_rings}
+use Rattle.shapes.specs.split.Opening.{Opening, all_opened, both_lists, opened_along, with_copies, with_rim}
 use Rattle.split_drawing_laws.specs.crossings.CrossingOps as crossings
 use Rattle.split_drawing_laws.specs.drawings.Pairs.{AllFit, pairs_in}
 use Rattle.split_drawing_laws.specs.drawings.Passing.{Drawable, Going, Joining, Ready}
-use Rattle.split_drawing_laws.proofs.drawings.Drawn.{CanJoin}
+use Rattle.split_drawing_laws.proofs.drawings.Drawn.{CanDraw}
 use Rattle.split_drawing_laws.proofs.drawings.Faces.{begun_joining, fitting_on, going, going_on, joins}
-use Rattle.split_drawing_laws.proofs.drawings.Pairs.{can_back, can_on, pair_can}
-use Rattle.split_drawing_laws.proofs.drawings.Passes.{draw_next_one, draw_next_two, draw_one, edge_fits, edge_fits_now, edge_free, edge_open, face_fits, face_open, join_next_one, join_next_two, join_one, loop_fits, loop_open, room_here}
 use Rattle.split_drawing_laws.proofs.drawings.Stays.{edges_are, joined_edges}
 use Rattle.split_drawing_laws.proofs.drawings.Whole.{drawable_on, next_is, ready}
-use Rattle.split_drawing_laws.proofs.loop_sides.SidesWhole.{draws_stuck, not_stuck}
+use Rattle.split_drawing_laws.proofs.drawings.Passes.{can_now, cut_off, draws_keep, either_now, joins_keep, stuck_now}
+use Rattle.split_drawing_laws.proofs.loop_sides.SidesWhole.{not_stuck}
 use Rattle.split_opening_laws.specs.sections.InTurn.{CanBeOpenedInTurn, halves_in}
 use Rattle.split_opening_laws.specs.Numbers.{AreFree}
-use Rattle.split_opening_laws.proofs.sections.InTurn.{others_on}
+use Rattle.split_opening_laws.proofs.sections.InTurn.{openings_carry}
 use Rattle.split_opening_laws.proofs.sections.OpenedRows as opened
 use Rattle.split_opening_laws.proofs.sections.Pairs.{rim_above}
 
@@ -65,52 +63,25 @@ cuts_make M p g (e ∷ es) go =
 
 -- ---- faces drawn
 
-module _ (M : Model) (f : ℕ) where
-  pair_makes : (N : Model) (q : ℕ × ℕ) (e : ℕ) → (is_ring_of N (face_at N q.0) (loop_of N q.0) ≡ true → CanJoin N q.1 q.0 e) → (is_ring_of N (face_at N q.0) (loop_of N q.0) ≡ false → CanJoin N q.0 q.1 e) → size (joined_pair N q e).edges ≡ size N.edges + 1
-  pair_makes N q e back on = go (is_ring_of N (face_at N q.0) (loop_of N q.0)) refl where
-    one : (c d : ℕ) → CanJoin N c d e → size (loops_joined N c d e).edges ≡ size N.edges + 1
-    one c d can = ap size (joined_edges N c d e can) ∙ size-put_new N.edges e _ can.edge_free
-
-    go : (b : Bool) → is_ring_of N (face_at N q.0) (loop_of N q.0) ≡ b → size (cond b (loops_joined N q.1 q.0 e) (loops_joined N q.0 q.1 e)).edges ≡ size N.edges + 1
-    go true is = one q.1 q.0 (back is)
-    go false is = one q.0 q.1 (on is)
-
+module _ (M : Model) (f total : ℕ) where
   -- a pair is joined, or left for the second pass
-  joins_make : (d : Drawing) (qs : List (ℕ × ℕ)) (n : ℕ) → AllFit M f qs → Joining M f d qs n → let D = fold join_next d qs in size D.model.edges + length D.left ≡ size d.model.edges + length d.left + length qs
-  joins_make d [] n fit w = none (size d.model.edges + length d.left)
-  joins_make d (q ∷ qs) n fit w =
-      let D = join_next d q in
-      joins_make D qs n fit.1 (join_one M f d q qs n fit.0 w).1 ∙ next_one (size d.model.edges + length d.left) (size D.model.edges + length D.left) (length qs) (go (in_one_loop d.model q) refl) where
-        go : (b : Bool) → in_one_loop d.model q ≡ b → size (join_next d q).model.edges + length (join_next d q).left ≡ size d.model.edges + length d.left + 1
-        go true e = ap (λ x. size x.model.edges + length x.left) (join_next_one d q e) ∙ ap (λ n. size d.model.edges + n) (length-append d.left (q ∷ [])) ∙ moved_on (size d.model.edges) (length d.left) where
-          moved_on : (a b : ℕ) → a + (b + 1) ≡ a + b + 1
-          moved_on a b = omega arith
-        go false e = ap (λ x. size x.model.edges + length x.left) (join_next_two d q e)
-            ∙ ap (λ n. n + length d.left) (pair_makes d.model q (d.taken.edge + 1)
-            (can_back M d.model f q (d.taken.edge + 1) w.joined fit.0 e (edge_free M f d q qs n fit.0 w) (edge_fits_now M f d q qs n fit.0 w))
-            (can_on M d.model f q (d.taken.edge + 1) w.joined fit.0 e (edge_free M f d q qs n fit.0 w) (edge_fits_now M f d q qs n fit.0 w))) ∙ turned (size d.model.edges) (length d.left) where
-              turned : (a b : ℕ) → a + 1 + b ≡ a + b + 1
-              turned a b = omega arith
+  joins_make : (d : Drawing) (qs : List (ℕ × ℕ)) (n : ℕ) → AllFit M f qs → Joining M f d qs n → size d.model.edges + length d.left + length qs ≡ total →
+      let D = fold join_next d qs in size D.model.edges + length D.left + 0 ≡ total
+  joins_make = joins_keep M f (λ x rs. size x.model.edges + length x.left + length rs ≡ total) (λ x q rs m fits w e a. omega (arith, length-append x.left (q ∷ []), a))
+      (λ x q rs m fits w e a.
+      let one = either_now M f x q rs m fits w e (λ N. size N.edges ≡ size x.model.edges + 1)
+      (λ c k can at to. ap size (joined_edges x.model c k (x.taken.edge + 1) can) ∙ size-put_new x.model.edges (x.taken.edge + 1) _ can.edge_free) in
+      omega (arith, one, a))
 
   -- a pair that is left is drawn, where the drawing isn't stuck
-  draws_make : Sound M → f ≢ 0 → (d : Drawing) (qs : List (ℕ × ℕ)) (n : ℕ) → AllFit M f qs → Going M f d qs n → (fold (draw_next f) d qs).stuck ≡ 0 → size (fold (draw_next f) d qs).model.edges ≡ size d.model.edges + length qs
-  draws_make sound some d [] n fit w free = none (size d.model.edges)
-  draws_make sound some d (q ∷ qs) n fit w free = draws_make sound some (draw_next f d q) qs n fit.1 (draw_one M f sound d q qs n fit.0 w).1 free
-      ∙ next_one (size d.model.edges) (size (draw_next f d q).model.edges) (length qs) (go (in_one_loop d.model q) refl) where
-        stops : (d : Drawing) → (stuck_at f d).stuck ≢ 0
-        stops d e = elim (eqb_tells d.stuck 0) [
-          | inl z ↦ some (sym (ap (λ b. cond b f d.stuck) z.0) ∙ e)
-          | inr z ↦ z.1 (sym (ap (λ b. cond b f d.stuck) z.0) ∙ e)
-        ]
-
-        go : (b : Bool) → in_one_loop d.model q ≡ b → size (draw_next f d q).model.edges ≡ size d.model.edges + 1
-        go true e =
-            let room = room_here M f sound d q qs n fit.0 w in
-            let can = pair_can M d.model f q (d.taken.edge + 1) (d.taken.face + 1) (d.taken.loop + 1) sound w.drawn fit.0 e
-            (edge_open M f sound d q qs n fit.0 w) (face_open M f sound d q qs n fit.0 w) (loop_open M f sound d q qs n fit.0 w)
-            (edge_fits d.taken (length qs + n) room) (face_fits d.taken (length qs + n) room) (loop_fits d.taken (length qs + n) room) in
-            ap (λ x. size x.model.edges) (draw_next_one f d q e) ∙ ap size (edges_are d.model q.0 q.1 (d.taken.edge + 1) (d.taken.face + 1) (d.taken.loop + 1) can) ∙ size-put_new d.model.edges (d.taken.edge + 1) _ can.edge_free
-        go false e = absurd (draws_stuck f (draw_next f d q) qs (subst (λ x. x.stuck ≢ 0) (sym (draw_next_two f d q e)) (stops d)) free)
+  draws_make : Sound M → f ≢ 0 → (d : Drawing) (qs : List (ℕ × ℕ)) (n : ℕ) → AllFit M f qs → Going M f d qs n → size d.model.edges + length qs ≡ total →
+      let D = fold (draw_next f) d qs in D.stuck ≡ 0 → size D.model.edges + 0 ≡ total
+  draws_make sound some d qs n fit w a free = elim (draws_keep M f (λ x rs. (x.stuck ≢ 0) ⊎ (size x.model.edges + length rs ≡ total)) sound (λ x q rs m fits w e a. inl (stuck_now f x some))
+      (λ x q rs m fits w e a. elim a [ inl is ↦ inl is | inr all ↦ inr (cut x q rs (can_now M f sound x q rs m fits w e) all) ]) d qs n fit w (inr a)) [ inl is ↦ absurd (is free) | inr all ↦ all ] where
+        cut : (x : Drawing) (q : ℕ × ℕ) (rs : List (ℕ × ℕ)) → CanDraw x.model q.0 q.1 (x.taken.edge + 1) (x.taken.face + 1) (x.taken.loop + 1) → size x.model.edges + length (q ∷ rs) ≡ total → size (cut_off x q).model.edges + length rs ≡ total
+        cut x q rs can all =
+            let one = ap size (edges_are x.model q.0 q.1 (x.taken.edge + 1) (x.taken.face + 1) (x.taken.loop + 1) can) ∙ size-put_new x.model.edges (x.taken.edge + 1) _ can.edge_free in
+            omega (arith, one, all)
 
 -- one face drawn
 module _ (p : Plane) (f : ℕ) (qs : List (ℕ × ℕ)) (d : Drawing) (n : ℕ) (w : Ready p f qs d n) (some : f ≢ 0) where
@@ -141,11 +112,11 @@ module _ (p : Plane) (f : ℕ) (qs : List (ℕ × ℕ)) (d : Drawing) (n : ℕ) 
   pub face_makes : (drawn_between p f qs d).stuck ≡ 0 → size (drawn_between p f qs d).model.edges ≡ size d.model.edges + length qs
   face_makes free =
       let s = shared (nat_eq (length qs) 1) in
-      let first = joins_make d.model f (record d { left = [] }) qs n w.fit (begun_joining p f qs d n w) in
-      let second = draws_make d.model f w.sound some R R.left n (fitting_on d.model f f stops J (joins p f qs d n w).state.pairs) (going_on d.model f n stops J (going p f qs d n w)) (sym s.1 ∙ free) in
-      ap size s.0 ∙ second ∙ (λ i. size (freed stops i) + length (left stops i)) ∙ first ∙ none (size d.model.edges) (length qs) where
-        none : (a n : ℕ) → a + 0 + n ≡ a + n
-        none a n = omega arith
+      let all : ℕ = size d.model.edges + length qs in
+      let first = joins_make d.model f all (record d { left = [] }) qs n w.fit (begun_joining p f qs d n w) (omega arith) in
+      let begun : size R.model.edges + length R.left ≡ all = (λ i. size (freed stops i) + length (left stops i)) ∙ omega (arith, first) in
+      let second = draws_make d.model f all w.sound some R R.left n (fitting_on d.model f f stops J (joins p f qs d n w).state.pairs) (going_on d.model f n stops J (going p f qs d n w)) begun (sym s.1 ∙ free) in
+      ap size s.0 ∙ omega (arith, second)
 
 pub faces_make : (p : Plane) (d : Drawing) (fs : List FacePairs) (n : ℕ) → Drawable d fs n → ((f : ℕ) → IsIn f (map (λ q. q.face) fs) → f ≢ 0) → (fold (next_drawn p) d fs).stuck ≡ 0 → size (fold (next_drawn p) d fs).model.edges ≡ size d.model.edges + pairs_in fs
 faces_make p d [] n w some free = none (size d.model.edges)
@@ -178,19 +149,10 @@ opening_makes M above s c bs free = (
       ∙ rim_makes _ c.edge c.vertex (length bs) (λ q l. mapped_none _ M.edges q (free.edges q l)) (length bs) ∙ ap (λ n. n + length bs) (size-map_rows _ M.edges),
 )
 
-next_makes : (above : List ℕ) (s : ℕ) (p : Plane) (o : Opening) (bs : List ℕ) → AreFree o.model o.taken → let n = next_opened p above s o bs in (size n.model.vertices ≡ size o.model.vertices + length bs) × (size n.model.edges ≡ size o.model.edges + length bs)
-unfolding next_opened
-next_makes above s p o bs free = opening_makes o.model above s o.taken bs free
-
 pub openings_make : (above : List ℕ) (s : ℕ) (p : Plane) (o : Opening) (cs : List (List ℕ)) → CanBeOpenedInTurn above s o cs → let x = all_opened p above s o cs in
     (size x.model.vertices ≡ size o.model.vertices + length (halves_in cs)) × (size x.model.edges ≡ size o.model.edges + length (halves_in cs))
-openings_make above s p o [] w = (none (size o.model.vertices), none (size o.model.edges))
-openings_make above s p o (bs ∷ cs) w =
-    let n = next_opened p above s o bs in
-    let first = next_makes above s p o bs w.free in
-    let rest = openings_make above s p n cs (others_on above s p o bs cs w) in (
-      rest.0 ∙ both (size o.model.vertices) (size n.model.vertices) (length bs) (length (halves_in cs)) (length (bs ++ halves_in cs)) first.0 (length-append bs (halves_in cs)),
-      rest.1 ∙ both (size o.model.edges) (size n.model.edges) (length bs) (length (halves_in cs)) (length (bs ++ halves_in cs)) first.1 (length-append bs (halves_in cs)),
-    ) where
-      both : (a b n m k : ℕ) → b ≡ a + n → k ≡ n + m → b + m ≡ a + k
-      both a b n m k e f = omega arith
+openings_make above s p o cs w =
+    let x = all_opened p above s o cs in
+    let counted = openings_carry above s p (λ x ds. let n = length (halves_in ds) in let all = length (halves_in cs) in (size x.model.vertices + n ≡ size o.model.vertices + all) × (size x.model.edges + n ≡ size o.model.edges + all))
+    (λ x bs ds w a. let one = opening_makes x.model above s x.taken bs w.free in let both = length-append bs (halves_in ds) in (omega (arith, a.0, one.0, both), omega (arith, a.1, one.1, both))) o cs w (refl, refl) in
+    (omega (arith, counted.0), omega (arith, counted.1))

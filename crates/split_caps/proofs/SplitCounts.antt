@@ -1,6 +1,6 @@
 -- What the two parts of a split solid count.
 use Rattle.std.specs.Prelude.{filter}
-use Rattle.std.proofs.Common.{◌≡◌, ◌≢◌, ℕ, zero, suc, ◌+◌, ◌*◌, ◌-◌, ℤ, pos, neg_ℤ, ◌+ℤ◌, ◌-ℤ◌, Bool, true, false, cond, nat_eq, List, [], ◌∷◌, ◌++◌, length, map, is_some, refl, sym, ap, subst, ◌∙◌, arith, ne_eqb}
+use Rattle.std.proofs.Common.{◌≡◌, ◌≢◌, ℕ, zero, suc, ◌+◌, ◌*◌, ◌-◌, ℤ, pos, neg_ℤ, ◌+ℤ◌, ◌-ℤ◌, Bool, true, false, cond, nat_eq, List, [], ◌∷◌, ◌++◌, length, map, refl, sym, ap, subst, ◌∙◌, arith, ne_eqb}
 use Rattle.std.proofs.lemmas.Int.{ints}
 use Rattle.euler_operators.specs.declared.Op.{Op}
 use Rattle.euler_operators.specs.declared.Op.TheVariants.{Kef, Part}
@@ -11,10 +11,8 @@ use Rattle.euler_operators.specs.Model.{Model, faces_of, is_ring_of, loop_of, so
 use Rattle.euler_operators.specs.Sound.{Sound}
 use Rattle.euler_operators.specs.Conditions.{face_at}
 use Rattle.euler_operators.specs.Effect.{effect}
-use Rattle.euler_operators.proofs.Members.{count-filter}
 use Rattle.euler_operators.proofs.Vectors.{add_assoc, none_add}
 use Rattle.euler_operators.proofs.Models.{number_real}
-use Rattle.euler_laws.proofs.shared.Counted.{all_where_has}
 use Rattle.euler_laws.specs.Laws.{AreAccepted, all_rings, effects, euler_number, growth, size}
 use Rattle.euler_laws.proofs.Cases.{effect_keeps_sound}
 use Rattle.euler_laws.proofs.Growth.{grows}
@@ -22,7 +20,7 @@ use Rattle.euler_laws.proofs.Sizes.{loops_are}
 use Rattle.shapes.specs.Faces.{edges_of, vertices_of}
 use Rattle.shapes.specs.Fresh.{Growing, Taken, growing, numbers_after}
 use Rattle.shapes.specs.split.Places.{pair_count}
-use Rattle.shapes.specs.split.Sides.{crossing_edges, faces_above, straddles, straddling_faces}
+use Rattle.shapes.specs.split.Sides.{crossing_edges, faces_above, straddling_faces}
 use Rattle.shapes.specs.split.Crossings.{next_cut, with_crossings}
 use Rattle.shapes.specs.split.Drawing.{Drawing, FacePairs, all_drawn, all_joined, draw_next, in_one_loop, join_next, next_drawn, ring_free, rings_above, straddling_pairs, undrawn, with_drawings}
 use Rattle.shapes.specs.split.Opening.{Caps, Opening, holes_closed, next_opened, outer_caps}
@@ -32,6 +30,7 @@ use Rattle.split_drawing_laws.specs.crossings.CrossingOps.{crossing_ops}
 use Rattle.split_drawing_laws.specs.crossings.Laws.{CanBegin}
 use Rattle.split_drawing_laws.specs.drawings.Laws.{CanBeDrawn}
 use Rattle.split_drawing_laws.proofs.crossings.Whole.{crossings_accepted, crossings_made}
+use Rattle.split_drawing_laws.proofs.crossings.Premises.{face_facts}
 use Rattle.split_drawing_laws.proofs.drawings.Counted.{faces_are, pairs_counted}
 use Rattle.split_drawing_laws.proofs.drawings.Whole.{drawable}
 use Rattle.split_drawing_laws.proofs.pairs.Whole.{can_be_drawn}
@@ -261,9 +260,7 @@ module _ (before after : Machine) (s : ℕ) (p : Plane) (t : ℕ) (sound : Sound
 
   -- the faces that straddle drawn
   straddler : (f : ℕ) → IsIn f (map (λ q. q.face) (straddling_pairs B s p)) → f ≢ 0
-  straddler f i =
-      let w = all_where_has (λ _ row. nat_eq row.solid s) B.faces f (omega (arith, subst (IsIn f) (faces_are B C p (straddling_faces B p s)) i, count-filter (straddles B p) f (faces_of B s))) in
-      number_real f (sound.faces_fit f (ap is_some w.1))
+  straddler f i = number_real f (sound.faces_fit f (face_facts B s p f (subst (IsIn f) (faces_are B C p (straddling_faces B p s)) i)).0)
 
   drawn : size D.edges ≡ size C.edges + pair_count B p (straddling_faces B p s)
   unfolding with_drawings

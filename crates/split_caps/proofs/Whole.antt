@@ -23,7 +23,8 @@ caps_are_numbered before after s p t sound made =
     let d = with_drawings M s p in
     let above = faces_above d.model p s in
     let begun : Opening = record { model = d.model; taken = d.taken; caps = [] } in
-    (lowers_are above s p begun (cycles_of M s p), uppers_are above s p begun (cycles_of M s p), flags_are above s p begun (cycles_of M s p) (can_open_all M s p t sound made.0))
+    let opens = can_open_all M s p t sound made.0 in
+    (lowers_are above s p begun (cycles_of M s p) opens, uppers_are above s p begun (cycles_of M s p) opens, flags_are above s p begun (cycles_of M s p) opens)
 
 -- ---- the caps of cycle i
 

@@ -9,14 +9,14 @@ use Rattle.euler_operators.specs.Rings.{canonical}
 use Rattle.euler_operators.specs.HalfEdge.{edge_of, minus, plus}
 use Rattle.euler_operators.specs.Table as table
 use Rattle.euler_operators.specs.Table.{get-map_rows}
-use Rattle.euler_operators.specs.Model.{Model, LoopContent, LoopRow, content, cycle, face_of, faces_of, items_of, lone, solid_of, tail}
+use Rattle.euler_operators.specs.Model.{Model, LoopContent, LoopRow, content, cycle, face_of, items_of, lone, solid_of, tail}
 use Rattle.euler_operators.specs.Sound.{Sound, Has, HasHalf}
 use Rattle.euler_operators.specs.Conditions.{face_at, lists}
 use Rattle.euler_operators.specs.Effect.{edge_row, ring_in}
 use Rattle.euler_operators.proofs.Halves.{mate_plus, plus_row}
 use Rattle.euler_operators.proofs.Lists.{IsIn_or_not}
 use Rattle.euler_operators.proofs.Members.{IsIn_rest, count-filter}
-use Rattle.euler_operators.proofs.Models.{in-holds, plus_there, same_solid, solid_row}
+use Rattle.euler_operators.proofs.Models.{in-holds, plus_there, same_solid}
 use Rattle.euler_operators.proofs.Rotations.{IsIn_head}
 use Rattle.euler_laws.proofs.shared.Counted.{all_where_has}
 use Rattle.euler_laws.proofs.shared.Listed.{IsIn-from_listed}
@@ -25,7 +25,7 @@ use Rattle.euler_laws.proofs.shared.Fans.{half_face}
 use Rattle.shapes.specs.Faces.{edges_of}
 use Rattle.shapes.specs.Fresh.{Growing, growing}
 use Rattle.shapes.specs.Rewriting.{rewritten, rewritten_row}
-use Rattle.shapes.specs.split.Sides.{crosses, crossing_edges, straddles, straddling_faces}
+use Rattle.shapes.specs.split.Sides.{crosses, crossing_edges, straddling_faces}
 use Rattle.shapes.specs.split.Crossings.{all_cut, doubled, edge_cut, next_cut, with_crossings}
 use Rattle.shapes.specs.split.Drawing.{Drawing, FacePairs, all_pairs, drawn_between, face_drawn, faces_drawn, loops_joined, next_drawn, straddling_pairs, undrawn, with_drawings}
 use Rattle.split_drawing_laws.specs.crossings.Kept.{Kept}
@@ -35,6 +35,7 @@ use Rattle.split_drawing_laws.specs.drawings.Pairs.{Fits, pairs_in}
 use Rattle.split_drawing_laws.specs.drawings.Passing.{Drawable, Ready}
 use Rattle.split_drawing_laws.proofs.crossings.OneCut.{doubled_none}
 use Rattle.split_drawing_laws.proofs.crossings.Whole.{crossings_keep, crossings_sound, tails_stay}
+use Rattle.split_drawing_laws.proofs.crossings.Premises.{face_facts}
 use Rattle.split_drawing_laws.proofs.drawings.Drawn.{CanJoin, CanDraw}
 use Rattle.split_drawing_laws.proofs.drawings.Faces.{face_goes, between_keeps}
 use Rattle.split_drawing_laws.proofs.drawings.Whole.{drawable, drawable_on, next_is, ready}
@@ -184,9 +185,9 @@ module _ (M : Model) (s : ℕ) (p : Plane) (t : ℕ) (sound : Sound M) (begins :
   straddling : (fs : List ℕ) → ((f : ℕ) → IsIn f fs → IsIn f (straddling_faces M p s)) → AreOf s (with_crossings M s p).model (all_pairs M (with_crossings M s p).model p fs)
   straddling [] within = tt
   straddling (f ∷ fs) within =
-      let w = all_where_has (λ _ row. nat_eq row.solid s) M.faces f (omega (arith, within f (IsIn_head f fs), count-filter (straddles M p) f (faces_of M s))) in
-      let there : Has (with_crossings M s p).model.faces f = ap (λ u. table.has u f) (crossings_keep M s p t sound begins).faces ∙ ap is_some w.1 in
-      ((there, face_in s M (with_crossings M s p).model cut f there (solid_row M f w.0 w.1 ∙ eqb-true w.0.solid s w.2)), straddling fs (λ g i. within g (IsIn_rest g f fs i)))
+      let w = face_facts M s p f (within f (IsIn_head f fs)) in
+      let there : Has (with_crossings M s p).model.faces f = ap (λ u. table.has u f) (crossings_keep M s p t sound begins).faces ∙ w.0 in
+      ((there, face_in s M (with_crossings M s p).model cut f there w.1), straddling fs (λ g i. within g (IsIn_rest g f fs i)))
 
   pub drawings_within : Within s M (with_drawings M s p).model
   unfolding with_drawings

@@ -29,11 +29,12 @@ use Rattle.euler_laws.proofs.shared.Rows.{loop_row as row_of}
 use Rattle.shapes.proofs.fresh.Rows.{get-put_cases}
 use Rattle.shapes.specs.Fresh.{Taken, numbers_after}
 use Rattle.shapes.specs.Rewriting.{renamed, rewritten}
-use Rattle.shapes.specs.split.Opening.{Caps, Opening, all_opened, both_lists, hole_closed, holes_closed, next_opened, no_caps, opened_along, opened_row, opened_tail, outer_caps}
+use Rattle.shapes.specs.split.Opening.{Caps, Opening, all_opened, both_lists, hole_closed, holes_closed, no_caps, opened_along, opened_row, opened_tail, outer_caps}
 use Rattle.split_opening_laws.specs.sections.Capped.{ArePlain}
 use Rattle.split_opening_laws.specs.sections.InTurn.{CanBeOpenedInTurn}
 use Rattle.split_opening_laws.specs.strips.Opened.{CanBeOpened}
-use Rattle.split_opening_laws.proofs.sections.InTurn.{can_open, openings_sound, others_on}
+use Rattle.split_opening_laws.proofs.opening.Whole.{opened_sound}
+use Rattle.split_opening_laws.proofs.sections.InTurn.{can_open, openings_carry}
 use Rattle.split_opening_laws.proofs.sections.OpenedRows.{upper_row, edges_are, face_still, faces_are, loop_row}
 use Rattle.split_opening_laws.proofs.sections.Pairs.{renamed_not, rim_below}
 use Rattle.split_laws.specs.SplitOps.{closing_ops}
@@ -143,24 +144,15 @@ module _ (M : Model) (above : List ℕ) (s : ℕ) (c : Taken) (bs : List ℕ) (w
 
 -- ---- along all cycles
 
-next_within : (above : List ℕ) (s : ℕ) (p : Plane) (o : Opening) (bs : List ℕ) (cs : List (List ℕ)) → CanBeOpenedInTurn above s o (bs ∷ cs) → Sound (next_opened p above s o bs).model → Within s o.model (next_opened p above s o bs).model
-unfolding next_opened
-next_within above s p o bs cs w after = opened_within o.model above s o.taken bs (can_open above s o bs cs w) after (λ f l. w.upper_of_solid f (listed_front above (map (λ k. k.upper) o.caps) f l))
-
 pub openings_within : (above : List ℕ) (s : ℕ) (p : Plane) (o : Opening) (cs : List (List ℕ)) → CanBeOpenedInTurn above s o cs → Within s o.model (all_opened p above s o cs).model
-openings_within above s p o [] w = agree_none o.model (is_of s) w.sound
-openings_within above s p o (bs ∷ cs) w = let n = next_opened p above s o bs in
-    within_on s o.model n.model (all_opened p above s n cs).model (next_within above s p o bs cs w (openings_sound above s p o bs cs w)) (openings_within above s p n cs (others_on above s p o bs cs w))
-
-next_vertices : (above : List ℕ) (s : ℕ) (p : Plane) (o : Opening) (bs : List ℕ) (cs : List (List ℕ)) → CanBeOpenedInTurn above s o (bs ∷ cs) → (v : ℕ) → Has o.model.vertices v → table.get (next_opened p above s o bs).model.vertices v ≡ table.get o.model.vertices v
-unfolding next_opened
-next_vertices above s p o bs cs w v there = vertex_still o.model above s o.taken bs v (in_use_within o.model.vertices o.taken.vertex w.free.vertices v there)
+openings_within above s p o cs w = openings_carry above s p (λ x ds. Within s o.model x.model) (λ x bs ds w a.
+    let can = can_open above s x bs ds w in
+    within_on s o.model x.model (opened_along x.model above s x.taken bs) a
+    (opened_within x.model above s x.taken bs can (opened_sound x.model above s x.taken bs can) (λ f l. w.upper_of_solid f (listed_front above (map (λ k. k.upper) x.caps) f l)))) o cs w (agree_none o.model (is_of s) w.sound)
 
 pub openings_vertices : (above : List ℕ) (s : ℕ) (p : Plane) (o : Opening) (cs : List (List ℕ)) → CanBeOpenedInTurn above s o cs → (v : ℕ) → Has o.model.vertices v → table.get (all_opened p above s o cs).model.vertices v ≡ table.get o.model.vertices v
-openings_vertices above s p o [] w v there = refl
-openings_vertices above s p o (bs ∷ cs) w v there =
-    let first : table.get (next_opened p above s o bs).model.vertices v ≡ table.get o.model.vertices v = next_vertices above s p o bs cs w v there in
-    openings_vertices above s p (next_opened p above s o bs) cs (others_on above s p o bs cs w) v (ap is_some first ∙ there) ∙ first
+openings_vertices above s p o cs w v there = openings_carry above s p (λ x ds. table.get x.model.vertices v ≡ table.get o.model.vertices v)
+    (λ x bs ds w a. vertex_still x.model above s x.taken bs v (in_use_within x.model.vertices x.taken.vertex w.free.vertices v (ap is_some a ∙ there)) ∙ a) o cs w refl
 
 -- ---- the holes closed
 

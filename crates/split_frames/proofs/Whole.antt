@@ -1,13 +1,11 @@
 -- The models before and after a split agree but for the two parts, and each vertex keeps its point.
 use Rattle.std.specs.Prelude.{filter}
 use Rattle.std.proofs.Common.{◌≡◌, ◌≢◌, ℕ, false, List, [], is_some, sym, ap, subst, ◌∙◌}
-use Rattle.std.proofs.lemmas.List.{append-nil}
 use Rattle.std.proofs.lemmas.Bool.{ne_eqb}
 use Rattle.euler_operators.specs.declared.Plane.{Plane}
 use Rattle.euler_operators.specs.Table as table
 use Rattle.euler_operators.specs.Model.{Model, rings_of, solid_of}
 use Rattle.euler_operators.specs.Sound.{Sound, Has}
-use Rattle.euler_operators.specs.Conditions.{strictly_rises}
 use Rattle.euler_operators.specs.Effect.{part}
 use Rattle.euler_operators.proofs.Models.{same_solid}
 use Rattle.shapes.specs.split.Sides.{faces_above}
@@ -16,14 +14,10 @@ use Rattle.shapes.specs.split.Section.{below_halves, section_cycles}
 use Rattle.shapes.specs.split.Opening.{Opening, holes_closed, outer_caps}
 use Rattle.shapes.specs.split.Split.{opened_at, split_model}
 use Rattle.split_drawing_laws.proofs.crossings.Whole.{crossings_keep}
-use Rattle.split_opening_laws.specs.sections.Capped.{HasCaps}
-use Rattle.split_opening_laws.specs.sections.InTurn.{CanBeOpenedInTurn, upper_faces}
-use Rattle.split_opening_laws.proofs.sections.InTurn.{caps_rise, all_on}
+use Rattle.split_opening_laws.specs.sections.InTurn.{upper_faces}
 use Rattle.split_laws.specs.SplitOps.{hole_ops}
 use Rattle.split_laws.specs.volumes.Laws.{CanBeSplit}
-use Rattle.split_laws.proofs.Whole as closing
 use Rattle.split_laws.proofs.Holes.{AreClosed}
-use Rattle.split_laws.proofs.Flags.{solids_still}
 use Rattle.split_laws.proofs.Whole.{split_sound}
 use Rattle.split_laws.proofs.drawn.Drawn.{begins, drawn_stays}
 use Rattle.split_laws.proofs.measures.Splittable.{can_be_split}
@@ -77,25 +71,16 @@ module _ (before after : Machine) (s : ℕ) (p : Plane) (t : ℕ) (sound : Sound
   pub after_sound : Sound N
   after_sound = subst Sound (sym (ap held made.1) ∙ after_is) (split_sound M s p t sound made.0)
 
-  bare : HasCaps above s begun
-  bare = record { plain = tt; all_rise = ap strictly_rises (append-nil above) ∙ can.above_rise; upper_rise = ap strictly_rises (append-nil above) ∙ can.above_rise }
-
-  caps : HasCaps above s X
-  caps = caps_rise above s p begun cycles can.opens bare
-
-  opened : CanBeOpenedInTurn above s X []
-  opened = all_on above s p begun cycles can.opens
-
   closed : AreClosed X.model K s us (hole_ops X.caps) (filter (λ k. k.hole) X.caps)
-  closed = closing.closed d above s p can.opens bare can.no_stray
+  closed = split.closed d above s p t can
 
   fresh : table.has K.solids t ≡ false
-  fresh = ap (λ u. table.has u t) (closed.solids ∙ solids_still above s p begun cycles) ∙ ap is_some can.fresh
+  fresh = ap (λ u. table.has u t) (split.solids_stay d above s p t can) ∙ ap is_some can.fresh
 
   to_closed : Within s M K
   to_closed = within_on s M X.model K
       (within_on s M d.model X.model (drawings_within M s p t sound (begins M s p t sound made.0)) (openings_within above s p begun cycles can.opens))
-      (holes_within X.model s X.caps opened.sound caps.plain closed.leads.accepted)
+      (holes_within X.model s X.caps (split.ended d above s p t can).sound (split.caps d above s p t can).plain closed.leads.accepted)
 
   parts_agree : Agree M N (is_of s) (is_either s t)
   parts_agree = agree_on M K N (is_of s) (is_of s) (is_either s t) to_closed (part_agrees K s t us closed.part.sound after_sound closed.part.of_solid fresh)

@@ -28,7 +28,7 @@ use Rattle.split_opening_laws.proofs.sections.Pairs.{in_numbers, other_number}
 use Rattle.split_opening_laws.proofs.sections.OpenedRows.{vertices_are, face_still}
 use Rattle.split_opening_laws.proofs.sections.StillFree.{copied_other}
 use Rattle.split_opening_laws.proofs.sections.StillBetween.{start_same, end_same, starts_elsewhere}
-use Rattle.split_opening_laws.proofs.sections.InTurn.{others_on}
+use Rattle.split_opening_laws.proofs.sections.InTurn.{openings_carry, opened_next, new_caps}
 
 -- ---- one opening
 
@@ -75,10 +75,6 @@ module _ (M : Model) (above : List ℕ) (s : ℕ) (c : Taken) (bs : List ℕ) (s
       hole_still ds w.0 (λ d i. e d (omega (arith, i, count-append d ds (flat_map (λ bs. bs) cs)))) p k
       ∷ holes_still p cs w.1 (λ d i. e d (omega (arith, i, count-append d ds (flat_map (λ bs. bs) cs)))) k
 
-next_holes : (above : List ℕ) (s : ℕ) (p : Plane) (o : Opening) (bs : List ℕ) (cs : List (List ℕ)) → CanBeOpenedInTurn above s o (bs ∷ cs) → map (is_hole (next_opened p above s o bs).model p) cs ≡ map (is_hole o.model p) cs
-unfolding next_opened
-next_holes above s p o bs cs w = holes_still o.model above s o.taken bs w.sound w.free w.cycles.cycles.0 p cs w.cycles.cycles.1 (starts_elsewhere o.model above s bs cs w.cycles)
-
 pub next_flags : (above : List ℕ) (s : ℕ) (p : Plane) (o : Opening) (bs : List ℕ) → map (λ k. k.hole) (next_opened p above s o bs).caps ≡ map (λ k. k.hole) o.caps ++ is_hole o.model p bs ∷ []
 unfolding next_opened
 next_flags above s p o bs = map-append (λ k. k.hole) o.caps (record { lower = o.taken.face + 1; upper = o.taken.face + length bs + 1; hole = is_hole o.model p bs } ∷ [])
@@ -87,12 +83,14 @@ next_flags above s p o bs = map-append (λ k. k.hole) o.caps (record { lower = o
 
 pub flags_are : (above : List ℕ) (s : ℕ) (p : Plane) (o : Opening) (cs : List (List ℕ)) → CanBeOpenedInTurn above s o cs →
     map (λ k. k.hole) (all_opened p above s o cs).caps ≡ map (λ k. k.hole) o.caps ++ map (is_hole o.model p) cs
-flags_are above s p o [] w = sym (append-nil (map (λ k. k.hole) o.caps))
-flags_are above s p o (bs ∷ cs) w =
-    let n : Opening = next_opened p above s o bs in
-    flags_are above s p n cs (others_on above s p o bs cs w)
-    ∙ (λ i. next_flags above s p o bs i ++ next_holes above s p o bs cs w i)
-    ∙ append_assoc (map (λ k. k.hole) o.caps) (is_hole o.model p bs ∷ []) (map (is_hole o.model p) cs)
+flags_are above s p o cs w = sym (append-nil (map (λ k. k.hole) (all_opened p above s o cs).caps))
+    ∙ openings_carry above s p (λ x ds. map (λ k. k.hole) x.caps ++ map (is_hole x.model p) ds ≡ map (λ k. k.hole) o.caps ++ map (is_hole o.model p) cs) next o cs w refl where
+      next : (x : Opening) (bs : List ℕ) (ds : List (List ℕ)) → CanBeOpenedInTurn above s x (bs ∷ ds) → map (λ k. k.hole) x.caps ++ map (is_hole x.model p) (bs ∷ ds) ≡ map (λ k. k.hole) o.caps ++ map (is_hole o.model p) cs →
+          let n = opened_next p above s x bs in map (λ k. k.hole) n.caps ++ map (is_hole n.model p) ds ≡ map (λ k. k.hole) o.caps ++ map (is_hole o.model p) cs
+      next x bs ds w a =
+          (λ i. map-append (λ k. k.hole) x.caps (new_caps p x bs ∷ []) i
+          ++ holes_still x.model above s x.taken bs w.sound w.free w.cycles.cycles.0 p ds w.cycles.cycles.1 (starts_elsewhere x.model above s bs ds w.cycles) i)
+          ∙ append_assoc (map (λ k. k.hole) x.caps) (is_hole x.model p bs ∷ []) (map (is_hole x.model p) ds) ∙ a
 
 -- ---- how many are holes
 
@@ -125,8 +123,7 @@ pub record IsOld (M : Model) (o : Opening) (f : ℕ) : Type 0 where
   pub row : table.get o.model.faces f ≡ table.get M.faces f
   pub no_cap : count f (cap_faces o.caps) ≡ 0
 
-old_next : (M : Model) (above : List ℕ) (s : ℕ) (p : Plane) (o : Opening) (bs : List ℕ) (cs : List (List ℕ)) → CanBeOpenedInTurn above s o (bs ∷ cs) → (f : ℕ) → Has M.faces f → IsOld M o f → IsOld M (next_opened p above s o bs) f
-unfolding next_opened
+old_next : (M : Model) (above : List ℕ) (s : ℕ) (p : Plane) (o : Opening) (bs : List ℕ) (cs : List (List ℕ)) → CanBeOpenedInTurn above s o (bs ∷ cs) → (f : ℕ) → Has M.faces f → IsOld M o f → IsOld M (opened_next p above s o bs) f
 old_next M above s p o bs cs w f there a =
     let c : Taken = o.taken in
     let here : Has o.model.faces f = ap is_some a.row ∙ there in
@@ -143,14 +140,9 @@ old_next M above s p o bs cs w f there a =
       none e y z = omega (arith, e, y, z, a.no_cap)
 
 pub all_old : (M : Model) (above : List ℕ) (s : ℕ) (p : Plane) (o : Opening) (cs : List (List ℕ)) → CanBeOpenedInTurn above s o cs → (f : ℕ) → Has M.faces f → IsOld M o f → IsOld M (all_opened p above s o cs) f
-all_old M above s p o [] w f there a = a
-all_old M above s p o (bs ∷ cs) w f there a = all_old M above s p (next_opened p above s o bs) cs (others_on above s p o bs cs w) f there (old_next M above s p o bs cs w f there a)
-
-pub next_solids : (above : List ℕ) (s : ℕ) (p : Plane) (o : Opening) (bs : List ℕ) → (next_opened p above s o bs).model.solids ≡ o.model.solids
-unfolding next_opened opened_along
-next_solids above s p o bs = refl
+all_old M above s p o cs w f there a = openings_carry above s p (λ x ds. IsOld M x f) (λ x bs ds w a. old_next M above s p x bs ds w f there a) o cs w a
 
 -- openings change no solid
-pub solids_still : (above : List ℕ) (s : ℕ) (p : Plane) (o : Opening) (cs : List (List ℕ)) → (all_opened p above s o cs).model.solids ≡ o.model.solids
-solids_still above s p o [] = refl
-solids_still above s p o (bs ∷ cs) = solids_still above s p (next_opened p above s o bs) cs ∙ next_solids above s p o bs
+pub solids_still : (above : List ℕ) (s : ℕ) (p : Plane) (o : Opening) (cs : List (List ℕ)) → CanBeOpenedInTurn above s o cs → (all_opened p above s o cs).model.solids ≡ o.model.solids
+unfolding opened_along
+solids_still above s p o cs w = openings_carry above s p (λ x ds. x.model.solids ≡ o.model.solids) (λ x bs ds w a. a) o cs w refl

@@ -83,7 +83,7 @@ module _ (d : Drawing) (above : List ℕ) (s : ℕ) (p : Plane)
   abbrev pub K : Model
   K = holes_closed (opened_at d above s p).model (opened_at d above s p).caps
 
-  opened : CanBeOpenedInTurn above s X []
+  pub opened : CanBeOpenedInTurn above s X []
   opened = all_on above s p begun cycles opens
 
   pub caps : HasCaps above s X
@@ -92,7 +92,7 @@ module _ (d : Drawing) (above : List ℕ) (s : ℕ) (p : Plane)
   pub old : (f : ℕ) → Has D.faces f → IsOld D X f
   old f there = all_old D above s p begun cycles opens f there (record { row = refl; no_cap = refl })
 
-  once : (x : ℕ) → count x above + count x (cap_faces ks) ≤ 1
+  pub once : (x : ℕ) → count x above + count x (cap_faces ks) ≤ 1
   once x = omega (arith, counted_once x (above ++ cap_faces ks) caps.all_rise, count-append x above (cap_faces ks))
 
   never_across : (x : ℕ) → HasHalf X.model x → lists us (face_at X.model x) ≡ false → lists us (face_at X.model (mate x)) ≡ true → ⊥
@@ -164,7 +164,7 @@ module _ (d : Drawing) (above : List ℕ) (s : ℕ) (p : Plane)
         }
 
     t_left : table.get K.solids t ≡ None
-    t_left = ap (λ u. table.get u t) (closed.solids ∙ solids_still above s p begun cycles) ∙ t_free
+    t_left = ap (λ u. table.get u t) (closed.solids ∙ solids_still above s p begun cycles opens) ∙ t_free
 
     parted : Leads K (part K s t (upper_left above ks)) (Part s t (upper_left above ks) ∷ [])
     parted = subst (λ fs. Leads K (part K s t fs) (Part s t fs ∷ [])) faces_left (part_leads K s t us closed.part sides caps.upper_rise t_left t_fits)

@@ -1,6 +1,6 @@
 -- Once the faces are drawn the solid has a face above and one that isn't.
-use Rattle.std.proofs.Common.{◌≡◌, ℕ, true, false, not, nat_eq, ◌&&◌, ◌||◌, List, None, is_some, unwrap_or, refl, sym, ap, ◌∙◌, subst, inl, inr, true≢false}
-use Rattle.std.proofs.lemmas.Bool.{eq-eqb, eqb-true, false_from_ne_true}
+use Rattle.std.proofs.Common.{◌≡◌, ℕ, true, false, not, ◌&&◌, ◌||◌, List, None, is_some, unwrap_or, refl, sym, ap, ◌∙◌, subst, inl, inr, true≢false}
+use Rattle.std.proofs.lemmas.Bool.{false_from_ne_true}
 use Rattle.std.specs.Prelude.{pos, int_lt}
 use Rattle.euler_operators.proofs.Tests.{first_fails}
 use Rattle.euler_operators.specs.declared.Plane.{Plane}
@@ -9,7 +9,7 @@ use Rattle.euler_operators.specs.Items.{IsIn}
 use Rattle.euler_operators.proofs.Lists.{IsIn_or_not}
 use Rattle.euler_operators.specs.HalfEdge.{edge_of, plus, minus}
 use Rattle.euler_operators.specs.Table as table
-use Rattle.euler_operators.specs.Model.{Model, no_face, no_point, content, tail, loop_of, face_of, solid_of, point_of, faces_of}
+use Rattle.euler_operators.specs.Model.{Model, no_point, content, tail, loop_of, face_of, solid_of, point_of, faces_of}
 use Rattle.euler_operators.specs.Sound.{Sound, Has, HasHalf}
 use Rattle.euler_operators.proofs.Models.{in-holds, cycle_there, plus_there, minus_there, loop_there}
 use Rattle.euler_operators.proofs.Tables.{zero_first_where}
@@ -18,7 +18,7 @@ use Rattle.euler_operators.specs.Conditions.{face_at, lists, is_lone}
 use Rattle.euler_laws.proofs.shared.Arcs.{halves_of_edge}
 use Rattle.euler_laws.proofs.shared.Fans.{loop_after, half_face}
 use Rattle.euler_laws.proofs.shared.Goes.{no_zero}
-use Rattle.euler_laws.proofs.shared.Rows.{face_there, loop_row, not_lone_cycle}
+use Rattle.euler_laws.proofs.shared.Rows.{loop_row, not_lone_cycle}
 use Rattle.euler_laws.proofs.shared.Listed.{IsIn-from_listed, listed-from_in}
 use Rattle.shapes.proofs.fresh.Tests.{none_is_lone}
 use Rattle.shapes.specs.Measure.{normal}
@@ -28,7 +28,7 @@ use Rattle.shapes.specs.split.Crossings.{with_crossings}
 use Rattle.shapes.specs.split.Drawing.{with_drawings}
 use Rattle.shapes.specs.split.Split.{split_refusal}
 use Rattle.split_drawing_laws.specs.crossings.Laws.{CanBegin}
-use Rattle.split_drawing_laws.proofs.crossings.Premises.{any_passes, tail_in_face}
+use Rattle.split_drawing_laws.proofs.crossings.Premises.{any_passes, tail_in_face, solid_facts, in_solid}
 use Rattle.split_drawing_laws.proofs.crossings.Whole.{crossings_cut, crossings_keep, crossings_sound, same_solid, not_cut}
 use Rattle.split_drawing_laws.proofs.half_sides.Pieces.{CutBy, crossing_pieces}
 use Rattle.split_drawing_laws.proofs.half_sides.Starts.{old_face}
@@ -36,7 +36,6 @@ use Rattle.split_drawing_laws.proofs.face_sides.Final.{TailIn, tail_in, none_str
 use Rattle.split_drawing_laws.proofs.face_sides.Shared.{any_from}
 use Rattle.split_laws.specs.drawn.Kept.{HasFace}
 use Rattle.split_laws.proofs.drawn.Drawn.{begins, none_lone, meets, never_stuck, drawn_sound, drawn_stays, drawn_keeps}
-use Rattle.euler_laws.proofs.shared.Counted.{all_where_has, all_where_in}
 use Rattle.shapes.proofs.walks.SolidFaces.{face_of_loop}
 
 -- a half-edge of N that starts at point v, of face f
@@ -73,8 +72,7 @@ module _ (M : Model) (s : ℕ) (p : Plane) (t : ℕ) (sound : Sound M) (accepted
   corner_half : (f v : ℕ) → IsIn f (faces_of M s) → IsIn v (corners M f) → HalfAt M v f
   unfolding corners
   corner_half f v i c =
-      let row = all_where_has (λ _ row. nat_eq row.solid s) M.faces f i in
-      let of : (l : ℕ) → IsIn l (loops_of M f) → Has M.loops l × (face_of M l ≡ f) = λ l j. face_of_loop M sound f l (ap is_some row.1) (listed-from_in l (loops_of M f) j) in
+      let of : (l : ℕ) → IsIn l (loops_of M f) → Has M.loops l × (face_of M l ≡ f) = λ l j. face_of_loop M sound f l (solid_facts M s f i).0 (listed-from_in l (loops_of M f) j) in
       let r : TailIn M v (loops_of M f) = tail_in M v (loops_of M f) (λ l j. not_lone_cycle (content M l) (not_lone f l i (of l j).0 (of l j).1)) c in
       let stands = in-holds r.half (content M r.loop) r.half_in in
       record {
@@ -123,10 +121,6 @@ module _ (M : Model) (s : ℕ) (p : Plane) (t : ℕ) (sound : Sound M) (accepted
   point_then v there = ap (λ u. unwrap_or (table.get u v) no_point) (drawn_stays M s p t sound accepted).vertices
       ∙ ap (λ o. unwrap_or o no_point) ((crossings_keep M s p t sound begun).points v there)
 
-  face_solid : (f : ℕ) → IsIn f (faces_of M s) → solid_of M f ≡ s
-  unfolding solid_of
-  face_solid f i = let w = all_where_has (λ _ row. nat_eq row.solid s) M.faces f i in ap (λ o. (unwrap_or o no_face).solid) w.1 ∙ eqb-true w.0.solid s w.2
-
   corner_then : (f v : ℕ) → IsIn f (faces_of M s) → IsIn v (corners M f) → CornerThen v
   corner_then f v i c =
       let h : HalfAt M v f = corner_half f v i c in
@@ -137,13 +131,10 @@ module _ (M : Model) (s : ℕ) (p : Plane) (t : ℕ) (sound : Sound M) (accepted
       record {
         face = face_at D x.half;
         there = half_face D S x.half there;
-        of_solid = (drawn_keeps M s p t sound accepted).halves x.half x.there ∙ ap (solid_of N) (x.face ∙ h.face) ∙ same_solid M s p t sound begun f ∙ face_solid f i;
+        of_solid = (drawn_keeps M s p t sound accepted).halves x.half x.there ∙ ap (solid_of N) (x.face ∙ h.face) ∙ same_solid M s p t sound begun f ∙ (solid_facts M s f i).1;
         corner = subst (λ n. IsIn n (corners D (face_at D x.half))) starts (tail_in_face D x.half (loop_of D x.half) (loop_there D S x.half there) (cycle_there D S x.half there));
         point = point_then v (subst (Has M.vertices) h.starts (sound.tails_there h.half h.there));
       }
-
-  in_solid : (f : ℕ) → Has D.faces f → solid_of D f ≡ s → IsIn f (faces_of D s)
-  in_solid f there e = all_where_in (λ _ row. nat_eq row.solid s) D.faces f _ (face_there D f there) (eq-eqb (solid_of D f) s e)
 
   -- ---- the two faces
 
@@ -170,7 +161,7 @@ module _ (M : Model) (s : ℕ) (p : Plane) (t : ℕ) (sound : Sound M) (accepted
         face = c.face;
         there = c.there;
         of_solid = c.of_solid;
-        is = listed-from_in c.face (faces_above D p s) (IsIn-filter (face_is_above D p) c.face (faces_of D s) (in_solid c.face c.there c.of_solid) (above_is c.face reaches));
+        is = listed-from_in c.face (faces_above D p s) (IsIn-filter (face_is_above D p) c.face (faces_of D s) (in_solid D c.face s c.there c.of_solid) (above_is c.face reaches));
       }
 
   pub some_below : HasFace (with_drawings M s p).model s (faces_above (with_drawings M s p).model p s) false
@@ -179,7 +170,7 @@ module _ (M : Model) (s : ℕ) (p : Plane) (t : ℕ) (sound : Sound M) (accepted
       let v = any_from (λ v. is_below p (point_of M v)) (corners M f.0) f.2 in
       let c : CornerThen v.0 = corner_then f.0 v.0 f.1 v.1 in
       let reaches : reaches_below D p c.face ≡ true = any_passes (λ v. is_below p (point_of D v)) v.0 (corners D c.face) c.corner (ap (is_below p) c.point ∙ v.2) in
-      let whole : straddles D p c.face ≡ false = none_straddles M D s p t sound begun (never_stuck M s p t sound accepted, refl) c.face (listed-from_in c.face (faces_of D s) (in_solid c.face c.there c.of_solid)) in
+      let whole : straddles D p c.face ≡ false = none_straddles M D s p t sound begun (never_stuck M s p t sound accepted, refl) c.face (listed-from_in c.face (faces_of D s) (in_solid D c.face s c.there c.of_solid)) in
       record {
         face = c.face;
         there = c.there;

@@ -1,11 +1,11 @@
 -- What the conditions of a split say once the faces are drawn: the solid can be opened along its section.
-use Rattle.std.proofs.Common.{◌≡◌, ℕ, ◌+◌, ◌*◌, ◌<◌, true, false, nat_eq, List, [], ◌++◌, length, None, is_some, unwrap_or, IsTrue, ap, ◌∙◌, subst, arith}
+use Rattle.std.proofs.Common.{◌≡◌, ℕ, ◌+◌, ◌*◌, ◌<◌, true, false, nat_eq, List, [], ◌++◌, length, None, IsTrue, ap, ◌∙◌, subst, arith}
 use Rattle.std.proofs.lemmas.List.{append-nil}
-use Rattle.std.proofs.lemmas.Bool.{and_parts, not-true, eqb-true}
+use Rattle.std.proofs.lemmas.Bool.{and_parts, not-true}
 use Rattle.std.specs.List.{list_any}
 use Rattle.euler_operators.specs.declared.Plane.{Plane}
 use Rattle.euler_operators.specs.Table as table
-use Rattle.euler_operators.specs.Model.{Model, no_face, solid_of, is_number, faces_of}
+use Rattle.euler_operators.specs.Model.{Model, solid_of, is_number, faces_of}
 use Rattle.euler_operators.specs.Sound.{Sound, Has}
 use Rattle.euler_operators.specs.Conditions.{AllHold, lists, strictly_rises}
 use Rattle.euler_operators.proofs.Members.{count-filter}
@@ -23,6 +23,7 @@ use Rattle.shapes.specs.split.Section.{below_halves, section_ends, least_branche
 use Rattle.shapes.specs.split.Split.{first_conditions, later_conditions, section_conditions, split_conditions, split_refusal}
 use Rattle.split_drawing_laws.specs.crossings.Laws.{CanBegin}
 use Rattle.split_drawing_laws.proofs.crossings.Whole.{crossings_counted, crossings_keep}
+use Rattle.split_drawing_laws.proofs.crossings.Premises.{solid_facts}
 use Rattle.split_drawing_laws.proofs.pairs.Whole.{can_be_drawn, rewritings_sound}
 use Rattle.split_drawing_laws.specs.drawings.DrawnIn.{Stays, Fresh}
 use Rattle.split_drawing_laws.specs.drawings.Laws.{CanBeDrawn}
@@ -36,7 +37,6 @@ use Rattle.split_opening_laws.specs.sections.InTurn.{CanBeOpenedInTurn}
 use Rattle.split_opening_laws.proofs.sections.InTurn.{can_be_opened}
 use Rattle.split_laws.specs.drawn.Kept.{KeepsSolids}
 use Rattle.split_laws.proofs.drawn.Solids.{drawing_keeps}
-use Rattle.euler_laws.proofs.shared.Counted.{all_where_has}
 
 -- ---- a split that isn't refused
 
@@ -138,10 +138,7 @@ module _ (M : Model) (s : ℕ) (p : Plane) (t : ℕ) (sound : Sound M) (accepted
 
   -- a face above is there and of the solid
   pub above_facts : (f : ℕ) → lists (faces_above (with_drawings M s p).model p s) f ≡ true → Has (with_drawings M s p).model.faces f × (solid_of (with_drawings M s p).model f ≡ s)
-  unfolding solid_of
-  above_facts f l =
-      let w = all_where_has (λ _ row. nat_eq row.solid s) D.faces f (omega (arith, IsIn-from_listed f above l, count-filter (face_is_above D p) f (faces_of D s))) in
-      (ap is_some w.1, ap (λ o. (unwrap_or o no_face).solid) w.1 ∙ eqb-true w.0.solid s w.2)
+  above_facts f l = solid_facts D s f (omega (arith, IsIn-from_listed f above l, count-filter (face_is_above D p) f (faces_of D s)))
 
   above_rises : strictly_rises above ≡ true
   above_rises = filter_rises (face_is_above D p) (faces_of D s) (all_where-rises (λ _ row. nat_eq row.solid s) D.faces)

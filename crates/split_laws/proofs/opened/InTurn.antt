@@ -24,10 +24,9 @@ use Rattle.euler_laws.proofs.shared.Listed.{listed_passes, listed_as}
 use Rattle.euler_laws.proofs.shared.Rows.{face_there}
 use Rattle.shapes.specs.Fresh.{Taken, numbers_after}
 use Rattle.shapes.specs.Measure.{area, anchor, is_plane_of, volume_in, six_volume, normal}
-use Rattle.shapes.specs.split.Opening.{opened_along, Caps, Opening, next_opened, all_opened}
+use Rattle.shapes.specs.split.Opening.{opened_along, Caps, Opening, all_opened}
 use Rattle.shapes.specs.Faces.{start}
 use Rattle.shapes.specs.Rewriting.{rewritten}
-use Rattle.shapes.specs.split.Section.{is_hole}
 use Rattle.shapes.proofs.measures.FlatFaces.{told_alike, some_direction}
 use Rattle.shapes.proofs.measures.Sums.{dot_back}
 use Rattle.shapes.proofs.fresh.Rows.{get-put_cases}
@@ -37,7 +36,7 @@ use Rattle.split_opening_laws.specs.sections.Capped.{ArePlain, HasCaps}
 use Rattle.split_opening_laws.proofs.sections.OpenedRows.{faces_are, loop_row, face_still, upper_row}
 use Rattle.split_opening_laws.proofs.sections.Pairs.{renamed_not}
 use Rattle.split_opening_laws.proofs.sections.StillBetween.{there_in}
-use Rattle.split_opening_laws.proofs.sections.InTurn.{can_open, others_on, caps_stay}
+use Rattle.split_opening_laws.proofs.sections.InTurn.{can_open, openings_carry, capped_carry, opened_next, new_caps}
 use Rattle.gluing_laws.proofs.Listed.{one_if, passed, count_where, same_search, volume_of, volume_same, same_volumes}
 use Rattle.split_laws.specs.opened.Told.{AllTellAlike, TellsAlike, LiesAlong, AllLieAlong}
 use Rattle.split_laws.specs.opened.Laws.{LieOn}
@@ -247,56 +246,39 @@ along_more : (M : Model) (p : Plane) (ks : List Caps) (k : Caps) → AllLieAlong
 along_more M p [] k a l u = (l, u, tt)
 along_more M p (j ∷ ks) k a l u = (a.0, a.1, along_more M p ks k a.2 l u)
 
-module _ (above : List ℕ) (s : ℕ) (p : Plane) (way : same_point (direction p) origin ≡ false) where
-  abbrev pub StartsOn : Model → List (List ℕ) → Type 0
-  StartsOn M cs = (b : ℕ) → IsIn b (halves_in cs) → is_on p (start M b) ≡ true
+-- ---- along cycles that start on the plane
 
-  pub first_on : (o : Opening) (bs : List ℕ) (cs : List (List ℕ)) → StartsOn o.model (bs ∷ cs) → is_plane_of o.model p (map (tail o.model) bs) ≡ true
-  first_on o bs cs on = λ i. not (way i) && all_on o.model p bs (λ h j. on h (omega (arith, j, count-append h bs (halves_in cs)))) i
+pub first_on : (M : Model) (p : Plane) (bs : List ℕ) (cs : List (List ℕ)) → LieOn M p (bs ∷ cs) → is_plane_of M p (map (tail M) bs) ≡ true
+first_on M p bs cs on = λ i. not (on.some_way i) && all_on M p bs (λ h j. on.on_plane h (omega (arith, j, count-append h bs (halves_in cs)))) i
 
-  module _ (o : Opening) (bs : List ℕ) (cs : List (List ℕ)) (w : CanBeOpenedInTurn above s o (bs ∷ cs)) where
-    abbrev M : Model
-    M = o.model
+next_on : (above : List ℕ) (s : ℕ) (p : Plane) (o : Opening) (bs : List ℕ) (cs : List (List ℕ)) → CanBeOpenedInTurn above s o (bs ∷ cs) → LieOn o.model p (bs ∷ cs) → LieOn (opened_along o.model above s o.taken bs) p cs
+next_on above s p o bs cs w on = record {
+  some_way = on.some_way;
+  on_plane = λ b i.
+      let there : HasHalf o.model b = there_in o.model above s o.taken bs w.sound w.free w.cycles.cycles.0 cs w.cycles.cycles.1 b i in
+      ap (is_on p) (start_old o.model above s o.taken bs (can_open above s o bs cs w) b there) ∙ on.on_plane b (omega (arith, i, count-append b bs (halves_in cs)));
+}
 
-    abbrev can : CanBeOpened o.model above s o.taken bs
-    can = can_open above s o bs cs w
-
-    pub next_can : CanBeOpenedInTurn above s (next_opened p above s o bs) cs
-    next_can = others_on above s p o bs cs w
-
-    pub next_on : StartsOn o.model (bs ∷ cs) → StartsOn (next_opened p above s o bs).model cs
-    unfolding next_opened
-    next_on on b i =
-        let there : HasHalf M b = there_in M above s o.taken bs w.sound w.free w.cycles.cycles.0 cs w.cycles.cycles.1 b i in
-        ap (is_on p) (start_old M above s o.taken bs can b there) ∙ on b (omega (arith, i, count-append b bs (halves_in cs)))
-
-    pub next_alike : StartsOn o.model (bs ∷ cs) → AllTellAlike o.model s → AllTellAlike (next_opened p above s o bs).model s
-    unfolding next_opened
-    next_alike on alike = alike_still M above s o.taken bs p can (first_on o bs cs on) (some_way p way) alike
-
-    pub next_keeps : StartsOn o.model (bs ∷ cs) → AllTellAlike o.model s → (u : ℕ) → six_volume (next_opened p above s o bs).model u ≡ six_volume o.model u
-    unfolding next_opened
-    next_keeps on alike u = opening_keeps M above s o.taken bs p u can alike (first_on o bs cs on)
-
-    pub next_along : StartsOn o.model (bs ∷ cs) → ArePlain o.model s o.caps → AllLieAlong o.model p o.caps → AllLieAlong (next_opened p above s o bs).model p (next_opened p above s o bs).caps
-    unfolding next_opened
-    next_along on plain a = along_more (opened_along M above s o.taken bs) p o.caps (record { lower = o.taken.face + 1; upper = o.taken.face + length bs + 1; hole = is_hole M p bs })
-        (all_along_still M above s o.taken bs p can (first_on o bs cs on) (some_way p way) o.caps plain a)
-        (lower_along M above s o.taken bs can p (first_on o bs cs on)) (upper_along M above s o.taken bs can p (first_on o bs cs on))
-
-  pub all_keep : (o : Opening) (cs : List (List ℕ)) → CanBeOpenedInTurn above s o cs → StartsOn o.model cs → AllTellAlike o.model s → (u : ℕ) → six_volume (all_opened p above s o cs).model u ≡ six_volume o.model u
-  all_keep o [] w on alike u = refl
-  all_keep o (bs ∷ cs) w on alike u = all_keep (next_opened p above s o bs) cs (next_can o bs cs w) (next_on o bs cs w on) (next_alike o bs cs w on alike) u ∙ next_keeps o bs cs w on alike u
-
-  pub all_along : (o : Opening) (cs : List (List ℕ)) → CanBeOpenedInTurn above s o cs → StartsOn o.model cs → HasCaps above s o → AllLieAlong o.model p o.caps →
-      AllLieAlong (all_opened p above s o cs).model p (all_opened p above s o cs).caps
-  all_along o [] w on caps a = a
-  all_along o (bs ∷ cs) w on caps a = all_along (next_opened p above s o bs) cs (next_can o bs cs w) (next_on o bs cs w on) (caps_stay above s p o bs cs w caps) (next_along o bs cs w on caps.plain a)
+-- what an opening along a cycle on the plane keeps holds after all of them
+pub flat_carry : (above : List ℕ) (s : ℕ) (p : Plane) (P : Opening → Type 0) →
+    ((o : Opening) (bs : List ℕ) (cs : List (List ℕ)) → CanBeOpenedInTurn above s o (bs ∷ cs) → is_plane_of o.model p (map (tail o.model) bs) ≡ true → P o → P (opened_next p above s o bs)) →
+    (o : Opening) (cs : List (List ℕ)) → CanBeOpenedInTurn above s o cs → LieOn o.model p cs → P o → P (all_opened p above s o cs)
+flat_carry above s p P step o cs w on a = (openings_carry above s p (λ x ds. LieOn x.model p ds × P x)
+    (λ x bs ds w a. (next_on above s p x bs ds w a.0, step x bs ds w (first_on x.model p bs ds a.0) a.1)) o cs w (on, a)).1
 
 pub openings_keep : (above : List ℕ) (s : ℕ) (p : Plane) (o : Opening) (cs : List (List ℕ)) (u : ℕ) → CanBeOpenedInTurn above s o cs → AllTellAlike o.model s → LieOn o.model p cs →
     six_volume (all_opened p above s o cs).model u ≡ six_volume o.model u
-openings_keep above s p o cs u w alike on = all_keep above s p on.some_way o cs w on.on_plane alike u
+openings_keep above s p o cs u w alike on = (flat_carry above s p (λ x. AllTellAlike x.model s × (six_volume x.model u ≡ six_volume o.model u)) (λ x bs ds w flat a.
+    let can = can_open above s x bs ds w in
+    (alike_still x.model above s x.taken bs p can flat (some_way p on.some_way) a.0, opening_keeps x.model above s x.taken bs p u can a.0 flat ∙ a.1)) o cs w on (alike, refl)).1
 
 pub openings_lie : (above : List ℕ) (s : ℕ) (p : Plane) (o : Opening) (cs : List (List ℕ)) → CanBeOpenedInTurn above s o cs → HasCaps above s o → AllLieAlong o.model p o.caps → LieOn o.model p cs →
     AllLieAlong (all_opened p above s o cs).model p (all_opened p above s o cs).caps
-openings_lie above s p o cs w caps a on = all_along above s p on.some_way o cs w on.on_plane caps a
+openings_lie above s p o cs w caps a on = (capped_carry above s p (λ x ds. LieOn x.model p ds × AllLieAlong x.model p x.caps) (λ x bs ds w caps a.
+    let M = x.model in
+    let can = can_open above s x bs ds w in
+    let flat = first_on M p bs ds a.0 in (
+      next_on above s p x bs ds w a.0,
+      along_more (opened_along M above s x.taken bs) p x.caps (new_caps p x bs)
+          (all_along_still M above s x.taken bs p can flat (some_way p on.some_way) x.caps caps.plain a.1) (lower_along M above s x.taken bs can p flat) (upper_along M above s x.taken bs can p flat),
+    )) o cs w caps (on, a)).1

@@ -1,46 +1,31 @@
 -- Where half-edges start and end once a solid is opened along a cycle: where they did, and what stands in the place of a mate starts
 -- and ends where that did.
-use Rattle.std.proofs.Common.{◌≡◌, ℕ, zero, suc, ◌+◌, ◌≤◌, ◌<◌, Bool, true, false, cond, not, ◌&&◌, nat_eq, List, length, Some, unwrap_or, sym, ap, ◌∙◌, arith, inl, inr}
+use Rattle.std.proofs.Common.{◌≡◌, ℕ, zero, suc, ◌+◌, ◌≤◌, ◌<◌, Bool, true, false, cond, not, ◌&&◌, List, length, Some, unwrap_or, sym, ap, ◌∙◌, arith, inl, inr}
 use Rattle.std.specs.Prelude.{map, get_or}
-use Rattle.std.specs.Option.{option_map}
 use Rattle.std.proofs.lemmas.Bool.Decides.{eqb_tells}
-use Rattle.std.proofs.lemmas.Bool.{ne_eqb, eq-eqb}
 use Rattle.std.proofs.lemmas.List.{length-map, get_or-map}
-use Rattle.euler_operators.specs.HalfEdge.{mate, edge_of, is_first, plus, minus}
+use Rattle.euler_operators.specs.HalfEdge.{mate, plus, minus}
 use Rattle.euler_operators.specs.Table as table
-use Rattle.euler_operators.specs.Table.{Table, get-map_rows}
-use Rattle.euler_operators.specs.Model.{Model, EdgeRow, tail, tail_in, no_point, point_of}
+use Rattle.euler_operators.specs.Model.{Model, tail, tail_in, no_point, point_of}
 use Rattle.euler_operators.specs.Sound.{HasHalf}
 use Rattle.euler_operators.proofs.Halves.{mate-mate, plus_row, minus_row, mate_plus, mate_minus}
 use Rattle.euler_operators.proofs.Models.{tail_row, mate_there}
 use Rattle.euler_operators.proofs.Tests.{less_still}
-use Rattle.euler_operators.proofs.Tables.{row_some, get-put_here, get-put_other}
+use Rattle.euler_operators.proofs.Tables.{get-put_here, get-put_other}
 use Rattle.euler_operators.specs.Conditions.{face_at, lists}
-use Rattle.euler_laws.proofs.shared.Arcs.{halves_of_edge}
 use Rattle.shapes.specs.Faces.{start, finish}
 use Rattle.shapes.specs.Fresh.{Taken, numbers_after}
 use Rattle.shapes.specs.Prism.{next_place}
 use Rattle.shapes.specs.Rewriting.{renamed}
-use Rattle.shapes.specs.split.Opening.{opened_tail, opened_row, with_rim, with_copies, both_lists, opened_along}
+use Rattle.shapes.specs.split.Opening.{opened_row, with_copies, both_lists, opened_along}
 use Rattle.split_opening_laws.specs.strips.Opened.{CanBeOpened}
 use Rattle.split_opening_laws.specs.strips.Strips.{copied}
 use Rattle.split_opening_laws.proofs.strips.Copied.{points_next}
-use Rattle.split_opening_laws.proofs.strips.Cycle.{next_cases, next_below, low_edge, low_vertex}
+use Rattle.split_opening_laws.proofs.strips.Cycle.{next_below, low_vertex, next_copy}
 use Rattle.split_opening_laws.proofs.strips.Rows.{length-numbers_after, numbers_at, renamed_cases}
-use Rattle.split_opening_laws.proofs.sections.OpenedRows.{edges_are, vertices_are}
+use Rattle.split_opening_laws.proofs.sections.OpenedRows.{edges_are, vertices_are, tail_is}
 use Rattle.split_laws.proofs.Flags.{vertex_still}
-use Rattle.split_opening_laws.proofs.sections.Pairs.{rim_below}
-
--- the row of each of the first i edges round a cap
-abbrev rim_row : ℕ → ℕ → ℕ → EdgeRow
-rim_row y m j = record { plus_tail = cond (nat_eq (suc j) m) (y + 1) (y + suc j + 1); minus_tail = y + suc j }
-
-rim_at : (t : Table EdgeRow) (k y m i j : ℕ) → j < i → table.get (with_rim t k y m i) (k + suc j) ≡ Some (rim_row y m j)
-rim_at t k y m zero j l = absurd (omega arith)
-rim_at t k y m (suc i) j l = elim (eqb_tells j i) [
-  | inl e ↦ ap (λ n. table.get (with_rim t k y m (suc i)) (k + suc n)) e.1 ∙ get-put_here (with_rim t k y m i) (k + suc i) _ ∙ ap (λ n. Some (rim_row y m n)) (sym e.1)
-  | inr e ↦ get-put_other (with_rim t k y m i) (k + suc i) _ (k + suc j) (λ q. e.1 (omega (arith, q))) ∙ rim_at t k y m i j (less_still j i l e.1)
-]
+use Rattle.split_opening_laws.proofs.sections.Pairs.{rim_row, rim_at}
 
 module _ (M : Model) (above : List ℕ) (s : ℕ) (c : Taken) (bs : List ℕ) (w : CanBeOpened M above s c bs) where
   abbrev m : ℕ
@@ -87,32 +72,13 @@ module _ (M : Model) (above : List ℕ) (s : ℕ) (c : Taken) (bs : List ℕ) (w
     | inr p ↦ ap (point_of N) p.0 ∙ point_old v low
   ]
 
-  -- ---- old edges
-
-  edge_row : (e : ℕ) (row : EdgeRow) → e ≤ c.edge → table.get M.edges e ≡ Some row → table.get N.edges e ≡ Some (opened_row M above mates copies e row)
-  edge_row e row low at = ap (λ t. table.get t e) (edges_are M above s c bs)
-      ∙ rim_below (table.map_rows (opened_row M above mates copies) M.edges) c.edge c.vertex m m e low
-      ∙ get-map_rows (opened_row M above mates copies) M.edges e ∙ ap (option_map (opened_row M above mates copies e)) at
-
-  tail_is : (h : ℕ) → HasHalf M h → tail N h ≡ opened_tail M above mates copies h (tail M h)
-  tail_is h there =
-      let r = row_some (table.get M.edges (edge_of h)) there in
-      let now : tail N h ≡ tail_in (opened_row M above mates copies (edge_of h) r.0) (is_first h) = tail_row N h (opened_row M above mates copies (edge_of h) r.0) (edge_row (edge_of h) r.0 (low_edge M above s c bs w h there) r.1) in
-      let old : tail M h ≡ tail_in r.0 (is_first h) = tail_row M h r.0 r.1 in
-      elim (halves_of_edge h) [
-        | inl p ↦ now ∙ ap (tail_in (opened_row M above mates copies (edge_of h) r.0)) p.1 ∙ ap (λ x. opened_tail M above mates copies x r.0.plus_tail) (sym p.0)
-            ∙ ap (opened_tail M above mates copies h) (sym (old ∙ ap (tail_in r.0) p.1))
-        | inr p ↦ now ∙ ap (tail_in (opened_row M above mates copies (edge_of h) r.0)) p.1 ∙ ap (λ x. opened_tail M above mates copies x r.0.minus_tail) (sym p.0)
-            ∙ ap (opened_tail M above mates copies h) (sym (old ∙ ap (tail_in r.0) p.1))
-      ]
-
   either_point : (b : Bool) (v : ℕ) → v ≤ c.vertex → point_of N (cond b (renamed (copied M c bs (length bs)) v) v) ≡ point_of M v
   either_point true v low = point_copied v low
   either_point false v low = point_old v low
 
   -- an old half-edge starts where it did
   pub start_old : (h : ℕ) → HasHalf M h → start N h ≡ start M h
-  start_old h there = ap (point_of N) (tail_is h there) ∙ either_point (lists above (face_at M h) && not (lists (map mate bs) h)) (tail M h) (low_vertex M above s c bs w h there)
+  start_old h there = ap (point_of N) (tail_is M above s c bs w.sound w.free h there) ∙ either_point (lists above (face_at M h) && not (lists (map mate bs) h)) (tail M h) (low_vertex M above s c bs w h there)
 
   pub finish_old : (h : ℕ) → HasHalf M h → finish N h ≡ finish M h
   finish_old h there = start_old (mate h) (mate_there M h there)
@@ -122,17 +88,11 @@ module _ (M : Model) (above : List ℕ) (s : ℕ) (c : Taken) (bs : List ℕ) (w
   rim_edge : (j : ℕ) → j < m → table.get N.edges (c.edge + suc j) ≡ Some (rim_row c.vertex m j)
   rim_edge j l = ap (λ t. table.get t (c.edge + suc j)) (edges_are M above s c bs) ∙ rim_at (table.map_rows (opened_row M above mates copies) M.edges) c.edge c.vertex m m j l
 
-  next_is : (j : ℕ) → cond (nat_eq (suc j) m) (c.vertex + 1) (c.vertex + suc j + 1) ≡ c.vertex + suc (next_place m j)
-  next_is j = elim (next_cases m j) [
-    | inl p ↦ ap (λ b. cond b (c.vertex + 1) (c.vertex + suc j + 1)) (eq-eqb (suc j) m (omega (arith, p.0))) ∙ ap (λ i. c.vertex + suc i) (sym p.1)
-    | inr p ↦ ap (λ b. cond b (c.vertex + 1) (c.vertex + suc j + 1)) (ne_eqb (suc j) m (λ e. p.0 (omega (arith, e)))) ∙ omega arith ∙ ap (λ i. c.vertex + suc i) (sym p.1)
-  ]
-
   -- the one half goes along the mate
   out_start : (j : ℕ) → j < m → start N (plus (c.edge + suc j)) ≡ start M (mate (get_or bs j 0))
   out_start j l =
       let row = plus_row (c.edge + suc j) in
-      ap (point_of N) (tail_row N (plus (c.edge + suc j)) (rim_row c.vertex m j) (ap (table.get N.edges) row.0 ∙ rim_edge j l) ∙ ap (tail_in (rim_row c.vertex m j)) row.1 ∙ next_is j)
+      ap (point_of N) (tail_row N (plus (c.edge + suc j)) (rim_row c.vertex m j) (ap (table.get N.edges) row.0 ∙ rim_edge j l) ∙ ap (tail_in (rim_row c.vertex m j)) row.1 ∙ next_copy c.vertex m j)
       ∙ point_new (next_place m j) (next_below m j l) ∙ ap (point_of M) (w.cycle.meet j l)
 
   -- the other one along the below half

@@ -23,13 +23,13 @@ use Rattle.shapes.specs.Faces.{start}
 use Rattle.shapes.specs.Fresh.{Taken}
 use Rattle.shapes.specs.Measure.{is_plane_of}
 use Rattle.shapes.specs.split.Drawing.{Drawing}
-use Rattle.shapes.specs.split.Section.{is_hole, below_halves, section_cycles}
-use Rattle.shapes.specs.split.Opening.{Caps, Opening, opened_along, next_opened, all_opened}
+use Rattle.shapes.specs.split.Section.{below_halves, section_cycles}
+use Rattle.shapes.specs.split.Opening.{Opening, opened_along, all_opened}
 use Rattle.shapes.specs.split.Split.{split_drawn}
 use Rattle.shapes.specs.Rewriting.{rewritten}
 use Rattle.split_opening_laws.specs.strips.Opened.{CanBeOpened}
 use Rattle.split_opening_laws.specs.sections.InTurn.{upper_faces, CanBeOpenedInTurn}
-use Rattle.split_opening_laws.proofs.sections.InTurn.{upper_next, can_open, others_on}
+use Rattle.split_opening_laws.proofs.sections.InTurn.{upper_next, can_open, openings_carry, new_caps}
 use Rattle.split_drawing_laws.proofs.drawn_volumes.Bounds.{lone_there}
 use Rattle.split_laws.specs.opened.Told.{LiesAlong}
 use Rattle.split_laws.specs.opened.Laws.{LieOn}
@@ -38,7 +38,7 @@ use Rattle.split_laws.specs.sides.Sided.{IsOnSide, IsOfSolid, AreSided}
 use Rattle.split_laws.proofs.opened.Starts.{swap}
 use Rattle.split_laws.proofs.opened.Kept as kept
 use Rattle.split_laws.proofs.opened.Caps.{loop_kinds, outer_lower, outer_upper, lower_along, upper_along, lower_loop, upper_loop}
-use Rattle.split_laws.proofs.opened.InTurn.{is_rewritten, first_on, next_can, next_on}
+use Rattle.split_laws.proofs.opened.InTurn.{is_rewritten, flat_carry}
 use Rattle.split_laws.proofs.volumes.Taken as taken
 use Rattle.split_laws.proofs.volumes.Taken.{CanTake}
 use Rattle.split_laws.proofs.volumes.Closed.{closing_carries}
@@ -111,28 +111,14 @@ module _ (M : Model) (above : List ℕ) (s : ℕ) (c : Taken) (bs : List ℕ) (w
 
 -- ---- all openings
 
-next_sided : (above : List ℕ) (s : ℕ) (p : Plane) (o : Opening) (bs : List ℕ) (cs : List (List ℕ)) → CanBeOpenedInTurn above s o (bs ∷ cs) → LieOn o.model p (bs ∷ cs) → AreSided o.model p s (upper_faces above o.caps) →
-    AreSided (next_opened p above s o bs).model p s (upper_faces above (next_opened p above s o bs).caps)
-unfolding next_opened
-next_sided above s p o bs cs w on sided =
-    let M : Model = o.model in
-    let k : Caps = record { lower = o.taken.face + 1; upper = o.taken.face + length bs + 1; hole = is_hole M p bs } in
-    subst (AreSided (opened_along M above s o.taken bs) p s) (sym (upper_next above o.caps k))
-    (opened_sided M above s o.taken bs (can_open above s o bs cs w) p (first_on above s p on.some_way o bs cs on.on_plane) (upper_faces above o.caps) sided)
-
 pub openings_sided : (above : List ℕ) (s : ℕ) (p : Plane) (o : Opening) (cs : List (List ℕ)) → CanBeOpenedInTurn above s o cs → LieOn o.model p cs → AreSided o.model p s (upper_faces above o.caps) →
     AreSided (all_opened p above s o cs).model p s (upper_faces above (all_opened p above s o cs).caps)
-openings_sided above s p o [] w on sided = sided
-openings_sided above s p o (bs ∷ cs) w on sided = openings_sided above s p (next_opened p above s o bs) cs (next_can above s p on.some_way o bs cs w)
-    (record { some_way = on.some_way; on_plane = next_on above s p on.some_way o bs cs w on.on_plane }) (next_sided above s p o bs cs w on sided)
-
-next_none : (above : List ℕ) (s : ℕ) (p : Plane) (o : Opening) (bs : List ℕ) (cs : List (List ℕ)) (u : ℕ) → CanBeOpenedInTurn above s o (bs ∷ cs) → NoneLone o.model u → NoneLone (next_opened p above s o bs).model u
-unfolding next_opened
-next_none above s p o bs cs u w none = opened_none o.model above s o.taken bs (can_open above s o bs cs w) u none
+openings_sided above s p o cs w on sided = flat_carry above s p (λ x. AreSided x.model p s (upper_faces above x.caps)) (λ x bs ds w flat a.
+    subst (AreSided (opened_along x.model above s x.taken bs) p s) (sym (upper_next above x.caps (new_caps p x bs)))
+    (opened_sided x.model above s x.taken bs (can_open above s x bs ds w) p flat (upper_faces above x.caps) a)) o cs w on sided
 
 openings_none : (above : List ℕ) (s : ℕ) (p : Plane) (o : Opening) (cs : List (List ℕ)) (u : ℕ) → CanBeOpenedInTurn above s o cs → NoneLone o.model u → NoneLone (all_opened p above s o cs).model u
-openings_none above s p o [] u w none = none
-openings_none above s p o (bs ∷ cs) u w none = openings_none above s p (next_opened p above s o bs) cs u (others_on above s p o bs cs w) (next_none above s p o bs cs u w none)
+openings_none above s p o cs u w none = openings_carry above s p (λ x ds. NoneLone x.model u) (λ x bs ds w a. opened_none x.model above s x.taken bs (can_open above s x bs ds w) u a) o cs w none
 
 -- ---- a cap that becomes a ring
 

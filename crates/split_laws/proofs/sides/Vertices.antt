@@ -1,8 +1,8 @@
 -- The sides on which the faces of a drawn solid lie.
 use Rattle.std.specs.Prelude.{pos, int_lt}
 use Rattle.std.specs.List.{list_any}
-use Rattle.std.proofs.Common.{◌≡◌, ℕ, Bool, true, false, not, ◌&&◌, ◌||◌, refl, sym, subst, ◌∙◌, arith, true≢false, ◌≢◌, nat_eq, List, [], ◌∷◌, is_some, ap, inl, inr}
-use Rattle.std.proofs.lemmas.Bool.{eq-eqb, eqb-true}
+use Rattle.std.proofs.Common.{◌≡◌, ℕ, Bool, true, false, not, ◌&&◌, ◌||◌, refl, sym, subst, ◌∙◌, arith, true≢false, ◌≢◌, List, [], ◌∷◌, ap, inl, inr}
+use Rattle.std.proofs.lemmas.Bool.{eq-eqb}
 use Rattle.euler_operators.specs.declared.Plane.{Plane}
 use Rattle.euler_operators.specs.Vectors.{dot, direction, is_above, is_below}
 use Rattle.euler_operators.specs.Items.{IsIn}
@@ -13,7 +13,6 @@ use Rattle.euler_operators.specs.declared.Point.{Point}
 use Rattle.euler_operators.specs.Table as table
 use Rattle.euler_operators.proofs.Members.{filter_passes}
 use Rattle.euler_operators.proofs.Lists.{count-append, tick_same, IsIn_or_not}
-use Rattle.euler_operators.proofs.Models.{solid_row}
 use Rattle.euler_laws.proofs.shared.Listed.{passes_listed, IsIn-from_listed, listed-from_in}
 use Rattle.euler_laws.proofs.shared.Rows.{face_there}
 use Rattle.euler_laws.proofs.shared.Counted.{all_where_has}
@@ -23,7 +22,7 @@ use Rattle.shapes.specs.split.Sides.{reaches_above, reaches_below, straddles, fa
 use Rattle.shapes.proofs.walks.SolidFaces.{face_of_loop}
 use Rattle.split_opening_laws.proofs.cycles.Meets.{count_filter}
 use Rattle.split_drawing_laws.specs.face_sides.Lone.{NoLoopIsLone}
-use Rattle.split_drawing_laws.proofs.crossings.Premises.{tail_in_face}
+use Rattle.split_drawing_laws.proofs.crossings.Premises.{tail_in_face, solid_facts}
 use Rattle.split_drawing_laws.proofs.pairs.LoopPlaces.{none_passes}
 use Rattle.split_drawing_laws.proofs.face_sides.Final.{TailIn, tail_in}
 use Rattle.split_drawing_laws.proofs.face_sides.Shared.{none_from}
@@ -89,9 +88,8 @@ module _ (N : Model) (sound : Sound N) (u : ℕ) (none : NoLoopIsLone N u) where
   start_of : (f v : ℕ) → IsIn f (faces_of N u) → IsIn v (corners N f) → StartOf N u v
   unfolding corners
   start_of f v i c =
-      let row = all_where_has (λ _ r. nat_eq r.solid u) N.faces f i in
-      let there : Has N.faces f = ap is_some row.1 in
-      let of_u : solid_of N f ≡ u = solid_row N f row.0 row.1 ∙ eqb-true row.0.solid u row.2 in
+      let there : Has N.faces f = (solid_facts N u f i).0 in
+      let of_u : solid_of N f ≡ u = (solid_facts N u f i).1 in
       let of : (l : ℕ) → IsIn l (loops_of N f) → Has N.loops l × (face_of N l ≡ f) = λ l j. face_of_loop N sound f l there (listed-from_in l (loops_of N f) j) in
       let r : TailIn N v (loops_of N f) = tail_in N v (loops_of N f) (λ l j. cycle_unless (content N l) (λ x at. none l x at (ap (solid_of N) (of l j).1 ∙ of_u))) c in
       record {

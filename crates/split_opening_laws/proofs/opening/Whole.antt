@@ -1,8 +1,8 @@
 -- Once the copies are raised there are strips along the mates.
 use Rattle.std.specs.Prelude.{map, get_or, reverse}
 use Rattle.std.specs.Option.{option_map}
-use Rattle.std.proofs.Common.{◌≡◌, ℕ, suc, ◌+◌, ◌<◌, cond, nat_lt, List, [], ◌∷◌, ◌++◌, length, Option, Some, None, is_some, refl, sym, ap, ◌∙◌, subst, arith, inl, inr, true≢false, ◌≢◌, zero, ◌≤◌, nat_eq, ◌-◌}
-use Rattle.std.proofs.lemmas.Bool.{lt-ltb, cases_lt, ne_eqb, eq-eqb}
+use Rattle.std.proofs.Common.{◌≡◌, ℕ, suc, ◌+◌, ◌<◌, cond, nat_lt, List, [], ◌∷◌, ◌++◌, length, Option, Some, None, is_some, refl, sym, ap, ◌∙◌, subst, arith, inl, inr, true≢false, ◌≢◌, zero, ◌≤◌, ◌-◌}
+use Rattle.std.proofs.lemmas.Bool.{lt-ltb, cases_lt}
 use Rattle.std.proofs.lemmas.List.{length-map, get_or-map}
 use Rattle.std.proofs.lemmas.Bool.Decides.{eqb_tells}
 use Rattle.euler_operators.specs.Rings.{canonical}
@@ -29,12 +29,13 @@ use Rattle.split_opening_laws.specs.strips.StripOps.{strip_ops, copy_ops}
 use Rattle.split_opening_laws.specs.caps.CapOps.{cap_ops}
 use Rattle.split_opening_laws.specs.opening.OpeningOps.{opening_ops}
 use Rattle.split_opening_laws.proofs.strips.Rows.{rows_at, rows_high, rows_split, rows_low}
-use Rattle.split_opening_laws.proofs.strips.Cycle.{next_below, next_cases}
+use Rattle.split_opening_laws.proofs.strips.Cycle.{next_below, next_copy}
 use Rattle.split_opening_laws.proofs.caps.Joined.{gone_below, gone_within, gone_above}
 use Rattle.split_opening_laws.proofs.strips.Copied.{copy_at}
 use Rattle.split_opening_laws.proofs.strips.Whole.{strips_accepted, strips_are_cut}
 use Rattle.split_opening_laws.proofs.copies.Raising.{copies_accepted, copies_are_raised, raised_sound}
 use Rattle.split_opening_laws.proofs.caps.Whole.{caps_accepted, caps_made}
+use Rattle.split_opening_laws.proofs.sections.Pairs.{rim_row}
 
 -- ---- rows that are put at fresh numbers and go again
 
@@ -151,19 +152,9 @@ module _ (M : Model) (above : List ℕ) (s : ℕ) (c : Taken) (bs : List ℕ) (w
 
   -- ---- the edges round the cap above lead from copy to copy
 
-  -- the edge at a place ends at the copy of the next one
-  next_is : (j : ℕ) → c.vertex + suc (next_place m j) ≡ cond (nat_eq (suc j) m) (c.vertex + 1) (c.vertex + suc j + 1)
-  next_is j = elim (next_cases m j) [
-    | inl p ↦ ap (λ i. c.vertex + suc i) p.1 ∙ sym (ap (λ b. cond b (c.vertex + 1) (c.vertex + suc j + 1)) (eq-eqb (suc j) m (omega (arith, p.0))))
-    | inr p ↦ ap (λ i. c.vertex + suc i) p.1 ∙ omega arith ∙ sym (ap (λ b. cond b (c.vertex + 1) (c.vertex + suc j + 1)) (ne_eqb (suc j) m (λ e. p.0 (omega (arith, e)))))
-  ]
-
-  abbrev rim : ℕ → EdgeRow
-  rim j = record { plus_tail = cond (nat_eq (suc j) m) (c.vertex + 1) (c.vertex + suc j + 1); minus_tail = c.vertex + suc j }
-
-  row_is : (j : ℕ) → j < m → raised_edge M bs (copied M c bs m) j ≡ rim j
+  row_is : (j : ℕ) → j < m → raised_edge M bs (copied M c bs m) j ≡ rim_row c.vertex m j
   row_is j lt = λ i. record {
-    plus_tail = (ap (renamed (copied M c bs m)) (sym (w.cycle.meet j lt)) ∙ copy_at M above s c bs w m (next_place m j) (next_below m j lt) (next_below m j lt) ∙ next_is j) i;
+    plus_tail = (ap (renamed (copied M c bs m)) (sym (w.cycle.meet j lt)) ∙ copy_at M above s c bs w m (next_place m j) (next_below m j lt) (next_below m j lt) ∙ sym (next_copy c.vertex m j)) i;
     minus_tail = copy_at M above s c bs w m j lt lt i;
   }
 

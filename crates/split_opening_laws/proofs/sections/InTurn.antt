@@ -291,3 +291,34 @@ caps_stay above s p o bs cs w caps =
 pub caps_rise : (above : List ℕ) (s : ℕ) (p : Plane) (o : Opening) (cs : List (List ℕ)) → CanBeOpenedInTurn above s o cs → HasCaps above s o → HasCaps above s (all_opened p above s o cs)
 caps_rise above s p o [] w caps = caps
 caps_rise above s p o (bs ∷ cs) w caps = caps_rise above s p (next_opened p above s o bs) cs (others_on above s p o bs cs w) (caps_stay above s p o bs cs w caps)
+
+-- ---- what each opening keeps holds after all of them
+
+-- the caps of a cycle
+abbrev pub new_caps : Plane → Opening → List ℕ → Caps
+new_caps p o bs = record { lower = o.taken.face + 1; upper = o.taken.face + length bs + 1; hole = is_hole o.model p bs }
+
+-- the opening after a cycle more
+abbrev pub opened_next : Plane → List ℕ → ℕ → Opening → List ℕ → Opening
+opened_next p above s o bs = let m = length bs in let c = o.taken in record {
+  model = opened_along o.model above s c bs;
+  taken = record { face = c.face + m + 1; loop = c.loop + m + 1; edge = c.edge + 2 * m; vertex = c.vertex + m };
+  caps = o.caps ++ new_caps p o bs ∷ [];
+}
+
+opened_is : (p : Plane) (above : List ℕ) (s : ℕ) (o : Opening) (bs : List ℕ) → opened_next p above s o bs ≡ next_opened p above s o bs
+unfolding next_opened
+opened_is p above s o bs = refl
+
+module _ (above : List ℕ) (s : ℕ) (p : Plane) (P : Opening → List (List ℕ) → Type 0) where
+  pub openings_carry : ((o : Opening) (bs : List ℕ) (cs : List (List ℕ)) → CanBeOpenedInTurn above s o (bs ∷ cs) → P o (bs ∷ cs) → P (opened_next p above s o bs) cs) →
+      (o : Opening) (cs : List (List ℕ)) → CanBeOpenedInTurn above s o cs → P o cs → P (all_opened p above s o cs) []
+  openings_carry step o [] w a = a
+  openings_carry step o (bs ∷ cs) w a = openings_carry step (next_opened p above s o bs) cs (others_on above s p o bs cs w) (subst (λ n. P n cs) (opened_is p above s o bs) (step o bs cs w a))
+
+  -- where the caps have no rings
+  pub capped_carry : ((o : Opening) (bs : List ℕ) (cs : List (List ℕ)) → CanBeOpenedInTurn above s o (bs ∷ cs) → HasCaps above s o → P o (bs ∷ cs) → P (opened_next p above s o bs) cs) →
+      (o : Opening) (cs : List (List ℕ)) → CanBeOpenedInTurn above s o cs → HasCaps above s o → P o cs → P (all_opened p above s o cs) []
+  capped_carry step o [] w caps a = a
+  capped_carry step o (bs ∷ cs) w caps a =
+      capped_carry step (next_opened p above s o bs) cs (others_on above s p o bs cs w) (caps_stay above s p o bs cs w caps) (subst (λ n. P n cs) (opened_is p above s o bs) (step o bs cs w caps a))

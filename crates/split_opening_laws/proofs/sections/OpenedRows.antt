@@ -17,12 +17,13 @@ use Rattle.euler_operators.proofs.Models.{holds_in, in-holds, face_row, content_
 use Rattle.euler_operators.proofs.Tables.{first_where_is, in_use_within, row_some, get-put_other, get-put_here}
 use Rattle.euler_operators.proofs.Members.{IsIn-map}
 use Rattle.euler_laws.proofs.shared.Arcs.{halves_of_edge}
+use Rattle.euler_laws.proofs.shared.Same.{mapped_some}
 use Rattle.shapes.specs.Fresh.{Taken, numbers_after}
 use Rattle.shapes.specs.Rewriting.{rewritten_row, renamed}
 use Rattle.shapes.specs.split.Opening.{opened_tail, opened_row, with_rim, with_copies, both_lists, opened_along}
 use Rattle.shapes.proofs.fresh.Rows.{get-put_cases}
 use Rattle.split_opening_laws.specs.Numbers.{AreFree}
-use Rattle.split_opening_laws.proofs.sections.Pairs.{other_number, rim_below, rim_cases, rim_numbers, renamed_one, renamed_not, in_numbers, numbers_in, renamed_onto}
+use Rattle.split_opening_laws.proofs.sections.Pairs.{other_number, rim_below, rim_cases, renamed_one, renamed_not, in_numbers, numbers_in, renamed_onto}
 use Rattle.split_opening_laws.proofs.strips.Rows.{length-numbers_after}
 
 -- ---- in which faces the half-edges of a section cycle and of its copy lie, once a solid is opened along it
@@ -174,7 +175,7 @@ module _ (M : Model) (above : List ℕ) (s : ℕ) (c : Taken) (bs : List ℕ) wh
     pub half_kept : (h : ℕ) → HasHalf M h → HasHalf opened h
     half_kept h there = let r = row_some (table.get M.edges (edge_of h)) there in ap is_some (edge_row (edge_of h) r.0 r.1)
 
-    tail_is : (h : ℕ) → HasHalf M h → tail opened h ≡ opened_tail M above mates copies h (tail M h)
+    pub tail_is : (h : ℕ) → HasHalf M h → tail opened h ≡ opened_tail M above mates copies h (tail M h)
     tail_is h there =
         let r = row_some (table.get M.edges (edge_of h)) there in
         let now : tail opened h ≡ tail_in (opened_row M above mates copies (edge_of h) r.0) (is_first h) = tail_row opened h (opened_row M above mates copies (edge_of h) r.0) (edge_row (edge_of h) r.0 r.1) in
@@ -203,35 +204,18 @@ module _ (M : Model) (above : List ℕ) (s : ℕ) (c : Taken) (bs : List ℕ) wh
       go true e = e ∙ renamed_not (map (tail M) bs) (numbers_after c.vertex m) (tail M h) z
       go false e = e
 
-    -- a half-edge was there, or starts at a copy
-    pub half_cases : (h : ℕ) → HasHalf opened h → HasHalf M h ⊎ (c.vertex < tail opened h)
+    -- a half-edge was there, or is of an edge round a cap and starts at a copy
+    pub half_cases : (h : ℕ) → HasHalf opened h → HasHalf M h ⊎ (IsIn (edge_of h) (numbers_after c.edge (length bs)) × (c.vertex < tail opened h))
     half_cases h there =
         let r = row_some (table.get opened.edges (edge_of h)) there in
         elim (rim_cases (table.map_rows (opened_row M above mates copies) M.edges) c.edge c.vertex m m (edge_of h) r.0 (sym (ap (λ t. table.get t (edge_of h)) edges_are) ∙ r.1)) [
-          | inl at ↦ inl (sym (mapped (table.get M.edges (edge_of h))) ∙ ap is_some (sym (get-map_rows (opened_row M above mates copies) M.edges (edge_of h)) ∙ at))
-          | inr l ↦ inr (subst (λ n. c.vertex < n) (sym (tail_row opened h r.0 r.1)) (either (is_first h) r.0 l.0 l.1))
+          | inl at ↦ inl (sym (mapped_some (opened_row M above mates copies (edge_of h)) (table.get M.edges (edge_of h))) ∙ ap is_some (sym (get-map_rows (opened_row M above mates copies) M.edges (edge_of h)) ∙ at))
+          | inr l ↦ inr (numbers_in c.edge m (edge_of h) l.0 l.1, subst (λ n. c.vertex < n) (sym (tail_row opened h r.0 r.1)) (either (is_first h) r.0 l.2 l.3))
         ]
       where
-        mapped : (o : Option EdgeRow) → is_some (option_map (opened_row M above mates copies (edge_of h)) o) ≡ is_some o
-        mapped None = refl
-        mapped (Some x) = refl
-
         either : (b : Bool) (row : EdgeRow) → c.vertex < row.plus_tail → c.vertex < row.minus_tail → c.vertex < tail_in row b
         either true row a d = a
         either false row a d = d
-
-    -- a half-edge was there, or is of an edge round a cap
-    pub half_back : (h : ℕ) → HasHalf opened h → HasHalf M h ⊎ IsIn (edge_of h) (numbers_after c.edge (length bs))
-    half_back h there =
-        let r = row_some (table.get opened.edges (edge_of h)) there in
-        elim (rim_numbers (table.map_rows (opened_row M above mates copies) M.edges) c.edge c.vertex m m (edge_of h) r.0 (sym (ap (λ t. table.get t (edge_of h)) edges_are) ∙ r.1)) [
-          | inl at ↦ inl (sym (mapped (table.get M.edges (edge_of h))) ∙ ap is_some (sym (get-map_rows (opened_row M above mates copies) M.edges (edge_of h)) ∙ at))
-          | inr l ↦ inr (numbers_in c.edge m (edge_of h) l.0 l.1)
-        ]
-      where
-        mapped : (o : Option EdgeRow) → is_some (option_map (opened_row M above mates copies (edge_of h)) o) ≡ is_some o
-        mapped None = refl
-        mapped (Some x) = refl
 
   abbrev N : Model
   N = opened_along M above s c bs

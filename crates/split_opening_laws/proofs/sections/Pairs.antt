@@ -6,11 +6,12 @@ use Rattle.euler_operators.specs.Table as table
 use Rattle.euler_operators.specs.Table.{Table}
 use Rattle.euler_operators.specs.Model.{EdgeRow}
 use Rattle.euler_operators.proofs.Lists.{tick_same, tick_other}
-use Rattle.euler_operators.proofs.Tables.{get-put_other}
 use Rattle.shapes.specs.Fresh.{numbers_after}
 use Rattle.shapes.specs.Rewriting.{renamed}
 use Rattle.shapes.specs.split.Opening.{both_lists, with_rim}
 use Rattle.shapes.proofs.fresh.Rows.{get-put_cases}
+use Rattle.split_opening_laws.specs.strips.Strips.{with_rows}
+use Rattle.split_opening_laws.proofs.strips.Rows.{rows_at, rows_low, rows_high}
 
 -- a number keeps its name or takes one of the second list
 pub renamed_one : (xs ys : List ℕ) (x : ℕ) → (renamed (both_lists xs ys) x ≡ x) ⊎ IsIn (renamed (both_lists xs ys) x) ys
@@ -77,35 +78,35 @@ other_number q n k l m e = absurd (omega (arith, l, m, e))
 
 -- ---- the edges round a cap
 
+-- the row of each of the first i edges round a cap
+abbrev pub rim_row : ℕ → ℕ → ℕ → EdgeRow
+rim_row y m j = record { plus_tail = cond (nat_eq (suc j) m) (y + 1) (y + suc j + 1); minus_tail = y + suc j }
+
+rim_rows : (t : Table EdgeRow) (k y m i : ℕ) → with_rim t k y m i ≡ with_rows t k (rim_row y m) i
+rim_rows t k y m zero = refl
+rim_rows t k y m (suc i) = ap (λ u. table.put u (k + suc i) (rim_row y m i)) (rim_rows t k y m i)
+
+pub rim_at : (t : Table EdgeRow) (k y m i j : ℕ) → j < i → table.get (with_rim t k y m i) (k + suc j) ≡ Some (rim_row y m j)
+rim_at t k y m i j l = ap (λ u. table.get u (k + suc j)) (rim_rows t k y m i) ∙ rows_at t k (rim_row y m) i j l
+
 pub rim_below : (t : Table EdgeRow) (k y m i q : ℕ) → q ≤ k → table.get (with_rim t k y m i) q ≡ table.get t q
-rim_below t k y m zero q l = refl
-rim_below t k y m (suc i) q l = get-put_other (with_rim t k y m i) (k + suc i) _ q (other_number q k (k + suc i) l (omega arith)) ∙ rim_below t k y m i q l
+rim_below t k y m i q l = ap (λ u. table.get u q) (rim_rows t k y m i) ∙ rows_low t k (rim_row y m) i q l
 
 pub rim_above : (t : Table EdgeRow) (k y m i q : ℕ) → k + i < q → table.get (with_rim t k y m i) q ≡ table.get t q
-rim_above t k y m zero q l = refl
-rim_above t k y m (suc i) q l = get-put_other (with_rim t k y m i) (k + suc i) _ q (λ e. absurd (omega (arith, l, e))) ∙ rim_above t k y m i q (omega (arith, l))
+rim_above t k y m i q l = ap (λ u. table.get u q) (rim_rows t k y m i) ∙ rows_high t k (rim_row y m) i q l
 
--- an edge was there, or both its ends are copies
-pub rim_cases : (t : Table EdgeRow) (k y m i q : ℕ) (row : EdgeRow) → table.get (with_rim t k y m i) q ≡ Some row → (table.get t q ≡ Some row) ⊎ ((y < row.plus_tail) × (y < row.minus_tail))
+-- an edge was there, or has one of the next i numbers, and both its ends are copies
+pub rim_cases : (t : Table EdgeRow) (k y m i q : ℕ) (row : EdgeRow) → table.get (with_rim t k y m i) q ≡ Some row → (table.get t q ≡ Some row) ⊎ ((k < q) × (q ≤ k + i) × (y < row.plus_tail) × (y < row.minus_tail))
 rim_cases t k y m zero q row at = inl at
 rim_cases t k y m (suc i) q row at = elim (get-put_cases (with_rim t k y m i) (k + suc i) _ q row at) [
   | inl p ↦ inr (
+    omega (arith, p.0),
+    omega (arith, p.0),
     subst (λ n. y < n) (sym (ap (λ r. r.plus_tail) p.1)) (either (nat_eq (suc i) m) (y + 1) (y + suc i + 1) (omega arith) (omega arith)),
     subst (λ n. y < n) (sym (ap (λ r. r.minus_tail) p.1)) (omega arith),
   )
-  | inr p ↦ rim_cases t k y m i q row p.1
+  | inr p ↦ elim (rim_cases t k y m i q row p.1) [ inl r ↦ inl r | inr r ↦ inr (r.0, omega (arith, r.1), r.2, r.3) ]
 ] where
   either : (b : Bool) (u v : ℕ) → y < u → y < v → y < cond b u v
   either true u v a c = a
   either false u v a c = c
-
--- an edge was there, or has one of the next i numbers
-pub rim_numbers : (t : Table EdgeRow) (k y m i q : ℕ) (row : EdgeRow) → table.get (with_rim t k y m i) q ≡ Some row → (table.get t q ≡ Some row) ⊎ ((k < q) × (q ≤ k + i))
-rim_numbers t k y m zero q row at = inl at
-rim_numbers t k y m (suc i) q row at = elim (get-put_cases (with_rim t k y m i) (k + suc i) _ q row at) [
-  | inl p ↦ inr (omega (arith, p.0), omega (arith, p.0))
-  | inr p ↦ elim (rim_numbers t k y m i q row p.1) [
-    | inl r ↦ inl r
-    | inr r ↦ inr (r.0, omega (arith, r.1))
-  ]
-]

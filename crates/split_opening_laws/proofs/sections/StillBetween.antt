@@ -26,7 +26,7 @@ use Rattle.sweeps_laws.proofs.swept.Numbers.{next_within}
 use Rattle.split_opening_laws.specs.cycles.SectionCycles.{IsBelowHalf, IsSectionCycle, AreSectionCycles, AreApartCycles}
 use Rattle.split_opening_laws.specs.Numbers.{AreFree}
 use Rattle.split_opening_laws.specs.sections.InTurn.{halves_in, AreBetween}
-use Rattle.split_opening_laws.proofs.sections.OpenedRows.{solid_kept, face_kept, half_kept, tail_cases, tail_kept, half_cases, face_still, half_back, upper_row, mate_face, minus_face, plus_face}
+use Rattle.split_opening_laws.proofs.sections.OpenedRows.{solid_kept, face_kept, half_kept, tail_cases, tail_kept, half_cases, face_still, upper_row, mate_face, minus_face, plus_face}
 use Rattle.split_opening_laws.proofs.cycles.Meets.{apart_before}
 
 maps_agree : (f g : ℕ → ℕ) (xs : List ℕ) → ((x : ℕ) → IsIn x xs → f x ≡ g x) → map f xs ≡ map g xs
@@ -86,7 +86,7 @@ module _ (M : Model) (above : List ℕ) (s : ℕ) (c : Taken) (bs : List ℕ) (s
 
     still_alone : (h b : ℕ) → HasHalf N h → IsIn b ds → tail N h ≡ tail N b → lists above (face_at N h) ≢ lists above (face_at N (mate h)) → IsIn h ds ⊎ IsIn (mate h) ds
     still_alone h b t i e ne = elim (half_cases M above s c bs sound free h t) [
-      | inr l ↦ absurd (too_high l)
+      | inr new ↦ absurd (too_high new.1)
       | inl old ↦ elim (tail_cases M above s c bs sound free h old) [
         | inr l ↦ absurd (too_high l)
         | inl k ↦
@@ -235,8 +235,8 @@ module _ (M : Model) (above : List ℕ) (s : ℕ) (c : Taken) (bs : List ℕ) (c
         ]
 
     still_only : HasHalf K h → IsIn h (halves_in cs)
-    still_only t = elim (half_back M above s c bs sound free h t) [
-      | inr i ↦ absurd (not_new i)
+    still_only t = elim (half_cases M above s c bs sound free h t) [
+      | inr new ↦ absurd (not_new new.0)
       | inl old ↦ elim (IsIn_or_not h (map mate bs)) [
         | inl i ↦ absurd (not_mate i)
         | inr y ↦ elim (IsIn_or_not (mate h) (map mate bs)) [

@@ -4,6 +4,7 @@ use Rattle.std.specs.Option.{option_map}
 use Rattle.std.proofs.Common.{◌≡◌, ◌≢◌, ℕ, zero, suc, ◌+◌, ◌-◌, ◌≤◌, ◌<◌, true, false, cond, List, [], ◌∷◌, length, is_some, refl, sym, ap, ◌∙◌, subst, arith, ◌⊎◌, inl, inr, true≢false, nat_eq, ◌++◌, Some}
 use Rattle.std.proofs.lemmas.Bool.Decides.{eqb_tells}
 use Rattle.std.proofs.lemmas.List.{length-map, get_or-map, map-append}
+use Rattle.std.proofs.lemmas.Bool.{eq-eqb, ne_eqb}
 use Rattle.euler_operators.specs.Items.{IsIn}
 use Rattle.euler_operators.specs.HalfEdge.{mate, edge_of, plus}
 use Rattle.euler_operators.specs.Model.{Model, tail, LoopRow, cycle, holds, loop_of, face_of, cycle_of}
@@ -57,6 +58,13 @@ next-before n i lt = elim (before_cases n i) [
     | inl q ↦ absurd (omega (arith, p.1, q.0))
     | inr q ↦ let b = p.1 in let d = q.1 in omega arith
   ]
+]
+
+-- the number of the copy after that at a place, where the copies have the numbers after v
+pub next_copy : (v n j : ℕ) → cond (nat_eq (suc j) n) (v + 1) (v + suc j + 1) ≡ v + suc (next_place n j)
+next_copy v n j = elim (next_cases n j) [
+  | inl p ↦ ap (λ b. cond b (v + 1) (v + suc j + 1)) (eq-eqb (suc j) n (omega (arith, p.0))) ∙ ap (λ i. v + suc i) (sym p.1)
+  | inr p ↦ ap (λ b. cond b (v + 1) (v + suc j + 1)) (ne_eqb (suc j) n (λ e. p.0 (omega (arith, e)))) ∙ omega arith ∙ ap (λ i. v + suc i) (sym p.1)
 ]
 
 -- only the place before leads to a place
