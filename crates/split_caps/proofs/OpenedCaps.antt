@@ -38,6 +38,7 @@ use Rattle.split_laws.proofs.opened.Starts.{swap, finish_old, start_old}
 use Rattle.split_laws.proofs.volumes.Closed.{ClearOf, closing, closing_leads}
 use Rattle.split_laws.proofs.volumes.Taken as taken
 use Rattle.split_laws.proofs.volumes.Taken.{CanTake}
+use Rattle.split_laws.proofs.Holes.{IsOfEach, each_last}
 use Rattle.split_caps.specs.Capped.{lower_numbers, upper_numbers, area_below, sum_of}
 
 -- ---- numbers
@@ -62,6 +63,9 @@ pub record FacesApart (M : Model) (p : Plane) (k : Caps) : Type 0 where
 abbrev pub AllFaceApart : Model → Plane → List Caps → Type 0
 AllFaceApart M p [] = Unit {0}
 AllFaceApart M p (k ∷ ks) = FacesApart M p k × AllFaceApart M p ks
+
+pub apart_each : (M : Model) (p : Plane) → IsOfEach (AllFaceApart M p) (FacesApart M p)
+apart_each M p = record { one = λ k ks a. a.0; others = λ k ks a. a.1; both = λ k ks o a. (o, a) }
 
 twice_turned : (v : Point) → v ≡ negated (negated v)
 twice_turned v = λ i. record { x = back v.x i; y = back v.y i; z = back v.z i } where
@@ -104,21 +108,12 @@ module _ (M : Model) (above : List ℕ) (s : ℕ) (c : Taken) (bs : List ℕ) (w
   all_still p [] plain a = tt
   all_still p (k ∷ ks) plain a = (still_apart p k plain.0.there plain.1.there a.0, all_still p ks plain.2 a.1)
 
-one_more : (M : Model) (p : Plane) (ks : List Caps) (k : Caps) → AllFaceApart M p ks → FacesApart M p k → AllFaceApart M p (ks ++ k ∷ [])
-one_more M p [] k a b = (b, tt)
-one_more M p (j ∷ ks) k a b = (a.0, one_more M p ks k a.1 b)
-
 pub caps_apart : (above : List ℕ) (s : ℕ) (p : Plane) (o : Opening) (cs : List (List ℕ)) → CanBeOpenedInTurn above s o cs → HasCaps above s o → AllFaceApart o.model p o.caps →
     AllFaceApart (all_opened p above s o cs).model p (all_opened p above s o cs).caps
 caps_apart above s p o cs w caps a = capped_carry above s p (λ x ds. AllFaceApart x.model p x.caps) (λ x bs ds w caps a.
     let can = can_open above s x bs ds w in
-    one_more (opened_along x.model above s x.taken bs) p x.caps (new_caps p x bs) (all_still x.model above s x.taken bs can p x.caps caps.plain a) (new_apart x.model above s x.taken bs can p)) o cs w caps a
-
--- what holds of all caps holds of those of cycle i
-pub all_at : (All : List Caps → Type 0) (One : Caps → Type 0) → ((k : Caps) (ks : List Caps) → All (k ∷ ks) → One k × All ks) → (ks : List Caps) (i : ℕ) → i < length ks → All ks → One (get_or ks i no_caps)
-all_at All One parts [] i l a = absurd (omega (arith, l))
-all_at All One parts (k ∷ ks) zero l a = (parts k ks a).0
-all_at All One parts (k ∷ ks) (suc i) l a = all_at All One parts ks i (omega (arith, l)) (parts k ks a).1
+    let N = opened_along x.model above s x.taken bs in
+    each_last (AllFaceApart N p) _ (apart_each N p) x.caps (new_caps p x bs) (all_still x.model above s x.taken bs can p x.caps caps.plain a) (new_apart x.model above s x.taken bs can p, tt)) o cs w caps a
 
 -- ---- corners
 

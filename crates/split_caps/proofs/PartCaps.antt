@@ -34,14 +34,15 @@ use Rattle.split_laws.specs.opened.Told.{AllLieAlong, LiesAlong}
 use Rattle.split_laws.specs.volumes.Laws.{CanBeSplit}
 use Rattle.split_laws.proofs.Whole as after_closing
 use Rattle.split_laws.proofs.Flags.{one_outer}
-use Rattle.split_laws.proofs.Holes.{AreClosed, AreLevel, holes_counted}
+use Rattle.split_laws.proofs.Holes.{AreClosed, AreLevel, holes_counted, each_at, holes_each, level_each, plain_each}
 use Rattle.split_laws.proofs.volumes.Closed.{closing, closing_carries}
 use Rattle.split_laws.proofs.volumes.Split as split
 use Rattle.split_laws.proofs.volumes.Taken as taken
 use Rattle.split_laws.proofs.volumes.Taken.{CanTake}
+use Rattle.split_laws.proofs.opened.InTurn.{along_each}
 use Rattle.command_laws.proofs.Owners.{on_one}
 use Rattle.split_caps.specs.Capped.{IsCapOf, area_below, sum_of}
-use Rattle.split_caps.proofs.OpenedCaps.{both_opposite, both_take, closed_normal, taken_by, lowers, normals_are, outer_is, told_at, told_filtered, uppers, AllFaceApart, LiesOn, caps_apart, outer_on, plain_lies, all_at, FacesApart}
+use Rattle.split_caps.proofs.OpenedCaps.{both_opposite, both_take, closed_normal, taken_by, lowers, normals_are, outer_is, told_at, told_filtered, uppers, AllFaceApart, LiesOn, caps_apart, outer_on, plain_lies, FacesApart, apart_each}
 
 -- ---- a cap becomes a ring of another
 
@@ -115,13 +116,6 @@ module _ (x : ℕ) where
 
 -- ---- some of the caps
 
-holes_apart : (M : Model) (p : Plane) (ks : List Caps) → AllFaceApart M p ks → AllFaceApart M p (filter (λ k. k.hole) ks)
-holes_apart M p [] a = tt
-holes_apart M p (k ∷ ks) a = go k.hole (holes_apart M p ks a.1) where
-  go : (b : Bool) → AllFaceApart M p (filter (λ k. k.hole) ks) → AllFaceApart M p (cond b (k ∷ filter (λ k. k.hole) ks) (filter (λ k. k.hole) ks))
-  go true r = (a.0, r)
-  go false r = r
-
 opposite_sums : (M : Model) (p : Plane) (ks : List Caps) → AllFaceApart M p ks → sum_of (uppers M ks) ≡ negated (sum_of (lowers M ks))
 opposite_sums M p [] a = refl
 opposite_sums M p (k ∷ ks) a = both_opposite (normal M k.lower) (sum_of (lowers M ks)) (normal M k.upper) (sum_of (uppers M ks)) a.0.opposite (opposite_sums M p ks a.1)
@@ -179,16 +173,16 @@ module _ (d : Drawing) (above : List ℕ) (s : ℕ) (p : Plane) (t : ℕ) (w : C
     k = get_or ks i no_caps
 
     plain : IsPlain X.model s k.lower × IsPlain X.model s k.upper
-    plain = all_at (ArePlain X.model s) (λ k. IsPlain X.model s k.lower × IsPlain X.model s k.upper) (λ k ks a. ((a.0, a.1), a.2)) ks i l (split.caps d above s p t w).plain
+    plain = each_at (ArePlain X.model s) _ (plain_each X.model s) ks i l (split.caps d above s p t w).plain
 
     along : LiesAlong X.model p k.lower × LiesAlong X.model p k.upper
-    along = all_at (AllLieAlong X.model p) (λ k. LiesAlong X.model p k.lower × LiesAlong X.model p k.upper) (λ k ks a. ((a.0, a.1), a.2)) ks i l all_along
+    along = each_at (AllLieAlong X.model p) _ (along_each X.model p) ks i l all_along
 
     level : (lists us k.lower ≡ false) × (lists us k.upper ≡ true)
-    level = all_at (AreLevel us) (λ k. (lists us k.lower ≡ false) × (lists us k.upper ≡ true)) (λ k ks a. ((a.0, a.1), a.2)) ks i l (after_closing.level d above s p w.opens (split.bare d above s p t w) w.no_stray)
+    level = each_at (AreLevel us) _ (level_each us) ks i l (after_closing.level d above s p w.opens (split.bare d above s p t w) w.no_stray)
 
     apart : FacesApart X.model p k
-    apart = all_at (AllFaceApart X.model p) (FacesApart X.model p) (λ k ks a. a) ks i l all_apart
+    apart = each_at (AllFaceApart X.model p) _ (apart_each X.model p) ks i l all_apart
 
     -- what was there before the holes were closed, and is none of a hole's caps
     cap_row : k.hole ≡ false → (f : ℕ) → 1 ≤ count f (k.lower ∷ k.upper ∷ []) → table.get K.faces f ≡ table.get X.model.faces f
@@ -283,7 +277,7 @@ module _ (d : Drawing) (above : List ℕ) (s : ℕ) (p : Plane) (t : ℕ) (w : C
           no_hole e,
           low ∙ lower_now e ∙ (λ j. moved (sum_of (hole_areas j)) (told_at (λ k. normal X.model k.lower) (area_below d.model) ks cycles i l areas j)),
           up ∙ upper_now e ∙ both_opposite (sum_of (lowers X.model holes)) (normal X.model k.lower) (sum_of (uppers X.model holes)) (normal X.model k.upper)
-              (opposite_sums X.model p holes (holes_apart X.model p ks all_apart)) apart.opposite ∙ ap negated (sym (lower_now e) ∙ sym low),
+              (opposite_sums X.model p holes (holes_each (AllFaceApart X.model p) _ (apart_each X.model p) ks all_apart)) apart.opposite ∙ ap negated (sym (lower_now e) ∙ sym low),
         )
 
     -- without holes

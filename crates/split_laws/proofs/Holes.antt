@@ -1,6 +1,7 @@
 -- A cap that becomes a ring of another: the operator is accepted, and what stays.
 use Rattle.std.specs.Prelude.{fold, filter}
-use Rattle.std.proofs.Common.{◌≡◌, ◌≢◌, ℕ, true, List, [], ◌∷◌, is_some, refl, sym, ap, ◌∙◌, subst, arith, ◌⊎◌, inl, inr, true≢false, ◌≤◌, ◌<◌, suc, Bool, false, cond, length, None}
+use Rattle.std.specs.List.{list_any}
+use Rattle.std.proofs.Common.{◌≡◌, ◌≢◌, ℕ, true, List, [], ◌∷◌, is_some, refl, sym, ap, ◌∙◌, subst, arith, ◌⊎◌, inl, inr, true≢false, ◌≤◌, ◌<◌, suc, Bool, false, cond, length, None, not, ◌||◌, get_or, zero, ◌++◌}
 use Rattle.std.proofs.lemmas.Bool.Decides.{nat_tests, eqb_tells}
 use Rattle.euler_operators.specs.Items.{tick, count, IsIn, IsApart}
 use Rattle.euler_operators.specs.HalfEdge.{mate}
@@ -17,7 +18,7 @@ use Rattle.euler_operators.proofs.Models.{mate_there}
 use Rattle.euler_laws.proofs.shared.Loops.{IsLoop, loop_sound}
 use Rattle.euler_laws.proofs.shared.Rings.{SameRings, half_back, loop-rings}
 use Rattle.euler_laws.proofs.faces.Kfmrh.{KillGoes, sound-kfmrh, kill_same, kill_face_l, kill_face_else, l_face, g_gone, kill_solid, kill_outer, kfmrh_accepted}
-use Rattle.shapes.specs.split.Opening.{Caps, outer_caps, hole_closed}
+use Rattle.shapes.specs.split.Opening.{Caps, outer_caps, hole_closed, no_caps}
 use Rattle.split_drawing_laws.proofs.drawings.Runs.{Leads, leads_one, leads_none, leads_on}
 use Rattle.split_opening_laws.specs.sections.Capped.{IsPlain, ArePlain, cap_faces}
 use Rattle.split_laws.specs.SplitOps.{closing_ops}
@@ -241,40 +242,52 @@ all_close N s us o (k ∷ ks) w =
 
 -- ---- the outer cycle's caps and those of the holes, among all
 
-module _ (us : List ℕ) where
-  holes_level : (ks : List Caps) → AreLevel us ks → AreLevel us (filter (λ k. k.hole) ks)
-  holes_level [] w = tt
-  holes_level (k ∷ ks) w = go k.hole (holes_level ks w.2) where
-    go : (b : Bool) → AreLevel us (filter (λ k. k.hole) ks) → AreLevel us (cond b (k ∷ filter (λ k. k.hole) ks) (filter (λ k. k.hole) ks))
-    go true r = (w.0, w.1, r)
+-- where not all caps are those of holes, some are not
+pub some_other : (ks : List Caps) → length (filter (λ k. k.hole) ks) < length ks → list_any (λ k. not k.hole) ks ≡ true
+some_other [] l = absurd (omega (arith, l))
+some_other (k ∷ ks) l = go k.hole (some_other ks) l where
+  go : (b : Bool) → (length (filter (λ k. k.hole) ks) < length ks → list_any (λ k. not k.hole) ks ≡ true) → length (cond b (k ∷ filter (λ k. k.hole) ks) (filter (λ k. k.hole) ks)) < suc (length ks) → not b || list_any (λ k. not k.hole) ks ≡ true
+  go true later l = later (omega (arith, l))
+  go false later l = refl
+
+-- what is said of some caps says one thing of each
+pub record IsOfEach (All : List Caps → Type 0) (One : Caps → Type 0) : Type 0 where
+  pub one : (k : Caps) (ks : List Caps) → All (k ∷ ks) → One k
+  pub others : (k : Caps) (ks : List Caps) → All (k ∷ ks) → All ks
+  pub both : (k : Caps) (ks : List Caps) → One k → All ks → All (k ∷ ks)
+
+module _ (All : List Caps → Type 0) (One : Caps → Type 0) (each : IsOfEach All One) where
+  pub holes_each : (ks : List Caps) → All ks → All (filter (λ k. k.hole) ks)
+  holes_each [] a = a
+  holes_each (k ∷ ks) a = go k.hole (holes_each ks (each.others k ks a)) where
+    go : (b : Bool) → All (filter (λ k. k.hole) ks) → All (cond b (k ∷ filter (λ k. k.hole) ks) (filter (λ k. k.hole) ks))
+    go true r = each.both k (filter (λ k. k.hole) ks) (each.one k ks a) r
     go false r = r
 
-  outer_level : (ks : List Caps) → AreLevel us ks → length (filter (λ k. k.hole) ks) < length ks → (lists us (outer_caps ks).lower ≡ false) × (lists us (outer_caps ks).upper ≡ true)
-  outer_level [] w l = absurd (omega (arith, l))
-  outer_level (k ∷ ks) w l = go k.hole (outer_level ks w.2) l where
-    go : (b : Bool) → (length (filter (λ k. k.hole) ks) < length ks → (lists us (outer_caps ks).lower ≡ false) × (lists us (outer_caps ks).upper ≡ true)) →
-        length (cond b (k ∷ filter (λ k. k.hole) ks) (filter (λ k. k.hole) ks)) < suc (length ks) → (lists us (cond b (outer_caps ks) k).lower ≡ false) × (lists us (cond b (outer_caps ks) k).upper ≡ true)
-    go true r l = r (omega (arith, l))
-    go false r l = (w.0, w.1)
+  pub outer_each : (ks : List Caps) → All ks → list_any (λ k. not k.hole) ks ≡ true → One (outer_caps ks)
+  outer_each [] a e = absurd (true≢false (sym e))
+  outer_each (k ∷ ks) a e = go k.hole (outer_each ks (each.others k ks a)) e where
+    go : (b : Bool) → (list_any (λ k. not k.hole) ks ≡ true → One (outer_caps ks)) → not b || list_any (λ k. not k.hole) ks ≡ true → One (cond b (outer_caps ks) k)
+    go true r e = r e
+    go false r e = each.one k ks a
 
-module _ (N : Model) (s : ℕ) where
-  pub holes_plain : (ks : List Caps) → ArePlain N s ks → ArePlain N s (filter (λ k. k.hole) ks)
-  holes_plain [] w = tt
-  holes_plain (k ∷ ks) w = go k.hole (holes_plain ks w.2) where
-    go : (b : Bool) → ArePlain N s (filter (λ k. k.hole) ks) → ArePlain N s (cond b (k ∷ filter (λ k. k.hole) ks) (filter (λ k. k.hole) ks))
-    go true r = (w.0, w.1, r)
-    go false r = r
+  pub each_at : (ks : List Caps) (i : ℕ) → i < length ks → All ks → One (get_or ks i no_caps)
+  each_at [] i l a = absurd (omega (arith, l))
+  each_at (k ∷ ks) zero l a = each.one k ks a
+  each_at (k ∷ ks) (suc i) l a = each_at ks i (omega (arith, l)) (each.others k ks a)
 
-  plain_of : (f : ℕ) → IsPlain N s f → IsOf N s f
-  plain_of f w = record { there = w.there; of_solid = w.of_solid }
+  pub each_last : (ks : List Caps) (k : Caps) → All ks → All (k ∷ []) → All (ks ++ k ∷ [])
+  each_last [] k a o = o
+  each_last (j ∷ ks) k a o = each.both j (ks ++ k ∷ []) (each.one j ks a) (each_last ks k (each.others j ks a) o)
 
-  outer_of : (ks : List Caps) → ArePlain N s ks → length (filter (λ k. k.hole) ks) < length ks → IsOf N s (outer_caps ks).lower × IsOf N s (outer_caps ks).upper
-  outer_of [] w l = absurd (omega (arith, l))
-  outer_of (k ∷ ks) w l = go k.hole (outer_of ks w.2) l where
-    go : (b : Bool) → (length (filter (λ k. k.hole) ks) < length ks → IsOf N s (outer_caps ks).lower × IsOf N s (outer_caps ks).upper) →
-        length (cond b (k ∷ filter (λ k. k.hole) ks) (filter (λ k. k.hole) ks)) < suc (length ks) → IsOf N s (cond b (outer_caps ks) k).lower × IsOf N s (cond b (outer_caps ks) k).upper
-    go true r l = r (omega (arith, l))
-    go false r l = (plain_of k.lower w.0, plain_of k.upper w.1)
+pub level_each : (us : List ℕ) → IsOfEach (AreLevel us) (λ k. (lists us k.lower ≡ false) × (lists us k.upper ≡ true))
+level_each us = record { one = λ k ks a. (a.0, a.1); others = λ k ks a. a.2; both = λ k ks o a. (o.0, o.1, a) }
+
+pub plain_each : (N : Model) (s : ℕ) → IsOfEach (ArePlain N s) (λ k. IsPlain N s k.lower × IsPlain N s k.upper)
+plain_each N s = record { one = λ k ks a. (a.0, a.1); others = λ k ks a. a.2; both = λ k ks o a. (o.0, o.1, a) }
+
+plain_of : (N : Model) (s f : ℕ) → IsPlain N s f → IsOf N s f
+plain_of N s f w = record { there = w.there; of_solid = w.of_solid }
 
 pub holes_counted : (x : ℕ) (ks : List Caps) → count x (cap_faces (filter (λ k. k.hole) ks)) ≤ count x (cap_faces ks)
 holes_counted x [] = omega arith
@@ -283,26 +296,26 @@ holes_counted x (k ∷ ks) = go k.hole (holes_counted x ks) where
   go true r = omega (arith, r)
   go false r = omega (arith, r)
 
-outer_counted : (x : ℕ) (ks : List Caps) → length (filter (λ k. k.hole) ks) < length ks → count x (cap_faces (outer_caps ks ∷ filter (λ k. k.hole) ks)) ≤ count x (cap_faces ks)
-outer_counted x [] l = absurd (omega (arith, l))
-outer_counted x (k ∷ ks) l = go k.hole (outer_counted x ks) l where
-  go : (b : Bool) → (length (filter (λ k. k.hole) ks) < length ks → count x (cap_faces (outer_caps ks ∷ filter (λ k. k.hole) ks)) ≤ count x (cap_faces ks)) →
-      length (cond b (k ∷ filter (λ k. k.hole) ks) (filter (λ k. k.hole) ks)) < suc (length ks) →
+pub outer_counted : (x : ℕ) (ks : List Caps) → list_any (λ k. not k.hole) ks ≡ true → count x (cap_faces (outer_caps ks ∷ filter (λ k. k.hole) ks)) ≤ count x (cap_faces ks)
+outer_counted x [] e = absurd (true≢false (sym e))
+outer_counted x (k ∷ ks) e = go k.hole (outer_counted x ks) e where
+  go : (b : Bool) → (list_any (λ k. not k.hole) ks ≡ true → count x (cap_faces (outer_caps ks ∷ filter (λ k. k.hole) ks)) ≤ count x (cap_faces ks)) → not b || list_any (λ k. not k.hole) ks ≡ true →
       count x (cap_faces (cond b (outer_caps ks) k ∷ cond b (k ∷ filter (λ k. k.hole) ks) (filter (λ k. k.hole) ks))) ≤ count x (cap_faces (k ∷ ks))
-  go true r l = let e : length (filter (λ k. k.hole) ks) < length ks = omega (arith, l) in omega (arith, r e)
-  go false r l = omega (arith, holes_counted x ks)
+  go true r e = omega (arith, r e)
+  go false r e = omega (arith, holes_counted x ks)
 
 -- where some caps are no hole's, those of the holes can become rings
 pub can_close : (N : Model) (s : ℕ) (us : List ℕ) (ks : List Caps) → CanPart N s us → ArePlain N s ks → IsApart (cap_faces ks) → AreLevel us ks → length (filter (λ k. k.hole) ks) < length ks →
     CanClose N s us (outer_caps ks) (filter (λ k. k.hole) ks)
 can_close N s us ks part plain apart level l =
-    let o = outer_of N s ks plain l in
-    let v = outer_level us ks level l in
+    let some = some_other ks l in
+    let o = outer_each (ArePlain N s) _ (plain_each N s) ks plain some in
+    let v = outer_each (AreLevel us) _ (level_each us) ks level some in
     record {
       part = part;
-      lower = o.0;
-      upper = o.1;
-      plain = holes_plain N s ks plain;
-      apart = λ x. omega (arith, apart x, outer_counted x ks l);
-      level = (v.0, v.1, holes_level us ks level);
+      lower = plain_of N s (outer_caps ks).lower o.0;
+      upper = plain_of N s (outer_caps ks).upper o.1;
+      plain = holes_each (ArePlain N s) _ (plain_each N s) ks plain;
+      apart = λ x. omega (arith, apart x, outer_counted x ks some);
+      level = (v.0, v.1, holes_each (AreLevel us) _ (level_each us) ks level);
     }

@@ -1,5 +1,5 @@
 -- The two caps that close a solid once it is opened along a cycle on a plane: they lie along the plane, and have opposite normals.
-use Rattle.std.proofs.Common.{◌≡◌, ℕ, zero, suc, ◌+◌, ◌≤◌, ◌<◌, true, not, List, [], ◌∷◌, length, Option, Some, None, is_some, unwrap_or, refl, sym, ap, ◌∙◌, arith, true≢false, ◌⊎◌, inl, inr}
+use Rattle.std.proofs.Common.{◌≡◌, ℕ, zero, suc, ◌+◌, ◌≤◌, ◌<◌, true, not, List, [], ◌∷◌, length, Option, Some, None, is_some, unwrap_or, refl, sym, ap, ◌∙◌, arith, true≢false, ◌⊎◌, inl, inr, ◌++◌}
 use Rattle.std.specs.Prelude.{map, reverse, get_or}
 use Rattle.std.specs.List.{list_all}
 use Rattle.std.specs.Option.{option_map}
@@ -16,12 +16,12 @@ use Rattle.euler_operators.proofs.Rotations.{count-canonical, IsIn_head}
 use Rattle.euler_operators.specs.HalfEdge.{mate, plus, minus}
 use Rattle.euler_operators.specs.Table as table
 use Rattle.euler_operators.specs.Table.{get-map_rows}
-use Rattle.euler_operators.specs.Model.{Model, LoopRow, cycle, no_face, tail, content, face_of, outer, point_of, rings_of}
+use Rattle.euler_operators.specs.Model.{Model, LoopRow, cycle, no_face, tail, content, face_of, outer, point_of, rings_of, LoopContent, lone, items_of}
 use Rattle.euler_operators.specs.Sound.{Has}
 use Rattle.euler_operators.proofs.Models.{content_row, face_row, mate_there}
 use Rattle.euler_operators.proofs.Tables.{all_where_none, in_use_within, get-put_here, get-put_other}
 use Rattle.shapes.proofs.fresh.Rows.{get-put_cases}
-use Rattle.shapes.specs.Faces.{start, finish}
+use Rattle.shapes.specs.Faces.{start, finish, items_in}
 use Rattle.shapes.specs.Fresh.{Taken, numbers_after}
 use Rattle.shapes.specs.Prism.{next_place}
 use Rattle.shapes.specs.Rewriting.{rewritten_row, renamed}
@@ -98,6 +98,31 @@ back_area M N k (h ∷ hs) e = let q = e 0 (omega arith) in λ i. moved (cross (
 pub area_kept : (M N : Model) (hs : List ℕ) → ((h : ℕ) → IsIn h hs → (start N h ≡ start M h) × (finish N h ≡ finish M h)) → area N hs ≡ area M hs
 area_kept M N [] e = refl
 area_kept M N (h ∷ hs) e = let q = e h (IsIn_head h hs) in λ i. moved (cross (q.0 i) (q.1 i)) (area_kept M N hs (λ x j. e x (IsIn_rest x h hs j)) i)
+
+-- ---- two models with the same loops, tails and points
+
+pub record SamePlaces (M N : Model) : Type 0 where
+  pub contents : (l : ℕ) → content N l ≡ content M l
+  pub tails : (h : ℕ) → tail N h ≡ tail M h
+  pub points : (v : ℕ) → point_of N v ≡ point_of M v
+
+module _ (M N : Model) (same : SamePlaces M N) where
+  pub same_start : (h : ℕ) → start N h ≡ start M h
+  same_start h = same.points (tail N h) ∙ ap (point_of M) (same.tails h)
+
+  items_same : (ls : List ℕ) → items_in N ls ≡ items_in M ls
+  items_same [] = refl
+  items_same (l ∷ ls) = λ i. items_of (same.contents l i) ++ items_same ls i
+
+  pub same_area : (ls : List ℕ) → area N (items_in N ls) ≡ area M (items_in M ls)
+  same_area ls = ap (area N) (items_same ls) ∙ area_kept M N (items_in M ls) (λ h i. (same_start h, same_start (mate h)))
+
+  first_same : (c : LoopContent) → point_of N (first_vertex N c) ≡ point_of M (first_vertex M c)
+  first_same (lone v) = same.points v
+  first_same (cycle hs) = same_start (head_or 0 hs)
+
+  pub same_anchor : (k : ℕ) → outer N k ≡ outer M k → anchor N k ≡ anchor M k
+  same_anchor k e = ap (λ c. point_of N (first_vertex N c)) (same.contents (outer N k) ∙ ap (content M) e) ∙ first_same (content M (outer M k))
 
 -- ---- vectors and planes
 

@@ -1,7 +1,7 @@
 -- The six volumes of a solid that is opened along a cycle on a plane, and those of the other solids.
 use Rattle.std.specs.Prelude.{map}
 use Rattle.std.specs.List.{list_all}
-use Rattle.std.proofs.Common.{◌≡◌, ◌≢◌, ℕ, ◌+◌, ℤ, pos, ◌+ℤ◌, neg_ℤ, Bool, true, not, nat_eq, List, [], ◌∷◌, length, None, is_some, refl, sym, ap, subst, ◌∙◌, arith, inl, inr, false, ◌&&◌, ◌++◌, true≢false, ◌⊎◌}
+use Rattle.std.proofs.Common.{◌≡◌, ◌≢◌, ℕ, ◌+◌, ℤ, pos, ◌+ℤ◌, neg_ℤ, Bool, true, not, nat_eq, List, [], ◌∷◌, length, None, is_some, refl, sym, ap, subst, ◌∙◌, arith, inl, inr, false, ◌&&◌, true≢false, ◌⊎◌}
 use Rattle.std.proofs.lemmas.Bool.Decides.{eqb_tells}
 use Rattle.std.proofs.lemmas.Bool.{and_parts, ne_eqb, eq-eqb, eqb-true}
 use Rattle.std.proofs.lemmas.Int.{ints}
@@ -44,6 +44,7 @@ use Rattle.split_laws.proofs.opened.Starts.{swap, point_old, swapped, start_old}
 use Rattle.split_laws.proofs.opened.Kept as kept
 use Rattle.split_laws.proofs.opened.Kept.{Rewritten}
 use Rattle.split_laws.proofs.opened.Caps.{lower_row, loop_kinds, lower_normal, upper_normal, cycle_across, lower_along, upper_along, anchor_along}
+use Rattle.split_laws.proofs.Holes.{IsOfEach, each_last}
 
 module _ (M : Model) (above : List ℕ) (s : ℕ) (c : Taken) (bs : List ℕ) (w : CanBeOpened M above s c bs) where
   abbrev N : Model
@@ -242,9 +243,8 @@ module _ (M : Model) (above : List ℕ) (s : ℕ) (c : Taken) (bs : List ℕ) (p
   all_along_still [] plain a = tt
   all_along_still (k ∷ ks) plain a = (along_still k.lower plain.0.there a.0, along_still k.upper plain.1.there a.1, all_along_still ks plain.2 a.2)
 
-along_more : (M : Model) (p : Plane) (ks : List Caps) (k : Caps) → AllLieAlong M p ks → LiesAlong M p k.lower → LiesAlong M p k.upper → AllLieAlong M p (ks ++ k ∷ [])
-along_more M p [] k a l u = (l, u, tt)
-along_more M p (j ∷ ks) k a l u = (a.0, a.1, along_more M p ks k a.2 l u)
+pub along_each : (M : Model) (p : Plane) → IsOfEach (AllLieAlong M p) (λ k. LiesAlong M p k.lower × LiesAlong M p k.upper)
+along_each M p = record { one = λ k ks a. (a.0, a.1); others = λ k ks a. a.2; both = λ k ks o a. (o.0, o.1, a) }
 
 -- ---- along cycles that start on the plane
 
@@ -279,6 +279,6 @@ openings_lie above s p o cs w caps a on = (capped_carry above s p (λ x ds. LieO
     let can = can_open above s x bs ds w in
     let flat = first_on M p bs ds a.0 in (
       next_on above s p x bs ds w a.0,
-      along_more (opened_along M above s x.taken bs) p x.caps (new_caps p x bs)
-          (all_along_still M above s x.taken bs p can flat (some_way p on.some_way) x.caps caps.plain a.1) (lower_along M above s x.taken bs can p flat) (upper_along M above s x.taken bs can p flat),
+      each_last (AllLieAlong (opened_along M above s x.taken bs) p) _ (along_each (opened_along M above s x.taken bs) p) x.caps (new_caps p x bs)
+          (all_along_still M above s x.taken bs p can flat (some_way p on.some_way) x.caps caps.plain a.1) (lower_along M above s x.taken bs can p flat, upper_along M above s x.taken bs can p flat, tt),
     )) o cs w caps (on, a)).1

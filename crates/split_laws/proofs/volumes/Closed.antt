@@ -1,7 +1,6 @@
 -- The holes of a section closed, one cap after the other.
-use Rattle.std.proofs.Common.{◌≡◌, ◌≢◌, ℕ, ◌≤◌, Bool, true, false, cond, not, nat_eq, ◌&&◌, ◌||◌, is_some, List, [], ◌∷◌, refl, sym, ap, subst, ◌∙◌, arith, true≢false, inl, inr}
+use Rattle.std.proofs.Common.{◌≡◌, ◌≢◌, ℕ, ◌≤◌, false, not, nat_eq, ◌&&◌, is_some, List, [], ◌∷◌, refl, sym, ap, subst, ◌∙◌, arith, inl, inr}
 use Rattle.std.specs.Prelude.{fold, filter}
-use Rattle.std.specs.List.{list_any}
 use Rattle.std.proofs.lemmas.Bool.Decides.{nat_tests}
 use Rattle.euler_operators.specs.declared.Plane.{Plane}
 use Rattle.euler_operators.specs.Vectors.{origin, direction}
@@ -19,7 +18,8 @@ use Rattle.split_laws.specs.opened.Told.{LiesAlong, OutersAreOwn, AllLieAlong}
 use Rattle.split_laws.specs.volumes.Closing.{CanClose}
 use Rattle.split_laws.proofs.volumes.Taken as taken
 use Rattle.split_laws.proofs.volumes.Taken.{CanTake}
-use Rattle.split_laws.proofs.Holes.{holes_counted, holes_plain}
+use Rattle.split_laws.proofs.Holes.{holes_each, outer_each, outer_counted, plain_each}
+use Rattle.split_laws.proofs.opened.InTurn.{along_each}
 
 -- a cap of solid s along the plane
 pub record IsCap (M : Model) (p : Plane) (s f : ℕ) : Type 0 where
@@ -151,39 +151,6 @@ all_clear o (k ∷ ks) d =
       ),
     )
 
--- ---- which caps are the outer ones
-
-module _ (M : Model) (s : ℕ) (p : Plane) where
-  abbrev AreCaps : Caps → Type 0
-  AreCaps o = IsCap M p s o.lower × IsCap M p s o.upper
-
-  outer_among : (ks : List Caps) → list_any (λ k. not k.hole) ks ≡ true → ArePlain M s ks → AllLieAlong M p ks → AreCaps (outer_caps ks)
-  outer_among [] e w a = absurd (true≢false (sym e))
-  outer_among (k ∷ ks) e w a = go k.hole refl (λ f. outer_among ks f w.2 a.2) where
-    go : (b : Bool) → k.hole ≡ b → (list_any (λ k. not k.hole) ks ≡ true → AreCaps (outer_caps ks)) → AreCaps (outer_caps (k ∷ ks))
-    go true q later = subst AreCaps (sym (ap (λ b. cond b (outer_caps ks) k) q)) (later (sym (ap (λ b. not b || list_any (λ k. not k.hole) ks) q) ∙ e))
-    go false q later = subst AreCaps (sym (ap (λ b. cond b (outer_caps ks) k) q)) (cap_of M p s k.lower w.0 a.0, cap_of M p s k.upper w.1 a.1)
-
-  holes_along : (ks : List Caps) → AllLieAlong M p ks → AllLieAlong M p (filter (λ k. k.hole) ks)
-  holes_along [] w = tt
-  holes_along (k ∷ ks) w = go k.hole (holes_along ks w.2) where
-    go : (b : Bool) → AllLieAlong M p (filter (λ k. k.hole) ks) → AllLieAlong M p (cond b (k ∷ filter (λ k. k.hole) ks) (filter (λ k. k.hole) ks))
-    go true later = (w.0, w.1, later)
-    go false later = later
-
--- and so are the outer ones besides
-abbrev told : ℕ → Caps → List Caps → Bool → ℕ
-told x k ks b = count x ((cond b (outer_caps ks) k).lower ∷ (cond b (outer_caps ks) k).upper ∷ cap_faces (cond b (k ∷ filter (λ k. k.hole) ks) (filter (λ k. k.hole) ks)))
-
-all_less : (x : ℕ) (ks : List Caps) → list_any (λ k. not k.hole) ks ≡ true →
-    count x ((outer_caps ks).lower ∷ (outer_caps ks).upper ∷ cap_faces (filter (λ k. k.hole) ks)) ≤ count x (cap_faces ks)
-all_less x [] e = absurd (true≢false (sym e))
-all_less x (k ∷ ks) e = go k.hole refl (λ f. all_less x ks f) where
-  go : (b : Bool) → k.hole ≡ b → (list_any (λ k. not k.hole) ks ≡ true → count x ((outer_caps ks).lower ∷ (outer_caps ks).upper ∷ cap_faces (filter (λ k. k.hole) ks)) ≤ count x (cap_faces ks)) →
-      told x k ks k.hole ≤ count x (cap_faces (k ∷ ks))
-  go true q later = omega (arith, ap (told x k ks) q, later (sym (ap (λ b. not b || list_any (λ k. not k.hole) ks) q) ∙ e))
-  go false q later = omega (arith, ap (told x k ks) q, holes_counted x ks)
-
 pub closing_leads : (M : Model) (s : ℕ) (p : Plane) (ks : List Caps) (holds : List (ℕ × ℕ) → Model → Type 0) →
     ((A : Model) (q : ℕ × ℕ) (rs : List (ℕ × ℕ)) → CanTake A p q.0 q.1 → ClearOf q.0 q.1 rs → holds (q ∷ rs) A → holds rs (kfmrh A q.0 q.1)) →
     CanClose M s p ks → holds (closing (outer_caps ks) (filter (λ k. k.hole) ks)) M → holds [] (holes_closed M ks)
@@ -192,10 +159,12 @@ closing_leads M s p ks holds step w now = elim w.closable [
   | inl some ↦
       let o : Caps = outer_caps ks in
       let hs : List Caps = filter (λ k. k.hole) ks in
-      let c = outer_among M s p ks some w.plain w.along in
+      let c = outer_each (ArePlain M s) _ (plain_each M s) ks w.plain some in
+      let a = outer_each (AllLieAlong M p) _ (along_each M p) ks w.along some in
       subst (holds []) (sym (closed_by M o hs))
-      (all_carry M p s (closing o hs) holds step w.outers w.some_way (taken_all M p s o hs c.0 c.1 (holes_plain M s ks w.plain) (holes_along M s p ks w.along))
-      (all_clear o hs (λ x. omega (arith, all_less x ks some, w.apart x))) now)
+      (all_carry M p s (closing o hs) holds step w.outers w.some_way (taken_all M p s o hs (cap_of M p s o.lower c.0 a.0) (cap_of M p s o.upper c.1 a.1)
+      (holes_each (ArePlain M s) _ (plain_each M s) ks w.plain) (holes_each (AllLieAlong M p) _ (along_each M p) ks w.along))
+      (all_clear o hs (λ x. omega (arith, outer_counted x ks some, w.apart x))) now)
 ]
 
 pub closing_carries : (M : Model) (s : ℕ) (p : Plane) (ks : List Caps) (holds : Model → Type 0) → ((A : Model) (f g : ℕ) → CanTake A p f g → holds A → holds (kfmrh A f g)) →

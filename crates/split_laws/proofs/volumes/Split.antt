@@ -2,15 +2,14 @@
 use Rattle.std.specs.Option.{option_map}
 use Rattle.std.specs.Prelude.{map, filter}
 use Rattle.std.specs.List.{list_any}
-use Rattle.std.proofs.Common.{◌≡◌, ◌≢◌, ℕ, ◌+◌, ◌+ℤ◌, Bool, true, false, cond, not, nat_eq, ◌&&◌, List, [], ◌∷◌, ◌++◌, Option, Some, None, is_some, unwrap_or, refl, sym, ap, ◌∙◌, arith, ◌<◌, suc, ◌||◌, length, subst, true≢false, ◌⊎◌, inl, inr, ◌≤◌}
+use Rattle.std.proofs.Common.{◌≡◌, ◌≢◌, ℕ, ◌+◌, ◌+ℤ◌, Bool, true, false, cond, not, nat_eq, ◌&&◌, List, [], ◌∷◌, ◌++◌, Option, Some, None, is_some, unwrap_or, refl, sym, ap, ◌∙◌, arith, ◌<◌, length, subst, true≢false, ◌⊎◌, inl, inr, ◌≤◌}
 use Rattle.std.proofs.lemmas.Bool.{ne_eqb, eq-eqb}
 use Rattle.std.proofs.lemmas.List.{append-nil}
 use Rattle.euler_operators.specs.Vectors.{dot}
-use Rattle.euler_operators.specs.Items.{SameItems, head_or, count}
-use Rattle.euler_operators.specs.HalfEdge.{mate}
+use Rattle.euler_operators.specs.Items.{SameItems, count}
 use Rattle.euler_operators.specs.Table as table
 use Rattle.euler_operators.specs.Table.{get-map_rows}
-use Rattle.euler_operators.specs.Model.{Model, LoopContent, lone, cycle, FaceRow, no_face, items_of, tail, content, outer, point_of, rings_of, faces_of, solid_of}
+use Rattle.euler_operators.specs.Model.{Model, FaceRow, no_face, tail, content, outer, point_of, rings_of, faces_of, solid_of}
 use Rattle.euler_operators.specs.Conditions.{lists, strictly_rises}
 use Rattle.euler_operators.specs.Effect.{part, faces_to_solid}
 use Rattle.euler_operators.specs.declared.Plane.{Plane}
@@ -20,7 +19,7 @@ use Rattle.euler_operators.proofs.Models.{solid_row}
 use Rattle.euler_operators.proofs.Tables.{get-put_here, get-put_other}
 use Rattle.euler_laws.proofs.shared.Rows.{solid_either}
 use Rattle.shapes.specs.Faces.{start, items_in, loops_of, boundary}
-use Rattle.shapes.specs.Measure.{area, normal, anchor, first_vertex, volume_in, six_volume}
+use Rattle.shapes.specs.Measure.{area, normal, volume_in, six_volume}
 use Rattle.shapes.specs.split.Drawing.{Drawing}
 use Rattle.shapes.specs.split.Section.{is_hole, below_halves, section_cycles, has_stray_hole}
 use Rattle.shapes.specs.split.Opening.{Caps, Opening, holes_closed}
@@ -31,11 +30,11 @@ use Rattle.split_opening_laws.specs.sections.Capped.{cap_faces, HasCaps}
 use Rattle.split_laws.specs.volumes.Laws.{CanBeParted, CanBeSplit}
 use Rattle.split_laws.specs.volumes.Closing.{CanClose}
 use Rattle.split_laws.specs.SplitOps.{hole_ops}
-use Rattle.split_laws.proofs.opened.Caps.{area_kept}
+use Rattle.split_laws.proofs.opened.Caps.{SamePlaces, same_start, same_area, same_anchor}
 use Rattle.split_laws.proofs.volumes.Closed.{closing_keeps}
 use Rattle.split_laws.proofs.opened.InTurn.{some_way, openings_keep, openings_lie}
 use Rattle.split_laws.proofs.Flags.{flags_are, one_outer, solids_still}
-use Rattle.split_laws.proofs.Holes.{AreClosed}
+use Rattle.split_laws.proofs.Holes.{AreClosed, some_other}
 use Rattle.split_laws.proofs.Whole as whole
 use Rattle.split_laws.proofs.Whole.{parted_alike}
 
@@ -69,20 +68,12 @@ module _ (M : Model) (s t : ℕ) (fs : List ℕ) where
   unfolding part content
   content_same l = refl
 
-  tail_same : (h : ℕ) → tail N h ≡ tail M h
-  unfolding part tail
-  tail_same h = refl
-
-  point_same : (v : ℕ) → point_of N v ≡ point_of M v
-  unfolding part point_of
-  point_same v = refl
+  places : SamePlaces M N
+  unfolding part tail point_of
+  places = record { contents = content_same; tails = λ h. refl; points = λ v. refl }
 
   pub start_same : (h : ℕ) → start N h ≡ start M h
-  start_same h = point_same (tail N h) ∙ ap (point_of M) (tail_same h)
-
-  items_same : (ls : List ℕ) → items_in N ls ≡ items_in M ls
-  items_same [] = refl
-  items_same (l ∷ ls) = λ i. items_of (content_same l i) ++ items_same ls i
+  start_same = same_start M N places
 
   -- ---- so each face adds what it did
 
@@ -108,17 +99,10 @@ module _ (M : Model) (s t : ℕ) (fs : List ℕ) where
 
   pub normal_same : (k : ℕ) → normal N k ≡ normal M k
   unfolding normal boundary
-  normal_same k = ap (λ ls. area N (items_in N ls)) (loops_same k) ∙ ap (area N) (items_same (loops_of M k)) ∙ area_kept M N (items_in M (loops_of M k)) (λ h i. (start_same h, start_same (mate h)))
-
-  first_same : (c : LoopContent) → point_of N (first_vertex N c) ≡ point_of M (first_vertex M c)
-  first_same (lone v) = point_same v
-  first_same (cycle hs) = start_same (head_or 0 hs)
-
-  anchor_same : (k : ℕ) → anchor N k ≡ anchor M k
-  anchor_same k = ap (λ c. point_of N (first_vertex N c)) (content_same (outer N k) ∙ ap (content M) (outer_same k)) ∙ first_same (content M (outer M k))
+  normal_same k = ap (λ ls. area N (items_in N ls)) (loops_same k) ∙ same_area M N places (loops_of M k)
 
   volume_kept : (k : ℕ) → volume_of N k ≡ volume_of M k
-  volume_kept k = λ i. dot (anchor_same k i) (normal_same k i)
+  volume_kept k = λ i. dot (same_anchor M N places k (outer_same k) i) (normal_same k i)
 
   -- ---- which faces go
 
@@ -164,15 +148,6 @@ pub part_keeps : (M : Model) (s t : ℕ) (fs : List ℕ) (u : ℕ) → CanBePart
 part_keeps M s t fs u w not_s not_t = keeps M s t fs w u not_s not_t
 
 -- ---- the six volumes of the two parts of a split solid
-
--- ---- which caps are those of holes
-
-some_other : (ks : List Caps) → length (filter (λ k. k.hole) ks) < length ks → list_any (λ k. not k.hole) ks ≡ true
-some_other [] l = absurd (omega (arith, l))
-some_other (k ∷ ks) l = go k.hole (some_other ks) l where
-  go : (b : Bool) → (length (filter (λ k. k.hole) ks) < length ks → list_any (λ k. not k.hole) ks ≡ true) → length (cond b (k ∷ filter (λ k. k.hole) ks) (filter (λ k. k.hole) ks)) < suc (length ks) → not b || list_any (λ k. not k.hole) ks ≡ true
-  go true later l = later (omega (arith, l))
-  go false later l = refl
 
 closable_of : (M : Model) (p : Plane) (cs : List (List ℕ)) (ks : List Caps) → map (λ k. k.hole) ks ≡ map (is_hole M p) cs → has_stray_hole M p cs ≡ false →
     (list_any (λ k. not k.hole) ks ≡ true) ⊎ (filter (λ k. k.hole) ks ≡ [])

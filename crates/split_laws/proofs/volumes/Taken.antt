@@ -6,18 +6,17 @@ use Rattle.std.proofs.lemmas.Bool.{ne_eqb, eq-eqb}
 use Rattle.euler_operators.specs.declared.Point.{Point}
 use Rattle.euler_operators.specs.declared.Plane.{Plane}
 use Rattle.euler_operators.specs.Vectors.{origin, moved, dot, cross, direction, is_on}
-use Rattle.euler_operators.specs.Items.{count, tick, IsIn, SameItems, before, after, head_or}
+use Rattle.euler_operators.specs.Items.{count, tick, IsIn, SameItems, before, after}
 use Rattle.euler_operators.proofs.Lists.{count-append, tick_same, tick_other, split_at}
-use Rattle.euler_operators.specs.HalfEdge.{mate}
 use Rattle.euler_operators.specs.Table as table
 use Rattle.euler_operators.specs.Table.{get-map_rows, get-remove}
-use Rattle.euler_operators.specs.Model.{Model, LoopContent, lone, cycle, FaceRow, LoopRow, no_face, no_loop, items_of, tail, content, face_of, outer, solid_of, point_of, rings_of, faces_of}
+use Rattle.euler_operators.specs.Model.{Model, FaceRow, LoopRow, no_face, no_loop, items_of, tail, content, face_of, outer, solid_of, point_of, rings_of, faces_of}
 use Rattle.euler_operators.specs.Sound.{Has}
 use Rattle.euler_operators.proofs.Models.{face_row}
 use Rattle.euler_operators.specs.Effect.{kfmrh, loop_to_face}
 use Rattle.euler_laws.proofs.shared.Rows.{no_items, face_there, loop_row, content_either}
 use Rattle.shapes.specs.Faces.{start, items_in, loops_of, boundary}
-use Rattle.shapes.specs.Measure.{area, normal, anchor, first_vertex, volume_in, six_volume}
+use Rattle.shapes.specs.Measure.{area, normal, anchor, volume_in, six_volume}
 use Rattle.shapes.proofs.Areas.{area-append}
 use Rattle.euler_operators.proofs.Vectors.{dot_turned, dot_moved, none_moved, add_exchanged, add_assoc}
 use Rattle.euler_operators.proofs.Members.{count_taken}
@@ -27,7 +26,7 @@ use Rattle.shapes.proofs.measures.Sums.{area_same}
 use Rattle.gluing_laws.proofs.Listed.{one_if, passed, count_where, same_search, volume_of, volume_same}
 use Rattle.gluing_laws.proofs.Adding.{only_loop}
 use Rattle.split_laws.specs.opened.Told.{LiesAlong, OutersAreOwn}
-use Rattle.split_laws.proofs.opened.Caps.{area_kept, anchor_along}
+use Rattle.split_laws.proofs.opened.Caps.{anchor_along, SamePlaces, same_start, same_area, same_anchor}
 use Rattle.shapes.proofs.walks.FaceLoops.{items_joined}
 
 -- ---- lists of loops, and of faces
@@ -123,23 +122,12 @@ module _ (M : Model) (p : Plane) (f g : ℕ) (w : CanTake M p f g) where
   pub face_taken : (l : ℕ) → Has M.loops l → l ≡ outer M g → face_of N l ≡ f
   face_taken l there e = face_row N l _ (row_is l ∙ ap (option_map (loop_to_face (outer M g) f l)) (loop_row M l there)) ∙ either_face (nat_eq l (outer M g)) (record { face = face_of M l; content = content M l }) ∙ ap (λ b. cond b f (face_of M l)) (eq-eqb l (outer M g) e)
 
-  tail_same : (h : ℕ) → tail N h ≡ tail M h
-  unfolding kfmrh tail
-  tail_same h = refl
-
-  point_same : (v : ℕ) → point_of N v ≡ point_of M v
-  unfolding kfmrh point_of
-  point_same v = refl
+  places : SamePlaces M N
+  unfolding kfmrh tail point_of
+  places = record { contents = content_same; tails = λ h. refl; points = λ v. refl }
 
   pub start_same : (h : ℕ) → start N h ≡ start M h
-  start_same h = point_same (tail N h) ∙ ap (point_of M) (tail_same h)
-
-  items_same : (ls : List ℕ) → items_in N ls ≡ items_in M ls
-  items_same [] = refl
-  items_same (l ∷ ls) = λ i. items_of (content_same l i) ++ items_same ls i
-
-  area_stays : (ls : List ℕ) → area N (items_in N ls) ≡ area M (items_in M ls)
-  area_stays ls = ap (area N) (items_same ls) ∙ area_kept M N (items_in M ls) (λ h i. (start_same h, start_same (mate h)))
+  start_same = same_start M N places
 
   pub outer_same : (k : ℕ) → k ≢ g → outer N k ≡ outer M k
   unfolding outer
@@ -148,13 +136,6 @@ module _ (M : Model) (p : Plane) (f g : ℕ) (w : CanTake M p f g) where
   pub solid_same : (k : ℕ) → k ≢ g → solid_of N k ≡ solid_of M k
   unfolding solid_of
   solid_same k ne = ap (λ o. (unwrap_or o no_face).solid) (face_stays k ne)
-
-  first_same : (c : LoopContent) → point_of N (first_vertex N c) ≡ point_of M (first_vertex M c)
-  first_same (lone v) = point_same v
-  first_same (cycle hs) = start_same (head_or 0 hs)
-
-  anchor_same : (k : ℕ) → k ≢ g → anchor N k ≡ anchor M k
-  anchor_same k ne = ap (λ c. point_of N (first_vertex N c)) (content_same (outer N k) ∙ ap (content M) (outer_same k ne)) ∙ first_same (content M (outer M k))
 
   -- ---- rings
 
@@ -207,14 +188,14 @@ module _ (M : Model) (p : Plane) (f g : ℕ) (w : CanTake M p f g) where
 
   pub normal_same : (k : ℕ) → k ≢ f → k ≢ g → normal N k ≡ normal M k
   unfolding normal boundary loops_of
-  normal_same k not_f not_g = (λ i. area N (items_in N (outer_same k not_g i ∷ rings_same k not_f not_g i))) ∙ area_stays (outer M k ∷ rings_of M k)
+  normal_same k not_f not_g = (λ i. area N (items_in N (outer_same k not_g i ∷ rings_same k not_f not_g i))) ∙ same_area M N places (outer M k ∷ rings_of M k)
 
   normal_g : normal M g ≡ area M (items_of (content M (outer M g)))
   normal_g = only_loop M g w.g_along.items w.alone w.g_along.outer_is ∙ sym (ap (λ c. area M (items_of c)) w.g_along.outer_is)
 
   pub normal_f : normal N f ≡ moved (normal M g) (normal M f)
   unfolding normal boundary loops_of
-  normal_f = (λ i. area N (items_in N (outer_same f w.apart i ∷ rings_of N f))) ∙ area_stays (outer M f ∷ rings_of N f)
+  normal_f = (λ i. area N (items_in N (outer_same f w.apart i ∷ rings_of N f))) ∙ same_area M N places (outer M f ∷ rings_of N f)
       ∙ area_same M (items_in M (outer M f ∷ rings_of N f)) (items_in M (outer M g ∷ outer M f ∷ rings_of M f))
       (same_loops M (outer M f ∷ rings_of N f) (outer M g ∷ outer M f ∷ rings_of M f) (λ x. omega (arith, rings_more x)))
       ∙ area-append M (items_of (content M (outer M g))) (items_in M (outer M f ∷ rings_of M f))
@@ -223,10 +204,10 @@ module _ (M : Model) (p : Plane) (f g : ℕ) (w : CanTake M p f g) where
   -- ---- volumes
 
   pub volume_other : (k : ℕ) → k ≢ f → k ≢ g → volume_of N k ≡ volume_of M k
-  volume_other k not_f not_g = λ i. dot (anchor_same k not_g i) (normal_same k not_f not_g i)
+  volume_other k not_f not_g = λ i. dot (same_anchor M N places k (outer_same k not_g) i) (normal_same k not_f not_g i)
 
   volume_f : volume_of N f ≡ volume_of M g +ℤ volume_of M f
-  volume_f = (λ i. dot (anchor_same f w.apart i) (normal_f i))
+  volume_f = (λ i. dot (same_anchor M N places f (outer_same f w.apart) i) (normal_f i))
       ∙ dot_turned (anchor M f) (moved (normal M g) (normal M f)) ∙ dot_moved (normal M g) (normal M f) (anchor M f)
       ∙ (λ i. dot_turned (normal M g) (anchor M f) i +ℤ dot_turned (normal M f) (anchor M f) i)
       ∙ ap (λ v. v +ℤ volume_of M f) (told_alike M p (normal M g) (anchor M f) (anchor M g) w.some_way w.g_along.across (anchor_along M p f w.f_along) (anchor_along M p g w.g_along))
