@@ -11,6 +11,7 @@ pub mod Undo
 pub mod Rings
 pub mod Faces
 pub mod Goes
+pub mod Lawful
 pub mod Listed
 pub mod RisingLists
 pub mod Counted

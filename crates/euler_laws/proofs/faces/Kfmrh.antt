@@ -19,6 +19,7 @@ use Rattle.euler_laws.proofs.shared.Undo.{same_loops, same_model}
 use Rattle.euler_laws.proofs.shared.Parts.{FaceSet, face_here, has_face, solid_other, outer_other, fit-put, fit-remove}
 use Rattle.euler_laws.proofs.shared.Faces.{SameWalks, sound-same, content-moved, loop-moved, face-moved, face-kept}
 use Rattle.euler_laws.proofs.shared.Rows.{face_there, no_rings_means, means_no_rings, never_outer, is_ring, test_ring}
+use Rattle.euler_laws.proofs.shared.Lawful.{IsLawful}
 
 pub record KillGoes (M : Model) (f g : ℕ) : Type 0 where
   pub f_there : Has M.faces f
@@ -327,26 +328,18 @@ mfkrh_accepted N l f sound goes = none_refuses (conditions N (Mfkrh l f)) (
     also tt
     )
 
-pub kfmrh_keeps_sound : (M : Model) (f g : ℕ) → Sound M → first_false M (Kfmrh f g) ≡ None → Sound (effect M (Kfmrh f g))
-unfolding effect
-kfmrh_keeps_sound M f g sound e = sound-kfmrh M sound f g (kfmrh_goes M f g e)
-
-pub kfmrh_is_undone : (M : Model) (f g : ℕ) → Sound M → first_false M (Kfmrh f g) ≡ None → effect (effect M (Kfmrh f g)) (inverse M (Kfmrh f g)) ≡ M
+pub kfmrh_lawful : (f g : ℕ) → IsLawful (Kfmrh f g)
 unfolding effect inverse
-kfmrh_is_undone M f g sound e = mfkrh-kfmrh M sound f g (kfmrh_goes M f g e)
+kfmrh_lawful f g M sound e = let w = kfmrh_goes M f g e in let s = sound-kfmrh M sound f g w in record {
+  sound = s;
+  goes = mfkrh_accepted (kfmrh M f g) (outer M g) g s (make_goes M sound f g w);
+  undone = mfkrh-kfmrh M sound f g w;
+}
 
-pub kfmrh_inverse_goes : (M : Model) (f g : ℕ) → Sound M → first_false M (Kfmrh f g) ≡ None → first_false (effect M (Kfmrh f g)) (inverse M (Kfmrh f g)) ≡ None
+pub mfkrh_lawful : (l f : ℕ) → IsLawful (Mfkrh l f)
 unfolding effect inverse
-kfmrh_inverse_goes M f g sound e = let w = kfmrh_goes M f g e in mfkrh_accepted (kfmrh M f g) (outer M g) g (sound-kfmrh M sound f g w) (make_goes M sound f g w)
-
-pub mfkrh_keeps_sound : (M : Model) (l f : ℕ) → Sound M → first_false M (Mfkrh l f) ≡ None → Sound (effect M (Mfkrh l f))
-unfolding effect
-mfkrh_keeps_sound M l f sound e = sound-mfkrh M sound l f (mfkrh_goes M l f e)
-
-pub mfkrh_is_undone : (M : Model) (l f : ℕ) → Sound M → first_false M (Mfkrh l f) ≡ None → effect (effect M (Mfkrh l f)) (inverse M (Mfkrh l f)) ≡ M
-unfolding effect inverse
-mfkrh_is_undone M l f sound e = kfmrh-mfkrh M sound l f (mfkrh_goes M l f e)
-
-pub mfkrh_inverse_goes : (M : Model) (l f : ℕ) → Sound M → first_false M (Mfkrh l f) ≡ None → first_false (effect M (Mfkrh l f)) (inverse M (Mfkrh l f)) ≡ None
-unfolding effect inverse
-mfkrh_inverse_goes M l f sound e = let w = mfkrh_goes M l f e in kfmrh_accepted (mfkrh M l f) (face_of M l) f (sound-mfkrh M sound l f w) (kill_goes M sound l f w)
+mfkrh_lawful l f M sound e = let w = mfkrh_goes M l f e in let s = sound-mfkrh M sound l f w in record {
+  sound = s;
+  goes = kfmrh_accepted (mfkrh M l f) (face_of M l) f s (kill_goes M sound l f w);
+  undone = kfmrh-mfkrh M sound l f w;
+}

@@ -18,6 +18,7 @@ use Rattle.euler_laws.proofs.shared.Same.{solid_at}
 use Rattle.euler_laws.proofs.shared.Undo.{same_loops, same_model}
 use Rattle.euler_laws.proofs.shared.Faces.{SameWalks, sound-same, content-moved, loop-moved, face-moved, face-kept}
 use Rattle.euler_laws.proofs.shared.Rows.{never_outer, is_ring, test_ring}
+use Rattle.euler_laws.proofs.shared.Lawful.{IsLawful}
 
 -- loop l is a ring, and face f is of its solid
 pub record RingGoes (M : Model) (l f : ℕ) : Type 0 where
@@ -145,15 +146,10 @@ unfolding first_false conditions
 ring_in_accepted N l f sound goes apart = none_refuses (conditions N (RingIn l f))
     (all_hold-append (ring_and_face N l f) (of_another N l f) (ring_holds N l f sound goes) (not_false _ (ne_eqb _ _ apart) also tt))
 
-pub ring_in_keeps_sound : (M : Model) (l f : ℕ) → Sound M → first_false M (RingIn l f) ≡ None → Sound (effect M (RingIn l f))
-unfolding effect
-ring_in_keeps_sound M l f sound e = sound-ring_in M sound l f (ring_in_goes M l f e).0
-
-pub ring_in_is_undone : (M : Model) (l f : ℕ) → Sound M → first_false M (RingIn l f) ≡ None → effect (effect M (RingIn l f)) (inverse M (RingIn l f)) ≡ M
+pub ring_in_lawful : (l f : ℕ) → IsLawful (RingIn l f)
 unfolding effect inverse
-ring_in_is_undone M l f sound e = ring_in-ring_in M sound l f (ring_in_goes M l f e).0
-
-pub ring_in_inverse_goes : (M : Model) (l f : ℕ) → Sound M → first_false M (RingIn l f) ≡ None → first_false (effect M (RingIn l f)) (inverse M (RingIn l f)) ≡ None
-unfolding effect inverse
-ring_in_inverse_goes M l f sound e = let w = ring_in_goes M l f e in
-    ring_in_accepted (ring_in M l f) l (face_of M l) (sound-ring_in M sound l f w.0) (back_goes M sound l f w.0) (λ s. w.1 (sym s ∙ face_l M sound l f w.0))
+ring_in_lawful l f M sound e = let w = ring_in_goes M l f e in let s = sound-ring_in M sound l f w.0 in record {
+  sound = s;
+  goes = ring_in_accepted (ring_in M l f) l (face_of M l) s (back_goes M sound l f w.0) (λ q. w.1 (sym q ∙ face_l M sound l f w.0));
+  undone = ring_in-ring_in M sound l f w.0;
+}

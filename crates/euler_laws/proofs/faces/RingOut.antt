@@ -16,6 +16,7 @@ use Rattle.euler_laws.proofs.shared.Undo.{same_loops}
 use Rattle.euler_laws.proofs.shared.Faces.{SameWalks, sound-same, content-moved, loop-moved, face-moved, face-kept}
 use Rattle.euler_laws.proofs.faces.RingIn.{ring_goes, ring_holds, RingGoes}
 use Rattle.euler_laws.proofs.shared.Rows.{never_outer}
+use Rattle.euler_laws.proofs.shared.Lawful.{IsLawful}
 
 face_alike : (a b : Option FaceRow) → is_some a ≡ is_some b → (is_some b ≡ true → (unwrap_or a no_face).solid ≡ (unwrap_or b no_face).solid) → (is_some b ≡ true → (unwrap_or a no_face).outer ≡ (unwrap_or b no_face).outer) → a ≡ b
 face_alike None None s f c = refl
@@ -263,26 +264,18 @@ pub outer_accepted : (N : Model) (l f : ℕ) → Sound N → RingGoes N l f → 
 unfolding first_false conditions
 outer_accepted N l f sound goes = none_refuses (conditions N (Outer l f)) (ring_holds N l f sound goes)
 
-pub ring_out_keeps_sound : (M : Model) (l f : ℕ) → Sound M → first_false M (RingOut l f) ≡ None → Sound (effect M (RingOut l f))
-unfolding effect
-ring_out_keeps_sound M l f sound e = sound-ring_out M sound l f (ring_out_goes M l f e)
-
-pub ring_out_is_undone : (M : Model) (l f : ℕ) → Sound M → first_false M (RingOut l f) ≡ None → effect (effect M (RingOut l f)) (inverse M (RingOut l f)) ≡ M
+pub ring_out_lawful : (l f : ℕ) → IsLawful (RingOut l f)
 unfolding effect inverse
-ring_out_is_undone M l f sound e = take_outer-ring_out M sound l f (ring_out_goes M l f e)
+ring_out_lawful l f M sound e = let w = ring_out_goes M l f e in let s = sound-ring_out M sound l f w in record {
+  sound = s;
+  goes = outer_accepted (ring_out M l f) (outer M f) (face_of M l) s (out_back_goes M sound l f w);
+  undone = take_outer-ring_out M sound l f w;
+}
 
-pub ring_out_inverse_goes : (M : Model) (l f : ℕ) → Sound M → first_false M (RingOut l f) ≡ None → first_false (effect M (RingOut l f)) (inverse M (RingOut l f)) ≡ None
+pub outer_lawful : (l f : ℕ) → IsLawful (Outer l f)
 unfolding effect inverse
-ring_out_inverse_goes M l f sound e = let w = ring_out_goes M l f e in outer_accepted (ring_out M l f) (outer M f) (face_of M l) (sound-ring_out M sound l f w) (out_back_goes M sound l f w)
-
-pub outer_keeps_sound : (M : Model) (l f : ℕ) → Sound M → first_false M (Outer l f) ≡ None → Sound (effect M (Outer l f))
-unfolding effect
-outer_keeps_sound M l f sound e = sound-take_outer M sound l f (outer_goes_so M l f e)
-
-pub outer_is_undone : (M : Model) (l f : ℕ) → Sound M → first_false M (Outer l f) ≡ None → effect (effect M (Outer l f)) (inverse M (Outer l f)) ≡ M
-unfolding effect inverse
-outer_is_undone M l f sound e = ring_out-take_outer M sound l f (outer_goes_so M l f e)
-
-pub outer_inverse_goes : (M : Model) (l f : ℕ) → Sound M → first_false M (Outer l f) ≡ None → first_false (effect M (Outer l f)) (inverse M (Outer l f)) ≡ None
-unfolding effect inverse
-outer_inverse_goes M l f sound e = let w = outer_goes_so M l f e in ring_out_accepted (take_outer M l f) (outer M (face_of M l)) (face_of M l) (sound-take_outer M sound l f w) (outer_back_goes M sound l f w)
+outer_lawful l f M sound e = let w = outer_goes_so M l f e in let s = sound-take_outer M sound l f w in record {
+  sound = s;
+  goes = ring_out_accepted (take_outer M l f) (outer M (face_of M l)) (face_of M l) s (outer_back_goes M sound l f w);
+  undone = ring_out-take_outer M sound l f w;
+}

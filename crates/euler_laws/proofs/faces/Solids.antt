@@ -16,6 +16,7 @@ use Rattle.euler_laws.proofs.shared.Rows.{face_there, point_row, lone_is, no_rin
 use Rattle.euler_laws.proofs.shared.Listed.{listed_passes, passes_listed, all_where-rises, one_listed}
 use Rattle.euler_laws.proofs.faces.OneSolid as more
 use Rattle.euler_laws.proofs.faces.OneSolid.{MvfsGoes, sound-mvfs, sound-back}
+use Rattle.euler_laws.proofs.shared.Lawful.{IsLawful}
 
 -- what the conditions of kvfs say
 pub record KvfsGoes (M : Model) (s f : ℕ) : Type 0 where
@@ -188,10 +189,6 @@ mvfs_goes M s f l v p e = named (all_hold (conditions M (Mvfs s f l v p)) e) whe
   }
 
 -- mvfs keeps a sound model sound
-pub mvfs_keeps_sound : (M : Model) (s f l v : ℕ) (p : Point) → Sound M → first_false M (Mvfs s f l v p) ≡ None → Sound (effect M (Mvfs s f l v p))
-unfolding effect
-mvfs_keeps_sound M s f l v p sound e = sound-mvfs M s f l v p (mvfs_goes M s f l v p e) sound
-
 pub mvfs_accepted : (N : Model) (s f l v : ℕ) (p : Point) → MvfsGoes N s f l v p → first_false N (Mvfs s f l v p) ≡ None
 unfolding first_false conditions
 mvfs_accepted N s f l v p goes = none_refuses (conditions N (Mvfs s f l v p)) (
@@ -207,24 +204,19 @@ mvfs_accepted N s f l v p goes = none_refuses (conditions N (Mvfs s f l v p)) (
     also tt
     )
 
-pub mvfs_is_undone : (M : Model) (s f l v : ℕ) (p : Point) → Sound M → first_false M (Mvfs s f l v p) ≡ None → effect (effect M (Mvfs s f l v p)) (inverse M (Mvfs s f l v p)) ≡ M
+pub mvfs_lawful : (s f l v : ℕ) (p : Point) → IsLawful (Mvfs s f l v p)
 unfolding effect inverse
-mvfs_is_undone M s f l v p sound e = let w = mvfs_goes M s f l v p e in
-    ap (λ ns. kvfs_at (mvfs M s f l v p) s (head_or_zero ns)) (faces_one (mvfs M s f l v p) s f (kill_goes M sound s f l v p w)) ∙ kvfs-mvfs M sound s f l v p w
+mvfs_lawful s f l v p M sound e =
+    let w = mvfs_goes M s f l v p e in
+    let N : Model = mvfs M s f l v p in
+    let good = sound-mvfs M s f l v p w sound in
+    let goes = kill_goes M sound s f l v p w in
+    record { sound = good; goes = kvfs_accepted N s f good goes; undone = ap (λ ns. kvfs_at N s (head_or_zero ns)) (faces_one N s f goes) ∙ kvfs-mvfs M sound s f l v p w }
 
-pub mvfs_inverse_goes : (M : Model) (s f l v : ℕ) (p : Point) → Sound M → first_false M (Mvfs s f l v p) ≡ None → first_false (effect M (Mvfs s f l v p)) (inverse M (Mvfs s f l v p)) ≡ None
+pub kvfs_lawful : (s : ℕ) → IsLawful (Kvfs s)
 unfolding effect inverse
-mvfs_inverse_goes M s f l v p sound e = let w = mvfs_goes M s f l v p e in
-    kvfs_accepted (mvfs M s f l v p) s f (sound-mvfs M s f l v p w sound) (kill_goes M sound s f l v p w)
-
-pub kvfs_keeps_sound : (M : Model) (s : ℕ) → Sound M → first_false M (Kvfs s) ≡ None → Sound (effect M (Kvfs s))
-unfolding effect
-kvfs_keeps_sound M s sound e = sound-kvfs M sound s (head_or_zero (faces_of M s)) (kvfs_goes M s e)
-
-pub kvfs_is_undone : (M : Model) (s : ℕ) → Sound M → first_false M (Kvfs s) ≡ None → effect (effect M (Kvfs s)) (inverse M (Kvfs s)) ≡ M
-unfolding effect inverse
-kvfs_is_undone M s sound e = mvfs-kvfs M sound s (head_or_zero (faces_of M s)) (kvfs_goes M s e)
-
-pub kvfs_inverse_goes : (M : Model) (s : ℕ) → Sound M → first_false M (Kvfs s) ≡ None → first_false (effect M (Kvfs s)) (inverse M (Kvfs s)) ≡ None
-unfolding effect inverse
-kvfs_inverse_goes M s sound e = mvfs_accepted (kvfs_at M s (head_or_zero (faces_of M s))) s _ _ _ _ (put_goes M sound s (head_or_zero (faces_of M s)) (kvfs_goes M s e))
+kvfs_lawful s M sound e = let f : ℕ = head_or_zero (faces_of M s) in let w = kvfs_goes M s e in record {
+  sound = sound-kvfs M sound s f w;
+  goes = mvfs_accepted (kvfs_at M s f) s _ _ _ _ (put_goes M sound s f w);
+  undone = mvfs-kvfs M sound s f w;
+}

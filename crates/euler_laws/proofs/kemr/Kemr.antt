@@ -27,6 +27,7 @@ use Rattle.euler_laws.proofs.kemr.KemrSound as parted
 use Rattle.euler_laws.proofs.kemr.KemrSound.{KemrGoes, sound-kemr}
 use Rattle.euler_laws.proofs.shared.Undo.{same_model}
 use Rattle.euler_laws.proofs.shared.Rows.{edge_there, half_of, of_half}
+use Rattle.euler_laws.proofs.shared.Lawful.{IsLawful}
 
 -- a corner of loop q at vertex v, from which the loop reads zs
 pub record CornerAt (N : Model) (c : Corner) (q v : ℕ) (zs : List ℕ) : Type 0 where
@@ -205,14 +206,10 @@ module _ (M : Model) (sound : Sound M) (h l : ℕ) (goes : KemrGoes M h l) where
 
 -- ---- kemr
 
-pub kemr_keeps_sound : (M : Model) (h : HalfEdge) (l : ℕ) → Sound M → first_false M (Kemr h l) ≡ None → Sound (effect M (Kemr h l))
-unfolding effect
-kemr_keeps_sound M h l sound e = sound-kemr M sound (code h) l (kemr_goes M h l e)
-
-pub kemr_is_undone : (M : Model) (h : HalfEdge) (l : ℕ) → Sound M → first_false M (Kemr h l) ≡ None → effect (effect M (Kemr h l)) (inverse M (Kemr h l)) ≡ M
+pub kemr_lawful : (h : HalfEdge) (l : ℕ) → IsLawful (Kemr h l)
 unfolding effect inverse
-kemr_is_undone M h l sound e = mekr-kemr_back M sound (code h) l (kemr_goes M h l e)
-
-pub kemr_inverse_goes : (M : Model) (h : HalfEdge) (l : ℕ) → Sound M → first_false M (Kemr h l) ≡ None → first_false (effect M (Kemr h l)) (inverse M (Kemr h l)) ≡ None
-unfolding effect inverse
-kemr_inverse_goes M h l sound e = mekr_accepted (kemr M (code h) l) _ _ h _ _ _ _ _ _ (put_goes M sound (code h) l (kemr_goes M h l e))
+kemr_lawful h l M sound e = let w = kemr_goes M h l e in record {
+  sound = sound-kemr M sound (code h) l w;
+  goes = mekr_accepted (kemr M (code h) l) _ _ h _ _ _ _ _ _ (put_goes M sound (code h) l w);
+  undone = mekr-kemr_back M sound (code h) l w;
+}

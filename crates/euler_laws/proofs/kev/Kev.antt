@@ -29,6 +29,7 @@ use Rattle.euler_laws.proofs.kev.KevBare as bare_end
 use Rattle.euler_laws.proofs.kev.KevBare.{mev_lone-kev}
 use Rattle.euler_laws.proofs.mev.Mev.{mev_goes, mev_accepted, lone_goes, lone_accepted, mixed_first, mixed_second}
 use Rattle.euler_laws.proofs.shared.Rows.{half_of, of_half}
+use Rattle.euler_laws.proofs.shared.Lawful.{IsLawful}
 
 -- ---- conditions
 
@@ -59,15 +60,6 @@ kev_accepted N h sound goes = none_refuses (conditions N (Kev h)) (
 
 -- ---- mev
 
-pub mev_is_undone : (M : Model) (c d : Corner) (h : HalfEdge) (v : ℕ) (p : Point) → Sound M → first_false M (Mev c d h v p) ≡ None →
-    effect (effect M (Mev c d h v p)) (inverse M (Mev c d h v p)) ≡ M
-unfolding effect inverse
-mev_is_undone M (At g) (At k) h v p sound e = kev-mev_at M sound (code g) (code k) (code h) v p (mev_goes M g k h v p e)
-mev_is_undone M (At g) (Lone l) h v p sound e = absurd (mixed_first M g l h v p sound e)
-mev_is_undone M (Lone l) (At k) h v p sound e = absurd (mixed_second M l k h v p sound e)
-mev_is_undone M (Lone l) (Lone d) h v p sound e = let w = lone_goes M l d h v p e in
-    kev-mev_lone M sound l (code h) v (lone_vertex (content M l)) p w
-
 -- mev at a lone loop leaves an edge that kev takes
 kev_goes_lone : (M : Model) (sound : Sound M) (l h v u : ℕ) (p : Point) → LoneGoes M l h v u p → KevGoes (mev_lone M l h v p) h
 kev_goes_lone M sound l h v u p goes = record {
@@ -76,21 +68,22 @@ kev_goes_lone M sound l h v u p goes = record {
   not_bare = λ _. lones.after-h M sound l h v u p goes;
 }
 
-pub mev_inverse_goes : (M : Model) (c d : Corner) (h : HalfEdge) (v : ℕ) (p : Point) → Sound M → first_false M (Mev c d h v p) ≡ None →
-    first_false (effect M (Mev c d h v p)) (inverse M (Mev c d h v p)) ≡ None
+pub mev_lawful : (c d : Corner) (h : HalfEdge) (v : ℕ) (p : Point) → IsLawful (Mev c d h v p)
 unfolding effect inverse
-mev_inverse_goes M (At g) (At k) h v p sound e = let w = mev_goes M g k h v p e in
-    kev_accepted (mev_at M (code g) (code k) (code h) v p) h (sound-mev M sound (code g) (code k) (code h) v p w) (undo.kev_goes M sound (code g) (code k) (code h) v p w)
-mev_inverse_goes M (At g) (Lone l) h v p sound e = absurd (mixed_first M g l h v p sound e)
-mev_inverse_goes M (Lone l) (At k) h v p sound e = absurd (mixed_second M l k h v p sound e)
-mev_inverse_goes M (Lone l) (Lone d) h v p sound e = let w = lone_goes M l d h v p e in let u : ℕ = lone_vertex (content M l) in
-    kev_accepted (mev_lone M l (code h) v p) h (sound-mev_lone M sound l (code h) v u p w) (kev_goes_lone M sound l (code h) v u p w)
+mev_lawful (At g) (At k) h v p M sound e = let w = mev_goes M g k h v p e in let s = sound-mev M sound (code g) (code k) (code h) v p w in record {
+  sound = s;
+  goes = kev_accepted (mev_at M (code g) (code k) (code h) v p) h s (undo.kev_goes M sound (code g) (code k) (code h) v p w);
+  undone = kev-mev_at M sound (code g) (code k) (code h) v p w;
+}
+mev_lawful (At g) (Lone l) h v p M sound e = absurd (mixed_first M g l h v p sound e)
+mev_lawful (Lone l) (At k) h v p M sound e = absurd (mixed_second M l k h v p sound e)
+mev_lawful (Lone l) (Lone d) h v p M sound e = let w = lone_goes M l d h v p e in let u : ℕ = lone_vertex (content M l) in let s = sound-mev_lone M sound l (code h) v u p w in record {
+  sound = s;
+  goes = kev_accepted (mev_lone M l (code h) v p) h s (kev_goes_lone M sound l (code h) v u p w);
+  undone = kev-mev_lone M sound l (code h) v u p w;
+}
 
 -- ---- kev
-
-pub kev_keeps_sound : (M : Model) (h : HalfEdge) → Sound M → first_false M (Kev h) ≡ None → Sound (effect M (Kev h))
-unfolding effect
-kev_keeps_sound M h sound e = sound-kev M sound (code h) (kev_goes M h sound e)
 
 -- the corners of the inverse
 abbrev corner : Model → ℕ → ℕ
@@ -157,10 +150,6 @@ module _ (M : Model) (h : HalfEdge) (sound : Sound M) (goes : KevGoes M (code h)
         ∙ mev_accepted N (half (corner M (code h))) (half (after M m)) h (tail M m) p (sound-kev M sound (code h) goes) (codes_goes e.1)
   ]
 
-pub kev_is_undone : (M : Model) (h : HalfEdge) → Sound M → first_false M (Kev h) ≡ None → effect (effect M (Kev h)) (inverse M (Kev h)) ≡ M
+pub kev_lawful : (h : HalfEdge) → IsLawful (Kev h)
 unfolding effect inverse
-kev_is_undone M h sound e = kev_back M h sound (kev_goes M h sound e)
-
-pub kev_inverse_goes : (M : Model) (h : HalfEdge) → Sound M → first_false M (Kev h) ≡ None → first_false (effect M (Kev h)) (inverse M (Kev h)) ≡ None
-unfolding effect inverse
-kev_inverse_goes M h sound e = kev_back_goes M h sound (kev_goes M h sound e)
+kev_lawful h M sound e = let w = kev_goes M h sound e in record { sound = sound-kev M sound (code h) w; goes = kev_back_goes M h sound w; undone = kev_back M h sound w }

@@ -30,6 +30,7 @@ use Rattle.euler_laws.proofs.mef.KefSound as gone
 use Rattle.euler_laws.proofs.mef.KefSound.{KefGoes, sound-kef}
 use Rattle.euler_laws.proofs.shared.Undo.{same_model}
 use Rattle.euler_laws.proofs.shared.Rows.{face_there, edge_there, half_of, of_half, no_rings_means, means_no_rings, both_back}
+use Rattle.euler_laws.proofs.shared.Lawful.{IsLawful}
 
 module _ (M : Model) (sound : Sound M) (h : ℕ) (goes : KefGoes M h) where
   abbrev m : ℕ
@@ -191,28 +192,20 @@ mef_accepted N g k h f l sound goes = none_refuses (conditions N (Mef g k h f l)
 
 -- ---- kef
 
-pub kef_keeps_sound : (M : Model) (h : HalfEdge) → Sound M → first_false M (Kef h) ≡ None → Sound (effect M (Kef h))
-unfolding effect
-kef_keeps_sound M h sound e = sound-kef M sound (code h) (kef_goes M h e)
-
-pub kef_is_undone : (M : Model) (h : HalfEdge) → Sound M → first_false M (Kef h) ≡ None → effect (effect M (Kef h)) (inverse M (Kef h)) ≡ M
+pub kef_lawful : (h : HalfEdge) → IsLawful (Kef h)
 unfolding effect inverse
-kef_is_undone M h sound e =
+kef_lawful h M sound e =
+    let w = kef_goes M h e in
+    let s = sound-kef M sound (code h) w in
     let N : Model = kef M (code h) in
     let m : ℕ = mate (code h) in
-    ap (λ x. mef N x (code (half (after M (code h)))) (code h) (face_at M m) (loop_of M m)) (code-half (after M m))
-    ∙ ap (λ x. mef N (after M m) x (code h) (face_at M m) (loop_of M m)) (code-half (after M (code h)))
-    ∙ mef-after-kef M sound (code h) (kef_goes M h e)
-
-pub kef_inverse_goes : (M : Model) (h : HalfEdge) → Sound M → first_false M (Kef h) ≡ None → first_false (effect M (Kef h)) (inverse M (Kef h)) ≡ None
-unfolding effect inverse
-kef_inverse_goes M h sound e =
-    let goes : KefGoes M (code h) = kef_goes M h e in
-    let N : Model = kef M (code h) in
-    let m : ℕ = mate (code h) in
-    mef_accepted N (half (after M m)) (half (after M (code h))) h (face_at M m) (loop_of M m) (sound-kef M sound (code h) goes)
-    (subst (λ x. MefGoes N x (code (half (after M (code h)))) (code h) (face_at M m) (loop_of M m)) (sym (code-half (after M m)))
-    (subst (λ x. MefGoes N (after M m) x (code h) (face_at M m) (loop_of M m)) (sym (code-half (after M (code h)))) (put_goes M sound (code h) goes)))
+    let g : code (half (after M m)) ≡ after M m = code-half (after M m) in
+    let k : code (half (after M (code h))) ≡ after M (code h) = code-half (after M (code h)) in
+    record {
+      sound = s;
+      goes = mef_accepted N (half (after M m)) (half (after M (code h))) h (face_at M m) (loop_of M m) s (rw (g, k) (put_goes M sound (code h) w));
+      undone = (λ i. mef N (g i) (k i) (code h) (face_at M m) (loop_of M m)) ∙ mef-after-kef M sound (code h) w;
+    }
 
 -- ---- mef
 
@@ -270,12 +263,10 @@ module _ (M : Model) (sound : Sound M) (g k h f l : ℕ) (goes : MefGoes M g k h
   unfolding kef mef
   kef-after-mef = same_model (kef E h) M refl faces-made loops-made edges-made refl
 
-pub mef_is_undone : (M : Model) (g k h : HalfEdge) (f l : ℕ) → Sound M → first_false M (Mef g k h f l) ≡ None → effect (effect M (Mef g k h f l)) (inverse M (Mef g k h f l)) ≡ M
+pub mef_lawful : (g k h : HalfEdge) (f l : ℕ) → IsLawful (Mef g k h f l)
 unfolding effect inverse
-mef_is_undone M g k h f l sound e = kef-after-mef M sound (code g) (code k) (code h) f l (mef_goes M g k h f l e)
-
-pub mef_inverse_goes : (M : Model) (g k h : HalfEdge) (f l : ℕ) → Sound M → first_false M (Mef g k h f l) ≡ None → first_false (effect M (Mef g k h f l)) (inverse M (Mef g k h f l)) ≡ None
-unfolding effect inverse
-mef_inverse_goes M g k h f l sound e =
-    let w = mef_goes M g k h f l e in
-    kef_accepted (mef M (code g) (code k) (code h) f l) h (made.sound-mef M sound (code g) (code k) (code h) f l w) (made_goes M sound (code g) (code k) (code h) f l w)
+mef_lawful g k h f l M sound e = let w = mef_goes M g k h f l e in let s = made.sound-mef M sound (code g) (code k) (code h) f l w in record {
+  sound = s;
+  goes = kef_accepted (mef M (code g) (code k) (code h) f l) h s (made_goes M sound (code g) (code k) (code h) f l w);
+  undone = kef-after-mef M sound (code g) (code k) (code h) f l w;
+}

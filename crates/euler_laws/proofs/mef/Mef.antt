@@ -33,6 +33,3 @@ mef_goes M g k h f l e = named (all_hold (conditions M (Mef g k h f l)) e) where
   }
 
 -- mef keeps a sound model sound
-pub mef_keeps_sound : (M : Model) (g k h : HalfEdge) (f l : ℕ) → Sound M → first_false M (Mef g k h f l) ≡ None → Sound (effect M (Mef g k h f l))
-unfolding effect
-mef_keeps_sound M g k h f l sound e = sound-mef M sound (code g) (code k) (code h) f l (mef_goes M g k h f l e)

@@ -24,6 +24,7 @@ use Rattle.euler_laws.proofs.mekr.MekrSound as joined
 use Rattle.euler_laws.proofs.mekr.MekrSound.{join_loops, sound-join}
 use Rattle.euler_laws.proofs.shared.Undo.{same_model}
 use Rattle.euler_laws.proofs.shared.Rows.{both_back, loop_row}
+use Rattle.euler_laws.proofs.shared.Lawful.{IsLawful}
 
 -- where kemr goes, none of its conditions refuses
 pub kemr_accepted : (N : Model) (h : HalfEdge) (l : ℕ) → Sound N → KemrGoes N (code h) l → first_false N (Kemr h l) ≡ None
@@ -107,17 +108,14 @@ mekr_is M c d h = refl
 
 -- ---- mekr
 
-pub mekr_keeps_sound : (M : Model) (c d : Corner) (h : HalfEdge) → Sound M → first_false M (Mekr c d h) ≡ None → Sound (effect M (Mekr c d h))
-unfolding effect
-mekr_keeps_sound M c d h sound e = subst Sound (sym (mekr_is M c d (code h))) (sound-join M sound (code h) _ _ _ _ _ _ (join_goes M c d h sound e))
-
-pub mekr_is_undone : (M : Model) (c d : Corner) (h : HalfEdge) → Sound M → first_false M (Mekr c d h) ≡ None → effect (effect M (Mekr c d h)) (inverse M (Mekr c d h)) ≡ M
+pub mekr_lawful : (c d : Corner) (h : HalfEdge) → IsLawful (Mekr c d h)
 unfolding effect inverse
-mekr_is_undone M c d h sound e = ap (λ N. kemr N (code h) (corner_loop M d)) (mekr_is M c d (code h)) ∙ kemr-join_back M sound (code h) _ _ _ _ _ _ (join_goes M c d h sound e)
-
-pub mekr_inverse_goes : (M : Model) (c d : Corner) (h : HalfEdge) → Sound M → first_false M (Mekr c d h) ≡ None → first_false (effect M (Mekr c d h)) (inverse M (Mekr c d h)) ≡ None
-unfolding effect inverse
-mekr_inverse_goes M c d h sound e =
-    let goes = join_goes M c d h sound e in
-    subst (λ N. first_false N (Kemr h (corner_loop M d)) ≡ None) (sym (mekr_is M c d (code h)))
-    (kemr_accepted _ h (corner_loop M d) (sound-join M sound (code h) _ _ _ _ _ _ goes) (part_goes M sound (code h) _ _ _ _ _ _ goes))
+mekr_lawful c d h M sound e =
+    let w = join_goes M c d h sound e in
+    let is = mekr_is M c d (code h) in
+    let s = sound-join M sound (code h) _ _ _ _ _ _ w in
+    record {
+      sound = subst Sound (sym is) s;
+      goes = subst (λ N. first_false N (Kemr h (corner_loop M d)) ≡ None) (sym is) (kemr_accepted _ h (corner_loop M d) s (part_goes M sound (code h) _ _ _ _ _ _ w));
+      undone = ap (λ N. kemr N (code h) (corner_loop M d)) is ∙ kemr-join_back M sound (code h) _ _ _ _ _ _ w;
+    }

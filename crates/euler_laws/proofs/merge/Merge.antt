@@ -167,7 +167,3 @@ merge_accepted N s t sound goes = none_refuses (conditions N (Merge s t)) (
     also not_false _ (ne_eqb _ _ goes.apart)
     also tt
     )
-
-pub merge_keeps_sound : (M : Model) (s t : ℕ) → Sound M → first_false M (Merge s t) ≡ None → Sound (effect M (Merge s t))
-unfolding effect
-merge_keeps_sound M s t sound e = sound-merge M sound s t (merge_goes M s t e)

@@ -22,6 +22,7 @@ use Rattle.euler_laws.proofs.shared.Rows.{face_there, solid_row}
 use Rattle.euler_laws.proofs.shared.Listed.{listed_as, listed_passes, passes_listed, all_where-rises, first_listed, rest_listed, listed_cases}
 use Rattle.euler_laws.proofs.merge.Merge as joins
 use Rattle.euler_laws.proofs.merge.Merge.{OtherSolids, sound-solids, face_same, loop_same, has_moved, outer_moved, solid_moved, MergeGoes, merge_goes, merge_accepted, sound-merge}
+use Rattle.euler_laws.proofs.shared.Lawful.{IsLawful}
 
 -- what the conditions of part say
 pub record PartGoes (M : Model) (s t : ℕ) (fs : List ℕ) : Type 0 where
@@ -334,22 +335,18 @@ part_accepted N s t fs sound goes =
 
 -- ---- the operators
 
-pub merge_is_undone : (M : Model) (s t : ℕ) → Sound M → first_false M (Merge s t) ≡ None → effect (effect M (Merge s t)) (inverse M (Merge s t)) ≡ M
+pub merge_lawful : (s t : ℕ) → IsLawful (Merge s t)
 unfolding effect inverse
-merge_is_undone M s t sound e = part-merge M sound s t (merge_goes M s t e)
+merge_lawful s t M sound e = let w = merge_goes M s t e in let good = sound-merge M sound s t w in record {
+  sound = good;
+  goes = part_accepted (merge M s t) s t (faces_of M t) good (split_goes M sound s t w);
+  undone = part-merge M sound s t w;
+}
 
-pub merge_inverse_goes : (M : Model) (s t : ℕ) → Sound M → first_false M (Merge s t) ≡ None → first_false (effect M (Merge s t)) (inverse M (Merge s t)) ≡ None
+pub part_lawful : (s t : ℕ) (fs : List ℕ) → IsLawful (Part s t fs)
 unfolding effect inverse
-merge_inverse_goes M s t sound e = let w = merge_goes M s t e in part_accepted (merge M s t) s t (faces_of M t) (sound-merge M sound s t w) (split_goes M sound s t w)
-
-pub part_keeps_sound : (M : Model) (s t : ℕ) (fs : List ℕ) → Sound M → first_false M (Part s t fs) ≡ None → Sound (effect M (Part s t fs))
-unfolding effect
-part_keeps_sound M s t fs sound e = sound-part M sound s t fs (part_goes M s t fs sound e)
-
-pub part_is_undone : (M : Model) (s t : ℕ) (fs : List ℕ) → Sound M → first_false M (Part s t fs) ≡ None → effect (effect M (Part s t fs)) (inverse M (Part s t fs)) ≡ M
-unfolding effect inverse
-part_is_undone M s t fs sound e = merge-part M sound s t fs (part_goes M s t fs sound e)
-
-pub part_inverse_goes : (M : Model) (s t : ℕ) (fs : List ℕ) → Sound M → first_false M (Part s t fs) ≡ None → first_false (effect M (Part s t fs)) (inverse M (Part s t fs)) ≡ None
-unfolding effect inverse
-part_inverse_goes M s t fs sound e = let w = part_goes M s t fs sound e in merge_accepted (part M s t fs) s t (sound-part M sound s t fs w) (join_goes M sound s t fs w)
+part_lawful s t fs M sound e = let w = part_goes M s t fs sound e in let good = sound-part M sound s t fs w in record {
+  sound = good;
+  goes = merge_accepted (part M s t fs) s t good (join_goes M sound s t fs w);
+  undone = merge-part M sound s t fs w;
+}

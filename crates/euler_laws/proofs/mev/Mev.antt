@@ -103,10 +103,3 @@ mixed_second M l k h v p sound e = named (all_hold (conditions M (Mev (Lone l) (
   named : AllHold (conditions M (Mev (Lone l) (At k) h v p)) → ⊥
   named (_, (_, (_, (_, (_, (k_known, (l_lone, (_, (_, (_, (_, (one_tail, _)))))))))))) =
       sound.lone_is_no_tail l (code k) (half_of M k k_known) (lone_is (content M l) l_lone ∙ ap lone (eqb-true _ _ one_tail))
-
-pub mev_keeps_sound : (M : Model) (c d : Corner) (h : HalfEdge) (v : ℕ) (p : Point) → Sound M → first_false M (Mev c d h v p) ≡ None → Sound (effect M (Mev c d h v p))
-unfolding effect
-mev_keeps_sound M (At g) (At k) h v p sound e = sound-mev M sound (code g) (code k) (code h) v p (mev_goes M g k h v p e)
-mev_keeps_sound M (At g) (Lone l) h v p sound e = absurd (mixed_first M g l h v p sound e)
-mev_keeps_sound M (Lone l) (At k) h v p sound e = absurd (mixed_second M l k h v p sound e)
-mev_keeps_sound M (Lone l) (Lone d) h v p sound e = sound-mev_lone M sound l (code h) v (lone_vertex (content M l)) p (lone_goes M l d h v p e)

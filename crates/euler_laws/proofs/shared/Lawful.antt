@@ -1,0 +1,17 @@
+-- What is proved of an operator.
+use Rattle.std.proofs.Common.{◌≡◌, None}
+use Rattle.euler_operators.specs.Model.{Model}
+use Rattle.euler_operators.specs.Sound.{Sound}
+use Rattle.euler_operators.specs.declared.Op.{Op}
+use Rattle.euler_operators.specs.Conditions.{first_false}
+use Rattle.euler_operators.specs.Effect.{effect, inverse}
+
+-- the model after is sound, the inverse is accepted in it, and gives the model before
+pub record Lawful (M : Model) (op : Op) : Type 0 where
+  pub sound : Sound (effect M op)
+  pub goes : first_false (effect M op) (inverse M op) ≡ None
+  pub undone : effect (effect M op) (inverse M op) ≡ M
+
+-- so in every sound model in which it is accepted
+abbrev pub IsLawful : Op → Type 0
+IsLawful op = (M : Model) → Sound M → first_false M op ≡ None → Lawful M op
