@@ -19,7 +19,7 @@ use Rattle.euler_laws.proofs.mev.MevSound.{MevGoes, sound-mev}
 use Rattle.euler_laws.proofs.kev.MevUndo.{kev-mev_at}
 use Rattle.euler_laws.proofs.kev.MevUndo as undo
 use Rattle.euler_laws.proofs.kev.MevLone.{kev-mev_lone}
-use Rattle.euler_laws.proofs.shared.EdgeMore.{half_h}
+use Rattle.euler_laws.proofs.shared.EdgeMore.{comes, half_h}
 use Rattle.euler_laws.proofs.mev.MevLoneSound as lones
 use Rattle.euler_laws.proofs.mev.MevLoneSound.{LoneGoes, sound-mev_lone}
 use Rattle.euler_laws.proofs.kev.KevSound.{KevGoes, sound-kev}
@@ -63,7 +63,7 @@ kev_accepted N h sound goes = none_refuses (conditions N (Kev h)) (
 -- mev at a lone loop leaves an edge that kev takes
 kev_goes_lone : (M : Model) (sound : Sound M) (l h v u : ℕ) (p : Point) → LoneGoes M l h v u p → KevGoes (mev_lone M l h v p) h
 kev_goes_lone M sound l h v u p goes = record {
-  h_there = half_h (lones.edge M sound l h v u p goes);
+  h_there = half_h (comes (lones.edge M sound l h v u p goes));
   no_parallel = lones.no_parallel-lone M sound l h v u p goes;
   not_bare = λ _. lones.after-h M sound l h v u p goes;
 }

@@ -15,7 +15,7 @@ use Rattle.euler_operators.proofs.Tables.{put-remove}
 use Rattle.euler_operators.proofs.Models.{in-holds, cycle_there, cycle_sound, content_cycle, row_of, mate_there}
 use Rattle.euler_operators.specs.Effect.{mev_lone, kev}
 use Rattle.euler_laws.proofs.shared.Fans.{loop_after}
-use Rattle.euler_laws.proofs.shared.EdgeMore.{OneMore, half_h, edge_other, tail-h, tail-m, tail_old}
+use Rattle.euler_laws.proofs.shared.EdgeMore.{OneMore, comes, half_h, edge_other, tail-h, tail-m, tail_old}
 use Rattle.euler_laws.proofs.shared.Loops.{light}
 use Rattle.euler_laws.proofs.shared.Same.{mapped_some}
 use Rattle.euler_laws.proofs.shared.Undo.{same_loops, same_edges, same_model}
@@ -116,7 +116,7 @@ module _ (M : Model) (sound : Sound M) (h : ℕ) (goes : KevGoes M h) (bare : af
 
   has_edge : (e : ℕ) → table.has K.edges e ≡ table.has M.edges e
   has_edge e = elim (eqb_tells e (edge_of h)) [
-    | inl a ↦ ap (table.has K.edges) a.1 ∙ half_h edge ∙ sym (ap (table.has M.edges) a.1 ∙ goes.h_there)
+    | inl a ↦ ap (table.has K.edges) a.1 ∙ half_h (comes edge) ∙ sym (ap (table.has M.edges) a.1 ∙ goes.h_there)
     | inr a ↦ ap is_some (edge_other edge e a.1)
         ∙ ap is_some (kill.edge_mapped M sound h goes e a.1) ∙ mapped_some _ (table.get M.edges e)
   ]
@@ -124,8 +124,8 @@ module _ (M : Model) (sound : Sound M) (h : ℕ) (goes : KevGoes M h) (bare : af
   tails : (x : ℕ) → HasHalf M x → tail K x ≡ tail M x
   tails x there = elim (eqb_tells (edge_of x) (edge_of h)) [
     | inl e ↦ elim (same_edge x h e.1) [
-      | inl q ↦ ap (tail K) q ∙ tail-h edge ∙ sym (ap (tail M) q)
-      | inr q ↦ ap (tail K) q ∙ tail-m edge ∙ sym (ap (tail M) q)
+      | inl q ↦ ap (tail K) q ∙ tail-h (comes edge) ∙ sym (ap (tail M) q)
+      | inr q ↦ ap (tail K) q ∙ tail-m (comes edge) ∙ sym (ap (tail M) q)
     ]
     | inr e ↦ tail_old edge x (kill.half_old M sound h goes x there e.1)
         ∙ kill.tail_kept M sound h goes x there e.1 (kill.bare M sound h goes bare x there e.1).1

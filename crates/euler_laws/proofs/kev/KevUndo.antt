@@ -24,6 +24,7 @@ use Rattle.euler_laws.proofs.shared.Loops.{put_before, put_there, put_none, put_
 use Rattle.euler_laws.proofs.shared.Arcs.{arc_is}
 use Rattle.euler_laws.proofs.shared.Same.{mapped_some}
 use Rattle.euler_laws.proofs.shared.Undo.{same_loops, same_edges, same_model, taken_out, both_out, put_in, both_in, after_first}
+use Rattle.euler_laws.proofs.shared.EdgeMore.{EdgeComes, half_h, tail-h, tail-m}
 use Rattle.euler_laws.proofs.mev.MevSound as put
 use Rattle.euler_laws.proofs.mev.MevSound.{MevGoes}
 use Rattle.euler_laws.proofs.kev.KevSound as kill
@@ -324,10 +325,13 @@ module _ (M : Model) (sound : Sound M) (h : ℕ) (goes : KevGoes M h) (open_end 
 
   -- ---- edges and vertices
 
+  new_edge : EdgeComes N K h (tail N c) w
+  new_edge = put.new_edge N sound-N c d h w (point_of M w) put_goes
+
   has_edge : (e : ℕ) → table.has K.edges e ≡ table.has M.edges e
   has_edge e = elim (eqb_tells e (edge_of h)) [
-    | inl a ↦ ap (table.has K.edges) a.1 ∙ put.half_h N sound-N c d h w (point_of M w) put_goes ∙ sym (ap (table.has M.edges) a.1 ∙ goes.h_there)
-    | inr a ↦ ap is_some (put.edge_mapped N sound-N c d h w (point_of M w) put_goes e a.1) ∙ mapped_some _ (table.get N.edges e)
+    | inl a ↦ ap (table.has K.edges) a.1 ∙ half_h new_edge ∙ sym (ap (table.has M.edges) a.1 ∙ goes.h_there)
+    | inr a ↦ new_edge.others e a.1
         ∙ ap is_some (kill.edge_mapped M sound h goes e a.1) ∙ mapped_some _ (table.get M.edges e)
   ]
 
@@ -349,8 +353,8 @@ module _ (M : Model) (sound : Sound M) (h : ℕ) (goes : KevGoes M h) (open_end 
   tails : (x : ℕ) → HasHalf M x → tail K x ≡ tail M x
   tails x there = elim (eqb_tells (edge_of x) (edge_of h)) [
     | inl e ↦ elim (same_edge x h e.1) [
-      | inl q ↦ ap (tail K) q ∙ put.tail-h N sound-N c d h w (point_of M w) put_goes ∙ c_new.1 ∙ sym (ap (tail M) q)
-      | inr q ↦ ap (tail K) q ∙ put.tail-m N sound-N c d h w (point_of M w) put_goes ∙ sym (ap (tail M) q)
+      | inl q ↦ ap (tail K) q ∙ tail-h new_edge ∙ c_new.1 ∙ sym (ap (tail M) q)
+      | inr q ↦ ap (tail K) q ∙ tail-m new_edge ∙ sym (ap (tail M) q)
     ]
     | inr e ↦ tails_old x there e.1
   ]

@@ -17,7 +17,7 @@ use Rattle.euler_operators.proofs.Tables.{remove-put, map_same, map-put, put_sam
 use Rattle.euler_operators.proofs.Models.{not_held, no_tail, holds-none, in-holds, tail_row}
 use Rattle.euler_operators.specs.Conditions.{lone_vertex}
 use Rattle.euler_operators.specs.Effect.{mev_lone, kev, moved_tail, edge_row, without_edge, cycle_or_lone}
-use Rattle.euler_laws.proofs.shared.EdgeMore.{OneMore, tail-h, tail-m}
+use Rattle.euler_laws.proofs.shared.EdgeMore.{OneMore, comes, tail-h, tail-m}
 use Rattle.euler_laws.proofs.shared.Rows.{no_items, loop_row}
 use Rattle.euler_laws.proofs.mev.MevLoneSound as put
 use Rattle.euler_laws.proofs.mev.MevLoneSound.{LoneGoes}
@@ -89,7 +89,7 @@ module _ (M : Model) (sound : Sound M) (l h v u : ℕ) (p : Point) (goes : LoneG
   kev-mev_lone = λ i. record {
     solids = M.solids;
     faces = M.faces;
-    loops = loops-kev _ (tail-h edge) i;
-    edges = edges-kev _ (tail N h) (edge_row h (lone_vertex (content M l)) v) (tail-m edge) i;
-    vertices = vertices-kev _ (tail-m edge) i;
+    loops = loops-kev _ (tail-h (comes edge)) i;
+    edges = edges-kev _ (tail N h) (edge_row h (lone_vertex (content M l)) v) (tail-m (comes edge)) i;
+    vertices = vertices-kev _ (tail-m (comes edge)) i;
   }

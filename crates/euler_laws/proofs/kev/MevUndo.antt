@@ -23,6 +23,7 @@ use Rattle.euler_operators.specs.Effect.{mev_at, kev, cycle_or_lone}
 use Rattle.euler_laws.proofs.shared.Loops.{put_before, put_there, put_none, put_lone, none_free, count_out, after-walks}
 use Rattle.euler_laws.proofs.shared.Same.{mapped_some}
 use Rattle.euler_laws.proofs.shared.Undo.{same_loops, same_edges, same_model, taken_out, both_out, put_in, both_in}
+use Rattle.euler_laws.proofs.shared.EdgeMore.{EdgeComes, half_h, half_m, tail-h, tail-m, edge_apart, not_h, not_m, half_old, half_cases}
 use Rattle.euler_laws.proofs.mev.MevSound as put
 use Rattle.euler_laws.proofs.mev.MevSound.{MevGoes}
 use Rattle.euler_laws.proofs.kev.KevSound as kill
@@ -110,13 +111,16 @@ module _ (M : Model) (sound : Sound M) (g k h v : ℕ) (p : Point) (goes : MevGo
   pub sound-N : Sound N
   sound-N = put.sound-mev M sound g k h v p goes
 
+  new_edge : EdgeComes M N h (tail M g) v
+  new_edge = put.new_edge M sound g k h v p goes
+
   -- what kev asks is so after mev
   no_parallel-N : (x : ℕ) → HasHalf N x → edge_of x ≢ edge_of h → tail N x ≡ tail N h → tail N (mate x) ≢ tail N (mate h)
-  no_parallel-N x there a e f = elim (put.half_cases M sound g k h v p goes x there) [
+  no_parallel-N x there a e f = elim (half_cases new_edge x there) [
     | inl o ↦
         let t = mate_there M x o in
-        let far : tail N (mate x) ≡ v = f ∙ put.tail-m M sound g k h v p goes in
-        let near : tail N x ≡ tail M g = e ∙ put.tail-h M sound g k h v p goes in
+        let far : tail N (mate x) ≡ v = f ∙ tail-m new_edge in
+        let near : tail N x ≡ tail M g = e ∙ tail-h new_edge in
         elim (IsIn_or_not (mate x) (put.moved M sound g k h v p goes)) [
           | inl j ↦ elim (IsIn_or_not x (put.moved M sound g k h v p goes)) [
             | inl i ↦ put.u_v M sound g k h v p goes (sym near ∙ put.tail_moved M sound g k h v p goes x o i)
@@ -128,14 +132,14 @@ module _ (M : Model) (sound : Sound M) (g k h v : ℕ) (p : Point) (goes : MevGo
   ]
 
   pub after-m : after N (mate h) ≡ k
-  after-m = after-walks N (put.F M sound g k h v p goes) (put.walks M sound g k h v p goes) (mate h) (put.half_m M sound g k h v p goes)
+  after-m = after-walks N (put.F M sound g k h v p goes) (put.walks M sound g k h v p goes) (mate h) (half_m new_edge)
       ∙ led_at (led_over (after M) g h) k (mate h)
 
   pub kev_goes : KevGoes N h
   kev_goes = record {
-    h_there = put.half_h M sound g k h v p goes;
+    h_there = half_h new_edge;
     no_parallel = no_parallel-N;
-    not_bare = λ e. absurd (put.not_h M sound g k h v p goes k goes.k_there (sym after-m ∙ e));
+    not_bare = λ e. absurd (not_h new_edge k goes.k_there (sym after-m ∙ e));
   }
 
   contents : (q : ℕ) → Has M.loops q → content K q ≡ content M q
@@ -143,7 +147,7 @@ module _ (M : Model) (sound : Sound M) (g k h v : ℕ) (p : Point) (goes : MevGo
       kill.content-N N sound-N h kev_goes q
       ∙ ap (without_both h (tail N h)) (put.content-N M sound g k h v p goes q)
       ∙ content_back h g k (tail N h) (content M q) (λ hs e. sound.cycles q hs there e) (none_free M sound h goes.edge_free q) (none_free M sound (mate h) (put.m_free M sound g k h v p goes) q)
-      (put.not_m M sound g k h v p goes g goes.g_there) (put.not_h M sound g k h v p goes k goes.k_there)
+      (not_m new_edge g goes.g_there) (not_h new_edge k goes.k_there)
 
   loops-back : K.loops ≡ M.loops
   loops-back = same_loops K M
@@ -160,20 +164,20 @@ module _ (M : Model) (sound : Sound M) (g k h v : ℕ) (p : Point) (goes : MevGo
 
   tails : (x : ℕ) → HasHalf M x → tail K x ≡ tail M x
   tails x there =
-      let o = put.half_old M sound g k h v p goes x there in
-      let a = put.edge_apart M sound g k h v p goes x there in
+      let o = half_old new_edge x there in
+      let a = edge_apart new_edge x there in
       elim (IsIn_or_not x (put.moved M sound g k h v p goes)) [
         | inl i ↦
-            kill.tail_moved N sound-N h kev_goes x o a (put.tail_moved M sound g k h v p goes x there i ∙ sym (put.tail-m M sound g k h v p goes))
-            ∙ put.tail-h M sound g k h v p goes ∙ sym (put.moved_old M sound g k h v p goes x i).1
+            kill.tail_moved N sound-N h kev_goes x o a (put.tail_moved M sound g k h v p goes x there i ∙ sym (tail-m new_edge))
+            ∙ tail-h new_edge ∙ sym (put.moved_old M sound g k h v p goes x i).1
         | inr i ↦
             let s = put.tail_kept M sound g k h v p goes x there i in
-            kill.tail_kept N sound-N h kev_goes x o a (λ e. put.never_v M sound g k h v p goes x there (sym s ∙ e ∙ put.tail-m M sound g k h v p goes)) ∙ s
+            kill.tail_kept N sound-N h kev_goes x o a (λ e. put.never_v M sound g k h v p goes x there (sym s ∙ e ∙ tail-m new_edge)) ∙ s
       ]
 
   vertices-back : K.vertices ≡ M.vertices
   unfolding kev mev_at
-  vertices-back = ap (table.remove (table.put M.vertices v p)) (put.tail-m M sound g k h v p goes) ∙ remove-put M.vertices v p goes.vertex_free
+  vertices-back = ap (table.remove (table.put M.vertices v p)) (tail-m new_edge) ∙ remove-put M.vertices v p goes.vertex_free
 
   -- kev takes mev back
   pub kev-mev_at : kev (mev_at M g k h v p) h ≡ M

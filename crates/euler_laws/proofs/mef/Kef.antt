@@ -19,7 +19,7 @@ use Rattle.euler_operators.specs.Effect.{effect, inverse, mef, kef, edge_row}
 use Rattle.euler_laws.proofs.shared.Goes.{◌also◌, all_hold, none_refuses, not_false, taken}
 use Rattle.euler_laws.proofs.shared.Fans.{half_after, loop_after}
 use Rattle.euler_laws.proofs.shared.Parts.{face_here}
-use Rattle.euler_laws.proofs.shared.EdgeMore.{half_h}
+use Rattle.euler_laws.proofs.shared.EdgeMore.{comes, half_h}
 use Rattle.euler_laws.proofs.shared.EdgeLess.{OneLess, other_edge, half_old, tail_old, edge_gone}
 use Rattle.euler_laws.proofs.shared.TwoRows.{RowsSet, row_second, content_first, face_same, has_same}
 use Rattle.euler_laws.proofs.mef.MefUndo.{loops-mef, no_h, no_m}
@@ -216,7 +216,7 @@ made_goes M sound g k h f l goes =
     let fm : face_at N (mate h) ≡ f = ap (face_of N) (made.loop_m M sound g k h f l goes) ∙ made.face_l M sound g k h f l goes in
     let fh : face_at N h ≡ face_of M (loop_of M g) = ap (face_of N) (made.loop_h M sound g k h f l goes) ∙ face_same set (loop_of M g) (made.not_l M sound g k h f l goes _ (ap is_some (row_of M sound g goes.g_there))) in
     record {
-      h_there = half_h (made.more M sound g k h f l goes);
+      h_there = half_h (comes (made.more M sound g k h f l goes));
       faces_apart = λ p. made.not_f M sound g k h f l goes (face_of M (loop_of M g)) (made.face_r M sound g k h f l goes) (sym fh ∙ p ∙ fm);
       no_rings = λ q there p. ap (outer N) fm ∙ made.outer_new M sound g k h f l goes ∙ elim (eqb_tells q l) [
         | inl a ↦ sym a.1

@@ -19,7 +19,7 @@ use Rattle.euler_laws.proofs.shared.Loops.{IsLoop, canonical_cycle, light, Walks
 use Rattle.euler_laws.proofs.shared.Rows.{count-halves, content_none}
 use Rattle.euler_laws.proofs.shared.Same.{solid_at}
 use Rattle.euler_laws.proofs.shared.Parts.{VerticesHold, FacesHold, RangesHold, sound_of, fit-put, fit-map, FaceSet, face_here, has_face, solid_other, outer_other}
-use Rattle.euler_laws.proofs.shared.EdgeMore.{OneMore, PutBefore, not_h, not_m, ring_mef-other, fans-more, fan_first, fan_second, fan_other, vertices_hold-more}
+use Rattle.euler_laws.proofs.shared.EdgeMore.{OneMore, comes, PutBefore, not_h, not_m, ring_mef-other, fans-more, fan_first, fan_second, fan_other, vertices_hold-more}
 use Rattle.euler_laws.proofs.shared.EdgeLess.{ticks_apart}
 use Rattle.euler_laws.proofs.shared.TwoRows.{RowsSet, row_second, row_else, content_first, face_same, has_same, OneOf, TwoRows, which, in_both, loop_both, Elsewhere, none_elsewhere, walks-rows, one_solid-rows, two_rows-more}
 use Rattle.euler_laws.proofs.mef.MefUndo.{loops-mef, no_h, no_m, count-mef_old, count-mef_new}
@@ -151,10 +151,10 @@ module _ (M : Model) (sound : Sound M) (g k h f l : ℕ) (goes : MefGoes M g k h
   other_ring : (hs : List ℕ) → Elsewhere sound rows hs → IsRing (after M) hs → IsRing F hs
   other_ring hs each t =
       let none = none_elsewhere sound rows hs each in
-      ring_mef-other (after M) h m g k hs (none h (λ o. absurd (not_h more h o refl))) (none m (λ o. absurd (not_m more m o refl))) (none g (λ o. inl refl)) (none k (λ o. inl goes.one_loop)) t
+      ring_mef-other (after M) h m g k hs (none h (λ o. absurd (not_h (comes more) h o refl))) (none m (λ o. absurd (not_m (comes more) m o refl))) (none g (λ o. inl refl)) (none k (λ o. inl goes.one_loop)) t
 
   put : PutBefore M h (tail M g) (tail M k) g k
-  put = record { sound = sound; first = λ o. refl; second = λ o. refl; apart = λ e. not_h more k goes.k_there (sym e) }
+  put = record { sound = sound; first = λ o. refl; second = λ o. refl; apart = λ e. not_h (comes more) k goes.k_there (sym e) }
 
   walks : Walks N F
   walks = walks-rows sound rows F two_loops other_ring (fans-more more F (fan_first more put goes.g_there) (fan_second more put goes.k_there) (fan_other more put))

@@ -15,7 +15,7 @@ use Rattle.euler_operators.specs.declared.Op.TheVariants.{Kemr, Mekr}
 use Rattle.euler_operators.specs.Conditions.{first_false, conditions, corner_tail, corner_loop, corner_list}
 use Rattle.euler_operators.specs.Effect.{effect, inverse, kemr, mekr, cycle_or_lone, edge_row}
 use Rattle.euler_laws.proofs.shared.Goes.{◌also◌, none_refuses, not_false, taken}
-use Rattle.euler_laws.proofs.shared.EdgeMore.{OneMore, half_h, tail-h, tail-m}
+use Rattle.euler_laws.proofs.shared.EdgeMore.{OneMore, comes, half_h, tail-h, tail-m}
 use Rattle.euler_laws.proofs.shared.TwoRows.{RowsSet, row_second, content_first, face_same}
 use Rattle.euler_laws.proofs.kemr.KemrSound as parted
 use Rattle.euler_laws.proofs.kemr.KemrSound.{KemrGoes}
@@ -62,7 +62,7 @@ module _ (M : Model) (sound : Sound M) (h q l u w : ℕ) (Y X : List ℕ) (goes 
 
   pub part_goes : KemrGoes N h l
   part_goes = record {
-    h_there = half_h more;
+    h_there = half_h (comes more);
     loop_free = row_second set;
     one_loop = loop_h ∙ sym (joined.loop_new M sound h q l u w Y X goes m (inr refl));
     loop_fits = sound.loops_fit l goes.second.there;
@@ -77,12 +77,12 @@ module _ (M : Model) (sound : Sound M) (h q l u w : ℕ) (Y X : List ℕ) (goes 
   first_back : cycle_or_lone (beyond h m (cycle_of N h)) (tail N h) ≡ content M q
   first_back =
       let y : beyond h m (cycle_of N h) ≡ Y = ap (beyond h m) cycle_h ∙ beyond_canonical h m X Y (joined.apart_zs M sound h q l u w Y X goes) in
-      (λ i. cycle_or_lone (y i) (tail-h more i)) ∙ sym goes.first.holds_it
+      (λ i. cycle_or_lone (y i) (tail-h (comes more) i)) ∙ sym goes.first.holds_it
 
   second_back : cycle_or_lone (between h m (cycle_of N h)) (tail N m) ≡ content M l
   second_back =
       let x : between h m (cycle_of N h) ≡ X = ap (between h m) cycle_h ∙ between_canonical h m X Y (joined.apart_zs M sound h q l u w Y X goes) in
-      (λ i. cycle_or_lone (x i) (tail-m more i)) ∙ sym goes.second.holds_it
+      (λ i. cycle_or_lone (x i) (tail-m (comes more) i)) ∙ sym goes.second.holds_it
 
   loops-back : K.loops ≡ M.loops
   loops-back =

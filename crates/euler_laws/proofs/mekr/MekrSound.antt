@@ -20,7 +20,7 @@ use Rattle.euler_laws.proofs.shared.Loops.{IsLoop, canonical_cycle, canonical_ri
 use Rattle.euler_laws.proofs.shared.Same.{solid_at}
 use Rattle.euler_laws.proofs.shared.Rows.{content_none, never_outer, was_empty}
 use Rattle.euler_laws.proofs.shared.Parts.{VerticesHold, RangesHold, sound_of, fit-put, fit-remove, FacesStay, solid_kept, faces_hold}
-use Rattle.euler_laws.proofs.shared.EdgeMore.{OneMore, PutBefore, not_h, not_m, first_starts, second_starts, fan_alone, ring_mef-other, fans-more, fan_first, fan_second, fan_other, vertices_hold-more}
+use Rattle.euler_laws.proofs.shared.EdgeMore.{OneMore, comes, PutBefore, not_h, not_m, first_starts, second_starts, fan_alone, ring_mef-other, fans-more, fan_first, fan_second, fan_other, vertices_hold-more}
 use Rattle.euler_laws.proofs.shared.EdgeLess.{ticks_apart}
 use Rattle.euler_laws.proofs.shared.TwoRows.{RowsSet, row_first, row_second, row_else, content_first, face_same, has_same, OneOf, TwoRows, which, in_both, loop_both, Elsewhere, none_elsewhere, walks-rows, one_solid-rows, two_rows-more}
 use Rattle.euler_laws.proofs.mekr.MekrSpots.{JoinGoes, count_spot, half_there, loop_there, ring_there, first_cases, vertex_there, only_lone}
@@ -122,20 +122,20 @@ module _ (M : Model) (sound : Sound M) (h q l u w : ℕ) (Y X : List ℕ) (goes 
 
   pub apart_zs : IsApart zs
   apart_zs =
-      let a = out h (λ t. not_h more h t refl) in
-      let b = out m (λ t. not_m more m t refl) in
+      let a = out h (λ t. not_h (comes more) h t refl) in
+      let b = out m (λ t. not_m (comes more) m t refl) in
       apart_braced h m X Y hm (omega (arith, count-append h X Y, a.0, a.1)) (omega (arith, count-append m X Y, b.0, b.1)) apart_both
 
   count_zs : (x : ℕ) → count x (canonical zs) ≡ tick x h + count x X + tick x m + count x Y
   count_zs x = omega (arith, count-canonical x zs, count-append x (h ∷ X) (m ∷ Y))
 
   he : h ≢ e
-  he p = elim e_cases [ inl o ↦ hm (p ∙ o.1) | inr o ↦ not_h more e (in_X e o.0).0 (sym p) ]
+  he p = elim e_cases [ inl o ↦ hm (p ∙ o.1) | inr o ↦ not_h (comes more) e (in_X e o.0).0 (sym p) ]
 
   ce : c ≢ e
   ce p = elim c_cases [
     | inl a ↦ he (sym a.1 ∙ p)
-    | inr a ↦ elim e_cases [ inl b ↦ not_m more c (in_Y c a.0).0 (p ∙ b.1) | inr b ↦ in_one e b.0 (subst (λ x. IsIn x Y) p a.0) ]
+    | inr a ↦ elim e_cases [ inl b ↦ not_m (comes more) c (in_Y c a.0).0 (p ∙ b.1) | inr b ↦ in_one e b.0 (subst (λ x. IsIn x Y) p a.0) ]
   ]
 
   -- ---- loops
@@ -183,17 +183,17 @@ module _ (M : Model) (sound : Sound M) (h q l u w : ℕ) (Y X : List ℕ) (goes 
 
   path_X : IsPath F X m
   path_X = part_path (after M) F X m m goes.second.apart (ring_there M sound l w X goes.second)
-      (λ y i a. let o = (in_X y i).0 in led_second (after M) h m c e hm he ce y (not_h more y o) (not_m more y o) a)
-      (λ y i j a. let o = (in_X y i).0 in led_else (after M) h m c e hm he ce y (not_h more y o) (not_m more y o) (not_c (after M y) j) a) where
+      (λ y i a. let o = (in_X y i).0 in led_second (after M) h m c e hm he ce y (not_h (comes more) y o) (not_m (comes more) y o) a)
+      (λ y i j a. let o = (in_X y i).0 in led_else (after M) h m c e hm he ce y (not_h (comes more) y o) (not_m (comes more) y o) (not_c (after M y) j) a) where
         not_c : (x : ℕ) → IsIn x X → x ≢ c
-        not_c x j p = elim c_cases [ inl a ↦ not_h more x (in_X x j).0 (p ∙ a.1) | inr a ↦ in_one c (subst (λ y. IsIn y X) p j) a.0 ]
+        not_c x j p = elim c_cases [ inl a ↦ not_h (comes more) x (in_X x j).0 (p ∙ a.1) | inr a ↦ in_one c (subst (λ y. IsIn y X) p j) a.0 ]
 
   path_Y : IsPath F Y h
   path_Y = part_path (after M) F Y h h goes.first.apart (ring_there M sound q u Y goes.first)
-      (λ y i a. let o = (in_Y y i).0 in led_first (after M) h m c e hm he ce y (not_h more y o) (not_m more y o) a)
-      (λ y i j a. let o = (in_Y y i).0 in led_else (after M) h m c e hm he ce y (not_h more y o) (not_m more y o) a (not_e (after M y) j)) where
+      (λ y i a. let o = (in_Y y i).0 in led_first (after M) h m c e hm he ce y (not_h (comes more) y o) (not_m (comes more) y o) a)
+      (λ y i j a. let o = (in_Y y i).0 in led_else (after M) h m c e hm he ce y (not_h (comes more) y o) (not_m (comes more) y o) a (not_e (after M y) j)) where
         not_e : (x : ℕ) → IsIn x Y → x ≢ e
-        not_e x j p = elim e_cases [ inl a ↦ not_m more x (in_Y x j).0 (p ∙ a.1) | inr a ↦ in_one e a.0 (subst (λ y. IsIn y Y) p j) ]
+        not_e x j p = elim e_cases [ inl a ↦ not_m (comes more) x (in_Y x j).0 (p ∙ a.1) | inr a ↦ in_one e a.0 (subst (λ y. IsIn y Y) p j) ]
 
   ring_zs : IsRing F zs
   ring_zs = (at_h ∙ sym (head_in h m X Y), IsPath-append F X (m ∷ Y) h path_X (at_m, path_Y))
@@ -207,15 +207,15 @@ module _ (M : Model) (sound : Sound M) (h q l u w : ℕ) (Y X : List ℕ) (goes 
   other_ring : (hs : List ℕ) → Elsewhere sound rows hs → IsRing (after M) hs → IsRing F hs
   other_ring hs each t =
       let none = none_elsewhere sound rows hs each in
-      ring_mef-other (after M) h m c e hs (none h (λ o. absurd (not_h more h o refl))) (none m (λ o. absurd (not_m more m o refl)))
-      (none c (λ o. elim c_cases [ inl k ↦ absurd (not_h more c o k.1) | inr k ↦ inl (in_Y c k.0).1 ]))
-      (none e (λ o. elim e_cases [ inl k ↦ absurd (not_m more e o k.1) | inr k ↦ inr (in_X e k.0).1 ])) t
+      ring_mef-other (after M) h m c e hs (none h (λ o. absurd (not_h (comes more) h o refl))) (none m (λ o. absurd (not_m (comes more) m o refl)))
+      (none c (λ o. elim c_cases [ inl k ↦ absurd (not_h (comes more) c o k.1) | inr k ↦ inl (in_Y c k.0).1 ]))
+      (none e (λ o. elim e_cases [ inl k ↦ absurd (not_m (comes more) e o k.1) | inr k ↦ inr (in_X e k.0).1 ])) t
 
   put : PutBefore M h u w c e
   put = record {
     sound = sound;
-    first = λ o. elim c_cases [ inl k ↦ absurd (not_h more c o k.1) | inr k ↦ k.1 ];
-    second = λ o. elim e_cases [ inl k ↦ absurd (not_m more e o k.1) | inr k ↦ k.1 ];
+    first = λ o. elim c_cases [ inl k ↦ absurd (not_h (comes more) c o k.1) | inr k ↦ k.1 ];
+    second = λ o. elim e_cases [ inl k ↦ absurd (not_m (comes more) e o k.1) | inr k ↦ k.1 ];
     apart = he;
   }
 

@@ -21,7 +21,7 @@ use Rattle.euler_laws.proofs.shared.Fans.{Fan, fan_of}
 use Rattle.euler_laws.proofs.shared.Loops.{IsLoop, canonical_cycle, canonical_ring, Walks, after-walks, one_vertex}
 use Rattle.euler_laws.proofs.shared.Same.{SameFaces, solid_at}
 use Rattle.euler_laws.proofs.shared.Parts.{VerticesHold, RangesHold, sound_of, fit-put, points-put, FacesStay, stay_of_same, solid_kept, faces_hold}
-use Rattle.euler_laws.proofs.shared.EdgeMore.{OneMore, not_h, not_m, half_h, tail-h, tail_old, half_cases, first_starts, second_starts, fan_alone, fan_stays, fans-more, vertices_hold-more}
+use Rattle.euler_laws.proofs.shared.EdgeMore.{OneMore, comes, not_h, not_m, half_h, tail-h, tail_old, half_cases, first_starts, second_starts, fan_alone, fan_stays, fans-more, vertices_hold-more}
 use Rattle.euler_laws.proofs.shared.EdgeLess.{ticks_apart}
 use Rattle.euler_laws.proofs.shared.TwoRows.{OneOf, TwoRows, Elsewhere, walks-rows, one_solid-rows, two_rows-more}
 
@@ -126,7 +126,7 @@ module _ (M : Model) (sound : Sound M) (l h v u : ℕ) (p : Point) (goes : LoneG
   )
 
   stays : (x : ℕ) → HasHalf M x → after M x ≡ F x
-  stays x t = sym (F_old x (not_h edge x t) (not_m edge x t))
+  stays x t = sym (F_old x (not_h (comes edge) x t) (not_m (comes edge) x t))
 
   other_ring : (hs : List ℕ) → Elsewhere sound rows hs → IsRing (after M) hs → IsRing F hs
   other_ring hs each t = IsPath-agree (after M) F hs (head_or 0 hs) (λ x i. stays x (each x i).0) t
@@ -146,7 +146,7 @@ module _ (M : Model) (sound : Sound M) (l h v u : ℕ) (p : Point) (goes : LoneG
       (fans-more edge F (fan_alone edge F u h (first_starts edge) never_u F_m) (fan_alone edge F v m (second_starts edge) never_v (ap F (mate-mate h) ∙ F_h)) fan_else)
 
   pub after-h : after N h ≡ m
-  after-h = after-walks N F walks h (half_h edge) ∙ F_h
+  after-h = after-walks N F walks h (half_h (comes edge)) ∙ F_h
 
   -- ---- vertices
 
@@ -199,8 +199,8 @@ module _ (M : Model) (sound : Sound M) (l h v u : ℕ) (p : Point) (goes : LoneG
 
   -- no other edge ends at the new vertex
   pub no_parallel-lone : (x : ℕ) → HasHalf N x → edge_of x ≢ edge_of h → tail N x ≡ tail N h → tail N (mate x) ≢ tail N m
-  no_parallel-lone x there a e f = elim (half_cases edge x there) [
-    | inl o ↦ never_u x o (sym (tail_old edge x o) ∙ e ∙ tail-h edge)
+  no_parallel-lone x there a e f = elim (half_cases (comes edge) x there) [
+    | inl o ↦ never_u x o (sym (tail_old edge x o) ∙ e ∙ tail-h (comes edge))
     | inr d ↦ elim d [ inl q ↦ a (ap edge_of q) | inr q ↦ a (ap edge_of q ∙ edge_of-mate h) ]
   ]
 

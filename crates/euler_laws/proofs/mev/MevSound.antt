@@ -24,7 +24,7 @@ use Rattle.euler_laws.proofs.shared.Arcs.{halves_of_edge, arc_is, fan_mev, fan_m
 use Rattle.euler_laws.proofs.shared.Same.{map_twice, mapped_some, Rewritten, content-new, face-same, loop-same, SameFaces, solid_at, solid_at-same, one_solid_round}
 use Rattle.euler_laws.proofs.shared.Rows.{count-halves, tail_first, tail_second}
 use Rattle.euler_laws.proofs.shared.Parts.{VerticesHold, RangesHold, sound_of, fit-put, fit-map, points-put, stay_of_same, faces_hold}
-use Rattle.euler_laws.proofs.shared.EdgeMore.{NewEnds, vertices-more}
+use Rattle.euler_laws.proofs.shared.EdgeMore.{EdgeComes, half_h, half_m, tail-h, tail-m, edge_apart, not_h, not_m, half_old, half_cases, vertices-more}
 use Rattle.euler_laws.proofs.shared.EdgeLess.{not_mate}
 use Rattle.euler_laws.proofs.shared.TwoRows.{OneOf, TwoRows, in_both, stands_both, of_edge, only, placed, one_solid-rows}
 
@@ -96,21 +96,34 @@ module _ (M : Model) (sound : Sound M) (g k h v : ℕ) (p : Point) (goes : MevGo
   pub m_free : table.get M.edges (edge_of m) ≡ None
   m_free = ap (table.get M.edges) (edge_of-mate h) ∙ goes.edge_free
 
-  pub not_h : (x : ℕ) → HasHalf M x → x ≢ h
-  not_h x there e = true≢false (sym there ∙ ap is_some (ap (λ y. table.get M.edges (edge_of y)) e ∙ goes.edge_free))
+  -- ---- edges
 
-  pub not_m : (x : ℕ) → HasHalf M x → x ≢ m
-  not_m x there e = true≢false (sym there ∙ ap is_some (ap (λ y. table.get M.edges (edge_of y)) e ∙ m_free))
+  edge_there : table.get N.edges (edge_of h) ≡ Some (edge_row h u v)
+  unfolding mev_at
+  edge_there = grind (arith, nat_tests, tables)
+
+  pub edge_mapped : (e : ℕ) → e ≢ edge_of h → table.get N.edges e ≡ option_map (with_tails (arc M g k) v e) (table.get M.edges e)
+  unfolding mev_at
+  edge_mapped e a = grind (arith, nat_tests, tables)
+
+  pub never_v : (x : ℕ) → HasHalf M x → tail M x ≢ v
+  never_v x there e = no_tail M sound v goes.vertex_free x there e
+
+  pub u_v : u ≢ v
+  u_v = never_v g goes.g_there
+
+  pub new_edge : EdgeComes M N h u v
+  new_edge = record { row = edge_there; others = λ e a. ap is_some (edge_mapped e a) ∙ mapped_some _ (table.get M.edges e); free = goes.edge_free; ends_apart = u_v }
 
   -- nothing that isn't there stands in a fan
   pub none_in_fan : {w : ℕ} (f : Fan (after M) M w) (x : ℕ) → (HasHalf M x → tail M x ≡ w → ⊥) → count x f.items ≡ 0
   none_in_fan f x never = elim (IsIn_or_not x f.items) [ inl i ↦ absurd (never (f.of_it x i).0 (f.of_it x i).1) | inr n ↦ n ]
 
   pub h_fan : {w : ℕ} (f : Fan (after M) M w) → count h f.items ≡ 0
-  h_fan f = none_in_fan f h (λ t e. not_h h t refl)
+  h_fan f = none_in_fan f h (λ t e. not_h new_edge h t refl)
 
   pub m_fan : {w : ℕ} (f : Fan (after M) M w) → count m f.items ≡ 0
-  m_fan f = none_in_fan f m (λ t e. not_m m t refl)
+  m_fan f = none_in_fan f m (λ t e. not_m new_edge m t refl)
 
   -- ---- loops
 
@@ -145,32 +158,15 @@ module _ (M : Model) (sound : Sound M) (g k h v : ℕ) (p : Point) (goes : MevGo
 
   came : (x q : ℕ) → StandsIn N x q → ((x ≡ h) × StandsIn M g q) ⊎ (((x ≡ m) × StandsIn M k q) ⊎ StandsIn M x q)
   came x q s = elim (put_came x k m (first q) (subst (λ c. IsIn x (items_of c)) (content-N q) (holds_in x (content N q) s))) [
-    | inl a ↦ elim (put_came k g h (content M q) a.1) [ inl b ↦ absurd (not_h k goes.k_there b.0) | inr b ↦ inr (inl (a.0, in-holds k (content M q) b)) ]
+    | inl a ↦ elim (put_came k g h (content M q) a.1) [ inl b ↦ absurd (not_h new_edge k goes.k_there b.0) | inr b ↦ inr (inl (a.0, in-holds k (content M q) b)) ]
     | inr a ↦ elim (put_came x g h (content M q) a) [ inl b ↦ inl (b.0, in-holds g (content M q) b.1) | inr b ↦ inr (inr (in-holds x (content M q) b)) ]
   ]
 
-  -- ---- edges
-
-  pub edge_there : table.get N.edges (edge_of h) ≡ Some (edge_row h u v)
-  unfolding mev_at
-  edge_there = grind (arith, nat_tests, tables)
-
-  pub tail-h : tail N h ≡ u
-  tail-h = tail_row N h _ edge_there ∙ tail_first h u v
-
-  pub tail-m : tail N m ≡ v
-  tail-m = tail_row N m (edge_row h u v) (ap (table.get N.edges) (edge_of-mate h) ∙ edge_there) ∙ tail_second h u v
-
-  pub edge_mapped : (e : ℕ) → e ≢ edge_of h → table.get N.edges e ≡ option_map (with_tails (arc M g k) v e) (table.get M.edges e)
-  unfolding mev_at
-  edge_mapped e a = grind (arith, nat_tests, tables)
-
-  pub edge_apart : (x : ℕ) → HasHalf M x → edge_of x ≢ edge_of h
-  edge_apart x there e = true≢false (sym there ∙ ap is_some (ap (table.get M.edges) e ∙ goes.edge_free))
+  -- ---- tails
 
   pub tail_old : (x : ℕ) → HasHalf M x → tail N x ≡ cond (nat_lt 0 (count x moved)) v (tail M x)
   unfolding tail
-  tail_old x there = ap (λ o. tail_in (unwrap_or o no_edge) (is_first x)) (edge_mapped (edge_of x) (edge_apart x there)) ∙ tails_mapped (arc M g k) v x (table.get M.edges (edge_of x)) there
+  tail_old x there = ap (λ o. tail_in (unwrap_or o no_edge) (is_first x)) (edge_mapped (edge_of x) (edge_apart new_edge x there)) ∙ tails_mapped (arc M g k) v x (table.get M.edges (edge_of x)) there
       ∙ ap (λ a. cond (nat_lt 0 (count x a)) v (tail_in (unwrap_or (table.get M.edges (edge_of x)) no_edge) (is_first x))) arc_moved
 
   pub tail_moved : (x : ℕ) → HasHalf M x → IsIn x moved → tail N x ≡ v
@@ -179,31 +175,9 @@ module _ (M : Model) (sound : Sound M) (g k h v : ℕ) (p : Point) (goes : MevGo
   pub tail_kept : (x : ℕ) → HasHalf M x → count x moved ≡ 0 → tail N x ≡ tail M x
   tail_kept x there i = let b : nat_lt 0 (count x moved) ≡ false = grind (arith, nat_tests) in tail_old x there ∙ ap (λ c. cond c v (tail M x)) b
 
-  pub half_old : (x : ℕ) → HasHalf M x → HasHalf N x
-  half_old x there = ap is_some (edge_mapped (edge_of x) (edge_apart x there)) ∙ mapped_some _ (table.get M.edges (edge_of x)) ∙ there
-
-  pub half_h : HasHalf N h
-  half_h = ap is_some edge_there
-
-  pub half_m : HasHalf N m
-  half_m = ap is_some (ap (table.get N.edges) (edge_of-mate h) ∙ edge_there)
-
-  -- a half-edge is an old one, h or its mate
-  pub half_cases : (x : ℕ) → HasHalf N x → HasHalf M x ⊎ ((x ≡ h) ⊎ (x ≡ m))
-  half_cases x there = elim (eqb_tells (edge_of x) (edge_of h)) [
-    | inl e ↦ inr (same_edge x h e.1)
-    | inr e ↦ inl (sym (mapped_some _ (table.get M.edges (edge_of x))) ∙ ap is_some (sym (edge_mapped (edge_of x) e.1)) ∙ there)
-  ]
-
-  -- what moves starts at u, and u isn't v
+  -- what moves starts at u
   pub moved_old : (x : ℕ) → IsIn x moved → HasHalf M x × (tail M x ≡ u)
   moved_old x i = fan.of_it x (omega (arith, parts x))
-
-  pub never_v : (x : ℕ) → HasHalf M x → tail M x ≢ v
-  never_v x there e = no_tail M sound v goes.vertex_free x there e
-
-  pub u_v : u ≢ v
-  u_v = never_v g goes.g_there
 
   -- ---- walks
 
@@ -216,13 +190,13 @@ module _ (M : Model) (sound : Sound M) (g k h v : ℕ) (p : Point) (goes : MevGo
   at_h : (q : ℕ) → StandsIn N h q → r ≡ q
   at_h q t = elim (came h q t) [
     | inl a ↦ sound.one_loop g q a.1
-    | inr d ↦ elim d [ inl a ↦ absurd (mate_other h a.0) | inr a ↦ absurd (not_h h (sound.only_edges h q a) refl) ]
+    | inr d ↦ elim d [ inl a ↦ absurd (mate_other h a.0) | inr a ↦ absurd (not_h new_edge h (sound.only_edges h q a) refl) ]
   ]
 
   at_m : (q : ℕ) → StandsIn N m q → s ≡ q
   at_m q t = elim (came m q t) [
     | inl a ↦ absurd (mate_other h (sym a.0))
-    | inr d ↦ elim d [ inl a ↦ sound.one_loop k q a.1 | inr a ↦ absurd (not_m m (sound.only_edges m q a) refl) ]
+    | inr d ↦ elim d [ inl a ↦ sound.one_loop k q a.1 | inr a ↦ absurd (not_m new_edge m (sound.only_edges m q a) refl) ]
   ]
 
   at_old : (x q : ℕ) → x ≢ h → x ≢ m → StandsIn N x q → loop_of M x ≡ q
@@ -250,9 +224,9 @@ module _ (M : Model) (sound : Sound M) (g k h v : ℕ) (p : Point) (goes : MevGo
       | inl a ↦ at_h s (subst (λ y. StandsIn N y s) a.1 o)
       | inr a ↦ elim (eqb_tells x m) [ inl b ↦ sym (at_m r (subst (λ y. StandsIn N y r) b.1 t)) | inr b ↦ sym (at_old x r a.1 b.1 t) ∙ at_old x s a.1 b.1 o ]
     ];
-    stood = λ x e t. absurd (edge_apart x t e);
+    stood = λ x e t. absurd (edge_apart new_edge x t e);
     stands = λ x e t. of_edge (λ y. 1 ≤ in_both N r s y) h x (stands_both N r s h r (inl refl) stands_h) (stands_both N r s m s (inr refl) stands_m) e;
-    there = λ x e i. of_edge (HasHalf N) h x half_h half_m e;
+    there = λ x e i. of_edge (HasHalf N) h x (half_h new_edge) (half_m new_edge) e;
   }
 
   pub first_no_m : (q : ℕ) → count m (items_of (first q)) ≡ 0
@@ -281,12 +255,12 @@ module _ (M : Model) (sound : Sound M) (g k h v : ℕ) (p : Point) (goes : MevGo
     apart = apart_with m moved (λ y. omega (arith, parts y)) (m_fan fan);
     ring = parted.0;
     of_it = λ x i. elim (eqb_tells x m) [
-      | inl e ↦ (subst (HasHalf N) (sym e.1) half_m, ap (tail N) e.1 ∙ tail-m)
-      | inr e ↦ let j : IsIn x moved = omega (arith, tick_other x m e.1) in let o = moved_old x j in (half_old x o.0, tail_moved x o.0 j)
+      | inl e ↦ (subst (HasHalf N) (sym e.1) (half_m new_edge), ap (tail N) e.1 ∙ tail-m new_edge)
+      | inr e ↦ let j : IsIn x moved = omega (arith, tick_other x m e.1) in let o = moved_old x j in (half_old new_edge x o.0, tail_moved x o.0 j)
     ];
-    all = λ x there e. elim (half_cases x there) [
+    all = λ x there e. elim (half_cases new_edge x there) [
       | inl o ↦ elim (IsIn_or_not x moved) [ inl j ↦ omega arith | inr z ↦ absurd (never_v x o (sym (tail_kept x o z) ∙ e)) ]
-      | inr d ↦ elim d [ inl q ↦ absurd (u_v (sym tail-h ∙ ap (tail N) (sym q) ∙ e)) | inr q ↦ omega (arith, ap (tick x) (sym q), tick_same x) ]
+      | inr d ↦ elim d [ inl q ↦ absurd (u_v (sym (tail-h new_edge) ∙ ap (tail N) (sym q) ∙ e)) | inr q ↦ omega (arith, ap (tick x) (sym q), tick_same x) ]
     ];
   }
 
@@ -296,15 +270,15 @@ module _ (M : Model) (sound : Sound M) (g k h v : ℕ) (p : Point) (goes : MevGo
     apart = apart_with h left (λ y. omega (arith, parts y)) (h_fan fan);
     ring = parted.1;
     of_it = λ x i. elim (eqb_tells x h) [
-      | inl e ↦ (subst (HasHalf N) (sym e.1) half_h, ap (tail N) e.1 ∙ tail-h)
-      | inr e ↦ let j : IsIn x left = omega (arith, tick_other x h e.1) in let o = fan.of_it x (omega (arith, parts x)) in (half_old x o.0, tail_kept x o.0 (omega (arith, parts x, fan.apart x)) ∙ o.1)
+      | inl e ↦ (subst (HasHalf N) (sym e.1) (half_h new_edge), ap (tail N) e.1 ∙ tail-h new_edge)
+      | inr e ↦ let j : IsIn x left = omega (arith, tick_other x h e.1) in let o = fan.of_it x (omega (arith, parts x)) in (half_old new_edge x o.0, tail_kept x o.0 (omega (arith, parts x, fan.apart x)) ∙ o.1)
     ];
-    all = λ x there e. elim (half_cases x there) [
+    all = λ x there e. elim (half_cases new_edge x there) [
       | inl o ↦ elim (IsIn_or_not x moved) [
         | inl j ↦ absurd (u_v (sym e ∙ tail_moved x o j))
         | inr z ↦ let i = fan.all x o (sym (tail_kept x o z) ∙ e) in omega (arith, parts x)
       ]
-      | inr d ↦ elim d [ inl q ↦ omega (arith, ap (tick x) (sym q), tick_same x) | inr q ↦ absurd (u_v (sym e ∙ ap (tail N) q ∙ tail-m)) ]
+      | inr d ↦ elim d [ inl q ↦ omega (arith, ap (tick x) (sym q), tick_same x) | inr q ↦ absurd (u_v (sym e ∙ ap (tail N) q ∙ tail-m new_edge)) ]
     ];
   }
 
@@ -319,19 +293,19 @@ module _ (M : Model) (sound : Sound M) (g k h v : ℕ) (p : Point) (goes : MevGo
       record {
         items = f.items;
         apart = f.apart;
-        ring = fan_mev_other (after M) h g k (λ e. not_h k goes.k_there (sym e)) f.items f.apart (h_fan f) (m_fan f) f.ring no_g no_k;
-        of_it = λ y i. let t = f.of_it y i in (half_old y t.0, tail_kept y t.0 (not_moved y (λ e. a (sym t.1 ∙ e))) ∙ t.1);
-        all = λ y there e. elim (half_cases y there) [
+        ring = fan_mev_other (after M) h g k (λ e. not_h new_edge k goes.k_there (sym e)) f.items f.apart (h_fan f) (m_fan f) f.ring no_g no_k;
+        of_it = λ y i. let t = f.of_it y i in (half_old new_edge y t.0, tail_kept y t.0 (not_moved y (λ e. a (sym t.1 ∙ e))) ∙ t.1);
+        all = λ y there e. elim (half_cases new_edge y there) [
           | inl t ↦ elim (IsIn_or_not y moved) [
             | inl j ↦ absurd (never_v x o (sym e ∙ tail_moved y t j))
             | inr z ↦ f.all y t (sym (tail_kept y t z) ∙ e)
           ]
-          | inr d ↦ elim d [ inl q ↦ absurd (a (sym e ∙ ap (tail N) q ∙ tail-h)) | inr q ↦ absurd (never_v x o (sym e ∙ ap (tail N) q ∙ tail-m)) ]
+          | inr d ↦ elim d [ inl q ↦ absurd (a (sym e ∙ ap (tail N) q ∙ tail-h new_edge)) | inr q ↦ absurd (never_v x o (sym e ∙ ap (tail N) q ∙ tail-m new_edge)) ]
         ];
       }
 
   pub fans : (x : ℕ) → HasHalf N x → Fan F N (tail N x)
-  fans x there = elim (half_cases x there) [
+  fans x there = elim (half_cases new_edge x there) [
     | inl o ↦ elim (IsIn_or_not x moved) [
       | inl j ↦ subst (Fan F N) (sym (tail_moved x o j)) fan_v
       | inr z ↦ elim (eqb_tells (tail M x) u) [
@@ -339,7 +313,7 @@ module _ (M : Model) (sound : Sound M) (g k h v : ℕ) (p : Point) (goes : MevGo
         | inr e ↦ subst (Fan F N) (sym (tail_kept x o z)) (fan_else x o e.1)
       ]
     ]
-    | inr d ↦ elim d [ inl q ↦ subst (Fan F N) (sym (ap (tail N) q ∙ tail-h)) fan_u | inr q ↦ subst (Fan F N) (sym (ap (tail N) q ∙ tail-m)) fan_v ]
+    | inr d ↦ elim d [ inl q ↦ subst (Fan F N) (sym (ap (tail N) q ∙ tail-h new_edge)) fan_u | inr q ↦ subst (Fan F N) (sym (ap (tail N) q ∙ tail-m new_edge)) fan_v ]
   ]
 
   pub walks : Walks N F
@@ -371,32 +345,20 @@ module _ (M : Model) (sound : Sound M) (g k h v : ℕ) (p : Point) (goes : MevGo
       let t = mate_there M x o.0 in
       never_v (mate x) t (sym (tail_kept (mate x) t (not_moved (mate x) (λ s. sound.ends_differ x o.0 (o.1 ∙ sym s)))) ∙ e)
 
-  ends_differ : (x : ℕ) → HasHalf N x → tail N x ≢ tail N (mate x)
-  ends_differ x there same = elim (half_cases x there) [
-    | inl o ↦ let t = mate_there M x o in elim (IsIn_or_not x moved) [
-      | inl j ↦ other_end x j (sym same ∙ tail_moved x o j)
-      | inr z ↦ elim (IsIn_or_not (mate x) moved) [
-        | inl j ↦ never_v x o (sym (tail_kept x o z) ∙ same ∙ tail_moved (mate x) t j)
-        | inr y ↦ sound.ends_differ x o (sym (tail_kept x o z) ∙ same ∙ tail_kept (mate x) t y)
-      ]
-    ]
-    | inr d ↦ elim d [
-      | inl q ↦ u_v (sym tail-h ∙ ap (tail N) (sym q) ∙ same ∙ ap (λ y. tail N (mate y)) q ∙ tail-m)
-      | inr q ↦ u_v (sym tail-h ∙ ap (tail N) (sym (ap mate q ∙ mate-mate h)) ∙ sym same ∙ ap (tail N) q ∙ tail-m)
+  ends_differ : (x : ℕ) → HasHalf M x → tail N x ≢ tail N (mate x)
+  ends_differ x o same = let t = mate_there M x o in elim (IsIn_or_not x moved) [
+    | inl j ↦ other_end x j (sym same ∙ tail_moved x o j)
+    | inr z ↦ elim (IsIn_or_not (mate x) moved) [
+      | inl j ↦ never_v x o (sym (tail_kept x o z) ∙ same ∙ tail_moved (mate x) t j)
+      | inr y ↦ sound.ends_differ x o (sym (tail_kept x o z) ∙ same ∙ tail_kept (mate x) t y)
     ]
   ]
 
-  ends : NewEnds M N h u v
-  ends = record {
-    cases = half_cases;
-    old = half_old;
-    first = (half_h, tail-h);
-    second = (half_m, tail-m);
-    tails = λ x o. elim (IsIn_or_not x moved) [ inl j ↦ inr (tail_moved x o j, (moved_old x j).1) | inr z ↦ inl (tail_kept x o z) ];
-  }
+  tails : (x : ℕ) → HasHalf M x → (tail N x ≡ tail M x) ⊎ ((tail N x ≡ v) × (tail M x ≡ u))
+  tails x o = elim (IsIn_or_not x moved) [ inl j ↦ inr (tail_moved x o j, (moved_old x j).1) | inr z ↦ inl (tail_kept x o z) ]
 
   vertices : VerticesHold N
-  vertices = vertices-more sound ends (record {
+  vertices = vertices-more sound new_edge tails (record {
     first_there = has_vertex u (sound.tails_there g goes.g_there);
     second_there = vertex_new;
     on = has_vertex;

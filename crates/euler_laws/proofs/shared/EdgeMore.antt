@@ -13,47 +13,42 @@ use Rattle.euler_operators.specs.Model.{Model, lone, tail, tail_in, no_edge, aft
 use Rattle.euler_operators.specs.Sound.{Sound, Has, HasHalf, IsTail, IsLoneAt}
 use Rattle.euler_operators.proofs.Halves.{edge_of-mate, same_edge, mate-mate}
 use Rattle.euler_operators.proofs.Models.{tail_row, mate_there}
-use Rattle.euler_operators.proofs.Tables.{get-put_here, get-put_other}
+use Rattle.euler_operators.proofs.Tables.{get-put_here, get-put_other, row_elsewhere}
 use Rattle.euler_operators.specs.Effect.{edge_row}
 use Rattle.euler_laws.proofs.shared.Fans.{Fan, fan_of}
 use Rattle.euler_laws.proofs.shared.Arcs.{fan_mef_first, fan_mef_second, fan_mef_other}
 use Rattle.euler_laws.proofs.shared.Rows.{tail_first, tail_second}
 use Rattle.euler_laws.proofs.shared.Parts.{VerticesHold}
 
--- the edge of h is put, from u to w
-pub record OneMore (M N : Model) (h u w : ℕ) : Type 0 where
-  pub edges : N.edges ≡ table.put M.edges (edge_of h) (edge_row h u w)
-  pub free : table.get M.edges (edge_of h) ≡ None
-  pub ends_apart : u ≢ w
-
 -- what isn't of a fan doesn't stand in it
 pub not_in_fan : (next : ℕ → ℕ) (M : Model) (t : ℕ) (g : Fan next M t) (x : ℕ) → (HasHalf M x → tail M x ≢ t) → count x g.items ≡ 0
 not_in_fan next M t g x a = elim (IsIn_or_not x g.items) [ inl i ↦ absurd (a (g.of_it x i).0 (g.of_it x i).1) | inr n ↦ n ]
 
-module _ {M N : Model} {h u w : ℕ} (more : OneMore M N h u w) where
-  pub edge_there : table.get N.edges (edge_of h) ≡ Some (edge_row h u w)
-  edge_there = ap (λ t. table.get t (edge_of h)) more.edges ∙ get-put_here M.edges (edge_of h) (edge_row h u w)
+-- the edge of h comes, from u to w; other edges are there as before
+pub record EdgeComes (M N : Model) (h u w : ℕ) : Type 0 where
+  pub row : table.get N.edges (edge_of h) ≡ Some (edge_row h u w)
+  pub others : (e : ℕ) → e ≢ edge_of h → table.has N.edges e ≡ table.has M.edges e
+  pub free : table.get M.edges (edge_of h) ≡ None
+  pub ends_apart : u ≢ w
 
-  pub edge_other : (e : ℕ) → e ≢ edge_of h → table.get N.edges e ≡ table.get M.edges e
-  edge_other e a = ap (λ t. table.get t e) more.edges ∙ get-put_other M.edges (edge_of h) (edge_row h u w) e a
-
+module _ {M N : Model} {h u w : ℕ} (new : EdgeComes M N h u w) where
   mate_row : table.get N.edges (edge_of (mate h)) ≡ Some (edge_row h u w)
-  mate_row = ap (table.get N.edges) (edge_of-mate h) ∙ edge_there
+  mate_row = ap (table.get N.edges) (edge_of-mate h) ∙ new.row
 
   pub half_h : HasHalf N h
-  half_h = ap is_some edge_there
+  half_h = ap is_some new.row
 
   pub half_m : HasHalf N (mate h)
   half_m = ap is_some mate_row
 
   pub tail-h : tail N h ≡ u
-  tail-h = tail_row N h (edge_row h u w) edge_there ∙ tail_first h u w
+  tail-h = tail_row N h (edge_row h u w) new.row ∙ tail_first h u w
 
   pub tail-m : tail N (mate h) ≡ w
   tail-m = tail_row N (mate h) (edge_row h u w) mate_row ∙ tail_second h u w
 
   pub edge_apart : (x : ℕ) → HasHalf M x → edge_of x ≢ edge_of h
-  edge_apart x there e = true≢false (sym there ∙ ap is_some (ap (table.get M.edges) e ∙ more.free))
+  edge_apart x there = row_elsewhere M.edges (edge_of x) (edge_of h) there new.free
 
   pub not_h : (x : ℕ) → HasHalf M x → x ≢ h
   not_h x there e = edge_apart x there (ap edge_of e)
@@ -62,17 +57,42 @@ module _ {M N : Model} {h u w : ℕ} (more : OneMore M N h u w) where
   not_m x there e = edge_apart x there (ap edge_of e ∙ edge_of-mate h)
 
   pub half_old : (x : ℕ) → HasHalf M x → HasHalf N x
-  half_old x there = ap is_some (edge_other (edge_of x) (edge_apart x there)) ∙ there
-
-  pub tail_old : (x : ℕ) → HasHalf M x → tail N x ≡ tail M x
-  unfolding tail
-  tail_old x there = ap (λ o. tail_in (unwrap_or o no_edge) (is_first x)) (edge_other (edge_of x) (edge_apart x there))
+  half_old x there = new.others (edge_of x) (edge_apart x there) ∙ there
 
   pub half_cases : (x : ℕ) → HasHalf N x → HasHalf M x ⊎ ((x ≡ h) ⊎ (x ≡ mate h))
   half_cases x there = elim (eqb_tells (edge_of x) (edge_of h)) [
     | inl e ↦ inr (same_edge x h e.1)
-    | inr e ↦ inl (ap is_some (sym (edge_other (edge_of x) e.1)) ∙ there)
+    | inr e ↦ inl (sym (new.others (edge_of x) e.1) ∙ there)
   ]
+
+  -- its halves start at different vertices
+  pub new_ends_differ : (x : ℕ) → (x ≡ h) ⊎ (x ≡ mate h) → tail N x ≢ tail N (mate x)
+  new_ends_differ x d same = elim d [
+    | inl a ↦ new.ends_apart (sym tail-h ∙ ap (tail N) (sym a) ∙ same ∙ ap (λ y. tail N (mate y)) a ∙ tail-m)
+    | inr a ↦ new.ends_apart (sym tail-h ∙ ap (tail N) (sym (ap mate a ∙ mate-mate h)) ∙ sym same ∙ ap (tail N) a ∙ tail-m)
+  ]
+
+-- the edge of h is put, from u to w
+pub record OneMore (M N : Model) (h u w : ℕ) : Type 0 where
+  pub edges : N.edges ≡ table.put M.edges (edge_of h) (edge_row h u w)
+  pub free : table.get M.edges (edge_of h) ≡ None
+  pub ends_apart : u ≢ w
+
+module _ {M N : Model} {h u w : ℕ} (more : OneMore M N h u w) where
+  pub edge_other : (e : ℕ) → e ≢ edge_of h → table.get N.edges e ≡ table.get M.edges e
+  edge_other e a = ap (λ t. table.get t e) more.edges ∙ get-put_other M.edges (edge_of h) (edge_row h u w) e a
+
+  pub comes : EdgeComes M N h u w
+  comes = record {
+    row = ap (λ t. table.get t (edge_of h)) more.edges ∙ get-put_here M.edges (edge_of h) (edge_row h u w);
+    others = λ e a. ap is_some (edge_other e a);
+    free = more.free;
+    ends_apart = more.ends_apart;
+  }
+
+  pub tail_old : (x : ℕ) → HasHalf M x → tail N x ≡ tail M x
+  unfolding tail
+  tail_old x there = ap (λ o. tail_in (unwrap_or o no_edge) (is_first x)) (edge_other (edge_of x) (edge_apart comes x there))
 
   -- of the half-edges that start at t, x alone is new
   abbrev pub StartsAt : ℕ → ℕ → Type 0
@@ -80,21 +100,21 @@ module _ {M N : Model} {h u w : ℕ} (more : OneMore M N h u w) where
 
   pub first_starts : StartsAt u h
   first_starts = (
-    half_h,
-    tail-h,
-    λ y there e. elim (half_cases y there) [
+    half_h comes,
+    tail-h comes,
+    λ y there e. elim (half_cases comes y there) [
       | inl o ↦ inl o
-      | inr d ↦ elim d [ inl q ↦ inr q | inr q ↦ absurd (more.ends_apart (sym e ∙ ap (tail N) q ∙ tail-m)) ]
+      | inr d ↦ elim d [ inl q ↦ inr q | inr q ↦ absurd (more.ends_apart (sym e ∙ ap (tail N) q ∙ tail-m comes)) ]
     ],
   )
 
   pub second_starts : StartsAt w (mate h)
   second_starts = (
-    half_m,
-    tail-m,
-    λ y there e. elim (half_cases y there) [
+    half_m comes,
+    tail-m comes,
+    λ y there e. elim (half_cases comes y there) [
       | inl o ↦ inl o
-      | inr d ↦ elim d [ inl q ↦ absurd (more.ends_apart (sym tail-h ∙ ap (tail N) (sym q) ∙ e)) | inr q ↦ inr q ]
+      | inr d ↦ elim d [ inl q ↦ absurd (more.ends_apart (sym (tail-h comes) ∙ ap (tail N) (sym q) ∙ e)) | inr q ↦ inr q ]
     ],
   )
 
@@ -126,7 +146,7 @@ module _ {M N : Model} {h u w : ℕ} (more : OneMore M N h u w) where
         ring = ring;
         of_it = λ y i. elim (eqb_tells y x) [
           | inl e ↦ (subst (HasHalf N) (sym e.1) new.0, ap (tail N) e.1 ∙ new.1)
-          | inr e ↦ let o = g.of_it y (omega (arith, i, k y, tick_other y x e.1)) in (half_old y o.0, tail_old y o.0 ∙ o.1)
+          | inr e ↦ let o = g.of_it y (omega (arith, i, k y, tick_other y x e.1)) in (half_old comes y o.0, tail_old y o.0 ∙ o.1)
         ];
         all = λ y o e. elim (new.2 y o e) [
           | inl b ↦ omega (arith, k y, g.all y b (sym (tail_old y b) ∙ e))
@@ -140,21 +160,21 @@ module _ {M N : Model} {h u w : ℕ} (more : OneMore M N h u w) where
     items = g.items;
     apart = g.apart;
     ring = ring;
-    of_it = λ y i. let o = g.of_it y i in (half_old y o.0, tail_old y o.0 ∙ o.1);
-    all = λ y there e. elim (half_cases y there) [
+    of_it = λ y i. let o = g.of_it y i in (half_old comes y o.0, tail_old y o.0 ∙ o.1);
+    all = λ y there e. elim (half_cases comes y there) [
       | inl o ↦ g.all y o (sym (tail_old y o) ∙ e)
-      | inr d ↦ elim d [ inl q ↦ absurd (a (sym tail-h ∙ ap (tail N) (sym q) ∙ e)) | inr q ↦ absurd (b (sym tail-m ∙ ap (tail N) (sym q) ∙ e)) ]
+      | inr d ↦ elim d [ inl q ↦ absurd (a (sym (tail-h comes) ∙ ap (tail N) (sym q) ∙ e)) | inr q ↦ absurd (b (sym (tail-m comes) ∙ ap (tail N) (sym q) ∙ e)) ]
     ];
   }
 
   -- the fans of the two ends, and each other
   pub fans-more : (F : ℕ → ℕ) → Fan F N u → Fan F N w → ((x : ℕ) → HasHalf M x → u ≢ tail M x → w ≢ tail M x → Fan F N (tail M x)) → (x : ℕ) → HasHalf N x → Fan F N (tail N x)
-  fans-more F first second other x there = elim (half_cases x there) [
+  fans-more F first second other x there = elim (half_cases comes x there) [
     | inl o ↦ subst (Fan F N) (sym (tail_old x o)) (elim (eqb_tells (tail M x) u) [
       | inl a ↦ subst (Fan F N) (sym a.1) first
       | inr a ↦ elim (eqb_tells (tail M x) w) [ inl b ↦ subst (Fan F N) (sym b.1) second | inr b ↦ other x o (λ z. a.1 (sym z)) (λ z. b.1 (sym z)) ]
     ])
-    | inr d ↦ elim d [ inl a ↦ subst (Fan F N) (sym (ap (tail N) a ∙ tail-h)) first | inr a ↦ subst (Fan F N) (sym (ap (tail N) a ∙ tail-m)) second ]
+    | inr d ↦ elim d [ inl a ↦ subst (Fan F N) (sym (ap (tail N) a ∙ tail-h comes)) first | inr a ↦ subst (Fan F N) (sym (ap (tail N) a ∙ tail-m comes)) second ]
   ]
 
 -- ---- the rings and fans where h is put before c at u, and its mate before e at w
@@ -176,8 +196,8 @@ module _ {M N : Model} {h u w c e : ℕ} (more : OneMore M N h u w) (put : PutBe
   -- nothing new stands in an old fan, nor what starts elsewhere
   out : (t : ℕ) (g : Fan (after M) M t) → (count h g.items ≡ 0) × (count (mate h) g.items ≡ 0) × (u ≢ t → count c g.items ≡ 0) × (w ≢ t → count e g.items ≡ 0)
   out t g = (
-    not_in_fan (after M) M t g h (λ o z. not_h more h o refl),
-    not_in_fan (after M) M t g (mate h) (λ o z. not_m more (mate h) o refl),
+    not_in_fan (after M) M t g h (λ o z. not_h (comes more) h o refl),
+    not_in_fan (after M) M t g (mate h) (λ o z. not_m (comes more) (mate h) o refl),
     λ a. not_in_fan (after M) M t g c (λ o z. a (sym (put.first o) ∙ z)),
     λ a. not_in_fan (after M) M t g e (λ o z. a (sym (put.second o) ∙ z)),
   )
@@ -204,14 +224,6 @@ module _ {M N : Model} {h u w c e : ℕ} (more : OneMore M N h u w) (put : PutBe
 
 -- ---- what stands at vertices
 
--- an old half-edge starts where it did, or is moved from u to w
-pub record NewEnds (M N : Model) (h u w : ℕ) : Type 0 where
-  pub cases : (x : ℕ) → HasHalf N x → HasHalf M x ⊎ ((x ≡ h) ⊎ (x ≡ mate h))
-  pub old : (x : ℕ) → HasHalf M x → HasHalf N x
-  pub first : HasHalf N h × (tail N h ≡ u)
-  pub second : HasHalf N (mate h) × (tail N (mate h) ≡ w)
-  pub tails : (x : ℕ) → HasHalf M x → (tail N x ≡ tail M x) ⊎ ((tail N x ≡ w) × (tail M x ≡ u))
-
 -- u and w are vertices without a lone loop, other vertices and lone loops are as they were
 pub record NewVertices (M N : Model) (u w : ℕ) : Type 0 where
   pub first_there : Has N.vertices u
@@ -221,65 +233,45 @@ pub record NewVertices (M N : Model) (u w : ℕ) : Type 0 where
   pub lone_back : (q v : ℕ) → IsLoneAt N q v → IsLoneAt M q v × (v ≢ u) × (v ≢ w)
   pub lone_on : (q v : ℕ) → IsLoneAt M q v → v ≢ u → v ≢ w → IsLoneAt N q v
 
-module _ {M N : Model} {h u w : ℕ} (sound : Sound M) (ends : NewEnds M N h u w) (new : NewVertices M N u w) where
-  tail_u : (v : ℕ) → v ≡ u → IsTail N v
-  tail_u v e = record { half = h; there = ends.first.0; starts = ends.first.1 ∙ sym e }
-
-  tail_w : (v : ℕ) → v ≡ w → IsTail N v
-  tail_w v e = record { half = mate h; there = ends.second.0; starts = ends.second.1 ∙ sym e }
-
+-- where an old half-edge starts where it did, or is moved from u to w
+module _ {M N : Model} {h u w : ℕ} (sound : Sound M) (new : EdgeComes M N h u w) (tails : (x : ℕ) → HasHalf M x → (tail N x ≡ tail M x) ⊎ ((tail N x ≡ w) × (tail M x ≡ u))) where
   old_tail : (v : ℕ) → IsTail M v → v ≢ u → IsTail N v
   old_tail v t a = record {
     half = t.half;
-    there = ends.old t.half t.there;
-    starts = elim (ends.tails t.half t.there) [ inl e ↦ e ∙ t.starts | inr e ↦ absurd (a (sym t.starts ∙ e.1)) ];
+    there = half_old new t.half t.there;
+    starts = elim (tails t.half t.there) [ inl e ↦ e ∙ t.starts | inr e ↦ absurd (a (sym t.starts ∙ e.1)) ];
   }
 
   -- each tail is an old one, u or w
   tail_cases : (x : ℕ) → HasHalf N x → (HasHalf M x × (tail N x ≡ tail M x)) ⊎ ((tail N x ≡ u) ⊎ (tail N x ≡ w))
-  tail_cases x there = elim (ends.cases x there) [
-    | inl o ↦ elim (ends.tails x o) [ inl e ↦ inl (o, e) | inr e ↦ inr (inr e.0) ]
-    | inr d ↦ elim d [ inl e ↦ inr (inl (ap (tail N) e ∙ ends.first.1)) | inr e ↦ inr (inr (ap (tail N) e ∙ ends.second.1)) ]
+  tail_cases x there = elim (half_cases new x there) [
+    | inl o ↦ elim (tails x o) [ inl e ↦ inl (o, e) | inr e ↦ inr (inr e.0) ]
+    | inr d ↦ elim d [ inl e ↦ inr (inl (ap (tail N) e ∙ tail-h new)) | inr e ↦ inr (inr (ap (tail N) e ∙ tail-m new)) ]
   ]
 
-  pub vertices-more : ((x : ℕ) → HasHalf N x → tail N x ≢ tail N (mate x)) → VerticesHold N
-  vertices-more differ = record {
+  pub vertices-more : NewVertices M N u w → ((x : ℕ) → HasHalf M x → tail N x ≢ tail N (mate x)) → VerticesHold N
+  vertices-more vs differ = record {
     tails_there = λ x there. elim (tail_cases x there) [
-      | inl o ↦ subst (Has N.vertices) (sym o.1) (new.on _ (sound.tails_there x o.0))
-      | inr d ↦ elim d [ inl e ↦ subst (Has N.vertices) (sym e) new.first_there | inr e ↦ subst (Has N.vertices) (sym e) new.second_there ]
+      | inl o ↦ subst (Has N.vertices) (sym o.1) (vs.on _ (sound.tails_there x o.0))
+      | inr d ↦ elim d [ inl e ↦ subst (Has N.vertices) (sym e) vs.first_there | inr e ↦ subst (Has N.vertices) (sym e) vs.second_there ]
     ];
-    ends_differ = differ;
+    ends_differ = λ x there. elim (half_cases new x there) [ inl o ↦ differ x o | inr d ↦ new_ends_differ new x d ];
     lone_or_tail = λ v there. elim (eqb_tells v w) [
-      | inl b ↦ inr (tail_w v b.1)
+      | inl b ↦ inr (record { half = mate h; there = half_m new; starts = tail-m new ∙ sym b.1 })
       | inr b ↦ elim (eqb_tells v u) [
-        | inl a ↦ inr (tail_u v a.1)
-        | inr a ↦ elim (sound.lone_or_tail v (new.back v there b.1)) [ inl l ↦ inl (l.0, new.lone_on l.0 v l.1 a.1 b.1) | inr t ↦ inr (old_tail v t a.1) ]
+        | inl a ↦ inr (record { half = h; there = half_h new; starts = tail-h new ∙ sym a.1 })
+        | inr a ↦ elim (sound.lone_or_tail v (vs.back v there b.1)) [ inl l ↦ inl (l.0, vs.lone_on l.0 v l.1 a.1 b.1) | inr t ↦ inr (old_tail v t a.1) ]
       ]
     ];
-    lone_is_no_tail = λ q x there e. let b = new.lone_back q (tail N x) e in elim (tail_cases x there) [
+    lone_is_no_tail = λ q x there e. let b = vs.lone_back q (tail N x) e in elim (tail_cases x there) [
       | inl o ↦ sound.lone_is_no_tail q x o.0 (b.0 ∙ ap lone o.1)
       | inr d ↦ elim d [ inl s ↦ b.1 s | inr s ↦ b.2 s ]
     ];
-    one_lone = λ q k v a b. sound.one_lone q k v (new.lone_back q v a).0 (new.lone_back k v b).0;
-    lone_at_vertex = λ q v a. new.on v (sound.lone_at_vertex q v (new.lone_back q v a).0);
+    one_lone = λ q k v a b. sound.one_lone q k v (vs.lone_back q v a).0 (vs.lone_back k v b).0;
+    lone_at_vertex = λ q v a. vs.on v (sound.lone_at_vertex q v (vs.lone_back q v a).0);
   }
 
-module _ {M N : Model} {h u w : ℕ} (sound : Sound M) (more : OneMore M N h u w) where
-  new_ends : NewEnds M N h u w
-  new_ends = record {
-    cases = half_cases more;
-    old = half_old more;
-    first = (half_h more, tail-h more);
-    second = (half_m more, tail-m more);
-    tails = λ x o. inl (tail_old more x o);
-  }
-
-  -- where old half-edges start where they did
-  pub vertices_hold-more : NewVertices M N u w → VerticesHold N
-  vertices_hold-more new = vertices-more sound new_ends new (λ x there same. elim (half_cases more x there) [
-    | inl o ↦ sound.ends_differ x o (sym (tail_old more x o) ∙ same ∙ tail_old more (mate x) (mate_there M x o))
-    | inr d ↦ elim d [
-      | inl a ↦ more.ends_apart (sym (tail-h more) ∙ ap (tail N) (sym a) ∙ same ∙ ap (λ y. tail N (mate y)) a ∙ tail-m more)
-      | inr a ↦ more.ends_apart (sym (tail-h more) ∙ ap (tail N) (sym (ap mate a ∙ mate-mate h)) ∙ sym same ∙ ap (tail N) a ∙ tail-m more)
-    ]
-  ])
+-- where old half-edges start where they did
+pub vertices_hold-more : {M N : Model} {h u w : ℕ} → Sound M → OneMore M N h u w → NewVertices M N u w → VerticesHold N
+vertices_hold-more {M = M} sound more new = vertices-more sound (comes more) (λ x o. inl (tail_old more x o)) new
+    (λ x o same. sound.ends_differ x o (sym (tail_old more x o) ∙ same ∙ tail_old more (mate x) (mate_there M x o)))

@@ -247,9 +247,9 @@ two_rows-more {M = M} {N = N} {h = h} {r = r} {s = s} edge rows first second = r
   other_edge = λ d a. ap is_some (more.edge_other edge d a);
   others = rows.others;
   once = rows.once;
-  stood = λ x e t. absurd (more.edge_apart edge x t e);
+  stood = λ x e t. absurd (more.edge_apart (more.comes edge) x t e);
   stands = λ x e t. of_edge (λ y. 1 ≤ in_both N r s y) h x first second e;
-  there = λ x e i. of_edge (HasHalf N) h x (more.half_h edge) (more.half_m edge) e;
+  there = λ x e i. of_edge (HasHalf N) h x (more.half_h (more.comes edge)) (more.half_m (more.comes edge)) e;
 }
 
 pub two_rows-less : {M N : Model} {h r s : ℕ} → OneLess M N h → RowsChange M N h r s →
