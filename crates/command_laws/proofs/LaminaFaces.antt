@@ -1,76 +1,32 @@
 -- The two faces of a lamina.
 use Rattle.std.specs.Prelude.{length, map, reverse, take, ◌-◌, nat_le}
-use Rattle.std.proofs.Common.{◌≡◌, ◌≢◌, ℕ, zero, suc, ◌+◌, ◌≤◌, ◌<◌, true, not, nat_eq, ◌&&◌, List, [], ◌∷◌, ◌++◌, Some, None, is_some, refl, sym, ap, subst, ◌∙◌, arith, inl, inr}
+use Rattle.std.proofs.Common.{◌≡◌, ℕ, zero, suc, ◌+◌, ◌≤◌, ◌<◌, true, List, [], ◌∷◌, ◌++◌, None, is_some, refl, sym, ap, subst, ◌∙◌, arith, inl, inr}
 use Rattle.std.proofs.lemmas.List.{map-append, reverse-append}
 use Rattle.std.proofs.lemmas.Bool.Decides.{nat_tests, eqb_tells}
 use Rattle.euler_operators.specs.declared.Point.{Point}
-use Rattle.euler_operators.specs.Items.{count, IsIn, IsApart}
 use Rattle.euler_operators.specs.Rings.{canonical}
 use Rattle.euler_operators.specs.HalfEdge.{plus, minus}
 use Rattle.euler_operators.specs.Table as table
-use Rattle.euler_operators.specs.Table.{Table}
-use Rattle.euler_operators.specs.Model.{Model, EdgeRow, FaceRow, LoopRow, cycle, outer, point_of, rings_of}
+use Rattle.euler_operators.specs.Model.{Model, outer, point_of}
 use Rattle.euler_operators.specs.Sound.{Sound}
-use Rattle.euler_operators.proofs.Lists.{count-append, tick_other}
-use Rattle.euler_operators.proofs.Tables.{get-put_here, get-put_other, all_where_none}
-use Rattle.euler_operators.proofs.Models.{content_row, face_row, solid_row, outer_row, point_row, plus_tail_row, minus_tail_row}
+use Rattle.euler_operators.proofs.Models.{content_row, solid_row, outer_row, plus_tail_row, minus_tail_row}
 use Rattle.euler_laws.proofs.shared.Goes.{all_hold}
 use Rattle.shapes.specs.Faces.{start}
 use Rattle.shapes.specs.Fresh.{Taken, taken_in, numbers_after}
-use Rattle.euler_operators.proofs.Tests.{less_still, none_but}
-use Rattle.shapes.specs.Lamina.{lamina_conditions, lamina_refusal, lamina_at, lamina_model, with_points, with_path}
-use Rattle.shapes.proofs.fresh.Rows.{get-put_cases, greatest-put_last}
-use Rattle.sweeps_laws.specs.lamina.Path.{out, back}
-use Rattle.sweeps_laws.proofs.lamina.Lists.{canonical_first, back_apart, first_moved, plus_halves, minus_halves}
+use Rattle.euler_operators.proofs.Tests.{less_still}
+use Rattle.shapes.specs.Lamina.{lamina_conditions, lamina_refusal, lamina_at, lamina_model}
+use Rattle.shapes.proofs.fresh.Rows.{greatest-put_last}
+use Rattle.sweeps_laws.specs.lamina.Path.{out}
+use Rattle.sweeps_laws.proofs.lamina.Lists.{plus_halves, minus_halves}
 use Rattle.sweeps_laws.proofs.lamina.Walk.{lamina_is_sound}
 use Rattle.sweeps_laws.proofs.swept.Lifted.{Bounded}
 use Rattle.sweeps_laws.proofs.FromSound.{sound_bounded}
+use Rattle.sweeps_laws.proofs.LaminaRows as rows
+use Rattle.sweeps_laws.proofs.LaminaVolumes.{earlier, back_from_first}
 use Rattle.undo_journal.specs.Machine.{held}
 use Rattle.command_laws.specs.NewFaces.{nth, turned_back, last_face, IsFaceOf, LaminaHasTwoFaces, LaminaTakesTwoFaces}
 use Rattle.command_laws.proofs.Outlines.{take_next, take_whole, points_are, plane_is}
 use Rattle.command_laws.proofs.SweptLoops.{face_counted}
-
--- ---- the loop the other way round, from its least half-edge on
-
-abbrev earlier : ℕ → ℕ → List ℕ
-earlier e zero = []
-earlier e (suc j) = minus (e + suc (suc j)) ∷ earlier e j
-
-back_last : (e j : ℕ) → back e (suc j) ≡ earlier e j ++ minus (e + 1) ∷ []
-back_last e zero = refl
-back_last e (suc j) = ap (λ xs. minus (e + suc (suc j)) ∷ xs) (back_last e j)
-
-earlier_high : (e j y : ℕ) → IsIn y (earlier e j) → minus (e + 1) ≤ y
-earlier_high e zero y i = absurd (omega arith)
-earlier_high e (suc j) y i = elim (eqb_tells y (minus (e + suc (suc j)))) [
-  | inl p ↦ omega (arith, p.1)
-  | inr p ↦ earlier_high e j y (omega (arith, i, tick_other y (minus (e + suc (suc j))) p.1))
-]
-
-back_from_first : (e j : ℕ) → canonical (back e (suc j)) ≡ minus (e + 1) ∷ earlier e j
-back_from_first e j = ap canonical (back_last e j) ∙ first_moved (minus (e + 1)) (earlier e j) apart ∙ canonical_first (minus (e + 1)) (earlier e j) (earlier_high e j) where
-  apart : IsApart (minus (e + 1) ∷ earlier e j)
-  apart x = omega (arith, back_apart e (suc j) x, ap (count x) (back_last e j), count-append x (earlier e j) (minus (e + 1) ∷ []))
-
--- ---- rows put one after the other
-
-other_place : (a i j : ℕ) → i ≢ j → a + suc i ≢ a + suc j
-other_place a i j ne e = ne (omega arith)
-
-path_new : (t : Table EdgeRow) (e v j i : ℕ) → i < j → table.get (with_path t e v j) (e + suc i) ≡ Some (record { plus_tail = v + suc i; minus_tail = v + suc i + 1 })
-path_new t e v zero i l = absurd (omega arith)
-path_new t e v (suc j) i l = elim (eqb_tells i j) [
-  | inl p ↦ subst (λ k. table.get (with_path t e v (suc j)) (e + suc k) ≡ Some (record { plus_tail = v + suc k; minus_tail = v + suc k + 1 })) (sym p.1)
-      (get-put_here (with_path t e v j) (e + suc j) (record { plus_tail = v + suc j; minus_tail = v + suc j + 1 }))
-  | inr p ↦ get-put_other (with_path t e v j) (e + suc j) (record { plus_tail = v + suc j; minus_tail = v + suc j + 1 }) (e + suc i) (other_place e i j p.1) ∙ path_new t e v j i (less_still i j l p.1)
-]
-
-points_new : (t : Table Point) (v : ℕ) (ps : List Point) (j i : ℕ) → i < j → table.get (with_points t v ps j) (v + suc i) ≡ Some (nth ps i)
-points_new t v ps zero i l = absurd (omega arith)
-points_new t v ps (suc j) i l = elim (eqb_tells i j) [
-  | inl p ↦ subst (λ k. table.get (with_points t v ps (suc j)) (v + suc k) ≡ Some (nth ps k)) (sym p.1) (get-put_here (with_points t v ps j) (v + suc j) (nth ps j))
-  | inr p ↦ get-put_other (with_points t v ps j) (v + suc j) (nth ps j) (v + suc i) (other_place v i j p.1) ∙ points_new t v ps j i (less_still i j l p.1)
-]
 
 -- ---- a lamina of the points a, b and others
 
@@ -79,13 +35,7 @@ module _ (M : Model) (c : Taken) (s : ℕ) (a b : Point) (rest : List Point) (bo
   ps = a ∷ b ∷ rest
 
   abbrev pub drawn : Model
-  drawn = lamina_at M c s ps
-
-  abbrev first_face : FaceRow
-  first_face = record { solid = s; outer = c.loop + 1 }
-
-  abbrev second_face : FaceRow
-  second_face = record { solid = s; outer = c.loop + 2 }
+  drawn = rows.drawn M c s ps
 
   abbrev halves : List ℕ
   halves = map plus (numbers_after c.edge (length ps))
@@ -93,66 +43,21 @@ module _ (M : Model) (c : Taken) (s : ℕ) (a b : Point) (rest : List Point) (bo
   abbrev halves_back : List ℕ
   halves_back = canonical (reverse (map minus (numbers_after c.edge (length ps))))
 
-  abbrev first_loop : LoopRow
-  first_loop = record { face = c.face + 1; content = cycle halves }
-
-  abbrev second_loop : LoopRow
-  second_loop = record { face = c.face + 2; content = cycle halves_back }
-
-  face_one : table.get drawn.faces (c.face + 1) ≡ Some first_face
-  face_one = get-put_other (table.put M.faces (c.face + 1) first_face) (c.face + 2) second_face (c.face + 1) (λ z. absurd (omega (arith, z))) ∙ get-put_here M.faces (c.face + 1) first_face
-
-  face_two : table.get drawn.faces (c.face + 2) ≡ Some second_face
-  face_two = get-put_here (table.put M.faces (c.face + 1) first_face) (c.face + 2) second_face
-
-  loop_one : table.get drawn.loops (c.loop + 1) ≡ Some first_loop
-  loop_one = get-put_other (table.put M.loops (c.loop + 1) first_loop) (c.loop + 2) second_loop (c.loop + 1) (λ z. absurd (omega (arith, z))) ∙ get-put_here M.loops (c.loop + 1) first_loop
-
-  loop_two : table.get drawn.loops (c.loop + 2) ≡ Some second_loop
-  loop_two = get-put_here (table.put M.loops (c.loop + 1) first_loop) (c.loop + 2) second_loop
-
-  plain_one : rings_of drawn (c.face + 1) ≡ []
-  plain_one = all_where_none (λ q row. nat_eq row.face (c.face + 1) && not (nat_eq (outer drawn (c.face + 1)) q)) drawn.loops (λ q y at. none_but y.face (c.face + 1) (outer drawn (c.face + 1)) q (λ e.
-      outer_row drawn (c.face + 1) first_face face_one ∙ elim (get-put_cases (table.put M.loops (c.loop + 1) first_loop) (c.loop + 2) second_loop q y at) [
-        | inl p ↦ absurd (omega (arith, ap (λ r. r.face) p.1, e))
-        | inr p ↦ elim (get-put_cases M.loops (c.loop + 1) first_loop q y p.1) [ inl r ↦ sym r.0 | inr r ↦ absurd (omega (arith, subst (λ k. k ≤ c.face) (face_row M q y r.1) (bounded.loop_faces q), e)) ]
-      ]))
-
-  plain_two : rings_of drawn (c.face + 2) ≡ []
-  plain_two = all_where_none (λ q row. nat_eq row.face (c.face + 2) && not (nat_eq (outer drawn (c.face + 2)) q)) drawn.loops (λ q y at. none_but y.face (c.face + 2) (outer drawn (c.face + 2)) q (λ e.
-      outer_row drawn (c.face + 2) second_face face_two ∙ elim (get-put_cases (table.put M.loops (c.loop + 1) first_loop) (c.loop + 2) second_loop q y at) [
-        | inl p ↦ sym p.0
-        | inr p ↦ elim (get-put_cases M.loops (c.loop + 1) first_loop q y p.1) [
-          | inl r ↦ absurd (omega (arith, ap (λ r. r.face) r.1, e))
-          | inr r ↦ absurd (omega (arith, subst (λ k. k ≤ c.face) (face_row M q y r.1) (bounded.loop_faces q), e))
-        ]
-      ]))
-
   -- ---- where half-edges start
-
-  edge_at : (i : ℕ) → i < suc (length rest) → table.get drawn.edges (c.edge + suc i) ≡ Some (record { plus_tail = c.vertex + suc i; minus_tail = c.vertex + suc i + 1 })
-  edge_at i l = get-put_other (with_path M.edges c.edge c.vertex (length ps - 1)) (c.edge + suc (suc (length rest))) (record { plus_tail = c.vertex + suc (suc (length rest)); minus_tail = c.vertex + 1 }) (c.edge + suc i) (λ e. absurd (omega (arith, l, e)))
-      ∙ path_new M.edges c.edge c.vertex (length ps - 1) i (omega (arith, l))
-
-  last_edge_at : table.get drawn.edges (c.edge + suc (suc (length rest))) ≡ Some (record { plus_tail = c.vertex + suc (suc (length rest)); minus_tail = c.vertex + 1 })
-  last_edge_at = get-put_here (with_path M.edges c.edge c.vertex (length ps - 1)) (c.edge + suc (suc (length rest))) (record { plus_tail = c.vertex + suc (suc (length rest)); minus_tail = c.vertex + 1 })
-
-  point_at : (i : ℕ) → i < suc (suc (length rest)) → point_of drawn (c.vertex + suc i) ≡ nth ps i
-  point_at i l = point_row drawn (c.vertex + suc i) (nth ps i) (points_new M.vertices c.vertex ps (suc (suc (length rest))) i l)
 
   plus_at : (i : ℕ) → i < suc (suc (length rest)) → start drawn (plus (c.edge + suc i)) ≡ nth ps i
   plus_at i l = elim (eqb_tells i (suc (length rest))) [
-    | inl p ↦ subst (λ k. start drawn (plus (c.edge + suc k)) ≡ nth ps k) (sym p.1) (ap (point_of drawn) (plus_tail_row drawn (c.edge + suc (suc (length rest))) _ last_edge_at) ∙ point_at (suc (length rest)) (omega arith))
-    | inr p ↦ ap (point_of drawn) (plus_tail_row drawn (c.edge + suc i) _ (edge_at i (less_still i (suc (length rest)) l p.1))) ∙ point_at i l
+    | inl p ↦ subst (λ k. start drawn (plus (c.edge + suc k)) ≡ nth ps k) (sym p.1) (ap (point_of drawn) (plus_tail_row drawn (c.edge + suc (suc (length rest))) _ (rows.last_edge_at M c s ps)) ∙ rows.point_at M c s ps (suc (length rest)) (omega arith))
+    | inr p ↦ ap (point_of drawn) (plus_tail_row drawn (c.edge + suc i) _ (rows.edge_at M c s ps i (omega (arith, less_still i (suc (length rest)) l p.1)))) ∙ rows.point_at M c s ps i l
   ]
 
   minus_at : (i : ℕ) → i < suc (length rest) → start drawn (minus (c.edge + suc i)) ≡ nth ps (suc i)
-  minus_at i l = ap (point_of drawn) (minus_tail_row drawn (c.edge + suc i) _ (edge_at i l) ∙ more c.vertex i) ∙ point_at (suc i) (omega (arith, l)) where
+  minus_at i l = ap (point_of drawn) (minus_tail_row drawn (c.edge + suc i) _ (rows.edge_at M c s ps i (omega (arith, l))) ∙ more c.vertex i) ∙ rows.point_at M c s ps (suc i) (omega (arith, l)) where
     more : (v i : ℕ) → v + suc i + 1 ≡ v + suc (suc i)
     more v i = omega arith
 
   minus_last : start drawn (minus (c.edge + suc (suc (length rest)))) ≡ a
-  minus_last = ap (point_of drawn) (minus_tail_row drawn (c.edge + suc (suc (length rest))) _ last_edge_at) ∙ point_at 0 (omega arith)
+  minus_last = ap (point_of drawn) (minus_tail_row drawn (c.edge + suc (suc (length rest))) _ (rows.last_edge_at M c s ps)) ∙ rows.point_at M c s ps 0 (omega arith)
 
   out_starts : (k : ℕ) → k ≤ suc (suc (length rest)) → map (start drawn) (out c.edge k) ≡ take k ps
   out_starts zero m = refl
@@ -169,16 +74,16 @@ module _ (M : Model) (c : Taken) (s : ℕ) (a b : Point) (rest : List Point) (bo
   module _ (sound : Sound drawn) where
     pub one : IsFaceOf drawn (c.face + 1) s ps
     one =
-        let out_is = outer_row drawn (c.face + 1) first_face face_one in
-        let is = content_row drawn (c.loop + 1) first_loop loop_one in
-        let told = points_are drawn (c.face + 1) (c.loop + 1) halves plain_one out_is is ∙ ap (map (start drawn)) (plus_halves c.edge (length ps))
+        let out_is = outer_row drawn (c.face + 1) (rows.first_face M c s ps) (rows.face_one M c s ps) in
+        let is = content_row drawn (c.loop + 1) (rows.first_loop M c s ps) (rows.loop_one M c s ps) in
+        let told = points_are drawn (c.face + 1) (c.loop + 1) halves (rows.rings_one M c s ps bounded) out_is is ∙ ap (map (start drawn)) (plus_halves c.edge (length ps))
         ∙ out_starts (suc (suc (length rest))) (omega arith) ∙ take_whole ps in
         record {
-          there = ap is_some face_one;
-          solid = solid_row drawn (c.face + 1) first_face face_one;
-          plain = plain_one;
+          there = ap is_some (rows.face_one M c s ps);
+          solid = solid_row drawn (c.face + 1) (rows.first_face M c s ps) (rows.face_one M c s ps);
+          plain = rows.rings_one M c s ps bounded;
           points = told;
-          plane = plane_is drawn (c.face + 1) (c.loop + 1) halves plain_one out_is is sound (ap is_some loop_one) (omega arith) ps told;
+          plane = plane_is drawn (c.face + 1) (c.loop + 1) halves (rows.rings_one M c s ps bounded) out_is is sound (ap is_some (rows.loop_one M c s ps)) (omega arith) ps told;
         }
 
     back_is : halves_back ≡ minus (c.edge + 1) ∷ minus (c.edge + suc (suc (length rest))) ∷ earlier c.edge (length rest)
@@ -186,16 +91,16 @@ module _ (M : Model) (c : Taken) (s : ℕ) (a b : Point) (rest : List Point) (bo
 
     pub two : IsFaceOf drawn (c.face + 2) s (turned_back ps)
     two =
-        let out_is = outer_row drawn (c.face + 2) second_face face_two in
-        let is = content_row drawn (c.loop + 2) second_loop loop_two in
-        let told = points_are drawn (c.face + 2) (c.loop + 2) halves_back plain_two out_is is ∙ ap (map (start drawn)) back_is
+        let out_is = outer_row drawn (c.face + 2) (rows.second_face M c s ps) (rows.face_two M c s ps) in
+        let is = content_row drawn (c.loop + 2) (rows.second_loop M c s ps) (rows.loop_two M c s ps) in
+        let told = points_are drawn (c.face + 2) (c.loop + 2) halves_back (rows.rings_two M c s ps bounded) out_is is ∙ ap (map (start drawn)) back_is
         ∙ (λ t. minus_at 0 (omega arith) t ∷ minus_last t ∷ (earlier_starts (length rest) (omega arith) ∙ ap reverse (take_whole rest)) t) in
         record {
-          there = ap is_some face_two;
-          solid = solid_row drawn (c.face + 2) second_face face_two;
-          plain = plain_two;
+          there = ap is_some (rows.face_two M c s ps);
+          solid = solid_row drawn (c.face + 2) (rows.second_face M c s ps) (rows.face_two M c s ps);
+          plain = rows.rings_two M c s ps bounded;
           points = told;
-          plane = plane_is drawn (c.face + 2) (c.loop + 2) halves_back plain_two out_is is sound (ap is_some loop_two) (subst (λ hs. 0 < length hs) (sym back_is) (omega arith)) (turned_back ps) told;
+          plane = plane_is drawn (c.face + 2) (c.loop + 2) halves_back (rows.rings_two M c s ps bounded) out_is is sound (ap is_some (rows.loop_two M c s ps)) (subst (λ hs. 0 < length hs) (sym back_is) (omega arith)) (turned_back ps) told;
         }
 
 pub greatest_drawn : (M : Model) (c : Taken) (s : ℕ) (ps : List Point) → table.greatest M.faces ≤ c.face → table.greatest (lamina_at M c s ps).faces ≡ c.face + 2

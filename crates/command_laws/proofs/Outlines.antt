@@ -1,18 +1,16 @@
 -- The corners of a face without rings, and the plane that they tell.
 use Rattle.std.specs.Prelude.{length, get_or, map, take}
-use Rattle.std.proofs.Common.{◌≡◌, ℕ, zero, suc, ◌+◌, ◌<◌, List, [], ◌∷◌, ◌++◌, Some, is_some, refl, sym, ap, subst, ◌∙◌, arith, append-nil, ◌≢◌, inl, inr}
+use Rattle.std.proofs.Common.{◌≡◌, ℕ, zero, suc, ◌+◌, ◌<◌, List, [], ◌∷◌, ◌++◌, Some, is_some, refl, sym, ap, subst, ◌∙◌, arith, append-nil}
 use Rattle.euler_operators.specs.declared.Point.{Point}
 use Rattle.euler_operators.specs.Vectors.{origin, moved, cross}
 use Rattle.euler_operators.specs.Items.{IsIn, head_or}
 use Rattle.euler_operators.specs.Rings.{IsPath, IsRing}
 use Rattle.euler_operators.specs.Table as table
 use Rattle.euler_operators.specs.Model.{Model, LoopContent, cycle, items_of, tail, content, outer, point_of, rings_of, after}
-use Rattle.euler_operators.specs.Sound.{Sound, Has, HasHalf, IsCycle}
+use Rattle.euler_operators.specs.Sound.{Sound, Has, IsCycle}
 use Rattle.euler_operators.proofs.Models.{item_there, content_row, face_row}
-use Rattle.euler_operators.proofs.Std.{IsIn-get_or}
-use Rattle.shapes.specs.Prism.{next_place}
-use Rattle.sweeps_laws.proofs.swept.Numbers.{next_cases}
 use Rattle.sweeps_laws.proofs.swept.Lifted.{IsPathOf}
+use Rattle.sweeps_laws.proofs.FromSound.{sound_path}
 use Rattle.euler_operators.proofs.Members.{IsIn_rest}
 use Rattle.euler_operators.proofs.Rotations.{IsIn_head}
 use Rattle.euler_laws.proofs.shared.Loops.{loop_sound, IsLoop}
@@ -53,47 +51,8 @@ area_round M [] e p ends = refl
 area_round M (x ∷ []) e p ends = ap (λ q. moved (cross (start M x) q) origin) (ends x (IsIn_head x []) ∙ ap (start M) p.0)
 area_round M (x ∷ y ∷ ys) e p ends = λ t. moved (cross (start M x) ((ends x (IsIn_head x (y ∷ ys)) ∙ ap (start M) p.0) t)) (area_round M (y ∷ ys) e p.1 (λ h i. ends h (IsIn_rest h x (y ∷ ys) i)) t)
 
--- ---- places of a ring
-
-place_inner : (next : ℕ → ℕ) (xs : List ℕ) (e i : ℕ) → IsPath next xs e → suc i < length xs → next (get_or xs i 0) ≡ get_or xs (suc i) 0
-place_inner next [] e i p l = absurd (omega arith)
-place_inner next (x ∷ []) e i p l = absurd (omega arith)
-place_inner next (x ∷ y ∷ ys) e zero p l = p.0
-place_inner next (x ∷ y ∷ ys) e (suc i) p l = place_inner next (y ∷ ys) e i p.1 (omega (arith, l))
-
-place_last : (next : ℕ → ℕ) (xs : List ℕ) (e i : ℕ) → IsPath next xs e → suc i ≡ length xs → next (get_or xs i 0) ≡ e
-place_last next [] e i p l = absurd (omega arith)
-place_last next (x ∷ []) e zero p l = p.0
-place_last next (x ∷ []) e (suc i) p l = absurd (omega arith)
-place_last next (x ∷ y ∷ ys) e zero p l = absurd (omega arith)
-place_last next (x ∷ y ∷ ys) e (suc i) p l = place_last next (y ∷ ys) e i p.1 (less i (length ys) l) where
-  less : (i n : ℕ) → suc (suc i) ≡ suc (suc n) → suc i ≡ suc n
-  less i n l = omega arith
-
-head_is : (hs : List ℕ) → head_or 0 hs ≡ get_or hs 0 0
-head_is [] = refl
-head_is (h ∷ hs) = refl
-
-place_next : (next : ℕ → ℕ) (xs : List ℕ) (i : ℕ) → IsRing next xs → i < length xs → next (get_or xs i 0) ≡ get_or xs (next_place (length xs) i) 0
-place_next next xs i r l = elim (next_cases (length xs) i) [
-  | inl p ↦ place_last next xs (head_or 0 xs) i r (one i (length xs) p.0) ∙ head_is xs ∙ ap (λ k. get_or xs k 0) (sym p.1)
-  | inr p ↦ place_inner next xs (head_or 0 xs) i r (inner i (length xs) l p.0) ∙ ap (λ k. get_or xs k 0) (same i ∙ sym p.1)
-] where
-  one : (i n : ℕ) → i + 1 ≡ n → suc i ≡ n
-  one i n e = omega arith
-
-  inner : (i n : ℕ) → i < n → i + 1 ≢ n → suc i < n
-  inner i n l ne = grind arith
-
-  same : (i : ℕ) → suc i ≡ i + 1
-  same i = omega arith
-
 ring_in : (M : Model) (hs : List ℕ) (x : LoopContent) → x ≡ cycle hs → IsLoop (after M) x → IsCycle hs × IsRing (after M) hs
 ring_in M hs x e w = subst (IsLoop (after M)) e w
-
-some_items : (hs : List ℕ) → hs ≢ [] → 0 < length hs
-some_items [] ne = absurd (ne refl)
-some_items (h ∷ hs) ne = omega arith
 
 -- in a sound model a loop that isn't lone is a closed path
 module _ (M : Model) (sound : Sound M) (f l : ℕ) (hs : List ℕ) (at : table.get M.loops l ≡ Some (record { face = f; content = cycle hs })) where
@@ -101,15 +60,7 @@ module _ (M : Model) (sound : Sound M) (f l : ℕ) (hs : List ℕ) (at : table.g
   held = content_row M l _ at
 
   pub ring_path : IsPathOf M f l hs
-  ring_path = record {
-    there = ap is_some at;
-    of_face = face_row M l _ at;
-    content = held;
-    some_item = some_items hs (sound.cycles l hs (ap is_some at) held).some_item;
-    linked = λ i m. ap (point_of M) (sym (sound.ends_meet (get_or hs i 0) (half i m)) ∙ ap (tail M) (place_next (after M) hs i (ring_in M hs (content M l) held (loop_sound M sound l (ap is_some at))).1 m));
-  } where
-    half : (i : ℕ) → i < length hs → HasHalf M (get_or hs i 0)
-    half i m = item_there M sound l (get_or hs i 0) (subst (λ x. IsIn (get_or hs i 0) (items_of x)) (sym held) (IsIn-get_or hs i 0 m))
+  ring_path = sound_path M sound f l hs (ap is_some at) (face_row M l _ at) held
 
 module _ (M : Model) (f l : ℕ) (hs : List ℕ) (plain : rings_of M f ≡ []) (out : outer M f ≡ l) (is : content M l ≡ cycle hs) where
   pub points_are : corner_points M f ≡ map (start M) hs

@@ -115,7 +115,7 @@ module _ (M : Model) (sound : Sound M) where
     all n = omega arith
 
   -- a loop that isn't lone is a closed path
-  sound_path : (f l : ℕ) (hs : List ℕ) → Has M.loops l → face_of M l ≡ f → content M l ≡ cycle hs → IsPathOf M f l hs
+  pub sound_path : (f l : ℕ) (hs : List ℕ) → Has M.loops l → face_of M l ≡ f → content M l ≡ cycle hs → IsPathOf M f l hs
   sound_path f l hs there of is = record {
     there = there;
     of_face = of;

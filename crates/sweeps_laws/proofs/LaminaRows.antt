@@ -1,21 +1,21 @@
 -- The rows of a lamina: its two faces and their loops.
-use Rattle.std.specs.Prelude.{length, map, reverse}
-use Rattle.std.proofs.Common.{◌≡◌, ◌≢◌, ℕ, ◌+◌, ◌≤◌, Bool, cond, not, nat_eq, ◌&&◌, List, [], ◌∷◌, ◌++◌, Some, is_some, sym, ap, subst, ◌∙◌, arith, ◌⊎◌, inl, inr, None}
+use Rattle.std.specs.Prelude.{length, get_or, map, reverse, ◌-◌}
+use Rattle.std.proofs.Common.{◌≡◌, ◌≢◌, ℕ, suc, ◌+◌, ◌≤◌, ◌<◌, Bool, cond, not, nat_eq, ◌&&◌, List, [], ◌∷◌, ◌++◌, Some, is_some, sym, ap, subst, ◌∙◌, arith, ◌⊎◌, inl, inr, None}
 use Rattle.euler_operators.specs.declared.Point.{Point}
 use Rattle.euler_operators.specs.Rings.{canonical}
 use Rattle.euler_operators.specs.HalfEdge.{plus, minus}
 use Rattle.euler_operators.specs.Table as table
-use Rattle.euler_operators.specs.Model.{Model, cycle, FaceRow, LoopRow, outer, solid_of, rings_of, faces_of}
+use Rattle.euler_operators.specs.Model.{Model, cycle, FaceRow, LoopRow, no_point, outer, solid_of, point_of, rings_of, faces_of}
 use Rattle.euler_operators.specs.Sound.{Has}
 use Rattle.euler_operators.proofs.Tables.{all_where_none, first_where_zero, get-put_here, get-put_other}
-use Rattle.euler_operators.proofs.Models.{face_row, solid_row, outer_row}
+use Rattle.euler_operators.proofs.Models.{face_row, solid_row, outer_row, point_row}
 use Rattle.euler_operators.proofs.Tests.{none_but, nat_eq_itself}
 use Rattle.euler_operators.specs.Conditions.{is_lone, lists}
 use Rattle.shapes.specs.Faces.{least_lone}
 use Rattle.shapes.specs.Fresh.{Taken, numbers_after, found}
-use Rattle.shapes.specs.Lamina.{lamina_at}
+use Rattle.shapes.specs.Lamina.{lamina_at, with_path}
 use Rattle.shapes.proofs.fresh.Rows.{get-put_cases, all_where-put_last, greatest-put_last}
-use Rattle.sweeps_laws.proofs.lamina.Blocks.{one_or_two, low_not_one, no_lone}
+use Rattle.sweeps_laws.proofs.lamina.Blocks.{path_new, points_new, one_or_two, low_not_one, no_lone}
 use Rattle.sweeps_laws.proofs.swept.Lifted.{Bounded}
 
 one_two : (a : ℕ) → a + 1 ≢ a + 2
@@ -54,6 +54,17 @@ module _ (M : Model) (c : Taken) (s : ℕ) (ps : List Point) where
 
   pub there_one : Has drawn.faces (c.face + 1)
   there_one = ap is_some face_one
+
+  -- the edges, of which the last leads back to the first point, and the points
+  pub edge_at : (i : ℕ) → suc i < length ps → table.get drawn.edges (c.edge + suc i) ≡ Some (record { plus_tail = c.vertex + suc i; minus_tail = c.vertex + suc i + 1 })
+  edge_at i l = get-put_other (with_path M.edges c.edge c.vertex (length ps - 1)) (c.edge + length ps) (record { plus_tail = c.vertex + length ps; minus_tail = c.vertex + 1 }) (c.edge + suc i) (λ e. absurd (omega (arith, l, e)))
+      ∙ path_new M.edges c.edge c.vertex (length ps - 1) i (omega (arith, l))
+
+  pub last_edge_at : table.get drawn.edges (c.edge + length ps) ≡ Some (record { plus_tail = c.vertex + length ps; minus_tail = c.vertex + 1 })
+  last_edge_at = get-put_here (with_path M.edges c.edge c.vertex (length ps - 1)) (c.edge + length ps) (record { plus_tail = c.vertex + length ps; minus_tail = c.vertex + 1 })
+
+  pub point_at : (i : ℕ) → i < length ps → point_of drawn (c.vertex + suc i) ≡ get_or ps i no_point
+  point_at i l = point_row drawn (c.vertex + suc i) (get_or ps i no_point) (points_new M.vertices c.vertex ps (length ps) i l)
 
   module _ (bounded : Bounded M c) where
     -- a loop is one of the two new ones, or was there

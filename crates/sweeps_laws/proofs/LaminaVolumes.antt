@@ -1,6 +1,6 @@
 -- The six volumes of a lamina: its two faces have opposite normals, and one is told from the first point, the other from the second.
 use Rattle.std.specs.Prelude.{length, get_or, map, reverse, ◌-◌}
-use Rattle.std.proofs.Common.{◌≡◌, ◌≢◌, ℕ, zero, suc, ◌+◌, ◌≤◌, ◌<◌, ℤ, pos, ◌+ℤ◌, ◌-ℤ◌, neg_ℤ, true, List, [], ◌∷◌, ◌++◌, Some, refl, sym, ap, subst, ◌∙◌, arith, inl, inr, append-nil}
+use Rattle.std.proofs.Common.{◌≡◌, ℕ, zero, suc, ◌+◌, ◌≤◌, ◌<◌, ℤ, pos, ◌+ℤ◌, ◌-ℤ◌, neg_ℤ, true, List, [], ◌∷◌, ◌++◌, refl, sym, ap, subst, ◌∙◌, arith, inl, inr, append-nil}
 use Rattle.std.proofs.lemmas.Bool.Decides.{eqb_tells}
 use Rattle.std.proofs.lemmas.Int.{ints}
 use Rattle.euler_operators.specs.declared.Point.{Point}
@@ -8,11 +8,9 @@ use Rattle.euler_operators.specs.Vectors.{dot}
 use Rattle.euler_operators.specs.Items.{count, IsIn, IsApart, head_or}
 use Rattle.euler_operators.specs.Rings.{canonical}
 use Rattle.euler_operators.specs.HalfEdge.{mate, plus, minus}
-use Rattle.euler_operators.specs.Table as table
 use Rattle.euler_operators.specs.Model.{Model, cycle, no_point, items_of, tail, content, outer, point_of, faces_of}
 use Rattle.euler_operators.specs.Conditions.{lists}
-use Rattle.euler_operators.proofs.Tables.{get-put_other}
-use Rattle.euler_operators.proofs.Models.{content_row, outer_row, point_row, plus_tail_row, minus_tail_row}
+use Rattle.euler_operators.proofs.Models.{content_row, outer_row, plus_tail_row, minus_tail_row}
 use Rattle.euler_operators.proofs.Halves.{mate_plus}
 use Rattle.euler_operators.proofs.Lists.{count-append, tick_same, tick_other}
 use Rattle.euler_operators.proofs.Rotations.{count-canonical}
@@ -20,14 +18,12 @@ use Rattle.euler_operators.proofs.Members.{IsIn-map}
 use Rattle.euler_laws.proofs.shared.Listed.{listed-from_in}
 use Rattle.shapes.specs.Faces.{items_in, vertices_in, vertices_on, corners, loops_of}
 use Rattle.shapes.specs.Fresh.{Taken, numbers_after}
-use Rattle.shapes.specs.Lamina.{with_path}
 use Rattle.shapes.specs.Measure.{area, normal, anchor, first_vertex, is_flat, volume_in, six_volume}
 use Rattle.shapes.specs.Vectors.{negated}
 use Rattle.shapes.proofs.measures.Sums.{dot_back, area_same, area_back}
 use Rattle.shapes.proofs.measures.FlatFaces.{corner_told}
 use Rattle.sweeps_laws.specs.lamina.Path.{out, back}
 use Rattle.sweeps_laws.proofs.lamina.Lists.{out_first, plus_halves, minus_halves, back_apart, first_moved, canonical_first}
-use Rattle.sweeps_laws.proofs.lamina.Blocks.{path_new, points_new}
 use Rattle.sweeps_laws.proofs.LaminaRows as rows
 use Rattle.sweeps_laws.proofs.swept.Lifted.{Bounded}
 use Rattle.sweeps_laws.proofs.Loops.{normal_is}
@@ -36,7 +32,7 @@ use Rattle.sweeps_laws.proofs.Volumes.{six_volume_is}
 -- ---- the loop the other way round, from its least half-edge on
 
 -- the minus halves before the first edge's
-abbrev earlier : ℕ → ℕ → List ℕ
+abbrev pub earlier : ℕ → ℕ → List ℕ
 earlier e zero = []
 earlier e (suc j) = minus (e + suc (suc j)) ∷ earlier e j
 
@@ -51,7 +47,7 @@ earlier_high e (suc j) y i = elim (eqb_tells y (minus (e + suc (suc j)))) [
   | inr p ↦ earlier_high e j y (omega (arith, i, tick_other y (minus (e + suc (suc j))) p.1))
 ]
 
-back_from_first : (e j : ℕ) → canonical (back e (suc j)) ≡ minus (e + 1) ∷ earlier e j
+pub back_from_first : (e j : ℕ) → canonical (back e (suc j)) ≡ minus (e + 1) ∷ earlier e j
 back_from_first e j = ap canonical (back_last e j) ∙ first_moved (minus (e + 1)) (earlier e j) apart ∙ canonical_first (minus (e + 1)) (earlier e j) (earlier_high e j) where
   apart : IsApart (minus (e + 1) ∷ earlier e j)
   apart x = omega (arith, back_apart e (suc j) x, ap (count x) (back_last e j), count-append x (earlier e j) (minus (e + 1) ∷ []))
@@ -85,24 +81,14 @@ module _ (M : Model) (c : Taken) (s : ℕ) (ps : List Point) (k : ℕ) (many : l
   abbrev halves_back : List ℕ
   halves_back = reverse (map minus (numbers_after c.edge (length ps)))
 
-  -- the rows of the first two edges and points
-  edge_at : (i : ℕ) → i < suc (suc k) → table.get drawn.edges (c.edge + suc i) ≡ Some (record { plus_tail = c.vertex + suc i; minus_tail = c.vertex + suc i + 1 })
-  edge_at i l = get-put_other (with_path M.edges c.edge c.vertex (length ps - 1)) (c.edge + length ps) (record { plus_tail = c.vertex + length ps; minus_tail = c.vertex + 1 }) (c.edge + suc i) (before c.edge i (length ps) k many l)
-      ∙ path_new M.edges c.edge c.vertex (length ps - 1) i (omega (arith, many, l)) where
-        before : (e i n k : ℕ) → n ≡ suc (suc (suc k)) → i < suc (suc k) → e + suc i ≢ e + n
-        before e i n k m l z = absurd (omega arith)
-
-  point_at : (i : ℕ) → i < suc (suc k) → point_of drawn (c.vertex + suc i) ≡ get_or ps i no_point
-  point_at i l = point_row drawn (c.vertex + suc i) (get_or ps i no_point) (points_new M.vertices c.vertex ps (length ps) i (omega (arith, many, l)))
-
   out_at : (i : ℕ) → i < suc (suc k) → tail drawn (plus (c.edge + suc i)) ≡ c.vertex + suc i
-  out_at i l = plus_tail_row drawn (c.edge + suc i) (record { plus_tail = c.vertex + suc i; minus_tail = c.vertex + suc i + 1 }) (edge_at i l)
+  out_at i l = plus_tail_row drawn (c.edge + suc i) (record { plus_tail = c.vertex + suc i; minus_tail = c.vertex + suc i + 1 }) (rows.edge_at M c s ps i (omega (arith, many, l)))
 
   one_more : (v : ℕ) → v + 1 + 1 ≡ v + 2
   one_more v = omega arith
 
   back_one : tail drawn (minus (c.edge + 1)) ≡ c.vertex + 2
-  back_one = minus_tail_row drawn (c.edge + 1) (record { plus_tail = c.vertex + 1; minus_tail = c.vertex + 1 + 1 }) (edge_at 0 (omega arith)) ∙ one_more c.vertex
+  back_one = minus_tail_row drawn (c.edge + 1) (record { plus_tail = c.vertex + 1; minus_tail = c.vertex + 1 + 1 }) (rows.edge_at M c s ps 0 (omega (arith, many))) ∙ one_more c.vertex
 
   -- ---- the first face
 
@@ -118,7 +104,7 @@ module _ (M : Model) (c : Taken) (s : ℕ) (ps : List Point) (k : ℕ) (many : l
   anchor_one : anchor drawn face ≡ get_or ps 0 no_point
   anchor_one = ap (λ q. point_of drawn (first_vertex drawn (content drawn q))) outer_one ∙ ap (λ x. point_of drawn (first_vertex drawn x)) content_one
       ∙ ap (λ hs. point_of drawn (tail drawn (head_or 0 hs))) (halves_are ∙ out_first c.edge (suc (suc k)))
-      ∙ ap (point_of drawn) (out_at 0 (omega arith)) ∙ point_at 0 (omega arith)
+      ∙ ap (point_of drawn) (out_at 0 (omega arith)) ∙ rows.point_at M c s ps 0 (omega (arith, many))
 
   normal_one : normal drawn face ≡ area drawn halves
   normal_one = normal_is drawn face ∙ ap (λ rs. area drawn (items_in drawn (outer drawn face ∷ rs))) (rows.rings_one M c s ps b)
@@ -136,7 +122,7 @@ module _ (M : Model) (c : Taken) (s : ℕ) (ps : List Point) (k : ℕ) (many : l
   anchor_two = ap (λ q. point_of drawn (first_vertex drawn (content drawn q))) outer_two ∙ ap (λ x. point_of drawn (first_vertex drawn x)) content_two
       ∙ ap (λ hs. point_of drawn (tail drawn (head_or 0 (canonical hs)))) (minus_halves c.edge (length ps) ∙ ap (back c.edge) many)
       ∙ ap (λ hs. point_of drawn (tail drawn (head_or 0 hs))) (back_from_first c.edge (suc (suc k)))
-      ∙ ap (point_of drawn) back_one ∙ point_at 1 (omega arith)
+      ∙ ap (point_of drawn) back_one ∙ rows.point_at M c s ps 1 (omega (arith, many))
 
   normal_two : normal drawn (c.face + 2) ≡ negated (normal drawn face)
   normal_two = normal_is drawn (c.face + 2) ∙ ap (λ rs. area drawn (items_in drawn (outer drawn (c.face + 2) ∷ rs))) (rows.rings_two M c s ps b)
@@ -165,4 +151,4 @@ module _ (M : Model) (c : Taken) (s : ℕ) (ps : List Point) (k : ℕ) (many : l
 
   pub flat_volume : faces_of M s ≡ [] → is_flat drawn face ≡ true → six_volume drawn s ≡ pos 0
   flat_volume none flat = lamina_volume none ∙ no_difference (dot (get_or ps 0 no_point) (normal drawn face)) (dot (get_or ps 1 no_point) (normal drawn face))
-      (ap (λ p. dot p (normal drawn face)) (sym (point_at 1 (omega arith))) ∙ corner_told drawn face (c.vertex + 2) flat second_corner ∙ ap (λ p. dot p (normal drawn face)) anchor_one)
+      (ap (λ p. dot p (normal drawn face)) (sym (rows.point_at M c s ps 1 (omega (arith, many)))) ∙ corner_told drawn face (c.vertex + 2) flat second_corner ∙ ap (λ p. dot p (normal drawn face)) anchor_one)

@@ -6,9 +6,9 @@ mod Loops
 mod Volumes
 mod Whole
 pub mod FromSound
-mod LaminaRows
+pub mod LaminaRows
 mod Base
 mod Laminas
-mod LaminaVolumes
+pub mod LaminaVolumes
 pub mod Block
 pub mod BlockOps

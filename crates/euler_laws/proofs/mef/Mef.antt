@@ -5,15 +5,13 @@ use Rattle.euler_operators.specs.declared.HalfEdge.{HalfEdge}
 use Rattle.euler_operators.specs.HalfEdge.{code}
 use Rattle.euler_operators.specs.Table as table
 use Rattle.euler_operators.specs.Model.{Model, is_number}
-use Rattle.euler_operators.specs.Sound.{Sound}
 use Rattle.euler_operators.proofs.Halves.{edge_of-code}
 use Rattle.euler_operators.proofs.Tables.{no_row}
 use Rattle.euler_operators.specs.declared.Op.TheVariants.{Mef}
 use Rattle.euler_operators.specs.Conditions.{AllHold, first_false, conditions}
-use Rattle.euler_operators.specs.Effect.{effect}
 use Rattle.euler_laws.proofs.shared.Goes.{all_hold}
 use Rattle.euler_laws.proofs.shared.Rows.{half_of}
-use Rattle.euler_laws.proofs.mef.MefSound.{MefGoes, sound-mef}
+use Rattle.euler_laws.proofs.mef.MefSound.{MefGoes}
 
 pub mef_goes : (M : Model) (g k h : HalfEdge) (f l : ℕ) → first_false M (Mef g k h f l) ≡ None → MefGoes M (code g) (code k) (code h) f l
 unfolding first_false conditions

@@ -11,7 +11,7 @@ use Rattle.euler_operators.specs.Sound.{Sound, Has, HasHalf, NumbersFit}
 use Rattle.euler_operators.proofs.Models.{row_of, mate_there}
 use Rattle.euler_operators.specs.declared.Op.TheVariants.{Merge}
 use Rattle.euler_operators.specs.Conditions.{AllHold, first_false, conditions}
-use Rattle.euler_operators.specs.Effect.{effect, merge, faces_to_solid}
+use Rattle.euler_operators.specs.Effect.{merge, faces_to_solid}
 use Rattle.euler_laws.proofs.shared.Goes.{◌also◌, all_hold, none_refuses, not_false}
 use Rattle.euler_laws.proofs.shared.Rows.{face_there}
 use Rattle.euler_laws.proofs.shared.Faces.{sound-same}

@@ -3,7 +3,6 @@ use Rattle.std.proofs.Common.{◌≡◌, ℕ, true, None, refl, sym, ap, ◌∙�
 use Rattle.std.proofs.lemmas.Bool.{not-true, eq-eqb, eqb-true}
 use Rattle.euler_operators.specs.declared.Point.{Point}
 use Rattle.euler_operators.specs.declared.HalfEdge.{HalfEdge}
-use Rattle.euler_operators.specs.declared.Corner.{Corner}
 use Rattle.euler_operators.specs.declared.Corner.TheVariants.{At, Lone}
 use Rattle.euler_operators.specs.HalfEdge.{code, edge_of}
 use Rattle.euler_operators.specs.Table as table
@@ -13,10 +12,9 @@ use Rattle.euler_operators.proofs.Halves.{edge_of-code}
 use Rattle.euler_operators.proofs.Tables.{no_row}
 use Rattle.euler_operators.specs.declared.Op.TheVariants.{Mev}
 use Rattle.euler_operators.specs.Conditions.{AllHold, first_false, conditions, lone_vertex, is_lone}
-use Rattle.euler_operators.specs.Effect.{effect}
 use Rattle.euler_laws.proofs.shared.Goes.{◌also◌, all_hold, none_refuses, not_false, taken}
-use Rattle.euler_laws.proofs.mev.MevSound.{MevGoes, sound-mev}
-use Rattle.euler_laws.proofs.mev.MevLoneSound.{LoneGoes, sound-mev_lone}
+use Rattle.euler_laws.proofs.mev.MevSound.{MevGoes}
+use Rattle.euler_laws.proofs.mev.MevLoneSound.{LoneGoes}
 use Rattle.euler_laws.proofs.shared.Rows.{half_of, of_half, lone_is, is_lone_of}
 
 pub mev_goes : (M : Model) (g k h : HalfEdge) (v : ℕ) (p : Point) → first_false M (Mev (At g) (At k) h v p) ≡ None → MevGoes M (code g) (code k) (code h) v p

@@ -14,15 +14,15 @@ use Rattle.euler_operators.specs.Table as table
 use Rattle.euler_operators.specs.Table.{tables}
 use Rattle.euler_operators.specs.Model.{Model, LoopContent, lone, cycle, LoopRow, EdgeRow, items_of, holds, tail, loop_of, content, after, arc, tail_in, no_edge, is_number}
 use Rattle.euler_operators.specs.Sound.{Sound, Has, HasHalf, StandsIn, IsLoneAt}
-use Rattle.euler_operators.proofs.Halves.{mate_other, edge_of-mate, mate-mate, same_edge, edges_apart}
+use Rattle.euler_operators.proofs.Halves.{mate_other, edge_of-mate, edges_apart}
 use Rattle.euler_operators.proofs.Tables.{get-put_here, get-put_other, row_elsewhere}
-use Rattle.euler_operators.proofs.Models.{tail_row, no_tail, in-holds, holds_in, cycle_there, mate_there}
+use Rattle.euler_operators.proofs.Models.{no_tail, in-holds, holds_in, cycle_there, mate_there}
 use Rattle.euler_operators.specs.Effect.{mev_at, edge_row, with_before, with_tails}
 use Rattle.euler_laws.proofs.shared.Fans.{Fan, fan_of}
 use Rattle.euler_laws.proofs.shared.Loops.{IsLoop, put_before, put_none, put_lone, lone_put, count_put_there, count_put_none, count_put_other, put_keeps, put_came, loop_put, loop_sound, none_free, Walks}
 use Rattle.euler_laws.proofs.shared.Arcs.{halves_of_edge, arc_is, fan_mev, fan_mev_other}
 use Rattle.euler_laws.proofs.shared.Same.{map_twice, mapped_some, Rewritten, content-new, face-same, loop-same, SameFaces, solid_at, solid_at-same, one_solid_round}
-use Rattle.euler_laws.proofs.shared.Rows.{count-halves, tail_first, tail_second}
+use Rattle.euler_laws.proofs.shared.Rows.{count-halves}
 use Rattle.euler_laws.proofs.shared.Parts.{VerticesHold, RangesHold, sound_of, fit-put, fit-map, points-put, stay_of_same, faces_hold}
 use Rattle.euler_laws.proofs.shared.EdgeMore.{EdgeComes, half_h, half_m, tail-h, tail-m, edge_apart, not_h, not_m, half_old, half_cases, vertices-more}
 use Rattle.euler_laws.proofs.shared.EdgeLess.{not_mate}
