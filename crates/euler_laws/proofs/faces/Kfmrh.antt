@@ -16,7 +16,7 @@ use Rattle.euler_operators.specs.Effect.{effect, inverse, kfmrh, mfkrh, loop_to_
 use Rattle.euler_laws.proofs.shared.Goes.{◌also◌, all_hold, none_refuses, not_false, taken}
 use Rattle.euler_laws.proofs.shared.Same.{solid_at}
 use Rattle.euler_laws.proofs.shared.Undo.{same_loops, same_model}
-use Rattle.euler_laws.proofs.shared.Parts.{FaceSet, face_here, has_face, solid_other, outer_other, fit-put, fit-remove}
+use Rattle.euler_laws.proofs.shared.Parts.{FaceSet, row_here, has_on, has_back, solid_other, outer_other, fit-put, fit-remove}
 use Rattle.euler_laws.proofs.shared.Faces.{SameWalks, sound-same, content-moved, loop-moved, face-moved, face-kept}
 use Rattle.euler_laws.proofs.shared.Rows.{face_there, no_rings_means, means_no_rings, never_outer, is_ring, test_ring}
 use Rattle.euler_laws.proofs.shared.Lawful.{IsLawful}
@@ -65,25 +65,16 @@ module _ (M : Model) (sound : Sound M) (f g : ℕ) (goes : KillGoes M f g) where
 
   pub kill_set : FaceSet M N g None
   unfolding kfmrh
-  kill_set = record { are = refl }
+  kill_set = record { rows = record { are = refl } }
 
   pub g_gone : table.get N.faces g ≡ None
-  g_gone = face_here kill_set
+  g_gone = row_here kill_set.rows
 
   not_g : (p : ℕ) → Has N.faces p → p ≢ g
   not_g p t = row_elsewhere N.faces p g t g_gone
 
-  face_on : (p : ℕ) → p ≢ g → Has M.faces p → Has N.faces p
-  face_on p a t = has_face kill_set p a ∙ t
-
   face_back : (p : ℕ) → Has N.faces p → Has M.faces p
-  face_back p t = sym (has_face kill_set p (not_g p t)) ∙ t
-
-  pub kill_solid : (p : ℕ) → p ≢ g → solid_of N p ≡ solid_of M p
-  kill_solid = solid_other kill_set
-
-  pub kill_outer : (p : ℕ) → p ≢ g → outer N p ≡ outer M p
-  kill_outer = outer_other kill_set
+  face_back p t = has_back kill_set.rows p (not_g p t) t
 
   not_face_g : (q : ℕ) → Has M.loops q → q ≢ l → face_of M q ≢ g
   not_face_g q t a e = a (sym (goes.no_rings q t e))
@@ -93,23 +84,23 @@ module _ (M : Model) (sound : Sound M) (f g : ℕ) (goes : KillGoes M f g) where
 
   kill_solid_at : (q : ℕ) → Has M.loops q → solid_at N q ≡ solid_at M q
   kill_solid_at q t = elim (eqb_tells q l) [
-    | inl e ↦ ap (λ y. solid_of N (face_of N y)) e.1 ∙ ap (solid_of N) kill_face_l ∙ kill_solid f goes.apart ∙ goes.one_solid ∙ ap (solid_of M) (sym l_face) ∙ sym (ap (λ y. solid_of M (face_of M y)) e.1)
-    | inr e ↦ ap (solid_of N) (kill_face_else q e.1) ∙ kill_solid (face_of M q) (not_face_g q t e.1)
+    | inl e ↦ ap (λ y. solid_of N (face_of N y)) e.1 ∙ ap (solid_of N) kill_face_l ∙ solid_other kill_set f goes.apart ∙ goes.one_solid ∙ ap (solid_of M) (sym l_face) ∙ sym (ap (λ y. solid_of M (face_of M y)) e.1)
+    | inr e ↦ ap (solid_of N) (kill_face_else q e.1) ∙ solid_other kill_set (face_of M q) (not_face_g q t e.1)
   ]
 
   pub sound-kfmrh : Sound N
   unfolding kfmrh
   sound-kfmrh = sound-same M N sound kill_same (record {
     loops_of_faces = λ q t. elim (eqb_tells q l) [
-      | inl e ↦ subst (Has N.faces) (sym (ap (face_of N) e.1 ∙ kill_face_l)) (face_on f goes.apart goes.f_there)
-      | inr e ↦ subst (Has N.faces) (sym (kill_face_else q e.1)) (face_on _ (not_face_g q t e.1) (sound.loops_of_faces q t))
+      | inl e ↦ subst (Has N.faces) (sym (ap (face_of N) e.1 ∙ kill_face_l)) (has_on kill_set.rows f goes.apart goes.f_there)
+      | inr e ↦ subst (Has N.faces) (sym (kill_face_else q e.1)) (has_on kill_set.rows _ (not_face_g q t e.1) (sound.loops_of_faces q t))
     ];
     outers_there = λ p t. let o = sound.outers_there p (face_back p t) in let a = not_g p t in
-        (subst (Has M.loops) (sym (kill_outer p a)) o.0, ap (face_of N) (kill_outer p a) ∙ kill_face_else (outer M p) (not_outer p (face_back p t) a) ∙ o.1);
-    faces_of_solids = λ p t. subst (Has M.solids) (sym (kill_solid p (not_g p t))) (sound.faces_of_solids p (face_back p t));
+        (subst (Has M.loops) (sym (outer_other kill_set p a)) o.0, ap (face_of N) (outer_other kill_set p a) ∙ kill_face_else (outer M p) (not_outer p (face_back p t) a) ∙ o.1);
+    faces_of_solids = λ p t. subst (Has M.solids) (sym (solid_other kill_set p (not_g p t))) (sound.faces_of_solids p (face_back p t));
     solid_has_face = λ s t. let x = sound.solid_has_face s t in elim (eqb_tells x.0 g) [
-      | inl e ↦ (f, face_on f goes.apart goes.f_there, kill_solid f goes.apart ∙ goes.one_solid ∙ ap (solid_of M) (sym e.1) ∙ x.2)
-      | inr e ↦ (x.0, face_on x.0 e.1 x.1, kill_solid x.0 e.1 ∙ x.2)
+      | inl e ↦ (f, has_on kill_set.rows f goes.apart goes.f_there, solid_other kill_set f goes.apart ∙ goes.one_solid ∙ ap (solid_of M) (sym e.1) ∙ x.2)
+      | inr e ↦ (x.0, has_on kill_set.rows x.0 e.1 x.1, solid_other kill_set x.0 e.1 ∙ x.2)
     ];
     one_solid = λ x t. kill_solid_at (loop_of M x) (ap is_some (row_of M sound x t)) ∙ sound.one_solid x t ∙ sym (kill_solid_at (loop_of M (mate x)) (ap is_some (row_of M sound (mate x) (mate_there M x t))));
     solids_fit = sound.solids_fit;
@@ -120,7 +111,7 @@ module _ (M : Model) (sound : Sound M) (f g : ℕ) (goes : KillGoes M f g) where
   make_goes = record {
     l_there = kill_same.loops l ∙ l_there;
     face_free = g_gone;
-    is_ring = λ e. not_outer f goes.f_there goes.apart (sym (kill_outer f goes.apart) ∙ ap (outer N) (sym kill_face_l) ∙ e);
+    is_ring = λ e. not_outer f goes.f_there goes.apart (sym (outer_other kill_set f goes.apart) ∙ ap (outer N) (sym kill_face_l) ∙ e);
     face_fits = sound.faces_fit g goes.g_there;
   }
 
@@ -146,22 +137,19 @@ module _ (M : Model) (sound : Sound M) (l f : ℕ) (goes : MakeGoes M l f) where
 
   make_set : FaceSet M P f (Some (record { solid = solid_of M (face_of M l); outer = l }))
   unfolding mfkrh
-  make_set = record { are = refl }
+  make_set = record { rows = record { are = refl } }
 
   pub not_f : (p : ℕ) → Has M.faces p → p ≢ f
   not_f p t = row_elsewhere M.faces p f t goes.face_free
 
   on : (p : ℕ) → Has M.faces p → Has P.faces p
-  on p t = has_face make_set p (not_f p t) ∙ t
-
-  old : (p : ℕ) → p ≢ f → Has P.faces p → Has M.faces p
-  old p a t = sym (has_face make_set p a) ∙ t
+  on p t = has_on make_set.rows p (not_f p t) t
 
   make_solid_f : solid_of P f ≡ solid_of M (face_of M l)
-  make_solid_f = solid_row P f _ (face_here make_set)
+  make_solid_f = solid_row P f _ (row_here make_set.rows)
 
   pub make_outer_f : outer P f ≡ l
-  make_outer_f = outer_row P f _ (face_here make_set)
+  make_outer_f = outer_row P f _ (row_here make_set.rows)
 
   pub home : Has M.faces (face_of M l)
   home = sound.loops_of_faces l goes.l_there
@@ -176,17 +164,17 @@ module _ (M : Model) (sound : Sound M) (l f : ℕ) (goes : MakeGoes M l f) where
   unfolding mfkrh
   sound-mfkrh = sound-same M P sound make_same (record {
     loops_of_faces = λ q t. elim (eqb_tells q l) [
-      | inl e ↦ subst (Has P.faces) (sym (ap (face_of P) e.1 ∙ make_face_l)) (ap is_some (face_here make_set))
+      | inl e ↦ subst (Has P.faces) (sym (ap (face_of P) e.1 ∙ make_face_l)) (ap is_some (row_here make_set.rows))
       | inr e ↦ subst (Has P.faces) (sym (make_face_else q e.1)) (on _ (sound.loops_of_faces q t))
     ];
     outers_there = λ p t. elim (eqb_tells p f) [
       | inl e ↦ let o : outer P p ≡ l = ap (outer P) e.1 ∙ make_outer_f in (subst (Has M.loops) (sym o) goes.l_there, ap (face_of P) o ∙ make_face_l ∙ sym e.1)
-      | inr e ↦ let b = old p e.1 t in let o = sound.outers_there p b in
+      | inr e ↦ let b = has_back make_set.rows p e.1 t in let o = sound.outers_there p b in
           (subst (Has M.loops) (sym (outer_other make_set p e.1)) o.0, ap (face_of P) (outer_other make_set p e.1) ∙ make_face_else (outer M p) (never_outer M sound l goes.is_ring p b) ∙ o.1)
     ];
     faces_of_solids = λ p t. elim (eqb_tells p f) [
       | inl e ↦ subst (Has M.solids) (sym (ap (solid_of P) e.1 ∙ make_solid_f)) (sound.faces_of_solids _ home)
-      | inr e ↦ subst (Has M.solids) (sym (solid_other make_set p e.1)) (sound.faces_of_solids p (old p e.1 t))
+      | inr e ↦ subst (Has M.solids) (sym (solid_other make_set p e.1)) (sound.faces_of_solids p (has_back make_set.rows p e.1 t))
     ];
     solid_has_face = λ s t. let x = sound.solid_has_face s t in (x.0, on x.0 x.1, solid_other make_set x.0 (not_f x.0 x.1) ∙ x.2);
     one_solid = λ x t. make_solid_at (loop_of M x) (ap is_some (row_of M sound x t)) ∙ sound.one_solid x t ∙ sym (make_solid_at (loop_of M (mate x)) (ap is_some (row_of M sound (mate x) (mate_there M x t))));
@@ -197,7 +185,7 @@ module _ (M : Model) (sound : Sound M) (l f : ℕ) (goes : MakeGoes M l f) where
   pub kill_goes : KillGoes P (face_of M l) f
   kill_goes = record {
     f_there = on _ home;
-    g_there = ap is_some (face_here make_set);
+    g_there = ap is_some (row_here make_set.rows);
     apart = not_f _ home;
     one_solid = solid_other make_set _ (not_f _ home) ∙ sym make_solid_f;
     no_rings = λ q t e. make_outer_f ∙ elim (eqb_tells q l) [
@@ -236,7 +224,7 @@ module _ (M : Model) (sound : Sound M) (f g : ℕ) (goes : KillGoes M f g) where
 
   b_faces : B.faces ≡ M.faces
   b_faces =
-      let s : solid_of A (face_of A (outer M g)) ≡ solid_of M g = ap (solid_of A) (kill_face_l M sound f g goes) ∙ kill_solid M sound f g goes f goes.apart ∙ goes.one_solid in
+      let s : solid_of A (face_of A (outer M g)) ≡ solid_of M g = ap (solid_of A) (kill_face_l M sound f g goes) ∙ solid_other (kill_set M sound f g goes) f goes.apart ∙ goes.one_solid in
       b_put (record { solid = solid_of M g; outer = outer M g }) (face_there M g goes.g_there) (λ i. record { solid = s i; outer = outer M g })
 
   pub mfkrh-kfmrh : mfkrh (kfmrh M f g) (outer M g) g ≡ M

@@ -5,16 +5,16 @@ use Rattle.euler_operators.specs.declared.Point.{Point}
 use Rattle.euler_operators.specs.Points.{IsInRange}
 use Rattle.euler_operators.specs.HalfEdge.{mate}
 use Rattle.euler_operators.specs.Table as table
-use Rattle.euler_operators.specs.Table.{Table}
 use Rattle.euler_operators.specs.Model.{Model, lone, cycle, FaceRow, LoopRow, holds, tail, loop_of, content, cycle_of, face_of, solid_of, outer, after, is_number}
 use Rattle.euler_operators.specs.Sound.{Sound, Has, HasHalf}
-use Rattle.euler_operators.proofs.Models.{row_of, content_cycle, never_lone, mate_there, content_row, face_row as face_row_of, solid_row, outer_row, same_content, same_face, same_solid, same_outer}
-use Rattle.euler_operators.proofs.Tables.{get-put_here, get-put_other, row_elsewhere}
+use Rattle.euler_operators.proofs.Models.{row_of, content_cycle, never_lone, mate_there, content_row, face_row as face_row_of, solid_row, outer_row, same_content, same_face}
+use Rattle.euler_operators.proofs.Tables.{row_elsewhere}
 use Rattle.euler_operators.specs.Effect.{mvfs}
 use Rattle.euler_laws.proofs.shared.Loops.{IsLoop, loop_sound, Walks, stands-walks, one_loop-walks, cycles-walks, ends_meet-walks, one_fan-walks, one_vertex}
 use Rattle.euler_laws.proofs.shared.Same.{solid_at}
 use Rattle.euler_laws.proofs.shared.Rings.{SameRings, half_back, tail_same, walks-rings, loop-rings, ends_differ-rings, tail-rings, edges_fit-rings}
 use Rattle.euler_laws.proofs.shared.Rows.{one_row, content_none}
+use Rattle.euler_laws.proofs.shared.Parts.{RowSet, FaceSet, row_here, row_other, has_on, has_back, solid_other, outer_other}
 
 -- what the conditions of mvfs say
 pub record MvfsGoes (M : Model) (s f l v : ℕ) (p : Point) : Type 0 where
@@ -27,15 +27,6 @@ pub record MvfsGoes (M : Model) (s f l v : ℕ) (p : Point) : Type 0 where
   pub loop_fits : IsTrue (is_number l)
   pub vertex_fits : IsTrue (is_number v)
   pub point_fits : IsInRange p
-
--- ---- a table with one more row
-
-module _ {X : Type 0} (t : Table X) (n : ℕ) (x : X) (is_free : table.get t n ≡ None) where
-  pub added_on : (q : ℕ) → Has t q → Has (table.put t n x) q
-  added_on q there = ap is_some (get-put_other t n x q (row_elsewhere t q n there is_free)) ∙ there
-
-  pub added_back : (q : ℕ) → q ≢ n → Has (table.put t n x) q → Has t q
-  added_back q a there = ap is_some (sym (get-put_other t n x q a)) ∙ there
 
 -- ---- the model with one more solid, face, loop and vertex
 
@@ -53,39 +44,21 @@ module _ (M : Model) (s f l v : ℕ) (p : Point) (goes : MvfsGoes M s f l v p) w
   unfolding mvfs
   edges_same = refl
 
-  pub solids_are : N.solids ≡ table.put M.solids s tt
+  pub solids_put : RowSet M.solids N.solids s (Some tt)
   unfolding mvfs
-  solids_are = refl
+  solids_put = record { are = refl }
 
-  pub faces_are : N.faces ≡ table.put M.faces f (record { solid = s; outer = l })
+  pub faces_put : FaceSet M N f (Some face_row)
   unfolding mvfs
-  faces_are = refl
+  faces_put = record { rows = record { are = refl } }
 
-  pub loops_are : N.loops ≡ table.put M.loops l (record { face = f; content = lone v })
+  pub loops_put : RowSet M.loops N.loops l (Some loop_row)
   unfolding mvfs
-  loops_are = refl
+  loops_put = record { are = refl }
 
-  pub vertices_are : N.vertices ≡ table.put M.vertices v p
+  pub vertices_put : RowSet M.vertices N.vertices v (Some p)
   unfolding mvfs
-  vertices_are = refl
-
-  pub face_new : table.get N.faces f ≡ Some face_row
-  face_new = ap (λ t. table.get t f) faces_are ∙ get-put_here M.faces f face_row
-
-  pub face_other : (q : ℕ) → q ≢ f → table.get N.faces q ≡ table.get M.faces q
-  face_other q a = ap (λ t. table.get t q) faces_are ∙ get-put_other M.faces f face_row q a
-
-  pub loop_new : table.get N.loops l ≡ Some loop_row
-  loop_new = ap (λ t. table.get t l) loops_are ∙ get-put_here M.loops l loop_row
-
-  pub loop_other : (q : ℕ) → q ≢ l → table.get N.loops q ≡ table.get M.loops q
-  loop_other q a = ap (λ t. table.get t q) loops_are ∙ get-put_other M.loops l loop_row q a
-
-  pub vertex_new : table.get N.vertices v ≡ Some p
-  vertex_new = ap (λ t. table.get t v) vertices_are ∙ get-put_here M.vertices v p
-
-  pub vertex_other : (q : ℕ) → q ≢ v → table.get N.vertices q ≡ table.get M.vertices q
-  vertex_other q a = ap (λ t. table.get t q) vertices_are ∙ get-put_other M.vertices v p q a
+  vertices_put = record { are = refl }
 
   -- what is in the old tables, and what in the new ones
   pub not_f : (q : ℕ) → Has M.faces q → q ≢ f
@@ -101,60 +74,39 @@ module _ (M : Model) (s f l v : ℕ) (p : Point) (goes : MvfsGoes M s f l v p) w
   not_s = λ q there. row_elsewhere M.solids q s there goes.solid_free
 
   pub face_on : (q : ℕ) → Has M.faces q → Has N.faces q
-  face_on q t = ap is_some (face_other q (not_f q t)) ∙ t
-
-  pub face_back : (q : ℕ) → q ≢ f → Has N.faces q → Has M.faces q
-  face_back q a t = ap is_some (sym (face_other q a)) ∙ t
+  face_on q t = has_on faces_put.rows q (not_f q t) t
 
   pub loop_on : (q : ℕ) → Has M.loops q → Has N.loops q
-  loop_on q t = ap is_some (loop_other q (not_l q t)) ∙ t
+  loop_on q t = has_on loops_put q (not_l q t) t
 
-  pub loop_back : (q : ℕ) → q ≢ l → Has N.loops q → Has M.loops q
-  loop_back q a t = ap is_some (sym (loop_other q a)) ∙ t
+  vertex_on : (q : ℕ) → Has M.vertices q → Has N.vertices q
+  vertex_on q t = has_on vertices_put q (not_v q t) t
 
-  pub vertex_on : (q : ℕ) → Has M.vertices q → Has N.vertices q
-  vertex_on q t = ap is_some (vertex_other q (not_v q t)) ∙ t
-
-  pub vertex_back : (q : ℕ) → q ≢ v → Has N.vertices q → Has M.vertices q
-  vertex_back q a t = ap is_some (sym (vertex_other q a)) ∙ t
-
-  pub solid_new : Has N.solids s
-  solid_new = subst (λ t. Has t s) (sym solids_are) (ap is_some (get-put_here M.solids s tt))
-
-  pub solid_on : (q : ℕ) → Has M.solids q → Has N.solids q
-  solid_on q t = subst (λ y. Has y q) (sym solids_are) (added_on M.solids s tt goes.solid_free q t)
-
-  pub solid_back : (q : ℕ) → q ≢ s → Has N.solids q → Has M.solids q
-  solid_back q a t = added_back M.solids s tt goes.solid_free q a (subst (λ y. Has y q) solids_are t)
+  solid_on : (q : ℕ) → Has M.solids q → Has N.solids q
+  solid_on q t = has_on solids_put q (not_s q t) t
 
   -- ---- what the readers answer
 
   pub content_new : content N l ≡ lone v
-  content_new = content_row N l loop_row loop_new
+  content_new = content_row N l loop_row (row_here loops_put)
 
   pub content_other : (q : ℕ) → q ≢ l → content N q ≡ content M q
-  content_other q a = same_content M N q (loop_other q a)
+  content_other q a = same_content M N q (row_other loops_put q a)
 
   content_free : content M l ≡ cycle []
   content_free = content_none M l goes.loop_free
 
   pub face_of_new : face_of N l ≡ f
-  face_of_new = face_row_of N l loop_row loop_new
+  face_of_new = face_row_of N l loop_row (row_here loops_put)
 
   pub face_of_other : (q : ℕ) → q ≢ l → face_of N q ≡ face_of M q
-  face_of_other q a = same_face M N q (loop_other q a)
+  face_of_other q a = same_face M N q (row_other loops_put q a)
 
   pub solid_of_new : solid_of N f ≡ s
-  solid_of_new = solid_row N f face_row face_new
-
-  pub solid_of_other : (q : ℕ) → q ≢ f → solid_of N q ≡ solid_of M q
-  solid_of_other q a = same_solid M N q (face_other q a)
+  solid_of_new = solid_row N f face_row (row_here faces_put.rows)
 
   pub outer_new : outer N f ≡ l
-  outer_new = outer_row N f face_row face_new
-
-  pub outer_other : (q : ℕ) → q ≢ f → outer N q ≡ outer M q
-  outer_other q a = same_outer M N q (face_other q a)
+  outer_new = outer_row N f face_row (row_here faces_put.rows)
 
   -- each loop holds the same half-edges
   pub stand_same : (x q : ℕ) → holds x (content N q) ≡ holds x (content M q)
@@ -177,7 +129,7 @@ module _ (M : Model) (s f l v : ℕ) (p : Point) (goes : MvfsGoes M s f l v p) w
       stand = stand_same;
       loops = λ q t. elim (eqb_tells q l) [
         | inl e ↦ subst (IsLoop (after M)) (sym (ap (content N) e.1 ∙ content_new)) tt
-        | inr e ↦ subst (IsLoop (after M)) (sym (content_other q e.1)) (loop_sound M sound q (loop_back q e.1 t))
+        | inr e ↦ subst (IsLoop (after M)) (sym (content_other q e.1)) (loop_sound M sound q (has_back loops_put q e.1 t))
       ];
     }
 
@@ -200,7 +152,7 @@ module _ (M : Model) (s f l v : ℕ) (p : Point) (goes : MvfsGoes M s f l v p) w
     solid_at_old : (x : ℕ) → HasHalf M x → solid_at N (loop_of N x) ≡ solid_at M (loop_of M x)
     solid_at_old x t =
         let r : Has M.loops (loop_of M x) = ap is_some (row_of M sound x t) in
-        ap (solid_at N) (loop-rings M N sound rings_on x t) ∙ ap (solid_of N) (face_of_other (loop_of M x) (not_l _ r)) ∙ solid_of_other _ (not_f _ (sound.loops_of_faces _ r))
+        ap (solid_at N) (loop-rings M N sound rings_on x t) ∙ ap (solid_of N) (face_of_other (loop_of M x) (not_l _ r)) ∙ solid_other faces_put _ (not_f _ (sound.loops_of_faces _ r))
 
     pub sound-mvfs : Sound N
     sound-mvfs = record {
@@ -213,7 +165,7 @@ module _ (M : Model) (s f l v : ℕ) (p : Point) (goes : MvfsGoes M s f l v p) w
       ends_differ = ends_differ-rings M N sound rings_on;
       lone_or_tail = λ w t. elim (eqb_tells w v) [
         | inl e ↦ inl (l, content_new ∙ ap lone (sym e.1))
-        | inr e ↦ elim (sound.lone_or_tail w (vertex_back w e.1 t)) [
+        | inr e ↦ elim (sound.lone_or_tail w (has_back vertices_put w e.1 t)) [
           | inl a ↦ inl (a.0, content_other a.0 (lone_not_l a.0 w a.1) ∙ a.1)
           | inr x ↦ inr (tail-rings M N sound rings_on w x)
         ]
@@ -228,35 +180,35 @@ module _ (M : Model) (s f l v : ℕ) (p : Point) (goes : MvfsGoes M s f l v p) w
       ];
       one_fan = one_fan-walks N (after M) walks_on;
       loops_of_faces = λ q t. elim (eqb_tells q l) [
-        | inl e ↦ subst (Has N.faces) (sym (ap (face_of N) e.1 ∙ face_of_new)) (ap is_some face_new)
-        | inr e ↦ subst (Has N.faces) (sym (face_of_other q e.1)) (face_on _ (sound.loops_of_faces q (loop_back q e.1 t)))
+        | inl e ↦ subst (Has N.faces) (sym (ap (face_of N) e.1 ∙ face_of_new)) (ap is_some (row_here faces_put.rows))
+        | inr e ↦ subst (Has N.faces) (sym (face_of_other q e.1)) (face_on _ (sound.loops_of_faces q (has_back loops_put q e.1 t)))
       ];
       outers_there = λ q t. elim (eqb_tells q f) [
-        | inl e ↦ let o : outer N q ≡ l = ap (outer N) e.1 ∙ outer_new in (subst (Has N.loops) (sym o) (ap is_some loop_new), ap (face_of N) o ∙ face_of_new ∙ sym e.1)
-        | inr e ↦ let o = sound.outers_there q (face_back q e.1 t) in
-            (subst (Has N.loops) (sym (outer_other q e.1)) (loop_on _ o.0), ap (face_of N) (outer_other q e.1) ∙ face_of_other _ (not_l _ o.0) ∙ o.1)
+        | inl e ↦ let o : outer N q ≡ l = ap (outer N) e.1 ∙ outer_new in (subst (Has N.loops) (sym o) (ap is_some (row_here loops_put)), ap (face_of N) o ∙ face_of_new ∙ sym e.1)
+        | inr e ↦ let o = sound.outers_there q (has_back faces_put.rows q e.1 t) in
+            (subst (Has N.loops) (sym (outer_other faces_put q e.1)) (loop_on _ o.0), ap (face_of N) (outer_other faces_put q e.1) ∙ face_of_other _ (not_l _ o.0) ∙ o.1)
       ];
       lone_at_vertex = λ q w a. elim (lone_cases q w a) [
-        | inl e ↦ subst (Has N.vertices) (sym e.1) (ap is_some vertex_new)
+        | inl e ↦ subst (Has N.vertices) (sym e.1) (ap is_some (row_here vertices_put))
         | inr e ↦ vertex_on w e.1
       ];
       faces_of_solids = λ q t. elim (eqb_tells q f) [
-        | inl e ↦ subst (Has N.solids) (sym (ap (solid_of N) e.1 ∙ solid_of_new)) solid_new
-        | inr e ↦ subst (Has N.solids) (sym (solid_of_other q e.1)) (solid_on _ (sound.faces_of_solids q (face_back q e.1 t)))
+        | inl e ↦ subst (Has N.solids) (sym (ap (solid_of N) e.1 ∙ solid_of_new)) (ap is_some (row_here solids_put))
+        | inr e ↦ subst (Has N.solids) (sym (solid_other faces_put q e.1)) (solid_on _ (sound.faces_of_solids q (has_back faces_put.rows q e.1 t)))
       ];
       solid_has_face = λ n t. elim (eqb_tells n s) [
-        | inl e ↦ (f, ap is_some face_new, solid_of_new ∙ sym e.1)
-        | inr e ↦ let x = sound.solid_has_face n (solid_back n e.1 t) in (x.0, face_on x.0 x.1, solid_of_other x.0 (not_f x.0 x.1) ∙ x.2)
+        | inl e ↦ (f, ap is_some (row_here faces_put.rows), solid_of_new ∙ sym e.1)
+        | inr e ↦ let x = sound.solid_has_face n (has_back solids_put n e.1 t) in (x.0, face_on x.0 x.1, solid_other faces_put x.0 (not_f x.0 x.1) ∙ x.2)
       ];
       one_solid = λ x t. let o = half_old x t in solid_at_old x o ∙ sound.one_solid x o ∙ sym (solid_at_old (mate x) (mate_there M x o));
-      solids_fit = λ n t. elim (eqb_tells n s) [ inl e ↦ subst (λ y. IsTrue (is_number y)) (sym e.1) goes.solid_fits | inr e ↦ sound.solids_fit n (solid_back n e.1 t) ];
-      faces_fit = λ n t. elim (eqb_tells n f) [ inl e ↦ subst (λ y. IsTrue (is_number y)) (sym e.1) goes.face_fits | inr e ↦ sound.faces_fit n (face_back n e.1 t) ];
-      loops_fit = λ n t. elim (eqb_tells n l) [ inl e ↦ subst (λ y. IsTrue (is_number y)) (sym e.1) goes.loop_fits | inr e ↦ sound.loops_fit n (loop_back n e.1 t) ];
+      solids_fit = λ n t. elim (eqb_tells n s) [ inl e ↦ subst (λ y. IsTrue (is_number y)) (sym e.1) goes.solid_fits | inr e ↦ sound.solids_fit n (has_back solids_put n e.1 t) ];
+      faces_fit = λ n t. elim (eqb_tells n f) [ inl e ↦ subst (λ y. IsTrue (is_number y)) (sym e.1) goes.face_fits | inr e ↦ sound.faces_fit n (has_back faces_put.rows n e.1 t) ];
+      loops_fit = λ n t. elim (eqb_tells n l) [ inl e ↦ subst (λ y. IsTrue (is_number y)) (sym e.1) goes.loop_fits | inr e ↦ sound.loops_fit n (has_back loops_put n e.1 t) ];
       edges_fit = edges_fit-rings M N sound rings_on;
-      vertices_fit = λ n t. elim (eqb_tells n v) [ inl e ↦ subst (λ y. IsTrue (is_number y)) (sym e.1) goes.vertex_fits | inr e ↦ sound.vertices_fit n (vertex_back n e.1 t) ];
+      vertices_fit = λ n t. elim (eqb_tells n v) [ inl e ↦ subst (λ y. IsTrue (is_number y)) (sym e.1) goes.vertex_fits | inr e ↦ sound.vertices_fit n (has_back vertices_put n e.1 t) ];
       points_fit = λ w q at. elim (eqb_tells w v) [
-        | inl e ↦ subst IsInRange (one_row (sym vertex_new ∙ ap (table.get N.vertices) (sym e.1) ∙ at)) goes.point_fits
-        | inr e ↦ sound.points_fit w q (sym (vertex_other w e.1) ∙ at)
+        | inl e ↦ subst IsInRange (one_row (sym (row_here vertices_put) ∙ ap (table.get N.vertices) (sym e.1) ∙ at)) goes.point_fits
+        | inr e ↦ sound.points_fit w q (sym (row_other vertices_put w e.1) ∙ at)
       ];
     }
 
@@ -291,9 +243,9 @@ module _ (M : Model) (s f l v : ℕ) (p : Point) (goes : MvfsGoes M s f l v p) w
         let o : HasHalf N x = half_new x t in
         let e : loop_of M x ≡ loop_of N x = loop-rings N M sound rings_off x o in
         let a : loop_of N x ≢ l = λ z. not_cycle (content_new_at x o z) in
-        let r : Has M.loops (loop_of N x) = loop_back (loop_of N x) a (ap is_some (row_of N sound x o)) in
+        let r : Has M.loops (loop_of N x) = has_back loops_put (loop_of N x) a (ap is_some (row_of N sound x o)) in
         let k : face_of N (loop_of N x) ≡ face_of M (loop_of N x) = face_of_other (loop_of N x) a in
-        ap (solid_at M) e ∙ ap (solid_of M) (sym k) ∙ sym (solid_of_other (face_of N (loop_of N x)) (λ z. no_ring (loop_of N x) r (sym k ∙ z))) where
+        ap (solid_at M) e ∙ ap (solid_of M) (sym k) ∙ sym (solid_other faces_put (face_of N (loop_of N x)) (λ z. no_ring (loop_of N x) r (sym k ∙ z))) where
           not_cycle : {hs : List ℕ} → lone v ≡ cycle hs → ⊥
           not_cycle e = never_lone _ v (sym e)
 
@@ -307,7 +259,7 @@ module _ (M : Model) (s f l v : ℕ) (p : Point) (goes : MvfsGoes M s f l v p) w
       one_loop = one_loop-walks M (after N) walks_off;
       cycles = cycles-walks M (after N) walks_off;
       ends_meet = ends_meet-walks M (after N) walks_off;
-      tails_there = λ x t. subst (Has M.vertices) (sym (tail_off x)) (vertex_back _ (never_v x t) (sound.tails_there x (half_new x t)));
+      tails_there = λ x t. subst (Has M.vertices) (sym (tail_off x)) (has_back vertices_put _ (never_v x t) (sound.tails_there x (half_new x t)));
       ends_differ = ends_differ-rings N M sound rings_off;
       lone_or_tail = λ w t. elim (sound.lone_or_tail w (vertex_on w t)) [
         | inl a ↦ inl (a.0, sym (content_other a.0 (λ z. not_v w t (one_vertex w v (sym a.1 ∙ ap (content N) z ∙ content_new)))) ∙ a.1)
@@ -317,24 +269,24 @@ module _ (M : Model) (s f l v : ℕ) (p : Point) (goes : MvfsGoes M s f l v p) w
       one_lone = λ a b w x y. sound.one_lone a b w (lone_on a w x).0 (lone_on b w y).0;
       one_fan = one_fan-walks M (after N) walks_off;
       loops_of_faces = λ q t. let k = face_of_other q (not_l q t) in
-          face_back (face_of M q) (no_ring q t) (subst (Has N.faces) k (sound.loops_of_faces q (loop_on q t)));
+          has_back faces_put.rows (face_of M q) (no_ring q t) (subst (Has N.faces) k (sound.loops_of_faces q (loop_on q t)));
       outers_there = λ q t.
-          let k = outer_other q (not_f q t) in
+          let k = outer_other faces_put q (not_f q t) in
           let o = sound.outers_there q (face_on q t) in
           let a : outer N q ≢ l = λ z. not_f q t (sym o.1 ∙ ap (face_of N) z ∙ face_of_new) in
-          (subst (Has M.loops) k (loop_back (outer N q) a o.0), ap (face_of M) (sym k) ∙ sym (face_of_other (outer N q) a) ∙ o.1);
-      lone_at_vertex = λ q w e. let o = lone_on q w e in vertex_back w o.1 (sound.lone_at_vertex q w o.0);
-      faces_of_solids = λ q t. let k = solid_of_other q (not_f q t) in
-          solid_back (solid_of M q) (no_face q t) (subst (Has N.solids) k (sound.faces_of_solids q (face_on q t)));
+          (subst (Has M.loops) k (has_back loops_put (outer N q) a o.0), ap (face_of M) (sym k) ∙ sym (face_of_other (outer N q) a) ∙ o.1);
+      lone_at_vertex = λ q w e. let o = lone_on q w e in has_back vertices_put w o.1 (sound.lone_at_vertex q w o.0);
+      faces_of_solids = λ q t. let k = solid_other faces_put q (not_f q t) in
+          has_back solids_put (solid_of M q) (no_face q t) (subst (Has N.solids) k (sound.faces_of_solids q (face_on q t)));
       solid_has_face = λ n t.
           let x = sound.solid_has_face n (solid_on n t) in
           let a : x.0 ≢ f = λ z. not_s n t (sym x.2 ∙ ap (solid_of N) z ∙ solid_of_new) in
-          (x.0, face_back x.0 a x.1, sym (solid_of_other x.0 a) ∙ x.2);
+          (x.0, has_back faces_put.rows x.0 a x.1, sym (solid_other faces_put x.0 a) ∙ x.2);
       one_solid = λ x t. let o = half_new x t in solid_at_new x t ∙ sound.one_solid x o ∙ sym (solid_at_new (mate x) (walks_off.mates x t));
       solids_fit = λ n t. sound.solids_fit n (solid_on n t);
       faces_fit = λ n t. sound.faces_fit n (face_on n t);
       loops_fit = λ n t. sound.loops_fit n (loop_on n t);
       edges_fit = edges_fit-rings N M sound rings_off;
       vertices_fit = λ n t. sound.vertices_fit n (vertex_on n t);
-      points_fit = λ w q at. sound.points_fit w q (vertex_other w (not_v w (ap is_some at)) ∙ at);
+      points_fit = λ w q at. sound.points_fit w q (row_other vertices_put w (not_v w (ap is_some at)) ∙ at);
     }

@@ -17,6 +17,7 @@ use Rattle.euler_laws.proofs.shared.Listed.{listed_passes, passes_listed, all_wh
 use Rattle.euler_laws.proofs.faces.OneSolid as more
 use Rattle.euler_laws.proofs.faces.OneSolid.{MvfsGoes, sound-mvfs, sound-back}
 use Rattle.euler_laws.proofs.shared.Lawful.{IsLawful}
+use Rattle.euler_laws.proofs.shared.Parts.{row_here, has_back, solid_other}
 
 -- what the conditions of kvfs say
 pub record KvfsGoes (M : Model) (s f : ℕ) : Type 0 where
@@ -82,7 +83,7 @@ module _ (M : Model) (sound : Sound M) (s f : ℕ) (goes : KvfsGoes M s f) where
   pub sound-kvfs : Sound K
   sound-kvfs = sound-back K s f l v p put_goes (subst Sound (sym mvfs-kvfs) sound)
       (λ q t e. let a = more.not_f K s f l v p put_goes q t in
-      a (goes.only q (subst (λ X. Has X.faces q) mvfs-kvfs (more.face_on K s f l v p put_goes q t)) (ap (λ X. solid_of X q) (sym mvfs-kvfs) ∙ more.solid_of_other K s f l v p put_goes q a ∙ e)))
+      a (goes.only q (subst (λ X. Has X.faces q) mvfs-kvfs (more.face_on K s f l v p put_goes q t)) (ap (λ X. solid_of X q) (sym mvfs-kvfs) ∙ solid_other (more.faces_put K s f l v p put_goes) q a ∙ e)))
       (λ q t e. let a = more.not_l K s f l v p put_goes q t in
       a (sym (goes.no_rings q (subst (λ X. Has X.loops q) mvfs-kvfs (more.loop_on K s f l v p put_goes q t)) (ap (λ X. face_of X q) (sym mvfs-kvfs) ∙ more.face_of_other K s f l v p put_goes q a ∙ e))))
 
@@ -94,17 +95,17 @@ module _ (M : Model) (sound : Sound M) (s f l v : ℕ) (p : Point) (goes : MvfsG
 
   pub kill_goes : KvfsGoes N s f
   kill_goes = record {
-    s_there = more.solid_new M s f l v p goes;
-    f_there = ap is_some (more.face_new M s f l v p goes);
+    s_there = ap is_some (row_here (more.solids_put M s f l v p goes));
+    f_there = ap is_some (row_here (more.faces_put M s f l v p goes).rows);
     of_s = more.solid_of_new M s f l v p goes;
     only = λ q t e. elim (eqb_tells q f) [
       | inl a ↦ a.1
-      | inr a ↦ let o = more.face_back M s f l v p goes q a.1 t in
-          absurd (more.not_s M s f l v p goes (solid_of M q) (sound.faces_of_solids q o) (sym (more.solid_of_other M s f l v p goes q a.1) ∙ e))
+      | inr a ↦ let o = has_back (more.faces_put M s f l v p goes).rows q a.1 t in
+          absurd (more.not_s M s f l v p goes (solid_of M q) (sound.faces_of_solids q o) (sym (solid_other (more.faces_put M s f l v p goes) q a.1) ∙ e))
     ];
     no_rings = λ q t e. more.outer_new M s f l v p goes ∙ elim (eqb_tells q l) [
       | inl a ↦ sym a.1
-      | inr a ↦ let o = more.loop_back M s f l v p goes q a.1 t in
+      | inr a ↦ let o = has_back (more.loops_put M s f l v p goes) q a.1 t in
           absurd (more.not_f M s f l v p goes (face_of M q) (sound.loops_of_faces q o) (sym (more.face_of_other M s f l v p goes q a.1) ∙ e))
     ];
     is_bare = bare ∙ ap lone (sym (ap lone_vertex bare));
@@ -117,10 +118,10 @@ module _ (M : Model) (sound : Sound M) (s f l v : ℕ) (p : Point) (goes : MvfsG
   kvfs-mvfs =
       let o : outer N f ≡ l = more.outer_new M s f l v p goes in
       let w : lone_vertex (content N (outer N f)) ≡ v = ap lone_vertex (ap (content N) o ∙ more.content_new M s f l v p goes) in
-      let a : table.remove N.solids s ≡ M.solids = ap (λ t. table.remove t s) (more.solids_are M s f l v p goes) ∙ remove-put M.solids s tt goes.solid_free in
-      let b : table.remove N.faces f ≡ M.faces = ap (λ t. table.remove t f) (more.faces_are M s f l v p goes) ∙ remove-put M.faces f _ goes.face_free in
-      let c : table.remove N.loops (outer N f) ≡ M.loops = ap (table.remove N.loops) o ∙ ap (λ t. table.remove t l) (more.loops_are M s f l v p goes) ∙ remove-put M.loops l _ goes.loop_free in
-      let d : table.remove N.vertices (lone_vertex (content N (outer N f))) ≡ M.vertices = ap (table.remove N.vertices) w ∙ ap (λ t. table.remove t v) (more.vertices_are M s f l v p goes) ∙ remove-put M.vertices v p goes.vertex_free in
+      let a : table.remove N.solids s ≡ M.solids = ap (λ t. table.remove t s) (more.solids_put M s f l v p goes).are ∙ remove-put M.solids s tt goes.solid_free in
+      let b : table.remove N.faces f ≡ M.faces = ap (λ t. table.remove t f) (more.faces_put M s f l v p goes).rows.are ∙ remove-put M.faces f _ goes.face_free in
+      let c : table.remove N.loops (outer N f) ≡ M.loops = ap (table.remove N.loops) o ∙ ap (λ t. table.remove t l) (more.loops_put M s f l v p goes).are ∙ remove-put M.loops l _ goes.loop_free in
+      let d : table.remove N.vertices (lone_vertex (content N (outer N f))) ≡ M.vertices = ap (table.remove N.vertices) w ∙ ap (λ t. table.remove t v) (more.vertices_put M s f l v p goes).are ∙ remove-put M.vertices v p goes.vertex_free in
       λ i. record { solids = a i; faces = b i; loops = c i; edges = more.edges_same M s f l v p goes i; vertices = d i }
 
 -- ---- conditions

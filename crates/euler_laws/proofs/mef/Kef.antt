@@ -18,7 +18,7 @@ use Rattle.euler_operators.specs.Conditions.{AllHold, first_false, conditions, f
 use Rattle.euler_operators.specs.Effect.{effect, inverse, mef, kef, edge_row}
 use Rattle.euler_laws.proofs.shared.Goes.{◌also◌, all_hold, none_refuses, not_false, taken}
 use Rattle.euler_laws.proofs.shared.Fans.{half_after, loop_after}
-use Rattle.euler_laws.proofs.shared.Parts.{face_here}
+use Rattle.euler_laws.proofs.shared.Parts.{row_here}
 use Rattle.euler_laws.proofs.shared.EdgeMore.{comes, half_h}
 use Rattle.euler_laws.proofs.shared.EdgeLess.{OneLess, other_edge, half_old, tail_old, edge_gone}
 use Rattle.euler_laws.proofs.shared.TwoRows.{RowsSet, row_second, content_first, face_same, has_same}
@@ -95,7 +95,7 @@ module _ (M : Model) (sound : Sound M) (h : ℕ) (goes : KefGoes M h) where
     g_there = half_old less g (half_after M sound m m_there) g_edge;
     k_there = half_old less k (half_after M sound h goes.h_there) k_edge;
     edge_free = edge_gone less;
-    face_free = face_here (gone.face_set M sound h goes);
+    face_free = row_here (gone.face_set M sound h goes).rows;
     loop_free = row_second set;
     one_loop = loop_k ∙ sym loop_g;
     ends_apart = λ e. sound.ends_differ h goes.h_there (sym tail_g ∙ e ∙ tail_k);

@@ -21,7 +21,7 @@ use Rattle.euler_laws.proofs.shared.Fans.{half_after, loop_after}
 use Rattle.euler_laws.proofs.shared.Loops.{IsLoop, canonical_cycle, light, Walks}
 use Rattle.euler_laws.proofs.shared.Same.{solid_at}
 use Rattle.euler_laws.proofs.shared.Rows.{where_held_none, where_held_there, content_none}
-use Rattle.euler_laws.proofs.shared.Parts.{VerticesHold, FacesHold, RangesHold, sound_of, fit-remove, fit-map, FaceSet, face_here, has_face, solid_other, outer_other}
+use Rattle.euler_laws.proofs.shared.Parts.{VerticesHold, FacesHold, RangesHold, sound_of, fit-remove, fit-map, FaceSet, row_here, has_on, has_back, solid_other, outer_other}
 use Rattle.euler_laws.proofs.shared.EdgeLess.{OneLess, ticks_apart, next_other, ring_kef-other, fans-less, vertices_hold-less}
 use Rattle.euler_laws.proofs.shared.TwoRows.{RowsSet, row_second, row_else, content_first, face_same, has_same, OneOf, TwoRows, which, in_both, loop_both, Elsewhere, none_elsewhere, walks-rows, one_solid-rows, two_rows-less}
 
@@ -224,16 +224,13 @@ module _ (M : Model) (sound : Sound M) (h : ℕ) (goes : KefGoes M h) where
 
   pub face_set : FaceSet M N f None
   unfolding kef
-  face_set = record { are = refl }
+  face_set = record { rows = record { are = refl } }
 
   not_f : (p : ℕ) → Has N.faces p → p ≢ f
-  not_f p there = row_elsewhere N.faces p f there (face_here face_set)
-
-  face_on : (p : ℕ) → p ≢ f → Has M.faces p → Has N.faces p
-  face_on p a there = has_face face_set p a ∙ there
+  not_f p there = row_elsewhere N.faces p f there (row_here face_set.rows)
 
   face_back : (p : ℕ) → Has N.faces p → Has M.faces p
-  face_back p there = sym (has_face face_set p (not_f p there)) ∙ there
+  face_back p there = has_back face_set.rows p (not_f p there) there
 
   -- the face that goes has one loop
   pub face_f : Has M.faces f
@@ -255,7 +252,7 @@ module _ (M : Model) (sound : Sound M) (h : ℕ) (goes : KefGoes M h) where
   unfolding kef
   faces = record {
     loops_of_faces = λ q there. let a = not_s q there in let t = loop_back q there in
-        subst (Has N.faces) (sym (face_same set q a)) (face_on (face_of M q) (face_not_f q t a) (sound.loops_of_faces q t));
+        subst (Has N.faces) (sym (face_same set q a)) (has_on face_set.rows (face_of M q) (face_not_f q t a) (sound.loops_of_faces q t));
     outers_there = λ p there.
         let a = not_f p there in
         let o = sound.outers_there p (face_back p there) in
@@ -263,8 +260,8 @@ module _ (M : Model) (sound : Sound M) (h : ℕ) (goes : KefGoes M h) where
         (subst (Has N.loops) (sym (outer_other face_set p a)) (has_same set (outer M p) b ∙ o.0), ap (face_of N) (outer_other face_set p a) ∙ face_same set (outer M p) b ∙ o.1);
     faces_of_solids = λ p there. subst (Has M.solids) (sym (solid_other face_set p (not_f p there))) (sound.faces_of_solids p (face_back p there));
     solid_has_face = λ t there. let x = sound.solid_has_face t there in elim (eqb_tells x.0 f) [
-      | inl e ↦ (face_of M r, face_on _ goes.faces_apart (sound.loops_of_faces r has_r), solid_other face_set _ goes.faces_apart ∙ one_side ∙ ap (solid_of M) (sym e.1) ∙ x.2)
-      | inr e ↦ (x.0, face_on x.0 e.1 x.1, solid_other face_set x.0 e.1 ∙ x.2)
+      | inl e ↦ (face_of M r, has_on face_set.rows _ goes.faces_apart (sound.loops_of_faces r has_r), solid_other face_set _ goes.faces_apart ∙ one_side ∙ ap (solid_of M) (sym e.1) ∙ x.2)
+      | inr e ↦ (x.0, has_on face_set.rows x.0 e.1 x.1, solid_other face_set x.0 e.1 ∙ x.2)
     ];
     one_solid = one_solid-rows sound rows (solid_at M r)
         (λ q o there. elim o [ inl e ↦ ap (solid_at N) e ∙ solid_loop r has_r r_s | inr e ↦ absurd (not_s q there e) ])

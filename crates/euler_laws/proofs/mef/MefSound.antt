@@ -18,7 +18,7 @@ use Rattle.euler_operators.specs.Effect.{mef}
 use Rattle.euler_laws.proofs.shared.Loops.{IsLoop, canonical_cycle, light, Walks}
 use Rattle.euler_laws.proofs.shared.Rows.{count-halves, content_none}
 use Rattle.euler_laws.proofs.shared.Same.{solid_at}
-use Rattle.euler_laws.proofs.shared.Parts.{VerticesHold, FacesHold, RangesHold, sound_of, fit-put, fit-map, FaceSet, face_here, has_face, solid_other, outer_other}
+use Rattle.euler_laws.proofs.shared.Parts.{VerticesHold, FacesHold, RangesHold, sound_of, fit-put, fit-map, FaceSet, row_here, has_on, has_back, solid_other, outer_other}
 use Rattle.euler_laws.proofs.shared.EdgeMore.{OneMore, comes, PutBefore, not_h, not_m, ring_mef-other, fans-more, fan_first, fan_second, fan_other, vertices_hold-more}
 use Rattle.euler_laws.proofs.shared.EdgeLess.{ticks_apart}
 use Rattle.euler_laws.proofs.shared.TwoRows.{RowsSet, row_second, row_else, content_first, face_same, has_same, OneOf, TwoRows, which, in_both, loop_both, Elsewhere, none_elsewhere, walks-rows, one_solid-rows, two_rows-more}
@@ -192,22 +192,19 @@ module _ (M : Model) (sound : Sound M) (g k h f l : ℕ) (goes : MefGoes M g k h
 
   face_set : FaceSet M N f (Some row)
   unfolding mef
-  face_set = record { are = refl }
+  face_set = record { rows = record { are = refl } }
 
   pub not_f : (p : ℕ) → Has M.faces p → p ≢ f
   not_f p there = row_elsewhere M.faces p f there goes.face_free
 
   face_on : (p : ℕ) → Has M.faces p → Has N.faces p
-  face_on p there = has_face face_set p (not_f p there) ∙ there
-
-  face_back : (p : ℕ) → p ≢ f → Has N.faces p → Has M.faces p
-  face_back p a there = sym (has_face face_set p a) ∙ there
+  face_on p there = has_on face_set.rows p (not_f p there) there
 
   solid_new : solid_of N f ≡ solid_of M (face_of M r)
-  solid_new = solid_row N f row (face_here face_set)
+  solid_new = solid_row N f row (row_here face_set.rows)
 
   pub outer_new : outer N f ≡ l
-  outer_new = outer_row N f row (face_here face_set)
+  outer_new = outer_row N f row (row_here face_set.rows)
 
   pub face_r : Has M.faces (face_of M r)
   face_r = sound.loops_of_faces r has_r
@@ -219,17 +216,17 @@ module _ (M : Model) (sound : Sound M) (g k h f l : ℕ) (goes : MefGoes M g k h
   unfolding mef
   faces = record {
     loops_of_faces = λ q there. elim (eqb_tells q l) [
-      | inl a ↦ subst (Has N.faces) (sym (ap (face_of N) a.1 ∙ face_l)) (ap is_some (face_here face_set))
+      | inl a ↦ subst (Has N.faces) (sym (ap (face_of N) a.1 ∙ face_l)) (ap is_some (row_here face_set.rows))
       | inr a ↦ subst (Has N.faces) (sym (face_same set q a.1)) (face_on _ (sound.loops_of_faces q (sym (has_same set q a.1) ∙ there)))
     ];
     outers_there = λ p there. elim (eqb_tells p f) [
       | inl e ↦ let o : outer N p ≡ l = ap (outer N) e.1 ∙ outer_new in (subst (Has N.loops) (sym o) (ap is_some (row_second set)), ap (face_of N) o ∙ face_l ∙ sym e.1)
-      | inr e ↦ let o = outer_other face_set p e.1 in let t = sound.outers_there p (face_back p e.1 there) in
+      | inr e ↦ let o = outer_other face_set p e.1 in let t = sound.outers_there p (has_back face_set.rows p e.1 there) in
           (subst (Has N.loops) (sym o) (has_same set _ (not_l _ t.0) ∙ t.0), ap (face_of N) o ∙ face_same set _ (not_l _ t.0) ∙ t.1)
     ];
     faces_of_solids = λ p there. elim (eqb_tells p f) [
       | inl e ↦ subst (Has M.solids) (sym (ap (solid_of N) e.1 ∙ solid_new)) (sound.faces_of_solids _ face_r)
-      | inr e ↦ subst (Has M.solids) (sym (solid_other face_set p e.1)) (sound.faces_of_solids p (face_back p e.1 there))
+      | inr e ↦ subst (Has M.solids) (sym (solid_other face_set p e.1)) (sound.faces_of_solids p (has_back face_set.rows p e.1 there))
     ];
     solid_has_face = λ s there. let x = sound.solid_has_face s there in (x.0, face_on x.0 x.1, solid_other face_set x.0 (not_f x.0 x.1) ∙ x.2);
     one_solid = one_solid-rows sound rows (solid_at M r)

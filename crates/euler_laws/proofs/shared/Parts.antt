@@ -109,25 +109,33 @@ pub set_other : {X : Type 0} (t : Table X) (l : ℕ) (o : Option X) (q : ℕ) �
 set_other t l None q a = get-remove_other t l q a
 set_other t l (Some x) q a = get-put_other t l x q a
 
+-- row n is put or taken away
+pub record RowSet {X : Type 0} (t s : Table X) (n : ℕ) (row : Option X) : Type 0 where
+  pub are : s ≡ set_row t n row
+
+module _ {X : Type 0} {t s : Table X} {n : ℕ} {row : Option X} (set : RowSet t s n row) where
+  pub row_here : table.get s n ≡ row
+  row_here = ap (λ y. table.get y n) set.are ∙ set_here t n row
+
+  pub row_other : (q : ℕ) → q ≢ n → table.get s q ≡ table.get t q
+  row_other q a = ap (λ y. table.get y q) set.are ∙ set_other t n row q a
+
+  pub has_on : (q : ℕ) → q ≢ n → Has t q → Has s q
+  has_on q a there = ap is_some (row_other q a) ∙ there
+
+  pub has_back : (q : ℕ) → q ≢ n → Has s q → Has t q
+  has_back q a there = ap is_some (sym (row_other q a)) ∙ there
+
 -- the row of face f is put or taken away
 pub record FaceSet (M N : Model) (f : ℕ) (row : Option FaceRow) : Type 0 where
-  pub are : N.faces ≡ set_row M.faces f row
+  pub rows : RowSet M.faces N.faces f row
 
 module _ {M N : Model} {f : ℕ} {row : Option FaceRow} (set : FaceSet M N f row) where
-  pub face_here : table.get N.faces f ≡ row
-  face_here = ap (λ t. table.get t f) set.are ∙ set_here M.faces f row
-
-  face_other : (p : ℕ) → p ≢ f → table.get N.faces p ≡ table.get M.faces p
-  face_other p a = ap (λ t. table.get t p) set.are ∙ set_other M.faces f row p a
-
-  pub has_face : (p : ℕ) → p ≢ f → table.has N.faces p ≡ table.has M.faces p
-  has_face p a = ap is_some (face_other p a)
-
   pub solid_other : (p : ℕ) → p ≢ f → solid_of N p ≡ solid_of M p
-  solid_other p a = same_solid M N p (face_other p a)
+  solid_other p a = same_solid M N p (row_other set.rows p a)
 
   pub outer_other : (p : ℕ) → p ≢ f → outer N p ≡ outer M p
-  outer_other p a = same_outer M N p (face_other p a)
+  outer_other p a = same_outer M N p (row_other set.rows p a)
 
 -- ---- faces and solids that stay
 
