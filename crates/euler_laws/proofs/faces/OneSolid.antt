@@ -282,7 +282,7 @@ module _ (M : Model) (s f l v : ℕ) (p : Point) (goes : MvfsGoes M s f l v p) w
           let x = sound.solid_has_face n (solid_on n t) in
           let a : x.0 ≢ f = λ z. not_s n t (sym x.2 ∙ ap (solid_of N) z ∙ solid_of_new) in
           (x.0, has_back faces_put.rows x.0 a x.1, sym (solid_other faces_put x.0 a) ∙ x.2);
-      one_solid = λ x t. let o = half_new x t in solid_at_new x t ∙ sound.one_solid x o ∙ sym (solid_at_new (mate x) (walks_off.mates x t));
+      one_solid = λ x t. let o = half_new x t in solid_at_new x t ∙ sound.one_solid x o ∙ sym (solid_at_new (mate x) (mate_there M x t));
       solids_fit = λ n t. sound.solids_fit n (solid_on n t);
       faces_fit = λ n t. sound.faces_fit n (face_on n t);
       loops_fit = λ n t. sound.loops_fit n (loop_on n t);

@@ -11,7 +11,7 @@ use Rattle.euler_operators.specs.declared.Op.TheVariants.{RingOut, Outer}
 use Rattle.euler_operators.specs.Conditions.{first_false, conditions}
 use Rattle.euler_operators.specs.Effect.{effect, inverse, ring_out, take_outer, loop_to_face, face_to_outer}
 use Rattle.euler_laws.proofs.shared.Goes.{all_hold, none_refuses}
-use Rattle.euler_laws.proofs.shared.Same.{solid_at}
+use Rattle.euler_laws.proofs.shared.Same.{mapped_some, solid_at}
 use Rattle.euler_laws.proofs.shared.Undo.{same_loops}
 use Rattle.euler_laws.proofs.shared.Faces.{SameWalks, sound-same, content-moved, loop-moved, face-moved, face-kept}
 use Rattle.euler_laws.proofs.faces.RingIn.{ring_goes, ring_holds, RingGoes}
@@ -54,10 +54,7 @@ module _ (M N : Model) (k f p l : ℕ) (is : Swapped M N k f p l) where
   get_is q = ap (λ t. table.get t q) is.faces ∙ get-map_rows (face_to_outer p l) M.faces q
 
   pub has_same : (q : ℕ) → table.has N.faces q ≡ table.has M.faces q
-  has_same q = ap is_some (get_is q) ∙ go (table.get M.faces q) where
-    go : (o : Option FaceRow) → is_some (option_map (face_to_outer p l q) o) ≡ is_some o
-    go None = refl
-    go (Some row) = refl
+  has_same q = ap is_some (get_is q) ∙ mapped_some (face_to_outer p l q) (table.get M.faces q)
 
   pub solid_same : (q : ℕ) → solid_of N q ≡ solid_of M q
   unfolding solid_of

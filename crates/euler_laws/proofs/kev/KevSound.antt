@@ -25,7 +25,7 @@ use Rattle.euler_laws.proofs.shared.Loops.{IsLoop, count_out, count_gone, apart_
 use Rattle.euler_laws.proofs.shared.Arcs.{fan_kev, fan_kev_other}
 use Rattle.euler_laws.proofs.shared.Same.{mapped_some, Rewritten, content-new, face-same, loop-same, SameFaces, solid_at, solid_at-same}
 use Rattle.euler_laws.proofs.shared.Parts.{VerticesHold, RangesHold, sound_of, fit-map, fit-remove, points-remove, stay_of_same, faces_hold}
-use Rattle.euler_laws.proofs.shared.EdgeLess.{next_other, alone_there}
+use Rattle.euler_laws.proofs.shared.EdgeLess.{EdgeGoes, half_stays, half_was, other_edge as of_other_edge, not_mate, next_other, alone_there}
 use Rattle.euler_laws.proofs.shared.Rows.{count_or_lone, loop_or_lone, was_empty, no_items}
 
 pub moved_in : (v w e : ℕ) (row : EdgeRow) (b : Bool) → tail_in (moved_tail v w e row) b ≡ cond (nat_eq (tail_in row b) v) w (tail_in row b)
@@ -166,19 +166,20 @@ module _ (M : Model) (sound : Sound M) (h : ℕ) (goes : KevGoes M h) where
   unfolding kev
   edge_gone = grind (arith, nat_tests, tables)
 
+  edge_goes : EdgeGoes M N h
+  edge_goes = record { gone = edge_gone; others = λ e a. ap is_some (edge_mapped e a) ∙ mapped_some _ (table.get M.edges e) }
+
   pub half_old : (x : ℕ) → HasHalf M x → edge_of x ≢ edge_of h → HasHalf N x
-  half_old x there a = ap is_some (edge_mapped (edge_of x) a) ∙ mapped_some _ (table.get M.edges (edge_of x)) ∙ there
+  half_old = half_stays edge_goes
 
   pub half_cases : (x : ℕ) → HasHalf N x → HasHalf M x × (edge_of x ≢ edge_of h)
-  half_cases x there =
-      let a : edge_of x ≢ edge_of h = λ e. true≢false (sym there ∙ ap is_some (ap (table.get N.edges) e ∙ edge_gone)) in
-      (sym (mapped_some _ (table.get M.edges (edge_of x))) ∙ ap is_some (sym (edge_mapped (edge_of x) a)) ∙ there, a)
+  half_cases = half_was edge_goes
 
   pub other_edge : (x : ℕ) → x ≢ h → x ≢ m → edge_of x ≢ edge_of h
-  other_edge x a b e = elim (same_edge x h e) [ inl q ↦ a q | inr q ↦ b q ]
+  other_edge x a b = of_other_edge x h a b
 
   pub not_m : (x : ℕ) → edge_of x ≢ edge_of h → x ≢ m
-  not_m x a e = a (ap edge_of e ∙ edge_of-mate h)
+  not_m x a = not_mate x h a
 
   pub tail_old : (x : ℕ) → HasHalf M x → edge_of x ≢ edge_of h → tail N x ≡ cond (nat_eq (tail M x) w) u (tail M x)
   unfolding tail
@@ -296,11 +297,8 @@ module _ (M : Model) (sound : Sound M) (h : ℕ) (goes : KevGoes M h) where
     ]
   ]
 
-  pub mates : (x : ℕ) → HasHalf N x → HasHalf N (mate x)
-  mates x there = ap (λ q. is_some (table.get N.edges q)) (edge_of-mate x) ∙ there
-
   pub walks : Walks N F
-  walks = record { only = only; placed = placed; loops = loops; fans = fans; mates = mates }
+  walks = record { only = only; placed = placed; loops = loops; fans = fans }
 
   -- ---- vertices
 

@@ -312,7 +312,7 @@ module _ (M : Model) (sound : Sound M) (h : ℕ) (goes : KevGoes M h) (open_end 
       let di : IsIn d all = f.all d d_new.0 d_new.1 in
       let cb : IsIn c both = omega (arith, ci, count-canonical c both) in
       let ring : IsRing (round N) all = IsPath-agree (λ x. kill.F M sound h goes (mate x)) (round N) all (head_or 0 all)
-      (λ x i. sym (after-walks N (kill.F M sound h goes) (kill.walks M sound h goes) (mate x) (kill.mates M sound h goes x (f.of_it x i).0))) f.ring in
+      (λ x i. sym (after-walks N (kill.F M sound h goes) (kill.walks M sound h goes) (mate x) (mate_there N x (f.of_it x i).0))) f.ring in
       let e : rotate_to c all ≡ rest m vs ++ d ∷ ts =
       sym (rotate_to_same c both all (canonical-rotates both) ab cb) ∙ rotate_to_same c both back_to r ab cb
       ∙ ap (λ y. rotate_to c (rest m vs ++ y)) others.1 ∙ first_is (rest m vs) ts (c_first ts) in

@@ -15,6 +15,7 @@ use Rattle.euler_operators.specs.Effect.{merge, faces_to_solid}
 use Rattle.euler_laws.proofs.shared.Goes.{◌also◌, all_hold, none_refuses, not_false}
 use Rattle.euler_laws.proofs.shared.Rows.{face_there}
 use Rattle.euler_laws.proofs.shared.Faces.{sound-same}
+use Rattle.euler_laws.proofs.shared.Same.{mapped_some}
 
 -- ---- faces that go to another solid
 
@@ -58,10 +59,7 @@ module _ (M N : Model) (pick : ℕ → FaceRow → Bool) (n : ℕ) (is : N.faces
   row_is q = ap (λ t. table.get t q) is ∙ get-map_rows (faces_to_solid pick n) M.faces q
 
   pub has_moved : (q : ℕ) → table.has N.faces q ≡ table.has M.faces q
-  has_moved q = ap is_some (row_is q) ∙ go (table.get M.faces q) where
-    go : (o : Option FaceRow) → is_some (option_map (faces_to_solid pick n q) o) ≡ is_some o
-    go None = refl
-    go (Some row) = refl
+  has_moved q = ap is_some (row_is q) ∙ mapped_some (faces_to_solid pick n q) (table.get M.faces q)
 
   row_outer : (q : ℕ) (row : FaceRow) → (faces_to_solid pick n q row).outer ≡ row.outer
   row_outer q row = elim (pick q row) as (λ b. (cond b (record row { solid = n }) row).outer ≡ row.outer) [ true ↦ refl | false ↦ refl ]

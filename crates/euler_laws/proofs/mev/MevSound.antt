@@ -317,7 +317,7 @@ module _ (M : Model) (sound : Sound M) (g k h v : ℕ) (p : Point) (goes : MevGo
   ]
 
   pub walks : Walks N F
-  walks = record { only = only sound rows; placed = placed sound rows; loops = loops; fans = fans; mates = λ x there. ap (λ q. is_some (table.get N.edges q)) (edge_of-mate x) ∙ there }
+  walks = record { only = only sound rows; placed = placed sound rows; loops = loops; fans = fans }
 
   -- ---- vertices
 

@@ -40,8 +40,20 @@ module _ (M : Model) (sound : Sound M) (h : ℕ) (there : HasHalf M h) where
   pub alone_there : after M (mate h) ≡ h → (x : ℕ) → HasHalf M x → edge_of x ≢ edge_of h → tail M x ≢ tail M h
   alone_there e x o a t = edges_apart x h a (fixed_reaches (round M) h x e (sound.one_fan h x there o (sym t)))
 
--- ---- the edge of h is taken away
+-- ---- the edge of h goes; other edges are there as before
 
+pub record EdgeGoes (M N : Model) (h : ℕ) : Type 0 where
+  pub gone : table.get N.edges (edge_of h) ≡ None
+  pub others : (e : ℕ) → e ≢ edge_of h → table.has N.edges e ≡ table.has M.edges e
+
+module _ {M N : Model} {h : ℕ} (away : EdgeGoes M N h) where
+  pub half_stays : (x : ℕ) → HasHalf M x → edge_of x ≢ edge_of h → HasHalf N x
+  half_stays x there a = away.others (edge_of x) a ∙ there
+
+  pub half_was : (x : ℕ) → HasHalf N x → HasHalf M x × (edge_of x ≢ edge_of h)
+  half_was x there = let a = row_elsewhere N.edges (edge_of x) (edge_of h) there away.gone in (sym (away.others (edge_of x) a) ∙ there, a)
+
+-- the edge of h is taken away
 pub record OneLess (M N : Model) (h : ℕ) : Type 0 where
   pub edges : N.edges ≡ table.remove M.edges (edge_of h)
   pub there : HasHalf M h
@@ -53,13 +65,14 @@ module _ {M N : Model} {h : ℕ} (less : OneLess M N h) where
   pub edge_other : (e : ℕ) → e ≢ edge_of h → table.get N.edges e ≡ table.get M.edges e
   edge_other e a = ap (λ t. table.get t e) less.edges ∙ get-remove_other M.edges (edge_of h) e a
 
+  goes : EdgeGoes M N h
+  goes = record { gone = edge_gone; others = λ e a. ap is_some (edge_other e a) }
+
   pub half_old : (x : ℕ) → HasHalf M x → edge_of x ≢ edge_of h → HasHalf N x
-  half_old x there a = ap is_some (edge_other (edge_of x) a) ∙ there
+  half_old = half_stays goes
 
   pub half_cases : (x : ℕ) → HasHalf N x → HasHalf M x × (edge_of x ≢ edge_of h)
-  half_cases x there =
-      let a : edge_of x ≢ edge_of h = row_elsewhere N.edges (edge_of x) (edge_of h) there edge_gone in
-      (ap is_some (sym (edge_other (edge_of x) a)) ∙ there, a)
+  half_cases = half_was goes
 
   pub tail_old : (x : ℕ) → edge_of x ≢ edge_of h → tail N x ≡ tail M x
   unfolding tail

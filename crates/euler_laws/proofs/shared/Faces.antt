@@ -10,7 +10,7 @@ use Rattle.euler_operators.specs.Sound.{Sound, Has, HasHalf, IsLoneAt, NumbersFi
 use Rattle.euler_operators.specs.Effect.{loop_to_face}
 use Rattle.euler_operators.proofs.Models.{mate_there}
 use Rattle.euler_laws.proofs.shared.Loops.{IsLoop, loop_sound, Walks, stands-walks, one_loop-walks, cycles-walks, ends_meet-walks, one_fan-walks}
-use Rattle.euler_laws.proofs.shared.Same.{solid_at}
+use Rattle.euler_laws.proofs.shared.Same.{mapped_some, solid_at}
 use Rattle.euler_laws.proofs.shared.Rings.{SameRings, half_back, tail_same, walks-rings, loop-rings, ends_differ-rings, tail-rings, edges_fit-rings}
 
 pub record SameWalks (M N : Model) : Type 0 where
@@ -100,10 +100,7 @@ module _ (M N : Model) (l f : ℕ) (is : N.loops ≡ map_rows (loop_to_face l f)
     go (Some row) false = refl
 
   pub loop-moved : (q : ℕ) → table.has N.loops q ≡ table.has M.loops q
-  loop-moved q = ap is_some (get_is q) ∙ go (table.get M.loops q) where
-    go : (o : Option LoopRow) → is_some (option_map (loop_to_face l f q) o) ≡ is_some o
-    go None = refl
-    go (Some row) = refl
+  loop-moved q = ap is_some (get_is q) ∙ mapped_some (loop_to_face l f q) (table.get M.loops q)
 
   face_as : (q : ℕ) (b : Bool) → nat_eq q l ≡ b → face_of N q ≡ (unwrap_or (option_map (to_face f b) (table.get M.loops q)) no_loop).face
   unfolding face_of

@@ -14,7 +14,7 @@ use Rattle.euler_operators.specs.Table as table
 use Rattle.euler_operators.specs.Model.{Model, LoopContent, lone, cycle, LoopRow, no_loop, items_of, holds, tail, loop_of, content, cycle_of, after, round}
 use Rattle.euler_operators.specs.Sound.{Sound, Has, HasHalf, StandsIn, Reaches, here, further, IsCycle}
 use Rattle.euler_operators.proofs.Tables.{first_where_is}
-use Rattle.euler_operators.proofs.Models.{content_row, held_row, in-holds, holds_in, holds-none, never_lone}
+use Rattle.euler_operators.proofs.Models.{mate_there, content_row, held_row, in-holds, holds_in, holds-none, never_lone}
 use Rattle.euler_operators.proofs.Halves.{mate-mate}
 use Rattle.euler_laws.proofs.shared.Fans.{Fan, ring_reaches}
 
@@ -172,7 +172,6 @@ pub record Walks (N : Model) (next : ℕ → ℕ) : Type 0 where
   pub placed : (x : ℕ) → HasHalf N x → (q : ℕ) × StandsIn N x q × ((p : ℕ) → StandsIn N x p → p ≡ q)
   pub loops : (q : ℕ) → Has N.loops q → IsLoop next (content N q)
   pub fans : (x : ℕ) → HasHalf N x → Fan next N (tail N x)
-  pub mates : (x : ℕ) → HasHalf N x → HasHalf N (mate x)
 
 -- the loop of a half-edge, where no other holds it
 pub loop_at : (N : Model) (x q : ℕ) → StandsIn N x q → ((p : ℕ) → StandsIn N x p → p ≡ q) → loop_of N x ≡ q
@@ -205,15 +204,15 @@ module _ (N : Model) (next : ℕ → ℕ) (w : Walks N next) where
 
   pub ends_meet-walks : (x : ℕ) → HasHalf N x → tail N (after N x) ≡ tail N (mate x)
   ends_meet-walks x t =
-      let f = w.fans (mate x) (w.mates x t) in
-      let i : IsIn (next (mate (mate x))) f.items = ring_stays (λ y. next (mate y)) f.items (mate x) f.ring (f.all (mate x) (w.mates x t) refl) in
+      let f = w.fans (mate x) (mate_there N x t) in
+      let i : IsIn (next (mate (mate x))) f.items = ring_stays (λ y. next (mate y)) f.items (mate x) f.ring (f.all (mate x) (mate_there N x t) refl) in
       ap (tail N) (after-walks x t ∙ ap next (sym (mate-mate x))) ∙ (f.of_it _ i).1
 
   same_reaches : (x y : ℕ) → HasHalf N x → Reaches (λ z. next (mate z)) x y → HasHalf N y × Reaches (round N) x y
   same_reaches x y t here = (t, here)
   same_reaches x y t (further {h = z} p) =
       let q = same_reaches x z t p in
-      let m : HasHalf N (mate z) = w.mates z q.0 in
+      let m : HasHalf N (mate z) = mate_there N z q.0 in
       let e : round N z ≡ next (mate z) = after-walks (mate z) m in
       let f = w.fans z q.0 in
       ((f.of_it _ (ring_stays (λ y. next (mate y)) f.items z f.ring (f.all z q.0 refl))).0, subst (Reaches (round N) x) e (further q.1))

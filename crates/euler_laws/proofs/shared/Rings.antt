@@ -42,7 +42,6 @@ module _ (M N : Model) (sound : Sound M) (same : SameRings M N) where
       of_it = λ y i. let o = f.of_it y i in (half_on y o.0, tail_same y ∙ o.1 ∙ sym (tail_same x));
       all = λ y u e. f.all y (half_back y u) (sym (tail_same y) ∙ e ∙ tail_same x);
     };
-    mates = λ x t. ap (λ q. is_some (table.get N.edges q)) (edge_of-mate x) ∙ t;
   }
 
   pub loop-rings : (x : ℕ) → HasHalf M x → loop_of N x ≡ loop_of M x

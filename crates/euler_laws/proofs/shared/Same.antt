@@ -14,6 +14,10 @@ map_twice {X = X} f g t = same_table _ _ (λ q. get-map_rows f (map_rows g t) q 
   on None q = refl
   on (Some x) q = refl
 
+pub mapped_some : {X : Type 0} (f : X → X) (o : Option X) → is_some (option_map f o) ≡ is_some o
+mapped_some f None = refl
+mapped_some f (Some x) = refl
+
 -- each loop keeps its face, and its content is rewritten
 pub record Rewritten (M N : Model) (new : LoopContent → LoopContent) : Type 0 where
   pub rewrite : ℕ → LoopRow → LoopRow
@@ -41,10 +45,7 @@ module _ (M N : Model) (new : LoopContent → LoopContent) (w : Rewritten M N ne
     go (Some row) = w.faces q row
 
   pub loop-same : (q : ℕ) → table.has N.loops q ≡ table.has M.loops q
-  loop-same q = ap is_some (get_is q) ∙ go (table.get M.loops q) where
-    go : (o : Option LoopRow) → is_some (option_map (w.rewrite q) o) ≡ is_some o
-    go None = refl
-    go (Some row) = refl
+  loop-same q = ap is_some (get_is q) ∙ mapped_some (w.rewrite q) (table.get M.loops q)
 
 -- faces and solids stay, and each loop its face
 pub record SameFaces (M N : Model) : Type 0 where
@@ -63,7 +64,3 @@ solid_at-same M N w q = ap (solid_of N) (w.face q) ∙ same_solid M N (face_of M
 -- the half-edges at one vertex lie in one solid
 pub one_solid_round : (M : Model) (sound : Sound M) (g k : ℕ) → HasHalf M g → HasHalf M k → tail M g ≡ tail M k → solid_at M (loop_of M k) ≡ solid_at M (loop_of M g)
 one_solid_round M sound g k gt kt e = kept_round M sound (λ x. solid_at M (loop_of M x)) (λ x t. ap (solid_at M) (loop_after M sound x t)) (λ x t. sym (sound.one_solid x t)) g k gt (sound.one_fan g k gt kt e)
-
-pub mapped_some : {X : Type 0} (f : X → X) (o : Option X) → is_some (option_map f o) ≡ is_some o
-mapped_some f None = refl
-mapped_some f (Some x) = refl

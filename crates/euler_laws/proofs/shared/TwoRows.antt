@@ -9,7 +9,7 @@ use Rattle.euler_operators.specs.Table as table
 use Rattle.euler_operators.specs.Model.{Model, LoopContent, lone, cycle, LoopRow, items_of, holds, tail, loop_of, content, face_of, after}
 use Rattle.euler_operators.specs.Sound.{Sound, Has, HasHalf, StandsIn}
 use Rattle.euler_operators.proofs.Halves.{edge_of-mate, same_edge}
-use Rattle.euler_operators.proofs.Models.{in-holds, holds_in, held_row, content_row, face_row, same_content, same_face}
+use Rattle.euler_operators.proofs.Models.{mate_there, in-holds, holds_in, held_row, content_row, face_row, same_content, same_face}
 use Rattle.euler_operators.proofs.Tables.{get-put_here, get-put_other}
 use Rattle.euler_laws.proofs.shared.Fans.{Fan}
 use Rattle.euler_laws.proofs.shared.Loops.{IsLoop, loop_sound, Walks, loop_at}
@@ -203,7 +203,7 @@ module _ {M N : Model} {e r s : ℕ} (sound : Sound M) (rows : TwoRows M N e r s
     ]
 
     pub walks-rows : ((x : ℕ) → HasHalf N x → Fan next N (tail N x)) → Walks N next
-    walks-rows fans = record { only = only; placed = placed; loops = loops; fans = fans; mates = λ x t. ap (λ q. is_some (table.get N.edges q)) (edge_of-mate x) ∙ t }
+    walks-rows fans = record { only = only; placed = placed; loops = loops; fans = fans }
 
   -- ---- solids
 
@@ -224,7 +224,7 @@ module _ {M N : Model} {e r s : ℕ} (sound : Sound M) (rows : TwoRows M N e r s
     ]
 
     pub one_solid-rows : (x : ℕ) → HasHalf N x → solid_at N (loop_of N x) ≡ solid_at N (loop_of N (mate x))
-    one_solid-rows x t = let k : HasHalf N (mate x) = ap (λ q. is_some (table.get N.edges q)) (edge_of-mate x) ∙ t in elim (eqb_tells (edge_of x) e) [
+    one_solid-rows x t = let k : HasHalf N (mate x) = mate_there N x t in elim (eqb_tells (edge_of x) e) [
       | inl a ↦ solid_both x (rows.stands x a.1 t) ∙ sym (solid_both (mate x) (rows.stands (mate x) (edge_of-mate x ∙ a.1) k))
       | inr a ↦ solid_old x a.1 t ∙ sound.one_solid x (half_back x a.1 t) ∙ sym (solid_old (mate x) (λ b. a.1 (sym (edge_of-mate x) ∙ b)) k)
     ]
