@@ -90,7 +90,7 @@ module _ (M : Model) (sound : Sound M) (f g : ℕ) (goes : KillGoes M f g) where
 
   pub sound-kfmrh : Sound N
   unfolding kfmrh
-  sound-kfmrh = sound-same M N sound kill_same (record {
+  sound-kfmrh = sound-same sound kill_same (record {
     loops_of_faces = λ q t. elim (eqb_tells q l) [
       | inl e ↦ subst (Has N.faces) (sym (ap (face_of N) e.1 ∙ kill_face_l)) (has_on kill_set.rows f goes.apart goes.f_there)
       | inr e ↦ subst (Has N.faces) (sym (kill_face_else q e.1)) (has_on kill_set.rows _ (not_face_g q t e.1) (sound.loops_of_faces q t))
@@ -162,7 +162,7 @@ module _ (M : Model) (sound : Sound M) (l f : ℕ) (goes : MakeGoes M l f) where
 
   pub sound-mfkrh : Sound P
   unfolding mfkrh
-  sound-mfkrh = sound-same M P sound make_same (record {
+  sound-mfkrh = sound-same sound make_same (record {
     loops_of_faces = λ q t. elim (eqb_tells q l) [
       | inl e ↦ subst (Has P.faces) (sym (ap (face_of P) e.1 ∙ make_face_l)) (ap is_some (row_here make_set.rows))
       | inr e ↦ subst (Has P.faces) (sym (make_face_else q e.1)) (on _ (sound.loops_of_faces q t))

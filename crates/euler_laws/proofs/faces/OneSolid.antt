@@ -30,7 +30,7 @@ pub record MvfsGoes (M : Model) (s f l v : ℕ) (p : Point) : Type 0 where
 
 -- ---- the model with one more solid, face, loop and vertex
 
-module _ (M : Model) (s f l v : ℕ) (p : Point) (goes : MvfsGoes M s f l v p) where
+module _ {M : Model} {s f l v : ℕ} {p : Point} (goes : MvfsGoes M s f l v p) where
   abbrev pub N : Model
   N = mvfs M s f l v p
 

@@ -61,7 +61,7 @@ module _ (M : Model) (sound : Sound M) (l f : ℕ) (goes : RingGoes M l f) where
 
   pub sound-ring_in : Sound N
   unfolding ring_in
-  sound-ring_in = sound-same M N sound same (record {
+  sound-ring_in = sound-same sound same (record {
     loops_of_faces = λ q t. elim (eqb_tells q l) [
       | inl e ↦ subst (Has M.faces) (sym (ap (face_of N) e.1 ∙ face_l)) goes.f_there
       | inr e ↦ subst (Has M.faces) (sym (face_else q e.1)) (sound.loops_of_faces q t)

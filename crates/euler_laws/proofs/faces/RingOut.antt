@@ -49,7 +49,7 @@ pub record SwapGoes (M : Model) (k f p l : ℕ) : Type 0 where
   pub l_home : ((l ≡ k) × (f ≡ p)) ⊎ ((l ≢ k) × (face_of M l ≡ p))
   pub k_free : (q : ℕ) → Has M.faces q → q ≢ p → outer M q ≢ k
 
-module _ (M N : Model) (k f p l : ℕ) (is : Swapped M N k f p l) where
+module _ {M N : Model} {k f p l : ℕ} (is : Swapped M N k f p l) where
   get_is : (q : ℕ) → table.get N.faces q ≡ option_map (face_to_outer p l q) (table.get M.faces q)
   get_is q = ap (λ t. table.get t q) is.faces ∙ get-map_rows (face_to_outer p l) M.faces q
 
@@ -101,7 +101,7 @@ module _ (M N : Model) (k f p l : ℕ) (is : Swapped M N k f p l) where
     home = elim goes.l_home [ inl a ↦ ap (face_of N) a.0 ∙ face_k goes.k_there ∙ a.1 | inr a ↦ face_else l a.0 ∙ a.1 ]
 
     pub sound-swapped : Sound N
-    sound-swapped = sound-same M N sound walks_same (record {
+    sound-swapped = sound-same sound walks_same (record {
       loops_of_faces = λ q t. elim (eqb_tells q k) [
         | inl e ↦ subst (Has N.faces) (sym (ap (face_of N) e.1 ∙ face_k goes.k_there)) (has_same f ∙ goes.f_there)
         | inr e ↦ subst (Has N.faces) (sym (face_else q e.1)) (has_same _ ∙ sound.loops_of_faces q t)
@@ -128,25 +128,25 @@ swap_back M N K k f p l o a b kt pt e = λ i. record {
   vertices = (b.vertices ∙ a.vertices) i;
 } where
   wa : SameWalks M N
-  wa = walks_same M N k f p l a
+  wa = walks_same a
 
   wb : SameWalks N K
-  wb = walks_same N K k (face_of M k) p o b
+  wb = walks_same b
 
   loops : K.loops ≡ M.loops
   loops = same_loops K M (λ q. wb.loops q ∙ wa.loops q)
       (λ q _. elim (eqb_tells q k) [
-        | inl s ↦ ap (face_of K) s.1 ∙ face_k N K k (face_of M k) p o b (wa.loops k ∙ kt) ∙ sym (ap (face_of M) s.1)
-        | inr s ↦ face_else N K k (face_of M k) p o b q s.1 ∙ face_else M N k f p l a q s.1
+        | inl s ↦ ap (face_of K) s.1 ∙ face_k b (wa.loops k ∙ kt) ∙ sym (ap (face_of M) s.1)
+        | inr s ↦ face_else b q s.1 ∙ face_else a q s.1
       ])
       (λ q _. wb.contents q ∙ wa.contents q)
 
   faces : K.faces ≡ M.faces
-  faces = same_faces K M (λ q. has_same N K k (face_of M k) p o b q ∙ has_same M N k f p l a q)
-      (λ q _. solid_same N K k (face_of M k) p o b q ∙ solid_same M N k f p l a q)
+  faces = same_faces K M (λ q. has_same b q ∙ has_same a q)
+      (λ q _. solid_same b q ∙ solid_same a q)
       (λ q _. elim (eqb_tells q p) [
-        | inl s ↦ ap (outer K) s.1 ∙ outer_new N K k (face_of M k) p o b (has_same M N k f p l a p ∙ pt) ∙ sym e ∙ sym (ap (outer M) s.1)
-        | inr s ↦ outer_kept N K k (face_of M k) p o b q s.1 ∙ outer_kept M N k f p l a q s.1
+        | inl s ↦ ap (outer K) s.1 ∙ outer_new b (has_same a p ∙ pt) ∙ sym e ∙ sym (ap (outer M) s.1)
+        | inr s ↦ outer_kept b q s.1 ∙ outer_kept a q s.1
       ])
 
 -- the two operators as swaps
@@ -164,7 +164,7 @@ outer_swap M l f g o a b = record {
   vertices = refl;
 }
 
-module _ (M : Model) (sound : Sound M) (l f : ℕ) (goes : RingGoes M l f) where
+module _ {M : Model} (sound : Sound M) {l f : ℕ} (goes : RingGoes M l f) where
   abbrev g : ℕ
   g = face_of M l
 
@@ -185,19 +185,19 @@ module _ (M : Model) (sound : Sound M) (l f : ℕ) (goes : RingGoes M l f) where
   out_goes = record { k_there = goes.l_there; f_there = goes.f_there; p_there = goes.f_there; l_there = goes.l_there; one_solid = goes.one_solid; l_home = inl (refl, refl); k_free = λ q t _. never_outer M sound l goes.is_ring q t }
 
   pub sound-ring_out : Sound N
-  sound-ring_out = sound-swapped M N l f f l (out_swap M l f) sound out_goes
+  sound-ring_out = sound-swapped (out_swap M l f) sound out_goes
 
   o_face : face_of N o ≡ f
-  o_face = face_else M N l f f l (out_swap M l f) o o_l ∙ (sound.outers_there f goes.f_there).1
+  o_face = face_else (out_swap M l f) o o_l ∙ (sound.outers_there f goes.f_there).1
 
   f_outer : outer N f ≡ l
-  f_outer = outer_new M N l f f l (out_swap M l f) goes.f_there
+  f_outer = outer_new (out_swap M l f) goes.f_there
 
   pub out_back_goes : RingGoes N o g
   out_back_goes = record {
-    l_there = (walks_same M N l f f l (out_swap M l f)).loops o ∙ (sound.outers_there f goes.f_there).0;
-    f_there = has_same M N l f f l (out_swap M l f) g ∙ g_there;
-    one_solid = ap (solid_of N) o_face ∙ solid_same M N l f f l (out_swap M l f) f ∙ sym goes.one_solid ∙ sym (solid_same M N l f f l (out_swap M l f) g);
+    l_there = (walks_same (out_swap M l f)).loops o ∙ (sound.outers_there f goes.f_there).0;
+    f_there = has_same (out_swap M l f) g ∙ g_there;
+    one_solid = ap (solid_of N) o_face ∙ solid_same (out_swap M l f) f ∙ sym goes.one_solid ∙ sym (solid_same (out_swap M l f) g);
     is_ring = λ e. o_l (sym (sym f_outer ∙ ap (outer N) (sym o_face) ∙ e));
   }
 
@@ -221,19 +221,19 @@ module _ (M : Model) (sound : Sound M) (l f : ℕ) (goes : RingGoes M l f) where
   outer_goes = record { k_there = z_there.0; f_there = goes.f_there; p_there = g_there; l_there = goes.l_there; one_solid = ap (solid_of M) z_there.1 ∙ goes.one_solid; l_home = inr ((λ e. goes.is_ring (sym e)), refl); k_free = λ q t a e. a (sym (sound.outers_there q t).1 ∙ ap (face_of M) e ∙ z_there.1) }
 
   pub sound-take_outer : Sound P
-  sound-take_outer = sound-swapped M P z f g l by sound outer_goes
+  sound-take_outer = sound-swapped by sound outer_goes
 
   z_face : face_of P z ≡ f
-  z_face = face_k M P z f g l by z_there.0
+  z_face = face_k by z_there.0
 
   pub outer_back_goes : RingGoes P z g
   outer_back_goes = record {
-    l_there = (walks_same M P z f g l by).loops z ∙ z_there.0;
-    f_there = has_same M P z f g l by g ∙ g_there;
-    one_solid = ap (solid_of P) z_face ∙ solid_same M P z f g l by f ∙ sym goes.one_solid ∙ sym (solid_same M P z f g l by g);
+    l_there = (walks_same by).loops z ∙ z_there.0;
+    f_there = has_same by g ∙ g_there;
+    one_solid = ap (solid_of P) z_face ∙ solid_same by f ∙ sym goes.one_solid ∙ sym (solid_same by g);
     is_ring = λ e. elim (eqb_tells f g) [
-      | inl a ↦ goes.is_ring (sym (sym (outer_new M P z f g l by g_there) ∙ ap (outer P) (sym (z_face ∙ a.1)) ∙ e))
-      | inr a ↦ outer_goes.k_free f goes.f_there a.1 (sym (outer_kept M P z f g l by f a.1) ∙ ap (outer P) (sym z_face) ∙ e)
+      | inl a ↦ goes.is_ring (sym (sym (outer_new by g_there) ∙ ap (outer P) (sym (z_face ∙ a.1)) ∙ e))
+      | inr a ↦ outer_goes.k_free f goes.f_there a.1 (sym (outer_kept by f a.1) ∙ ap (outer P) (sym z_face) ∙ e)
     ];
   }
 
@@ -263,16 +263,16 @@ outer_accepted N l f sound goes = none_refuses (conditions N (Outer l f)) (ring_
 
 pub ring_out_lawful : (l f : ℕ) → IsLawful (RingOut l f)
 unfolding effect inverse
-ring_out_lawful l f M sound e = let w = ring_out_goes M l f e in let s = sound-ring_out M sound l f w in record {
+ring_out_lawful l f M sound e = let w = ring_out_goes M l f e in let s = sound-ring_out sound w in record {
   sound = s;
-  goes = outer_accepted (ring_out M l f) (outer M f) (face_of M l) s (out_back_goes M sound l f w);
-  undone = take_outer-ring_out M sound l f w;
+  goes = outer_accepted (ring_out M l f) (outer M f) (face_of M l) s (out_back_goes sound w);
+  undone = take_outer-ring_out sound w;
 }
 
 pub outer_lawful : (l f : ℕ) → IsLawful (Outer l f)
 unfolding effect inverse
-outer_lawful l f M sound e = let w = outer_goes_so M l f e in let s = sound-take_outer M sound l f w in record {
+outer_lawful l f M sound e = let w = outer_goes_so M l f e in let s = sound-take_outer sound w in record {
   sound = s;
-  goes = ring_out_accepted (take_outer M l f) (outer M (face_of M l)) (face_of M l) s (outer_back_goes M sound l f w);
-  undone = ring_out-take_outer M sound l f w;
+  goes = ring_out_accepted (take_outer M l f) (outer M (face_of M l)) (face_of M l) s (outer_back_goes sound w);
+  undone = ring_out-take_outer sound w;
 }

@@ -28,7 +28,7 @@ pub record KvfsGoes (M : Model) (s f : ℕ) : Type 0 where
   pub no_rings : (q : ℕ) → Has M.loops q → face_of M q ≡ f → outer M f ≡ q
   pub is_bare : content M (outer M f) ≡ lone (lone_vertex (content M (outer M f)))
 
-module _ (M : Model) (sound : Sound M) (s f : ℕ) (goes : KvfsGoes M s f) where
+module _ {M : Model} (sound : Sound M) {s f : ℕ} (goes : KvfsGoes M s f) where
   abbrev pub l : ℕ
   l = outer M f
 
@@ -81,48 +81,48 @@ module _ (M : Model) (sound : Sound M) (s f : ℕ) (goes : KvfsGoes M s f) where
   }
 
   pub sound-kvfs : Sound K
-  sound-kvfs = sound-back K s f l v p put_goes (subst Sound (sym mvfs-kvfs) sound)
-      (λ q t e. let a = more.not_f K s f l v p put_goes q t in
-      a (goes.only q (subst (λ X. Has X.faces q) mvfs-kvfs (more.face_on K s f l v p put_goes q t)) (ap (λ X. solid_of X q) (sym mvfs-kvfs) ∙ solid_other (more.faces_put K s f l v p put_goes) q a ∙ e)))
-      (λ q t e. let a = more.not_l K s f l v p put_goes q t in
-      a (sym (goes.no_rings q (subst (λ X. Has X.loops q) mvfs-kvfs (more.loop_on K s f l v p put_goes q t)) (ap (λ X. face_of X q) (sym mvfs-kvfs) ∙ more.face_of_other K s f l v p put_goes q a ∙ e))))
+  sound-kvfs = sound-back put_goes (subst Sound (sym mvfs-kvfs) sound)
+      (λ q t e. let a = more.not_f put_goes q t in
+      a (goes.only q (subst (λ X. Has X.faces q) mvfs-kvfs (more.face_on put_goes q t)) (ap (λ X. solid_of X q) (sym mvfs-kvfs) ∙ solid_other (more.faces_put put_goes) q a ∙ e)))
+      (λ q t e. let a = more.not_l put_goes q t in
+      a (sym (goes.no_rings q (subst (λ X. Has X.loops q) mvfs-kvfs (more.loop_on put_goes q t)) (ap (λ X. face_of X q) (sym mvfs-kvfs) ∙ more.face_of_other put_goes q a ∙ e))))
 
 -- ---- mvfs is taken back by kvfs
 
-module _ (M : Model) (sound : Sound M) (s f l v : ℕ) (p : Point) (goes : MvfsGoes M s f l v p) where
+module _ {M : Model} (sound : Sound M) {s f l v : ℕ} {p : Point} (goes : MvfsGoes M s f l v p) where
   abbrev N : Model
   N = mvfs M s f l v p
 
   pub kill_goes : KvfsGoes N s f
   kill_goes = record {
-    s_there = ap is_some (row_here (more.solids_put M s f l v p goes));
-    f_there = ap is_some (row_here (more.faces_put M s f l v p goes).rows);
-    of_s = more.solid_of_new M s f l v p goes;
+    s_there = ap is_some (row_here (more.solids_put goes));
+    f_there = ap is_some (row_here (more.faces_put goes).rows);
+    of_s = more.solid_of_new goes;
     only = λ q t e. elim (eqb_tells q f) [
       | inl a ↦ a.1
-      | inr a ↦ let o = has_back (more.faces_put M s f l v p goes).rows q a.1 t in
-          absurd (more.not_s M s f l v p goes (solid_of M q) (sound.faces_of_solids q o) (sym (solid_other (more.faces_put M s f l v p goes) q a.1) ∙ e))
+      | inr a ↦ let o = has_back (more.faces_put goes).rows q a.1 t in
+          absurd (more.not_s goes (solid_of M q) (sound.faces_of_solids q o) (sym (solid_other (more.faces_put goes) q a.1) ∙ e))
     ];
-    no_rings = λ q t e. more.outer_new M s f l v p goes ∙ elim (eqb_tells q l) [
+    no_rings = λ q t e. more.outer_new goes ∙ elim (eqb_tells q l) [
       | inl a ↦ sym a.1
-      | inr a ↦ let o = has_back (more.loops_put M s f l v p goes) q a.1 t in
-          absurd (more.not_f M s f l v p goes (face_of M q) (sound.loops_of_faces q o) (sym (more.face_of_other M s f l v p goes q a.1) ∙ e))
+      | inr a ↦ let o = has_back (more.loops_put goes) q a.1 t in
+          absurd (more.not_f goes (face_of M q) (sound.loops_of_faces q o) (sym (more.face_of_other goes q a.1) ∙ e))
     ];
     is_bare = bare ∙ ap lone (sym (ap lone_vertex bare));
   } where
     bare : content N (outer N f) ≡ lone v
-    bare = ap (content N) (more.outer_new M s f l v p goes) ∙ more.content_new M s f l v p goes
+    bare = ap (content N) (more.outer_new goes) ∙ more.content_new goes
 
   pub kvfs-mvfs : kvfs_at N s f ≡ M
   unfolding kvfs_at
   kvfs-mvfs =
-      let o : outer N f ≡ l = more.outer_new M s f l v p goes in
-      let w : lone_vertex (content N (outer N f)) ≡ v = ap lone_vertex (ap (content N) o ∙ more.content_new M s f l v p goes) in
-      let a : table.remove N.solids s ≡ M.solids = ap (λ t. table.remove t s) (more.solids_put M s f l v p goes).are ∙ remove-put M.solids s tt goes.solid_free in
-      let b : table.remove N.faces f ≡ M.faces = ap (λ t. table.remove t f) (more.faces_put M s f l v p goes).rows.are ∙ remove-put M.faces f _ goes.face_free in
-      let c : table.remove N.loops (outer N f) ≡ M.loops = ap (table.remove N.loops) o ∙ ap (λ t. table.remove t l) (more.loops_put M s f l v p goes).are ∙ remove-put M.loops l _ goes.loop_free in
-      let d : table.remove N.vertices (lone_vertex (content N (outer N f))) ≡ M.vertices = ap (table.remove N.vertices) w ∙ ap (λ t. table.remove t v) (more.vertices_put M s f l v p goes).are ∙ remove-put M.vertices v p goes.vertex_free in
-      λ i. record { solids = a i; faces = b i; loops = c i; edges = more.edges_same M s f l v p goes i; vertices = d i }
+      let o : outer N f ≡ l = more.outer_new goes in
+      let w : lone_vertex (content N (outer N f)) ≡ v = ap lone_vertex (ap (content N) o ∙ more.content_new goes) in
+      let a : table.remove N.solids s ≡ M.solids = ap (λ t. table.remove t s) (more.solids_put goes).are ∙ remove-put M.solids s tt goes.solid_free in
+      let b : table.remove N.faces f ≡ M.faces = ap (λ t. table.remove t f) (more.faces_put goes).rows.are ∙ remove-put M.faces f _ goes.face_free in
+      let c : table.remove N.loops (outer N f) ≡ M.loops = ap (table.remove N.loops) o ∙ ap (λ t. table.remove t l) (more.loops_put goes).are ∙ remove-put M.loops l _ goes.loop_free in
+      let d : table.remove N.vertices (lone_vertex (content N (outer N f))) ≡ M.vertices = ap (table.remove N.vertices) w ∙ ap (λ t. table.remove t v) (more.vertices_put goes).are ∙ remove-put M.vertices v p goes.vertex_free in
+      λ i. record { solids = a i; faces = b i; loops = c i; edges = more.edges_same goes i; vertices = d i }
 
 -- ---- conditions
 
@@ -210,14 +210,14 @@ unfolding effect inverse
 mvfs_lawful s f l v p M sound e =
     let w = mvfs_goes M s f l v p e in
     let N : Model = mvfs M s f l v p in
-    let good = sound-mvfs M s f l v p w sound in
-    let goes = kill_goes M sound s f l v p w in
-    record { sound = good; goes = kvfs_accepted N s f good goes; undone = ap (λ ns. kvfs_at N s (head_or_zero ns)) (faces_one N s f goes) ∙ kvfs-mvfs M sound s f l v p w }
+    let good = sound-mvfs w sound in
+    let goes = kill_goes sound w in
+    record { sound = good; goes = kvfs_accepted N s f good goes; undone = ap (λ ns. kvfs_at N s (head_or_zero ns)) (faces_one N s f goes) ∙ kvfs-mvfs sound w }
 
 pub kvfs_lawful : (s : ℕ) → IsLawful (Kvfs s)
 unfolding effect inverse
 kvfs_lawful s M sound e = let f : ℕ = head_or_zero (faces_of M s) in let w = kvfs_goes M s e in record {
-  sound = sound-kvfs M sound s f w;
-  goes = mvfs_accepted (kvfs_at M s f) s _ _ _ _ (put_goes M sound s f w);
-  undone = mvfs-kvfs M sound s f w;
+  sound = sound-kvfs sound w;
+  goes = mvfs_accepted (kvfs_at M s f) s _ _ _ _ (put_goes sound w);
+  undone = mvfs-kvfs sound w;
 }

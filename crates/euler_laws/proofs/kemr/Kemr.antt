@@ -104,7 +104,7 @@ kemr_goes M h l e = named (all_hold (conditions M (Kemr h l)) e) where
     loop_fits = loop_number;
   }
 
-module _ (M : Model) (sound : Sound M) (h l : ℕ) (goes : KemrGoes M h l) where
+module _ {M : Model} (sound : Sound M) {h l : ℕ} (goes : KemrGoes M h l) where
   abbrev pub N : Model
   N = kemr M h l
 
@@ -210,6 +210,6 @@ pub kemr_lawful : (h : HalfEdge) (l : ℕ) → IsLawful (Kemr h l)
 unfolding effect inverse
 kemr_lawful h l M sound e = let w = kemr_goes M h l e in record {
   sound = sound-kemr M sound (code h) l w;
-  goes = mekr_accepted (kemr M (code h) l) _ _ h _ _ _ _ _ _ (put_goes M sound (code h) l w);
-  undone = mekr-kemr_back M sound (code h) l w;
+  goes = mekr_accepted (kemr M (code h) l) _ _ h _ _ _ _ _ _ (put_goes sound w);
+  undone = mekr-kemr_back sound w;
 }

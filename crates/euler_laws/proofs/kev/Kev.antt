@@ -63,24 +63,24 @@ kev_accepted N h sound goes = none_refuses (conditions N (Kev h)) (
 -- mev at a lone loop leaves an edge that kev takes
 kev_goes_lone : (M : Model) (sound : Sound M) (l h v u : ℕ) (p : Point) → LoneGoes M l h v u p → KevGoes (mev_lone M l h v p) h
 kev_goes_lone M sound l h v u p goes = record {
-  h_there = half_h (comes (lones.edge M sound l h v u p goes));
-  no_parallel = lones.no_parallel-lone M sound l h v u p goes;
-  not_bare = λ _. lones.after-h M sound l h v u p goes;
+  h_there = half_h (comes (lones.edge sound goes));
+  no_parallel = lones.no_parallel-lone sound goes;
+  not_bare = λ _. lones.after-h sound goes;
 }
 
 pub mev_lawful : (c d : Corner) (h : HalfEdge) (v : ℕ) (p : Point) → IsLawful (Mev c d h v p)
 unfolding effect inverse
 mev_lawful (At g) (At k) h v p M sound e = let w = mev_goes M g k h v p e in let s = sound-mev M sound (code g) (code k) (code h) v p w in record {
   sound = s;
-  goes = kev_accepted (mev_at M (code g) (code k) (code h) v p) h s (undo.kev_goes M sound (code g) (code k) (code h) v p w);
-  undone = kev-mev_at M sound (code g) (code k) (code h) v p w;
+  goes = kev_accepted (mev_at M (code g) (code k) (code h) v p) h s (undo.kev_goes sound w);
+  undone = kev-mev_at sound w;
 }
 mev_lawful (At g) (Lone l) h v p M sound e = absurd (mixed_first M g l h v p sound e)
 mev_lawful (Lone l) (At k) h v p M sound e = absurd (mixed_second M l k h v p sound e)
-mev_lawful (Lone l) (Lone d) h v p M sound e = let w = lone_goes M l d h v p e in let u : ℕ = lone_vertex (content M l) in let s = sound-mev_lone M sound l (code h) v u p w in record {
+mev_lawful (Lone l) (Lone d) h v p M sound e = let w = lone_goes M l d h v p e in let u : ℕ = lone_vertex (content M l) in let s = sound-mev_lone sound w in record {
   sound = s;
   goes = kev_accepted (mev_lone M l (code h) v p) h s (kev_goes_lone M sound l (code h) v u p w);
-  undone = kev-mev_lone M sound l (code h) v u p w;
+  undone = kev-mev_lone sound w;
 }
 
 -- ---- kev
@@ -125,26 +125,26 @@ module _ (M : Model) (h : HalfEdge) (sound : Sound M) (goes : KevGoes M (code h)
 
   codes_goes : (ne : after M m ≢ code h) → MevGoes N (code (half (corner M (code h)))) (code (half (after M m))) (code h) (tail M m) p
   codes_goes ne = subst (λ x. MevGoes N x (code (half (after M m))) (code h) (tail M m) p) (sym (code-half (corner M (code h))))
-      (subst (λ x. MevGoes N (corner M (code h)) x (code h) (tail M m) p) (sym (code-half (after M m))) (redo.put_goes M sound (code h) goes ne))
+      (subst (λ x. MevGoes N (corner M (code h)) x (code h) (tail M m) p) (sym (code-half (after M m))) (redo.put_goes sound goes ne))
 
   kev_back : effect N (Mev (kev_corner M (code h)) (kev_corner_mate M (code h)) h (tail M m) p) ≡ M
   unfolding effect
   kev_back = elim (eqb_tells (after M m) (code h)) [
     | inl e ↦ let c = corners_bare M (code h) e.1 (goes.not_bare e.1) in
         ap (λ x. effect N (Mev x (kev_corner_mate M (code h)) h (tail M m) p)) c.0 ∙ ap (λ x. effect N (Mev (Lone (loop_of M (code h))) x h (tail M m) p)) c.1
-        ∙ mev_lone-kev M sound (code h) goes e.1
+        ∙ mev_lone-kev sound goes e.1
     | inr e ↦ let c = corners_open M (code h) e.1 in
         ap (λ x. effect N (Mev x (kev_corner_mate M (code h)) h (tail M m) p)) c.0 ∙ ap (λ x. effect N (Mev (At (half (corner M (code h)))) x h (tail M m) p)) c.1
         ∙ ap (λ x. mev_at N x (code (half (after M m))) (code h) (tail M m) p) (code-half (corner M (code h)))
         ∙ ap (λ x. mev_at N (corner M (code h)) x (code h) (tail M m) p) (code-half (after M m))
-        ∙ mev_at-kev M sound (code h) goes e.1
+        ∙ mev_at-kev sound goes e.1
   ]
 
   kev_back_goes : first_false N (Mev (kev_corner M (code h)) (kev_corner_mate M (code h)) h (tail M m) p) ≡ None
   kev_back_goes = elim (eqb_tells (after M m) (code h)) [
     | inl e ↦ let c = corners_bare M (code h) e.1 (goes.not_bare e.1) in
         ap (λ x. first_false N (Mev x (kev_corner_mate M (code h)) h (tail M m) p)) c.0 ∙ ap (λ x. first_false N (Mev (Lone (loop_of M (code h))) x h (tail M m) p)) c.1
-        ∙ lone_accepted N (loop_of M (code h)) h (tail M m) (tail M (code h)) p (sound-kev M sound (code h) goes) (bare_end.lone_goes M sound (code h) goes e.1)
+        ∙ lone_accepted N (loop_of M (code h)) h (tail M m) (tail M (code h)) p (sound-kev M sound (code h) goes) (bare_end.lone_goes sound goes e.1)
     | inr e ↦ let c = corners_open M (code h) e.1 in
         ap (λ x. first_false N (Mev x (kev_corner_mate M (code h)) h (tail M m) p)) c.0 ∙ ap (λ x. first_false N (Mev (At (half (corner M (code h)))) x h (tail M m) p)) c.1
         ∙ mev_accepted N (half (corner M (code h))) (half (after M m)) h (tail M m) p (sound-kev M sound (code h) goes) (codes_goes e.1)

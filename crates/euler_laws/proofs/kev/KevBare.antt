@@ -33,7 +33,7 @@ pair_of next h m (x ∷ y ∷ zs) p a b ne n =
     let e : y ≡ h = sym p.1.0 ∙ ap next (sym p.0 ∙ a) ∙ b in
     absurd (omega (arith, n, ap (tick h) e, tick_same h))
 
-module _ (M : Model) (sound : Sound M) (h : ℕ) (goes : KevGoes M h) (bare : after M (mate h) ≡ h) where
+module _ {M : Model} (sound : Sound M) {h : ℕ} (goes : KevGoes M h) (bare : after M (mate h) ≡ h) where
   abbrev m : ℕ
   m = mate h
 
@@ -76,7 +76,7 @@ module _ (M : Model) (sound : Sound M) (h : ℕ) (goes : KevGoes M h) (bare : af
   K = mev_lone N l h w (point_of M w)
 
   edge : OneMore N K h u w
-  edge = put.edge N sound-N l h w u (point_of M w) lone_goes
+  edge = put.edge sound-N lone_goes
 
   abbrev hs : List ℕ
   hs = cycle_of M h
@@ -103,15 +103,15 @@ module _ (M : Model) (sound : Sound M) (h : ℕ) (goes : KevGoes M h) (bare : af
 
   contents : (q : ℕ) → Has M.loops q → content K q ≡ content M q
   contents q there = elim (eqb_tells q l) [
-    | inl e ↦ ap (content K) e.1 ∙ put.content_new N sound-N l h w u (point_of M w) lone_goes ∙ ap cycle pair ∙ sym (ap (content M) e.1 ∙ content_cycle M sound h goes.h_there)
-    | inr e ↦ put.content_other N sound-N l h w u (point_of M w) lone_goes q e.1 ∙ kill.content-N M sound h goes q
+    | inl e ↦ ap (content K) e.1 ∙ put.content_new sound-N lone_goes ∙ ap cycle pair ∙ sym (ap (content M) e.1 ∙ content_cycle M sound h goes.h_there)
+    | inr e ↦ put.content_other sound-N lone_goes q e.1 ∙ kill.content-N M sound h goes q
         ∙ kill.new_none M sound h goes (content M q) (none_at h q refl e.1) (none_at m q loop_m e.1)
   ]
 
   loops-back : K.loops ≡ M.loops
   loops-back = same_loops K M
-      (λ q. (put.same N sound-N l h w u (point_of M w) lone_goes).loop q ∙ (kill.same M sound h goes).loop q)
-      (λ q _. (put.same N sound-N l h w u (point_of M w) lone_goes).face q ∙ (kill.same M sound h goes).face q)
+      (λ q. (put.same sound-N lone_goes).loop q ∙ (kill.same M sound h goes).loop q)
+      (λ q _. (put.same sound-N lone_goes).face q ∙ (kill.same M sound h goes).face q)
       contents
 
   has_edge : (e : ℕ) → table.has K.edges e ≡ table.has M.edges e

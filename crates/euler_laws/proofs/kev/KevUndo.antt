@@ -88,7 +88,7 @@ module _ (hs : List ℕ) (cy : IsCycle hs) (h m : ℕ) (hm : h ≢ m) where
   pub take_none : (x : ℕ) → IsIn h hs → count x hs ≡ 0 → count x (take_ring h hs) ≡ 0
   take_none x i n = omega (arith, count-canonical x (rest h hs), count_at x h hs i)
 
-module _ (M : Model) (sound : Sound M) (h : ℕ) (goes : KevGoes M h) (open_end : after M (mate h) ≢ h) where
+module _ {M : Model} (sound : Sound M) {h : ℕ} (goes : KevGoes M h) (open_end : after M (mate h) ≢ h) where
   abbrev pub m : ℕ
   m = mate h
 

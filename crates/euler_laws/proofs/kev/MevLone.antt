@@ -56,12 +56,12 @@ edge_taken M v w e row sound vertex_free edge_free =
     (λ is. no_tail M sound v vertex_free (plus q) (ap is_some tp) (tail_row M (plus q) r tp ∙ ap (tail_in r) p.1 ∙ is))
     (λ is. no_tail M sound v vertex_free (minus q) (ap is_some tm) (tail_row M (minus q) r tm ∙ ap (tail_in r) m.1 ∙ is)))
 
-module _ (M : Model) (sound : Sound M) (l h v u : ℕ) (p : Point) (goes : LoneGoes M l h v u p) where
+module _ {M : Model} (sound : Sound M) {l h v u : ℕ} {p : Point} (goes : LoneGoes M l h v u p) where
   abbrev N : Model
   N = mev_lone M l h v p
 
   edge : OneMore M N h u v
-  edge = put.edge M sound l h v u p goes
+  edge = put.edge sound goes
 
   loop-row : table.get M.loops l ≡ Some (record { face = face_of M l; content = lone u })
   loop-row = loop_row M l goes.loop_there ∙ ap (λ c. Some (record { face = face_of M l; content = c })) goes.is_lone

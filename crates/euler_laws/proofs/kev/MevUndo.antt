@@ -101,7 +101,7 @@ module _ (h g k t : ℕ) where
         stay_in : IsIn k hs → IsIn g hs → IsIn k (canonical (insert_before g h hs))
         stay_in j i = omega (arith, count-canonical k (insert_before g h hs), count-insert_before k g h hs i)
 
-module _ (M : Model) (sound : Sound M) (g k h v : ℕ) (p : Point) (goes : MevGoes M g k h v p) where
+module _ {M : Model} (sound : Sound M) {g k h v : ℕ} {p : Point} (goes : MevGoes M g k h v p) where
   abbrev pub N : Model
   N = mev_at M g k h v p
 

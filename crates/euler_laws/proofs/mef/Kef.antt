@@ -32,7 +32,7 @@ use Rattle.euler_laws.proofs.shared.Undo.{same_model}
 use Rattle.euler_laws.proofs.shared.Rows.{face_there, edge_there, half_of, of_half, no_rings_means, means_no_rings, both_back}
 use Rattle.euler_laws.proofs.shared.Lawful.{IsLawful}
 
-module _ (M : Model) (sound : Sound M) (h : ℕ) (goes : KefGoes M h) where
+module _ {M : Model} (sound : Sound M) {h : ℕ} (goes : KefGoes M h) where
   abbrev m : ℕ
   m = mate h
 
@@ -203,8 +203,8 @@ kef_lawful h M sound e =
     let k : code (half (after M (code h))) ≡ after M (code h) = code-half (after M (code h)) in
     record {
       sound = s;
-      goes = mef_accepted N (half (after M m)) (half (after M (code h))) h (face_at M m) (loop_of M m) s (rw (g, k) (put_goes M sound (code h) w));
-      undone = (λ i. mef N (g i) (k i) (code h) (face_at M m) (loop_of M m)) ∙ mef-after-kef M sound (code h) w;
+      goes = mef_accepted N (half (after M m)) (half (after M (code h))) h (face_at M m) (loop_of M m) s (rw (g, k) (put_goes sound w));
+      undone = (λ i. mef N (g i) (k i) (code h) (face_at M m) (loop_of M m)) ∙ mef-after-kef sound w;
     }
 
 -- ---- mef
@@ -212,48 +212,48 @@ kef_lawful h M sound e =
 made_goes : (M : Model) (sound : Sound M) (g k h f l : ℕ) (goes : MefGoes M g k h f l) → KefGoes (mef M g k h f l) h
 made_goes M sound g k h f l goes =
     let N : Model = mef M g k h f l in
-    let set = made.set M sound g k h f l goes in
-    let fm : face_at N (mate h) ≡ f = ap (face_of N) (made.loop_m M sound g k h f l goes) ∙ made.face_l M sound g k h f l goes in
-    let fh : face_at N h ≡ face_of M (loop_of M g) = ap (face_of N) (made.loop_h M sound g k h f l goes) ∙ face_same set (loop_of M g) (made.not_l M sound g k h f l goes _ (ap is_some (row_of M sound g goes.g_there))) in
+    let set = made.set sound goes in
+    let fm : face_at N (mate h) ≡ f = ap (face_of N) (made.loop_m sound goes) ∙ made.face_l sound goes in
+    let fh : face_at N h ≡ face_of M (loop_of M g) = ap (face_of N) (made.loop_h sound goes) ∙ face_same set (loop_of M g) (made.not_l sound goes _ (ap is_some (row_of M sound g goes.g_there))) in
     record {
-      h_there = half_h (comes (made.more M sound g k h f l goes));
-      faces_apart = λ p. made.not_f M sound g k h f l goes (face_of M (loop_of M g)) (made.face_r M sound g k h f l goes) (sym fh ∙ p ∙ fm);
-      no_rings = λ q there p. ap (outer N) fm ∙ made.outer_new M sound g k h f l goes ∙ elim (eqb_tells q l) [
+      h_there = half_h (comes (made.more sound goes));
+      faces_apart = λ p. made.not_f sound goes (face_of M (loop_of M g)) (made.face_r sound goes) (sym fh ∙ p ∙ fm);
+      no_rings = λ q there p. ap (outer N) fm ∙ made.outer_new sound goes ∙ elim (eqb_tells q l) [
         | inl a ↦ sym a.1
-        | inr a ↦ absurd (made.not_f M sound g k h f l goes (face_of M q) (sound.loops_of_faces q (sym (has_same set q a.1) ∙ there)) (sym (face_same set q a.1) ∙ p ∙ fm))
+        | inr a ↦ absurd (made.not_f sound goes (face_of M q) (sound.loops_of_faces q (sym (has_same set q a.1) ∙ there)) (sym (face_same set q a.1) ∙ p ∙ fm))
       ];
     }
 
-module _ (M : Model) (sound : Sound M) (g k h f l : ℕ) (goes : MefGoes M g k h f l) where
+module _ {M : Model} (sound : Sound M) {g k h f l : ℕ} (goes : MefGoes M g k h f l) where
   abbrev E : Model
   E = mef M g k h f l
 
   loop_h : loop_of E h ≡ loop_of M g
-  loop_h = made.loop_h M sound g k h f l goes
+  loop_h = made.loop_h sound goes
 
   loop_m : loop_of E (mate h) ≡ l
-  loop_m = made.loop_m M sound g k h f l goes
+  loop_m = made.loop_m sound goes
 
   -- the list of the kept loop, joined with that of the new one, is the old list
   whole : kef_ring h (mate h) (cycle_of E h) (cycle_of E (mate h)) ≡ cycle_of M g
   whole =
-      let a : cycle_of E h ≡ mef_old h g k (cycle_of M g) = ap (λ q. items_of (content E q)) loop_h ∙ ap items_of (content_first (made.set M sound g k h f l goes)) in
-      let b : cycle_of E (mate h) ≡ mef_new (mate h) g k (cycle_of M g) = ap (λ q. items_of (content E q)) loop_m ∙ ap items_of (made.content_l M sound g k h f l goes) in
+      let a : cycle_of E h ≡ mef_old h g k (cycle_of M g) = ap (λ q. items_of (content E q)) loop_h ∙ ap items_of (content_first (made.set sound goes)) in
+      let b : cycle_of E (mate h) ≡ mef_new (mate h) g k (cycle_of M g) = ap (λ q. items_of (content E q)) loop_m ∙ ap items_of (made.content_l sound goes) in
       let cy = cycle_sound M sound g goes.g_there in
       (λ i. kef_ring h (mate h) (a i) (b i))
       ∙ kef-mef h (mate h) g k (cycle_of M g) cy.apart (no_h M sound g k h f l goes.g_there goes.edge_free goes.loop_free) (no_m M sound g k h f l goes.g_there goes.edge_free goes.loop_free) ∙ cy.from_least
 
   loops-made : (kef E h).loops ≡ M.loops
   loops-made =
-      let c : face_of E (loop_of E h) ≡ face_of M (loop_of M g) = ap (face_of E) loop_h ∙ face_same (made.set M sound g k h f l goes) (loop_of M g) (made.set M sound g k h f l goes).apart in
-      gone.loops_are E (made.sound-mef M sound g k h f l goes) h (made_goes M sound g k h f l goes)
+      let c : face_of E (loop_of E h) ≡ face_of M (loop_of M g) = ap (face_of E) loop_h ∙ face_same (made.set sound goes) (loop_of M g) (made.set sound goes).apart in
+      gone.loops_are E (made.sound-mef sound goes) h (made_goes M sound g k h f l goes)
       ∙ (λ i. table.remove (table.put E.loops (loop_h i) (record { face = c i; content = cycle (whole i) })) (loop_m i))
       ∙ ap (λ t. table.remove (table.put t (loop_of M g) (record { face = face_of M (loop_of M g); content = cycle (cycle_of M g) })) l) (loops-mef M sound g k h f l goes.g_there goes.edge_free goes.loop_free)
-      ∙ two_undone M.loops (loop_of M g) l _ _ _ (made.set M sound g k h f l goes).apart (row_of M sound g goes.g_there) goes.loop_free
+      ∙ two_undone M.loops (loop_of M g) l _ _ _ (made.set sound goes).apart (row_of M sound g goes.g_there) goes.loop_free
 
   faces-made : table.remove E.faces (face_at E (mate h)) ≡ M.faces
   unfolding mef
-  faces-made = ap (table.remove E.faces) (ap (face_of E) loop_m ∙ made.face_l M sound g k h f l goes) ∙ remove-put M.faces f _ goes.face_free
+  faces-made = ap (table.remove E.faces) (ap (face_of E) loop_m ∙ made.face_l sound goes) ∙ remove-put M.faces f _ goes.face_free
 
   edges-made : table.remove E.edges (edge_of h) ≡ M.edges
   unfolding mef
@@ -265,8 +265,8 @@ module _ (M : Model) (sound : Sound M) (g k h f l : ℕ) (goes : MefGoes M g k h
 
 pub mef_lawful : (g k h : HalfEdge) (f l : ℕ) → IsLawful (Mef g k h f l)
 unfolding effect inverse
-mef_lawful g k h f l M sound e = let w = mef_goes M g k h f l e in let s = made.sound-mef M sound (code g) (code k) (code h) f l w in record {
+mef_lawful g k h f l M sound e = let w = mef_goes M g k h f l e in let s = made.sound-mef sound w in record {
   sound = s;
   goes = kef_accepted (mef M (code g) (code k) (code h) f l) h s (made_goes M sound (code g) (code k) (code h) f l w);
-  undone = kef-after-mef M sound (code g) (code k) (code h) f l w;
+  undone = kef-after-mef sound w;
 }

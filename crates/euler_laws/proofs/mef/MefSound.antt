@@ -37,7 +37,7 @@ pub record MefGoes (M : Model) (g k h f l : ℕ) : Type 0 where
   pub face_fits : IsTrue (is_number f)
   pub loop_fits : IsTrue (is_number l)
 
-module _ (M : Model) (sound : Sound M) (g k h f l : ℕ) (goes : MefGoes M g k h f l) where
+module _ {M : Model} (sound : Sound M) {g k h f l : ℕ} (goes : MefGoes M g k h f l) where
   abbrev pub N : Model
   N = mef M g k h f l
 

@@ -38,7 +38,7 @@ kemr_accepted N h l sound goes = none_refuses (conditions N (Kemr h l)) (
     also tt
     )
 
-module _ (M : Model) (sound : Sound M) (h q l u w : ℕ) (Y X : List ℕ) (goes : JoinGoes M h q l u w Y X) where
+module _ {M : Model} (sound : Sound M) {h q l u w : ℕ} {Y X : List ℕ} (goes : JoinGoes M h q l u w Y X) where
   abbrev N : Model
   N = join_loops M h q l u w Y X
 
@@ -49,22 +49,22 @@ module _ (M : Model) (sound : Sound M) (h q l u w : ℕ) (Y X : List ℕ) (goes 
   K = kemr N h l
 
   sound-N : Sound N
-  sound-N = sound-join M sound h q l u w Y X goes
+  sound-N = sound-join sound goes
 
   more : OneMore M N h u w
-  more = joined.more M sound h q l u w Y X goes
+  more = joined.more sound goes
 
-  abbrev set : RowsSet M N q l (joined.kept M sound h q l u w Y X goes) None
-  set = joined.set M sound h q l u w Y X goes
+  abbrev set : RowsSet M N q l (joined.kept sound goes) None
+  set = joined.set sound goes
 
   loop_h : loop_of N h ≡ q
-  loop_h = joined.loop_new M sound h q l u w Y X goes h (inl refl)
+  loop_h = joined.loop_new sound goes h (inl refl)
 
   pub part_goes : KemrGoes N h l
   part_goes = record {
     h_there = half_h (comes more);
     loop_free = row_second set;
-    one_loop = loop_h ∙ sym (joined.loop_new M sound h q l u w Y X goes m (inr refl));
+    one_loop = loop_h ∙ sym (joined.loop_new sound goes m (inr refl));
     loop_fits = sound.loops_fit l goes.second.there;
   }
 
@@ -76,12 +76,12 @@ module _ (M : Model) (sound : Sound M) (h q l u w : ℕ) (Y X : List ℕ) (goes 
 
   first_back : cycle_or_lone (beyond h m (cycle_of N h)) (tail N h) ≡ content M q
   first_back =
-      let y : beyond h m (cycle_of N h) ≡ Y = ap (beyond h m) cycle_h ∙ beyond_canonical h m X Y (joined.apart_zs M sound h q l u w Y X goes) in
+      let y : beyond h m (cycle_of N h) ≡ Y = ap (beyond h m) cycle_h ∙ beyond_canonical h m X Y (joined.apart_zs sound goes) in
       (λ i. cycle_or_lone (y i) (tail-h (comes more) i)) ∙ sym goes.first.holds_it
 
   second_back : cycle_or_lone (between h m (cycle_of N h)) (tail N m) ≡ content M l
   second_back =
-      let x : between h m (cycle_of N h) ≡ X = ap (between h m) cycle_h ∙ between_canonical h m X Y (joined.apart_zs M sound h q l u w Y X goes) in
+      let x : between h m (cycle_of N h) ≡ X = ap (between h m) cycle_h ∙ between_canonical h m X Y (joined.apart_zs sound goes) in
       (λ i. cycle_or_lone (x i) (tail-m (comes more) i)) ∙ sym goes.second.holds_it
 
   loops-back : K.loops ≡ M.loops
@@ -89,7 +89,7 @@ module _ (M : Model) (sound : Sound M) (h q l u w : ℕ) (Y X : List ℕ) (goes 
       let f : face_of N (loop_of N h) ≡ face_of M l = face_h ∙ goes.one_face in
       parted.loops_are N sound-N h l part_goes
       ∙ (λ i. table.put (table.put N.loops (loop_h i) (record { face = face_h i; content = first_back i })) l (record { face = f i; content = second_back i }))
-      ∙ ap (λ t. table.put (table.put t q (record { face = face_of M q; content = content M q })) l (record { face = face_of M l; content = content M l })) (joined.loops_are M sound h q l u w Y X goes)
+      ∙ ap (λ t. table.put (table.put t q (record { face = face_of M q; content = content M q })) l (record { face = face_of M l; content = content M l })) (joined.loops_are sound goes)
       ∙ both_back M.loops q l _ _ _ goes.loops_apart (loop_row M q goes.first.there) (loop_row M l goes.second.there)
 
   edges-back : K.edges ≡ M.edges
@@ -113,9 +113,9 @@ unfolding effect inverse
 mekr_lawful c d h M sound e =
     let w = join_goes M c d h sound e in
     let is = mekr_is M c d (code h) in
-    let s = sound-join M sound (code h) _ _ _ _ _ _ w in
+    let s = sound-join sound w in
     record {
       sound = subst Sound (sym is) s;
-      goes = subst (λ N. first_false N (Kemr h (corner_loop M d)) ≡ None) (sym is) (kemr_accepted _ h (corner_loop M d) s (part_goes M sound (code h) _ _ _ _ _ _ w));
-      undone = ap (λ N. kemr N (code h) (corner_loop M d)) is ∙ kemr-join_back M sound (code h) _ _ _ _ _ _ w;
+      goes = subst (λ N. first_false N (Kemr h (corner_loop M d)) ≡ None) (sym is) (kemr_accepted _ h (corner_loop M d) s (part_goes sound w));
+      undone = ap (λ N. kemr N (code h) (corner_loop M d)) is ∙ kemr-join_back sound w;
     }

@@ -60,7 +60,7 @@ head_in : (k m : ℕ) (xs ys : List ℕ) → head_or k (xs ++ m ∷ ys) ≡ head
 head_in k m [] ys = refl
 head_in k m (x ∷ xs) ys = refl
 
-module _ (M : Model) (sound : Sound M) (h q l u w : ℕ) (Y X : List ℕ) (goes : JoinGoes M h q l u w Y X) where
+module _ {M : Model} (sound : Sound M) {h q l u w : ℕ} {Y X : List ℕ} (goes : JoinGoes M h q l u w Y X) where
   abbrev pub N : Model
   N = join_loops M h q l u w Y X
 

@@ -27,7 +27,7 @@ pub record OtherSolids (M N : Model) : Type 0 where
   pub has_face : (q : ℕ) → table.has N.faces q ≡ table.has M.faces q
   pub outers : (q : ℕ) → outer N q ≡ outer M q
 
-module _ (M N : Model) (other : OtherSolids M N) where
+module _ {M N : Model} (other : OtherSolids M N) where
   pub face_same : (q : ℕ) → face_of N q ≡ face_of M q
   unfolding face_of
   face_same q = ap (λ t. (unwrap_or (table.get t q) no_loop).face) other.loops
@@ -43,7 +43,7 @@ module _ (M N : Model) (other : OtherSolids M N) where
   -- what is then left to show
   pub sound-solids : Sound M → ((q : ℕ) → Has M.faces q → Has N.solids (solid_of N q)) → ((n : ℕ) → Has N.solids n → (q : ℕ) × Has M.faces q × (solid_of N q ≡ n)) →
       ((x : ℕ) → HasHalf M x → solid_of N (face_of M (loop_of M x)) ≡ solid_of N (face_of M (loop_of M (mate x)))) → NumbersFit N.solids → Sound N
-  sound-solids sound solids faces one fit = sound-same M N sound (record { edges = other.edges; vertices = other.vertices; contents = content_same; loops = λ q. ap (λ t. table.has t q) other.loops }) (record {
+  sound-solids sound solids faces one fit = sound-same sound (record { edges = other.edges; vertices = other.vertices; contents = content_same; loops = λ q. ap (λ t. table.has t q) other.loops }) (record {
     loops_of_faces = λ q t. subst (Has N.faces) (sym (face_same q)) (other.has_face _ ∙ sound.loops_of_faces q t);
     outers_there = λ q t. let o = sound.outers_there q (sym (other.has_face q) ∙ t) in (subst (Has M.loops) (sym (other.outers q)) o.0, ap (face_of N) (other.outers q) ∙ face_same (outer M q) ∙ o.1);
     faces_of_solids = λ q t. solids q (sym (other.has_face q) ∙ t);
@@ -92,7 +92,7 @@ pub record MergeGoes (M : Model) (s t : ℕ) : Type 0 where
 abbrev pub joined : ℕ → ℕ → ℕ → ℕ
 joined s t n = cond (nat_eq n t) s n
 
-module _ (M : Model) (sound : Sound M) (s t : ℕ) (goes : MergeGoes M s t) where
+module _ {M : Model} (sound : Sound M) {s t : ℕ} (goes : MergeGoes M s t) where
   abbrev pub N : Model
   N = merge M s t
 
@@ -143,7 +143,7 @@ module _ (M : Model) (sound : Sound M) (s t : ℕ) (goes : MergeGoes M s t) wher
   face_loop x there = sound.loops_of_faces (loop_of M x) (ap is_some (row_of M sound x there))
 
   pub sound-merge : Sound N
-  sound-merge = sound-solids M N merge_other sound
+  sound-merge = sound-solids merge_other sound
       (λ q there. subst (Has N.solids) (sym (solid_new q there)) (joined_there (solid_of M q) (sound.faces_of_solids q there)))
       (λ n there. let x = sound.solid_has_face n (solid_back n there) in (x.0, x.1, solid_new x.0 x.1 ∙ ap (joined s t) x.2 ∙ joined_same n (not_t n there)))
       (λ x there. solid_new _ (face_loop x there) ∙ ap (joined s t) (sound.one_solid x there) ∙ sym (solid_new _ (face_loop (mate x) (mate_there M x there))))

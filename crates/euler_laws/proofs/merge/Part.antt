@@ -39,7 +39,7 @@ pub record PartGoes (M : Model) (s t : ℕ) (fs : List ℕ) : Type 0 where
 abbrev pub parted : List ℕ → ℕ → ℕ → ℕ → ℕ
 parted fs t q n = cond (lists fs q) t n
 
-module _ (M : Model) (sound : Sound M) (s t : ℕ) (fs : List ℕ) (goes : PartGoes M s t fs) where
+module _ {M : Model} (sound : Sound M) {s t : ℕ} {fs : List ℕ} (goes : PartGoes M s t fs) where
   abbrev pub N : Model
   N = part M s t fs
 
@@ -90,7 +90,7 @@ module _ (M : Model) (sound : Sound M) (s t : ℕ) (fs : List ℕ) (goes : PartG
   face_of_solid n q false l there e a = (q, there, solid_unlisted q there l ∙ e)
 
   pub sound-part : Sound N
-  sound-part = sound-solids M N part_other sound
+  sound-part = sound-solids part_other sound
       (λ q there. subst (Has N.solids) (sym (solid_new q there)) (either (lists fs q) q (sound.faces_of_solids q there)))
       (λ n there. elim (eqb_tells n t) [
         | inl e ↦ let o = goes.listed in (o.0, (goes.each o.0 o.1).0, solid_listed o.0 o.1 ∙ sym e.1)
@@ -130,7 +130,7 @@ module _ (M : Model) (sound : Sound M) (s t : ℕ) (fs : List ℕ) (goes : PartG
 
 -- ---- merge is taken back by part
 
-module _ (M : Model) (sound : Sound M) (s t : ℕ) (goes : MergeGoes M s t) where
+module _ {M : Model} (sound : Sound M) {s t : ℕ} (goes : MergeGoes M s t) where
   abbrev J : Model
   J = merge M s t
 
@@ -144,25 +144,25 @@ module _ (M : Model) (sound : Sound M) (s t : ℕ) (goes : MergeGoes M s t) wher
       (ap is_some x.1, ap (λ o. (unwrap_or o no_face).solid) x.1 ∙ eqb-true x.0.solid t x.2)
 
   face_at_same : (x : ℕ) → face_at J x ≡ face_at M x
-  face_at_same x = let o = joins.merge_other M sound s t goes in ap (face_of J) (loop_same M J o x) ∙ face_same M J o (loop_of M x)
+  face_at_same x = let o = joins.merge_other sound goes in ap (face_of J) (loop_same o x) ∙ face_same o (loop_of M x)
 
   half_back : (x : ℕ) → HasHalf J x → HasHalf M x
   unfolding merge
   half_back x there = there
 
   face_on : (q : ℕ) → Has M.faces q → Has J.faces q
-  face_on q there = (joins.merge_other M sound s t goes).has_face q ∙ there
+  face_on q there = (joins.merge_other sound goes).has_face q ∙ there
 
   pub split_goes : PartGoes J s t (faces_of M t)
   split_goes = record {
-    s_there = ap is_some (joins.solid_other M sound s t goes s goes.apart) ∙ goes.s_there;
-    t_free = joins.solid_gone M sound s t goes;
+    s_there = ap is_some (joins.solid_other sound goes s goes.apart) ∙ goes.s_there;
+    t_free = joins.solid_gone sound goes;
     t_fits = sound.solids_fit t goes.t_there;
-    each = λ f l. let x = listed_face f l in (face_on f x.0, joins.solid_new M sound s t goes f x.0 ∙ ap (joins.joined s t) x.1 ∙ joins.joined_t M sound s t goes);
+    each = λ f l. let x = listed_face f l in (face_on f x.0, joins.solid_new sound goes f x.0 ∙ ap (joins.joined s t) x.1 ∙ joins.joined_t sound goes);
     listed = let x = sound.solid_has_face t goes.t_there in (x.0, face_listed x.0 x.1 ∙ eq-eqb (solid_of M x.0) t x.2);
     rises = all_where-rises (λ _ row. nat_eq row.solid t) M.faces;
     left = let x = sound.solid_has_face s goes.s_there in
-        (x.0, face_on x.0 x.1, joins.solid_new M sound s t goes x.0 x.1 ∙ ap (joins.joined s t) x.2 ∙ joins.joined_same M sound s t goes s goes.apart, face_listed x.0 x.1 ∙ ap (λ n. nat_eq n t) x.2 ∙ s_not_t);
+        (x.0, face_on x.0 x.1, joins.solid_new sound goes x.0 x.1 ∙ ap (joins.joined s t) x.2 ∙ joins.joined_same sound goes s goes.apart, face_listed x.0 x.1 ∙ ap (λ n. nat_eq n t) x.2 ∙ s_not_t);
     whole = λ x h. let there = half_back x h in
         ap (lists (faces_of M t)) (face_at_same x) ∙ face_listed (face_at M x) (half_face M sound x there) ∙ ap (λ n. nat_eq n t) (sound.one_solid x there)
         ∙ sym (ap (lists (faces_of M t)) (face_at_same (mate x)) ∙ face_listed (face_at M (mate x)) (half_face M sound (mate x) (mate_there M x there)));
@@ -337,16 +337,16 @@ part_accepted N s t fs sound goes =
 
 pub merge_lawful : (s t : ℕ) → IsLawful (Merge s t)
 unfolding effect inverse
-merge_lawful s t M sound e = let w = merge_goes M s t e in let good = sound-merge M sound s t w in record {
+merge_lawful s t M sound e = let w = merge_goes M s t e in let good = sound-merge sound w in record {
   sound = good;
-  goes = part_accepted (merge M s t) s t (faces_of M t) good (split_goes M sound s t w);
-  undone = part-merge M sound s t w;
+  goes = part_accepted (merge M s t) s t (faces_of M t) good (split_goes sound w);
+  undone = part-merge sound w;
 }
 
 pub part_lawful : (s t : ℕ) (fs : List ℕ) → IsLawful (Part s t fs)
 unfolding effect inverse
-part_lawful s t fs M sound e = let w = part_goes M s t fs sound e in let good = sound-part M sound s t fs w in record {
+part_lawful s t fs M sound e = let w = part_goes M s t fs sound e in let good = sound-part sound w in record {
   sound = good;
-  goes = merge_accepted (part M s t fs) s t good (join_goes M sound s t fs w);
-  undone = merge-part M sound s t fs w;
+  goes = merge_accepted (part M s t fs) s t good (join_goes sound w);
+  undone = merge-part sound w;
 }

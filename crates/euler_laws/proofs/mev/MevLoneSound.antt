@@ -35,7 +35,7 @@ pub record LoneGoes (M : Model) (l h v u : ℕ) (p : Point) : Type 0 where
   pub vertex_fits : IsTrue (is_number v)
   pub point_fits : IsInRange p
 
-module _ (M : Model) (sound : Sound M) (l h v u : ℕ) (p : Point) (goes : LoneGoes M l h v u p) where
+module _ {M : Model} (sound : Sound M) {l h v u : ℕ} {p : Point} (goes : LoneGoes M l h v u p) where
   abbrev pub N : Model
   N = mev_lone M l h v p
 

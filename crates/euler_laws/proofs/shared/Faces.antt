@@ -29,7 +29,7 @@ pub record FaceFacts (M N : Model) : Type 0 where
   pub solids_fit : NumbersFit N.solids
   pub faces_fit : NumbersFit N.faces
 
-module _ (M N : Model) (sound : Sound M) (same : SameWalks M N) where
+module _ {M N : Model} (sound : Sound M) (same : SameWalks M N) where
   rings : SameRings M N
   rings = record {
     edges = same.edges;
