@@ -56,7 +56,7 @@ was_either a s t is = elim (eqb_tells a t) [
   | inr e ↦ inl (eqb-true a s (sym (ap (λ b. nat_eq (cond b s a) s) e.0) ∙ is))
 ]
 
-module _ (M N : Model) (f g : ℕ) (partner_of : ℕ → ℕ) (hs gs : List ℕ) (w : Seamed M f g partner_of hs gs) (n : Glued M N f g partner_of hs) where
+module _ {M N : Model} {f g : ℕ} {partner_of : ℕ → ℕ} {hs gs : List ℕ} (w : Seamed M f g partner_of hs gs) (n : Glued M N f g partner_of hs) where
   abbrev s : ℕ
   s = solid_of M f
 
@@ -72,9 +72,9 @@ module _ (M N : Model) (f g : ℕ) (partner_of : ℕ → ℕ) (hs gs : List ℕ)
   item_ends : (h : ℕ) → IsIn h hs → dot (finish M h) (normal M f) ≡ volume_of M f
   unfolding after
   item_ends h i =
-      let cycle_is : cycle_of M h ≡ hs = ap (λ l. items_of (content M l)) (seams.loop_f M f g partner_of hs gs w h i) ∙ ap items_of w.first in
+      let cycle_is : cycle_of M h ≡ hs = ap (λ l. items_of (content M l)) (seams.loop_f w h i) ∙ ap items_of w.first in
       let next : after M h ≡ successor hs h = ap (λ q. successor q h) cycle_is in
-      ap (λ v. dot (point_of M v) (normal M f)) (sym (w.sound.ends_meet h (seams.half_f M f g partner_of hs gs w h i)) ∙ ap (tail M) next)
+      ap (λ v. dot (point_of M v) (normal M f)) (sym (w.sound.ends_meet h (seams.half_f w h i)) ∙ ap (tail M) next)
       ∙ item_told M f hs (successor hs h) (w.flat f w.f_there (inl refl)) w.first (IsIn_successor h hs i)
 
   some_of_g : gs ≢ []
@@ -82,7 +82,7 @@ module _ (M N : Model) (f g : ℕ) (partner_of : ℕ → ℕ) (hs gs : List ℕ)
 
   anchor_g : dot (anchor M g) (normal M f) ≡ volume_of M f
   anchor_g =
-      let p = seams.partner_back M f g partner_of hs gs w (head_or 0 gs) (IsIn_some_head gs some_of_g) in
+      let p = seams.partner_back w (head_or 0 gs) (IsIn_some_head gs some_of_g) in
       ap (λ c. dot (point_of M (first_vertex M c)) (normal M f)) w.second ∙ ap (λ k. dot (start M k) (normal M f)) p.2 ∙ ap (λ q. dot q (normal M f)) (w.starts p.0 p.1) ∙ item_ends p.0 p.1
 
   -- together they add nothing
@@ -109,7 +109,7 @@ module _ (M N : Model) (f g : ℕ) (partner_of : ℕ → ℕ) (hs gs : List ℕ)
   left_g = grind (arith, nat_tests, tables)
 
   free_after : (k : ℕ) → table.get left k ≡ None → table.get N.faces k ≡ None
-  free_after k e = normals.face_at_row M N f g partner_of hs gs w n k ∙ ap (option_map (to_s k)) e
+  free_after k e = normals.face_at_row w n k ∙ ap (option_map (to_s k)) e
 
   none_after : (k : ℕ) → table.get left k ≡ None → count k (faces_of N s) ≡ 0
   none_after k e = count_where (of s) N.faces k ∙ ap (passed (of s) k) (free_after k e)
@@ -124,13 +124,13 @@ module _ (M N : Model) (f g : ℕ) (partner_of : ℕ → ℕ) (hs gs : List ℕ)
   at_f =
       let here : count f (faces_of M s) ≡ 1 = of_solid f s w.f_there ∙ ap one_if (eq-eqb s s refl) in
       let there : count f (faces_of M t) ≡ 0 = of_solid f t w.f_there ∙ ap one_if (ne_eqb s t w.solids_apart) in
-      omega (arith, tick_same f, tick_other f g (seams.faces_apart M f g partner_of hs gs w), none_after f left_f, here, there, count-append f (faces_of M s) (faces_of M t))
+      omega (arith, tick_same f, tick_other f g (seams.faces_apart w), none_after f left_f, here, there, count-append f (faces_of M s) (faces_of M t))
 
   at_g : SameAt g
   at_g =
       let here : count g (faces_of M s) ≡ 0 = of_solid g s w.g_there ∙ ap one_if (ne_eqb t s (λ e. w.solids_apart (sym e))) in
       let there : count g (faces_of M t) ≡ 1 = of_solid g t w.g_there ∙ ap one_if (eq-eqb t t refl) in
-      omega (arith, tick_same g, tick_other g f (λ e. seams.faces_apart M f g partner_of hs gs w (sym e)), none_after g left_g, here, there, count-append g (faces_of M s) (faces_of M t))
+      omega (arith, tick_same g, tick_other g f (λ e. seams.faces_apart w (sym e)), none_after g left_g, here, there, count-append g (faces_of M s) (faces_of M t))
 
   both_rows : (k : ℕ) (o : Option FaceRow) → passed (of s) k (option_map (to_s k) o) ≡ passed (of s) k o + passed (of t) k o
   both_rows k None = refl
@@ -139,7 +139,7 @@ module _ (M N : Model) (f g : ℕ) (partner_of : ℕ → ℕ) (hs gs : List ℕ)
   at_other : (k : ℕ) → k ≢ f → k ≢ g → SameAt k
   at_other k a b =
       let now : count k (faces_of N s) ≡ passed (of s) k (table.get M.faces k) + passed (of t) k (table.get M.faces k) =
-      count_where (of s) N.faces k ∙ ap (passed (of s) k) (normals.other_face M N f g partner_of hs gs w n k a b) ∙ both_rows k (table.get M.faces k) in
+      count_where (of s) N.faces k ∙ ap (passed (of s) k) (normals.other_face w n k a b) ∙ both_rows k (table.get M.faces k) in
       omega (arith, tick_other k f a, tick_other k g b, now, count_where (of s) M.faces k, count_where (of t) M.faces k, count-append k (faces_of M s) (faces_of M t))
 
   -- the faces of both solids but the two
@@ -158,12 +158,12 @@ module _ (M N : Model) (f g : ℕ) (partner_of : ℕ → ℕ) (hs gs : List ℕ)
       let r = listed_passes (of s) N.faces k i in
       let not_f : k ≢ f = not_free k f (ap is_some r.1) left_f in
       let not_g : k ≢ g = not_free k g (ap is_some r.1) left_g in
-      let at = normals.other_face M N f g partner_of hs gs w n k not_f not_g in
+      let at = normals.other_face w n k not_f not_g in
       let there : Has M.faces k = sym (mapped_some (to_s k) (table.get M.faces k)) ∙ ap is_some (sym at ∙ r.1) in
       let now : table.get N.faces k ≡ Some (to_s k (record { solid = solid_of M k; outer = outer M k })) = at ∙ ap (option_map (to_s k)) (face_there M k there) in
       let passes : of s k (to_s k (record { solid = solid_of M k; outer = outer M k })) ≡ true = sym (listed_as (of s) N.faces k (to_s k (record { solid = solid_of M k; outer = outer M k })) now) ∙ i in
       let solid = was_either (solid_of M k) s t (sym (ap (λ v. nat_eq v s) (solid_either (nat_eq (solid_of M k) t) (record { solid = solid_of M k; outer = outer M k }) s)) ∙ passes) in
-      normals.volume_is M N f g partner_of hs gs w n k there not_f not_g (w.flat k there solid)
+      normals.volume_is w n k there not_f not_g (w.flat k there solid)
 
   pub solids_add : six_volume N s ≡ six_volume M s +ℤ six_volume M t
   unfolding six_volume

@@ -58,7 +58,7 @@ no_rings : (M : Model) (k : ℕ) → has_rings M k ≡ false → rings_of M k �
 unfolding has_rings
 no_rings M k e = empty_is (rings_of M k) (not-false (is_empty (rings_of M k)) e)
 
-module _ (M : Model) (f g : ℕ) (sound : Sound M) (w : Fits M f g) where
+module _ {M : Model} {f g : ℕ} (sound : Sound M) (w : Fits M f g) where
   abbrev s : ℕ
   s = solid_of M f
 
@@ -114,9 +114,9 @@ module _ (M : Model) (f g : ℕ) (sound : Sound M) (w : Fits M f g) where
     alone_g = no_rings M g w.rings_g;
     first = rim_is f w.f_there (inl refl);
     second = rim_is g w.g_there (inr refl);
-    partners = outlines.partners_are M (outer M f) (outer M g) (rim M f) (rim M g) outlined;
-    starts = outlines.partner_starts M (outer M f) (outer M g) (rim M f) (rim M g) outlined;
-    ends = outlines.partner_ends M (outer M f) (outer M g) (rim M f) (rim M g) outlined;
+    partners = outlines.partners_are outlined;
+    starts = outlines.partner_starts outlined;
+    ends = outlines.partner_ends outlined;
     flat = each_flat;
   }
 
@@ -130,8 +130,8 @@ module _ (M : Model) (f g : ℕ) where
 
 -- the glued solid has the six volumes of both
 pub glue_adds : (M : Model) (f g : ℕ) → Sound M → glue_refusal M f g ≡ None → six_volume (glue_model M f g) (solid_of M f) ≡ six_volume M (solid_of M f) +ℤ six_volume M (solid_of M g)
-glue_adds M f g sound e = solids_add M (glue_model M f g) f g (partner M (rim M g)) (rim M f) (rim M g) (seamed M f g sound (fits M f g e)) (glued M f g)
+glue_adds M f g sound e = solids_add (seamed sound (fits M f g e)) (glued M f g)
 
 -- and the others keep theirs
 pub glue_keeps_others : (M : Model) (f g u : ℕ) → Sound M → glue_refusal M f g ≡ None → u ≢ solid_of M f → u ≢ solid_of M g → six_volume (glue_model M f g) u ≡ six_volume M u
-glue_keeps_others M f g u sound e not_s not_t = others_stay M (glue_model M f g) f g (partner M (rim M g)) (rim M f) (rim M g) (seamed M f g sound (fits M f g e)) (glued M f g) u not_s not_t
+glue_keeps_others M f g u sound e not_s not_t = others_stay (seamed sound (fits M f g e)) (glued M f g) u not_s not_t

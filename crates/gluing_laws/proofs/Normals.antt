@@ -50,12 +50,12 @@ corner_at M k cs y is i = listed_front (vertices_on M (content M (outer M k))) _
 pub item_told : (M : Model) (k : ℕ) (cs : List ℕ) (y : ℕ) → is_flat M k ≡ true → content M (outer M k) ≡ cycle cs → IsIn y cs → dot (start M y) (normal M k) ≡ dot (anchor M k) (normal M k)
 item_told M k cs y flat is i = corner_told M k (tail M y) flat (corner_at M k cs y is i)
 
-module _ (M N : Model) (f g : ℕ) (partner_of : ℕ → ℕ) (hs gs : List ℕ) (w : Seamed M f g partner_of hs gs) (n : Glued M N f g partner_of hs) where
+module _ {M N : Model} {f g : ℕ} {partner_of : ℕ → ℕ} {hs gs : List ℕ} (w : Seamed M f g partner_of hs gs) (n : Glued M N f g partner_of hs) where
   abbrev swap : ℕ → ℕ
-  swap = places.swap M N f g partner_of hs gs w n
+  swap = places.swap w n
 
   abbrev StaysHere : ℕ → ℕ → Type 0
-  StaysHere = Stays M N f g partner_of hs gs w n
+  StaysHere = Stays w n
 
   -- ---- loops
 
@@ -92,7 +92,7 @@ module _ (M N : Model) (f g : ℕ) (partner_of : ℕ → ℕ) (hs gs : List ℕ)
   each_swapped : (l : ℕ) → l ≢ outer M g → (y : ℕ) → IsIn y (items_of (content M l)) → StaysHere (swap y) y
   each_swapped l b y i =
       let s : StandsIn M y l = in-holds y (content M l) i in
-      places.swapped M N f g partner_of hs gs w n y (w.sound.only_edges y l s) (λ e. b (sym (w.sound.one_loop y l s) ∙ e))
+      places.swapped w n y (w.sound.only_edges y l s) (λ e. b (sym (w.sound.one_loop y l s) ∙ e))
 
   loop_area : (l : ℕ) → l ≢ outer M f → l ≢ outer M g → area N (items_of (content N l)) ≡ area M (items_of (content M l))
   loop_area l a b = ap (λ c. area N (items_of c)) (content_is l a b) ∙ content_area (content M l) (each_swapped l b)
@@ -157,9 +157,9 @@ module _ (M N : Model) (f g : ℕ) (partner_of : ℕ → ℕ) (hs gs : List ℕ)
 
     rings_are : rings_of N k ≡ rings_of M k
     rings_are = same_search ring_after ring_before N.loops M.loops (λ l. elim (eqb_tells l (outer M f)) [
-      | inl e ↦ loop_gone l (kept_f l e.1) (λ s. not_f (sym s ∙ ap (face_of M) e.1 ∙ seams.face_f M f g partner_of hs gs w))
+      | inl e ↦ loop_gone l (kept_f l e.1) (λ s. not_f (sym s ∙ ap (face_of M) e.1 ∙ seams.face_f w))
       | inr a ↦ elim (eqb_tells l (outer M g)) [
-        | inl e ↦ loop_gone l (kept_g l e.1) (λ s. not_g (sym s ∙ ap (face_of M) e.1 ∙ seams.face_g M f g partner_of hs gs w))
+        | inl e ↦ loop_gone l (kept_g l e.1) (λ s. not_g (sym s ∙ ap (face_of M) e.1 ∙ seams.face_g w))
         | inr b ↦ ap (passed ring_after l) (loop_row l a.1 b.1) ∙ same_row l (table.get M.loops l)
       ]
     ])
@@ -173,8 +173,8 @@ module _ (M N : Model) (f g : ℕ) (partner_of : ℕ → ℕ) (hs gs : List ℕ)
 
     pub loop_else : (l : ℕ) → face_of M l ≡ k → (l ≢ outer M f) × (l ≢ outer M g)
     loop_else l of = (
-      λ e. not_f (sym of ∙ ap (face_of M) e ∙ seams.face_f M f g partner_of hs gs w),
-      λ e. not_g (sym of ∙ ap (face_of M) e ∙ seams.face_g M f g partner_of hs gs w),
+      λ e. not_f (sym of ∙ ap (face_of M) e ∙ seams.face_f w),
+      λ e. not_g (sym of ∙ ap (face_of M) e ∙ seams.face_g w),
     )
 
     pub normal_is : normal N k ≡ normal M k
@@ -185,7 +185,7 @@ module _ (M N : Model) (f g : ℕ) (partner_of : ℕ → ℕ) (hs gs : List ℕ)
 
     anchor_in : (c : LoopContent) → c ≢ cycle [] → content M (outer M k) ≡ c → is_flat M k ≡ true → dot (point_of N (first_vertex N (rewritten (map swap) c))) (normal M k) ≡ dot (anchor M k) (normal M k)
     anchor_in (lone v) ne is flat =
-        ap (λ p. dot p (normal M k)) (places.point_kept M N f g partner_of hs gs w n v (λ h i e. w.sound.lone_is_no_tail (outer M k) (partner_of h) (seams.half_g M f g partner_of hs gs w (partner_of h) (seams.partner_in M f g partner_of hs gs w h i)) (is ∙ ap lone (sym e)))
+        ap (λ p. dot p (normal M k)) (places.point_kept w n v (λ h i e. w.sound.lone_is_no_tail (outer M k) (partner_of h) (seams.half_g w (partner_of h) (seams.partner_in w h i)) (is ∙ ap lone (sym e)))
         ∙ sym (ap (λ c. point_of M (first_vertex M c)) is))
     anchor_in (cycle []) ne is flat = absurd (ne refl)
     anchor_in (cycle (c ∷ cs)) ne is flat =

@@ -34,7 +34,7 @@ of_neither a s t u not_s not_t = elim (eqb_tells a t) [
   | inr e ↦ ap (λ b. one_if (nat_eq (cond b s a) u)) e.0
 ]
 
-module _ (M N : Model) (f g : ℕ) (partner_of : ℕ → ℕ) (hs gs : List ℕ) (w : Seamed M f g partner_of hs gs) (n : Glued M N f g partner_of hs) (u : ℕ) (not_s : u ≢ solid_of M f) (not_t : u ≢ solid_of M g) where
+module _ {M N : Model} {f g : ℕ} {partner_of : ℕ → ℕ} {hs gs : List ℕ} (w : Seamed M f g partner_of hs gs) (n : Glued M N f g partner_of hs) (u : ℕ) (not_s : u ≢ solid_of M f) (not_t : u ≢ solid_of M g) where
   abbrev of : ℕ → FaceRow → Bool
   of k row = nat_eq row.solid u
 
@@ -51,7 +51,7 @@ module _ (M N : Model) (f g : ℕ) (partner_of : ℕ → ℕ) (hs gs : List ℕ)
   left_g k e = grind (arith, nat_tests, tables)
 
   face_gone : (k : ℕ) → table.get left k ≡ None → Has M.faces k → solid_of M k ≢ u → passed of k (table.get N.faces k) ≡ passed of k (table.get M.faces k)
-  face_gone k e there ne = ap (passed of k) (normals.face_at_row M N f g partner_of hs gs w n k ∙ ap (option_map (to_s k)) e)
+  face_gone k e there ne = ap (passed of k) (normals.face_at_row w n k ∙ ap (option_map (to_s k)) e)
       ∙ sym (ap (passed of k) (face_there M k there) ∙ ap one_if (ne_eqb (solid_of M k) u ne))
 
   row_kept : (k : ℕ) (o : Option FaceRow) → passed of k (option_map (to_s k) o) ≡ passed of k o
@@ -63,7 +63,7 @@ module _ (M N : Model) (f g : ℕ) (partner_of : ℕ → ℕ) (hs gs : List ℕ)
     | inl e ↦ face_gone k (left_f k e.1) (ap (table.has M.faces) e.1 ∙ w.f_there) (λ q. not_s (sym q ∙ ap (solid_of M) e.1))
     | inr a ↦ elim (eqb_tells k g) [
       | inl e ↦ face_gone k (left_g k e.1) (ap (table.has M.faces) e.1 ∙ w.g_there) (λ q. not_t (sym q ∙ ap (solid_of M) e.1))
-      | inr b ↦ ap (passed of k) (normals.other_face M N f g partner_of hs gs w n k a.1 b.1) ∙ row_kept k (table.get M.faces k)
+      | inr b ↦ ap (passed of k) (normals.other_face w n k a.1 b.1) ∙ row_kept k (table.get M.faces k)
     ]
   ])
 
@@ -72,7 +72,7 @@ module _ (M N : Model) (f g : ℕ) (partner_of : ℕ → ℕ) (hs gs : List ℕ)
     l = outer M k
 
     abbrev swap : ℕ → ℕ
-    swap = places.swap M N f g partner_of hs gs w n
+    swap = places.swap w n
 
     not_f : k ≢ f
     not_f e = not_s (sym is_of ∙ ap (solid_of M) e)
@@ -86,21 +86,21 @@ module _ (M N : Model) (f g : ℕ) (partner_of : ℕ → ℕ) (hs gs : List ℕ)
     stands : (cs : List ℕ) (y : ℕ) → content M l ≡ cycle cs → IsIn y cs → StandsIn M y l
     stands cs y is i = ap (λ c. holds y c) is ∙ in-holds y (cycle cs) i
 
-    side_is : (cs : List ℕ) (y : ℕ) → content M l ≡ cycle cs → IsIn y cs → side M f g partner_of hs gs w y ≡ u
+    side_is : (cs : List ℕ) (y : ℕ) → content M l ≡ cycle cs → IsIn y cs → side w y ≡ u
     side_is cs y is i = ap (λ q. solid_of M (face_of M q)) (w.sound.one_loop y l (stands cs y is i)) ∙ ap (solid_of M) own ∙ is_of
 
     -- nothing there is replaced
     swap_not : (cs : List ℕ) (y : ℕ) → content M l ≡ cycle cs → IsIn y cs → swap y ≡ y
     swap_not cs y is i = renamed_not (λ h. mate (partner_of h)) (λ h. h) hs y (λ h j e.
-        let p = seams.partner_in M f g partner_of hs gs w h j in
-        not_t (sym (side_is cs y is i) ∙ ap (side M f g partner_of hs gs w) (sym e) ∙ seams.side_mate M f g partner_of hs gs w (partner_of h) (seams.half_g M f g partner_of hs gs w (partner_of h) p) ∙ seams.side_g M f g partner_of hs gs w (partner_of h) p))
+        let p = seams.partner_in w h j in
+        not_t (sym (side_is cs y is i) ∙ ap (side w) (sym e) ∙ seams.side_mate w (partner_of h) (seams.half_g w (partner_of h) p) ∙ seams.side_g w (partner_of h) p))
 
     all_stay : (cs xs : List ℕ) → content M l ≡ cycle cs → ((x : ℕ) → IsIn x xs → IsIn x cs) → map swap xs ≡ xs
     all_stay cs [] is within = refl
     all_stay cs (x ∷ xs) is within = λ i. swap_not cs x is (within x (IsIn_head x xs)) i ∷ all_stay cs xs is (λ y j. within y (omega (arith, j))) i
 
     anchor_in : (c : LoopContent) → c ≢ cycle [] → content M l ≡ c → point_of N (first_vertex N (rewritten (map swap) c)) ≡ point_of M (first_vertex M c)
-    anchor_in (lone v) ne is = places.point_kept M N f g partner_of hs gs w n v (λ h i e. w.sound.lone_is_no_tail l (partner_of h) (seams.half_g M f g partner_of hs gs w (partner_of h) (seams.partner_in M f g partner_of hs gs w h i)) (is ∙ ap lone (sym e)))
+    anchor_in (lone v) ne is = places.point_kept w n v (λ h i e. w.sound.lone_is_no_tail l (partner_of h) (seams.half_g w (partner_of h) (seams.partner_in w h i)) (is ∙ ap lone (sym e)))
     anchor_in (cycle []) ne is = absurd (ne refl)
     anchor_in (cycle (c ∷ cs)) ne is =
         let i : IsIn c (c ∷ cs) = IsIn_head c cs in
@@ -109,16 +109,16 @@ module _ (M N : Model) (f g : ℕ) (partner_of : ℕ → ℕ) (hs gs : List ℕ)
         ap (λ xs. point_of N (tail N (head_or 0 (canonical xs)))) (all_stay (c ∷ cs) (c ∷ cs) is (λ x j. j))
         ∙ ap (λ xs. point_of N (tail N (head_or 0 xs))) least
         ∙ ap (start N) (sym (swap_not (c ∷ cs) c is i))
-        ∙ (places.swapped M N f g partner_of hs gs w n c (w.sound.only_edges c l s) (λ e. (normals.loop_else M N f g partner_of hs gs w n k there not_f not_g l own).1 (sym (w.sound.one_loop c l s) ∙ e))).0
+        ∙ (places.swapped w n c (w.sound.only_edges c l s) (λ e. (normals.loop_else w n k there not_f not_g l own).1 (sym (w.sound.one_loop c l s) ∙ e))).0
 
     anchor_is : anchor N k ≡ anchor M k
     anchor_is =
-        let a = normals.loop_else M N f g partner_of hs gs w n k there not_f not_g l own in
-        ap (λ c. point_of N (first_vertex N c)) (ap (content N) (normals.outer_is M N f g partner_of hs gs w n k there not_f not_g) ∙ normals.content_is M N f g partner_of hs gs w n l a.0 a.1)
+        let a = normals.loop_else w n k there not_f not_g l own in
+        ap (λ c. point_of N (first_vertex N c)) (ap (content N) (normals.outer_is w n k there not_f not_g) ∙ normals.content_is w n l a.0 a.1)
         ∙ anchor_in (content M l) (λ e. (w.sound.cycles l [] (w.sound.outers_there k there).0 e).some_item refl) refl
 
     pub volume_stays : volume_of N k ≡ volume_of M k
-    volume_stays = λ i. dot (anchor_is i) (normals.normal_is M N f g partner_of hs gs w n k there not_f not_g i)
+    volume_stays = λ i. dot (anchor_is i) (normals.normal_is w n k there not_f not_g i)
 
   each_stays : (k : ℕ) → lists (faces_of M u) k ≡ true → volume_of N k ≡ volume_of M k
   each_stays k i =

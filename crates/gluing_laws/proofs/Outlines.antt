@@ -66,7 +66,7 @@ pub record Outlined (M : Model) (l r : ℕ) (hs gs : List ℕ) : Type 0 where
   pub once_second : has_repeats (map (start M) gs) ≡ false
   pub matched : is_rotation (map (start M) hs) (reverse (map (start M) gs)) ≡ true
 
-module _ (M : Model) (l r : ℕ) (hs gs : List ℕ) (w : Outlined M l r hs gs) where
+module _ {M : Model} {l r : ℕ} {hs gs : List ℕ} (w : Outlined M l r hs gs) where
   apart_f : IsApart hs
   apart_f = (w.sound.cycles l hs w.first_there w.first).apart
 

@@ -20,7 +20,7 @@ use Rattle.shapes.proofs.glue.Renamings.{renamed_cases, without_there}
 use Rattle.gluing_laws.proofs.Seams as seams
 use Rattle.gluing_laws.proofs.Seams.{Seamed, Glued, side}
 
-module _ (M N : Model) (f g : ℕ) (partner_of : ℕ → ℕ) (hs gs : List ℕ) (w : Seamed M f g partner_of hs gs) (n : Glued M N f g partner_of hs) where
+module _ {M N : Model} {f g : ℕ} {partner_of : ℕ → ℕ} {hs gs : List ℕ} (w : Seamed M f g partner_of hs gs) (n : Glued M N f g partner_of hs) where
   abbrev from_tail : ℕ → ℕ
   from_tail h = tail M (partner_of h)
 
@@ -50,12 +50,12 @@ module _ (M N : Model) (f g : ℕ) (partner_of : ℕ → ℕ) (hs gs : List ℕ)
   pub point_kept : (v : ℕ) → ((h : ℕ) → IsIn h hs → from_tail h ≢ v) → point_of N v ≡ point_of M v
   point_kept v none = point_stays v (not_moved v none)
 
-  mate_of_f : (h : ℕ) → IsIn h hs → side M f g partner_of hs gs w (mate h) ≡ side M f g partner_of hs gs w h
-  mate_of_f h i = seams.side_mate M f g partner_of hs gs w h (seams.half_f M f g partner_of hs gs w h i)
+  mate_of_f : (h : ℕ) → IsIn h hs → side w (mate h) ≡ side w h
+  mate_of_f h i = seams.side_mate w h (seams.half_f w h i)
 
   end_kept : (h : ℕ) → IsIn h hs → point_of N (to_tail h) ≡ finish M h
-  end_kept h i = point_kept (to_tail h) (λ k j. seams.never_met M f g partner_of hs gs w (mate h) (partner_of k)
-      (mate_there M h (seams.half_f M f g partner_of hs gs w h i)) (mate_of_f h i ∙ seams.side_f M f g partner_of hs gs w h i) (seams.partner_in M f g partner_of hs gs w k j))
+  end_kept h i = point_kept (to_tail h) (λ k j. seams.never_met w (mate h) (partner_of k)
+      (mate_there M h (seams.half_f w h i)) (mate_of_f h i ∙ seams.side_f w h i) (seams.partner_in w k j))
 
   -- a vertex that replaces another has its point
   point_moved : (v : ℕ) → point_of N (renamed (paired from_tail to_tail hs) v) ≡ point_of M v
@@ -98,18 +98,18 @@ module _ (M N : Model) (f g : ℕ) (partner_of : ℕ → ℕ) (hs gs : List ℕ)
 
   item_left : (h : ℕ) → IsIn h hs → count (edge_of h) gone ≡ 0
   item_left h i = edge_left h
-      (λ k j. seams.not_g M f g partner_of hs gs w h (partner_of k) (seams.side_f M f g partner_of hs gs w h i) (seams.partner_in M f g partner_of hs gs w k j))
-      (λ k j. seams.not_mate M f g partner_of hs gs w h (partner_of k) (seams.side_f M f g partner_of hs gs w h i) (seams.partner_in M f g partner_of hs gs w k j))
+      (λ k j. seams.not_g w h (partner_of k) (seams.side_f w h i) (seams.partner_in w k j))
+      (λ k j. seams.not_mate w h (partner_of k) (seams.side_f w h i) (seams.partner_in w k j))
 
   -- what stands in the place of a half-edge of another face starts and ends where that did
   pub swapped : (y : ℕ) → HasHalf M y → loop_of M y ≢ outer M g → Stays (swap y) y
   swapped y there other = elim (renamed_cases (λ h. mate (partner_of h)) (λ h. h) hs y) [
     | inl p ↦
-        let k = both_kept p.0 (seams.half_f M f g partner_of hs gs w p.0 p.1) (item_left p.0 p.1) in (
+        let k = both_kept p.0 (seams.half_f w p.0 p.1) (item_left p.0 p.1) in (
           ap (start N) p.3 ∙ k.0 ∙ sym (w.ends p.0 p.1) ∙ ap (start M) p.2,
           ap (finish N) p.3 ∙ k.1 ∙ sym (w.starts p.0 p.1) ∙ ap (start M) (sym (mate-mate (partner_of p.0))) ∙ ap (finish M) p.2,
         )
     | inr p ↦
-        let k = both_kept y there (edge_left y (λ h i e. other (ap (loop_of M) e ∙ seams.loop_g M f g partner_of hs gs w (partner_of h) (seams.partner_in M f g partner_of hs gs w h i))) (λ h i e. p.1 h i (sym e))) in
+        let k = both_kept y there (edge_left y (λ h i e. other (ap (loop_of M) e ∙ seams.loop_g w (partner_of h) (seams.partner_in w h i))) (λ h i e. p.1 h i (sym e))) in
         (ap (start N) p.0 ∙ k.0, ap (finish N) p.0 ∙ k.1)
   ]

@@ -39,7 +39,7 @@ pub record Glued (M N : Model) (f g : ℕ) (partner_of : ℕ → ℕ) (hs : List
   pub edges : N.edges ≡ table.map_rows (renamed_tails (paired (λ h. tail M (partner_of h)) (λ h. tail M (mate h)) hs)) (without_rows M.edges (map (λ h. edge_of (partner_of h)) hs))
   pub vertices : N.vertices ≡ without_rows M.vertices (map (λ h. tail M (partner_of h)) hs)
 
-module _ (M : Model) (f g : ℕ) (partner_of : ℕ → ℕ) (hs gs : List ℕ) (w : Seamed M f g partner_of hs gs) where
+module _ {M : Model} {f g : ℕ} {partner_of : ℕ → ℕ} {hs gs : List ℕ} (w : Seamed M f g partner_of hs gs) where
   abbrev pub side : ℕ → ℕ
   side y = solid_of M (face_of M (loop_of M y))
 

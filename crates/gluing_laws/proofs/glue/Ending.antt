@@ -79,7 +79,7 @@ module _ (M : Model) (f g : ℕ) (partner_of : ℕ → ℕ) (hs : List ℕ) (x :
   m_there = mate_there N (partner_of h) g_there
 
   q_l : q ≢ l
-  q_l = mates.mate_else M f g partner_of hs x h done (h ∷ []) w h (omega (arith, tick_same h))
+  q_l = mates.mate_else w h (omega (arith, tick_same h))
 
   loop_g : loop_of N (mate m) ≡ l
   loop_g = ap (loop_of N) (mate-mate (partner_of h)) ∙ loop_is N l f (h ∷ partner_of h ∷ []) around_l (partner_of h) g_in
@@ -153,7 +153,7 @@ module _ (M : Model) (f g : ℕ) (partner_of : ℕ → ℕ) (hs : List ℕ) (x :
   kept = table.remove (table.remove M.loops l) r
 
   abbrev turned_row : LoopRow
-  turned_row = mates.turned_row M f g partner_of hs x h done (h ∷ []) w h (omega (arith, tick_same h))
+  turned_row = mates.turned_row w h (omega (arith, tick_same h))
 
   rest_g : rest (mate m) (cycle_of N (mate m)) ≡ h ∷ []
   rest_g =
@@ -174,7 +174,7 @@ module _ (M : Model) (f g : ℕ) (partner_of : ℕ → ℕ) (hs : List ℕ) (x :
   loops_after = kill.loops_are N w.sound m goes
       ∙ (λ i. table.remove (table.put (stages.loops_are M f g partner_of hs x h done (h ∷ []) w i) q (record { face = face_of N q; content = cycle (canonical (rest_g i ++ rest m (cycle_of N m))) })) (loop_g i))
       ∙ put_gone (table.map_rows (rewritten_row (map swap)) kept) l q _ turned_row q_l free_l
-      ∙ sym (mates.others M f g partner_of hs x h done (h ∷ []) w h (omega (arith, tick_same h)))
+      ∙ sym (mates.others w h (omega (arith, tick_same h)))
 
   abbrev tail_from : ℕ → ℕ
   tail_from j = tail M (partner_of j)

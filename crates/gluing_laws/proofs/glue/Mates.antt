@@ -26,7 +26,7 @@ use Rattle.shapes.proofs.glue.Facing.{Facing, side}
 use Rattle.gluing_laws.proofs.glue.Stages as stages
 use Rattle.gluing_laws.proofs.glue.Stages.{Stage}
 
-module _ (M : Model) (f g : ℕ) (partner_of : ℕ → ℕ) (hs : List ℕ) (x last : ℕ) (done more : List ℕ) (w : Stage M f g partner_of hs x last done more) (h : ℕ) (h_more : IsIn h more) where
+module _ {M : Model} {f g : ℕ} {partner_of : ℕ → ℕ} {hs : List ℕ} {x last : ℕ} {done more : List ℕ} (w : Stage M f g partner_of hs x last done more) (h : ℕ) (h_more : IsIn h more) where
   abbrev N : Model
   N = glued_part M f g partner_of last done more
 

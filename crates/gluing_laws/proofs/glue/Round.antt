@@ -75,7 +75,7 @@ pub record Closes (N : Model) (l f g h k : ℕ) (qs : List ℕ) (x s r : ℕ) : 
   pub no_parallel : (y : ℕ) → HasHalf N y → tail N y ≡ tail N k → tail N (mate y) ≢ tail N g
   pub mate_else : loop_of N (mate g) ≢ l
 
-module _ (N : Model) (l f g h k : ℕ) (qs : List ℕ) (x s r : ℕ) (c : Closes N l f g h k qs x s r) where
+module _ {N : Model} {l f g h k : ℕ} {qs : List ℕ} {x s r : ℕ} (c : Closes N l f g h k qs x s r) where
   abbrev old_row : LoopRow
   old_row = record { face = f; content = cycle (canonical ((g ∷ h ∷ []) ++ k ∷ qs)) }
 

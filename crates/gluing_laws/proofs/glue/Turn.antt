@@ -88,7 +88,7 @@ module _ (M : Model) (f g : ℕ) (partner_of : ℕ → ℕ) (hs : List ℕ) (x l
   around_here = record { sound = w.sound; at = stages.at_l M f g partner_of hs x last done (h ∷ k ∷ more) w ∙ ap (λ t. Some (record { face = f; content = cycle t })) turned_is }
 
   g_there : HasHalf N (partner_of h)
-  g_there = mates.g_there M f g partner_of hs x last done (h ∷ k ∷ more) w h h_more
+  g_there = mates.g_there w h h_more
 
   k_there : HasHalf N k
   k_there = half_is N l f ((partner_of h ∷ h ∷ []) ++ k ∷ qs) around_here k (omega (arith, tick_same k, count-append k (partner_of h ∷ h ∷ []) (k ∷ qs)))
@@ -138,7 +138,7 @@ module _ (M : Model) (f g : ℕ) (partner_of : ℕ → ℕ) (hs : List ℕ) (x l
     loop_fits = F.sound.loops_fit r (ap is_some F.second);
     ends_apart = λ e. facing.never_met M f g partner_of hs x F h k h_in k_in (sym tail_g ∙ e ∙ tail_k);
     no_parallel = no_parallel;
-    mate_else = mates.mate_else M f g partner_of hs x last done (h ∷ k ∷ more) w h h_more;
+    mate_else = mates.mate_else w h h_more;
   }
 
   -- ---- the model after
@@ -162,13 +162,13 @@ module _ (M : Model) (f g : ℕ) (partner_of : ℕ → ℕ) (hs : List ℕ) (x l
   kept = table.remove (table.remove M.loops l) r
 
   abbrev turned_row : LoopRow
-  turned_row = mates.turned_row M f g partner_of hs x last done (h ∷ k ∷ more) w h h_more
+  turned_row = mates.turned_row w h h_more
 
   swap_puts : {Y : Type 0} (t : Table Y) (a b : ℕ) (u v z : Y) → b ≢ a → table.put (table.put (table.put t a u) a v) b z ≡ table.put (table.put t b z) a v
   swap_puts t a b u v z ne = same_table _ _ (λ n. grind (arith, nat_tests, tables))
 
   abbrev after_round : Model
-  after_round = closed N l f (partner_of h) h k qs x g r closes
+  after_round = closed closes
 
   X_loops : table.put (table.map_rows (rewritten_row (map swap_more)) kept) l (record { face = f; content = cycle (canonical (k ∷ qs)) }) ≡ X.loops
   unfolding glued_part
@@ -178,7 +178,7 @@ module _ (M : Model) (f g : ℕ) (partner_of : ℕ → ℕ) (hs : List ℕ) (x l
   loops_next =
       ap (λ t. table.put (table.put t l (record { face = f; content = cycle (canonical (k ∷ qs)) })) q turned_row) (stages.loops_are M f g partner_of hs x last done (h ∷ k ∷ more) w)
       ∙ swap_puts (table.map_rows (rewritten_row (map swap)) kept) l q _ _ turned_row closes.mate_else
-      ∙ ap (λ t. table.put t l (record { face = f; content = cycle (canonical (k ∷ qs)) })) (sym (mates.others M f g partner_of hs x last done (h ∷ k ∷ more) w h h_more))
+      ∙ ap (λ t. table.put t l (record { face = f; content = cycle (canonical (k ∷ qs)) })) (sym (mates.others w h h_more))
       ∙ X_loops
 
   abbrev moves_before : List (ℕ × ℕ)
@@ -232,7 +232,7 @@ module _ (M : Model) (f g : ℕ) (partner_of : ℕ → ℕ) (hs : List ℕ) (x l
 
   -- the three operators of the item are accepted, and then it is glued too
   pub turn_accepted : AreAccepted N (closing (partner_of h) k x g r)
-  turn_accepted = (closing_leads N l f (partner_of h) h k qs x g r closes).accepted
+  turn_accepted = (closing_leads closes).accepted
 
   pub turn_is : effects N (closing (partner_of h) k x g r) ≡ X
-  turn_is = (closing_leads N l f (partner_of h) h k qs x g r closes).made ∙ (λ i. record { solids = solids_next i; faces = faces_next i; loops = loops_next i; edges = edges_next i; vertices = vertices_next i })
+  turn_is = (closing_leads closes).made ∙ (λ i. record { solids = solids_next i; faces = faces_next i; loops = loops_next i; edges = edges_next i; vertices = vertices_next i })
