@@ -83,7 +83,7 @@ none_far M d [] e = refl
 none_far M d (v ∷ vs) e = let w = and_parts (is_in_range (moved (point_of M v) d)) (list_all is_in_range (all_moved d (map (point_of M) vs))) e in
     ap (λ b. cond (not b) (Some v) (first_such (λ u. not (is_in_range (moved (point_of M u) d))) vs)) w.0 ∙ none_far M d vs w.1
 
-module _ (M : Model) (f s : ℕ) (ps : List Point) (face : IsFaceOf M f s ps) where
+module _ {M : Model} {f s : ℕ} {ps : List Point} (face : IsFaceOf M f s ps) where
   many : length ps ≡ length (corners M f)
   many = ap length (sym face.points) ∙ length-map (corners M f) (point_of M)
 
@@ -115,8 +115,8 @@ pub sweeps_fit : SweepsFit
 unfolding prism_conditions taken_in
 sweeps_fit m f s ps d sound face some apart near left =
     let M = held m in
-    let n = many M f s ps face in
-    none_refuses (prism_conditions M f d) (sound.faces_fit f face.there also face.there also ap not apart also ap (λ o. not (is_some o)) (none_lone M f s ps face some)
+    let n = many face in
+    none_refuses (prism_conditions M f d) (sound.faces_fit f face.there also face.there also ap not apart also ap (λ o. not (is_some o)) (none_lone face some)
     also ap (λ o. not (is_some o)) (none_far M d (corners M f) (ap (λ qs. list_all is_in_range (all_moved d qs)) face.points ∙ near))
     also within _ 1000000 (subst (λ k. table.greatest M.faces + k ≤ 1000000) n left.of_faces)
     also within _ 1000000 (subst (λ k. table.greatest M.loops + k ≤ 1000000) n left.of_loops)

@@ -32,7 +32,7 @@ ring_moved p q d zero l e c = absurd (omega arith)
 ring_moved p q d (suc n) l e c = moved_ring p q d n e (c n refl)
 
 -- the path ts of N leads along the points of the path hs of M, moved by d
-module _ (M N : Model) (d : Point) (f g l k : ℕ) (hs ts : List ℕ) (was : IsPathOf M f l hs) (now : IsPathOf N g k ts) (same : map (start N) ts ≡ all_moved d (map (start M) hs)) where
+module _ {M N : Model} {d : Point} {f g l k : ℕ} {hs ts : List ℕ} (was : IsPathOf M f l hs) (now : IsPathOf N g k ts) (same : map (start N) ts ≡ all_moved d (map (start M) hs)) where
   abbrev from_at : ℕ → Point
   from_at i = start M (get_or hs i 0)
 

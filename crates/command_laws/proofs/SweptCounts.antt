@@ -94,7 +94,7 @@ both t n m = λ i. record { v = once t.v n m i; e = twice t.e n m i; f = once t.
   twice a n m = omega arith
 
 -- one loop swept
-module _ (M : Model) (c : Taken) (f l : ℕ) (d : Point) (hs : List ℕ) (w : Ready M c f l d hs) where
+module _ {M : Model} {c : Taken} {f l : ℕ} {d : Point} {hs : List ℕ} (w : Ready M c f l d hs) where
   abbrev s : ℕ
   s = solid_of M f
 
@@ -209,8 +209,8 @@ swept M N c f d (l ∷ ls) s g of =
     let solid : solid_of N k ≡ s = ap (solid_of N) face ∙ of in
     let items : hs ≡ items_of (content M l) = ap items_of (content_row N l _ at) in
     let made : counts X s ≡ with_more (counts N s) (length hs) (2 * length hs) (length hs) =
-    ap (λ Z. counts Z s) is ∙ subst (λ u. counts Y u ≡ with_more (counts N u) (length hs) (2 * length hs) (length hs)) solid (step N c k l d hs r (subst Sound is next.sound)) in
-    let still : solid_of X f ≡ s = ap (solid_of X) (sym face) ∙ ap (λ Z. solid_of Z k) is ∙ of_f N c k l d hs r ∙ solid in
+    ap (λ Z. counts Z s) is ∙ subst (λ u. counts Y u ≡ with_more (counts N u) (length hs) (2 * length hs) (length hs)) solid (step r (subst Sound is next.sound)) in
+    let still : solid_of X f ≡ s = ap (solid_of X) (sym face) ∙ ap (λ Z. solid_of Z k) is ∙ of_f r ∙ solid in
     let n = length (items_in M ls) in
     ap (λ Z. counts Z s) (sym (turn_model M N c f l d ls g X refl))
     ∙ swept M X (taken_after c (length hs)) f d ls s next still
@@ -235,11 +235,11 @@ swept_kept M N c f d (l ∷ ls) s u g of ne =
     let face : k ≡ f = face_row N l _ (g.rows l (IsIn_head l ls)) in
     let solid : solid_of N k ≡ s = ap (solid_of N) face ∙ of in
     let out : is_of (solid_of N k) u ≡ false = ne_eqb u (solid_of N k) (λ e. ne (e ∙ solid)) in
-    let still : solid_of X f ≡ s = ap (solid_of X) (sym face) ∙ ap (λ Z. solid_of Z k) is ∙ of_f N c k l d hs r ∙ solid in
+    let still : solid_of X f ≡ s = ap (solid_of X) (sym face) ∙ ap (λ Z. solid_of Z k) is ∙ of_f r ∙ solid in
     ap (λ Z. counts Z u) (sym (turn_model M N c f l d ls g X refl))
     ∙ swept_kept M X (taken_after c (length hs)) f d ls s u next still ne
     ∙ ap (λ Z. counts Z u) is
-    ∙ others_kept N _ (is_of (solid_of N k)) (is_of (solid_of N k)) (agree N c k l d hs r (subst Sound is next.sound)) u out out
+    ∙ others_kept N _ (is_of (solid_of N k)) (is_of (solid_of N k)) (agree r (subst Sound is next.sound)) u out out
 
 pub model_keeps_counts : (M : Model) (f : ℕ) (d : Point) (u : ℕ) → Sound M → prism_refusal M f d ≡ None → u ≢ solid_of M f → counts (prism_model M f d) u ≡ counts M u
 unfolding prism_model

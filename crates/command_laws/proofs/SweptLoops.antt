@@ -52,7 +52,7 @@ filled_last t a x low (suc n) l = greatest-put_last (filled t a x n) (a + 1 + n)
 
 -- ---- one loop
 
-module _ (f s : ℕ) (d : Point) (g : Growing) (l : ℕ) (ls : List ℕ) (w : Ready f s g (l ∷ ls)) where
+module _ {f s : ℕ} (d : Point) {g : Growing} {l : ℕ} {ls : List ℕ} (w : Ready f s g (l ∷ ls)) where
   abbrev pub items : List ℕ
   items = items_of (content g.model l)
 
@@ -74,10 +74,10 @@ module _ (f s : ℕ) (d : Point) (g : Growing) (l : ℕ) (ls : List ℕ) (w : Re
 
   pub after_ready : Ready f s (record { model = swept g.model g.taken (solid_of g.model f) d (items_of (content g.model l)) f l; taken = counted g.taken (length (items_of (content g.model l))) }) ls
   after_ready = record {
-    bounded = bounded_after g.model g.taken (solid_of g.model f) d items f l w.bounded path;
-    there = there_after g.model g.taken (solid_of g.model f) d items f l w.bounded path w.there;
-    solid = solid_after g.model g.taken (solid_of g.model f) d items f l w.bounded path w.there ∙ w.solid;
-    paths = λ q i. let p = path_after g.model g.taken (solid_of g.model f) d items f l w.bounded path q (items_of (content g.model q)) (not_again q i) (w.paths q (IsIn_rest q l ls i)) in
+    bounded = bounded_after (solid_of g.model f) d w.bounded path;
+    there = there_after (solid_of g.model f) d w.bounded path w.there;
+    solid = solid_after (solid_of g.model f) d w.bounded path w.there ∙ w.solid;
+    paths = λ q i. let p = path_after (solid_of g.model f) d w.bounded path q (items_of (content g.model q)) (not_again q i) (w.paths q (IsIn_rest q l ls i)) in
         subst (λ x. IsPathOf swept_once f q (items_of x)) (sym p.0) p.1;
     apart = λ x. omega (arith, w.apart x);
     last = ap table.greatest (faces_grown g.model g.taken (solid_of g.model f) d items (length items))
@@ -89,7 +89,7 @@ module _ (f s : ℕ) (d : Point) (g : Growing) (l : ℕ) (ls : List ℕ) (w : Re
     faces = λ k m. face_old g.model g.taken (solid_of g.model f) d items f l k m;
     rings = λ k m. rings_old g.model g.taken (solid_of g.model f) d items f l w.bounded path k m;
     loops = λ q m z. loop_old g.model g.taken (solid_of g.model f) d items f l q (apart_from q z) m;
-    starts = λ h m. start_kept g.model swept_once g.taken.edge g.taken.vertex (keeps_swept g.model g.taken (solid_of g.model f) d items f l) w.bounded.tails h m;
+    starts = λ h m. start_kept (keeps_swept g.model g.taken (solid_of g.model f) d items f l) w.bounded.tails h m;
   } where
     apart_from : (q : ℕ) → count q (l ∷ []) ≡ 0 → q ≢ l
     apart_from q z e = absurd (omega (arith, z, tick_same l, ap (λ x. count x (l ∷ [])) e))
@@ -107,13 +107,13 @@ later_on X Y Z c n l ls a b = record {
 module _ (f s : ℕ) (d : Point) where
   pub later_all : (ls : List ℕ) (g : Growing) → Ready f s g ls → Later g.model (prism_from f d g ls).model g.taken ls
   later_all [] g w = record { faces = λ k m. refl; rings = λ k m. refl; loops = λ q m z. refl; starts = λ h m. refl }
-  later_all (l ∷ ls) g w = subst (λ x. Later g.model (prism_from f d x ls).model g.taken (l ∷ ls)) (sym (raised_is f s d g l ls w))
+  later_all (l ∷ ls) g w = subst (λ x. Later g.model (prism_from f d x ls).model g.taken (l ∷ ls)) (sym (raised_is d w))
       (later_on g.model (swept_once f s d g l ls w) (prism_from f d (next f s d g l ls w) ls).model g.taken (length (items f s d g l ls w)) l ls
-      (after_later f s d g l ls w) (later_all ls (next f s d g l ls w) (after_ready f s d g l ls w)))
+      (after_later d w) (later_all ls (next f s d g l ls w) (after_ready d w)))
 
   pub ready_all : (ls ms : List ℕ) (g : Growing) → Ready f s g (ls ++ ms) → Ready f s (prism_from f d g ls) ms
   ready_all [] ms g w = w
-  ready_all (l ∷ ls) ms g w = subst (λ x. Ready f s (prism_from f d x ls) ms) (sym (raised_is f s d g l (ls ++ ms) w)) (ready_all ls ms (next f s d g l (ls ++ ms) w) (after_ready f s d g l (ls ++ ms) w))
+  ready_all (l ∷ ls) ms g w = subst (λ x. Ready f s (prism_from f d x ls) ms) (sym (raised_is d w)) (ready_all ls ms (next f s d g l (ls ++ ms) w) (after_ready d w))
 
   pub from_append : (ls ms : List ℕ) (g : Growing) → prism_from f d g (ls ++ ms) ≡ prism_from f d (prism_from f d g ls) ms
   from_append [] ms g = refl
@@ -126,12 +126,12 @@ module _ (f s : ℕ) (d : Point) where
     none n = omega arith
   taken_all M (l ∷ ls) g w same =
       let n = length (items f s d g l ls w) in
-      ap (λ x. (prism_from f d x ls).taken.face) (raised_is f s d g l ls w)
-      ∙ taken_all M ls (next f s d g l ls w) (after_ready f s d g l ls w) (λ q i. still q i ∙ same q (IsIn_rest q l ls i))
+      ap (λ x. (prism_from f d x ls).taken.face) (raised_is d w)
+      ∙ taken_all M ls (next f s d g l ls w) (after_ready d w) (λ q i. still q i ∙ same q (IsIn_rest q l ls i))
       ∙ sum g.taken.face n (length (vertices_in M ls)) (length (vertices_in M (l ∷ ls)))
       (length-append (vertices_on M (content M l)) (vertices_in M ls) ∙ ap (λ k. k + length (vertices_in M ls)) corner_many) where
         still : (q : ℕ) → IsIn q ls → content (swept_once f s d g l ls w) q ≡ content g.model q
-        still q i = (path_after g.model g.taken (solid_of g.model f) d (items f s d g l ls w) f l w.bounded (path f s d g l ls w) q (items_of (content g.model q)) (not_again f s d g l ls w q i) (w.paths q (IsIn_rest q l ls i))).0
+        still q i = (path_after (solid_of g.model f) d w.bounded (path f s d g l ls w) q (items_of (content g.model q)) (not_again d w q i) (w.paths q (IsIn_rest q l ls i))).0
 
         corner_many : length (vertices_on M (content M l)) ≡ length (items f s d g l ls w)
         corner_many = ap (λ x. length (vertices_on M x)) (sym (same l (IsIn_head l ls)) ∙ (path f s d g l ls w).content) ∙ length-map (items f s d g l ls w) (tail M)

@@ -92,7 +92,7 @@ module _ (M : Model) (f : ℕ) (d : Point) (sound : Sound M) (goes : prism_refus
     same_loop = same_content M g.model l (earlier.loops l l_low l_once)
 
     abbrev hs : List ℕ
-    hs = items f s d g l rs now
+    hs = items d now
 
     same_items : hs ≡ items_of (content M l)
     same_items = ap items_of same_loop
@@ -102,27 +102,27 @@ module _ (M : Model) (f : ℕ) (d : Point) (sound : Sound M) (goes : prism_refus
     points_then = ap (map (start g.model)) same_items
         ∙ same_starts M g.model (items_of (content M l)) (λ h i. earlier.starts h (all_ready.bounded.items h l i)) ∙ sym (along_cycle M l (items_of (content M l)) l_path.content)
 
-    next_is : prism_from f d (growing M) (loops_of M f) ≡ prism_from f d (next f s d g l rs now) rs
-    next_is = ap (prism_from f d (growing M)) parts ∙ from_append f s d ls (l ∷ rs) (growing M) ∙ ap (λ x. prism_from f d x rs) (raised_is f s d g l rs now)
+    next_is : prism_from f d (growing M) (loops_of M f) ≡ prism_from f d (next d now) rs
+    next_is = ap (prism_from f d (growing M)) parts ∙ from_append f s d ls (l ∷ rs) (growing M) ∙ ap (λ x. prism_from f d x rs) (raised_is d now)
 
-    rest : Later (swept_once f s d g l rs now) Z (counted g.taken (length hs)) rs
-    rest = subst (λ x. Later (swept_once f s d g l rs now) x.model (counted g.taken (length hs)) rs) (sym next_is) (later_all f s d rs (next f s d g l rs now) (after_ready f s d g l rs now))
+    rest : Later (swept_once d now) Z (counted g.taken (length hs)) rs
+    rest = subst (λ x. Later (swept_once d now) x.model (counted g.taken (length hs)) rs) (sym next_is) (later_all f s d rs (next d now) (after_ready d now))
 
     abbrev tops : List ℕ
     tops = top_items g.taken.edge (length hs) (length hs)
 
     pub loop_then : content Z l ≡ cycle tops
-    loop_then = same_content (swept_once f s d g l rs now) Z l (rest.loops l (omega (arith, loop_low f s d g l rs now)) l_not_later) ∙ ring_is f s d g l rs now
+    loop_then = same_content (swept_once d now) Z l (rest.loops l (omega (arith, loop_low d now)) l_not_later) ∙ ring_is d now
 
     tops_moved : map (start Z) tops ≡ all_moved d (loop_points M l)
-    tops_moved = same_starts (swept_once f s d g l rs now) Z tops (λ h i. rest.starts h (items_taken f s d g l rs now l h (subst (λ x. IsIn h (items_of x)) (sym (ring_is f s d g l rs now)) i)))
-        ∙ ring_moved f s d g l rs now ∙ ap (all_moved d) points_then
+    tops_moved = same_starts (swept_once d now) Z tops (λ h i. rest.starts h (items_taken d now l h (subst (λ x. IsIn h (items_of x)) (sym (ring_is d now)) i)))
+        ∙ ring_moved d now ∙ ap (all_moved d) points_then
 
     loop_moved : loop_points Z l ≡ all_moved d (loop_points M l)
     loop_moved = along_cycle Z l tops loop_then ∙ tops_moved
 
     pub loop_there : Has Z.loops l
-    loop_there = ap is_some (rest.loops l (omega (arith, loop_low f s d g l rs now)) l_not_later ∙ loop_here g.model g.taken (solid_of g.model f) d hs f l)
+    loop_there = ap is_some (rest.loops l (omega (arith, loop_low d now)) l_not_later ∙ loop_here g.model g.taken (solid_of g.model f) d hs f l)
 
     points_some : 0 < length (loop_points M l)
     points_some = subst (λ n. 0 < n) (sym (ap length (along_cycle M l (items_of (content M l)) l_path.content) ∙ as_many M (items_of (content M l)))) l_path.some_item
@@ -132,8 +132,7 @@ module _ (M : Model) (f : ℕ) (d : Point) (sound : Sound M) (goes : prism_refus
 
     area_moved : area Z (items_of (content Z l)) ≡ area M (items_of (content M l))
     area_moved = ap (λ x. area Z (items_of x)) loop_then
-        ∙ area_kept M Z d f (face_of Z l) l l (items_of (content M l)) tops l_path (ring_path Z Z_sound (face_of Z l) l tops (loop_row Z l loop_there ∙ ap (λ x. Some (record { face = face_of Z l; content = x })) loop_then))
-        (tops_moved ∙ ap (all_moved d) (along_cycle M l (items_of (content M l)) l_path.content))
+        ∙ area_kept l_path (ring_path Z Z_sound (face_of Z l) l tops (loop_row Z l loop_there ∙ ap (λ x. Some (record { face = face_of Z l; content = x })) loop_then)) (tops_moved ∙ ap (all_moved d) (along_cycle M l (items_of (content M l)) l_path.content))
 
     many : length hs ≡ length (loop_points M l)
     many = sym (as_many g.model hs) ∙ ap length points_then
@@ -150,7 +149,7 @@ module _ (M : Model) (f : ℕ) (d : Point) (sound : Sound M) (goes : prism_refus
         (subst (λ xs. IsFaceOf Z (g.taken.face + 1 + i) s (side_over d (nth xs i) (nth xs j))) points_then
         (subst (λ p. IsFaceOf Z (g.taken.face + 1 + i) s (side_over d p (nth (map (start g.model) hs) j))) (sym (nth_start g.model hs i at))
         (subst (λ p. IsFaceOf Z (g.taken.face + 1 + i) s (side_over d (start g.model (get_or hs i 0)) p)) (sym (nth_start g.model hs j (next_within (length hs) i at)))
-        (side_stands f s d g l rs now Z Z_sound rest i at)))))
+        (side_stands d now Z Z_sound rest i at)))))
 
   -- ---- the far face
 

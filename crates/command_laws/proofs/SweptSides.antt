@@ -32,7 +32,7 @@ along_cycle M l hs is = ap (λ x. map (point_of M) (vertices_on M x)) is ∙ sta
 
 -- ---- the new ring
 
-module _ (f s : ℕ) (d : Point) (g : Growing) (l : ℕ) (ls : List ℕ) (w : Ready f s g (l ∷ ls)) where
+module _ {f s : ℕ} (d : Point) {g : Growing} {l : ℕ} {ls : List ℕ} (w : Ready f s g (l ∷ ls)) where
   abbrev X : Model
   X = g.model
 
@@ -43,15 +43,15 @@ module _ (f s : ℕ) (d : Point) (g : Growing) (l : ℕ) (ls : List ℕ) (w : Re
   o = solid_of g.model f
 
   abbrev hs : List ℕ
-  hs = items f s d g l ls w
+  hs = items d w
 
   abbrev r : IsPathOf g.model f l (items_of (content g.model l))
-  r = path f s d g l ls w
+  r = path d w
 
   abbrev Y : Model
-  Y = swept_once f s d g l ls w
+  Y = swept_once d w
 
-  pub ring_is : content (swept_once f s d g l ls w) l ≡ cycle (top_items g.taken.edge (length (items f s d g l ls w)) (length (items f s d g l ls w)))
+  pub ring_is : content (swept_once d w) l ≡ cycle (top_items g.taken.edge (length (items d w)) (length (items d w)))
   ring_is = content_here X c o d hs f l w.bounded r
 
   tops_to : (k : ℕ) → k ≤ length hs → map (start Y) (top_items c.edge (length hs) k) ≡ take k (all_moved d (map (start X) hs))
@@ -62,12 +62,12 @@ module _ (f s : ℕ) (d : Point) (g : Growing) (l : ℕ) (ls : List ℕ) (w : Re
         here : (k : ℕ) → k < length hs → nth (all_moved d (map (start X) hs)) k ≡ moved (start X (get_or hs k 0)) d
         here k m = nth_moved d (map (start X) hs) k (subst (λ n. k < n) (sym (as_many X hs)) m) ∙ ap (λ p. moved p d) (nth_start X hs k m)
 
-  pub ring_moved : map (start (swept_once f s d g l ls w)) (top_items g.taken.edge (length (items f s d g l ls w)) (length (items f s d g l ls w))) ≡ all_moved d (map (start g.model) (items f s d g l ls w))
+  pub ring_moved : map (start (swept_once d w)) (top_items g.taken.edge (length (items d w)) (length (items d w))) ≡ all_moved d (map (start g.model) (items d w))
   ring_moved = tops_to (length hs) (omega arith) ∙ ap (λ n. take n (all_moved d (map (start X) hs))) (sym (as_many X hs) ∙ sym (moved_many d (map (start X) hs))) ∙ take_whole (all_moved d (map (start X) hs))
 
   -- what stands in a loop then is within the numbers taken
-  pub items_taken : (q h : ℕ) → IsIn h (items_of (content (swept_once f s d g l ls w) q)) → edge_of h ≤ g.taken.edge + 2 * length (items f s d g l ls w)
-  items_taken q h i = (after_ready f s d g l ls w).bounded.items h q i
+  pub items_taken : (q h : ℕ) → IsIn h (items_of (content (swept_once d w) q)) → edge_of h ≤ g.taken.edge + 2 * length (items d w)
+  items_taken q h i = (after_ready d w).bounded.items h q i
 
   pub loop_low : l ≤ g.taken.loop
   loop_low = within X c o d hs f l w.bounded r
@@ -77,7 +77,7 @@ module _ (f s : ℕ) (d : Point) (g : Growing) (l : ℕ) (ls : List ℕ) (w : Re
 
   -- ---- side i, in a model Z with the later loops swept too
 
-  module _ (Z : Model) (sound : Sound Z) (later : Later (swept_once f s d g l ls w) Z (counted g.taken (length (items f s d g l ls w))) ls) (i : ℕ) (m : i < length (items f s d g l ls w)) where
+  module _ (Z : Model) (sound : Sound Z) (later : Later (swept_once d w) Z (counted g.taken (length (items d w))) ls) (i : ℕ) (m : i < length (items d w)) where
     abbrev k : ℕ
     k = c.face + 1 + i
 
@@ -116,7 +116,7 @@ module _ (f s : ℕ) (d : Point) (g : Growing) (l : ℕ) (ls : List ℕ) (w : Re
         ∙ (λ t. item_start X c o d hs f l w.bounded r i m t ∷ (next_start X c o d hs f l w.bounded r i m ∙ r.linked i m) t
         ∷ (top_finish X c o d hs f l w.bounded r i m ∙ ap (λ p. moved p d) (r.linked i m)) t ∷ riser_finish X c o d hs f l w.bounded r i m t ∷ [])
 
-    pub side_stands : IsFaceOf Z (g.taken.face + 1 + i) s (side_over d (start g.model (get_or (items f s d g l ls w) i 0)) (start g.model (get_or (items f s d g l ls w) (next_place (length (items f s d g l ls w)) i) 0)))
+    pub side_stands : IsFaceOf Z (g.taken.face + 1 + i) s (side_over d (start g.model (get_or (items d w) i 0)) (start g.model (get_or (items d w) (next_place (length (items d w)) i) 0)))
     side_stands =
         let out = outer_row Z k (side_face X c o d hs i) row in
         let told = points_are Z k q round none out is ∙ round_points in

@@ -75,12 +75,12 @@ some_points M s ps e = omega (arith, (lamina_new M s ps e).0)
 pub lamina_measures : LaminaMeasures
 lamina_measures M s ps sound e = let g = lamina_new M s ps e in
     subst (λ N. six_volume N s ≡ dot (get_or ps 0 no_point) (normal N (lamina_face M)) -ℤ dot (get_or ps 1 no_point) (normal N (lamina_face M))) (sym (lamina_is M s ps))
-    (lamina_volume M (taken_in M) s ps (length ps - 3) g.0 (sound_bounded M sound) (no_faces M s sound g.1))
+    (lamina_volume s ps (length ps - 3) g.0 (sound_bounded M sound) (no_faces M s sound g.1))
 
 pub flat_laminas_measure_nothing : FlatLaminasMeasureNothing
 flat_laminas_measure_nothing M s ps sound e = let g = lamina_new M s ps e in
     subst (λ N. is_flat N (lamina_face M) ≡ true → six_volume N s ≡ pos 0) (sym (lamina_is M s ps))
-    (flat_volume M (taken_in M) s ps (length ps - 3) g.0 (sound_bounded M sound) (no_faces M s sound g.1))
+    (flat_volume s ps (length ps - 3) g.0 (sound_bounded M sound) (no_faces M s sound g.1))
 
 -- other solids keep their six volumes
 pub lamina_keeps_others : LaminaKeepsOthers

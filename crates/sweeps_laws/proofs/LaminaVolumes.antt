@@ -68,7 +68,7 @@ no_difference m n e = omega (arith, ints)
 
 -- ---- n points, k + 3 of them
 
-module _ (M : Model) (c : Taken) (s : ℕ) (ps : List Point) (k : ℕ) (many : length ps ≡ suc (suc (suc k))) (b : Bounded M c) where
+module _ {M : Model} {c : Taken} (s : ℕ) (ps : List Point) (k : ℕ) (many : length ps ≡ suc (suc (suc k))) (b : Bounded M c) where
   abbrev drawn : Model
   drawn = rows.drawn M c s ps
 

@@ -95,7 +95,7 @@ module _ (M : Model) (c : Taken) (s : ℕ) (ps : List Point) (some : 0 < length 
 
     loop_kept : (q : ℕ) → q ≤ c.loop → area drawn (items_of (content drawn q)) ≡ area M (items_of (content M q))
     loop_kept q l = ap (λ x. area drawn (items_of x)) (content_old q l)
-        ∙ same_area M drawn (items_of (content M q)) (λ h i. (start_kept M drawn c.edge c.vertex keeps_drawn b.tails h (b.items h q i), finish_kept M drawn c.edge c.vertex keeps_drawn b.tails h (b.items h q i)))
+        ∙ same_area M drawn (items_of (content M q)) (λ h i. (start_kept keeps_drawn b.tails h (b.items h q i), finish_kept keeps_drawn b.tails h (b.items h q i)))
 
     normal_kept : (k : ℕ) → k ≤ c.face → normal drawn k ≡ normal M k
     normal_kept k l = normal_is drawn k ∙ (λ t. area drawn (items_in drawn (outer_old k l t ∷ rings_old k l t)))

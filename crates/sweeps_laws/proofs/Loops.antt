@@ -50,8 +50,8 @@ first_edge e = omega arith
 pub first_kept : (M N : Model) (e v : ℕ) (keeps : Keeps M N e v) (bounded : (h : ℕ) → tail M h ≤ v) (x : LoopContent) →
     ((h : ℕ) → IsIn h (items_of x) → edge_of h ≤ e) → ((w : ℕ) → x ≡ lone w → w ≤ v) → point_of N (first_vertex N x) ≡ point_of M (first_vertex M x)
 first_kept M N e v keeps bounded (lone w) a b = keeps.points w (b w refl)
-first_kept M N e v keeps bounded (cycle []) a b = start_kept M N e v keeps bounded 0 (first_edge e)
-first_kept M N e v keeps bounded (cycle (h ∷ hs)) a b = start_kept M N e v keeps bounded h (a h (IsIn_head h hs))
+first_kept M N e v keeps bounded (cycle []) a b = start_kept keeps bounded 0 (first_edge e)
+first_kept M N e v keeps bounded (cycle (h ∷ hs)) a b = start_kept keeps bounded h (a h (IsIn_head h hs))
 
 -- the loops of a face
 pub loops_within : (M : Model) (c : Taken) → Bounded M c → (k q : ℕ) → lists (outer M k ∷ rings_of M k) q ≡ true → q ≤ c.loop
@@ -67,7 +67,7 @@ ring_moved : (p q : ℕ → Point) (d : Point) (n : ℕ) → 0 < n → Linked p 
 ring_moved p q d zero l e c = absurd (omega arith)
 ring_moved p q d (suc n) l e c = moved_ring p q d n e (c n refl)
 
-module _ (M : Model) (c : Taken) (s : ℕ) (d : Point) (hs : List ℕ) (f l : ℕ) (b : Bounded M c) (r : IsPathOf M f l hs) where
+module _ {M : Model} {c : Taken} (s : ℕ) (d : Point) {hs : List ℕ} {f l : ℕ} (b : Bounded M c) (r : IsPathOf M f l hs) where
   abbrev after : Model
   after = swept M c s d hs f l
 
@@ -132,7 +132,7 @@ module _ (M : Model) (c : Taken) (s : ℕ) (d : Point) (hs : List ℕ) (f l : �
     | inl e ↦ subst (λ k. area after (items_of (content after k)) ≡ area M (items_of (content M k))) (sym e.1)
         (ap (λ x. area after (items_of x)) (content_here M c s d hs f l b r) ∙ area_lifted ∙ sym (ap (λ x. area M (items_of x)) r.content))
     | inr e ↦ ap (λ x. area after (items_of x)) (content_old M c s d hs f l b r q e.1 m)
-        ∙ same_area M after (items_of (content M q)) (λ h i. (start_kept M after c.edge c.vertex (keeps_swept M c s d hs f l) b.tails h (b.items h q i), finish_kept M after c.edge c.vertex (keeps_swept M c s d hs f l) b.tails h (b.items h q i)))
+        ∙ same_area M after (items_of (content M q)) (λ h i. (start_kept (keeps_swept M c s d hs f l) b.tails h (b.items h q i), finish_kept (keeps_swept M c s d hs f l) b.tails h (b.items h q i)))
   ]
 
   pub loops_area : (ls : List ℕ) → ((q : ℕ) → lists ls q ≡ true → q ≤ c.loop) → area after (items_in after ls) ≡ area M (items_in M ls)

@@ -34,7 +34,7 @@ face_within M c b u k i = let p = listed_passes (λ _ row. nat_eq row.solid u) M
   at_most : (a b c : ℕ) → a ≤ b → b ≤ c → a ≤ c
   at_most a b c m n = omega arith
 
-module _ (M : Model) (c : Taken) (s : ℕ) (d : Point) (hs : List ℕ) (f l : ℕ) (b : Bounded M c) (r : IsPathOf M f l hs) where
+module _ {M : Model} {c : Taken} (s : ℕ) (d : Point) {hs : List ℕ} {f l : ℕ} (b : Bounded M c) (r : IsPathOf M f l hs) where
   abbrev after : Model
   after = swept M c s d hs f l
 
@@ -51,8 +51,8 @@ module _ (M : Model) (c : Taken) (s : ℕ) (d : Point) (hs : List ℕ) (f l : �
       ∙ add_assoc (volume_in after (faces_of M s)) (total_to (λ i. volume_of after (c.face + 1 + i)) n) (volume_of after (c.face + 1 + n))
 
   sides_add : total_to (λ i. volume_of after (c.face + 1 + i)) (length hs) ≡ pos 2 *ℤ dot (area M hs) d
-  sides_add = same_total (λ i. volume_of after (c.face + 1 + i)) (λ i. pos 2 *ℤ dot (area_at (from_at M c s d hs f l b r) (to_at M c s d hs f l b r) d i) d) (length hs) (side_is M c s d hs f l b r)
-      ∙ sides_volume (area_at (from_at M c s d hs f l b r) (to_at M c s d hs f l b r) d) d (length hs) ∙ ap (λ a. pos 2 *ℤ dot a d) (sym (area_sum M hs))
+  sides_add = same_total (λ i. volume_of after (c.face + 1 + i)) (λ i. pos 2 *ℤ dot (area_at (from_at s d b r) (to_at s d b r) d i) d) (length hs) (side_is s d b r)
+      ∙ sides_volume (area_at (from_at s d b r) (to_at s d b r) d) d (length hs) ∙ ap (λ a. pos 2 *ℤ dot a d) (sym (area_sum M hs))
 
   volume_after : six_volume after s ≡ volume_in after (faces_of M s) +ℤ pos 2 *ℤ dot (area M hs) d
   volume_after = six_volume_is after s ∙ ap (λ t. volume_in after (table.all_where of_solid t)) (faces_grown M c s d hs (length hs)) ∙ sides_after (length hs) ∙ ap (λ v. volume_in after (faces_of M s) +ℤ v) sides_add
@@ -62,21 +62,21 @@ module _ (M : Model) (c : Taken) (s : ℕ) (d : Point) (hs : List ℕ) (f l : �
 
   -- a ring swept
   pub ring_adds : outer M f ≢ l → six_volume after s ≡ six_volume M s +ℤ pos 2 *ℤ dot (area M hs) d
-  ring_adds ne = volume_after ∙ ap (λ v. v +ℤ pos 2 *ℤ dot (area M hs) d) (faces_kept M c s d hs f l b r (faces_of M s) each ∙ sym (six_volume_is M s)) where
+  ring_adds ne = volume_after ∙ ap (λ v. v +ℤ pos 2 *ℤ dot (area M hs) d) (faces_kept s d b r (faces_of M s) each ∙ sym (six_volume_is M s)) where
     each : (k : ℕ) → lists (faces_of M s) k ≡ true → (k ≤ c.face) × (outer M k ≢ l)
     each k i = let p = face_within M c b s k i in (p.0, elim (eqb_tells k f) [ inl e ↦ λ o. ne (ap (outer M) (sym e.1) ∙ o) | inr e ↦ other_outer k p.1 e.1 ])
 
   -- an outer loop swept
   pub outer_adds : outer M f ≡ l → Has M.faces f → solid_of M f ≡ s → six_volume after s ≡ (six_volume M s +ℤ dot d (normal M f)) +ℤ pos 2 *ℤ dot (area M hs) d
   outer_adds e there of = volume_after ∙ ap (λ v. v +ℤ pos 2 *ℤ dot (area M hs) d)
-      (faces_moved M c s d hs f l b r (faces_of M s) (all_where-rises of_solid M.faces) (passes_listed of_solid M.faces f (record { solid = solid_of M f; outer = outer M f }) (face_there M f there) (eq-eqb (solid_of M f) s of)) e each
+      (faces_moved s d b r (faces_of M s) (all_where-rises of_solid M.faces) (passes_listed of_solid M.faces f (record { solid = solid_of M f; outer = outer M f }) (face_there M f there) (eq-eqb (solid_of M f) s of)) e each
       ∙ ap (λ v. v +ℤ dot d (normal M f)) (sym (six_volume_is M s))) where
         each : (k : ℕ) → lists (faces_of M s) k ≡ true → (k ≤ c.face) × (k ≢ f → outer M k ≢ l)
         each k i = let p = face_within M c b s k i in (p.0, other_outer k p.1)
 
   -- another solid than that of the face
   pub others_kept : (u : ℕ) → u ≢ s → solid_of M f ≡ s → six_volume after u ≡ six_volume M u
-  others_kept u ne of = six_volume_is after u ∙ ap (volume_in after) faces_same ∙ faces_kept M c s d hs f l b r (faces_of M u) each ∙ sym (six_volume_is M u) where
+  others_kept u ne of = six_volume_is after u ∙ ap (volume_in after) faces_same ∙ faces_kept s d b r (faces_of M u) each ∙ sym (six_volume_is M u) where
     faces_same : faces_of after u ≡ faces_of M u
     faces_same = ap (table.all_where (λ _ row. nat_eq row.solid u)) (faces_grown M c s d hs (length hs))
         ∙ filled_none M.faces c.face (side_face M c s d hs) b.faces (λ _ row. nat_eq row.solid u) (length hs) (λ i. ne_eqb s u (λ e. ne (sym e)))

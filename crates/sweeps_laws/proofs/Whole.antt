@@ -34,11 +34,11 @@ raised_is f d g l = refl
 module _ (f : ℕ) (d : Point) (s : ℕ) where
   -- where one loop is swept the others stay closed paths, with the areas that they had
   paths_after : (M : Model) (c : Taken) (hs : List ℕ) (l : ℕ) (b : Bounded M c) (r : IsPathOf M f l hs) (ls : List ℕ) → ((q : ℕ) → lists ls q ≡ true → q ≢ l) → Paths M f ls → Paths (swept M c s d hs f l) f ls
-  paths_after M c hs l b r ls apart ps q i = let p = path_after M c s d hs f l b r q (items_of (content M q)) (apart q i) (ps q i) in
+  paths_after M c hs l b r ls apart ps q i = let p = path_after s d b r q (items_of (content M q)) (apart q i) (ps q i) in
       subst (λ x. IsPathOf (swept M c s d hs f l) f q (items_of x)) (sym p.0) p.1
 
   items_after : (M : Model) (c : Taken) (hs : List ℕ) (l : ℕ) (b : Bounded M c) (r : IsPathOf M f l hs) (ls : List ℕ) → Paths M f ls → area (swept M c s d hs f l) (items_in (swept M c s d hs f l) ls) ≡ area M (items_in M ls)
-  items_after M c hs l b r ls ps = loops_area M c s d hs f l b r ls (λ q i. within M c s d (items_of (content M q)) f q b (ps q i))
+  items_after M c hs l b r ls ps = loops_area s d b r ls (λ q i. within M c s d (items_of (content M q)) f q b (ps q i))
 
   -- two loops, or a loop and others, add twice their areas along d
   both : (M : Model) (l : ℕ) (ls : List ℕ) (v : ℤ) →
@@ -65,11 +65,11 @@ module _ (f : ℕ) (d : Point) (s : ℕ) where
       let hs = items_of (content M l) in
       let r = ps l (first_listed l ls) in
       let rest : Paths M f ls = λ q i. ps q (rest_listed l q ls i) in
-      let o = outer_after M g.taken s d hs f l b r there in
+      let o = outer_after s d b r there in
       ap (λ x. six_volume (prism_from f d x ls).model s) (raised_is f d g l ∙ ap (raised_as f d g l) of)
-      ∙ rings_swept ls (raised_as f d g l s) (bounded_after M g.taken s d hs f l b r) (there_after M g.taken s d hs f l b r there) (solid_after M g.taken s d hs f l b r there ∙ of) (rises_on l ls up)
+      ∙ rings_swept ls (raised_as f d g l s) (bounded_after s d b r) (there_after s d b r there) (solid_after s d b r there ∙ of) (rises_on l ls up)
       (paths_after M g.taken hs l b r ls (after_least l ls up) rest) (λ q i e. rings q (rest_listed l q ls i) (sym o ∙ e))
-      ∙ (λ t. ring_adds M g.taken s d hs f l b r (rings l (first_listed l ls)) t +ℤ pos 2 *ℤ dot (items_after M g.taken hs l b r ls rest t) d)
+      ∙ (λ t. ring_adds s d b r (rings l (first_listed l ls)) t +ℤ pos 2 *ℤ dot (items_after M g.taken hs l b r ls rest t) d)
       ∙ both M l ls (six_volume M s)
 
   -- the outer loop, and then the rings
@@ -81,11 +81,11 @@ module _ (f : ℕ) (d : Point) (s : ℕ) where
       let hs = items_of (content M l) in
       let r = ps l (first_listed l ls) in
       let rest : Paths M f ls = λ q i. ps q (rest_listed l q ls i) in
-      let o = outer_after M g.taken s d hs f l b r there in
+      let o = outer_after s d b r there in
       ap (λ x. six_volume (prism_from f d x ls).model s) (raised_is f d g l ∙ ap (raised_as f d g l) of)
-      ∙ rings_swept ls (raised_as f d g l s) (bounded_after M g.taken s d hs f l b r) (there_after M g.taken s d hs f l b r there) (solid_after M g.taken s d hs f l b r there ∙ of) up
+      ∙ rings_swept ls (raised_as f d g l s) (bounded_after s d b r) (there_after s d b r there) (solid_after s d b r there ∙ of) up
       (paths_after M g.taken hs l b r ls (λ q i e. rings q i (sym e)) rest) (λ q i e. rings q i (sym is ∙ sym o ∙ e))
-      ∙ (λ t. outer_adds M g.taken s d hs f l b r is there of t +ℤ pos 2 *ℤ dot (items_after M g.taken hs l b r ls rest t) d)
+      ∙ (λ t. outer_adds s d b r is there of t +ℤ pos 2 *ℤ dot (items_after M g.taken hs l b r ls rest t) d)
       ∙ both M l ls (six_volume M s +ℤ dot d (normal M f))
 
   -- each listed number stands once
@@ -107,9 +107,9 @@ module _ (f : ℕ) (d : Point) (s : ℕ) where
       let r = ps l (first_listed l ls) in
       let rest : Paths M f ls = λ q i. ps q (rest_listed l q ls i) in
       ap (λ x. six_volume (prism_from f d x ls).model u) (raised_is f d g l ∙ ap (raised_as f d g l) of)
-      ∙ others_swept u ne ls (raised_as f d g l s) (bounded_after M g.taken s d hs f l b r) (there_after M g.taken s d hs f l b r there) (solid_after M g.taken s d hs f l b r there ∙ of) apart.1
+      ∙ others_swept u ne ls (raised_as f d g l s) (bounded_after s d b r) (there_after s d b r there) (solid_after s d b r there ∙ of) apart.1
       (paths_after M g.taken hs l b r ls apart.0 rest)
-      ∙ others_kept M g.taken s d hs f l b r u ne of
+      ∙ others_kept s d b r u ne of
 
 -- the law, of a face whose loops are closed paths
 module _ (M : Model) (f : ℕ) (d : Point) (b : Bounded M (taken_in M)) (there : Has M.faces f) (ps : Paths M f (outer M f ∷ rings_of M f)) where

@@ -106,7 +106,7 @@ module _ (M : Model) (c : Taken) (f l : ℕ) (d : Point) (hs : List ℕ) (w : Re
       let r : Rounds i = rounds_go i (omega arith) in
       let s : Sound (prism_part c f l d hs i M) = part_sound i r in
       leads_on M (prism_part c f l d hs i M) (prism_part c f l d hs (suc i) M) (rounds M c d hs i) (raise M c d hs (suc i) ∷ close c (length hs) i ∷ []) r
-      (record { accepted = round_accepted M c f l d hs w i lt s; made = round_is M c f l d hs w i lt s })
+      (record { accepted = round_accepted w i lt s; made = round_is w i lt s })
 
   -- the row of the first top edge
   first_top : (i : ℕ) → i < length hs → table.get (with_sides c (solid_of M f) d hs (suc i) M).edges (top_edge c.edge (length hs) 0) ≡ Some (record { plus_tail = c.vertex + 1 + 0; minus_tail = c.vertex + 1 + next_place (length hs) 0 })
@@ -167,7 +167,7 @@ module _ (M : Model) (c : Taken) (f l : ℕ) (d : Point) (hs : List ℕ) (w : Re
     list_is = (λ i. a ∷ tops_are i ++ b ∷ (drop_next hs (suc j) (omega (arith, last)) ∙ ap (λ xs. h ∷ xs) (drop_all (suc (suc j)) hs (omega (arith, last)))) i)
 
     around_part : Around P l f ((a ∷ k ∷ T) ++ b ∷ h ∷ [])
-    around_part = record { sound = sound; at = part_loop M c f l d hs w (suc j) ∙ ap (λ xs. Some (record { face = f; content = cycle (canonical xs) })) list_is }
+    around_part = record { sound = sound; at = part_loop w (suc j) ∙ ap (λ xs. Some (record { face = f; content = cycle (canonical xs) })) list_is }
 
     turned : canonical ((a ∷ k ∷ T) ++ b ∷ h ∷ []) ≡ canonical X2
     turned = canonical_same ((a ∷ k ∷ T) ++ b ∷ h ∷ []) X2 (record { front = a ∷ k ∷ T; back = b ∷ h ∷ []; here = refl; there = refl }) (apart_xs P l f ((a ∷ k ∷ T) ++ b ∷ h ∷ []) around_part)
@@ -179,18 +179,18 @@ module _ (M : Model) (c : Taken) (f l : ℕ) (d : Point) (hs : List ℕ) (w : Re
     two = two_items M c f l d hs w
 
     t_free : table.get P.edges t ≡ None
-    t_free = part_edge_free M c f l d hs w (suc j) t (λ e. omega (arith, last, top_cases c.edge (length hs) (suc j), riser_is c.edge (suc j)))
+    t_free = part_edge_free w (suc j) t (λ e. omega (arith, last, top_cases c.edge (length hs) (suc j), riser_is c.edge (suc j)))
         (λ i lt. ((λ e. omega (arith, last, top_cases c.edge (length hs) (suc j), riser_is c.edge i)), (λ e. omega (arith, last, top_cases c.edge (length hs) (suc j), top_cases c.edge (length hs) i))))
         (omega (arith, top_cases c.edge (length hs) (suc j)))
 
     r_other : l ≢ r
-    r_other e = omega (arith, loop_within M c f l d hs w)
+    r_other e = omega (arith, loop_within w)
 
     r_free : table.get P.loops r ≡ None
-    r_free = part_loop_free M c f l d hs w (suc j) r (omega arith)
+    r_free = part_loop_free w (suc j) r (omega arith)
 
     tail_b : tail P b ≡ c.vertex + 1 + suc j
-    tail_b = minus_tail_row P (riser c.edge (suc j)) _ (part_riser M c f l d hs w (suc j))
+    tail_b = minus_tail_row P (riser c.edge (suc j)) _ (part_riser w (suc j))
 
     first_row : table.get P.edges (top_edge c.edge (length hs) 0) ≡ Some (record { plus_tail = c.vertex + 1 + 0; minus_tail = c.vertex + 1 + next_place (length hs) 0 })
     unfolding prism_part
@@ -200,7 +200,7 @@ module _ (M : Model) (c : Taken) (f l : ℕ) (d : Point) (hs : List ℕ) (w : Re
     tail_k = plus_tail_row P (top_edge c.edge (length hs) 0) _ first_row
 
     accepted : first_false P (close_last c (length hs) (suc j)) ≡ None
-    accepted = mef_fits P l f b k (h ∷ a ∷ []) T t s r around_last t_free r_free (part_face_free M c f l d hs w (suc j) s (omega arith))
+    accepted = mef_fits P l f b k (h ∷ a ∷ []) T t s r around_last t_free r_free (part_face_free w (suc j) s (omega arith))
         (λ e. let q : c.vertex + 1 + suc j ≡ c.vertex + 1 + 0 = sym tail_b ∙ e ∙ tail_k in omega arith)
         (fits t (omega (arith, top_cases c.edge (length hs) (suc j))) (omega (arith, top_cases c.edge (length hs) (suc j), w.edges_left, last)))
         (fits s (omega arith) (omega (arith, w.faces_left, last)))
@@ -238,7 +238,7 @@ module _ (M : Model) (c : Taken) (f l : ℕ) (d : Point) (hs : List ℕ) (w : Re
 
     faces_are : N.faces ≡ W.faces
     unfolding prism_part with_side
-    faces_are = ap (λ q. table.put (with_sides c (solid_of M f) d hs (suc j) M).faces s (record { solid = q; outer = r })) (part_solid M c f l d hs w (suc j))
+    faces_are = ap (λ q. table.put (with_sides c (solid_of M f) d hs (suc j) M).faces s (record { solid = q; outer = r })) (part_solid w (suc j))
 
     loops_are : N.loops ≡ W.loops
     unfolding prism_part with_side

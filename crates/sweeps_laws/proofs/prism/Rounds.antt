@@ -43,7 +43,7 @@ joined_on (x ∷ xs) ys zs = ap (λ q. x ∷ q) (joined_on xs ys zs)
 pub put_over : {X : Type 0} (t : Table X) (l r : ℕ) (a b x y : X) → l ≢ r → table.put (table.put (table.put (table.put t l a) l b) l x) r y ≡ table.put (table.put t r y) l x
 put_over t l r a b x y ne = same_table _ _ (λ q. grind (arith, nat_tests, tables))
 
-module _ (M : Model) (c : Taken) (f l : ℕ) (d : Point) (hs : List ℕ) (w : Ready M c f l d hs) where
+module _ {M : Model} {c : Taken} {f l : ℕ} {d : Point} {hs : List ℕ} (w : Ready M c f l d hs) where
   pub loop_within : l ≤ c.loop
   loop_within = in_use_within M.loops c.loop w.loops_free l (ap is_some w.at)
 

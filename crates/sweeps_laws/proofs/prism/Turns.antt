@@ -46,7 +46,7 @@ module _ (M : Model) (c : Taken) (f l : ℕ) (d : Point) (hs : List ℕ) (w : Re
   some_vertex v there none = true≢false (sym there ∙ ap is_some none)
 
   part_start : (i h : ℕ) → HasHalf M h → start (prism_part c f l d hs i M) h ≡ start M h
-  part_start i h there = ap (point_of (prism_part c f l d hs i M)) (part_tail M c f l d hs w i h there) ∙ part_point i (tail M h) (some_vertex (tail M h) (w.sound.tails_there h there))
+  part_start i h there = ap (point_of (prism_part c f l d hs i M)) (part_tail w i h there) ∙ part_point i (tail M h) (some_vertex (tail M h) (w.sound.tails_there h there))
 
   module _ (i : ℕ) (lt : i < length hs) where
     pub turn_half : (h : ℕ) → IsIn h hs → HasHalf (N i) h

@@ -62,7 +62,7 @@ put_within M N e row m is a b low h = elim (eqb_tells (edge_of h) e) [
   | inr p ↦ subst (λ t. t ≤ m) (sym (tail_got N h (table.get M.edges (edge_of h)) (ap (λ t. table.get t (edge_of h)) is ∙ get-put_other M.edges e row (edge_of h) p.1) ∙ sym (tail_got M h (table.get M.edges (edge_of h)) refl))) (low h)
 ]
 
-module _ (M : Model) (c : Taken) (s : ℕ) (d : Point) (hs : List ℕ) (f l : ℕ) (b : Bounded M c) (r : IsPathOf M f l hs) where
+module _ {M : Model} {c : Taken} (s : ℕ) (d : Point) {hs : List ℕ} {f l : ℕ} (b : Bounded M c) (r : IsPathOf M f l hs) where
   abbrev after : Model
   after = swept M c s d hs f l
 
@@ -189,8 +189,8 @@ module _ (M : Model) (c : Taken) (s : ℕ) (d : Point) (hs : List ℕ) (f l : �
       of_face = face_of_old M c s d hs f l b r q low ∙ w.of_face;
       content = held ∙ w.content;
       some_item = w.some_item;
-      linked = λ i m. finish_kept M after c.edge c.vertex (keeps_swept M c s d hs f l) b.tails (get_or gs i 0) (inside i m) ∙ w.linked i m
-          ∙ sym (start_kept M after c.edge c.vertex (keeps_swept M c s d hs f l) b.tails (get_or gs (next_place (length gs) i) 0) (inside (next_place (length gs) i) (next_within (length gs) i m)));
+      linked = λ i m. finish_kept (keeps_swept M c s d hs f l) b.tails (get_or gs i 0) (inside i m) ∙ w.linked i m
+          ∙ sym (start_kept (keeps_swept M c s d hs f l) b.tails (get_or gs (next_place (length gs) i) 0) (inside (next_place (length gs) i) (next_within (length gs) i m)));
     },
   ) where
     low : q ≤ c.loop

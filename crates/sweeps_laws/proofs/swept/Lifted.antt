@@ -242,7 +242,7 @@ module _ (M : Model) (c : Taken) (s : ℕ) (d : Point) (hs : List ℕ) (f l : �
     next_finish i m = riser_finish (next_place (length hs) i) (next_within (length hs) i m) ∙ ap (λ p. moved p d) (next_point i m)
 
     pub item_start : (i : ℕ) → i < length hs → start swept (item M c s d hs i) ≡ from_point i
-    item_start i m = start_kept M swept c.edge c.vertex keeps_swept b.tails (item M c s d hs i) (items_within i m)
+    item_start i m = start_kept keeps_swept b.tails (item M c s d hs i) (items_within i m)
 
     pub item_finish : (i : ℕ) → i < length hs → finish swept (item M c s d hs i) ≡ to_point i
-    item_finish i m = finish_kept M swept c.edge c.vertex keeps_swept b.tails (item M c s d hs i) (items_within i m)
+    item_finish i m = finish_kept keeps_swept b.tails (item M c s d hs i) (items_within i m)

@@ -22,7 +22,7 @@ pub record Keeps (M N : Model) (e v : ℕ) : Type 0 where
   pub tails : (h : ℕ) → edge_of h ≤ e → tail N h ≡ tail M h
   pub points : (w : ℕ) → w ≤ v → point_of N w ≡ point_of M w
 
-module _ (M N : Model) (e v : ℕ) (keeps : Keeps M N e v) (bounded : (h : ℕ) → tail M h ≤ v) where
+module _ {M N : Model} {e v : ℕ} (keeps : Keeps M N e v) (bounded : (h : ℕ) → tail M h ≤ v) where
   pub start_kept : (h : ℕ) → edge_of h ≤ e → start N h ≡ start M h
   start_kept h l = ap (point_of N) (keeps.tails h l) ∙ keeps.points (tail M h) (bounded h)
 
@@ -141,4 +141,4 @@ module _ (M : Model) (c : Taken) (s : ℕ) (d : Point) (hs : List ℕ) where
 
     pub point_grown : (i : ℕ) → i < length hs → point_of (grown (length hs)) (c.vertex + 1 + i) ≡ moved (start M (item i)) d
     point_grown i l = point_row (grown (length hs)) (c.vertex + 1 + i) (side_point i) (ap (λ t. table.get t (c.vertex + 1 + i)) (vertices_grown (length hs)) ∙ filled_new M.vertices c.vertex side_point (length hs) i l)
-        ∙ ap (λ p. moved p d) (start_kept M (grown i) c.edge c.vertex (keeps_grown i (omega (arith, l))) bounded (item i) (items i l))
+        ∙ ap (λ p. moved p d) (start_kept (keeps_grown i (omega (arith, l))) bounded (item i) (items i l))
