@@ -27,6 +27,7 @@ use Rattle.undo_journal.specs.Machine.{held}
 use Rattle.command_laws.specs.NewFaces.{nth, turned_back, last_face, IsFaceOf, LaminaHasTwoFaces, LaminaTakesTwoFaces}
 use Rattle.command_laws.proofs.Outlines.{take_next, take_whole, points_are, plane_is}
 use Rattle.command_laws.proofs.SweptLoops.{face_counted}
+use Rattle.sweeps_laws.proofs.Block.{lamina_is}
 
 -- ---- a lamina of the points a, b and others
 
@@ -106,10 +107,6 @@ module _ (M : Model) (c : Taken) (s : ℕ) (a b : Point) (rest : List Point) (bo
 pub greatest_drawn : (M : Model) (c : Taken) (s : ℕ) (ps : List Point) → table.greatest M.faces ≤ c.face → table.greatest (lamina_at M c s ps).faces ≡ c.face + 2
 greatest_drawn M c s ps low = greatest-put_last (table.put M.faces (c.face + 1) (record { solid = s; outer = c.loop + 1 })) (c.face + 2) (record { solid = s; outer = c.loop + 2 })
     (omega (arith, greatest-put_last M.faces (c.face + 1) (record { solid = s; outer = c.loop + 1 }) (omega (arith, low))))
-
-pub lamina_is : (M : Model) (s : ℕ) (qs : List Point) → lamina_model M s qs ≡ lamina_at M (taken_in M) s qs
-unfolding lamina_model
-lamina_is M s qs = refl
 
 many_points : (M : Model) (s : ℕ) (ps : List Point) → lamina_refusal M s ps ≡ None → 3 ≤ length ps
 unfolding lamina_conditions

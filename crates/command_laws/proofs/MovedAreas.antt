@@ -12,6 +12,7 @@ use Rattle.sweeps_laws.proofs.swept.Numbers.{next_cases, next_within}
 use Rattle.sweeps_laws.proofs.swept.Lifted.{IsPathOf}
 use Rattle.command_laws.specs.NewFaces.{all_moved, nth}
 use Rattle.command_laws.proofs.Outlines.{nth_start, as_many}
+use Rattle.sweeps_laws.proofs.Loops.{ring_moved}
 
 pub moved_many : (d : Point) (ps : List Point) → length (all_moved d ps) ≡ length ps
 moved_many d [] = refl
@@ -26,10 +27,6 @@ nth_moved d (p ∷ ps) (suc k) l = nth_moved d ps k (omega (arith, l))
 area_sum : (M : Model) (hs : List ℕ) → area M hs ≡ sum_to (λ i. cross (start M (get_or hs i 0)) (finish M (get_or hs i 0))) (length hs)
 area_sum M [] = refl
 area_sum M (h ∷ hs) = ap (moved (cross (start M h) (finish M h))) (area_sum M hs) ∙ sum_first (λ i. cross (start M (get_or (h ∷ hs) i 0)) (finish M (get_or (h ∷ hs) i 0))) (length hs)
-
-ring_moved : (p q : ℕ → Point) (d : Point) (n : ℕ) → 0 < n → Linked p q d n → ((m : ℕ) → suc m ≡ n → q m ≡ p 0) → sum_to (moved_at p q d) n ≡ sum_to (area_at p q d) n
-ring_moved p q d zero l e c = absurd (omega arith)
-ring_moved p q d (suc n) l e c = moved_ring p q d n e (c n refl)
 
 -- the path ts of N leads along the points of the path hs of M, moved by d
 module _ {M N : Model} {d : Point} {f g l k : ℕ} {hs ts : List ℕ} (was : IsPathOf M f l hs) (now : IsPathOf N g k ts) (same : map (start N) ts ≡ all_moved d (map (start M) hs)) where

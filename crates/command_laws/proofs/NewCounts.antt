@@ -34,6 +34,7 @@ use Rattle.command_laws.proofs.Outlines.{as_many}
 use Rattle.command_laws.proofs.Owners.{Agree, is_of, others_kept, solid_of_edge, solid_of_loop}
 use Rattle.command_laws.proofs.SweptFaces.{before_points}
 use Rattle.command_laws.proofs.SweptCounts.{counted_more, model_adds_counts, model_keeps_counts, one_more, with_more}
+use Rattle.sweeps_laws.proofs.LaminaRows as rows
 
 -- ---- a solid that isn't there has nothing
 
@@ -103,19 +104,7 @@ module _ (M : Model) (s : ℕ) (ps : List Point) (sound : Sound M) (goes : lamin
   c = taken_in M
 
   abbrev N : Model
-  N = lamina_at M c s ps
-
-  abbrev first_face : FaceRow
-  first_face = record { solid = s; outer = c.loop + 1 }
-
-  abbrev second_face : FaceRow
-  second_face = record { solid = s; outer = c.loop + 2 }
-
-  face_one : table.get N.faces (c.face + 1) ≡ Some first_face
-  face_one = get-put_other (table.put M.faces (c.face + 1) first_face) (c.face + 2) second_face (c.face + 1) (λ z. absurd (omega (arith, z))) ∙ get-put_here M.faces (c.face + 1) first_face
-
-  face_two : table.get N.faces (c.face + 2) ≡ Some second_face
-  face_two = get-put_here (table.put M.faces (c.face + 1) first_face) (c.face + 2) second_face
+  N = rows.drawn M c s ps
 
   face_kept : (k : ℕ) → Has M.faces k → table.get N.faces k ≡ table.get M.faces k
   unfolding lamina_model
@@ -131,18 +120,18 @@ module _ (M : Model) (s : ℕ) (ps : List Point) (sound : Sound M) (goes : lamin
 
   face_cases : (k : ℕ) → (table.get N.faces k ≡ table.get M.faces k) ⊎ (solid_of N k ≡ s)
   face_cases k = elim (eqb_tells k (c.face + 1)) [
-    | inl e ↦ inr (ap (solid_of N) e.1 ∙ solid_row N (c.face + 1) first_face face_one)
+    | inl e ↦ inr (ap (solid_of N) e.1 ∙ solid_row N (c.face + 1) (rows.first_face M c s ps) (rows.face_one M c s ps))
     | inr m ↦ elim (eqb_tells k (c.face + 2)) [
-      | inl e ↦ inr (ap (solid_of N) e.1 ∙ solid_row N (c.face + 2) second_face face_two)
-      | inr n ↦ inl (two_kept M.faces c.face first_face second_face k m.1 n.1)
+      | inl e ↦ inr (ap (solid_of N) e.1 ∙ solid_row N (c.face + 2) (rows.second_face M c s ps) (rows.face_two M c s ps))
+      | inr n ↦ inl (two_kept M.faces c.face _ _ k m.1 n.1)
     ]
   ]
 
   loop_cases : (q : ℕ) → (table.get N.loops q ≡ table.get M.loops q) ⊎ (solid_of_loop N q ≡ s)
   loop_cases q = elim (eqb_tells q (c.loop + 1)) [
-    | inl e ↦ inr (ap (solid_of_loop N) e.1 ∙ ap (solid_of N) (face_row N (c.loop + 1) _ (get-put_other (table.put M.loops (c.loop + 1) _) (c.loop + 2) _ (c.loop + 1) (λ z. absurd (omega (arith, z))) ∙ get-put_here M.loops (c.loop + 1) _)) ∙ solid_row N (c.face + 1) first_face face_one)
+    | inl e ↦ inr (ap (solid_of_loop N) e.1 ∙ ap (solid_of N) (face_row N (c.loop + 1) _ (get-put_other (table.put M.loops (c.loop + 1) _) (c.loop + 2) _ (c.loop + 1) (λ z. absurd (omega (arith, z))) ∙ get-put_here M.loops (c.loop + 1) _)) ∙ solid_row N (c.face + 1) (rows.first_face M c s ps) (rows.face_one M c s ps))
     | inr m ↦ elim (eqb_tells q (c.loop + 2)) [
-      | inl e ↦ inr (ap (solid_of_loop N) e.1 ∙ ap (solid_of N) (face_row N (c.loop + 2) _ (get-put_here (table.put M.loops (c.loop + 1) _) (c.loop + 2) _)) ∙ solid_row N (c.face + 2) second_face face_two)
+      | inl e ↦ inr (ap (solid_of_loop N) e.1 ∙ ap (solid_of N) (face_row N (c.loop + 2) _ (rows.loop_two M c s ps)) ∙ solid_row N (c.face + 2) (rows.second_face M c s ps) (rows.face_two M c s ps))
       | inr n ↦ inl (two_kept M.loops c.loop _ _ q m.1 n.1)
     ]
   ]
@@ -163,7 +152,7 @@ module _ (M : Model) (s : ℕ) (ps : List Point) (sound : Sound M) (goes : lamin
   made = counted_more M N s (length ps) (length ps) 2 agree
       (points_size M.vertices (table.greatest M.vertices) ps (λ q a. none_above M.vertices q a) (length ps))
       (ring_size M.edges (table.greatest M.edges) (table.greatest M.vertices) (λ q a. none_above M.edges q a) (length ps) (fits M s ps goes).1)
-      (two_size M.faces (table.greatest M.faces) first_face second_face (λ q a. none_above M.faces q a))
+      (two_size M.faces (table.greatest M.faces) _ _ (λ q a. none_above M.faces q a))
       (two_size M.loops (table.greatest M.loops) _ _ (λ q a. none_above M.loops q a))
 
 told : (n : ℕ) → tally_of (0 + n) (0 + n) (0 + 2) 0 ≡ record { v = n; e = n; f = 2; r = 0; sum = pos 2 }

@@ -22,7 +22,7 @@ use Rattle.euler_laws.proofs.shared.Counted.{counted_once, all_where_has, all_wh
 use Rattle.euler_laws.proofs.shared.FirstWhere.{first_passes}
 use Rattle.euler_laws.proofs.shared.Listed.{listed_passes, all_where-rises, IsIn-from_listed, listed-from_in}
 use Rattle.euler_laws.proofs.shared.Rows.{loop_row}
-use Rattle.euler_laws.proofs.shared.Same.{one_solid_round}
+use Rattle.euler_laws.proofs.shared.Same.{one_solid_round, same_tail}
 use Rattle.shapes.specs.Faces.{loops_of, vertices_on, vertices_in, corners, corners_in, vertices_of}
 use Rattle.shapes.specs.Walks.{loops_in}
 use Rattle.shapes.proofs.walks.SolidFaces.{solid_loops, all_loops_apart, loop_in_solid, solid_has_loop}
@@ -30,7 +30,6 @@ use Rattle.solid_measure.specs.solid_counts.Counts.{rings_in, tally_of, counts}
 use Rattle.solid_measure.proofs.solid_counts_laws.HowMany.{equally_many}
 use Rattle.gluing_laws.proofs.Listed.{one_if}
 use Rattle.command_laws.proofs.OnFaces.{item_loop, vertex_cases, vertex_there}
-use Rattle.command_laws.proofs.Standing.{tail_same}
 
 -- ---- rows that pass a test on their numbers
 
@@ -275,7 +274,7 @@ module _ (M N : Model) (a b : ℕ → Bool) (w : Agree M N a b) where
       let l = loop_kept (loop_of M h) (loop_there M w.before h there) out in
       let row = w.edges h there out in
       let at : loop_of N h ≡ loop_of M h = w.after.one_loop h (loop_of M h) (ap (holds h) l.2 ∙ w.before.stands h there) in
-      (ap is_some row ∙ there, ap (λ q. b (solid_of_loop N q)) at ∙ l.1, at, tail_same M N h row)
+      (ap is_some row ∙ there, ap (λ q. b (solid_of_loop N q)) at ∙ l.1, at, same_tail M N h row)
 
   -- so the models agree the other way round too
   pub turned : Agree N M b a

@@ -26,16 +26,7 @@ use Rattle.command_laws.specs.NewFaces.{corner_points}
 use Rattle.command_laws.specs.Framed.{FacesStand}
 use Rattle.command_laws.specs.LeftAlone.{KeepsLoops, KeepsEdges, KeepsPoints, StandsAsBefore}
 use Rattle.command_laws.proofs.OnFaces.{item_loop}
-
--- ---- rows
-
-pub tail_same : (M N : Model) (h : ℕ) → table.get N.edges (edge_of h) ≡ table.get M.edges (edge_of h) → tail N h ≡ tail M h
-unfolding tail
-tail_same M N h e = ap (λ o. tail_in (unwrap_or o no_edge) (is_first h)) e
-
-point_same : (M N : Model) (v : ℕ) → table.get N.vertices v ≡ table.get M.vertices v → point_of N v ≡ point_of M v
-unfolding point_of
-point_same M N v e = ap (λ o. unwrap_or o no_point) e
+use Rattle.euler_laws.proofs.shared.Same.{same_tail, same_point}
 
 -- ---- rings
 
@@ -92,7 +83,7 @@ module _ (M N : Model) (Alone : ℕ → Type 0) (sound : Sound M) (loops : Keeps
     content_kept = same_content M N l (loops l (loop_in l i).0 left)
 
     vertex_kept : (v : ℕ) → IsIn v (vertices_on M (content M l)) → point_of N v ≡ point_of M v
-    vertex_kept v j = point_same M N v (points l v j left)
+    vertex_kept v j = same_point M N v (points l v j left)
 
     tail_on : (c : LoopContent) (h : ℕ) → IsIn h (items_of c) → IsIn (tail M h) (vertices_on M c)
     tail_on (lone v) h j = absurd (omega (arith, j))
@@ -106,10 +97,10 @@ module _ (M N : Model) (Alone : ℕ → Type 0) (sound : Sound M) (loops : Keeps
       of_left = subst Alone (sym (ap (face_of M) (item_loop M sound l h j))) left
 
       tail_kept : tail N h ≡ tail M h
-      tail_kept = tail_same M N h (edges h half of_left)
+      tail_kept = same_tail M N h (edges h half of_left)
 
       mate_kept : tail N (mate h) ≡ tail M (mate h)
-      mate_kept = tail_same M N (mate h) (ap (table.get N.edges) (edge_of-mate h) ∙ edges h half of_left ∙ sym (ap (table.get M.edges) (edge_of-mate h)))
+      mate_kept = same_tail M N (mate h) (ap (table.get N.edges) (edge_of-mate h) ∙ edges h half of_left ∙ sym (ap (table.get M.edges) (edge_of-mate h)))
 
       start_kept : start N h ≡ start M h
       start_kept = ap (point_of N) tail_kept ∙ vertex_kept (tail M h) (tail_on (content M l) h j)

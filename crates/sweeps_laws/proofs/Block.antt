@@ -38,7 +38,7 @@ block_is : (M : Model) (s : ℕ) (p : Point) (dx dy dz : ℤ) → block_model M 
 unfolding block_model lamina_model
 block_is M s p dx dy dz = refl
 
-lamina_is : (M : Model) (s : ℕ) (ps : List Point) → lamina_model M s ps ≡ lamina_at M (taken_in M) s ps
+pub lamina_is : (M : Model) (s : ℕ) (ps : List Point) → lamina_model M s ps ≡ lamina_at M (taken_in M) s ps
 unfolding lamina_model
 lamina_is M s ps = refl
 

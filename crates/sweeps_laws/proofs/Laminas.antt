@@ -1,14 +1,14 @@
 -- What was there before a lamina: other solids keep their six volumes.
 use Rattle.std.specs.Prelude.{length, get_or, ◌-◌}
-use Rattle.std.proofs.Common.{◌≡◌, ◌≢◌, ℕ, zero, suc, ◌+◌, ◌≤◌, ◌<◌, Bool, false, cond, not, nat_eq, ◌&&◌, List, [], ◌∷◌, ◌++◌, unwrap_or, refl, sym, ap, ◌∙◌, arith, append-nil}
+use Rattle.std.proofs.Common.{◌≡◌, ◌≢◌, ℕ, zero, suc, ◌+◌, ◌≤◌, ◌<◌, Bool, false, cond, not, nat_eq, ◌&&◌, List, [], ◌∷◌, ◌++◌, refl, sym, ap, ◌∙◌, arith, append-nil}
 use Rattle.std.proofs.lemmas.Bool.Decides.{nat_tests}
 use Rattle.std.proofs.lemmas.Bool.{ne_eqb}
 use Rattle.euler_operators.specs.declared.Point.{Point}
 use Rattle.euler_operators.specs.Vectors.{dot}
-use Rattle.euler_operators.specs.HalfEdge.{edge_of, is_first}
+use Rattle.euler_operators.specs.HalfEdge.{edge_of}
 use Rattle.euler_operators.specs.Table as table
 use Rattle.euler_operators.specs.Table.{Table}
-use Rattle.euler_operators.specs.Model.{Model, FaceRow, LoopRow, EdgeRow, no_edge, no_point, tail_in, items_of, content, outer, tail, point_of, rings_of, faces_of}
+use Rattle.euler_operators.specs.Model.{Model, FaceRow, LoopRow, EdgeRow, no_point, items_of, content, outer, point_of, rings_of, faces_of}
 use Rattle.euler_operators.proofs.Tables.{get-put_other}
 use Rattle.euler_operators.proofs.Models.{same_content, same_outer}
 use Rattle.shapes.specs.Faces.{items_in}
@@ -22,6 +22,7 @@ use Rattle.sweeps_laws.proofs.swept.Sides.{Keeps, start_kept, finish_kept}
 use Rattle.sweeps_laws.proofs.swept.Lifted.{Bounded}
 use Rattle.sweeps_laws.proofs.Loops.{normal_is, first_kept, loops_within}
 use Rattle.sweeps_laws.proofs.Volumes.{six_volume_is, face_within}
+use Rattle.euler_laws.proofs.shared.Same.{same_tail, same_point}
 
 -- ---- edges and vertices
 
@@ -38,14 +39,6 @@ ring_old t e v n q some l = get-put_other (with_path t e v (n - 1)) (e + n) (rec
 points_old : (t : Table Point) (v : ℕ) (ps : List Point) (j w : ℕ) → w ≤ v → table.get (with_points t v ps j) w ≡ table.get t w
 points_old t v ps zero w l = refl
 points_old t v ps (suc j) w l = get-put_other (with_points t v ps j) (v + suc j) (get_or ps j no_point) w (above w v (suc j) l (omega arith)) ∙ points_old t v ps j w l
-
-same_tail : (M N : Model) (h : ℕ) → table.get N.edges (edge_of h) ≡ table.get M.edges (edge_of h) → tail N h ≡ tail M h
-unfolding tail
-same_tail M N h e = ap (λ o. tail_in (unwrap_or o no_edge) (is_first h)) e
-
-same_point_of : (M N : Model) (w : ℕ) → table.get N.vertices w ≡ table.get M.vertices w → point_of N w ≡ point_of M w
-unfolding point_of
-same_point_of M N w e = ap (λ o. unwrap_or o no_point) e
 
 module _ (M : Model) (c : Taken) (s : ℕ) (ps : List Point) (some : 0 < length ps) where
   abbrev drawn : Model
@@ -66,7 +59,7 @@ module _ (M : Model) (c : Taken) (s : ℕ) (ps : List Point) (some : 0 < length 
   keeps_drawn : Keeps M drawn c.edge c.vertex
   keeps_drawn = record {
     tails = λ h l. same_tail M drawn h (ring_old M.edges c.edge c.vertex (length ps) (edge_of h) some l);
-    points = λ w l. same_point_of M drawn w (points_old M.vertices c.vertex ps (length ps) w l);
+    points = λ w l. same_point M drawn w (points_old M.vertices c.vertex ps (length ps) w l);
   }
 
   face_old : (k : ℕ) → k ≤ c.face → table.get drawn.faces k ≡ table.get M.faces k

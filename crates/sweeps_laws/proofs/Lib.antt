@@ -2,7 +2,7 @@ pub mod lamina
 pub mod prism
 pub mod swept
 mod Areas
-mod Loops
+pub mod Loops
 mod Volumes
 mod Whole
 pub mod FromSound

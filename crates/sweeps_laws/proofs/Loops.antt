@@ -20,7 +20,7 @@ use Rattle.euler_operators.proofs.Vectors.{dot_moved, add_assoc}
 use Rattle.euler_operators.proofs.Sweeps.{sum_to, moved_at, area_at, moved_ring, side_area, side_volume, Linked}
 use Rattle.euler_operators.proofs.Rotations.{IsIn_head}
 use Rattle.euler_operators.proofs.Halves.{mate_plus, mate_minus}
-use Rattle.sweeps_laws.proofs.swept.Numbers.{next_cases}
+use Rattle.sweeps_laws.proofs.swept.Numbers.{next_cases, at_most}
 use Rattle.shapes.proofs.Areas.{area_push}
 use Rattle.shapes.proofs.measures.Sums.{same_volumes, volume_of}
 use Rattle.sweeps_laws.proofs.Areas.{area_sum, same_area, same_loops}
@@ -58,12 +58,10 @@ pub loops_within : (M : Model) (c : Taken) → Bounded M c → (k q : ℕ) → l
 loops_within M c b k q i = elim (listed_cases (outer M k) q (rings_of M k) i) [
   | inl e ↦ subst (λ x. x ≤ c.loop) (sym e) (b.outers k)
   | inr i ↦ let p = listed_passes (λ l row. nat_eq row.face k && not (nat_eq (outer M k) l)) M.loops q i in at_most q (table.greatest M.loops) c.loop (at_most_greatest M.loops q (ap is_some p.1)) b.loops
-] where
-  at_most : (a b c : ℕ) → a ≤ b → b ≤ c → a ≤ c
-  at_most a b c m n = omega arith
+]
 
 -- a closed path of n steps keeps its area where it is moved
-ring_moved : (p q : ℕ → Point) (d : Point) (n : ℕ) → 0 < n → Linked p q d n → ((m : ℕ) → suc m ≡ n → q m ≡ p 0) → sum_to (moved_at p q d) n ≡ sum_to (area_at p q d) n
+pub ring_moved : (p q : ℕ → Point) (d : Point) (n : ℕ) → 0 < n → Linked p q d n → ((m : ℕ) → suc m ≡ n → q m ≡ p 0) → sum_to (moved_at p q d) n ≡ sum_to (area_at p q d) n
 ring_moved p q d zero l e c = absurd (omega arith)
 ring_moved p q d (suc n) l e c = moved_ring p q d n e (c n refl)
 

@@ -15,7 +15,7 @@ use Rattle.euler_operators.specs.Table as table
 use Rattle.euler_operators.specs.Table.{tables}
 use Rattle.euler_operators.specs.Model.{Model, LoopContent, lone, cycle, EdgeRow, items_of, holds, tail, loop_of, content, after, tail_in, no_edge}
 use Rattle.euler_operators.specs.Sound.{Sound, Has, HasHalf, StandsIn, IsTail, IsLoneAt}
-use Rattle.euler_operators.proofs.Halves.{mate_other, edge_of-mate, mate-mate, same_edge, edges_apart, mate_edge_apart}
+use Rattle.euler_operators.proofs.Halves.{mate_other, edge_of-mate, mate-mate, edges_apart, mate_edge_apart}
 use Rattle.euler_operators.proofs.Tables.{get-remove_here, get-remove_other, row_elsewhere}
 use Rattle.euler_operators.proofs.Models.{in-holds, holds_in, holds-none, cycle_there, mate_there}
 use Rattle.euler_operators.proofs.Tests.{or_true}

@@ -1,5 +1,5 @@
 -- A model without one edge: its half-edges, the fans of its vertices, and what stands at them.
-use Rattle.std.proofs.Common.{◌≡◌, ◌≢◌, ℕ, ◌+◌, List, None, unwrap_or, is_some, refl, sym, ap, ◌∙◌, subst, arith, ◌⊎◌, inl, inr}
+use Rattle.std.proofs.Common.{◌≡◌, ◌≢◌, ℕ, ◌+◌, List, None, is_some, refl, sym, ap, ◌∙◌, subst, arith, ◌⊎◌, inl, inr}
 use Rattle.std.proofs.lemmas.Bool.Decides.{eqb_tells}
 use Rattle.euler_operators.specs.Items.{count, tick, IsIn}
 use Rattle.euler_operators.specs.Rings.{IsRing, rest}
@@ -8,9 +8,9 @@ use Rattle.euler_operators.proofs.Leads.{IsRing-redirect_other, IsRing-splice_ot
 use Rattle.euler_operators.proofs.Lists.{tick_same, tick_other}
 use Rattle.euler_operators.proofs.Rotations.{count-canonical}
 use Rattle.euler_operators.proofs.Rings.{count_at}
-use Rattle.euler_operators.specs.HalfEdge.{mate, edge_of, is_first}
+use Rattle.euler_operators.specs.HalfEdge.{mate, edge_of}
 use Rattle.euler_operators.specs.Table as table
-use Rattle.euler_operators.specs.Model.{Model, lone, tail, tail_in, no_edge, content, after, round}
+use Rattle.euler_operators.specs.Model.{Model, lone, tail, content, after, round}
 use Rattle.euler_operators.specs.Sound.{Sound, Has, HasHalf, IsTail, IsLoneAt}
 use Rattle.euler_operators.proofs.Halves.{edge_of-mate, mate-mate, same_edge, edges_apart, mate_edge_apart}
 use Rattle.euler_operators.proofs.Models.{mate_there}
@@ -18,6 +18,7 @@ use Rattle.euler_operators.proofs.Tables.{get-remove_here, get-remove_other, row
 use Rattle.euler_laws.proofs.shared.Fans.{Fan, fan_of, half_after, fixed_reaches, none_in_fan}
 use Rattle.euler_laws.proofs.shared.Arcs.{fan_kef_first, fan_kef_second, fan_kef_other}
 use Rattle.euler_laws.proofs.shared.Parts.{VerticesHold}
+use Rattle.euler_laws.proofs.shared.Same.{same_tail}
 
 -- another half-edge than h and its mate is of another edge, and back
 pub other_edge : (x h : ℕ) → x ≢ h → x ≢ mate h → edge_of x ≢ edge_of h
@@ -75,8 +76,7 @@ module _ {M N : Model} {h : ℕ} (less : OneLess M N h) where
   half_cases = half_was goes
 
   pub tail_old : (x : ℕ) → edge_of x ≢ edge_of h → tail N x ≡ tail M x
-  unfolding tail
-  tail_old x a = ap (λ o. tail_in (unwrap_or o no_edge) (is_first x)) (edge_other (edge_of x) a)
+  tail_old x a = same_tail M N x (edge_other (edge_of x) a)
 
   -- a fan without one of its half-edges
   pub fan_less : (next F : ℕ → ℕ) (t x : ℕ) (g : Fan next M t) → IsIn x g.items → edge_of x ≡ edge_of h → ((y : ℕ) → IsIn y g.items → y ≢ x → edge_of y ≢ edge_of h) → IsRing (λ y. F (mate y)) (take_ring x g.items) → Fan F N t

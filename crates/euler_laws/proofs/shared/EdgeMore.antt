@@ -1,5 +1,5 @@
 -- A model with one edge more: its half-edges, the fans of its vertices, and what stands at them.
-use Rattle.std.proofs.Common.{◌≡◌, ◌≢◌, ℕ, ◌+◌, List, [], ◌∷◌, Some, None, unwrap_or, is_some, refl, sym, ap, ◌∙◌, subst, arith, ◌⊎◌, inl, inr}
+use Rattle.std.proofs.Common.{◌≡◌, ◌≢◌, ℕ, ◌+◌, List, [], ◌∷◌, Some, None, is_some, refl, sym, ap, ◌∙◌, subst, arith, ◌⊎◌, inl, inr}
 use Rattle.std.proofs.lemmas.Bool.Decides.{eqb_tells}
 use Rattle.euler_operators.specs.Items.{count, tick, IsIn}
 use Rattle.euler_operators.specs.Rings.{IsRing, rotate_to}
@@ -7,9 +7,9 @@ use Rattle.euler_operators.specs.Operators.{put_ring, after_mef}
 use Rattle.euler_operators.proofs.Leads.{IsRing-led_over_other, IsRing-splice_other}
 use Rattle.euler_operators.proofs.Lists.{tick_same, tick_other, tick_le, IsIn_or_not}
 use Rattle.euler_operators.proofs.Rotations.{count-canonical, count-rotate_to}
-use Rattle.euler_operators.specs.HalfEdge.{mate, edge_of, is_first}
+use Rattle.euler_operators.specs.HalfEdge.{mate, edge_of}
 use Rattle.euler_operators.specs.Table as table
-use Rattle.euler_operators.specs.Model.{Model, lone, tail, tail_in, no_edge, after}
+use Rattle.euler_operators.specs.Model.{Model, lone, tail, after}
 use Rattle.euler_operators.specs.Sound.{Sound, Has, HasHalf, IsTail, IsLoneAt}
 use Rattle.euler_operators.proofs.Halves.{edge_of-mate, same_edge, mate-mate}
 use Rattle.euler_operators.proofs.Models.{tail_row, mate_there}
@@ -19,6 +19,7 @@ use Rattle.euler_laws.proofs.shared.Fans.{Fan, fan_of}
 use Rattle.euler_laws.proofs.shared.Arcs.{fan_mef_first, fan_mef_second, fan_mef_other}
 use Rattle.euler_laws.proofs.shared.Rows.{tail_first, tail_second}
 use Rattle.euler_laws.proofs.shared.Parts.{VerticesHold}
+use Rattle.euler_laws.proofs.shared.Same.{same_tail}
 
 -- what isn't of a fan doesn't stand in it
 pub not_in_fan : (next : ℕ → ℕ) (M : Model) (t : ℕ) (g : Fan next M t) (x : ℕ) → (HasHalf M x → tail M x ≢ t) → count x g.items ≡ 0
@@ -91,8 +92,7 @@ module _ {M N : Model} {h u w : ℕ} (more : OneMore M N h u w) where
   }
 
   pub tail_old : (x : ℕ) → HasHalf M x → tail N x ≡ tail M x
-  unfolding tail
-  tail_old x there = ap (λ o. tail_in (unwrap_or o no_edge) (is_first x)) (edge_other (edge_of x) (edge_apart comes x there))
+  tail_old x there = same_tail M N x (edge_other (edge_of x) (edge_apart comes x there))
 
   -- of the half-edges that start at t, x alone is new
   abbrev pub StartsAt : ℕ → ℕ → Type 0

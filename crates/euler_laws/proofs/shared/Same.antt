@@ -3,10 +3,11 @@ use Rattle.std.proofs.Common.{◌≡◌, ℕ, [], Option, Some, None, is_some, u
 use Rattle.std.specs.Option.{option_map}
 use Rattle.euler_operators.specs.Table as table
 use Rattle.euler_operators.specs.Table.{Table, same_table, map_rows, get-map_rows}
-use Rattle.euler_operators.specs.Model.{Model, LoopContent, cycle, LoopRow, no_loop, content, face_of, solid_of, loop_of, tail}
+use Rattle.euler_operators.specs.Model.{Model, LoopContent, cycle, LoopRow, no_loop, content, face_of, solid_of, loop_of, tail, tail_in, no_edge, no_point, point_of}
 use Rattle.euler_operators.specs.Sound.{Sound, HasHalf}
 use Rattle.euler_operators.proofs.Models.{same_solid}
 use Rattle.euler_laws.proofs.shared.Fans.{loop_after, kept_round}
+use Rattle.euler_operators.specs.HalfEdge.{edge_of, is_first}
 
 pub map_twice : {X : Type 0} (f g : ℕ → X → X) (t : Table X) → map_rows f (map_rows g t) ≡ map_rows (λ q x. f q (g q x)) t
 map_twice {X = X} f g t = same_table _ _ (λ q. get-map_rows f (map_rows g t) q ∙ ap (option_map (f q)) (get-map_rows g t q) ∙ on (table.get t q) q ∙ sym (get-map_rows (λ q x. f q (g q x)) t q)) where
@@ -17,6 +18,15 @@ map_twice {X = X} f g t = same_table _ _ (λ q. get-map_rows f (map_rows g t) q 
 pub mapped_some : {X : Type 0} (f : X → X) (o : Option X) → is_some (option_map f o) ≡ is_some o
 mapped_some f None = refl
 mapped_some f (Some x) = refl
+
+-- where its row is as it was, a half-edge starts where it did, and a vertex has its point
+pub same_tail : (M N : Model) (h : ℕ) → table.get N.edges (edge_of h) ≡ table.get M.edges (edge_of h) → tail N h ≡ tail M h
+unfolding tail
+same_tail M N h e = ap (λ o. tail_in (unwrap_or o no_edge) (is_first h)) e
+
+pub same_point : (M N : Model) (v : ℕ) → table.get N.vertices v ≡ table.get M.vertices v → point_of N v ≡ point_of M v
+unfolding point_of
+same_point M N v e = ap (λ o. unwrap_or o no_point) e
 
 -- each loop keeps its face, and its content is rewritten
 pub record Rewritten (M N : Model) (new : LoopContent → LoopContent) : Type 0 where

@@ -46,8 +46,9 @@ use Rattle.shapes.proofs.glue.Renamings.{renamed_more}
 use Rattle.shapes.proofs.glue.Swapped.{map_agree, map_removed}
 use Rattle.shapes.proofs.glue.Facing as facing
 use Rattle.shapes.proofs.glue.Facing.{Facing}
-use Rattle.gluing_laws.proofs.glue.Round.{out_edge, out_here, out_none, same_edge_row}
+use Rattle.gluing_laws.proofs.glue.Round.{out_edge, out_here, out_none}
 use Rattle.euler_laws.proofs.shared.KnownLoop.{Around, half_is, loop_is, cycle_is, apart_xs}
+use Rattle.euler_laws.proofs.shared.Same.{same_tail}
 
 same_items : (cs : List ℕ) → map (renamed []) cs ≡ cs
 same_items [] = refl
@@ -191,7 +192,7 @@ module _ (M : Model) (f g : ℕ) (partner_of : ℕ → ℕ) (h : ℕ) (mid : Lis
   around_r = record { sound = sound_A; at = get-put_here M.loops r row_r ∙ ap (λ q. Some (record { face = f; content = cycle (canonical q) })) rs_are }
 
   tail_A : (y : ℕ) → tail A y ≡ tail M y
-  tail_A y = same_edge_row A M y refl
+  tail_A y = same_tail M A y refl
 
   first_corner : CornerAt A (At (half h)) l (tail M h) hs
   first_corner = corner_here A sound_A hs l (tail M h) (content_row A l _ around_l.at) (ap is_some around_l.at) (apart_xs A l f hs around_l)
@@ -309,8 +310,8 @@ module _ (M : Model) (f g : ℕ) (partner_of : ℕ → ℕ) (h : ℕ) (mid : Lis
         let other : edge_of y ≢ x = λ e. ne (e ∙ sym (plus_row x).0) in
         let other_m : edge_of (mate y) ≢ x = λ e. other (sym (edge_of-mate y) ∙ e) in
         let y_M : HasHalf M y = ap is_some (sym (B_other y other)) ∙ there in
-        let at_h : tail M h ≡ tail M y = sym B_plus ∙ sym a ∙ same_edge_row B M y (B_other y other) in
-        let at_k : tail M k ≡ tail M (mate y) = sym B_minus ∙ ap (tail B) (sym (mate_plus x)) ∙ sym b ∙ same_edge_row B M (mate y) (B_other (mate y) other_m) in
+        let at_h : tail M h ≡ tail M y = sym B_plus ∙ sym a ∙ same_tail M B y (B_other y other) in
+        let at_k : tail M k ≡ tail M (mate y) = sym B_minus ∙ ap (tail B) (sym (mate_plus x)) ∙ sym b ∙ same_tail M B (mate y) (B_other (mate y) other_m) in
         w.solids_apart (sym (facing.side_f M f g partner_of hs x w h h_in)
         ∙ sym (facing.side_vertex M f g partner_of hs x w h y (facing.half_f M f g partner_of hs x w h h_in) y_M at_h)
         ∙ sym (facing.side_mate M f g partner_of hs x w y y_M)

@@ -8,10 +8,10 @@ use Rattle.euler_operators.proofs.Lists.{count-append, tick_same, tick_other}
 use Rattle.euler_operators.proofs.Rotations.{canonical-rotates, count-canonical, rest_same, rest_head, rest_at, IsApart-canonical}
 use Rattle.euler_operators.proofs.Cuts.{rest_canonical}
 use Rattle.euler_operators.proofs.Edits.{without_none}
-use Rattle.euler_operators.specs.HalfEdge.{edge_of, is_first, plus, minus, mate, half}
+use Rattle.euler_operators.specs.HalfEdge.{edge_of, plus, minus, mate, half}
 use Rattle.euler_operators.specs.Table as table
 use Rattle.euler_operators.specs.Table.{Table, tables, same_table, get-map_rows}
-use Rattle.euler_operators.specs.Model.{Model, EdgeRow, LoopRow, LoopContent, cycle, items_of, holds, tail, tail_in, no_edge, no_loop, no_face, loop_of, content, face_of, solid_of, outer, cycle_of, after, is_number}
+use Rattle.euler_operators.specs.Model.{Model, EdgeRow, LoopRow, LoopContent, cycle, items_of, holds, tail, tail_in, no_loop, no_face, loop_of, content, face_of, solid_of, outer, cycle_of, after, is_number}
 use Rattle.euler_operators.specs.Sound.{Sound, HasHalf, Has}
 use Rattle.euler_operators.proofs.Halves.{plus_row, minus_row, code-half, mate-mate, edge_of-mate, mate_minus}
 use Rattle.euler_operators.proofs.Tables.{map-put, map_same, remove-put, get-put_here, get-put_other}
@@ -23,7 +23,7 @@ use Rattle.euler_operators.specs.Effect.{effect, kev, kef, moved_tail, cycle_or_
 use Rattle.euler_laws.proofs.shared.Undo.{taken_out}
 use Rattle.euler_laws.proofs.shared.Loops.{count_out}
 use Rattle.euler_laws.proofs.shared.Fans.{loop_after}
-use Rattle.euler_laws.proofs.shared.Same.{mapped_some}
+use Rattle.euler_laws.proofs.shared.Same.{mapped_some, same_tail}
 use Rattle.euler_laws.proofs.kev.MevUndo.{as_cycle}
 use Rattle.euler_laws.proofs.kev.KevSound.{KevGoes}
 use Rattle.euler_laws.proofs.kev.Kev.{kev_accepted}
@@ -57,10 +57,6 @@ out_none e m v q row a b = ap (λ t. cond t (record row { content = cycle_or_lon
 pub same_loop_row : (A N : Model) (q : ℕ) → table.get A.loops q ≡ table.get N.loops q → (content A q ≡ content N q) × (face_of A q ≡ face_of N q)
 unfolding content face_of
 same_loop_row A N q e = (ap (λ o. (unwrap_or o no_loop).content) e, ap (λ o. (unwrap_or o no_loop).face) e)
-
-pub same_edge_row : (A N : Model) (y : ℕ) → table.get A.edges (edge_of y) ≡ table.get N.edges (edge_of y) → tail A y ≡ tail N y
-unfolding tail
-same_edge_row A N y e = ap (λ o. tail_in (unwrap_or o no_edge) (is_first y)) e
 
 -- what is asked of the loop `g h k qs`, so that g and h are closed: x, s and r are free
 pub record Closes (N : Model) (l f g h k : ℕ) (qs : List ℕ) (x s r : ℕ) : Type 0 where
@@ -149,8 +145,8 @@ module _ {N : Model} {l f g h k : ℕ} {qs : List ℕ} {x s r : ℕ} (c : Closes
     no_parallel = λ y there ne t u.
         let other : edge_of y ≢ x = λ e. ne (e ∙ sym edge_minus) in
         let in_N : HasHalf N y = ap is_some (sym (A_other y other)) ∙ there in
-        c.no_parallel y in_N (sym (same_edge_row A N y (A_other y other)) ∙ t ∙ A_minus)
-        (sym (same_edge_row A N (mate y) (A_other (mate y) (λ e. other (sym (edge_of-mate y) ∙ e)))) ∙ u ∙ ap (tail A) (mate_minus x) ∙ A_plus);
+        c.no_parallel y in_N (sym (same_tail N A y (A_other y other)) ∙ t ∙ A_minus)
+        (sym (same_tail N A (mate y) (A_other (mate y) (λ e. other (sym (edge_of-mate y) ∙ e)))) ∙ u ∙ ap (tail A) (mate_minus x) ∙ A_plus);
     not_bare = λ e.
         let t : HasHalf A (plus x) = half_is A l f (plus x ∷ k ∷ qs) around_l (plus x) plus_in in
         absurd (l_r (sym (loop_is A l f (plus x ∷ k ∷ qs) around_l (plus x) plus_in) ∙ sym (loop_after A sound_A (plus x) t)

@@ -20,7 +20,7 @@ use Rattle.shapes.specs.glue.Glue.{renamed_tails}
 use Rattle.shapes.specs.glue.Part.{paired, seam, glued_part}
 use Rattle.shapes.proofs.glue.Renamings.{renamed_not, without_there, without_gone}
 use Rattle.shapes.proofs.glue.Facing as facing
-use Rattle.shapes.proofs.glue.Facing.{Facing, side}
+use Rattle.shapes.proofs.glue.Facing.{Facing}
 
 -- some items are glued, the others aren't yet; last is the last item
 pub record Stage (M : Model) (f g : ℕ) (partner_of : ℕ → ℕ) (hs : List ℕ) (x last : ℕ) (done more : List ℕ) : Type 0 where

@@ -16,7 +16,7 @@ use Rattle.shapes.specs.Fresh.{Taken}
 use Rattle.shapes.specs.Prism.{riser, top_edge, top_items, next_place}
 use Rattle.shapes.proofs.fresh.Rows.{at_most_greatest}
 use Rattle.sweeps_laws.proofs.swept.Filled.{place_cases, filled_greatest}
-use Rattle.sweeps_laws.proofs.swept.Numbers.{next_within, riser_most, top_most}
+use Rattle.sweeps_laws.proofs.swept.Numbers.{next_within, riser_most, top_most, at_most}
 use Rattle.sweeps_laws.proofs.swept.Sides.{start_kept, finish_kept, grown, item, side_face, side_items, side_loop, side_riser, side_top, faces_grown, edges_step}
 use Rattle.sweeps_laws.proofs.swept.Lifted.{Bounded, IsPathOf, swept, tail_lifted, keeps_swept, face_old, face_past, outer_new, loop_old, within, face_of_old, face_of_new, face_of_past, content_here, content_old, content_past, content_new, loops_are, outer_old}
 
@@ -167,9 +167,7 @@ module _ {M : Model} {c : Taken} (s : ℕ) (d : Point) {hs : List ℕ} {f l : �
   -- the swept face stays, with its solid and its outer loop
   module _ (there : Has M.faces f) where
     old_face : f ≤ c.face
-    old_face = at_most f (table.greatest M.faces) c.face (at_most_greatest M.faces f there) b.faces where
-      at_most : (a b c : ℕ) → a ≤ b → b ≤ c → a ≤ c
-      at_most a b c m n = omega arith
+    old_face = at_most f (table.greatest M.faces) c.face (at_most_greatest M.faces f there) b.faces
 
     pub there_after : Has after.faces f
     there_after = ap is_some (face_old M c s d hs f l f old_face) ∙ there

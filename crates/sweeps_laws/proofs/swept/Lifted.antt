@@ -21,7 +21,7 @@ use Rattle.shapes.specs.Fresh.{Taken}
 use Rattle.shapes.specs.Prism.{riser, top_edge, top_items, next_place, lifted}
 use Rattle.shapes.proofs.fresh.Rows.{at_most_greatest}
 use Rattle.sweeps_laws.proofs.swept.Filled.{place_cases, filled, filled_old, filled_new, filled_past, filled_none, same_search}
-use Rattle.sweeps_laws.proofs.swept.Numbers.{riser_above, top_above, next_within}
+use Rattle.sweeps_laws.proofs.swept.Numbers.{riser_above, top_above, next_within, at_most}
 use Rattle.sweeps_laws.proofs.swept.Sides.{Keeps, start_kept, finish_kept, grown, item, side_face, side_items, side_loop, faces_grown, loops_grown, keeps_grown, riser_row, top_row, point_grown}
 
 -- a model's numbers lie within the counters, and an outer loop is of its face
@@ -110,9 +110,7 @@ module _ (M : Model) (c : Taken) (s : ℕ) (d : Point) (hs : List ℕ) (f l : �
 
   module _ (b : Bounded M c) (r : IsPathOf M f l hs) where
     pub within : l ≤ c.loop
-    within = at_most l (table.greatest M.loops) c.loop (at_most_greatest M.loops l r.there) b.loops where
-      at_most : (a b c : ℕ) → a ≤ b → b ≤ c → a ≤ c
-      at_most a b c m n = omega arith
+    within = at_most l (table.greatest M.loops) c.loop (at_most_greatest M.loops l r.there) b.loops
 
     pub new_apart : (i : ℕ) → c.loop + 1 + i ≢ l
     new_apart i e = absurd (omega (arith, within))

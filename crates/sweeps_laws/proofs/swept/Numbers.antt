@@ -60,3 +60,6 @@ riser_no_top e n i j l m s = elim (riser_cases e i) [
 -- ---- the halves of an edge
 
 -- ---- tests
+
+pub at_most : (a b c : ℕ) → a ≤ b → b ≤ c → a ≤ c
+at_most a b c m n = omega arith

@@ -1,12 +1,12 @@
 -- The tables of a model to which the sides over some items have been added.
-use Rattle.std.proofs.Common.{◌≡◌, ◌≢◌, ℕ, zero, suc, ◌+◌, ◌≤◌, ◌<◌, List, [], ◌∷◌, length, get_or, Some, unwrap_or, refl, sym, ap, subst, ◌∙◌, arith, inl, inr}
+use Rattle.std.proofs.Common.{◌≡◌, ◌≢◌, ℕ, zero, suc, ◌+◌, ◌≤◌, ◌<◌, List, [], ◌∷◌, length, get_or, Some, refl, sym, ap, subst, ◌∙◌, arith, inl, inr}
 use Rattle.std.proofs.lemmas.Bool.Decides.{eqb_tells}
 use Rattle.euler_operators.specs.declared.Point.{Point}
 use Rattle.euler_operators.specs.Vectors.{moved}
 use Rattle.euler_operators.specs.Rings.{canonical}
-use Rattle.euler_operators.specs.HalfEdge.{mate, edge_of, is_first, plus, minus}
+use Rattle.euler_operators.specs.HalfEdge.{mate, edge_of, plus, minus}
 use Rattle.euler_operators.specs.Table as table
-use Rattle.euler_operators.specs.Model.{Model, cycle, FaceRow, LoopRow, EdgeRow, no_edge, no_point, tail, tail_in, point_of}
+use Rattle.euler_operators.specs.Model.{Model, cycle, FaceRow, LoopRow, EdgeRow, tail, point_of}
 use Rattle.euler_operators.proofs.Halves.{edge_of-mate}
 use Rattle.euler_operators.proofs.Models.{point_row}
 use Rattle.euler_operators.proofs.Tables.{get-put_here, get-put_other}
@@ -16,6 +16,7 @@ use Rattle.shapes.specs.Fresh.{Taken}
 use Rattle.shapes.specs.Prism.{riser, top_edge, next_place, with_side, with_sides}
 use Rattle.sweeps_laws.proofs.swept.Filled.{filled, filled_old, filled_new}
 use Rattle.sweeps_laws.proofs.swept.Numbers.{riser_above, top_above, riser_apart, top_apart, riser_no_top}
+use Rattle.euler_laws.proofs.shared.Same.{same_tail, same_point}
 
 -- edges up to e and vertices up to v answer as they did
 pub record Keeps (M N : Model) (e v : ℕ) : Type 0 where
@@ -96,19 +97,11 @@ module _ (M : Model) (c : Taken) (s : ℕ) (d : Point) (hs : List ℕ) where
   vertices_kept : (n w : ℕ) → w ≤ c.vertex → table.get (grown n).vertices w ≡ table.get M.vertices w
   vertices_kept n w l = ap (λ t. table.get t w) (vertices_grown n) ∙ filled_old M.vertices c.vertex side_point n w l
 
-  same_tail : (n h : ℕ) → table.get (grown n).edges (edge_of h) ≡ table.get M.edges (edge_of h) → tail (grown n) h ≡ tail M h
-  unfolding tail
-  same_tail n h e = ap (λ o. tail_in (unwrap_or o no_edge) (is_first h)) e
-
-  same_place : (n w : ℕ) → table.get (grown n).vertices w ≡ table.get M.vertices w → point_of (grown n) w ≡ point_of M w
-  unfolding point_of
-  same_place n w e = ap (λ o. unwrap_or o no_point) e
-
   -- what was there before is kept
   pub keeps_grown : (n : ℕ) → n ≤ length hs → Keeps M (grown n) c.edge c.vertex
   keeps_grown n m = record {
-    tails = λ h l. same_tail n h (edges_kept n (edge_of h) m l);
-    points = λ w l. same_place n w (vertices_kept n w l);
+    tails = λ h l. same_tail M (grown n) h (edges_kept n (edge_of h) m l);
+    points = λ w l. same_point M (grown n) w (vertices_kept n w l);
   }
 
   riser_grown : (n i : ℕ) → n ≤ length hs → i < n → table.get (grown n).edges (riser c.edge i) ≡ Some (side_riser i)
