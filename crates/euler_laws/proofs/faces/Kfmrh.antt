@@ -76,6 +76,12 @@ module _ (M : Model) (sound : Sound M) (f g : ℕ) (goes : KillGoes M f g) where
   face_back : (p : ℕ) → Has N.faces p → Has M.faces p
   face_back p t = has_back kill_set.rows p (not_g p t) t
 
+  pub kill_solid : (p : ℕ) → p ≢ g → solid_of N p ≡ solid_of M p
+  kill_solid = solid_other kill_set
+
+  pub kill_outer : (p : ℕ) → p ≢ g → outer N p ≡ outer M p
+  kill_outer = outer_other kill_set
+
   not_face_g : (q : ℕ) → Has M.loops q → q ≢ l → face_of M q ≢ g
   not_face_g q t a e = a (sym (goes.no_rings q t e))
 
@@ -84,8 +90,8 @@ module _ (M : Model) (sound : Sound M) (f g : ℕ) (goes : KillGoes M f g) where
 
   kill_solid_at : (q : ℕ) → Has M.loops q → solid_at N q ≡ solid_at M q
   kill_solid_at q t = elim (eqb_tells q l) [
-    | inl e ↦ ap (λ y. solid_of N (face_of N y)) e.1 ∙ ap (solid_of N) kill_face_l ∙ solid_other kill_set f goes.apart ∙ goes.one_solid ∙ ap (solid_of M) (sym l_face) ∙ sym (ap (λ y. solid_of M (face_of M y)) e.1)
-    | inr e ↦ ap (solid_of N) (kill_face_else q e.1) ∙ solid_other kill_set (face_of M q) (not_face_g q t e.1)
+    | inl e ↦ ap (λ y. solid_of N (face_of N y)) e.1 ∙ ap (solid_of N) kill_face_l ∙ kill_solid f goes.apart ∙ goes.one_solid ∙ ap (solid_of M) (sym l_face) ∙ sym (ap (λ y. solid_of M (face_of M y)) e.1)
+    | inr e ↦ ap (solid_of N) (kill_face_else q e.1) ∙ kill_solid (face_of M q) (not_face_g q t e.1)
   ]
 
   pub sound-kfmrh : Sound N
@@ -96,11 +102,11 @@ module _ (M : Model) (sound : Sound M) (f g : ℕ) (goes : KillGoes M f g) where
       | inr e ↦ subst (Has N.faces) (sym (kill_face_else q e.1)) (has_on kill_set.rows _ (not_face_g q t e.1) (sound.loops_of_faces q t))
     ];
     outers_there = λ p t. let o = sound.outers_there p (face_back p t) in let a = not_g p t in
-        (subst (Has M.loops) (sym (outer_other kill_set p a)) o.0, ap (face_of N) (outer_other kill_set p a) ∙ kill_face_else (outer M p) (not_outer p (face_back p t) a) ∙ o.1);
-    faces_of_solids = λ p t. subst (Has M.solids) (sym (solid_other kill_set p (not_g p t))) (sound.faces_of_solids p (face_back p t));
+        (subst (Has M.loops) (sym (kill_outer p a)) o.0, ap (face_of N) (kill_outer p a) ∙ kill_face_else (outer M p) (not_outer p (face_back p t) a) ∙ o.1);
+    faces_of_solids = λ p t. subst (Has M.solids) (sym (kill_solid p (not_g p t))) (sound.faces_of_solids p (face_back p t));
     solid_has_face = λ s t. let x = sound.solid_has_face s t in elim (eqb_tells x.0 g) [
-      | inl e ↦ (f, has_on kill_set.rows f goes.apart goes.f_there, solid_other kill_set f goes.apart ∙ goes.one_solid ∙ ap (solid_of M) (sym e.1) ∙ x.2)
-      | inr e ↦ (x.0, has_on kill_set.rows x.0 e.1 x.1, solid_other kill_set x.0 e.1 ∙ x.2)
+      | inl e ↦ (f, has_on kill_set.rows f goes.apart goes.f_there, kill_solid f goes.apart ∙ goes.one_solid ∙ ap (solid_of M) (sym e.1) ∙ x.2)
+      | inr e ↦ (x.0, has_on kill_set.rows x.0 e.1 x.1, kill_solid x.0 e.1 ∙ x.2)
     ];
     one_solid = λ x t. kill_solid_at (loop_of M x) (ap is_some (row_of M sound x t)) ∙ sound.one_solid x t ∙ sym (kill_solid_at (loop_of M (mate x)) (ap is_some (row_of M sound (mate x) (mate_there M x t))));
     solids_fit = sound.solids_fit;
@@ -111,7 +117,7 @@ module _ (M : Model) (sound : Sound M) (f g : ℕ) (goes : KillGoes M f g) where
   make_goes = record {
     l_there = kill_same.loops l ∙ l_there;
     face_free = g_gone;
-    is_ring = λ e. not_outer f goes.f_there goes.apart (sym (outer_other kill_set f goes.apart) ∙ ap (outer N) (sym kill_face_l) ∙ e);
+    is_ring = λ e. not_outer f goes.f_there goes.apart (sym (kill_outer f goes.apart) ∙ ap (outer N) (sym kill_face_l) ∙ e);
     face_fits = sound.faces_fit g goes.g_there;
   }
 
@@ -224,7 +230,7 @@ module _ (M : Model) (sound : Sound M) (f g : ℕ) (goes : KillGoes M f g) where
 
   b_faces : B.faces ≡ M.faces
   b_faces =
-      let s : solid_of A (face_of A (outer M g)) ≡ solid_of M g = ap (solid_of A) (kill_face_l M sound f g goes) ∙ solid_other (kill_set M sound f g goes) f goes.apart ∙ goes.one_solid in
+      let s : solid_of A (face_of A (outer M g)) ≡ solid_of M g = ap (solid_of A) (kill_face_l M sound f g goes) ∙ kill_solid M sound f g goes f goes.apart ∙ goes.one_solid in
       b_put (record { solid = solid_of M g; outer = outer M g }) (face_there M g goes.g_there) (λ i. record { solid = s i; outer = outer M g })
 
   pub mfkrh-kfmrh : mfkrh (kfmrh M f g) (outer M g) g ≡ M
