@@ -8,7 +8,7 @@ use Rattle.std.proofs.Math.Nat.{div-zero, zero-div, zero-mod}
 use Rattle.euler_operators.specs.declared.Point.{Point}
 use Rattle.euler_operators.specs.declared.Plane.{Plane}
 use Rattle.euler_operators.specs.Vectors.{origin, moved, cross, height, is_on, opposite, are_opposite, cut_multiple, cuts_lattice, cut_between}
-use Rattle.euler_operators.proofs.Integers.{dif, dif-parts, difs, neg-dif, same_dif, number}
+use Rattle.euler_operators.proofs.Integers.{dif-parts, difs, neg-dif, same_dif, number}
 use Rattle.euler_operators.proofs.Vectors.{same_vector, moved_none}
 use Rattle.euler_operators.proofs.Crossings.{opposite_apart, turned_difference}
 use Rattle.shapes.specs.Vectors.{scaled, towards}
@@ -21,45 +21,26 @@ whole t w e = none (int_div t w *ℤ w) (int_rem t w) t (quot-rem t w) ((signed_
   none : (a r t : ℤ) → a +ℤ r ≡ t → r ≡ pos 0 → a ≡ t
   none a r t e z = omega (arith, ints)
 
-spread_dif : (x p w x' p' w' : ℕ) → (dif x x' -ℤ dif p p') *ℤ dif w w' ≡ dif x x' *ℤ dif w w' -ℤ dif p p' *ℤ dif w w'
-spread_dif x p w x' p' w' = simp difs (same_dif _ _ _ _ (omega arith))
-
 pub spread : (x p w : ℤ) → (x -ℤ p) *ℤ w ≡ x *ℤ w -ℤ p *ℤ w
-spread x p w = rw (dif-parts x, dif-parts p, dif-parts w) (spread_dif _ _ _ _ _ _)
-
-rest_dif : (p q m n p' q' m' n' : ℕ) → (dif q q' *ℤ dif m m' -ℤ dif p p' *ℤ dif n n') -ℤ dif p p' *ℤ (dif m m' -ℤ dif n n') ≡ (dif q q' -ℤ dif p p') *ℤ dif m m'
-rest_dif p q m n p' q' m' n' = simp difs (same_dif _ _ _ _ (omega arith))
+spread x p w = rw (dif-parts x, dif-parts p, dif-parts w) (simp difs (same_dif _ _ _ _ (omega arith)))
 
 rest_part : (p q m n : ℤ) → (q *ℤ m -ℤ p *ℤ n) -ℤ p *ℤ (m -ℤ n) ≡ (q -ℤ p) *ℤ m
-rest_part p q m n = rw (dif-parts p, dif-parts q, dif-parts m, dif-parts n) (rest_dif _ _ _ _ _ _ _ _)
+rest_part p q m n = rw (dif-parts p, dif-parts q, dif-parts m, dif-parts n) (simp difs (same_dif _ _ _ _ (omega arith)))
 
 divided : (p q m n x : ℤ) → x *ℤ (m -ℤ n) ≡ q *ℤ m -ℤ p *ℤ n → (x -ℤ p) *ℤ (m -ℤ n) ≡ (q -ℤ p) *ℤ m
 divided p q m n x e = spread x p (m -ℤ n) ∙ ap (λ t. t -ℤ p *ℤ (m -ℤ n)) e ∙ rest_part p q m n
 
 -- ---- the height of the cut
 
-height_dif : (a b c d x y z w a' b' c' d' x' y' z' w' : ℕ) →
-    (dif a a' *ℤ dif x x' +ℤ dif b b' *ℤ dif y y' +ℤ dif c c' *ℤ dif z z' +ℤ dif d d') *ℤ dif w w'
-    ≡ dif a a' *ℤ (dif x x' *ℤ dif w w') +ℤ dif b b' *ℤ (dif y y' *ℤ dif w w') +ℤ dif c c' *ℤ (dif z z' *ℤ dif w w') +ℤ dif d d' *ℤ dif w w'
-height_dif a b c d x y z w a' b' c' d' x' y' z' w' = simp difs (same_dif _ _ _ _ (omega arith))
-
 height_part : (a b c d x y z w : ℤ) → (a *ℤ x +ℤ b *ℤ y +ℤ c *ℤ z +ℤ d) *ℤ w ≡ a *ℤ (x *ℤ w) +ℤ b *ℤ (y *ℤ w) +ℤ c *ℤ (z *ℤ w) +ℤ d *ℤ w
-height_part a b c d x y z w = rw (dif-parts a, dif-parts b, dif-parts c, dif-parts d, dif-parts x, dif-parts y, dif-parts z, dif-parts w) (height_dif _ _ _ _ _ _ _ _ _ _ _ _ _ _ _ _)
-
-share_dif : (a p q m n a' p' q' m' n' : ℕ) → dif a a' *ℤ (dif q q' *ℤ dif m m' -ℤ dif p p' *ℤ dif n n') ≡ (dif a a' *ℤ dif q q') *ℤ dif m m' -ℤ (dif a a' *ℤ dif p p') *ℤ dif n n'
-share_dif a p q m n a' p' q' m' n' = simp difs (same_dif _ _ _ _ (omega arith))
+height_part a b c d x y z w = rw (dif-parts a, dif-parts b, dif-parts c, dif-parts d, dif-parts x, dif-parts y, dif-parts z, dif-parts w) (simp difs (same_dif _ _ _ _ (omega arith)))
 
 share : (a p q m n : ℤ) → a *ℤ (q *ℤ m -ℤ p *ℤ n) ≡ (a *ℤ q) *ℤ m -ℤ (a *ℤ p) *ℤ n
-share a p q m n = rw (dif-parts a, dif-parts p, dif-parts q, dif-parts m, dif-parts n) (share_dif _ _ _ _ _ _ _ _ _ _)
-
-both_dif : (a b c d e f g m n a' b' c' d' e' f' g' m' n' : ℕ) →
-    (dif a a' *ℤ dif m m' -ℤ dif e e' *ℤ dif n n') +ℤ (dif b b' *ℤ dif m m' -ℤ dif f f' *ℤ dif n n') +ℤ (dif c c' *ℤ dif m m' -ℤ dif g g' *ℤ dif n n') +ℤ dif d d' *ℤ (dif m m' -ℤ dif n n')
-    ≡ (dif a a' +ℤ dif b b' +ℤ dif c c' +ℤ dif d d') *ℤ dif m m' -ℤ (dif e e' +ℤ dif f f' +ℤ dif g g' +ℤ dif d d') *ℤ dif n n'
-both_dif a b c d e f g m n a' b' c' d' e' f' g' m' n' = simp difs (same_dif _ _ _ _ (omega arith))
+share a p q m n = rw (dif-parts a, dif-parts p, dif-parts q, dif-parts m, dif-parts n) (simp difs (same_dif _ _ _ _ (omega arith)))
 
 both : (a b c d e f g m n : ℤ) →
     (a *ℤ m -ℤ e *ℤ n) +ℤ (b *ℤ m -ℤ f *ℤ n) +ℤ (c *ℤ m -ℤ g *ℤ n) +ℤ d *ℤ (m -ℤ n) ≡ (a +ℤ b +ℤ c +ℤ d) *ℤ m -ℤ (e +ℤ f +ℤ g +ℤ d) *ℤ n
-both a b c d e f g m n = rw (dif-parts a, dif-parts b, dif-parts c, dif-parts d, dif-parts e, dif-parts f, dif-parts g, dif-parts m, dif-parts n) (both_dif _ _ _ _ _ _ _ _ _ _ _ _ _ _ _ _ _ _)
+both a b c d e f g m n = rw (dif-parts a, dif-parts b, dif-parts c, dif-parts d, dif-parts e, dif-parts f, dif-parts g, dif-parts m, dif-parts n) (simp difs (same_dif _ _ _ _ (omega arith)))
 
 -- u and v are the heights of p and q over the plane
 height_at : (a b c d px py pz qx qy qz x y z m n u v : ℤ) → a *ℤ px +ℤ b *ℤ py +ℤ c *ℤ pz +ℤ d ≡ u → a *ℤ qx +ℤ b *ℤ qy +ℤ c *ℤ qz +ℤ d ≡ v →
@@ -70,17 +51,11 @@ height_at a b c d px py pz qx qy qz x y z m n u v at_p at_q ex ey ez = height_pa
     ∙ both (a *ℤ qx) (b *ℤ qy) (c *ℤ qz) d (a *ℤ px) (b *ℤ py) (c *ℤ pz) m n
     ∙ (λ i. at_q i *ℤ m -ℤ at_p i *ℤ n)
 
-cancel_dif : (m n m' n' : ℕ) → dif n n' *ℤ dif m m' -ℤ dif m m' *ℤ dif n n' ≡ dif 0 0
-cancel_dif m n m' n' = simp difs (same_dif _ _ _ _ (omega arith))
-
 cancel : (m n : ℤ) → n *ℤ m -ℤ m *ℤ n ≡ pos 0
-cancel m n = rw (dif-parts m, dif-parts n, number 0) (cancel_dif _ _ _ _)
-
-level_dif : (m n m' n' : ℕ) → dif 0 0 *ℤ dif m m' -ℤ dif 0 0 *ℤ dif n n' ≡ dif 0 0
-level_dif m n m' n' = simp difs (same_dif _ _ _ _ (omega arith))
+cancel m n = rw (dif-parts m, dif-parts n, number 0) (simp difs (same_dif _ _ _ _ (omega arith)))
 
 level_part : (m n z : ℤ) → z ≡ pos 0 → z *ℤ m -ℤ z *ℤ n ≡ z
-level_part m n z e = rw (dif-parts m, dif-parts n, e ∙ number 0) (level_dif _ _ _ _)
+level_part m n z e = rw (dif-parts m, dif-parts n, e ∙ number 0) (simp difs (same_dif _ _ _ _ (omega arith)))
 
 -- ---- heights of opposite signs
 
@@ -91,17 +66,11 @@ signs : (m n : ℤ) → opposite m n ≡ true →
     ((m ≡ pos (unsigned_abs m)) × (m -ℤ n ≡ pos (unsigned_abs m + unsigned_abs n))) ⊎ ((m ≡ neg_ℤ (pos (unsigned_abs m))) × (m -ℤ n ≡ neg_ℤ (pos (unsigned_abs m + unsigned_abs n))))
 signs m n e = grind (arith, ints)
 
-order_dif : (x w x' w' : ℕ) → dif x x' *ℤ dif w w' ≡ dif w w' *ℤ dif x x'
-order_dif x w x' w' = simp difs (same_dif _ _ _ _ (omega arith))
-
 order : (x w : ℤ) → x *ℤ w ≡ w *ℤ x
-order x w = rw (dif-parts x, dif-parts w) (order_dif _ _ _ _)
-
-turned_dif : (x w x' w' : ℕ) → dif x x' *ℤ neg_ℤ (dif w w') ≡ neg_ℤ (dif w w' *ℤ dif x x')
-turned_dif x w x' w' = simp (difs, neg-dif) (same_dif _ _ _ _ (omega arith))
+order x w = rw (dif-parts x, dif-parts w) (simp difs (same_dif _ _ _ _ (omega arith)))
 
 turned : (x w : ℤ) → x *ℤ neg_ℤ w ≡ neg_ℤ (w *ℤ x)
-turned x w = rw (dif-parts x, dif-parts w) (turned_dif _ _ _ _)
+turned x w = rw (dif-parts x, dif-parts w) (simp (difs, neg-dif) (same_dif _ _ _ _ (omega arith)))
 
 pub turned_back : (a b : ℤ) → neg_ℤ a ≡ neg_ℤ b → a ≡ b
 turned_back a b e = omega (arith, ints)
@@ -115,29 +84,18 @@ ratio m n d g o e = elim (signs m n o) [
 
 -- ---- a point of the line through p and q
 
-line_dif : (w a b c e w' a' b' c' e' : ℕ) → (dif a a' *ℤ dif c c' -ℤ dif b b' *ℤ dif e e') *ℤ dif w w' ≡ (dif w w' *ℤ dif a a') *ℤ dif c c' -ℤ (dif w w' *ℤ dif b b') *ℤ dif e e'
-line_dif w a b c e w' a' b' c' e' = simp difs (same_dif _ _ _ _ (omega arith))
-
 line_part : (w a b c e : ℤ) → (a *ℤ c -ℤ b *ℤ e) *ℤ w ≡ (w *ℤ a) *ℤ c -ℤ (w *ℤ b) *ℤ e
-line_part w a b c e = rw (dif-parts w, dif-parts a, dif-parts b, dif-parts c, dif-parts e) (line_dif _ _ _ _ _ _ _ _ _ _)
-
-same_line_dif : (k c e k' c' e' : ℕ) → (dif k k' *ℤ dif e e') *ℤ dif c c' -ℤ (dif k k' *ℤ dif c c') *ℤ dif e e' ≡ dif 0 0
-same_line_dif k c e k' c' e' = simp difs (same_dif _ _ _ _ (omega arith))
+line_part w a b c e = rw (dif-parts w, dif-parts a, dif-parts b, dif-parts c, dif-parts e) (simp difs (same_dif _ _ _ _ (omega arith)))
 
 same_line : (k c e : ℤ) → (k *ℤ e) *ℤ c -ℤ (k *ℤ c) *ℤ e ≡ pos 0
-same_line k c e = rw (dif-parts k, dif-parts c, dif-parts e, number 0) (same_line_dif _ _ _ _ _ _)
+same_line k c e = rw (dif-parts k, dif-parts c, dif-parts e, number 0) (simp difs (same_dif _ _ _ _ (omega arith)))
 
 along : (w k a b c e : ℤ) → w ≢ pos 0 → w *ℤ a ≡ k *ℤ e → w *ℤ b ≡ k *ℤ c → a *ℤ c -ℤ b *ℤ e ≡ pos 0
 along w k a b c e some ea eb = no_product w (a *ℤ c -ℤ b *ℤ e) (line_part w a b c e ∙ (λ i. ea i *ℤ c -ℤ eb i *ℤ e) ∙ same_line k c e) some
 
-through_dif : (a b e f h k a' b' e' f' h' k' : ℕ) →
-    (dif a a' *ℤ dif k k' -ℤ dif b b' *ℤ dif h h') +ℤ (dif h h' *ℤ dif f f' -ℤ dif k k' *ℤ dif e e')
-    ≡ (dif a a' *ℤ dif f f' -ℤ dif b b' *ℤ dif e e') +ℤ ((dif h h' -ℤ dif a a') *ℤ (dif f f' -ℤ dif b b') -ℤ (dif k k' -ℤ dif b b') *ℤ (dif e e' -ℤ dif a a'))
-through_dif a b e f h k a' b' e' f' h' k' = simp difs (same_dif _ _ _ _ (omega arith))
-
 -- from (a, b) over (h, k) to (e, f)
 through_part : (a b e f h k : ℤ) → (a *ℤ k -ℤ b *ℤ h) +ℤ (h *ℤ f -ℤ k *ℤ e) ≡ (a *ℤ f -ℤ b *ℤ e) +ℤ ((h -ℤ a) *ℤ (f -ℤ b) -ℤ (k -ℤ b) *ℤ (e -ℤ a))
-through_part a b e f h k = rw (dif-parts a, dif-parts b, dif-parts e, dif-parts f, dif-parts h, dif-parts k) (through_dif _ _ _ _ _ _ _ _ _ _ _ _)
+through_part a b e f h k = rw (dif-parts a, dif-parts b, dif-parts e, dif-parts f, dif-parts h, dif-parts k) (simp difs (same_dif _ _ _ _ (omega arith)))
 
 -- a step that is cut at a point of its line keeps its part of an area
 pub cut_area : (w k : ℤ) (p q c : Point) → w ≢ pos 0 → scaled w (towards p c) ≡ scaled k (towards p q) → moved (cross p c) (cross c q) ≡ cross p q
@@ -210,11 +168,8 @@ module _ (s : Plane) (p q : Point) (o : are_opposite s p q ≡ true) (cuts : cut
 
 -- ---- from the other end
 
-multiple_dif : (p q m n p' q' m' n' : ℕ) → dif p p' *ℤ dif n n' -ℤ dif q q' *ℤ dif m m' ≡ neg_ℤ (dif q q' *ℤ dif m m' -ℤ dif p p' *ℤ dif n n')
-multiple_dif p q m n p' q' m' n' = simp (difs, neg-dif) (same_dif _ _ _ _ (omega arith))
-
 multiple_turned : (p q m n : ℤ) → p *ℤ n -ℤ q *ℤ m ≡ neg_ℤ (q *ℤ m -ℤ p *ℤ n)
-multiple_turned p q m n = rw (dif-parts p, dif-parts q, dif-parts m, dif-parts n) (multiple_dif _ _ _ _ _ _ _ _)
+multiple_turned p q m n = rw (dif-parts p, dif-parts q, dif-parts m, dif-parts n) (simp (difs, neg-dif) (same_dif _ _ _ _ (omega arith)))
 
 none_over : (n : ℕ) → neg_ℤ (pos (0 / n)) ≡ pos (0 / n)
 none_over n = ap (λ k. neg_ℤ (pos k)) (zero-div n) ∙ sym (ap pos (zero-div n))

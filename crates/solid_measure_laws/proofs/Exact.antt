@@ -6,7 +6,7 @@ use Rattle.std.proofs.lemmas.Int.{ints, quot-rem, rem_below, unsigned_abs-mul}
 use Rattle.euler_operators.specs.declared.Point.{Point}
 use Rattle.euler_operators.specs.declared.Plane.{Plane}
 use Rattle.euler_operators.specs.Vectors.{height, cut_between}
-use Rattle.euler_operators.proofs.Integers.{dif, dif-parts, difs, neg-dif, same_dif, number}
+use Rattle.euler_operators.proofs.Integers.{dif-parts, difs, neg-dif, same_dif, number}
 use Rattle.euler_operators.proofs.Crossings.{opposite_apart}
 use Rattle.shapes.specs.Vectors.{scaled, towards}
 use Rattle.solid_measure_laws.specs.Laws.{CutsMissNone}
@@ -53,19 +53,11 @@ module _ (x w t : ℤ) (some : w ≢ pos 0) (e : x *ℤ w ≡ t) where
 
 -- ---- the heights along a line
 
-share_dif : (a p r w a' p' r' w' : ℕ) → dif w w' *ℤ (dif a a' *ℤ dif r r' -ℤ dif a a' *ℤ dif p p') ≡ dif a a' *ℤ (dif w w' *ℤ (dif r r' -ℤ dif p p'))
-share_dif a p r w a' p' r' w' = simp difs (same_dif _ _ _ _ (omega arith))
-
 share : (a p r w : ℤ) → w *ℤ (a *ℤ r -ℤ a *ℤ p) ≡ a *ℤ (w *ℤ (r -ℤ p))
-share a p r w = rw (dif-parts a, dif-parts p, dif-parts r, dif-parts w) (share_dif _ _ _ _ _ _ _ _)
-
-parts_dif : (w x y z a b c d w' x' y' z' a' b' c' d' : ℕ) →
-    dif w w' *ℤ ((dif x x' +ℤ dif y y' +ℤ dif z z' +ℤ dif d d') -ℤ (dif a a' +ℤ dif b b' +ℤ dif c c' +ℤ dif d d'))
-    ≡ dif w w' *ℤ (dif x x' -ℤ dif a a') +ℤ dif w w' *ℤ (dif y y' -ℤ dif b b') +ℤ dif w w' *ℤ (dif z z' -ℤ dif c c')
-parts_dif w x y z a b c d w' x' y' z' a' b' c' d' = simp difs (same_dif _ _ _ _ (omega arith))
+share a p r w = rw (dif-parts a, dif-parts p, dif-parts r, dif-parts w) (simp difs (same_dif _ _ _ _ (omega arith)))
 
 parts : (w x y z a b c d : ℤ) → w *ℤ ((x +ℤ y +ℤ z +ℤ d) -ℤ (a +ℤ b +ℤ c +ℤ d)) ≡ w *ℤ (x -ℤ a) +ℤ w *ℤ (y -ℤ b) +ℤ w *ℤ (z -ℤ c)
-parts w x y z a b c d = rw (dif-parts w, dif-parts x, dif-parts y, dif-parts z, dif-parts a, dif-parts b, dif-parts c, dif-parts d) (parts_dif _ _ _ _ _ _ _ _ _ _ _ _ _ _ _ _)
+parts w x y z a b c d = rw (dif-parts w, dif-parts x, dif-parts y, dif-parts z, dif-parts a, dif-parts b, dif-parts c, dif-parts d) (simp difs (same_dif _ _ _ _ (omega arith)))
 
 height_gap : (s : Plane) (p r : Point) (w : ℤ) → w *ℤ (height s r -ℤ height s p) ≡ s.a *ℤ (w *ℤ (r.x -ℤ p.x)) +ℤ s.b *ℤ (w *ℤ (r.y -ℤ p.y)) +ℤ s.c *ℤ (w *ℤ (r.z -ℤ p.z))
 height_gap s p r w = parts w (s.a *ℤ r.x) (s.b *ℤ r.y) (s.c *ℤ r.z) (s.a *ℤ p.x) (s.b *ℤ p.y) (s.c *ℤ p.z) s.d
@@ -74,17 +66,11 @@ height_gap s p r w = parts w (s.a *ℤ r.x) (s.b *ℤ r.y) (s.c *ℤ r.z) (s.a *
 heights_divided : (s : Plane) (p q r : Point) (w k : ℤ) → scaled w (towards p r) ≡ scaled k (towards p q) → w *ℤ (height s r -ℤ height s p) ≡ k *ℤ (height s q -ℤ height s p)
 heights_divided s p q r w k e = height_gap s p r w ∙ (λ i. s.a *ℤ (e i).x +ℤ s.b *ℤ (e i).y +ℤ s.c *ℤ (e i).z) ∙ sym (height_gap s p q k)
 
-down_dif : (w m w' m' : ℕ) → dif w w' *ℤ (dif 0 0 -ℤ dif m m') ≡ neg_ℤ (dif w w' *ℤ dif m m')
-down_dif w m w' m' = simp (difs, neg-dif) (same_dif _ _ _ _ (omega arith))
-
 down_part : (w m : ℤ) → w *ℤ (pos 0 -ℤ m) ≡ neg_ℤ (w *ℤ m)
-down_part w m = rw (dif-parts w, dif-parts m, number 0) (down_dif _ _ _ _)
-
-back_dif : (k m n k' m' n' : ℕ) → dif k k' *ℤ (dif n n' -ℤ dif m m') ≡ neg_ℤ (dif k k' *ℤ (dif m m' -ℤ dif n n'))
-back_dif k m n k' m' n' = simp (difs, neg-dif) (same_dif _ _ _ _ (omega arith))
+down_part w m = rw (dif-parts w, dif-parts m, number 0) (simp (difs, neg-dif) (same_dif _ _ _ _ (omega arith)))
 
 back_part : (k m n : ℤ) → k *ℤ (n -ℤ m) ≡ neg_ℤ (k *ℤ (m -ℤ n))
-back_part k m n = rw (dif-parts k, dif-parts m, dif-parts n) (back_dif _ _ _ _ _ _)
+back_part k m n = rw (dif-parts k, dif-parts m, dif-parts n) (simp (difs, neg-dif) (same_dif _ _ _ _ (omega arith)))
 
 -- from height m to height 0, and on to height n
 levelled : (w k m n h : ℤ) → h ≡ pos 0 → w *ℤ (h -ℤ m) ≡ k *ℤ (n -ℤ m) → w *ℤ m ≡ k *ℤ (m -ℤ n)
@@ -92,19 +78,11 @@ levelled w k m n h z e = turned_back _ _ (sym (down_part w m) ∙ ap (λ t. w *�
 
 -- ---- one coordinate: from p to q, x that of the point, m and n the heights of the ends
 
-meet_dif : (w p q x m n w' p' q' x' m' n' : ℕ) →
-    (dif x x' *ℤ (dif m m' -ℤ dif n n') -ℤ (dif q q' *ℤ dif m m' -ℤ dif p p' *ℤ dif n n')) *ℤ dif w w'
-    ≡ (dif w w' *ℤ (dif x x' -ℤ dif p p')) *ℤ (dif m m' -ℤ dif n n') -ℤ (dif q q' -ℤ dif p p') *ℤ (dif w w' *ℤ dif m m')
-meet_dif w p q x m n w' p' q' x' m' n' = simp difs (same_dif _ _ _ _ (omega arith))
-
 meet : (w p q x m n : ℤ) → (x *ℤ (m -ℤ n) -ℤ (q *ℤ m -ℤ p *ℤ n)) *ℤ w ≡ (w *ℤ (x -ℤ p)) *ℤ (m -ℤ n) -ℤ (q -ℤ p) *ℤ (w *ℤ m)
-meet w p q x m n = rw (dif-parts w, dif-parts p, dif-parts q, dif-parts x, dif-parts m, dif-parts n) (meet_dif _ _ _ _ _ _ _ _ _ _ _ _)
-
-even_dif : (k d g k' d' g' : ℕ) → (dif k k' *ℤ dif d d') *ℤ dif g g' -ℤ dif d d' *ℤ (dif k k' *ℤ dif g g') ≡ dif 0 0
-even_dif k d g k' d' g' = simp difs (same_dif _ _ _ _ (omega arith))
+meet w p q x m n = rw (dif-parts w, dif-parts p, dif-parts q, dif-parts x, dif-parts m, dif-parts n) (simp difs (same_dif _ _ _ _ (omega arith)))
 
 even : (k d g : ℤ) → (k *ℤ d) *ℤ g -ℤ d *ℤ (k *ℤ g) ≡ pos 0
-even k d g = rw (dif-parts k, dif-parts d, dif-parts g, number 0) (even_dif _ _ _ _ _ _)
+even k d g = rw (dif-parts k, dif-parts d, dif-parts g, number 0) (simp difs (same_dif _ _ _ _ (omega arith)))
 
 no_difference : (a b : ℤ) → a -ℤ b ≡ pos 0 → a ≡ b
 no_difference a b e = omega (arith, ints)

@@ -16,7 +16,7 @@ use Rattle.euler_laws.proofs.shared.Listed.{first_listed, rest_listed, listed_pa
 use Rattle.shapes.specs.Faces.{start, finish, loops_of, items_in, boundary}
 use Rattle.shapes.specs.Measure.{area, normal, anchor, first_vertex, volume_in, six_volume}
 use Rattle.shapes.proofs.Areas.{area-append}
-use Rattle.euler_operators.proofs.Integers.{dif, dif-parts, difs, same_dif}
+use Rattle.euler_operators.proofs.Integers.{dif-parts, difs, same_dif}
 use Rattle.euler_operators.proofs.Vectors.{same_vector, moved_none, dot_moved, dot_turned, dot_origin, dot_sum}
 use Rattle.euler_operators.proofs.Members.{IsIn_rest}
 use Rattle.euler_operators.proofs.Rotations.{IsIn_head}
@@ -27,15 +27,10 @@ use Rattle.shapes.proofs.measures.Paths.{begins, Leads, loop_closed}
 
 -- ---- a path moved by d: from p over q to e
 
-step_dif : (a b e f h k g l m a' b' e' f' h' k' g' l' m' : ℕ) →
-    ((dif a a' +ℤ dif h h') *ℤ (dif f f' +ℤ dif k k') -ℤ (dif b b' +ℤ dif k k') *ℤ (dif e e' +ℤ dif h h')) +ℤ (dif g g' +ℤ (dif h h' *ℤ (dif m m' -ℤ dif f f') -ℤ dif k k' *ℤ (dif l l' -ℤ dif e e')))
-    ≡ ((dif a a' *ℤ dif f f' -ℤ dif b b' *ℤ dif e e') +ℤ dif g g') +ℤ (dif h h' *ℤ (dif m m' -ℤ dif b b') -ℤ dif k k' *ℤ (dif l l' -ℤ dif a a'))
-step_dif a b e f h k g l m a' b' e' f' h' k' g' l' m' = simp difs (same_dif _ _ _ _ (omega arith))
-
 -- (a, b) to (e, f), moved by (h, k), before a path to (l, m) with the sum g
 step_part : (a b e f h k g l m : ℤ) →
     ((a +ℤ h) *ℤ (f +ℤ k) -ℤ (b +ℤ k) *ℤ (e +ℤ h)) +ℤ (g +ℤ (h *ℤ (m -ℤ f) -ℤ k *ℤ (l -ℤ e))) ≡ ((a *ℤ f -ℤ b *ℤ e) +ℤ g) +ℤ (h *ℤ (m -ℤ b) -ℤ k *ℤ (l -ℤ a))
-step_part a b e f h k g l m = rw (dif-parts a, dif-parts b, dif-parts e, dif-parts f, dif-parts h, dif-parts k, dif-parts g, dif-parts l, dif-parts m) (step_dif _ _ _ _ _ _ _ _ _ _ _ _ _ _ _ _ _ _)
+step_part a b e f h k g l m = rw (dif-parts a, dif-parts b, dif-parts e, dif-parts f, dif-parts h, dif-parts k, dif-parts g, dif-parts l, dif-parts m) (simp difs (same_dif _ _ _ _ (omega arith)))
 
 step_moved : (p q d a e : Point) → moved (cross (moved p d) (moved q d)) (moved a (cross d (towards q e))) ≡ moved (moved (cross p q) a) (cross d (towards p e))
 step_moved p q d a e = same_vector _ _ (step_part p.y p.z q.y q.z d.y d.z a.x e.y e.z) (step_part p.z p.x q.z q.x d.z d.x a.y e.z e.x) (step_part p.x p.y q.x q.y d.x d.y a.z e.x e.y)
