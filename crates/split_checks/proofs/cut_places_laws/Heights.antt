@@ -1,14 +1,14 @@
 -- The height of a point over a plane along which points are cut, in 64 bits.
-use Rattle.std.proofs.Common.{◌≡◌, ℕ, ◌≤◌, ℤ, sym, ap, subst, ◌∙◌, arith}
+use Rattle.std.proofs.Common.{◌≡◌, ℕ, ◌≤◌, true, ℤ, refl, sym, ap, subst, ◌∙◌, arith}
 use Rattle.std.specs.Prelude.{◌+ℤ◌, ◌*ℤ◌, FitsSigned}
 use Rattle.std.proofs.lemmas.Int.{to_z-of_z, fits_signed_from_abs}
 use mir.Syntax.{w64}
 use Rattle.euler_operators.specs.declared.Point.{Point}
 use Rattle.euler_operators.specs.declared.Plane.{Plane}
-use Rattle.euler_operators.specs.Points.{IsInRange}
+use Rattle.euler_operators.specs.Points.{IsInRange, is_coordinate}
 use Rattle.euler_operators.specs.Ranges.{IsWithin, IsCutPlane}
 use Rattle.euler_operators.specs.Vectors.{height}
-use Rattle.euler_operators.proofs.Magnitudes.{coordinates, coordinate_is, fits, held, held_is, held_short, sum_within}
+use Rattle.euler_operators.proofs.Magnitudes.{coordinates, coordinate_is, coordinate_within, fits, held, held_is, held_short, product_within, sum_within}
 
 -- what the code makes fits 64 bits, and is exact
 pub record Short (z y : ℤ) : Type 0 where
@@ -19,6 +19,23 @@ short : (m : ℕ) (z y : ℤ) → z ≡ y → IsWithin m y → m ≤ 90000000000
 short m z y e w l =
     let f = fits_signed_from_abs w64 y (omega (arith, w, l)) in
     record { fits = subst (FitsSigned w64) (sym e) f; kept = ap held_short e ∙ to_z-of_z w64 y f }
+
+pub number_held : (n : ℤ) → IsWithin 1000000000 n → IsWithin 1000000000 (held n)
+number_held n number = subst (IsWithin 1000000000) (sym (held_is n (fits _ n number (omega arith)))) number
+
+-- a number of the plane times a coordinate
+module _ (n x : ℤ) (number : IsWithin 1000000000 n) (coordinate : is_coordinate x ≡ true) where
+  scaled_within : IsWithin 1000000000000000000 (n *ℤ x)
+  scaled_within = product_within n x _ _ _ number (coordinate_within x coordinate) refl
+
+  pub number_told : Short (held n) n
+  number_told = short _ _ _ (held_is n (fits _ n number (omega arith))) number (omega arith)
+
+  pub scaled_told : Short (held_short (held n) *ℤ held_short x) (n *ℤ x)
+  scaled_told = short _ _ _ (λ i. number_told.kept i *ℤ coordinate_is x coordinate i) scaled_within (omega arith)
+
+  pub scaled_kept_within : IsWithin 1000000000000000000 (held_short (held_short (held n) *ℤ held_short x))
+  scaled_kept_within = subst (IsWithin 1000000000000000000) (sym scaled_told.kept) scaled_within
 
 module _ (a b c : ℤ) (within_a : IsWithin 1000000000000000000 a) (within_b : IsWithin 1000000000000000000 b) where
   level_within : IsWithin 2000000000000000000 (a +ℤ b)

@@ -1,6 +1,21 @@
 use Rattle.euler_operators.proofs.Magnitudes.{coordinates, coordinate_held}
-use Rattle.split_checks.proofs.cut_places_laws.Heights.{level_told, rise_told, offset_told, whole_told, height_told}
+use Rattle.split_checks.proofs.cut_places_laws.Heights.{number_held, level_told, rise_told, offset_told, whole_told, height_told}
 use Rattle.split_checks.proofs.cut_places.planes.height.Goals as goal
+
+pub scaled-requires-clause-number : goal.scaled-requires-clause-number
+scaled-requires-clause-number c = number_held c.args.plane.a c.requires.plane.0.0
+
+pub scaled-requires-clause-coordinate : goal.scaled-requires-clause-coordinate
+scaled-requires-clause-coordinate c = coordinate_held c.args.point.x (coordinates c.args.point c.requires.point).0
+
+pub scaled-requires-2-clause-number : goal.scaled-requires-2-clause-number
+scaled-requires-2-clause-number c = number_held c.args.plane.b c.requires.plane.0.1
+
+pub scaled-requires-2-clause-coordinate : goal.scaled-requires-2-clause-coordinate
+scaled-requires-2-clause-coordinate c = coordinate_held c.args.point.y (coordinates c.args.point c.requires.point).1
+
+pub scaled-requires-3-clause-number : goal.scaled-requires-3-clause-number
+scaled-requires-3-clause-number c = number_held c.args.plane.c c.requires.plane.0.2
 
 pub overflow_add-level : goal.overflow_add-level
 overflow_add-level c = (level_told c.scaled.result c.scaled-2.result c.scaled.result c.scaled.ensures.within c.scaled-2.ensures.within).fits
