@@ -21,7 +21,11 @@ fn wire(alloc: Global) -> Result<Session, Failure> {
 fn list_copy(rt: &HostRuntime, session: &Session) {
     session.stays_consistent();
     let told = match session.arena().copy(rt.alloc()) {
-        Ok(copy) => write_listing(&copy, &mut rt.stdout()).is_ok(),
+        Ok(copy) => {
+            let written = write_listing(&copy, &mut rt.stdout());
+            drop(copy);
+            written.is_ok()
+        }
         Err(_) => false,
     };
     if !told {
@@ -54,6 +58,7 @@ fn tell_contents(rt: &HostRuntime, session: &Session) {
     let before = loop_of_edge(&copy);
     bared(&mut copy);
     let after = loop_of_edge(&copy);
+    drop(copy);
     let first = loop_of_edge(session.arena());
     let _ = println!(rt;
         "+1 of the copy in loop {}, then in {}; of the first arena in {}",
