@@ -1,2 +1,1 @@
-pub mod Often
 pub mod Stages

@@ -10,3 +10,5 @@ pub mod CrossingHalves
 pub mod Edges
 pub mod Searched
 pub mod Sorted
+pub mod Met
+pub mod Told

@@ -1,4 +1,5 @@
 pub mod Crossings
+pub mod Meetings
 pub mod Places
 pub mod Sides
 pub mod Walks

@@ -2,7 +2,6 @@
 
 mod checks;
 mod crossings;
-mod faces;
 mod flaws;
 mod numbers;
 mod planes;

@@ -1,15 +1,16 @@
-//! What a plane meets of a solid: on which side points and faces lie, the edges that cross it and where, and the cut places of faces.
+//! What a plane meets of a solid, found in one walk over its corners: on which sides they lie, which edges cross the plane, which faces
+//! straddle it, and the cut places of these.
 
-mod across;
-mod faces;
+mod found;
 mod halves;
+mod looking;
+mod meetings;
 mod planes;
 mod rising;
 mod sides;
 
-pub(crate) use faces::places;
+pub(crate) use found::{FaceMet, Met};
+pub(crate) use halves::goes_up;
 pub use halves::starts_on;
-pub(crate) use halves::{goes_up, is_place, touches};
-pub(crate) use rising::rising_crossings;
+pub(crate) use rising::rising_meeting;
 pub use sides::{loop_reaches, reaches};
-pub(crate) use sides::{solid_reaches, straddling};

@@ -1,15 +1,16 @@
 //! What a plane meets of a solid, and whether it can begin to split it, tested before anything is changed.
 //!
-//! `cut_places` says on which side points and faces lie, which edges cross the plane and where, and which are the cut places of a face;
-//! `place_order` puts these in the order of their points, and `face_pairs` in pairs; `begin_checks` tests the conditions with which a
-//! split begins, and tells the `Cuts` that it has found.
+//! `cut_places` looks at each corner of a solid once, and tells on which sides of the plane corners lie, which edges cross it, which
+//! faces straddle it, and which are the cut places of these; `place_order` puts the places of a face in the order of their points, and
+//! `face_pairs` in pairs; `begin_checks` tests the conditions with which a split begins, and tells the `Cuts` that it has found.
 //!
 //! # What is proved
 //!
-//! From a ready arena and a plane in range: the faces of a solid that straddle the plane, the edges that cross it and where they
-//! meet it, the cut places of a face, or `AllocError`. `in_order`: exactly the given cut places in the order of their points, or
-//! none where two points are equal, or `AllocError`. `pairs_of_face`: the pairs of the cut places of a face in that order, the up
-//! place first, or none where two points are equal or a pair isn't one up and one down, or `AllocError`. `check_begin`: the first
+//! From a ready arena and a plane in range: whether a solid has vertices above the plane and below it, the faces that straddle the
+//! plane, rising, with word on which it touches and which it cuts too often, the edges that cross it, rising, the cut places of the
+//! faces that straddle, or `AllocError`. `in_order`: exactly the given cut places in the order of their points, or none where two
+//! points are equal, or `AllocError`. `pairs_of_places`: the pairs of some cut places in that order, the up place first, or none
+//! where two points are equal or a pair isn't one up and one down, or `AllocError`. `check_begin`: the first
 //! false one of the conditions with which a split begins, with its value; or none, and then exactly what the plane cuts of the
 //! solid: the edges that cross it, rising, each with the point at which it meets it, and the faces that straddle it, rising, each
 //! with the pairs of its cut places; or `AllocError`.

@@ -1,22 +1,22 @@
 -- The conditions with which a split begins, part by part.
 use Rattle.std.specs.Prelude.{min}
 use Rattle.std.specs.List.{list_any}
-use Rattle.std.proofs.Common.{◌≡◌, ℕ, ◌+◌, true, cond, ◌&&◌, nat_le, List, [], ◌∷◌, ◌++◌, length, Some, None, Result, Ok, Err, IfOk, IfErr, refl, sym, ap, subst, ◌∙◌, arith}
+use Rattle.std.proofs.Common.{◌≡◌, ℕ, ◌+◌, true, false, cond, ◌&&◌, nat_le, List, [], ◌∷◌, ◌++◌, length, Option, Some, None, Result, Ok, Err, IfOk, IfErr, refl, sym, ap, subst, ◌∙◌, arith}
 use Rattle.std.proofs.lemmas.Bool.Decides.{nat_tests}
 use Rattle.euler_operators.specs.declared.Plane.{Plane}
 use Rattle.euler_operators.specs.Ranges.{IsCutPlane}
 use Rattle.euler_operators.proofs.Magnitudes.{coordinate_within, offset_within}
 use Rattle.euler_operators.specs.Model.{Model, faces_of}
 use Rattle.euler_operators.specs.Conditions.{Condition, need, first_refusal}
-use Rattle.euler_operators.specs.declared.Why.TheVariants.{PlaneMisses, NotLattice, NumbersSpent}
+use Rattle.euler_operators.specs.declared.Why.TheVariants.{PlaneMisses, NotLattice, NumbersSpent, TouchedFace, CutOften, CutCrossed}
 use Rattle.euler_operators.specs.declared.Refusal.{Refusal}
 use Rattle.euler_laws.proofs.shared.Goes.{all_hold}
 use Rattle.shapes.proofs.fresh.Tests.{first_refusal-append, first_refusal-refused}
 use Rattle.shapes.specs.Fresh.{Taken, taken_in, numbers_left, no_such, first_such}
-use Rattle.shapes.specs.split.Places.{pair_count}
+use Rattle.shapes.specs.split.Places.{is_touched, is_cut_often, is_crossed, pair_count}
 use Rattle.shapes.specs.split.Sides.{reaches_above, reaches_below, straddling_faces, crossing_edges}
-use Rattle.shapes.specs.split.Split.{plane_in_range, first_conditions}
-use Rattle.split_checks.specs.begin_checks.Conditions.{number_conditions, solid_conditions, edge_conditions, face_conditions, sectioning_conditions}
+use Rattle.shapes.specs.split.Split.{plane_in_range, cut_conditions, first_conditions}
+use Rattle.split_checks.specs.begin_checks.Conditions.{number_conditions, solid_conditions, face_conditions, sectioning_conditions}
 use Rattle.split_checks.specs.cut_places.Crossings.{is_off}
 
 -- what holds of the value of a result, and of its error
@@ -25,6 +25,26 @@ at_ok r x P e h = subst (λ y. IfOk y P) e h
 
 pub at_err : {X E : Type 0} (r : Result X E) (x : E) (P : E → Type 0) → r ≡ Err x → IfErr r P → P x
 at_err r x P e h = subst (λ y. IfErr y P) e h
+
+-- ---- faces
+
+module _ (M : Model) (p : Plane) (fs : List ℕ) where
+  by_flaws : (a b c : Option ℕ) → a ≡ first_such (is_touched M p) fs → b ≡ first_such (is_cut_often M p) fs → c ≡ first_such (is_crossed M p) fs
+      → first_refusal (face_conditions M p fs) ≡ first_refusal (no_such a TouchedFace ∷ no_such b CutOften ∷ no_such c CutCrossed ∷ [])
+  by_flaws a b c e f g = sym (λ i. first_refusal (no_such (e i) TouchedFace ∷ no_such (f i) CutOften ∷ no_such (g i) CutCrossed ∷ []))
+
+  pub touched_refused : (f : ℕ) → Some f ≡ first_such (is_touched M p) fs → first_refusal (face_conditions M p fs) ≡ Some (record { why = TouchedFace; number = f })
+  touched_refused f e = by_flaws (Some f) (first_such (is_cut_often M p) fs) (first_such (is_crossed M p) fs) e refl refl
+
+  pub often_refused : (f : ℕ) → None ≡ first_such (is_touched M p) fs → Some f ≡ first_such (is_cut_often M p) fs → first_refusal (face_conditions M p fs) ≡ Some (record { why = CutOften; number = f })
+  often_refused f e o = by_flaws None (Some f) (first_such (is_crossed M p) fs) e o refl
+
+  module _ (untouched : None ≡ first_such (is_touched M p) fs) (seldom : None ≡ first_such (is_cut_often M p) fs) where
+    pub crossed_refused : (f : ℕ) → first_such (is_crossed M p) fs ≡ Some f → first_refusal (face_conditions M p fs) ≡ Some (record { why = CutCrossed; number = f })
+    crossed_refused f e = by_flaws None None (Some f) untouched seldom (sym e)
+
+    pub none_refused : first_such (is_crossed M p) fs ≡ None → first_refusal (face_conditions M p fs) ≡ None
+    none_refused e = by_flaws None None None untouched seldom (sym e)
 
 -- ---- numbers that are left, told up to a limit
 
@@ -49,25 +69,31 @@ module _ (M : Model) (s : ℕ) (p : Plane) where
   abbrev numbers : List Condition
   numbers = numbers_left (taken_in M) (record { faces = pair_count M p fs; loops = pair_count M p fs; edges = length es + pair_count M p fs; vertices = length es })
 
-  module _ (met : list_any (reaches_above M p) (faces_of M s) && list_any (reaches_below M p) (faces_of M s) ≡ true) where
-    after_side : first_refusal (sectioning_conditions M s p) ≡ first_refusal (edge_conditions M p es ++ (face_conditions M p fs ++ numbers))
-    after_side = ap (λ b. cond b (first_refusal (edge_conditions M p es ++ (face_conditions M p fs ++ numbers))) (Some (record { why = PlaneMisses; number = s }))) met
+  abbrev cutting : List Condition
+  cutting = cut_conditions M p es fs
 
-    pub edges_refused : (e : ℕ) → first_such (is_off M p) es ≡ Some e → first_refusal (sectioning_conditions M s p) ≡ Some (record { why = NotLattice; number = e })
-    edges_refused e off = after_side ∙ ap (λ o. first_refusal (no_such o NotLattice ∷ face_conditions M p fs ++ numbers)) off
+  -- the plane meets the solid, or not
+  pub met_decides : list_any (reaches_above M p) (faces_of M s) && list_any (reaches_below M p) (faces_of M s) ≡ true → first_refusal cutting ≡ first_refusal (sectioning_conditions M s p)
+  met_decides met = sym (ap (λ b. cond b (first_refusal cutting) (Some (record { why = PlaneMisses; number = s }))) met)
 
-    module _ (whole : None ≡ first_such (is_off M p) es) where
-      after_edges : first_refusal (sectioning_conditions M s p) ≡ first_refusal (face_conditions M p fs ++ numbers)
-      after_edges = after_side ∙ ap (λ o. first_refusal (no_such o NotLattice ∷ face_conditions M p fs ++ numbers)) (sym whole)
+  pub missed : list_any (reaches_above M p) (faces_of M s) && list_any (reaches_below M p) (faces_of M s) ≡ false → first_refusal (sectioning_conditions M s p) ≡ Some (record { why = PlaneMisses; number = s })
+  missed off = ap (λ b. cond b (first_refusal cutting) (Some (record { why = PlaneMisses; number = s }))) off
 
-      pub faces_refused : (r : Refusal) → first_refusal (face_conditions M p fs) ≡ Some r → first_refusal (sectioning_conditions M s p) ≡ Some r
-      faces_refused r e = after_edges ∙ first_refusal-refused (face_conditions M p fs) numbers r e
+  pub edges_refused : (e : ℕ) → first_such (is_off M p) es ≡ Some e → first_refusal cutting ≡ Some (record { why = NotLattice; number = e })
+  edges_refused e off = ap (λ o. first_refusal (no_such o NotLattice ∷ face_conditions M p fs ++ numbers)) off
 
-      pub numbers_decide : first_refusal (face_conditions M p fs) ≡ None → (m n : ℕ) → m ≡ min (length es) 1000001 → n ≡ min (pair_count M p fs) 1000001
-          → first_refusal (numbers_left (taken_in M) (record { faces = n; loops = n; edges = m + n; vertices = m })) ≡ first_refusal (sectioning_conditions M s p)
-      numbers_decide e m n is_m is_n =
-          (λ i. first_refusal (numbers_left (taken_in M) (record { faces = is_n i; loops = is_n i; edges = is_m i + is_n i; vertices = is_m i }))) ∙ numbers_capped (taken_in M) (length es) (pair_count M p fs)
-          ∙ sym (first_refusal-append (face_conditions M p fs) numbers e) ∙ sym after_edges
+  module _ (whole : None ≡ first_such (is_off M p) es) where
+    after_edges : first_refusal cutting ≡ first_refusal (face_conditions M p fs ++ numbers)
+    after_edges = ap (λ o. first_refusal (no_such o NotLattice ∷ face_conditions M p fs ++ numbers)) (sym whole)
+
+    pub faces_refused : (r : Refusal) → first_refusal (face_conditions M p fs) ≡ Some r → first_refusal cutting ≡ Some r
+    faces_refused r e = after_edges ∙ first_refusal-refused (face_conditions M p fs) numbers r e
+
+    pub numbers_decide : first_refusal (face_conditions M p fs) ≡ None → (m n : ℕ) → m ≡ min (length es) 1000001 → n ≡ min (pair_count M p fs) 1000001
+        → first_refusal (numbers_left (taken_in M) (record { faces = n; loops = n; edges = m + n; vertices = m })) ≡ first_refusal cutting
+    numbers_decide e m n is_m is_n =
+        (λ i. first_refusal (numbers_left (taken_in M) (record { faces = is_n i; loops = is_n i; edges = is_m i + is_n i; vertices = is_m i }))) ∙ numbers_capped (taken_in M) (length es) (pair_count M p fs)
+        ∙ sym (first_refusal-append (face_conditions M p fs) numbers e) ∙ sym after_edges
 
 -- ---- the whole
 

@@ -1,8 +1,8 @@
 -- Lists that a walk takes apart.
-use Rattle.std.proofs.Common.{◌≡◌, ℕ, ◌-◌, ◌≤◌, Bool, true, false, cond, ◌||◌, List, [], ◌∷◌, map, length, slice_index_or, refl, sym, ap, subst, arith}
+use Rattle.std.proofs.Common.{◌≡◌, ◌∙◌, ℕ, suc, ◌-◌, ◌≤◌, Bool, true, false, cond, ◌||◌, List, [], ◌∷◌, ◌++◌, map, length, slice_index_or, refl, sym, ap, subst, arith}
 use Rattle.std.specs.Prelude.{take, drop, filter}
 use Rattle.std.specs.List.{list_any}
-use Rattle.std.proofs.lemmas.List.{take_rest}
+use Rattle.std.proofs.lemmas.List.{take_rest, map-append}
 use Rattle.euler_operators.specs.declared.HalfEdge.{HalfEdge}
 use Rattle.euler_operators.specs.HalfEdge.{code}
 use Rattle.euler_operators.specs.Items.{IsIn, IsApart}
@@ -16,6 +16,20 @@ others xs = take (length xs - 1) (drop 1 xs)
 pub parts : {A : Type 0} (xs : List A) (d : A) → 1 ≤ length xs → xs ≡ slice_index_or xs 0 d ∷ others xs
 parts [] d l = absurd (omega arith)
 parts {A} (x ∷ xs) d l = ap (λ (ys : List A). x ∷ ys) (sym (take_rest (x ∷ xs) 1))
+
+-- the last of a list, and those before it
+abbrev pub fewer : {A : Type 0} → List A → List A
+fewer xs = take (length xs - 1) xs
+
+last_part : {A : Type 0} (xs : List A) (d : A) → 1 ≤ length xs → xs ≡ fewer xs ++ slice_index_or xs (length xs - 1) d ∷ []
+last_part [] d l = absurd (omega (arith, l))
+last_part (x ∷ []) d l = refl
+last_part {A} (x ∷ y ∷ ys) d l =
+    let e : length (x ∷ y ∷ ys) - 1 ≡ suc (length (y ∷ ys) - 1) = omega arith in
+    ap (λ (zs : List A). x ∷ zs) (last_part (y ∷ ys) d (omega arith)) ∙ sym (λ i. take (e i) (x ∷ y ∷ ys) ++ slice_index_or (x ∷ y ∷ ys) (e i) d ∷ [])
+
+pub last_code : (hs : List HalfEdge) (d : HalfEdge) → 1 ≤ length hs → map code hs ≡ map code (fewer hs) ++ code (slice_index_or hs (length hs - 1) d) ∷ []
+last_code hs d l = ap (λ (ks : List HalfEdge). map code ks) (last_part hs d l) ∙ map-append code (fewer hs) (slice_index_or hs (length hs - 1) d ∷ [])
 
 -- the codes of two half-edges that are all of a list
 abbrev pub no_half : HalfEdge

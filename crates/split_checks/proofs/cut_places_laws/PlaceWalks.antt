@@ -1,4 +1,4 @@
--- The cut places of a loop, and the edges that cross the plane, taken one by one as a walk round it meets them.
+-- The half-edges of a loop, taken one by one as a walk round it meets them.
 use Rattle.std.proofs.Common.{◌≡◌, ◌≢◌, ℕ, Bool, true, false, cond, List, [], ◌∷◌, ◌++◌, map, sym, ap, ◌∙◌, subst, append_assoc}
 use Rattle.std.specs.Prelude.{filter}
 use Rattle.std.proofs.lemmas.List.{append-nil, map-append}
@@ -42,18 +42,6 @@ module _ (M : Model) (sound : Sound M) (h : ℕ) (there : HasHalf M h) (g r : �
       let at = item_there M sound h there g i in
       ap (start M) (next (in_a_loop M sound g at)) ∙ ap (point_of M) (sound.ends_meet g at)
 
--- one half-edge is looked at: its edge is taken where it is the plus one and crosses the plane
-module _ (M : Model) (p : Plane) where
-  module _ (had now : List ℕ) (x : ℕ) (rest : List ℕ) where
-    pub edge_taken : (e : ℕ) → e ≡ edge_of x → now ≡ had ++ e ∷ [] → leads_across M p x ≡ true → now ++ crossings_in M p rest ≡ had ++ crossings_in M p (x ∷ rest)
-    edge_taken e is made t =
-        ap (λ (es : List ℕ). es ++ crossings_in M p rest) (made ∙ ap (λ k. had ++ k ∷ []) is) ∙ append_assoc had (edge_of x ∷ []) (crossings_in M p rest)
-        ∙ ap (λ (es : List ℕ). had ++ es) (sym (ap (λ b. map edge_of (cond b (x ∷ filter (leads_across M p) rest) (filter (leads_across M p) rest))) t))
-
-    pub edge_passed_by : now ≡ had → leads_across M p x ≡ false → now ++ crossings_in M p rest ≡ had ++ crossings_in M p (x ∷ rest)
-    edge_passed_by made t =
-        ap (λ (es : List ℕ). es ++ crossings_in M p rest) made
-        ∙ ap (λ (es : List ℕ). had ++ es) (sym (ap (λ b. map edge_of (cond b (x ∷ filter (leads_across M p) rest) (filter (leads_across M p) rest))) t))
-
-  pub crossings_both : (xs ys : List ℕ) → crossings_in M p (xs ++ ys) ≡ crossings_in M p xs ++ crossings_in M p ys
-  crossings_both xs ys = ap (map edge_of) (filter-append (leads_across M p) xs ys) ∙ map-append edge_of (filter (leads_across M p) xs) (filter (leads_across M p) ys)
+-- the edges that cross the plane, of some half-edges and of others
+pub crossings_both : (M : Model) (p : Plane) (xs ys : List ℕ) → crossings_in M p (xs ++ ys) ≡ crossings_in M p xs ++ crossings_in M p ys
+crossings_both M p xs ys = ap (map edge_of) (filter-append (leads_across M p) xs ys) ∙ map-append edge_of (filter (leads_across M p) xs) (filter (leads_across M p) ys)

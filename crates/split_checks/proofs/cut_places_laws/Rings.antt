@@ -9,8 +9,6 @@ use Rattle.euler_conditions.specs.Store.{IsNextRing}
 use Rattle.shapes.specs.Faces.{boundary, corners, items_in, loops_of, vertices_in, vertices_on}
 use Rattle.solid_measure.proofs.face_walks_laws.Above.{above}
 use Rattle.solid_measure.proofs.face_walks_laws.RingWalks.{next_ring, no_ring, rings_from_zero}
-use Rattle.shapes.specs.split.Places.{is_touched}
-use Rattle.split_checks.specs.cut_places.Places.{touches, some_touch}
 use Rattle.split_checks.specs.cut_places.Sides.{lies, some_lie}
 
 module _ (M : Model) (f : ℕ) where
@@ -24,22 +22,6 @@ module _ (M : Model) (f : ℕ) where
 
   pub no_items : (n : ℕ) → IsNextRing M f n None → items_in M (above n (rings_of M f)) ≡ []
   no_items n none = ap (items_in M) (no_ring M f n none)
-
-  -- a corner that touches the plane: on the outer loop, or else on the rings
-  module _ (p : Plane) where
-    one_of : (hs ks : List ℕ) → some_touch M p (hs ++ ks) ≡ some_touch M p hs || some_touch M p ks
-    one_of hs ks = list_any-append (touches M p) hs ks
-
-    pub outer_touches : Sound M → is_touched M p f ≡ some_touch M p (items_of (content M (outer M f))) || some_touch M p (items_in M (above 0 (rings_of M f)))
-    unfolding is_touched
-    outer_touches sound = ap (some_touch M p) (sym (outer_items sound)) ∙ one_of (items_of (content M (outer M f))) (items_in M (above 0 (rings_of M f)))
-
-    pub ring_touches : (n l : ℕ) → IsNextRing M f n (Some l)
-        → some_touch M p (items_in M (above n (rings_of M f))) ≡ some_touch M p (items_of (content M l)) || some_touch M p (items_in M (above l (rings_of M f)))
-    ring_touches n l next = ap (some_touch M p) (ring_items n l next) ∙ one_of (items_of (content M l)) (items_in M (above l (rings_of M f)))
-
-    pub none_touches : (n : ℕ) → IsNextRing M f n None → some_touch M p (items_in M (above n (rings_of M f))) ≡ false
-    none_touches n none = ap (some_touch M p) (no_items n none)
 
   -- a corner on that side of the plane: on the outer loop, or else on the rings
   module _ (side : Sign) (p : Plane) where

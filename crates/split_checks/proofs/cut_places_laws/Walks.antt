@@ -13,9 +13,7 @@ use Rattle.euler_conditions.specs.Store.{Tells}
 use Rattle.euler_operators.specs.Conditions.{lists}
 use Rattle.euler_laws.proofs.shared.Listed.{first_listed, rest_listed}
 use Rattle.euler_conditions.proofs.Borders.{ring_has}
-use Rattle.shapes.specs.Faces.{loops_of, items_in, boundary, vertices_on}
-use Rattle.shapes.proofs.walks.FaceLoops.{items_there}
-use Rattle.shapes.proofs.walks.SolidFaces.{face_of_loop}
+use Rattle.shapes.specs.Faces.{vertices_on}
 use Rattle.split_checks.specs.cut_places.Walks.{AreThere, AreIn}
 
 -- each of some numbers is in use, and the edge of each of some half-edges is there
@@ -39,16 +37,6 @@ module _ (M : Model) (sound : Sound M) where
 
   pub ring_cycle : (l : ℕ) (h : HalfEdge) → Tells (content M l) (Ring h) → items_of (content M (loop_of M (code h))) ≡ items_of (content M l)
   ring_cycle l h tells = ap (λ q. items_of (content M q)) (sound.one_loop (code h) l (ring_stands l h tells))
-
-  pub face_loops_there : (f : ℕ) → Has M.faces f → AreIn M.loops (loops_of M f)
-  face_loops_there f there = all_in M.loops (loops_of M f) (λ l i. (face_of_loop M sound f l there i).0)
-
-  pub loop_items_there : (l : ℕ) → AreThere M (items_of (content M l))
-  loop_items_there l = all_there M (items_of (content M l)) (λ h i. sound.only_edges h l (in-holds h (content M l) i))
-
-  pub boundary_there : (f : ℕ) → AreThere M (boundary M f)
-  unfolding boundary
-  boundary_there f = all_there M (items_in M (loops_of M f)) (items_there M sound (loops_of M f))
 
 -- the vertices on a loop with half-edges
 pub ring_vertices : (M : Model) (t : LoopContent) (h : HalfEdge) → Tells t (Ring h) → vertices_on M t ≡ map (tail M) (items_of t)

@@ -1,22 +1,31 @@
--- What the cut places of a face say once they are in order.
-use Rattle.std.proofs.Common.{◌≡◌, ℕ, Bool, true, false, cond, not, ◌||◌, ◌&&◌, List, [], ◌∷◌, refl, sym, ap, ◌∙◌}
+-- What cut places say once they are in order.
+use Rattle.std.proofs.Common.{◌≡◌, ℕ, Bool, true, false, cond, not, ◌||◌, ◌&&◌, List, [], ◌∷◌, map, refl, sym, ap, ◌∙◌}
 use Rattle.std.specs.List.{list_all}
 use Rattle.euler_operators.specs.declared.Plane.{Plane}
 use Rattle.euler_operators.specs.Model.{Model}
 use Rattle.euler_operators.specs.Vectors.{same_point, lex_less}
 use Rattle.euler_operators.specs.Conditions.{differ}
-use Rattle.shapes.specs.split.Places.{places, place_point, goes_up, some_meet, sorted, in_pairs, sorted_pairs, is_up_and_down, is_crossed}
+use Rattle.shapes.specs.split.Places.{place_point, goes_up, places, some_meet, sorted, in_pairs, sorted_pairs, is_up_and_down, up_first, is_crossed, place_pairs}
+use Rattle.split_checks.specs.place_order.Order.{are_crossed}
 
-module _ (M : Model) (p : Plane) (f : ℕ) where
-  pub crossed_by : (hs : List ℕ) → hs ≡ places M p f → some_meet M p hs ≡ true → true ≡ is_crossed M p f
-  unfolding is_crossed
-  crossed_by hs is met = sym (ap (λ b. b || not (list_all (is_up_and_down M p) (sorted_pairs M p f))) (ap (some_meet M p) (sym is) ∙ met))
+module _ (M : Model) (p : Plane) where
+  pub crossed_by : (hs : List ℕ) → some_meet M p hs ≡ true → true ≡ are_crossed M p hs
+  crossed_by hs met = sym (ap (λ b. b || not (list_all (is_up_and_down M p) (in_pairs (sorted M p hs)))) met)
 
-  pub ordered : (hs ks : List ℕ) → hs ≡ places M p f → some_meet M p hs ≡ false → ks ≡ sorted M p hs → not (list_all (is_up_and_down M p) (in_pairs ks)) ≡ is_crossed M p f
-  unfolding is_crossed sorted_pairs
-  ordered hs ks is apart placed =
-      ap (λ gs. not (list_all (is_up_and_down M p) (in_pairs gs))) (placed ∙ ap (sorted M p) is)
-      ∙ sym (ap (λ b. b || not (list_all (is_up_and_down M p) (in_pairs (sorted M p (places M p f))))) (ap (some_meet M p) (sym is) ∙ apart))
+  pub ordered : (hs ks : List ℕ) → some_meet M p hs ≡ false → ks ≡ sorted M p hs → not (list_all (is_up_and_down M p) (in_pairs ks)) ≡ are_crossed M p hs
+  ordered hs ks apart placed =
+      ap (λ gs. not (list_all (is_up_and_down M p) (in_pairs gs))) placed
+      ∙ sym (ap (λ b. b || not (list_all (is_up_and_down M p) (in_pairs (sorted M p hs)))) apart)
+
+  -- the places of a face
+  module _ (f : ℕ) (hs : List ℕ) (is : hs ≡ places M p f) where
+    pub face_crossed : are_crossed M p hs ≡ is_crossed M p f
+    unfolding is_crossed sorted_pairs
+    face_crossed = ap (are_crossed M p) is
+
+    pub face_paired : map (up_first M p) (in_pairs (sorted M p hs)) ≡ place_pairs M p f
+    unfolding place_pairs sorted_pairs
+    face_paired = ap (λ ks. map (up_first M p) (in_pairs (sorted M p ks))) is
 
 -- two cut places are one pair, whichever comes first
 module _ (M : Model) (p : Plane) (h k : ℕ) where
@@ -35,12 +44,11 @@ module _ (M : Model) (p : Plane) (h k : ℕ) where
     alone true = refl
     alone false = refl
 
-  -- the places of a face that has no others
-  pub two_crossed : (f : ℕ) → h ∷ k ∷ [] ≡ places M p f → same_point (place_point M p h) (place_point M p k) || not (is_up_and_down M p (h, k)) ≡ is_crossed M p f
-  unfolding is_crossed sorted_pairs
-  two_crossed f is =
+  -- where there are no others
+  pub two_crossed : (hs : List ℕ) → h ∷ k ∷ [] ≡ hs → same_point (place_point M p h) (place_point M p k) || not (is_up_and_down M p (h, k)) ≡ are_crossed M p hs
+  two_crossed hs is =
       (λ i. meet (same_point (place_point M p h) (place_point M p k)) i || not (sym two_differ i))
-      ∙ ap (λ hs. some_meet M p hs || not (list_all (is_up_and_down M p) (in_pairs (sorted M p hs)))) is where
+      ∙ ap (are_crossed M p) is where
         meet : (s : Bool) → s ≡ (s || false) || false
         meet true = refl
         meet false = refl

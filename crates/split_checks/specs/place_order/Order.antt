@@ -1,5 +1,6 @@
 -- Cut places under their points, as entries of a map.
-use Rattle.std.specs.Prelude.{◌≡◌, ℕ, ℤ, true, List, map}
+use Rattle.std.specs.Prelude.{◌≡◌, ℕ, ℤ, Bool, true, not, ◌||◌, List, map}
+use Rattle.std.specs.List.{list_all}
 use Rattle.euler_operators.specs.declared.Point.{Point}
 use Rattle.euler_operators.specs.declared.Plane.{Plane}
 use Rattle.euler_operators.specs.Items.{IsIn}
@@ -9,7 +10,7 @@ use Rattle.euler_operators.specs.Model.{Model}
 use Rattle.euler_operators.specs.Sound.{HasHalf}
 use Rattle.euler_operators.specs.Conditions.{strictly_rises}
 use Rattle.shapes.specs.split.Sides.{crosses}
-use Rattle.shapes.specs.split.Places.{is_place, place_point}
+use Rattle.shapes.specs.split.Places.{is_place, place_point, some_meet, sorted, in_pairs, is_up_and_down}
 use Rattle.split_checks.specs.declared.cuts.CutEdge.{CutEdge}
 use Rattle.split_checks.specs.Cuts.{cut_at}
 
@@ -26,6 +27,10 @@ pub record IsPlaceAlong (M : Model) (p : Plane) (es : List ℕ) (h : ℕ) : Type
 
 abbrev pub ArePlacesAlong : Model → Plane → List ℕ → List ℕ → Type 0
 ArePlacesAlong M p es hs = (h : ℕ) → IsIn h hs → IsPlaceAlong M p es h
+
+-- two of some cut places have equal points, or a pair of them, once they are sorted, isn't one up and one down
+abbrev pub are_crossed : Model → Plane → List ℕ → Bool
+are_crossed M p hs = some_meet M p hs || not (list_all (is_up_and_down M p) (in_pairs (sorted M p hs)))
 
 -- a point as a key of a map
 abbrev pub Key : Type 0

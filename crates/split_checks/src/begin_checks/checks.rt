@@ -1,26 +1,26 @@
 //! The conditions with which a split begins, in the order in which they are tested.
 ghost use Rattle.std.specs.Prelude.{◌≡◌, ◌&&◌, map, None, Some, IfErr, IfOk};
-ghost use Rattle.std.specs.List.{list_any};
-ghost use Rattle.euler_operators.specs.Model.{faces_of};
+ghost use Rattle.euler_operators.specs.HalfEdge.{code};
 ghost use Rattle.euler_conditions.specs.Ready.{IsReady};
 ghost use Rattle.euler_operators.specs.Conditions.{first_refusal, verdict};
 ghost use Rattle.euler_operators.specs.Ranges.{IsCutPlane};
 ghost use Rattle.split_checks.specs.Cuts.{AreCuts, all_place_pairs, paired};
 ghost use Rattle.split_checks.specs.begin_checks.Conditions.{face_conditions, number_conditions, sectioning_conditions, solid_conditions};
+ghost use Rattle.split_checks.specs.cut_places.Meetings.{AreTold, IsSolidMet, faces_in};
 ghost use Rattle.split_checks.specs.cut_places.Places.{AreFacesAlong};
 ghost use Rattle.split_checks.specs.place_order.Order.{AreCrossings};
-ghost use Rattle.shapes.specs.split.Sides.{reaches_above, reaches_below};
-ghost use Rattle.shapes.specs.split.Split.{first_conditions};
+ghost use Rattle.shapes.specs.split.Sides.{crossing_edges, straddling_faces};
+ghost use Rattle.shapes.specs.split.Split.{cut_conditions, first_conditions};
 
 use crate::begin_checks::crossings::cut_edges;
 use crate::begin_checks::flaws::{Flaw, first_flawed};
 use crate::begin_checks::numbers::{TOO_MANY, check_left, pair_count};
 use crate::begin_checks::planes::check_plane;
-use crate::cut_places::{rising_crossings, solid_reaches, straddling};
+use crate::cut_places::{FaceMet, Met, rising_meeting};
 use crate::cuts::{Crossings, Cuts, FacePairs};
 use crate::face_pairs::pairs_of_faces;
 use euler_conditions::Arena;
-use euler_operators::{Kind, Plane, Refusal, Sign, Why, is_number, refused};
+use euler_operators::{HalfEdge, Kind, Plane, Refusal, Why, is_number, refused};
 use solid_measure::{least_bent, least_lone};
 use std::alloc::{AllocError, Global};
 
@@ -65,13 +65,11 @@ fn check_solid(arena: &Arena, s: u32) -> Result<(), Refusal>
     Ok(())
 }
 
-/// Whether solid s has vertices on both sides of the plane.
-fn is_met(arena: &Arena, plane: Plane, s: u32) -> bool
-    requires ready { IsReady arena.now }
-    requires plane { IsCutPlane plane }
-    ensures { result ≡ list_any (reaches_above arena.now.model plane) (faces_of arena.now.model s) && list_any (reaches_below arena.now.model plane) (faces_of arena.now.model s) }
+/// Whether the solid that was looked at has vertices on both sides of the plane.
+fn is_met(met: &Met) -> bool
+    ensures { result ≡ met.now.above && met.now.below }
 {
-    solid_reaches(arena, plane, Sign::Above, s) && solid_reaches(arena, plane, Sign::Below, s)
+    met.above && met.below
 }
 
 /// The faces, which straddle the plane, each with the pairs of its cut places, where they can be cut.
@@ -80,25 +78,64 @@ fn check_faces(
     arena: &Arena,
     plane: Plane,
     crossings: Crossings<'_>,
-    faces: &[u32],
+    faces: &[FaceMet],
+    places: &[HalfEdge],
 ) -> Result<Result<Vec<FacePairs>, Refusal>, AllocError>
     requires ready { IsReady arena.now }
     requires plane { IsCutPlane plane }
     requires crossings { AreCrossings arena.now.model plane crossings.edges.now crossings.cut.now }
-    requires whole { AreFacesAlong arena.now.model plane crossings.edges.now faces.now }
-    ensures accepted { IfOk result (λ checked. IfOk checked (λ _. first_refusal (face_conditions arena.now.model plane faces.now) ≡ None)) }
-    ensures paired { IfOk result (λ checked. IfOk checked (λ pairs. map paired pairs.items ≡ all_place_pairs arena.now.model plane faces.now)) }
-    ensures refused { IfOk result (λ checked. IfErr checked (λ refusal. first_refusal (face_conditions arena.now.model plane faces.now) ≡ Some refusal)) }
+    requires whole { AreFacesAlong arena.now.model plane crossings.edges.now (faces_in faces.now) }
+    requires told { AreTold arena.now.model plane faces.now (map code places.now) }
+    ensures accepted { IfOk result (λ checked. IfOk checked (λ _. first_refusal (face_conditions arena.now.model plane (faces_in faces.now)) ≡ None)) }
+    ensures paired { IfOk result (λ checked. IfOk checked (λ pairs. map paired pairs.items ≡ all_place_pairs arena.now.model plane (faces_in faces.now))) }
+    ensures refused { IfOk result (λ checked. IfErr checked (λ refusal. first_refusal (face_conditions arena.now.model plane (faces_in faces.now)) ≡ Some refusal)) }
 {
-    if let Some(f) = first_flawed(alloc, arena, plane, Flaw::Touched, faces)? {
+    if let Some(f) = first_flawed(Flaw::Touched, faces) {
         return Ok(Err(refusal(Why::TouchedFace, f)));
     }
-    if let Some(f) = first_flawed(alloc, arena, plane, Flaw::CutOften, faces)? {
+    if let Some(f) = first_flawed(Flaw::CutOften, faces) {
         return Ok(Err(refusal(Why::CutOften, f)));
     }
-    match pairs_of_faces(alloc, arena, plane, crossings, faces)? {
+    match pairs_of_faces(alloc, arena, plane, crossings, faces, places)? {
         Ok(pairs) => Ok(Ok(pairs)),
         Err(f) => Ok(Err(refusal(Why::CutCrossed, f))),
+    }
+}
+
+/// What the plane cuts of solid s, of which it meets this, where it can cut the edges that cross it and the faces that straddle it.
+fn check_cuts(
+    alloc: Global,
+    arena: &Arena,
+    plane: Plane,
+    s: u32,
+    met: &Met,
+) -> Result<Result<Cuts, Refusal>, AllocError>
+    requires ready { IsReady arena.now }
+    requires plane { IsCutPlane plane }
+    requires met { IsSolidMet arena.now.model plane s met.now }
+    ensures accepted { IfOk result (λ checked. IfOk checked (λ _. first_refusal (cut_conditions arena.now.model plane (crossing_edges arena.now.model plane s) (straddling_faces arena.now.model plane s)) ≡ None)) }
+    ensures cuts { IfOk result (λ checked. IfOk checked (λ cuts. AreCuts arena.now.model plane s cuts)) }
+    ensures refused { IfOk result (λ checked. IfErr checked (λ refusal. first_refusal (cut_conditions arena.now.model plane (crossing_edges arena.now.model plane s) (straddling_faces arena.now.model plane s)) ≡ Some refusal)) }
+{
+    let edges = met.looked.edges.as_slice();
+    let cut = match cut_edges(alloc, arena, plane, edges)? {
+        Ok(cut) => cut,
+        Err(e) => return Ok(Err(refusal(Why::NotLattice, e))),
+    };
+    let crossings = Crossings {
+        edges,
+        cut: cut.as_slice(),
+    };
+    let places = met.looked.places.as_slice();
+    let straddling = met.faces.as_slice();
+    let faces = match check_faces(alloc, arena, plane, crossings, straddling, places)? {
+        Ok(faces) => faces,
+        Err(refusal) => return Ok(Err(refusal)),
+    };
+    let pairs = pair_count(faces.as_slice());
+    match check_left(arena, edges.len().min(TOO_MANY), pairs) {
+        Ok(()) => Ok(Ok(Cuts { edges: cut, faces })),
+        Err(refusal) => Ok(Err(refusal)),
     }
 }
 
@@ -115,28 +152,11 @@ fn check_section(
     ensures cuts { IfOk result (λ checked. IfOk checked (λ cuts. AreCuts arena.now.model plane s cuts)) }
     ensures refused { IfOk result (λ checked. IfErr checked (λ refusal. first_refusal (sectioning_conditions arena.now.model s plane) ≡ Some refusal)) }
 {
-    if !is_met(arena, plane, s) {
+    let met = rising_meeting(alloc, arena, plane, s)?;
+    if !is_met(&met) {
         return Ok(Err(refusal(Why::PlaneMisses, s)));
     }
-    let edges = rising_crossings(alloc, arena, plane, s)?;
-    let cut = match cut_edges(alloc, arena, plane, edges.as_slice())? {
-        Ok(cut) => cut,
-        Err(e) => return Ok(Err(refusal(Why::NotLattice, e))),
-    };
-    let crossings = Crossings {
-        edges: edges.as_slice(),
-        cut: cut.as_slice(),
-    };
-    let cut_faces = straddling(alloc, arena, plane, s)?;
-    let faces = match check_faces(alloc, arena, plane, crossings, cut_faces.as_slice())? {
-        Ok(faces) => faces,
-        Err(refusal) => return Ok(Err(refusal)),
-    };
-    let pairs = pair_count(faces.as_slice());
-    match check_left(arena, edges.len().min(TOO_MANY), pairs) {
-        Ok(()) => Ok(Ok(Cuts { edges: cut, faces })),
-        Err(refusal) => Ok(Err(refusal)),
-    }
+    check_cuts(alloc, arena, plane, s, &met)
 }
 
 /// What the plane cuts of solid s, where it can begin to split s, whose upper part is to be solid t: the conditions that are tested
@@ -151,8 +171,8 @@ fn check_section(
 /// cut places at one point, or, with the places in the order of their points, a pair that isn't one up and one down; NumbersSpent
 /// with 2, 3, 4 or 5 where no numbers are left for the faces, loops, edges or vertices that cutting the edges and the faces takes.
 ///
-/// It looks at the faces of s alone, at each a few times, and takes n log n steps for n edges that cross, and for n cut places of a
-/// face. `AllocError` where memory is refused.
+/// It looks at the faces of s alone, at each a few times, and at the sides of the plane on which a corner lies once. It takes n log n
+/// steps for n edges that cross, and for n cut places of a face. `AllocError` where memory is refused.
 pub fn check_begin(
     alloc: Global,
     arena: &Arena,

@@ -1,26 +1,27 @@
-//! The edges that cross a plane, from the least to the greatest.
+//! What a plane meets of a solid, with the edges that cross it from the least to the greatest.
 ghost use Rattle.std.specs.Prelude.{◌≡◌, IfOk};
 ghost use Rattle.euler_conditions.specs.Ready.{IsReady};
 ghost use Rattle.euler_operators.specs.Ranges.{IsCutPlane};
-ghost use Rattle.shapes.specs.split.Sides.{crossing_edges};
+ghost use Rattle.split_checks.specs.cut_places.Meetings.{IsSolidMet};
 
-use crate::cut_places::across::crossings;
+use crate::cut_places::found::Met;
+use crate::cut_places::meetings::meeting;
 use euler_conditions::Arena;
 use euler_operators::Plane;
 use std::alloc::{AllocError, Global};
 
-/// The edges of solid s that cross the plane, rising.
-pub(crate) fn rising_crossings(
+/// What the plane meets of solid s, with the edges that cross it rising.
+pub(crate) fn rising_meeting(
     alloc: Global,
     arena: &Arena,
     plane: Plane,
     s: u32,
-) -> Result<Vec<u32>, AllocError>
+) -> Result<Met, AllocError>
     requires ready { IsReady arena.now }
     requires plane { IsCutPlane plane }
-    ensures { IfOk result (λ edges. edges.items ≡ crossing_edges arena.now.model plane s) }
+    ensures { IfOk result (λ met. IsSolidMet arena.now.model plane s met) }
 {
-    let mut edges = crossings(alloc, arena, plane, s)?;
-    edges.sort()?;
-    Ok(edges)
+    let mut met = meeting(alloc, arena, plane, s)?;
+    met.looked.edges.sort()?;
+    Ok(met)
 }

@@ -1,20 +1,17 @@
 //! On which sides of a plane faces have corners.
-ghost use Rattle.std.specs.Prelude.{◌≡◌, true, IfOk};
-ghost use Rattle.std.specs.List.{list_any};
+ghost use Rattle.std.specs.Prelude.{◌≡◌, true};
 ghost use Rattle.euler_operators.specs.HalfEdge.{code};
-ghost use Rattle.euler_operators.specs.Model.{content, cycle_of, faces_of, has_half};
+ghost use Rattle.euler_operators.specs.Model.{content, cycle_of, has_half};
 ghost use Rattle.euler_conditions.specs.Ready.{IsReady};
 ghost use Rattle.euler_conditions.specs.Store.{has_number};
 ghost use Rattle.euler_operators.specs.Ranges.{IsCutPlane};
 ghost use Rattle.shapes.specs.Faces.{vertices_on};
 ghost use Rattle.split_checks.specs.cut_places.Sides.{reaches, some_lie, some_start};
-ghost use Rattle.shapes.specs.split.Sides.{straddles, straddling_faces};
 
 use crate::cut_places::halves::starts_at;
 use crate::cut_places::planes::lies;
 use euler_conditions::Arena;
 use euler_operators::{Content, HalfEdge, Kind, Plane, Sign};
-use std::alloc::{AllocError, Global};
 
 /// Whether a half-edge of the loop in which h stands starts on that side of the plane. It walks from h on to the first that does.
 fn ring_reaches(arena: &Arena, plane: Plane, side: Sign, h: HalfEdge) -> bool
@@ -66,53 +63,4 @@ pub fn reaches(arena: &Arena, plane: Plane, side: Sign, f: u32) -> bool
         last = l;
     }
     false
-}
-
-/// Whether a face of solid s has a corner on that side of the plane.
-pub(crate) fn solid_reaches(arena: &Arena, plane: Plane, side: Sign, s: u32) -> bool
-    requires ready { IsReady arena.now }
-    requires plane { IsCutPlane plane }
-    ensures { result ≡ list_any (reaches side arena.now.model plane) (faces_of arena.now.model s) }
-{
-    let mut last = 0;
-    'faces: while let Some(f) = arena.face_after(s, last) {
-        if reaches(arena, plane, side, f) {
-            return true;
-        }
-        last = f;
-    }
-    false
-}
-
-/// Whether face f has a corner above the plane and one below.
-#[tactic(auto, unfolding(shapes::specs::split::Sides::straddles))]
-fn straddles(arena: &Arena, plane: Plane, f: u32) -> bool
-    requires ready { IsReady arena.now }
-    requires there { has_number arena.now Kind.Face f ≡ true }
-    requires plane { IsCutPlane plane }
-    ensures { result ≡ straddles arena.now.model plane f }
-{
-    reaches(arena, plane, Sign::Above, f) && reaches(arena, plane, Sign::Below, f)
-}
-
-/// The faces of solid s that straddle the plane, rising.
-pub(crate) fn straddling(
-    alloc: Global,
-    arena: &Arena,
-    plane: Plane,
-    s: u32,
-) -> Result<Vec<u32>, AllocError>
-    requires ready { IsReady arena.now }
-    requires plane { IsCutPlane plane }
-    ensures { IfOk result (λ faces. faces.items ≡ straddling_faces arena.now.model plane s) }
-{
-    let mut faces = Vec::new(alloc);
-    let mut last = 0;
-    'faces: while let Some(f) = arena.face_after(s, last) {
-        if straddles(arena, plane, f) {
-            faces.push(f)?;
-        }
-        last = f;
-    }
-    Ok(faces)
 }

@@ -1,44 +1,56 @@
 //! The pairs of the cut places of some faces.
 ghost use Rattle.std.specs.Prelude.{◌≡◌, map, None, Some, IfErr, IfOk};
+ghost use Rattle.euler_operators.specs.HalfEdge.{code};
 ghost use Rattle.euler_operators.specs.Ranges.{IsCutPlane};
 ghost use Rattle.euler_conditions.specs.Ready.{IsReady};
 ghost use Rattle.shapes.specs.Fresh.{first_such};
 ghost use Rattle.shapes.specs.split.Places.{is_crossed};
 ghost use Rattle.split_checks.specs.Cuts.{all_place_pairs, paired};
+ghost use Rattle.split_checks.specs.cut_places.Meetings.{AreTold, faces_in};
 ghost use Rattle.split_checks.specs.cut_places.Places.{AreFacesAlong};
 ghost use Rattle.split_checks.specs.place_order.Order.{AreCrossings};
 
+use crate::cut_places::FaceMet;
 use crate::cuts::{Crossings, FacePairs};
-use crate::face_pairs::pairs::pairs_of_face;
+use crate::face_pairs::pairs::pairs_of_places;
 use euler_conditions::Arena;
-use euler_operators::Plane;
+use euler_operators::{HalfEdge, Plane};
 use std::alloc::{AllocError, Global};
 
-/// The faces, each with the pairs of its cut places; or the first of them that has two cut places at one point, or a pair that isn't
+/// The faces, of which these are the cut places one face after the other, each with the pairs of its places; or the first of them that has two cut places at one point, or a pair that isn't
 /// one up and one down.
 pub(crate) fn pairs_of_faces(
     alloc: Global,
     arena: &Arena,
     plane: Plane,
     crossings: Crossings<'_>,
-    faces: &[u32],
+    faces: &[FaceMet],
+    places: &[HalfEdge],
 ) -> Result<Result<Vec<FacePairs>, u32>, AllocError>
     requires ready { IsReady arena.now }
     requires plane { IsCutPlane plane }
     requires crossings { AreCrossings arena.now.model plane crossings.edges.now crossings.cut.now }
-    requires whole { AreFacesAlong arena.now.model plane crossings.edges.now faces.now }
-    ensures uncrossed { IfOk result (λ found. IfOk found (λ _. first_such (is_crossed arena.now.model plane) faces.now ≡ None)) }
-    ensures paired { IfOk result (λ found. IfOk found (λ pairs. map paired pairs.items ≡ all_place_pairs arena.now.model plane faces.now)) }
-    ensures crossed { IfOk result (λ found. IfErr found (λ f. first_such (is_crossed arena.now.model plane) faces.now ≡ Some f)) }
+    requires whole { AreFacesAlong arena.now.model plane crossings.edges.now (faces_in faces.now) }
+    requires told { AreTold arena.now.model plane faces.now (map code places.now) }
+    ensures uncrossed { IfOk result (λ found. IfOk found (λ _. first_such (is_crossed arena.now.model plane) (faces_in faces.now) ≡ None)) }
+    ensures paired { IfOk result (λ found. IfOk found (λ pairs. map paired pairs.items ≡ all_place_pairs arena.now.model plane (faces_in faces.now))) }
+    ensures crossed { IfOk result (λ found. IfErr found (λ f. first_such (is_crossed arena.now.model plane) (faces_in faces.now) ≡ Some f)) }
 {
     let mut found = Vec::new(alloc);
     let mut rest = faces;
-    'faces: while let [f, others @ ..] = rest {
-        let Some(pairs) = pairs_of_face(alloc, arena, plane, crossings, *f)? else {
-            return Ok(Err(*f));
-        };
-        found.push(FacePairs { face: *f, pairs })?;
+    let mut left = places;
+    'faces: while let [met, others @ ..] = rest {
+        let (mine, more) = left.split_at(met.places);
+        let made = pairs_of_places(alloc, arena, plane, crossings, mine)?;
+        match made {
+            Some(pairs) => found.push(FacePairs {
+                face: met.face,
+                pairs,
+            })?,
+            None => return Ok(Err(met.face)),
+        }
         rest = others;
+        left = more;
     }
     Ok(Ok(found))
 }

@@ -6,18 +6,16 @@ ghost use Rattle.euler_operators.specs.Model.{has_half};
 ghost use Rattle.euler_operators.specs.Ranges.{IsCutPlane};
 ghost use Rattle.euler_operators.specs.Vectors.{same_point};
 ghost use Rattle.euler_conditions.specs.Ready.{IsReady};
-ghost use Rattle.euler_conditions.specs.Store.{has_number};
-ghost use Rattle.shapes.specs.split.Places.{in_pairs, is_crossed, is_up_and_down, place_pairs, place_point, sorted, up_first};
+ghost use Rattle.shapes.specs.split.Places.{in_pairs, is_up_and_down, place_point, sorted, up_first};
 ghost use Rattle.split_checks.specs.Cuts.{codes};
-ghost use Rattle.split_checks.specs.cut_places.Places.{IsFaceAlong};
 ghost use Rattle.split_checks.specs.cut_places.Walks.{AreThere};
-ghost use Rattle.split_checks.specs.place_order.Order.{AreCrossings, IsPlaceAlong, places_of};
+ghost use Rattle.split_checks.specs.place_order.Order.{AreCrossings, ArePlacesAlong, IsPlaceAlong, are_crossed, places_of};
 
-use crate::cut_places::{goes_up, places};
+use crate::cut_places::goes_up;
 use crate::cuts::{Crossings, Pair};
 use crate::place_order::{Places, in_order, place_point};
 use euler_conditions::Arena;
-use euler_operators::{HalfEdge, Kind, Plane};
+use euler_operators::{HalfEdge, Plane};
 use std::alloc::{AllocError, Global};
 
 /// Two cut places as a pair, where one is up and the other down.
@@ -99,28 +97,26 @@ fn pairs_in_order(
     Ok(Some(pairs))
 }
 
-/// The pairs of the cut places of face f, each with its up place first, in the order of their points; none where two places have equal
+/// The pairs of the cut places of a face, each with its up place first, in the order of their points; none where two places have equal
 /// points, or a pair isn't one up and one down. Of two places the points are compared, but not put in order.
-pub(crate) fn pairs_of_face(
+pub(crate) fn pairs_of_places(
     alloc: Global,
     arena: &Arena,
     plane: Plane,
     crossings: Crossings<'_>,
-    f: u32,
+    places: &[HalfEdge],
 ) -> Result<Option<Vec<Pair>>, AllocError>
     requires ready { IsReady arena.now }
-    requires there { has_number arena.now Kind.Face f ≡ true }
     requires plane { IsCutPlane plane }
     requires crossings { AreCrossings arena.now.model plane crossings.edges.now crossings.cut.now }
-    requires whole { IsFaceAlong arena.now.model plane crossings.edges.now f }
-    ensures crossed { IfOk result (λ found. is_none found ≡ is_crossed arena.now.model plane f) }
-    ensures pairs { IfOk result (λ found. IfSome found (λ pairs. map codes pairs.items ≡ place_pairs arena.now.model plane f)) }
+    requires whole { ArePlacesAlong arena.now.model plane crossings.edges.now (map code places.now) }
+    ensures crossed { IfOk result (λ found. is_none found ≡ are_crossed arena.now.model plane (map code places.now)) }
+    ensures pairs { IfOk result (λ found. IfSome found (λ pairs. map codes pairs.items ≡ map (up_first arena.now.model plane) (in_pairs (sorted arena.now.model plane (map code places.now))))) }
 {
-    let met = places(alloc, arena, plane, f)?;
-    if let [first, second] = met.as_slice() {
+    if let [first, second] = places {
         return only_pair(alloc, arena, plane, crossings, *first, *second);
     }
-    match in_order(alloc, arena, plane, crossings, met)? {
+    match in_order(alloc, arena, plane, crossings, places)? {
         Some(order) => pairs_in_order(alloc, arena, plane, order),
         None => Ok(None),
     }

@@ -22,22 +22,23 @@ pub(crate) fn in_order(
     arena: &Arena,
     plane: Plane,
     crossings: Crossings<'_>,
-    places: Vec<HalfEdge>,
+    places: &[HalfEdge],
 ) -> Result<Option<Places>, AllocError>
     requires ready { IsReady arena.now }
     requires plane { IsCutPlane plane }
     requires crossings { AreCrossings arena.now.model plane crossings.edges.now crossings.cut.now }
-    requires whole { ArePlacesAlong arena.now.model plane crossings.edges.now (map code places.items) }
-    ensures { IfOk result (λ found. MatchOption found (some_meet arena.now.model plane (map code places.items) ≡ true)
-        (λ order. (some_meet arena.now.model plane (map code places.items) ≡ false) × (order.entries ≡ entries_of arena.now.model plane (sorted arena.now.model plane (map code places.items))))) }
+    requires whole { ArePlacesAlong arena.now.model plane crossings.edges.now (map code places.now) }
+    ensures { IfOk result (λ found. MatchOption found (some_meet arena.now.model plane (map code places.now) ≡ true)
+        (λ order. (some_meet arena.now.model plane (map code places.now) ≡ false) × (order.entries ≡ entries_of arena.now.model plane (sorted arena.now.model plane (map code places.now))))) }
 {
-    let mut left = places;
+    let mut rest = places;
     let mut order = BTreeMap::new(alloc);
-    'places: while let Some(h) = left.pop() {
-        let met = order.insert(key_of(place_point(arena, plane, crossings, h)), h)?;
+    'places: while let [others @ .., h] = rest {
+        let met = order.insert(key_of(place_point(arena, plane, crossings, *h)), *h)?;
         if met.is_some() {
             return Ok(None);
         }
+        rest = others;
     }
     Ok(Some(order))
 }

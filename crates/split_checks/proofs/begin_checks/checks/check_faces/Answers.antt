@@ -1,8 +1,32 @@
-use Rattle.split_checks.proofs.cut_places_laws.Edges.{along_there}
+use Rattle.std.proofs.Common.{◌≡◌, ◌∙◌, Some, None, map, sym, ap}
+use Rattle.euler_operators.specs.HalfEdge.{code}
+use Rattle.shapes.specs.Fresh.{first_such}
+use Rattle.shapes.specs.split.Places.{is_crossed}
+use Rattle.split_checks.specs.cut_places.Meetings.{faces_in}
+use Rattle.split_checks.specs.declared.begin_checks.flaws.Flaw.TheVariants.{Touched, CutOften}
+use Rattle.split_checks.proofs.begin_checks_laws.Stages.{at_ok, at_err, touched_refused, often_refused, crossed_refused, none_refused}
+use Rattle.split_checks.proofs.cut_places_laws.Told.{first_flaw}
 use Rattle.split_checks.proofs.begin_checks.checks.check_faces.Goals as goal
 
-pub first_flawed-requires-clause-there : goal.first_flawed-requires-clause-there
-first_flawed-requires-clause-there c = along_there c.args.arena.now.model c.args.plane c.args.crossings.edges.now c.args.faces.now c.requires.whole
+pub returns-in-Some-clause-refused : goal.returns-in-Some-clause-refused
+returns-in-Some-clause-refused c =
+    let M = c.args.arena.now.model in let p = c.args.plane in let qs = c.args.faces.now in let hs = map code c.args.places.now in
+    touched_refused M p (faces_in qs) c.in-Some.f (c.in-Some.ensures ∙ first_flaw M p Touched qs hs c.requires.told) ∙ ap Some (sym c.refusal.ensures)
 
-pub first_flawed-requires-2-clause-there : goal.first_flawed-requires-2-clause-there
-first_flawed-requires-2-clause-there c = along_there c.args.arena.now.model c.args.plane c.args.crossings.edges.now c.args.faces.now c.requires.whole
+pub returns-in-Some-first_flawed-clause-refused : goal.returns-in-Some-first_flawed-clause-refused
+returns-in-Some-first_flawed-clause-refused c =
+    let M = c.args.arena.now.model in let p = c.args.plane in let qs = c.args.faces.now in let hs = map code c.args.places.now in
+    often_refused M p (faces_in qs) c.in-Some-first_flawed.f (c.in_default.ensures ∙ first_flaw M p Touched qs hs c.requires.told) (c.in-Some-first_flawed.ensures ∙ first_flaw M p CutOften qs hs c.requires.told)
+    ∙ ap Some (sym c.refusal-in-Some-first_flawed.ensures)
+
+pub returns-in-Ok-clause-accepted : goal.returns-in-Ok-clause-accepted
+returns-in-Ok-clause-accepted c =
+    let M = c.args.arena.now.model in let p = c.args.plane in let qs = c.args.faces.now in let hs = map code c.args.places.now in
+    none_refused M p (faces_in qs) (c.in_default.ensures ∙ first_flaw M p Touched qs hs c.requires.told) (c.in_default-first_flawed.ensures ∙ first_flaw M p CutOften qs hs c.requires.told)
+    (at_ok c.in_ok-pairs.field-0 c.in-Ok.pairs (λ _. first_such (is_crossed M p) (faces_in qs) ≡ None) c.in-Ok.is c.in_ok-pairs.ensures.uncrossed)
+
+pub returns-in-Err-clause-refused : goal.returns-in-Err-clause-refused
+returns-in-Err-clause-refused c =
+    let M = c.args.arena.now.model in let p = c.args.plane in let qs = c.args.faces.now in let hs = map code c.args.places.now in
+    crossed_refused M p (faces_in qs) (c.in_default.ensures ∙ first_flaw M p Touched qs hs c.requires.told) (c.in_default-first_flawed.ensures ∙ first_flaw M p CutOften qs hs c.requires.told) c.in-Err.f
+    (at_err c.in_ok-pairs.field-0 c.in-Err.f (λ f. first_such (is_crossed M p) (faces_in qs) ≡ Some f) c.in-Err.is c.in_ok-pairs.ensures.crossed) ∙ ap Some (sym c.refusal-in-Err.ensures)

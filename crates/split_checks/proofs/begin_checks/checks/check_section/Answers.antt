@@ -1,81 +1,17 @@
-use Rattle.std.proofs.Common.{◌≡◌, ◌∙◌, ◌+◌, ℕ, List, Some, None, map, length, vec_len, sym, ap, subst, arith}
-use Rattle.std.specs.Prelude.{min}
-use Rattle.euler_operators.specs.Conditions.{first_refusal, strictly_rises}
-use Rattle.euler_laws.proofs.shared.Goes.{verdict_passed, verdict_failed}
-use Rattle.shapes.specs.Fresh.{first_such, numbers_left, taken_in}
-use Rattle.shapes.specs.split.Drawing.{FacePairs}
-use Rattle.shapes.specs.split.Sides.{straddling_faces}
-use Rattle.split_checks.specs.Cuts.{how_many_pairs, all_place_pairs, cut_at, paired}
-use Rattle.split_checks.specs.begin_checks.Conditions.{face_conditions}
-use Rattle.split_checks.specs.cut_places.Crossings.{AreCrossing, is_off}
-use Rattle.split_checks.specs.cut_places.Places.{AreFacesAlong}
-use Rattle.split_checks.proofs.cut_places_laws.Edges.{all_cross, straddling_along}
-use Rattle.split_checks.proofs.cut_places_laws.Sorted.{crossings_rise}
-use Rattle.split_checks.proofs.face_pairs_laws.Counts.{all_counted}
-use Rattle.split_checks.proofs.begin_checks_laws.Stages.{at_ok, at_err, edges_refused, faces_refused, numbers_decide}
+use Rattle.std.proofs.Common.{◌≡◌, ◌∙◌, ◌&&◌, Some, None, IfOk, IfErr, sym, ap, subst}
+use Rattle.split_checks.proofs.begin_checks_laws.Stages.{met_decides, missed}
 use Rattle.split_checks.proofs.begin_checks.checks.check_section.Goals as goal
 
-pub cut_edges-requires-clause-crossing : goal.cut_edges-requires-clause-crossing
-cut_edges-requires-clause-crossing c =
-    let M = c.args.arena.now.model in let p = c.args.plane in
-    subst (AreCrossing M p) (sym (c.as_slice.ensures.value ∙ c.in_ok-edges.ensures)) (all_cross M c.requires.ready.sound c.args.s p)
+pub returns-then-not-is_met-clause-refused : goal.returns-then-not-is_met-clause-refused
+returns-then-not-is_met-clause-refused c =
+    missed c.args.arena.now.model c.args.s c.args.plane ((λ i. sym c.in_ok-met.ensures.above i && sym c.in_ok-met.ensures.below i) ∙ sym c.is_met.ensures ∙ c.if-not-is_met.true) ∙ ap Some (sym c.refusal.ensures)
 
-pub returns-in-Err-clause-refused : goal.returns-in-Err-clause-refused
-returns-in-Err-clause-refused c =
-    let M = c.args.arena.now.model in let p = c.args.plane in
-    let off = at_err c.in_ok-cut.field-0 c.in-Err.e (λ e. first_such (is_off M p) c.as_slice.result.now ≡ Some e) c.in-Err.is c.in_ok-cut.ensures.off in
-    edges_refused M c.args.s p (sym c.is_met.ensures ∙ c.if-not-is_met.false) c.in-Err.e (ap (first_such (is_off M p)) (sym (c.as_slice.ensures.value ∙ c.in_ok-edges.ensures)) ∙ off) ∙ ap Some (sym c.refusal-in-Err.ensures)
-
-pub check_faces-requires-clause-crossings : goal.check_faces-requires-clause-crossings
-check_faces-requires-clause-crossings c =
-    let M = c.args.arena.now.model in let p = c.args.plane in
-    record {
-      rising = ap strictly_rises (c.as_slice-2.ensures.value ∙ c.in_ok-edges.ensures) ∙ crossings_rise M c.requires.ready.sound c.args.s p;
-      points = c.as_slice-3.ensures.value
-          ∙ at_ok c.in_ok-cut.field-0 c.in-Ok.cut (λ cut. cut.items ≡ map (cut_at M p) c.as_slice.result.now) c.in-Ok.is c.in_ok-cut.ensures.cut
-          ∙ ap (map (cut_at M p)) (c.as_slice.ensures.value ∙ sym c.as_slice-2.ensures.value);
-    }
-
-pub check_faces-requires-clause-whole : goal.check_faces-requires-clause-whole
-check_faces-requires-clause-whole c =
-    let M = c.args.arena.now.model in let p = c.args.plane in
-    subst (AreFacesAlong M p c.as_slice-2.result.now) (sym (c.as_slice-4.ensures.value ∙ c.in_ok-cut_faces.ensures))
-    (subst (λ es. AreFacesAlong M p es (straddling_faces M p c.args.s)) (sym (c.as_slice-2.ensures.value ∙ c.in_ok-edges.ensures)) (straddling_along M c.requires.ready.sound c.args.s p))
-
-pub returns-in-Err-2-clause-refused : goal.returns-in-Err-2-clause-refused
-returns-in-Err-2-clause-refused c =
-    let M = c.args.arena.now.model in let p = c.args.plane in
-    let whole = sym (at_ok c.in_ok-cut.field-0 c.in-Ok.cut (λ _. first_such (is_off M p) c.as_slice.result.now ≡ None) c.in-Ok.is c.in_ok-cut.ensures.whole) ∙ ap (first_such (is_off M p)) (c.as_slice.ensures.value ∙ c.in_ok-edges.ensures) in
-    faces_refused M c.args.s p (sym c.is_met.ensures ∙ c.if-not-is_met.false) whole c.in-Err-2.refusal
-    (ap (λ fs. first_refusal (face_conditions M p fs)) (sym (c.as_slice-4.ensures.value ∙ c.in_ok-cut_faces.ensures))
-    ∙ at_err c.in_ok-faces.field-0 c.in-Err-2.refusal (λ refusal. first_refusal (face_conditions M p c.as_slice-4.result.now) ≡ Some refusal) c.in-Err-2.is c.in_ok-faces.ensures.refused)
-
-pub returns-in-Ok-check_left-clause-accepted : goal.returns-in-Ok-check_left-clause-accepted
-returns-in-Ok-check_left-clause-accepted c =
-    let M = c.args.arena.now.model in let p = c.args.plane in let s = c.args.s in
-    let whole = sym (at_ok c.in_ok-cut.field-0 c.in-Ok.cut (λ _. first_such (is_off M p) c.as_slice.result.now ≡ None) c.in-Ok.is c.in_ok-cut.ensures.whole) ∙ ap (first_such (is_off M p)) (c.as_slice.ensures.value ∙ c.in_ok-edges.ensures) in
-    let cut = c.as_slice-4.ensures.value ∙ c.in_ok-cut_faces.ensures in
-    let edges = c.in_ok-edges.edges in
-    let many : vec_len edges ≡ length edges.items = omega (arith, edges.ok.0) in
-    let m = c.min.result in let n = c.pair_count-pairs.result in
-    let faces = at_ok c.in_ok-faces.field-0 c.in-Ok-2.faces (λ _. first_refusal (face_conditions M p c.as_slice-4.result.now) ≡ None) c.in-Ok-2.is c.in_ok-faces.ensures.accepted in
-    let pairs = at_ok c.in_ok-faces.field-0 c.in-Ok-2.faces (λ pairs. map paired pairs.items ≡ all_place_pairs M p c.as_slice-4.result.now) c.in-Ok-2.is c.in_ok-faces.ensures.paired in
-    sym (numbers_decide M s p (sym c.is_met.ensures ∙ c.if-not-is_met.false) whole (ap (λ fs. first_refusal (face_conditions M p fs)) (sym cut) ∙ faces) m n
-    (c.min.ensures ∙ ap (λ k. min k 1000001) (c.len.ensures ∙ many ∙ ap (λ (es : List ℕ). length es) c.in_ok-edges.ensures))
-    (c.pair_count-pairs.ensures ∙ ap (λ (fs : List FacePairs). min (how_many_pairs fs) 1000001) (ap (map paired) c.as_slice-5.ensures.value ∙ pairs ∙ ap (all_place_pairs M p) cut) ∙ ap (λ k. min k 1000001) (all_counted M p _)))
-    ∙ verdict_passed (first_refusal (numbers_left (taken_in M) (record { faces = n; loops = n; edges = m + n; vertices = m }))) c.in-Ok-check_left.field-0 c.in-Ok-check_left.ensures
+pub returns-clause-accepted : goal.returns-clause-accepted
+returns-clause-accepted c =
+    let met = met_decides c.args.arena.now.model c.args.s c.args.plane ((λ i. sym c.in_ok-met.ensures.above i && sym c.in_ok-met.ensures.below i) ∙ sym c.is_met.ensures ∙ c.if-not-is_met.false) in
+    subst (λ o. IfOk c.check_cuts.result (λ checked. IfOk checked (λ _. o ≡ None))) met c.check_cuts.ensures.accepted
 
 pub returns-clause-refused : goal.returns-clause-refused
 returns-clause-refused c =
-    let M = c.args.arena.now.model in let p = c.args.plane in let s = c.args.s in
-    let whole = sym (at_ok c.in_ok-cut.field-0 c.in-Ok.cut (λ _. first_such (is_off M p) c.as_slice.result.now ≡ None) c.in-Ok.is c.in_ok-cut.ensures.whole) ∙ ap (first_such (is_off M p)) (c.as_slice.ensures.value ∙ c.in_ok-edges.ensures) in
-    let cut = c.as_slice-4.ensures.value ∙ c.in_ok-cut_faces.ensures in
-    let edges = c.in_ok-edges.edges in
-    let many : vec_len edges ≡ length edges.items = omega (arith, edges.ok.0) in
-    let m = c.min.result in let n = c.pair_count-pairs.result in
-    let faces = at_ok c.in_ok-faces.field-0 c.in-Ok-2.faces (λ _. first_refusal (face_conditions M p c.as_slice-4.result.now) ≡ None) c.in-Ok-2.is c.in_ok-faces.ensures.accepted in
-    let pairs = at_ok c.in_ok-faces.field-0 c.in-Ok-2.faces (λ pairs. map paired pairs.items ≡ all_place_pairs M p c.as_slice-4.result.now) c.in-Ok-2.is c.in_ok-faces.ensures.paired in
-    sym (numbers_decide M s p (sym c.is_met.ensures ∙ c.if-not-is_met.false) whole (ap (λ fs. first_refusal (face_conditions M p fs)) (sym cut) ∙ faces) m n
-    (c.min.ensures ∙ ap (λ k. min k 1000001) (c.len.ensures ∙ many ∙ ap (λ (es : List ℕ). length es) c.in_ok-edges.ensures))
-    (c.pair_count-pairs.ensures ∙ ap (λ (fs : List FacePairs). min (how_many_pairs fs) 1000001) (ap (map paired) c.as_slice-5.ensures.value ∙ pairs ∙ ap (all_place_pairs M p) cut) ∙ ap (λ k. min k 1000001) (all_counted M p _)))
-    ∙ verdict_failed (first_refusal (numbers_left (taken_in M) (record { faces = n; loops = n; edges = m + n; vertices = m }))) c.in-Err-check_left.refusal c.in-Err-check_left.ensures
+    let met = met_decides c.args.arena.now.model c.args.s c.args.plane ((λ i. sym c.in_ok-met.ensures.above i && sym c.in_ok-met.ensures.below i) ∙ sym c.is_met.ensures ∙ c.if-not-is_met.false) in
+    subst (λ o. IfOk c.check_cuts.result (λ checked. IfErr checked (λ refusal. o ≡ Some refusal))) met c.check_cuts.ensures.refused

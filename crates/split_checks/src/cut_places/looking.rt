@@ -1,0 +1,123 @@
+//! The corners of a loop looked at once, each with the next one.
+ghost use Rattle.std.specs.Prelude.{◌≡◌, ◌∷◌, [], true, IfOk, OnOk};
+ghost use Rattle.euler_operators.specs.HalfEdge.{code};
+ghost use Rattle.euler_operators.specs.Model.{content, cycle_of, has_half, items_of, tail};
+ghost use Rattle.euler_operators.specs.Ranges.{IsCutPlane};
+ghost use Rattle.euler_operators.specs.Vectors.{height, sign_of};
+ghost use Rattle.euler_conditions.specs.Ready.{IsReady};
+ghost use Rattle.euler_conditions.specs.Store.{has_number};
+ghost use Rattle.shapes.specs.Faces.{finish, start, vertices_on};
+ghost use Rattle.shapes.specs.split.Places.{loop_is_cut};
+ghost use Rattle.split_checks.specs.cut_places.Meetings.{IsMet, IsRound, with_side};
+
+use crate::cut_places::found::Looked;
+use crate::cut_places::halves::{passes, start_side};
+use crate::cut_places::planes::{opposite, same, side_of};
+use euler_conditions::Arena;
+use euler_operators::{Content, HalfEdge, Kind, Plane, Sign};
+use solid_measure::least_item;
+use std::alloc::AllocError;
+
+/// A corner lies on this side.
+fn mark_side(looked: &mut Looked, side: Sign)
+    ensures { looked.new ≡ with_side looked.old side }
+{
+    match side {
+        Sign::Below => looked.below = true,
+        Sign::On => {}
+        Sign::Above => looked.above = true,
+    }
+}
+
+/// The half-edge, which starts and ends on these sides of the plane, is looked at.
+fn look_at(
+    arena: &Arena,
+    plane: Plane,
+    h: HalfEdge,
+    from: Sign,
+    to: Sign,
+    looked: &mut Looked,
+) -> Result<(), AllocError>
+    requires ready { IsReady arena.now }
+    requires there { has_half arena.now.model (code h) ≡ true }
+    requires plane { IsCutPlane plane }
+    requires from { from ≡ sign_of (height plane (start arena.now.model (code h))) }
+    requires to { to ≡ sign_of (height plane (finish arena.now.model (code h))) }
+    ensures { OnOk result (IsMet arena.now.model plane looked.old looked.new (code h ∷ []) (tail arena.now.model (code h) ∷ [])) }
+{
+    mark_side(looked, from);
+    if opposite(from, to) {
+        if h.first {
+            looked.edges.push(h.edge)?;
+        }
+        looked.places.push(h)?;
+    } else if same(from, Sign::On) {
+        if passes(arena, plane, h) {
+            looked.places.push(h)?;
+        } else {
+            looked.touched = true;
+        }
+    }
+    Ok(())
+}
+
+/// The half-edges of the loop in which h stands are looked at, from the least on.
+fn look_round(
+    arena: &Arena,
+    plane: Plane,
+    h: HalfEdge,
+    looked: &mut Looked,
+) -> Result<(), AllocError>
+    requires ready { IsReady arena.now }
+    requires there { has_half arena.now.model (code h) ≡ true }
+    requires plane { IsCutPlane plane }
+    ensures { OnOk result (IsRound arena.now.model plane looked.old looked.new (cycle_of arena.now.model (code h))) }
+{
+    let first = least_item(arena, h);
+    let mut at = first;
+    let mut from = start_side(arena, plane, first);
+    'round: loop {
+        let next = arena.next(at);
+        let to = start_side(arena, plane, next);
+        look_at(arena, plane, at, from, to, looked)?;
+        if next == first {
+            return Ok(());
+        }
+        at = next;
+        from = to;
+    }
+}
+
+/// The corners of loop l are looked at.
+fn look_along(arena: &Arena, plane: Plane, l: u32, looked: &mut Looked) -> Result<(), AllocError>
+    requires ready { IsReady arena.now }
+    requires there { has_number arena.now Kind.Loop l ≡ true }
+    requires plane { IsCutPlane plane }
+    ensures { OnOk result (IsMet arena.now.model plane looked.old looked.new (items_of (content arena.now.model l)) (vertices_on arena.now.model (content arena.now.model l))) }
+{
+    match arena.content(l) {
+        Content::Lone(v) => {
+            mark_side(looked, side_of(plane, arena.point(v)));
+            Ok(())
+        }
+        Content::Ring(h) => look_round(arena, plane, h, looked),
+    }
+}
+
+/// The corners of loop l are looked at. It tells whether the loop has a cut place.
+pub(crate) fn look_at_loop(
+    arena: &Arena,
+    plane: Plane,
+    l: u32,
+    looked: &mut Looked,
+) -> Result<bool, AllocError>
+    requires ready { IsReady arena.now }
+    requires there { has_number arena.now Kind.Loop l ≡ true }
+    requires plane { IsCutPlane plane }
+    ensures met { OnOk result (IsMet arena.now.model plane looked.old looked.new (items_of (content arena.now.model l)) (vertices_on arena.now.model (content arena.now.model l))) }
+    ensures cut { IfOk result (λ cut. cut ≡ loop_is_cut arena.now.model plane l) }
+{
+    let before = looked.places.len();
+    look_along(arena, plane, l, looked)?;
+    Ok(looked.places.len() > before)
+}
