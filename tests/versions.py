@@ -1,12 +1,15 @@
 #!/usr/bin/env python3
-"""Compares the version in VERSION, at the top, with each place that says it. The last line says how many are as it is.
+"""Compares the version in VERSION, at the top, with each place that says it, and the logic that the README names with that of the kit on this
+machine, where there is one. The last line says how many are as it is.
 
     tests/versions.py
 """
 import re
+import shutil
+import subprocess
 import sys
 from pathlib import Path
-from typing import Iterator, NamedTuple
+from typing import Iterator, List, NamedTuple
 
 TOP = Path(__file__).resolve().parent.parent
 
@@ -41,12 +44,27 @@ def complaint(place: Place) -> str:
     return '' if found.group(1) == place.wanted else f'{place.file}: {found.group(1)}, not {place.wanted}'
 
 
+def logic_complaints() -> List[str]:
+    """What is wrong with the logic that the README names, or an empty text; nothing where there is no kit to compare it with. That the kit is none
+    of those named is told, and isn't wrong: the proofs rest on the logic."""
+    if shutil.which('rt') is None:
+        print('README.md: its logic was compared with none, since there is no rt')
+        return []
+    said = subprocess.run(['rt', 'version'], stdout=subprocess.PIPE, check=False, text=True).stdout
+    kit = re.match(r'(\S+) logic (\w+)', said)
+    if kit is None:
+        return [f'rt version: {said!r} names no logic']
+    if f'`{kit.group(1)}`' not in (TOP / 'README.md').read_text():
+        print(f'README.md: this kit, {kit.group(1)}, is none that it names')
+    return [complaint(Place('README.md', r'logic `(\w+)`', kit.group(2)))]
+
+
 def main() -> int:
     version = (TOP / 'VERSION').read_text().strip()
     if not re.fullmatch(r'\d+\.\d+\.\d+', version):
         print(f'VERSION: {version!r} is no version\n0 passed, 1 failed')
         return 1
-    found = [complaint(place) for place in places(version)]
+    found = [complaint(place) for place in places(version)] + logic_complaints()
     wrong = [why for why in found if why]
     print(*wrong, f'{len(found) - len(wrong)} passed, {len(wrong)} failed', sep='\n')
     return 1 if wrong else 0
