@@ -54,9 +54,9 @@ def logic_complaints() -> List[str]:
     kit = re.match(r'(\S+) logic (\w+)', said)
     if kit is None:
         return [f'rt version: {said!r} names no logic']
-    if f'`{kit.group(1)}`' not in (TOP / 'README.md').read_text():
+    if not re.search(rf'`{kit.group(1)}\b', (TOP / 'README.md').read_text()):
         print(f'README.md: this kit, {kit.group(1)}, is none that it names')
-    return [complaint(Place('README.md', r'logic `(\w+)`', kit.group(2)))]
+    return [complaint(Place('README.md', r'`rattle-kit-\w+ logic (\w+)`', kit.group(2)))]
 
 
 def main() -> int:
