@@ -33,7 +33,9 @@ pub record Unseen (M : Model) (h a b n : ℕ) : Type 0 where
   pub not_behind : count b between ≡ 0
   pub at_vertex : (x : ℕ) → IsIn x between → HasHalf M x × (tail M x ≡ tail M h)
   pub ahead_there : HasHalf M a
+  pub ahead_here : tail M a ≡ tail M h
   pub behind_there : HasHalf M b
+  pub behind_here : tail M b ≡ tail M h
   pub seen : (x : ℕ) → HasHalf M x → tail M x ≡ tail M h → (edge_of h ≤ edge_of x) ⊎ IsIn x between
   pub short : length between ≤ n
 
@@ -74,7 +76,9 @@ module _ (M : Model) (sound : Sound M) (h : ℕ) (there : HasHalf M h) where
         not_behind = once;
         at_vertex = of_it;
         ahead_there = there;
+        ahead_here = refl;
         behind_there = there;
+        behind_here = refl;
         seen = λ x t e. elim (eqb_tells x h) [ inl s ↦ inl (omega (arith, ap edge_of s.1)) | inr n ↦ inr (omega (arith, same x, fan.all x t e, tick_other x h n.1)) ];
         short = length_below steps ys d (λ x j. half_below M sound x (of_it x j).0);
       }
@@ -134,9 +138,16 @@ module _ (M : Model) (sound : Sound M) (h : ℕ) (there : HasHalf M h) where
     first_unseen : (s : NextAhead a b n w) → HasHalf M (round M a) × (tail M (round M a) ≡ tail M h)
     first_unseen s = w.at_vertex (round M a) (omega (arith, ap (count (round M a)) s.split, tick_same (round M a)))
 
-    pub lesser_ahead : round M a ≢ b → edge_of (round M a) < edge_of h → leads M h ≡ false
-    lesser_ahead ne l = elim ahead_cases [
-      | inl z ↦ absurd (ne z.1)
+    -- neither end of the walk is of a lesser edge
+    ahead_least : edge_of h ≤ edge_of a
+    ahead_least = elim (w.seen a w.ahead_there w.ahead_here) [ inl l ↦ l | inr i ↦ absurd (omega (arith, i, w.not_ahead)) ]
+
+    behind_least : edge_of h ≤ edge_of b
+    behind_least = elim (w.seen b w.behind_there w.behind_here) [ inl l ↦ l | inr i ↦ absurd (omega (arith, i, w.not_behind)) ]
+
+    pub lesser_ahead : edge_of (round M a) < edge_of h → leads M h ≡ false
+    lesser_ahead l = elim ahead_cases [
+      | inl z ↦ absurd (omega (arith, l, behind_least, ap edge_of z.1))
       | inr s ↦ let v = first_unseen s in leads_false M h (round M a) v.0 v.1 l
     ]
 
@@ -151,7 +162,9 @@ module _ (M : Model) (sound : Sound M) (h : ℕ) (there : HasHalf M h) where
         not_behind = omega (arith, c b, w.not_behind);
         at_vertex = λ x i. w.at_vertex x (omega (arith, c x, i));
         ahead_there = (first_unseen s).0;
+        ahead_here = (first_unseen s).1;
         behind_there = w.behind_there;
+        behind_here = w.behind_here;
         seen = λ x t e. elim (w.seen x t e) [
           | inl q ↦ inl q
           | inr i ↦ elim (eqb_tells x (round M a)) [ inl q ↦ inl (omega (arith, l, ap edge_of q.1)) | inr q ↦ inr (omega (arith, c x, i, tick_other x (round M a) q.1)) ]
@@ -171,9 +184,9 @@ module _ (M : Model) (sound : Sound M) (h : ℕ) (there : HasHalf M h) where
     last_unseen : (s : NextBehind a b n w) → HasHalf M (mate (before M b)) × (tail M (mate (before M b)) ≡ tail M h)
     last_unseen s = let x = mate (before M b) in w.at_vertex x (omega (arith, ap (count x) s.split, count-append x s.left (x ∷ []), tick_same x))
 
-    pub lesser_behind : mate (before M b) ≢ a → edge_of (mate (before M b)) < edge_of h → leads M h ≡ false
-    lesser_behind ne l = elim behind_cases [
-      | inl z ↦ absurd (ne z.1)
+    pub lesser_behind : edge_of (mate (before M b)) < edge_of h → leads M h ≡ false
+    lesser_behind l = elim behind_cases [
+      | inl z ↦ absurd (omega (arith, l, ahead_least, ap edge_of z.1))
       | inr s ↦ let v = last_unseen s in leads_false M h (mate (before M b)) v.0 v.1 l
     ]
 
@@ -188,7 +201,9 @@ module _ (M : Model) (sound : Sound M) (h : ℕ) (there : HasHalf M h) where
         not_behind = omega (arith, c y, w.apart y, tick_same y);
         at_vertex = λ x i. w.at_vertex x (omega (arith, c x, i));
         ahead_there = w.ahead_there;
+        ahead_here = w.ahead_here;
         behind_there = (last_unseen s).0;
+        behind_here = (last_unseen s).1;
         seen = λ x t e. elim (w.seen x t e) [
           | inl q ↦ inl q
           | inr i ↦ elim (eqb_tells x y) [ inl q ↦ inl (omega (arith, l, ap edge_of q.1)) | inr q ↦ inr (omega (arith, c x, i, tick_other x y q.1)) ]
@@ -203,8 +218,8 @@ module _ (M : Model) (sound : Sound M) (h : ℕ) (there : HasHalf M h) where
   pub met_back : (a b n : ℕ) → Facing M h a b n → b ≡ a → leads M h ≡ true
   met_back a b n w e = met_behind a w.last n w.walk (sym w.comes ∙ e)
 
-  pub lesser_back : (a b n : ℕ) → Facing M h a b n → b ≢ a → edge_of b < edge_of h → leads M h ≡ false
-  lesser_back a b n w ne l = lesser_behind a w.last n w.walk (λ e. ne (w.comes ∙ e)) (subst (λ x. edge_of x < edge_of h) w.comes l)
+  pub lesser_back : (a b n : ℕ) → Facing M h a b n → edge_of b < edge_of h → leads M h ≡ false
+  lesser_back a b n w l = lesser_behind a w.last n w.walk (subst (λ x. edge_of x < edge_of h) w.comes l)
 
   pub step_back : (a b n : ℕ) → Facing M h a b n → b ≢ a → edge_of h ≤ edge_of b → Unseen M h a b n
   step_back a b n w ne l =

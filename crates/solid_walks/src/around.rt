@@ -24,18 +24,18 @@ pub fn leads(arena: &Arena, previous: u32, code: u32) -> bool
     let mut ahead = code;
     let mut behind = mate_code(previous);
     'round: for _ in 0..HALF_EDGE_CODES {
-        if behind == ahead {
-            return true;
-        }
         if behind / 2 < edge {
             return false;
         }
-        let next = round(arena, ahead);
-        if next == behind {
+        if behind == ahead {
             return true;
         }
+        let next = round(arena, ahead);
         if next / 2 < edge {
             return false;
+        }
+        if next == behind {
+            return true;
         }
         ahead = next;
         behind = back(arena, behind);

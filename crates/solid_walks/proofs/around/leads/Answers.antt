@@ -24,7 +24,7 @@ returns-then-behind-ahead c = sym (met_back c.args.arena.now.model c.requires.re
 
 pub returns-then-behind-edge : goal.returns-then-behind-edge
 returns-then-behind-edge c =
-    sym (lesser_back c.args.arena.now.model c.requires.ready.sound c.args.code c.requires.there c.round.ahead c.round.behind (steps - c.round.counter) c.round.invariant c.if-behind-ahead.false (less c.round.behind c.args.code c.if-behind-edge.true))
+    sym (lesser_back c.args.arena.now.model c.requires.ready.sound c.args.code c.requires.there c.round.ahead c.round.behind (steps - c.round.counter) c.round.invariant (less c.round.behind c.args.code c.if-behind-edge.true))
 
 pub returns-then-next-behind : goal.returns-then-next-behind
 returns-then-next-behind c =
@@ -38,7 +38,7 @@ returns-then-next-edge c =
     let M = c.args.arena.now.model in let s = c.requires.ready.sound in let h : ℕ = c.args.code in let n : ℕ = steps - c.round.counter in
     let back : Unseen M h c.round.ahead c.round.behind n =
     step_back M s h c.requires.there c.round.ahead c.round.behind n c.round.invariant c.if-behind-ahead.false (not_less c.round.behind h c.if-behind-edge.false) in
-    sym (lesser_ahead M s h c.requires.there c.round.ahead c.round.behind n back (λ e. c.if-next-behind.false (c.round-next.ensures ∙ e))
+    sym (lesser_ahead M s h c.requires.there c.round.ahead c.round.behind n back
     (subst (λ x. edge_of x < edge_of h) c.round-next.ensures (less c.round-next.result h c.if-next-edge.true)))
 
 pub round-next-requires-clause-there : goal.round-next-requires-clause-there
