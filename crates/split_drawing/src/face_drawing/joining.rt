@@ -12,7 +12,7 @@ ghost use Rattle.split_drawing.specs.face_drawing.Passes.{CanJoin};
 
 use crate::face_drawing::pairs::{in_one_loop, join_op};
 use split_checks::{Pair, Progress};
-use std::alloc::{AllocError, Global};
+use std::alloc::AllocError;
 use undo_journal::Draft;
 
 /// Joins the loops of a pair by the next edge.
@@ -32,21 +32,21 @@ fn join_pair(draft: &mut Draft, progress: Progress, pair: Pair) -> Result<Progre
     })
 }
 
-/// Joins the pairs of face f that stand in different loops, each when its turn comes, and tells how far the drawing has come then,
-/// and the pairs that stood in one loop, in their order. On `AllocError` some may be joined.
+/// Joins the pairs of face f that stand in different loops, each when its turn comes, and tells how far the drawing has come then. It
+/// leaves the pairs that stood in one loop, in their order, and nothing else, in the list. On `AllocError` some may be joined.
 pub(crate) fn join_pairs(
-    alloc: Global,
     draft: &mut Draft,
     from: Progress,
     f: u32,
     pairs: &[Pair],
-) -> Result<(Progress, Vec<Pair>), AllocError>
+    left: &mut Vec<Pair>,
+) -> Result<Progress, AllocError>
     requires { CanJoin f (drawing_of from draft.old.model []) (map codes pairs.now) }
-    ensures joined { IfOk result (λ r. drawing_of r.0 draft.new.model (map codes r.1.items) ≡ fold join_next (drawing_of from draft.old.model []) (map codes pairs.now)) }
+    ensures joined { IfOk result (λ joined. drawing_of joined draft.new.model (map codes left.new.items) ≡ fold join_next (drawing_of from draft.old.model []) (map codes pairs.now)) }
     ensures session { draft.new.session ≡ draft.old.session }
 {
+    left.clear();
     let mut progress = from;
-    let mut left = Vec::new(alloc);
     let mut rest = pairs;
     'pairs: while let [pair, others @ ..] = rest {
         if in_one_loop(draft.arena(), *pair) {
@@ -56,5 +56,5 @@ pub(crate) fn join_pairs(
         }
         rest = others;
     }
-    Ok((progress, left))
+    Ok(progress)
 }

@@ -14,8 +14,8 @@ use std::alloc::{AllocError, Global};
 use undo_journal::Draft;
 
 /// Draws edges between the pairs of face f: those in different loops are joined, and then each that is left cuts a new face off.
-/// With one pair the rings above the plane go to the new face. It tells how far the drawing has come then. On `AllocError` some
-/// edges may be drawn.
+/// With one pair the rings above the plane go to the new face. It tells how far the drawing has come then. In the list it keeps the
+/// pairs that are left, whatever was there. On `AllocError` some edges may be drawn.
 pub(crate) fn draw_face(
     alloc: Global,
     draft: &mut Draft,
@@ -23,13 +23,14 @@ pub(crate) fn draw_face(
     from: Progress,
     f: u32,
     pairs: &[Pair],
+    left: &mut Vec<Pair>,
 ) -> Result<Progress, AllocError>
     requires plane { IsCutPlane plane }
     requires can { CanDrawFace plane f (map codes pairs.now) (drawing_of from draft.old.model []) }
     ensures drawn { IfOk result (λ drawn. drawing_of drawn draft.new.model [] ≡ put_aside (drawn_between plane f (map codes pairs.now) (drawing_of from draft.old.model []))) }
     ensures session { draft.new.session ≡ draft.old.session }
 {
-    let (joined, left) = join_pairs(alloc, draft, from, f, pairs)?;
+    let joined = join_pairs(draft, from, f, pairs, left)?;
     let looked_at = ring_free(draft.arena(), joined, f, pairs.len());
     let drawn = draw_pairs(draft, looked_at, f, left.as_slice())?;
     if pairs.len() == 1 {

@@ -46,6 +46,7 @@ fn draw_faces(
     ensures session { draft.new.session ≡ draft.old.session }
 {
     let mut progress = from;
+    let mut left = Vec::new(alloc);
     let mut rest = faces;
     'faces: while let [face, others @ ..] = rest {
         progress = draw_face(
@@ -55,6 +56,7 @@ fn draw_faces(
             progress,
             face.face,
             face.pairs.as_slice(),
+            &mut left,
         )?;
         rest = others;
     }

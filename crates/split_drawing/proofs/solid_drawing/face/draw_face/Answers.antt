@@ -1,42 +1,38 @@
-use Rattle.std.proofs.Common.{◌∙◌, [], map, sym, ap, subst}
+use Rattle.std.proofs.Common.{[], map, sym, subst}
 use Rattle.euler_operators.specs.Model.{Model}
 use Rattle.euler_operators.specs.Sound.{Has}
-use Rattle.undo_journal.specs.Journal.{DraftJournal}
 use Rattle.split_checks.specs.Cuts.{codes}
 use Rattle.split_checks.specs.Progress.{drawing_of}
 use Rattle.split_drawing.proofs.solid_drawing_laws.OneFace.{can_join, then_there, then_draw, last_there, last_rings, with_shared, with_none}
 use Rattle.split_drawing.proofs.solid_drawing.face.draw_face.Goals as goal
-use Rattle.split_drawing.proofs.solid_drawing.face.draw_face.Goals.{then-pairs-eq1+in_ok-share_rings, else-pairs-eq1}
 
 pub join_pairs-requires : goal.join_pairs-requires
 join_pairs-requires c = can_join c.args.plane c.args.f (map codes c.args.pairs.now) (drawing_of c.args.from c.args.draft.now.model []) c.requires.can
 
 pub ring_free-looked_at-requires : goal.ring_free-looked_at-requires
 ring_free-looked_at-requires c = subst (λ (X : Model). Has X.faces c.args.f) (sym c.arena.ensures.model)
-    (then_there c.args.plane c.args.f c.args.pairs.now c.args.from c.args.draft.now.model c.requires.can c.in_ok-joined.joined c.join_pairs.new.draft.model c.in_ok-joined.left.items c.in_ok-joined.ensures.joined)
+    (then_there c.args.plane c.args.f c.args.pairs.now c.args.from c.args.draft.now.model c.requires.can c.in_ok-joined.joined c.join_pairs.new.draft.model c.join_pairs.new.left.items c.in_ok-joined.ensures.joined)
 
 pub draw_pairs-requires : goal.draw_pairs-requires
-draw_pairs-requires c = then_draw c.args.plane c.args.f c.args.pairs.now c.args.from c.args.draft.now.model c.requires.can c.in_ok-joined.joined c.join_pairs.new.draft.model c.in_ok-joined.left.items c.in_ok-joined.ensures.joined
+draw_pairs-requires c = then_draw c.args.plane c.args.f c.args.pairs.now c.args.from c.args.draft.now.model c.requires.can c.in_ok-joined.joined c.join_pairs.new.draft.model c.join_pairs.new.left.items c.in_ok-joined.ensures.joined
     c.arena.result.now.model c.arena.ensures.model c.ring_free-looked_at.result c.ring_free-looked_at.ensures c.as_slice.result.now c.as_slice.ensures.value
 
 pub share_rings-requires-clause-there : goal.share_rings-requires-clause-there
-share_rings-requires-clause-there c = last_there c.args.plane c.args.f c.args.pairs.now c.args.from c.args.draft.now.model c.requires.can c.in_ok-joined.joined c.join_pairs.new.draft.model c.in_ok-joined.left.items c.in_ok-joined.ensures.joined
+share_rings-requires-clause-there c = last_there c.args.plane c.args.f c.args.pairs.now c.args.from c.args.draft.now.model c.requires.can c.in_ok-joined.joined c.join_pairs.new.draft.model c.join_pairs.new.left.items c.in_ok-joined.ensures.joined
     c.arena.result.now.model c.arena.ensures.model c.ring_free-looked_at.result c.ring_free-looked_at.ensures c.as_slice.result.now c.as_slice.ensures.value
     c.in_ok-drawn.drawn c.draw_pairs.new.draft.model c.in_ok-drawn.ensures.drawn
 
 pub share_rings-requires-clause-accepted : goal.share_rings-requires-clause-accepted
-share_rings-requires-clause-accepted c = last_rings c.args.plane c.args.f c.args.pairs.now c.args.from c.args.draft.now.model c.requires.can c.in_ok-joined.joined c.join_pairs.new.draft.model c.in_ok-joined.left.items c.in_ok-joined.ensures.joined
+share_rings-requires-clause-accepted c = last_rings c.args.plane c.args.f c.args.pairs.now c.args.from c.args.draft.now.model c.requires.can c.in_ok-joined.joined c.join_pairs.new.draft.model c.join_pairs.new.left.items c.in_ok-joined.ensures.joined
     c.arena.result.now.model c.arena.ensures.model c.ring_free-looked_at.result c.ring_free-looked_at.ensures c.as_slice.result.now c.as_slice.ensures.value
     c.in_ok-drawn.drawn c.draw_pairs.new.draft.model c.in_ok-drawn.ensures.drawn c.if-pairs-eq1.true
 
-pub returns-clause-drawn : goal.returns-clause-drawn
-returns-clause-drawn c = elim c.if-pairs-eq1.branch [
-  | then-pairs-eq1+in_ok-share_rings w ↦ with_shared c.args.plane c.args.f c.args.pairs.now c.args.from c.args.draft.now.model c.requires.can c.in_ok-joined.joined c.join_pairs.new.draft.model c.in_ok-joined.left.items c.in_ok-joined.ensures.joined
-      c.arena.result.now.model c.arena.ensures.model c.ring_free-looked_at.result c.ring_free-looked_at.ensures c.as_slice.result.now c.as_slice.ensures.value
-      c.in_ok-drawn.drawn c.draw_pairs.new.draft.model c.in_ok-drawn.ensures.drawn w.if-pairs-eq1.true
-      c.if-pairs-eq1.draft.model (ap (λ (d : DraftJournal). d.model) w.draft-is ∙ w.in_ok-share_rings.ensures.model)
-  | else-pairs-eq1 w ↦ ap (λ (d : DraftJournal). drawing_of c.in_ok-drawn.drawn d.model []) w.draft-is
-      ∙ with_none c.args.plane c.args.f c.args.pairs.now c.args.from c.args.draft.now.model c.requires.can c.in_ok-joined.joined c.join_pairs.new.draft.model c.in_ok-joined.left.items c.in_ok-joined.ensures.joined
-      c.arena.result.now.model c.arena.ensures.model c.ring_free-looked_at.result c.ring_free-looked_at.ensures c.as_slice.result.now c.as_slice.ensures.value
-      c.in_ok-drawn.drawn c.draw_pairs.new.draft.model c.in_ok-drawn.ensures.drawn w.if-pairs-eq1.false
-]
+pub returns-in_ok-share_rings-clause-drawn : goal.returns-in_ok-share_rings-clause-drawn
+returns-in_ok-share_rings-clause-drawn c = with_shared c.args.plane c.args.f c.args.pairs.now c.args.from c.args.draft.now.model c.requires.can c.in_ok-joined.joined c.join_pairs.new.draft.model c.join_pairs.new.left.items c.in_ok-joined.ensures.joined
+    c.arena.result.now.model c.arena.ensures.model c.ring_free-looked_at.result c.ring_free-looked_at.ensures c.as_slice.result.now c.as_slice.ensures.value
+    c.in_ok-drawn.drawn c.draw_pairs.new.draft.model c.in_ok-drawn.ensures.drawn c.if-pairs-eq1.true c.share_rings.new.draft.model c.in_ok-share_rings.ensures.model
+
+pub returns-else-pairs-eq1-clause-drawn : goal.returns-else-pairs-eq1-clause-drawn
+returns-else-pairs-eq1-clause-drawn c = with_none c.args.plane c.args.f c.args.pairs.now c.args.from c.args.draft.now.model c.requires.can c.in_ok-joined.joined c.join_pairs.new.draft.model c.join_pairs.new.left.items c.in_ok-joined.ensures.joined
+    c.arena.result.now.model c.arena.ensures.model c.ring_free-looked_at.result c.ring_free-looked_at.ensures c.as_slice.result.now c.as_slice.ensures.value
+    c.in_ok-drawn.drawn c.draw_pairs.new.draft.model c.in_ok-drawn.ensures.drawn c.if-pairs-eq1.false
