@@ -16,6 +16,9 @@ pub const LINE_LIMIT: usize = 65_536;
 /// The longest line, and as many bytes again for a read.
 const SIZE: usize = 131_072;
 
+/// Most lines are shorter.
+const NEAR: usize = 32;
+
 /// So many reads in a row may be interrupted by signals; after that many, reading has failed.
 const READ_TRIES: u32 = 1_000_000;
 
@@ -192,7 +195,8 @@ fn read_retrying<R: Read>(reader: &mut R, bytes: &mut [u8]) -> io::Result<usize>
 }
 
 /// Where the first newline of a range is, or its end.
-fn first_newline(bytes: &[u8], start: usize, end: usize) -> usize
+#[inline(always)]
+fn newline_in(bytes: &[u8], start: usize, end: usize) -> usize
     requires low { start ≤ end }
     requires high { end ≤ length bytes.now }
     ensures { FirstNewline bytes.now start end result }
@@ -201,4 +205,31 @@ fn first_newline(bytes: &[u8], start: usize, end: usize) -> usize
         Some(len) => start + len,
         None => end,
     }
+}
+
+/// The same as a call.
+#[inline(never)]
+fn far_newline(bytes: &[u8], start: usize, end: usize) -> usize
+    requires low { start ≤ end }
+    requires high { end ≤ length bytes.now }
+    ensures { FirstNewline bytes.now start end result }
+{
+    newline_in(bytes, start, end)
+}
+
+/// The same, where the newline is likely to be near: a search of so few bytes is a few instructions, and no call.
+#[inline(always)]
+fn first_newline(bytes: &[u8], start: usize, end: usize) -> usize
+    requires low { start ≤ end }
+    requires high { end ≤ length bytes.now }
+    ensures { FirstNewline bytes.now start end result }
+{
+    if end - start < NEAR {
+        return far_newline(bytes, start, end);
+    }
+    let near = newline_in(bytes, start, start + NEAR);
+    if near < start + NEAR {
+        return near;
+    }
+    far_newline(bytes, near, end)
 }
