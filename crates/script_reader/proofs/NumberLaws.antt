@@ -7,7 +7,7 @@ use Rattle.std.proofs.lemmas.List.{take_rest}
 use Rattle.std.proofs.lemmas.Bool.Decides.{nat_tests}
 use Rattle.std.proofs.lemmas.Grind.{common_steps}
 use Rattle.script_reader.specs.Words.{is_space, word_len, first_by}
-use Rattle.script_reader.specs.Numbers.{value_after, all_digits, below, magnitude, number_of, negative, whole_of, digits_after}
+use Rattle.script_reader.specs.Numbers.{value_after, all_digits, below, magnitude, number_of, negative, integer_of, digits_after}
 use Rattle.script_reader.specs.Places.{half_of}
 use Rattle.script_reader.specs.Spelling.{sign}
 use Rattle.euler_operators.specs.declared.HalfEdge.{HalfEdge}
@@ -99,12 +99,12 @@ signed {A} f (Some m) xs n rest z e h =
     rw (number, h, after) refl
 signed f None xs n rest z e h = absurd (cc e)
 
-pub minus : (line : List ℕ) (n : ℕ) (rest : List ℕ) (z : ℤ) → 1 ≤ length line → get_or line 0 0 ≡ 45 → first_by magnitude (take (length line - 1) (drop 1 line)) ≡ Some (n, rest) → negative n ≡ Some z → first_by whole_of line ≡ Some (z, rest)
+pub minus : (line : List ℕ) (n : ℕ) (rest : List ℕ) (z : ℤ) → 1 ≤ length line → get_or line 0 0 ≡ 45 → first_by magnitude (take (length line - 1) (drop 1 line)) ≡ Some (n, rest) → negative n ≡ Some z → first_by integer_of line ≡ Some (z, rest)
 minus [] n rest z some is e h = absurd (omega arith)
 minus (c ∷ cs) n rest z some is e h =
     let dash : c ≡ 45 = is in
     let behind : first_by magnitude cs ≡ Some (n, rest) = subst (λ (xs : List ℕ). first_by magnitude xs ≡ Some (n, rest)) (take_rest (c ∷ cs) 1) e in
-    ap (λ (b : ℕ). first_by whole_of (b ∷ cs)) dash ∙ first_longer whole_of 45 cs refl ∙ signed negative (magnitude (take (word_len cs) cs)) (drop (word_len cs) cs) n rest z behind h
+    ap (λ (b : ℕ). first_by integer_of (b ∷ cs)) dash ∙ first_longer integer_of 45 cs refl ∙ signed negative (magnitude (take (word_len cs) cs)) (drop (word_len cs) cs) n rest z behind h
 
 unsigned : (b : Bool) (o : Option ℕ) (xs : List ℕ) → option_map {U = ℕ × List ℕ} (λ (n : ℕ). (n, xs)) o ≡ None
     → option_map {U = HalfEdge × List ℕ} (λ (h : HalfEdge). (h, xs)) (option_map (λ (n : ℕ). record { edge = n; first = b }) o) ≡ None

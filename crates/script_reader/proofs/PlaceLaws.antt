@@ -2,13 +2,13 @@
 use Rattle.std.proofs.Common.{◌≡◌, inl, inr, ℕ, zero, suc, ◌≤◌, List, [], ◌∷◌, length, Option, Some, None, Result, Ok, Err, refl, sym, ap, subst, arith}
 use Rattle.std.specs.Prelude.{ℤ}
 use Rattle.euler_operators.specs.declared.Point.{Point}
-use Rattle.script_reader.specs.Numbers.{whole_of}
-use Rattle.script_reader.specs.Places.{Word, Kind, Number, Whole, Half, AnyCorner, Place, Places, InOrOut, Meaning, ◌>>=◌, said, next_of, point_of, points_of, read}
+use Rattle.script_reader.specs.Numbers.{integer_of}
+use Rattle.script_reader.specs.Places.{Word, Kind, Number, Integer, Half, AnyCorner, Place, Places, InOrOut, Meaning, ◌>>=◌, said, next_of, point_of, points_of, read}
 use Rattle.script_reader.specs.declared.command.Fault.{Fault}
 use Rattle.script_reader.specs.declared.command.Fault.TheVariants.{BadWord, BadNumber}
-use Rattle.script_reader.specs.Spelling.{SaysWhole, Begins, BeginsPlace, ArePoints, Means, FailsWord, FailsPlace, FailsPoints, Fails}
+use Rattle.script_reader.specs.Spelling.{SaysInteger, Begins, BeginsPlace, ArePoints, Means, FailsWord, FailsPlace, FailsPoints, Fails}
 use Rattle.script_reader.proofs.OptionLaws.{some_or_none, bind_ok, bind_err}
-use Rattle.script_reader.proofs.SayingLaws.{Tells, tells_number, tells_whole, tells_half, tells_corner, tells_way}
+use Rattle.script_reader.proofs.SayingLaws.{Tells, tells_number, tells_integer, tells_half, tells_corner, tells_way}
 use Rattle.script_reader.proofs.PointLaws.{no_words}
 
 -- ---- a place of one word
@@ -44,47 +44,47 @@ err_next read says t wrong (w ∷ ws) f h = elim (some_or_none (read w)) [
 
 -- ---- three words
 
-whole_ok : (ws : List Word) (r : ℤ × List Word) → next_of BadNumber whole_of ws ≡ Ok r → Begins SaysWhole ws r.0 r.1
-whole_ok ws r e = next_ok whole_of SaysWhole tells_whole BadNumber ws r e
+integer_ok : (ws : List Word) (r : ℤ × List Word) → next_of BadNumber integer_of ws ≡ Ok r → Begins SaysInteger ws r.0 r.1
+integer_ok ws r e = next_ok integer_of SaysInteger tells_integer BadNumber ws r e
 
-ok_whole : (ws : List Word) (x : ℤ) (rest : List Word) → Begins SaysWhole ws x rest → next_of BadNumber whole_of ws ≡ Ok (x, rest)
-ok_whole ws x rest b = ok_next whole_of SaysWhole tells_whole BadNumber ws x rest b
+ok_integer : (ws : List Word) (x : ℤ) (rest : List Word) → Begins SaysInteger ws x rest → next_of BadNumber integer_of ws ≡ Ok (x, rest)
+ok_integer ws x rest b = ok_next integer_of SaysInteger tells_integer BadNumber ws x rest b
 
-whole_err : (ws : List Word) (f : Fault) → next_of BadNumber whole_of ws ≡ Err f → FailsWord BadNumber SaysWhole ws f
-whole_err ws f e = next_err whole_of SaysWhole tells_whole BadNumber ws f e
+integer_err : (ws : List Word) (f : Fault) → next_of BadNumber integer_of ws ≡ Err f → FailsWord BadNumber SaysInteger ws f
+integer_err ws f e = next_err integer_of SaysInteger tells_integer BadNumber ws f e
 
-err_whole : (ws : List Word) (f : Fault) → FailsWord BadNumber SaysWhole ws f → next_of BadNumber whole_of ws ≡ Err f
-err_whole ws f h = err_next whole_of SaysWhole tells_whole BadNumber ws f h
+err_integer : (ws : List Word) (f : Fault) → FailsWord BadNumber SaysInteger ws f → next_of BadNumber integer_of ws ≡ Err f
+err_integer ws f h = err_next integer_of SaysInteger tells_integer BadNumber ws f h
 
 -- the point of three coordinates, and the words after them
 abbrev pointed : ℤ → ℤ → ℤ × List Word → Point × List Word
 pointed x y z = (record { x = x; y = y; z = z.0 }, z.1)
 
 abbrev third : ℤ → ℤ × List Word → Result (Point × List Word) Fault
-third x y = next_of BadNumber whole_of y.1 >>= λ z. Ok (pointed x y.0 z)
+third x y = next_of BadNumber integer_of y.1 >>= λ z. Ok (pointed x y.0 z)
 
 abbrev second : ℤ × List Word → Result (Point × List Word) Fault
-second x = next_of BadNumber whole_of x.1 >>= λ y. third x.0 y
+second x = next_of BadNumber integer_of x.1 >>= λ y. third x.0 y
 
 point_ok : (ws : List Word) (r : Point × List Word) → point_of ws ≡ Ok r → BeginsPlace ws r.0 r.1
 point_ok ws r e =
-    let a = bind_ok (next_of BadNumber whole_of ws) second r e in
-    let b = bind_ok (next_of BadNumber whole_of a.0.1) (λ y. third a.0.0 y) r a.2 in
-    let c = bind_ok (next_of BadNumber whole_of b.0.1) (λ z. Ok (pointed a.0.0 b.0.0 z)) r b.2 in
+    let a = bind_ok (next_of BadNumber integer_of ws) second r e in
+    let b = bind_ok (next_of BadNumber integer_of a.0.1) (λ y. third a.0.0 y) r a.2 in
+    let c = bind_ok (next_of BadNumber integer_of b.0.1) (λ z. Ok (pointed a.0.0 b.0.0 z)) r b.2 in
     let same : pointed a.0.0 b.0.0 c.0 ≡ r = cc c.2 in
-    let words_read : BeginsPlace ws (pointed a.0.0 b.0.0 c.0).0 (pointed a.0.0 b.0.0 c.0).1 = (a.0.1, b.0.1, whole_ok ws a.0 a.1, whole_ok a.0.1 b.0 b.1, whole_ok b.0.1 c.0 c.1) in
+    let words_read : BeginsPlace ws (pointed a.0.0 b.0.0 c.0).0 (pointed a.0.0 b.0.0 c.0).1 = (a.0.1, b.0.1, integer_ok ws a.0 a.1, integer_ok a.0.1 b.0 b.1, integer_ok b.0.1 c.0 c.1) in
     subst (λ (s : Point × List Word). BeginsPlace ws s.0 s.1) same words_read
 
 ok_point : (ws : List Word) (p : Point) (rest : List Word) → BeginsPlace ws p rest → point_of ws ≡ Ok (p, rest)
-ok_point ws p rest b = rw (ok_whole ws p.x b.0 b.2, ok_whole b.0 p.y b.1 b.3, ok_whole b.1 p.z rest b.4) refl
+ok_point ws p rest b = rw (ok_integer ws p.x b.0 b.2, ok_integer b.0 p.y b.1 b.3, ok_integer b.1 p.z rest b.4) refl
 
 point_err : (ws : List Word) (f : Fault) → point_of ws ≡ Err f → FailsPlace ws f
-point_err ws f e = elim (bind_err (next_of BadNumber whole_of ws) second f e) [
-  | inl first ↦ inl (whole_err ws f first)
-  | inr a ↦ elim (bind_err (next_of BadNumber whole_of a.0.1) (λ y. third a.0.0 y) f a.2) [
-    | inl middle ↦ inr (a.0.0, a.0.1, whole_ok ws a.0 a.1, inl (whole_err a.0.1 f middle))
-    | inr b ↦ elim (bind_err (next_of BadNumber whole_of b.0.1) (λ z. Ok (pointed a.0.0 b.0.0 z)) f b.2) [
-      | inl last ↦ inr (a.0.0, a.0.1, whole_ok ws a.0 a.1, inr (b.0.0, b.0.1, whole_ok a.0.1 b.0 b.1, whole_err b.0.1 f last))
+point_err ws f e = elim (bind_err (next_of BadNumber integer_of ws) second f e) [
+  | inl first ↦ inl (integer_err ws f first)
+  | inr a ↦ elim (bind_err (next_of BadNumber integer_of a.0.1) (λ y. third a.0.0 y) f a.2) [
+    | inl middle ↦ inr (a.0.0, a.0.1, integer_ok ws a.0 a.1, inl (integer_err a.0.1 f middle))
+    | inr b ↦ elim (bind_err (next_of BadNumber integer_of b.0.1) (λ z. Ok (pointed a.0.0 b.0.0 z)) f b.2) [
+      | inl last ↦ inr (a.0.0, a.0.1, integer_ok ws a.0 a.1, inr (b.0.0, b.0.1, integer_ok a.0.1 b.0 b.1, integer_err b.0.1 f last))
       | inr c ↦ absurd (cc c.2)
     ]
   ]
@@ -92,10 +92,10 @@ point_err ws f e = elim (bind_err (next_of BadNumber whole_of ws) second f e) [
 
 err_point : (ws : List Word) (f : Fault) → FailsPlace ws f → point_of ws ≡ Err f
 err_point ws f h = elim h [
-  | inl first ↦ rw (err_whole ws f first) refl
+  | inl first ↦ rw (err_integer ws f first) refl
   | inr a ↦ elim a.3 [
-    | inl middle ↦ rw (ok_whole ws a.0 a.1 a.2, err_whole a.1 f middle) refl
-    | inr b ↦ rw (ok_whole ws a.0 a.1 a.2, ok_whole a.1 b.0 b.1 b.2, err_whole b.1 f b.3) refl
+    | inl middle ↦ rw (ok_integer ws a.0 a.1 a.2, err_integer a.1 f middle) refl
+    | inr b ↦ rw (ok_integer ws a.0 a.1 a.2, ok_integer a.1 b.0 b.1 b.2, err_integer b.1 f b.3) refl
   ]
 ]
 
@@ -143,7 +143,7 @@ err_points (suc room) (w ∷ ws) f h = elim h [
 
 pub read_ok : (k : Kind) (ws : List Word) (r : Meaning k × List Word) → read k ws ≡ Ok r → Means k ws r.0 r.1
 read_ok Number ws r e = next_ok _ _ tells_number BadNumber ws r e
-read_ok Whole ws r e = whole_ok ws r e
+read_ok Integer ws r e = integer_ok ws r e
 read_ok Half ws r e = next_ok _ _ tells_half BadNumber ws r e
 read_ok AnyCorner ws r e = next_ok _ _ tells_corner BadNumber ws r e
 read_ok Place ws r e = point_ok ws r e
@@ -152,7 +152,7 @@ read_ok InOrOut ws r e = next_ok _ _ tells_way BadWord ws r e
 
 pub ok_read : (k : Kind) (ws : List Word) (x : Meaning k) (rest : List Word) → Means k ws x rest → read k ws ≡ Ok (x, rest)
 ok_read Number ws x rest m = ok_next _ _ tells_number BadNumber ws x rest m
-ok_read Whole ws x rest m = ok_whole ws x rest m
+ok_read Integer ws x rest m = ok_integer ws x rest m
 ok_read Half ws x rest m = ok_next _ _ tells_half BadNumber ws x rest m
 ok_read AnyCorner ws x rest m = ok_next _ _ tells_corner BadNumber ws x rest m
 ok_read Place ws x rest m = ok_point ws x rest m
@@ -161,7 +161,7 @@ ok_read InOrOut ws x rest m = ok_next _ _ tells_way BadWord ws x rest m
 
 pub read_err : (k : Kind) (ws : List Word) (f : Fault) → read k ws ≡ Err f → Fails k ws f
 read_err Number ws f e = next_err _ _ tells_number BadNumber ws f e
-read_err Whole ws f e = whole_err ws f e
+read_err Integer ws f e = integer_err ws f e
 read_err Half ws f e = next_err _ _ tells_half BadNumber ws f e
 read_err AnyCorner ws f e = next_err _ _ tells_corner BadNumber ws f e
 read_err Place ws f e = point_err ws f e
@@ -170,7 +170,7 @@ read_err InOrOut ws f e = next_err _ _ tells_way BadWord ws f e
 
 pub err_read : (k : Kind) (ws : List Word) (f : Fault) → Fails k ws f → read k ws ≡ Err f
 err_read Number ws f h = err_next _ _ tells_number BadNumber ws f h
-err_read Whole ws f h = err_whole ws f h
+err_read Integer ws f h = err_integer ws f h
 err_read Half ws f h = err_next _ _ tells_half BadNumber ws f h
 err_read AnyCorner ws f h = err_next _ _ tells_corner BadNumber ws f h
 err_read Place ws f h = err_point ws f h

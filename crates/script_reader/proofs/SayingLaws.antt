@@ -10,12 +10,12 @@ use Rattle.std.proofs.lemmas.Str.Parse.{IsNumeralModel, numerals_by_fold, digit_
 use Rattle.euler_operators.specs.declared.HalfEdge.{HalfEdge}
 use Rattle.euler_operators.specs.declared.Corner.{Corner}
 use Rattle.euler_operators.specs.declared.Corner.TheVariants.{At, Lone}
-use Rattle.script_reader.specs.Numbers.{value_after, all_digits, below, magnitude, number_of, negative, not_negative, whole_of}
+use Rattle.script_reader.specs.Numbers.{value_after, all_digits, below, magnitude, number_of, negative, not_negative, integer_of}
 use Rattle.script_reader.specs.Places.{Word, half_with, half_of, lone_of, or_else, corner_of, way_of}
 use Rattle.script_reader.specs.declared.places.Way.{Way}
 use Rattle.script_reader.specs.declared.places.Way.TheVariants.{In, Out}
 use Rattle.script_reader.proofs.NumberLaws.{is_below}
-use Rattle.script_reader.specs.Spelling.{SaysNumber, SaysWhole, SaysHalf, SaysCorner, SaysWay, sign}
+use Rattle.script_reader.specs.Spelling.{SaysNumber, SaysInteger, SaysHalf, SaysCorner, SaysWay, sign}
 use Rattle.script_reader.proofs.OptionLaws.{map_some, then_some, test_some}
 
 -- a word is read as what it says
@@ -54,9 +54,9 @@ tells_number = record { told = λ w n e. below_told (2 ^ 32) w n e; spelled = λ
 is_digit : (c : ℕ) (cs : List ℕ) → AllDigits 10 (c ∷ cs) → (c == 45) ≡ false
 is_digit c cs h = let low : 48 ≤ c = (digit_from_value c h.0).0 in grind (arith, nat_tests, low)
 
-whole_told : (w : Word) (z : ℤ) → whole_of w ≡ Some z → SaysWhole w z
-whole_told [] z e = absurd (cc e)
-whole_told (c ∷ cs) z e = elim (cases_Bool (c == 45)) [
+integer_told : (w : Word) (z : ℤ) → integer_of w ≡ Some z → SaysInteger w z
+integer_told [] z e = absurd (cc e)
+integer_told (c ∷ cs) z e = elim (cases_Bool (c == 45)) [
   | inl minus ↦
       let a = then_some negative (magnitude cs) z (rw minus at e) in
       let t = test_some (nat_le a.0 (2 ^ 63)) (neg_ℤ (pos a.0)) z a.2 in
@@ -78,26 +78,26 @@ negative_is n h = let test : nat_le n (2 ^ 63) ≡ true = grind (arith, nat_test
 not_negative_is : (n : ℕ) → n < 2 ^ 63 → not_negative n ≡ Some (pos n)
 not_negative_is n h = let test : nat_lt n (2 ^ 63) ≡ true = grind (arith, nat_tests, h) in rw test refl
 
-plain_spelled : (w : Word) → IsNumeral 10 w → digits_value 10 w < 2 ^ 63 → whole_of w ≡ Some (pos (digits_value 10 w))
+plain_spelled : (w : Word) → IsNumeral 10 w → digits_value 10 w < 2 ^ 63 → integer_of w ≡ Some (pos (digits_value 10 w))
 plain_spelled [] h low = absurd (omega (arith, h.0))
 plain_spelled (c ∷ cs) h low =
     let read : magnitude (c ∷ cs) ≡ Some (digits_value 10 (c ∷ cs)) = below_spelled (2 ^ 64) (c ∷ cs) (digits_value 10 (c ∷ cs)) h refl (omega (arith, low)) in
-    let plain : whole_of (c ∷ cs) ≡ option_and_then not_negative (magnitude (c ∷ cs)) = rw (is_digit c cs h.1) refl in
+    let plain : integer_of (c ∷ cs) ≡ option_and_then not_negative (magnitude (c ∷ cs)) = rw (is_digit c cs h.1) refl in
     plain ∙ ap (option_and_then not_negative) read ∙ not_negative_is (digits_value 10 (c ∷ cs)) low
 
-minus_spelled : (ds : Word) → IsNumeral 10 ds → digits_value 10 ds ≤ 2 ^ 63 → whole_of (45 ∷ ds) ≡ Some (neg_ℤ (pos (digits_value 10 ds)))
+minus_spelled : (ds : Word) → IsNumeral 10 ds → digits_value 10 ds ≤ 2 ^ 63 → integer_of (45 ∷ ds) ≡ Some (neg_ℤ (pos (digits_value 10 ds)))
 minus_spelled ds h low =
     let read : magnitude ds ≡ Some (digits_value 10 ds) = below_spelled (2 ^ 64) ds (digits_value 10 ds) h refl (omega (arith, low)) in
     ap (option_and_then negative) read ∙ negative_is (digits_value 10 ds) low
 
-whole_spelled : (w : Word) (z : ℤ) → SaysWhole w z → whole_of w ≡ Some z
-whole_spelled w z s = elim s [
+integer_spelled : (w : Word) (z : ℤ) → SaysInteger w z → integer_of w ≡ Some z
+integer_spelled w z s = elim s [
   | inl plain ↦ plain_spelled w plain.0 plain.1 ∙ ap (λ (y : ℤ). Some y) (sym plain.2)
-  | inr minus ↦ ap whole_of minus.1 ∙ minus_spelled minus.0 minus.2 minus.3 ∙ ap (λ (y : ℤ). Some y) (sym minus.4)
+  | inr minus ↦ ap integer_of minus.1 ∙ minus_spelled minus.0 minus.2 minus.3 ∙ ap (λ (y : ℤ). Some y) (sym minus.4)
 ]
 
-pub tells_whole : Tells whole_of SaysWhole
-tells_whole = record { told = whole_told; spelled = whole_spelled }
+pub tells_integer : Tells integer_of SaysInteger
+tells_integer = record { told = integer_told; spelled = integer_spelled }
 
 -- ---- half-edges and corners
 

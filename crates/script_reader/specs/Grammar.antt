@@ -6,7 +6,7 @@ use Rattle.euler_operators.specs.declared.HalfEdge.{HalfEdge}
 use Rattle.euler_operators.specs.declared.Op.{Op}
 use Rattle.euler_operators.specs.declared.Op.TheVariants as op
 use Rattle.script_reader.specs.Words.{words}
-use Rattle.script_reader.specs.Places.{Word, Kind, Number, Whole, Half, AnyCorner, Place, Places, InOrOut, Meaning, ◌>>=◌, read}
+use Rattle.script_reader.specs.Places.{Word, Kind, Number, Integer, Half, AnyCorner, Place, Places, InOrOut, Meaning, ◌>>=◌, read}
 use Rattle.script_reader.specs.declared.command.Command.{Command}
 use Rattle.script_reader.specs.declared.command.Command.TheVariants as command
 use Rattle.script_reader.specs.declared.command.Fault.{Fault}
@@ -58,10 +58,10 @@ kinds_of name.Kfmrh = Number ∷ Number ∷ []
 kinds_of name.Mfkrh = Number ∷ Number ∷ []
 kinds_of name.Ringmv = Number ∷ Number ∷ InOrOut ∷ []
 kinds_of name.Lamina = Number ∷ Places ∷ []
-kinds_of name.Block = Number ∷ Place ∷ Whole ∷ Whole ∷ Whole ∷ []
+kinds_of name.Block = Number ∷ Place ∷ Integer ∷ Integer ∷ Integer ∷ []
 kinds_of name.Sweep = Number ∷ Place ∷ []
 kinds_of name.Glue = Number ∷ Number ∷ []
-kinds_of name.Split = Number ∷ Whole ∷ Whole ∷ Whole ∷ Whole ∷ Number ∷ []
+kinds_of name.Split = Number ∷ Integer ∷ Integer ∷ Integer ∷ Integer ∷ Number ∷ []
 kinds_of name.Plane = Number ∷ []
 kinds_of name.Volume = Number ∷ []
 kinds_of name.Count = Number ∷ []

@@ -34,9 +34,9 @@ abbrev pub not_negative : ℕ → Option ℤ
 not_negative n = if nat_lt n (2 ^ 63) then Some (pos n) else None
 
 -- the sign, and digits
-abbrev pub whole_of : List ℕ → Option ℤ
-whole_of [] = None
-whole_of (c ∷ cs) = if c == 45 then option_and_then negative (magnitude cs) else option_and_then not_negative (magnitude (c ∷ cs))
+abbrev pub integer_of : List ℕ → Option ℤ
+integer_of [] = None
+integer_of (c ∷ cs) = if c == 45 then option_and_then negative (magnitude cs) else option_and_then not_negative (magnitude (c ∷ cs))
 
 -- the value of the digits up to the next separator, after those of n, where it stays below the limit, and what follows them
 abbrev pub digits_after : ℕ → ℕ → List ℕ → Option (ℕ × List ℕ)

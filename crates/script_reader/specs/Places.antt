@@ -1,7 +1,7 @@
 -- What stands at one place of a command, and how it is read.
 use Rattle.std.specs.Prelude.{◌≡◌, ℕ, zero, suc, Bool, true, false, ◌==◌, List, [], ◌∷◌, codes, ℤ, Option, Some, None, option_map, Result, Ok, Err, if◌then◌else◌}
 use Rattle.std.specs.Str.{bytes_eq}
-use Rattle.script_reader.specs.Numbers.{number_of, whole_of}
+use Rattle.script_reader.specs.Numbers.{number_of, integer_of}
 use Rattle.euler_operators.specs.declared.Point.{Point}
 use Rattle.euler_operators.specs.declared.HalfEdge.{HalfEdge}
 use Rattle.euler_operators.specs.declared.Corner.{Corner}
@@ -16,11 +16,11 @@ Word = List ℕ
 
 -- a number; a coordinate, size or coefficient; a half-edge; a corner; three coordinates; points to the end of the line; `in` or `out`
 pub data Kind : Type 0 where
-  Number Whole Half AnyCorner Place Places InOrOut : Kind
+  Number Integer Half AnyCorner Place Places InOrOut : Kind
 
 abbrev pub Meaning : Kind → Type 0
 Meaning Number = ℕ
-Meaning Whole = ℤ
+Meaning Integer = ℤ
 Meaning Half = HalfEdge
 Meaning AnyCorner = Corner
 Meaning Place = Point
@@ -71,9 +71,9 @@ next_of fault read (word ∷ rest) = said fault (read word) rest
 
 abbrev pub point_of : List Word → Result (Point × List Word) Fault
 point_of ws = do
-  x ← next_of BadNumber whole_of ws
-  y ← next_of BadNumber whole_of x.1
-  z ← next_of BadNumber whole_of y.1
+  x ← next_of BadNumber integer_of ws
+  y ← next_of BadNumber integer_of x.1
+  z ← next_of BadNumber integer_of y.1
   Ok (record { x = x.0; y = y.0; z = z.0 }, z.1)
 
 -- as many points as there are words for, and no more than room
@@ -87,7 +87,7 @@ points_of (suc room) (w ∷ ws) = do
 
 abbrev pub read : (k : Kind) → List Word → Result (Meaning k × List Word) Fault
 read Number ws = next_of BadNumber number_of ws
-read Whole ws = next_of BadNumber whole_of ws
+read Integer ws = next_of BadNumber integer_of ws
 read Half ws = next_of BadNumber half_of ws
 read AnyCorner ws = next_of BadNumber corner_of ws
 read Place ws = point_of ws

@@ -6,7 +6,7 @@ use Rattle.euler_operators.specs.declared.HalfEdge.{HalfEdge}
 use Rattle.euler_operators.specs.declared.Corner.{Corner}
 use Rattle.euler_operators.specs.declared.Corner.TheVariants.{At, Lone}
 use Rattle.script_reader.specs.Words.{words}
-use Rattle.script_reader.specs.Places.{Word, Kind, Number, Whole, Half, AnyCorner, Place, Places, InOrOut, Meaning}
+use Rattle.script_reader.specs.Places.{Word, Kind, Number, Integer, Half, AnyCorner, Place, Places, InOrOut, Meaning}
 use Rattle.script_reader.specs.Grammar.{Builder, kinds_of, build, word_of}
 use Rattle.script_reader.specs.declared.command.Command.{Command}
 use Rattle.script_reader.specs.declared.command.Command.TheVariants.{Nothing}
@@ -47,8 +47,8 @@ abbrev pub SaysNumber : Word → ℕ → Type 0
 SaysNumber w n = IsNumeral 10 w × (digits_value 10 w ≡ n) × (n < 2 ^ 32)
 
 -- decimal digits, with `-` before them or without
-abbrev pub SaysWhole : Word → ℤ → Type 0
-SaysWhole w z = (IsNumeral 10 w × (digits_value 10 w < 2 ^ 63) × (z ≡ pos (digits_value 10 w)))
+abbrev pub SaysInteger : Word → ℤ → Type 0
+SaysInteger w z = (IsNumeral 10 w × (digits_value 10 w < 2 ^ 63) × (z ≡ pos (digits_value 10 w)))
     ⊎ ((ds : Word) × (w ≡ 45 ∷ ds) × IsNumeral 10 ds × (digits_value 10 ds ≤ 2 ^ 63) × (z ≡ neg_ℤ (pos (digits_value 10 ds))))
 
 -- `+` or `-`
@@ -76,7 +76,7 @@ Begins says [] x rest = ⊥
 Begins says (w ∷ ws) x rest = says w x × (rest ≡ ws)
 
 abbrev pub BeginsPlace : List Word → Point → List Word → Type 0
-BeginsPlace ws p rest = (us : List Word) × (vs : List Word) × Begins SaysWhole ws p.x us × Begins SaysWhole us p.y vs × Begins SaysWhole vs p.z rest
+BeginsPlace ws p rest = (us : List Word) × (vs : List Word) × Begins SaysInteger ws p.x us × Begins SaysInteger us p.y vs × Begins SaysInteger vs p.z rest
 
 -- three words for each point, and nothing after them
 abbrev pub ArePoints : List Point → List Word → Type 0
@@ -86,7 +86,7 @@ ArePoints (p ∷ ps) ws = (us : List Word) × BeginsPlace ws p us × ArePoints p
 -- the words begin with words that mean this at a place of this kind, and go on with the rest
 abbrev pub Means : (k : Kind) → List Word → Meaning k → List Word → Type 0
 Means Number ws n rest = Begins SaysNumber ws n rest
-Means Whole ws z rest = Begins SaysWhole ws z rest
+Means Integer ws z rest = Begins SaysInteger ws z rest
 Means Half ws h rest = Begins SaysHalf ws h rest
 Means AnyCorner ws c rest = Begins SaysCorner ws c rest
 Means Place ws p rest = BeginsPlace ws p rest
@@ -102,9 +102,9 @@ FailsWord {A} wrong says (w ∷ ws) fault = ((x : A) → ¬ says w x) × (fault 
 
 -- the first of three words, or the second, or the third
 abbrev pub FailsPlace : List Word → Fault → Type 0
-FailsPlace ws fault = FailsWord BadNumber SaysWhole ws fault
-    ⊎ ((x : ℤ) × (us : List Word) × Begins SaysWhole ws x us × (FailsWord BadNumber SaysWhole us fault
-    ⊎ ((y : ℤ) × (vs : List Word) × Begins SaysWhole us y vs × FailsWord BadNumber SaysWhole vs fault)))
+FailsPlace ws fault = FailsWord BadNumber SaysInteger ws fault
+    ⊎ ((x : ℤ) × (us : List Word) × Begins SaysInteger ws x us × (FailsWord BadNumber SaysInteger us fault
+    ⊎ ((y : ℤ) × (vs : List Word) × Begins SaysInteger us y vs × FailsWord BadNumber SaysInteger vs fault)))
 
 -- a word is there where there is room for no further point, or a point isn't whole
 abbrev pub FailsPoints : ℕ → List Word → Fault → Type 0
@@ -114,7 +114,7 @@ FailsPoints (suc room) (w ∷ ws) fault = FailsPlace (w ∷ ws) fault ⊎ ((p : 
 
 abbrev pub Fails : Kind → List Word → Fault → Type 0
 Fails Number ws fault = FailsWord BadNumber SaysNumber ws fault
-Fails Whole ws fault = FailsWord BadNumber SaysWhole ws fault
+Fails Integer ws fault = FailsWord BadNumber SaysInteger ws fault
 Fails Half ws fault = FailsWord BadNumber SaysHalf ws fault
 Fails AnyCorner ws fault = FailsWord BadNumber SaysCorner ws fault
 Fails Place ws fault = FailsPlace ws fault

@@ -25,9 +25,9 @@ fn block<'a>(words: &mut Words<'a>) -> Result<Command<'a>, Fault>
 {
     let solid = words.number()?;
     let place = words.point()?;
-    let dx = words.whole()?;
-    let dy = words.whole()?;
-    let dz = words.whole()?;
+    let dx = words.integer()?;
+    let dy = words.integer()?;
+    let dz = words.integer()?;
     words.finish()?;
     Ok(Command::Block(solid, place, dx, dy, dz))
 }
@@ -57,10 +57,10 @@ fn split<'a>(words: &mut Words<'a>) -> Result<Command<'a>, Fault>
     ensures { result ≡ arguments name.Split words.old }
 {
     let solid = words.number()?;
-    let a = words.whole()?;
-    let b = words.whole()?;
-    let c = words.whole()?;
-    let d = words.whole()?;
+    let a = words.integer()?;
+    let b = words.integer()?;
+    let c = words.integer()?;
+    let d = words.integer()?;
     let above = words.number()?;
     words.finish()?;
     Ok(Command::Split(solid, [a, b, c, d], above))

@@ -1,6 +1,6 @@
 //! Whole numbers in decimal digits.
 ghost use Rattle.std.specs.Prelude.{◌≡◌, ◌^◌, Some, None, MatchOption};
-ghost use Rattle.script_reader.specs.Numbers.{digits_after, magnitude, number_of, negative, whole_of};
+ghost use Rattle.script_reader.specs.Numbers.{digits_after, magnitude, number_of, negative, integer_of};
 ghost use Rattle.script_reader.specs.Words.{first_by};
 
 use super::words::is_space;
@@ -65,8 +65,8 @@ fn negative(value: u64) -> Option<i64>
 }
 
 /// A coordinate, a size or a coefficient: digits, with `-` before them or without.
-pub fn whole_of(line: &[u8]) -> Option<(i64, &[u8])>
-    ensures { MatchOption result (first_by whole_of line.now ≡ None) (λ r. first_by whole_of line.now ≡ Some (r.0, r.1.now)) }
+pub fn integer_of(line: &[u8]) -> Option<(i64, &[u8])>
+    ensures { MatchOption result (first_by integer_of line.now ≡ None) (λ r. first_by integer_of line.now ≡ Some (r.0, r.1.now)) }
 {
     if let [b'-', digits @ ..] = line {
         let (value, rest) = magnitude(digits)?;

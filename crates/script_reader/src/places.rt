@@ -4,7 +4,7 @@ ghost use Rattle.script_reader.specs.Words.{words, first_by};
 ghost use Rattle.script_reader.specs.Places.{Agrees, half_of, lone_of, corner_of, way_of, points_of};
 
 use super::command::Fault;
-use super::numbers::{number_of, whole_of};
+use super::numbers::{integer_of, number_of};
 use super::polygon::Corners;
 use super::words::{at_word, next_word};
 use euler_operators::{Corner, HalfEdge, Point};
@@ -83,7 +83,7 @@ impl<'a> Model for Words<'a> {
 impl<'a> Words<'a> {
     ghost use Rattle.std.specs.Prelude.{◌≡◌, [], IsTrue, ◌↔◌};
     ghost use Rattle.script_reader.specs.Words.{words};
-    ghost use Rattle.script_reader.specs.Numbers.{number_of, whole_of};
+    ghost use Rattle.script_reader.specs.Numbers.{number_of, integer_of};
     ghost use Rattle.script_reader.specs.Places.{half_of, corner_of, way_of, next_of, point_of, Takes};
     ghost use Rattle.script_reader.specs.Grammar.{Ends};
     ghost use Rattle.script_reader.specs.declared.command.Fault.TheVariants.{BadWord, BadNumber};
@@ -134,13 +134,13 @@ impl<'a> Words<'a> {
     }
 
     /// A coordinate, a size or a coefficient.
-    pub fn whole(&mut self) -> Result<i64, Fault>
-        ensures { Takes (next_of BadNumber whole_of self.old) result self.new }
+    pub fn integer(&mut self) -> Result<i64, Fault>
+        ensures { Takes (next_of BadNumber integer_of self.old) result self.new }
     {
         let Some(line) = at_word(self.rest) else {
             return Err(Fault::MissingWord);
         };
-        let Some((value, rest)) = whole_of(line) else {
+        let Some((value, rest)) = integer_of(line) else {
             return Err(Fault::BadNumber);
         };
         self.rest = rest;
@@ -193,9 +193,9 @@ impl<'a> Words<'a> {
     pub fn point(&mut self) -> Result<Point, Fault>
         ensures { Takes (point_of self.old) result self.new }
     {
-        let x = self.whole()?;
-        let y = self.whole()?;
-        let z = self.whole()?;
+        let x = self.integer()?;
+        let y = self.integer()?;
+        let z = self.integer()?;
         Ok(Point { x, y, z })
     }
 }

@@ -1,11 +1,11 @@
 use Rattle.std.proofs.Common.{◌≡◌, Some, rules}
 use Rattle.script_reader.specs.Words.{first_by}
-use Rattle.script_reader.specs.Numbers.{whole_of}
+use Rattle.script_reader.specs.Numbers.{integer_of}
 use Rattle.script_reader.proofs.NumberLaws.{minus}
-use Rattle.script_reader.proofs.numbers.whole_of.Goals as goal
+use Rattle.script_reader.proofs.numbers.integer_of.Goals as goal
 
 pub returns-in-45 : goal.returns-in-45
 returns-in-45 c =
-    let told : first_by whole_of c.args.line.now ≡ Some (c.in_ok-negative.field-0, c.in_ok-value.rest.now) =
+    let told : first_by integer_of c.args.line.now ≡ Some (c.in_ok-negative.field-0, c.in_ok-value.rest.now) =
     minus c.args.line.now c.in_ok-value.value c.in_ok-value.rest.now c.in_ok-negative.field-0 c.in-45.len_at_least (search rules) c.in_ok-value.ensures (search rules) in
     search rules
