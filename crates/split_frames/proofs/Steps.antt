@@ -1,5 +1,5 @@
 -- One step of a split within a solid: whatever isn't of the solid stays, and nothing else comes to be of another.
-use Rattle.std.proofs.Common.{◌≡◌, ◌≢◌, ℕ, true, false, cond, List, Option, Some, None, is_some, refl, sym, ap, ◌∙◌, true≢false, ne_eqb, inl, inr}
+use Rattle.std.proofs.Common.{◌≡◌, ◌≢◌, ℕ, true, false, cond, List, Option, Some, None, is_some, refl, sym, ap, ◌∙◌, true≢false, ne_eqb, inl, inr, Bool, nat_eq, eq-eqb}
 use Rattle.std.specs.Option.{option_map}
 use Rattle.std.proofs.lemmas.Bool.Decides.{eqb_tells}
 use Rattle.std.proofs.lemmas.Bool.{eqb-false, false_from_ne_true}
@@ -116,8 +116,9 @@ module _ (N : Model) (l k s : ℕ) (sound : Sound N) (after : Sound (ring_in N l
   ring_now : solid_of_loop R l ≡ s
   unfolding ring_in
   ring_now = ap (solid_of R) (face_row R l _ (table.get-map_rows (loop_to_face l k) N.loops l ∙ ap (option_map (loop_to_face l k l)) (loop_row N l there)) ∙ face_either (nat_eq l l) (eq-eqb l l refl)) ∙ same_solid N R k refl ∙ to where
-    face_either : (b : Bool) → b ≡ true → (cond b (record { face = k; content = content N l }) (record { face = face_of N l; content = content N l })).face ≡ k
-    face_either b e = ap (λ b. (cond b (record { face = k; content = content N l }) (record { face = face_of N l; content = content N l })).face) e
+    face_either : (b : Bool) → b ≡ true → (cond {A = LoopRow} b (record { face = k; content = content N l }) (record { face = face_of N l; content = content N l })).face ≡ k
+    face_either true e = refl
+    face_either false e = absurd (true≢false (sym e))
 
   pub ring_within : Within s N (ring_in N l k)
   unfolding ring_in
