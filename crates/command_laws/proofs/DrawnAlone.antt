@@ -1,11 +1,10 @@
 -- What a lamina and a block leave as they were.
 use Rattle.std.specs.Prelude.{length}
-use Rattle.std.proofs.Common.{◌≡◌, ◌≢◌, ℕ, zero, suc, ◌+◌, ◌-◌, ◌≤◌, ℤ, List, None, is_some, sym, ap, subst, ◌∙◌, refl, arith, inl, inr}
+use Rattle.std.proofs.Common.{◌≡◌, ◌≢◌, ℕ, ◌+◌, ◌-◌, ℤ, List, None, is_some, sym, ap, subst, ◌∙◌, refl, arith, inl, inr}
 use Rattle.euler_operators.specs.declared.Point.{Point}
 use Rattle.euler_operators.specs.HalfEdge.{edge_of}
 use Rattle.euler_operators.specs.Table as table
-use Rattle.euler_operators.specs.Table.{Table}
-use Rattle.euler_operators.specs.Model.{Model, EdgeRow, face_of, rings_of}
+use Rattle.euler_operators.specs.Model.{Model, face_of, rings_of}
 use Rattle.euler_operators.specs.Sound.{Sound, Has}
 use Rattle.euler_operators.proofs.Tables.{row_some, get-put_other}
 use Rattle.euler_operators.proofs.Models.{face_row, same_face, same_solid}
@@ -23,16 +22,9 @@ use Rattle.command_laws.proofs.Kept.{old_kept, lamina_kept, lamina_keeps_faces, 
 use Rattle.command_laws.proofs.OnFaces.{vertex_there}
 use Rattle.command_laws.proofs.SweptAlone.{prism_keeps_loops, prism_keeps_edges, prism_keeps_points, prism_keeps_rings}
 use Rattle.command_laws.proofs.Standing.{rings_same, stands}
+use Rattle.command_laws.proofs.Series.{others_stay}
 
 -- ---- a lamina
-
-path_keeps : (t : Table EdgeRow) (e v n q : ℕ) → q ≤ e → table.get (with_path t e v n) q ≡ table.get t q
-path_keeps t e v zero q m = refl
-path_keeps t e v (suc n) q m = get-put_other (with_path t e v n) (e + suc n) _ q (λ z. absurd (omega (arith, m, z))) ∙ path_keeps t e v n q m
-
-points_keep : (t : Table Point) (v : ℕ) (ps : List Point) (n q : ℕ) → q ≤ v → table.get (with_points t v ps n) q ≡ table.get t q
-points_keep t v ps zero q m = refl
-points_keep t v ps (suc n) q m = get-put_other (with_points t v ps n) (v + suc n) _ q (λ z. absurd (omega (arith, m, z))) ∙ points_keep t v ps n q m
 
 module _ (M : Model) (s : ℕ) (ps : List Point) where
   pub lamina_keeps : (l : ℕ) → Has M.loops l → table.get (lamina_model M s ps).loops l ≡ table.get M.loops l
@@ -43,11 +35,11 @@ module _ (M : Model) (s : ℕ) (ps : List Point) where
   unfolding lamina_model taken_in
   lamina_keeps_rows sound goes e there = let g = table.greatest M.edges in let m = at_most_greatest M.edges e there in
       get-put_other (with_path M.edges g (table.greatest M.vertices) (length ps - 1)) (g + length ps) _ e (λ z. absurd (omega (arith, m, (lamina_goes M s ps sound goes).many, z)))
-      ∙ path_keeps M.edges g (table.greatest M.vertices) (length ps - 1) e m
+      ∙ others_stay (with_path M.edges g (table.greatest M.vertices)) g _ (λ n. refl) (length ps - 1) e (inl m)
 
   lamina_keeps_places : (v : ℕ) → Has M.vertices v → table.get (lamina_model M s ps).vertices v ≡ table.get M.vertices v
   unfolding lamina_model taken_in
-  lamina_keeps_places v there = points_keep M.vertices (table.greatest M.vertices) ps (length ps) v (at_most_greatest M.vertices v there)
+  lamina_keeps_places v there = others_stay (with_points M.vertices (table.greatest M.vertices) ps) (table.greatest M.vertices) _ (λ n. refl) (length ps) v (inl (at_most_greatest M.vertices v there))
 
   -- no loop more is of a face that was there
   lamina_adds : (k : ℕ) → Has M.faces k → (l : ℕ) → Has (lamina_model M s ps).loops l → face_of (lamina_model M s ps) l ≡ k → table.get (lamina_model M s ps).loops l ≡ table.get M.loops l

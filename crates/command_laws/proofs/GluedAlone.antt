@@ -31,8 +31,8 @@ module _ (before after : Machine) (f g : ℕ) (made : IsGlue before after f g) w
   -- no loop more is of a face that was there
   adds_none : Sound M → (k : ℕ) → OfOthersBut M (solid_of M g) f k → (l : ℕ) → Has (held after).loops l → face_of (held after) l ≡ k → table.get (held after).loops l ≡ table.get M.loops l
   adds_none sound k alone l = subst (λ X. Has X.loops l → face_of X l ≡ k → table.get X.loops l ≡ table.get M.loops l) (sym after_is) (λ has of.
-      let was = loop_was M f g (partner M (rim M g)) (rim M f) (fresh_edge M) (facing sound) l has in
-      loop_stays M f g (partner M (rim M g)) (rim M f) (fresh_edge M) (facing sound) l was.0 (λ e. alone.1 (sym of ∙ was.1 ∙ e)) (λ e. alone.0 (ap (solid_of M) (sym of ∙ was.1) ∙ e)))
+      let was = loop_was (facing sound) l has in
+      loop_stays (facing sound) l was.0 (λ e. alone.1 (sym of ∙ was.1 ∙ e)) (λ e. alone.0 (ap (solid_of M) (sym of ∙ was.1) ∙ e)))
 
 -- ---- the laws
 
@@ -42,15 +42,15 @@ glue_keeps_owners before after f g made k there alone =
 
 pub glue_keeps_loops : GlueKeepsLoops
 glue_keeps_loops before after f g sound made l there alone = let M = held before in
-    ap (λ N. table.get N.loops l) (after_is before after f g made) ∙ loop_stays M f g (partner M (rim M g)) (rim M f) (fresh_edge M) (facing before after f g made sound) l there alone.1 alone.0
+    ap (λ N. table.get N.loops l) (after_is before after f g made) ∙ loop_stays (facing before after f g made sound) l there alone.1 alone.0
 
 pub glue_keeps_edges : GlueKeepsEdges
 glue_keeps_edges before after f g sound made h there other = let M = held before in
-    ap (λ N. table.get N.edges (edge_of h)) (after_is before after f g made) ∙ edge_stays M f g (partner M (rim M g)) (rim M f) (fresh_edge M) (facing before after f g made sound) h there other
+    ap (λ N. table.get N.edges (edge_of h)) (after_is before after f g made) ∙ edge_stays (facing before after f g made sound) h there other
 
 pub glue_keeps_points : GlueKeepsPoints
 glue_keeps_points before after f g sound made l v i other = let M = held before in
-    ap (λ N. table.get N.vertices v) (after_is before after f g made) ∙ vertex_stays M f g (partner M (rim M g)) (rim M f) (fresh_edge M) (facing before after f g made sound) l v i other
+    ap (λ N. table.get N.vertices v) (after_is before after f g made) ∙ vertex_stays (facing before after f g made sound) l v i other
 
 pub glue_keeps_shapes : GlueKeepsShapes
 glue_keeps_shapes before after f g sound made k there alone =

@@ -54,7 +54,7 @@ without_size t (n ∷ ns) apart there =
 
 -- ---- two solids glued
 
-module _ (M : Model) (f g : ℕ) (partner_of : ℕ → ℕ) (hs : List ℕ) (x : ℕ) (w : Facing M f g partner_of hs x) (after : Sound (glued_all M f g partner_of hs)) where
+module _ {M : Model} {f g : ℕ} {partner_of : ℕ → ℕ} {hs : List ℕ} {x : ℕ} (w : Facing M f g partner_of hs x) (after : Sound (glued_all M f g partner_of hs)) where
   abbrev N : Model
   N = glued_all M f g partner_of hs
 
@@ -111,17 +111,17 @@ module _ (M : Model) (f g : ℕ) (partner_of : ℕ → ℕ) (hs : List ℕ) (x :
   -- ---- loops and edges
 
   loop_kept : (q : ℕ) → Has M.loops q → is_either s t (solid_of_loop M q) ≡ false → table.get N.loops q ≡ table.get M.loops q
-  loop_kept q there out = let o = neither s t (solid_of_loop M q) out in rows.loop_stays M f g partner_of hs x w q there (λ e. o.0 (ap (solid_of M) e)) o.1
+  loop_kept q there out = let o = neither s t (solid_of_loop M q) out in rows.loop_stays w q there (λ e. o.0 (ap (solid_of M) e)) o.1
 
   loop_back : (q : ℕ) → Has N.loops q → is_of s (solid_of_loop N q) ≡ false → table.get N.loops q ≡ table.get M.loops q
   loop_back q there out =
-      let was = rows.loop_was M f g partner_of hs x w q there in
+      let was = rows.loop_was w q there in
       let k = face_of N q in
       let b = face_back k (after.loops_of_faces q there) out in
       loop_kept q was.0 (ap (λ j. is_either s t (solid_of M j)) (sym was.1) ∙ ap (is_either s t) (sym (same_solid M N k b.0)) ∙ b.1)
 
   edge_kept : (h : ℕ) → HasHalf M h → is_either s t (solid_of_half M h) ≡ false → table.get N.edges (edge_of h) ≡ table.get M.edges (edge_of h)
-  edge_kept h there out = rows.edge_stays M f g partner_of hs x w h there (neither s t (solid_of_half M h) out).1
+  edge_kept h there out = rows.edge_stays w h there (neither s t (solid_of_half M h) out).1
 
   pub agree : Agree M N (is_either s t) (is_of s)
   agree = record { before = w.sound; after = after; faces = face_kept; faces_back = face_back; loops = loop_kept; loops_back = loop_back; edges = edge_kept }
@@ -203,7 +203,7 @@ model_joins_counts M f g sound goes =
     let is = rows.glue_is M f g in
     let after = subst Sound is (glued_sound M f g sound goes) in
     ap (λ N. counts N (solid_of M f)) is
-    ∙ both_counts M (glued_all M f g other hs) (solid_of M f) (solid_of M g) (length hs) w.solids_apart (agree M f g other hs x w after) (size_vertices M f g other hs x w after) (size_edges M f g other hs x w after) (size_faces M f g other hs x w after) (size_loops M f g other hs x w after)
+    ∙ both_counts M (glued_all M f g other hs) (solid_of M f) (solid_of M g) (length hs) w.solids_apart (agree w after) (size_vertices w after) (size_edges w after) (size_faces w after) (size_loops w after)
 
 pub glue_joins_counts : GlueJoinsCounts
 glue_joins_counts before after f g sound made = ap (λ m. counts (held m) (solid_of (held before) f)) made.1 ∙ model_joins_counts (held before) f g sound made.0
@@ -216,7 +216,7 @@ model_keeps_counts M f g u sound goes not_s not_t =
     let is = rows.glue_is M f g in
     let after = subst Sound is (glued_sound M f g sound goes) in
     ap (λ N. counts N u) is
-    ∙ others_kept M (glued_all M f g other hs) (is_either (solid_of M f) (solid_of M g)) (is_of (solid_of M f)) (agree M f g other hs (fresh_edge M) w after) u (not_either (solid_of M f) (solid_of M g) u not_s not_t) (ne_eqb u (solid_of M f) not_s)
+    ∙ others_kept M (glued_all M f g other hs) (is_either (solid_of M f) (solid_of M g)) (is_of (solid_of M f)) (agree w after) u (not_either (solid_of M f) (solid_of M g) u not_s not_t) (ne_eqb u (solid_of M f) not_s)
 
 pub glue_keeps_counts : GlueKeepsCounts
 glue_keeps_counts before after f g u sound made not_s not_t = ap (λ m. counts (held m) u) made.1 ∙ model_keeps_counts (held before) f g u sound made.0 not_s not_t

@@ -39,7 +39,7 @@ still_there t n q x at = elim (eqb_tells q n) [
   | inr e ↦ sym (get-remove_other t n q e.1) ∙ at
 ]
 
-module _ (M : Model) (f g : ℕ) (partner_of : ℕ → ℕ) (hs : List ℕ) (x : ℕ) (w : Facing M f g partner_of hs x) where
+module _ {M : Model} {f g : ℕ} {partner_of : ℕ → ℕ} {hs : List ℕ} {x : ℕ} (w : Facing M f g partner_of hs x) where
   abbrev N : Model
   N = glued_all M f g partner_of hs
 

@@ -17,8 +17,9 @@ use Rattle.command_laws.specs.NewFaces.{up_by}
 use Rattle.command_laws.specs.Kept.{LaminaKeepsFaces, BlockKeepsFaces, SweepKeepsFaces, StartHasNoFace}
 use Rattle.command_laws.proofs.LaminaFaces.{lamina_counted}
 
--- the rows of the numbers that are taken stay
+-- the solids stay, and the rows of the numbers that are taken
 pub record Keeps (M N : Model) (c : Taken) : Type 0 where
+  pub solids : N.solids ≡ M.solids
   pub faces : (q : ℕ) → q ≤ c.face → table.get N.faces q ≡ table.get M.faces q
   pub edges : (q : ℕ) → q ≤ c.edge → table.get N.edges q ≡ table.get M.edges q
   pub vertices : (q : ℕ) → q ≤ c.vertex → table.get N.vertices q ≡ table.get M.vertices q
@@ -26,6 +27,7 @@ pub record Keeps (M N : Model) (c : Taken) : Type 0 where
 side_keeps : (c : Taken) (s : ℕ) (d : Point) (hs : List ℕ) (i : ℕ) (M : Model) → i < length hs → Keeps M (with_side c s d hs i M) c
 unfolding with_side
 side_keeps c s d hs i M l = record {
+  solids = refl;
   faces = λ q m. get-put_other M.faces (c.face + 1 + i) _ q (λ z. absurd (omega (arith, m, z)));
   edges = λ q m. get-put_other (table.put M.edges (riser c.edge i) _) (top_edge c.edge (length hs) i) _ q (λ z. absurd (omega (arith, m, top_above c.edge (length hs) i l, z)))
       ∙ get-put_other M.edges (riser c.edge i) _ q (λ z. absurd (omega (arith, m, riser_above c.edge i, z)));
@@ -33,11 +35,11 @@ side_keeps c s d hs i M l = record {
 }
 
 sides_keep : (c : Taken) (s : ℕ) (d : Point) (hs : List ℕ) (M : Model) (n : ℕ) → n ≤ length hs → Keeps M (with_sides c s d hs n M) c
-sides_keep c s d hs M zero l = record { faces = λ q m. refl; edges = λ q m. refl; vertices = λ q m. refl }
+sides_keep c s d hs M zero l = record { solids = refl; faces = λ q m. refl; edges = λ q m. refl; vertices = λ q m. refl }
 sides_keep c s d hs M (suc n) l =
     let a = sides_keep c s d hs M n (omega (arith, l)) in
     let b = side_keeps c s d hs n (with_sides c s d hs n M) l in
-    record { faces = λ q m. b.faces q m ∙ a.faces q m; edges = λ q m. b.edges q m ∙ a.edges q m; vertices = λ q m. b.vertices q m ∙ a.vertices q m }
+    record { solids = b.solids ∙ a.solids; faces = λ q m. b.faces q m ∙ a.faces q m; edges = λ q m. b.edges q m ∙ a.edges q m; vertices = λ q m. b.vertices q m ∙ a.vertices q m }
 
 module _ (f : ℕ) (d : Point) where
   loop_keeps : (g : Growing) (l : ℕ) → Keeps g.model (raised f d g l).model g.taken
@@ -45,19 +47,20 @@ module _ (f : ℕ) (d : Point) where
   loop_keeps g l =
       let hs = items_of (content g.model l) in
       let w = sides_keep g.taken (solid_of g.model f) d hs g.model (length hs) (omega arith) in
-      record { faces = w.faces; edges = w.edges; vertices = w.vertices }
+      record { solids = w.solids; faces = w.faces; edges = w.edges; vertices = w.vertices }
 
   taken_more : (g : Growing) (l : ℕ) → let c = g.taken in let t = (raised f d g l).taken in (c.face ≤ t.face) × (c.edge ≤ t.edge) × (c.vertex ≤ t.vertex)
   unfolding raised
   taken_more g l = (omega arith, omega arith, omega arith)
 
   loops_keep : (ls : List ℕ) (g : Growing) → Keeps g.model (prism_from f d g ls).model g.taken
-  loops_keep [] g = record { faces = λ q m. refl; edges = λ q m. refl; vertices = λ q m. refl }
+  loops_keep [] g = record { solids = refl; faces = λ q m. refl; edges = λ q m. refl; vertices = λ q m. refl }
   loops_keep (l ∷ ls) g =
       let a = loop_keeps g l in
       let b = loops_keep ls (raised f d g l) in
       let t = taken_more g l in
       record {
+        solids = b.solids ∙ a.solids;
         faces = λ q m. b.faces q (omega (arith, m, t.0)) ∙ a.faces q m;
         edges = λ q m. b.edges q (omega (arith, m, t.1)) ∙ a.edges q m;
         vertices = λ q m. b.vertices q (omega (arith, m, t.2)) ∙ a.vertices q m;

@@ -1,5 +1,5 @@
 -- The two faces of a lamina.
-use Rattle.std.specs.Prelude.{length, map, reverse, take, ◌-◌, nat_le}
+use Rattle.std.specs.Prelude.{length, map, reverse, take, nat_le}
 use Rattle.std.proofs.Common.{◌≡◌, ℕ, zero, suc, ◌+◌, ◌≤◌, ◌<◌, true, List, [], ◌∷◌, ◌++◌, None, is_some, refl, sym, ap, subst, ◌∙◌, arith, inl, inr}
 use Rattle.std.proofs.lemmas.List.{map-append, reverse-append}
 use Rattle.std.proofs.lemmas.Bool.Decides.{nat_tests, eqb_tells}
@@ -7,7 +7,7 @@ use Rattle.euler_operators.specs.declared.Point.{Point}
 use Rattle.euler_operators.specs.Rings.{canonical}
 use Rattle.euler_operators.specs.HalfEdge.{plus, minus}
 use Rattle.euler_operators.specs.Table as table
-use Rattle.euler_operators.specs.Model.{Model, outer, point_of}
+use Rattle.euler_operators.specs.Model.{Model, point_of}
 use Rattle.euler_operators.specs.Sound.{Sound}
 use Rattle.euler_operators.proofs.Models.{content_row, solid_row, outer_row, plus_tail_row, minus_tail_row}
 use Rattle.euler_laws.proofs.shared.Goes.{all_hold}

@@ -3,6 +3,7 @@ mod Outlines
 mod SweptFaces
 mod LaminaFaces
 mod BlockFaces
+mod Series
 mod Kept
 mod Places
 mod Accepted

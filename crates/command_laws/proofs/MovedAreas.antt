@@ -3,7 +3,7 @@ use Rattle.std.specs.Prelude.{length, get_or, map}
 use Rattle.std.proofs.Common.{◌≡◌, ℕ, zero, suc, ◌+◌, ◌<◌, List, [], ◌∷◌, refl, sym, ap, subst, ◌∙◌, arith, inl, inr}
 use Rattle.euler_operators.specs.declared.Point.{Point}
 use Rattle.euler_operators.specs.Vectors.{moved, cross}
-use Rattle.euler_operators.proofs.Sweeps.{sum_to, sum_first, same_sum, area_at, moved_at, moved_ring, Linked}
+use Rattle.euler_operators.proofs.Sweeps.{sum_to, sum_first, same_sum, moved_at, Linked}
 use Rattle.euler_operators.specs.Model.{Model}
 use Rattle.shapes.specs.Faces.{start, finish}
 use Rattle.shapes.specs.Prism.{next_place}
@@ -29,7 +29,7 @@ area_sum M [] = refl
 area_sum M (h ∷ hs) = ap (moved (cross (start M h) (finish M h))) (area_sum M hs) ∙ sum_first (λ i. cross (start M (get_or (h ∷ hs) i 0)) (finish M (get_or (h ∷ hs) i 0))) (length hs)
 
 -- the path ts of N leads along the points of the path hs of M, moved by d
-module _ {M N : Model} {d : Point} {f g l k : ℕ} {hs ts : List ℕ} (was : IsPathOf M f l hs) (now : IsPathOf N g k ts) (same : map (start N) ts ≡ all_moved d (map (start M) hs)) where
+module _ {M N : Model} (d : Point) {f g l k : ℕ} {hs ts : List ℕ} (was : IsPathOf M f l hs) (now : IsPathOf N g k ts) (same : map (start N) ts ≡ all_moved d (map (start M) hs)) where
   abbrev from_at : ℕ → Point
   from_at i = start M (get_or hs i 0)
 

@@ -1,5 +1,5 @@
 -- The counts of a lamina and of a block.
-use Rattle.std.proofs.Common.{◌≡◌, ◌≢◌, ℕ, zero, suc, ◌+◌, ◌-◌, ◌*◌, ◌<◌, ℤ, pos, ◌-ℤ◌, true, false, nat_eq, nat_le, List, [], ◌∷◌, append-nil, length, Some, None, is_some, refl, sym, ap, subst, ◌∙◌, arith, true≢false, ◌⊎◌, inl, inr}
+use Rattle.std.proofs.Common.{◌≡◌, ◌≢◌, ℕ, ◌+◌, ◌-◌, ◌*◌, ◌<◌, ℤ, pos, ◌-ℤ◌, true, false, nat_eq, nat_le, List, [], ◌∷◌, append-nil, length, None, is_some, refl, sym, ap, subst, ◌∙◌, arith, true≢false, ◌⊎◌, inl, inr}
 use Rattle.std.proofs.lemmas.Int.{ints}
 use Rattle.std.proofs.lemmas.Bool.Decides.{nat_tests, eqb_tells}
 use Rattle.std.proofs.lemmas.Bool.{ne_eqb, eqb-false, not-true}
@@ -7,11 +7,11 @@ use Rattle.euler_operators.specs.declared.Point.{Point}
 use Rattle.euler_operators.specs.HalfEdge.{edge_of, plus}
 use Rattle.euler_operators.specs.Table as table
 use Rattle.euler_operators.specs.Table.{Table}
-use Rattle.euler_operators.specs.Model.{Model, FaceRow, EdgeRow, content, faces_of, items_of, outer, rings_of, solid_of}
+use Rattle.euler_operators.specs.Model.{Model, EdgeRow, content, faces_of, items_of, outer, rings_of, solid_of}
 use Rattle.euler_operators.specs.Sound.{Sound, Has}
 use Rattle.euler_operators.specs.Conditions.{face_at, lists}
 use Rattle.euler_operators.proofs.Models.{face_row, solid_row, loop_there, plus_there}
-use Rattle.euler_operators.proofs.Tables.{all_where_none, get-put_here, get-put_other}
+use Rattle.euler_operators.proofs.Tables.{all_where_none, get-put_other}
 use Rattle.euler_laws.specs.Laws.{size}
 use Rattle.euler_laws.proofs.Sizes.{size-put_new}
 use Rattle.euler_laws.proofs.shared.Goes.{all_hold}
@@ -33,8 +33,9 @@ use Rattle.command_laws.proofs.LaminaFaces.{lamina_faces}
 use Rattle.command_laws.proofs.Outlines.{as_many}
 use Rattle.command_laws.proofs.Owners.{Agree, is_of, others_kept, solid_of_edge, solid_of_loop}
 use Rattle.command_laws.proofs.SweptFaces.{before_points}
-use Rattle.command_laws.proofs.SweptCounts.{counted_more, model_adds_counts, model_keeps_counts, one_more, with_more}
+use Rattle.command_laws.proofs.SweptCounts.{counted_more, model_adds_counts, model_keeps_counts, with_more}
 use Rattle.sweeps_laws.proofs.LaminaRows as rows
+use Rattle.command_laws.proofs.Series.{others_stay, one_each}
 
 -- ---- a solid that isn't there has nothing
 
@@ -68,28 +69,15 @@ module _ {X : Type 0} (t : Table X) (a : ℕ) (x y : X) where
     added : (n : ℕ) → n + 1 + 1 ≡ n + 2
     added n = omega arith
 
--- ---- rows put one after the other
-
-path_past : (t : Table EdgeRow) (e v n q : ℕ) → e + n < q → table.get (with_path t e v n) q ≡ table.get t q
-path_past t e v zero q l = refl
-path_past t e v (suc n) q l = get-put_other (with_path t e v n) (e + suc n) _ q (λ z. absurd (omega (arith, l, z))) ∙ path_past t e v n q (omega (arith, l))
-
-points_past : (t : Table Point) (v : ℕ) (ps : List Point) (n q : ℕ) → v + n < q → table.get (with_points t v ps n) q ≡ table.get t q
-points_past t v ps zero q l = refl
-points_past t v ps (suc n) q l = get-put_other (with_points t v ps n) (v + suc n) _ q (λ z. absurd (omega (arith, l, z))) ∙ points_past t v ps n q (omega (arith, l))
-
-path_size : (t : Table EdgeRow) (e v : ℕ) → ((q : ℕ) → e < q → table.get t q ≡ None) → (n : ℕ) → size (with_path t e v n) ≡ size t + n
-path_size t e v free zero = omega arith
-path_size t e v free (suc n) = size-put_new (with_path t e v n) (e + suc n) _ (path_past t e v n (e + suc n) (omega arith) ∙ free (e + suc n) (omega arith)) ∙ one_more (size (with_path t e v n)) (size t) n (path_size t e v free n)
+-- ---- the edges of a lamina
 
 ring_size : (t : Table EdgeRow) (e v : ℕ) → ((q : ℕ) → e < q → table.get t q ≡ None) → (n : ℕ) → 0 < n → size (with_ring t e v n) ≡ size t + n
-ring_size t e v free n some = size-put_new (with_path t e v (n - 1)) (e + n) _ (path_past t e v (n - 1) (e + n) (omega (arith, some)) ∙ free (e + n) (omega arith)) ∙ ap (λ k. k + 1) (path_size t e v free (n - 1)) ∙ back (size t) n some where
-  back : (a n : ℕ) → 0 < n → a + (n - 1) + 1 ≡ a + n
-  back a n l = omega arith
-
-points_size : (t : Table Point) (v : ℕ) (ps : List Point) → ((q : ℕ) → v < q → table.get t q ≡ None) → (n : ℕ) → size (with_points t v ps n) ≡ size t + n
-points_size t v ps free zero = omega arith
-points_size t v ps free (suc n) = size-put_new (with_points t v ps n) (v + suc n) _ (points_past t v ps n (v + suc n) (omega arith) ∙ free (v + suc n) (omega arith)) ∙ one_more (size (with_points t v ps n)) (size t) n (points_size t v ps free n)
+ring_size t e v free n some =
+    let path = with_path t e v in
+    size-put_new (path (n - 1)) (e + n) _ (others_stay path e _ (λ k. refl) (n - 1) (e + n) (inr (omega (arith, some))) ∙ free (e + n) (omega (arith, some)))
+    ∙ ap (λ k. k + 1) (one_each path e _ (λ k. refl) free (n - 1)) ∙ back (size t) n some where
+      back : (a n : ℕ) → 0 < n → a + (n - 1) + 1 ≡ a + n
+      back a n l = omega arith
 
 -- ---- a lamina
 
@@ -129,7 +117,7 @@ module _ (M : Model) (s : ℕ) (ps : List Point) (sound : Sound M) (goes : lamin
 
   loop_cases : (q : ℕ) → (table.get N.loops q ≡ table.get M.loops q) ⊎ (solid_of_loop N q ≡ s)
   loop_cases q = elim (eqb_tells q (c.loop + 1)) [
-    | inl e ↦ inr (ap (solid_of_loop N) e.1 ∙ ap (solid_of N) (face_row N (c.loop + 1) _ (get-put_other (table.put M.loops (c.loop + 1) _) (c.loop + 2) _ (c.loop + 1) (λ z. absurd (omega (arith, z))) ∙ get-put_here M.loops (c.loop + 1) _)) ∙ solid_row N (c.face + 1) (rows.first_face M c s ps) (rows.face_one M c s ps))
+    | inl e ↦ inr (ap (solid_of_loop N) e.1 ∙ ap (solid_of N) (face_row N (c.loop + 1) _ (rows.loop_one M c s ps)) ∙ solid_row N (c.face + 1) (rows.first_face M c s ps) (rows.face_one M c s ps))
     | inr m ↦ elim (eqb_tells q (c.loop + 2)) [
       | inl e ↦ inr (ap (solid_of_loop N) e.1 ∙ ap (solid_of N) (face_row N (c.loop + 2) _ (rows.loop_two M c s ps)) ∙ solid_row N (c.face + 2) (rows.second_face M c s ps) (rows.face_two M c s ps))
       | inr n ↦ inl (two_kept M.loops c.loop _ _ q m.1 n.1)
@@ -150,7 +138,7 @@ module _ (M : Model) (s : ℕ) (ps : List Point) (sound : Sound M) (goes : lamin
   made : let t = counts M s in counts N s ≡ tally_of (t.v + length ps) (t.e + length ps) (t.f + 2) t.r
   unfolding taken_in
   made = counted_more M N s (length ps) (length ps) 2 agree
-      (points_size M.vertices (table.greatest M.vertices) ps (λ q a. none_above M.vertices q a) (length ps))
+      (one_each (with_points M.vertices (table.greatest M.vertices) ps) (table.greatest M.vertices) _ (λ k. refl) (λ q a. none_above M.vertices q a) (length ps))
       (ring_size M.edges (table.greatest M.edges) (table.greatest M.vertices) (λ q a. none_above M.edges q a) (length ps) (fits M s ps goes).1)
       (two_size M.faces (table.greatest M.faces) _ _ (λ q a. none_above M.faces q a))
       (two_size M.loops (table.greatest M.loops) _ _ (λ q a. none_above M.loops q a))

@@ -1,6 +1,6 @@
 -- The corners of a face without rings, and the plane that they tell.
 use Rattle.std.specs.Prelude.{length, get_or, map, take}
-use Rattle.std.proofs.Common.{◌≡◌, ℕ, zero, suc, ◌+◌, ◌<◌, List, [], ◌∷◌, ◌++◌, Some, is_some, refl, sym, ap, subst, ◌∙◌, arith, append-nil}
+use Rattle.std.proofs.Common.{◌≡◌, ℕ, zero, suc, ◌<◌, List, [], ◌∷◌, ◌++◌, Some, is_some, refl, sym, ap, subst, ◌∙◌, arith, append-nil}
 use Rattle.euler_operators.specs.declared.Point.{Point}
 use Rattle.euler_operators.specs.Vectors.{origin, moved, cross}
 use Rattle.euler_operators.specs.Items.{IsIn, head_or}

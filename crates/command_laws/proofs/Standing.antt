@@ -1,6 +1,6 @@
 -- A face whose loops, edges and vertices are left alone stands as it did.
 use Rattle.std.specs.Prelude.{map}
-use Rattle.std.proofs.Common.{◌≡◌, ◌≢◌, ℕ, Bool, cond, not, nat_eq, ◌&&◌, List, [], ◌∷◌, ◌++◌, Option, Some, None, is_some, unwrap_or, refl, sym, ap, subst, ◌∙◌, arith, inl, inr, true≢false}
+use Rattle.std.proofs.Common.{◌≡◌, ◌≢◌, ℕ, Bool, cond, not, nat_eq, ◌&&◌, List, [], ◌∷◌, ◌++◌, Option, Some, None, is_some, refl, sym, ap, subst, ◌∙◌, arith, inl, inr, true≢false}
 use Rattle.std.proofs.lemmas.List.{map-append}
 use Rattle.std.proofs.lemmas.Bool.{eqb-true, and_parts, ne_eqb}
 use Rattle.euler_operators.specs.Vectors.{moved, cross}
@@ -9,9 +9,9 @@ use Rattle.euler_operators.proofs.Lists.{tick_other}
 use Rattle.std.proofs.lemmas.Bool.Decides.{eqb_tells}
 use Rattle.euler_operators.proofs.Members.{IsIn_rest, IsIn-map}
 use Rattle.euler_operators.proofs.Rotations.{IsIn_head}
-use Rattle.euler_operators.specs.HalfEdge.{mate, edge_of, is_first}
+use Rattle.euler_operators.specs.HalfEdge.{mate}
 use Rattle.euler_operators.specs.Table as table
-use Rattle.euler_operators.specs.Model.{Model, LoopContent, LoopRow, lone, cycle, no_edge, no_point, items_of, tail, tail_in, content, face_of, outer, point_of, rings_of, after}
+use Rattle.euler_operators.specs.Model.{Model, LoopContent, LoopRow, lone, cycle, items_of, tail, content, face_of, outer, point_of, rings_of, after}
 use Rattle.euler_operators.specs.Sound.{Sound, Has, HasHalf}
 use Rattle.euler_operators.specs.Conditions.{face_at}
 use Rattle.euler_operators.proofs.Halves.{edge_of-mate}

@@ -33,6 +33,7 @@ use Rattle.sweeps_laws.proofs.swept.Sides.{side_face, side_loop, faces_grown, lo
 use Rattle.undo_journal.specs.Machine.{held}
 use Rattle.command_laws.specs.Counted.{SweepAddsCounts, SweepKeepsCounts}
 use Rattle.command_laws.proofs.Owners.{Agree, is_of, solid_of_loop, faces_many, loops_many, vertices_many, more_faces, more_loops, more_edges, more_vertices, others_kept}
+use Rattle.command_laws.proofs.Series.{one_more}
 
 -- some more of each, and no ring
 abbrev pub with_more : Tally → ℕ → ℕ → ℕ → Tally
@@ -69,9 +70,6 @@ less_apart j n l e = absurd (omega arith)
 
 before : (j n m : ℕ) → j < n → suc n ≤ m → j < m
 before j n m k l = omega arith
-
-pub one_more : (a b n : ℕ) → a ≡ b + n → a + 1 ≡ b + suc n
-one_more a b n e = omega arith
 
 two_more : (a b n : ℕ) → a ≡ b + 2 * n → a + 1 + 1 ≡ b + 2 * suc n
 two_more a b n e = omega arith

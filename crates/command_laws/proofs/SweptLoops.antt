@@ -108,12 +108,12 @@ module _ (f s : ℕ) (d : Point) where
   pub later_all : (ls : List ℕ) (g : Growing) → Ready f s g ls → Later g.model (prism_from f d g ls).model g.taken ls
   later_all [] g w = record { faces = λ k m. refl; rings = λ k m. refl; loops = λ q m z. refl; starts = λ h m. refl }
   later_all (l ∷ ls) g w = subst (λ x. Later g.model (prism_from f d x ls).model g.taken (l ∷ ls)) (sym (raised_is d w))
-      (later_on g.model (swept_once f s d g l ls w) (prism_from f d (next f s d g l ls w) ls).model g.taken (length (items f s d g l ls w)) l ls
-      (after_later d w) (later_all ls (next f s d g l ls w) (after_ready d w)))
+      (later_on g.model (swept_once d w) (prism_from f d (next d w) ls).model g.taken (length (items d w)) l ls
+      (after_later d w) (later_all ls (next d w) (after_ready d w)))
 
   pub ready_all : (ls ms : List ℕ) (g : Growing) → Ready f s g (ls ++ ms) → Ready f s (prism_from f d g ls) ms
   ready_all [] ms g w = w
-  ready_all (l ∷ ls) ms g w = subst (λ x. Ready f s (prism_from f d x ls) ms) (sym (raised_is d w)) (ready_all ls ms (next f s d g l (ls ++ ms) w) (after_ready d w))
+  ready_all (l ∷ ls) ms g w = subst (λ x. Ready f s (prism_from f d x ls) ms) (sym (raised_is d w)) (ready_all ls ms (next d w) (after_ready d w))
 
   pub from_append : (ls ms : List ℕ) (g : Growing) → prism_from f d g (ls ++ ms) ≡ prism_from f d (prism_from f d g ls) ms
   from_append [] ms g = refl
@@ -125,16 +125,16 @@ module _ (f s : ℕ) (d : Point) where
     none : (n : ℕ) → n ≡ n + 0
     none n = omega arith
   taken_all M (l ∷ ls) g w same =
-      let n = length (items f s d g l ls w) in
+      let n = length (items d w) in
       ap (λ x. (prism_from f d x ls).taken.face) (raised_is d w)
-      ∙ taken_all M ls (next f s d g l ls w) (after_ready d w) (λ q i. still q i ∙ same q (IsIn_rest q l ls i))
+      ∙ taken_all M ls (next d w) (after_ready d w) (λ q i. still q i ∙ same q (IsIn_rest q l ls i))
       ∙ sum g.taken.face n (length (vertices_in M ls)) (length (vertices_in M (l ∷ ls)))
       (length-append (vertices_on M (content M l)) (vertices_in M ls) ∙ ap (λ k. k + length (vertices_in M ls)) corner_many) where
-        still : (q : ℕ) → IsIn q ls → content (swept_once f s d g l ls w) q ≡ content g.model q
-        still q i = (path_after (solid_of g.model f) d w.bounded (path f s d g l ls w) q (items_of (content g.model q)) (not_again d w q i) (w.paths q (IsIn_rest q l ls i))).0
+        still : (q : ℕ) → IsIn q ls → content (swept_once d w) q ≡ content g.model q
+        still q i = (path_after (solid_of g.model f) d w.bounded (path d w) q (items_of (content g.model q)) (not_again d w q i) (w.paths q (IsIn_rest q l ls i))).0
 
-        corner_many : length (vertices_on M (content M l)) ≡ length (items f s d g l ls w)
-        corner_many = ap (λ x. length (vertices_on M x)) (sym (same l (IsIn_head l ls)) ∙ (path f s d g l ls w).content) ∙ length-map (items f s d g l ls w) (tail M)
+        corner_many : length (vertices_on M (content M l)) ≡ length (items d w)
+        corner_many = ap (λ x. length (vertices_on M x)) (sym (same l (IsIn_head l ls)) ∙ (path d w).content) ∙ length-map (items d w) (tail M)
 
         sum : (a n m k : ℕ) → k ≡ n + m → (a + n) + m ≡ a + k
         sum a n m k e = omega (arith, e)

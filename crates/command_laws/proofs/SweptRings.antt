@@ -132,7 +132,7 @@ module _ (M : Model) (f : ℕ) (d : Point) (sound : Sound M) (goes : prism_refus
 
     area_moved : area Z (items_of (content Z l)) ≡ area M (items_of (content M l))
     area_moved = ap (λ x. area Z (items_of x)) loop_then
-        ∙ area_kept l_path (ring_path Z Z_sound (face_of Z l) l tops (loop_row Z l loop_there ∙ ap (λ x. Some (record { face = face_of Z l; content = x })) loop_then)) (tops_moved ∙ ap (all_moved d) (along_cycle M l (items_of (content M l)) l_path.content))
+        ∙ area_kept d l_path (ring_path Z Z_sound (face_of Z l) l tops (loop_row Z l loop_there ∙ ap (λ x. Some (record { face = face_of Z l; content = x })) loop_then)) (tops_moved ∙ ap (all_moved d) (along_cycle M l (items_of (content M l)) l_path.content))
 
     many : length hs ≡ length (loop_points M l)
     many = sym (as_many g.model hs) ∙ ap length points_then
