@@ -1,3 +1,3 @@
 pub mod Values
-pub mod HeldSteps
+pub mod KeptSteps
 pub mod Turning

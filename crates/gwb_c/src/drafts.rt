@@ -12,7 +12,7 @@ use std::alloc::Global;
 /// Opens a draft of the next command: from then on operators are its steps.
 #[unsafe(no_mangle)]
 pub extern "C" fn gwb_draft(alloc: Global, gwb: &mut Gwb) -> u32
-    ensures { CallsOfSession (λ x y. Slot_drafts x y) gwb.old.held.value gwb.new.held.value result }
+    ensures { CallsOfSession (λ x y. Slot_drafts x y) gwb.old.kept.value gwb.new.kept.value result }
 {
     let Some(slot) = take(alloc, gwb) else {
         return CLOSED;
@@ -31,7 +31,7 @@ pub extern "C" fn gwb_draft(alloc: Global, gwb: &mut Gwb) -> u32
 /// Makes the steps of the draft one command, also where there was none. It takes no memory.
 #[unsafe(no_mangle)]
 pub extern "C" fn gwb_commit(alloc: Global, gwb: &mut Gwb) -> u32
-    ensures { CallsOfDraft (λ x y. Slot_ends (λ d. after_commit d) x y) gwb.old.held.value gwb.new.held.value result }
+    ensures { CallsOfDraft (λ x y. Slot_ends (λ d. after_commit d) x y) gwb.old.kept.value gwb.new.kept.value result }
 {
     let Some(slot) = take(alloc, gwb) else {
         return CLOSED;
@@ -50,7 +50,7 @@ pub extern "C" fn gwb_commit(alloc: Global, gwb: &mut Gwb) -> u32
 /// Takes the steps of the draft back: the session is as it was before it, the commands that can be redone included. It takes no memory.
 #[unsafe(no_mangle)]
 pub extern "C" fn gwb_abandon(alloc: Global, gwb: &mut Gwb) -> u32
-    ensures { CallsOfDraft (λ x y. Slot_ends (λ d. d.session) x y) gwb.old.held.value gwb.new.held.value result }
+    ensures { CallsOfDraft (λ x y. Slot_ends (λ d. d.session) x y) gwb.old.kept.value gwb.new.kept.value result }
 {
     let Some(slot) = take(alloc, gwb) else {
         return CLOSED;

@@ -11,7 +11,7 @@ use std::alloc::Global;
 /// Opens a session that holds the empty model. False where memory is refused, or there is a session; then nothing has changed.
 #[unsafe(no_mangle)]
 pub extern "C" fn gwb_open(alloc: Global, gwb: &mut Gwb) -> bool
-    ensures { Opened gwb.old.held.value gwb.new.held.value result }
+    ensures { Opened gwb.old.kept.value gwb.new.kept.value result }
 {
     if let Some(slot) = take(alloc, gwb) {
         put(gwb, slot);
@@ -29,7 +29,7 @@ pub extern "C" fn gwb_open(alloc: Global, gwb: &mut Gwb) -> bool
 /// Frees the session, if there is one.
 #[unsafe(no_mangle)]
 pub extern "C" fn gwb_close(alloc: Global, gwb: &mut Gwb)
-    ensures { gwb.new.held.value ≡ None }
+    ensures { gwb.new.kept.value ≡ None }
 {
     drop(take(alloc, gwb));
 }
@@ -38,7 +38,7 @@ pub extern "C" fn gwb_close(alloc: Global, gwb: &mut Gwb)
 /// 3 `fault`, 4 `memory`, 5 `plane`, 6 `volume`, 7 `count`, 8 a listing; 9 where there is no session, 11 in a draft.
 #[unsafe(no_mangle)]
 pub extern "C" fn gwb_line(alloc: Global, gwb: &mut Gwb, line: &[u8]) -> u32
-    ensures { Hears gwb.old.held.value line.now gwb.new.held.value result }
+    ensures { Hears gwb.old.kept.value line.now gwb.new.kept.value result }
 {
     let Some(slot) = take(alloc, gwb) else {
         return CLOSED;
@@ -58,8 +58,8 @@ pub extern "C" fn gwb_line(alloc: Global, gwb: &mut Gwb, line: &[u8]) -> u32
 /// there is no session. It can be asked again with more room.
 #[unsafe(no_mangle)]
 pub extern "C" fn gwb_reply(alloc: Global, gwb: &mut Gwb, buf: &mut [u8]) -> usize
-    ensures state { gwb.new.held.value ≡ gwb.old.held.value }
-    ensures text { Replies gwb.old.held.value buf.old buf.new result }
+    ensures state { gwb.new.kept.value ≡ gwb.old.kept.value }
+    ensures text { Replies gwb.old.kept.value buf.old buf.new result }
 {
     let Some(slot) = take(alloc, gwb) else {
         return usize::MAX;
@@ -95,8 +95,8 @@ fn ahead_of(slot: &Slot) -> usize
 /// How many commands can be undone, in a draft none: `SIZE_MAX` where there is no session.
 #[unsafe(no_mangle)]
 pub extern "C" fn gwb_depth(alloc: Global, gwb: &mut Gwb) -> usize
-    ensures state { gwb.new.held.value ≡ gwb.old.held.value }
-    ensures value { Numbers undos gwb.old.held.value result }
+    ensures state { gwb.new.kept.value ≡ gwb.old.kept.value }
+    ensures value { Numbers undos gwb.old.kept.value result }
 {
     let Some(slot) = take(alloc, gwb) else {
         return usize::MAX;
@@ -109,8 +109,8 @@ pub extern "C" fn gwb_depth(alloc: Global, gwb: &mut Gwb) -> usize
 /// How many commands can be redone, in a draft none: `SIZE_MAX` where there is no session.
 #[unsafe(no_mangle)]
 pub extern "C" fn gwb_ahead(alloc: Global, gwb: &mut Gwb) -> usize
-    ensures state { gwb.new.held.value ≡ gwb.old.held.value }
-    ensures value { Numbers redos gwb.old.held.value result }
+    ensures state { gwb.new.kept.value ≡ gwb.old.kept.value }
+    ensures value { Numbers redos gwb.old.kept.value result }
 {
     let Some(slot) = take(alloc, gwb) else {
         return usize::MAX;

@@ -1,7 +1,7 @@
 //! The handle: a session that lies with C, or none.
 ghost use Rattle.std.specs.Prelude.{◌≡◌, ◌↔◌, IsTrue, IsSome, Some, None, MatchOption};
 
-use crate::held::Held;
+use crate::kept::Kept;
 use session_slots::Slot;
 use std::alloc::Global;
 use std::mem;
@@ -20,38 +20,38 @@ pub(crate) const NO_DRAFT: u32 = 12;
 #[derive(Drop)]
 pub struct Gwb {
     is_open: bool,
-    held: Held,
-    ghost agrees: { IsTrue is_open ↔ IsSome held.value },
+    kept: Kept,
+    ghost agrees: { IsTrue is_open ↔ IsSome kept.value },
 }
 
 /// A closed handle.
 pub(crate) fn closed() -> Gwb
-    ensures { result.held.value ≡ None }
+    ensures { result.kept.value ≡ None }
 {
     Gwb {
         is_open: false,
-        held: Held::none(),
+        kept: Kept::none(),
     }
 }
 
 /// Hands a session over to C.
 pub(crate) fn put(gwb: &mut Gwb, slot: Box<Slot, Global>)
-    ensures { gwb.new.held.value ≡ Some slot.value }
+    ensures { gwb.new.kept.value ≡ Some slot.value }
 {
     *gwb = Gwb {
         is_open: true,
-        held: Held::of(slot),
+        kept: Kept::of(slot),
     };
 }
 
 /// The session, if there is one: until it is handed over again the handle is closed.
 pub(crate) fn take(alloc: Global, gwb: &mut Gwb) -> Option<Box<Slot, Global>>
-    ensures left { gwb.new.held.value ≡ None }
-    ensures slot { MatchOption result (gwb.old.held.value ≡ None) (λ b. gwb.old.held.value ≡ Some b.value) }
+    ensures left { gwb.new.kept.value ≡ None }
+    ensures slot { MatchOption result (gwb.old.kept.value ≡ None) (λ b. gwb.old.kept.value ≡ Some b.value) }
 {
     let old = mem::replace(gwb, closed());
     if old.is_open {
-        Some(old.held.into_box(alloc))
+        Some(old.kept.into_box(alloc))
     } else {
         None
     }

@@ -37,8 +37,8 @@ fn polygon(places: &[Place]) -> ArrayVec<Point, 64>
 /// Makes a lamina: a solid of two faces, whose corners are the points in order. More than 64 points make no call, and a draft has none.
 #[unsafe(no_mangle)]
 pub extern "C" fn gwb_lamina(alloc: Global, gwb: &mut Gwb, solid: u32, points: &[Place]) -> u32
-    ensures made { length points.now ≤ 64 → Does gwb.old.held.value (command.Lamina solid (polygon_of points.now)) gwb.new.held.value result }
-    ensures too_many { 64 < length points.now → Leaves gwb.old.held.value 10 gwb.new.held.value result }
+    ensures made { length points.now ≤ 64 → Does gwb.old.kept.value (command.Lamina solid (polygon_of points.now)) gwb.new.kept.value result }
+    ensures too_many { 64 < length points.now → Leaves gwb.old.kept.value 10 gwb.new.kept.value result }
 {
     let Some(slot) = take(alloc, gwb) else {
         return CLOSED;

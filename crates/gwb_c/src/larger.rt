@@ -12,8 +12,8 @@ use session_slots::is_drafting;
 use std::alloc::Global;
 
 /// Carries a larger command out on the session, if there is one.
-fn carry(alloc: Global, gwb: &mut Gwb, larger: Larger) -> u32
-    ensures { Does gwb.old.held.value (spelled larger) gwb.new.held.value result }
+fn carry(alloc: Global, gwb: &mut Gwb, larger: Larger<'_>) -> u32
+    ensures { Does gwb.old.kept.value (spelled larger.entry) gwb.new.kept.value result }
 {
     let Some(slot) = take(alloc, gwb) else {
         return CLOSED;
@@ -42,7 +42,7 @@ pub extern "C" fn gwb_block(
     dy: i64,
     dz: i64,
 ) -> u32
-    ensures { Does gwb.old.held.value (command.Block solid (record { x = x; y = y; z = z }) dx dy dz) gwb.new.held.value result }
+    ensures { Does gwb.old.kept.value (command.Block solid (record { x = x; y = y; z = z }) dx dy dz) gwb.new.kept.value result }
 {
     carry(
         alloc,
@@ -61,7 +61,7 @@ pub extern "C" fn gwb_sweep(
     dy: i64,
     dz: i64,
 ) -> u32
-    ensures { Does gwb.old.held.value (command.Sweep face (record { x = dx; y = dy; z = dz })) gwb.new.held.value result }
+    ensures { Does gwb.old.kept.value (command.Sweep face (record { x = dx; y = dy; z = dz })) gwb.new.kept.value result }
 {
     carry(
         alloc,
@@ -80,7 +80,7 @@ pub extern "C" fn gwb_sweep(
 /// Glues two solids along a face of each.
 #[unsafe(no_mangle)]
 pub extern "C" fn gwb_glue(alloc: Global, gwb: &mut Gwb, face: u32, other: u32) -> u32
-    ensures { Does gwb.old.held.value (command.Glue face other) gwb.new.held.value result }
+    ensures { Does gwb.old.kept.value (command.Glue face other) gwb.new.kept.value result }
 {
     carry(alloc, gwb, Larger::Glue(face, other))
 }
@@ -97,7 +97,7 @@ pub extern "C" fn gwb_split(
     d: i64,
     above: u32,
 ) -> u32
-    ensures { Does gwb.old.held.value (command.Split solid (a ∷ b ∷ c ∷ d ∷ []) above) gwb.new.held.value result }
+    ensures { Does gwb.old.kept.value (command.Split solid (a ∷ b ∷ c ∷ d ∷ []) above) gwb.new.kept.value result }
 {
     carry(alloc, gwb, Larger::Split(solid, [a, b, c, d], above))
 }
@@ -105,7 +105,7 @@ pub extern "C" fn gwb_split(
 /// Takes the last command back.
 #[unsafe(no_mangle)]
 pub extern "C" fn gwb_undo(alloc: Global, gwb: &mut Gwb) -> u32
-    ensures { Does gwb.old.held.value command.Undo gwb.new.held.value result }
+    ensures { Does gwb.old.kept.value command.Undo gwb.new.kept.value result }
 {
     let Some(slot) = take(alloc, gwb) else {
         return CLOSED;
@@ -124,7 +124,7 @@ pub extern "C" fn gwb_undo(alloc: Global, gwb: &mut Gwb) -> u32
 /// Does the next command again.
 #[unsafe(no_mangle)]
 pub extern "C" fn gwb_redo(alloc: Global, gwb: &mut Gwb) -> u32
-    ensures { Does gwb.old.held.value command.Redo gwb.new.held.value result }
+    ensures { Does gwb.old.kept.value command.Redo gwb.new.kept.value result }
 {
     let Some(slot) = take(alloc, gwb) else {
         return CLOSED;

@@ -20,7 +20,7 @@
 mod drafts;
 mod exports;
 mod handle;
-mod held;
+mod kept;
 mod laminas;
 mod larger;
 mod loose;

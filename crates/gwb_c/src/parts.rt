@@ -9,8 +9,8 @@ use std::alloc::Global;
 /// Makes a new solid of some faces of one. No faces make no call.
 #[unsafe(no_mangle)]
 pub extern "C" fn gwb_part(alloc: Global, gwb: &mut Gwb, faces: &[u32], solid: u32) -> u32
-    ensures made { 0 < length faces.now → Parts gwb.old.held.value faces.now solid gwb.new.held.value result }
-    ensures none { faces.now ≡ [] → Leaves gwb.old.held.value 10 gwb.new.held.value result }
+    ensures made { 0 < length faces.now → Parts gwb.old.kept.value faces.now solid gwb.new.kept.value result }
+    ensures none { faces.now ≡ [] → Leaves gwb.old.kept.value 10 gwb.new.kept.value result }
 {
     let Some(slot) = take(alloc, gwb) else {
         return CLOSED;

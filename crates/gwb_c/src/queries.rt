@@ -1,7 +1,7 @@
 //! Calls of C: queries. Each answers as the line does that spells the same query, and writes the value where the answer tells it.
 ghost use Rattle.std.specs.Prelude.{◌≡◌};
 ghost use Rattle.script_running.specs.script_judging.Judging.{plane_reply, volume_reply, count_reply};
-ghost use Rattle.session_slots.specs.Answered.{counts_in, volume_in, plane_in, whole, whole_plane};
+ghost use Rattle.session_slots.specs.Answered.{counts_in, volume_in, plane_in, joined, joined_plane};
 ghost use Rattle.gwb_c.specs.Calls.{Asks, Tells, TellsBy};
 
 use crate::handle::{CLOSED, Gwb, put, take};
@@ -19,8 +19,8 @@ pub extern "C" fn gwb_face_plane(
     face: u32,
     plane: &mut PlaneRow,
 ) -> u32
-    ensures state { Asks gwb.old.held.value (λ M. plane_reply M face) gwb.new.held.value result }
-    ensures value { TellsBy whole_plane plane_in gwb.new.held.value plane.old plane.new }
+    ensures state { Asks gwb.old.kept.value (λ M. plane_reply M face) gwb.new.kept.value result }
+    ensures value { TellsBy joined_plane plane_in gwb.new.kept.value plane.old plane.new }
 {
     let Some(slot) = take(alloc, gwb) else {
         return CLOSED;
@@ -41,8 +41,8 @@ pub extern "C" fn gwb_volume(
     solid: u32,
     six_volumes: &mut Wide,
 ) -> u32
-    ensures state { Asks gwb.old.held.value (λ M. volume_reply M solid) gwb.new.held.value result }
-    ensures value { TellsBy whole volume_in gwb.new.held.value six_volumes.old six_volumes.new }
+    ensures state { Asks gwb.old.kept.value (λ M. volume_reply M solid) gwb.new.kept.value result }
+    ensures value { TellsBy joined volume_in gwb.new.kept.value six_volumes.old six_volumes.new }
 {
     let Some(slot) = take(alloc, gwb) else {
         return CLOSED;
@@ -58,8 +58,8 @@ pub extern "C" fn gwb_volume(
 /// How many vertices, edges, faces and rings a solid has, and their sum with signs.
 #[unsafe(no_mangle)]
 pub extern "C" fn gwb_count(alloc: Global, gwb: &mut Gwb, solid: u32, counts: &mut Counts) -> u32
-    ensures state { Asks gwb.old.held.value (λ M. count_reply M solid) gwb.new.held.value result }
-    ensures value { Tells counts_in gwb.new.held.value counts.old counts.new }
+    ensures state { Asks gwb.old.kept.value (λ M. count_reply M solid) gwb.new.kept.value result }
+    ensures value { Tells counts_in gwb.new.kept.value counts.old counts.new }
 {
     let Some(slot) = take(alloc, gwb) else {
         return CLOSED;

@@ -12,8 +12,8 @@ use std::alloc::Global;
 /// The solid and the outer loop of a face.
 #[unsafe(no_mangle)]
 pub extern "C" fn gwb_face(alloc: Global, gwb: &mut Gwb, face: u32, row: &mut FaceRow) -> u32
-    ensures state { gwb.new.held.value ≡ gwb.old.held.value }
-    ensures value { Reads (face_in face) gwb.old.held.value row.old row.new result }
+    ensures state { gwb.new.kept.value ≡ gwb.old.kept.value }
+    ensures value { Reads (face_in face) gwb.old.kept.value row.old row.new result }
 {
     let Some(slot) = take(alloc, gwb) else {
         return CLOSED;
@@ -29,8 +29,8 @@ pub extern "C" fn gwb_face(alloc: Global, gwb: &mut Gwb, face: u32, row: &mut Fa
 /// The face of a loop.
 #[unsafe(no_mangle)]
 pub extern "C" fn gwb_loop(alloc: Global, gwb: &mut Gwb, l: u32, face: &mut u32) -> u32
-    ensures state { gwb.new.held.value ≡ gwb.old.held.value }
-    ensures value { Reads (face_of_loop_in l) gwb.old.held.value face.old face.new result }
+    ensures state { gwb.new.kept.value ≡ gwb.old.kept.value }
+    ensures value { Reads (face_of_loop_in l) gwb.old.kept.value face.old face.new result }
 {
     let Some(slot) = take(alloc, gwb) else {
         return CLOSED;
@@ -46,8 +46,8 @@ pub extern "C" fn gwb_loop(alloc: Global, gwb: &mut Gwb, l: u32, face: &mut u32)
 /// The vertices at which the half-edges of an edge start.
 #[unsafe(no_mangle)]
 pub extern "C" fn gwb_edge(alloc: Global, gwb: &mut Gwb, edge: u32, row: &mut EdgeRow) -> u32
-    ensures state { gwb.new.held.value ≡ gwb.old.held.value }
-    ensures value { Reads (edge_in edge) gwb.old.held.value row.old row.new result }
+    ensures state { gwb.new.kept.value ≡ gwb.old.kept.value }
+    ensures value { Reads (edge_in edge) gwb.old.kept.value row.old row.new result }
 {
     let Some(slot) = take(alloc, gwb) else {
         return CLOSED;
@@ -63,8 +63,8 @@ pub extern "C" fn gwb_edge(alloc: Global, gwb: &mut Gwb, edge: u32, row: &mut Ed
 /// The coordinates of a vertex.
 #[unsafe(no_mangle)]
 pub extern "C" fn gwb_vertex(alloc: Global, gwb: &mut Gwb, vertex: u32, place: &mut Place) -> u32
-    ensures state { gwb.new.held.value ≡ gwb.old.held.value }
-    ensures value { Reads (point_in vertex) gwb.old.held.value place.old place.new result }
+    ensures state { gwb.new.kept.value ≡ gwb.old.kept.value }
+    ensures value { Reads (point_in vertex) gwb.old.kept.value place.old place.new result }
 {
     let Some(slot) = take(alloc, gwb) else {
         return CLOSED;
@@ -80,8 +80,8 @@ pub extern "C" fn gwb_vertex(alloc: Global, gwb: &mut Gwb, vertex: u32, place: &
 /// The vertex of a loop that has one and no edge.
 #[unsafe(no_mangle)]
 pub extern "C" fn gwb_lone_vertex(alloc: Global, gwb: &mut Gwb, l: u32, vertex: &mut u32) -> u32
-    ensures state { gwb.new.held.value ≡ gwb.old.held.value }
-    ensures value { Reads (lone_in l) gwb.old.held.value vertex.old vertex.new result }
+    ensures state { gwb.new.kept.value ≡ gwb.old.kept.value }
+    ensures value { Reads (lone_in l) gwb.old.kept.value vertex.old vertex.new result }
 {
     let Some(slot) = take(alloc, gwb) else {
         return CLOSED;
@@ -97,8 +97,8 @@ pub extern "C" fn gwb_lone_vertex(alloc: Global, gwb: &mut Gwb, l: u32, vertex: 
 /// The half-edge after another in its loop.
 #[unsafe(no_mangle)]
 pub extern "C" fn gwb_next_half_edge(alloc: Global, gwb: &mut Gwb, item: u32, next: &mut u32) -> u32
-    ensures state { gwb.new.held.value ≡ gwb.old.held.value }
-    ensures value { Reads (after_in item) gwb.old.held.value next.old next.new result }
+    ensures state { gwb.new.kept.value ≡ gwb.old.kept.value }
+    ensures value { Reads (after_in item) gwb.old.kept.value next.old next.new result }
 {
     let Some(slot) = take(alloc, gwb) else {
         return CLOSED;
@@ -129,8 +129,8 @@ fn find_first_half_edge(slot: &Slot, l: u32, item: &mut u32) -> u32
 /// A half-edge of a loop.
 #[unsafe(no_mangle)]
 pub extern "C" fn gwb_first_half_edge(alloc: Global, gwb: &mut Gwb, l: u32, item: &mut u32) -> u32
-    ensures state { gwb.new.held.value ≡ gwb.old.held.value }
-    ensures value { Finds (IsFirst l) gwb.old.held.value item.old item.new result }
+    ensures state { gwb.new.kept.value ≡ gwb.old.kept.value }
+    ensures value { Finds (IsFirst l) gwb.old.kept.value item.old item.new result }
 {
     let Some(slot) = take(alloc, gwb) else {
         return CLOSED;
@@ -153,8 +153,8 @@ fn list_half_edges(slot: &Slot, l: u32, buf: &mut [u32]) -> usize
 /// none of a loop with a vertex and no edge, or that is not there; `SIZE_MAX` where there is no session. It walks round the loop once.
 #[unsafe(no_mangle)]
 pub extern "C" fn gwb_half_edges(alloc: Global, gwb: &mut Gwb, l: u32, buf: &mut [u32]) -> usize
-    ensures state { gwb.new.held.value ≡ gwb.old.held.value }
-    ensures items { Lists (AreHalfEdges l) gwb.old.held.value buf.old buf.new result }
+    ensures state { gwb.new.kept.value ≡ gwb.old.kept.value }
+    ensures items { Lists (AreHalfEdges l) gwb.old.kept.value buf.old buf.new result }
 {
     let Some(slot) = take(alloc, gwb) else {
         return usize::MAX;
@@ -164,13 +164,13 @@ pub extern "C" fn gwb_half_edges(alloc: Global, gwb: &mut Gwb, l: u32, buf: &mut
     count
 }
 
-fn find_ring_after(slot: &Slot, face: u32, n: u32, ring: &mut u32) -> u32
-    ensures { Finds (IsRingAfter face n) (Some slot.now) ring.old ring.new result }
+fn find_ring_after(slot: &Slot, face: u32, above: u32, ring: &mut u32) -> u32
+    ensures { Finds (IsRingAfter face above) (Some slot.now) ring.old ring.new result }
 {
     let Some(stage) = &slot.stage else {
         return ABSENT;
     };
-    match session_slots::ring_after(stage.arena(), face, n) {
+    match session_slots::ring_after(stage.arena(), face, above) {
         Some(found) => {
             *ring = found;
             FOUND
@@ -179,33 +179,33 @@ fn find_ring_after(slot: &Slot, face: u32, n: u32, ring: &mut u32) -> u32
     }
 }
 
-/// The least ring of a face above n.
+/// The least ring of a face above the one given.
 #[unsafe(no_mangle)]
 pub extern "C" fn gwb_ring_after(
     alloc: Global,
     gwb: &mut Gwb,
     face: u32,
-    n: u32,
+    above: u32,
     ring: &mut u32,
 ) -> u32
-    ensures state { gwb.new.held.value ≡ gwb.old.held.value }
-    ensures value { Finds (IsRingAfter face n) gwb.old.held.value ring.old ring.new result }
+    ensures state { gwb.new.kept.value ≡ gwb.old.kept.value }
+    ensures value { Finds (IsRingAfter face above) gwb.old.kept.value ring.old ring.new result }
 {
     let Some(slot) = take(alloc, gwb) else {
         return CLOSED;
     };
-    let told = find_ring_after(&slot, face, n, ring);
+    let told = find_ring_after(&slot, face, above, ring);
     put(gwb, slot);
     told
 }
 
-fn find_face_after(slot: &Slot, solid: u32, n: u32, face: &mut u32) -> u32
-    ensures { Finds (IsFaceAfter solid n) (Some slot.now) face.old face.new result }
+fn find_face_after(slot: &Slot, solid: u32, above: u32, face: &mut u32) -> u32
+    ensures { Finds (IsFaceAfter solid above) (Some slot.now) face.old face.new result }
 {
     let Some(stage) = &slot.stage else {
         return ABSENT;
     };
-    match session_slots::face_after(stage.arena(), solid, n) {
+    match session_slots::face_after(stage.arena(), solid, above) {
         Some(found) => {
             *face = found;
             FOUND
@@ -214,33 +214,33 @@ fn find_face_after(slot: &Slot, solid: u32, n: u32, face: &mut u32) -> u32
     }
 }
 
-/// The least face of a solid above n.
+/// The least face of a solid above the one given.
 #[unsafe(no_mangle)]
 pub extern "C" fn gwb_face_after(
     alloc: Global,
     gwb: &mut Gwb,
     solid: u32,
-    n: u32,
+    above: u32,
     face: &mut u32,
 ) -> u32
-    ensures state { gwb.new.held.value ≡ gwb.old.held.value }
-    ensures value { Finds (IsFaceAfter solid n) gwb.old.held.value face.old face.new result }
+    ensures state { gwb.new.kept.value ≡ gwb.old.kept.value }
+    ensures value { Finds (IsFaceAfter solid above) gwb.old.kept.value face.old face.new result }
 {
     let Some(slot) = take(alloc, gwb) else {
         return CLOSED;
     };
-    let told = find_face_after(&slot, solid, n, face);
+    let told = find_face_after(&slot, solid, above, face);
     put(gwb, slot);
     told
 }
 
-fn find_number_after(slot: &Slot, entity: u32, n: u32, number: &mut u32) -> u32
-    ensures { Finds (IsNumberAfter (kind_of entity) n) (Some slot.now) number.old number.new result }
+fn find_number_after(slot: &Slot, entity: u32, above: u32, number: &mut u32) -> u32
+    ensures { Finds (IsNumberAfter (kind_of entity) above) (Some slot.now) number.old number.new result }
 {
     let Some(stage) = &slot.stage else {
         return ABSENT;
     };
-    match session_slots::number_after(stage.arena(), entity, n) {
+    match session_slots::number_after(stage.arena(), entity, above) {
         Some(found) => {
             *number = found;
             FOUND
@@ -249,22 +249,22 @@ fn find_number_after(slot: &Slot, entity: u32, n: u32, number: &mut u32) -> u32
     }
 }
 
-/// The least number of a kind in use above n: 0 for solids, 1 for faces, 2 for loops, 3 for edges, 4 for vertices.
+/// The least number of a kind in use above the one given: 0 for solids, 1 for faces, 2 for loops, 3 for edges, 4 for vertices.
 #[unsafe(no_mangle)]
 pub extern "C" fn gwb_number_after(
     alloc: Global,
     gwb: &mut Gwb,
     entity: u32,
-    n: u32,
+    above: u32,
     number: &mut u32,
 ) -> u32
-    ensures state { gwb.new.held.value ≡ gwb.old.held.value }
-    ensures value { Finds (IsNumberAfter (kind_of entity) n) gwb.old.held.value number.old number.new result }
+    ensures state { gwb.new.kept.value ≡ gwb.old.kept.value }
+    ensures value { Finds (IsNumberAfter (kind_of entity) above) gwb.old.kept.value number.old number.new result }
 {
     let Some(slot) = take(alloc, gwb) else {
         return CLOSED;
     };
-    let told = find_number_after(&slot, entity, n, number);
+    let told = find_number_after(&slot, entity, above, number);
     put(gwb, slot);
     told
 }
@@ -282,8 +282,8 @@ fn give_fresh(slot: &Slot, entity: u32, range: &mut Range) -> u32
 /// vertices.
 #[unsafe(no_mangle)]
 pub extern "C" fn gwb_fresh(alloc: Global, gwb: &mut Gwb, entity: u32, range: &mut Range) -> u32
-    ensures state { gwb.new.held.value ≡ gwb.old.held.value }
-    ensures value { GivesFresh entity gwb.old.held.value range.old range.new result }
+    ensures state { gwb.new.kept.value ≡ gwb.old.kept.value }
+    ensures value { GivesFresh entity gwb.old.kept.value range.old range.new result }
 {
     let Some(slot) = take(alloc, gwb) else {
         return CLOSED;

@@ -1,7 +1,7 @@
 //! Calls of C: the last answer, as values. Each says 1 where the value is there, and writes it; 0 where the last answer is of another
 //! kind, and 9 where there is no session: then nothing is written.
 ghost use Rattle.std.specs.Prelude.{◌≡◌};
-ghost use Rattle.session_slots.specs.Answered.{refusal_in, fault_in, counts_in, volume_in, plane_in, whole, whole_plane};
+ghost use Rattle.session_slots.specs.Answered.{refusal_in, fault_in, counts_in, volume_in, plane_in, joined, joined_plane};
 ghost use Rattle.gwb_c.specs.Handle.{Recalls, RecallsBy};
 
 use crate::handle::{CLOSED, Gwb, put, take};
@@ -14,8 +14,8 @@ use std::alloc::Global;
 /// What the last answer refused.
 #[unsafe(no_mangle)]
 pub extern "C" fn gwb_last_refusal(alloc: Global, gwb: &mut Gwb, refusal: &mut Refused) -> u32
-    ensures state { gwb.new.held.value ≡ gwb.old.held.value }
-    ensures value { Recalls refusal_in gwb.old.held.value refusal.old refusal.new result }
+    ensures state { gwb.new.kept.value ≡ gwb.old.kept.value }
+    ensures value { Recalls refusal_in gwb.old.kept.value refusal.old refusal.new result }
 {
     let Some(slot) = take(alloc, gwb) else {
         return CLOSED;
@@ -28,8 +28,8 @@ pub extern "C" fn gwb_last_refusal(alloc: Global, gwb: &mut Gwb, refusal: &mut R
 /// The number of the last answer's fault.
 #[unsafe(no_mangle)]
 pub extern "C" fn gwb_last_fault(alloc: Global, gwb: &mut Gwb, number: &mut u32) -> u32
-    ensures state { gwb.new.held.value ≡ gwb.old.held.value }
-    ensures value { Recalls fault_in gwb.old.held.value number.old number.new result }
+    ensures state { gwb.new.kept.value ≡ gwb.old.kept.value }
+    ensures value { Recalls fault_in gwb.old.kept.value number.old number.new result }
 {
     let Some(slot) = take(alloc, gwb) else {
         return CLOSED;
@@ -42,8 +42,8 @@ pub extern "C" fn gwb_last_fault(alloc: Global, gwb: &mut Gwb, number: &mut u32)
 /// What the last answer counted.
 #[unsafe(no_mangle)]
 pub extern "C" fn gwb_last_counts(alloc: Global, gwb: &mut Gwb, counts: &mut Counts) -> u32
-    ensures state { gwb.new.held.value ≡ gwb.old.held.value }
-    ensures value { Recalls counts_in gwb.old.held.value counts.old counts.new result }
+    ensures state { gwb.new.kept.value ≡ gwb.old.kept.value }
+    ensures value { Recalls counts_in gwb.old.kept.value counts.old counts.new result }
 {
     let Some(slot) = take(alloc, gwb) else {
         return CLOSED;
@@ -56,8 +56,8 @@ pub extern "C" fn gwb_last_counts(alloc: Global, gwb: &mut Gwb, counts: &mut Cou
 /// Six times the volume that the last answer told.
 #[unsafe(no_mangle)]
 pub extern "C" fn gwb_last_volume(alloc: Global, gwb: &mut Gwb, volume: &mut Wide) -> u32
-    ensures state { gwb.new.held.value ≡ gwb.old.held.value }
-    ensures value { RecallsBy whole volume_in gwb.old.held.value volume.old volume.new result }
+    ensures state { gwb.new.kept.value ≡ gwb.old.kept.value }
+    ensures value { RecallsBy joined volume_in gwb.old.kept.value volume.old volume.new result }
 {
     let Some(slot) = take(alloc, gwb) else {
         return CLOSED;
@@ -70,8 +70,8 @@ pub extern "C" fn gwb_last_volume(alloc: Global, gwb: &mut Gwb, volume: &mut Wid
 /// The plane that the last answer told, and whether its face is flat.
 #[unsafe(no_mangle)]
 pub extern "C" fn gwb_last_plane(alloc: Global, gwb: &mut Gwb, plane: &mut PlaneRow) -> u32
-    ensures state { gwb.new.held.value ≡ gwb.old.held.value }
-    ensures value { RecallsBy whole_plane plane_in gwb.old.held.value plane.old plane.new result }
+    ensures state { gwb.new.kept.value ≡ gwb.old.kept.value }
+    ensures value { RecallsBy joined_plane plane_in gwb.old.kept.value plane.old plane.new result }
 {
     let Some(slot) = take(alloc, gwb) else {
         return CLOSED;

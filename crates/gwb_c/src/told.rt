@@ -1,6 +1,6 @@
 //! What C is told: of an answer its kind, and of a value whether it is there.
 ghost use Rattle.std.specs.Prelude.{◌≡◌};
-ghost use Rattle.session_slots.specs.Answered.{whole, whole_plane};
+ghost use Rattle.session_slots.specs.Answered.{joined, joined_plane};
 ghost use Rattle.gwb_c.specs.Handle.{status_of, Gives, GivesBy};
 
 use euler_operators::Plane;
@@ -45,7 +45,7 @@ pub(crate) fn give<T: Copy>(value: Option<T>, out: &mut T) -> u32
 
 /// Writes a number that is there in two halves, and says whether it is.
 pub(crate) fn give_wide(value: Option<i128>, out: &mut Wide) -> u32
-    ensures { GivesBy whole value out.old out.new result }
+    ensures { GivesBy joined value out.old out.new result }
 {
     match value {
         Some(n) => {
@@ -58,7 +58,7 @@ pub(crate) fn give_wide(value: Option<i128>, out: &mut Wide) -> u32
 
 /// Writes a plane that is there with its coefficients in halves, and says whether it is.
 pub(crate) fn give_plane(value: Option<(Plane, u32)>, out: &mut PlaneRow) -> u32
-    ensures { GivesBy whole_plane value out.old out.new result }
+    ensures { GivesBy joined_plane value out.old out.new result }
 {
     match value {
         Some((plane, flat)) => {

@@ -67,7 +67,7 @@ heard_text G unread heard e =
     (sym (ended_text G) ∙ ap with_newlines e ∙ with_newlines-append heard (lines_of (unread ++ 10 ∷ []))
     ∙ ap (λ (xs : List ℕ). with_newlines heard ++ xs) (ended_text unread) ∙ sym (append_assoc (with_newlines heard) unread (10 ∷ [])))
 
--- ---- over the calls of `next_line`
+-- ---- over the calls of `advance`
 
 -- where the end was reached before, nothing is read
 still_ended : {R : Type 0} (old new : Lines R) (given : List ℕ) → new.taken ≡ old.taken + length given → (has_line old ≡ true → IsStill old new) → old.ending ≡ Ended → (new.ending ≡ Ended) × (given ≡ [])

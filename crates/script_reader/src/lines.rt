@@ -21,18 +21,8 @@ pub enum Ending {
 /// What comes next in a script.
 #[derive(Clone, Copy, Debug, PartialEq, Eq)]
 pub enum Found {
+    /// A line of at most 65,536 bytes.
     Line,
-    Long,
-    End,
-    Read,
-    TooLong,
-}
-
-/// What comes next in a script.
-#[derive(Debug, Drop)]
-pub enum NextLine<'a> {
-    /// A line, without its newline: at most 65,536 bytes.
-    Line(&'a [u8]),
     /// A line of more bytes. It is skipped to its newline.
     Long,
     /// The reader gave its end.
@@ -57,16 +47,14 @@ pub struct Lines<R> {
 impl<R: Read> Lines<R> {
     ghost use Rattle.std.specs.Prelude.{◌≡◌, ◌≢◌, ◌≤◌, ◌<◌, true, length};
     ghost use Rattle.std.specs.Io.KnownBytes.{IsAtEnd};
-    ghost use Rattle.script_reader.specs.Lines.{Reads, LastAnswer, Advances};
+    ghost use Rattle.script_reader.specs.Lines.{Reads, LastAnswer};
+    ghost use Rattle.script_reader.specs.Next.{Went};
     ghost use Rattle.script_reader.specs.declared.lines.Ending.TheVariants.{Open, Ended};
     ghost use Rattle.script_reader.specs.Newline.{has_newline};
-    ghost use Rattle.script_reader.specs.State.{has_line, unread_of, IsStill};
-    ghost use Rattle.script_reader.specs.Next.{Gives};
-    ghost use Rattle.script_reader.specs.contracts.lines.Lines.{the_row};
-    ghost use Rattle.std.specs.Io.BufRead.{Rests};
-    ghost use Rattle.std.specs.Borrow.{sem};
+    ghost use Rattle.script_reader.specs.State.{has_line, line_of, unread_of, IsStill};
 
-    /// Reads some bytes.
+    /// Reads some bytes. Its rooms are its own, so that no line that is there pays for them.
+    #[inline(never)]
     #[tactic(auto, unfolding(crate::specs::Lines::within_limit))]
     fn fill(&mut self)
         requires open { self.old.ending ≡ Open }
@@ -114,13 +102,10 @@ impl<R: Read> Lines<R> {
         }
     }
 
-    /// Goes to the next line, or says what comes in its place.
-    fn advance(&mut self) -> Found
-        ensures advances { Advances (R.remaining self.old.reader) (R.remaining self.new.reader)
-            self.old.taken self.new.taken self.old.buffer.unread
-            self.new.buffer.line self.new.buffer.unread self.new.ending result }
-        ensures end { self.old.ending ≡ Open → self.new.ending ≡ Ended → IsAtEnd (R.remaining self.new.reader) }
-        ensures still { has_line self.old ≡ true → IsStill self.old self.new }
+    /// Goes to the next line, or says what comes in its place. After the end, a failed read or a script that is too long it answers the same
+    /// again and reads nothing. It takes no memory.
+    pub fn advance(&mut self) -> Found
+        ensures { Went R.remaining self.old self.new result }
     {
         let mut is_long = false;
         loop {
@@ -142,18 +127,11 @@ impl<R: Read> Lines<R> {
         }
     }
 
-    /// The next line, or what comes in its place. After the end, a failed read or a script that is too long it
-    /// answers the same again and reads nothing. It takes no memory.
-    pub fn next_line(&mut self) -> NextLine<'_>
-        ensures* { sem 𝓛 (Rests (the_row R.row) self.entry (λ new. Gives R.remaining self.old new result)) }
+    /// The line that was found last, without its newline.
+    pub fn line(&self) -> &[u8]
+        ensures { result.now ≡ line_of self.now }
     {
-        match self.advance() {
-            Found::Line => NextLine::Line(self.buffer.line()),
-            Found::Long => NextLine::Long,
-            Found::End => NextLine::End,
-            Found::Read => NextLine::Read,
-            Found::TooLong => NextLine::TooLong,
-        }
+        self.buffer.line()
     }
 
     /// Whether the next line is there to its newline.

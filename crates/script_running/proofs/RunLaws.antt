@@ -4,7 +4,7 @@ use Rattle.std.proofs.lemmas.List.{append-nil}
 use Rattle.std.proofs.lemmas.Bool.{false≢true}
 use Rattle.std.proofs.lemmas.Bool.Decides.{nat_tests}
 use Rattle.std.proofs.KnownBytes.{Appends-nil, Appends-kept}
-use Rattle.std.specs.Prelude.{nat_lt, IfOk, IfErr, Result, if◌then◌else◌}
+use Rattle.std.specs.Prelude.{◌⊎◌, nat_lt, IfOk, IfErr, Result, if◌then◌else◌}
 use Rattle.std.specs.Io.KnownBytes.{Appends, Keeps, Consumes, IsAtEnd}
 use Rattle.script_reader.specs.Lines.{lines_of, within_limit}
 use Rattle.script_reader.specs.State.{reader_of, taken_of, unread_of, line_of, IsFresh}
@@ -21,17 +21,17 @@ use Rattle.script_reader.specs.declared.lines.Found.TheVariants as found
 use Rattle.script_reader.proofs.ScriptLaws.{has_begun, has_line_more, has_long_more, is_read_out, breaks_at_fault, breaks_at_limit, falls_by_line, falls_by_long}
 use Rattle.solid_listing.specs.Writing.{Stops, Puts, Outgoing, outgoing, Gathers}
 use Rattle.solid_listing.proofs.TellingLaws.{Breaks, Gathers-nil, Gathers-trans, Breaks-after, all_out, went_out}
+use Rattle.solid_listing.specs.declared.reply.Reply.TheVariants as reply
 use Rattle.undo_journal.specs.Machine.{Machine, start}
 use Rattle.script_running.specs.script_judging.Judging.{Obeys, Judges, Answers, answer_text, no_lines, one_line, counted}
 use Rattle.script_running.specs.script_judging.Settling.{spelled}
 use Rattle.script_running.specs.Outs.{stops, was_stopped, Outs}
 use Rattle.script_running.specs.Output.{output_of, output_from, summary_of, summary_from}
 use Rattle.script_running.specs.Runs.{Moves, Served, BreaksOff, WriteFails, IsTooLong, Runs}
-use Rattle.script_running.specs.Hearing.{Hears}
 use Rattle.script_running.specs.declared.script_judging.judging.Answer.{Answer}
+use Rattle.script_running.specs.declared.script_judging.judging.Answer.TheVariants.{Reply as Told}
 use Rattle.script_running.specs.declared.script_judging.judging.Summary.{Summary}
 use Rattle.script_running.specs.declared.script_judging.larger.Larger.{Larger}
-use Rattle.script_running.specs.declared.running.Heard.TheVariants as heard
 use Rattle.script_running.specs.declared.running.RunFault.{RunFault}
 use Rattle.script_running.specs.declared.running.RunFault.TheVariants as faults
 use Rattle.script_running.proofs.Counting.{counted_assoc, counted_none, none_counted, stop_counted, calm_counted, none_calm}
@@ -88,23 +88,31 @@ long_told : (line : List ℕ) → 65536 < length line → command_of line ≡ Er
 long_told line h = let e : nat_lt 65536 (length line) ≡ true = grind (arith, nat_tests) in
     ap (λ (b : Bool). if b then Err LongLine else (if is_ascii line then command_of_words (words line) else Err NotAscii)) e
 
--- a line that was heard is answered, wherever a larger command was put
-pub answered_line : {R : Type 0} (remaining : R → Option (List ℕ)) (lines next : Lines R) (s t u : Machine) (later : Option Larger) (a b : Answer)
-    → Hears remaining lines next s t later a heard.Line → b ≡ a → u ≡ t → Hears remaining lines next s u None b heard.Line
-answered_line remaining lines next s t u later a b h ea et = rw (ea, et) h
+-- the next line was read and judged, or skipped as too long and told so
+abbrev pub Hears : {R : Type 0} → (R → Option (List ℕ)) → Lines R → Lines R → Machine → Answer → Machine → Type 0
+Hears remaining old new s a t = (Went remaining old new found.Line × Judges s (line_of new) a t) ⊎ (Went remaining old new found.Long × (a ≡ Told (reply.Fault 6)) × (t ≡ s))
 
--- a larger command that was heard is answered as it is carried out
-pub carried : {R : Type 0} (remaining : R → Option (List ℕ)) (lines next : Lines R) (s m t u : Machine) (later : Option Larger) (l : Larger) (x a b : Answer)
-    → Hears remaining lines next s m later x heard.Larger → later ≡ Some l → Obeys m (spelled l) a t → b ≡ a → u ≡ t → Hears remaining lines next s u None b heard.Line
-carried remaining lines next s m t u later l x a b h is obeys ea et =
-    let same : h.1.0 ≡ l = cc (h.1.1, is) in
-    answered_line remaining lines next s t u None a b (inl (
-      h.0,
-      subst (λ (r : Result Command Fault). Answers s r a t) (sym h.1.2) (subst (λ (j : Larger). Obeys s (spelled j) a t) (sym same) (subst (λ (q : Machine). Obeys q (spelled l) a t) h.1.3 obeys)),
-    )) ea et
+module _ {R : Type 0} (remaining : R → Option (List ℕ)) (lines next : Lines R) (s : Machine) where
+  heard_as : (t u : Machine) (a b : Answer) → Hears remaining lines next s a t → b ≡ a → u ≡ t → Hears remaining lines next s b u
+  heard_as t u a b h ea et = rw (ea, et) h
+
+  -- a line that is answered at once
+  pub heard_line : (line : List ℕ) (t u : Machine) (a b : Answer) → Went remaining lines next found.Line → line ≡ line_of next → Judges s line a t → b ≡ a → u ≡ t → Hears remaining lines next s b u
+  heard_line line t u a b went is judged = heard_as t u a b (inl (went, subst (λ (l : List ℕ). Judges s l a t) is judged))
+
+  -- a line whose larger command is carried out
+  pub heard_larger : (line : List ℕ) (m t u : Machine) (l : Larger) (a b : Answer) → Went remaining lines next found.Line → line ≡ line_of next → (command_of line ≡ Ok (spelled l)) × (m ≡ s) → Obeys m (spelled l) a t → b ≡ a → u ≡ t
+      → Hears remaining lines next s b u
+  heard_larger line m t u l a b went is decided obeys =
+      let judged : Judges s line a t = subst (λ (r : Result Command Fault). Answers s r a t) (sym decided.0) (subst (λ (q : Machine). Obeys q (spelled l) a t) decided.1 obeys) in
+      heard_line line t u a b went is judged
+
+  -- a line that is too long
+  pub heard_long : (n : ℕ) (b : Answer) (u : Machine) → Went remaining lines next found.Long → n ≡ 6 → b ≡ Told (reply.Fault n) → u ≡ s → Hears remaining lines next s b u
+  heard_long n b u went six told same = inr (went, told ∙ ap (λ (k : ℕ). Told (reply.Fault k)) six, same)
 
 pub turn_of : {R : Type 0} (remaining : R → Option (List ℕ)) (first : Option (List ℕ)) (lines next : Lines R) (old : Option (List ℕ)) (new : Outgoing) (stop : Bool) (s : Machine) (n : Summary) (a : Answer) (t : Machine)
-    → Progress remaining first lines old new stop s n → Hears remaining lines next s t None a heard.Line → Turn remaining first next old new stop s n a t
+    → Progress remaining first lines old new stop s n → Hears remaining lines next s a t → Turn remaining first next old new stop s n a t
 turn_of remaining first lines next old new stop s n a t p h = elim h [
   | inl short ↦ record { heard = p.heard; line = line_of next; read = (has_line_more remaining first lines next p.heard p.read short.0).0; out = p.out; gathered = p.gathered; runs = p.runs; unstopped = p.unstopped; judges = short.1 }
   | inr long ↦
@@ -290,6 +298,6 @@ pub nothing_begins : (first last old : Option (List ℕ)) → Consumes first las
 nothing_begins first last old none = (record { given = []; left = last; out = []; consumed = none; appended = Appends-nil old }, refl, refl)
 
 -- a line takes its bytes from what is to come
-pub falls : {R : Type 0} (remaining : R → Option (List ℕ)) (lines next : Lines R) (s : Machine) (a : Answer) (t : Machine) → Hears remaining lines next s t None a heard.Line
+pub falls : {R : Type 0} (remaining : R → Option (List ℕ)) (lines next : Lines R) (s : Machine) (a : Answer) (t : Machine) → Hears remaining lines next s a t
     → to_come (taken_of next) (unread_of next) < to_come (taken_of lines) (unread_of lines)
 falls remaining lines next s a t h = elim h [ inl short ↦ falls_by_line remaining lines next short.0 | inr long ↦ falls_by_long remaining lines next long.0 ]

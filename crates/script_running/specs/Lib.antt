@@ -2,7 +2,6 @@ pub mod script_judging
 pub mod Outs
 pub mod Output
 pub mod Runs
-pub mod Hearing
 pub mod Laws
 pub mod Histories
 pub mod laws_below

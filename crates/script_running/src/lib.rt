@@ -6,7 +6,7 @@
 //!
 //! # What is proved
 //!
-//! `judge` answers a line as the plain machine may, with the session moved likewise, or puts aside the lamina, block, sweep, glue
+//! `judge` answers a line as the plain machine may, with the session moved likewise, or gives back the lamina, block, sweep, glue
 //! or split that the line spells, and nothing has changed; `carry_out` answers such a command as the machine may, with the
 //! session moved likewise. Where either answers something other than `ok`, the session is as it was, its records too. `complains`
 //! is true exactly of the answers that begin with `refused`, `fault` or `memory`; `Summary` counts lines and answers (`count`),
@@ -28,4 +28,7 @@ mod tests;
 
 pub use laws::{lines_are_calls, one_output, runs_tell_histories};
 pub use running::{RunFault, run};
-pub use script_judging::{Answer, Larger, Summary, carry_out, judge};
+pub use script_judging::{
+    Answer, Larger, Summary, answer_count, answer_plane, answer_volume, carry_out, judge,
+    tell_outcome,
+};

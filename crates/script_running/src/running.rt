@@ -8,10 +8,9 @@ ghost use Rattle.undo_journal.specs.Machine.{Machine, start};
 ghost use Rattle.script_running.specs.script_judging.Judging.{answer_text};
 ghost use Rattle.script_running.specs.Outs.{stops};
 ghost use Rattle.script_running.specs.Runs.{Runs};
-ghost use Rattle.script_running.specs.Hearing.{Hears};
 
-use crate::script_judging::{Answer, Larger, Summary, carry_out, complains, settle};
-use script_reader::{Fault, Lines, NextLine};
+use crate::script_judging::{Answer, Summary, carry_out, complains, judge};
+use script_reader::{Fault, Found, Lines};
 use solid_listing::{Reply, Text, release, tell_listing, tell_reply};
 use std::alloc::Global;
 use std::io::{Read, Write};
@@ -33,44 +32,6 @@ pub enum RunFault {
     /// The memory that a run begins with was refused.
     #[error("out of memory")]
     Memory,
-}
-
-/// What a step of a run heard.
-enum Heard {
-    /// A line was answered.
-    Line,
-    /// A command that takes the session was put aside.
-    Larger,
-    End,
-    Read,
-    TooLong,
-}
-
-/// The next line judged.
-fn hear<R: Read>(
-    lines: &mut Lines<R>,
-    session: &mut Session,
-    later: &mut Option<Larger>,
-    answer: &mut Answer,
-) -> Heard
-    ensures { Hears R.remaining lines.old lines.new session.old.machine session.new.machine later.new answer.new result }
-{
-    match lines.next_line() {
-        NextLine::Line(line) => {
-            if settle(session, line, later, answer) {
-                Heard::Line
-            } else {
-                Heard::Larger
-            }
-        }
-        NextLine::Long => {
-            *answer = Answer::Reply(Reply::Fault(Fault::LongLine.code()));
-            Heard::Line
-        }
-        NextLine::End => Heard::End,
-        NextLine::Read => Heard::Read,
-        NextLine::TooLong => Heard::TooLong,
-    }
 }
 
 /// Puts an answer behind the text.
@@ -170,24 +131,24 @@ fn run_lines<R: Read, W: Write>(
     ensures { Runs (R.remaining (reader_of lines.old)) (W.contents writer.old) (W.contents writer.new) stop result }
 {
     let mut text = Text::new();
-    let mut later = None;
     let mut answer = Answer::Silent;
     let mut summary = Summary::default();
     'script: loop {
         if let Err(fault) = flush(lines, &mut text, writer) {
             break Err(fault);
         }
-        match hear(lines, &mut session, &mut later, &mut answer) {
-            Heard::Line => {}
-            Heard::Larger => {
-                let larger = later.take().unwrap();
-                let (next, told) = carry_out(alloc, session, larger);
-                session = next;
-                answer = told;
+        match lines.advance() {
+            Found::Line => {
+                if let Some(larger) = judge(&mut session, lines.line(), &mut answer) {
+                    let (next, told) = carry_out(alloc, session, larger);
+                    session = next;
+                    answer = told;
+                }
             }
-            Heard::End => break Ok(summary),
-            Heard::Read => break Err(RunFault::Read),
-            Heard::TooLong => break Err(RunFault::TooLong),
+            Found::Long => answer = Answer::Reply(Reply::Fault(Fault::LongLine.code())),
+            Found::End => break Ok(summary),
+            Found::Read => break Err(RunFault::Read),
+            Found::TooLong => break Err(RunFault::TooLong),
         }
         summary.count(&answer);
         if let Err(fault) = say(&mut text, writer, &session, &answer) {

@@ -3,6 +3,8 @@
 mod judging;
 mod larger;
 
-pub(crate) use judging::{complains, settle};
-pub use judging::{Answer, Summary, judge};
+pub(crate) use judging::complains;
+pub use judging::{
+    Answer, Summary, answer_count, answer_plane, answer_volume, judge, tell_outcome,
+};
 pub use larger::{Larger, carry_out};

@@ -11,9 +11,11 @@ use Rattle.undo_journal.specs.declared.session.Failure.TheVariants as failure
 use Rattle.script_reader.specs.declared.command.Command.TheVariants as command
 use Rattle.solid_listing.specs.declared.reply.Reply.TheVariants as reply
 use Rattle.script_running.specs.script_judging.Judging.{Moves, Acts, done, outcome}
+use Rattle.script_running.specs.script_judging.Settling.{StaysTillDone}
+use Rattle.script_running.specs.declared.script_judging.larger.Larger.{Larger}
 use Rattle.script_running.specs.declared.script_judging.judging.Answer.{Answer}
 use Rattle.script_running.specs.declared.script_judging.judging.Answer.TheVariants.{Reply as Told}
-use Rattle.session_slots.specs.Stages.{shown, is_done, was_done, Steps, Acts_on, Obeys_on}
+use Rattle.session_slots.specs.Stages.{shown, is_done, Steps, Acts_on, Obeys_on}
 use Rattle.session_slots.specs.declared.stage.Stage.{Stage}
 use Rattle.session_slots.specs.declared.stage.Stage.TheVariants.{Session, Drafting}
 
@@ -55,6 +57,7 @@ pub shows_redone : (g : Stage) (a : Answer) (h : Stage) → Obeys_on g command.R
 shows_redone (Session s) a h x other = ap shown x.1 ∙ ap held (moves (redo_refusal s.machine) s.machine (redo s.machine) a x.0.machine x.2 other)
 shows_redone (Drafting d) a h x other = ap shown x
 
--- a session that stays as it was unless it answers `ok` shows what it showed
-pub shows_judged : (s t : Journal) (o : Option Answer) → ((o ≡ Some done → ⊥) → t ≡ s) → was_done o ≡ false → held t.machine ≡ held s.machine
-shows_judged s t o kept other = ap (λ (j : Journal). held j.machine) (kept (λ is. true≢false (sym (ap was_done is) ∙ other)))
+-- a session that stays as it was till it answers `ok` shows what it showed
+pub shows_judged : (s t : Journal) (l : Option Larger) (a : Answer) → StaysTillDone l a s t → is_done a ≡ false → held t.machine ≡ held s.machine
+shows_judged s t None a stays other = ap (λ (j : Journal). held j.machine) (stays (not_done a other))
+shows_judged s t (Some l) a stays other = ap (λ (j : Journal). held j.machine) stays

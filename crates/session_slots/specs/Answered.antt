@@ -35,9 +35,9 @@ plane_in (Told (reply.Plane p flat)) = Some (p, cond flat 1 0)
 plane_in _ = None
 
 -- the number of two halves, whose upper one has the sign
-abbrev pub whole : Wide → ℤ
-whole w = w.high *ℤ pos 18446744073709551616 +ℤ pos w.low
+abbrev pub joined : Wide → ℤ
+joined w = w.high *ℤ pos 18446744073709551616 +ℤ pos w.low
 
 -- a plane whose coefficients are in halves
-abbrev pub whole_plane : PlaneRow → Plane × ℕ
-whole_plane r = (record { a = whole r.a; b = whole r.b; c = whole r.c; d = whole r.d }, r.flat)
+abbrev pub joined_plane : PlaneRow → Plane × ℕ
+joined_plane r = (record { a = joined r.a; b = joined r.b; c = joined r.c; d = joined r.d }, r.flat)

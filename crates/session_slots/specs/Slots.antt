@@ -1,5 +1,5 @@
 -- What a call does to a slot: a session, or a draft of its next command, with the answer to the last command.
-use Rattle.std.specs.Prelude.{◌≡◌, ℕ, List, Option, Some, Result}
+use Rattle.std.specs.Prelude.{◌≡◌, ℕ, List, Option, Some, None, Result}
 use Rattle.euler_operators.specs.declared.Op.{Op}
 use Rattle.euler_operators.specs.declared.Refusal.{Refusal}
 use Rattle.euler_operators.specs.Model.{Model}
@@ -7,7 +7,7 @@ use Rattle.undo_journal.specs.Journal.{Journal, DraftJournal}
 use Rattle.script_reader.specs.declared.command.Command.{Command}
 use Rattle.solid_listing.specs.declared.reply.Reply.{Reply}
 use Rattle.script_running.specs.script_judging.Judging.{Judges, Obeys, done, told}
-use Rattle.script_running.specs.script_judging.Settling.{spelled, Decides}
+use Rattle.script_running.specs.script_judging.Settling.{Decides}
 use Rattle.script_running.specs.declared.script_judging.larger.Larger.{Larger}
 use Rattle.script_running.specs.declared.script_judging.judging.Answer.{Answer}
 use Rattle.script_running.specs.declared.script_judging.judging.Answer.TheVariants.{Silent}
@@ -24,10 +24,10 @@ use Rattle.session_slots.specs.declared.slot.Slot.{Slot}
 abbrev pub Counts_in : Slot → Counters → Type 0
 Counts_in x n = (g : Stage) → x.stage ≡ Some g → taken_of n ≡ taken_in (shown g)
 
--- a session answers the line, or the larger command that it spells was put aside; a draft hears none
-abbrev pub Decides_on : Stage → List ℕ → Option Answer → Stage → Option Larger → Type 0
-Decides_on (Session s) line a g later = (t : Journal) × (g ≡ Session t) × Decides s.machine line a t.machine later
-Decides_on (Drafting d) line a g later = (a ≡ Some Silent) × (g ≡ Drafting d)
+-- a session answers the line, or gives back the larger command that it spells; a draft hears none
+abbrev pub Decides_on : Stage → List ℕ → Option Larger → Answer → Stage → Type 0
+Decides_on (Session s) line l a g = (t : Journal) × (g ≡ Session t) × Decides s.machine line l a t.machine
+Decides_on (Drafting d) line l a g = (l ≡ None) × (a ≡ Silent) × (g ≡ Drafting d)
 
 -- a session goes on as the line is answered, and the answer is kept
 abbrev pub Slot_hears : Slot → List ℕ → Slot → Type 0
@@ -40,10 +40,6 @@ Slot_notes old line new = Slot_hears old line new × Counts_in old new.before
 -- a session goes on as the command is obeyed, and the answer is kept
 abbrev pub Slot_obeys : Slot → Command → Slot → Type 0
 Slot_obeys old c new = (s : Journal) → old.stage ≡ Some (Session s) → (t : Journal) × (new.stage ≡ Some (Session t)) × Obeys s.machine c new.answer t.machine
-
--- the larger command that was put aside is obeyed
-abbrev pub Slot_finishes : Slot → Slot → Type 0
-Slot_finishes old new = (l : Larger) → old.later ≡ Some l → Slot_obeys old (spelled l) new
 
 -- a command of the session is obeyed, and the greatest numbers in use before it are kept
 abbrev pub Slot_does : Slot → Command → Slot → Type 0

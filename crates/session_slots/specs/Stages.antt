@@ -57,11 +57,6 @@ abbrev pub is_done : Answer → Bool
 is_done (Told reply.Done) = true
 is_done _ = false
 
--- the same of a line that may have spelled a command which is yet to be carried out
-abbrev pub was_done : Option Answer → Bool
-was_done None = false
-was_done (Some a) = is_done a
-
 -- a draft of a session's next command is opened, or memory was refused and the session is as it was
 abbrev pub Opens : Journal → Answer → Stage → Type 0
 Opens s a g = ((a ≡ done) × (g ≡ Drafting (record { draft = new_draft s }))) ⊎ ((a ≡ Told reply.Memory) × (g ≡ Session s))

@@ -1,6 +1,6 @@
 //! The last answer, as values.
 ghost use Rattle.std.specs.Prelude.{◌≡◌, ◌+◌, ◌*◌, ◌<◌, ◌≤ℤ◌, pos, unsigned_abs};
-ghost use Rattle.session_slots.specs.Answered.{refusal_in, fault_in, counts_in, volume_in, plane_in, whole, whole_plane};
+ghost use Rattle.session_slots.specs.Answered.{refusal_in, fault_in, counts_in, volume_in, plane_in, joined, joined_plane};
 
 use euler_operators::Plane;
 use script_running::Answer;
@@ -45,24 +45,24 @@ pub struct PlaneRow {
 }
 
 /// A number that is not negative, in two halves.
-fn split_in_words(n: u128) -> (i64, u64)
-    requires { n < 170141183460469231731687303715884105728 }
-    ensures value { n ≡ unsigned_abs result.0 * 18446744073709551616 + result.1 }
+fn split_in_words(number: u128) -> (i64, u64)
+    requires { number < 170141183460469231731687303715884105728 }
+    ensures value { number ≡ unsigned_abs result.0 * 18446744073709551616 + result.1 }
     ensures sign { pos 0 ≤ℤ result.0 }
 {
     let word = 1 << 64;
-    ((n / word) as i64, (n % word) as u64)
+    ((number / word) as i64, (number % word) as u64)
 }
 
 /// A number in two halves.
-pub fn halves(n: i128) -> Wide
-    ensures { whole result ≡ n }
+pub fn halves(number: i128) -> Wide
+    ensures { joined result ≡ number }
 {
-    if n >= 0 {
-        let (high, low) = split_in_words(n as u128);
+    if number >= 0 {
+        let (high, low) = split_in_words(number as u128);
         Wide { high, low }
     } else {
-        let (high, low) = split_in_words(-(n + 1) as u128);
+        let (high, low) = split_in_words(-(number + 1) as u128);
         Wide {
             high: -1 - high,
             low: u64::MAX - low,
@@ -131,7 +131,7 @@ pub fn plane_of(answer: &Answer) -> Option<(Plane, u32)>
 
 /// A plane whose coefficients are in halves.
 pub fn plane_row(plane: Plane, flat: u32) -> PlaneRow
-    ensures { whole_plane result ≡ (plane, flat) }
+    ensures { joined_plane result ≡ (plane, flat) }
 {
     PlaneRow {
         a: halves(plane.a),

@@ -1,7 +1,7 @@
 //! Commands given as values: what each does to a slot.
 ghost use Rattle.std.specs.Prelude.{◌≡◌};
 ghost use Rattle.script_reader.specs.declared.command.Command.TheVariants as command;
-ghost use Rattle.script_running.specs.script_judging.Judging.{Obeys, outcome, refused};
+ghost use Rattle.script_running.specs.script_judging.Judging.{Obeys, outcome};
 ghost use Rattle.script_running.specs.script_judging.Settling.{spelled};
 ghost use Rattle.euler_operators.specs.Conditions.{first_false};
 ghost use Rattle.session_slots.specs.Stages.{Steps, Acts_on, Obeys_on};
@@ -11,29 +11,10 @@ use crate::counted_stage::CountedStage;
 use crate::slot::{Slot, carry_in, counted_in, taken};
 use crate::stage::Stage;
 use arrayvec::ArrayVec;
-use euler_operators::{Op, Point, Refusal};
-use script_running::{Answer, Larger};
-use solid_listing::Reply;
+use euler_operators::{Op, Point};
+use script_running::{Larger, tell_outcome};
 use std::alloc::Global;
 use undo_journal::{Draft, Failure, Session};
-
-pub(crate) fn told_refusal(refusal: Refusal) -> Answer
-    ensures { result ≡ refused refusal }
-{
-    Answer::Reply(Reply::Refused(refusal.why.code(), refusal.number))
-}
-
-/// Writes the answer to a command that ended so.
-#[inline(always)]
-pub(crate) fn tell(ended: Result<(), Failure>, answer: &mut Answer)
-    ensures { answer.new ≡ outcome ended }
-{
-    match ended {
-        Ok(()) => *answer = Answer::Reply(Reply::Done),
-        Err(Failure::Refused(refusal)) => *answer = told_refusal(refusal),
-        Err(Failure::Memory(_)) => *answer = Answer::Reply(Reply::Memory),
-    }
-}
 
 #[tactic(auto, using(crate::proofs::Acting::acts_on))]
 fn act_in_session(session: &mut Session, op: Op) -> Result<(), Failure>
@@ -115,7 +96,7 @@ fn act_in(slot: &mut Slot, op: Op)
 {
     if let Some(stage) = &mut slot.stage {
         let ended = stage.act(op);
-        tell(ended, &mut slot.answer);
+        tell_outcome(ended, &mut slot.answer);
     }
 }
 
@@ -124,7 +105,7 @@ fn undo_in(slot: &mut Slot)
 {
     if let Some(stage) = &mut slot.stage {
         let ended = stage.undo();
-        tell(ended, &mut slot.answer);
+        tell_outcome(ended, &mut slot.answer);
     }
 }
 
@@ -133,7 +114,7 @@ fn redo_in(slot: &mut Slot)
 {
     if let Some(stage) = &mut slot.stage {
         let ended = stage.redo();
-        tell(ended, &mut slot.answer);
+        tell_outcome(ended, &mut slot.answer);
     }
 }
 
@@ -145,7 +126,7 @@ fn lamina_in(alloc: Global, slot: &mut Slot, solid: u32, points: &ArrayVec<Point
     };
     let (session, ended) = lamina_on(alloc, session, solid, points);
     slot.stage = Some(CountedStage::of(Stage::Session(session)));
-    tell(ended, &mut slot.answer);
+    tell_outcome(ended, &mut slot.answer);
 }
 
 /// One operator: in a session a command, in a draft a step.
@@ -177,8 +158,8 @@ pub fn redo(slot: &mut Slot)
 }
 
 /// Carries a larger command out.
-pub fn carry(alloc: Global, slot: &mut Slot, larger: Larger)
-    ensures { Slot_does slot.old (spelled larger) slot.new }
+pub fn carry(alloc: Global, slot: &mut Slot, larger: Larger<'_>)
+    ensures { Slot_does slot.old (spelled larger.entry) slot.new }
 {
     let before = counted_in(slot);
     carry_in(alloc, slot, larger);

@@ -5,7 +5,7 @@ ghost use Rattle.shapes.specs.Fresh.{taken_in};
 ghost use Rattle.solid_walks.specs.Counters.{taken_of};
 ghost use Rattle.script_running.specs.script_judging.Judging.{outcome};
 ghost use Rattle.script_reader.specs.declared.command.Command.TheVariants as command;
-ghost use Rattle.session_slots.specs.Stages.{shown, is_done, was_done, Acts_on, Obeys_on};
+ghost use Rattle.session_slots.specs.Stages.{shown, is_done, Acts_on, Obeys_on};
 ghost use Rattle.session_slots.specs.Slots.{Decides_on};
 
 use crate::commands::{act_on, redo_on, undo_on};
@@ -50,16 +50,6 @@ fn is_done(answer: &Answer) -> bool
     matches!(answer, Answer::Reply(Reply::Done))
 }
 
-/// The same of a line, whose command may be yet to be carried out.
-fn was_done(answer: &Option<Answer>) -> bool
-    ensures { result ≡ was_done answer.now }
-{
-    match answer {
-        Some(answer) => is_done(answer),
-        None => false,
-    }
-}
-
 /// The greatest numbers after a command, from those before it.
 #[inline(always)]
 fn greatest_after(done: bool, stage: &Stage, greatest: Counters) -> Counters
@@ -73,14 +63,17 @@ fn greatest_after(done: bool, stage: &Stage, greatest: Counters) -> Counters
     }
 }
 
-/// The answer to a line, or none where it spells a larger command, which is put aside. A draft hears no line.
-fn judge_on(stage: &mut Stage, line: &[u8], later: &mut Option<Larger>) -> Option<Answer>
-    ensures answered { Decides_on stage.old line.now result stage.new later.new }
-    ensures kept { was_done result ≡ false → shown stage.new ≡ shown stage.old }
+/// Answers a line, or gives back the larger command that it spells. A draft hears no line.
+fn judge_on<'a>(stage: &mut Stage, line: &'a [u8], answer: &mut Answer) -> Option<Larger<'a>>
+    ensures answered { Decides_on stage.old line.now result answer.new stage.new }
+    ensures kept { is_done answer.new ≡ false → shown stage.new ≡ shown stage.old }
 {
     match stage {
-        Stage::Session(session) => judge(session, line, later),
-        Stage::Drafting(_) => Some(Answer::Silent),
+        Stage::Session(session) => judge(session, line, answer),
+        Stage::Drafting(_) => {
+            *answer = Answer::Silent;
+            None
+        }
     }
 }
 
@@ -149,12 +142,12 @@ impl CountedStage {
         ended
     }
 
-    /// The answer to a line, or none where it spells a larger command, which is put aside. A draft hears no line.
-    pub(crate) fn judge(&mut self, line: &[u8], later: &mut Option<Larger>) -> Option<Answer>
-        ensures { Decides_on self.old line.now result self.new later.new }
+    /// Answers a line, or gives back the larger command that it spells. A draft hears no line.
+    pub(crate) fn judge<'a>(&mut self, line: &'a [u8], answer: &mut Answer) -> Option<Larger<'a>>
+        ensures { Decides_on self.old line.now result answer.new self.new }
     {
-        let answer = judge_on(&mut self.stage, line, later);
-        self.greatest = greatest_after(was_done(&answer), &self.stage, self.greatest);
-        answer
+        let larger = judge_on(&mut self.stage, line, answer);
+        self.greatest = greatest_after(is_done(answer), &self.stage, self.greatest);
+        larger
     }
 }

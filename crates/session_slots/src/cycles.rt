@@ -12,11 +12,11 @@ use euler_conditions::Arena;
 use euler_operators::{Content, HalfEdge, Kind};
 
 /// Writes a number at its place, where there is room for it.
-fn put_at(buf: &mut [u32], at: usize, n: u32)
-    ensures { buf.new ≡ slice_set buf.old at n }
+fn put_at(buf: &mut [u32], at: usize, number: u32)
+    ensures { buf.new ≡ slice_set buf.old at number }
 {
     if at < buf.len() {
-        buf[at] = n;
+        buf[at] = number;
     }
 }
 

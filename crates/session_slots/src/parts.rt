@@ -6,11 +6,11 @@ ghost use Rattle.script_running.specs.script_judging.Judging.{outcome};
 ghost use Rattle.session_slots.specs.Stages.{shown};
 ghost use Rattle.session_slots.specs.Parting.{part_of, Moves_faces, Slot_parts, Slot_makes_part};
 
-use crate::commands::tell;
 use crate::counted_stage::CountedStage;
 use crate::slot::{Slot, counted_in};
 use euler_conditions::Arena;
 use euler_operators::{FaceList, Kind, Op, Refusal, Why, is_number};
+use script_running::tell_outcome;
 use std::alloc::{AllocError, Global};
 use undo_journal::Failure;
 
@@ -67,7 +67,7 @@ fn part_in(alloc: Global, slot: &mut Slot, faces: &[u32], made: u32)
 {
     if let Some(stage) = &mut slot.stage {
         let ended = part_on(alloc, stage, faces, made);
-        tell(ended, &mut slot.answer);
+        tell_outcome(ended, &mut slot.answer);
     }
 }
 

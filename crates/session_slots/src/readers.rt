@@ -157,21 +157,21 @@ pub fn next_half_edge(arena: &Arena, item: u32) -> Option<u32>
     Some(code_after(arena, half))
 }
 
-/// The least ring of a face above n.
-pub fn ring_after(arena: &Arena, face: u32, n: u32) -> Option<u32>
-    ensures { IsRingAfter face n arena.now.model result }
+/// The least ring of a face above the one given.
+pub fn ring_after(arena: &Arena, face: u32, above: u32) -> Option<u32>
+    ensures { IsRingAfter face above arena.now.model result }
 {
     if !arena.has(Kind::Face, face) {
         return None;
     }
-    arena.ring_after(face, n)
+    arena.ring_after(face, above)
 }
 
-/// The least face of a solid above n.
-pub fn face_after(arena: &Arena, solid: u32, n: u32) -> Option<u32>
-    ensures { IsFaceAfter solid n arena.now.model result }
+/// The least face of a solid above the one given.
+pub fn face_after(arena: &Arena, solid: u32, above: u32) -> Option<u32>
+    ensures { IsFaceAfter solid above arena.now.model result }
 {
-    arena.face_after(solid, n)
+    arena.face_after(solid, above)
 }
 
 /// The kind that C means by a number.
@@ -188,19 +188,19 @@ fn kind_of(entity: u32) -> Option<Kind>
     }
 }
 
-/// The least number of a kind in use above n.
-fn after_of_kind(arena: &Arena, kind: Kind, n: u32) -> Option<u32>
-    ensures { IsNextNumber (store_of arena.now.model) kind n result }
+/// The least number of a kind in use above the one given.
+fn after_of_kind(arena: &Arena, kind: Kind, above: u32) -> Option<u32>
+    ensures { IsNextNumber (store_of arena.now.model) kind above result }
 {
-    arena.after_number(kind, n)
+    arena.after_number(kind, above)
 }
 
-/// The least number in use above n, of the kind that C means.
-pub fn number_after(arena: &Arena, entity: u32, n: u32) -> Option<u32>
-    ensures { IsNumberAfter (kind_of entity) n arena.now.model result }
+/// The least number in use above the one given, of the kind that C means.
+pub fn number_after(arena: &Arena, entity: u32, above: u32) -> Option<u32>
+    ensures { IsNumberAfter (kind_of entity) above arena.now.model result }
 {
     match kind_of(entity) {
-        Some(kind) => after_of_kind(arena, kind, n),
+        Some(kind) => after_of_kind(arena, kind, above),
         None => None,
     }
 }

@@ -1,11 +1,11 @@
 //! A session or a draft in a slot with its last answer, and what a line does to it.
-ghost use Rattle.std.specs.Prelude.{◌≡◌, IfSome, IsSome, Some, length};
+ghost use Rattle.std.specs.Prelude.{◌≡◌, IfSome, Some, length};
 ghost use Rattle.euler_conditions.specs.Ready.{IsReady};
 ghost use Rattle.undo_journal.specs.Journal.{Journal, new_journal};
 ghost use Rattle.script_running.specs.script_judging.Settling.{spelled};
 ghost use Rattle.session_slots.specs.declared.stage.Stage.TheVariants as stages;
 ghost use Rattle.session_slots.specs.Stages.{is_draft, text_in};
-ghost use Rattle.session_slots.specs.Slots.{Counts_in, Slot_obeys, Slot_hears, Slot_finishes, Slot_notes};
+ghost use Rattle.session_slots.specs.Slots.{Counts_in, Slot_obeys, Slot_hears, Slot_notes};
 ghost use Rattle.session_slots.specs.Written.{laid_over};
 
 use crate::counted_stage::CountedStage;
@@ -22,7 +22,6 @@ use undo_journal::Session;
 pub struct Slot {
     pub stage: Option<CountedStage>,
     pub answer: Answer,
-    pub(crate) later: Option<Larger>,
     /// The greatest numbers in use before the last command.
     pub before: Counters,
 }
@@ -39,7 +38,6 @@ pub fn made(alloc: Global) -> Option<Box<Slot, Global>>
         Slot {
             stage: Some(CountedStage::of(Stage::Session(session))),
             answer: Answer::Silent,
-            later: None,
             before: Counters {
                 faces: 0,
                 loops: 0,
@@ -53,8 +51,7 @@ pub fn made(alloc: Global) -> Option<Box<Slot, Global>>
 
 /// Takes the session out of the slot. Where there is a draft nothing changes.
 pub(crate) fn taken(slot: &mut Slot) -> Option<Session>
-    ensures session { (s : Journal) → slot.old.stage ≡ Some (stages.Session s) → result ≡ Some s }
-    ensures later { slot.new.later ≡ slot.old.later }
+    ensures { (s : Journal) → slot.old.stage ≡ Some (stages.Session s) → result ≡ Some s }
 {
     let Some(stage) = slot.stage.take() else {
         return None;
@@ -69,8 +66,8 @@ pub(crate) fn taken(slot: &mut Slot) -> Option<Session>
 }
 
 /// Carries a larger command out on the session.
-pub(crate) fn carry_in(alloc: Global, slot: &mut Slot, larger: Larger)
-    ensures { Slot_obeys slot.old (spelled larger) slot.new }
+pub(crate) fn carry_in(alloc: Global, slot: &mut Slot, larger: Larger<'_>)
+    ensures { Slot_obeys slot.old (spelled larger.entry) slot.new }
 {
     let Some(session) = taken(slot) else {
         return;
@@ -80,15 +77,6 @@ pub(crate) fn carry_in(alloc: Global, slot: &mut Slot, larger: Larger)
     slot.answer = answer;
 }
 
-/// Carries out the larger command that was put aside.
-fn finish(alloc: Global, slot: &mut Slot)
-    requires { IsSome slot.old.later }
-    ensures { Slot_finishes slot.old slot.new }
-{
-    let larger = slot.later.take().unwrap();
-    carry_in(alloc, slot, larger);
-}
-
 /// Answers a line, and keeps the answer.
 fn answer_line(alloc: Global, slot: &mut Slot, line: &[u8])
     ensures { Slot_hears slot.old line.now slot.new }
@@ -96,9 +84,8 @@ fn answer_line(alloc: Global, slot: &mut Slot, line: &[u8])
     let Some(stage) = &mut slot.stage else {
         return;
     };
-    match stage.judge(line, &mut slot.later) {
-        Some(answer) => slot.answer = answer,
-        None => finish(alloc, slot),
+    if let Some(larger) = stage.judge(line, &mut slot.answer) {
+        carry_in(alloc, slot, larger);
     }
 }
 

@@ -1,10 +1,11 @@
 -- What a line comes to before the session moves: an answer, or a larger command that is yet to be carried out.
-use Rattle.std.specs.Prelude.{◌≡◌, ℕ, Bool, true, false, List, Option, Some, None, Ok}
+use Rattle.std.specs.Prelude.{◌≡◌, ℕ, List, Option, Some, None, Ok}
 use Rattle.undo_journal.specs.Machine.{Machine}
+use Rattle.undo_journal.specs.Journal.{Journal}
 use Rattle.script_reader.specs.declared.command.Command.{Command}
 use Rattle.script_reader.specs.declared.command.Command.TheVariants as command
 use Rattle.script_reader.specs.Grammar.{command_of}
-use Rattle.script_running.specs.script_judging.Judging.{Obeys, Judges}
+use Rattle.script_running.specs.script_judging.Judging.{Obeys, Judges, StaysUnlessDone}
 use Rattle.script_running.specs.declared.script_judging.judging.Answer.{Answer}
 use Rattle.script_running.specs.declared.script_judging.larger.Larger.{Larger}
 use Rattle.script_running.specs.declared.script_judging.larger.Larger.TheVariants as larger
@@ -17,17 +18,17 @@ spelled (larger.Sweep f d) = command.Sweep f d
 spelled (larger.Glue f g) = command.Glue f g
 spelled (larger.Split n cs m) = command.Split n cs m
 
--- the answer, if there is one
-abbrev pub answer_if : Bool → Answer → Option Answer
-answer_if true a = Some a
-answer_if false a = None
+-- a command is answered, or it is a larger one that is yet to be carried out, and nothing has changed
+abbrev pub Settles : Machine → Command → Option Larger → Answer → Machine → Type 0
+Settles s c None a t = Obeys s c a t
+Settles s c (Some l) a t = (c ≡ spelled l) × (t ≡ s)
 
--- a command is answered, or is a larger one that was put aside, and nothing has changed
-abbrev pub Settles : Machine → Command → Option Answer → Machine → Option Larger → Type 0
-Settles s c (Some a) t later = Obeys s c a t
-Settles s c None t later = (l : Larger) × (later ≡ Some l) × (c ≡ spelled l) × (t ≡ s)
+-- a line is answered, or it spells a larger command that is yet to be carried out, and nothing has changed
+abbrev pub Decides : Machine → List ℕ → Option Larger → Answer → Machine → Type 0
+Decides s line None a t = Judges s line a t
+Decides s line (Some l) a t = (command_of line ≡ Ok (spelled l)) × (t ≡ s)
 
--- a line is answered, or spells a larger command that was put aside, and nothing has changed
-abbrev pub Decides : Machine → List ℕ → Option Answer → Machine → Option Larger → Type 0
-Decides s line (Some a) t later = Judges s line a t
-Decides s line None t later = (l : Larger) × (later ≡ Some l) × (command_of line ≡ Ok (spelled l)) × (t ≡ s)
+-- a command that is yet to be carried out, or isn't answered `ok`, leaves the session as it was, its records too
+abbrev pub StaysTillDone : Option Larger → Answer → Journal → Journal → Type 0
+StaysTillDone None a s t = StaysUnlessDone a s t
+StaysTillDone (Some l) a s t = t ≡ s

@@ -1,8 +1,8 @@
 //! What a line is answered.
-ghost use Rattle.std.specs.Prelude.{◌≡◌, ◌≢◌, ◌<◌, ◌≤◌, Some};
+ghost use Rattle.std.specs.Prelude.{◌≡◌, ◌<◌, ◌≤◌, Some};
 ghost use Rattle.euler_conditions.specs.Ready.{IsReady};
-ghost use Rattle.script_running.specs.script_judging.Judging.{done, refused, outcome, told, plane_reply, volume_reply, count_reply, StaysUnlessDone, Moves, Acts, complains, one_line, counted};
-ghost use Rattle.script_running.specs.script_judging.Settling.{Settles, Decides, answer_if};
+ghost use Rattle.script_running.specs.script_judging.Judging.{refused, outcome, told, plane_reply, volume_reply, count_reply, StaysUnlessDone, Moves, Acts, complains, one_line, counted};
+ghost use Rattle.script_running.specs.script_judging.Settling.{Settles, Decides, StaysTillDone};
 ghost use Rattle.script_running.specs.Outs.{is_clean};
 ghost use Rattle.undo_journal.specs.Machine as machine;
 
@@ -82,7 +82,7 @@ fn refused(refusal: Refusal) -> Answer
 }
 
 /// Answers a command that ended so.
-fn tell_outcome(ended: Result<(), Failure>, answer: &mut Answer)
+pub fn tell_outcome(ended: Result<(), Failure>, answer: &mut Answer)
     ensures { answer.new ≡ outcome ended }
 {
     match ended {
@@ -173,7 +173,7 @@ fn count_reply(arena: &Arena, solid: u32) -> Result<Reply, Refusal>
 
 /// Answers a query of a face's plane. The rooms for what a query gives are here and in the next ones, so that no other line pays for them.
 #[inline(never)]
-fn tell_plane(arena: &Arena, face: u32, answer: &mut Answer)
+pub fn answer_plane(arena: &Arena, face: u32, answer: &mut Answer)
     requires { IsReady arena.now }
     ensures { answer.new ≡ told (plane_reply arena.now.model face) }
 {
@@ -182,7 +182,7 @@ fn tell_plane(arena: &Arena, face: u32, answer: &mut Answer)
 
 /// Answers a query of a solid's volume.
 #[inline(never)]
-fn tell_volume(arena: &Arena, solid: u32, answer: &mut Answer)
+pub fn answer_volume(arena: &Arena, solid: u32, answer: &mut Answer)
     requires { IsReady arena.now }
     ensures { answer.new ≡ told (volume_reply arena.now.model solid) }
 {
@@ -191,126 +191,89 @@ fn tell_volume(arena: &Arena, solid: u32, answer: &mut Answer)
 
 /// Answers a query of a solid's counts.
 #[inline(never)]
-fn tell_count(arena: &Arena, solid: u32, answer: &mut Answer)
+pub fn answer_count(arena: &Arena, solid: u32, answer: &mut Answer)
     requires { IsReady arena.now }
     ensures { answer.new ≡ told (count_reply arena.now.model solid) }
 {
     *answer = told(count_reply(arena, solid));
 }
 
-/// Puts a lamina in `later`. The rooms for larger commands are here and in the next ones, so that no other line pays for them.
+/// A lamina that is yet to be carried out. It is made here, and the others in the next ones, so that no other line pays for their rooms.
 #[inline(never)]
-fn put_lamina(later: &mut Option<Larger>, solid: u32, polygon: &Polygon<'_>)
-    ensures { later.new ≡ Some (Larger.Lamina solid polygon.now) }
+fn later_lamina(solid: u32, polygon: Polygon<'_>) -> Option<Larger<'_>>
+    ensures { result ≡ Some (Larger.Lamina solid polygon.entry) }
 {
-    *later = Some(Larger::Lamina(solid, polygon.corners()));
+    Some(Larger::Lamina(solid, polygon))
 }
 
-/// Puts a block in `later`.
+/// A block.
 #[inline(never)]
-fn put_block(later: &mut Option<Larger>, solid: u32, corner: Point, dx: i64, dy: i64, dz: i64)
-    ensures { later.new ≡ Some (Larger.Block solid corner dx dy dz) }
+fn later_block<'a>(solid: u32, corner: Point, dx: i64, dy: i64, dz: i64) -> Option<Larger<'a>>
+    ensures { result ≡ Some (Larger.Block solid corner dx dy dz) }
 {
-    *later = Some(Larger::Block(solid, corner, dx, dy, dz));
+    Some(Larger::Block(solid, corner, dx, dy, dz))
 }
 
-/// Puts a sweep in `later`.
+/// A sweep.
 #[inline(never)]
-fn put_sweep(later: &mut Option<Larger>, face: u32, way: Point)
-    ensures { later.new ≡ Some (Larger.Sweep face way) }
+fn later_sweep<'a>(face: u32, way: Point) -> Option<Larger<'a>>
+    ensures { result ≡ Some (Larger.Sweep face way) }
 {
-    *later = Some(Larger::Sweep(face, way));
+    Some(Larger::Sweep(face, way))
 }
 
-/// Puts a glue in `later`.
+/// A glue.
 #[inline(never)]
-fn put_glue(later: &mut Option<Larger>, face: u32, other: u32)
-    ensures { later.new ≡ Some (Larger.Glue face other) }
+fn later_glue<'a>(face: u32, other: u32) -> Option<Larger<'a>>
+    ensures { result ≡ Some (Larger.Glue face other) }
 {
-    *later = Some(Larger::Glue(face, other));
+    Some(Larger::Glue(face, other))
 }
 
-/// Puts a split in `later`.
+/// A split.
 #[inline(never)]
-fn put_split(later: &mut Option<Larger>, solid: u32, plane: [i64; 4], above: u32)
-    ensures { later.new ≡ Some (Larger.Split solid plane above) }
+fn later_split<'a>(solid: u32, plane: [i64; 4], above: u32) -> Option<Larger<'a>>
+    ensures { result ≡ Some (Larger.Split solid plane above) }
 {
-    *later = Some(Larger::Split(solid, plane, above));
+    Some(Larger::Split(solid, plane, above))
 }
 
-/// Answers a command, or puts a larger one in `later`; says whether there is an answer.
-fn obey(
-    session: &mut Session,
-    command: Command,
-    later: &mut Option<Larger>,
-    answer: &mut Answer,
-) -> bool
-    ensures answered { Settles session.old.machine command.entry (answer_if result answer.new) session.new.machine later.new }
-    ensures kept { answer_if result answer.new ≢ Some done → session.new ≡ session.old }
+/// Answers a command, or gives back the larger one that it is.
+fn obey<'a>(session: &mut Session, command: Command<'a>, answer: &mut Answer) -> Option<Larger<'a>>
+    ensures settled { Settles session.old.machine command.entry result answer.new session.new.machine }
+    ensures kept { StaysTillDone result answer.new session.old session.new }
 {
     match command {
         Command::Nothing => *answer = Answer::Silent,
         Command::Act(op) => act(session, op, answer),
-        Command::Lamina(solid, polygon) => {
-            put_lamina(later, solid, &polygon);
-            return false;
-        }
-        Command::Block(solid, corner, dx, dy, dz) => {
-            put_block(later, solid, corner, dx, dy, dz);
-            return false;
-        }
-        Command::Sweep(face, way) => {
-            put_sweep(later, face, way);
-            return false;
-        }
-        Command::Glue(face, other) => {
-            put_glue(later, face, other);
-            return false;
-        }
-        Command::Split(solid, plane, above) => {
-            put_split(later, solid, plane, above);
-            return false;
-        }
-        Command::Plane(face) => tell_plane(session.arena(), face, answer),
-        Command::Volume(solid) => tell_volume(session.arena(), solid, answer),
-        Command::Count(solid) => tell_count(session.arena(), solid, answer),
+        Command::Plane(face) => answer_plane(session.arena(), face, answer),
+        Command::Volume(solid) => answer_volume(session.arena(), solid, answer),
+        Command::Count(solid) => answer_count(session.arena(), solid, answer),
         Command::Undo => undo(session, answer),
         Command::Redo => redo(session, answer),
         Command::List => *answer = Answer::Listing,
+        Command::Lamina(solid, polygon) => return later_lamina(solid, polygon),
+        Command::Block(solid, corner, dx, dy, dz) => {
+            return later_block(solid, corner, dx, dy, dz);
+        }
+        Command::Sweep(face, way) => return later_sweep(face, way),
+        Command::Glue(face, other) => return later_glue(face, other),
+        Command::Split(solid, plane, above) => return later_split(solid, plane, above),
     }
-    true
+    None
 }
 
-/// Judges a line into `answer`, or puts the larger command that it spells in `later`; says whether there is an answer. An answer has the
-/// size of a plane, so it is made where it is kept and not handed from call to call.
-pub(crate) fn settle(
-    session: &mut Session,
-    line: &[u8],
-    later: &mut Option<Larger>,
-    answer: &mut Answer,
-) -> bool
-    ensures answered { Decides session.old.machine line.now (answer_if result answer.new) session.new.machine later.new }
-    ensures kept { answer_if result answer.new ≢ Some done → session.new ≡ session.old }
+/// Judges a line: its answer is put where it is kept, since it has the size of a plane; a larger command that the line spells is given back.
+/// Where the answer is not `ok`, or there is none yet, the session is as it was.
+pub fn judge<'a>(session: &mut Session, line: &'a [u8], answer: &mut Answer) -> Option<Larger<'a>>
+    ensures answered { Decides session.old.machine line.now result answer.new session.new.machine }
+    ensures kept { StaysTillDone result answer.new session.old session.new }
 {
     match read_line(line) {
-        Ok(command) => obey(session, command, later, answer),
+        Ok(command) => obey(session, command, answer),
         Err(fault) => {
             *answer = Answer::Reply(Reply::Fault(fault.code()));
-            true
+            None
         }
-    }
-}
-
-/// Judges a line: its answer, or none where it spells a larger command, which is put in `later`. Where the answer is not `ok`, the
-/// session is as it was.
-pub fn judge(session: &mut Session, line: &[u8], later: &mut Option<Larger>) -> Option<Answer>
-    ensures answered { Decides session.old.machine line.now result session.new.machine later.new }
-    ensures kept { result ≢ Some done → session.new ≡ session.old }
-{
-    let mut answer = Answer::Silent;
-    if settle(session, line, later, &mut answer) {
-        Some(answer)
-    } else {
-        None
     }
 }

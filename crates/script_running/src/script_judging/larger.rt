@@ -10,16 +10,16 @@ use crate::script_judging::judging::{Answer, outcome};
 use euler_operators::Point;
 use gluing::glue;
 use plane_split::split;
-use script_reader::Corners;
+use script_reader::Polygon;
 use std::alloc::Global;
 use sweeps::{block, lamina, sweep};
 use undo_journal::Session;
 
 /// A command of several operators.
 #[derive(Drop)]
-pub enum Larger {
+pub enum Larger<'a> {
     /// The new solid, and the points of its polygon.
-    Lamina(u32, Corners),
+    Lamina(u32, Polygon<'a>),
     /// The new solid, a corner, and the sizes along x, y and z.
     Block(u32, Point, i64, i64, i64),
     /// The face, and the vector by which it moves.
@@ -30,10 +30,16 @@ pub enum Larger {
     Split(u32, [i64; 4], u32),
 }
 
-fn make_lamina(alloc: Global, session: Session, solid: u32, corners: &Corners) -> (Session, Answer)
-    ensures answered { Acts (lamina_refusal session.machine solid corners.now) session.machine (lamina session.machine solid corners.now) result.1 result.0.machine }
+fn make_lamina(
+    alloc: Global,
+    session: Session,
+    solid: u32,
+    polygon: &Polygon<'_>,
+) -> (Session, Answer)
+    ensures answered { Acts (lamina_refusal session.machine solid polygon.now) session.machine (lamina session.machine solid polygon.now) result.1 result.0.machine }
     ensures kept { StaysUnlessDone result.1 session result.0 }
 {
+    let corners = polygon.corners();
     let (session, ended) = lamina(alloc, session, solid, corners.points());
     (session, outcome(ended))
 }
@@ -105,12 +111,12 @@ fn split_by(
 }
 
 /// Carries a larger command out: gives the session back with its answer. Where the answer is not `ok`, the session is as it was.
-pub fn carry_out(alloc: Global, session: Session, larger: Larger) -> (Session, Answer)
-    ensures answered { Obeys session.machine (spelled larger) result.1 result.0.machine }
+pub fn carry_out(alloc: Global, session: Session, larger: Larger<'_>) -> (Session, Answer)
+    ensures answered { Obeys session.machine (spelled larger.entry) result.1 result.0.machine }
     ensures kept { StaysUnlessDone result.1 session result.0 }
 {
     match larger {
-        Larger::Lamina(solid, corners) => make_lamina(alloc, session, solid, &corners),
+        Larger::Lamina(solid, polygon) => make_lamina(alloc, session, solid, &polygon),
         Larger::Block(solid, corner, dx, dy, dz) => {
             make_block(alloc, session, solid, corner, dx, dy, dz)
         }

@@ -13,7 +13,7 @@ returns-in_default-clause-value c = (9, subst (λ o. Recalls counts_in o c.args.
 pub returns-clause-state : goal.returns-clause-state
 returns-clause-state c =
     let after = c.tell_count.new.slot in
-    goes_on (λ x y. Slot_asks x (λ M. count_reply M c.args.solid) y) c.args.gwb.now.held.value c.in-Some.slot.value c.in-Some.ensures.slot c.put.new.gwb.held.value after c.put.ensures
+    goes_on (λ x y. Slot_asks x (λ M. count_reply M c.args.solid) y) c.args.gwb.now.kept.value c.in-Some.slot.value c.in-Some.ensures.slot c.put.new.gwb.kept.value after c.put.ensures
     c.status-kind.result (c.status-kind.ensures ∙ ap (λ (x : Slot). status_of x.answer) c.deref.ensures) (subst (λ x. Slot_asks x (λ M. count_reply M c.args.solid) after) c.deref_mut.ensures.value c.tell_count.ensures)
 
 pub returns-clause-value : goal.returns-clause-value

@@ -1,25 +1,25 @@
 use Rattle.std.proofs.Common.{◌∙◌, refl, sym, ap, subst}
 use Rattle.script_running.specs.script_judging.Judging.{plane_reply}
 use Rattle.session_slots.specs.declared.slot.Slot.{Slot}
-use Rattle.session_slots.specs.Answered.{plane_in, whole_plane}
+use Rattle.session_slots.specs.Answered.{plane_in, joined_plane}
 use Rattle.gwb_c.specs.Handle.{RecallsBy, GivesBy, status_of}
 use Rattle.session_slots.specs.Slots.{Slot_asks}
 use Rattle.gwb_c.proofs.Turning.{goes_on}
 use Rattle.gwb_c.proofs.queries.gwb_face_plane.Goals as goal
 
 pub returns-in_default-clause-value : goal.returns-in_default-clause-value
-returns-in_default-clause-value c = (9, subst (λ o. RecallsBy whole_plane plane_in o c.args.plane.now c.args.plane.now 9) (sym c.take.ensures.left) (refl, refl))
+returns-in_default-clause-value c = (9, subst (λ o. RecallsBy joined_plane plane_in o c.args.plane.now c.args.plane.now 9) (sym c.take.ensures.left) (refl, refl))
 
 pub returns-clause-state : goal.returns-clause-state
 returns-clause-state c =
     let after = c.tell_plane.new.slot in
-    goes_on (λ x y. Slot_asks x (λ M. plane_reply M c.args.face) y) c.args.gwb.now.held.value c.in-Some.slot.value c.in-Some.ensures.slot c.put.new.gwb.held.value after c.put.ensures
+    goes_on (λ x y. Slot_asks x (λ M. plane_reply M c.args.face) y) c.args.gwb.now.kept.value c.in-Some.slot.value c.in-Some.ensures.slot c.put.new.gwb.kept.value after c.put.ensures
     c.status-kind.result (c.status-kind.ensures ∙ ap (λ (x : Slot). status_of x.answer) c.deref.ensures) (subst (λ x. Slot_asks x (λ M. plane_reply M c.args.face) after) c.deref_mut.ensures.value c.tell_plane.ensures)
 
 pub returns-clause-value : goal.returns-clause-value
 returns-clause-value c =
     let old = c.args.plane.now in let new = c.give_plane.new.out in let told = c.give_plane.result in (
       told,
-      subst (λ o. RecallsBy whole_plane plane_in o old new told) (sym c.put.ensures)
-          (subst (λ v. GivesBy whole_plane v old new told) (c.plane_of.ensures ∙ ap (λ (x : Slot). plane_in x.answer) c.deref-2.ensures) c.give_plane.ensures),
+      subst (λ o. RecallsBy joined_plane plane_in o old new told) (sym c.put.ensures)
+          (subst (λ v. GivesBy joined_plane v old new told) (c.plane_of.ensures ∙ ap (λ (x : Slot). plane_in x.answer) c.deref-2.ensures) c.give_plane.ensures),
     )

@@ -1,13 +1,11 @@
-use Rattle.std.proofs.Common.{◌≡◌, ◌+◌, ℕ, sym, ap, subst, ◌∙◌, arith, None}
+use Rattle.std.proofs.Common.{◌≡◌, ◌+◌, ℕ, sym, ap, subst, ◌∙◌, arith}
 use Rattle.script_reader.specs.State.{reader_of}
 use Rattle.script_running.specs.declared.script_judging.judging.Summary.{Summary}
 use Rattle.script_running.specs.script_judging.Judging.{no_lines}
 use Rattle.script_running.proofs.script_judging_laws.Acted.{same_machine}
 use Rattle.script_running.proofs.Counting.{IsWithin, same_counts, counted_within, one_more}
-use Rattle.script_running.proofs.RunLaws.{Progress, begins, flushed, turn_of, goes_on, answered_line, carried, ends, read_fails, too_long, same_run, telling_fails, stops_there, flush_fails, falls}
-use Rattle.script_running.specs.Hearing.{Hears}
-use Rattle.script_running.specs.declared.running.Heard.TheVariants as heard
-use Rattle.script_running.proofs.running.run_lines.Goals.{in-Line, in-Larger, in-Err, in_default+in-End, in_default+in-Read, in_default+in-TooLong, in_default+in-Err-say, in_default+in_default-say+then-stops}
+use Rattle.script_running.proofs.RunLaws.{Progress, Hears, begins, flushed, turn_of, goes_on, heard_line, heard_larger, heard_long, ends, read_fails, too_long, same_run, telling_fails, stops_there, flush_fails, falls}
+use Rattle.script_running.proofs.running.run_lines.Goals.{in-Line+in-Some, in-Line+in_default-judge, in-Long, in-Err, in_default+in-End, in_default+in-Read, in_default+in-TooLong, in_default+in-Err-say, in_default+in_default-say+then-stops}
 use Rattle.script_reader.specs.declared.lines.Found.TheVariants as found
 use Rattle.script_reader.proofs.EndLaws.{no_whole_line}
 use Rattle.solid_listing.specs.Writing.{outgoing}
@@ -32,67 +30,72 @@ returns g c =
           (flush_fails g.R.Read.remaining _ c.script.lines _ (outgoing (g.W.Write.contents c.script.writer) c.script.text) (outgoing (g.W.Write.contents c.flush.new.writer) c.flush.new.text) c.args.stop _ _ w.in-Err.fault c.script.invariant.progress w.in-Err.ensures.tells w.in-Err.ensures.fault)
       | in_default+in-End w ↦
           let at = flushed g.R.Read.remaining _ c.script.lines _ (outgoing (g.W.Write.contents c.script.writer) c.script.text) (outgoing (g.W.Write.contents c.flush.new.writer) c.flush.new.text) _ _ _ c.script.invariant.progress w.in_default.ensures.tells in
-          let none = w.in_default.ensures.none (no_whole_line g.R.Read.remaining c.script.lines w.hear.new.lines found.End tt w.in-End.ensures.0) in
-          same_run _ _ _ _ _ _ _ (ap g.W.Write.contents w.writer-is) w.result-is (ends g.R.Read.remaining _ c.script.lines w.hear.new.lines _ (outgoing (g.W.Write.contents c.flush.new.writer) c.flush.new.text) _ _ _ at w.in-End.ensures.0 none)
+          let none = w.in_default.ensures.none (no_whole_line g.R.Read.remaining c.script.lines w.advance.new.self found.End tt w.in-End.ensures) in
+          same_run _ _ _ _ _ _ _ (ap g.W.Write.contents w.writer-is) w.result-is (ends g.R.Read.remaining _ c.script.lines w.advance.new.self _ (outgoing (g.W.Write.contents c.flush.new.writer) c.flush.new.text) _ _ _ at w.in-End.ensures none)
       | in_default+in-Read w ↦
           let at = flushed g.R.Read.remaining _ c.script.lines _ (outgoing (g.W.Write.contents c.script.writer) c.script.text) (outgoing (g.W.Write.contents c.flush.new.writer) c.flush.new.text) _ _ _ c.script.invariant.progress w.in_default.ensures.tells in
-          let none = w.in_default.ensures.none (no_whole_line g.R.Read.remaining c.script.lines w.hear.new.lines found.Read tt w.in-Read.ensures.0) in
-          same_run _ _ _ _ _ _ _ (ap g.W.Write.contents w.writer-is) w.result-is (read_fails g.R.Read.remaining _ c.script.lines w.hear.new.lines _ (outgoing (g.W.Write.contents c.flush.new.writer) c.flush.new.text) _ _ _ at w.in-Read.ensures.0 none)
+          let none = w.in_default.ensures.none (no_whole_line g.R.Read.remaining c.script.lines w.advance.new.self found.Read tt w.in-Read.ensures) in
+          same_run _ _ _ _ _ _ _ (ap g.W.Write.contents w.writer-is) w.result-is (read_fails g.R.Read.remaining _ c.script.lines w.advance.new.self _ (outgoing (g.W.Write.contents c.flush.new.writer) c.flush.new.text) _ _ _ at w.in-Read.ensures none)
       | in_default+in-TooLong w ↦
           let at = flushed g.R.Read.remaining _ c.script.lines _ (outgoing (g.W.Write.contents c.script.writer) c.script.text) (outgoing (g.W.Write.contents c.flush.new.writer) c.flush.new.text) _ _ _ c.script.invariant.progress w.in_default.ensures.tells in
-          let none = w.in_default.ensures.none (no_whole_line g.R.Read.remaining c.script.lines w.hear.new.lines found.TooLong tt w.in-TooLong.ensures.0) in
-          same_run _ _ _ _ _ _ _ (ap g.W.Write.contents w.writer-is) w.result-is (too_long g.R.Read.remaining _ c.script.lines w.hear.new.lines _ (outgoing (g.W.Write.contents c.flush.new.writer) c.flush.new.text) _ _ _ at w.in-TooLong.ensures.0 none)
+          let none = w.in_default.ensures.none (no_whole_line g.R.Read.remaining c.script.lines w.advance.new.self found.TooLong tt w.in-TooLong.ensures) in
+          same_run _ _ _ _ _ _ _ (ap g.W.Write.contents w.writer-is) w.result-is (too_long g.R.Read.remaining _ c.script.lines w.advance.new.self _ (outgoing (g.W.Write.contents c.flush.new.writer) c.flush.new.text) _ _ _ at w.in-TooLong.ensures none)
       | in_default+in-Err-say w ↦
           let at = flushed g.R.Read.remaining _ c.script.lines _ (outgoing (g.W.Write.contents c.script.writer) c.script.text) (outgoing (g.W.Write.contents c.flush.new.writer) c.flush.new.text) _ _ _ c.script.invariant.progress w.in_default.ensures.tells in
-          let told : Hears g.R.Read.remaining c.script.lines w.hear.new.lines c.script.session.machine w.match-hear.session.machine None w.match-hear.answer heard.Line = elim w.match-hear.branch [
-            | in-Line v ↦ answered_line g.R.Read.remaining _ _ _ _ _ None _ _ v.in-Line.ensures v.answer-is (same_machine v.session-is)
-            | in-Larger v ↦ carried g.R.Read.remaining _ _ _ _ _ _ _ _ w.match-hear.answer _ _ v.in-Larger.ensures (sym v.take.ensures.value ∙ v.unwrap-larger.ensures) v.carry_out-next.ensures.answered v.answer-is (same_machine v.session-is)
+          let told : Hears g.R.Read.remaining c.script.lines w.advance.new.self c.script.session.machine w.match-advance.answer w.match-advance.session.machine = elim w.match-advance.branch [
+            | in-Line+in-Some v ↦ heard_larger g.R.Read.remaining _ _ _ _ _ _ _ _ _ _ v.in-Line.ensures v.line.ensures v.in-Some.ensures.answered v.carry_out-next.ensures.answered v.answer-is (same_machine v.session-is)
+            | in-Line+in_default-judge v ↦ heard_line g.R.Read.remaining _ _ _ v.line.result.now v.judge.new.session.machine _ v.judge.new.answer _ v.in-Line.ensures v.line.ensures v.in_default-judge.ensures.answered v.answer-is (same_machine v.session-is)
+            | in-Long v ↦ heard_long g.R.Read.remaining _ _ _ _ _ _ v.in-Long.ensures v.code.ensures v.answer-is (same_machine v.session-is)
           ] in
-          let turn = turn_of g.R.Read.remaining _ c.script.lines w.hear.new.lines _ _ _ _ _ w.match-hear.answer w.match-hear.session.machine at told in
-          same_run _ _ _ _ _ _ _ (ap g.W.Write.contents w.writer-is) w.result-is (telling_fails g.R.Read.remaining _ w.hear.new.lines _ (outgoing (g.W.Write.contents c.flush.new.writer) c.flush.new.text) (outgoing (g.W.Write.contents w.say.new.writer) w.say.new.text) _ _ _ w.match-hear.answer w.match-hear.session.machine w.in-Err-say.fault turn w.in-Err-say.ensures.tells w.in-Err-say.ensures.fault)
+          let turn = turn_of g.R.Read.remaining _ c.script.lines w.advance.new.self _ _ _ _ _ w.match-advance.answer w.match-advance.session.machine at told in
+          same_run _ _ _ _ _ _ _ (ap g.W.Write.contents w.writer-is) w.result-is (telling_fails g.R.Read.remaining _ w.advance.new.self _ (outgoing (g.W.Write.contents c.flush.new.writer) c.flush.new.text) (outgoing (g.W.Write.contents w.say.new.writer) w.say.new.text) _ _ _ w.match-advance.answer w.match-advance.session.machine w.in-Err-say.fault turn w.in-Err-say.ensures.tells w.in-Err-say.ensures.fault)
       | in_default+in_default-say+then-stops w ↦
           let at = flushed g.R.Read.remaining _ c.script.lines _ (outgoing (g.W.Write.contents c.script.writer) c.script.text) (outgoing (g.W.Write.contents c.flush.new.writer) c.flush.new.text) _ _ _ c.script.invariant.progress w.in_default.ensures.tells in
-          let told : Hears g.R.Read.remaining c.script.lines w.hear.new.lines c.script.session.machine w.match-hear.session.machine None w.match-hear.answer heard.Line = elim w.match-hear.branch [
-            | in-Line v ↦ answered_line g.R.Read.remaining _ _ _ _ _ None _ _ v.in-Line.ensures v.answer-is (same_machine v.session-is)
-            | in-Larger v ↦ carried g.R.Read.remaining _ _ _ _ _ _ _ _ w.match-hear.answer _ _ v.in-Larger.ensures (sym v.take.ensures.value ∙ v.unwrap-larger.ensures) v.carry_out-next.ensures.answered v.answer-is (same_machine v.session-is)
+          let told : Hears g.R.Read.remaining c.script.lines w.advance.new.self c.script.session.machine w.match-advance.answer w.match-advance.session.machine = elim w.match-advance.branch [
+            | in-Line+in-Some v ↦ heard_larger g.R.Read.remaining _ _ _ _ _ _ _ _ _ _ v.in-Line.ensures v.line.ensures v.in-Some.ensures.answered v.carry_out-next.ensures.answered v.answer-is (same_machine v.session-is)
+            | in-Line+in_default-judge v ↦ heard_line g.R.Read.remaining _ _ _ v.line.result.now v.judge.new.session.machine _ v.judge.new.answer _ v.in-Line.ensures v.line.ensures v.in_default-judge.ensures.answered v.answer-is (same_machine v.session-is)
+            | in-Long v ↦ heard_long g.R.Read.remaining _ _ _ _ _ _ v.in-Long.ensures v.code.ensures v.answer-is (same_machine v.session-is)
           ] in
-          let turn = turn_of g.R.Read.remaining _ c.script.lines w.hear.new.lines _ _ _ _ _ w.match-hear.answer w.match-hear.session.machine at told in
+          let turn = turn_of g.R.Read.remaining _ c.script.lines w.advance.new.self _ _ _ _ _ w.match-advance.answer w.match-advance.session.machine at told in
           let bad = sym w.stops.ensures ∙ w.if-stops.true in
-          same_run _ _ _ _ _ _ _ (ap g.W.Write.contents w.writer-is) w.result-is (stops_there g.R.Read.remaining _ w.hear.new.lines _ (outgoing (g.W.Write.contents c.flush.new.writer) c.flush.new.text) (outgoing (g.W.Write.contents w.say.new.writer) w.say.new.text) (g.W.Write.contents w.leave.new.writer) _ _ _ _ w.match-hear.answer w.match-hear.session.machine w.leave.result
+          same_run _ _ _ _ _ _ _ (ap g.W.Write.contents w.writer-is) w.result-is (stops_there g.R.Read.remaining _ w.advance.new.self _ (outgoing (g.W.Write.contents c.flush.new.writer) c.flush.new.text) (outgoing (g.W.Write.contents w.say.new.writer) w.say.new.text) (g.W.Write.contents w.leave.new.writer) _ _ _ _ w.match-advance.answer w.match-advance.session.machine w.leave.result
           turn bad w.in_default-say.ensures.tells w.count.ensures w.leave.ensures.puts w.leave.ensures.ok w.leave.ensures.fault)
     ]
 
 pub count-requires-clause-lines : goal.count-requires-clause-lines
 count-requires-clause-lines g c =
-    let told : Hears g.R.Read.remaining c.script.lines c.hear.new.lines c.script.session.machine c.match-hear.session.machine None c.match-hear.answer heard.Line = elim c.match-hear.branch [
-      | in-Line w ↦ answered_line g.R.Read.remaining _ _ _ _ _ None _ _ w.in-Line.ensures w.answer-is (same_machine w.session-is)
-      | in-Larger w ↦ carried g.R.Read.remaining _ _ _ _ _ _ _ _ c.match-hear.answer _ _ w.in-Larger.ensures (sym w.take.ensures.value ∙ w.unwrap-larger.ensures) w.carry_out-next.ensures.answered w.answer-is (same_machine w.session-is)
+    let told : Hears g.R.Read.remaining c.script.lines c.advance.new.self c.script.session.machine c.match-advance.answer c.match-advance.session.machine = elim c.match-advance.branch [
+      | in-Line+in-Some w ↦ heard_larger g.R.Read.remaining _ _ _ _ _ _ _ _ _ _ w.in-Line.ensures w.line.ensures w.in-Some.ensures.answered w.carry_out-next.ensures.answered w.answer-is (same_machine w.session-is)
+      | in-Line+in_default-judge w ↦ heard_line g.R.Read.remaining _ _ _ w.line.result.now w.judge.new.session.machine _ w.judge.new.answer _ w.in-Line.ensures w.line.ensures w.in_default-judge.ensures.answered w.answer-is (same_machine w.session-is)
+      | in-Long w ↦ heard_long g.R.Read.remaining _ _ _ _ _ _ w.in-Long.ensures w.code.ensures w.answer-is (same_machine w.session-is)
     ] in
-    let less = falls g.R.Read.remaining c.script.lines c.hear.new.lines c.script.session.machine c.match-hear.answer c.match-hear.session.machine told in
+    let less = falls g.R.Read.remaining c.script.lines c.advance.new.self c.script.session.machine c.match-advance.answer c.match-advance.session.machine told in
     omega (arith, less, c.script.invariant.bound)
 
 pub script-smaller : goal.script-smaller
 script-smaller g c =
-    let told : Hears g.R.Read.remaining c.script.lines c.hear.new.lines c.script.session.machine c.match-hear.session.machine None c.match-hear.answer heard.Line = elim c.match-hear.branch [
-      | in-Line w ↦ answered_line g.R.Read.remaining _ _ _ _ _ None _ _ w.in-Line.ensures w.answer-is (same_machine w.session-is)
-      | in-Larger w ↦ carried g.R.Read.remaining _ _ _ _ _ _ _ _ c.match-hear.answer _ _ w.in-Larger.ensures (sym w.take.ensures.value ∙ w.unwrap-larger.ensures) w.carry_out-next.ensures.answered w.answer-is (same_machine w.session-is)
+    let told : Hears g.R.Read.remaining c.script.lines c.advance.new.self c.script.session.machine c.match-advance.answer c.match-advance.session.machine = elim c.match-advance.branch [
+      | in-Line+in-Some w ↦ heard_larger g.R.Read.remaining _ _ _ _ _ _ _ _ _ _ w.in-Line.ensures w.line.ensures w.in-Some.ensures.answered w.carry_out-next.ensures.answered w.answer-is (same_machine w.session-is)
+      | in-Line+in_default-judge w ↦ heard_line g.R.Read.remaining _ _ _ w.line.result.now w.judge.new.session.machine _ w.judge.new.answer _ w.in-Line.ensures w.line.ensures w.in_default-judge.ensures.answered w.answer-is (same_machine w.session-is)
+      | in-Long w ↦ heard_long g.R.Read.remaining _ _ _ _ _ _ w.in-Long.ensures w.code.ensures w.answer-is (same_machine w.session-is)
     ] in
-    falls g.R.Read.remaining c.script.lines c.hear.new.lines c.script.session.machine c.match-hear.answer c.match-hear.session.machine told
+    falls g.R.Read.remaining c.script.lines c.advance.new.self c.script.session.machine c.match-advance.answer c.match-advance.session.machine told
 
 pub script-preserved : goal.script-preserved
 script-preserved g c =
-    let told : Hears g.R.Read.remaining c.script.lines c.hear.new.lines c.script.session.machine c.match-hear.session.machine None c.match-hear.answer heard.Line = elim c.match-hear.branch [
-      | in-Line w ↦ answered_line g.R.Read.remaining _ _ _ _ _ None _ _ w.in-Line.ensures w.answer-is (same_machine w.session-is)
-      | in-Larger w ↦ carried g.R.Read.remaining _ _ _ _ _ _ _ _ c.match-hear.answer _ _ w.in-Larger.ensures (sym w.take.ensures.value ∙ w.unwrap-larger.ensures) w.carry_out-next.ensures.answered w.answer-is (same_machine w.session-is)
+    let told : Hears g.R.Read.remaining c.script.lines c.advance.new.self c.script.session.machine c.match-advance.answer c.match-advance.session.machine = elim c.match-advance.branch [
+      | in-Line+in-Some w ↦ heard_larger g.R.Read.remaining _ _ _ _ _ _ _ _ _ _ w.in-Line.ensures w.line.ensures w.in-Some.ensures.answered w.carry_out-next.ensures.answered w.answer-is (same_machine w.session-is)
+      | in-Line+in_default-judge w ↦ heard_line g.R.Read.remaining _ _ _ w.line.result.now w.judge.new.session.machine _ w.judge.new.answer _ w.in-Line.ensures w.line.ensures w.in_default-judge.ensures.answered w.answer-is (same_machine w.session-is)
+      | in-Long w ↦ heard_long g.R.Read.remaining _ _ _ _ _ _ w.in-Long.ensures w.code.ensures w.answer-is (same_machine w.session-is)
     ] in
     let at = flushed g.R.Read.remaining _ c.script.lines _ (outgoing (g.W.Write.contents c.script.writer) c.script.text) (outgoing (g.W.Write.contents c.flush.new.writer) c.flush.new.text) _ _ _ c.script.invariant.progress c.in_default.ensures.tells in
-    let turn = turn_of g.R.Read.remaining _ c.script.lines c.hear.new.lines _ _ _ _ _ c.match-hear.answer c.match-hear.session.machine at told in
+    let turn = turn_of g.R.Read.remaining _ c.script.lines c.advance.new.self _ _ _ _ _ c.match-advance.answer c.match-advance.session.machine at told in
     let calm = sym c.stops.ensures ∙ c.if-stops.false in
-    let less = falls g.R.Read.remaining c.script.lines c.hear.new.lines c.script.session.machine c.match-hear.answer c.match-hear.session.machine told in
-    let one : c.count.new.self.lines ≡ c.script.summary.lines + 1 = ap (λ (n : Summary). n.lines) c.count.ensures ∙ ap (λ (k : ℕ). c.script.summary.lines + k) (one_more c.match-hear.answer) in
+    let less = falls g.R.Read.remaining c.script.lines c.advance.new.self c.script.session.machine c.match-advance.answer c.match-advance.session.machine told in
+    let one : c.count.new.self.lines ≡ c.script.summary.lines + 1 = ap (λ (n : Summary). n.lines) c.count.ensures ∙ ap (λ (k : ℕ). c.script.summary.lines + k) (one_more c.match-advance.answer) in
     record {
-      progress = subst (λ (n : Summary). Progress g.R.Read.remaining (g.R.Read.remaining (reader_of c.args.lines.now)) c.hear.new.lines (g.W.Write.contents c.args.writer.now) (outgoing (g.W.Write.contents c.say.new.writer) c.say.new.text) c.args.stop c.match-hear.session.machine n) (sym c.count.ensures)
-          (goes_on g.R.Read.remaining _ c.hear.new.lines _ (outgoing (g.W.Write.contents c.flush.new.writer) c.flush.new.text) (outgoing (g.W.Write.contents c.say.new.writer) c.say.new.text) _ _ _ c.match-hear.answer c.match-hear.session.machine turn calm c.in_default-say.ensures.tells);
-      within = subst IsWithin (sym c.count.ensures) (counted_within c.script.summary c.match-hear.answer c.script.invariant.within);
+      progress = subst (λ (n : Summary). Progress g.R.Read.remaining (g.R.Read.remaining (reader_of c.args.lines.now)) c.advance.new.self (g.W.Write.contents c.args.writer.now) (outgoing (g.W.Write.contents c.say.new.writer) c.say.new.text) c.args.stop c.match-advance.session.machine n) (sym c.count.ensures)
+          (goes_on g.R.Read.remaining _ c.advance.new.self _ (outgoing (g.W.Write.contents c.flush.new.writer) c.flush.new.text) (outgoing (g.W.Write.contents c.say.new.writer) c.say.new.text) _ _ _ c.match-advance.answer c.match-advance.session.machine turn calm c.in_default-say.ensures.tells);
+      within = subst IsWithin (sym c.count.ensures) (counted_within c.script.summary c.match-advance.answer c.script.invariant.within);
       bound = omega (arith, less, one, c.script.invariant.bound);
     }

@@ -9,4 +9,4 @@ use Rattle.session_slots.proofs.commands.act_in.Goals as goal
 pub returns-in-Some : goal.returns-in-Some
 returns-in-Some c = λ g is.
     let ended = c.act-ended.result in let h = c.act-ended.new.self in
-    (h, refl, subst (λ (a : Answer). Acts_on g c.args.op a h) (sym c.tell.ensures) (subst (λ (k : Stage). Acts_on k c.args.op (outcome ended) h) (the_same c.in-Some.stage g c.args.slot.now.stage c.in-Some.is is) c.act-ended.ensures))
+    (h, refl, subst (λ (a : Answer). Acts_on g c.args.op a h) (sym c.tell_outcome.ensures) (subst (λ (k : Stage). Acts_on k c.args.op (outcome ended) h) (the_same c.in-Some.stage g c.args.slot.now.stage c.in-Some.is is) c.act-ended.ensures))

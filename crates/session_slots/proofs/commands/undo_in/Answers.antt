@@ -9,5 +9,5 @@ use Rattle.session_slots.proofs.commands.undo_in.Goals as goal
 pub returns-in-Some : goal.returns-in-Some
 returns-in-Some c = λ s is.
     let told = outcome c.undo-ended.result in let h = c.undo-ended.new.self in
-    obeyed_on s command.Undo c.tell.new.answer told h c.tell.ensures
+    obeyed_on s command.Undo c.tell_outcome.new.answer told h c.tell_outcome.ensures
     (subst (λ (g : Stage). Obeys_on g command.Undo told h) (the_same c.in-Some.stage _ c.args.slot.now.stage c.in-Some.is is) c.undo-ended.ensures)

@@ -7,4 +7,4 @@ use Rattle.session_slots.proofs.measures.count_in.Goals as goal
 pub returns-in-Some : goal.returns-in-Some
 returns-in-Some c = λ g is.
     let shows = seen c.in-Some.stage g c.args.slot.now.stage c.in-Some.is is c.arena.result.now.model c.arena.ensures.model in
-    (is, c.told-slot.ensures ∙ ap told (c.count_reply.ensures ∙ ap (λ (M : Model). count_reply M c.args.solid) shows))
+    (is, c.answer_count.ensures ∙ ap (λ (M : Model). told (count_reply M c.args.solid)) shows)

@@ -7,4 +7,4 @@ use Rattle.session_slots.proofs.measures.plane_in.Goals as goal
 pub returns-in-Some : goal.returns-in-Some
 returns-in-Some c = λ g is.
     let shows = seen c.in-Some.stage g c.args.slot.now.stage c.in-Some.is is c.arena.result.now.model c.arena.ensures.model in
-    (is, c.told-slot.ensures ∙ ap told (c.plane_reply.ensures ∙ ap (λ (M : Model). plane_reply M c.args.face) shows))
+    (is, c.answer_plane.ensures ∙ ap (λ (M : Model). told (plane_reply M c.args.face)) shows)

@@ -7,4 +7,4 @@ use Rattle.session_slots.proofs.measures.volume_in.Goals as goal
 pub returns-in-Some : goal.returns-in-Some
 returns-in-Some c = λ g is.
     let shows = seen c.in-Some.stage g c.args.slot.now.stage c.in-Some.is is c.arena.result.now.model c.arena.ensures.model in
-    (is, c.told-slot.ensures ∙ ap told (c.volume_reply.ensures ∙ ap (λ (M : Model). volume_reply M c.args.solid) shows))
+    (is, c.answer_volume.ensures ∙ ap (λ (M : Model). told (volume_reply M c.args.solid)) shows)

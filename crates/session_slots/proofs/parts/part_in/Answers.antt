@@ -13,6 +13,6 @@ returns-in-Some c = λ g is.
     let told = outcome c.part_on-ended.result in let h = c.part_on-ended.new.stage in let fs = c.args.faces.now in let t = c.args.made in (
       h,
       refl,
-      subst (λ (a : Answer). Moves_faces (face_refusal (shown g) (get_or fs 0 0)) g (part_of (shown g) fs t) a h) (sym c.tell.ensures)
+      subst (λ (a : Answer). Moves_faces (face_refusal (shown g) (get_or fs 0 0)) g (part_of (shown g) fs t) a h) (sym c.tell_outcome.ensures)
           (subst (λ (k : Stage). Moves_faces (face_refusal (shown k) (get_or fs 0 0)) k (part_of (shown k) fs t) told h) (the_same c.in-Some.stage g c.args.slot.now.stage c.in-Some.is is) c.part_on-ended.ensures),
     )

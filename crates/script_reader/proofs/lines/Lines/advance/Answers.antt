@@ -11,15 +11,19 @@ use Rattle.script_reader.proofs.lines.Lines.advance.Goals.{then-is_long, else-is
 pub loop-self-init : goal.loop-self-init
 loop-self-init g c = (starts (g.R.Read.remaining c.args.self.now.reader) c.args.self.now.taken c.args.self.now.buffer.unread, λ e f. absurd (cc (e, f)), λ _. (record { reader = refl; taken = refl; ending = refl }, refl))
 
-pub returns-then-line-gt-LINE_LIMIT-clause-advances : goal.returns-then-line-gt-LINE_LIMIT-clause-advances
-returns-then-line-gt-LINE_LIMIT-clause-advances g c =
+pub returns-then-line-gt-LINE_LIMIT : goal.returns-then-line-gt-LINE_LIMIT
+returns-then-line-gt-LINE_LIMIT g c =
     let old = c.loop-self.self in
     let took = subst (TakesLine old.buffer c.take_line.new.self) c.if-take_line.true c.take_line.ensures in
     let long : (c.loop-self.is_long ≡ true) ⊎ (65536 < length c.take_line.new.self.line) = elim c.if-is_long.branch [ then-is_long w ↦ inl (search rules) | else-is_long w ↦ inr (search rules) ] in
-    long_line (g.R.Read.remaining c.args.self.now.reader) (g.R.Read.remaining old.reader) c.args.self.now.taken old.taken c.args.self.now.buffer.unread old.buffer.unread c.take_line.new.self c.loop-self.is_long old.ending c.loop-self.invariant.0 took.0 took.1 long
+    record {
+      advances = long_line (g.R.Read.remaining c.args.self.now.reader) (g.R.Read.remaining old.reader) c.args.self.now.taken old.taken c.args.self.now.buffer.unread old.buffer.unread c.take_line.new.self c.loop-self.is_long old.ending c.loop-self.invariant.0 took.0 took.1 long;
+      end = search rules;
+      still = search rules;
+    }
 
-pub returns-then-ne-clause-advances : goal.returns-then-ne-clause-advances
-returns-then-ne-clause-advances g c =
+pub returns-then-ne : goal.returns-then-ne
+returns-then-ne g c =
     let old = c.loop-self.self in
     let first = c.args.self.now in
     let new = c.last.new.self in
@@ -28,7 +32,11 @@ returns-then-ne-clause-advances g c =
     let w = Waits-same (g.R.Read.remaining first.reader) (g.R.Read.remaining old.reader) (g.R.Read.remaining new.reader) first.taken old.taken new.taken first.buffer.unread old.buffer.unread c.take_line.new.self.unread c.loop-self.is_long c.loop-self.is_long
     (ap g.R.Read.remaining c.last.ensures.still.reader) c.last.ensures.still.taken rest.0 refl c.loop-self.invariant.0 in
     let answer = subst (λ (e : Ending). LastAnswer c.take_line.new.self new.buffer e c.loop-self.is_long c.last.result) (sym c.last.ensures.still.ending) c.last.ensures.answer in
-    last_answer (g.R.Read.remaining first.reader) (g.R.Read.remaining new.reader) first.taken new.taken first.buffer.unread c.take_line.new.self new.buffer c.loop-self.is_long new.ending c.last.result w lacks answer
+    record {
+      advances = last_answer (g.R.Read.remaining first.reader) (g.R.Read.remaining new.reader) first.taken new.taken first.buffer.unread c.take_line.new.self new.buffer c.loop-self.is_long new.ending c.last.result w lacks answer;
+      end = search rules;
+      still = search rules;
+    }
 
 pub loop-self-preserved : goal.loop-self-preserved
 loop-self-preserved g c =

@@ -11,38 +11,38 @@ use std::ptr;
 /// A box whose pointer lies with C, or none.
 #[repr(C)]
 #[derive(Drop)]
-pub struct Held {
+pub struct Kept {
     at: *mut u8,
     ghost value: { Option Slot },
 }
 
-impl Model for Held {
-    ghost use Rattle.gwb_c.specs.Owned.{held_owns};
+impl Model for Kept {
+    ghost use Rattle.gwb_c.specs.Owned.{kept_owns};
 
-    ghost also_owns = { λ h. held_owns h.at h.value };
+    ghost also_owns = { λ h. kept_owns h.at h.value };
 }
 
-impl Held {
+impl Kept {
     /// No box.
-    pub(crate) fn none() -> Held
+    pub(crate) fn none() -> Kept
         ensures { result.value ≡ None }
     {
         let at = ptr::null_mut();
-        Held { at }
+        Kept { at }
     }
 
-    fn lay_down(loose: Loose<Slot, Global>) -> Held
+    fn lay_down(loose: Loose<Slot, Global>) -> Kept
         ensures { result.value ≡ Some loose.value }
     {
         let Loose { at, alloc: _ } = loose;
-        Held { at: at as *mut u8 }
+        Kept { at: at as *mut u8 }
     }
 
     fn take_up(self, alloc: Global) -> Loose<Slot, Global>
         requires { IsSome self.value }
         ensures { Some result.value ≡ self.value }
     {
-        let Held { at } = self;
+        let Kept { at } = self;
         Loose {
             at: at as *mut Slot,
             alloc,
@@ -50,10 +50,10 @@ impl Held {
     }
 
     /// Puts a box down.
-    pub(crate) fn of(boxed: Box<Slot, Global>) -> Held
+    pub(crate) fn of(boxed: Box<Slot, Global>) -> Kept
         ensures { result.value ≡ Some boxed.value }
     {
-        Held::lay_down(Loose::of(boxed))
+        Kept::lay_down(Loose::of(boxed))
     }
 
     /// Takes the box up again.
