@@ -27,5 +27,5 @@ pub use laws::{
     lines_and_words_are_parts, lines_come_in_order, reading_is_spelling, the_end_stays,
 };
 pub use line::read_line;
-pub use lines::{Found, Lines};
+pub use lines::{Found, Lines, NextLine};
 pub use polygon::{Corners, Polygon};

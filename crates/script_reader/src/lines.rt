@@ -33,6 +33,21 @@ pub enum Found {
     TooLong,
 }
 
+/// What comes next in a script, with the line.
+#[derive(Debug, Drop)]
+pub enum NextLine<'a> {
+    /// A line, without its newline: at most 65,536 bytes.
+    Line(&'a [u8]),
+    /// A line of more bytes. It is skipped to its newline.
+    Long,
+    /// The reader gave its end.
+    End,
+    /// A read failed. What was read after the last newline is no line.
+    Read,
+    /// The reader gave a byte past 67,108,864. What was read after the last newline is no line.
+    TooLong,
+}
+
 /// The lines of a script, one after the other. Reads are as big as the buffer allows.
 #[derive(Drop)]
 pub struct Lines<R> {
@@ -48,10 +63,13 @@ impl<R: Read> Lines<R> {
     ghost use Rattle.std.specs.Prelude.{◌≡◌, ◌≢◌, ◌≤◌, ◌<◌, true, length};
     ghost use Rattle.std.specs.Io.KnownBytes.{IsAtEnd};
     ghost use Rattle.script_reader.specs.Lines.{Reads, LastAnswer};
-    ghost use Rattle.script_reader.specs.Next.{Went};
+    ghost use Rattle.script_reader.specs.Next.{Went, Gives};
     ghost use Rattle.script_reader.specs.declared.lines.Ending.TheVariants.{Open, Ended};
     ghost use Rattle.script_reader.specs.Newline.{has_newline};
     ghost use Rattle.script_reader.specs.State.{has_line, line_of, unread_of, IsStill};
+    ghost use Rattle.script_reader.specs.contracts.lines.Lines.{the_row};
+    ghost use Rattle.std.specs.Io.BufRead.{Rests};
+    ghost use Rattle.std.specs.Borrow.{sem};
 
     /// Reads some bytes. Its rooms are its own, so that no line that is there pays for them.
     #[inline(never)]
@@ -124,6 +142,20 @@ impl<R: Read> Lines<R> {
                 is_long = true;
             }
             self.fill();
+        }
+    }
+
+    /// The next line, or what comes in its place. After the end, a failed read or a script that is too long it
+    /// answers the same again and reads nothing. It takes no memory.
+    pub fn next_line(&mut self) -> NextLine<'_>
+        ensures* { sem 𝓛 (Rests (the_row R.row) self.entry (λ new. Gives R.remaining self.old new result)) }
+    {
+        match self.advance() {
+            Found::Line => NextLine::Line(self.buffer.line()),
+            Found::Long => NextLine::Long,
+            Found::End => NextLine::End,
+            Found::Read => NextLine::Read,
+            Found::TooLong => NextLine::TooLong,
         }
     }
 
