@@ -1,4 +1,4 @@
-//! What an arena says of a corner.
+//! A corner's number, loop and vertex, and whether what it names is there.
 ghost use Rattle.std.specs.Prelude.{◌≡◌, true, [], ◌∷◌};
 ghost use Rattle.euler_operators.specs.Model.{content};
 ghost use Rattle.halfedge_arena.specs.Store.{has_number};

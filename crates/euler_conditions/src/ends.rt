@@ -1,4 +1,4 @@
-//! What an arena says of the two ends of an edge.
+//! The tests of kev: the least parallel edge of an edge, and whether its kept end is bare.
 ghost use Rattle.std.specs.Prelude.{◌≡◌, true, cond};
 ghost use Rattle.euler_operators.specs.HalfEdge.{code, edge_of};
 ghost use Rattle.euler_operators.specs.Model.{round, tail};

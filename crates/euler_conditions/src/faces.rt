@@ -1,4 +1,4 @@
-//! What an arena says of loops and faces that are there.
+//! The face of a loop, whether the loop is a ring of it, and whether a face has rings.
 ghost use Rattle.std.specs.Prelude.{◌≡◌, true};
 ghost use Rattle.euler_operators.specs.Model.{face_of, is_ring_of};
 ghost use Rattle.halfedge_arena.specs.Store.{has_number};

@@ -1,4 +1,4 @@
-//! What an arena says of a half-edge whose edge is there.
+//! A half-edge's mate, vertex, next item, loop and face, and whether two are the same.
 ghost use Rattle.std.specs.Prelude.{◌≡◌, true, nat_eq};
 ghost use Rattle.euler_operators.specs.HalfEdge.{code, mate};
 ghost use Rattle.euler_operators.specs.Model.{after, tail, loop_of};

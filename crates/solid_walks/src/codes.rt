@@ -1,4 +1,4 @@
-//! What an arena says of half-edges by their codes, for walks that look at many: a code is one number to carry and to compare.
+//! Half-edges by their codes, for walks that look at many: a code is one number to carry and to compare.
 ghost use Rattle.std.specs.Prelude.{◌≡◌, ◌≤◌, true};
 ghost use Rattle.euler_operators.specs.Points.{IsInRange};
 ghost use Rattle.euler_operators.specs.HalfEdge.{mate};

@@ -1,4 +1,4 @@
-//! What an arena says of a half-edge whose edge is there.
+//! The points at which a half-edge starts and ends, and the item before it in its loop.
 ghost use Rattle.std.specs.Prelude.{◌≡◌, true};
 ghost use Rattle.euler_operators.specs.HalfEdge.{code};
 ghost use Rattle.euler_operators.specs.Model.{before, has_half};

@@ -1,4 +1,4 @@
-//! What an arena says of half-edges.
+//! The item after a half-edge in its loop.
 ghost use Rattle.std.specs.Prelude.{◌≡◌, true};
 ghost use Rattle.euler_operators.specs.HalfEdge.{code};
 ghost use Rattle.euler_operators.specs.Model.{after, has_half};
