@@ -1,5 +1,5 @@
 #!/usr/bin/env python3
-"""The manual page docs/gwb.1 is made from VERSION, the help text of gwb (crates/gwb/src/words.rt) and docs/SCRIPT.md.
+"""The manual page docs/gwb.1 is made from VERSION, the help text of gwb (crates/command_line/src/words.rt) and docs/SCRIPT.md.
 
     tests/pages.py [--write]
 
@@ -98,7 +98,7 @@ def options(source: str) -> Iterator[str]:
 
 def manual() -> str:
     """The manual page."""
-    source = (TOP / 'crates' / 'gwb' / 'src' / 'words.rt').read_text()
+    source = (TOP / 'crates' / 'command_line' / 'src' / 'words.rt').read_text()
     about = re.search(r'ABOUT: &str =\s*"The Geometric WorkBench: (.*)";', source).group(1)
     example = re.search(r'^Example:\n +(.*)";$', source, re.MULTILINE).group(1).replace('\\\\', '\\')
     found = sections()

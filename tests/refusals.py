@@ -122,7 +122,7 @@ MAKERS = {
 
 def help_names(title: str) -> Names:
     """The names in a table of the help text."""
-    table = re.search(rf'^{title}:\n(.*?)\n\n', text_of('crates/gwb/src/words.rt'), re.MULTILINE | re.DOTALL)
+    table = re.search(rf'^{title}:\n(.*?)\n\n', text_of('crates/command_line/src/words.rt'), re.MULTILINE | re.DOTALL)
     return {int(number): name for number, name in sorted(re.findall(r'(\d+) ([A-Z]\w+)', table.group(1) if table else ''), key=_first)}
 
 
@@ -148,12 +148,12 @@ def findings(names: Names) -> Iterator[str]:
     yield '' if list(names) == list(range(1, len(names) + 1)) and names else 'crates/euler_operators: the numbers have gaps, or are not found'
     for file, make in MAKERS.items():
         yield '' if text_of(file) == make(names) else f'{file} is not the one that --write makes'
-    yield '' if help_names('Refusals') == names else 'crates/gwb/src/words.rt: the help text has other names'
+    yield '' if help_names('Refusals') == names else 'crates/command_line/src/words.rt: the help text has other names'
     yield '' if page_names() == names else 'docs/SCRIPT.md: the table of refusals has other names'
     last = [capitals(name) for name in list(names.values())[-1:]]
     yield '' if header_names() == last else 'bindings/include/gwb.hpp: its last condition is another'
     faults = {number: meaning.name for number, meaning in FAULTS.items()}
-    yield '' if help_names('Faults') == faults else 'crates/gwb/src/words.rt: its faults are not those of companions/gwb/language.py'
+    yield '' if help_names('Faults') == faults else 'crates/command_line/src/words.rt: its faults are not those of companions/gwb/language.py'
 
 
 def main() -> int:

@@ -26,7 +26,7 @@ class Place(NamedTuple):
 def places(version: str) -> Iterator[Place]:
     """Where the version stands; what isn't needed is compared where it is there."""
     major, minor, patch = map(int, version.split('.'))
-    yield Place('crates/gwb/src/words.rt', r'\.version\("(.*)"\)', version)
+    yield Place('crates/command_line/src/words.rt', r'\.version\("(.*)"\)', version)
     yield Place('companions/gwb/version.py', r"^VERSION = '(.*)'$", version)
     yield Place('companions/pyproject.toml', r'^version = \{ attr = "(.*)" \}$', 'gwb.version.VERSION')
     yield Place('bindings/gwb.pc.in', r'^Version: (.*)$', version)

@@ -6,26 +6,20 @@
 //!
 //! # What is proved
 //!
-//! `read_words` gives the flag `--stop` and the value FILE of the matches that clap's own definitions give for the words, and
-//! succeeds only where clap has no cause to refuse them. Refused memory is no mistake in the words, and help that can't be
-//! written is a write fault (`Trouble`). `status_of` answers the status that belongs to how the program ended, which is how `run`
-//! did; that the process ends with it isn't said.
+//! A script is answered as `run` promises (`answer`). The words of the command line and the exit status are `command_line`'s, and
+//! proved there; that the process ends with that status isn't said.
 #![tactic(auto)]
 
-ghost use Rattle.gwb.specs.Endings.{Answered};
+ghost use Rattle.command_line.specs.Endings.{Answered};
 
-mod ending;
-mod words;
-
-pub use ending::{Trouble, status_of};
+use command_line::not_text;
+pub use command_line::{Choice, Trouble, WordsFault, read_words, status_of};
 pub use script_running::{RunFault, Summary, run};
 use std::alloc::{AllocError, Global};
 use std::env;
 use std::fs::File;
 use std::io::{BufWriter, ErrorKind, Read, Write};
 use std::process::ExitCode;
-use words::not_text;
-pub use words::{Choice, WordsFault, read_words};
 
 /// The words of the command line.
 fn given(rt: &HostRuntime) -> Result<Vec<String>, WordsFault> {

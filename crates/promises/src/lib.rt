@@ -10,7 +10,7 @@
 //! - points, sides of a plane and cut points: `lattice/src`;
 //! - the faces of new solids, what larger commands leave as it was, and what `counts` answers after them: `command_laws/src/lib.rt`,
 //!   `split_frames/src/lib.rt`, `split_caps/src/lib.rt`;
-//! - the grammar, the command line and the exit status: `script_reader/src/line.rt`, `gwb/src`.
+//! - the grammar, the command line and the exit status: `script_reader/src/line.rt`, `command_line/src`.
 //!
 //! # What is proved
 //!

@@ -4,7 +4,7 @@ use Rattle.clap.specs.Words.{Text, first_of, matches_of}
 use Rattle.clap.specs.Faults.{fault_of}
 use Rattle.clap.specs.declared.error.kind.ErrorKind.TheVariants as kind
 use Rattle.clap.proofs.OnLiterals.{clap_on_literals}
-use Rattle.gwb.specs.Words.{command_line}
+use Rattle.command_line.specs.Words.{command_line}
 
 -- gwb --stop a
 abbrev both : List Text

@@ -4,8 +4,8 @@ use Rattle.std.proofs.lemmas.Result.{IfOk-weaker}
 use Rattle.clap.specs.Words.{App, is_simple, matches_of}
 use Rattle.clap.specs.Faults.{fault_of, is_simple_and_free}
 use Rattle.clap.specs.Kinds.{FailsBy}
-use Rattle.gwb.proofs.CommandLine.{is_taken_whole, is_free}
-use Rattle.gwb.proofs.words.parse.Goals as goal
+use Rattle.command_line.proofs.CommandLine.{is_taken_whole, is_free}
+use Rattle.command_line.proofs.words.parse.Goals as goal
 
 pub returns-clause-matches : goal.returns-clause-matches
 returns-clause-matches c =

@@ -5,9 +5,9 @@ use Rattle.clap.specs.Words.{App, Row, Rule, first_of, new_app, new_rule, with_r
 use Rattle.clap.specs.Simple.{on_top}
 use Rattle.clap.specs.Kinds.{Kinds, HasKind}
 use Rattle.clap.specs.declared.builder.ArgAction.TheVariants.{SetTrue}
-use Rattle.gwb.specs.declared.words.Choice.{Choice}
-use Rattle.gwb.specs.declared.words.WordsFault.{WordsFault}
-use Rattle.gwb.specs.declared.words.WordsFault.TheVariants.{Line, Memory}
+use Rattle.command_line.specs.declared.words.Choice.{Choice}
+use Rattle.command_line.specs.declared.words.WordsFault.{WordsFault}
+use Rattle.command_line.specs.declared.words.WordsFault.TheVariants.{Line, Memory}
 
 -- the flag --stop
 abbrev pub stop_flag : Rule

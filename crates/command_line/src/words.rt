@@ -5,7 +5,7 @@ ghost use Rattle.clap.specs.Words.{app_of, first_of, found_of, kind_of, matches_
 ghost use Rattle.clap.specs.Kinds.{FailsBy, HasKind};
 ghost use Rattle.clap.specs.declared.error.kind.ErrorKind.TheVariants.{InvalidValue};
 ghost use Rattle.clap.specs.Faults.{fault_of};
-ghost use Rattle.gwb.specs.Words.{command_line, file_value, program, stop_flag, Chosen, Fails};
+ghost use Rattle.command_line.specs.Words.{command_line, file_value, program, stop_flag, Chosen, Fails};
 
 use clap::error::ErrorKind;
 use clap::{Arg, ArgAction, ArgMatches, Command};
@@ -146,7 +146,7 @@ fn refusal_of_bytes(alloc: Global) -> Result<clap::Error, AllocError>
 }
 
 /// The refusal of words that are no UTF-8.
-pub(crate) fn not_text(alloc: Global) -> clap::Error
+pub fn not_text(alloc: Global) -> clap::Error
     ensures { HasKind (InvalidValue ∷ []) result }
 {
     match refusal_of_bytes(alloc) {

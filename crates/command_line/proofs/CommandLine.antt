@@ -6,7 +6,7 @@ use Rattle.std.specs.Str.{bytes_eq}
 use Rattle.std.proofs.lemmas.Slice.Eq.{bytes_eq-Decides}
 use Rattle.clap.proofs.WalkLemmas.{first_value-rows}
 use Rattle.clap.specs.Faults.{is_simple_and_free}
-use Rattle.gwb.specs.Words.{command_line}
+use Rattle.command_line.specs.Words.{command_line}
 
 pub is_taken_whole : is_simple command_line ≡ true
 unfolding command_line

@@ -9,10 +9,10 @@ use Rattle.script_running.specs.Runs.{Runs}
 use Rattle.script_running.specs.declared.script_judging.judging.Summary.{Summary}
 use Rattle.script_running.specs.declared.running.RunFault.{RunFault}
 use Rattle.script_running.specs.declared.running.RunFault.TheVariants as fault
-use Rattle.gwb.specs.declared.words.WordsFault.{WordsFault}
-use Rattle.gwb.specs.declared.words.WordsFault.TheVariants as words
-use Rattle.gwb.specs.declared.ending.Trouble.{Trouble}
-use Rattle.gwb.specs.declared.ending.Trouble.TheVariants as trouble
+use Rattle.command_line.specs.declared.words.WordsFault.{WordsFault}
+use Rattle.command_line.specs.declared.words.WordsFault.TheVariants as words
+use Rattle.command_line.specs.declared.ending.Trouble.{Trouble}
+use Rattle.command_line.specs.declared.ending.Trouble.TheVariants as trouble
 
 -- clap was asked for a text, or refused the words
 abbrev pub line_status : ErrorKind → ℕ

@@ -2,7 +2,7 @@
 ghost use Rattle.std.specs.Prelude.{◌≡◌, ◌⊎◌};
 ghost use Rattle.clap.specs.Words.{kind_of};
 ghost use Rattle.clap.specs.declared.error.kind.ErrorKind.TheVariants as kind;
-ghost use Rattle.gwb.specs.Endings.{complains, status, trouble_of, trouble_told};
+ghost use Rattle.command_line.specs.Endings.{complains, status, trouble_of, trouble_told};
 
 use crate::words::WordsFault;
 use clap::error::ErrorKind;
@@ -40,7 +40,7 @@ impl From<WordsFault> for Trouble {
 
 impl Trouble {
     /// The trouble of clap's text, once it was printed or could not be: help that can't be written is a write fault.
-    pub(crate) fn told(error: clap::Error, is_printed: bool) -> Trouble
+    pub fn told(error: clap::Error, is_printed: bool) -> Trouble
         ensures { result ≡ trouble_told error is_printed }
     {
         match error.kind() {
@@ -52,7 +52,7 @@ impl Trouble {
     }
 
     /// Whether the program says on standard error why it ends; clap's text says it by itself.
-    pub(crate) fn complains(&self) -> bool
+    pub fn complains(&self) -> bool
         ensures { result ≡ complains self.now }
     {
         match self {
