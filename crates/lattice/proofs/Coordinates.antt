@@ -3,12 +3,13 @@ use Rattle.std.proofs.Common.{◌≡◌, Bool, true, false, cond, ℤ, pos, Some
 use Rattle.std.specs.Prelude.{◌-ℤ◌, ◌*ℤ◌, ◌&&◌, Option}
 use Rattle.std.specs.Int.RustNames.{int_div, int_rem}
 use Rattle.std.specs.Ordering.{int_eq}
+use Rattle.std.specs.Cmp.Derive.{both_true}
 use Rattle.lattice.specs.declared.Point.{Point}
 use Rattle.lattice.specs.declared.Plane.{Plane}
-use Rattle.lattice.specs.Point.{is_coordinate}
+use Rattle.lattice.specs.Point.{is_coordinate, IsInRange}
 use Rattle.lattice.specs.Ranges.{IsWithin}
-use Rattle.lattice.specs.Vectors.{height, whole_quotient, cut_multiple, cut_point}
-use Rattle.lattice.proofs.Magnitudes.{fits, held, held_short, held_is, coordinate_is}
+use Rattle.lattice.specs.Vectors.{height, opposite, whole_quotient, cut_multiple, cut_point}
+use Rattle.lattice.proofs.Magnitudes.{fits, held, held_short, held_is, coordinate_is, coordinate_held}
 
 -- a coordinate that the code asked for
 pub coordinate_told : (r : Option ℤ) (from to m n h k : ℤ) → is_coordinate from ≡ true → is_coordinate to ≡ true → m ≡ h → n ≡ k → IsWithin 6000000000000000000 m → IsWithin 6000000000000000000 n →
@@ -16,6 +17,12 @@ pub coordinate_told : (r : Option ℤ) (from to m n h k : ℤ) → is_coordinate
 coordinate_told r from to m n h k kf kt em en wm wn e =
     let p : held m ≡ h = held_is m (fits _ _ wm (omega arith)) ∙ em in let q : held n ≡ k = held_is n (fits _ _ wn (omega arith)) ∙ en in
     e ∙ (λ i. whole_quotient (coordinate_is to kt i *ℤ p i -ℤ coordinate_is from kf i *ℤ q i) (p i -ℤ q i))
+
+pub opposite_told : (m n h k : ℤ) → m ≡ h → n ≡ k → IsWithin 6000000000000000000 m → IsWithin 6000000000000000000 n → opposite h k ≡ true → opposite (held m) (held n) ≡ true
+opposite_told m n h k em en wm wn o = (λ i. opposite ((held_is m (fits _ _ wm (omega arith)) ∙ em) i) ((held_is n (fits _ _ wn (omega arith)) ∙ en) i)) ∙ o
+
+pub range_told : (x y z : ℤ) → is_coordinate x ≡ true → is_coordinate y ≡ true → is_coordinate z ≡ true → IsInRange (record { x = held_short x; y = held_short y; z = held_short z })
+range_told x y z kx ky kz = both_true (coordinate_held x kx) (both_true (coordinate_held y ky) (coordinate_held z kz))
 
 abbrev part : Bool → ℤ → Option ℤ
 part e a = cond e (Some a) None

@@ -6,7 +6,7 @@ use Rattle.std.specs.Int.{cast_signed, cast_unsigned}
 use Rattle.std.proofs.lemmas.Int.{ints, to_z-of_z, unsigned_abs-mul, fits_signed_from_abs}
 use Rattle.std.proofs.lemmas.Bool.{and_parts}
 use Rattle.std.proofs.Math.Nat.{mul-le-mul}
-use mir.Syntax.{w64, w128}
+use mir.Syntax.{w32, w64, w128}
 use Rattle.lattice.specs.declared.Point.{Point}
 use Rattle.lattice.specs.Point.{is_coordinate, IsInRange}
 use Rattle.lattice.specs.Ranges.{IsWithin, IsVectorWithin}
@@ -48,11 +48,21 @@ held_is z f = to_z-of_z w128 z f
 abbrev pub held_short : ℤ → ℤ
 held_short z = cast_signed w64 (cast_unsigned w64 z)
 
+coordinate_fits : (x : ℤ) → is_coordinate x ≡ true → FitsSigned w64 x
+coordinate_fits x e = fits_signed_from_abs w64 x (omega (arith, coordinate_within x e))
+
 pub coordinate_is : (x : ℤ) → is_coordinate x ≡ true → held_short x ≡ x
-coordinate_is x e = to_z-of_z w64 x (fits_signed_from_abs w64 x (omega (arith, coordinate_within x e)))
+coordinate_is x e = to_z-of_z w64 x (coordinate_fits x e)
 
 pub coordinate_held : (x : ℤ) → is_coordinate x ≡ true → is_coordinate (held_short x) ≡ true
 coordinate_held x e = ap is_coordinate (coordinate_is x e) ∙ e
+
+-- a coordinate fits 32 bits
+pub packed_fits : (x : ℤ) → is_coordinate x ≡ true → FitsSigned w32 (held_short x)
+packed_fits x e = subst (FitsSigned w32) (sym (coordinate_is x e)) (fits_signed_from_abs w32 x (omega (arith, coordinate_within x e)))
+
+pub packed_is : (x : ℤ) → is_coordinate x ≡ true → cast_signed w32 (cast_unsigned w32 (held_short x)) ≡ x
+packed_is x e = to_z-of_z w32 (held_short x) (packed_fits x e) ∙ coordinate_is x e
 
 pub product_is : (a x r : ℤ) → FitsSigned w128 a → FitsSigned w128 r → r ≡ x → held a *ℤ held r ≡ a *ℤ x
 product_is a x r fa fr e = λ i. held_is a fa i *ℤ (held_is r fr ∙ e) i
@@ -67,6 +77,9 @@ fits_as z y e f = subst (FitsSigned w128) (sym e) f
 pub held_as : (z y : ℤ) → z ≡ y → FitsSigned w128 y → held z ≡ y
 held_as z y e f = ap held e ∙ held_is y f
 
+pub held_within : (m : ℕ) (z : ℤ) → IsWithin m z → m ≤ 100000000000000000000000000000000000000 → IsWithin m (held z)
+held_within m z w least = subst (IsWithin m) (sym (held_is z (fits m z w least))) w
+
 -- ---- what the code makes of sums and differences
 
 -- what the code makes fits, is exact, and is at most k in magnitude
@@ -74,8 +87,26 @@ pub record Told (k : ℕ) (z y : ℤ) : Type 0 where
   pub fits : FitsSigned w128 z
   pub made : z ≡ y
   pub kept : held z ≡ y
+  pub told_within : IsWithin k y
   pub made_within : IsWithin k z
   pub kept_within : IsWithin k (held z)
+
+-- what is equal to a number at most k in magnitude
+told_as : (k : ℕ) (z y : ℤ) → z ≡ y → IsWithin k y → k ≤ 100000000000000000000000000000000000000 → Told k z y
+told_as k z y e w least =
+    let f = fits k y w least in let h = held_as z y e f in record {
+      fits = fits_as z y e f;
+      made = e;
+      kept = h;
+      told_within = w;
+      made_within = subst (IsWithin k) (sym e) w;
+      kept_within = subst (IsWithin k) (sym h) w;
+    }
+
+-- a number at most m in magnitude times a coordinate, which the code holds as r
+pub scaled_told : (m k : ℕ) (a x r : ℤ) → IsWithin m a → is_coordinate x ≡ true → FitsSigned w128 a → FitsSigned w128 r → r ≡ held_short x → m * 1000000000 ≡ k →
+    k ≤ 100000000000000000000000000000000000000 → Told k (held a *ℤ held r) (a *ℤ x)
+scaled_told m k a x r w kx fa fr e room least = told_as k (held a *ℤ held r) (a *ℤ x) (product_is a x r fa fr (e ∙ coordinate_is x kx)) (product_within a x m _ k w (coordinate_within x kx) room) least
 
 module _ (k l m : ℕ) (p q a b : ℤ) (is_a : p ≡ a) (is_b : q ≡ b) (wa : IsWithin k a) (wb : IsWithin l b) (room : k + l ≤ m) (least : m ≤ 100000000000000000000000000000000000000) where
   parts_are : held p -ℤ held q ≡ a -ℤ b
@@ -83,14 +114,7 @@ module _ (k l m : ℕ) (p q a b : ℤ) (is_a : p ≡ a) (is_b : q ≡ b) (wa : I
 
   -- the difference of two numbers that the code made
   pub difference_told : Told m (held p -ℤ held q) (a -ℤ b)
-  difference_told =
-      let w = difference_within a b k l m wa wb room in let f = fits m (a -ℤ b) w least in let h = held_as (held p -ℤ held q) (a -ℤ b) parts_are f in record {
-        fits = fits_as (held p -ℤ held q) (a -ℤ b) parts_are f;
-        made = parts_are;
-        kept = h;
-        made_within = subst (IsWithin m) (sym parts_are) w;
-        kept_within = subst (IsWithin m) (sym h) w;
-      }
+  difference_told = told_as m (held p -ℤ held q) (a -ℤ b) parts_are (difference_within a b k l m wa wb room) least
 
 -- ---- one number of a cross product
 
@@ -110,6 +134,9 @@ short_product_within a b ka kb = product_within a b _ _ _ (coordinate_within a k
 
 short_product_is : (a b : ℤ) → is_coordinate a ≡ true → is_coordinate b ≡ true → short_product a b ≡ a *ℤ b
 short_product_is a b ka kb = ap held_short (λ i. coordinate_is a ka i *ℤ coordinate_is b kb i) ∙ short_is (a *ℤ b) (let w = short_product_within a b ka kb in omega (arith, w))
+
+pub short_product_fits : (a b : ℤ) → is_coordinate a ≡ true → is_coordinate b ≡ true → FitsSigned w64 (held_short a *ℤ held_short b)
+short_product_fits a b ka kb = subst (FitsSigned w64) (λ i. sym (coordinate_is a ka) i *ℤ sym (coordinate_is b kb) i) (short_fits (a *ℤ b) (let w = short_product_within a b ka kb in omega (arith, w)))
 
 module _ (a b c d : ℤ) (ka : is_coordinate a ≡ true) (kb : is_coordinate b ≡ true) (kc : is_coordinate c ≡ true) (kd : is_coordinate d ≡ true) where
   minor_made : short_product a d -ℤ short_product b c ≡ a *ℤ d -ℤ b *ℤ c
@@ -140,21 +167,11 @@ module _ (m n k : ℕ) (a b : ℤ) (wa : IsWithin m a) (wb : IsWithin n b) (room
   second_fits : FitsSigned w128 b
   second_fits = fits n b wb (omega arith)
 
-  whole_fits : FitsSigned w128 (a +ℤ b)
-  whole_fits = fits k (a +ℤ b) (sum_within a b m n k wa wb room) least
-
   made_is : held a +ℤ held b ≡ a +ℤ b
   made_is = sum_is a b first_fits second_fits
 
   pub sum_told : Told k (held a +ℤ held b) (a +ℤ b)
-  sum_told =
-      let w = sum_within a b m n k wa wb room in let h = held_as (held a +ℤ held b) (a +ℤ b) made_is whole_fits in record {
-        fits = fits_as (held a +ℤ held b) (a +ℤ b) made_is whole_fits;
-        made = made_is;
-        kept = h;
-        made_within = subst (IsWithin k) (sym made_is) w;
-        kept_within = subst (IsWithin k) (sym h) w;
-      }
+  sum_told = told_as k (held a +ℤ held b) (a +ℤ b) made_is (sum_within a b m n k wa wb room) least
 
 -- what the numbers of a cross product are told as
 pub minor_of : (m a b c d : ℤ) → is_coordinate a ≡ true → is_coordinate b ≡ true → is_coordinate c ≡ true → is_coordinate d ≡ true →
@@ -167,9 +184,14 @@ pub times_of : (m a x : ℤ) → FitsSigned w128 a → is_coordinate x ≡ true 
 times_of m a x fa kx e = e ∙ (λ i. held_is a fa i *ℤ coordinate_is x kx i)
 
 -- the sum of two coordinates' numbers
+pub coordinate_sum_fits : (a b : ℤ) → FitsSigned w64 a → FitsSigned w64 b → is_coordinate (a +ℤ b) ≡ true → FitsSigned w64 (held_short a +ℤ held_short b)
+coordinate_sum_fits a b fa fb k = subst (FitsSigned w64) (λ i. sym (to_z-of_z w64 a fa) i +ℤ sym (to_z-of_z w64 b fb) i) (coordinate_fits (a +ℤ b) k)
+
 pub coordinate_sum : (a b : ℤ) → FitsSigned w64 a → FitsSigned w64 b → is_coordinate (a +ℤ b) ≡ true → held_short (held_short a +ℤ held_short b) ≡ a +ℤ b
 coordinate_sum a b fa fb k = ap held_short (λ i. to_z-of_z w64 a fa i +ℤ to_z-of_z w64 b fb i) ∙ coordinate_is (a +ℤ b) k
 
--- the product of a coordinate's number r and m
-pub product_of : (r x m : ℤ) → FitsSigned w128 r → FitsSigned w128 m → is_coordinate x ≡ true → r ≡ held_short x → held r *ℤ held m ≡ x *ℤ m
-product_of r x m fr fm k e = λ i. (held_is r fr ∙ e ∙ coordinate_is x k) i *ℤ held_is m fm i
+-- the product of a coordinate's number r and a number m at most k in magnitude
+pub product_told : (k l : ℕ) (x m r : ℤ) → is_coordinate x ≡ true → IsWithin k m → FitsSigned w128 r → FitsSigned w128 m → r ≡ held_short x → 1000000000 * k ≡ l →
+    l ≤ 100000000000000000000000000000000000000 → Told l (held r *ℤ held m) (x *ℤ m)
+product_told k l x m r kx w fr fm e room least =
+    told_as l (held r *ℤ held m) (x *ℤ m) (λ i. (held_is r fr ∙ e ∙ coordinate_is x kx) i *ℤ held_is m fm i) (product_within x m _ k l (coordinate_within x kx) w room) least

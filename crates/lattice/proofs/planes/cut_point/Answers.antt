@@ -1,7 +1,7 @@
-use Rattle.std.proofs.Common.{◌∙◌}
+use Rattle.std.proofs.Common.{◌∙◌, arith}
 use Rattle.lattice.specs.Vectors.{height}
-use Rattle.lattice.proofs.Magnitudes.{coordinates, coordinate_held}
-use Rattle.lattice.proofs.Coordinates.{coordinate_told, off_x, off_y, off_z, on_all}
+use Rattle.lattice.proofs.Magnitudes.{coordinates, coordinate_held, held_within}
+use Rattle.lattice.proofs.Coordinates.{coordinate_told, opposite_told, range_told, off_x, off_y, off_z, on_all}
 use Rattle.lattice.proofs.planes.cut_point.Goals as goal
 
 pub cut_coordinate-requires-clause-from : goal.cut_coordinate-requires-clause-from
@@ -45,3 +45,33 @@ returns-clause-is c =
     let z = coordinate_told c.cut_coordinate-3.result p.z q.z c.cut_height-start.result c.cut_height-end.result (height s p) (height s q) ps.2 qs.2 c.cut_height-start.ensures.is c.cut_height-end.ensures.is c.cut_height-start.ensures.within c.cut_height-end.ensures.within c.cut_coordinate-3.ensures.is in
     on_all s p q c.cut_coordinate.result c.cut_coordinate-2.result c.cut_coordinate-3.result c.in_ok-cut_coordinate.field-0 c.in_ok-cut_coordinate-2.field-0 c.in_ok-cut_coordinate-3.field-0 x y z
     c.in_ok-cut_coordinate.was c.in_ok-cut_coordinate-2.was c.in_ok-cut_coordinate-3.was c.in_ok-cut_coordinate.ensures.range c.in_ok-cut_coordinate-2.ensures.range c.in_ok-cut_coordinate-3.ensures.range
+
+pub cut_coordinate-requires-clause-start : goal.cut_coordinate-requires-clause-start
+cut_coordinate-requires-clause-start c = held_within _ c.cut_height-start.result c.cut_height-start.ensures.within (omega arith)
+
+pub cut_coordinate-requires-clause-end : goal.cut_coordinate-requires-clause-end
+cut_coordinate-requires-clause-end c = held_within _ c.cut_height-end.result c.cut_height-end.ensures.within (omega arith)
+
+pub cut_coordinate-requires-clause-opposite : goal.cut_coordinate-requires-clause-opposite
+cut_coordinate-requires-clause-opposite c = opposite_told _ _ _ _ c.cut_height-start.ensures.is c.cut_height-end.ensures.is c.cut_height-start.ensures.within c.cut_height-end.ensures.within c.requires.opposite
+
+pub cut_coordinate-requires-2-clause-start : goal.cut_coordinate-requires-2-clause-start
+cut_coordinate-requires-2-clause-start c = held_within _ c.cut_height-start.result c.cut_height-start.ensures.within (omega arith)
+
+pub cut_coordinate-requires-2-clause-end : goal.cut_coordinate-requires-2-clause-end
+cut_coordinate-requires-2-clause-end c = held_within _ c.cut_height-end.result c.cut_height-end.ensures.within (omega arith)
+
+pub cut_coordinate-requires-2-clause-opposite : goal.cut_coordinate-requires-2-clause-opposite
+cut_coordinate-requires-2-clause-opposite c = opposite_told _ _ _ _ c.cut_height-start.ensures.is c.cut_height-end.ensures.is c.cut_height-start.ensures.within c.cut_height-end.ensures.within c.requires.opposite
+
+pub cut_coordinate-requires-3-clause-start : goal.cut_coordinate-requires-3-clause-start
+cut_coordinate-requires-3-clause-start c = held_within _ c.cut_height-start.result c.cut_height-start.ensures.within (omega arith)
+
+pub cut_coordinate-requires-3-clause-end : goal.cut_coordinate-requires-3-clause-end
+cut_coordinate-requires-3-clause-end c = held_within _ c.cut_height-end.result c.cut_height-end.ensures.within (omega arith)
+
+pub cut_coordinate-requires-3-clause-opposite : goal.cut_coordinate-requires-3-clause-opposite
+cut_coordinate-requires-3-clause-opposite c = opposite_told _ _ _ _ c.cut_height-start.ensures.is c.cut_height-end.ensures.is c.cut_height-start.ensures.within c.cut_height-end.ensures.within c.requires.opposite
+
+pub returns-clause-range : goal.returns-clause-range
+returns-clause-range c = range_told c.in_ok-cut_coordinate.field-0 c.in_ok-cut_coordinate-2.field-0 c.in_ok-cut_coordinate-3.field-0 c.in_ok-cut_coordinate.ensures.range c.in_ok-cut_coordinate-2.ensures.range c.in_ok-cut_coordinate-3.ensures.range

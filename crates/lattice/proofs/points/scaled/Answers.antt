@@ -1,18 +1,17 @@
-use Rattle.std.proofs.Common.{refl, sym, subst, ◌∙◌, arith}
+use Rattle.std.proofs.Common.{refl, arith}
 use Rattle.std.specs.Prelude.{◌*ℤ◌}
-use Rattle.lattice.specs.Ranges.{IsWithin}
-use Rattle.lattice.proofs.Magnitudes.{coordinate_within, coordinate_is, product_within, fits, product_is, held_as}
+use Rattle.lattice.specs.Ranges.{normal_limit}
+use Rattle.lattice.proofs.Magnitudes.{Told, held, scaled_told}
 use Rattle.lattice.proofs.points.scaled.Goals as goal
 
+told : (c : goal.After-from) → Told 10000000000000000000000000000000000 (held c.args.a *ℤ held c.from.result) (c.args.a *ℤ c.args.x)
+told c = scaled_told normal_limit _ c.args.a c.args.x c.from.result c.requires.a c.requires.x c.ranges.a (record { sfits = c.from.type_inv }) c.from.ensures refl (omega arith)
+
+pub overflow_mul-result : goal.overflow_mul-result
+overflow_mul-result c = (told c).fits
+
 pub returns-clause-is : goal.returns-clause-is
-returns-clause-is c =
-    let a = c.args.a in let x = c.args.x in
-    let within = product_within a x _ _ 10000000000000000000000000000000000 c.requires.a (coordinate_within x c.requires.x) refl in
-    held_as _ (a *ℤ x) (product_is a x c.from.result c.ranges.a (record { sfits = c.from.type_inv }) (c.from.ensures ∙ coordinate_is x c.requires.x)) (fits _ _ within (omega arith))
+returns-clause-is c = (told c).kept
 
 pub returns-clause-within : goal.returns-clause-within
-returns-clause-within c =
-    let a = c.args.a in let x = c.args.x in
-    let within = product_within a x _ _ 10000000000000000000000000000000000 c.requires.a (coordinate_within x c.requires.x) refl in
-    subst (IsWithin 10000000000000000000000000000000000)
-    (sym (held_as _ (a *ℤ x) (product_is a x c.from.result c.ranges.a (record { sfits = c.from.type_inv }) (c.from.ensures ∙ coordinate_is x c.requires.x)) (fits _ _ within (omega arith)))) within
+returns-clause-within c = (told c).kept_within
