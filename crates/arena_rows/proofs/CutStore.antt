@@ -27,7 +27,7 @@ use Rattle.arena_rows.proofs.Views.{has-row, fits-write, table_of-put}
 use Rattle.arena_rows.proofs.Writes.{row_here}
 use Rattle.arena_rows.proofs.Stands.{half_there, loop_of_is, cycle_of_is, content_row, face_row_of, loose_key_is, loose_ring_is, next_successor}
 use Rattle.arena_rows.proofs.Tellings.{store_is, content_alike, same_loop}
-use Rattle.arena_rows.proofs.Cutting.{IsBare, rings1, rings2, live2, AreLoops-cut, loose-cut_to, loose-cut_loose, edges-cut, loops-cut, ring_of_right, apart_rows, jrings1, a_live1, b_live1, jrings2, jlive2, jedges, jkept, jring_of, loose-join_loops, loose-join_loose, AreLoops-join}
+use Rattle.arena_rows.proofs.Cutting.{IsBare, rings2, live2, AreLoops-cut, loose-cut_to, loose-cut_loose, edges-cut, loops-cut, ring_of_right, apart_rows, jrings2, jlive2, jedges, jkept, jring_of, loose-join_loops, loose-join_loose, AreLoops-join}
 use Rattle.arena_rows.proofs.Filling.{tied_with}
 
 pub record CutFacts (sp : Spots) (loops : List (Option LoopCell)) (a b l : ℕ) : Type 0 where
@@ -107,9 +107,6 @@ module _ (sp : Spots) (known : ℕ → Bool) (solids : List (Option Bool)) (face
     abbrev here : ℕ
     here = label sp a
 
-    pub cut_rings : AreRings (spliced_at sp a b)
-    cut_rings = rings1 sp loops R are tied.loops_fit.no_zero a b g.a_there g.b_there g.looped g.one ne l g.free
-
     cut_rings2 : AreRings cutted
     cut_rings2 = rings2 sp loops R are tied.loops_fit.no_zero a b g.a_there g.b_there g.looped g.one ne l g.free
 
@@ -174,15 +171,6 @@ module _ (sp : Spots) (known : ℕ → Bool) (solids : List (Option Bool)) (face
 
     abbrev jthere : ℕ
     jthere = label sp b
-
-    pub join_rings : AreRings (labelled sp jhere (ring sp b))
-    join_rings = jrings1 sp loops R are tied.loops_fit.no_zero a b g.a_there g.b_there g.looped g.other
-
-    pub join_a_live : live (labelled sp jhere (ring sp b)) a ≡ true
-    join_a_live = a_live1 sp loops R are tied.loops_fit.no_zero a b g.a_there g.b_there g.looped g.other
-
-    pub join_b_live : live (labelled sp jhere (ring sp b)) b ≡ true
-    join_b_live = b_live1 sp loops R are tied.loops_fit.no_zero a b g.a_there g.b_there g.looped g.other
 
     -- rows0 are the rows once b's loop is empty, and d is the entry of a's loop then
     module _ (d : ℕ) (d_in : IsIn d (ring sp a)) (cell : LoopCell) (found : row_at loops jhere ≡ Some cell) (rows0 : List (Option LoopCell)) (len0 : length rows0 ≡ length loops) (fits0 : Fits rows0) (rows : List (Option LoopCell)) (len : length rows ≡ length rows0)

@@ -56,9 +56,6 @@ module _ (sp : Spots) (known : ℕ → Bool) (solids : List (Option Bool)) (face
       abbrev cleared : Spots
       cleared = labelled sp 0 (ring sp d)
 
-      pub clear_live : live sp d ≡ true
-      clear_live = entry.0
-
       c_live : (x : ℕ) → live cleared x ≡ live sp x
       c_live x = live-labelled sp 0 (ring sp d) x
 

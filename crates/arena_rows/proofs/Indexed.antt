@@ -189,17 +189,6 @@ module _ (solids : List (Option Bool)) (faces : List (Option FaceCell)) (loops :
   pub indexed_solids : (new : List (Option Bool)) → length new ≡ length solids → AreIndexed new faces loops ss fs
   indexed_solids new len = record { of_solids = indexed.of_solids; of_faces = indexed.of_faces; solid_owners = omega (arith, indexed.solid_owners, len); face_owners = indexed.face_owners; face_items = indexed.face_items; loop_items = indexed.loop_items }
 
-  -- more rows, for which there is room beside them
-  pub indexed_more_solids : (new : List (Option Bool)) (ss' : Owners) → OwnersHaveGrown ss ss' → length new ≤ ss'.owners_end → AreIndexed new faces loops ss' fs
-  indexed_more_solids new ss' grown reach = record {
-    of_solids = grown.same ∙ indexed.of_solids;
-    of_faces = indexed.of_faces;
-    solid_owners = reach;
-    face_owners = indexed.face_owners;
-    face_items = omega (arith, indexed.face_items, grown.items);
-    loop_items = indexed.loop_items;
-  }
-
   pub indexed_more_faces : (new : List (Option FaceCell)) (ss' fs' : Owners) → ((q : ℕ) → row_at new q ≡ row_at faces q) → OwnersHaveGrown ss ss' → OwnersHaveGrown fs fs' → length new ≤ ss'.items_end → length new ≤ fs'.owners_end → AreIndexed solids new loops ss' fs'
   indexed_more_faces new ss' fs' rows more_ss more_fs reach_items reach_owners = record {
     of_solids = more_ss.same ∙ indexed.of_solids ∙ sym (table_of-same (λ cell. cell.solid) (λ cell. cell.solid) faces new (λ q. ap (map_row (λ (cell : FaceCell). cell.solid)) (rows q)));

@@ -20,7 +20,7 @@ use Rattle.arena_rows.specs.Store.{within, has_room, HasGrown}
 use Rattle.arena_rows.specs.ring_spots.Spots.{edges_end}
 use Rattle.arena_rows.specs.ring_spots.SpotTables.{edge_room}
 use Rattle.arena_rows.proofs.Views.{table_of-same}
-use Rattle.arena_rows.proofs.Writes.{tied_solids, tied_faces, tied_loops, tied_vertices}
+use Rattle.arena_rows.proofs.Writes.{tied_faces, tied_loops, tied_vertices}
 use Rattle.arena_rows.proofs.ring_spots_laws.SpotTables.{edge_has_room}
 
 within_more : (n k m : ℕ) → k ≤ m → within n (k - 1) ≡ true → within n (m - 1) ≡ true
@@ -41,9 +41,6 @@ module _ (sp : Spots) (known : ℕ → Bool) (solids : List (Option Bool)) (face
   S = store_of sp known solids faces loops vertices
 
   module _ (new : List (Option Bool)) (same : (q : ℕ) → row_at new q ≡ row_at solids q) (grows : length solids ≤ length new) (limit : length new ≤ 1000001) where
-    pub more_solids : RowsAreTied sp known new faces loops vertices
-    more_solids = tied_solids sp known solids faces loops vertices tied new (fits-same solids new tied.solids_fit same limit)
-
     pub grown_solids : HasGrown S (store_of sp known new faces loops vertices)
     grown_solids = record {
       model = λ i. record S.model { solids = table_of-same solid_row solid_row solids new (λ q. ap (map_row solid_row) (same q)) i };

@@ -1,5 +1,5 @@
 -- What follows an item, and what comes before it.
-use Rattle.std.proofs.Common.{◌≡◌, ◌≢◌, ℕ, ◌≤◌, ◌<◌, Bool, true, false, cond, List, Option, Some, None, is_some, sym, ap, subst, ◌∙◌, arith, true≢false, eq-eqb, inl, inr}
+use Rattle.std.proofs.Common.{◌≡◌, ◌≢◌, ℕ, ◌≤◌, ◌<◌, Bool, true, cond, List, Option, Some, None, is_some, sym, ap, subst, ◌∙◌, arith, true≢false, eq-eqb, inl, inr}
 use Rattle.std.proofs.lemmas.Bool.Decides.{eqb_tells}
 use Rattle.arena_rows.specs.declared.owner_chains.rows.Head.{Head}
 use Rattle.arena_rows.specs.declared.owner_chains.rows.Link.{Link}
@@ -31,9 +31,6 @@ pub is_item : (links : List (Option Link)) (n : ℕ) (link : Link) → link_at l
 is_item links n link here = ap (is_of link.owner) here ∙ eq-eqb link.owner link.owner (λ i. link.owner)
 
 module _ (heads : List (Option Head)) (links : List (Option Link)) (are : AreChained heads links) (o : ℕ) where
-  pub no_zero_item : items links o 0 ≡ false
-  no_zero_item = ap (is_of o) are.no_zero
-
   pub next_above : (n : ℕ) (link : Link) → link_at links n ≡ Some link → link.owner ≡ o → IsAbove (items links o) n link.next
   next_above n link here own = subst (λ w. IsAbove (items links w) n link.next) own (are.nexts n link here)
 

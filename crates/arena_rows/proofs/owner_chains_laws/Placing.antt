@@ -1,5 +1,5 @@
 -- The place of a number, by the numbers near it.
-use Rattle.std.proofs.Common.{◌≡◌, ◌≢◌, ℕ, ◌+◌, ◌-◌, ◌≤◌, ◌<◌, Bool, true, false, refl, sym, ap, ◌∙◌, arith, true≢false, inl, inr}
+use Rattle.std.proofs.Common.{◌≡◌, ◌≢◌, ℕ, ◌+◌, ◌≤◌, ◌<◌, Bool, true, false, refl, sym, ap, ◌∙◌, arith, true≢false, inl, inr}
 use Rattle.std.proofs.lemmas.Bool.Decides.{eqb_tells}
 use Rattle.arena_rows.specs.owner_chains.Chains.{IsBelow, IsClear}
 use Rattle.arena_rows.proofs.owner_chains_laws.Order.{at_least}
@@ -8,24 +8,9 @@ module _ (item : ℕ → Bool) (n : ℕ) where
   pub clear_one : item n ≡ false → IsClear item n 1
   clear_one free k low high = let e : k ≡ n = omega arith in ap item e ∙ free
 
-  pub clear_more : (d : ℕ) → d < n → IsClear item n d → item (n - d) ≡ false → item (n + d) ≡ false → IsClear item n (d + 1)
-  clear_more d less clear at_low at_high k low high = elim (eqb_tells k (n - d)) [
-    | inl e ↦ ap item e.1 ∙ at_low
-    | inr e ↦ elim (eqb_tells k (n + d)) [
-      | inl f ↦ ap item f.1 ∙ at_high
-      | inr f ↦ let apart = e.1 in let other = f.1 in clear k (omega arith) (omega arith)
-    ]
-  ]
-
   -- an item can't stand where it is clear
   outside : (d k : ℕ) → IsClear item n d → item k ≡ true → n < k + d → k < n + d → ⊥
   outside d k clear there low high = true≢false (sym there ∙ clear k low high)
-
-  pub low_below : (d : ℕ) → 0 < d → d < n → IsClear item n d → item (n - d) ≡ true → IsBelow item n (n - d)
-  low_below d some less clear there = record {
-    found = λ h. (omega arith, there);
-    greatest = λ k l h. at_least k (n - d) (λ s. outside d k clear h (omega (arith, s)) (omega (arith, l)));
-  }
 
   pub high_below : (d p : ℕ) → 0 < d → IsClear item n d → IsBelow item (n + d) p → IsBelow item n p
   high_below d p some clear before = record {

@@ -1,11 +1,12 @@
 -- The table of owners that the rows stand for.
 use Rattle.std.proofs.Common.{◌≡◌, ℕ, zero, suc, ◌≤◌, ◌<◌, Bool, true, false, cond, nat_eq, nat_lt, List, [], ◌∷◌, length, Option, Some, None, is_some, refl, sym, ap, ◌∙◌, arith, true≢false}
+use Rattle.std.specs.Prelude.{slice_index_or}
 use Rattle.std.proofs.lemmas.Bool.Decides.{nat_tests}
 use Rattle.boundary_model.specs.Table.{get, put, remove, get-put, get-remove, get-tabulate, same_table}
 use Rattle.arena_rows.specs.declared.owner_chains.rows.Head.{Head}
 use Rattle.arena_rows.specs.declared.owner_chains.rows.Link.{Link}
 use Rattle.arena_rows.specs.owner_chains.Owners.{owned, is_owner}
-use Rattle.arena_rows.specs.owner_chains.Chains.{head_in, link_at, owner_in, is_of, items, owners_of}
+use Rattle.arena_rows.specs.owner_chains.Chains.{head_in, head_at, link_at, owner_in, is_of, items, owners_of}
 use Rattle.arena_rows.proofs.owner_chains_laws.Counting.{few}
 
 pub link_past : (links : List (Option Link)) (q : ℕ) → length links ≤ q → link_at links q ≡ None
@@ -17,6 +18,11 @@ link_past (x ∷ links) (suc q) h = link_past links q (omega arith)
 pub head_there : (row : Option Head) → 1 ≤ (head_in row).count → is_some row ≡ true
 head_there None h = absurd (omega (arith, h))
 head_there (Some head) h = refl
+
+-- an owner's row is written
+pub head_written : (heads new : List (Option Head)) (o : ℕ) (row now : Head) → row ≡ now → ((q : ℕ) → slice_index_or new q None ≡ cond (nat_eq q o) (Some row) (slice_index_or heads q None)) → (q : ℕ) →
+    head_at new q ≡ cond (nat_eq q o) now (head_at heads q)
+head_written heads new o row now is rows q = ap head_in (rows q) ∙ (elim (nat_eq q o) as (λ b. head_in (cond b (Some row) (slice_index_or heads q None)) ≡ cond b now (head_at heads q)) [ true ↦ is | false ↦ refl ])
 
 pub link_within : (links : List (Option Link)) (q : ℕ) → is_some (link_at links q) ≡ true → q < length links
 link_within [] q h = absurd (true≢false (sym h))

@@ -8,12 +8,6 @@ use Rattle.raw_ring.specs.Rings.{Spot, RingMap, spot, awake, or_zero, of_spot, n
 use Rattle.raw_ring.proofs.Mapping.{get-put}
 use Rattle.arena_rows.specs.ring_spots.Spots.{next, asleep, map_spot, retailed, spliced_at}
 
-pub get_spot : (m : RingMap) (c : ℕ) (s : Spot) → spot m c ≡ Some s → get m c ≡ Some (Some s)
-get_spot m c s e = go (get m c) e where
-  go : (o : Option (Option Spot)) → awake o ≡ Some s → o ≡ Some (Some s)
-  go None e = cc
-  go (Some o) e = ap Some e
-
 awake-cond : (b : Bool) (v : Option Spot) (o : Option (Option Spot)) → awake (cond b (Some v) o) ≡ cond b v (awake o)
 awake-cond true v o = refl
 awake-cond false v o = refl

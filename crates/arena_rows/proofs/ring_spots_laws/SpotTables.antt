@@ -61,9 +61,6 @@ module _ (sp : Spots) (R : AreRings sp) where
   pub row_live : (h : ℕ) → live sp h ≡ true → edge_row sp (edge_of h) ≡ Some (record { plus_tail = tail_at sp (plus (edge_of h)); minus_tail = tail_at sp (minus (edge_of h)) })
   row_live h a = let both = both_live h a in some_both (sp (plus (edge_of h))) (sp (minus (edge_of h))) both.0 both.1
 
-  pub live_edge : (h : ℕ) → live sp h ≡ true → is_some (get (tabulate (edge_row sp) codes) (edge_of h)) ≡ true
-  live_edge h a = ap is_some (edges_at (edge_of h) ∙ row_live h a)
-
   loose_far : (k : ℕ) → codes ≤ k → loose_row sp k ≡ None
   loose_far k h = go (live sp k) refl where
     go : (b : Bool) → live sp k ≡ b → cond (b && (nat_eq (label sp k) 0 && nat_eq (head_or 0 (ring sp k)) k)) (Some (ring sp k)) None ≡ None

@@ -1,4 +1,5 @@
-use Rattle.std.proofs.Common.{◌-◌, ◌+◌, ap, arith}
+use Rattle.std.proofs.Common.{◌-◌, ◌+◌, true≢false, ap, arith}
+use Rattle.std.proofs.lemmas.Bool.{false≢true}
 use Rattle.raw_ring.specs.Rings.{spot, or_zero}
 use Rattle.arena_rows.specs.ring_spots.Spots.{codes}
 use Rattle.arena_rows.proofs.ring_spots_laws.SpotTables.{codes_are}
@@ -19,6 +20,12 @@ returns-then-p-a-clause-shorter c = λ _.
     let all = counted_all sp c.args.a c.round.p c.next-p.result c.round.counter (codes - c.round.counter) (codes - (c.round.counter + 1)) (omega (arith, codes_are)) c.round.invariant.from_a (ap or_zero c.next-p.ensures.next) c.if-p-a.true in
     let some = counted_some sp c.args.b c.round.q c.round.counter (codes - c.round.counter) (codes - (c.round.counter + 1)) (omega (arith, codes_are)) c.round.invariant.from_b in
     omega (arith, all, some)
+
+pub returns-then-p-a-clause-longer : goal.returns-then-p-a-clause-longer
+returns-then-p-a-clause-longer c = λ e. absurd (true≢false e)
+
+pub returns-then-q-b-clause-shorter : goal.returns-then-q-b-clause-shorter
+returns-then-q-b-clause-shorter c = λ e. absurd (false≢true e)
 
 pub returns-then-q-b-clause-longer : goal.returns-then-q-b-clause-longer
 returns-then-q-b-clause-longer c = λ _.
@@ -41,3 +48,6 @@ returns-clause-shorter c = λ _.
     let a = counted_over sp c.args.a c.round.p c.round.counter (codes - c.round.counter) (omega (arith, codes_are)) c.round.invariant.from_a in
     let b = counted_over sp c.args.b c.round.q c.round.counter (codes - c.round.counter) (omega (arith, codes_are)) c.round.invariant.from_b in
     omega (arith, a, b)
+
+pub returns-clause-longer : goal.returns-clause-longer
+returns-clause-longer c = λ e. absurd (true≢false e)
