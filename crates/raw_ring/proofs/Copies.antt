@@ -112,36 +112,12 @@ pub record IsBegun (m copy : RingMap) (n : ℕ) : Type 0 where
 pub Begun-empty : (m copy : RingMap) → copy ≡ empty → IsBegun m copy 0
 Begun-empty m copy e = record { below = λ c within. absurd (omega (arith, within)); above = λ c past. ap (λ n. get n c) e ∙ get-empty nat_cmp c }
 
-pub Begun-copied : (m copy new : RingMap) (n : ℕ) → IsBegun m copy n → IsCopied m copy new n → IsBegun m new (n + 1)
-Begun-copied m copy new n B C = record {
-  below = λ c within. (elim (c == n) as (λ y. (c == n) ≡ y → but_next (get new c) ≡ but_next (get m c)) [
-    | true ↦ λ t. let is = test_is c n t in ap (λ d. but_next (get new d)) is ∙ C.here ∙ ap (λ d. but_next (get m d)) (sym is)
-    | false ↦ λ t. let other = eqb-false c n t in ap but_next (C.others c other) ∙ B.below c (omega (arith, within, other))
-  ]) refl;
-  above = λ c past. C.others c (λ is. omega (arith, past, is)) ∙ B.above c (omega (arith, past));
-}
-
-pub Begun-unknown : (m copy : RingMap) (n : ℕ) → IsBegun m copy n → contains_key m n ≡ false → IsBegun m copy (n + 1)
-Begun-unknown m copy n B unknown = record {
-  below = λ c within. (elim (c == n) as (λ y. (c == n) ≡ y → but_next (get copy c) ≡ but_next (get m c)) [
-    | true ↦ λ t. let is = test_is c n t in ap but_next (B.above c (omega (arith, is))) ∙ sym (ap but_next (ap (get m) is ∙ none_by (get m n) unknown))
-    | false ↦ λ t. B.below c (omega (arith, within, eqb-false c n t))
-  ]) refl;
-  above = λ c past. B.above c (omega (arith, past));
-}
-
 -- a code past the bound is not known
 past_bound : (m : RingMap) (n : ℕ) → ((c : ℕ) → contains_key m c ≡ true → c < n) → (c : ℕ) → n ≤ c → get m c ≡ None
 past_bound m n bound c past = (elim (is_some (get m c)) as (λ y. is_some (get m c) ≡ y → get m c ≡ None) [
   | true ↦ λ t. absurd (omega (arith, past, bound c t))
   | false ↦ λ t. none_by (get m c) t
 ]) refl
-
-pub Begun-ends : (m copy : RingMap) (n : ℕ) → ((c : ℕ) → contains_key m c ≡ true → c < n) → IsBegun m copy n → IsAlike m copy
-Begun-ends m copy n bound B c = elim (cases_lt c n) [
-  | inl within ↦ B.below c within
-  | inr past ↦ ap but_next (B.above c past ∙ sym (past_bound m n bound c past))
-]
 
 -- the codes below n have their successors
 pub record IsFollowed (m copy : RingMap) (n : ℕ) : Type 0 where

@@ -2,7 +2,7 @@
 --     row_at-joined, length-joined, has-joined, next-joined      what is read
 --     place_there, label_there, live_there, lies_at, has_label      the parts of a row
 --     changed      one row is written;  column_here, column_other      one column
---     joined_reached, rows_reached, ok_more      the columns reach further
+--     rows_reached, ok_more      the columns reach further
 use Rattle.std.proofs.Common.{◌≡◌, ◌≢◌, ℕ, zero, suc, ◌<◌, ◌≤◌, Bool, true, false, cond, List, [], ◌∷◌, length, set, Option, Some, None, IsSome, is_some, Result, Ok, Err, OnOk, refl, sym, ap, ◌∙◌, subst, arith, nat_eq, inl, inr, true≢false, eq-eqb, ne_eqb}
 use Rattle.std.proofs.lemmas.Bool.Decides.{eqb_tells}
 use Rattle.raw_cells.specs.Numbers.{IsNext}
@@ -110,16 +110,6 @@ module _ (ps : Places) (ls : List (Option ℕ)) (vs : List (Option Bool)) where
         changed ps ls' vs' r (place_within (ap is_some row_is)) refl (ap (λ o. with_marks o (marks ls' vs' c)) placed ∙ here)
         (λ q ne i. with_marks (row_at ps q) (or_zero (same_labels q ne i), or_false (same_lives q ne i)))
         ∙ ap (set rows c) (sym was ∙ ap f (sym row_is))
-
--- all columns reach further
-pub joined_reached : (ps ps' : Places) (ls ls' : List (Option ℕ)) (vs vs' : List (Option Bool)) → AreJoined ps ls vs → ((q : ℕ) → row_at ps' q ≡ row_at ps q) → ((q : ℕ) → row_at ls' q ≡ row_at ls q) → ((q : ℕ) → row_at vs' q ≡ row_at vs q) →
-    length ps' ≤ length ls' → length ps' ≤ length vs' → AreJoined ps' ls' vs'
-joined_reached ps ps' ls ls' vs vs' J same_places same_labels same_lives reach_labels reach_lives = record {
-  reach_labels = reach_labels;
-  reach_lives = reach_lives;
-  labelled = λ q h. ap is_some (same_labels q) ∙ J.labelled q (sym (ap is_some (same_places q)) ∙ h);
-  marked = λ q h. ap is_some (same_lives q) ∙ J.marked q (sym (ap is_some (same_places q)) ∙ h);
-}
 
 pub rows_reached : (ps ps' : Places) (ls ls' : List (Option ℕ)) (vs vs' : List (Option Bool)) → ((q : ℕ) → row_at ps' q ≡ row_at ps q) → ((q : ℕ) → row_at ls' q ≡ row_at ls q) → ((q : ℕ) → row_at vs' q ≡ row_at vs q) →
     (q : ℕ) → row_at (joined ps' (marks ls' vs')) q ≡ row_at (joined ps (marks ls vs)) q

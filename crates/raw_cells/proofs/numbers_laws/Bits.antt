@@ -3,7 +3,7 @@ use Rattle.std.proofs.Common.{◌≡◌, ℕ, suc, ◌+◌, ◌-◌, ◌*◌, �
 use Rattle.std.proofs.lemmas.Bool.{cases_eq}
 use Rattle.std.proofs.Math.Nat.{div-div-eq-div-mul, div-eq_of_lt-le, pow-suc}
 use Rattle.std.proofs.lemmas.Nat.{pow-add, leading_top}
-use Rattle.std.proofs.lemmas.Nat.Bits.{bit_at-zero, bit_at_above, bit_at-trailing_zeros, shr_and_one, bit_at_set_same, bit_at_set_other, bit_at_clear_same, bit_at_clear_other}
+use Rattle.std.proofs.lemmas.Nat.Bits.{bit_at-zero, bit_at_above, bit_at-trailing_zeros, bit_at_set_same, bit_at_set_other, bit_at_clear_same, bit_at_clear_other}
 use Rattle.std.specs.Int.{bit_at, bit_not, w64, trailing_zeros, leading_zeros}
 use Rattle.raw_cells.specs.Numbers.{is_set}
 
@@ -19,10 +19,6 @@ no_bit k = clear_bit 0 k (bit_at-zero k)
 -- a word of 64 bits has none from 64 on
 pub no_high : (word k : ℕ) → word < 2 ^ 64 → 64 ≤ k → is_set word k ≡ false
 no_high word k fits high = clear_bit word k (bit_at_above word 64 k fits high)
-
--- the test that the code writes
-pub shifted_one : (word k : ℕ) → nat_eq (bit_and (word / 2 ^ k) 1) 1 ≡ is_set word k
-shifted_one word k = ap (λ b. nat_eq b 1) (shr_and_one word k)
 
 pub same_bits : (a b k : ℕ) → bit_at a k ≡ bit_at b k → is_set a k ≡ is_set b k
 same_bits a b k e = ap (λ t. nat_eq t 1) e

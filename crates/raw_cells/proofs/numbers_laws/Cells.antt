@@ -97,15 +97,6 @@ module _ {X : Type 0} (cells : List (Option X)) (words : List ℕ) (room : ℕ) 
   rows_copied copy fits same = rows_alike (uses words) (take room cells) (take room copy) (length-take-le room copy fits ∙ sym (length-take-le room cells C.fits))
       (λ k less used. let within : k < room = omega (arith, less, length-take-le room cells C.fits) in get_or-take room copy k None within ∙ same k within used ∙ sym (get_or-take room cells k None within))
 
-  pub are_copied : (copy : List (Option X)) → room ≤ length copy → ((k : ℕ) → k < room → uses words k ≡ true → row_at copy k ≡ row_at cells k) → AreCells copy words room
-  are_copied copy fits same = record {
-    limit = C.limit;
-    fits = fits;
-    bits = C.bits;
-    beyond = C.beyond;
-    written = λ k h. ap is_some (same k (used_within k h) h) ∙ C.written k h;
-  }
-
   -- a number that has its room comes into use with its cell, or goes out of it
   module _ (n : ℕ) (below : n < room) where
     pub word_room : n / 64 < length words

@@ -1,6 +1,6 @@
 -- Numbers in use as bits of words.
 use Rattle.std.proofs.Common.{◌≡◌, ℕ, ◌+◌, ◌-◌, ◌*◌, ◌/◌, ◌%◌, ◌^◌, ◌≤◌, ◌<◌, Bool, true, false, cond, nat_eq, nat_lt, List, length, slice_set, slice_index_or, Some, None, bit_and, bit_or, refl, sym, ap, ◌∙◌, arith, eq-eqb, ne_eqb, true≢false, inl, inr}
-use Rattle.std.proofs.lemmas.Bool.{cases_eq, cases_lt, ltb-true}
+use Rattle.std.proofs.lemmas.Bool.{cases_eq, cases_lt}
 use Rattle.std.proofs.lemmas.List.{get_or-set_same, get_or-set_other}
 use Rattle.std.proofs.Math.ListN.{get_or-eq_default}
 use Rattle.std.proofs.lemmas.Bool.Decides.{nat_tests}
@@ -31,9 +31,6 @@ uses_none words n e = ap (λ w. is_set w (n % 64)) e ∙ no_bit (n % 64)
 
 pub uses_past : (words : List ℕ) (n : ℕ) → length words ≤ n / 64 → uses words n ≡ false
 uses_past words n past = uses_none words n (get_or-eq_default words 0 past)
-
-pub some_bits : (word : ℕ) → nat_lt 0 word ≡ true → 0 < word
-some_bits word h = ltb-true 0 word h
 
 pub no_bits : (word : ℕ) → nat_lt 0 word ≡ false → word ≡ 0
 no_bits word h = let l : word ≤ 0 = grind (arith, nat_tests) in omega arith
