@@ -1,5 +1,6 @@
 pub mod Known
 pub mod Orders
+pub mod Tests
 pub mod Parallel
 pub mod Around
 pub mod Solids
