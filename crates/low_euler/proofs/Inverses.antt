@@ -1,5 +1,5 @@
 -- The inverse of an operator, from what the arena's readers answer.
-use Rattle.std.proofs.Common.{◌≡◌, ℕ, Bool, true, false, cond, nat_eq, ◌&&◌, List, [], ◌∷◌, Some, None, is_some, unwrap_or, sym, ap, subst, ◌∙◌, true≢false}
+use Rattle.std.proofs.Common.{◌≡◌, ℕ, Bool, true, cond, nat_eq, ◌&&◌, List, [], ◌∷◌, Some, None, is_some, unwrap_or, sym, ap, subst, ◌∙◌, true≢false}
 use Rattle.euler_operators.specs.declared.Point.{Point}
 use Rattle.euler_operators.specs.declared.Corner.{Corner}
 use Rattle.euler_operators.specs.declared.Corner.TheVariants.{At, Lone}
@@ -10,16 +10,15 @@ use Rattle.euler_operators.specs.Rings.{between, beyond, successor}
 use Rattle.euler_operators.specs.Table as table
 use Rattle.euler_operators.specs.Model.{Model, items_of, after, tail, loop_of, face_of, outer, content, point_of, faces_of, cycle_of}
 use Rattle.euler_operators.specs.Sound.{Sound, HasHalf}
-use Rattle.euler_operators.proofs.Halves.{code-half, half-code, mate_other, edge_of-mate}
+use Rattle.euler_operators.proofs.Halves.{half-code, mate_other, edge_of-mate}
 use Rattle.euler_operators.proofs.Models.{cycle_there, cycle_sound}
 use Rattle.euler_conditions.specs.Store.{only_item}
 use Rattle.euler_operators.specs.declared.Op.{Op}
 use Rattle.euler_operators.specs.declared.Op.TheVariants.{Mvfs, Kvfs, Mev, Kev, Mef, Kef, Kemr, Mekr}
 use Rattle.euler_operators.specs.Conditions.{first_false, lone_vertex}
 use Rattle.euler_operators.specs.Effect.{inverse, head_or_zero, kev_corner, kev_corner_mate, corner_of}
-use Rattle.low_euler.proofs.Accepted.{kemr_has, kemr_one_loop}
+use Rattle.euler_laws.proofs.kemr.Kemr.{kemr_goes}
 use Rattle.low_euler.proofs.Parts.{corner_between, between_back}
-use Rattle.euler_laws.proofs.shared.Rows.{half_of}
 
 -- a half-edge by its code
 pub half_then : (h : HalfEdge) {n : ℕ} → code h ≡ n → h ≡ half n
@@ -62,16 +61,6 @@ module _ (M : Model) where
   abbrev pub next_corner : ℕ → ℕ → ℕ → Corner
   next_corner g end l = cond (nat_eq (after M g) end) (Lone l) (At (half (after M g)))
 
-  -- the test for the item that comes next
-  pub next_is : (g end : ℕ) (a : HalfEdge) (r : Bool) → a ≡ half (after M g) → r ≡ nat_eq (code a) end → nat_eq (after M g) end ≡ r
-  next_is g end a r ae e = sym (e ∙ ap (λ k. nat_eq k end) (ap code ae ∙ code-half (after M g)))
-
-  pub next_corner_lone : (g end l : ℕ) → nat_eq (after M g) end ≡ true → Lone l ≡ next_corner g end l
-  next_corner_lone g end l e = sym (ap (λ t. cond t (Lone l) (At (half (after M g)))) e)
-
-  pub next_corner_at : (g end l : ℕ) (a : HalfEdge) → a ≡ half (after M g) → nat_eq (after M g) end ≡ false → At a ≡ next_corner g end l
-  next_corner_at g end l a ae e = ap At ae ∙ sym (ap (λ t. cond t (Lone l) (At (half (after M g)))) e)
-
   module _ (sound : Sound M) where
     pub kemr_inverse : (h m : HalfEdge) (l : ℕ) (c d : Corner) (k : ℕ) → first_false M (Kemr h l) ≡ None → code m ≡ mate (code h) → k ≡ loop_of M (code h) → c ≡ next_corner (code m) (code h) k → d ≡ next_corner (code h) (code m) l → Mekr c d h ≡ inverse M (Kemr h l)
     unfolding inverse after
@@ -79,10 +68,10 @@ module _ (M : Model) where
         let g : ℕ = code h in
         let n : ℕ = mate (code h) in
         let hs : List ℕ = cycle_of M g in
-        let there : HasHalf M g = half_of M h (kemr_has M h l ok) in
+        let there : HasHalf M g = (kemr_goes M h l ok).h_there in
         let mate_there : HasHalf M n = ap (table.has M.edges) (edge_of-mate g) ∙ there in
         let apart : IsApart hs = (cycle_sound M sound g there).apart in
-        let one : cycle_of M n ≡ hs = ap (λ q. items_of (content M q)) (sym (kemr_one_loop M h l ok)) in
+        let one : cycle_of M n ≡ hs = ap (λ q. items_of (content M q)) (sym (kemr_goes M h l ok).one_loop) in
         let i : IsIn g hs = cycle_there M sound g there in
         let j : IsIn n hs = subst (IsIn n) one (cycle_there M sound n mate_there) in
         let first : c ≡ corner_of (beyond g n hs) (loop_of M g) =
@@ -95,36 +84,19 @@ module _ (M : Model) where
         ap (λ x. Mekr x d h) first ∙ ap (λ y. Mekr (corner_of (beyond g n hs) (loop_of M g)) y h) second
 
   -- the two corners of mev, by what comes after the half-edge and after its mate
-  module _ (h m a b : HalfEdge) (l : ℕ) (me : code m ≡ mate (code h)) (ae : a ≡ half (after M (code h))) (be : b ≡ half (after M (code m))) where
-    back_is : b ≡ half (after M (mate (code h)))
-    back_is = be ∙ ap (λ k. half (after M k)) me
+  module _ (h m a b : HalfEdge) (me : code m ≡ mate (code h)) (ae : code a ≡ after M (code h)) (be : code b ≡ after M (code m)) where
+    back_is : code b ≡ after M (mate (code h))
+    back_is = be ∙ ap (after M) me
 
-    pub test_following : (r : Bool) → r ≡ nat_eq (code a) (code m) → nat_eq (after M (code h)) (mate (code h)) ≡ r
-    test_following r e = sym (e ∙ (λ i. nat_eq ((ap code ae ∙ code-half (after M (code h))) i) (me i)))
+    module _ (turns returns : Bool) (l : ℕ) (t : nat_eq (code a) (code m) ≡ turns) (r : nat_eq (code b) (code h) ≡ returns) (le : l ≡ loop_of M (code h)) where
+      turned : turns ≡ nat_eq (after M (code h)) (mate (code h))
+      turned = sym t ∙ (λ i. nat_eq (ae i) (me i))
 
-    pub test_back : (r : Bool) → r ≡ nat_eq (code b) (code h) → nat_eq (after M (mate (code h))) (code h) ≡ r
-    test_back r e = sym (e ∙ ap (λ k. nat_eq k (code h)) (ap code back_is ∙ code-half (after M (mate (code h)))))
+      returned : returns ≡ nat_eq (after M (mate (code h))) (code h)
+      returned = sym r ∙ ap (λ k. nat_eq k (code h)) back_is
 
-    abbrev Turns : Bool → Type 0
-    Turns r = nat_eq (after M (code h)) (mate (code h)) ≡ r
+      pub first_corner : cond turns (cond returns (Lone l) (At b)) (At a) ≡ kev_corner M (code h)
+      first_corner = λ i. cond (turned i) (cond (returned i) (Lone (le i)) (At (half_then b back_is i))) (At (half_then a ae i))
 
-    abbrev Returns : Bool → Type 0
-    Returns r = nat_eq (after M (mate (code h))) (code h) ≡ r
-
-    pub apart_first : Turns false → At a ≡ kev_corner M (code h)
-    apart_first p = ap At ae ∙ sym (ap (λ t. cond t (cond (nat_eq (after M (mate (code h))) (code h)) (Lone (loop_of M (code h))) (At (half (after M (mate (code h)))))) (At (half (after M (code h))))) p)
-
-    pub apart_second : Turns false → At b ≡ kev_corner_mate M (code h)
-    apart_second p = ap At back_is ∙ sym (ap (λ t. cond (t && nat_eq (after M (mate (code h))) (code h)) (Lone (loop_of M (code h))) (At (half (after M (mate (code h)))))) p)
-
-    pub lone_first : Turns true → Returns true → l ≡ loop_of M (code h) → Lone l ≡ kev_corner M (code h)
-    lone_first p q e = ap Lone e ∙ sym (λ i. cond (p i) (cond (q i) (Lone (loop_of M (code h))) (At (half (after M (mate (code h)))))) (At (half (after M (code h)))))
-
-    pub lone_second : Turns true → Returns true → l ≡ loop_of M (code h) → Lone l ≡ kev_corner_mate M (code h)
-    lone_second p q e = ap Lone e ∙ sym (λ i. cond (p i && q i) (Lone (loop_of M (code h))) (At (half (after M (mate (code h))))))
-
-    pub back_first : Turns true → Returns false → At b ≡ kev_corner M (code h)
-    back_first p q = ap At back_is ∙ sym (λ i. cond (p i) (cond (q i) (Lone (loop_of M (code h))) (At (half (after M (mate (code h)))))) (At (half (after M (code h)))))
-
-    pub back_second : Turns true → Returns false → At b ≡ kev_corner_mate M (code h)
-    back_second p q = ap At back_is ∙ sym (λ i. cond (p i && q i) (Lone (loop_of M (code h))) (At (half (after M (mate (code h))))))
+      pub second_corner : cond (turns && returns) (Lone l) (At b) ≡ kev_corner_mate M (code h)
+      second_corner = λ i. cond (turned i && returned i) (Lone (le i)) (At (half_then b back_is i))

@@ -1,4 +1,3 @@
 pub mod Rows
-pub mod Facts
 pub mod Swaps
 pub mod Handing

@@ -65,9 +65,6 @@ module _ (a b : ℕ) (ne : a ≢ b) where
   pub get_first : table.get pair a ≡ Some (a ∷ [])
   get_first = grind (arith, nat_tests, tables, ne)
 
-  pub get_second : table.get pair b ≡ Some (b ∷ [])
-  get_second = grind (arith, nat_tests, tables)
-
   pub left_second : table.get (table.remove pair a) b ≡ Some (b ∷ [])
   left_second = grind (arith, nat_tests, tables, ne)
 

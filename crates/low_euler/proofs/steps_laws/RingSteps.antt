@@ -130,9 +130,6 @@ module _ (h m g k : ℕ) (xs : List ℕ) (d : IsApart xs) (i : IsIn g xs) (j : I
         apart_new : IsApart ((g ∷ us) ++ m ∷ [])
         apart_new x = omega (arith, apart_two x, count-append x (h ∷ g ∷ us) (m ∷ k ∷ os), count-append x (g ∷ us) (m ∷ []))
 
-  pub count_put_two : (x : ℕ) → count x (put_ring m k (put_ring h g xs)) ≡ tick x h + tick x m + count x xs
-  count_put_two x = omega (arith, count_put x m k (put_ring h g xs), count_put x h g xs)
-
 -- kemr: what is left of the two rings of a cut at h and m, once h and m are taken out
 module _ (h m : ℕ) (xs : List ℕ) (d : IsApart xs) (i : IsIn h xs) (j : IsIn m xs) (hm : h ≡ m → ⊥) where
   pub rest_left : rest h (cut_left h m xs) ≡ beyond h m xs

@@ -1,8 +1,6 @@
 -- A solid with one face and one vertex, made and killed by the writers of an arena.
-use Rattle.std.proofs.Common.{◌≡◌, ℕ, true, false, List, [], ◌∷◌, Some, None, is_some, unwrap_or, refl, sym, ap, subst, ◌∙◌, true≢false}
-use Rattle.std.proofs.lemmas.Bool.{not-true}
+use Rattle.std.proofs.Common.{◌≡◌, ℕ, true, List, [], ◌∷◌, Some, None, is_some, unwrap_or, refl, sym, ap, subst, ◌∙◌, true≢false}
 use Rattle.euler_operators.specs.declared.Point.{Point}
-use Rattle.euler_operators.specs.Points.{IsInRange}
 use Rattle.euler_operators.specs.Table as table
 use Rattle.euler_operators.specs.Table.{Table}
 use Rattle.euler_operators.specs.Model.{Model, LoopRow, lone, cycle, items_of, no_loop, outer, face_of, faces_of, content}
@@ -13,20 +11,7 @@ use Rattle.euler_operators.proofs.Tables.{get-put_here, put-put}
 use Rattle.euler_laws.proofs.shared.Goes.{all_hold}
 use Rattle.euler_laws.proofs.faces.Solids.{KvfsGoes, kvfs_goes}
 use Rattle.euler_conditions.specs.Store.{Store, put_vertex, put_solid, put_face, put_loop, with_lone, only_item, take_solid, take_face, take_loop, take_vertex}
-use Rattle.euler_conditions.specs.Ready.{Accepts, after}
-
-module _ (M : Model) (s f l v : ℕ) (p : Point) (holds : first_false M (Mvfs s f l v p) ≡ None) where
-  pub mvfs_loop_free : table.has M.loops l ≡ false
-  unfolding first_false conditions
-  mvfs_loop_free = let w = all_hold (conditions M (Mvfs s f l v p)) holds in not-true _ w.1.1.1.1.1.1.0
-
-  pub mvfs_face_free : table.has M.faces f ≡ false
-  unfolding first_false conditions
-  mvfs_face_free = let w = all_hold (conditions M (Mvfs s f l v p)) holds in not-true _ w.1.1.1.1.1.0
-
-  pub mvfs_point : IsInRange p
-  unfolding first_false conditions
-  mvfs_point = let w = all_hold (conditions M (Mvfs s f l v p)) holds in w.1.1.1.1.1.1.1.1.0
+use Rattle.euler_conditions.specs.Ready.{IsReady, after}
 
 module _ (s : Store) (n f l v : ℕ) (p : Point) where
   abbrev pub begun : Store
@@ -68,7 +53,7 @@ pub has_one_face : (M : Model) (n : ℕ) → first_false M (Kvfs n) ≡ None →
 unfolding first_false conditions
 has_one_face M n e = let w = all_hold (conditions M (Kvfs n)) e in bare_is_one M (faces_of M n) w.1.1.0
 
-module _ (s : Store) (n f : ℕ) (ok : Accepts s (Kvfs n)) (is : only_item (faces_of s.model n) ≡ Some f) where
+module _ (s : Store) (n f : ℕ) (ready : IsReady s) (holds : first_false s.model (Kvfs n) ≡ None) (is : only_item (faces_of s.model n) ≡ Some f) where
   abbrev M : Model
   M = s.model
 
@@ -76,7 +61,7 @@ module _ (s : Store) (n f : ℕ) (ok : Accepts s (Kvfs n)) (is : only_item (face
   faces_are = only_is (faces_of s.model n) f is
 
   goes : KvfsGoes s.model n f
-  goes = subst (KvfsGoes s.model n) (ap head_or_zero faces_are) (kvfs_goes s.model n ok.holds)
+  goes = subst (KvfsGoes s.model n) (ap head_or_zero faces_are) (kvfs_goes s.model n holds)
 
   pub face_there : table.has s.model.faces f ≡ true
   face_there = goes.f_there
@@ -85,7 +70,7 @@ module _ (s : Store) (n f : ℕ) (ok : Accepts s (Kvfs n)) (is : only_item (face
   solid_there = goes.s_there
 
   pub outer_there : table.has s.model.loops (outer s.model f) ≡ true
-  outer_there = (ok.ready.sound.outers_there f goes.f_there).0
+  outer_there = (ready.sound.outers_there f goes.f_there).0
 
   pub outer_lone : is_lone (content s.model (outer s.model f)) ≡ true
   outer_lone = ap is_lone goes.is_bare
@@ -94,7 +79,7 @@ module _ (s : Store) (n f : ℕ) (ok : Accepts s (Kvfs n)) (is : only_item (face
   outer_bare = ap items_of goes.is_bare
 
   pub vertex_there : table.has s.model.vertices (lone_vertex (content s.model (outer s.model f))) ≡ true
-  vertex_there = ok.ready.sound.lone_at_vertex (outer s.model f) (lone_vertex (content s.model (outer s.model f))) goes.is_bare
+  vertex_there = ready.sound.lone_at_vertex (outer s.model f) (lone_vertex (content s.model (outer s.model f))) goes.is_bare
 
   -- the writers make what kvfs makes
   pub kvfs_made : take_solid (take_face (take_loop (take_vertex s (lone_vertex (content s.model (outer s.model f)))) (outer s.model f)) f) n ≡ after s (Kvfs n)

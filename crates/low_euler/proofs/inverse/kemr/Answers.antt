@@ -1,19 +1,21 @@
-use Rattle.low_euler.proofs.Accepted.{kemr_has, mate_there}
+use Rattle.euler_laws.proofs.kemr.Kemr.{kemr_goes}
+use Rattle.euler_laws.proofs.shared.Rows.{of_half}
+use Rattle.low_euler.proofs.Accepted.{mate_there}
 use Rattle.low_euler.proofs.Inverses.{kemr_inverse}
 use Rattle.low_euler.proofs.inverse.kemr.Goals as goal
 
 pub loop_of-kept-requires-clause-there : goal.loop_of-kept-requires-clause-there
-loop_of-kept-requires-clause-there c = kemr_has c.args.arena.now.model c.args.h c.args.ring c.requires.accepted
+loop_of-kept-requires-clause-there c = of_half c.args.arena.now.model c.args.h (kemr_goes c.args.arena.now.model c.args.h c.args.ring c.requires.accepted).h_there
 
 pub corner_after-first-requires-clause-there : goal.corner_after-first-requires-clause-there
 corner_after-first-requires-clause-there c =
-    let M = c.args.arena.now.model in mate_there M c.args.h c.mate-mate.result c.mate-mate.ensures (kemr_has M c.args.h c.args.ring c.requires.accepted)
+    let M = c.args.arena.now.model in mate_there M c.args.h c.mate-mate.result c.mate-mate.ensures (of_half M c.args.h (kemr_goes M c.args.h c.args.ring c.requires.accepted).h_there)
 
 pub corner_after-second-requires-clause-there : goal.corner_after-second-requires-clause-there
-corner_after-second-requires-clause-there c = kemr_has c.args.arena.now.model c.args.h c.args.ring c.requires.accepted
+corner_after-second-requires-clause-there c = of_half c.args.arena.now.model c.args.h (kemr_goes c.args.arena.now.model c.args.h c.args.ring c.requires.accepted).h_there
 
 pub in_use-requires : goal.in_use-requires
-in_use-requires c = kemr_has c.args.arena.now.model c.args.h c.args.ring c.requires.accepted
+in_use-requires c = of_half c.args.arena.now.model c.args.h (kemr_goes c.args.arena.now.model c.args.h c.args.ring c.requires.accepted).h_there
 
 pub returns-clause-is : goal.returns-clause-is
 returns-clause-is c =

@@ -1,14 +1,14 @@
 use Rattle.std.proofs.Common.{ap}
 use Rattle.euler_operators.specs.Effect.{inverse}
 use Rattle.euler_operators.specs.declared.Op.TheVariants.{Mfkrh}
-use Rattle.low_euler.proofs.face_operators_laws.Facts.{kfmrh_has}
+use Rattle.euler_laws.proofs.faces.Kfmrh.{kfmrh_goes}
 use Rattle.low_euler.proofs.inverse.kfmrh.Goals as goal
 
 pub outer-ring-requires : goal.outer-ring-requires
-outer-ring-requires c = (kfmrh_has c.args.arena.now.model c.args.kept c.args.killed c.requires.accepted).1
+outer-ring-requires c = (kfmrh_goes c.args.arena.now.model c.args.kept c.args.killed c.requires.accepted).g_there
 
 pub in_use-requires : goal.in_use-requires
-in_use-requires c = (kfmrh_has c.args.arena.now.model c.args.kept c.args.killed c.requires.accepted).1
+in_use-requires c = (kfmrh_goes c.args.arena.now.model c.args.kept c.args.killed c.requires.accepted).g_there
 
 pub returns-clause-is : goal.returns-clause-is
 unfolding inverse

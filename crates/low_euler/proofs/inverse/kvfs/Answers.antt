@@ -1,9 +1,7 @@
 use Rattle.std.proofs.Common.{◌≡◌, is_some, true≢false, sym, ap, ◌∙◌}
 use Rattle.euler_operators.specs.Table as table
 use Rattle.euler_operators.specs.Model.{outer, content}
-use Rattle.euler_operators.specs.declared.Op.TheVariants.{Kvfs}
 use Rattle.euler_operators.specs.Conditions.{is_lone, lone_vertex}
-use Rattle.euler_conditions.specs.Ready.{Accepts}
 use Rattle.low_euler.proofs.vertex_operators_laws.SolidRows.{face_there, solid_there, outer_there, outer_lone, vertex_there, has_one_face}
 use Rattle.low_euler.proofs.Inverses.{kvfs_inverse}
 use Rattle.low_euler.proofs.inverse.kvfs.Goals as goal
@@ -13,45 +11,37 @@ unreachable-requires c = true≢false (sym (has_one_face c.args.arena.now.model 
 
 pub outer-outer-requires : goal.outer-outer-requires
 outer-outer-requires c =
-    let ok : Accepts c.args.arena.now (Kvfs c.args.solid) = record { ready = c.requires.ready; holds = c.requires.accepted; room = tt } in
-    face_there c.args.arena.now c.args.solid c.in-Some.face ok (sym c.only_face.ensures ∙ c.in-Some.is)
+    face_there c.args.arena.now c.args.solid c.in-Some.face c.requires.ready c.requires.accepted (sym c.only_face.ensures ∙ c.in-Some.is)
 
 pub lone_vertex-vertex-requires-clause-there : goal.lone_vertex-vertex-requires-clause-there
 lone_vertex-vertex-requires-clause-there c =
-    let ok : Accepts c.args.arena.now (Kvfs c.args.solid) = record { ready = c.requires.ready; holds = c.requires.accepted; room = tt } in
-    ap (table.has c.args.arena.now.model.loops) c.outer-outer.ensures ∙ outer_there c.args.arena.now c.args.solid c.in-Some.face ok (sym c.only_face.ensures ∙ c.in-Some.is)
+    ap (table.has c.args.arena.now.model.loops) c.outer-outer.ensures ∙ outer_there c.args.arena.now c.args.solid c.in-Some.face c.requires.ready c.requires.accepted (sym c.only_face.ensures ∙ c.in-Some.is)
 
 pub lone_vertex-vertex-requires-clause-lone : goal.lone_vertex-vertex-requires-clause-lone
 lone_vertex-vertex-requires-clause-lone c =
-    let ok : Accepts c.args.arena.now (Kvfs c.args.solid) = record { ready = c.requires.ready; holds = c.requires.accepted; room = tt } in
-    ap (λ l. is_lone (content c.args.arena.now.model l)) c.outer-outer.ensures ∙ outer_lone c.args.arena.now c.args.solid c.in-Some.face ok (sym c.only_face.ensures ∙ c.in-Some.is)
+    ap (λ l. is_lone (content c.args.arena.now.model l)) c.outer-outer.ensures ∙ outer_lone c.args.arena.now c.args.solid c.in-Some.face c.requires.ready c.requires.accepted (sym c.only_face.ensures ∙ c.in-Some.is)
 
 pub point-point-requires : goal.point-point-requires
 point-point-requires c =
-    let ok : Accepts c.args.arena.now (Kvfs c.args.solid) = record { ready = c.requires.ready; holds = c.requires.accepted; room = tt } in
     let vertex : c.lone_vertex-vertex.result ≡ lone_vertex (content c.args.arena.now.model (outer c.args.arena.now.model c.in-Some.face)) = c.lone_vertex-vertex.ensures ∙ ap (λ l. lone_vertex (content c.args.arena.now.model l)) c.outer-outer.ensures in
-    ap (table.has c.args.arena.now.model.vertices) vertex ∙ vertex_there c.args.arena.now c.args.solid c.in-Some.face ok (sym c.only_face.ensures ∙ c.in-Some.is)
+    ap (table.has c.args.arena.now.model.vertices) vertex ∙ vertex_there c.args.arena.now c.args.solid c.in-Some.face c.requires.ready c.requires.accepted (sym c.only_face.ensures ∙ c.in-Some.is)
 
 pub in_use-requires : goal.in_use-requires
 in_use-requires c =
-    let ok : Accepts c.args.arena.now (Kvfs c.args.solid) = record { ready = c.requires.ready; holds = c.requires.accepted; room = tt } in
-    solid_there c.args.arena.now c.args.solid c.in-Some.face ok (sym c.only_face.ensures ∙ c.in-Some.is)
+    solid_there c.args.arena.now c.args.solid c.in-Some.face c.requires.ready c.requires.accepted (sym c.only_face.ensures ∙ c.in-Some.is)
 
 pub in_use-requires-2 : goal.in_use-requires-2
 in_use-requires-2 c =
-    let ok : Accepts c.args.arena.now (Kvfs c.args.solid) = record { ready = c.requires.ready; holds = c.requires.accepted; room = tt } in
-    face_there c.args.arena.now c.args.solid c.in-Some.face ok (sym c.only_face.ensures ∙ c.in-Some.is)
+    face_there c.args.arena.now c.args.solid c.in-Some.face c.requires.ready c.requires.accepted (sym c.only_face.ensures ∙ c.in-Some.is)
 
 pub in_use-requires-3 : goal.in_use-requires-3
 in_use-requires-3 c =
-    let ok : Accepts c.args.arena.now (Kvfs c.args.solid) = record { ready = c.requires.ready; holds = c.requires.accepted; room = tt } in
-    ap (table.has c.args.arena.now.model.loops) c.outer-outer.ensures ∙ outer_there c.args.arena.now c.args.solid c.in-Some.face ok (sym c.only_face.ensures ∙ c.in-Some.is)
+    ap (table.has c.args.arena.now.model.loops) c.outer-outer.ensures ∙ outer_there c.args.arena.now c.args.solid c.in-Some.face c.requires.ready c.requires.accepted (sym c.only_face.ensures ∙ c.in-Some.is)
 
 pub in_use-requires-4 : goal.in_use-requires-4
 in_use-requires-4 c =
-    let ok : Accepts c.args.arena.now (Kvfs c.args.solid) = record { ready = c.requires.ready; holds = c.requires.accepted; room = tt } in
     let vertex : c.lone_vertex-vertex.result ≡ lone_vertex (content c.args.arena.now.model (outer c.args.arena.now.model c.in-Some.face)) = c.lone_vertex-vertex.ensures ∙ ap (λ l. lone_vertex (content c.args.arena.now.model l)) c.outer-outer.ensures in
-    ap (table.has c.args.arena.now.model.vertices) vertex ∙ vertex_there c.args.arena.now c.args.solid c.in-Some.face ok (sym c.only_face.ensures ∙ c.in-Some.is)
+    ap (table.has c.args.arena.now.model.vertices) vertex ∙ vertex_there c.args.arena.now c.args.solid c.in-Some.face c.requires.ready c.requires.accepted (sym c.only_face.ensures ∙ c.in-Some.is)
 
 pub returns-clause-is : goal.returns-clause-is
 returns-clause-is c =

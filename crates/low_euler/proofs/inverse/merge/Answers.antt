@@ -1,11 +1,11 @@
 use Rattle.std.proofs.Common.{ap}
 use Rattle.euler_operators.specs.Effect.{inverse}
 use Rattle.euler_operators.specs.declared.Op.TheVariants.{Part}
-use Rattle.low_euler.proofs.face_operators_laws.Facts.{merge_has}
+use Rattle.euler_laws.proofs.merge.Merge.{merge_goes}
 use Rattle.low_euler.proofs.inverse.merge.Goals as goal
 
 pub in_use-requires : goal.in_use-requires
-in_use-requires c = (merge_has c.args.arena.now.model c.args.kept c.args.gone c.requires.accepted).1
+in_use-requires c = (merge_goes c.args.arena.now.model c.args.kept c.args.gone c.requires.accepted).t_there
 
 pub returns-clause-is : goal.returns-clause-is
 unfolding inverse

@@ -1,11 +1,11 @@
 use Rattle.std.proofs.Common.{ap}
 use Rattle.euler_operators.specs.Effect.{inverse}
 use Rattle.euler_operators.specs.declared.Op.TheVariants.{Kfmrh}
-use Rattle.low_euler.proofs.face_operators_laws.Facts.{mfkrh_has}
+use Rattle.euler_laws.proofs.faces.Kfmrh.{mfkrh_goes}
 use Rattle.low_euler.proofs.inverse.mfkrh.Goals as goal
 
 pub face_of-requires : goal.face_of-requires
-face_of-requires c = (mfkrh_has c.args.arena.now.model c.args.ring c.args.face c.requires.accepted).0
+face_of-requires c = (mfkrh_goes c.args.arena.now.model c.args.ring c.args.face c.requires.accepted).l_there
 
 pub returns-clause-is : goal.returns-clause-is
 unfolding inverse

@@ -3,16 +3,16 @@ use Rattle.euler_operators.specs.Effect.{inverse}
 use Rattle.euler_operators.specs.Table as table
 use Rattle.euler_operators.specs.Model.{outer}
 use Rattle.euler_operators.specs.declared.Op.TheVariants.{RingOut}
-use Rattle.low_euler.proofs.face_operators_laws.Facts.{outer_has}
+use Rattle.euler_laws.proofs.faces.RingOut.{outer_goes_so}
 use Rattle.low_euler.proofs.inverse.outer.Goals as goal
 
 pub face_of-home-requires : goal.face_of-home-requires
-face_of-home-requires c = (outer_has c.args.arena.now.model c.args.ring c.args.face c.requires.accepted).0
+face_of-home-requires c = (outer_goes_so c.args.arena.now.model c.args.ring c.args.face c.requires.accepted).l_there
 
 pub outer-old-requires : goal.outer-old-requires
 outer-old-requires c =
     let M = c.args.arena.now.model in
-    ap (table.has M.faces) c.face_of-home.ensures ∙ c.requires.ready.sound.loops_of_faces c.args.ring (outer_has M c.args.ring c.args.face c.requires.accepted).0
+    ap (table.has M.faces) c.face_of-home.ensures ∙ c.requires.ready.sound.loops_of_faces c.args.ring (outer_goes_so M c.args.ring c.args.face c.requires.accepted).l_there
 
 pub returns-clause-is : goal.returns-clause-is
 unfolding inverse

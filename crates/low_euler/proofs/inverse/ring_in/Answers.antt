@@ -1,11 +1,11 @@
 use Rattle.std.proofs.Common.{ap}
 use Rattle.euler_operators.specs.Effect.{inverse}
 use Rattle.euler_operators.specs.declared.Op.TheVariants.{RingIn}
-use Rattle.low_euler.proofs.face_operators_laws.Facts.{ring_in_has}
+use Rattle.euler_laws.proofs.faces.RingIn.{ring_in_goes}
 use Rattle.low_euler.proofs.inverse.ring_in.Goals as goal
 
 pub face_of-requires : goal.face_of-requires
-face_of-requires c = (ring_in_has c.args.arena.now.model c.args.ring c.args.face c.requires.accepted).0
+face_of-requires c = (ring_in_goes c.args.arena.now.model c.args.ring c.args.face c.requires.accepted).0.l_there
 
 pub returns-clause-is : goal.returns-clause-is
 unfolding inverse

@@ -2,14 +2,14 @@ use Rattle.std.proofs.Common.{ap, ◌∙◌}
 use Rattle.euler_operators.specs.Effect.{inverse}
 use Rattle.euler_operators.specs.Model.{outer}
 use Rattle.euler_operators.specs.declared.Op.TheVariants.{Outer}
-use Rattle.low_euler.proofs.face_operators_laws.Facts.{ring_out_has}
+use Rattle.euler_laws.proofs.faces.RingOut.{ring_out_goes}
 use Rattle.low_euler.proofs.inverse.ring_out.Goals as goal
 
 pub outer-old-requires : goal.outer-old-requires
-outer-old-requires c = (ring_out_has c.args.arena.now.model c.args.ring c.args.face c.requires.accepted).1
+outer-old-requires c = (ring_out_goes c.args.arena.now.model c.args.ring c.args.face c.requires.accepted).f_there
 
 pub face_of-home-requires : goal.face_of-home-requires
-face_of-home-requires c = (ring_out_has c.args.arena.now.model c.args.ring c.args.face c.requires.accepted).0
+face_of-home-requires c = (ring_out_goes c.args.arena.now.model c.args.ring c.args.face c.requires.accepted).l_there
 
 pub returns-clause-is : goal.returns-clause-is
 unfolding inverse

@@ -1,14 +1,18 @@
-use Rattle.std.proofs.Common.{◌∙◌}
-use Rattle.euler_operators.specs.HalfEdge.{code}
-use Rattle.low_euler.proofs.Inverses.{half_then, next_is, next_corner_lone, next_corner_at}
+use Rattle.std.proofs.Common.{◌≡◌, true, false, cond, nat_eq, sym, ap, ◌∙◌}
+use Rattle.euler_operators.specs.HalfEdge.{code, half}
+use Rattle.euler_operators.specs.Model.{after}
+use Rattle.euler_operators.specs.declared.Corner.TheVariants.{At, Lone}
+use Rattle.low_euler.proofs.Inverses.{half_then}
 use Rattle.low_euler.proofs.reading.corner_after.Goals as goal
 
 pub returns-then-same : goal.returns-then-same
 returns-then-same c =
-    let M = c.args.arena.now.model in
-    next_corner_lone M (code c.args.h) (code c.args.end) c.args.l (next_is M (code c.args.h) (code c.args.end) c.next-following.result c.same.result (half_then c.next-following.result c.next-following.ensures.next) c.same.ensures ∙ c.if-same.true)
+    let n = after c.args.arena.now.model (code c.args.h) in
+    let met : nat_eq n (code c.args.end) ≡ true = ap (λ g. nat_eq g (code c.args.end)) (sym c.next-following.ensures.next) ∙ sym c.same.ensures ∙ c.if-same.true in
+    sym (ap (λ b. cond b (Lone c.args.l) (At (half n))) met)
 
 pub returns-else-same : goal.returns-else-same
 returns-else-same c =
-    let M = c.args.arena.now.model in
-    next_corner_at M (code c.args.h) (code c.args.end) c.args.l c.next-following.result (half_then c.next-following.result c.next-following.ensures.next) (next_is M (code c.args.h) (code c.args.end) c.next-following.result c.same.result (half_then c.next-following.result c.next-following.ensures.next) c.same.ensures ∙ c.if-same.false)
+    let n = after c.args.arena.now.model (code c.args.h) in
+    let missed : nat_eq n (code c.args.end) ≡ false = ap (λ g. nat_eq g (code c.args.end)) (sym c.next-following.ensures.next) ∙ sym c.same.ensures ∙ c.if-same.false in
+    ap At (half_then c.next-following.result c.next-following.ensures.next) ∙ sym (ap (λ b. cond b (Lone c.args.l) (At (half n))) missed)

@@ -4,7 +4,7 @@ use Rattle.euler_conditions.specs.Store.{Store, set_solid, within, is_face_of, I
 use Rattle.euler_operators.specs.Model.{faces_of}
 use Rattle.euler_operators.specs.declared.Op.TheVariants.{Merge}
 use Rattle.euler_conditions.specs.Ready.{after}
-use Rattle.low_euler.proofs.face_operators_laws.Facts.{merge_has}
+use Rattle.euler_laws.proofs.merge.Merge.{merge_goes}
 use Rattle.low_euler.proofs.Merging.{merge_apart, merge_same, one_less, zero_stays, merge_ends, no_zero_face, no_face_left}
 use Rattle.low_euler.proofs.face_operators.moving.merge.Goals as goal
 
@@ -14,8 +14,8 @@ faces-init c =
     record {
       same = refl;
       zero = no_zero_face M c.args.gone c.requires.ready.sound;
-      room = c.has-in_use.ensures.room (c.has-in_use.ensures.used ∙ (merge_has M c.args.kept c.args.gone c.requires.holds).0);
-      there = (merge_has M c.args.kept c.args.gone c.requires.holds).1;
+      room = c.has-in_use.ensures.room (c.has-in_use.ensures.used ∙ (merge_goes M c.args.kept c.args.gone c.requires.holds).s_there);
+      there = (merge_goes M c.args.kept c.args.gone c.requires.holds).t_there;
     }
 
 pub faces-smaller : goal.faces-smaller

@@ -6,28 +6,28 @@ use Rattle.euler_operators.specs.Sound.{Has}
 use Rattle.euler_conditions.specs.Store.{Store, set_face, take_face}
 use Rattle.euler_operators.specs.Effect.{effect, kfmrh}
 use Rattle.low_euler.proofs.face_operators_laws.Rows.{loop_moved}
-use Rattle.low_euler.proofs.face_operators_laws.Facts.{kfmrh_has}
+use Rattle.euler_laws.proofs.faces.Kfmrh.{kfmrh_goes}
 use Rattle.low_euler.proofs.face_operators.rings.kfmrh.Goals as goal
 
 pub outer-ring-requires : goal.outer-ring-requires
-outer-ring-requires c = (kfmrh_has c.args.arena.now.model c.args.kept c.args.killed c.requires.holds).1
+outer-ring-requires c = (kfmrh_goes c.args.arena.now.model c.args.kept c.args.killed c.requires.holds).g_there
 
 pub give_loop-requires-clause-there : goal.give_loop-requires-clause-there
 give_loop-requires-clause-there c =
     let M = c.args.arena.now.model in
-    ap (table.has M.loops) c.outer-ring.ensures ∙ (c.requires.ready.sound.outers_there c.args.killed (kfmrh_has M c.args.kept c.args.killed c.requires.holds).1).0
+    ap (table.has M.loops) c.outer-ring.ensures ∙ (c.requires.ready.sound.outers_there c.args.killed (kfmrh_goes M c.args.kept c.args.killed c.requires.holds).g_there).0
 
 pub give_loop-requires-clause-face : goal.give_loop-requires-clause-face
-give_loop-requires-clause-face c = (kfmrh_has c.args.arena.now.model c.args.kept c.args.killed c.requires.holds).0
+give_loop-requires-clause-face c = (kfmrh_goes c.args.arena.now.model c.args.kept c.args.killed c.requires.holds).f_there
 
 pub take_face-requires : goal.take_face-requires
 take_face-requires c =
-    ap (λ (s : Store). table.has s.model.faces c.args.killed) c.give_loop.ensures ∙ (kfmrh_has c.args.arena.now.model c.args.kept c.args.killed c.requires.holds).1
+    ap (λ (s : Store). table.has s.model.faces c.args.killed) c.give_loop.ensures ∙ (kfmrh_goes c.args.arena.now.model c.args.kept c.args.killed c.requires.holds).g_there
 
 pub returns : goal.returns
 unfolding effect kfmrh
 returns c =
     let s = c.args.arena.now in let M = s.model in
-    let there : Has M.loops (outer M c.args.killed) = (c.requires.ready.sound.outers_there c.args.killed (kfmrh_has M c.args.kept c.args.killed c.requires.holds).1).0 in
+    let there : Has M.loops (outer M c.args.killed) = (c.requires.ready.sound.outers_there c.args.killed (kfmrh_goes M c.args.kept c.args.killed c.requires.holds).g_there).0 in
     c.take_face.ensures ∙ ap (λ (a : Store). take_face a c.args.killed) (c.give_loop.ensures ∙ ap (λ l. set_face s l c.args.kept) c.outer-ring.ensures)
     ∙ ap (λ (t : Table LoopRow). record s { model = record M { faces = table.remove M.faces c.args.killed; loops = t } }) (sym (loop_moved M (outer M c.args.killed) c.args.kept there))

@@ -1,4 +1,4 @@
-use Rattle.std.proofs.Common.{ap, ◌∙◌}
+use Rattle.std.proofs.Common.{is_some, ap, ◌∙◌}
 use Rattle.euler_operators.specs.Table as table
 use Rattle.euler_operators.specs.Table.{Table, put}
 use Rattle.euler_operators.specs.Model.{FaceRow, face_of, solid_of}
@@ -6,29 +6,29 @@ use Rattle.euler_operators.specs.Sound.{Has}
 use Rattle.euler_conditions.specs.Store.{Store, put_face, set_face}
 use Rattle.euler_operators.specs.Effect.{effect, mfkrh}
 use Rattle.low_euler.proofs.face_operators_laws.Swaps.{loop_given, face_put}
-use Rattle.low_euler.proofs.face_operators_laws.Facts.{mfkrh_has}
+use Rattle.euler_laws.proofs.faces.Kfmrh.{mfkrh_goes}
 use Rattle.low_euler.proofs.face_operators.rings.mfkrh.Goals as goal
 
 pub face_of-requires : goal.face_of-requires
-face_of-requires c = (mfkrh_has c.args.arena.now.model c.args.ring c.args.made c.requires.holds).0
+face_of-requires c = (mfkrh_goes c.args.arena.now.model c.args.ring c.args.made c.requires.holds).l_there
 
 pub solid_of-solid-requires : goal.solid_of-solid-requires
 solid_of-solid-requires c =
     let M = c.args.arena.now.model in
-    ap (table.has M.faces) c.face_of.ensures ∙ c.requires.ready.sound.loops_of_faces c.args.ring (mfkrh_has M c.args.ring c.args.made c.requires.holds).0
+    ap (table.has M.faces) c.face_of.ensures ∙ c.requires.ready.sound.loops_of_faces c.args.ring (mfkrh_goes M c.args.ring c.args.made c.requires.holds).l_there
 
 pub put_face-requires-clause-free : goal.put_face-requires-clause-free
-put_face-requires-clause-free c = (mfkrh_has c.args.arena.now.model c.args.ring c.args.made c.requires.holds).1
+put_face-requires-clause-free c = ap is_some (mfkrh_goes c.args.arena.now.model c.args.ring c.args.made c.requires.holds).face_free
 
 pub put_face-requires-clause-solid_room : goal.put_face-requires-clause-solid_room
 put_face-requires-clause-solid_room c =
     let M = c.args.arena.now.model in
-    let home : Has M.faces c.face_of.result = ap (table.has M.faces) c.face_of.ensures ∙ c.requires.ready.sound.loops_of_faces c.args.ring (mfkrh_has M c.args.ring c.args.made c.requires.holds).0 in
+    let home : Has M.faces c.face_of.result = ap (table.has M.faces) c.face_of.ensures ∙ c.requires.ready.sound.loops_of_faces c.args.ring (mfkrh_goes M c.args.ring c.args.made c.requires.holds).l_there in
     c.has-in_use.ensures.room (c.has-in_use.ensures.used ∙ ap (table.has M.solids) c.solid_of-solid.ensures ∙ c.requires.ready.sound.faces_of_solids c.face_of.result home)
 
 pub give_loop-requires-clause-there : goal.give_loop-requires-clause-there
 give_loop-requires-clause-there c =
-    ap (λ (s : Store). table.has s.model.loops c.args.ring) c.put_face.ensures ∙ (mfkrh_has c.args.arena.now.model c.args.ring c.args.made c.requires.holds).0
+    ap (λ (s : Store). table.has s.model.loops c.args.ring) c.put_face.ensures ∙ (mfkrh_goes c.args.arena.now.model c.args.ring c.args.made c.requires.holds).l_there
 
 pub give_loop-requires-clause-face : goal.give_loop-requires-clause-face
 give_loop-requires-clause-face c =
@@ -41,4 +41,4 @@ returns c =
     let solid_is = c.solid_of-solid.ensures ∙ ap (solid_of M) c.face_of.ensures in
     let faces : Table FaceRow = put M.faces f (record { solid = solid_of M (face_of M l); outer = l }) in
     c.give_loop.ensures ∙ ap (λ (a : Store). set_face a l f) (c.put_face.ensures ∙ ap (λ n. put_face s f n l) solid_is)
-    ∙ ap (λ t. record s { model = record M { faces = faces; loops = t } }) (loop_given M faces l f (mfkrh_has M l f c.requires.holds).0)
+    ∙ ap (λ t. record s { model = record M { faces = faces; loops = t } }) (loop_given M faces l f (mfkrh_goes M l f c.requires.holds).l_there)

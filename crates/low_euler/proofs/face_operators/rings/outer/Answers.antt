@@ -4,39 +4,39 @@ use Rattle.euler_operators.specs.Model.{face_of, outer}
 use Rattle.euler_operators.specs.Sound.{Has}
 use Rattle.euler_conditions.specs.Store.{Store, set_face, set_outer}
 use Rattle.euler_operators.specs.Effect.{effect, take_outer}
-use Rattle.low_euler.proofs.face_operators_laws.Facts.{outer_has}
+use Rattle.euler_laws.proofs.faces.RingOut.{outer_goes_so}
 use Rattle.low_euler.proofs.face_operators_laws.Swaps.{swapped, face_stays}
 use Rattle.low_euler.proofs.face_operators.rings.outer.Goals as goal
 
 pub face_of-home-requires : goal.face_of-home-requires
-face_of-home-requires c = (outer_has c.args.arena.now.model c.args.ring c.args.face c.requires.holds).0
+face_of-home-requires c = (outer_goes_so c.args.arena.now.model c.args.ring c.args.face c.requires.holds).l_there
 
 pub outer-old-requires : goal.outer-old-requires
 outer-old-requires c =
     let M = c.args.arena.now.model in
-    ap (table.has M.faces) c.face_of-home.ensures ∙ c.requires.ready.sound.loops_of_faces c.args.ring (outer_has M c.args.ring c.args.face c.requires.holds).0
+    ap (table.has M.faces) c.face_of-home.ensures ∙ c.requires.ready.sound.loops_of_faces c.args.ring (outer_goes_so M c.args.ring c.args.face c.requires.holds).l_there
 
 pub set_outer-requires : goal.set_outer-requires
 set_outer-requires c =
     let M = c.args.arena.now.model in
-    ap (table.has M.faces) c.face_of-home.ensures ∙ c.requires.ready.sound.loops_of_faces c.args.ring (outer_has M c.args.ring c.args.face c.requires.holds).0
+    ap (table.has M.faces) c.face_of-home.ensures ∙ c.requires.ready.sound.loops_of_faces c.args.ring (outer_goes_so M c.args.ring c.args.face c.requires.holds).l_there
 
 pub give_loop-requires-clause-there : goal.give_loop-requires-clause-there
 give_loop-requires-clause-there c =
     let M = c.args.arena.now.model in
-    let home : Has M.faces c.face_of-home.result = ap (table.has M.faces) c.face_of-home.ensures ∙ c.requires.ready.sound.loops_of_faces c.args.ring (outer_has M c.args.ring c.args.face c.requires.holds).0 in
+    let home : Has M.faces c.face_of-home.result = ap (table.has M.faces) c.face_of-home.ensures ∙ c.requires.ready.sound.loops_of_faces c.args.ring (outer_goes_so M c.args.ring c.args.face c.requires.holds).l_there in
     ap (λ (s : Store). table.has s.model.loops c.outer-old.result) c.set_outer.ensures ∙ ap (table.has M.loops) c.outer-old.ensures ∙ (c.requires.ready.sound.outers_there c.face_of-home.result home).0
 
 pub give_loop-requires-clause-face : goal.give_loop-requires-clause-face
 give_loop-requires-clause-face c =
     ap (λ (s : Store). table.has s.model.faces c.args.face) c.set_outer.ensures
-    ∙ face_stays c.args.arena.now c.face_of-home.result c.args.ring c.args.face (outer_has c.args.arena.now.model c.args.ring c.args.face c.requires.holds).1
+    ∙ face_stays c.args.arena.now c.face_of-home.result c.args.ring c.args.face (outer_goes_so c.args.arena.now.model c.args.ring c.args.face c.requires.holds).f_there
 
 pub returns : goal.returns
 unfolding effect take_outer
 returns c =
     let s = c.args.arena.now in let M = s.model in
-    let home : Has M.faces c.face_of-home.result = ap (table.has M.faces) c.face_of-home.ensures ∙ c.requires.ready.sound.loops_of_faces c.args.ring (outer_has M c.args.ring c.args.face c.requires.holds).0 in
+    let home : Has M.faces c.face_of-home.result = ap (table.has M.faces) c.face_of-home.ensures ∙ c.requires.ready.sound.loops_of_faces c.args.ring (outer_goes_so M c.args.ring c.args.face c.requires.holds).l_there in
     let home_is = c.face_of-home.ensures in
     let at_home : Has M.faces (face_of M c.args.ring) = subst (Has M.faces) home_is home in
     let old_is = c.outer-old.ensures ∙ ap (outer M) home_is in

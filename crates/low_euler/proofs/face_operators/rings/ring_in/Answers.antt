@@ -3,17 +3,17 @@ use Rattle.euler_operators.specs.Table.{Table}
 use Rattle.euler_operators.specs.Model.{LoopRow}
 use Rattle.euler_operators.specs.Effect.{effect, ring_in}
 use Rattle.low_euler.proofs.face_operators_laws.Rows.{loop_moved}
-use Rattle.low_euler.proofs.face_operators_laws.Facts.{ring_in_has}
+use Rattle.euler_laws.proofs.faces.RingIn.{ring_in_goes}
 use Rattle.low_euler.proofs.face_operators.rings.ring_in.Goals as goal
 
 pub give_loop-requires-clause-there : goal.give_loop-requires-clause-there
-give_loop-requires-clause-there c = (ring_in_has c.args.arena.now.model c.args.ring c.args.to c.requires.holds).0
+give_loop-requires-clause-there c = (ring_in_goes c.args.arena.now.model c.args.ring c.args.to c.requires.holds).0.l_there
 
 pub give_loop-requires-clause-face : goal.give_loop-requires-clause-face
-give_loop-requires-clause-face c = (ring_in_has c.args.arena.now.model c.args.ring c.args.to c.requires.holds).1
+give_loop-requires-clause-face c = (ring_in_goes c.args.arena.now.model c.args.ring c.args.to c.requires.holds).0.f_there
 
 pub returns : goal.returns
 unfolding effect ring_in
 returns c =
     let s = c.args.arena.now in let M = s.model in
-    c.give_loop.ensures ∙ ap (λ (t : Table LoopRow). record s { model = record M { loops = t } }) (sym (loop_moved M c.args.ring c.args.to (ring_in_has M c.args.ring c.args.to c.requires.holds).0))
+    c.give_loop.ensures ∙ ap (λ (t : Table LoopRow). record s { model = record M { loops = t } }) (sym (loop_moved M c.args.ring c.args.to (ring_in_goes M c.args.ring c.args.to c.requires.holds).0.l_there))

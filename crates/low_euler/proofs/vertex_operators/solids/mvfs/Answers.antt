@@ -1,20 +1,21 @@
-use Rattle.std.proofs.Common.{ap, ◌∙◌}
+use Rattle.std.proofs.Common.{is_some, ap, ◌∙◌}
 use Rattle.euler_operators.specs.Table as table
 use Rattle.euler_operators.specs.Model.{items_of, content}
 use Rattle.euler_conditions.specs.Store.{Store, put_solid, put_loop, with_lone}
-use Rattle.low_euler.proofs.vertex_operators_laws.SolidRows.{was_begun, mvfs_face_free, mvfs_loop_free, mvfs_point, new_loop_there, new_loop_bare, mvfs_made}
+use Rattle.euler_laws.proofs.faces.Solids.{mvfs_goes}
+use Rattle.low_euler.proofs.vertex_operators_laws.SolidRows.{was_begun, new_loop_there, new_loop_bare, mvfs_made}
 use Rattle.low_euler.proofs.vertex_operators.solids.mvfs.Goals as goal
 
 pub put_vertex-requires-clause-range : goal.put_vertex-requires-clause-range
-put_vertex-requires-clause-range c = mvfs_point _ _ _ _ _ _ c.requires.holds
+put_vertex-requires-clause-range c = (mvfs_goes _ _ _ _ _ _ c.requires.holds).point_fits
 
 pub put_face-requires-clause-free : goal.put_face-requires-clause-free
 put_face-requires-clause-free c =
-    ap (λ (t : Store). table.has t.model.faces c.args.face) (c.put_solid.ensures ∙ ap (λ t. put_solid t c.args.solid) c.put_vertex.ensures) ∙ mvfs_face_free _ _ _ _ _ _ c.requires.holds
+    ap (λ (t : Store). table.has t.model.faces c.args.face) (c.put_solid.ensures ∙ ap (λ t. put_solid t c.args.solid) c.put_vertex.ensures) ∙ ap is_some (mvfs_goes _ _ _ _ _ _ c.requires.holds).face_free
 
 pub put_loop-requires-clause-free : goal.put_loop-requires-clause-free
 put_loop-requires-clause-free c =
-    ap (λ (t : Store). table.has t.model.loops c.args.outer) (was_begun _ _ _ _ _ _ _ _ _ c.put_vertex.ensures c.put_solid.ensures c.put_face.ensures) ∙ mvfs_loop_free _ _ _ _ _ _ c.requires.holds
+    ap (λ (t : Store). table.has t.model.loops c.args.outer) (was_begun _ _ _ _ _ _ _ _ _ c.put_vertex.ensures c.put_solid.ensures c.put_face.ensures) ∙ ap is_some (mvfs_goes _ _ _ _ _ _ c.requires.holds).loop_free
 
 pub set_lone-requires : goal.set_lone-requires
 set_lone-requires c =
