@@ -1,5 +1,5 @@
 -- The inverse of an operator, from what the arena's readers answer.
-use Rattle.std.proofs.Common.{◌≡◌, ℕ, Bool, true, cond, nat_eq, ◌&&◌, List, [], ◌∷◌, Some, None, is_some, unwrap_or, sym, ap, subst, ◌∙◌, true≢false}
+use Rattle.std.proofs.Common.{◌≡◌, ℕ, Bool, cond, nat_eq, ◌&&◌, List, Some, None, sym, ap, subst, ◌∙◌}
 use Rattle.euler_operators.specs.declared.Point.{Point}
 use Rattle.euler_operators.specs.declared.Corner.{Corner}
 use Rattle.euler_operators.specs.declared.Corner.TheVariants.{At, Lone}
@@ -13,6 +13,7 @@ use Rattle.euler_operators.specs.Sound.{Sound, HasHalf}
 use Rattle.euler_operators.proofs.Halves.{half-code, mate_other, edge_of-mate}
 use Rattle.euler_operators.proofs.Models.{cycle_there, cycle_sound}
 use Rattle.euler_conditions.specs.Store.{only_item}
+use Rattle.euler_conditions.proofs.Solids.{one_face}
 use Rattle.euler_operators.specs.declared.Op.{Op}
 use Rattle.euler_operators.specs.declared.Op.TheVariants.{Mvfs, Kvfs, Mev, Kev, Mef, Kef, Kemr, Mekr}
 use Rattle.euler_operators.specs.Conditions.{first_false, lone_vertex}
@@ -24,11 +25,6 @@ use Rattle.low_euler.proofs.Parts.{corner_between, between_back}
 pub half_then : (h : HalfEdge) {n : ℕ} → code h ≡ n → h ≡ half n
 half_then h e = sym (half-code h) ∙ ap half e
 
-head_is : (fs : List ℕ) (f : ℕ) → only_item fs ≡ Some f → head_or_zero fs ≡ f
-head_is [] f e = absurd (true≢false (sym (ap is_some e)))
-head_is (g ∷ []) f e = ap (λ q. unwrap_or q 0) e
-head_is (g ∷ k ∷ fs) f e = absurd (true≢false (sym (ap is_some e)))
-
 module _ (M : Model) where
   of_face : ℕ → ℕ → Op
   of_face s f = let v = lone_vertex (content M (outer M f)) in Mvfs s f (outer M f) v (point_of M v)
@@ -39,7 +35,7 @@ module _ (M : Model) where
       ap (Mvfs s f l v) pe
       ∙ ap (λ u. Mvfs s f l u (point_of M u)) (ve ∙ ap (λ k. lone_vertex (content M k)) le)
       ∙ ap (λ k. Mvfs s f k (lone_vertex (content M (outer M f))) (point_of M (lone_vertex (content M (outer M f))))) le
-      ∙ ap (of_face s) (sym (head_is (faces_of M s) f only))
+      ∙ ap (of_face s) (sym (ap head_or_zero (one_face (faces_of M s) f only)))
 
   pub kev_inverse : (h m : HalfEdge) (c d : Corner) (v : ℕ) (p : Point) → code m ≡ mate (code h) → c ≡ kev_corner M (code h) → d ≡ kev_corner_mate M (code h) → v ≡ tail M (code m) → p ≡ point_of M v → Mev c d h v p ≡ inverse M (Kev h)
   unfolding inverse

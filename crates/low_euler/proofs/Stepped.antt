@@ -21,13 +21,13 @@ accepted_grown r s o ready holds grown room = record {
   room = room;
 }
 
-pub stepped_grown : (r s t : Store) (o i : Op) → HasGrown r s → Accepts s o → t ≡ after s o → i ≡ inverse r.model o → HasRoomFor s i → IsStepped r o t
-stepped_grown r s t o i grown ok is back room = record {
+pub stepped_grown : (r s t : Store) (o i : Op) → IsReady r → first_false r.model o ≡ None → HasGrown r s → HasRoomFor s o → t ≡ after s o → i ≡ inverse r.model o → HasRoomFor s i → IsStepped r o t
+stepped_grown r s t o i ready holds grown room is back inverse_room = record {
   model = ap (λ (x : Store). x.model) is ∙ ap (λ (M : Model). effect M o) grown.model;
-  ready = subst IsReady (sym is) (ready_after s o ok);
+  ready = subst IsReady (sym is) (ready_after s o (accepted_grown r s o ready holds grown room));
   kept = λ kind n there. ap (λ (x : Store). has_room x kind n) is ∙ (sym (same_room s o kind n) ∙ grown.kept kind n there);
-  room = subst (λ (x : Store). HasRoomFor x o) (sym is) (room_after s o (made o) ok.room);
-  inverse_room = subst (λ (x : Store). HasRoomFor x (inverse r.model o)) (sym is) (room_after s o (made (inverse r.model o)) (subst (HasRoomFor s) back room));
+  room = subst (λ (x : Store). HasRoomFor x o) (sym is) (room_after s o (made o) room);
+  inverse_room = subst (λ (x : Store). HasRoomFor x (inverse r.model o)) (sym is) (room_after s o (made (inverse r.model o)) (subst (HasRoomFor s) back inverse_room));
 }
 
 -- the inverses that name no more than the operator does

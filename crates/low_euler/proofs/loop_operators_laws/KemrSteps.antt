@@ -146,15 +146,12 @@ module _ (s : Store) (half : HalfEdge) (l : ℕ) (ok : Accepts s (Kemr half l)) 
   m_stands : IsStanding looped.model m
   m_stands = subst (λ (t : Store). IsStanding t.model m) (sym looped_is) (two.standing_r M r l (face_of M r) (face_of M r) all loops (cycle xs) (cycle []) fits_one m m_in)
 
-  together : loop_of looped.model m ≡ loop_of looped.model h
-  together = subst (λ (t : Store). loop_of t.model m ≡ loop_of t.model h) (sym looped_is)
-      (two.loop_r M r l (face_of M r) (face_of M r) all loops (cycle xs) (cycle []) fits_one m m_in ∙ sym (two.loop_r M r l (face_of M r) (face_of M r) all loops (cycle xs) (cycle []) fits_one h h_in))
-
   pub mate_there : (p : Store) (n : ℕ) → n ≡ m → p ≡ looped → has_half p.model n ≡ true
   mate_there p n en e = ap (has_half p.model) en ∙ ap (λ (t : Store). has_half t.model m) e ∙ m_stands.there
 
   pub mate_near : (p : Store) (n : ℕ) → n ≡ m → p ≡ looped → loop_of p.model n ≡ loop_of p.model h
-  mate_near p n en e = ap (loop_of p.model) en ∙ subst (λ (t : Store). loop_of t.model m ≡ loop_of t.model h) (sym e) together
+  mate_near p n en e = ap (loop_of p.model) en ∙ subst (λ (t : Store). loop_of t.model m ≡ loop_of t.model h) (sym (e ∙ looped_is))
+      (two.loop_r M r l (face_of M r) (face_of M r) all loops (cycle xs) (cycle []) fits_one m m_in ∙ sym (two.loop_r M r l (face_of M r) (face_of M r) all loops (cycle xs) (cycle []) fits_one h h_in))
 
   pub l_there : table.has looped.model.loops l ≡ true
   l_there = subst (λ (t : Store). table.has t.model.loops l ≡ true) (sym looped_is)

@@ -234,10 +234,6 @@ module _ (s : Store) (first second half : HalfEdge) (f l : ℕ) (ok : Accepts s 
   pub m_stands : IsStanding second_in.model m
   m_stands = subst (λ (t : Store). IsStanding t.model m) (sym second_is) (two.standing_r N r l (face_of M r) f all loops (cycle zs) (cycle []) fits_three m m_in)
 
-  pub together : loop_of second_in.model m ≡ loop_of second_in.model h
-  together = subst (λ (t : Store). loop_of t.model m ≡ loop_of t.model h) (sym second_is)
-      (two.loop_r N r l (face_of M r) f all loops (cycle zs) (cycle []) fits_three m m_in ∙ sym (two.loop_r N r l (face_of M r) f all loops (cycle zs) (cycle []) fits_three h h_in))
-
   pub l_there : table.has second_in.model.loops l ≡ true
   l_there = subst (λ (t : Store). table.has t.model.loops l ≡ true) (sym second_is)
       (ap is_some (two.get_l N r l (face_of M r) f all loops N.loops (record { face = face_of M r; content = cycle zs }) (record { face = f; content = cycle [] })))
@@ -275,7 +271,8 @@ module _ (s : Store) (first second half : HalfEdge) (f l : ℕ) (ok : Accepts s 
   mate_there p n en e = ap (has_half p.model) en ∙ ap (λ (t : Store). has_half t.model m) e ∙ m_stands.there
 
   pub mate_near : (p : Store) (n : ℕ) → n ≡ m → p ≡ second_in → loop_of p.model n ≡ loop_of p.model h
-  mate_near p n en e = ap (loop_of p.model) en ∙ subst (λ (t : Store). loop_of t.model m ≡ loop_of t.model h) (sym e) together
+  mate_near p n en e = ap (loop_of p.model) en ∙ subst (λ (t : Store). loop_of t.model m ≡ loop_of t.model h) (sym (e ∙ second_is))
+      (two.loop_r N r l (face_of M r) f all loops (cycle zs) (cycle []) fits_three m m_in ∙ sym (two.loop_r N r l (face_of M r) f all loops (cycle zs) (cycle []) fits_three h h_in))
 
   -- what the new face asks
   parted_room : (p : Store) → p ≡ parted → p.room ≡ s.room

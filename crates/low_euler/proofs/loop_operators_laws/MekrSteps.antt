@@ -294,13 +294,10 @@ module _ (s : Store) (first second : Corner) (half : HalfEdge) (ok : Accepts s (
   m_stands p n en e = subst (IsStanding p.model) (sym en) (subst (λ (t : Store). IsStanding t.model m) (sym (e ∙ second_is))
       (two.standing_l N r l (face_of M r) (face_of M l) all loops (cycle ys) (cycle xs) fits_three m m_in))
 
-  apart_second : loop_of second_in.model m ≢ loop_of second_in.model h
-  apart_second = subst (λ (t : Store). loop_of t.model m ≢ loop_of t.model h) (sym second_is)
-      (λ e. r_l (sym (two.loop_r N r l (face_of M r) (face_of M l) all loops (cycle ys) (cycle xs) fits_three h h_in) ∙ sym e
-      ∙ two.loop_l N r l (face_of M r) (face_of M l) all loops (cycle ys) (cycle xs) fits_three m m_in))
-
   pub loops_apart : (p : Store) (n : ℕ) → n ≡ m → p ≡ second_in → loop_of p.model n ≢ loop_of p.model h
-  loops_apart p n en e = subst (λ k. loop_of p.model k ≢ loop_of p.model h) (sym en) (subst (λ (t : Store). loop_of t.model m ≢ loop_of t.model h) (sym e) apart_second)
+  loops_apart p n en e = subst (λ k. loop_of p.model k ≢ loop_of p.model h) (sym en) (subst (λ (t : Store). loop_of t.model m ≢ loop_of t.model h) (sym (e ∙ second_is))
+      (λ same. r_l (sym (two.loop_r N r l (face_of M r) (face_of M l) all loops (cycle ys) (cycle xs) fits_three h h_in) ∙ sym same
+      ∙ two.loop_l N r l (face_of M r) (face_of M l) all loops (cycle ys) (cycle xs) fits_three m m_in)))
 
   abbrev ring : List ℕ
   ring = canonical ((h ∷ X) ++ m ∷ Y)

@@ -43,21 +43,15 @@ module _ (M : Model) (sound : Sound M) where
       | inr n ↦ omega (arith, count_shared x, n, placed.apart l x)
     ]
 
-    where_shared : (x : ℕ) → IsIn x shared → (q : ℕ) × IsIn x (hs q) × ((p : ℕ) → p ≢ r → p ≢ l → q ≢ p)
-    where_shared x i = elim (IsIn_or_not x (hs r)) [
-      | inl j ↦ (r, j, λ p a b e. a (sym e))
-      | inr n ↦ (l, omega (arith, count_shared x, n, i), λ p a b e. b (sym e))
-    ]
-
     pub sound_loops : TwoLoops M r l shared
     sound_loops = record {
       apart = apart;
       first_real = first;
       second_real = second;
       once = once_shared;
-      there = λ x i. let w = where_shared x i in half_there x w.0 w.1;
-      others = λ x q i a b. let w = where_shared x i in elim (IsIn_or_not x (hs q)) [
-        | inl j ↦ absurd (w.2 q a b (in_one x w.0 q w.1 j))
+      there = λ x i. elim (IsIn_or_not x (hs r)) [ inl k ↦ half_there x r k | inr n ↦ half_there x l (omega (arith, count_shared x, n, i)) ];
+      others = λ x q i a b. elim (IsIn_or_not x (hs q)) [
+        | inl j ↦ absurd (elim (IsIn_or_not x (hs r)) [ inl k ↦ a (in_one x q r j k) | inr n ↦ b (in_one x q l j (omega (arith, count_shared x, n, i))) ])
         | inr n ↦ n
       ];
     }

@@ -12,6 +12,7 @@ use Rattle.euler_laws.proofs.shared.Goes.{all_hold}
 use Rattle.euler_laws.proofs.faces.Solids.{KvfsGoes, kvfs_goes}
 use Rattle.euler_conditions.specs.Store.{Store, put_vertex, put_solid, put_face, put_loop, with_lone, only_item, take_solid, take_face, take_loop, take_vertex}
 use Rattle.euler_conditions.specs.Ready.{IsReady, after}
+use Rattle.euler_conditions.proofs.Solids.{one_face}
 
 module _ (s : Store) (n f l v : ℕ) (p : Point) where
   abbrev pub begun : Store
@@ -39,11 +40,6 @@ module _ (s : Store) (n f l v : ℕ) (p : Point) where
 
 -- ---- a solid that is killed
 
-only_is : (fs : List ℕ) (f : ℕ) → only_item fs ≡ Some f → fs ≡ f ∷ []
-only_is [] f e = absurd (true≢false (sym (ap is_some e)))
-only_is (g ∷ []) f e = ap (λ q. unwrap_or q 0 ∷ []) e
-only_is (g ∷ k ∷ fs) f e = absurd (true≢false (sym (ap is_some e)))
-
 bare_is_one : (M : Model) (fs : List ℕ) → bare_face M fs ≡ true → is_some (only_item fs) ≡ true
 bare_is_one M [] e = absurd (true≢false (sym e))
 bare_is_one M (f ∷ []) e = refl
@@ -58,7 +54,7 @@ module _ (s : Store) (n f : ℕ) (ready : IsReady s) (holds : first_false s.mode
   M = s.model
 
   faces_are : faces_of s.model n ≡ f ∷ []
-  faces_are = only_is (faces_of s.model n) f is
+  faces_are = one_face (faces_of s.model n) f is
 
   goes : KvfsGoes s.model n f
   goes = subst (KvfsGoes s.model n) (ap head_or_zero faces_are) (kvfs_goes s.model n holds)

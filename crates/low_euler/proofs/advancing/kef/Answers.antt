@@ -8,6 +8,5 @@ kef-requires c = accepted_grown c.args.arena.now c.args.arena.now (Kef c.args.ha
 
 pub returns-clause-stepped : goal.returns-clause-stepped
 returns-clause-stepped c =
-    stepped_grown c.args.arena.now c.args.arena.now c.kef.new.arena (Kef c.args.half) c.kef-inverse.result (grown_same _)
-    (accepted_grown c.args.arena.now c.args.arena.now (Kef c.args.half) c.requires.ready c.requires.accepted (grown_same _) tt)
+    stepped_grown c.args.arena.now c.args.arena.now c.kef.new.arena (Kef c.args.half) c.kef-inverse.result c.requires.ready c.requires.accepted (grown_same _) tt
     c.kef.ensures c.kef-inverse.ensures.is c.kef-inverse.ensures.room

@@ -8,6 +8,5 @@ kev-requires c = accepted_grown c.args.arena.now c.args.arena.now (Kev c.args.ha
 
 pub returns-clause-stepped : goal.returns-clause-stepped
 returns-clause-stepped c =
-    stepped_grown c.args.arena.now c.args.arena.now c.kev.new.arena (Kev c.args.half) c.kev-inverse.result (grown_same _)
-    (accepted_grown c.args.arena.now c.args.arena.now (Kev c.args.half) c.requires.ready c.requires.accepted (grown_same _) tt)
+    stepped_grown c.args.arena.now c.args.arena.now c.kev.new.arena (Kev c.args.half) c.kev-inverse.result c.requires.ready c.requires.accepted (grown_same _) tt
     c.kev.ensures c.kev-inverse.ensures.is c.kev-inverse.ensures.room

@@ -8,6 +8,5 @@ kvfs-requires c = accepted_grown c.args.arena.now c.args.arena.now (Kvfs c.args.
 
 pub returns-clause-stepped : goal.returns-clause-stepped
 returns-clause-stepped c =
-    stepped_grown c.args.arena.now c.args.arena.now c.kvfs.new.arena (Kvfs c.args.solid) c.kvfs-inverse.result (grown_same _)
-    (accepted_grown c.args.arena.now c.args.arena.now (Kvfs c.args.solid) c.requires.ready c.requires.accepted (grown_same _) tt)
+    stepped_grown c.args.arena.now c.args.arena.now c.kvfs.new.arena (Kvfs c.args.solid) c.kvfs-inverse.result c.requires.ready c.requires.accepted (grown_same _) tt
     c.kvfs.ensures c.kvfs-inverse.ensures.is c.kvfs-inverse.ensures.room

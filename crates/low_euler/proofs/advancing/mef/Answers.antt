@@ -11,8 +11,7 @@ mef-requires c = accepted_grown c.args.arena.now c.room_for_three.new.arena (Mef
 
 pub returns-clause-stepped : goal.returns-clause-stepped
 returns-clause-stepped c =
-    stepped_grown c.args.arena.now c.room_for_three.new.arena c.mef.new.arena (Mef c.args.from c.args.to c.args.half c.args.face c.args.outer) (Kef c.args.half) c.in_ok-room_for_three.ensures.grown
-    (accepted_grown c.args.arena.now c.room_for_three.new.arena (Mef c.args.from c.args.to c.args.half c.args.face c.args.outer) c.requires.ready c.requires.accepted c.in_ok-room_for_three.ensures.grown c.in_ok-room_for_three.ensures.ok)
+    stepped_grown c.args.arena.now c.room_for_three.new.arena c.mef.new.arena (Mef c.args.from c.args.to c.args.half c.args.face c.args.outer) (Kef c.args.half) c.requires.ready c.requires.accepted c.in_ok-room_for_three.ensures.grown c.in_ok-room_for_three.ensures.ok
     c.mef.ensures (mef_back _ c.args.from c.args.to c.args.half c.args.face c.args.outer) tt
 
 pub returns-clause-inverse : goal.returns-clause-inverse

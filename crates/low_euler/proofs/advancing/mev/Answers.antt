@@ -11,8 +11,7 @@ mev-requires c = accepted_grown c.args.arena.now c.room_for_two.new.arena (Mev c
 
 pub returns-clause-stepped : goal.returns-clause-stepped
 returns-clause-stepped c =
-    stepped_grown c.args.arena.now c.room_for_two.new.arena c.mev.new.arena (Mev c.args.from c.args.to c.args.half c.args.vertex c.args.point) (Kev c.args.half) c.in_ok-room_for_two.ensures.grown
-    (accepted_grown c.args.arena.now c.room_for_two.new.arena (Mev c.args.from c.args.to c.args.half c.args.vertex c.args.point) c.requires.ready c.requires.accepted c.in_ok-room_for_two.ensures.grown c.in_ok-room_for_two.ensures.ok)
+    stepped_grown c.args.arena.now c.room_for_two.new.arena c.mev.new.arena (Mev c.args.from c.args.to c.args.half c.args.vertex c.args.point) (Kev c.args.half) c.requires.ready c.requires.accepted c.in_ok-room_for_two.ensures.grown c.in_ok-room_for_two.ensures.ok
     c.mev.ensures (mev_back _ c.args.from c.args.to c.args.half c.args.vertex c.args.point) tt
 
 pub returns-clause-inverse : goal.returns-clause-inverse

@@ -11,8 +11,7 @@ mvfs-requires c = accepted_grown c.args.arena.now c.room_for_solid.new.arena (Mv
 
 pub returns-clause-stepped : goal.returns-clause-stepped
 returns-clause-stepped c =
-    stepped_grown c.args.arena.now c.room_for_solid.new.arena c.mvfs.new.arena (Mvfs c.args.solid c.args.face c.args.outer c.args.vertex c.args.point) (Kvfs c.args.solid) c.in_ok-room_for_solid.ensures.grown
-    (accepted_grown c.args.arena.now c.room_for_solid.new.arena (Mvfs c.args.solid c.args.face c.args.outer c.args.vertex c.args.point) c.requires.ready c.requires.accepted c.in_ok-room_for_solid.ensures.grown c.in_ok-room_for_solid.ensures.ok)
+    stepped_grown c.args.arena.now c.room_for_solid.new.arena c.mvfs.new.arena (Mvfs c.args.solid c.args.face c.args.outer c.args.vertex c.args.point) (Kvfs c.args.solid) c.requires.ready c.requires.accepted c.in_ok-room_for_solid.ensures.grown c.in_ok-room_for_solid.ensures.ok
     c.mvfs.ensures (mvfs_back _ c.args.solid c.args.face c.args.outer c.args.vertex c.args.point) tt
 
 pub returns-clause-inverse : goal.returns-clause-inverse
