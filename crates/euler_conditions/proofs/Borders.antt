@@ -26,10 +26,6 @@ use Rattle.euler_conditions.specs.Parts.{StaysIn, FaceLeadsOut, FaceStaysIn, Are
 use Rattle.euler_conditions.proofs.Orders.{part_refuses, part_holds}
 use Rattle.euler_laws.proofs.shared.RisingLists.{all_listed}
 
-pub lone_has_none : (c : LoopContent) (v : ℕ) → Tells c (Content.Lone v) → items_of c ≡ []
-lone_has_none (lone w) v t = refl
-lone_has_none (cycle hs) v t = absurd t
-
 pub ring_has : (c : LoopContent) (h : HalfEdge) → Tells c (Content.Ring h) → IsIn (code h) (items_of c)
 ring_has (lone w) h t = absurd t
 ring_has (cycle hs) h t = t

@@ -38,9 +38,6 @@ pub leads_not : (M : Model) (h g : HalfEdge) (far : ℕ) → nat_eq g.edge h.edg
 leads_not M h g far same =
     ap not same ∙ sym (ap (λ b. not b && nat_eq (tail M (mate (code g))) far) ((λ i. nat_eq (edge_of-code g i) (edge_of-code h i)) ∙ same))
 
--- the least edge that was found, where g leads to the far end and where it doesn't
+-- the least edge that was found, where g leads to the far end
 pub found_then : (M : Model) (h far : ℕ) (g : HalfEdge) (old least : ℕ) → leads_to M h far (code g) ≡ true → least ≡ lesser old g.edge → least ≡ cond (leads_to M h far (code g)) (lesser old (edge_of (code g))) old
 found_then M h far g old least t e = e ∙ ap (lesser old) (sym (edge_of-code g)) ∙ sym (ap (λ b. cond b (lesser old (edge_of (code g))) old) t)
-
-pub found_else : (M : Model) (h far : ℕ) (g : HalfEdge) (old least : ℕ) → leads_to M h far (code g) ≡ false → least ≡ old → least ≡ cond (leads_to M h far (code g)) (lesser old (edge_of (code g))) old
-found_else M h far g old least t e = e ∙ sym (ap (λ b. cond b (lesser old (edge_of (code g))) old) t)

@@ -9,7 +9,7 @@ use Rattle.euler_operators.specs.declared.Op.{Op}
 use Rattle.euler_operators.specs.declared.Op.TheVariants as op
 use Rattle.euler_laws.proofs.shared.Goes.{all_hold}
 use Rattle.euler_conditions.specs.Ready.{AllRoom, made}
-use Rattle.low_euler.specs.Room.{AllFit}
+use Rattle.low_euler.specs.Room.{AllFit, KeepsRoom}
 
 -- the numbers that an operator makes are in range where its conditions hold
 pub made_fit : (M : Model) (o : Op) → first_false M o ≡ None → AllFit (made o)
@@ -41,6 +41,6 @@ grown_same s = record { model = refl; loose = refl; kept = λ kind n h. h }
 pub grown_more : (r s t : Store) → HasGrown r s → HasGrown s t → HasGrown r t
 grown_more r s t g h = record { model = h.model ∙ g.model; loose = h.loose ∙ g.loose; kept = λ kind n there. h.kept kind n (g.kept kind n there) }
 
-pub room_kept : (s t : Store) (ks : List (Kind × ℕ)) → HasGrown s t → AllRoom s ks → AllRoom t ks
-room_kept s t [] g all = tt
-room_kept s t (k ∷ ks) g all = (g.kept k.0 k.1 all.0, room_kept s t ks g all.1)
+pub room_kept : (s t : Store) (ks : List (Kind × ℕ)) → KeepsRoom s t → AllRoom s ks → AllRoom t ks
+room_kept s t [] keeps all = tt
+room_kept s t (k ∷ ks) keeps all = (keeps k.0 k.1 all.0, room_kept s t ks keeps all.1)

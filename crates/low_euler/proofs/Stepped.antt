@@ -12,7 +12,7 @@ use Rattle.euler_operators.specs.Effect.{effect, inverse}
 use Rattle.euler_conditions.specs.Store.{Store, has_room, HasGrown}
 use Rattle.euler_conditions.specs.Ready.{IsReady, HasRoomFor, Accepts, after, made}
 use Rattle.low_euler.specs.Room.{IsStepped}
-use Rattle.low_euler.proofs.Undone.{ready_after, same_room, room_after}
+use Rattle.low_euler.proofs.Undone.{ready_after, keeps_room, room_after}
 
 pub accepted_grown : (r s : Store) (o : Op) → IsReady r → first_false r.model o ≡ None → HasGrown r s → HasRoomFor s o → Accepts s o
 accepted_grown r s o ready holds grown room = record {
@@ -25,7 +25,7 @@ pub stepped_grown : (r s t : Store) (o i : Op) → IsReady r → first_false r.m
 stepped_grown r s t o i ready holds grown room is back inverse_room = record {
   model = ap (λ (x : Store). x.model) is ∙ ap (λ (M : Model). effect M o) grown.model;
   ready = subst IsReady (sym is) (ready_after s o (accepted_grown r s o ready holds grown room));
-  kept = λ kind n there. ap (λ (x : Store). has_room x kind n) is ∙ (sym (same_room s o kind n) ∙ grown.kept kind n there);
+  kept = λ kind n there. ap (λ (x : Store). has_room x kind n) is ∙ keeps_room s (effect s.model o) kind n (grown.kept kind n there);
   room = subst (λ (x : Store). HasRoomFor x o) (sym is) (room_after s o (made o) room);
   inverse_room = subst (λ (x : Store). HasRoomFor x (inverse r.model o)) (sym is) (room_after s o (made (inverse r.model o)) (subst (HasRoomFor s) back inverse_room));
 }

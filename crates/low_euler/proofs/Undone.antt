@@ -1,5 +1,5 @@
 -- An operator that was applied leaves a sound model, in which its inverse is accepted and gives the model before.
-use Rattle.std.proofs.Common.{◌≡◌, ℕ, List, [], ◌∷◌, refl, sym, ap, ◌∙◌}
+use Rattle.std.proofs.Common.{◌≡◌, ℕ, List, refl, sym, ap, ◌∙◌}
 use Rattle.euler_operators.specs.declared.Kind.{Kind}
 use Rattle.euler_operators.specs.declared.Kind.TheVariants.{Solid, Face, Loop, Edge, Vertex}
 use Rattle.euler_operators.specs.Model.{Model}
@@ -9,20 +9,25 @@ use Rattle.euler_operators.specs.Effect.{effect, inverse}
 use Rattle.euler_operators.specs.declared.Op.{Op}
 use Rattle.euler_laws.proofs.Cases.{effect_keeps_sound, inverse_goes, inverse_undoes}
 use Rattle.euler_conditions.specs.Ready.{IsReady, AllRoom, HasRoomFor, Accepts, after, made}
+use Rattle.low_euler.specs.Room.{KeepsRoom}
+use Rattle.low_euler.proofs.Made.{room_kept}
 
 pub ready_after : (s : Store) (o : Op) → Accepts s o → IsReady (after s o)
 ready_after s o ok = record { sound = effect_keeps_sound s.model o ok.ready.sound ok.holds; bare = ok.ready.bare }
 
-pub same_room : (s : Store) (o : Op) (kind : Kind) (n : ℕ) → has_room s kind n ≡ has_room (after s o) kind n
-same_room s o Solid n = refl
-same_room s o Face n = refl
-same_room s o Loop n = refl
-same_room s o Edge n = refl
-same_room s o Vertex n = refl
+-- another model leaves each room
+pub same_room : (s : Store) (M : Model) (kind : Kind) (n : ℕ) → has_room s kind n ≡ has_room (record s { model = M }) kind n
+same_room s M Solid n = refl
+same_room s M Face n = refl
+same_room s M Loop n = refl
+same_room s M Edge n = refl
+same_room s M Vertex n = refl
+
+pub keeps_room : (s : Store) (M : Model) → KeepsRoom s (record s { model = M })
+keeps_room s M kind n there = sym (same_room s M kind n) ∙ there
 
 pub room_after : (s : Store) (o : Op) (ks : List (Kind × ℕ)) → AllRoom s ks → AllRoom (after s o) ks
-room_after s o [] all = tt
-room_after s o (k ∷ ks) all = (sym (same_room s o k.0 k.1) ∙ all.0, room_after s o ks all.1)
+room_after s o ks all = room_kept s (after s o) ks (keeps_room s (effect s.model o)) all
 
 module _ (s : Store) (o i : Op) (ok : Accepts s o) (is : i ≡ inverse s.model o) where
   pub inverse_accepted : HasRoomFor s i → Accepts (after s o) i

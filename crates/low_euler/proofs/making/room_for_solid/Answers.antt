@@ -21,4 +21,4 @@ pub returns-clause-ok : goal.returns-clause-ok
 returns-clause-ok c = on_ok_weaker c.room_for_three.result (λ others. (c.room_for_three.ensures.grown.kept Solid c.args.solid c.in_ok-room_for_one.ensures.ok.0, others)) c.room_for_three.ensures.ok
 
 pub returns-clause-known : goal.returns-clause-known
-returns-clause-known c = λ all. c.room_for_three.ensures.known (room_kept _ _ ((Face, c.args.face) ∷ (Loop, c.args.outer) ∷ (Vertex, c.args.vertex) ∷ []) c.in_ok-room_for_one.ensures.grown all.1)
+returns-clause-known c = λ all. c.room_for_three.ensures.known (room_kept c.args.arena.now c.room_for_one.new.arena ((Face, c.args.face) ∷ (Loop, c.args.outer) ∷ (Vertex, c.args.vertex) ∷ []) c.in_ok-room_for_one.ensures.grown.kept all.1)

@@ -20,4 +20,4 @@ pub returns-clause-ok : goal.returns-clause-ok
 returns-clause-ok c = on_ok_weaker c.room_for_two.result (λ others. (c.room_for_two.ensures.grown.kept c.args.first.0 c.args.first.1 c.in_ok-room_for_one.ensures.ok.0, others)) c.room_for_two.ensures.ok
 
 pub returns-clause-known : goal.returns-clause-known
-returns-clause-known c = λ all. c.room_for_two.ensures.known (room_kept _ _ (c.args.second ∷ c.args.third ∷ []) c.in_ok-room_for_one.ensures.grown all.1)
+returns-clause-known c = λ all. c.room_for_two.ensures.known (room_kept c.args.arena.now c.room_for_one.new.arena (c.args.second ∷ c.args.third ∷ []) c.in_ok-room_for_one.ensures.grown.kept all.1)
