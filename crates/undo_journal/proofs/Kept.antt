@@ -105,17 +105,6 @@ drafted_step s t records place forward back o kept goes stepped = record {
   back_room = ops-append t back (inverse s.model o ∷ []) (ops_kept s t back stepped.kept kept.back_room) (stepped.inverse_room, tt);
 }
 
--- a draft as it is opened
-pub drafted_open : (s : Store) (records : List Record) (place : ℕ) → IsKept s records place → IsDrafted s records place [] []
-drafted_open s records place kept = record {
-  ready = kept.ready;
-  journal = kept.journal;
-  leads = record { forward_goes = tt; forward = refl; back_goes = tt; back = refl };
-  room = kept.room;
-  forward_room = tt;
-  back_room = tt;
-}
-
 pub kept_commit : (s : Store) (records : List Record) (place : ℕ) (forward back : List Op) → IsDrafted s records place forward back → IsKept s (take place records ++ command_of forward back ∷ []) (place + 1)
 kept_commit s records place forward back kept =
     kept_more (opened s.model back) s records place (command_of forward back) kept.journal kept.room kept.ready kept.leads kept.forward_room (ops-reverse s back kept.back_room)

@@ -2,21 +2,18 @@
 use Rattle.std.specs.Prelude.{◌≡◌, ℕ, zero, suc, ◌<◌, List, [], ◌∷◌, ◌++◌, take, get_or, length, reverse}
 use Rattle.std.proofs.Common.{sym, subst, arith}
 use Rattle.std.proofs.lemmas.List.{reverse-append}
-use Rattle.euler_operators.specs.declared.Kind.{Kind}
-use Rattle.euler_operators.specs.declared.Kind.TheVariants.{Solid, Face, Loop, Edge, Vertex}
+use Rattle.euler_laws.specs.Laws.{effects}
 use Rattle.low_euler.specs.Store.{Store}
 use Rattle.euler_operators.specs.declared.Op.{Op}
-use Rattle.low_euler.specs.Ready.{AllRoom, HasRoomFor, made, after}
+use Rattle.low_euler.specs.Ready.{HasRoomFor, made}
 use Rattle.undo_journal.specs.declared.record.Record.{Record}
 use Rattle.low_euler.specs.Room.{KeepsRoom}
+use Rattle.low_euler.proofs.Made.{room_kept}
+use Rattle.low_euler.proofs.Undone.{keeps_room}
 use Rattle.undo_journal.specs.Held.{AllHaveRoom, RecordsHaveRoom, all_after}
 
-numbers_kept : (s t : Store) (ks : List (Kind × ℕ)) → KeepsRoom s t → AllRoom s ks → AllRoom t ks
-numbers_kept s t [] k all = tt
-numbers_kept s t (n ∷ ks) k all = (k n.0 n.1 all.0, numbers_kept s t ks k all.1)
-
 pub op_kept : (s t : Store) (o : Op) → KeepsRoom s t → HasRoomFor s o → HasRoomFor t o
-op_kept s t o k room = numbers_kept s t (made o) k room
+op_kept s t o k room = room_kept s t (made o) k room
 
 pub ops_kept : (s t : Store) (ops : List Op) → KeepsRoom s t → AllHaveRoom s ops → AllHaveRoom t ops
 ops_kept s t [] k room = tt
@@ -27,26 +24,8 @@ records_kept s t [] k room = tt
 records_kept s t (r ∷ rs) k room = (ops_kept s t r.forward k room.0, ops_kept s t r.back k room.1, records_kept s t rs k room.2)
 
 -- other models leave each room
-pub keeps_after : (s : Store) (o : Op) → KeepsRoom s (after s o)
-keeps_after s o Solid n h = h
-keeps_after s o Face n h = h
-keeps_after s o Loop n h = h
-keeps_after s o Edge n h = h
-keeps_after s o Vertex n h = h
-
 pub keeps_all_after : (s : Store) (ops : List Op) → KeepsRoom s (all_after s ops)
-keeps_all_after s ops Solid n h = h
-keeps_all_after s ops Face n h = h
-keeps_all_after s ops Loop n h = h
-keeps_all_after s ops Edge n h = h
-keeps_all_after s ops Vertex n h = h
-
-pub back_kept : (s : Store) (o : Op) → KeepsRoom (after s o) s
-back_kept s o Solid n h = h
-back_kept s o Face n h = h
-back_kept s o Loop n h = h
-back_kept s o Edge n h = h
-back_kept s o Vertex n h = h
+keeps_all_after s ops = keeps_room s (effects s.model ops)
 
 pub ops-append : (s : Store) (xs ys : List Op) → AllHaveRoom s xs → AllHaveRoom s ys → AllHaveRoom s (xs ++ ys)
 ops-append s [] ys a b = b
