@@ -1,8 +1,8 @@
 -- The signs of numbers tell on which side of a plane points lie.
-use Rattle.std.proofs.Common.{◌≡◌, ℤ, pos, Bool, true, false, cond, not, ◌&&◌, ◌||◌, refl, ◌∙◌, arith, true≢false}
+use Rattle.std.proofs.Common.{◌≡◌, ℤ, pos, negsuc, Bool, true, false, cond, not, ◌&&◌, ◌||◌, is_eq, Less, Greater, Equal, refl, ap, ◌∙◌, true≢false}
+use lib.Dec.{leb-suc-zero}
 use Rattle.std.specs.Prelude.{int_lt}
 use Rattle.std.specs.Ordering.{int_eq}
-use Rattle.std.proofs.lemmas.Int.{ints}
 use Rattle.euler_operators.specs.declared.Point.{Point}
 use Rattle.euler_operators.specs.declared.Plane.{Plane}
 use Rattle.euler_operators.specs.declared.Sign.{Sign}
@@ -26,13 +26,19 @@ told_on false true = refl
 told_on false false = refl
 
 above_is : (n : ℤ) → not (int_lt n (pos 0)) && int_lt (pos 0) n ≡ int_lt (pos 0) n
-above_is n = grind (arith, ints)
+above_is (pos n) = ap (λ b. not b && int_lt (pos 0) (pos n)) (leb-suc-zero n)
+above_is (negsuc n) = refl
 
 on_is : (n : ℤ) → not (int_lt n (pos 0)) && not (int_lt (pos 0) n) ≡ int_eq n (pos 0)
-on_is n = grind (arith, ints)
+on_is n = neither (int_lt n (pos 0)) (int_lt (pos 0) n) where
+  neither : (a b : Bool) → not a && not b ≡ is_eq (cond a Less (cond b Greater Equal))
+  neither true b = refl
+  neither false true = refl
+  neither false false = refl
 
 one_side : (n : ℤ) → int_lt n (pos 0) && int_lt (pos 0) n ≡ false
-one_side n = grind (arith, ints)
+one_side (pos n) = ap (λ b. b && int_lt (pos 0) (pos n)) (leb-suc-zero n)
+one_side (negsuc n) = refl
 
 pub sign_lies : (side : Sign) (p : Plane) (q : Point) → same_sign (sign_of (height p q)) side ≡ lies side p q
 sign_lies Below p q = told_below (int_lt (height p q) (pos 0)) (int_lt (pos 0) (height p q))

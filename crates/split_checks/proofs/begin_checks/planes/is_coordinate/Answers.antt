@@ -1,0 +1,10 @@
+use Rattle.std.proofs.Common.{◌∙◌, ◌&&◌, pos, negsuc, sym, ap}
+use Rattle.std.specs.Prelude.{int_le}
+use Rattle.std.proofs.lemmas.Int.{to_z-of_z}
+use mir.Syntax.{w128}
+use Rattle.split_checks.proofs.begin_checks.planes.is_coordinate.Goals as goal
+
+pub returns-then-n-geminus1000000000 : goal.returns-then-n-geminus1000000000
+returns-then-n-geminus1000000000 c =
+    let n = c.args.n in let is = to_z-of_z w128 n c.ranges.n in
+    ap (λ z. int_le z (pos 1000000000)) is ∙ sym (ap (λ b. b && int_le n (pos 1000000000)) (ap (int_le (negsuc 999999999)) (sym is) ∙ c.if-n-geminus1000000000.true))
