@@ -1,5 +1,5 @@
 -- What cut places say once they are in order.
-use Rattle.std.proofs.Common.{◌≡◌, ℕ, Bool, true, false, cond, not, ◌||◌, ◌&&◌, List, [], ◌∷◌, map, refl, sym, ap, ◌∙◌}
+use Rattle.std.proofs.Common.{◌≡◌, ℕ, Bool, true, false, cond, not, ◌||◌, ◌&&◌, List, [], ◌∷◌, map, refl, sym, ap, ◌∙◌, true≢false}
 use Rattle.std.specs.List.{list_all}
 use Rattle.euler_operators.specs.declared.Plane.{Plane}
 use Rattle.euler_operators.specs.Model.{Model}
@@ -43,6 +43,18 @@ module _ (M : Model) (p : Plane) (h k : ℕ) where
     alone : (b : Bool) → b && true ≡ b
     alone true = refl
     alone false = refl
+
+  -- and the one that is up comes first in it
+  pub two_paired : is_up_and_down M p (h, k) ≡ true → up_first M p (h, k) ∷ [] ≡ map (up_first M p) (in_pairs (sorted M p (h ∷ k ∷ [])))
+  two_paired one = elim (lex_less (place_point M p k) (place_point M p h)) as (λ b. up_first M p (h, k) ∷ [] ≡ map (up_first M p) (in_pairs (cond b (k ∷ h ∷ []) (h ∷ k ∷ [])))) [
+    | true ↦ ap (λ (q : ℕ × ℕ). q ∷ []) (turned (goes_up M p h) (goes_up M p k) one)
+    | false ↦ refl
+  ] where
+    turned : (u v : Bool) → differ u v ≡ true → ◌≡◌ {A = ℕ × ℕ} (cond u (h, k) (k, h)) (cond v (k, h) (h, k))
+    turned true true e = absurd (true≢false (sym e))
+    turned true false e = refl
+    turned false true e = refl
+    turned false false e = absurd (true≢false (sym e))
 
   -- where there are no others
   pub two_crossed : (hs : List ℕ) → h ∷ k ∷ [] ≡ hs → same_point (place_point M p h) (place_point M p k) || not (is_up_and_down M p (h, k)) ≡ are_crossed M p hs
