@@ -1,0 +1,5 @@
+use Rattle.std.proofs.Common.{rules}
+use Rattle.gluing.proofs.glue_checks.outlines.key_of.Goals as goal
+
+pub returns : goal.returns
+returns c = search rules
