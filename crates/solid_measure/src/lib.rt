@@ -25,7 +25,7 @@ pub use solid_counts::{Tally, counts};
 pub use solid_walks::{check_left, counters_of, finish, least_item, previous, start};
 
 /// A sum of cross products of points.
-#[derive(Clone, Copy, Debug, PartialEq, Eq)]
+#[derive(Clone, Copy)]
 pub struct Vector {
     pub x: i128,
     pub y: i128,

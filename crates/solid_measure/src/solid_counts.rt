@@ -17,7 +17,7 @@ pub struct Tally {
 }
 
 /// How many vertices and edges a walk has counted.
-#[derive(Clone, Copy, Debug, PartialEq, Eq)]
+#[derive(Clone, Copy)]
 struct Met {
     vertices: u32,
     edges: u32,
