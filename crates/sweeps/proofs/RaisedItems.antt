@@ -1,5 +1,5 @@
 -- The items of a loop that is swept, as the code holds them, and the steps that it takes with them.
-use Rattle.std.proofs.Common.{◌≡◌, ℕ, suc, zero, ◌+◌, ◌-◌, ◌<◌, ◌≤◌, List, [], ◌∷◌, map, length, None, sym, ap, ◌∙◌, subst, arith, add-one}
+use Rattle.std.proofs.Common.{◌≡◌, ℕ, suc, zero, ◌+◌, ◌-◌, ◌*◌, ◌<◌, ◌≤◌, List, [], ◌∷◌, map, length, None, sym, ap, ◌∙◌, subst, arith, add-one}
 use Rattle.std.specs.Prelude.{get_or}
 use Rattle.std.proofs.lemmas.List.{get_or-map}
 use Rattle.euler_operators.specs.declared.Point.{Point}
@@ -31,12 +31,22 @@ pub same_raise : (M : Model) (c : Taken) (d : Point) (item : HalfEdge) (i : ℕ)
     → Mev (At item) (At item) edge (c.vertex + 1 + i) p ≡ raise_item M c d (code item) i
 same_raise M c d item i edge p e q = λ j. Mev (At (sym (half-code item) j)) (At (sym (half-code item) j)) (e j) (c.vertex + 1 + i) (q j)
 
+-- numbers are left for so many items
+pub record HasRoom (c : Taken) (n : ℕ) : Type 0 where
+  pub faces : c.face + n ≤ 1000000
+  pub loops : c.loop + n ≤ 1000000
+  pub edges : c.edge + 2 * n ≤ 1000000
+  pub vertices : c.vertex + n ≤ 1000000
+
 module _ (M : Model) (c : Taken) (f l : ℕ) (d : Point) (hs : List ℕ) (w : Ready M c f l d hs) (items : List HalfEdge) (are : map code items ≡ hs) where
   pub how_many : length items ≡ length hs
   how_many = sym (length_mapped items) ∙ ap length are where
     length_mapped : (xs : List HalfEdge) → length (map code xs) ≡ length xs
     length_mapped [] = λ i. zero
     length_mapped (x ∷ xs) = ap suc (length_mapped xs)
+
+  pub has_room : (n : ℕ) → n ≡ length items → HasRoom c n
+  has_room n e = subst (HasRoom c) (sym (e ∙ how_many)) (record { faces = w.faces_left; loops = w.loops_left; edges = w.edges_left; vertices = w.vertices_left })
 
   pub item_is : (i : ℕ) (h : HalfEdge) → i < length hs → h ≡ get_or items i h → code h ≡ get_or hs i 0
   item_is i h lt e = ap code e ∙ sym (get_or-map code items i h 0 (let n = how_many in omega arith)) ∙ ap (λ xs. get_or xs i 0) are

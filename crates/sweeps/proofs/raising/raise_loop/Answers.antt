@@ -1,4 +1,4 @@
-use Rattle.std.proofs.Common.{◌∙◌, ap, sym, subst, map, arith}
+use Rattle.std.proofs.Common.{◌∙◌, ap, sym, subst, map}
 use Rattle.euler_operators.specs.HalfEdge.{code}
 use Rattle.euler_operators.specs.Model.{items_of, content, face_of}
 use Rattle.euler_operators.specs.Conditions.{is_lone}
@@ -20,20 +20,16 @@ raise_items-requires c =
     record { face = face_of M c.args.l; loop_number = c.args.l; ready = subst (Ready M (taken_of c.args.taken.now) (face_of M c.args.l) c.args.l c.args.d) (sym are) c.requires }
 
 pub counted_on-requires-clause-faces_left : goal.counted_on-requires-clause-faces_left
-counted_on-requires-clause-faces_left c =
-    let n = raised.how_many _ _ _ _ _ _ c.requires c.in_ok-items.items.items (c.in_ok-items.ensures ∙ ap (λ X. items_of (content X c.args.l)) c.arena.ensures.model) in omega (arith, c.requires.faces_left, n, c.len.ensures, c.in_ok-items.items.ok.0)
+counted_on-requires-clause-faces_left c = (raised.has_room _ _ _ _ _ _ c.requires _ (c.in_ok-items.ensures ∙ ap (λ X. items_of (content X c.args.l)) c.arena.ensures.model) _ (c.len.ensures ∙ c.in_ok-items.items.ok.0)).faces
 
 pub counted_on-requires-clause-loops_left : goal.counted_on-requires-clause-loops_left
-counted_on-requires-clause-loops_left c =
-    let n = raised.how_many _ _ _ _ _ _ c.requires c.in_ok-items.items.items (c.in_ok-items.ensures ∙ ap (λ X. items_of (content X c.args.l)) c.arena.ensures.model) in omega (arith, c.requires.loops_left, n, c.len.ensures, c.in_ok-items.items.ok.0)
+counted_on-requires-clause-loops_left c = (raised.has_room _ _ _ _ _ _ c.requires _ (c.in_ok-items.ensures ∙ ap (λ X. items_of (content X c.args.l)) c.arena.ensures.model) _ (c.len.ensures ∙ c.in_ok-items.items.ok.0)).loops
 
 pub counted_on-requires-clause-edges_left : goal.counted_on-requires-clause-edges_left
-counted_on-requires-clause-edges_left c =
-    let n = raised.how_many _ _ _ _ _ _ c.requires c.in_ok-items.items.items (c.in_ok-items.ensures ∙ ap (λ X. items_of (content X c.args.l)) c.arena.ensures.model) in omega (arith, c.requires.edges_left, n, c.len.ensures, c.in_ok-items.items.ok.0)
+counted_on-requires-clause-edges_left c = (raised.has_room _ _ _ _ _ _ c.requires _ (c.in_ok-items.ensures ∙ ap (λ X. items_of (content X c.args.l)) c.arena.ensures.model) _ (c.len.ensures ∙ c.in_ok-items.items.ok.0)).edges
 
 pub counted_on-requires-clause-vertices_left : goal.counted_on-requires-clause-vertices_left
-counted_on-requires-clause-vertices_left c =
-    let n = raised.how_many _ _ _ _ _ _ c.requires c.in_ok-items.items.items (c.in_ok-items.ensures ∙ ap (λ X. items_of (content X c.args.l)) c.arena.ensures.model) in omega (arith, c.requires.vertices_left, n, c.len.ensures, c.in_ok-items.items.ok.0)
+counted_on-requires-clause-vertices_left c = (raised.has_room _ _ _ _ _ _ c.requires _ (c.in_ok-items.ensures ∙ ap (λ X. items_of (content X c.args.l)) c.arena.ensures.model) _ (c.len.ensures ∙ c.in_ok-items.items.ok.0)).vertices
 
 pub returns-clause-counters : goal.returns-clause-counters
 returns-clause-counters c = c.counted_on.ensures ∙ ap (taken_after (taken_of c.args.taken.now)) (c.len.ensures ∙ c.in_ok-items.items.ok.0 ∙ raised.how_many _ _ _ _ _ _ c.requires c.in_ok-items.items.items (c.in_ok-items.ensures ∙ ap (λ X. items_of (content X c.args.l)) c.arena.ensures.model))

@@ -1,6 +1,9 @@
-use Rattle.std.proofs.Common.{ap, subst, refl}
+use Rattle.std.proofs.Common.{◌≡◌, ℕ, false, true≢false, ap, subst, refl}
+use Rattle.euler_operators.specs.declared.Content.{Content}
+use Rattle.euler_operators.specs.declared.Content.TheVariants.{Lone}
+use Rattle.euler_operators.specs.Conditions.{is_lone}
 use Rattle.euler_operators.specs.HalfEdge.{code}
-use Rattle.euler_operators.specs.Model.{content, items_of}
+use Rattle.euler_operators.specs.Model.{LoopContent, lone, cycle, content, items_of}
 use Rattle.euler_operators.specs.Sound.{StandsIn}
 use Rattle.euler_operators.proofs.Models.{in-holds}
 use Rattle.euler_conditions.specs.Store.{Tells}
@@ -19,3 +22,11 @@ returns-clause-there c = c.requires.ready.sound.only_edges (code c.in-Ring.h) c.
 
 pub returns-clause-inside : goal.returns-clause-inside
 returns-clause-inside c = ap (λ q. items_of (content c.args.arena.now.model q)) (c.requires.ready.sound.one_loop (code c.in-Ring.h) c.args.l (stands c))
+
+-- a loop that isn't lone is not told as lone
+never_lone : (k : LoopContent) (c : Content) (v : ℕ) → Tells k c → c ≡ Lone v → is_lone k ≡ false → ⊥
+never_lone (lone w) c v t is held = true≢false held
+never_lone (cycle hs) c v t is held = subst (Tells (cycle hs)) is t
+
+pub unreachable-requires : goal.unreachable-requires
+unreachable-requires c = never_lone (content c.args.arena.now.model c.args.l) c.content.result c.in-Lone.field-0 c.content.ensures c.in-Lone.is c.requires.held
