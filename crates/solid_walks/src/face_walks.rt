@@ -6,5 +6,5 @@ mod items;
 mod loops;
 
 pub use faces::{Faces, faces_of};
-pub use items::{Items, items_from, items_of, items_round, least_item};
+pub use items::{Items, items_from, items_of, items_round, least_item, some_item};
 pub use loops::{Loops, loops_of, rings_of};

@@ -26,7 +26,7 @@ pub use codes::{next_code, previous_code, start_of_code};
 pub use euler_conditions::{Arena, next, same};
 pub use face_walks::{
     Faces, Items, Loops, faces_of, items_from, items_of, items_round, least_item, loops_of,
-    rings_of,
+    rings_of, some_item,
 };
 pub use halves::{finish, previous, start};
 pub use least::lesser;

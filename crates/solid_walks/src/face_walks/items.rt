@@ -1,15 +1,18 @@
 //! The half-edges of a loop, one after another.
-ghost use Rattle.std.specs.Prelude.{◌≡◌, true, map, IfOk};
+ghost use Rattle.std.specs.Prelude.{◌≡◌, true, false, map, IfOk};
 ghost use Rattle.std.specs.Iterator.{YieldsFirstBy, item_count};
 ghost use Rattle.euler_operators.specs.Items.{IsIn, least};
 ghost use Rattle.euler_operators.specs.Rings.{rotate_to};
 ghost use Rattle.euler_operators.specs.HalfEdge.{code};
-ghost use Rattle.euler_operators.specs.Model.{has_half, cycle_of};
+ghost use Rattle.euler_operators.specs.Model.{content, cycle_of, has_half, items_of};
+ghost use Rattle.euler_operators.specs.Conditions.{is_lone};
 ghost use Rattle.euler_operators.specs.Sound.{Sound};
+ghost use Rattle.euler_conditions.specs.Store.{has_number};
+ghost use Rattle.euler_conditions.specs.Ready.{IsReady};
 ghost use Rattle.solid_walks.specs.Left.{IsRound, items_left, to_come};
 
 use euler_conditions::Arena;
-use euler_operators::HalfEdge;
+use euler_operators::{Content, HalfEdge, Kind};
 use std::alloc::{AllocError, Global};
 use std::marker::Model;
 
@@ -74,6 +77,20 @@ impl<'a> Iterator for Items<'a> {
         };
         self.next = item_after(self.arena, self.first, item);
         Some(item)
+    }
+}
+
+/// Some half-edge of loop l, which isn't lone.
+pub fn some_item(arena: &Arena, l: u32) -> HalfEdge
+    requires there { has_number arena.now Kind.Loop l ≡ true }
+    requires ready { IsReady arena.now }
+    requires held { is_lone (content arena.now.model l) ≡ false }
+    ensures there { has_half arena.now.model (code result) ≡ true }
+    ensures inside { cycle_of arena.now.model (code result) ≡ items_of (content arena.now.model l) }
+{
+    match arena.content(l) {
+        Content::Ring(h) => h,
+        Content::Lone(_) => unreachable!(),
     }
 }
 

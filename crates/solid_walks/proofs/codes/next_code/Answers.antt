@@ -1,5 +1,4 @@
 use Rattle.std.proofs.Common.{ap, ◌∙◌}
-use Rattle.euler_operators.specs.HalfEdge.{code}
 use Rattle.euler_operators.specs.Model.{after, has_half}
 use Rattle.euler_laws.proofs.shared.Rows.{half_of}
 use Rattle.solid_walks.proofs.face_walks_laws.HalfCodes.{coded, coded_there, edge_fits}
