@@ -3,7 +3,7 @@ ghost use Rattle.std.specs.Prelude.{◌≡◌, ◌≤◌, ◌<◌, ◌+◌, ◌-
 ghost use Rattle.euler_operators.specs.Points.{IsInRange};
 ghost use Rattle.euler_operators.specs.Vectors.{moved};
 ghost use Rattle.euler_operators.specs.HalfEdge.{code};
-ghost use Rattle.euler_operators.specs.Model.{has_half, items_of, content, face_of, cycle_of};
+ghost use Rattle.euler_operators.specs.Model.{has_half, items_of, content, face_of};
 ghost use Rattle.euler_conditions.specs.Ready.{IsReady};
 ghost use Rattle.euler_conditions.specs.Store.{has_number};
 ghost use Rattle.euler_laws.specs.Laws.{effects};
@@ -19,8 +19,8 @@ ghost use Rattle.solid_walks.specs.Counters.{taken_of};
 ghost use Rattle.sweeps.specs.Raising.{CanRise};
 
 use euler_conditions::Arena;
-use euler_operators::{Content, Corner, HalfEdge, Kind, Op, Point, sum};
-use solid_walks::{Counters, items_from, rings_of};
+use euler_operators::{Corner, HalfEdge, Kind, Op, Point, sum};
+use solid_walks::{Counters, items_from, rings_of, some_item};
 use std::alloc::{AllocError, Global};
 use undo_journal::Draft;
 
@@ -46,20 +46,6 @@ fn top_edge(taken: &Counters, count: u32, i: u32) -> u32
         taken.edges + 2 * count
     } else {
         taken.edges + 2 * i + 3
-    }
-}
-
-/// Some half-edge of loop l, which isn't lone.
-fn some_item(arena: &Arena, l: u32) -> HalfEdge
-    requires there { has_number arena.now Kind.Loop l ≡ true }
-    requires ready { IsReady arena.now }
-    requires held { is_lone (content arena.now.model l) ≡ false }
-    ensures there { has_half arena.now.model (code result) ≡ true }
-    ensures inside { cycle_of arena.now.model (code result) ≡ items_of (content arena.now.model l) }
-{
-    match arena.content(l) {
-        Content::Ring(h) => h,
-        Content::Lone(_) => unreachable!(),
     }
 }
 

@@ -1,7 +1,11 @@
-use Rattle.std.proofs.Common.{subst, sym}
+use Rattle.std.proofs.Common.{[], ◌∷◌, ap, subst, sym, ◌∙◌}
 use Rattle.euler_operators.specs.HalfEdge.{code}
 use Rattle.euler_operators.specs.Sound.{Has}
+use Rattle.sweeps.specs.Corners.{tally}
 use Rattle.sweeps.proofs.corners.item_tally.Goals as goal
 
 pub corner_tally-requires-clause-there : goal.corner_tally-requires-clause-there
 corner_tally-requires-clause-there c = subst (Has c.args.arena.now.model.vertices) (sym c.tail.ensures) (c.requires.ready.sound.tails_there (code c.args.item) c.requires.there)
+
+pub returns : goal.returns
+returns c = c.corner_tally.ensures ∙ ap (λ v. tally c.args.arena.now.model c.args.d (v ∷ [])) c.tail.ensures

@@ -1,15 +1,27 @@
 use Rattle.std.proofs.Common.{rules, ap, sym, ◌∙◌}
 use Rattle.shapes.specs.Fresh.{taken_in}
-use Rattle.shapes.specs.Prism.{prism_refusal}
-use Rattle.undo_journal.specs.Journal.{DraftJournal}
+use Rattle.shapes.specs.Prism.{prism_refusal, prism_model}
+use Rattle.undo_journal.specs.Journal.{Journal, DraftJournal}
+use Rattle.undo_journal.specs.Machine.{accepted}
 use Rattle.sweeps.proofs.Drawing.{passed}
 use Rattle.sweeps.proofs.sweeping.sweep.Goals as goal
 
 pub returns-in-Ok-raise-clause-ok : goal.returns-in-Ok-raise-clause-ok
-returns-in-Ok-raise-clause-ok c = (sym (ap (λ M. prism_refusal M c.args.f c.args.d) c.arena-arena.ensures.model) ∙ passed _ _ (sym c.check_sweep.ensures ∙ c.in_default.is), search rules)
+returns-in-Ok-raise-clause-ok c =
+    let model = c.in-Ok-raise.ensures.model ∙ ap (λ (d : DraftJournal). prism_model d.model c.args.f c.args.d) c.in-Ok.ensures.ok in
+    let session = c.in-Ok-raise.ensures.session ∙ ap (λ (d : DraftJournal). d.session) c.in-Ok.ensures.ok in (
+      sym (ap (λ M. prism_refusal M c.args.f c.args.d) c.arena-arena.ensures.model) ∙ passed _ _ (sym c.check_sweep.ensures ∙ c.in_default.is),
+      ap (λ (j : Journal). j.machine) c.commit.ensures ∙ (λ t. accepted (session t).machine (model t)),
+    )
 
 pub raise-requires-clause-taken : goal.raise-requires-clause-taken
 raise-requires-clause-taken c = c.counters_of-taken.ensures.is ∙ ap taken_in c.arena-arena.ensures.model ∙ sym (ap (λ (d : DraftJournal). taken_in d.model) c.in-Ok.ensures.ok)
+
+pub returns-in-Err-raise-clause-ok : goal.returns-in-Err-raise-clause-ok
+returns-in-Err-raise-clause-ok c = tt
+
+pub returns-in-Err-raise-clause-recorded : goal.returns-in-Err-raise-clause-recorded
+returns-in-Err-raise-clause-recorded c = tt
 
 pub returns-in-Err-raise-clause-err : goal.returns-in-Err-raise-clause-err
 returns-in-Err-raise-clause-err c = search rules
