@@ -12,22 +12,19 @@ ghost use Rattle.shapes.specs.glue.Glue.{outline, rim};
 ghost use Rattle.gluing.specs.Rims.{item_at};
 
 use euler_conditions::Arena;
-use euler_operators::{Content, HalfEdge, Kind, Point};
-use solid_walks::{Items, items_of, least_item, start};
+use euler_operators::{HalfEdge, Kind, Point};
+use solid_walks::{Items, items_of, least_item, some_item, start};
 use std::alloc::{AllocError, Global};
 
 /// Some half-edge of the outer loop of face f, which isn't lone.
-fn some_item(arena: &Arena, f: u32) -> HalfEdge
+fn outer_item(arena: &Arena, f: u32) -> HalfEdge
     requires ready { IsReady arena.now }
     requires there { has_number arena.now Kind.Face f ≡ true }
     requires held { is_lone (content arena.now.model (outer arena.now.model f)) ≡ false }
     ensures there { has_half arena.now.model (code result) ≡ true }
     ensures inside { cycle_of arena.now.model (code result) ≡ rim arena.now.model f }
 {
-    match arena.content(arena.outer(f)) {
-        Content::Ring(h) => h,
-        Content::Lone(_) => unreachable!(),
-    }
+    some_item(arena, arena.outer(f))
 }
 
 /// The first half-edge of the outer loop of face f, which isn't lone, in the order of listings.
@@ -38,7 +35,7 @@ pub(crate) fn first_item(arena: &Arena, f: u32) -> HalfEdge
     ensures there { has_half arena.now.model (code result) ≡ true }
     ensures first { code result ≡ head_or 0 (rim arena.now.model f) }
 {
-    least_item(arena, some_item(arena, f))
+    least_item(arena, outer_item(arena, f))
 }
 
 /// The half-edges of the outer loop of face f, which isn't lone, in the order of listings.
@@ -48,7 +45,7 @@ fn rim(arena: &Arena, f: u32) -> Items<'_>
     requires held { is_lone (content arena.now.model (outer arena.now.model f)) ≡ false }
     ensures { result ≡ rim arena.now.model f }
 {
-    items_of(arena, some_item(arena, f))
+    items_of(arena, outer_item(arena, f))
 }
 
 /// The points of the corners of the outer loop of face f, which isn't lone, in the order of listings.

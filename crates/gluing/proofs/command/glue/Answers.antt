@@ -1,12 +1,29 @@
-use Rattle.std.proofs.Common.{rules, sym, ◌∙◌}
+use Rattle.std.proofs.Common.{rules, ap, sym, ◌∙◌}
 use Rattle.shapes.specs.glue.Glue as shapes
+use Rattle.shapes.specs.glue.Glue.{glue_model}
+use Rattle.undo_journal.specs.Journal.{Journal, DraftJournal}
+use Rattle.undo_journal.specs.Machine.{accepted}
 use Rattle.gluing.proofs.command.glue.Goals as goal
 
 pub returns-in-Err-clause-refused : goal.returns-in-Err-clause-refused
 returns-in-Err-clause-refused c = λ refusal is. sym (λ i. shapes.glue_refusal (c.arena.ensures.model i) c.args.f c.args.g) ∙ c.in-Err.ensures.refused refusal is
 
+pub join-requires : goal.join-requires
+join-requires c = ap (λ (d : DraftJournal). shapes.glue_refusal d.model c.args.f c.args.g) c.in-Ok.ensures.ok ∙ sym (ap (λ M. shapes.glue_refusal M c.args.f c.args.g) c.arena.ensures.model) ∙ c.in_default.ensures.ok
+
 pub returns-in-Ok-join-clause-ok : goal.returns-in-Ok-join-clause-ok
-returns-in-Ok-join-clause-ok c = search rules
+returns-in-Ok-join-clause-ok c =
+    let model = c.in-Ok-join.ensures.model ∙ ap (λ (d : DraftJournal). glue_model d.model c.args.f c.args.g) c.in-Ok.ensures.ok in
+    let session = c.in-Ok-join.ensures.session ∙ ap (λ (d : DraftJournal). d.session) c.in-Ok.ensures.ok in (
+      sym (ap (λ M. shapes.glue_refusal M c.args.f c.args.g) c.arena.ensures.model) ∙ c.in_default.ensures.ok,
+      ap (λ (j : Journal). j.machine) c.commit.ensures ∙ (λ t. accepted (session t).machine (model t)),
+    )
+
+pub returns-in-Err-join-clause-ok : goal.returns-in-Err-join-clause-ok
+returns-in-Err-join-clause-ok c = tt
+
+pub returns-in-Err-join-clause-recorded : goal.returns-in-Err-join-clause-recorded
+returns-in-Err-join-clause-recorded c = tt
 
 pub returns-in-Err-join-clause-err : goal.returns-in-Err-join-clause-err
 returns-in-Err-join-clause-err c = search rules

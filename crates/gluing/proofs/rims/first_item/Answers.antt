@@ -7,4 +7,4 @@ use Rattle.gluing.proofs.rims.first_item.Goals as goal
 pub returns-clause-first : goal.returns-clause-first
 returns-clause-first c =
     let same = c.least_item.ensures.same_loop in
-    sym (ap (head_or 0) (sym (same ∙ c.some_item.ensures.inside) ∙ from_least c.args.arena.now.model c.requires.ready.sound (code c.least_item.result) c.least_item.ensures.there (c.least_item.ensures.least ∙ ap least (sym same))))
+    sym (ap (head_or 0) (sym (same ∙ c.outer_item.ensures.inside) ∙ from_least c.args.arena.now.model c.requires.ready.sound (code c.least_item.result) c.least_item.ensures.there (c.least_item.ensures.least ∙ ap least (sym same))))
