@@ -21,3 +21,6 @@ pub more-preserved : goal.more-preserved
 more-preserved c =
     let room : length c.more.corners < 64 = grind (arith, common_steps, c.is_full.ensures) in
     (goes_on c.more.corners c.push.new.self _ c.more.words _ (points_of 64 (words c.args.line.now)) room c.push.ensures c.in_ok-point.ensures c.more.invariant.0, rw c.push.ensures (simp length-append (omega arith)))
+
+pub returns : goal.returns
+returns c = search rules

@@ -1,7 +1,14 @@
-use Rattle.std.proofs.Common.{ap, sym, arith, ◌∙◌}
+use Rattle.std.proofs.Common.{ap, subst, sym, arith, ◌∙◌, ◌+◌, ℕ, List}
 use Rattle.script_reader.specs.Buffer.{Holding}
+use Rattle.script_reader.specs.Newline.{FirstNewline}
 use Rattle.script_reader.proofs.NewlineLaws.{taken_line}
 use Rattle.script_reader.proofs.buffer.Buffer.take_line.Goals as goal
+
+pub invariant_of-self : goal.invariant_of-self
+invariant_of-self c =
+    let b = c.self.inside in
+    let found = subst (λ (xs : List ℕ). FirstNewline xs (b.newline + 1) b.end c.first_newline-self-inside.result) c.deref.ensures.value c.first_newline-self-inside.ensures in
+    (found, c.self.invariant.1, omega arith, omega arith, c.self.invariant.4)
 
 pub returns : goal.returns
 returns c =
