@@ -1,5 +1,5 @@
 -- A word by its letters.
-use Rattle.std.proofs.Common.{◌≡◌, ◌≤◌, ◌<◌, ℕ, Bool, true, false, ◌&&◌, nat_eq, List, [], ◌∷◌, length, get_or, None, refl, arith}
+use Rattle.std.proofs.Common.{◌≡◌, ◌≢◌, ◌≤◌, ◌<◌, ℕ, Bool, true, false, ◌&&◌, nat_eq, List, [], ◌∷◌, length, get_or, None, refl, arith}
 use Rattle.script_reader.specs.Grammar.{name_of}
 
 -- ---- a word of so many letters is the list of its letters
@@ -52,3 +52,15 @@ no_five a b c d e k m l s p n = simp (no_more, k, m, l, s, p, n)
 
 pub no_six : (a b c d e f : ℕ) → nat_eq a 114 ≡ false → nat_eq a 108 ≡ false → nat_eq a 118 ≡ false → None ≡ name_of (a ∷ b ∷ c ∷ d ∷ e ∷ f ∷ [])
 no_six a b c d e f r l v = simp (no_more, r, l, v)
+
+-- ---- no command word has another length
+
+pub no_other : (w : List ℕ) → length w ≢ 3 → length w ≢ 4 → length w ≢ 5 → length w ≢ 6 → None ≡ name_of w
+no_other [] three four five six = refl
+no_other (x0 ∷ []) three four five six = simp no_more
+no_other (x0 ∷ x1 ∷ []) three four five six = simp no_more
+no_other (x0 ∷ x1 ∷ x2 ∷ []) three four five six = absurd (three refl)
+no_other (x0 ∷ x1 ∷ x2 ∷ x3 ∷ []) three four five six = absurd (four refl)
+no_other (x0 ∷ x1 ∷ x2 ∷ x3 ∷ x4 ∷ []) three four five six = absurd (five refl)
+no_other (x0 ∷ x1 ∷ x2 ∷ x3 ∷ x4 ∷ x5 ∷ []) three four five six = absurd (six refl)
+no_other (x0 ∷ x1 ∷ x2 ∷ x3 ∷ x4 ∷ x5 ∷ x6 ∷ xs) three four five six = simp no_more

@@ -1,5 +1,5 @@
 //! The command words.
-ghost use Rattle.std.specs.Prelude.{◌≡◌, ◌∷◌, []};
+ghost use Rattle.std.specs.Prelude.{◌≡◌, ◌≢◌, ◌∷◌, [], length};
 ghost use Rattle.script_reader.specs.Grammar.{name_of};
 
 /// The command words of a script.
@@ -31,8 +31,8 @@ pub enum Name {
 
 /// The name of three letters.
 #[inline(always)]
-fn of_three(a: u8, b: u8, c: u8) -> Option<Name>
-    ensures { result ≡ name_of (a ∷ b ∷ c ∷ []) }
+fn of_three(a: &u8, b: &u8, c: &u8) -> Option<Name>
+    ensures { result ≡ name_of (a.now ∷ b.now ∷ c.now ∷ []) }
 {
     match (a, b, c) {
         (b'm', b'e', b'v') => Some(Name::Mev),
@@ -45,8 +45,8 @@ fn of_three(a: u8, b: u8, c: u8) -> Option<Name>
 
 /// The name of four letters.
 #[inline(always)]
-fn of_four(a: u8, b: u8, c: u8, d: u8) -> Option<Name>
-    ensures { result ≡ name_of (a ∷ b ∷ c ∷ d ∷ []) }
+fn of_four(a: &u8, b: &u8, c: &u8, d: &u8) -> Option<Name>
+    ensures { result ≡ name_of (a.now ∷ b.now ∷ c.now ∷ d.now ∷ []) }
 {
     match (a, b, c, d) {
         (b'm', b'v', b'f', b's') => Some(Name::Mvfs),
@@ -63,8 +63,8 @@ fn of_four(a: u8, b: u8, c: u8, d: u8) -> Option<Name>
 
 /// The name of five letters.
 #[inline(always)]
-fn of_five(a: u8, b: u8, c: u8, d: u8, e: u8) -> Option<Name>
-    ensures { result ≡ name_of (a ∷ b ∷ c ∷ d ∷ e ∷ []) }
+fn of_five(a: &u8, b: &u8, c: &u8, d: &u8, e: &u8) -> Option<Name>
+    ensures { result ≡ name_of (a.now ∷ b.now ∷ c.now ∷ d.now ∷ e.now ∷ []) }
 {
     match (a, b, c, d, e) {
         (b'k', b'f', b'm', b'r', b'h') => Some(Name::Kfmrh),
@@ -80,8 +80,8 @@ fn of_five(a: u8, b: u8, c: u8, d: u8, e: u8) -> Option<Name>
 
 /// The name of six letters.
 #[inline(always)]
-fn of_six(a: u8, b: u8, c: u8, d: u8, e: u8, f: u8) -> Option<Name>
-    ensures { result ≡ name_of (a ∷ b ∷ c ∷ d ∷ e ∷ f ∷ []) }
+fn of_six(a: &u8, b: &u8, c: &u8, d: &u8, e: &u8, f: &u8) -> Option<Name>
+    ensures { result ≡ name_of (a.now ∷ b.now ∷ c.now ∷ d.now ∷ e.now ∷ f.now ∷ []) }
 {
     match (a, b, c, d, e, f) {
         (b'r', b'i', b'n', b'g', b'm', b'v') => Some(Name::Ringmv),
@@ -91,15 +91,27 @@ fn of_six(a: u8, b: u8, c: u8, d: u8, e: u8, f: u8) -> Option<Name>
     }
 }
 
+/// The name of five letters or more that is written so. It is a call, so that shorter words are told with fewer tests.
+#[inline(never)]
+fn long_name(word: &[u8]) -> Option<Name>
+    requires three { length word.now ≢ 3 }
+    requires four { length word.now ≢ 4 }
+    ensures { result ≡ name_of word.now }
+{
+    match word {
+        [a, b, c, d, e] => of_five(a, b, c, d, e),
+        [a, b, c, d, e, f] => of_six(a, b, c, d, e, f),
+        _ => None,
+    }
+}
+
 /// The name that is written so. It is told by its letters, which costs less than to compare words.
 pub fn name_of(word: &[u8]) -> Option<Name>
     ensures { result ≡ name_of word.now }
 {
     match word {
-        [a, b, c] => of_three(*a, *b, *c),
-        [a, b, c, d] => of_four(*a, *b, *c, *d),
-        [a, b, c, d, e] => of_five(*a, *b, *c, *d, *e),
-        [a, b, c, d, e, f] => of_six(*a, *b, *c, *d, *e, *f),
-        _ => None,
+        [a, b, c, d] => of_four(a, b, c, d),
+        [a, b, c] => of_three(a, b, c),
+        _ => long_name(word),
     }
 }
