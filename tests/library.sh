@@ -1,6 +1,6 @@
 #!/bin/sh
-# Tries the kernel as a library: builds the shared object and the examples in bindings/, compares what they print, looks for leaks, refuses each
-# allocation in turn, compares the answers to random lines with those to the same commands as typed calls, over a million of them, and the
+# Tries the kernel as a library: builds the shared object and the examples in bindings/, compares what they print, looks for leaks, asks the calls
+# over worked scripts, refuses each allocation in turn, compares the answers to random lines with those to the same commands as typed calls, over a million of them, and the
 # answers to 100,000 random lines with the program's. The last line counts.
 #
 #   tests/library.sh [ARCHIVE [PROGRAM]]
@@ -105,6 +105,13 @@ if command -v valgrind > /dev/null; then
     tried 'valgrind over the tests in C++' valgrind -q --error-exitcode=9 --leak-check=full --show-leak-kinds=all "$dir/built/library_cpp"
 else
     echo 'not tried: the example in C and the tests in C++ under valgrind, which is not there'
+fi
+
+tried 'worked scripts are built' cc -O2 -std=gnu11 -Wall -Wextra -Werror -Ibindings/include -o "$dir/built/worked" tests/library_worked.c \
+    "$dir/built/libgwb.a"
+counted 'the calls over worked scripts' "$dir/built/worked"
+if command -v valgrind > /dev/null; then
+    tried 'valgrind over worked scripts' valgrind -q --error-exitcode=9 --leak-check=full --show-leak-kinds=all "$dir/built/worked"
 fi
 
 # typed LINES COMMAND..: gives so many random lines to the program that compares typed calls with lines

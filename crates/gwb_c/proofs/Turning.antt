@@ -1,7 +1,8 @@
 -- What a call does to a handle, from what it does to the slot behind it.
 use Rattle.std.proofs.Common.{◌≡◌, ◌∙◌, ℕ, Bool, true, false, Option, Some, refl, sym, subst}
 use Rattle.std.specs.Prelude.{not}
-use Rattle.gwb_c.specs.Handle.{Unless, Calls, CallsOfSession, CallsOfDraft, status_of}
+use Rattle.gwb_c.specs.Handle.{Unless, Calls, CallsOfSession, CallsOfDraft}
+use Rattle.session_slots.specs.Answered.{status_of}
 use Rattle.session_slots.specs.Stages.{is_draft}
 use Rattle.session_slots.specs.declared.slot.Slot.{Slot}
 

@@ -1,10 +1,6 @@
 -- What a typed call does to the session behind a handle: what the line does that spells the same command.
-use Rattle.std.specs.Prelude.{◌≡◌, ◌-◌, ℕ, cond, nat_lt, List, map, Option, Some, None, Result}
-use Rattle.euler_operators.specs.HalfEdge.{half}
-use Rattle.euler_operators.specs.declared.Corner.{Corner}
-use Rattle.euler_operators.specs.declared.Corner.TheVariants as corner
+use Rattle.std.specs.Prelude.{◌≡◌, ℕ, List, Option, Some, None, Result}
 use Rattle.euler_operators.specs.declared.Op.{Op}
-use Rattle.euler_operators.specs.declared.Point.{Point}
 use Rattle.euler_operators.specs.declared.Refusal.{Refusal}
 use Rattle.euler_operators.specs.Model.{Model}
 use Rattle.solid_listing.specs.declared.reply.Reply.{Reply}
@@ -12,7 +8,6 @@ use Rattle.script_reader.specs.declared.command.Command.{Command}
 use Rattle.script_running.specs.declared.script_judging.judging.Answer.{Answer}
 use Rattle.session_slots.specs.Slots.{Slot_does, Slot_carries, Slot_asks}
 use Rattle.session_slots.specs.Parting.{Slot_makes_part}
-use Rattle.session_slots.specs.declared.readers.Place.{Place}
 use Rattle.session_slots.specs.declared.slot.Slot.{Slot}
 use Rattle.gwb_c.specs.Handle.{Calls, CallsOfSession, Recalls, RecallsBy}
 
@@ -36,17 +31,6 @@ Parts old fs t new kind = Calls (λ x y. Slot_makes_part x fs t y) old new kind
 abbrev pub Leaves : Option Slot → ℕ → Option Slot → ℕ → Type 0
 Leaves None k new kind = (new ≡ None) × (kind ≡ 9)
 Leaves (Some x) k new kind = (new ≡ Some x) × (kind ≡ k)
-
--- the points of a polygon, in the order in which C gives them
-abbrev pub point_of : Place → Point
-point_of p = record { x = p.x; y = p.y; z = p.z }
-
-abbrev pub polygon_of : List Place → List Point
-polygon_of ps = map point_of ps
-
--- the corner that C means: below 2^31 the one at the tail of a half-edge, from there on that of a lone loop
-abbrev pub corner_of : ℕ → Corner
-corner_of n = cond (nat_lt n 2147483648) (corner.At (half n)) (corner.Lone (n - 2147483648))
 
 -- what the reader of the last answer writes is written
 abbrev pub Tells : {X : Type 0} → (Answer → Option X) → Option Slot → X → X → Type 0

@@ -1,48 +1,17 @@
 -- What C's calls do to the session behind a handle.
 use Rattle.std.specs.Prelude.{◌≡◌, ◌⊎◌, ◌-◌, ◌^◌, ℕ, Bool, true, false, not, List, length, Option, Some, None}
 use Rattle.euler_operators.specs.Model.{Model}
-use Rattle.undo_journal.specs.Journal.{new_journal}
-use Rattle.solid_listing.specs.declared.reply.Reply.TheVariants as reply
 use Rattle.script_running.specs.declared.script_judging.judging.Answer.{Answer}
-use Rattle.script_running.specs.declared.script_judging.judging.Answer.TheVariants.{Silent, Reply as Told, Listing}
 use Rattle.shapes.specs.Fresh.{taken_in}
 use Rattle.solid_walks.specs.Counters.{taken_of}
-use Rattle.session_slots.specs.FreshNumbers.{fresh_in}
+use Rattle.gwb_c.specs.FreshNumbers.{fresh_in}
+use Rattle.session_slots.specs.Answered.{status_of}
 use Rattle.session_slots.specs.Stages.{shown, is_draft, text_in}
 use Rattle.session_slots.specs.Slots.{Slot_notes}
 use Rattle.session_slots.specs.Written.{laid_over, WritesOne}
-use Rattle.session_slots.specs.declared.fresh.Range.{Range}
+use Rattle.gwb_c.specs.declared.fresh.Range.{Range}
 use Rattle.session_slots.specs.declared.stage.Stage.{Stage}
-use Rattle.session_slots.specs.declared.stage.Stage.TheVariants.{Session}
 use Rattle.session_slots.specs.declared.slot.Slot.{Slot}
-
--- what C is told of an answer
-abbrev pub status_of : Answer → ℕ
-status_of Silent = 0
-status_of (Told reply.Done) = 1
-status_of (Told (reply.Refused n x)) = 2
-status_of (Told (reply.Fault n)) = 3
-status_of (Told reply.Memory) = 4
-status_of (Told (reply.Plane p flat)) = 5
-status_of (Told (reply.Volume n)) = 6
-status_of (Told (reply.Count ns)) = 7
-status_of Listing = 8
-
--- what a handle holds: a session or a draft
-abbrev pub stage_in : Option Slot → Option Stage
-stage_in None = None
-stage_in (Some x) = x.stage
-
--- the answer to the last command
-abbrev pub answer_in : Option Slot → Option Answer
-answer_in None = None
-answer_in (Some x) = Some x.answer
-
--- a closed handle gets a new session that has answered nothing; else nothing has changed
-abbrev pub Opened : Option Slot → Option Slot → Bool → Type 0
-Opened None new true = (stage_in new ≡ Some (Session new_journal)) × (answer_in new ≡ Some Silent)
-Opened None new false = new ≡ None
-Opened (Some x) new opened = (opened ≡ false) × (new ≡ Some x)
 
 -- C is told a number alone, and nothing has changed; or R leads to a slot, and C is told the kind of its answer
 abbrev pub Unless : Bool → ℕ → (Slot → Slot → Type 0) → Slot → Option Slot → ℕ → Type 0

@@ -1,3 +1,3 @@
-pub mod Owned
+pub mod FreshNumbers
 pub mod Handle
 pub mod Calls

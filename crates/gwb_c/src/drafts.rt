@@ -4,9 +4,8 @@ ghost use Rattle.undo_journal.specs.Journal.{after_commit};
 ghost use Rattle.session_slots.specs.Slots.{Slot_drafts, Slot_ends};
 ghost use Rattle.gwb_c.specs.Handle.{CallsOfSession, CallsOfDraft};
 
-use crate::handle::{CLOSED, Gwb, IN_DRAFT, NO_DRAFT, put, take};
-use crate::told::status;
-use session_slots::is_drafting;
+use crate::told::{CLOSED, IN_DRAFT, NO_DRAFT};
+use session_slots::{Gwb, is_drafting, put, status, take};
 use std::alloc::Global;
 
 /// Opens a draft of the next command: from then on operators are its steps.

@@ -1,11 +1,13 @@
 //! Calls of C: sessions, and lines as text.
 ghost use Rattle.std.specs.Prelude.{◌≡◌, Some, None};
 ghost use Rattle.session_slots.specs.Stages.{undos, redos};
-ghost use Rattle.gwb_c.specs.Handle.{Opened, Hears, Numbers, Replies};
+ghost use Rattle.session_slots.specs.Opening.{Opened};
+ghost use Rattle.gwb_c.specs.Handle.{Hears, Numbers, Replies};
 
-use crate::handle::{CLOSED, Gwb, IN_DRAFT, put, take};
-use crate::told::status;
-use session_slots::{Slot, ahead, copy_front, depth, hear, is_drafting, made, text_of};
+use crate::told::{CLOSED, IN_DRAFT};
+use session_slots::{
+    Gwb, Slot, Stage, begin, copy_front, hear, is_drafting, put, status, take, text_of,
+};
 use std::alloc::Global;
 
 /// Opens a session that holds the empty model. False where memory is refused, or there is a session; then nothing has changed.
@@ -13,17 +15,7 @@ use std::alloc::Global;
 pub extern "C" fn gwb_open(alloc: Global, gwb: &mut Gwb) -> bool
     ensures { Opened gwb.old.kept.value gwb.new.kept.value result }
 {
-    if let Some(slot) = take(alloc, gwb) {
-        put(gwb, slot);
-        return false;
-    }
-    match made(alloc) {
-        None => false,
-        Some(slot) => {
-            put(gwb, slot);
-            true
-        }
-    }
+    begin(alloc, gwb)
 }
 
 /// Frees the session, if there is one.
@@ -72,6 +64,26 @@ pub extern "C" fn gwb_reply(alloc: Global, gwb: &mut Gwb, buf: &mut [u8]) -> usi
     }
     put(gwb, slot);
     length
+}
+
+/// How many commands can be undone: in a draft none.
+fn depth(stage: &Stage) -> usize
+    ensures { result ≡ undos stage.now }
+{
+    match stage {
+        Stage::Session(session) => session.depth(),
+        Stage::Drafting(_) => 0,
+    }
+}
+
+/// How many commands can be redone: in a draft none.
+fn ahead(stage: &Stage) -> usize
+    ensures { result ≡ redos stage.now }
+{
+    match stage {
+        Stage::Session(session) => session.ahead(),
+        Stage::Drafting(_) => 0,
+    }
 }
 
 fn depth_of(slot: &Slot) -> usize

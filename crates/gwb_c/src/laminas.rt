@@ -1,38 +1,15 @@
 //! Calls of C: a lamina of points.
 ghost use Rattle.std.specs.Prelude.{◌≡◌, ◌<◌, ◌≤◌, length};
 ghost use Rattle.script_reader.specs.declared.command.Command.TheVariants as command;
-ghost use Rattle.gwb_c.specs.Calls.{Does, Leaves, point_of, polygon_of};
+ghost use Rattle.session_slots.specs.Arguments.{polygon_of};
+ghost use Rattle.gwb_c.specs.Calls.{Does, Leaves};
 
-use crate::handle::{CLOSED, Gwb, IN_DRAFT, NO_CALL, put, take};
-use crate::told::status;
-use arrayvec::ArrayVec;
-use euler_operators::Point;
-use session_slots::{Place, is_drafting};
+use crate::told::{CLOSED, IN_DRAFT, NO_CALL};
+use session_slots::{Gwb, Place, is_drafting, polygon, put, status, take};
 use std::alloc::Global;
 
 /// A polygon has no more points.
 const MOST_POINTS: usize = 64;
-
-fn point_of(place: Place) -> Point
-    ensures { result ≡ point_of place }
-{
-    let Place { x, y, z } = place;
-    Point { x, y, z }
-}
-
-/// The points of a polygon, with their room.
-fn polygon(places: &[Place]) -> ArrayVec<Point, 64>
-    requires { length places.now ≤ 64 }
-    ensures { result.items ≡ polygon_of places.now }
-{
-    let mut polygon = ArrayVec::new();
-    let mut rest = places;
-    'places: while let [first, others @ ..] = rest {
-        polygon.push(point_of(*first));
-        rest = others;
-    }
-    polygon
-}
 
 /// Makes a lamina: a solid of two faces, whose corners are the points in order. More than 64 points make no call, and a draft has none.
 #[unsafe(no_mangle)]

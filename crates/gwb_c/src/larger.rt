@@ -4,11 +4,10 @@ ghost use Rattle.script_reader.specs.declared.command.Command.TheVariants as com
 ghost use Rattle.script_running.specs.script_judging.Settling.{spelled};
 ghost use Rattle.gwb_c.specs.Calls.{Does};
 
-use crate::handle::{CLOSED, Gwb, IN_DRAFT, put, take};
-use crate::told::status;
+use crate::told::{CLOSED, IN_DRAFT};
 use euler_operators::Point;
 use script_running::Larger;
-use session_slots::is_drafting;
+use session_slots::{Gwb, is_drafting, put, status, take};
 use std::alloc::Global;
 
 /// Carries a larger command out on the session, if there is one.

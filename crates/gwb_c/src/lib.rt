@@ -19,20 +19,16 @@
 
 mod drafts;
 mod exports;
-mod handle;
-mod kept;
+mod fresh;
 mod laminas;
 mod larger;
-mod loose;
 mod operators;
 mod parts;
 mod queries;
 mod reads;
 mod recalls;
-#[cfg(test)]
-mod tests;
 mod told;
 mod version;
 
-pub use handle::Gwb;
-pub use session_slots::{Counts, EdgeRow, FaceRow, Place, PlaneRow, Range, Refused, Wide};
+pub use fresh::Range;
+pub use session_slots::{Counts, EdgeRow, FaceRow, Gwb, Place, PlaneRow, Refused, Wide};

@@ -2,31 +2,13 @@
 ghost use Rattle.std.specs.Prelude.{◌≡◌, cond, nat_eq};
 ghost use Rattle.euler_operators.specs.HalfEdge.{half};
 ghost use Rattle.script_reader.specs.Grammar.{plus};
-ghost use Rattle.gwb_c.specs.Calls.{Carries, corner_of};
+ghost use Rattle.session_slots.specs.Arguments.{corner_of};
+ghost use Rattle.gwb_c.specs.Calls.{Carries};
 
-use crate::handle::{CLOSED, Gwb, put, take};
-use crate::told::status;
-use euler_operators::{Corner, HalfEdge, Op, Point};
+use crate::told::CLOSED;
+use euler_operators::{HalfEdge, Op, Point};
+use session_slots::{Gwb, corner, kev, plus, put, ringmv, status, take};
 use std::alloc::Global;
-
-/// The first half-edge of a new edge.
-fn plus(edge: u32) -> HalfEdge
-    ensures { result ≡ plus edge }
-{
-    HalfEdge { edge, first: true }
-}
-
-/// The corner that C means: below 2^31 the one at the tail of a half-edge, from there on that of a lone loop.
-#[inline(always)]
-fn corner(code: u32) -> Corner
-    ensures { result ≡ corner_of code }
-{
-    if code < 2147483648 {
-        Corner::At(HalfEdge::of_code(code))
-    } else {
-        Corner::Lone(code - 2147483648)
-    }
-}
 
 /// One operator, in a session a command, in a draft a step. It is inlined with all that it calls here, so that the operator is built where
 /// the session takes it, and not handed on from call to call.
@@ -107,7 +89,7 @@ pub extern "C" fn gwb_mev(
 pub extern "C" fn gwb_kev(alloc: Global, gwb: &mut Gwb, half_edge: u32) -> u32
     ensures { Carries gwb.old.kept.value (Op.Kev (half half_edge)) gwb.new.kept.value result }
 {
-    act(alloc, gwb, Op::Kev(HalfEdge::of_code(half_edge)))
+    act(alloc, gwb, kev(half_edge))
 }
 
 /// Makes an edge and a face between two half-edges of a loop.
@@ -181,12 +163,7 @@ pub extern "C" fn gwb_mfkrh(alloc: Global, gwb: &mut Gwb, ring: u32, face: u32) 
 pub extern "C" fn gwb_ringmv(alloc: Global, gwb: &mut Gwb, ring: u32, face: u32, out: u32) -> u32
     ensures { Carries gwb.old.kept.value (cond (nat_eq out 0) (Op.RingIn ring face) (Op.RingOut ring face)) gwb.new.kept.value result }
 {
-    let op = if out == 0 {
-        Op::RingIn(ring, face)
-    } else {
-        Op::RingOut(ring, face)
-    };
-    act(alloc, gwb, op)
+    act(alloc, gwb, ringmv(ring, face, out))
 }
 
 /// Makes a ring the outer loop of its face, whose outer loop until then becomes a ring of the face given.

@@ -2,8 +2,8 @@
 ghost use Rattle.std.specs.Prelude.{◌≡◌, ◌<◌, [], length};
 ghost use Rattle.gwb_c.specs.Calls.{Leaves, Parts};
 
-use crate::handle::{CLOSED, Gwb, NO_CALL, put, take};
-use crate::told::status;
+use crate::told::{CLOSED, NO_CALL};
+use session_slots::{Gwb, put, status, take};
 use std::alloc::Global;
 
 /// Makes a new solid of some faces of one. No faces make no call.

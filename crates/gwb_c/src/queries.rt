@@ -4,10 +4,10 @@ ghost use Rattle.script_running.specs.script_judging.Judging.{plane_reply, volum
 ghost use Rattle.session_slots.specs.Answered.{counts_in, volume_in, plane_in, joined, joined_plane};
 ghost use Rattle.gwb_c.specs.Calls.{Asks, Tells, TellsBy};
 
-use crate::handle::{CLOSED, Gwb, put, take};
-use crate::told::{give, give_plane, give_wide, status};
+use crate::told::{CLOSED, give, give_plane, give_wide};
 use session_slots::{
-    Counts, PlaneRow, Wide, counts_of, plane_of, tell_count, tell_plane, tell_volume, volume_of,
+    Counts, Gwb, PlaneRow, Wide, counts_of, plane_of, put, status, take, tell_count, tell_plane,
+    tell_volume, volume_of,
 };
 use std::alloc::Global;
 

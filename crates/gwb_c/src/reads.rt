@@ -4,9 +4,9 @@ ghost use Rattle.std.specs.Prelude.{◌≡◌, Some};
 ghost use Rattle.session_slots.specs.Reading.{face_in, face_of_loop_in, edge_in, point_in, lone_in, after_in, IsRingAfter, IsFaceAfter, AreHalfEdges, IsFirst, kind_of, IsNumberAfter};
 ghost use Rattle.gwb_c.specs.Handle.{Reads, Finds, Lists, GivesFresh};
 
-use crate::handle::{CLOSED, Gwb, put, take};
-use crate::told::{ABSENT, FOUND, give};
-use session_slots::{EdgeRow, FaceRow, Place, Range, Slot, fresh_of};
+use crate::fresh::{Range, fresh_of};
+use crate::told::{ABSENT, CLOSED, FOUND, give};
+use session_slots::{EdgeRow, FaceRow, Gwb, Place, Slot, put, take};
 use std::alloc::Global;
 
 /// The solid and the outer loop of a face.

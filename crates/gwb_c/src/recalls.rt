@@ -4,10 +4,10 @@ ghost use Rattle.std.specs.Prelude.{◌≡◌};
 ghost use Rattle.session_slots.specs.Answered.{refusal_in, fault_in, counts_in, volume_in, plane_in, joined, joined_plane};
 ghost use Rattle.gwb_c.specs.Handle.{Recalls, RecallsBy};
 
-use crate::handle::{CLOSED, Gwb, put, take};
-use crate::told::{give, give_plane, give_wide};
+use crate::told::{CLOSED, give, give_plane, give_wide};
 use session_slots::{
-    Counts, PlaneRow, Refused, Wide, counts_of, fault_of, plane_of, refusal_of, volume_of,
+    Counts, Gwb, PlaneRow, Refused, Wide, counts_of, fault_of, plane_of, put, refusal_of, take,
+    volume_of,
 };
 use std::alloc::Global;
 

@@ -1,34 +1,24 @@
-//! What C is told: of an answer its kind, and of a value whether it is there.
+//! What C is told: why there was no call, and of a value whether it is there.
 ghost use Rattle.std.specs.Prelude.{◌≡◌};
 ghost use Rattle.session_slots.specs.Answered.{joined, joined_plane};
-ghost use Rattle.gwb_c.specs.Handle.{status_of, Gives, GivesBy};
+ghost use Rattle.gwb_c.specs.Handle.{Gives, GivesBy};
 
 use euler_operators::Plane;
-use script_running::Answer;
 use session_slots::{PlaneRow, Wide, halves, plane_row};
-use solid_listing::Reply;
+
+/// What a call says of a closed handle, of arguments that make no command, of a call that no draft has, and of one that only a draft has.
+pub(crate) const CLOSED: u32 = 9;
+
+pub(crate) const NO_CALL: u32 = 10;
+
+pub(crate) const IN_DRAFT: u32 = 11;
+
+pub(crate) const NO_DRAFT: u32 = 12;
 
 /// What a call says of a value that is there or not.
 pub(crate) const FOUND: u32 = 1;
 
 pub(crate) const ABSENT: u32 = 0;
-
-/// What C is told of an answer.
-pub(crate) fn status(answer: &Answer) -> u32
-    ensures { result ≡ status_of answer.now }
-{
-    match answer {
-        Answer::Silent => 0,
-        Answer::Reply(Reply::Done) => 1,
-        Answer::Reply(Reply::Refused(_, _)) => 2,
-        Answer::Reply(Reply::Fault(_)) => 3,
-        Answer::Reply(Reply::Memory) => 4,
-        Answer::Reply(Reply::Plane(_, _)) => 5,
-        Answer::Reply(Reply::Volume(_)) => 6,
-        Answer::Reply(Reply::Count(_)) => 7,
-        Answer::Listing => 8,
-    }
-}
 
 /// Writes a value that is there, and says whether it is.
 pub(crate) fn give<T: Copy>(value: Option<T>, out: &mut T) -> u32

@@ -1,6 +1,8 @@
 pub mod Overlaid
 pub mod CycleRounds
 mod Numbers
+mod Values
+mod KeptSteps
 pub mod Acting
 mod Queried
 mod Hearing

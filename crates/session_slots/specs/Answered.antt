@@ -3,11 +3,23 @@ use Rattle.std.specs.Prelude.{ℕ, ℤ, ◌+ℤ◌, ◌*ℤ◌, cond, Option, So
 use Rattle.euler_operators.specs.declared.Plane.{Plane}
 use Rattle.solid_listing.specs.declared.reply.Reply.TheVariants as reply
 use Rattle.script_running.specs.declared.script_judging.judging.Answer.{Answer}
-use Rattle.script_running.specs.declared.script_judging.judging.Answer.TheVariants.{Reply as Told}
+use Rattle.script_running.specs.declared.script_judging.judging.Answer.TheVariants.{Silent, Reply as Told, Listing}
 use Rattle.session_slots.specs.declared.answers.Refused.{Refused}
 use Rattle.session_slots.specs.declared.answers.Counts.{Counts}
 use Rattle.session_slots.specs.declared.answers.Wide.{Wide}
 use Rattle.session_slots.specs.declared.answers.PlaneRow.{PlaneRow}
+
+-- what C is told of an answer
+abbrev pub status_of : Answer → ℕ
+status_of Silent = 0
+status_of (Told reply.Done) = 1
+status_of (Told (reply.Refused n x)) = 2
+status_of (Told (reply.Fault n)) = 3
+status_of (Told reply.Memory) = 4
+status_of (Told (reply.Plane p flat)) = 5
+status_of (Told (reply.Volume n)) = 6
+status_of (Told (reply.Count ns)) = 7
+status_of Listing = 8
 
 -- what a refusal names, if the answer is one
 abbrev pub refusal_in : Answer → Option Refused

@@ -3,5 +3,7 @@ pub mod Slots
 pub mod Written
 pub mod Answered
 pub mod Reading
-pub mod FreshNumbers
 pub mod Parting
+pub mod Owned
+pub mod Opening
+pub mod Arguments

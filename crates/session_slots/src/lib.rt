@@ -2,8 +2,9 @@
 //! in use before it.
 //!
 //! `stage` has a session or a draft, `counted_stage` this with the greatest numbers in use, `slot` what a line does to a slot; `commands`,
-//! `drafts`, `parts` and `measures` what a command, a draft, a part and a query do that are given as values. `answers` and `fresh` give the
-//! last answer and the numbers that it made as values, `readers` and `cycles` read the model shown.
+//! `drafts`, `parts` and `measures` what a command, a draft, a part and a query do that are given as values. `answers` gives the
+//! last answer as values, `readers` and `cycles` read the model shown. `handle` has a slot that lies with C, by a pointer (`kept`, `loose`),
+//! and `arguments` what C gives to a call, as the kernel takes it.
 //!
 //! # What is proved
 //!
@@ -16,11 +17,14 @@
 #![tactic(auto)]
 
 mod answers;
+mod arguments;
 mod commands;
 mod counted_stage;
 mod cycles;
 mod drafts;
-mod fresh;
+mod handle;
+mod kept;
+mod loose;
 mod measures;
 mod parts;
 mod readers;
@@ -29,18 +33,20 @@ mod stage;
 
 pub use answers::{
     Counts, PlaneRow, Refused, Wide, counts_of, fault_of, halves, plane_of, plane_row, refusal_of,
-    volume_of,
+    status, volume_of,
 };
+pub use arguments::{corner, kev, plus, polygon, ringmv};
 pub use commands::{act, carry, lamina, redo, undo};
 pub use counted_stage::CountedStage;
 pub use cycles::half_edges;
 pub use drafts::{abandon, commit, open};
-pub use fresh::{Range, fresh_of};
+pub use handle::{Gwb, begin, put, take};
+pub use kept::Kept;
 pub use measures::{tell_count, tell_plane, tell_volume};
 pub use parts::part;
 pub use readers::{
     EdgeRow, FaceRow, Place, edge, face, face_after, face_of_loop, first_half_edge, lone_vertex,
     next_half_edge, number_after, ring_after, vertex,
 };
-pub use slot::{Slot, copy_front, hear, is_drafting, made, text_of};
-pub use stage::{OpenDraft, Stage, ahead, depth};
+pub use slot::{Slot, copy_front, hear, is_drafting, text_of};
+pub use stage::{OpenDraft, Stage};

@@ -27,7 +27,7 @@ pub struct Slot {
 }
 
 /// A new session in its box.
-pub fn made(alloc: Global) -> Option<Box<Slot, Global>>
+pub(crate) fn made(alloc: Global) -> Option<Box<Slot, Global>>
     ensures { IfSome result (λ b. (b.value.stage ≡ Some (stages.Session new_journal)) × (b.value.answer ≡ Answer.Silent)) }
 {
     let Ok(session) = Session::new(alloc) else {

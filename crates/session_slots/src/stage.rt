@@ -2,7 +2,7 @@
 ghost use Rattle.std.specs.Prelude.{◌≡◌};
 ghost use Rattle.euler_conditions.specs.Ready.{IsReady};
 ghost use Rattle.undo_journal.specs.Journal.{after_commit};
-ghost use Rattle.session_slots.specs.Stages.{shown, undos, redos};
+ghost use Rattle.session_slots.specs.Stages.{shown};
 
 use euler_conditions::Arena;
 use undo_journal::{Draft, Session};
@@ -52,25 +52,5 @@ pub(crate) fn arena(stage: &Stage) -> &Arena
     match stage {
         Stage::Session(session) => session.arena(),
         Stage::Drafting(open) => open.draft.arena(),
-    }
-}
-
-/// How many commands can be undone: in a draft none.
-pub fn depth(stage: &Stage) -> usize
-    ensures { result ≡ undos stage.now }
-{
-    match stage {
-        Stage::Session(session) => session.depth(),
-        Stage::Drafting(_) => 0,
-    }
-}
-
-/// How many commands can be redone: in a draft none.
-pub fn ahead(stage: &Stage) -> usize
-    ensures { result ≡ redos stage.now }
-{
-    match stage {
-        Stage::Session(session) => session.ahead(),
-        Stage::Drafting(_) => 0,
     }
 }

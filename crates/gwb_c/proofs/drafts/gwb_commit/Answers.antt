@@ -1,6 +1,6 @@
 use Rattle.std.proofs.Common.{◌∙◌, true, false, ap, subst}
 use Rattle.session_slots.specs.declared.slot.Slot.{Slot}
-use Rattle.gwb_c.specs.Handle.{status_of}
+use Rattle.session_slots.specs.Answered.{status_of}
 use Rattle.undo_journal.specs.Journal.{after_commit}
 use Rattle.session_slots.specs.Slots.{Slot_ends}
 use Rattle.gwb_c.proofs.Turning.{no_draft_here, goes_on_in_draft, is_so}

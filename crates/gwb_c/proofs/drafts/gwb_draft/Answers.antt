@@ -1,6 +1,6 @@
 use Rattle.std.proofs.Common.{◌∙◌, true, false, ap, subst}
 use Rattle.session_slots.specs.declared.slot.Slot.{Slot}
-use Rattle.gwb_c.specs.Handle.{status_of}
+use Rattle.session_slots.specs.Answered.{status_of}
 use Rattle.session_slots.specs.Slots.{Slot_drafts}
 use Rattle.gwb_c.proofs.Turning.{turned_away, goes_on_in_session, is_so}
 use Rattle.gwb_c.proofs.drafts.gwb_draft.Goals as goal

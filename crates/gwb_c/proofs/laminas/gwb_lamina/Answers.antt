@@ -2,9 +2,9 @@ use Rattle.std.proofs.Common.{◌∙◌, List, true, false, ap, subst}
 use Rattle.euler_operators.specs.declared.Point.{Point}
 use Rattle.script_reader.specs.declared.command.Command.TheVariants as command
 use Rattle.session_slots.specs.declared.slot.Slot.{Slot}
-use Rattle.gwb_c.specs.Handle.{status_of}
+use Rattle.session_slots.specs.Answered.{status_of}
 use Rattle.session_slots.specs.Slots.{Slot_does}
-use Rattle.gwb_c.specs.Calls.{polygon_of}
+use Rattle.session_slots.specs.Arguments.{polygon_of}
 use Rattle.gwb_c.proofs.Turning.{turned_away, goes_on_in_session, is_so}
 use Rattle.gwb_c.proofs.laminas.gwb_lamina.Goals as goal
 

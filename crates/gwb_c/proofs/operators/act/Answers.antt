@@ -1,6 +1,6 @@
 use Rattle.std.proofs.Common.{◌∙◌, ap, subst}
 use Rattle.session_slots.specs.declared.slot.Slot.{Slot}
-use Rattle.gwb_c.specs.Handle.{status_of}
+use Rattle.session_slots.specs.Answered.{status_of}
 use Rattle.session_slots.specs.Slots.{Slot_carries}
 use Rattle.gwb_c.proofs.Turning.{goes_on}
 use Rattle.gwb_c.proofs.operators.act.Goals as goal

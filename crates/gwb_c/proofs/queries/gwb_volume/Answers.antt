@@ -1,8 +1,8 @@
 use Rattle.std.proofs.Common.{◌∙◌, refl, sym, ap, subst}
 use Rattle.script_running.specs.script_judging.Judging.{volume_reply}
 use Rattle.session_slots.specs.declared.slot.Slot.{Slot}
-use Rattle.session_slots.specs.Answered.{volume_in, joined}
-use Rattle.gwb_c.specs.Handle.{RecallsBy, GivesBy, status_of}
+use Rattle.session_slots.specs.Answered.{volume_in, joined, status_of}
+use Rattle.gwb_c.specs.Handle.{RecallsBy, GivesBy}
 use Rattle.session_slots.specs.Slots.{Slot_asks}
 use Rattle.gwb_c.proofs.Turning.{goes_on}
 use Rattle.gwb_c.proofs.queries.gwb_volume.Goals as goal

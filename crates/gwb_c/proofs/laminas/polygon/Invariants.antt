@@ -1,9 +1,0 @@
-use Rattle.std.proofs.Common.{◌≡◌, ◌+◌, ◌++◌, length}
-use Rattle.gwb_c.specs.Calls.{polygon_of}
-use Rattle.gwb_c.proofs.laminas.polygon.Given as goal
-
-abbrev pub invariant-places : goal.invariant-places
-invariant-places l = (l.polygon.items ++ polygon_of l.rest ≡ polygon_of l.places) × (length l.polygon.items + length l.rest ≡ length l.places)
-
-abbrev pub decreases-places : goal.decreases-places
-decreases-places l = length l.rest

@@ -1,0 +1,18 @@
+-- What C gives, as the kernel takes it.
+use Rattle.std.specs.Prelude.{◌-◌, ℕ, cond, nat_lt, List, map}
+use Rattle.euler_operators.specs.HalfEdge.{half}
+use Rattle.euler_operators.specs.declared.Corner.{Corner}
+use Rattle.euler_operators.specs.declared.Corner.TheVariants as corner
+use Rattle.euler_operators.specs.declared.Point.{Point}
+use Rattle.session_slots.specs.declared.readers.Place.{Place}
+
+-- the points of a polygon, in the order in which C gives them
+abbrev pub point_of : Place → Point
+point_of p = record { x = p.x; y = p.y; z = p.z }
+
+abbrev pub polygon_of : List Place → List Point
+polygon_of ps = map point_of ps
+
+-- the corner that C means: below 2^31 the one at the tail of a half-edge, from there on that of a lone loop
+abbrev pub corner_of : ℕ → Corner
+corner_of n = cond (nat_lt n 2147483648) (corner.At (half n)) (corner.Lone (n - 2147483648))

@@ -1,0 +1,323 @@
+/* The calls of the library over worked scripts, and as they answer a caller who has too little room, too long a line or no session.
+ *
+ * Each test opens a handle, asserts, and closes it. The last line is 'N passed, M failed'; what is wrong is named, and then the status is 1. */
+#include <stdio.h>
+#include <stdlib.h>
+#include <string.h>
+
+#include "gwb.h"
+
+static int wrong; /* assertions that failed in this test */
+
+static void check(int holds, int line, const char *said)
+{
+    if (!holds) {
+        printf("line %d: %s\n", line, said);
+        wrong++;
+    }
+}
+
+#define HOLDS(condition) check((condition), __LINE__, #condition)
+#define COUNT(row) (sizeof(row) / sizeof *(row))
+
+/* Compares the kinds that calls told with those that are wanted. */
+static void same_kinds(const uint32_t *found, const uint32_t *wanted, size_t count, int line)
+{
+    for (size_t i = 0; i < count; i++) {
+        if (found[i] != wanted[i]) {
+            printf("line %d: kind %zu is %u, not %u\n", line, i, found[i], wanted[i]);
+            wrong++;
+        }
+    }
+}
+
+#define KINDS(found, ...) \
+    do { \
+        const uint32_t wanted[] = {__VA_ARGS__}; \
+        HOLDS(COUNT(found) == COUNT(wanted)); \
+        same_kinds((found), wanted, COUNT(wanted), __LINE__); \
+    } while (0)
+
+static gwb opened(void)
+{
+    gwb g = {0};
+    HOLDS(gwb_open(&g));
+    return g;
+}
+
+static uint32_t given(gwb *g, const char *line)
+{
+    return gwb_line(g, (const uint8_t *)line, strlen(line));
+}
+
+/* The texts of the answers to the lines of a script, each of at most 64 bytes. */
+static void told(gwb *g, const char *script, char *texts)
+{
+    for (const char *at = script;; at++) {
+        size_t length = strcspn(at, "\n");
+        uint8_t text[64];
+        gwb_line(g, (const uint8_t *)at, length);
+        size_t size = gwb_reply(g, text, sizeof text);
+        HOLDS(size <= sizeof text);
+        memcpy(texts, text, size);
+        texts += size;
+        at += length;
+        if (*at == '\0') {
+            break;
+        }
+    }
+    *texts = '\0';
+}
+
+/* A block with a hole is split through the hole; what is refused, undone and redone. */
+static const char SCRIPT[] =
+    "block 1 0 0 0 6 6 6\nmev +7 +7 13 9 2 2 6\nkemr +13 7\nmev @7 @7 13 10 2 4 6\nmev -13 -13 14 11 4 4 6\nmev -14 -14 15 12 4 2 6\n"
+    "mef -15 +13 16 7 8\nsweep 7 0 0 -6\nkfmrh 2 7\n# a comment\nvolume 1\nredo\nsplit 1 1 0 0 -3 2\nvolume 1\ncount 2\nplane 18\nkvfs 2\n"
+    "splitt 2\nundo\nvolume 2\nredo\nvolume 2\nundo";
+
+static const char TOLD[] =
+    "ok\nok\nok\nok\nok\nok\nok\nok\nok\nvolume 1152\nrefused 26 0\nok\nvolume 576\ncount 16 24 10 0 2\nplane 24 0 0 -72 flat\nrefused 12 2\n"
+    "fault 1\nok\nrefused 2 2\nok\nvolume 576\nok\n";
+
+static void split_through_a_hole(void)
+{
+    gwb g = opened();
+    char texts[2048];
+    told(&g, SCRIPT, texts);
+    HOLDS(strcmp(texts, TOLD) == 0);
+    HOLDS(gwb_depth(&g) == 9);
+    HOLDS(gwb_ahead(&g) == 1);
+    gwb_close(&g);
+}
+
+/* A block cut in two: solid 2 is its upper part, whose cap is face 15. */
+static gwb halved(void)
+{
+    gwb g = opened();
+    char texts[256];
+    told(&g, "block 1 0 0 0 4 4 4\nsplit 1 0 0 1 -2 2", texts);
+    return g;
+}
+
+static void answers_as_values(void)
+{
+    gwb g = halved();
+    gwb_range faces = {0, 0};
+    HOLDS(gwb_fresh(&g, GWB_FACE, &faces) == 1);
+    HOLDS(faces.first == 7 && faces.last == 15);
+    gwb_wide volume = {7, 7};
+    HOLDS(given(&g, "volume 2") == 6);
+    HOLDS(gwb_last_volume(&g, &volume) == 1);
+    HOLDS(volume.high == 0 && volume.low == 192);
+    gwb_plane plane = {{7, 7}, {7, 7}, {7, 7}, {7, 7}, 7};
+    HOLDS(gwb_last_plane(&g, &plane) == 0);
+    HOLDS(plane.flat == 7);
+    HOLDS(given(&g, "plane 15") == 5);
+    HOLDS(gwb_last_plane(&g, &plane) == 1);
+    HOLDS(plane.a.high == 0 && plane.a.low == 0);
+    HOLDS(plane.c.high == -1 && plane.c.low == UINT64_MAX - 31);
+    HOLDS(plane.d.high == 0 && plane.d.low == 64);
+    HOLDS(plane.flat == 1);
+    gwb_refusal refusal = {0, 0};
+    HOLDS(given(&g, "kvfs 2") == 2);
+    HOLDS(gwb_last_refusal(&g, &refusal) == 1);
+    HOLDS(refusal.number == 12 && refusal.value == 2);
+    gwb_close(&g);
+}
+
+static int rising(const void *left, const void *right)
+{
+    uint32_t a = *(const uint32_t *)left, b = *(const uint32_t *)right;
+    return (a > b) - (a < b);
+}
+
+static void too_little_room(void)
+{
+    gwb g = halved();
+    gwb_face_row row = {0, 0};
+    HOLDS(gwb_face(&g, 15, &row) == 1);
+    HOLDS(row.solid == 2 && row.outer_loop == 15);
+    uint32_t few[3] = {7, 7, 7}, many[5] = {7, 7, 7, 7, 7}, all[5] = {43, 45, 47, 49, 7};
+    HOLDS(gwb_half_edges(&g, row.outer_loop, few, 3) == 4);
+    HOLDS(gwb_half_edges(&g, row.outer_loop, many, 5) == 4);
+    HOLDS(memcmp(few, many, sizeof few) == 0);
+    qsort(many, 4, sizeof *many, rising);
+    HOLDS(memcmp(many, all, sizeof all) == 0);
+    HOLDS(gwb_half_edges(&g, 99, few, 3) == 0);
+    uint8_t text[3] = {'.', '.', '.'};
+    HOLDS(given(&g, "volume 1") == 6);
+    HOLDS(gwb_reply(&g, text, sizeof text) == 11);
+    HOLDS(memcmp(text, "vol", 3) == 0);
+    gwb_close(&g);
+}
+
+/* A line may have 65,536 bytes. */
+static void longest_line(void)
+{
+    static uint8_t comment[65537];
+    memset(comment, '#', sizeof comment);
+    gwb g = opened();
+    uint32_t fault = 0;
+    HOLDS(gwb_line(&g, comment, 65536) == 0);
+    HOLDS(gwb_line(&g, comment, 65537) == 3);
+    HOLDS(gwb_last_fault(&g, &fault) == 1);
+    HOLDS(fault == 6);
+    gwb_close(&g);
+}
+
+static void closed_handle(void)
+{
+    gwb g = opened();
+    HOLDS(!gwb_open(&g));
+    gwb_close(&g);
+    uint32_t number = 7;
+    HOLDS(given(&g, "list") == 9);
+    HOLDS(gwb_number_after(&g, GWB_SOLID, 0, &number) == 9);
+    HOLDS(gwb_last_fault(&g, &number) == 9);
+    HOLDS(number == 7);
+    HOLDS(gwb_half_edges(&g, 1, &number, 1) == SIZE_MAX);
+    HOLDS(number == 7);
+    HOLDS(gwb_depth(&g) == SIZE_MAX);
+    gwb_close(&g);
+}
+
+/* A wire and a block by typed calls: kinds, and what is undone. */
+static void typed_calls(void)
+{
+    gwb g = opened();
+    uint32_t lone = GWB_LONE(1);
+    uint32_t kinds[7];
+    kinds[0] = gwb_mvfs(&g, 1, 1, 1, 1, 0, 0, 0);
+    kinds[1] = gwb_mev(&g, lone, lone, 1, 2, 5, 0, 0);
+    kinds[2] = gwb_kev(&g, 99);
+    kinds[3] = gwb_block(&g, 2, 0, 0, 9, 4, 4, 4);
+    kinds[4] = gwb_undo(&g);
+    kinds[5] = gwb_redo(&g);
+    kinds[6] = gwb_redo(&g);
+    KINDS(kinds, 1, 1, 2, 1, 1, 1, 2);
+    HOLDS(gwb_depth(&g) == 3);
+    gwb_close(&g);
+    HOLDS(gwb_kvfs(&g, 1) == 9);
+}
+
+/* A query as a typed call: of a solid that is there, of one that is not, and of a closed handle. */
+static void typed_query(void)
+{
+    gwb g = opened();
+    gwb_wide volume = {7, 7};
+    gwb_block(&g, 1, 0, 0, 0, 4, 4, 4);
+    HOLDS(gwb_volume(&g, 2, &volume) == 2);
+    HOLDS(volume.high == 7 && volume.low == 7);
+    HOLDS(gwb_volume(&g, 1, &volume) == 6);
+    HOLDS(volume.high == 0 && volume.low == 384);
+    gwb_close(&g);
+    HOLDS(gwb_volume(&g, 1, &volume) == 9);
+}
+
+/* A wire cut into two rings, one of which is moved out and back, and each refusal by its number. */
+static void typed_rings(void)
+{
+    gwb g = opened();
+    uint32_t lone = GWB_LONE(1);
+    uint32_t kinds[5];
+    kinds[0] = gwb_mvfs(&g, 1, 1, 1, 1, 0, 0, 0);
+    kinds[1] = gwb_mev(&g, lone, lone, 1, 2, 5, 0, 0);
+    kinds[2] = gwb_kemr(&g, 2, 2);
+    kinds[3] = gwb_ringmv(&g, 2, 1, 1);
+    kinds[4] = gwb_ringmv(&g, 2, 1, 0);
+    KINDS(kinds, 1, 1, 1, 1, 2);
+    gwb_refusal refusal = {0, 0};
+    HOLDS(gwb_last_refusal(&g, &refusal) == 1);
+    HOLDS(refusal.number == 23 && refusal.value == 2);
+    gwb_close(&g);
+}
+
+/* The corners of a triangle, and as many points as no polygon has. */
+static const gwb_point CORNERS[3] = {{0, 0, 0}, {3, 0, 0}, {0, 3, 0}};
+static const gwb_point TOO_MANY[65];
+
+/* Laminas of three points, of two and of too many; the last answer stays where no call was made. */
+static void typed_laminas(void)
+{
+    gwb g = opened();
+    uint32_t kinds[3];
+    kinds[0] = gwb_lamina(&g, 1, CORNERS, 3);
+    kinds[1] = gwb_lamina(&g, 2, CORNERS, 2);
+    kinds[2] = gwb_lamina(&g, 2, TOO_MANY, 65);
+    KINDS(kinds, 1, 2, 10);
+    gwb_refusal refusal = {0, 0};
+    HOLDS(gwb_last_refusal(&g, &refusal) == 1);
+    HOLDS(refusal.number == 28 && refusal.value == 2);
+    gwb_close(&g);
+}
+
+/* Two solids merged and parted again; no faces, a face that is not there, and all faces. */
+static void typed_parts(void)
+{
+    gwb g = opened();
+    const uint32_t none[1] = {0}, absent[1] = {9}, both[2] = {1, 2}, second[1] = {2};
+    uint32_t kinds[7];
+    kinds[0] = gwb_mvfs(&g, 1, 1, 1, 1, 0, 0, 0);
+    kinds[1] = gwb_mvfs(&g, 2, 2, 2, 2, 1, 0, 0);
+    kinds[2] = gwb_merge(&g, 1, 2);
+    kinds[3] = gwb_part(&g, none, 0, 2);
+    kinds[4] = gwb_part(&g, absent, 1, 2);
+    kinds[5] = gwb_part(&g, both, 2, 2);
+    kinds[6] = gwb_part(&g, second, 1, 2);
+    KINDS(kinds, 1, 1, 1, 10, 2, 2, 1);
+    gwb_face_row row = {0, 0};
+    HOLDS(gwb_face(&g, 2, &row) == 1);
+    HOLDS(row.solid == 2);
+    gwb_close(&g);
+}
+
+/* A wire in a draft: its steps, one of them refused, and what a draft has not. */
+static void drafts_a_wire(gwb *g)
+{
+    uint32_t lone = GWB_LONE(1);
+    uint32_t kinds[10];
+    kinds[0] = gwb_commit(g);
+    kinds[1] = gwb_draft(g);
+    kinds[2] = gwb_mvfs(g, 1, 1, 1, 1, 0, 0, 0);
+    kinds[3] = gwb_mev(g, lone, lone, 1, 2, 5, 0, 0);
+    kinds[4] = gwb_kev(g, 99);
+    kinds[5] = gwb_draft(g);
+    kinds[6] = gwb_undo(g);
+    kinds[7] = given(g, "list");
+    kinds[8] = gwb_lamina(g, 2, CORNERS, 3);
+    kinds[9] = gwb_commit(g);
+    KINDS(kinds, 12, 1, 1, 1, 2, 11, 11, 11, 11, 1);
+}
+
+/* A draft that is committed is one command, one that is abandoned leaves what can be redone, and one that is open can be closed. */
+static void drafts_of_a_wire(void)
+{
+    gwb g = opened();
+    drafts_a_wire(&g);
+    uint32_t kinds[8];
+    kinds[0] = gwb_undo(&g);
+    kinds[1] = gwb_draft(&g);
+    kinds[2] = gwb_mvfs(&g, 1, 1, 1, 1, 9, 9, 9);
+    kinds[3] = gwb_abandon(&g);
+    kinds[4] = gwb_abandon(&g);
+    kinds[5] = gwb_redo(&g);
+    kinds[6] = gwb_draft(&g);
+    kinds[7] = gwb_kev(&g, 2);
+    KINDS(kinds, 1, 1, 1, 1, 12, 1, 1, 1);
+    gwb_close(&g);
+    HOLDS(gwb_draft(&g) == 9);
+}
+
+static void (*const TESTS[])(void) = {split_through_a_hole, answers_as_values, too_little_room, longest_line, closed_handle, typed_calls,
+                                      typed_query, typed_rings, typed_laminas, typed_parts, drafts_of_a_wire};
+
+int main(void) {
+    unsigned failed = 0;
+    for (size_t i = 0; i < COUNT(TESTS); i++) {
+        wrong = 0;
+        TESTS[i]();
+        failed += wrong != 0;
+    }
+    printf("%zu passed, %u failed\n", COUNT(TESTS) - failed, failed);
+    return failed != 0;
+}
