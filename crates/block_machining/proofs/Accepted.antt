@@ -2,7 +2,7 @@
 use Rattle.std.proofs.Common.{◌≡◌, None, refl, sym, subst, rules}
 use Rattle.sweeps.specs.Model.{Model}
 use Rattle.sweeps.specs.PlainMachine.{Machine, accepted, undo_refusal}
-use Rattle.machined_block.specs.Undoing.{IsOneCommand}
+use Rattle.block_machining.specs.Undoing.{IsOneCommand}
 
 not_refused : (before : Machine) (N : Model) → undo_refusal (accepted before N) ≡ None
 not_refused before N = search rules

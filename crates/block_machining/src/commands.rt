@@ -3,8 +3,8 @@ ghost use Rattle.std.specs.Prelude.{◌≡◌, pos, ◌+ℤ◌, ◌-ℤ◌, ◌*
 ghost use Rattle.command_laws.specs.Counted.{counts};
 ghost use Rattle.command_laws.specs.LeftAlone.{KeepsEdges, KeepsLoops, Each, OfOthers, OfOthersBut};
 ghost use Rattle.command_laws.specs.RingedFaces.{IsFarFace};
-ghost use Rattle.machined_block.specs.Cutting.{AreCapped, LieOnEitherSide, ShareSums};
-ghost use Rattle.machined_block.specs.Undoing.{IsOneCommand};
+ghost use Rattle.block_machining.specs.Cutting.{AreCapped, LieOnEitherSide, ShareSums};
+ghost use Rattle.block_machining.specs.Undoing.{IsOneCommand};
 ghost use Rattle.sweeps.specs.PlainMachine.{held};
 ghost use Rattle.sweeps.specs.Measure.{normal, six_volume};
 ghost use Rattle.sweeps.specs.Model.{solid_of};

@@ -2,7 +2,7 @@
 ghost use Rattle.std.specs.Prelude.{◌≡◌, [], IfOk};
 ghost use Rattle.call_lists.specs.Histories.{IsConsistent};
 ghost use Rattle.call_lists.specs.Making.{AreTold};
-ghost use Rattle.machined_block.specs.Listed.{block_twice};
+ghost use Rattle.block_machining.specs.Listed.{block_twice};
 ghost use Rattle.sweeps.specs.PlainMachine.{start};
 
 use call_lists::{Call, Told, make_all};
@@ -23,7 +23,7 @@ fn calls(alloc: Global) -> Result<Vec<Call>, AllocError>
 }
 
 /// These calls made in a new session. What each is told, and the machine after them, are what the plain machine may give.
-pub(crate) fn made(alloc: Global, told: &mut Vec<Told>) -> Result<Session, AllocError>
+pub fn made(alloc: Global, told: &mut Vec<Told>) -> Result<Session, AllocError>
     requires { told.old.items ≡ [] }
     ensures told { IfOk result (λ session. AreTold start block_twice [] told.new.items session.machine) }
     ensures consistent { IfOk result (λ session. IsConsistent session.machine) }

@@ -1,8 +1,8 @@
 use Rattle.std.proofs.Common.{◌≡◌, suc, ◌+◌, ap, subst, ◌∙◌, arith, rules}
 use Rattle.sweeps.specs.PlainMachine.{start, depth, held}
 use Rattle.command_laws.specs.NewFaces.{last_face, IsFaceOf}
-use Rattle.machined_block.specs.Meeting.{near_side}
-use Rattle.machined_block.proofs.blank.Goals as goal
+use Rattle.block_machining.specs.Meeting.{near_side}
+use Rattle.block_machining.proofs.blocks.blank.Goals as goal
 
 begins : (c : goal.In_ok-made) → c.in_ok-session.session.machine ≡ start
 begins c = search rules

@@ -2,7 +2,7 @@ use Rattle.std.proofs.Common.{◌≡◌, ℕ, ℤ, pos, ◌+ℤ◌, sym, ap, ◌
 use Rattle.sweeps.specs.Measure.{six_volume}
 use Rattle.sweeps.specs.Model.{Model, solid_of}
 use Rattle.sweeps.specs.PlainMachine.{held}
-use Rattle.machined_block.proofs.lengthened.Goals as goal
+use Rattle.block_machining.proofs.blocks.lengthened.Goals as goal
 
 -- a sum in which both solids are known
 sum_is : (before after : ℕ → ℤ) (a b s t : ℕ) → a ≡ s → b ≡ t → after a ≡ before a +ℤ before b → after s ≡ before s +ℤ before t

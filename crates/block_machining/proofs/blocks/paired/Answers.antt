@@ -1,8 +1,8 @@
 use Rattle.std.proofs.Common.{suc, ◌+◌, ap, subst, ◌∙◌, arith}
 use Rattle.sweeps.specs.PlainMachine.{depth, held}
 use Rattle.command_laws.specs.NewFaces.{IsFaceOf}
-use Rattle.machined_block.specs.Meeting.{near_side, far_side}
-use Rattle.machined_block.proofs.paired.Goals as goal
+use Rattle.block_machining.specs.Meeting.{near_side, far_side}
+use Rattle.block_machining.proofs.blocks.paired.Goals as goal
 
 pub returns-clause-first : goal.returns-clause-first
 returns-clause-first c =

@@ -1,5 +1,5 @@
 use Rattle.std.proofs.Common.{suc, sym, ap, ◌∙◌}
-use Rattle.machined_block.proofs.parted.Goals as goal
+use Rattle.block_machining.proofs.blocks.parted.Goals as goal
 
 pub returns-clause-volume : goal.returns-clause-volume
 returns-clause-volume c = sym (rw c.in_ok-done.was at c.cut-session.ensures.volume) ∙ c.in_ok-session.ensures.volume

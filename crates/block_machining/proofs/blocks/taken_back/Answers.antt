@@ -1,7 +1,7 @@
 use Rattle.std.proofs.Common.{◌≡◌, ap, ◌∙◌, rules}
 use Rattle.sweeps.specs.PlainMachine.{depth, undo}
-use Rattle.machined_block.proofs.Undone.{one_fewer}
-use Rattle.machined_block.proofs.taken_back.Goals as goal
+use Rattle.block_machining.proofs.Undone.{one_fewer}
+use Rattle.block_machining.proofs.blocks.taken_back.Goals as goal
 
 pub returns-clause-depth : goal.returns-clause-depth
 returns-clause-depth c =

@@ -2,9 +2,9 @@ use Rattle.std.proofs.Common.{w64, subst}
 use Rattle.std.proofs.lemmas.Int.{to_z-of_z}
 use Rattle.std.proofs.lemmas.Result.{on_ok_weaker}
 use Rattle.sweeps.specs.PlainMachine.{held}
-use Rattle.machined_block.specs.Cutting.{AreCapped, LieOnEitherSide, ShareSums}
-use Rattle.machined_block.proofs.Accepted.{accepted_undone}
-use Rattle.machined_block.proofs.commands.cut.Goals as goal
+use Rattle.block_machining.specs.Cutting.{AreCapped, LieOnEitherSide, ShareSums}
+use Rattle.block_machining.proofs.Accepted.{accepted_undone}
+use Rattle.block_machining.proofs.commands.cut.Goals as goal
 
 pub returns-clause-volume : goal.returns-clause-volume
 returns-clause-volume c = on_ok_weaker c.split.result.1 (λ made. c.splits_are_held.ensures.volumes c.args.session.machine c.split.result.0.machine c.args.s _ c.args.t c.split.ensures.sound made) c.split.ensures.ok

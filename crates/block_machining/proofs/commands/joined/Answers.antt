@@ -1,7 +1,7 @@
 use Rattle.std.proofs.Common.{ap}
 use Rattle.std.proofs.lemmas.Result.{on_ok_weaker}
-use Rattle.machined_block.proofs.Accepted.{accepted_undone}
-use Rattle.machined_block.proofs.commands.joined.Goals as goal
+use Rattle.block_machining.proofs.Accepted.{accepted_undone}
+use Rattle.block_machining.proofs.commands.joined.Goals as goal
 
 pub returns-clause-volume : goal.returns-clause-volume
 returns-clause-volume c = on_ok_weaker c.glue.result.1 (λ made. c.glue_measures.ensures.solid c.args.session.machine c.glue.result.0.machine c.args.f c.args.g c.stays_consistent.ensures.held_sound made.0 made.1) c.glue.ensures.ok

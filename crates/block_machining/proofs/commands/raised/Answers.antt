@@ -1,7 +1,7 @@
 use Rattle.std.proofs.Common.{ap}
 use Rattle.std.proofs.lemmas.Result.{on_ok_weaker}
-use Rattle.machined_block.proofs.Accepted.{accepted_undone}
-use Rattle.machined_block.proofs.commands.raised.Goals as goal
+use Rattle.block_machining.proofs.Accepted.{accepted_undone}
+use Rattle.block_machining.proofs.commands.raised.Goals as goal
 
 pub returns-clause-volume : goal.returns-clause-volume
 returns-clause-volume c = on_ok_weaker c.sweep.result.1 (λ made. c.sweep_measures.ensures.solid c.args.session.machine c.sweep.result.0.machine c.args.face c.args.by c.stays_consistent.ensures.held_sound made.0 made.1) c.sweep.ensures.ok

@@ -1,0 +1,28 @@
+//! Blocks machined, as a stranger to the workbench would write it. A block is made, a face of it swept up, the sweep taken back, and an
+//! operator tried in a draft that is given up. And a block is made longer by a second one that is glued to it, and cut in two. What the
+//! functions say of volumes, sides and undo is proved from the contracts of the calls and the laws beside them alone.
+//!
+//! `commands` has the commands of the workbench with what a program wants of them, `blocks` what is made with these, `lists` a list of calls
+//! that is made in one.
+//!
+//! # What is proved
+//!
+//! Of functions that call the kernel as a stranger would, from contracts and laws alone: the block that it makes has 144 as its
+//! six volumes, and eight vertices, twelve edges and six faces; a swept face, with rings or without, adds three times its normal
+//! along the vector, and keeps its loops with their corners moved; the solid that comes of two glued faces has the six volumes of
+//! both; the parts of a solid cut by a plane x + d = 0 are there, share its six volumes, lie on either side of it and are closed by
+//! caps on it. What becomes of `v - e + f - r` is told of each of these, and which edges or loops stay as they were. After each
+//! undo isn't refused and gives the model before. Whatever operator is tried in a draft that is given up, the session is as it was;
+//! so at the end the block has its volume as before, with one command to undo and one to redo. Once a second block is made, the
+//! side of the first at which they meet still has its corners, which are those of the second one's, the other way round. The block
+//! made longer by the second one glued to it has 180; and so have its two parts once it is cut, with four commands to undo. A list
+//! of four calls in one is told what the plain machine may tell, and leads to a machine that may come of them, which is consistent.
+#![tactic(auto)]
+
+mod blocks;
+mod commands;
+mod lists;
+
+pub use blocks::{machined, parted, taken_back};
+pub use commands::known;
+pub use lists::made;
