@@ -1,4 +1,4 @@
-use Rattle.std.proofs.Common.{◌≡◌, ◌∙◌, false, None, refl, sym, ap, subst}
+use Rattle.std.proofs.Common.{◌∙◌, None, refl, sym, ap, subst}
 use Rattle.script_running.specs.declared.script_judging.judging.Answer.TheVariants.{Silent}
 use Rattle.session_slots.specs.declared.stage.Stage.{Stage}
 use Rattle.session_slots.specs.declared.stage.Stage.TheVariants.{Session}

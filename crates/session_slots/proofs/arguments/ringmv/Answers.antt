@@ -1,0 +1,5 @@
+use Rattle.std.proofs.Common.{rules}
+use Rattle.session_slots.proofs.arguments.ringmv.Goals as goal
+
+pub returns-then-out-eq0 : goal.returns-then-out-eq0
+returns-then-out-eq0 c = search rules
