@@ -1,11 +1,8 @@
 -- RingIn, which takes a ring to another face of its solid: it keeps a sound model sound, and RingIn to the old face takes it back.
-use Rattle.std.proofs.Common.{◌≡◌, ◌≢◌, ℕ, cond, nat_eq, None, refl, sym, ap, ◌∙◌, subst, inl, inr, List, [], ◌∷◌}
-use Rattle.std.proofs.lemmas.Bool.Decides.{eqb_tells}
+use Rattle.std.proofs.Common.{◌≡◌, ◌≢◌, ℕ, nat_eq, None, refl, sym, ap, ◌∙◌, subst, inr, List, [], ◌∷◌}
 use Rattle.std.proofs.lemmas.Bool.{not-true, ne_eqb, eq-eqb, eqb-true, eqb-false}
-use Rattle.euler_operators.specs.HalfEdge.{mate}
 use Rattle.euler_operators.specs.Table as table
-use Rattle.euler_operators.specs.Table.{map_rows}
-use Rattle.euler_operators.specs.Model.{Model, loop_of, face_of, solid_of, outer}
+use Rattle.euler_operators.specs.Model.{Model, face_of, solid_of, outer}
 use Rattle.euler_operators.specs.Sound.{Sound, Has}
 use Rattle.euler_operators.specs.declared.Op.TheVariants.{RingIn}
 use Rattle.euler_operators.proofs.Models.{same_outer, same_solid}
@@ -14,9 +11,7 @@ use Rattle.euler_operators.specs.Conditions.{Condition, never, AllHold, ring_and
 use Rattle.euler_operators.specs.Effect.{effect, inverse, ring_in}
 use Rattle.euler_operators.proofs.Tests.{nat_eq_itself}
 use Rattle.euler_laws.proofs.shared.Goes.{◌also◌, all_hold, all_hold-append, all_hold-front, all_hold-back, none_refuses, not_false}
-use Rattle.euler_laws.proofs.shared.Same.{solid_at}
-use Rattle.euler_laws.proofs.shared.Undo.{same_loops, same_model}
-use Rattle.euler_laws.proofs.shared.Faces.{SameWalks, sound-same, content-moved, loop-moved, face-moved, face-kept}
+use Rattle.euler_laws.proofs.shared.Faces.{SameWalks, LoopMoves, face_moved, face_kept, walks_same, old_outer, sound-moves, loop_home}
 use Rattle.euler_laws.proofs.shared.Rows.{never_outer, is_ring, test_ring}
 use Rattle.euler_laws.proofs.shared.Lawful.{IsLawful}
 
@@ -31,13 +26,12 @@ module _ (M : Model) (sound : Sound M) (l f : ℕ) (goes : RingGoes M l f) where
   abbrev pub N : Model
   N = ring_in M l f
 
-  loops_are : N.loops ≡ map_rows (λ k row. cond (nat_eq k l) (record row { face = f }) row) M.loops
+  moves : LoopMoves M N l f
   unfolding ring_in
-  loops_are = refl
+  moves = record { there = goes.l_there; loops = refl; solids = refl; edges = refl; vertices = refl }
 
   pub same : SameWalks M N
-  unfolding ring_in
-  same = record { edges = refl; vertices = refl; contents = content-moved M N l f loops_are; loops = loop-moved M N l f loops_are }
+  same = walks_same moves
 
   pub outer_same : (p : ℕ) → outer N p ≡ outer M p
   unfolding ring_in
@@ -48,31 +42,22 @@ module _ (M : Model) (sound : Sound M) (l f : ℕ) (goes : RingGoes M l f) where
   solid_same p = same_solid M N p refl
 
   pub face_l : face_of N l ≡ f
-  face_l = face-moved M N l f loops_are goes.l_there
+  face_l = face_moved moves
 
   pub face_else : (q : ℕ) → q ≢ l → face_of N q ≡ face_of M q
-  face_else q a = face-kept M N l f loops_are q a
-
-  solid_loop : (q : ℕ) → solid_at N q ≡ solid_at M q
-  solid_loop q = elim (eqb_tells q l) [
-    | inl e ↦ ap (λ y. solid_of N (face_of N y)) e.1 ∙ ap (solid_of N) face_l ∙ solid_same f ∙ sym goes.one_solid ∙ sym (ap (λ y. solid_of M (face_of M y)) e.1)
-    | inr e ↦ ap (solid_of N) (face_else q e.1) ∙ solid_same (face_of M q)
-  ]
+  face_else = face_kept moves
 
   pub sound-ring_in : Sound N
   unfolding ring_in
-  sound-ring_in = sound-same sound same (record {
-    loops_of_faces = λ q t. elim (eqb_tells q l) [
-      | inl e ↦ subst (Has M.faces) (sym (ap (face_of N) e.1 ∙ face_l)) goes.f_there
-      | inr e ↦ subst (Has M.faces) (sym (face_else q e.1)) (sound.loops_of_faces q t)
-    ];
-    outers_there = λ p t. let o = sound.outers_there p t in
-        (subst (Has M.loops) (sym (outer_same p)) o.0, ap (face_of N) (outer_same p) ∙ face_else (outer M p) (never_outer M sound l goes.is_ring p t) ∙ o.1);
-    faces_of_solids = λ p t. subst (Has M.solids) (sym (solid_same p)) (sound.faces_of_solids p t);
-    solid_has_face = λ s t. let x = sound.solid_has_face s t in (x.0, x.1, solid_same x.0 ∙ x.2);
-    one_solid = λ x t. solid_loop (loop_of M x) ∙ sound.one_solid x t ∙ sym (solid_loop (loop_of M (mate x)));
-    solids_fit = sound.solids_fit;
-    faces_fit = sound.faces_fit;
+  sound-ring_in = sound-moves moves sound (record {
+    home = goes.f_there;
+    kept = λ q t a. sound.loops_of_faces q t;
+    outers = λ p t. inr (old_outer moves sound p t (outer_same p) (never_outer M sound l goes.is_ring p t));
+    in_solid = λ p t. subst (Has M.solids) (sym (solid_same p)) (sound.faces_of_solids p t);
+    has_face = λ s t. let x = sound.solid_has_face s t in (x.0, x.1, solid_same x.0 ∙ x.2);
+    solid_new = solid_same f ∙ sym goes.one_solid;
+    solid_kept = λ q t a. solid_same (face_of M q);
+    fit = sound.faces_fit;
   })
 
   -- what the way back asks
@@ -85,31 +70,9 @@ module _ (M : Model) (sound : Sound M) (l f : ℕ) (goes : RingGoes M l f) where
     is_ring = λ e. never_outer M sound l goes.is_ring f goes.f_there (sym (outer_same f) ∙ ap (outer N) (sym face_l) ∙ e);
   }
 
-module _ (M : Model) (sound : Sound M) (l f : ℕ) (goes : RingGoes M l f) where
-  abbrev ringed : Model
-  ringed = ring_in M l f
-
-  abbrev K : Model
-  K = ring_in ringed l (face_of M l)
-
-  back : RingGoes ringed l (face_of M l)
-  back = back_goes M sound l f goes
-
-  sound_ringed : Sound ringed
-  sound_ringed = sound-ring_in M sound l f goes
-
-  loops-back : K.loops ≡ M.loops
-  loops-back = same_loops K M
-      (λ q. (same ringed sound_ringed l (face_of M l) back).loops q ∙ (same M sound l f goes).loops q)
-      (λ q _. elim (eqb_tells q l) [
-        | inl e ↦ ap (face_of K) e.1 ∙ face_l ringed sound_ringed l (face_of M l) back ∙ sym (ap (face_of M) e.1)
-        | inr e ↦ face_else ringed sound_ringed l (face_of M l) back q e.1 ∙ face_else M sound l f goes q e.1
-      ])
-      (λ q _. (same ringed sound_ringed l (face_of M l) back).contents q ∙ (same M sound l f goes).contents q)
-
-  pub ring_in-ring_in : ring_in (ring_in M l f) l (face_of M l) ≡ M
+  pub ring_in-ring_in : ring_in N l (face_of M l) ≡ M
   unfolding ring_in
-  ring_in-ring_in = same_model K M refl refl loops-back refl refl
+  ring_in-ring_in = λ i. record M { loops = loop_home M l f (face_of M l) refl i }
 
 -- ---- the operator
 

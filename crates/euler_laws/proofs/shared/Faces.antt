@@ -1,16 +1,19 @@
 -- Operators that leave each loop's content, the edges and the vertices: what stays sound, and loops that change their face.
-use Rattle.std.proofs.Common.{◌≡◌, ◌≢◌, ℕ, Bool, true, false, cond, nat_eq, Option, Some, None, unwrap_or, is_some, refl, sym, ap, ◌∙◌, subst, arith, inl, inr, true≢false}
-use Rattle.std.specs.Option.{option_map}
-use Rattle.std.proofs.lemmas.Bool.Decides.{nat_tests}
+use Rattle.std.proofs.Common.{◌≡◌, ℕ, Bool, true, false, cond, nat_eq, Some, is_some, refl, sym, ap, ◌∙◌, subst, ◌≢◌, ◌⊎◌, inl, inr}
+use Rattle.std.proofs.lemmas.Bool.Decides.{eqb_tells}
+use Rattle.std.proofs.lemmas.Bool.{ne_eqb, eq-eqb, eqb-true}
 use Rattle.euler_operators.specs.HalfEdge.{mate}
 use Rattle.euler_operators.specs.Table as table
-use Rattle.euler_operators.specs.Table.{map_rows, get-map_rows}
-use Rattle.euler_operators.specs.Model.{Model, lone, LoopRow, no_loop, holds, tail, loop_of, content, face_of, solid_of, outer, after}
+use Rattle.euler_operators.specs.Table.{map_rows}
+use Rattle.euler_operators.specs.Model.{Model, lone, FaceRow, LoopRow, holds, tail, loop_of, content, face_of, solid_of, outer, after}
 use Rattle.euler_operators.specs.Sound.{Sound, Has, HasHalf, IsLoneAt, NumbersFit}
-use Rattle.euler_operators.specs.Effect.{loop_to_face}
-use Rattle.euler_operators.proofs.Models.{mate_there}
+use Rattle.euler_operators.specs.Effect.{loop_to_face, face_to_outer}
+use Rattle.euler_operators.proofs.Tables.{map_same, map_one}
+use Rattle.euler_operators.proofs.Models.{mate_there, row_of, content_row, face_row, same_content, same_face, solid_row, outer_row}
 use Rattle.euler_laws.proofs.shared.Loops.{IsLoop, loop_sound, Walks, stands-walks, one_loop-walks, cycles-walks, ends_meet-walks, one_fan-walks}
-use Rattle.euler_laws.proofs.shared.Same.{mapped_some, solid_at}
+use Rattle.euler_laws.proofs.shared.Same.{map_twice, solid_at}
+use Rattle.euler_laws.proofs.shared.Rows.{loop_row, face_there}
+use Rattle.euler_laws.proofs.shared.Parts.{RowSet, row_here, row_other, has_same, FaceSet, solid_other}
 use Rattle.euler_laws.proofs.shared.Rings.{SameRings, half_back, tail_same, walks-rings, loop-rings, ends_differ-rings, tail-rings, edges_fit-rings}
 
 pub record SameWalks (M N : Model) : Type 0 where
@@ -84,37 +87,123 @@ module _ {M N : Model} (sound : Sound M) (same : SameWalks M N) where
 
 -- ---- one loop goes to another face
 
-abbrev to_face : ℕ → Bool → LoopRow → LoopRow
-to_face f b row = cond b (record row { face = f }) row
+-- loop l goes to face f; other loops, edges, vertices and solids stay
+pub record LoopMoves (M N : Model) (l f : ℕ) : Type 0 where
+  pub there : Has M.loops l
+  pub loops : N.loops ≡ map_rows (loop_to_face l f) M.loops
+  pub solids : N.solids ≡ M.solids
+  pub edges : N.edges ≡ M.edges
+  pub vertices : N.vertices ≡ M.vertices
 
-module _ (M N : Model) (l f : ℕ) (is : N.loops ≡ map_rows (loop_to_face l f) M.loops) where
-  get_is : (q : ℕ) → table.get N.loops q ≡ option_map (loop_to_face l f q) (table.get M.loops q)
-  get_is q = ap (λ t. table.get t q) is ∙ get-map_rows (loop_to_face l f) M.loops q
+-- what is then left to show of faces
+pub record FacesAfter (M N : Model) (l f : ℕ) : Type 0 where
+  pub home : Has N.faces f
+  pub kept : (q : ℕ) → Has M.loops q → q ≢ l → Has N.faces (face_of M q)
+  pub outers : (p : ℕ) → Has N.faces p → ((outer N p ≡ l) × (p ≡ f)) ⊎ ((outer N p ≢ l) × Has M.loops (outer N p) × (face_of M (outer N p) ≡ p))
+  pub in_solid : (p : ℕ) → Has N.faces p → Has M.solids (solid_of N p)
+  pub has_face : (s : ℕ) → Has M.solids s → (p : ℕ) × Has N.faces p × (solid_of N p ≡ s)
+  pub solid_new : solid_of N f ≡ solid_of M (face_of M l)
+  pub solid_kept : (q : ℕ) → Has M.loops q → q ≢ l → solid_of N (face_of M q) ≡ solid_of M (face_of M q)
+  pub fit : NumbersFit N.faces
 
-  pub content-moved : (q : ℕ) → content N q ≡ content M q
-  unfolding content
-  content-moved q = ap (λ o. (unwrap_or o no_loop).content) (get_is q) ∙ go (table.get M.loops q) (nat_eq q l) where
-    go : (o : Option LoopRow) (b : Bool) → (unwrap_or (option_map (to_face f b) o) no_loop).content ≡ (unwrap_or o no_loop).content
-    go None b = refl
-    go (Some row) true = refl
-    go (Some row) false = refl
+module _ {M N : Model} {l f : ℕ} (moves : LoopMoves M N l f) where
+  rows : RowSet M.loops N.loops l (Some (record { face = f; content = content M l }))
+  rows = record {
+    are = moves.loops
+        ∙ map_one (loop_to_face l f) M.loops l _ (loop_row M l moves.there) (λ q row a at. ap (λ b. cond b (record row { face = f }) row) (ne_eqb q l a))
+        ∙ ap (λ b. table.put M.loops l (cond b (record { face = f; content = content M l }) (record { face = face_of M l; content = content M l }))) (eq-eqb l l refl);
+  }
 
-  pub loop-moved : (q : ℕ) → table.has N.loops q ≡ table.has M.loops q
-  loop-moved q = ap is_some (get_is q) ∙ mapped_some (loop_to_face l f q) (table.get M.loops q)
+  pub face_moved : face_of N l ≡ f
+  face_moved = face_row N l _ (row_here rows)
 
-  face_as : (q : ℕ) (b : Bool) → nat_eq q l ≡ b → face_of N q ≡ (unwrap_or (option_map (to_face f b) (table.get M.loops q)) no_loop).face
-  unfolding face_of
-  face_as q b e = ap (λ o. (unwrap_or o no_loop).face) (get_is q) ∙ ap (λ c. (unwrap_or (option_map (to_face f c) (table.get M.loops q)) no_loop).face) e
+  pub face_kept : (q : ℕ) → q ≢ l → face_of N q ≡ face_of M q
+  face_kept q a = same_face M N q (row_other rows q a)
 
-  pub face-moved : Has M.loops l → face_of N l ≡ f
-  face-moved there = let e : nat_eq l l ≡ true = grind (arith, nat_tests) in face_as l true e ∙ go (table.get M.loops l) there where
-    go : (o : Option LoopRow) → is_some o ≡ true → (unwrap_or (option_map (to_face f true) o) no_loop).face ≡ f
-    go None t = absurd (true≢false (sym t))
-    go (Some row) t = refl
+  pub walks_same : SameWalks M N
+  walks_same = record {
+    edges = moves.edges;
+    vertices = moves.vertices;
+    contents = λ q. elim (eqb_tells q l) [
+      | inl e ↦ ap (content N) e.1 ∙ content_row N l _ (row_here rows) ∙ sym (ap (content M) e.1)
+      | inr e ↦ same_content M N q (row_other rows q e.1)
+    ];
+    loops = has_same rows moves.there refl;
+  }
 
-  pub face-kept : (q : ℕ) → q ≢ l → face_of N q ≡ face_of M q
-  unfolding face_of
-  face-kept q a = let e : nat_eq q l ≡ false = grind (arith, nat_tests) in face_as q false e ∙ go (table.get M.loops q) where
-    go : (o : Option LoopRow) → (unwrap_or (option_map (to_face f false) o) no_loop).face ≡ (unwrap_or o no_loop).face
-    go None = refl
-    go (Some row) = refl
+  module _ (sound : Sound M) where
+    -- a face that keeps its outer loop, which is another than l
+    pub old_outer : (p : ℕ) → Has M.faces p → outer N p ≡ outer M p → outer M p ≢ l → (outer N p ≢ l) × Has M.loops (outer N p) × (face_of M (outer N p) ≡ p)
+    old_outer p t e a = let o = sound.outers_there p t in (λ z. a (sym e ∙ z), subst (Has M.loops) (sym e) o.0, ap (face_of M) e ∙ o.1)
+
+    module _ (after : FacesAfter M N l f) where
+      solid_loop : (q : ℕ) → Has M.loops q → solid_at N q ≡ solid_at M q
+      solid_loop q t = elim (eqb_tells q l) [
+        | inl e ↦ ap (solid_at N) e.1 ∙ ap (solid_of N) face_moved ∙ after.solid_new ∙ sym (ap (solid_at M) e.1)
+        | inr e ↦ ap (solid_of N) (face_kept q e.1) ∙ after.solid_kept q t e.1
+      ]
+
+      solid_half : (x : ℕ) → HasHalf M x → solid_at N (loop_of M x) ≡ solid_at M (loop_of M x)
+      solid_half x t = solid_loop (loop_of M x) (ap is_some (row_of M sound x t))
+
+      pub sound-moves : Sound N
+      sound-moves = sound-same sound walks_same (record {
+        loops_of_faces = λ q t. elim (eqb_tells q l) [
+          | inl e ↦ subst (Has N.faces) (sym (ap (face_of N) e.1 ∙ face_moved)) after.home
+          | inr e ↦ subst (Has N.faces) (sym (face_kept q e.1)) (after.kept q t e.1)
+        ];
+        outers_there = λ p t. elim (after.outers p t) [
+          | inl o ↦ (subst (Has M.loops) (sym o.0) moves.there, ap (face_of N) o.0 ∙ face_moved ∙ sym o.1)
+          | inr o ↦ (o.1, face_kept (outer N p) o.0 ∙ o.2)
+        ];
+        faces_of_solids = λ p t. subst (λ y. Has y (solid_of N p)) (sym moves.solids) (after.in_solid p t);
+        solid_has_face = λ s t. after.has_face s (subst (λ y. Has y s) moves.solids t);
+        one_solid = λ x t. solid_half x t ∙ sound.one_solid x t ∙ sym (solid_half (mate x) (mate_there M x t));
+        solids_fit = λ n t. sound.solids_fit n (subst (λ y. Has y n) moves.solids t);
+        faces_fit = after.fit;
+      })
+
+-- a loop that goes to another face, and home again
+pub loop_home : (M : Model) (l f g : ℕ) → face_of M l ≡ g → map_rows (loop_to_face l g) (map_rows (loop_to_face l f) M.loops) ≡ M.loops
+loop_home M l f g e = map_twice (loop_to_face l g) (loop_to_face l f) M.loops
+    ∙ map_same _ M.loops (λ q row at. go row (nat_eq q l) (λ t. sym (face_row M q row at) ∙ ap (face_of M) (eqb-true q l t) ∙ e)) where
+      go : (row : LoopRow) (b : Bool) → (b ≡ true → row.face ≡ g) → cond b (record (cond b (record row { face = f }) row) { face = g }) (cond b (record row { face = f }) row) ≡ row
+      go row true h = λ i. record { face = sym (h refl) i; content = row.content }
+      go row false h = refl
+
+-- ---- a face gets another outer loop
+
+-- face p gets the outer loop l; other faces stay
+pub record OuterSet (M N : Model) (p l : ℕ) : Type 0 where
+  pub there : Has M.faces p
+  pub faces : N.faces ≡ map_rows (face_to_outer p l) M.faces
+
+module _ {M N : Model} {p l : ℕ} (set : OuterSet M N p l) where
+  pub outer_set : FaceSet M N p (Some (record { solid = solid_of M p; outer = l }))
+  outer_set = record {
+    rows = record {
+      are = set.faces
+          ∙ map_one (face_to_outer p l) M.faces p _ (face_there M p set.there) (λ q row a at. ap (λ b. cond b (record row { outer = l }) row) (ne_eqb q p a))
+          ∙ ap (λ b. table.put M.faces p (cond b (record { solid = solid_of M p; outer = l }) (record { solid = solid_of M p; outer = outer M p }))) (eq-eqb p p refl);
+    };
+  }
+
+  pub has_face_same : (q : ℕ) → table.has N.faces q ≡ table.has M.faces q
+  has_face_same = has_same outer_set.rows set.there refl
+
+  pub solid_same : (q : ℕ) → solid_of N q ≡ solid_of M q
+  solid_same q = elim (eqb_tells q p) [
+    | inl e ↦ ap (solid_of N) e.1 ∙ solid_row N p _ (row_here outer_set.rows) ∙ sym (ap (solid_of M) e.1)
+    | inr e ↦ solid_other outer_set q e.1
+  ]
+
+  pub outer_new : outer N p ≡ l
+  outer_new = outer_row N p _ (row_here outer_set.rows)
+
+-- and its old one back
+pub outer_home : (M : Model) (p l o : ℕ) → outer M p ≡ o → map_rows (face_to_outer p o) (map_rows (face_to_outer p l) M.faces) ≡ M.faces
+outer_home M p l o e = map_twice (face_to_outer p o) (face_to_outer p l) M.faces
+    ∙ map_same _ M.faces (λ q row at. go row (nat_eq q p) (λ t. sym (outer_row M q row at) ∙ ap (outer M) (eqb-true q p t) ∙ e)) where
+      go : (row : FaceRow) (b : Bool) → (b ≡ true → row.outer ≡ o) → cond b (record (cond b (record row { outer = l }) row) { outer = o }) (cond b (record row { outer = l }) row) ≡ row
+      go row true h = λ i. record { solid = row.solid; outer = sym (h refl) i }
+      go row false h = refl

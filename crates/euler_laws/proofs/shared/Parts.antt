@@ -1,5 +1,5 @@
 -- Soundness in four parts: the walks of loops and vertices, what stands at vertices, faces and solids, and the ranges of numbers and points.
-use Rattle.std.proofs.Common.{◌≡◌, ◌≢◌, ℕ, Option, Some, None, is_some, IsTrue, sym, ap, ◌∙◌, subst, ◌⊎◌, inl, inr}
+use Rattle.std.proofs.Common.{◌≡◌, ◌≢◌, ℕ, Option, Some, None, is_some, IsTrue, true, sym, ap, ◌∙◌, subst, ◌⊎◌, inl, inr}
 use Rattle.std.proofs.lemmas.Bool.Decides.{eqb_tells}
 use Rattle.euler_operators.specs.declared.Point.{Point}
 use Rattle.euler_operators.specs.Points.{IsInRange}
@@ -125,6 +125,13 @@ module _ {X : Type 0} {t s : Table X} {n : ℕ} {row : Option X} (set : RowSet t
 
   pub has_back : (q : ℕ) → q ≢ n → Has s q → Has t q
   has_back q a there = ap is_some (sym (row_other q a)) ∙ there
+
+  -- where the row was there and is
+  pub has_same : Has t n → is_some row ≡ true → (q : ℕ) → table.has s q ≡ table.has t q
+  has_same old now q = elim (eqb_tells q n) [
+    | inl e ↦ ap (table.has s) e.1 ∙ ap is_some row_here ∙ now ∙ sym (ap (table.has t) e.1 ∙ old)
+    | inr e ↦ ap is_some (row_other q e.1)
+  ]
 
 -- the row of face f is put or taken away
 pub record FaceSet (M N : Model) (f : ℕ) (row : Option FaceRow) : Type 0 where
