@@ -5,5 +5,4 @@ mod Places
 mod Normals
 pub mod Adding
 mod Others
-mod Outlines
 pub mod FromConditions

@@ -1,17 +1,16 @@
 -- What it says that a glue isn't refused.
-use Rattle.std.proofs.Common.{◌≡◌, ◌≢◌, ℕ, suc, true, false, not, nat_eq, ◌&&◌, ◌||◌, List, [], ◌∷◌, ◌++◌, length, Some, None, unwrap_or, refl, sym, ap, ◌∙◌, subst, arith, true≢false}
+use Rattle.std.proofs.Common.{◌≡◌, ◌≢◌, ℕ, suc, true, false, not, nat_eq, ◌&&◌, ◌||◌, List, [], ◌∷◌, ◌++◌, length, Some, None, unwrap_or, refl, sym, ap, ◌∙◌, subst, arith, true≢false, ◌⊎◌, inl, inr}
 use Rattle.std.specs.Prelude.{map, reverse}
-use Rattle.std.proofs.lemmas.Bool.Decides.{nat_tests}
-use Rattle.std.proofs.lemmas.Bool.{not-true, not-false, eqb-false}
+use Rattle.std.proofs.lemmas.Bool.{not-true, not-false, eqb-false, eq-eqb}
 use Rattle.std.proofs.lemmas.List.{append-nil}
 use Rattle.euler_operators.specs.declared.Point.{Point}
 use Rattle.euler_operators.specs.Vectors.{same_point, origin, moved, cross}
 use Rattle.euler_operators.specs.Items.{count, tick, IsIn, IsApart, head_or, last_or}
-use Rattle.euler_operators.specs.Rings.{canonical, IsPath, IsRing, IsRotation, predecessor, rest}
+use Rattle.euler_operators.specs.Rings.{canonical, IsPath, IsRing, IsRotation, successor, predecessor, rest}
 use Rattle.euler_operators.proofs.Lists.{tick_same}
-use Rattle.euler_operators.proofs.Rotations.{canonical_same, IsApart-same, IsRotation-same, IsRotation-length}
-use Rattle.euler_operators.proofs.Rings.{IsRing-same, IsIn_successor, predecessor-successor, front_of, apart_at, rotation_at, next_is_successor}
-use Rattle.euler_operators.proofs.Maps.{reverse-cons, reverse_at, count-reverse}
+use Rattle.euler_operators.proofs.Rotations.{canonical_same, canonical-rotates, count-canonical, IsApart-same, IsRotation-same, IsRotation-length}
+use Rattle.euler_operators.proofs.Rings.{IsRing-same, IsIn_successor, IsIn_predecessor, successor_same, successor-predecessor, predecessor-successor, front_of, apart_at, rotation_at, next_is_successor}
+use Rattle.euler_operators.proofs.Maps.{reverse-cons, reverse_at, count-reverse, successor-map, successor-reverse}
 use Rattle.euler_operators.specs.HalfEdge.{mate}
 use Rattle.euler_operators.specs.Table as table
 use Rattle.euler_operators.specs.Model.{Model, cycle, holds, content, face_of, solid_of, outer, tail, point_of, after, rings_of}
@@ -19,8 +18,8 @@ use Rattle.euler_operators.specs.Sound.{Sound, Has, HasHalf, StandsIn, IsCycle}
 use Rattle.euler_operators.proofs.Halves.{mate-mate, mate_other}
 use Rattle.euler_operators.proofs.Tables.{zero_first_where}
 use Rattle.euler_operators.proofs.Models.{in-holds, loop_number}
-use Rattle.euler_operators.proofs.Tests.{and_first, first_fails}
-use Rattle.euler_operators.proofs.Members.{no_cons}
+use Rattle.euler_operators.proofs.Tests.{and_first, first_fails, or_true}
+use Rattle.euler_operators.proofs.Members.{no_cons, IsIn-map}
 use Rattle.euler_operators.proofs.Crossings.{same_as}
 use Rattle.euler_operators.specs.Conditions.{AllHold, is_lone, lists, has_rings}
 use Rattle.euler_laws.proofs.shared.Goes.{all_hold}
@@ -82,7 +81,7 @@ module _ (M : Model) (sound : Sound M) (g : ℕ) (there : Has M.faces g) (alone 
   abbrev gs : List ℕ
   gs = rim M g
 
-  no_rings : rings_of M g ≡ []
+  pub no_rings : rings_of M g ≡ []
   unfolding has_rings
   no_rings = empty_is (rings_of M g) alone
 
@@ -199,11 +198,11 @@ module _ (M : Model) (f g : ℕ) (sound : Sound M) (accepted : glue_refusal M f 
   unfolding glue_conditions
   solids_apart = eqb-false s t (not-true _ hold.1.1.1.1.0)
 
-  plain_f : has_rings M f ≡ false
+  pub plain_f : has_rings M f ≡ false
   unfolding glue_conditions
   plain_f = not-true _ hold.1.1.1.1.1.0
 
-  plain_g : has_rings M g ≡ false
+  pub plain_g : has_rings M g ≡ false
   unfolding glue_conditions
   plain_g = not-true _ hold.1.1.1.1.1.1.0
 
@@ -231,32 +230,28 @@ module _ (M : Model) (f g : ℕ) (sound : Sound M) (accepted : glue_refusal M f 
   unfolding glue_conditions
   left = numbers_are_left (taken_in M) 0 0 1 0 hold.1.1.1.1.1.1.1.1.1.1.1.1
 
-  -- both faces are among those looked at
-  listed_f : lists fs f ≡ true
-  listed_f = listed_as (λ _ row. nat_eq row.solid s || nat_eq row.solid t) M.faces f _ (face_there M f f_there) ∙ first s t where
-    first : (a b : ℕ) → (nat_eq a a || nat_eq a b) ≡ true
-    first a b = grind (arith, nat_tests)
+  -- the faces of both solids are those looked at, and they are flat
+  listed : (k : ℕ) → Has M.faces k → (solid_of M k ≡ s) ⊎ (solid_of M k ≡ t) → lists fs k ≡ true
+  listed k there of = listed_as (λ _ row. nat_eq row.solid s || nat_eq row.solid t) M.faces k _ (face_there M k there) ∙ either (solid_of M k) of where
+    either : (a : ℕ) → (a ≡ s) ⊎ (a ≡ t) → (nat_eq a s || nat_eq a t) ≡ true
+    either a (inl e) = ap (λ b. b || nat_eq a t) (eq-eqb a s e)
+    either a (inr e) = ap (λ b. nat_eq a s || b) (eq-eqb a t e) ∙ or_true (nat_eq a s)
 
-  listed_g : lists fs g ≡ true
-  listed_g = listed_as (λ _ row. nat_eq row.solid s || nat_eq row.solid t) M.faces g _ (face_there M g g_there) ∙ second t s where
-    second : (a b : ℕ) → (nat_eq a b || nat_eq a a) ≡ true
-    second a b = grind (arith, nat_tests)
+  pub flat : (k : ℕ) → Has M.faces k → (solid_of M k ≡ s) ⊎ (solid_of M k ≡ t) → is_flat M k ≡ true
+  flat k there of = not-false (is_flat M k) (none_such (λ q. not (is_flat M q)) fs none_bent k (IsIn-from_listed k fs (listed k there of)))
 
-  is_cycle : (k : ℕ) → Has M.faces k → lists fs k ≡ true → content M (outer M k) ≡ cycle (rim M k)
-  is_cycle k there listed =
+  is_cycle : (k : ℕ) → Has M.faces k → (solid_of M k ≡ s) ⊎ (solid_of M k ≡ t) → content M (outer M k) ≡ cycle (rim M k)
+  is_cycle k there of =
       let p = sound.outers_there k there in
       not_lone_cycle (content M (outer M k)) (first_fails (is_lone (content M (outer M k))) (lists fs (face_of M (outer M k)))
       (zero_first_where (λ _ row. is_lone row.content && lists fs row.face) M.loops (loop_number M sound) none_lone (outer M k) _ (loop_row M (outer M k) p.0))
-      (ap (lists fs) p.1 ∙ listed))
+      (ap (lists fs) p.1 ∙ listed k there of))
 
-  cycle_f : content M (outer M f) ≡ cycle (rim M f)
-  cycle_f = is_cycle f f_there listed_f
+  pub cycle_f : content M (outer M f) ≡ cycle (rim M f)
+  cycle_f = is_cycle f f_there (inl refl)
 
-  cycle_g : content M (outer M g) ≡ cycle (rim M g)
-  cycle_g = is_cycle g g_there listed_g
-
-  flat_g : is_flat M g ≡ true
-  flat_g = not-false (is_flat M g) (none_such (λ k. not (is_flat M k)) fs none_bent g (IsIn-from_listed g fs listed_g))
+  pub cycle_g : content M (outer M g) ≡ cycle (rim M g)
+  cycle_g = is_cycle g g_there (inr refl)
 
   has_f : Has M.loops (outer M f)
   has_f = (sound.outers_there f f_there).0
@@ -289,7 +284,7 @@ module _ (M : Model) (f g : ℕ) (sound : Sound M) (accepted : glue_refusal M f 
   partner_in : (h : ℕ) → IsIn h items_f → IsIn (partner_of h) items_g
   partner_in h i = let r = found h i in subst (λ y. IsIn y items_g) (sym (partner_is h r.0 r.1 r.2)) r.1
 
-  partner_start : (h : ℕ) → IsIn h items_f → start M (partner_of h) ≡ finish M h
+  pub partner_start : (h : ℕ) → IsIn h items_f → start M (partner_of h) ≡ finish M h
   partner_start h i = let r = found h i in ap (start M) (partner_is h r.0 r.1 r.2) ∙ r.2
 
   -- an item is told by the point at which it ends
@@ -328,12 +323,35 @@ module _ (M : Model) (f g : ℕ) (sound : Sound M) (accepted : glue_refusal M f 
   apart_g : IsApart items_g
   apart_g = (cycle_l M sound (outer M g) items_g has_g cycle_g).apart
 
-  opposite : items_g ≡ canonical (reverse (map partner_of items_f))
+  pub opposite : items_g ≡ canonical (reverse (map partner_of items_f))
   opposite =
       sym (cycle_l M sound (outer M g) items_g has_g cycle_g).from_least
       ∙ canonical_same items_g (reverse turned.0) turned.2 apart_g
       ∙ canonical_same (reverse turned.0) (reverse (map partner_of items_f)) (turned_back turned.0 (map partner_of items_f) some_turned partners_are)
       (IsApart-same items_g (reverse turned.0) (IsRotation-same items_g (reverse turned.0) turned.2) apart_g)
+
+  -- a partner ends where its item starts
+  pub partner_end : (h : ℕ) → IsIn h items_f → finish M (partner_of h) ≡ start M h
+  partner_end h i =
+      let ps : List ℕ = map partner_of items_f in
+      let a : ℕ = partner_of h in
+      let k : ℕ = predecessor items_f h in
+      let j : IsIn k items_f = IsIn_predecessor h items_f i in
+      let apart_f : IsApart items_f = (cycle_l M sound (outer M f) items_f has_f cycle_f).apart in
+      let on : successor items_f k ≡ h = successor-predecessor h items_f apart_f i in
+      let back : IsApart (reverse ps) = λ x. omega (arith, apart_g x, ap (count x) opposite, count-canonical x (reverse ps)) in
+      let ai : IsIn a ps = IsIn-map partner_of h items_f i in
+      let next : successor ps (partner_of k) ≡ a = successor-map partner_of k items_f
+      (λ y m e. finish_once k y j m (sym (partner_start k j) ∙ ap (start M) e ∙ partner_start y m)) ∙ ap partner_of on in
+      let after_a : after M a ≡ partner_of k =
+      next_is_successor (after M) items_g a (ring_l M sound (outer M g) items_g has_g cycle_g) (partner_in h i)
+      ∙ ap (λ q. successor q a) opposite
+      ∙ sym (successor_same a (reverse ps) (canonical (reverse ps)) (canonical-rotates (reverse ps)) back (omega (arith, ai, count-reverse a ps)))
+      ∙ successor-reverse a ps (λ x. omega (arith, back x, count-reverse x ps)) ai
+      ∙ ap (predecessor ps) (sym next)
+      ∙ predecessor-successor (partner_of k) ps (λ x. omega (arith, back x, count-reverse x ps)) (IsIn-map partner_of k items_f j) in
+      sym (next_start M sound a (half_g a (partner_in h i))) ∙ ap (start M) after_a ∙ partner_start k j
+      ∙ sym (next_start M sound k (half_f k j)) ∙ ap (start M) (next_is_successor (after M) items_f k ring_f j ∙ on)
 
   -- ---- no edge has g on both sides
 
@@ -356,7 +374,7 @@ module _ (M : Model) (f g : ℕ) (sound : Sound M) (accepted : glue_refusal M f 
       let turns : IsRotation items_g (a ∷ rest a items_g) = rotation_at a items_g ai in
       let one : length (rest a items_g) ≡ 1 = thin a b (rest a items_g) (IsRing-same (after M) items_g (a ∷ rest a items_g) turns (ring_l M sound (outer M g) items_g has_g cycle_g)) (apart_at a items_g apart_g ai) on_a on_b
       (λ q. mate_other a (q ∙ sym e)) in
-      never_two M sound g g_there plain_g cycle_g flat_g (IsRotation-length items_g (a ∷ rest a items_g) turns ∙ ap suc one)
+      never_two M sound g g_there plain_g cycle_g (flat g g_there (inr refl)) (IsRotation-length items_g (a ∷ rest a items_g) turns ∙ ap suc one)
 
   -- ---- all of it
 
