@@ -1,17 +1,16 @@
 -- A lamina of four points: its two faces and their volumes.
-use Rattle.std.proofs.Common.{◌≡◌, ◌≢◌, ℕ, ◌+◌, ◌≤◌, pos, ◌+ℤ◌, List, [], ◌∷◌, ◌++◌, Some, ap, ◌∙◌, arith, inl, inr}
+use Rattle.std.proofs.Common.{◌≡◌, ◌<◌, suc, ℕ, ◌+◌, ◌≤◌, pos, ◌+ℤ◌, List, [], ◌∷◌, ◌++◌, ap, ◌∙◌, arith, inl, inr}
+use Rattle.std.specs.Prelude.{get_or}
 use Rattle.euler_operators.specs.declared.Point.{Point}
 use Rattle.euler_operators.specs.Vectors.{origin, moved, dot, cross}
 use Rattle.euler_operators.specs.Items.{IsIn, IsApart}
 use Rattle.euler_operators.specs.Rings.{canonical}
 use Rattle.euler_operators.specs.HalfEdge.{plus, minus}
-use Rattle.euler_operators.specs.Table as table
-use Rattle.euler_operators.specs.Model.{Model, cycle, EdgeRow, items_of, content, outer, point_of, faces_of}
-use Rattle.euler_operators.proofs.Tables.{get-put_here, get-put_other}
-use Rattle.euler_operators.proofs.Models.{content_row, outer_row, point_row, plus_tail_row, minus_tail_row}
+use Rattle.euler_operators.specs.Model.{Model, cycle, no_point, items_of, content, outer, point_of, faces_of}
+use Rattle.euler_operators.proofs.Models.{content_row, outer_row, plus_tail_row, minus_tail_row}
 use Rattle.shapes.specs.Faces.{start, finish, items_in}
 use Rattle.shapes.specs.Fresh.{Taken}
-use Rattle.shapes.specs.Lamina.{with_path, with_points, lamina_at}
+use Rattle.shapes.specs.Lamina.{lamina_at}
 use Rattle.shapes.specs.Measure.{area, normal, anchor, first_vertex, volume_in, six_volume}
 use Rattle.sweeps_laws.proofs.lamina.Lists.{plus_halves, minus_halves, back_apart, first_moved, canonical_first}
 use Rattle.sweeps_laws.proofs.LaminaRows as rows
@@ -21,9 +20,6 @@ use Rattle.sweeps_laws.proofs.swept.Kept.{in_cases}
 use Rattle.sweeps_laws.proofs.swept.Lifted.{Bounded}
 use Rattle.sweeps_laws.proofs.Loops.{normal_is}
 use Rattle.sweeps_laws.proofs.Volumes.{six_volume_is}
-
-apart_by : (a i j : ℕ) → i ≢ j → a + i ≢ a + j
-apart_by a i j ne e = ne (omega arith)
 
 -- four half-edges the other way round, from the least on
 four_back : (e : ℕ) → canonical (minus (e + 4) ∷ minus (e + 3) ∷ minus (e + 2) ∷ minus (e + 1) ∷ []) ≡ minus (e + 1) ∷ minus (e + 4) ∷ minus (e + 3) ∷ minus (e + 2) ∷ []
@@ -55,74 +51,26 @@ module _ (M : Model) (c : Taken) (s : ℕ) (a b g h : Point) where
 
   -- ---- edges and points
 
-  abbrev path_row : ℕ → EdgeRow
-  path_row i = record { plus_tail = c.vertex + i; minus_tail = c.vertex + i + 1 }
-
-  abbrev last_row : EdgeRow
-  last_row = record { plus_tail = c.vertex + 4; minus_tail = c.vertex + 1 }
-
-  edge_one : table.get base.edges (c.edge + 1) ≡ Some (path_row 1)
-  edge_one = get-put_other (with_path M.edges c.edge c.vertex 3) (c.edge + 4) last_row (c.edge + 1) (apart_by c.edge 1 4 (λ e. absurd (omega (arith, e))))
-      ∙ get-put_other (with_path M.edges c.edge c.vertex 2) (c.edge + 3) (path_row 3) (c.edge + 1) (apart_by c.edge 1 3 (λ e. absurd (omega (arith, e))))
-      ∙ get-put_other (with_path M.edges c.edge c.vertex 1) (c.edge + 2) (path_row 2) (c.edge + 1) (apart_by c.edge 1 2 (λ e. absurd (omega (arith, e))))
-      ∙ get-put_here M.edges (c.edge + 1) (path_row 1)
-
-  edge_two : table.get base.edges (c.edge + 2) ≡ Some (path_row 2)
-  edge_two = get-put_other (with_path M.edges c.edge c.vertex 3) (c.edge + 4) last_row (c.edge + 2) (apart_by c.edge 2 4 (λ e. absurd (omega (arith, e))))
-      ∙ get-put_other (with_path M.edges c.edge c.vertex 2) (c.edge + 3) (path_row 3) (c.edge + 2) (apart_by c.edge 2 3 (λ e. absurd (omega (arith, e))))
-      ∙ get-put_here (with_path M.edges c.edge c.vertex 1) (c.edge + 2) (path_row 2)
-
-  edge_three : table.get base.edges (c.edge + 3) ≡ Some (path_row 3)
-  edge_three = get-put_other (with_path M.edges c.edge c.vertex 3) (c.edge + 4) last_row (c.edge + 3) (apart_by c.edge 3 4 (λ e. absurd (omega (arith, e))))
-      ∙ get-put_here (with_path M.edges c.edge c.vertex 2) (c.edge + 3) (path_row 3)
-
-  edge_four : table.get base.edges (c.edge + 4) ≡ Some last_row
-  edge_four = get-put_here (with_path M.edges c.edge c.vertex 3) (c.edge + 4) last_row
-
-  point_one : point_of base (c.vertex + 1) ≡ a
-  point_one = point_row base (c.vertex + 1) a (get-put_other (with_points M.vertices c.vertex corner_points 3) (c.vertex + 4) h (c.vertex + 1) (apart_by c.vertex 1 4 (λ e. absurd (omega (arith, e))))
-      ∙ get-put_other (with_points M.vertices c.vertex corner_points 2) (c.vertex + 3) g (c.vertex + 1) (apart_by c.vertex 1 3 (λ e. absurd (omega (arith, e))))
-      ∙ get-put_other (with_points M.vertices c.vertex corner_points 1) (c.vertex + 2) b (c.vertex + 1) (apart_by c.vertex 1 2 (λ e. absurd (omega (arith, e))))
-      ∙ get-put_here M.vertices (c.vertex + 1) a)
-
-  point_two : point_of base (c.vertex + 2) ≡ b
-  point_two = point_row base (c.vertex + 2) b (get-put_other (with_points M.vertices c.vertex corner_points 3) (c.vertex + 4) h (c.vertex + 2) (apart_by c.vertex 2 4 (λ e. absurd (omega (arith, e))))
-      ∙ get-put_other (with_points M.vertices c.vertex corner_points 2) (c.vertex + 3) g (c.vertex + 2) (apart_by c.vertex 2 3 (λ e. absurd (omega (arith, e))))
-      ∙ get-put_here (with_points M.vertices c.vertex corner_points 1) (c.vertex + 2) b)
-
-  point_three : point_of base (c.vertex + 3) ≡ g
-  point_three = point_row base (c.vertex + 3) g (get-put_other (with_points M.vertices c.vertex corner_points 3) (c.vertex + 4) h (c.vertex + 3) (apart_by c.vertex 3 4 (λ e. absurd (omega (arith, e))))
-      ∙ get-put_here (with_points M.vertices c.vertex corner_points 2) (c.vertex + 3) g)
-
-  point_four : point_of base (c.vertex + 4) ≡ h
-  point_four = point_row base (c.vertex + 4) h (get-put_here (with_points M.vertices c.vertex corner_points 3) (c.vertex + 4) h)
-
-  one_more : (v i : ℕ) → v + i + 1 ≡ v + (i + 1)
+  one_more : (v i : ℕ) → v + suc i + 1 ≡ v + suc (suc i)
   one_more v i = omega arith
 
+  out_at : (i : ℕ) → i < 3 → start base (plus (c.edge + suc i)) ≡ get_or corner_points i no_point
+  out_at i l = ap (point_of base) (plus_tail_row base (c.edge + suc i) _ (rows.edge_at M c s corner_points i (omega (arith, l)))) ∙ rows.point_at M c s corner_points i (omega (arith, l))
+
+  back_at : (i : ℕ) → i < 3 → start base (minus (c.edge + suc i)) ≡ get_or corner_points (suc i) no_point
+  back_at i l = ap (point_of base) (minus_tail_row base (c.edge + suc i) _ (rows.edge_at M c s corner_points i (omega (arith, l))) ∙ one_more c.vertex i) ∙ rows.point_at M c s corner_points (suc i) (omega (arith, l))
+
   out_one : start base (plus (c.edge + 1)) ≡ a
-  out_one = ap (point_of base) (plus_tail_row base (c.edge + 1) (path_row 1) edge_one) ∙ point_one
-
-  out_two : start base (plus (c.edge + 2)) ≡ b
-  out_two = ap (point_of base) (plus_tail_row base (c.edge + 2) (path_row 2) edge_two) ∙ point_two
-
-  out_three : start base (plus (c.edge + 3)) ≡ g
-  out_three = ap (point_of base) (plus_tail_row base (c.edge + 3) (path_row 3) edge_three) ∙ point_three
+  out_one = out_at 0 (omega arith)
 
   out_four : start base (plus (c.edge + 4)) ≡ h
-  out_four = ap (point_of base) (plus_tail_row base (c.edge + 4) last_row edge_four) ∙ point_four
+  out_four = ap (point_of base) (plus_tail_row base (c.edge + 4) _ (rows.last_edge_at M c s corner_points)) ∙ rows.point_at M c s corner_points 3 (omega arith)
 
   back_one : start base (minus (c.edge + 1)) ≡ b
-  back_one = ap (point_of base) (minus_tail_row base (c.edge + 1) (path_row 1) edge_one ∙ one_more c.vertex 1) ∙ point_two
-
-  back_two : start base (minus (c.edge + 2)) ≡ g
-  back_two = ap (point_of base) (minus_tail_row base (c.edge + 2) (path_row 2) edge_two ∙ one_more c.vertex 2) ∙ point_three
-
-  back_three : start base (minus (c.edge + 3)) ≡ h
-  back_three = ap (point_of base) (minus_tail_row base (c.edge + 3) (path_row 3) edge_three ∙ one_more c.vertex 3) ∙ point_four
+  back_one = back_at 0 (omega arith)
 
   back_four : start base (minus (c.edge + 4)) ≡ a
-  back_four = ap (point_of base) (minus_tail_row base (c.edge + 4) last_row edge_four) ∙ point_one
+  back_four = ap (point_of base) (minus_tail_row base (c.edge + 4) _ (rows.last_edge_at M c s corner_points)) ∙ rows.point_at M c s corner_points 0 (omega arith)
 
   -- a half-edge ends where its mate starts
   plus_ends : (e : ℕ) (p : Point) → start base (minus e) ≡ p → finish base (plus e) ≡ p
@@ -136,15 +84,15 @@ module _ (M : Model) (c : Taken) (s : ℕ) (a b g h : Point) where
     normal_one = normal_is base (c.face + 1) ∙ ap (λ rs. area base (items_in base (outer base (c.face + 1) ∷ rs))) (rows.rings_one M c s corner_points bounded)
         ∙ ap (λ q. area base (items_in base (q ∷ []))) (outer_row base (c.face + 1) (rows.first_face M c s corner_points) (rows.face_one M c s corner_points))
         ∙ ap (λ x. area base (items_of x ++ [])) content_one
-        ∙ (λ i. moved (cross (out_one i) (plus_ends (c.edge + 1) b back_one i)) (moved (cross (out_two i) (plus_ends (c.edge + 2) g back_two i))
-        (moved (cross (out_three i) (plus_ends (c.edge + 3) h back_three i)) (moved (cross (out_four i) (plus_ends (c.edge + 4) a back_four i)) origin))))
+        ∙ (λ i. moved (cross (out_one i) (plus_ends (c.edge + 1) b back_one i)) (moved (cross (out_at 1 (omega arith) i) (plus_ends (c.edge + 2) g (back_at 1 (omega arith)) i))
+        (moved (cross (out_at 2 (omega arith) i) (plus_ends (c.edge + 3) h (back_at 2 (omega arith)) i)) (moved (cross (out_four i) (plus_ends (c.edge + 4) a back_four i)) origin))))
 
     normal_two : normal base (c.face + 2) ≡ ring_area b a h g
     normal_two = normal_is base (c.face + 2) ∙ ap (λ rs. area base (items_in base (outer base (c.face + 2) ∷ rs))) (rows.rings_two M c s corner_points bounded)
         ∙ ap (λ q. area base (items_in base (q ∷ []))) (outer_row base (c.face + 2) (rows.second_face M c s corner_points) (rows.face_two M c s corner_points))
         ∙ ap (λ x. area base (items_of x ++ [])) content_two
         ∙ (λ i. moved (cross (back_one i) (minus_ends (c.edge + 1) a out_one i)) (moved (cross (back_four i) (minus_ends (c.edge + 4) h out_four i))
-        (moved (cross (back_three i) (minus_ends (c.edge + 3) g out_three i)) (moved (cross (back_two i) (minus_ends (c.edge + 2) b out_two i)) origin))))
+        (moved (cross (back_at 2 (omega arith) i) (minus_ends (c.edge + 3) g (out_at 2 (omega arith)) i)) (moved (cross (back_at 1 (omega arith) i) (minus_ends (c.edge + 2) b (out_at 1 (omega arith)) i)) origin))))
 
     anchor_one : anchor base (c.face + 1) ≡ a
     anchor_one = ap (λ q. point_of base (first_vertex base (content base q))) (outer_row base (c.face + 1) (rows.first_face M c s corner_points) (rows.face_one M c s corner_points)) ∙ ap (λ x. point_of base (first_vertex base x)) content_one ∙ out_one

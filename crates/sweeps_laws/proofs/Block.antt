@@ -5,26 +5,26 @@ use Rattle.std.proofs.lemmas.Bool.{not-true, ne_eqb, leb-true}
 use Rattle.euler_operators.specs.declared.Point.{Point}
 use Rattle.euler_operators.specs.Vectors.{dot}
 use Rattle.euler_operators.specs.Table as table
-use Rattle.euler_operators.specs.Model.{Model, no_point, faces_of}
+use Rattle.euler_operators.specs.Model.{Model, no_point, solid_of, faces_of}
 use Rattle.euler_operators.specs.Sound.{Sound}
 use Rattle.euler_operators.proofs.Tables.{all_where_none}
 use Rattle.euler_laws.proofs.shared.Goes.{all_hold}
 use Rattle.shapes.specs.Fresh.{taken_in}
 use Rattle.shapes.specs.Lamina.{lamina_conditions, lamina_refusal, lamina_at, lamina_model, lamina_face}
-use Rattle.shapes.specs.Prism.{prism_model}
+use Rattle.shapes.specs.Prism.{prism_refusal, prism_model}
 use Rattle.shapes.specs.Block.{vector, base_of, block_conditions, block_refusal, block_model}
 use Rattle.shapes.specs.Measure.{normal, is_flat, six_volume}
 use Rattle.sweeps_laws.proofs.lamina.Walk.{lamina_is_sound}
-use Rattle.sweeps_laws.proofs.lamina.Blocks.{blocks_have_bases}
+use Rattle.sweeps_laws.proofs.lamina.Blocks.{blocks_have_bases, bases_rise}
 use Rattle.euler_operators.proofs.Vectors.{none_add}
 use Rattle.euler_operators.proofs.Rectangles.{second_corner, third_corner, fourth_corner, rectangle_flat, rectangle_raised}
 use Rattle.euler_operators.proofs.Models.{solid_row}
-use Rattle.sweeps_laws.proofs.FromSound.{sound_bounded, face_adds, face_keeps_others}
+use Rattle.sweeps_laws.proofs.FromSound.{sound_bounded, sweep_adds, sweep_keeps_others}
 use Rattle.sweeps_laws.proofs.Laminas.{lamina_keeps}
 use Rattle.sweeps_laws.proofs.LaminaVolumes.{lamina_volume, flat_volume}
 use Rattle.sweeps_laws.specs.Laws.{BlockMeasures, BlockKeepsOthers, LaminaMeasures, FlatLaminasMeasureNothing, LaminaKeepsOthers}
 use Rattle.sweeps_laws.proofs.Base.{base, normal_one, base_volume}
-use Rattle.sweeps_laws.proofs.LaminaRows.{solid_one, there_one, none_lone}
+use Rattle.sweeps_laws.proofs.LaminaRows.{solid_one}
 
 solid_free : (M : Model) (s : ℕ) (p : Point) (dx dy dz : ℤ) → block_refusal M s p dx dy dz ≡ None → table.has M.solids s ≡ false
 unfolding block_conditions
@@ -42,6 +42,25 @@ pub lamina_is : (M : Model) (s : ℕ) (ps : List Point) → lamina_model M s ps 
 unfolding lamina_model
 lamina_is M s ps = refl
 
+module _ (M : Model) (s : ℕ) (p : Point) (dx dy dz : ℤ) (sound : Sound M) (e : block_refusal M s p dx dy dz ≡ None) where
+  abbrev L : Model
+  L = base M (taken_in M) s p (second_corner p dx dy) (third_corner p dx dy) (fourth_corner p dx dy)
+
+  abbrev up : Point
+  up = vector (pos 0) (pos 0) dz
+
+  made : lamina_model M s (base_of p dx dy) ≡ L
+  made = lamina_is M s (base_of p dx dy)
+
+  base_sound : Sound L
+  base_sound = subst Sound made (lamina_is_sound M s (base_of p dx dy) sound (blocks_have_bases M s p dx dy dz e))
+
+  rises : prism_refusal L ((taken_in M).face + 1) up ≡ None
+  rises = subst (λ X. prism_refusal X ((taken_in M).face + 1) up ≡ None) made (bases_rise M s p dx dy dz sound e)
+
+  of : solid_of L ((taken_in M).face + 1) ≡ s
+  of = solid_one M (taken_in M) s (base_of p dx dy)
+
 -- six times the product of its sizes
 pub block_volume : BlockMeasures
 block_volume M s p dx dy dz sound e =
@@ -49,16 +68,14 @@ block_volume M s p dx dy dz sound e =
     let b = second_corner p dx dy in
     let g = third_corner p dx dy in
     let h = fourth_corner p dx dy in
-    let L = base M c s p b g h in
-    let f = c.face + 1 in
+    let N = base M c s p b g h in
     let d = vector (pos 0) (pos 0) dz in
     let bounded = sound_bounded M sound in
-    let sound_base : Sound L = subst Sound (lamina_is M s (base_of p dx dy)) (lamina_is_sound M s (base_of p dx dy) sound (blocks_have_bases M s p dx dy dz e)) in
-    let of = solid_one M c s (base_of p dx dy) in
+    let is = of M s p dx dy dz sound e in
     ap (λ x. six_volume x s) (block_is M s p dx dy dz)
-    ∙ ap (six_volume (prism_model L f d)) (sym of)
-    ∙ face_adds L sound_base f (there_one M c s (base_of p dx dy)) (none_lone M c s (base_of p dx dy) bounded) d
-    ∙ (λ i. six_volume L (of i) +ℤ pos 3 *ℤ dot (normal_one M c s p b g h bounded i) d)
+    ∙ ap (six_volume (prism_model N (c.face + 1) d)) (sym is)
+    ∙ sweep_adds N (c.face + 1) d (base_sound M s p dx dy dz sound e) (rises M s p dx dy dz sound e)
+    ∙ (λ i. six_volume N (is i) +ℤ pos 3 *ℤ dot (normal_one M c s p b g h bounded i) d)
     ∙ (λ i. (base_volume M c s p b g h bounded (no_faces M s sound (solid_free M s p dx dy dz e)) ∙ rectangle_flat p dx dy) i +ℤ rectangle_raised p dx dy dz i)
     ∙ none_add (pos 6 *ℤ dx *ℤ dy *ℤ dz)
 
@@ -88,14 +105,6 @@ lamina_keeps_others M s ps u sound e ne = ap (λ x. six_volume x u) (lamina_is M
 
 pub block_keeps_others : BlockKeepsOthers
 block_keeps_others M s p dx dy dz u sound e ne =
-    let c = taken_in M in
-    let b = second_corner p dx dy in
-    let g = third_corner p dx dy in
-    let h = fourth_corner p dx dy in
-    let L = base M c s p b g h in
-    let bounded = sound_bounded M sound in
-    let goes = blocks_have_bases M s p dx dy dz e in
-    let sound_base : Sound L = subst Sound (lamina_is M s (base_of p dx dy)) (lamina_is_sound M s (base_of p dx dy) sound goes) in
     ap (λ x. six_volume x u) (block_is M s p dx dy dz)
-    ∙ face_keeps_others L sound_base (c.face + 1) (there_one M c s (base_of p dx dy)) (none_lone M c s (base_of p dx dy) bounded) (vector (pos 0) (pos 0) dz) u (λ o. ne (o ∙ solid_one M c s (base_of p dx dy)))
-    ∙ lamina_keeps M c s (base_of p dx dy) (some_points M s (base_of p dx dy) goes) bounded u ne
+    ∙ sweep_keeps_others (L M s p dx dy dz sound e) ((taken_in M).face + 1) (vector (pos 0) (pos 0) dz) u (base_sound M s p dx dy dz sound e) (rises M s p dx dy dz sound e) (λ o. ne (o ∙ of M s p dx dy dz sound e))
+    ∙ lamina_keeps M (taken_in M) s (base_of p dx dy) (some_points M s (base_of p dx dy) (blocks_have_bases M s p dx dy dz e)) (sound_bounded M sound) u ne

@@ -1,27 +1,23 @@
 -- In a sound model the numbers in use lie within the greatest ones, and the loops of a face without a lone one are closed paths.
-use Rattle.std.proofs.Common.{◌≡◌, ◌≢◌, ℕ, zero, suc, ◌+◌, ◌≤◌, ◌<◌, pos, ◌+ℤ◌, ◌*ℤ◌, Bool, true, false, not, nat_eq, ◌&&◌, ◌||◌, List, [], ◌∷◌, length, get_or, Option, Some, None, is_some, unwrap_or, refl, sym, ap, subst, ◌∙◌, arith, inl, inr, true≢false}
-use Rattle.std.proofs.lemmas.Bool.Decides.{nat_tests}
+use Rattle.std.proofs.Common.{◌≡◌, ◌≢◌, ℕ, zero, suc, ◌+◌, ◌≤◌, ◌<◌, Bool, true, false, List, [], ◌∷◌, length, get_or, Option, Some, None, is_some, unwrap_or, refl, sym, ap, subst, ◌∙◌, arith, inl, inr, true≢false}
 use Rattle.euler_operators.specs.declared.Point.{Point}
-use Rattle.euler_operators.specs.Vectors.{dot}
-use Rattle.euler_operators.specs.Items.{IsIn, head_or}
+use Rattle.euler_operators.specs.Items.{count, tick, IsIn, head_or}
+use Rattle.euler_operators.proofs.Lists.{tick_same}
 use Rattle.euler_operators.specs.Rings.{IsPath, IsRing}
 use Rattle.euler_operators.proofs.Std.{IsIn-get_or}
 use Rattle.euler_operators.specs.HalfEdge.{edge_of, is_first}
 use Rattle.euler_operators.specs.Table as table
-use Rattle.euler_operators.specs.Model.{Model, LoopContent, cycle, FaceRow, LoopRow, EdgeRow, no_face, no_loop, no_edge, items_of, tail, tail_in, content, face_of, outer, solid_of, point_of, rings_of, after}
+use Rattle.euler_operators.specs.Model.{Model, LoopContent, cycle, FaceRow, LoopRow, EdgeRow, no_face, no_loop, no_edge, items_of, tail, tail_in, content, face_of, outer, point_of, rings_of, after}
 use Rattle.euler_operators.specs.Sound.{Sound, Has, HasHalf}
-use Rattle.euler_operators.proofs.Tables.{zero_first_where, row_some}
-use Rattle.euler_operators.proofs.Models.{content_row, face_row, in-holds}
-use Rattle.euler_operators.specs.Conditions.{is_lone, lists, strictly_rises}
-use Rattle.euler_laws.proofs.shared.Goes.{all_hold, no_zero}
-use Rattle.euler_laws.proofs.shared.Listed.{listed_cases, listed_passes, all_where-rises}
+use Rattle.euler_operators.proofs.Models.{in-holds}
+use Rattle.euler_operators.specs.Conditions.{lists}
+use Rattle.euler_laws.proofs.shared.Listed.{IsIn-from_listed}
 use Rattle.euler_laws.proofs.shared.Loops.{loop_sound, IsLoop}
-use Rattle.euler_laws.proofs.shared.Rows.{not_lone_cycle}
-use Rattle.shapes.proofs.fresh.Tests.{none_found, none_is_lone}
-use Rattle.shapes.specs.Faces.{least_lone}
+use Rattle.shapes.specs.Faces.{loops_of}
+use Rattle.shapes.proofs.walks.FaceLoops.{loops_of_apart, rings_rise}
+use Rattle.sweeps_laws.proofs.prism.Accepted.{face_there, of_face, is_cycle}
 use Rattle.shapes.specs.Fresh.{taken_in}
-use Rattle.shapes.specs.Prism.{next_place, prism_conditions, prism_refusal, prism_model}
-use Rattle.shapes.specs.Measure.{normal, six_volume}
+use Rattle.shapes.specs.Prism.{next_place, prism_refusal}
 use Rattle.shapes.proofs.fresh.Rows.{at_most_greatest}
 use Rattle.sweeps_laws.specs.Laws.{SweepAdds, SweepKeepsOthers}
 use Rattle.sweeps_laws.proofs.swept.Numbers.{next_cases}
@@ -94,10 +90,6 @@ some_items : (hs : List ℕ) → hs ≢ [] → 0 < length hs
 some_items [] ne = absurd (ne refl)
 some_items (h ∷ hs) ne = omega arith
 
-not_lone : (a g f : ℕ) (b : Bool) → (b && (nat_eq f g || false)) ≡ false → g ≡ f → b ≡ false
-not_lone a g f true e s = let t : nat_eq f g ≡ true = grind (arith, nat_tests) in sym (ap (λ x. x || false) t) ∙ e
-not_lone a g f false e s = refl
-
 module _ (M : Model) (sound : Sound M) where
   pub sound_bounded : Bounded M (taken_in M)
   unfolding taken_in
@@ -129,48 +121,21 @@ module _ (M : Model) (sound : Sound M) where
     ring : (x : LoopContent) → x ≡ cycle hs → IsLoop (after M) x → IsRing (after M) hs
     ring x e w = (subst (IsLoop (after M)) e w).1
 
-  module _ (f : ℕ) (there : Has M.faces f) (none : least_lone M (f ∷ []) ≡ None) where
-    content_is : (q : ℕ) → Has M.loops q → face_of M q ≡ f → content M q ≡ cycle (items_of (content M q))
-    content_is q t of =
-        let row = row_some (table.get M.loops q) t in
-        let pass = zero_first_where (λ _ row. is_lone row.content && lists (f ∷ []) row.face) M.loops (λ k y at z. no_zero k z (sound.loops_fit k (ap is_some at))) (none_is_lone M (f ∷ []) none) q row.0 row.1 in
-        not_lone_cycle (content M q) (ap is_lone (content_row M q row.0 row.1) ∙ not_lone 0 row.0.face f (is_lone row.0.content) pass (sym (face_row M q row.0 row.1) ∙ of))
+module _ (M : Model) (f : ℕ) (d : Point) (sound : Sound M) (accepted : prism_refusal M f d ≡ None) where
+  -- the loops of a face that can be swept
+  paths : Paths M f (outer M f ∷ rings_of M f)
+  unfolding loops_of
+  paths q i = let j = IsIn-from_listed q (outer M f ∷ rings_of M f) i in let p = of_face M f d sound accepted q j in
+      sound_path M sound f q (items_of (content M q)) p.0 p.1 (is_cycle M f d sound accepted q j)
 
-    path_at : (q : ℕ) → Has M.loops q → face_of M q ≡ f → IsPathOf M f q (items_of (content M q))
-    path_at q t of = sound_path f q (items_of (content M q)) t of (content_is q t of)
-
-    parts : (a b o q : ℕ) → (nat_eq a b && not (nat_eq o q)) ≡ true → (a ≡ b) × (o ≢ q)
-    parts a b o q e = (grind (arith, nat_tests), λ s. grind (arith, nat_tests))
-
-    ring_parts : (q : ℕ) → lists (rings_of M f) q ≡ true → Has M.loops q × (face_of M q ≡ f) × (outer M f ≢ q)
-    ring_parts q i =
-        let p = listed_passes (λ l row. nat_eq row.face f && not (nat_eq (outer M f) l)) M.loops q i in
-        let s = parts p.0.face f (outer M f) q p.2 in
-        (ap is_some p.1, face_row M q p.0 p.1 ∙ s.0, s.1)
-
-    sound_paths : Paths M f (outer M f ∷ rings_of M f)
-    sound_paths q i = elim (listed_cases (outer M f) q (rings_of M f) i) [
-      | inl e ↦ let o = sound.outers_there f there in path_at q (ap (table.has M.loops) e ∙ o.0) (ap (face_of M) e ∙ o.1)
-      | inr j ↦ let p = ring_parts q j in path_at q p.0 p.1
-    ]
-
-    rings_rise : strictly_rises (rings_of M f) ≡ true
-    rings_rise = all_where-rises (λ l row. nat_eq row.face f && not (nat_eq (outer M f) l)) M.loops
-
-    pub face_adds : (d : Point) → six_volume (prism_model M f d) (solid_of M f) ≡ six_volume M (solid_of M f) +ℤ pos 3 *ℤ dot (normal M f) d
-    face_adds d = paths_add M f d sound_bounded there sound_paths rings_rise (λ q i. (ring_parts q i).2)
-
-    pub face_keeps_others : (d : Point) (u : ℕ) → u ≢ solid_of M f → six_volume (prism_model M f d) u ≡ six_volume M u
-    face_keeps_others d u ne = paths_keep M f d sound_bounded there sound_paths u ne rings_rise (λ q i. (ring_parts q i).2)
-
--- what the conditions of a sweep say of its face
-face_goes : (M : Model) (f : ℕ) (d : Point) → prism_refusal M f d ≡ None → Has M.faces f × (least_lone M (f ∷ []) ≡ None)
-unfolding prism_conditions
-face_goes M f d e = let h = all_hold (prism_conditions M f d) e in (h.1.0, none_found (least_lone M (f ∷ [])) h.1.1.1.0)
+  not_outer : (q : ℕ) → lists (rings_of M f) q ≡ true → outer M f ≢ q
+  unfolding loops_of
+  not_outer q i e = let a : count q (outer M f ∷ rings_of M f) ≤ 1 = loops_of_apart M sound f q in
+      absurd (omega (arith, a, IsIn-from_listed q (rings_of M f) i, ap (tick q) e, tick_same q))
 
 -- the laws of sweeps
 pub sweep_adds : SweepAdds
-sweep_adds M f d sound e = let g = face_goes M f d e in face_adds M sound f g.0 g.1 d
+sweep_adds M f d sound e = paths_add M f d (sound_bounded M sound) (face_there M f d sound e) (paths M f d sound e) (rings_rise M sound f) (not_outer M f d sound e)
 
 pub sweep_keeps_others : SweepKeepsOthers
-sweep_keeps_others M f d u sound e ne = let g = face_goes M f d e in face_keeps_others M sound f g.0 g.1 d u ne
+sweep_keeps_others M f d u sound e ne = paths_keep M f d (sound_bounded M sound) (face_there M f d sound e) (paths M f d sound e) u ne (rings_rise M sound f) (not_outer M f d sound e)

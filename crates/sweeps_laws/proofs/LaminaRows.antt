@@ -1,22 +1,54 @@
 -- The rows of a lamina: its two faces and their loops.
 use Rattle.std.specs.Prelude.{length, get_or, map, reverse, ◌-◌}
-use Rattle.std.proofs.Common.{◌≡◌, ◌≢◌, ℕ, suc, ◌+◌, ◌≤◌, ◌<◌, Bool, cond, not, nat_eq, ◌&&◌, List, [], ◌∷◌, ◌++◌, Some, is_some, sym, ap, subst, ◌∙◌, arith, ◌⊎◌, inl, inr, None}
+use Rattle.std.proofs.Common.{◌≡◌, ◌≢◌, ℕ, zero, suc, true, false, ◌||◌, refl, ◌+◌, ◌≤◌, ◌<◌, Bool, cond, not, nat_eq, ◌&&◌, List, [], ◌∷◌, ◌++◌, Some, is_some, sym, ap, subst, ◌∙◌, arith, ◌⊎◌, inl, inr, None}
+use Rattle.std.proofs.lemmas.Bool.Decides.{nat_tests, eqb_tells}
 use Rattle.euler_operators.specs.declared.Point.{Point}
 use Rattle.euler_operators.specs.Rings.{canonical}
 use Rattle.euler_operators.specs.HalfEdge.{plus, minus}
 use Rattle.euler_operators.specs.Table as table
-use Rattle.euler_operators.specs.Model.{Model, cycle, FaceRow, LoopRow, no_point, outer, solid_of, point_of, rings_of, faces_of}
+use Rattle.euler_operators.specs.Table.{Table}
+use Rattle.euler_operators.specs.Model.{Model, cycle, FaceRow, LoopRow, EdgeRow, no_point, outer, solid_of, point_of, rings_of, faces_of}
 use Rattle.euler_operators.specs.Sound.{Has}
 use Rattle.euler_operators.proofs.Tables.{all_where_none, first_where_zero, get-put_here, get-put_other}
 use Rattle.euler_operators.proofs.Models.{face_row, solid_row, outer_row, point_row}
-use Rattle.euler_operators.proofs.Tests.{none_but, nat_eq_itself}
+use Rattle.euler_operators.proofs.Tests.{none_but, nat_eq_itself, less_still}
 use Rattle.euler_operators.specs.Conditions.{is_lone, lists}
 use Rattle.shapes.specs.Faces.{least_lone}
 use Rattle.shapes.specs.Fresh.{Taken, numbers_after, found}
-use Rattle.shapes.specs.Lamina.{lamina_at, with_path}
+use Rattle.shapes.specs.Lamina.{lamina_at, with_path, with_points}
 use Rattle.shapes.proofs.fresh.Rows.{get-put_cases, all_where-put_last, greatest-put_last}
-use Rattle.sweeps_laws.proofs.lamina.Blocks.{path_new, points_new, one_or_two, low_not_one, no_lone}
 use Rattle.sweeps_laws.proofs.swept.Lifted.{Bounded}
+
+-- ---- the tables of a lamina
+
+-- the first two numbers above k are different, and above all up to k
+pub one_or_two : (k n : ℕ) → n ≡ k + 1 → n ≡ k + 2 → ⊥
+one_or_two k n a b = absurd (omega arith)
+
+pub low_not_one : (k n : ℕ) → n ≤ k → n ≡ k + 1 → ⊥
+low_not_one k n a b = absurd (omega arith)
+
+apart_by : (e i j : ℕ) → i ≢ j → e + suc i ≢ e + suc j
+apart_by e i j ne q = ne (omega arith)
+
+pub path_new : (t : Table EdgeRow) (e v j i : ℕ) → i < j → table.get (with_path t e v j) (e + suc i) ≡ Some (record { plus_tail = v + suc i; minus_tail = v + suc i + 1 })
+path_new t e v zero i l = absurd (omega arith)
+path_new t e v (suc j) i l = elim (eqb_tells i j) [
+  | inl p ↦ subst (λ k. table.get (with_path t e v (suc j)) (e + suc k) ≡ Some (record { plus_tail = v + suc k; minus_tail = v + suc k + 1 })) (sym p.1)
+      (get-put_here (with_path t e v j) (e + suc j) (record { plus_tail = v + suc j; minus_tail = v + suc j + 1 }))
+  | inr p ↦ get-put_other (with_path t e v j) (e + suc j) (record { plus_tail = v + suc j; minus_tail = v + suc j + 1 }) (e + suc i) (apart_by e i j p.1) ∙ path_new t e v j i (less_still i j l p.1)
+]
+
+pub points_new : (t : Table Point) (v : ℕ) (ps : List Point) (j i : ℕ) → i < j → table.get (with_points t v ps j) (v + suc i) ≡ Some (get_or ps i no_point)
+points_new t v ps zero i l = absurd (omega (arith, l))
+points_new t v ps (suc j) i l = elim (eqb_tells i j) [
+  | inl p ↦ ap (λ k. table.get (with_points t v ps (suc j)) (v + suc k)) p.1 ∙ get-put_here (with_points t v ps j) (v + suc j) (get_or ps j no_point) ∙ ap (λ k. Some (get_or ps k no_point)) (sym p.1)
+  | inr p ↦ get-put_other (with_points t v ps j) (v + suc j) (get_or ps j no_point) (v + suc i) (apart_by v i j p.1) ∙ points_new t v ps j i (less_still i j l p.1)
+]
+
+pub no_lone : (b : Bool) (f g : ℕ) → f ≢ g → (b && (nat_eq f g || false)) ≡ false
+no_lone true f g ne = grind (arith, nat_tests)
+no_lone false f g ne = refl
 
 one_two : (a : ℕ) → a + 1 ≢ a + 2
 one_two a e = absurd (omega arith)

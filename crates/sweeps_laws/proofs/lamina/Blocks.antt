@@ -1,36 +1,36 @@
 -- Where a block can be made: the lamina of its base can be made, and then its first face can be swept up.
-use Rattle.std.specs.Prelude.{length, get_or, map, reverse, int_le}
+use Rattle.std.specs.Prelude.{length, int_le}
 use Rattle.std.specs.Ordering.{int_eq}
 use Rattle.std.specs.Cmp.{signed_Decides}
-use Rattle.std.proofs.Common.{◌≡◌, ◌≢◌, ℕ, zero, suc, ◌+◌, ◌*◌, ◌≤◌, ◌<◌, ℤ, pos, negsuc, ◌+ℤ◌, Bool, true, false, cond, not, nat_eq, nat_le, ◌&&◌, ◌||◌, List, [], ◌∷◌, ◌++◌, Some, None, is_some, unwrap_or, refl, sym, ap, ◌∙◌, subst, arith, true≢false, ◌⊎◌, inl, inr, Option}
-use Rattle.std.proofs.lemmas.Bool.Decides.{nat_tests, eqb_tells}
+use Rattle.std.proofs.Common.{◌≡◌, ◌≢◌, ℕ, zero, suc, ◌+◌, ◌*◌, ◌≤◌, ◌<◌, ℤ, pos, negsuc, ◌+ℤ◌, Bool, true, false, cond, not, nat_le, ◌&&◌, ◌||◌, List, [], ◌∷◌, ◌++◌, Some, None, is_some, refl, sym, ap, ◌∙◌, subst, arith, true≢false, Option}
+use Rattle.std.proofs.lemmas.Bool.Decides.{nat_tests}
 use Rattle.std.proofs.lemmas.Int.{ints}
 use Rattle.euler_operators.specs.declared.Point.{Point}
 use Rattle.euler_operators.specs.Points.{is_coordinate, is_in_range}
 use Rattle.euler_operators.specs.Vectors.{origin, moved, same_point}
-use Rattle.euler_operators.specs.Rings.{canonical}
-use Rattle.euler_operators.specs.HalfEdge.{plus, minus}
+use Rattle.euler_operators.specs.HalfEdge.{plus}
 use Rattle.euler_operators.specs.Table as table
-use Rattle.euler_operators.specs.Table.{Table}
-use Rattle.euler_operators.specs.Model.{Model, cycle, FaceRow, LoopRow, EdgeRow, no_face, no_point, tail_in, outer, tail, point_of, rings_of}
+use Rattle.euler_operators.specs.Model.{Model, cycle, outer, tail, point_of}
 use Rattle.euler_operators.specs.Sound.{Sound}
-use Rattle.euler_operators.proofs.Halves.{plus_row}
-use Rattle.euler_operators.proofs.Models.{content_row, face_row, tail_row}
-use Rattle.euler_operators.proofs.Tables.{all_where_none, first_where_zero, get-put_here, get-put_other}
-use Rattle.euler_operators.proofs.Tests.{and_first, and_second, none_but, less_still}
+use Rattle.euler_operators.proofs.Models.{content_row, outer_row, plus_tail_row}
+use Rattle.euler_operators.proofs.Tests.{and_first, and_second}
 use Rattle.euler_operators.proofs.Vectors.{add_none}
-use Rattle.euler_operators.specs.Conditions.{Condition, need, never, first_refusal, numbers_in_range, is_lone, lists}
+use Rattle.euler_operators.specs.Conditions.{Condition, need, never, first_refusal, numbers_in_range}
 use Rattle.euler_operators.specs.declared.Why.TheVariants.{NoFace, ZeroSweep, LoneLoop, PointRange}
 use Rattle.euler_laws.proofs.shared.Goes.{all_hold, none_refuses}
-use Rattle.shapes.proofs.fresh.Rows.{at_most_greatest, greatest-put_last, get-put_cases}
+use Rattle.shapes.proofs.fresh.Rows.{greatest-put_last}
 use Rattle.shapes.proofs.fresh.Tests.{Left, numbers_are_left, left_numbers_hold, number_fits}
 use Rattle.shapes.specs.Faces.{corners, loops_of, vertices_in, vertices_on, least_lone}
-use Rattle.shapes.specs.Fresh.{Taken, taken_in, numbers_left, numbers_after, no_such, first_such, found}
-use Rattle.shapes.specs.Lamina.{with_points, with_path, first_far, first_repeated, lamina_conditions, lamina_at, lamina_model}
+use Rattle.shapes.specs.Fresh.{Taken, taken_in, numbers_left, no_such, first_such}
+use Rattle.shapes.specs.Lamina.{with_path, first_far, first_repeated, lamina_conditions, lamina_model}
 use Rattle.shapes.specs.Prism.{prism_conditions, prism_refusal}
 use Rattle.shapes.specs.Block.{vector, base_of, block_conditions, block_refusal}
 use Rattle.sweeps_laws.specs.lamina.Laws.{BlocksHaveBases, BasesRise}
 use Rattle.sweeps_laws.proofs.lamina.Lists.{plus_halves}
+use Rattle.sweeps_laws.proofs.swept.Lifted.{Bounded}
+use Rattle.sweeps_laws.proofs.FromSound.{sound_bounded}
+use Rattle.sweeps_laws.proofs.LaminaRows as rows
+pub use Rattle.sweeps_laws.proofs.LaminaRows.{one_or_two, low_not_one}
 use Rattle.sweeps_laws.proofs.lamina.Steps.{greatest-with_path, greatest-with_points}
 
 -- ---- coordinates
@@ -153,69 +153,17 @@ blocks_have_bases M s p dx dy dz e =
       ),
     )
 
--- ---- the tables of a lamina
-
--- the first two numbers above k are different, and above all up to k
-pub one_or_two : (k n : ℕ) → n ≡ k + 1 → n ≡ k + 2 → ⊥
-one_or_two k n a b = absurd (omega arith)
-
-pub low_not_one : (k n : ℕ) → n ≤ k → n ≡ k + 1 → ⊥
-low_not_one k n a b = absurd (omega arith)
-
-apart_by : (e i j : ℕ) → i ≢ j → e + suc i ≢ e + suc j
-apart_by e i j ne q = ne (omega arith)
-
-edge_row_at : ℕ → ℕ → EdgeRow
-edge_row_at v i = record { plus_tail = v + suc i; minus_tail = v + suc i + 1 }
-
-pub path_new : (t : Table EdgeRow) (e v j i : ℕ) → i < j → table.get (with_path t e v j) (e + suc i) ≡ Some (record { plus_tail = v + suc i; minus_tail = v + suc i + 1 })
-path_new t e v zero i l = absurd (omega arith)
-path_new t e v (suc j) i l = elim (eqb_tells i j) [
-  | inl p ↦ subst (λ k. table.get (with_path t e v (suc j)) (e + suc k) ≡ Some (record { plus_tail = v + suc k; minus_tail = v + suc k + 1 })) (sym p.1)
-      (get-put_here (with_path t e v j) (e + suc j) (record { plus_tail = v + suc j; minus_tail = v + suc j + 1 }))
-  | inr p ↦ get-put_other (with_path t e v j) (e + suc j) (record { plus_tail = v + suc j; minus_tail = v + suc j + 1 }) (e + suc i) (apart_by e i j p.1) ∙ path_new t e v j i (less_still i j l p.1)
-]
-
-path_row : (t : Table EdgeRow) (e v j i : ℕ) → i < j → table.get (with_path t e v j) (e + suc i) ≡ Some (edge_row_at v i)
-unfolding edge_row_at
-path_row t e v j i l = path_new t e v j i l
-
-pub points_new : (t : Table Point) (v : ℕ) (ps : List Point) (j i : ℕ) → i < j → table.get (with_points t v ps j) (v + suc i) ≡ Some (get_or ps i no_point)
-points_new t v ps zero i l = absurd (omega (arith, l))
-points_new t v ps (suc j) i l = elim (eqb_tells i j) [
-  | inl p ↦ ap (λ k. table.get (with_points t v ps (suc j)) (v + suc k)) p.1 ∙ get-put_here (with_points t v ps j) (v + suc j) (get_or ps j no_point) ∙ ap (λ k. Some (get_or ps k no_point)) (sym p.1)
-  | inr p ↦ get-put_other (with_points t v ps j) (v + suc j) (get_or ps j no_point) (v + suc i) (apart_by v i j p.1) ∙ points_new t v ps j i (less_still i j l p.1)
-]
-
-pub no_lone : (b : Bool) (f g : ℕ) → f ≢ g → (b && (nat_eq f g || false)) ≡ false
-no_lone true f g ne = grind (arith, nat_tests)
-no_lone false f g ne = refl
-
 -- ---- the lamina of four points
 
 module _ (M : Model) (sound : Sound M) (c : Taken) (is : c ≡ taken_in M) (s : ℕ) (a b g h : Point) where
+  abbrev ps : List Point
+  ps = a ∷ b ∷ g ∷ h ∷ []
+
   abbrev base : Model
-  base = lamina_at M c s (a ∷ b ∷ g ∷ h ∷ [])
+  base = rows.drawn M c s ps
 
-  abbrev first_face : FaceRow
-  first_face = record { solid = s; outer = c.loop + 1 }
-
-  abbrev second_face : FaceRow
-  second_face = record { solid = s; outer = c.loop + 2 }
-
-  abbrev first_loop : LoopRow
-  first_loop = record { face = c.face + 1; content = cycle (map plus (numbers_after c.edge 4)) }
-
-  abbrev second_loop : LoopRow
-  second_loop = record { face = c.face + 2; content = cycle (canonical (reverse (map minus (numbers_after c.edge 4)))) }
-
-  greatest_face : table.greatest M.faces ≡ c.face
-  unfolding taken_in
-  greatest_face = ap (λ k. k.face) (sym is)
-
-  greatest_loop : table.greatest M.loops ≡ c.loop
-  unfolding taken_in
-  greatest_loop = ap (λ k. k.loop) (sym is)
+  bounded : Bounded M c
+  bounded = subst (Bounded M) (sym is) (sound_bounded M sound)
 
   greatest_edge : table.greatest M.edges ≡ c.edge
   unfolding taken_in
@@ -225,69 +173,19 @@ module _ (M : Model) (sound : Sound M) (c : Taken) (is : c ≡ taken_in M) (s : 
   unfolding taken_in
   greatest_vertex = ap (λ k. k.vertex) (sym is)
 
-  face_one : table.get base.faces (c.face + 1) ≡ Some first_face
-  face_one = get-put_other (table.put M.faces (c.face + 1) first_face) (c.face + 2) second_face (c.face + 1) (apart_by c.face 0 1 (λ e. absurd (omega (arith, e)))) ∙ get-put_here M.faces (c.face + 1) first_face
-
-  loop_one : table.get base.loops (c.loop + 1) ≡ Some first_loop
-  loop_one = get-put_other (table.put M.loops (c.loop + 1) first_loop) (c.loop + 2) second_loop (c.loop + 1) (apart_by c.loop 0 1 (λ e. absurd (omega (arith, e)))) ∙ get-put_here M.loops (c.loop + 1) first_loop
-
-  outer_one : outer base (c.face + 1) ≡ c.loop + 1
-  unfolding outer
-  outer_one = ap (λ o. (unwrap_or o no_face).outer) face_one
-
-  -- the loops that were there are of other faces
-  old_face : (q : ℕ) (y : LoopRow) → table.get M.loops q ≡ Some y → y.face ≤ c.face
-  old_face q y at = within y.face (table.greatest M.faces) c.face (at_most_greatest M.faces y.face (ap (table.has M.faces) (sym (face_row M q y at)) ∙ sound.loops_of_faces q (ap is_some at))) greatest_face where
-    within : (i m n : ℕ) → i ≤ m → m ≡ n → i ≤ n
-    within i m n l e = omega (arith, l, e)
-
-  loop_cases : (q : ℕ) (y : LoopRow) → table.get base.loops q ≡ Some y → ((q ≡ c.loop + 2) × (y ≡ second_loop)) ⊎ (((q ≡ c.loop + 1) × (y ≡ first_loop)) ⊎ (y.face ≤ c.face))
-  loop_cases q y at = elim (get-put_cases (table.put M.loops (c.loop + 1) first_loop) (c.loop + 2) second_loop q y at) [
-    | inl p ↦ inl p
-    | inr p ↦ elim (get-put_cases M.loops (c.loop + 1) first_loop q y p.1) [ inl r ↦ inr (inl r) | inr r ↦ inr (inr (old_face q y r.1)) ]
-  ]
-
-  rings_one : rings_of base (c.face + 1) ≡ []
-  rings_one = all_where_none (λ q row. nat_eq row.face (c.face + 1) && not (nat_eq (outer base (c.face + 1)) q)) base.loops (λ q y at. none_but y.face (c.face + 1) (outer base (c.face + 1)) q (λ e. elim (loop_cases q y at) [
-    | inl p ↦ absurd (one_or_two c.face y.face e (ap (λ r. r.face) p.1))
-    | inr (inl p) ↦ outer_one ∙ sym p.0
-    | inr (inr p) ↦ absurd (low_not_one c.face y.face p e)
-  ]))
-
-  none_lone : least_lone base ((c.face + 1) ∷ []) ≡ None
-  none_lone = ap found (first_where_zero (λ _ row. is_lone row.content && lists ((c.face + 1) ∷ []) row.face) base.loops (λ q y at. elim (loop_cases q y at) [
-    | inl p ↦ ap (λ r. is_lone r.content && lists ((c.face + 1) ∷ []) r.face) p.1
-    | inr (inl p) ↦ ap (λ r. is_lone r.content && lists ((c.face + 1) ∷ []) r.face) p.1
-    | inr (inr p) ↦ no_lone (is_lone y.content) (c.face + 1) y.face (λ e. low_not_one c.face y.face p (sym e))
-  ]))
-
   -- its vertices and their points
-  tail_at : (i : ℕ) (row : EdgeRow) → table.get base.edges (c.edge + suc i) ≡ Some row → tail base (plus (c.edge + suc i)) ≡ row.plus_tail
-  tail_at i row at = tail_row base (plus (c.edge + suc i)) row (ap (table.get base.edges) (plus_row (c.edge + suc i)).0 ∙ at) ∙ ap (tail_in row) (plus_row (c.edge + suc i)).1
-
-  abbrev ring_row : EdgeRow
-  ring_row = record { plus_tail = c.vertex + 4; minus_tail = c.vertex + 1 }
-
   on_path : (i : ℕ) → i < 3 → tail base (plus (c.edge + suc i)) ≡ c.vertex + suc i
-  unfolding edge_row_at
-  on_path i l = tail_at i (edge_row_at c.vertex i) (get-put_other (with_path M.edges c.edge c.vertex 3) (c.edge + 4) ring_row (c.edge + suc i) (apart_by c.edge i 3 (λ e. absurd (omega (arith, e, l)))) ∙ path_row M.edges c.edge c.vertex 3 i l)
-
-  at_last : tail base (plus (c.edge + 4)) ≡ c.vertex + 4
-  at_last = tail_at 3 ring_row (get-put_here (with_path M.edges c.edge c.vertex 3) (c.edge + 4) ring_row)
-
-  point_at : (i : ℕ) → i < 4 → point_of base (c.vertex + suc i) ≡ get_or (a ∷ b ∷ g ∷ h ∷ []) i no_point
-  unfolding point_of
-  point_at i l = ap (λ o. unwrap_or o no_point) (points_new M.vertices c.vertex (a ∷ b ∷ g ∷ h ∷ []) 4 i l)
+  on_path i l = plus_tail_row base (c.edge + suc i) _ (rows.edge_at M c s ps i (omega (arith, l)))
 
   abbrev base_vertices : List ℕ
   base_vertices = (c.vertex + 1) ∷ (c.vertex + 2) ∷ (c.vertex + 3) ∷ (c.vertex + 4) ∷ []
 
   corners_are : corners base (c.face + 1) ≡ base_vertices
   unfolding corners loops_of
-  corners_are = ap (λ rs. vertices_in base (outer base (c.face + 1) ∷ rs)) rings_one
-      ∙ ap (λ l. vertices_in base (l ∷ [])) outer_one
-      ∙ ap (λ x. vertices_on base x ++ []) (content_row base (c.loop + 1) first_loop loop_one ∙ ap cycle (plus_halves c.edge 4))
-      ∙ (λ i. on_path 0 (omega arith) i ∷ on_path 1 (omega arith) i ∷ on_path 2 (omega arith) i ∷ at_last i ∷ [])
+  corners_are = ap (λ rs. vertices_in base (outer base (c.face + 1) ∷ rs)) (rows.rings_one M c s ps bounded)
+      ∙ ap (λ l. vertices_in base (l ∷ [])) (outer_row base (c.face + 1) (rows.first_face M c s ps) (rows.face_one M c s ps))
+      ∙ ap (λ x. vertices_on base x ++ []) (content_row base (c.loop + 1) (rows.first_loop M c s ps) (rows.loop_one M c s ps) ∙ ap cycle (plus_halves c.edge 4))
+      ∙ (λ i. on_path 0 (omega arith) i ∷ on_path 1 (omega arith) i ∷ on_path 2 (omega arith) i ∷ plus_tail_row base (c.edge + 4) _ (rows.last_edge_at M c s ps) i ∷ [])
 
   -- ---- the sweep
 
@@ -303,8 +201,8 @@ module _ (M : Model) (sound : Sound M) (c : Taken) (is : c ≡ taken_in M) (s : 
   all_in_range : (d : Point) → is_in_range (moved a d) ≡ true → is_in_range (moved b d) ≡ true → is_in_range (moved g d) ≡ true → is_in_range (moved h d) ≡ true →
       first_such (λ v. not (is_in_range (moved (point_of base v) d))) base_vertices ≡ None
   all_in_range d ra rb rg rh =
-      (λ i. cond (not (is_in_range (moved (point_at 0 (omega arith) i) d))) (Some (c.vertex + 1)) (cond (not (is_in_range (moved (point_at 1 (omega arith) i) d))) (Some (c.vertex + 2))
-      (cond (not (is_in_range (moved (point_at 2 (omega arith) i) d))) (Some (c.vertex + 3)) (cond (not (is_in_range (moved (point_at 3 (omega arith) i) d))) (Some (c.vertex + 4)) None))))
+      (λ i. cond (not (is_in_range (moved (rows.point_at M c s ps 0 (omega arith) i) d))) (Some (c.vertex + 1)) (cond (not (is_in_range (moved (rows.point_at M c s ps 1 (omega arith) i) d))) (Some (c.vertex + 2))
+      (cond (not (is_in_range (moved (rows.point_at M c s ps 2 (omega arith) i) d))) (Some (c.vertex + 3)) (cond (not (is_in_range (moved (rows.point_at M c s ps 3 (omega arith) i) d))) (Some (c.vertex + 4)) None))))
       ∙ (λ i. cond (not (ra i)) (Some (c.vertex + 1)) (cond (not (rb i)) (Some (c.vertex + 2)) (cond (not (rg i)) (Some (c.vertex + 3)) (cond (not (rh i)) (Some (c.vertex + 4)) None))))
 
   base_left : Left c 6 6 12 8 → Left (taken_in base) 4 4 8 4
@@ -313,18 +211,18 @@ module _ (M : Model) (sound : Sound M) (c : Taken) (is : c ≡ taken_in M) (s : 
     faces = omega (arith, left.faces, greatest_faces);
     loops = omega (arith, left.loops, greatest_loops);
     edges = omega (arith, left.edges, greatest_edges);
-    vertices = omega (arith, left.vertices, greatest-with_points M.vertices c.vertex (a ∷ b ∷ g ∷ h ∷ []) 4 greatest_vertex);
+    vertices = omega (arith, left.vertices, greatest-with_points M.vertices c.vertex ps 4 greatest_vertex);
   } where
     greatest_faces : table.greatest base.faces ≡ c.face + 2
-    greatest_faces = greatest-put_last (table.put M.faces (c.face + 1) first_face) (c.face + 2) second_face
-        (omega (arith, greatest-put_last M.faces (c.face + 1) first_face (omega (arith, greatest_face))))
+    greatest_faces = greatest-put_last (table.put M.faces (c.face + 1) (rows.first_face M c s ps)) (c.face + 2) (rows.second_face M c s ps)
+        (omega (arith, greatest-put_last M.faces (c.face + 1) (rows.first_face M c s ps) (omega (arith, bounded.faces))))
 
     greatest_loops : table.greatest base.loops ≡ c.loop + 2
-    greatest_loops = greatest-put_last (table.put M.loops (c.loop + 1) first_loop) (c.loop + 2) second_loop
-        (omega (arith, greatest-put_last M.loops (c.loop + 1) first_loop (omega (arith, greatest_loop))))
+    greatest_loops = greatest-put_last (table.put M.loops (c.loop + 1) (rows.first_loop M c s ps)) (c.loop + 2) (rows.second_loop M c s ps)
+        (omega (arith, greatest-put_last M.loops (c.loop + 1) (rows.first_loop M c s ps) (omega (arith, bounded.loops))))
 
     greatest_edges : table.greatest base.edges ≡ c.edge + 4
-    greatest_edges = greatest-put_last (with_path M.edges c.edge c.vertex 3) (c.edge + 4) ring_row (omega (arith, greatest-with_path M.edges c.edge c.vertex 3 greatest_edge))
+    greatest_edges = greatest-put_last (with_path M.edges c.edge c.vertex 3) (c.edge + 4) (record { plus_tail = c.vertex + 4; minus_tail = c.vertex + 1 }) (omega (arith, greatest-with_path M.edges c.edge c.vertex 3 greatest_edge))
 
   rises : (d : Point) → same_point d origin ≡ false → is_in_range (moved a d) ≡ true → is_in_range (moved b d) ≡ true → is_in_range (moved g d) ≡ true → is_in_range (moved h d) ≡ true →
       Left c 6 6 12 8 → prism_refusal base (c.face + 1) d ≡ None
@@ -333,10 +231,10 @@ module _ (M : Model) (sound : Sound M) (c : Taken) (is : c ≡ taken_in M) (s : 
       ∙ none_refuses (swept_conditions d base_vertices) (
         number_fits (c.face + 1) (omega arith) (omega (arith, left.faces)),
         (
-          ap is_some face_one,
+          rows.there_one M c s ps,
           (
             ap not apart,
-            (ap (λ (o : Option ℕ). not (is_some o)) none_lone, (ap (λ (o : Option ℕ). not (is_some o)) (all_in_range d ra rb rg rh), left_numbers_hold (taken_in base) 4 4 8 4 (base_left left))),
+            (ap (λ (o : Option ℕ). not (is_some o)) (rows.none_lone M c s ps bounded), (ap (λ (o : Option ℕ). not (is_some o)) (all_in_range d ra rb rg rh), left_numbers_hold (taken_in base) 4 4 8 4 (base_left left))),
           ),
         ),
       )

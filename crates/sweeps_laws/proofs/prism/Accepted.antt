@@ -50,11 +50,11 @@ module _ (M : Model) (f : ℕ) (d : Point) (sound : Sound M) (accepted : prism_r
   unfolding prism_conditions
   left = numbers_are_left (taken_in M) (length (corners M f)) (length (corners M f)) (2 * length (corners M f)) (length (corners M f)) hold.1.1.1.1.1
 
-  of_face : (l : ℕ) → IsIn l (loops_of M f) → Has M.loops l × (face_of M l ≡ f)
+  pub of_face : (l : ℕ) → IsIn l (loops_of M f) → Has M.loops l × (face_of M l ≡ f)
   of_face l i = face_of_loop M sound f l face_there (listed-from_in l (loops_of M f) i)
 
   -- none of them is lone
-  is_cycle : (l : ℕ) → IsIn l (loops_of M f) → content M l ≡ cycle (items_of (content M l))
+  pub is_cycle : (l : ℕ) → IsIn l (loops_of M f) → content M l ≡ cycle (items_of (content M l))
   is_cycle l i =
       let p = of_face l i in
       let at : table.get M.loops l ≡ Some (record { face = face_of M l; content = content M l }) = loop_row M l p.0 in
