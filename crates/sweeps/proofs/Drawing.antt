@@ -72,7 +72,7 @@ module _ (M : Model) (c : Taken) (s : ℕ) (ps : List Point) (goes : Goes M c s 
       edges = suc a.edges;
       counted = omega (arith, a.counted);
       within = omega (arith, l);
-      model = made ∙ (λ t. effect (a.model t) (next_is t)) ∙ next_made M c s ps (length ps) goes a.edges;
+      model = made ∙ (λ t. effect (a.model t) (next_is t)) ∙ next_made M c s ps (length ps) goes a.edges (path_sound M c s ps (length ps) goes a.edges (omega (arith, short)));
       corner = ap At turn ∙ ap (λ k. At (second_half (c.edge + k))) a.counted;
     }
 

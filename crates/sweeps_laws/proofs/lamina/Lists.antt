@@ -1,14 +1,12 @@
 -- The loop along a path and back, as a list.
 use Rattle.std.specs.Prelude.{map, reverse}
-use Rattle.std.proofs.Common.{◌≡◌, ◌≢◌, ℕ, zero, suc, ◌+◌, ◌≤◌, ◌<◌, List, [], ◌∷◌, ◌++◌, refl, sym, ap, ◌∙◌, arith, inl, inr}
+use Rattle.std.proofs.Common.{◌≡◌, ℕ, zero, suc, ◌+◌, ◌≤◌, ◌<◌, List, [], ◌∷◌, ◌++◌, refl, sym, ap, ◌∙◌, arith, inl, inr}
 use Rattle.std.proofs.lemmas.List.{append_assoc, append-nil, map-append, reverse-append}
 use Rattle.std.proofs.lemmas.Bool.Decides.{eqb_tells}
-use Rattle.euler_operators.specs.Items.{count, IsIn, IsApart, least, before, from}
-use Rattle.euler_operators.specs.Rings.{rotate_to, canonical, upto, onward}
-use Rattle.euler_operators.specs.Edits.{insert_before}
-use Rattle.euler_operators.proofs.Lists.{count-append, tick_other, tick_le, least_with_le, least_with_in, before_at, from_at}
-use Rattle.euler_operators.proofs.Rotations.{rotate_to_head, rotate_at, canonical_same, IsIn_head}
-use Rattle.euler_operators.proofs.Edits.{insert_before_at}
+use Rattle.euler_operators.specs.Items.{count, IsIn, IsApart, least}
+use Rattle.euler_operators.specs.Rings.{rotate_to, canonical}
+use Rattle.euler_operators.proofs.Lists.{count-append, tick_other, tick_le, least_with_le, least_with_in}
+use Rattle.euler_operators.proofs.Rotations.{rotate_to_head, canonical_same, IsIn_head}
 use Rattle.euler_operators.specs.HalfEdge.{plus, minus}
 use Rattle.shapes.specs.Fresh.{numbers_after}
 use Rattle.sweeps_laws.specs.lamina.Path.{out, back}
@@ -28,18 +26,6 @@ least_first x zs low =
 pub canonical_first : (x : ℕ) (zs : List ℕ) → ((y : ℕ) → IsIn y zs → x ≤ y) → canonical (x ∷ zs) ≡ x ∷ zs
 unfolding canonical
 canonical_first x zs low = ap (λ y. rotate_to y (x ∷ zs)) (least_first x zs low) ∙ rotate_to_head x zs
-
-even_odd : (a b : ℕ) → minus a ≢ plus b
-even_odd a b e = absurd (omega arith)
-
--- the halves of one kind don't stand among the others
-pub no_minus : (a e j : ℕ) → count (minus a) (out e j) ≡ 0
-no_minus a e zero = refl
-no_minus a e (suc j) = count-append (minus a) (out e j) (plus (e + suc j) ∷ []) ∙ (λ i. no_minus a e j i + (tick_other (minus a) (plus (e + suc j)) (even_odd a (e + suc j)) i + 0))
-
-pub no_plus : (a e j : ℕ) → count (plus a) (back e j) ≡ 0
-no_plus a e zero = refl
-no_plus a e (suc j) = λ i. tick_other (plus a) (minus (e + suc j)) (λ p. even_odd (e + suc j) a (sym p)) i + no_plus a e j i
 
 -- where items lie
 out_within : (e j x : ℕ) → IsIn x (out e j) → (plus (e + 1) ≤ x) × (x ≤ plus (e + j))
@@ -103,29 +89,12 @@ canonical_out e j ys low = ap (λ xs. canonical (xs ++ ys)) (out_first e j)
       either y zero f g = g refl
       either y (suc n) f g = f (omega arith)
 
--- the two halves of the next edge put before the last minus half
-module _ (e j : ℕ) where
-  pub longer_plus : canonical (insert_before (minus (e + suc j)) (plus (e + suc (suc j))) (out e (suc j) ++ back e (suc j))) ≡ out e (suc (suc j)) ++ back e (suc j)
-  longer_plus = ap canonical (insert_before_at (minus (e + suc j)) (plus (e + suc (suc j))) (out e (suc j)) (back e j) (no_minus (e + suc j) e (suc j))
-      ∙ sym (append_assoc (out e (suc j)) (plus (e + suc (suc j)) ∷ []) (back e (suc j))))
-      ∙ canonical_out e (suc j) (back e (suc j)) (λ y i. (back_within e (suc j) y i).0)
+-- the loop along a path, and the one along the next edge too
+pub path_read : (e j : ℕ) → canonical (out e (suc j) ++ back e (suc j)) ≡ out e (suc j) ++ back e (suc j)
+path_read e j = canonical_out e j (back e (suc j)) (λ y i. (back_within e (suc j) y i).0)
 
-  pub longer_minus : canonical (insert_before (minus (e + suc j)) (minus (e + suc (suc j))) (out e (suc (suc j)) ++ back e (suc j))) ≡ out e (suc (suc j)) ++ back e (suc (suc j))
-  longer_minus = ap canonical (insert_before_at (minus (e + suc j)) (minus (e + suc (suc j))) (out e (suc (suc j))) (back e j) (no_minus (e + suc j) e (suc (suc j))))
-      ∙ canonical_out e (suc j) (back e (suc (suc j))) (λ y i. (back_within e (suc (suc j)) y i).0)
-
-  -- the loop from its last minus half on
-  turned : rotate_to (minus (e + suc j)) (out e (suc j) ++ back e (suc j)) ≡ back e (suc j) ++ out e (suc j)
-  turned = rotate_at (minus (e + suc j)) (out e (suc j)) (back e j) (no_minus (e + suc j) e (suc j))
-
-  turned_at : rotate_to (minus (e + suc j)) (out e (suc j) ++ back e (suc j)) ≡ back e (suc j) ++ plus (e + 1) ∷ later e j
-  turned_at = turned ∙ ap (λ xs. back e (suc j) ++ xs) (out_first e j)
-
-  pub upto_first : upto (minus (e + suc j)) (plus (e + 1)) (out e (suc j) ++ back e (suc j)) ≡ back e (suc j)
-  upto_first = ap (before (plus (e + 1))) turned_at ∙ before_at (plus (e + 1)) (back e (suc j)) (later e j) (no_plus (e + 1) e (suc j))
-
-  pub onward_first : onward (minus (e + suc j)) (plus (e + 1)) (out e (suc j) ++ back e (suc j)) ≡ out e (suc j)
-  onward_first = ap (from (plus (e + 1))) turned_at ∙ from_at (plus (e + 1)) (back e (suc j)) (later e j) (no_plus (e + 1) e (suc j)) ∙ sym (out_first e j)
+pub longer : (e j : ℕ) → canonical (out e (suc j) ++ plus (e + suc (suc j)) ∷ minus (e + suc (suc j)) ∷ back e (suc j)) ≡ out e (suc (suc j)) ++ back e (suc (suc j))
+longer e j = ap canonical (sym (append_assoc (out e (suc j)) (plus (e + suc (suc j)) ∷ []) (back e (suc (suc j))))) ∙ path_read e (suc j)
 
 -- an item moved from the front to the end
 pub moved_last : (x : ℕ) (xs : List ℕ) → IsApart (xs ++ x ∷ []) → canonical (x ∷ xs) ≡ canonical (xs ++ x ∷ [])
@@ -135,15 +104,15 @@ pub first_moved : (x : ℕ) (xs : List ℕ) → IsApart (x ∷ xs) → canonical
 first_moved x xs apart = canonical_same (xs ++ x ∷ []) (x ∷ xs) (record { front = xs; back = x ∷ []; here = refl; there = refl }) (λ y. omega (arith, apart y, count-append y xs (x ∷ [])))
 
 -- the two loops of the closed ring
-pub ring_plus : (e j : ℕ) → canonical (plus (e + suc (suc j)) ∷ onward (minus (e + suc j)) (plus (e + 1)) (out e (suc j) ++ back e (suc j))) ≡ out e (suc (suc j))
-ring_plus e j = ap (λ xs. canonical (plus (e + suc (suc j)) ∷ xs)) (onward_first e j)
+pub ring_plus : (e j : ℕ) → canonical (plus (e + suc (suc j)) ∷ plus (e + 1) ∷ later e j) ≡ out e (suc (suc j))
+ring_plus e j = ap (λ xs. canonical (plus (e + suc (suc j)) ∷ xs)) (sym (out_first e j))
     ∙ moved_last (plus (e + suc (suc j))) (out e (suc j)) (out_apart e (suc (suc j)))
     ∙ ap canonical (sym (append-nil (out e (suc (suc j))))) ∙ canonical_out e (suc j) [] (λ y i. absurd (none i)) ∙ append-nil (out e (suc (suc j))) where
       none : 1 ≤ 0 → ⊥
       none l = omega arith
 
-pub ring_minus : (e j : ℕ) → canonical (upto (minus (e + suc j)) (plus (e + 1)) (out e (suc j) ++ back e (suc j)) ++ minus (e + suc (suc j)) ∷ []) ≡ canonical (back e (suc (suc j)))
-ring_minus e j = ap (λ xs. canonical (xs ++ minus (e + suc (suc j)) ∷ [])) (upto_first e j) ∙ first_moved (minus (e + suc (suc j))) (back e (suc j)) (back_apart e (suc (suc j)))
+pub ring_minus : (e j : ℕ) → canonical (back e (suc j) ++ minus (e + suc (suc j)) ∷ []) ≡ canonical (back e (suc (suc j)))
+ring_minus e j = first_moved (minus (e + suc (suc j))) (back e (suc j)) (back_apart e (suc (suc j)))
 
 -- the same lists from the numbers of the edges
 pub numbers_last : (e n : ℕ) → numbers_after e (suc n) ≡ numbers_after e n ++ (e + suc n) ∷ []
@@ -163,4 +132,4 @@ minus_halves e (suc n) = ap (λ xs. reverse (map minus xs)) (numbers_last e n) �
 
 -- the loop along one edge
 pub two_halves : (e : ℕ) → canonical (plus (e + 1) ∷ minus (e + 1) ∷ []) ≡ out e 1 ++ back e 1
-two_halves e = canonical_out e 0 (minus (e + 1) ∷ []) (λ y i. (back_within e 1 y i).0)
+two_halves e = path_read e 0

@@ -1,37 +1,33 @@
 -- Each operator of a lamina is accepted, and leads from one model of the path to the next.
 use Rattle.std.specs.Prelude.{map, reverse, length, get_or, ◌-◌}
-use Rattle.std.proofs.Common.{◌≡◌, ◌≢◌, ℕ, zero, suc, ◌+◌, ◌≤◌, ◌<◌, true, cond, List, [], ◌∷◌, ◌++◌, Some, None, unwrap_or, is_some, refl, sym, ap, ◌∙◌, arith, IsTrue}
+use Rattle.std.proofs.Common.{◌≡◌, ◌≢◌, ℕ, zero, suc, ◌+◌, ◌≤◌, ◌<◌, true, List, [], ◌∷◌, ◌++◌, Some, None, unwrap_or, is_some, refl, sym, ap, ◌∙◌, arith, IsTrue}
 use Rattle.euler_operators.specs.declared.Point.{Point}
 use Rattle.euler_operators.specs.Points.{IsInRange}
-use Rattle.euler_operators.specs.Items.{count, IsIn}
-use Rattle.euler_operators.specs.Rings.{canonical, upto, onward}
-use Rattle.euler_operators.specs.Rings as rings
-use Rattle.euler_operators.specs.Edits.{insert_before}
-use Rattle.euler_operators.proofs.Lists.{count-append, tick_same}
+use Rattle.euler_operators.specs.Rings.{canonical}
 use Rattle.euler_operators.specs.HalfEdge.{code, mate, edge_of, plus, minus}
 use Rattle.euler_operators.specs.Table as table
 use Rattle.euler_operators.specs.Table.{Table}
-use Rattle.euler_operators.specs.Model.{Model, LoopContent, cycle, EdgeRow, no_point, no_face, items_of, tail_in, content, face_of, solid_of, tail, loop_of, cycle_of, arc, holds, is_number}
+use Rattle.euler_operators.specs.Model.{Model, cycle, EdgeRow, no_point, no_face, content, face_of, solid_of, tail, is_number}
 use Rattle.euler_operators.specs.Sound.{Sound}
-use Rattle.euler_operators.proofs.Halves.{plus_row, minus_row, mate_plus}
-use Rattle.euler_operators.proofs.Models.{in-holds, holds-none, not_held, content_row, face_row, tail_row}
-use Rattle.euler_operators.proofs.Tables.{map_same, get-put_here, get-put_other, put-put}
-use Rattle.euler_operators.specs.Conditions.{first_false, lone_vertex, face_at}
-use Rattle.euler_operators.specs.Effect.{effect, edge_row, where_held, with_before, with_tails, mvfs, mev_lone, mev_at, mef}
-use Rattle.euler_operators.proofs.Tests.{nat_eq_itself}
-use Rattle.euler_laws.proofs.shared.Rows.{where_held_none, where_held_there, edge_row_plus}
+use Rattle.euler_operators.proofs.Halves.{plus_row, mate_plus}
+use Rattle.euler_operators.proofs.Models.{content_row, face_row, plus_tail_row, minus_tail_row}
+use Rattle.euler_operators.proofs.Tables.{get-put_here, get-put_other, put-put}
+use Rattle.euler_operators.specs.Conditions.{first_false, lone_vertex}
+use Rattle.euler_operators.specs.Effect.{effect, edge_row, mvfs, mev_lone, mef}
+use Rattle.euler_laws.proofs.shared.Rows.{edge_row_plus}
 use Rattle.euler_laws.proofs.mev.Mev.{lone_accepted, mev_accepted}
 use Rattle.euler_laws.proofs.mev.MevLoneSound.{LoneGoes}
-use Rattle.euler_laws.proofs.mev.MevSound.{MevGoes}
-use Rattle.euler_laws.proofs.mef.MefSound.{MefGoes}
 use Rattle.euler_laws.proofs.mef.Kef.{mef_accepted}
 use Rattle.euler_laws.proofs.faces.Solids.{mvfs_accepted}
-use Rattle.shapes.proofs.fresh.Rows.{greatest-put_last, none_above, map-put_last}
+use Rattle.shapes.proofs.fresh.Rows.{greatest-put_last, none_above}
 use Rattle.shapes.proofs.fresh.Tests.{Left, number_fits}
 use Rattle.shapes.specs.Fresh.{Taken, numbers_after}
 use Rattle.shapes.specs.Lamina.{with_points, with_path, with_ring, lamina_at}
 use Rattle.sweeps_laws.specs.lamina.Path.{out, back, path_content, path_at, first_half, second_half, first_point, next_point, last_edge}
-use Rattle.sweeps_laws.proofs.lamina.Lists.{two_halves, longer_plus, longer_minus, ring_plus, ring_minus, out_first, plus_halves, minus_halves}
+use Rattle.sweeps_laws.proofs.lamina.Lists.{two_halves, path_read, longer, later, ring_plus, ring_minus, out_first, plus_halves, minus_halves}
+use Rattle.euler_operators.proofs.Rotations.{canonical_same}
+use Rattle.euler_laws.proofs.shared.KnownLoop.{Around, apart_xs}
+use Rattle.sweeps_laws.proofs.prism.Steps.{spur_goes, mev_here, chord_goes, mef_here}
 
 -- ---- the tables of a path
 
@@ -51,27 +47,6 @@ first_row t e v zero = last_row t e v zero
 first_row t e v (suc j) = get-put_other (with_path t e v (suc j)) (e + suc (suc j)) (record { plus_tail = v + suc (suc j); minus_tail = v + suc (suc j) + 1 }) (e + 1) (apart e j) ∙ first_row t e v j where
   apart : (e j : ℕ) → e + 1 ≢ e + suc (suc j)
   apart e j p = absurd (omega arith)
-
--- ---- half-edges
-
-pub arc_itself : (next : ℕ → ℕ) (g n : ℕ) → rings.arc next g g n ≡ []
-arc_itself next g zero = refl
-arc_itself next g (suc n) = ap (λ b. cond b [] (g ∷ rings.arc next (next g) g n)) (nat_eq_itself g)
-
-pub arc_none : (M : Model) (g : ℕ) → arc M g g ≡ []
-unfolding arc
-arc_none M g = arc_itself _ g _
-
-no_tails : (t : Table EdgeRow) (v : ℕ) → table.map_rows (with_tails [] v) t ≡ t
-no_tails t v = map_same (with_tails [] v) t (λ q row at. refl)
-
--- ---- a new loop alone is rewritten
-
-module _ (M : Model) (sound : Sound M) (g : ℕ) (free : table.get M.edges (edge_of g) ≡ None) (new : List ℕ → LoopContent) (l f : ℕ) (xs : List ℕ) (there : IsIn g xs) where
-  held_one : table.map_rows (where_held g new) (table.put M.loops l (record { face = f; content = cycle xs })) ≡ table.put M.loops l (record { face = f; content = new xs })
-  held_one = map-put_last (where_held g new) M.loops l (record { face = f; content = cycle xs })
-      (λ q row at. where_held_none g new q row (holds-none g row.content (not_held M sound g free q row at)))
-      ∙ ap (table.put M.loops l) (where_held_there g new l (record { face = f; content = cycle xs }) (in-holds g (cycle xs) there))
 
 -- ---- the premises
 
@@ -148,10 +123,6 @@ module _ (M : Model) (c : Taken) (s : ℕ) (ps : List Point) (n : ℕ) (goes : G
     unfolding path_at solid_of
     solid_is = ap (λ o. (unwrap_or o no_face).solid) (get-put_here M.faces (c.face + 1) (record { solid = s; outer = c.loop + 1 }))
 
-    edges_are : (path_at M c s ps j).edges ≡ with_path M.edges c.edge c.vertex j
-    unfolding path_at
-    edges_are = refl
-
     -- the next edge and vertex are free
     next_edge_free : (h : ℕ) → edge_of h ≡ c.edge + suc j → table.get (path_at M c s ps j).edges (edge_of h) ≡ None
     unfolding path_at
@@ -208,88 +179,65 @@ module _ (M : Model) (c : Taken) (s : ℕ) (ps : List Point) (n : ℕ) (goes : G
   -- ---- a further point
 
   module _ (j : ℕ) where
-    turn_there : IsIn (minus (c.edge + suc j)) (out c.edge (suc j) ++ back c.edge (suc j))
-    turn_there = omega (arith, count-append (minus (c.edge + suc j)) (out c.edge (suc j)) (back c.edge (suc j)), tick_same (minus (c.edge + suc j)))
+    abbrev P : Model
+    P = path_at M c s ps (suc j)
 
-    turn_there_still : IsIn (minus (c.edge + suc j)) (out c.edge (suc (suc j)) ++ back c.edge (suc j))
-    turn_there_still = omega (arith, count-append (minus (c.edge + suc j)) (out c.edge (suc (suc j))) (back c.edge (suc j)), tick_same (minus (c.edge + suc j)))
+    -- the end of the path, and the edge that goes on from there
+    abbrev g : ℕ
+    g = minus (c.edge + suc j)
 
-    -- no half-edge of the path is in the model before
-    turn_free : table.get M.edges (edge_of (minus (c.edge + suc j))) ≡ None
-    turn_free = ap (table.get M.edges) (minus_row (c.edge + suc j)).0 ∙ none_above M.edges (c.edge + suc j) (omega (arith, goes.edges))
+    abbrev u : ℕ
+    u = c.edge + suc (suc j)
 
-    turn_row : table.get (path_at M c s ps (suc j)).edges (edge_of (minus (c.edge + suc j))) ≡ Some (record { plus_tail = c.vertex + suc j; minus_tail = c.vertex + suc j + 1 })
+    abbrev v : ℕ
+    v = c.vertex + suc (suc (suc j))
+
+    abbrev p : Point
+    p = get_or ps (suc (suc j)) no_point
+
+    u_free : table.get P.edges u ≡ None
     unfolding path_at
-    turn_row = ap (table.get (with_path M.edges c.edge c.vertex (suc j))) (minus_row (c.edge + suc j)).0 ∙ last_row M.edges c.edge c.vertex j
+    u_free = edge_free (suc j) (suc (suc j)) (omega arith)
 
-    turn_tail : tail (path_at M c s ps (suc j)) (minus (c.edge + suc j)) ≡ c.vertex + suc (suc j)
-    turn_tail = tail_row (path_at M c s ps (suc j)) (minus (c.edge + suc j)) (record { plus_tail = c.vertex + suc j; minus_tail = c.vertex + suc j + 1 }) turn_row
-        ∙ ap (tail_in (record { plus_tail = c.vertex + suc j; minus_tail = c.vertex + suc j + 1 })) (minus_row (c.edge + suc j)).1 ∙ omega arith
-
-    further_goes : suc (suc j) < n → MevGoes (path_at M c s ps (suc j)) (minus (c.edge + suc j)) (minus (c.edge + suc j)) (plus (c.edge + suc (suc j))) (c.vertex + suc (suc (suc j))) (get_or ps (suc (suc j)) no_point)
-    further_goes l = record {
-      g_there = ap is_some turn_row;
-      k_there = ap is_some turn_row;
-      edge_free = next_edge_free (suc j) (plus (c.edge + suc (suc j))) (plus_row (c.edge + suc (suc j))).0;
-      vertex_free = next_vertex_free (suc j);
-      one_tail = refl;
-      edge_fits = ap is_number (plus_row (c.edge + suc (suc j))).0 ∙ edge_fits (suc (suc j)) (omega arith) (omega (arith, l));
-      vertex_fits = vertex_fits (suc (suc (suc j))) (omega arith) (omega (arith, l));
-      point_fits = goes.points_fit (suc (suc j)) l;
-    }
-
-    pub further_accepted : suc (suc j) < n → Sound (path_at M c s ps (suc j)) → first_false (path_at M c s ps (suc j)) (next_point c ps (suc j)) ≡ None
-    unfolding code
-    further_accepted l sound = mev_accepted (path_at M c s ps (suc j)) (second_half (c.edge + suc j)) (second_half (c.edge + suc j)) (first_half (c.edge + suc (suc j)))
-        (c.vertex + suc (suc (suc j))) (get_or ps (suc (suc j)) no_point) sound (further_goes l)
-
-    further_loop : table.map_rows (with_before (minus (c.edge + suc j)) (mate (plus (c.edge + suc (suc j))))) (table.map_rows (with_before (minus (c.edge + suc j)) (plus (c.edge + suc (suc j)))) (path_at M c s ps (suc j)).loops)
-        ≡ table.put M.loops (c.loop + 1) (record { face = c.face + 1; content = path_content c (suc (suc j)) })
+    turn_row : table.get P.edges (c.edge + suc j) ≡ Some (record { plus_tail = c.vertex + suc j; minus_tail = c.vertex + suc j + 1 })
     unfolding path_at
-    further_loop = (λ i. table.map_rows (with_before (minus (c.edge + suc j)) (mate_plus (c.edge + suc (suc j)) i)) (held_one M goes.sound (minus (c.edge + suc j)) turn_free (λ hs. cycle (canonical (insert_before (minus (c.edge + suc j)) (plus (c.edge + suc (suc j))) hs))) (c.loop + 1) (c.face + 1) (out c.edge (suc j) ++ back c.edge (suc j)) turn_there i))
-        ∙ (λ i. table.map_rows (with_before (minus (c.edge + suc j)) (minus (c.edge + suc (suc j)))) (table.put M.loops (c.loop + 1) (record { face = c.face + 1; content = cycle (longer_plus c.edge j i) })))
-        ∙ held_one M goes.sound (minus (c.edge + suc j)) turn_free (λ hs. cycle (canonical (insert_before (minus (c.edge + suc j)) (minus (c.edge + suc (suc j))) hs))) (c.loop + 1) (c.face + 1) (out c.edge (suc (suc j)) ++ back c.edge (suc j)) turn_there_still
-        ∙ (λ i. table.put M.loops (c.loop + 1) (record { face = c.face + 1; content = cycle (longer_minus c.edge j i) }))
+    turn_row = last_row M.edges c.edge c.vertex j
 
-    further_edges : table.put (table.map_rows (with_tails (arc (path_at M c s ps (suc j)) (minus (c.edge + suc j)) (minus (c.edge + suc j))) (c.vertex + suc (suc (suc j)))) (path_at M c s ps (suc j)).edges)
-        (edge_of (plus (c.edge + suc (suc j)))) (edge_row (plus (c.edge + suc (suc j))) (tail (path_at M c s ps (suc j)) (minus (c.edge + suc j))) (c.vertex + suc (suc (suc j))))
-        ≡ with_path M.edges c.edge c.vertex (suc (suc j))
-    further_edges = (λ i. table.put (table.map_rows (with_tails (arc_none (path_at M c s ps (suc j)) (minus (c.edge + suc j)) i) (c.vertex + suc (suc (suc j)))) (path_at M c s ps (suc j)).edges)
-        ((plus_row (c.edge + suc (suc j))).0 i) (edge_row_plus (c.edge + suc (suc j)) (turn_tail i) (c.vertex + suc (suc (suc j))) i))
-        ∙ (λ i. table.put (no_tails (path_at M c s ps (suc j)).edges (c.vertex + suc (suc (suc j))) i) (c.edge + suc (suc j)) (record { plus_tail = c.vertex + suc (suc j); minus_tail = next c.vertex j i }))
-        ∙ ap (λ t. table.put t (c.edge + suc (suc j)) (record { plus_tail = c.vertex + suc (suc j); minus_tail = c.vertex + suc (suc j) + 1 })) (edges_are (suc j)) where
-          next : (v j : ℕ) → v + suc (suc (suc j)) ≡ v + suc (suc j) + 1
-          next v j = omega arith
+    turn_tail : tail P g ≡ c.vertex + suc (suc j)
+    turn_tail = minus_tail_row P (c.edge + suc j) _ turn_row ∙ omega arith
 
-    pub further_made : effect (path_at M c s ps (suc j)) (next_point c ps (suc j)) ≡ path_at M c s ps (suc (suc j))
-    unfolding effect mev_at code path_at
-    further_made = λ i. record {
-      solids = table.put M.solids s tt;
-      faces = table.put M.faces (c.face + 1) (record { solid = s; outer = c.loop + 1 });
-      loops = further_loop i;
-      edges = further_edges i;
-      vertices = with_points M.vertices c.vertex ps (suc (suc (suc j)));
-    }
+    module _ (sound : Sound P) where
+      around : Around P (c.loop + 1) (c.face + 1) (out c.edge (suc j) ++ back c.edge (suc j))
+      around = record { sound = sound; at = loop_is (suc j) ∙ ap (λ xs. Some (record { face = c.face + 1; content = cycle xs })) (sym (path_read c.edge j)) }
+
+      pub further_accepted : suc (suc j) < n → first_false P (next_point c ps (suc j)) ≡ None
+      unfolding code
+      further_accepted l = mev_accepted P (second_half (c.edge + suc j)) (second_half (c.edge + suc j)) (first_half u) v p sound
+          (spur_goes P (c.loop + 1) (c.face + 1) (out c.edge (suc j)) (back c.edge j) g u v p around u_free (next_vertex_free (suc j))
+          (edge_fits (suc (suc j)) (omega arith) (omega (arith, l))) (vertex_fits (suc (suc (suc j))) (omega arith) (omega (arith, l))) (goes.points_fit (suc (suc j)) l))
+
+      one_on : c.vertex + suc (suc (suc j)) ≡ c.vertex + suc (suc j) + 1
+      one_on = omega arith
+
+      pub further_made : effect P (next_point c ps (suc j)) ≡ path_at M c s ps (suc (suc j))
+      unfolding effect code path_at
+      further_made = mev_here P (c.loop + 1) (c.face + 1) (out c.edge (suc j)) (back c.edge j) g u v p around u_free ∙ (λ i. record {
+        solids = table.put M.solids s tt;
+        faces = table.put M.faces (c.face + 1) (record { solid = s; outer = c.loop + 1 });
+        loops = (put-put M.loops (c.loop + 1) (record { face = c.face + 1; content = path_content c (suc j) }) (record { face = c.face + 1; content = cycle (canonical (out c.edge (suc j) ++ plus u ∷ minus u ∷ back c.edge (suc j))) }) ∙ ap (λ xs. table.put M.loops (c.loop + 1) (record { face = c.face + 1; content = cycle xs })) (longer c.edge j)) i;
+        edges = table.put (with_path M.edges c.edge c.vertex (suc j)) u (record { plus_tail = turn_tail i; minus_tail = one_on i });
+        vertices = with_points M.vertices c.vertex ps (suc (suc (suc j)));
+      })
 
   -- ---- the last edge
 
   module _ (j : ℕ) (sound : Sound (path_at M c s ps (suc j))) where
-    start_there : IsIn (plus (c.edge + 1)) (out c.edge (suc j) ++ back c.edge (suc j))
-    start_there = omega (arith, count-append (plus (c.edge + 1)) (out c.edge (suc j)) (back c.edge (suc j)), ap (count (plus (c.edge + 1))) (out_first c.edge j), tick_same (plus (c.edge + 1)))
-
-    stands : (h : ℕ) → IsIn h (out c.edge (suc j) ++ back c.edge (suc j)) → loop_of (path_at M c s ps (suc j)) h ≡ c.loop + 1
-    stands h i = sound.one_loop h (c.loop + 1) (ap (holds h) (content_is (suc j)) ∙ in-holds h (cycle (out c.edge (suc j) ++ back c.edge (suc j))) i)
-
-    turn_loop : loop_of (path_at M c s ps (suc j)) (minus (c.edge + suc j)) ≡ c.loop + 1
-    turn_loop = stands (minus (c.edge + suc j)) (turn_there j)
-
-    start_row : table.get (path_at M c s ps (suc j)).edges (edge_of (plus (c.edge + 1))) ≡ Some (record { plus_tail = c.vertex + 1; minus_tail = c.vertex + 1 + 1 })
+    start_row : table.get (path_at M c s ps (suc j)).edges (c.edge + 1) ≡ Some (record { plus_tail = c.vertex + 1; minus_tail = c.vertex + 1 + 1 })
     unfolding path_at
-    start_row = ap (table.get (with_path M.edges c.edge c.vertex (suc j))) (plus_row (c.edge + 1)).0 ∙ first_row M.edges c.edge c.vertex j
+    start_row = first_row M.edges c.edge c.vertex j
 
     start_tail : tail (path_at M c s ps (suc j)) (plus (c.edge + 1)) ≡ c.vertex + 1
-    start_tail = tail_row (path_at M c s ps (suc j)) (plus (c.edge + 1)) (record { plus_tail = c.vertex + 1; minus_tail = c.vertex + 1 + 1 }) start_row
-        ∙ ap (tail_in (record { plus_tail = c.vertex + 1; minus_tail = c.vertex + 1 + 1 })) (plus_row (c.edge + 1)).1
+    start_tail = plus_tail_row (path_at M c s ps (suc j)) (c.edge + 1) _ start_row
 
     second_face_free : table.get (path_at M c s ps (suc j)).faces (c.face + 2) ≡ None
     unfolding path_at
@@ -300,53 +248,19 @@ module _ (M : Model) (c : Taken) (s : ℕ) (ps : List Point) (n : ℕ) (goes : G
     second_loop_free = none_above (table.put M.loops (c.loop + 1) (record { face = c.face + 1; content = path_content c (suc j) })) (c.loop + 2)
         (omega (arith, greatest-put_last M.loops (c.loop + 1) (record { face = c.face + 1; content = path_content c (suc j) }) above_loop))
 
-    last_goes : n ≡ suc (suc j) → MefGoes (path_at M c s ps (suc j)) (minus (c.edge + suc j)) (plus (c.edge + 1)) (plus (c.edge + suc (suc j))) (c.face + 2) (c.loop + 2)
-    last_goes all = record {
-      g_there = ap is_some (turn_row j);
-      k_there = ap is_some start_row;
-      edge_free = next_edge_free (suc j) (plus (c.edge + suc (suc j))) (plus_row (c.edge + suc (suc j))).0;
-      face_free = second_face_free;
-      loop_free = second_loop_free;
-      one_loop = stands (plus (c.edge + 1)) start_there ∙ sym turn_loop;
-      ends_apart = λ e. absurd (omega (arith, e, turn_tail j, start_tail));
-      edge_fits = ap is_number (plus_row (c.edge + suc (suc j))).0 ∙ edge_fits (suc (suc j)) (omega arith) (omega (arith, all));
-      face_fits = face_fits 2 (omega arith) (omega arith);
-      loop_fits = loop_fits 2 (omega arith) (omega arith);
+    -- the loop from the end of the path on
+    turned : Around (path_at M c s ps (suc j)) (c.loop + 1) (c.face + 1) (back c.edge (suc j) ++ plus (c.edge + 1) ∷ later c.edge j)
+    turned = record {
+      sound = sound;
+      at = (around j sound).at ∙ ap (λ xs. Some (record { face = c.face + 1; content = cycle xs })) (canonical_same (out c.edge (suc j) ++ back c.edge (suc j)) (back c.edge (suc j) ++ plus (c.edge + 1) ∷ later c.edge j)
+          (record { front = out c.edge (suc j); back = back c.edge (suc j); here = refl; there = ap (λ xs. back c.edge (suc j) ++ xs) (sym (out_first c.edge j)) }) (apart_xs (path_at M c s ps (suc j)) (c.loop + 1) (c.face + 1) (out c.edge (suc j) ++ back c.edge (suc j)) (around j sound)));
     }
 
     pub last_accepted : n ≡ suc (suc j) → first_false (path_at M c s ps (suc j)) (last_edge c (suc j)) ≡ None
     unfolding code
-    last_accepted all = mef_accepted (path_at M c s ps (suc j)) (second_half (c.edge + suc j)) (first_half (c.edge + 1)) (first_half (c.edge + suc (suc j))) (c.face + 2) (c.loop + 2) sound (last_goes all)
-
-    last_solid : solid_of (path_at M c s ps (suc j)) (face_at (path_at M c s ps (suc j)) (minus (c.edge + suc j))) ≡ s
-    last_solid = ap (solid_of (path_at M c s ps (suc j))) (ap (face_of (path_at M c s ps (suc j))) turn_loop ∙ face_is (suc j)) ∙ solid_is (suc j)
-
-    last_faces : table.put (path_at M c s ps (suc j)).faces (c.face + 2) (record { solid = solid_of (path_at M c s ps (suc j)) (face_at (path_at M c s ps (suc j)) (minus (c.edge + suc j))); outer = c.loop + 2 })
-        ≡ table.put (table.put M.faces (c.face + 1) (record { solid = s; outer = c.loop + 1 })) (c.face + 2) (record { solid = s; outer = c.loop + 2 })
-    unfolding path_at
-    last_faces = ap (λ t. table.put (table.put M.faces (c.face + 1) (record { solid = s; outer = c.loop + 1 })) (c.face + 2) (record { solid = t; outer = c.loop + 2 })) last_solid
-
-    -- the two loops, first as the operator makes them
-    last_cycle : cycle_of (path_at M c s ps (suc j)) (minus (c.edge + suc j)) ≡ out c.edge (suc j) ++ back c.edge (suc j)
-    last_cycle = ap items_of (ap (content (path_at M c s ps (suc j))) turn_loop ∙ content_is (suc j))
-
-    old_loop : table.map_rows (where_held (minus (c.edge + suc j)) (λ hs. cycle (canonical (plus (c.edge + suc (suc j)) ∷ onward (minus (c.edge + suc j)) (plus (c.edge + 1)) hs)))) (path_at M c s ps (suc j)).loops
-        ≡ table.put M.loops (c.loop + 1) (record { face = c.face + 1; content = cycle (map plus (numbers_after c.edge (suc (suc j)))) })
-    unfolding path_at
-    old_loop = held_one M goes.sound (minus (c.edge + suc j)) (turn_free j) (λ hs. cycle (canonical (plus (c.edge + suc (suc j)) ∷ onward (minus (c.edge + suc j)) (plus (c.edge + 1)) hs))) (c.loop + 1) (c.face + 1) (out c.edge (suc j) ++ back c.edge (suc j)) (turn_there j)
-        ∙ ap (λ xs. table.put M.loops (c.loop + 1) (record { face = c.face + 1; content = cycle xs })) (ring_plus c.edge j ∙ sym (plus_halves c.edge (suc (suc j))))
-
-    new_list : canonical (upto (minus (c.edge + suc j)) (plus (c.edge + 1)) (cycle_of (path_at M c s ps (suc j)) (minus (c.edge + suc j))) ++ mate (plus (c.edge + suc (suc j))) ∷ [])
-        ≡ canonical (reverse (map minus (numbers_after c.edge (suc (suc j)))))
-    new_list = (λ i. canonical (upto (minus (c.edge + suc j)) (plus (c.edge + 1)) (last_cycle i) ++ mate_plus (c.edge + suc (suc j)) i ∷ [])) ∙ ring_minus c.edge j ∙ ap canonical (sym (minus_halves c.edge (suc (suc j))))
-
-    last_edges : table.put (path_at M c s ps (suc j)).edges (edge_of (plus (c.edge + suc (suc j))))
-        (edge_row (plus (c.edge + suc (suc j))) (tail (path_at M c s ps (suc j)) (minus (c.edge + suc j))) (tail (path_at M c s ps (suc j)) (plus (c.edge + 1))))
-        ≡ with_ring M.edges c.edge c.vertex (suc (suc j))
-    last_edges = (λ i. table.put (edges_are (suc j) i) ((plus_row (c.edge + suc (suc j))).0 i) (edge_row_plus (c.edge + suc (suc j)) (turn_tail j i) (start_tail i) i))
-        ∙ ap (λ k. table.put (with_path M.edges c.edge c.vertex k) (c.edge + suc (suc j)) (record { plus_tail = c.vertex + suc (suc j); minus_tail = c.vertex + 1 })) (one_less j) where
-          one_less : (j : ℕ) → suc j ≡ suc (suc j) - 1
-          one_less j = omega arith
+    last_accepted all = mef_accepted (path_at M c s ps (suc j)) (second_half (c.edge + suc j)) (first_half (c.edge + 1)) (first_half (u j)) (c.face + 2) (c.loop + 2) sound
+        (chord_goes (path_at M c s ps (suc j)) (c.loop + 1) (c.face + 1) (g j) (plus (c.edge + 1)) (back c.edge j) (later c.edge j) (u j) (c.face + 2) (c.loop + 2) turned (u_free j) second_loop_free second_face_free
+        (λ e. absurd (omega (arith, e, turn_tail j, start_tail))) (edge_fits (suc (suc j)) (omega arith) (omega (arith, all))) (face_fits 2 (omega arith) (omega arith)) (loop_fits 2 (omega arith) (omega arith)))
 
     -- the lamina over n points
     abbrev pub closed_at : ℕ → Model
@@ -358,15 +272,25 @@ module _ (M : Model) (c : Taken) (s : ℕ) (ps : List Point) (n : ℕ) (goes : G
       vertices = with_points M.vertices c.vertex ps k;
     }
 
-    closes : mef (path_at M c s ps (suc j)) (minus (c.edge + suc j)) (plus (c.edge + 1)) (plus (c.edge + suc (suc j))) (c.face + 2) (c.loop + 2) ≡ closed_at (suc (suc j))
-    unfolding mef path_at
-    closes = λ i. record {
+    -- its two loops, and its edges
+    out_is : canonical (plus (u j) ∷ plus (c.edge + 1) ∷ later c.edge j) ≡ map plus (numbers_after c.edge (suc (suc j)))
+    out_is = ring_plus c.edge j ∙ sym (plus_halves c.edge (suc (suc j)))
+
+    back_is : canonical (back c.edge (suc j) ++ minus (u j) ∷ []) ≡ canonical (reverse (map minus (numbers_after c.edge (suc (suc j)))))
+    back_is = ring_minus c.edge j ∙ ap canonical (sym (minus_halves c.edge (suc (suc j))))
+
+    one_less : suc j ≡ suc (suc j) - 1
+    one_less = omega arith
+
+    closes : mef (path_at M c s ps (suc j)) (g j) (plus (c.edge + 1)) (plus (u j)) (c.face + 2) (c.loop + 2) ≡ closed_at (suc (suc j))
+    unfolding path_at
+    closes = mef_here (path_at M c s ps (suc j)) (c.loop + 1) (c.face + 1) (g j) (plus (c.edge + 1)) (back c.edge j) (later c.edge j) (u j) (c.face + 2) (c.loop + 2) turned (u_free j) second_loop_free ∙ (λ i. record {
       solids = table.put M.solids s tt;
-      faces = last_faces i;
-      loops = table.put (old_loop i) (c.loop + 2) (record { face = c.face + 2; content = cycle (new_list i) });
-      edges = last_edges i;
+      faces = table.put (table.put M.faces (c.face + 1) (record { solid = s; outer = c.loop + 1 })) (c.face + 2) (record { solid = solid_is (suc j) i; outer = c.loop + 2 });
+      loops = table.put ((put-put M.loops (c.loop + 1) (record { face = c.face + 1; content = path_content c (suc j) }) (record { face = c.face + 1; content = cycle (canonical (plus (u j) ∷ plus (c.edge + 1) ∷ later c.edge j)) }) ∙ ap (λ xs. table.put M.loops (c.loop + 1) (record { face = c.face + 1; content = cycle xs })) out_is) i) (c.loop + 2) (record { face = c.face + 2; content = cycle (back_is i) });
+      edges = table.put (with_path M.edges c.edge c.vertex (one_less i)) (u j) (record { plus_tail = turn_tail j i; minus_tail = start_tail i });
       vertices = with_points M.vertices c.vertex ps (suc (suc j));
-    }
+    })
 
     pub last_made : length ps ≡ suc (suc j) → effect (path_at M c s ps (suc j)) (last_edge c (suc j)) ≡ lamina_at M c s ps
     unfolding effect code

@@ -53,16 +53,16 @@ module _ (M : Model) (c : Taken) (s : ℕ) (ps : List Point) (n : ℕ) (goes : G
   -- each operator on the way is accepted and leads on
   pub next_accepted : (j : ℕ) → suc j < n → Sound (path_at M c s ps j) → first_false (path_at M c s ps j) (next_point c ps j) ≡ None
   next_accepted zero l sound = second_accepted M c s ps n goes sound
-  next_accepted (suc j) l sound = further_accepted M c s ps n goes j l sound
+  next_accepted (suc j) l sound = further_accepted M c s ps n goes j sound l
 
-  pub next_made : (j : ℕ) → effect (path_at M c s ps j) (next_point c ps j) ≡ path_at M c s ps (suc j)
-  next_made zero = second_made M c s ps n goes
-  next_made (suc j) = further_made M c s ps n goes j
+  pub next_made : (j : ℕ) → Sound (path_at M c s ps j) → effect (path_at M c s ps j) (next_point c ps j) ≡ path_at M c s ps (suc j)
+  next_made zero sound = second_made M c s ps n goes
+  next_made (suc j) sound = further_made M c s ps n goes j sound
 
   pub path_sound : (j : ℕ) → j < n → Sound (path_at M c s ps j)
   path_sound zero l = subst Sound (first_made M c s ps n goes) (effect_keeps_sound M (first_point c s ps) goes.sound (first_accepted M c s ps n goes))
   path_sound (suc j) l = let before : Sound (path_at M c s ps j) = path_sound j (omega (arith, l)) in
-      subst Sound (next_made j) (effect_keeps_sound (path_at M c s ps j) (next_point c ps j) before (next_accepted j l before))
+      subst Sound (next_made j before) (effect_keeps_sound (path_at M c s ps j) (next_point c ps j) before (next_accepted j l before))
 
   -- the last one closes the ring
   pub close_accepted : (j : ℕ) → n ≡ suc j → first_false (path_at M c s ps j) (last_edge c j) ≡ None
@@ -78,7 +78,7 @@ module _ (M : Model) (c : Taken) (s : ℕ) (ps : List Point) (n : ℕ) (goes : G
   walked zero l = leads_none (path_at M c s ps 0)
   walked (suc j) l = let m : j < n = omega (arith, l) in
       leads_on (path_at M c s ps 0) (path_at M c s ps j) (path_at M c s ps (suc j)) (further_points c ps j) (next_point c ps j ∷ []) (walked j m)
-      (leads_one (path_at M c s ps j) (path_at M c s ps (suc j)) (next_point c ps j) (next_accepted M c s ps n goes j l (path_sound M c s ps n goes j m)) (next_made M c s ps n goes j))
+      (leads_one (path_at M c s ps j) (path_at M c s ps (suc j)) (next_point c ps j) (next_accepted M c s ps n goes j l (path_sound M c s ps n goes j m)) (next_made M c s ps n goes j (path_sound M c s ps n goes j m)))
 
   all_lead : (j : ℕ) → n ≡ suc j → length ps ≡ n → Leads M (lamina_at M c s ps) (first_point c s ps ∷ further_points c ps j ++ last_edge c j ∷ [])
   all_lead j all is =

@@ -1,5 +1,5 @@
 -- What mev at one corner and mef make of a sound model of which one loop is known.
-use Rattle.std.proofs.Common.{◌≡◌, ◌≢◌, ℕ, List, [], ◌∷◌, ◌++◌, None, IsTrue, refl, sym, ap, ◌∙◌, subst, arith}
+use Rattle.std.proofs.Common.{cond, suc, zero, ◌≡◌, ◌≢◌, ℕ, List, [], ◌∷◌, ◌++◌, None, IsTrue, refl, sym, ap, ◌∙◌, subst, arith}
 use Rattle.euler_operators.specs.declared.Point.{Point}
 use Rattle.euler_operators.specs.Points.{IsInRange}
 use Rattle.euler_operators.specs.declared.Corner.TheVariants.{At}
@@ -12,9 +12,10 @@ use Rattle.euler_operators.proofs.Cuts.{upto_itself, onward_itself, upto_once}
 use Rattle.euler_operators.proofs.Edits.{count-insert_before}
 use Rattle.euler_operators.proofs.Operators.{apart_front}
 use Rattle.euler_operators.specs.HalfEdge.{edge_of, plus, minus, code, half}
+use Rattle.euler_operators.specs.Rings as rings
+use Rattle.euler_operators.proofs.Tests.{nat_eq_itself}
 use Rattle.euler_operators.specs.Table as table
 use Rattle.euler_operators.specs.Model.{Model, EdgeRow, cycle, tail, loop_of, face_of, solid_of, cycle_of, arc, is_number}
-use Rattle.euler_operators.specs.Sound.{HasHalf}
 use Rattle.euler_operators.proofs.Halves.{plus_row, minus_row, code-half, mate_plus, plus_other}
 use Rattle.euler_operators.proofs.Tables.{map_one, map_same, map-put, put-put}
 use Rattle.euler_operators.proofs.Models.{in-holds, not_held, other_loop}
@@ -28,8 +29,15 @@ use Rattle.euler_laws.proofs.mev.Mev.{mev_accepted}
 use Rattle.euler_laws.proofs.mef.MefUndo.{loops-mef}
 use Rattle.euler_laws.proofs.mef.MefSound.{MefGoes}
 use Rattle.euler_laws.proofs.mef.Kef.{mef_accepted}
-use Rattle.sweeps_laws.proofs.lamina.Steps.{arc_none}
 use Rattle.euler_laws.proofs.shared.KnownLoop.{Around, face_is, canonical_apart, apart_xs, loop_is, half_is, cycle_is, rotated_canonical}
+
+pub arc_itself : (next : ℕ → ℕ) (g n : ℕ) → rings.arc next g g n ≡ []
+arc_itself next g zero = refl
+arc_itself next g (suc n) = ap (λ b. cond b [] (g ∷ rings.arc next (next g) g n)) (nat_eq_itself g)
+
+pub arc_none : (M : Model) (g : ℕ) → arc M g g ≡ []
+unfolding arc
+arc_none M g = arc_itself _ g _
 
 pub edge_plus : (e : ℕ) → edge_of (plus e) ≡ e
 edge_plus e = (plus_row e).0
@@ -112,21 +120,22 @@ module _ (M : Model) (l f : ℕ) (ps qs : List ℕ) (g u v : ℕ) (p : Point) (a
   unfolding effect
   mev_does = (λ i. mev_at M (code-half g i) (code-half g i) (code-half (plus u) i) v p) ∙ mev_here
 
+  pub spur_goes : table.get M.vertices v ≡ None → IsTrue (is_number u) → IsTrue (is_number v) → IsInRange p → MevGoes M g g (plus u) v p
+  spur_goes vertex_free edge_fits vertex_fits point_fits = record {
+    g_there = half_is M l f (ps ++ g ∷ qs) a g g_in;
+    k_there = half_is M l f (ps ++ g ∷ qs) a g g_in;
+    edge_free = ap (table.get M.edges) (edge_plus u) ∙ edge_free;
+    vertex_free = vertex_free;
+    one_tail = refl;
+    edge_fits = ap is_number (edge_plus u) ∙ edge_fits;
+    vertex_fits = vertex_fits;
+    point_fits = point_fits;
+  }
+
   pub mev_fits : table.get M.vertices v ≡ None → IsTrue (is_number u) → IsTrue (is_number v) → IsInRange p → first_false M (Mev (At (half g)) (At (half g)) (half (plus u)) v p) ≡ None
-  mev_fits vertex_free edge_fits vertex_fits point_fits =
-      let there : HasHalf M g = half_is M l f (ps ++ g ∷ qs) a g g_in in
-      let goes : MevGoes M g g (plus u) v p = record {
-        g_there = there;
-        k_there = there;
-        edge_free = ap (table.get M.edges) (edge_plus u) ∙ edge_free;
-        vertex_free = vertex_free;
-        one_tail = refl;
-        edge_fits = ap is_number (edge_plus u) ∙ edge_fits;
-        vertex_fits = vertex_fits;
-        point_fits = point_fits;
-      } in
-      mev_accepted M (half g) (half g) (half (plus u)) v p a.sound
-      (subst (λ x. MevGoes M x x (code (half (plus u))) v p) (sym (code-half g)) (subst (λ x. MevGoes M g g x v p) (sym (code-half (plus u))) goes))
+  mev_fits vertex_free edge_fits vertex_fits point_fits = mev_accepted M (half g) (half g) (half (plus u)) v p a.sound
+      (subst (λ x. MevGoes M x x (code (half (plus u))) v p) (sym (code-half g))
+      (subst (λ x. MevGoes M g g x v p) (sym (code-half (plus u))) (spur_goes vertex_free edge_fits vertex_fits point_fits)))
 
 -- the model with loop l parted in two, and one more edge and face
 abbrev pub with_chord : Model → ℕ → ℕ → List ℕ → ℕ → EdgeRow → ℕ → ℕ → List ℕ → Model
@@ -168,19 +177,21 @@ module _ (M : Model) (l f : ℕ) (g k : ℕ) (ps qs : List ℕ) (t s r : ℕ) (a
   unfolding effect
   mef_does = (λ i. mef M (code-half g i) (code-half k i) (code-half (plus t) i) s r) ∙ mef_here
 
+  pub chord_goes : table.get M.faces s ≡ None → tail M g ≢ tail M k → IsTrue (is_number t) → IsTrue (is_number s) → IsTrue (is_number r) → MefGoes M g k (plus t) s r
+  chord_goes face_free ends_apart edge_fits face_fits loop_fits = record {
+    g_there = half_is M l f ((g ∷ ps) ++ k ∷ qs) a g first_in;
+    k_there = half_is M l f ((g ∷ ps) ++ k ∷ qs) a k second_in;
+    edge_free = ap (table.get M.edges) (edge_plus t) ∙ edge_free;
+    face_free = face_free;
+    loop_free = loop_free;
+    one_loop = loop_is M l f ((g ∷ ps) ++ k ∷ qs) a k second_in ∙ sym (loop_is M l f ((g ∷ ps) ++ k ∷ qs) a g first_in);
+    ends_apart = ends_apart;
+    edge_fits = ap is_number (edge_plus t) ∙ edge_fits;
+    face_fits = face_fits;
+    loop_fits = loop_fits;
+  }
+
   pub mef_fits : table.get M.faces s ≡ None → tail M g ≢ tail M k → IsTrue (is_number t) → IsTrue (is_number s) → IsTrue (is_number r) → first_false M (Mef (half g) (half k) (half (plus t)) s r) ≡ None
-  mef_fits face_free ends_apart edge_fits face_fits loop_fits =
-      let goes : MefGoes M g k (plus t) s r = record {
-        g_there = half_is M l f ((g ∷ ps) ++ k ∷ qs) a g first_in;
-        k_there = half_is M l f ((g ∷ ps) ++ k ∷ qs) a k second_in;
-        edge_free = ap (table.get M.edges) (edge_plus t) ∙ edge_free;
-        face_free = face_free;
-        loop_free = loop_free;
-        one_loop = loop_is M l f ((g ∷ ps) ++ k ∷ qs) a k second_in ∙ sym (loop_is M l f ((g ∷ ps) ++ k ∷ qs) a g first_in);
-        ends_apart = ends_apart;
-        edge_fits = ap is_number (edge_plus t) ∙ edge_fits;
-        face_fits = face_fits;
-        loop_fits = loop_fits;
-      } in
-      mef_accepted M (half g) (half k) (half (plus t)) s r a.sound
-      (subst (λ x. MefGoes M x (code (half k)) (code (half (plus t))) s r) (sym (code-half g)) (subst (λ x. MefGoes M g x (code (half (plus t))) s r) (sym (code-half k)) (subst (λ x. MefGoes M g k x s r) (sym (code-half (plus t))) goes)))
+  mef_fits face_free ends_apart edge_fits face_fits loop_fits = mef_accepted M (half g) (half k) (half (plus t)) s r a.sound
+      (subst (λ x. MefGoes M x (code (half k)) (code (half (plus t))) s r) (sym (code-half g)) (subst (λ x. MefGoes M g x (code (half (plus t))) s r) (sym (code-half k))
+      (subst (λ x. MefGoes M g k x s r) (sym (code-half (plus t))) (chord_goes face_free ends_apart edge_fits face_fits loop_fits))))
