@@ -1,6 +1,5 @@
 pub mod Round
 pub mod Stages
-pub mod Mates
 pub mod Turn
 pub mod Ending
 pub mod Opening

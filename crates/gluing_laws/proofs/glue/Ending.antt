@@ -32,7 +32,6 @@ use Rattle.shapes.proofs.glue.Facing as facing
 use Rattle.shapes.proofs.glue.Facing.{Facing}
 use Rattle.gluing_laws.proofs.glue.Stages as stages
 use Rattle.gluing_laws.proofs.glue.Stages.{Stage}
-use Rattle.gluing_laws.proofs.glue.Mates as mates
 
 -- the same with f's loop and face, and the last item's partner, gone
 abbrev pub glued_all : Model → ℕ → ℕ → (ℕ → ℕ) → List ℕ → Model
@@ -79,7 +78,7 @@ module _ (M : Model) (f g : ℕ) (partner_of : ℕ → ℕ) (hs : List ℕ) (x :
   m_there = mate_there N (partner_of h) g_there
 
   q_l : q ≢ l
-  q_l = mates.mate_else w h (omega (arith, tick_same h))
+  q_l = stages.mate_else M f g partner_of hs x h done (h ∷ []) w h (omega (arith, tick_same h))
 
   loop_g : loop_of N (mate m) ≡ l
   loop_g = ap (loop_of N) (mate-mate (partner_of h)) ∙ loop_is N l f (h ∷ partner_of h ∷ []) around_l (partner_of h) g_in
@@ -153,7 +152,7 @@ module _ (M : Model) (f g : ℕ) (partner_of : ℕ → ℕ) (hs : List ℕ) (x :
   kept = table.remove (table.remove M.loops l) r
 
   abbrev turned_row : LoopRow
-  turned_row = mates.turned_row w h (omega (arith, tick_same h))
+  turned_row = stages.turned_row M f g partner_of hs x h done (h ∷ []) w h (omega (arith, tick_same h))
 
   rest_g : rest (mate m) (cycle_of N (mate m)) ≡ h ∷ []
   rest_g =
@@ -174,7 +173,7 @@ module _ (M : Model) (f g : ℕ) (partner_of : ℕ → ℕ) (hs : List ℕ) (x :
   loops_after = kill.loops_are N w.sound m goes
       ∙ (λ i. table.remove (table.put (stages.loops_are M f g partner_of hs x h done (h ∷ []) w i) q (record { face = face_of N q; content = cycle (canonical (rest_g i ++ rest m (cycle_of N m))) })) (loop_g i))
       ∙ put_gone (table.map_rows (rewritten_row (map swap)) kept) l q _ turned_row q_l free_l
-      ∙ sym (mates.others w h (omega (arith, tick_same h)))
+      ∙ sym (stages.others M f g partner_of hs x h done (h ∷ []) w h (omega (arith, tick_same h)))
 
   abbrev tail_from : ℕ → ℕ
   tail_from j = tail M (partner_of j)
@@ -199,16 +198,9 @@ module _ (M : Model) (f g : ℕ) (partner_of : ℕ → ℕ) (hs : List ℕ) (x :
       (λ e row. λ i. record { plus_tail = renamed_last tail_from tail_to done h once row.plus_tail i; minus_tail = renamed_last tail_from tail_to done h once row.minus_tail i })
       ∙ ap (table.map_rows (renamed_tails (paired tail_from tail_to (done ++ h ∷ [])))) (sym (without_more M.edges gone (edge_of (partner_of h))) ∙ ap (without_rows M.edges) (sym (map-append (λ j. edge_of (partner_of j)) done (h ∷ []))))
 
-  N_vertices : N.vertices ≡ without_rows M.vertices (map tail_from (h ∷ done))
-  unfolding glued_part
-  N_vertices = refl
-
   vertices_after : N.vertices ≡ X.vertices
-  vertices_after = N_vertices ∙ without_first M.vertices (map tail_from done) (tail_from h) ∙ sym (without_more M.vertices (map tail_from done) (tail_from h)) ∙ ap (without_rows M.vertices) (sym (map-append tail_from done (h ∷ [])))
-
-  solids_after : N.solids ≡ X.solids
   unfolding glued_part
-  solids_after = refl
+  vertices_after = without_first M.vertices (map tail_from done) (tail_from h) ∙ sym (without_more M.vertices (map tail_from done) (tail_from h)) ∙ ap (without_rows M.vertices) (sym (map-append tail_from done (h ∷ [])))
 
   remove_both : {Y : Type 0} (fix : ℕ → Y → Y) (t : Table Y) (a b : ℕ) → table.remove (table.map_rows fix (table.remove t b)) a ≡ table.map_rows fix (table.remove (table.remove t a) b)
   remove_both fix t a b = same_table _ _ (λ n. grind (arith, nat_tests, tables))
@@ -217,8 +209,8 @@ module _ (M : Model) (f g : ℕ) (partner_of : ℕ → ℕ) (hs : List ℕ) (x :
   faces_after = (λ i. table.remove (stages.faces_are M f g partner_of hs x h done (h ∷ []) w i) (face_g i)) ∙ remove_both _ M.faces f g
 
   kef_is : kef N m ≡ X
-  unfolding kef
-  kef_is = λ i. record { solids = solids_after i; faces = faces_after i; loops = loops_after i; edges = edges_after i; vertices = vertices_after i }
+  unfolding kef glued_part
+  kef_is = λ i. record { solids = X.solids; faces = faces_after i; loops = loops_after i; edges = edges_after i; vertices = vertices_after i }
 
   -- the solids are glued
   pub ending_is : effect N (Kef (half m)) ≡ X

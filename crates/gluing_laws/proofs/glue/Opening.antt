@@ -1,7 +1,6 @@
 -- The first four operators of a glue: the solids become one, and the two loops one loop.
-use Rattle.std.proofs.Common.{◌≡◌, ◌≢◌, ℕ, true, false, cond, nat_eq, Bool, ◌||◌, List, [], ◌∷◌, ◌++◌, Option, Some, None, is_some, unwrap_or, refl, sym, ap, ◌∙◌, subst, arith, true≢false}
+use Rattle.std.proofs.Common.{◌≡◌, ◌≢◌, ℕ, true, false, cond, nat_eq, Bool, ◌||◌, List, [], ◌∷◌, ◌++◌, Option, Some, None, is_some, refl, sym, ap, ◌∙◌, subst, arith, true≢false}
 use Rattle.std.specs.Prelude.{map, reverse}
-use Rattle.std.specs.Option.{option_map}
 use Rattle.std.proofs.lemmas.Bool.Decides.{nat_tests}
 use Rattle.std.proofs.lemmas.Bool.{ne_eqb, eq-eqb}
 use Rattle.std.proofs.lemmas.List.{map-append, reverse-append}
@@ -14,21 +13,21 @@ use Rattle.euler_operators.proofs.Rings.{successor_inner, successor_same}
 use Rattle.euler_operators.proofs.Cuts.{rest_canonical}
 use Rattle.euler_operators.specs.HalfEdge.{mate, edge_of, half, plus, minus}
 use Rattle.euler_operators.specs.Table as table
-use Rattle.euler_operators.specs.Table.{Table, tables, same_table, get-map_rows}
+use Rattle.euler_operators.specs.Table.{Table, tables, same_table}
 use Rattle.euler_operators.specs.declared.Corner.TheVariants.{At}
-use Rattle.euler_operators.specs.Model.{Model, FaceRow, LoopRow, EdgeRow, lone, cycle, LoopContent, items_of, holds, tail, tail_in, content, face_of, solid_of, outer, no_face, is_number}
+use Rattle.euler_operators.specs.Model.{Model, FaceRow, LoopRow, EdgeRow, lone, cycle, LoopContent, items_of, holds, tail, tail_in, content, face_of, solid_of, outer, is_number}
 use Rattle.euler_operators.specs.Model as model
-use Rattle.euler_operators.specs.Sound.{Sound, Has, HasHalf}
+use Rattle.euler_operators.specs.Sound.{Sound, HasHalf}
 use Rattle.euler_operators.proofs.Halves.{code-half, plus_row, minus_row, edge_of-mate, mate_plus}
-use Rattle.euler_operators.proofs.Tables.{map-put, map_same, map_one, remove-put, get-put_here, get-put_other}
-use Rattle.euler_operators.proofs.Models.{content_row, face_row, tail_row, in-holds, holds-none, not_held}
+use Rattle.euler_operators.proofs.Tables.{map-put, map_same, map_one, remove-put, get-put_here, get-put_other, get-remove_other}
+use Rattle.euler_operators.proofs.Models.{same_outer, content_row, face_row, tail_row, in-holds, holds-none, not_held}
 use Rattle.euler_operators.proofs.Members.{same_head}
 use Rattle.euler_operators.specs.declared.Op.TheVariants.{Kev, Mekr, Kfmrh, Merge}
 use Rattle.euler_operators.specs.Conditions.{first_false}
 use Rattle.euler_operators.specs.Effect.{effect, merge, kfmrh, mekr, kev, faces_to_solid, loop_to_face, moved_tail, edge_row}
 use Rattle.euler_laws.proofs.shared.Undo.{both_out}
-use Rattle.euler_laws.proofs.shared.Rows.{face_there, edge_row_plus}
-use Rattle.euler_laws.proofs.merge.Merge.{MergeGoes, merge_accepted}
+use Rattle.euler_laws.proofs.shared.Rows.{edge_row_plus}
+use Rattle.euler_laws.proofs.merge.Merge.{OtherSolids, face_same, MergeGoes, merge_accepted, merge_other, solid_new, joined_same, joined_t, sound-merge}
 use Rattle.euler_laws.proofs.faces.Kfmrh.{KillGoes, kfmrh_accepted}
 use Rattle.euler_laws.proofs.kemr.Kemr.{CornerAt, corner_here, MekrGoes, mekr_accepted}
 use Rattle.euler_laws.proofs.kev.KevSound.{KevGoes}
@@ -53,12 +52,6 @@ use Rattle.euler_laws.proofs.shared.Same.{same_tail}
 same_items : (cs : List ℕ) → map (renamed []) cs ≡ cs
 same_items [] = refl
 same_items (c ∷ cs) = ap (λ t. c ∷ t) (same_items cs)
-
-abbrev solid_in : FaceRow → ℕ
-solid_in row = row.solid
-
-abbrev outer_in : FaceRow → ℕ
-outer_in row = row.outer
 
 module _ (M : Model) (f g : ℕ) (partner_of : ℕ → ℕ) (h : ℕ) (mid : List ℕ) (last x : ℕ) (w : Facing M f g partner_of (h ∷ (mid ++ last ∷ [])) x) where
   abbrev hs : List ℕ
@@ -106,51 +99,26 @@ module _ (M : Model) (f g : ℕ) (partner_of : ℕ → ℕ) (h : ℕ) (mid : Lis
   merge_ok = merge_accepted M s t w.sound merge_goes
 
   abbrev M1 : Model
-  M1 = record M { solids = table.remove M.solids t; faces = table.map_rows to_s M.faces }
+  M1 = merge M s t
 
   M1_is : effect M (Merge s t) ≡ M1
-  unfolding effect merge
+  unfolding effect
   M1_is = refl
 
   sound_1 : Sound M1
-  sound_1 = subst Sound M1_is (effect_keeps_sound M (Merge s t) w.sound merge_ok)
+  sound_1 = sound-merge w.sound merge_goes
 
-  face_1 : (n : ℕ) → Has M.faces n → table.get M1.faces n ≡ Some (to_s n (record { solid = solid_of M n; outer = outer M n }))
-  face_1 n there = get-map_rows to_s M.faces n ∙ ap (option_map (to_s n)) (face_there M n there)
-
-  moved_outer : (b : Bool) (a c : ℕ) → outer_in (cond b (record { solid = s; outer = c }) (record { solid = a; outer = c })) ≡ c
-  moved_outer true a c = refl
-  moved_outer false a c = refl
-
-  outer_1 : (n : ℕ) → Has M.faces n → outer M1 n ≡ outer M n
-  unfolding outer
-  outer_1 n there = ap (λ o. (unwrap_or o no_face).outer) (face_1 n there) ∙ moved_outer (nat_eq (solid_of M n) t) (solid_of M n) (outer M n)
-
-  moved_s : (a c : ℕ) → (a ≡ s) → solid_in (cond (nat_eq a t) (record { solid = s; outer = c }) (record { solid = a; outer = c })) ≡ s
-  moved_s a c e = elim (nat_eq a t) as (λ b. solid_in (cond b (record { solid = s; outer = c }) (record { solid = a; outer = c })) ≡ s) [ true ↦ refl | false ↦ e ]
-
-  moved_t : (a c : ℕ) → (a ≡ t) → solid_in (cond (nat_eq a t) (record { solid = s; outer = c }) (record { solid = a; outer = c })) ≡ s
-  moved_t a c e = ap (λ b. solid_in (cond b (record { solid = s; outer = c }) (record { solid = a; outer = c }))) (eq-eqb a t e)
-
-  solid_f1 : solid_of M1 f ≡ s
-  unfolding solid_of
-  solid_f1 = ap (λ o. (unwrap_or o no_face).solid) (face_1 f w.f_there) ∙ moved_s (solid_of M f) l refl
-
-  solid_g1 : solid_of M1 g ≡ s
-  unfolding solid_of
-  solid_g1 = ap (λ o. (unwrap_or o no_face).solid) (face_1 g w.g_there) ∙ moved_t (solid_of M g) r refl
-
-  same_face : (q : ℕ) → face_of M1 q ≡ face_of M q
-  unfolding face_of
-  same_face q = refl
+  merged : OtherSolids M M1
+  merged = merge_other w.sound merge_goes
 
   kfmrh_goes : KillGoes M1 f g
+  unfolding merge
   kfmrh_goes = record {
-    f_there = ap is_some (face_1 f w.f_there);
-    g_there = ap is_some (face_1 g w.g_there);
+    f_there = merged.has_face f ∙ w.f_there;
+    g_there = merged.has_face g ∙ w.g_there;
     apart = facing.faces_apart M f g partner_of hs x w;
-    one_solid = solid_f1 ∙ sym solid_g1;
-    no_rings = λ q there is. outer_1 g w.g_there ∙ w.alone_g q there (sym (same_face q) ∙ is);
+    one_solid = solid_new w.sound merge_goes f w.f_there ∙ joined_same w.sound merge_goes s w.solids_apart ∙ sym (solid_new w.sound merge_goes g w.g_there ∙ joined_t w.sound merge_goes);
+    no_rings = λ q there is. merged.outers g ∙ w.alone_g q there (sym (face_same merged q) ∙ is);
   }
 
   kfmrh_ok : first_false M1 (Kfmrh f g) ≡ None
@@ -171,8 +139,8 @@ module _ (M : Model) (f g : ℕ) (partner_of : ℕ → ℕ) (h : ℕ) (mid : Lis
       ∙ ap (table.put M.loops r) (ap (λ b. cond b row_r (record { face = g; content = cycle (canonical rs) })) (eq-eqb r r refl))
 
   A_is : effect M1 (Kfmrh f g) ≡ A
-  unfolding effect kfmrh
-  A_is = λ i. record M1 { faces = table.remove (table.map_rows to_s M.faces) g; loops = ((λ j. table.map_rows (loop_to_face (outer_1 g w.g_there j) f) M.loops) ∙ to_f) i }
+  unfolding effect kfmrh merge
+  A_is = λ i. record A { loops = ((λ j. table.map_rows (loop_to_face (merged.outers g j) f) M.loops) ∙ to_f) i }
 
   sound_A : Sound A
   sound_A = subst Sound A_is (effect_keeps_sound M1 (Kfmrh f g) sound_1 kfmrh_ok)
@@ -202,14 +170,9 @@ module _ (M : Model) (f g : ℕ) (partner_of : ℕ → ℕ) (h : ℕ) (mid : Lis
   second_corner = corner_here A sound_A (k ∷ back) r (tail M k) (content_row A r _ around_r.at) (ap is_some around_r.at) (apart_xs A r f (k ∷ back) around_r)
       (λ y i. (loop_is A r f (k ∷ back) around_r y i, half_is A r f (k ∷ back) around_r y i)) (λ y ys e. tail_A y ∙ ap (tail M) (same_head _ _ _ _ e))
 
-  face_A : table.get A.faces f ≡ table.get M1.faces f
-  face_A = removed (facing.faces_apart M f g partner_of hs x w) where
-    removed : f ≢ g → table.get (table.remove M1.faces g) f ≡ table.get M1.faces f
-    removed ne = grind (arith, nat_tests, tables)
-
   outer_A : outer A f ≡ l
-  unfolding outer
-  outer_A = ap (λ o. (unwrap_or o no_face).outer) face_A ∙ outer_1 f w.f_there
+  unfolding merge
+  outer_A = same_outer M1 A f (get-remove_other M1.faces g f (facing.faces_apart M f g partner_of hs x w)) ∙ merged.outers f
 
   face_l : face_of A l ≡ f
   face_l = face_row A l _ around_l.at
@@ -404,12 +367,9 @@ module _ (M : Model) (f g : ℕ) (partner_of : ℕ → ℕ) (h : ℕ) (mid : Lis
   put_kept : {Y : Type 0} (u : Table Y) (a b : ℕ) (v z : Y) → a ≢ b → table.remove (table.put (table.put u b v) a z) b ≡ table.put (table.remove (table.remove u a) b) a z
   put_kept u a b v z ne = same_table _ _ (λ n. grind (arith, nat_tests, tables))
 
-  X_loops : table.put (table.map_rows (rewritten_row (map (renamed []))) kept) l row_l ≡ X.loops
-  unfolding glued_part
-  X_loops = refl
-
   loops_then : C.loops ≡ X.loops
-  loops_then = put_kept M.loops l r row_r row_l l_r ∙ ap (λ u. table.put u l row_l) (sym (map_same (rewritten_row (map (renamed []))) kept (λ q row at. same_row q row (kept_there q row at)))) ∙ X_loops
+  unfolding glued_part
+  loops_then = put_kept M.loops l r row_r row_l l_r ∙ ap (λ u. table.put u l row_l) (sym (map_same (rewritten_row (map (renamed []))) kept (λ q row at. same_row q row (kept_there q row at))))
 
   meets : tail M h ≡ tail M (mate last)
   meets = facing.meets_round M f g partner_of hs x w h mid last refl
@@ -423,31 +383,14 @@ module _ (M : Model) (f g : ℕ) (partner_of : ℕ → ℕ) (h : ℕ) (mid : Lis
   move_on : (u : ℕ) → cond (nat_eq u (tail M k)) (tail M h) u ≡ renamed (paired tail_from tail_to (last ∷ [])) u
   move_on u = ap (λ v. cond (nat_eq u (tail M k)) v u) meets ∙ sym (renamed_more tail_from tail_to [] last (λ j i. absurd (omega (arith, i))) u)
 
-  X_edges : table.map_rows (renamed_tails (paired tail_from tail_to (last ∷ []))) M.edges ≡ X.edges
-  unfolding glued_part
-  X_edges = refl
-
   edges_then : C.edges ≡ X.edges
+  unfolding glued_part
   edges_then = map_agree (moved_tail (tail M k) (tail M h)) (renamed_tails (paired tail_from tail_to (last ∷ []))) M.edges
-      (λ e row. λ i. record { plus_tail = move_on row.plus_tail i; minus_tail = move_on row.minus_tail i }) ∙ X_edges
-
-  X_faces : table.map_rows to_s (table.remove M.faces g) ≡ X.faces
-  unfolding glued_part
-  X_faces = refl
-
-  faces_then : C.faces ≡ X.faces
-  faces_then = sym (map_removed to_s M.faces g) ∙ X_faces
-
-  vertices_then : C.vertices ≡ X.vertices
-  unfolding glued_part
-  vertices_then = refl
-
-  solids_then : C.solids ≡ X.solids
-  unfolding glued_part
-  solids_then = refl
+      (λ e row. λ i. record { plus_tail = move_on row.plus_tail i; minus_tail = move_on row.minus_tail i })
 
   C_X : C ≡ X
-  C_X = λ i. record { solids = solids_then i; faces = faces_then i; loops = loops_then i; edges = edges_then i; vertices = vertices_then i }
+  unfolding glued_part
+  C_X = λ i. record { solids = C.solids; faces = sym (map_removed to_s M.faces g) i; loops = loops_then i; edges = edges_then i; vertices = C.vertices }
 
   -- the four operators are accepted, and then no item is glued yet but the end of the last one
   pub opened : Leads M X (opening M f g h k x)

@@ -28,7 +28,6 @@ use Rattle.shapes.proofs.glue.Facing as facing
 use Rattle.shapes.proofs.glue.Facing.{Facing, side}
 use Rattle.gluing_laws.proofs.glue.Stages as stages
 use Rattle.gluing_laws.proofs.glue.Stages.{Stage}
-use Rattle.gluing_laws.proofs.glue.Mates as mates
 use Rattle.gluing_laws.proofs.glue.Round.{Closes, closed, closing_leads}
 
 module _ (M : Model) (f g : ℕ) (partner_of : ℕ → ℕ) (hs : List ℕ) (x last : ℕ) (done : List ℕ) (h k : ℕ) (more : List ℕ) (w : Stage M f g partner_of hs x last done (h ∷ k ∷ more)) (later : IsIn last (k ∷ more)) where
@@ -88,7 +87,7 @@ module _ (M : Model) (f g : ℕ) (partner_of : ℕ → ℕ) (hs : List ℕ) (x l
   around_here = record { sound = w.sound; at = stages.at_l M f g partner_of hs x last done (h ∷ k ∷ more) w ∙ ap (λ t. Some (record { face = f; content = cycle t })) turned_is }
 
   g_there : HasHalf N (partner_of h)
-  g_there = mates.g_there w h h_more
+  g_there = stages.g_there M f g partner_of hs x last done (h ∷ k ∷ more) w h h_more
 
   k_there : HasHalf N k
   k_there = half_is N l f ((partner_of h ∷ h ∷ []) ++ k ∷ qs) around_here k (omega (arith, tick_same k, count-append k (partner_of h ∷ h ∷ []) (k ∷ qs)))
@@ -138,7 +137,7 @@ module _ (M : Model) (f g : ℕ) (partner_of : ℕ → ℕ) (hs : List ℕ) (x l
     loop_fits = F.sound.loops_fit r (ap is_some F.second);
     ends_apart = λ e. facing.never_met M f g partner_of hs x F h k h_in k_in (sym tail_g ∙ e ∙ tail_k);
     no_parallel = no_parallel;
-    mate_else = mates.mate_else w h h_more;
+    mate_else = stages.mate_else M f g partner_of hs x last done (h ∷ k ∷ more) w h h_more;
   }
 
   -- ---- the model after
@@ -162,7 +161,7 @@ module _ (M : Model) (f g : ℕ) (partner_of : ℕ → ℕ) (hs : List ℕ) (x l
   kept = table.remove (table.remove M.loops l) r
 
   abbrev turned_row : LoopRow
-  turned_row = mates.turned_row w h h_more
+  turned_row = stages.turned_row M f g partner_of hs x last done (h ∷ k ∷ more) w h h_more
 
   swap_puts : {Y : Type 0} (t : Table Y) (a b : ℕ) (u v z : Y) → b ≢ a → table.put (table.put (table.put t a u) a v) b z ≡ table.put (table.put t b z) a v
   swap_puts t a b u v z ne = same_table _ _ (λ n. grind (arith, nat_tests, tables))
@@ -170,16 +169,12 @@ module _ (M : Model) (f g : ℕ) (partner_of : ℕ → ℕ) (hs : List ℕ) (x l
   abbrev after_round : Model
   after_round = closed closes
 
-  X_loops : table.put (table.map_rows (rewritten_row (map swap_more)) kept) l (record { face = f; content = cycle (canonical (k ∷ qs)) }) ≡ X.loops
-  unfolding glued_part
-  X_loops = refl
-
   loops_next : after_round.loops ≡ X.loops
+  unfolding glued_part
   loops_next =
       ap (λ t. table.put (table.put t l (record { face = f; content = cycle (canonical (k ∷ qs)) })) q turned_row) (stages.loops_are M f g partner_of hs x last done (h ∷ k ∷ more) w)
       ∙ swap_puts (table.map_rows (rewritten_row (map swap)) kept) l q _ _ turned_row closes.mate_else
-      ∙ ap (λ t. table.put t l (record { face = f; content = cycle (canonical (k ∷ qs)) })) (sym (mates.others w h h_more))
-      ∙ X_loops
+      ∙ ap (λ t. table.put t l (record { face = f; content = cycle (canonical (k ∷ qs)) })) (sym (stages.others M f g partner_of hs x last done (h ∷ k ∷ more) w h h_more))
 
   abbrev moves_before : List (ℕ × ℕ)
   moves_before = paired tail_from tail_to (last ∷ done)
@@ -193,11 +188,8 @@ module _ (M : Model) (f g : ℕ) (partner_of : ℕ → ℕ) (hs : List ℕ) (x l
   move_on : (u : ℕ) → cond (nat_eq (renamed moves_before u) (tail M (partner_of h))) (tail M (mate h)) (renamed moves_before u) ≡ renamed moves_after u
   move_on u = sym (renamed_more tail_from tail_to (last ∷ done) h (λ j i. facing.never_ends M f g partner_of hs x F j h (moved_in j i) h_in) u)
 
-  X_edges : table.map_rows (renamed_tails moves_after) (without_rows M.edges (map (λ j. edge_of (partner_of j)) (done ++ h ∷ []))) ≡ X.edges
-  unfolding glued_part
-  X_edges = refl
-
   edges_next : after_round.edges ≡ X.edges
+  unfolding glued_part
   edges_next =
       (λ i. table.remove (table.map_rows (moved_tail (tail_g i) ((tail_k ∙ meets) i)) (stages.edges_are M f g partner_of hs x last done (h ∷ k ∷ more) w i)) (edge_of (partner_of h)))
       ∙ ap (λ t. table.remove t (edge_of (partner_of h))) (map_twice (moved_tail (tail M (partner_of h)) (tail M (mate h))) (renamed_tails moves_before) (without_rows M.edges gone)
@@ -205,34 +197,21 @@ module _ (M : Model) (f g : ℕ) (partner_of : ℕ → ℕ) (hs : List ℕ) (x l
       (λ e row. λ i. record { plus_tail = move_on row.plus_tail i; minus_tail = move_on row.minus_tail i }))
       ∙ sym (map_removed (renamed_tails moves_after) (without_rows M.edges gone) (edge_of (partner_of h)))
       ∙ ap (table.map_rows (renamed_tails moves_after)) (sym (without_more M.edges gone (edge_of (partner_of h))) ∙ ap (without_rows M.edges) (sym (map-append (λ j. edge_of (partner_of j)) done (h ∷ []))))
-      ∙ X_edges
-
-  N_vertices : N.vertices ≡ without_rows M.vertices (map tail_from (last ∷ done))
-  unfolding glued_part
-  N_vertices = refl
-
-  X_vertices : without_rows M.vertices (map tail_from (last ∷ (done ++ h ∷ []))) ≡ X.vertices
-  unfolding glued_part
-  X_vertices = refl
 
   vertices_next : after_round.vertices ≡ X.vertices
+  unfolding glued_part
   vertices_next =
-      (λ i. table.remove (N_vertices i) (tail_g i))
+      ap (table.remove N.vertices) tail_g
       ∙ sym (without_more M.vertices (map tail_from (last ∷ done)) (tail M (partner_of h)))
       ∙ ap (without_rows M.vertices) (sym (map-append tail_from (last ∷ done) (h ∷ [])))
-      ∙ X_vertices
 
-  solids_next : N.solids ≡ X.solids
+  after_is : after_round ≡ X
   unfolding glued_part
-  solids_next = refl
-
-  faces_next : N.faces ≡ X.faces
-  unfolding glued_part
-  faces_next = refl
+  after_is = λ i. record { solids = X.solids; faces = X.faces; loops = loops_next i; edges = edges_next i; vertices = vertices_next i }
 
   -- the three operators of the item are accepted, and then it is glued too
   pub turn_accepted : AreAccepted N (closing (partner_of h) k x g r)
   turn_accepted = (closing_leads closes).accepted
 
   pub turn_is : effects N (closing (partner_of h) k x g r) ≡ X
-  turn_is = (closing_leads closes).made ∙ (λ i. record { solids = solids_next i; faces = faces_next i; loops = loops_next i; edges = edges_next i; vertices = vertices_next i })
+  turn_is = (closing_leads closes).made ∙ after_is
