@@ -14,16 +14,16 @@ use Rattle.euler_operators.specs.Table as table
 use Rattle.euler_operators.specs.Model.{Model, LoopContent, cycle, LoopRow, items_of, tail, loop_of, content, face_of, cycle_of, after, outer, solid_of, is_number}
 use Rattle.euler_operators.specs.Sound.{Sound, Has, HasHalf, StandsIn, IsCycle, IsLoneAt}
 use Rattle.euler_operators.proofs.Halves.{mate_other}
-use Rattle.euler_operators.proofs.Tables.{map_one, row_elsewhere}
-use Rattle.euler_operators.proofs.Models.{in-holds, holds_in, cycle_there, cycle_sound, content_cycle, content_row, face_row, row_of, other_loop, never_lone, mate_there}
-use Rattle.euler_operators.specs.Effect.{kemr, where_held, cycle_or_lone}
+use Rattle.euler_operators.proofs.Tables.{row_elsewhere}
+use Rattle.euler_operators.proofs.Models.{in-holds, holds_in, cycle_there, cycle_sound, content_cycle, content_row, face_row, row_of, mate_there}
+use Rattle.euler_operators.specs.Effect.{kemr, cycle_or_lone}
 use Rattle.euler_laws.proofs.shared.Loops.{IsLoop, light, Walks}
 use Rattle.euler_laws.proofs.shared.Same.{solid_at}
 use Rattle.euler_laws.proofs.shared.Undo.{after_first}
-use Rattle.euler_laws.proofs.shared.Rows.{where_held_none, where_held_there, content_none, count_or_lone, loop_or_lone, was_empty, after_second}
+use Rattle.euler_laws.proofs.shared.Rows.{held_row, content_none, count_or_lone, loop_or_lone, was_empty, after_second}
 use Rattle.euler_laws.proofs.shared.Parts.{VerticesHold, RangesHold, sound_of, fit-put, fit-remove, fit-map, FacesStay, solid_stays, solid_kept, faces_hold}
 use Rattle.euler_laws.proofs.shared.EdgeLess.{OneLess, ticks_apart, ring_kef-other, fans-less, vertices_hold-less}
-use Rattle.euler_laws.proofs.shared.TwoRows.{RowsSet, row_first, row_second, row_else, content_first, face_same, has_same, OneOf, TwoRows, which, in_both, Elsewhere, none_elsewhere, walks-rows, one_solid-rows, two_rows-less}
+use Rattle.euler_laws.proofs.shared.TwoRows.{RowsSet, row_first, row_second, row_else, content_first, face_same, has_same, OneOf, TwoRows, lone_still, which, in_both, Elsewhere, none_elsewhere, walks-rows, one_solid-rows, two_rows-less}
 
 -- what the conditions of kemr say
 pub record KemrGoes (M : Model) (h l : ℕ) : Type 0 where
@@ -119,17 +119,12 @@ module _ (M : Model) (sound : Sound M) (h l : ℕ) (goes : KemrGoes M h l) where
   abbrev pub new : LoopRow
   new = record { face = face_of M r; content = cycle_or_lone X w }
 
-  abbrev pub old : LoopRow
-  old = record { face = face_of M r; content = cycle xs }
-
   shrink : List ℕ → LoopContent
   shrink hs = cycle_or_lone (beyond h m hs) u
 
   pub loops_are : N.loops ≡ table.put (table.put M.loops r kept) l new
   unfolding kemr shrink
-  loops_are = ap (λ t. table.put t l new)
-      (map_one (where_held h shrink) M.loops r old (row_of M sound h goes.h_there) (λ q row ne at. where_held_none h shrink q row (other_loop M sound h q row ne at))
-      ∙ ap (table.put M.loops r) (where_held_there h shrink r old (in-holds h (cycle xs) h_in)))
+  loops_are = ap (λ t. table.put t l new) (held_row M sound h goes.h_there shrink)
 
   pub has_r : Has M.loops r
   has_r = ap is_some (row_of M sound h goes.h_there)
@@ -209,10 +204,7 @@ module _ (M : Model) (sound : Sound M) (h l : ℕ) (goes : KemrGoes M h l) where
   vertices = vertices_hold-less sound less (record {
     vertices = refl;
     lone_back = lone_back;
-    lone_on = λ q t e. rows.other_content q (
-      λ p. never_lone xs t (sym (content_cycle M sound h goes.h_there) ∙ ap (content M) (sym p) ∙ e),
-      λ p. never_lone [] t (sym content_free ∙ ap (content M) (sym p) ∙ e),
-    ) ∙ e;
+    lone_on = lone_still sound rows (content_cycle M sound h goes.h_there) content_free;
     first_lone = λ e. content_first set ∙ ap (λ z. cycle_or_lone z u) (y_empty e);
     second_lone = λ e. content_l ∙ ap (λ z. cycle_or_lone z w) (x_empty e);
   })

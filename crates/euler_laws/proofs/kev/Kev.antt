@@ -18,10 +18,9 @@ use Rattle.euler_laws.proofs.shared.Undo.{parallel_none, none_parallel}
 use Rattle.euler_laws.proofs.mev.MevSound.{MevGoes, sound-mev}
 use Rattle.euler_laws.proofs.kev.MevUndo.{kev-mev_at}
 use Rattle.euler_laws.proofs.kev.MevUndo as undo
+use Rattle.euler_laws.proofs.kev.MevLone as alone
 use Rattle.euler_laws.proofs.kev.MevLone.{kev-mev_lone}
-use Rattle.euler_laws.proofs.shared.EdgeMore.{comes, half_h}
-use Rattle.euler_laws.proofs.mev.MevLoneSound as lones
-use Rattle.euler_laws.proofs.mev.MevLoneSound.{LoneGoes, sound-mev_lone}
+use Rattle.euler_laws.proofs.mev.MevLoneSound.{sound-mev_lone}
 use Rattle.euler_laws.proofs.kev.KevSound.{KevGoes, sound-kev}
 use Rattle.euler_laws.proofs.kev.KevUndo as redo
 use Rattle.euler_laws.proofs.kev.KevUndo.{mev_at-kev}
@@ -60,14 +59,6 @@ kev_accepted N h sound goes = none_refuses (conditions N (Kev h)) (
 
 -- ---- mev
 
--- mev at a lone loop leaves an edge that kev takes
-kev_goes_lone : (M : Model) (sound : Sound M) (l h v u : ℕ) (p : Point) → LoneGoes M l h v u p → KevGoes (mev_lone M l h v p) h
-kev_goes_lone M sound l h v u p goes = record {
-  h_there = half_h (comes (lones.edge sound goes));
-  no_parallel = lones.no_parallel-lone sound goes;
-  not_bare = λ _. lones.after-h sound goes;
-}
-
 pub mev_lawful : (c d : Corner) (h : HalfEdge) (v : ℕ) (p : Point) → IsLawful (Mev c d h v p)
 unfolding effect inverse
 mev_lawful (At g) (At k) h v p M sound e = let w = mev_goes M g k h v p e in let s = sound-mev M sound (code g) (code k) (code h) v p w in record {
@@ -79,7 +70,7 @@ mev_lawful (At g) (Lone l) h v p M sound e = absurd (mixed_first M g l h v p sou
 mev_lawful (Lone l) (At k) h v p M sound e = absurd (mixed_second M l k h v p sound e)
 mev_lawful (Lone l) (Lone d) h v p M sound e = let w = lone_goes M l d h v p e in let u : ℕ = lone_vertex (content M l) in let s = sound-mev_lone sound w in record {
   sound = s;
-  goes = kev_accepted (mev_lone M l (code h) v p) h s (kev_goes_lone M sound l (code h) v u p w);
+  goes = kev_accepted (mev_lone M l (code h) v p) h s (alone.kev_goes sound w);
   undone = kev-mev_lone sound w;
 }
 

@@ -3,22 +3,21 @@ use Rattle.std.proofs.Common.{◌≡◌, ◌≢◌, ℕ, List, [], ◌∷◌, So
 use Rattle.std.proofs.lemmas.Bool.Decides.{eqb_tells}
 use Rattle.euler_operators.specs.Items.{count, tick, IsIn}
 use Rattle.euler_operators.specs.Rings.{canonical, rest, IsRing, IsPath}
-use Rattle.euler_operators.proofs.Lists.{tick_same, IsIn_or_not}
+use Rattle.euler_operators.proofs.Lists.{tick_same}
 use Rattle.euler_operators.proofs.Rings.{count_at, IsRing-same, rotation_at}
 use Rattle.euler_operators.proofs.Cuts.{canonical_from}
 use Rattle.euler_operators.specs.HalfEdge.{mate, edge_of}
 use Rattle.euler_operators.specs.Table as table
-use Rattle.euler_operators.specs.Model.{Model, cycle, items_of, tail, loop_of, content, cycle_of, after, point_of}
+use Rattle.euler_operators.specs.Model.{Model, cycle, tail, loop_of, content, cycle_of, after, point_of}
 use Rattle.euler_operators.specs.Sound.{Sound, Has, HasHalf, IsCycle}
 use Rattle.euler_operators.proofs.Halves.{mate_other, same_edge}
 use Rattle.euler_operators.proofs.Tables.{put-remove}
-use Rattle.euler_operators.proofs.Models.{in-holds, cycle_there, cycle_sound, content_cycle, row_of, mate_there}
+use Rattle.euler_operators.proofs.Models.{cycle_there, cycle_sound, content_cycle, row_of, mate_there}
 use Rattle.euler_operators.specs.Effect.{mev_lone, kev}
 use Rattle.euler_laws.proofs.shared.Fans.{loop_after}
-use Rattle.euler_laws.proofs.shared.EdgeMore.{OneMore, comes, half_h, edge_other, tail-h, tail-m, tail_old}
-use Rattle.euler_laws.proofs.shared.Loops.{light}
-use Rattle.euler_laws.proofs.shared.Same.{mapped_some}
-use Rattle.euler_laws.proofs.shared.Undo.{same_loops, same_edges, same_model}
+use Rattle.euler_laws.proofs.shared.EdgeMore.{OneMore, comes, tail-h, tail-m, tail_old}
+use Rattle.euler_laws.proofs.shared.Loops.{light, none_else}
+use Rattle.euler_laws.proofs.shared.Undo.{same_loops, same_edges, edge_again, same_model}
 use Rattle.euler_laws.proofs.kev.KevSound as kill
 use Rattle.euler_laws.proofs.kev.KevSound.{KevGoes}
 use Rattle.euler_laws.proofs.mev.MevLoneSound as put
@@ -95,17 +94,11 @@ module _ {M : Model} (sound : Sound M) {h : ℕ} (goes : KevGoes M h) (bare : af
       ap (λ q. canonical (h ∷ q)) (sym (pair_of (after M) h m (rest h hs) r to_m bare (mate_other h) n))
       ∙ canonical_from h hs cy.apart h_in ∙ cy.from_least
 
-  none_at : (x q : ℕ) → loop_of M x ≡ l → q ≢ l → count x (items_of (content M q)) ≡ 0
-  none_at x q e a = elim (IsIn_or_not x (items_of (content M q))) [
-    | inl i ↦ absurd (a (sym (sound.one_loop x q (in-holds x (content M q) i)) ∙ e))
-    | inr z ↦ z
-  ]
-
   contents : (q : ℕ) → Has M.loops q → content K q ≡ content M q
   contents q there = elim (eqb_tells q l) [
     | inl e ↦ ap (content K) e.1 ∙ put.content_new sound-N lone_goes ∙ ap cycle pair ∙ sym (ap (content M) e.1 ∙ content_cycle M sound h goes.h_there)
     | inr e ↦ put.content_other sound-N lone_goes q e.1 ∙ kill.content-N M sound h goes q
-        ∙ kill.new_none M sound h goes (content M q) (none_at h q refl e.1) (none_at m q loop_m e.1)
+        ∙ kill.new_none M sound h goes (content M q) (none_else M sound h q e.1) (none_else M sound m q (λ s. e.1 (s ∙ loop_m)))
   ]
 
   loops-back : K.loops ≡ M.loops
@@ -113,13 +106,6 @@ module _ {M : Model} (sound : Sound M) {h : ℕ} (goes : KevGoes M h) (bare : af
       (λ q. (put.same sound-N lone_goes).loop q ∙ (kill.same M sound h goes).loop q)
       (λ q _. (put.same sound-N lone_goes).face q ∙ (kill.same M sound h goes).face q)
       contents
-
-  has_edge : (e : ℕ) → table.has K.edges e ≡ table.has M.edges e
-  has_edge e = elim (eqb_tells e (edge_of h)) [
-    | inl a ↦ ap (table.has K.edges) a.1 ∙ half_h (comes edge) ∙ sym (ap (table.has M.edges) a.1 ∙ goes.h_there)
-    | inr a ↦ ap is_some (edge_other edge e a.1)
-        ∙ ap is_some (kill.edge_mapped M sound h goes e a.1) ∙ mapped_some _ (table.get M.edges e)
-  ]
 
   tails : (x : ℕ) → HasHalf M x → tail K x ≡ tail M x
   tails x there = elim (eqb_tells (edge_of x) (edge_of h)) [
@@ -137,4 +123,4 @@ module _ {M : Model} (sound : Sound M) {h : ℕ} (goes : KevGoes M h) (bare : af
 
   pub mev_lone-kev : mev_lone (kev M h) l h w (point_of M w) ≡ M
   unfolding kev mev_lone
-  mev_lone-kev = same_model K M refl refl loops-back (same_edges K M has_edge tails) vertices-back
+  mev_lone-kev = same_model K M refl refl loops-back (same_edges K M (edge_again (kill.edge_goes M sound h goes) goes.h_there (comes edge)) tails) vertices-back

@@ -166,7 +166,7 @@ module _ (M : Model) (sound : Sound M) (h : ℕ) (goes : KevGoes M h) where
   unfolding kev
   edge_gone = grind (arith, nat_tests, tables)
 
-  edge_goes : EdgeGoes M N h
+  pub edge_goes : EdgeGoes M N h
   edge_goes = record { gone = edge_gone; others = λ e a. ap is_some (edge_mapped e a) ∙ mapped_some _ (table.get M.edges e) }
 
   pub half_old : (x : ℕ) → HasHalf M x → edge_of x ≢ edge_of h → HasHalf N x

@@ -1,5 +1,5 @@
 -- kev is taken back by mev at two half-edges, where others leave the kept vertex.
-use Rattle.std.proofs.Common.{◌≡◌, ◌≢◌, ℕ, ◌+◌, cond, nat_eq, List, [], ◌∷◌, ◌++◌, Some, is_some, refl, sym, ap, ◌∙◌, subst, arith, ◌⊎◌, inl, inr}
+use Rattle.std.proofs.Common.{◌≡◌, ◌≢◌, ℕ, ◌+◌, cond, nat_eq, List, [], ◌∷◌, ◌++◌, Some, refl, sym, ap, ◌∙◌, subst, arith, ◌⊎◌, inl, inr}
 use Rattle.std.proofs.lemmas.Bool.Decides.{eqb_tells}
 use Rattle.euler_operators.specs.Items.{count, tick, IsIn, IsApart, head_or}
 use Rattle.euler_operators.specs.Rings.{canonical, rotate_to, rest, between, beyond, successor, IsRing, IsRotation}
@@ -22,9 +22,8 @@ use Rattle.euler_operators.specs.Effect.{mev_at, kev}
 use Rattle.euler_laws.proofs.shared.Fans.{half_after, loop_after}
 use Rattle.euler_laws.proofs.shared.Loops.{put_before, put_there, put_none, put_lone, after-walks, count_out}
 use Rattle.euler_laws.proofs.shared.Arcs.{arc_is}
-use Rattle.euler_laws.proofs.shared.Same.{mapped_some}
-use Rattle.euler_laws.proofs.shared.Undo.{same_loops, same_edges, same_model, taken_out, both_out, put_in, both_in, after_first}
-use Rattle.euler_laws.proofs.shared.EdgeMore.{EdgeComes, half_h, tail-h, tail-m}
+use Rattle.euler_laws.proofs.shared.Undo.{same_loops, same_edges, edge_again, same_model, taken_out, both_out, put_in, both_in, after_first}
+use Rattle.euler_laws.proofs.shared.EdgeMore.{EdgeComes, tail-h, tail-m}
 use Rattle.euler_laws.proofs.mev.MevSound as put
 use Rattle.euler_laws.proofs.mev.MevSound.{MevGoes}
 use Rattle.euler_laws.proofs.kev.KevSound as kill
@@ -328,13 +327,6 @@ module _ {M : Model} (sound : Sound M) {h : ℕ} (goes : KevGoes M h) (open_end 
   new_edge : EdgeComes N K h (tail N c) w
   new_edge = put.new_edge N sound-N c d h w (point_of M w) put_goes
 
-  has_edge : (e : ℕ) → table.has K.edges e ≡ table.has M.edges e
-  has_edge e = elim (eqb_tells e (edge_of h)) [
-    | inl a ↦ ap (table.has K.edges) a.1 ∙ half_h new_edge ∙ sym (ap (table.has M.edges) a.1 ∙ goes.h_there)
-    | inr a ↦ new_edge.others e a.1
-        ∙ ap is_some (kill.edge_mapped M sound h goes e a.1) ∙ mapped_some _ (table.get M.edges e)
-  ]
-
   tails_old : (x : ℕ) → HasHalf M x → edge_of x ≢ edge_of h → tail K x ≡ tail M x
   tails_old x there a =
       let o = kill.half_old M sound h goes x there a in
@@ -366,4 +358,4 @@ module _ {M : Model} (sound : Sound M) {h : ℕ} (goes : KevGoes M h) (open_end 
   -- mev takes kev back
   pub mev_at-kev : mev_at (kev M h) c d h w (point_of M w) ≡ M
   unfolding kev mev_at
-  mev_at-kev = same_model K M refl refl loops-back (same_edges K M has_edge tails) vertices-back
+  mev_at-kev = same_model K M refl refl loops-back (same_edges K M (edge_again (kill.edge_goes M sound h goes) goes.h_there new_edge) tails) vertices-back

@@ -1,6 +1,5 @@
 -- mev at two half-edges is taken back by kev.
-use Rattle.std.proofs.Common.{◌≡◌, ◌≢◌, ℕ, ◌+◌, cond, ◌||◌, List, [], ◌∷◌, ◌++◌, is_some, refl, sym, ap, ◌∙◌, arith, inl, inr, eq-eqb}
-use Rattle.std.proofs.lemmas.Bool.Decides.{eqb_tells}
+use Rattle.std.proofs.Common.{◌≡◌, ◌≢◌, ℕ, ◌+◌, cond, ◌||◌, List, [], ◌∷◌, ◌++◌, refl, sym, ap, ◌∙◌, arith, inl, inr, eq-eqb}
 use Rattle.euler_operators.specs.declared.Point.{Point}
 use Rattle.euler_operators.specs.Items.{count, tick, IsIn, IsApart}
 use Rattle.euler_operators.specs.Rings.{canonical, rotate_to, upto, onward}
@@ -21,8 +20,7 @@ use Rattle.euler_operators.proofs.Models.{in-holds, holds-none, mate_there}
 use Rattle.euler_operators.proofs.Tests.{or_true}
 use Rattle.euler_operators.specs.Effect.{mev_at, kev, cycle_or_lone}
 use Rattle.euler_laws.proofs.shared.Loops.{put_before, put_there, put_none, put_lone, none_free, count_out, after-walks}
-use Rattle.euler_laws.proofs.shared.Same.{mapped_some}
-use Rattle.euler_laws.proofs.shared.Undo.{same_loops, same_edges, same_model, taken_out, both_out, put_in, both_in}
+use Rattle.euler_laws.proofs.shared.Undo.{same_loops, same_edges, edge_back, same_model, taken_out, both_out, put_in, both_in}
 use Rattle.euler_laws.proofs.shared.EdgeMore.{EdgeComes, half_h, half_m, tail-h, tail-m, edge_apart, not_h, not_m, half_old, half_cases}
 use Rattle.euler_laws.proofs.mev.MevSound as put
 use Rattle.euler_laws.proofs.mev.MevSound.{MevGoes}
@@ -155,13 +153,6 @@ module _ {M : Model} (sound : Sound M) {g k h v : ℕ} {p : Point} (goes : MevGo
       (λ q _. (kill.same N sound-N h kev_goes).face q ∙ (put.same M sound g k h v p goes).face q)
       contents
 
-  has_edge : (e : ℕ) → table.has K.edges e ≡ table.has M.edges e
-  has_edge e = elim (eqb_tells e (edge_of h)) [
-    | inl a ↦ ap (table.has K.edges) a.1 ∙ ap is_some (kill.edge_gone N sound-N h kev_goes) ∙ sym (ap (table.has M.edges) a.1 ∙ ap is_some goes.edge_free)
-    | inr a ↦ ap is_some (kill.edge_mapped N sound-N h kev_goes e a.1) ∙ mapped_some _ (table.get N.edges e)
-        ∙ ap is_some (put.edge_mapped M sound g k h v p goes e a.1) ∙ mapped_some _ (table.get M.edges e)
-  ]
-
   tails : (x : ℕ) → HasHalf M x → tail K x ≡ tail M x
   tails x there =
       let o = half_old new_edge x there in
@@ -182,4 +173,4 @@ module _ {M : Model} (sound : Sound M) {g k h v : ℕ} {p : Point} (goes : MevGo
   -- kev takes mev back
   pub kev-mev_at : kev (mev_at M g k h v p) h ≡ M
   unfolding kev mev_at
-  kev-mev_at = same_model K M refl refl loops-back (same_edges K M has_edge tails) vertices-back
+  kev-mev_at = same_model K M refl refl loops-back (same_edges K M (edge_back new_edge (kill.edge_goes N sound-N h kev_goes)) tails) vertices-back

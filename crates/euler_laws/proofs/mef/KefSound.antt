@@ -11,19 +11,19 @@ use Rattle.euler_operators.proofs.Leads.{IsRing-kef}
 use Rattle.euler_operators.specs.HalfEdge.{mate, edge_of}
 use Rattle.euler_operators.specs.Table as table
 use Rattle.euler_operators.specs.Model.{Model, LoopContent, cycle, LoopRow, items_of, loop_of, content, face_of, cycle_of, after, outer, solid_of}
-use Rattle.euler_operators.specs.Sound.{Sound, Has, HasHalf, StandsIn, IsLoneAt}
+use Rattle.euler_operators.specs.Sound.{Sound, Has, HasHalf, StandsIn}
 use Rattle.euler_operators.proofs.Halves.{mate_other}
-use Rattle.euler_operators.proofs.Tables.{map_one, row_elsewhere}
-use Rattle.euler_operators.proofs.Models.{in-holds, holds_in, cycle_there, cycle_sound, content_cycle, row_of, other_loop, never_lone, mate_there}
+use Rattle.euler_operators.proofs.Tables.{row_elsewhere}
+use Rattle.euler_operators.proofs.Models.{in-holds, holds_in, cycle_there, cycle_sound, content_cycle, row_of, mate_there}
 use Rattle.euler_operators.specs.Conditions.{face_at}
-use Rattle.euler_operators.specs.Effect.{kef, where_held}
+use Rattle.euler_operators.specs.Effect.{kef}
 use Rattle.euler_laws.proofs.shared.Fans.{half_after, loop_after}
 use Rattle.euler_laws.proofs.shared.Loops.{IsLoop, canonical_cycle, light, Walks}
 use Rattle.euler_laws.proofs.shared.Same.{solid_at}
-use Rattle.euler_laws.proofs.shared.Rows.{where_held_none, where_held_there, content_none}
+use Rattle.euler_laws.proofs.shared.Rows.{held_row, content_none}
 use Rattle.euler_laws.proofs.shared.Parts.{VerticesHold, FacesHold, RangesHold, sound_of, fit-remove, fit-map, FaceSet, row_here, has_on, has_back, solid_other, outer_other}
 use Rattle.euler_laws.proofs.shared.EdgeLess.{OneLess, ticks_apart, next_other, ring_kef-other, fans-less, vertices_hold-less}
-use Rattle.euler_laws.proofs.shared.TwoRows.{RowsSet, row_second, row_else, content_first, face_same, has_same, OneOf, TwoRows, which, in_both, loop_both, Elsewhere, none_elsewhere, walks-rows, one_solid-rows, two_rows-less}
+use Rattle.euler_laws.proofs.shared.TwoRows.{RowsSet, row_second, row_else, content_first, face_same, has_same, OneOf, TwoRows, lone_else, lone_still, in_both, loop_both, Elsewhere, none_elsewhere, walks-rows, one_solid-rows, two_rows-less}
 
 -- what the conditions of kef say
 pub record KefGoes (M : Model) (h : ℕ) : Type 0 where
@@ -120,17 +120,12 @@ module _ (M : Model) (sound : Sound M) (h : ℕ) (goes : KefGoes M h) where
   abbrev pub kept : LoopRow
   kept = record { face = face_of M r; content = cycle zs }
 
-  abbrev pub old : LoopRow
-  old = record { face = face_of M r; content = cycle xs }
-
   rejoin : List ℕ → LoopContent
   rejoin hs = cycle (canonical (rest m ys ++ rest h hs))
 
   pub loops_are : N.loops ≡ table.remove (table.put M.loops r kept) s
   unfolding kef rejoin
-  loops_are = ap (λ t. table.remove t s)
-      (map_one (where_held h rejoin) M.loops r old (row_of M sound h goes.h_there) (λ q row ne at. where_held_none h rejoin q row (other_loop M sound h q row ne at))
-      ∙ ap (table.put M.loops r) (where_held_there h rejoin r old (in-holds h (cycle xs) h_in)))
+  loops_are = ap (λ t. table.remove t s) (held_row M sound h goes.h_there rejoin)
 
   pub has_r : Has M.loops r
   has_r = ap is_some (row_of M sound h goes.h_there)
@@ -198,24 +193,12 @@ module _ (M : Model) (sound : Sound M) (h : ℕ) (goes : KefGoes M h) where
 
   -- ---- vertices
 
-  lone_back : (q t : ℕ) → IsLoneAt N q t → IsLoneAt M q t
-  lone_back q t e = elim (which r s q) [
-    | inl o ↦ absurd (elim o [ inl p ↦ never_lone zs t (sym (content_first set) ∙ ap (content N) (sym p) ∙ e) | inr p ↦ never_lone [] t (sym content_s ∙ ap (content N) (sym p) ∙ e) ])
-    | inr n ↦ sym (rows.other_content q n) ∙ e
-  ]
-
-  lone_on : (q t : ℕ) → IsLoneAt M q t → IsLoneAt N q t
-  lone_on q t e = rows.other_content q (
-    λ p. never_lone xs t (sym (content_cycle M sound h goes.h_there) ∙ ap (content M) (sym p) ∙ e),
-    λ p. never_lone ys t (sym (content_cycle M sound m m_there) ∙ ap (content M) (sym p) ∙ e),
-  ) ∙ e
-
   vertices : VerticesHold N
   unfolding kef
   vertices = vertices_hold-less sound less {q = r} {k = s} (record {
     vertices = refl;
-    lone_back = λ p v e. inl (lone_back p v e);
-    lone_on = lone_on;
+    lone_back = λ p v e. inl (lone_else sound rows (content_first set) content_s p v e).0;
+    lone_on = lone_still sound rows (content_cycle M sound h goes.h_there) (content_cycle M sound m m_there);
     first_lone = λ e. absurd (after_m e);
     second_lone = λ e. absurd (after_h e);
   })

@@ -10,9 +10,9 @@ use Rattle.euler_operators.proofs.Leads.{IsRing-mef}
 use Rattle.euler_operators.specs.HalfEdge.{mate, edge_of}
 use Rattle.euler_operators.specs.Table as table
 use Rattle.euler_operators.specs.Model.{Model, lone, cycle, FaceRow, LoopRow, items_of, holds, tail, loop_of, content, face_of, cycle_of, after, outer, solid_of, is_number}
-use Rattle.euler_operators.specs.Sound.{Sound, Has, HasHalf, IsLoneAt}
+use Rattle.euler_operators.specs.Sound.{Sound, Has, HasHalf}
 use Rattle.euler_operators.proofs.Halves.{mate_other}
-use Rattle.euler_operators.proofs.Models.{in-holds, holds_in, cycle_there, cycle_sound, content_cycle, content_row, face_row, row_of, never_lone, solid_row, outer_row}
+use Rattle.euler_operators.proofs.Models.{in-holds, holds_in, cycle_there, cycle_sound, content_cycle, content_row, face_row, row_of, solid_row, outer_row}
 use Rattle.euler_operators.proofs.Tables.{row_elsewhere}
 use Rattle.euler_operators.specs.Effect.{mef}
 use Rattle.euler_laws.proofs.shared.Loops.{IsLoop, canonical_cycle, light, Walks}
@@ -21,7 +21,7 @@ use Rattle.euler_laws.proofs.shared.Same.{solid_at}
 use Rattle.euler_laws.proofs.shared.Parts.{VerticesHold, FacesHold, RangesHold, sound_of, fit-put, fit-map, FaceSet, row_here, has_on, has_back, solid_other, outer_other}
 use Rattle.euler_laws.proofs.shared.EdgeMore.{OneMore, comes, PutBefore, not_h, not_m, ring_mef-other, fans-more, fan_first, fan_second, fan_other, vertices_hold-more}
 use Rattle.euler_laws.proofs.shared.EdgeLess.{ticks_apart}
-use Rattle.euler_laws.proofs.shared.TwoRows.{RowsSet, row_second, row_else, content_first, face_same, has_same, OneOf, TwoRows, which, in_both, loop_both, Elsewhere, none_elsewhere, walks-rows, one_solid-rows, two_rows-more}
+use Rattle.euler_laws.proofs.shared.TwoRows.{RowsSet, row_second, row_else, content_first, face_same, has_same, OneOf, TwoRows, lone_else, lone_still, in_both, loop_both, Elsewhere, none_elsewhere, walks-rows, one_solid-rows, two_rows-more}
 use Rattle.euler_laws.proofs.mef.MefUndo.{loops-mef, no_h, no_m, count-mef_old, count-mef_new}
 
 -- what the conditions of mef say
@@ -161,18 +161,6 @@ module _ {M : Model} (sound : Sound M) {g k h f l : ℕ} (goes : MefGoes M g k h
 
   -- ---- vertices
 
-  lone_back : (q v : ℕ) → IsLoneAt N q v → IsLoneAt M q v
-  lone_back q v e = elim (which r l q) [
-    | inl o ↦ absurd (elim o [ inl a ↦ never_lone _ v (sym (content_first set) ∙ ap (content N) (sym a) ∙ e) | inr a ↦ never_lone _ v (sym content_l ∙ ap (content N) (sym a) ∙ e) ])
-    | inr n ↦ sym (rows.other_content q n) ∙ e
-  ]
-
-  lone_on : (q v : ℕ) → IsLoneAt M q v → IsLoneAt N q v
-  lone_on q v e = rows.other_content q (
-    λ a. never_lone xs v (sym (content_cycle M sound g goes.g_there) ∙ ap (content M) (sym a) ∙ e),
-    λ a. never_lone [] v (sym content_free ∙ ap (content M) (sym a) ∙ e),
-  ) ∙ e
-
   vertices : VerticesHold N
   unfolding mef
   vertices = vertices_hold-more sound more (record {
@@ -180,9 +168,9 @@ module _ {M : Model} (sound : Sound M) {g k h f l : ℕ} (goes : MefGoes M g k h
     second_there = sound.tails_there k goes.k_there;
     on = λ v t. t;
     back = λ v t a. t;
-    lone_back = λ q v e. let o = lone_back q v e in
+    lone_back = λ q v e. let o = (lone_else sound rows (content_first set) content_l q v e).0 in
         (o, λ a. sound.lone_is_no_tail q g goes.g_there (o ∙ ap lone a), λ a. sound.lone_is_no_tail q k goes.k_there (o ∙ ap lone a));
-    lone_on = λ q v e a b. lone_on q v e;
+    lone_on = λ q v e a b. lone_still sound rows (content_cycle M sound g goes.g_there) content_free q v e;
   })
 
   -- ---- faces

@@ -11,10 +11,9 @@ use Rattle.euler_operators.specs.Table.{Table}
 use Rattle.euler_operators.specs.Model.{Model, cycle, LoopRow, loop_of, face_of, cycle_of}
 use Rattle.euler_operators.specs.Sound.{Sound, HasHalf}
 use Rattle.euler_operators.proofs.Halves.{edge_of-mate}
-use Rattle.euler_operators.proofs.Tables.{map_one}
-use Rattle.euler_operators.proofs.Models.{row_of, not_held, other_loop, in-holds, cycle_there}
-use Rattle.euler_operators.specs.Effect.{mef, where_held}
-use Rattle.euler_laws.proofs.shared.Rows.{where_held_none, where_held_there}
+use Rattle.euler_operators.proofs.Models.{row_of, not_held}
+use Rattle.euler_operators.specs.Effect.{mef}
+use Rattle.euler_laws.proofs.shared.Rows.{held_row}
 
 pub count-mef_old : (x h c e : ℕ) (hs : List ℕ) → count x (mef_old h c e hs) ≡ tick x h + count x (onward c e hs)
 count-mef_old x h c e hs = count-canonical x (h ∷ onward c e hs)
@@ -56,11 +55,6 @@ module _ (M : Model) (sound : Sound M) (g k h f l : ℕ)
   pub no_m : count m xs ≡ 0
   no_m = not_held M sound m (ap (table.get M.edges) (edge_of-mate h) ∙ edge_free) r old old_there
 
-  abbrev rewrite : ℕ → LoopRow → LoopRow
-  rewrite = where_held g (λ hs. cycle (mef_old h g k hs))
-
   pub loops-mef : (mef M g k h f l).loops ≡ loops'
   unfolding mef
-  loops-mef = ap (λ t. table.put t l new)
-      (map_one rewrite M.loops r old old_there (λ q row ne at. where_held_none g (λ hs. cycle (mef_old h g k hs)) q row (other_loop M sound g q row ne at))
-      ∙ ap (table.put M.loops r) (where_held_there g (λ hs. cycle (mef_old h g k hs)) r old (in-holds g (cycle xs) (cycle_there M sound g g_there))))
+  loops-mef = ap (λ t. table.put t l new) (held_row M sound g g_there (λ hs. cycle (mef_old h g k hs)))

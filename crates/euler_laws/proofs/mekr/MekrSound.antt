@@ -10,10 +10,10 @@ use Rattle.euler_operators.proofs.Operators.{apart_braced}
 use Rattle.euler_operators.specs.HalfEdge.{mate, edge_of}
 use Rattle.euler_operators.specs.Table as table
 use Rattle.euler_operators.specs.Model.{Model, lone, cycle, LoopRow, items_of, holds, tail, loop_of, content, face_of, solid_of, after, outer}
-use Rattle.euler_operators.specs.Sound.{Sound, Has, HasHalf, IsLoneAt}
+use Rattle.euler_operators.specs.Sound.{Sound, Has, HasHalf}
 use Rattle.euler_operators.proofs.Halves.{mate_other, mate-mate}
 use Rattle.euler_operators.proofs.Tables.{row_elsewhere}
-use Rattle.euler_operators.proofs.Models.{in-holds, holds_in, never_lone}
+use Rattle.euler_operators.proofs.Models.{in-holds, holds_in}
 use Rattle.euler_operators.specs.Effect.{edge_row}
 use Rattle.euler_laws.proofs.shared.Fans.{Fan}
 use Rattle.euler_laws.proofs.shared.Loops.{IsLoop, canonical_cycle, canonical_ring, Walks}
@@ -22,7 +22,7 @@ use Rattle.euler_laws.proofs.shared.Rows.{content_none, never_outer, was_empty}
 use Rattle.euler_laws.proofs.shared.Parts.{VerticesHold, RangesHold, sound_of, fit-put, fit-remove, FacesStay, solid_kept, faces_hold}
 use Rattle.euler_laws.proofs.shared.EdgeMore.{OneMore, comes, PutBefore, not_h, not_m, first_starts, second_starts, fan_alone, ring_mef-other, fans-more, fan_first, fan_second, fan_other, vertices_hold-more}
 use Rattle.euler_laws.proofs.shared.EdgeLess.{ticks_apart}
-use Rattle.euler_laws.proofs.shared.TwoRows.{RowsSet, row_first, row_second, row_else, content_first, face_same, has_same, OneOf, TwoRows, which, in_both, loop_both, Elsewhere, none_elsewhere, walks-rows, one_solid-rows, two_rows-more}
+use Rattle.euler_laws.proofs.shared.TwoRows.{RowsSet, row_first, row_second, row_else, content_first, face_same, has_same, OneOf, TwoRows, lone_else, in_both, loop_both, Elsewhere, none_elsewhere, walks-rows, one_solid-rows, two_rows-more}
 use Rattle.euler_laws.proofs.mekr.MekrSpots.{JoinGoes, count_spot, half_there, loop_there, ring_there, first_cases, vertex_there, only_lone}
 
 -- Y of loop q and X of loop l become the loop h X m Y: mekr, by what its corners stand for
@@ -236,15 +236,6 @@ module _ {M : Model} (sound : Sound M) {h q l u w : ℕ} {Y X : List ℕ} (goes 
 
   -- ---- vertices
 
-  lone_back : (p t : ℕ) → IsLoneAt N p t → IsLoneAt M p t × (p ≢ q) × (p ≢ l)
-  lone_back p t z = elim (which q l p) [
-    | inl o ↦ absurd (elim o [
-      | inl a ↦ never_lone (canonical zs) t (sym (content_first set) ∙ ap (content N) (sym a) ∙ z)
-      | inr a ↦ never_lone [] t (sym content_l ∙ ap (content N) (sym a) ∙ z)
-    ])
-    | inr n ↦ (sym (rows.other_content p n) ∙ z, n.0, n.1)
-  ]
-
   -- a lone loop that is joined had its vertex at the edge's end
   vertices : VerticesHold N
   unfolding join_loops
@@ -253,7 +244,7 @@ module _ {M : Model} (sound : Sound M) {h q l u w : ℕ} {Y X : List ℕ} (goes 
     second_there = vertex_there M sound l w X goes.second;
     on = λ v t. t;
     back = λ v t a. t;
-    lone_back = λ p t z. let b = lone_back p t z in
+    lone_back = λ p t z. let b = lone_else sound rows (content_first set) content_l p t z in
         (b.0, λ a. b.1 (only_lone M sound q u Y goes.first p (b.0 ∙ ap lone a)), λ a. b.2 (only_lone M sound l w X goes.second p (b.0 ∙ ap lone a)));
     lone_on = λ p t z a b. rows.other_content p (
       λ o. a (was_empty Y u t (sym goes.first.holds_it ∙ ap (content M) (sym o) ∙ z)).1,

@@ -21,7 +21,7 @@ use Rattle.euler_laws.proofs.shared.Fans.{Fan, fan_of}
 use Rattle.euler_laws.proofs.shared.Loops.{IsLoop, canonical_cycle, canonical_ring, Walks, after-walks, one_vertex}
 use Rattle.euler_laws.proofs.shared.Same.{SameFaces, solid_at}
 use Rattle.euler_laws.proofs.shared.Parts.{VerticesHold, RangesHold, sound_of, fit-put, points-put, FacesStay, stay_of_same, solid_kept, faces_hold}
-use Rattle.euler_laws.proofs.shared.EdgeMore.{OneMore, comes, not_h, not_m, half_h, tail-h, tail_old, half_cases, first_starts, second_starts, fan_alone, fan_stays, fans-more, vertices_hold-more}
+use Rattle.euler_laws.proofs.shared.EdgeMore.{OneMore, comes, not_h, not_m, half_h, half_m, tail-h, tail_old, half_cases, first_starts, second_starts, fan_alone, fan_stays, fans-more, vertices_hold-more}
 use Rattle.euler_laws.proofs.shared.EdgeLess.{ticks_apart}
 use Rattle.euler_laws.proofs.shared.TwoRows.{OneOf, TwoRows, Elsewhere, walks-rows, one_solid-rows, two_rows-more}
 
@@ -147,6 +147,9 @@ module _ {M : Model} (sound : Sound M) {l h v u : ℕ} {p : Point} (goes : LoneG
 
   pub after-h : after N h ≡ m
   after-h = after-walks N F walks h (half_h (comes edge)) ∙ F_h
+
+  pub after-m : after N m ≡ h
+  after-m = after-walks N F walks m (half_m (comes edge)) ∙ F_m
 
   -- ---- vertices
 

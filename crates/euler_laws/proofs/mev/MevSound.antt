@@ -19,7 +19,7 @@ use Rattle.euler_operators.proofs.Tables.{get-put_here, get-put_other, row_elsew
 use Rattle.euler_operators.proofs.Models.{no_tail, in-holds, holds_in, cycle_there, mate_there}
 use Rattle.euler_operators.specs.Effect.{mev_at, edge_row, with_before, with_tails}
 use Rattle.euler_laws.proofs.shared.Fans.{Fan, fan_of}
-use Rattle.euler_laws.proofs.shared.Loops.{IsLoop, put_before, put_none, put_lone, lone_put, count_put_there, count_put_none, count_put_other, put_keeps, put_came, loop_put, loop_sound, none_free, Walks}
+use Rattle.euler_laws.proofs.shared.Loops.{IsLoop, put_before, put_none, put_lone, lone_put, count_put_there, count_put_none, count_put_other, put_keeps, put_came, loop_put, loop_sound, none_free, none_else, Walks}
 use Rattle.euler_laws.proofs.shared.Arcs.{halves_of_edge, arc_is, fan_mev, fan_mev_other}
 use Rattle.euler_laws.proofs.shared.Same.{map_twice, mapped_some, Rewritten, content-new, face-same, loop-same, SameFaces, solid_at, solid_at-same, one_solid_round}
 use Rattle.euler_laws.proofs.shared.Rows.{count-halves}
@@ -208,15 +208,12 @@ module _ (M : Model) (sound : Sound M) (g k h v : ℕ) (p : Point) (goes : MevGo
   stands_m : StandsIn N m s
   stands_m = stands_N m s (omega (arith, count_put_there m k m (first s) (put_keeps k g h (content M s) (cycle_there M sound k goes.k_there)), tick_same m))
 
-  not_in : (x q : ℕ) → q ≢ loop_of M x → count x (hs q) ≡ 0
-  not_in x q a = elim (IsIn_or_not x (hs q)) [ inl i ↦ absurd (a (sym (sound.one_loop x q (in-holds x (content M q) i)))) | inr n ↦ n ]
-
   count_old : (x q : ℕ) → edge_of x ≢ edge_of h → count x (items_of (content N q)) ≡ count x (hs q)
   count_old x q a = ap (λ c. count x (items_of c)) (content-N q) ∙ count_put_other x k m (first q) (not_mate x h a) ∙ count_put_other x g h (content M q) (edges_apart x h a)
 
   rows : TwoRows M N (edge_of h) r s
   rows = record {
-    other_content = λ q n. content-N q ∙ ap (put_before k m) (put_none g h (content M q) (not_in g q n.0)) ∙ put_none k m (content M q) (not_in k q n.1);
+    other_content = λ q n. content-N q ∙ ap (put_before k m) (put_none g h (content M q) (none_else M sound g q n.0)) ∙ put_none k m (content M q) (none_else M sound k q n.1);
     other_loop = λ q n. same.loop q;
     other_edge = λ d a. ap is_some (edge_mapped d a) ∙ mapped_some _ (table.get M.edges d);
     others = λ x a. omega (arith, count_old x r a, count_old x s a);

@@ -164,6 +164,10 @@ module _ (M : Model) (sound : Sound M) where
     | inr n ↦ n
   ]
 
+  -- a half-edge stands in no loop but its own
+  pub none_else : (x q : ℕ) → q ≢ loop_of M x → count x (items_of (content M q)) ≡ 0
+  none_else x q a = elim (IsIn_or_not x (items_of (content M q))) [ inl i ↦ absurd (a (sym (sound.one_loop x q (in-holds x (content M q) i)))) | inr n ↦ n ]
+
 -- ---- the walks of a model
 
 -- half-edges stand in loops, each in one, and next leads round each loop and, with mate, round each vertex

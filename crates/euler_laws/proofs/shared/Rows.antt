@@ -13,11 +13,11 @@ use Rattle.euler_operators.specs.declared.HalfEdge.{HalfEdge}
 use Rattle.euler_operators.specs.HalfEdge.{code, mate, edge_of, is_first, plus}
 use Rattle.euler_operators.specs.Table as table
 use Rattle.euler_operators.specs.Table.{Table, tables, same_table}
-use Rattle.euler_operators.specs.Model.{Model, LoopContent, lone, cycle, FaceRow, LoopRow, EdgeRow, no_face, no_edge, no_point, tail_in, items_of, holds, tail, face_of, outer, solid_of, point_of, no_loop, content, rings_of, is_ring_of}
+use Rattle.euler_operators.specs.Model.{Model, loop_of, cycle_of, LoopContent, lone, cycle, FaceRow, LoopRow, EdgeRow, no_face, no_edge, no_point, tail_in, items_of, holds, tail, face_of, outer, solid_of, point_of, no_loop, content, rings_of, is_ring_of}
 use Rattle.euler_operators.specs.Sound.{Sound, Has, HasHalf, IsCycle}
 use Rattle.euler_operators.proofs.Halves.{edge_of-code, edge_of-mate, is_first-mate, plus_row}
-use Rattle.euler_operators.proofs.Tables.{all_where_none, none_all_where, row_some}
-use Rattle.euler_operators.proofs.Models.{face_row}
+use Rattle.euler_operators.proofs.Tables.{all_where_none, none_all_where, row_some, map_one}
+use Rattle.euler_operators.proofs.Models.{face_row, row_of, other_loop, in-holds, cycle_there}
 use Rattle.euler_operators.proofs.Tests.{none_but}
 use Rattle.euler_operators.specs.Conditions.{has_rings, is_empty, is_lone, lone_vertex}
 use Rattle.euler_operators.specs.Effect.{where_held, edge_row, cycle_or_lone}
@@ -29,6 +29,13 @@ where_held_none g new l row e = ap (λ b. cond b (record row { content = new (it
 
 pub where_held_there : (g : ℕ) (new : List ℕ → LoopContent) (l : ℕ) (row : LoopRow) → holds g row.content ≡ true → where_held g new l row ≡ record row { content = new (items_of row.content) }
 where_held_there g new l row e = ap (λ b. cond b (record row { content = new (items_of row.content) }) row) e
+
+-- it rewrites the loop of the half-edge alone
+pub held_row : (M : Model) → Sound M → (h : ℕ) → HasHalf M h → (new : List ℕ → LoopContent) →
+    table.map_rows (where_held h new) M.loops ≡ table.put M.loops (loop_of M h) (record { face = face_of M (loop_of M h); content = new (cycle_of M h) })
+held_row M sound h there new =
+    map_one (where_held h new) M.loops (loop_of M h) _ (row_of M sound h there) (λ q row ne at. where_held_none h new q row (other_loop M sound h q row ne at))
+    ∙ ap (table.put M.loops (loop_of M h)) (where_held_there h new (loop_of M h) _ (in-holds h (cycle (cycle_of M h)) (cycle_there M sound h there)))
 
 pub one_row : {X : Type 0} {x y : X} → Some x ≡ Some y → x ≡ y
 one_row e = cc

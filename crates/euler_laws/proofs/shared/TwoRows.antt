@@ -9,7 +9,7 @@ use Rattle.euler_operators.specs.Table as table
 use Rattle.euler_operators.specs.Model.{Model, LoopContent, lone, cycle, LoopRow, items_of, holds, tail, loop_of, content, face_of, after}
 use Rattle.euler_operators.specs.Sound.{Sound, Has, HasHalf, StandsIn}
 use Rattle.euler_operators.proofs.Halves.{edge_of-mate, same_edge}
-use Rattle.euler_operators.proofs.Models.{mate_there, in-holds, holds_in, held_row, content_row, face_row, same_content, same_face}
+use Rattle.euler_operators.proofs.Models.{never_lone, mate_there, in-holds, holds_in, held_row, content_row, face_row, same_content, same_face}
 use Rattle.euler_operators.proofs.Tables.{get-put_here, get-put_other}
 use Rattle.euler_laws.proofs.shared.Fans.{Fan}
 use Rattle.euler_laws.proofs.shared.Loops.{IsLoop, loop_sound, Walks, loop_at}
@@ -172,6 +172,17 @@ module _ {M N : Model} {e r s : ℕ} (sound : Sound M) (rows : TwoRows M N e r s
     | inl i ↦ let k = both_stand N r s x i in (k.0, k.2, one_of_two x k.0 k.1 k.2)
     | inr o ↦ (loop_of M x, stays x o.0 o.1, stays_alone x o.2)
   ]
+
+  -- ---- lone loops, where neither of the two is lone
+
+  pub lone_else : {hs ks : List ℕ} → content N r ≡ cycle hs → content N s ≡ cycle ks → (q v : ℕ) → content N q ≡ lone v → (content M q ≡ lone v) × (q ≢ r) × (q ≢ s)
+  lone_else a b q v e = elim (which r s q) [
+    | inl o ↦ absurd (elim o [ inl p ↦ never_lone _ v (sym a ∙ ap (content N) (sym p) ∙ e) | inr p ↦ never_lone _ v (sym b ∙ ap (content N) (sym p) ∙ e) ])
+    | inr n ↦ (sym (rows.other_content q n) ∙ e, n.0, n.1)
+  ]
+
+  pub lone_still : {hs ks : List ℕ} → content M r ≡ cycle hs → content M s ≡ cycle ks → (q v : ℕ) → content M q ≡ lone v → content N q ≡ lone v
+  lone_still a b q v e = rows.other_content q (λ p. never_lone _ v (sym a ∙ ap (content M) (sym p) ∙ e), λ p. never_lone _ v (sym b ∙ ap (content M) (sym p) ∙ e)) ∙ e
 
   -- ---- walks
 

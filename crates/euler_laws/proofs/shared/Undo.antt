@@ -22,6 +22,8 @@ use Rattle.euler_operators.specs.Conditions.{parallel}
 use Rattle.euler_laws.proofs.shared.Loops.{apart_out}
 use Rattle.euler_laws.proofs.shared.Arcs.{halves_of_edge}
 use Rattle.euler_laws.proofs.shared.Goes.{no_zero}
+use Rattle.euler_laws.proofs.shared.EdgeMore.{EdgeComes, half_h}
+use Rattle.euler_laws.proofs.shared.EdgeLess.{EdgeGoes}
 
 loop_alike : (a b : Option LoopRow) → is_some a ≡ is_some b → (is_some b ≡ true → (unwrap_or a no_loop).face ≡ (unwrap_or b no_loop).face) → (is_some b ≡ true → (unwrap_or a no_loop).content ≡ (unwrap_or b no_loop).content) → a ≡ b
 loop_alike None None s f c = refl
@@ -53,6 +55,19 @@ pub same_edges : (K M : Model) → ((e : ℕ) → table.has K.edges e ≡ table.
 same_edges K M s t = same_table _ _ (λ e. edge_alike (table.get K.edges e) (table.get M.edges e) (s e)
     (λ there. sym (plus_tail K e) ∙ t (plus e) (ap (λ n. is_some (table.get M.edges n)) (plus_row e).0 ∙ there) ∙ plus_tail M e)
     (λ there. sym (minus_tail K e) ∙ t (minus e) (ap (λ n. is_some (table.get M.edges n)) (minus_row e).0 ∙ there) ∙ minus_tail M e))
+
+-- an edge that comes and goes, and one that goes and comes again
+pub edge_back : {M N K : Model} {h u w : ℕ} → EdgeComes M N h u w → EdgeGoes N K h → (e : ℕ) → table.has K.edges e ≡ table.has M.edges e
+edge_back {M = M} {K = K} {h = h} came went e = elim (eqb_tells e (edge_of h)) [
+  | inl a ↦ ap (table.has K.edges) a.1 ∙ ap is_some went.gone ∙ sym (ap (table.has M.edges) a.1 ∙ ap is_some came.free)
+  | inr a ↦ went.others e a.1 ∙ came.others e a.1
+]
+
+pub edge_again : {M N K : Model} {h u w : ℕ} → EdgeGoes M N h → HasHalf M h → EdgeComes N K h u w → (e : ℕ) → table.has K.edges e ≡ table.has M.edges e
+edge_again {M = M} {K = K} {h = h} went there came e = elim (eqb_tells e (edge_of h)) [
+  | inl a ↦ ap (table.has K.edges) a.1 ∙ half_h came ∙ sym (ap (table.has M.edges) a.1 ∙ there)
+  | inr a ↦ came.others e a.1 ∙ went.others e a.1
+]
 
 pub same_model : (K M : Model) → K.solids ≡ M.solids → K.faces ≡ M.faces → K.loops ≡ M.loops → K.edges ≡ M.edges → K.vertices ≡ M.vertices → K ≡ M
 same_model K M a b c d e = λ i. record { solids = a i; faces = b i; loops = c i; edges = d i; vertices = e i }
