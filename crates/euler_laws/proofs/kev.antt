@@ -2,5 +2,4 @@ pub mod KevSound
 pub mod MevLone
 pub mod MevUndo
 pub mod KevUndo
-pub mod KevBare
 pub mod Kev

@@ -4,9 +4,9 @@ use Rattle.std.proofs.lemmas.Bool.Decides.{eqb_tells}
 use Rattle.std.proofs.lemmas.Bool.{not-true, ne_eqb, eq-eqb, eqb-true, eqb-false}
 use Rattle.euler_operators.specs.Table as table
 use Rattle.euler_operators.specs.Table.{map_rows}
-use Rattle.euler_operators.specs.Model.{Model, FaceRow, face_of, solid_of, outer, is_number}
+use Rattle.euler_operators.specs.Model.{Model, face_of, solid_of, outer, is_number}
 use Rattle.euler_operators.specs.Sound.{Sound, Has}
-use Rattle.euler_operators.proofs.Tables.{put-remove, remove-put, no_row, row_elsewhere}
+use Rattle.euler_operators.proofs.Tables.{remove-put, no_row, row_elsewhere}
 use Rattle.euler_operators.proofs.Models.{solid_row, outer_row}
 use Rattle.euler_operators.proofs.Tests.{nat_eq_itself}
 use Rattle.euler_operators.specs.declared.Op.TheVariants.{Kfmrh, Mfkrh}
@@ -15,7 +15,7 @@ use Rattle.euler_operators.specs.Effect.{effect, inverse, kfmrh, mfkrh, loop_to_
 use Rattle.euler_laws.proofs.shared.Goes.{◌also◌, all_hold, none_refuses, not_false, taken}
 use Rattle.euler_laws.proofs.shared.Parts.{FaceSet, row_here, has_on, has_back, solid_other, outer_other, fit-put, fit-remove}
 use Rattle.euler_laws.proofs.shared.Faces.{SameWalks, LoopMoves, face_moved, face_kept, walks_same, old_outer, sound-moves, loop_home}
-use Rattle.euler_laws.proofs.shared.Rows.{face_there, no_rings_means, means_no_rings, never_outer, is_ring, test_ring}
+use Rattle.euler_laws.proofs.shared.Rows.{put_again, face_there, no_rings_means, means_no_rings, never_outer, is_ring, test_ring}
 use Rattle.euler_laws.proofs.shared.Lawful.{IsLawful}
 
 pub record KillGoes (M : Model) (f g : ℕ) : Type 0 where
@@ -109,15 +109,11 @@ module _ (M : Model) (sound : Sound M) (f g : ℕ) (goes : KillGoes M f g) where
   }
 
   -- mfkrh takes it back
-  faces_put : (x : FaceRow) → table.get M.faces g ≡ Some x → (record { solid = solid_of N (face_of N l); outer = l }) ≡ x → (mfkrh N l g).faces ≡ M.faces
-  unfolding mfkrh kfmrh
-  faces_put x at e = ap (table.put (table.remove M.faces g) g) e ∙ put-remove M.faces g x at
-
   pub mfkrh-kfmrh : mfkrh N l g ≡ M
   unfolding mfkrh kfmrh
   mfkrh-kfmrh = λ i. record M {
     loops = loop_home M l f g l_face i;
-    faces = faces_put (record { solid = solid_of M g; outer = l }) (face_there M g goes.g_there) (λ j. record { solid = (ap (solid_of N) kill_face_l ∙ f_solid) j; outer = l }) i;
+    faces = put_again M.faces g (record { solid = solid_of M g; outer = l }) (record { solid = solid_of N (face_of N l); outer = l }) (face_there M g goes.g_there) (λ j. record { solid = (ap (solid_of N) kill_face_l ∙ f_solid) j; outer = l }) i;
   }
 
 -- ---- mfkrh

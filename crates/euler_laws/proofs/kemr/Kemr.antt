@@ -11,10 +11,10 @@ use Rattle.euler_operators.specs.declared.HalfEdge.{HalfEdge}
 use Rattle.euler_operators.specs.declared.Corner.{Corner}
 use Rattle.euler_operators.specs.HalfEdge.{code, half, mate, edge_of}
 use Rattle.euler_operators.specs.Table as table
-use Rattle.euler_operators.specs.Model.{Model, cycle, LoopRow, EdgeRow, items_of, tail, loop_of, content, cycle_of, face_of, outer, is_number, is_ring_of}
+use Rattle.euler_operators.specs.Model.{Model, cycle, LoopRow, items_of, tail, loop_of, content, cycle_of, face_of, outer, is_number, is_ring_of}
 use Rattle.euler_operators.specs.Sound.{Sound, Has, HasHalf}
 use Rattle.euler_operators.proofs.Halves.{edge_of-code, code-half, mate-mate, mate_other}
-use Rattle.euler_operators.proofs.Tables.{put-remove, two_undone, no_row}
+use Rattle.euler_operators.proofs.Tables.{two_undone, no_row}
 use Rattle.euler_operators.proofs.Models.{row_of}
 use Rattle.euler_operators.specs.declared.Op.TheVariants.{Kemr, Mekr}
 use Rattle.euler_operators.specs.Conditions.{AllHold, first_false, conditions, corner_tail, corner_loop, corner_list, corner_known, corner_lone, corner_number, lone_vertex, is_lone}
@@ -26,7 +26,7 @@ use Rattle.euler_laws.proofs.shared.TwoRows.{RowsSet, row_first, row_second, con
 use Rattle.euler_laws.proofs.kemr.KemrSound as parted
 use Rattle.euler_laws.proofs.kemr.KemrSound.{KemrGoes, sound-kemr}
 use Rattle.euler_laws.proofs.shared.Undo.{same_model}
-use Rattle.euler_laws.proofs.shared.Rows.{edge_there, half_of, of_half}
+use Rattle.euler_laws.proofs.shared.Rows.{put_again, edge_there, half_of, of_half}
 use Rattle.euler_laws.proofs.shared.Lawful.{IsLawful}
 
 -- a corner of loop q at vertex v, from which the loop reads zs
@@ -193,12 +193,9 @@ module _ {M : Model} (sound : Sound M) {h l : ℕ} (goes : KemrGoes M h l) where
       ∙ ap (λ t. table.remove (table.put t r (record { face = face_of M r; content = cycle (cycle_of M h) })) l) (parted.loops_are M sound h l goes)
       ∙ two_undone M.loops r l _ _ _ (parted.r_l M sound h l goes) (row_of M sound h goes.h_there) goes.loop_free
 
-  edges_put : (x : EdgeRow) → table.get M.edges (edge_of h) ≡ Some x → edge_row h (corner_tail N C) (corner_tail N D) ≡ x → K.edges ≡ M.edges
-  unfolding mekr kemr
-  edges_put x at e = ap (table.put (table.remove M.edges (edge_of h)) (edge_of h)) e ∙ put-remove M.edges (edge_of h) x at
-
   edges-back : K.edges ≡ M.edges
-  edges-back = edges_put (edge_row h (tail M h) (tail M m)) (edge_there M h goes.h_there) (λ i. edge_row h (put_goes.first.vertex i) (put_goes.second.vertex i))
+  unfolding mekr kemr
+  edges-back = put_again M.edges (edge_of h) (edge_row h (tail M h) (tail M m)) (edge_row h (corner_tail N C) (corner_tail N D)) (edge_there M h goes.h_there) (λ i. edge_row h (put_goes.first.vertex i) (put_goes.second.vertex i))
 
   pub mekr-kemr_back : mekr (kemr M h l) (corner_of Y r) (corner_of X l) h ≡ M
   unfolding mekr kemr

@@ -99,18 +99,6 @@ module _ (M : Model) (sound : Sound M) (h l : ℕ) (goes : KemrGoes M h l) where
   head_empty k [] n e = refl
   head_empty k (z ∷ zs) n e = absurd (omega (arith, n, ap (tick k) e, tick_same k))
 
-  pub y_empty : after M m ≡ h → Y ≡ []
-  y_empty e = head_empty h Y h_out (sym after_m ∙ e)
-
-  pub x_empty : after M h ≡ m → X ≡ []
-  x_empty e = head_empty m X m_out (sym after_h ∙ e)
-
-  pub empty_y : Y ≡ [] → after M m ≡ h
-  empty_y e = after_m ∙ ap (head_or h) e
-
-  pub empty_x : X ≡ [] → after M h ≡ m
-  empty_x e = after_h ∙ ap (head_or m) e
-
   -- ---- loops
 
   abbrev pub kept : LoopRow
@@ -156,13 +144,10 @@ module _ (M : Model) (sound : Sound M) (h l : ℕ) (goes : KemrGoes M h l) where
   count_now : (x : ℕ) → in_both N r l x ≡ count x Y + count x X
   count_now x = (λ i. count x (items_of (content_first set i)) + count x (items_of (content_l i))) ∙ (λ i. count_or_lone x Y u i + count_or_lone x X w i)
 
-  count_was : (x : ℕ) → in_both M r l x ≡ count x xs + 0
-  count_was x = ap (λ c. count x xs + count x (items_of c)) content_free
-
   rows : TwoRows M N (edge_of h) r l
   rows = two_rows-less less (record {
     other_row = row_else set;
-    others = λ x a. omega (arith, count_now x, count_was x, count_xs x, ticks_apart x h a);
+    others = λ x a. omega (arith, count_now x, ap (λ c. count x xs + count x (items_of c)) content_free, count_xs x, ticks_apart x h a);
     once = λ x t k. absurd (omega (arith, holds_in x (content N r) t, holds_in x (content N l) k, count_now x, count_xs x, cyc.apart x));
   }) (omega (arith, h_in)) (omega (arith, m_in)) (omega (arith, count_now h, count_xs h, tick_same h, cyc.apart h)) (omega (arith, count_now m, count_xs m, tick_same m, cyc.apart m))
 
@@ -193,8 +178,8 @@ module _ (M : Model) (sound : Sound M) (h l : ℕ) (goes : KemrGoes M h l) where
   lone_back : (q t : ℕ) → IsLoneAt N q t → IsLoneAt M q t ⊎ (((q ≡ r) × (t ≡ u) × (after M m ≡ h)) ⊎ ((q ≡ l) × (t ≡ w) × (after M h ≡ m)))
   lone_back q t e = elim (which r l q) [
     | inl o ↦ inr (elim o [
-      | inl p ↦ let x = was_empty Y u t (sym (content_first set) ∙ ap (content N) (sym p) ∙ e) in inl (p, x.1, empty_y x.0)
-      | inr p ↦ let x = was_empty X w t (sym content_l ∙ ap (content N) (sym p) ∙ e) in inr (p, x.1, empty_x x.0)
+      | inl p ↦ let x = was_empty Y u t (sym (content_first set) ∙ ap (content N) (sym p) ∙ e) in inl (p, x.1, after_m ∙ ap (head_or h) x.0)
+      | inr p ↦ let x = was_empty X w t (sym content_l ∙ ap (content N) (sym p) ∙ e) in inr (p, x.1, after_h ∙ ap (head_or m) x.0)
     ])
     | inr n ↦ inl (sym (rows.other_content q n) ∙ e)
   ]
@@ -205,8 +190,8 @@ module _ (M : Model) (sound : Sound M) (h l : ℕ) (goes : KemrGoes M h l) where
     vertices = refl;
     lone_back = lone_back;
     lone_on = lone_still sound rows (content_cycle M sound h goes.h_there) content_free;
-    first_lone = λ e. content_first set ∙ ap (λ z. cycle_or_lone z u) (y_empty e);
-    second_lone = λ e. content_l ∙ ap (λ z. cycle_or_lone z w) (x_empty e);
+    first_lone = λ e. content_first set ∙ ap (λ z. cycle_or_lone z u) (head_empty h Y h_out (sym after_m ∙ e));
+    second_lone = λ e. content_l ∙ ap (λ z. cycle_or_lone z w) (head_empty m X m_out (sym after_h ∙ e));
   })
 
   -- ---- faces

@@ -23,9 +23,7 @@ use Rattle.euler_laws.proofs.kev.MevLone.{kev-mev_lone}
 use Rattle.euler_laws.proofs.mev.MevLoneSound.{sound-mev_lone}
 use Rattle.euler_laws.proofs.kev.KevSound.{KevGoes, sound-kev}
 use Rattle.euler_laws.proofs.kev.KevUndo as redo
-use Rattle.euler_laws.proofs.kev.KevUndo.{mev_at-kev}
-use Rattle.euler_laws.proofs.kev.KevBare as bare_end
-use Rattle.euler_laws.proofs.kev.KevBare.{mev_lone-kev}
+use Rattle.euler_laws.proofs.kev.KevUndo.{mev_at-kev, mev_lone-kev}
 use Rattle.euler_laws.proofs.mev.Mev.{mev_goes, mev_accepted, lone_goes, lone_accepted, mixed_first, mixed_second}
 use Rattle.euler_laws.proofs.shared.Rows.{half_of, of_half}
 use Rattle.euler_laws.proofs.shared.Lawful.{IsLawful}
@@ -135,7 +133,7 @@ module _ (M : Model) (h : HalfEdge) (sound : Sound M) (goes : KevGoes M (code h)
   kev_back_goes = elim (eqb_tells (after M m) (code h)) [
     | inl e ↦ let c = corners_bare M (code h) e.1 (goes.not_bare e.1) in
         ap (λ x. first_false N (Mev x (kev_corner_mate M (code h)) h (tail M m) p)) c.0 ∙ ap (λ x. first_false N (Mev (Lone (loop_of M (code h))) x h (tail M m) p)) c.1
-        ∙ lone_accepted N (loop_of M (code h)) h (tail M m) (tail M (code h)) p (sound-kev M sound (code h) goes) (bare_end.lone_goes sound goes e.1)
+        ∙ lone_accepted N (loop_of M (code h)) h (tail M m) (tail M (code h)) p (sound-kev M sound (code h) goes) (redo.lone_goes sound goes e.1)
     | inr e ↦ let c = corners_open M (code h) e.1 in
         ap (λ x. first_false N (Mev x (kev_corner_mate M (code h)) h (tail M m) p)) c.0 ∙ ap (λ x. first_false N (Mev (At (half (corner M (code h)))) x h (tail M m) p)) c.1
         ∙ mev_accepted N (half (corner M (code h))) (half (after M m)) h (tail M m) p (sound-kev M sound (code h) goes) (codes_goes e.1)

@@ -37,6 +37,20 @@ moved_mapped : (v w e : ℕ) (b : Bool) (o : Option EdgeRow) → is_some o ≡ t
 moved_mapped v w e b None t = absurd (true≢false (sym t))
 moved_mapped v w e b (Some row) t = moved_in v w e row b
 
+-- what kev leaves of a content
+abbrev pub without_both : ℕ → ℕ → LoopContent → LoopContent
+without_both h t c = cond (holds h c || holds (mate h) c) (cycle_or_lone (without (mate h) (without h (items_of c))) t) c
+
+module _ (h t : ℕ) where
+  pub back_none : (c : LoopContent) → count h (items_of c) ≡ 0 → count (mate h) (items_of c) ≡ 0 → without_both h t c ≡ c
+  back_none c a b = ap (λ s. cond s (cycle_or_lone (without (mate h) (without h (items_of c))) t) c) (ap (λ s. s || holds (mate h) c) (holds-none h c a) ∙ holds-none (mate h) c b)
+
+  pub back_h : (c : LoopContent) → IsIn h (items_of c) → without_both h t c ≡ cycle_or_lone (without (mate h) (without h (items_of c))) t
+  back_h c a = ap (λ s. cond (s || holds (mate h) c) (cycle_or_lone (without (mate h) (without h (items_of c))) t) c) (in-holds h c a)
+
+  pub back_m : (c : LoopContent) → IsIn (mate h) (items_of c) → without_both h t c ≡ cycle_or_lone (without (mate h) (without h (items_of c))) t
+  back_m c a = ap (λ s. cond (holds h c || s) (cycle_or_lone (without (mate h) (without h (items_of c))) t) c) (in-holds (mate h) c a) ∙ ap (λ s. cond s (cycle_or_lone (without (mate h) (without h (items_of c))) t) c) (or_true (holds h c))
+
 -- what the conditions of kev say
 pub record KevGoes (M : Model) (h : ℕ) : Type 0 where
   pub h_there : HasHalf M h
@@ -91,20 +105,11 @@ module _ (M : Model) (sound : Sound M) (h : ℕ) (goes : KevGoes M h) where
   abbrev pub new : LoopContent → LoopContent
   new c = cond (holds h c || holds m c) (cycle_or_lone (out c) u) c
 
-  pub new_none : (c : LoopContent) → count h (items_of c) ≡ 0 → count m (items_of c) ≡ 0 → new c ≡ c
-  new_none c a b = ap (λ t. cond t (cycle_or_lone (out c) u) c) (ap (λ t. t || holds m c) (holds-none h c a) ∙ holds-none m c b)
-
-  pub new_h : (c : LoopContent) → IsIn h (items_of c) → new c ≡ cycle_or_lone (out c) u
-  new_h c a = ap (λ t. cond (t || holds m c) (cycle_or_lone (out c) u) c) (in-holds h c a)
-
-  pub new_m : (c : LoopContent) → IsIn m (items_of c) → new c ≡ cycle_or_lone (out c) u
-  new_m c a = ap (λ t. cond (holds h c || t) (cycle_or_lone (out c) u) c) (in-holds m c a) ∙ ap (λ t. cond t (cycle_or_lone (out c) u) c) (or_true (holds h c))
-
   -- a loop with neither half stays, and others lose what they have of the two
   pub touched : (c : LoopContent) → ((new c ≡ cycle_or_lone (out c) u) × (IsIn h (items_of c) ⊎ IsIn m (items_of c))) ⊎ ((new c ≡ c) × (count h (items_of c) ≡ 0) × (count m (items_of c) ≡ 0))
   touched c = elim (IsIn_or_not h (items_of c)) [
-    | inl a ↦ inl (new_h c a, inl a)
-    | inr a ↦ elim (IsIn_or_not m (items_of c)) [ inl b ↦ inl (new_m c b, inr b) | inr b ↦ inr (new_none c a b, a, b) ]
+    | inl a ↦ inl (back_h h u c a, inl a)
+    | inr a ↦ elim (IsIn_or_not m (items_of c)) [ inl b ↦ inl (back_m h u c b, inr b) | inr b ↦ inr (back_none h u c a b, a, b) ]
   ]
 
   pub out_none : (c : LoopContent) → count h (items_of c) ≡ 0 → count m (items_of c) ≡ 0 → out c ≡ items_of c
@@ -132,7 +137,7 @@ module _ (M : Model) (sound : Sound M) (h : ℕ) (goes : KevGoes M h) where
     is = refl;
     contents = λ q row. elim (holds h row.content || holds m row.content) as (λ b. (cond b (record row { content = cycle_or_lone (out row.content) u }) row).content ≡ cond b (cycle_or_lone (out row.content) u) row.content) [ true ↦ refl | false ↦ refl ];
     faces = λ q row. elim (holds h row.content || holds m row.content) as (λ b. (cond b (record row { content = cycle_or_lone (out row.content) u }) row).face ≡ row.face) [ true ↦ refl | false ↦ refl ];
-    none = new_none (cycle []) refl refl;
+    none = back_none h u (cycle []) refl refl;
   }
 
   pub same : SameFaces M N
@@ -206,7 +211,7 @@ module _ (M : Model) (sound : Sound M) (h : ℕ) (goes : KevGoes M h) where
   placed x there = let o = half_cases x there in (loop_of M x, (placed_old x o.0 o.1).0, (placed_old x o.0 o.1).1)
 
   pub loop_new : (c : LoopContent) → IsLoop (after M) c → IsLoop F (new c)
-  loop_new (lone v) l = subst (IsLoop F) (sym (new_none (lone v) refl refl)) tt
+  loop_new (lone v) l = subst (IsLoop F) (sym (back_none h u (lone v) refl refl)) tt
   loop_new (cycle hs) l =
       let r : IsRing F (without m (without h hs)) = ring_out (redirect (after M) h (after M h)) m (without h hs) (apart_out h hs l.0.apart) (ring_out (after M) h hs l.0.apart l.1) in
       elim (touched (cycle hs)) [
@@ -316,9 +321,6 @@ module _ (M : Model) (sound : Sound M) (h : ℕ) (goes : KevGoes M h) where
   pub has_vertex : (t : ℕ) → t ≢ w → Has M.vertices t → Has N.vertices t
   has_vertex t a there = ap is_some (vertex_same t a) ∙ there
 
-  pub vertex_back : (t : ℕ) → Has N.vertices t → Has M.vertices t
-  vertex_back t there = ap is_some (sym (vertex_same t (not_w t there))) ∙ there
-
   pub has_u : Has N.vertices u
   has_u = has_vertex u u_w (sound.tails_there h goes.h_there)
 
@@ -357,9 +359,6 @@ module _ (M : Model) (sound : Sound M) (h : ℕ) (goes : KevGoes M h) where
     | inr c ↦ inl (sym c.0 ∙ sym (content-N q) ∙ e)
   ]
 
-  pub lone_on : (q t : ℕ) → content M q ≡ lone t → content N q ≡ lone t
-  lone_on q t e = content-N q ∙ ap new e ∙ new_none (lone t) refl refl
-
   -- where after(m) is h the loop becomes lone
   pub lone_new : after M m ≡ h → content N (loop_of M h) ≡ lone u
   lone_new e =
@@ -373,7 +372,7 @@ module _ (M : Model) (sound : Sound M) (h : ℕ) (goes : KevGoes M h) where
             elim (two_reaches (after M) h m x (goes.not_bare e) e (ring_reaches (after M) (items_of c) h x l.1 i (omega (arith, count_kept x c a b)))) [ inl q ↦ absurd (a q) | inr q ↦ absurd (b q) ]
         | inr j ↦ j
       ] in
-      content-N (loop_of M h) ∙ new_h c i ∙ ap (λ xs. cycle_or_lone xs u) (no_items (out c) z)
+      content-N (loop_of M h) ∙ back_h h u c i ∙ ap (λ xs. cycle_or_lone xs u) (no_items (out c) z)
 
   pub tails_there-kev : (x : ℕ) → HasHalf N x → Has N.vertices (tail N x)
   tails_there-kev x there = let o = half_cases x there in elim (eqb_tells (tail M x) w) [
@@ -412,8 +411,8 @@ module _ (M : Model) (sound : Sound M) (h : ℕ) (goes : KevGoes M h) where
   pub lone_or_tail-kev : (t : ℕ) → Has N.vertices t → ((q : ℕ) × IsLoneAt N q t) ⊎ IsTail N t
   lone_or_tail-kev t there = elim (eqb_tells t u) [
     | inl e ↦ subst (λ y. ((q : ℕ) × IsLoneAt N q y) ⊎ IsTail N y) (sym e.1) at_u
-    | inr e ↦ elim (sound.lone_or_tail t (vertex_back t there)) [
-      | inl a ↦ inl (a.0, lone_on a.0 t a.1)
+    | inr e ↦ elim (sound.lone_or_tail t (ap is_some (sym (vertex_same t (not_w t there))) ∙ there)) [
+      | inl a ↦ inl (a.0, content-N a.0 ∙ ap new a.1 ∙ back_none h u (lone t) refl refl)
       | inr x ↦
           let a : edge_of x.half ≢ edge_of h = other_edge x.half (λ q. e.1 (sym x.starts ∙ ap (tail M) q)) (λ q. not_w t there (sym x.starts ∙ ap (tail M) q)) in
           inr (record { half = x.half; there = half_old x.half x.there a; starts = tail_kept x.half x.there a (λ q. not_w t there (sym x.starts ∙ q)) ∙ x.starts })

@@ -1,35 +1,37 @@
--- kev is taken back by mev at two half-edges, where others leave the kept vertex.
-use Rattle.std.proofs.Common.{◌≡◌, ◌≢◌, ℕ, ◌+◌, cond, nat_eq, List, [], ◌∷◌, ◌++◌, Some, refl, sym, ap, ◌∙◌, subst, arith, ◌⊎◌, inl, inr}
+-- kev is taken back by mev: at two half-edges where others leave the kept vertex, else at the lone loop that is left.
+use Rattle.std.proofs.Common.{◌≡◌, ◌≢◌, ℕ, ◌+◌, cond, nat_eq, List, [], ◌∷◌, ◌++◌, Some, refl, sym, ap, ◌∙◌, subst, arith, ◌⊎◌, inl, inr, is_some}
 use Rattle.std.proofs.lemmas.Bool.Decides.{eqb_tells}
 use Rattle.euler_operators.specs.Items.{count, tick, IsIn, IsApart, head_or}
-use Rattle.euler_operators.specs.Rings.{canonical, rotate_to, rest, between, beyond, successor, IsRing, IsRotation}
+use Rattle.euler_operators.specs.Rings.{canonical, rotate_to, rest, between, beyond, successor, IsRing, IsRotation, IsPath}
 use Rattle.euler_operators.specs.Edits.{insert_before, without}
 use Rattle.euler_operators.specs.Operators.{mev_ring, kev_ring, take_ring}
 use Rattle.euler_operators.proofs.Lists.{count-append, tick_same, tick_other, IsIn_or_not, count-before}
 use Rattle.euler_operators.proofs.Rotations.{count-canonical, IsApart-canonical, canonical-rotates, rotate_to_same, rotate_to_head, count-rotate_to}
 use Rattle.euler_operators.proofs.Rings.{IsIn_successor, count_at, IsRing-same, rotation_at, IsPath-agree}
-use Rattle.euler_operators.proofs.Cuts.{ring_split, upto_once}
+use Rattle.euler_operators.proofs.Cuts.{ring_split, upto_once, canonical_from}
 use Rattle.euler_operators.proofs.Operators.{mev-kev, put-take, apart_left}
 use Rattle.euler_operators.proofs.Edits.{without_none, count-insert_before}
 use Rattle.euler_operators.specs.HalfEdge.{mate, edge_of}
 use Rattle.euler_operators.specs.Table as table
-use Rattle.euler_operators.specs.Model.{Model, LoopContent, lone, cycle, items_of, tail, loop_of, content, after, round, point_of}
+use Rattle.euler_operators.specs.Model.{Model, LoopContent, lone, cycle, items_of, tail, loop_of, content, after, round, point_of, cycle_of}
 use Rattle.euler_operators.specs.Sound.{Sound, Has, HasHalf, IsCycle}
 use Rattle.euler_operators.proofs.Halves.{mate_other, mate-mate, same_edge}
 use Rattle.euler_operators.proofs.Tables.{put-remove}
-use Rattle.euler_operators.proofs.Models.{in-holds, cycle_there, mate_there}
-use Rattle.euler_operators.specs.Effect.{mev_at, kev}
+use Rattle.euler_operators.proofs.Models.{in-holds, cycle_there, mate_there, cycle_sound, content_cycle, row_of}
+use Rattle.euler_operators.specs.Effect.{mev_at, kev, mev_lone}
 use Rattle.euler_laws.proofs.shared.Fans.{half_after, loop_after}
-use Rattle.euler_laws.proofs.shared.Loops.{put_before, put_there, put_none, put_lone, after-walks, count_out}
+use Rattle.euler_laws.proofs.shared.Loops.{put_before, put_there, put_none, put_lone, after-walks, count_out, light, none_else}
 use Rattle.euler_laws.proofs.shared.Arcs.{arc_is}
 use Rattle.euler_laws.proofs.shared.Undo.{same_loops, same_edges, edge_again, same_model, taken_out, both_out, put_in, both_in, after_first}
-use Rattle.euler_laws.proofs.shared.EdgeMore.{EdgeComes, tail-h, tail-m}
+use Rattle.euler_laws.proofs.shared.EdgeMore.{EdgeComes, tail-h, tail-m, OneMore, comes, tail_old}
 use Rattle.euler_laws.proofs.mev.MevSound as put
 use Rattle.euler_laws.proofs.mev.MevSound.{MevGoes}
 use Rattle.euler_laws.proofs.kev.KevSound as kill
-use Rattle.euler_laws.proofs.kev.KevSound.{KevGoes}
-use Rattle.euler_laws.proofs.kev.MevUndo.{without_both, as_cycle, back_none, back_h, back_m}
+use Rattle.euler_laws.proofs.kev.KevSound.{KevGoes, without_both, back_none, back_h, back_m}
+use Rattle.euler_laws.proofs.kev.MevUndo.{as_cycle}
 use Rattle.euler_laws.proofs.shared.Rows.{point_row, after_second}
+use Rattle.euler_laws.proofs.mev.MevLoneSound as lones
+use Rattle.euler_laws.proofs.mev.MevLoneSound.{LoneGoes}
 
 -- ---- lists
 
@@ -87,7 +89,15 @@ module _ (hs : List ℕ) (cy : IsCycle hs) (h m : ℕ) (hm : h ≢ m) where
   pub take_none : (x : ℕ) → IsIn h hs → count x hs ≡ 0 → count x (take_ring h hs) ≡ 0
   take_none x i n = omega (arith, count-canonical x (rest h hs), count_at x h hs i)
 
-module _ {M : Model} (sound : Sound M) {h : ℕ} (goes : KevGoes M h) (open_end : after M (mate h) ≢ h) where
+-- a ring of two
+pair_of : (next : ℕ → ℕ) (h m : ℕ) (rs : List ℕ) → IsPath next (h ∷ rs) h → next h ≡ m → next m ≡ h → h ≢ m → count h rs ≡ 0 → rs ≡ m ∷ []
+pair_of next h m [] p a b ne n = absurd (ne (sym p.0 ∙ a))
+pair_of next h m (x ∷ []) p a b ne n = ap (λ y. y ∷ []) (sym p.0 ∙ a)
+pair_of next h m (x ∷ y ∷ zs) p a b ne n =
+    let e : y ≡ h = sym p.1.0 ∙ ap next (sym p.0 ∙ a) ∙ b in
+    absurd (omega (arith, n, ap (tick h) e, tick_same h))
+
+module _ {M : Model} (sound : Sound M) {h : ℕ} (goes : KevGoes M h) where
   abbrev pub m : ℕ
   m = mate h
 
@@ -100,262 +110,337 @@ module _ {M : Model} (sound : Sound M) {h : ℕ} (goes : KevGoes M h) (open_end 
   pub sound-N : Sound N
   sound-N = kill.sound-kev M sound h goes
 
-  abbrev pub d : ℕ
-  d = after M m
-
-  abbrev pub c : ℕ
-  c = cond (nat_eq (after M h) m) d (after M h)
-
-  pub c_cases : ((after M h ≡ m) × (c ≡ d)) ⊎ ((after M h ≢ m) × (c ≡ after M h))
-  c_cases = elim (eqb_tells (after M h) m) [
-    | inl e ↦ inl (e.1, ap (λ b. cond b d (after M h)) e.0)
-    | inr e ↦ inr (e.1, ap (λ b. cond b d (after M h)) e.0)
-  ]
-
   m_there : HasHalf M m
   m_there = mate_there M h goes.h_there
-
-  d_there : HasHalf M d
-  d_there = half_after M sound m m_there
-
-  d_tail : tail M d ≡ tail M h
-  d_tail = sound.ends_meet m m_there ∙ ap (tail M) (mate-mate h)
-
-  u_w : tail M h ≢ w
-  u_w = sound.ends_differ h goes.h_there
-
-  d_edge : edge_of d ≢ edge_of h
-  d_edge = kill.other_edge M sound h goes d open_end (kill.m_on M sound h goes)
-
-  pub d_new : HasHalf N d × (tail N d ≡ tail M h)
-  d_new = (kill.half_old M sound h goes d d_there d_edge, kill.tail_kept M sound h goes d d_there d_edge (λ e. u_w (sym d_tail ∙ e)) ∙ d_tail)
-
-  pub c_new : HasHalf N c × (tail N c ≡ tail M h)
-  c_new = elim c_cases [
-    | inl e ↦ (subst (HasHalf N) (sym e.1) d_new.0, ap (tail N) e.1 ∙ d_new.1)
-    | inr e ↦
-        let t = half_after M sound h goes.h_there in
-        let a : edge_of (after M h) ≢ edge_of h = kill.other_edge M sound h goes (after M h) (kill.h_on M sound h goes) e.0 in
-        (subst (HasHalf N) (sym e.1) (kill.half_old M sound h goes (after M h) t a), ap (tail N) e.1 ∙ kill.tail_moved M sound h goes (after M h) t a (sound.ends_meet h goes.h_there))
-  ]
 
   pub point_there : table.get M.vertices w ≡ Some (point_of M w)
   point_there = point_row M w (sound.tails_there m m_there)
 
-  pub put_goes : MevGoes N c d h w (point_of M w)
-  put_goes = record {
-    g_there = c_new.0;
-    k_there = d_new.0;
-    edge_free = kill.edge_gone M sound h goes;
-    vertex_free = kill.vertex_gone M sound h goes;
-    one_tail = d_new.1 ∙ sym c_new.1;
-    edge_fits = sound.edges_fit (edge_of h) goes.h_there;
-    vertex_fits = sound.vertices_fit w (sound.tails_there m m_there);
-    point_fits = sound.points_fit w (point_of M w) point_there;
-  }
+  -- an edge that stands alone is taken back by mev at the lone loop that it leaves
+  module _ (bare : after M (mate h) ≡ h) where
+    abbrev u : ℕ
+    u = tail M h
 
-  abbrev pub K : Model
-  K = mev_at N c d h w (point_of M w)
+    abbrev l : ℕ
+    l = loop_of M h
 
-  -- ---- loops
+    to_m : after M h ≡ m
+    to_m = goes.not_bare bare
 
-  after_in : (q x : ℕ) (hs : List ℕ) → content M q ≡ cycle hs → IsIn x hs → after M x ≡ successor hs x
-  unfolding after
-  after_in q x hs e i = ap (λ l. successor (items_of (content M l)) x) (sound.one_loop x q (in-holds x (content M q) (subst (λ c. IsIn x (items_of c)) (sym e) i))) ∙ ap (λ c. successor (items_of c) x) e
+    pub lone_goes : LoneGoes N l h w u (point_of M w)
+    lone_goes = record {
+      is_lone = kill.lone_new M sound h goes bare;
+      loop_there = (kill.same M sound h goes).loop l ∙ ap is_some (row_of M sound h goes.h_there);
+      edge_free = kill.edge_gone M sound h goes;
+      vertex_free = kill.vertex_gone M sound h goes;
+      edge_fits = sound.edges_fit (edge_of h) goes.h_there;
+      vertex_fits = sound.vertices_fit w (sound.tails_there m m_there);
+      point_fits = sound.points_fit w (point_of M w) point_there;
+    }
 
-  -- what follows an item of another loop isn't in this one
-  after_out : (q x : ℕ) (hs : List ℕ) → content M q ≡ cycle hs → HasHalf M x → count x hs ≡ 0 → count (after M x) hs ≡ 0
-  after_out q x hs e t n = elim (IsIn_or_not (after M x) hs) [
-    | inl i ↦
-        let l : loop_of M x ≡ q = sym (loop_after M sound x t) ∙ sound.one_loop (after M x) q (in-holds (after M x) (content M q) (subst (λ c. IsIn (after M x) (items_of c)) (sym e) i)) in
-        let j : IsIn x hs = subst (λ c. IsIn x (items_of c)) (ap (content M) l ∙ e) (cycle_there M sound x t) in
-        absurd (omega arith)
-    | inr z ↦ z
-  ]
+    abbrev L : Model
+    L = mev_lone N l h w (point_of M w)
 
-  hm : h ≢ m
-  hm = mate_other h
+    edge : OneMore N L h u w
+    edge = lones.edge sound-N lone_goes
 
-  abbrev back : LoopContent → LoopContent
-  back x = put_before d m (put_before c h (without_both h (tail M h) x))
+    abbrev hs : List ℕ
+    hs = cycle_of M h
 
-  content_of : (q : ℕ) (x : LoopContent) → Has M.loops q → content M q ≡ x → back x ≡ x
-  content_of q (lone v) there e = ap (λ y. put_before d m (put_before c h y)) (back_none h c d (tail M h) (lone v) refl refl) ∙ ap (put_before d m) (put_lone c h v) ∙ put_lone d m v
-  content_of q (cycle hs) there e =
-      let cy : IsCycle hs = sound.cycles q hs there e in
-      elim (IsIn_or_not h hs) [
-        | inl i ↦ elim (IsIn_or_not m hs) [
-          | inl j ↦
-              let ah : after M h ≡ head_or m (between h m hs) = after_in q h hs e i ∙ after_first hs cy.apart h m i j hm in
-              let am : after M m ≡ head_or h (beyond h m hs) = after_in q m hs e j ∙ after_second hs cy h m hm i j in
-              let ne : beyond h m hs ≢ [] = λ z. open_end (am ∙ ap (head_or h) z) in
-              let de : d ≡ head_or m (beyond h m hs) = am ∙ same_head (beyond h m hs) ne in
-              let ce : c ≡ head_or (head_or m (beyond h m hs)) (between h m hs) = elim c_cases [
-                | inl s ↦ s.1 ∙ de ∙ sym (empty_head (between h m hs) (head_or m (beyond h m hs)) (sym ah ∙ s.0) (count-before m (rest h hs)))
-                | inr s ↦ s.1 ∙ ah ∙ full_head (between h m hs) (head_or m (beyond h m hs)) (λ t. s.0 (ah ∙ t))
-              ] in
-              let t = corners_in hs cy h m hm i j ne in
-              ap (λ y. put_before d m (put_before c h y))
-              (back_h h c d (tail M h) (cycle hs) i ∙ as_cycle (without m (without h hs)) (kev_ring h m hs) (tail M h) (both_out hs cy.apart h m i j hm) (some_item (head_or m (beyond h m hs)) (kev_ring h m hs) t.0))
-              ∙ both_back hs cy h m hm i j ne c d de ce
-          | inr j ↦
-              let ah : after M h ≡ successor hs h = after_in q h hs e i in
-              let hin : IsIn (after M h) hs = subst (λ y. IsIn y hs) (sym ah) (IsIn_successor h hs i) in
-              let ce : c ≡ successor hs h = elim c_cases [ inl s ↦ absurd (omega (arith, hin, ap (λ y. count y hs) s.0)) | inr s ↦ s.1 ∙ ah ] in
-              let dn : count d hs ≡ 0 = after_out q m hs e m_there j in
-              let out : count m (without h hs) ≡ 0 = omega (arith, count_out m h hs (λ s. hm (sym s))) in
-              ap (λ y. put_before d m (put_before c h y))
-              (back_h h c d (tail M h) (cycle hs) i ∙ as_cycle (without m (without h hs)) (take_ring h hs) (tail M h) (ap canonical (without_none m (without h hs) out) ∙ taken_out hs cy.apart h i)
-              (some_item (successor hs h) (take_ring h hs) (in_take hs cy h i (λ s. kill.h_on M sound h goes (ah ∙ s)))))
-              ∙ ap (put_before d m) (ap (λ y. put_before y h (cycle (take_ring h hs))) ce ∙ one_back hs cy h m hm i (λ s. kill.h_on M sound h goes (ah ∙ s)))
-              ∙ put_none d m (cycle hs) dn
-        ]
-        | inr i ↦
-            let ch : count (after M h) hs ≡ 0 = after_out q h hs e goes.h_there i in
-            elim (IsIn_or_not m hs) [
-              | inl j ↦
-                  let am : after M m ≡ successor hs m = after_in q m hs e j in
-                  let cn : count c hs ≡ 0 = elim c_cases [ inl s ↦ absurd (omega (arith, j, ch, ap (λ y. count y hs) s.0)) | inr s ↦ ap (λ y. count y hs) s.1 ∙ ch ] in
-                  let ct : count c (take_ring m hs) ≡ 0 = take_none hs cy m h (λ s. hm (sym s)) c j cn in
-                  ap (λ y. put_before d m (put_before c h y))
-                  (back_m h c d (tail M h) (cycle hs) j ∙ as_cycle (without m (without h hs)) (take_ring m hs) (tail M h) (ap (λ y. canonical (without m y)) (without_none h hs i) ∙ taken_out hs cy.apart m j)
-                  (some_item (successor hs m) (take_ring m hs) (in_take hs cy m j (λ s. kill.m_on M sound h goes (am ∙ s)))))
-                  ∙ ap (put_before d m) (put_none c h (cycle (take_ring m hs)) ct)
-                  ∙ ap (λ y. put_before y m (cycle (take_ring m hs))) am ∙ one_back hs cy m h (λ s. hm (sym s)) j (λ s. kill.m_on M sound h goes (am ∙ s))
-              | inr j ↦
-                  let dn : count d hs ≡ 0 = after_out q m hs e m_there j in
-                  let cn : count c hs ≡ 0 = elim c_cases [ inl s ↦ ap (λ y. count y hs) s.1 ∙ dn | inr s ↦ ap (λ y. count y hs) s.1 ∙ ch ] in
-                  ap (λ y. put_before d m (put_before c h y)) (back_none h c d (tail M h) (cycle hs) i j)
-                  ∙ ap (put_before d m) (put_none c h (cycle hs) cn) ∙ put_none d m (cycle hs) dn
-            ]
-      ] where
-        same_head : (ys : List ℕ) → ys ≢ [] → head_or h ys ≡ head_or m ys
-        same_head [] ne = absurd (ne refl)
-        same_head (y ∷ ys) ne = refl
+    loop_m : loop_of M m ≡ l
+    loop_m = ap (loop_of M) (sym to_m) ∙ loop_after M sound h goes.h_there
 
-        empty_head : (xs : List ℕ) (k : ℕ) → head_or m xs ≡ m → count m xs ≡ 0 → head_or k xs ≡ k
-        empty_head [] k e n = refl
-        empty_head (x ∷ xs) k e n = absurd (omega (arith, n, ap (tick m) e, tick_same m))
+    h_held : IsIn h hs
+    h_held = cycle_there M sound h goes.h_there
 
-        full_head : (xs : List ℕ) (k : ℕ) → head_or m xs ≢ m → head_or m xs ≡ head_or k xs
-        full_head [] k ne = absurd (ne refl)
-        full_head (x ∷ xs) k ne = refl
+    pair : canonical (h ∷ m ∷ []) ≡ hs
+    pair =
+        let cy : IsCycle hs = cycle_sound M sound h goes.h_there in
+        let r : IsRing (after M) (h ∷ rest h hs) = IsRing-same (after M) hs (h ∷ rest h hs) (rotation_at h hs h_held) (light M sound l).1 in
+        let n : count h (rest h hs) ≡ 0 = omega (arith, count_at h h hs h_held, tick_same h, cy.apart h) in
+        ap (λ q. canonical (h ∷ q)) (sym (pair_of (after M) h m (rest h hs) r to_m bare (mate_other h) n))
+        ∙ canonical_from h hs cy.apart h_held ∙ cy.from_least
 
-        some_item : (x : ℕ) (xs : List ℕ) → IsIn x xs → xs ≢ []
-        some_item x xs i z = let t : count x xs ≡ 0 = ap (count x) z in omega arith
-
-        in_take : (xs : List ℕ) → IsCycle xs → (k : ℕ) → IsIn k xs → successor xs k ≢ k → IsIn (successor xs k) (take_ring k xs)
-        in_take xs cy k i ne = omega (arith, count-canonical (successor xs k) (rest k xs), count_at (successor xs k) k xs i, tick_other (successor xs k) k ne, IsIn_successor k xs i)
-
-  contents : (q : ℕ) → Has M.loops q → content K q ≡ content M q
-  contents q there = put.content-N N sound-N c d h w (point_of M w) put_goes q
-      ∙ ap (λ y. put_before d m (put_before c h y)) (kill.content-N M sound h goes q) ∙ content_of q (content M q) there refl
-
-  loops-back : K.loops ≡ M.loops
-  loops-back = same_loops K M
-      (λ q. (put.same N sound-N c d h w (point_of M w) put_goes).loop q ∙ (kill.same M sound h goes).loop q)
-      (λ q _. (put.same N sound-N c d h w (point_of M w) put_goes).face q ∙ (kill.same M sound h goes).face q)
-      contents
-
-  -- ---- what moves back: all but m that started at the killed vertex
-
-  abbrev ws : List ℕ
-  ws = kill.ws M sound h goes
-
-  abbrev vs : List ℕ
-  vs = kill.vs M sound h goes
-
-  h_in : IsIn h ws
-  h_in = kill.h_in M sound h goes
-
-  m_in : IsIn m vs
-  m_in = kill.m_in M sound h goes
-
-  abbrev both : List ℕ
-  both = rest h ws ++ rest m vs
-
-  kept_ring : round M h ≡ head_or h (rest h ws)
-  kept_ring = (IsRing-same (round M) ws (h ∷ rest h ws) (rotation_at h ws h_in) (kill.fan M sound h goes).ring).0
-
-  killed_ring : round M m ≡ head_or m (rest m vs)
-  killed_ring = (IsRing-same (round M) vs (m ∷ rest m vs) (rotation_at m vs m_in) (kill.fan_killed M sound h goes).ring).0
-
-  others : (ts : List ℕ) × (rest h ws ≡ d ∷ ts)
-  others = go (rest h ws) kept_ring where
-    go : (xs : List ℕ) → round M h ≡ head_or h xs → (ts : List ℕ) × (xs ≡ d ∷ ts)
-    go [] e = absurd (open_end e)
-    go (x ∷ xs) e = (xs, ap (λ y. y ∷ xs) (sym e))
-
-  -- c is the first of what moved, or d where nothing did
-  c_first : (ts : List ℕ) → c ≡ head_or d (rest m vs)
-  c_first ts = go (rest m vs) killed_ring (omega (arith, count_at m m vs m_in, tick_same m, (kill.fan_killed M sound h goes).apart m)) where
-    to_m : round M m ≡ after M h
-    to_m = ap (after M) (mate-mate h)
-
-    go : (xs : List ℕ) → round M m ≡ head_or m xs → count m xs ≡ 0 → c ≡ head_or d xs
-    go [] e n = elim c_cases [ inl s ↦ s.1 | inr s ↦ absurd (s.0 (sym to_m ∙ e)) ]
-    go (x ∷ xs) e n = elim c_cases [
-      | inl s ↦ absurd (omega (arith, n, ap (tick m) (sym (sym to_m ∙ e) ∙ s.0), tick_same m))
-      | inr s ↦ s.1 ∙ sym to_m ∙ e
+    bare_contents : (q : ℕ) → Has M.loops q → content L q ≡ content M q
+    bare_contents q there = elim (eqb_tells q l) [
+      | inl e ↦ ap (content L) e.1 ∙ lones.content_new sound-N lone_goes ∙ ap cycle pair ∙ sym (ap (content M) e.1 ∙ content_cycle M sound h goes.h_there)
+      | inr e ↦ lones.content_other sound-N lone_goes q e.1 ∙ kill.content-N M sound h goes q
+          ∙ back_none h (tail M h) (content M q) (none_else M sound h q e.1) (none_else M sound m q (λ s. e.1 (s ∙ loop_m)))
     ]
 
-  pub moved_is : put.moved N sound-N c d h w (point_of M w) put_goes ≡ rest m vs
-  moved_is =
-      let f = kill.fan_u M sound h goes open_end in
-      let all : List ℕ = canonical both in
-      let ts : List ℕ = others.0 in
-      let back_to : List ℕ = rest m vs ++ rest h ws in
-      let r : IsRotation both back_to = record { front = rest h ws; back = rest m vs; here = refl; there = refl } in
-      let ab : IsApart both = λ x. omega (arith, f.apart x, count-canonical x both) in
-      let ci : IsIn c all = f.all c c_new.0 c_new.1 in
-      let di : IsIn d all = f.all d d_new.0 d_new.1 in
-      let cb : IsIn c both = omega (arith, ci, count-canonical c both) in
-      let ring : IsRing (round N) all = IsPath-agree (λ x. kill.F M sound h goes (mate x)) (round N) all (head_or 0 all)
-      (λ x i. sym (after-walks N (kill.F M sound h goes) (kill.walks M sound h goes) (mate x) (mate_there N x (f.of_it x i).0))) f.ring in
-      let e : rotate_to c all ≡ rest m vs ++ d ∷ ts =
-      sym (rotate_to_same c both all (canonical-rotates both) ab cb) ∙ rotate_to_same c both back_to r ab cb
-      ∙ ap (λ y. rotate_to c (rest m vs ++ y)) others.1 ∙ first_is (rest m vs) ts (c_first ts) in
-      sym (put.arc_moved N sound-N c d h w (point_of M w) put_goes)
-      ∙ arc_is N all c d f.apart ring (λ x i. (f.of_it x i).0) ci di
-      ∙ (upto_once c d all (rest m vs) ts f.apart e).0 where
-        first_is : (xs ts : List ℕ) → c ≡ head_or d xs → rotate_to c (xs ++ d ∷ ts) ≡ xs ++ d ∷ ts
-        first_is [] ts e = ap (λ y. rotate_to y (d ∷ ts)) e ∙ rotate_to_head d ts
-        first_is (x ∷ xs) ts e = ap (λ y. rotate_to y (x ∷ (xs ++ d ∷ ts))) e ∙ rotate_to_head x (xs ++ d ∷ ts)
+    bare_loops : L.loops ≡ M.loops
+    bare_loops = same_loops L M
+        (λ q. (lones.same sound-N lone_goes).loop q ∙ (kill.same M sound h goes).loop q)
+        (λ q _. (lones.same sound-N lone_goes).face q ∙ (kill.same M sound h goes).face q)
+        bare_contents
 
-  -- ---- edges and vertices
+    bare_tails : (x : ℕ) → HasHalf M x → tail L x ≡ tail M x
+    bare_tails x there = elim (eqb_tells (edge_of x) (edge_of h)) [
+      | inl e ↦ elim (same_edge x h e.1) [
+        | inl q ↦ ap (tail L) q ∙ tail-h (comes edge) ∙ sym (ap (tail M) q)
+        | inr q ↦ ap (tail L) q ∙ tail-m (comes edge) ∙ sym (ap (tail M) q)
+      ]
+      | inr e ↦ tail_old edge x (kill.half_old M sound h goes x there e.1)
+          ∙ kill.tail_kept M sound h goes x there e.1 (kill.bare M sound h goes bare x there e.1).1
+    ]
 
-  new_edge : EdgeComes N K h (tail N c) w
-  new_edge = put.new_edge N sound-N c d h w (point_of M w) put_goes
+    bare_vertices : L.vertices ≡ M.vertices
+    unfolding kev mev_lone
+    bare_vertices = put-remove M.vertices w (point_of M w) point_there
 
-  tails_old : (x : ℕ) → HasHalf M x → edge_of x ≢ edge_of h → tail K x ≡ tail M x
-  tails_old x there a =
-      let o = kill.half_old M sound h goes x there a in
-      elim (eqb_tells (tail M x) w) [
-        | inl e ↦
-            let i : IsIn x (rest m vs) = omega (arith, count_at x m vs m_in, (kill.fan_killed M sound h goes).all x there e.1, tick_other x m (kill.not_m M sound h goes x a)) in
-            put.tail_moved N sound-N c d h w (point_of M w) put_goes x o (subst (IsIn x) (sym moved_is) i) ∙ sym e.1
-        | inr e ↦
-            let n : count x (rest m vs) ≡ 0 = elim (IsIn_or_not x (rest m vs)) [
-              | inl i ↦ absurd (e.1 ((kill.fan_killed M sound h goes).of_it x (omega (arith, count_at x m vs m_in))).1)
-              | inr z ↦ z
-            ] in
-            put.tail_kept N sound-N c d h w (point_of M w) put_goes x o (ap (count x) moved_is ∙ n) ∙ kill.tail_kept M sound h goes x there a e.1
+    pub mev_lone-kev : mev_lone (kev M h) l h w (point_of M w) ≡ M
+    unfolding kev mev_lone
+    mev_lone-kev = same_model L M refl refl bare_loops (same_edges L M (edge_again (kill.edge_goes M sound h goes) goes.h_there (comes edge)) bare_tails) bare_vertices
+
+  -- and another by mev at two half-edges
+  module _ (open_end : after M (mate h) ≢ h) where
+    abbrev pub d : ℕ
+    d = after M m
+
+    abbrev pub c : ℕ
+    c = cond (nat_eq (after M h) m) d (after M h)
+
+    pub c_cases : ((after M h ≡ m) × (c ≡ d)) ⊎ ((after M h ≢ m) × (c ≡ after M h))
+    c_cases = elim (eqb_tells (after M h) m) [
+      | inl e ↦ inl (e.1, ap (λ b. cond b d (after M h)) e.0)
+      | inr e ↦ inr (e.1, ap (λ b. cond b d (after M h)) e.0)
+    ]
+
+    d_there : HasHalf M d
+    d_there = half_after M sound m m_there
+
+    d_tail : tail M d ≡ tail M h
+    d_tail = sound.ends_meet m m_there ∙ ap (tail M) (mate-mate h)
+
+    u_w : tail M h ≢ w
+    u_w = sound.ends_differ h goes.h_there
+
+    d_edge : edge_of d ≢ edge_of h
+    d_edge = kill.other_edge M sound h goes d open_end (kill.m_on M sound h goes)
+
+    pub d_new : HasHalf N d × (tail N d ≡ tail M h)
+    d_new = (kill.half_old M sound h goes d d_there d_edge, kill.tail_kept M sound h goes d d_there d_edge (λ e. u_w (sym d_tail ∙ e)) ∙ d_tail)
+
+    pub c_new : HasHalf N c × (tail N c ≡ tail M h)
+    c_new = elim c_cases [
+      | inl e ↦ (subst (HasHalf N) (sym e.1) d_new.0, ap (tail N) e.1 ∙ d_new.1)
+      | inr e ↦
+          let t = half_after M sound h goes.h_there in
+          let a : edge_of (after M h) ≢ edge_of h = kill.other_edge M sound h goes (after M h) (kill.h_on M sound h goes) e.0 in
+          (subst (HasHalf N) (sym e.1) (kill.half_old M sound h goes (after M h) t a), ap (tail N) e.1 ∙ kill.tail_moved M sound h goes (after M h) t a (sound.ends_meet h goes.h_there))
+    ]
+
+    pub put_goes : MevGoes N c d h w (point_of M w)
+    put_goes = record {
+      g_there = c_new.0;
+      k_there = d_new.0;
+      edge_free = kill.edge_gone M sound h goes;
+      vertex_free = kill.vertex_gone M sound h goes;
+      one_tail = d_new.1 ∙ sym c_new.1;
+      edge_fits = sound.edges_fit (edge_of h) goes.h_there;
+      vertex_fits = sound.vertices_fit w (sound.tails_there m m_there);
+      point_fits = sound.points_fit w (point_of M w) point_there;
+    }
+
+    abbrev pub K : Model
+    K = mev_at N c d h w (point_of M w)
+
+    -- ---- loops
+
+    after_in : (q x : ℕ) (hs : List ℕ) → content M q ≡ cycle hs → IsIn x hs → after M x ≡ successor hs x
+    unfolding after
+    after_in q x hs e i = ap (λ l. successor (items_of (content M l)) x) (sound.one_loop x q (in-holds x (content M q) (subst (λ c. IsIn x (items_of c)) (sym e) i))) ∙ ap (λ c. successor (items_of c) x) e
+
+    -- what follows an item of another loop isn't in this one
+    after_out : (q x : ℕ) (hs : List ℕ) → content M q ≡ cycle hs → HasHalf M x → count x hs ≡ 0 → count (after M x) hs ≡ 0
+    after_out q x hs e t n = elim (IsIn_or_not (after M x) hs) [
+      | inl i ↦
+          let l : loop_of M x ≡ q = sym (loop_after M sound x t) ∙ sound.one_loop (after M x) q (in-holds (after M x) (content M q) (subst (λ c. IsIn (after M x) (items_of c)) (sym e) i)) in
+          let j : IsIn x hs = subst (λ c. IsIn x (items_of c)) (ap (content M) l ∙ e) (cycle_there M sound x t) in
+          absurd (omega arith)
+      | inr z ↦ z
+    ]
+
+    hm : h ≢ m
+    hm = mate_other h
+
+    abbrev back : LoopContent → LoopContent
+    back x = put_before d m (put_before c h (without_both h (tail M h) x))
+
+    content_of : (q : ℕ) (x : LoopContent) → Has M.loops q → content M q ≡ x → back x ≡ x
+    content_of q (lone v) there e = ap (λ y. put_before d m (put_before c h y)) (back_none h (tail M h) (lone v) refl refl) ∙ ap (put_before d m) (put_lone c h v) ∙ put_lone d m v
+    content_of q (cycle hs) there e =
+        let cy : IsCycle hs = sound.cycles q hs there e in
+        elim (IsIn_or_not h hs) [
+          | inl i ↦ elim (IsIn_or_not m hs) [
+            | inl j ↦
+                let ah : after M h ≡ head_or m (between h m hs) = after_in q h hs e i ∙ after_first hs cy.apart h m i j hm in
+                let am : after M m ≡ head_or h (beyond h m hs) = after_in q m hs e j ∙ after_second hs cy h m hm i j in
+                let ne : beyond h m hs ≢ [] = λ z. open_end (am ∙ ap (head_or h) z) in
+                let de : d ≡ head_or m (beyond h m hs) = am ∙ same_head (beyond h m hs) ne in
+                let ce : c ≡ head_or (head_or m (beyond h m hs)) (between h m hs) = elim c_cases [
+                  | inl s ↦ s.1 ∙ de ∙ sym (empty_head (between h m hs) (head_or m (beyond h m hs)) (sym ah ∙ s.0) (count-before m (rest h hs)))
+                  | inr s ↦ s.1 ∙ ah ∙ full_head (between h m hs) (head_or m (beyond h m hs)) (λ t. s.0 (ah ∙ t))
+                ] in
+                let t = corners_in hs cy h m hm i j ne in
+                ap (λ y. put_before d m (put_before c h y))
+                (back_h h (tail M h) (cycle hs) i ∙ as_cycle (without m (without h hs)) (kev_ring h m hs) (tail M h) (both_out hs cy.apart h m i j hm) (some_item (head_or m (beyond h m hs)) (kev_ring h m hs) t.0))
+                ∙ both_back hs cy h m hm i j ne c d de ce
+            | inr j ↦
+                let ah : after M h ≡ successor hs h = after_in q h hs e i in
+                let hin : IsIn (after M h) hs = subst (λ y. IsIn y hs) (sym ah) (IsIn_successor h hs i) in
+                let ce : c ≡ successor hs h = elim c_cases [ inl s ↦ absurd (omega (arith, hin, ap (λ y. count y hs) s.0)) | inr s ↦ s.1 ∙ ah ] in
+                let dn : count d hs ≡ 0 = after_out q m hs e m_there j in
+                let out : count m (without h hs) ≡ 0 = omega (arith, count_out m h hs (λ s. hm (sym s))) in
+                ap (λ y. put_before d m (put_before c h y))
+                (back_h h (tail M h) (cycle hs) i ∙ as_cycle (without m (without h hs)) (take_ring h hs) (tail M h) (ap canonical (without_none m (without h hs) out) ∙ taken_out hs cy.apart h i)
+                (some_item (successor hs h) (take_ring h hs) (in_take hs cy h i (λ s. kill.h_on M sound h goes (ah ∙ s)))))
+                ∙ ap (put_before d m) (ap (λ y. put_before y h (cycle (take_ring h hs))) ce ∙ one_back hs cy h m hm i (λ s. kill.h_on M sound h goes (ah ∙ s)))
+                ∙ put_none d m (cycle hs) dn
+          ]
+          | inr i ↦
+              let ch : count (after M h) hs ≡ 0 = after_out q h hs e goes.h_there i in
+              elim (IsIn_or_not m hs) [
+                | inl j ↦
+                    let am : after M m ≡ successor hs m = after_in q m hs e j in
+                    let cn : count c hs ≡ 0 = elim c_cases [ inl s ↦ absurd (omega (arith, j, ch, ap (λ y. count y hs) s.0)) | inr s ↦ ap (λ y. count y hs) s.1 ∙ ch ] in
+                    let ct : count c (take_ring m hs) ≡ 0 = take_none hs cy m h (λ s. hm (sym s)) c j cn in
+                    ap (λ y. put_before d m (put_before c h y))
+                    (back_m h (tail M h) (cycle hs) j ∙ as_cycle (without m (without h hs)) (take_ring m hs) (tail M h) (ap (λ y. canonical (without m y)) (without_none h hs i) ∙ taken_out hs cy.apart m j)
+                    (some_item (successor hs m) (take_ring m hs) (in_take hs cy m j (λ s. kill.m_on M sound h goes (am ∙ s)))))
+                    ∙ ap (put_before d m) (put_none c h (cycle (take_ring m hs)) ct)
+                    ∙ ap (λ y. put_before y m (cycle (take_ring m hs))) am ∙ one_back hs cy m h (λ s. hm (sym s)) j (λ s. kill.m_on M sound h goes (am ∙ s))
+                | inr j ↦
+                    let dn : count d hs ≡ 0 = after_out q m hs e m_there j in
+                    let cn : count c hs ≡ 0 = elim c_cases [ inl s ↦ ap (λ y. count y hs) s.1 ∙ dn | inr s ↦ ap (λ y. count y hs) s.1 ∙ ch ] in
+                    ap (λ y. put_before d m (put_before c h y)) (back_none h (tail M h) (cycle hs) i j)
+                    ∙ ap (put_before d m) (put_none c h (cycle hs) cn) ∙ put_none d m (cycle hs) dn
+              ]
+        ] where
+          same_head : (ys : List ℕ) → ys ≢ [] → head_or h ys ≡ head_or m ys
+          same_head [] ne = absurd (ne refl)
+          same_head (y ∷ ys) ne = refl
+
+          empty_head : (xs : List ℕ) (k : ℕ) → head_or m xs ≡ m → count m xs ≡ 0 → head_or k xs ≡ k
+          empty_head [] k e n = refl
+          empty_head (x ∷ xs) k e n = absurd (omega (arith, n, ap (tick m) e, tick_same m))
+
+          full_head : (xs : List ℕ) (k : ℕ) → head_or m xs ≢ m → head_or m xs ≡ head_or k xs
+          full_head [] k ne = absurd (ne refl)
+          full_head (x ∷ xs) k ne = refl
+
+          some_item : (x : ℕ) (xs : List ℕ) → IsIn x xs → xs ≢ []
+          some_item x xs i z = let t : count x xs ≡ 0 = ap (count x) z in omega arith
+
+          in_take : (xs : List ℕ) → IsCycle xs → (k : ℕ) → IsIn k xs → successor xs k ≢ k → IsIn (successor xs k) (take_ring k xs)
+          in_take xs cy k i ne = omega (arith, count-canonical (successor xs k) (rest k xs), count_at (successor xs k) k xs i, tick_other (successor xs k) k ne, IsIn_successor k xs i)
+
+    contents : (q : ℕ) → Has M.loops q → content K q ≡ content M q
+    contents q there = put.content-N N sound-N c d h w (point_of M w) put_goes q
+        ∙ ap (λ y. put_before d m (put_before c h y)) (kill.content-N M sound h goes q) ∙ content_of q (content M q) there refl
+
+    loops-back : K.loops ≡ M.loops
+    loops-back = same_loops K M
+        (λ q. (put.same N sound-N c d h w (point_of M w) put_goes).loop q ∙ (kill.same M sound h goes).loop q)
+        (λ q _. (put.same N sound-N c d h w (point_of M w) put_goes).face q ∙ (kill.same M sound h goes).face q)
+        contents
+
+    -- ---- what moves back: all but m that started at the killed vertex
+
+    abbrev ws : List ℕ
+    ws = kill.ws M sound h goes
+
+    abbrev vs : List ℕ
+    vs = kill.vs M sound h goes
+
+    m_in : IsIn m vs
+    m_in = kill.m_in M sound h goes
+
+    abbrev both : List ℕ
+    both = rest h ws ++ rest m vs
+
+    kept_ring : round M h ≡ head_or h (rest h ws)
+    kept_ring = (IsRing-same (round M) ws (h ∷ rest h ws) (rotation_at h ws (kill.h_in M sound h goes)) (kill.fan M sound h goes).ring).0
+
+    killed_ring : round M m ≡ head_or m (rest m vs)
+    killed_ring = (IsRing-same (round M) vs (m ∷ rest m vs) (rotation_at m vs m_in) (kill.fan_killed M sound h goes).ring).0
+
+    others : (ts : List ℕ) × (rest h ws ≡ d ∷ ts)
+    others = go (rest h ws) kept_ring where
+      go : (xs : List ℕ) → round M h ≡ head_or h xs → (ts : List ℕ) × (xs ≡ d ∷ ts)
+      go [] e = absurd (open_end e)
+      go (x ∷ xs) e = (xs, ap (λ y. y ∷ xs) (sym e))
+
+    -- c is the first of what moved, or d where nothing did
+    c_first : (ts : List ℕ) → c ≡ head_or d (rest m vs)
+    c_first ts = go (rest m vs) killed_ring (omega (arith, count_at m m vs m_in, tick_same m, (kill.fan_killed M sound h goes).apart m)) where
+      to_m : round M m ≡ after M h
+      to_m = ap (after M) (mate-mate h)
+
+      go : (xs : List ℕ) → round M m ≡ head_or m xs → count m xs ≡ 0 → c ≡ head_or d xs
+      go [] e n = elim c_cases [ inl s ↦ s.1 | inr s ↦ absurd (s.0 (sym to_m ∙ e)) ]
+      go (x ∷ xs) e n = elim c_cases [
+        | inl s ↦ absurd (omega (arith, n, ap (tick m) (sym (sym to_m ∙ e) ∙ s.0), tick_same m))
+        | inr s ↦ s.1 ∙ sym to_m ∙ e
       ]
 
-  tails : (x : ℕ) → HasHalf M x → tail K x ≡ tail M x
-  tails x there = elim (eqb_tells (edge_of x) (edge_of h)) [
-    | inl e ↦ elim (same_edge x h e.1) [
-      | inl q ↦ ap (tail K) q ∙ tail-h new_edge ∙ c_new.1 ∙ sym (ap (tail M) q)
-      | inr q ↦ ap (tail K) q ∙ tail-m new_edge ∙ sym (ap (tail M) q)
+    pub moved_is : put.moved N sound-N c d h w (point_of M w) put_goes ≡ rest m vs
+    moved_is =
+        let f = kill.fan_u M sound h goes open_end in
+        let all : List ℕ = canonical both in
+        let ts : List ℕ = others.0 in
+        let back_to : List ℕ = rest m vs ++ rest h ws in
+        let r : IsRotation both back_to = record { front = rest h ws; back = rest m vs; here = refl; there = refl } in
+        let ab : IsApart both = λ x. omega (arith, f.apart x, count-canonical x both) in
+        let ci : IsIn c all = f.all c c_new.0 c_new.1 in
+        let di : IsIn d all = f.all d d_new.0 d_new.1 in
+        let cb : IsIn c both = omega (arith, ci, count-canonical c both) in
+        let ring : IsRing (round N) all = IsPath-agree (λ x. kill.F M sound h goes (mate x)) (round N) all (head_or 0 all)
+        (λ x i. sym (after-walks N (kill.F M sound h goes) (kill.walks M sound h goes) (mate x) (mate_there N x (f.of_it x i).0))) f.ring in
+        let e : rotate_to c all ≡ rest m vs ++ d ∷ ts =
+        sym (rotate_to_same c both all (canonical-rotates both) ab cb) ∙ rotate_to_same c both back_to r ab cb
+        ∙ ap (λ y. rotate_to c (rest m vs ++ y)) others.1 ∙ first_is (rest m vs) ts (c_first ts) in
+        sym (put.arc_moved N sound-N c d h w (point_of M w) put_goes)
+        ∙ arc_is N all c d f.apart ring (λ x i. (f.of_it x i).0) ci di
+        ∙ (upto_once c d all (rest m vs) ts f.apart e).0 where
+          first_is : (xs ts : List ℕ) → c ≡ head_or d xs → rotate_to c (xs ++ d ∷ ts) ≡ xs ++ d ∷ ts
+          first_is [] ts e = ap (λ y. rotate_to y (d ∷ ts)) e ∙ rotate_to_head d ts
+          first_is (x ∷ xs) ts e = ap (λ y. rotate_to y (x ∷ (xs ++ d ∷ ts))) e ∙ rotate_to_head x (xs ++ d ∷ ts)
+
+    -- ---- edges and vertices
+
+    new_edge : EdgeComes N K h (tail N c) w
+    new_edge = put.new_edge N sound-N c d h w (point_of M w) put_goes
+
+    tails_old : (x : ℕ) → HasHalf M x → edge_of x ≢ edge_of h → tail K x ≡ tail M x
+    tails_old x there a =
+        let o = kill.half_old M sound h goes x there a in
+        elim (eqb_tells (tail M x) w) [
+          | inl e ↦
+              let i : IsIn x (rest m vs) = omega (arith, count_at x m vs m_in, (kill.fan_killed M sound h goes).all x there e.1, tick_other x m (kill.not_m M sound h goes x a)) in
+              put.tail_moved N sound-N c d h w (point_of M w) put_goes x o (subst (IsIn x) (sym moved_is) i) ∙ sym e.1
+          | inr e ↦
+              let n : count x (rest m vs) ≡ 0 = elim (IsIn_or_not x (rest m vs)) [
+                | inl i ↦ absurd (e.1 ((kill.fan_killed M sound h goes).of_it x (omega (arith, count_at x m vs m_in))).1)
+                | inr z ↦ z
+              ] in
+              put.tail_kept N sound-N c d h w (point_of M w) put_goes x o (ap (count x) moved_is ∙ n) ∙ kill.tail_kept M sound h goes x there a e.1
+        ]
+
+    tails : (x : ℕ) → HasHalf M x → tail K x ≡ tail M x
+    tails x there = elim (eqb_tells (edge_of x) (edge_of h)) [
+      | inl e ↦ elim (same_edge x h e.1) [
+        | inl q ↦ ap (tail K) q ∙ tail-h new_edge ∙ c_new.1 ∙ sym (ap (tail M) q)
+        | inr q ↦ ap (tail K) q ∙ tail-m new_edge ∙ sym (ap (tail M) q)
+      ]
+      | inr e ↦ tails_old x there e.1
     ]
-    | inr e ↦ tails_old x there e.1
-  ]
 
-  vertices-back : K.vertices ≡ M.vertices
-  unfolding kev mev_at
-  vertices-back = put-remove M.vertices w (point_of M w) point_there
+    vertices-back : K.vertices ≡ M.vertices
+    unfolding kev mev_at
+    vertices-back = put-remove M.vertices w (point_of M w) point_there
 
-  -- mev takes kev back
-  pub mev_at-kev : mev_at (kev M h) c d h w (point_of M w) ≡ M
-  unfolding kev mev_at
-  mev_at-kev = same_model K M refl refl loops-back (same_edges K M (edge_again (kill.edge_goes M sound h goes) goes.h_there new_edge) tails) vertices-back
+    -- mev takes kev back
+    pub mev_at-kev : mev_at (kev M h) c d h w (point_of M w) ≡ M
+    unfolding kev mev_at
+    mev_at-kev = same_model K M refl refl loops-back (same_edges K M (edge_again (kill.edge_goes M sound h goes) goes.h_there new_edge) tails) vertices-back

@@ -19,7 +19,7 @@ use Rattle.euler_laws.proofs.shared.Undo.{same_loops, same_edges, edge_back, sam
 use Rattle.euler_laws.proofs.mev.MevLoneSound as put
 use Rattle.euler_laws.proofs.mev.MevLoneSound.{LoneGoes}
 use Rattle.euler_laws.proofs.kev.KevSound as kill
-use Rattle.euler_laws.proofs.kev.KevSound.{KevGoes}
+use Rattle.euler_laws.proofs.kev.KevSound.{KevGoes, back_none}
 
 module _ {M : Model} (sound : Sound M) {l h v u : ℕ} {p : Point} (goes : LoneGoes M l h v u p) where
   abbrev N : Model
@@ -45,7 +45,7 @@ module _ {M : Model} (sound : Sound M) {l h v u : ℕ} {p : Point} (goes : LoneG
   contents q there = elim (eqb_tells q l) [
     | inl e ↦ ap (content K) (e.1 ∙ sym loop_h) ∙ kill.lone_new N sound-N h kev_goes (put.after-m sound goes) ∙ ap lone (tail-h (comes edge)) ∙ sym (ap (content M) e.1 ∙ goes.is_lone)
     | inr e ↦ kill.content-N N sound-N h kev_goes q ∙ ap (kill.new N sound-N h kev_goes) (put.content_other sound goes q e.1)
-        ∙ kill.new_none N sound-N h kev_goes (content M q) (none_free M sound h goes.edge_free q) (none_free M sound (mate h) (ap (table.get M.edges) (edge_of-mate h) ∙ goes.edge_free) q)
+        ∙ back_none h (tail N h) (content M q) (none_free M sound h goes.edge_free q) (none_free M sound (mate h) (ap (table.get M.edges) (edge_of-mate h) ∙ goes.edge_free) q)
   ]
 
   loops-back : K.loops ≡ M.loops

@@ -1,5 +1,5 @@
 -- mev at two half-edges is taken back by kev.
-use Rattle.std.proofs.Common.{◌≡◌, ◌≢◌, ℕ, ◌+◌, cond, ◌||◌, List, [], ◌∷◌, ◌++◌, refl, sym, ap, ◌∙◌, arith, inl, inr, eq-eqb}
+use Rattle.std.proofs.Common.{◌≡◌, ◌≢◌, ℕ, ◌+◌, List, [], ◌∷◌, ◌++◌, refl, sym, ap, ◌∙◌, arith, inl, inr, eq-eqb}
 use Rattle.euler_operators.specs.declared.Point.{Point}
 use Rattle.euler_operators.specs.Items.{count, tick, IsIn, IsApart}
 use Rattle.euler_operators.specs.Rings.{canonical, rotate_to, upto, onward}
@@ -12,12 +12,11 @@ use Rattle.euler_operators.proofs.Leads.{apart_mev}
 use Rattle.euler_operators.proofs.Edits.{without_none, count-insert_before}
 use Rattle.euler_operators.specs.HalfEdge.{mate, edge_of}
 use Rattle.euler_operators.specs.Table as table
-use Rattle.euler_operators.specs.Model.{Model, LoopContent, lone, cycle, items_of, holds, tail, content, after}
+use Rattle.euler_operators.specs.Model.{Model, LoopContent, lone, cycle, items_of, tail, content, after}
 use Rattle.euler_operators.specs.Sound.{Sound, Has, HasHalf, IsCycle}
 use Rattle.euler_operators.proofs.Halves.{mate_other, edge_of-mate}
 use Rattle.euler_operators.proofs.Tables.{remove-put}
-use Rattle.euler_operators.proofs.Models.{in-holds, holds-none, mate_there}
-use Rattle.euler_operators.proofs.Tests.{or_true}
+use Rattle.euler_operators.proofs.Models.{mate_there}
 use Rattle.euler_operators.specs.Effect.{mev_at, kev, cycle_or_lone}
 use Rattle.euler_laws.proofs.shared.Loops.{put_before, put_there, put_none, put_lone, none_free, count_out, after-walks}
 use Rattle.euler_laws.proofs.shared.Undo.{same_loops, same_edges, edge_back, same_model, taken_out, both_out, put_in, both_in}
@@ -25,11 +24,7 @@ use Rattle.euler_laws.proofs.shared.EdgeMore.{EdgeComes, half_h, half_m, tail-h,
 use Rattle.euler_laws.proofs.mev.MevSound as put
 use Rattle.euler_laws.proofs.mev.MevSound.{MevGoes}
 use Rattle.euler_laws.proofs.kev.KevSound as kill
-use Rattle.euler_laws.proofs.kev.KevSound.{KevGoes}
-
--- what kev leaves of a content
-abbrev pub without_both : ℕ → ℕ → LoopContent → LoopContent
-without_both h t c = cond (holds h c || holds (mate h) c) (cycle_or_lone (without (mate h) (without h (items_of c))) t) c
+use Rattle.euler_laws.proofs.kev.KevSound.{KevGoes, without_both, back_none, back_h, back_m}
 
 led_at : (next : ℕ → ℕ) (c y : ℕ) → led_over next c y y ≡ c
 led_at next c y = rw (eq-eqb y y refl) refl
@@ -40,18 +35,9 @@ as_cycle (x ∷ xs) hs v e ne = ap cycle e
 
 -- a content that mev and then kev rewrite
 module _ (h g k t : ℕ) where
-  pub back_none : (c : LoopContent) → count h (items_of c) ≡ 0 → count (mate h) (items_of c) ≡ 0 → without_both h t c ≡ c
-  back_none c a b = ap (λ s. cond s (cycle_or_lone (without (mate h) (without h (items_of c))) t) c) (ap (λ s. s || holds (mate h) c) (holds-none h c a) ∙ holds-none (mate h) c b)
-
-  pub back_h : (c : LoopContent) → IsIn h (items_of c) → without_both h t c ≡ cycle_or_lone (without (mate h) (without h (items_of c))) t
-  back_h c a = ap (λ s. cond (s || holds (mate h) c) (cycle_or_lone (without (mate h) (without h (items_of c))) t) c) (in-holds h c a)
-
-  pub back_m : (c : LoopContent) → IsIn (mate h) (items_of c) → without_both h t c ≡ cycle_or_lone (without (mate h) (without h (items_of c))) t
-  back_m c a = ap (λ s. cond (holds h c || s) (cycle_or_lone (without (mate h) (without h (items_of c))) t) c) (in-holds (mate h) c a) ∙ ap (λ s. cond s (cycle_or_lone (without (mate h) (without h (items_of c))) t) c) (or_true (holds h c))
-
   pub content_back : (c : LoopContent) → ((hs : List ℕ) → c ≡ cycle hs → IsCycle hs) → count h (items_of c) ≡ 0 → count (mate h) (items_of c) ≡ 0 → g ≢ mate h → k ≢ h →
       without_both h t (put_before k (mate h) (put_before g h c)) ≡ c
-  content_back (lone v) f nh nm gm kh = ap (without_both h t) (ap (put_before k (mate h)) (put_lone g h v) ∙ put_lone k (mate h) v) ∙ back_none (lone v) refl refl
+  content_back (lone v) f nh nm gm kh = ap (without_both h t) (ap (put_before k (mate h)) (put_lone g h v) ∙ put_lone k (mate h) v) ∙ back_none h t (lone v) refl refl
   content_back (cycle hs) f nh nm gm kh =
       let cy : IsCycle hs = f hs refl in
       let hm : h ≢ mate h = mate_other h in
@@ -67,7 +53,7 @@ module _ (h g k t : ℕ) where
               ap (put_before k (mate h)) (put_there g h (cycle hs) i)
               ∙ put_there k (mate h) (cycle (canonical (insert_before g h hs))) (stay_in j i)
               ∙ ap cycle (both_in hs cy.apart h (mate h) g k i j hm nh nm) in
-              ap (without_both h t) e ∙ back_h (cycle ys) hi
+              ap (without_both h t) e ∙ back_h h t (cycle ys) hi
               ∙ as_cycle (without (mate h) (without h ys)) hs t (both_out ys d h (mate h) hi mi hm ∙ kev-mev h (mate h) g k hs cy.apart hm nh nm ∙ cy.from_least) cy.some_item
           | inr j ↦
               let ys : List ℕ = put_ring h g hs in
@@ -78,7 +64,7 @@ module _ (h g k t : ℕ) where
               ap (put_before k (mate h)) (put_there g h (cycle hs) i ∙ ap cycle (put_in hs cy.apart g h i nh))
               ∙ put_none k (mate h) (cycle ys) (omega (arith, c k, tick_other k h kh)) in
               let nm' : count (mate h) (without h ys) ≡ 0 = omega (arith, count_out (mate h) h ys (λ s. hm (sym s)), c (mate h), tick_other (mate h) h (λ s. hm (sym s))) in
-              ap (without_both h t) e ∙ back_h (cycle ys) hi
+              ap (without_both h t) e ∙ back_h h t (cycle ys) hi
               ∙ as_cycle (without (mate h) (without h ys)) hs t (ap canonical (without_none (mate h) (without h ys) nm') ∙ taken_out ys d h hi ∙ take-put h g hs nh cy.apart ∙ cy.from_least) cy.some_item
         ]
         | inr i ↦ elim (IsIn_or_not k hs) [
@@ -91,9 +77,9 @@ module _ (h g k t : ℕ) where
               ap (put_before k (mate h)) (put_none g h (cycle hs) i)
               ∙ put_there k (mate h) (cycle hs) j ∙ ap cycle (put_in hs cy.apart k (mate h) j nm) in
               let nh' : count h ys ≡ 0 = omega (arith, c h, tick_other h (mate h) hm) in
-              ap (without_both h t) e ∙ back_m (cycle ys) mi
+              ap (without_both h t) e ∙ back_m h t (cycle ys) mi
               ∙ as_cycle (without (mate h) (without h ys)) hs t (ap (λ xs. canonical (without (mate h) xs)) (without_none h ys nh') ∙ taken_out ys d (mate h) mi ∙ take-put (mate h) k hs nm cy.apart ∙ cy.from_least) cy.some_item
-          | inr j ↦ ap (without_both h t) (ap (put_before k (mate h)) (put_none g h (cycle hs) i) ∙ put_none k (mate h) (cycle hs) j) ∙ back_none (cycle hs) nh nm
+          | inr j ↦ ap (without_both h t) (ap (put_before k (mate h)) (put_none g h (cycle hs) i) ∙ put_none k (mate h) (cycle hs) j) ∙ back_none h t (cycle hs) nh nm
         ]
       ] where
         stay_in : IsIn k hs → IsIn g hs → IsIn k (canonical (insert_before g h hs))

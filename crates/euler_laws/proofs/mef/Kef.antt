@@ -1,27 +1,23 @@
 -- kef as an operator: it keeps a model sound, and mef takes it back; and kef passes its conditions after mef and takes it back.
-use Rattle.std.proofs.Common.{◌≡◌, ◌≢◌, ℕ, true, Some, None, is_some, refl, sym, ap, ◌∙◌, subst, inl, inr}
+use Rattle.std.proofs.Common.{◌≡◌, ℕ, true, None, is_some, refl, sym, ap, ◌∙◌, inl, inr}
 use Rattle.std.proofs.lemmas.Bool.Decides.{eqb_tells}
 use Rattle.std.proofs.lemmas.Bool.{not-true, ne_eqb, eq-eqb, eqb-false}
-use Rattle.euler_operators.specs.Items.{IsIn}
 use Rattle.euler_operators.specs.Operators.{mef_old, mef_new, kef_ring}
-use Rattle.euler_operators.proofs.Operators.{mef-kef, kef-mef}
+use Rattle.euler_operators.proofs.Operators.{kef-mef}
 use Rattle.euler_operators.specs.declared.HalfEdge.{HalfEdge}
 use Rattle.euler_operators.specs.HalfEdge.{code, half, mate, edge_of}
 use Rattle.euler_operators.specs.Table as table
-use Rattle.euler_operators.specs.Model.{Model, cycle, FaceRow, EdgeRow, items_of, tail, loop_of, content, cycle_of, face_of, solid_of, outer, after, is_number}
+use Rattle.euler_operators.specs.Model.{Model, cycle, items_of, loop_of, content, cycle_of, face_of, outer, after, is_number}
 use Rattle.euler_operators.specs.Sound.{Sound, HasHalf}
-use Rattle.euler_operators.proofs.Halves.{edge_of-code, code-half, mate-mate}
-use Rattle.euler_operators.proofs.Tables.{put-remove, remove-put, two_undone}
-use Rattle.euler_operators.proofs.Models.{row_of, cycle_there, cycle_sound, mate_there}
+use Rattle.euler_operators.proofs.Halves.{edge_of-code, code-half}
+use Rattle.euler_operators.proofs.Tables.{remove-put, two_undone}
+use Rattle.euler_operators.proofs.Models.{row_of, cycle_sound}
 use Rattle.euler_operators.specs.declared.Op.TheVariants.{Mef, Kef}
 use Rattle.euler_operators.specs.Conditions.{AllHold, first_false, conditions, face_at}
-use Rattle.euler_operators.specs.Effect.{effect, inverse, mef, kef, edge_row}
+use Rattle.euler_operators.specs.Effect.{effect, inverse, mef, kef}
 use Rattle.euler_laws.proofs.shared.Goes.{◌also◌, all_hold, none_refuses, not_false, taken}
-use Rattle.euler_laws.proofs.shared.Fans.{half_after, loop_after}
-use Rattle.euler_laws.proofs.shared.Parts.{row_here}
 use Rattle.euler_laws.proofs.shared.EdgeMore.{comes, half_h}
-use Rattle.euler_laws.proofs.shared.EdgeLess.{OneLess, other_edge, half_old, tail_old, edge_gone}
-use Rattle.euler_laws.proofs.shared.TwoRows.{RowsSet, row_second, content_first, face_same, has_same}
+use Rattle.euler_laws.proofs.shared.TwoRows.{content_first, face_same, has_same}
 use Rattle.euler_laws.proofs.mef.MefUndo.{loops-mef, no_h, no_m}
 use Rattle.euler_laws.proofs.mef.MefSound as made
 use Rattle.euler_laws.proofs.mef.MefSound.{MefGoes}
@@ -29,124 +25,8 @@ use Rattle.euler_laws.proofs.mef.Mef.{mef_goes}
 use Rattle.euler_laws.proofs.mef.KefSound as gone
 use Rattle.euler_laws.proofs.mef.KefSound.{KefGoes, sound-kef}
 use Rattle.euler_laws.proofs.shared.Undo.{same_model}
-use Rattle.euler_laws.proofs.shared.Rows.{face_there, edge_there, half_of, of_half, no_rings_means, means_no_rings, both_back}
+use Rattle.euler_laws.proofs.shared.Rows.{half_of, of_half, no_rings_means, means_no_rings}
 use Rattle.euler_laws.proofs.shared.Lawful.{IsLawful}
-
-module _ {M : Model} (sound : Sound M) {h : ℕ} (goes : KefGoes M h) where
-  abbrev m : ℕ
-  m = mate h
-
-  abbrev N : Model
-  N = kef M h
-
-  abbrev r : ℕ
-  r = loop_of M h
-
-  abbrev s : ℕ
-  s = loop_of M m
-
-  abbrev f : ℕ
-  f = face_of M s
-
-  abbrev g : ℕ
-  g = after M m
-
-  abbrev k : ℕ
-  k = after M h
-
-  pub sound-N : Sound N
-  sound-N = sound-kef M sound h goes
-
-  less : OneLess M N h
-  less = gone.less M sound h goes
-
-  abbrev set : RowsSet M N r s (gone.kept M sound h goes) None
-  set = gone.set M sound h goes
-
-  m_there : HasHalf M m
-  m_there = mate_there M h goes.h_there
-
-  g_edge : edge_of g ≢ edge_of h
-  g_edge = other_edge g h (gone.after_m M sound h goes) (gone.m_on M sound h goes)
-
-  k_edge : edge_of k ≢ edge_of h
-  k_edge = other_edge k h (gone.h_on M sound h goes) (gone.after_h M sound h goes)
-
-  g_in : IsIn g (cycle_of M m)
-  g_in = subst (λ q. IsIn g (items_of (content M q))) (loop_after M sound m m_there) (cycle_there M sound g (half_after M sound m m_there))
-
-  k_in : IsIn k (cycle_of M h)
-  k_in = subst (λ q. IsIn k (items_of (content M q))) (loop_after M sound h goes.h_there) (cycle_there M sound k (half_after M sound h goes.h_there))
-
-  loop_g : loop_of N g ≡ r
-  loop_g = gone.loop_joined M sound h goes g g_edge (inr g_in)
-
-  loop_k : loop_of N k ≡ r
-  loop_k = gone.loop_joined M sound h goes k k_edge (inl k_in)
-
-  tail_g : tail N g ≡ tail M h
-  tail_g = tail_old less g g_edge ∙ sound.ends_meet m m_there ∙ ap (tail M) (mate-mate h)
-
-  tail_k : tail N k ≡ tail M m
-  tail_k = tail_old less k k_edge ∙ sound.ends_meet h goes.h_there
-
-  pub put_goes : MefGoes N g k h f s
-  put_goes = record {
-    g_there = half_old less g (half_after M sound m m_there) g_edge;
-    k_there = half_old less k (half_after M sound h goes.h_there) k_edge;
-    edge_free = edge_gone less;
-    face_free = row_here (gone.face_set M sound h goes).rows;
-    loop_free = row_second set;
-    one_loop = loop_k ∙ sym loop_g;
-    ends_apart = λ e. sound.ends_differ h goes.h_there (sym tail_g ∙ e ∙ tail_k);
-    edge_fits = sound.edges_fit (edge_of h) goes.h_there;
-    face_fits = sound.faces_fit f (gone.face_f M sound h goes);
-    loop_fits = sound.loops_fit s (gone.has_s M sound h goes);
-  }
-
-  abbrev K : Model
-  K = mef N g k h f s
-
-  cycle_g : cycle_of N g ≡ kef_ring h m (cycle_of M h) (cycle_of M m)
-  cycle_g = ap (λ q. items_of (content N q)) loop_g ∙ ap items_of (content_first set)
-
-  lists_back : (mef_old h g k (kef_ring h m (cycle_of M h) (cycle_of M m)) ≡ cycle_of M h) × (mef_new m g k (kef_ring h m (cycle_of M h) (cycle_of M m)) ≡ cycle_of M m)
-  unfolding after
-  lists_back =
-      let t = mef-kef h m (cycle_of M h) (cycle_of M m) (gone.apart_both M sound h goes) (gone.h_in M sound h goes) (gone.m_in M sound h goes) (gone.m_on M sound h goes) (gone.h_on M sound h goes) in
-      (t.0 ∙ (cycle_sound M sound h goes.h_there).from_least, t.1 ∙ (cycle_sound M sound m m_there).from_least)
-
-  loops-back : K.loops ≡ M.loops
-  loops-back =
-      let a : mef_old h g k (cycle_of N g) ≡ cycle_of M h = ap (mef_old h g k) cycle_g ∙ lists_back.0 in
-      let b : mef_new m g k (cycle_of N g) ≡ cycle_of M m = ap (mef_new m g k) cycle_g ∙ lists_back.1 in
-      let c : face_of N (loop_of N g) ≡ face_of M r = ap (face_of N) loop_g ∙ face_same set r (gone.r_s M sound h goes) in
-      loops-mef N sound-N g k h f s put_goes.g_there put_goes.edge_free put_goes.loop_free
-      ∙ (λ i. table.put (table.put N.loops (loop_g i) (record { face = c i; content = cycle (a i) })) s (record { face = f; content = cycle (b i) }))
-      ∙ ap (λ t. table.put (table.put t r (record { face = face_of M r; content = cycle (cycle_of M h) })) s (record { face = f; content = cycle (cycle_of M m) })) (gone.loops_are M sound h goes)
-      ∙ both_back M.loops r s _ _ _ (gone.r_s M sound h goes) (row_of M sound h goes.h_there) (row_of M sound m m_there)
-
-  solid_back : solid_of N (face_at N g) ≡ solid_of M f
-  solid_back = ap (λ q. solid_of N (face_of N q)) loop_g ∙ gone.solid_loop M sound h goes r (gone.has_r M sound h goes) (gone.r_s M sound h goes) ∙ gone.one_side M sound h goes
-
-  faces_put : (x : FaceRow) → table.get M.faces f ≡ Some x → (record { solid = solid_of N (face_at N g); outer = s }) ≡ x → K.faces ≡ M.faces
-  unfolding mef kef
-  faces_put x at e = ap (table.put (table.remove M.faces f) f) e ∙ put-remove M.faces f x at
-
-  faces-back : K.faces ≡ M.faces
-  faces-back = faces_put (record { solid = solid_of M f; outer = outer M f }) (face_there M f (gone.face_f M sound h goes))
-      (λ i. record { solid = solid_back i; outer = sym (gone.outer_f M sound h goes) i })
-
-  edges_put : (x : EdgeRow) → table.get M.edges (edge_of h) ≡ Some x → edge_row h (tail N g) (tail N k) ≡ x → K.edges ≡ M.edges
-  unfolding mef kef
-  edges_put x at e = ap (table.put (table.remove M.edges (edge_of h)) (edge_of h)) e ∙ put-remove M.edges (edge_of h) x at
-
-  edges-back : K.edges ≡ M.edges
-  edges-back = edges_put (edge_row h (tail M h) (tail M m)) (edge_there M h goes.h_there) (λ i. edge_row h (tail_g i) (tail_k i))
-
-  pub mef-after-kef : mef (kef M h) g k h f s ≡ M
-  unfolding mef kef
-  mef-after-kef = same_model K M refl faces-back loops-back edges-back refl
 
 -- ---- conditions
 
@@ -203,8 +83,8 @@ kef_lawful h M sound e =
     let k : code (half (after M (code h))) ≡ after M (code h) = code-half (after M (code h)) in
     record {
       sound = s;
-      goes = mef_accepted N (half (after M m)) (half (after M (code h))) h (face_at M m) (loop_of M m) s (rw (g, k) (put_goes sound w));
-      undone = (λ i. mef N (g i) (k i) (code h) (face_at M m) (loop_of M m)) ∙ mef-after-kef sound w;
+      goes = mef_accepted N (half (after M m)) (half (after M (code h))) h (face_at M m) (loop_of M m) s (rw (g, k) (gone.put_goes M sound (code h) w));
+      undone = (λ i. mef N (g i) (k i) (code h) (face_at M m) (loop_of M m)) ∙ gone.mef-after-kef M sound (code h) w;
     }
 
 -- ---- mef
@@ -255,13 +135,9 @@ module _ {M : Model} (sound : Sound M) {g k h f l : ℕ} (goes : MefGoes M g k h
   unfolding mef
   faces-made = ap (table.remove E.faces) (ap (face_of E) loop_m ∙ made.face_l sound goes) ∙ remove-put M.faces f _ goes.face_free
 
-  edges-made : table.remove E.edges (edge_of h) ≡ M.edges
-  unfolding mef
-  edges-made = remove-put M.edges (edge_of h) _ goes.edge_free
-
   pub kef-after-mef : kef (mef M g k h f l) h ≡ M
   unfolding kef mef
-  kef-after-mef = same_model (kef E h) M refl faces-made loops-made edges-made refl
+  kef-after-mef = same_model (kef E h) M refl faces-made loops-made (remove-put M.edges (edge_of h) _ goes.edge_free) refl
 
 pub mef_lawful : (g k h : HalfEdge) (f l : ℕ) → IsLawful (Mef g k h f l)
 unfolding effect inverse

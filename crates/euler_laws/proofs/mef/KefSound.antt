@@ -3,27 +3,31 @@ use Rattle.std.proofs.Common.{◌≡◌, ◌≢◌, ℕ, ◌+◌, List, [], ◌+
 use Rattle.std.proofs.lemmas.Bool.Decides.{eqb_tells}
 use Rattle.euler_operators.specs.Items.{count, tick, IsIn, IsApart}
 use Rattle.euler_operators.specs.Rings.{canonical, rest, IsRing}
-use Rattle.euler_operators.specs.Operators.{after_kef, kef_ring}
+use Rattle.euler_operators.specs.Operators.{after_kef, kef_ring, mef_old, mef_new}
 use Rattle.euler_operators.proofs.Lists.{count-append, tick_same, tick_other, IsIn_or_not}
 use Rattle.euler_operators.proofs.Rotations.{count-canonical}
 use Rattle.euler_operators.proofs.Rings.{count_at}
 use Rattle.euler_operators.proofs.Leads.{IsRing-kef}
 use Rattle.euler_operators.specs.HalfEdge.{mate, edge_of}
 use Rattle.euler_operators.specs.Table as table
-use Rattle.euler_operators.specs.Model.{Model, LoopContent, cycle, LoopRow, items_of, loop_of, content, face_of, cycle_of, after, outer, solid_of}
-use Rattle.euler_operators.specs.Sound.{Sound, Has, HasHalf, StandsIn}
-use Rattle.euler_operators.proofs.Halves.{mate_other}
+use Rattle.euler_operators.specs.Model.{Model, LoopContent, cycle, LoopRow, items_of, loop_of, content, face_of, cycle_of, after, outer, solid_of, tail}
+use Rattle.euler_operators.specs.Sound.{Sound, Has, HasHalf}
+use Rattle.euler_operators.proofs.Halves.{mate_other, mate-mate}
 use Rattle.euler_operators.proofs.Tables.{row_elsewhere}
 use Rattle.euler_operators.proofs.Models.{in-holds, holds_in, cycle_there, cycle_sound, content_cycle, row_of, mate_there}
 use Rattle.euler_operators.specs.Conditions.{face_at}
-use Rattle.euler_operators.specs.Effect.{kef}
+use Rattle.euler_operators.specs.Effect.{kef, mef, edge_row}
 use Rattle.euler_laws.proofs.shared.Fans.{half_after, loop_after}
 use Rattle.euler_laws.proofs.shared.Loops.{IsLoop, canonical_cycle, light, Walks}
 use Rattle.euler_laws.proofs.shared.Same.{solid_at}
-use Rattle.euler_laws.proofs.shared.Rows.{held_row, content_none}
+use Rattle.euler_laws.proofs.shared.Rows.{held_row, content_none, face_there, edge_there, both_back, put_again}
 use Rattle.euler_laws.proofs.shared.Parts.{VerticesHold, FacesHold, RangesHold, sound_of, fit-remove, fit-map, FaceSet, row_here, has_on, has_back, solid_other, outer_other}
-use Rattle.euler_laws.proofs.shared.EdgeLess.{OneLess, ticks_apart, next_other, ring_kef-other, fans-less, vertices_hold-less}
+use Rattle.euler_laws.proofs.shared.EdgeLess.{OneLess, ticks_apart, next_other, ring_kef-other, fans-less, vertices_hold-less, other_edge, half_old, tail_old, edge_gone}
 use Rattle.euler_laws.proofs.shared.TwoRows.{RowsSet, row_second, row_else, content_first, face_same, has_same, OneOf, TwoRows, lone_else, lone_still, in_both, loop_both, Elsewhere, none_elsewhere, walks-rows, one_solid-rows, two_rows-less}
+use Rattle.euler_operators.proofs.Operators.{mef-kef}
+use Rattle.euler_laws.proofs.mef.MefUndo.{loops-mef}
+use Rattle.euler_laws.proofs.mef.MefSound.{MefGoes}
+use Rattle.euler_laws.proofs.shared.Undo.{same_model}
 
 -- what the conditions of kef say
 pub record KefGoes (M : Model) (h : ℕ) : Type 0 where
@@ -71,12 +75,6 @@ module _ (M : Model) (sound : Sound M) (h : ℕ) (goes : KefGoes M h) where
   pub m_in : IsIn m ys
   m_in = cycle_there M sound m m_there
 
-  pub in_r : (x : ℕ) → IsIn x xs → StandsIn M x r
-  in_r x i = in-holds x (content M r) i
-
-  pub in_s : (x : ℕ) → IsIn x ys → StandsIn M x s
-  in_s x i = in-holds x (content M s) i
-
   pub apart_xs : IsApart xs
   apart_xs = (cycle_sound M sound h goes.h_there).apart
 
@@ -86,7 +84,7 @@ module _ (M : Model) (sound : Sound M) (h : ℕ) (goes : KefGoes M h) where
   pub apart_both : IsApart (xs ++ ys)
   apart_both x = elim (IsIn_or_not x xs) [
     | inl i ↦ elim (IsIn_or_not x ys) [
-      | inl j ↦ absurd (r_s (sym (sound.one_loop x r (in_r x i)) ∙ sound.one_loop x s (in_s x j)))
+      | inl j ↦ absurd (r_s (sym (sound.one_loop x r (in-holds x (content M r) i)) ∙ sound.one_loop x s (in-holds x (content M s) j)))
       | inr j ↦ omega (arith, count-append x xs ys, apart_xs x)
     ]
     | inr i ↦ omega (arith, count-append x xs ys, apart_ys x)
@@ -141,9 +139,6 @@ module _ (M : Model) (sound : Sound M) (h : ℕ) (goes : KefGoes M h) where
 
   not_s : (q : ℕ) → Has N.loops q → q ≢ s
   not_s q there = row_elsewhere N.loops q s there (row_second set)
-
-  loop_back : (q : ℕ) → Has N.loops q → Has M.loops q
-  loop_back q there = sym (has_same set q (not_s q there)) ∙ there
 
   -- ---- walks
 
@@ -234,7 +229,7 @@ module _ (M : Model) (sound : Sound M) (h : ℕ) (goes : KefGoes M h) where
   faces : FacesHold N
   unfolding kef
   faces = record {
-    loops_of_faces = λ q there. let a = not_s q there in let t = loop_back q there in
+    loops_of_faces = λ q there. let a = not_s q there in let t = sym (has_same set q a) ∙ there in
         subst (Has N.faces) (sym (face_same set q a)) (has_on face_set.rows (face_of M q) (face_not_f q t a) (sound.loops_of_faces q t));
     outers_there = λ p there.
         let a = not_f p there in
@@ -265,3 +260,84 @@ module _ (M : Model) (sound : Sound M) (h : ℕ) (goes : KefGoes M h) where
   -- a sound model stays sound under kef
   pub sound-kef : Sound N
   sound-kef = sound_of N F walks vertices faces ranges
+
+  -- ---- mef takes it back
+
+  abbrev g : ℕ
+  g = after M m
+
+  abbrev k : ℕ
+  k = after M h
+
+  g_edge : edge_of g ≢ edge_of h
+  g_edge = other_edge g h after_m m_on
+
+  k_edge : edge_of k ≢ edge_of h
+  k_edge = other_edge k h h_on after_h
+
+  g_in : IsIn g (cycle_of M m)
+  g_in = subst (λ q. IsIn g (items_of (content M q))) (loop_after M sound m m_there) (cycle_there M sound g (half_after M sound m m_there))
+
+  k_in : IsIn k (cycle_of M h)
+  k_in = subst (λ q. IsIn k (items_of (content M q))) (loop_after M sound h goes.h_there) (cycle_there M sound k (half_after M sound h goes.h_there))
+
+  loop_g : loop_of N g ≡ r
+  loop_g = loop_joined g g_edge (inr g_in)
+
+  tail_g : tail N g ≡ tail M h
+  tail_g = tail_old less g g_edge ∙ sound.ends_meet m m_there ∙ ap (tail M) (mate-mate h)
+
+  tail_k : tail N k ≡ tail M m
+  tail_k = tail_old less k k_edge ∙ sound.ends_meet h goes.h_there
+
+  pub put_goes : MefGoes N g k h f s
+  put_goes = record {
+    g_there = half_old less g (half_after M sound m m_there) g_edge;
+    k_there = half_old less k (half_after M sound h goes.h_there) k_edge;
+    edge_free = edge_gone less;
+    face_free = row_here face_set.rows;
+    loop_free = row_second set;
+    one_loop = loop_joined k k_edge (inl k_in) ∙ sym loop_g;
+    ends_apart = λ e. sound.ends_differ h goes.h_there (sym tail_g ∙ e ∙ tail_k);
+    edge_fits = sound.edges_fit (edge_of h) goes.h_there;
+    face_fits = sound.faces_fit f face_f;
+    loop_fits = sound.loops_fit s has_s;
+  }
+
+  abbrev K : Model
+  K = mef N g k h f s
+
+  cycle_g : cycle_of N g ≡ kef_ring h m (cycle_of M h) (cycle_of M m)
+  cycle_g = ap (λ q. items_of (content N q)) loop_g ∙ ap items_of (content_first set)
+
+  lists_back : (mef_old h g k (kef_ring h m (cycle_of M h) (cycle_of M m)) ≡ cycle_of M h) × (mef_new m g k (kef_ring h m (cycle_of M h) (cycle_of M m)) ≡ cycle_of M m)
+  unfolding after
+  lists_back =
+      let t = mef-kef h m (cycle_of M h) (cycle_of M m) apart_both h_in m_in m_on h_on in
+      (t.0 ∙ (cycle_sound M sound h goes.h_there).from_least, t.1 ∙ (cycle_sound M sound m m_there).from_least)
+
+  loops-back : K.loops ≡ M.loops
+  loops-back =
+      let a : mef_old h g k (cycle_of N g) ≡ cycle_of M h = ap (mef_old h g k) cycle_g ∙ lists_back.0 in
+      let b : mef_new m g k (cycle_of N g) ≡ cycle_of M m = ap (mef_new m g k) cycle_g ∙ lists_back.1 in
+      let c : face_of N (loop_of N g) ≡ face_of M r = ap (face_of N) loop_g ∙ face_same set r r_s in
+      loops-mef N sound-kef g k h f s put_goes.g_there put_goes.edge_free put_goes.loop_free
+      ∙ (λ i. table.put (table.put N.loops (loop_g i) (record { face = c i; content = cycle (a i) })) s (record { face = f; content = cycle (b i) }))
+      ∙ ap (λ t. table.put (table.put t r (record { face = face_of M r; content = cycle (cycle_of M h) })) s (record { face = f; content = cycle (cycle_of M m) })) loops_are
+      ∙ both_back M.loops r s _ _ _ r_s (row_of M sound h goes.h_there) (row_of M sound m m_there)
+
+  solid_back : solid_of N (face_at N g) ≡ solid_of M f
+  solid_back = ap (λ q. solid_of N (face_of N q)) loop_g ∙ solid_loop r has_r r_s ∙ one_side
+
+  faces-back : K.faces ≡ M.faces
+  unfolding mef kef
+  faces-back = put_again M.faces f (record { solid = solid_of M f; outer = outer M f }) (record { solid = solid_of N (face_at N g); outer = s }) (face_there M f face_f)
+      (λ i. record { solid = solid_back i; outer = sym outer_f i })
+
+  edges-back : K.edges ≡ M.edges
+  unfolding mef kef
+  edges-back = put_again M.edges (edge_of h) (edge_row h (tail M h) (tail M m)) (edge_row h (tail N g) (tail N k)) (edge_there M h goes.h_there) (λ i. edge_row h (tail_g i) (tail_k i))
+
+  pub mef-after-kef : mef (kef M h) g k h f s ≡ M
+  unfolding mef kef
+  mef-after-kef = same_model K M refl faces-back loops-back edges-back refl

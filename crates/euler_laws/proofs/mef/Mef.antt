@@ -29,5 +29,3 @@ mef_goes M g k h f l e = named (all_hold (conditions M (Mef g k h f l)) e) where
     face_fits = face_number;
     loop_fits = loop_number;
   }
-
--- mef keeps a sound model sound

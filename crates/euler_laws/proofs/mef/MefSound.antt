@@ -121,13 +121,10 @@ module _ {M : Model} (sound : Sound M) {g k h f l : ℕ} (goes : MefGoes M g k h
   count_now : (x : ℕ) → in_both N r l x ≡ count x (mef_old h g k xs) + count x (mef_new m g k xs)
   count_now x = λ i. count x (items_of (content_first set i)) + count x (items_of (content_l i))
 
-  count_was : (x : ℕ) → in_both M r l x ≡ count x xs + 0
-  count_was x = ap (λ c. count x xs + count x (items_of c)) content_free
-
   rows : TwoRows M N (edge_of h) r l
   rows = two_rows-more more (record {
     other_row = row_else set;
-    others = λ x a. omega (arith, count_now x, counted x, ticks_apart x h a, count_was x);
+    others = λ x a. omega (arith, count_now x, counted x, ticks_apart x h a, ap (λ c. count x xs + count x (items_of c)) content_free);
     once = λ x t u. absurd (omega (arith, holds_in x (content N r) t, holds_in x (content N l) u, count_now x, apart_two x));
   }) (omega (arith, count_now h, counted h, tick_same h)) (omega (arith, count_now m, counted m, tick_same m))
 

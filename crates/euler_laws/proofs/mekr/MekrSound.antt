@@ -1,29 +1,33 @@
 -- A sound model stays sound under mekr.
 use Rattle.std.proofs.Common.{◌≡◌, ◌≢◌, ℕ, ◌+◌, List, [], ◌∷◌, ◌++◌, None, is_some, refl, sym, ap, ◌∙◌, subst, arith, ◌⊎◌, inl, inr, eq-eqb, ne_eqb}
 use Rattle.euler_operators.specs.Items.{count, tick, IsIn, IsApart, head_or}
-use Rattle.euler_operators.specs.Rings.{canonical, IsPath, IsRing}
+use Rattle.euler_operators.specs.Rings.{canonical, IsPath, IsRing, between, beyond}
 use Rattle.euler_operators.specs.Operators.{after_mef}
 use Rattle.euler_operators.proofs.Lists.{count-append, tick_same, IsIn_or_not}
 use Rattle.euler_operators.proofs.Rotations.{count-canonical}
 use Rattle.euler_operators.proofs.Rings.{IsPath-append, IsPath-sent}
-use Rattle.euler_operators.proofs.Operators.{apart_braced}
+use Rattle.euler_operators.proofs.Operators.{apart_braced, between_canonical, beyond_canonical}
 use Rattle.euler_operators.specs.HalfEdge.{mate, edge_of}
 use Rattle.euler_operators.specs.Table as table
-use Rattle.euler_operators.specs.Model.{Model, lone, cycle, LoopRow, items_of, holds, tail, loop_of, content, face_of, solid_of, after, outer}
+use Rattle.euler_operators.specs.Model.{Model, lone, cycle, LoopRow, items_of, holds, tail, loop_of, content, face_of, solid_of, after, outer, cycle_of}
 use Rattle.euler_operators.specs.Sound.{Sound, Has, HasHalf}
 use Rattle.euler_operators.proofs.Halves.{mate_other, mate-mate}
-use Rattle.euler_operators.proofs.Tables.{row_elsewhere}
+use Rattle.euler_operators.proofs.Tables.{row_elsewhere, remove-put}
 use Rattle.euler_operators.proofs.Models.{in-holds, holds_in}
-use Rattle.euler_operators.specs.Effect.{edge_row}
+use Rattle.euler_operators.specs.Effect.{edge_row, kemr, cycle_or_lone}
 use Rattle.euler_laws.proofs.shared.Fans.{Fan}
 use Rattle.euler_laws.proofs.shared.Loops.{IsLoop, canonical_cycle, canonical_ring, Walks}
 use Rattle.euler_laws.proofs.shared.Same.{solid_at}
-use Rattle.euler_laws.proofs.shared.Rows.{content_none, never_outer, was_empty}
+use Rattle.euler_laws.proofs.shared.Rows.{content_none, never_outer, was_empty, both_back, loop_row}
 use Rattle.euler_laws.proofs.shared.Parts.{VerticesHold, RangesHold, sound_of, fit-put, fit-remove, FacesStay, solid_kept, faces_hold}
-use Rattle.euler_laws.proofs.shared.EdgeMore.{OneMore, comes, PutBefore, not_h, not_m, first_starts, second_starts, fan_alone, ring_mef-other, fans-more, fan_first, fan_second, fan_other, vertices_hold-more}
+use Rattle.euler_laws.proofs.shared.EdgeMore.{OneMore, comes, PutBefore, not_h, not_m, first_starts, second_starts, fan_alone, ring_mef-other, fans-more, fan_first, fan_second, fan_other, vertices_hold-more, half_h, tail-h, tail-m}
 use Rattle.euler_laws.proofs.shared.EdgeLess.{ticks_apart}
 use Rattle.euler_laws.proofs.shared.TwoRows.{RowsSet, row_first, row_second, row_else, content_first, face_same, has_same, OneOf, TwoRows, lone_else, in_both, loop_both, Elsewhere, none_elsewhere, walks-rows, one_solid-rows, two_rows-more}
 use Rattle.euler_laws.proofs.mekr.MekrSpots.{JoinGoes, count_spot, half_there, loop_there, ring_there, first_cases, vertex_there, only_lone}
+use Rattle.std.proofs.lemmas.Bool.{eq-eqb}
+use Rattle.euler_laws.proofs.kemr.KemrSound as parted
+use Rattle.euler_laws.proofs.kemr.KemrSound.{KemrGoes}
+use Rattle.euler_laws.proofs.shared.Undo.{same_model}
 
 -- Y of loop q and X of loop l become the loop h X m Y: mekr, by what its corners stand for
 unfoldable pub join_loops : Model → ℕ → ℕ → ℕ → ℕ → ℕ → List ℕ → List ℕ → Model
@@ -285,3 +289,48 @@ module _ {M : Model} (sound : Sound M) {h q l u w : ℕ} {Y X : List ℕ} (goes 
   -- a sound model stays sound under mekr
   pub sound-join : Sound N
   sound-join = sound_of N F walks vertices (faces_hold sound faces_stay one_solid) ranges
+
+  -- ---- kemr takes it back
+
+  abbrev K : Model
+  K = kemr N h l
+
+  loop_h : loop_of N h ≡ q
+  loop_h = loop_new h (inl refl)
+
+  pub part_goes : KemrGoes N h l
+  part_goes = record {
+    h_there = half_h (comes more);
+    loop_free = row_second set;
+    one_loop = loop_h ∙ sym (loop_new m (inr refl));
+    loop_fits = sound.loops_fit l goes.second.there;
+  }
+
+  cycle_h : cycle_of N h ≡ canonical ((h ∷ X) ++ m ∷ Y)
+  cycle_h = ap (λ p. items_of (content N p)) loop_h ∙ ap items_of (content_first set)
+
+  face_h : face_of N (loop_of N h) ≡ face_of M q
+  face_h = ap (face_of N) loop_h ∙ face_same set q goes.loops_apart
+
+  first_back : cycle_or_lone (beyond h m (cycle_of N h)) (tail N h) ≡ content M q
+  first_back =
+      let y : beyond h m (cycle_of N h) ≡ Y = ap (beyond h m) cycle_h ∙ beyond_canonical h m X Y apart_zs in
+      (λ i. cycle_or_lone (y i) (tail-h (comes more) i)) ∙ sym goes.first.holds_it
+
+  second_back : cycle_or_lone (between h m (cycle_of N h)) (tail N m) ≡ content M l
+  second_back =
+      let x : between h m (cycle_of N h) ≡ X = ap (between h m) cycle_h ∙ between_canonical h m X Y apart_zs in
+      (λ i. cycle_or_lone (x i) (tail-m (comes more) i)) ∙ sym goes.second.holds_it
+
+  loops-back : K.loops ≡ M.loops
+  loops-back =
+      let f : face_of N (loop_of N h) ≡ face_of M l = face_h ∙ goes.one_face in
+      parted.loops_are N sound-join h l part_goes
+      ∙ (λ i. table.put (table.put N.loops (loop_h i) (record { face = face_h i; content = first_back i })) l (record { face = f i; content = second_back i }))
+      ∙ ap (λ t. table.put (table.put t q (record { face = face_of M q; content = content M q })) l (record { face = face_of M l; content = content M l })) loops_are
+      ∙ both_back M.loops q l _ _ _ goes.loops_apart (loop_row M q goes.first.there) (loop_row M l goes.second.there)
+
+  -- kemr takes the join back
+  pub kemr-join_back : kemr (join_loops M h q l u w Y X) h l ≡ M
+  unfolding kemr join_loops
+  kemr-join_back = same_model K M refl refl loops-back (remove-put M.edges (edge_of h) (edge_row h u w) goes.edge_free) refl

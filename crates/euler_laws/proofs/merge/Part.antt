@@ -12,9 +12,9 @@ use Rattle.euler_operators.proofs.Tables.{put-remove, remove-put, map_same, firs
 use Rattle.euler_operators.proofs.Tests.{and_false}
 use Rattle.euler_operators.proofs.Models.{mate_there}
 use Rattle.euler_operators.specs.declared.Op.TheVariants.{Merge, Part}
-use Rattle.euler_operators.specs.Conditions.{Condition, AllHold, first_false, conditions, numbers_in_range, faces_known, faces_in, face_at, lists, lists_all, strictly_rises, is_empty, torn_edge, differ}
+use Rattle.euler_operators.specs.Conditions.{AllHold, first_false, conditions, numbers_in_range, faces_known, faces_in, face_at, lists, lists_all, strictly_rises, is_empty, torn_edge, differ}
 use Rattle.euler_operators.specs.Effect.{effect, inverse, merge, part, faces_to_solid}
-use Rattle.euler_laws.proofs.shared.Goes.{all_hold, none_refuses, not_false, taken, no_zero, all_hold-append}
+use Rattle.euler_laws.proofs.shared.Goes.{all_hold, none_refuses, not_false, taken, no_zero, all_hold-append, all_hold-front, all_hold-back}
 use Rattle.euler_laws.proofs.shared.Fans.{half_face}
 use Rattle.euler_laws.proofs.shared.Arcs.{halves_of_edge}
 use Rattle.euler_laws.proofs.shared.Same.{map_twice}
@@ -128,6 +128,15 @@ module _ {M : Model} (sound : Sound M) {s t : ℕ} {fs : List ℕ} (goes : PartG
   unfolding merge part
   merge-part = λ i. record { solids = remove-put M.solids t tt goes.t_free i; faces = faces_back i; loops = M.loops; edges = M.edges; vertices = M.vertices }
 
+-- a face stands in the list of its solid
+pub face_in : (M : Model) (s q : ℕ) → lists (faces_of M s) q ≡ true → Has M.faces q × (solid_of M q ≡ s)
+unfolding solid_of
+face_in M s q l = let x = listed_passes (λ _ row. nat_eq row.solid s) M.faces q l in
+    (ap is_some x.1, ap (λ o. (unwrap_or o no_face).solid) x.1 ∙ eqb-true x.0.solid s x.2)
+
+pub in_faces : (M : Model) (s q : ℕ) → Has M.faces q → solid_of M q ≡ s → lists (faces_of M s) q ≡ true
+in_faces M s q there e = passes_listed (λ _ row. nat_eq row.solid s) M.faces q (record { solid = solid_of M q; outer = outer M q }) (face_there M q there) (eq-eqb _ _ e)
+
 -- ---- merge is taken back by part
 
 module _ {M : Model} (sound : Sound M) {s t : ℕ} (goes : MergeGoes M s t) where
@@ -137,11 +146,6 @@ module _ {M : Model} (sound : Sound M) {s t : ℕ} (goes : MergeGoes M s t) wher
   -- a face stands in the list where it is of the solid that goes
   face_listed : (q : ℕ) → Has M.faces q → lists (faces_of M t) q ≡ nat_eq (solid_of M q) t
   face_listed q there = listed_as (λ _ row. nat_eq row.solid t) M.faces q (record { solid = solid_of M q; outer = outer M q }) (face_there M q there)
-
-  listed_face : (q : ℕ) → lists (faces_of M t) q ≡ true → Has M.faces q × (solid_of M q ≡ t)
-  unfolding solid_of
-  listed_face q l = let x = listed_passes (λ _ row. nat_eq row.solid t) M.faces q l in
-      (ap is_some x.1, ap (λ o. (unwrap_or o no_face).solid) x.1 ∙ eqb-true x.0.solid t x.2)
 
   face_at_same : (x : ℕ) → face_at J x ≡ face_at M x
   face_at_same x = let o = joins.merge_other sound goes in ap (face_of J) (loop_same o x) ∙ face_same o (loop_of M x)
@@ -158,7 +162,7 @@ module _ {M : Model} (sound : Sound M) {s t : ℕ} (goes : MergeGoes M s t) wher
     s_there = ap is_some (joins.solid_other sound goes s goes.apart) ∙ goes.s_there;
     t_free = joins.solid_gone sound goes;
     t_fits = sound.solids_fit t goes.t_there;
-    each = λ f l. let x = listed_face f l in (face_on f x.0, joins.solid_new sound goes f x.0 ∙ ap (joins.joined s t) x.1 ∙ joins.joined_t sound goes);
+    each = λ f l. let x = face_in M t f l in (face_on f x.0, joins.solid_new sound goes f x.0 ∙ ap (joins.joined s t) x.1 ∙ joins.joined_t sound goes);
     listed = let x = sound.solid_has_face t goes.t_there in (x.0, face_listed x.0 x.1 ∙ eq-eqb (solid_of M x.0) t x.2);
     rises = all_where-rises (λ _ row. nat_eq row.solid t) M.faces;
     left = let x = sound.solid_has_face s goes.s_there in
@@ -188,11 +192,6 @@ module _ {M : Model} (sound : Sound M) {s t : ℕ} (goes : MergeGoes M s t) wher
   part-merge = λ i. record { solids = put-remove M.solids t tt (solid_row M t goes.t_there) i; faces = faces_home i; loops = M.loops; edges = M.edges; vertices = M.vertices }
 
 -- ---- conditions
-
--- conditions of two lists
-all_split : (cs ds : List Condition) → AllHold (cs ++ ds) → AllHold cs × AllHold ds
-all_split [] ds h = (tt, h)
-all_split (c ∷ cs) ds h = let r = all_split cs ds h.1 in ((h.0, r.0), r.1)
 
 -- conditions on each number of a list
 numbers_hold : (fs : List ℕ) → ((f : ℕ) → lists fs f ≡ true → is_number f ≡ true) → AllHold (numbers_in_range fs)
@@ -279,29 +278,20 @@ torn_not M fs sound z x there =
       | inr p ↦ ap (λ y. lists fs (face_at M y)) p.0 ∙ sym e ∙ ap (λ y. lists fs (face_at M y)) (sym (ap mate p.0 ∙ mate_minus (edge_of x)))
     ]
 
-face_in : (M : Model) (s q : ℕ) → lists (faces_of M s) q ≡ true → Has M.faces q × (solid_of M q ≡ s)
-unfolding solid_of
-face_in M s q l = let x = listed_passes (λ _ row. nat_eq row.solid s) M.faces q l in
-    (ap is_some x.1, ap (λ o. (unwrap_or o no_face).solid) x.1 ∙ eqb-true x.0.solid s x.2)
-
-in_faces : (M : Model) (s q : ℕ) → Has M.faces q → solid_of M q ≡ s → lists (faces_of M s) q ≡ true
-in_faces M s q there e = passes_listed (λ _ row. nat_eq row.solid s) M.faces q (record { solid = solid_of M q; outer = outer M q }) (face_there M q there) (eq-eqb _ _ e)
-
 pub part_goes : (M : Model) (s t : ℕ) (fs : List ℕ) → Sound M → first_false M (Part s t fs) ≡ None → PartGoes M s t fs
 unfolding first_false conditions
 part_goes M s t fs sound e =
     let w = all_hold (conditions M (Part s t fs)) e in
-    let x = (all_split (numbers_in_range fs) _ w.1.1).1 in
-    let y = all_split (faces_known M fs ++ faces_in M s fs) _ x.1.1 in
-    let z = all_split (faces_known M fs) (faces_in M s fs) y.0 in
-    let n = false_or (is_empty fs) (not (strictly_rises fs)) (lists_all fs (faces_of M s)) (not (nat_eq (torn_edge M fs) 0)) (not-true _ y.1.0) in
+    let x = all_hold-back (numbers_in_range fs) _ w.1.1 in
+    let y = all_hold-front (faces_known M fs ++ faces_in M s fs) _ x.1.1 in
+    let n = false_or (is_empty fs) (not (strictly_rises fs)) (lists_all fs (faces_of M s)) (not (nat_eq (torn_edge M fs) 0)) (not-true _ (all_hold-back (faces_known M fs ++ faces_in M s fs) _ x.1.1).0) in
     let o = left_out fs (faces_of M s) n.third in
     let i = face_in M s o.0 o.1 in
     record {
       s_there = x.0;
       t_free = no_row _ (not-true _ x.1.0);
       t_fits = w.1.0;
-      each = λ f l. (hold_known M fs z.0 f l, hold_in M s fs z.1 f l);
+      each = λ f l. (hold_known M fs (all_hold-front (faces_known M fs) (faces_in M s fs) y) f l, hold_in M s fs (all_hold-back (faces_known M fs) (faces_in M s fs) y) f l);
       listed = some_listed fs n.first;
       rises = not-false (strictly_rises fs) n.second;
       left = (o.0, i.0, i.1, o.2);

@@ -109,13 +109,10 @@ module _ {M : Model} (sound : Sound M) {l h v u : ℕ} {p : Point} (goes : LoneG
   count_now : (x : ℕ) → count x (items_of (content N l)) ≡ tick x h + (tick x m + 0)
   count_now x = ap (λ c. count x (items_of c)) content_new ∙ count-canonical x (h ∷ m ∷ [])
 
-  count_was : (x : ℕ) → count x (items_of (content M l)) ≡ 0
-  count_was x = ap (λ c. count x (items_of c)) goes.is_lone
-
   rows : TwoRows M N (edge_of h) l l
   rows = two_rows-more edge (record {
     other_row = λ q a b. loop_other q a;
-    others = λ x a. omega (arith, count_now x, count_was x, ticks_apart x h a);
+    others = λ x a. omega (arith, count_now x, ap (λ c. count x (items_of c)) goes.is_lone, ticks_apart x h a);
     once = λ x s t. refl;
   }) (omega (arith, count_now h, tick_same h)) (omega (arith, count_now m, tick_same m))
 

@@ -16,7 +16,7 @@ use Rattle.euler_operators.specs.Table.{Table, tables, same_table}
 use Rattle.euler_operators.specs.Model.{Model, loop_of, cycle_of, LoopContent, lone, cycle, FaceRow, LoopRow, EdgeRow, no_face, no_edge, no_point, tail_in, items_of, holds, tail, face_of, outer, solid_of, point_of, no_loop, content, rings_of, is_ring_of}
 use Rattle.euler_operators.specs.Sound.{Sound, Has, HasHalf, IsCycle}
 use Rattle.euler_operators.proofs.Halves.{edge_of-code, edge_of-mate, is_first-mate, plus_row}
-use Rattle.euler_operators.proofs.Tables.{all_where_none, none_all_where, row_some, map_one}
+use Rattle.euler_operators.proofs.Tables.{all_where_none, none_all_where, row_some, map_one, put-remove}
 use Rattle.euler_operators.proofs.Models.{face_row, row_of, other_loop, in-holds, cycle_there}
 use Rattle.euler_operators.proofs.Tests.{none_but}
 use Rattle.euler_operators.specs.Conditions.{has_rings, is_empty, is_lone, lone_vertex}
@@ -43,6 +43,10 @@ one_row e = cc
 pub no_items : (xs : List ℕ) → ((x : ℕ) → count x xs ≡ 0) → xs ≡ []
 no_items [] e = refl
 no_items (x ∷ xs) e = absurd (omega (arith, e x, tick_same x))
+
+-- a row taken away and put again
+pub put_again : {X : Type 0} (t : Table X) (n : ℕ) (x y : X) → table.get t n ≡ Some x → y ≡ x → table.put (table.remove t n) n y ≡ t
+put_again t n x y at e = ap (table.put (table.remove t n) n) e ∙ put-remove t n x at
 
 -- a row put and another taken away, and both put as they were
 pub both_back : {X : Type 0} (t : Table X) (r s : ℕ) (x a b : X) → r ≢ s → table.get t r ≡ Some a → table.get t s ≡ Some b → table.put (table.put (table.remove (table.put t r x) s) r a) s b ≡ t

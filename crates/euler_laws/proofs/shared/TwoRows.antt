@@ -110,9 +110,6 @@ module _ {M N : Model} {e r s : ℕ} (sound : Sound M) (rows : TwoRows M N e r s
   old_loop : (x : ℕ) → 1 ≤ in_both M r s x → OneOf r s (loop_of M x)
   old_loop x i = let t = both_stand M r s x i in elim t.1 [ inl a ↦ inl (sound.one_loop x t.0 t.2 ∙ a) | inr a ↦ inr (sound.one_loop x t.0 t.2 ∙ a) ]
 
-  in_old : (x : ℕ) → HasHalf M x → OneOf r s (loop_of M x) → 1 ≤ in_both M r s x
-  in_old x t o = stands_both M r s x (loop_of M x) o (sound.stands x t)
-
   -- what stood in another loop is there, of another edge, and stood not in the two
   elsewhere : (x q : ℕ) → Neither r s q → StandsIn M x q → HasHalf M x × (edge_of x ≢ e) × (1 ≤ in_both M r s x → ⊥)
   elsewhere x q n t =
@@ -152,7 +149,7 @@ module _ {M N : Model} {e r s : ℕ} (sound : Sound M) (rows : TwoRows M N e r s
     | inr z ↦ elim (eqb_tells (edge_of x) e) [
       | inl a ↦ absurd (omega (arith, rows.stands x a.1 t, z))
       | inr a ↦ let o = half_back x a.1 t in elim (which r s (loop_of M x)) [
-        | inl k ↦ absurd (omega (arith, z, rows.others x a.1, in_old x o k))
+        | inl k ↦ absurd (omega (arith, z, rows.others x a.1, stands_both M r s x (loop_of M x) k (sound.stands x o)))
         | inr n ↦ inr (o, n, z)
       ]
     ]

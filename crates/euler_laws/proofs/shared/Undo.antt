@@ -135,8 +135,6 @@ module _ (hs : List ℕ) (d : IsApart hs) where
     head_in [] m ys = refl
     head_in (x ∷ xs) m ys = refl
 
--- ---- the two half-edges of an edge
-
 -- ---- parallel edges
 
 module _ (M : Model) (h : ℕ) where

@@ -8,7 +8,7 @@ use Rattle.std.specs.FinMap.Entries.{find, is_sorted, by_order}
 use Rattle.std.specs.Cmp.{unsigned_tied}
 use Rattle.std.specs.declared.cmp.Ordering.TheVariants.{Greater}
 use Rattle.std.proofs.lemmas.Bool.{leb-true, leb-false}
-use Rattle.euler_operators.proofs.Tables.{and_left, and_right, map-put, map_same}
+use Rattle.euler_operators.proofs.Tables.{and_left, and_right}
 use Rattle.euler_operators.specs.Table as table
 use Rattle.euler_operators.specs.Table.{Table, all_in, greatest_in}
 use Rattle.euler_operators.proofs.Tests.{nat_eq_itself}
@@ -96,10 +96,6 @@ get-put_cases t k v q x at = elim (eqb_tells q k) [
 ] where
   one : {X : Type 0} {x y : X} → Some x ≡ Some y → x ≡ y
   one e = cc
-
--- a rewriting after a row is put, where it leaves that row alone or the other ones
-pub map-put_last : {X : Type 0} (f : ℕ → X → X) (t : Table X) (k : ℕ) (v : X) → ((q : ℕ) (x : X) → table.get t q ≡ Some x → f q x ≡ x) → table.map_rows f (table.put t k v) ≡ table.put t k (f k v)
-map-put_last f t k v alone = map-put f t k v ∙ ap (λ s. table.put s k (f k v)) (map_same f t alone)
 
 found_greatest : {X : Type 0} (e : ℕ × X) (es : List (ℕ × X)) → is_some (find nat_cmp (greatest_in (e ∷ es)) (e ∷ es)) ≡ true
 found_greatest e [] = ap (λ c. is_some (cond c (Some e.1) None)) (unsigned_tied e.0 e.0 ∙ nat_eq_itself e.0)

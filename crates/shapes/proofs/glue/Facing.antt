@@ -83,11 +83,8 @@ module _ (M : Model) (f g : ℕ) (partner_of : ℕ → ℕ) (hs : List ℕ) (x :
   pub half_g : (h : ℕ) → IsIn h hs → HasHalf M (partner_of h)
   half_g h i = w.sound.only_edges (partner_of h) (outer M g) (stands_g h i)
 
-  pub loop_g : (h : ℕ) → IsIn h hs → loop_of M (partner_of h) ≡ outer M g
-  loop_g h i = w.sound.one_loop (partner_of h) (outer M g) (stands_g h i)
-
   pub side_g : (h : ℕ) → IsIn h hs → side (partner_of h) ≡ solid_of M g
-  side_g h i = ap (solid_of M) (ap (face_of M) (loop_g h i) ∙ face_g)
+  side_g h i = ap (solid_of M) (ap (face_of M) (w.sound.one_loop (partner_of h) (outer M g) (stands_g h i)) ∙ face_g)
 
   -- an edge and a vertex are of one solid
   pub side_mate : (y : ℕ) → HasHalf M y → side (mate y) ≡ side y

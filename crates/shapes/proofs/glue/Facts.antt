@@ -14,7 +14,7 @@ use Rattle.euler_operators.proofs.Maps.{reverse-cons, reverse_at, count-reverse,
 use Rattle.euler_operators.specs.HalfEdge.{mate}
 use Rattle.euler_operators.specs.Table as table
 use Rattle.euler_operators.specs.Model.{Model, cycle, holds, content, face_of, solid_of, outer, tail, point_of, after, rings_of}
-use Rattle.euler_operators.specs.Sound.{Sound, Has, HasHalf, StandsIn, IsCycle}
+use Rattle.euler_operators.specs.Sound.{Sound, Has, HasHalf, IsCycle}
 use Rattle.euler_operators.proofs.Halves.{mate-mate, mate_other}
 use Rattle.euler_operators.proofs.Tables.{zero_first_where}
 use Rattle.euler_operators.proofs.Models.{in-holds, loop_number}
@@ -47,11 +47,8 @@ module _ (M : Model) (sound : Sound M) where
     pub cycle_l : IsCycle hs
     cycle_l = sound.cycles l hs has is
 
-    pub stands_l : (h : ℕ) → IsIn h hs → StandsIn M h l
-    stands_l h i = ap (λ c. holds h c) is ∙ in-holds h (cycle hs) i
-
     pub half_l : (h : ℕ) → IsIn h hs → HasHalf M h
-    half_l h i = sound.only_edges h l (stands_l h i)
+    half_l h i = sound.only_edges h l (ap (λ c. holds h c) is ∙ in-holds h (cycle hs) i)
 
     pub ring_l : IsRing (after M) hs
     ring_l = (subst (IsLoop (after M)) is (loop_sound M sound l has)).1

@@ -14,7 +14,7 @@ use Rattle.euler_operators.specs.Rings.{IsRotation}
 use Rattle.euler_operators.proofs.Lists.{tick_same, tick_other}
 use Rattle.euler_operators.proofs.Maps.{reverse-cons}
 use Rattle.shapes.specs.Fresh.{first_such}
-use Rattle.euler_operators.proofs.Integers.{dif, dif-parts, difs, same_dif, number}
+use Rattle.euler_operators.proofs.Integers.{dif-parts, difs, same_dif, number}
 use Rattle.euler_operators.proofs.Vectors.{same_vector}
 use Rattle.euler_operators.proofs.Tests.{or_true}
 use Rattle.euler_operators.proofs.Crossings.{same_as}
@@ -126,11 +126,8 @@ such_is test (n ∷ ks) k i t only = elim (test n) as (λ b. test n ≡ b → co
 
 -- ---- there and back along one line
 
-back_dif : (a b c d a' b' c' d' : ℕ) → (dif a a' *ℤ dif b b' -ℤ dif c c' *ℤ dif d d') +ℤ ((dif d d' *ℤ dif c c' -ℤ dif b b' *ℤ dif a a') +ℤ dif 0 0) ≡ dif 0 0
-back_dif a b c d a' b' c' d' = simp difs (same_dif _ _ _ _ (omega arith))
-
 back_part : (a b c d z : ℤ) → z ≡ pos 0 → (a *ℤ b -ℤ c *ℤ d) +ℤ ((d *ℤ c -ℤ b *ℤ a) +ℤ z) ≡ z
-back_part a b c d z e = rw (dif-parts a, dif-parts b, dif-parts c, dif-parts d, e ∙ number 0) (back_dif _ _ _ _ _ _ _ _)
+back_part a b c d z e = rw (dif-parts a, dif-parts b, dif-parts c, dif-parts d, e ∙ number 0) (simp difs (same_dif _ _ _ _ (omega arith)))
 
 pub there_and_back : (p q : Point) → moved (cross p q) (moved (cross q p) origin) ≡ origin
 there_and_back p q = same_vector _ _ (back_part p.y q.z p.z q.y (pos 0) refl) (back_part p.z q.x p.x q.z (pos 0) refl) (back_part p.x q.y p.y q.x (pos 0) refl)

@@ -105,9 +105,6 @@ replaced_none m h (x ∷ xs) c = elim (eqb_tells x m) [
   | inr e ↦ λ i. ap (λ b. cond b h x) e.0 i ∷ replaced_none m h xs (omega (arith, c)) i
 ]
 
-replaced_here : (m h : ℕ) → replaced m h m ≡ h
-replaced_here m h = ap (λ b. cond b h m) (nat_eq_itself m)
-
 map_two : (f : ℕ → ℕ) (xs ys : List ℕ) → map f (xs ++ ys) ≡ map f xs ++ map f ys
 map_two f [] ys = refl
 map_two f (x ∷ xs) ys = ap (λ t. f x ∷ t) (map_two f xs ys)
@@ -122,7 +119,7 @@ replaced_ring m h xs apart i out =
     let none_p : count m ps ≡ 0 = count-before m xs in
     let none_q : count m qs ≡ 0 = omega (arith, counts m, apart m, tick_same m) in
     let new : map (replaced m h) xs ≡ ps ++ h ∷ qs = ap (map (replaced m h)) split ∙ map_two (replaced m h) ps (m ∷ qs)
-    ∙ (λ j. replaced_none m h ps none_p j ++ replaced_here m h j ∷ replaced_none m h qs none_q j) in
+    ∙ (λ j. replaced_none m h ps none_p j ++ (ap (λ b. cond b h m) (nat_eq_itself m)) j ∷ replaced_none m h qs none_q j) in
     let r : rest m (canonical xs) ≡ qs ++ ps = sym (rest_same m xs (canonical xs) (canonical-rotates xs) apart i) ∙ rest_parts m xs in
     let d : IsApart (h ∷ (qs ++ ps)) = λ x. elim (eqb_tells x h) [
       | inl e ↦ omega (arith, count-append x qs ps, counts x, ap (λ y. count y xs) e.1, ap (λ y. count x (y ∷ [])) (sym e.1), tick_same x, out)

@@ -3,42 +3,30 @@ use Rattle.std.proofs.Common.{◌≡◌, ◌≢◌, ◌⊎◌, inl, inr, ℕ, ze
 use Rattle.std.proofs.lemmas.Int.{ints, unsigned_abs-mul}
 use Rattle.euler_operators.specs.declared.Point.{Point}
 use Rattle.euler_operators.specs.Vectors.{origin, moved, dot, cross}
-use Rattle.euler_operators.proofs.Integers.{dif, dif-parts, difs, same_dif, number}
+use Rattle.euler_operators.proofs.Integers.{dif-parts, difs, same_dif, number}
 use Rattle.euler_operators.proofs.Vectors.{same_vector}
 use Rattle.shapes.specs.Vectors.{scaled, towards}
 
 -- ---- across a sum
 
-sum_dif : (a b y z u v a' b' y' z' u' v' : ℕ) →
-    dif a a' *ℤ (dif z z' +ℤ dif v v') -ℤ dif b b' *ℤ (dif y y' +ℤ dif u u') ≡ (dif a a' *ℤ dif z z' -ℤ dif b b' *ℤ dif y y') +ℤ (dif a a' *ℤ dif v v' -ℤ dif b b' *ℤ dif u u')
-sum_dif a b y z u v a' b' y' z' u' v' = simp difs (same_dif _ _ _ _ (omega arith))
-
 sum_part : (a b y z u v : ℤ) → a *ℤ (z +ℤ v) -ℤ b *ℤ (y +ℤ u) ≡ (a *ℤ z -ℤ b *ℤ y) +ℤ (a *ℤ v -ℤ b *ℤ u)
-sum_part a b y z u v = rw (dif-parts a, dif-parts b, dif-parts y, dif-parts z, dif-parts u, dif-parts v) (sum_dif _ _ _ _ _ _ _ _ _ _ _ _)
+sum_part a b y z u v = rw (dif-parts a, dif-parts b, dif-parts y, dif-parts z, dif-parts u, dif-parts v) (simp difs (same_dif _ _ _ _ (omega arith)))
 
 pub cross_moved : (n p q : Point) → cross n (moved p q) ≡ moved (cross n p) (cross n q)
 cross_moved n p q = same_vector _ _ (sum_part n.y n.z p.y p.z q.y q.z) (sum_part n.z n.x p.z p.x q.z q.x) (sum_part n.x n.y p.x p.y q.x q.y)
 
-nothing_dif : (a b a' b' : ℕ) → dif a a' *ℤ dif 0 0 -ℤ dif b b' *ℤ dif 0 0 ≡ dif 0 0
-nothing_dif a b a' b' = simp difs (same_dif _ _ _ _ (omega arith))
-
 nothing_part : (a b : ℤ) → a *ℤ pos 0 -ℤ b *ℤ pos 0 ≡ pos 0
-nothing_part a b = rw (dif-parts a, dif-parts b, number 0) (nothing_dif _ _ _ _)
+nothing_part a b = rw (dif-parts a, dif-parts b, number 0) (simp difs (same_dif _ _ _ _ (omega arith)))
 
 pub cross_nothing : (n : Point) → cross n origin ≡ origin
 cross_nothing n = same_vector _ _ (nothing_part n.y n.z) (nothing_part n.z n.x) (nothing_part n.x n.y)
 
 -- ---- across a product: n x (p x q) is (n . q) p - (n . p) q
 
-across_dif : (a b c e f g h k l a' b' c' e' f' g' h' k' l' : ℕ) →
-    dif b b' *ℤ (dif e e' *ℤ dif k k' -ℤ dif f f' *ℤ dif h h') -ℤ dif c c' *ℤ (dif g g' *ℤ dif h h' -ℤ dif e e' *ℤ dif l l')
-    ≡ (dif a a' *ℤ dif h h' +ℤ dif b b' *ℤ dif k k' +ℤ dif c c' *ℤ dif l l') *ℤ dif e e' -ℤ (dif a a' *ℤ dif e e' +ℤ dif b b' *ℤ dif f f' +ℤ dif c c' *ℤ dif g g') *ℤ dif h h'
-across_dif a b c e f g h k l a' b' c' e' f' g' h' k' l' = simp difs (same_dif _ _ _ _ (omega arith))
-
 -- one coordinate, where u is n . q and v is n . p
 across_part : (a b c e f g h k l u v : ℤ) → a *ℤ h +ℤ b *ℤ k +ℤ c *ℤ l ≡ u → a *ℤ e +ℤ b *ℤ f +ℤ c *ℤ g ≡ v → b *ℤ (e *ℤ k -ℤ f *ℤ h) -ℤ c *ℤ (g *ℤ h -ℤ e *ℤ l) ≡ u *ℤ e -ℤ v *ℤ h
 across_part a b c e f g h k l u v is_u is_v =
-    rw (dif-parts a, dif-parts b, dif-parts c, dif-parts e, dif-parts f, dif-parts g, dif-parts h, dif-parts k, dif-parts l) (across_dif _ _ _ _ _ _ _ _ _ _ _ _ _ _ _ _ _ _) ∙ (λ i. is_u i *ℤ e -ℤ is_v i *ℤ h)
+    rw (dif-parts a, dif-parts b, dif-parts c, dif-parts e, dif-parts f, dif-parts g, dif-parts h, dif-parts k, dif-parts l) (simp difs (same_dif _ _ _ _ (omega arith))) ∙ (λ i. is_u i *ℤ e -ℤ is_v i *ℤ h)
 
 second_first : (a b c : ℤ) → b +ℤ c +ℤ a ≡ a +ℤ b +ℤ c
 second_first a b c = omega (arith, ints)
@@ -57,20 +45,14 @@ cross_across n p q u v is_u is_v = same_vector _ _
 
 -- ---- along a path on a plane with n . p = c, from p over q to e
 
-step_dif : (c p q e c' p' q' e' : ℕ) → (dif c c' *ℤ dif p p' -ℤ dif c c' *ℤ dif q q') +ℤ dif c c' *ℤ (dif q q' -ℤ dif e e') ≡ dif c c' *ℤ (dif p p' -ℤ dif e e')
-step_dif c p q e c' p' q' e' = simp difs (same_dif _ _ _ _ (omega arith))
-
 step_part : (c p q e : ℤ) → (c *ℤ p -ℤ c *ℤ q) +ℤ c *ℤ (q -ℤ e) ≡ c *ℤ (p -ℤ e)
-step_part c p q e = rw (dif-parts c, dif-parts p, dif-parts q, dif-parts e) (step_dif _ _ _ _ _ _ _ _)
+step_part c p q e = rw (dif-parts c, dif-parts p, dif-parts q, dif-parts e) (simp difs (same_dif _ _ _ _ (omega arith)))
 
 pub flat_step : (n p q e a : Point) (c : ℤ) → dot n p ≡ c → dot n q ≡ c → cross n a ≡ scaled c (towards e q) → cross n (moved (cross p q) a) ≡ scaled c (towards e p)
 flat_step n p q e a c on_p on_q is = cross_moved n (cross p q) a ∙ (λ i. moved (cross_across n p q c c on_q on_p i) (is i)) ∙ same_vector _ _ (step_part c p.x q.x e.x) (step_part c p.y q.y e.y) (step_part c p.z q.z e.z)
 
-none_dif : (c p c' p' : ℕ) → dif c c' *ℤ (dif p p' -ℤ dif p p') ≡ dif 0 0
-none_dif c p c' p' = simp difs (same_dif _ _ _ _ (omega arith))
-
 none_part : (c p : ℤ) → c *ℤ (p -ℤ p) ≡ pos 0
-none_part c p = rw (dif-parts c, dif-parts p, number 0) (none_dif _ _ _ _)
+none_part c p = rw (dif-parts c, dif-parts p, number 0) (simp difs (same_dif _ _ _ _ (omega arith)))
 
 -- the way from a point to itself
 pub no_way : (c : ℤ) (p : Point) → scaled c (towards p p) ≡ origin
@@ -92,11 +74,8 @@ zero_factor t a e = elim (no_factor (unsigned_abs t) (unsigned_abs a) (sym (unsi
 pub no_product : (w x : ℤ) → x *ℤ w ≡ pos 0 → w ≢ pos 0 → x ≡ pos 0
 no_product w x e ne = elim (zero_factor x w e) [ inl z ↦ z | inr z ↦ absurd (ne z) ]
 
-left_dif : (t a b t' a' b' : ℕ) → dif t t' *ℤ dif a a' -ℤ dif 0 0 *ℤ dif b b' ≡ dif t t' *ℤ dif a a'
-left_dif t a b t' a' b' = simp difs (same_dif _ _ _ _ (omega arith))
-
 left_part : (z t a b : ℤ) → z ≡ pos 0 → t *ℤ a ≡ t *ℤ a -ℤ z *ℤ b
-left_part z t a b e = sym (rw (dif-parts t, dif-parts a, dif-parts b, e ∙ number 0) (left_dif _ _ _ _ _ _))
+left_part z t a b e = sym (rw (dif-parts t, dif-parts a, dif-parts b, e ∙ number 0) (simp difs (same_dif _ _ _ _ (omega arith))))
 
 -- what is across n has no part along what n has no product across with
 pub no_part : (n v a : Point) → cross n a ≡ origin → dot v n ≡ pos 0 → n ≢ origin → dot v a ≡ pos 0
@@ -110,13 +89,8 @@ no_part n v a flat level ne = elim (zero_factor (dot v a) n.x (left_part (dot v 
   whole : towards (scaled (dot v n) a) (scaled (dot v a) n) ≡ origin
   whole = sym (cross_across v n a (dot v a) (dot v n) refl refl) ∙ ap (cross v) flat ∙ cross_nothing v
 
-way_dif : (a b c e f g h k l a' b' c' e' f' g' h' k' l' : ℕ) →
-    (dif e e' -ℤ dif h h') *ℤ dif a a' +ℤ (dif f f' -ℤ dif k k') *ℤ dif b b' +ℤ (dif g g' -ℤ dif l l') *ℤ dif c c'
-    ≡ (dif e e' *ℤ dif a a' +ℤ dif f f' *ℤ dif b b' +ℤ dif g g' *ℤ dif c c') -ℤ (dif h h' *ℤ dif a a' +ℤ dif k k' *ℤ dif b b' +ℤ dif l l' *ℤ dif c c')
-way_dif a b c e f g h k l a' b' c' e' f' g' h' k' l' = simp difs (same_dif _ _ _ _ (omega arith))
-
 way_part : (a b c e f g h k l : ℤ) → (e -ℤ h) *ℤ a +ℤ (f -ℤ k) *ℤ b +ℤ (g -ℤ l) *ℤ c ≡ (e *ℤ a +ℤ f *ℤ b +ℤ g *ℤ c) -ℤ (h *ℤ a +ℤ k *ℤ b +ℤ l *ℤ c)
-way_part a b c e f g h k l = rw (dif-parts a, dif-parts b, dif-parts c, dif-parts e, dif-parts f, dif-parts g, dif-parts h, dif-parts k, dif-parts l) (way_dif _ _ _ _ _ _ _ _ _ _ _ _ _ _ _ _ _ _)
+way_part a b c e f g h k l = rw (dif-parts a, dif-parts b, dif-parts c, dif-parts e, dif-parts f, dif-parts g, dif-parts h, dif-parts k, dif-parts l) (simp difs (same_dif _ _ _ _ (omega arith)))
 
 pub dot_towards : (q r a : Point) → dot (towards q r) a ≡ dot r a -ℤ dot q a
 dot_towards q r a = way_part a.x a.y a.z r.x r.y r.z q.x q.y q.z

@@ -17,7 +17,7 @@ use Rattle.euler_laws.proofs.shared.Rows.{no_items}
 use Rattle.shapes.specs.Faces.{start, finish}
 use Rattle.shapes.specs.Measure.{area, normal, anchor, volume_in}
 use Rattle.shapes.proofs.Areas.{area-append}
-use Rattle.euler_operators.proofs.Integers.{dif, dif-parts, difs, neg-dif, same_dif}
+use Rattle.euler_operators.proofs.Integers.{dif-parts, difs, neg-dif, same_dif}
 use Rattle.euler_operators.proofs.Vectors.{same_vector, none_add, add_assoc, add_exchanged}
 use Rattle.euler_operators.proofs.Members.{IsIn_rest, count_taken}
 use Rattle.euler_operators.proofs.Rotations.{IsIn_head}
@@ -25,11 +25,8 @@ use Rattle.shapes.specs.Vectors.{negated}
 
 -- ---- opposite vectors
 
-back_dif : (a b e f a' b' e' f' : ℕ) → dif e e' *ℤ dif b b' -ℤ dif f f' *ℤ dif a a' ≡ neg_ℤ (dif a a' *ℤ dif f f' -ℤ dif b b' *ℤ dif e e')
-back_dif a b e f a' b' e' f' = simp (difs, neg-dif) (same_dif _ _ _ _ (omega arith))
-
 back_part : (a b e f : ℤ) → e *ℤ b -ℤ f *ℤ a ≡ neg_ℤ (a *ℤ f -ℤ b *ℤ e)
-back_part a b e f = rw (dif-parts a, dif-parts b, dif-parts e, dif-parts f) (back_dif _ _ _ _ _ _ _ _)
+back_part a b e f = rw (dif-parts a, dif-parts b, dif-parts e, dif-parts f) (simp (difs, neg-dif) (same_dif _ _ _ _ (omega arith)))
 
 pub cross_back : (p q : Point) → cross q p ≡ negated (cross p q)
 cross_back p q = same_vector _ _ (back_part p.y p.z q.y q.z) (back_part p.z p.x q.z q.x) (back_part p.x p.y q.x q.y)
@@ -40,12 +37,8 @@ sum_back a b = omega (arith, ints)
 pub moved_back : (p q : Point) → moved (negated p) (negated q) ≡ negated (moved p q)
 moved_back p q = same_vector _ _ (sum_back p.x q.x) (sum_back p.y q.y) (sum_back p.z q.z)
 
-along_dif : (a b c e f g a' b' c' e' f' g' : ℕ) →
-    dif e e' *ℤ neg_ℤ (dif a a') +ℤ dif f f' *ℤ neg_ℤ (dif b b') +ℤ dif g g' *ℤ neg_ℤ (dif c c') ≡ neg_ℤ (dif e e' *ℤ dif a a' +ℤ dif f f' *ℤ dif b b' +ℤ dif g g' *ℤ dif c c')
-along_dif a b c e f g a' b' c' e' f' g' = simp (difs, neg-dif) (same_dif _ _ _ _ (omega arith))
-
 along_part : (a b c e f g : ℤ) → e *ℤ neg_ℤ a +ℤ f *ℤ neg_ℤ b +ℤ g *ℤ neg_ℤ c ≡ neg_ℤ (e *ℤ a +ℤ f *ℤ b +ℤ g *ℤ c)
-along_part a b c e f g = rw (dif-parts a, dif-parts b, dif-parts c, dif-parts e, dif-parts f, dif-parts g) (along_dif _ _ _ _ _ _ _ _ _ _ _ _)
+along_part a b c e f g = rw (dif-parts a, dif-parts b, dif-parts c, dif-parts e, dif-parts f, dif-parts g) (simp (difs, neg-dif) (same_dif _ _ _ _ (omega arith)))
 
 pub dot_back : (r p : Point) → dot r (negated p) ≡ neg_ℤ (dot r p)
 dot_back r p = along_part p.x p.y p.z r.x r.y r.z

@@ -1,17 +1,14 @@
 -- The faces of a solid, and their loops.
-use Rattle.std.proofs.Common.{◌≡◌, ℕ, ◌≤◌, ◌<◌, true, nat_eq, nat_le, ◌&&◌, List, [], ◌∷◌, ◌++◌, length, Some, is_some, refl, sym, ap, ◌∙◌, arith, inl, inr}
-use Rattle.std.specs.Prelude.{unwrap_or}
+use Rattle.std.proofs.Common.{◌≡◌, ℕ, ◌≤◌, ◌<◌, true, nat_eq, nat_le, ◌&&◌, List, [], ◌∷◌, ◌++◌, length, refl, sym, ap, ◌∙◌, arith, inl, inr}
 use Rattle.std.proofs.lemmas.Bool.Decides.{nat_tests, eqb_tells}
-use Rattle.std.proofs.lemmas.Bool.{eq-eqb, eqb-true}
 use Rattle.std.proofs.lemmas.List.{append_assoc}
 use Rattle.euler_operators.specs.Items.{count, tick, IsIn, IsApart}
 use Rattle.euler_operators.proofs.Lists.{count-append, tick_same, IsIn_or_not}
-use Rattle.euler_operators.proofs.Tables.{row_some}
 use Rattle.euler_operators.specs.Table as table
-use Rattle.euler_operators.specs.Model.{Model, FaceRow, no_face, outer, face_of, rings_of, faces_of, solid_of}
+use Rattle.euler_operators.specs.Model.{Model, outer, face_of, rings_of, faces_of, solid_of}
 use Rattle.euler_operators.specs.Sound.{Sound, Has}
 use Rattle.euler_operators.specs.Conditions.{lists, strictly_rises}
-use Rattle.euler_laws.proofs.shared.Listed.{first_listed, rest_listed, listed_cases, listed_passes, passes_listed, all_where-rises, IsIn-from_listed, listed-from_in}
+use Rattle.euler_laws.proofs.shared.Listed.{first_listed, rest_listed, listed_cases, all_where-rises, IsIn-from_listed, listed-from_in}
 use Rattle.euler_laws.proofs.shared.FaceRings.{ring_there, outer_or_ring}
 use Rattle.euler_laws.proofs.shared.Bounds.{length_below, ring_number}
 use Rattle.euler_laws.proofs.shared.Counted.{counted_once}
@@ -19,6 +16,7 @@ use Rattle.euler_laws.proofs.shared.UpTo.{up_to, up_to_none, count_up_to, listed
 use Rattle.shapes.specs.Faces.{loops_of}
 use Rattle.shapes.specs.Walks.{loops_in}
 use Rattle.shapes.proofs.walks.FaceLoops.{listed_ring, ring_listed, loops_of_apart}
+use Rattle.euler_laws.proofs.merge.Part.{face_in, in_faces}
 
 pub loops_joined : (M : Model) (fs gs : List ℕ) → loops_in M (fs ++ gs) ≡ loops_in M fs ++ loops_in M gs
 loops_joined M [] gs = refl
@@ -72,15 +70,11 @@ module _ (M : Model) (sound : Sound M) where
     later g f l ne = elim (listed_cases f g fs l) [ inl e ↦ absurd (ne e) | inr e ↦ e ]
 
   module _ (s : ℕ) where
-    face_row : (f : ℕ) (row : FaceRow) → table.get M.faces f ≡ Some row → row.solid ≡ solid_of M f
-    unfolding solid_of
-    face_row f row e = sym (ap (λ o. (unwrap_or o no_face).solid) e)
-
     pub listed_face : (f : ℕ) → lists (faces_of M s) f ≡ true → Has M.faces f × (solid_of M f ≡ s)
-    listed_face f i = let r = listed_passes (λ _ row. nat_eq row.solid s) M.faces f i in (ap is_some r.1, sym (face_row f r.0 r.1) ∙ eqb-true r.0.solid s r.2)
+    listed_face = face_in M s
 
     pub face_listed : (f : ℕ) → Has M.faces f → solid_of M f ≡ s → lists (faces_of M s) f ≡ true
-    face_listed f t e = let r = row_some (table.get M.faces f) t in passes_listed (λ _ row. nat_eq row.solid s) M.faces f r.0 r.1 (eq-eqb r.0.solid s (face_row f r.0 r.1 ∙ e))
+    face_listed = in_faces M s
 
     pub faces_rise : strictly_rises (faces_of M s) ≡ true
     faces_rise = all_where-rises (λ _ row. nat_eq row.solid s) M.faces
