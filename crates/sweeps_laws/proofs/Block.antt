@@ -20,11 +20,10 @@ use Rattle.euler_operators.proofs.Vectors.{none_add}
 use Rattle.euler_operators.proofs.Rectangles.{second_corner, third_corner, fourth_corner, rectangle_flat, rectangle_raised}
 use Rattle.euler_operators.proofs.Models.{solid_row}
 use Rattle.sweeps_laws.proofs.FromSound.{sound_bounded, sweep_adds, sweep_keeps_others}
-use Rattle.sweeps_laws.proofs.Laminas.{lamina_keeps}
 use Rattle.sweeps_laws.proofs.LaminaVolumes.{lamina_volume, flat_volume}
 use Rattle.sweeps_laws.specs.Laws.{BlockMeasures, BlockKeepsOthers, LaminaMeasures, FlatLaminasMeasureNothing, LaminaKeepsOthers}
 use Rattle.sweeps_laws.proofs.Base.{base, normal_one, base_volume}
-use Rattle.sweeps_laws.proofs.LaminaRows.{solid_one}
+use Rattle.sweeps_laws.proofs.LaminaRows.{solid_one, lamina_keeps}
 
 solid_free : (M : Model) (s : ℕ) (p : Point) (dx dy dz : ℤ) → block_refusal M s p dx dy dz ≡ None → table.has M.solids s ≡ false
 unfolding block_conditions

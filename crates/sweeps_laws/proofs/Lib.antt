@@ -8,7 +8,6 @@ mod Whole
 pub mod FromSound
 pub mod LaminaRows
 mod Base
-mod Laminas
 pub mod LaminaVolumes
 pub mod Block
 pub mod BlockOps

@@ -169,10 +169,6 @@ module _ (M : Model) (sound : Sound M) (c : Taken) (is : c ≡ taken_in M) (s : 
   unfolding taken_in
   greatest_edge = ap (λ k. k.edge) (sym is)
 
-  greatest_vertex : table.greatest M.vertices ≡ c.vertex
-  unfolding taken_in
-  greatest_vertex = ap (λ k. k.vertex) (sym is)
-
   -- its vertices and their points
   on_path : (i : ℕ) → i < 3 → tail base (plus (c.edge + suc i)) ≡ c.vertex + suc i
   on_path i l = plus_tail_row base (c.edge + suc i) _ (rows.edge_at M c s ps i (omega (arith, l)))
@@ -211,7 +207,7 @@ module _ (M : Model) (sound : Sound M) (c : Taken) (is : c ≡ taken_in M) (s : 
     faces = omega (arith, left.faces, greatest_faces);
     loops = omega (arith, left.loops, greatest_loops);
     edges = omega (arith, left.edges, greatest_edges);
-    vertices = omega (arith, left.vertices, greatest-with_points M.vertices c.vertex ps 4 greatest_vertex);
+    vertices = omega (arith, left.vertices, greatest-with_points M.vertices c.vertex ps 4 (ap (λ k. k.vertex) (sym is)));
   } where
     greatest_faces : table.greatest base.faces ≡ c.face + 2
     greatest_faces = greatest-put_last (table.put M.faces (c.face + 1) (rows.first_face M c s ps)) (c.face + 2) (rows.second_face M c s ps)

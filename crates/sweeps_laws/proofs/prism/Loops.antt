@@ -5,10 +5,10 @@ use Rattle.std.proofs.lemmas.Bool.Decides.{nat_tests, eqb_tells}
 use Rattle.std.proofs.lemmas.List.{drop_all}
 use Rattle.euler_operators.specs.declared.Point.{Point}
 use Rattle.euler_operators.specs.Vectors.{moved}
-use Rattle.euler_operators.specs.Items.{IsIn, least}
-use Rattle.euler_operators.specs.Rings.{canonical, rotate_to}
-use Rattle.euler_operators.proofs.Lists.{count-append, tick_same, tick_other, least_le, least_in}
-use Rattle.euler_operators.proofs.Rotations.{canonical_same, rotate_to_head}
+use Rattle.euler_operators.specs.Items.{IsIn}
+use Rattle.euler_operators.specs.Rings.{canonical}
+use Rattle.euler_operators.proofs.Lists.{count-append, tick_other}
+use Rattle.euler_operators.proofs.Rotations.{canonical_same}
 use Rattle.euler_operators.proofs.Std.{IsIn-get_or}
 use Rattle.euler_operators.proofs.Tables.{get-put_here, get-put_other}
 use Rattle.euler_operators.proofs.Models.{plus_tail_row, minus_tail_row}
@@ -23,7 +23,6 @@ use Rattle.euler_operators.specs.Effect.{effect}
 use Rattle.euler_laws.specs.Laws.{AreAccepted, effects}
 use Rattle.euler_laws.proofs.Cases.{effect_keeps_sound}
 use Rattle.euler_laws.proofs.Runs.{Leads, leads_one, leads_on, leads_sound}
-use Rattle.euler_laws.proofs.shared.Undo.{same_model}
 use Rattle.shapes.specs.Faces.{start}
 use Rattle.shapes.specs.Fresh.{Taken}
 use Rattle.shapes.specs.Prism.{riser, top_edge, top_items, next_place, with_side, with_sides, lifted}
@@ -35,14 +34,7 @@ use Rattle.sweeps_laws.proofs.prism.Rounds.{drop_next, loop_within, part_loop, p
 use Rattle.sweeps_laws.proofs.swept.Numbers.{top_cases}
 use Rattle.euler_laws.proofs.shared.KnownLoop.{Around, apart_xs}
 use Rattle.sweeps_laws.specs.prism.Ready.{Ready}
-
--- a ring that starts at its least item is in the order of listings
-canonical_first : (x : ℕ) (ys : List ℕ) → ((y : ℕ) → IsIn y (x ∷ ys) → x ≤ y) → canonical (x ∷ ys) ≡ x ∷ ys
-unfolding canonical
-canonical_first x ys low =
-    let here : IsIn x (x ∷ ys) = omega (arith, tick_same x) in
-    let is : least (x ∷ ys) ≡ x = let a = least_le (x ∷ ys) x here in let b = low (least (x ∷ ys)) (least_in (x ∷ ys) x here) in omega arith in
-    ap (λ y. rotate_to y (x ∷ ys)) is ∙ rotate_to_head x ys
+use Rattle.sweeps_laws.proofs.lamina.Lists.{canonical_first}
 
 -- the top edges rise from the first one
 pub tops_head : (e n i : ℕ) → (ks : List ℕ) × (top_items e n (suc i) ≡ plus (top_edge e n 0) ∷ ks)
@@ -223,7 +215,7 @@ module _ (M : Model) (c : Taken) (f l : ℕ) (d : Point) (hs : List ℕ) (w : Re
 
     kept_is : canonical X3 ≡ top_items c.edge (length hs) (length hs)
     kept_is = canonical_same X3 (k ∷ (T ++ plus t ∷ [])) (record { front = plus t ∷ []; back = k ∷ T; here = refl; there = refl }) (apart_xs N l f X3 kept_there)
-        ∙ canonical_first k (T ++ plus t ∷ []) (λ y i. tops_above c.edge (length hs) (suc (suc j)) y two (subst (IsIn y) (sym all_tops) i))
+        ∙ canonical_first k (T ++ plus t ∷ []) (λ y i. tops_above c.edge (length hs) (suc (suc j)) y two (subst (IsIn y) (sym all_tops) (omega (arith, i))))
         ∙ sym all_tops ∙ ap (top_items c.edge (length hs)) last
 
     next_is : next_place (length hs) (suc j) ≡ 0
@@ -249,19 +241,15 @@ module _ (M : Model) (c : Taken) (f l : ℕ) (d : Point) (hs : List ℕ) (w : Re
     unfolding prism_part with_side
     edges_are = λ i. table.put P.edges t (record { plus_tail = tail_b i; minus_tail = (tail_k ∙ ap (λ q. c.vertex + 1 + q) (sym next_is)) i })
 
-    vertices_are : N.vertices ≡ W.vertices
+    made : N ≡ W
     unfolding prism_part with_side
-    vertices_are = refl
-
-    solids_are : N.solids ≡ W.solids
-    unfolding prism_part with_side
-    solids_are = refl
+    made = λ i. record { solids = W.solids; faces = faces_are i; loops = loops_are i; edges = edges_are i; vertices = W.vertices }
 
     last_accepted : AreAccepted P (close_last c (length hs) (suc j) ∷ [])
     last_accepted = (accepted, tt)
 
     last_is : effects P (close_last c (length hs) (suc j) ∷ []) ≡ lifted (with_sides c (solid_of M f) d hs (length hs) M) f l (top_items c.edge (length hs) (length hs))
-    last_is = does ∙ same_model N W solids_are faces_are loops_are edges_are vertices_are
+    last_is = does ∙ made
         ∙ ap (λ q. lifted (with_sides c (solid_of M f) d hs q M) f l (top_items c.edge (length hs) (length hs))) last
 
   -- the operators of a loop sweep it

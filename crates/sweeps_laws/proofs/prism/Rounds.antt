@@ -20,7 +20,6 @@ use Rattle.euler_operators.specs.Conditions.{first_false}
 use Rattle.euler_operators.specs.Effect.{effect}
 use Rattle.euler_laws.specs.Laws.{AreAccepted, effects}
 use Rattle.euler_laws.proofs.Cases.{effect_keeps_sound}
-use Rattle.euler_laws.proofs.shared.Undo.{same_model}
 use Rattle.shapes.specs.Faces.{start}
 use Rattle.shapes.specs.Fresh.{Taken}
 use Rattle.shapes.specs.Prism.{riser, top_edge, top_items, next_place, with_side, with_sides}
@@ -252,16 +251,18 @@ module _ {M : Model} {c : Taken} {f l : ℕ} {d : Point} {hs : List ℕ} (w : Re
         ∙ (λ j. table.put (table.put P.edges t (record { plus_tail = tail_b j; minus_tail = (tail_u ∙ ap (λ k. c.vertex + 1 + k) (sym next_is)) j })) u
         (record { plus_tail = (part_tail i g there ∙ sym (old_tail M c f l d hs w (suc i) g there)) j; minus_tail = v }))
 
-    vertices_are : N2.vertices ≡ (prism_part c f l d hs (suc i) M).vertices
+    made : N2 ≡ prism_part c f l d hs (suc i) M
     unfolding prism_part with_side
-    vertices_are = ap (λ q. table.put P.vertices v (moved q d)) (sym (old_start M c f l d hs w (suc i) g (half_there M c f l d hs w g g_in)))
-
-    solids_are : N2.solids ≡ (prism_part c f l d hs (suc i) M).solids
-    unfolding prism_part with_side
-    solids_are = refl
+    made = λ j. record {
+      solids = P.solids;
+      faces = faces_are j;
+      loops = loops_are j;
+      edges = edges_are j;
+      vertices = table.put P.vertices v (moved (sym (old_start M c f l d hs w (suc i) g (half_there M c f l d hs w g g_in)) j) d);
+    }
 
     pub round_accepted : AreAccepted (prism_part c f l d hs i M) (raise M c d hs (suc i) ∷ close c (length hs) i ∷ [])
     round_accepted = (accepted0, (subst (λ X. first_false X (close c (length hs) i) ≡ None) (sym first) accepted1, tt))
 
     pub round_is : effects (prism_part c f l d hs i M) (raise M c d hs (suc i) ∷ close c (length hs) i ∷ []) ≡ prism_part c f l d hs (suc i) M
-    round_is = ap (λ X. effect X (close c (length hs) i)) first ∙ second ∙ same_model N2 (prism_part c f l d hs (suc i) M) solids_are faces_are loops_are edges_are vertices_are
+    round_is = ap (λ X. effect X (close c (length hs) i)) first ∙ second ∙ made

@@ -36,10 +36,6 @@ next_inner n i h = ap (λ b. cond b 0 (i + 1)) (ne_eqb (i + 1) n (λ s. omega ar
 pub next_last : (n i : ℕ) → i + 1 ≡ n → next_place n i ≡ 0
 next_last n i h = ap (λ b. cond b 0 (i + 1)) (eq-eqb (i + 1) n h)
 
--- ---- tails from rows
-
--- ---- rows put
-
 -- ---- a loop to be swept
 
 module _ (M : Model) (c : Taken) (f l : ℕ) (d : Point) (hs : List ℕ) (w : Ready M c f l d hs) where

@@ -101,9 +101,6 @@ module _ (M N : Model) (c : Taken) (f l : ℕ) (d : Point) (ls : List ℕ) (g : 
   swept : effects N (loop_ops M c d hs) ≡ N'
   swept = ap (effects N) ops_are ∙ (loop_swept N c f l d hs ready).1
 
-  sound_after : Sound N'
-  sound_after = subst Sound swept (effects_keep_sound N (loop_ops M c d hs) g.sound accepted)
-
   start_after : (h : ℕ) → HasHalf N h → start N' h ≡ start N h
   unfolding tail point_of
   start_after h there = old_start N c f l d hs ready (length hs) h there
@@ -115,7 +112,7 @@ module _ (M N : Model) (c : Taken) (f l : ℕ) (d : Point) (ls : List ℕ) (g : 
 
   next : Going M N' (taken_after c (length hs)) f d ls
   next = record {
-    sound = sound_after;
+    sound = subst Sound swept (effects_keep_sound N (loop_ops M c d hs) g.sound accepted);
     faces_free = λ q a. sides_faces N c f l d hs ready (length hs) q (λ j lt s. omega arith) ∙ g.faces_free q (omega arith);
     loops_free = λ q a. get-put_other _ l _ q (λ s. omega (arith, loop_within ready)) ∙ sides_loops N c f l d hs ready (length hs) q (λ j lt s. omega arith) ∙ g.loops_free q (omega arith);
     edges_free = λ q a. sides_edges N c f l d hs ready (length hs) q (λ j lt. ((λ s. omega (arith, riser_is c.edge j)), (λ s. omega (arith, top_cases c.edge (length hs) j)))) ∙ g.edges_free q (omega arith);

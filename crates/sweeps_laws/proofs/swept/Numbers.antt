@@ -57,8 +57,6 @@ riser_no_top e n i j l m s = elim (riser_cases e i) [
   | inr p ↦ elim (top_cases e n j) [ inl q ↦ absurd (omega (arith, p.1, q.1, s)) | inr q ↦ absurd (omega (arith, p.1, q.1, s)) ]
 ]
 
--- ---- the halves of an edge
-
 -- ---- tests
 
 pub at_most : (a b c : ℕ) → a ≤ b → b ≤ c → a ≤ c
