@@ -31,8 +31,6 @@ use Rattle.gluing_laws.proofs.Seams.{Seamed, Glued}
 use Rattle.gluing_laws.proofs.Normals as normals
 use Rattle.gluing_laws.proofs.Normals.{item_told}
 
--- ---- the opposite vector along another
-
 -- ---- faces with one loop
 
 pub only_loop : (M : Model) (k : ℕ) (cs : List ℕ) → rings_of M k ≡ [] → content M (outer M k) ≡ cycle cs → normal M k ≡ area M cs

@@ -18,7 +18,7 @@ use Rattle.shapes.specs.glue.Glue.{renamed_tails}
 use Rattle.shapes.specs.glue.Part.{paired}
 use Rattle.shapes.proofs.glue.Renamings.{renamed_cases, without_there}
 use Rattle.gluing_laws.proofs.Seams as seams
-use Rattle.gluing_laws.proofs.Seams.{Seamed, Glued, side}
+use Rattle.gluing_laws.proofs.Seams.{Seamed, Glued}
 
 module _ {M N : Model} {f g : ℕ} {partner_of : ℕ → ℕ} {hs gs : List ℕ} (w : Seamed M f g partner_of hs gs) (n : Glued M N f g partner_of hs) where
   abbrev from_tail : ℕ → ℕ
@@ -50,12 +50,9 @@ module _ {M N : Model} {f g : ℕ} {partner_of : ℕ → ℕ} {hs gs : List ℕ}
   pub point_kept : (v : ℕ) → ((h : ℕ) → IsIn h hs → from_tail h ≢ v) → point_of N v ≡ point_of M v
   point_kept v none = point_stays v (not_moved v none)
 
-  mate_of_f : (h : ℕ) → IsIn h hs → side w (mate h) ≡ side w h
-  mate_of_f h i = seams.side_mate w h (seams.half_f w h i)
-
   end_kept : (h : ℕ) → IsIn h hs → point_of N (to_tail h) ≡ finish M h
   end_kept h i = point_kept (to_tail h) (λ k j. seams.never_met w (mate h) (partner_of k)
-      (mate_there M h (seams.half_f w h i)) (mate_of_f h i ∙ seams.side_f w h i) (seams.partner_in w k j))
+      (mate_there M h (seams.half_f w h i)) (seams.side_mate w h (seams.half_f w h i) ∙ seams.side_f w h i) (seams.partner_in w k j))
 
   -- a vertex that replaces another has its point
   point_moved : (v : ℕ) → point_of N (renamed (paired from_tail to_tail hs) v) ≡ point_of M v

@@ -89,12 +89,9 @@ module _ {M : Model} {f g : ℕ} {partner_of : ℕ → ℕ} {hs gs : List ℕ} (
   pub side_mate : (y : ℕ) → HasHalf M y → side (mate y) ≡ side y
   side_mate y t = sym (w.sound.one_solid y t)
 
-  side_vertex : (y z : ℕ) → HasHalf M y → HasHalf M z → tail M y ≡ tail M z → side z ≡ side y
-  side_vertex y z a b e = one_solid_round M w.sound y z a b e
-
   -- so an item of g starts where nothing of the other solid does
   pub never_met : (y k : ℕ) → HasHalf M y → side y ≡ solid_of M f → IsIn k gs → tail M k ≢ tail M y
-  never_met y k there on i e = w.solids_apart (sym on ∙ side_vertex k y (half_g k i) there e ∙ side_g k i)
+  never_met y k there on i e = w.solids_apart (sym on ∙ one_solid_round M w.sound k y (half_g k i) there e ∙ side_g k i)
 
   -- and no half-edge of that is one of g, or the mate of one
   pub not_g : (y k : ℕ) → side y ≡ solid_of M f → IsIn k gs → y ≢ k

@@ -71,11 +71,8 @@ module _ (M : Model) (f g : ℕ) (partner_of : ℕ → ℕ) (hs : List ℕ) (x :
   g_in : IsIn (partner_of h) (h ∷ partner_of h ∷ [])
   g_in = omega (arith, tick_same (partner_of h))
 
-  g_there : HasHalf N (partner_of h)
-  g_there = half_is N l f (h ∷ partner_of h ∷ []) around_l (partner_of h) g_in
-
   m_there : HasHalf N m
-  m_there = mate_there N (partner_of h) g_there
+  m_there = mate_there N (partner_of h) (half_is N l f (h ∷ partner_of h ∷ []) around_l (partner_of h) g_in)
 
   q_l : q ≢ l
   q_l = stages.mate_else M f g partner_of hs x h done (h ∷ []) w h (omega (arith, tick_same h))

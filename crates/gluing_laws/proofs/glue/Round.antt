@@ -101,17 +101,11 @@ module _ {N : Model} {l f g h k : ℕ} {qs : List ℕ} {x s r : ℕ} (c : Closes
   l_r : l ≢ r
   l_r = not_r l has_l
 
-  A_at_l : table.get A.loops l ≡ Some (record { face = f; content = cycle (canonical (plus x ∷ k ∷ qs)) })
-  A_at_l = get-put_other _ r _ l l_r ∙ get-put_here N.loops l _
-
-  A_at_r : table.get A.loops r ≡ Some (record { face = s; content = cycle (canonical ((g ∷ h ∷ []) ++ minus x ∷ [])) })
-  A_at_r = get-put_here _ r _
-
   around_l : Around A l f (plus x ∷ k ∷ qs)
-  around_l = record { sound = sound_A; at = A_at_l }
+  around_l = record { sound = sound_A; at = (get-put_other _ r _ l l_r ∙ get-put_here N.loops l _) }
 
   around_r : Around A r s ((g ∷ h ∷ []) ++ minus x ∷ [])
-  around_r = record { sound = sound_A; at = A_at_r }
+  around_r = record { sound = sound_A; at = (get-put_here _ r _) }
 
   edge_plus : edge_of (plus x) ≡ x
   edge_plus = (plus_row x).0
@@ -268,14 +262,11 @@ module _ {N : Model} {l f g h k : ℕ} {qs : List ℕ} {x s r : ℕ} (c : Closes
   not_s : (p : ℕ) → Has N.loops p → face_of N p ≢ s
   not_s p there e = true≢false (sym (c.around.sound.loops_of_faces p there) ∙ ap (λ t. is_some (table.get N.faces t)) e ∙ ap is_some c.face_free)
 
-  face_l : face_of N l ≡ f
-  face_l = face_row N l old_row c.around.at
-
   only_r : (p : ℕ) → Has B.loops p → face_of B p ≡ s → r ≡ p
   only_r p there is = elim (eqb_tells p r) [
     | inl e ↦ sym e.1
     | inr a ↦ elim (eqb_tells p l) [
-      | inl e ↦ absurd (not_s l has_l (face_l ∙ sym (face_row B l _ B_at_l) ∙ ap (face_of B) (sym e.1) ∙ is))
+      | inl e ↦ absurd (not_s l has_l (face_row N l old_row c.around.at ∙ sym (face_row B l _ B_at_l) ∙ ap (face_of B) (sym e.1) ∙ is))
       | inr b ↦
           let same = B_other p b.1 a.1 in
           absurd (not_s p (ap is_some (sym same) ∙ there) (sym (same_loop_row B N p same).1 ∙ is))

@@ -154,9 +154,6 @@ module _ (M : Model) (f g : ℕ) (partner_of : ℕ → ℕ) (hs : List ℕ) (x l
   abbrev swap : ℕ → ℕ
   swap = renamed (paired (λ j. mate (partner_of j)) (λ j. j) done)
 
-  abbrev swap_more : ℕ → ℕ
-  swap_more = renamed (paired (λ j. mate (partner_of j)) (λ j. j) (done ++ h ∷ []))
-
   abbrev kept : Table LoopRow
   kept = table.remove (table.remove M.loops l) r
 
