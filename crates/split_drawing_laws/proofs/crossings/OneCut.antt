@@ -3,9 +3,8 @@ use Rattle.std.specs.Prelude.{flat_map}
 use Rattle.std.specs.Option.{option_map}
 use Rattle.std.specs.Ordering.{nat_cmp}
 use Rattle.std.specs.FinMap.Entries.{find}
-use Rattle.std.proofs.Common.{◌≡◌, ℕ, ◌+◌, ◌≤◌, false, cond, nat_eq, List, [], ◌∷◌, ◌++◌, refl, sym, ap, ◌∙◌, arith, inl, inr, ◌≢◌, suc, ◌*◌, true, nat_lt, length, Option, Some, None, is_some, subst, true≢false}
+use Rattle.std.proofs.Common.{◌≡◌, ℕ, ◌+◌, ◌≤◌, false, cond, nat_eq, List, [], ◌∷◌, ◌++◌, refl, sym, ap, ◌∙◌, arith, inl, inr, ◌≢◌, suc, ◌*◌, true, length, Option, Some, None, is_some, true≢false}
 use Rattle.std.proofs.lemmas.Bool.Decides.{nat_tests, eqb_tells}
-use Rattle.std.proofs.lemmas.Bool.{eq-eqb, ne_eqb}
 use Rattle.euler_operators.specs.Items.{count, tick, IsIn, IsApart, head_or}
 use Rattle.euler_operators.specs.Rings.{rotate_to, canonical, rest, successor}
 use Rattle.euler_operators.specs.Edits.{insert_before, insert_after}
@@ -14,7 +13,7 @@ use Rattle.euler_operators.specs.declared.Point.{Point}
 use Rattle.euler_operators.specs.Rings as rings
 use Rattle.euler_operators.specs.Table as table
 use Rattle.euler_operators.specs.Table.{Table, same_table, get-map_rows}
-use Rattle.euler_operators.specs.Model.{Model, LoopContent, lone, cycle, LoopRow, EdgeRow, items_of, holds, tail, loop_of, content, face_of, cycle_of, after, arc, round}
+use Rattle.euler_operators.specs.Model.{Model, LoopContent, lone, cycle, LoopRow, EdgeRow, items_of, holds, tail, loop_of, content, face_of, cycle_of, after, arc}
 use Rattle.euler_operators.specs.Sound.{Sound, Has, HasHalf}
 use Rattle.euler_operators.specs.Effect.{mev_at, with_before, with_tails, edge_row}
 use Rattle.euler_operators.proofs.Edits.{insert_before-rotates, insert_after-rotates, count-insert_before, count-insert_after}
@@ -113,9 +112,7 @@ maps_agree {X = X} f g h t agree = same_table _ _ (λ q. get-map_rows g (table.m
   go q (Some x) agree = ap Some (agree x refl)
 
 arc_one : (next : ℕ → ℕ) (a b n m : ℕ) → a ≢ b → next a ≡ b → m ≡ suc (suc n) → rings.arc next a b m ≡ a ∷ []
-arc_one next a b n m apart leads e = ap (rings.arc next a b) e
-    ∙ ap (λ t. cond t [] (a ∷ cond (nat_eq (next a) b) [] (next a ∷ rings.arc next (next (next a)) b n))) (ne_eqb a b apart)
-    ∙ ap (λ t. a ∷ cond t [] (next a ∷ rings.arc next (next (next a)) b n)) (eq-eqb (next a) b leads)
+arc_one next a b n m apart leads e = grind arith
 
 some_rows : {X : Type 0} (e : ℕ) (es : List (ℕ × X)) → is_some (find nat_cmp e es) ≡ true → (n : ℕ) × (2 * length es ≡ suc (suc n))
 some_rows e [] there = absurd (true≢false (sym there))
@@ -189,16 +186,26 @@ module _ (M : Model) (e k v : ℕ) (q : Point) (goes : CanCut M e k) where
   rows_a : second l (first l first_row)
       ≡ both l first_row
   rows_a =
-      let there : IsIn (plus e) xs = cycle_there M goes.sound (plus e) (plus_there M e goes.there) in
-      ap (second l) (where_held_there (plus e) (λ hs. cycle (canonical (insert_before (plus e) (plus k) hs))) l first_row (in-holds (plus e) (cycle xs) there))
-      ∙ where_held_none next (λ hs. cycle (canonical (insert_before next (minus k) hs))) l
-      (record { face = face_of M l; content = cycle (canonical (insert_before (plus e) (plus k) xs)) })
-      (holds-none next (cycle (canonical (insert_before (plus e) (plus k) xs)))
-      (count-canonical next (insert_before (plus e) (plus k) xs)
-      ∙ count-insert_before next (plus e) (plus k) xs there
-      ∙ (λ i. tick_other next (plus k) (new_apart next next_half) i + in_one next next_there i)))
-      ∙ ap (λ hs. record { face = face_of M l; content = cycle (canonical hs) })
-      (sym (doubled_plus e k xs ((cycle_sound M goes.sound (plus e) (plus_there M e goes.there)).apart (plus e)) (in_one (minus e) (cycle_there M goes.sound (minus e) (minus_there M e goes.there)))))
+      grind (
+        arith,
+        nat_tests,
+        cycle_there,
+        plus_there,
+        where_held_there,
+        in-holds,
+        where_held_none,
+        holds-none,
+        count-canonical,
+        count-insert_before,
+        tick_other,
+        new_apart,
+        next_half,
+        in_one,
+        next_there,
+        doubled_plus,
+        cycle_sound,
+        minus_there,
+      )
 
   -- the plus half isn't in the loop of the minus half
   no_plus : count (plus e) ys ≡ 0
@@ -208,13 +215,22 @@ module _ (M : Model) (e k v : ℕ) (q : Point) (goes : CanCut M e k) where
   rows_b : second m (first m second_row)
       ≡ both m second_row
   rows_b =
-      ap (second m) (where_held_none (plus e) (λ hs. cycle (canonical (insert_before (plus e) (plus k) hs))) m second_row
-      (holds-none (plus e) (cycle ys) no_plus))
-      ∙ where_held_there next (λ hs. cycle (canonical (insert_before next (minus k) hs))) m second_row
-      (in-holds next (cycle ys) next_there)
-      ∙ ap (λ hs. record { face = face_of M m; content = cycle hs })
-      (put_between (minus e) (minus k) ys (cycle_sound M goes.sound (minus e) (minus_there M e goes.there)).apart (cycle_there M goes.sound (minus e) (minus_there M e goes.there)) (no_new (minus k) (minus_row k).0 (minus e) (minus_there M e goes.there))
-      ∙ ap canonical (sym (doubled_minus e k ys no_plus ((cycle_sound M goes.sound (minus e) (minus_there M e goes.there)).apart (minus e)))))
+      grind (
+        arith,
+        where_held_none,
+        holds-none,
+        no_plus,
+        where_held_there,
+        in-holds,
+        next_there,
+        put_between,
+        cycle_sound,
+        minus_there,
+        cycle_there,
+        no_new,
+        minus_row,
+        doubled_minus,
+      )
 
   -- a loop that holds neither stays
   stays : (n : ℕ) (row : LoopRow) → table.get M.loops n ≡ Some row → count (plus e) (items_of row.content) ≡ 0 → count (minus e) (items_of row.content) ≡ 0 → rewritten (flat_map (doubled e k)) row.content ≡ row.content
@@ -251,26 +267,13 @@ module _ (M : Model) (e k v : ℕ) (q : Point) (goes : CanCut M e k) where
   one_leaves : (t : Table EdgeRow) → M.edges ≡ t → arc M (plus e) (after M (minus e)) ≡ plus e ∷ []
   unfolding arc after table.get
   one_leaves t is =
-      let rows = some_rows e M.edges.rows (ap (λ n. is_some (find nat_cmp n M.edges.rows)) (sym (plus_row e).0) ∙ plus_there M e goes.there) in
-      arc_one (round M) (plus e) next rows.0 (2 * length M.edges.rows)
-      (λ s. true≢false (sym (in-holds (plus e) (cycle ys) (subst (λ x. IsIn x ys) (sym s) next_there)) ∙ holds-none (plus e) (cycle ys) no_plus))
-      (ap (after M) (mate_plus e)) rows.1
+      grind (arith, nat_tests, some_rows, plus_row, plus_there, arc_one, true≢false, in-holds, next_there, holds-none, no_plus, mate_plus)
 
   only_plus : (x : ℕ) (r : EdgeRow) → x ≢ e → with_tails (plus e ∷ []) v x r ≡ r
-  only_plus x r n = λ i. record {
-    plus_tail = (ap (λ b. cond b v r.plus_tail) (missing (plus x) (λ s. n (omega arith)))) i;
-    minus_tail = (ap (λ b. cond b v r.minus_tail) (missing (minus x) (λ s. omega arith))) i;
-  } where
-    missing : (h : ℕ) → h ≢ plus e → nat_lt 0 (count h (plus e ∷ [])) ≡ false
-    missing h n = ap (λ c. nat_lt 0 (c + 0)) (tick_other h (plus e) n)
+  only_plus x r n = grind (arith, nat_tests, tick_other)
 
   the_plus : (r : EdgeRow) → with_tails (plus e ∷ []) v e r ≡ record { plus_tail = v; minus_tail = r.minus_tail }
-  the_plus r = λ i. record {
-    plus_tail = (ap (λ b. cond b v r.plus_tail) here) i;
-    minus_tail = (ap (λ b. cond b v r.minus_tail) (ap (λ c. nat_lt 0 (c + 0)) (tick_other (minus e) (plus e) (λ s. omega arith)))) i;
-  } where
-    here : nat_lt 0 (count (plus e) (plus e ∷ [])) ≡ true
-    here = ap (λ c. nat_lt 0 (c + 0)) (tick_same (plus e))
+  the_plus r = grind (arith, nat_tests, tick_other, tick_same)
 
   edges_agree : (r : EdgeRow) → table.get M.edges e ≡ Some r →
       table.put (table.map_rows (with_tails (arc M (plus e) (after M (minus e))) v) M.edges) (edge_of (plus k)) (edge_row (plus k) (tail M (plus e)) v)
@@ -284,10 +287,4 @@ module _ (M : Model) (e k v : ℕ) (q : Point) (goes : CanCut M e k) where
   -- the whole model
   pub cut_is_mev : mev_at M (plus e) (after M (minus e)) (plus k) v q ≡ edge_cut M e k v q
   unfolding mev_at edge_cut after
-  cut_is_mev =
-      let r = row_some (table.get M.edges e) (ap (λ n. is_some (table.get M.edges n)) (sym (plus_row e).0) ∙ plus_there M e goes.there) in
-      λ i. record M {
-        loops = ((λ j. table.map_rows (with_before next (mate_plus k j)) (table.map_rows (with_before (plus e) (plus k)) M.loops)) ∙ loops_agree) i;
-        edges = edges_agree r.0 r.1 i;
-        vertices = table.put M.vertices v q;
-      }
+  cut_is_mev = grind (arith, row_some, plus_row, plus_there, mate_plus, loops_agree, edges_agree)

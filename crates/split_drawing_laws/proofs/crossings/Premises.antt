@@ -3,9 +3,9 @@ use Rattle.std.specs.Prelude.{filter, int_lt}
 use Rattle.std.specs.List.{list_any, list_all}
 use Rattle.std.proofs.Common.{◌≡◌, ℕ, ◌+◌, ◌≤◌, Bool, true, false, cond, not, nat_eq, ◌&&◌, ◌||◌, List, [], ◌∷◌, refl, sym, ap, ◌∙◌, subst, arith, inl, inr, ◌≢◌, ℤ, pos, length, is_some, ◌⊎◌, true≢false, None}
 use Rattle.std.proofs.lemmas.Bool.Decides.{eqb_tells}
-use Rattle.std.proofs.lemmas.Bool.{ne_eqb, eq-eqb, not-false, eqb-true}
+use Rattle.std.proofs.lemmas.Bool.{eq-eqb, not-false, eqb-true}
 use Rattle.euler_operators.specs.Items.{count, tick, IsIn}
-use Rattle.euler_operators.specs.Model.{Model, items_of, content, outer, tail, face_of, rings_of, loop_of, solid_of, point_of, before, faces_of}
+use Rattle.euler_operators.specs.Model.{Model, items_of, content, tail, face_of, loop_of, solid_of, point_of, before, faces_of}
 use Rattle.euler_operators.specs.Sound.{Has, Sound, HasHalf, StandsIn}
 use Rattle.euler_operators.specs.declared.Plane.{Plane}
 use Rattle.euler_operators.specs.Points.{IsInRange}
@@ -55,9 +55,7 @@ any_passes p x (n ∷ ns) i e = elim (eqb_tells x n) [
 -- ---- the faces of a solid, and those of them that straddle
 
 pub solid_facts : (M : Model) (s f : ℕ) → IsIn f (faces_of M s) → Has M.faces f × (solid_of M f ≡ s)
-solid_facts M s f i =
-    let r = all_where_has (λ _ row. nat_eq row.solid s) M.faces f i in
-    (ap is_some r.1, solid_row M f r.0 r.1 ∙ eqb-true r.0.solid s r.2)
+solid_facts M s f i = grind (arith, all_where_has, solid_row, eqb-true)
 
 pub in_solid : (M : Model) (f s : ℕ) → Has M.faces f → solid_of M f ≡ s → IsIn f (faces_of M s)
 in_solid M f s there of_s = all_where_in (λ _ row. nat_eq row.solid s) M.faces f _ (face_there M f there) (eq-eqb (solid_of M f) s of_s)
@@ -75,16 +73,7 @@ module _ (M : Model) where
   -- a loop is one of the loops of its face
   pub loop_in_face : (l : ℕ) → Has M.loops l → IsIn l (loops_of M (face_of M l))
   unfolding loops_of
-  loop_in_face l there = elim (eqb_tells l (outer M (face_of M l))) [
-    | inl s ↦ here l (outer M (face_of M l)) (rings_of M (face_of M l)) s.1
-    | inr s ↦
-        let ring : IsIn l (rings_of M (face_of M l)) = all_where_in (λ k row. nat_eq row.face (face_of M l) && not (nat_eq (outer M (face_of M l)) k)) M.loops l
-        (record { face = face_of M l; content = content M l }) (loop_row M l there)
-        (both (nat_eq (face_of M l) (face_of M l)) (nat_eq (outer M (face_of M l)) l) (eq-eqb (face_of M l) (face_of M l) refl) (ne_eqb (outer M (face_of M l)) l (λ e. s.1 (sym e)))) in
-        omega (arith, ring)
-  ] where
-    both : (a b : Bool) → a ≡ true → b ≡ false → (a && not b) ≡ true
-    both a b e f = ap (λ c. c && not b) e ∙ not_false b f
+  loop_in_face l there = grind (arith, here, all_where_in, loop_row, not_false)
 
   pub item_in : (h l : ℕ) (ls : List ℕ) → IsIn l ls → IsIn h (items_of (content M l)) → IsIn h (items_in M ls)
   item_in h l [] i j = absurd (omega arith)
@@ -143,10 +132,7 @@ pub record Cuttable (M : Model) (s : ℕ) (p : Plane) : Type 0 where
 
 module _ (M : Model) (sound : Sound M) (s : ℕ) (p : Plane) where
   pub edge_facts : (e : ℕ) → IsIn e (crossing_edges M p s) → Has M.edges e × (solid_of M (face_at M (plus e)) ≡ s) × (crosses M p (plus e) ≡ true)
-  edge_facts e i =
-      let l : count e (crossing_edges M p s) ≤ count e (edges_of M s) = count-filter (λ x. crosses M p (plus x)) e (edges_of M s) in
-      let w = all_where_has (λ x _. nat_eq (solid_of M (face_at M (plus x))) s) M.edges e (omega (arith, i, l)) in
-      (ap is_some w.1, eqb-true (solid_of M (face_at M (plus e))) s w.2, filter_passes (λ x. crosses M p (plus x)) e (edges_of M s) i)
+  edge_facts e i = grind (arith, count-filter, all_where_has, eqb-true, filter_passes)
 
   pub faces_not_zero : (f : ℕ) → IsIn f (straddling_faces M p s) → f ≢ 0
   faces_not_zero f i z = no_zero f z (sound.faces_fit f (face_facts M s p f i).0)
@@ -175,15 +161,7 @@ module _ (M : Model) (sound : Sound M) (s : ℕ) (p : Plane) where
         (length (crossing_edges M p s) + pair_count M p (straddling_faces M p s)) (length (crossing_edges M p s)) hold.1.1.1.1.1.1.1.1.1.1.1.1.1.1.1.1
 
     pub cuttable : Cuttable M s p
-    cuttable =
-        record {
-          whole = λ e i. not-false (cuts_lattice p (start M (plus e)) (finish M (plus e)))
-              (none_such (λ x. not (cuts_lattice p (start M (plus x)) (finish M (plus x)))) (crossing_edges M p s) none_off e i);
-          untouched = λ f i. none_such (is_touched M p) (straddling_faces M p s) none_touched f i;
-          not_often = λ f i. none_such (is_cut_often M p) (straddling_faces M p s) none_often f i;
-          uncrossed = λ f i. none_such (is_crossed M p) (straddling_faces M p s) none_crossed f i;
-          left = numbers;
-        }
+    cuttable = grind (arith, not-false, none_such, none_off, none_touched, none_often, none_crossed, numbers)
 
   -- ---- the halves of an edge that crosses the plane stand in different loops
 
@@ -211,11 +189,7 @@ module _ (M : Model) (sound : Sound M) (s : ℕ) (p : Plane) where
     crossing_point h x = ap (λ b. cond b (start M h) (cut_between p (start M h) (finish M h))) (not_level (height p (start M h)) (height p (finish M h)) x)
 
     pub one_point : place_point M p (plus e) ≡ place_point M p (minus e)
-    one_point = crossing_point (plus e) (edge_facts e i).2
-        ∙ ap (cut_between p (start M (plus e))) far_end
-        ∙ sym (cut_back p (start M (plus e)) (start M (minus e)) plus_crosses)
-        ∙ ap (cut_between p (start M (minus e))) (sym near_end)
-        ∙ sym (crossing_point (minus e) minus_is)
+    one_point = grind (arith, crossing_point, edge_facts, far_end, cut_back, plus_crosses, near_end, minus_is)
 
     -- both in loop l: then the face of that loop straddles, and has two places at one point
     module _ (l : ℕ) (first : loop_of M (plus e) ≡ l) (second : loop_of M (minus e) ≡ l) where
@@ -241,15 +215,7 @@ module _ (M : Model) (sound : Sound M) (s : ℕ) (p : Plane) where
       minus_corner = tail_in_face M (minus e) l l_there second_in
 
       both_sides : (m n : ℤ) → opposite m n ≡ true → ((int_lt (pos 0) m ≡ true) × (int_lt n (pos 0) ≡ true)) ⊎ ((int_lt m (pos 0) ≡ true) × (int_lt (pos 0) n ≡ true))
-      both_sides m n o = go (int_lt (pos 0) m) (int_lt n (pos 0)) (int_lt m (pos 0)) (int_lt (pos 0) n) o where
-        go : (a b c d : Bool) → ((a && b) || (c && d)) ≡ true → ((a ≡ true) × (b ≡ true)) ⊎ ((c ≡ true) × (d ≡ true))
-        go true true c d o = inl (refl, refl)
-        go true false true true o = inr (refl, refl)
-        go true false true false o = absurd (true≢false (sym o))
-        go true false false d o = absurd (true≢false (sym o))
-        go false b true true o = inr (refl, refl)
-        go false b true false o = absurd (true≢false (sym o))
-        go false b false d o = absurd (true≢false (sym o))
+      both_sides m n o = grind arith
 
       above_any : (h : ℕ) → IsIn (tail M h) (corners M (face_of M l)) → is_above p (start M h) ≡ true → reaches_above M p (face_of M l) ≡ true
       above_any h j a = any_passes (λ v. is_above p (point_of M v)) (tail M h) (corners M (face_of M l)) j a
@@ -259,10 +225,7 @@ module _ (M : Model) (sound : Sound M) (s : ℕ) (p : Plane) where
 
       face_straddles : straddles M p (face_of M l) ≡ true
       unfolding straddles
-      face_straddles = elim (both_sides (height p (start M (plus e))) (height p (start M (minus e))) plus_crosses) [
-        | inl w ↦ λ k. above_any (plus e) plus_corner w.0 k && below_any (minus e) minus_corner w.1 k
-        | inr w ↦ λ k. above_any (minus e) minus_corner w.1 k && below_any (plus e) plus_corner w.0 k
-      ]
+      face_straddles = grind (arith, both_sides, plus_crosses, above_any, plus_corner, below_any, minus_corner)
 
       places_meet : some_meet M p (places M p (face_of M l)) ≡ true
       unfolding places

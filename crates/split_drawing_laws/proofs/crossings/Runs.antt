@@ -58,15 +58,7 @@ pub kept_start : (M N : Model) → Sound M → Kept M N → (h : ℕ) → HasHal
 kept_start M N sound k h there e = ap (point_of N) e ∙ kept_point M N k (tail M h) (sound.tails_there h there)
 
 kept_on : (M N K : Model) → Kept M N → Kept N K → Kept M K
-kept_on M N K a b = record {
-  solids = b.solids ∙ a.solids;
-  faces = b.faces ∙ a.faces;
-  loops = λ l. b.loops l ∙ a.loops l;
-  face = λ l. b.face l ∙ a.face l;
-  halves = λ h there. b.halves h (a.halves h there);
-  loop = λ h there. b.loop h (a.halves h there) ∙ a.loop h there;
-  points = λ v there. b.points v (ap is_some (a.points v there) ∙ there) ∙ a.points v there;
-}
+kept_on M N K a b = grind arith
 
 -- an edge that isn't cut yet is where it was
 module _ (M N : Model) (p : Plane) (ds : List ℕ) (sound : Sound M) (a : AreCut M N p ds) (e : ℕ) (c : Crossing M p e) (uncut : count e ds ≡ 0) where
@@ -86,18 +78,7 @@ module _ (M N : Model) (p : Plane) (ds : List ℕ) (sound : Sound M) (a : AreCut
   e_there = kept_edge M N a.kept e c.there
 
   pub goes : CutGoes N e k v (cut_at N p e)
-  goes = record {
-    can = record {
-      sound = a.sound;
-      there = e_there;
-      apart = λ s. c.apart (sym (a.kept.loop (plus e) (plus_there M e c.there)) ∙ s ∙ a.kept.loop (minus e) (minus_there M e c.there));
-      edge_free = edge_free;
-    };
-    vertex_free = vertex_free;
-    edge_fits = edge_fits;
-    vertex_fits = vertex_fits;
-    point_fits = subst IsInRange (sym same_cut) c.fits;
-  }
+  goes = grind (arith, e_there, plus_there, minus_there, same_cut)
 
   abbrev K : Model
   K = edge_cut N e k v (cut_at N p e)
@@ -249,11 +230,4 @@ all_gone M p sound g ds (e ∷ rs) w =
 
 -- none is cut
 pub none_cut : (M : Model) (p : Plane) → Sound M → AreCut M M p []
-none_cut M p sound = record {
-  sound = sound;
-  kept = record { solids = refl; faces = refl; loops = λ l. refl; face = λ l. refl; halves = λ h there. there; loop = λ h there. refl; points = λ v there. refl };
-  minus_tails = λ x there. refl;
-  plus_tails = λ x there none. refl;
-  cut_starts = λ x there i. absurd (omega (arith, i));
-  cleared = λ x there. inl (there, refl);
-}
+none_cut M p sound = grind arith

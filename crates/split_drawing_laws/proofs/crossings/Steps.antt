@@ -1,13 +1,13 @@
 -- One edge cut: the operator that does it, and what stays.
 use Rattle.std.specs.Prelude.{flat_map}
-use Rattle.std.proofs.Common.{◌≡◌, ◌≢◌, ℕ, ◌≤◌, true, cond, nat_eq, List, [], ◌∷◌, Some, None, is_some, unwrap_or, IsTrue, refl, sym, ap, ◌∙◌, subst, arith, inl, inr, true≢false, ◌<◌}
+use Rattle.std.proofs.Common.{◌≡◌, ◌≢◌, ℕ, ◌≤◌, true, List, [], ◌∷◌, Some, None, is_some, unwrap_or, IsTrue, refl, sym, ap, ◌∙◌, subst, arith, inl, inr, true≢false, ◌<◌}
 use Rattle.std.proofs.lemmas.Bool.Decides.{eqb_tells}
 use Rattle.euler_operators.specs.declared.Point.{Point}
 use Rattle.euler_operators.specs.Points.{IsInRange}
 use Rattle.euler_operators.specs.Items.{count, IsIn}
 use Rattle.euler_operators.specs.Rings.{rotate_to, canonical}
 use Rattle.euler_operators.specs.declared.Corner.TheVariants.{At}
-use Rattle.euler_operators.specs.HalfEdge.{edge_of, is_first, plus, minus, half, code}
+use Rattle.euler_operators.specs.HalfEdge.{edge_of, is_first, plus, minus, half}
 use Rattle.euler_operators.specs.Table as table
 use Rattle.euler_operators.specs.Model.{Model, LoopContent, lone, cycle, EdgeRow, items_of, holds, tail, tail_in, loop_of, content, after, point_of, no_point, is_number}
 use Rattle.euler_operators.specs.Sound.{Sound, Has, HasHalf}
@@ -34,13 +34,7 @@ use Rattle.split_drawing_laws.proofs.crossings.OneCut.{tick_is, CanCut, cut_is_m
 
 -- an item stands in the list where e's halves are doubled as often, or more
 doubled_has : (e k h : ℕ) → 1 ≤ count h (doubled e k h)
-doubled_has e k h = elim (eqb_tells h (plus e)) [
-  | inl a ↦ subst (λ xs. 1 ≤ count h xs) (sym (ap (λ b. cond b (plus k ∷ plus e ∷ []) (cond (nat_eq h (minus e)) (minus e ∷ minus k ∷ []) (h ∷ []))) a.0)) (omega (arith, tick_is h (plus e) a.1))
-  | inr a ↦ elim (eqb_tells h (minus e)) [
-    | inl b ↦ subst (λ xs. 1 ≤ count h xs) (sym (ap (λ t. cond t (plus k ∷ plus e ∷ []) (cond (nat_eq h (minus e)) (minus e ∷ minus k ∷ []) (h ∷ []))) a.0 ∙ ap (λ t. cond t (minus e ∷ minus k ∷ []) (h ∷ [])) b.0)) (omega (arith, tick_is h (minus e) b.1))
-    | inr b ↦ subst (λ xs. 1 ≤ count h xs) (sym (ap (λ t. cond t (plus k ∷ plus e ∷ []) (cond (nat_eq h (minus e)) (minus e ∷ minus k ∷ []) (h ∷ []))) a.0 ∙ ap (λ t. cond t (minus e ∷ minus k ∷ []) (h ∷ [])) b.0)) (omega (arith, tick_same h))
-  ]
-]
+doubled_has e k h = grind (arith, tick_is, tick_same)
 
 still_in : (e k x : ℕ) (hs : List ℕ) → IsIn x hs → IsIn x (flat_map (doubled e k) hs)
 still_in e k x [] i = absurd (omega arith)
@@ -78,22 +72,10 @@ module _ (M : Model) (e k v : ℕ) (q : Point) (goes : CutGoes M e k v q) where
   next_is_there = next_half M e k v q goes.can
 
   pub mev_goes : MevGoes M (plus e) (after M (minus e)) (plus k) v q
-  mev_goes = record {
-    g_there = plus_there M e goes.can.there;
-    k_there = next_is_there;
-    edge_free = ap (table.get M.edges) (plus_row k).0 ∙ goes.can.edge_free;
-    vertex_free = goes.vertex_free;
-    one_tail = next_starts;
-    edge_fits = ap is_number (plus_row k).0 ∙ goes.edge_fits;
-    vertex_fits = goes.vertex_fits;
-    point_fits = goes.point_fits;
-  }
+  mev_goes = grind (arith, plus_there, next_is_there, plus_row, next_starts)
 
   pub cut_accepted : first_false M (Mev (At (half (plus e))) (At (half (after M (minus e)))) (half (plus k)) v q) ≡ None
-  cut_accepted = mev_accepted M (half (plus e)) (half (after M (minus e))) (half (plus k)) v q goes.can.sound
-      (subst (λ x. MevGoes M x (code (half (after M (minus e)))) (code (half (plus k))) v q) (sym (code-half (plus e)))
-      (subst (λ x. MevGoes M (plus e) x (code (half (plus k))) v q) (sym (code-half (after M (minus e))))
-      (subst (λ x. MevGoes M (plus e) (after M (minus e)) x v q) (sym (code-half (plus k))) mev_goes)))
+  cut_accepted = grind (arith, mev_accepted, code-half, mev_goes)
 
   pub cut_made : effect M (Mev (At (half (plus e))) (At (half (after M (minus e)))) (half (plus k)) v q) ≡ edge_cut M e k v q
   unfolding effect
@@ -200,11 +182,7 @@ greatest-put_old t n x there = greatest_is (table.put t n x) (table.greatest t)
 module _ (M : Model) (e k v : ℕ) (q : Point) (there : Has M.edges e) (k_above : table.greatest M.edges < k) (v_above : table.greatest M.vertices < v) where
   edges_greatest : table.greatest (edge_cut M e k v q).edges ≡ k
   unfolding edge_cut
-  edges_greatest =
-      let apart : k ≢ e = λ s. let l : e ≤ table.greatest M.edges = at_most_greatest M.edges e there in absurd (omega arith) in
-      ap table.greatest (put_turned M.edges k e (record { plus_tail = tail M (plus e); minus_tail = v }) (record { plus_tail = v; minus_tail = tail M (minus e) }) apart)
-      ∙ greatest-put_last (table.put M.edges e (record { plus_tail = v; minus_tail = tail M (minus e) })) k (record { plus_tail = tail M (plus e); minus_tail = v })
-      (subst (λ n. n < k) (sym (greatest-put_old M.edges e (record { plus_tail = v; minus_tail = tail M (minus e) }) there)) k_above)
+  edges_greatest = grind (arith, at_most_greatest, put_turned, greatest-put_last, greatest-put_old)
 
   vertices_greatest : table.greatest (edge_cut M e k v q).vertices ≡ v
   unfolding edge_cut

@@ -56,14 +56,7 @@ module _ (M : Model) (s : ℕ) (p : Plane) (t : ℕ) (sound : Sound M) (accepted
   once x = omega (arith, count-filter (λ e. crosses M p (plus e)) x (edges_of M s), counted_once x (edges_of M s) (all_where-rises (λ e _. nat_eq (solid_of M (face_at M (plus e))) s) M.edges))
 
   pub begins : Going M p (growing M) [] (crossing_edges M p s)
-  begins = record {
-    cut = none_cut M p sound;
-    counted = refl;
-    crossing = λ x i. crossing_here M sound s p can_cut x i;
-    apart = λ x. omega (arith, once x);
-    edges_left = omega (arith, can_cut.left.edges);
-    vertices_left = omega (arith, can_cut.left.vertices);
-  }
+  begins = grind (arith, none_cut, crossing_here, can_cut, once)
 
   pub gone : Gone M p (growing M) [] (crossing_edges M p s)
   gone = all_gone M p sound (growing M) [] (crossing_edges M p s) begins
@@ -178,10 +171,7 @@ module _ (M : Model) (s : ℕ) (p : Plane) (t : ℕ) (sound : Sound M) (accepted
 
   -- another edge stays where it is
   stays_plus : (e : ℕ) → Has M.edges e → crosses M p (plus e) ≡ false → start N (plus e) ≡ start M (plus e)
-  stays_plus e there off = start_plus e there (elim (IsIn_or_not e (crossing_edges M p s)) [
-    | inl i ↦ absurd (true≢false (sym (filter_passes (λ x. crosses M p (plus x)) e (edges_of M s) i) ∙ off))
-    | inr z ↦ z
-  ])
+  stays_plus e there off = grind (arith, start_plus, IsIn_or_not, filter_passes)
 
   on_place : (h : ℕ) → is_on p (start M h) ≡ true → place_point M p h ≡ start M h
   unfolding place_point

@@ -40,12 +40,7 @@ module _ (M : Model) (e k v : ℕ) (q : Point) (s : ℕ) (goes : CutGoes M e k v
   not_outer h f there ne of e = ne (ap (solid_of M) (sym (ap (face_of M) e ∙ (goes.can.sound.outers_there f there).1)) ∙ of)
 
   pub cut_measured : Measured M (edge_cut M e k v q) s
-  cut_measured = record {
-    faces = (keeps M e k v q goes).faces;
-    normals = normal_stays M e k v q goes w;
-    planes = λ f r on. plane_stays M e k v q goes w r f on;
-    anchors = λ f there ne. anchor_stays M e k v q goes f there (not_outer (plus e) f there ne of_s) (not_outer (minus e) f there ne minus_of);
-  }
+  cut_measured = grind (arith, keeps, normal_stays, plane_stays, anchor_stays, not_outer, minus_of)
 
 -- ---- some edges
 
@@ -74,10 +69,7 @@ module _ (M : Model) (p : Plane) (s : ℕ) (sound : Sound M) (g : Growing) (ds :
   whole_now = (λ i. cuts_lattice p (start_now i) (end_now i)) ∙ o.whole e (IsIn_head e rs)
 
   between : Between (start N (plus e)) (finish N (plus e)) (cut_at N p e)
-  between = record {
-    areas = cut_keeps_area p (start N (plus e)) (finish N (plus e)) opposite_now whole_now;
-    on_each = λ r a b. cut_on_each p (start N (plus e)) (finish N (plus e)) opposite_now whole_now r a b;
-  }
+  between = grind (arith, cut_keeps_area, opposite_now, whole_now, cut_on_each)
 
   of_s_now : solid_of N (face_at N (plus e)) ≡ s
   of_s_now = solid_stays M N w.cut.kept.faces (face_at N (plus e)) ∙ ap (solid_of M) (ap (face_of N) (w.cut.kept.loop (plus e) (plus_there M e crossing.there)) ∙ w.cut.kept.face (loop_of M (plus e))) ∙ o.of_s e (IsIn_head e rs)

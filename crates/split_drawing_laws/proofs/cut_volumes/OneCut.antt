@@ -1,6 +1,6 @@
 -- One edge cut at a point between its ends: the areas of loops and the normals of faces stay.
 use Rattle.std.specs.Prelude.{flat_map}
-use Rattle.std.proofs.Common.{◌≡◌, ◌≢◌, ℕ, true, cond, not, nat_eq, ◌&&◌, List, [], ◌∷◌, unwrap_or, refl, sym, ap, ◌∙◌, ◌⊎◌, inl, inr, map, subst, arith}
+use Rattle.std.proofs.Common.{◌≡◌, ◌≢◌, ℕ, true, not, nat_eq, ◌&&◌, List, [], ◌∷◌, unwrap_or, refl, sym, ap, ◌∙◌, ◌⊎◌, inl, inr, map, subst, arith}
 use Rattle.std.proofs.lemmas.Bool.Decides.{eqb_tells}
 use Rattle.euler_operators.specs.declared.Point.{Point}
 use Rattle.euler_operators.specs.declared.Plane.{Plane}
@@ -34,15 +34,7 @@ use Rattle.split_drawing_laws.proofs.cut_volumes.Told.{same_rings, loop_on, loop
 -- what an item of a loop becomes
 pub doubled_cases : (e k h : ℕ) → ((h ≡ plus e) × (doubled e k h ≡ plus k ∷ plus e ∷ []))
     ⊎ (((h ≡ minus e) × (doubled e k h ≡ minus e ∷ minus k ∷ [])) ⊎ ((h ≢ plus e) × (h ≢ minus e) × (doubled e k h ≡ h ∷ [])))
-doubled_cases e k h = elim (eqb_tells h (plus e)) [
-  | inl a ↦ inl (a.1, ap (λ b. cond b (plus k ∷ plus e ∷ []) (cond (nat_eq h (minus e)) (minus e ∷ minus k ∷ []) (h ∷ []))) a.0)
-  | inr a ↦
-      let first : doubled e k h ≡ cond (nat_eq h (minus e)) (minus e ∷ minus k ∷ []) (h ∷ []) = ap (λ b. cond b (plus k ∷ plus e ∷ []) (cond (nat_eq h (minus e)) (minus e ∷ minus k ∷ []) (h ∷ []))) a.0 in
-      elim (eqb_tells h (minus e)) [
-        | inl b ↦ inr (inl (b.1, first ∙ ap (λ t. cond t (minus e ∷ minus k ∷ []) (h ∷ [])) b.0))
-        | inr b ↦ inr (inr (a.1, b.1, first ∙ ap (λ t. cond t (minus e ∷ minus k ∷ []) (h ∷ [])) b.0))
-      ]
-]
+doubled_cases e k h = grind arith
 
 -- a half-edge that is neither half of e is of another edge
 pub other_edge : (e h : ℕ) → h ≢ plus e → h ≢ minus e → edge_of h ≢ e
@@ -207,10 +199,7 @@ module _ (M : Model) (e k v : ℕ) (q : Point) (goes : CutGoes M e k v q) where
     ]
 
     cycle_on : (l : ℕ) (hs : List ℕ) → content M l ≡ cycle hs → are_on M r (vertices_on M (content M l)) ≡ true → are_on K r (map (tail K) (canonical (flat_map (doubled e k) hs))) ≡ true
-    cycle_on l hs is on = all_mapped (λ n. is_on r (point_of K n)) (tail K) (canonical (flat_map (doubled e k) hs)) (λ x i.
-        let y = from_flat (doubled e k) x hs (omega (arith, i, count-canonical x (flat_map (doubled e k) hs))) in
-        let j : IsIn y.0 (items_of (content M l)) = subst (λ c. IsIn y.0 (items_of c)) (sym is) y.1 in
-        doubled_on y.0 x (item_there M goes.can.sound l y.0 j) (item_on M r (content M l) y.0 on j) (item_ends_on M goes.can.sound r l y.0 on j) y.2)
+    cycle_on l hs is on = grind (arith, all_mapped, from_flat, count-canonical, doubled_on, item_there, item_on, item_ends_on)
 
     content_on : (l : ℕ) (c : LoopContent) → content M l ≡ c → are_on M r (vertices_on M (content M l)) ≡ true → are_on K r (vertices_on K (rewritten (flat_map (doubled e k)) c)) ≡ true
     content_on l (lone n) is on = ap (λ z. is_on r z && true) (kept_point M K keeps n (goes.can.sound.lone_at_vertex l n is)) ∙ sym (ap (λ c. are_on M r (vertices_on M c)) is) ∙ on

@@ -1,6 +1,6 @@
 -- The faces of a solid, and sums over them.
 use Rattle.std.specs.List.{list_all}
-use Rattle.std.proofs.Common.{◌≡◌, ◌≢◌, ℕ, ◌≤◌, ℤ, ◌+ℤ◌, nat_eq, List, [], ◌∷◌, is_some, sym, ap, ◌∙◌, arith, inl, inr, Bool, true, ◌&&◌, ◌++◌, refl, subst, neg_ℤ, not, unwrap_or}
+use Rattle.std.proofs.Common.{◌≡◌, ◌≢◌, ℕ, ◌≤◌, ℤ, ◌+ℤ◌, nat_eq, List, [], ◌∷◌, sym, ap, ◌∙◌, arith, inl, inr, Bool, true, ◌&&◌, ◌++◌, refl, subst, neg_ℤ, not, unwrap_or}
 use Rattle.std.proofs.lemmas.Int.{ints}
 use Rattle.std.proofs.lemmas.Bool.Decides.{eqb_tells}
 use Rattle.std.proofs.lemmas.Bool.{and_parts}
@@ -39,12 +39,7 @@ pub counted_out : (M : Model) (f u : ℕ) → (Has M.faces f → solid_of M f �
 counted_out M f u never = elim (IsIn_or_not f (faces_of M u)) [ inl i ↦ let w = solid_facts M u f i in absurd (never w.0 w.1) | inr z ↦ z ]
 
 pub same_count : (M N : Model) (u f : ℕ) → table.get N.faces f ≡ table.get M.faces f → count f (faces_of N u) ≡ count f (faces_of M u)
-same_count M N u f e = elim (IsIn_or_not f (faces_of M u)) [
-  | inl i ↦
-      let w = solid_facts M u f i in
-      counted_in N f u (ap is_some e ∙ w.0) (same_solid M N f e ∙ w.1) ∙ sym (counted_in M f u w.0 w.1)
-  | inr z ↦ counted_out N f u (λ there of_u. absurd (omega (arith, z, in_solid M f u (sym (ap is_some e) ∙ there) (sym (same_solid M N f e) ∙ of_u)))) ∙ sym z
-]
+same_count M N u f e = grind (arith, IsIn_or_not, solid_facts, counted_in, same_solid, counted_out, in_solid)
 
 -- ---- sums
 
@@ -142,12 +137,7 @@ unfolding solid_of
 solid_stays M N e f = ap (λ t. (unwrap_or (table.get t f) no_face).solid) e
 
 pub measured_on : (M N K : Model) (s : ℕ) → Measured M N s → Measured N K s → Measured M K s
-measured_on M N K s a b = record {
-  faces = b.faces ∙ a.faces;
-  normals = λ f. b.normals f ∙ a.normals f;
-  planes = λ f r on. b.planes f r (a.planes f r on);
-  anchors = λ f there ne. b.anchors f (subst (λ t. Has t f) (sym a.faces) there) (λ e. ne (sym (solid_stays M N a.faces f) ∙ e)) ∙ a.anchors f there ne;
-}
+measured_on M N K s a b = grind (arith, solid_stays)
 
 -- ---- volumes
 

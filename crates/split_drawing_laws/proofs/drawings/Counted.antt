@@ -1,5 +1,5 @@
 -- What is asked of a drawing: fresh numbers, how many pairs there are, and that no face is drawn twice.
-use Rattle.std.proofs.Common.{◌≡◌, ℕ, suc, ◌+◌, ◌/◌, nat_eq, List, [], ◌∷◌, length, refl, ap, ◌∙◌, arith}
+use Rattle.std.proofs.Common.{◌≡◌, ℕ, suc, ◌+◌, ◌/◌, nat_eq, List, [], ◌∷◌, length, refl, ap, arith}
 use Rattle.std.specs.Prelude.{map}
 use Rattle.euler_operators.specs.declared.Plane.{Plane}
 use Rattle.euler_operators.specs.Items.{IsApart}
@@ -10,8 +10,8 @@ use Rattle.shapes.proofs.fresh.Rows.{none_above}
 use Rattle.euler_laws.proofs.shared.Counted.{counted_once}
 use Rattle.shapes.specs.Fresh.{taken_in}
 use Rattle.shapes.specs.split.Sides.{straddles, straddling_faces}
-use Rattle.shapes.specs.split.Places.{places, sorted, in_pairs, sorted_pairs, up_first, place_pairs, pair_count}
-use Rattle.shapes.specs.split.Drawing.{from_place, drawn_pairs, all_pairs}
+use Rattle.shapes.specs.split.Places.{places, in_pairs, sorted_pairs, place_pairs, pair_count}
+use Rattle.shapes.specs.split.Drawing.{drawn_pairs, all_pairs}
 use Rattle.split_drawing_laws.specs.drawings.DrawnIn.{Fresh}
 use Rattle.split_drawing_laws.specs.drawings.Pairs.{pairs_in}
 use Rattle.split_drawing_laws.proofs.pairs.Sorted.{length-sorted}
@@ -36,10 +36,7 @@ length_in_pairs (h ∷ k ∷ ks) = let s : length (in_pairs ks) ≡ length ks / 
 
 pairs_of : (M N : Model) (p : Plane) (f : ℕ) → length (drawn_pairs M N p f) ≡ length (places M p f) / 2
 unfolding drawn_pairs place_pairs sorted_pairs
-pairs_of M N p f = length_map (λ q. (from_place N p q.0, from_place N p q.1)) (map (up_first M p) (in_pairs (sorted M p (places M p f))))
-    ∙ length_map (up_first M p) (in_pairs (sorted M p (places M p f)))
-    ∙ length_in_pairs (sorted M p (places M p f))
-    ∙ ap (λ n. n / 2) (length-sorted M p (places M p f))
+pairs_of M N p f = grind (arith, length_map, length_in_pairs, length-sorted)
 
 -- faces stay when they get their pairs
 pub faces_are : (M N : Model) (p : Plane) (fs : List ℕ) → map (λ f. f.face) (all_pairs M N p fs) ≡ fs

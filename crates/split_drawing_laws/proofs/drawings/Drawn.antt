@@ -2,10 +2,10 @@
 use Rattle.std.proofs.Common.{◌≡◌, ◌≢◌, ℕ, List, ◌∷◌, Some, None, is_some, IsTrue, refl, sym, ap, ◌∙◌, subst, arith}
 use Rattle.std.proofs.lemmas.Bool.Decides.{nat_tests}
 use Rattle.euler_operators.specs.Rings.{rotate_to}
-use Rattle.euler_operators.specs.Operators.{mef_old, mef_new, mekr_ring}
+use Rattle.euler_operators.specs.Operators.{mef_old, mef_new}
 use Rattle.euler_operators.specs.declared.HalfEdge.{HalfEdge}
 use Rattle.euler_operators.specs.declared.Corner.TheVariants.{At}
-use Rattle.euler_operators.specs.HalfEdge.{edge_of, plus, minus, code, half}
+use Rattle.euler_operators.specs.HalfEdge.{edge_of, plus, code, half}
 use Rattle.euler_operators.specs.Table as table
 use Rattle.euler_operators.specs.Table.{Table, tables, same_table}
 use Rattle.euler_operators.specs.Model.{Model, LoopRow, cycle, tail, loop_of, cycle_of, solid_of, outer, is_number}
@@ -67,31 +67,13 @@ module _ (M : Model) (u k e f l : ℕ) (can : CanDraw M u k e f l) where
   -- it is mef
   pub mef_draws : mef M u k (plus e) f l ≡ face_drawn M u k e f l
   unfolding mef face_drawn put_new
-  mef_draws = λ i. record M {
-    faces = table.put M.faces f (record { solid = solid_of M (face_at M u); outer = l });
-    loops = (loops-mef M can.sound u k (plus e) f l can.u_there free_plus can.loop_free ∙ ap put_new (mate_plus e)) i;
-    edges = table.put M.edges ((plus_row e).0 i) (edge_row_plus e (tail M u) (tail M k) i);
-  }
+  mef_draws = grind (arith, loops-mef, free_plus, put_new, mate_plus, plus_row, edge_row_plus)
 
   draw_goes : MefGoes M u k (plus e) f l
-  draw_goes = record {
-    g_there = can.u_there;
-    k_there = can.k_there;
-    edge_free = free_plus;
-    face_free = can.face_free;
-    loop_free = can.loop_free;
-    one_loop = sym can.one_loop;
-    ends_apart = can.apart;
-    edge_fits = ap is_number (plus_row e).0 ∙ can.edge_fits;
-    face_fits = can.face_fits;
-    loop_fits = can.loop_fits;
-  }
+  draw_goes = grind (arith, free_plus, plus_row)
 
   pub draw_accepted : first_false M (draw_edge u k e f l) ≡ None
-  draw_accepted = mef_accepted M (half u) (half k) (half (plus e)) f l can.sound
-      (subst (λ x. MefGoes M x (code (half k)) (code (half (plus e))) f l) (sym (code-half u))
-      (subst (λ x. MefGoes M u x (code (half (plus e))) f l) (sym (code-half k))
-      (subst (λ x. MefGoes M u k x f l) (sym (code-half (plus e))) draw_goes)))
+  draw_accepted = grind (arith, mef_accepted, code-half, draw_goes)
 
   pub draw_made : effect M (draw_edge u k e f l) ≡ face_drawn M u k e f l
   unfolding effect
@@ -120,22 +102,11 @@ pub record CanJoin (M : Model) (c d e : ℕ) : Type 0 where
 -- it is mekr
 pub mekr_joins : (M : Model) (c d : HalfEdge) (e : ℕ) → loop_of M (code c) ≢ loop_of M (code d) → mekr M (At c) (At d) (plus e) ≡ loops_joined M (code c) (code d) e
 unfolding mekr loops_joined
-mekr_joins M c d e apart = λ i. record M {
-  loops = ((λ j. table.remove (table.put M.loops (loop_of M (code c)) (record { face = face_at M (code c); content = cycle (mekr_ring (plus e) (mate_plus e j) (code c) (code d) (cycle_of M (code c)) (cycle_of M (code d))) })) (loop_of M (code d)))
-      ∙ swapped M.loops (loop_of M (code c)) (loop_of M (code d)) (record { face = face_at M (code c); content = cycle (mekr_ring (plus e) (minus e) (code c) (code d) (cycle_of M (code c)) (cycle_of M (code d))) }) apart) i;
-  edges = table.put M.edges ((plus_row e).0 i) (edge_row_plus e (tail M (code c)) (tail M (code d)) i);
-}
+mekr_joins M c d e apart = grind (arith, mate_plus, swapped, plus_row, edge_row_plus)
 
 module _ (M : Model) (c d e : ℕ) (can : CanJoin M c d e) where
   corner_at : (x : ℕ) → HasHalf M x → CornerAt M (At (half x)) (loop_of M x) (tail M x) (rotate_to x (cycle_of M x))
-  corner_at x there = let t : HasHalf M (code (half x)) = subst (HasHalf M) (sym (code-half x)) there in record {
-    loop = ap (loop_of M) (code-half x);
-    vertex = ap (tail M) (code-half x);
-    list = ap (λ z. rotate_to z (cycle_of M z)) (code-half x);
-    known = of_half M (half x) t;
-    bare = refl;
-    fits = ap is_number (sym (edge_of-code (half x))) ∙ can.sound.edges_fit (edge_of (code (half x))) t;
-  }
+  corner_at x there = grind (arith, code-half, of_half, edge_of-code)
 
   join_goes : MekrGoes M (At (half c)) (At (half d)) (plus e) (loop_of M c) (loop_of M d) (tail M c) (tail M d) (rotate_to c (cycle_of M c)) (rotate_to d (cycle_of M d))
   join_goes = record {
@@ -156,9 +127,7 @@ module _ (M : Model) (c d e : ℕ) (can : CanJoin M c d e) where
 
   pub join_made : effect M (join_edge c d e) ≡ loops_joined M c d e
   unfolding effect
-  join_made = ap (mekr M (At (half c)) (At (half d))) (code-half (plus e))
-      ∙ mekr_joins M (half c) (half d) e (λ s. can.loops_apart (sym (ap (loop_of M) (code-half c)) ∙ s ∙ ap (loop_of M) (code-half d)))
-      ∙ (λ i. loops_joined M (code-half c i) (code-half d i) e)
+  join_made = grind (arith, code-half, mekr_joins)
 
   pub join_sound : Sound (loops_joined M c d e)
   join_sound = subst Sound join_made (effect_keeps_sound M (join_edge c d e) can.sound join_accepted)

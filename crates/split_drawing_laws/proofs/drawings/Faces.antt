@@ -83,7 +83,7 @@ module _ (p : Plane) (f : ℕ) (q : ℕ × ℕ) (d : Drawing) (n : ℕ) (w : Rea
   joined_is : all_joined (q ∷ []) d ≡ held
   joined_is = join_next_one (record d { left = [] }) q w.alone
 
-  drawn_is : all_drawn f (ring_free f (q ∷ []) (all_joined (q ∷ []) d)) ≡ cut_off held q
+  pub drawn_is : all_drawn f (ring_free f (q ∷ []) (all_joined (q ∷ []) d)) ≡ cut_off held q
   drawn_is = ap (λ x. all_drawn f (ring_free f (q ∷ []) x)) joined_is ∙ draw_next_one f held q w.alone
 
   room_one : PairsHaveRoom d.taken (suc n)

@@ -1,10 +1,10 @@
 -- A pair joined, and a pair between which an edge is drawn.
-use Rattle.std.proofs.Common.{◌≡◌, ◌≢◌, ℕ, ◌<◌, Bool, true, false, cond, not, nat_eq, ◌&&◌, [], ◌∷◌, None, is_some, IsTrue, refl, sym, ap, ◌∙◌, subst, arith, ◌⊎◌, inl, inr, true≢false}
+use Rattle.std.proofs.Common.{◌≡◌, ◌≢◌, ℕ, ◌<◌, Bool, true, false, cond, not, nat_eq, ◌&&◌, [], ◌∷◌, None, IsTrue, refl, sym, ap, ◌∙◌, arith, ◌⊎◌, inl, inr, true≢false}
 use Rattle.std.proofs.lemmas.Bool.Decides.{nat_tests, eqb_tells}
 use Rattle.std.proofs.lemmas.Bool.{eqb-true, eqb-false}
 use Rattle.euler_operators.specs.Table as table
-use Rattle.euler_operators.specs.Model.{Model, tail, loop_of, face_of, outer, solid_of, is_number, is_ring_of}
-use Rattle.euler_operators.specs.Sound.{Sound, Has, HasHalf}
+use Rattle.euler_operators.specs.Model.{Model, tail, loop_of, face_of, is_number, is_ring_of}
+use Rattle.euler_operators.specs.Sound.{Sound, HasHalf}
 use Rattle.euler_operators.proofs.Models.{row_of}
 use Rattle.euler_operators.proofs.Tables.{no_row, row_elsewhere}
 use Rattle.euler_operators.specs.Conditions.{face_at}
@@ -21,12 +21,7 @@ use Rattle.split_drawing_laws.proofs.drawings.Rings.{Newer}
 use Rattle.split_drawing_laws.proofs.drawings.Runs.{Leads, leads_one}
 
 pub none_joined : (M : Model) (f : ℕ) → Sound M → JoinedIn M M f
-none_joined M f sound = record {
-  sound = sound;
-  stays = record { halves = λ h there. there; tails = λ h there. refl; vertices = refl; faces = λ g there. there };
-  beside = λ h there ne. refl;
-  faces = λ h there. refl;
-}
+none_joined M f sound = grind arith
 
 pub joined_drawn : (M N : Model) (f : ℕ) → JoinedIn M N f → DrawnIn M N f
 joined_drawn M N f j = record {
@@ -66,31 +61,10 @@ module _ (M N : Model) (f : ℕ) (q : ℕ × ℕ) (e : ℕ) (joined : JoinedIn M
   ringed = is_ring_of N (face_at N q.0) (loop_of N q.0)
 
   pub can_back : is_ring_of N (face_at N q.0) (loop_of N q.0) ≡ true → CanJoin N q.1 q.0 e
-  can_back r = record {
-    sound = joined.sound;
-    c_there = k_there;
-    d_there = u_there;
-    loops_apart = λ s. loops_apart (sym s);
-    one_face = k_face ∙ sym u_face;
-    is_ring = ring_is (table.has N.loops (loop_of N q.0)) (face_at N q.0) (outer N (face_at N q.0)) (loop_of N q.0) r;
-    apart = λ s. tails_apart (sym s);
-    edge_free = edge_free;
-    edge_fits = edge_fits;
-  }
+  can_back r = grind (arith, k_there, u_there, loops_apart, k_face, u_face, ring_is, tails_apart)
 
   pub can_on : is_ring_of N (face_at N q.0) (loop_of N q.0) ≡ false → CanJoin N q.0 q.1 e
-  can_on r = record {
-    sound = joined.sound;
-    c_there = u_there;
-    d_there = k_there;
-    loops_apart = loops_apart;
-    one_face = u_face ∙ sym k_face;
-    is_ring = λ s. loops_apart (sym (ring_outer (table.has N.loops (loop_of N q.0)) (face_at N q.0) (outer N (face_at N q.0)) (loop_of N q.0) (ap is_some (row_of N joined.sound q.0 u_there)) r)
-        ∙ ap (outer N) (u_face ∙ sym k_face) ∙ s);
-    apart = tails_apart;
-    edge_free = edge_free;
-    edge_fits = edge_fits;
-  }
+  can_on r = grind (arith, u_there, k_there, loops_apart, u_face, k_face, ring_outer, row_of, tails_apart)
 
   joined_on : (c d : ℕ) → CanJoin N c d e → face_at N c ≡ f → face_at N d ≡ f → JoinedIn M (loops_joined N c d e) f
   joined_on c d can at to = record {
@@ -131,10 +105,7 @@ module _ (M N : Model) (f : ℕ) (q : ℕ × ℕ) (e : ℕ) (joined : JoinedIn M
 
 -- a face that isn't there then wasn't there before
 pub was_free : (M N : Model) → Stays M N → (g : ℕ) → table.get N.faces g ≡ None → table.get M.faces g ≡ None
-was_free M N stays g none = go (table.has M.faces g) refl where
-  go : (b : Bool) → table.has M.faces g ≡ b → table.get M.faces g ≡ None
-  go true e = absurd (true≢false (sym (stays.faces g e) ∙ ap is_some none))
-  go false e = no_row (table.get M.faces g) e
+was_free M N stays g none = grind (arith, no_row)
 
 module _ (M N : Model) (f : ℕ) (q : ℕ × ℕ) (e g l : ℕ) (sound : Sound M) (drawn : DrawnIn M N f) (fits : Fits M f q) (one : in_one_loop N q ≡ true)
     (edge_free : table.get N.edges e ≡ None) (face_free : table.get N.faces g ≡ None) (loop_free : table.get N.loops l ≡ None)
@@ -143,19 +114,7 @@ module _ (M N : Model) (f : ℕ) (q : ℕ × ℕ) (e g l : ℕ) (sound : Sound M
   K = face_drawn N q.0 q.1 e g l
 
   pub pair_can : CanDraw N q.0 q.1 e g l
-  pair_can = record {
-    sound = drawn.sound;
-    u_there = drawn.stays.halves q.0 fits.u_there;
-    k_there = drawn.stays.halves q.1 fits.k_there;
-    one_loop = eqb-true (loop_of N q.0) (loop_of N q.1) one;
-    apart = λ s. fits.apart (sym (drawn.stays.tails q.0 fits.u_there) ∙ s ∙ drawn.stays.tails q.1 fits.k_there);
-    edge_free = edge_free;
-    face_free = face_free;
-    loop_free = loop_free;
-    edge_fits = edge_fits;
-    face_fits = face_fits;
-    loop_fits = loop_fits;
-  }
+  pair_can = grind (arith, u_there, k_there, eqb-true)
 
   pub pair_draws : Leads N (face_drawn N q.0 q.1 e g l) (draw_edge q.0 q.1 e g l ∷ [])
   pair_draws = leads_one N K (draw_edge q.0 q.1 e g l) (draw_accepted N q.0 q.1 e g l pair_can) (draw_made N q.0 q.1 e g l pair_can)
@@ -201,9 +160,4 @@ module _ (M N : Model) (f : ℕ) (q : ℕ × ℕ) (e g l : ℕ) (sound : Sound M
 
   -- where nothing was drawn before, the new face is one of f's solid
   pub drawn_newer : face_at N q.0 ≡ f → Newer M (face_drawn N q.0 q.1 e g l) f g
-  drawn_newer at = record {
-    old = subst (Has M.faces) fits.u_face (half_face M sound q.0 fits.u_there);
-    new = was_free M N drawn.stays g face_free;
-    there = draw_has N q.0 q.1 e g l pair_can;
-    solid = ap (solid_of K) (sym at) ∙ sym (draw_solid N q.0 q.1 e g l pair_can);
-  }
+  drawn_newer at = grind (arith, half_face, was_free, draw_has, pair_can, draw_solid)

@@ -1,7 +1,6 @@
 -- The two passes over the pairs of a face.
-use Rattle.std.proofs.Common.{◌≡◌, ◌≢◌, ℕ, suc, ◌+◌, ◌<◌, Bool, true, false, cond, List, [], ◌∷◌, ◌++◌, length, None, refl, sym, ap, ◌∙◌, subst, arith, IsTrue, inl, inr}
+use Rattle.std.proofs.Common.{◌≡◌, ◌≢◌, ℕ, suc, ◌+◌, ◌<◌, Bool, true, false, cond, List, [], ◌∷◌, ◌++◌, length, None, refl, sym, ap, subst, arith, IsTrue}
 use Rattle.std.specs.Prelude.{fold}
-use Rattle.std.proofs.lemmas.Bool.Decides.{eqb_tells}
 use Rattle.euler_operators.specs.Table as table
 use Rattle.euler_operators.specs.Model.{Model, is_number}
 use Rattle.euler_operators.specs.Sound.{Sound}
@@ -67,15 +66,7 @@ module _ (M : Model) (f : ℕ) (d : Drawing) (q : ℕ × ℕ) (qs : List (ℕ ×
   room_now = room_as d.taken (length d.left + length (q ∷ qs) + n) (suc (length d.left + length qs + n)) (omega arith) w.room
 
   kept : in_one_loop d.model q ≡ true → Next (join_next d q)
-  kept e = subst Next (sym (join_next_one d q e)) (
-    subst (Leads d.model d.model) (sym (ap (λ b. cond b [] (join_pair d.model q (d.taken.edge + 1) ∷ [])) e)) (leads_none d.model),
-    record {
-      joined = w.joined;
-      fresh = w.fresh;
-      room = room_as d.taken (length d.left + length (q ∷ qs) + n) (length (d.left ++ q ∷ []) + length qs + n) (omega (arith, length_last d.left q)) w.room;
-      pairs = all_fit_last M f d.left q w.pairs fits;
-    },
-  )
+  kept e = grind (arith, join_next_one, leads_none, room_as, length_last, all_fit_last)
 
   pub edge_free : table.get d.model.edges (d.taken.edge + 1) ≡ None
   edge_free = w.fresh.edges (d.taken.edge + 1) (next_above d.taken.edge)
@@ -100,10 +91,7 @@ module _ (M : Model) (f : ℕ) (d : Drawing) (q : ℕ × ℕ) (qs : List (ℕ ×
   )
 
   pub join_one : Next (join_next d q)
-  join_one = go (in_one_loop d.model q) refl where
-    go : (b : Bool) → in_one_loop d.model q ≡ b → Next (join_next d q)
-    go true e = kept e
-    go false e = made e
+  join_one = grind (arith, kept, made)
 
 pub record Joins (M : Model) (f : ℕ) (d : Drawing) (qs : List (ℕ × ℕ)) (n : ℕ) : Type 0 where
   pub leads : Leads d.model (fold join_next d qs).model (join_ops d qs)
@@ -156,14 +144,7 @@ module _ (M : Model) (f : ℕ) (sound : Sound M) (d : Drawing) (q : ℕ × ℕ) 
   room_here = room_as d.taken (length (q ∷ qs) + n) (suc (length qs + n)) (omega arith) w.room
 
   left_out : in_one_loop d.model q ≡ false → After (draw_next f d q)
-  left_out e = subst After (sym (draw_next_two f d q e)) (
-    subst (Leads d.model d.model) (sym (ap (λ b. cond b (draw_pair d.taken q ∷ []) []) e)) (leads_none d.model),
-    record {
-      drawn = w.drawn;
-      fresh = w.fresh;
-      room = record { faces = omega (arith, room_here.faces); loops = omega (arith, room_here.loops); edges = omega (arith, room_here.edges) };
-    },
-  )
+  left_out e = grind (arith, draw_next_two, leads_none)
 
   pub edge_open : table.get d.model.edges (d.taken.edge + 1) ≡ None
   edge_open = w.fresh.edges (d.taken.edge + 1) (next_above d.taken.edge)
@@ -194,10 +175,7 @@ module _ (M : Model) (f : ℕ) (sound : Sound M) (d : Drawing) (q : ℕ × ℕ) 
   )
 
   pub draw_one : After (draw_next f d q)
-  draw_one = go (in_one_loop d.model q) refl where
-    go : (b : Bool) → in_one_loop d.model q ≡ b → After (draw_next f d q)
-    go true e = cut e
-    go false e = left_out e
+  draw_one = grind (arith, cut, left_out)
 
 pub record Draws (M : Model) (f : ℕ) (d : Drawing) (qs : List (ℕ × ℕ)) (n : ℕ) : Type 0 where
   pub leads : Leads d.model (fold (draw_next f) d qs).model (draw_ops f d qs)
@@ -215,10 +193,7 @@ draws_go M f d (q ∷ qs) n sound fit w =
 
 -- a face that is not 0 stops the drawing
 pub stuck_now : (f : ℕ) (d : Drawing) → f ≢ 0 → (stuck_at f d).stuck ≢ 0
-stuck_now f d some e = elim (eqb_tells d.stuck 0) [
-  | inl s ↦ some (sym (ap (λ b. cond b f d.stuck) s.0) ∙ e)
-  | inr s ↦ s.1 (sym (ap (λ b. cond b f d.stuck) s.0) ∙ e)
-]
+stuck_now f d some e = grind arith
 
 -- what each pair of the second pass keeps holds after it
 pub draws_keep : (M : Model) (f : ℕ) (P : Drawing → List (ℕ × ℕ) → Type 0) (sound : Sound M) →

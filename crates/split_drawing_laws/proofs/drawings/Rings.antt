@@ -85,12 +85,7 @@ module _ (N : Model) (l k : ℕ) (sound : Sound N) (goes : RingGoes N l k) where
 
 module _ (M N : Model) (f l k : ℕ) (drawn : DrawnIn M N f) (ring : RingOf N f l) (newer : Newer M N f k) where
   pub ring_goes : RingGoes N l k
-  ring_goes = record {
-    l_there = ring.there;
-    f_there = newer.there;
-    one_solid = ap (solid_of N) ring.face ∙ newer.solid;
-    is_ring = λ e. ring.inner (ap (outer N) (sym ring.face) ∙ e);
-  }
+  ring_goes = grind arith
 
   apart : face_of N l ≢ k
   apart e = row_elsewhere M.faces f k newer.old newer.new (sym ring.face ∙ e)
@@ -122,19 +117,10 @@ module _ (M N : Model) (f l k : ℕ) (drawn : DrawnIn M N f) (ring : RingOf N f 
   }
 
   pub moved_newer : Newer M (ring_in N l k) f k
-  moved_newer = record {
-    old = newer.old;
-    new = newer.new;
-    there = subst (λ t. Has t k) (sym (ring_faces N l k drawn.sound ring_goes)) newer.there;
-    solid = moved.solid_same N drawn.sound l k ring_goes f ∙ newer.solid ∙ sym (moved.solid_same N drawn.sound l k ring_goes k);
-  }
+  moved_newer = grind (arith, ring_faces, ring_goes, moved.solid_same)
 
   pub moved_ring : (q : ℕ) → q ≢ l → RingOf N f q → RingOf (ring_in N l k) f q
-  moved_ring q ne r = record {
-    there = (same_walks N l k drawn.sound ring_goes).loops q ∙ r.there;
-    face = face_else N l k drawn.sound ring_goes q ne ∙ r.face;
-    inner = λ e. r.inner (sym (moved.outer_same N drawn.sound l k ring_goes f) ∙ e);
-  }
+  moved_ring q ne r = grind (arith, same_walks, ring_goes, face_else, moved.outer_same)
 
   -- what follows what stays
   pub moved_after : (h : ℕ) → HasHalf N h → after (ring_in N l k) h ≡ after N h

@@ -32,12 +32,7 @@ kept_place M N sound new x there e =
     (at, ap (face_of N) at ∙ same_face M N (loop_of M x) e)
 
 pub stays_on : (M N K : Model) → Stays M N → Stays N K → Stays M K
-stays_on M N K a b = record {
-  halves = λ h there. b.halves h (a.halves h there);
-  tails = λ h there. b.tails h (a.halves h there) ∙ a.tails h there;
-  vertices = b.vertices ∙ a.vertices;
-  faces = λ g there. b.faces g (a.faces g there);
-}
+stays_on M N K a b = grind arith
 
 past : (a b : ℕ) → a < b → b ≢ a
 past a b less s = absurd (omega arith)
@@ -97,12 +92,7 @@ module _ (M : Model) (u k e f l : ℕ) (can : CanDraw M u k e f l) where
   vertices_are = refl
 
   pub draw_stays : Stays M (face_drawn M u k e f l)
-  draw_stays = record {
-    halves = half_stays M N e (tail M u) (tail M k) edges_are can.edge_free;
-    tails = tail_stays M N e (tail M u) (tail M k) edges_are can.edge_free;
-    vertices = vertices_are;
-    faces = λ g there. ap is_some (face_drawn_else M u k e f l g (row_elsewhere M.faces g f there can.face_free)) ∙ there;
-  }
+  draw_stays = grind (arith, half_stays, edges_are, tail_stays, vertices_are, face_drawn_else, row_elsewhere)
 
   pub draw_tails : (tail (face_drawn M u k e f l) (plus e) ≡ tail M u) × (tail (face_drawn M u k e f l) (minus e) ≡ tail M k)
   draw_tails = new_tails M N e (tail M u) (tail M k) edges_are can.edge_free
@@ -112,12 +102,7 @@ module _ (M : Model) (u k e f l : ℕ) (can : CanDraw M u k e f l) where
   draw_beside h there ne = kept_place M N can.sound new_sound h there (row_else (loop_of M h) ne (row_elsewhere M.loops (loop_of M h) l (loop_there M can.sound h there) can.loop_free))
 
   in_two : (h : ℕ) → HasHalf M h → loop_of M h ≡ loop_of M u → IsIn h (mef_old (plus e) u k (cycle_of M u)) ⊎ IsIn h (mef_new (minus e) u k (cycle_of M u))
-  in_two h there at =
-      let i : IsIn h (cycle_of M u) = subst (λ q. IsIn h (items_of (content M q))) at (cycle_there M can.sound h there) in
-      elim (IsIn_or_not h (mef_old (plus e) u k (cycle_of M u))) [
-        | inl j ↦ inl j
-        | inr z ↦ inr (omega (arith, i, z, count-mef_old h (plus e) u k (cycle_of M u), count-mef_new h (minus e) u k (cycle_of M u), count-halves h u k (cycle_of M u)))
-      ]
+  in_two h there at = grind (arith, cycle_there, IsIn_or_not, count-mef_old, count-mef_new, count-halves)
 
   -- what stands in u's loop is then of its face or of the new one
   pub draw_within : (h : ℕ) → HasHalf M h → loop_of M h ≡ loop_of M u → (face_at (face_drawn M u k e f l) h ≡ face_at M h) ⊎ (face_at (face_drawn M u k e f l) h ≡ f)
@@ -178,12 +163,7 @@ module _ (M : Model) (c d e : ℕ) (can : CanJoin M c d e) where
   joined_vertices = refl
 
   pub join_stays : Stays M (loops_joined M c d e)
-  join_stays = record {
-    halves = half_stays M J e (tail M c) (tail M d) joined_edges can.edge_free;
-    tails = tail_stays M J e (tail M c) (tail M d) joined_edges can.edge_free;
-    vertices = joined_vertices;
-    faces = λ g there. subst (λ t. Has t g) (sym (loops_joined_faces M c d e)) there;
-  }
+  join_stays = grind (arith, half_stays, joined_edges, tail_stays, joined_vertices, loops_joined_faces)
 
   pub join_tails : (tail (loops_joined M c d e) (plus e) ≡ tail M c) × (tail (loops_joined M c d e) (minus e) ≡ tail M d)
   join_tails = new_tails M J e (tail M c) (tail M d) joined_edges can.edge_free
@@ -214,8 +194,4 @@ module _ (M : Model) (c d e : ℕ) (can : CanJoin M c d e) where
   pub join_free : (q : ℕ) → (table.get M.faces q ≡ None → table.get (loops_joined M c d e).faces q ≡ None)
       × (table.get M.loops q ≡ None → table.get (loops_joined M c d e).loops q ≡ None)
       × (e < q → table.get M.edges q ≡ None → table.get (loops_joined M c d e).edges q ≡ None)
-  join_free q = (
-    (λ none. ap (λ t. table.get t q) (loops_joined_faces M c d e) ∙ none),
-    row_free q,
-    (λ above none. ap (λ t. table.get t q) joined_edges ∙ get-put_other M.edges e _ q (λ s. past e q above s) ∙ none),
-  )
+  join_free q = grind (arith, loops_joined_faces, row_free, joined_edges, get-put_other, past)

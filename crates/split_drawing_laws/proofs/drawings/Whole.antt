@@ -1,5 +1,5 @@
 -- The drawing of some faces, from its first operator to its model.
-use Rattle.std.proofs.Common.{◌≡◌, ◌≢◌, ℕ, ◌+◌, List, [], ◌∷◌, length, map, refl, sym, ap, ◌∙◌, subst, arith}
+use Rattle.std.proofs.Common.{◌≡◌, ◌≢◌, ℕ, ◌+◌, List, [], ◌∷◌, map, refl, sym, ap, ◌∙◌, subst, arith}
 use Rattle.std.specs.Prelude.{fold, nat_eq}
 use Rattle.euler_operators.specs.declared.Plane.{Plane}
 use Rattle.euler_operators.specs.Items.{count, tick}
@@ -28,13 +28,7 @@ module _ (D K : Model) (f g : ℕ) (drawn : DrawnIn D K f) (other : g ≢ f) whe
   beside h there at = let b = drawn.beside h there (λ e. other (sym at ∙ e)) in (b.0, b.1 ∙ at)
 
   fits_stay : (q : ℕ × ℕ) → Fits D g q → Fits K g q
-  fits_stay q w = record {
-    u_there = drawn.stays.halves q.0 w.u_there;
-    k_there = drawn.stays.halves q.1 w.k_there;
-    u_face = (beside q.0 w.u_there w.u_face).1;
-    k_face = (beside q.1 w.k_there w.k_face).1;
-    apart = λ s. w.apart (sym (drawn.stays.tails q.0 w.u_there) ∙ s ∙ drawn.stays.tails q.1 w.k_there);
-  }
+  fits_stay q w = grind (arith, beside)
 
   all_fit_stay : (qs : List (ℕ × ℕ)) → AllFit D g qs → AllFit K g qs
   all_fit_stay [] w = tt
@@ -69,13 +63,7 @@ module _ (p : Plane) (d : Drawing) (f : FacePairs) (fs : List FacePairs) (n : �
   next_is = refl
 
   pub ready : Ready p f.face f.pairs d (pairs_in fs + n)
-  ready = record {
-    sound = w.sound;
-    fresh = w.fresh;
-    room = subst (PairsHaveRoom d.taken) (let s : length f.pairs + pairs_in fs + n ≡ length f.pairs + (pairs_in fs + n) = omega arith in s) w.room;
-    fit = w.fit.0.0;
-    alone = w.fit.0.1;
-  }
+  ready = grind arith
 
   gone : Gone d (next_drawn p d f) f.face (face_ops p f.face f.pairs d) (pairs_in fs + n)
   gone = subst (λ x. Gone d x f.face (face_ops p f.face f.pairs d) (pairs_in fs + n)) (sym next_is) (face_goes p f.face f.pairs d (pairs_in fs + n) ready)
@@ -114,13 +102,7 @@ all_go p d (f ∷ fs) n w =
 
 module _ (g : Growing) (fs : List FacePairs) (can : CanBeDrawn g fs) where
   pub drawable : Drawable (undrawn g) fs 0
-  drawable = record {
-    sound = can.sound;
-    fresh = can.fresh;
-    room = subst (PairsHaveRoom g.taken) (let s : pairs_in fs ≡ pairs_in fs + 0 = omega arith in s) can.room;
-    fit = can.fit;
-    apart = can.apart;
-  }
+  drawable = grind arith
 
 module _ (p : Plane) (g : Growing) (fs : List FacePairs) (can : CanBeDrawn g fs) where
   all : AllGone (undrawn g) (faces_drawn p (undrawn g) fs) (ops_from p (undrawn g) fs) 0

@@ -1,13 +1,13 @@
 -- Faces by their half-edges: which half-edges bound a face, and when all corners of a face lie on a plane.
-use Rattle.std.proofs.Common.{◌≡◌, ◌≢◌, ℕ, true, ◌&&◌, List, [], ◌∷◌, Option, Some, None, is_some, unwrap_or, refl, sym, ap, ◌∙◌, subst, arith, inl, inr, Bool, false, ◌⊎◌, true≢false}
+use Rattle.std.proofs.Common.{◌≡◌, ◌≢◌, ℕ, true, ◌&&◌, List, [], ◌∷◌, Some, is_some, unwrap_or, refl, sym, ap, ◌∙◌, subst, arith, inl, inr, ◌⊎◌}
 use Rattle.std.proofs.lemmas.Bool.{and_parts}
 use Rattle.std.proofs.lemmas.Bool.Decides.{eqb_tells}
 use Rattle.euler_operators.specs.declared.Plane.{Plane}
 use Rattle.euler_operators.specs.Vectors.{moved, cross, is_on}
-use Rattle.euler_operators.specs.Items.{count, IsIn, tick}
+use Rattle.euler_operators.specs.Items.{count, IsIn}
 use Rattle.euler_operators.specs.HalfEdge.{mate, plus, minus}
 use Rattle.euler_operators.specs.Table as table
-use Rattle.euler_operators.specs.Model.{Model, LoopContent, LoopRow, lone, cycle, no_loop, no_point, items_of, tail, content, outer, point_of, loop_of, face_of, EdgeRow, has_half}
+use Rattle.euler_operators.specs.Model.{Model, LoopContent, lone, cycle, no_point, items_of, tail, content, outer, point_of, loop_of, face_of, EdgeRow}
 use Rattle.euler_operators.specs.Sound.{Sound, Has, HasHalf}
 use Rattle.euler_operators.specs.Conditions.{face_at}
 use Rattle.euler_operators.specs.declared.Point.{Point}
@@ -38,10 +38,7 @@ pub record OnFace (N : Model) (t : Plane) (f : ℕ) : Type 0 where
 -- a lone loop is there
 pub lone_there : (N : Model) (q v : ℕ) → content N q ≡ lone v → Has N.loops q
 unfolding content
-lone_there N q v e = go (table.get N.loops q) e where
-  go : (o : Option LoopRow) → (unwrap_or o no_loop).content ≡ lone v → is_some o ≡ true
-  go None e = absurd (never_lone [] v e)
-  go (Some row) e = refl
+lone_there N q v e = grind (arith, never_lone)
 
 module _ (N : Model) (sound : Sound N) where
   -- the loops of a face are of it
@@ -116,10 +113,7 @@ module _ (N K : Model) (sound : Sound N) (stays : Stays N K) where
 -- ---- a model with one edge more: its half-edges, and faces that keep theirs
 
 pub half_there : (N : Model) (h : ℕ) → HasHalf N h ⊎ (HasHalf N h → ⊥)
-half_there N h = go (has_half N h) refl where
-  go : (b : Bool) → has_half N h ≡ b → HasHalf N h ⊎ (HasHalf N h → ⊥)
-  go true e = inl e
-  go false e = inr (λ t. true≢false (sym t ∙ e))
+half_there N h = grind arith
 
 pub normal_is : (N : Model) (f : ℕ) → normal N f ≡ area N (boundary N f)
 unfolding normal
@@ -170,20 +164,7 @@ module _ (N K : Model) (sound : Sound N) (new : Sound K) (stays : Stays N K) (f 
 -- n is how often h stands in a list with both halves of e, where each case is known
 pub two_halves : (h e n : ℕ) (zs : List ℕ) → (h ≡ plus e → (n ≡ 1) × (count h zs ≡ 0)) → (h ≡ minus e → (n ≡ 1) × (count h zs ≡ 0)) →
     (h ≢ plus e → h ≢ minus e → n ≡ count h zs) → n ≡ count h (plus e ∷ minus e ∷ zs)
-two_halves h e n zs first second else = elim (eqb_tells h (plus e)) [
-  | inl a ↦
-      let w = first a.1 in
-      let p : tick h (plus e) ≡ 1 = ap (λ x. tick x (plus e)) a.1 ∙ tick_same (plus e) in
-      let m : tick h (minus e) ≡ 0 = tick_other h (minus e) (λ s. plus_other e (sym a.1 ∙ s)) in
-      omega (arith, w.0, w.1, p, m)
-  | inr a ↦ elim (eqb_tells h (minus e)) [
-    | inl b ↦
-        let w = second b.1 in
-        let m : tick h (minus e) ≡ 1 = ap (λ x. tick x (minus e)) b.1 ∙ tick_same (minus e) in
-        omega (arith, w.0, w.1, m, tick_other h (plus e) a.1)
-    | inr b ↦ omega (arith, else a.1 b.1, tick_other h (plus e) a.1, tick_other h (minus e) b.1)
-  ]
-]
+two_halves h e n zs first second else = grind (arith, tick_same, tick_other, plus_other)
 
 -- the two halves of an edge have no area
 pub no_area : (K : Model) (e : ℕ) (hs : List ℕ) → area K (plus e ∷ minus e ∷ hs) ≡ area K hs

@@ -4,7 +4,7 @@ use Rattle.std.proofs.Common.{◌≡◌, ◌≢◌, ℕ, None, is_some, refl, sy
 use Rattle.std.proofs.lemmas.Bool.Decides.{eqb_tells}
 use Rattle.euler_operators.specs.declared.Plane.{Plane}
 use Rattle.euler_operators.specs.Table as table
-use Rattle.euler_operators.specs.Model.{Model, outer, solid_of, faces_of}
+use Rattle.euler_operators.specs.Model.{Model, solid_of, faces_of}
 use Rattle.euler_operators.specs.Sound.{Sound, Has}
 use Rattle.euler_operators.specs.Conditions.{face_at, first_refusal, lists}
 use Rattle.euler_operators.specs.Effect.{ring_in}
@@ -52,14 +52,7 @@ pub record Within (M X : Model) (f : ℕ) : Type 0 where
   pub new_solid : (g : ℕ) → Has X.faces g → table.get M.faces g ≡ None → solid_of X g ≡ solid_of M f
 
 pub nothing_within : (M : Model) (f : ℕ) → Within M M f
-nothing_within M f = record {
-  volumes = λ v. refl;
-  there = λ g there. there;
-  olds = λ g there t on. on;
-  news = λ g there none. absurd (never_free M.faces g there none);
-  old_solid = λ g there. refl;
-  new_solid = λ g there none. absurd (never_free M.faces g there none);
-}
+nothing_within M f = grind (arith, never_free)
 
 -- face f of M lies on a plane
 module _ (M : Model) (f : ℕ) (sound : Sound M) (f_there : Has M.faces f) (r : Plane) (some : IsPlane r) (on_f : OnFace M r f) where
@@ -139,13 +132,7 @@ module _ (M : Model) (f : ℕ) (sound : Sound M) (f_there : Has M.faces f) (r : 
     f_other s = never_free M.faces f f_there (ap (table.get M.faces) s ∙ newer.new)
 
     moves_on : CanMove X f l k
-    moves_on = record {
-      sound = drawn.sound;
-      goes = record { l_there = ring.there; f_there = newer.there; one_solid = ap (solid_of X) ring.face ∙ newer.solid; is_ring = λ e. ring.inner (ap (outer X) (sym ring.face) ∙ e) };
-      face = ring.face;
-      f_there = w.there f f_there;
-      apart = f_other;
-    }
+    moves_on = grind (arith, f_other)
 
     row_same : (g : ℕ) → table.get R.faces g ≡ table.get X.faces g
     row_same g = ap (λ t. table.get t g) (ring_faces X l k moves_on.sound moves_on.goes)
@@ -191,12 +178,7 @@ pub record Spread (B X : Model) (s : ℕ) : Type 0 where
   pub origin : (g : ℕ) → Has X.faces g → solid_of X g ≡ s → Comes B X s g
 
 pub nothing_spread : (B : Model) (s : ℕ) → Spread B B s
-nothing_spread B s = record {
-  volumes = λ v. refl;
-  there = λ g there. there;
-  old_solid = λ g there. refl;
-  origin = λ g there of_s. record { face = g; there = there; solid = of_s; own = λ t. refl; on = λ t on. on };
-}
+nothing_spread B s = grind arith
 
 -- each face of solid s lies on a plane
 pub record LiesFlat (B : Model) (f : ℕ) : Type 0 where

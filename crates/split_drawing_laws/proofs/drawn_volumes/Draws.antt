@@ -65,10 +65,7 @@ module _ (N : Model) (u k e g l : ℕ) (can : CanDraw N u k e g l) where
       ∙ face_row K l _ (row_new N u k e g l can)
 
   face_then : (h : ℕ) → HasHalf N h → (face_at K h ≡ face_at N h) ⊎ ((face_at N h ≡ F) × (face_at K h ≡ g))
-  face_then h there = elim (eqb_tells (loop_of N h) (loop_of N u)) [
-    | inl s ↦ elim (draw_within N u k e g l can h there s.1) [ inl a ↦ inl a | inr b ↦ inr (ap (face_of N) s.1, b) ]
-    | inr s ↦ inl (draw_beside N u k e g l can h there s.1).1
-  ]
+  face_then h there = grind (arith, draw_within, draw_beside)
 
   k_face : face_at N k ≡ F
   k_face = ap (face_of N) (sym can.one_loop)
@@ -173,12 +170,7 @@ module _ (N : Model) (u k e g l : ℕ) (can : CanDraw N u k e g l) where
 
   -- another face keeps its half-edges
   pub normal_else : (f : ℕ) → Has N.faces f → f ≢ face_at N u → normal (face_drawn N u k e g l) f ≡ normal N f
-  normal_else f there ne = normal_kept N K can.sound K_sound stays f there
-      (λ h now at. elim (cases h now) [
-        | inl was ↦ elim (face_then h was) [ inl same ↦ (was, sym same ∙ at) | inr new ↦ absurd (not_new f there (sym at ∙ new.1)) ]
-        | inr new ↦ absurd (elim new [ inl is ↦ ne (sym at ∙ ap (face_at K) is ∙ plus_face) | inr is ↦ not_new f there (sym at ∙ ap (face_at K) is ∙ minus_face) ])
-      ])
-      (λ h was at. elim (face_then h was) [ inl same ↦ same ∙ at | inr new ↦ absurd (ne (sym at ∙ new.0)) ])
+  normal_else f there ne = grind (arith, normal_kept, K_sound, stays, cases, face_then, not_new, plus_face, minus_face)
 
   pub outer_else : (f : ℕ) → Has N.faces f → outer (face_drawn N u k e g l) f ≡ outer N f
   outer_else f there = same_outer N K f (face_else f (not_new f there))

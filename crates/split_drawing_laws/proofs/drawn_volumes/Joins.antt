@@ -86,12 +86,7 @@ module _ (N : Model) (c d e : ℕ) (can : CanJoin N c d e) where
     same_count h was = one_count N K can.sound J_sound stays f there h was (join_faces N c d e can h was)
 
     normal_else : f ≢ F → normal K f ≡ normal N f
-    normal_else ne = normal_kept N K can.sound J_sound stays f there
-        (λ h now at. elim (cases h now) [
-          | inl was ↦ (was, sym (join_faces N c d e can h was) ∙ at)
-          | inr new ↦ absurd (elim new [ inl is ↦ ne (sym at ∙ ap (face_at K) is ∙ plus_face) | inr is ↦ ne (sym at ∙ ap (face_at K) is ∙ minus_face) ])
-        ])
-        (λ h was at. join_faces N c d e can h was ∙ at)
+    normal_else ne = grind (arith, normal_kept, J_sound, stays, cases, join_faces, plus_face, minus_face)
 
     normal_here : f ≡ F → normal K f ≡ normal N f
     normal_here at = normal_is K f ∙ area_same K (boundary K f) (plus e ∷ minus e ∷ boundary N f) (λ h. two_halves h e (count h (boundary K f)) (boundary N f)

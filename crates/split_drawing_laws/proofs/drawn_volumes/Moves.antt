@@ -96,12 +96,7 @@ module _ (N : Model) (f l k : ℕ) (can : CanMove N f l k) where
       ∙ area_same K (boundary K f ++ boundary K k) (boundary N f ++ boundary N k) both ∙ area-append K (boundary N f) (boundary N k) ∙ (λ i. moved (area_after N K can.sound (ring_stays N l k can.sound can.goes) f i) (area_after N K can.sound (ring_stays N l k can.sound can.goes) k i))
 
   pub normal_else : (g : ℕ) → Has N.faces g → g ≢ f → g ≢ k → normal (ring_in N l k) g ≡ normal N g
-  normal_else g there not_f not_k = normal_kept N K can.sound (ring_sound N l k can.sound can.goes) (ring_stays N l k can.sound can.goes) g there
-      (λ h now at. let was = ring_back N l k can.sound can.goes h now in elim (eqb_tells (loop_of N h) l) [
-        | inl s ↦ absurd (not_k (sym at ∙ (gone h was s.1).1))
-        | inr s ↦ (was, sym (face_kept N l k can.sound can.goes h was s.1) ∙ at)
-      ])
-      (λ h was at. elim (eqb_tells (loop_of N h) l) [ inl s ↦ absurd (not_f (sym at ∙ (gone h was s.1).0)) | inr s ↦ face_kept N l k can.sound can.goes h was s.1 ∙ at ])
+  normal_else g there not_f not_k = grind (arith, normal_kept, ring_sound, ring_stays, ring_back, gone, face_kept)
 
   -- each face keeps its anchor
   pub anchor_moved : (g : ℕ) → Has N.faces g → anchor (ring_in N l k) g ≡ anchor N g

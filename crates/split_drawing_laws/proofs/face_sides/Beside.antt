@@ -1,11 +1,11 @@
 -- What stays beside a face in which edges are drawn: the rows of other faces and of their loops.
 use Rattle.std.specs.Prelude.{fold}
 use Rattle.std.specs.Option.{option_map}
-use Rattle.std.proofs.Common.{◌≡◌, ◌≢◌, ℕ, Bool, true, false, cond, nat_eq, ◌||◌, List, [], ◌∷◌, Option, Some, None, is_some, unwrap_or, refl, sym, ap, ◌∙◌, subst, arith, ◌⊎◌, inl, inr, true≢false, ◌++◌, ne_eqb}
-use Rattle.std.proofs.lemmas.Bool.Decides.{nat_tests, eqb_tells}
+use Rattle.std.proofs.Common.{◌≡◌, ◌≢◌, ℕ, true, false, cond, List, [], ◌∷◌, Option, Some, None, is_some, refl, sym, ap, ◌∙◌, subst, arith, ◌⊎◌, inl, inr, true≢false, ◌++◌, ne_eqb}
+use Rattle.std.proofs.lemmas.Bool.Decides.{eqb_tells}
 use Rattle.euler_operators.specs.Table as table
 use Rattle.euler_operators.specs.Table.{Table, get-map_rows}
-use Rattle.euler_operators.specs.Model.{Model, LoopRow, no_loop, loop_of, face_of, content, items_of, tail, outer, cycle_of}
+use Rattle.euler_operators.specs.Model.{Model, LoopRow, loop_of, face_of, content, items_of, tail, outer, cycle_of}
 use Rattle.euler_operators.specs.Sound.{Has, HasHalf}
 use Rattle.euler_operators.specs.Conditions.{face_at, lists}
 use Rattle.euler_operators.specs.Effect.{loop_to_face}
@@ -67,17 +67,7 @@ abbrev pub given : List ℕ → ℕ → ℕ → LoopRow → LoopRow
 given ls k q row = cond (lists ls q) (record row { face = k }) row
 
 given_twice : (l : ℕ) (ls : List ℕ) (k q : ℕ) (row : LoopRow) → given ls k q (loop_to_face l k q row) ≡ given (l ∷ ls) k q row
-given_twice l ls k q row = go (nat_eq q l) (nat_eq l q) (lists ls q) turned where
-  turned : nat_eq q l ≡ nat_eq l q
-  turned = grind (arith, nat_tests)
-
-  go : (a b c : Bool) → a ≡ b → cond c (record (cond a (record row { face = k }) row) { face = k }) (cond a (record row { face = k }) row) ≡ cond (b || c) (record row { face = k }) row
-  go true true true e = refl
-  go true true false e = refl
-  go true false c e = absurd (true≢false e)
-  go false true c e = absurd (true≢false (sym e))
-  go false false true e = refl
-  go false false false e = refl
+given_twice l ls k q row = grind arith
 
 rows_given : (t : Table LoopRow) (ls : List ℕ) (k q : ℕ) → table.get (fold (λ t l. table.map_rows (loop_to_face l k) t) t ls) q ≡ option_map (given ls k q) (table.get t q)
 rows_given t [] k q = go (table.get t q) where
@@ -92,30 +82,18 @@ rows_given t (l ∷ ls) k q = rows_given (table.map_rows (loop_to_face l k) t) l
 module _ (N : Model) (ls : List ℕ) (k q : ℕ) where
   pub given_content : content (with_rings N ls k) q ≡ content N q
   unfolding content
-  given_content = ap (λ o. (unwrap_or o no_loop).content) (rows_given N.loops ls k q) ∙ go (table.get N.loops q) where
-    go : (o : Option LoopRow) → (unwrap_or (option_map (given ls k q) o) no_loop).content ≡ (unwrap_or o no_loop).content
-    go None = refl
-    go (Some row) = content_either (lists ls q) row k
+  given_content = grind (arith, rows_given, content_either)
 
   pub given_has : table.has (with_rings N ls k).loops q ≡ table.has N.loops q
-  given_has = ap is_some (rows_given N.loops ls k q) ∙ go (table.get N.loops q) where
-    go : (o : Option LoopRow) → is_some (option_map (given ls k q) o) ≡ is_some o
-    go None = refl
-    go (Some row) = refl
+  given_has = grind (arith, rows_given)
 
   -- another loop keeps its row
   pub given_else : lists ls q ≡ false → table.get (with_rings N ls k).loops q ≡ table.get N.loops q
-  given_else e = rows_given N.loops ls k q ∙ go (table.get N.loops q) where
-    go : (o : Option LoopRow) → option_map (given ls k q) o ≡ o
-    go None = refl
-    go (Some row) = ap (λ b. Some (cond b (record row { face = k }) row)) e
+  given_else e = grind (arith, rows_given)
 
   pub given_face : lists ls q ≡ true → Has N.loops q → face_of (with_rings N ls k) q ≡ k
   unfolding face_of
-  given_face e there = ap (λ o. (unwrap_or o no_loop).face) (rows_given N.loops ls k q) ∙ go (table.get N.loops q) there where
-    go : (o : Option LoopRow) → is_some o ≡ true → (unwrap_or (option_map (given ls k q) o) no_loop).face ≡ k
-    go None t = absurd (true≢false (sym t))
-    go (Some row) t = ap (λ b. (cond b (record row { face = k }) row).face) e
+  given_face e there = grind (arith, rows_given)
 
 -- ---- where a face has no ring, no face that is cut off it has one
 
@@ -155,10 +133,7 @@ module _ (N : Model) (u k e g l : ℕ) (can : CanDraw N u k e g l) where
 
   module _ (M : Model) (f : ℕ) (drawn : ComesOf M f (face_at N u)) (new : table.get M.faces g ≡ None) (w : Beside M N f) where
     not_drawn : (h : ℕ) → h ≢ f → Has M.faces h → face_at N u ≢ h
-    not_drawn h ne old s = elim drawn [
-      | inl a ↦ ne (sym s ∙ a)
-      | inr a ↦ never_free M.faces h old (ap (table.get M.faces) (sym s) ∙ a)
-    ]
+    not_drawn h ne old s = grind (arith, never_free)
 
     pub drawn_beside : Beside M (face_drawn N u k e g l) f
     drawn_beside = record {

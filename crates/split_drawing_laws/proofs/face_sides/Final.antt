@@ -95,13 +95,7 @@ module _ (M : Model) (s : ℕ) (p : Plane) (t : ℕ) (sound : Sound M) (begins :
   straddling_there f i = subst (λ u. Has u f) (sym (crossings_keep M s p t sound begins).faces) (face_facts M s p f i).0
 
   none_done : Stage N N side s fs fs
-  none_done = record {
-    stays = record { halves = λ h there. there; tails = λ h there. refl; vertices = refl; faces = λ g there. there };
-    kept = λ h there z. refl;
-    rows = λ g there. refl;
-    done = sided_first M s p t sound begins;
-    to_do = λ f i. record { there = straddling_there f i; row = refl; loops = λ q there at. refl };
-  }
+  none_done = grind (arith, sided_first, straddling_there)
 
   pairs_here : (gs : List ℕ) → ((f : ℕ) → IsIn f gs → IsIn f fs) → AllPairsOf N side p (all_pairs M N p gs)
   pairs_here [] within = tt

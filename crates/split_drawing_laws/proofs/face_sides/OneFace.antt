@@ -1,6 +1,6 @@
 -- The two passes over the pairs of a face: what stays beside it, and that it stays without rings.
 use Rattle.std.specs.Prelude.{fold}
-use Rattle.std.proofs.Common.{◌≡◌, ℕ, ◌+◌, List, [], ◌∷◌, ◌++◌, ◌∙◌, ◌≢◌, suc, Bool, true, false, cond, nat_eq, nat_lt, ◌&&◌, length, None, is_some, refl, sym, ap, subst, arith, inl, inr, true≢false}
+use Rattle.std.proofs.Common.{◌≡◌, ℕ, ◌+◌, List, [], ◌∷◌, ◌++◌, ◌∙◌, ◌≢◌, suc, Bool, true, false, cond, nat_eq, nat_lt, ◌&&◌, length, None, is_some, refl, sym, ap, subst, arith, inl, inr}
 use Rattle.std.proofs.lemmas.Bool.Decides.{nat_tests, eqb_tells}
 use Rattle.std.proofs.lemmas.Bool.{false_from_ne_true}
 use Rattle.euler_operators.specs.Model.{Model, holds, content, loop_of, face_of, outer}
@@ -18,11 +18,11 @@ use Rattle.split_drawing_laws.specs.drawings.DrawnIn.{Stays, PairsHaveRoom}
 use Rattle.split_drawing_laws.specs.drawings.Pairs.{AllFit}
 use Rattle.split_drawing_laws.specs.drawings.Passing.{Joining, Going, Ready}
 use Rattle.split_drawing_laws.proofs.drawings.Pairs.{was_free, none_joined, joined_drawn, pair_can}
-use Rattle.split_drawing_laws.proofs.drawings.Passes.{either_now, joins_keep, cut_off, face_open, can_now, draws_keep, join_next_one, stuck_now, draw_next_one, edge_fits, face_fits, loop_fits, room_as}
+use Rattle.split_drawing_laws.proofs.drawings.Passes.{either_now, joins_keep, cut_off, face_open, can_now, draws_keep, stuck_now, edge_fits, face_fits, loop_fits, room_as}
 use Rattle.split_drawing_laws.proofs.drawings.Stays.{draw_stays, stays_on, row_else}
 use Rattle.split_drawing_laws.proofs.drawings.Drawn.{loops_joined_faces, CanDraw, face_drawn_else}
 use Rattle.split_drawing_laws.proofs.face_sides.Beside.{Alone, draw_alone, Beside, ComesOf, joined_beside, drawn_beside, Lone, nothing_beside, never_free, given_has, given_else, given_face}
-use Rattle.split_drawing_laws.proofs.drawings.Faces.{face_goes, begun_joining, joins, going}
+use Rattle.split_drawing_laws.proofs.drawings.Faces.{drawn_is, face_goes, begun_joining, joins, going}
 use Rattle.split_drawing_laws.proofs.loop_sides.SidesWhole.{draws_go_on}
 use Rattle.split_drawing_laws.proofs.half_sides.PlaceEnds.{AllUp}
 use Rattle.split_drawing_laws.proofs.face_sides.Shared.{above_stays, HeldOn, LiesOnSide, Cut, old_lies, new_lies}
@@ -127,14 +127,8 @@ module _ (B : Model) (side : ℕ → Bool) (p : Plane) (f : ℕ) (q : ℕ × ℕ
   abbrev K : Model
   K = face_drawn X q.0 q.1 e g l
 
-  abbrev held : Drawing
-  held = record d { left = q ∷ [] }
-
-  drawn_is : all_drawn f (ring_free f (q ∷ []) (all_joined (q ∷ []) d)) ≡ cut_off held q
-  drawn_is = ap (λ x. all_drawn f (ring_free f (q ∷ []) x)) (join_next_one (record d { left = [] }) q w.alone) ∙ draw_next_one f held q w.alone
-
   shared_is : (drawn_between p f (q ∷ []) d).model ≡ with_rings K (rings_above K p f) g
-  shared_is = ap (λ x. (rings_shared p f (q ∷ []) x).model) drawn_is
+  shared_is = ap (λ x. (rings_shared p f (q ∷ []) x).model) (drawn_is p f q d n w)
 
   room_one : PairsHaveRoom d.taken (suc n)
   room_one = room_as d.taken (length (q ∷ []) + n) (suc n) (omega arith) w.room
@@ -242,10 +236,7 @@ module _ (B : Model) (side : ℕ → Bool) (p : Plane) (f : ℕ) (q r : ℕ × �
       (sym (ap (λ b. (all_drawn f (cond b (stuck_at f J) J)).stuck) e) ∙ ap (λ x. x.stuck) (sym unshared) ∙ free))
 
   no_rings : has_rings J.model f ≡ false
-  no_rings = second_of (nat_lt 1 (length ps)) (has_rings J.model f) more not_stopped where
-    second_of : (a b : Bool) → a ≡ true → (a && b) ≡ false → b ≡ false
-    second_of true b t e = e
-    second_of false b t e = absurd (true≢false (sym t))
+  no_rings = grind (arith, more, not_stopped)
 
   many_is : drawn_between p f ps d ≡ D
   many_is = unshared ∙ ap (λ b. all_drawn f (cond b (stuck_at f J) J)) not_stopped

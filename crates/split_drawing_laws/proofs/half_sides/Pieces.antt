@@ -58,9 +58,7 @@ module _ (N : Model) (e k v : ℕ) (q : Point) (goes : CutGoes N e k v q) where
 
   -- the old minus half leads to the new one
   pub after_second : after (edge_cut N e k v q) (minus e) ≡ minus k
-  after_second = leads (minus e) ((cut_keeps N e k v q goes).halves (minus e) (minus_there N e goes.can.there))
-      ∙ mev_at_d (after N) (plus k) (mate (plus k)) (plus e) (after N (minus e)) (minus e) (fresh (minus e) (minus_there N e goes.can.there)).0 (fresh (minus e) (minus_there N e goes.can.there)).1 loops_apart refl
-      ∙ mate_plus k
+  after_second = grind (arith, leads, cut_keeps, minus_there, mev_at_d, fresh, loops_apart, mate_plus)
 
   -- the others lead where they did
   pub after_else : (x : ℕ) → HasHalf N x → x ≢ minus e → after N x ≢ plus e → after (edge_cut N e k v q) x ≡ after N x

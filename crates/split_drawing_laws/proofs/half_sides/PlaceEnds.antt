@@ -1,13 +1,13 @@
 -- The half-edges that start at the cut places of faces, each once.
 use Rattle.std.specs.Prelude.{map}
 use Rattle.std.specs.List.{list_all}
-use Rattle.std.proofs.Common.{◌≡◌, ℕ, ◌≤◌, List, [], ◌∷◌, ap, subst, arith, inl, inr, ◌≢◌, Bool, true, false, cond, not, ◌||◌, pos, refl, sym, ◌∙◌, true≢false}
+use Rattle.std.proofs.Common.{◌≡◌, ℕ, ◌≤◌, List, [], ◌∷◌, ap, subst, arith, inl, inr, ◌≢◌, Bool, true, false, cond, not, pos, refl, sym, ◌∙◌, true≢false}
 use Rattle.std.proofs.lemmas.Bool.Decides.{eqb_tells}
 use Rattle.std.proofs.lemmas.Bool.{and_parts}
 use Rattle.euler_operators.specs.declared.Plane.{Plane}
 use Rattle.euler_operators.specs.Items.{count, IsIn, IsApart, tick}
 use Rattle.euler_operators.specs.Model.{Model, solid_of, after}
-use Rattle.euler_operators.specs.Vectors.{height, is_above, is_on, cut_between}
+use Rattle.euler_operators.specs.Vectors.{height, is_on, cut_between}
 use Rattle.euler_operators.specs.HalfEdge.{edge_of, plus}
 use Rattle.euler_operators.specs.Table as table
 use Rattle.euler_operators.specs.Sound.{Sound, Has, HasHalf}
@@ -23,14 +23,14 @@ use Rattle.euler_laws.proofs.shared.Listed.{listed-from_in}
 use Rattle.shapes.specs.split.Drawing.{drawn_pairs, all_pairs, from_place}
 use Rattle.shapes.specs.Faces.{start, finish, boundary}
 use Rattle.shapes.specs.split.Sides.{crosses, reaches_above, straddling_faces, crossing_edges}
-use Rattle.shapes.specs.split.Places.{is_place, place_point, places, goes_up, some_meet, is_crossed, is_up_and_down, in_pairs, sorted, sorted_pairs, place_pairs}
+use Rattle.shapes.specs.split.Places.{is_place, place_point, places, goes_up, is_crossed, is_up_and_down, in_pairs, sorted, sorted_pairs, place_pairs}
 use Rattle.shapes.specs.split.Crossings.{with_crossings}
 use Rattle.split_drawing_laws.specs.loop_sides.Parted.{ends, all_ends, Crosses, AllCross}
 use Rattle.split_drawing_laws.specs.crossings.AtPlace.{AtPlace}
 use Rattle.split_drawing_laws.specs.crossings.Laws.{CanBegin}
 use Rattle.split_drawing_laws.specs.half_sides.HalfSides.{half_is_above, side_of}
 use Rattle.split_drawing_laws.proofs.crossings.Whole.{at_place, item_there, item_face, turned, in_crossing, on_when, can_cut, crossings_sound}
-use Rattle.split_drawing_laws.proofs.crossings.Premises.{Cuttable, edge_facts, crossing_here, crossing_point, one_point, face_facts}
+use Rattle.split_drawing_laws.proofs.crossings.Premises.{edge_facts, crossing_here, crossing_point, one_point, face_facts}
 use Rattle.split_drawing_laws.proofs.pairs.Sorted.{between, drawn, points_apart, all_places_drawn, count-sorted, sorted_apart}
 use Rattle.split_drawing_laws.proofs.pairs.LoopPlaces.{places_even}
 use Rattle.split_drawing_laws.proofs.pairs.Whole.{places_apart, place_face}
@@ -133,14 +133,7 @@ module _ (M : Model) (s : ℕ) (p : Plane) (t : ℕ) (sound : Sound M) (begins :
 
     -- the point of a place inside an edge
     cut_level : (h : ℕ) → IsIn (edge_of h) (crossing_edges M p s) → height p (place_point M p h) ≡ pos 0
-    cut_level h k =
-        let c : Cuttable M s p = can_cut M s p t sound begins in
-        let first : height p (place_point M p (plus (edge_of h))) ≡ pos 0 =
-        ap (height p) (crossing_point M sound s p c (edge_of h) k (plus (edge_of h)) (edge_facts M sound s p (edge_of h) k).2) ∙ (crossing_here M sound s p c (edge_of h) k).level in
-        elim (halves_of_edge h) [
-          | inl e ↦ ap (λ x. height p (place_point M p x)) e.0 ∙ first
-          | inr e ↦ ap (λ x. height p (place_point M p x)) e.0 ∙ ap (height p) (sym (one_point M sound s p c (edge_of h) k)) ∙ first
-        ]
+    cut_level h k = grind (arith, can_cut, crossing_point, edge_facts, crossing_here, halves_of_edge, one_point)
 
     point_on : (h : ℕ) → IsIn h (places M p f) → is_on p (place_point M p h) ≡ true
     unfolding place_point
@@ -164,21 +157,12 @@ module _ (M : Model) (s : ℕ) (p : Plane) (t : ℕ) (sound : Sound M) (begins :
         ap (finish N) (sym b.2) ∙ w.ends ∙ ap (finish M) same
 
     pub side_at : (h : ℕ) → IsIn h (places M p f) → side_of M s p (from_place N p h) ≡ goes_up M p h
-    side_at h j = side_within (from_place N p h) (subst (λ z. IsIn z fs) (sym (place_face M s p t sound begins f i h j)) i)
-        ∙ side_ahead (height p (start N (from_place N p h))) (height p (finish N (from_place N p h))) (place_on h j)
-        ∙ ap (is_above p) (finish_is h j)
+    side_at h j = grind (arith, side_within, place_face, side_ahead, place_on, finish_is)
 
     -- ---- pairs of places, one up and one down
 
     two_cross : (a b : ℕ) → IsIn a (places M p f) → IsIn b (places M p f) → a ≢ b → goes_up M p a ≡ not (goes_up M p b) → Crosses N p (side_of M s p) (between M N p (a, b))
-    two_cross a b j k ne turned_up = record {
-      u_there = place_there a j;
-      k_there = place_there b k;
-      apart = λ e. ne (place_once a b j k e);
-      u_on = place_on a j;
-      k_on = place_on b k;
-      sides = side_at a j ∙ turned_up ∙ ap not (sym (side_at b k));
-    }
+    two_cross a b j k ne turned_up = grind (arith, place_there, place_once, place_on, side_at)
 
     either_cross : (c : Bool) (a b : ℕ) → Crosses N p (side_of M s p) (between M N p (a, b)) → Crosses N p (side_of M s p) (between M N p (b, a)) → Crosses N p (side_of M s p) (between M N p (cond c (a, b) (b, a)))
     either_cross true a b x y = x
@@ -205,11 +189,7 @@ module _ (M : Model) (s : ℕ) (p : Plane) (t : ℕ) (sound : Sound M) (begins :
 
     all_up_and_down : list_all (is_up_and_down M p) (sorted_pairs M p f) ≡ true
     unfolding is_crossed
-    all_up_and_down = second_of (some_meet M p (places M p f)) (list_all (is_up_and_down M p) (sorted_pairs M p f)) ((can_cut M s p t sound begins).uncrossed f i) where
-      second_of : (a b : Bool) → (a || not b) ≡ false → b ≡ true
-      second_of true b e = absurd (true≢false e)
-      second_of false true e = refl
-      second_of false false e = absurd (true≢false e)
+    all_up_and_down = grind (arith, can_cut)
 
     pub pairs_cross : AllCross N p (side_of M s p) (drawn_pairs M N p f)
     unfolding drawn_pairs place_pairs sorted_pairs

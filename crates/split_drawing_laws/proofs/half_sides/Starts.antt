@@ -99,10 +99,7 @@ module _ (M : Model) (s : ℕ) (p : Plane) (t : ℕ) (sound : Sound M) (begins :
   old_face h there = ap (face_of N) (keep.loop h there) ∙ keep.face (loop_of M h)
 
   crossing_half : (h : ℕ) → IsIn (edge_of h) es → crosses M p h ≡ true
-  crossing_half h i = elim (halves_of_edge h) [
-    | inl e ↦ subst (λ x. crosses M p x ≡ true) (sym e.0) (edge_facts M sound s p (edge_of h) i).2
-    | inr e ↦ subst (λ x. crosses M p x ≡ true) (sym e.0) (minus_is M sound s p premises (edge_of h) i)
-  ]
+  crossing_half h i = grind (arith, halves_of_edge, edge_facts, minus_is, premises)
 
   in_boundary : (h f : ℕ) → HasHalf M h → face_at M h ≡ f → IsIn h (boundary M f)
   in_boundary h f there at = subst (λ g. IsIn h (boundary M g)) at (item_in_face M h (loop_of M h) (loop_there M sound h there) (cycle_there M sound h there))
@@ -242,13 +239,7 @@ module _ (M : Model) (s : ℕ) (p : Plane) (t : ℕ) (sound : Sound M) (begins :
       same_end = uncut_start (mate y) (mate_there M y old) (ap (λ z. count z es) (edge_of-mate y) ∙ uncut)
 
       at_corner : TurnAt M N p x
-      at_corner = record {
-        place = y;
-        of_face = in_places y f old of_f is_then_place;
-        is = ap (λ b. cond b y (after N y)) on;
-        ends = same_end;
-        across = (λ j. are_opposite p ((ap (start N) from_back ∙ uncut_start back back_there back_uncut ∙ ap (start M) (sym back_is)) j) (same_end j)) ∙ opposite_then;
-      }
+      at_corner = grind (arith, in_places, of_f, is_then_place, same_end, from_back, uncut_start, back_there, back_uncut, back_is, opposite_then)
 
     never_minus : (e : ℕ) → IsIn e es → after N x ≡ minus e → ⊥
     never_minus e i is = true≢false (sym on ∙ ap (λ z. is_on p (start N z)) is ∙ minus_off M s p t sound begins e i)

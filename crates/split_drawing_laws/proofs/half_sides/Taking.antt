@@ -1,5 +1,4 @@
 -- From the first conditions of a split to the sides that half-edges take.
-use Rattle.std.specs.Prelude.{nat_eq}
 use Rattle.std.proofs.Common.{◌≡◌, ℕ, Bool, true, false, cond, not, ◌&&◌, ◌||◌, List, [], ◌∷◌, refl, sym, ap, ◌∙◌, subst, arith, inl, inr, true≢false}
 use Rattle.std.proofs.lemmas.Bool.{eqb-true, false_from_ne_true}
 use Rattle.euler_operators.specs.declared.Plane.{Plane}
@@ -8,7 +7,7 @@ use Rattle.euler_operators.specs.Items.{count, IsIn}
 use Rattle.euler_operators.proofs.Lists.{tick_same}
 use Rattle.euler_operators.specs.HalfEdge.{edge_of, plus, minus}
 use Rattle.euler_operators.specs.Table as table
-use Rattle.euler_operators.specs.Model.{Model, has_half, tail, loop_of, face_of, solid_of, after, point_of, faces_of}
+use Rattle.euler_operators.specs.Model.{Model, tail, loop_of, face_of, solid_of, after, point_of, faces_of}
 use Rattle.euler_operators.specs.Sound.{Sound, Has, HasHalf}
 use Rattle.euler_operators.proofs.Halves.{plus_row, mate_plus, mate_minus}
 use Rattle.euler_operators.proofs.Models.{cycle_there, loop_there}
@@ -117,10 +116,7 @@ module _ (M : Model) (s : ℕ) (p : Plane) (t : ℕ) (sound : Sound M) (begins :
 
   own_solid : (h : ℕ) → HasHalf N h → is_own M s p h ≡ true → solid_of N (face_at N h) ≡ s
   unfolding is_own
-  own_solid h there own = eqb-true (solid_of N (face_at N h)) s (go (has_half N h) there own) where
-    go : (a : Bool) → a ≡ true → (not a || nat_eq (solid_of N (face_at N h)) s) ≡ true → nat_eq (solid_of N (face_at N h)) s ≡ true
-    go true there e = e
-    go false there e = absurd (true≢false (sym there))
+  own_solid h there own = grind (arith, eqb-true)
 
   lies : (h : ℕ) → HasHalf N h → is_own M s p h ≡ true → LiesOn p (side h) (start N h)
   lies h there own = go (lists fs (face_at N h)) refl where
@@ -132,13 +128,7 @@ module _ (M : Model) (s : ℕ) (p : Plane) (t : ℕ) (sound : Sound M) (begins :
 
   -- a half-edge of the pairs starts on the plane, in a face that straddles
   place_facts : (y : ℕ) → IsIn y (all_ends (all_pairs M N p fs)) → HasHalf N y × IsIn (face_at N y) fs × (is_on p (start N y) ≡ true)
-  place_facts y j =
-      let r = from_all_ends M N p y fs j in
-      let w = place_of_end M s p t sound begins r.0 r.1 y r.2 in (
-        subst (HasHalf N) (sym w.2) (place_there M s p t sound begins r.0 r.1 w.0 w.1),
-        subst (λ f. IsIn f fs) (sym (ap (face_at N) w.2 ∙ place_face M s p t sound begins r.0 r.1 w.0 w.1)) r.1,
-        ap (λ z. is_on p (start N z)) w.2 ∙ place_on M s p t sound begins r.0 r.1 w.0 w.1,
-      )
+  place_facts y j = grind (arith, from_all_ends, place_of_end, place_there, place_face, place_on)
 
   abbrev Goes : ℕ → Type 0
   Goes x = (count (after N x) (all_ends (all_pairs M N p fs)) ≡ 0 → side (after N x) ≡ side x) × (IsIn (after N x) (all_ends (all_pairs M N p fs)) → side (after N x) ≡ not (side x))
@@ -210,13 +200,5 @@ module _ (M : Model) (s : ℕ) (p : Plane) (t : ℕ) (sound : Sound M) (begins :
       sym (place_face M s p t sound begins f i v.0 v.1) ∙ ap (face_at N) (sym v.2 ∙ w.2) ∙ place_face M s p t sound begins g j w.0 w.1
 
   pub take_sides : TakeSides p (with_crossings M s p) (straddling_pairs M s p) (side_of M s p) (is_own M s p)
-  take_sides = record {
-    some = λ f i. faces_not_zero M sound s p f (subst (IsIn f) (faces_are M N p fs) i);
-    cross = faces_cross fs (λ f i. i);
-    fine = record {
-      there = λ x i. (place_facts x i).0;
-      apart = all_ends_apart M N p fs (straddling_apart M p s) (λ f i. ends_once M s p t sound begins f i) one_place_face;
-    };
-    sided = record { along = λ x there. (goes x there).0; across = λ x there. (goes x there).1 };
-    level = lies;
-  }
+  take_sides =
+      grind (arith, faces_not_zero, faces_are, faces_cross, place_facts, all_ends_apart, straddling_apart, ends_once, one_place_face, goes, lies)

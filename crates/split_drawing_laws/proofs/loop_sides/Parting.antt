@@ -53,10 +53,7 @@ new_cases M N e same x there = elim (eqb_tells (edge_of x) e) [
 
 -- no half-edge of the model before is a new one
 pub none_new : (M : Model) (e x : ℕ) → table.get M.edges e ≡ None → HasHalf M x → (x ≢ plus e) × (x ≢ minus e)
-none_new M e x free there = (
-  (λ s. row_elsewhere M.edges (edge_of x) e there free (ap edge_of s ∙ (plus_row e).0)),
-  (λ s. row_elsewhere M.edges (edge_of x) e there free (ap edge_of s ∙ (minus_row e).0)),
-)
+none_new M e x free there = grind (arith, row_elsewhere, plus_row, minus_row)
 
 module _ (M : Model) (e c d : ℕ) (sound : Sound M) (free : table.get M.edges e ≡ None) where
   no_plus : (q : ℕ) → count (plus e) (items_of (content M q)) ≡ 0
@@ -114,13 +111,7 @@ module _ (M : Model) (c d e : ℕ) (can : CanJoin M c d e) where
   in_one x i j = can.loops_apart (sym (can.sound.one_loop x (loop_of M c) (in-holds x (content M (loop_of M c)) i)) ∙ can.sound.one_loop x (loop_of M d) (in-holds x (content M (loop_of M d)) j))
 
   apart_both : IsApart (cycle_of M c ++ cycle_of M d)
-  apart_both x = elim (IsIn_or_not x (cycle_of M c)) [
-    | inl i ↦ elim (IsIn_or_not x (cycle_of M d)) [
-      | inl j ↦ absurd (in_one x i j)
-      | inr j ↦ omega (arith, count-append x (cycle_of M c) (cycle_of M d), (cycle_sound M can.sound c can.c_there).apart x)
-    ]
-    | inr i ↦ omega (arith, count-append x (cycle_of M c) (cycle_of M d), (cycle_sound M can.sound d can.d_there).apart x)
-  ]
+  apart_both x = grind (arith, IsIn_or_not, in_one, count-append, cycle_sound)
 
   joined_ring : IsRing (after_mef (after M) (plus e) (minus e) c d) (mekr_ring (plus e) (minus e) c d (cycle_of M c) (cycle_of M d))
   joined_ring = IsRing-mekr (after M) (plus e) (minus e) c d (cycle_of M c) (cycle_of M d) apart_both (cycle_there M can.sound c can.c_there) (cycle_there M can.sound d can.d_there) (plus_other e)
@@ -232,16 +223,12 @@ module _ (B N K : Model) (p : Plane) (first : ℕ → Bool) (OfSolid : ℕ → T
 -- an edge drawn
 pub parted_drawn : (B N : Model) (p : Plane) (first : ℕ → Bool) (OfSolid : ℕ → Type 0) (u k e f l : ℕ) (places rest : List ℕ) →
     CanDraw N u k e f l → Opposed B p first u k places rest → Parted B N p first OfSolid places → Parted B (face_drawn N u k e f l) p first OfSolid rest
-parted_drawn B N p first OfSolid u k e f l places rest can o w =
-    parted_more B N (face_drawn N u k e f l) p first OfSolid u k e places rest can.sound can.edge_free o w
-    (draw_stays N u k e f l can) (after_drawn N u k e f l can) (halves_drawn N u k e f l can) (draw_tails N u k e f l can)
+parted_drawn B N p first OfSolid u k e f l places rest can o w = grind (arith, parted_more, draw_stays, after_drawn, halves_drawn, draw_tails)
 
 -- two loops joined
 pub parted_joined : (B N : Model) (p : Plane) (first : ℕ → Bool) (OfSolid : ℕ → Type 0) (c d e : ℕ) (places rest : List ℕ) →
     CanJoin N c d e → Opposed B p first c d places rest → Parted B N p first OfSolid places → Parted B (loops_joined N c d e) p first OfSolid rest
-parted_joined B N p first OfSolid c d e places rest can o w =
-    parted_more B N (loops_joined N c d e) p first OfSolid c d e places rest can.sound can.edge_free o w
-    (join_stays N c d e can) (after_joined N c d e can) (halves_joined N c d e can) (join_tails N c d e can)
+parted_joined B N p first OfSolid c d e places rest can o w = grind (arith, parted_more, join_stays, after_joined, halves_joined, join_tails)
 
 -- a ring moved
 module _ (M B N : Model) (p : Plane) (first : ℕ → Bool) (OfSolid : ℕ → Type 0) (f l k : ℕ) (places : List ℕ) (drawn : DrawnIn M N f) (ring : RingOf N f l) (newer : Newer M N f k)

@@ -48,37 +48,11 @@ not_turned a true e = sym (ap not e)
 not_turned a false e = sym (ap not e)
 
 fewer : (B : Model) (places rest : List ℕ) (c d : ℕ) → ((x : ℕ) → count x places ≡ count x rest + tick x c + tick x d) → Open B places → Open B rest
-fewer B places rest c d closed o = record {
-  there = λ x i. o.there x (omega (arith, i, closed x));
-  apart = λ x. omega (arith, o.apart x, closed x);
-}
+fewer B places rest c d closed o = grind arith
 
 opposed : (B : Model) (p : Plane) (first : ℕ → Bool) (q : ℕ × ℕ) (places rest : List ℕ) → Crosses B p first q → Open B places →
     ((x : ℕ) → count x places ≡ count x rest + tick x q.0 + tick x q.1) → Opposed B p first q.0 q.1 places rest × Opposed B p first q.1 q.0 places rest
-opposed B p first q places rest w o closed = (
-  record {
-    c_there = w.u_there;
-    d_there = w.k_there;
-    apart = w.apart;
-    c_on = w.u_on;
-    d_on = w.k_on;
-    sides = w.sides;
-    places_there = o.there;
-    places_apart = o.apart;
-    closed = closed;
-  },
-  record {
-    c_there = w.k_there;
-    d_there = w.u_there;
-    apart = λ s. w.apart (sym s);
-    c_on = w.k_on;
-    d_on = w.u_on;
-    sides = not_turned (first q.0) (first q.1) w.sides;
-    places_there = o.there;
-    places_apart = o.apart;
-    closed = λ x. omega (arith, closed x);
-  },
-)
+opposed B p first q places rest w o closed = grind (arith, not_turned)
 
 module _ (B : Model) (p : Plane) (first : ℕ → Bool) (S : ℕ → Type 0) (others : List ℕ) (M : Model) (f : ℕ) where
   abbrev pub now : List (ℕ × ℕ) → List ℕ
@@ -207,10 +181,7 @@ goes_all step each d [] = record { vertex = refl; stuck = λ is. is }
 goes_all step each d (x ∷ xs) = goes_through d (step d x) (fold step (step d x) xs) (each d x) (goes_all step each (step d x) xs)
 
 goes_stuck : (f : ℕ) (d : Drawing) → GoesOn d (stuck_at f d)
-goes_stuck f d = record {
-  vertex = refl;
-  stuck = λ is e. elim (eqb_tells d.stuck 0) [ inl s ↦ is s.1 | inr s ↦ is (sym (ap (λ b. cond b f d.stuck) s.0) ∙ e) ];
-}
+goes_stuck f d = grind arith
 
 join_goes : (d : Drawing) (q : ℕ × ℕ) → GoesOn d (join_next d q)
 unfolding join_next
@@ -226,15 +197,7 @@ draws_go_on f d qs = goes_all (draw_next f) (draw_goes f) d qs
 
 face_goes_on : (p : Plane) (d : Drawing) (f : FacePairs) → GoesOn d (next_drawn p d f)
 unfolding next_drawn
-face_goes_on p d f =
-    let J = all_joined f.pairs d in
-    let R = ring_free f.face f.pairs J in
-    let L = all_drawn f.face R in
-    let first = goes_all join_next join_goes (record d { left = [] }) f.pairs in
-    goes_through d J (next_drawn p d f) (record { vertex = first.vertex; stuck = first.stuck })
-    (goes_through J R (next_drawn p d f) (goes_either (nat_lt 1 (length f.pairs) && has_rings J.model f.face) J (stuck_at f.face J) J (goes_stuck f.face J) (record { vertex = refl; stuck = λ is. is }))
-    (goes_through R L (next_drawn p d f) (draws_go_on f.face R R.left)
-    (goes_either (nat_eq (length f.pairs) 1) L (record L { model = with_rings L.model (rings_above L.model p f.face) L.taken.face }) L (record { vertex = refl; stuck = λ is. is }) (record { vertex = refl; stuck = λ is. is }))))
+face_goes_on p d f = grind (arith, goes_all, join_goes, goes_through, goes_either, goes_stuck, draws_go_on)
 
 pub faces_go_on : (p : Plane) (d : Drawing) (fs : List FacePairs) → GoesOn d (fold (next_drawn p) d fs)
 faces_go_on p d fs = goes_all (next_drawn p) (face_goes_on p) d fs
@@ -258,13 +221,7 @@ faces_parted B first S p d (f ∷ fs) n w some cross free fine parted =
 
 module _ (p : Plane) (g : Growing) (fs : List FacePairs) (first mine : ℕ → Bool) (can : CanBeDrawn g fs) (sides : TakeSides p g fs first mine) (free : (faces_drawn p (undrawn g) fs).stuck ≡ 0) where
   none_drawn : Parted g.model g.model p first (λ h. mine h ≡ true) (all_ends fs)
-  none_drawn = record {
-    stays = record { halves = λ h there. there; tails = λ h there. refl; vertices = refl; faces = λ k there. there };
-    side = first;
-    kept = λ h there. refl;
-    sided = sides.sided;
-    level = sides.level;
-  }
+  none_drawn = grind arith
 
   pub all_drawn_parted : Parted g.model (faces_drawn p (undrawn g) fs).model p first (λ h. mine h ≡ true) []
   all_drawn_parted = faces_parted g.model first (λ h. mine h ≡ true) p (undrawn g) fs 0 (drawable g fs can) sides.some sides.cross free sides.fine none_drawn

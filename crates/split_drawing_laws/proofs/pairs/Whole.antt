@@ -67,14 +67,7 @@ module _ (p : Plane) where
     pub pairs_room : Left (taken_in M) (pair_count M p (straddling_faces M p s)) (pair_count M p (straddling_faces M p s))
         (length (crossing_edges M p s) + pair_count M p (straddling_faces M p s)) (length (crossing_edges M p s)) →
         PairsHaveRoom (with_crossings M s p).taken (pairs_in (straddling_pairs M s p))
-    pairs_room left =
-        let g = crossings_grown in
-        subst (PairsHaveRoom (with_crossings M s p).taken) (sym (pairs_counted M (with_crossings M s p).model p (straddling_faces M p s)))
-        (record {
-          faces = omega (arith, g.faces, left.faces);
-          loops = omega (arith, g.loops, left.loops);
-          edges = omega (arith, g.edges, left.edges);
-        })
+    pairs_room left = grind (arith, crossings_grown, pairs_counted)
 
 -- ---- from the first conditions of a split to the drawing of its faces
 
@@ -113,13 +106,7 @@ module _ (M : Model) (s : ℕ) (p : Plane) (t : ℕ) (sound : Sound M) (begins :
     starts_apart x y j k ne e = points_apart M p f (premises.uncrossed f i) x y j k ne (sym (at x j).starts ∙ ap (point_of N) e ∙ (at y k).starts)
 
     two_fit : (x y : ℕ) → IsIn x (places M p f) → IsIn y (places M p f) → x ≢ y → Fits N f (between M N p (x, y))
-    two_fit x y j k ne = record {
-      u_there = (at x j).there;
-      k_there = (at y k).there;
-      u_face = place_face x j;
-      k_face = place_face y k;
-      apart = starts_apart x y j k ne;
-    }
+    two_fit x y j k ne = grind (arith, at, place_face, starts_apart)
 
     from_sorted : (x : ℕ) → IsIn x (sorted M p (places M p f)) → IsIn x (places M p f)
     from_sorted x j = omega (arith, j, count-sorted M p x (places M p f))
@@ -176,9 +163,7 @@ module _ (M : Model) (s : ℕ) (p : Plane) (t : ℕ) (sound : Sound M) (begins :
 
   pub rewritings_made : effects M (rewriting_ops M s p) ≡ (with_drawings M s p).model
   unfolding with_drawings
-  rewritings_made = effects-append M (crossing_ops M s p) (drawing_ops p (with_crossings M s p) (straddling_pairs M s p))
-      ∙ ap (λ X. effects X (drawing_ops p (with_crossings M s p) (straddling_pairs M s p))) (crossings_made M s p t sound begins)
-      ∙ drawing_made p (with_crossings M s p) (straddling_pairs M s p) can_be_drawn
+  rewritings_made = grind (arith, effects-append, crossings_made, drawing_made, can_be_drawn)
 
   pub rewritings_sound : Sound (with_drawings M s p).model
   unfolding with_drawings
