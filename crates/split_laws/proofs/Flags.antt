@@ -1,24 +1,23 @@
 -- Whether a cycle is a hole is told by the model before the openings.
 use Rattle.std.specs.Prelude.{filter, flat_map, int_lt}
-use Rattle.std.proofs.Common.{◌≡◌, ◌<◌, ◌≤◌, ℕ, suc, ◌+◌, Bool, true, false, cond, not, nat_eq, nat_lt, ◌&&◌, pos, List, [], ◌∷◌, ◌++◌, length, map, unwrap_or, refl, sym, ap, ◌∙◌, arith, inl, inr, is_some}
-use Rattle.std.proofs.lemmas.Bool.Decides.{nat_tests}
+use Rattle.std.proofs.Common.{◌≡◌, ◌<◌, ◌≤◌, ℕ, suc, ◌+◌, Bool, true, false, cond, pos, List, [], ◌∷◌, ◌++◌, length, map, unwrap_or, refl, sym, ap, ◌∙◌, arith}
 use Rattle.std.proofs.lemmas.List.{append_assoc, append-nil, length-map, map-append}
 use Rattle.std.proofs.lemmas.Grind.{flat_map-append}
 use Rattle.euler_operators.specs.declared.Plane.{Plane}
 use Rattle.euler_operators.specs.Vectors.{dot, direction, cross, moved}
-use Rattle.euler_operators.specs.Items.{count, IsIn, tick}
+use Rattle.euler_operators.specs.Items.{count, IsIn}
 use Rattle.euler_operators.specs.HalfEdge.{mate}
 use Rattle.euler_operators.specs.Table as table
 use Rattle.euler_operators.specs.Model.{Model, tail, point_of, no_point}
 use Rattle.euler_operators.specs.Sound.{Sound, Has, HasHalf}
-use Rattle.euler_operators.proofs.Lists.{tick_same, count-append, IsIn_or_not, tick_other}
+use Rattle.euler_operators.proofs.Lists.{tick_same, count-append, tick_other}
 use Rattle.euler_operators.proofs.Halves.{mate-mate}
 use Rattle.euler_operators.proofs.Tables.{in_use_within}
 use Rattle.euler_operators.proofs.Models.{mate_there}
 use Rattle.shapes.specs.Faces.{start, finish}
-use Rattle.shapes.specs.Fresh.{Taken, numbers_after}
+use Rattle.shapes.specs.Fresh.{Taken}
 use Rattle.shapes.specs.Measure.{area}
-use Rattle.shapes.specs.split.Section.{is_hole, has_stray_hole, holes_in}
+use Rattle.shapes.specs.split.Section.{is_hole, has_stray_hole}
 use Rattle.shapes.specs.split.Opening.{Caps, Opening, opened_along, next_opened, all_opened}
 use Rattle.split_opening_laws.specs.cycles.SectionCycles.{IsSectionCycle, AreSectionCycles}
 use Rattle.split_opening_laws.specs.Numbers.{AreFree}
@@ -29,15 +28,13 @@ use Rattle.split_opening_laws.proofs.sections.OpenedRows.{vertices_are, face_sti
 use Rattle.split_opening_laws.proofs.sections.StillFree.{copied_other}
 use Rattle.split_opening_laws.proofs.sections.StillBetween.{start_same, end_same, starts_elsewhere}
 use Rattle.split_opening_laws.proofs.sections.InTurn.{openings_carry, opened_next, new_caps}
+use Rattle.std.proofs.lemmas.Bool.Decides.{nat_tests}
 
 -- ---- one opening
 
 -- a vertex stays where it is
 pub vertex_still : (M : Model) (above : List ℕ) (s : ℕ) (c : Taken) (bs : List ℕ) (v : ℕ) → v ≤ c.vertex → table.get (opened_along M above s c bs).vertices v ≡ table.get M.vertices v
-vertex_still M above s c bs v low = ap (λ t. table.get t v) (vertices_are M above s c bs) ∙ copied_other M M.vertices (map (tail M) bs) (numbers_after c.vertex (length bs)) v (elim (IsIn_or_not v (numbers_after c.vertex (length bs))) [
-  | inl i ↦ absurd (omega (arith, low, (in_numbers c.vertex (length bs) v i).0))
-  | inr z ↦ z
-])
+vertex_still M above s c bs v low = grind (arith, vertices_are, copied_other, in_numbers)
 
 module _ (M : Model) (above : List ℕ) (s : ℕ) (c : Taken) (bs : List ℕ) (sound : Sound M) (free : AreFree M c) (first : IsSectionCycle M above s bs) where
   abbrev N : Model
@@ -105,16 +102,10 @@ filter_trues f (x ∷ xs) = go (f x) (filter_trues f xs) where
   go true e = ap suc e
   go false e = e
 
-not_stray : (n m : ℕ) → (nat_lt 0 n && not (nat_eq m (n + 1))) ≡ false → 0 < n → m ≡ n + 1
-not_stray n m e l = grind (arith, nat_tests)
-
 -- where a hole isn't stray and there is one, one cap alone is no hole's
 pub one_outer : (M : Model) (p : Plane) (cs : List (List ℕ)) (ks : List Caps) → map (λ k. k.hole) ks ≡ map (is_hole M p) cs → has_stray_hole M p cs ≡ false → 0 < length (filter (λ k. k.hole) ks) →
     length ks ≡ length (filter (λ k. k.hole) ks) + 1
-one_outer M p cs ks flags stray some =
-    let holes : length (filter (λ k. k.hole) ks) ≡ length (holes_in M p cs) = filter_trues (λ k. k.hole) ks ∙ ap trues flags ∙ sym (filter_trues (is_hole M p) cs) in
-    let all : length ks ≡ length cs = sym (length-map ks (λ k. k.hole)) ∙ ap length flags ∙ length-map cs (is_hole M p) in
-    omega (arith, holes, all, not_stray (length (holes_in M p cs)) (length cs) stray (omega (arith, holes, some)))
+one_outer M p cs ks flags stray some = grind (arith, filter_trues, length-map)
 
 -- ---- the faces that were there before the openings stay, and are none of the caps
 
@@ -125,19 +116,7 @@ pub record IsOld (M : Model) (o : Opening) (f : ℕ) : Type 0 where
 
 old_next : (M : Model) (above : List ℕ) (s : ℕ) (p : Plane) (o : Opening) (bs : List ℕ) (cs : List (List ℕ)) → CanBeOpenedInTurn above s o (bs ∷ cs) → (f : ℕ) → Has M.faces f → IsOld M o f → IsOld M (opened_next p above s o bs) f
 old_next M above s p o bs cs w f there a =
-    let c : Taken = o.taken in
-    let here : Has o.model.faces f = ap is_some a.row ∙ there in
-    let low = in_use_within o.model.faces c.face w.free.faces f here in
-    let k : Caps = record { lower = c.face + 1; upper = c.face + length bs + 1; hole = is_hole o.model p bs } in
-    record {
-      row = face_still o.model above s c bs w.sound w.free f here ∙ a.row;
-      no_cap = ap (count f) (flat_map-append (λ k. k.lower ∷ k.upper ∷ []) o.caps (k ∷ [])) ∙ none (count-append f (cap_faces o.caps) (k.lower ∷ k.upper ∷ []))
-          (tick_other f (c.face + 1) (other_number f c.face (c.face + 1) low (omega arith))) (tick_other f (c.face + length bs + 1) (other_number f c.face (c.face + length bs + 1) low (omega arith)));
-    } where
-      none : count f (cap_faces o.caps ++ (o.taken.face + 1) ∷ (o.taken.face + length bs + 1) ∷ []) ≡ count f (cap_faces o.caps) + count f ((o.taken.face + 1) ∷ (o.taken.face + length bs + 1) ∷ []) →
-          tick f (o.taken.face + 1) ≡ 0 → tick f (o.taken.face + length bs + 1) ≡ 0 →
-          count f (cap_faces o.caps ++ (o.taken.face + 1) ∷ (o.taken.face + length bs + 1) ∷ []) ≡ 0
-      none e y z = omega (arith, e, y, z, a.no_cap)
+    grind (arith, nat_tests, in_use_within, face_still, flat_map-append, count-append, tick_other, other_number)
 
 pub all_old : (M : Model) (above : List ℕ) (s : ℕ) (p : Plane) (o : Opening) (cs : List (List ℕ)) → CanBeOpenedInTurn above s o cs → (f : ℕ) → Has M.faces f → IsOld M o f → IsOld M (all_opened p above s o cs) f
 all_old M above s p o cs w f there a = openings_carry above s p (λ x ds. IsOld M x f) (λ x bs ds w a. old_next M above s p x bs ds w f there a) o cs w a

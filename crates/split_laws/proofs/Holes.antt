@@ -1,13 +1,13 @@
 -- A cap that becomes a ring of another: the operator is accepted, and what stays.
 use Rattle.std.specs.Prelude.{fold, filter}
 use Rattle.std.specs.List.{list_any}
-use Rattle.std.proofs.Common.{◌≡◌, ◌≢◌, ℕ, true, List, [], ◌∷◌, is_some, refl, sym, ap, ◌∙◌, subst, arith, ◌⊎◌, inl, inr, true≢false, ◌≤◌, ◌<◌, suc, Bool, false, cond, length, None, not, ◌||◌, get_or, zero, ◌++◌}
+use Rattle.std.proofs.Common.{◌≡◌, ◌≢◌, ℕ, true, List, [], ◌∷◌, is_some, refl, sym, ap, ◌∙◌, arith, ◌⊎◌, inl, inr, true≢false, ◌≤◌, ◌<◌, suc, Bool, false, cond, length, None, not, ◌||◌, get_or, zero, ◌++◌}
 use Rattle.std.proofs.lemmas.Bool.Decides.{nat_tests, eqb_tells}
 use Rattle.euler_operators.specs.Items.{tick, count, IsIn, IsApart}
 use Rattle.euler_operators.specs.HalfEdge.{mate}
 use Rattle.euler_operators.specs.Table as table
 use Rattle.euler_operators.specs.Table.{tables}
-use Rattle.euler_operators.specs.Model.{Model, holds, loop_of, face_of, solid_of, outer, after}
+use Rattle.euler_operators.specs.Model.{Model, loop_of, face_of, solid_of, outer}
 use Rattle.euler_operators.specs.Sound.{Sound, Has, HasHalf}
 use Rattle.euler_operators.specs.Conditions.{face_at, lists}
 use Rattle.euler_operators.specs.declared.Op.TheVariants.{Kfmrh}
@@ -15,7 +15,7 @@ use Rattle.euler_operators.specs.Effect.{effect, kfmrh}
 use Rattle.euler_operators.specs.declared.Op.{Op}
 use Rattle.euler_operators.proofs.Lists.{tick_same, tick_other, IsIn_or_not}
 use Rattle.euler_operators.proofs.Models.{mate_there}
-use Rattle.euler_laws.proofs.shared.Loops.{IsLoop, loop_sound}
+use Rattle.euler_laws.proofs.shared.Loops.{loop_sound}
 use Rattle.euler_laws.proofs.shared.Rings.{SameRings, half_back, loop-rings}
 use Rattle.euler_laws.proofs.faces.Kfmrh.{KillGoes, sound-kfmrh, kill_same, kill_face_l, kill_face_else, l_face, g_gone, kill_solid, kill_outer, kfmrh_accepted}
 use Rattle.shapes.specs.split.Opening.{Caps, outer_caps, hole_closed, no_caps}
@@ -49,11 +49,7 @@ module _ (N : Model) (sound : Sound N) (f g : ℕ) (goes : KillGoes N f g) where
   kill_leads = leads_one N K (Kfmrh f g) (kfmrh_accepted N f g sound goes) (effect_is N f g)
 
   rings : SameRings N K
-  rings = let same = kill_same N sound f g goes in record {
-    edges = same.edges;
-    stand = λ x q. ap (holds x) (same.contents q);
-    loops = λ q t. subst (IsLoop (after N)) (sym (same.contents q)) (loop_sound N sound q (sym (same.loops q) ∙ t));
-  }
+  rings = grind (arith, kill_same, loop_sound)
 
   pub face_stays : (p : ℕ) → p ≢ g → Has N.faces p → Has (kfmrh N f g).faces p
   face_stays p a t = ap is_some (row_kept N f g p a) ∙ t
@@ -69,10 +65,7 @@ module _ (N : Model) (sound : Sound N) (f g : ℕ) (goes : KillGoes N f g) where
   ]
 
   half_level : (us : List ℕ) → lists us f ≡ lists us g → (x : ℕ) → HasHalf N x → lists us (face_at K x) ≡ lists us (face_at N x)
-  half_level us level x t = elim (half_face x t) [
-    | inl e ↦ ap (lists us) e
-    | inr p ↦ ap (lists us) p.1 ∙ level ∙ ap (lists us) (sym p.0)
-  ]
+  half_level us level x t = grind (arith, half_face)
 
   pub part_stays : (s : ℕ) (us : List ℕ) → lists us f ≡ lists us g → CanPart N s us → CanPart (kfmrh N f g) s us
   part_stays s us level w = record {
@@ -142,13 +135,7 @@ of_stays : (N : Model) (sound : Sound N) (s f g p : ℕ) → KillGoes N f g → 
 of_stays N sound s f g p goes a w = record { there = face_stays N sound f g goes p a w.there; of_solid = kill_solid N sound f g goes p a ∙ w.of_solid }
 
 can_kill : (N : Model) (s f g : ℕ) → f ≢ g → IsOf N s f → IsPlain N s g → KillGoes N f g
-can_kill N s f g a w v = record {
-  f_there = w.there;
-  g_there = v.there;
-  apart = a;
-  one_solid = w.of_solid ∙ sym v.of_solid;
-  no_rings = λ q t e. sym (v.no_ring q t e);
-}
+can_kill N s f g a w v = grind arith
 
 -- one hole
 module _ (N : Model) (s : ℕ) (us : List ℕ) (o k : Caps) (ks : List Caps) (w : CanClose N s us o (k ∷ ks)) where

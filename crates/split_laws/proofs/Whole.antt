@@ -1,6 +1,6 @@
 -- A split from its first operator to its two solids: the holes of the section closed, and the upper faces that are left parted.
 use Rattle.std.specs.Prelude.{map, filter, fold}
-use Rattle.std.proofs.Common.{◌≡◌, ℕ, ◌+◌, ◌≤◌, ◌<◌, Bool, true, false, List, [], ◌∷◌, ◌++◌, length, is_some, unwrap_or, refl, sym, ap, ◌∙◌, subst, arith, None, IsTrue}
+use Rattle.std.proofs.Common.{◌≡◌, ℕ, ◌+◌, ◌≤◌, ◌<◌, true, false, List, [], ◌∷◌, ◌++◌, length, is_some, unwrap_or, refl, sym, ap, ◌∙◌, subst, arith, None, IsTrue, Bool}
 use Rattle.std.proofs.lemmas.Bool.{false_from_ne_true}
 use Rattle.euler_operators.specs.declared.Plane.{Plane}
 use Rattle.euler_operators.specs.Items.{count}

@@ -150,8 +150,4 @@ module _ (M : Model) (s : ℕ) (p : Plane) (t : ℕ) (sound : Sound M) (accepted
 
   -- and has no caps yet
   pub no_caps : HasCaps (faces_above (with_drawings M s p).model p s) s (record { model = (with_drawings M s p).model; taken = (with_drawings M s p).taken; caps = [] })
-  no_caps = record {
-    plain = tt;
-    all_rise = ap strictly_rises (append-nil above) ∙ above_rises;
-    upper_rise = ap strictly_rises (append-nil above) ∙ above_rises;
-  }
+  no_caps = grind (arith, append-nil, above_rises)

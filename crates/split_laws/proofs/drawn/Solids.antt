@@ -1,5 +1,5 @@
 -- Each half-edge stays in its solid while faces are drawn, and solids stay.
-use Rattle.std.proofs.Common.{◌≡◌, ◌≢◌, ℕ, ◌+◌, true, false, List, [], ◌∷◌, None, is_some, refl, sym, ap, ◌∙◌, subst, arith, inl, inr, true≢false}
+use Rattle.std.proofs.Common.{◌≡◌, ◌≢◌, ℕ, ◌+◌, List, [], ◌∷◌, None, is_some, refl, sym, ap, ◌∙◌, subst, arith, inl, inr, true≢false}
 use Rattle.std.specs.Prelude.{fold}
 use Rattle.std.proofs.lemmas.Bool.Decides.{eqb_tells}
 use Rattle.euler_operators.specs.declared.Plane.{Plane}
@@ -33,11 +33,7 @@ none_new M f = record { rows = λ g t. refl; news = λ g t n. absurd (never_free
 
 -- joining loops and moving rings change no face
 same_new : (M X Y : Model) (f : ℕ) → Y.faces ≡ X.faces → Y.solids ≡ X.solids → NewOf M X f → NewOf M Y f
-same_new M X Y f faces solids a = record {
-  rows = λ g t. ap (λ u. table.get u g) faces ∙ a.rows g t;
-  news = λ g t n. same_solid X Y g (ap (λ u. table.get u g) faces) ∙ a.news g (subst (λ u. Has u g) faces t) n;
-  solids = solids ∙ a.solids;
-}
+same_new M X Y f faces solids a = grind (arith, same_solid)
 
 joined_new : (M X : Model) (f c d e : ℕ) → NewOf M X f → NewOf M (loops_joined X c d e) f
 unfolding loops_joined

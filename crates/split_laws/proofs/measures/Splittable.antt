@@ -15,7 +15,7 @@ use Rattle.euler_operators.specs.Model.{Model, tail, after, loop_of, face_of, ou
 use Rattle.euler_operators.specs.Sound.{Sound, Has, HasHalf}
 use Rattle.euler_operators.proofs.Halves.{mate-mate}
 use Rattle.euler_operators.proofs.Models.{cycle_there, loop_there as has_loop, item_there, mate_there}
-use Rattle.euler_operators.specs.Conditions.{AllHold, face_at, lists, strictly_rises}
+use Rattle.euler_operators.specs.Conditions.{AllHold, face_at, lists}
 use Rattle.euler_laws.proofs.shared.Fans.{half_after, loop_after, half_face}
 use Rattle.euler_laws.proofs.shared.Goes.{all_hold}
 use Rattle.euler_laws.proofs.shared.Listed.{listed-from_in}
@@ -123,12 +123,4 @@ module _ (M : Model) (s : ℕ) (p : Plane) (t : ℕ) (sound : Sound M) (accepted
   two_solids e = true≢false (sym s_there ∙ ap is_some (ap (table.get D.solids) e ∙ t_free M s p t sound accepted))
 
   pub can_be_split : CanBeSplit (with_drawings M s p) (faces_above (with_drawings M s p).model p s) s p t
-  can_be_split = record {
-    opens = can_open_all M s p t sound accepted;
-    above_rise = ap strictly_rises (sym (append-nil above)) ∙ (no_caps M s p t sound accepted).all_rise;
-    alike = alike;
-    lie_on = section_on;
-    no_stray = no_stray M s p t sound accepted;
-    apart = two_solids;
-    fresh = t_free M s p t sound accepted;
-  }
+  can_be_split = grind (arith, can_open_all, append-nil, no_caps, alike, section_on, no_stray, two_solids, t_free)

@@ -1,8 +1,7 @@
 -- The two caps that close a solid once it is opened along a cycle on a plane: they lie along the plane, and have opposite normals.
-use Rattle.std.proofs.Common.{◌≡◌, ℕ, zero, suc, ◌+◌, ◌≤◌, ◌<◌, true, not, List, [], ◌∷◌, length, Option, Some, None, is_some, unwrap_or, refl, sym, ap, ◌∙◌, arith, true≢false, ◌⊎◌, inl, inr, ◌++◌}
+use Rattle.std.proofs.Common.{◌≡◌, ℕ, zero, suc, ◌+◌, ◌≤◌, ◌<◌, true, not, List, [], ◌∷◌, length, Some, unwrap_or, refl, sym, ap, ◌∙◌, arith, inl, inr, ◌++◌}
 use Rattle.std.specs.Prelude.{map, reverse, get_or}
 use Rattle.std.specs.List.{list_all}
-use Rattle.std.specs.Option.{option_map}
 use Rattle.std.proofs.lemmas.Bool.Decides.{eqb_tells}
 use Rattle.std.proofs.lemmas.Bool.{and_parts}
 use Rattle.euler_operators.specs.declared.Point.{Point}
@@ -13,31 +12,28 @@ use Rattle.euler_operators.specs.Rings.{canonical}
 use Rattle.euler_operators.proofs.Lists.{tick_other}
 use Rattle.euler_operators.proofs.Maps.{from_map, count-reverse}
 use Rattle.euler_operators.proofs.Rotations.{count-canonical, IsIn_head}
-use Rattle.euler_operators.specs.HalfEdge.{mate, plus, minus}
+use Rattle.euler_operators.specs.HalfEdge.{mate, minus}
 use Rattle.euler_operators.specs.Table as table
-use Rattle.euler_operators.specs.Table.{get-map_rows}
-use Rattle.euler_operators.specs.Model.{Model, LoopRow, cycle, no_face, tail, content, face_of, outer, point_of, rings_of, LoopContent, lone, items_of}
-use Rattle.euler_operators.specs.Sound.{Has}
-use Rattle.euler_operators.proofs.Models.{content_row, face_row, mate_there}
-use Rattle.euler_operators.proofs.Tables.{all_where_none, in_use_within, get-put_here, get-put_other}
-use Rattle.shapes.proofs.fresh.Rows.{get-put_cases}
+use Rattle.euler_operators.specs.Model.{Model, cycle, no_face, tail, content, outer, point_of, rings_of, LoopContent, lone, items_of}
+use Rattle.euler_operators.proofs.Models.{content_row, mate_there}
+use Rattle.euler_operators.proofs.Tables.{get-put_here, get-put_other}
 use Rattle.shapes.specs.Faces.{start, finish, items_in}
 use Rattle.shapes.specs.Fresh.{Taken, numbers_after}
 use Rattle.shapes.specs.Prism.{next_place}
-use Rattle.shapes.specs.Rewriting.{rewritten_row, renamed}
 use Rattle.shapes.specs.Measure.{area, normal, anchor, first_vertex, is_plane_of}
 use Rattle.euler_operators.proofs.Vectors.{none_moved}
-use Rattle.euler_operators.proofs.Tests.{none_but}
 use Rattle.euler_operators.proofs.Members.{IsIn_rest, IsIn_some_head, IsIn-map}
 use Rattle.shapes.specs.Vectors.{negated}
 use Rattle.shapes.proofs.measures.FlatFaces.{flat_closed}
 use Rattle.shapes.proofs.measures.Paths.{Leads, IsClosed}
 use Rattle.shapes.proofs.measures.Products.{cross_moved, cross_nothing}
 use Rattle.shapes.proofs.measures.Sums.{none_left, area_same, area_mates}
-use Rattle.shapes.specs.split.Opening.{both_lists, opened_along}
+use Rattle.shapes.specs.split.Opening.{opened_along}
 use Rattle.split_opening_laws.specs.strips.Opened.{CanBeOpened}
-use Rattle.split_opening_laws.proofs.strips.Cycle.{next_cases, next_below, half_in, mate_start, place_of}
-use Rattle.split_opening_laws.proofs.sections.OpenedRows.{faces_are, loops_are, upper_row}
+use Rattle.split_opening_laws.proofs.strips.Cycle.{next_cases, next_within, half_in, mate_start, place_of}
+pub use Rattle.split_opening_laws.proofs.sections.InTurn.{lower_row, loop_kinds}
+use Rattle.split_opening_laws.proofs.sections.InTurn.{plain_alone, plain_lower, plain_upper}
+use Rattle.split_opening_laws.proofs.sections.OpenedRows.{loops_are, upper_row}
 use Rattle.split_laws.specs.opened.Told.{LiesAlong}
 use Rattle.split_laws.proofs.opened.Starts.{start_old, finish_old, back_along}
 use Rattle.gluing_laws.proofs.Adding.{only_loop}
@@ -146,42 +142,17 @@ module _ (M : Model) (above : List ℕ) (s : ℕ) (c : Taken) (bs : List ℕ) (w
   abbrev pub upper : ℕ
   upper = c.face + length bs + 1
 
-  abbrev swaps : List (ℕ × ℕ)
-  swaps = both_lists (map mate bs) (map plus (numbers_after c.edge (length bs)))
-
-  pub lower_row : table.get N.faces (c.face + 1) ≡ Some (record { solid = s; outer = c.loop + 1 })
-  lower_row = ap (λ t. table.get t (c.face + 1)) (faces_are M above s c bs) ∙ get-put_other _ (c.face + m + 1) _ (c.face + 1) (λ e. absurd (omega (arith, e, w.cycle.two_halves))) ∙ get-put_here _ (c.face + 1) _
-
   pub lower_loop : table.get N.loops (c.loop + 1) ≡ Some (record { face = c.face + 1; content = cycle (canonical (reverse (map mate bs))) })
   lower_loop = ap (λ t. table.get t (c.loop + 1)) (loops_are M above s c bs) ∙ get-put_other _ (c.loop + m + 1) _ (c.loop + 1) (λ e. absurd (omega (arith, e, w.cycle.two_halves))) ∙ get-put_here _ (c.loop + 1) _
 
   pub upper_loop : table.get N.loops (c.loop + length bs + 1) ≡ Some (record { face = c.face + length bs + 1; content = cycle (map minus (numbers_after c.edge (length bs))) })
   upper_loop = ap (λ t. table.get t (c.loop + m + 1)) (loops_are M above s c bs) ∙ get-put_here _ (c.loop + m + 1) _
 
-  -- ---- which loops there are
-
-  old_row : (l : ℕ) (o : Option LoopRow) (row : LoopRow) → table.get M.loops l ≡ o → option_map (rewritten_row (map (renamed swaps)) l) o ≡ Some row → Has M.loops l × (face_of M l ≡ row.face)
-  old_row l None row e at = absurd (true≢false (sym (ap is_some at)))
-  old_row l (Some old) row e at = (ap is_some e, face_row M l old e ∙ ap (λ o. (unwrap_or o row).face) at)
-
-  pub loop_kinds : (l : ℕ) (row : LoopRow) → table.get N.loops l ≡ Some row →
-      ((l ≡ c.loop + length bs + 1) × (row.face ≡ c.face + length bs + 1)) ⊎ (((l ≡ c.loop + 1) × (row.face ≡ c.face + 1)) ⊎ (Has M.loops l × (face_of M l ≡ row.face)))
-  loop_kinds l row at = elim (get-put_cases _ (c.loop + m + 1) _ l row (sym (ap (λ t. table.get t l) (loops_are M above s c bs)) ∙ at)) [
-    | inl q ↦ inl (q.0, ap (λ x. x.face) q.1)
-    | inr q ↦ elim (get-put_cases _ (c.loop + 1) _ l row q.1) [
-      | inl r ↦ inr (inl (r.0, ap (λ x. x.face) r.1))
-      | inr r ↦ inr (inr (old_row l (table.get M.loops l) row refl (sym (get-map_rows (rewritten_row (map (renamed swaps))) M.loops l) ∙ r.1)))
-    ]
-  ]
-
-  old_face : (l : ℕ) → Has M.loops l → face_of M l ≤ c.face
-  old_face l there = in_use_within M.faces c.face w.free.faces (face_of M l) (w.sound.loops_of_faces l there)
-
   -- ---- the caps have one loop each
 
   pub outer_lower : outer N (c.face + 1) ≡ c.loop + 1
   unfolding outer
-  outer_lower = ap (λ o. (unwrap_or o no_face).outer) lower_row
+  outer_lower = ap (λ o. (unwrap_or o no_face).outer) (lower_row M above s c bs w)
 
   pub outer_upper : outer N (c.face + length bs + 1) ≡ c.loop + length bs + 1
   unfolding outer
@@ -194,22 +165,10 @@ module _ (M : Model) (above : List ℕ) (s : ℕ) (c : Taken) (bs : List ℕ) (w
   upper_content = ap (content N) outer_upper ∙ content_row N (c.loop + length bs + 1) _ upper_loop
 
   lower_alone : rings_of N (c.face + 1) ≡ []
-  lower_alone = all_where_none _ N.loops (λ l row at. none_but row.face (c.face + 1) (outer N (c.face + 1)) l (λ e. elim (loop_kinds l row at) [
-    | inl q ↦ absurd (omega (arith, e, q.1, w.cycle.two_halves))
-    | inr q ↦ elim q [
-      | inl r ↦ outer_lower ∙ sym r.0
-      | inr r ↦ absurd (omega (arith, e, r.1, old_face l r.0))
-    ]
-  ]))
+  lower_alone = plain_alone N s (c.face + 1) (plain_lower M above s c bs w)
 
   upper_alone : rings_of N (c.face + length bs + 1) ≡ []
-  upper_alone = all_where_none _ N.loops (λ l row at. none_but row.face (c.face + length bs + 1) (outer N (c.face + length bs + 1)) l (λ e. elim (loop_kinds l row at) [
-    | inl q ↦ outer_upper ∙ sym q.0
-    | inr q ↦ elim q [
-      | inl r ↦ absurd (omega (arith, e, r.1, w.cycle.two_halves))
-      | inr r ↦ absurd (omega (arith, e, r.1, old_face l r.0))
-    ]
-  ]))
+  upper_alone = plain_alone N s (c.face + length bs + 1) (plain_upper M above s c bs w)
 
   -- ---- their normals
 
@@ -233,7 +192,7 @@ module _ (M : Model) (above : List ℕ) (s : ℕ) (c : Taken) (bs : List ℕ) (w
     ends_on : (b : ℕ) → IsIn b bs → is_on p (finish M b) ≡ true
     ends_on b i = let q = place_of M above s c bs w b i in
         ap (λ v. is_on p (point_of M v)) (ap (λ h. tail M (mate h)) q.2 ∙ mate_start M above s c bs w q.0 q.1)
-        ∙ starts_on (get_or bs (next_place m q.0) 0) (half_in M above s c bs w (next_place m q.0) (next_below m q.0 q.1))
+        ∙ starts_on (get_or bs (next_place m q.0) 0) (half_in M above s c bs w (next_place m q.0) (next_within m q.0 q.1))
 
     pub cycle_across : cross (direction p) (area M bs) ≡ origin
     cycle_across = flat_closed M p bs (closed_round M bs w.cycle.meet) (and_parts (not (same_point (direction p) origin)) _ on).1
@@ -242,9 +201,7 @@ module _ (M : Model) (above : List ℕ) (s : ℕ) (c : Taken) (bs : List ℕ) (w
     some_mate = IsIn-map mate (get_or bs 0 0) bs (half_in M above s c bs w 0 (omega (arith, w.cycle.two_halves)))
 
     in_lower : (h : ℕ) → IsIn h (canonical (reverse (map mate bs))) → is_on p (start N h) ≡ true
-    in_lower h i =
-        let r = from_map mate h bs (omega (arith, i, count-canonical h (reverse (map mate bs)), count-reverse h (map mate bs))) in
-        ap (λ x. is_on p (start N x)) r.2 ∙ ap (is_on p) (start_old M above s c bs w (mate r.0) (mate_there M r.0 (w.cycle.halves r.0 r.1).there)) ∙ ends_on r.0 r.1
+    in_lower h i = grind (arith, from_map, count-canonical, count-reverse, start_old, mate_there, ends_on)
 
     in_upper : (h : ℕ) → IsIn h (map minus (numbers_after c.edge (length bs))) → is_on p (start N h) ≡ true
     in_upper h i =

@@ -3,26 +3,26 @@ use Rattle.std.specs.Prelude.{map}
 use Rattle.std.specs.List.{list_all}
 use Rattle.std.proofs.Common.{◌≡◌, ◌≢◌, ℕ, ◌+◌, ℤ, pos, ◌+ℤ◌, neg_ℤ, Bool, true, not, nat_eq, List, [], ◌∷◌, length, None, is_some, refl, sym, ap, subst, ◌∙◌, arith, inl, inr, false, ◌&&◌, true≢false, ◌⊎◌}
 use Rattle.std.proofs.lemmas.Bool.Decides.{eqb_tells}
-use Rattle.std.proofs.lemmas.Bool.{and_parts, ne_eqb, eq-eqb, eqb-true}
+use Rattle.std.proofs.lemmas.Bool.{and_parts, ne_eqb, eqb-true}
 use Rattle.std.proofs.lemmas.Int.{ints}
 use Rattle.euler_operators.specs.declared.Plane.{Plane}
 use Rattle.euler_operators.specs.Vectors.{origin, dot, same_point, direction, cross, is_on}
 use Rattle.euler_operators.specs.Items.{count, IsIn, SameItems}
-use Rattle.euler_operators.specs.HalfEdge.{mate, plus}
+use Rattle.euler_operators.specs.HalfEdge.{mate}
 use Rattle.euler_operators.specs.Table as table
 use Rattle.euler_operators.specs.Model.{Model, FaceRow, items_of, tail, content, face_of, loop_of, outer, solid_of, faces_of, cycle, point_of}
 use Rattle.euler_operators.specs.Sound.{Has, HasHalf}
 use Rattle.euler_operators.specs.Conditions.{lists}
 use Rattle.euler_operators.specs.Rings.{canonical}
-use Rattle.euler_operators.proofs.Lists.{tick_same, tick_other, IsIn_or_not, count-append}
+use Rattle.euler_operators.proofs.Lists.{tick_same, tick_other, count-append}
 use Rattle.euler_operators.proofs.Maps.{from_map}
 use Rattle.euler_operators.proofs.Models.{in-holds}
 use Rattle.euler_operators.proofs.Tables.{in_use_within, get-put_other, row_some}
 use Rattle.euler_operators.proofs.Vectors.{none_added}
 use Rattle.euler_operators.proofs.Rotations.{count-canonical, IsIn_head}
-use Rattle.euler_laws.proofs.shared.Listed.{listed_passes, listed_as}
+use Rattle.euler_laws.proofs.shared.Listed.{listed_passes}
 use Rattle.euler_laws.proofs.shared.Rows.{face_there}
-use Rattle.shapes.specs.Fresh.{Taken, numbers_after}
+use Rattle.shapes.specs.Fresh.{Taken}
 use Rattle.shapes.specs.Measure.{area, anchor, is_plane_of, volume_in, six_volume, normal}
 use Rattle.shapes.specs.split.Opening.{opened_along, Caps, Opening, all_opened}
 use Rattle.shapes.specs.Faces.{start}
@@ -94,28 +94,17 @@ module _ (M : Model) (above : List ℕ) (s : ℕ) (c : Taken) (bs : List ℕ) (w
   SameAt k = count k (faces_of N s) ≡ count k (lower ∷ upper ∷ faces_of M s)
 
   at_lower : SameAt lower
-  at_lower =
-      let here : count lower (faces_of N s) ≡ 1 = count_where (of s) N.faces lower ∙ ap (passed (of s) lower) (lower_row M above s c bs w) ∙ ap one_if (eq-eqb s s refl) in
-      let none : count lower (faces_of M s) ≡ 0 = count_where (of s) M.faces lower ∙ ap (passed (of s) lower) lower_free in
-      omega (arith, here, none, tick_same lower, tick_other lower upper caps_apart)
+  at_lower = grind (arith, count_where, lower_row)
 
   at_upper : SameAt upper
-  at_upper =
-      let here : count upper (faces_of N s) ≡ 1 = count_where (of s) N.faces upper ∙ ap (passed (of s) upper) (upper_row M above s c bs) ∙ ap one_if (eq-eqb s s refl) in
-      let none : count upper (faces_of M s) ≡ 0 = count_where (of s) M.faces upper ∙ ap (passed (of s) upper) upper_free in
-      omega (arith, here, none, tick_same upper, tick_other upper lower (λ e. caps_apart (sym e)))
+  at_upper = grind (arith, count_where, upper_row)
 
   at_other : (k : ℕ) → k ≢ lower → k ≢ upper → SameAt k
-  at_other k a b =
-      let now : count k (faces_of N s) ≡ count k (faces_of M s) = count_where (of s) N.faces k ∙ ap (passed (of s) k) (other_row k a b) ∙ sym (count_where (of s) M.faces k) in
-      omega (arith, now, tick_other k lower a, tick_other k upper b)
+  at_other k a b = grind (arith, count_where, other_row, tick_other)
 
   -- the solid has its faces and the caps
   pub same_faces : SameItems (faces_of N s) (lower ∷ upper ∷ faces_of M s)
-  same_faces k = elim (eqb_tells k lower) [
-    | inl e ↦ subst SameAt (sym e.1) at_lower
-    | inr a ↦ elim (eqb_tells k upper) [ inl e ↦ subst SameAt (sym e.1) at_upper | inr b ↦ at_other k a.1 b.1 ]
-  ]
+  same_faces k = grind (arith, at_lower, at_upper, at_other)
 
   -- another solid has its own
   other_faces : (u : ℕ) → u ≢ s → faces_of N u ≡ faces_of M u
@@ -130,9 +119,7 @@ module _ (M : Model) (above : List ℕ) (s : ℕ) (c : Taken) (bs : List ℕ) (w
   ])
 
   of_solid : (u k : ℕ) → lists (faces_of M u) k ≡ true → Has M.faces k × (solid_of M k ≡ u)
-  of_solid u k i =
-      let there : Has M.faces k = ap is_some (listed_passes (of u) M.faces k i).1 in
-      (there, eqb-true (solid_of M k) u (sym (listed_as (of u) M.faces k _ (face_there M k there)) ∙ i))
+  of_solid u k i = grind (arith, listed_passes, eqb-true, face_there)
 
   -- ---- another solid
 
@@ -144,10 +131,7 @@ module _ (M : Model) (above : List ℕ) (s : ℕ) (c : Taken) (bs : List ℕ) (w
         ne (sym is ∙ ap (solid_of M) (sym at) ∙ ap (λ h. solid_of M (face_of M (loop_of M h))) r.2 ∙ sym (w.sound.one_solid r.0 (w.cycle.halves r.0 r.1).there) ∙ (w.cycle.halves r.0 r.1).of_solid)
 
     nothing_replaced : (k : ℕ) → Has M.faces k → solid_of M k ≡ u → (y : ℕ) → IsIn y (items_of (content M (outer M k))) → swap M above s c bs w y ≡ y
-    nothing_replaced k there is y i = elim (IsIn_or_not y (map mate bs)) [
-      | inl j ↦ absurd (no_mate k y there is i j)
-      | inr z ↦ renamed_not (map mate bs) (map plus (numbers_after c.edge (length bs))) y z
-    ]
+    nothing_replaced k there is y i = grind (arith, no_mate, renamed_not)
 
     other_keeps : six_volume N u ≡ six_volume M u
     unfolding six_volume

@@ -108,10 +108,7 @@ module _ (M N : Model) (swap : ℕ → ℕ) (w : Rewritten M N swap) where
 
     loop_there : (l : ℕ) → lists (loops_of M k) l ≡ true → Has M.loops l
     unfolding loops_of
-    loop_there l i = elim (listed_cases (outer M k) l (rings_of M k) i) [
-      | inl e ↦ ap (table.has M.loops) e ∙ outer_there
-      | inr j ↦ ap is_some (listed_passes ring_before M.loops l j).1
-    ]
+    loop_there l i = grind (arith, listed_cases, outer_there, listed_passes)
 
     pub normal_is : normal N k ≡ normal M k
     unfolding normal boundary

@@ -21,7 +21,7 @@ use Rattle.shapes.specs.split.Opening.{opened_row, with_copies, both_lists, open
 use Rattle.split_opening_laws.specs.strips.Opened.{CanBeOpened}
 use Rattle.split_opening_laws.specs.strips.Strips.{copied}
 use Rattle.split_opening_laws.proofs.strips.Copied.{points_next}
-use Rattle.split_opening_laws.proofs.strips.Cycle.{next_below, low_vertex, next_copy}
+use Rattle.split_opening_laws.proofs.strips.Cycle.{next_within, low_vertex, next_copy}
 use Rattle.split_opening_laws.proofs.strips.Rows.{length-numbers_after, numbers_at, renamed_cases}
 use Rattle.split_opening_laws.proofs.sections.OpenedRows.{edges_are, vertices_are, tail_is}
 use Rattle.split_laws.proofs.Flags.{vertex_still}
@@ -65,12 +65,7 @@ module _ (M : Model) (above : List ℕ) (s : ℕ) (c : Taken) (bs : List ℕ) (w
   point_new j l = ap (λ o. unwrap_or o no_point) (ap (λ t. table.get t (c.vertex + suc j)) (vertices_are M above s c bs) ∙ copy_points m j (omega arith) l)
 
   point_copied : (v : ℕ) → v ≤ c.vertex → point_of N (renamed (copied M c bs (length bs)) v) ≡ point_of M v
-  point_copied v low = elim (renamed_cases (map (tail M) bs) (numbers_after c.vertex m) v) [
-    | inl p ↦
-        let under : p.0 < length bs = omega (arith, p.1, length-map bs (tail M)) in
-        ap (point_of N) (p.4 ∙ numbers_at c.vertex m p.0 under) ∙ point_new p.0 under ∙ ap (point_of M) (sym (get_or-map (tail M) bs p.0 0 0 under) ∙ p.3)
-    | inr p ↦ ap (point_of N) p.0 ∙ point_old v low
-  ]
+  point_copied v low = grind (arith, renamed_cases, length-map, numbers_at, point_new, get_or-map, point_old)
 
   either_point : (b : Bool) (v : ℕ) → v ≤ c.vertex → point_of N (cond b (renamed (copied M c bs (length bs)) v) v) ≡ point_of M v
   either_point true v low = point_copied v low
@@ -93,7 +88,7 @@ module _ (M : Model) (above : List ℕ) (s : ℕ) (c : Taken) (bs : List ℕ) (w
   out_start j l =
       let row = plus_row (c.edge + suc j) in
       ap (point_of N) (tail_row N (plus (c.edge + suc j)) (rim_row c.vertex m j) (ap (table.get N.edges) row.0 ∙ rim_edge j l) ∙ ap (tail_in (rim_row c.vertex m j)) row.1 ∙ next_copy c.vertex m j)
-      ∙ point_new (next_place m j) (next_below m j l) ∙ ap (point_of M) (w.cycle.meet j l)
+      ∙ point_new (next_place m j) (next_within m j l) ∙ ap (point_of M) (w.cycle.meet j l)
 
   -- the other one along the below half
   back_start : (j : ℕ) → j < m → start N (minus (c.edge + suc j)) ≡ start M (get_or bs j 0)

@@ -1,8 +1,7 @@
 -- The sides on which faces lie, and that no loop of a solid is lone, from step to step of a split.
 use Rattle.std.specs.Prelude.{map, pos, int_lt}
-use Rattle.std.specs.Option.{option_map}
 use Rattle.std.specs.Cmp.{signed_Decides}
-use Rattle.std.proofs.Common.{◌≡◌, ◌≢◌, ℕ, ◌+◌, Bool, true, false, cond, List, [], ◌∷◌, ◌++◌, length, Option, Some, None, is_some, unwrap_or, refl, sym, ap, subst, ◌∙◌, arith, true≢false, inl, inr}
+use Rattle.std.proofs.Common.{◌≡◌, ◌≢◌, ℕ, ◌+◌, Bool, true, false, cond, List, [], ◌∷◌, ◌++◌, length, is_some, refl, sym, ap, subst, ◌∙◌, arith, true≢false, inl, inr}
 use Rattle.std.proofs.lemmas.Bool.Decides.{eqb_tells}
 use Rattle.std.proofs.lemmas.List.{append-nil}
 use Rattle.euler_operators.specs.declared.Point.{Point}
@@ -10,7 +9,7 @@ use Rattle.euler_operators.specs.declared.Plane.{Plane}
 use Rattle.euler_operators.specs.Vectors.{height, is_on, is_above, is_below}
 use Rattle.euler_operators.specs.Items.{count, IsIn}
 use Rattle.euler_operators.specs.Table as table
-use Rattle.euler_operators.specs.Model.{Model, FaceRow, no_face, items_of, tail, content, face_of, outer, solid_of, LoopContent, lone, cycle}
+use Rattle.euler_operators.specs.Model.{Model, items_of, tail, content, face_of, outer, solid_of, LoopContent, lone, cycle}
 use Rattle.euler_operators.specs.Sound.{Has, IsLoneAt}
 use Rattle.euler_operators.specs.Conditions.{lists}
 use Rattle.euler_operators.specs.Effect.{kfmrh, part}
@@ -18,7 +17,6 @@ use Rattle.euler_operators.specs.Rings.{canonical}
 use Rattle.euler_operators.proofs.Tables.{row_some}
 use Rattle.euler_operators.proofs.Models.{content_row, never_lone}
 use Rattle.euler_laws.proofs.shared.Listed.{other_last}
-use Rattle.euler_laws.proofs.shared.Rows.{solid_either}
 use Rattle.shapes.specs.Faces.{start}
 use Rattle.shapes.specs.Fresh.{Taken}
 use Rattle.shapes.specs.Measure.{is_plane_of}
@@ -162,10 +160,6 @@ of_lower : (b : Bool) (a s t : ℕ) → s ≢ t → cond b t a ≡ s → (b ≡ 
 of_lower true a s t apart e = absurd (apart (sym e))
 of_lower false a s t apart e = (refl, e)
 
-of_upper : (b : Bool) (a t : ℕ) → a ≢ t → cond b t a ≡ t → b ≡ true
-of_upper true a t fresh e = refl
-of_upper false a t fresh e = absurd (fresh e)
-
 module _ (M : Model) (s t : ℕ) (fs : List ℕ) (parts : CanBeParted M s t fs) where
   abbrev P : Model
   P = part M s t fs
@@ -181,10 +175,7 @@ module _ (M : Model) (s t : ℕ) (fs : List ℕ) (parts : CanBeParted M s t fs) 
   -- a face went to t where it is listed, and else is of its solid
   solid_then : (k : ℕ) → Has P.faces k → Has M.faces k × (solid_of P k ≡ cond (lists fs k) t (solid_of M k))
   unfolding solid_of
-  solid_then k there = go (table.get M.faces k) (split.row_is M s t fs k) where
-    go : (o : Option FaceRow) → table.get P.faces k ≡ option_map (split.go M s t fs k) o → (is_some o ≡ true) × ((unwrap_or (table.get P.faces k) no_face).solid ≡ cond (lists fs k) t (unwrap_or o no_face).solid)
-    go None e = absurd (true≢false (sym there ∙ ap is_some e))
-    go (Some row) e = (refl, ap (λ q. (unwrap_or q no_face).solid) e ∙ solid_either (lists fs k) row t)
+  solid_then k there = grind (arith, split.row_is)
 
   -- the face of a loop was there and of s, and is listed where it is of t now
   abbrev Was : ℕ → Bool → Type 0
@@ -197,18 +188,10 @@ module _ (M : Model) (s t : ℕ) (fs : List ℕ) (parts : CanBeParted M s t fs) 
   lower_was l there of_s = let r = face_then l s there of_s in let q = of_lower (lists fs (face_of M l)) (solid_of M (face_of M l)) s t parts.apart r.1 in (r.0, q.0, q.1)
 
   upper_was : (l : ℕ) → Has P.faces (face_of P l) → solid_of P (face_of P l) ≡ t → Was l true
-  upper_was l there of_t =
-      let r = face_then l t there of_t in
-      let q = of_upper (lists fs (face_of M l)) (solid_of M (face_of M l)) t (parts.fresh (face_of M l) r.0) r.1 in
-      (r.0, q, parts.of_solid (face_of M l) r.0 q)
+  upper_was l there of_t = grind (arith, face_then)
 
   part_sided : (p : Plane) (l h u : ℕ) (b : Bool) → AreSided M p s fs → IsOfSolid P u l h → Was l b → IsOnSide p b (start P h)
-  part_sided p l h u b sided i was = subst (IsOnSide p b) (sym (split.start_same M s t fs h)) (subst (λ c. IsOnSide p c (start M h)) was.1 (sided l h (record {
-    loop_there = sym (loops_stay l) ∙ i.loop_there;
-    face_there = was.0;
-    of_solid = was.2;
-    item = subst (λ c. IsIn h (items_of c)) (split.content_same M s t fs l) i.item;
-  })))
+  part_sided p l h u b sided i was = grind (arith, split.start_same, loops_stay, split.content_same)
 
   part_lone : (l v : ℕ) (b : Bool) → NoneLone M s → IsLoneAt P l v → Was l b → ⊥
   part_lone l v b none at was = none l v (sym (split.content_same M s t fs l) ∙ at) was.0 was.2

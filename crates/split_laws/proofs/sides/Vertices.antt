@@ -1,10 +1,9 @@
 -- The sides on which the faces of a drawn solid lie.
-use Rattle.std.specs.Prelude.{pos, int_lt}
 use Rattle.std.specs.List.{list_any}
-use Rattle.std.proofs.Common.{◌≡◌, ℕ, Bool, true, false, not, ◌&&◌, ◌||◌, refl, sym, subst, ◌∙◌, arith, true≢false, ◌≢◌, List, [], ◌∷◌, ap, inl, inr}
+use Rattle.std.proofs.Common.{◌≡◌, ℕ, Bool, true, false, refl, sym, subst, ◌∙◌, arith, true≢false, ◌≢◌, List, [], ◌∷◌, ap, inl, inr}
 use Rattle.std.proofs.lemmas.Bool.{eq-eqb}
 use Rattle.euler_operators.specs.declared.Plane.{Plane}
-use Rattle.euler_operators.specs.Vectors.{dot, direction, is_above, is_below}
+use Rattle.euler_operators.specs.Vectors.{is_above, is_below}
 use Rattle.euler_operators.specs.Items.{IsIn}
 use Rattle.euler_operators.specs.Model.{Model, items_of, tail, content, face_of, solid_of, point_of, faces_of, LoopContent, lone, cycle}
 use Rattle.euler_operators.specs.Sound.{Sound, Has}
@@ -17,7 +16,6 @@ use Rattle.euler_laws.proofs.shared.Listed.{passes_listed, IsIn-from_listed, lis
 use Rattle.euler_laws.proofs.shared.Rows.{face_there}
 use Rattle.euler_laws.proofs.shared.Counted.{all_where_has}
 use Rattle.shapes.specs.Faces.{start, loops_of, corners, corners_in, vertices_of}
-use Rattle.shapes.specs.Measure.{normal}
 use Rattle.shapes.specs.split.Sides.{reaches_above, reaches_below, straddles, face_is_above, faces_above}
 use Rattle.shapes.proofs.walks.SolidFaces.{face_of_loop}
 use Rattle.split_opening_laws.proofs.cycles.Meets.{count_filter}
@@ -31,18 +29,11 @@ use Rattle.split_laws.specs.sides.Sided.{IsOnSide, AreSided, IsOfSolid}
 module _ (M : Model) (p : Plane) (s : ℕ) where
   not_above : (f : ℕ) → face_is_above M p f ≡ false → reaches_above M p f ≡ false
   unfolding face_is_above
-  not_above f e = first (reaches_above M p f) _ e where
-    first : (a b : Bool) → a || b ≡ false → a ≡ false
-    first true b e = e
-    first false b e = refl
+  not_above f e = grind arith
 
   not_below : (f : ℕ) → straddles M p f ≡ false → face_is_above M p f ≡ true → reaches_below M p f ≡ false
   unfolding face_is_above straddles
-  not_below f n e = second (reaches_above M p f) (reaches_below M p f) (not (int_lt (pos 0) (dot (normal M f) (direction p)))) n e where
-    second : (a b c : Bool) → a && b ≡ false → a || not b && c ≡ true → b ≡ false
-    second true b c n e = n
-    second false true c n e = absurd (true≢false (sym e))
-    second false false c n e = refl
+  not_below f n e = grind arith
 
   pub begun_sided : Sound M → ((f : ℕ) → lists (faces_of M s) f ≡ true → straddles M p f ≡ false) → AreSided M p s (faces_above M p s)
   begun_sided sound none l h i = go (face_is_above M p (face_of M l)) refl where

@@ -1,19 +1,17 @@
 -- The holes of a section closed, one cap after the other.
-use Rattle.std.proofs.Common.{◌≡◌, ◌≢◌, ℕ, ◌≤◌, false, not, nat_eq, ◌&&◌, is_some, List, [], ◌∷◌, refl, sym, ap, subst, ◌∙◌, arith, inl, inr}
+use Rattle.std.proofs.Common.{◌≡◌, ◌≢◌, ℕ, ◌≤◌, List, [], ◌∷◌, refl, sym, ap, subst, ◌∙◌, arith, inl, inr}
 use Rattle.std.specs.Prelude.{fold, filter}
-use Rattle.std.proofs.lemmas.Bool.Decides.{nat_tests}
 use Rattle.euler_operators.specs.declared.Plane.{Plane}
 use Rattle.euler_operators.specs.Vectors.{origin, direction}
 use Rattle.euler_operators.specs.Items.{count, tick, IsIn, IsApart}
 use Rattle.euler_operators.proofs.Lists.{tick_same}
-use Rattle.euler_operators.specs.Model.{Model, solid_of, outer, rings_of}
+use Rattle.euler_operators.specs.Model.{Model, solid_of, rings_of}
 use Rattle.euler_operators.specs.Sound.{Has}
-use Rattle.euler_operators.proofs.Models.{face_row}
-use Rattle.euler_operators.proofs.Tables.{all_where_none}
 use Rattle.euler_operators.specs.Effect.{kfmrh}
 use Rattle.shapes.specs.Measure.{six_volume}
 use Rattle.shapes.specs.split.Opening.{Caps, outer_caps, hole_closed, holes_closed}
 use Rattle.split_opening_laws.specs.sections.Capped.{IsPlain, ArePlain, cap_faces}
+use Rattle.split_opening_laws.proofs.sections.InTurn.{plain_alone}
 use Rattle.split_laws.specs.opened.Told.{LiesAlong, OutersAreOwn, AllLieAlong}
 use Rattle.split_laws.specs.volumes.Closing.{CanClose}
 use Rattle.split_laws.proofs.volumes.Taken as taken
@@ -90,11 +88,6 @@ closing o (k ∷ ks) = (o.lower, k.lower) ∷ (o.upper, k.upper) ∷ closing o k
 pub closed_by : (M : Model) (o : Caps) (hs : List Caps) → fold (hole_closed o) M hs ≡ all_taken M (closing o hs)
 closed_by M o [] = refl
 closed_by M o (k ∷ ks) = closed_by (kfmrh (kfmrh M o.lower k.lower) o.upper k.upper) o ks
-
-pub plain_alone : (M : Model) (s f : ℕ) → IsPlain M s f → rings_of M f ≡ []
-plain_alone M s f w = all_where_none _ M.loops (λ l row at. no_ring row.face f (outer M f) l (λ e. sym (w.no_ring l (ap (λ o. is_some o) at) (face_row M l row at ∙ e)))) where
-  no_ring : (a f o l : ℕ) → (a ≡ f → o ≡ l) → (nat_eq a f && not (nat_eq o l)) ≡ false
-  no_ring a f o l e = grind (arith, nat_tests)
 
 cap_of : (M : Model) (p : Plane) (s f : ℕ) → IsPlain M s f → LiesAlong M p f → IsCap M p s f
 cap_of M p s f w a = record { there = w.there; of_solid = w.of_solid; along = a }

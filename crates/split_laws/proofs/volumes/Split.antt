@@ -19,11 +19,11 @@ use Rattle.euler_operators.proofs.Models.{solid_row}
 use Rattle.euler_operators.proofs.Tables.{get-put_here, get-put_other}
 use Rattle.euler_laws.proofs.shared.Rows.{solid_either}
 use Rattle.shapes.specs.Faces.{start, items_in, loops_of, boundary}
-use Rattle.shapes.specs.Measure.{area, normal, volume_in, six_volume}
+use Rattle.shapes.specs.Measure.{area, normal, six_volume}
 use Rattle.shapes.specs.split.Drawing.{Drawing}
 use Rattle.shapes.specs.split.Section.{is_hole, below_halves, section_cycles, has_stray_hole}
 use Rattle.shapes.specs.split.Opening.{Caps, Opening, holes_closed}
-use Rattle.shapes.specs.split.Split.{opened_at, upper_left, split_drawn}
+use Rattle.shapes.specs.split.Split.{opened_at, split_drawn}
 use Rattle.gluing_laws.proofs.Listed.{one_if, passed, count_where, same_search, volume_of, volume_append, volume_same, same_volumes}
 use Rattle.split_opening_laws.specs.sections.InTurn.{upper_faces, CanBeOpenedInTurn}
 use Rattle.split_opening_laws.specs.sections.Capped.{cap_faces, HasCaps}
@@ -122,14 +122,7 @@ module _ (M : Model) (s t : ℕ) (fs : List ℕ) where
         ∙ of_another (lists fs k) row.solid s t u not_s not_t (λ l. sym (solid_row M k row e) ∙ w.of_solid k (ap is_some e) l)
 
     both_faces : SameItems (faces_of M s) (faces_of N s ++ faces_of N t)
-    both_faces k = omega (
-      arith,
-      count-append k (faces_of N s) (faces_of N t),
-      count_where (of s) M.faces k,
-      count_where (of s) N.faces k ∙ ap (passed (of s) k) (row_is k),
-      count_where (of t) N.faces k ∙ ap (passed (of t) k) (row_is k),
-      shared_row k (table.get M.faces k) refl,
-    )
+    both_faces k = grind (arith, count-append, count_where, row_is, shared_row)
 
     shares : six_volume M s ≡ six_volume N s +ℤ six_volume N t
     unfolding six_volume
@@ -137,9 +130,7 @@ module _ (M : Model) (s t : ℕ) (fs : List ℕ) where
 
     keeps : (u : ℕ) → u ≢ s → u ≢ t → six_volume N u ≡ six_volume M u
     unfolding six_volume
-    keeps u not_s not_t =
-        ap (volume_in N) (same_search (of u) (of u) N.faces M.faces (λ k. ap (passed (of u) k) (row_is k) ∙ other_row u not_s not_t k (table.get M.faces k) refl))
-        ∙ same_volumes M N (faces_of M u) (λ k i. volume_kept k)
+    keeps u not_s not_t = grind (arith, same_search, row_is, other_row, volume_kept)
 
 pub part_shares : (M : Model) (s t : ℕ) (fs : List ℕ) → CanBeParted M s t fs → six_volume M s ≡ six_volume (part M s t fs) s +ℤ six_volume (part M s t fs) t
 part_shares M s t fs w = shares M s t fs w
@@ -238,13 +229,7 @@ unfolding part
 parted_solids M s t fs = refl
 
 pub both_there : (d : Drawing) (above : List ℕ) (s : ℕ) (p : Plane) (t : ℕ) → CanBeSplit d above s p t → Has d.model.solids s → Has (split_drawn d above s p t).solids s × Has (split_drawn d above s p t).solids t
-both_there d above s p t w there =
-    let X : Opening = opened_at d above s p in
-    let K : Model = holes_closed X.model X.caps in
-    let now : (split_drawn d above s p t).solids ≡ table.put K.solids t tt = parted_solids K s t (upper_left above X.caps) in (
-      ap (λ u. table.has u s) now ∙ ap is_some (get-put_other K.solids t tt s w.apart) ∙ ap (λ u. table.has u s) (solids_stay d above s p t w) ∙ there,
-      ap (λ u. table.has u t) now ∙ ap is_some (get-put_here K.solids t tt),
-    )
+both_there d above s p t w there = grind (arith, parted_solids, get-put_other, solids_stay, get-put_here)
 
 -- ---- their six volumes
 

@@ -1,5 +1,5 @@
 -- A cap that becomes a ring of another cap on the same plane: their normals add up, and so do what they add to the six volumes.
-use Rattle.std.proofs.Common.{◌≡◌, ◌≢◌, ℕ, ◌+◌, ℤ, ◌+ℤ◌, Bool, true, false, cond, not, nat_eq, ◌&&◌, List, [], ◌∷◌, ◌++◌, Option, Some, None, is_some, unwrap_or, refl, sym, ap, subst, ◌∙◌, arith, true≢false, inl, inr}
+use Rattle.std.proofs.Common.{◌≡◌, ◌≢◌, ℕ, ◌+◌, ℤ, ◌+ℤ◌, Bool, true, false, cond, not, nat_eq, ◌&&◌, List, [], ◌∷◌, ◌++◌, Option, Some, None, is_some, unwrap_or, refl, sym, ap, ◌∙◌, arith, true≢false, inl, inr}
 use Rattle.std.specs.Option.{option_map}
 use Rattle.std.proofs.lemmas.Bool.Decides.{eqb_tells}
 use Rattle.std.proofs.lemmas.Bool.{ne_eqb, eq-eqb}
@@ -16,7 +16,7 @@ use Rattle.euler_operators.proofs.Models.{face_row}
 use Rattle.euler_operators.specs.Effect.{kfmrh, loop_to_face}
 use Rattle.euler_laws.proofs.shared.Rows.{no_items, face_there, loop_row, content_either}
 use Rattle.shapes.specs.Faces.{start, items_in, loops_of, boundary}
-use Rattle.shapes.specs.Measure.{area, normal, anchor, volume_in, six_volume}
+use Rattle.shapes.specs.Measure.{area, normal, volume_in, six_volume}
 use Rattle.shapes.proofs.Areas.{area-append}
 use Rattle.euler_operators.proofs.Vectors.{dot_turned, dot_moved, none_moved, add_exchanged, add_assoc}
 use Rattle.euler_operators.proofs.Members.{count_taken}
@@ -207,10 +207,7 @@ module _ (M : Model) (p : Plane) (f g : ℕ) (w : CanTake M p f g) where
   volume_other k not_f not_g = λ i. dot (same_anchor M N places k (outer_same k not_g) i) (normal_same k not_f not_g i)
 
   volume_f : volume_of N f ≡ volume_of M g +ℤ volume_of M f
-  volume_f = (λ i. dot (same_anchor M N places f (outer_same f w.apart) i) (normal_f i))
-      ∙ dot_turned (anchor M f) (moved (normal M g) (normal M f)) ∙ dot_moved (normal M g) (normal M f) (anchor M f)
-      ∙ (λ i. dot_turned (normal M g) (anchor M f) i +ℤ dot_turned (normal M f) (anchor M f) i)
-      ∙ ap (λ v. v +ℤ volume_of M f) (told_alike M p (normal M g) (anchor M f) (anchor M g) w.some_way w.g_along.across (anchor_along M p f w.f_along) (anchor_along M p g w.g_along))
+  volume_f = grind (arith, places, outer_same, normal_f, dot_turned, dot_moved, told_alike, anchor_along)
 
   abbrev of : ℕ → ℕ → FaceRow → Bool
   of u k row = nat_eq row.solid u
@@ -228,12 +225,7 @@ module _ (M : Model) (p : Plane) (f g : ℕ) (w : CanTake M p f g) where
   solid_count u k there = count_where (of u) M.faces k ∙ ap (passed (of u) k) (face_there M k there)
 
   with_g : SameItems (g ∷ faces_of N (solid_of M f)) (faces_of M (solid_of M f))
-  with_g k = elim (eqb_tells k g) [
-    | inl e ↦
-        let here : count g (faces_of M (solid_of M f)) ≡ 1 = solid_count (solid_of M f) g w.g_there ∙ ap one_if (eq-eqb (solid_of M g) (solid_of M f) w.one_solid) in
-        subst (λ j. count j (g ∷ faces_of N (solid_of M f)) ≡ count j (faces_of M (solid_of M f))) (sym e.1) (omega (arith, here, none_of_g (solid_of M f), tick_same g))
-    | inr e ↦ omega (arith, same_at (solid_of M f) k e.1, tick_other k g e.1)
-  ]
+  with_g k = grind (arith, solid_count, none_of_g, same_at)
 
   solid_keeps : six_volume N (solid_of M f) ≡ six_volume M (solid_of M f)
   unfolding six_volume
@@ -253,10 +245,7 @@ module _ (M : Model) (p : Plane) (f g : ℕ) (w : CanTake M p f g) where
       sum_without M N f (faces_of N u) none (λ k i q. volume_other k q (not_g_in u k i)) ∙ volume_same M (faces_of N u) (faces_of M u) same
 
   pub taken_keeps : (u : ℕ) → six_volume N u ≡ six_volume M u
-  taken_keeps u = elim (eqb_tells u (solid_of M f)) [
-    | inl e ↦ subst (λ v. six_volume N v ≡ six_volume M v) (sym e.1) solid_keeps
-    | inr e ↦ other_keeps u e.1
-  ]
+  taken_keeps u = grind (arith, solid_keeps, other_keeps)
 
   -- ---- what stays so
 
@@ -264,12 +253,7 @@ module _ (M : Model) (p : Plane) (f g : ℕ) (w : CanTake M p f g) where
   there_still k ne there = ap is_some (face_stays k ne) ∙ there
 
   pub outers_still : OutersAreOwn N
-  outers_still k there = elim (eqb_tells k g) [
-    | inl e ↦ absurd (true≢false (sym there ∙ ap is_some (ap (table.get N.faces) e.1 ∙ face_goes)))
-    | inr e ↦
-        let r = w.outers k (sym (ap is_some (face_stays k e.1)) ∙ there) in
-        (ap (table.has N.loops) (outer_same k e.1) ∙ loop_there (outer M k) ∙ r.0, ap (face_of N) (outer_same k e.1) ∙ face_else (outer M k) r.0 (λ z. e.1 (sym r.1 ∙ ap (face_of M) z ∙ own_g)) ∙ r.1)
-  ]
+  outers_still k there = grind (arith, face_goes, face_stays, outer_same, loop_there, face_else)
 
   nothing_moved : (n : Point) → n ≡ origin → moved n origin ≡ origin
   nothing_moved n e = ap (λ v. moved v origin) e ∙ none_moved origin

@@ -9,7 +9,7 @@ use Rattle.euler_operators.proofs.Lists.{count-append, tick_same, before_at, aft
 use Rattle.euler_operators.proofs.Rotations.{canonical-rotates, rest_same, rest_at}
 use Rattle.euler_operators.specs.HalfEdge.{mate, plus, minus, half}
 use Rattle.euler_operators.specs.Table as table
-use Rattle.euler_operators.specs.Model.{Model, LoopRow, cycle, no_face, tail, loop_of, face_of, solid_of, outer, cycle_of}
+use Rattle.euler_operators.specs.Model.{Model, LoopRow, cycle, no_face, loop_of, face_of, solid_of, outer, cycle_of}
 use Rattle.euler_operators.specs.Sound.{Sound}
 use Rattle.euler_operators.proofs.Halves.{plus_row, code-half, mate_plus}
 use Rattle.euler_operators.proofs.Tables.{map_one, get-put_here, put-put}
@@ -71,9 +71,6 @@ module _ (N : Model) (s : ℕ) (c : Taken) (hs : List ℕ) (w : HasStrips N s c 
 
   some_lower : 1 ≤ length lower
   some_lower = omega (arith, length-reverse hs, w.some)
-
-  some_upper : 1 ≤ length upper
-  some_upper = subst (λ j. 1 ≤ length (map minus (numbers_after c.edge j))) (sym all) (omega arith)
 
   loop_here : joined_loop c hs n ≡ ring
   loop_here = (λ i. reverse (take (sym all i) hs) ++ plus x ∷ (map minus (numbers_after c.edge (sym all i)) ++ minus (strip_riser c m (next_last m n (omega (arith, all)) i)) ∷ []))
@@ -150,9 +147,7 @@ module _ (N : Model) (s : ℕ) (c : Taken) (hs : List ℕ) (w : HasStrips N s c 
   }
 
   kemr_loops : (kemr P (plus x) L).loops ≡ K.loops
-  kemr_loops = parted.loops_are P sound (plus x) L goes
-      ∙ (λ i. table.put (table.put P.loops (loop_h i) (record { face = (ap (face_of P) loop_h ∙ face_l1) i; content = (ap (λ xs. cycle_or_lone xs (tail P (plus x))) beyond_is ∙ some_cycle lower (tail P (plus x)) some_lower) i })) L
-      (record { face = (ap (face_of P) loop_h ∙ face_l1) i; content = (ap (λ xs. cycle_or_lone xs (tail P (mate (plus x)))) between_is ∙ some_cycle upper (tail P (mate (plus x))) some_upper) i }))
+  kemr_loops = grind (arith, parted.loops_are, goes, loop_h, face_l1, beyond_is, some_cycle, some_lower, between_is)
 
   kemr_here : kemr P (plus x) L ≡ K
   unfolding kemr

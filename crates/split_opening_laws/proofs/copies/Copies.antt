@@ -4,7 +4,7 @@ use Rattle.std.proofs.Common.{◌≡◌, ◌≢◌, ℕ, suc, ◌+◌, ◌<◌, 
 use Rattle.std.proofs.lemmas.Bool.Decides.{nat_tests, eqb_tells}
 use Rattle.std.proofs.lemmas.Bool.{lt-ltb}
 use Rattle.euler_operators.specs.Items.{count, IsIn}
-use Rattle.euler_operators.specs.HalfEdge.{mate, edge_of, plus, minus, code, half}
+use Rattle.euler_operators.specs.HalfEdge.{mate, edge_of, plus, minus}
 use Rattle.euler_operators.specs.Table as table
 use Rattle.euler_operators.specs.Table.{Table}
 use Rattle.euler_operators.specs.Model.{Model, EdgeRow, tail, arc, point_of, is_number}
@@ -29,7 +29,7 @@ use Rattle.split_opening_laws.specs.strips.StripOps.{place_before, raise_copy}
 use Rattle.split_opening_laws.specs.strips.Opened.{CanBeOpened}
 use Rattle.split_opening_laws.proofs.strips.Rows.{rows_same, rows_map}
 use Rattle.split_opening_laws.proofs.strips.Cycle as on
-use Rattle.split_opening_laws.proofs.strips.Cycle.{before_below, before_apart, next_apart, next-before, next_once}
+use Rattle.split_opening_laws.proofs.strips.Cycle.{before_below, next-before}
 use Rattle.split_opening_laws.proofs.strips.Copied as copy
 use Rattle.split_opening_laws.proofs.copies.Raised as raised
 use Rattle.split_opening_laws.proofs.copies.Raised.{not_less, arc_first, arc_up, arc_down, arc_else}
@@ -228,10 +228,7 @@ module _ (M : Model) (above : List ℕ) (s : ℕ) (c : Taken) (bs : List ℕ) (w
   }
 
   pub copy_accepted : first_false N (raise_copy M c bs i) ≡ None
-  copy_accepted = mev_accepted N (half g) (half k) (half (plus u)) y (point_of M x) sound
-      (subst (λ q. MevGoes N q (code (half k)) (code (half (plus u))) y (point_of M x)) (sym (code-half g))
-      (subst (λ q. MevGoes N g q (code (half (plus u))) y (point_of M x)) (sym (code-half k))
-      (subst (λ q. MevGoes N g k q y (point_of M x)) (sym (code-half (plus u))) goes)))
+  copy_accepted = grind (arith, mev_accepted, code-half, goes)
 
   -- ---- and it raises the copy
 

@@ -118,10 +118,7 @@ module _ (N : Model) (sound : Sound N) (up : ℕ → Bool) (g k : ℕ) (w : Spli
 
   -- and nothing else
   pub arc_down : (h : ℕ) → up h ≡ false → h ≢ g → count h (arc N g k) ≡ 0
-  arc_down h d ne = ap (count h) arc_parts ∙ elim (IsIn_or_not h (between g k ws)) [
-    | inl i ↦ absurd (true≢false (sym (between_up h i) ∙ d))
-    | inr n ↦ omega (arith, n, tick_other h g ne)
-  ]
+  arc_down h d ne = grind (arith, nat_tests, arc_parts, IsIn_or_not, true≢false, between_up, tick_other)
 
   pub arc_else : (h : ℕ) → tail N h ≢ tail N g → count h (arc N g k) ≡ 0
   arc_else h ne = elim (IsIn_or_not h (arc N g k)) [
@@ -182,15 +179,10 @@ module _ (M : Model) (above : List ℕ) (s : ℕ) (c : Taken) (bs : List ℕ) (w
   back_in j = omega (arith, count-append (minus (c.edge + suc j)) (rise_part j) (minus (c.edge + suc j) ∷ fall_part j), tick_same (minus (c.edge + suc j)))
 
   pub rise_in : (j : ℕ) → j < i → IsIn (plus (copy_riser c bs j)) (raised_items c bs i j)
-  rise_in j lt =
-      let one : count (plus (copy_riser c bs j)) (rise_part j) ≡ count (plus (copy_riser c bs j)) (plus (copy_riser c bs j) ∷ []) = ap (λ b. count (plus (copy_riser c bs j)) (cond b (plus (copy_riser c bs j) ∷ []) [])) (lt-ltb j i lt) in
-      omega (arith, one, count-append (plus (copy_riser c bs j)) (rise_part j) (minus (c.edge + suc j) ∷ fall_part j), tick_same (plus (copy_riser c bs j)))
+  rise_in j lt = grind (arith, nat_tests, lt-ltb, count-append, tick_same)
 
   pub fall_in : (j : ℕ) → next_place m j < i → IsIn (minus (copy_riser c bs (next_place m j))) (raised_items c bs i j)
-  fall_in j lt =
-      let f : ℕ = minus (copy_riser c bs (next_place m j)) in
-      let one : count f (fall_part j) ≡ count f (f ∷ []) = ap (λ b. count f (cond b (f ∷ []) [])) (lt-ltb (next_place m j) i lt) in
-      omega (arith, one, count-append f (rise_part j) (minus (c.edge + suc j) ∷ fall_part j), tick_same f)
+  fall_in j lt = grind (arith, nat_tests, lt-ltb, count-append, tick_same)
 
   -- ---- sides
 
@@ -242,10 +234,7 @@ module _ (M : Model) (above : List ℕ) (s : ℕ) (c : Taken) (bs : List ℕ) (w
       ]
 
   pub out_edge : (j : ℕ) → j < m → table.get N.edges (c.edge + suc j) ≡ Some (raised_edge M bs copies j)
-  out_edge j lt =
-      ap (λ t. table.get t (c.edge + suc j)) raised_edges
-      ∙ rows_low (with_rows (table.map_rows (opened_row M above mates copies) M.edges) c.edge (raised_edge M bs copies) m) (c.edge + m) (riser_edge M c bs) i (c.edge + suc j) (omega (arith, lt))
-      ∙ rows_at (table.map_rows (opened_row M above mates copies) M.edges) c.edge (raised_edge M bs copies) m j lt
+  out_edge j lt = grind (arith, raised_edges, rows_low, rows_at)
 
   pub out_tail : (j : ℕ) → j < m → tail N (plus (c.edge + suc j)) ≡ renamed copies (tail M (mate (get_or bs j 0)))
   out_tail j lt = plus_tail_row N (c.edge + suc j) (raised_edge M bs copies j) (out_edge j lt)

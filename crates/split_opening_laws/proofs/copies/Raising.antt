@@ -1,11 +1,10 @@
 -- All copies raised, one after the other.
-use Rattle.std.proofs.Common.{◌≡◌, ℕ, zero, suc, ◌+◌, ◌≤◌, Bool, true, false, cond, List, [], ◌∷◌, ◌++◌, length, refl, sym, ap, ◌∙◌, subst, arith}
-use Rattle.std.specs.Prelude.{map, get_or, not, ◌&&◌}
-use Rattle.euler_operators.specs.Rings.{canonical}
+use Rattle.std.proofs.Common.{◌≡◌, ℕ, zero, suc, ◌≤◌, Bool, true, false, cond, List, [], ◌∷◌, length, refl, sym, ap, ◌∙◌, subst, arith}
+use Rattle.std.specs.Prelude.{map, not, ◌&&◌}
 use Rattle.euler_operators.specs.HalfEdge.{mate, plus, minus}
 use Rattle.euler_operators.specs.Table as table
 use Rattle.euler_operators.specs.Table.{Table}
-use Rattle.euler_operators.specs.Model.{Model, LoopRow, cycle}
+use Rattle.euler_operators.specs.Model.{Model, LoopRow}
 use Rattle.euler_operators.specs.Sound.{Sound}
 use Rattle.euler_operators.proofs.Tables.{map_same}
 use Rattle.euler_operators.specs.Conditions.{face_at, lists}
@@ -13,10 +12,9 @@ use Rattle.euler_operators.specs.Effect.{effect}
 use Rattle.euler_laws.specs.Laws.{effects, AreAccepted}
 use Rattle.euler_laws.proofs.Runs.{effects-append, AreAccepted-append, effects_keep_sound}
 use Rattle.shapes.specs.Fresh.{Taken}
-use Rattle.shapes.specs.Prism.{next_place}
 use Rattle.shapes.specs.Rewriting.{rewritten_row, renamed}
 use Rattle.shapes.specs.split.Opening.{opened_tail, opened_row, with_copies}
-use Rattle.split_opening_laws.specs.strips.Strips.{with_rows, put_out, strip_face, strip_row, copy_riser, copied, raised_loop, raised_edge, strips_cut, copies_raised}
+use Rattle.split_opening_laws.specs.strips.Strips.{with_rows, put_out, strip_face, strip_row, copied, raised_loop, raised_edge, strips_cut, copies_raised}
 use Rattle.split_opening_laws.specs.strips.StripOps.{raise_copy, copy_ops}
 use Rattle.split_opening_laws.specs.strips.Opened.{CanBeOpened}
 use Rattle.split_opening_laws.proofs.strips.Rows.{rows_same}
@@ -35,11 +33,7 @@ module _ (M : Model) (above : List ℕ) (s : ℕ) (c : Taken) (bs : List ℕ) (w
 
   -- a strip without risers
   bare_strip : (j : ℕ) → strip_row c bs j ≡ raised_loop c bs 0 j
-  bare_strip j = λ n. record {
-    face = c.face + suc j;
-    content = cycle (canonical (mate (get_or bs j 0) ∷ cond (sym (not_less j 0 (omega arith)) n) (plus (copy_riser c bs j) ∷ []) [] ++ minus (c.edge + suc j) ∷
-        cond (sym (not_less (next_place (length bs) j) 0 (omega arith)) n) (minus (copy_riser c bs (next_place (length bs) j)) ∷ []) []));
-  }
+  bare_strip j = grind (arith, not_less)
 
   tail_stays : (h v : ℕ) → opened_tail M above (map mate bs) [] h v ≡ v
   tail_stays h v = either_way (lists above (face_at M h) && not (lists (map mate bs) h)) v

@@ -8,19 +8,18 @@ use Rattle.std.proofs.lemmas.List.{append_assoc}
 use Rattle.euler_operators.specs.Items.{count, IsIn, IsApart}
 use Rattle.euler_operators.specs.Rings.{canonical}
 use Rattle.euler_operators.specs.Edits.{insert_before}
-use Rattle.euler_operators.proofs.Lists.{count-append, tick_same, tick_other}
+use Rattle.euler_operators.proofs.Lists.{tick_other, count-append, tick_same}
 use Rattle.euler_operators.proofs.Rotations.{canonical-rotates, count-canonical, canonical_same}
 use Rattle.euler_operators.proofs.Edits.{insert_before_at, insert_before_same}
 use Rattle.euler_operators.specs.HalfEdge.{mate, edge_of, plus, minus}
 use Rattle.euler_operators.specs.Table as table
 use Rattle.euler_operators.specs.Table.{Table, get-map_rows}
-use Rattle.euler_operators.specs.Model.{Model, LoopContent, LoopRow, cycle, loop_of}
+use Rattle.euler_operators.specs.Model.{Model, LoopRow, cycle, loop_of}
 use Rattle.euler_operators.specs.Sound.{Sound, Has}
 use Rattle.euler_operators.proofs.Halves.{plus_row, minus_row, mate_plus}
 use Rattle.euler_operators.proofs.Tables.{map_same, in_use_within}
 use Rattle.euler_operators.proofs.Models.{in-holds, holds-none, none-holds, other_loop, not_held}
 use Rattle.euler_operators.specs.Effect.{with_before}
-use Rattle.euler_laws.proofs.shared.Rows.{where_held_none, where_held_there}
 use Rattle.euler_laws.proofs.shared.Same.{map_twice, mapped_some}
 use Rattle.euler_laws.proofs.shared.Undo.{put_apart}
 use Rattle.sweeps_laws.proofs.prism.Steps.{edge_plus}
@@ -33,11 +32,12 @@ use Rattle.split_opening_laws.specs.strips.StripOps.{place_before}
 use Rattle.split_opening_laws.specs.strips.Opened.{CanBeOpened}
 use Rattle.split_opening_laws.proofs.strips.Rows.{rows_low, rows_high, rows_same, rows_map}
 use Rattle.split_opening_laws.proofs.strips.Cycle as on
-use Rattle.split_opening_laws.proofs.strips.Cycle.{before_below, before_apart, next_apart, next-before, next_once}
+use Rattle.split_opening_laws.proofs.strips.Cycle.{before_below, before_apart, next-before, next_once}
 use Rattle.split_opening_laws.proofs.copies.Raised as raised
 use Rattle.split_opening_laws.proofs.copies.Raised.{not_less}
 use Rattle.split_opening_laws.proofs.copies.Sides as sides
 use Rattle.euler_laws.proofs.shared.KnownLoop.{loop_is, apart_xs}
+use Rattle.euler_laws.proofs.shared.Rows.{where_held_none, where_held_there}
 
 less_next : (a i : ℕ) → a ≢ i → nat_lt a (suc i) ≡ nat_lt a i
 less_next a i ne = grind (arith, nat_tests)
@@ -114,9 +114,7 @@ module _ (M : Model) (above : List ℕ) (s : ℕ) (c : Taken) (bs : List ℕ) (w
 
   -- a loop in which neither half-edge stands
   neither : (q : ℕ) (row : LoopRow) → table.get N.loops q ≡ Some row → q ≢ c.loop + suc i → q ≢ c.loop + suc p → both_before q row ≡ row
-  neither q row at ng nk =
-      ap (down_before q) (where_held_none g (λ hs. cycle (canonical (insert_before g (plus u) hs))) q row (other_loop N sound g q row (λ e. ng (e ∙ g_loop)) at))
-      ∙ where_held_none k (λ hs. cycle (canonical (insert_before k (minus u) hs))) q row (other_loop N sound k q row (λ e. nk (e ∙ k_loop)) at)
+  neither q row at ng nk = grind (arith, other_loop, g_loop, k_loop)
 
   old_loop : (q : ℕ) (row : LoopRow) → table.get (table.map_rows (rewritten_row (map (renamed (put_out c bs m)))) M.loops) q ≡ Some row → both_before q row ≡ row
   old_loop q row at =
@@ -142,12 +140,6 @@ module _ (M : Model) (above : List ℕ) (s : ℕ) (c : Taken) (bs : List ℕ) (w
   g_else = sym (count-canonical g (items p))
       ∙ none-holds g (cycle (canonical (items p))) (other_loop N sound g (c.loop + suc p) (raised_loop c bs i p) (λ e. p_apart (omega (arith, e, g_loop))) (strip_there p p_below))
 
-  abbrev up_put : List ℕ → LoopContent
-  up_put hs = cycle (canonical (insert_before (minus (c.edge + suc i)) (plus (copy_riser c bs i)) hs))
-
-  abbrev down_put : List ℕ → LoopContent
-  down_put hs = cycle (canonical (insert_before (mate (get_or bs (place_before (length bs) i) 0)) (minus (copy_riser c bs i)) hs))
-
   -- the strip of -ci gets the copy_riser
   abbrev risen : List ℕ
   risen = mate (get_or bs i 0) ∷ plus (copy_riser c bs i) ∷ minus (c.edge + suc i) ∷ raised.fall_part M above s c bs w i sound i
@@ -157,25 +149,13 @@ module _ (M : Model) (above : List ℕ) (s : ℕ) (c : Taken) (bs : List ℕ) (w
 
   risen_is : canonical (insert_before g (plus u) (canonical (items i))) ≡ canonical risen
   risen_is =
-      let d : IsApart (items i) = items_apart i lt in
-      let falls : List ℕ = raised.fall_part M above s c bs w i sound i in
-      put_into g (plus u) (items i) d g_in (none_new (plus u) i lt (edge_plus u))
-      ∙ ap (λ t. canonical (insert_before g (plus u) t)) flat
-      ∙ ap canonical (insert_before_at g (plus u) (mate (get_or bs i 0) ∷ []) falls (omega (arith, d g, ap (count g) flat, count-append g (mate (get_or bs i 0) ∷ []) (g ∷ falls), tick_same g)))
-
-  risen_next : risen ≡ raised_items c bs (suc i) i
-  risen_next = λ n. mate (get_or bs i 0) ∷ cond (sym (lt-ltb i (suc i) (omega arith)) n) (plus u ∷ []) [] ++ g ∷
-      cond (sym (less_next (next_place m i) i (next_apart m i w.cycle.two_halves)) n) (minus (copy_riser c bs (next_place m i)) ∷ []) []
+      grind (arith, nat_tests, items_apart, raised.fall_part, put_into, g_in, none_new, edge_plus, flat, insert_before_at, count-append, tick_same)
 
   risen_k : count k (canonical risen) ≡ 0
   risen_k = count-canonical k risen ∙ omega (arith, k_else, ap (count k) flat, tick_other k (plus u) k_new)
 
   rise_row : both_before (c.loop + suc i) (raised_loop c bs i i) ≡ raised_loop c bs (suc i) i
-  rise_row =
-      ap (down_before (c.loop + suc i)) (where_held_there g up_put (c.loop + suc i) (raised_loop c bs i i) (in-holds g (cycle (canonical (items i))) (omega (arith, g_in, count-canonical g (items i))))
-      ∙ ap (λ t. record { face = c.face + suc i; content = cycle t }) risen_is)
-      ∙ where_held_none k down_put (c.loop + suc i) (record { face = c.face + suc i; content = cycle (canonical risen) }) (holds-none k (cycle (canonical risen)) risen_k)
-      ∙ ap (λ t. record { face = c.face + suc i; content = cycle (canonical t) }) risen_next
+  rise_row = grind (arith, nat_tests, where_held_there, in-holds, g_in, count-canonical, risen_is, where_held_none, holds-none, risen_k)
 
   -- and the strip before it the way down
   abbrev rises : List ℕ
@@ -200,10 +180,7 @@ module _ (M : Model) (above : List ℕ) (s : ℕ) (c : Taken) (bs : List ℕ) (w
       ∙ ap canonical new
 
   fall_row : both_before (c.loop + suc p) (raised_loop c bs i p) ≡ raised_loop c bs (suc i) p
-  fall_row =
-      ap (down_before (c.loop + suc p)) (where_held_none g up_put (c.loop + suc p) (raised_loop c bs i p) (holds-none g (cycle (canonical (items p))) (count-canonical g (items p) ∙ g_else)))
-      ∙ where_held_there k down_put (c.loop + suc p) (raised_loop c bs i p) (in-holds k (cycle (canonical (items p))) (omega (arith, k_in, count-canonical k (items p))))
-      ∙ ap (λ t. record { face = c.face + suc p; content = cycle t }) fallen_is
+  fall_row = grind (arith, nat_tests, where_held_none, holds-none, count-canonical, g_else, where_held_there, in-holds, k_in, fallen_is)
 
   -- the others stay
   strip_row : (j : ℕ) → j < m → both_before (c.loop + suc j) (raised_loop c bs i j) ≡ raised_loop c bs (suc i) j

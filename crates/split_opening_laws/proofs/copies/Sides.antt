@@ -20,7 +20,7 @@ use Rattle.split_opening_laws.specs.strips.Strips.{copy_riser, copied, raised_it
 use Rattle.split_opening_laws.specs.strips.StripOps.{place_before}
 use Rattle.split_opening_laws.specs.strips.Opened.{CanBeOpened}
 use Rattle.split_opening_laws.proofs.strips.Cycle as on
-use Rattle.split_opening_laws.proofs.strips.Cycle.{next_below, before_below, next-before, next_once}
+use Rattle.split_opening_laws.proofs.strips.Cycle.{next_within, before_below, next-before, next_once}
 use Rattle.split_opening_laws.proofs.strips.Copied as copy
 use Rattle.split_opening_laws.proofs.copies.Raised as raised
 use Rattle.split_opening_laws.proofs.copies.Raised.{not_less, Splits}
@@ -79,9 +79,6 @@ module _ (M : Model) (above : List ℕ) (s : ℕ) (c : Taken) (bs : List ℕ) (w
 
   pub k_there : HasHalf N k
   k_there = raised.old_half M above s c bs w i sound k (on.mate_there M above s c bs w p p_below)
-
-  pub g_side : side g ≡ false
-  g_side = raised.strip_side M above s c bs w i sound i g lt g_in
 
   mate_side : (j : ℕ) → j < m → side (mate (get_or bs j 0)) ≡ false
   mate_side j below = raised.strip_side M above s c bs w i sound j (mate (get_or bs j 0)) below (raised.mate_in M above s c bs w i sound j)
@@ -157,15 +154,12 @@ module _ (M : Model) (above : List ℕ) (s : ℕ) (c : Taken) (bs : List ℕ) (w
 
   -- so the mate of such a half-edge, which is no mate, lies on its side
   old_sides : (h : ℕ) → HasHalf M h → tail N h ≡ x → lists mates h ≡ false → lists mates (mate h) ≡ false → side (mate h) ≡ side h
-  old_sides h there at un none =
-      raised.old_side M above s c bs w i sound (mate h) (mate_there M h there) none
-      ∙ sym (one_side h there (started h there at) un none)
-      ∙ sym (raised.old_side M above s c bs w i sound h there un)
+  old_sides h there at un none = grind (arith, raised.old_side, mate_there, one_side, started)
 
   out_start : (j : ℕ) → j < m → tail N (plus (c.edge + suc j)) ≡ x → j ≡ p
   out_start j below at =
       let from : tail M (mate (get_or bs j 0)) ≡ x = copy.copy_back M above s c bs w i (tail M (mate (get_or bs j 0))) x x_low (sym (raised.out_tail M above s c bs w i sound j below) ∙ at) in
-      next_once m i j lt below (on.starts_differ M above s c bs w (next_place m j) i (next_below m j below) lt (sym (on.mate_start M above s c bs w j below) ∙ from))
+      next_once m i j lt below (on.starts_differ M above s c bs w (next_place m j) i (next_within m j below) lt (sym (on.mate_start M above s c bs w j below) ∙ from))
 
   pub back_start : (j : ℕ) → j < m → tail N (minus (c.edge + suc j)) ≡ x → j ≡ i
   back_start j below at = on.starts_differ M above s c bs w j i below lt (copy.copy_back M above s c bs w i (tail M (get_or bs j 0)) x x_low (sym (raised.back_tail M above s c bs w i sound j below) ∙ at))
@@ -221,13 +215,4 @@ module _ (M : Model) (above : List ℕ) (s : ℕ) (c : Taken) (bs : List ℕ) (w
   ]
 
   pub splits : Splits N side g k
-  splits = record {
-    g_there = g_there;
-    k_there = k_there;
-    one_tail = k_tail ∙ sym g_tail;
-    apart = apart;
-    k_down = mate_side p p_below;
-    first_up = first_up;
-    stays_up = λ h there at. stays_up h there (at ∙ g_tail);
-    stays_down = λ h there at. stays_down h there (at ∙ g_tail);
-  }
+  splits = grind (arith, g_there, k_there, k_tail, g_tail, apart, mate_side, first_up, stays_up, stays_down)

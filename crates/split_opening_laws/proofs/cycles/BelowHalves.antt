@@ -1,6 +1,6 @@
 -- Which half-edges the below halves of a section are.
 use Rattle.std.specs.Prelude.{flat_map}
-use Rattle.std.proofs.Common.{◌≡◌, ◌≢◌, ℕ, ◌<◌, Bool, true, false, cond, not, nat_eq, ◌&&◌, List, [], ◌∷◌, ◌++◌, is_some, refl, sym, ap, subst, ◌∙◌, arith, true≢false, inl, inr, map, ◌⊎◌}
+use Rattle.std.proofs.Common.{◌≡◌, ◌≢◌, ℕ, ◌<◌, Bool, true, false, cond, not, nat_eq, ◌&&◌, List, [], ◌∷◌, ◌++◌, is_some, refl, sym, ap, subst, ◌∙◌, arith, true≢false, inl, inr, map}
 use Rattle.std.proofs.lemmas.Bool.Decides.{eqb_tells}
 use Rattle.std.proofs.lemmas.Bool.{eq-eqb, eqb-true}
 use Rattle.euler_operators.specs.Items.{tick, count, IsIn, IsApart}
@@ -82,10 +82,7 @@ module _ (M : Model) (above : List ℕ) where
       ∙ ap (λ m. bit (not (lists above (face_at M (minus e))) && lists above (face_at M m))) (sym (mate_minus e))
 
   own_edge : (x : ℕ) → count x (below_half M above (edge_of x)) ≡ bit (is_below x)
-  own_edge x = elim (halves_of_edge x) [
-    | inl p ↦ subst (λ y. count y (below_half M above (edge_of x)) ≡ bit (is_below y)) (sym p.0) (own_plus (edge_of x))
-    | inr p ↦ subst (λ y. count y (below_half M above (edge_of x)) ≡ bit (is_below y)) (sym p.0) (own_minus (edge_of x))
-  ]
+  own_edge x = grind (arith, halves_of_edge, own_plus, own_minus)
 
   -- ---- those of some edges
 
@@ -107,10 +104,7 @@ module _ (M : Model) (above : List ℕ) where
     ]
 
   in_flat : (x : ℕ) (es : List ℕ) → IsIn x (flat_map (below_half M above) es) → (is_below x ≡ true) × IsIn (edge_of x) es
-  in_flat x es i = go (is_below x) refl where
-    go : (b : Bool) → is_below x ≡ b → (is_below x ≡ true) × IsIn (edge_of x) es
-    go true t = (t, omega (arith, i, flat_passes x es t))
-    go false f = absurd (omega (arith, i, flat_fails x es f))
+  in_flat x es i = grind (arith, flat_passes, flat_fails)
 
   flat_rises : (es : List ℕ) → strictly_rises es ≡ true → strictly_rises (flat_map (below_half M above) es) ≡ true
   flat_rises [] r = refl
@@ -145,30 +139,18 @@ module _ (M : Model) (above : List ℕ) where
 
     pub halves_are : (b : ℕ) → IsIn b (below_halves M above s) → IsBelowHalf M above s b
     unfolding below_halves
-    halves_are b i =
-        let r = in_flat b (edges_of M s) i in
-        let o = edge_out b r.1 in
-        let p = and_parts (lists above (face_at M b)) (lists above (face_at M (mate b))) r.0 in
-        record { there = o.0; of_solid = o.1; below = p.0; mate_above = p.1 }
+    halves_are b i = grind (arith, in_flat, edge_out)
 
     pub are_halves : (b : ℕ) → IsBelowHalf M above s b → IsIn b (below_halves M above s)
     unfolding below_halves
-    are_halves b w =
-        let e : is_below b ≡ true = ap (λ c. not c && lists above (face_at M (mate b))) w.below ∙ w.mate_above in
-        omega (arith, edge_in b w.there w.of_solid, flat_passes b (edges_of M s) e)
+    are_halves b w = grind (arith, edge_in, flat_passes)
 
 -- ---- as many below halves start at a vertex as end there
 
 -- of half-edges that are there those at v stand in the fan of v
 module _ (M : Model) (v : ℕ) (fan : Fan (after M) M v) where
   in_fan : (x : ℕ) → HasHalf M x → count x fan.items ≡ tick v (tail M x)
-  in_fan x t = elim (eqb_tells v (tail M x)) [
-    | inl e ↦ omega (arith, fan.apart x, fan.all x t (sym e.1), ap (tick v) (sym e.1), tick_same v)
-    | inr e ↦ omega (arith, none (IsIn_or_not x fan.items) e.1, tick_other v (tail M x) e.1)
-  ] where
-    none : IsIn x fan.items ⊎ (count x fan.items ≡ 0) → v ≢ tail M x → count x fan.items ≡ 0
-    none (inl i) ne = absurd (ne (sym (fan.of_it x i).1))
-    none (inr z) ne = z
+  in_fan x t = grind (arith, tick_same)
 
   starts_counted : (cs : List ℕ) → ((c : ℕ) → IsIn c cs → HasHalf M c) → count v (map (tail M) cs) ≡ total (λ x. count x cs) fan.items
   starts_counted cs t = count_map (tail M) v cs ∙ total_same (λ c. tick v (tail M c)) (λ c. count c fan.items) cs (λ c i. sym (in_fan c (t c i))) ∙ sym (meet_turned fan.items cs)
@@ -205,15 +187,7 @@ module _ (M : Model) (above : List ℕ) (s : ℕ) (sound : Sound M) (faces : Are
   is_half x t f u = are_halves M above s sound x (record { there = t; of_solid = sound.one_solid x t ∙ faces (face_at M (mate x)) u; below = f; mate_above = u })
 
   counted : (x : ℕ) → HasHalf M x → count x halves ≡ bit (not (on x) && on (mate x))
-  counted x t = go (on x) refl (on (mate x)) refl where
-    none : IsIn x halves ⊎ (count x halves ≡ 0) → (IsBelowHalf M above s x → ⊥) → count x halves ≡ 0
-    none (inl i) not_one = absurd (not_one (halves_are M above s sound x i))
-    none (inr z) not_one = z
-
-    go : (a : Bool) → on x ≡ a → (b : Bool) → on (mate x) ≡ b → count x halves ≡ bit (not (on x) && on (mate x))
-    go true p b q = none (IsIn_or_not x halves) (λ w. true≢false (sym p ∙ w.below)) ∙ sym (ap (λ c. bit (not c && on (mate x))) p)
-    go false p true q = omega (arith, is_half x t p q, halves_apart M above s sound x, ap (λ c. bit (not c && on (mate x))) p, ap bit q)
-    go false p false q = none (IsIn_or_not x halves) (λ w. true≢false (sym w.mate_above ∙ q)) ∙ sym (ap (λ c. bit (not c && on (mate x))) p ∙ ap bit q)
+  counted x t = grind (arith, halves_are, is_half, halves_apart)
 
   mates_counted : (x : ℕ) → count x (map mate halves) ≡ count (mate x) halves
   mates_counted x = ap (λ y. count y (map mate halves)) (sym (mate-mate x)) ∙ count-map mate (mate x) halves (λ y i e. sym (mate-mate (mate x)) ∙ ap mate e ∙ mate-mate y)

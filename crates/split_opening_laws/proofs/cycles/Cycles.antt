@@ -183,10 +183,4 @@ module _ (M : Model) (above : List ℕ) (s : ℕ) (sound : Sound M) (faces : Are
 
   -- and they are as long as the list of all
   pub cycles_long : length (flat_map (λ bs. bs) (section_cycles M (below_halves M above s))) ≡ length (below_halves M above s)
-  cycles_long =
-      let all : List ℕ = flat_map (λ bs. bs) (section_cycles M halves) in
-      omega (
-        arith,
-        apart_within all halves (λ x. omega (arith, cycles_cover x, halves_apart M above s sound x)) (λ x i. omega (arith, i, cycles_cover x)),
-        apart_within halves all (halves_apart M above s sound) (λ x i. omega (arith, i, cycles_cover x)),
-      )
+  cycles_long = grind (arith, apart_within, cycles_cover, halves_apart)

@@ -24,10 +24,7 @@ total_sum f g [] = refl
 total_sum f g (x ∷ xs) = omega (arith, total_sum f g xs)
 
 pub tick_turned : (x y : ℕ) → tick x y ≡ tick y x
-tick_turned x y = elim (eqb_tells x y) [
-  | inl e ↦ ap (λ z. tick x z) (sym e.1) ∙ ap (λ z. tick z x) e.1
-  | inr e ↦ omega (arith, tick_other x y e.1, tick_other y x (λ s. e.1 (sym s)))
-]
+tick_turned x y = grind arith
 
 pub total_ticks : (x : ℕ) (ys : List ℕ) → total (λ y. tick y x) ys ≡ count x ys
 total_ticks x [] = refl

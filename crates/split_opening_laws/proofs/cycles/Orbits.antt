@@ -40,10 +40,7 @@ module _ (next : ℕ → ℕ) (xs : List ℕ) (w : Permutes next xs) where
     end_in = subst (λ y. IsIn y xs) (IsPath_last next h ps q p) (w.stays (last_or h ps) (i (last_or h ps) (IsIn_last h ps)))
 
     more_in : (x : ℕ) → IsIn x (h ∷ (ps ++ q ∷ [])) → IsIn x xs
-    more_in x j = elim (eqb_tells x q) [
-      | inl s ↦ subst (λ y. IsIn y xs) (sym s.1) end_in
-      | inr s ↦ i x (omega (arith, j, count-append x (h ∷ ps) (q ∷ []), tick_other x q s.1))
-    ]
+    more_in x j = grind (arith, end_in, count-append)
 
     more_apart : (q ≡ h → ⊥) → IsApart (h ∷ (ps ++ q ∷ []))
     more_apart ne = apart_back q (h ∷ ps) (fresh h ps q d p i ne) d
@@ -160,7 +157,4 @@ module _ (next : ℕ → ℕ) (xs : List ℕ) (w : Permutes next xs) where
 
   -- the rings of the leaders, one after the other, have each item once
   pub covers : SameItems (flat_map (around next xs w) leaders) xs
-  covers x = elim (IsIn_or_not x xs) [
-    | inl i ↦ omega (arith, once x i, i, w.apart x)
-    | inr z ↦ omega (arith, z, out x z leaders leader_in)
-  ]
+  covers x = grind (arith, once, out, leader_in)

@@ -1,21 +1,20 @@
 -- Once the copies are raised there are strips along the mates.
-use Rattle.std.specs.Prelude.{map, get_or, reverse}
+use Rattle.std.specs.Prelude.{map, reverse}
 use Rattle.std.specs.Option.{option_map}
-use Rattle.std.proofs.Common.{◌≡◌, ℕ, suc, ◌+◌, ◌<◌, cond, nat_lt, List, [], ◌∷◌, ◌++◌, length, Option, Some, None, is_some, refl, sym, ap, ◌∙◌, subst, arith, inl, inr, true≢false, ◌≢◌, zero, ◌≤◌, ◌-◌}
+use Rattle.std.proofs.Common.{◌≡◌, ℕ, suc, ◌+◌, ◌<◌, List, [], ◌++◌, length, Option, Some, None, is_some, refl, sym, ap, ◌∙◌, subst, arith, inl, inr, true≢false, ◌≢◌, zero, ◌≤◌, ◌-◌}
 use Rattle.std.proofs.lemmas.Bool.{lt-ltb, cases_lt}
 use Rattle.std.proofs.lemmas.List.{length-map, get_or-map}
 use Rattle.std.proofs.lemmas.Bool.Decides.{eqb_tells}
 use Rattle.euler_operators.specs.Rings.{canonical}
-use Rattle.euler_operators.specs.HalfEdge.{mate, plus, minus}
+use Rattle.euler_operators.specs.HalfEdge.{mate, minus}
 use Rattle.euler_operators.specs.Table as table
 use Rattle.euler_operators.specs.Table.{get-map_rows, Table, same_table}
 use Rattle.euler_operators.specs.Model.{Model, LoopRow, cycle, face_of, EdgeRow, FaceRow}
 use Rattle.euler_operators.specs.Sound.{Has, Sound}
-use Rattle.euler_operators.specs.declared.Op.{Op}
 use Rattle.euler_operators.proofs.Models.{face_row}
 use Rattle.euler_operators.proofs.Tables.{get-put_here, get-put_other, put-put}
 use Rattle.euler_laws.specs.Laws.{effects, AreAccepted}
-use Rattle.euler_laws.proofs.Runs.{effects-append, AreAccepted-append, effects_keep_sound}
+use Rattle.euler_laws.proofs.Runs.{Leads, leads_on, effects_keep_sound}
 use Rattle.shapes.specs.Fresh.{Taken, numbers_after}
 use Rattle.shapes.specs.Prism.{next_place}
 use Rattle.shapes.specs.Rewriting.{rewritten_row, renamed, without_rows}
@@ -29,7 +28,7 @@ use Rattle.split_opening_laws.specs.strips.StripOps.{strip_ops, copy_ops}
 use Rattle.split_opening_laws.specs.caps.CapOps.{cap_ops}
 use Rattle.split_opening_laws.specs.opening.OpeningOps.{opening_ops}
 use Rattle.split_opening_laws.proofs.strips.Rows.{rows_at, rows_high, rows_split, rows_low}
-use Rattle.split_opening_laws.proofs.strips.Cycle.{next_below, next_copy}
+use Rattle.split_opening_laws.proofs.strips.Cycle.{next_within, next_copy}
 use Rattle.split_opening_laws.proofs.caps.Joined.{gone_below, gone_within, gone_above}
 use Rattle.split_opening_laws.proofs.strips.Copied.{copy_at}
 use Rattle.split_opening_laws.proofs.strips.Whole.{strips_accepted, strips_are_cut}
@@ -70,17 +69,6 @@ module _ {X : Type 0} (t : Table X) (k : ℕ) (row : ℕ → X) (free : (q : ℕ
 
 -- ---- a solid opened along one cycle, from its first operator to its caps
 
--- the operators are accepted in turn and make N of M
-abbrev Leads : Model → Model → List Op → Type 0
-Leads M N ops = AreAccepted M ops × (effects M ops ≡ N)
-
--- two lists of operators, one after the other
-leads_on : (M N K : Model) (ops more : List Op) → Leads M N ops → Leads N K more → Leads M K (ops ++ more)
-leads_on M N K ops more a b = (
-  AreAccepted-append M ops more a.0 (subst (λ X. AreAccepted X more) (sym a.1) b.0),
-  effects-append M ops more ∙ ap (λ X. effects X more) a.1 ∙ b.1,
-)
-
 module _ (M : Model) (above : List ℕ) (s : ℕ) (c : Taken) (bs : List ℕ) (w : CanBeOpened M above s c bs) where
   abbrev m : ℕ
   m = length bs
@@ -110,11 +98,7 @@ module _ (M : Model) (above : List ℕ) (s : ℕ) (c : Taken) (bs : List ℕ) (w
   loops_free q l = get-map_rows rewrite M.loops q ∙ ap (option_map (rewrite q)) (w.free.loops q l)
 
   items_are : (j : ℕ) → j < m → raised_items c bs m j ≡ strip_loop c hs j
-  items_are j lt =
-      let k : ℕ = next_place m j in
-      ap (λ b. mate (get_or bs j 0) ∷ cond b (plus (c.edge + m + suc j) ∷ []) [] ++ minus (c.edge + suc j) ∷ cond (nat_lt k m) (minus (c.edge + m + suc k) ∷ []) []) (lt-ltb j m lt)
-      ∙ ap (λ b. mate (get_or bs j 0) ∷ plus (c.edge + m + suc j) ∷ minus (c.edge + suc j) ∷ cond b (minus (c.edge + m + suc k) ∷ []) []) (lt-ltb k m (next_below m j lt))
-      ∙ (λ i. sym (get_or-map mate bs j 0 0 lt) i ∷ plus (c.edge + sym size i + suc j) ∷ minus (c.edge + suc j) ∷ minus (c.edge + sym size i + suc (next_place (sym size i) j)) ∷ [])
+  items_are j lt = grind (arith, lt-ltb, next_within, get_or-map, size)
 
   row_at : (j : ℕ) → j < m → table.get N.loops (c.loop + suc j) ≡ Some (raised_loop c bs m j)
   row_at j lt = ap (λ t. table.get t (c.loop + suc j)) raised_loops ∙ rows_at (table.map_rows rewrite M.loops) c.loop (raised_loop c bs m) m j lt
@@ -154,7 +138,7 @@ module _ (M : Model) (above : List ℕ) (s : ℕ) (c : Taken) (bs : List ℕ) (w
 
   row_is : (j : ℕ) → j < m → raised_edge M bs (copied M c bs m) j ≡ rim_row c.vertex m j
   row_is j lt = λ i. record {
-    plus_tail = (ap (renamed (copied M c bs m)) (sym (w.cycle.meet j lt)) ∙ copy_at M above s c bs w m (next_place m j) (next_below m j lt) (next_below m j lt) ∙ sym (next_copy c.vertex m j)) i;
+    plus_tail = (ap (renamed (copied M c bs m)) (sym (w.cycle.meet j lt)) ∙ copy_at M above s c bs w m (next_place m j) (next_within m j lt) (next_within m j lt) ∙ sym (next_copy c.vertex m j)) i;
     minus_tail = copy_at M above s c bs w m j lt lt i;
   }
 
@@ -249,11 +233,7 @@ module _ (M : Model) (above : List ℕ) (s : ℕ) (c : Taken) (bs : List ℕ) (w
       ∙ ap (option_map (opened_row M above hs (copied M c bs m) q)) (w.free.edges q (omega (arith, l)))
 
   edges_open : C.edges ≡ X.edges
-  edges_open = C_edges
-      ∙ (λ i. without_rows (N_edges i) (numbers_after (c.edge + same_size i) (same_size i)))
-      ∙ gone_all rimmed (c.edge + m) (riser_edge M c bs) edges_free m
-      ∙ rim_is opened m (omega arith)
-      ∙ X_edges
+  edges_open = grind (arith, C_edges, N_edges, same_size, gone_all, edges_free, rim_is, X_edges)
 
   kept : (C.solids ≡ X.solids) × (C.vertices ≡ X.vertices)
   unfolding capped copies_raised opened_along
@@ -269,25 +249,25 @@ module _ (M : Model) (above : List ℕ) (s : ℕ) (c : Taken) (bs : List ℕ) (w
   sound = raised_sound M above s c bs w
 
   last : Leads N X (cap_ops c m)
-  last = subst (λ n. Leads N X (cap_ops c n)) (length-map bs mate) (
-    caps_accepted N s c (map mate bs) sound raised_strips,
-    caps_made N s c (map mate bs) sound raised_strips ∙ capped_is_open,
-  )
+  last = subst (λ n. Leads N X (cap_ops c n)) (length-map bs mate) (record {
+    accepted = caps_accepted N s c (map mate bs) sound raised_strips;
+    made = caps_made N s c (map mate bs) sound raised_strips ∙ capped_is_open;
+  })
 
   all : Leads M X (strip_ops M s c bs m ++ copy_ops M c bs m ++ cap_ops c m)
   all = leads_on M N X (strip_ops M s c bs m ++ copy_ops M c bs m) (cap_ops c m)
-      (leads_on M A N (strip_ops M s c bs m) (copy_ops M c bs m) (strips_accepted M above s c bs w, strips_are_cut M above s c bs w) (copies_accepted M above s c bs w, copies_are_raised M above s c bs w))
-      last
+      (leads_on M A N (strip_ops M s c bs m) (copy_ops M c bs m) (record { accepted = strips_accepted M above s c bs w; made = strips_are_cut M above s c bs w })
+      (record { accepted = copies_accepted M above s c bs w; made = copies_are_raised M above s c bs w })) last
 
   -- no operator is refused
   pub opening_accepted : AreAccepted M (opening_ops M s c bs)
   unfolding opening_ops
-  opening_accepted = all.0
+  opening_accepted = all.accepted
 
   -- and they open the solid
   pub opening_made : effects M (opening_ops M s c bs) ≡ X
   unfolding opening_ops
-  opening_made = all.1
+  opening_made = all.made
 
   pub opened_sound : Sound X
   opened_sound = subst Sound opening_made (effects_keep_sound M (opening_ops M s c bs) w.sound opening_accepted)

@@ -8,14 +8,15 @@ use Rattle.euler_operators.specs.declared.Plane.{Plane}
 use Rattle.euler_operators.specs.Items.{IsIn, count}
 use Rattle.euler_operators.specs.HalfEdge.{mate, plus, minus}
 use Rattle.euler_operators.specs.Table as table
-use Rattle.euler_operators.specs.Model.{Model, solid_of, LoopRow, no_face, face_of, outer}
+use Rattle.euler_operators.specs.Model.{Model, solid_of, rings_of, LoopRow, no_face, face_of, outer}
 use Rattle.euler_operators.specs.Sound.{Sound, Has, HasHalf}
 use Rattle.euler_operators.specs.Conditions.{face_at, lists, differ, torn_edge, strictly_rises}
 use Rattle.euler_operators.specs.Table.{get-map_rows}
 use Rattle.euler_operators.proofs.Halves.{plus_row, minus_row, mate_plus, mate_minus}
-use Rattle.euler_operators.proofs.Tables.{first_where_zero, in_use_within, row_some, get-put_here, get-put_other}
+use Rattle.euler_operators.proofs.Tables.{all_where_none, first_where_zero, in_use_within, get-put_here, get-put_other}
 use Rattle.euler_operators.proofs.Lists.{count-append, tick_same, tick_other, IsIn_or_not}
 use Rattle.euler_operators.proofs.Models.{face_row}
+use Rattle.euler_laws.proofs.shared.Rows.{loop_row}
 use Rattle.euler_laws.proofs.shared.Listed.{listed_front, listed-from_in}
 use Rattle.euler_laws.proofs.Sizes.{rises_over, rises_on}
 use Rattle.shapes.specs.Fresh.{Taken, numbers_after}
@@ -89,12 +90,7 @@ can_be_opened M above s c sound free of there unbranched left =
     }
 
 still_left : (c : Taken) (m n k t : ℕ) → t ≡ m + n → AreLeft c t (k + 1) → AreLeft (record { face = c.face + m + 1; loop = c.loop + m + 1; edge = c.edge + 2 * m; vertex = c.vertex + m }) n k
-still_left c m n k t e l = record {
-  faces = omega (arith, l.faces, e);
-  loops = omega (arith, l.loops, e);
-  edges = omega (arith, l.edges, e);
-  vertices = omega (arith, l.vertices, e);
-}
+still_left c m n k t e l = grind arith
 
 pub others_on : (above : List ℕ) (s : ℕ) (p : Plane) (o : Opening) (bs : List ℕ) (cs : List (List ℕ)) → CanBeOpenedInTurn above s o (bs ∷ cs) → CanBeOpenedInTurn above s (next_opened p above s o bs) cs
 unfolding next_opened
@@ -172,91 +168,69 @@ cap_faces_next above ks k = ap (λ q. above ++ q) (flat_map-append (λ k. k.lowe
 
 -- ---- one opening
 
-module _ (M : Model) (above : List ℕ) (s : ℕ) (c : Taken) (bs : List ℕ) (sound : Sound M) (free : AreFree M c) (some : 1 ≤ length bs) where
+module _ (M : Model) (above : List ℕ) (s : ℕ) (c : Taken) (bs : List ℕ) (w : CanBeOpened M above s c bs) where
   abbrev N : Model
   N = opened_along M above s c bs
 
   abbrev swaps : List (ℕ × ℕ)
   swaps = both_lists (map mate bs) (map plus (numbers_after c.edge (length bs)))
 
-  lower_at : table.get N.faces (c.face + 1) ≡ Some (record { solid = s; outer = c.loop + 1 })
-  lower_at = ap (λ t. table.get t (c.face + 1)) (faces_are M above s c bs) ∙ get-put_other _ (c.face + length bs + 1) _ (c.face + 1) (λ e. absurd (omega (arith, e, some))) ∙ get-put_here _ (c.face + 1) _
+  pub lower_row : table.get N.faces (c.face + 1) ≡ Some (record { solid = s; outer = c.loop + 1 })
+  lower_row = ap (λ t. table.get t (c.face + 1)) (faces_are M above s c bs) ∙ get-put_other _ (c.face + length bs + 1) _ (c.face + 1) (λ e. absurd (omega (arith, e, w.cycle.two_halves))) ∙ get-put_here _ (c.face + 1) _
 
   -- in which face a loop is: in that of one of the caps, or where it was
-  record OldLoop (l : ℕ) : Type 0 where
-    there : Has M.loops l
-    face : face_of N l ≡ face_of M l
+  old_row : (l : ℕ) (o : Option LoopRow) (row : LoopRow) → table.get M.loops l ≡ o → option_map (rewritten_row (map (renamed swaps)) l) o ≡ Some row → Has M.loops l × (face_of M l ≡ row.face)
+  old_row l None row e at = absurd (true≢false (sym (ap is_some at)))
+  old_row l (Some old) row e at = (ap is_some e, face_row M l old e ∙ ap (λ o. (unwrap_or o row).face) at)
 
-  mapped : (l : ℕ) (o : Option LoopRow) (row : LoopRow) → table.get M.loops l ≡ o → option_map (rewritten_row (map (renamed swaps)) l) o ≡ Some row → face_of N l ≡ row.face → OldLoop l
-  mapped l None row e at f = absurd (true≢false (sym (ap is_some at)))
-  mapped l (Some old) row e at f = record { there = ap is_some e; face = f ∙ sym (face_is old row at) ∙ sym (face_row M l old e) } where
-    face_is : (a b : LoopRow) → Some (rewritten_row (map (renamed swaps)) l a) ≡ Some b → a.face ≡ b.face
-    face_is a b e = ap (λ o. (unwrap_or o b).face) e
+  pub loop_kinds : (l : ℕ) (row : LoopRow) → table.get N.loops l ≡ Some row →
+      ((l ≡ c.loop + length bs + 1) × (row.face ≡ c.face + length bs + 1)) ⊎ (((l ≡ c.loop + 1) × (row.face ≡ c.face + 1)) ⊎ (Has M.loops l × (face_of M l ≡ row.face)))
+  loop_kinds l row at = elim (get-put_cases _ (c.loop + length bs + 1) _ l row (sym (ap (λ t. table.get t l) (loops_are M above s c bs)) ∙ at)) [
+    | inl q ↦ inl (q.0, ap (λ x. x.face) q.1)
+    | inr q ↦ elim (get-put_cases _ (c.loop + 1) _ l row q.1) [
+      | inl r ↦ inr (inl (r.0, ap (λ x. x.face) r.1))
+      | inr r ↦ inr (inr (old_row l (table.get M.loops l) row refl (sym (get-map_rows (rewritten_row (map (renamed swaps))) M.loops l) ∙ r.1)))
+    ]
+  ]
 
-  loop_cases : (l : ℕ) → Has N.loops l → ((l ≡ c.loop + length bs + 1) × (face_of N l ≡ c.face + length bs + 1)) ⊎ (((l ≡ c.loop + 1) × (face_of N l ≡ c.face + 1)) ⊎ OldLoop l)
-  loop_cases l t =
-      let r = row_some (table.get N.loops l) t in
-      let f : face_of N l ≡ r.0.face = face_row N l r.0 r.1 in
-      elim (get-put_cases _ (c.loop + length bs + 1) _ l r.0 (sym (ap (λ t. table.get t l) (loops_are M above s c bs)) ∙ r.1)) [
-        | inl p ↦ inl (p.0, f ∙ ap (λ x. x.face) p.1)
-        | inr p ↦ elim (get-put_cases _ (c.loop + 1) _ l r.0 p.1) [
-          | inl q ↦ inr (inl (q.0, f ∙ ap (λ x. x.face) q.1))
-          | inr q ↦ inr (inr (mapped l (table.get M.loops l) r.0 refl (sym (get-map_rows (rewritten_row (map (renamed swaps))) M.loops l) ∙ q.1) f))
-        ]
-      ]
+  loop_cases : (l : ℕ) → Has N.loops l → ((l ≡ c.loop + length bs + 1) × (face_of N l ≡ c.face + length bs + 1)) ⊎ (((l ≡ c.loop + 1) × (face_of N l ≡ c.face + 1)) ⊎ (Has M.loops l × (face_of M l ≡ face_of N l)))
+  loop_cases l t = loop_kinds l _ (loop_row N l t)
 
-  old_loop : (l : ℕ) → OldLoop l → face_of M l ≤ c.face
-  old_loop l w = in_use_within M.faces c.face free.faces (face_of M l) (sound.loops_of_faces l w.there)
+  old_loop : (l : ℕ) → Has M.loops l → face_of M l ≤ c.face
+  old_loop l there = in_use_within M.faces c.face w.free.faces (face_of M l) (w.sound.loops_of_faces l there)
 
   outer_still : (f : ℕ) → Has M.faces f → outer N f ≡ outer M f
   unfolding outer
-  outer_still f t = ap (λ o. (unwrap_or o no_face).outer) (face_still M above s c bs sound free f t)
+  outer_still f t = ap (λ o. (unwrap_or o no_face).outer) (face_still M above s c bs w.sound w.free f t)
 
   -- a face without rings has none then
   still_plain : (f : ℕ) → IsPlain M s f → IsPlain N s f
-  still_plain f w = let l : f ≤ c.face = in_use_within M.faces c.face free.faces f w.there in record {
-    there = ap is_some (face_still M above s c bs sound free f w.there) ∙ w.there;
-    of_solid = solid_kept M above s c bs sound free f w.there ∙ w.of_solid;
+  still_plain f v = let l : f ≤ c.face = in_use_within M.faces c.face w.free.faces f v.there in record {
+    there = ap is_some (face_still M above s c bs w.sound w.free f v.there) ∙ v.there;
+    of_solid = solid_kept M above s c bs w.sound w.free f v.there ∙ v.of_solid;
     no_ring = λ k t e. elim (loop_cases k t) [
       | inl p ↦ absurd (omega (arith, l, e, p.1))
       | inr q ↦ elim q [
         | inl p ↦ absurd (omega (arith, l, e, p.1))
-        | inr p ↦ w.no_ring k p.there (sym p.face ∙ e) ∙ sym (outer_still f w.there)
+        | inr p ↦ v.no_ring k p.0 (p.1 ∙ e) ∙ sym (outer_still f v.there)
       ]
     ];
   }
 
-  plain_lower : IsPlain N s (c.face + 1)
+  pub plain_lower : IsPlain N s (c.face + 1)
   unfolding solid_of outer
-  plain_lower = record {
-    there = ap is_some lower_at;
-    of_solid = ap (λ o. (unwrap_or o no_face).solid) lower_at;
-    no_ring = λ k t e. elim (loop_cases k t) [
-      | inl p ↦ absurd (omega (arith, e, p.1, some))
-      | inr q ↦ elim q [
-        | inl p ↦ p.0 ∙ sym (ap (λ o. (unwrap_or o no_face).outer) lower_at)
-        | inr p ↦ absurd (omega (arith, old_loop k p, e, p.face))
-      ]
-    ];
-  }
+  plain_lower = grind (arith, lower_row, loop_cases, old_loop)
 
-  plain_upper : IsPlain N s (c.face + length bs + 1)
+  pub plain_upper : IsPlain N s (c.face + length bs + 1)
   unfolding solid_of outer
-  plain_upper = record {
-    there = ap is_some (upper_row M above s c bs);
-    of_solid = ap (λ o. (unwrap_or o no_face).solid) (upper_row M above s c bs);
-    no_ring = λ k t e. elim (loop_cases k t) [
-      | inl p ↦ p.0 ∙ sym (ap (λ o. (unwrap_or o no_face).outer) (upper_row M above s c bs))
-      | inr q ↦ elim q [
-        | inl p ↦ absurd (omega (arith, e, p.1, some))
-        | inr p ↦ absurd (omega (arith, old_loop k p, e, p.face))
-      ]
-    ];
-  }
+  plain_upper = grind (arith, upper_row, loop_cases, old_loop)
 
   all_still : (ks : List Caps) → ArePlain M s ks → ArePlain N s ks
-  all_still [] w = tt
-  all_still (k ∷ ks) w = (still_plain k.lower w.0, still_plain k.upper w.1, all_still ks w.2)
+  all_still [] v = tt
+  all_still (k ∷ ks) v = (still_plain k.lower v.0, still_plain k.upper v.1, all_still ks v.2)
+
+pub plain_alone : (M : Model) (s f : ℕ) → IsPlain M s f → rings_of M f ≡ []
+plain_alone M s f w = grind (arith, all_where_none, face_row)
 
 -- ---- in turn
 
@@ -265,12 +239,13 @@ unfolding next_opened
 caps_stay above s p o bs cs w caps =
     let M : Model = o.model in
     let c : Taken = o.taken in
-    let some : 1 ≤ length bs = omega (arith, w.cycles.cycles.0.two_halves) in
+    let can : CanBeOpened M above s c bs = can_open above s o bs cs w in
+    let some : 1 ≤ length bs = omega (arith, can.cycle.two_halves) in
     let k : Caps = record { lower = c.face + 1; upper = c.face + length bs + 1; hole = is_hole M p bs } in
     let low : (f : ℕ) → IsIn f (above ++ cap_faces o.caps) → f ≤ c.face = λ f i. in_use_within M.faces c.face w.free.faces f (all_there f i (IsIn_or_not f above)) in
     let low_upper : (f : ℕ) → IsIn f (upper_faces above o.caps) → f ≤ c.face = λ f i. in_use_within M.faces c.face w.free.faces f (w.upper_there f (listed-from_in f (upper_faces above o.caps) i)) in
     record {
-      plain = caps_more (opened_along M above s c bs) s o.caps k (all_still M above s c bs w.sound w.free some o.caps caps.plain) (plain_lower M above s c bs w.sound w.free some) (plain_upper M above s c bs w.sound w.free some);
+      plain = caps_more (opened_along M above s c bs) s o.caps k (all_still M above s c bs can o.caps caps.plain) (plain_lower M above s c bs can) (plain_upper M above s c bs can);
       all_rise = ap strictly_rises (cap_faces_next above o.caps k)
           ∙ rises_last ((above ++ cap_faces o.caps) ++ (c.face + 1) ∷ []) (c.face + length bs + 1)
           (rises_last (above ++ cap_faces o.caps) (c.face + 1) caps.all_rise (λ f i. omega (arith, low f i)))

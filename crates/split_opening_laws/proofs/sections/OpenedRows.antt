@@ -199,10 +199,7 @@ module _ (M : Model) (above : List ℕ) (s : ℕ) (c : Taken) (bs : List ℕ) wh
 
     -- where no half of the cycle starts, it starts where it did
     pub tail_kept : (h : ℕ) → HasHalf M h → count (tail M h) (map (tail M) bs) ≡ 0 → tail opened h ≡ tail M h
-    tail_kept h there z = go (lists above (face_at M h) && not (lists mates h)) (tail_is h there) where
-      go : (b : Bool) → tail opened h ≡ cond b (renamed copies (tail M h)) (tail M h) → tail opened h ≡ tail M h
-      go true e = e ∙ renamed_not (map (tail M) bs) (numbers_after c.vertex m) (tail M h) z
-      go false e = e
+    tail_kept h there z = grind (arith, tail_is, renamed_not)
 
     -- a half-edge was there, or is of an edge round a cap and starts at a copy
     pub half_cases : (h : ℕ) → HasHalf opened h → HasHalf M h ⊎ (IsIn (edge_of h) (numbers_after c.edge (length bs)) × (c.vertex < tail opened h))

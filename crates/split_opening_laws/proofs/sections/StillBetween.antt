@@ -2,7 +2,6 @@
 use Rattle.std.specs.Prelude.{flat_map}
 use Rattle.std.proofs.Common.{◌≡◌, ◌≢◌, ℕ, ◌<◌, List, [], ◌∷◌, length, map, get_or, is_some, refl, sym, ap, subst, ◌∙◌, arith, ◌⊎◌, inl, inr, ◌+◌, ◌≤◌, true, false, ◌++◌, unwrap_or, true≢false}
 use Rattle.std.proofs.lemmas.List.{map-append, get_or_default}
-use Rattle.std.proofs.lemmas.Bool.{false_from_ne_true}
 use Rattle.std.proofs.lemmas.Bool.Decides.{eqb_tells}
 use Rattle.euler_operators.specs.Items.{count, IsIn, IsApart}
 use Rattle.euler_operators.specs.HalfEdge.{mate, edge_of}
@@ -28,6 +27,7 @@ use Rattle.split_opening_laws.specs.Numbers.{AreFree}
 use Rattle.split_opening_laws.specs.sections.InTurn.{halves_in, AreBetween}
 use Rattle.split_opening_laws.proofs.sections.OpenedRows.{solid_kept, face_kept, half_kept, tail_cases, tail_kept, half_cases, face_still, upper_row, mate_face, minus_face, plus_face}
 use Rattle.split_opening_laws.proofs.cycles.Meets.{apart_before}
+use Rattle.std.proofs.lemmas.Bool.{false_from_ne_true}
 
 maps_agree : (f g : ℕ → ℕ) (xs : List ℕ) → ((x : ℕ) → IsIn x xs → f x ≡ g x) → map f xs ≡ map g xs
 maps_agree f g [] e = refl
@@ -222,9 +222,7 @@ module _ (M : Model) (above : List ℕ) (s : ℕ) (c : Taken) (bs : List ℕ) (c
 
     -- and the mates lie in the cap below
     not_half : IsIn (mate h) (map mate bs) → ⊥
-    not_half i =
-        let r = from_map mate (mate h) bs i in
-        true≢false (sym g ∙ ap (lists (fs ++ u ∷ [])) (mate_face M above s c bs then_sound (mate h) i) ∙ below_unlisted r.0 r.1)
+    not_half i = grind (arith, from_map, mate_face, below_unlisted)
 
     old_between : HasHalf M h → count h (map mate bs) ≡ 0 → count (mate h) (map mate bs) ≡ 0 → IsIn h (halves_in cs)
     old_between t y z =

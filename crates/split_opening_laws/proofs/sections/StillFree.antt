@@ -1,11 +1,11 @@
 -- The numbers above those that an opening takes are free after it.
-use Rattle.std.proofs.Common.{◌≡◌, ◌≢◌, ℕ, ◌+◌, ◌*◌, ◌≤◌, ◌<◌, List, [], ◌∷◌, length, map, None, refl, ap, ◌∙◌, arith, inl, inr}
+use Rattle.std.proofs.Common.{◌≡◌, ◌≢◌, ℕ, ◌+◌, ◌*◌, ◌≤◌, ◌<◌, List, [], ◌∷◌, length, map, None, refl, ap, ◌∙◌, arith}
 use Rattle.std.specs.Prelude.{fold}
 use Rattle.std.specs.Option.{option_map}
 use Rattle.euler_operators.specs.declared.Point.{Point}
 use Rattle.euler_operators.specs.declared.Plane.{Plane}
 use Rattle.euler_operators.specs.Items.{count}
-use Rattle.euler_operators.proofs.Lists.{tick_same, IsIn_or_not}
+use Rattle.euler_operators.proofs.Lists.{tick_same}
 use Rattle.euler_operators.proofs.Tables.{get-put_other}
 use Rattle.euler_operators.specs.HalfEdge.{mate, plus}
 use Rattle.euler_operators.specs.Table as table
@@ -28,10 +28,7 @@ copied_other M t (x ∷ xs) (y ∷ ys) q z =
     copied_other M (table.put t y (point_of M x)) xs ys q (omega (arith, z)) ∙ get-put_other t y (point_of M x) q (λ e. absurd (omega (arith, z, ap (λ n. count n (y ∷ ys)) e, tick_same y)))
 
 none_past : (k n q : ℕ) → k + n < q → count q (numbers_after k n) ≡ 0
-none_past k n q l = elim (IsIn_or_not q (numbers_after k n)) [
-  | inl i ↦ absurd (omega (arith, l, (in_numbers k n q i).1))
-  | inr z ↦ z
-]
+none_past k n q l = grind (arith, in_numbers)
 
 module _ (M : Model) (above : List ℕ) (s : ℕ) (c : Taken) (bs : List ℕ) (free : AreFree M c) where
   abbrev m : ℕ
@@ -41,10 +38,7 @@ module _ (M : Model) (above : List ℕ) (s : ℕ) (c : Taken) (bs : List ℕ) (f
   N = opened_along M above s c bs
 
   faces_free : (q : ℕ) → c.face + m + 1 < q → table.get N.faces q ≡ None
-  faces_free q l = ap (λ t. table.get t q) (faces_are M above s c bs)
-      ∙ get-put_other _ (c.face + m + 1) _ q (past q (c.face + m + 1) (c.face + m + 1) l (omega arith))
-      ∙ get-put_other _ (c.face + 1) _ q (past q (c.face + m + 1) (c.face + 1) l (omega arith))
-      ∙ free.faces q (omega (arith, l))
+  faces_free q l = grind (arith, faces_are, get-put_other)
 
   loops_free : (q : ℕ) → c.loop + m + 1 < q → table.get N.loops q ≡ None
   loops_free q l = ap (λ t. table.get t q) (loops_are M above s c bs)
@@ -60,15 +54,8 @@ module _ (M : Model) (above : List ℕ) (s : ℕ) (c : Taken) (bs : List ℕ) (f
       ∙ ap (option_map (opened_row M above (map mate bs) (both_lists (map (tail M) bs) (numbers_after c.vertex m)) q)) (free.edges q (omega (arith, l)))
 
   vertices_free : (q : ℕ) → c.vertex + m < q → table.get N.vertices q ≡ None
-  vertices_free q l = ap (λ t. table.get t q) (vertices_are M above s c bs)
-      ∙ copied_other M M.vertices (map (tail M) bs) (numbers_after c.vertex m) q (none_past c.vertex m q l)
-      ∙ free.vertices q (omega (arith, l))
+  vertices_free q l = grind (arith, vertices_are, copied_other, none_past)
 
 pub still_free : (above : List ℕ) (s : ℕ) (p : Plane) (o : Opening) (bs : List ℕ) → AreFree o.model o.taken → AreFree (next_opened p above s o bs).model (next_opened p above s o bs).taken
 unfolding next_opened
-still_free above s p o bs free = record {
-  faces = faces_free o.model above s o.taken bs free;
-  loops = loops_free o.model above s o.taken bs free;
-  edges = edges_free o.model above s o.taken bs free;
-  vertices = vertices_free o.model above s o.taken bs free;
-}
+still_free above s p o bs free = grind (arith, faces_free, loops_free, edges_free, vertices_free)

@@ -8,7 +8,7 @@ use Rattle.euler_operators.specs.Model.{Model, tail, point_of}
 use Rattle.euler_operators.proofs.Tables.{get-put_other}
 use Rattle.shapes.specs.Fresh.{Taken, numbers_after}
 use Rattle.shapes.specs.Rewriting.{renamed}
-use Rattle.shapes.specs.split.Opening.{both_lists, with_copies}
+use Rattle.shapes.specs.split.Opening.{with_copies}
 use Rattle.split_opening_laws.specs.strips.Strips.{copied}
 use Rattle.split_opening_laws.specs.strips.Opened.{CanBeOpened}
 use Rattle.split_opening_laws.proofs.strips.Rows.{length-numbers_after, numbers_at, numbers_above, both_more, both_none, renamed_cases, misses_both, renamed_more}
@@ -31,28 +31,17 @@ module _ (M : Model) (above : List ℕ) (s : ℕ) (c : Taken) (bs : List ℕ) (w
 
   -- another one stays
   pub copy_other : (i v : ℕ) → ((j : ℕ) → j < i → j < length bs → tail M (get_or bs j 0) ≢ v) → renamed (copied M c bs i) v ≡ v
-  copy_other i v none = elim (renamed_cases (map (tail M) bs) (numbers_after c.vertex i) v) [
-    | inl p ↦
-        let under : p.0 < length bs = omega (arith, p.1, length-map bs (tail M)) in
-        absurd (none p.0 (omega (arith, p.2, length-numbers_after c.vertex i)) under (sym (start_get p.0 under) ∙ p.3))
-    | inr p ↦ p.0
-  ]
+  copy_other i v none = grind (arith, renamed_cases, length-map, length-numbers_after, start_get)
 
   -- what becomes a vertex that was there was that vertex
   pub copy_back : (i v u : ℕ) → u ≤ c.vertex → renamed (copied M c bs i) v ≡ u → v ≡ u
-  copy_back i v u low e = elim (renamed_cases (map (tail M) bs) (numbers_after c.vertex i) v) [
-    | inl p ↦ absurd (omega (arith, low, e, p.4, numbers_at c.vertex i p.0 (omega (arith, p.2, length-numbers_after c.vertex i))))
-    | inr p ↦ sym p.0 ∙ e
-  ]
+  copy_back i v u low e = grind (arith, renamed_cases, numbers_at, length-numbers_after)
 
   start_low : (j : ℕ) → j < length bs → tail M (get_or bs j 0) ≤ c.vertex
   start_low j lt = on.low_vertex M above s c bs w (get_or bs j 0) (on.half_there M above s c bs w j lt)
 
   pub copied_next : (i : ℕ) → i < length bs → copied M c bs (suc i) ≡ copied M c bs i ++ (tail M (get_or bs i 0), c.vertex + suc i) ∷ []
-  copied_next i lt =
-      ap (both_lists (map (tail M) bs)) (numbers_last c.vertex i)
-      ∙ both_more (map (tail M) bs) (numbers_after c.vertex i) (c.vertex + suc i) (omega (arith, lt, length-map bs (tail M), length-numbers_after c.vertex i))
-      ∙ ap (λ x. copied M c bs i ++ (x, c.vertex + suc i) ∷ []) (ap (λ n. get_or (map (tail M) bs) n 0) (length-numbers_after c.vertex i) ∙ start_get i lt)
+  copied_next i lt = grind (arith, numbers_last, both_more, length-map, length-numbers_after, start_get)
 
   -- one vertex more
   pub copy_next : (i v : ℕ) → i < length bs → renamed (copied M c bs (suc i)) v ≡ cond (nat_eq (renamed (copied M c bs i) v) (tail M (get_or bs i 0))) (c.vertex + suc i) (renamed (copied M c bs i) v)

@@ -4,7 +4,6 @@ use Rattle.std.specs.Option.{option_map}
 use Rattle.std.proofs.Common.{◌≡◌, ◌≢◌, ℕ, zero, suc, ◌+◌, ◌-◌, ◌≤◌, ◌<◌, true, false, cond, List, [], ◌∷◌, length, is_some, refl, sym, ap, ◌∙◌, subst, arith, ◌⊎◌, inl, inr, true≢false, nat_eq, ◌++◌, Some}
 use Rattle.std.proofs.lemmas.Bool.Decides.{eqb_tells}
 use Rattle.std.proofs.lemmas.List.{length-map, get_or-map, map-append}
-use Rattle.std.proofs.lemmas.Bool.{eq-eqb, ne_eqb}
 use Rattle.euler_operators.specs.Items.{IsIn}
 use Rattle.euler_operators.specs.HalfEdge.{mate, edge_of, plus}
 use Rattle.euler_operators.specs.Model.{Model, tail, LoopRow, cycle, holds, loop_of, face_of, cycle_of}
@@ -27,58 +26,30 @@ use Rattle.shapes.specs.Prism.{next_place}
 use Rattle.shapes.specs.Rewriting.{rewritten_row, renamed}
 use Rattle.shapes.specs.split.Opening.{both_lists}
 use Rattle.sweeps_laws.proofs.lamina.Lists.{numbers_last}
+pub use Rattle.sweeps_laws.proofs.swept.Numbers.{next_cases, next_within}
 use Rattle.split_opening_laws.specs.strips.StripOps.{place_before}
 use Rattle.split_opening_laws.specs.strips.Opened.{CanBeOpened}
 use Rattle.split_opening_laws.specs.strips.Strips.{with_rows, put_out}
 use Rattle.split_opening_laws.proofs.strips.Rows.{rows_at, rows_low, length-numbers_after, numbers_at, numbers_above, both_more, renamed_cases, misses_both, renamed_more}
 
--- ---- lists of numbers
-
 -- ---- places round a list
-
-pub next_cases : (n j : ℕ) → ((j + 1 ≡ n) × (next_place n j ≡ 0)) ⊎ ((j + 1 ≢ n) × (next_place n j ≡ j + 1))
-next_cases n j = elim (eqb_tells (j + 1) n) [ inl e ↦ inl (e.1, ap (λ b. cond b 0 (j + 1)) e.0) | inr e ↦ inr (e.1, ap (λ b. cond b 0 (j + 1)) e.0) ]
 
 pub before_cases : (n i : ℕ) → ((i ≡ 0) × (place_before n i ≡ n - 1)) ⊎ ((i ≢ 0) × (place_before n i ≡ i - 1))
 before_cases n i = elim (eqb_tells i 0) [ inl e ↦ inl (e.1, ap (λ b. cond b (n - 1) (i - 1)) e.0) | inr e ↦ inr (e.1, ap (λ b. cond b (n - 1) (i - 1)) e.0) ]
-
-pub next_below : (n j : ℕ) → j < n → next_place n j < n
-next_below n j lt = elim (next_cases n j) [ inl p ↦ omega (arith, p.0, p.1) | inr p ↦ let q = p.0 in let r = p.1 in omega arith ]
 
 pub before_below : (n i : ℕ) → i < n → place_before n i < n
 before_below n i lt = elim (before_cases n i) [ inl p ↦ omega (arith, p.0, p.1) | inr p ↦ let q = p.0 in let r = p.1 in omega arith ]
 
 pub next-before : (n i : ℕ) → i < n → next_place n (place_before n i) ≡ i
-next-before n i lt = elim (before_cases n i) [
-  | inl p ↦ elim (next_cases n (place_before n i)) [
-    | inl q ↦ omega (arith, p.0, p.1, q.0, q.1)
-    | inr q ↦ absurd (q.0 (omega (arith, p.0, p.1)))
-  ]
-  | inr p ↦ let a = p.0 in elim (next_cases n (place_before n i)) [
-    | inl q ↦ absurd (omega (arith, p.1, q.0))
-    | inr q ↦ let b = p.1 in let d = q.1 in omega arith
-  ]
-]
+next-before n i lt = grind arith
 
 -- the number of the copy after that at a place, where the copies have the numbers after v
 pub next_copy : (v n j : ℕ) → cond (nat_eq (suc j) n) (v + 1) (v + suc j + 1) ≡ v + suc (next_place n j)
-next_copy v n j = elim (next_cases n j) [
-  | inl p ↦ ap (λ b. cond b (v + 1) (v + suc j + 1)) (eq-eqb (suc j) n (omega (arith, p.0))) ∙ ap (λ i. v + suc i) (sym p.1)
-  | inr p ↦ ap (λ b. cond b (v + 1) (v + suc j + 1)) (ne_eqb (suc j) n (λ e. p.0 (omega (arith, e)))) ∙ omega arith ∙ ap (λ i. v + suc i) (sym p.1)
-]
+next_copy v n j = grind arith
 
 -- only the place before leads to a place
 pub next_once : (n i j : ℕ) → i < n → j < n → next_place n j ≡ i → j ≡ place_before n i
-next_once n i j li lj e = elim (before_cases n i) [
-  | inl p ↦ elim (next_cases n j) [
-    | inl q ↦ omega (arith, p.0, p.1, q.0, q.1)
-    | inr q ↦ absurd (omega (arith, p.0, q.1, e))
-  ]
-  | inr p ↦ let a = p.0 in elim (next_cases n j) [
-    | inl q ↦ absurd (a (sym e ∙ q.1))
-    | inr q ↦ let b = p.1 in let d = q.1 in omega arith
-  ]
-]
+next_once n i j li lj e = grind arith
 
 -- among two places or more no place is the next to itself
 pub next_apart : (n j : ℕ) → 2 ≤ n → next_place n j ≢ j
@@ -173,10 +144,7 @@ module _ (M : Model) (above : List ℕ) (s : ℕ) (c : Taken) (bs : List ℕ) (w
 
   -- a number above the faces taken is none of a face above
   pub fresh_face : (f : ℕ) → c.face < f → lists above f ≡ false
-  fresh_face f lt = elim (lists above f) as (λ b. lists above f ≡ b → b ≡ false) [
-    | true ↦ λ e. absurd (true≢false (sym (w.above_there f e) ∙ ap is_some (w.free.faces f lt)))
-    | false ↦ λ e. refl
-  ] refl
+  fresh_face f lt = grind arith
 
   -- a vertex isn't above those taken
   pub low_vertex : (h : ℕ) → HasHalf M h → tail M h ≤ c.vertex
@@ -205,12 +173,7 @@ module _ (M : Model) (above : List ℕ) (s : ℕ) (c : Taken) (bs : List ℕ) (w
 
   -- what is none of them stays
   pub out_other : (i h : ℕ) → ((j : ℕ) → j < i → j < length bs → mate (get_or bs j 0) ≢ h) → renamed (put_out c bs i) h ≡ h
-  out_other i h none = elim (renamed_cases (map mate bs) (map plus (numbers_after c.edge i)) h) [
-    | inl p ↦
-        let below : p.0 < length bs = omega (arith, p.1, length-map bs mate) in
-        absurd (none p.0 (omega (arith, p.2, length_out i)) below (sym (mate_get p.0 below) ∙ p.3))
-    | inr p ↦ p.0
-  ]
+  out_other i h none = grind (arith, renamed_cases, length-map, length_out, mate_get)
 
   put_next : (i : ℕ) → i < length bs → put_out c bs (suc i) ≡ put_out c bs i ++ (mate (get_or bs i 0), plus (c.edge + suc i)) ∷ []
   put_next i lt =

@@ -3,13 +3,12 @@ use Rattle.std.proofs.Common.{◌≡◌, ◌≢◌, ℕ, suc, ◌+◌, ◌<◌, 
 use Rattle.std.specs.Prelude.{map, get_or}
 use Rattle.std.specs.Option.{option_map}
 use Rattle.std.proofs.lemmas.Bool.Decides.{eqb_tells}
-use Rattle.euler_operators.specs.Items.{IsIn, IsApart, head_or}
+use Rattle.euler_operators.specs.Items.{IsIn, IsApart}
 use Rattle.euler_operators.specs.Rings.{canonical, rest, successor, upto, onward}
 use Rattle.euler_operators.proofs.Rotations.{rotate_to_is}
-use Rattle.euler_operators.proofs.Cuts.{upto_once}
-use Rattle.euler_operators.specs.HalfEdge.{mate, edge_of, is_first, plus, code, half}
+use Rattle.euler_operators.specs.HalfEdge.{mate, edge_of, is_first, plus}
 use Rattle.euler_operators.specs.Table as table
-use Rattle.euler_operators.specs.Model.{Model, LoopContent, LoopRow, cycle, holds, tail, tail_in, no_edge, no_face, loop_of, solid_of, cycle_of, after, is_number}
+use Rattle.euler_operators.specs.Model.{Model, LoopContent, LoopRow, cycle, holds, tail, tail_in, no_edge, no_face, loop_of, solid_of, cycle_of, after}
 use Rattle.euler_operators.specs.Sound.{Sound, Has, HasHalf}
 use Rattle.euler_operators.proofs.Halves.{code-half, mate-mate, mate_plus}
 use Rattle.euler_operators.proofs.Models.{row_of, in-holds, none-holds, not_held, other_loop, cycle_there, cycle_sound}
@@ -34,13 +33,7 @@ use Rattle.split_opening_laws.proofs.strips.Cycle as on
 
 -- an item of a ring of others, cut before the next one
 cut_one : (xs : List ℕ) (a : ℕ) → IsApart xs → IsIn a xs → successor xs a ≢ a → (upto a (successor xs a) xs ≡ a ∷ []) × (onward a (successor xs a) xs ≡ rest a xs)
-cut_one xs a d i ne = go (rest a xs) refl where
-  go : (zs : List ℕ) → rest a xs ≡ zs → (upto a (successor xs a) xs ≡ a ∷ []) × (onward a (successor xs a) xs ≡ rest a xs)
-  go [] e = absurd (ne (ap (head_or a) e))
-  go (z ∷ zs) e =
-      let parts = upto_once a z xs (a ∷ []) zs d (rotate_to_is a xs i ∙ ap (λ t. a ∷ t) e) in
-      let next : successor xs a ≡ z = ap (head_or a) e in
-      (ap (λ k. upto a k xs) next ∙ parts.0, ap (λ k. onward a k xs) next ∙ parts.1 ∙ sym e)
+cut_one xs a d i ne = grind (arith, rotate_to_is)
 
 module _ (M : Model) (above : List ℕ) (s : ℕ) (c : Taken) (bs : List ℕ) (w : CanBeOpened M above s c bs) where
   -- ---- what stays in the model with i strips
@@ -123,24 +116,10 @@ module _ (M : Model) (above : List ℕ) (s : ℕ) (c : Taken) (bs : List ℕ) (w
         ∙ table.get-map_rows (rewritten_row (map (renamed (put_out c bs i)))) M.loops l ∙ ap (option_map (rewritten_row (map (renamed (put_out c bs i))) l)) (w.free.loops l (omega arith))
 
     goes : MefGoes N a k (plus e) f l
-    goes = record {
-      g_there = a_there;
-      k_there = half_after N sound a a_there;
-      edge_free = edge_free;
-      face_free = face_free;
-      loop_free = loop_free;
-      one_loop = loop_after N sound a a_there;
-      ends_apart = ends_apart;
-      edge_fits = ap is_number (edge_plus e) ∙ fits e (omega arith) (omega (arith, w.left.edges, lt));
-      face_fits = fits f (omega arith) (omega (arith, w.left.faces, lt));
-      loop_fits = fits l (omega arith) (omega (arith, w.left.loops, lt));
-    }
+    goes = grind (arith, a_there, half_after, edge_free, face_free, loop_free, loop_after, ends_apart, edge_plus, fits)
 
     pub strip_accepted : first_false N (cut_strip N c bs i) ≡ None
-    strip_accepted = mef_accepted N (half a) (half k) (half (plus e)) f l sound
-        (subst (λ x. MefGoes N x (code (half k)) (code (half (plus e))) f l) (sym (code-half a))
-        (subst (λ x. MefGoes N a x (code (half (plus e))) f l) (sym (code-half k))
-        (subst (λ x. MefGoes N a k x f l) (sym (code-half (plus e))) goes)))
+    strip_accepted = grind (arith, mef_accepted, code-half, goes)
 
     -- ---- the loops
 
@@ -216,11 +195,7 @@ module _ (M : Model) (above : List ℕ) (s : ℕ) (c : Taken) (bs : List ℕ) (w
 
     mef_is : mef N a k (plus e) f l ≡ strips_cut M s c bs (suc i)
     unfolding mef strips_cut
-    mef_is = λ n. record M {
-      faces = table.put (with_rows M.faces c.face (strip_face s c) i) f (record { solid = solid_is n; outer = l });
-      loops = loops_next n;
-      edges = table.put (with_rows M.edges c.edge (strip_edge M bs) i) (edge_plus e n) ((edge_row_plus e (tail N a) (tail N k) ∙ (λ j. record { plus_tail = tail_a j; minus_tail = tail_k j })) n);
-    }
+    mef_is = grind (arith, solid_is, loops_next, edge_plus, edge_row_plus, tail_a, tail_k)
 
     pub strip_is : effect N (cut_strip N c bs i) ≡ strips_cut M s c bs (suc i)
     unfolding effect
