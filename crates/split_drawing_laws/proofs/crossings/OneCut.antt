@@ -3,14 +3,13 @@ use Rattle.std.specs.Prelude.{flat_map}
 use Rattle.std.specs.Option.{option_map}
 use Rattle.std.specs.Ordering.{nat_cmp}
 use Rattle.std.specs.FinMap.Entries.{find}
-use Rattle.std.proofs.Common.{◌≡◌, ℕ, ◌+◌, ◌≤◌, false, cond, nat_eq, List, [], ◌∷◌, ◌++◌, refl, sym, ap, ◌∙◌, arith, inl, inr, ◌≢◌, suc, ◌*◌, true, length, Option, Some, None, is_some, true≢false}
-use Rattle.std.proofs.lemmas.Bool.Decides.{nat_tests, eqb_tells}
+use Rattle.std.proofs.Common.{◌≡◌, ℕ, ◌+◌, ◌≤◌, false, cond, nat_eq, List, [], ◌∷◌, ◌++◌, refl, sym, ap, ◌∙◌, arith, ◌≢◌, suc, ◌*◌, true, length, Option, Some, None, is_some, true≢false}
+use Rattle.std.proofs.lemmas.Bool.Decides.{nat_tests}
 use Rattle.euler_operators.specs.Items.{count, tick, IsIn, IsApart, head_or}
 use Rattle.euler_operators.specs.Rings.{rotate_to, canonical, rest, successor}
 use Rattle.euler_operators.specs.Edits.{insert_before, insert_after}
 use Rattle.euler_operators.specs.HalfEdge.{plus, minus, edge_of}
 use Rattle.euler_operators.specs.declared.Point.{Point}
-use Rattle.euler_operators.specs.Rings as rings
 use Rattle.euler_operators.specs.Table as table
 use Rattle.euler_operators.specs.Table.{Table, same_table, get-map_rows}
 use Rattle.euler_operators.specs.Model.{Model, LoopContent, lone, cycle, LoopRow, EdgeRow, items_of, holds, tail, loop_of, content, face_of, cycle_of, after, arc}
@@ -42,43 +41,21 @@ module _ (e k : ℕ) where
   -- a loop without the edge stays
   pub doubled_none : (hs : List ℕ) → count (plus e) hs ≡ 0 → count (minus e) hs ≡ 0 → flat_map (doubled e k) hs ≡ hs
   doubled_none [] a b = refl
-  doubled_none (h ∷ hs) a b = ap (λ t. t ++ flat_map (doubled e k) hs) (doubled_other h (absent (plus e) h hs a) (absent (minus e) h hs b))
-      ∙ ap (λ t. h ∷ t) (doubled_none hs (omega arith) (omega arith))
+  doubled_none (h ∷ hs) a b = grind (arith, doubled_other, absent, doubled_none hs (omega arith) (omega arith))
 
   -- a loop with its plus half alone gets the new plus half before it
   pub doubled_plus : (hs : List ℕ) → count (plus e) hs ≤ 1 → count (minus e) hs ≡ 0 → flat_map (doubled e k) hs ≡ insert_before (plus e) (plus k) hs
   doubled_plus [] a b = refl
-  doubled_plus (h ∷ hs) a b = elim (eqb_tells (plus e) h) [
-    | inl p ↦
-        let t : tick (plus e) h ≡ 1 = tick_is (plus e) h p.1 in
-        ap (λ b. cond b (plus k ∷ plus e ∷ []) (cond (nat_eq h (minus e)) (minus e ∷ minus k ∷ []) (h ∷ [])) ++ flat_map (doubled e k) hs) (nat_eq_turned h (plus e) ∙ p.0)
-        ∙ ap (λ t. plus k ∷ plus e ∷ t) (doubled_none hs (omega arith) (omega arith))
-        ∙ ap (λ x. plus k ∷ x ∷ hs) p.1 ∙ sym (ap (λ b. cond b (plus k ∷ h ∷ hs) (h ∷ insert_before (plus e) (plus k) hs)) p.0)
-    | inr p ↦
-        ap (λ t. t ++ flat_map (doubled e k) hs) (doubled_other h (nat_eq_turned h (plus e) ∙ p.0) (absent (minus e) h hs b))
-        ∙ ap (λ t. h ∷ t) (doubled_plus hs (omega arith) (omega arith))
-        ∙ sym (ap (λ b. cond b (plus k ∷ h ∷ hs) (h ∷ insert_before (plus e) (plus k) hs)) p.0)
-  ]
+  doubled_plus (h ∷ hs) a b = grind (arith, tick_is, nat_eq_turned, doubled_none, doubled_other, absent, doubled_plus hs (omega arith) (omega arith))
 
   -- a loop with its minus half alone gets the new minus half after it
   pub doubled_minus : (hs : List ℕ) → count (plus e) hs ≡ 0 → count (minus e) hs ≤ 1 → flat_map (doubled e k) hs ≡ insert_after (minus e) (minus k) hs
   doubled_minus [] a b = refl
-  doubled_minus (h ∷ hs) a b = elim (eqb_tells (minus e) h) [
-    | inl p ↦
-        let t : tick (minus e) h ≡ 1 = tick_is (minus e) h p.1 in
-        ap (λ t. t ++ flat_map (doubled e k) hs) (ap (λ b. cond b (plus k ∷ plus e ∷ []) (cond (nat_eq h (minus e)) (minus e ∷ minus k ∷ []) (h ∷ []))) (absent (plus e) h hs a)
-        ∙ ap (λ b. cond b (minus e ∷ minus k ∷ []) (h ∷ [])) (nat_eq_turned h (minus e) ∙ p.0))
-        ∙ ap (λ t. minus e ∷ minus k ∷ t) (doubled_none hs (omega arith) (omega arith))
-        ∙ ap (λ x. x ∷ minus k ∷ hs) p.1 ∙ sym (ap (λ b. cond b (h ∷ minus k ∷ hs) (h ∷ insert_after (minus e) (minus k) hs)) p.0)
-    | inr p ↦
-        ap (λ t. t ++ flat_map (doubled e k) hs) (doubled_other h (absent (plus e) h hs a) (nat_eq_turned h (minus e) ∙ p.0))
-        ∙ ap (λ t. h ∷ t) (doubled_minus hs (omega arith) (omega arith))
-        ∙ sym (ap (λ b. cond b (h ∷ minus k ∷ hs) (h ∷ insert_after (minus e) (minus k) hs)) p.0)
-  ]
+  doubled_minus (h ∷ hs) a b =
+      grind (arith, tick_is, absent, nat_eq_turned, doubled_none, doubled_other, doubled_minus hs (omega arith) (omega arith))
 
 rotated_head : (m : ℕ) (r : List ℕ) → rotate_to (head_or m r) (r ++ m ∷ []) ≡ r ++ m ∷ []
-rotated_head m [] = rotate_to_head m []
-rotated_head m (z ∷ zs) = rotate_to_head z (zs ++ m ∷ [])
+rotated_head m r = grind (arith, rotate_to_head)
 
 -- the ring from the item after m on
 from_next : (m : ℕ) (xs : List ℕ) → IsApart xs → IsIn m xs → rotate_to (successor xs m) xs ≡ rest m xs ++ m ∷ []
@@ -110,9 +87,6 @@ maps_agree {X = X} f g h t agree = same_table _ _ (λ q. get-map_rows g (table.m
   go : (q : ℕ) (o : Option X) → ((x : X) → o ≡ Some x → g q (f q x) ≡ h q x) → option_map (g q) (option_map (f q) o) ≡ option_map (h q) o
   go q None agree = refl
   go q (Some x) agree = ap Some (agree x refl)
-
-arc_one : (next : ℕ → ℕ) (a b n m : ℕ) → a ≢ b → next a ≡ b → m ≡ suc (suc n) → rings.arc next a b m ≡ a ∷ []
-arc_one next a b n m apart leads e = grind arith
 
 some_rows : {X : Type 0} (e : ℕ) (es : List (ℕ × X)) → is_some (find nat_cmp e es) ≡ true → (n : ℕ) × (2 * length es ≡ suc (suc n))
 some_rows e [] there = absurd (true≢false (sym there))
@@ -161,9 +135,6 @@ module _ (M : Model) (e k v : ℕ) (q : Point) (goes : CanCut M e k) where
   no_new : (h : ℕ) → edge_of h ≡ k → (g : ℕ) → HasHalf M g → count h (cycle_of M g) ≡ 0
   no_new h is g there = not_held M goes.sound h (ap (table.get M.edges) is ∙ goes.edge_free) (loop_of M g) _ (row_of M goes.sound g there)
 
-  at_a : table.get M.loops l ≡ Some first_row
-  at_a = row_of M goes.sound (plus e) (plus_there M e goes.there)
-
   at_b : table.get M.loops m ≡ Some second_row
   at_b = row_of M goes.sound (minus e) (minus_there M e goes.there)
 
@@ -186,26 +157,7 @@ module _ (M : Model) (e k v : ℕ) (q : Point) (goes : CanCut M e k) where
   rows_a : second l (first l first_row)
       ≡ both l first_row
   rows_a =
-      grind (
-        arith,
-        nat_tests,
-        cycle_there,
-        plus_there,
-        where_held_there,
-        in-holds,
-        where_held_none,
-        holds-none,
-        count-canonical,
-        count-insert_before,
-        tick_other,
-        new_apart,
-        next_half,
-        in_one,
-        next_there,
-        doubled_plus,
-        cycle_sound,
-        minus_there,
-      )
+      grind (arith, nat_tests, cycle_there, plus_there, where_held_there, in-holds, where_held_none, holds-none, count-canonical, count-insert_before, tick_other, new_apart, next_half, in_one, next_there, doubled_plus, cycle_sound, minus_there)
 
   -- the plus half isn't in the loop of the minus half
   no_plus : count (plus e) ys ≡ 0
@@ -215,22 +167,7 @@ module _ (M : Model) (e k v : ℕ) (q : Point) (goes : CanCut M e k) where
   rows_b : second m (first m second_row)
       ≡ both m second_row
   rows_b =
-      grind (
-        arith,
-        where_held_none,
-        holds-none,
-        no_plus,
-        where_held_there,
-        in-holds,
-        next_there,
-        put_between,
-        cycle_sound,
-        minus_there,
-        cycle_there,
-        no_new,
-        minus_row,
-        doubled_minus,
-      )
+      grind (arith, where_held_none, holds-none, no_plus, where_held_there, in-holds, next_there, put_between, cycle_sound, minus_there, cycle_there, no_new, minus_row, doubled_minus)
 
   -- a loop that holds neither stays
   stays : (n : ℕ) (row : LoopRow) → table.get M.loops n ≡ Some row → count (plus e) (items_of row.content) ≡ 0 → count (minus e) (items_of row.content) ≡ 0 → rewritten (flat_map (doubled e k)) row.content ≡ row.content
@@ -250,24 +187,12 @@ module _ (M : Model) (e k v : ℕ) (q : Point) (goes : CanCut M e k) where
       ∙ sym (ap (λ c. record row { content = c }) (stays n row at (none-holds (plus e) row.content no_a) (none-holds (minus e) row.content no_b)))
 
   all_rows : (n : ℕ) (row : LoopRow) → table.get M.loops n ≡ Some row → second n (first n row) ≡ both n row
-  all_rows n row at = elim (eqb_tells n l) [
-    | inl p ↦ let is : row ≡ first_row = one_row (sym at ∙ ap (table.get M.loops) p.1 ∙ at_a) in
-        (λ i. second (p.1 i) (first (p.1 i) (is i))) ∙ rows_a ∙ (λ i. both (sym p.1 i) (sym is i))
-    | inr p ↦ elim (eqb_tells n m) [
-      | inl r ↦ let is : row ≡ second_row = one_row (sym at ∙ ap (table.get M.loops) r.1 ∙ at_b) in
-          (λ i. second (r.1 i) (first (r.1 i) (is i))) ∙ rows_b ∙ (λ i. both (sym r.1 i) (sym is i))
-      | inr r ↦ other_rows n row p.1 r.1 at
-    ]
-  ]
-
-  pub loops_agree : table.map_rows second (table.map_rows first M.loops) ≡ table.map_rows both M.loops
-  loops_agree = maps_agree first second both M.loops all_rows
+  all_rows n row at = grind (arith, one_row, row_of M goes.sound (plus e) (plus_there M e goes.there), rows_a, at_b, rows_b, other_rows)
 
   -- round the tail of the plus half, the item after the minus half comes next
   one_leaves : (t : Table EdgeRow) → M.edges ≡ t → arc M (plus e) (after M (minus e)) ≡ plus e ∷ []
   unfolding arc after table.get
-  one_leaves t is =
-      grind (arith, nat_tests, some_rows, plus_row, plus_there, arc_one, true≢false, in-holds, next_there, holds-none, no_plus, mate_plus)
+  one_leaves t is = grind (arith, nat_tests, some_rows, plus_row, plus_there, true≢false, in-holds, next_there, holds-none, no_plus, mate_plus)
 
   only_plus : (x : ℕ) (r : EdgeRow) → x ≢ e → with_tails (plus e ∷ []) v x r ≡ r
   only_plus x r n = grind (arith, nat_tests, tick_other)
@@ -287,4 +212,4 @@ module _ (M : Model) (e k v : ℕ) (q : Point) (goes : CanCut M e k) where
   -- the whole model
   pub cut_is_mev : mev_at M (plus e) (after M (minus e)) (plus k) v q ≡ edge_cut M e k v q
   unfolding mev_at edge_cut after
-  cut_is_mev = grind (arith, row_some, plus_row, plus_there, mate_plus, loops_agree, edges_agree)
+  cut_is_mev = grind (arith, row_some, plus_row, plus_there, mate_plus, maps_agree first second both M.loops all_rows, edges_agree)

@@ -5,13 +5,12 @@ use Rattle.std.proofs.Common.{◌≡◌, ℕ, ◌+◌, ◌≤◌, Bool, true, fa
 use Rattle.std.proofs.lemmas.Bool.Decides.{eqb_tells}
 use Rattle.std.proofs.lemmas.Bool.{eq-eqb, not-false, eqb-true}
 use Rattle.euler_operators.specs.Items.{count, tick, IsIn}
-use Rattle.euler_operators.specs.Model.{Model, items_of, content, tail, face_of, loop_of, solid_of, point_of, before, faces_of}
+use Rattle.euler_operators.specs.Model.{Model, items_of, content, tail, face_of, loop_of, solid_of, before, faces_of}
 use Rattle.euler_operators.specs.Sound.{Has, Sound, HasHalf, StandsIn}
 use Rattle.euler_operators.specs.declared.Plane.{Plane}
 use Rattle.euler_operators.specs.Points.{IsInRange}
-use Rattle.euler_operators.specs.Vectors.{height, opposite, are_opposite, is_above, is_below, is_on, same_point, cuts_lattice, cut_between}
+use Rattle.euler_operators.specs.Vectors.{height, opposite, are_opposite, is_on, same_point, cuts_lattice, cut_between}
 use Rattle.euler_operators.specs.HalfEdge.{plus, minus}
-use Rattle.euler_operators.specs.Table as table
 use Rattle.euler_operators.specs.Conditions.{AllHold, face_at}
 use Rattle.euler_operators.proofs.Lists.{count-append, tick_same, tick_other}
 use Rattle.euler_operators.proofs.Halves.{mate_plus, mate_minus}
@@ -24,7 +23,7 @@ use Rattle.euler_laws.proofs.shared.Rows.{loop_row, face_there, point_row}
 use Rattle.euler_laws.proofs.shared.Counted.{all_where_in, all_where_has}
 use Rattle.shapes.specs.Faces.{loops_of, items_in, boundary, corners, start, finish, edges_of}
 use Rattle.shapes.specs.Fresh.{first_such, taken_in}
-use Rattle.shapes.specs.split.Sides.{crosses, straddles, straddling_faces, crossing_edges, reaches_above, reaches_below}
+use Rattle.shapes.specs.split.Sides.{crosses, straddles, straddling_faces, crossing_edges}
 use Rattle.shapes.specs.split.Places.{is_place, place_point, places, some_meet, is_touched, is_cut_often, is_crossed, is_up_and_down, sorted_pairs, pair_count}
 use Rattle.shapes.specs.split.Split.{first_conditions}
 use Rattle.shapes.proofs.walks.FaceLoops.{tail_in}
@@ -64,8 +63,7 @@ pub face_facts : (M : Model) (s : ℕ) (p : Plane) (f : ℕ) → IsIn f (straddl
 face_facts M s p f i = solid_facts M s f (omega (arith, i, count-filter (straddles M p) f (faces_of M s)))
 
 pub edge_listed : (M : Model) (s e : ℕ) → Has M.edges e → solid_of M (face_at M (plus e)) ≡ s → IsIn e (edges_of M s)
-edge_listed M s e there of_s = let w = row_some (table.get M.edges e) there in
-    all_where_in (λ x _. nat_eq (solid_of M (face_at M (plus x))) s) M.edges e w.0 w.1 (eq-eqb (solid_of M (face_at M (plus e))) s of_s)
+edge_listed M s e there of_s = grind (arith, row_some, all_where_in, eq-eqb)
 
 -- ---- the loops of a face
 
@@ -78,8 +76,7 @@ module _ (M : Model) where
   pub item_in : (h l : ℕ) (ls : List ℕ) → IsIn l ls → IsIn h (items_of (content M l)) → IsIn h (items_in M ls)
   item_in h l [] i j = absurd (omega arith)
   item_in h l (k ∷ ls) i j = elim (eqb_tells l k) [
-    | inl s ↦ let now : IsIn h (items_of (content M k)) = subst (λ q. IsIn h (items_of (content M q))) s.1 j in
-        omega (arith, now, count-append h (items_of (content M k)) (items_in M ls))
+    | inl s ↦ grind (arith, count-append)
     | inr s ↦ let later : IsIn h (items_in M ls) = item_in h l ls (omega (arith, i, tick_other l k s.1)) j in
         omega (arith, later, count-append h (items_of (content M k)) (items_in M ls))
   ]
@@ -157,8 +154,7 @@ module _ (M : Model) (sound : Sound M) (s : ℕ) (p : Plane) where
     numbers : Left (taken_in M) (pair_count M p (straddling_faces M p s)) (pair_count M p (straddling_faces M p s))
         (length (crossing_edges M p s) + pair_count M p (straddling_faces M p s)) (length (crossing_edges M p s))
     unfolding first_conditions
-    numbers = numbers_are_left (taken_in M) (pair_count M p (straddling_faces M p s)) (pair_count M p (straddling_faces M p s))
-        (length (crossing_edges M p s) + pair_count M p (straddling_faces M p s)) (length (crossing_edges M p s)) hold.1.1.1.1.1.1.1.1.1.1.1.1.1.1.1.1
+    numbers = grind (arith, numbers_are_left)
 
     pub cuttable : Cuttable M s p
     cuttable = grind (arith, not-false, none_such, none_off, none_touched, none_often, none_crossed, numbers)
@@ -172,9 +168,6 @@ module _ (M : Model) (sound : Sound M) (s : ℕ) (p : Plane) where
     far_end : finish M (plus e) ≡ start M (minus e)
     far_end = ap (start M) (mate_plus e)
 
-    near_end : finish M (minus e) ≡ start M (plus e)
-    near_end = ap (start M) (mate_minus e)
-
     pub plus_crosses : are_opposite p (start M (plus e)) (start M (minus e)) ≡ true
     plus_crosses = ap (are_opposite p (start M (plus e))) (sym far_end) ∙ (edge_facts e i).2
 
@@ -182,14 +175,14 @@ module _ (M : Model) (sound : Sound M) (s : ℕ) (p : Plane) where
     minus_crosses = opposite_back (height p (start M (plus e))) (height p (start M (minus e))) plus_crosses
 
     pub minus_is : crosses M p (minus e) ≡ true
-    minus_is = ap (are_opposite p (start M (minus e))) near_end ∙ minus_crosses
+    minus_is = ap (are_opposite p (start M (minus e))) (ap (start M) (mate_minus e)) ∙ minus_crosses
 
     pub crossing_point : (h : ℕ) → crosses M p h ≡ true → place_point M p h ≡ cut_between p (start M h) (finish M h)
     unfolding place_point
     crossing_point h x = ap (λ b. cond b (start M h) (cut_between p (start M h) (finish M h))) (not_level (height p (start M h)) (height p (finish M h)) x)
 
     pub one_point : place_point M p (plus e) ≡ place_point M p (minus e)
-    one_point = grind (arith, crossing_point, edge_facts, far_end, cut_back, plus_crosses, near_end, minus_is)
+    one_point = grind (arith, crossing_point, edge_facts, far_end, cut_back, plus_crosses, ap (start M) (mate_minus e), minus_is)
 
     -- both in loop l: then the face of that loop straddles, and has two places at one point
     module _ (l : ℕ) (first : loop_of M (plus e) ≡ l) (second : loop_of M (minus e) ≡ l) where
@@ -217,15 +210,9 @@ module _ (M : Model) (sound : Sound M) (s : ℕ) (p : Plane) where
       both_sides : (m n : ℤ) → opposite m n ≡ true → ((int_lt (pos 0) m ≡ true) × (int_lt n (pos 0) ≡ true)) ⊎ ((int_lt m (pos 0) ≡ true) × (int_lt (pos 0) n ≡ true))
       both_sides m n o = grind arith
 
-      above_any : (h : ℕ) → IsIn (tail M h) (corners M (face_of M l)) → is_above p (start M h) ≡ true → reaches_above M p (face_of M l) ≡ true
-      above_any h j a = any_passes (λ v. is_above p (point_of M v)) (tail M h) (corners M (face_of M l)) j a
-
-      below_any : (h : ℕ) → IsIn (tail M h) (corners M (face_of M l)) → is_below p (start M h) ≡ true → reaches_below M p (face_of M l) ≡ true
-      below_any h j b = any_passes (λ v. is_below p (point_of M v)) (tail M h) (corners M (face_of M l)) j b
-
       face_straddles : straddles M p (face_of M l) ≡ true
       unfolding straddles
-      face_straddles = grind (arith, both_sides, plus_crosses, above_any, plus_corner, below_any, minus_corner)
+      face_straddles = grind (arith, both_sides, plus_crosses, plus_corner, minus_corner, any_passes)
 
       places_meet : some_meet M p (places M p (face_of M l)) ≡ true
       unfolding places

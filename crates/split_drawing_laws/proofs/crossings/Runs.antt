@@ -4,7 +4,7 @@ use Rattle.std.proofs.lemmas.Bool.Decides.{eqb_tells}
 use Rattle.euler_operators.specs.declared.Point.{Point}
 use Rattle.euler_operators.specs.declared.Plane.{Plane}
 use Rattle.euler_operators.specs.Points.{IsInRange}
-use Rattle.euler_operators.specs.Vectors.{height, are_opposite, cut_between}
+use Rattle.euler_operators.specs.Vectors.{height, cut_between}
 use Rattle.euler_operators.specs.Items.{count, tick, IsIn}
 use Rattle.euler_operators.proofs.Lists.{tick_same, tick_other}
 use Rattle.euler_operators.specs.HalfEdge.{mate, edge_of, plus, minus}
@@ -74,11 +74,8 @@ module _ (M N : Model) (p : Plane) (ds : List ℕ) (sound : Sound M) (a : AreCut
   same_cut : cut_at N p e ≡ cut_at M p e
   same_cut = λ i. cut_between p (same_start M N p ds sound a e c uncut i) (same_finish M N p ds sound a e c uncut i)
 
-  e_there : Has N.edges e
-  e_there = kept_edge M N a.kept e c.there
-
   pub goes : CutGoes N e k v (cut_at N p e)
-  goes = grind (arith, e_there, plus_there, minus_there, same_cut)
+  goes = grind (arith, kept_edge M N a.kept e c.there, plus_there, minus_there, same_cut)
 
   abbrev K : Model
   K = edge_cut N e k v (cut_at N p e)
@@ -106,10 +103,7 @@ module _ (M N : Model) (p : Plane) (ds : List ℕ) (sound : Sound M) (a : AreCut
     old : {x : ℕ} → Has N.edges x → x ≢ e → (Has M.edges x × (count x (e ∷ ds) ≡ 0)) ⊎ (crosses K p (plus x) ≡ false)
     old {x} there ne = elim (a.cleared x there) [
       | inl b ↦ inl (b.0, omega (arith, b.1, tick_other x e ne))
-      | inr b ↦
-          let same : start K (plus x) ≡ start N (plus x) = start_other (plus x) (plus_there N x there) (λ s. ne (sym (plus_row x).0 ∙ s)) in
-          let far : finish K (plus x) ≡ finish N (plus x) = start_other (mate (plus x)) (ap (table.has N.edges) (edge_of-mate (plus x)) ∙ plus_there N x there) (λ s. ne (sym (plus_row x).0 ∙ sym (edge_of-mate (plus x)) ∙ s)) in
-          inr ((λ i. are_opposite p (same i) (far i)) ∙ b)
+      | inr b ↦ grind (arith, start_other, plus_there, plus_row, edge_of-mate)
     ]
 
   pub cut_more : AreCut M K p (e ∷ ds)
@@ -203,8 +197,7 @@ module _ (M : Model) (p : Plane) (sound : Sound M) (g : Growing) (ds : List ℕ)
 
   pub going_on : Going M p (next_cut p g e) (e ∷ ds) rs
   going_on = record {
-    cut = subst (λ K. AreCut M K p (e ∷ ds)) (sym next_model)
-        (cut_more M g.model p ds sound w.cut e (g.taken.edge + 1) (g.taken.vertex + 1) crossing_now uncut_now edge_free_now vertex_free_now edge_fits_now vertex_fits_now);
+    cut = grind (arith, next_model, cut_more, crossing_now, uncut_now, edge_free_now, vertex_free_now, edge_fits_now, vertex_fits_now);
     counted = next_taken ∙ (λ i. record (w.counted i) { edge = g.taken.edge + 1; vertex = g.taken.vertex + 1 })
         ∙ sym (taken_then g.model e (g.taken.edge + 1) (g.taken.vertex + 1) (cut_at g.model p e) goes_now.can.there edge_above vertex_above)
         ∙ ap taken_in (sym next_model);

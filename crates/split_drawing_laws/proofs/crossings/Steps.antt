@@ -9,7 +9,7 @@ use Rattle.euler_operators.specs.Rings.{rotate_to, canonical}
 use Rattle.euler_operators.specs.declared.Corner.TheVariants.{At}
 use Rattle.euler_operators.specs.HalfEdge.{edge_of, is_first, plus, minus, half}
 use Rattle.euler_operators.specs.Table as table
-use Rattle.euler_operators.specs.Model.{Model, LoopContent, lone, cycle, EdgeRow, items_of, holds, tail, tail_in, loop_of, content, after, point_of, no_point, is_number}
+use Rattle.euler_operators.specs.Model.{Model, LoopContent, EdgeRow, items_of, holds, tail, tail_in, loop_of, content, after, point_of, no_point, is_number}
 use Rattle.euler_operators.specs.Sound.{Sound, Has, HasHalf}
 use Rattle.euler_operators.specs.declared.Op.{Op}
 use Rattle.euler_operators.specs.declared.Op.TheVariants.{Mev}
@@ -39,15 +39,13 @@ doubled_has e k h = grind (arith, tick_is, tick_same)
 still_in : (e k x : ℕ) (hs : List ℕ) → IsIn x hs → IsIn x (flat_map (doubled e k) hs)
 still_in e k x [] i = absurd (omega arith)
 still_in e k x (h ∷ hs) i = elim (eqb_tells x h) [
-  | inl a ↦ let here : 1 ≤ count x (doubled e k h) = subst (λ y. 1 ≤ count y (doubled e k h)) (sym a.1) (doubled_has e k h) in
-      omega (arith, here, count-append x (doubled e k h) (flat_map (doubled e k) hs))
+  | inl a ↦ grind (arith, doubled_has, count-append)
   | inr a ↦ let there : 1 ≤ count x (flat_map (doubled e k) hs) = still_in e k x hs (omega (arith, i, tick_other x h a.1)) in
       omega (arith, there, count-append x (doubled e k h) (flat_map (doubled e k) hs))
 ]
 
 still_held : (e k x : ℕ) (c : LoopContent) → IsIn x (items_of c) → holds x (rewritten (flat_map (doubled e k)) c) ≡ true
-still_held e k x (lone v) i = absurd (omega arith)
-still_held e k x (cycle hs) i = in-holds x (cycle (canonical (flat_map (doubled e k) hs))) (omega (arith, still_in e k x hs i, count-canonical x (flat_map (doubled e k) hs)))
+still_held e k x c f = grind (arith, in-holds, still_in, count-canonical)
 
 -- edge e of a sound model can be cut by edge k at vertex v, which gets point q
 pub record CutGoes (M : Model) (e k v : ℕ) (q : Point) : Type 0 where
@@ -60,9 +58,6 @@ pub record CutGoes (M : Model) (e k v : ℕ) (q : Point) : Type 0 where
 module _ (M : Model) (e k v : ℕ) (q : Point) (goes : CutGoes M e k v q) where
   abbrev cut_op : Op
   cut_op = Mev (At (half (plus e))) (At (half (after M (minus e)))) (half (plus k)) v q
-
-  abbrev pub N : Model
-  N = edge_cut M e k v q
 
   next_starts : tail M (after M (minus e)) ≡ tail M (plus e)
   next_starts = goes.can.sound.ends_meet (minus e) (minus_there M e goes.can.there) ∙ ap (tail M) (mate_minus e)
@@ -98,9 +93,6 @@ module _ (M : Model) (e k v : ℕ) (q : Point) (goes : CutGoes M e k v q) where
   pub apart_new : (x : ℕ) → Has M.edges x → x ≢ k
   apart_new x there is = true≢false (sym there ∙ ap is_some (ap (table.get M.edges) is ∙ goes.can.edge_free))
 
-  e_there : Has M.edges e
-  e_there = goes.can.there
-
   pub edge_other : (x : ℕ) → x ≢ e → x ≢ k → table.get (edge_cut M e k v q).edges x ≡ table.get M.edges x
   unfolding edge_cut
   edge_other x a b = get-put_other _ e _ x a ∙ get-put_other M.edges k _ x b
@@ -111,7 +103,7 @@ module _ (M : Model) (e k v : ℕ) (q : Point) (goes : CutGoes M e k v q) where
 
   pub edge_new : table.get (edge_cut M e k v q).edges k ≡ Some (record { plus_tail = tail M (plus e); minus_tail = v })
   unfolding edge_cut
-  edge_new = get-put_other _ e _ k (λ s. apart_new e e_there (sym s)) ∙ get-put_here M.edges k _
+  edge_new = get-put_other _ e _ k (λ s. apart_new e goes.can.there (sym s)) ∙ get-put_here M.edges k _
 
   pub edge_stays : (x : ℕ) → Has M.edges x → Has (edge_cut M e k v q).edges x
   edge_stays x there = elim (eqb_tells x e) [
@@ -126,9 +118,6 @@ module _ (M : Model) (e k v : ℕ) (q : Point) (goes : CutGoes M e k v q) where
   pub point_new : point_of (edge_cut M e k v q) v ≡ q
   unfolding edge_cut point_of
   point_new = ap (λ o. unwrap_or o no_point) (get-put_here M.vertices v q)
-
-  apart_vertex : (w : ℕ) → Has M.vertices w → w ≢ v
-  apart_vertex w there is = true≢false (sym there ∙ ap is_some (ap (table.get M.vertices) is ∙ goes.vertex_free))
 
   same_solids : (edge_cut M e k v q).solids ≡ M.solids
   unfolding edge_cut
@@ -146,7 +135,7 @@ module _ (M : Model) (e k v : ℕ) (q : Point) (goes : CutGoes M e k v q) where
     face = face-same M (edge_cut M e k v q) (rewritten (flat_map (doubled e k))) rewrites;
     halves = λ h there. edge_stays (edge_of h) there;
     loop = loop_stays;
-    points = λ w there. vertex_other w (apart_vertex w there);
+    points = λ w there. vertex_other w (λ is. true≢false (sym there ∙ ap is_some (ap (table.get M.vertices) is ∙ goes.vertex_free)));
   }
 
   -- ---- where half-edges start then

@@ -1,6 +1,6 @@
 -- All edges of a solid that cross a plane cut: from the first conditions of a split to the model.
 use Rattle.std.specs.Prelude.{filter}
-use Rattle.std.proofs.Common.{◌≡◌, ℕ, ◌≤◌, Bool, true, false, nat_eq, [], None, is_some, unwrap_or, refl, sym, ap, ◌∙◌, arith, inl, inr, cond, ◌&&◌, ◌||◌, subst, true≢false}
+use Rattle.std.proofs.Common.{◌≡◌, ℕ, Bool, true, false, nat_eq, [], None, is_some, unwrap_or, refl, sym, ap, ◌∙◌, arith, inl, inr, cond, ◌&&◌, ◌||◌, subst, true≢false}
 use Rattle.std.proofs.lemmas.Bool.{eqb-true, false_from_ne_true}
 use Rattle.euler_operators.specs.declared.Plane.{Plane}
 use Rattle.euler_operators.specs.Vectors.{are_opposite, height, is_on, cut_between}
@@ -52,11 +52,8 @@ module _ (M : Model) (s : ℕ) (p : Plane) (t : ℕ) (sound : Sound M) (accepted
   pub can_cut : Cuttable M s p
   can_cut = cuttable M sound s p t (all_hold (first_conditions M s p t) accepted)
 
-  once : (x : ℕ) → count x (crossing_edges M p s) ≤ 1
-  once x = omega (arith, count-filter (λ e. crosses M p (plus e)) x (edges_of M s), counted_once x (edges_of M s) (all_where-rises (λ e _. nat_eq (solid_of M (face_at M (plus e))) s) M.edges))
-
   pub begins : Going M p (growing M) [] (crossing_edges M p s)
-  begins = grind (arith, none_cut, crossing_here, can_cut, once)
+  begins = grind (arith, none_cut, crossing_here, can_cut, count-filter, counted_once, all_where-rises)
 
   pub gone : Gone M p (growing M) [] (crossing_edges M p s)
   gone = all_gone M p sound (growing M) [] (crossing_edges M p s) begins
@@ -189,8 +186,7 @@ module _ (M : Model) (s : ℕ) (p : Plane) (t : ℕ) (sound : Sound M) (accepted
     go false false c e n = absurd (true≢false (sym e))
 
   pub turned : (e : ℕ) (b : Bool) → crosses M p (minus e) ≡ b → crosses M p (plus e) ≡ b
-  turned e b is = ap (are_opposite p (start M (plus e))) (ap (start M) (mate_plus e)) ∙ opposite_turned (height p (start M (plus e))) (height p (start M (minus e)))
-      ∙ sym (ap (are_opposite p (start M (minus e))) (ap (start M) (mate_minus e))) ∙ is
+  turned e b is = grind (arith, mate_plus, opposite_turned, mate_minus)
 
   pub in_crossing : (e : ℕ) → Has M.edges e → solid_of M (face_at M (plus e)) ≡ s → crosses M p (plus e) ≡ true → IsIn e (crossing_edges M p s)
   in_crossing e there of_s c = IsIn-filter (λ x. crosses M p (plus x)) e (edges_of M s) (edge_listed M s e there of_s) c

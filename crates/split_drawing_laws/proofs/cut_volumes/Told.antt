@@ -6,7 +6,7 @@ use Rattle.std.proofs.lemmas.Bool.Decides.{eqb_tells}
 use Rattle.std.proofs.lemmas.Bool.{and_parts}
 use Rattle.euler_operators.specs.Items.{count, tick, IsIn}
 use Rattle.euler_operators.specs.Table as table
-use Rattle.euler_operators.specs.Model.{Model, solid_of, faces_of, LoopContent, lone, cycle, items_of, tail, content, point_of, loop_of, cycle_of, is_ring_of, rings_of, after, no_face}
+use Rattle.euler_operators.specs.Model.{Model, solid_of, faces_of, LoopContent, items_of, content, point_of, loop_of, is_ring_of, rings_of, after, no_face}
 use Rattle.euler_operators.specs.Sound.{Has, Sound}
 use Rattle.euler_operators.specs.declared.Plane.{Plane}
 use Rattle.euler_operators.specs.Vectors.{is_on, origin, dot, same_point, direction}
@@ -89,8 +89,7 @@ module _ (M : Model) (r : Plane) where
 
   -- an item starts at a corner
   pub item_on : (c : LoopContent) (h : ℕ) → are_on M r (vertices_on M c) ≡ true → IsIn h (items_of c) → is_on r (start M h) ≡ true
-  item_on (lone v) h on i = absurd (omega (arith, i))
-  item_on (cycle hs) h on i = each_mapped (λ v. is_on r (point_of M v)) (tail M) hs h on i
+  item_on c h e f = grind (arith, each_mapped)
 
 module _ (M : Model) (sound : Sound M) where
   pub item_loop : (l h : ℕ) → IsIn h (items_of (content M l)) → loop_of M h ≡ l
@@ -99,8 +98,7 @@ module _ (M : Model) (sound : Sound M) where
   -- what comes after an item of a loop is one of its items
   pub next_item : (l h : ℕ) → IsIn h (items_of (content M l)) → IsIn (after M h) (items_of (content M l))
   unfolding after
-  next_item l h i = subst (λ xs. IsIn (after M h) xs) (ap (λ q. items_of (content M q)) (item_loop l h i))
-      (IsIn_successor h (cycle_of M h) (subst (λ q. IsIn h (items_of (content M q))) (sym (item_loop l h i)) i))
+  next_item l h i = grind (arith, item_loop, IsIn_successor)
 
   -- so it ends at a corner
   pub item_ends_on : (r : Plane) (l h : ℕ) → are_on M r (vertices_on M (content M l)) ≡ true → IsIn h (items_of (content M l)) → is_on r (finish M h) ≡ true
@@ -117,8 +115,7 @@ rising_one xs ys a b to back =
 
 -- a face has the same rings in two models where the same loops are its rings
 pub same_rings : (M N : Model) → Sound M → Sound N → (f : ℕ) → ((l : ℕ) → is_ring_of N f l ≡ is_ring_of M f l) → rings_of N f ≡ rings_of M f
-same_rings M N a b f same = rising_one (rings_of N f) (rings_of M f) (rings_rise N b f) (rings_rise M a f)
-    (λ q i. ring_listed M a f q (sym (same q) ∙ listed_ring N b f q i)) (λ q i. ring_listed N b f q (same q ∙ listed_ring M a f q i))
+same_rings M N a b f same = grind (arith, rising_one, rings_rise, ring_listed, listed_ring)
 
 -- ---- faces on one plane: what they add to the six volumes, told from any corner
 
@@ -152,15 +149,12 @@ unfolding is_flat
 flat_on M f flat = and_parts (not (same_point (direction (plane_of M f)) origin)) (are_on M (plane_of M f) (corners M f)) flat
 
 module _ (M N : Model) (s : ℕ) (new : Sound N) (w : Measured M N s) where
-  pub has_face : (f : ℕ) → Has M.faces f → Has N.faces f
-  has_face f there = subst (λ t. Has t f) (sym w.faces) there
-
   module _ (f : ℕ) (there : Has M.faces f) (flat : is_flat M f ≡ true) where
     on_now : are_on N (plane_of M f) (corners N f) ≡ true
     on_now = w.planes f (plane_of M f) (flat_on M f flat).1
 
     anchor_told : dot (anchor N f) (normal M f) ≡ dot (anchor M f) (normal M f)
-    anchor_told = plane_told M f (anchor N f) (anchor_on N (plane_of M f) f new (has_face f there) on_now)
+    anchor_told = plane_told M f (anchor N f) (anchor_on N (plane_of M f) f new (subst (λ t. Has t f) (sym w.faces) there) on_now)
 
     pub flat_volume : dot (anchor N f) (normal N f) ≡ dot (anchor M f) (normal M f)
     flat_volume = ap (dot (anchor N f)) (w.normals f) ∙ anchor_told

@@ -2,13 +2,12 @@
 use Rattle.std.proofs.Common.{◌≡◌, ◌≢◌, ℕ, List, ◌∷◌, Some, None, is_some, IsTrue, refl, sym, ap, ◌∙◌, subst, arith}
 use Rattle.std.proofs.lemmas.Bool.Decides.{nat_tests}
 use Rattle.euler_operators.specs.Rings.{rotate_to}
-use Rattle.euler_operators.specs.Operators.{mef_old, mef_new}
 use Rattle.euler_operators.specs.declared.HalfEdge.{HalfEdge}
 use Rattle.euler_operators.specs.declared.Corner.TheVariants.{At}
-use Rattle.euler_operators.specs.HalfEdge.{edge_of, plus, code, half}
+use Rattle.euler_operators.specs.HalfEdge.{plus, code, half}
 use Rattle.euler_operators.specs.Table as table
 use Rattle.euler_operators.specs.Table.{Table, tables, same_table}
-use Rattle.euler_operators.specs.Model.{Model, LoopRow, cycle, tail, loop_of, cycle_of, solid_of, outer, is_number}
+use Rattle.euler_operators.specs.Model.{Model, LoopRow, tail, loop_of, cycle_of, solid_of, outer, is_number}
 use Rattle.euler_operators.specs.Sound.{Sound, HasHalf}
 use Rattle.euler_operators.proofs.Halves.{plus_row, code-half, edge_of-code, mate_plus}
 use Rattle.euler_operators.proofs.Models.{row_of}
@@ -18,7 +17,6 @@ use Rattle.euler_operators.specs.declared.Op.TheVariants.{RingIn}
 use Rattle.euler_operators.proofs.Tables.{get-put_here, get-put_other}
 use Rattle.euler_laws.proofs.shared.Rows.{of_half, edge_row_plus}
 use Rattle.euler_laws.proofs.mef.MefUndo.{loops-mef}
-use Rattle.euler_laws.proofs.mef.MefSound.{MefGoes}
 use Rattle.euler_laws.proofs.mef.Kef.{mef_accepted}
 use Rattle.euler_laws.proofs.kemr.Kemr.{CornerAt, MekrGoes, mekr_accepted}
 use Rattle.euler_laws.proofs.Cases.{effect_keeps_sound}
@@ -58,22 +56,15 @@ pub record CanDraw (M : Model) (u k e f l : ℕ) : Type 0 where
 
 module _ (M : Model) (u k e f l : ℕ) (can : CanDraw M u k e f l) where
   put_new : ℕ → Table LoopRow
-  put_new m = table.put (table.put M.loops (loop_of M u) (record { face = face_at M u; content = cycle (mef_old (plus e) u k (cycle_of M u)) })) l
-      (record { face = f; content = cycle (mef_new m u k (cycle_of M u)) })
-
-  free_plus : table.get M.edges (edge_of (plus e)) ≡ None
-  free_plus = ap (table.get M.edges) (plus_row e).0 ∙ can.edge_free
+  put_new m = grind arith
 
   -- it is mef
   pub mef_draws : mef M u k (plus e) f l ≡ face_drawn M u k e f l
   unfolding mef face_drawn put_new
-  mef_draws = grind (arith, loops-mef, free_plus, put_new, mate_plus, plus_row, edge_row_plus)
-
-  draw_goes : MefGoes M u k (plus e) f l
-  draw_goes = grind (arith, free_plus, plus_row)
+  mef_draws = grind (arith, loops-mef, put_new, mate_plus, plus_row, edge_row_plus)
 
   pub draw_accepted : first_false M (draw_edge u k e f l) ≡ None
-  draw_accepted = grind (arith, mef_accepted, code-half, draw_goes)
+  draw_accepted = grind (arith, mef_accepted, code-half, plus_row)
 
   pub draw_made : effect M (draw_edge u k e f l) ≡ face_drawn M u k e f l
   unfolding effect

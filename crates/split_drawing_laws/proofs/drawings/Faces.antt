@@ -21,16 +21,13 @@ use Rattle.split_drawing_laws.proofs.drawings.Runs.{Leads, leads_none, leads_on}
 
 -- being stuck changes nothing else
 pub going_on : (M : Model) (f n : ℕ) (b : Bool) (d : Drawing) → Going M f d d.left n → Going M f (cond b (stuck_at f d) d) (cond b (stuck_at f d) d).left n
-going_on M f n true d g = record { drawn = g.drawn; fresh = g.fresh; room = g.room }
-going_on M f n false d g = g
+going_on M f n b d e = grind arith
 
 pub fitting_on : (M : Model) (f g : ℕ) (b : Bool) (d : Drawing) → AllFit M f d.left → AllFit M f (cond b (stuck_at g d) d).left
-fitting_on M f g true d a = a
-fitting_on M f g false d a = a
+fitting_on M f g b d e = grind arith
 
 leading_on : (M : Model) (f : ℕ) (b : Bool) (d : Drawing) (ops : List Op) → Leads M d.model ops → Leads M (cond b (stuck_at f d) d).model ops
-leading_on M f true d ops a = a
-leading_on M f false d ops a = a
+leading_on M f b d ops e = grind arith
 
 -- ---- one face
 
@@ -52,9 +49,6 @@ module _ (p : Plane) (f : ℕ) (qs : List (ℕ × ℕ)) (d : Drawing) (n : ℕ) 
 
   abbrev R : Drawing
   R = ring_free f qs J
-
-  abbrev D : Drawing
-  D = all_drawn f R
 
   pub begun_joining : Joining d.model f begun qs n
   begun_joining = record { joined = none_joined d.model f w.sound; fresh = w.fresh; room = room_as d.taken (length qs + n) (0 + length qs + n) (omega arith) w.room; pairs = tt }
@@ -80,11 +74,8 @@ module _ (p : Plane) (f : ℕ) (q : ℕ × ℕ) (d : Drawing) (n : ℕ) (w : Rea
   abbrev held : Drawing
   held = record d { left = q ∷ [] }
 
-  joined_is : all_joined (q ∷ []) d ≡ held
-  joined_is = join_next_one (record d { left = [] }) q w.alone
-
   pub drawn_is : all_drawn f (ring_free f (q ∷ []) (all_joined (q ∷ []) d)) ≡ cut_off held q
-  drawn_is = ap (λ x. all_drawn f (ring_free f (q ∷ []) x)) joined_is ∙ draw_next_one f held q w.alone
+  drawn_is = ap (λ x. all_drawn f (ring_free f (q ∷ []) x)) (join_next_one (record d { left = [] }) q w.alone) ∙ draw_next_one f held q w.alone
 
   room_one : PairsHaveRoom d.taken (suc n)
   room_one = room_as d.taken (length (q ∷ []) + n) (suc n) (omega arith) w.room
@@ -162,8 +153,7 @@ module _ (p : Plane) (f : ℕ) (qs : List (ℕ × ℕ)) (d : Drawing) (n : ℕ) 
       (λ x q rs m fits u e a. either_now d.model f x q rs m fits u e P (λ c k can at to. join x.model c k (x.taken.edge + 1) can at a)) (record d { left = [] }) qs n w.fit (begun_joining p f qs d n w)
 
   stopped_keeps : (b : Bool) → P joined.model → P (cond b (stuck_at f joined) joined).model
-  stopped_keeps true a = a
-  stopped_keeps false a = a
+  stopped_keeps b e = grind arith
 
   ended_keeps : P free.model → P ended.model
   ended_keeps = draws_keep d.model f (λ x rs. P x.model) w.sound (λ x q rs m fits u e a. a)

@@ -3,7 +3,7 @@ use Rattle.std.proofs.Common.{◌≡◌, ◌≢◌, ℕ, ◌<◌, Bool, true, fa
 use Rattle.std.proofs.lemmas.Bool.Decides.{nat_tests, eqb_tells}
 use Rattle.std.proofs.lemmas.Bool.{eqb-true, eqb-false}
 use Rattle.euler_operators.specs.Table as table
-use Rattle.euler_operators.specs.Model.{Model, tail, loop_of, face_of, is_number, is_ring_of}
+use Rattle.euler_operators.specs.Model.{Model, loop_of, face_of, is_number, is_ring_of}
 use Rattle.euler_operators.specs.Sound.{Sound, HasHalf}
 use Rattle.euler_operators.proofs.Models.{row_of}
 use Rattle.euler_operators.proofs.Tables.{no_row, row_elsewhere}
@@ -51,20 +51,14 @@ module _ (M N : Model) (f : ℕ) (q : ℕ × ℕ) (e : ℕ) (joined : JoinedIn M
   k_face : face_at N q.1 ≡ f
   k_face = joined.faces q.1 fits.k_there ∙ fits.k_face
 
-  tails_apart : tail N q.0 ≢ tail N q.1
-  tails_apart s = fits.apart (sym (joined.stays.tails q.0 fits.u_there) ∙ s ∙ joined.stays.tails q.1 fits.k_there)
-
-  loops_apart : loop_of N q.0 ≢ loop_of N q.1
-  loops_apart = eqb-false (loop_of N q.0) (loop_of N q.1) two
-
   abbrev ringed : Bool
   ringed = is_ring_of N (face_at N q.0) (loop_of N q.0)
 
   pub can_back : is_ring_of N (face_at N q.0) (loop_of N q.0) ≡ true → CanJoin N q.1 q.0 e
-  can_back r = grind (arith, k_there, u_there, loops_apart, k_face, u_face, ring_is, tails_apart)
+  can_back r = grind (arith, k_there, u_there, k_face, u_face, ring_is, eqb-false)
 
   pub can_on : is_ring_of N (face_at N q.0) (loop_of N q.0) ≡ false → CanJoin N q.0 q.1 e
-  can_on r = grind (arith, u_there, k_there, loops_apart, u_face, k_face, ring_outer, row_of, tails_apart)
+  can_on r = grind (arith, u_there, k_there, u_face, k_face, ring_outer, row_of, eqb-false)
 
   joined_on : (c d : ℕ) → CanJoin N c d e → face_at N c ≡ f → face_at N d ≡ f → JoinedIn M (loops_joined N c d e) f
   joined_on c d can at to = record {

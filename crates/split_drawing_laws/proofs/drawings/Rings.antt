@@ -87,11 +87,8 @@ module _ (M N : Model) (f l k : ℕ) (drawn : DrawnIn M N f) (ring : RingOf N f 
   pub ring_goes : RingGoes N l k
   ring_goes = grind arith
 
-  apart : face_of N l ≢ k
-  apart e = row_elsewhere M.faces f k newer.old newer.new (sym ring.face ∙ e)
-
   pub move_accepted : first_false N (RingIn l k) ≡ None
-  move_accepted = ring_in_accepted N l k drawn.sound ring_goes apart
+  move_accepted = ring_in_accepted N l k drawn.sound ring_goes (λ e. row_elsewhere M.faces f k newer.old newer.new (sym ring.face ∙ e))
 
   pub move_made : effect N (RingIn l k) ≡ ring_in N l k
   unfolding effect

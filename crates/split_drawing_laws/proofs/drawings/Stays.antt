@@ -8,7 +8,7 @@ use Rattle.euler_operators.proofs.Lists.{count-append, IsIn_or_not}
 use Rattle.euler_operators.proofs.Rotations.{count-canonical, count-rotate_to}
 use Rattle.euler_operators.specs.HalfEdge.{edge_of, is_first, plus, minus}
 use Rattle.euler_operators.specs.Table as table
-use Rattle.euler_operators.specs.Model.{Model, cycle, no_edge, no_face, items_of, holds, tail, tail_in, loop_of, content, face_of, solid_of, cycle_of}
+use Rattle.euler_operators.specs.Model.{Model, cycle, no_edge, items_of, holds, tail, tail_in, loop_of, content, face_of, solid_of, cycle_of}
 use Rattle.euler_operators.specs.Sound.{Sound, Has, HasHalf}
 use Rattle.euler_operators.proofs.Halves.{plus_row, minus_row}
 use Rattle.euler_operators.proofs.Models.{content_row, face_row, tail_row, in-holds, cycle_there, same_content, same_face, loop_there}
@@ -42,9 +42,6 @@ past a b less s = absurd (omega arith)
 module _ (M N : Model) (e a b : ℕ) (is : N.edges ≡ table.put M.edges e (record { plus_tail = a; minus_tail = b })) (free : table.get M.edges e ≡ None) where
   edge_stays : (h : ℕ) → HasHalf M h → table.get N.edges (edge_of h) ≡ table.get M.edges (edge_of h)
   edge_stays h there = ap (λ t. table.get t (edge_of h)) is ∙ get-put_other M.edges e _ (edge_of h) (row_elsewhere M.edges (edge_of h) e there free)
-
-  half_stays : (h : ℕ) → HasHalf M h → HasHalf N h
-  half_stays h there = ap is_some (edge_stays h there) ∙ there
 
   tail_stays : (h : ℕ) → HasHalf M h → tail N h ≡ tail M h
   unfolding tail
@@ -92,7 +89,7 @@ module _ (M : Model) (u k e f l : ℕ) (can : CanDraw M u k e f l) where
   vertices_are = refl
 
   pub draw_stays : Stays M (face_drawn M u k e f l)
-  draw_stays = grind (arith, half_stays, edges_are, tail_stays, vertices_are, face_drawn_else, row_elsewhere)
+  draw_stays = grind (arith, edges_are, tail_stays, vertices_are, face_drawn_else, row_elsewhere, edge_stays)
 
   pub draw_tails : (tail (face_drawn M u k e f l) (plus e) ≡ tail M u) × (tail (face_drawn M u k e f l) (minus e) ≡ tail M k)
   draw_tails = new_tails M N e (tail M u) (tail M k) edges_are can.edge_free
@@ -114,8 +111,7 @@ module _ (M : Model) (u k e f l : ℕ) (can : CanDraw M u k e f l) where
   -- the new face is of the same solid
   pub draw_solid : solid_of (face_drawn M u k e f l) f ≡ solid_of (face_drawn M u k e f l) (face_at M u)
   unfolding solid_of
-  draw_solid = ap (λ o. (unwrap_or o no_face).solid) (face_drawn_new M u k e f l)
-      ∙ sym (ap (λ o. (unwrap_or o no_face).solid) (face_drawn_else M u k e f l (face_at M u) (row_elsewhere M.faces (face_at M u) f (half_face M can.sound u can.u_there) can.face_free)))
+  draw_solid = grind (arith, face_drawn_new, face_drawn_else, row_elsewhere, half_face)
 
   pub draw_has : Has (face_drawn M u k e f l).faces f
   draw_has = ap is_some (face_drawn_new M u k e f l)
@@ -163,7 +159,7 @@ module _ (M : Model) (c d e : ℕ) (can : CanJoin M c d e) where
   joined_vertices = refl
 
   pub join_stays : Stays M (loops_joined M c d e)
-  join_stays = grind (arith, half_stays, joined_edges, tail_stays, joined_vertices, loops_joined_faces)
+  join_stays = grind (arith, joined_edges, tail_stays, joined_vertices, loops_joined_faces, edge_stays)
 
   pub join_tails : (tail (loops_joined M c d e) (plus e) ≡ tail M c) × (tail (loops_joined M c d e) (minus e) ≡ tail M d)
   join_tails = new_tails M J e (tail M c) (tail M d) joined_edges can.edge_free

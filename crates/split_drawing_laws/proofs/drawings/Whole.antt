@@ -1,6 +1,6 @@
 -- The drawing of some faces, from its first operator to its model.
 use Rattle.std.proofs.Common.{◌≡◌, ◌≢◌, ℕ, ◌+◌, List, [], ◌∷◌, map, refl, sym, ap, ◌∙◌, subst, arith}
-use Rattle.std.specs.Prelude.{fold, nat_eq}
+use Rattle.std.specs.Prelude.{fold}
 use Rattle.euler_operators.specs.declared.Plane.{Plane}
 use Rattle.euler_operators.specs.Items.{count, tick}
 use Rattle.euler_operators.proofs.Lists.{tick_same}
@@ -35,9 +35,7 @@ module _ (D K : Model) (f g : ℕ) (drawn : DrawnIn D K f) (other : g ≢ f) whe
   all_fit_stay (q ∷ qs) w = (fits_stay q w.0, all_fit_stay qs w.1)
 
   lone_stays : (qs : List (ℕ × ℕ)) → AllFit D g qs → LoneInOneLoop D qs → LoneInOneLoop K qs
-  lone_stays [] w o = tt
-  lone_stays (q ∷ []) w o = (λ i. nat_eq ((beside q.0 w.0.u_there w.0.u_face).0 i) ((beside q.1 w.0.k_there w.0.k_face).0 i)) ∙ o
-  lone_stays (q ∷ r ∷ qs) w o = tt
+  lone_stays qs e f = grind (arith, beside)
 
 faces_stay : (D K : Model) (f : ℕ) → DrawnIn D K f → (fs : List FacePairs) → count f (map (λ g. g.face) fs) ≡ 0 → FacesFit D fs → FacesFit K fs
 faces_stay D K f drawn [] z w = tt
@@ -78,13 +76,7 @@ module _ (p : Plane) (d : Drawing) (f : FacePairs) (fs : List FacePairs) (n : �
   }
 
 pub all_go : (p : Plane) (d : Drawing) (fs : List FacePairs) (n : ℕ) → Drawable d fs n → AllGone d (fold (next_drawn p) d fs) (ops_from p d fs) n
-all_go p d [] n w = record {
-  leads = leads_none d.model;
-  sound = w.sound;
-  stays = record { halves = λ h there. there; tails = λ h there. refl; vertices = refl; faces = λ g there. there };
-  fresh = w.fresh;
-  room = room_as d.taken (0 + n) n (omega arith) w.room;
-}
+all_go p d [] n w = grind (arith, leads_none, room_as)
 all_go p d (f ∷ fs) n w =
     let D : Drawing = next_drawn p d f in
     let E : Drawing = fold (next_drawn p) (next_drawn p d f) fs in

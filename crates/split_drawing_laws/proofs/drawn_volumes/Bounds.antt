@@ -136,25 +136,22 @@ pub area_after : (N K : Model) → Sound N → Stays N K → (f : ℕ) → area 
 area_after N K sound stays f = area_still N K sound stays (boundary N f) (bound_halves N sound f).there ∙ sym (normal_is N f)
 
 module _ (N K : Model) (sound : Sound N) (new : Sound K) (stays : Stays N K) (f : ℕ) (there : Has N.faces f) where
-  now : Has K.faces f
-  now = stays.faces f there
-
   -- a half-edge that keeps its face bounds f as often as it did, and so does what is no half-edge of f
   pub one_count : (h : ℕ) → HasHalf N h → face_at K h ≡ face_at N h → count h (boundary K f) ≡ count h (boundary N f)
   one_count h was s = elim (eqb_tells (face_at N h) f) [
     | inl at ↦ bound_one K new f h (stays.halves h was) (s ∙ at.1) ∙ sym (bound_one N sound f h was at.1)
-    | inr at ↦ bound_none K new f h now (λ t z. at.1 (sym s ∙ z)) ∙ sym (bound_none N sound f h there (λ t. at.1))
+    | inr at ↦ bound_none K new f h (stays.faces f there) (λ t z. at.1 (sym s ∙ z)) ∙ sym (bound_none N sound f h there (λ t. at.1))
   ]
 
   pub no_count : (h : ℕ) → (HasHalf N h → ⊥) → (HasHalf K h → face_at K h ≢ f) → count h (boundary K f) ≡ count h (boundary N f)
-  no_count h not_was none = bound_none K new f h now none ∙ sym (bound_none N sound f h there (λ t s. not_was t))
+  no_count h not_was none = bound_none K new f h (stays.faces f there) none ∙ sym (bound_none N sound f h there (λ t s. not_was t))
 
   -- with its half-edges it keeps its normal
   pub normal_kept : ((h : ℕ) → HasHalf K h → face_at K h ≡ f → HasHalf N h × (face_at N h ≡ f)) → ((h : ℕ) → HasHalf N h → face_at N h ≡ f → face_at K h ≡ f) → normal K f ≡ normal N f
   normal_kept back on = normal_is K f ∙ area_same K (boundary K f) (boundary N f) (λ h. elim (half_there N h) [
     | inl was ↦ elim (eqb_tells (face_at N h) f) [
       | inl at ↦ bound_one K new f h (stays.halves h was) (on h was at.1) ∙ sym (bound_one N sound f h was at.1)
-      | inr at ↦ bound_none K new f h now (λ t z. at.1 (back h t z).1) ∙ sym (bound_none N sound f h there (λ t. at.1))
+      | inr at ↦ bound_none K new f h (stays.faces f there) (λ t z. at.1 (back h t z).1) ∙ sym (bound_none N sound f h there (λ t. at.1))
     ]
     | inr not_was ↦ no_count h not_was (λ t z. not_was (back h t z).0)
   ]) ∙ area_after N K sound stays f

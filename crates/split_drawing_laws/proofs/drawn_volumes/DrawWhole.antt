@@ -128,11 +128,8 @@ module _ (M : Model) (f : ℕ) (sound : Sound M) (f_there : Has M.faces f) (r : 
     abbrev R : Model
     R = ring_in X l k
 
-    f_other : f ≢ k
-    f_other s = never_free M.faces f f_there (ap (table.get M.faces) s ∙ newer.new)
-
     moves_on : CanMove X f l k
-    moves_on = grind (arith, f_other)
+    moves_on = grind (arith, never_free)
 
     row_same : (g : ℕ) → table.get R.faces g ≡ table.get X.faces g
     row_same g = ap (λ t. table.get t g) (ring_faces X l k moves_on.sound moves_on.goes)

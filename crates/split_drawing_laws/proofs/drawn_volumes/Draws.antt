@@ -67,9 +67,6 @@ module _ (N : Model) (u k e g l : ℕ) (can : CanDraw N u k e g l) where
   face_then : (h : ℕ) → HasHalf N h → (face_at K h ≡ face_at N h) ⊎ ((face_at N h ≡ F) × (face_at K h ≡ g))
   face_then h there = grind (arith, draw_within, draw_beside)
 
-  k_face : face_at N k ≡ F
-  k_face = ap (face_of N) (sym can.one_loop)
-
   plus_start : start K (plus e) ≡ start N u
   plus_start = ap (point_of K) (draw_tails N u k e g l can).0 ∙ point_still N K can.sound stays (tail N u)
 
@@ -119,7 +116,7 @@ module _ (N : Model) (u k e g l : ℕ) (can : CanDraw N u k e g l) where
       ]
       | inr new ↦ elim new [
         | inl is ↦ absurd (not_new F F_there (sym plus_face ∙ sym (ap (face_at K) is) ∙ at))
-        | inr is ↦ ap (is_on t) (ap (start K) is ∙ minus_start) ∙ w.halves k can.k_there k_face
+        | inr is ↦ ap (is_on t) (ap (start K) is ∙ minus_start) ∙ w.halves k can.k_there (ap (face_of N) (sym can.one_loop))
       ]
     ];
     lones = λ q v at is.
@@ -172,11 +169,8 @@ module _ (N : Model) (u k e g l : ℕ) (can : CanDraw N u k e g l) where
   pub normal_else : (f : ℕ) → Has N.faces f → f ≢ face_at N u → normal (face_drawn N u k e g l) f ≡ normal N f
   normal_else f there ne = grind (arith, normal_kept, K_sound, stays, cases, face_then, not_new, plus_face, minus_face)
 
-  pub outer_else : (f : ℕ) → Has N.faces f → outer (face_drawn N u k e g l) f ≡ outer N f
-  outer_else f there = same_outer N K f (face_else f (not_new f there))
-
   -- and its anchor
   pub anchor_else : (f : ℕ) → Has N.faces f → f ≢ face_at N u → anchor (face_drawn N u k e g l) f ≡ anchor N f
   anchor_else f there ne = let o = can.sound.outers_there f there in
-      anchor_still N K can.sound stays f there (outer_else f there) (same_content N K (outer N f)
+      anchor_still N K can.sound stays f there (same_outer N K f (face_else f (not_new f there))) (same_content N K (outer N f)
       (row_else N u k e g l can (outer N f) (λ s. ne (sym o.1 ∙ ap (face_of N) s)) (row_elsewhere N.loops (outer N f) l o.0 can.loop_free)))

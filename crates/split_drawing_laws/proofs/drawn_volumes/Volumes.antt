@@ -6,7 +6,7 @@ use Rattle.std.proofs.lemmas.Bool.{ne_eqb, eq-eqb}
 use Rattle.euler_operators.specs.declared.Point.{Point}
 use Rattle.euler_operators.specs.declared.Plane.{Plane}
 use Rattle.euler_operators.specs.Vectors.{origin, dot, same_point, is_on, direction}
-use Rattle.euler_operators.specs.Items.{count, tick, SameItems}
+use Rattle.euler_operators.specs.Items.{count, SameItems}
 use Rattle.euler_operators.proofs.Lists.{tick_same, tick_other}
 use Rattle.euler_operators.specs.Table as table
 use Rattle.euler_operators.specs.Model.{Model, solid_of, faces_of}
@@ -83,10 +83,7 @@ module _ (N : Model) (u k e g l : ℕ) (can : CanDraw N u k e g l) (r : Plane) (
 
   with_new : (v : ℕ) → solid_of N F ≡ v → SameItems (faces_of K v) (g ∷ faces_of N v)
   with_new v at f = elim (eqb_tells f g) [
-    | inl s ↦ let t : tick f g ≡ 1 = ap (λ x. tick x g) s.1 ∙ tick_same g in
-        let now : count f (faces_of K v) ≡ 1 = ap (λ x. count x (faces_of K v)) s.1 ∙ counted_in K g v g_now (g_solid ∙ at) in
-        let was : count f (faces_of N v) ≡ 0 = ap (λ x. count x (faces_of N v)) s.1 ∙ g_was v in
-        omega (arith, t, now, was)
+    | inl s ↦ grind (arith, tick_same, counted_in, g_now, g_solid, g_was)
     | inr s ↦ omega (arith, tick_other f g s.1, else_count v f s.1)
   ]
 
@@ -123,8 +120,7 @@ module _ (N : Model) (c d e : ℕ) (can : CanJoin N c d e) (r : Plane) (some : I
   ]
 
   pub join_volumes : (v : ℕ) → six_volume (loops_joined N c d e) v ≡ six_volume N v
-  join_volumes v = six_is J v ∙ ap (λ t. total (volume_of J) (table.all_where (λ _ row. nat_eq row.solid v) t)) (joins.faces_joined N c d e can)
-      ∙ unchanged (volume_of J) (volume_of N) (faces_of N v) (λ f i. joined_told f (solid_facts N v f i).0) ∙ sym (six_is N v)
+  join_volumes v = grind (arith, six_is, total, volume_of, joins.faces_joined, unchanged, joined_told, solid_facts)
 
 -- ---- a ring moved
 

@@ -105,13 +105,10 @@ module _ (M : Model) (s : ℕ) (p : Plane) (t : ℕ) (sound : Sound M) (begins :
   -- ---- the faces that straddle
 
   module _ (f : ℕ) (i : IsIn f (straddling_faces M p s)) where
-    of_solid : solid_of N f ≡ s
-    of_solid = same_solid M s p t sound begins f ∙ (face_facts M s p f i).1
-
     -- a loop of f with a corner above holds a half-edge above, and one without holds one below
     module _ (r : ℕ) (there : Has N.loops r) (at : face_of N r ≡ f) where
       some_half : Held N N r
-      some_half = loop_holds r there (ap (solid_of N) at ∙ of_solid)
+      some_half = loop_holds r there (ap (solid_of N) at ∙ same_solid M s p t sound begins f ∙ (face_facts M s p f i).1)
 
       abbrev h : ℕ
       h = some_half.half

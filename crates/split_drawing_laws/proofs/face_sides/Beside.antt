@@ -1,7 +1,7 @@
 -- What stays beside a face in which edges are drawn: the rows of other faces and of their loops.
 use Rattle.std.specs.Prelude.{fold}
 use Rattle.std.specs.Option.{option_map}
-use Rattle.std.proofs.Common.{◌≡◌, ◌≢◌, ℕ, true, false, cond, List, [], ◌∷◌, Option, Some, None, is_some, refl, sym, ap, ◌∙◌, subst, arith, ◌⊎◌, inl, inr, true≢false, ◌++◌, ne_eqb}
+use Rattle.std.proofs.Common.{◌≡◌, ◌≢◌, ℕ, true, false, cond, List, [], ◌∷◌, Option, Some, None, is_some, refl, sym, ap, ◌∙◌, subst, arith, ◌⊎◌, inl, inr, true≢false, ◌++◌}
 use Rattle.std.proofs.lemmas.Bool.Decides.{eqb_tells}
 use Rattle.euler_operators.specs.Table as table
 use Rattle.euler_operators.specs.Table.{Table, get-map_rows}
@@ -9,8 +9,8 @@ use Rattle.euler_operators.specs.Model.{Model, LoopRow, loop_of, face_of, conten
 use Rattle.euler_operators.specs.Sound.{Has, HasHalf}
 use Rattle.euler_operators.specs.Conditions.{face_at, lists}
 use Rattle.euler_operators.specs.Effect.{loop_to_face}
-use Rattle.euler_operators.specs.Items.{IsIn, before}
-use Rattle.euler_operators.specs.Rings.{rotate_to, rest, upto, onward}
+use Rattle.euler_operators.specs.Items.{IsIn}
+use Rattle.euler_operators.specs.Rings.{rotate_to, upto, onward}
 use Rattle.euler_operators.specs.Operators.{mef_old, mef_new}
 use Rattle.euler_operators.specs.HalfEdge.{plus, minus}
 use Rattle.euler_operators.proofs.Models.{face_row, same_face, content_row, cycle_there, outer_row, same_outer, loop_there}
@@ -70,10 +70,7 @@ given_twice : (l : ℕ) (ls : List ℕ) (k q : ℕ) (row : LoopRow) → given ls
 given_twice l ls k q row = grind arith
 
 rows_given : (t : Table LoopRow) (ls : List ℕ) (k q : ℕ) → table.get (fold (λ t l. table.map_rows (loop_to_face l k) t) t ls) q ≡ option_map (given ls k q) (table.get t q)
-rows_given t [] k q = go (table.get t q) where
-  go : (o : Option LoopRow) → o ≡ option_map (given [] k q) o
-  go None = refl
-  go (Some row) = refl
+rows_given t [] k q = grind arith
 rows_given t (l ∷ ls) k q = rows_given (table.map_rows (loop_to_face l k) t) ls k q ∙ ap (option_map (given ls k q)) (get-map_rows (loop_to_face l k) t q) ∙ go (table.get t q) where
   go : (o : Option LoopRow) → option_map (given ls k q) (option_map (loop_to_face l k q) o) ≡ option_map (given (l ∷ ls) k q) o
   go None = refl
@@ -113,8 +110,7 @@ abbrev pub Alone : Model → Model → Model → ℕ → Type 0
 Alone B M N f = (q : ℕ) → Has N.loops q → ComesOf M f (face_of N q) → Lone B N q
 
 in_upto : (u k : ℕ) (xs : List ℕ) → u ≢ k → IsIn u xs → IsIn u (upto u k xs)
-in_upto u k xs ne i = subst (λ ys. IsIn u (before k ys)) (sym (rotate_to_is u xs i))
-    (subst (λ b. IsIn u (cond b [] (u ∷ before k (rest u xs)))) (sym (ne_eqb k u (λ s. ne (sym s)))) (omega (arith, tick_same u)))
+in_upto u k xs ne i = grind (arith, rotate_to_is, tick_same)
 
 in_onward : (u k : ℕ) (xs : List ℕ) → IsIn k xs → IsIn k (onward u k xs)
 in_onward u k xs i = subst (IsIn k) (sym (from_is k (rotate_to u xs) (omega (arith, i, count-rotate_to k u xs)))) (omega (arith, tick_same k))

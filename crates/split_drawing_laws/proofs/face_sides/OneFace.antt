@@ -1,7 +1,7 @@
 -- The two passes over the pairs of a face: what stays beside it, and that it stays without rings.
 use Rattle.std.specs.Prelude.{fold}
 use Rattle.std.proofs.Common.{◌≡◌, ℕ, ◌+◌, List, [], ◌∷◌, ◌++◌, ◌∙◌, ◌≢◌, suc, Bool, true, false, cond, nat_eq, nat_lt, ◌&&◌, length, None, is_some, refl, sym, ap, subst, arith, inl, inr}
-use Rattle.std.proofs.lemmas.Bool.Decides.{nat_tests, eqb_tells}
+use Rattle.std.proofs.lemmas.Bool.Decides.{nat_tests}
 use Rattle.std.proofs.lemmas.Bool.{false_from_ne_true}
 use Rattle.euler_operators.specs.Model.{Model, holds, content, loop_of, face_of, outer}
 use Rattle.euler_operators.specs.Sound.{Sound, HasHalf, Has}
@@ -68,8 +68,7 @@ module _ (B M : Model) (f : ℕ) where
         let can = can_now M f sound d q qs n fits w e in
         let drawn : ComesOf M f (face_at d.model q.0) = w.drawn.within q.0 fits.u_there fits.u_face in (
           record {
-            beside = drawn_beside d.model q.0 q.1 (d.taken.edge + 1) (d.taken.face + 1) (d.taken.loop + 1) can M f drawn
-                (was_free M d.model w.drawn.stays (d.taken.face + 1) (face_open M f sound d q qs n fits w)) a.0.beside;
+            beside = grind (arith, drawn_beside, was_free, face_open);
             stays = stays_on B d.model (cut_off d q).model a.0.stays (draw_stays d.model q.0 q.1 (d.taken.edge + 1) (d.taken.face + 1) (d.taken.loop + 1) can);
             alone = draw_alone d.model q.0 q.1 (d.taken.edge + 1) (d.taken.face + 1) (d.taken.loop + 1) can B M f a.0.stays a.1.0.0 a.1.0.1 drawn a.0.alone;
           },
@@ -197,10 +196,7 @@ module _ (B : Model) (side : ℕ → Bool) (p : Plane) (f : ℕ) (q : ℕ × ℕ
   W_sided : (h : ℕ) → Has W.faces h → ComesOf X f h → IsSided B W side h
   W_sided h there drawn = elim drawn [
     | inl a ↦ (false, subst (λ z. LiesOnSide B W side z false) (sym a) (old_lies B X side p f q.0 q.1 e g l cut K_stays W_sound))
-    | inr none ↦ elim (eqb_tells h g) [
-      | inl a ↦ (true, subst (λ z. LiesOnSide B W side z true) (sym a.1) (new_lies B X side p f q.0 q.1 e g l cut K_stays W_sound))
-      | inr a ↦ absurd (never_free K.faces h there (face_drawn_else X q.0 q.1 e g l h a.1 ∙ none))
-    ]
+    | inr none ↦ grind (arith, new_lies, cut, K_stays, W_sound, never_free, face_drawn_else)
   ]
 
   pub single_done : FaceDone B d.model (drawn_between p f (q ∷ []) d).model side f

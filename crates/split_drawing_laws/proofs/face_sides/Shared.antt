@@ -132,11 +132,8 @@ module _ (B N : Model) (side : ℕ → Bool) (p : Plane) (f u k e g l : ℕ) (c 
     not_first : r ≢ loop_of N u
     not_first s = inner (outer_is ∙ sym s)
 
-    not_second : r ≢ l
-    not_second s = f_other (sym face ∙ ap (face_of K) s ∙ second_face)
-
     same_row : table.get K.loops r ≡ table.get N.loops r
-    same_row = row_else N u k e g l c.can r not_first not_second
+    same_row = row_else N u k e g l c.can r not_first (λ s. f_other (sym face ∙ ap (face_of K) s ∙ second_face))
 
     was : HeldOn B N side r (test r)
     was = c.rings r (ap is_some (sym same_row) ∙ there) (sym (same_face N K r same_row) ∙ face) (λ s. not_first (s ∙ c.u_outer))

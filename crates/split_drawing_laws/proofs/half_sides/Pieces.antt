@@ -46,9 +46,6 @@ module _ (N : Model) (e k v : ℕ) (q : Point) (goes : CutGoes N e k v q) where
   loops_apart : plus e ≢ after N (minus e)
   loops_apart s = goes.can.apart (ap (loop_of N) s ∙ loop_after N goes.can.sound (minus e) (minus_there N e goes.can.there))
 
-  fresh : (x : ℕ) → HasHalf N x → (x ≢ plus k) × (x ≢ mate (plus k))
-  fresh x there = let f = none_new N k x goes.can.edge_free there in (f.0, λ s. f.1 (s ∙ mate_plus k))
-
   halves_apart : plus k ≢ mate (plus k)
   halves_apart s = let t : plus k ≡ minus k = s ∙ mate_plus k in absurd (omega (arith, t))
 
@@ -58,12 +55,11 @@ module _ (N : Model) (e k v : ℕ) (q : Point) (goes : CutGoes N e k v q) where
 
   -- the old minus half leads to the new one
   pub after_second : after (edge_cut N e k v q) (minus e) ≡ minus k
-  after_second = grind (arith, leads, cut_keeps, minus_there, mev_at_d, fresh, loops_apart, mate_plus)
+  after_second = grind (arith, leads, cut_keeps, minus_there, mev_at_d, loops_apart, mate_plus, none_new)
 
   -- the others lead where they did
   pub after_else : (x : ℕ) → HasHalf N x → x ≢ minus e → after N x ≢ plus e → after (edge_cut N e k v q) x ≡ after N x
-  after_else x there a b = leads x ((cut_keeps N e k v q goes).halves x there)
-      ∙ mev_else (after N) (plus k) (mate (plus k)) (plus e) (after N (minus e)) x (fresh x there).0 (fresh x there).1 b (λ s. a (after_once N goes.can.sound x (minus e) there (minus_there N e goes.can.there) s))
+  after_else x there a b = grind (arith, leads, cut_keeps, mev_else, after_once, minus_there, none_new, mate_plus)
 
 -- ---- the edges of a model with some edges cut: the new ones, and what follows what
 

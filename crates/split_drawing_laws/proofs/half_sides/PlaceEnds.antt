@@ -8,8 +8,7 @@ use Rattle.euler_operators.specs.declared.Plane.{Plane}
 use Rattle.euler_operators.specs.Items.{count, IsIn, IsApart, tick}
 use Rattle.euler_operators.specs.Model.{Model, solid_of, after}
 use Rattle.euler_operators.specs.Vectors.{height, is_on, cut_between}
-use Rattle.euler_operators.specs.HalfEdge.{edge_of, plus}
-use Rattle.euler_operators.specs.Table as table
+use Rattle.euler_operators.specs.HalfEdge.{edge_of}
 use Rattle.euler_operators.specs.Sound.{Sound, Has, HasHalf}
 use Rattle.euler_operators.specs.Conditions.{face_at, differ}
 use Rattle.euler_operators.proofs.Lists.{count-append, tick_same, tick_other, IsIn_or_not}
@@ -40,8 +39,7 @@ module _ (M N : Model) (p : Plane) where
   pub in_all_ends : (f y : ℕ) (fs : List ℕ) → IsIn f fs → IsIn y (ends (drawn_pairs M N p f)) → IsIn y (all_ends (all_pairs M N p fs))
   in_all_ends f y [] i j = absurd (omega (arith, i))
   in_all_ends f y (g ∷ fs) i j = elim (eqb_tells f g) [
-    | inl s ↦ let now : IsIn y (ends (drawn_pairs M N p g)) = subst (λ z. IsIn y (ends (drawn_pairs M N p z))) s.1 j in
-        omega (arith, now, count-append y (ends (drawn_pairs M N p g)) (all_ends (all_pairs M N p fs)))
+    | inl s ↦ grind (arith, count-append)
     | inr s ↦ omega (arith, in_all_ends f y fs (omega (arith, i, tick_other f g s.1)) j, count-append y (ends (drawn_pairs M N p g)) (all_ends (all_pairs M N p fs)))
   ]
 
@@ -63,13 +61,7 @@ module _ (M N : Model) (p : Plane) where
       let now : count y (ends (drawn_pairs M N p f)) ≤ 1 = each f f_in y in
       let later : count y (all_ends (all_pairs M N p fs)) ≤ 1 = all_ends_apart fs (λ x. omega (arith, apart x)) (λ g i. each g (omega (arith, i))) (λ g h z i j. one g h z (omega (arith, i)) (omega (arith, j))) y in
       elim (IsIn_or_not y (ends (drawn_pairs M N p f))) [
-        | inl i ↦ elim (IsIn_or_not y (all_ends (all_pairs M N p fs))) [
-          | inl j ↦
-              let r = from_all_ends y fs j in
-              let same : f ≡ r.0 = one f r.0 y f_in (omega (arith, r.1)) i r.2 in
-              absurd (omega (arith, apart f, tick_same f, r.1, ap (λ z. count z fs) same))
-          | inr z ↦ omega (arith, now, z, count-append y (ends (drawn_pairs M N p f)) (all_ends (all_pairs M N p fs)))
-        ]
+        | inl i ↦ grind (arith, IsIn_or_not, from_all_ends, tick_same, count-append)
         | inr z ↦ omega (arith, later, z, count-append y (ends (drawn_pairs M N p f)) (all_ends (all_pairs M N p fs)))
       ]
 
@@ -126,9 +118,7 @@ module _ (M : Model) (s : ℕ) (p : Plane) (t : ℕ) (sound : Sound M) (begins :
         let of_s : solid_of M (face_at M h) ≡ s = ap (solid_of M) (half_face h j) ∙ (face_facts M s p f i).1 in
         elim (halves_of_edge h) [
           | inl e ↦ in_crossing M s p t sound begins (edge_of h) there (ap (λ x. solid_of M (face_at M x)) (sym e.0) ∙ of_s) (ap (crosses M p) (sym e.0) ∙ c)
-          | inr e ↦ in_crossing M s p t sound begins (edge_of h) there
-              (sound.one_solid (plus (edge_of h)) (ap (table.has M.edges) (plus_row (edge_of h)).0 ∙ there) ∙ ap (λ x. solid_of M (face_at M x)) (mate_plus (edge_of h) ∙ sym e.0) ∙ of_s)
-              (turned M s p t sound begins (edge_of h) true (ap (crosses M p) (sym e.0) ∙ c))
+          | inr e ↦ grind (arith, in_crossing, plus_row, mate_plus, turned)
         ]
 
     -- the point of a place inside an edge
@@ -156,23 +146,16 @@ module _ (M : Model) (s : ℕ) (p : Plane) (t : ℕ) (sound : Sound M) (begins :
         let same : w.place ≡ h = place_once w.place h (subst (λ z. IsIn w.place (places M p z)) face w.of_face) j (w.is ∙ b.2) in
         ap (finish N) (sym b.2) ∙ w.ends ∙ ap (finish M) same
 
-    pub side_at : (h : ℕ) → IsIn h (places M p f) → side_of M s p (from_place N p h) ≡ goes_up M p h
-    side_at h j = grind (arith, side_within, place_face, side_ahead, place_on, finish_is)
-
     -- ---- pairs of places, one up and one down
 
     two_cross : (a b : ℕ) → IsIn a (places M p f) → IsIn b (places M p f) → a ≢ b → goes_up M p a ≡ not (goes_up M p b) → Crosses N p (side_of M s p) (between M N p (a, b))
-    two_cross a b j k ne turned_up = grind (arith, place_there, place_once, place_on, side_at)
+    two_cross a b j k ne turned_up = grind (arith, place_there, place_once, place_on, side_within, place_face, side_ahead, finish_is)
 
     either_cross : (c : Bool) (a b : ℕ) → Crosses N p (side_of M s p) (between M N p (a, b)) → Crosses N p (side_of M s p) (between M N p (b, a)) → Crosses N p (side_of M s p) (between M N p (cond c (a, b) (b, a)))
-    either_cross true a b x y = x
-    either_cross false a b x y = y
+    either_cross c a b e f = grind arith
 
     differing : (a b : Bool) → differ a b ≡ true → (a ≡ not b) × (b ≡ not a)
-    differing true true e = absurd (true≢false (sym e))
-    differing true false e = (refl, refl)
-    differing false true e = (refl, refl)
-    differing false false e = absurd (true≢false (sym e))
+    differing a b e = grind (arith, true≢false)
 
     all_cross : (hs : List ℕ) → ((x : ℕ) → IsIn x hs → IsIn x (places M p f)) → IsApart hs → list_all (is_up_and_down M p) (in_pairs hs) ≡ true → AllCross N p (side_of M s p) (drawn M N p hs)
     all_cross [] within apart e = tt
@@ -199,8 +182,7 @@ module _ (M : Model) (s : ℕ) (p : Plane) (t : ℕ) (sound : Sound M) (begins :
 
     either_up : (c : Bool) (a b : ℕ) → IsIn a (places M p f) → IsIn b (places M p f) → goes_up M p a ≡ c → goes_up M p b ≡ not c →
         (side_of M s p (between M N p (cond c (a, b) (b, a))).0 ≡ true) × (side_of M s p (between M N p (cond c (a, b) (b, a))).1 ≡ false)
-    either_up true a b j k x y = (side_at a j ∙ x, side_at b k ∙ y)
-    either_up false a b j k x y = (side_at b k ∙ y, side_at a j ∙ x)
+    either_up c a b e f g t = grind (arith, side_within, place_face, side_ahead, place_on, finish_is)
 
     all_up : (hs : List ℕ) → ((x : ℕ) → IsIn x hs → IsIn x (places M p f)) → list_all (is_up_and_down M p) (in_pairs hs) ≡ true → AllUp (side_of M s p) (drawn M N p hs)
     all_up [] within e = tt

@@ -6,7 +6,7 @@ use Rattle.std.proofs.lemmas.Int.{ints}
 use Rattle.euler_operators.specs.Vectors.{opposite, height, are_opposite, is_on}
 use Rattle.euler_operators.specs.declared.Plane.{Plane}
 use Rattle.euler_operators.specs.Items.{count, IsIn}
-use Rattle.euler_operators.specs.HalfEdge.{mate, edge_of, plus, minus}
+use Rattle.euler_operators.specs.HalfEdge.{edge_of, plus, minus}
 use Rattle.euler_operators.specs.Model.{Model, tail, loop_of, face_of, after, before, point_of}
 use Rattle.euler_operators.specs.Sound.{Sound, HasHalf}
 use Rattle.euler_operators.specs.Conditions.{face_at}
@@ -124,8 +124,7 @@ module _ (M : Model) (s : ℕ) (p : Plane) (t : ℕ) (sound : Sound M) (begins :
     second_face = ap (face_of N) (ap (loop_of N) (sym w.second) ∙ loop_after N new_sound (minus e) (keep.halves (minus e) (minus_there M e w.old))) ∙ old_face (minus e) (minus_there M e w.old)
 
     first_off : is_on p (start N (plus k)) ≡ true → ⊥
-    first_off on = true≢false (sym (plus_crosses M sound s p premises e i)
-        ∙ level_start (height p (start M (plus e))) (height p (start M (minus e))) (ap (is_on p) (sym first_start) ∙ on))
+    first_off on = grind (arith, true≢false, plus_crosses, premises, level_start, first_start)
 
   -- a half-edge starts on the plane, or where one of its face did
   abbrev pub Comes : ℕ → Type 0
@@ -137,10 +136,7 @@ module _ (M : Model) (s : ℕ) (p : Plane) (t : ℕ) (sound : Sound M) (begins :
   pub comes_from : (h : ℕ) → HasHalf N h → Comes h
   comes_from h there = elim (pieces.edges (edge_of h) there) [
     | inl old ↦ elim (halves_of_edge h) [
-      | inl a ↦ elim (IsIn_or_not (edge_of h) es) [
-        | inl i ↦ inl (ap (λ x. is_on p (start N x)) a.0 ∙ plus_on M s p t sound begins (edge_of h) i)
-        | inr z ↦ old_comes h old (uncut_start h old z)
-      ]
+      | inl a ↦ grind (arith, IsIn_or_not, plus_on, old_comes, uncut_start)
       | inr a ↦ old_comes h old (ap (start N) a.0 ∙ start_minus M s p t sound begins (edge_of h) old ∙ ap (start M) (sym a.0))
     ]
     | inr w ↦ elim (halves_of_edge h) [
@@ -221,9 +217,6 @@ module _ (M : Model) (s : ℕ) (p : Plane) (t : ℕ) (sound : Sound M) (begins :
       back_leads : after M back ≡ y
       back_leads = (back_of M sound y old).2
 
-      back_is : before M y ≡ back
-      back_is = ap (before M) (sym back_leads) ∙ before_after M sound back back_there
-
       back_uncut : count (edge_of back) es ≡ 0
       back_uncut = elim (IsIn_or_not (edge_of back) es) [
         | inl i ↦ absurd (true≢false (sym (crossing_half back i) ∙ level_end (height p (start M back)) (height p (finish M back))
@@ -235,26 +228,32 @@ module _ (M : Model) (s : ℕ) (p : Plane) (t : ℕ) (sound : Sound M) (begins :
       from_back = after_once N new_sound x back there (keep.halves back back_there)
           (sym (pieces.follows back back_there back_uncut (ap (λ z. count (edge_of z) es) back_leads ∙ uncut) ∙ back_leads))
 
-      same_end : finish N y ≡ finish M y
-      same_end = uncut_start (mate y) (mate_there M y old) (ap (λ z. count z es) (edge_of-mate y) ∙ uncut)
-
       at_corner : TurnAt M N p x
-      at_corner = grind (arith, in_places, of_f, is_then_place, same_end, from_back, uncut_start, back_there, back_uncut, back_is, opposite_then)
-
-    never_minus : (e : ℕ) → IsIn e es → after N x ≡ minus e → ⊥
-    never_minus e i is = true≢false (sym on ∙ ap (λ z. is_on p (start N z)) is ∙ minus_off M s p t sound begins e i)
+      at_corner =
+          grind (
+            arith,
+            in_places,
+            of_f,
+            is_then_place,
+            from_back,
+            uncut_start,
+            back_there,
+            back_uncut,
+            opposite_then,
+            back_leads,
+            before_after,
+            mate_there,
+            edge_of-mate,
+          )
 
     pub turn_at : TurnAt M N p x
     turn_at = elim (pieces.edges (edge_of y) (half_after N new_sound x there)) [
       | inl old ↦ elim (IsIn_or_not (edge_of y) es) [
         | inl i ↦ elim (halves_of_edge y) [
           | inl a ↦ at_plus (edge_of y) i a.0
-          | inr a ↦ absurd (never_minus (edge_of y) i a.0)
+          | inr a ↦ absurd (true≢false (sym on ∙ ap (λ z. is_on p (start N z)) a.0 ∙ minus_off M s p t sound begins (edge_of y) i))
         ]
         | inr z ↦ at_corner old z
       ]
-      | inr w ↦ elim (halves_of_edge y) [
-        | inl a ↦ absurd (first_off w.0 (edge_of y) w.1 w.2 (ap (λ z. is_on p (start N z)) (sym a.0) ∙ on))
-        | inr a ↦ at_minus w.0 (edge_of y) w.1 w.2 a.0
-      ]
+      | inr w ↦ grind (arith, halves_of_edge, first_off, at_minus)
     ]

@@ -101,11 +101,7 @@ module _ (M : Model) (s : ℕ) (p : Plane) (t : ℕ) (sound : Sound M) (begins :
   lies_beside : (h : ℕ) → HasHalf N h → solid_of N (face_at N h) ≡ s → lists fs (face_at N h) ≡ false → LiesOn p (side h) (start N h)
   lies_beside h there of_s beside = elim (comes_from M s p t sound begins h there) [
     | inl on ↦ on_both p (start N h) on (side h)
-    | inr w ↦
-        let face : face_at N h ≡ face_at M w.0 = w.3 in
-        let is : side h ≡ reaches_above M p (face_at M w.0) = side_beside h beside ∙ ap (reaches_above M p) face in
-        let corner = corner_lies w.0 w.1 (sym (same_solid M s p t sound begins (face_at M w.0)) ∙ ap (solid_of N) (sym face) ∙ of_s) (ap (lists fs) (sym face) ∙ beside) in
-        subst (λ b. LiesOn p b (start N h)) (sym is) (subst (LiesOn p (reaches_above M p (face_at M w.0))) (sym w.2) corner)
+    | inr w ↦ grind (arith, side_beside, corner_lies, same_solid)
   ]
 
   lies_within : (h : ℕ) → HasHalf N h → solid_of N (face_at N h) ≡ s → IsIn (face_at N h) fs → LiesOn p (side h) (start N h)

@@ -1,5 +1,5 @@
 -- What follows what once an edge stands between c and d; and sides that change at open places only.
-use Rattle.std.proofs.Common.{◌≡◌, ◌≢◌, ℕ, ◌+◌, Bool, true, false, cond, not, List, refl, sym, ap, ◌∙◌, subst, arith, eq-eqb, ne_eqb, ◌⊎◌, inl, inr}
+use Rattle.std.proofs.Common.{◌≡◌, ◌≢◌, ℕ, ◌+◌, Bool, cond, not, List, refl, sym, ap, ◌∙◌, subst, arith, eq-eqb, ne_eqb, ◌⊎◌, inl, inr}
 use Rattle.std.specs.Prelude.{◌==◌}
 use Rattle.std.proofs.lemmas.Bool.Decides.{eqb_tells}
 use Rattle.euler_operators.specs.Items.{count, tick, IsIn, IsApart}
@@ -43,14 +43,10 @@ pub side_old : (h m c d : ℕ) (side : ℕ → Bool) (x : ℕ) → x ≢ h → x
 side_old h m c d side x a b = ap (λ t. cond t (side d) (cond (x == m) (side c) (side x))) (ne_eqb x h a) ∙ ap (λ t. cond t (side c) (side x)) (ne_eqb x m b)
 
 not_not : (a b c : Bool) → a ≡ not b → c ≡ not a → b ≡ c
-not_not a true c e f = sym (f ∙ ap not e)
-not_not a false c e f = sym (f ∙ ap not e)
+not_not a b c e f = grind arith
 
 same_not : (a b c : Bool) → c ≡ not a → c ≡ not b → a ≡ b
-same_not true true c e f = refl
-same_not true false c e f = sym f ∙ e
-same_not false true c e f = sym f ∙ e
-same_not false false c e f = refl
+same_not a b c e f = grind arith
 
 -- what is asked of the old items, and of the two open places c and d, on different sides
 pub record Closing (Old : ℕ → Type 0) (next : ℕ → ℕ) (side : ℕ → Bool) (h m c d : ℕ) (before then_open : List ℕ) : Type 0 where
@@ -141,10 +137,7 @@ module _ (Old New : ℕ → Type 0) (next : ℕ → ℕ) (side : ℕ → Bool) (
       | inl e ↦ closed_there x (at_c x old e.1)
       | inr a ↦ elim (eqb_tells (next x) d) [ inl e ↦ closed_there x (at_d x old e.1) | inr b ↦ elsewhere x old a.1 b.1 ]
     ]
-    | inr new ↦ elim new [
-      | inl e ↦ subst Goes (sym e) (closed_there h at_h)
-      | inr e ↦ subst Goes (sym e) (closed_there m at_m)
-    ]
+    | inr new ↦ grind (arith, closed_there, at_h, at_m)
   ]
 
   pub sides_close : Sided New (after_mef next h m c d) (with_sides h m c d side) then_open

@@ -202,10 +202,7 @@ module _ (B N K : Model) (p : Plane) (first : ℕ → Bool) (OfSolid : ℕ → T
         let f = none_new N e h free old in
         let s : start K h ≡ start N h = same_start N K h stays old in
         subst (λ b. LiesOn p b (start K h)) (sym (side_old (plus e) (minus e) c d w.side h f.0 f.1)) (subst (LiesOn p (w.side h)) (sym s) (w.level h old mine))
-    | inr new ↦ elim new [
-      | inl a ↦ on_both p (start K h) (on_plane h c o.c_there (ap (tail K) a ∙ tails.0) o.c_on) (with_sides (plus e) (minus e) c d w.side h)
-      | inr a ↦ on_both p (start K h) (on_plane h d o.d_there (ap (tail K) a ∙ tails.1) o.d_on) (with_sides (plus e) (minus e) c d w.side h)
-    ]
+    | inr new ↦ grind (arith, on_both, on_plane, with_sides)
   ]
 
   pub parted_more : Parted B K p first OfSolid rest
@@ -257,9 +254,7 @@ path_constant : (next : ℕ → ℕ) (side : ℕ → Bool) (xs : List ℕ) (d : 
     (side (head_or d xs) ≡ side d) × ((z : ℕ) → IsIn z xs → side z ≡ side d)
 path_constant next side [] d path stays = (refl, λ z i. absurd (omega (arith, i)))
 path_constant next side (x ∷ xs) d path stays =
-    let r = path_constant next side xs d path.1 (λ z i. stays z (omega (arith, i))) in
-    let here_too : side x ≡ side d = sym (stays x (omega (arith, tick_same x))) ∙ ap side path.0 ∙ r.0 in
-    (here_too, λ z i. elim (eqb_tells z x) [ inl e ↦ ap side e.1 ∙ here_too | inr e ↦ r.1 z (omega (arith, i, tick_other z x e.1)) ])
+    grind (arith, tick_same, tick_other, path_constant next side xs d path.1 (λ z i. stays z (omega (arith, i))))
 
 module _ (B N : Model) (p : Plane) (first : ℕ → Bool) (OfSolid : ℕ → Type 0) (sound : Sound N) (w : Parted B N p first OfSolid []) where
   half_in : (x z : ℕ) → IsIn z (cycle_of N x) → HasHalf N z

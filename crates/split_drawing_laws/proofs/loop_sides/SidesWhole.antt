@@ -1,6 +1,6 @@
 -- The sides of half-edges through the two passes over the pairs of a face.
 use Rattle.std.specs.Prelude.{fold, map}
-use Rattle.std.proofs.Common.{◌≡◌, ◌≢◌, ℕ, ◌+◌, Bool, true, false, cond, not, List, [], ◌∷◌, ◌++◌, None, IsTrue, refl, sym, ap, subst, arith, ◌⊎◌, inl, inr, nat_eq, nat_lt, ◌&&◌, length, ◌∙◌}
+use Rattle.std.proofs.Common.{◌≡◌, ◌≢◌, ℕ, ◌+◌, Bool, true, false, cond, List, [], ◌∷◌, ◌++◌, None, IsTrue, refl, sym, ap, subst, arith, ◌⊎◌, inl, inr, nat_eq, nat_lt, ◌&&◌, length, ◌∙◌}
 use Rattle.std.proofs.lemmas.Bool.{eqb-true}
 use Rattle.std.proofs.lemmas.Bool.Decides.{eqb_tells}
 use Rattle.euler_operators.specs.declared.Plane.{Plane}
@@ -43,16 +43,12 @@ all_cross_last : (B : Model) (p : Plane) (first : ℕ → Bool) (qs : List (ℕ 
 all_cross_last B p first [] q a w = (w, tt)
 all_cross_last B p first (r ∷ qs) q a w = (a.0, all_cross_last B p first qs q a.1 w)
 
-not_turned : (a b : Bool) → a ≡ not b → b ≡ not a
-not_turned a true e = sym (ap not e)
-not_turned a false e = sym (ap not e)
-
 fewer : (B : Model) (places rest : List ℕ) (c d : ℕ) → ((x : ℕ) → count x places ≡ count x rest + tick x c + tick x d) → Open B places → Open B rest
 fewer B places rest c d closed o = grind arith
 
 opposed : (B : Model) (p : Plane) (first : ℕ → Bool) (q : ℕ × ℕ) (places rest : List ℕ) → Crosses B p first q → Open B places →
     ((x : ℕ) → count x places ≡ count x rest + tick x q.0 + tick x q.1) → Opposed B p first q.0 q.1 places rest × Opposed B p first q.1 q.0 places rest
-opposed B p first q places rest w o closed = grind (arith, not_turned)
+opposed B p first q places rest w o closed = grind arith
 
 module _ (B : Model) (p : Plane) (first : ℕ → Bool) (S : ℕ → Type 0) (others : List ℕ) (M : Model) (f : ℕ) where
   abbrev pub now : List (ℕ × ℕ) → List ℕ
@@ -173,8 +169,7 @@ goes_through : (d D E : Drawing) → GoesOn d D → GoesOn D E → GoesOn d E
 goes_through d D E a b = record { vertex = b.vertex ∙ a.vertex; stuck = λ is. b.stuck (a.stuck is) }
 
 goes_either : (b : Bool) (d D E : Drawing) → GoesOn d D → GoesOn d E → GoesOn d (cond b D E)
-goes_either true d D E x y = x
-goes_either false d D E x y = y
+goes_either b d D E e f = grind arith
 
 goes_all : {X : Type 0} (step : Drawing → X → Drawing) → ((d : Drawing) (x : X) → GoesOn d (step d x)) → (d : Drawing) (xs : List X) → GoesOn d (fold step d xs)
 goes_all step each d [] = record { vertex = refl; stuck = λ is. is }
@@ -185,8 +180,7 @@ goes_stuck f d = grind arith
 
 join_goes : (d : Drawing) (q : ℕ × ℕ) → GoesOn d (join_next d q)
 unfolding join_next
-join_goes d q = goes_either (in_one_loop d.model q) d (record d { left = d.left ++ q ∷ [] }) (record d { model = joined_pair d.model q (d.taken.edge + 1); taken = record d.taken { edge = d.taken.edge + 1 } })
-    (record { vertex = refl; stuck = λ is. is }) (record { vertex = refl; stuck = λ is. is })
+join_goes d q = grind (arith, goes_either)
 
 draw_goes : (f : ℕ) (d : Drawing) (q : ℕ × ℕ) → GoesOn d (draw_next f d q)
 unfolding draw_next

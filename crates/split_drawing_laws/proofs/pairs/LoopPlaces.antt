@@ -9,9 +9,9 @@ use Rattle.std.proofs.lemmas.List.Elements.{filter-append}
 use Rattle.std.proofs.lemmas.Bool.{not-false, false_from_ne_true}
 use Rattle.euler_operators.specs.Vectors.{opposite, height, is_on}
 use Rattle.euler_operators.specs.Items.{IsIn, head_or, count}
-use Rattle.euler_operators.specs.Rings.{IsPath, IsRing, successor, predecessor}
+use Rattle.euler_operators.specs.Rings.{IsPath, IsRing}
 use Rattle.euler_operators.specs.declared.Plane.{Plane}
-use Rattle.euler_operators.specs.Model.{Model, items_of, content, outer, cycle_of, loop_of, before, after, point_of, rings_of}
+use Rattle.euler_operators.specs.Model.{Model, items_of, content, outer, loop_of, before, after, point_of, rings_of}
 use Rattle.euler_operators.specs.Sound.{Sound, HasHalf}
 use Rattle.euler_operators.proofs.Lists.{tick_same, count-append, tick_le}
 use Rattle.euler_operators.proofs.Rings.{predecessor-successor}
@@ -62,28 +62,17 @@ one b = cond b 1 0
 
 step : (a b c : Bool) (x : ℕ) (rs fs : List ℕ) → length rs + one b ≡ length fs + one c →
     length (cond (not a && b) (x ∷ rs) rs) + one a ≡ length (cond (a && not b) (x ∷ fs) fs) + one c
-step true true c x rs fs e = e
-step true false c x rs fs e = omega (arith, e)
-step false true c x rs fs e = omega (arith, e)
-step false false c x rs fs e = e
+step a b c x rs fs e = grind arith
 
 -- a change that an item is the place of is a rise or a fall
 changed : (t a b : Bool) (x : ℕ) (ts rs fs : List ℕ) → (t ≡ true → b ≡ not a) → (t ≡ false → b ≡ a) → length ts ≡ length rs + length fs →
     length (cond t (x ∷ ts) ts) ≡ length (cond (not a && b) (x ∷ rs) rs) + length (cond (a && not b) (x ∷ fs) fs)
-changed true true true x ts rs fs on off e = absurd (true≢false (on refl))
-changed true true false x ts rs fs on off e = omega (arith, e)
-changed true false true x ts rs fs on off e = omega (arith, e)
-changed true false false x ts rs fs on off e = absurd (true≢false (sym (on refl)))
-changed false true true x ts rs fs on off e = e
-changed false true false x ts rs fs on off e = absurd (true≢false (sym (off refl)))
-changed false false true x ts rs fs on off e = absurd (true≢false (off refl))
-changed false false false x ts rs fs on off e = e
+changed t a b x ts rs fs e f g = grind (arith, true≢false)
 
 module _ (next : ℕ → ℕ) (side : ℕ → Bool) where
   path_turns : (hs : List ℕ) (d : ℕ) → IsPath next hs d → length (filter (rises next side) hs) + one (side (head_or d hs)) ≡ length (filter (falls next side) hs) + one (side d)
   path_turns [] d p = refl
-  path_turns (x ∷ xs) d p = step (side x) (side (next x)) (side d) x (filter (rises next side) xs) (filter (falls next side) xs)
-      (ap (λ y. length (filter (rises next side) xs) + one (side y)) p.0 ∙ path_turns xs d p.1)
+  path_turns (x ∷ xs) d p = grind (arith, step, path_turns xs d p.1)
 
   -- once round a ring the side rises as often as it falls
   pub as_many : (hs : List ℕ) → IsRing next hs → length (filter (rises next side) hs) ≡ length (filter (falls next side) hs)
@@ -95,10 +84,7 @@ module _ (next : ℕ → ℕ) (side : ℕ → Bool) where
     pub all_turns : (hs : List ℕ) → ((x : ℕ) → IsIn x hs → turns x ≡ true → side (next x) ≡ not (side x)) → ((x : ℕ) → IsIn x hs → turns x ≡ false → side (next x) ≡ side x) →
         length (filter turns hs) ≡ length (filter (rises next side) hs) + length (filter (falls next side) hs)
     all_turns [] on off = refl
-    all_turns (x ∷ xs) on off =
-        let here : IsIn x (x ∷ xs) = omega (arith, tick_same x) in
-        changed (turns x) (side x) (side (next x)) x (filter turns xs) (filter (rises next side) xs) (filter (falls next side) xs) (on x here) (off x here)
-        (all_turns xs (λ y i. on y (omega (arith, i))) (λ y i. off y (omega (arith, i))))
+    all_turns (x ∷ xs) on off = grind (arith, tick_same, changed, all_turns xs (λ y i. on y (omega (arith, i))) (λ y i. off y (omega (arith, i))))
 
     -- round a ring it changes an even number of times
     pub turns_even : (hs : List ℕ) → IsRing next hs → ((x : ℕ) → IsIn x hs → turns x ≡ true → side (next x) ≡ not (side x)) → ((x : ℕ) → IsIn x hs → turns x ≡ false → side (next x) ≡ side x) →
@@ -125,17 +111,14 @@ pub none_passes : (t : ℕ → Bool) (x : ℕ) (xs : List ℕ) → list_any t xs
 none_passes t x xs none i = false_from_ne_true (t x) (λ e. true≢false (sym (any_passes t x xs i e) ∙ none))
 
 then_true : (a b : Bool) → (a && not b) ≡ false → a ≡ true → b ≡ true
-then_true true b e on = not-false b e
-then_true false b e on = absurd (true≢false (sym on))
+then_true a b e f = grind (arith, not-false, true≢false)
 
 then_false : (a b : Bool) → (a ≡ true → b ≡ true) → b ≡ false → a ≡ false
-then_false true b f e = absurd (true≢false (sym (f refl) ∙ e))
-then_false false b f e = refl
+then_false a b e f = grind (arith, true≢false)
 
 pub before_after : (M : Model) → Sound M → (h : ℕ) → HasHalf M h → before M (after M h) ≡ h
 unfolding before after
-before_after M sound h there = ap (λ l. predecessor (items_of (content M l)) (successor (cycle_of M h) h)) (loop_after M sound h there)
-    ∙ predecessor-successor h (cycle_of M h) (cycle_sound M sound h there).apart (cycle_there M sound h there)
+before_after M sound h there = grind (arith, loop_after, predecessor-successor, cycle_sound, cycle_there)
 
 module _ (M : Model) (sound : Sound M) (p : Plane) where
   -- ---- one loop

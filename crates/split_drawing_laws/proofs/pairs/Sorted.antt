@@ -1,14 +1,12 @@
 -- Places sorted by their points: the same places.
 use Rattle.std.specs.Prelude.{map}
-use Rattle.std.specs.List.{list_all}
-use Rattle.std.proofs.Common.{◌≡◌, ℕ, suc, ◌+◌, true, false, cond, List, [], ◌∷◌, length, refl, ap, ◌∙◌, arith, ◌≢◌, ◌*◌, Bool, sym, subst, not, ◌||◌, true≢false}
+use Rattle.std.proofs.Common.{◌≡◌, ℕ, suc, ◌+◌, true, false, cond, List, [], ◌∷◌, length, refl, ap, ◌∙◌, arith, ◌≢◌, ◌*◌, Bool, sym, subst, true≢false}
 use Rattle.std.proofs.lemmas.Bool.{eq-eqb}
 use Rattle.euler_operators.specs.declared.Plane.{Plane}
-use Rattle.euler_operators.specs.Vectors.{lex_less}
 use Rattle.euler_operators.specs.Items.{count, tick, IsApart, IsIn}
 use Rattle.euler_operators.specs.Model.{Model, loop_of}
 use Rattle.euler_operators.proofs.Lists.{tick_same}
-use Rattle.shapes.specs.split.Places.{place_point, sorted_in, sorted, goes_up, in_pairs, up_first, places, sorted_pairs, place_pairs, is_crossed, is_up_and_down}
+use Rattle.shapes.specs.split.Places.{place_point, sorted_in, sorted, goes_up, in_pairs, up_first, places, sorted_pairs, place_pairs, is_crossed}
 use Rattle.shapes.specs.split.Drawing.{from_place, in_one_loop, drawn_pairs}
 use Rattle.split_drawing_laws.specs.drawings.Pairs.{Fits, AllFit, LoneInOneLoop}
 use Rattle.split_drawing_laws.specs.loop_sides.Parted.{ends}
@@ -18,10 +16,7 @@ use Rattle.split_drawing_laws.proofs.crossings.Premises.{two_meet}
 module _ (M : Model) (p : Plane) where
   count-sorted_in : (x h : ℕ) (ks : List ℕ) → count x (sorted_in M p h ks) ≡ tick x h + count x ks
   count-sorted_in x h [] = refl
-  count-sorted_in x h (k ∷ ks) = elim (lex_less (place_point M p k) (place_point M p h)) as (λ b. count x (cond b (k ∷ sorted_in M p h ks) (h ∷ k ∷ ks)) ≡ tick x h + (tick x k + count x ks)) [
-    | true ↦ omega (arith, count-sorted_in x h ks)
-    | false ↦ refl
-  ]
+  count-sorted_in x h (k ∷ ks) = grind (arith, count-sorted_in x h ks)
 
   -- each as often as before
   pub count-sorted : (x : ℕ) (hs : List ℕ) → count x (sorted M p hs) ≡ count x hs
@@ -33,10 +28,7 @@ module _ (M : Model) (p : Plane) where
 
   pub length-sorted_in : (h : ℕ) (ks : List ℕ) → length (sorted_in M p h ks) ≡ suc (length ks)
   length-sorted_in h [] = refl
-  length-sorted_in h (k ∷ ks) = elim (lex_less (place_point M p k) (place_point M p h)) as (λ b. length (cond b (k ∷ sorted_in M p h ks) (h ∷ k ∷ ks)) ≡ suc (suc (length ks))) [
-    | true ↦ ap suc (length-sorted_in h ks)
-    | false ↦ refl
-  ]
+  length-sorted_in h (k ∷ ks) = grind (arith, length-sorted_in h ks)
 
   pub length-sorted : (hs : List ℕ) → length (sorted M p hs) ≡ length hs
   length-sorted [] = refl
@@ -60,8 +52,7 @@ module _ (M N : Model) (p : Plane) where
   drawn hs = map between (map (up_first M p) (in_pairs hs))
 
   either_fits : (f : ℕ) (b : Bool) (h k : ℕ) → Fits N f (between (h, k)) → Fits N f (between (k, h)) → Fits N f (between (cond b (h, k) (k, h)))
-  either_fits f true h k a c = a
-  either_fits f false h k a c = c
+  either_fits f b h k e g = grind arith
 
   pub all_fit : (f : ℕ) (hs : List ℕ) → IsApart hs → ((x y : ℕ) → IsIn x hs → IsIn y hs → x ≢ y → Fits N f (between (x, y))) → AllFit N f (drawn hs)
   all_fit f [] apart fits = tt
@@ -75,8 +66,7 @@ module _ (M N : Model) (p : Plane) where
       )
 
   either_loop : (l : ℕ) (b : Bool) (h k : ℕ) → loop_of N (from_place N p h) ≡ l → loop_of N (from_place N p k) ≡ l → in_one_loop N (between (cond b (h, k) (k, h))) ≡ true
-  either_loop l true h k a c = eq-eqb (loop_of N (from_place N p h)) (loop_of N (from_place N p k)) (a ∙ sym c)
-  either_loop l false h k a c = eq-eqb (loop_of N (from_place N p k)) (loop_of N (from_place N p h)) (c ∙ sym a)
+  either_loop l b h k e f = grind (arith, eq-eqb)
 
   -- an even number of places, where two alone are those of one loop
   pub lone_in_loop : (l : ℕ) (hs : List ℕ) → IsEven (length hs) → (length hs ≡ 2 → (x : ℕ) → IsIn x hs → loop_of N (from_place N p x) ≡ l) → LoneInOneLoop N (drawn hs)
@@ -101,11 +91,7 @@ module _ (M N : Model) (p : Plane) (x : ℕ) where
 
   started-sorted_in : (h : ℕ) (ks : List ℕ) → count x (map (from_place N p) (sorted_in M p h ks)) ≡ tick x (from_place N p h) + count x (map (from_place N p) ks)
   started-sorted_in h [] = refl
-  started-sorted_in h (k ∷ ks) = elim (lex_less (place_point M p k) (place_point M p h))
-      as (λ b. count x (map (from_place N p) (cond b (k ∷ sorted_in M p h ks) (h ∷ k ∷ ks))) ≡ tick x (from_place N p h) + (tick x (from_place N p k) + count x (map (from_place N p) ks))) [
-        | true ↦ omega (arith, started-sorted_in h ks)
-        | false ↦ refl
-      ]
+  started-sorted_in h (k ∷ ks) = grind (arith, started-sorted_in h ks)
 
   started-sorted : (hs : List ℕ) → count x (map (from_place N p) (sorted M p hs)) ≡ count x (map (from_place N p) hs)
   started-sorted [] = refl
@@ -121,5 +107,4 @@ module _ (M N : Model) (p : Plane) (x : ℕ) where
 module _ (M : Model) (p : Plane) where
   pub points_apart : (f : ℕ) → is_crossed M p f ≡ false → (x y : ℕ) → IsIn x (places M p f) → IsIn y (places M p f) → x ≢ y → place_point M p x ≢ place_point M p y
   unfolding is_crossed
-  points_apart f uncrossed x y i j ne e =
-      true≢false (sym (ap (λ b. b || not (list_all (is_up_and_down M p) (sorted_pairs M p f))) (two_meet M p x y (places M p f) ne e i j)) ∙ uncrossed)
+  points_apart f uncrossed x y i j ne e = grind (arith, true≢false, two_meet)

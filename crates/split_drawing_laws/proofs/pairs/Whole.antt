@@ -15,7 +15,7 @@ use Rattle.euler_laws.proofs.Runs.{AreAccepted-append, effects-append}
 use Rattle.euler_laws.proofs.shared.Listed.{listed-from_in, IsIn-from_listed}
 use Rattle.shapes.specs.Fresh.{Taken, Growing, growing, taken_in}
 use Rattle.shapes.specs.split.Sides.{straddling_faces, crossing_edges}
-use Rattle.shapes.specs.split.Places.{pair_count, is_place, places, loop_is_cut, is_cut_often, sorted, in_pairs, up_first, sorted_pairs, place_pairs}
+use Rattle.shapes.specs.split.Places.{pair_count, is_place, places, loop_is_cut, is_cut_often, sorted, sorted_pairs, place_pairs}
 use Rattle.shapes.specs.split.Crossings.{next_cut, all_cut, with_crossings}
 use Rattle.shapes.specs.split.Drawing.{straddling_pairs, from_place, drawn_pairs, all_pairs, with_drawings}
 use Rattle.shapes.specs.Faces.{loops_of, boundary}
@@ -49,14 +49,7 @@ module _ (p : Plane) where
 
   all_grown : (g : Growing) (es : List ℕ) → Grown g.taken (all_cut p g es).taken (length es)
   all_grown g [] = record { faces = refl; loops = refl; edges = omega arith }
-  all_grown g (e ∷ es) =
-      let r : Grown (next_cut p g e).taken (all_cut p (next_cut p g e) es).taken (length es) = all_grown (next_cut p g e) es in
-      let n : (next_cut p g e).taken ≡ record g.taken { edge = g.taken.edge + 1; vertex = g.taken.vertex + 1 } = next_taken g e in
-      record {
-        faces = r.faces ∙ ap (λ c. c.face) n;
-        loops = r.loops ∙ ap (λ c. c.loop) n;
-        edges = omega (arith, r.edges, ap (λ c. c.edge) n);
-      }
+  all_grown g (e ∷ es) = grind (arith, next_taken, all_grown (next_cut p g e) es)
 
   module _ (M : Model) (s : ℕ) where
     crossings_grown : Grown (taken_in M) (with_crossings M s p).taken (length (crossing_edges M p s))
@@ -124,8 +117,7 @@ module _ (M : Model) (s : ℕ) (p : Plane) (t : ℕ) (sound : Sound M) (begins :
 
     paired : length (places M p f) ≡ 2 * length (place_pairs M p f)
     unfolding place_pairs sorted_pairs
-    paired = sym (length-sorted M p (places M p f)) ∙ all_paired (sorted M p (places M p f)) even
-        ∙ ap (λ n. 2 * n) (sym (length-map (in_pairs (sorted M p (places M p f))) (up_first M p)))
+    paired = grind (arith, length-sorted, all_paired, even, length-map)
 
     outer_only : length (sorted M p (places M p f)) ≡ 2 → (x : ℕ) → IsIn x (sorted M p (places M p f)) → loop_of N (from_place N p x) ≡ outer M f
     outer_only two x j = (at x (from_sorted x j)).loop
@@ -141,9 +133,7 @@ module _ (M : Model) (s : ℕ) (p : Plane) (t : ℕ) (sound : Sound M) (begins :
 
   faces_fit : (fs : List ℕ) → ((f : ℕ) → IsIn f fs → IsIn f (straddling_faces M p s)) → FacesFit N (all_pairs M N p fs)
   faces_fit [] within = tt
-  faces_fit (f ∷ fs) within =
-      let i : IsIn f (straddling_faces M p s) = within f (omega (arith, tick_same f)) in
-      ((pairs_fit f i, lone_pair f i), faces_fit fs (λ g j. within g (omega (arith, j))))
+  faces_fit (f ∷ fs) within = grind (arith, tick_same, pairs_fit, lone_pair, faces_fit fs (λ g j. within g (omega (arith, j))))
 
   pub can_be_drawn : CanBeDrawn (with_crossings M s p) (straddling_pairs M s p)
   can_be_drawn = record {
