@@ -1,6 +1,6 @@
 -- Numbers in a run, and the rows of such numbers that go.
 use Rattle.std.specs.Prelude.{reverse, take, get_or}
-use Rattle.std.proofs.Common.{◌≡◌, ◌≢◌, ℕ, zero, suc, ◌+◌, ◌≤◌, ◌<◌, map, None, is_some, refl, sym, ap, ◌∙◌, arith, inl, inr, true≢false, List, [], ◌∷◌, ◌++◌, length, Some, unwrap_or, subst}
+use Rattle.std.proofs.Common.{◌≡◌, ◌≢◌, ℕ, zero, suc, ◌+◌, ◌≤◌, ◌<◌, map, None, is_some, refl, sym, ap, ◌∙◌, arith, inl, inr, List, [], ◌∷◌, ◌++◌, length, Some, unwrap_or, subst}
 use Rattle.std.proofs.lemmas.Bool.Decides.{nat_tests, eqb_tells}
 use Rattle.std.proofs.Math.Seq.{take-suc}
 use Rattle.std.proofs.lemmas.List.{append_assoc, map-append, reverse-append}
@@ -72,12 +72,7 @@ module _ {X : Type 0} where
 
   pub gone_back : (t : Table X) (k n q : ℕ) → Has (without_rows t (numbers_after k n)) q → table.get (without_rows t (numbers_after k n)) q ≡ table.get t q
   gone_back t k zero q there = refl
-  gone_back t k (suc n) q there =
-      let r = gone_back (table.remove t (k + 1)) (k + 1) n q there in
-      elim (eqb_tells q (k + 1)) [
-        | inl e ↦ absurd (true≢false (sym there ∙ ap is_some (r ∙ removed_here t (k + 1) q e.1)))
-        | inr ne ↦ r ∙ get-remove_other t (k + 1) q ne.1
-      ]
+  gone_back t k (suc n) q there = grind (arith, removed_here, get-remove_other, gone_back (table.remove t (k + 1)) (k + 1) n q there)
 
   -- the rows outside the run stay, those in it go
   pub gone_below : (t : Table X) (k n q : ℕ) → q ≤ k → table.get (without_rows t (numbers_after k n)) q ≡ table.get t q
@@ -165,8 +160,7 @@ module _ (N : Model) (s : ℕ) (c : Taken) (hs : List ℕ) (w : HasStrips N s c 
   strip = a ∷ plus x ∷ e ∷ z ∷ []
 
   loop_here : joined_loop c hs n ≡ front ++ minus x ∷ []
-  loop_here = ap (λ i. mates ++ plus (strip_riser c m 0) ∷ (copies ++ minus (strip_riser c m i) ∷ [])) (next_inner m n (omega (arith, later)))
-      ∙ sym (append_assoc mates (plus (c.edge + m + 1) ∷ copies) (minus x ∷ []))
+  loop_here = grind (arith, next_inner, append_assoc)
 
   around_first : Around P l1 f1 (front ++ minus x ∷ [])
   around_first = record { sound = sound; at = at_first N s c hs w n ∙ ap (λ xs. Some (record { face = f1; content = cycle (canonical xs) })) loop_here }

@@ -34,8 +34,7 @@ use Rattle.split_opening_laws.proofs.caps.Joined.{canonical_run, gone_first, gon
 
 -- some items make a cycle
 some_cycle : (xs : List ℕ) (v : ℕ) → 1 ≤ length xs → cycle_or_lone xs v ≡ cycle (canonical xs)
-some_cycle [] v l = absurd (omega (arith, l))
-some_cycle (x ∷ xs) v l = refl
+some_cycle xs v e = grind arith
 
 module _ (N : Model) (s : ℕ) (c : Taken) (hs : List ℕ) (w : HasStrips N s c hs) (n : ℕ) (all : length hs ≡ suc n) (sound : Sound (joined_part N c hs n)) where
   abbrev m : ℕ
@@ -147,7 +146,7 @@ module _ (N : Model) (s : ℕ) (c : Taken) (hs : List ℕ) (w : HasStrips N s c 
   }
 
   kemr_loops : (kemr P (plus x) L).loops ≡ K.loops
-  kemr_loops = grind (arith, parted.loops_are, goes, loop_h, face_l1, beyond_is, some_cycle, some_lower, between_is)
+  kemr_loops = grind (arith, parted.loops_are, goes, loop_h, face_l1, some_cycle, length-reverse, mate_plus, rest_h, before_at, none_upper, after_at)
 
   kemr_here : kemr P (plus x) L ≡ K
   unfolding kemr
@@ -186,9 +185,6 @@ module _ (N : Model) (s : ℕ) (c : Taken) (hs : List ℕ) (w : HasStrips N s c 
     is_ring = λ q. L_else (sym (sym outer_1 ∙ ap (outer K) (sym face_L) ∙ q));
     face_fits = w.face_fits;
   }
-
-  mfkrh_ok : first_false K (Mfkrh L F) ≡ None
-  mfkrh_ok = mfkrh_accepted K L F sound_K makes
 
   abbrev X : Model
   X = capped N s c hs
@@ -251,7 +247,7 @@ module _ (N : Model) (s : ℕ) (c : Taken) (hs : List ℕ) (w : HasStrips N s c 
 
   -- the two operators are accepted, and then there are two caps
   pub parting_accepted : AreAccepted P (partings c m)
-  parting_accepted = (kemr_ok, (subst (λ Y. first_false Y (Mfkrh L F) ≡ None) (sym kemr_is) mfkrh_ok, tt))
+  parting_accepted = (kemr_ok, (subst (λ Y. first_false Y (Mfkrh L F) ≡ None) (sym kemr_is) (mfkrh_accepted K L F sound_K makes), tt))
 
   pub parting_is : effects P (partings c m) ≡ X
   parting_is = ap (λ Y. effect Y (Mfkrh L F)) kemr_is ∙ mfkrh_is

@@ -37,14 +37,10 @@ use Rattle.split_opening_laws.proofs.copies.Sides as sides
 use Rattle.split_opening_laws.proofs.copies.Risers.{edge_free, loops_next}
 
 both_true : (a b : Bool) → (a && not b) ≡ true → (a ≡ true) × (b ≡ false)
-both_true true false e = (refl, refl)
-both_true true true e = (refl, sym e)
-both_true false b e = absurd (true≢false (sym e))
+both_true a b e = grind (arith, true≢false)
 
 first_false_of : (a b : Bool) → (a && not b) ≡ false → b ≡ false → a ≡ false
-first_false_of true false e f = e
-first_false_of true true e f = f
-first_false_of false b e f = refl
+first_false_of a b e f = grind arith
 
 module _ (M : Model) (above : List ℕ) (s : ℕ) (c : Taken) (bs : List ℕ) (w : CanBeOpened M above s c bs) (i : ℕ) (lt : i < length bs) (sound : Sound (copies_raised M above s c bs i)) where
   abbrev N : Model
@@ -115,14 +111,7 @@ module _ (M : Model) (above : List ℕ) (s : ℕ) (c : Taken) (bs : List ℕ) (w
   -- a half-edge that was there
   old_moves : (h : ℕ) → HasHalf M h → cond (nat_lt 0 (count h moved)) y (opened_tail M above mates copies h (tail M h)) ≡ opened_tail M above mates copies' h (tail M h)
   old_moves h there = elim (sides.tested M above s c bs w i lt sound (lists above (face_at M h) && not (lists mates h))) [
-    | inl t ↦
-        let two = both_true (lists above (face_at M h)) (lists mates h) t in
-        let is : opened_tail M above mates copies h (tail M h) ≡ renamed copies (tail M h) = ap (λ b. cond b (renamed copies (tail M h)) (tail M h)) t in
-        let at : tail N h ≡ renamed copies (tail M h) = raised.old_tail M above s c bs w i sound h there ∙ is in
-        let up : side h ≡ true = raised.old_side M above s c bs w i sound h there two.1 ∙ two.0 in
-        (λ n. cond ((moves h (raised.old_half M above s c bs w i sound h there) (inl up) ∙ ap (λ q. nat_eq q x) at) n) y (is n))
-        ∙ turned (tail M h)
-        ∙ sym (ap (λ b. cond b (renamed copies' (tail M h)) (tail M h)) t)
+    | inl t ↦ grind (arith, both_true, raised.old_tail, raised.old_side, moves, raised.old_half, turned)
     | inr f ↦
         let is : opened_tail M above mates copies h (tail M h) ≡ tail M h = ap (λ b. cond b (renamed copies (tail M h)) (tail M h)) f in
         let down : side h ≡ false = elim (sides.tested M above s c bs w i lt sound (lists mates h)) [
@@ -154,17 +143,12 @@ module _ (M : Model) (above : List ℕ) (s : ℕ) (c : Taken) (bs : List ℕ) (w
     v = tail M (get_or bs j 0)
 
     first : cond (nat_lt 0 (count (plus (c.edge + suc j)) moved)) y (renamed copies (tail M (mate (get_or bs j 0)))) ≡ renamed copies' (tail M (mate (get_or bs j 0)))
-    first =
-        ap (λ b. cond b y (renamed copies (tail M (mate (get_or bs j 0)))))
-        (moves (plus (c.edge + suc j)) (out_half j below) (inl (raised.out_side M above s c bs w i sound j below)) ∙ ap (λ q. nat_eq q x) (raised.out_tail M above s c bs w i sound j below))
-        ∙ turned (tail M (mate (get_or bs j 0)))
+    first = grind (arith, moves, out_half, raised.out_side, raised.out_tail, turned)
 
     second : cond (nat_lt 0 (count (minus (c.edge + suc j)) moved)) y (renamed copies (tail M (get_or bs j 0))) ≡ renamed copies' (tail M (get_or bs j 0))
     second =
         ap (λ b. cond b y (renamed copies (tail M (get_or bs j 0)))) (elim (eqb_tells j i) [
-          | inl e ↦
-              moves (minus (c.edge + suc j)) (subst (λ q. HasHalf N (minus (c.edge + suc q))) (sym e.1) (sides.g_there M above s c bs w i lt sound)) (inr (ap (λ q. minus (c.edge + suc q)) e.1))
-              ∙ ap (λ q. nat_eq q x) (raised.back_tail M above s c bs w i sound j below)
+          | inl e ↦ grind (arith, moves, sides.g_there, raised.back_tail)
           | inr e ↦
               stays (minus (c.edge + suc j)) (raised.strip_side M above s c bs w i sound j (minus (c.edge + suc j)) below (raised.back_in M above s c bs w i sound j))
               (other_edge (minus (c.edge + suc j)) (c.edge + suc j) (minus_row (c.edge + suc j)).0 (λ q. e.1 (omega arith)))

@@ -26,7 +26,7 @@ use Rattle.shapes.specs.Fresh.{Taken}
 use Rattle.shapes.specs.Prism.{next_place}
 use Rattle.shapes.specs.Rewriting.{rewritten_row, renamed}
 use Rattle.shapes.specs.split.Opening.{opened_tail, opened_row, with_copies}
-use Rattle.split_opening_laws.specs.strips.Strips.{with_rows, put_out, strip_face, copy_riser, riser_edge, copied, raised_items, raised_loop, raised_edge, copies_raised}
+use Rattle.split_opening_laws.specs.strips.Strips.{with_rows, put_out, copy_riser, riser_edge, copied, raised_items, raised_loop, raised_edge, copies_raised}
 use Rattle.split_opening_laws.specs.strips.Opened.{CanBeOpened}
 use Rattle.split_opening_laws.proofs.strips.Rows.{rows_at, rows_low, rows_split}
 use Rattle.split_opening_laws.proofs.strips.Cycle as on
@@ -54,10 +54,7 @@ module _ (N : Model) (sound : Sound N) (up : ℕ → Bool) (g k : ℕ) (w : Spli
 
   all_up : (x : ℕ) (xs : List ℕ) → Here (x ∷ xs) → count k xs ≡ 0 → IsPath (round N) (x ∷ xs) k → up (round N x) ≡ true → (y : ℕ) → IsIn y xs → up y ≡ true
   all_up x [] here none p u y i = absurd (omega (arith, i))
-  all_up x (z ∷ []) here none p u y i = elim (eqb_tells y z) [
-    | inl e ↦ ap up e.1 ∙ ap up (sym p.0) ∙ u
-    | inr e ↦ absurd (omega (arith, i, tick_other y z e.1))
-  ]
+  all_up x (z ∷ []) here none p u y i = grind (arith, tick_other)
   all_up x (z ∷ q ∷ qs) here none p u y i =
       let z_up : up z ≡ true = ap up (sym p.0) ∙ u in
       let t = here z (omega (arith, tick_same z)) in
@@ -156,10 +153,6 @@ module _ (M : Model) (above : List ℕ) (s : ℕ) (c : Taken) (bs : List ℕ) (w
   unfolding copies_raised
   raised_vertices = refl
 
-  pub raised_faces : N.faces ≡ with_rows M.faces c.face (strip_face s c) m
-  unfolding copies_raised
-  raised_faces = refl
-
   -- ---- strips
 
   pub around : (j : ℕ) → j < m → Around N (c.loop + suc j) (c.face + suc j) (raised_items c bs i j)
@@ -215,10 +208,7 @@ module _ (M : Model) (above : List ℕ) (s : ℕ) (c : Taken) (bs : List ℕ) (w
 
   old_edge : (e : ℕ) (row : EdgeRow) → table.get M.edges e ≡ Some row → e ≤ c.edge → table.get N.edges e ≡ Some (opened_row M above mates copies e row)
   old_edge e row at low =
-      ap (λ t. table.get t e) raised_edges
-      ∙ rows_low (with_rows (table.map_rows (opened_row M above mates copies) M.edges) c.edge (raised_edge M bs copies) m) (c.edge + m) (riser_edge M c bs) i e (omega (arith, low))
-      ∙ rows_low (table.map_rows (opened_row M above mates copies) M.edges) c.edge (raised_edge M bs copies) m e low
-      ∙ get-map_rows (opened_row M above mates copies) M.edges e ∙ ap (option_map (opened_row M above mates copies e)) at
+      grind (arith, raised_edges, rows_low, with_rows, opened_row, mates, copies, raised_edge, m, riser_edge, get-map_rows, option_map)
 
   pub old_half : (h : ℕ) → HasHalf M h → HasHalf N h
   old_half h there = let r = row_some (table.get M.edges (edge_of h)) there in ap is_some (old_edge (edge_of h) r.0 r.1 (on.low_edge M above s c bs w h there))
@@ -243,8 +233,7 @@ module _ (M : Model) (above : List ℕ) (s : ℕ) (c : Taken) (bs : List ℕ) (w
   back_tail j lt = minus_tail_row N (c.edge + suc j) (raised_edge M bs copies j) (out_edge j lt)
 
   riser_row : (j : ℕ) → j < i → table.get N.edges (copy_riser c bs j) ≡ Some (riser_edge M c bs j)
-  riser_row j lt = ap (λ t. table.get t (copy_riser c bs j)) raised_edges
-      ∙ rows_at (with_rows (table.map_rows (opened_row M above mates copies) M.edges) c.edge (raised_edge M bs copies) m) (c.edge + m) (riser_edge M c bs) i j lt
+  riser_row j lt = grind (arith, raised_edges, rows_at)
 
   pub rise_tail : (j : ℕ) → j < i → tail N (plus (copy_riser c bs j)) ≡ tail M (get_or bs j 0)
   rise_tail j lt = plus_tail_row N (copy_riser c bs j) (riser_edge M c bs j) (riser_row j lt)

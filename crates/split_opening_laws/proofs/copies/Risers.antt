@@ -80,10 +80,7 @@ module _ (M : Model) (above : List ℕ) (s : ℕ) (c : Taken) (bs : List ℕ) (w
   -- the edge is free
   pub edge_free : table.get N.edges u ≡ None
   edge_free =
-      ap (λ t. table.get t u) (raised.raised_edges M above s c bs w i sound)
-      ∙ rows_high (with_rows (table.map_rows (opened_row M above mates copies) M.edges) c.edge (raised_edge M bs copies) m) (c.edge + m) (riser_edge M c bs) i u (omega arith)
-      ∙ rows_high (table.map_rows (opened_row M above mates copies) M.edges) c.edge (raised_edge M bs copies) m u (omega arith)
-      ∙ get-map_rows (opened_row M above mates copies) M.edges u ∙ ap (option_map (opened_row M above mates copies u)) (w.free.edges u (omega arith))
+      grind (arith, raised.raised_edges, rows_high, u, with_rows, opened_row, mates, copies, raised_edge, m, riser_edge, get-map_rows, option_map)
 
   abbrev up_before : ℕ → LoopRow → LoopRow
   up_before = with_before (minus (c.edge + suc i)) (plus (copy_riser c bs i))

@@ -96,8 +96,7 @@ module _ (M : Model) (above : List ℕ) (s : ℕ) (c : Taken) (bs : List ℕ) (w
   -- ---- the last one above
 
   pub last_items : raised_items c bs i p ≡ (k ∷ raised.rise_part M above s c bs w i sound p) ++ minus (c.edge + suc p) ∷ []
-  last_items = ap (λ b. (k ∷ raised.rise_part M above s c bs w i sound p) ++ minus (c.edge + suc p) ∷ cond b (minus (copy_riser c bs (next_place m p)) ∷ []) [])
-      (not_less (next_place m p) i (omega (arith, next-before m i lt)))
+  last_items = grind (arith, raised.rise_part, not_less, next-before)
 
   after_last : after N (minus (c.edge + suc p)) ≡ k
   unfolding after
@@ -129,8 +128,7 @@ module _ (M : Model) (above : List ℕ) (s : ℕ) (c : Taken) (bs : List ℕ) (w
   listed_mate h at = let q = on.place_of M above s c bs w h at in ap (λ y. lists mates (mate y)) q.2 ∙ on.mate_listed M above s c bs w q.0 q.1
 
   pub tested : (b : Bool) → (b ≡ true) ⊎ (b ≡ false)
-  tested true = inl refl
-  tested false = inr refl
+  tested b = grind arith
 
   -- where a half-edge of M starts at the vertex now, it did
   started : (h : ℕ) → HasHalf M h → tail N h ≡ x → tail M h ≡ x
@@ -215,4 +213,6 @@ module _ (M : Model) (above : List ℕ) (s : ℕ) (c : Taken) (bs : List ℕ) (w
   ]
 
   pub splits : Splits N side g k
-  splits = grind (arith, g_there, k_there, k_tail, g_tail, apart, mate_side, first_up, stays_up, stays_down)
+  splits =
+      grind (arith, g_there, k_there, k_tail, g_tail, apart, mate_side, stays_up, round_side, mate_minus, raised.out_side, raised.kinds, tested,
+      listed_side, old_sides, back_start, rise_start, fall_start)

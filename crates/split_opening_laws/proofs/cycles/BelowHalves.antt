@@ -1,6 +1,6 @@
 -- Which half-edges the below halves of a section are.
 use Rattle.std.specs.Prelude.{flat_map}
-use Rattle.std.proofs.Common.{◌≡◌, ◌≢◌, ℕ, ◌<◌, Bool, true, false, cond, not, nat_eq, ◌&&◌, List, [], ◌∷◌, ◌++◌, is_some, refl, sym, ap, subst, ◌∙◌, arith, true≢false, inl, inr, map}
+use Rattle.std.proofs.Common.{◌≡◌, ◌≢◌, ℕ, ◌<◌, Bool, true, false, cond, not, nat_eq, ◌&&◌, List, [], ◌∷◌, ◌++◌, is_some, refl, sym, ap, subst, ◌∙◌, arith, inl, inr, map}
 use Rattle.std.proofs.lemmas.Bool.Decides.{eqb_tells}
 use Rattle.std.proofs.lemmas.Bool.{eq-eqb, eqb-true}
 use Rattle.euler_operators.specs.Items.{tick, count, IsIn, IsApart}
@@ -31,22 +31,13 @@ abbrev pick : Bool → Bool → ℕ → ℕ → List ℕ
 pick a b p m = cond a (cond b [] (m ∷ [])) (cond b (p ∷ []) [])
 
 pick_none : (a b : Bool) (p m x : ℕ) → x ≢ p → x ≢ m → count x (pick a b p m) ≡ 0
-pick_none true true p m x np nm = refl
-pick_none true false p m x np nm = omega (arith, tick_other x m nm)
-pick_none false true p m x np nm = omega (arith, tick_other x p np)
-pick_none false false p m x np nm = refl
+pick_none a b p m x e f = grind (arith, tick_other)
 
 pick_plus : (a b : Bool) (p m : ℕ) → p ≢ m → count p (pick a b p m) ≡ bit (not a && b)
-pick_plus true true p m ne = refl
-pick_plus true false p m ne = omega (arith, tick_other p m ne)
-pick_plus false true p m ne = omega (arith, tick_same p)
-pick_plus false false p m ne = refl
+pick_plus a b p m e = grind (arith, tick_other, tick_same)
 
 pick_minus : (a b : Bool) (p m : ℕ) → p ≢ m → count m (pick a b p m) ≡ bit (not b && a)
-pick_minus true true p m ne = refl
-pick_minus true false p m ne = omega (arith, tick_same m)
-pick_minus false true p m ne = omega (arith, tick_other m p (λ e. ne (sym e)))
-pick_minus false false p m ne = refl
+pick_minus a b p m e = grind (arith, tick_same, tick_other)
 
 pick_rises : (a b : Bool) (p m : ℕ) (ns : List ℕ) → ((k : ℕ) → IsIn k ns → (p < k) × (m < k)) → strictly_rises ns ≡ true → strictly_rises (pick a b p m ++ ns) ≡ true
 pick_rises true true p m ns l r = r
@@ -58,10 +49,6 @@ above_halves : (k e : ℕ) → e < edge_of k → (plus e < k) × (minus e < k)
 unfolding edge_of
 above_halves k e l = (omega (arith, l), omega (arith, l))
 
-and_parts : (a b : Bool) → (not a && b) ≡ true → (a ≡ false) × (b ≡ true)
-and_parts true b e = absurd (true≢false (sym e))
-and_parts false b e = (refl, e)
-
 module _ (M : Model) (above : List ℕ) where
   -- h lies in a face that isn't above, and its mate in one that is
   abbrev pub is_below : ℕ → Bool
@@ -70,16 +57,13 @@ module _ (M : Model) (above : List ℕ) where
   -- ---- the below half of one edge
 
   other_edge : (x e : ℕ) → edge_of x ≢ e → count x (below_half M above e) ≡ 0
-  other_edge x e ne = pick_none (lists above (face_at M (plus e))) (lists above (face_at M (minus e))) (plus e) (minus e) x
-      (λ s. ne (ap edge_of s ∙ (plus_row e).0)) (λ s. ne (ap edge_of s ∙ (minus_row e).0))
+  other_edge x e ne = grind (arith, pick_none, plus_row, minus_row)
 
   own_plus : (e : ℕ) → count (plus e) (below_half M above e) ≡ bit (is_below (plus e))
-  own_plus e = pick_plus (lists above (face_at M (plus e))) (lists above (face_at M (minus e))) (plus e) (minus e) (plus_other e)
-      ∙ ap (λ m. bit (not (lists above (face_at M (plus e))) && lists above (face_at M m))) (sym (mate_plus e))
+  own_plus e = grind (arith, pick_plus, plus_other, bit, mate_plus)
 
   own_minus : (e : ℕ) → count (minus e) (below_half M above e) ≡ bit (is_below (minus e))
-  own_minus e = pick_minus (lists above (face_at M (plus e))) (lists above (face_at M (minus e))) (plus e) (minus e) (plus_other e)
-      ∙ ap (λ m. bit (not (lists above (face_at M (minus e))) && lists above (face_at M m))) (sym (mate_minus e))
+  own_minus e = grind (arith, pick_minus, plus_other, bit, mate_minus)
 
   own_edge : (x : ℕ) → count x (below_half M above (edge_of x)) ≡ bit (is_below x)
   own_edge x = grind (arith, halves_of_edge, own_plus, own_minus)
@@ -96,12 +80,7 @@ module _ (M : Model) (above : List ℕ) where
 
   flat_fails : (x : ℕ) (es : List ℕ) → is_below x ≡ false → count x (flat_map (below_half M above) es) ≡ 0
   flat_fails x [] f = refl
-  flat_fails x (e ∷ es) f = omega (arith, count-append x (below_half M above e) (flat_map (below_half M above) es), flat_fails x es f, at e) where
-    at : (e : ℕ) → count x (below_half M above e) ≡ 0
-    at e = elim (eqb_tells (edge_of x) e) [
-      | inl s ↦ ap (λ n. count x (below_half M above n)) (sym s.1) ∙ own_edge x ∙ ap bit f
-      | inr s ↦ other_edge x e s.1
-    ]
+  flat_fails x (e ∷ es) f = grind (arith, count-append, own_edge, bit, other_edge, flat_fails x es f)
 
   in_flat : (x : ℕ) (es : List ℕ) → IsIn x (flat_map (below_half M above) es) → (is_below x ≡ true) × IsIn (edge_of x) es
   in_flat x es i = grind (arith, flat_passes, flat_fails)
@@ -156,14 +135,7 @@ module _ (M : Model) (v : ℕ) (fan : Fan (after M) M v) where
   starts_counted cs t = count_map (tail M) v cs ∙ total_same (λ c. tick v (tail M c)) (λ c. count c fan.items) cs (λ c i. sym (in_fan c (t c i))) ∙ sym (meet_turned fan.items cs)
 
 turned_and : (a b c : Bool) → a ≡ c → bit (not b && a) ≡ bit (c && not b)
-turned_and true b c e = both b ∙ ap (λ d. bit (d && not b)) e where
-  both : (b : Bool) → bit (not b && true) ≡ bit (not b)
-  both true = refl
-  both false = refl
-turned_and false b c e = both b ∙ ap (λ d. bit (d && not b)) e where
-  both : (b : Bool) → bit (not b && false) ≡ 0
-  both true = refl
-  both false = refl
+turned_and a b c e = grind (arith, bit)
 
 mates_map : (f : ℕ → ℕ) (bs : List ℕ) → map f (map mate bs) ≡ map (λ b. f (mate b)) bs
 mates_map f [] = refl

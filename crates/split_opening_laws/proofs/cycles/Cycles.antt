@@ -1,5 +1,5 @@
 -- The cycles of a section where no vertex is branched.
-use Rattle.std.proofs.Common.{◌≡◌, ◌≢◌, ℕ, zero, suc, ◌+◌, ◌≤◌, ◌<◌, Bool, true, false, cond, List, [], ◌∷◌, ◌++◌, length, map, get_or, refl, sym, ap, subst, ◌∙◌, arith, ◌⊎◌, inl, inr}
+use Rattle.std.proofs.Common.{◌≡◌, ◌≢◌, ℕ, zero, suc, ◌+◌, ◌≤◌, ◌<◌, true, List, [], ◌∷◌, ◌++◌, length, map, get_or, refl, sym, ap, subst, ◌∙◌, arith, ◌⊎◌, inl, inr, Bool, false}
 use Rattle.std.specs.Prelude.{flat_map}
 use Rattle.std.proofs.lemmas.Bool.Decides.{eqb_tells}
 use Rattle.std.proofs.lemmas.Bool.{ne_eqb, eq-eqb}
@@ -32,22 +32,11 @@ path_place : (next : ℕ → ℕ) (x : ℕ) (xs : List ℕ) (d i : ℕ) → IsPa
 path_place next x [] d zero p l = inl (omega arith, p.0)
 path_place next x [] d (suc i) p l = absurd (omega (arith, l))
 path_place next x (y ∷ ys) d zero p l = inr (omega arith, p.0)
-path_place next x (y ∷ ys) d (suc i) p l = elim (path_place next y ys d i p.1 (omega (arith, l))) [
-  | inl r ↦ inl (omega (arith, r.0), r.1)
-  | inr r ↦ inr (omega (arith, r.0), r.1)
-]
+path_place next x (y ∷ ys) d (suc i) p l = grind (arith, path_place next y ys d i p.1 (omega (arith, l)))
 
 -- next leads from each place to the next one round
 ring_place : (next : ℕ → ℕ) (x : ℕ) (xs : List ℕ) (i : ℕ) → IsRing next (x ∷ xs) → i < length (x ∷ xs) → next (get_or (x ∷ xs) i 0) ≡ get_or (x ∷ xs) (next_place (length (x ∷ xs)) i) 0
-ring_place next x xs i r l = elim (path_place next x xs x i r l) [
-  | inl s ↦ s.1 ∙ sym (ap (λ b. get_or (x ∷ xs) (cond b 0 (i + 1)) 0) (eq-eqb (i + 1) (length (x ∷ xs)) s.0))
-  | inr s ↦ s.1 ∙ ap (λ k. get_or (x ∷ xs) k 0) (plus_one i) ∙ sym (ap (λ b. get_or (x ∷ xs) (cond b 0 (i + 1)) 0) (ne_eqb (i + 1) (length (x ∷ xs)) (less (i + 1) (length (x ∷ xs)) s.0)))
-] where
-  plus_one : (n : ℕ) → suc n ≡ n + 1
-  plus_one n = omega arith
-
-  less : (a b : ℕ) → a < b → a ≢ b
-  less a b l e = absurd (omega (arith, l, e))
+ring_place next x xs i r l = grind (arith, path_place, eq-eqb, ne_eqb)
 
 -- the item from which a ring leads to one of its items
 ring_back : (next : ℕ → ℕ) (x : ℕ) (xs : List ℕ) (d b : ℕ) → IsPath next (x ∷ xs) d → IsIn b (xs ++ d ∷ []) → (a : ℕ) × IsIn a (x ∷ xs) × (next a ≡ b)

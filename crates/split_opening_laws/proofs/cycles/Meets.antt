@@ -1,6 +1,6 @@
 -- Sums over a list, and how many items of a list stand in another, counted from either side.
 use Rattle.std.specs.Prelude.{filter, flat_map}
-use Rattle.std.proofs.Common.{◌≡◌, ℕ, ◌+◌, ◌≤◌, Bool, true, false, cond, List, [], ◌∷◌, map, refl, sym, ap, subst, ◌∙◌, arith, inl, inr, not, ◌&&◌}
+use Rattle.std.proofs.Common.{◌≡◌, ℕ, ◌+◌, ◌≤◌, Bool, true, false, cond, List, [], ◌∷◌, map, refl, sym, ap, ◌∙◌, arith, inl, inr, not, ◌&&◌}
 use Rattle.std.proofs.lemmas.Bool.Decides.{eqb_tells}
 use Rattle.euler_operators.specs.Items.{tick, count, IsIn, IsApart, head_or}
 use Rattle.euler_operators.specs.Rings.{IsPath, IsRing}
@@ -44,10 +44,7 @@ count_map f x (y ∷ ys) = omega (arith, count_map f x ys)
 -- where the values stay apart, the items do
 count_below : (f : ℕ → ℕ) (x : ℕ) (ys : List ℕ) → count x ys ≤ count (f x) (map f ys)
 count_below f x [] = omega arith
-count_below f x (y ∷ ys) = elim (eqb_tells x y) [
-  | inl e ↦ subst (λ z. count x (z ∷ ys) ≤ count (f x) (map f (z ∷ ys))) e.1 (omega (arith, tick_same x, tick_same (f x), count_below f x ys))
-  | inr e ↦ omega (arith, tick_other x y e.1, count_below f x ys)
-]
+count_below f x (y ∷ ys) = grind (arith, tick_same, tick_other, count_below f x ys)
 
 pub apart_before : (f : ℕ → ℕ) (xs : List ℕ) → IsApart (map f xs) → IsApart xs
 apart_before f xs d x = omega (arith, d (f x), count_below f x xs)
@@ -67,13 +64,7 @@ known_by f (z ∷ zs) d x y i j e = elim (eqb_tells x z) [
 ]
 
 kept : (p : ℕ → Bool) (x y : ℕ) (ys : List ℕ) (b : Bool) → p y ≡ b → p x ≡ true → count x (filter p ys) ≡ count x ys → count x (cond b (y ∷ filter p ys) (filter p ys)) ≡ tick x y + count x ys
-kept p x y ys true e t r = omega (arith, r)
-kept p x y ys false e t r = elim (eqb_tells x y) [
-  | inl s ↦ absurd (no_both (sym t ∙ ap p s.1 ∙ e))
-  | inr s ↦ omega (arith, r, tick_other x y s.1)
-] where
-  no_both : true ≡ false → ⊥
-  no_both e = cc
+kept p x y ys b e f g = grind (arith, tick_other)
 
 -- an item that passes is kept, and no other comes in
 pub count_filter : (p : ℕ → Bool) (x : ℕ) (ys : List ℕ) → p x ≡ true → count x (filter p ys) ≡ count x ys
@@ -99,10 +90,7 @@ abbrev pub goes_off : (ℕ → ℕ) → (ℕ → Bool) → ℕ → Bool
 goes_off next on x = on x && not (on (next x))
 
 one_step : (a b : Bool) → bit (not a && b) + bit a ≡ bit (a && not b) + bit b
-one_step true true = refl
-one_step true false = refl
-one_step false true = refl
-one_step false false = refl
+one_step a b = grind arith
 
 pub changes_on_path : (next : ℕ → ℕ) (on : ℕ → Bool) (xs : List ℕ) (d : ℕ) → IsPath next xs d →
     total (λ x. bit (comes_on next on x)) xs + bit (on (head_or d xs)) ≡ total (λ x. bit (goes_off next on x)) xs + bit (on d)

@@ -135,10 +135,7 @@ module _ (next : ℕ → ℕ) (xs : List ℕ) (w : Permutes next xs) where
           let same : SameItems (around next xs w l) (around next xs w x) = around_shared next xs w l x x (leader_in l j) i k (around_here next xs w x i) in
           let e : l ≡ first = sym (leader_least l j) ∙ least_same (around next xs w l) (around next xs w x) same in
           omega (arith, k, around_apart next xs w l (leader_in l j) x, ap (λ y. tick y first) e, tick_same first)
-      | inr z ↦ elim (eqb_tells l first) [
-        | inl e ↦ absurd (omega (arith, z, ap (λ y. count x (around next xs w y)) e.1, around_same next xs w x i first first_there x, around_here next xs w x i))
-        | inr e ↦ omega (arith, z, tick_other l first e.1)
-      ]
+      | inr z ↦ grind (arith, around_same, first_there, around_here, tick_other)
     ]
 
     once : count x (flat_map (around next xs w) leaders) ≡ 1

@@ -1,5 +1,5 @@
 -- Strictly rising lists put together, and thinned out.
-use Rattle.std.proofs.Common.{◌≡◌, ℕ, ◌<◌, Bool, true, false, cond, nat_lt, ◌&&◌, List, [], ◌∷◌, refl, ap, ◌∙◌, arith}
+use Rattle.std.proofs.Common.{◌≡◌, ℕ, ◌<◌, Bool, true, nat_lt, ◌&&◌, List, [], ◌∷◌, refl, ap, ◌∙◌, arith}
 use Rattle.std.specs.Prelude.{filter}
 use Rattle.std.proofs.lemmas.Bool.Decides.{nat_tests}
 use Rattle.euler_operators.specs.Items.{IsIn}
@@ -19,7 +19,4 @@ rises_cons n (m ∷ ms) l r = both (nat_lt n m) (less n m (l m (IsIn-from_listed
 
 pub filter_rises : (p : ℕ → Bool) (ns : List ℕ) → strictly_rises ns ≡ true → strictly_rises (filter p ns) ≡ true
 filter_rises p [] r = refl
-filter_rises p (n ∷ ns) r = go (p n) (filter_rises p ns (rises_on n ns r)) where
-  go : (b : Bool) → strictly_rises (filter p ns) ≡ true → strictly_rises (cond b (n ∷ filter p ns) (filter p ns)) ≡ true
-  go true s = rises_cons n (filter p ns) (λ k i. rises_over n k ns r (omega (arith, i, count-filter p k ns))) s
-  go false s = s
+filter_rises p (n ∷ ns) r = grind (arith, rises_on, rises_cons, rises_over, count-filter, filter_rises p ns (rises_on n ns r))

@@ -4,7 +4,6 @@ use Rattle.std.specs.Option.{option_map}
 use Rattle.std.proofs.Common.{◌≡◌, ℕ, suc, ◌+◌, ◌<◌, List, [], ◌++◌, length, Option, Some, None, is_some, refl, sym, ap, ◌∙◌, subst, arith, inl, inr, true≢false, ◌≢◌, zero, ◌≤◌, ◌-◌}
 use Rattle.std.proofs.lemmas.Bool.{lt-ltb, cases_lt}
 use Rattle.std.proofs.lemmas.List.{length-map, get_or-map}
-use Rattle.std.proofs.lemmas.Bool.Decides.{eqb_tells}
 use Rattle.euler_operators.specs.Rings.{canonical}
 use Rattle.euler_operators.specs.HalfEdge.{mate, minus}
 use Rattle.euler_operators.specs.Table as table
@@ -41,31 +40,12 @@ use Rattle.split_opening_laws.proofs.sections.Pairs.{rim_row}
 module _ {X : Type 0} (t : Table X) (k : ℕ) (row : ℕ → X) (free : (q : ℕ) → k < q → table.get t q ≡ None) where
   -- all of them
   pub gone_all : (n : ℕ) → without_rows (with_rows t k row n) (numbers_after k n) ≡ t
-  gone_all n = same_table _ _ (λ q. elim (cases_lt k q) [
-    | inl l ↦ elim (cases_lt (k + n) q) [
-      | inl a ↦ gone_above (with_rows t k row n) k n q a ∙ rows_high t k row n q a
-      | inr b ↦ gone_within (with_rows t k row n) k n q l b ∙ sym (free q l)
-    ]
-    | inr b ↦ gone_below (with_rows t k row n) k n q b ∙ rows_low t k row n q b
-  ])
+  gone_all n = grind (arith, cases_lt, gone_above, rows_high, gone_within, gone_below, rows_low, same_table, with_rows)
 
   -- all but the first
   pub gone_later : (n : ℕ) → without_rows (with_rows t k row (suc n)) (numbers_after (k + 1) n) ≡ table.put t (k + 1) (row 0)
-  gone_later n = same_table _ _ (λ q. elim (eqb_tells q (k + 1)) [
-    | inl e ↦ subst (λ p. table.get (without_rows (with_rows t k row (suc n)) (numbers_after (k + 1) n)) p ≡ table.get (table.put t (k + 1) (row 0)) p) (sym e.1)
-        (gone_below (with_rows t k row (suc n)) (k + 1) n (k + 1) (omega arith) ∙ rows_at t k row (suc n) 0 (omega arith) ∙ sym (get-put_here t (k + 1) (row 0)))
-    | inr ne ↦ others q ne.1 ∙ sym (get-put_other t (k + 1) (row 0) q ne.1)
-  ]) where
-    others : (q : ℕ) → q ≢ k + 1 → table.get (without_rows (with_rows t k row (suc n)) (numbers_after (k + 1) n)) q ≡ table.get t q
-    others q ne = elim (cases_lt k q) [
-      | inl l ↦ elim (cases_lt (k + 1 + n) q) [
-        | inl a ↦ gone_above (with_rows t k row (suc n)) (k + 1) n q a ∙ rows_high t k row (suc n) q (omega (arith, a))
-        | inr b ↦ gone_within (with_rows t k row (suc n)) (k + 1) n q (past q l ne) b ∙ sym (free q l)
-      ]
-      | inr b ↦ gone_below (with_rows t k row (suc n)) (k + 1) n q (omega (arith, b)) ∙ rows_low t k row (suc n) q b
-    ] where
-      past : (q : ℕ) → k < q → q ≢ k + 1 → k + 1 < q
-      past q l ne = grind arith
+  gone_later n =
+      grind (arith, gone_below, rows_at, get-put_here, get-put_other, cases_lt, gone_above, rows_high, gone_within, rows_low, same_table, without_rows, with_rows, numbers_after)
 
 -- ---- a solid opened along one cycle, from its first operator to its caps
 
@@ -157,9 +137,6 @@ module _ (M : Model) (above : List ℕ) (s : ℕ) (c : Taken) (bs : List ℕ) (w
   one_and_rest : m ≡ suc (m - 1)
   one_and_rest = omega (arith, w.cycle.two_halves)
 
-  same_size : length hs ≡ m
-  same_size = size
-
   abbrev face_at_end : ℕ → FaceRow
   face_at_end k = record { solid = s; outer = c.loop + k + 1 }
 
@@ -181,7 +158,7 @@ module _ (M : Model) (above : List ℕ) (s : ℕ) (c : Taken) (bs : List ℕ) (w
 
   faces_open : C.faces ≡ X.faces
   faces_open = C_faces
-      ∙ (λ i. table.put (without_rows (raised_faces i) (numbers_after (c.face + 1) (same_size i - 1))) (c.face + same_size i + 1) (face_at_end (same_size i)))
+      ∙ (λ i. table.put (without_rows (raised_faces i) (numbers_after (c.face + 1) (size i - 1))) (c.face + size i + 1) (face_at_end (size i)))
       ∙ ap (λ k. table.put (without_rows (with_rows M.faces c.face (strip_face s c) k) (numbers_after (c.face + 1) (m - 1))) (c.face + m + 1) (face_at_end m)) one_and_rest
       ∙ ap (λ t. table.put t (c.face + m + 1) (face_at_end m)) (gone_later M.faces c.face (strip_face s c) w.free.faces (m - 1))
       ∙ X_faces
@@ -201,7 +178,7 @@ module _ (M : Model) (above : List ℕ) (s : ℕ) (c : Taken) (bs : List ℕ) (w
 
   loops_open : C.loops ≡ X.loops
   loops_open = C_loops
-      ∙ (λ i. table.put (table.put (without_rows (raised_loops i) (numbers_after (c.loop + 1) (same_size i - 1))) (c.loop + 1) lower) (c.loop + same_size i + 1) (upper (same_size i)))
+      ∙ (λ i. table.put (table.put (without_rows (raised_loops i) (numbers_after (c.loop + 1) (size i - 1))) (c.loop + 1) lower) (c.loop + size i + 1) (upper (size i)))
       ∙ ap (λ k. table.put (table.put (without_rows (with_rows rewritten c.loop (raised_loop c bs m) k) (numbers_after (c.loop + 1) (m - 1))) (c.loop + 1) lower) (c.loop + m + 1) (upper m)) one_and_rest
       ∙ ap (λ t. table.put (table.put t (c.loop + 1) lower) (c.loop + m + 1) (upper m)) (gone_later rewritten c.loop (raised_loop c bs m) loops_free (m - 1))
       ∙ ap (λ t. table.put t (c.loop + m + 1) (upper m)) (put-put rewritten (c.loop + 1) (raised_loop c bs m 0) lower)
@@ -233,7 +210,7 @@ module _ (M : Model) (above : List ℕ) (s : ℕ) (c : Taken) (bs : List ℕ) (w
       ∙ ap (option_map (opened_row M above hs (copied M c bs m) q)) (w.free.edges q (omega (arith, l)))
 
   edges_open : C.edges ≡ X.edges
-  edges_open = grind (arith, C_edges, N_edges, same_size, gone_all, edges_free, rim_is, X_edges)
+  edges_open = grind (arith, C_edges, N_edges, size, gone_all, edges_free, rim_is, X_edges)
 
   kept : (C.solids ≡ X.solids) × (C.vertices ≡ X.vertices)
   unfolding capped copies_raised opened_along

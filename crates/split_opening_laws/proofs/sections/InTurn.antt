@@ -126,14 +126,10 @@ module _ (above : List ℕ) (s : ℕ) (o : Opening) (w : CanBeOpenedInTurn above
 
   edge_whole : (q : ℕ) → Has o.model.edges q → (a : Bool) → lists upper (face_at o.model (plus q)) ≡ a → (b : Bool) → lists upper (face_at o.model (minus q)) ≡ b →
       differ (lists upper (face_at o.model (plus q))) (lists upper (face_at o.model (minus q))) ≡ false
-  edge_whole q t true e true f = ap (λ a. differ a (lists upper (face_at o.model (minus q)))) e ∙ ap (differ true) f
-  edge_whole q t false e false f = ap (λ a. differ a (lists upper (face_at o.model (minus q)))) e ∙ ap (differ false) f
-  edge_whole q t false e true f = absurd (none_across (plus q) (ap (table.has o.model.edges) (plus_row q).0 ∙ t) e (ap (λ x. lists upper (face_at o.model x)) (mate_plus q) ∙ f))
-  edge_whole q t true e false f = absurd (none_across (minus q) (ap (table.has o.model.edges) (minus_row q).0 ∙ t) f (ap (λ x. lists upper (face_at o.model x)) (mate_minus q) ∙ e))
+  edge_whole q e a f b g = grind (arith, plus_row, mate_plus, minus_row, mate_minus)
 
   pub none_torn : torn_edge o.model (upper_faces above o.caps) ≡ 0
-  none_torn = first_where_zero (λ e _. differ (lists upper (face_at o.model (plus e))) (lists upper (face_at o.model (minus e)))) o.model.edges
-      (λ q row at. edge_whole q (ap is_some at) (lists upper (face_at o.model (plus q))) refl (lists upper (face_at o.model (minus q))) refl)
+  none_torn = grind (arith, first_where_zero, plus_row, mate_plus, minus_row, mate_minus)
 
 -- ---- the caps that openings leave: they have no rings, and rise
 
@@ -163,8 +159,7 @@ caps_more M s [] k w a b = (a, b, tt)
 caps_more M s (j ∷ ks) k w a b = (w.0, w.1, caps_more M s ks k w.2 a b)
 
 cap_faces_next : (above : List ℕ) (ks : List Caps) (k : Caps) → above ++ cap_faces (ks ++ k ∷ []) ≡ ((above ++ cap_faces ks) ++ k.lower ∷ []) ++ k.upper ∷ []
-cap_faces_next above ks k = ap (λ q. above ++ q) (flat_map-append (λ k. k.lower ∷ k.upper ∷ []) ks (k ∷ []))
-    ∙ sym (append_assoc above (cap_faces ks) (k.lower ∷ k.upper ∷ [])) ∙ sym (append_assoc (above ++ cap_faces ks) (k.lower ∷ []) (k.upper ∷ []))
+cap_faces_next above ks k = grind (arith, flat_map-append, append_assoc)
 
 -- ---- one opening
 

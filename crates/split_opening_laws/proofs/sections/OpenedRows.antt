@@ -112,12 +112,10 @@ module _ (M : Model) (above : List ℕ) (s : ℕ) (c : Taken) (bs : List ℕ) wh
 
     -- an old half-edge isn't one of those round a cap
     not_plus : (h : ℕ) → HasHalf M h → IsIn h (map plus rim) → ⊥
-    not_plus h there i = let r = from_map plus h rim i in
-        other_number (edge_of h) c.edge r.0 (old_edge h there) (in_numbers c.edge m r.0 r.1).0 (ap edge_of r.2 ∙ (plus_row r.0).0)
+    not_plus h there i = grind (arith, from_map, other_number, old_edge, in_numbers, plus_row)
 
     not_minus : (h : ℕ) → HasHalf M h → IsIn h (map minus rim) → ⊥
-    not_minus h there i = let r = from_map minus h rim i in
-        other_number (edge_of h) c.edge r.0 (old_edge h there) (in_numbers c.edge m r.0 r.1).0 (ap edge_of r.2 ∙ (minus_row r.0).0)
+    not_minus h there i = grind (arith, from_map, other_number, old_edge, in_numbers, minus_row)
 
     module _ (h : ℕ) (there : HasHalf M h) (no_mate : count h (map mate bs) ≡ 0) where
       renamed_in : (hs : List ℕ) → IsIn h hs → IsIn h (canonical (map (renamed swaps) hs))
@@ -138,9 +136,7 @@ module _ (M : Model) (above : List ℕ) (s : ℕ) (c : Taken) (bs : List ℕ) wh
 
       from_rewritten : (q : ℕ) (y : LoopRow) (o : Option LoopRow) → table.get M.loops q ≡ o → option_map (rewritten_row (map (renamed swaps)) q) o ≡ Some y → IsIn h (items_of y.content) → loop_of M h ≡ q
       from_rewritten q y None e at i = absurd (true≢false (sym (ap is_some at)))
-      from_rewritten q y (Some row) e at i = content_of q row e (subst (λ x. IsIn h (items_of x.content)) (sym (one (rewritten_row (map (renamed swaps)) q row) y at)) i) where
-        one : (a b : LoopRow) → Some a ≡ Some b → a ≡ b
-        one a b e = cc
+      from_rewritten q y (Some row) e at i = grind (arith, content_of)
 
       only_there : (q : ℕ) (y : LoopRow) → table.get opened.loops q ≡ Some y → holds h y.content ≡ true → q ≡ loop_of M h
       only_there q y at passes = elim (get-put_cases (table.put (table.map_rows (rewritten_row (map (renamed swaps))) M.loops) (c.loop + 1) below_rim) (c.loop + m + 1) above_rim q y (sym (ap (λ t. table.get t q) loops_are) ∙ at)) [
@@ -181,10 +177,8 @@ module _ (M : Model) (above : List ℕ) (s : ℕ) (c : Taken) (bs : List ℕ) wh
         let now : tail opened h ≡ tail_in (opened_row M above mates copies (edge_of h) r.0) (is_first h) = tail_row opened h (opened_row M above mates copies (edge_of h) r.0) (edge_row (edge_of h) r.0 r.1) in
         let old : tail M h ≡ tail_in r.0 (is_first h) = tail_row M h r.0 r.1 in
         elim (halves_of_edge h) [
-          | inl p ↦ now ∙ ap (tail_in (opened_row M above mates copies (edge_of h) r.0)) p.1 ∙ ap (λ x. opened_tail M above mates copies x r.0.plus_tail) (sym p.0)
-              ∙ ap (opened_tail M above mates copies h) (sym (old ∙ ap (tail_in r.0) p.1))
-          | inr p ↦ now ∙ ap (tail_in (opened_row M above mates copies (edge_of h) r.0)) p.1 ∙ ap (λ x. opened_tail M above mates copies x r.0.minus_tail) (sym p.0)
-              ∙ ap (opened_tail M above mates copies h) (sym (old ∙ ap (tail_in r.0) p.1))
+          | inl p ↦ grind arith
+          | inr p ↦ grind arith
         ]
 
     -- it starts where it did, or at a copy

@@ -1,5 +1,5 @@
 -- Numbers renamed by two lists, and numbers that follow a number.
-use Rattle.std.proofs.Common.{◌≡◌, ◌≢◌, ℕ, zero, suc, ◌+◌, ◌≤◌, ◌<◌, true, false, cond, nat_eq, List, [], ◌∷◌, length, refl, sym, ap, subst, ◌∙◌, arith, ◌⊎◌, inl, inr, Bool, Some}
+use Rattle.std.proofs.Common.{◌≡◌, ◌≢◌, ℕ, zero, suc, ◌+◌, ◌≤◌, ◌<◌, true, false, cond, nat_eq, List, [], ◌∷◌, length, refl, sym, ap, ◌∙◌, arith, ◌⊎◌, inl, inr, Bool, Some}
 use Rattle.std.proofs.lemmas.Bool.Decides.{nat_tests, eqb_tells}
 use Rattle.euler_operators.specs.Items.{tick, count, IsIn, IsApart}
 use Rattle.euler_operators.specs.Table as table
@@ -17,24 +17,13 @@ use Rattle.split_opening_laws.proofs.strips.Rows.{rows_at, rows_low, rows_high}
 pub renamed_one : (xs ys : List ℕ) (x : ℕ) → (renamed (both_lists xs ys) x ≡ x) ⊎ IsIn (renamed (both_lists xs ys) x) ys
 renamed_one [] ys x = inl refl
 renamed_one (a ∷ others) [] x = inl refl
-renamed_one (a ∷ others) (y ∷ ys) x = elim (eqb_tells a x) [
-  | inl e ↦ inr (subst (λ z. IsIn z (y ∷ ys)) (sym (ap (λ b. cond b y (renamed (both_lists others ys) x)) e.0)) (omega (arith, tick_same y)))
-  | inr e ↦ elim (renamed_one others ys x) [
-    | inl r ↦ inl (ap (λ b. cond b y (renamed (both_lists others ys) x)) e.0 ∙ r)
-    | inr r ↦ inr (subst (λ z. IsIn z (y ∷ ys)) (sym (ap (λ b. cond b y (renamed (both_lists others ys) x)) e.0)) (later r))
-  ]
-] where
-  later : IsIn (renamed (both_lists others ys) x) ys → IsIn (renamed (both_lists others ys) x) (y ∷ ys)
-  later i = omega (arith, i)
+renamed_one (a ∷ others) (y ∷ ys) x = grind (arith, tick_same, renamed_one others ys x)
 
 -- one that isn't in the first list keeps its name
 pub renamed_not : (xs ys : List ℕ) (x : ℕ) → count x xs ≡ 0 → renamed (both_lists xs ys) x ≡ x
 renamed_not [] ys x z = refl
 renamed_not (a ∷ others) [] x z = refl
-renamed_not (a ∷ others) (y ∷ ys) x z = elim (eqb_tells a x) [
-  | inl e ↦ absurd (omega (arith, z, ap (tick x) e.1, tick_same x))
-  | inr e ↦ ap (λ b. cond b y (renamed (both_lists others ys) x)) e.0 ∙ renamed_not others ys x (omega (arith, z))
-]
+renamed_not (a ∷ others) (y ∷ ys) x z = grind (arith, tick_same, renamed_not others ys x (omega (arith, z)))
 
 pub in_numbers : (k n x : ℕ) → IsIn x (numbers_after k n) → (k < x) × (x ≤ k + n)
 in_numbers k zero x i = absurd (omega arith)
@@ -99,12 +88,7 @@ rim_above t k y m i q l = ap (λ u. table.get u q) (rim_rows t k y m i) ∙ rows
 pub rim_cases : (t : Table EdgeRow) (k y m i q : ℕ) (row : EdgeRow) → table.get (with_rim t k y m i) q ≡ Some row → (table.get t q ≡ Some row) ⊎ ((k < q) × (q ≤ k + i) × (y < row.plus_tail) × (y < row.minus_tail))
 rim_cases t k y m zero q row at = inl at
 rim_cases t k y m (suc i) q row at = elim (get-put_cases (with_rim t k y m i) (k + suc i) _ q row at) [
-  | inl p ↦ inr (
-    omega (arith, p.0),
-    omega (arith, p.0),
-    subst (λ n. y < n) (sym (ap (λ r. r.plus_tail) p.1)) (either (nat_eq (suc i) m) (y + 1) (y + suc i + 1) (omega arith) (omega arith)),
-    subst (λ n. y < n) (sym (ap (λ r. r.minus_tail) p.1)) (omega arith),
-  )
+  | inl p ↦ grind arith
   | inr p ↦ elim (rim_cases t k y m i q row p.1) [ inl r ↦ inl r | inr r ↦ inr (r.0, omega (arith, r.1), r.2, r.3) ]
 ] where
   either : (b : Bool) (u v : ℕ) → y < u → y < v → y < cond b u v

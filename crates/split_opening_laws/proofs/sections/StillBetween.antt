@@ -61,8 +61,7 @@ module _ (M : Model) (above : List ℕ) (s : ℕ) (c : Taken) (bs : List ℕ) (s
 
   pub no_mates_mate : (h : ℕ) → count (tail M h) vertices ≡ 0 → count (mate h) (map mate bs) ≡ 0
   no_mates_mate h z = elim (IsIn_or_not (mate h) (map mate bs)) [
-    | inl i ↦ let r = from_map mate (mate h) bs i in
-        absurd (omega (arith, z, ap (λ x. count (tail M x) vertices) (sym (mate-mate h) ∙ ap mate r.2 ∙ mate-mate r.0), IsIn-map (tail M) r.0 bs r.1))
+    | inl i ↦ grind (arith, from_map, mate-mate, IsIn-map)
     | inr n ↦ n
   ]
 
@@ -222,7 +221,7 @@ module _ (M : Model) (above : List ℕ) (s : ℕ) (c : Taken) (bs : List ℕ) (c
 
     -- and the mates lie in the cap below
     not_half : IsIn (mate h) (map mate bs) → ⊥
-    not_half i = grind (arith, from_map, mate_face, below_unlisted)
+    not_half i = grind (arith, from_map, mate_face, other_last, false_from_ne_true, upper_old)
 
     old_between : HasHalf M h → count h (map mate bs) ≡ 0 → count (mate h) (map mate bs) ≡ 0 → IsIn h (halves_in cs)
     old_between t y z =
@@ -235,13 +234,7 @@ module _ (M : Model) (above : List ℕ) (s : ℕ) (c : Taken) (bs : List ℕ) (c
     still_only : HasHalf K h → IsIn h (halves_in cs)
     still_only t = elim (half_cases M above s c bs sound free h t) [
       | inr new ↦ absurd (not_new new.0)
-      | inl old ↦ elim (IsIn_or_not h (map mate bs)) [
-        | inl i ↦ absurd (not_mate i)
-        | inr y ↦ elim (IsIn_or_not (mate h) (map mate bs)) [
-          | inl i ↦ absurd (not_half i)
-          | inr z ↦ old_between old y z
-        ]
-      ]
+      | inl old ↦ grind (arith, IsIn_or_not, not_mate, not_half, old_between)
     ]
 
   rest_there : (d : ℕ) → IsIn d (halves_in cs) → HasHalf M d

@@ -1,5 +1,5 @@
 -- The numbers above those that an opening takes are free after it.
-use Rattle.std.proofs.Common.{◌≡◌, ◌≢◌, ℕ, ◌+◌, ◌*◌, ◌≤◌, ◌<◌, List, [], ◌∷◌, length, map, None, refl, ap, ◌∙◌, arith}
+use Rattle.std.proofs.Common.{◌≡◌, ◌≢◌, ℕ, ◌+◌, ◌*◌, ◌≤◌, ◌<◌, List, [], ◌∷◌, length, None, refl, ap, ◌∙◌, arith}
 use Rattle.std.specs.Prelude.{fold}
 use Rattle.std.specs.Option.{option_map}
 use Rattle.euler_operators.specs.declared.Point.{Point}
@@ -7,7 +7,6 @@ use Rattle.euler_operators.specs.declared.Plane.{Plane}
 use Rattle.euler_operators.specs.Items.{count}
 use Rattle.euler_operators.proofs.Lists.{tick_same}
 use Rattle.euler_operators.proofs.Tables.{get-put_other}
-use Rattle.euler_operators.specs.HalfEdge.{mate, plus}
 use Rattle.euler_operators.specs.Table as table
 use Rattle.euler_operators.specs.Table.{Table, get-map_rows}
 use Rattle.euler_operators.specs.Model.{Model, tail, point_of}
@@ -41,20 +40,13 @@ module _ (M : Model) (above : List ℕ) (s : ℕ) (c : Taken) (bs : List ℕ) (f
   faces_free q l = grind (arith, faces_are, get-put_other)
 
   loops_free : (q : ℕ) → c.loop + m + 1 < q → table.get N.loops q ≡ None
-  loops_free q l = ap (λ t. table.get t q) (loops_are M above s c bs)
-      ∙ get-put_other _ (c.loop + m + 1) _ q (past q (c.loop + m + 1) (c.loop + m + 1) l (omega arith))
-      ∙ get-put_other _ (c.loop + 1) _ q (past q (c.loop + m + 1) (c.loop + 1) l (omega arith))
-      ∙ get-map_rows (rewritten_row (map (renamed (both_lists (map mate bs) (map plus (numbers_after c.edge m)))))) M.loops q
-      ∙ ap (option_map (rewritten_row (map (renamed (both_lists (map mate bs) (map plus (numbers_after c.edge m))))) q)) (free.loops q (omega (arith, l)))
+  loops_free q l = grind (arith, loops_are, get-put_other, m, get-map_rows, rewritten_row, renamed, both_lists, numbers_after, option_map)
 
   edges_free : (q : ℕ) → c.edge + 2 * m < q → table.get N.edges q ≡ None
-  edges_free q l = ap (λ t. table.get t q) (edges_are M above s c bs)
-      ∙ rim_above _ c.edge c.vertex m m q (omega (arith, l))
-      ∙ get-map_rows (opened_row M above (map mate bs) (both_lists (map (tail M) bs) (numbers_after c.vertex m))) M.edges q
-      ∙ ap (option_map (opened_row M above (map mate bs) (both_lists (map (tail M) bs) (numbers_after c.vertex m)) q)) (free.edges q (omega (arith, l)))
+  edges_free q l = grind (arith, edges_are, rim_above, m, get-map_rows, opened_row, both_lists, tail, numbers_after, option_map)
 
   vertices_free : (q : ℕ) → c.vertex + m < q → table.get N.vertices q ≡ None
-  vertices_free q l = grind (arith, vertices_are, copied_other, none_past)
+  vertices_free q l = grind (arith, vertices_are, copied_other, in_numbers)
 
 pub still_free : (above : List ℕ) (s : ℕ) (p : Plane) (o : Opening) (bs : List ℕ) → AreFree o.model o.taken → AreFree (next_opened p above s o bs).model (next_opened p above s o bs).taken
 unfolding next_opened

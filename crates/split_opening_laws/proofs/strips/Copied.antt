@@ -61,5 +61,4 @@ module _ (M : Model) (above : List ℕ) (s : ℕ) (c : Taken) (bs : List ℕ) (w
   -- numbers above the copies stay free
   pub points_free : (i q : ℕ) → i ≤ length bs → c.vertex + i < q → table.get (with_copies M (copied M c bs i)) q ≡ None
   points_free zero q le lt = ap (λ ps. table.get (with_copies M ps) q) none_copied ∙ w.free.vertices q (omega arith)
-  points_free (suc i) q le lt = ap (λ t. table.get t q) (points_next i (omega arith))
-      ∙ get-put_other (with_copies M (copied M c bs i)) (c.vertex + suc i) (point_of M (tail M (get_or bs i 0))) q (λ e. omega arith) ∙ points_free i q (omega arith) (omega arith)
+  points_free (suc i) q le lt = grind (arith, points_next, get-put_other, points_free i q (omega arith) (omega arith))

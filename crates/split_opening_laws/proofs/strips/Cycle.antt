@@ -101,11 +101,8 @@ module _ (M : Model) (above : List ℕ) (s : ℕ) (c : Taken) (bs : List ℕ) (w
     order : (a b : ℕ) → (a ≡ b) ⊎ ((a < b) ⊎ (b < a))
     order a b = grind arith
 
-  pub halves_differ : (i j : ℕ) → i < length bs → j < length bs → half_at i ≡ half_at j → i ≡ j
-  halves_differ i j li lj e = starts_differ i j li lj (ap (tail M) e)
-
   pub mates_differ : (i j : ℕ) → i < length bs → j < length bs → mate_at i ≡ mate_at j → i ≡ j
-  mates_differ i j li lj e = halves_differ i j li lj (sym (mate-mate (half_at i)) ∙ ap mate e ∙ mate-mate (half_at j))
+  mates_differ i j li lj e = starts_differ i j li lj (ap (tail M) (sym (mate-mate (half_at i)) ∙ ap mate e ∙ mate-mate (half_at j)))
 
   -- a mate starts where the half at the next place does
   pub mate_start : (j : ℕ) → j < length bs → tail M (mate_at j) ≡ tail M (half_at (next_place (length bs) j))
@@ -164,10 +161,7 @@ module _ (M : Model) (above : List ℕ) (s : ℕ) (c : Taken) (bs : List ℕ) (w
   -- one of these mates becomes the half-edge in its place
   pub out_mate : (i j : ℕ) → i ≤ length bs → j < i → renamed (put_out c bs i) (mate (get_or bs j 0)) ≡ plus (c.edge + suc j)
   out_mate i j le lt = elim (renamed_cases (map mate bs) (map plus (numbers_after c.edge i)) (mate (get_or bs j 0))) [
-    | inl p ↦
-        let below : p.0 < length bs = omega (arith, p.1, length-map bs mate) in
-        let same : p.0 ≡ j = mates_differ p.0 j below (omega arith) (sym (mate_get p.0 below) ∙ p.3) in
-        p.4 ∙ out_at i p.0 (omega (arith, p.2, length_out i)) ∙ ap (λ n. plus (c.edge + suc n)) same
+    | inl p ↦ grind (arith, length-map, mates_differ, mate_get, out_at, length_out)
     | inr p ↦ absurd (p.1 j (omega (arith, lt, le, length-map bs mate)) (omega (arith, lt, length_out i)) (mate_get j (omega arith)))
   ]
 

@@ -35,13 +35,7 @@ module _ {X : Type 0} (t : Table X) (k : ℕ) (row : ℕ → X) where
   -- a number is one of these or answers as before
   pub rows_split : (i q : ℕ) → ((j : ℕ) × (j < i) × (q ≡ k + suc j)) ⊎ (table.get (with_rows t k row i) q ≡ table.get t q)
   rows_split zero q = inr refl
-  rows_split (suc i) q = elim (eqb_tells q (k + suc i)) [
-    | inl e ↦ inl (i, omega arith, e.1)
-    | inr e ↦ elim (rows_split i q) [
-      | inl p ↦ inl (p.0, omega (arith, p.1), p.2)
-      | inr p ↦ inr (get-put_other (with_rows t k row i) (k + suc i) (row i) q e.1 ∙ p)
-    ]
-  ]
+  rows_split (suc i) q = grind (arith, get-put_other, rows_split i q)
 
   pub rows_same : (new : ℕ → X) (i : ℕ) → ((j : ℕ) → j < i → row j ≡ new j) → with_rows t k row i ≡ with_rows t k new i
   rows_same new zero e = refl
@@ -113,12 +107,4 @@ misses_both x (z ∷ xs) (y ∷ ys) e = (e y (omega (arith, tick_same y)), misse
 -- one pair more: what would stay x goes on to y
 pub renamed_more : (ps : List (ℕ × ℕ)) (x y u : ℕ) → Misses x ps → renamed (ps ++ (x, y) ∷ []) u ≡ cond (nat_eq (renamed ps u) x) y (renamed ps u)
 renamed_more [] x y u m = ap (λ b. cond b y u) (nat_eq_turned x u)
-renamed_more (p ∷ ps) x y u m = elim (eqb_tells p.0 u) [
-  | inl e ↦
-      ap (λ b. cond b p.1 (renamed (ps ++ (x, y) ∷ []) u)) e.0
-      ∙ sym (ap (λ v. cond (nat_eq v x) y v) (ap (λ b. cond b p.1 (renamed ps u)) e.0) ∙ ap (λ b. cond b y p.1) (ne_eqb p.1 x m.0))
-  | inr e ↦
-      ap (λ b. cond b p.1 (renamed (ps ++ (x, y) ∷ []) u)) e.0
-      ∙ renamed_more ps x y u m.1
-      ∙ sym (ap (λ v. cond (nat_eq v x) y v) (ap (λ b. cond b p.1 (renamed ps u)) e.0))
-]
+renamed_more (p ∷ ps) x y u m = grind (arith, ne_eqb, renamed_more ps x y u m.1)

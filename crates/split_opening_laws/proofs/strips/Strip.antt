@@ -8,7 +8,7 @@ use Rattle.euler_operators.specs.Rings.{canonical, rest, successor, upto, onward
 use Rattle.euler_operators.proofs.Rotations.{rotate_to_is}
 use Rattle.euler_operators.specs.HalfEdge.{mate, edge_of, is_first, plus}
 use Rattle.euler_operators.specs.Table as table
-use Rattle.euler_operators.specs.Model.{Model, LoopContent, LoopRow, cycle, holds, tail, tail_in, no_edge, no_face, loop_of, solid_of, cycle_of, after}
+use Rattle.euler_operators.specs.Model.{Model, LoopContent, LoopRow, cycle, holds, tail, tail_in, no_edge, loop_of, solid_of, cycle_of, after}
 use Rattle.euler_operators.specs.Sound.{Sound, Has, HasHalf}
 use Rattle.euler_operators.proofs.Halves.{code-half, mate-mate, mate_plus}
 use Rattle.euler_operators.proofs.Models.{row_of, in-holds, none-holds, not_held, other_loop, cycle_there, cycle_sound}
@@ -63,8 +63,7 @@ module _ (M : Model) (above : List ℕ) (s : ℕ) (c : Taken) (bs : List ℕ) (w
 
     pub cut_solid : (f : ℕ) → Has M.faces f → solid_of (strips_cut M s c bs i) f ≡ solid_of M f
     unfolding solid_of
-    cut_solid f there = ap (λ t. (unwrap_or (table.get t f) no_face).solid) cut_faces
-        ∙ ap (λ o. (unwrap_or o no_face).solid) (rows_low M.faces c.face (strip_face s c) i f (in_use_within M.faces c.face w.free.faces f there))
+    cut_solid f there = grind (arith, cut_faces, rows_low, in_use_within)
 
   -- ---- one strip more
 
@@ -195,7 +194,7 @@ module _ (M : Model) (above : List ℕ) (s : ℕ) (c : Taken) (bs : List ℕ) (w
 
     mef_is : mef N a k (plus e) f l ≡ strips_cut M s c bs (suc i)
     unfolding mef strips_cut
-    mef_is = grind (arith, solid_is, loops_next, edge_plus, edge_row_plus, tail_a, tail_k)
+    mef_is = grind (arith, solid_is, loops_next, edge_plus, edge_row_plus, tail_k, cut_tail, a_old)
 
     pub strip_is : effect N (cut_strip N c bs i) ≡ strips_cut M s c bs (suc i)
     unfolding effect
