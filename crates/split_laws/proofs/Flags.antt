@@ -1,6 +1,6 @@
 -- Whether a cycle is a hole is told by the model before the openings.
 use Rattle.std.specs.Prelude.{filter, flat_map, int_lt}
-use Rattle.std.proofs.Common.{◌≡◌, ◌<◌, ◌≤◌, ℕ, suc, ◌+◌, Bool, true, false, cond, pos, List, [], ◌∷◌, ◌++◌, length, map, unwrap_or, refl, sym, ap, ◌∙◌, arith}
+use Rattle.std.proofs.Common.{◌≡◌, ◌<◌, ◌≤◌, ℕ, suc, ◌+◌, Bool, false, cond, pos, List, [], ◌∷◌, ◌++◌, length, map, unwrap_or, refl, sym, ap, ◌∙◌, arith}
 use Rattle.std.proofs.lemmas.List.{append_assoc, append-nil, length-map, map-append}
 use Rattle.std.proofs.lemmas.Grind.{flat_map-append}
 use Rattle.euler_operators.specs.declared.Plane.{Plane}
@@ -97,10 +97,7 @@ trues (b ∷ bs) = cond b (suc (trues bs)) (trues bs)
 
 filter_trues : {X : Type 0} (f : X → Bool) (xs : List X) → length (filter f xs) ≡ trues (map f xs)
 filter_trues f [] = refl
-filter_trues f (x ∷ xs) = go (f x) (filter_trues f xs) where
-  go : (b : Bool) → length (filter f xs) ≡ trues (map f xs) → length (cond b (x ∷ filter f xs) (filter f xs)) ≡ cond b (suc (trues (map f xs))) (trues (map f xs))
-  go true e = ap suc e
-  go false e = e
+filter_trues f (x ∷ xs) = grind (arith, filter_trues f xs)
 
 -- where a hole isn't stray and there is one, one cap alone is no hole's
 pub one_outer : (M : Model) (p : Plane) (cs : List (List ℕ)) (ks : List Caps) → map (λ k. k.hole) ks ≡ map (is_hole M p) cs → has_stray_hole M p cs ≡ false → 0 < length (filter (λ k. k.hole) ks) →

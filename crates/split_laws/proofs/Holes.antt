@@ -54,9 +54,6 @@ module _ (N : Model) (sound : Sound N) (f g : ℕ) (goes : KillGoes N f g) where
   pub face_stays : (p : ℕ) → p ≢ g → Has N.faces p → Has (kfmrh N f g).faces p
   face_stays p a t = ap is_some (row_kept N f g p a) ∙ t
 
-  face_before : (p : ℕ) → Has K.faces p → p ≢ g
-  face_before p t e = true≢false (sym t ∙ ap is_some (ap (table.get K.faces) e ∙ g_gone N sound f g goes))
-
   -- a half-edge stays in its face, or comes from g to f
   half_face : (x : ℕ) → HasHalf N x → (face_at K x ≡ face_at N x) ⊎ ((face_at N x ≡ g) × (face_at K x ≡ f))
   half_face x t = let same : loop_of K x ≡ loop_of N x = loop-rings N K sound rings x t in elim (eqb_tells (loop_of N x) (outer N g)) [
@@ -70,7 +67,7 @@ module _ (N : Model) (sound : Sound N) (f g : ℕ) (goes : KillGoes N f g) where
   pub part_stays : (s : ℕ) (us : List ℕ) → lists us f ≡ lists us g → CanPart N s us → CanPart (kfmrh N f g) s us
   part_stays s us level w = record {
     sound = sound-kfmrh N sound f g goes;
-    of_solid = λ p l t. let a : p ≢ g = face_before p t in
+    of_solid = λ p l t. let a : p ≢ g = (λ e. true≢false (sym t ∙ ap is_some (ap (table.get K.faces) e ∙ g_gone N sound f g goes))) in
         kill_solid N sound f g goes p a ∙ w.of_solid p l (sym (ap is_some (row_kept N f g p a)) ∙ t);
     whole = λ x t. let o : HasHalf N x = half_back N K sound rings x t in
         half_level us level x o ∙ w.whole x o ∙ sym (half_level us level (mate x) (mate_there N x o));
@@ -172,16 +169,13 @@ module _ (N : Model) (s : ℕ) (us : List ℕ) (o k : Caps) (ks : List Caps) (w 
   goes_up : KillGoes first o.upper k.upper
   goes_up = can_kill first s o.upper k.upper up_apart (of_stays N w.part.sound s o.lower k.lower o.upper goes_low low_up w.upper) plain_up
 
-  part_up : CanPart next s us
-  part_up = part_stays first part_low.sound o.upper k.upper goes_up s us (w.level.1 ∙ sym w.level.2.1) part_low
-
   pub one_leads : Leads N (hole_closed o N k) (Kfmrh o.lower k.lower ∷ Kfmrh o.upper k.upper ∷ [])
   one_leads = leads_on N first next (Kfmrh o.lower k.lower ∷ []) (Kfmrh o.upper k.upper ∷ [])
       (kill_leads N w.part.sound o.lower k.lower goes_low) (kill_leads first part_low.sound o.upper k.upper goes_up)
 
   pub others_can : CanClose (hole_closed o N k) s us o ks
   others_can = record {
-    part = part_up;
+    part = part_stays first part_low.sound o.upper k.upper goes_up s us (w.level.1 ∙ sym w.level.2.1) part_low;
     lower = of_stays first part_low.sound s o.upper k.upper o.lower goes_up up_low (of_stays N w.part.sound s o.lower k.lower o.lower goes_low low_apart w.lower);
     upper = of_stays first part_low.sound s o.upper k.upper o.upper goes_up up_apart (of_stays N w.part.sound s o.lower k.lower o.upper goes_low low_up w.upper);
     plain = plains_stay first part_low.sound o.upper k.upper goes_up s ks (omega (arith, w.apart o.upper, tick_same o.upper)) (omega (arith, w.apart k.upper, tick_same k.upper))
@@ -197,13 +191,10 @@ module _ (N : Model) (s : ℕ) (us : List ℕ) (o k : Caps) (ks : List Caps) (w 
   one_rows q z = row_kept first o.upper k.upper q (λ e. absurd (omega (arith, z, tick_same q, ap (λ x. tick q x) e)))
       ∙ row_kept N o.lower k.lower q (λ e. absurd (omega (arith, z, tick_same q, ap (λ x. tick q x) e)))
 
-  lower_gone : table.get next.faces k.lower ≡ None
-  lower_gone = row_kept first o.upper k.upper k.lower own_apart ∙ g_gone N w.part.sound o.lower k.lower goes_low
-
   -- the caps of the hole are gone
   pub one_gone : (q : ℕ) → IsIn q (cap_faces (k ∷ ks)) → count q (cap_faces ks) ≡ 0 → table.get (hole_closed o N k).faces q ≡ None
   one_gone q i z = elim (eqb_tells q k.lower) [
-    | inl e ↦ ap (table.get next.faces) e.1 ∙ lower_gone
+    | inl e ↦ ap (table.get next.faces) e.1 ∙ row_kept first o.upper k.upper k.lower own_apart ∙ g_gone N w.part.sound o.lower k.lower goes_low
     | inr e ↦ elim (eqb_tells q k.upper) [
       | inl e ↦ ap (table.get next.faces) e.1 ∙ g_gone first part_low.sound o.upper k.upper goes_up
       | inr f ↦ absurd (omega (arith, i, z, tick_other q k.lower e.1, tick_other q k.upper f.1))
@@ -246,10 +237,7 @@ pub record IsOfEach (All : List Caps → Type 0) (One : Caps → Type 0) : Type 
 module _ (All : List Caps → Type 0) (One : Caps → Type 0) (each : IsOfEach All One) where
   pub holes_each : (ks : List Caps) → All ks → All (filter (λ k. k.hole) ks)
   holes_each [] a = a
-  holes_each (k ∷ ks) a = go k.hole (holes_each ks (each.others k ks a)) where
-    go : (b : Bool) → All (filter (λ k. k.hole) ks) → All (cond b (k ∷ filter (λ k. k.hole) ks) (filter (λ k. k.hole) ks))
-    go true r = each.both k (filter (λ k. k.hole) ks) (each.one k ks a) r
-    go false r = r
+  holes_each (k ∷ ks) a = grind (arith, holes_each ks (each.others k ks a))
 
   pub outer_each : (ks : List Caps) → All ks → list_any (λ k. not k.hole) ks ≡ true → One (outer_caps ks)
   outer_each [] a e = absurd (true≢false (sym e))
@@ -278,10 +266,7 @@ plain_of N s f w = record { there = w.there; of_solid = w.of_solid }
 
 pub holes_counted : (x : ℕ) (ks : List Caps) → count x (cap_faces (filter (λ k. k.hole) ks)) ≤ count x (cap_faces ks)
 holes_counted x [] = omega arith
-holes_counted x (k ∷ ks) = go k.hole (holes_counted x ks) where
-  go : (b : Bool) → count x (cap_faces (filter (λ k. k.hole) ks)) ≤ count x (cap_faces ks) → count x (cap_faces (cond b (k ∷ filter (λ k. k.hole) ks) (filter (λ k. k.hole) ks))) ≤ count x (cap_faces (k ∷ ks))
-  go true r = omega (arith, r)
-  go false r = omega (arith, r)
+holes_counted x (k ∷ ks) = grind (arith, holes_counted x ks)
 
 pub outer_counted : (x : ℕ) (ks : List Caps) → list_any (λ k. not k.hole) ks ≡ true → count x (cap_faces (outer_caps ks ∷ filter (λ k. k.hole) ks)) ≤ count x (cap_faces ks)
 outer_counted x [] e = absurd (true≢false (sym e))

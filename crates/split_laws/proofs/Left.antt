@@ -120,24 +120,15 @@ Tells p (k ∷ ks) = (p k.upper ≡ not k.hole) × Tells p ks
 
 filter_front : (p : ℕ → Bool) (fs gs : List ℕ) → ((f : ℕ) → IsIn f fs → p f ≡ true) → filter p (fs ++ gs) ≡ fs ++ filter p gs
 filter_front p [] gs passes = refl
-filter_front p (f ∷ fs) gs passes = ap (λ b. cond b (f ∷ filter p (fs ++ gs)) (filter p (fs ++ gs))) (passes f (omega (arith, tick_same f)))
-    ∙ ap (λ hs. f ∷ hs) (filter_front p fs gs (λ g i. passes g (omega (arith, i))))
+filter_front p (f ∷ fs) gs passes = grind (arith, tick_same, filter_front p fs gs (λ g i. passes g (omega (arith, i))))
 
 filter_uppers : (p : ℕ → Bool) (ks : List Caps) → Tells p ks → filter p (map (λ k. k.upper) ks) ≡ map (λ k. k.upper) (others_of ks)
 filter_uppers p [] w = refl
-filter_uppers p (k ∷ ks) w = ap (λ b. cond b (k.upper ∷ filter p (map (λ k. k.upper) ks)) (filter p (map (λ k. k.upper) ks))) w.0 ∙ go (not k.hole) (filter_uppers p ks w.1) where
-  go : (b : Bool) → filter p (map (λ k. k.upper) ks) ≡ map (λ k. k.upper) (others_of ks) →
-      cond b (k.upper ∷ filter p (map (λ k. k.upper) ks)) (filter p (map (λ k. k.upper) ks)) ≡ map (λ k. k.upper) (cond b (k ∷ others_of ks) (others_of ks))
-  go true e = ap (λ hs. k.upper ∷ hs) e
-  go false e = e
+filter_uppers p (k ∷ ks) w = grind (arith, filter_uppers p ks w.1)
 
 parts_counted : (x : ℕ) (ks : List Caps) → count x (cap_faces (holes_of ks)) + count x (cap_faces (others_of ks)) ≡ count x (cap_faces ks)
 parts_counted x [] = refl
-parts_counted x (k ∷ ks) = go k.hole (parts_counted x ks) where
-  go : (b : Bool) → count x (cap_faces (holes_of ks)) + count x (cap_faces (others_of ks)) ≡ count x (cap_faces ks) →
-      count x (cap_faces (cond b (k ∷ holes_of ks) (holes_of ks))) + count x (cap_faces (cond (not b) (k ∷ others_of ks) (others_of ks))) ≡ count x (cap_faces (k ∷ ks))
-  go true e = omega (arith, e)
-  go false e = omega (arith, e)
+parts_counted x (k ∷ ks) = grind (arith, parts_counted x ks)
 
 module _ (N K : Model) (s : ℕ) (us : List ℕ) (all : List Caps) (ops : List Op) (closed : AreClosed N K s us ops (holes_of all)) (apart : IsApart (cap_faces all)) where
   -- a hole's caps are gone

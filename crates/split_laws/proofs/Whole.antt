@@ -50,11 +50,8 @@ caps_counted x (k ∷ ks) = omega (arith, caps_counted x ks)
 module _ (above : List ℕ) (all : List Caps) (once : (x : ℕ) → count x above + count x (cap_faces all) ≤ 1) where
   level_in : (ks : List Caps) → ((x : ℕ) → count x (map (λ k. k.lower) ks) ≤ count x (map (λ k. k.lower) all)) → ((x : ℕ) → count x (map (λ k. k.upper) ks) ≤ count x (map (λ k. k.upper) all)) → AreLevel (upper_faces above all) ks
   level_in [] low up = tt
-  level_in (k ∷ ks) low up = (
-    not_listed k.lower (upper_faces above all) (omega (arith, once k.lower, caps_counted k.lower all, low k.lower, tick_same k.lower, count-append k.lower above (map (λ k. k.upper) all))),
-    listed-from_in k.upper (upper_faces above all) (omega (arith, up k.upper, tick_same k.upper, count-append k.upper above (map (λ k. k.upper) all))),
-    level_in ks (λ x. omega (arith, low x)) (λ x. omega (arith, up x)),
-  )
+  level_in (k ∷ ks) low up =
+      grind (arith, not_listed, caps_counted, tick_same, count-append, listed-from_in, level_in ks (λ x. omega (arith, low x)) (λ x. omega (arith, up x)))
 
 -- ---- all openings made
 

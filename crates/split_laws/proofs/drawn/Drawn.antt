@@ -7,7 +7,7 @@ use Rattle.euler_operators.specs.declared.Plane.{Plane}
 use Rattle.euler_operators.specs.Table as table
 use Rattle.euler_operators.specs.Model.{Model, solid_of, is_number, faces_of}
 use Rattle.euler_operators.specs.Sound.{Sound, Has}
-use Rattle.euler_operators.specs.Conditions.{AllHold, lists, strictly_rises}
+use Rattle.euler_operators.specs.Conditions.{AllHold, lists}
 use Rattle.euler_operators.proofs.Members.{count-filter}
 use Rattle.euler_operators.proofs.Tables.{no_row}
 use Rattle.euler_laws.proofs.shared.Goes.{all_hold, none_refuses, all_hold-front, all_hold-back}
@@ -140,9 +140,6 @@ module _ (M : Model) (s : ℕ) (p : Plane) (t : ℕ) (sound : Sound M) (accepted
   pub above_facts : (f : ℕ) → lists (faces_above (with_drawings M s p).model p s) f ≡ true → Has (with_drawings M s p).model.faces f × (solid_of (with_drawings M s p).model f ≡ s)
   above_facts f l = solid_facts D s f (omega (arith, IsIn-from_listed f above l, count-filter (face_is_above D p) f (faces_of D s)))
 
-  above_rises : strictly_rises above ≡ true
-  above_rises = filter_rises (face_is_above D p) (faces_of D s) (all_where-rises (λ _ row. nat_eq row.solid s) D.faces)
-
   -- the solid can be opened along its section
   pub can_open_all : CanBeOpenedInTurn (faces_above (with_drawings M s p).model p s) s (record { model = (with_drawings M s p).model; taken = (with_drawings M s p).taken; caps = [] })
       (section_cycles (with_drawings M s p).model (below_halves (with_drawings M s p).model (faces_above (with_drawings M s p).model p s) s))
@@ -150,4 +147,4 @@ module _ (M : Model) (s : ℕ) (p : Plane) (t : ℕ) (sound : Sound M) (accepted
 
   -- and has no caps yet
   pub no_caps : HasCaps (faces_above (with_drawings M s p).model p s) s (record { model = (with_drawings M s p).model; taken = (with_drawings M s p).taken; caps = [] })
-  no_caps = grind (arith, append-nil, above_rises)
+  no_caps = grind (arith, append-nil, filter_rises (face_is_above D p) (faces_of D s) (all_where-rises (λ _ row. nat_eq row.solid s) D.faces))

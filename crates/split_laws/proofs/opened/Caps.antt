@@ -14,7 +14,7 @@ use Rattle.euler_operators.proofs.Maps.{from_map, count-reverse}
 use Rattle.euler_operators.proofs.Rotations.{count-canonical, IsIn_head}
 use Rattle.euler_operators.specs.HalfEdge.{mate, minus}
 use Rattle.euler_operators.specs.Table as table
-use Rattle.euler_operators.specs.Model.{Model, cycle, no_face, tail, content, outer, point_of, rings_of, LoopContent, lone, items_of}
+use Rattle.euler_operators.specs.Model.{Model, cycle, no_face, tail, content, outer, point_of, rings_of, LoopContent, items_of}
 use Rattle.euler_operators.proofs.Models.{content_row, mate_there}
 use Rattle.euler_operators.proofs.Tables.{get-put_here, get-put_other}
 use Rattle.shapes.specs.Faces.{start, finish, items_in}
@@ -114,8 +114,7 @@ module _ (M N : Model) (same : SamePlaces M N) where
   same_area ls = ap (area N) (items_same ls) ∙ area_kept M N (items_in M ls) (λ h i. (same_start h, same_start (mate h)))
 
   first_same : (c : LoopContent) → point_of N (first_vertex N c) ≡ point_of M (first_vertex M c)
-  first_same (lone v) = same.points v
-  first_same (cycle hs) = same_start (head_or 0 hs)
+  first_same c = grind (arith, same_start)
 
   pub same_anchor : (k : ℕ) → outer N k ≡ outer M k → anchor N k ≡ anchor M k
   same_anchor k e = ap (λ c. point_of N (first_vertex N c)) (same.contents (outer N k) ∙ ap (content M) e) ∙ first_same (content M (outer M k))
@@ -135,12 +134,6 @@ module _ (M : Model) (above : List ℕ) (s : ℕ) (c : Taken) (bs : List ℕ) (w
 
   abbrev N : Model
   N = opened_along M above s c bs
-
-  abbrev pub lower : ℕ
-  lower = c.face + 1
-
-  abbrev pub upper : ℕ
-  upper = c.face + length bs + 1
 
   pub lower_loop : table.get N.loops (c.loop + 1) ≡ Some (record { face = c.face + 1; content = cycle (canonical (reverse (map mate bs))) })
   lower_loop = ap (λ t. table.get t (c.loop + 1)) (loops_are M above s c bs) ∙ get-put_other _ (c.loop + m + 1) _ (c.loop + 1) (λ e. absurd (omega (arith, e, w.cycle.two_halves))) ∙ get-put_here _ (c.loop + 1) _

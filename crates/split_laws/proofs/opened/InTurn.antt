@@ -1,7 +1,7 @@
 -- The six volumes of a solid that is opened along a cycle on a plane, and those of the other solids.
 use Rattle.std.specs.Prelude.{map}
 use Rattle.std.specs.List.{list_all}
-use Rattle.std.proofs.Common.{◌≡◌, ◌≢◌, ℕ, ◌+◌, ℤ, pos, ◌+ℤ◌, neg_ℤ, Bool, true, not, nat_eq, List, [], ◌∷◌, length, None, is_some, refl, sym, ap, subst, ◌∙◌, arith, inl, inr, false, ◌&&◌, true≢false, ◌⊎◌}
+use Rattle.std.proofs.Common.{◌≡◌, ◌≢◌, ℕ, ◌+◌, ℤ, pos, ◌+ℤ◌, neg_ℤ, Bool, true, not, nat_eq, List, [], ◌∷◌, length, is_some, refl, sym, ap, subst, ◌∙◌, arith, inl, inr, false, ◌&&◌, true≢false, ◌⊎◌}
 use Rattle.std.proofs.lemmas.Bool.Decides.{eqb_tells}
 use Rattle.std.proofs.lemmas.Bool.{and_parts, ne_eqb, eqb-true}
 use Rattle.std.proofs.lemmas.Int.{ints}
@@ -64,10 +64,7 @@ module _ (M : Model) (above : List ℕ) (s : ℕ) (c : Taken) (bs : List ℕ) (w
     loops = loop_row M above s c bs w.sound w.free;
     others = λ l row at. elim (loop_kinds M above s c bs w l row at) [
       | inl q ↦ inr (ap (table.get M.faces) q.1 ∙ w.free.faces upper (omega arith))
-      | inr q ↦ elim q [
-        | inl r ↦ inr (ap (table.get M.faces) r.1 ∙ w.free.faces lower (omega arith))
-        | inr r ↦ inl r.0
-      ]
+      | inr q ↦ grind arith
     ];
     stays = swapped M above s c bs w;
     points = λ v there. point_old M above s c bs w v (in_use_within M.vertices c.vertex w.free.vertices v there);
@@ -77,15 +74,6 @@ module _ (M : Model) (above : List ℕ) (s : ℕ) (c : Taken) (bs : List ℕ) (w
 
   abbrev of : ℕ → ℕ → FaceRow → Bool
   of u k row = nat_eq row.solid u
-
-  lower_free : table.get M.faces lower ≡ None
-  lower_free = w.free.faces lower (omega arith)
-
-  upper_free : table.get M.faces upper ≡ None
-  upper_free = w.free.faces upper (omega arith)
-
-  caps_apart : lower ≢ upper
-  caps_apart e = absurd (omega (arith, e, w.cycle.two_halves))
 
   other_row : (k : ℕ) → k ≢ lower → k ≢ upper → table.get N.faces k ≡ table.get M.faces k
   other_row k a b = ap (λ t. table.get t k) (faces_are M above s c bs) ∙ get-put_other _ upper _ k b ∙ get-put_other M.faces lower _ k a
@@ -109,11 +97,9 @@ module _ (M : Model) (above : List ℕ) (s : ℕ) (c : Taken) (bs : List ℕ) (w
   -- another solid has its own
   other_faces : (u : ℕ) → u ≢ s → faces_of N u ≡ faces_of M u
   other_faces u ne = same_search (of u) (of u) N.faces M.faces (λ k. elim (eqb_tells k lower) [
-    | inl e ↦ ap (λ j. passed (of u) j (table.get N.faces j)) e.1 ∙ ap (passed (of u) lower) (lower_row M above s c bs w) ∙ ap one_if (ne_eqb s u (λ q. ne (sym q)))
-        ∙ sym (ap (λ j. passed (of u) j (table.get M.faces j)) e.1 ∙ ap (passed (of u) lower) lower_free)
+    | inl e ↦ grind (arith, passed, lower_row, one_if, ne_eqb, w.free.faces lower (omega arith))
     | inr a ↦ elim (eqb_tells k upper) [
-      | inl e ↦ ap (λ j. passed (of u) j (table.get N.faces j)) e.1 ∙ ap (passed (of u) upper) (upper_row M above s c bs) ∙ ap one_if (ne_eqb s u (λ q. ne (sym q)))
-          ∙ sym (ap (λ j. passed (of u) j (table.get M.faces j)) e.1 ∙ ap (passed (of u) upper) upper_free)
+      | inl e ↦ grind (arith, passed, upper_row, one_if, ne_eqb, w.free.faces upper (omega arith))
       | inr b ↦ ap (passed (of u) k) (other_row k a.1 b.1)
     ]
   ])

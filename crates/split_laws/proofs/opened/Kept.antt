@@ -60,8 +60,7 @@ module _ (M N : Model) (swap : ℕ → ℕ) (w : Rewritten M N swap) where
 
   -- what stands in a rewritten loop starts where an item of that loop did
   in_content : (c : LoopContent) (h : ℕ) → IsIn h (items_of (rewritten (map swap) c)) → (y : ℕ) × IsIn y (items_of c) × (h ≡ swap y)
-  in_content (lone v) h i = absurd (omega (arith, i))
-  in_content (cycle cs) h i = from_map swap h cs (omega (arith, i, count-canonical h (map swap cs)))
+  in_content c h e = grind (arith, from_map, count-canonical)
 
   pub started : (l : ℕ) → Has M.loops l → (h : ℕ) → IsIn h (items_of (content N l)) → (y : ℕ) × IsIn y (items_of (content M l)) × (start N h ≡ start M y)
   started l there h i =

@@ -1,6 +1,6 @@
 -- Where half-edges start and end once a solid is opened along a cycle: where they did, and what stands in the place of a mate starts
 -- and ends where that did.
-use Rattle.std.proofs.Common.{◌≡◌, ℕ, zero, suc, ◌+◌, ◌≤◌, ◌<◌, Bool, true, false, cond, not, ◌&&◌, List, length, Some, unwrap_or, sym, ap, ◌∙◌, arith, inl, inr}
+use Rattle.std.proofs.Common.{◌≡◌, ℕ, zero, suc, ◌+◌, ◌≤◌, ◌<◌, Bool, cond, not, ◌&&◌, List, length, Some, unwrap_or, sym, ap, ◌∙◌, arith, inl, inr}
 use Rattle.std.specs.Prelude.{map, get_or}
 use Rattle.std.proofs.lemmas.Bool.Decides.{eqb_tells}
 use Rattle.std.proofs.lemmas.List.{length-map, get_or-map}
@@ -49,8 +49,7 @@ module _ (M : Model) (above : List ℕ) (s : ℕ) (c : Taken) (bs : List ℕ) (w
   copy_points : (i j : ℕ) → i ≤ m → j < i → table.get (with_copies M (copied M c bs i)) (c.vertex + suc j) ≡ Some (start M (get_or bs j 0))
   copy_points zero j le l = absurd (omega arith)
   copy_points (suc i) j le l = ap (λ t. table.get t (c.vertex + suc j)) (points_next M above s c bs w i (omega (arith, le))) ∙ elim (eqb_tells j i) [
-    | inl e ↦ ap (λ n. table.get (table.put (with_copies M (copied M c bs i)) (c.vertex + suc i) (start M (get_or bs i 0))) (c.vertex + suc n)) e.1
-        ∙ get-put_here (with_copies M (copied M c bs i)) (c.vertex + suc i) _ ∙ ap (λ n. Some (start M (get_or bs n 0))) (sym e.1)
+    | inl e ↦ grind (arith, get-put_here)
     | inr e ↦ get-put_other (with_copies M (copied M c bs i)) (c.vertex + suc i) _ (c.vertex + suc j) (λ q. e.1 (omega (arith, q))) ∙ copy_points i j (omega (arith, le)) (less_still j i l e.1)
   ]
 
@@ -68,8 +67,7 @@ module _ (M : Model) (above : List ℕ) (s : ℕ) (c : Taken) (bs : List ℕ) (w
   point_copied v low = grind (arith, renamed_cases, length-map, numbers_at, point_new, get_or-map, point_old)
 
   either_point : (b : Bool) (v : ℕ) → v ≤ c.vertex → point_of N (cond b (renamed (copied M c bs (length bs)) v) v) ≡ point_of M v
-  either_point true v low = point_copied v low
-  either_point false v low = point_old v low
+  either_point b v e = grind (arith, point_copied, point_old)
 
   -- an old half-edge starts where it did
   pub start_old : (h : ℕ) → HasHalf M h → start N h ≡ start M h

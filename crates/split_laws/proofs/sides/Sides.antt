@@ -1,19 +1,17 @@
 -- The sides on which faces lie, and that no loop of a solid is lone, from step to step of a split.
-use Rattle.std.specs.Prelude.{map, pos, int_lt}
-use Rattle.std.specs.Cmp.{signed_Decides}
+use Rattle.std.specs.Prelude.{map}
 use Rattle.std.proofs.Common.{◌≡◌, ◌≢◌, ℕ, ◌+◌, Bool, true, false, cond, List, [], ◌∷◌, ◌++◌, length, is_some, refl, sym, ap, subst, ◌∙◌, arith, true≢false, inl, inr}
 use Rattle.std.proofs.lemmas.Bool.Decides.{eqb_tells}
 use Rattle.std.proofs.lemmas.List.{append-nil}
 use Rattle.euler_operators.specs.declared.Point.{Point}
 use Rattle.euler_operators.specs.declared.Plane.{Plane}
-use Rattle.euler_operators.specs.Vectors.{height, is_on, is_above, is_below}
+use Rattle.euler_operators.specs.Vectors.{is_on, is_above, is_below}
 use Rattle.euler_operators.specs.Items.{count, IsIn}
 use Rattle.euler_operators.specs.Table as table
-use Rattle.euler_operators.specs.Model.{Model, items_of, tail, content, face_of, outer, solid_of, LoopContent, lone, cycle}
+use Rattle.euler_operators.specs.Model.{Model, items_of, tail, content, face_of, outer, solid_of, LoopContent, lone}
 use Rattle.euler_operators.specs.Sound.{Has, IsLoneAt}
 use Rattle.euler_operators.specs.Conditions.{lists}
 use Rattle.euler_operators.specs.Effect.{kfmrh, part}
-use Rattle.euler_operators.specs.Rings.{canonical}
 use Rattle.euler_operators.proofs.Tables.{row_some}
 use Rattle.euler_operators.proofs.Models.{content_row, never_lone}
 use Rattle.euler_laws.proofs.shared.Listed.{other_last}
@@ -44,8 +42,7 @@ use Rattle.split_laws.proofs.volumes.Split as split
 
 -- a point on the plane lies on both sides
 on_both : (p : Plane) (r : Point) (b : Bool) → is_on p r ≡ true → IsOnSide p b r
-on_both p r true e = ap (λ z. int_lt z (pos 0)) ((signed_Decides (height p r) (pos 0)).0 e)
-on_both p r false e = ap (λ z. int_lt (pos 0) z) ((signed_Decides (height p r) (pos 0)).0 e)
+on_both p r b e = grind arith
 
 -- what stands in the outer loop of a face that lies along the plane starts on it
 along_on : (M : Model) (p : Plane) (f : ℕ) → LiesAlong M p f → (h : ℕ) → IsIn h (items_of (content M (outer M f))) → is_on p (start M h) ≡ true
@@ -57,8 +54,7 @@ NoneLone M u = (l v : ℕ) → IsLoneAt M l v → Has M.faces (face_of M l) → 
 
 -- a loop that is lone once its cycle is rewritten was lone
 still_lone : (new : ℕ → ℕ) (c : LoopContent) (v : ℕ) → rewritten (map new) c ≡ lone v → c ≡ lone v
-still_lone new (lone w) v e = e
-still_lone new (cycle hs) v e = absurd (never_lone (canonical (map new hs)) v e)
+still_lone new c v e = grind (arith, never_lone)
 
 -- ---- one opening
 
@@ -147,18 +143,14 @@ taken_none p u M f g w none l v at face_there of_u =
     let is : IsLoneAt M l v = sym (taken.content_same M p f g w l) ∙ at in
     let there : Has M.loops l = lone_there M l v is in
     elim (eqb_tells l (outer M g)) [
-      | inl e ↦
-          let own : face_of M l ≡ g = ap (face_of M) e.1 ∙ (w.outers g w.g_there).1 in
-          none l v is (ap (table.has M.faces) own ∙ w.g_there)
-          (ap (solid_of M) own ∙ w.one_solid ∙ sym (taken.solid_same M p f g w f w.apart) ∙ ap (solid_of N) (sym (taken.face_taken M p f g w l there e.1)) ∙ of_u)
+      | inl e ↦ grind (arith, taken.solid_same, taken.face_taken)
       | inr e ↦ let r = taken_face p M f g w l there e.1 face_there in none l v is r.1 (sym r.2 ∙ of_u)
     ]
 
 -- ---- the parts
 
 of_lower : (b : Bool) (a s t : ℕ) → s ≢ t → cond b t a ≡ s → (b ≡ false) × (a ≡ s)
-of_lower true a s t apart e = absurd (apart (sym e))
-of_lower false a s t apart e = (refl, e)
+of_lower b a s t e f = grind arith
 
 module _ (M : Model) (s t : ℕ) (fs : List ℕ) (parts : CanBeParted M s t fs) where
   abbrev P : Model

@@ -40,16 +40,10 @@ use Rattle.split_laws.proofs.Whole.{parted_alike}
 
 -- what is of s or of t then was of s
 one_of_two : (b : Bool) (a s t : ℕ) → s ≢ t → (b ≡ true → a ≡ s) → a ≢ t → one_if (nat_eq (cond b t a) s) + one_if (nat_eq (cond b t a) t) ≡ one_if (nat_eq a s)
-one_of_two true a s t apart is ne =
-    let x : one_if (nat_eq t s) ≡ 0 = ap one_if (ne_eqb t s (λ e. apart (sym e))) in
-    let y : one_if (nat_eq t t) ≡ 1 = ap one_if (eq-eqb t t refl) in
-    let z : one_if (nat_eq a s) ≡ 1 = ap one_if (eq-eqb a s (is refl)) in
-    omega (arith, x, y, z)
-one_of_two false a s t apart is ne = let x : one_if (nat_eq a t) ≡ 0 = ap one_if (ne_eqb a t ne) in omega (arith, x)
+one_of_two b a s t e f g = grind (arith, one_if, ne_eqb, eq-eqb)
 
 of_another : (b : Bool) (a s t u : ℕ) → u ≢ s → u ≢ t → (b ≡ true → a ≡ s) → one_if (nat_eq (cond b t a) u) ≡ one_if (nat_eq a u)
-of_another true a s t u not_s not_t is = ap one_if (ne_eqb t u (λ e. not_t (sym e))) ∙ sym (ap one_if (ne_eqb a u (λ e. not_s (sym e ∙ is refl))))
-of_another false a s t u not_s not_t is = refl
+of_another b a s t u e f g = grind (arith, one_if, ne_eqb)
 
 module _ (M : Model) (s t : ℕ) (fs : List ℕ) where
   abbrev N : Model
@@ -111,15 +105,10 @@ module _ (M : Model) (s t : ℕ) (fs : List ℕ) where
     of u k row = nat_eq row.solid u
 
     shared_row : (k : ℕ) (o : Option FaceRow) → table.get M.faces k ≡ o → passed (of s) k (option_map (go k) o) + passed (of t) k (option_map (go k) o) ≡ passed (of s) k o
-    shared_row k None e = refl
-    shared_row k (Some row) e =
-        (λ i. one_if (nat_eq (solid_either (lists fs k) row t i) s) + one_if (nat_eq (solid_either (lists fs k) row t i) t))
-        ∙ one_of_two (lists fs k) row.solid s t w.apart (λ l. sym (solid_row M k row e) ∙ w.of_solid k (ap is_some e) l) (λ q. w.fresh k (ap is_some e) (solid_row M k row e ∙ q))
+    shared_row k o e = grind (arith, one_if, solid_either, one_of_two, solid_row)
 
     other_row : (u : ℕ) → u ≢ s → u ≢ t → (k : ℕ) (o : Option FaceRow) → table.get M.faces k ≡ o → passed (of u) k (option_map (go k) o) ≡ passed (of u) k o
-    other_row u not_s not_t k None e = refl
-    other_row u not_s not_t k (Some row) e = ap (λ v. one_if (nat_eq v u)) (solid_either (lists fs k) row t)
-        ∙ of_another (lists fs k) row.solid s t u not_s not_t (λ l. sym (solid_row M k row e) ∙ w.of_solid k (ap is_some e) l)
+    other_row u e f k o g = grind (arith, one_if, solid_either, of_another, solid_row)
 
     both_faces : SameItems (faces_of M s) (faces_of N s ++ faces_of N t)
     both_faces k = grind (arith, count-append, count_where, row_is, shared_row)
@@ -235,9 +224,7 @@ both_there d above s p t w there = grind (arith, parted_solids, get-put_other, s
 
 pub split_shares : (d : Drawing) (above : List ℕ) (s : ℕ) (p : Plane) (t : ℕ) → CanBeSplit d above s p t →
     six_volume d.model s ≡ six_volume (split_drawn d above s p t) s +ℤ six_volume (split_drawn d above s p t) t
-split_shares d above s p t w = subst (λ P. six_volume d.model s ≡ six_volume P s +ℤ six_volume P t) (sym (split_is d above s p t w))
-    (sym (closed_keeps d above s p t w s) ∙ part_shares (C d above s p t w) s t (upper_faces above (o d above s p t w).caps) (parts d above s p t w))
+split_shares d above s p t w = grind (arith, split_is, closed_keeps, part_shares, parts)
 
 pub split_keeps : (d : Drawing) (above : List ℕ) (s : ℕ) (p : Plane) (t u : ℕ) → CanBeSplit d above s p t → u ≢ s → u ≢ t → six_volume (split_drawn d above s p t) u ≡ six_volume d.model u
-split_keeps d above s p t u w not_s not_t = ap (λ P. six_volume P u) (split_is d above s p t w)
-    ∙ part_keeps (C d above s p t w) s t (upper_faces above (o d above s p t w).caps) u (parts d above s p t w) not_s not_t ∙ closed_keeps d above s p t w u
+split_keeps d above s p t u w not_s not_t = grind (arith, split_is, part_keeps, parts, closed_keeps)

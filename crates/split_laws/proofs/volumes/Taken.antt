@@ -1,20 +1,21 @@
 -- A cap that becomes a ring of another cap on the same plane: their normals add up, and so do what they add to the six volumes.
-use Rattle.std.proofs.Common.{◌≡◌, ◌≢◌, ℕ, ◌+◌, ℤ, ◌+ℤ◌, Bool, true, false, cond, not, nat_eq, ◌&&◌, List, [], ◌∷◌, ◌++◌, Option, Some, None, is_some, unwrap_or, refl, sym, ap, ◌∙◌, arith, true≢false, inl, inr}
+use Rattle.std.proofs.Common.{◌≡◌, ◌≢◌, ℕ, ◌+◌, ℤ, ◌+ℤ◌, Bool, cond, not, nat_eq, ◌&&◌, List, [], ◌∷◌, ◌++◌, Option, Some, None, is_some, refl, sym, ap, ◌∙◌, subst, arith, true≢false, inl, inr}
 use Rattle.std.specs.Option.{option_map}
 use Rattle.std.proofs.lemmas.Bool.Decides.{eqb_tells}
 use Rattle.std.proofs.lemmas.Bool.{ne_eqb, eq-eqb}
-use Rattle.euler_operators.specs.declared.Point.{Point}
 use Rattle.euler_operators.specs.declared.Plane.{Plane}
 use Rattle.euler_operators.specs.Vectors.{origin, moved, dot, cross, direction, is_on}
 use Rattle.euler_operators.specs.Items.{count, tick, IsIn, SameItems, before, after}
 use Rattle.euler_operators.proofs.Lists.{count-append, tick_same, tick_other, split_at}
 use Rattle.euler_operators.specs.Table as table
-use Rattle.euler_operators.specs.Table.{get-map_rows, get-remove}
-use Rattle.euler_operators.specs.Model.{Model, FaceRow, LoopRow, no_face, no_loop, items_of, tail, content, face_of, outer, solid_of, point_of, rings_of, faces_of}
+use Rattle.euler_operators.specs.Table.{get-map_rows}
+use Rattle.euler_operators.specs.Model.{Model, FaceRow, LoopRow, items_of, tail, content, face_of, outer, solid_of, point_of, rings_of, faces_of}
 use Rattle.euler_operators.specs.Sound.{Has}
 use Rattle.euler_operators.proofs.Models.{face_row}
 use Rattle.euler_operators.specs.Effect.{kfmrh, loop_to_face}
-use Rattle.euler_laws.proofs.shared.Rows.{no_items, face_there, loop_row, content_either}
+use Rattle.euler_laws.proofs.shared.Rows.{no_items, face_there, loop_row}
+use Rattle.euler_laws.proofs.shared.Parts.{FaceSet, row_here, row_other, outer_other, solid_other}
+use Rattle.euler_laws.proofs.shared.Faces.{content-moved, loop-moved, face-moved, face-kept}
 use Rattle.shapes.specs.Faces.{start, items_in, loops_of, boundary}
 use Rattle.shapes.specs.Measure.{area, normal, volume_in, six_volume}
 use Rattle.shapes.proofs.Areas.{area-append}
@@ -58,10 +59,7 @@ module _ (M N : Model) (f : ℕ) where
   sum_with : (d : ℤ) → volume_of N f ≡ d +ℤ volume_of M f → (ks : List ℕ) → count f ks ≡ 1 → ((k : ℕ) → IsIn k ks → k ≢ f → volume_of N k ≡ volume_of M k) → volume_in N ks ≡ d +ℤ volume_in M ks
   sum_with d more [] o e = absurd (omega (arith, o))
   sum_with d more (k ∷ ks) o e = elim (eqb_tells f k) [
-    | inl q ↦
-        let rest : count f ks ≡ 0 = omega (arith, o, ap (λ j. tick f j) (sym q.1), tick_same f) in
-        ap (λ j. volume_of N j +ℤ volume_in N ks) (sym q.1) ∙ (λ i. more i +ℤ sum_without ks rest (λ j l. e j (omega (arith, l))) i)
-        ∙ add_assoc d (volume_of M f) (volume_in M ks) ∙ ap (λ j. d +ℤ (volume_of M j +ℤ volume_in M ks)) q.1
+    | inl q ↦ grind (arith, tick_same, volume_of, sum_without, add_assoc)
     | inr q ↦
         (λ i. e k (omega (arith, tick_same k)) (λ z. q.1 (sym z)) i +ℤ sum_with d more ks (omega (arith, o, tick_other f k q.1)) (λ j l. e j (omega (arith, l))) i)
         ∙ add_exchanged (volume_of M k) d (volume_in M ks)
@@ -83,44 +81,36 @@ module _ (M : Model) (p : Plane) (f g : ℕ) (w : CanTake M p f g) where
   abbrev N : Model
   N = kfmrh M f g
 
-  row_is : (l : ℕ) → table.get N.loops l ≡ option_map (loop_to_face (outer M g) f l) (table.get M.loops l)
+  taken_loops : N.loops ≡ table.map_rows (loop_to_face (outer M g) f) M.loops
   unfolding kfmrh
-  row_is l = get-map_rows (loop_to_face (outer M g) f) M.loops l
+  taken_loops = refl
+
+  taken_faces : FaceSet M N g None
+  unfolding kfmrh
+  taken_faces = record { rows = record { are = refl } }
+
+  row_is : (l : ℕ) → table.get N.loops l ≡ option_map (loop_to_face (outer M g) f l) (table.get M.loops l)
+  row_is l = ap (λ t. table.get t l) taken_loops ∙ get-map_rows (loop_to_face (outer M g) f) M.loops l
 
   pub face_stays : (k : ℕ) → k ≢ g → table.get N.faces k ≡ table.get M.faces k
-  unfolding kfmrh
-  face_stays k ne = get-remove M.faces g k ∙ ap (λ b. cond b None (table.get M.faces k)) (ne_eqb k g ne)
+  face_stays = row_other taken_faces.rows
 
   pub face_goes : table.get N.faces g ≡ None
-  unfolding kfmrh
-  face_goes = get-remove M.faces g g ∙ ap (λ b. cond b None (table.get M.faces g)) (eq-eqb g g refl)
+  face_goes = row_here taken_faces.rows
 
   -- ---- loops and points stay
 
-  content_in : (l : ℕ) (o : Option LoopRow) → (unwrap_or (option_map (loop_to_face (outer M g) f l) o) no_loop).content ≡ (unwrap_or o no_loop).content
-  content_in l None = refl
-  content_in l (Some row) = content_either (nat_eq l (outer M g)) row f
-
   pub content_same : (l : ℕ) → content N l ≡ content M l
-  unfolding content
-  content_same l = ap (λ o. (unwrap_or o no_loop).content) (row_is l) ∙ content_in l (table.get M.loops l)
-
-  there_in : (l : ℕ) (o : Option LoopRow) → is_some (option_map (loop_to_face (outer M g) f l) o) ≡ is_some o
-  there_in l None = refl
-  there_in l (Some row) = refl
+  content_same = content-moved M N (outer M g) f taken_loops
 
   pub loop_there : (l : ℕ) → table.has N.loops l ≡ table.has M.loops l
-  loop_there l = ap is_some (row_is l) ∙ there_in l (table.get M.loops l)
-
-  either_face : (b : Bool) (row : LoopRow) → (cond b (record row { face = f }) row).face ≡ cond b f row.face
-  either_face true row = refl
-  either_face false row = refl
+  loop_there = loop-moved M N (outer M g) f taken_loops
 
   pub face_else : (l : ℕ) → Has M.loops l → l ≢ outer M g → face_of N l ≡ face_of M l
-  face_else l there ne = face_row N l _ (row_is l ∙ ap (option_map (loop_to_face (outer M g) f l)) (loop_row M l there)) ∙ either_face (nat_eq l (outer M g)) (record { face = face_of M l; content = content M l }) ∙ ap (λ b. cond b f (face_of M l)) (ne_eqb l (outer M g) ne)
+  face_else l there = face-kept M N (outer M g) f taken_loops l
 
   pub face_taken : (l : ℕ) → Has M.loops l → l ≡ outer M g → face_of N l ≡ f
-  face_taken l there e = face_row N l _ (row_is l ∙ ap (option_map (loop_to_face (outer M g) f l)) (loop_row M l there)) ∙ either_face (nat_eq l (outer M g)) (record { face = face_of M l; content = content M l }) ∙ ap (λ b. cond b f (face_of M l)) (eq-eqb l (outer M g) e)
+  face_taken l there e = ap (face_of N) e ∙ face-moved M N (outer M g) f taken_loops (subst (Has M.loops) e there)
 
   places : SamePlaces M N
   unfolding kfmrh tail point_of
@@ -130,12 +120,10 @@ module _ (M : Model) (p : Plane) (f g : ℕ) (w : CanTake M p f g) where
   start_same = same_start M N places
 
   pub outer_same : (k : ℕ) → k ≢ g → outer N k ≡ outer M k
-  unfolding outer
-  outer_same k ne = ap (λ o. (unwrap_or o no_face).outer) (face_stays k ne)
+  outer_same = outer_other taken_faces
 
   pub solid_same : (k : ℕ) → k ≢ g → solid_of N k ≡ solid_of M k
-  unfolding solid_of
-  solid_same k ne = ap (λ o. (unwrap_or o no_face).solid) (face_stays k ne)
+  solid_same = solid_other taken_faces
 
   -- ---- rings
 
@@ -157,9 +145,7 @@ module _ (M : Model) (p : Plane) (f g : ℕ) (w : CanTake M p f g) where
   same_ring : (k : ℕ) → k ≢ f → k ≢ g → (l : ℕ) (o : Option LoopRow) → table.get M.loops l ≡ o → passed (ring_after k) l (option_map (loop_to_face (outer M g) f l) o) ≡ passed (ring_before k) l o
   same_ring k not_f not_g l None e = refl
   same_ring k not_f not_g l (Some row) e = elim (eqb_tells l (outer M g)) [
-    | inl q ↦ ap (λ b. one_if (ring_after k l (cond b (record row { face = f }) row))) q.0
-        ∙ ap (λ b. one_if (b && not (nat_eq (outer N k) l))) (ne_eqb f k (λ z. not_f (sym z)))
-        ∙ sym (ap (λ b. one_if (b && not (nat_eq (outer M k) l))) (ne_eqb row.face k (λ z. not_g (sym z ∙ row_of_g l row e q.1))))
+    | inl q ↦ grind (arith, one_if, ne_eqb, row_of_g)
     | inr q ↦ else_ring k l row not_g q.1
   ]
 
@@ -170,16 +156,7 @@ module _ (M : Model) (p : Plane) (f g : ℕ) (w : CanTake M p f g) where
   not_outer_f e = w.apart (sym (w.outers f w.f_there).1 ∙ ap (face_of M) e ∙ own_g)
 
   more_ring : (l : ℕ) (o : Option LoopRow) → table.get M.loops l ≡ o → passed (ring_after f) l (option_map (loop_to_face (outer M g) f l) o) ≡ tick l (outer M g) + passed (ring_before f) l o
-  more_ring l None e = sym (ap (λ n. n + 0) (tick_other l (outer M g) (λ q. true≢false (sym (w.outers g w.g_there).0 ∙ ap is_some (ap (table.get M.loops) (sym q) ∙ e)))))
-  more_ring l (Some row) e = elim (eqb_tells l (outer M g)) [
-    | inl q ↦
-        let now : passed (ring_after f) l (Some (loop_to_face (outer M g) f l row)) ≡ 1 =
-        ap (λ b. one_if (ring_after f l (cond b (record row { face = f }) row))) q.0
-        ∙ (λ i. one_if (eq-eqb f f refl i && not (ne_eqb (outer N f) l (λ z. not_outer_f (sym (outer_same f w.apart) ∙ z ∙ q.1)) i))) in
-        let then : passed (ring_before f) l (Some row) ≡ 0 = ap (λ b. one_if (b && not (nat_eq (outer M f) l))) (ne_eqb row.face f (λ z. w.apart (sym z ∙ row_of_g l row e q.1))) in
-        omega (arith, now, then, ap (tick l) q.1, tick_same l)
-    | inr q ↦ omega (arith, else_ring f l row w.apart q.1, tick_other l (outer M g) q.1)
-  ]
+  more_ring l o e = grind (arith, tick_other, true≢false, passed, one_if, eq-eqb, ne_eqb, not_outer_f, outer_same, row_of_g, tick_same, else_ring)
 
   rings_more : (l : ℕ) → count l (rings_of N f) ≡ count l (outer M g ∷ rings_of M f)
   rings_more l = omega (arith, count_where (ring_after f) N.loops l ∙ ap (passed (ring_after f) l) (row_is l) ∙ more_ring l (table.get M.loops l) refl, count_where (ring_before f) M.loops l)
@@ -255,9 +232,6 @@ module _ (M : Model) (p : Plane) (f g : ℕ) (w : CanTake M p f g) where
   pub outers_still : OutersAreOwn N
   outers_still k there = grind (arith, face_goes, face_stays, outer_same, loop_there, face_else)
 
-  nothing_moved : (n : Point) → n ≡ origin → moved n origin ≡ origin
-  nothing_moved n e = ap (λ v. moved v origin) e ∙ none_moved origin
-
   pub along_still : (k : ℕ) → k ≢ g → LiesAlong M p k → LiesAlong N p k
   along_still k ne a = record {
     items = a.items;
@@ -266,7 +240,7 @@ module _ (M : Model) (p : Plane) (f g : ℕ) (w : CanTake M p f g) where
     on_plane = λ h i. ap (is_on p) (start_same h) ∙ a.on_plane h i;
     across = elim (eqb_tells k f) [
       | inl e ↦ ap (λ j. cross (direction p) (normal N j)) e.1 ∙ ap (cross (direction p)) normal_f ∙ cross_moved (direction p) (normal M g) (normal M f)
-          ∙ ap (moved (cross (direction p) (normal M g))) w.f_along.across ∙ nothing_moved (cross (direction p) (normal M g)) w.g_along.across
+          ∙ ap (moved (cross (direction p) (normal M g))) w.f_along.across ∙ (ap (λ v. moved v origin) w.g_along.across ∙ none_moved origin)
       | inr e ↦ ap (cross (direction p)) (normal_same k e.1 ne) ∙ a.across
     ];
   }
