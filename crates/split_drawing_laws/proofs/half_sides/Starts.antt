@@ -230,21 +230,7 @@ module _ (M : Model) (s : ℕ) (p : Plane) (t : ℕ) (sound : Sound M) (begins :
 
       at_corner : TurnAt M N p x
       at_corner =
-          grind (
-            arith,
-            in_places,
-            of_f,
-            is_then_place,
-            from_back,
-            uncut_start,
-            back_there,
-            back_uncut,
-            opposite_then,
-            back_leads,
-            before_after,
-            mate_there,
-            edge_of-mate,
-          )
+          grind (arith, in_places, of_f, is_then_place, from_back, uncut_start, back_there, back_uncut, opposite_then, back_leads, before_after, mate_there, edge_of-mate)
 
     pub turn_at : TurnAt M N p x
     turn_at = elim (pieces.edges (edge_of y) (half_after N new_sound x there)) [

@@ -13,7 +13,7 @@ use Rattle.euler_operators.specs.Model.{Model, FaceRow, LoopRow, items_of, tail,
 use Rattle.euler_operators.specs.Sound.{Has}
 use Rattle.euler_operators.proofs.Models.{face_row}
 use Rattle.euler_operators.specs.Effect.{kfmrh, loop_to_face}
-use Rattle.euler_laws.proofs.shared.Rows.{no_items, face_there, loop_row}
+use Rattle.euler_laws.proofs.shared.Rows.{no_items, face_there}
 use Rattle.euler_laws.proofs.shared.Parts.{FaceSet, row_here, row_other, outer_other, solid_other}
 use Rattle.euler_laws.proofs.shared.Faces.{content-moved, loop-moved, face-moved, face-kept}
 use Rattle.shapes.specs.Faces.{start, items_in, loops_of, boundary}

@@ -3,8 +3,8 @@ use Rattle.std.proofs.Common.{◌≡◌, ◌≢◌, ℕ, suc, ◌+◌, ◌-◌, 
 use Rattle.std.specs.Prelude.{reverse, take}
 use Rattle.std.proofs.lemmas.Bool.{eq-eqb, ne_eqb}
 use Rattle.std.proofs.lemmas.List.{append_assoc, length-reverse, take_all}
-use Rattle.euler_operators.specs.Items.{count, IsIn, IsApart, before, after}
-use Rattle.euler_operators.specs.Rings.{canonical, rest, between, beyond}
+use Rattle.euler_operators.specs.Items.{count, IsIn, IsApart}
+use Rattle.euler_operators.specs.Rings.{canonical, rest}
 use Rattle.euler_operators.proofs.Lists.{count-append, tick_same, before_at, after_at}
 use Rattle.euler_operators.proofs.Rotations.{canonical-rotates, rest_same, rest_at}
 use Rattle.euler_operators.specs.HalfEdge.{mate, plus, minus, half}
@@ -68,9 +68,6 @@ module _ (N : Model) (s : ℕ) (c : Taken) (hs : List ℕ) (w : HasStrips N s c 
   abbrev ring : List ℕ
   ring = lower ++ plus x ∷ (upper ++ minus x ∷ [])
 
-  some_lower : 1 ≤ length lower
-  some_lower = omega (arith, length-reverse hs, w.some)
-
   loop_here : joined_loop c hs n ≡ ring
   loop_here = (λ i. reverse (take (sym all i) hs) ++ plus x ∷ (map minus (numbers_after c.edge (sym all i)) ++ minus (strip_riser c m (next_last m n (omega (arith, all)) i)) ∷ []))
       ∙ ap (λ xs. reverse xs ++ plus x ∷ (upper ++ minus x ∷ [])) (take_all m hs (omega arith))
@@ -123,12 +120,6 @@ module _ (N : Model) (s : ℕ) (c : Taken) (hs : List ℕ) (w : HasStrips N s c 
 
   none_upper : count (minus x) upper ≡ 0
   none_upper = omega (arith, apart (minus x), count-append (minus x) lower (plus x ∷ (upper ++ minus x ∷ [])), count-append (minus x) upper (minus x ∷ []), tick_same (minus x))
-
-  between_is : between (plus x) (mate (plus x)) (cycle_of P (plus x)) ≡ upper
-  between_is = (λ i. before (mate_plus x i) (rest_h i)) ∙ before_at (minus x) upper lower none_upper
-
-  beyond_is : beyond (plus x) (mate (plus x)) (cycle_of P (plus x)) ≡ lower
-  beyond_is = (λ i. after (mate_plus x i) (rest_h i)) ∙ after_at (minus x) upper lower none_upper
 
   abbrev lower_row : LoopRow
   lower_row = record { face = f1; content = cycle (canonical lower) }

@@ -90,9 +90,6 @@ module _ (M : Model) (above : List ℕ) (s : ℕ) (c : Taken) (bs : List ℕ) (w
   round_side : (h : ℕ) → HasHalf N h → side (round N h) ≡ side (mate h)
   round_side h there = ap (λ q. lists above (face_of N q)) (loop_after N sound (mate h) (mate_there N h there))
 
-  first_up : side (round N g) ≡ true
-  first_up = round_side g g_there ∙ ap side (mate_minus (c.edge + suc i)) ∙ raised.out_side M above s c bs w i sound i lt
-
   -- ---- the last one above
 
   pub last_items : raised_items c bs i p ≡ (k ∷ raised.rise_part M above s c bs w i sound p) ++ minus (c.edge + suc p) ∷ []
@@ -191,28 +188,6 @@ module _ (M : Model) (above : List ℕ) (s : ℕ) (c : Taken) (bs : List ℕ) (w
     ]
   ]
 
-  stays_down : (h : ℕ) → HasHalf N h → tail N h ≡ x → side h ≡ false → h ≢ g → side (round N h) ≡ false
-  stays_down h there at d ne = round_side h there ∙ elim (raised.kinds M above s c bs w i sound h there) [
-    | inl old ↦ elim (tested (lists mates h)) [
-      | inl l ↦ (listed_side h l).1
-      | inr un ↦ elim (tested (lists mates (mate h))) [
-        | inl l ↦ (listed_side (mate h) l).0
-        | inr none ↦ old_sides h old at un none ∙ d
-      ]
-    ]
-    | inr new ↦ elim new [
-      | inl q ↦ elim q.2 [
-        | inl e ↦ absurd (true≢false (sym (raised.out_side M above s c bs w i sound q.0 q.1) ∙ ap side (sym e) ∙ d))
-        | inr e ↦ absurd (ne (e ∙ ap (λ n. minus (c.edge + suc n)) (back_start q.0 q.1 (ap (tail N) (sym e) ∙ at))))
-      ]
-      | inr q ↦ elim q.2 [
-        | inl e ↦ absurd (rise_start q.0 q.1 (ap (tail N) (sym e) ∙ at))
-        | inr e ↦ absurd (fall_start q.0 q.1 (ap (tail N) (sym e) ∙ at))
-      ]
-    ]
-  ]
-
   pub splits : Splits N side g k
   splits =
-      grind (arith, g_there, k_there, k_tail, g_tail, apart, mate_side, stays_up, round_side, mate_minus, raised.out_side, raised.kinds, tested,
-      listed_side, old_sides, back_start, rise_start, fall_start)
+      grind (arith, g_there, k_there, k_tail, g_tail, apart, mate_side, stays_up, round_side, mate_minus, raised.out_side, raised.kinds, tested, listed_side, old_sides, back_start, rise_start, fall_start)

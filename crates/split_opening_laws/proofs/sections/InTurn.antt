@@ -1,16 +1,16 @@
 -- A solid is opened along the cycles of its section one after the other, and then nothing holds its upper faces to the others.
 use Rattle.std.specs.Option.{option_map}
-use Rattle.std.proofs.Common.{◌≡◌, ℕ, ◌+◌, ◌*◌, Bool, true, false, List, [], ◌∷◌, ◌++◌, length, map, is_some, refl, sym, ap, subst, ◌∙◌, arith, length-append, ◌≤◌, ◌<◌, Option, Some, None, unwrap_or, true≢false, ◌⊎◌, inl, inr}
+use Rattle.std.proofs.Common.{◌≡◌, ℕ, ◌+◌, ◌*◌, true, List, [], ◌∷◌, ◌++◌, length, map, is_some, refl, sym, ap, subst, ◌∙◌, arith, length-append, ◌≤◌, ◌<◌, Option, Some, None, unwrap_or, true≢false, ◌⊎◌, inl, inr}
 use Rattle.std.proofs.lemmas.List.{append_assoc, append-nil, map-append}
 use Rattle.std.proofs.lemmas.Bool.Decides.{eqb_tells}
 use Rattle.std.proofs.lemmas.Grind.{flat_map-append}
 use Rattle.euler_operators.specs.declared.Plane.{Plane}
 use Rattle.euler_operators.specs.Items.{IsIn, count}
-use Rattle.euler_operators.specs.HalfEdge.{mate, plus, minus}
+use Rattle.euler_operators.specs.HalfEdge.{mate, plus}
 use Rattle.euler_operators.specs.Table as table
 use Rattle.euler_operators.specs.Model.{Model, solid_of, rings_of, LoopRow, no_face, face_of, outer}
-use Rattle.euler_operators.specs.Sound.{Sound, Has, HasHalf}
-use Rattle.euler_operators.specs.Conditions.{face_at, lists, differ, torn_edge, strictly_rises}
+use Rattle.euler_operators.specs.Sound.{Sound, Has}
+use Rattle.euler_operators.specs.Conditions.{lists, torn_edge, strictly_rises}
 use Rattle.euler_operators.specs.Table.{get-map_rows}
 use Rattle.euler_operators.proofs.Halves.{plus_row, minus_row, mate_plus, mate_minus}
 use Rattle.euler_operators.proofs.Tables.{all_where_none, first_where_zero, in_use_within, get-put_here, get-put_other}
@@ -120,13 +120,6 @@ all_on above s p o (bs ∷ cs) w = all_on above s p (next_opened p above s o bs)
 module _ (above : List ℕ) (s : ℕ) (o : Opening) (w : CanBeOpenedInTurn above s o []) where
   abbrev upper : List ℕ
   upper = upper_faces above o.caps
-
-  none_across : (x : ℕ) → HasHalf o.model x → lists upper (face_at o.model x) ≡ false → lists upper (face_at o.model (mate x)) ≡ true → ⊥
-  none_across x t f g = absurd (omega (arith, w.between.only x t f g))
-
-  edge_whole : (q : ℕ) → Has o.model.edges q → (a : Bool) → lists upper (face_at o.model (plus q)) ≡ a → (b : Bool) → lists upper (face_at o.model (minus q)) ≡ b →
-      differ (lists upper (face_at o.model (plus q))) (lists upper (face_at o.model (minus q))) ≡ false
-  edge_whole q e a f b g = grind (arith, plus_row, mate_plus, minus_row, mate_minus)
 
   pub none_torn : torn_edge o.model (upper_faces above o.caps) ≡ 0
   none_torn = grind (arith, first_where_zero, plus_row, mate_plus, minus_row, mate_minus)

@@ -193,13 +193,6 @@ module _ (M : Model) (above : List ℕ) (s : ℕ) (c : Taken) (bs : List ℕ) (c
   of_mate : (a : ℕ) → IsIn a (map mate bs) → HasHalf M a
   of_mate a i = let r = from_map mate a bs i in subst (HasHalf M) (sym r.2) (half_mate M r.0 (first.halves r.0 r.1).there)
 
-  -- the cap below isn't an upper face
-  below_unlisted : (b : ℕ) → IsIn b bs → lists (fs ++ u ∷ []) (c.face + 1) ≡ false
-  below_unlisted b i = other_last fs u (c.face + 1) (λ e. absurd (omega (arith, e, long bs i))) ∙ false_from_ne_true (lists fs (c.face + 1)) (λ l. absurd (omega (arith, upper_old (c.face + 1) l))) where
-    long : (qs : List ℕ) → IsIn b qs → 1 ≤ length qs
-    long [] i = absurd (omega arith)
-    long (q ∷ qs) i = omega arith
-
   module _ (h : ℕ) (f : lists (fs ++ u ∷ []) (face_at K h) ≡ false) (g : lists (fs ++ u ∷ []) (face_at K (mate h)) ≡ true) where
     -- a half-edge round a cap lies in an upper face
     not_new : IsIn (edge_of h) (numbers_after c.edge (length bs)) → ⊥

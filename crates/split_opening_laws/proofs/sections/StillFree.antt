@@ -1,5 +1,5 @@
 -- The numbers above those that an opening takes are free after it.
-use Rattle.std.proofs.Common.{◌≡◌, ◌≢◌, ℕ, ◌+◌, ◌*◌, ◌≤◌, ◌<◌, List, [], ◌∷◌, length, None, refl, ap, ◌∙◌, arith}
+use Rattle.std.proofs.Common.{◌≡◌, ℕ, ◌+◌, ◌*◌, ◌<◌, List, [], ◌∷◌, length, None, refl, ap, ◌∙◌, arith}
 use Rattle.std.specs.Prelude.{fold}
 use Rattle.std.specs.Option.{option_map}
 use Rattle.euler_operators.specs.declared.Point.{Point}
@@ -17,17 +17,11 @@ use Rattle.split_opening_laws.specs.Numbers.{AreFree}
 use Rattle.split_opening_laws.proofs.sections.Pairs.{in_numbers, rim_above}
 use Rattle.split_opening_laws.proofs.sections.OpenedRows.{faces_are, loops_are, edges_are, vertices_are}
 
-past : (q n k : ℕ) → n < q → k ≤ n → q ≢ k
-past q n k l m e = absurd (omega (arith, l, m, e))
-
 pub copied_other : (M : Model) (t : Table Point) (xs ys : List ℕ) (q : ℕ) → count q ys ≡ 0 → table.get (fold (λ t p. table.put t p.1 (point_of M p.0)) t (both_lists xs ys)) q ≡ table.get t q
 copied_other M t [] ys q z = refl
 copied_other M t (x ∷ xs) [] q z = refl
 copied_other M t (x ∷ xs) (y ∷ ys) q z =
     copied_other M (table.put t y (point_of M x)) xs ys q (omega (arith, z)) ∙ get-put_other t y (point_of M x) q (λ e. absurd (omega (arith, z, ap (λ n. count n (y ∷ ys)) e, tick_same y)))
-
-none_past : (k n q : ℕ) → k + n < q → count q (numbers_after k n) ≡ 0
-none_past k n q l = grind (arith, in_numbers)
 
 module _ (M : Model) (above : List ℕ) (s : ℕ) (c : Taken) (bs : List ℕ) (free : AreFree M c) where
   abbrev m : ℕ

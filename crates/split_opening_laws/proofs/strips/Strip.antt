@@ -95,9 +95,6 @@ module _ (M : Model) (above : List ℕ) (s : ℕ) (c : Taken) (bs : List ℕ) (w
     a_there : HasHalf N a
     a_there = cut_half i a a_old
 
-    tail_a : tail N a ≡ tail M a
-    tail_a = cut_tail i a a_old
-
     tail_k : tail N k ≡ tail M (get_or bs i 0)
     tail_k = sound.ends_meet a a_there ∙ ap (tail N) (mate-mate (get_or bs i 0)) ∙ cut_tail i (get_or bs i 0) (on.half_there M above s c bs w i lt)
 
