@@ -15,7 +15,7 @@ use Rattle.euler_operators.proofs.Models.{face_row}
 use Rattle.euler_operators.specs.Effect.{kfmrh, loop_to_face}
 use Rattle.euler_laws.proofs.shared.Rows.{no_items, face_there}
 use Rattle.euler_laws.proofs.shared.Parts.{FaceSet, row_here, row_other, outer_other, solid_other}
-use Rattle.euler_laws.proofs.shared.Faces.{content-moved, loop-moved, face-moved, face-kept}
+use Rattle.euler_laws.proofs.shared.Faces.{LoopMoves, face_moved, face_kept, walks_same}
 use Rattle.shapes.specs.Faces.{start, items_in, loops_of, boundary}
 use Rattle.shapes.specs.Measure.{area, normal, volume_in, six_volume}
 use Rattle.shapes.proofs.Areas.{area-append}
@@ -85,6 +85,10 @@ module _ (M : Model) (p : Plane) (f g : ℕ) (w : CanTake M p f g) where
   unfolding kfmrh
   taken_loops = refl
 
+  moves : LoopMoves M N (outer M g) f
+  unfolding kfmrh
+  moves = record { there = (w.outers g w.g_there).0; loops = taken_loops; solids = refl; edges = refl; vertices = refl }
+
   taken_faces : FaceSet M N g None
   unfolding kfmrh
   taken_faces = record { rows = record { are = refl } }
@@ -101,16 +105,16 @@ module _ (M : Model) (p : Plane) (f g : ℕ) (w : CanTake M p f g) where
   -- ---- loops and points stay
 
   pub content_same : (l : ℕ) → content N l ≡ content M l
-  content_same = content-moved M N (outer M g) f taken_loops
+  content_same = (walks_same moves).contents
 
   pub loop_there : (l : ℕ) → table.has N.loops l ≡ table.has M.loops l
-  loop_there = loop-moved M N (outer M g) f taken_loops
+  loop_there = (walks_same moves).loops
 
   pub face_else : (l : ℕ) → Has M.loops l → l ≢ outer M g → face_of N l ≡ face_of M l
-  face_else l there = face-kept M N (outer M g) f taken_loops l
+  face_else l there = face_kept moves l
 
   pub face_taken : (l : ℕ) → Has M.loops l → l ≡ outer M g → face_of N l ≡ f
-  face_taken l there e = ap (face_of N) e ∙ face-moved M N (outer M g) f taken_loops (subst (Has M.loops) e there)
+  face_taken l there e = ap (face_of N) e ∙ face_moved moves
 
   places : SamePlaces M N
   unfolding kfmrh tail point_of
