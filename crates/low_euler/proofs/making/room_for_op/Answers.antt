@@ -1,6 +1,7 @@
-use Rattle.std.proofs.Common.{subst}
+use Rattle.std.specs.Prelude.{OnOk}
+use Rattle.std.proofs.Common.{refl, sym, subst}
 use Rattle.euler_operators.specs.declared.Op.{Op}
-use Rattle.euler_conditions.specs.Ready.{made}
+use Rattle.euler_conditions.specs.Ready.{HasRoomFor, made}
 use Rattle.low_euler.specs.Room.{AllFit}
 use Rattle.low_euler.proofs.Made.{made_fit}
 use Rattle.low_euler.proofs.making.room_for_op.Goals as goal
@@ -25,3 +26,12 @@ room_for_one-requires-in-Mfkrh c = subst (λ (o : Op). AllFit (made o)) c.in-Mfk
 
 pub room_for_one-requires-in-Part : goal.room_for_one-requires-in-Part
 room_for_one-requires-in-Part c = subst (λ (o : Op). AllFit (made o)) c.in-Part.is (made_fit _ _ c.requires.accepted)
+
+pub returns-in-Mev-clause-ok : goal.returns-in-Mev-clause-ok
+returns-in-Mev-clause-ok c = subst (λ (o : Op). OnOk c.room_for_two.result (HasRoomFor c.room_for_two.new.arena o)) (sym c.in-Mev.is) c.room_for_two.ensures.ok
+
+pub returns-in-Mev-clause-known : goal.returns-in-Mev-clause-known
+returns-in-Mev-clause-known c = λ all. c.room_for_two.ensures.known (subst (HasRoomFor c.args.arena.now) c.in-Mev.is all)
+
+pub returns-in-Kvfs-clause-known : goal.returns-in-Kvfs-clause-known
+returns-in-Kvfs-clause-known c = λ all. refl
