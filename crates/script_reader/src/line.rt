@@ -3,13 +3,11 @@ ghost use Rattle.std.specs.Prelude.{◌≡◌};
 ghost use Rattle.script_reader.specs.Words.{words};
 ghost use Rattle.script_reader.specs.Grammar.{is_comment, command_of_words, command_of};
 
+use super::buffer::LINE_LIMIT;
 use super::command::{Command, Fault};
 use super::commands::arguments;
 use super::name::name_of;
 use super::words::next_word;
-
-/// A line has at most so many bytes, without its newline.
-const LINE_LIMIT: usize = 65_536;
 
 fn is_comment(word: &[u8]) -> bool
     ensures { result ≡ is_comment word.now }

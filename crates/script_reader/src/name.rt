@@ -29,7 +29,6 @@ pub enum Name {
     List,
 }
 
-/// The name of three letters.
 #[inline(always)]
 fn of_three(a: &u8, b: &u8, c: &u8) -> Option<Name>
     ensures { result ≡ name_of (a.now ∷ b.now ∷ c.now ∷ []) }
@@ -43,7 +42,6 @@ fn of_three(a: &u8, b: &u8, c: &u8) -> Option<Name>
     }
 }
 
-/// The name of four letters.
 #[inline(always)]
 fn of_four(a: &u8, b: &u8, c: &u8, d: &u8) -> Option<Name>
     ensures { result ≡ name_of (a.now ∷ b.now ∷ c.now ∷ d.now ∷ []) }
@@ -61,7 +59,6 @@ fn of_four(a: &u8, b: &u8, c: &u8, d: &u8) -> Option<Name>
     }
 }
 
-/// The name of five letters.
 #[inline(always)]
 fn of_five(a: &u8, b: &u8, c: &u8, d: &u8, e: &u8) -> Option<Name>
     ensures { result ≡ name_of (a.now ∷ b.now ∷ c.now ∷ d.now ∷ e.now ∷ []) }
@@ -78,7 +75,6 @@ fn of_five(a: &u8, b: &u8, c: &u8, d: &u8, e: &u8) -> Option<Name>
     }
 }
 
-/// The name of six letters.
 #[inline(always)]
 fn of_six(a: &u8, b: &u8, c: &u8, d: &u8, e: &u8, f: &u8) -> Option<Name>
     ensures { result ≡ name_of (a.now ∷ b.now ∷ c.now ∷ d.now ∷ e.now ∷ f.now ∷ []) }
