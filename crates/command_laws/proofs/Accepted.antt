@@ -1,7 +1,7 @@
 -- When a block, a lamina and a sweep are accepted.
 use Rattle.std.specs.Prelude.{nat_le, length, map}
 use Rattle.std.specs.List.{list_all, list_any}
-use Rattle.std.proofs.Common.{◌≡◌, ℕ, ◌+◌, ◌*◌, ◌≤◌, Bool, true, false, not, cond, nat_eq, ◌&&◌, ◌||◌, List, [], ◌∷◌, ◌++◌, Some, None, is_some, refl, sym, ap, subst, ◌∙◌, arith, true≢false, inl, inr}
+use Rattle.std.proofs.Common.{◌≡◌, ℕ, ◌+◌, ◌*◌, ◌≤◌, Bool, true, false, not, cond, nat_eq, ◌&&◌, ◌||◌, List, [], ◌∷◌, ◌++◌, Some, None, is_some, refl, sym, ap, subst, ◌∙◌, arith, true≢false}
 use Rattle.std.proofs.lemmas.Bool.{and_parts, eq-eqb, eqb-true}
 use Rattle.std.proofs.lemmas.Bool.Decides.{nat_tests, eqb_tells}
 use Rattle.std.proofs.lemmas.List.{length-map}
@@ -9,7 +9,7 @@ use Rattle.euler_operators.specs.declared.Point.{Point}
 use Rattle.euler_operators.specs.Points.{is_in_range}
 use Rattle.euler_operators.specs.Vectors.{moved, same_point}
 use Rattle.euler_operators.specs.Table as table
-use Rattle.euler_operators.specs.Model.{Model, LoopContent, LoopRow, lone, cycle, content, outer, point_of}
+use Rattle.euler_operators.specs.Model.{Model, LoopRow, content, outer, point_of}
 use Rattle.euler_operators.specs.Conditions.{is_lone, lists}
 use Rattle.euler_operators.proofs.Models.{content_row}
 use Rattle.euler_operators.proofs.Tables.{first_where_zero, none_all_where}
@@ -30,9 +30,7 @@ within k n l = grind (arith, nat_tests)
 
 pub blocks_fit : BlocksFit
 unfolding block_conditions taken_in
-blocks_fit m s p dx dy dz number free x y z near far left =
-    none_refuses (block_conditions (held m) s p dx dy dz) (number also ap not free also x also y also z also near also far also within _ 1000000 left.of_faces also within _ 1000000 left.of_loops
-    also within _ 1000000 left.of_edges also within _ 1000000 left.of_vertices also tt)
+blocks_fit m s p dx dy dz number free x y z near far left = grind (arith, none_refuses, within, left.of_faces, left.of_loops, left.of_edges, left.of_vertices)
 
 -- ---- a lamina
 
@@ -71,10 +69,7 @@ all_new (p ∷ ps) = (refl, all_new ps)
 
 pub laminas_fit : LaminasFit
 unfolding lamina_conditions taken_in
-laminas_fit m s ps number free many near apart left =
-    none_refuses (lamina_conditions (held m) s ps) (number also ap not free also within 3 (length ps) many also ap (λ o. not (is_some o)) (all_near 0 ps near)
-    also ap (λ o. not (is_some o)) (none_repeated [] 0 ps (all_new ps) apart) also within _ 1000000 left.of_faces also within _ 1000000 left.of_loops
-    also within _ 1000000 left.of_edges also within _ 1000000 left.of_vertices also tt)
+laminas_fit m s ps number free many near apart left = grind (arith, none_refuses, within, all_near, none_repeated, all_new, left.of_faces, left.of_loops, left.of_edges, left.of_vertices)
 
 -- ---- a sweep of a face without rings
 
@@ -92,24 +87,16 @@ module _ {M : Model} {f s : ℕ} {ps : List Point} (face : IsFaceOf M f s ps) wh
   corners_on = ap (λ rs. vertices_in M (outer M f ∷ rs)) face.plain
 
   outer_cycles : 2 ≤ length ps → is_lone (content M (outer M f)) ≡ false
-  outer_cycles l = go (content M (outer M f)) refl where
-    go : (x : LoopContent) → content M (outer M f) ≡ x → is_lone (content M (outer M f)) ≡ false
-    go (lone v) e = absurd (omega (arith, l, many, ap length (corners_on ∙ ap (λ y. vertices_on M y ++ []) e)))
-    go (cycle hs) e = ap is_lone e
+  outer_cycles l = grind (arith, many, corners_on)
 
   pub none_lone : 2 ≤ length ps → least_lone M (f ∷ []) ≡ None
   none_lone l = ap found (first_where_zero (λ _ row. is_lone row.content && lists (f ∷ []) row.face) M.loops (λ q y at. each q y at (nat_eq f y.face) refl)) where
     outer_is : (q : ℕ) (y : LoopRow) → (nat_eq y.face f && not (nat_eq (outer M f) q)) ≡ false → f ≡ y.face → outer M f ≡ q
-    outer_is q y e same = elim (eqb_tells (outer M f) q) [
-      | inl p ↦ p.1
-      | inr p ↦ absurd (true≢false (sym ((λ i. eq-eqb y.face f (sym same) i && not (p.0 i))) ∙ e))
-    ]
+    outer_is q y e same = grind (arith, eqb_tells, eq-eqb)
 
     each : (q : ℕ) (y : LoopRow) → table.get M.loops q ≡ Some y → (b : Bool) → nat_eq f y.face ≡ b → (is_lone y.content && (nat_eq f y.face || false)) ≡ false
-    each q y at false e = ap (λ b. is_lone y.content && (b || false)) e ∙ and_false (is_lone y.content)
-    each q y at true e =
-        let o = outer_is q y (none_all_where (λ l row. nat_eq row.face f && not (nat_eq (outer M f) l)) M.loops face.plain q y at) (eqb-true f y.face e) in
-        ap (λ x. is_lone x && (nat_eq f y.face || false)) (sym (content_row M q y at) ∙ ap (content M) (sym o)) ∙ ap (λ b. b && (nat_eq f y.face || false)) (outer_cycles l)
+    each q y at false e = grind (arith, and_false)
+    each q y at true e = grind (arith, outer_is, none_all_where, face.plain, eqb-true, content_row, outer_cycles)
 
 pub sweeps_fit : SweepsFit
 unfolding prism_conditions taken_in

@@ -75,18 +75,15 @@ module _ (M : Model) (s : ℕ) (p : Point) (dx dy dz : ℤ) (sound : Sound M) (g
 
   block_keeps : (l : ℕ) → Has M.loops l → table.get (block_model M s p dx dy dz).loops l ≡ table.get M.loops l
   unfolding block_model
-  block_keeps l there = let row = lamina_keeps M s (base_of p dx dy) l there in
-      prism_keeps_loops base (lamina_face M) (up_by dz) base_sound (bases_rise M s p dx dy dz sound goes) l (ap is_some row ∙ there) (old_face l there) ∙ row
+  block_keeps l there = grind (arith, lamina_keeps, prism_keeps_loops, base_sound, bases_rise, old_face) steps 400000
 
   block_keeps_rows : (e : ℕ) → Has M.edges e → table.get (block_model M s p dx dy dz).edges e ≡ table.get M.edges e
   unfolding block_model
-  block_keeps_rows e there = let row = lamina_keeps_rows M s (base_of p dx dy) sound based e there in
-      prism_keeps_edges base (lamina_face M) (up_by dz) e (ap is_some row ∙ there) ∙ row
+  block_keeps_rows e there = grind (arith, lamina_keeps_rows, based, prism_keeps_edges)
 
   block_keeps_places : (v : ℕ) → Has M.vertices v → table.get (block_model M s p dx dy dz).vertices v ≡ table.get M.vertices v
   unfolding block_model
-  block_keeps_places v there = let row = lamina_keeps_places M s (base_of p dx dy) v there in
-      prism_keeps_points base (lamina_face M) (up_by dz) v (ap is_some row ∙ there) ∙ row
+  block_keeps_places v there = grind (arith, lamina_keeps_places, prism_keeps_points)
 
   block_keeps_rings : (k : ℕ) → Has M.faces k → rings_of (block_model M s p dx dy dz) k ≡ rings_of M k
   unfolding block_model

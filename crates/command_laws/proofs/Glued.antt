@@ -1,7 +1,7 @@
 -- The solids and the faces that are there after a glue.
 use Rattle.std.specs.Prelude.{nat_eq, unwrap_or}
 use Rattle.std.specs.Option.{option_map}
-use Rattle.std.proofs.Common.{◌≡◌, ◌≢◌, ℕ, cond, Option, Some, None, is_some, refl, ap, ◌∙◌, ne_eqb}
+use Rattle.std.proofs.Common.{◌≡◌, ◌≢◌, ℕ, cond, Option, Some, None, is_some, refl, ap, ◌∙◌, ne_eqb, arith}
 use Rattle.std.proofs.lemmas.Bool.{eqb-false, not-true}
 use Rattle.euler_operators.specs.Table as table
 use Rattle.euler_operators.specs.Model.{Model, FaceRow, no_face, solid_of}
@@ -31,10 +31,7 @@ unfolding glue_model
 second_goes M f g = get-remove_here M.solids (solid_of M g)
 
 pub glues_join_solids : GluesJoinSolids
-glues_join_solids before after f g sound made = (
-  ap (λ m. table.has (held m).solids (solid_of (held before) f)) made.1 ∙ first_stays (held before) f g sound made.0,
-  ap (λ m. table.has (held m).solids (solid_of (held before) g)) made.1 ∙ ap is_some (second_goes (held before) f g),
-)
+glues_join_solids before after f g sound made = grind (arith, first_stays, second_goes)
 
 -- ---- faces
 

@@ -1,5 +1,5 @@
 -- What a glue leaves as it was.
-use Rattle.std.proofs.Common.{◌≡◌, ℕ, sym, ap, subst, ◌∙◌}
+use Rattle.std.proofs.Common.{◌≡◌, ℕ, sym, ap, ◌∙◌, arith}
 use Rattle.euler_operators.specs.HalfEdge.{edge_of}
 use Rattle.euler_operators.specs.Table as table
 use Rattle.euler_operators.specs.Model.{Model, face_of, solid_of}
@@ -30,9 +30,7 @@ module _ (before after : Machine) (f g : ℕ) (made : IsGlue before after f g) w
 
   -- no loop more is of a face that was there
   adds_none : Sound M → (k : ℕ) → OfOthersBut M (solid_of M g) f k → (l : ℕ) → Has (held after).loops l → face_of (held after) l ≡ k → table.get (held after).loops l ≡ table.get M.loops l
-  adds_none sound k alone l = subst (λ X. Has X.loops l → face_of X l ≡ k → table.get X.loops l ≡ table.get M.loops l) (sym after_is) (λ has of.
-      let was = loop_was (facing sound) l has in
-      loop_stays (facing sound) l was.0 (λ e. alone.1 (sym of ∙ was.1 ∙ e)) (λ e. alone.0 (ap (solid_of M) (sym of ∙ was.1) ∙ e)))
+  adds_none sound k alone l = grind (arith, after_is, loop_was, facing, loop_stays)
 
 -- ---- the laws
 

@@ -34,10 +34,7 @@ glue_is M f g = sym (glued_along_is M f g (rim M g) (rim M f))
 
 -- a row that is there once another went was there before
 pub still_there : {X : Type 0} (t : Table X) (n q : ℕ) (x : X) → table.get (table.remove t n) q ≡ Some x → table.get t q ≡ Some x
-still_there t n q x at = elim (eqb_tells q n) [
-  | inl e ↦ absurd (true≢false (ap is_some (sym at) ∙ ap is_some (ap (table.get (table.remove t n)) e.1 ∙ get-remove_here t n)))
-  | inr e ↦ sym (get-remove_other t n q e.1) ∙ at
-]
+still_there t n q x at = grind (arith, eqb_tells, get-remove_here, get-remove_other)
 
 module _ {M : Model} {f g : ℕ} {partner_of : ℕ → ℕ} {hs : List ℕ} {x : ℕ} (w : Facing M f g partner_of hs x) where
   abbrev N : Model

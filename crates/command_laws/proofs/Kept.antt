@@ -4,12 +4,12 @@ use Rattle.std.proofs.Common.{◌≡◌, ℕ, zero, suc, ◌+◌, ◌≤◌, ◌
 use Rattle.euler_operators.specs.declared.Point.{Point}
 use Rattle.euler_operators.specs.Table as table
 use Rattle.euler_operators.specs.Table.{Table}
-use Rattle.euler_operators.specs.Model.{Model, empty_model, items_of, content, solid_of}
+use Rattle.euler_operators.specs.Model.{Model, empty_model}
 use Rattle.euler_operators.proofs.Tables.{get-put_other}
 use Rattle.shapes.specs.Faces.{loops_of}
 use Rattle.shapes.specs.Fresh.{Growing, Taken, growing, taken_in}
 use Rattle.shapes.specs.Lamina.{lamina_model, lamina_face}
-use Rattle.shapes.specs.Prism.{raised, prism_from, prism_model, riser, top_edge, with_side, with_sides}
+use Rattle.shapes.specs.Prism.{raised, prism_from, prism_model, with_side, with_sides}
 use Rattle.shapes.specs.Block.{base_of, block_model}
 use Rattle.sweeps_laws.proofs.swept.Numbers.{riser_above, top_above}
 use Rattle.undo_journal.specs.Machine.{held}
@@ -26,45 +26,24 @@ pub record Keeps (M N : Model) (c : Taken) : Type 0 where
 
 side_keeps : (c : Taken) (s : ℕ) (d : Point) (hs : List ℕ) (i : ℕ) (M : Model) → i < length hs → Keeps M (with_side c s d hs i M) c
 unfolding with_side
-side_keeps c s d hs i M l = record {
-  solids = refl;
-  faces = λ q m. get-put_other M.faces (c.face + 1 + i) _ q (λ z. absurd (omega (arith, m, z)));
-  edges = λ q m. get-put_other (table.put M.edges (riser c.edge i) _) (top_edge c.edge (length hs) i) _ q (λ z. absurd (omega (arith, m, top_above c.edge (length hs) i l, z)))
-      ∙ get-put_other M.edges (riser c.edge i) _ q (λ z. absurd (omega (arith, m, riser_above c.edge i, z)));
-  vertices = λ q m. get-put_other M.vertices (c.vertex + 1 + i) _ q (λ z. absurd (omega (arith, m, z)));
-}
+side_keeps c s d hs i M l = grind (arith, get-put_other, top_above, riser_above)
 
 sides_keep : (c : Taken) (s : ℕ) (d : Point) (hs : List ℕ) (M : Model) (n : ℕ) → n ≤ length hs → Keeps M (with_sides c s d hs n M) c
-sides_keep c s d hs M zero l = record { solids = refl; faces = λ q m. refl; edges = λ q m. refl; vertices = λ q m. refl }
-sides_keep c s d hs M (suc n) l =
-    let a = sides_keep c s d hs M n (omega (arith, l)) in
-    let b = side_keeps c s d hs n (with_sides c s d hs n M) l in
-    record { solids = b.solids ∙ a.solids; faces = λ q m. b.faces q m ∙ a.faces q m; edges = λ q m. b.edges q m ∙ a.edges q m; vertices = λ q m. b.vertices q m ∙ a.vertices q m }
+sides_keep c s d hs M zero l = grind arith
+sides_keep c s d hs M (suc n) l = grind (arith, sides_keep c s d hs M n (omega (arith, l)), side_keeps)
 
 module _ (f : ℕ) (d : Point) where
   loop_keeps : (g : Growing) (l : ℕ) → Keeps g.model (raised f d g l).model g.taken
   unfolding raised
-  loop_keeps g l =
-      let hs = items_of (content g.model l) in
-      let w = sides_keep g.taken (solid_of g.model f) d hs g.model (length hs) (omega arith) in
-      record { solids = w.solids; faces = w.faces; edges = w.edges; vertices = w.vertices }
+  loop_keeps g l = grind (arith, sides_keep)
 
   taken_more : (g : Growing) (l : ℕ) → let c = g.taken in let t = (raised f d g l).taken in (c.face ≤ t.face) × (c.edge ≤ t.edge) × (c.vertex ≤ t.vertex)
   unfolding raised
   taken_more g l = (omega arith, omega arith, omega arith)
 
   loops_keep : (ls : List ℕ) (g : Growing) → Keeps g.model (prism_from f d g ls).model g.taken
-  loops_keep [] g = record { solids = refl; faces = λ q m. refl; edges = λ q m. refl; vertices = λ q m. refl }
-  loops_keep (l ∷ ls) g =
-      let a = loop_keeps g l in
-      let b = loops_keep ls (raised f d g l) in
-      let t = taken_more g l in
-      record {
-        solids = b.solids ∙ a.solids;
-        faces = λ q m. b.faces q (omega (arith, m, t.0)) ∙ a.faces q m;
-        edges = λ q m. b.edges q (omega (arith, m, t.1)) ∙ a.edges q m;
-        vertices = λ q m. b.vertices q (omega (arith, m, t.2)) ∙ a.vertices q m;
-      }
+  loops_keep [] g = grind arith
+  loops_keep (l ∷ ls) g = grind (arith, loops_keep ls (raised f d g l), loop_keeps, taken_more)
 
 pub prism_keeps : (M : Model) (f : ℕ) (d : Point) → Keeps M (prism_model M f d) (taken_in M)
 unfolding prism_model

@@ -1,6 +1,6 @@
 -- The two faces of a lamina.
-use Rattle.std.specs.Prelude.{length, map, reverse, take, nat_le}
-use Rattle.std.proofs.Common.{◌≡◌, ℕ, zero, suc, ◌+◌, ◌≤◌, ◌<◌, true, List, [], ◌∷◌, ◌++◌, None, is_some, refl, sym, ap, subst, ◌∙◌, arith, inl, inr}
+use Rattle.std.specs.Prelude.{length, map, reverse, take}
+use Rattle.std.proofs.Common.{◌≡◌, ℕ, zero, suc, ◌+◌, ◌≤◌, ◌<◌, List, [], ◌∷◌, None, is_some, refl, sym, ap, subst, ◌∙◌, arith, inl, inr}
 use Rattle.std.proofs.lemmas.List.{map-append, reverse-append}
 use Rattle.std.proofs.lemmas.Bool.Decides.{nat_tests, eqb_tells}
 use Rattle.euler_operators.specs.declared.Point.{Point}
@@ -62,13 +62,11 @@ module _ (M : Model) (c : Taken) (s : ℕ) (a b : Point) (rest : List Point) (bo
 
   out_starts : (k : ℕ) → k ≤ suc (suc (length rest)) → map (start drawn) (out c.edge k) ≡ take k ps
   out_starts zero m = refl
-  out_starts (suc k) m = map-append (start drawn) (out c.edge k) (plus (c.edge + suc k) ∷ [])
-      ∙ (λ t. out_starts k (omega (arith, m)) t ++ plus_at k m t ∷ []) ∙ sym (take_next ps k m)
+  out_starts (suc k) m = grind (arith, out_starts k (omega (arith, m)), map-append, plus_at, take_next)
 
   earlier_starts : (j : ℕ) → j ≤ length rest → map (start drawn) (earlier c.edge j) ≡ reverse (take j rest)
   earlier_starts zero m = refl
-  earlier_starts (suc j) m = (λ t. minus_at (suc j) (omega (arith, m)) t ∷ earlier_starts j (omega (arith, m)) t)
-      ∙ sym (reverse-append (take j rest) (nth rest j ∷ [])) ∙ ap reverse (sym (take_next rest j m))
+  earlier_starts (suc j) m = grind (arith, earlier_starts j (omega (arith, m)), minus_at, reverse-append, take_next)
 
   -- ---- the faces
 
@@ -110,9 +108,7 @@ greatest_drawn M c s ps low = greatest-put_last (table.put M.faces (c.face + 1) 
 
 many_points : (M : Model) (s : ℕ) (ps : List Point) → lamina_refusal M s ps ≡ None → 3 ≤ length ps
 unfolding lamina_conditions
-many_points M s ps e = three (length ps) (all_hold (lamina_conditions M s ps) e).1.1.0 where
-  three : (n : ℕ) → nat_le 3 n ≡ true → 3 ≤ n
-  three n e = grind (arith, nat_tests)
+many_points M s ps e = grind (arith, nat_tests, all_hold)
 
 -- of any list of three points or more
 two_faces : (M : Model) (s : ℕ) (ps : List Point) → 3 ≤ length ps → Bounded M (taken_in M) → Sound (lamina_at M (taken_in M) s ps) →

@@ -1,6 +1,6 @@
 -- A closed path that is moved keeps its area.
 use Rattle.std.specs.Prelude.{length, get_or, map}
-use Rattle.std.proofs.Common.{◌≡◌, ℕ, zero, suc, ◌+◌, ◌<◌, List, [], ◌∷◌, refl, sym, ap, subst, ◌∙◌, arith, inl, inr}
+use Rattle.std.proofs.Common.{◌≡◌, ℕ, zero, suc, ◌<◌, List, [], ◌∷◌, refl, sym, ap, subst, ◌∙◌, arith}
 use Rattle.euler_operators.specs.declared.Point.{Point}
 use Rattle.euler_operators.specs.Vectors.{moved, cross}
 use Rattle.euler_operators.proofs.Sweeps.{sum_to, sum_first, same_sum, moved_at, Linked}
@@ -48,14 +48,10 @@ module _ {M N : Model} (d : Point) {f g l k : ℕ} {hs ts : List ℕ} (was : IsP
       ∙ start_at (next_place (length hs) i) (next_within (length hs) i m) ∙ ap (λ p. moved p d) (sym (was.linked i m))
 
   linked : Linked from_at to_at d (length hs)
-  linked i m = was.linked i (omega (arith, m)) ∙ ap from_at (elim (next_cases (length hs) i) [ inl e ↦ absurd (omega (arith, m, e.0)) | inr e ↦ e.1 ∙ one_more i ]) where
-    one_more : (i : ℕ) → i + 1 ≡ suc i
-    one_more i = omega arith
+  linked i m = grind (arith, was.linked, next_cases)
 
   closed : (m : ℕ) → suc m ≡ length hs → to_at m ≡ from_at 0
-  closed m e = was.linked m (omega (arith, e)) ∙ ap from_at (elim (next_cases (length hs) m) [ inl p ↦ p.1 | inr p ↦ absurd (p.0 (last m (length hs) e)) ]) where
-    last : (m n : ℕ) → suc m ≡ n → m + 1 ≡ n
-    last m n e = omega arith
+  closed m e = grind (arith, was.linked, next_cases)
 
   pub area_kept : area N ts ≡ area M hs
   area_kept = area_sum N ts

@@ -1,5 +1,5 @@
 -- The counts of a lamina and of a block.
-use Rattle.std.proofs.Common.{◌≡◌, ◌≢◌, ℕ, ◌+◌, ◌-◌, ◌*◌, ◌<◌, ℤ, pos, ◌-ℤ◌, true, false, nat_eq, nat_le, List, [], ◌∷◌, append-nil, length, None, is_some, refl, sym, ap, subst, ◌∙◌, arith, true≢false, ◌⊎◌, inl, inr}
+use Rattle.std.proofs.Common.{◌≡◌, ◌≢◌, ℕ, ◌+◌, ◌-◌, ◌*◌, ◌<◌, ℤ, pos, true, false, nat_eq, nat_le, List, [], append-nil, length, None, is_some, refl, sym, ap, subst, ◌∙◌, arith, true≢false, ◌⊎◌, inl, inr}
 use Rattle.std.proofs.lemmas.Int.{ints}
 use Rattle.std.proofs.lemmas.Bool.Decides.{nat_tests, eqb_tells}
 use Rattle.std.proofs.lemmas.Bool.{ne_eqb, eqb-false, not-true}
@@ -7,7 +7,7 @@ use Rattle.euler_operators.specs.declared.Point.{Point}
 use Rattle.euler_operators.specs.HalfEdge.{edge_of, plus}
 use Rattle.euler_operators.specs.Table as table
 use Rattle.euler_operators.specs.Table.{Table}
-use Rattle.euler_operators.specs.Model.{Model, EdgeRow, content, faces_of, items_of, outer, rings_of, solid_of}
+use Rattle.euler_operators.specs.Model.{Model, EdgeRow, faces_of, rings_of, solid_of}
 use Rattle.euler_operators.specs.Sound.{Sound, Has}
 use Rattle.euler_operators.specs.Conditions.{face_at, lists}
 use Rattle.euler_operators.proofs.Models.{face_row, solid_row, loop_there, plus_there}
@@ -16,7 +16,7 @@ use Rattle.euler_laws.specs.Laws.{size}
 use Rattle.euler_laws.proofs.Sizes.{size-put_new}
 use Rattle.euler_laws.proofs.shared.Goes.{all_hold}
 use Rattle.shapes.specs.Block.{base_of, block_refusal, block_model}
-use Rattle.shapes.specs.Faces.{boundary, corners_in, edges_of, items_in, loops_of, vertices_of}
+use Rattle.shapes.specs.Faces.{boundary, corners_in, edges_of, loops_of, vertices_of}
 use Rattle.shapes.specs.Fresh.{Taken, taken_in}
 use Rattle.shapes.specs.Lamina.{lamina_conditions, lamina_face, lamina_refusal, lamina_at, lamina_model, with_points, with_path, with_ring}
 use Rattle.shapes.specs.Prism.{prism_model, prism_refusal}
@@ -65,9 +65,7 @@ module _ {X : Type 0} (t : Table X) (a : ℕ) (x y : X) where
   two_kept q m n = get-put_other (table.put t (a + 1) x) (a + 2) y q n ∙ get-put_other t (a + 1) x q m
 
   two_size : ((q : ℕ) → a < q → table.get t q ≡ None) → size two ≡ size t + 2
-  two_size free = size-put_new (table.put t (a + 1) x) (a + 2) y (get-put_other t (a + 1) x (a + 2) (λ e. absurd (omega (arith, e))) ∙ free (a + 2) (omega arith)) ∙ ap (λ n. n + 1) (size-put_new t (a + 1) x (free (a + 1) (omega arith))) ∙ added (size t) where
-    added : (n : ℕ) → n + 1 + 1 ≡ n + 2
-    added n = omega arith
+  two_size free = grind (arith, size-put_new, get-put_other)
 
 -- ---- the edges of a lamina
 
@@ -144,12 +142,7 @@ module _ (M : Model) (s : ℕ) (ps : List Point) (sound : Sound M) (goes : lamin
       (two_size M.loops (table.greatest M.loops) _ _ (λ q a. none_above M.loops q a))
 
 told : (n : ℕ) → tally_of (0 + n) (0 + n) (0 + 2) 0 ≡ record { v = n; e = n; f = 2; r = 0; sum = pos 2 }
-told n = λ i. record { v = none n i; e = none n i; f = 2; r = 0; sum = two n i } where
-  none : (n : ℕ) → 0 + n ≡ n
-  none n = omega arith
-
-  two : (n : ℕ) → pos (0 + n + (0 + 2)) -ℤ pos (0 + n + 0) ≡ pos 2
-  two n = omega (arith, ints)
+told n = grind (arith, ints)
 
 pub model_counts : (M : Model) (s : ℕ) (ps : List Point) → Sound M → lamina_refusal M s ps ≡ None → let n = length ps in counts (lamina_model M s ps) s ≡ record { v = n; e = n; f = 2; r = 0; sum = pos 2 }
 unfolding lamina_model
@@ -174,9 +167,7 @@ lamina_keeps_counts before after s ps u sound made ne = ap (λ m. counts (held m
 -- the half-edges of a face without rings are as many as its corners
 as_corners : (M : Model) (f : ℕ) (d : Point) (ps : List Point) → Sound M → prism_refusal M f d ≡ None → rings_of M f ≡ [] → corner_points M f ≡ ps → length (boundary M f) ≡ length ps
 unfolding boundary loops_of
-as_corners M f d ps sound goes plain is =
-    let hs = items_of (content M (outer M f)) in
-    ap (λ rs. length (items_in M (outer M f ∷ rs))) plain ∙ ap length (append-nil hs) ∙ sym (as_many M hs) ∙ ap length (sym (before_points M f d sound goes plain)) ∙ ap length is
+as_corners M f d ps sound goes plain is = grind (arith, ints, append-nil, as_many, before_points)
 
 pub block_model_counts : (M : Model) (s : ℕ) (p : Point) (dx dy dz : ℤ) → Sound M → block_refusal M s p dx dy dz ≡ None → counts (block_model M s p dx dy dz) s ≡ record { v = 8; e = 12; f = 6; r = 0; sum = pos 2 }
 unfolding block_model
@@ -198,12 +189,7 @@ block_counts before after s p dx dy dz sound made = ap (λ m. counts (held m) s)
 
 block_model_keeps : (M : Model) (s : ℕ) (p : Point) (dx dy dz : ℤ) (u : ℕ) → Sound M → block_refusal M s p dx dy dz ≡ None → u ≢ s → counts (block_model M s p dx dy dz) u ≡ counts M u
 unfolding block_model
-block_model_keeps M s p dx dy dz u sound goes ne =
-    let ps = base_of p dx dy in
-    let base = lamina_model M s ps in
-    let fits = blocks_have_bases M s p dx dy dz goes in
-    let face = (lamina_faces M s ps sound fits).0 in
-    model_keeps_counts base (lamina_face M) (up_by dz) u (lamina_is_sound M s ps sound fits) (bases_rise M s p dx dy dz sound goes) (λ e. ne (e ∙ face.solid)) ∙ model_keeps M s ps u sound fits ne
+block_model_keeps M s p dx dy dz u sound goes ne = grind (arith, blocks_have_bases, lamina_faces, model_keeps_counts, lamina_is_sound, bases_rise, model_keeps)
 
 pub block_keeps_counts : BlockKeepsCounts
 block_keeps_counts before after s p dx dy dz u sound made ne = ap (λ m. counts (held m) u) made.1 ∙ block_model_keeps (held before) s p dx dy dz u sound made.0 ne

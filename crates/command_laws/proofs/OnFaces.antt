@@ -1,19 +1,15 @@
 -- Half-edges and vertices on the loops of faces.
-use Rattle.std.proofs.Common.{◌≡◌, ℕ, sym, ap, subst, ◌⊎◌, inl, inr}
+use Rattle.std.proofs.Common.{◌≡◌, ℕ, subst, ◌⊎◌, inl, inr, arith}
 use Rattle.euler_operators.specs.Items.{IsIn}
 use Rattle.euler_operators.proofs.Maps.{from_map}
-use Rattle.euler_operators.proofs.Members.{IsIn_one}
-use Rattle.euler_operators.specs.Model.{Model, LoopContent, lone, cycle, items_of, tail, content, loop_of}
+use Rattle.euler_operators.specs.Model.{Model, lone, items_of, tail, content, loop_of}
 use Rattle.euler_operators.specs.Sound.{Sound, Has}
 use Rattle.euler_operators.proofs.Models.{item_there, in-holds}
 use Rattle.shapes.specs.Faces.{vertices_on}
 
 -- a vertex on a loop is that of the lone loop, or some item starts there
 pub vertex_cases : (M : Model) (l v : ℕ) → IsIn v (vertices_on M (content M l)) → (content M l ≡ lone v) ⊎ ((h : ℕ) × IsIn h (items_of (content M l)) × (tail M h ≡ v))
-vertex_cases M l v i = go (content M l) i where
-  go : (c : LoopContent) → IsIn v (vertices_on M c) → (c ≡ lone v) ⊎ ((h : ℕ) × IsIn h (items_of c) × (tail M h ≡ v))
-  go (lone w) i = inl (ap lone (sym (IsIn_one w v i)))
-  go (cycle hs) i = let p = from_map (tail M) v hs i in inr (p.0, p.1, sym p.2)
+vertex_cases M l v i = grind (arith, from_map)
 
 module _ (M : Model) (sound : Sound M) where
   pub item_loop : (l h : ℕ) → IsIn h (items_of (content M l)) → loop_of M h ≡ l

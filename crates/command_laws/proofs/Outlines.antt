@@ -14,7 +14,7 @@ use Rattle.sweeps_laws.proofs.FromSound.{sound_path}
 use Rattle.euler_operators.proofs.Members.{IsIn_rest}
 use Rattle.euler_operators.proofs.Rotations.{IsIn_head}
 use Rattle.euler_laws.proofs.shared.Loops.{loop_sound, IsLoop}
-use Rattle.shapes.specs.Faces.{start, finish, loops_of, items_in, boundary, corners, vertices_in, vertices_on}
+use Rattle.shapes.specs.Faces.{start, finish, loops_of, boundary, corners}
 use Rattle.shapes.specs.Measure.{area, normal, anchor, first_vertex, plane_through, plane_of}
 use Rattle.command_laws.specs.NewFaces.{corner_points, nth, area_to, plane_round}
 
@@ -65,15 +65,11 @@ module _ (M : Model) (sound : Sound M) (f l : ℕ) (hs : List ℕ) (at : table.g
 module _ (M : Model) (f l : ℕ) (hs : List ℕ) (plain : rings_of M f ≡ []) (out : outer M f ≡ l) (is : content M l ≡ cycle hs) where
   pub points_are : corner_points M f ≡ map (start M) hs
   unfolding corners loops_of
-  points_are = ap (λ rs. map (point_of M) (vertices_in M (outer M f ∷ rs))) plain
-      ∙ ap (λ q. map (point_of M) (vertices_on M (content M q) ++ [])) out
-      ∙ ap (λ x. map (point_of M) (vertices_on M x ++ [])) is
-      ∙ ap (map (point_of M)) (append-nil (map (tail M) hs)) ∙ starts_are M hs
+  points_are = grind (arith, append-nil, starts_are)
 
   normal_is : normal M f ≡ area M hs
   unfolding normal boundary loops_of
-  normal_is = ap (λ rs. area M (items_in M (outer M f ∷ rs))) plain ∙ ap (λ q. area M (items_of (content M q) ++ [])) out
-      ∙ ap (λ x. area M (items_of x ++ [])) is ∙ ap (area M) (append-nil hs)
+  normal_is = grind (arith, append-nil)
 
   anchor_is : anchor M f ≡ start M (head_or 0 hs)
   anchor_is = ap (λ q. point_of M (first_vertex M (content M q))) out ∙ ap (λ x. point_of M (first_vertex M x)) is

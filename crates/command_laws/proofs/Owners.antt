@@ -1,5 +1,5 @@
 -- The solid of each face, loop, edge and vertex; and so how many of each a solid has.
-use Rattle.std.proofs.Common.{◌≡◌, ◌≢◌, ℕ, ◌+◌, Bool, true, false, cond, not, nat_eq, ◌||◌, List, [], ◌∷◌, ◌++◌, length, Option, Some, None, is_some, unwrap_or, refl, sym, ap, subst, ◌∙◌, arith, true≢false, inl, inr}
+use Rattle.std.proofs.Common.{◌≡◌, ◌≢◌, ℕ, ◌+◌, Bool, true, false, cond, not, nat_eq, ◌||◌, List, [], ◌∷◌, ◌++◌, length, Option, Some, None, is_some, refl, sym, ap, subst, ◌∙◌, arith, true≢false, inl, inr}
 use Rattle.std.proofs.lemmas.Bool.Decides.{eqb_tells, nat_tests}
 use Rattle.std.proofs.lemmas.Bool.{eq-eqb, eqb-true, false_from_ne_true, not-false}
 use Rattle.std.proofs.lemmas.List.{length-append, append_assoc}
@@ -8,7 +8,7 @@ use Rattle.euler_operators.specs.Items.{count, IsIn, IsApart}
 use Rattle.euler_operators.specs.HalfEdge.{edge_of, plus}
 use Rattle.euler_operators.specs.Table as table
 use Rattle.euler_operators.specs.Table.{Table, all_in}
-use Rattle.euler_operators.specs.Model.{Model, LoopContent, FaceRow, LoopRow, no_loop, lone, cycle, items_of, holds, content, face_of, loop_of, solid_of, tail, rings_of, faces_of}
+use Rattle.euler_operators.specs.Model.{Model, LoopContent, FaceRow, LoopRow, lone, cycle, items_of, holds, content, face_of, loop_of, solid_of, tail, rings_of, faces_of}
 use Rattle.euler_operators.specs.Sound.{Sound, Has, HasHalf, StandsIn}
 use Rattle.euler_operators.specs.Conditions.{face_at, lists}
 use Rattle.euler_operators.proofs.Lists.{count-append, tick_same, tick_other, IsIn_or_not}
@@ -81,12 +81,7 @@ not_either s t u a b = grind (arith, nat_tests)
 either_in : {X : Type 0} (p q : ℕ → Bool) → ((k : ℕ) → p k ≡ true → q k ≡ false) → (es : List (ℕ × X)) →
     length (all_in (λ k _. p k || q k) es) ≡ length (all_in (λ k _. p k) es) + length (all_in (λ k _. q k) es)
 either_in p q apart [] = refl
-either_in p q apart (e ∷ es) = one (all_in (λ k _. p k || q k) es) (all_in (λ k _. p k) es) (all_in (λ k _. q k) es) (either_in p q apart es) (p e.0) (q e.0) (apart e.0) where
-  one : (xs ys zs : List ℕ) → length xs ≡ length ys + length zs → (a b : Bool) → (a ≡ true → b ≡ false) → length (cond (a || b) (e.0 ∷ xs) xs) ≡ length (cond a (e.0 ∷ ys) ys) + length (cond b (e.0 ∷ zs) zs)
-  one xs ys zs same true true off = absurd (true≢false (off refl))
-  one xs ys zs same true false off = omega (arith, same)
-  one xs ys zs same false true off = omega (arith, same)
-  one xs ys zs same false false off = same
+either_in p q apart (e ∷ es) = grind (arith, either_in p q apart es)
 
 pub many_either : {X : Type 0} (s t : ℕ) (p : ℕ → ℕ) (rows : Table X) → s ≢ t → many (λ k. is_either s t (p k)) rows ≡ many (λ k. is_of s (p k)) rows + many (λ k. is_of t (p k)) rows
 unfolding table.all_where
@@ -172,10 +167,7 @@ module _ (M : Model) (sound : Sound M) where
   -- each vertex is on a loop
   lone_there : (l v : ℕ) → content M l ≡ lone v → Has M.loops l
   unfolding content
-  lone_there l v e = go (table.get M.loops l) e where
-    go : (o : Option LoopRow) → (unwrap_or o no_loop).content ≡ lone v → is_some o ≡ true
-    go None e = absurd (never_lone [] v e)
-    go (Some row) e = refl
+  lone_there l v e = grind (arith, never_lone)
 
   on_some_loop : (v : ℕ) → Has M.vertices v → (l : ℕ) × Has M.loops l × IsOn M v l
   on_some_loop v there = elim (sound.lone_or_tail v there) [

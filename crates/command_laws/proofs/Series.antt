@@ -14,9 +14,7 @@ module _ {X : Type 0} (F : ℕ → Table X) (a : ℕ) (x : ℕ → X) (step : (n
   -- all other rows are as they were
   pub others_stay : (n q : ℕ) → (q ≤ a) ⊎ (a + n < q) → table.get (F n) q ≡ table.get (F 0) q
   others_stay zero q o = refl
-  others_stay (suc n) q o = ap (λ t. table.get t q) (step n)
-      ∙ get-put_other (F n) (a + suc n) (x n) q (λ e. elim o [ inl l ↦ absurd (omega (arith, l, e)) | inr l ↦ absurd (omega (arith, l, e)) ])
-      ∙ others_stay n q (elim o [ inl l ↦ inl l | inr l ↦ inr (omega (arith, l)) ])
+  others_stay (suc n) q o = grind (arith, others_stay n q (elim o [ inl l ↦ inl l | inr l ↦ inr (omega (arith, l)) ]), get-put_other)
 
   pub one_each : ((q : ℕ) → a < q → table.get (F 0) q ≡ None) → (n : ℕ) → size (F n) ≡ size (F 0) + n
   one_each free zero = omega arith

@@ -179,20 +179,7 @@ module _ (M N : Model) (Alone : ℕ → Type 0) (sound : Sound M) (loops : Keeps
   plane_kept = λ t. plane_through (normal_kept t) (anchor_kept t)
 
   pub stands : StandsAsBefore M N k
-  stands = record {
-    there = ap is_some row ∙ there;
-    solid = same_solid M N k row;
-    outer = outer_kept;
-    rings = rings;
-    points = corners_kept;
-    plane = plane_kept;
-  }
+  stands = grind (arith, same_solid, outer_kept, corners_kept, plane_kept)
 
 pub faces_stand : FacesStand
-faces_stand M N k s ps same was = record {
-  there = same.there;
-  solid = same.solid ∙ was.solid;
-  plain = same.rings ∙ was.plain;
-  points = same.points ∙ was.points;
-  plane = same.plane ∙ was.plane;
-}
+faces_stand M N k s ps same was = grind arith

@@ -79,17 +79,10 @@ filled_size t a x free zero = omega arith
 filled_size t a x free (suc n) = size-put_new (filled t a x n) (a + 1 + n) (x n) (filled_past t a x n (a + 1 + n) (omega arith) ∙ free (a + 1 + n) (omega arith)) ∙ one_more (size (filled t a x n)) (size t) n (filled_size t a x free n)
 
 no_more : (t : Tally) → t ≡ with_more t 0 0 0
-no_more t = λ i. record { v = zero_more t.v i; e = zero_more t.e i; f = zero_more t.f i; r = t.r; sum = t.sum } where
-  zero_more : (n : ℕ) → n ≡ n + 0
-  zero_more n = omega arith
+no_more t = grind arith
 
 both : (t : Tally) (n m : ℕ) → with_more (with_more t n (2 * n) n) m (2 * m) m ≡ with_more t (n + m) (2 * (n + m)) (n + m)
-both t n m = λ i. record { v = once t.v n m i; e = twice t.e n m i; f = once t.f n m i; r = t.r; sum = t.sum } where
-  once : (a n m : ℕ) → a + n + m ≡ a + (n + m)
-  once a n m = omega arith
-
-  twice : (a n m : ℕ) → a + 2 * n + 2 * m ≡ a + 2 * (n + m)
-  twice a n m = omega arith
+both t n m = grind arith
 
 -- one loop swept
 module _ {M : Model} {c : Taken} {f l : ℕ} {d : Point} {hs : List ℕ} (w : Ready M c f l d hs) where

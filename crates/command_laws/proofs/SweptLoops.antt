@@ -46,9 +46,7 @@ more q a n m = omega arith
 -- as many rows put after the greatest number make it as much greater
 filled_last : (t : Table FaceRow) (a : ℕ) (x : ℕ → FaceRow) → table.greatest t ≤ a → (n : ℕ) → 0 < n → table.greatest (filled t a x n) ≡ a + n
 filled_last t a x low zero l = absurd (omega arith)
-filled_last t a x low (suc n) l = greatest-put_last (filled t a x n) (a + 1 + n) (x n) (omega (arith, (filled_greatest t a x low n))) ∙ same a n where
-  same : (a n : ℕ) → a + 1 + n ≡ a + suc n
-  same a n = omega arith
+filled_last t a x low (suc n) l = grind (arith, greatest-put_last, filled_greatest)
 
 -- ---- one loop
 
@@ -97,12 +95,7 @@ module _ {f s : ℕ} (d : Point) {g : Growing} {l : ℕ} {ls : List ℕ} (w : Re
 -- ---- all of them
 
 later_on : (X Y Z : Model) (c : Taken) (n l : ℕ) (ls : List ℕ) → Later X Y c (l ∷ []) → Later Y Z (counted c n) ls → Later X Z c (l ∷ ls)
-later_on X Y Z c n l ls a b = record {
-  faces = λ k m. b.faces k (more k c.face n m) ∙ a.faces k m;
-  rings = λ k m. b.rings k (more k c.face n m) ∙ a.rings k m;
-  loops = λ q m z. b.loops q (more q c.loop n m) (omega (arith, z)) ∙ a.loops q m (omega (arith, z));
-  starts = λ h m. b.starts h (omega (arith, m)) ∙ a.starts h m;
-}
+later_on X Y Z c n l ls a b = grind (arith, a.faces, b.faces, a.rings, b.rings, a.loops, b.loops, a.starts, b.starts)
 
 module _ (f s : ℕ) (d : Point) where
   pub later_all : (ls : List ℕ) (g : Growing) → Ready f s g ls → Later g.model (prism_from f d g ls).model g.taken ls

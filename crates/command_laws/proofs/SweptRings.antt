@@ -216,14 +216,7 @@ module _ (M : Model) (f : ℕ) (d : Point) (sound : Sound M) (goes : prism_refus
   plane_moved = λ i. plane_through (normal_kept i) (anchor_moved i)
 
   pub far_face : IsFarFace M Z f d
-  far_face = record {
-    there = ap is_some same_row ∙ face_there M f d sound goes;
-    solid = same_solid M Z f same_row;
-    loops = same_loops;
-    each_loop = each_moved;
-    points = corners_moved;
-    plane = plane_moved;
-  }
+  far_face = grind (arith, same_row, face_there, same_solid, same_loops, each_moved, corners_moved, plane_moved)
 
   all_counted : table.greatest Z.faces ≡ table.greatest M.faces + length (corners M f)
   unfolding corners

@@ -1,25 +1,25 @@
 -- One loop of a face swept: its new ring and its sides.
 use Rattle.std.specs.Prelude.{length, get_or, map, take}
-use Rattle.std.proofs.Common.{◌≡◌, ℕ, zero, suc, ◌+◌, ◌*◌, ◌≤◌, ◌<◌, List, [], ◌∷◌, ◌++◌, Some, is_some, refl, sym, ap, subst, ◌∙◌, arith, inl, inr}
+use Rattle.std.proofs.Common.{◌≡◌, ℕ, zero, suc, ◌+◌, ◌*◌, ◌≤◌, ◌<◌, List, [], ◌∷◌, Some, is_some, refl, sym, ap, subst, ◌∙◌, arith, inl, inr}
 use Rattle.std.proofs.lemmas.List.{map-append}
 use Rattle.euler_operators.specs.declared.Point.{Point}
 use Rattle.euler_operators.specs.Vectors.{moved}
 use Rattle.euler_operators.specs.Items.{IsIn}
 use Rattle.euler_operators.proofs.Lists.{IsIn_or_not}
 use Rattle.euler_operators.proofs.Members.{IsIn_rest}
-use Rattle.euler_operators.specs.HalfEdge.{edge_of, plus}
+use Rattle.euler_operators.specs.HalfEdge.{edge_of}
 use Rattle.euler_operators.specs.Table as table
 use Rattle.euler_operators.specs.Model.{Model, cycle, items_of, content, point_of, solid_of, rings_of}
 use Rattle.euler_operators.specs.Sound.{Sound, Has}
 use Rattle.euler_operators.proofs.Models.{outer_row, solid_row, same_content}
 use Rattle.shapes.specs.Faces.{start, vertices_on}
 use Rattle.shapes.specs.Fresh.{Taken, Growing}
-use Rattle.shapes.specs.Prism.{top_items, top_edge, next_place}
+use Rattle.shapes.specs.Prism.{top_items, next_place}
 use Rattle.sweeps_laws.proofs.swept.Filled.{filled_new}
 use Rattle.sweeps_laws.proofs.swept.Sides.{side_face, side_items, faces_grown}
 use Rattle.sweeps_laws.proofs.swept.Lifted.{IsPathOf, within, rings_new, content_here, content_new, loop_new, item_start, next_start, top_start, top_finish, riser_finish}
 use Rattle.sweeps_laws.proofs.swept.Kept.{counted}
-use Rattle.command_laws.specs.NewFaces.{nth, all_moved, side_over, IsFaceOf}
+use Rattle.command_laws.specs.NewFaces.{all_moved, side_over, IsFaceOf}
 use Rattle.command_laws.specs.RingedFaces.{loop_points}
 use Rattle.command_laws.proofs.Outlines.{take_next, take_whole, nth_start, as_many, same_starts, starts_are, points_are, plane_is}
 use Rattle.command_laws.proofs.MovedAreas.{moved_many, nth_moved}
@@ -56,11 +56,7 @@ module _ {f s : ℕ} (d : Point) {g : Growing} {l : ℕ} {ls : List ℕ} (w : Re
 
   tops_to : (k : ℕ) → k ≤ length hs → map (start Y) (top_items c.edge (length hs) k) ≡ take k (all_moved d (map (start X) hs))
   tops_to zero m = refl
-  tops_to (suc k) m = map-append (start Y) (top_items c.edge (length hs) k) (plus (top_edge c.edge (length hs) k) ∷ [])
-      ∙ (λ t. tops_to k (omega (arith, m)) t ++ (top_start X c o d hs f l w.bounded r k m ∙ sym (here k m)) t ∷ [])
-      ∙ sym (take_next (all_moved d (map (start X) hs)) k (subst (λ n. k < n) (sym (moved_many d (map (start X) hs) ∙ as_many X hs)) m)) where
-        here : (k : ℕ) → k < length hs → nth (all_moved d (map (start X) hs)) k ≡ moved (start X (get_or hs k 0)) d
-        here k m = nth_moved d (map (start X) hs) k (subst (λ n. k < n) (sym (as_many X hs)) m) ∙ ap (λ p. moved p d) (nth_start X hs k m)
+  tops_to (suc k) m = grind (arith, tops_to k (omega (arith, m)), map-append, top_start, w.bounded, take_next, moved_many, as_many, nth_moved, nth_start)
 
   pub ring_moved : map (start (swept_once d w)) (top_items g.taken.edge (length (items d w)) (length (items d w))) ≡ all_moved d (map (start g.model) (items d w))
   ring_moved = tops_to (length hs) (omega arith) ∙ ap (λ n. take n (all_moved d (map (start X) hs))) (sym (as_many X hs) ∙ sym (moved_many d (map (start X) hs))) ∙ take_whole (all_moved d (map (start X) hs))
