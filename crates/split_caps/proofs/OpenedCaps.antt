@@ -1,15 +1,15 @@
 -- The caps once a solid is opened along all cycles of its section: their numbers, their corners, and their normals.
-use Rattle.std.specs.Prelude.{pos, neg_ℤ, int_lt, filter}
-use Rattle.std.proofs.Common.{◌≡◌, ℕ, zero, suc, ◌+◌, ◌<◌, true, List, [], ◌∷◌, ◌++◌, length, map, get_or, refl, sym, ap, subst, ◌∙◌, arith, ◌≢◌, ◌≤◌, ℤ, ◌+ℤ◌, Bool, false, cond, nat_eq, true≢false, inl, inr}
+use Rattle.std.specs.Prelude.{pos, int_lt, filter}
+use Rattle.std.proofs.Common.{◌≡◌, ℕ, zero, suc, ◌+◌, ◌<◌, true, List, [], ◌∷◌, ◌++◌, length, map, get_or, refl, sym, ap, subst, ◌∙◌, arith, ◌≢◌, ◌≤◌, ℤ, ◌+ℤ◌, Bool, false, cond, nat_eq, inl, inr}
 use Rattle.std.proofs.lemmas.Int.{ints}
 use Rattle.std.proofs.lemmas.List.{append_assoc, append-nil, map-append}
 use Rattle.std.proofs.lemmas.Bool.Decides.{eqb_tells}
 use Rattle.std.proofs.lemmas.Bool.{eq-eqb, ne_eqb}
 use Rattle.euler_operators.specs.declared.Plane.{Plane}
 use Rattle.euler_operators.specs.declared.Point.{Point}
-use Rattle.euler_operators.specs.Items.{IsIn, count, tick}
+use Rattle.euler_operators.specs.Items.{IsIn, count}
 use Rattle.euler_operators.specs.Vectors.{direction, dot, is_on, moved, origin}
-use Rattle.euler_operators.specs.Model.{Model, content, face_of, outer, point_of, tail}
+use Rattle.euler_operators.specs.Model.{Model, content, face_of, outer, point_of}
 use Rattle.euler_operators.specs.Sound.{Has}
 use Rattle.euler_operators.specs.HalfEdge.{edge_of, mate}
 use Rattle.euler_operators.specs.Effect.{kfmrh}
@@ -19,7 +19,7 @@ use Rattle.euler_operators.proofs.Models.{mate_there}
 use Rattle.euler_operators.proofs.Vectors.{none_moved}
 use Rattle.shapes.specs.Faces.{vertices_on}
 use Rattle.shapes.specs.Fresh.{Taken}
-use Rattle.shapes.specs.Measure.{area, normal}
+use Rattle.shapes.specs.Measure.{normal}
 use Rattle.shapes.specs.Vectors.{negated}
 use Rattle.shapes.specs.split.Section.{is_hole}
 use Rattle.shapes.specs.split.Opening.{Caps, Opening, all_opened, no_caps, opened_along, holes_closed, outer_caps}
@@ -68,9 +68,7 @@ pub apart_each : (M : Model) (p : Plane) → IsOfEach (AllFaceApart M p) (FacesA
 apart_each M p = record { one = λ k ks a. a.0; others = λ k ks a. a.1; both = λ k ks o a. (o, a) }
 
 twice_turned : (v : Point) → v ≡ negated (negated v)
-twice_turned v = λ i. record { x = back v.x i; y = back v.y i; z = back v.z i } where
-  back : (a : ℤ) → a ≡ neg_ℤ (neg_ℤ a)
-  back a = omega (arith, ints)
+twice_turned v = grind (arith, ints, v.x, v.y, v.z)
 
 module _ (M : Model) (above : List ℕ) (s : ℕ) (c : Taken) (bs : List ℕ) (w : CanBeOpened M above s c bs) where
   abbrev N : Model
@@ -92,10 +90,7 @@ module _ (M : Model) (above : List ℕ) (s : ℕ) (c : Taken) (bs : List ℕ) (w
 
   new_apart : (p : Plane) → FacesApart N p (record { lower = c.face + 1; upper = c.face + length bs + 1; hole = is_hole M p bs })
   unfolding is_hole
-  new_apart p = record {
-    opposite = upper_normal M above s c bs w ∙ twice_turned (area M bs) ∙ ap negated (sym (lower_normal M above s c bs w));
-    told = ap (λ a. int_lt (dot a (direction p)) (pos 0)) (area_mates M bs ∙ sym (lower_normal M above s c bs w));
-  }
+  new_apart p = grind (arith, upper_normal, twice_turned, lower_normal, area_mates)
 
   still_apart : (p : Plane) (k : Caps) → Has M.faces k.lower → Has M.faces k.upper → FacesApart M p k → FacesApart N p k
   still_apart p k low up a =
@@ -123,9 +118,7 @@ LiesOn M p f = (l : ℕ) → Has M.loops l → face_of M l ≡ f → (v : ℕ) �
 
 -- the vertices of the outer loop of a face that lies along the plane
 pub outer_on : (M : Model) (p : Plane) (f : ℕ) → LiesAlong M p f → (v : ℕ) → IsIn v (vertices_on M (content M (outer M f))) → is_on p (point_of M v) ≡ true
-outer_on M p f a v i =
-    let r = from_map (tail M) v a.items (subst (λ c. IsIn v (vertices_on M c)) a.outer_is i) in
-    ap (λ u. is_on p (point_of M u)) r.2 ∙ a.on_plane r.0 r.1
+outer_on M p f a v i = grind (arith, from_map, a.items, a.outer_is, a.on_plane)
 
 pub plain_lies : (M : Model) (p : Plane) (s f : ℕ) → IsPlain M s f → LiesAlong M p f → LiesOn M p f
 plain_lies M p s f plain a l there of v i = outer_on M p f a v (subst (λ q. IsIn v (vertices_on M (content M q))) (plain.no_ring l there of) i)
@@ -173,14 +166,9 @@ module _ {X : Type 0} (f : Caps → X) (g : List ℕ → X) where
 
   pub told_filtered : (q : List ℕ → Bool) (ks : List Caps) (cs : List (List ℕ)) → map f ks ≡ map g cs → map (λ k. k.hole) ks ≡ map q cs → map f (filter (λ k. k.hole) ks) ≡ map g (filter q cs)
   told_filtered q [] [] e h = refl
-  told_filtered q [] (c ∷ cs) e h = absurd (no_first (sym e))
-  told_filtered q (k ∷ ks) [] e h = absurd (no_first e)
-  told_filtered q (k ∷ ks) (c ∷ cs) e h = one k.hole (q c) (firsts h).0 (told_filtered q ks cs (firsts e).1 (firsts h).1) (firsts e).0 where
-    one : (a b : Bool) → a ≡ b → map f (filter (λ k. k.hole) ks) ≡ map g (filter q cs) → f k ≡ g c → map f (cond a (k ∷ filter (λ k. k.hole) ks) (filter (λ k. k.hole) ks)) ≡ map g (cond b (c ∷ filter q cs) (filter q cs))
-    one true true e r u = λ i. u i ∷ r i
-    one false false e r u = r
-    one true false e r u = absurd (true≢false e)
-    one false true e r u = absurd (true≢false (sym e))
+  told_filtered q [] (c ∷ cs) e h = grind (arith, no_first)
+  told_filtered q (k ∷ ks) [] e h = grind (arith, no_first)
+  told_filtered q (k ∷ ks) (c ∷ cs) e h = grind (arith, (told_filtered q ks cs (firsts e).1 (firsts h).1), firsts)
 
 -- ---- the holes closed
 
@@ -222,10 +210,7 @@ module _ (A : Model) (p : Plane) (q : ℕ × ℕ) (w : CanTake A p q.0 q.1) wher
 
 never_taken : (x : ℕ) (o : Caps) (hs : List Caps) → count x (cap_faces hs) ≡ 0 → IsNeverTaken x (closing o hs)
 never_taken x o [] z = tt
-never_taken x o (h ∷ hs) z = (
-  (λ e. absurd (omega (arith, z, tick_same x, ap (tick x) e))),
-  ((λ e. absurd (omega (arith, z, tick_same x, ap (tick x) e))), never_taken x o hs (omega (arith, z))),
-)
+never_taken x o (h ∷ hs) z = grind (arith, (never_taken x o hs (omega (arith, z))), tick_same)
 
 -- once the holes are closed, a face that is no cap of theirs has its own normal and those that it took
 pub closed_normal : (M : Model) (s : ℕ) (p : Plane) (ks : List Caps) → CanClose M s p ks → (x : ℕ) → let hs = filter (λ k. k.hole) ks in count x (cap_faces hs) ≡ 0 →
@@ -239,15 +224,7 @@ closed_normal M s p ks w x z =
 -- the outer cycle's caps take those of the holes
 pub both_take : (M : Model) (o : Caps) (hs : List Caps) → o.lower ≢ o.upper → (taken_by M o.lower (closing o hs) ≡ sum_of (lowers M hs)) × (taken_by M o.upper (closing o hs) ≡ sum_of (uppers M hs))
 both_take M o [] ne = (refl, refl)
-both_take M o (h ∷ hs) ne =
-    let later = both_take M o hs ne in
-    let low = taken_by M o.lower (closing o hs) in
-    let up = taken_by M o.upper (closing o hs) in (
-      ap (λ b. cond b (moved (normal M h.lower) (cond (nat_eq o.upper o.lower) (moved (normal M h.upper) low) low)) (cond (nat_eq o.upper o.lower) (moved (normal M h.upper) low) low)) (eq-eqb o.lower o.lower refl)
-          ∙ ap (λ b. moved (normal M h.lower) (cond b (moved (normal M h.upper) low) low)) (ne_eqb o.upper o.lower (λ e. ne (sym e))) ∙ ap (moved (normal M h.lower)) later.0,
-      ap (λ b. cond b (moved (normal M h.lower) (cond (nat_eq o.upper o.upper) (moved (normal M h.upper) up) up)) (cond (nat_eq o.upper o.upper) (moved (normal M h.upper) up) up)) (ne_eqb o.lower o.upper ne)
-          ∙ ap (λ b. cond b (moved (normal M h.upper) up) up) (eq-eqb o.upper o.upper refl) ∙ ap (moved (normal M h.upper)) later.1,
-    )
+both_take M o (h ∷ hs) ne = grind (arith, (both_take M o hs ne), closing, h.lower, h.upper, eq-eqb, ne_eqb)
 
 -- ---- where there is a hole there is one outer cycle
 

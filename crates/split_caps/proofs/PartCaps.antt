@@ -100,19 +100,12 @@ module _ (x : ℕ) where
   hole_apart : (ks : List Caps) (i : ℕ) → i < length ks → (get_or ks i no_caps).hole ≡ false → count x (cap_faces (filter (λ k. k.hole) ks)) + in_caps (get_or ks i no_caps) ≤ count x (cap_faces ks)
   hole_apart [] i l e = absurd (omega (arith, l))
   hole_apart (k ∷ ks) zero l e = omega (arith, ap (λ b. count x (cap_faces (cond b (k ∷ filter (λ k. k.hole) ks) (filter (λ k. k.hole) ks)))) e, holes_counted x ks)
-  hole_apart (k ∷ ks) (suc i) l e = go k.hole (hole_apart ks i (omega (arith, l)) e) where
-    go : (b : Bool) → count x (cap_faces (filter (λ k. k.hole) ks)) + in_caps (get_or ks i no_caps) ≤ count x (cap_faces ks) →
-        count x (cap_faces (cond b (k ∷ filter (λ k. k.hole) ks) (filter (λ k. k.hole) ks))) + in_caps (get_or ks i no_caps) ≤ count x (cap_faces (k ∷ ks))
-    go true r = omega (arith, r)
-    go false r = omega (arith, r)
+  hole_apart (k ∷ ks) (suc i) l e = grind (arith, hole_apart ks i (omega (arith, l)) e)
 
   hole_in : (ks : List Caps) (i : ℕ) → i < length ks → (get_or ks i no_caps).hole ≡ true → in_caps (get_or ks i no_caps) ≤ count x (cap_faces (filter (λ k. k.hole) ks))
   hole_in [] i l e = absurd (omega (arith, l))
   hole_in (k ∷ ks) zero l e = omega (arith, ap (λ b. count x (cap_faces (cond b (k ∷ filter (λ k. k.hole) ks) (filter (λ k. k.hole) ks)))) e)
-  hole_in (k ∷ ks) (suc i) l e = go k.hole (hole_in ks i (omega (arith, l)) e) where
-    go : (b : Bool) → in_caps (get_or ks i no_caps) ≤ count x (cap_faces (filter (λ k. k.hole) ks)) → in_caps (get_or ks i no_caps) ≤ count x (cap_faces (cond b (k ∷ filter (λ k. k.hole) ks) (filter (λ k. k.hole) ks)))
-    go true r = omega (arith, r)
-    go false r = r
+  hole_in (k ∷ ks) (suc i) l e = grind (arith, hole_in ks i (omega (arith, l)) e)
 
 -- ---- some of the caps
 

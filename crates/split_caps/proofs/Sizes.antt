@@ -1,14 +1,13 @@
 -- How many vertices and edges a split makes.
 use Rattle.std.specs.Prelude.{fold}
-use Rattle.std.proofs.Common.{◌≡◌, ◌≢◌, ℕ, zero, suc, ◌+◌, ◌<◌, Bool, true, false, cond, nat_eq, nat_lt, ◌&&◌, List, [], ◌∷◌, length, map, None, refl, sym, ap, subst, ◌∙◌, arith, inl, inr, ◌⊎◌}
+use Rattle.std.proofs.Common.{◌≡◌, ◌≢◌, ℕ, zero, suc, ◌+◌, ◌<◌, Bool, true, false, cond, nat_eq, nat_lt, ◌&&◌, List, [], ◌∷◌, length, map, None, refl, sym, ap, ◌∙◌, arith, inl, inr, ◌⊎◌}
 use Rattle.std.proofs.lemmas.List.{length-append, length-map}
 use Rattle.euler_operators.specs.declared.Plane.{Plane}
 use Rattle.euler_operators.specs.declared.Point.{Point}
-use Rattle.euler_operators.specs.HalfEdge.{code, edge_of, half, plus}
 use Rattle.euler_operators.specs.Items.{IsIn}
 use Rattle.euler_operators.specs.Table as table
 use Rattle.euler_operators.specs.Table.{Table}
-use Rattle.euler_operators.specs.Model.{EdgeRow, Model, point_of, tail}
+use Rattle.euler_operators.specs.Model.{EdgeRow, Model, point_of}
 use Rattle.euler_operators.specs.Sound.{Sound}
 use Rattle.euler_operators.specs.Conditions.{has_rings}
 use Rattle.euler_operators.specs.Effect.{effect, mev_at}
@@ -20,7 +19,7 @@ use Rattle.euler_laws.proofs.mev.Mev.{mev_goes}
 use Rattle.shapes.specs.Fresh.{Growing, Taken, numbers_after}
 use Rattle.shapes.specs.split.Crossings.{next_cut}
 use Rattle.shapes.specs.split.Drawing.{Drawing, FacePairs, all_drawn, all_joined, draw_next, drawn_between, join_next, next_drawn, ring_free, rings_above, stuck_at, with_rings}
-use Rattle.shapes.specs.split.Opening.{Opening, all_opened, both_lists, opened_along, with_copies, with_rim}
+use Rattle.shapes.specs.split.Opening.{Opening, all_opened, both_lists, opened_along, with_rim}
 use Rattle.split_drawing_laws.specs.crossings.CrossingOps as crossings
 use Rattle.split_drawing_laws.specs.drawings.Pairs.{AllFit, pairs_in}
 use Rattle.split_drawing_laws.specs.drawings.Passing.{Drawable, Going, Joining, Ready}
@@ -49,9 +48,7 @@ next_one a b n e = omega arith
 
 cut_once : (M : Model) (p : Plane) (g : Growing) (e : ℕ) → AreAccepted M (crossings.cut_edge p g e ∷ []) → let N = effect M (crossings.cut_edge p g e) in (size N.vertices ≡ size M.vertices + 1) × (size N.edges ≡ size M.edges + 1)
 unfolding effect mev_at
-cut_once M p g e go =
-    let w = mev_goes M _ _ _ (g.taken.vertex + 1) _ go.0 in
-    (size-put_new M.vertices (g.taken.vertex + 1) _ w.vertex_free, size-put_new _ (edge_of (code (half (plus (g.taken.edge + 1))))) _ (mapped_none _ M.edges (edge_of (code (half (plus (g.taken.edge + 1))))) w.edge_free) ∙ ap (λ n. n + 1) (size-map_rows _ M.edges))
+cut_once M p g e go = grind (arith, mev_goes, size-put_new, mapped_none, size-map_rows)
 
 pub cuts_make : (M : Model) (p : Plane) (g : Growing) (es : List ℕ) → AreAccepted M (crossings.ops_from p g es) → let N = effects M (crossings.ops_from p g es) in (size N.vertices ≡ size M.vertices + length es) × (size N.edges ≡ size M.edges + length es)
 cuts_make M p g [] go = (none (size M.vertices), none (size M.edges))
@@ -79,9 +76,7 @@ module _ (M : Model) (f total : ℕ) where
   draws_make sound some d qs n fit w a free = elim (draws_keep M f (λ x rs. (x.stuck ≢ 0) ⊎ (size x.model.edges + length rs ≡ total)) sound (λ x q rs m fits w e a. inl (stuck_now f x some))
       (λ x q rs m fits w e a. elim a [ inl is ↦ inl is | inr all ↦ inr (cut x q rs (can_now M f sound x q rs m fits w e) all) ]) d qs n fit w (inr a)) [ inl is ↦ absurd (is free) | inr all ↦ all ] where
         cut : (x : Drawing) (q : ℕ × ℕ) (rs : List (ℕ × ℕ)) → CanDraw x.model q.0 q.1 (x.taken.edge + 1) (x.taken.face + 1) (x.taken.loop + 1) → size x.model.edges + length (q ∷ rs) ≡ total → size (cut_off x q).model.edges + length rs ≡ total
-        cut x q rs can all =
-            let one = ap size (edges_are x.model q.0 q.1 (x.taken.edge + 1) (x.taken.face + 1) (x.taken.loop + 1) can) ∙ size-put_new x.model.edges (x.taken.edge + 1) _ can.edge_free in
-            omega (arith, one, all)
+        cut x q rs can all = grind (arith, edges_are, size-put_new, can.edge_free)
 
 -- one face drawn
 module _ (p : Plane) (f : ℕ) (qs : List (ℕ × ℕ)) (d : Drawing) (n : ℕ) (w : Ready p f qs d n) (some : f ≢ 0) where
@@ -142,12 +137,7 @@ copies_make M t (x ∷ xs) v free =
     ∙ next_one (size t) (size (table.put t (v + 1) (point_of M x))) (length xs) (size-put_new t (v + 1) (point_of M x) (free (v + 1) (omega arith)))
 
 opening_makes : (M : Model) (above : List ℕ) (s : ℕ) (c : Taken) (bs : List ℕ) → AreFree M c → let N = opened_along M above s c bs in (size N.vertices ≡ size M.vertices + length bs) × (size N.edges ≡ size M.edges + length bs)
-opening_makes M above s c bs free = (
-  ap size (opened.vertices_are M above s c bs)
-      ∙ subst (λ m. size (with_copies M (both_lists (map (tail M) bs) (numbers_after c.vertex m))) ≡ size M.vertices + m) (length-map bs (tail M)) (copies_make M M.vertices (map (tail M) bs) c.vertex free.vertices),
-  ap size (opened.edges_are M above s c bs)
-      ∙ rim_makes _ c.edge c.vertex (length bs) (λ q l. mapped_none _ M.edges q (free.edges q l)) (length bs) ∙ ap (λ n. n + length bs) (size-map_rows _ M.edges),
-)
+opening_makes M above s c bs free = grind (arith, opened.vertices_are, length-map, copies_make, free.vertices, opened.edges_are, rim_makes, mapped_none, free.edges, size-map_rows)
 
 pub openings_make : (above : List ℕ) (s : ℕ) (p : Plane) (o : Opening) (cs : List (List ℕ)) → CanBeOpenedInTurn above s o cs → let x = all_opened p above s o cs in
     (size x.model.vertices ≡ size o.model.vertices + length (halves_in cs)) × (size x.model.edges ≡ size o.model.edges + length (halves_in cs))

@@ -1,15 +1,14 @@
 -- What the two parts of a split solid count.
 use Rattle.std.specs.Prelude.{filter}
-use Rattle.std.proofs.Common.{◌≡◌, ◌≢◌, ℕ, zero, suc, ◌+◌, ◌*◌, ◌-◌, ℤ, pos, neg_ℤ, ◌+ℤ◌, ◌-ℤ◌, Bool, true, false, cond, nat_eq, List, [], ◌∷◌, ◌++◌, length, map, refl, sym, ap, subst, ◌∙◌, arith, ne_eqb}
+use Rattle.std.proofs.Common.{◌≡◌, ◌≢◌, ℕ, zero, suc, ◌+◌, ◌*◌, ◌-◌, ℤ, pos, neg_ℤ, ◌+ℤ◌, ◌-ℤ◌, Bool, true, false, cond, List, [], ◌∷◌, ◌++◌, length, map, refl, sym, ap, subst, ◌∙◌, arith, ne_eqb}
 use Rattle.std.proofs.lemmas.Int.{ints}
 use Rattle.euler_operators.specs.declared.Op.{Op}
-use Rattle.euler_operators.specs.declared.Op.TheVariants.{Kef, Part}
+use Rattle.euler_operators.specs.declared.Op.TheVariants.{Kef}
 use Rattle.euler_operators.specs.HalfEdge.{half, minus}
 use Rattle.euler_operators.specs.declared.Plane.{Plane}
 use Rattle.euler_operators.specs.Items.{IsIn}
-use Rattle.euler_operators.specs.Model.{Model, faces_of, is_ring_of, loop_of, solid_of}
+use Rattle.euler_operators.specs.Model.{Model, faces_of, solid_of}
 use Rattle.euler_operators.specs.Sound.{Sound}
-use Rattle.euler_operators.specs.Conditions.{face_at}
 use Rattle.euler_operators.specs.Effect.{effect}
 use Rattle.euler_operators.proofs.Vectors.{add_assoc, none_add}
 use Rattle.euler_operators.proofs.Models.{number_real}
@@ -22,9 +21,9 @@ use Rattle.shapes.specs.Fresh.{Growing, Taken, growing, numbers_after}
 use Rattle.shapes.specs.split.Places.{pair_count}
 use Rattle.shapes.specs.split.Sides.{crossing_edges, faces_above, straddling_faces}
 use Rattle.shapes.specs.split.Crossings.{next_cut, with_crossings}
-use Rattle.shapes.specs.split.Drawing.{Drawing, FacePairs, all_drawn, all_joined, draw_next, in_one_loop, join_next, next_drawn, ring_free, rings_above, straddling_pairs, undrawn, with_drawings}
+use Rattle.shapes.specs.split.Drawing.{Drawing, FacePairs, draw_next, join_next, next_drawn, straddling_pairs, undrawn, with_drawings}
 use Rattle.shapes.specs.split.Opening.{Caps, Opening, holes_closed, next_opened, outer_caps}
-use Rattle.shapes.specs.split.Split.{opened_at, upper_left}
+use Rattle.shapes.specs.split.Split.{opened_at}
 use Rattle.solid_measure.specs.solid_counts.Counts.{counts, rings_in}
 use Rattle.split_drawing_laws.specs.crossings.CrossingOps.{crossing_ops}
 use Rattle.split_drawing_laws.specs.crossings.Laws.{CanBegin}
@@ -36,12 +35,12 @@ use Rattle.split_drawing_laws.proofs.drawings.Whole.{drawable}
 use Rattle.split_drawing_laws.proofs.pairs.Whole.{can_be_drawn}
 use Rattle.split_drawing_laws.specs.crossings.CrossingOps as crossings
 use Rattle.split_drawing_laws.specs.drawings.DrawingOps as drawings
-use Rattle.split_drawing_laws.specs.drawings.DrawingOps.{draw_ops, drawing_ops, face_ops, join_ops, join_pair, ring_ops, share_ops}
+use Rattle.split_drawing_laws.specs.drawings.DrawingOps.{draw_ops, drawing_ops, face_ops, join_ops, join_pair, ring_ops}
 use Rattle.split_opening_laws.specs.caps.CapOps.{cap_ops, joinings, partings}
 use Rattle.split_opening_laws.specs.opening.OpeningOps.{opening_ops}
 use Rattle.split_opening_laws.specs.strips.StripOps.{copy_ops, strip_ops}
 use Rattle.split_opening_laws.specs.sections.InTurn.{halves_in, upper_faces}
-use Rattle.split_laws.specs.SplitOps.{closing_ops, hole_ops, openings_ops, split_ops, upper_ops}
+use Rattle.split_laws.specs.SplitOps.{closing_ops, openings_ops, split_ops}
 use Rattle.split_laws.proofs.Whole.{split_accepted, split_made}
 use Rattle.split_laws.proofs.drawn.Drawn.{begins, drawn_stays, never_stuck}
 use Rattle.split_laws.proofs.measures.Splittable.{can_be_split}
@@ -119,33 +118,22 @@ cuts_nothing p g [] = refl
 cuts_nothing p g (e ∷ es) = nothing_more (crossings.cut_edge p g e) (crossings.ops_from p (next_cut p g e) es) refl (cuts_nothing p (next_cut p g e) es)
 
 pair_nothing : (M : Model) (q : ℕ × ℕ) (e : ℕ) → growth (join_pair M q e) ≡ pos 0
-pair_nothing M q e = go (is_ring_of M (face_at M q.0) (loop_of M q.0)) where
-  go : (b : Bool) → growth (cond b (drawings.join_edge q.1 q.0 e) (drawings.join_edge q.0 q.1 e)) ≡ pos 0
-  go true = refl
-  go false = refl
+pair_nothing M q e = grind arith
 
 joins_nothing : (d : Drawing) (qs : List (ℕ × ℕ)) → AddsNothing (join_ops d qs)
 joins_nothing d [] = refl
-joins_nothing d (q ∷ qs) = nothing_both (cond (in_one_loop d.model q) [] (join_pair d.model q (d.taken.edge + 1) ∷ [])) (join_ops (join_next d q) qs)
-    (nothing_either (in_one_loop d.model q) [] (join_pair d.model q (d.taken.edge + 1) ∷ []) refl (nothing_more (join_pair d.model q (d.taken.edge + 1)) [] (pair_nothing d.model q (d.taken.edge + 1)) refl))
-    (joins_nothing (join_next d q) qs)
+joins_nothing d (q ∷ qs) = grind (arith, joins_nothing (join_next d q) qs, nothing_both, nothing_either, nothing_more, pair_nothing)
 
 draws_nothing : (f : ℕ) (d : Drawing) (qs : List (ℕ × ℕ)) → AddsNothing (draw_ops f d qs)
 draws_nothing f d [] = refl
-draws_nothing f d (q ∷ qs) = nothing_both (cond (in_one_loop d.model q) (drawings.draw_pair d.taken q ∷ []) []) (draw_ops f (draw_next f d q) qs)
-    (nothing_either (in_one_loop d.model q) (drawings.draw_pair d.taken q ∷ []) [] (nothing_more (drawings.draw_pair d.taken q) [] refl refl) refl)
-    (draws_nothing f (draw_next f d q) qs)
+draws_nothing f d (q ∷ qs) = grind (arith, draws_nothing f (draw_next f d q) qs, nothing_both, nothing_either, nothing_more)
 
 rings_nothing : (ls : List ℕ) (k : ℕ) → AddsNothing (ring_ops ls k)
 rings_nothing [] k = refl
 rings_nothing (l ∷ ls) k = ap (λ z. pos 0 +ℤ z) (rings_nothing ls k)
 
 face_nothing : (p : Plane) (f : ℕ) (qs : List (ℕ × ℕ)) (d : Drawing) → AddsNothing (face_ops p f qs d)
-face_nothing p f qs d =
-    let R = ring_free f qs (all_joined qs d) in
-    let L = all_drawn f R in
-    nothing_both (join_ops (record d { left = [] }) qs) (drawings.drawn_ops p f qs R) (joins_nothing (record d { left = [] }) qs)
-    (nothing_both (draw_ops f R R.left) (share_ops p f qs L) (draws_nothing f R R.left) (nothing_either (nat_eq (length qs) 1) (ring_ops (rings_above L.model p f) L.taken.face) [] (rings_nothing (rings_above L.model p f) L.taken.face) refl))
+face_nothing p f qs d = grind (arith, nothing_both, joins_nothing, draws_nothing, nothing_either, rings_nothing)
 
 faces_nothing : (p : Plane) (d : Drawing) (fs : List FacePairs) → AddsNothing (drawings.ops_from p d fs)
 faces_nothing p d [] = refl
@@ -153,8 +141,7 @@ faces_nothing p d (f ∷ fs) = nothing_both (face_ops p f.face f.pairs d) (drawi
 
 rewriting_nothing : (M : Model) (s : ℕ) (p : Plane) → AddsNothing (crossing_ops M s p ++ drawing_ops p (with_crossings M s p) (straddling_pairs M s p))
 unfolding crossing_ops drawing_ops
-rewriting_nothing M s p = nothing_both (crossings.ops_from p (growing M) (crossing_edges M p s)) (drawings.ops_from p (undrawn (with_crossings M s p)) (straddling_pairs M s p))
-    (cuts_nothing p (growing M) (crossing_edges M p s)) (faces_nothing p (undrawn (with_crossings M s p)) (straddling_pairs M s p))
+rewriting_nothing M s p = grind (arith, nothing_both, cuts_nothing, faces_nothing)
 
 -- ---- a cycle adds two, a hole closed takes four
 
@@ -178,39 +165,19 @@ cap_two c m = total-append (joinings c m (m - 1)) (partings c m) ∙ ap (λ z. z
 
 opening_two : (M : Model) (s : ℕ) (c : Taken) (bs : List ℕ) → total (opening_ops M s c bs) ≡ pos 2
 unfolding opening_ops
-opening_two M s c bs = let m = length bs in
-    total-append (strip_ops M s c bs m ++ copy_ops M c bs m) (cap_ops c m)
-    ∙ (λ i. nothing_both (strip_ops M s c bs m) (copy_ops M c bs m) (strips_nothing M s c bs m) (copies_nothing M c bs m) i +ℤ cap_two c m i)
+opening_two M s c bs = grind (arith, total-append, nothing_both, strips_nothing, copies_nothing, cap_two)
 
 openings_total : (above : List ℕ) (s : ℕ) (p : Plane) (o : Opening) (cs : List (List ℕ)) → total (openings_ops above s p o cs) ≡ pos (2 * length cs)
 openings_total above s p o [] = refl
-openings_total above s p o (bs ∷ cs) = total-append (opening_ops o.model s o.taken bs) (openings_ops above s p (next_opened p above s o bs) cs)
-    ∙ (λ i. opening_two o.model s o.taken bs i +ℤ openings_total above s p (next_opened p above s o bs) cs i) ∙ two_more (length cs) where
-      two_more : (n : ℕ) → pos 2 +ℤ pos (2 * n) ≡ pos (2 * suc n)
-      two_more n = omega (arith, ints)
+openings_total above s p o (bs ∷ cs) = grind (arith, ints, openings_total above s p (next_opened p above s o bs) cs, total-append, opening_two)
 
 closings_total : (o : Caps) (ks : List Caps) → total (closing_ops o ks) ≡ neg_ℤ (pos (4 * length ks))
 closings_total o [] = refl
-closings_total o (k ∷ ks) = ap (λ z. neg_ℤ (pos 2) +ℤ (neg_ℤ (pos 2) +ℤ z)) (closings_total o ks) ∙ four_less (length ks) where
-  four_less : (n : ℕ) → neg_ℤ (pos 2) +ℤ (neg_ℤ (pos 2) +ℤ neg_ℤ (pos (4 * n))) ≡ neg_ℤ (pos (4 * suc n))
-  four_less n = omega (arith, ints)
+closings_total o (k ∷ ks) = grind (arith, ints, closings_total o ks)
 
 split_total : (M : Model) (s : ℕ) (p : Plane) (t : ℕ) → total (split_ops M s p t) ≡ pos (2 * length (cycles_of M s p)) +ℤ neg_ℤ (pos (4 * length (filter (λ k. k.hole) (caps_of M s p))))
 unfolding split_ops
-split_total M s p t =
-    let d = with_drawings M s p in
-    let above = faces_above d.model p s in
-    let begun : Opening = record { model = d.model; taken = d.taken; caps = [] } in
-    let ks = caps_of M s p in
-    let holes = filter (λ k. k.hole) ks in
-    let first = crossing_ops M s p ++ drawing_ops p (with_crossings M s p) (straddling_pairs M s p) in
-    let opens = openings_ops above s p begun (cycles_of M s p) in
-    let uppers = upper_ops (opened_at d above s p) above s t in
-    total-append first (opens ++ uppers) ∙ ap (λ z. z +ℤ total (opens ++ uppers)) (rewriting_nothing M s p)
-    ∙ ap (λ z. pos 0 +ℤ z) (total-append opens uppers ∙ (λ i. openings_total above s p begun (cycles_of M s p) i +ℤ (total-append (hole_ops ks) (Part s t (upper_left above ks) ∷ []) ∙ ap (λ z. z +ℤ (pos 0 +ℤ pos 0)) (closings_total (outer_caps ks) holes)) i))
-    ∙ tidied (pos (2 * length (cycles_of M s p))) (neg_ℤ (pos (4 * length holes))) where
-      tidied : (a b : ℤ) → pos 0 +ℤ (a +ℤ (b +ℤ (pos 0 +ℤ pos 0))) ≡ a +ℤ b
-      tidied a b = omega (arith, ints)
+split_total M s p t = grind (arith, ints, total-append, rewriting_nothing, openings_total, closings_total)
 
 -- ---- the sum of the two parts
 

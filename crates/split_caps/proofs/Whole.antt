@@ -1,4 +1,4 @@
-use Rattle.std.proofs.Common.{◌≡◌, [], false, get_or, map, sym, subst}
+use Rattle.std.proofs.Common.{◌≡◌, [], false, get_or, map, sym, subst, arith}
 use Rattle.std.specs.Prelude.{int_lt, pos}
 use Rattle.euler_operators.specs.Table as table
 use Rattle.euler_operators.specs.Vectors.{direction, dot, moved}
@@ -11,20 +11,13 @@ use Rattle.shapes.specs.split.Sides.{faces_above}
 use Rattle.shapes.specs.split.Drawing.{with_drawings}
 use Rattle.split_laws.proofs.Flags.{flags_are}
 use Rattle.split_laws.proofs.drawn.Drawn.{can_open_all}
-use Rattle.shapes.specs.split.Opening.{Opening}
 use Rattle.split_caps.specs.Capped.{IsCapOf, area_below, cap, cycles_of, sum_of}
 use Rattle.split_caps.proofs.OpenedCaps.{lowers_are, uppers_are}
 use Rattle.split_caps.proofs.PartCaps.{both_caps, both_gone, faces_apart, normals_told}
 use Rattle.split_frames.proofs.Whole.{after_is, after_sound, can}
 
 pub caps_are_numbered : CapsAreNumbered
-caps_are_numbered before after s p t sound made =
-    let M = held before in
-    let d = with_drawings M s p in
-    let above = faces_above d.model p s in
-    let begun : Opening = record { model = d.model; taken = d.taken; caps = [] } in
-    let opens = can_open_all M s p t sound made.0 in
-    (lowers_are above s p begun (cycles_of M s p) opens, uppers_are above s p begun (cycles_of M s p) opens, flags_are above s p begun (cycles_of M s p) opens)
+caps_are_numbered before after s p t sound made = grind (arith, can_open_all, lowers_are, uppers_are, flags_are)
 
 -- ---- the caps of cycle i
 
