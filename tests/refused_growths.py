@@ -41,6 +41,8 @@ QUERIES = ['plane 1', 'plane 1000', 'volume 1', 'volume 1000', 'count 1', 'count
 REFUSED = ['mvfs 1 1 1 1 0 0 0', 'kvfs 1000', 'mev @1000 @1000 1000 1000 0 0 0', 'kev +1000', 'mef +1000 +1000 1 1 1', 'kef +1000', 'kemr +1000 1',
            'mekr @1000 @1000 1', 'kfmrh 1000 1', 'mfkrh 1000 1', 'ringmv 1000 1 in', 'lamina 1000001 0 0 0 1 0 0 0 1 0', 'block 1 0 0 0 0 1 1',
            'sweep 1000 0 0 1', 'glue 1000 1', 'split 1000 0 0 1 0 1', 'no command']
+MAKING = ['mvfs 1 1 1 1 0 0 0', 'lamina 1 0 0 0 4 0 0 4 4 0', 'block 1 0 0 0 4 4 4']
+RECORD = 3              # the most that a record asks for: its place, and its two lists
 POLYGON = [(x, x * x) for x in range(-31, 33)]
 COPY = 100
 
@@ -109,6 +111,13 @@ def takes_none(program, commands):
         yield name, count == alone and longer[:len(script) - 1] == replies[:len(script) - 1]
 
 
+def keeps_room(program, command):
+    """Whether a command that is given again after its undo asks for its record alone, and so for none of the room that it had made."""
+    undone, _ = taken(program, [command, 'undo'])
+    again, replies = taken(program, [command, 'undo', command])
+    return replies == ['ok', 'ok', ['ok']] and again - undone <= RECORD
+
+
 def copies_nothing(program):
     """Whether a new solid beside a lamina of 64 points is accepted though the hundredth allocation after the lamina is refused."""
     lamina = 'lamina 1 ' + ' '.join('%d %d 0' % point for point in POLYGON)
@@ -139,6 +148,11 @@ def main():
                 if why:
                     wrong += 1
                     print('%s, allocation %d: %s' % (name, n, why))
+        for command in MAKING:
+            count += 1
+            if not keeps_room(program, command):
+                wrong += 1
+                print('%s: given again after its undo, it asks for more than %d allocations' % (command, RECORD))
         count += 1
         if not copies_nothing(program):
             wrong += 1
