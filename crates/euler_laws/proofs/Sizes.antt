@@ -48,10 +48,7 @@ module _ {X : Type 0} where
   -- rows that pass a test and rows that don't
   parts_in : (p : ℕ → X → Bool) (es : List (ℕ × X)) → length (all_in p es) + length (all_in (λ n x. not (p n x)) es) ≡ length es
   parts_in p [] = refl
-  parts_in p (e ∷ es) = elim (p e.0 e.1) as (λ b. length (cond b (e.0 ∷ all_in p es) (all_in p es)) + length (cond (not b) (e.0 ∷ all_in (λ n x. not (p n x)) es) (all_in (λ n x. not (p n x)) es)) ≡ suc (length es)) [
-    | true ↦ omega (arith, parts_in p es)
-    | false ↦ omega (arith, parts_in p es)
-  ]
+  parts_in p (e ∷ es) = grind (arith, parts_in p es)
 
   pub size_parts : (p : ℕ → X → Bool) (t : Table X) → length (all_where p t) + length (all_where (λ n x. not (p n x)) t) ≡ size t
   unfolding all_where
@@ -74,28 +71,29 @@ less n (m ∷ ns) = cond (nat_eq m n) ns (m ∷ less n ns)
 
 less_length : (n : ℕ) (ns : List ℕ) → lists ns n ≡ true → length ns ≡ suc (length (less n ns))
 less_length n [] l = absurd (true≢false (sym l))
-less_length n (m ∷ ns) l = elim (nat_eq m n) as (λ b. (b || lists ns n) ≡ true → suc (length ns) ≡ suc (length (cond b ns (m ∷ less n ns)))) [
-  | true ↦ λ _. refl
-  | false ↦ λ r. ap suc (less_length n ns r)
-] l
+less_length n (m ∷ ns) l = grind (arith, less_length n ns)
 
 less_listed : (n q : ℕ) (ns : List ℕ) → q ≢ n → lists ns q ≡ true → lists (less n ns) q ≡ true
 less_listed n q [] a l = l
-less_listed n q (m ∷ ns) a l = elim (eqb_tells m n) [
-  | inl e ↦ ap (λ b. lists (cond b ns (m ∷ less n ns)) q) e.0 ∙ elim (listed_cases m q ns l) [ inl s ↦ absurd (a (s ∙ e.1)) | inr r ↦ r ]
-  | inr e ↦ ap (λ b. lists (cond b ns (m ∷ less n ns)) q) e.0 ∙ elim (listed_cases m q ns l) [
-    | inl s ↦ subst (λ k. lists (m ∷ less n ns) k ≡ true) (sym s) (first_listed m (less n ns))
-    | inr r ↦ rest_listed m q (less n ns) (less_listed n q ns a r)
-  ]
-]
+less_listed n q (m ∷ ns) a l = grind (
+  arith,
+  eqb_tells m n,
+  listed_cases m q ns l,
+  first_listed m (less n ns),
+  rest_listed m q (less n ns),
+  less_listed n q ns a,
+)
 
 -- what stands after the first item of a rising list is greater
 pub rises_apart : (n q : ℕ) (ns : List ℕ) → strictly_rises (n ∷ ns) ≡ true → lists ns q ≡ true → n < q
 rises_apart n q [] r l = absurd (true≢false (sym l))
-rises_apart n q (m ∷ ns) r l =
-    let w = and_parts (nat_lt n m) (strictly_rises (m ∷ ns)) r in
-    let a : n < m = ltb-true n m w.0 in
-    elim (listed_cases m q ns l) [ inl e ↦ subst (λ k. n < k) (sym e) a | inr k ↦ (let b : m < q = rises_apart m q ns w.1 k in omega arith) ]
+rises_apart n q (m ∷ ns) r l = grind (
+  arith,
+  and_parts (nat_lt n m) (strictly_rises (m ∷ ns)) r,
+  ltb-true n m,
+  listed_cases m q ns l,
+  rises_apart m q ns,
+)
 
 pub rises_on : (n : ℕ) (ns : List ℕ) → strictly_rises (n ∷ ns) ≡ true → strictly_rises ns ≡ true
 rises_on n [] r = refl

@@ -1,5 +1,5 @@
 -- kfmrh makes a face a ring of another face, and mfkrh a ring a face: they keep a sound model sound and take each other back.
-use Rattle.std.proofs.Common.{◌≡◌, ◌≢◌, ℕ, nat_eq, Some, None, is_some, IsTrue, refl, sym, ap, ◌∙◌, subst, inl, inr}
+use Rattle.std.proofs.Common.{◌≡◌, ◌≢◌, ℕ, nat_eq, Some, None, is_some, IsTrue, refl, sym, ap, ◌∙◌, subst, inl, inr, arith}
 use Rattle.std.proofs.lemmas.Bool.Decides.{eqb_tells}
 use Rattle.std.proofs.lemmas.Bool.{not-true, ne_eqb, eq-eqb, eqb-true, eqb-false}
 use Rattle.euler_operators.specs.Table as table
@@ -139,12 +139,6 @@ module _ (M : Model) (sound : Sound M) (l f : ℕ) (goes : MakeGoes M l f) where
   f_there : Has P.faces f
   f_there = ap is_some (row_here make_set.rows)
 
-  make_solid_f : solid_of P f ≡ solid_of M (face_of M l)
-  make_solid_f = solid_row P f _ (row_here make_set.rows)
-
-  pub make_outer_f : outer P f ≡ l
-  make_outer_f = outer_row P f _ (row_here make_set.rows)
-
   pub home : Has M.faces (face_of M l)
   home = sound.loops_of_faces l goes.l_there
 
@@ -154,15 +148,15 @@ module _ (M : Model) (sound : Sound M) (l f : ℕ) (goes : MakeGoes M l f) where
     home = f_there;
     kept = λ q t a. on (face_of M q) (sound.loops_of_faces q t);
     outers = λ p t. elim (eqb_tells p f) [
-      | inl e ↦ inl (ap (outer P) e.1 ∙ make_outer_f, e.1)
+      | inl e ↦ inl (ap (outer P) e.1 ∙ outer_row P f _ (row_here make_set.rows), e.1)
       | inr e ↦ let b = has_back make_set.rows p e.1 t in inr (old_outer make_moves sound p b (outer_other make_set p e.1) (never_outer M sound l goes.is_ring p b))
     ];
     in_solid = λ p t. elim (eqb_tells p f) [
-      | inl e ↦ subst (Has M.solids) (sym (ap (solid_of P) e.1 ∙ make_solid_f)) (sound.faces_of_solids _ home)
+      | inl e ↦ subst (Has M.solids) (sym (ap (solid_of P) e.1 ∙ solid_row P f _ (row_here make_set.rows))) (sound.faces_of_solids _ home)
       | inr e ↦ subst (Has M.solids) (sym (solid_other make_set p e.1)) (sound.faces_of_solids p (has_back make_set.rows p e.1 t))
     ];
     has_face = λ s t. let x = sound.solid_has_face s t in (x.0, on x.0 x.1, solid_other make_set x.0 (not_f x.0 x.1) ∙ x.2);
-    solid_new = make_solid_f;
+    solid_new = solid_row P f _ (row_here make_set.rows);
     solid_kept = λ q t a. solid_other make_set (face_of M q) (not_f _ (sound.loops_of_faces q t));
     fit = fit-put M.faces sound.faces_fit f _ goes.face_fits;
   })
@@ -172,8 +166,8 @@ module _ (M : Model) (sound : Sound M) (l f : ℕ) (goes : MakeGoes M l f) where
     f_there = on _ home;
     g_there = f_there;
     apart = not_f _ home;
-    one_solid = solid_other make_set _ (not_f _ home) ∙ sym make_solid_f;
-    no_rings = λ q t e. make_outer_f ∙ elim (eqb_tells q l) [
+    one_solid = solid_other make_set _ (not_f _ home) ∙ sym (solid_row P f _ (row_here make_set.rows));
+    no_rings = λ q t e. outer_row P f _ (row_here make_set.rows) ∙ elim (eqb_tells q l) [
       | inl a ↦ sym a.1
       | inr a ↦ absurd (not_f _ (sound.loops_of_faces q (sym ((walks_same make_moves).loops q) ∙ t)) (sym (face_kept make_moves q a.1) ∙ e))
     ];
@@ -182,10 +176,13 @@ module _ (M : Model) (sound : Sound M) (l f : ℕ) (goes : MakeGoes M l f) where
   -- kfmrh takes it back
   pub kfmrh-mfkrh : kfmrh P (face_of M l) f ≡ M
   unfolding mfkrh kfmrh
-  kfmrh-mfkrh = λ i. record M {
-    loops = (ap (λ y. map_rows (loop_to_face y (face_of M l)) P.loops) make_outer_f ∙ loop_home M l f (face_of M l) refl) i;
-    faces = remove-put M.faces f (record { solid = solid_of M (face_of M l); outer = l }) goes.face_free i;
-  }
+  kfmrh-mfkrh = grind (
+    arith,
+    outer_row P f _ (row_here make_set.rows),
+    loop_home M l f (face_of M l) refl,
+    remove-put M.faces f (record { solid = solid_of M (face_of M l); outer = l }) goes.face_free,
+    goes.face_free,
+  )
 
 -- ---- the operators
 
@@ -238,16 +235,22 @@ mfkrh_accepted N l f sound goes = none_refuses (conditions N (Mfkrh l f)) (
 
 pub kfmrh_lawful : (f g : ℕ) → IsLawful (Kfmrh f g)
 unfolding effect inverse
-kfmrh_lawful f g M sound e = let w = kfmrh_goes M f g e in let s = sound-kfmrh M sound f g w in record {
-  sound = s;
-  goes = mfkrh_accepted (kfmrh M f g) (outer M g) g s (make_goes M sound f g w);
-  undone = mfkrh-kfmrh M sound f g w;
-}
+kfmrh_lawful f g M sound e = grind (
+  arith,
+  kfmrh_goes M f g e,
+  sound-kfmrh M sound f g,
+  mfkrh_accepted (kfmrh M f g) (outer M g) g,
+  make_goes M sound f g,
+  mfkrh-kfmrh M sound f g,
+)
 
 pub mfkrh_lawful : (l f : ℕ) → IsLawful (Mfkrh l f)
 unfolding effect inverse
-mfkrh_lawful l f M sound e = let w = mfkrh_goes M l f e in let s = sound-mfkrh M sound l f w in record {
-  sound = s;
-  goes = kfmrh_accepted (mfkrh M l f) (face_of M l) f s (kill_goes M sound l f w);
-  undone = kfmrh-mfkrh M sound l f w;
-}
+mfkrh_lawful l f M sound e = grind (
+  arith,
+  mfkrh_goes M l f e,
+  sound-mfkrh M sound l f,
+  kfmrh_accepted (mfkrh M l f) (face_of M l) f,
+  kill_goes M sound l f,
+  kfmrh-mfkrh M sound l f,
+)

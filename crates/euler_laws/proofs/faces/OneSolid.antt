@@ -1,5 +1,5 @@
 -- A model, and the one with one more solid of one face, one lone loop and one vertex: where one is sound, the other is.
-use Rattle.std.proofs.Common.{◌≡◌, ◌≢◌, ℕ, List, [], Some, None, is_some, IsTrue, refl, sym, ap, ◌∙◌, subst, ◌⊎◌, inl, inr}
+use Rattle.std.proofs.Common.{◌≡◌, ◌≢◌, ℕ, List, [], Some, None, is_some, IsTrue, refl, sym, ap, ◌∙◌, subst, ◌⊎◌, inl, inr, arith}
 use Rattle.std.proofs.lemmas.Bool.Decides.{eqb_tells}
 use Rattle.euler_operators.specs.declared.Point.{Point}
 use Rattle.euler_operators.specs.Points.{IsInRange}
@@ -93,9 +93,6 @@ module _ {M : Model} {s f l v : ℕ} {p : Point} (goes : MvfsGoes M s f l v p) w
   pub content_other : (q : ℕ) → q ≢ l → content N q ≡ content M q
   content_other q a = same_content M N q (row_other loops_put q a)
 
-  content_free : content M l ≡ cycle []
-  content_free = content_none M l goes.loop_free
-
   pub face_of_new : face_of N l ≡ f
   face_of_new = face_row_of N l loop_row (row_here loops_put)
 
@@ -111,14 +108,11 @@ module _ {M : Model} {s f l v : ℕ} {p : Point} (goes : MvfsGoes M s f l v p) w
   -- each loop holds the same half-edges
   pub stand_same : (x q : ℕ) → holds x (content N q) ≡ holds x (content M q)
   unfolding holds
-  stand_same x q = elim (eqb_tells q l) [
-    | inl e ↦ ap (λ y. holds x (content N y)) e.1 ∙ ap (holds x) content_new ∙ ap (holds x) (sym content_free) ∙ ap (λ y. holds x (content M y)) (sym e.1)
-    | inr e ↦ ap (holds x) (content_other q e.1)
-  ]
+  stand_same x q = grind (arith, eqb_tells q l, content_new, content_none M l goes.loop_free, content_other q)
 
   -- a lone loop of the old model is another than l
   lone_not_l : (q w : ℕ) → content M q ≡ lone w → q ≢ l
-  lone_not_l q w e a = never_lone [] w (sym content_free ∙ ap (content M) (sym a) ∙ e)
+  lone_not_l q w e a = never_lone [] w (sym (content_none M l goes.loop_free) ∙ ap (content M) (sym a) ∙ e)
 
   -- ---- from the old model to the new one
 
@@ -139,15 +133,9 @@ module _ {M : Model} {s f l v : ℕ} {p : Point} (goes : MvfsGoes M s f l v p) w
     half_old : (x : ℕ) → HasHalf N x → HasHalf M x
     half_old = half_back M N sound rings_on
 
-    tail_on : (x : ℕ) → tail N x ≡ tail M x
-    tail_on = tail_same M N sound rings_on
-
     -- a lone loop of the new model is the new one, or an old one at an old vertex
     lone_cases : (q w : ℕ) → content N q ≡ lone w → ((q ≡ l) × (w ≡ v)) ⊎ ((content M q ≡ lone w) × Has M.vertices w)
-    lone_cases q w e = elim (eqb_tells q l) [
-      | inl a ↦ inl (a.1, one_vertex w v (sym e ∙ ap (content N) a.1 ∙ content_new))
-      | inr a ↦ let o = sym (content_other q a.1) ∙ e in inr (o, sound.lone_at_vertex q w o)
-    ]
+    lone_cases q w e = grind (arith, eqb_tells q l, one_vertex w v, content_new, content_other q, sound.lone_at_vertex q w)
 
     solid_at_old : (x : ℕ) → HasHalf M x → solid_at N (loop_of N x) ≡ solid_at M (loop_of M x)
     solid_at_old x t =
@@ -161,7 +149,7 @@ module _ {M : Model} {s f l v : ℕ} {p : Point} (goes : MvfsGoes M s f l v p) w
       one_loop = one_loop-walks N (after M) walks_on;
       cycles = cycles-walks N (after M) walks_on;
       ends_meet = ends_meet-walks N (after M) walks_on;
-      tails_there = λ x t. subst (Has N.vertices) (sym (tail_on x)) (vertex_on _ (sound.tails_there x (half_old x t)));
+      tails_there = λ x t. subst (Has N.vertices) (sym (tail_same M N sound rings_on x)) (vertex_on _ (sound.tails_there x (half_old x t)));
       ends_differ = ends_differ-rings M N sound rings_on;
       lone_or_tail = λ w t. elim (eqb_tells w v) [
         | inl e ↦ inl (l, content_new ∙ ap lone (sym e.1))
@@ -171,8 +159,8 @@ module _ {M : Model} {s f l v : ℕ} {p : Point} (goes : MvfsGoes M s f l v p) w
         ]
       ];
       lone_is_no_tail = λ q x t e. let o = half_old x t in elim (lone_cases q (tail N x) e) [
-        | inl a ↦ not_v (tail M x) (sound.tails_there x o) (sym (tail_on x) ∙ a.1)
-        | inr a ↦ sound.lone_is_no_tail q x o (a.0 ∙ ap lone (tail_on x))
+        | inl a ↦ not_v (tail M x) (sound.tails_there x o) (sym (tail_same M N sound rings_on x) ∙ a.1)
+        | inr a ↦ sound.lone_is_no_tail q x o (a.0 ∙ ap lone (tail_same M N sound rings_on x))
       ];
       one_lone = λ a b w x y. elim (lone_cases a w x) [
         | inl c ↦ elim (lone_cases b w y) [ inl d ↦ c.0 ∙ sym d.0 | inr d ↦ absurd (not_v w d.1 c.1) ]
@@ -235,8 +223,7 @@ module _ {M : Model} {s f l v : ℕ} {p : Point} (goes : MvfsGoes M s f l v p) w
     never_v x t e = sound.lone_is_no_tail l x (half_new x t) (content_new ∙ ap lone (sym e))
 
     lone_on : (q w : ℕ) → content M q ≡ lone w → (content N q ≡ lone w) × (w ≢ v)
-    lone_on q w e = let a = lone_not_l q w e in let o : content N q ≡ lone w = content_other q a ∙ e in
-        (o, λ z. a (sound.one_lone q l v (o ∙ ap lone z) content_new))
+    lone_on q w e = grind (arith, lone_not_l q w e, content_other q, sound.one_lone q l v, content_new)
 
     solid_at_new : (x : ℕ) → HasHalf M x → solid_at M (loop_of M x) ≡ solid_at N (loop_of N x)
     solid_at_new x t =

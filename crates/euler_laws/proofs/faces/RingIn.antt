@@ -1,5 +1,5 @@
 -- RingIn, which takes a ring to another face of its solid: it keeps a sound model sound, and RingIn to the old face takes it back.
-use Rattle.std.proofs.Common.{◌≡◌, ◌≢◌, ℕ, nat_eq, None, refl, sym, ap, ◌∙◌, subst, inr, List, [], ◌∷◌}
+use Rattle.std.proofs.Common.{◌≡◌, ◌≢◌, ℕ, nat_eq, None, refl, sym, ap, ◌∙◌, subst, inr, List, [], ◌∷◌, arith}
 use Rattle.std.proofs.lemmas.Bool.{not-true, ne_eqb, eq-eqb, eqb-true, eqb-false}
 use Rattle.euler_operators.specs.Table as table
 use Rattle.euler_operators.specs.Model.{Model, face_of, solid_of, outer}
@@ -111,8 +111,12 @@ ring_in_accepted N l f sound goes apart = none_refuses (conditions N (RingIn l f
 
 pub ring_in_lawful : (l f : ℕ) → IsLawful (RingIn l f)
 unfolding effect inverse
-ring_in_lawful l f M sound e = let w = ring_in_goes M l f e in let s = sound-ring_in M sound l f w.0 in record {
-  sound = s;
-  goes = ring_in_accepted (ring_in M l f) l (face_of M l) s (back_goes M sound l f w.0) (λ q. w.1 (sym q ∙ face_l M sound l f w.0));
-  undone = ring_in-ring_in M sound l f w.0;
-}
+ring_in_lawful l f M sound e = grind (
+  arith,
+  ring_in_goes M l f e,
+  sound-ring_in M sound l f,
+  ring_in_accepted (ring_in M l f) l (face_of M l),
+  back_goes M sound l f,
+  face_l M sound l f,
+  ring_in-ring_in M sound l f,
+)

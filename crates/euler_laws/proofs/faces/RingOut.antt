@@ -1,5 +1,5 @@
 -- RingOut and Outer, by which a ring becomes the outer loop of a face: they keep a sound model sound and take each other back.
-use Rattle.std.proofs.Common.{◌≡◌, ◌≢◌, ℕ, None, refl, sym, ap, ◌∙◌, subst, ◌⊎◌, inl, inr}
+use Rattle.std.proofs.Common.{◌≡◌, ◌≢◌, ℕ, None, refl, sym, ap, ◌∙◌, subst, ◌⊎◌, inl, inr, arith}
 use Rattle.std.proofs.lemmas.Bool.Decides.{eqb_tells}
 use Rattle.euler_operators.specs.Table.{map_rows}
 use Rattle.euler_operators.specs.Model.{Model, face_of, solid_of, outer}
@@ -53,12 +53,9 @@ module _ {M : Model} (sound : Sound M) {l f : ℕ} (goes : RingGoes M l f) where
   unfolding ring_out
   swaps = record { there = goes.f_there; faces = refl }
 
-  f_outer : outer N f ≡ l
-  f_outer = outer_new swaps
-
   pub sound-ring_out : Sound N
   sound-ring_out = sound-moves moves sound (faces_after sound swaps goes.f_there goes.one_solid (λ p t. elim (eqb_tells p f) [
-    | inl e ↦ inl (ap (outer N) e.1 ∙ f_outer, e.1)
+    | inl e ↦ inl (ap (outer N) e.1 ∙ outer_new swaps, e.1)
     | inr e ↦ inr (old_outer moves sound p t (outer_other (outer_set swaps) p e.1) (never_outer M sound l goes.is_ring p t))
   ]))
 
@@ -70,15 +67,12 @@ module _ {M : Model} (sound : Sound M) {l f : ℕ} (goes : RingGoes M l f) where
     l_there = (walks_same moves).loops o ∙ (sound.outers_there f goes.f_there).0;
     f_there = has_face_same swaps g ∙ g_there;
     one_solid = ap (solid_of N) o_face ∙ solid_same swaps f ∙ sym goes.one_solid ∙ sym (solid_same swaps g);
-    is_ring = λ e. o_l (sym (sym f_outer ∙ ap (outer N) (sym o_face) ∙ e));
+    is_ring = λ e. o_l (sym (sym (outer_new swaps) ∙ ap (outer N) (sym o_face) ∙ e));
   }
 
   pub take_outer-ring_out : take_outer N o g ≡ M
   unfolding take_outer ring_out
-  take_outer-ring_out = λ i. record M {
-    loops = (ap (λ y. map_rows (loop_to_face y g) N.loops) (ap (outer N) o_face ∙ f_outer) ∙ loop_home M l f g refl) i;
-    faces = (ap (λ y. map_rows (face_to_outer y o) N.faces) o_face ∙ outer_home M f l o refl) i;
-  }
+  take_outer-ring_out = grind (arith, o_face, outer_new swaps, loop_home M l f g refl, outer_home M f l o refl)
 
   -- Outer
   abbrev P : Model
@@ -98,31 +92,25 @@ module _ {M : Model} (sound : Sound M) {l f : ℕ} (goes : RingGoes M l f) where
   unfolding take_outer
   takes_over = record { there = g_there; faces = refl }
 
-  g_outer : outer P g ≡ l
-  g_outer = outer_new takes_over
-
   -- no other face has that outer loop
   z_free : (p : ℕ) → Has M.faces p → p ≢ g → outer M p ≢ z
   z_free p t a e = a (sym (sound.outers_there p t).1 ∙ ap (face_of M) e ∙ z_there.1)
 
   pub sound-take_outer : Sound P
   sound-take_outer = sound-moves takes sound (faces_after sound takes_over goes.f_there (ap (solid_of M) z_there.1 ∙ goes.one_solid) (λ p t. inr (elim (eqb_tells p g) [
-    | inl e ↦ let y : outer P p ≡ l = ap (outer P) e.1 ∙ g_outer in
+    | inl e ↦ let y : outer P p ≡ l = ap (outer P) e.1 ∙ (outer_new takes_over) in
         (λ s. goes.is_ring (sym s ∙ y), subst (Has M.loops) (sym y) goes.l_there, ap (face_of M) y ∙ sym e.1)
     | inr e ↦ old_outer takes sound p t (outer_other (outer_set takes_over) p e.1) (z_free p t e.1)
   ])))
-
-  z_face : face_of P z ≡ f
-  z_face = face_moved takes
 
   pub outer_back_goes : RingGoes P z g
   outer_back_goes = record {
     l_there = (walks_same takes).loops z ∙ z_there.0;
     f_there = has_face_same takes_over g ∙ g_there;
-    one_solid = ap (solid_of P) z_face ∙ solid_same takes_over f ∙ sym goes.one_solid ∙ sym (solid_same takes_over g);
+    one_solid = ap (solid_of P) (face_moved takes) ∙ solid_same takes_over f ∙ sym goes.one_solid ∙ sym (solid_same takes_over g);
     is_ring = λ e. elim (eqb_tells f g) [
-      | inl a ↦ goes.is_ring (sym (sym g_outer ∙ ap (outer P) (sym (z_face ∙ a.1)) ∙ e))
-      | inr a ↦ z_free f goes.f_there a.1 (sym (outer_other (outer_set takes_over) f a.1) ∙ ap (outer P) (sym z_face) ∙ e)
+      | inl a ↦ goes.is_ring (sym (sym (outer_new takes_over) ∙ ap (outer P) (sym (face_moved takes ∙ a.1)) ∙ e))
+      | inr a ↦ z_free f goes.f_there a.1 (sym (outer_other (outer_set takes_over) f a.1) ∙ ap (outer P) (sym (face_moved takes)) ∙ e)
     ];
   }
 

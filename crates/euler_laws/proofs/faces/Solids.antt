@@ -41,9 +41,6 @@ module _ {M : Model} (sound : Sound M) {s f : ℕ} (goes : KvfsGoes M s f) where
   abbrev pub K : Model
   K = kvfs_at M s f
 
-  v_there : Has M.vertices v
-  v_there = sound.lone_at_vertex l v goes.is_bare
-
   l_there : Has M.loops l
   l_there = (sound.outers_there f goes.f_there).0
 
@@ -66,8 +63,8 @@ module _ {M : Model} (sound : Sound M) {s f : ℕ} (goes : KvfsGoes M s f) where
     solid_fits = sound.solids_fit s goes.s_there;
     face_fits = sound.faces_fit f goes.f_there;
     loop_fits = sound.loops_fit l l_there;
-    vertex_fits = sound.vertices_fit v v_there;
-    point_fits = sound.points_fit v p (point_row M v v_there);
+    vertex_fits = sound.vertices_fit v (sound.lone_at_vertex l v goes.is_bare);
+    point_fits = sound.points_fit v p (point_row M v (sound.lone_at_vertex l v goes.is_bare));
   }
 
   pub mvfs-kvfs : mvfs K s f l v p ≡ M
@@ -77,7 +74,7 @@ module _ {M : Model} (sound : Sound M) {s f : ℕ} (goes : KvfsGoes M s f) where
     faces = put-remove M.faces f (record { solid = s; outer = l }) face_row i;
     loops = put-remove M.loops l (record { face = f; content = lone v }) row_l i;
     edges = M.edges;
-    vertices = put-remove M.vertices v p (point_row M v v_there) i;
+    vertices = put-remove M.vertices v p (point_row M v (sound.lone_at_vertex l v goes.is_bare)) i;
   }
 
   pub sound-kvfs : Sound K
@@ -129,12 +126,19 @@ module _ {M : Model} (sound : Sound M) {s f l v : ℕ} {p : Point} (goes : MvfsG
 -- the one face of a solid is the first of its list, and all of it
 faces_one : (M : Model) → (s f : ℕ) → KvfsGoes M s f → faces_of M s ≡ f ∷ []
 unfolding solid_of
-faces_one M s f goes =
-    let row = row_some (table.get M.faces f) goes.f_there in
-    one_listed (faces_of M s) f (all_where-rises (λ _ row. nat_eq row.solid s) M.faces)
-    (passes_listed (λ _ row. nat_eq row.solid s) M.faces f row.0 row.1 (eq-eqb row.0.solid s (sym (ap (λ o. (unwrap_or o no_face).solid) row.1) ∙ goes.of_s)))
-    (λ q e. let x = listed_passes (λ _ row. nat_eq row.solid s) M.faces q e in
-    goes.only q (ap is_some x.1) (ap (λ o. (unwrap_or o no_face).solid) x.1 ∙ eqb-true x.0.solid s x.2))
+faces_one M s f goes = grind (
+  arith,
+  row_some (table.get M.faces f) goes.f_there,
+  goes.f_there,
+  one_listed (faces_of M s) f,
+  all_where-rises,
+  passes_listed,
+  eq-eqb,
+  goes.of_s,
+  listed_passes,
+  goes.only,
+  eqb-true,
+)
 
 kvfs_facts : (M : Model) (s : ℕ) (fs : List ℕ) → faces_of M s ≡ fs → Has M.solids s → bare_face M fs ≡ true → KvfsGoes M s (head_or_zero fs)
 unfolding has_rings solid_of
@@ -216,8 +220,11 @@ mvfs_lawful s f l v p M sound e =
 
 pub kvfs_lawful : (s : ℕ) → IsLawful (Kvfs s)
 unfolding effect inverse
-kvfs_lawful s M sound e = let f : ℕ = head_or_zero (faces_of M s) in let w = kvfs_goes M s e in record {
-  sound = sound-kvfs sound w;
-  goes = mvfs_accepted (kvfs_at M s f) s _ _ _ _ (put_goes sound w);
-  undone = mvfs-kvfs sound w;
-}
+kvfs_lawful s M sound e = grind (
+  arith,
+  kvfs_goes M s e,
+  sound-kvfs sound (kvfs_goes M s e),
+  mvfs_accepted (kvfs_at M s (head_or_zero (faces_of M s))) s _ _ _ _ (put_goes sound (kvfs_goes M s e)),
+  put_goes sound (kvfs_goes M s e),
+  mvfs-kvfs sound (kvfs_goes M s e),
+)

@@ -123,9 +123,6 @@ module _ {M : Model} (sound : Sound M) {h l : ℕ} (goes : KemrGoes M h l) where
   sound-N : Sound N
   sound-N = sound-kemr M sound h l goes
 
-  less : OneLess M N h
-  less = parted.less M sound h l goes
-
   abbrev set : RowsSet M N r l (parted.kept M sound h l goes) (Some (parted.new M sound h l goes))
   set = parted.set M sound h l goes
 
@@ -133,7 +130,7 @@ module _ {M : Model} (sound : Sound M) {h l : ℕ} (goes : KemrGoes M h l) where
   part_apart x = (omega (arith, parted.count_xs M sound h l goes x, (parted.cyc M sound h l goes).apart x), omega (arith, parted.count_xs M sound h l goes x, (parted.cyc M sound h l goes).apart x))
 
   old_tail : (y k : ℕ) → HasHalf N y → tail M y ≡ k → tail N y ≡ k
-  old_tail y k t e = tail_old less y (half_cases less y t).1 ∙ e
+  old_tail y k t e = tail_old (parted.less M sound h l goes) y (half_cases (parted.less M sound h l goes) y t).1 ∙ e
 
   each_Y : (y : ℕ) → IsIn y Y → (loop_of N y ≡ r) × HasHalf N y
   each_Y y i = let p = parted.in_Y M sound h l goes y i in (sound-N.one_loop y r p, sound-N.only_edges y r p)
@@ -153,7 +150,7 @@ module _ {M : Model} (sound : Sound M) {h l : ℕ} (goes : KemrGoes M h l) where
   put_goes = record {
     first = corner_here N sound-N Y r (tail M h) (content_first set) (ap is_some (row_first set)) (λ x. (part_apart x).1) each_Y first_Y;
     second = corner_here N sound-N X l (tail M m) (parted.content_l M sound h l goes) (ap is_some (row_second set)) (λ x. (part_apart x).0) each_X first_X;
-    edge_free = edge_gone less;
+    edge_free = edge_gone (parted.less M sound h l goes);
     edge_fits = sound.edges_fit (edge_of h) goes.h_there;
     loops_apart = parted.r_l M sound h l goes;
     one_face = face_same set r (parted.r_l M sound h l goes) ∙ sym (parted.face_l M sound h l goes);
@@ -181,10 +178,7 @@ module _ {M : Model} (sound : Sound M) {h l : ℕ} (goes : KemrGoes M h l) where
 
   loops_put : (q : ℕ) (k : ℕ) (row : LoopRow) → corner_loop N C ≡ q → corner_loop N D ≡ k → (record { face = face_of N q; content = cycle (canonical ((h ∷ corner_list N D) ++ m ∷ corner_list N C)) }) ≡ row → K.loops ≡ table.remove (table.put N.loops q row) k
   unfolding mekr
-  loops_put q k row a b e =
-      ap (λ x. table.remove (table.put N.loops x (record { face = face_of N x; content = cycle (canonical ((h ∷ corner_list N D) ++ m ∷ corner_list N C)) })) (corner_loop N D)) a
-      ∙ ap (table.remove (table.put N.loops q (record { face = face_of N q; content = cycle (canonical ((h ∷ corner_list N D) ++ m ∷ corner_list N C)) }))) b
-      ∙ ap (λ x. table.remove (table.put N.loops q x) k) e
+  loops_put q k row a b e = grind arith
 
   loops-back : K.loops ≡ M.loops
   loops-back =
@@ -205,8 +199,11 @@ module _ {M : Model} (sound : Sound M) {h l : ℕ} (goes : KemrGoes M h l) where
 
 pub kemr_lawful : (h : HalfEdge) (l : ℕ) → IsLawful (Kemr h l)
 unfolding effect inverse
-kemr_lawful h l M sound e = let w = kemr_goes M h l e in record {
-  sound = sound-kemr M sound (code h) l w;
-  goes = mekr_accepted (kemr M (code h) l) _ _ h _ _ _ _ _ _ (put_goes sound w);
-  undone = mekr-kemr_back sound w;
-}
+kemr_lawful h l M sound e = grind (
+  arith,
+  kemr_goes M h l e,
+  sound-kemr M sound (code h) l (kemr_goes M h l e),
+  mekr_accepted (kemr M (code h) l) _ _ h _ _ _ _ _ _ (put_goes sound (kemr_goes M h l e)),
+  put_goes sound (kemr_goes M h l e),
+  mekr-kemr_back sound (kemr_goes M h l e),
+)

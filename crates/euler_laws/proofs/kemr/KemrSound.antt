@@ -82,12 +82,9 @@ module _ (M : Model) (sound : Sound M) (h l : ℕ) (goes : KemrGoes M h l) where
   unfolding after
   after_h = after_first xs cyc.apart h m h_in m_in hm
 
-  cycle_m : cycle_of M m ≡ xs
-  cycle_m = ap (λ q. items_of (content M q)) (sym goes.one_loop)
-
   pub after_m : after M m ≡ head_or h Y
   unfolding after
-  after_m = ap (λ q. successor q m) cycle_m ∙ after_second xs cyc h m hm h_in m_in
+  after_m = ap (λ q. successor q m) (ap (λ q. items_of (content M q)) (sym goes.one_loop)) ∙ after_second xs cyc h m hm h_in m_in
 
   h_out : count h Y ≡ 0
   h_out = omega (arith, count_xs h, tick_same h, cyc.apart h)
@@ -176,13 +173,18 @@ module _ (M : Model) (sound : Sound M) (h l : ℕ) (goes : KemrGoes M h l) where
   -- ---- vertices
 
   lone_back : (q t : ℕ) → IsLoneAt N q t → IsLoneAt M q t ⊎ (((q ≡ r) × (t ≡ u) × (after M m ≡ h)) ⊎ ((q ≡ l) × (t ≡ w) × (after M h ≡ m)))
-  lone_back q t e = elim (which r l q) [
-    | inl o ↦ inr (elim o [
-      | inl p ↦ let x = was_empty Y u t (sym (content_first set) ∙ ap (content N) (sym p) ∙ e) in inl (p, x.1, after_m ∙ ap (head_or h) x.0)
-      | inr p ↦ let x = was_empty X w t (sym content_l ∙ ap (content N) (sym p) ∙ e) in inr (p, x.1, after_h ∙ ap (head_or m) x.0)
-    ])
-    | inr n ↦ inl (sym (rows.other_content q n) ∙ e)
-  ]
+  lone_back q t e = grind (
+    arith,
+    which r l q,
+    was_empty Y u t,
+    content_first set,
+    set,
+    after_m,
+    was_empty X w t,
+    content_l,
+    after_h,
+    rows.other_content q,
+  )
 
   vertices : VerticesHold N
   unfolding kemr

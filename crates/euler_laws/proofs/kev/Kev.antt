@@ -9,6 +9,7 @@ use Rattle.euler_operators.specs.declared.Corner.TheVariants.{At, Lone}
 use Rattle.euler_operators.specs.HalfEdge.{code, half, mate, edge_of}
 use Rattle.euler_operators.specs.Model.{Model, tail, loop_of, content, after, point_of, is_number}
 use Rattle.euler_operators.specs.Sound.{Sound}
+use Rattle.euler_operators.proofs.Tests.{none_but}
 use Rattle.euler_operators.proofs.Halves.{edge_of-code, code-half}
 use Rattle.euler_operators.specs.declared.Op.TheVariants.{Mev, Kev}
 use Rattle.euler_operators.specs.Conditions.{AllHold, first_false, conditions, lone_vertex}
@@ -25,7 +26,7 @@ use Rattle.euler_laws.proofs.kev.KevSound.{KevGoes, sound-kev}
 use Rattle.euler_laws.proofs.kev.KevUndo as redo
 use Rattle.euler_laws.proofs.kev.KevUndo.{mev_at-kev, mev_lone-kev}
 use Rattle.euler_laws.proofs.mev.Mev.{mev_goes, mev_accepted, lone_goes, lone_accepted, mixed_first, mixed_second}
-use Rattle.euler_laws.proofs.shared.Rows.{half_of, of_half}
+use Rattle.euler_laws.proofs.shared.Rows.{half_of, of_half, ring_none}
 use Rattle.euler_laws.proofs.shared.Lawful.{IsLawful}
 
 -- ---- conditions
@@ -33,14 +34,11 @@ use Rattle.euler_laws.proofs.shared.Lawful.{IsLawful}
 pub kev_goes : (M : Model) (h : HalfEdge) → Sound M → first_false M (Kev h) ≡ None → KevGoes M (code h)
 unfolding first_false conditions
 kev_goes M h sound e = named (all_hold (conditions M (Kev h)) e) where
-  not_end : (a h b m : ℕ) → (nat_eq a h && not (nat_eq b m)) ≡ false → a ≡ h → b ≡ m
-  not_end a h b m f e = grind (arith, nat_tests)
-
   named : AllHold (conditions M (Kev h)) → KevGoes M (code h)
   named (_, (known, (no_parallel, (end_open, _)))) = record {
     h_there = half_of M h known;
     no_parallel = none_parallel M (code h) sound.edges_fit (eqb-true _ _ no_parallel);
-    not_bare = not_end (after M (mate (code h))) (code h) (after M (code h)) (mate (code h)) (not-true _ end_open);
+    not_bare = ring_none (after M (mate (code h))) (code h) (after M (code h)) (mate (code h)) (not-true _ end_open);
   }
 
 pub kev_accepted : (N : Model) (h : HalfEdge) → Sound N → KevGoes N (code h) → first_false N (Kev h) ≡ None
@@ -49,11 +47,9 @@ kev_accepted N h sound goes = none_refuses (conditions N (Kev h)) (
     ap is_number (sym (edge_of-code h)) ∙ sound.edges_fit (edge_of (code h)) goes.h_there
     also of_half N h goes.h_there
     also eq-eqb _ _ (parallel_none N (code h) goes.no_parallel)
-    also not_false _ (end_not (after N (mate (code h))) (code h) (after N (code h)) (mate (code h)) goes.not_bare)
+    also not_false _ (none_but (after N (mate (code h))) (code h) (after N (code h)) (mate (code h)) goes.not_bare)
     also tt
-    ) where
-      end_not : (a h b m : ℕ) → (a ≡ h → b ≡ m) → (nat_eq a h && not (nat_eq b m)) ≡ false
-      end_not a h b m f = grind (arith, nat_tests)
+    )
 
 -- ---- mev
 
@@ -94,12 +90,7 @@ corners_open M h ne =
     )
 
 corners_bare : (M : Model) (h : ℕ) → after M (mate h) ≡ h → after M h ≡ mate h → (kev_corner M h ≡ Lone (loop_of M h)) × (kev_corner_mate M h ≡ Lone (loop_of M h))
-corners_bare M h a b =
-    let f : nat_eq (after M (mate h)) h ≡ true = eq-eqb _ _ a in
-    let g : nat_eq (after M h) (mate h) ≡ true = eq-eqb _ _ b in (
-      ap (λ x. cond x (cond (nat_eq (after M (mate h)) h) (Lone (loop_of M h)) (At (half (after M (mate h))))) (At (half (after M h)))) g ∙ ap (λ x. cond x (Lone (loop_of M h)) (At (half (after M (mate h))))) f,
-      ap (λ x. cond (x && nat_eq (after M (mate h)) h) (Lone (loop_of M h)) (At (half (after M (mate h))))) g ∙ ap (λ x. cond x (Lone (loop_of M h)) (At (half (after M (mate h))))) f,
-    )
+corners_bare M h a b = grind (arith, eq-eqb _ _ a, eq-eqb _ _ b)
 
 -- what is so of the inverse, by its corners
 module _ (M : Model) (h : HalfEdge) (sound : Sound M) (goes : KevGoes M (code h)) where
@@ -113,31 +104,35 @@ module _ (M : Model) (h : HalfEdge) (sound : Sound M) (goes : KevGoes M (code h)
   p = point_of M (tail M m)
 
   codes_goes : (ne : after M m ≢ code h) → MevGoes N (code (half (corner M (code h)))) (code (half (after M m))) (code h) (tail M m) p
-  codes_goes ne = subst (λ x. MevGoes N x (code (half (after M m))) (code h) (tail M m) p) (sym (code-half (corner M (code h))))
-      (subst (λ x. MevGoes N (corner M (code h)) x (code h) (tail M m) p) (sym (code-half (after M m))) (redo.put_goes sound goes ne))
+  codes_goes ne = grind (arith, code-half (corner M (code h)), code-half (after M m), redo.put_goes sound goes ne)
 
   kev_back : effect N (Mev (kev_corner M (code h)) (kev_corner_mate M (code h)) h (tail M m) p) ≡ M
   unfolding effect
-  kev_back = elim (eqb_tells (after M m) (code h)) [
-    | inl e ↦ let c = corners_bare M (code h) e.1 (goes.not_bare e.1) in
-        ap (λ x. effect N (Mev x (kev_corner_mate M (code h)) h (tail M m) p)) c.0 ∙ ap (λ x. effect N (Mev (Lone (loop_of M (code h))) x h (tail M m) p)) c.1
-        ∙ mev_lone-kev sound goes e.1
-    | inr e ↦ let c = corners_open M (code h) e.1 in
-        ap (λ x. effect N (Mev x (kev_corner_mate M (code h)) h (tail M m) p)) c.0 ∙ ap (λ x. effect N (Mev (At (half (corner M (code h)))) x h (tail M m) p)) c.1
-        ∙ ap (λ x. mev_at N x (code (half (after M m))) (code h) (tail M m) p) (code-half (corner M (code h)))
-        ∙ ap (λ x. mev_at N (corner M (code h)) x (code h) (tail M m) p) (code-half (after M m))
-        ∙ mev_at-kev sound goes e.1
-  ]
+  kev_back = grind (
+    arith,
+    eqb_tells (after M m) (code h),
+    corners_bare M (code h),
+    goes.not_bare,
+    mev_lone-kev sound goes,
+    corners_open M (code h),
+    code-half (corner M (code h)),
+    code-half (after M m),
+    mev_at-kev sound goes,
+  )
 
   kev_back_goes : first_false N (Mev (kev_corner M (code h)) (kev_corner_mate M (code h)) h (tail M m) p) ≡ None
-  kev_back_goes = elim (eqb_tells (after M m) (code h)) [
-    | inl e ↦ let c = corners_bare M (code h) e.1 (goes.not_bare e.1) in
-        ap (λ x. first_false N (Mev x (kev_corner_mate M (code h)) h (tail M m) p)) c.0 ∙ ap (λ x. first_false N (Mev (Lone (loop_of M (code h))) x h (tail M m) p)) c.1
-        ∙ lone_accepted N (loop_of M (code h)) h (tail M m) (tail M (code h)) p (sound-kev M sound (code h) goes) (redo.lone_goes sound goes e.1)
-    | inr e ↦ let c = corners_open M (code h) e.1 in
-        ap (λ x. first_false N (Mev x (kev_corner_mate M (code h)) h (tail M m) p)) c.0 ∙ ap (λ x. first_false N (Mev (At (half (corner M (code h)))) x h (tail M m) p)) c.1
-        ∙ mev_accepted N (half (corner M (code h))) (half (after M m)) h (tail M m) p (sound-kev M sound (code h) goes) (codes_goes e.1)
-  ]
+  kev_back_goes = grind (
+    arith,
+    eqb_tells (after M m) (code h),
+    corners_bare M (code h),
+    goes.not_bare,
+    lone_accepted N (loop_of M (code h)) h (tail M m) (tail M (code h)) p (sound-kev M sound (code h) goes),
+    sound-kev M sound (code h) goes,
+    redo.lone_goes sound goes,
+    corners_open M (code h),
+    mev_accepted N (half (corner M (code h))) (half (after M m)) h (tail M m) p (sound-kev M sound (code h) goes),
+    codes_goes,
+  )
 
 pub kev_lawful : (h : HalfEdge) → IsLawful (Kev h)
 unfolding effect inverse

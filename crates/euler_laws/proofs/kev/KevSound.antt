@@ -116,10 +116,7 @@ module _ (M : Model) (sound : Sound M) (h : ℕ) (goes : KevGoes M h) where
   out_none c a b = ap (without m) (without_none h (items_of c) a) ∙ without_none m (items_of c) b
 
   pub count_new : (x : ℕ) (c : LoopContent) → count x (items_of (new c)) ≡ count x (out c)
-  count_new x c = elim (touched c) [
-    | inl t ↦ ap (λ y. count x (items_of y)) t.0 ∙ count_or_lone x (out c) u
-    | inr t ↦ ap (λ y. count x (items_of y)) t.0 ∙ ap (count x) (sym (out_none c t.1 t.2))
-  ]
+  count_new x c = grind (arith, touched c, count_or_lone x (out c) u, out_none c)
 
   pub count_kept : (x : ℕ) (c : LoopContent) → x ≢ h → x ≢ m → count x (out c) ≡ count x (items_of c)
   count_kept x c a b = count_out x m (without h (items_of c)) b ∙ count_out x h (items_of c) a
@@ -148,18 +145,27 @@ module _ (M : Model) (sound : Sound M) (h : ℕ) (goes : KevGoes M h) where
   content-N q = content-new M N new rewritten q
 
   pub came : (x q : ℕ) → StandsIn N x q → (x ≢ h) × (x ≢ m) × StandsIn M x q
-  came x q s =
-      let c : LoopContent = content M q in
-      let d : IsApart (items_of c) = (light M sound q).0 in
-      let i : IsIn x (items_of (new c)) = subst (λ y. IsIn x (items_of y)) (content-N q) (holds_in x (content N q) s) in
-      let a : x ≢ h = λ e. omega (arith, i, count_new x c, ap (λ y. count y (out c)) e, h_out c d) in
-      let b : x ≢ m = λ e. omega (arith, i, count_new x c, ap (λ y. count y (out c)) e, m_out c d) in
-      (a, b, in-holds x c (omega (arith, i, count_new x c, count_kept x c a b)))
+  came x q s = grind (
+    arith,
+    light M sound q,
+    content-N q,
+    holds_in x (content N q) s,
+    count_new x (content M q),
+    h_out (content M q) ((light M sound q).0),
+    m_out (content M q) ((light M sound q).0),
+    in-holds x (content M q),
+    count_kept x (content M q),
+  )
 
   pub stay : (x q : ℕ) → x ≢ h → x ≢ m → StandsIn M x q → StandsIn N x q
-  stay x q a b s =
-      let c : LoopContent = content M q in
-      in-holds x (content N q) (subst (λ y. IsIn x (items_of y)) (sym (content-N q)) (omega (arith, holds_in x c s, count_new x c, count_kept x c a b)))
+  stay x q a b s = grind (
+    arith,
+    in-holds x (content N q),
+    content-N q,
+    holds_in x (content M q) s,
+    count_new x (content M q),
+    count_kept x (content M q) a b,
+  )
 
   -- ---- edges
 
@@ -354,10 +360,7 @@ module _ (M : Model) (sound : Sound M) (h : ℕ) (goes : KevGoes M h) where
     next_in x t l = each (after M x) (subst (λ y. IsIn (after M x) (items_of (content M y))) (loop_after M sound x t ∙ l) (cycle_there M sound (after M x) (half_after M sound x t)))
 
   pub lone_back : (q t : ℕ) → content N q ≡ lone t → (content M q ≡ lone t) ⊎ ((t ≡ u) × (q ≡ loop_of M h) × (after M m ≡ h))
-  lone_back q t e = elim (touched (content M q)) [
-    | inl c ↦ let x = was_empty (out (content M q)) u t (sym c.0 ∙ sym (content-N q) ∙ e) in let y = emptied q c.1 x.0 in inr (x.1, y.0, y.1)
-    | inr c ↦ inl (sym c.0 ∙ sym (content-N q) ∙ e)
-  ]
+  lone_back q t e = grind (arith, touched (content M q), was_empty (out (content M q)) u t, content-N q, emptied q)
 
   -- where after(m) is h the loop becomes lone
   pub lone_new : after M m ≡ h → content N (loop_of M h) ≡ lone u
@@ -381,32 +384,38 @@ module _ (M : Model) (sound : Sound M) (h : ℕ) (goes : KevGoes M h) where
   ]
 
   pub ends_differ-kev : (x : ℕ) → HasHalf N x → tail N x ≢ tail N (mate x)
-  ends_differ-kev x there e =
-      let o = half_cases x there in
-      let t = mate_there M x o.0 in
-      let a = mate_edge_apart x h o.1 in
-      elim (eqb_tells (tail M x) w) [
-        | inl p ↦ elim (eqb_tells (tail M (mate x)) w) [
-          | inl q ↦ sound.ends_differ x o.0 (p.1 ∙ sym q.1)
-          | inr q ↦ goes.no_parallel (mate x) t a (sym (sym (tail_moved x o.0 o.1 p.1) ∙ e ∙ tail_kept (mate x) t a q.1)) (ap (tail M) (mate-mate x) ∙ p.1)
-        ]
-        | inr p ↦ elim (eqb_tells (tail M (mate x)) w) [
-          | inl q ↦ goes.no_parallel x o.0 o.1 (sym (tail_kept x o.0 o.1 p.1) ∙ e ∙ tail_moved (mate x) t a q.1) q.1
-          | inr q ↦ sound.ends_differ x o.0 (sym (tail_kept x o.0 o.1 p.1) ∙ e ∙ tail_kept (mate x) t a q.1)
-        ]
-      ]
+  ends_differ-kev x there e = grind (
+    arith,
+    half_cases x there,
+    mate_there M x,
+    mate_edge_apart x h,
+    eqb_tells (tail M x) w,
+    eqb_tells (tail M (mate x)) w,
+    sound.ends_differ x,
+    goes.no_parallel (mate x),
+    tail_moved x,
+    tail_kept (mate x),
+    mate-mate x,
+    goes.no_parallel x,
+    tail_kept x,
+    tail_moved (mate x),
+  )
 
   -- another half-edge at u, or the lone loop
   pub at_u : ((q : ℕ) × IsLoneAt N q u) ⊎ IsTail N u
-  at_u = elim (eqb_tells (after M m) h) [
-    | inl e ↦ inl (loop_of M h, lone_new e.1)
-    | inr e ↦
-        let y : ℕ = after M m in
-        let t : HasHalf M y = half_after M sound m m_there in
-        let s : tail M y ≡ u = sound.ends_meet m m_there ∙ ap (tail M) (mate-mate h) in
-        let a : edge_of y ≢ edge_of h = other_edge y e.1 (λ q. u_w (sym s ∙ ap (tail M) q)) in
-        inr (record { half = y; there = half_old y t a; starts = tail_kept y t a (λ q. u_w (sym s ∙ q)) ∙ s })
-  ]
+  at_u = grind (
+    arith,
+    eqb_tells (after M m) h,
+    lone_new,
+    half_after M sound m m_there,
+    m_there,
+    sound.ends_meet m m_there,
+    mate-mate h,
+    other_edge (after M m),
+    u_w,
+    half_old (after M m) (half_after M sound m m_there),
+    tail_kept (after M m) (half_after M sound m m_there),
+  )
 
   pub lone_or_tail-kev : (t : ℕ) → Has N.vertices t → ((q : ℕ) × IsLoneAt N q t) ⊎ IsTail N t
   lone_or_tail-kev t there = elim (eqb_tells t u) [
@@ -420,36 +429,32 @@ module _ (M : Model) (sound : Sound M) (h : ℕ) (goes : KevGoes M h) where
   ]
 
   pub lone_is_no_tail-kev : (q x : ℕ) → HasHalf N x → content N q ≢ lone (tail N x)
-  lone_is_no_tail-kev q x there is =
-      let o = half_cases x there in
-      elim (lone_back q (tail N x) is) [
-        | inl a ↦ elim (eqb_tells (tail M x) w) [
-          | inl t ↦ sound.lone_is_no_tail q h goes.h_there (a ∙ ap lone (tail_moved x o.0 o.1 t.1))
-          | inr t ↦ sound.lone_is_no_tail q x o.0 (a ∙ ap lone (tail_kept x o.0 o.1 t.1))
-        ]
-        | inr a ↦ elim (eqb_tells (tail M x) w) [
-          | inl t ↦ (bare a.2 x o.0 o.1).1 t.1
-          | inr t ↦ (bare a.2 x o.0 o.1).0 (sym (tail_kept x o.0 o.1 t.1) ∙ a.0)
-        ]
-      ]
+  lone_is_no_tail-kev q x there is = grind (
+    arith,
+    half_cases x there,
+    lone_back q (tail N x) is,
+    eqb_tells (tail M x) w,
+    sound.lone_is_no_tail q h goes.h_there,
+    goes.h_there,
+    tail_moved x (half_cases x there).0 (half_cases x there).1,
+    sound.lone_is_no_tail q x (half_cases x there).0,
+    tail_kept x (half_cases x there).0 (half_cases x there).1,
+    bare,
+  )
 
   pub one_lone-kev : (a b t : ℕ) → IsLoneAt N a t → IsLoneAt N b t → a ≡ b
-  one_lone-kev a b t x y = elim (lone_back a t x) [
-    | inl p ↦ elim (lone_back b t y) [
-      | inl q ↦ sound.one_lone a b t p q
-      | inr q ↦ absurd (sound.lone_is_no_tail a h goes.h_there (p ∙ ap lone q.0))
-    ]
-    | inr p ↦ elim (lone_back b t y) [
-      | inl q ↦ absurd (sound.lone_is_no_tail b h goes.h_there (q ∙ ap lone p.0))
-      | inr q ↦ p.1 ∙ sym q.1
-    ]
-  ]
+  one_lone-kev a b t x y = grind (
+    arith,
+    lone_back a t x,
+    lone_back b t y,
+    sound.one_lone a b t,
+    sound.lone_is_no_tail a h goes.h_there,
+    goes.h_there,
+    sound.lone_is_no_tail b h goes.h_there,
+  )
 
   pub lone_at_vertex-kev : (q t : ℕ) → IsLoneAt N q t → Has N.vertices t
-  lone_at_vertex-kev q t x = elim (lone_back q t x) [
-    | inl p ↦ has_vertex t (λ e. sound.lone_is_no_tail q m m_there (p ∙ ap lone e)) (sound.lone_at_vertex q t p)
-    | inr p ↦ subst (Has N.vertices) (sym p.0) has_u
-  ]
+  lone_at_vertex-kev q t x = grind (arith, lone_back q t x, has_vertex t, sound.lone_is_no_tail q m m_there, m_there, sound.lone_at_vertex q t, has_u)
 
   pub one_solid-kev : (x : ℕ) → HasHalf N x → solid_at N (loop_of N x) ≡ solid_at N (loop_of N (mate x))
   one_solid-kev x there =

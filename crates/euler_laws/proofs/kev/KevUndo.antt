@@ -24,6 +24,7 @@ use Rattle.euler_laws.proofs.shared.Loops.{put_before, put_there, put_none, put_
 use Rattle.euler_laws.proofs.shared.Arcs.{arc_is}
 use Rattle.euler_laws.proofs.shared.Undo.{same_loops, same_edges, edge_again, same_model, taken_out, both_out, put_in, both_in, after_first}
 use Rattle.euler_laws.proofs.shared.EdgeMore.{EdgeComes, tail-h, tail-m, OneMore, comes, tail_old}
+use Rattle.euler_laws.proofs.shared.EdgeLess.{of_edge}
 use Rattle.euler_laws.proofs.mev.MevSound as put
 use Rattle.euler_laws.proofs.mev.MevSound.{MevGoes}
 use Rattle.euler_laws.proofs.kev.KevSound as kill
@@ -55,9 +56,15 @@ module _ (hs : List ℕ) (cy : IsCycle hs) (h m : ℕ) (hm : h ≢ m) where
       )
 
     gone : (x : ℕ) → count x (kev_ring h m hs) + tick x h + tick x m ≡ count x hs
-    gone x = omega (arith, count-canonical x (xs' ++ ys'), count-append x xs' ys', ap (count x) (ring_split h m hs i j hm), count-append x (h ∷ xs') (m ∷ ys'), count-rotated x) where
-      count-rotated : (x : ℕ) → count x (rotate_to h hs) ≡ count x hs
-      count-rotated x = count-rotate_to x h hs
+    gone x = grind (
+      arith,
+      count-canonical x (xs' ++ ys'),
+      count-append x xs' ys',
+      ring_split h m hs i j hm,
+      hm,
+      count-append x (h ∷ xs') (m ∷ ys'),
+      count-rotate_to x h hs,
+    )
 
     pub both_back : ys' ≢ [] → (c d : ℕ) → d ≡ head_or m ys' → c ≡ head_or (head_or m ys') xs' →
         put_before d m (put_before c h (cycle (kev_ring h m hs))) ≡ cycle hs
@@ -93,9 +100,7 @@ module _ (hs : List ℕ) (cy : IsCycle hs) (h m : ℕ) (hm : h ≢ m) where
 pair_of : (next : ℕ → ℕ) (h m : ℕ) (rs : List ℕ) → IsPath next (h ∷ rs) h → next h ≡ m → next m ≡ h → h ≢ m → count h rs ≡ 0 → rs ≡ m ∷ []
 pair_of next h m [] p a b ne n = absurd (ne (sym p.0 ∙ a))
 pair_of next h m (x ∷ []) p a b ne n = ap (λ y. y ∷ []) (sym p.0 ∙ a)
-pair_of next h m (x ∷ y ∷ zs) p a b ne n =
-    let e : y ≡ h = sym p.1.0 ∙ ap next (sym p.0 ∙ a) ∙ b in
-    absurd (omega (arith, n, ap (tick h) e, tick_same h))
+pair_of next h m (x ∷ y ∷ zs) p a b ne n = grind (arith, p.1.0, p.0, tick_same h)
 
 module _ {M : Model} (sound : Sound M) {h : ℕ} (goes : KevGoes M h) where
   abbrev pub m : ℕ
@@ -176,10 +181,7 @@ module _ {M : Model} (sound : Sound M) {h : ℕ} (goes : KevGoes M h) where
 
     bare_tails : (x : ℕ) → HasHalf M x → tail L x ≡ tail M x
     bare_tails x there = elim (eqb_tells (edge_of x) (edge_of h)) [
-      | inl e ↦ elim (same_edge x h e.1) [
-        | inl q ↦ ap (tail L) q ∙ tail-h (comes edge) ∙ sym (ap (tail M) q)
-        | inr q ↦ ap (tail L) q ∙ tail-m (comes edge) ∙ sym (ap (tail M) q)
-      ]
+      | inl e ↦ of_edge (λ y. tail L y ≡ tail M y) h x (tail-h (comes edge)) (tail-m (comes edge)) e.1
       | inr e ↦ tail_old edge x (kill.half_old M sound h goes x there e.1)
           ∙ kill.tail_kept M sound h goes x there e.1 (kill.bare M sound h goes bare x there e.1).1
     ]
@@ -201,10 +203,7 @@ module _ {M : Model} (sound : Sound M) {h : ℕ} (goes : KevGoes M h) where
     c = cond (nat_eq (after M h) m) d (after M h)
 
     pub c_cases : ((after M h ≡ m) × (c ≡ d)) ⊎ ((after M h ≢ m) × (c ≡ after M h))
-    c_cases = elim (eqb_tells (after M h) m) [
-      | inl e ↦ inl (e.1, ap (λ b. cond b d (after M h)) e.0)
-      | inr e ↦ inr (e.1, ap (λ b. cond b d (after M h)) e.0)
-    ]
+    c_cases = grind (arith, eqb_tells (after M h) m)
 
     d_there : HasHalf M d
     d_there = half_after M sound m m_there
@@ -253,13 +252,13 @@ module _ {M : Model} (sound : Sound M) {h : ℕ} (goes : KevGoes M h) where
 
     -- what follows an item of another loop isn't in this one
     after_out : (q x : ℕ) (hs : List ℕ) → content M q ≡ cycle hs → HasHalf M x → count x hs ≡ 0 → count (after M x) hs ≡ 0
-    after_out q x hs e t n = elim (IsIn_or_not (after M x) hs) [
-      | inl i ↦
-          let l : loop_of M x ≡ q = sym (loop_after M sound x t) ∙ sound.one_loop (after M x) q (in-holds (after M x) (content M q) (subst (λ c. IsIn (after M x) (items_of c)) (sym e) i)) in
-          let j : IsIn x hs = subst (λ c. IsIn x (items_of c)) (ap (content M) l ∙ e) (cycle_there M sound x t) in
-          absurd (omega arith)
-      | inr z ↦ z
-    ]
+    after_out q x hs e t n = grind (
+      arith,
+      loop_after M sound x t,
+      sound.one_loop (after M x) q,
+      in-holds (after M x) (content M q),
+      cycle_there M sound x t,
+    )
 
     hm : h ≢ m
     hm = mate_other h
@@ -366,10 +365,7 @@ module _ {M : Model} (sound : Sound M) {h : ℕ} (goes : KevGoes M h) where
     killed_ring = (IsRing-same (round M) vs (m ∷ rest m vs) (rotation_at m vs m_in) (kill.fan_killed M sound h goes).ring).0
 
     others : (ts : List ℕ) × (rest h ws ≡ d ∷ ts)
-    others = go (rest h ws) kept_ring where
-      go : (xs : List ℕ) → round M h ≡ head_or h xs → (ts : List ℕ) × (xs ≡ d ∷ ts)
-      go [] e = absurd (open_end e)
-      go (x ∷ xs) e = (xs, ap (λ y. y ∷ xs) (sym e))
+    others = grind (arith, kept_ring)
 
     -- c is the first of what moved, or d where nothing did
     c_first : (ts : List ℕ) → c ≡ head_or d (rest m vs)
@@ -429,10 +425,7 @@ module _ {M : Model} (sound : Sound M) {h : ℕ} (goes : KevGoes M h) where
 
     tails : (x : ℕ) → HasHalf M x → tail K x ≡ tail M x
     tails x there = elim (eqb_tells (edge_of x) (edge_of h)) [
-      | inl e ↦ elim (same_edge x h e.1) [
-        | inl q ↦ ap (tail K) q ∙ tail-h new_edge ∙ c_new.1 ∙ sym (ap (tail M) q)
-        | inr q ↦ ap (tail K) q ∙ tail-m new_edge ∙ sym (ap (tail M) q)
-      ]
+      | inl e ↦ of_edge (λ y. tail K y ≡ tail M y) h x (tail-h new_edge ∙ c_new.1) (tail-m new_edge) e.1
       | inr e ↦ tails_old x there e.1
     ]
 

@@ -1,5 +1,5 @@
 -- kef as an operator: it keeps a model sound, and mef takes it back; and kef passes its conditions after mef and takes it back.
-use Rattle.std.proofs.Common.{◌≡◌, ℕ, true, None, is_some, refl, sym, ap, ◌∙◌, inl, inr}
+use Rattle.std.proofs.Common.{◌≡◌, ℕ, true, None, is_some, refl, sym, ap, ◌∙◌, inl, inr, arith}
 use Rattle.std.proofs.lemmas.Bool.Decides.{eqb_tells}
 use Rattle.std.proofs.lemmas.Bool.{not-true, ne_eqb, eq-eqb, eqb-false}
 use Rattle.euler_operators.specs.Operators.{mef_old, mef_new, kef_ring}
@@ -74,35 +74,42 @@ mef_accepted N g k h f l sound goes = none_refuses (conditions N (Mef g k h f l)
 
 pub kef_lawful : (h : HalfEdge) → IsLawful (Kef h)
 unfolding effect inverse
-kef_lawful h M sound e =
-    let w = kef_goes M h e in
-    let s = sound-kef M sound (code h) w in
-    let N : Model = kef M (code h) in
-    let m : ℕ = mate (code h) in
-    let g : code (half (after M m)) ≡ after M m = code-half (after M m) in
-    let k : code (half (after M (code h))) ≡ after M (code h) = code-half (after M (code h)) in
-    record {
-      sound = s;
-      goes = mef_accepted N (half (after M m)) (half (after M (code h))) h (face_at M m) (loop_of M m) s (rw (g, k) (gone.put_goes M sound (code h) w));
-      undone = (λ i. mef N (g i) (k i) (code h) (face_at M m) (loop_of M m)) ∙ gone.mef-after-kef M sound (code h) w;
-    }
+kef_lawful h M sound e = grind (
+  arith,
+  kef_goes M h e,
+  sound-kef M sound (code h),
+  code-half,
+  code-half (after M (code h)),
+  mef_accepted,
+  gone.put_goes M sound (code h),
+  gone.mef-after-kef M sound (code h),
+)
 
 -- ---- mef
 
 made_goes : (M : Model) (sound : Sound M) (g k h f l : ℕ) (goes : MefGoes M g k h f l) → KefGoes (mef M g k h f l) h
-made_goes M sound g k h f l goes =
-    let N : Model = mef M g k h f l in
-    let set = made.set sound goes in
-    let fm : face_at N (mate h) ≡ f = ap (face_of N) (made.loop_m sound goes) ∙ made.face_l sound goes in
-    let fh : face_at N h ≡ face_of M (loop_of M g) = ap (face_of N) (made.loop_h sound goes) ∙ face_same set (loop_of M g) (made.not_l sound goes _ (ap is_some (row_of M sound g goes.g_there))) in
-    record {
-      h_there = half_h (comes (made.more sound goes));
-      faces_apart = λ p. made.not_f sound goes (face_of M (loop_of M g)) (made.face_r sound goes) (sym fh ∙ p ∙ fm);
-      no_rings = λ q there p. ap (outer N) fm ∙ made.outer_new sound goes ∙ elim (eqb_tells q l) [
-        | inl a ↦ sym a.1
-        | inr a ↦ absurd (made.not_f sound goes (face_of M q) (sound.loops_of_faces q (sym (has_same set q a.1) ∙ there)) (sym (face_same set q a.1) ∙ p ∙ fm))
-      ];
-    }
+made_goes M sound g k h f l goes = grind (
+  arith,
+  made.set sound goes,
+  made.loop_m sound goes,
+  made.face_l sound goes,
+  made.loop_h sound goes,
+  face_same (made.set sound goes) (loop_of M g) (made.not_l sound goes _ (ap is_some (row_of M sound g goes.g_there))),
+  made.not_l sound goes _ (ap is_some (row_of M sound g goes.g_there)),
+  row_of M sound g goes.g_there,
+  goes.g_there,
+  half_h (comes (made.more sound goes)),
+  comes (made.more sound goes),
+  made.more sound goes,
+  made.not_f sound goes (face_of M (loop_of M g)) (made.face_r sound goes),
+  made.face_r sound goes,
+  made.outer_new sound goes,
+  eqb_tells,
+  made.not_f sound goes,
+  sound.loops_of_faces,
+  has_same (made.set sound goes),
+  face_same (made.set sound goes),
+)
 
 module _ {M : Model} (sound : Sound M) {g k h f l : ℕ} (goes : MefGoes M g k h f l) where
   abbrev E : Model

@@ -75,20 +75,18 @@ module _ (M : Model) (sound : Sound M) (h : ℕ) (goes : KefGoes M h) where
   pub m_in : IsIn m ys
   m_in = cycle_there M sound m m_there
 
-  pub apart_xs : IsApart xs
-  apart_xs = (cycle_sound M sound h goes.h_there).apart
-
-  pub apart_ys : IsApart ys
-  apart_ys = (cycle_sound M sound m m_there).apart
-
   pub apart_both : IsApart (xs ++ ys)
-  apart_both x = elim (IsIn_or_not x xs) [
-    | inl i ↦ elim (IsIn_or_not x ys) [
-      | inl j ↦ absurd (r_s (sym (sound.one_loop x r (in-holds x (content M r) i)) ∙ sound.one_loop x s (in-holds x (content M s) j)))
-      | inr j ↦ omega (arith, count-append x xs ys, apart_xs x)
-    ]
-    | inr i ↦ omega (arith, count-append x xs ys, apart_ys x)
-  ]
+  apart_both x = grind (
+    arith,
+    r_s,
+    sound.one_loop x r,
+    in-holds x (content M r),
+    sound.one_loop x s,
+    in-holds x (content M s),
+    count-append x xs ys,
+    ((cycle_sound M sound h goes.h_there).apart) x,
+    (cycle_sound M sound m m_there).apart x,
+  )
 
   pub count_zs : (x : ℕ) → count x zs + tick x h + tick x m ≡ count x xs + count x ys
   count_zs x = omega (arith, count-canonical x (rest m ys ++ rest h xs), count-append x (rest m ys) (rest h xs), count_at x h xs h_in, count_at x m ys m_in)
@@ -128,9 +126,6 @@ module _ (M : Model) (sound : Sound M) (h : ℕ) (goes : KefGoes M h) where
   pub has_r : Has M.loops r
   has_r = ap is_some (row_of M sound h goes.h_there)
 
-  pub has_s : Has M.loops s
-  has_s = ap is_some (row_of M sound m m_there)
-
   pub set : RowsSet M N r s kept None
   set = record { are = loops_are; apart = r_s; there = has_r; face = refl }
 
@@ -146,10 +141,7 @@ module _ (M : Model) (sound : Sound M) (h : ℕ) (goes : KefGoes M h) where
   count_now x = λ i. count x (items_of (content_first set i)) + count x (items_of (content_s i))
 
   gone : (x : ℕ) → (x ≡ h) ⊎ (x ≡ m) → in_both N r s x ≡ 0
-  gone x o = elim o [
-    | inl e ↦ omega (arith, count_now x, count_zs x, ap (tick x) (sym e), tick_same x, apart_both x, count-append x xs ys)
-    | inr e ↦ omega (arith, count_now x, count_zs x, ap (tick x) (sym e), tick_same x, apart_both x, count-append x xs ys)
-  ]
+  gone x o = grind (arith, count_now x, count_zs x, tick_same x, apart_both x, count-append x xs ys)
 
   rows : TwoRows M N (edge_of h) r s
   rows = two_rows-less less (record {
@@ -166,10 +158,18 @@ module _ (M : Model) (sound : Sound M) (h : ℕ) (goes : KefGoes M h) where
 
   zs_item : (x : ℕ) × IsIn x (rest m ys ++ rest h xs)
   unfolding after
-  zs_item =
-      let k : ℕ = after M h in
-      let i : IsIn k xs = subst (λ q. IsIn k (items_of (content M q))) (loop_after M sound h goes.h_there) (cycle_there M sound k (half_after M sound h goes.h_there)) in
-      (k, omega (arith, count-append k (rest m ys) (rest h xs), count_at k h xs h_in, tick_other k h h_on))
+  zs_item = grind (
+    arith,
+    loop_after M sound h goes.h_there,
+    goes.h_there,
+    cycle_there M sound (after M h) (half_after M sound h goes.h_there),
+    half_after M sound h goes.h_there,
+    count-append (after M h) (rest m ys) (rest h xs),
+    count_at (after M h) h xs h_in,
+    h_in,
+    tick_other (after M h) h h_on,
+    h_on,
+  )
 
   two_loops : (q : ℕ) → OneOf r s q → Has N.loops q → IsLoop F (content N q)
   two_loops q o there = elim o [
@@ -182,9 +182,6 @@ module _ (M : Model) (sound : Sound M) (h : ℕ) (goes : KefGoes M h) where
 
   other_ring : (hs : List ℕ) → Elsewhere sound rows hs → IsRing (after M) hs → IsRing F hs
   other_ring hs each t = let none = none_elsewhere sound rows hs each in ring_kef-other (after M) h m hs (none h (λ o. inl refl)) (none m (λ o. inr refl)) t
-
-  pub walks : Walks N F
-  walks = walks-rows sound rows F two_loops other_ring (fans-less sound less)
 
   -- ---- vertices
 
@@ -212,10 +209,10 @@ module _ (M : Model) (sound : Sound M) (h : ℕ) (goes : KefGoes M h) where
 
   -- the face that goes has one loop
   pub face_f : Has M.faces f
-  face_f = sound.loops_of_faces s has_s
+  face_f = sound.loops_of_faces s (ap is_some (row_of M sound m m_there))
 
   pub outer_f : outer M f ≡ s
-  outer_f = goes.no_rings s has_s refl
+  outer_f = goes.no_rings s (ap is_some (row_of M sound m m_there)) refl
 
   face_not_f : (q : ℕ) → Has M.loops q → q ≢ s → face_of M q ≢ f
   face_not_f q there a e = a (sym (goes.no_rings q there e) ∙ outer_f)
@@ -259,7 +256,7 @@ module _ (M : Model) (sound : Sound M) (h : ℕ) (goes : KefGoes M h) where
 
   -- a sound model stays sound under kef
   pub sound-kef : Sound N
-  sound-kef = sound_of N F walks vertices faces ranges
+  sound-kef = sound_of N F (walks-rows sound rows F two_loops other_ring (fans-less sound less)) vertices faces ranges
 
   -- ---- mef takes it back
 
@@ -269,12 +266,6 @@ module _ (M : Model) (sound : Sound M) (h : ℕ) (goes : KefGoes M h) where
   abbrev k : ℕ
   k = after M h
 
-  g_edge : edge_of g ≢ edge_of h
-  g_edge = other_edge g h after_m m_on
-
-  k_edge : edge_of k ≢ edge_of h
-  k_edge = other_edge k h h_on after_h
-
   g_in : IsIn g (cycle_of M m)
   g_in = subst (λ q. IsIn g (items_of (content M q))) (loop_after M sound m m_there) (cycle_there M sound g (half_after M sound m m_there))
 
@@ -282,26 +273,26 @@ module _ (M : Model) (sound : Sound M) (h : ℕ) (goes : KefGoes M h) where
   k_in = subst (λ q. IsIn k (items_of (content M q))) (loop_after M sound h goes.h_there) (cycle_there M sound k (half_after M sound h goes.h_there))
 
   loop_g : loop_of N g ≡ r
-  loop_g = loop_joined g g_edge (inr g_in)
+  loop_g = loop_joined g (other_edge g h after_m m_on) (inr g_in)
 
   tail_g : tail N g ≡ tail M h
-  tail_g = tail_old less g g_edge ∙ sound.ends_meet m m_there ∙ ap (tail M) (mate-mate h)
+  tail_g = tail_old less g (other_edge g h after_m m_on) ∙ sound.ends_meet m m_there ∙ ap (tail M) (mate-mate h)
 
   tail_k : tail N k ≡ tail M m
-  tail_k = tail_old less k k_edge ∙ sound.ends_meet h goes.h_there
+  tail_k = tail_old less k (other_edge k h h_on after_h) ∙ sound.ends_meet h goes.h_there
 
   pub put_goes : MefGoes N g k h f s
   put_goes = record {
-    g_there = half_old less g (half_after M sound m m_there) g_edge;
-    k_there = half_old less k (half_after M sound h goes.h_there) k_edge;
+    g_there = half_old less g (half_after M sound m m_there) (other_edge g h after_m m_on);
+    k_there = half_old less k (half_after M sound h goes.h_there) (other_edge k h h_on after_h);
     edge_free = edge_gone less;
     face_free = row_here face_set.rows;
     loop_free = row_second set;
-    one_loop = loop_joined k k_edge (inl k_in) ∙ sym loop_g;
+    one_loop = loop_joined k (other_edge k h h_on after_h) (inl k_in) ∙ sym loop_g;
     ends_apart = λ e. sound.ends_differ h goes.h_there (sym tail_g ∙ e ∙ tail_k);
     edge_fits = sound.edges_fit (edge_of h) goes.h_there;
     face_fits = sound.faces_fit f face_f;
-    loop_fits = sound.loops_fit s has_s;
+    loop_fits = sound.loops_fit s (ap is_some (row_of M sound m m_there));
   }
 
   abbrev K : Model
@@ -326,13 +317,10 @@ module _ (M : Model) (sound : Sound M) (h : ℕ) (goes : KefGoes M h) where
       ∙ ap (λ t. table.put (table.put t r (record { face = face_of M r; content = cycle (cycle_of M h) })) s (record { face = f; content = cycle (cycle_of M m) })) loops_are
       ∙ both_back M.loops r s _ _ _ r_s (row_of M sound h goes.h_there) (row_of M sound m m_there)
 
-  solid_back : solid_of N (face_at N g) ≡ solid_of M f
-  solid_back = ap (λ q. solid_of N (face_of N q)) loop_g ∙ solid_loop r has_r r_s ∙ one_side
-
   faces-back : K.faces ≡ M.faces
   unfolding mef kef
   faces-back = put_again M.faces f (record { solid = solid_of M f; outer = outer M f }) (record { solid = solid_of N (face_at N g); outer = s }) (face_there M f face_f)
-      (λ i. record { solid = solid_back i; outer = sym outer_f i })
+      (λ i. record { solid = (ap (λ q. solid_of N (face_of N q)) loop_g ∙ solid_loop r has_r r_s ∙ one_side) i; outer = sym outer_f i })
 
   edges-back : K.edges ≡ M.edges
   unfolding mef kef

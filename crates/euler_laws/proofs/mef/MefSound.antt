@@ -77,13 +77,21 @@ module _ {M : Model} (sound : Sound M) {g k h f l : ℕ} (goes : MefGoes M g k h
   counted x = omega (arith, count-mef_old x h g k xs, count-mef_new x m g k xs, count-halves x g k xs)
 
   apart_two : (x : ℕ) → count x (mef_old h g k xs) + count x (mef_new m g k xs) ≤ 1
-  apart_two x = elim (eqb_tells x h) [
-    | inl a ↦ omega (arith, counted x, ap (λ y. count y xs) a.1, h_not_listed, ap (λ y. tick y h) a.1, tick_same h, ap (λ y. tick y m) a.1, tick_other h m (mate_other h))
-    | inr a ↦ elim (eqb_tells x m) [
-      | inl b ↦ omega (arith, counted x, ap (λ y. count y xs) b.1, mate_not_listed, tick_other x h a.1, ap (λ y. tick y m) b.1, tick_same m)
-      | inr b ↦ omega (arith, counted x, tick_other x h a.1, tick_other x m b.1, apart_xs x)
-    ]
-  ]
+  apart_two x = grind (
+    arith,
+    eqb_tells x h,
+    counted x,
+    h_not_listed,
+    tick_same h,
+    tick_other h m (mate_other h),
+    mate_other h,
+    eqb_tells x m,
+    mate_not_listed,
+    tick_other x h,
+    tick_same m,
+    tick_other x m,
+    apart_xs x,
+  )
 
   -- ---- loops
 

@@ -46,14 +46,11 @@ module _ (M : Model) (sound : Sound M) (g k h f l : ℕ)
   abbrev pub loops' : Table LoopRow
   loops' = table.put (table.put M.loops r kept) l new
 
-  pub old_there : table.get M.loops r ≡ Some old
-  old_there = row_of M sound g g_there
-
   pub no_h : count h xs ≡ 0
-  no_h = not_held M sound h edge_free r old old_there
+  no_h = not_held M sound h edge_free r old (row_of M sound g g_there)
 
   pub no_m : count m xs ≡ 0
-  no_m = not_held M sound m (ap (table.get M.edges) (edge_of-mate h) ∙ edge_free) r old old_there
+  no_m = not_held M sound m (ap (table.get M.edges) (edge_of-mate h) ∙ edge_free) r old (row_of M sound g g_there)
 
   pub loops-mef : (mef M g k h f l).loops ≡ loops'
   unfolding mef

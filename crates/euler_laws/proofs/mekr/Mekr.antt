@@ -1,5 +1,5 @@
 -- mekr as an operator: it keeps a model sound, and kemr passes its conditions after it and takes it back.
-use Rattle.std.proofs.Common.{◌≡◌, ℕ, None, is_some, refl, sym, ap, ◌∙◌, subst}
+use Rattle.std.proofs.Common.{◌≡◌, ℕ, None, is_some, refl, sym, ap, ◌∙◌, subst, arith}
 use Rattle.std.proofs.lemmas.Bool.{eq-eqb}
 use Rattle.euler_operators.specs.declared.HalfEdge.{HalfEdge}
 use Rattle.euler_operators.specs.declared.Corner.{Corner}
@@ -38,12 +38,12 @@ mekr_is M c d h = refl
 
 pub mekr_lawful : (c d : Corner) (h : HalfEdge) → IsLawful (Mekr c d h)
 unfolding effect inverse
-mekr_lawful c d h M sound e =
-    let w = join_goes M c d h sound e in
-    let is = mekr_is M c d (code h) in
-    let s = sound-join sound w in
-    record {
-      sound = subst Sound (sym is) s;
-      goes = subst (λ N. first_false N (Kemr h (corner_loop M d)) ≡ None) (sym is) (kemr_accepted _ h (corner_loop M d) s (part_goes sound w));
-      undone = ap (λ N. kemr N (code h) (corner_loop M d)) is ∙ kemr-join_back sound w;
-    }
+mekr_lawful c d h M sound e = grind (
+  arith,
+  join_goes M c d h sound e,
+  mekr_is M c d (code h),
+  sound-join sound (join_goes M c d h sound e),
+  kemr_accepted _ h (corner_loop M d) (sound-join sound (join_goes M c d h sound e)) (part_goes sound (join_goes M c d h sound e)),
+  part_goes sound (join_goes M c d h sound e),
+  kemr-join_back sound (join_goes M c d h sound e),
+)

@@ -110,25 +110,26 @@ module _ {M : Model} (sound : Sound M) {h q l u w : ℕ} {Y X : List ℕ} (goes 
   in_one x i j = goes.loops_apart (sym (in_Y x j).1 ∙ (in_X x i).1)
 
   apart_both : IsApart (X ++ Y)
-  apart_both x = elim (IsIn_or_not x X) [
-    | inl i ↦ elim (IsIn_or_not x Y) [
-      | inl j ↦ absurd (in_one x i j)
-      | inr j ↦ omega (arith, count-append x X Y, goes.second.apart x)
-    ]
-    | inr i ↦ omega (arith, count-append x X Y, goes.first.apart x)
-  ]
+  apart_both x = grind (arith, in_one x, count-append x X Y, goes.second.apart x, goes.first.apart x)
 
   out : (x : ℕ) → (HasHalf M x → ⊥) → (count x X ≡ 0) × (count x Y ≡ 0)
-  out x never = (
-    elim (IsIn_or_not x X) [ inl i ↦ absurd (never (in_X x i).0) | inr n ↦ n ],
-    elim (IsIn_or_not x Y) [ inl i ↦ absurd (never (in_Y x i).0) | inr n ↦ n ],
-  )
+  out x never = grind (arith, in_X x, in_Y x)
 
   pub apart_zs : IsApart zs
-  apart_zs =
-      let a = out h (λ t. not_h (comes more) h t refl) in
-      let b = out m (λ t. not_m (comes more) m t refl) in
-      apart_braced h m X Y hm (omega (arith, count-append h X Y, a.0, a.1)) (omega (arith, count-append m X Y, b.0, b.1)) apart_both
+  apart_zs = grind (
+    arith,
+    out h,
+    not_h (comes more) h,
+    comes more,
+    more,
+    out m,
+    not_m (comes more) m,
+    apart_braced h m X Y hm,
+    hm,
+    count-append h X Y,
+    count-append m X Y,
+    apart_both,
+  )
 
   count_zs : (x : ℕ) → count x (canonical zs) ≡ tick x h + count x X + tick x m + count x Y
   count_zs x = omega (arith, count-canonical x zs, count-append x (h ∷ X) (m ∷ Y))
@@ -137,10 +138,7 @@ module _ {M : Model} (sound : Sound M) {h q l u w : ℕ} {Y X : List ℕ} (goes 
   he p = elim e_cases [ inl o ↦ hm (p ∙ o.1) | inr o ↦ not_h (comes more) e (in_X e o.0).0 (sym p) ]
 
   ce : c ≢ e
-  ce p = elim c_cases [
-    | inl a ↦ he (sym a.1 ∙ p)
-    | inr a ↦ elim e_cases [ inl b ↦ not_m (comes more) c (in_Y c a.0).0 (p ∙ b.1) | inr b ↦ in_one e b.0 (subst (λ x. IsIn x Y) p a.0) ]
-  ]
+  ce p = grind (arith, c_cases, he, e_cases, not_m (comes more) c, comes more, more, in_Y c, in_one e)
 
   -- ---- loops
 
@@ -313,14 +311,10 @@ module _ {M : Model} (sound : Sound M) {h q l u w : ℕ} {Y X : List ℕ} (goes 
   face_h = ap (face_of N) loop_h ∙ face_same set q goes.loops_apart
 
   first_back : cycle_or_lone (beyond h m (cycle_of N h)) (tail N h) ≡ content M q
-  first_back =
-      let y : beyond h m (cycle_of N h) ≡ Y = ap (beyond h m) cycle_h ∙ beyond_canonical h m X Y apart_zs in
-      (λ i. cycle_or_lone (y i) (tail-h (comes more) i)) ∙ sym goes.first.holds_it
+  first_back = grind (arith, cycle_h, beyond_canonical h m X Y apart_zs, apart_zs, tail-h (comes more), comes more, more, goes.first.holds_it)
 
   second_back : cycle_or_lone (between h m (cycle_of N h)) (tail N m) ≡ content M l
-  second_back =
-      let x : between h m (cycle_of N h) ≡ X = ap (between h m) cycle_h ∙ between_canonical h m X Y apart_zs in
-      (λ i. cycle_or_lone (x i) (tail-m (comes more) i)) ∙ sym goes.second.holds_it
+  second_back = grind (arith, cycle_h, between_canonical h m X Y apart_zs, apart_zs, tail-m (comes more), comes more, more, goes.second.holds_it)
 
   loops-back : K.loops ≡ M.loops
   loops-back =

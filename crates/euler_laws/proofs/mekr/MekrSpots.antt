@@ -53,12 +53,7 @@ spot_at M sound x there =
 -- each corner that is known is a spot
 pub spot_of : (M : Model) → Sound M → (c : Corner) → (corner_known M c).holds ≡ true → (corner_lone M c).holds ≡ true → Spot M (corner_loop M c) (corner_tail M c) (corner_list M c)
 spot_of M sound (At g) known bare = spot_at M sound (code g) (ap (λ x. is_some (table.get M.edges x)) (edge_of-code g) ∙ known)
-spot_of M sound (Lone l) known bare = record {
-  there = known;
-  holds_it = lone_is (content M l) bare;
-  apart = λ x. omega arith;
-  starts = λ y ys e. absurd (no_first y ys e);
-}
+spot_of M sound (Lone l) known bare = grind (arith, lone_is (content M l) bare, no_first)
 
 -- what the conditions of mekr say of the loops q, from which Y is read, and l, from which X is
 pub record JoinGoes (M : Model) (h q l u w : ℕ) (Y X : List ℕ) : Type 0 where
@@ -121,14 +116,8 @@ module _ (M : Model) (sound : Sound M) (q v : ℕ) (zs : List ℕ) (spot : Spot 
   ]
 
   pub vertex_there : Has M.vertices v
-  vertex_there = elim (first_cases 0) [
-    | inl e ↦ sound.lone_at_vertex q v e.2
-    | inr e ↦ subst (Has M.vertices) e.1 (sound.tails_there (head_or 0 zs) (half_there (head_or 0 zs) e.0))
-  ]
+  vertex_there = grind (arith, first_cases 0, sound.lone_at_vertex q v, sound.tails_there (head_or 0 zs), half_there (head_or 0 zs))
 
   -- no other loop is lone there
   pub only_lone : (p : ℕ) → content M p ≡ lone v → p ≡ q
-  only_lone p e = elim (first_cases 0) [
-    | inl o ↦ sound.one_lone p q v e o.2
-    | inr o ↦ absurd (sound.lone_is_no_tail p (head_or 0 zs) (half_there (head_or 0 zs) o.0) (e ∙ ap lone (sym o.1)))
-  ]
+  only_lone p e = grind (arith, first_cases 0, sound.one_lone p q v e, sound.lone_is_no_tail p (head_or 0 zs), half_there (head_or 0 zs))

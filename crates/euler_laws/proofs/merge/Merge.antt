@@ -128,10 +128,7 @@ module _ {M : Model} (sound : Sound M) {s t : ℕ} (goes : MergeGoes M s t) wher
   solid_back n there = ap is_some (sym (solid_other n (not_t n there))) ∙ there
 
   joined_there : (n : ℕ) → Has M.solids n → Has N.solids (joined s t n)
-  joined_there n there = elim (eqb_tells n t) [
-    | inl e ↦ subst (Has N.solids) (sym (ap (λ b. cond b s n) e.0)) (ap is_some (solid_other s goes.apart) ∙ goes.s_there)
-    | inr e ↦ subst (Has N.solids) (sym (ap (λ b. cond b s n) e.0)) (ap is_some (solid_other n e.1) ∙ there)
-  ]
+  joined_there n there = grind (arith, eqb_tells n t, solid_other s goes.apart, goes.apart, goes.s_there, solid_other n)
 
   pub joined_same : (n : ℕ) → n ≢ t → joined s t n ≡ n
   joined_same n a = let e : nat_eq n t ≡ false = grind (arith, nat_tests) in ap (λ b. cond b s n) e

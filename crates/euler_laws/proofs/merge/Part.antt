@@ -1,20 +1,20 @@
 -- part as an operator: it keeps a sound model sound. merge and part pass their conditions after each other, and take each other back.
 use Rattle.std.proofs.Common.{◌≡◌, ◌≢◌, ℕ, Bool, true, false, cond, not, nat_eq, ◌&&◌, ◌||◌, List, [], ◌∷◌, ◌++◌, Some, None, unwrap_or, is_some, IsTrue, refl, sym, ap, ◌∙◌, subst, arith, inl, inr, true≢false}
 use Rattle.std.proofs.lemmas.Bool.Decides.{nat_tests, eqb_tells}
-use Rattle.std.proofs.lemmas.Bool.{not-true, not-false, eq-eqb, eqb-true}
+use Rattle.std.proofs.lemmas.Bool.{not-true, not-false, eq-eqb, ne_eqb, eqb-true}
 use Rattle.euler_operators.specs.HalfEdge.{mate, edge_of, plus, minus}
 use Rattle.euler_operators.specs.Table as table
 use Rattle.euler_operators.specs.Table.{map_rows, tables}
 use Rattle.euler_operators.specs.Model.{Model, FaceRow, no_face, loop_of, face_of, solid_of, outer, is_number, faces_of}
 use Rattle.euler_operators.specs.Sound.{Sound, Has, HasHalf}
 use Rattle.euler_operators.proofs.Halves.{plus_row, mate_plus, mate_minus}
-use Rattle.euler_operators.proofs.Tables.{put-remove, remove-put, map_same, first_where_zero, zero_first_where, no_row, row_some}
+use Rattle.euler_operators.proofs.Tables.{get-put_here, put-remove, remove-put, map_same, first_where_zero, zero_first_where, no_row, row_some}
 use Rattle.euler_operators.proofs.Tests.{and_false}
 use Rattle.euler_operators.proofs.Models.{mate_there}
 use Rattle.euler_operators.specs.declared.Op.TheVariants.{Merge, Part}
 use Rattle.euler_operators.specs.Conditions.{AllHold, first_false, conditions, numbers_in_range, faces_known, faces_in, face_at, lists, lists_all, strictly_rises, is_empty, torn_edge, differ}
 use Rattle.euler_operators.specs.Effect.{effect, inverse, merge, part, faces_to_solid}
-use Rattle.euler_laws.proofs.shared.Goes.{all_hold, none_refuses, not_false, taken, no_zero, all_hold-append, all_hold-front, all_hold-back}
+use Rattle.euler_laws.proofs.shared.Goes.{◌also◌, all_hold, none_refuses, not_false, taken, no_zero, all_hold-append, all_hold-front, all_hold-back}
 use Rattle.euler_laws.proofs.shared.Fans.{half_face}
 use Rattle.euler_laws.proofs.shared.Arcs.{halves_of_edge}
 use Rattle.euler_laws.proofs.shared.Same.{map_twice}
@@ -68,9 +68,7 @@ module _ {M : Model} (sound : Sound M) {s t : ℕ} {fs : List ℕ} (goes : PartG
 
   pub t_new : Has N.solids t
   unfolding part
-  t_new = ap is_some new where
-    new : table.get (table.put M.solids t tt) t ≡ Some tt
-    new = grind (arith, nat_tests, tables)
+  t_new = ap is_some (get-put_here M.solids t tt)
 
   solid_other : (n : ℕ) → n ≢ t → table.get N.solids n ≡ table.get M.solids n
   unfolding part
@@ -131,8 +129,7 @@ module _ {M : Model} (sound : Sound M) {s t : ℕ} {fs : List ℕ} (goes : PartG
 -- a face stands in the list of its solid
 pub face_in : (M : Model) (s q : ℕ) → lists (faces_of M s) q ≡ true → Has M.faces q × (solid_of M q ≡ s)
 unfolding solid_of
-face_in M s q l = let x = listed_passes (λ _ row. nat_eq row.solid s) M.faces q l in
-    (ap is_some x.1, ap (λ o. (unwrap_or o no_face).solid) x.1 ∙ eqb-true x.0.solid s x.2)
+face_in M s q l = grind (arith, listed_passes, eqb-true)
 
 pub in_faces : (M : Model) (s q : ℕ) → Has M.faces q → solid_of M q ≡ s → lists (faces_of M s) q ≡ true
 in_faces M s q there e = passes_listed (λ _ row. nat_eq row.solid s) M.faces q (record { solid = solid_of M q; outer = outer M q }) (face_there M q there) (eq-eqb _ _ e)
@@ -166,13 +163,11 @@ module _ {M : Model} (sound : Sound M) {s t : ℕ} (goes : MergeGoes M s t) wher
     listed = let x = sound.solid_has_face t goes.t_there in (x.0, face_listed x.0 x.1 ∙ eq-eqb (solid_of M x.0) t x.2);
     rises = all_where-rises (λ _ row. nat_eq row.solid t) M.faces;
     left = let x = sound.solid_has_face s goes.s_there in
-        (x.0, face_on x.0 x.1, joins.solid_new sound goes x.0 x.1 ∙ ap (joins.joined s t) x.2 ∙ joins.joined_same sound goes s goes.apart, face_listed x.0 x.1 ∙ ap (λ n. nat_eq n t) x.2 ∙ s_not_t);
+        (x.0, face_on x.0 x.1, joins.solid_new sound goes x.0 x.1 ∙ ap (joins.joined s t) x.2 ∙ joins.joined_same sound goes s goes.apart, face_listed x.0 x.1 ∙ ap (λ n. nat_eq n t) x.2 ∙ ne_eqb s t goes.apart);
     whole = λ x h. let there = half_back x h in
         ap (lists (faces_of M t)) (face_at_same x) ∙ face_listed (face_at M x) (half_face M sound x there) ∙ ap (λ n. nat_eq n t) (sound.one_solid x there)
         ∙ sym (ap (lists (faces_of M t)) (face_at_same (mate x)) ∙ face_listed (face_at M (mate x)) (half_face M sound (mate x) (mate_there M x there)));
-  } where
-    s_not_t : nat_eq s t ≡ false
-    s_not_t = let a = goes.apart in grind (arith, nat_tests)
+  }
 
   row_home : (q : ℕ) (row : FaceRow) → table.get M.faces q ≡ Some row →
       faces_to_solid (λ f _. lists (faces_of M t) f) t q (faces_to_solid (λ _ row. nat_eq row.solid t) s q row) ≡ row
@@ -218,18 +213,12 @@ hold_in M s (g ∷ fs) h f l = elim (listed_cases g f fs l) [ inl e ↦ ap (soli
 or_false : (a b c d : Bool) → a ≡ false → b ≡ false → c ≡ false → d ≡ false → (a || b || c || d) ≡ false
 or_false a b c d w x y z = λ i. w i || x i || y i || z i
 
-record NoneTrue (a b c d : Bool) : Type 0 where
-  first : a ≡ false
-  second : b ≡ false
-  third : c ≡ false
-  fourth : d ≡ false
-
-false_or : (a b c d : Bool) → (a || b || c || d) ≡ false → NoneTrue a b c d
+false_or : (a b c d : Bool) → (a || b || c || d) ≡ false → (a ≡ false) × (b ≡ false) × (c ≡ false) × (d ≡ false)
 false_or true b c d e = absurd (true≢false e)
 false_or false true c d e = absurd (true≢false e)
 false_or false false true d e = absurd (true≢false e)
 false_or false false false true e = absurd (true≢false e)
-false_or false false false false e = record { first = refl; second = refl; third = refl; fourth = refl }
+false_or false false false false e = (refl, refl, refl, refl)
 
 some_listed : (fs : List ℕ) → is_empty fs ≡ false → (f : ℕ) × (lists fs f ≡ true)
 some_listed [] e = absurd (true≢false e)
@@ -242,17 +231,11 @@ listed_some (g ∷ fs) f l = refl
 -- not all of a list stand in another
 left_out : (fs ns : List ℕ) → lists_all fs ns ≡ false → (f : ℕ) × (lists ns f ≡ true) × (lists fs f ≡ false)
 left_out fs [] e = absurd (true≢false e)
-left_out fs (n ∷ ns) e = elim (lists fs n) as (λ b. lists fs n ≡ b → (b && lists_all fs ns) ≡ false → (f : ℕ) × (lists (n ∷ ns) f ≡ true) × (lists fs f ≡ false)) [
-  | true ↦ λ l e. let x = left_out fs ns e in (x.0, rest_listed n x.0 ns x.1, x.2)
-  | false ↦ λ l e. (n, first_listed n ns, l)
-] refl e
+left_out fs (n ∷ ns) e = grind (arith, left_out fs ns, rest_listed n, first_listed n ns)
 
 out_left : (fs ns : List ℕ) (f : ℕ) → lists ns f ≡ true → lists fs f ≡ false → lists_all fs ns ≡ false
 out_left fs [] f l o = absurd (true≢false (sym l))
-out_left fs (n ∷ ns) f l o = elim (listed_cases n f ns l) [
-  | inl e ↦ ap (λ b. b && lists_all fs ns) (ap (lists fs) (sym e) ∙ o)
-  | inr r ↦ ap (λ b. lists fs n && b) (out_left fs ns f r o) ∙ and_false (lists fs n)
-]
+out_left fs (n ∷ ns) f l o = grind (arith, listed_cases n f ns l, out_left fs ns f, and_false (lists fs n))
 
 -- no edge is torn
 same_means : (a b : Bool) → a ≡ b → differ a b ≡ false
@@ -265,8 +248,7 @@ means_same true false e = absurd (true≢false e)
 means_same false b e = sym e
 
 not_torn : (M : Model) (fs : List ℕ) → ((x : ℕ) → HasHalf M x → lists fs (face_at M x) ≡ lists fs (face_at M (mate x))) → torn_edge M fs ≡ 0
-not_torn M fs whole = first_where_zero (λ e _. differ (lists fs (face_at M (plus e))) (lists fs (face_at M (minus e)))) M.edges (λ e row at.
-    same_means _ _ (whole (plus e) (ap is_some (ap (table.get M.edges) (plus_row e).0 ∙ at)) ∙ ap (λ x. lists fs (face_at M x)) (mate_plus e)))
+not_torn M fs whole = grind (arith, first_where_zero, same_means, plus_row, mate_plus)
 
 torn_not : (M : Model) (fs : List ℕ) → Sound M → torn_edge M fs ≡ 0 → (x : ℕ) → HasHalf M x → lists fs (face_at M x) ≡ lists fs (face_at M (mate x))
 torn_not M fs sound z x there =
@@ -285,17 +267,17 @@ part_goes M s t fs sound e =
     let x = all_hold-back (numbers_in_range fs) _ w.1.1 in
     let y = all_hold-front (faces_known M fs ++ faces_in M s fs) _ x.1.1 in
     let n = false_or (is_empty fs) (not (strictly_rises fs)) (lists_all fs (faces_of M s)) (not (nat_eq (torn_edge M fs) 0)) (not-true _ (all_hold-back (faces_known M fs ++ faces_in M s fs) _ x.1.1).0) in
-    let o = left_out fs (faces_of M s) n.third in
+    let o = left_out fs (faces_of M s) n.2 in
     let i = face_in M s o.0 o.1 in
     record {
       s_there = x.0;
       t_free = no_row _ (not-true _ x.1.0);
       t_fits = w.1.0;
       each = λ f l. (hold_known M fs (all_hold-front (faces_known M fs) (faces_in M s fs) y) f l, hold_in M s fs (all_hold-back (faces_known M fs) (faces_in M s fs) y) f l);
-      listed = some_listed fs n.first;
-      rises = not-false (strictly_rises fs) n.second;
+      listed = some_listed fs n.0;
+      rises = not-false (strictly_rises fs) n.1;
       left = (o.0, i.0, i.1, o.2);
-      whole = torn_not M fs sound (eqb-true _ _ (not-false (nat_eq (torn_edge M fs) 0) n.fourth));
+      whole = torn_not M fs sound (eqb-true _ _ (not-false (nat_eq (torn_edge M fs) 0) n.3));
     }
 
 pub part_accepted : (N : Model) (s t : ℕ) (fs : List ℕ) → Sound N → PartGoes N s t fs → first_false N (Part s t fs) ≡ None
@@ -303,40 +285,40 @@ unfolding first_false conditions
 part_accepted N s t fs sound goes =
     let o = goes.left in
     none_refuses (conditions N (Part s t fs)) (
-      sound.solids_fit s goes.s_there,
-      (
-        goes.t_fits,
-        all_hold-append (numbers_in_range fs) _ (numbers_hold fs (λ f l. sound.faces_fit f (goes.each f l).0)) (
-          goes.s_there,
-          (
-            not_false _ (taken _ goes.t_free),
-            all_hold-append (faces_known N fs ++ faces_in N s fs) _ (all_hold-append (faces_known N fs) (faces_in N s fs) (known_hold N fs (λ f l. (goes.each f l).0)) (in_hold N s fs (λ f l. (goes.each f l).1))) (
-              not_false _ (or_false (is_empty fs) (not (strictly_rises fs)) (lists_all fs (faces_of N s)) (not (nat_eq (torn_edge N fs) 0))
-                  (listed_some fs goes.listed.0 goes.listed.1)
-                  (ap not goes.rises)
-                  (out_left fs (faces_of N s) o.0 (in_faces N s o.0 o.1 o.2) o.3)
-                  (ap not (eq-eqb _ _ (not_torn N fs goes.whole)))),
-              tt,
-            ),
-          ),
-        ),
-      ),
-    )
+    sound.solids_fit s goes.s_there
+    also goes.t_fits
+    also all_hold-append (numbers_in_range fs) _ (numbers_hold fs (λ f l. sound.faces_fit f (goes.each f l).0)) (
+    goes.s_there
+    also not_false _ (taken _ goes.t_free)
+    also all_hold-append (faces_known N fs ++ faces_in N s fs) _ (all_hold-append (faces_known N fs) (faces_in N s fs) (known_hold N fs (λ f l. (goes.each f l).0)) (in_hold N s fs (λ f l. (goes.each f l).1))) (
+    not_false _ (or_false (is_empty fs) (not (strictly_rises fs)) (lists_all fs (faces_of N s)) (not (nat_eq (torn_edge N fs) 0))
+    (listed_some fs goes.listed.0 goes.listed.1)
+    (ap not goes.rises)
+    (out_left fs (faces_of N s) o.0 (in_faces N s o.0 o.1 o.2) o.3)
+    (ap not (eq-eqb _ _ (not_torn N fs goes.whole))))
+    also tt
+    )))
 
 -- ---- the operators
 
 pub merge_lawful : (s t : ℕ) → IsLawful (Merge s t)
 unfolding effect inverse
-merge_lawful s t M sound e = let w = merge_goes M s t e in let good = sound-merge sound w in record {
-  sound = good;
-  goes = part_accepted (merge M s t) s t (faces_of M t) good (split_goes sound w);
-  undone = part-merge sound w;
-}
+merge_lawful s t M sound e = grind (
+  arith,
+  merge_goes M s t e,
+  sound-merge sound (merge_goes M s t e),
+  part_accepted (merge M s t) s t (faces_of M t) (sound-merge sound (merge_goes M s t e)) (split_goes sound (merge_goes M s t e)),
+  split_goes sound (merge_goes M s t e),
+  part-merge sound (merge_goes M s t e),
+)
 
 pub part_lawful : (s t : ℕ) (fs : List ℕ) → IsLawful (Part s t fs)
 unfolding effect inverse
-part_lawful s t fs M sound e = let w = part_goes M s t fs sound e in let good = sound-part sound w in record {
-  sound = good;
-  goes = merge_accepted (part M s t fs) s t good (join_goes sound w);
-  undone = merge-part sound w;
-}
+part_lawful s t fs M sound e = grind (
+  arith,
+  part_goes M s t fs sound e,
+  sound-part sound (part_goes M s t fs sound e),
+  merge_accepted (part M s t fs) s t (sound-part sound (part_goes M s t fs sound e)) (join_goes sound (part_goes M s t fs sound e)),
+  join_goes sound (part_goes M s t fs sound e),
+  merge-part sound (part_goes M s t fs sound e),
+)

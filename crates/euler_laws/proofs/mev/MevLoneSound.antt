@@ -162,10 +162,17 @@ module _ {M : Model} (sound : Sound M) {l h v u : ℕ} {p : Point} (goes : LoneG
   has_vertex w there = ap is_some (vertex_same w (not_v w there)) ∙ there
 
   lone_back : (q w : ℕ) → IsLoneAt N q w → IsLoneAt M q w × (w ≢ u) × (w ≢ v)
-  lone_back q w e = elim (eqb_tells q l) [
-    | inl a ↦ absurd (never_lone ps w (sym content_new ∙ ap (content N) (sym a.1) ∙ e))
-    | inr a ↦ let b = sym (content_other q a.1) ∙ e in (b, λ s. a.1 (sound.one_lone q l u (b ∙ ap lone s) goes.is_lone), not_v w (sound.lone_at_vertex q w b))
-  ]
+  lone_back q w e = grind (
+    arith,
+    eqb_tells q l,
+    never_lone ps w,
+    content_new,
+    content_other q,
+    sound.one_lone q l u,
+    goes.is_lone,
+    not_v w,
+    sound.lone_at_vertex q w,
+  )
 
   vertices : VerticesHold N
   vertices = vertices_hold-more sound edge (record {

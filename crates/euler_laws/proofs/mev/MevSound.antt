@@ -25,8 +25,8 @@ use Rattle.euler_laws.proofs.shared.Same.{map_twice, mapped_some, Rewritten, con
 use Rattle.euler_laws.proofs.shared.Rows.{count-halves}
 use Rattle.euler_laws.proofs.shared.Parts.{VerticesHold, RangesHold, sound_of, fit-put, fit-map, points-put, stay_of_same, faces_hold}
 use Rattle.euler_laws.proofs.shared.EdgeMore.{EdgeComes, half_h, half_m, tail-h, tail-m, edge_apart, not_h, not_m, half_old, half_cases, vertices-more}
-use Rattle.euler_laws.proofs.shared.EdgeLess.{not_mate}
-use Rattle.euler_laws.proofs.shared.TwoRows.{OneOf, TwoRows, in_both, stands_both, of_edge, only, placed, one_solid-rows}
+use Rattle.euler_laws.proofs.shared.EdgeLess.{not_mate, of_edge}
+use Rattle.euler_laws.proofs.shared.TwoRows.{OneOf, TwoRows, in_both, stands_both, only, placed, one_solid-rows}
 
 pub before_content : (g h q : ℕ) (row : LoopRow) → (with_before g h q row).content ≡ put_before g h row.content
 before_content g h q row = elim (holds g row.content) as (λ b. (cond b (record row { content = cycle (canonical (insert_before g h (items_of row.content))) }) row).content ≡ cond b (cycle (canonical (insert_before g h (items_of row.content)))) row.content) [ true ↦ refl | false ↦ refl ]
@@ -35,10 +35,7 @@ pub before_face : (g h q : ℕ) (row : LoopRow) → (with_before g h q row).face
 before_face g h q row = elim (holds g row.content) as (λ b. (cond b (record row { content = cycle (canonical (insert_before g h (items_of row.content))) }) row).face ≡ row.face) [ true ↦ refl | false ↦ refl ]
 
 pub tails_of_row : (hs : List ℕ) (v x : ℕ) (row : EdgeRow) → tail_in (with_tails hs v (edge_of x) row) (is_first x) ≡ cond (nat_lt 0 (count x hs)) v (tail_in row (is_first x))
-tails_of_row hs v x row = elim (halves_of_edge x) [
-  | inl p ↦ ap (tail_in (with_tails hs v (edge_of x) row)) p.1 ∙ ap (λ y. cond (nat_lt 0 (count y hs)) v row.plus_tail) (sym p.0) ∙ ap (λ b. cond (nat_lt 0 (count x hs)) v (tail_in row b)) (sym p.1)
-  | inr p ↦ ap (tail_in (with_tails hs v (edge_of x) row)) p.1 ∙ ap (λ y. cond (nat_lt 0 (count y hs)) v row.minus_tail) (sym p.0) ∙ ap (λ b. cond (nat_lt 0 (count x hs)) v (tail_in row b)) (sym p.1)
-]
+tails_of_row hs v x row = grind (arith, halves_of_edge x)
 
 tails_mapped : (hs : List ℕ) (v x : ℕ) (o : Option EdgeRow) → is_some o ≡ true →
     tail_in (unwrap_or (option_map (with_tails hs v (edge_of x)) o) no_edge) (is_first x) ≡ cond (nat_lt 0 (count x hs)) v (tail_in (unwrap_or o no_edge) (is_first x))
@@ -81,14 +78,8 @@ module _ (M : Model) (sound : Sound M) (g k h v : ℕ) (p : Point) (goes : MevGo
   abbrev pub left : List ℕ
   left = onward g k ws
 
-  pub g_in : IsIn g ws
-  g_in = fan.all g goes.g_there refl
-
-  pub k_in : IsIn k ws
-  k_in = fan.all k goes.k_there goes.one_tail
-
   pub arc_moved : arc M g k ≡ moved
-  arc_moved = arc_is M ws g k fan.apart fan.ring (λ x i. (fan.of_it x i).0) g_in k_in
+  arc_moved = arc_is M ws g k fan.apart fan.ring (λ x i. (fan.of_it x i).0) (fan.all g goes.g_there refl) (fan.all k goes.k_there goes.one_tail)
 
   pub parts : (x : ℕ) → count x moved + count x left ≡ count x ws
   parts x = count-halves x g k ws
@@ -238,7 +229,7 @@ module _ (M : Model) (sound : Sound M) (g k h v : ℕ) (p : Point) (goes : MevGo
       (loop_put (after M) g h (content M q) (none_free M sound h goes.edge_free q) (loop_sound M sound q (sym (same.loop q) ∙ there))))
 
   pub parted : IsRing (λ x. F (mate x)) (m ∷ moved) × IsRing (λ x. F (mate x)) (h ∷ left)
-  parted = fan_mev (after M) h g k ws fan.apart g_in k_in (h_fan fan) (m_fan fan) fan.ring
+  parted = fan_mev (after M) h g k ws fan.apart (fan.all g goes.g_there refl) (fan.all k goes.k_there goes.one_tail) (h_fan fan) (m_fan fan) fan.ring
 
   pub apart_with : (x : ℕ) (xs : List ℕ) → ((y : ℕ) → count y xs ≤ count y ws) → count x ws ≡ 0 → IsApart (x ∷ xs)
   apart_with x xs less z y = elim (eqb_tells y x) [
@@ -337,10 +328,7 @@ module _ (M : Model) (sound : Sound M) (g k h v : ℕ) (p : Point) (goes : MevGo
 
   -- a mate of what moves doesn't move
   other_end : (x : ℕ) → IsIn x moved → tail N (mate x) ≢ v
-  other_end x j e =
-      let o = moved_old x j in
-      let t = mate_there M x o.0 in
-      never_v (mate x) t (sym (tail_kept (mate x) t (not_moved (mate x) (λ s. sound.ends_differ x o.0 (o.1 ∙ sym s)))) ∙ e)
+  other_end x j e = grind (arith, moved_old x j, mate_there M x, never_v (mate x), tail_kept (mate x), not_moved (mate x), sound.ends_differ x)
 
   ends_differ : (x : ℕ) → HasHalf M x → tail N x ≢ tail N (mate x)
   ends_differ x o same = let t = mate_there M x o in elim (IsIn_or_not x moved) [

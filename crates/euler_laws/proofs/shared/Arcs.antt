@@ -33,13 +33,7 @@ length-codes (e ∷ es) = omega (arith, length-codes es)
 found_in : (x : ℕ) (es : List (ℕ × EdgeRow)) → is_some (find nat_cmp (edge_of x) es) ≡ true → IsIn x (codes es)
 unfolding codes
 found_in x [] t = absurd (true≢false (sym t))
-found_in x (e ∷ es) t = elim (eqb_tells (edge_of x) e.0) [
-  | inl a ↦ elim (halves_of_edge x) [
-    | inl p ↦ omega (arith, ap (tick x) (p.0 ∙ ap plus a.1), tick_same x)
-    | inr p ↦ omega (arith, ap (tick x) (p.0 ∙ ap minus a.1), tick_same x)
-  ]
-  | inr a ↦ let i = found_in x es (sym (ap (λ b. is_some (cond b (Some e.1) (find nat_cmp (edge_of x) es))) (unsigned_tied (edge_of x) e.0 ∙ ne_eqb (edge_of x) e.0 a.1)) ∙ t) in omega (arith, i)
-]
+found_in x (e ∷ es) t = grind (arith, eqb_tells (edge_of x) e.0, halves_of_edge x, tick_same x, found_in x es)
 
 half_in : (M : Model) (x : ℕ) → HasHalf M x → IsIn x (codes M.edges.rows)
 unfolding table.get

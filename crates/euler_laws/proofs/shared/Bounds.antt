@@ -6,6 +6,7 @@ use Rattle.euler_operators.proofs.Lists.{tick_same}
 use Rattle.euler_operators.specs.HalfEdge.{edge_of}
 use Rattle.euler_operators.specs.Model.{Model, is_number}
 use Rattle.euler_operators.specs.Sound.{Sound, Has, HasHalf}
+use Rattle.euler_operators.proofs.Models.{number_fits}
 
 -- more than the half-edges that a model can have
 pub steps : ℕ
@@ -63,11 +64,7 @@ length_below n xs d h = omega (arith, total_le n xs d, total_all n xs h)
 -- a half-edge that is there is one of a bounded range of codes
 pub half_below : (M : Model) → Sound M → (x : ℕ) → HasHalf M x → x < steps
 unfolding edge_of
-half_below M sound x t = below (edge_of x) x (sound.edges_fit (edge_of x) t) refl where
-  below : (e x : ℕ) → is_number e ≡ true → edge_of x ≡ e → x < steps
-  below e x n is = let k : e ≤ 1000000 = grind (arith, nat_tests) in omega (arith, steps_are)
+half_below M sound x t = omega (arith, steps_are, number_fits (edge_of x) (sound.edges_fit (edge_of x) t))
 
 pub ring_number : (M : Model) → Sound M → (l : ℕ) → Has M.loops l → l ≤ 1000000
-ring_number M sound l t = go l (sound.loops_fit l t) where
-  go : (l : ℕ) → is_number l ≡ true → l ≤ 1000000
-  go l e = grind (arith, nat_tests)
+ring_number M sound l t = number_fits l (sound.loops_fit l t)

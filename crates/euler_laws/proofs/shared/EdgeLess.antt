@@ -24,6 +24,10 @@ use Rattle.euler_laws.proofs.shared.Same.{same_tail}
 pub other_edge : (x h : ℕ) → x ≢ h → x ≢ mate h → edge_of x ≢ edge_of h
 other_edge x h a b e = elim (same_edge x h e) [ inl q ↦ a q | inr q ↦ b q ]
 
+-- a fact of h and of its mate holds for each half of the edge
+pub of_edge : (P : ℕ → Type 0) (h x : ℕ) → P h → P (mate h) → edge_of x ≡ edge_of h → P x
+of_edge P h x first second e = elim (same_edge x h e) [ inl a ↦ subst P (sym a) first | inr a ↦ subst P (sym a) second ]
+
 pub not_mate : (x h : ℕ) → edge_of x ≢ edge_of h → x ≢ mate h
 not_mate x h a e = a (ap edge_of e ∙ edge_of-mate h)
 
@@ -161,16 +165,12 @@ module _ {M N : Model} {h : ℕ} (sound : Sound M) (less : OneLess M N h) where
       (λ y i. other_edge y h (λ e. a (sym (g.of_it y i).1 ∙ ap (tail M) e)) (λ e. b (sym (g.of_it y i).1 ∙ ap (tail M) e)))
       (fan_kef_other (after M) h g.items g.apart g.ring (none_in_fan M g h (λ e. a (sym e))) (none_in_fan M g m (λ e. b (sym e))))
 
-  -- an end at which only this edge stood
-  bare_u : after M m ≡ h → (x : ℕ) → HasHalf M x → edge_of x ≢ edge_of h → tail M x ≢ u
-  bare_u = alone_there M sound h less.there
-
   bare_w : after M h ≡ m → (x : ℕ) → HasHalf M x → edge_of x ≢ edge_of h → tail M x ≢ w
   bare_w e x there a = alone_there M sound m m_there (ap (after M) (mate-mate h) ∙ e) x there (λ s. a (s ∙ edge_of-mate h))
 
   pub fans-less : (x : ℕ) → HasHalf N x → Fan F N (tail N x)
   fans-less x there = let o = half_cases less x there in subst (Fan F N) (sym (tail_old less x o.1)) (elim (eqb_tells (tail M x) u) [
-    | inl e ↦ subst (Fan F N) (sym e.1) (fan_u (λ b. bare_u b x o.0 o.1 e.1))
+    | inl e ↦ subst (Fan F N) (sym e.1) (fan_u (λ b. alone_there M sound h less.there b x o.0 o.1 e.1))
     | inr e ↦ elim (eqb_tells (tail M x) w) [ inl p ↦ subst (Fan F N) (sym p.1) (fan_w (λ b. bare_w b x o.0 o.1 p.1)) | inr p ↦ fan_else x o.0 e.1 p.1 ]
   ])
 
@@ -195,10 +195,7 @@ module _ {M N : Model} {h : ℕ} (sound : Sound M) (less : OneLess M N h) where
 
     at_end : (x : ℕ) → HasHalf M x → ((p : ℕ) × IsLoneAt N p (tail M x)) ⊎ IsTail N (tail M x)
     at_end x there = elim (eqb_tells (edge_of x) (edge_of h)) [
-      | inl e ↦ elim (same_edge x h e.1) [
-        | inl s ↦ subst (λ y. ((p : ℕ) × IsLoneAt N p (tail M y)) ⊎ IsTail N (tail M y)) (sym s) at_u
-        | inr s ↦ subst (λ y. ((p : ℕ) × IsLoneAt N p (tail M y)) ⊎ IsTail N (tail M y)) (sym s) at_w
-      ]
+      | inl e ↦ of_edge (λ y. ((p : ℕ) × IsLoneAt N p (tail M y)) ⊎ IsTail N (tail M y)) h x at_u at_w e.1
       | inr e ↦ inr (record { half = x; there = half_old less x there e.1; starts = tail_old less x e.1 })
     ]
 
@@ -230,7 +227,7 @@ module _ {M N : Model} {h : ℕ} (sound : Sound M) (less : OneLess M N h) where
         let s : tail N x ≡ tail M x = tail_old less x o.1 in
         elim (old.lone_back p (tail N x) e) [
           | inl a ↦ sound.lone_is_no_tail p x o.0 (a ∙ ap lone s)
-          | inr d ↦ elim d [ inl a ↦ bare_u a.2 x o.0 o.1 (sym s ∙ a.1) | inr a ↦ bare_w a.2 x o.0 o.1 (sym s ∙ a.1) ]
+          | inr d ↦ elim d [ inl a ↦ alone_there M sound h less.there a.2 x o.0 o.1 (sym s ∙ a.1) | inr a ↦ bare_w a.2 x o.0 o.1 (sym s ∙ a.1) ]
         ]
 
     on : (v : ℕ) → Has M.vertices v → Has N.vertices v

@@ -61,17 +61,11 @@ module _ {M N : Model} {h u w : ℕ} (new : EdgeComes M N h u w) where
   half_old x there = new.others (edge_of x) (edge_apart x there) ∙ there
 
   pub half_cases : (x : ℕ) → HasHalf N x → HasHalf M x ⊎ ((x ≡ h) ⊎ (x ≡ mate h))
-  half_cases x there = elim (eqb_tells (edge_of x) (edge_of h)) [
-    | inl e ↦ inr (same_edge x h e.1)
-    | inr e ↦ inl (sym (new.others (edge_of x) e.1) ∙ there)
-  ]
+  half_cases x there = grind (arith, eqb_tells (edge_of x) (edge_of h), same_edge x h)
 
   -- its halves start at different vertices
   pub new_ends_differ : (x : ℕ) → (x ≡ h) ⊎ (x ≡ mate h) → tail N x ≢ tail N (mate x)
-  new_ends_differ x d same = elim d [
-    | inl a ↦ new.ends_apart (sym tail-h ∙ ap (tail N) (sym a) ∙ same ∙ ap (λ y. tail N (mate y)) a ∙ tail-m)
-    | inr a ↦ new.ends_apart (sym tail-h ∙ ap (tail N) (sym (ap mate a ∙ mate-mate h)) ∙ sym same ∙ ap (tail N) a ∙ tail-m)
-  ]
+  new_ends_differ x d same = grind (arith, tail-h, tail-m, mate-mate h)
 
 -- the edge of h is put, from u to w
 pub record OneMore (M N : Model) (h u w : ℕ) : Type 0 where
@@ -99,24 +93,10 @@ module _ {M N : Model} {h u w : ℕ} (more : OneMore M N h u w) where
   StartsAt t x = HasHalf N x × (tail N x ≡ t) × ((y : ℕ) → HasHalf N y → tail N y ≡ t → HasHalf M y ⊎ (y ≡ x))
 
   pub first_starts : StartsAt u h
-  first_starts = (
-    half_h comes,
-    tail-h comes,
-    λ y there e. elim (half_cases comes y there) [
-      | inl o ↦ inl o
-      | inr d ↦ elim d [ inl q ↦ inr q | inr q ↦ absurd (more.ends_apart (sym e ∙ ap (tail N) q ∙ tail-m comes)) ]
-    ],
-  )
+  first_starts = grind (arith, half_h comes, comes, tail-h comes, half_cases comes, more.ends_apart, tail-m comes)
 
   pub second_starts : StartsAt w (mate h)
-  second_starts = (
-    half_m comes,
-    tail-m comes,
-    λ y there e. elim (half_cases comes y there) [
-      | inl o ↦ inl o
-      | inr d ↦ elim d [ inl q ↦ absurd (more.ends_apart (sym (tail-h comes) ∙ ap (tail N) (sym q) ∙ e)) | inr q ↦ inr q ]
-    ],
-  )
+  second_starts = grind (arith, half_m comes, comes, tail-m comes, half_cases comes, more.ends_apart, tail-h comes)
 
   -- the fan of a vertex at which nothing started
   pub fan_alone : (F : ℕ → ℕ) (t x : ℕ) → StartsAt t x → ((y : ℕ) → HasHalf M y → tail M y ≢ t) → F (mate x) ≡ x → Fan F N t
@@ -135,24 +115,23 @@ module _ {M N : Model} {h u w : ℕ} (more : OneMore M N h u w) where
 
   -- a fan with one half-edge more
   pub fan_more : (next F : ℕ → ℕ) (t x c : ℕ) (g : Fan next M t) → StartsAt t x → count x g.items ≡ 0 → IsRing (λ y. F (mate y)) (put_ring x c g.items) → Fan F N t
-  fan_more next F t x c g new out ring =
-      let k : (y : ℕ) → count y (put_ring x c g.items) ≡ tick y x + count y g.items = λ y. omega (arith, count-canonical y (x ∷ rotate_to c g.items), count-rotate_to y c g.items) in
-      record {
-        items = put_ring x c g.items;
-        apart = λ y. elim (eqb_tells y x) [
-          | inl e ↦ omega (arith, k y, tick_le y x, ap (λ z. count z g.items) e.1, out)
-          | inr e ↦ omega (arith, k y, tick_other y x e.1, g.apart y)
-        ];
-        ring = ring;
-        of_it = λ y i. elim (eqb_tells y x) [
-          | inl e ↦ (subst (HasHalf N) (sym e.1) new.0, ap (tail N) e.1 ∙ new.1)
-          | inr e ↦ let o = g.of_it y (omega (arith, i, k y, tick_other y x e.1)) in (half_old comes y o.0, tail_old y o.0 ∙ o.1)
-        ];
-        all = λ y o e. elim (new.2 y o e) [
-          | inl b ↦ omega (arith, k y, g.all y b (sym (tail_old y b) ∙ e))
-          | inr q ↦ omega (arith, k y, ap (tick y) (sym q), tick_same y)
-        ];
-      }
+  fan_more next F t x c g new out ring = grind (
+    arith,
+    g.items,
+    count-canonical,
+    count-rotate_to,
+    eqb_tells,
+    tick_le,
+    out,
+    tick_other,
+    g.apart,
+    g.of_it,
+    half_old comes,
+    comes,
+    tail_old,
+    g.all,
+    tick_same,
+  )
 
   -- a fan at which the edge has no end
   pub fan_stays : (next F : ℕ → ℕ) (t : ℕ) (g : Fan next M t) → u ≢ t → w ≢ t → IsRing (λ y. F (mate y)) g.items → Fan F N t
@@ -195,11 +174,15 @@ module _ {M N : Model} {h u w c e : ℕ} (more : OneMore M N h u w) (put : PutBe
 
   -- nothing new stands in an old fan, nor what starts elsewhere
   out : (t : ℕ) (g : Fan (after M) M t) → (count h g.items ≡ 0) × (count (mate h) g.items ≡ 0) × (u ≢ t → count c g.items ≡ 0) × (w ≢ t → count e g.items ≡ 0)
-  out t g = (
-    not_in_fan (after M) M t g h (λ o z. not_h (comes more) h o refl),
-    not_in_fan (after M) M t g (mate h) (λ o z. not_m (comes more) (mate h) o refl),
-    λ a. not_in_fan (after M) M t g c (λ o z. a (sym (put.first o) ∙ z)),
-    λ a. not_in_fan (after M) M t g e (λ o z. a (sym (put.second o) ∙ z)),
+  out t g = grind (
+    arith,
+    not_in_fan (after M) M t g h,
+    not_h (comes more) h,
+    comes more,
+    not_in_fan (after M) M t g (mate h),
+    not_m (comes more) (mate h),
+    not_in_fan (after M) M t g c,
+    not_in_fan (after M) M t g e,
   )
 
   pub fan_first : HasHalf M c → Fan F N u

@@ -21,9 +21,6 @@ no_content l = ap (λ o. (unwrap_or o no_loop).content) (get-empty l)
 none_stands : (h l : ℕ) → StandsIn empty_model h l → ⊥
 none_stands h l s = absurd (omega (arith, holds_in h (cycle []) (sym (ap (holds h) (no_content l)) ∙ s)))
 
-none_lone : (l v : ℕ) → IsLoneAt empty_model l v → ⊥
-none_lone l v e = never_lone [] v (sym (no_content l) ∙ e)
-
 -- the model that has nothing is sound
 pub empty_sound : Sound empty_model
 unfolding empty_model
@@ -37,11 +34,11 @@ empty_sound = record {
   ends_differ = λ h t. absurd (no_half h t);
   lone_or_tail = λ v t. absurd (has_nothing _ v t);
   lone_is_no_tail = λ l h t. absurd (no_half h t);
-  one_lone = λ l k v a b. absurd (none_lone l v a);
+  one_lone = λ l k v a b. absurd (never_lone [] v (sym (no_content l) ∙ a));
   one_fan = λ g h t u e. absurd (no_half g t);
   loops_of_faces = λ l t. absurd (has_nothing _ l t);
   outers_there = λ f t. absurd (has_nothing _ f t);
-  lone_at_vertex = λ l v e. absurd (none_lone l v e);
+  lone_at_vertex = λ l v e. absurd (never_lone [] v (sym (no_content l) ∙ e));
   faces_of_solids = λ f t. absurd (has_nothing _ f t);
   solid_has_face = λ s t. absurd (has_nothing _ s t);
   one_solid = λ h t. absurd (no_half h t);

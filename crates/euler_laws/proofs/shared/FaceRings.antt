@@ -1,5 +1,5 @@
 -- The loops of a face: its outer loop and its rings.
-use Rattle.std.proofs.Common.{◌≡◌, ℕ, true, not, nat_eq, ◌&&◌, ap, ◌∙◌, ◌⊎◌, inl, inr}
+use Rattle.std.proofs.Common.{◌≡◌, ℕ, true, not, nat_eq, ◌&&◌, ap, ◌∙◌, ◌⊎◌, inl, inr, arith}
 use Rattle.std.proofs.lemmas.Bool.Decides.{eqb_tells}
 use Rattle.std.proofs.lemmas.Bool.{and_parts, eq-eqb, eqb-true}
 use Rattle.euler_operators.specs.Table as table
@@ -10,7 +10,4 @@ pub ring_there : (M : Model) (f l : ℕ) → is_ring_of M f l ≡ true → Has M
 ring_there M f l e = let p = and_parts (table.has M.loops l && nat_eq (face_of M l) f) (not (nat_eq (outer M f) l)) e in let q = and_parts (table.has M.loops l) (nat_eq (face_of M l) f) p.0 in (q.0, eqb-true (face_of M l) f q.1)
 
 pub outer_or_ring : (M : Model) (f l : ℕ) → Has M.loops l → face_of M l ≡ f → (outer M f ≡ l) ⊎ (is_ring_of M f l ≡ true)
-outer_or_ring M f l t e = elim (eqb_tells (outer M f) l) [
-  | inl o ↦ inl o.1
-  | inr o ↦ inr (ap (λ b. b && nat_eq (face_of M l) f && not (nat_eq (outer M f) l)) t ∙ ap (λ b. b && not (nat_eq (outer M f) l)) (eq-eqb (face_of M l) f e) ∙ ap not o.0)
-]
+outer_or_ring M f l t e = grind (arith, eqb_tells (outer M f) l, eq-eqb (face_of M l) f e)

@@ -46,9 +46,6 @@ module _ {M N : Model} (sound : Sound M) (same : SameWalks M N) where
   back : (x : ℕ) → HasHalf N x → HasHalf M x
   back = half_back M N sound rings
 
-  tail_is : (x : ℕ) → tail N x ≡ tail M x
-  tail_is = tail_same M N sound rings
-
   has_vertex : (v : ℕ) → Has M.vertices v → Has N.vertices v
   has_vertex v t = subst (λ y. Has y v) (sym same.vertices) t
 
@@ -62,13 +59,13 @@ module _ {M N : Model} (sound : Sound M) (same : SameWalks M N) where
     one_loop = one_loop-walks N (after M) walks;
     cycles = cycles-walks N (after M) walks;
     ends_meet = ends_meet-walks N (after M) walks;
-    tails_there = λ x t. subst (Has N.vertices) (sym (tail_is x)) (has_vertex _ (sound.tails_there x (back x t)));
+    tails_there = λ x t. subst (Has N.vertices) (sym (tail_same M N sound rings x)) (has_vertex _ (sound.tails_there x (back x t)));
     ends_differ = ends_differ-rings M N sound rings;
     lone_or_tail = λ v t. elim (sound.lone_or_tail v (subst (λ y. Has y v) same.vertices t)) [
       | inl a ↦ inl (a.0, same.contents a.0 ∙ a.1)
       | inr x ↦ inr (tail-rings M N sound rings v x)
     ];
-    lone_is_no_tail = λ q x t e. sound.lone_is_no_tail q x (back x t) (lone_back q (tail N x) e ∙ ap lone (tail_is x));
+    lone_is_no_tail = λ q x t e. sound.lone_is_no_tail q x (back x t) (lone_back q (tail N x) e ∙ ap lone (tail_same M N sound rings x));
     one_lone = λ a b v x y. sound.one_lone a b v (lone_back a v x) (lone_back b v y);
     one_fan = one_fan-walks N (after M) walks;
     loops_of_faces = λ q t. w.loops_of_faces q (sym (same.loops q) ∙ t);

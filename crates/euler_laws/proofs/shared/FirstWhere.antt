@@ -10,10 +10,7 @@ use Rattle.euler_laws.proofs.Sizes.{rises_apart}
 
 head_is_least : (m q : ℕ) (ns : List ℕ) → strictly_rises (m ∷ ns) ≡ true → lists (m ∷ ns) q ≡ true → m ≤ q
 head_is_least m q [] r l = elim (listed_cases m q [] l) [ inl e ↦ omega arith | inr e ↦ absurd (true≢false (sym e)) ]
-head_is_least m q (k ∷ ns) r l = elim (listed_cases m q (k ∷ ns) l) [
-  | inl e ↦ omega arith
-  | inr e ↦ let s = less_and m k (strictly_rises (k ∷ ns)) r in omega (arith, s.0, head_is_least k q ns s.1 e)
-]
+head_is_least m q (k ∷ ns) r l = grind (arith, listed_cases m q (k ∷ ns) l, less_and m k (strictly_rises (k ∷ ns)) r, head_is_least k q ns)
 
 module _ {X : Type 0} (p : ℕ → X → Bool) (t : Table X) where
   first_is_head : first_where p t ≡ head_or_zero (all_where p t)

@@ -1,5 +1,5 @@
 -- The facts that the conditions of an operator say, and conditions from facts.
-use Rattle.std.proofs.Common.{◌≡◌, ℕ, Bool, true, false, cond, not, List, [], ◌∷◌, ◌++◌, Ok, Err, Option, Some, None, is_some, refl, sym, ap, ◌∙◌, true≢false, IsTrue}
+use Rattle.std.proofs.Common.{◌≡◌, ℕ, Bool, true, false, cond, not, List, [], ◌∷◌, ◌++◌, Ok, Err, Option, Some, None, is_some, refl, sym, ap, ◌∙◌, true≢false, IsTrue, arith}
 use Rattle.euler_operators.specs.Conditions.{Condition, AllHold, first_refusal, verdict}
 use Rattle.euler_operators.specs.declared.Refusal.{Refusal}
 use Rattle.euler_operators.specs.Model.{is_number}
@@ -48,9 +48,7 @@ first_is_named [] r e = cc
 first_is_named (c ∷ cs) r e = first_step c cs r c.holds refl e (first_is_named cs r)
 
 pub named_is_first : (cs : List Condition) (r : Refusal) → IsFirstFalse cs r → first_refusal cs ≡ Some r
-named_is_first cs r f =
-    ap first_refusal f.order ∙ passed_over f.before (f.condition ∷ f.after) f.hold
-    ∙ ap (λ b. cond b (first_refusal f.after) (Some f.condition.refusal)) f.fails ∙ ap (λ s. Some s) f.named
+named_is_first cs r f = grind (arith, passed_over f.before (f.condition ∷ f.after) f.hold)
 
 pub not_false : (b : Bool) → b ≡ false → not b ≡ true
 not_false b e = ap not e

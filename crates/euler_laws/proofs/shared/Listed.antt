@@ -21,31 +21,20 @@ rest_listed n q ns l = ap (λ b. nat_eq n q || b) l ∙ or_true (nat_eq n q)
 
 -- what stands in a list is its first or stands in the rest
 pub listed_cases : (n q : ℕ) (ns : List ℕ) → lists (n ∷ ns) q ≡ true → (q ≡ n) ⊎ (lists ns q ≡ true)
-listed_cases n q ns l = elim (eqb_tells q n) [ inl e ↦ inl e.1 | inr e ↦ inr (sym (ap (λ b. b || lists ns q) (other q n e.1)) ∙ l) ] where
-  other : (a b : ℕ) → a ≢ b → nat_eq b a ≡ false
-  other a b ne = grind (arith, nat_tests)
+listed_cases n q ns l = grind (arith, eqb_tells q n)
 
 -- to be listed is to stand in the list
 pub IsIn-from_listed : (q : ℕ) (ns : List ℕ) → lists ns q ≡ true → IsIn q ns
 IsIn-from_listed q [] l = absurd (true≢false (sym l))
-IsIn-from_listed q (n ∷ ns) l = elim (listed_cases n q ns l) [
-  | inl s ↦ omega (arith, ap (tick q) s, tick_same q)
-  | inr i ↦ omega (arith, IsIn-from_listed q ns i)
-]
+IsIn-from_listed q (n ∷ ns) l = grind (arith, listed_cases n q ns l, tick_same q, IsIn-from_listed q ns)
 
 pub listed-from_in : (q : ℕ) (ns : List ℕ) → IsIn q ns → lists ns q ≡ true
 listed-from_in q [] i = absurd (omega (arith, i))
-listed-from_in q (n ∷ ns) i = elim (eqb_tells q n) [
-  | inl e ↦ subst (λ k. lists (n ∷ ns) k ≡ true) (sym e.1) (first_listed n ns)
-  | inr e ↦ rest_listed n q ns (listed-from_in q ns (omega (arith, i, tick_other q n e.1)))
-]
+listed-from_in q (n ∷ ns) i = grind (arith, eqb_tells q n, first_listed n ns, rest_listed n q ns, listed-from_in q ns, tick_other q n)
 
 pub listed_front : (xs ys : List ℕ) (q : ℕ) → lists xs q ≡ true → lists (xs ++ ys) q ≡ true
 listed_front [] ys q e = absurd (true≢false (sym e))
-listed_front (x ∷ xs) ys q e = elim (listed_cases x q xs e) [
-  | inl s ↦ ap (λ k. lists (x ∷ (xs ++ ys)) k) s ∙ first_listed x (xs ++ ys)
-  | inr i ↦ rest_listed x q (xs ++ ys) (listed_front xs ys q i)
-]
+listed_front (x ∷ xs) ys q e = grind (arith, listed_cases x q xs e, first_listed x (xs ++ ys), rest_listed x q (xs ++ ys), listed_front xs ys q)
 
 pub other_last : (fs : List ℕ) (u f : ℕ) → f ≢ u → lists (fs ++ u ∷ []) f ≡ lists fs f
 other_last [] u f ne = ap (λ b. b || false) (ne_eqb u f (λ e. ne (sym e)))
@@ -81,18 +70,16 @@ module _ {X : Type 0} where
 
   in_list : (p : ℕ → X → Bool) (n : ℕ) (x : X) (es : List (ℕ × X)) → find nat_cmp n es ≡ Some x → p n x ≡ true → lists (all_in p es) n ≡ true
   in_list p n x [] at passes = cc
-  in_list p n x (e ∷ es) at passes = elim (eqb_tells n e.0) [
-    | inl q ↦
-        let v : x ≡ e.1 = same_Some x e.1 (sym at ∙ ap (λ k. find nat_cmp k (e ∷ es)) q.1 ∙ find_here e es) in
-        let t : p e.0 e.1 ≡ true = (λ i. p (sym q.1 i) (sym v i)) ∙ passes in
-        ap (λ b. lists (cond b (e.0 ∷ all_in p es) (all_in p es)) n) t ∙ subst (λ k. lists (e.0 ∷ all_in p es) k ≡ true) (sym q.1) (first_listed e.0 (all_in p es))
-    | inr q ↦
-        let rest : lists (all_in p es) n ≡ true = in_list p n x es (sym (find_later n e es q.1) ∙ at) passes in
-        elim (p e.0 e.1) as (λ b. lists (cond b (e.0 ∷ all_in p es) (all_in p es)) n ≡ true) [
-          | true ↦ rest_listed e.0 n (all_in p es) rest
-          | false ↦ rest
-        ]
-  ]
+  in_list p n x (e ∷ es) at passes = grind (
+    arith,
+    eqb_tells n e.0,
+    same_Some x e.1,
+    find_here e es,
+    first_listed e.0 (all_in p es),
+    in_list p n x es,
+    find_later n e es,
+    rest_listed e.0 n (all_in p es),
+  )
 
   rises_past : (p : ℕ → X → Bool) (k : ℕ) (es : List (ℕ × X)) → T (below_all nat_cmp k es) → T (is_sorted nat_cmp es) → strictly_rises (k ∷ all_in p es) ≡ true
   rises_past p k [] h s = refl
@@ -120,10 +107,7 @@ passes_listed p t n x at passes = in_list p n x t.rows at passes
 
 -- a number with a row is listed where the row passes
 pub listed_as : {X : Type 0} (p : ℕ → X → Bool) (t : Table X) (n : ℕ) (x : X) → get t n ≡ Some x → lists (all_where p t) n ≡ p n x
-listed_as p t n x at = elim (p n x) as (λ b. p n x ≡ b → lists (all_where p t) n ≡ b) [
-  | true ↦ λ e. passes_listed p t n x at e
-  | false ↦ λ e. false_from_ne_true (lists (all_where p t) n) (λ l. let y = listed_passes p t n l in true≢false (sym y.2 ∙ ap (p n) (same_Some y.0 x (sym y.1 ∙ at)) ∙ e))
-] refl
+listed_as p t n x at = grind (arith, passes_listed p t n x at, false_from_ne_true (lists (all_where p t) n), listed_passes p t n, same_Some)
 
 pub all_where-rises : {X : Type 0} (p : ℕ → X → Bool) (t : Table X) → strictly_rises (all_where p t) ≡ true
 unfolding all_where
@@ -133,6 +117,4 @@ all_where-rises p t = rises_in p t.rows t.rising
 pub one_listed : (ns : List ℕ) (n : ℕ) → strictly_rises ns ≡ true → lists ns n ≡ true → ((q : ℕ) → lists ns q ≡ true → q ≡ n) → ns ≡ n ∷ []
 one_listed [] n r l only = absurd (true≢false (sym l))
 one_listed (m ∷ []) n r l only = ap (λ k. k ∷ []) (only m (first_listed m []))
-one_listed (m ∷ k ∷ ns) n r l only = absurd (apart m k (strictly_rises (k ∷ ns)) r (only m (first_listed m (k ∷ ns)) ∙ sym (only k (rest_listed m k (k ∷ ns) (first_listed k ns))))) where
-  apart : (m k : ℕ) (b : Bool) → (nat_lt m k && b) ≡ true → m ≡ k → ⊥
-  apart m k b r e = let f : nat_lt m k ≡ false = grind (arith, nat_tests) in absurd (true≢false (sym r ∙ ap (λ c. c && b) f))
+one_listed (m ∷ k ∷ ns) n r l only = grind (arith, first_listed m (k ∷ ns), rest_listed m k (k ∷ ns) (first_listed k ns), first_listed k ns)

@@ -74,10 +74,7 @@ pub put_keeps : (x g h : ℕ) (c : LoopContent) → IsIn x (items_of c) → IsIn
 put_keeps x g h c i = elim (IsIn_or_not g (items_of c)) [ inl a ↦ omega (arith, i, count_put_there x g h c a) | inr a ↦ omega (arith, i, count_put_none x g h c a) ]
 
 pub put_came : (x g h : ℕ) (c : LoopContent) → IsIn x (items_of (put_before g h c)) → ((x ≡ h) × IsIn g (items_of c)) ⊎ IsIn x (items_of c)
-put_came x g h c i = elim (IsIn_or_not g (items_of c)) [
-  | inl a ↦ elim (eqb_tells x h) [ inl e ↦ inl (e.1, a) | inr e ↦ inr (omega (arith, i, count_put_there x g h c a, tick_other x h e.1)) ]
-  | inr a ↦ inr (omega (arith, i, count_put_none x g h c a))
-]
+put_came x g h c i = grind (arith, eqb_tells x h, count_put_there x g h c, tick_other x h, count_put_none x g h c)
 
 pub light_put : (next : ℕ → ℕ) (g h : ℕ) (c : LoopContent) → count h (items_of c) ≡ 0 → IsLight next c → IsLight (led_over next g h) (put_before g h c)
 light_put next g h c n l = elim (IsIn_or_not g (items_of c)) [
@@ -106,22 +103,13 @@ loop_put next g h (cycle hs) n l = elim (IsIn_or_not g hs) [
 -- ---- a half-edge taken out
 
 pub count_out : (x h : ℕ) (hs : List ℕ) → x ≢ h → count x (without h hs) ≡ count x hs
-count_out x h hs ne = elim (IsIn_or_not h hs) [
-  | inl i ↦ omega (arith, count-without x h hs i, tick_other x h ne)
-  | inr n ↦ ap (count x) (without_none h hs n)
-]
+count_out x h hs ne = grind (arith, count-without x h hs, tick_other x h ne, without_none h hs)
 
 pub count_gone : (h : ℕ) (hs : List ℕ) → IsApart hs → count h (without h hs) ≡ 0
-count_gone h hs d = elim (IsIn_or_not h hs) [
-  | inl i ↦ omega (arith, count-without h h hs i, tick_same h, d h)
-  | inr n ↦ ap (count h) (without_none h hs n) ∙ n
-]
+count_gone h hs d = grind (arith, count-without h h hs, tick_same h, without_none h hs)
 
 pub apart_out : (h : ℕ) (hs : List ℕ) → IsApart hs → IsApart (without h hs)
-apart_out h hs d x = elim (IsIn_or_not h hs) [
-  | inl i ↦ omega (arith, count-without x h hs i, d x)
-  | inr n ↦ omega (arith, ap (count x) (without_none h hs n), d x)
-]
+apart_out h hs d x = grind (arith, count-without x h hs, without_none h hs)
 
 pub ring_out : (next : ℕ → ℕ) (h : ℕ) (hs : List ℕ) → IsApart hs → IsRing next hs → IsRing (redirect next h (next h)) (without h hs)
 ring_out next h hs d r = elim (IsIn_or_not h hs) [
@@ -145,10 +133,7 @@ module _ (M : Model) (sound : Sound M) where
 
   pub light : (l : ℕ) → IsLight (after M) (content M l)
   unfolding content
-  light l = elim (is_some (table.get M.loops l)) as (λ b. is_some (table.get M.loops l) ≡ b → IsLight (after M) (content M l)) [
-    | true ↦ λ e. light_of (content M l) l e refl
-    | false ↦ λ e. subst (IsLight (after M)) (sym (empty_light (table.get M.loops l) e)) (λ x. omega arith, tt)
-  ] refl
+  light l = grind (arith, light_of (content M l) l, empty_light (table.get M.loops l))
 
   loop_of_content : (c : LoopContent) (l : ℕ) → Has M.loops l → content M l ≡ c → IsLoop (after M) c
   loop_of_content (lone v) l there e = tt
@@ -159,10 +144,7 @@ module _ (M : Model) (sound : Sound M) where
 
   -- no loop holds a half-edge whose edge isn't there
   pub none_free : (x : ℕ) → table.get M.edges (edge_of x) ≡ None → (l : ℕ) → count x (items_of (content M l)) ≡ 0
-  none_free x free l = elim (IsIn_or_not x (items_of (content M l))) [
-    | inl i ↦ absurd (true≢false (sym (sound.only_edges x l (in-holds x (content M l) i)) ∙ ap is_some free))
-    | inr n ↦ n
-  ]
+  none_free x free l = grind (arith, sound.only_edges x l, in-holds x (content M l))
 
   -- a half-edge stands in no loop but its own
   pub none_else : (x q : ℕ) → q ≢ loop_of M x → count x (items_of (content M q)) ≡ 0
@@ -180,8 +162,7 @@ pub record Walks (N : Model) (next : ℕ → ℕ) : Type 0 where
 -- the loop of a half-edge, where no other holds it
 pub loop_at : (N : Model) (x q : ℕ) → StandsIn N x q → ((p : ℕ) → StandsIn N x p → p ≡ q) → loop_of N x ≡ q
 unfolding loop_of
-loop_at N x q s once = first_where_is (λ _ row. holds x row.content) N.loops q _ (held_row N x q s) s
-    (λ p row at t. once p (ap (holds x) (content_row N p row at) ∙ t))
+loop_at N x q s once = grind (arith, first_where_is, held_row N x q s, content_row N)
 
 module _ (N : Model) (next : ℕ → ℕ) (w : Walks N next) where
   pub loop_is : (x : ℕ) (t : HasHalf N x) → loop_of N x ≡ (w.placed x t).0
@@ -202,9 +183,14 @@ module _ (N : Model) (next : ℕ → ℕ) (w : Walks N next) where
 
   pub after-walks : (x : ℕ) → HasHalf N x → after N x ≡ next x
   unfolding after
-  after-walks x t =
-      let s = stands-walks x t in
-      sym (next_is_successor next (cycle_of N x) x (ring_items (content N (loop_of N x)) (w.loops (loop_of N x) (ap is_some (held_row N x (loop_of N x) s)))) (holds_in x (content N (loop_of N x)) s))
+  after-walks x t = grind (
+    arith,
+    stands-walks x t,
+    next_is_successor next (cycle_of N x) x,
+    ring_items (content N (loop_of N x)),
+    held_row N x (loop_of N x),
+    holds_in x (content N (loop_of N x)),
+  )
 
   pub ends_meet-walks : (x : ℕ) → HasHalf N x → tail N (after N x) ≡ tail N (mate x)
   ends_meet-walks x t =

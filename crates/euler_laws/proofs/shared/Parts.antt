@@ -1,5 +1,5 @@
 -- Soundness in four parts: the walks of loops and vertices, what stands at vertices, faces and solids, and the ranges of numbers and points.
-use Rattle.std.proofs.Common.{◌≡◌, ◌≢◌, ℕ, Option, Some, None, is_some, IsTrue, true, sym, ap, ◌∙◌, subst, ◌⊎◌, inl, inr}
+use Rattle.std.proofs.Common.{◌≡◌, ◌≢◌, ℕ, Option, Some, None, is_some, IsTrue, true, sym, ap, ◌∙◌, subst, ◌⊎◌, inl, inr, arith}
 use Rattle.std.proofs.lemmas.Bool.Decides.{eqb_tells}
 use Rattle.euler_operators.specs.declared.Point.{Point}
 use Rattle.euler_operators.specs.Points.{IsInRange}
@@ -74,10 +74,7 @@ sound_of N next walks vertices faces ranges = record {
 
 module _ {X : Type 0} (t : Table X) (fit : NumbersFit t) where
   pub fit-put : (n : ℕ) (x : X) → IsTrue (is_number n) → NumbersFit (table.put t n x)
-  fit-put n x one q there = elim (eqb_tells q n) [
-    | inl e ↦ subst (λ k. IsTrue (is_number k)) (sym e.1) one
-    | inr e ↦ fit q (ap is_some (sym (get-put_other t n x q e.1)) ∙ there)
-  ]
+  fit-put n x one q there = grind (arith, eqb_tells q n, get-put_other t n x q)
 
   pub fit-remove : (n : ℕ) → NumbersFit (table.remove t n)
   fit-remove n q there = fit q (ap is_some (sym (get-remove_other t n q (row_elsewhere (table.remove t n) q n there (get-remove_here t n)))) ∙ there)
@@ -87,10 +84,7 @@ module _ {X : Type 0} (t : Table X) (fit : NumbersFit t) where
 
 module _ (t : Table Point) (fit : PointsFit t) (v : ℕ) where
   pub points-put : (p : Point) → IsInRange p → PointsFit (table.put t v p)
-  points-put p one w q at = elim (eqb_tells w v) [
-    | inl e ↦ subst IsInRange (one_row (sym (get-put_here t v p) ∙ ap (table.get (table.put t v p)) (sym e.1) ∙ at)) one
-    | inr e ↦ fit w q (sym (get-put_other t v p w e.1) ∙ at)
-  ]
+  points-put p one w q at = grind (arith, eqb_tells w v, one_row, get-put_here t v p, get-put_other t v p w)
 
   pub points-remove : PointsFit (table.remove t v)
   points-remove w q at = fit w q (sym (get-remove_other t v w (row_elsewhere (table.remove t v) w v (ap is_some at) (get-remove_here t v))) ∙ at)
@@ -128,10 +122,7 @@ module _ {X : Type 0} {t s : Table X} {n : ℕ} {row : Option X} (set : RowSet t
 
   -- where the row was there and is
   pub has_same : Has t n → is_some row ≡ true → (q : ℕ) → table.has s q ≡ table.has t q
-  has_same old now q = elim (eqb_tells q n) [
-    | inl e ↦ ap (table.has s) e.1 ∙ ap is_some row_here ∙ now ∙ sym (ap (table.has t) e.1 ∙ old)
-    | inr e ↦ ap is_some (row_other q e.1)
-  ]
+  has_same old now q = grind (arith, eqb_tells q n, row_here, row_other q)
 
 -- the row of face f is put or taken away
 pub record FaceSet (M N : Model) (f : ℕ) (row : Option FaceRow) : Type 0 where

@@ -26,13 +26,10 @@ module _ (M N : Model) (sound : Sound M) (same : SameRings M N) where
   stand_back : (x q : ℕ) → StandsIn N x q → StandsIn M x q
   stand_back x q s = sym (same.stand x q) ∙ s
 
-  stand_on : (x q : ℕ) → StandsIn M x q → StandsIn N x q
-  stand_on x q s = same.stand x q ∙ s
-
   pub walks-rings : Walks N (after M)
   walks-rings = record {
     only = λ x q s. half_on x (sound.only_edges x q (stand_back x q s));
-    placed = λ x t. (loop_of M x, stand_on x (loop_of M x) (sound.stands x (half_back x t)), λ q s. sym (sound.one_loop x q (stand_back x q s)));
+    placed = λ x t. (loop_of M x, same.stand x (loop_of M x) ∙ (sound.stands x (half_back x t)), λ q s. sym (sound.one_loop x q (stand_back x q s)));
     loops = same.loops;
     fans = λ x t. let f = fan_of M sound x (half_back x t) in record {
       items = f.items;
@@ -44,7 +41,7 @@ module _ (M N : Model) (sound : Sound M) (same : SameRings M N) where
   }
 
   pub loop-rings : (x : ℕ) → HasHalf M x → loop_of N x ≡ loop_of M x
-  loop-rings x t = loop_at N x (loop_of M x) (stand_on x (loop_of M x) (sound.stands x t)) (λ q s. sym (sound.one_loop x q (stand_back x q s)))
+  loop-rings x t = loop_at N x (loop_of M x) (same.stand x (loop_of M x) ∙ (sound.stands x t)) (λ q s. sym (sound.one_loop x q (stand_back x q s)))
 
   pub ends_differ-rings : (x : ℕ) → HasHalf N x → tail N x ≢ tail N (mate x)
   ends_differ-rings x t e = sound.ends_differ x (half_back x t) (sym (tail_same x) ∙ e ∙ tail_same (mate x))

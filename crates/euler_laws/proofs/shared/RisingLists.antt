@@ -36,23 +36,20 @@ pub within : (fs gs : List ℕ) → strictly_rises fs ≡ true → strictly_rise
 within [] [] r s i = (omega arith, λ e. refl)
 within [] (g ∷ gs) r s i = (omega arith, λ e. absurd (omega arith))
 within (f ∷ fs) [] r s i = absurd (true≢false (sym (i f (first_listed f fs))))
-within (f ∷ fs) (g ∷ gs) r s i = elim (listed_cases g f gs (i f (first_listed f fs))) [
-  | inl e ↦
-      let w = within fs gs (rises_on f fs r) (rises_on g gs s) (λ q l. elim (listed_cases g q gs (i q (rest_listed f q fs l))) [
-        | inl h ↦ absurd (omega (arith, rises_apart f q fs r l, h, e))
-        | inr h ↦ h
-      ]) in
-      (omega (arith, w.0), λ n. (λ k. e k ∷ w.1 (omega arith) k))
-  | inr e ↦
-      let w = within (f ∷ fs) gs r (rises_on g gs s) (λ q l. elim (listed_cases g q gs (i q l)) [
-        | inl h ↦ absurd (elim (listed_cases f q fs l) [
-          | inl p ↦ omega (arith, rises_apart g f gs s e, h, p)
-          | inr p ↦ omega (arith, rises_apart g f gs s e, rises_apart f q fs r p, h)
-        ])
-        | inr h ↦ h
-      ]) in
-      (omega (arith, w.0), λ n. absurd (omega (arith, w.0)))
-]
+within (f ∷ fs) (g ∷ gs) r s i = grind (
+  arith,
+  listed_cases g f gs (i f (first_listed f fs)),
+  first_listed f fs,
+  within fs gs (rises_on f fs r) (rises_on g gs s),
+  rises_on f fs r,
+  rises_on g gs s,
+  listed_cases g,
+  rest_listed f,
+  rises_apart f,
+  within (f ∷ fs) gs r (rises_on g gs s),
+  listed_cases f,
+  rises_apart g f gs s,
+)
 
 all_within : (fs gs : List ℕ) → lists_all fs gs ≡ true → (q : ℕ) → lists gs q ≡ true → lists fs q ≡ true
 all_within fs [] a q l = absurd (true≢false (sym l))

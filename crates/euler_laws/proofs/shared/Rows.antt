@@ -17,7 +17,7 @@ use Rattle.euler_operators.specs.Model.{Model, loop_of, cycle_of, LoopContent, l
 use Rattle.euler_operators.specs.Sound.{Sound, Has, HasHalf, IsCycle}
 use Rattle.euler_operators.proofs.Halves.{edge_of-code, edge_of-mate, is_first-mate, plus_row}
 use Rattle.euler_operators.proofs.Tables.{all_where_none, none_all_where, row_some, map_one, put-remove}
-use Rattle.euler_operators.proofs.Models.{face_row, row_of, other_loop, in-holds, cycle_there}
+use Rattle.euler_operators.proofs.Models.{face_row, row_of, other_loop, in-holds, cycle_there, never_lone}
 use Rattle.euler_operators.proofs.Tests.{none_but}
 use Rattle.euler_operators.specs.Conditions.{has_rings, is_empty, is_lone, lone_vertex}
 use Rattle.euler_operators.specs.Effect.{where_held, edge_row, cycle_or_lone}
@@ -54,10 +54,7 @@ both_back t r s x a b ne at bt = same_table _ _ (λ q. grind (arith, nat_tests, 
 
 -- the row of a solid that is there
 pub solid_row : (M : Model) (s : ℕ) → Has M.solids s → table.get M.solids s ≡ Some tt
-solid_row M s there = go (table.get M.solids s) there where
-  go : (o : Option (Unit {0})) → is_some o ≡ true → o ≡ Some tt
-  go None e = absurd (true≢false (sym e))
-  go (Some tt) e = refl
+solid_row M s there = grind arith
 
 -- a loop that isn't there holds nothing
 pub content_none : (M : Model) (q : ℕ) → table.get M.loops q ≡ None → content M q ≡ cycle []
@@ -67,10 +64,7 @@ content_none M q none = ap (λ o. (unwrap_or o no_loop).content) none
 -- the row of a loop, from what the readers answer
 pub loop_row : (M : Model) (q : ℕ) → Has M.loops q → table.get M.loops q ≡ Some (record { face = face_of M q; content = content M q })
 unfolding content face_of
-loop_row M q there = go (table.get M.loops q) there where
-  go : (o : Option LoopRow) → is_some o ≡ true → o ≡ Some (record { face = (unwrap_or o no_loop).face; content = (unwrap_or o no_loop).content })
-  go None e = absurd (true≢false (sym e))
-  go (Some row) e = refl
+loop_row M q there = grind arith
 
 -- how often an item stands in the two loops of mef
 pub count-halves : (x c e : ℕ) (hs : List ℕ) → count x (upto c e hs) + count x (onward c e hs) ≡ count x hs
@@ -81,8 +75,7 @@ pub tail_first : (h a b : ℕ) → tail_in (edge_row h a b) (is_first h) ≡ a
 tail_first h a b = elim (is_first h) as (λ c. tail_in (cond c (record { plus_tail = a; minus_tail = b }) (record { plus_tail = b; minus_tail = a })) c ≡ a) [ true ↦ refl | false ↦ refl ]
 
 pub tail_second : (h a b : ℕ) → tail_in (edge_row h a b) (is_first (mate h)) ≡ b
-tail_second h a b = ap (tail_in (edge_row h a b)) (is_first-mate h)
-    ∙ elim (is_first h) as (λ c. tail_in (cond c (record { plus_tail = a; minus_tail = b }) (record { plus_tail = b; minus_tail = a })) (not c) ≡ b) [ true ↦ refl | false ↦ refl ]
+tail_second h a b = grind (arith, is_first-mate h)
 
 pub items_or_lone : (xs : List ℕ) (v : ℕ) → items_of (cycle_or_lone xs v) ≡ canonical xs
 items_or_lone [] v = sym canonical_nil
@@ -98,36 +91,21 @@ loop_or_lone next (x ∷ xs) v d r = (canonical_cycle (x ∷ xs) d x (omega (ari
 -- a list that became lone was empty
 pub was_empty : (xs : List ℕ) (v w : ℕ) → cycle_or_lone xs v ≡ lone w → (xs ≡ []) × (w ≡ v)
 was_empty [] v w e = (refl, cc)
-was_empty (x ∷ xs) v w e = absurd (differ _ w e) where
-  differ : (a : List ℕ) (w : ℕ) → cycle a ≢ lone w
-  differ a w e = cc
+was_empty (x ∷ xs) v w e = grind arith
 
 -- the point of a vertex that is there
 pub point_row : (M : Model) (w : ℕ) → Has M.vertices w → table.get M.vertices w ≡ Some (point_of M w)
 unfolding point_of
-point_row M w there = go (table.get M.vertices w) there where
-  go : (o : Option Point) → is_some o ≡ true → o ≡ Some (unwrap_or o no_point)
-  go None e = absurd (true≢false (sym e))
-  go (Some x) e = refl
+point_row M w there = grind arith
 
 pub face_there : (M : Model) (f : ℕ) → Has M.faces f → table.get M.faces f ≡ Some (record { solid = solid_of M f; outer = outer M f })
 unfolding solid_of outer
-face_there M f there = go (table.get M.faces f) there where
-  go : (o : Option FaceRow) → is_some o ≡ true → o ≡ Some (record { solid = (unwrap_or o no_face).solid; outer = (unwrap_or o no_face).outer })
-  go None e = absurd (true≢false (sym e))
-  go (Some x) e = refl
+face_there M f there = grind arith
 
 -- an edge's row, from the tails of its two halves
 pub edge_there : (M : Model) (h : ℕ) → HasHalf M h → table.get M.edges (edge_of h) ≡ Some (edge_row h (tail M h) (tail M (mate h)))
 unfolding tail
-edge_there M h there = go (table.get M.edges (edge_of h)) there ∙ ap (λ n. Some (edge_row h (tail_in (unwrap_or (table.get M.edges (edge_of h)) no_edge) (is_first h)) (tail_in (unwrap_or (table.get M.edges n) no_edge) (is_first (mate h))))) (sym (edge_of-mate h)) where
-  split : (row : EdgeRow) (b : Bool) → ◌≡◌ {A = EdgeRow} row (cond b (record { plus_tail = tail_in row b; minus_tail = tail_in row (not b) }) (record { plus_tail = tail_in row (not b); minus_tail = tail_in row b }))
-  split row true = refl
-  split row false = refl
-
-  go : (o : Option EdgeRow) → is_some o ≡ true → o ≡ Some (edge_row h (tail_in (unwrap_or o no_edge) (is_first h)) (tail_in (unwrap_or o no_edge) (is_first (mate h))))
-  go None e = absurd (true≢false (sym e))
-  go (Some row) e = ap Some (split row (is_first h)) ∙ ap (λ b. Some (edge_row h (tail_in row (is_first h)) (tail_in row b))) (sym (is_first-mate h))
+edge_there M h there = grind (arith, edge_of-mate h, is_first-mate h)
 
 pub half_of : (M : Model) (g : HalfEdge) → table.has M.edges g.edge ≡ true → HasHalf M (code g)
 half_of M g t = ap (λ x. is_some (table.get M.edges x)) (edge_of-code g) ∙ t
@@ -139,20 +117,24 @@ pub empty_is : (xs : List ℕ) → not (is_empty xs) ≡ false → xs ≡ []
 empty_is [] e = refl
 empty_is (x ∷ xs) e = absurd (true≢false e)
 
-ring_none : (a f o l : ℕ) → (nat_eq a f && not (nat_eq o l)) ≡ false → a ≡ f → o ≡ l
+pub ring_none : (a f o l : ℕ) → (nat_eq a f && not (nat_eq o l)) ≡ false → a ≡ f → o ≡ l
 ring_none a f o l e p = grind (arith, nat_tests)
 
 -- a face without a ring has its outer loop only
 pub no_rings_means : (M : Model) (f : ℕ) → has_rings M f ≡ false → (q : ℕ) → Has M.loops q → face_of M q ≡ f → outer M f ≡ q
 unfolding has_rings
-no_rings_means M f e q there p =
-    let w = row_some (table.get M.loops q) there in
-    ring_none w.0.face f (outer M f) q (none_all_where (λ l row. nat_eq row.face f && not (nat_eq (outer M f) l)) M.loops (empty_is (rings_of M f) e) q w.0 w.1) (sym (face_row M q w.0 w.1) ∙ p)
+no_rings_means M f e q there p = grind (
+  arith,
+  row_some (table.get M.loops q) there,
+  ring_none,
+  none_all_where,
+  empty_is (rings_of M f) e,
+  face_row M q,
+)
 
 pub means_no_rings : (M : Model) (f : ℕ) → ((q : ℕ) → Has M.loops q → face_of M q ≡ f → outer M f ≡ q) → has_rings M f ≡ false
 unfolding has_rings
-means_no_rings M f n = ap (λ xs. not (is_empty xs)) (all_where_none (λ l row. nat_eq row.face f && not (nat_eq (outer M f) l)) M.loops
-    (λ q row at. none_but row.face f (outer M f) q (λ e. n q (ap is_some at) (face_row M q row at ∙ e))))
+means_no_rings M f n = grind (arith, all_where_none, none_but, face_row M)
 
 pub lone_is : (c : LoopContent) → is_lone c ≡ true → c ≡ lone (lone_vertex c)
 lone_is (lone v) e = refl

@@ -1,5 +1,5 @@
 -- Models whose loops are rewritten row by row, and what stays where faces and solids stay.
-use Rattle.std.proofs.Common.{◌≡◌, ℕ, [], Option, Some, None, is_some, unwrap_or, refl, sym, ap, ◌∙◌}
+use Rattle.std.proofs.Common.{◌≡◌, ℕ, [], Option, Some, None, is_some, unwrap_or, refl, sym, ap, ◌∙◌, arith}
 use Rattle.std.specs.Option.{option_map}
 use Rattle.euler_operators.specs.Table as table
 use Rattle.euler_operators.specs.Table.{Table, same_table, map_rows, get-map_rows}
@@ -42,17 +42,11 @@ module _ (M N : Model) (new : LoopContent → LoopContent) (w : Rewritten M N ne
 
   pub content-new : (q : ℕ) → content N q ≡ new (content M q)
   unfolding content
-  content-new q = ap (λ o. (unwrap_or o no_loop).content) (get_is q) ∙ go (table.get M.loops q) where
-    go : (o : Option LoopRow) → (unwrap_or (option_map (w.rewrite q) o) no_loop).content ≡ new (unwrap_or o no_loop).content
-    go None = sym w.none
-    go (Some row) = w.contents q row
+  content-new q = grind (arith, get_is q)
 
   pub face-same : (q : ℕ) → face_of N q ≡ face_of M q
   unfolding face_of
-  face-same q = ap (λ o. (unwrap_or o no_loop).face) (get_is q) ∙ go (table.get M.loops q) where
-    go : (o : Option LoopRow) → (unwrap_or (option_map (w.rewrite q) o) no_loop).face ≡ (unwrap_or o no_loop).face
-    go None = refl
-    go (Some row) = w.faces q row
+  face-same q = grind (arith, get_is q)
 
   pub loop-same : (q : ℕ) → table.has N.loops q ≡ table.has M.loops q
   loop-same q = ap is_some (get_is q) ∙ mapped_some (w.rewrite q) (table.get M.loops q)

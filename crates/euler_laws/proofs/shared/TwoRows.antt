@@ -18,7 +18,7 @@ use Rattle.euler_laws.proofs.shared.Parts.{set_row, set_here, set_other}
 use Rattle.euler_laws.proofs.shared.EdgeMore as more
 use Rattle.euler_laws.proofs.shared.EdgeMore.{OneMore}
 use Rattle.euler_laws.proofs.shared.EdgeLess as less
-use Rattle.euler_laws.proofs.shared.EdgeLess.{OneLess}
+use Rattle.euler_laws.proofs.shared.EdgeLess.{OneLess, of_edge}
 
 -- ---- the row of loop r changed, and loop l put or taken away
 
@@ -42,16 +42,10 @@ module _ {M N : Model} {r l : ℕ} {first : LoopRow} {second : Option LoopRow} (
   content_first = content_row N r first row_first
 
   pub face_same : (q : ℕ) → q ≢ l → face_of N q ≡ face_of M q
-  face_same q a = elim (eqb_tells q r) [
-    | inl e ↦ ap (face_of N) e.1 ∙ face_row N r first row_first ∙ set.face ∙ sym (ap (face_of M) e.1)
-    | inr e ↦ same_face M N q (row_else q e.1 a)
-  ]
+  face_same q a = grind (arith, eqb_tells q r, face_row N r first row_first, row_first, same_face M N q, row_else q)
 
   pub has_same : (q : ℕ) → q ≢ l → table.has N.loops q ≡ table.has M.loops q
-  has_same q a = elim (eqb_tells q r) [
-    | inl e ↦ ap (table.has N.loops) e.1 ∙ ap is_some row_first ∙ sym (ap (table.has M.loops) e.1 ∙ set.there)
-    | inr e ↦ ap is_some (row_else q e.1 a)
-  ]
+  has_same q a = grind (arith, eqb_tells q r, row_first, row_else q)
 
 -- ---- what two loops hold together
 
@@ -70,16 +64,10 @@ abbrev pub in_both : Model → ℕ → ℕ → ℕ → ℕ
 in_both X r s x = count x (items_of (content X r)) + count x (items_of (content X s))
 
 pub stands_both : (X : Model) (r s x q : ℕ) → OneOf r s q → StandsIn X x q → 1 ≤ in_both X r s x
-stands_both X r s x q o t = elim o [
-  | inl a ↦ let i = holds_in x (content X r) (subst (StandsIn X x) a t) in omega (arith, i)
-  | inr a ↦ let i = holds_in x (content X s) (subst (StandsIn X x) a t) in omega (arith, i)
-]
+stands_both X r s x q o t = grind (arith, holds_in x (content X r), holds_in x (content X s))
 
 pub both_stand : (X : Model) (r s x : ℕ) → 1 ≤ in_both X r s x → (q : ℕ) × OneOf r s q × StandsIn X x q
-both_stand X r s x i = elim (IsIn_or_not x (items_of (content X r))) [
-  | inl a ↦ (r, inl refl, in-holds x (content X r) a)
-  | inr a ↦ (s, inr refl, in-holds x (content X s) (omega (arith, i, a)))
-]
+both_stand X r s x i = grind (arith, in-holds x (content X r), in-holds x (content X s))
 
 some_or_none : (n : ℕ) → (1 ≤ n) ⊎ (n ≡ 0)
 some_or_none zero = inr refl
@@ -100,9 +88,6 @@ module _ {M N : Model} {e r s : ℕ} (sound : Sound M) (rows : TwoRows M N e r s
   stood_other : (x q : ℕ) → Neither r s q → StandsIn N x q → StandsIn M x q
   stood_other x q n t = ap (holds x) (sym (rows.other_content q n)) ∙ t
 
-  half_on : (x : ℕ) → edge_of x ≢ e → HasHalf M x → HasHalf N x
-  half_on x a t = rows.other_edge (edge_of x) a ∙ t
-
   half_back : (x : ℕ) → edge_of x ≢ e → HasHalf N x → HasHalf M x
   half_back x a t = sym (rows.other_edge (edge_of x) a) ∙ t
 
@@ -121,54 +106,43 @@ module _ {M N : Model} {e r s : ℕ} (sound : Sound M) (rows : TwoRows M N e r s
   only x q t = elim (which r s q) [
     | inl o ↦ let i = stands_both N r s x q o t in elim (eqb_tells (edge_of x) e) [
       | inl a ↦ rows.there x a.1 i
-      | inr a ↦ let k = both_stand M r s x (omega (arith, i, rows.others x a.1)) in half_on x a.1 (sound.only_edges x k.0 k.2)
+      | inr a ↦ let k = both_stand M r s x (omega (arith, i, rows.others x a.1)) in rows.other_edge (edge_of x) a.1 ∙ (sound.only_edges x k.0 k.2)
     ]
-    | inr n ↦ let k = elsewhere x q n (stood_other x q n t) in half_on x k.1 k.0
+    | inr n ↦ let k = elsewhere x q n (stood_other x q n t) in rows.other_edge (edge_of x) k.1 ∙ k.0
   ]
 
   same_loop : (x p q : ℕ) → OneOf r s p → OneOf r s q → StandsIn N x p → StandsIn N x q → p ≡ q
-  same_loop x p q o k t u = elim o [
-    | inl a ↦ elim k [ inl b ↦ a ∙ sym b | inr b ↦ a ∙ rows.once x (subst (StandsIn N x) a t) (subst (StandsIn N x) b u) ∙ sym b ]
-    | inr a ↦ elim k [ inl b ↦ a ∙ sym (rows.once x (subst (StandsIn N x) b u) (subst (StandsIn N x) a t)) ∙ sym b | inr b ↦ a ∙ sym b ]
-  ]
+  same_loop x p q o k t u = grind (arith, rows.once x)
 
   -- what stands in one of the two stands in no other loop
   one_of_two : (x q : ℕ) → OneOf r s q → StandsIn N x q → (p : ℕ) → StandsIn N x p → p ≡ q
-  one_of_two x q o t p u = elim (which r s p) [
-    | inl k ↦ same_loop x p q k o u t
-    | inr n ↦ let k = elsewhere x p n (stood_other x p n u) in absurd (k.2 (omega (arith, stands_both N r s x q o t, rows.others x k.1)))
-  ]
+  one_of_two x q o t p u = grind (arith, which r s p, same_loop x p q, elsewhere x p, stood_other x p, stands_both N r s x q o t, rows.others x)
 
   pub loop_both : (x q : ℕ) → OneOf r s q → StandsIn N x q → loop_of N x ≡ q
   loop_both x q o t = loop_at N x q t (one_of_two x q o t)
 
   -- each half-edge stands in one of the two, or it is old and stands where it did
   place_cases : (x : ℕ) → HasHalf N x → (1 ≤ in_both N r s x) ⊎ (HasHalf M x × Neither r s (loop_of M x) × (in_both N r s x ≡ 0))
-  place_cases x t = elim (some_or_none (in_both N r s x)) [
-    | inl i ↦ inl i
-    | inr z ↦ elim (eqb_tells (edge_of x) e) [
-      | inl a ↦ absurd (omega (arith, rows.stands x a.1 t, z))
-      | inr a ↦ let o = half_back x a.1 t in elim (which r s (loop_of M x)) [
-        | inl k ↦ absurd (omega (arith, z, rows.others x a.1, stands_both M r s x (loop_of M x) k (sound.stands x o)))
-        | inr n ↦ inr (o, n, z)
-      ]
-    ]
-  ]
+  place_cases x t = grind (
+    arith,
+    some_or_none (in_both N r s x),
+    eqb_tells (edge_of x) e,
+    rows.stands x,
+    half_back x,
+    which r s (loop_of M x),
+    rows.others x,
+    stands_both M r s x (loop_of M x),
+    sound.stands x,
+  )
 
   stays : (x : ℕ) → HasHalf M x → Neither r s (loop_of M x) → StandsIn N x (loop_of M x)
   stays x o n = ap (holds x) (rows.other_content (loop_of M x) n) ∙ sound.stands x o
 
   stays_alone : (x : ℕ) → in_both N r s x ≡ 0 → (p : ℕ) → StandsIn N x p → p ≡ loop_of M x
-  stays_alone x z p u = elim (which r s p) [
-    | inl k ↦ absurd (omega (arith, z, stands_both N r s x p k u))
-    | inr n ↦ sym (sound.one_loop x p (stood_other x p n u))
-  ]
+  stays_alone x z p u = grind (arith, which r s p, stands_both N r s x p, sound.one_loop x p, stood_other x p)
 
   pub placed : (x : ℕ) → HasHalf N x → (q : ℕ) × StandsIn N x q × ((p : ℕ) → StandsIn N x p → p ≡ q)
-  placed x t = elim (place_cases x t) [
-    | inl i ↦ let k = both_stand N r s x i in (k.0, k.2, one_of_two x k.0 k.1 k.2)
-    | inr o ↦ (loop_of M x, stays x o.0 o.1, stays_alone x o.2)
-  ]
+  placed x t = grind (arith, place_cases x t, both_stand N r s x, one_of_two x, stays x, stays_alone x)
 
   -- ---- lone loops, where neither of the two is lone
 
@@ -188,10 +162,7 @@ module _ {M N : Model} {e r s : ℕ} (sound : Sound M) (rows : TwoRows M N e r s
   Elsewhere hs = (x : ℕ) → IsIn x hs → HasHalf M x × Neither r s (loop_of M x)
 
   pub none_elsewhere : (hs : List ℕ) → Elsewhere hs → (x : ℕ) → (HasHalf M x → OneOf r s (loop_of M x)) → count x hs ≡ 0
-  none_elsewhere hs each x o = elim (IsIn_or_not x hs) [
-    | inl i ↦ let k = each x i in elim (o k.0) [ inl a ↦ absurd (k.1.0 a) | inr a ↦ absurd (k.1.1 a) ]
-    | inr z ↦ z
-  ]
+  none_elsewhere hs each x o = grind arith
 
   module _ (next : ℕ → ℕ) (two : (q : ℕ) → OneOf r s q → Has N.loops q → IsLoop next (content N q))
       (other : (hs : List ℕ) → Elsewhere hs → IsRing (after M) hs → IsRing next hs) where
@@ -243,10 +214,6 @@ pub record RowsChange (M N : Model) (h r s : ℕ) : Type 0 where
   pub other_row : (q : ℕ) → q ≢ r → q ≢ s → table.get N.loops q ≡ table.get M.loops q
   pub others : (x : ℕ) → edge_of x ≢ edge_of h → in_both N r s x ≡ in_both M r s x
   pub once : (x : ℕ) → StandsIn N x r → StandsIn N x s → r ≡ s
-
--- a fact of h and of its mate holds for each half of the edge
-pub of_edge : (P : ℕ → Type 0) (h x : ℕ) → P h → P (mate h) → edge_of x ≡ edge_of h → P x
-of_edge P h x first second e = elim (same_edge x h e) [ inl a ↦ subst P (sym a) first | inr a ↦ subst P (sym a) second ]
 
 pub two_rows-more : {M N : Model} {h u w r s : ℕ} → OneMore M N h u w → RowsChange M N h r s → 1 ≤ in_both N r s h → 1 ≤ in_both N r s (mate h) → TwoRows M N (edge_of h) r s
 two_rows-more {M = M} {N = N} {h = h} {r = r} {s = s} edge rows first second = record {

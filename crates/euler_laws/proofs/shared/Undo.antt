@@ -58,16 +58,10 @@ same_edges K M s t = same_table _ _ (λ e. edge_alike (table.get K.edges e) (tab
 
 -- an edge that comes and goes, and one that goes and comes again
 pub edge_back : {M N K : Model} {h u w : ℕ} → EdgeComes M N h u w → EdgeGoes N K h → (e : ℕ) → table.has K.edges e ≡ table.has M.edges e
-edge_back {M = M} {K = K} {h = h} came went e = elim (eqb_tells e (edge_of h)) [
-  | inl a ↦ ap (table.has K.edges) a.1 ∙ ap is_some went.gone ∙ sym (ap (table.has M.edges) a.1 ∙ ap is_some came.free)
-  | inr a ↦ went.others e a.1 ∙ came.others e a.1
-]
+edge_back {M = M} {K = K} {h = h} came went e = grind (arith, eqb_tells e (edge_of h))
 
 pub edge_again : {M N K : Model} {h u w : ℕ} → EdgeGoes M N h → HasHalf M h → EdgeComes N K h u w → (e : ℕ) → table.has K.edges e ≡ table.has M.edges e
-edge_again {M = M} {K = K} {h = h} went there came e = elim (eqb_tells e (edge_of h)) [
-  | inl a ↦ ap (table.has K.edges) a.1 ∙ half_h came ∙ sym (ap (table.has M.edges) a.1 ∙ there)
-  | inr a ↦ came.others e a.1 ∙ went.others e a.1
-]
+edge_again {M = M} {K = K} {h = h} went there came e = grind (arith, eqb_tells e (edge_of h), half_h came)
 
 pub same_model : (K M : Model) → K.solids ≡ M.solids → K.faces ≡ M.faces → K.loops ≡ M.loops → K.edges ≡ M.edges → K.vertices ≡ M.vertices → K ≡ M
 same_model K M a b c d e = λ i. record { solids = a i; faces = b i; loops = c i; edges = d i; vertices = e i }
@@ -96,10 +90,7 @@ module _ (hs : List ℕ) (d : IsApart hs) where
         same_count a b r x = ap (count x) r.here ∙ count-append x r.front r.back ∙ (let t : count x r.front + count x r.back ≡ count x r.back + count x r.front = omega arith in t) ∙ sym (ap (count x) r.there ∙ count-append x r.back r.front)
 
   pub put_apart : (g h : ℕ) → IsIn g hs → count h hs ≡ 0 → IsApart (insert_before g h hs)
-  put_apart g h i n x = elim (eqb_tells x h) [
-    | inl e ↦ omega (arith, count-insert_before x g h hs i, ap (λ y. count y hs) e.1, ap (tick x) (sym e.1), tick_same x)
-    | inr e ↦ omega (arith, count-insert_before x g h hs i, tick_other x h e.1, d x)
-  ]
+  put_apart g h i n x = grind (arith, eqb_tells x h, count-insert_before x g h hs i, tick_same x, tick_other x h)
 
   -- one put in
   pub put_in : (g h : ℕ) → IsIn g hs → count h hs ≡ 0 → canonical (insert_before g h hs) ≡ put_ring h g hs
@@ -125,15 +116,9 @@ module _ (hs : List ℕ) (d : IsApart hs) where
   tail_of : {x y : ℕ} {xs ys : List ℕ} → x ∷ xs ≡ y ∷ ys → xs ≡ ys
   tail_of e = cc
 
-  pub split : (h m : ℕ) → IsIn h hs → IsIn m hs → h ≢ m → rest h hs ≡ between h m hs ++ m ∷ beyond h m hs
-  split h m i j ne = tail_of (sym (rotate_to_is h hs i) ∙ ring_split h m hs i j ne)
-
   -- what follows h and m in the ring h X m Y
   pub after_first : (h m : ℕ) → IsIn h hs → IsIn m hs → h ≢ m → successor hs h ≡ head_or m (between h m hs)
-  after_first h m i j ne = ap (head_or h) (split h m i j ne) ∙ head_in (between h m hs) m (beyond h m hs) where
-    head_in : (xs : List ℕ) (m : ℕ) (ys : List ℕ) → head_or h (xs ++ m ∷ ys) ≡ head_or m xs
-    head_in [] m ys = refl
-    head_in (x ∷ xs) m ys = refl
+  after_first h m i j ne = grind (arith, tail_of (sym (rotate_to_is h hs i) ∙ ring_split h m hs i j ne))
 
 -- ---- parallel edges
 
