@@ -32,9 +32,9 @@ within_is n k l h = grind (arith, nat_tests)
 pub fits-same : {X : Type 0} (rows new : List (Option X)) → Fits rows → ((q : ℕ) → row_at new q ≡ row_at rows q) → length new ≤ 1000001 → Fits new
 fits-same rows new fits same limit = record { no_zero = same 0 ∙ fits.no_zero; within = limit }
 
-pub rooms_ok : {E : Type 0} (r : Result (Unit {0}) E) (n k : ℕ) → 1 ≤ n → OnOk r (n < k) → OnOk r (within n (k - 1) ≡ true)
-rooms_ok (Ok u) n k l h = within_is n k l h
-rooms_ok (Err e) n k l h = tt
+pub rooms_ok : {E : Type 0} (r : Result (Unit {0}) E) (n last k : ℕ) → 1 ≤ n → n ≤ last → OnOk r (last < k) → OnOk r (within n (k - 1) ≡ true)
+rooms_ok (Ok u) n last k least from h = within_is n k least (omega (arith, from, h))
+rooms_ok (Err e) n last k least from h = tt
 
 module _ (sp : Spots) (known : ℕ → Bool) (solids : List (Option Bool)) (faces : List (Option FaceCell)) (loops : List (Option LoopCell)) (vertices : List (Option Point)) (tied : RowsAreTied sp known solids faces loops vertices) where
   abbrev S : Store

@@ -3,8 +3,11 @@ ghost use Rattle.std.specs.Prelude.{◌≡◌, ◌≤◌, true, OnOk, IsOk};
 ghost use Rattle.arena_rows.specs.Store.{has_room, HasGrown};
 
 use crate::arena::Arena;
-use boundary_model::Kind;
+use boundary_model::{Kind, NUMBER_LIMIT};
 use std::alloc::AllocError;
+
+/// How many numbers get their room at a time, so that it is asked for seldom.
+const STEP: u32 = 64;
 
 impl Arena {
     /// Gives number n of a kind its room, n from 1 to 1,000,000. The model stays, and each number that had its room keeps it.
@@ -35,8 +38,9 @@ impl Arena {
         ensures grown { HasGrown self.old self.new }
         ensures ok { OnOk result (has_room self.new Kind.Solid n ≡ true) }
     {
-        self.solid_faces.reach_owner(n)?;
-        self.solids.reach(n)
+        let last = last_of_step(n);
+        self.solid_faces.reach_owner(last)?;
+        self.solids.reach(last)
     }
 
     fn room_faces(&mut self, n: u32) -> Result<(), AllocError>
@@ -45,9 +49,10 @@ impl Arena {
         ensures grown { HasGrown self.old self.new }
         ensures ok { OnOk result (has_room self.new Kind.Face n ≡ true) }
     {
-        self.solid_faces.reach_item(n)?;
-        self.face_loops.reach_owner(n)?;
-        self.faces.reach(n)
+        let last = last_of_step(n);
+        self.solid_faces.reach_item(last)?;
+        self.face_loops.reach_owner(last)?;
+        self.faces.reach(last)
     }
 
     fn room_loops(&mut self, n: u32) -> Result<(), AllocError>
@@ -56,8 +61,9 @@ impl Arena {
         ensures grown { HasGrown self.old self.new }
         ensures ok { OnOk result (has_room self.new Kind.Loop n ≡ true) }
     {
-        self.face_loops.reach_item(n)?;
-        self.loops.reach(n)
+        let last = last_of_step(n);
+        self.face_loops.reach_item(last)?;
+        self.loops.reach(last)
     }
 
     fn room_edges(&mut self, n: u32) -> Result<(), AllocError>
@@ -75,6 +81,20 @@ impl Arena {
         ensures grown { HasGrown self.old self.new }
         ensures ok { OnOk result (has_room self.new Kind.Vertex n ≡ true) }
     {
-        self.vertices.reach(n)
+        self.vertices.reach(last_of_step(n))
+    }
+}
+
+/// The last number of the step in which a number stands.
+fn last_of_step(n: u32) -> u32
+    requires { n ≤ 1000000 }
+    ensures from { n ≤ result }
+    ensures limit { result ≤ 1000000 }
+{
+    let last = n / STEP * STEP + (STEP - 1);
+    if last < NUMBER_LIMIT {
+        last
+    } else {
+        NUMBER_LIMIT
     }
 }

@@ -41,8 +41,8 @@ pub enum Failure {
 #[derive(Drop)]
 pub struct Session {
     pub(crate) alloc: Global,
-    pub(crate) arena: Box<Arena, Global>,
     pub(crate) records: Vec<Record>,
+    pub(crate) arena: Box<Arena, Global>,
     pub(crate) place: usize,
 }
 
