@@ -1,5 +1,5 @@
 -- The conditions of a glue, part by part.
-use Rattle.std.proofs.Common.{◌≡◌, ℕ, true, false, cond, ◌&&◌, ◌||◌, nat_eq, List, [], ◌∷◌, ◌++◌, Option, Some, None, Result, Ok, Err, is_err, is_some, unwrap_or, refl, sym, ap, ◌∙◌, arith, true≢false}
+use Rattle.std.proofs.Common.{◌≡◌, ℕ, Bool, true, false, cond, not, ◌&&◌, ◌||◌, nat_eq, List, [], ◌∷◌, ◌++◌, Option, Some, None, Result, Ok, Err, is_err, is_some, unwrap_or, refl, sym, ap, ◌∙◌, arith, true≢false}
 use Rattle.std.proofs.lemmas.Bool.Decides.{nat_tests}
 use Rattle.euler_operators.specs.Table.{get}
 use Rattle.euler_operators.specs.Model.{Model, LoopRow, no_loop, content, face_of, solid_of, outer, faces_of}
@@ -14,7 +14,9 @@ use Rattle.shapes.proofs.fresh.Tests.{none_found, none_is_lone}
 use Rattle.shapes.specs.Faces.{faces_of_both, least_lone}
 use Rattle.shapes.specs.Fresh.{taken_in, numbers_left}
 use Rattle.solid_measure.proofs.solid_checks_laws.FaceWalks.{lists_member, member_faces, member_both}
-use Rattle.shapes.specs.glue.Glue.{glue_conditions}
+use Rattle.std.specs.Prelude.{reverse}
+use Rattle.euler_operators.specs.declared.Why.TheVariants.{RepeatedPoint, NoMatch}
+use Rattle.shapes.specs.glue.Glue.{glue_conditions, has_repeats, is_rotation, outline}
 use Rattle.gluing.specs.glue_checks.Conditions.{face_conditions, solid_conditions, outline_conditions}
 use Rattle.solid_walks.proofs.face_walks_laws.Above.{member}
 
@@ -42,6 +44,18 @@ first_failed xs ys (Err r) is e = ap verdict (sym (refusal_first xs ys r (verdic
 pub all_passed : (xs : List Condition) (v : Result (Unit {0}) Refusal) → v ≡ verdict (first_refusal xs) → is_err v ≡ false → first_refusal xs ≡ None
 all_passed xs (Ok u) is e = verdict_passed (first_refusal xs) u is
 all_passed xs (Err r) is e = absurd (true≢false e)
+
+-- the third of three conditions fails, and is told
+third_told : (a b d : Bool) (p q r : Refusal) → a ≡ false → b ≡ false → d ≡ false → cond (not a) (cond (not b) (cond d None (Some r)) (Some q)) (Some p) ≡ Some r
+third_told a b d p q r e h k = rw (e, h, k) refl
+
+-- the faces' outlines don't lie on one another
+pub no_match : (M : Model) (f g : ℕ) (v : Result (Unit {0}) Refusal) → has_repeats (outline M f) ≡ false → has_repeats (outline M g) ≡ false → is_rotation (outline M f) (reverse (outline M g)) ≡ false
+    → v ≡ Err (record { why = NoMatch; number = g }) → v ≡ verdict (first_refusal (outline_conditions M f g))
+no_match M f g v first second turned is =
+    let told : first_refusal (outline_conditions M f g) ≡ Some (record { why = NoMatch; number = g }) =
+    third_told (has_repeats (outline M f)) (has_repeats (outline M g)) (is_rotation (outline M f) (reverse (outline M g))) (record { why = RepeatedPoint; number = f }) (record { why = RepeatedPoint; number = g }) (record { why = NoMatch; number = g }) first second turned in
+    is ∙ ap verdict (sym told)
 
 module _ (M : Model) (sound : Sound M) where
   -- where no loop of some faces is lone, none of their outer loops is
