@@ -24,9 +24,9 @@ use std::marker::Model;
 /// memory.
 #[derive(Drop)]
 pub struct EdgeRings {
-    rings: Rings,
     labels: Rows<Label>,
     edges: Numbers,
+    rings: Rings,
 }
 
 impl Model for EdgeRings {
