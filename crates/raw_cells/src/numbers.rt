@@ -96,6 +96,7 @@ impl Numbers {
     }
 
     /// Makes the room reach to number n. Where it does, this is one test, and no `Err` comes.
+    #[inline(always)]
     pub fn reach(&mut self, n: u32) -> Result<(), AllocError>
         requires { n ≤ 2000001 }
         ensures same { (q : ℕ) → uses self.new q ≡ uses self.old q }
@@ -103,10 +104,21 @@ impl Numbers {
         ensures ok { OnOk result (n / 64 < length self.new) }
         ensures known { n / 64 < length self.old → IsOk result }
     {
-        let index = n / WORD;
-        if (index as usize) < self.words.len() {
+        if ((n / WORD) as usize) < self.words.len() {
             return Ok(());
         }
+        self.widen(n)
+    }
+
+    /// Makes the room reach to number n, and on to the end of its step.
+    #[inline(never)]
+    fn widen(&mut self, n: u32) -> Result<(), AllocError>
+        requires { n ≤ 2000001 }
+        ensures same { (q : ℕ) → uses self.new q ≡ uses self.old q }
+        ensures grows { length self.old ≤ length self.new }
+        ensures ok { OnOk result (n / 64 < length self.new) }
+    {
+        let index = n / WORD;
         reach(&mut self.summaries, index / WORD + 1)?;
         reach(&mut self.words, index / STEP * STEP + STEP)
     }

@@ -138,6 +138,7 @@ impl<T: Copy> Rows<T> {
     }
 
     /// Makes the rows reach to number n. Where they do, this is one test, and no `Err` comes.
+    #[inline(always)]
     pub fn reach(&mut self, n: u32) -> Result<(), AllocError>
         requires { n ≤ 2000001 }
         ensures same { (q : ℕ) → row_at self.new q ≡ row_at self.old q }
@@ -157,6 +158,7 @@ impl<T: Copy> Rows<T> {
 }
 
 /// Makes the cells reach to number n. Those of the numbers in use stay as they are.
+#[inline(always)]
 fn widen<T: Copy>(cells: &mut Cells<T>, used: &Numbers, room: u32, n: u32) -> Result<(), AllocError>
     requires limit { n ≤ 2000001 }
     requires fits { room ≤ length cells.old }
@@ -168,6 +170,25 @@ fn widen<T: Copy>(cells: &mut Cells<T>, used: &Numbers, room: u32, n: u32) -> Re
     if (n as usize) < cells.len() {
         return Ok(());
     }
+    move_on(cells, used, room, n)
+}
+
+/// Moves the cells to a block that reaches to number n. Those of the numbers in use stay as they are.
+#[inline(never)]
+fn move_on<T: Copy>(
+    cells: &mut Cells<T>,
+    used: &Numbers,
+    room: u32,
+    n: u32,
+) -> Result<(), AllocError>
+    requires limit { n ≤ 2000001 }
+    requires fits { room ≤ length cells.old }
+    requires short { length cells.old ≤ n }
+    requires written { (k : ℕ) → uses used.now k ≡ true → is_some (row_at cells.old k) ≡ true }
+    ensures same { (k : ℕ) → k < room → uses used.now k ≡ true → row_at cells.new k ≡ row_at cells.old k }
+    ensures fits { room ≤ length cells.new }
+    ensures ok { OnOk result (n < length cells.new) }
+{
     let mut wider = Cells::with_count(cells.alloc(), count_for(n))?;
     copy_rows(cells, used, room, &mut wider);
     *cells = wider;

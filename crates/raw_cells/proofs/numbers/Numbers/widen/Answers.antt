@@ -1,7 +1,7 @@
 use Rattle.std.proofs.Common.{arith}
 use Rattle.raw_cells.proofs.numbers_laws.Words.{uses_same}
 use Rattle.raw_cells.proofs.numbers_laws.Summed.{more_summaries, more_words}
-use Rattle.raw_cells.proofs.numbers.Numbers.reach.Goals as goal
+use Rattle.raw_cells.proofs.numbers.Numbers.widen.Goals as goal
 
 pub invariant_of-self : goal.invariant_of-self
 invariant_of-self c = more_summaries _ _ c.self.invariant _ c.reach.ensures.same c.reach.ensures.grows (c.reach.ensures.limit 489 (omega (arith, c.requires)) c.self.invariant.summaries_limit)
