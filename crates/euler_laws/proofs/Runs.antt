@@ -1,5 +1,5 @@
 -- Lists of operators, each accepted in its turn, and their inverses.
-use Rattle.std.proofs.Common.{◌≡◌, List, [], ◌∷◌, ◌++◌, None, refl, sym, ap, subst, ◌∙◌, arith}
+use Rattle.std.proofs.Common.{◌≡◌, List, [], ◌∷◌, ◌++◌, None, refl, sym, ap, subst, ◌∙◌}
 use Rattle.euler_operators.specs.Model.{Model}
 use Rattle.euler_operators.specs.Sound.{Sound}
 use Rattle.euler_operators.specs.declared.Op.{Op}
@@ -27,13 +27,11 @@ effects_keep_sound M (op ∷ ops) sound a = effects_keep_sound (effect M op) ops
 
 pub inverses_undo : (M : Model) (ops : List Op) → Sound M → AreAccepted M ops → effects (effects M ops) (inverses M ops) ≡ M
 inverses_undo M [] sound a = refl
-inverses_undo M (op ∷ ops) sound a = grind (
-  arith,
-  effects-append (effects (effect M op) ops) (inverses (effect M op) ops) (inverse M op ∷ []),
-  inverses_undo (effect M op) ops (effect_keeps_sound M op sound a.0) a.1,
-  effect_keeps_sound M op sound a.0,
-  inverse_undoes M op sound a.0,
-)
+inverses_undo M (op ∷ ops) sound a =
+    let N : Model = effect M op in
+    effects-append (effects N ops) (inverses N ops) (inverse M op ∷ [])
+    ∙ ap (λ X. effect X (inverse M op)) (inverses_undo N ops (effect_keeps_sound M op sound a.0) a.1)
+    ∙ inverse_undoes M op sound a.0
 
 pub inverses_go : (M : Model) (ops : List Op) → Sound M → AreAccepted M ops → AreAccepted (effects M ops) (inverses M ops)
 inverses_go M [] sound a = tt

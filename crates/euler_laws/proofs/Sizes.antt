@@ -1,11 +1,10 @@
 -- How many rows tables have after a change, and how many rings a sound model has.
-use Rattle.std.proofs.Common.{◌≡◌, ◌≢◌, ℕ, suc, ◌+◌, ◌≤◌, ◌<◌, Bool, true, false, cond, not, nat_eq, nat_lt, ◌||◌, List, [], ◌∷◌, length, Some, None, is_some, refl, sym, ap, ◌∙◌, subst, arith, inl, inr, true≢false}
+use Rattle.std.proofs.Common.{◌≡◌, ◌≢◌, ℕ, suc, ◌+◌, ◌≤◌, ◌<◌, Bool, true, false, cond, not, nat_eq, nat_lt, List, [], ◌∷◌, length, Some, None, is_some, refl, sym, ap, ◌∙◌, arith, true≢false}
 use Rattle.std.specs.Option.{option_map}
 use Rattle.std.specs.Ordering.{nat_cmp}
 use Rattle.std.specs.Cmp.{nat_cmp_total}
 use Rattle.std.specs.FinMap.Entries as entries
-use Rattle.std.proofs.lemmas.Bool.Decides.{eqb_tells}
-use Rattle.std.proofs.lemmas.Bool.{and_parts, eq-eqb, eqb-true, ltb-true}
+use Rattle.std.proofs.lemmas.Bool.{and_parts, eq-eqb, eqb-true}
 use Rattle.euler_operators.specs.Table.{Table, put, remove, get, map_rows, map_entries, get-map_rows, all_where, all_in}
 use Rattle.euler_operators.specs.Model.{Model, LoopRow, face_of, outer}
 use Rattle.euler_operators.specs.Sound.{Sound, Has}
@@ -14,7 +13,7 @@ use Rattle.euler_operators.proofs.Tables.{row_some}
 use Rattle.euler_operators.specs.Conditions.{lists, strictly_rises}
 use Rattle.euler_operators.specs.Items.{IsIn}
 use Rattle.euler_laws.specs.Laws.{size, all_rings}
-use Rattle.euler_laws.proofs.shared.Listed.{listed_passes, passes_listed, all_where-rises, first_listed, rest_listed, listed_cases, listed-from_in}
+use Rattle.euler_laws.proofs.shared.Listed.{listed_passes, passes_listed, all_where-rises, first_listed, rest_listed, listed-from_in}
 
 -- ---- rows put, taken away and rewritten
 
@@ -75,25 +74,12 @@ less_length n (m ∷ ns) l = grind (arith, less_length n ns)
 
 less_listed : (n q : ℕ) (ns : List ℕ) → q ≢ n → lists ns q ≡ true → lists (less n ns) q ≡ true
 less_listed n q [] a l = l
-less_listed n q (m ∷ ns) a l = grind (
-  arith,
-  eqb_tells m n,
-  listed_cases m q ns l,
-  first_listed m (less n ns),
-  rest_listed m q (less n ns),
-  less_listed n q ns a,
-)
+less_listed n q (m ∷ ns) a l = grind (arith, less_listed n q ns a)
 
 -- what stands after the first item of a rising list is greater
 pub rises_apart : (n q : ℕ) (ns : List ℕ) → strictly_rises (n ∷ ns) ≡ true → lists ns q ≡ true → n < q
 rises_apart n q [] r l = absurd (true≢false (sym l))
-rises_apart n q (m ∷ ns) r l = grind (
-  arith,
-  and_parts (nat_lt n m) (strictly_rises (m ∷ ns)) r,
-  ltb-true n m,
-  listed_cases m q ns l,
-  rises_apart m q ns,
-)
+rises_apart n q (m ∷ ns) r l = grind (arith, rises_apart m q ns)
 
 pub rises_on : (n : ℕ) (ns : List ℕ) → strictly_rises (n ∷ ns) ≡ true → strictly_rises ns ≡ true
 rises_on n [] r = refl

@@ -176,13 +176,10 @@ module _ (M : Model) (sound : Sound M) (l f : ℕ) (goes : MakeGoes M l f) where
   -- kfmrh takes it back
   pub kfmrh-mfkrh : kfmrh P (face_of M l) f ≡ M
   unfolding mfkrh kfmrh
-  kfmrh-mfkrh = grind (
-    arith,
-    outer_row P f _ (row_here make_set.rows),
-    loop_home M l f (face_of M l) refl,
-    remove-put M.faces f (record { solid = solid_of M (face_of M l); outer = l }) goes.face_free,
-    goes.face_free,
-  )
+  kfmrh-mfkrh = λ i. record M {
+    loops = (ap (λ y. map_rows (loop_to_face y (face_of M l)) P.loops) (outer_row P f _ (row_here make_set.rows)) ∙ loop_home M l f (face_of M l) refl) i;
+    faces = remove-put M.faces f (record { solid = solid_of M (face_of M l); outer = l }) goes.face_free i;
+  }
 
 -- ---- the operators
 
@@ -235,22 +232,8 @@ mfkrh_accepted N l f sound goes = none_refuses (conditions N (Mfkrh l f)) (
 
 pub kfmrh_lawful : (f g : ℕ) → IsLawful (Kfmrh f g)
 unfolding effect inverse
-kfmrh_lawful f g M sound e = grind (
-  arith,
-  kfmrh_goes M f g e,
-  sound-kfmrh M sound f g,
-  mfkrh_accepted (kfmrh M f g) (outer M g) g,
-  make_goes M sound f g,
-  mfkrh-kfmrh M sound f g,
-)
+kfmrh_lawful f g M sound e = grind (arith, kfmrh_goes, sound-kfmrh, mfkrh_accepted, make_goes, mfkrh-kfmrh)
 
 pub mfkrh_lawful : (l f : ℕ) → IsLawful (Mfkrh l f)
 unfolding effect inverse
-mfkrh_lawful l f M sound e = grind (
-  arith,
-  mfkrh_goes M l f e,
-  sound-mfkrh M sound l f,
-  kfmrh_accepted (mfkrh M l f) (face_of M l) f,
-  kill_goes M sound l f,
-  kfmrh-mfkrh M sound l f,
-)
+mfkrh_lawful l f M sound e = grind (arith, mfkrh_goes, sound-mfkrh, kfmrh_accepted, kill_goes, kfmrh-mfkrh)

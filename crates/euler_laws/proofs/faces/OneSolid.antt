@@ -108,7 +108,7 @@ module _ {M : Model} {s f l v : ℕ} {p : Point} (goes : MvfsGoes M s f l v p) w
   -- each loop holds the same half-edges
   pub stand_same : (x q : ℕ) → holds x (content N q) ≡ holds x (content M q)
   unfolding holds
-  stand_same x q = grind (arith, eqb_tells q l, content_new, content_none M l goes.loop_free, content_other q)
+  stand_same x q = grind (arith, content_new, content_none, content_other)
 
   -- a lone loop of the old model is another than l
   lone_not_l : (q w : ℕ) → content M q ≡ lone w → q ≢ l
@@ -135,7 +135,7 @@ module _ {M : Model} {s f l v : ℕ} {p : Point} (goes : MvfsGoes M s f l v p) w
 
     -- a lone loop of the new model is the new one, or an old one at an old vertex
     lone_cases : (q w : ℕ) → content N q ≡ lone w → ((q ≡ l) × (w ≡ v)) ⊎ ((content M q ≡ lone w) × Has M.vertices w)
-    lone_cases q w e = grind (arith, eqb_tells q l, one_vertex w v, content_new, content_other q, sound.lone_at_vertex q w)
+    lone_cases q w e = grind (arith, content_new, content_other)
 
     solid_at_old : (x : ℕ) → HasHalf M x → solid_at N (loop_of N x) ≡ solid_at M (loop_of M x)
     solid_at_old x t =

@@ -111,12 +111,4 @@ ring_in_accepted N l f sound goes apart = none_refuses (conditions N (RingIn l f
 
 pub ring_in_lawful : (l f : ℕ) → IsLawful (RingIn l f)
 unfolding effect inverse
-ring_in_lawful l f M sound e = grind (
-  arith,
-  ring_in_goes M l f e,
-  sound-ring_in M sound l f,
-  ring_in_accepted (ring_in M l f) l (face_of M l),
-  back_goes M sound l f,
-  face_l M sound l f,
-  ring_in-ring_in M sound l f,
-)
+ring_in_lawful l f M sound e = grind (arith, ring_in_goes, sound-ring_in, ring_in_accepted, back_goes, face_l, ring_in-ring_in)

@@ -1,12 +1,11 @@
 -- RingOut and Outer, by which a ring becomes the outer loop of a face: they keep a sound model sound and take each other back.
 use Rattle.std.proofs.Common.{◌≡◌, ◌≢◌, ℕ, None, refl, sym, ap, ◌∙◌, subst, ◌⊎◌, inl, inr, arith}
 use Rattle.std.proofs.lemmas.Bool.Decides.{eqb_tells}
-use Rattle.euler_operators.specs.Table.{map_rows}
 use Rattle.euler_operators.specs.Model.{Model, face_of, solid_of, outer}
 use Rattle.euler_operators.specs.Sound.{Sound, Has}
 use Rattle.euler_operators.specs.declared.Op.TheVariants.{RingOut, Outer}
 use Rattle.euler_operators.specs.Conditions.{first_false, conditions}
-use Rattle.euler_operators.specs.Effect.{effect, inverse, ring_out, take_outer, loop_to_face, face_to_outer}
+use Rattle.euler_operators.specs.Effect.{effect, inverse, ring_out, take_outer}
 use Rattle.euler_laws.proofs.shared.Goes.{all_hold, none_refuses}
 use Rattle.euler_laws.proofs.shared.Parts.{outer_other}
 use Rattle.euler_laws.proofs.shared.Faces.{LoopMoves, FacesAfter, OuterSet, face_moved, face_kept, walks_same, old_outer, sound-moves, loop_home, outer_set, has_face_same, solid_same, outer_new, outer_home}
@@ -72,7 +71,7 @@ module _ {M : Model} (sound : Sound M) {l f : ℕ} (goes : RingGoes M l f) where
 
   pub take_outer-ring_out : take_outer N o g ≡ M
   unfolding take_outer ring_out
-  take_outer-ring_out = grind (arith, o_face, outer_new swaps, loop_home M l f g refl, outer_home M f l o refl)
+  take_outer-ring_out = grind (arith, o_face, outer_new, loop_home, outer_home)
 
   -- Outer
   abbrev P : Model

@@ -126,19 +126,7 @@ module _ {M : Model} (sound : Sound M) {s f l v : ℕ} {p : Point} (goes : MvfsG
 -- the one face of a solid is the first of its list, and all of it
 faces_one : (M : Model) → (s f : ℕ) → KvfsGoes M s f → faces_of M s ≡ f ∷ []
 unfolding solid_of
-faces_one M s f goes = grind (
-  arith,
-  row_some (table.get M.faces f) goes.f_there,
-  goes.f_there,
-  one_listed (faces_of M s) f,
-  all_where-rises,
-  passes_listed,
-  eq-eqb,
-  goes.of_s,
-  listed_passes,
-  goes.only,
-  eqb-true,
-)
+faces_one M s f goes = grind (arith, one_listed (faces_of M s) f, all_where-rises, passes_listed, listed_passes)
 
 kvfs_facts : (M : Model) (s : ℕ) (fs : List ℕ) → faces_of M s ≡ fs → Has M.solids s → bare_face M fs ≡ true → KvfsGoes M s (head_or_zero fs)
 unfolding has_rings solid_of
@@ -220,11 +208,8 @@ mvfs_lawful s f l v p M sound e =
 
 pub kvfs_lawful : (s : ℕ) → IsLawful (Kvfs s)
 unfolding effect inverse
-kvfs_lawful s M sound e = grind (
-  arith,
-  kvfs_goes M s e,
-  sound-kvfs sound (kvfs_goes M s e),
-  mvfs_accepted (kvfs_at M s (head_or_zero (faces_of M s))) s _ _ _ _ (put_goes sound (kvfs_goes M s e)),
-  put_goes sound (kvfs_goes M s e),
-  mvfs-kvfs sound (kvfs_goes M s e),
-)
+kvfs_lawful s M sound e = let f : ℕ = head_or_zero (faces_of M s) in let w = kvfs_goes M s e in record {
+  sound = sound-kvfs sound w;
+  goes = mvfs_accepted (kvfs_at M s f) s _ _ _ _ (put_goes sound w);
+  undone = mvfs-kvfs sound w;
+}

@@ -21,7 +21,7 @@ use Rattle.euler_operators.specs.Conditions.{AllHold, first_false, conditions, c
 use Rattle.euler_operators.specs.Effect.{effect, inverse, kemr, mekr, corner_of, cycle_or_lone, edge_row}
 use Rattle.euler_laws.proofs.shared.Goes.{◌also◌, all_hold, none_refuses, not_false, taken}
 use Rattle.euler_laws.proofs.shared.Parts.{outer_stays}
-use Rattle.euler_laws.proofs.shared.EdgeLess.{OneLess, edge_gone, half_cases, tail_old}
+use Rattle.euler_laws.proofs.shared.EdgeLess.{edge_gone, half_cases, tail_old}
 use Rattle.euler_laws.proofs.shared.TwoRows.{RowsSet, row_first, row_second, content_first, face_same}
 use Rattle.euler_laws.proofs.kemr.KemrSound as parted
 use Rattle.euler_laws.proofs.kemr.KemrSound.{KemrGoes, sound-kemr}
@@ -199,11 +199,8 @@ module _ {M : Model} (sound : Sound M) {h l : ℕ} (goes : KemrGoes M h l) where
 
 pub kemr_lawful : (h : HalfEdge) (l : ℕ) → IsLawful (Kemr h l)
 unfolding effect inverse
-kemr_lawful h l M sound e = grind (
-  arith,
-  kemr_goes M h l e,
-  sound-kemr M sound (code h) l (kemr_goes M h l e),
-  mekr_accepted (kemr M (code h) l) _ _ h _ _ _ _ _ _ (put_goes sound (kemr_goes M h l e)),
-  put_goes sound (kemr_goes M h l e),
-  mekr-kemr_back sound (kemr_goes M h l e),
-)
+kemr_lawful h l M sound e = let w = kemr_goes M h l e in record {
+  sound = sound-kemr M sound (code h) l w;
+  goes = mekr_accepted (kemr M (code h) l) _ _ h _ _ _ _ _ _ (put_goes sound w);
+  undone = mekr-kemr_back sound w;
+}

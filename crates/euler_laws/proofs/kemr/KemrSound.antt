@@ -23,7 +23,7 @@ use Rattle.euler_laws.proofs.shared.Undo.{after_first}
 use Rattle.euler_laws.proofs.shared.Rows.{held_row, content_none, count_or_lone, loop_or_lone, was_empty, after_second}
 use Rattle.euler_laws.proofs.shared.Parts.{VerticesHold, RangesHold, sound_of, fit-put, fit-remove, fit-map, FacesStay, solid_stays, solid_kept, faces_hold}
 use Rattle.euler_laws.proofs.shared.EdgeLess.{OneLess, ticks_apart, ring_kef-other, fans-less, vertices_hold-less}
-use Rattle.euler_laws.proofs.shared.TwoRows.{RowsSet, row_first, row_second, row_else, content_first, face_same, has_same, OneOf, TwoRows, lone_still, which, in_both, Elsewhere, none_elsewhere, walks-rows, one_solid-rows, two_rows-less}
+use Rattle.euler_laws.proofs.shared.TwoRows.{RowsSet, row_first, row_second, row_else, content_first, face_same, has_same, OneOf, TwoRows, lone_still, in_both, Elsewhere, none_elsewhere, walks-rows, one_solid-rows, two_rows-less}
 
 -- what the conditions of kemr say
 pub record KemrGoes (M : Model) (h l : ℕ) : Type 0 where
@@ -173,18 +173,7 @@ module _ (M : Model) (sound : Sound M) (h l : ℕ) (goes : KemrGoes M h l) where
   -- ---- vertices
 
   lone_back : (q t : ℕ) → IsLoneAt N q t → IsLoneAt M q t ⊎ (((q ≡ r) × (t ≡ u) × (after M m ≡ h)) ⊎ ((q ≡ l) × (t ≡ w) × (after M h ≡ m)))
-  lone_back q t e = grind (
-    arith,
-    which r l q,
-    was_empty Y u t,
-    content_first set,
-    set,
-    after_m,
-    was_empty X w t,
-    content_l,
-    after_h,
-    rows.other_content q,
-  )
+  lone_back q t e = grind (arith, was_empty Y u t, content_first set, after_m, was_empty X w t, content_l, after_h, rows.other_content q)
 
   vertices : VerticesHold N
   unfolding kemr

@@ -1,6 +1,6 @@
 -- kev as an operator: it keeps a model sound. The inverses of mev and of kev pass their conditions and take them back.
-use Rattle.std.proofs.Common.{◌≡◌, ◌≢◌, ℕ, Bool, true, false, cond, not, nat_eq, ◌&&◌, None, refl, sym, ap, ◌∙◌, subst, arith, inl, inr}
-use Rattle.std.proofs.lemmas.Bool.Decides.{nat_tests, eqb_tells}
+use Rattle.std.proofs.Common.{◌≡◌, ◌≢◌, ℕ, Bool, true, false, cond, nat_eq, ◌&&◌, None, refl, sym, ap, ◌∙◌, arith, inl, inr}
+use Rattle.std.proofs.lemmas.Bool.Decides.{eqb_tells}
 use Rattle.std.proofs.lemmas.Bool.{not-true, ne_eqb, eq-eqb, eqb-true}
 use Rattle.euler_operators.specs.declared.Point.{Point}
 use Rattle.euler_operators.specs.declared.HalfEdge.{HalfEdge}
@@ -90,7 +90,7 @@ corners_open M h ne =
     )
 
 corners_bare : (M : Model) (h : ℕ) → after M (mate h) ≡ h → after M h ≡ mate h → (kev_corner M h ≡ Lone (loop_of M h)) × (kev_corner_mate M h ≡ Lone (loop_of M h))
-corners_bare M h a b = grind (arith, eq-eqb _ _ a, eq-eqb _ _ b)
+corners_bare M h a b = grind arith
 
 -- what is so of the inverse, by its corners
 module _ (M : Model) (h : HalfEdge) (sound : Sound M) (goes : KevGoes M (code h)) where
@@ -108,31 +108,26 @@ module _ (M : Model) (h : HalfEdge) (sound : Sound M) (goes : KevGoes M (code h)
 
   kev_back : effect N (Mev (kev_corner M (code h)) (kev_corner_mate M (code h)) h (tail M m) p) ≡ M
   unfolding effect
-  kev_back = grind (
-    arith,
-    eqb_tells (after M m) (code h),
-    corners_bare M (code h),
-    goes.not_bare,
-    mev_lone-kev sound goes,
-    corners_open M (code h),
-    code-half (corner M (code h)),
-    code-half (after M m),
-    mev_at-kev sound goes,
-  )
+  kev_back = elim (eqb_tells (after M m) (code h)) [
+    | inl e ↦ let c = corners_bare M (code h) e.1 (goes.not_bare e.1) in
+        ap (λ x. effect N (Mev x (kev_corner_mate M (code h)) h (tail M m) p)) c.0 ∙ ap (λ x. effect N (Mev (Lone (loop_of M (code h))) x h (tail M m) p)) c.1
+        ∙ mev_lone-kev sound goes e.1
+    | inr e ↦ let c = corners_open M (code h) e.1 in
+        ap (λ x. effect N (Mev x (kev_corner_mate M (code h)) h (tail M m) p)) c.0 ∙ ap (λ x. effect N (Mev (At (half (corner M (code h)))) x h (tail M m) p)) c.1
+        ∙ ap (λ x. mev_at N x (code (half (after M m))) (code h) (tail M m) p) (code-half (corner M (code h)))
+        ∙ ap (λ x. mev_at N (corner M (code h)) x (code h) (tail M m) p) (code-half (after M m))
+        ∙ mev_at-kev sound goes e.1
+  ]
 
   kev_back_goes : first_false N (Mev (kev_corner M (code h)) (kev_corner_mate M (code h)) h (tail M m) p) ≡ None
-  kev_back_goes = grind (
-    arith,
-    eqb_tells (after M m) (code h),
-    corners_bare M (code h),
-    goes.not_bare,
-    lone_accepted N (loop_of M (code h)) h (tail M m) (tail M (code h)) p (sound-kev M sound (code h) goes),
-    sound-kev M sound (code h) goes,
-    redo.lone_goes sound goes,
-    corners_open M (code h),
-    mev_accepted N (half (corner M (code h))) (half (after M m)) h (tail M m) p (sound-kev M sound (code h) goes),
-    codes_goes,
-  )
+  kev_back_goes = elim (eqb_tells (after M m) (code h)) [
+    | inl e ↦ let c = corners_bare M (code h) e.1 (goes.not_bare e.1) in
+        ap (λ x. first_false N (Mev x (kev_corner_mate M (code h)) h (tail M m) p)) c.0 ∙ ap (λ x. first_false N (Mev (Lone (loop_of M (code h))) x h (tail M m) p)) c.1
+        ∙ lone_accepted N (loop_of M (code h)) h (tail M m) (tail M (code h)) p (sound-kev M sound (code h) goes) (redo.lone_goes sound goes e.1)
+    | inr e ↦ let c = corners_open M (code h) e.1 in
+        ap (λ x. first_false N (Mev x (kev_corner_mate M (code h)) h (tail M m) p)) c.0 ∙ ap (λ x. first_false N (Mev (At (half (corner M (code h)))) x h (tail M m) p)) c.1
+        ∙ mev_accepted N (half (corner M (code h))) (half (after M m)) h (tail M m) p (sound-kev M sound (code h) goes) (codes_goes e.1)
+  ]
 
 pub kev_lawful : (h : HalfEdge) → IsLawful (Kev h)
 unfolding effect inverse

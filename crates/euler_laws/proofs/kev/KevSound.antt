@@ -145,27 +145,18 @@ module _ (M : Model) (sound : Sound M) (h : ℕ) (goes : KevGoes M h) where
   content-N q = content-new M N new rewritten q
 
   pub came : (x q : ℕ) → StandsIn N x q → (x ≢ h) × (x ≢ m) × StandsIn M x q
-  came x q s = grind (
-    arith,
-    light M sound q,
-    content-N q,
-    holds_in x (content N q) s,
-    count_new x (content M q),
-    h_out (content M q) ((light M sound q).0),
-    m_out (content M q) ((light M sound q).0),
-    in-holds x (content M q),
-    count_kept x (content M q),
-  )
+  came x q s =
+      let c : LoopContent = content M q in
+      let d : IsApart (items_of c) = (light M sound q).0 in
+      let i : IsIn x (items_of (new c)) = subst (λ y. IsIn x (items_of y)) (content-N q) (holds_in x (content N q) s) in
+      let a : x ≢ h = λ e. omega (arith, i, count_new x c, ap (λ y. count y (out c)) e, h_out c d) in
+      let b : x ≢ m = λ e. omega (arith, i, count_new x c, ap (λ y. count y (out c)) e, m_out c d) in
+      (a, b, in-holds x c (omega (arith, i, count_new x c, count_kept x c a b)))
 
   pub stay : (x q : ℕ) → x ≢ h → x ≢ m → StandsIn M x q → StandsIn N x q
-  stay x q a b s = grind (
-    arith,
-    in-holds x (content N q),
-    content-N q,
-    holds_in x (content M q) s,
-    count_new x (content M q),
-    count_kept x (content M q) a b,
-  )
+  stay x q a b s =
+      let c : LoopContent = content M q in
+      in-holds x (content N q) (subst (λ y. IsIn x (items_of y)) (sym (content-N q)) (omega (arith, holds_in x c s, count_new x c, count_kept x c a b)))
 
   -- ---- edges
 
@@ -384,38 +375,32 @@ module _ (M : Model) (sound : Sound M) (h : ℕ) (goes : KevGoes M h) where
   ]
 
   pub ends_differ-kev : (x : ℕ) → HasHalf N x → tail N x ≢ tail N (mate x)
-  ends_differ-kev x there e = grind (
-    arith,
-    half_cases x there,
-    mate_there M x,
-    mate_edge_apart x h,
-    eqb_tells (tail M x) w,
-    eqb_tells (tail M (mate x)) w,
-    sound.ends_differ x,
-    goes.no_parallel (mate x),
-    tail_moved x,
-    tail_kept (mate x),
-    mate-mate x,
-    goes.no_parallel x,
-    tail_kept x,
-    tail_moved (mate x),
-  )
+  ends_differ-kev x there e =
+      let o = half_cases x there in
+      let t = mate_there M x o.0 in
+      let a = mate_edge_apart x h o.1 in
+      elim (eqb_tells (tail M x) w) [
+        | inl p ↦ elim (eqb_tells (tail M (mate x)) w) [
+          | inl q ↦ sound.ends_differ x o.0 (p.1 ∙ sym q.1)
+          | inr q ↦ goes.no_parallel (mate x) t a (sym (sym (tail_moved x o.0 o.1 p.1) ∙ e ∙ tail_kept (mate x) t a q.1)) (ap (tail M) (mate-mate x) ∙ p.1)
+        ]
+        | inr p ↦ elim (eqb_tells (tail M (mate x)) w) [
+          | inl q ↦ goes.no_parallel x o.0 o.1 (sym (tail_kept x o.0 o.1 p.1) ∙ e ∙ tail_moved (mate x) t a q.1) q.1
+          | inr q ↦ sound.ends_differ x o.0 (sym (tail_kept x o.0 o.1 p.1) ∙ e ∙ tail_kept (mate x) t a q.1)
+        ]
+      ]
 
   -- another half-edge at u, or the lone loop
   pub at_u : ((q : ℕ) × IsLoneAt N q u) ⊎ IsTail N u
-  at_u = grind (
-    arith,
-    eqb_tells (after M m) h,
-    lone_new,
-    half_after M sound m m_there,
-    m_there,
-    sound.ends_meet m m_there,
-    mate-mate h,
-    other_edge (after M m),
-    u_w,
-    half_old (after M m) (half_after M sound m m_there),
-    tail_kept (after M m) (half_after M sound m m_there),
-  )
+  at_u = elim (eqb_tells (after M m) h) [
+    | inl e ↦ inl (loop_of M h, lone_new e.1)
+    | inr e ↦
+        let y : ℕ = after M m in
+        let t : HasHalf M y = half_after M sound m m_there in
+        let s : tail M y ≡ u = sound.ends_meet m m_there ∙ ap (tail M) (mate-mate h) in
+        let a : edge_of y ≢ edge_of h = other_edge y e.1 (λ q. u_w (sym s ∙ ap (tail M) q)) in
+        inr (record { half = y; there = half_old y t a; starts = tail_kept y t a (λ q. u_w (sym s ∙ q)) ∙ s })
+  ]
 
   pub lone_or_tail-kev : (t : ℕ) → Has N.vertices t → ((q : ℕ) × IsLoneAt N q t) ⊎ IsTail N t
   lone_or_tail-kev t there = elim (eqb_tells t u) [
@@ -433,7 +418,6 @@ module _ (M : Model) (sound : Sound M) (h : ℕ) (goes : KevGoes M h) where
     arith,
     half_cases x there,
     lone_back q (tail N x) is,
-    eqb_tells (tail M x) w,
     sound.lone_is_no_tail q h goes.h_there,
     goes.h_there,
     tail_moved x (half_cases x there).0 (half_cases x there).1,
@@ -449,7 +433,6 @@ module _ (M : Model) (sound : Sound M) (h : ℕ) (goes : KevGoes M h) where
     lone_back b t y,
     sound.one_lone a b t,
     sound.lone_is_no_tail a h goes.h_there,
-    goes.h_there,
     sound.lone_is_no_tail b h goes.h_there,
   )
 

@@ -15,7 +15,7 @@ use Rattle.euler_operators.specs.HalfEdge.{mate, edge_of}
 use Rattle.euler_operators.specs.Table as table
 use Rattle.euler_operators.specs.Model.{Model, LoopContent, lone, cycle, items_of, tail, loop_of, content, after, round, point_of, cycle_of}
 use Rattle.euler_operators.specs.Sound.{Sound, Has, HasHalf, IsCycle}
-use Rattle.euler_operators.proofs.Halves.{mate_other, mate-mate, same_edge}
+use Rattle.euler_operators.proofs.Halves.{mate_other, mate-mate}
 use Rattle.euler_operators.proofs.Tables.{put-remove}
 use Rattle.euler_operators.proofs.Models.{in-holds, cycle_there, mate_there, cycle_sound, content_cycle, row_of}
 use Rattle.euler_operators.specs.Effect.{mev_at, kev, mev_lone}
@@ -56,15 +56,9 @@ module _ (hs : List ℕ) (cy : IsCycle hs) (h m : ℕ) (hm : h ≢ m) where
       )
 
     gone : (x : ℕ) → count x (kev_ring h m hs) + tick x h + tick x m ≡ count x hs
-    gone x = grind (
-      arith,
-      count-canonical x (xs' ++ ys'),
-      count-append x xs' ys',
-      ring_split h m hs i j hm,
-      hm,
-      count-append x (h ∷ xs') (m ∷ ys'),
-      count-rotate_to x h hs,
-    )
+    gone x = omega (arith, count-canonical x (xs' ++ ys'), count-append x xs' ys', ap (count x) (ring_split h m hs i j hm), count-append x (h ∷ xs') (m ∷ ys'), count-rotated x) where
+      count-rotated : (x : ℕ) → count x (rotate_to h hs) ≡ count x hs
+      count-rotated x = count-rotate_to x h hs
 
     pub both_back : ys' ≢ [] → (c d : ℕ) → d ≡ head_or m ys' → c ≡ head_or (head_or m ys') xs' →
         put_before d m (put_before c h (cycle (kev_ring h m hs))) ≡ cycle hs
@@ -100,7 +94,7 @@ module _ (hs : List ℕ) (cy : IsCycle hs) (h m : ℕ) (hm : h ≢ m) where
 pair_of : (next : ℕ → ℕ) (h m : ℕ) (rs : List ℕ) → IsPath next (h ∷ rs) h → next h ≡ m → next m ≡ h → h ≢ m → count h rs ≡ 0 → rs ≡ m ∷ []
 pair_of next h m [] p a b ne n = absurd (ne (sym p.0 ∙ a))
 pair_of next h m (x ∷ []) p a b ne n = ap (λ y. y ∷ []) (sym p.0 ∙ a)
-pair_of next h m (x ∷ y ∷ zs) p a b ne n = grind (arith, p.1.0, p.0, tick_same h)
+pair_of next h m (x ∷ y ∷ zs) p a b ne n = grind arith
 
 module _ {M : Model} (sound : Sound M) {h : ℕ} (goes : KevGoes M h) where
   abbrev pub m : ℕ
@@ -203,7 +197,7 @@ module _ {M : Model} (sound : Sound M) {h : ℕ} (goes : KevGoes M h) where
     c = cond (nat_eq (after M h) m) d (after M h)
 
     pub c_cases : ((after M h ≡ m) × (c ≡ d)) ⊎ ((after M h ≢ m) × (c ≡ after M h))
-    c_cases = grind (arith, eqb_tells (after M h) m)
+    c_cases = grind (arith, eqb_tells)
 
     d_there : HasHalf M d
     d_there = half_after M sound m m_there
@@ -252,13 +246,13 @@ module _ {M : Model} (sound : Sound M) {h : ℕ} (goes : KevGoes M h) where
 
     -- what follows an item of another loop isn't in this one
     after_out : (q x : ℕ) (hs : List ℕ) → content M q ≡ cycle hs → HasHalf M x → count x hs ≡ 0 → count (after M x) hs ≡ 0
-    after_out q x hs e t n = grind (
-      arith,
-      loop_after M sound x t,
-      sound.one_loop (after M x) q,
-      in-holds (after M x) (content M q),
-      cycle_there M sound x t,
-    )
+    after_out q x hs e t n = elim (IsIn_or_not (after M x) hs) [
+      | inl i ↦
+          let l : loop_of M x ≡ q = sym (loop_after M sound x t) ∙ sound.one_loop (after M x) q (in-holds (after M x) (content M q) (subst (λ c. IsIn (after M x) (items_of c)) (sym e) i)) in
+          let j : IsIn x hs = subst (λ c. IsIn x (items_of c)) (ap (content M) l ∙ e) (cycle_there M sound x t) in
+          absurd (omega arith)
+      | inr z ↦ z
+    ]
 
     hm : h ≢ m
     hm = mate_other h

@@ -5,9 +5,9 @@ use Rattle.std.proofs.lemmas.Bool.{not-true, ne_eqb, eq-eqb, eqb-false}
 use Rattle.euler_operators.specs.Operators.{mef_old, mef_new, kef_ring}
 use Rattle.euler_operators.proofs.Operators.{kef-mef}
 use Rattle.euler_operators.specs.declared.HalfEdge.{HalfEdge}
-use Rattle.euler_operators.specs.HalfEdge.{code, half, mate, edge_of}
+use Rattle.euler_operators.specs.HalfEdge.{code, mate, edge_of}
 use Rattle.euler_operators.specs.Table as table
-use Rattle.euler_operators.specs.Model.{Model, cycle, items_of, loop_of, content, cycle_of, face_of, outer, after, is_number}
+use Rattle.euler_operators.specs.Model.{Model, cycle, items_of, loop_of, content, cycle_of, face_of, outer, is_number}
 use Rattle.euler_operators.specs.Sound.{Sound, HasHalf}
 use Rattle.euler_operators.proofs.Halves.{edge_of-code, code-half}
 use Rattle.euler_operators.proofs.Tables.{remove-put, two_undone}
@@ -79,7 +79,6 @@ kef_lawful h M sound e = grind (
   kef_goes M h e,
   sound-kef M sound (code h),
   code-half,
-  code-half (after M (code h)),
   mef_accepted,
   gone.put_goes M sound (code h),
   gone.mef-after-kef M sound (code h),
@@ -88,28 +87,19 @@ kef_lawful h M sound e = grind (
 -- ---- mef
 
 made_goes : (M : Model) (sound : Sound M) (g k h f l : ℕ) (goes : MefGoes M g k h f l) → KefGoes (mef M g k h f l) h
-made_goes M sound g k h f l goes = grind (
-  arith,
-  made.set sound goes,
-  made.loop_m sound goes,
-  made.face_l sound goes,
-  made.loop_h sound goes,
-  face_same (made.set sound goes) (loop_of M g) (made.not_l sound goes _ (ap is_some (row_of M sound g goes.g_there))),
-  made.not_l sound goes _ (ap is_some (row_of M sound g goes.g_there)),
-  row_of M sound g goes.g_there,
-  goes.g_there,
-  half_h (comes (made.more sound goes)),
-  comes (made.more sound goes),
-  made.more sound goes,
-  made.not_f sound goes (face_of M (loop_of M g)) (made.face_r sound goes),
-  made.face_r sound goes,
-  made.outer_new sound goes,
-  eqb_tells,
-  made.not_f sound goes,
-  sound.loops_of_faces,
-  has_same (made.set sound goes),
-  face_same (made.set sound goes),
-)
+made_goes M sound g k h f l goes =
+    let N : Model = mef M g k h f l in
+    let set = made.set sound goes in
+    let fm : face_at N (mate h) ≡ f = ap (face_of N) (made.loop_m sound goes) ∙ made.face_l sound goes in
+    let fh : face_at N h ≡ face_of M (loop_of M g) = ap (face_of N) (made.loop_h sound goes) ∙ face_same set (loop_of M g) (made.not_l sound goes _ (ap is_some (row_of M sound g goes.g_there))) in
+    record {
+      h_there = half_h (comes (made.more sound goes));
+      faces_apart = λ p. made.not_f sound goes (face_of M (loop_of M g)) (made.face_r sound goes) (sym fh ∙ p ∙ fm);
+      no_rings = λ q there p. ap (outer N) fm ∙ made.outer_new sound goes ∙ elim (eqb_tells q l) [
+        | inl a ↦ sym a.1
+        | inr a ↦ absurd (made.not_f sound goes (face_of M q) (sound.loops_of_faces q (sym (has_same set q a.1) ∙ there)) (sym (face_same set q a.1) ∙ p ∙ fm))
+      ];
+    }
 
 module _ {M : Model} (sound : Sound M) {g k h f l : ℕ} (goes : MefGoes M g k h f l) where
   abbrev E : Model

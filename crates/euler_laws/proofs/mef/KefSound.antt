@@ -4,7 +4,7 @@ use Rattle.std.proofs.lemmas.Bool.Decides.{eqb_tells}
 use Rattle.euler_operators.specs.Items.{count, tick, IsIn, IsApart}
 use Rattle.euler_operators.specs.Rings.{canonical, rest, IsRing}
 use Rattle.euler_operators.specs.Operators.{after_kef, kef_ring, mef_old, mef_new}
-use Rattle.euler_operators.proofs.Lists.{count-append, tick_same, tick_other, IsIn_or_not}
+use Rattle.euler_operators.proofs.Lists.{count-append, tick_same, IsIn_or_not}
 use Rattle.euler_operators.proofs.Rotations.{count-canonical}
 use Rattle.euler_operators.proofs.Rings.{count_at}
 use Rattle.euler_operators.proofs.Leads.{IsRing-kef}
@@ -18,7 +18,7 @@ use Rattle.euler_operators.proofs.Models.{in-holds, holds_in, cycle_there, cycle
 use Rattle.euler_operators.specs.Conditions.{face_at}
 use Rattle.euler_operators.specs.Effect.{kef, mef, edge_row}
 use Rattle.euler_laws.proofs.shared.Fans.{half_after, loop_after}
-use Rattle.euler_laws.proofs.shared.Loops.{IsLoop, canonical_cycle, light, Walks}
+use Rattle.euler_laws.proofs.shared.Loops.{IsLoop, canonical_cycle, light}
 use Rattle.euler_laws.proofs.shared.Same.{solid_at}
 use Rattle.euler_laws.proofs.shared.Rows.{held_row, content_none, face_there, edge_there, both_back, put_again}
 use Rattle.euler_laws.proofs.shared.Parts.{VerticesHold, FacesHold, RangesHold, sound_of, fit-remove, fit-map, FaceSet, row_here, has_on, has_back, solid_other, outer_other}
@@ -76,17 +76,13 @@ module _ (M : Model) (sound : Sound M) (h : ℕ) (goes : KefGoes M h) where
   m_in = cycle_there M sound m m_there
 
   pub apart_both : IsApart (xs ++ ys)
-  apart_both x = grind (
-    arith,
-    r_s,
-    sound.one_loop x r,
-    in-holds x (content M r),
-    sound.one_loop x s,
-    in-holds x (content M s),
-    count-append x xs ys,
-    ((cycle_sound M sound h goes.h_there).apart) x,
-    (cycle_sound M sound m m_there).apart x,
-  )
+  apart_both x = elim (IsIn_or_not x xs) [
+    | inl i ↦ elim (IsIn_or_not x ys) [
+      | inl j ↦ absurd (r_s (sym (sound.one_loop x r (in-holds x (content M r) i)) ∙ sound.one_loop x s (in-holds x (content M s) j)))
+      | inr j ↦ omega (arith, count-append x xs ys, (cycle_sound M sound h goes.h_there).apart x)
+    ]
+    | inr i ↦ omega (arith, count-append x xs ys, (cycle_sound M sound m m_there).apart x)
+  ]
 
   pub count_zs : (x : ℕ) → count x zs + tick x h + tick x m ≡ count x xs + count x ys
   count_zs x = omega (arith, count-canonical x (rest m ys ++ rest h xs), count-append x (rest m ys) (rest h xs), count_at x h xs h_in, count_at x m ys m_in)
@@ -158,18 +154,7 @@ module _ (M : Model) (sound : Sound M) (h : ℕ) (goes : KefGoes M h) where
 
   zs_item : (x : ℕ) × IsIn x (rest m ys ++ rest h xs)
   unfolding after
-  zs_item = grind (
-    arith,
-    loop_after M sound h goes.h_there,
-    goes.h_there,
-    cycle_there M sound (after M h) (half_after M sound h goes.h_there),
-    half_after M sound h goes.h_there,
-    count-append (after M h) (rest m ys) (rest h xs),
-    count_at (after M h) h xs h_in,
-    h_in,
-    tick_other (after M h) h h_on,
-    h_on,
-  )
+  zs_item = grind (arith, goes.h_there, half_after M sound h goes.h_there, count-append (after M h) (rest m ys) (rest h xs), h_in, h_on)
 
   two_loops : (q : ℕ) → OneOf r s q → Has N.loops q → IsLoop F (content N q)
   two_loops q o there = elim o [

@@ -77,21 +77,7 @@ module _ {M : Model} (sound : Sound M) {g k h f l : ℕ} (goes : MefGoes M g k h
   counted x = omega (arith, count-mef_old x h g k xs, count-mef_new x m g k xs, count-halves x g k xs)
 
   apart_two : (x : ℕ) → count x (mef_old h g k xs) + count x (mef_new m g k xs) ≤ 1
-  apart_two x = grind (
-    arith,
-    eqb_tells x h,
-    counted x,
-    h_not_listed,
-    tick_same h,
-    tick_other h m (mate_other h),
-    mate_other h,
-    eqb_tells x m,
-    mate_not_listed,
-    tick_other x h,
-    tick_same m,
-    tick_other x m,
-    apart_xs x,
-  )
+  apart_two x = grind (arith, counted x, h_not_listed, tick_same h, mate_other h, mate_not_listed, tick_other x h, tick_other x m, apart_xs x)
 
   -- ---- loops
 

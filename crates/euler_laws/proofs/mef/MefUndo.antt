@@ -1,5 +1,5 @@
 -- What mef makes of the loops of a sound model.
-use Rattle.std.proofs.Common.{◌≡◌, ℕ, ◌+◌, List, [], ◌∷◌, ◌++◌, Some, None, ap, ◌∙◌, arith}
+use Rattle.std.proofs.Common.{◌≡◌, ℕ, ◌+◌, List, [], ◌∷◌, ◌++◌, None, ap, ◌∙◌, arith}
 use Rattle.euler_operators.specs.Items.{count, tick}
 use Rattle.euler_operators.specs.Rings.{upto, onward}
 use Rattle.euler_operators.specs.Operators.{mef_old, mef_new}

@@ -1,5 +1,5 @@
 -- mekr as an operator: it keeps a model sound, and kemr passes its conditions after it and takes it back.
-use Rattle.std.proofs.Common.{◌≡◌, ℕ, None, is_some, refl, sym, ap, ◌∙◌, subst, arith}
+use Rattle.std.proofs.Common.{◌≡◌, ℕ, None, is_some, refl, sym, ap, ◌∙◌, arith}
 use Rattle.std.proofs.lemmas.Bool.{eq-eqb}
 use Rattle.euler_operators.specs.declared.HalfEdge.{HalfEdge}
 use Rattle.euler_operators.specs.declared.Corner.{Corner}
@@ -10,7 +10,7 @@ use Rattle.euler_operators.specs.Sound.{Sound}
 use Rattle.euler_operators.proofs.Halves.{edge_of-code}
 use Rattle.euler_operators.specs.declared.Op.TheVariants.{Kemr, Mekr}
 use Rattle.euler_operators.specs.Conditions.{first_false, conditions, corner_tail, corner_loop, corner_list}
-use Rattle.euler_operators.specs.Effect.{effect, inverse, kemr, mekr}
+use Rattle.euler_operators.specs.Effect.{effect, inverse, mekr}
 use Rattle.euler_laws.proofs.shared.Goes.{◌also◌, none_refuses, not_false, taken}
 use Rattle.euler_laws.proofs.kemr.KemrSound.{KemrGoes}
 use Rattle.euler_laws.proofs.mekr.MekrSpots.{join_goes}
@@ -38,12 +38,4 @@ mekr_is M c d h = refl
 
 pub mekr_lawful : (c d : Corner) (h : HalfEdge) → IsLawful (Mekr c d h)
 unfolding effect inverse
-mekr_lawful c d h M sound e = grind (
-  arith,
-  join_goes M c d h sound e,
-  mekr_is M c d (code h),
-  sound-join sound (join_goes M c d h sound e),
-  kemr_accepted _ h (corner_loop M d) (sound-join sound (join_goes M c d h sound e)) (part_goes sound (join_goes M c d h sound e)),
-  part_goes sound (join_goes M c d h sound e),
-  kemr-join_back sound (join_goes M c d h sound e),
-)
+mekr_lawful c d h M sound e = grind (arith, join_goes, mekr_is, sound-join, kemr_accepted, part_goes, kemr-join_back)

@@ -3,7 +3,7 @@ use Rattle.std.proofs.Common.{◌≡◌, ◌≢◌, ℕ, ◌+◌, List, [], ◌�
 use Rattle.euler_operators.specs.Items.{count, tick, IsIn, IsApart, head_or}
 use Rattle.euler_operators.specs.Rings.{canonical, IsPath, IsRing, between, beyond}
 use Rattle.euler_operators.specs.Operators.{after_mef}
-use Rattle.euler_operators.proofs.Lists.{count-append, tick_same, IsIn_or_not}
+use Rattle.euler_operators.proofs.Lists.{count-append, tick_same}
 use Rattle.euler_operators.proofs.Rotations.{count-canonical}
 use Rattle.euler_operators.proofs.Rings.{IsPath-append, IsPath-sent}
 use Rattle.euler_operators.proofs.Operators.{apart_braced, between_canonical, beyond_canonical}
@@ -110,26 +110,16 @@ module _ {M : Model} (sound : Sound M) {h q l u w : ℕ} {Y X : List ℕ} (goes 
   in_one x i j = goes.loops_apart (sym (in_Y x j).1 ∙ (in_X x i).1)
 
   apart_both : IsApart (X ++ Y)
-  apart_both x = grind (arith, in_one x, count-append x X Y, goes.second.apart x, goes.first.apart x)
+  apart_both x = grind (arith, in_one, count-append)
 
   out : (x : ℕ) → (HasHalf M x → ⊥) → (count x X ≡ 0) × (count x Y ≡ 0)
-  out x never = grind (arith, in_X x, in_Y x)
+  out x never = grind (arith, in_X, in_Y)
 
   pub apart_zs : IsApart zs
-  apart_zs = grind (
-    arith,
-    out h,
-    not_h (comes more) h,
-    comes more,
-    more,
-    out m,
-    not_m (comes more) m,
-    apart_braced h m X Y hm,
-    hm,
-    count-append h X Y,
-    count-append m X Y,
-    apart_both,
-  )
+  apart_zs =
+      let a = out h (λ t. not_h (comes more) h t refl) in
+      let b = out m (λ t. not_m (comes more) m t refl) in
+      apart_braced h m X Y hm (omega (arith, count-append h X Y, a.0, a.1)) (omega (arith, count-append m X Y, b.0, b.1)) apart_both
 
   count_zs : (x : ℕ) → count x (canonical zs) ≡ tick x h + count x X + tick x m + count x Y
   count_zs x = omega (arith, count-canonical x zs, count-append x (h ∷ X) (m ∷ Y))
@@ -138,7 +128,7 @@ module _ {M : Model} (sound : Sound M) {h q l u w : ℕ} {Y X : List ℕ} (goes 
   he p = elim e_cases [ inl o ↦ hm (p ∙ o.1) | inr o ↦ not_h (comes more) e (in_X e o.0).0 (sym p) ]
 
   ce : c ≢ e
-  ce p = grind (arith, c_cases, he, e_cases, not_m (comes more) c, comes more, more, in_Y c, in_one e)
+  ce p = grind (arith, c_cases, he, e_cases, not_m (comes more) c, in_Y c)
 
   -- ---- loops
 
@@ -311,10 +301,10 @@ module _ {M : Model} (sound : Sound M) {h q l u w : ℕ} {Y X : List ℕ} (goes 
   face_h = ap (face_of N) loop_h ∙ face_same set q goes.loops_apart
 
   first_back : cycle_or_lone (beyond h m (cycle_of N h)) (tail N h) ≡ content M q
-  first_back = grind (arith, cycle_h, beyond_canonical h m X Y apart_zs, apart_zs, tail-h (comes more), comes more, more, goes.first.holds_it)
+  first_back = grind (arith, cycle_h, beyond_canonical h m X Y apart_zs, tail-h (comes more))
 
   second_back : cycle_or_lone (between h m (cycle_of N h)) (tail N m) ≡ content M l
-  second_back = grind (arith, cycle_h, between_canonical h m X Y apart_zs, apart_zs, tail-m (comes more), comes more, more, goes.second.holds_it)
+  second_back = grind (arith, cycle_h, between_canonical h m X Y apart_zs, tail-m (comes more))
 
   loops-back : K.loops ≡ M.loops
   loops-back =

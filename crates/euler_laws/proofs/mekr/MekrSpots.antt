@@ -22,7 +22,7 @@ use Rattle.euler_operators.specs.declared.Op.TheVariants.{Mekr}
 use Rattle.euler_operators.specs.Conditions.{AllHold, first_false, conditions, corner_tail, corner_loop, corner_list, corner_known, corner_lone}
 use Rattle.euler_operators.specs.Effect.{cycle_or_lone}
 use Rattle.euler_laws.proofs.shared.Loops.{light}
-use Rattle.euler_laws.proofs.shared.Rows.{is_ring, items_or_lone, count_or_lone, lone_is}
+use Rattle.euler_laws.proofs.shared.Rows.{is_ring, items_or_lone, count_or_lone}
 use Rattle.euler_laws.proofs.shared.Goes.{all_hold}
 
 -- loop q reads zs from a corner at vertex v on, or is lone there
@@ -31,9 +31,6 @@ pub record Spot (M : Model) (q v : ℕ) (zs : List ℕ) : Type 0 where
   pub holds_it : content M q ≡ cycle_or_lone zs v
   pub apart : IsApart zs
   pub starts : (y : ℕ) (ys : List ℕ) → zs ≡ y ∷ ys → tail M y ≡ v
-
-no_first : (y : ℕ) (ys : List ℕ) → [] ≡ y ∷ ys → ⊥
-no_first y ys e = cc
 
 -- the loop of a half-edge, from it on
 pub spot_at : (M : Model) → Sound M → (x : ℕ) → HasHalf M x → Spot M (loop_of M x) (tail M x) (rotate_to x (cycle_of M x))
@@ -53,7 +50,7 @@ spot_at M sound x there =
 -- each corner that is known is a spot
 pub spot_of : (M : Model) → Sound M → (c : Corner) → (corner_known M c).holds ≡ true → (corner_lone M c).holds ≡ true → Spot M (corner_loop M c) (corner_tail M c) (corner_list M c)
 spot_of M sound (At g) known bare = spot_at M sound (code g) (ap (λ x. is_some (table.get M.edges x)) (edge_of-code g) ∙ known)
-spot_of M sound (Lone l) known bare = grind (arith, lone_is (content M l) bare, no_first)
+spot_of M sound (Lone l) known bare = grind arith
 
 -- what the conditions of mekr say of the loops q, from which Y is read, and l, from which X is
 pub record JoinGoes (M : Model) (h q l u w : ℕ) (Y X : List ℕ) : Type 0 where
@@ -116,7 +113,7 @@ module _ (M : Model) (sound : Sound M) (q v : ℕ) (zs : List ℕ) (spot : Spot 
   ]
 
   pub vertex_there : Has M.vertices v
-  vertex_there = grind (arith, first_cases 0, sound.lone_at_vertex q v, sound.tails_there (head_or 0 zs), half_there (head_or 0 zs))
+  vertex_there = grind (arith, first_cases 0, sound.tails_there (head_or 0 zs), half_there (head_or 0 zs))
 
   -- no other loop is lone there
   pub only_lone : (p : ℕ) → content M p ≡ lone v → p ≡ q

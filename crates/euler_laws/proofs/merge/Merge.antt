@@ -1,5 +1,5 @@
 -- Faces that go to another solid, and merge: it keeps a sound model sound.
-use Rattle.std.proofs.Common.{◌≡◌, ◌≢◌, ℕ, Bool, true, false, cond, nat_eq, Option, Some, None, unwrap_or, is_some, refl, sym, ap, ◌∙◌, subst, arith, inl, inr, true≢false}
+use Rattle.std.proofs.Common.{◌≡◌, ◌≢◌, ℕ, Bool, true, false, cond, nat_eq, Option, Some, None, unwrap_or, is_some, refl, sym, ap, ◌∙◌, subst, arith, true≢false}
 use Rattle.std.specs.Option.{option_map}
 use Rattle.std.proofs.lemmas.Bool.Decides.{nat_tests, eqb_tells}
 use Rattle.std.proofs.lemmas.Bool.{not-true, ne_eqb, eqb-false}
@@ -128,7 +128,7 @@ module _ {M : Model} (sound : Sound M) {s t : ℕ} (goes : MergeGoes M s t) wher
   solid_back n there = ap is_some (sym (solid_other n (not_t n there))) ∙ there
 
   joined_there : (n : ℕ) → Has M.solids n → Has N.solids (joined s t n)
-  joined_there n there = grind (arith, eqb_tells n t, solid_other s goes.apart, goes.apart, goes.s_there, solid_other n)
+  joined_there n there = grind (arith, eqb_tells, solid_other)
 
   pub joined_same : (n : ℕ) → n ≢ t → joined s t n ≡ n
   joined_same n a = let e : nat_eq n t ≡ false = grind (arith, nat_tests) in ap (λ b. cond b s n) e

@@ -1,5 +1,5 @@
 -- part as an operator: it keeps a sound model sound. merge and part pass their conditions after each other, and take each other back.
-use Rattle.std.proofs.Common.{◌≡◌, ◌≢◌, ℕ, Bool, true, false, cond, not, nat_eq, ◌&&◌, ◌||◌, List, [], ◌∷◌, ◌++◌, Some, None, unwrap_or, is_some, IsTrue, refl, sym, ap, ◌∙◌, subst, arith, inl, inr, true≢false}
+use Rattle.std.proofs.Common.{◌≡◌, ◌≢◌, ℕ, Bool, true, false, cond, not, nat_eq, ◌||◌, List, [], ◌∷◌, ◌++◌, Some, None, unwrap_or, is_some, IsTrue, refl, sym, ap, ◌∙◌, subst, arith, inl, inr, true≢false}
 use Rattle.std.proofs.lemmas.Bool.Decides.{nat_tests, eqb_tells}
 use Rattle.std.proofs.lemmas.Bool.{not-true, not-false, eq-eqb, ne_eqb, eqb-true}
 use Rattle.euler_operators.specs.HalfEdge.{mate, edge_of, plus, minus}
@@ -9,7 +9,6 @@ use Rattle.euler_operators.specs.Model.{Model, FaceRow, no_face, loop_of, face_o
 use Rattle.euler_operators.specs.Sound.{Sound, Has, HasHalf}
 use Rattle.euler_operators.proofs.Halves.{plus_row, mate_plus, mate_minus}
 use Rattle.euler_operators.proofs.Tables.{get-put_here, put-remove, remove-put, map_same, first_where_zero, zero_first_where, no_row, row_some}
-use Rattle.euler_operators.proofs.Tests.{and_false}
 use Rattle.euler_operators.proofs.Models.{mate_there}
 use Rattle.euler_operators.specs.declared.Op.TheVariants.{Merge, Part}
 use Rattle.euler_operators.specs.Conditions.{AllHold, first_false, conditions, numbers_in_range, faces_known, faces_in, face_at, lists, lists_all, strictly_rises, is_empty, torn_edge, differ}
@@ -129,7 +128,7 @@ module _ {M : Model} (sound : Sound M) {s t : ℕ} {fs : List ℕ} (goes : PartG
 -- a face stands in the list of its solid
 pub face_in : (M : Model) (s q : ℕ) → lists (faces_of M s) q ≡ true → Has M.faces q × (solid_of M q ≡ s)
 unfolding solid_of
-face_in M s q l = grind (arith, listed_passes, eqb-true)
+face_in M s q l = grind (arith, listed_passes)
 
 pub in_faces : (M : Model) (s q : ℕ) → Has M.faces q → solid_of M q ≡ s → lists (faces_of M s) q ≡ true
 in_faces M s q there e = passes_listed (λ _ row. nat_eq row.solid s) M.faces q (record { solid = solid_of M q; outer = outer M q }) (face_there M q there) (eq-eqb _ _ e)
@@ -231,24 +230,20 @@ listed_some (g ∷ fs) f l = refl
 -- not all of a list stand in another
 left_out : (fs ns : List ℕ) → lists_all fs ns ≡ false → (f : ℕ) × (lists ns f ≡ true) × (lists fs f ≡ false)
 left_out fs [] e = absurd (true≢false e)
-left_out fs (n ∷ ns) e = grind (arith, left_out fs ns, rest_listed n, first_listed n ns)
+left_out fs (n ∷ ns) e = grind (arith, left_out fs ns)
 
 out_left : (fs ns : List ℕ) (f : ℕ) → lists ns f ≡ true → lists fs f ≡ false → lists_all fs ns ≡ false
 out_left fs [] f l o = absurd (true≢false (sym l))
-out_left fs (n ∷ ns) f l o = grind (arith, listed_cases n f ns l, out_left fs ns f, and_false (lists fs n))
+out_left fs (n ∷ ns) f l o = grind (arith, out_left fs ns f)
 
 -- no edge is torn
-same_means : (a b : Bool) → a ≡ b → differ a b ≡ false
-same_means true b e = ap not (sym e)
-same_means false b e = sym e
-
 means_same : (a b : Bool) → differ a b ≡ false → a ≡ b
 means_same true true e = refl
 means_same true false e = absurd (true≢false e)
 means_same false b e = sym e
 
 not_torn : (M : Model) (fs : List ℕ) → ((x : ℕ) → HasHalf M x → lists fs (face_at M x) ≡ lists fs (face_at M (mate x))) → torn_edge M fs ≡ 0
-not_torn M fs whole = grind (arith, first_where_zero, same_means, plus_row, mate_plus)
+not_torn M fs whole = grind (arith, first_where_zero, plus_row, mate_plus)
 
 torn_not : (M : Model) (fs : List ℕ) → Sound M → torn_edge M fs ≡ 0 → (x : ℕ) → HasHalf M x → lists fs (face_at M x) ≡ lists fs (face_at M (mate x))
 torn_not M fs sound z x there =
@@ -303,22 +298,12 @@ part_accepted N s t fs sound goes =
 
 pub merge_lawful : (s t : ℕ) → IsLawful (Merge s t)
 unfolding effect inverse
-merge_lawful s t M sound e = grind (
-  arith,
-  merge_goes M s t e,
-  sound-merge sound (merge_goes M s t e),
-  part_accepted (merge M s t) s t (faces_of M t) (sound-merge sound (merge_goes M s t e)) (split_goes sound (merge_goes M s t e)),
-  split_goes sound (merge_goes M s t e),
-  part-merge sound (merge_goes M s t e),
-)
+merge_lawful s t M sound e = let w = merge_goes M s t e in let good = sound-merge sound w in record {
+  sound = good;
+  goes = part_accepted (merge M s t) s t (faces_of M t) good (split_goes sound w);
+  undone = part-merge sound w;
+}
 
 pub part_lawful : (s t : ℕ) (fs : List ℕ) → IsLawful (Part s t fs)
 unfolding effect inverse
-part_lawful s t fs M sound e = grind (
-  arith,
-  part_goes M s t fs sound e,
-  sound-part sound (part_goes M s t fs sound e),
-  merge_accepted (part M s t fs) s t (sound-part sound (part_goes M s t fs sound e)) (join_goes sound (part_goes M s t fs sound e)),
-  join_goes sound (part_goes M s t fs sound e),
-  merge-part sound (part_goes M s t fs sound e),
-)
+part_lawful s t fs M sound e = grind (arith, part_goes, sound-part, merge_accepted, join_goes, merge-part)

@@ -14,7 +14,7 @@ use Rattle.euler_operators.specs.Model.{Model, lone, cycle, LoopRow, items_of, t
 use Rattle.euler_operators.specs.Sound.{Sound, Has, HasHalf, IsLoneAt}
 use Rattle.euler_operators.proofs.Halves.{mate_other, edge_of-mate, mate-mate}
 use Rattle.euler_operators.proofs.Tables.{get-put_here, get-put_other, row_elsewhere}
-use Rattle.euler_operators.proofs.Models.{no_tail, content_row, face_row, never_lone, mate_there, same_content, same_face}
+use Rattle.euler_operators.proofs.Models.{no_tail, content_row, face_row, mate_there, same_content, same_face}
 use Rattle.euler_operators.specs.Conditions.{lone_vertex}
 use Rattle.euler_operators.specs.Effect.{mev_lone, edge_row}
 use Rattle.euler_laws.proofs.shared.Fans.{Fan, fan_of}
@@ -162,17 +162,7 @@ module _ {M : Model} (sound : Sound M) {l h v u : ℕ} {p : Point} (goes : LoneG
   has_vertex w there = ap is_some (vertex_same w (not_v w there)) ∙ there
 
   lone_back : (q w : ℕ) → IsLoneAt N q w → IsLoneAt M q w × (w ≢ u) × (w ≢ v)
-  lone_back q w e = grind (
-    arith,
-    eqb_tells q l,
-    never_lone ps w,
-    content_new,
-    content_other q,
-    sound.one_lone q l u,
-    goes.is_lone,
-    not_v w,
-    sound.lone_at_vertex q w,
-  )
+  lone_back q w e = grind (arith, content_new, content_other q, sound.one_lone q l u, sound.lone_at_vertex q w)
 
   vertices : VerticesHold N
   vertices = vertices_hold-more sound edge (record {

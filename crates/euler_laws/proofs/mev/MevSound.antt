@@ -35,7 +35,7 @@ pub before_face : (g h q : ℕ) (row : LoopRow) → (with_before g h q row).face
 before_face g h q row = elim (holds g row.content) as (λ b. (cond b (record row { content = cycle (canonical (insert_before g h (items_of row.content))) }) row).face ≡ row.face) [ true ↦ refl | false ↦ refl ]
 
 pub tails_of_row : (hs : List ℕ) (v x : ℕ) (row : EdgeRow) → tail_in (with_tails hs v (edge_of x) row) (is_first x) ≡ cond (nat_lt 0 (count x hs)) v (tail_in row (is_first x))
-tails_of_row hs v x row = grind (arith, halves_of_edge x)
+tails_of_row hs v x row = grind (arith, halves_of_edge)
 
 tails_mapped : (hs : List ℕ) (v x : ℕ) (o : Option EdgeRow) → is_some o ≡ true →
     tail_in (unwrap_or (option_map (with_tails hs v (edge_of x)) o) no_edge) (is_first x) ≡ cond (nat_lt 0 (count x hs)) v (tail_in (unwrap_or o no_edge) (is_first x))

@@ -1,13 +1,10 @@
 -- The part of a vertex's fan from one half-edge up to another, and what operators make of fans.
-use Rattle.std.proofs.Common.{◌≡◌, ◌≢◌, ℕ, ◌*◌, true, false, cond, List, [], ◌∷◌, ◌++◌, length, Some, is_some, refl, sym, ap, ◌∙◌, arith, ◌⊎◌, inl, inr, true≢false, ne_eqb}
-use Rattle.std.proofs.lemmas.Bool.Decides.{eqb_tells}
+use Rattle.std.proofs.Common.{◌≡◌, ◌≢◌, ℕ, ◌*◌, true, false, List, [], ◌∷◌, ◌++◌, length, is_some, refl, sym, arith, ◌⊎◌, inl, inr, true≢false}
 use Rattle.std.specs.Ordering.{nat_cmp}
-use Rattle.std.specs.Cmp.{unsigned_tied}
 use Rattle.std.specs.FinMap.Entries.{find}
-use Rattle.euler_operators.specs.Items.{count, tick, IsIn, IsApart}
+use Rattle.euler_operators.specs.Items.{count, IsIn, IsApart}
 use Rattle.euler_operators.specs.Rings.{rest, canonical, upto, onward, IsRing}
 use Rattle.euler_operators.specs.Operators.{after_mev, after_mef, after_kev, after_kef, put_ring, take_ring}
-use Rattle.euler_operators.proofs.Lists.{tick_same}
 use Rattle.euler_operators.proofs.Cuts.{arc_ring}
 use Rattle.euler_operators.proofs.Vertices.{vertex_mev, vertex_mev_other, vertex_mef_first, vertex_mef_second, vertex_mef_other, vertex_kev, vertex_kev_other, vertex_kef_first, vertex_kef_second, vertex_kef_other}
 use Rattle.euler_operators.specs.HalfEdge.{mate, edge_of, is_first, plus, minus}
@@ -33,7 +30,7 @@ length-codes (e ∷ es) = omega (arith, length-codes es)
 found_in : (x : ℕ) (es : List (ℕ × EdgeRow)) → is_some (find nat_cmp (edge_of x) es) ≡ true → IsIn x (codes es)
 unfolding codes
 found_in x [] t = absurd (true≢false (sym t))
-found_in x (e ∷ es) t = grind (arith, eqb_tells (edge_of x) e.0, halves_of_edge x, tick_same x, found_in x es)
+found_in x (e ∷ es) t = grind (arith, halves_of_edge x, found_in x es)
 
 half_in : (M : Model) (x : ℕ) → HasHalf M x → IsIn x (codes M.edges.rows)
 unfolding table.get

@@ -1,8 +1,8 @@
 -- A model with one edge more: its half-edges, the fans of its vertices, and what stands at them.
-use Rattle.std.proofs.Common.{◌≡◌, ◌≢◌, ℕ, ◌+◌, List, [], ◌∷◌, Some, None, is_some, refl, sym, ap, ◌∙◌, subst, arith, ◌⊎◌, inl, inr}
+use Rattle.std.proofs.Common.{◌≡◌, ◌≢◌, ℕ, List, [], ◌∷◌, Some, None, is_some, refl, sym, ap, ◌∙◌, subst, arith, ◌⊎◌, inl, inr}
 use Rattle.std.proofs.lemmas.Bool.Decides.{eqb_tells}
 use Rattle.euler_operators.specs.Items.{count, tick, IsIn}
-use Rattle.euler_operators.specs.Rings.{IsRing, rotate_to}
+use Rattle.euler_operators.specs.Rings.{IsRing}
 use Rattle.euler_operators.specs.Operators.{put_ring, after_mef}
 use Rattle.euler_operators.proofs.Leads.{IsRing-led_over_other, IsRing-splice_other}
 use Rattle.euler_operators.proofs.Lists.{tick_same, tick_other, tick_le, IsIn_or_not}
@@ -61,11 +61,11 @@ module _ {M N : Model} {h u w : ℕ} (new : EdgeComes M N h u w) where
   half_old x there = new.others (edge_of x) (edge_apart x there) ∙ there
 
   pub half_cases : (x : ℕ) → HasHalf N x → HasHalf M x ⊎ ((x ≡ h) ⊎ (x ≡ mate h))
-  half_cases x there = grind (arith, eqb_tells (edge_of x) (edge_of h), same_edge x h)
+  half_cases x there = grind (arith, same_edge)
 
   -- its halves start at different vertices
   pub new_ends_differ : (x : ℕ) → (x ≡ h) ⊎ (x ≡ mate h) → tail N x ≢ tail N (mate x)
-  new_ends_differ x d same = grind (arith, tail-h, tail-m, mate-mate h)
+  new_ends_differ x d same = grind (arith, tail-h, tail-m, mate-mate)
 
 -- the edge of h is put, from u to w
 pub record OneMore (M N : Model) (h u w : ℕ) : Type 0 where
@@ -93,10 +93,10 @@ module _ {M N : Model} {h u w : ℕ} (more : OneMore M N h u w) where
   StartsAt t x = HasHalf N x × (tail N x ≡ t) × ((y : ℕ) → HasHalf N y → tail N y ≡ t → HasHalf M y ⊎ (y ≡ x))
 
   pub first_starts : StartsAt u h
-  first_starts = grind (arith, half_h comes, comes, tail-h comes, half_cases comes, more.ends_apart, tail-m comes)
+  first_starts = grind (arith, comes, tail-h comes, half_cases comes, tail-m comes)
 
   pub second_starts : StartsAt w (mate h)
-  second_starts = grind (arith, half_m comes, comes, tail-m comes, half_cases comes, more.ends_apart, tail-h comes)
+  second_starts = grind (arith, half_m comes, tail-m comes, half_cases comes, tail-h comes)
 
   -- the fan of a vertex at which nothing started
   pub fan_alone : (F : ℕ → ℕ) (t x : ℕ) → StartsAt t x → ((y : ℕ) → HasHalf M y → tail M y ≢ t) → F (mate x) ≡ x → Fan F N t
@@ -115,23 +115,7 @@ module _ {M N : Model} {h u w : ℕ} (more : OneMore M N h u w) where
 
   -- a fan with one half-edge more
   pub fan_more : (next F : ℕ → ℕ) (t x c : ℕ) (g : Fan next M t) → StartsAt t x → count x g.items ≡ 0 → IsRing (λ y. F (mate y)) (put_ring x c g.items) → Fan F N t
-  fan_more next F t x c g new out ring = grind (
-    arith,
-    g.items,
-    count-canonical,
-    count-rotate_to,
-    eqb_tells,
-    tick_le,
-    out,
-    tick_other,
-    g.apart,
-    g.of_it,
-    half_old comes,
-    comes,
-    tail_old,
-    g.all,
-    tick_same,
-  )
+  fan_more next F t x c g new out ring = grind (arith, count-canonical, count-rotate_to, eqb_tells, out, g.apart, half_old comes, tail_old, g.all)
 
   -- a fan at which the edge has no end
   pub fan_stays : (next F : ℕ → ℕ) (t : ℕ) (g : Fan next M t) → u ≢ t → w ≢ t → IsRing (λ y. F (mate y)) g.items → Fan F N t
@@ -174,15 +158,11 @@ module _ {M N : Model} {h u w c e : ℕ} (more : OneMore M N h u w) (put : PutBe
 
   -- nothing new stands in an old fan, nor what starts elsewhere
   out : (t : ℕ) (g : Fan (after M) M t) → (count h g.items ≡ 0) × (count (mate h) g.items ≡ 0) × (u ≢ t → count c g.items ≡ 0) × (w ≢ t → count e g.items ≡ 0)
-  out t g = grind (
-    arith,
-    not_in_fan (after M) M t g h,
-    not_h (comes more) h,
-    comes more,
-    not_in_fan (after M) M t g (mate h),
-    not_m (comes more) (mate h),
-    not_in_fan (after M) M t g c,
-    not_in_fan (after M) M t g e,
+  out t g = (
+    not_in_fan (after M) M t g h (λ o z. not_h (comes more) h o refl),
+    not_in_fan (after M) M t g (mate h) (λ o z. not_m (comes more) (mate h) o refl),
+    λ a. not_in_fan (after M) M t g c (λ o z. a (sym (put.first o) ∙ z)),
+    λ a. not_in_fan (after M) M t g e (λ o z. a (sym (put.second o) ∙ z)),
   )
 
   pub fan_first : HasHalf M c → Fan F N u

@@ -4,7 +4,7 @@ use Rattle.euler_operators.specs.HalfEdge.{edge_of}
 use Rattle.euler_operators.specs.Table as table
 use Rattle.euler_operators.specs.Table.{get-empty}
 use Rattle.euler_operators.specs.Model.{cycle, no_loop, empty_model, holds, content}
-use Rattle.euler_operators.specs.Sound.{Sound, Has, HasHalf, StandsIn, IsLoneAt}
+use Rattle.euler_operators.specs.Sound.{Sound, Has, HasHalf, StandsIn}
 use Rattle.euler_operators.proofs.Models.{holds_in, never_lone}
 
 has_nothing : (X : Type 0) (n : ℕ) → Has (table.empty {X = X}) n → ⊥

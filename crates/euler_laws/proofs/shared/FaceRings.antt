@@ -1,7 +1,6 @@
 -- The loops of a face: its outer loop and its rings.
-use Rattle.std.proofs.Common.{◌≡◌, ℕ, true, not, nat_eq, ◌&&◌, ap, ◌∙◌, ◌⊎◌, inl, inr, arith}
-use Rattle.std.proofs.lemmas.Bool.Decides.{eqb_tells}
-use Rattle.std.proofs.lemmas.Bool.{and_parts, eq-eqb, eqb-true}
+use Rattle.std.proofs.Common.{◌≡◌, ℕ, true, not, nat_eq, ◌&&◌, ◌⊎◌, arith}
+use Rattle.std.proofs.lemmas.Bool.{and_parts, eqb-true}
 use Rattle.euler_operators.specs.Table as table
 use Rattle.euler_operators.specs.Model.{Model, face_of, outer, is_ring_of}
 use Rattle.euler_operators.specs.Sound.{Has}
@@ -10,4 +9,4 @@ pub ring_there : (M : Model) (f l : ℕ) → is_ring_of M f l ≡ true → Has M
 ring_there M f l e = let p = and_parts (table.has M.loops l && nat_eq (face_of M l) f) (not (nat_eq (outer M f) l)) e in let q = and_parts (table.has M.loops l) (nat_eq (face_of M l) f) p.0 in (q.0, eqb-true (face_of M l) f q.1)
 
 pub outer_or_ring : (M : Model) (f l : ℕ) → Has M.loops l → face_of M l ≡ f → (outer M f ≡ l) ⊎ (is_ring_of M f l ≡ true)
-outer_or_ring M f l t e = grind (arith, eqb_tells (outer M f) l, eq-eqb (face_of M l) f e)
+outer_or_ring M f l t e = grind arith

@@ -1,5 +1,5 @@
 -- The half-edges that leave a vertex, as a ring.
-use Rattle.std.proofs.Common.{◌≡◌, ◌≢◌, ℕ, cond, List, [], ◌∷◌, ◌++◌, is_some, refl, sym, ap, ◌∙◌, subst, arith, ◌⊎◌, inl, inr}
+use Rattle.std.proofs.Common.{◌≡◌, ◌≢◌, ℕ, List, [], ◌∷◌, ◌++◌, is_some, refl, sym, ap, ◌∙◌, subst, arith, ◌⊎◌, inl, inr}
 use Rattle.std.proofs.lemmas.Bool.Decides.{eqb_tells}
 use Rattle.euler_operators.specs.Items.{count, IsIn, IsApart, head_or, before, after as after_item}
 use Rattle.euler_operators.specs.Rings.{rest, successor, predecessor, IsPath, IsRing}
@@ -48,7 +48,7 @@ record Way (next : ℕ → ℕ) (g w : ℕ) : Type 0 where
 
 head_before : (x d : ℕ) (ps : List ℕ) → IsIn x ps → head_or x (before x ps) ≡ head_or d ps
 head_before x d [] i = absurd (omega arith)
-head_before x d (p ∷ ps) i = grind (arith, eqb_tells x p)
+head_before x d (p ∷ ps) i = grind arith
 
 head_push : (x d : ℕ) (w : ℕ) (ps : List ℕ) → head_or d (ps ++ w ∷ []) ≡ head_or w ps
 head_push x d w [] = refl
@@ -106,14 +106,9 @@ module _ (M : Model) (sound : Sound M) where
   -- what is reached round a vertex starts there
   pub reach_half : (x y : ℕ) → HasHalf M x → Reaches (round M) x y → HasHalf M y × (tail M y ≡ tail M x)
   reach_half x y there here = (there, refl)
-  reach_half x y there (further {h = w} p) = grind (
-    arith,
-    reach_half x w there p,
-    half_after (mate w),
-    mate_there M w,
-    sound.ends_meet (mate w),
-    mate-mate w,
-  )
+  reach_half x y there (further {h = w} p) =
+      let q = reach_half x w there p in
+      (half_after (mate w) (mate_there M w q.0), sound.ends_meet (mate w) (mate_there M w q.0) ∙ ap (tail M) (mate-mate w) ∙ q.1)
 
   -- the half-edge from which one comes to g
   pub back_of : (g : ℕ) → HasHalf M g → (b : ℕ) × HasHalf M b × (after M b ≡ g)

@@ -4,13 +4,12 @@ use Rattle.euler_operators.specs.Table as table
 use Rattle.euler_operators.specs.Table.{Table, first_where, all_where, first_in, all_in}
 use Rattle.euler_operators.specs.Conditions.{lists, strictly_rises}
 use Rattle.euler_operators.specs.Effect.{head_or_zero}
-use Rattle.euler_operators.proofs.Tests.{less_and}
 use Rattle.euler_laws.proofs.shared.Listed.{first_listed, listed_cases, listed_passes, passes_listed, all_where-rises}
 use Rattle.euler_laws.proofs.Sizes.{rises_apart}
 
 head_is_least : (m q : ℕ) (ns : List ℕ) → strictly_rises (m ∷ ns) ≡ true → lists (m ∷ ns) q ≡ true → m ≤ q
 head_is_least m q [] r l = elim (listed_cases m q [] l) [ inl e ↦ omega arith | inr e ↦ absurd (true≢false (sym e)) ]
-head_is_least m q (k ∷ ns) r l = grind (arith, listed_cases m q (k ∷ ns) l, less_and m k (strictly_rises (k ∷ ns)) r, head_is_least k q ns)
+head_is_least m q (k ∷ ns) r l = grind (arith, head_is_least k q ns)
 
 module _ {X : Type 0} (p : ℕ → X → Bool) (t : Table X) where
   first_is_head : first_where p t ≡ head_or_zero (all_where p t)

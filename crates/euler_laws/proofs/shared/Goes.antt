@@ -48,7 +48,7 @@ first_is_named [] r e = cc
 first_is_named (c ∷ cs) r e = first_step c cs r c.holds refl e (first_is_named cs r)
 
 pub named_is_first : (cs : List Condition) (r : Refusal) → IsFirstFalse cs r → first_refusal cs ≡ Some r
-named_is_first cs r f = grind (arith, passed_over f.before (f.condition ∷ f.after) f.hold)
+named_is_first cs r f = grind (arith, passed_over)
 
 pub not_false : (b : Bool) → b ≡ false → not b ≡ true
 not_false b e = ap not e

@@ -1,12 +1,10 @@
 -- The numbers of a table whose rows pass a test: which they are, and that they rise.
-use Rattle.std.proofs.Common.{◌≡◌, ◌≢◌, ℕ, Bool, true, false, cond, nat_eq, nat_lt, ◌<◌, ◌&&◌, ◌||◌, T, List, [], ◌∷◌, ◌++◌, Some, ne_eqb, refl, sym, ap, subst, ◌∙◌, arith, true≢false, ◌⊎◌, inl, inr}
+use Rattle.std.proofs.Common.{◌≡◌, ◌≢◌, ℕ, Bool, true, false, cond, nat_eq, ◌<◌, ◌&&◌, ◌||◌, T, List, [], ◌∷◌, ◌++◌, Some, ne_eqb, refl, sym, ap, subst, ◌∙◌, arith, true≢false, ◌⊎◌, inl, inr}
 use Rattle.std.specs.Ordering.{nat_cmp}
 use Rattle.std.specs.FinMap.Entries.{find, is_sorted, below_all}
 use Rattle.std.proofs.lemmas.Bool.Decides.{nat_tests, eqb_tells}
-use Rattle.std.proofs.lemmas.Bool.{false_from_ne_true, lt-ltb}
-use Rattle.std.proofs.lemmas.Option.{same_Some}
-use Rattle.euler_operators.specs.Items.{tick, IsIn}
-use Rattle.euler_operators.proofs.Lists.{tick_same, tick_other}
+use Rattle.std.proofs.lemmas.Bool.{lt-ltb}
+use Rattle.euler_operators.specs.Items.{IsIn}
 use Rattle.euler_operators.specs.Table.{Table, get, all_where, all_in}
 use Rattle.euler_operators.proofs.Tables.{and_left, and_right, less_means, find_here, find_later}
 use Rattle.euler_operators.proofs.Tests.{or_true}
@@ -21,20 +19,20 @@ rest_listed n q ns l = ap (λ b. nat_eq n q || b) l ∙ or_true (nat_eq n q)
 
 -- what stands in a list is its first or stands in the rest
 pub listed_cases : (n q : ℕ) (ns : List ℕ) → lists (n ∷ ns) q ≡ true → (q ≡ n) ⊎ (lists ns q ≡ true)
-listed_cases n q ns l = grind (arith, eqb_tells q n)
+listed_cases n q ns l = grind arith
 
 -- to be listed is to stand in the list
 pub IsIn-from_listed : (q : ℕ) (ns : List ℕ) → lists ns q ≡ true → IsIn q ns
 IsIn-from_listed q [] l = absurd (true≢false (sym l))
-IsIn-from_listed q (n ∷ ns) l = grind (arith, listed_cases n q ns l, tick_same q, IsIn-from_listed q ns)
+IsIn-from_listed q (n ∷ ns) l = grind (arith, IsIn-from_listed q ns)
 
 pub listed-from_in : (q : ℕ) (ns : List ℕ) → IsIn q ns → lists ns q ≡ true
 listed-from_in q [] i = absurd (omega (arith, i))
-listed-from_in q (n ∷ ns) i = grind (arith, eqb_tells q n, first_listed n ns, rest_listed n q ns, listed-from_in q ns, tick_other q n)
+listed-from_in q (n ∷ ns) i = grind (arith, listed-from_in q ns)
 
 pub listed_front : (xs ys : List ℕ) (q : ℕ) → lists xs q ≡ true → lists (xs ++ ys) q ≡ true
 listed_front [] ys q e = absurd (true≢false (sym e))
-listed_front (x ∷ xs) ys q e = grind (arith, listed_cases x q xs e, first_listed x (xs ++ ys), rest_listed x q (xs ++ ys), listed_front xs ys q)
+listed_front (x ∷ xs) ys q e = grind (arith, listed_front xs ys q)
 
 pub other_last : (fs : List ℕ) (u f : ℕ) → f ≢ u → lists (fs ++ u ∷ []) f ≡ lists fs f
 other_last [] u f ne = ap (λ b. b || false) (ne_eqb u f (λ e. ne (sym e)))
@@ -70,16 +68,7 @@ module _ {X : Type 0} where
 
   in_list : (p : ℕ → X → Bool) (n : ℕ) (x : X) (es : List (ℕ × X)) → find nat_cmp n es ≡ Some x → p n x ≡ true → lists (all_in p es) n ≡ true
   in_list p n x [] at passes = cc
-  in_list p n x (e ∷ es) at passes = grind (
-    arith,
-    eqb_tells n e.0,
-    same_Some x e.1,
-    find_here e es,
-    first_listed e.0 (all_in p es),
-    in_list p n x es,
-    find_later n e es,
-    rest_listed e.0 n (all_in p es),
-  )
+  in_list p n x (e ∷ es) at passes = grind (arith, in_list p n x es)
 
   rises_past : (p : ℕ → X → Bool) (k : ℕ) (es : List (ℕ × X)) → T (below_all nat_cmp k es) → T (is_sorted nat_cmp es) → strictly_rises (k ∷ all_in p es) ≡ true
   rises_past p k [] h s = refl
@@ -107,7 +96,7 @@ passes_listed p t n x at passes = in_list p n x t.rows at passes
 
 -- a number with a row is listed where the row passes
 pub listed_as : {X : Type 0} (p : ℕ → X → Bool) (t : Table X) (n : ℕ) (x : X) → get t n ≡ Some x → lists (all_where p t) n ≡ p n x
-listed_as p t n x at = grind (arith, passes_listed p t n x at, false_from_ne_true (lists (all_where p t) n), listed_passes p t n, same_Some)
+listed_as p t n x at = grind (arith, passes_listed, listed_passes)
 
 pub all_where-rises : {X : Type 0} (p : ℕ → X → Bool) (t : Table X) → strictly_rises (all_where p t) ≡ true
 unfolding all_where
@@ -117,4 +106,4 @@ all_where-rises p t = rises_in p t.rows t.rising
 pub one_listed : (ns : List ℕ) (n : ℕ) → strictly_rises ns ≡ true → lists ns n ≡ true → ((q : ℕ) → lists ns q ≡ true → q ≡ n) → ns ≡ n ∷ []
 one_listed [] n r l only = absurd (true≢false (sym l))
 one_listed (m ∷ []) n r l only = ap (λ k. k ∷ []) (only m (first_listed m []))
-one_listed (m ∷ k ∷ ns) n r l only = grind (arith, first_listed m (k ∷ ns), rest_listed m k (k ∷ ns) (first_listed k ns), first_listed k ns)
+one_listed (m ∷ k ∷ ns) n r l only = grind (arith, first_listed m (k ∷ ns), first_listed k ns)

@@ -1,5 +1,5 @@
 -- What a loop holds, changed one half-edge at a time; and how a model's walks follow from its loops and fans.
-use Rattle.std.proofs.Common.{◌≡◌, ◌≢◌, ℕ, ◌+◌, true, false, cond, List, [], Option, Some, None, is_some, unwrap_or, refl, sym, ap, ◌∙◌, subst, arith, ◌⊎◌, inl, inr, true≢false}
+use Rattle.std.proofs.Common.{◌≡◌, ◌≢◌, ℕ, ◌+◌, cond, List, None, is_some, refl, sym, ap, ◌∙◌, subst, arith, ◌⊎◌, inl, inr}
 use Rattle.std.proofs.lemmas.Bool.Decides.{eqb_tells}
 use Rattle.euler_operators.specs.Items.{count, tick, IsIn, IsApart}
 use Rattle.euler_operators.specs.Rings.{canonical, successor, IsRing}
@@ -11,7 +11,7 @@ use Rattle.euler_operators.proofs.Edits.{count-insert_before, count-without, wit
 use Rattle.euler_operators.proofs.Leads.{IsRing-redirect_other, IsRing-led_over_other}
 use Rattle.euler_operators.specs.HalfEdge.{mate, edge_of}
 use Rattle.euler_operators.specs.Table as table
-use Rattle.euler_operators.specs.Model.{Model, LoopContent, lone, cycle, LoopRow, no_loop, items_of, holds, tail, loop_of, content, cycle_of, after, round}
+use Rattle.euler_operators.specs.Model.{Model, LoopContent, lone, cycle, items_of, holds, tail, loop_of, content, cycle_of, after, round}
 use Rattle.euler_operators.specs.Sound.{Sound, Has, HasHalf, StandsIn, Reaches, here, further, IsCycle}
 use Rattle.euler_operators.proofs.Tables.{first_where_is}
 use Rattle.euler_operators.proofs.Models.{mate_there, content_row, held_row, in-holds, holds_in, holds-none, never_lone}
@@ -74,7 +74,7 @@ pub put_keeps : (x g h : ℕ) (c : LoopContent) → IsIn x (items_of c) → IsIn
 put_keeps x g h c i = elim (IsIn_or_not g (items_of c)) [ inl a ↦ omega (arith, i, count_put_there x g h c a) | inr a ↦ omega (arith, i, count_put_none x g h c a) ]
 
 pub put_came : (x g h : ℕ) (c : LoopContent) → IsIn x (items_of (put_before g h c)) → ((x ≡ h) × IsIn g (items_of c)) ⊎ IsIn x (items_of c)
-put_came x g h c i = grind (arith, eqb_tells x h, count_put_there x g h c, tick_other x h, count_put_none x g h c)
+put_came x g h c i = grind (arith, count_put_there, count_put_none)
 
 pub light_put : (next : ℕ → ℕ) (g h : ℕ) (c : LoopContent) → count h (items_of c) ≡ 0 → IsLight next c → IsLight (led_over next g h) (put_before g h c)
 light_put next g h c n l = elim (IsIn_or_not g (items_of c)) [
@@ -103,13 +103,13 @@ loop_put next g h (cycle hs) n l = elim (IsIn_or_not g hs) [
 -- ---- a half-edge taken out
 
 pub count_out : (x h : ℕ) (hs : List ℕ) → x ≢ h → count x (without h hs) ≡ count x hs
-count_out x h hs ne = grind (arith, count-without x h hs, tick_other x h ne, without_none h hs)
+count_out x h hs ne = grind (arith, count-without, without_none)
 
 pub count_gone : (h : ℕ) (hs : List ℕ) → IsApart hs → count h (without h hs) ≡ 0
-count_gone h hs d = grind (arith, count-without h h hs, tick_same h, without_none h hs)
+count_gone h hs d = grind (arith, count-without, without_none)
 
 pub apart_out : (h : ℕ) (hs : List ℕ) → IsApart hs → IsApart (without h hs)
-apart_out h hs d x = grind (arith, count-without x h hs, without_none h hs)
+apart_out h hs d x = grind (arith, count-without, without_none)
 
 pub ring_out : (next : ℕ → ℕ) (h : ℕ) (hs : List ℕ) → IsApart hs → IsRing next hs → IsRing (redirect next h (next h)) (without h hs)
 ring_out next h hs d r = elim (IsIn_or_not h hs) [
@@ -127,13 +127,9 @@ module _ (M : Model) (sound : Sound M) where
       let d : IsApart hs = (sound.cycles l hs there e).apart in
       (d, IsRing-from_successor (after M) hs d (λ x i. ap (λ q. successor (items_of (content M q)) x) (sound.one_loop x l (ap (holds x) e ∙ in-holds x (cycle hs) i)) ∙ ap (λ c. successor (items_of c) x) e))
 
-  empty_light : (o : Option LoopRow) → is_some o ≡ false → (unwrap_or o no_loop).content ≡ cycle []
-  empty_light None e = refl
-  empty_light (Some row) e = absurd (true≢false e)
-
   pub light : (l : ℕ) → IsLight (after M) (content M l)
   unfolding content
-  light l = grind (arith, light_of (content M l) l, empty_light (table.get M.loops l))
+  light l = grind (arith, light_of (content M l) l)
 
   loop_of_content : (c : LoopContent) (l : ℕ) → Has M.loops l → content M l ≡ c → IsLoop (after M) c
   loop_of_content (lone v) l there e = tt
@@ -162,7 +158,7 @@ pub record Walks (N : Model) (next : ℕ → ℕ) : Type 0 where
 -- the loop of a half-edge, where no other holds it
 pub loop_at : (N : Model) (x q : ℕ) → StandsIn N x q → ((p : ℕ) → StandsIn N x p → p ≡ q) → loop_of N x ≡ q
 unfolding loop_of
-loop_at N x q s once = grind (arith, first_where_is, held_row N x q s, content_row N)
+loop_at N x q s once = grind (arith, first_where_is, held_row, content_row)
 
 module _ (N : Model) (next : ℕ → ℕ) (w : Walks N next) where
   pub loop_is : (x : ℕ) (t : HasHalf N x) → loop_of N x ≡ (w.placed x t).0
@@ -183,14 +179,9 @@ module _ (N : Model) (next : ℕ → ℕ) (w : Walks N next) where
 
   pub after-walks : (x : ℕ) → HasHalf N x → after N x ≡ next x
   unfolding after
-  after-walks x t = grind (
-    arith,
-    stands-walks x t,
-    next_is_successor next (cycle_of N x) x,
-    ring_items (content N (loop_of N x)),
-    held_row N x (loop_of N x),
-    holds_in x (content N (loop_of N x)),
-  )
+  after-walks x t =
+      let s = stands-walks x t in
+      sym (next_is_successor next (cycle_of N x) x (ring_items (content N (loop_of N x)) (w.loops (loop_of N x) (ap is_some (held_row N x (loop_of N x) s)))) (holds_in x (content N (loop_of N x)) s))
 
   pub ends_meet-walks : (x : ℕ) → HasHalf N x → tail N (after N x) ≡ tail N (mate x)
   ends_meet-walks x t =

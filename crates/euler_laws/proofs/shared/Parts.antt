@@ -11,7 +11,6 @@ use Rattle.euler_operators.specs.Sound.{Sound, Has, HasHalf, IsTail, IsLoneAt, N
 use Rattle.euler_operators.proofs.Models.{same_outer, same_solid}
 use Rattle.euler_operators.proofs.Tables.{get-put_here, get-put_other, get-remove_here, get-remove_other, row_elsewhere}
 use Rattle.euler_laws.proofs.shared.Loops.{Walks, stands-walks, one_loop-walks, cycles-walks, ends_meet-walks, one_fan-walks}
-use Rattle.euler_laws.proofs.shared.Rows.{one_row}
 use Rattle.euler_laws.proofs.shared.Same.{mapped_some, SameFaces, solid_at}
 
 -- what stands at vertices
@@ -74,7 +73,7 @@ sound_of N next walks vertices faces ranges = record {
 
 module _ {X : Type 0} (t : Table X) (fit : NumbersFit t) where
   pub fit-put : (n : ℕ) (x : X) → IsTrue (is_number n) → NumbersFit (table.put t n x)
-  fit-put n x one q there = grind (arith, eqb_tells q n, get-put_other t n x q)
+  fit-put n x one q there = grind (arith, get-put_other)
 
   pub fit-remove : (n : ℕ) → NumbersFit (table.remove t n)
   fit-remove n q there = fit q (ap is_some (sym (get-remove_other t n q (row_elsewhere (table.remove t n) q n there (get-remove_here t n)))) ∙ there)
@@ -84,7 +83,7 @@ module _ {X : Type 0} (t : Table X) (fit : NumbersFit t) where
 
 module _ (t : Table Point) (fit : PointsFit t) (v : ℕ) where
   pub points-put : (p : Point) → IsInRange p → PointsFit (table.put t v p)
-  points-put p one w q at = grind (arith, eqb_tells w v, one_row, get-put_here t v p, get-put_other t v p w)
+  points-put p one w q at = grind (arith, eqb_tells w v, get-put_here t v p, get-put_other t v p w)
 
   pub points-remove : PointsFit (table.remove t v)
   points-remove w q at = fit w q (sym (get-remove_other t v w (row_elsewhere (table.remove t v) w v (ap is_some at) (get-remove_here t v))) ∙ at)
@@ -122,7 +121,7 @@ module _ {X : Type 0} {t s : Table X} {n : ℕ} {row : Option X} (set : RowSet t
 
   -- where the row was there and is
   pub has_same : Has t n → is_some row ≡ true → (q : ℕ) → table.has s q ≡ table.has t q
-  has_same old now q = grind (arith, eqb_tells q n, row_here, row_other q)
+  has_same old now q = grind (arith, row_here, row_other)
 
 -- the row of face f is put or taken away
 pub record FaceSet (M N : Model) (f : ℕ) (row : Option FaceRow) : Type 0 where

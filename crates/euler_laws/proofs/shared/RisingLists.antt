@@ -38,7 +38,6 @@ within [] (g ∷ gs) r s i = (omega arith, λ e. absurd (omega arith))
 within (f ∷ fs) [] r s i = absurd (true≢false (sym (i f (first_listed f fs))))
 within (f ∷ fs) (g ∷ gs) r s i = grind (
   arith,
-  listed_cases g f gs (i f (first_listed f fs)),
   first_listed f fs,
   within fs gs (rises_on f fs r) (rises_on g gs s),
   rises_on f fs r,

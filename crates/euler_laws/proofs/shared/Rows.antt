@@ -1,8 +1,7 @@
 -- What single rows and loops of a model say, and small facts that several operators share.
-use Rattle.std.proofs.Common.{◌≡◌, ◌≢◌, ℕ, ◌+◌, Bool, true, false, cond, not, nat_eq, ◌&&◌, List, [], ◌∷◌, ◌++◌, Option, Some, None, unwrap_or, is_some, refl, sym, ap, ◌∙◌, arith, true≢false}
+use Rattle.std.proofs.Common.{◌≡◌, ◌≢◌, ℕ, ◌+◌, Bool, true, false, cond, not, nat_eq, ◌&&◌, List, [], ◌∷◌, ◌++◌, Some, None, unwrap_or, is_some, refl, sym, ap, ◌∙◌, arith, true≢false}
 use Rattle.std.proofs.lemmas.Bool.Decides.{nat_tests}
 use Rattle.std.proofs.lemmas.Bool.{eqb-false}
-use Rattle.euler_operators.specs.declared.Point.{Point}
 use Rattle.euler_operators.specs.Items.{count, IsIn, IsApart, head_or}
 use Rattle.euler_operators.specs.Rings.{canonical, rotate_to, rest, upto, onward, between, beyond, successor, IsRing}
 use Rattle.euler_operators.proofs.Rotations.{count-canonical, count-rotate_to, canonical_nil, rotate_to-rotates}
@@ -13,12 +12,11 @@ use Rattle.euler_operators.specs.declared.HalfEdge.{HalfEdge}
 use Rattle.euler_operators.specs.HalfEdge.{code, mate, edge_of, is_first, plus}
 use Rattle.euler_operators.specs.Table as table
 use Rattle.euler_operators.specs.Table.{Table, tables, same_table}
-use Rattle.euler_operators.specs.Model.{Model, loop_of, cycle_of, LoopContent, lone, cycle, FaceRow, LoopRow, EdgeRow, no_face, no_edge, no_point, tail_in, items_of, holds, tail, face_of, outer, solid_of, point_of, no_loop, content, rings_of, is_ring_of}
+use Rattle.euler_operators.specs.Model.{Model, loop_of, cycle_of, LoopContent, lone, cycle, FaceRow, LoopRow, tail_in, items_of, holds, tail, face_of, outer, solid_of, point_of, no_loop, content, is_ring_of}
 use Rattle.euler_operators.specs.Sound.{Sound, Has, HasHalf, IsCycle}
 use Rattle.euler_operators.proofs.Halves.{edge_of-code, edge_of-mate, is_first-mate, plus_row}
-use Rattle.euler_operators.proofs.Tables.{all_where_none, none_all_where, row_some, map_one, put-remove}
-use Rattle.euler_operators.proofs.Models.{face_row, row_of, other_loop, in-holds, cycle_there, never_lone}
-use Rattle.euler_operators.proofs.Tests.{none_but}
+use Rattle.euler_operators.proofs.Tables.{all_where_none, none_all_where, map_one, put-remove}
+use Rattle.euler_operators.proofs.Models.{face_row, row_of, other_loop, in-holds, cycle_there}
 use Rattle.euler_operators.specs.Conditions.{has_rings, is_empty, is_lone, lone_vertex}
 use Rattle.euler_operators.specs.Effect.{where_held, edge_row, cycle_or_lone}
 use Rattle.euler_laws.proofs.shared.Loops.{IsLoop, canonical_cycle, canonical_ring}
@@ -75,7 +73,7 @@ pub tail_first : (h a b : ℕ) → tail_in (edge_row h a b) (is_first h) ≡ a
 tail_first h a b = elim (is_first h) as (λ c. tail_in (cond c (record { plus_tail = a; minus_tail = b }) (record { plus_tail = b; minus_tail = a })) c ≡ a) [ true ↦ refl | false ↦ refl ]
 
 pub tail_second : (h a b : ℕ) → tail_in (edge_row h a b) (is_first (mate h)) ≡ b
-tail_second h a b = grind (arith, is_first-mate h)
+tail_second h a b = grind (arith, is_first-mate)
 
 pub items_or_lone : (xs : List ℕ) (v : ℕ) → items_of (cycle_or_lone xs v) ≡ canonical xs
 items_or_lone [] v = sym canonical_nil
@@ -105,7 +103,7 @@ face_there M f there = grind arith
 -- an edge's row, from the tails of its two halves
 pub edge_there : (M : Model) (h : ℕ) → HasHalf M h → table.get M.edges (edge_of h) ≡ Some (edge_row h (tail M h) (tail M (mate h)))
 unfolding tail
-edge_there M h there = grind (arith, edge_of-mate h, is_first-mate h)
+edge_there M h there = grind (arith, edge_of-mate, is_first-mate)
 
 pub half_of : (M : Model) (g : HalfEdge) → table.has M.edges g.edge ≡ true → HasHalf M (code g)
 half_of M g t = ap (λ x. is_some (table.get M.edges x)) (edge_of-code g) ∙ t
@@ -123,18 +121,11 @@ ring_none a f o l e p = grind (arith, nat_tests)
 -- a face without a ring has its outer loop only
 pub no_rings_means : (M : Model) (f : ℕ) → has_rings M f ≡ false → (q : ℕ) → Has M.loops q → face_of M q ≡ f → outer M f ≡ q
 unfolding has_rings
-no_rings_means M f e q there p = grind (
-  arith,
-  row_some (table.get M.loops q) there,
-  ring_none,
-  none_all_where,
-  empty_is (rings_of M f) e,
-  face_row M q,
-)
+no_rings_means M f e q there p = grind (arith, none_all_where, face_row)
 
 pub means_no_rings : (M : Model) (f : ℕ) → ((q : ℕ) → Has M.loops q → face_of M q ≡ f → outer M f ≡ q) → has_rings M f ≡ false
 unfolding has_rings
-means_no_rings M f n = grind (arith, all_where_none, none_but, face_row M)
+means_no_rings M f n = grind (arith, all_where_none, face_row)
 
 pub lone_is : (c : LoopContent) → is_lone c ≡ true → c ≡ lone (lone_vertex c)
 lone_is (lone v) e = refl

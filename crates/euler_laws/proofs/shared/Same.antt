@@ -3,7 +3,7 @@ use Rattle.std.proofs.Common.{◌≡◌, ℕ, [], Option, Some, None, is_some, u
 use Rattle.std.specs.Option.{option_map}
 use Rattle.euler_operators.specs.Table as table
 use Rattle.euler_operators.specs.Table.{Table, same_table, map_rows, get-map_rows}
-use Rattle.euler_operators.specs.Model.{Model, LoopContent, cycle, LoopRow, no_loop, content, face_of, solid_of, loop_of, tail, tail_in, no_edge, no_point, point_of}
+use Rattle.euler_operators.specs.Model.{Model, LoopContent, cycle, LoopRow, content, face_of, solid_of, loop_of, tail, tail_in, no_edge, no_point, point_of}
 use Rattle.euler_operators.specs.Sound.{Sound, HasHalf}
 use Rattle.euler_operators.proofs.Models.{same_solid}
 use Rattle.euler_laws.proofs.shared.Fans.{loop_after, kept_round}
@@ -42,11 +42,11 @@ module _ (M N : Model) (new : LoopContent → LoopContent) (w : Rewritten M N ne
 
   pub content-new : (q : ℕ) → content N q ≡ new (content M q)
   unfolding content
-  content-new q = grind (arith, get_is q)
+  content-new q = grind (arith, get_is)
 
   pub face-same : (q : ℕ) → face_of N q ≡ face_of M q
   unfolding face_of
-  face-same q = grind (arith, get_is q)
+  face-same q = grind (arith, get_is)
 
   pub loop-same : (q : ℕ) → table.has N.loops q ≡ table.has M.loops q
   loop-same q = ap is_some (get_is q) ∙ mapped_some (w.rewrite q) (table.get M.loops q)

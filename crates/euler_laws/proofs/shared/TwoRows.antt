@@ -3,12 +3,11 @@ use Rattle.std.proofs.Common.{◌≡◌, ◌≢◌, ℕ, zero, suc, ◌+◌, ◌
 use Rattle.std.proofs.lemmas.Bool.Decides.{eqb_tells}
 use Rattle.euler_operators.specs.Items.{count, IsIn}
 use Rattle.euler_operators.specs.Rings.{IsRing}
-use Rattle.euler_operators.proofs.Lists.{IsIn_or_not}
 use Rattle.euler_operators.specs.HalfEdge.{mate, edge_of}
 use Rattle.euler_operators.specs.Table as table
 use Rattle.euler_operators.specs.Model.{Model, LoopContent, lone, cycle, LoopRow, items_of, holds, tail, loop_of, content, face_of, after}
 use Rattle.euler_operators.specs.Sound.{Sound, Has, HasHalf, StandsIn}
-use Rattle.euler_operators.proofs.Halves.{edge_of-mate, same_edge}
+use Rattle.euler_operators.proofs.Halves.{edge_of-mate}
 use Rattle.euler_operators.proofs.Models.{never_lone, mate_there, in-holds, holds_in, held_row, content_row, face_row, same_content, same_face}
 use Rattle.euler_operators.proofs.Tables.{get-put_here, get-put_other}
 use Rattle.euler_laws.proofs.shared.Fans.{Fan}
@@ -42,10 +41,10 @@ module _ {M N : Model} {r l : ℕ} {first : LoopRow} {second : Option LoopRow} (
   content_first = content_row N r first row_first
 
   pub face_same : (q : ℕ) → q ≢ l → face_of N q ≡ face_of M q
-  face_same q a = grind (arith, eqb_tells q r, face_row N r first row_first, row_first, same_face M N q, row_else q)
+  face_same q a = grind (arith, face_row N r first row_first, same_face M N q, row_else q)
 
   pub has_same : (q : ℕ) → q ≢ l → table.has N.loops q ≡ table.has M.loops q
-  has_same q a = grind (arith, eqb_tells q r, row_first, row_else q)
+  has_same q a = grind (arith, row_first, row_else)
 
 -- ---- what two loops hold together
 
@@ -64,7 +63,7 @@ abbrev pub in_both : Model → ℕ → ℕ → ℕ → ℕ
 in_both X r s x = count x (items_of (content X r)) + count x (items_of (content X s))
 
 pub stands_both : (X : Model) (r s x q : ℕ) → OneOf r s q → StandsIn X x q → 1 ≤ in_both X r s x
-stands_both X r s x q o t = grind (arith, holds_in x (content X r), holds_in x (content X s))
+stands_both X r s x q o t = grind (arith, holds_in)
 
 pub both_stand : (X : Model) (r s x : ℕ) → 1 ≤ in_both X r s x → (q : ℕ) × OneOf r s q × StandsIn X x q
 both_stand X r s x i = grind (arith, in-holds x (content X r), in-holds x (content X s))
@@ -112,34 +111,33 @@ module _ {M N : Model} {e r s : ℕ} (sound : Sound M) (rows : TwoRows M N e r s
   ]
 
   same_loop : (x p q : ℕ) → OneOf r s p → OneOf r s q → StandsIn N x p → StandsIn N x q → p ≡ q
-  same_loop x p q o k t u = grind (arith, rows.once x)
+  same_loop x p q o k t u = grind arith
 
   -- what stands in one of the two stands in no other loop
   one_of_two : (x q : ℕ) → OneOf r s q → StandsIn N x q → (p : ℕ) → StandsIn N x p → p ≡ q
-  one_of_two x q o t p u = grind (arith, which r s p, same_loop x p q, elsewhere x p, stood_other x p, stands_both N r s x q o t, rows.others x)
+  one_of_two x q o t p u = grind (arith, same_loop x p q, elsewhere x p, stood_other x p, stands_both N r s x q o t, rows.others x)
 
   pub loop_both : (x q : ℕ) → OneOf r s q → StandsIn N x q → loop_of N x ≡ q
   loop_both x q o t = loop_at N x q t (one_of_two x q o t)
 
   -- each half-edge stands in one of the two, or it is old and stands where it did
   place_cases : (x : ℕ) → HasHalf N x → (1 ≤ in_both N r s x) ⊎ (HasHalf M x × Neither r s (loop_of M x) × (in_both N r s x ≡ 0))
-  place_cases x t = grind (
-    arith,
-    some_or_none (in_both N r s x),
-    eqb_tells (edge_of x) e,
-    rows.stands x,
-    half_back x,
-    which r s (loop_of M x),
-    rows.others x,
-    stands_both M r s x (loop_of M x),
-    sound.stands x,
-  )
+  place_cases x t = elim (some_or_none (in_both N r s x)) [
+    | inl i ↦ inl i
+    | inr z ↦ elim (eqb_tells (edge_of x) e) [
+      | inl a ↦ absurd (omega (arith, rows.stands x a.1 t, z))
+      | inr a ↦ let o = half_back x a.1 t in elim (which r s (loop_of M x)) [
+        | inl k ↦ absurd (omega (arith, z, rows.others x a.1, stands_both M r s x (loop_of M x) k (sound.stands x o)))
+        | inr n ↦ inr (o, n, z)
+      ]
+    ]
+  ]
 
   stays : (x : ℕ) → HasHalf M x → Neither r s (loop_of M x) → StandsIn N x (loop_of M x)
   stays x o n = ap (holds x) (rows.other_content (loop_of M x) n) ∙ sound.stands x o
 
   stays_alone : (x : ℕ) → in_both N r s x ≡ 0 → (p : ℕ) → StandsIn N x p → p ≡ loop_of M x
-  stays_alone x z p u = grind (arith, which r s p, stands_both N r s x p, sound.one_loop x p, stood_other x p)
+  stays_alone x z p u = grind (arith, stands_both N r s x p, sound.one_loop x p, stood_other x p)
 
   pub placed : (x : ℕ) → HasHalf N x → (q : ℕ) × StandsIn N x q × ((p : ℕ) → StandsIn N x p → p ≡ q)
   placed x t = grind (arith, place_cases x t, both_stand N r s x, one_of_two x, stays x, stays_alone x)

@@ -1,8 +1,8 @@
 -- Models that answer alike are equal; and lists that an operator and its inverse leave.
-use Rattle.std.proofs.Common.{◌≡◌, ◌≢◌, ℕ, ◌+◌, Bool, true, false, not, nat_eq, ◌&&◌, ◌||◌, List, [], ◌∷◌, ◌++◌, Option, Some, None, unwrap_or, is_some, IsTrue, refl, sym, ap, ◌∙◌, arith, inl, inr, true≢false}
+use Rattle.std.proofs.Common.{◌≡◌, ◌≢◌, ℕ, ◌+◌, Bool, true, false, not, nat_eq, ◌&&◌, ◌||◌, List, ◌∷◌, Option, Some, None, unwrap_or, is_some, IsTrue, refl, sym, ap, ◌∙◌, arith, inl, inr, true≢false}
 use Rattle.std.proofs.lemmas.Bool.Decides.{nat_tests, eqb_tells}
 use Rattle.euler_operators.specs.Items.{count, tick, IsIn, IsApart, head_or}
-use Rattle.euler_operators.specs.Rings.{canonical, rotate_to, rest, between, beyond, successor, IsRotation}
+use Rattle.euler_operators.specs.Rings.{canonical, rotate_to, rest, between, successor, IsRotation}
 use Rattle.euler_operators.specs.Edits.{insert_before, without}
 use Rattle.euler_operators.specs.Operators.{mev_ring, kev_ring, put_ring, take_ring}
 use Rattle.euler_operators.proofs.Lists.{count-append, tick_same, tick_other}
@@ -22,7 +22,7 @@ use Rattle.euler_operators.specs.Conditions.{parallel}
 use Rattle.euler_laws.proofs.shared.Loops.{apart_out}
 use Rattle.euler_laws.proofs.shared.Arcs.{halves_of_edge}
 use Rattle.euler_laws.proofs.shared.Goes.{no_zero}
-use Rattle.euler_laws.proofs.shared.EdgeMore.{EdgeComes, half_h}
+use Rattle.euler_laws.proofs.shared.EdgeMore.{EdgeComes}
 use Rattle.euler_laws.proofs.shared.EdgeLess.{EdgeGoes}
 
 loop_alike : (a b : Option LoopRow) → is_some a ≡ is_some b → (is_some b ≡ true → (unwrap_or a no_loop).face ≡ (unwrap_or b no_loop).face) → (is_some b ≡ true → (unwrap_or a no_loop).content ≡ (unwrap_or b no_loop).content) → a ≡ b
@@ -58,10 +58,10 @@ same_edges K M s t = same_table _ _ (λ e. edge_alike (table.get K.edges e) (tab
 
 -- an edge that comes and goes, and one that goes and comes again
 pub edge_back : {M N K : Model} {h u w : ℕ} → EdgeComes M N h u w → EdgeGoes N K h → (e : ℕ) → table.has K.edges e ≡ table.has M.edges e
-edge_back {M = M} {K = K} {h = h} came went e = grind (arith, eqb_tells e (edge_of h))
+edge_back {M = M} {K = K} {h = h} came went e = grind arith
 
 pub edge_again : {M N K : Model} {h u w : ℕ} → EdgeGoes M N h → HasHalf M h → EdgeComes N K h u w → (e : ℕ) → table.has K.edges e ≡ table.has M.edges e
-edge_again {M = M} {K = K} {h = h} went there came e = grind (arith, eqb_tells e (edge_of h), half_h came)
+edge_again {M = M} {K = K} {h = h} went there came e = grind arith
 
 pub same_model : (K M : Model) → K.solids ≡ M.solids → K.faces ≡ M.faces → K.loops ≡ M.loops → K.edges ≡ M.edges → K.vertices ≡ M.vertices → K ≡ M
 same_model K M a b c d e = λ i. record { solids = a i; faces = b i; loops = c i; edges = d i; vertices = e i }
@@ -90,7 +90,7 @@ module _ (hs : List ℕ) (d : IsApart hs) where
         same_count a b r x = ap (count x) r.here ∙ count-append x r.front r.back ∙ (let t : count x r.front + count x r.back ≡ count x r.back + count x r.front = omega arith in t) ∙ sym (ap (count x) r.there ∙ count-append x r.back r.front)
 
   pub put_apart : (g h : ℕ) → IsIn g hs → count h hs ≡ 0 → IsApart (insert_before g h hs)
-  put_apart g h i n x = grind (arith, eqb_tells x h, count-insert_before x g h hs i, tick_same x, tick_other x h)
+  put_apart g h i n x = grind (arith, count-insert_before)
 
   -- one put in
   pub put_in : (g h : ℕ) → IsIn g hs → count h hs ≡ 0 → canonical (insert_before g h hs) ≡ put_ring h g hs

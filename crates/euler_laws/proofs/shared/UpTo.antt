@@ -43,17 +43,8 @@ up_to_next n m (a ∷ bs) r i l h = elim (at_most_or_above a n) [
 
 pub count_up_to : (x n : ℕ) (ns : List ℕ) → count x (up_to n ns) ≤ count x ns
 count_up_to x n [] = omega arith
-count_up_to x n (m ∷ ms) = grind (arith, at_most_or_above m n, takes m n ms, count_up_to x n ms, drops m n ms)
+count_up_to x n (m ∷ ms) = grind (arith, count_up_to x n ms)
 
 pub listed_up_to : (x n : ℕ) (ns : List ℕ) → lists (up_to n ns) x ≡ true → lists ns x ≡ true
 listed_up_to x n [] i = i
-listed_up_to x n (m ∷ ms) i = grind (
-  arith,
-  at_most_or_above m n,
-  listed_cases m x (up_to n ms),
-  takes m n ms,
-  first_listed m ms,
-  rest_listed m x ms,
-  listed_up_to x n ms,
-  drops m n ms,
-)
+listed_up_to x n (m ∷ ms) i = grind (arith, listed_up_to x n ms)
