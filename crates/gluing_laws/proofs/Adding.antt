@@ -1,5 +1,5 @@
 -- The six volumes of the glued solid: both faces go, and together they added nothing.
-use Rattle.std.proofs.Common.{◌≡◌, ◌≢◌, ℕ, ◌+◌, ℤ, pos, ◌+ℤ◌, neg_ℤ, true, cond, nat_eq, Bool, List, [], ◌∷◌, ◌++◌, map, Option, Some, None, is_some, refl, sym, ap, ◌∙◌, subst, arith, true≢false, ◌⊎◌, inl, inr}
+use Rattle.std.proofs.Common.{◌≡◌, ◌≢◌, ℕ, ◌+◌, ℤ, pos, ◌+ℤ◌, neg_ℤ, true, cond, nat_eq, Bool, List, [], ◌∷◌, ◌++◌, map, Option, Some, None, is_some, refl, sym, ap, ◌∙◌, arith, true≢false, ◌⊎◌, inl}
 use Rattle.std.specs.Option.{option_map}
 use Rattle.std.proofs.lemmas.Int.{ints}
 use Rattle.std.proofs.lemmas.Bool.Decides.{nat_tests, eqb_tells}
@@ -41,18 +41,10 @@ only_loop M k cs alone is = ap (λ rs. area M (items_in M (outer M k ∷ rs))) a
 
 -- what is of s afterwards was of s or of t
 of_both : (a s t : ℕ) → s ≢ t → one_if (nat_eq (cond (nat_eq a t) s a) s) ≡ one_if (nat_eq a s) + one_if (nat_eq a t)
-of_both a s t ne = elim (eqb_tells a t) [
-  | inl e ↦ ap (λ b. one_if (nat_eq (cond b s a) s)) e.0 ∙ ap one_if (eq-eqb s s refl) ∙ sym (λ i. one_if (ne_eqb a s (λ q. ne (sym q ∙ e.1)) i) + one_if (e.0 i))
-  | inr e ↦ ap (λ b. one_if (nat_eq (cond b s a) s)) e.0 ∙ alone (one_if (nat_eq a s)) ∙ sym (ap (λ b. one_if (nat_eq a s) + one_if b) e.0)
-] where
-  alone : (n : ℕ) → n ≡ n + 0
-  alone n = omega arith
+of_both a s t ne = grind (arith, eqb_tells, one_if, eq-eqb, ne_eqb)
 
 was_either : (a s t : ℕ) → nat_eq (cond (nat_eq a t) s a) s ≡ true → (a ≡ s) ⊎ (a ≡ t)
-was_either a s t is = elim (eqb_tells a t) [
-  | inl e ↦ inr e.1
-  | inr e ↦ inl (eqb-true a s (sym (ap (λ b. nat_eq (cond b s a) s) e.0) ∙ is))
-]
+was_either a s t is = grind (arith, eqb_tells, eqb-true)
 
 module _ {M N : Model} {f g : ℕ} {partner_of : ℕ → ℕ} {hs gs : List ℕ} (w : Seamed M f g partner_of hs gs) (n : Glued M N f g partner_of hs) where
   abbrev s : ℕ
@@ -119,16 +111,10 @@ module _ {M N : Model} {f g : ℕ} {partner_of : ℕ → ℕ} {hs gs : List ℕ}
   SameAt k = count k (f ∷ g ∷ faces_of N s) ≡ count k (faces_of M s ++ faces_of M t)
 
   at_f : SameAt f
-  at_f =
-      let here : count f (faces_of M s) ≡ 1 = of_solid f s w.f_there ∙ ap one_if (eq-eqb s s refl) in
-      let there : count f (faces_of M t) ≡ 0 = of_solid f t w.f_there ∙ ap one_if (ne_eqb s t w.solids_apart) in
-      omega (arith, tick_same f, tick_other f g (seams.faces_apart w), none_after f left_f, here, there, count-append f (faces_of M s) (faces_of M t))
+  at_f = grind (arith, of_solid, one_if, eq-eqb, ne_eqb, tick_same, tick_other, seams.faces_apart, none_after, left_f, count-append)
 
   at_g : SameAt g
-  at_g =
-      let here : count g (faces_of M s) ≡ 0 = of_solid g s w.g_there ∙ ap one_if (ne_eqb t s (λ e. w.solids_apart (sym e))) in
-      let there : count g (faces_of M t) ≡ 1 = of_solid g t w.g_there ∙ ap one_if (eq-eqb t t refl) in
-      omega (arith, tick_same g, tick_other g f (λ e. seams.faces_apart w (sym e)), none_after g left_g, here, there, count-append g (faces_of M s) (faces_of M t))
+  at_g = grind (arith, of_solid, one_if, ne_eqb, eq-eqb, tick_same, tick_other, seams.faces_apart, none_after, left_g, count-append)
 
   both_rows : (k : ℕ) (o : Option FaceRow) → passed (of s) k (option_map (to_s k) o) ≡ passed (of s) k o + passed (of t) k o
   both_rows k None = refl
@@ -142,10 +128,7 @@ module _ {M N : Model} {f g : ℕ} {partner_of : ℕ → ℕ} {hs gs : List ℕ}
 
   -- the faces of both solids but the two
   same_faces : SameItems (f ∷ g ∷ faces_of N s) (faces_of M s ++ faces_of M t)
-  same_faces k = elim (eqb_tells k f) [
-    | inl e ↦ subst SameAt (sym e.1) at_f
-    | inr a ↦ elim (eqb_tells k g) [ inl e ↦ subst SameAt (sym e.1) at_g | inr b ↦ at_other k a.1 b.1 ]
-  ]
+  same_faces k = grind (arith, eqb_tells, at_f, at_g, at_other)
 
   not_free : (k j : ℕ) → table.has N.faces k ≡ true → table.get left j ≡ None → k ≢ j
   not_free k j there e q = true≢false (sym there ∙ ap is_some (free_after k (ap (table.get left) q ∙ e)))

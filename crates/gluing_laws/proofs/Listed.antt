@@ -1,5 +1,5 @@
 -- How often a number stands in what a search lists. The volumes of lists of faces are passed on.
-use Rattle.std.proofs.Common.{◌≡◌, ℕ, ◌≤◌, Bool, true, false, cond, List, Option, Some, None, is_some, refl, sym, ap, ◌∙◌, arith, true≢false}
+use Rattle.std.proofs.Common.{◌≡◌, ℕ, ◌≤◌, Bool, true, false, cond, List, Option, Some, None, refl, sym, ◌∙◌, arith}
 use Rattle.euler_operators.specs.Items.{count, SameItems}
 use Rattle.euler_operators.specs.Table as table
 use Rattle.euler_operators.specs.Table.{Table}
@@ -38,14 +38,7 @@ count_listed q ns up = go (lists ns q) refl where
   go false e = none_counted q ns e
 
 pub count_where : {X : Type 0} (p : ℕ → X → Bool) (t : Table X) (k : ℕ) → count k (table.all_where p t) ≡ passed p k (table.get t k)
-count_where {X = X} p t k = count_listed k (table.all_where p t) (all_where-rises p t) ∙ go (table.get t k) refl where
-  not_there : (b : Bool) → lists (table.all_where p t) k ≡ b → table.get t k ≡ None → one_if b ≡ 0
-  not_there true e free = absurd (true≢false (sym (ap is_some (listed_passes p t k e).1) ∙ ap is_some free))
-  not_there false e free = refl
-
-  go : (o : Option X) → table.get t k ≡ o → one_if (lists (table.all_where p t) k) ≡ passed p k o
-  go None e = not_there (lists (table.all_where p t) k) refl e
-  go (Some x) e = ap one_if (listed_as p t k x e)
+count_where {X = X} p t k = grind (arith, count_listed, all_where-rises, listed_passes, listed_as)
 
 -- searches that agree on every number list the same
 pub same_search : {X Y : Type 0} (p : ℕ → X → Bool) (q : ℕ → Y → Bool) (t : Table X) (u : Table Y) → ((k : ℕ) → passed p k (table.get t k) ≡ passed q k (table.get u k)) → table.all_where p t ≡ table.all_where q u

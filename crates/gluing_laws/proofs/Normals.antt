@@ -172,10 +172,7 @@ module _ {M N : Model} {f g : ℕ} {partner_of : ℕ → ℕ} {hs gs : List ℕ}
     own = (w.sound.outers_there k there).1
 
     pub loop_else : (l : ℕ) → face_of M l ≡ k → (l ≢ outer M f) × (l ≢ outer M g)
-    loop_else l of = (
-      λ e. not_f (sym of ∙ ap (face_of M) e ∙ seams.face_f w),
-      λ e. not_g (sym of ∙ ap (face_of M) e ∙ seams.face_g w),
-    )
+    loop_else l of = grind (arith, seams.face_f w, seams.face_g w)
 
     pub normal_is : normal N k ≡ normal M k
     unfolding normal boundary

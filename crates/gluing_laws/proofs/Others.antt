@@ -1,5 +1,5 @@
 -- The solids that aren't glued keep their six volumes.
-use Rattle.std.proofs.Common.{◌≡◌, ◌≢◌, ℕ, true, cond, nat_eq, Bool, List, [], ◌∷◌, map, Option, Some, None, is_some, refl, sym, ap, ◌∙◌, arith, inl, inr}
+use Rattle.std.proofs.Common.{◌≡◌, ◌≢◌, ℕ, true, cond, nat_eq, Bool, List, [], ◌∷◌, map, Option, Some, None, refl, sym, ap, ◌∙◌, arith, inl, inr}
 use Rattle.std.specs.Option.{option_map}
 use Rattle.std.proofs.lemmas.Bool.Decides.{nat_tests, eqb_tells}
 use Rattle.std.proofs.lemmas.Bool.{ne_eqb, eqb-true}
@@ -29,10 +29,7 @@ use Rattle.gluing_laws.proofs.Normals as normals
 
 -- a solid that is neither s nor t has the faces that it had
 of_neither : (a s t u : ℕ) → u ≢ s → u ≢ t → one_if (nat_eq (cond (nat_eq a t) s a) u) ≡ one_if (nat_eq a u)
-of_neither a s t u not_s not_t = elim (eqb_tells a t) [
-  | inl e ↦ ap (λ b. one_if (nat_eq (cond b s a) u)) e.0 ∙ ap one_if (ne_eqb s u (λ q. not_s (sym q))) ∙ sym (ap one_if (ne_eqb a u (λ q. not_t (sym q ∙ e.1))))
-  | inr e ↦ ap (λ b. one_if (nat_eq (cond b s a) u)) e.0
-]
+of_neither a s t u not_s not_t = grind (arith, eqb_tells, one_if, ne_eqb)
 
 module _ {M N : Model} {f g : ℕ} {partner_of : ℕ → ℕ} {hs gs : List ℕ} (w : Seamed M f g partner_of hs gs) (n : Glued M N f g partner_of hs) (u : ℕ) (not_s : u ≢ solid_of M f) (not_t : u ≢ solid_of M g) where
   abbrev of : ℕ → FaceRow → Bool
@@ -121,9 +118,7 @@ module _ {M N : Model} {f g : ℕ} {partner_of : ℕ → ℕ} {hs gs : List ℕ}
     volume_stays = λ i. dot (anchor_is i) (normals.normal_is w n k there not_f not_g i)
 
   each_stays : (k : ℕ) → lists (faces_of M u) k ≡ true → volume_of N k ≡ volume_of M k
-  each_stays k i =
-      let there : Has M.faces k = ap is_some (listed_passes of M.faces k i).1 in
-      volume_stays k there (eqb-true (solid_of M k) u (sym (listed_as of M.faces k _ (face_there M k there)) ∙ i))
+  each_stays k i = grind (arith, listed_passes, volume_stays, eqb-true, listed_as, face_there)
 
   pub others_stay : six_volume N u ≡ six_volume M u
   unfolding six_volume

@@ -1,11 +1,11 @@
 -- Where half-edges start and end once the solids are glued: where they did.
-use Rattle.std.proofs.Common.{◌≡◌, ◌≢◌, ℕ, true, false, Bool, List, Option, Some, None, is_some, unwrap_or, refl, sym, ap, ◌∙◌, true≢false, inl, inr}
+use Rattle.std.proofs.Common.{◌≡◌, ◌≢◌, ℕ, true, false, Bool, List, Option, Some, None, is_some, unwrap_or, refl, sym, ap, ◌∙◌, true≢false, inl, inr, arith}
 use Rattle.std.specs.Prelude.{map}
 use Rattle.std.specs.Option.{option_map}
 use Rattle.euler_operators.specs.Items.{count, IsIn}
 use Rattle.euler_operators.proofs.Lists.{IsIn_or_not}
 use Rattle.euler_operators.proofs.Maps.{from_map}
-use Rattle.euler_operators.specs.HalfEdge.{mate, edge_of, is_first}
+use Rattle.euler_operators.specs.HalfEdge.{mate, edge_of}
 use Rattle.euler_operators.specs.Table as table
 use Rattle.euler_operators.specs.Table.{get-map_rows}
 use Rattle.euler_operators.specs.Model.{Model, EdgeRow, tail, tail_in, no_edge, no_point, loop_of, outer, point_of}
@@ -74,8 +74,7 @@ module _ {M N : Model} {f g : ℕ} {partner_of : ℕ → ℕ} {hs gs : List ℕ}
 
   tail_is : (y : ℕ) → HasHalf M y → count (edge_of y) gone ≡ 0 → tail N y ≡ renamed (paired from_tail to_tail hs) (tail M y)
   unfolding tail
-  tail_is y there c = ap (λ o. tail_in (unwrap_or o no_edge) (is_first y)) (edge_row (edge_of y) ∙ ap (option_map _) (without_there M.edges gone (edge_of y) c))
-      ∙ tail_moved (table.get M.edges (edge_of y)) (edge_of y) (is_first y) there
+  tail_is y there c = grind (arith, edge_row, without_there, tail_moved)
 
   start_kept : (y : ℕ) → HasHalf M y → count (edge_of y) gone ≡ 0 → start N y ≡ start M y
   start_kept y there c = ap (point_of N) (tail_is y there c) ∙ point_moved (tail M y)

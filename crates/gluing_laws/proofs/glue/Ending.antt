@@ -225,10 +225,4 @@ sources M [] = refl
 sources M (p ∷ ps) = ap (λ t. tail M p.1 ∷ t) (sources M ps)
 
 pub glued_along_is : (M : Model) (f g : ℕ) (gs hs : List ℕ) → glued_all M f g (partner M gs) hs ≡ glued_along M f g (partners M gs hs)
-glued_along_is M f g gs hs = λ i. record {
-  solids = table.remove M.solids (solid_of M g);
-  faces = table.map_rows (faces_to_solid (λ _ row. nat_eq row.solid (solid_of M g)) (solid_of M f)) (table.remove (table.remove M.faces f) g);
-  loops = table.map_rows (rewritten_row (map (renamed (sym (partners_map M gs (λ p. (mate p.1, p.0)) hs) i)))) (table.remove (table.remove M.loops (outer M f)) (outer M g));
-  edges = table.map_rows (renamed_tails (sym (partners_map M gs (λ p. (tail M p.1, tail M (mate p.0))) hs) i)) (without_rows M.edges (sym (partners_map M gs (λ p. edge_of p.1) hs) i));
-  vertices = without_rows M.vertices (sym (sources M (partners M gs hs) ∙ partners_map M gs (λ p. tail M p.1) hs) i);
-}
+glued_along_is M f g gs hs = grind (arith, partners_map, sources)

@@ -1,5 +1,5 @@
 -- The first four operators of a glue: the solids become one, and the two loops one loop.
-use Rattle.std.proofs.Common.{◌≡◌, ◌≢◌, ℕ, true, false, cond, nat_eq, Bool, ◌||◌, List, [], ◌∷◌, ◌++◌, Option, Some, None, is_some, refl, sym, ap, ◌∙◌, subst, arith, true≢false}
+use Rattle.std.proofs.Common.{◌≡◌, ◌≢◌, ℕ, true, false, cond, nat_eq, Bool, List, [], ◌∷◌, ◌++◌, Option, Some, None, is_some, refl, sym, ap, ◌∙◌, subst, arith, true≢false}
 use Rattle.std.specs.Prelude.{map, reverse}
 use Rattle.std.proofs.lemmas.Bool.Decides.{nat_tests}
 use Rattle.std.proofs.lemmas.Bool.{ne_eqb, eq-eqb}
@@ -15,7 +15,7 @@ use Rattle.euler_operators.specs.HalfEdge.{mate, edge_of, half, plus, minus}
 use Rattle.euler_operators.specs.Table as table
 use Rattle.euler_operators.specs.Table.{Table, tables, same_table}
 use Rattle.euler_operators.specs.declared.Corner.TheVariants.{At}
-use Rattle.euler_operators.specs.Model.{Model, FaceRow, LoopRow, EdgeRow, lone, cycle, LoopContent, items_of, holds, tail, tail_in, content, face_of, solid_of, outer, is_number}
+use Rattle.euler_operators.specs.Model.{Model, FaceRow, LoopRow, EdgeRow, lone, cycle, LoopContent, items_of, tail, tail_in, content, face_of, solid_of, outer, is_number}
 use Rattle.euler_operators.specs.Model as model
 use Rattle.euler_operators.specs.Sound.{Sound, HasHalf}
 use Rattle.euler_operators.proofs.Halves.{code-half, plus_row, minus_row, edge_of-mate, mate_plus}
@@ -38,7 +38,6 @@ use Rattle.euler_laws.proofs.Cases.{effect_keeps_sound}
 use Rattle.euler_laws.proofs.Runs.{Leads, leads_one, leads_first}
 use Rattle.sweeps_laws.proofs.prism.Steps.{edge_plus}
 use Rattle.shapes.specs.Rewriting.{rewritten, rewritten_row, renamed}
-use Rattle.shapes.specs.glue.Glue.{renamed_tails}
 use Rattle.shapes.specs.glue.GlueOps.{opening}
 use Rattle.shapes.specs.glue.Part.{paired, seam, glued_part}
 use Rattle.shapes.proofs.glue.Renamings.{renamed_more}
@@ -95,18 +94,12 @@ module _ (M : Model) (f g : ℕ) (partner_of : ℕ → ℕ) (h : ℕ) (mid : Lis
   merge_goes : MergeGoes M s t
   merge_goes = record { s_there = w.sound.faces_of_solids f w.f_there; t_there = w.sound.faces_of_solids g w.g_there; apart = w.solids_apart }
 
-  merge_ok : first_false M (Merge s t) ≡ None
-  merge_ok = merge_accepted M s t w.sound merge_goes
-
   abbrev M1 : Model
   M1 = merge M s t
 
   M1_is : effect M (Merge s t) ≡ M1
   unfolding effect
   M1_is = refl
-
-  sound_1 : Sound M1
-  sound_1 = sound-merge w.sound merge_goes
 
   merged : OtherSolids M M1
   merged = merge_other w.sound merge_goes
@@ -122,7 +115,7 @@ module _ (M : Model) (f g : ℕ) (partner_of : ℕ → ℕ) (h : ℕ) (mid : Lis
   }
 
   kfmrh_ok : first_false M1 (Kfmrh f g) ≡ None
-  kfmrh_ok = kfmrh_accepted M1 f g sound_1 kfmrh_goes
+  kfmrh_ok = kfmrh_accepted M1 f g (sound-merge w.sound merge_goes) kfmrh_goes
 
   abbrev row_r : LoopRow
   row_r = record { face = f; content = cycle (canonical rs) }
@@ -143,7 +136,7 @@ module _ (M : Model) (f g : ℕ) (partner_of : ℕ → ℕ) (h : ℕ) (mid : Lis
   A_is = λ i. record A { loops = ((λ j. table.map_rows (loop_to_face (merged.outers g j) f) M.loops) ∙ to_f) i }
 
   sound_A : Sound A
-  sound_A = subst Sound A_is (effect_keeps_sound M1 (Kfmrh f g) sound_1 kfmrh_ok)
+  sound_A = subst Sound A_is (effect_keeps_sound M1 (Kfmrh f g) (sound-merge w.sound merge_goes) kfmrh_ok)
 
   -- ---- mekr
 
@@ -174,12 +167,6 @@ module _ (M : Model) (f g : ℕ) (partner_of : ℕ → ℕ) (h : ℕ) (mid : Lis
   unfolding merge
   outer_A = same_outer M1 A f (get-remove_other M1.faces g f (facing.faces_apart M f g partner_of hs x w)) ∙ merged.outers f
 
-  face_l : face_of A l ≡ f
-  face_l = face_row A l _ around_l.at
-
-  face_r : face_of A r ≡ f
-  face_r = face_row A r _ around_r.at
-
   mekr_goes : MekrGoes A (At (half h)) (At (half k)) (plus x) l r (tail M h) (tail M k) hs (k ∷ back)
   mekr_goes = record {
     first = first_corner;
@@ -187,9 +174,9 @@ module _ (M : Model) (f g : ℕ) (partner_of : ℕ → ℕ) (h : ℕ) (mid : Lis
     edge_free = ap (table.get M.edges) (edge_plus x) ∙ w.edge_free;
     edge_fits = ap is_number (edge_plus x) ∙ w.edge_fits;
     loops_apart = l_r;
-    one_face = face_l ∙ sym face_r;
+    one_face = face_row A l _ around_l.at ∙ sym (face_row A r _ around_r.at);
     ring_there = ap is_some around_r.at;
-    no_outer = λ e. l_r (sym outer_A ∙ ap (outer A) (sym face_r) ∙ e);
+    no_outer = λ e. l_r (sym outer_A ∙ ap (outer A) (sym (face_row A r _ around_r.at)) ∙ e);
     ends_apart = λ e. facing.never_met M f g partner_of hs x w last h last_in h_in (sym e);
   }
 
@@ -213,7 +200,7 @@ module _ (M : Model) (f g : ℕ) (partner_of : ℕ → ℕ) (h : ℕ) (mid : Lis
   unfolding mekr
   mekr_is = λ i. record A {
     loops = table.remove (table.put A.loops (first_corner.loop i) (record {
-      face = (ap (face_of A) first_corner.loop ∙ face_l) i;
+      face = (ap (face_of A) first_corner.loop ∙ face_row A l _ around_l.at) i;
       content = cycle (canonical (plus x ∷ (second_corner.list ∙ sym rs_are) i ++ mate_plus x i ∷ first_corner.list i));
     })) (second_corner.loop i);
     edges = table.put M.edges (edge_plus x i) (((λ j. edge_row (plus x) (first_corner.vertex j) (second_corner.vertex j)) ∙ edge_row_plus x (tail M h) (tail M k)) i);
@@ -244,9 +231,7 @@ module _ (M : Model) (f g : ℕ) (partner_of : ℕ → ℕ) (h : ℕ) (mid : Lis
   apart_zs = apart_xs B l f zs around_B
 
   minus_once : (count (minus x) rs ≡ 0) × (count (minus x) (plus x ∷ rs) ≡ 0)
-  minus_once =
-      let a = apart_zs (minus x) in
-      (omega (arith, a, count-append (minus x) (plus x ∷ rs) (minus x ∷ hs), tick_same (minus x)), omega (arith, a, count-append (minus x) (plus x ∷ rs) (minus x ∷ hs), tick_same (minus x)))
+  minus_once = grind (arith, apart_zs (minus x), count-append (minus x) (plus x ∷ rs) (minus x ∷ hs), tick_same (minus x))
 
   B_edge : table.get B.edges x ≡ Some new_edge
   B_edge = get-put_here M.edges x new_edge
@@ -306,9 +291,7 @@ module _ (M : Model) (f g : ℕ) (partner_of : ℕ → ℕ) (h : ℕ) (mid : Lis
   some_items e = let z : count h (canonical (seam partner_of hs)) ≡ 0 = ap (count h) e in omega (arith, z, count-canonical h (seam partner_of hs), count-append h hs rs, h_in)
 
   out_l : out_edge (plus x) (minus x) (tail M h) l (record { face = f; content = cycle (canonical zs) }) ≡ row_l
-  out_l = out_here (plus x) (minus x) (tail M h) l f (cycle (canonical zs)) (cycle (canonical (seam partner_of hs)))
-      (ap (λ b. b || holds (minus x) (cycle (canonical zs))) (in-holds (plus x) (cycle (canonical zs)) (omega (arith, plus_in, count-canonical (plus x) zs))))
-      (as_cycle (without (minus x) (without (plus x) (canonical zs))) (canonical (seam partner_of hs)) (tail M h) joined_items some_items)
+  out_l = grind (arith, out_here, in-holds, plus_in, count-canonical, as_cycle, joined_items, some_items)
 
   abbrev C : Model
   C = record A {
@@ -385,8 +368,7 @@ module _ (M : Model) (f g : ℕ) (partner_of : ℕ → ℕ) (h : ℕ) (mid : Lis
 
   edges_then : C.edges ≡ X.edges
   unfolding glued_part
-  edges_then = map_agree (moved_tail (tail M k) (tail M h)) (renamed_tails (paired tail_from tail_to (last ∷ []))) M.edges
-      (λ e row. λ i. record { plus_tail = move_on row.plus_tail i; minus_tail = move_on row.minus_tail i })
+  edges_then = grind (arith, map_agree, move_on)
 
   C_X : C ≡ X
   unfolding glued_part
@@ -394,10 +376,7 @@ module _ (M : Model) (f g : ℕ) (partner_of : ℕ → ℕ) (h : ℕ) (mid : Lis
 
   -- the four operators are accepted, and then no item is glued yet but the end of the last one
   pub opened : Leads M X (opening M f g h k x)
-  opened = leads_first M M1 X (Merge s t) (Kfmrh f g ∷ Mekr (At (half h)) (At (half k)) (half (plus x)) ∷ Kev (half (plus x)) ∷ []) merge_ok M1_is
-      (leads_first M1 A X (Kfmrh f g) (Mekr (At (half h)) (At (half k)) (half (plus x)) ∷ Kev (half (plus x)) ∷ []) kfmrh_ok A_is
-      (leads_first A B X (Mekr (At (half h)) (At (half k)) (half (plus x))) (Kev (half (plus x)) ∷ []) mekr_ok B_is
-      (leads_one B X (Kev (half (plus x))) kev_ok (C_is ∙ C_X))))
+  opened = grind (arith, leads_first, merge_accepted M s t w.sound merge_goes, M1_is, kfmrh_ok, A_is, mekr_ok, B_is, leads_one, kev_ok, C_is, C_X)
 
   pub opening_accepted : AreAccepted M (opening M f g h k x)
   opening_accepted = opened.accepted

@@ -1,5 +1,5 @@
 -- One item closed: mef, kev and kef, in a sound model of which one loop is known.
-use Rattle.std.proofs.Common.{◌≡◌, ◌≢◌, ℕ, true, false, cond, ◌||◌, List, [], ◌∷◌, ◌++◌, Some, None, is_some, unwrap_or, IsTrue, sym, ap, ◌∙◌, subst, arith, true≢false, inl, inr}
+use Rattle.std.proofs.Common.{◌≡◌, ◌≢◌, ℕ, true, false, cond, ◌||◌, List, [], ◌∷◌, ◌++◌, Some, None, is_some, unwrap_or, IsTrue, sym, ap, ◌∙◌, subst, arith, true≢false, inl, inr, rules}
 use Rattle.std.proofs.lemmas.Bool.Decides.{nat_tests, eqb_tells}
 use Rattle.euler_operators.specs.Items.{count, IsIn, IsApart}
 use Rattle.euler_operators.specs.Rings.{canonical, rest}
@@ -167,10 +167,7 @@ module _ {N : Model} {l f g h k : ℕ} {qs : List ℕ} {x s r : ℕ} (c : Closes
   minus_none = omega (arith, none_old (minus x) edge_minus, count-append (minus x) (g ∷ h ∷ []) (k ∷ qs))
 
   out_l : out_edge (minus x) (plus x) (tail N k) l (record { face = f; content = cycle (canonical (plus x ∷ k ∷ qs)) }) ≡ record { face = f; content = cycle (canonical (k ∷ qs)) }
-  out_l = out_here (minus x) (plus x) (tail N k) l f (cycle (canonical (plus x ∷ k ∷ qs))) (cycle (canonical (k ∷ qs)))
-      (ap (λ t. holds (minus x) (cycle (canonical (plus x ∷ k ∷ qs))) || t) (in-holds (plus x) (cycle (canonical (plus x ∷ k ∷ qs))) (omega (arith, plus_in, count-canonical (plus x) (plus x ∷ k ∷ qs)))) ∙ or_true _)
-      (ap (λ t. cycle_or_lone (without (plus x) t) (tail N k)) (without_none (minus x) (canonical (plus x ∷ k ∷ qs)) minus_else)
-      ∙ taken_from (plus x) (tail N k) (plus x ∷ k ∷ qs) k qs (apart_xs A l f (plus x ∷ k ∷ qs) around_l) plus_in (rest_head (plus x) (k ∷ qs)))
+  out_l = search (rules, out_here, in-holds, plus_in, count-canonical, or_true, without_none, minus_else, taken_from, apart_xs, around_l, rest_head)
 
   out_r : out_edge (minus x) (plus x) (tail N k) r (record { face = s; content = cycle (canonical ((g ∷ h ∷ []) ++ minus x ∷ [])) }) ≡ record { face = s; content = cycle (canonical (g ∷ h ∷ [])) }
   out_r = out_here (minus x) (plus x) (tail N k) r s (cycle (canonical ((g ∷ h ∷ []) ++ minus x ∷ []))) (cycle (canonical (g ∷ h ∷ [])))
@@ -188,11 +185,7 @@ module _ {N : Model} {l f g h k : ℕ} {qs : List ℕ} {x s r : ℕ} (c : Closes
   }
 
   B_loops : table.map_rows (out_edge (minus x) (plus x) (tail N k)) A.loops ≡ B.loops
-  B_loops =
-      map-put (out_edge (minus x) (plus x) (tail N k)) (table.put N.loops l (record { face = f; content = cycle (canonical (plus x ∷ k ∷ qs)) })) r (record { face = s; content = cycle (canonical ((g ∷ h ∷ []) ++ minus x ∷ [])) })
-      ∙ (λ i. table.put ((map-put (out_edge (minus x) (plus x) (tail N k)) N.loops l (record { face = f; content = cycle (canonical (plus x ∷ k ∷ qs)) })
-      ∙ (λ j. table.put (map_same (out_edge (minus x) (plus x) (tail N k)) N.loops (λ q row at. out_none (minus x) (plus x) (tail N k) q row
-      (holds-none (minus x) row.content (none_x (minus x) q row edge_minus at)) (holds-none (plus x) row.content (none_x (plus x) q row edge_plus at))) j) l (out_l j))) i) r (out_r i))
+  B_loops = search (rules, map-put, map_same, out_none, holds-none, none_x, edge_minus, edge_plus, out_l, out_r)
 
   B_edges : table.remove A.edges (edge_of (minus x)) ≡ N.edges
   B_edges = ap (table.remove A.edges) edge_minus ∙ remove-put N.edges x new_edge c.edge_free
@@ -226,20 +219,14 @@ module _ {N : Model} {l f g h k : ℕ} {qs : List ℕ} {x s r : ℕ} (c : Closes
   row_q : table.get N.loops q ≡ Some (record { face = face_of N q; content = cycle (cycle_of N (mate g)) })
   row_q = row_of N c.around.sound (mate g) m_there
 
-  q_r : q ≢ r
-  q_r = not_r q (ap is_some row_q)
-
   B_other : (p : ℕ) → p ≢ l → p ≢ r → table.get B.loops p ≡ table.get N.loops p
   B_other p a b = get-put_other _ r _ p b ∙ get-put_other N.loops l _ p a
 
   B_at_l : table.get B.loops l ≡ Some (record { face = f; content = cycle (canonical (k ∷ qs)) })
   B_at_l = get-put_other _ r _ l l_r ∙ get-put_here N.loops l _
 
-  B_at_r : table.get B.loops r ≡ Some (record { face = s; content = cycle (canonical (g ∷ h ∷ [])) })
-  B_at_r = get-put_here _ r _
-
   around_gh : Around B r s (g ∷ h ∷ [])
-  around_gh = record { sound = sound_B; at = B_at_r }
+  around_gh = record { sound = sound_B; at = get-put_here _ r _ }
 
   g_in : IsIn g (g ∷ h ∷ [])
   g_in = omega (arith, tick_same g)
@@ -248,13 +235,13 @@ module _ {N : Model} {l f g h k : ℕ} {qs : List ℕ} {x s r : ℕ} (c : Closes
   loop_g = ap (loop_of B) (mate-mate g) ∙ loop_is B r s (g ∷ h ∷ []) around_gh g g_in
 
   B_at_q : table.get B.loops q ≡ Some (record { face = face_of N q; content = cycle (cycle_of N (mate g)) })
-  B_at_q = B_other q c.mate_else q_r ∙ row_q
+  B_at_q = B_other q c.mate_else (not_r q (ap is_some row_q)) ∙ row_q
 
   loop_m : loop_of B (mate g) ≡ q
   loop_m = sound_B.one_loop (mate g) q (ap (holds (mate g)) (content_row B q _ B_at_q ∙ sym (content_row N q _ row_q)) ∙ c.around.sound.stands (mate g) m_there)
 
   face_r : face_of B r ≡ s
-  face_r = face_row B r (record { face = s; content = cycle (canonical (g ∷ h ∷ [])) }) B_at_r
+  face_r = face_row B r (record { face = s; content = cycle (canonical (g ∷ h ∷ [])) }) (get-put_here _ r _)
 
   face_q : face_of B q ≡ face_of N q
   face_q = face_row B q (record { face = face_of N q; content = cycle (cycle_of N (mate g)) }) B_at_q
@@ -306,7 +293,7 @@ module _ {N : Model} {l f g h k : ℕ} {qs : List ℕ} {x s r : ℕ} (c : Closes
   cycle_m = ap (λ p. items_of (content B p)) loop_m ∙ ap items_of (content_row B q _ B_at_q)
 
   cycle_g : cycle_of B (mate (mate g)) ≡ canonical (g ∷ h ∷ [])
-  cycle_g = ap (λ p. items_of (content B p)) loop_g ∙ ap items_of (content_row B r _ B_at_r)
+  cycle_g = ap (λ p. items_of (content B p)) loop_g ∙ ap items_of (content_row B r _ (get-put_here _ r _))
 
   rest_g : rest (mate (mate g)) (cycle_of B (mate (mate g))) ≡ h ∷ []
   rest_g = (λ i. rest (mate-mate g i) (cycle_g i)) ∙ rest_canonical g (h ∷ []) (apart_xs B r s (g ∷ h ∷ []) around_gh)
@@ -317,15 +304,11 @@ module _ {N : Model} {l f g h k : ℕ} {qs : List ℕ} {x s r : ℕ} (c : Closes
   closed_loops : (kef B (mate g)).loops ≡ closed.loops
   closed_loops = kill.loops_are B sound_B (mate g) kef_goes
       ∙ (λ i. table.remove (table.put B.loops (loop_m i) (record { face = (ap (face_of B) loop_m ∙ face_q) i; content = cycle (canonical (rest_g i ++ rest (mate g) (cycle_m i))) })) (loop_g i))
-      ∙ put_apart N.loops l r q _ _ _ l_r q_r c.loop_free
+      ∙ put_apart N.loops l r q _ _ _ l_r (not_r q (ap is_some row_q)) c.loop_free
 
   kef_is : kef B (mate g) ≡ closed
   unfolding kef
-  kef_is = λ i. record B {
-    faces = (ap (table.remove B.faces) face_g ∙ remove-put N.faces s (record { solid = solid_of N f; outer = r }) c.face_free) i;
-    loops = closed_loops i;
-    edges = table.remove B.edges (edge_of-mate g i);
-  }
+  kef_is = grind (arith, face_g, remove-put, c.face_free, closed_loops, edge_of-mate)
 
   pub closed_is : effect B (Kef (half (mate g))) ≡ closed
   unfolding effect
@@ -333,5 +316,4 @@ module _ {N : Model} {l f g h k : ℕ} {qs : List ℕ} {x s r : ℕ} (c : Closes
 
   -- the three operators
   pub closing_leads : Leads N closed (closing g k x s r)
-  closing_leads = leads_first N A closed (Mef (half g) (half k) (half (plus x)) s r) (Kev (half (minus x)) ∷ Kef (half (mate g)) ∷ []) mef_ok A_is
-      (leads_first A B closed (Kev (half (minus x))) (Kef (half (mate g)) ∷ []) kev_ok B_is (leads_one B closed (Kef (half (mate g))) kef_ok closed_is))
+  closing_leads = grind (arith, leads_first, mef_ok, A_is, kev_ok, B_is, leads_one, kef_ok, closed_is)

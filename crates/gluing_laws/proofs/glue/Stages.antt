@@ -77,10 +77,7 @@ module _ (M : Model) (f g : ℕ) (partner_of : ℕ → ℕ) (hs : List ℕ) (x l
   done_in h i = omega (arith, i, ap (count h) w.split, count-append h done more)
 
   pub moved_in : (h : ℕ) → IsIn h (last ∷ done) → IsIn h hs
-  moved_in h i = elim (eqb_tells h last) [
-    | inl e ↦ subst (λ q. IsIn q hs) (sym e.1) (all_in last w.last_in)
-    | inr ne ↦ done_in h (omega (arith, i, tick_other h last ne.1))
-  ]
+  moved_in h i = grind (arith, eqb_tells, all_in, done_in, tick_other)
 
   -- ---- loops
 
@@ -203,13 +200,10 @@ module _ (M : Model) (f g : ℕ) (partner_of : ℕ → ℕ) (hs : List ℕ) (x l
     swaps_on : (u : ℕ) → swap_more u ≡ replaced m h (swap u)
     swaps_on u = renamed_more (λ j. mate (partner_of j)) (λ j. j) done h not_mate u
 
-    pub row_q : table.get N.loops q ≡ Some (record { face = face_of N q; content = cycle (cycle_of N m) })
-    row_q = row_of N w.sound m m_there
-
     -- h isn't in m's loop
     h_else : count h (cycle_of N m) ≡ 0
     h_else = none-holds h (cycle (cycle_of N m)) (other_loop N w.sound h q (record { face = face_of N q; content = cycle (cycle_of N m) })
-        (λ e. mate_else (e ∙ loop_is N l f (seam partner_of more) around_l h h_seam)) row_q)
+        (λ e. mate_else (e ∙ loop_is N l f (seam partner_of more) around_l h h_seam)) (row_of N w.sound m m_there))
 
     kept_l : table.get kept l ≡ None
     kept_l = grind (arith, nat_tests, tables)
@@ -227,7 +221,7 @@ module _ (M : Model) (f g : ℕ) (partner_of : ℕ → ℕ) (hs : List ℕ) (x l
     pub others : table.map_rows (rewritten_row (map swap_more)) kept ≡ table.put (table.map_rows (rewritten_row (map swap)) kept) q turned_row
     others = same_table _ _ (λ p. get-map_rows (rewritten_row (map swap_more)) kept p ∙ elim (eqb_tells p q) [
       | inl e ↦ ap (λ n. option_map (rewritten_row (map swap_more) n) (table.get kept n)) e.1
-          ∙ turned_at (table.get kept q) (sym (at_kept q mate_else) ∙ row_q)
+          ∙ turned_at (table.get kept q) (sym (at_kept q mate_else) ∙ row_of N w.sound m m_there)
           ∙ sym (get-put (table.map_rows (rewritten_row (map swap)) kept) q turned_row p ∙ ap (λ b. cond b (Some turned_row) (table.get (table.map_rows (rewritten_row (map swap)) kept) p)) e.0)
       | inr ne ↦ elim (eqb_tells p l) [
         | inl e ↦ ap (option_map (rewritten_row (map swap_more) p)) (ap (table.get kept) e.1 ∙ kept_l) ∙ sym (ap (option_map (rewritten_row (map swap) p)) (ap (table.get kept) e.1 ∙ kept_l))

@@ -1,5 +1,5 @@
 -- One item more is glued.
-use Rattle.std.proofs.Common.{◌≡◌, ◌≢◌, ℕ, cond, nat_eq, List, [], ◌∷◌, ◌++◌, Some, is_some, refl, sym, ap, ◌∙◌, subst, arith, inl, inr}
+use Rattle.std.proofs.Common.{◌≡◌, ◌≢◌, ℕ, cond, nat_eq, List, [], ◌∷◌, ◌++◌, Some, is_some, refl, sym, ap, ◌∙◌, subst, arith, inl, inr, rules}
 use Rattle.std.specs.Prelude.{map, reverse}
 use Rattle.std.proofs.lemmas.Bool.Decides.{nat_tests}
 use Rattle.std.proofs.lemmas.List.{append_assoc, map-append}
@@ -65,17 +65,13 @@ module _ (M : Model) (f g : ℕ) (partner_of : ℕ → ℕ) (hs : List ℕ) (x l
   k_in = stages.all_in M f g partner_of hs x last done (h ∷ k ∷ more) w k k_more
 
   h_once : (count h done ≡ 0) × (count h (k ∷ more) ≡ 0)
-  h_once =
-      let a = facing.apart M f g partner_of hs x F h in
-      let s = ap (count h) w.split in
-      (omega (arith, a, s, count-append h done (h ∷ k ∷ more), tick_same h), omega (arith, a, s, count-append h done (h ∷ k ∷ more), tick_same h))
+  h_once = grind (arith, facing.apart M f g partner_of hs x F h, count-append h done (h ∷ k ∷ more), tick_same h)
 
   not_last : h ≢ last
   not_last e = omega (arith, later, h_once.1, subst (λ q. count q (k ∷ more) ≡ 0) e h_once.1)
 
   seam_is : seam partner_of (h ∷ k ∷ more) ≡ (h ∷ k ∷ qs) ++ partner_of h ∷ []
-  seam_is = ap (λ t. h ∷ k ∷ more ++ t) (reverse-cons (partner_of h) (map partner_of (k ∷ more)))
-      ∙ ap (λ t. h ∷ k ∷ t) (sym (append_assoc more (reverse (map partner_of (k ∷ more))) (partner_of h ∷ [])))
+  seam_is = search (rules, reverse-cons, append_assoc)
 
   around_seam : Around N l f (seam partner_of (h ∷ k ∷ more))
   around_seam = stages.around_l M f g partner_of hs x last done (h ∷ k ∷ more) w
@@ -197,10 +193,7 @@ module _ (M : Model) (f g : ℕ) (partner_of : ℕ → ℕ) (hs : List ℕ) (x l
 
   vertices_next : after_round.vertices ≡ X.vertices
   unfolding glued_part
-  vertices_next =
-      ap (table.remove N.vertices) tail_g
-      ∙ sym (without_more M.vertices (map tail_from (last ∷ done)) (tail M (partner_of h)))
-      ∙ ap (without_rows M.vertices) (sym (map-append tail_from (last ∷ done) (h ∷ [])))
+  vertices_next = grind (arith, tail_g, without_more, map-append)
 
   after_is : after_round ≡ X
   unfolding glued_part
