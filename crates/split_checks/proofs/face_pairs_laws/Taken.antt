@@ -1,10 +1,13 @@
 -- Places that are taken two by two.
-use Rattle.std.proofs.Common.{◌≡◌, ℕ, ◌<◌, List, [], ◌∷◌, ◌++◌, map, length, refl, sym, ap, ◌∙◌, arith, true, false, true≢false, Option, Some, IfSome, subst}
+use Rattle.std.proofs.Common.{◌≡◌, ℕ, ◌<◌, Bool, ◌&&◌, not, List, [], ◌∷◌, ◌++◌, map, length, refl, sym, ap, ◌∙◌, arith, true, false, true≢false, Option, Some, IfSome, subst}
+use Rattle.std.specs.List.{list_all}
 use Rattle.std.proofs.lemmas.List.{append-nil}
 use Rattle.euler_operators.specs.declared.Plane.{Plane}
 use Rattle.euler_operators.specs.declared.HalfEdge.{HalfEdge}
-use Rattle.euler_operators.specs.Model.{Model}
-use Rattle.shapes.specs.split.Places.{in_pairs, up_first}
+use Rattle.euler_operators.specs.HalfEdge.{code}
+use Rattle.euler_operators.specs.Model.{Model, has_half}
+use Rattle.shapes.specs.split.Places.{in_pairs, is_up_and_down, up_first}
+use Rattle.split_checks.specs.cut_places.Walks.{AreThere}
 use Rattle.split_checks.specs.place_order.Order.{Key, places_of}
 
 -- a place that is left alone makes no pair
@@ -21,3 +24,18 @@ none_left (x ∷ xs) n e some = absurd (true≢false (sym (some (omega (arith, e
 -- what holds of what is there
 pub at_present : {X : Type 0} (o : Option X) (x : X) (P : X → Type 0) → o ≡ Some x → IfSome o P → P x
 at_present o x P e h = subst (λ y. IfSome y P) e h
+
+-- the first two items of a list
+pub two_taken : {X : Type 0} (xs more left : List X) (a b : X) → xs ≡ a ∷ more → more ≡ b ∷ left → xs ≡ a ∷ b ∷ left
+two_taken {X} xs more left a b e f = e ∙ ap (λ (ys : List X). a ∷ ys) f
+
+-- the second of two places is there
+pub second_there : (M : Model) (es left : List (Key × HalfEdge)) (a b : Key × HalfEdge) → es ≡ a ∷ b ∷ left → AreThere M (places_of es) → has_half M (code b.1) ≡ true
+second_there M es left a b is there = (subst (λ (fs : List (Key × HalfEdge)). AreThere M (places_of fs)) is there).1.0
+
+-- where two places aren't one up and one down, not all pairs are
+pub pair_fails : (M : Model) (p : Plane) (es left : List (Key × HalfEdge)) (a b : Key × HalfEdge) (all : Bool) → es ≡ a ∷ b ∷ left → list_all (is_up_and_down M p) (in_pairs (places_of es)) ≡ all
+    → false ≡ is_up_and_down M p (code a.1, code b.1) → true ≡ not all
+pair_fails M p es left a b all is same differ =
+    let test = is_up_and_down M p in
+    sym (ap not (sym same ∙ ap (λ (fs : List (Key × HalfEdge)). list_all test (in_pairs (places_of fs))) is ∙ ap (λ (x : Bool). x && list_all test (in_pairs (places_of left))) (sym differ)))

@@ -7,7 +7,7 @@ use Rattle.split_checks.specs.Cuts.{codes}
 use Rattle.split_checks.specs.cut_places.Walks.{AreThere}
 use Rattle.split_checks.specs.place_order.Order.{Key, places_of}
 use Rattle.split_checks.specs.declared.cuts.Pair.{Pair}
-use Rattle.split_checks.proofs.face_pairs_laws.Taken.{last_alone, none_left}
+use Rattle.split_checks.proofs.face_pairs_laws.Taken.{last_alone, none_left, pair_fails, second_there, two_taken}
 use Rattle.split_checks.proofs.face_pairs.pairs.pairs_in_order.Goals as goal
 
 pub returns-in_default-pop_first-clause-pairs : goal.returns-in_default-pop_first-clause-pairs
@@ -28,3 +28,13 @@ pairs-preserved c =
       made = ap (λ (ps : List Pair). map codes ps ++ rest) c.in_ok-push.ensures.items ∙ ap (λ (qs : List (ℕ × ℕ)). qs ++ rest) (map-append codes c.pairs.pairs.items _) ∙ append_assoc had _ rest
           ∙ ap (λ (q : ℕ × ℕ). had ++ q ∷ rest) c.in-Some-up_and_down.ensures.pair ∙ ap (λ (fs : List (Key × HalfEdge)). had ++ map up (in_pairs (places_of fs))) (sym is) ∙ c.pairs.invariant.made;
     }
+
+pub up_and_down-requires-clause-second : goal.up_and_down-requires-clause-second
+up_and_down-requires-clause-second c =
+    let both = two_taken _ _ _ _ _ c.in-Some.ensures.removal c.in-Some-pop_first.ensures.removal in
+    second_there c.args.arena.now.model _ _ _ _ both c.pairs.invariant.there
+
+pub returns-in_default-up_and_down-clause-crossed : goal.returns-in_default-up_and_down-clause-crossed
+returns-in_default-up_and_down-clause-crossed c =
+    let two = two_taken _ _ _ _ _ c.in-Some.ensures.removal c.in-Some-pop_first.ensures.removal in
+    pair_fails c.args.arena.now.model c.args.plane _ _ _ _ _ two c.pairs.invariant.differ c.in_default-up_and_down.ensures.differ
