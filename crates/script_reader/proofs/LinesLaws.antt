@@ -1,7 +1,7 @@
 -- Going to the next line.
 use Rattle.std.proofs.Common.{◌≡◌, ◌⊎◌, inl, inr, ℕ, ◌+◌, ◌-◌, ◌<◌, ◌≤◌, Bool, true, false, List, [], ◌∷◌, ◌++◌, length, take, refl, sym, ap, subst, ◌∙◌, arith, append_assoc, length-append, Option}
 use Rattle.std.proofs.lemmas.List.{append-nil, take_all, take_at, drop_at, take-append-le}
-use Rattle.std.proofs.Math.Seq.{take-add}
+use Rattle.std.proofs.Math.Seq.{take-add, take-append-add}
 use Rattle.std.proofs.lemmas.Bool.{cases_lt}
 use Rattle.std.proofs.KnownBytes.{Consumes-nil, Consumes-trans}
 use Rattle.std.specs.Io.KnownBytes.{Consumes}
@@ -174,3 +174,27 @@ not_ready old now ready still same e lacks =
     let opened : Open ≡ old.ending = sym e ∙ still.ending in
     let moved : is_ready Open now.buffer.unread ≡ has_line old = ap (λ (xs : List ℕ). is_ready Open xs) same ∙ ap (λ (x : Ending). is_ready x old.buffer.unread) opened in
     cc (calm, moved, ready)
+
+-- bytes were read, all of them within the limit
+pub all_within : (a b : Option (List ℕ)) (taken count n : ℕ) (old new given : List ℕ) → count ≡ taken + n → Consumes a b given → new ≡ old ++ given → length given ≡ n → taken + n ≤ 67108864 → Reads a b taken count old new
+unfolding within_limit
+all_within a b taken count n old new given counted consumed more is le = record {
+  given = given;
+  consumed = consumed;
+  counted = counted ∙ ap (λ (k : ℕ). taken + k) (sym is);
+  text = more ∙ ap (λ (xs : List ℕ). old ++ xs) (sym (take_all (67108864 - taken) given (omega (arith, is, le))));
+}
+
+-- the last of the bytes that were read is past the limit, and was taken back
+pub one_past : (a b : Option (List ℕ)) (taken count n : ℕ) (old more new given : List ℕ) → count ≡ taken + n → Consumes a b given → more ≡ old ++ given → length given ≡ n → taken ≤ 67108864 → n ≤ 67108865 - taken → 67108864 < taken + n
+    → new ≡ take (length more - 1) more → Reads a b taken count old new
+unfolding within_limit
+one_past a b taken count n old more new given counted consumed text is within most over back =
+    let sizes : length more ≡ length old + length given = ap length text ∙ length-append old given in
+    let all_but_one : length more - 1 ≡ length old + (67108864 - taken) = omega (arith, sizes, is) in
+    record {
+      given = given;
+      consumed = consumed;
+      counted = counted ∙ ap (λ (k : ℕ). taken + k) (sym is);
+      text = back ∙ ap (λ (xs : List ℕ). take (length more - 1) xs) text ∙ ap (λ (k : ℕ). take k (old ++ given)) all_but_one ∙ take-append-add old given (67108864 - taken);
+    }

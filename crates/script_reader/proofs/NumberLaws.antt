@@ -114,3 +114,14 @@ unsigned b None xs none = refl
 pub no_half : (b : Bool) (line digits : List ℕ) → line ≡ sign b ∷ digits → first_by number_of digits ≡ None → first_by half_of line ≡ None
 no_half true line digits is none = ap (first_by half_of) is ∙ first_longer half_of 43 digits refl ∙ unsigned true (number_of (take (word_len digits) digits)) (drop (word_len digits) digits) none
 no_half false line digits is none = ap (first_by half_of) is ∙ first_longer half_of 45 digits refl ∙ unsigned false (number_of (take (word_len digits) digits)) (drop (word_len digits) digits) none
+
+halved : (b : Bool) (o : Option ℕ) (xs : List ℕ) (n : ℕ) (rest : List ℕ) → option_map {U = ℕ × List ℕ} (λ (n : ℕ). (n, xs)) o ≡ Some (n, rest)
+    → option_map {U = HalfEdge × List ℕ} (λ (h : HalfEdge). (h, xs)) (option_map (λ (n : ℕ). record { edge = n; first = b }) o) ≡ Some (record { edge = n; first = b }, rest)
+halved b (Some m) xs n rest e =
+    let same : (m, xs) ≡ (n, rest) = cc e in
+    ap (λ (p : ℕ × List ℕ). Some (record { edge = p.0; first = b }, p.1)) same
+halved b None xs n rest e = absurd (cc e)
+
+pub some_half : (b : Bool) (line digits : List ℕ) (n : ℕ) (rest : List ℕ) → line ≡ sign b ∷ digits → first_by number_of digits ≡ Some (n, rest) → first_by half_of line ≡ Some (record { edge = n; first = b }, rest)
+some_half true line digits n rest is some = ap (first_by half_of) is ∙ first_longer half_of 43 digits refl ∙ halved true (number_of (take (word_len digits) digits)) (drop (word_len digits) digits) n rest some
+some_half false line digits n rest is some = ap (first_by half_of) is ∙ first_longer half_of 45 digits refl ∙ halved false (number_of (take (word_len digits) digits)) (drop (word_len digits) digits) n rest some

@@ -1,4 +1,16 @@
+use Rattle.std.proofs.Common.{arith, rules}
+use Rattle.script_reader.proofs.LinesLaws.{all_within, one_past}
 use Rattle.script_reader.proofs.lines.Lines.fill.Goals as goal
 
 pub returns-in-Err-clause-end : goal.returns-in-Err-clause-end
 returns-in-Err-clause-end g c = λ e. absurd (cc e)
+
+pub returns-then-self-gt-SCRIPT_LIMIT-clause-reads : goal.returns-then-self-gt-SCRIPT_LIMIT-clause-reads
+returns-then-self-gt-SCRIPT_LIMIT-clause-reads g c =
+    let read = c.in-Ok.ensures in
+    one_past _ _ c.args.self.now.taken _ c.in-Ok.n _ c.read_from.new.self.unread _ read.0 (omega arith) read.1 read.2 read.3 (search rules) (omega arith) (omega arith) (assumption)
+
+pub returns-else-self-gt-SCRIPT_LIMIT-clause-reads : goal.returns-else-self-gt-SCRIPT_LIMIT-clause-reads
+returns-else-self-gt-SCRIPT_LIMIT-clause-reads g c =
+    let read = c.in-Ok.ensures in
+    all_within _ _ c.args.self.now.taken _ c.in-Ok.n _ _ read.0 (omega arith) read.1 read.2 read.3 (omega arith)
