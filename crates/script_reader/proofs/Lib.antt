@@ -9,6 +9,7 @@ pub mod ScriptLaws
 pub mod WordLaws
 pub mod EndLaws
 pub mod FirstLaws
+pub mod CornerLaws
 pub mod LinedLaws
 pub mod LineLaws
 pub mod OptionLaws

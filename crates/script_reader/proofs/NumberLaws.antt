@@ -21,6 +21,19 @@ value_grows n (c ∷ cs) = omega (arith, value_grows (n * 10 + (c - 48)) cs)
 pub no_space : (c : ℕ) → is_ascii_digit c ≡ true → is_space c ≡ false
 no_space c digit = grind (arith, nat_tests)
 
+-- one digit more, of a value that stays below the limit, or doesn't
+pub next_digit : (limit n c : ℕ) (cs : List ℕ) → is_ascii_digit c ≡ true → n * 10 + (c - 48) < limit → digits_after limit n (c ∷ cs) ≡ digits_after limit (n * 10 + (c - 48)) cs
+next_digit limit n c cs digit less =
+    let no_gap = no_space c digit in
+    let small : nat_lt (n * 10 + (c - 48)) limit ≡ true = grind (arith, nat_tests) in
+    rw (no_gap, digit, small) refl
+
+pub too_large : (limit n c : ℕ) (cs : List ℕ) → is_ascii_digit c ≡ true → limit ≤ n * 10 + (c - 48) → digits_after limit n (c ∷ cs) ≡ None
+too_large limit n c cs digit over =
+    let no_gap = no_space c digit in
+    let large : nat_lt (n * 10 + (c - 48)) limit ≡ false = grind (arith, nat_tests) in
+    rw (no_gap, digit, large) refl
+
 -- the value of digits that follow those of n, if it is below the limit
 abbrev small_after : ℕ → ℕ → List ℕ → Option ℕ
 small_after limit n cs = if all_digits cs && nat_lt (value_after n cs) limit then Some (value_after n cs) else None
@@ -84,9 +97,19 @@ no_digits c cs other = elim (cases_Bool (is_space c)) [
   | inr no_gap ↦ let none : first_by (λ (w : List ℕ). magnitude (c ∷ w)) cs ≡ None = rw other refl in first_longer magnitude c cs no_gap ∙ none
 ]
 
-pub begins_digit : (line : List ℕ) → 1 ≤ length line → is_ascii_digit (get_or line 0 0) ≡ true → digits_after (2 ^ 64) 0 line ≡ first_by magnitude line
-begins_digit [] some digit = absurd (omega arith)
-begins_digit (c ∷ cs) some digit = digits_are c cs digit
+-- the digits after the first one
+digits_behind : (c : ℕ) (cs : List ℕ) → is_ascii_digit c ≡ true → digits_after (2 ^ 64) (c - 48) cs ≡ first_by magnitude (c ∷ cs)
+digits_behind c cs digit =
+    let small : 0 * 10 + (c - 48) < 2 ^ 64 = grind (arith, nat_tests) in
+    let same : c - 48 ≡ 0 * 10 + (c - 48) = omega arith in
+    ap (λ (n : ℕ). digits_after (2 ^ 64) n cs) same ∙ sym (next_digit (2 ^ 64) 0 c cs digit small) ∙ digits_are c cs digit
+
+pub begins_digit : (line : List ℕ) (b : ℕ) → 1 ≤ length line → is_ascii_digit (get_or line 0 0) ≡ true → b ≡ get_or line 0 0 → digits_after (2 ^ 64) (b - 48) (take (length line - 1) (drop 1 line)) ≡ first_by magnitude line
+begins_digit [] b some digit is = absurd (omega arith)
+begins_digit (c ∷ cs) b some digit is =
+    let begun : digits_after (2 ^ 64) (b - 48) (take (length (c ∷ cs) - 1) (drop 1 (c ∷ cs))) ≡ digits_after (2 ^ 64) (b - 48) cs = ap (λ (xs : List ℕ). digits_after (2 ^ 64) (b - 48) xs) (take_rest (c ∷ cs) 1) in
+    let same : b ≡ c = is in
+    begun ∙ ap (λ (n : ℕ). digits_after (2 ^ 64) (n - 48) cs) same ∙ digits_behind c cs digit
 
 -- ---- a sign before the digits
 

@@ -5,12 +5,15 @@ ghost use Rattle.script_reader.specs.Words.{first_by};
 
 use super::words::is_space;
 
-/// The value of the digits up to a separator or the end, below 2^64, and what follows them.
-#[tactic(auto, using(crate::proofs::NumberLaws::no_space))]
-fn digits(line: &[u8]) -> Option<(u64, &[u8])>
-    ensures { MatchOption result (digits_after (2 ^ 64) 0 line.now ≡ None) (λ r. digits_after (2 ^ 64) 0 line.now ≡ Some (r.0, r.1.now)) }
+/// Ten times a value below this, and a digit, are below 2^64; so is ten times this and a digit of at most 5.
+const TENTH: u64 = 1_844_674_407_370_955_161;
+
+/// The value of the digits up to a separator or the end, after those of a value, below 2^64, and what follows them.
+#[tactic(auto, using(crate::proofs::NumberLaws::no_space, crate::proofs::NumberLaws::next_digit, crate::proofs::NumberLaws::too_large))]
+fn digits(before: u64, line: &[u8]) -> Option<(u64, &[u8])>
+    ensures { MatchOption result (digits_after (2 ^ 64) before line.now ≡ None) (λ r. digits_after (2 ^ 64) before line.now ≡ Some (r.0, r.1.now)) }
 {
-    let mut value = 0u64;
+    let mut value = before;
     let mut rest = line;
     while let [first, others @ ..] = rest {
         if !first.is_ascii_digit() {
@@ -19,14 +22,11 @@ fn digits(line: &[u8]) -> Option<(u64, &[u8])>
             }
             return None;
         }
-        let digit = u64::from(*first - b'0');
-        let Some(tens) = value.checked_mul(10) else {
+        let digit = u64::from(*first) - 48;
+        if value >= TENTH && (value > TENTH || digit > 5) {
             return None;
-        };
-        let Some(sum) = tens.checked_add(digit) else {
-            return None;
-        };
-        value = sum;
+        }
+        value = value * 10 + digit;
         rest = others;
     }
     Some((value, rest))
@@ -38,7 +38,7 @@ fn magnitude(line: &[u8]) -> Option<(u64, &[u8])>
     ensures { MatchOption result (first_by magnitude line.now ≡ None) (λ r. first_by magnitude line.now ≡ Some (r.0, r.1.now)) }
 {
     match line {
-        [first, ..] if first.is_ascii_digit() => digits(line),
+        [first, others @ ..] if first.is_ascii_digit() => digits(u64::from(*first) - 48, others),
         _ => None,
     }
 }

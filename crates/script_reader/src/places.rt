@@ -43,9 +43,13 @@ fn lone_of(line: &[u8]) -> Option<(Corner, &[u8])>
     Some((Corner::Lone(lone), rest))
 }
 
+#[tactic(auto, using(crate::proofs::CornerLaws::lone_first))]
 fn corner_of(line: &[u8]) -> Option<(Corner, &[u8])>
     ensures { MatchOption result (first_by corner_of line.now ≡ None) (λ r. first_by corner_of line.now ≡ Some (r.0, r.1.now)) }
 {
+    if let [b'@', ..] = line {
+        return lone_of(line);
+    }
     match half_of(line) {
         Some((half, rest)) => Some((Corner::At(half), rest)),
         None => lone_of(line),

@@ -4,5 +4,5 @@ use Rattle.script_reader.proofs.numbers.magnitude.Goals as goal
 
 pub returns-in-len1-up : goal.returns-in-len1-up
 returns-in-len1-up c =
-    let same = begins_digit c.args.line.now c.in-len1-up.len_at_least (sym c.is_ascii_digit.ensures.value ∙ c.if-is_ascii_digit.true) in
+    let same = begins_digit c.args.line.now c.from.result c.in-len1-up.len_at_least (sym c.is_ascii_digit.ensures.value ∙ c.if-is_ascii_digit.true) c.from.ensures in
     subst (λ (o : Option (ℕ × List ℕ)). MatchOption c.digits.result (o ≡ None) (λ r. o ≡ Some (r.0, r.1.now))) same c.digits.ensures
