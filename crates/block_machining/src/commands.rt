@@ -47,10 +47,10 @@ pub fn raised(
 }
 
 /// A face glued to a face of another solid. The solid of the first has the six volumes of both then. Undo gives the model before.
-pub fn joined(alloc: Global, session: Session, f: u32, g: u32) -> (Session, Result<(), Failure>)
-    ensures volume { OnOk result.1 (six_volume (held result.0.machine) (solid_of (held session.machine) f) ≡ six_volume (held session.machine) (solid_of (held session.machine) f) +ℤ six_volume (held session.machine) (solid_of (held session.machine) g)) }
-    ensures sum { OnOk result.1 ((counts (held result.0.machine) (solid_of (held session.machine) f)).sum ≡ (counts (held session.machine) (solid_of (held session.machine) f)).sum +ℤ (counts (held session.machine) (solid_of (held session.machine) g)).sum -ℤ pos 2) }
-    ensures kept { OnOk result.1 (KeepsLoops (OfOthersBut (held session.machine) (solid_of (held session.machine) g) f) (held session.machine) (held result.0.machine)) }
+pub fn joined(alloc: Global, session: Session, f: u32, other: u32) -> (Session, Result<(), Failure>)
+    ensures volume { OnOk result.1 (six_volume (held result.0.machine) (solid_of (held session.machine) f) ≡ six_volume (held session.machine) (solid_of (held session.machine) f) +ℤ six_volume (held session.machine) (solid_of (held session.machine) other)) }
+    ensures sum { OnOk result.1 ((counts (held result.0.machine) (solid_of (held session.machine) f)).sum ≡ (counts (held session.machine) (solid_of (held session.machine) f)).sum +ℤ (counts (held session.machine) (solid_of (held session.machine) other)).sum -ℤ pos 2) }
+    ensures kept { OnOk result.1 (KeepsLoops (OfOthersBut (held session.machine) (solid_of (held session.machine) other) f) (held session.machine) (held result.0.machine)) }
     ensures undone { OnOk result.1 (IsOneCommand session.machine result.0.machine) }
     ensures err { OnErr result.1 (result.0 ≡ session) }
 {
@@ -58,24 +58,24 @@ pub fn joined(alloc: Global, session: Session, f: u32, g: u32) -> (Session, Resu
     glue_measures();
     glues_join_counts();
     glues_leave_alone();
-    glue(alloc, session, f, g)
+    glue(alloc, session, f, other)
 }
 
-/// A solid cut by the plane x + d = 0: what lies above it, where that sum is positive, becomes the solid t. Both parts are there then. They
-/// share the six volumes of the one, lie on either side, and have caps on the plane. The loops of other solids are as they were. Undo gives
-/// the model before.
+/// A solid cut by the plane x + d = 0: what lies above it, where that sum is positive, becomes the solid `upper`. Both parts are there
+/// then. They share the six volumes of the one, lie on either side, and have caps on the plane. The loops of other solids are as they
+/// were. Undo gives the model before.
 pub fn cut(
     alloc: Global,
     session: Session,
     s: u32,
     d: i64,
-    t: u32,
+    upper: u32,
 ) -> (Session, Result<(), Failure>)
-    ensures volume { OnOk result.1 (six_volume (held session.machine) s ≡ six_volume (held result.0.machine) s +ℤ six_volume (held result.0.machine) t) }
-    ensures parts { OnOk result.1 (Has (held result.0.machine).solids s × Has (held result.0.machine).solids t) }
-    ensures sides { OnOk result.1 (LieOnEitherSide (held result.0.machine) d s t) }
-    ensures caps { OnOk result.1 (AreCapped (held session.machine) (held result.0.machine) d s t) }
-    ensures sum { OnOk result.1 (ShareSums (held session.machine) (held result.0.machine) d s t) }
+    ensures volume { OnOk result.1 (six_volume (held session.machine) s ≡ six_volume (held result.0.machine) s +ℤ six_volume (held result.0.machine) upper) }
+    ensures parts { OnOk result.1 (Has (held result.0.machine).solids s × Has (held result.0.machine).solids upper) }
+    ensures sides { OnOk result.1 (LieOnEitherSide (held result.0.machine) d s upper) }
+    ensures caps { OnOk result.1 (AreCapped (held session.machine) (held result.0.machine) d s upper) }
+    ensures sum { OnOk result.1 (ShareSums (held session.machine) (held result.0.machine) d s upper) }
     ensures kept { OnOk result.1 (KeepsLoops (OfOthers (held session.machine) s) (held session.machine) (held result.0.machine)) }
     ensures undone { OnOk result.1 (IsOneCommand session.machine result.0.machine) }
     ensures err { OnErr result.1 (result.0 ≡ session) }
@@ -84,7 +84,7 @@ pub fn cut(
     caps_close_the_parts();
     splits_share_counts();
     splits_leave_alone();
-    split(alloc, session, s, 1, 0, 0, d, t)
+    split(alloc, session, s, 1, 0, 0, d, upper)
 }
 
 /// An operator tried in a draft that is given up, whether it was accepted, refused or stopped by memory: the session is as it was.

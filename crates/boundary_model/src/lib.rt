@@ -23,11 +23,11 @@ pub const NUMBER_LIMIT: u32 = 1_000_000;
 /// More than the codes of half-edges, and so more than the half-edges of a model.
 pub const HALF_EDGE_CODES: u32 = 2 * NUMBER_LIMIT + 2;
 
-/// Whether n lies from 1 to the limit of numbers.
-pub fn is_number(n: u32) -> bool
-    ensures { result ≡ is_number n }
+/// Whether the number lies from 1 to the limit of numbers.
+pub fn is_number(number: u32) -> bool
+    ensures { result ≡ is_number number }
 {
-    1 <= n && n <= NUMBER_LIMIT
+    1 <= number && number <= NUMBER_LIMIT
 }
 
 /// One of the two directions of an edge; `first` is the one that a script writes with a plus.

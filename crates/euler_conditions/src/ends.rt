@@ -31,12 +31,12 @@ fn round(arena: &Arena, h: HalfEdge) -> HalfEdge
     halves::next(arena, halves::mate(h))
 }
 
-/// Whether the edge of g is another than that of h and leads to the vertex `far`.
-fn leads_to(arena: &Arena, h: HalfEdge, far: u32, g: HalfEdge) -> bool
-    requires { has_number arena.now Kind.Edge g.edge ≡ true }
-    ensures { result ≡ leads_to arena.now.model (code h) far (code g) }
+/// Whether the edge of the other half-edge is another than that of h and leads to the vertex `far`.
+fn leads_to(arena: &Arena, h: HalfEdge, far: u32, other: HalfEdge) -> bool
+    requires { has_number arena.now Kind.Edge other.edge ≡ true }
+    ensures { result ≡ leads_to arena.now.model (code h) far (code other) }
 {
-    g.edge != h.edge && halves::tail(arena, halves::mate(g)) == far
+    other.edge != h.edge && halves::tail(arena, halves::mate(other)) == far
 }
 
 /// The lesser of two edges, where 0 is none.
@@ -46,13 +46,13 @@ fn lesser(least: u32, edge: u32) -> u32
     if least == 0 { edge } else { least.min(edge) }
 }
 
-/// The lesser of `least` and the edge of g, where g leads to `far` by another edge than h, and else `least`.
-fn seen(arena: &Arena, h: HalfEdge, far: u32, least: u32, g: HalfEdge) -> u32
-    requires { has_number arena.now Kind.Edge g.edge ≡ true }
-    ensures { result ≡ cond (leads_to arena.now.model (code h) far (code g)) (lesser least (edge_of (code g))) least }
+/// The lesser of `least` and the edge of the other half-edge, where that leads to `far` by another edge than h, and else `least`.
+fn seen(arena: &Arena, h: HalfEdge, far: u32, least: u32, other: HalfEdge) -> u32
+    requires { has_number arena.now Kind.Edge other.edge ≡ true }
+    ensures { result ≡ cond (leads_to arena.now.model (code h) far (code other)) (lesser least (edge_of (code other))) least }
 {
-    if leads_to(arena, h, far, g) {
-        lesser(least, g.edge)
+    if leads_to(arena, h, far, other) {
+        lesser(least, other.edge)
     } else {
         least
     }

@@ -11,20 +11,20 @@ use crate::{faces, halves};
 use euler_operators::{Content, FaceList, HALF_EDGE_CODES, HalfEdge, Kind};
 use halfedge_arena::Arena;
 
-/// Whether n stands in the rising list.
-fn listed(faces: &FaceList, n: u32) -> bool
+/// Whether face f stands in the rising list.
+fn listed(faces: &FaceList, f: u32) -> bool
     requires { strictly_rises faces.now ≡ true }
-    ensures { result ≡ lists faces.now n }
+    ensures { result ≡ lists faces.now f }
 {
     let mut low = 0;
     let mut high = faces.len();
     'search: while low < high {
         let middle = low + (high - low) / 2;
         let face = faces.get(middle);
-        if face == n {
+        if face == f {
             return true;
         }
-        if face < n {
+        if face < f {
             low = middle + 1;
         } else {
             high = middle;

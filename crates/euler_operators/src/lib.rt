@@ -53,11 +53,11 @@ impl FaceList {
         self.faces.len()
     }
 
-    pub fn get(&self, i: usize) -> u32
-        requires { i < length self.now }
-        ensures { result ≡ slice_index self.now i }
+    pub fn get(&self, index: usize) -> u32
+        requires { index < length self.now }
+        ensures { result ≡ slice_index self.now index }
     {
-        self.faces[i]
+        self.faces[index]
     }
 }
 

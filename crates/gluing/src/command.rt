@@ -12,45 +12,46 @@ use euler_conditions::Arena;
 use std::alloc::Global;
 use undo_journal::{Draft, Failure, Session};
 
-/// Whether face g can be glued to face f, and if it can't why.
-fn admit(alloc: Global, arena: &Arena, f: u32, g: u32) -> Result<(), Failure>
+/// Whether the other face can be glued to face f, and if it can't why.
+fn admit(alloc: Global, arena: &Arena, f: u32, other: u32) -> Result<(), Failure>
     requires { IsReady arena.now }
-    ensures ok { OnOk result (spec.glue_refusal arena.now.model f g ≡ None) }
-    ensures refused { (refusal : Refusal) → (result ≡ Err (Failure.Refused refusal)) → (spec.glue_refusal arena.now.model f g ≡ Some refusal) }
+    ensures ok { OnOk result (spec.glue_refusal arena.now.model f other ≡ None) }
+    ensures refused { (refusal : Refusal) → (result ≡ Err (Failure.Refused refusal)) → (spec.glue_refusal arena.now.model f other ≡ Some refusal) }
 {
-    match check_glue(alloc, arena, f, g) {
+    match check_glue(alloc, arena, f, other) {
         Ok(Ok(())) => Ok(()),
         Ok(Err(refusal)) => Err(Failure::Refused(refusal)),
         Err(error) => Err(Failure::Memory(error)),
     }
 }
 
-/// A glue as one command: the solid of face g becomes part of the solid of face f. Both faces go, with the edges and vertices of g:
-/// the faces around g then have the edges of f, and what started at a vertex of g starts at the vertex of f with the same point.
+/// A glue as one command: the solid of the other face becomes part of the solid of face f. Both faces go, with the edges and vertices of
+/// the other one: the faces around it then have the edges of f, and what started at a vertex of it starts at the vertex of f with the
+/// same point.
 ///
-/// Refused, in this order: NumberRange; NoFace with f, then g; SameSolid with the solid; HasRings with f, then g; LoneLoop with the
-/// least lone loop of the two solids; NotFlat with their least face that isn't flat; RepeatedPoint with the face, f before g, of
-/// which two corners have equal points; NoMatch with g where its points, read backwards, are no rotation of those of f; NumbersSpent
-/// with 4 where no number is left for an edge. The tests take memory, and so do the steps: where it is refused `Memory` is answered,
-/// also in place of a refusal. On any failure the session is as it was. An accepted glue leaves one record.
+/// Refused, in this order: NumberRange; NoFace with f, then the other; SameSolid with the solid; HasRings with f, then the other;
+/// LoneLoop with the least lone loop of the two solids; NotFlat with their least face that isn't flat; RepeatedPoint with the face, f
+/// before the other, of which two corners have equal points; NoMatch with the other where its points, read backwards, are no rotation of
+/// those of f; NumbersSpent with 4 where no number is left for an edge. The tests take memory, and so do the steps: where it is refused
+/// `Memory` is answered, also in place of a refusal. On any failure the session is as it was. An accepted glue leaves one record.
 ///
-/// The operators are those of M. Mäntylä, *An Introduction to Solid Modeling* (1988): the solids are merged, the outer loop of g
-/// becomes a ring of f and one loop with that of f, and then each item of f is closed with the item of g that goes back along it.
-/// For n items they are 3 n + 2. Cost: the tests', those of the merge, and for each item the cost of its three operators.
-pub fn glue(alloc: Global, session: Session, f: u32, g: u32) -> (Session, Result<(), Failure>)
-    ensures ok { OnOk result.1 ((glue_refusal session.machine f g ≡ None) × (result.0.machine ≡ glue session.machine f g)) }
+/// The operators are those of M. Mäntylä, *An Introduction to Solid Modeling* (1988): the solids are merged, the outer loop of the other
+/// becomes a ring of f and one loop with that of f, and then each item of f is closed with the item of the other that goes back along
+/// it. For n items they are 3 n + 2. Cost: the tests', those of the merge, and for each item the cost of its three operators.
+pub fn glue(alloc: Global, session: Session, f: u32, other: u32) -> (Session, Result<(), Failure>)
+    ensures ok { OnOk result.1 ((glue_refusal session.machine f other ≡ None) × (result.0.machine ≡ glue session.machine f other)) }
     ensures recorded { OnOk result.1 (IsRecorded session result.0) }
-    ensures refused { (refusal : Refusal) → (result.1 ≡ Err (Failure.Refused refusal)) → (glue_refusal session.machine f g ≡ Some refusal) }
+    ensures refused { (refusal : Refusal) → (result.1 ≡ Err (Failure.Refused refusal)) → (glue_refusal session.machine f other ≡ Some refusal) }
     ensures err { OnErr result.1 (result.0 ≡ session) }
 {
-    if let Err(failure) = admit(alloc, session.arena(), f, g) {
+    if let Err(failure) = admit(alloc, session.arena(), f, other) {
         return (session, Err(failure));
     }
     let mut draft = match Draft::open(session) {
         Ok(draft) => draft,
         Err((session, error)) => return (session, Err(Failure::Memory(error))),
     };
-    match join(&mut draft, f, g) {
+    match join(&mut draft, f, other) {
         Ok(()) => (draft.commit(), Ok(())),
         Err(error) => (draft.abandon(), Err(Failure::Memory(error))),
     }

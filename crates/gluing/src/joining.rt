@@ -31,18 +31,18 @@ fn fresh_edge(arena: &Arena) -> u32
     arena.greatest(Kind::Edge) + 1
 }
 
-/// The spare numbers of a glue of face g: the one fresh edge, and those of g and its outer loop, which go first.
-fn spare_of(arena: &Arena, g: u32) -> Spare
-    requires there { has_number arena.now Kind.Face g ≡ true }
+/// The spare numbers of a glue of face f to another: the one fresh edge, and those of f and its outer loop, which go first.
+fn spare_of(arena: &Arena, f: u32) -> Spare
+    requires there { has_number arena.now Kind.Face f ≡ true }
     requires left { fresh_edge arena.now.model ≤ 1000000 }
     ensures edge { result.edge ≡ fresh_edge arena.now.model }
-    ensures face { result.face ≡ g }
-    ensures ring { result.ring ≡ outer arena.now.model g }
+    ensures face { result.face ≡ f }
+    ensures ring { result.ring ≡ outer arena.now.model f }
 {
     Spare {
         edge: fresh_edge(arena),
-        face: g,
-        ring: arena.outer(g),
+        face: f,
+        ring: arena.outer(f),
     }
 }
 
@@ -56,25 +56,26 @@ fn neighbours(arena: &Arena, item: HalfEdge) -> (HalfEdge, HalfEdge)
     (arena.prev(item), arena.next(item))
 }
 
-/// Makes the two solids one, and the outer loops of the two faces one loop: `partner`, of face g, comes before `first`, of face f.
+/// Makes the two solids one, and the outer loops of the two faces one loop: `partner`, of the other face, comes before `first`, of face
+/// f.
 fn open_seam(
     draft: &mut Draft,
     f: u32,
-    g: u32,
+    other: u32,
     first: HalfEdge,
     partner: HalfEdge,
     edge: u32,
 ) -> Result<(), AllocError>
     requires first_there { Has draft.old.model.faces f }
-    requires second_there { Has draft.old.model.faces g }
-    requires accepted { AreAccepted draft.old.model (opening draft.old.model f g (code first) (code partner) edge) }
-    ensures model { OnOk result (draft.new.model ≡ effects draft.old.model (opening draft.old.model f g (code first) (code partner) edge)) }
+    requires second_there { Has draft.old.model.faces other }
+    requires accepted { AreAccepted draft.old.model (opening draft.old.model f other (code first) (code partner) edge) }
+    ensures model { OnOk result (draft.new.model ≡ effects draft.old.model (opening draft.old.model f other (code first) (code partner) edge)) }
     ensures session { draft.new.session ≡ draft.old.session }
 {
     let solid = draft.arena().solid_of(f);
-    let other = draft.arena().solid_of(g);
-    draft.step_accepted(Op::Merge(solid, other))?;
-    draft.step_accepted(Op::Kfmrh(f, g))?;
+    let other_solid = draft.arena().solid_of(other);
+    draft.step_accepted(Op::Merge(solid, other_solid))?;
+    draft.step_accepted(Op::Kfmrh(f, other))?;
     draft.step_accepted(Op::Mekr(Corner::At(first), Corner::At(partner), HalfEdge::plus(edge)))?;
     draft.step_accepted(Op::Kev(HalfEdge::plus(edge)))
 }
@@ -102,21 +103,21 @@ fn close_item(
     draft.step_accepted(Op::Kef(partner.mate()))
 }
 
-/// Glues face g of the draft's model to face f, where that isn't refused. On `AllocError` the draft may have taken some steps.
+/// Glues the other face of the draft's model to face f, where that isn't refused. On `AllocError` the draft may have taken some steps.
 ///
 /// Once the seam is open it holds the items that aren't glued yet and, back along them, their partners: the partner of the first
 /// one comes before it.
-pub(crate) fn join(draft: &mut Draft, f: u32, g: u32) -> Result<(), AllocError>
-    requires { glue_refusal draft.old.model f g ≡ None }
-    ensures model { OnOk result (draft.new.model ≡ glue_model draft.old.model f g) }
+pub(crate) fn join(draft: &mut Draft, f: u32, other: u32) -> Result<(), AllocError>
+    requires { glue_refusal draft.old.model f other ≡ None }
+    ensures model { OnOk result (draft.new.model ≡ glue_model draft.old.model f other) }
     ensures session { draft.new.session ≡ draft.old.session }
 {
     let arena = draft.arena();
-    let spare = spare_of(arena, g);
+    let spare = spare_of(arena, other);
     let first = first_item(arena, f);
     let start = arena.point(arena.tail(first));
-    let across = item_at(arena, g, start);
-    open_seam(draft, f, g, first, across, spare.edge)?;
+    let across = item_at(arena, other, start);
+    open_seam(draft, f, other, first, across, spare.edge)?;
     let mut item = first;
     'items: loop {
         let (partner, next) = neighbours(draft.arena(), item);

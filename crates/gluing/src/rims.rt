@@ -67,15 +67,15 @@ fn starts_at(arena: &Arena, item: HalfEdge, point: Point) -> bool
     start(arena, item) == point
 }
 
-/// The half-edge of the outer loop of face g that starts at a point, of which there is one.
-pub(crate) fn item_at(arena: &Arena, g: u32, point: Point) -> HalfEdge
+/// The half-edge of the outer loop of face f that starts at a point, of which there is one.
+pub(crate) fn item_at(arena: &Arena, f: u32, point: Point) -> HalfEdge
     requires ready { IsReady arena.now }
-    requires there { has_number arena.now Kind.Face g ≡ true }
-    requires inside { IsIn (item_at arena.now.model g point) (rim arena.now.model g) }
-    requires starts { start arena.now.model (item_at arena.now.model g point) ≡ point }
-    ensures { code result ≡ item_at arena.now.model g point }
+    requires there { has_number arena.now Kind.Face f ≡ true }
+    requires inside { IsIn (item_at arena.now.model f point) (rim arena.now.model f) }
+    requires starts { start arena.now.model (item_at arena.now.model f point) ≡ point }
+    ensures { code result ≡ item_at arena.now.model f point }
 {
-    rim(arena, g)
+    rim(arena, f)
         .find(|item| starts_at(arena, *item, point))
         .unwrap()
 }

@@ -11,36 +11,36 @@ use arena_rows::{FaceCell, Held, LoopCell};
 use boundary_model::{HalfEdge, Kind, PackedPoint, Point};
 
 impl Arena {
-    /// A new solid n, which has its room.
-    pub fn put_solid(&mut self, n: u32)
-        requires { has_room self.old Kind.Solid n ≡ true }
-        ensures { self.new ≡ put_solid self.old n }
+    /// A new solid s, which has its room.
+    pub fn put_solid(&mut self, s: u32)
+        requires { has_room self.old Kind.Solid s ≡ true }
+        ensures { self.new ≡ put_solid self.old s }
     {
-        self.solids.put(n, true);
+        self.solids.put(s, true);
     }
 
-    /// Solid n goes, which is there.
-    pub fn take_solid(&mut self, n: u32)
-        requires { has_number self.old Kind.Solid n ≡ true }
-        ensures { self.new ≡ take_solid self.old n }
+    /// Solid s goes, which is there.
+    pub fn take_solid(&mut self, s: u32)
+        requires { has_number self.old Kind.Solid s ≡ true }
+        ensures { self.new ≡ take_solid self.old s }
     {
-        self.solids.take(n);
+        self.solids.take(s);
     }
 
-    /// A new face f of solid n with outer loop l. Number f is free and has its room, and so has the solid's number its room.
+    /// A new face f of solid s with outer loop l. Number f is free and has its room, and so has the solid's number its room.
     ///
     /// Its place among the solid's faces is one step where faces come in order. Else it takes as many steps as there are faces
     /// between it and the one that came last, or numbers between it and the nearest face of the solid, whichever is less.
     /// Where none goes, faces up to number N cost no more than about N log N in all, in whatever order they come.
-    pub fn put_face(&mut self, f: u32, n: u32, l: u32)
+    pub fn put_face(&mut self, f: u32, s: u32, l: u32)
         requires room { has_room self.old Kind.Face f ≡ true }
         requires free { has_number self.old Kind.Face f ≡ false }
-        requires solid_room { has_room self.old Kind.Solid n ≡ true }
-        ensures { self.new ≡ put_face self.old f n l }
+        requires solid_room { has_room self.old Kind.Solid s ≡ true }
+        ensures { self.new ≡ put_face self.old f s l }
     {
-        let cell = FaceCell { solid: n, outer: l };
+        let cell = FaceCell { solid: s, outer: l };
         self.faces.put(f, cell);
-        self.solid_faces.insert(n, f);
+        self.solid_faces.insert(s, f);
     }
 
     /// Face f goes, which is there.
@@ -62,20 +62,20 @@ impl Arena {
         self.faces.set(f, cell);
     }
 
-    /// Face f, which is there, is of another solid, whose number has its room. Its place there is looked for as `put_face` does.
-    pub fn set_solid(&mut self, f: u32, n: u32)
+    /// Face f, which is there, is of solid s then, whose number has its room. Its place there is looked for as `put_face` does.
+    pub fn set_solid(&mut self, f: u32, s: u32)
         requires there { has_number self.old Kind.Face f ≡ true }
-        requires solid_room { has_room self.old Kind.Solid n ≡ true }
-        ensures { self.new ≡ set_solid self.old f n }
+        requires solid_room { has_room self.old Kind.Solid s ≡ true }
+        ensures { self.new ≡ set_solid self.old f s }
     {
         let old = self.faces.known(f);
         let cell = FaceCell {
-            solid: n,
+            solid: s,
             outer: old.outer,
         };
         self.faces.set(f, cell);
         self.solid_faces.remove(f);
-        self.solid_faces.insert(n, f);
+        self.solid_faces.insert(s, f);
     }
 
     /// A new vertex v at a point in range; v has its room.
@@ -139,14 +139,14 @@ impl Arena {
         self.face_loops.insert(f, l);
     }
 
-    /// A new edge e from vertex a to vertex b. Its half-edges are loose, each a ring of its own. Number e is free and has its
-    /// room.
-    pub fn put_edge(&mut self, e: u32, a: u32, b: u32)
+    /// A new edge e from the vertex `start` to the vertex `end`. Its half-edges are loose, each a ring of its own. Number e is free and
+    /// has its room.
+    pub fn put_edge(&mut self, e: u32, start: u32, end: u32)
         requires room { has_room self.old Kind.Edge e ≡ true }
         requires free { has_number self.old Kind.Edge e ≡ false }
-        ensures { self.new ≡ put_edge self.old e a b }
+        ensures { self.new ≡ put_edge self.old e start end }
     {
-        self.rings.wake_edge(e, a, b);
+        self.rings.wake_edge(e, start, end);
     }
 
     /// Edge e goes, whose half-edges are loose, each a ring of its own.

@@ -12,29 +12,29 @@ use boundary_model::{Content, HalfEdge, Kind, Point};
 
 impl Arena {
     /// Whether a number of a kind is in use. Any number may be asked for. A number in use has its room.
-    pub fn has(&self, kind: Kind, n: u32) -> bool
-        ensures used { result ≡ has_number self.now kind n }
-        ensures room { result ≡ true → has_room self.now kind n ≡ true }
+    pub fn has(&self, kind: Kind, number: u32) -> bool
+        ensures used { result ≡ has_number self.now kind number }
+        ensures room { result ≡ true → has_room self.now kind number ≡ true }
     {
         match kind {
-            Kind::Solid => self.solids.has(n),
-            Kind::Face => self.faces.has(n),
-            Kind::Loop => self.loops.has(n),
-            Kind::Edge => self.rings.has_edge(n),
-            Kind::Vertex => self.vertices.has(n),
+            Kind::Solid => self.solids.has(number),
+            Kind::Face => self.faces.has(number),
+            Kind::Loop => self.loops.has(number),
+            Kind::Edge => self.rings.has_edge(number),
+            Kind::Vertex => self.vertices.has(number),
         }
     }
 
     /// Whether a number of a kind has its room. Any number may be asked for.
-    pub fn has_room(&self, kind: Kind, n: u32) -> bool
-        ensures { result ≡ has_room self.now kind n }
+    pub fn has_room(&self, kind: Kind, number: u32) -> bool
+        ensures { result ≡ has_room self.now kind number }
     {
         match kind {
-            Kind::Solid => self.solids.reaches(n),
-            Kind::Face => self.faces.reaches(n),
-            Kind::Loop => self.loops.reaches(n),
-            Kind::Edge => self.rings.has_edge_room(n),
-            Kind::Vertex => self.vertices.reaches(n),
+            Kind::Solid => self.solids.reaches(number),
+            Kind::Face => self.faces.reaches(number),
+            Kind::Loop => self.loops.reaches(number),
+            Kind::Edge => self.rings.has_edge_room(number),
+            Kind::Vertex => self.vertices.reaches(number),
         }
     }
 

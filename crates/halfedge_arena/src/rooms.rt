@@ -10,78 +10,78 @@ use std::alloc::AllocError;
 const STEP: u32 = 64;
 
 impl Arena {
-    /// Gives number n of a kind its room, n from 1 to 1,000,000. The model stays, and each number that had its room keeps it.
+    /// Gives a number of a kind its room, from 1 to 1,000,000. The model stays, and each number that had its room keeps it.
     ///
     /// An `Err` comes only where memory is short and the number had no room. The model stays then too, and so does each room.
-    pub fn room_for(&mut self, kind: Kind, n: u32) -> Result<(), AllocError>
-        requires least { 1 ≤ n }
-        requires most { n ≤ 1000000 }
+    pub fn room_for(&mut self, kind: Kind, number: u32) -> Result<(), AllocError>
+        requires least { 1 ≤ number }
+        requires most { number ≤ 1000000 }
         ensures grown { HasGrown self.old self.new }
-        ensures ok { OnOk result (has_room self.new kind n ≡ true) }
-        ensures known { has_room self.old kind n ≡ true → IsOk result }
+        ensures ok { OnOk result (has_room self.new kind number ≡ true) }
+        ensures known { has_room self.old kind number ≡ true → IsOk result }
     {
-        if self.has_room(kind, n) {
+        if self.has_room(kind, number) {
             return Ok(());
         }
         match kind {
-            Kind::Solid => self.room_solids(n),
-            Kind::Face => self.room_faces(n),
-            Kind::Loop => self.room_loops(n),
-            Kind::Edge => self.room_edges(n),
-            Kind::Vertex => self.room_vertices(n),
+            Kind::Solid => self.room_solids(number),
+            Kind::Face => self.room_faces(number),
+            Kind::Loop => self.room_loops(number),
+            Kind::Edge => self.room_edges(number),
+            Kind::Vertex => self.room_vertices(number),
         }
     }
 
-    fn room_solids(&mut self, n: u32) -> Result<(), AllocError>
-        requires least { 1 ≤ n }
-        requires most { n ≤ 1000000 }
+    fn room_solids(&mut self, number: u32) -> Result<(), AllocError>
+        requires least { 1 ≤ number }
+        requires most { number ≤ 1000000 }
         ensures grown { HasGrown self.old self.new }
-        ensures ok { OnOk result (has_room self.new Kind.Solid n ≡ true) }
+        ensures ok { OnOk result (has_room self.new Kind.Solid number ≡ true) }
     {
-        let last = last_of_step(n);
+        let last = last_of_step(number);
         self.solid_faces.reach_owner(last)?;
         self.solids.reach(last)
     }
 
-    fn room_faces(&mut self, n: u32) -> Result<(), AllocError>
-        requires least { 1 ≤ n }
-        requires most { n ≤ 1000000 }
+    fn room_faces(&mut self, number: u32) -> Result<(), AllocError>
+        requires least { 1 ≤ number }
+        requires most { number ≤ 1000000 }
         ensures grown { HasGrown self.old self.new }
-        ensures ok { OnOk result (has_room self.new Kind.Face n ≡ true) }
+        ensures ok { OnOk result (has_room self.new Kind.Face number ≡ true) }
     {
-        let last = last_of_step(n);
+        let last = last_of_step(number);
         self.solid_faces.reach_item(last)?;
         self.face_loops.reach_owner(last)?;
         self.faces.reach(last)
     }
 
-    fn room_loops(&mut self, n: u32) -> Result<(), AllocError>
-        requires least { 1 ≤ n }
-        requires most { n ≤ 1000000 }
+    fn room_loops(&mut self, number: u32) -> Result<(), AllocError>
+        requires least { 1 ≤ number }
+        requires most { number ≤ 1000000 }
         ensures grown { HasGrown self.old self.new }
-        ensures ok { OnOk result (has_room self.new Kind.Loop n ≡ true) }
+        ensures ok { OnOk result (has_room self.new Kind.Loop number ≡ true) }
     {
-        let last = last_of_step(n);
+        let last = last_of_step(number);
         self.face_loops.reach_item(last)?;
         self.loops.reach(last)
     }
 
-    fn room_edges(&mut self, n: u32) -> Result<(), AllocError>
-        requires least { 1 ≤ n }
-        requires most { n ≤ 1000000 }
+    fn room_edges(&mut self, number: u32) -> Result<(), AllocError>
+        requires least { 1 ≤ number }
+        requires most { number ≤ 1000000 }
         ensures grown { HasGrown self.old self.new }
-        ensures ok { OnOk result (has_room self.new Kind.Edge n ≡ true) }
+        ensures ok { OnOk result (has_room self.new Kind.Edge number ≡ true) }
     {
-        self.rings.room_edge(n)
+        self.rings.room_edge(number)
     }
 
-    fn room_vertices(&mut self, n: u32) -> Result<(), AllocError>
-        requires least { 1 ≤ n }
-        requires most { n ≤ 1000000 }
+    fn room_vertices(&mut self, number: u32) -> Result<(), AllocError>
+        requires least { 1 ≤ number }
+        requires most { number ≤ 1000000 }
         ensures grown { HasGrown self.old self.new }
-        ensures ok { OnOk result (has_room self.new Kind.Vertex n ≡ true) }
+        ensures ok { OnOk result (has_room self.new Kind.Vertex number ≡ true) }
     {
-        self.vertices.reach(last_of_step(n))
+        self.vertices.reach(last_of_step(number))
     }
 }
 

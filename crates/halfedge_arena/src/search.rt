@@ -6,17 +6,17 @@ use crate::arena::Arena;
 use boundary_model::Kind;
 
 impl Arena {
-    /// The least number of a kind in use above n, or none. It looks at a few hundred numbers and counts at most, and at one where
+    /// The least number of a kind in use above this one, or none. It looks at a few hundred numbers and counts at most, and at one where
     /// the next number is in use.
-    pub fn after_number(&self, kind: Kind, n: u32) -> Option<u32>
-        ensures { IsNextNumber self.now kind n result }
+    pub fn after_number(&self, kind: Kind, number: u32) -> Option<u32>
+        ensures { IsNextNumber self.now kind number result }
     {
         match kind {
-            Kind::Solid => self.solids.after(n),
-            Kind::Face => self.faces.after(n),
-            Kind::Loop => self.loops.after(n),
-            Kind::Edge => self.rings.edge_after(n),
-            Kind::Vertex => self.vertices.after(n),
+            Kind::Solid => self.solids.after(number),
+            Kind::Face => self.faces.after(number),
+            Kind::Loop => self.loops.after(number),
+            Kind::Edge => self.rings.edge_after(number),
+            Kind::Vertex => self.vertices.after(number),
         }
     }
 
@@ -34,25 +34,26 @@ impl Arena {
         }
     }
 
-    /// The least face of solid s above n, or none. Where n is 0 or a face of the solid, this is one step; else its place is
-    /// looked for as `put_face` does.
-    pub fn face_after(&self, s: u32, n: u32) -> Option<u32>
-        ensures { IsNextFace self.now.model s n result }
+    /// The least face of solid s above the number, or none. Where the number is 0 or a face of the solid, this is one step; else its
+    /// place is looked for as `put_face` does.
+    pub fn face_after(&self, s: u32, number: u32) -> Option<u32>
+        ensures { IsNextFace self.now.model s number result }
     {
-        self.solid_faces.after(s, n)
+        self.solid_faces.after(s, number)
     }
 
-    /// The least ring of face f above n, or none; face f is there. Where the face has no ring, or n is 0 or a loop of the face, this is
-    /// one step or two; else its place is looked for as `put_loop` does. `ring_count` tells how many there are to ask for.
-    pub fn ring_after(&self, f: u32, n: u32) -> Option<u32>
+    /// The least ring of face f above the number, or none; face f is there. Where the face has no ring, or the number is 0 or a loop of
+    /// the face, this is one step or two; else its place is looked for as `put_loop` does. `ring_count` tells how many there are to ask
+    /// for.
+    pub fn ring_after(&self, f: u32, number: u32) -> Option<u32>
         requires { has_number self.now Kind.Face f ≡ true }
-        ensures { IsNextRing self.now.model f n result }
+        ensures { IsNextRing self.now.model f number result }
     {
         if self.ring_count(f) == 0 {
             return None;
         }
         let outer = self.outer(f);
-        let next = self.face_loops.after(f, n);
+        let next = self.face_loops.after(f, number);
         if next == Some(outer) {
             self.face_loops.after(f, outer)
         } else {

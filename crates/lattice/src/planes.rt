@@ -44,17 +44,17 @@ fn cut_height(plane: Plane, p: Point) -> i128
     height(plane, p)
 }
 
-/// The number m divided by w, where that is a whole coordinate.
-fn whole_quotient(m: i128, w: i128) -> Option<i64>
-    requires w { w ≢ pos 0 }
-    requires m { IsWithin 20000000000000000000000000000 m }
-    requires gap { IsWithin 20000000000000000000 w }
-    requires range { unsigned_abs m ≤ 1000000000 * unsigned_abs w }
-    ensures is { result ≡ whole_quotient m w }
+/// The number divided by the divisor, where that is a whole coordinate.
+fn whole_quotient(number: i128, divisor: i128) -> Option<i64>
+    requires divisor { divisor ≢ pos 0 }
+    requires number { IsWithin 20000000000000000000000000000 number }
+    requires gap { IsWithin 20000000000000000000 divisor }
+    requires range { unsigned_abs number ≤ 1000000000 * unsigned_abs divisor }
+    ensures is { result ≡ whole_quotient number divisor }
     ensures range { IfSome result (λ x. is_coordinate x ≡ true) }
 {
-    if m % w == 0 {
-        Some((m / w) as i64)
+    if number % divisor == 0 {
+        Some((number / divisor) as i64)
     } else {
         None
     }

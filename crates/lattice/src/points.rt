@@ -18,22 +18,22 @@ fn adds_up(a: i64, b: i64) -> bool
     }
 }
 
-/// Whether p moved by d lies within `COORDINATE_LIMIT`. Takes any two points.
-pub fn sum_in_range(p: Point, d: Point) -> bool
-    ensures { result ≡ is_in_range (moved p d) }
+/// Whether p moved by the shift lies within `COORDINATE_LIMIT`. Takes any two points.
+pub fn sum_in_range(p: Point, shift: Point) -> bool
+    ensures { result ≡ is_in_range (moved p shift) }
 {
-    adds_up(p.x, d.x) && (adds_up(p.y, d.y) && adds_up(p.z, d.z))
+    adds_up(p.x, shift.x) && (adds_up(p.y, shift.y) && adds_up(p.z, shift.z))
 }
 
-/// The point p moved by d. `sum_in_range` tells whether it may be asked for.
-pub fn sum(p: Point, d: Point) -> Point
-    requires { IsInRange (moved p d) }
-    ensures { result ≡ moved p d }
+/// The point p moved by the shift. `sum_in_range` tells whether it may be asked for.
+pub fn sum(p: Point, shift: Point) -> Point
+    requires { IsInRange (moved p shift) }
+    ensures { result ≡ moved p shift }
 {
     Point {
-        x: p.x + d.x,
-        y: p.y + d.y,
-        z: p.z + d.z,
+        x: p.x + shift.x,
+        y: p.y + shift.y,
+        z: p.z + shift.z,
     }
 }
 
@@ -50,17 +50,17 @@ fn minor(a: i64, b: i64, c: i64, d: i64) -> i128
     i128::from(number)
 }
 
-/// The vector n, of numbers at most 10^25 in magnitude, plus the cross product of two points in range.
-pub fn cross_add(n: [i128; 3], p: Point, q: Point) -> [i128; 3]
-    requires n { IsVectorWithin normal_limit (vector_of n) }
+/// A vector, of numbers at most 10^25 in magnitude, plus the cross product of two points in range.
+pub fn cross_add(vector: [i128; 3], p: Point, q: Point) -> [i128; 3]
+    requires vector { IsVectorWithin normal_limit (vector_of vector) }
     requires p { IsInRange p }
     requires q { IsInRange q }
-    ensures { result ≡ numbers_of (moved (vector_of n) (cross p q)) }
+    ensures { result ≡ numbers_of (moved (vector_of vector) (cross p q)) }
 {
     [
-        n[0] + minor(p.y, p.z, q.y, q.z),
-        n[1] + minor(p.z, p.x, q.z, q.x),
-        n[2] + minor(p.x, p.y, q.x, q.y),
+        vector[0] + minor(p.y, p.z, q.y, q.z),
+        vector[1] + minor(p.z, p.x, q.z, q.x),
+        vector[2] + minor(p.x, p.y, q.x, q.y),
     ]
 }
 
@@ -75,13 +75,13 @@ fn scaled(a: i128, x: i64) -> i128
 }
 
 /// The sum of the products of the coordinates of p with the numbers of a vector, each at most 10^25 in magnitude.
-pub fn dot(n: [i128; 3], p: Point) -> i128
-    requires n { IsVectorWithin normal_limit (vector_of n) }
+pub fn dot(vector: [i128; 3], p: Point) -> i128
+    requires vector { IsVectorWithin normal_limit (vector_of vector) }
     requires p { IsInRange p }
-    ensures is { result ≡ dot (vector_of n) p }
+    ensures is { result ≡ dot (vector_of vector) p }
     ensures within { IsWithin 30000000000000000000000000000000000 result }
 {
-    let [a, b, c] = n;
+    let [a, b, c] = vector;
     let first = scaled(a, p.x) + scaled(b, p.y);
     first + scaled(c, p.z)
 }

@@ -36,9 +36,9 @@ pub(crate) fn lone_vertex(arena: &Arena, l: u32) -> u32
 }
 
 /// A number in use has its room. It does nothing: its contract is what is proved.
-pub(crate) fn in_use(arena: &Arena, kind: Kind, n: u32)
-    requires { has_number arena.now kind n ≡ true }
-    ensures { has_room arena.now kind n ≡ true }
+pub(crate) fn in_use(arena: &Arena, kind: Kind, number: u32)
+    requires { has_number arena.now kind number ≡ true }
+    ensures { has_room arena.now kind number ≡ true }
 {
-    prove!(arena.has(kind, n));
+    prove!(arena.has(kind, number));
 }

@@ -29,14 +29,14 @@ fn plane_of(a: i64, b: i64, c: i64, d: i64) -> Plane
     }
 }
 
-/// What the plane cuts of solid s, where it can begin to split s, whose upper part is to be solid t; and if it can't why.
-fn admit(alloc: Global, arena: &Arena, s: u32, plane: &Plane, t: u32) -> Result<Cuts, Failure>
+/// What the plane cuts of solid s, where it can begin to split s, whose upper part is to be solid `upper`; and if it can't why.
+fn admit(alloc: Global, arena: &Arena, s: u32, plane: &Plane, upper: u32) -> Result<Cuts, Failure>
     requires { IsReady arena.now }
-    ensures ok { OnOk result (CanBegin arena.now.model s plane.now t) }
+    ensures ok { OnOk result (CanBegin arena.now.model s plane.now upper) }
     ensures cuts { IfOk result (λ cuts. AreCuts arena.now.model plane.now s cuts) }
-    ensures refused { (refusal : Refusal) → (result ≡ Err (Failure.Refused refusal)) → (spec.split_refusal arena.now.model s plane.now t ≡ Some refusal) }
+    ensures refused { (refusal : Refusal) → (result ≡ Err (Failure.Refused refusal)) → (spec.split_refusal arena.now.model s plane.now upper ≡ Some refusal) }
 {
-    match check_begin(alloc, arena, s, plane, t) {
+    match check_begin(alloc, arena, s, plane, upper) {
         Ok(Ok(cuts)) => Ok(cuts),
         Ok(Err(refusal)) => Err(Failure::Refused(refusal)),
         Err(error) => Err(Failure::Memory(error)),
@@ -44,22 +44,22 @@ fn admit(alloc: Global, arena: &Arena, s: u32, plane: &Plane, t: u32) -> Result<
 }
 
 /// A split as one command: solid s keeps what is below the plane `a x + b y + c z + d = 0`, and what is above it, where that sum is
-/// positive, becomes solid t. A face that lies wholly on the plane stays in s where its normal points along (a, b, c), else it goes to
-/// t. Along the cycles of edges between the two, the edges of the section, both are closed by new faces: s keeps these edges and their
-/// vertices, and t gets copies.
+/// positive, becomes solid `upper`. A face that lies wholly on the plane stays in s where its normal points along (a, b, c), else it
+/// goes to `upper`. Along the cycles of edges between the two, the edges of the section, both are closed by new faces: s keeps these
+/// edges and their vertices, and `upper` gets copies.
 ///
-/// Refused, in this order: NumberRange with s, then t; NoSolid with s; SolidTaken with t; PlaneRange with 1 to 4 for the first of a, b,
-/// c and d that is out of range (1,000,000,000 either way, for d 3,000,000,000,000,000,000), or with 0 where a, b and c are zero;
-/// LoneLoop with the least lone loop of s; NotFlat with its least face that isn't flat; PlaneMisses with s where it has no vertex above
-/// the plane, or none below; NotLattice with the least edge that crosses the plane off the lattice; TouchedFace with the least face that
-/// straddles the plane and touches it at a corner that is no cut place; CutOften with the least of them whose outer loop has no cut
-/// place, or of which a ring has none while the face hasn't exactly two; CutCrossed with the least of them that has two cut places at
-/// one point, or, with the places in the order of their points, a pair that isn't one up and one down; NumbersSpent with 2, 3, 4 or 5
-/// where no numbers are left for the faces, loops, edges or vertices that cutting the edges and the faces takes. And once that is done:
-/// CutCrossed with the first face between whose cut places edges can't be drawn; BranchedVertex with the least vertex at which more
-/// than two edges of the section meet; SectionHoles with s where one of its cycles is a hole and not exactly one is outer; NumbersSpent
-/// with 2, 3, 4 or 5 where no numbers are left for closing the two. The tests take memory, and so do the steps: where it is refused
-/// `Memory` is answered, also in place of a refusal. On any failure the session is as it was. An accepted split leaves one
+/// Refused, in this order: NumberRange with s, then `upper`; NoSolid with s; SolidTaken with `upper`; PlaneRange with 1 to 4 for the
+/// first of a, b, c and d that is out of range (1,000,000,000 either way, for d 3,000,000,000,000,000,000), or with 0 where a, b and c
+/// are zero; LoneLoop with the least lone loop of s; NotFlat with its least face that isn't flat; PlaneMisses with s where it has no
+/// vertex above the plane, or none below; NotLattice with the least edge that crosses the plane off the lattice; TouchedFace with the
+/// least face that straddles the plane and touches it at a corner that is no cut place; CutOften with the least of them whose outer loop
+/// has no cut place, or of which a ring has none while the face hasn't exactly two; CutCrossed with the least of them that has two cut
+/// places at one point, or, with the places in the order of their points, a pair that isn't one up and one down; NumbersSpent with 2, 3,
+/// 4 or 5 where no numbers are left for the faces, loops, edges or vertices that cutting the edges and the faces takes. And once that is
+/// done: CutCrossed with the first face between whose cut places edges can't be drawn; BranchedVertex with the least vertex at which
+/// more than two edges of the section meet; SectionHoles with s where one of its cycles is a hole and not exactly one is outer;
+/// NumbersSpent with 2, 3, 4 or 5 where no numbers are left for closing the two. The tests take memory, and so do the steps: where it is
+/// refused `Memory` is answered, also in place of a refusal. On any failure the session is as it was. An accepted split leaves one
 /// record. What holds after Ok of volumes and sides is said by `splits_are_held`.
 ///
 /// The operators are those of M. Mäntylä, *An Introduction to Solid Modeling* (1988): one for each edge that crosses the plane, one for
@@ -74,16 +74,16 @@ pub fn split(
     b: i64,
     c: i64,
     d: i64,
-    t: u32,
+    upper: u32,
 ) -> (Session, Result<(), Failure>)
     ensures sound { Sound (held session.machine) }
-    ensures ok { OnOk result.1 ((split_refusal session.machine s (plane_with a b c d) t ≡ None) × (result.0.machine ≡ split session.machine s (plane_with a b c d) t)) }
+    ensures ok { OnOk result.1 ((split_refusal session.machine s (plane_with a b c d) upper ≡ None) × (result.0.machine ≡ split session.machine s (plane_with a b c d) upper)) }
     ensures recorded { OnOk result.1 (IsRecorded session result.0) }
-    ensures refused { (refusal : Refusal) → (result.1 ≡ Err (Failure.Refused refusal)) → (split_refusal session.machine s (plane_with a b c d) t ≡ Some refusal) }
+    ensures refused { (refusal : Refusal) → (result.1 ≡ Err (Failure.Refused refusal)) → (split_refusal session.machine s (plane_with a b c d) upper ≡ Some refusal) }
     ensures err { OnErr result.1 (result.0 ≡ session) }
 {
     let plane = plane_of(a, b, c, d);
-    let cuts = match admit(alloc, session.arena(), s, &plane, t) {
+    let cuts = match admit(alloc, session.arena(), s, &plane, upper) {
         Ok(cuts) => cuts,
         Err(failure) => return (session, Err(failure)),
     };
@@ -91,7 +91,7 @@ pub fn split(
         Ok(draft) => draft,
         Err((session, error)) => return (session, Err(Failure::Memory(error))),
     };
-    match carry_out(alloc, &mut draft, s, &plane, t, &cuts) {
+    match carry_out(alloc, &mut draft, s, &plane, upper, &cuts) {
         Ok(Ok(())) => (draft.commit(), Ok(())),
         Ok(Err(refusal)) => (draft.abandon(), Err(Failure::Refused(refusal))),
         Err(error) => (draft.abandon(), Err(Failure::Memory(error))),

@@ -16,43 +16,43 @@ use split_sections::{Section, check_later};
 use std::alloc::{AllocError, Global};
 use undo_journal::Draft;
 
-/// Opens solid s along its section once its faces are drawn, and parts what is above the plane as solid t. On `AllocError` some
+/// Opens solid s along its section once its faces are drawn, and parts what is above the plane as solid `upper`. On `AllocError` some
 /// steps may be taken.
 fn part_drawn(
     alloc: Global,
     draft: &mut Draft,
     s: u32,
     plane: &Plane,
-    t: u32,
+    upper: u32,
     drawn: &Progress,
     section: &Section,
 ) -> Result<(), AllocError>
-    requires drawn { IsDrawn (drawing_of drawn.now draft.old.model []) s plane.now t }
+    requires drawn { IsDrawn (drawing_of drawn.now draft.old.model []) s plane.now upper }
     requires section { IsSection draft.old.model s plane.now section.now }
-    ensures model { OnOk result (draft.new.model ≡ split_above (drawing_of drawn.now draft.old.model []) s plane.now t) }
+    ensures model { OnOk result (draft.new.model ≡ split_above (drawing_of drawn.now draft.old.model []) s plane.now upper) }
     ensures session { draft.new.session ≡ draft.old.session }
 {
     let caps = open_section(alloc, draft, s, plane, drawn, section)?;
     let above = section.above.as_slice();
-    part_upper(alloc, draft, s, t, above, caps.as_slice())
+    part_upper(alloc, draft, s, upper, above, caps.as_slice())
 }
 
 /// Splits solid s of the draft's model by the plane, where that can begin and these are its cuts: the edges that cross it are cut, the
-/// faces that straddle it are drawn, and then, where the solid can be opened along its section, what is above is parted as solid t. It
-/// tells the refusal where it can't. On a refusal or `AllocError` some steps may be taken.
+/// faces that straddle it are drawn, and then, where the solid can be opened along its section, what is above is parted as solid
+/// `upper`. It tells the refusal where it can't. On a refusal or `AllocError` some steps may be taken.
 fn take_steps(
     alloc: Global,
     draft: &mut Draft,
     s: u32,
     plane: &Plane,
-    t: u32,
+    upper: u32,
     cuts: &Cuts,
 ) -> Result<Result<(), Refusal>, AllocError>
     requires sound { Sound draft.old.model }
-    requires begins { CanBegin draft.old.model s plane.now t }
+    requires begins { CanBegin draft.old.model s plane.now upper }
     requires cuts { AreCuts draft.old.model plane.now s cuts.now }
-    ensures carried { IfOk result (λ carried. carried ≡ verdict (split_refusal draft.old.model s plane.now t)) }
-    ensures model { (result ≡ Ok (Ok tt)) → (draft.new.model ≡ split_model draft.old.model s plane.now t) }
+    ensures carried { IfOk result (λ carried. carried ≡ verdict (split_refusal draft.old.model s plane.now upper)) }
+    ensures model { (result ≡ Ok (Ok tt)) → (draft.new.model ≡ split_model draft.old.model s plane.now upper) }
     ensures session { draft.new.session ≡ draft.old.session }
 {
     let drawn = draw_solid(alloc, draft, s, plane, cuts)?;
@@ -60,7 +60,7 @@ fn take_steps(
         Ok(section) => section,
         Err(refusal) => return Ok(Err(refusal)),
     };
-    part_drawn(alloc, draft, s, plane, t, &drawn, &section)?;
+    part_drawn(alloc, draft, s, plane, upper, &drawn, &section)?;
     Ok(Ok(()))
 }
 
@@ -79,16 +79,16 @@ pub(crate) fn carry_out(
     draft: &mut Draft,
     s: u32,
     plane: &Plane,
-    t: u32,
+    upper: u32,
     cuts: &Cuts,
 ) -> Result<Result<(), Refusal>, AllocError>
     requires sound { Sound draft.old.model }
-    requires begins { CanBegin draft.old.model s plane.now t }
+    requires begins { CanBegin draft.old.model s plane.now upper }
     requires cuts { AreCuts draft.old.model plane.now s cuts.now }
-    ensures carried { IfOk result (λ carried. carried ≡ verdict (split_refusal draft.old.model s plane.now t)) }
-    ensures model { (result ≡ Ok (Ok tt)) → (draft.new.model ≡ split_model draft.old.model s plane.now t) }
+    ensures carried { IfOk result (λ carried. carried ≡ verdict (split_refusal draft.old.model s plane.now upper)) }
+    ensures model { (result ≡ Ok (Ok tt)) → (draft.new.model ≡ split_model draft.old.model s plane.now upper) }
     ensures session { draft.new.session ≡ draft.old.session }
 {
     draft.reserve(usual_steps(cuts))?;
-    take_steps(alloc, draft, s, plane, t, cuts)
+    take_steps(alloc, draft, s, plane, upper, cuts)
 }

@@ -207,15 +207,15 @@ pub fn drafts_leave_no_trace(draft: Draft) -> Session
 
 /// The record of each command has operators that are accepted in turn and lead from the model before it to the one after, and such that
 /// lead back.
-pub fn records_lead_forth_and_back(session: &Session, i: usize) -> &Record
-    requires { i < depth session.now.machine + ahead session.now.machine }
-    ensures exact { result.now ≡ slice_index_or session.now.records i result.now }
-    ensures forward_goes { AreAccepted (model_at session.now.machine i) result.now.forward }
-    ensures forward { effects (model_at session.now.machine i) result.now.forward ≡ model_at session.now.machine (i + 1) }
-    ensures back_goes { AreAccepted (model_at session.now.machine (i + 1)) result.now.back }
-    ensures back { effects (model_at session.now.machine (i + 1)) result.now.back ≡ model_at session.now.machine i }
+pub fn records_lead_forth_and_back(session: &Session, index: usize) -> &Record
+    requires { index < depth session.now.machine + ahead session.now.machine }
+    ensures exact { result.now ≡ slice_index_or session.now.records index result.now }
+    ensures forward_goes { AreAccepted (model_at session.now.machine index) result.now.forward }
+    ensures forward { effects (model_at session.now.machine index) result.now.forward ≡ model_at session.now.machine (index + 1) }
+    ensures back_goes { AreAccepted (model_at session.now.machine (index + 1)) result.now.back }
+    ensures back { effects (model_at session.now.machine (index + 1)) result.now.back ≡ model_at session.now.machine index }
 {
-    session.record(i)
+    session.record(index)
 }
 
 /// Six times the volume of a solid of the model held is answered exactly, and refused where the number is out of range or there is no such

@@ -73,20 +73,20 @@ impl<T: Copy> Cells<T> {
         self.count
     }
 
-    /// What cell n holds, which has been written.
-    pub fn get(&self, n: u32) -> T
-        requires { IsSome (slice_index_or self.now n None) }
-        ensures { slice_index_or self.now n None ≡ Some result }
+    /// What the cell of this number holds, which has been written.
+    pub fn get(&self, number: u32) -> T
+        requires { IsSome (slice_index_or self.now number None) }
+        ensures { slice_index_or self.now number None ≡ Some result }
     {
-        *self.places.get(self.base, n as usize)
+        *self.places.get(self.base, number as usize)
     }
 
-    /// Writes cell n.
-    pub fn put(&mut self, n: u32, value: T)
-        requires { n < length self.old }
-        ensures { self.new ≡ slice_set self.old n (Some value) }
+    /// Writes the cell of this number.
+    pub fn put(&mut self, number: u32, value: T)
+        requires { number < length self.old }
+        ensures { self.new ≡ slice_set self.old number (Some value) }
     {
-        self.places.write(self.base, n as usize, value);
+        self.places.write(self.base, number as usize, value);
     }
 }
 

@@ -56,36 +56,36 @@ impl Numbers {
         })
     }
 
-    /// Whether number n is in use.
-    pub fn contains(&self, n: u32) -> bool
-        ensures { result ≡ uses self.now n }
+    /// Whether the number is in use.
+    pub fn contains(&self, number: u32) -> bool
+        ensures { result ≡ uses self.now number }
     {
-        contains(&self.words, n)
+        contains(&self.words, number)
     }
 
-    /// Number n comes into use, which has its room. It writes one word, and a summary where the word was 0.
-    pub fn put(&mut self, n: u32)
-        requires { n / 64 < length self.old }
-        ensures uses { (q : ℕ) → uses self.new q ≡ cond (nat_eq q n) true (uses self.old q) }
+    /// The number comes into use, which has its room. It writes one word, and a summary where the word was 0.
+    pub fn put(&mut self, number: u32)
+        requires { number / 64 < length self.old }
+        ensures uses { (q : ℕ) → uses self.new q ≡ cond (nat_eq q number) true (uses self.old q) }
         ensures len { length self.new ≡ length self.old }
     {
-        put(&mut self.words, &mut self.summaries, n);
+        put(&mut self.words, &mut self.summaries, number);
     }
 
-    /// Number n goes out of use, which has its room. It writes one word, and a summary where the word is 0 then.
-    pub fn take(&mut self, n: u32)
-        requires { n / 64 < length self.old }
-        ensures uses { (q : ℕ) → uses self.new q ≡ cond (nat_eq q n) false (uses self.old q) }
+    /// The number goes out of use, which has its room. It writes one word, and a summary where the word is 0 then.
+    pub fn take(&mut self, number: u32)
+        requires { number / 64 < length self.old }
+        ensures uses { (q : ℕ) → uses self.new q ≡ cond (nat_eq q number) false (uses self.old q) }
         ensures len { length self.new ≡ length self.old }
     {
-        take(&mut self.words, &mut self.summaries, n);
+        take(&mut self.words, &mut self.summaries, number);
     }
 
-    /// The least number in use above n, or none. It looks at two words, and at the summaries from that of n on.
-    pub fn after(&self, n: u32) -> Option<u32>
-        ensures { IsNext (uses self.now) n result }
+    /// The least number in use above this one, or none. It looks at two words, and at the summaries from that of the number on.
+    pub fn after(&self, number: u32) -> Option<u32>
+        ensures { IsNext (uses self.now) number result }
     {
-        next(&self.words, &self.summaries, n)
+        next(&self.words, &self.summaries, number)
     }
 
     /// The greatest number in use, or 0 where none is. It looks at one word, and at the summaries from the last one down.
@@ -95,19 +95,19 @@ impl Numbers {
         last(&self.words, &self.summaries)
     }
 
-    /// Makes the room reach to number n. Where it does, this is one test, and no `Err` comes.
+    /// Makes the room reach to the number. Where it does, this is one test, and no `Err` comes.
     #[inline(always)]
-    pub fn reach(&mut self, n: u32) -> Result<(), AllocError>
-        requires { n ≤ 2000001 }
+    pub fn reach(&mut self, number: u32) -> Result<(), AllocError>
+        requires { number ≤ 2000001 }
         ensures same { (q : ℕ) → uses self.new q ≡ uses self.old q }
         ensures grows { length self.old ≤ length self.new }
-        ensures ok { OnOk result (n / 64 < length self.new) }
-        ensures known { n / 64 < length self.old → IsOk result }
+        ensures ok { OnOk result (number / 64 < length self.new) }
+        ensures known { number / 64 < length self.old → IsOk result }
     {
-        if ((n / WORD) as usize) < self.words.len() {
+        if ((number / WORD) as usize) < self.words.len() {
             return Ok(());
         }
-        self.widen(n)
+        self.widen(number)
     }
 
     /// Makes the room reach to number n, and on to the end of its step.
@@ -124,12 +124,12 @@ impl Numbers {
     }
 }
 
-/// Whether bit k of a word is set.
-fn is_set(word: u64, k: u32) -> bool
-    requires { k < 64 }
-    ensures { result ≡ is_set word k }
+/// Whether this bit of a word is set.
+fn is_set(word: u64, bit: u32) -> bool
+    requires { bit < 64 }
+    ensures { result ≡ is_set word bit }
 {
-    (word >> k) & 1 == 1
+    (word >> bit) & 1 == 1
 }
 
 /// The least bit of a word that is not 0.
@@ -152,64 +152,64 @@ fn highest(word: u64) -> u32
     63 - word.leading_zeros()
 }
 
-/// Whether number n is in use.
-fn contains(words: &[u64], n: u32) -> bool
-    ensures { result ≡ uses words.now n }
+/// Whether the number is in use.
+fn contains(words: &[u64], number: u32) -> bool
+    ensures { result ≡ uses words.now number }
 {
-    match words.get((n / WORD) as usize) {
-        Some(word) => is_set(*word, n % WORD),
+    match words.get((number / WORD) as usize) {
+        Some(word) => is_set(*word, number % WORD),
         None => false,
     }
 }
 
-/// Sets the bit of number n.
-fn set(words: &mut Vec<u64>, n: u32)
-    requires { n / 64 < length words.old.items }
-    ensures uses { (q : ℕ) → uses words.new.items q ≡ cond (nat_eq q n) true (uses words.old.items q) }
-    ensures others { (i : ℕ) → i ≢ n / 64 → word_at words.new.items i ≡ word_at words.old.items i }
+/// Sets the bit of the number.
+fn set(words: &mut Vec<u64>, number: u32)
+    requires { number / 64 < length words.old.items }
+    ensures uses { (q : ℕ) → uses words.new.items q ≡ cond (nat_eq q number) true (uses words.old.items q) }
+    ensures others { (i : ℕ) → i ≢ number / 64 → word_at words.new.items i ≡ word_at words.old.items i }
     ensures len { length words.new.items ≡ length words.old.items }
 {
-    let i = (n / WORD) as usize;
-    words[i] |= 1u64 << (n % WORD);
+    let i = (number / WORD) as usize;
+    words[i] |= 1u64 << (number % WORD);
 }
 
-/// Clears the bit of number n.
-fn clear(words: &mut Vec<u64>, n: u32)
-    requires { n / 64 < length words.old.items }
-    ensures uses { (q : ℕ) → uses words.new.items q ≡ cond (nat_eq q n) false (uses words.old.items q) }
-    ensures others { (i : ℕ) → i ≢ n / 64 → word_at words.new.items i ≡ word_at words.old.items i }
+/// Clears the bit of the number.
+fn clear(words: &mut Vec<u64>, number: u32)
+    requires { number / 64 < length words.old.items }
+    ensures uses { (q : ℕ) → uses words.new.items q ≡ cond (nat_eq q number) false (uses words.old.items q) }
+    ensures others { (i : ℕ) → i ≢ number / 64 → word_at words.new.items i ≡ word_at words.old.items i }
     ensures len { length words.new.items ≡ length words.old.items }
 {
-    let i = (n / WORD) as usize;
-    words[i] &= !(1u64 << (n % WORD));
+    let i = (number / WORD) as usize;
+    words[i] &= !(1u64 << (number % WORD));
 }
 
-/// Sets the bit of number n, and that of its word where the word was 0.
-fn put(words: &mut Vec<u64>, summaries: &mut Vec<u64>, n: u32)
-    requires room { n / 64 < length words.old.items }
+/// Sets the bit of the number, and that of its word where the word was 0.
+fn put(words: &mut Vec<u64>, summaries: &mut Vec<u64>, number: u32)
+    requires room { number / 64 < length words.old.items }
     requires summed { AreSummed words.old.items summaries.old.items }
     ensures summed { AreSummed words.new.items summaries.new.items }
-    ensures uses { (q : ℕ) → uses words.new.items q ≡ cond (nat_eq q n) true (uses words.old.items q) }
+    ensures uses { (q : ℕ) → uses words.new.items q ≡ cond (nat_eq q number) true (uses words.old.items q) }
     ensures len { length words.new.items ≡ length words.old.items }
 {
-    let i = n / WORD;
+    let i = number / WORD;
     let before = words[i as usize];
-    set(words, n);
+    set(words, number);
     if before == 0 {
         set(summaries, i);
     }
 }
 
-/// Clears the bit of number n, and that of its word where the word is 0 then.
-fn take(words: &mut Vec<u64>, summaries: &mut Vec<u64>, n: u32)
-    requires room { n / 64 < length words.old.items }
+/// Clears the bit of the number, and that of its word where the word is 0 then.
+fn take(words: &mut Vec<u64>, summaries: &mut Vec<u64>, number: u32)
+    requires room { number / 64 < length words.old.items }
     requires summed { AreSummed words.old.items summaries.old.items }
     ensures summed { AreSummed words.new.items summaries.new.items }
-    ensures uses { (q : ℕ) → uses words.new.items q ≡ cond (nat_eq q n) false (uses words.old.items q) }
+    ensures uses { (q : ℕ) → uses words.new.items q ≡ cond (nat_eq q number) false (uses words.old.items q) }
     ensures len { length words.new.items ≡ length words.old.items }
 {
-    let i = n / WORD;
-    clear(words, n);
+    let i = number / WORD;
+    clear(words, number);
     if words[i as usize] == 0 {
         clear(summaries, i);
     }
@@ -243,60 +243,61 @@ fn last_in(words: &[u64]) -> Option<u32>
     None
 }
 
-/// The least number in use of a word that has bits.
-fn first_of(words: &[u64], i: u32) -> u32
-    requires there { has_bits words.now i ≡ true }
+/// The least number in use of the word of this index, which has bits.
+fn first_of(words: &[u64], index: u32) -> u32
+    requires there { has_bits words.now index ≡ true }
     requires limit { length words.now ≤ 31264 }
-    ensures { IsFirstIn (uses words.now) (i * 64) ((i + 1) * 64) (Some result) }
+    ensures { IsFirstIn (uses words.now) (index * 64) ((index + 1) * 64) (Some result) }
 {
-    i * WORD + lowest(words[i as usize])
+    index * WORD + lowest(words[index as usize])
 }
 
-/// The greatest number in use of a word that has bits.
-fn last_of(words: &[u64], i: u32) -> u32
-    requires there { has_bits words.now i ≡ true }
+/// The greatest number in use of the word of this index, which has bits.
+fn last_of(words: &[u64], index: u32) -> u32
+    requires there { has_bits words.now index ≡ true }
     requires limit { length words.now ≤ 31264 }
-    ensures { IsLastIn (uses words.now) (i * 64) ((i + 1) * 64) (Some result) }
+    ensures { IsLastIn (uses words.now) (index * 64) ((index + 1) * 64) (Some result) }
 {
-    i * WORD + highest(words[i as usize])
+    index * WORD + highest(words[index as usize])
 }
 
-/// The least number in use above n, of those of its word.
-fn next_of(words: &[u64], n: u32) -> Option<u32>
-    requires there { n / 64 < length words.now }
+/// The least number in use above this one, of those of its word.
+fn next_of(words: &[u64], number: u32) -> Option<u32>
+    requires there { number / 64 < length words.now }
     requires limit { length words.now ≤ 31264 }
-    ensures { IsFirstIn (uses words.now) (n + 1) ((n / 64 + 1) * 64) result }
+    ensures { IsFirstIn (uses words.now) (number + 1) ((number / 64 + 1) * 64) result }
 {
-    let above = (words[(n / WORD) as usize] >> (n % WORD)) >> 1;
+    let above = (words[(number / WORD) as usize] >> (number % WORD)) >> 1;
     if above == 0 {
         return None;
     }
-    Some(n + 1 + lowest(above))
+    Some(number + 1 + lowest(above))
 }
 
-/// The least word above word i that has bits. It looks at the summary of i and at those above it.
-fn next_word(summaries: &[u64], i: u32) -> Option<u32>
-    requires there { i / 64 < length summaries.now }
+/// The index of the least word above this one that has bits. It looks at its summary and at those above it.
+fn next_word(summaries: &[u64], index: u32) -> Option<u32>
+    requires there { index / 64 < length summaries.now }
     requires limit { length summaries.now ≤ 489 }
-    ensures { IsNext (uses summaries.now) i result }
+    ensures { IsNext (uses summaries.now) index result }
 {
-    if let Some(found) = next_of(summaries, i) {
+    if let Some(found) = next_of(summaries, index) {
         return Some(found);
     }
-    let above = first_in(summaries, i / WORD + 1)?;
+    let above = first_in(summaries, index / WORD + 1)?;
     Some(first_of(summaries, above))
 }
 
-/// The least number in use above n. It looks at the word of n, at its summary and those above it, and at the word that has it.
-fn next(words: &[u64], summaries: &[u64], n: u32) -> Option<u32>
+/// The least number in use above this one. It looks at the word of the number, at its summary and those above it, and at the word that
+/// has it.
+fn next(words: &[u64], summaries: &[u64], number: u32) -> Option<u32>
     requires { AreSummed words.now summaries.now }
-    ensures { IsNext (uses words.now) n result }
+    ensures { IsNext (uses words.now) number result }
 {
-    let i = n / WORD;
+    let i = number / WORD;
     if words.len() <= i as usize {
         return None;
     }
-    if let Some(found) = next_of(words, n) {
+    if let Some(found) = next_of(words, number) {
         return Some(found);
     }
     let above = next_word(summaries, i)?;

@@ -55,30 +55,30 @@ impl<T: Copy> Rows<T> {
         })
     }
 
-    /// Row n, which is there.
-    pub fn known(&self, n: u32) -> T
-        requires { IsSome (row_at self.now n) }
-        ensures { row_at self.now n ≡ Some result }
+    /// The row of this number, which is there.
+    pub fn known(&self, number: u32) -> T
+        requires { IsSome (row_at self.now number) }
+        ensures { row_at self.now number ≡ Some result }
     {
-        self.cells.get(n)
+        self.cells.get(number)
     }
 
-    /// Row n, if it is there.
-    pub fn find(&self, n: u32) -> Option<T>
-        ensures { result ≡ row_at self.now n }
+    /// The row of this number, if it is there.
+    pub fn find(&self, number: u32) -> Option<T>
+        ensures { result ≡ row_at self.now number }
     {
-        if self.used.contains(n) {
-            Some(self.cells.get(n))
+        if self.used.contains(number) {
+            Some(self.cells.get(number))
         } else {
             None
         }
     }
 
-    /// Whether row n is there.
-    pub fn has(&self, n: u32) -> bool
-        ensures { result ≡ has_row self.now n }
+    /// Whether the row of this number is there.
+    pub fn has(&self, number: u32) -> bool
+        ensures { result ≡ has_row self.now number }
     {
-        self.used.contains(n)
+        self.used.contains(number)
     }
 
     /// The greatest number that has a row, or 0 where none has. It looks for it as `Numbers::last` does.
@@ -88,39 +88,39 @@ impl<T: Copy> Rows<T> {
         self.used.last()
     }
 
-    /// The least number above n that has a row, or none. It looks for it as `Numbers::after` does.
-    pub fn after(&self, n: u32) -> Option<u32>
-        ensures { IsNext (has_row self.now) n result }
+    /// The least number above this one that has a row, or none. It looks for it as `Numbers::after` does.
+    pub fn after(&self, number: u32) -> Option<u32>
+        ensures { IsNext (has_row self.now) number result }
     {
-        self.used.after(n)
+        self.used.after(number)
     }
 
-    /// Row n comes, or another one in its place. This is one step, and it walks over nothing.
-    pub fn put(&mut self, n: u32, row: T)
-        requires { n < length self.old }
-        ensures rows { (q : ℕ) → row_at self.new q ≡ cond (nat_eq q n) (Some row) (row_at self.old q) }
+    /// The row of this number comes, or another one in its place. This is one step, and it walks over nothing.
+    pub fn put(&mut self, number: u32, row: T)
+        requires { number < length self.old }
+        ensures rows { (q : ℕ) → row_at self.new q ≡ cond (nat_eq q number) (Some row) (row_at self.old q) }
         ensures len { length self.new ≡ length self.old }
     {
-        self.cells.put(n, row);
-        self.used.put(n);
+        self.cells.put(number, row);
+        self.used.put(number);
     }
 
-    /// Row n goes, if it is there. This is one step, and it walks over nothing.
-    pub fn take(&mut self, n: u32)
-        requires { n < length self.old }
-        ensures rows { (q : ℕ) → row_at self.new q ≡ cond (nat_eq q n) None (row_at self.old q) }
+    /// The row of this number goes, if it is there. This is one step, and it walks over nothing.
+    pub fn take(&mut self, number: u32)
+        requires { number < length self.old }
+        ensures rows { (q : ℕ) → row_at self.new q ≡ cond (nat_eq q number) None (row_at self.old q) }
         ensures len { length self.new ≡ length self.old }
     {
-        self.used.take(n);
+        self.used.take(number);
     }
 
-    /// Another row in the place of row n, which is there. It writes the row alone, where `put` also notes that the number is in use.
-    pub fn set(&mut self, n: u32, row: T)
-        requires { IsSome (row_at self.old n) }
-        ensures rows { (q : ℕ) → row_at self.new q ≡ cond (nat_eq q n) (Some row) (row_at self.old q) }
+    /// Another row for this number, which has one. It writes the row alone, where `put` also notes that the number is in use.
+    pub fn set(&mut self, number: u32, row: T)
+        requires { IsSome (row_at self.old number) }
+        ensures rows { (q : ℕ) → row_at self.new q ≡ cond (nat_eq q number) (Some row) (row_at self.old q) }
         ensures len { length self.new ≡ length self.old }
     {
-        self.cells.put(n, row);
+        self.cells.put(number, row);
     }
 
     /// How many numbers have their room, from 0 on.
@@ -130,47 +130,52 @@ impl<T: Copy> Rows<T> {
         self.room
     }
 
-    /// Whether number n, from 1 on, has its room.
-    pub fn reaches(&self, n: u32) -> bool
-        ensures { result ≡ nat_le 1 n && nat_le n (length self.now - 1) }
+    /// Whether the number, from 1 on, has its room.
+    pub fn reaches(&self, number: u32) -> bool
+        ensures { result ≡ nat_le 1 number && nat_le number (length self.now - 1) }
     {
-        n != 0 && n < self.room
+        number != 0 && number < self.room
     }
 
-    /// Makes the rows reach to number n. Where they do, this is one test, and no `Err` comes.
+    /// Makes the rows reach to the number. Where they do, this is one test, and no `Err` comes.
     #[inline(always)]
-    pub fn reach(&mut self, n: u32) -> Result<(), AllocError>
-        requires { n ≤ 2000001 }
+    pub fn reach(&mut self, number: u32) -> Result<(), AllocError>
+        requires { number ≤ 2000001 }
         ensures same { (q : ℕ) → row_at self.new q ≡ row_at self.old q }
         ensures grows { length self.old ≤ length self.new }
-        ensures limit { (k : ℕ) → n < k → length self.old ≤ k → length self.new ≤ k }
-        ensures ok { OnOk result (n < length self.new) }
-        ensures known { n < length self.old → IsOk result }
+        ensures limit { (k : ℕ) → number < k → length self.old ≤ k → length self.new ≤ k }
+        ensures ok { OnOk result (number < length self.new) }
+        ensures known { number < length self.old → IsOk result }
     {
-        if n < self.room {
+        if number < self.room {
             return Ok(());
         }
-        self.used.reach(n)?;
-        widen(&mut self.cells, &self.used, self.room, n)?;
-        self.room = n + 1;
+        self.used.reach(number)?;
+        widen(&mut self.cells, &self.used, self.room, number)?;
+        self.room = number + 1;
         Ok(())
     }
 }
 
-/// Makes the cells reach to number n. Those of the numbers in use stay as they are.
+/// Makes the cells reach to the number. Those of the numbers in use stay as they are.
 #[inline(always)]
-fn widen<T: Copy>(cells: &mut Cells<T>, used: &Numbers, room: u32, n: u32) -> Result<(), AllocError>
-    requires limit { n ≤ 2000001 }
+fn widen<T: Copy>(
+    cells: &mut Cells<T>,
+    used: &Numbers,
+    room: u32,
+    number: u32,
+) -> Result<(), AllocError>
+    requires limit { number ≤ 2000001 }
     requires fits { room ≤ length cells.old }
     requires written { (k : ℕ) → uses used.now k ≡ true → is_some (row_at cells.old k) ≡ true }
     ensures same { (k : ℕ) → k < room → uses used.now k ≡ true → row_at cells.new k ≡ row_at cells.old k }
     ensures fits { room ≤ length cells.new }
-    ensures ok { OnOk result (n < length cells.new) }
+    ensures ok { OnOk result (number < length cells.new) }
 {
-    if (n as usize) < cells.len() {
+    if (number as usize) < cells.len() {
         return Ok(());
     }
-    move_on(cells, used, room, n)
+    move_on(cells, used, room, number)
 }
 
 /// Moves the cells to a block that reaches to number n. Those of the numbers in use stay as they are.
@@ -227,30 +232,30 @@ fn copy_rows<T: Copy>(cells: &Cells<T>, used: &Numbers, room: u32, copy: &mut Ce
     }
 }
 
-/// Writes the cell of number n into another one, where the number is in use.
-fn copy_row<T: Copy>(cells: &Cells<T>, used: &Numbers, n: u32, copy: &mut Cells<T>)
-    requires room { n < length copy.old }
-    requires written { uses used.now n ≡ true → is_some (row_at cells.now n) ≡ true }
-    ensures same { uses used.now n ≡ true → row_at copy.new n ≡ row_at cells.now n }
-    ensures others { (k : ℕ) → k ≢ n → row_at copy.new k ≡ row_at copy.old k }
+/// Writes the cell of the number into another one, where the number is in use.
+fn copy_row<T: Copy>(cells: &Cells<T>, used: &Numbers, number: u32, copy: &mut Cells<T>)
+    requires room { number < length copy.old }
+    requires written { uses used.now number ≡ true → is_some (row_at cells.now number) ≡ true }
+    ensures same { uses used.now number ≡ true → row_at copy.new number ≡ row_at cells.now number }
+    ensures others { (k : ℕ) → k ≢ number → row_at copy.new k ≡ row_at copy.old k }
     ensures len { length copy.new ≡ length copy.old }
 {
-    if used.contains(n) {
-        copy.put(n, cells.get(n));
+    if used.contains(number) {
+        copy.put(number, cells.get(number));
     }
 }
 
-/// How many cells there are where number n has one. They are seldom more than needed by much, and where they are many they are all:
+/// How many cells there are where this number has one. They are seldom more than needed by much, and where they are many they are all:
 /// cells that aren't written cost no memory, and those that are need not move again.
-fn count_for(n: u32) -> usize
-    requires { n ≤ 2000001 }
-    ensures { n < result }
+fn count_for(number: u32) -> usize
+    requires { number ≤ 2000001 }
+    ensures { number < result }
 {
-    if n < 64 {
+    if number < 64 {
         64
-    } else if n < 1024 {
+    } else if number < 1024 {
         1024
-    } else if n < 16384 {
+    } else if number < 16384 {
         16384
     } else {
         2000002

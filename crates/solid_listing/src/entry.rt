@@ -131,19 +131,19 @@ fn write_loop<W: Write>(
 pub fn write_entry<W: Write>(
     arena: &Arena,
     kind: Kind,
-    n: u32,
+    number: u32,
     text: &mut Text,
     writer: &mut W,
 ) -> Result<(), WriteFault>
     requires sound { Sound arena.now.model }
-    requires there { has_number arena.now kind n ≡ true }
-    ensures { Tells (outgoing (W.contents writer.old) text.old) (outgoing (W.contents writer.new) text.new) (line_text (line arena.now.model kind n)) result }
+    requires there { has_number arena.now kind number ≡ true }
+    ensures { Tells (outgoing (W.contents writer.old) text.old) (outgoing (W.contents writer.new) text.new) (line_text (line arena.now.model kind number)) result }
 {
     match kind {
-        Kind::Solid => put_line(text, writer, b"solid", &[n]),
-        Kind::Face => write_face(arena, n, text, writer),
-        Kind::Loop => write_loop(arena, n, text, writer),
-        Kind::Edge => write_edge(arena, n, text, writer),
-        Kind::Vertex => write_vertex(arena, n, text, writer),
+        Kind::Solid => put_line(text, writer, b"solid", &[number]),
+        Kind::Face => write_face(arena, number, text, writer),
+        Kind::Loop => write_loop(arena, number, text, writer),
+        Kind::Edge => write_edge(arena, number, text, writer),
+        Kind::Vertex => write_vertex(arena, number, text, writer),
     }
 }

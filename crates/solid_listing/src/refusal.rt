@@ -65,13 +65,13 @@ fn refused_head(why: u32) -> Option<&'static [u8]>
 
 /// Writes a number and the end of its line, in one piece where the number has one digit.
 #[tactic(auto, using(std::proofs::lemmas::Fmt::decimal_digit))]
-fn put_last<W: Write>(text: &mut Text, writer: &mut W, n: u32) -> Result<(), WriteFault>
-    ensures { Tells (outgoing (W.contents writer.old) text.old) (outgoing (W.contents writer.new) text.new) (decimal n ++ 10 ∷ []) result }
+fn put_last<W: Write>(text: &mut Text, writer: &mut W, number: u32) -> Result<(), WriteFault>
+    ensures { Tells (outgoing (W.contents writer.old) text.old) (outgoing (W.contents writer.new) text.new) (decimal number ++ 10 ∷ []) result }
 {
-    if n < 10 {
-        return put(text, writer, &[b'0' + n as u8, b'\n']);
+    if number < 10 {
+        return put(text, writer, &[b'0' + number as u8, b'\n']);
     }
-    put_number(text, writer, n)?;
+    put_number(text, writer, number)?;
     put(text, writer, b"\n")
 }
 
@@ -80,12 +80,12 @@ fn put_value<W: Write>(
     text: &mut Text,
     writer: &mut W,
     head: &[u8],
-    n: u32,
+    number: u32,
 ) -> Result<(), WriteFault>
-    ensures { Tells (outgoing (W.contents writer.old) text.old) (outgoing (W.contents writer.new) text.new) (head.now ++ (decimal n ++ 10 ∷ [])) result }
+    ensures { Tells (outgoing (W.contents writer.old) text.old) (outgoing (W.contents writer.new) text.new) (head.now ++ (decimal number ++ 10 ∷ [])) result }
 {
     put(text, writer, head)?;
-    put_last(text, writer, n)
+    put_last(text, writer, number)
 }
 
 /// Writes the line of a refusal: the number of the condition that is false, and its value.

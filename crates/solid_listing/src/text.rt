@@ -12,24 +12,24 @@ use std::io::Write;
 pub fn put_number<W: Write, I: Integer>(
     text: &mut Text,
     writer: &mut W,
-    n: I,
+    number: I,
 ) -> Result<(), WriteFault>
-    ensures { Tells (outgoing (W.contents writer.old) text.old) (outgoing (W.contents writer.new) text.new) (I.text n) result }
+    ensures { Tells (outgoing (W.contents writer.old) text.old) (outgoing (W.contents writer.new) text.new) (I.text number) result }
 {
     let mut buffer = Buffer::new();
-    put(text, writer, buffer.format(n).as_bytes())
+    put(text, writer, buffer.format(number).as_bytes())
 }
 
 /// Writes a space and a number.
 pub fn put_spaced<W: Write, I: Integer>(
     text: &mut Text,
     writer: &mut W,
-    n: I,
+    number: I,
 ) -> Result<(), WriteFault>
-    ensures { Tells (outgoing (W.contents writer.old) text.old) (outgoing (W.contents writer.new) text.new) (32 ∷ I.text n) result }
+    ensures { Tells (outgoing (W.contents writer.old) text.old) (outgoing (W.contents writer.new) text.new) (32 ∷ I.text number) result }
 {
     put(text, writer, b" ")?;
-    put_number(text, writer, n)
+    put_number(text, writer, number)
 }
 
 /// Writes a word and the numbers that follow it.

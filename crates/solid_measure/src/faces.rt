@@ -48,15 +48,15 @@ fn outer_frame(arena: &Arena, f: u32) -> Frame
     }
 }
 
-/// The vector n, the sum over the face's outer loop, plus the cross products over the half-edges of its rings.
-fn rings_added(arena: &Arena, n: Vector, f: u32) -> Vector
+/// The vector, which is the sum over the face's outer loop, plus the cross products over the half-edges of its rings.
+fn rings_added(arena: &Arena, vector: Vector, f: u32) -> Vector
     requires ready { IsReady arena.now }
     requires there { has_number arena.now Kind.Face f ≡ true }
-    requires n { read n ≡ moved origin (area arena.now.model (items_of (content arena.now.model (outer arena.now.model f)))) }
+    requires vector { read vector ≡ moved origin (area arena.now.model (items_of (content arena.now.model (outer arena.now.model f)))) }
     ensures is { read result ≡ normal arena.now.model f }
     ensures within { IsVectorWithin area_limit (read result) }
 {
-    let mut sum = n;
+    let mut sum = vector;
     let mut last = 0;
     'rings: while let Some(ring) = arena.ring_after(f, last) {
         sum = loop_added(arena, sum, ring);

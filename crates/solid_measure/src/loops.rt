@@ -18,25 +18,25 @@ use euler_operators::{
 };
 use solid_walks::{Arena, finish, items_round, next_code, start, start_of_code};
 
-/// The vector n plus the cross product of two points.
-fn crossed(n: Vector, p: Point, q: Point) -> Vector
-    requires n { IsVectorWithin normal_limit (read n) }
+/// The vector plus the cross product of two points.
+fn crossed(vector: Vector, p: Point, q: Point) -> Vector
+    requires vector { IsVectorWithin normal_limit (read vector) }
     requires p { IsInRange p }
     requires q { IsInRange q }
-    ensures { read result ≡ moved (read n) (cross p q) }
+    ensures { read result ≡ moved (read vector) (cross p q) }
 {
-    let [x, y, z] = cross_add([n.x, n.y, n.z], p, q);
+    let [x, y, z] = cross_add([vector.x, vector.y, vector.z], p, q);
     Vector { x, y, z }
 }
 
-/// The vector n plus the cross product of the points at which the half-edge starts and ends.
-pub fn half_added(arena: &Arena, n: Vector, h: HalfEdge) -> Vector
+/// The vector plus the cross product of the points at which the half-edge starts and ends.
+pub fn half_added(arena: &Arena, vector: Vector, h: HalfEdge) -> Vector
     requires ready { IsReady arena.now }
     requires there { has_half arena.now.model (code h) ≡ true }
-    requires n { IsVectorWithin normal_limit (read n) }
-    ensures { read result ≡ moved (read n) (cross (start arena.now.model (code h)) (finish arena.now.model (code h))) }
+    requires vector { IsVectorWithin normal_limit (read vector) }
+    ensures { read result ≡ moved (read vector) (cross (start arena.now.model (code h)) (finish arena.now.model (code h))) }
 {
-    crossed(n, start(arena, h), finish(arena, h))
+    crossed(vector, start(arena, h), finish(arena, h))
 }
 
 /// What a walk round a loop finds.
@@ -48,18 +48,18 @@ pub(crate) struct Round {
     pub(crate) least: u32,
 }
 
-/// Walks once round loop l, in which `first` stands: the vector n plus the cross products over its half-edges, and its first item. Each
+/// Walks once round loop l, in which `first` stands: the vector plus the cross products over its half-edges, and its first item. Each
 /// point is looked up once, since a half-edge ends where the next one starts.
-pub(crate) fn walk_round(arena: &Arena, n: Vector, l: u32, first: HalfEdge) -> Round
+pub(crate) fn walk_round(arena: &Arena, vector: Vector, l: u32, first: HalfEdge) -> Round
     requires ready { IsReady arena.now }
-    requires n { IsVectorWithin area_limit (read n) }
+    requires vector { IsVectorWithin area_limit (read vector) }
     requires item { IsIn (code first) (items_of (content arena.now.model l)) }
-    ensures sum { read result.sum ≡ moved (read n) (area arena.now.model (items_of (content arena.now.model l))) }
+    ensures sum { read result.sum ≡ moved (read vector) (area arena.now.model (items_of (content arena.now.model l))) }
     ensures least { result.least ≡ head_or 0 (items_of (content arena.now.model l)) }
     ensures there { has_half arena.now.model result.least ≡ true }
 {
     let begin = first.code();
-    let mut sum = n;
+    let mut sum = vector;
     let mut least = begin;
     let mut code = begin;
     let mut from = start_of_code(arena, begin);
@@ -77,16 +77,16 @@ pub(crate) fn walk_round(arena: &Arena, n: Vector, l: u32, first: HalfEdge) -> R
     Round { sum, least }
 }
 
-/// The vector n plus the cross products over the half-edges of the loop.
-pub(crate) fn loop_added(arena: &Arena, n: Vector, l: u32) -> Vector
+/// The vector plus the cross products over the half-edges of the loop.
+pub(crate) fn loop_added(arena: &Arena, vector: Vector, l: u32) -> Vector
     requires ready { IsReady arena.now }
     requires there { has_number arena.now Kind.Loop l ≡ true }
-    requires n { IsVectorWithin area_limit (read n) }
-    ensures { read result ≡ moved (read n) (area arena.now.model (items_of (content arena.now.model l))) }
+    requires vector { IsVectorWithin area_limit (read vector) }
+    ensures { read result ≡ moved (read vector) (area arena.now.model (items_of (content arena.now.model l))) }
 {
     match arena.content(l) {
-        Content::Lone(_) => n,
-        Content::Ring(first) => walk_round(arena, n, l, first).sum,
+        Content::Lone(_) => vector,
+        Content::Ring(first) => walk_round(arena, vector, l, first).sum,
     }
 }
 

@@ -3,10 +3,10 @@ ghost use Rattle.std.specs.Prelude.{◌≡◌};
 ghost use Rattle.solid_walks.specs.Least.{lesser};
 
 /// The lesser of two numbers; of one alone, that one.
-pub fn lesser(m: Option<u32>, n: Option<u32>) -> Option<u32>
-    ensures { result ≡ lesser m n }
+pub fn lesser(one: Option<u32>, other: Option<u32>) -> Option<u32>
+    ensures { result ≡ lesser one other }
 {
-    match (m, n) {
+    match (one, other) {
         (Some(m), Some(n)) => { if m <= n { Some(m) } else { Some(n) } }
         (Some(m), None) => Some(m),
         (None, n) => n,

@@ -27,12 +27,12 @@ const NO_CORNER: Tally = Tally {
 
 /// The tally of one corner.
 #[tactic(auto, unfolding(crate::specs::Corners::tally))]
-fn corner_tally(arena: &Arena, d: Point, v: u32) -> Tally
+fn corner_tally(arena: &Arena, shift: Point, v: u32) -> Tally
     requires ready { IsReady arena.now }
     requires there { has_number arena.now Kind.Vertex v ≡ true }
-    ensures { result ≡ tally arena.now.model d (v ∷ []) }
+    ensures { result ≡ tally arena.now.model shift (v ∷ []) }
 {
-    let far = if sum_in_range(arena.point(v), d) {
+    let far = if sum_in_range(arena.point(v), shift) {
         None
     } else {
         Some(v)
@@ -41,12 +41,12 @@ fn corner_tally(arena: &Arena, d: Point, v: u32) -> Tally
 }
 
 /// The tally of the corner at which a half-edge starts.
-fn item_tally(arena: &Arena, d: Point, item: HalfEdge) -> Tally
+fn item_tally(arena: &Arena, shift: Point, item: HalfEdge) -> Tally
     requires ready { IsReady arena.now }
     requires there { has_half arena.now.model (code item) ≡ true }
-    ensures { result ≡ tally arena.now.model d (tail arena.now.model (code item) ∷ []) }
+    ensures { result ≡ tally arena.now.model shift (tail arena.now.model (code item) ∷ []) }
 {
-    corner_tally(arena, d, arena.tail(item))
+    corner_tally(arena, shift, arena.tail(item))
 }
 
 /// The tally of some corners and then others.
@@ -61,34 +61,34 @@ fn joined(a: Tally, b: Tally) -> Tally
 }
 
 /// The tally of the corners of the loop in which h stands.
-fn ring_tally(arena: &Arena, d: Point, h: HalfEdge) -> Tally
+fn ring_tally(arena: &Arena, shift: Point, h: HalfEdge) -> Tally
     requires ready { IsReady arena.now }
     requires there { has_half arena.now.model (code h) ≡ true }
-    ensures { result ≡ tally arena.now.model d (map (tail arena.now.model) (cycle_of arena.now.model (code h))) }
+    ensures { result ≡ tally arena.now.model shift (map (tail arena.now.model) (cycle_of arena.now.model (code h))) }
 {
     items_of(arena, h).fold(
         NO_CORNER,
-        |met, item| joined(met, item_tally(arena, d, item)),
+        |met, item| joined(met, item_tally(arena, shift, item)),
     )
 }
 
 /// The tally of the corners of loop l.
-fn loop_tally(arena: &Arena, d: Point, l: u32) -> Tally
+fn loop_tally(arena: &Arena, shift: Point, l: u32) -> Tally
     requires ready { IsReady arena.now }
     requires there { has_number arena.now Kind.Loop l ≡ true }
-    ensures { result ≡ tally arena.now.model d (vertices_on arena.now.model (content arena.now.model l)) }
+    ensures { result ≡ tally arena.now.model shift (vertices_on arena.now.model (content arena.now.model l)) }
 {
     match arena.content(l) {
-        Content::Lone(v) => corner_tally(arena, d, v),
-        Content::Ring(h) => ring_tally(arena, d, h),
+        Content::Lone(v) => corner_tally(arena, shift, v),
+        Content::Ring(h) => ring_tally(arena, shift, h),
     }
 }
 
 /// The tally of the corners of face f: those of its outer loop, and then those of its rings, rising.
-pub(crate) fn face_tally(arena: &Arena, d: Point, f: u32) -> Tally
+pub(crate) fn face_tally(arena: &Arena, shift: Point, f: u32) -> Tally
     requires ready { IsReady arena.now }
     requires there { has_number arena.now Kind.Face f ≡ true }
-    ensures { result ≡ tally arena.now.model d (corners arena.now.model f) }
+    ensures { result ≡ tally arena.now.model shift (corners arena.now.model f) }
 {
-    loops_of(arena, f).fold(NO_CORNER, |met, l| joined(met, loop_tally(arena, d, l)))
+    loops_of(arena, f).fold(NO_CORNER, |met, l| joined(met, loop_tally(arena, shift, l)))
 }

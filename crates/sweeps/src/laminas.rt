@@ -102,12 +102,12 @@ fn check_lamina(
     check_left(taken, 2, 2, count, count)
 }
 
-/// Point i of some points.
-fn point_at(points: &[Point], i: usize) -> Point
-    requires { i < length points.now }
-    ensures { result ≡ get_or points.now i no_point }
+/// The point of this index, of some points.
+fn point_at(points: &[Point], index: usize) -> Point
+    requires { index < length points.now }
+    ensures { result ≡ get_or points.now index no_point }
 {
-    points[i]
+    points[index]
 }
 
 /// Draws a lamina whose conditions hold: its operators, one after the other. Where memory is refused the draft holds what was

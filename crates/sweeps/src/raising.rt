@@ -24,28 +24,28 @@ use solid_walks::{Counters, items_from, rings_of, some_item};
 use std::alloc::{AllocError, Global};
 use undo_journal::Draft;
 
-/// The edge that rises at item i of a loop.
-fn riser(taken: &Counters, i: u32) -> u32
-    requires { taken.now.edges + 2 * i + 1 ≤ 1000000 }
-    ensures { result ≡ prism.riser taken.now.edges i }
+/// The edge that rises at the item at this place of a loop.
+fn riser(taken: &Counters, at: u32) -> u32
+    requires { taken.now.edges + 2 * at + 1 ≤ 1000000 }
+    ensures { result ≡ prism.riser taken.now.edges at }
 {
-    if i == 0 {
+    if at == 0 {
         taken.edges + 1
     } else {
-        taken.edges + 2 * i
+        taken.edges + 2 * at
     }
 }
 
-/// The edge over item i of a loop of so many items.
-fn top_edge(taken: &Counters, count: u32, i: u32) -> u32
-    requires inside { i < count }
+/// The edge over the item at this place of a loop of so many items.
+fn top_edge(taken: &Counters, count: u32, at: u32) -> u32
+    requires inside { at < count }
     requires left { taken.now.edges + 2 * count ≤ 1000000 }
-    ensures { result ≡ prism.top_edge taken.now.edges count i }
+    ensures { result ≡ prism.top_edge taken.now.edges count at }
 {
-    if i + 1 == count {
+    if at + 1 == count {
         taken.edges + 2 * count
     } else {
-        taken.edges + 2 * i + 3
+        taken.edges + 2 * at + 3
     }
 }
 
@@ -59,43 +59,43 @@ fn loop_items(alloc: Global, arena: &Arena, l: u32) -> Result<Vec<HalfEdge>, All
     items_from(alloc, arena, some_item(arena, l))
 }
 
-/// Raises an item, the one at place i of its loop: a new edge rises from its start to the moved point.
+/// Raises an item, the one at this place of its loop: a new edge rises from its start to the moved point.
 fn raise_item(
     draft: &mut Draft,
     taken: &Counters,
     item: HalfEdge,
-    i: u32,
-    d: Point,
+    at: u32,
+    shift: Point,
 ) -> Result<(), AllocError>
     requires there { has_half draft.old.model (code item) ≡ true }
-    requires edge_left { taken.now.edges + 2 * i + 1 ≤ 1000000 }
-    requires vertex_left { taken.now.vertices + 1 + i ≤ 1000000 }
-    requires range { IsInRange (moved (start draft.old.model (code item)) d) }
-    requires accepted { first_false draft.old.model (ops.raise_item draft.old.model (taken_of taken.now) d (code item) i) ≡ None }
-    ensures ok { OnOk result (draft.new ≡ after_step draft.old (ops.raise_item draft.old.model (taken_of taken.now) d (code item) i)) }
+    requires edge_left { taken.now.edges + 2 * at + 1 ≤ 1000000 }
+    requires vertex_left { taken.now.vertices + 1 + at ≤ 1000000 }
+    requires range { IsInRange (moved (start draft.old.model (code item)) shift) }
+    requires accepted { first_false draft.old.model (ops.raise_item draft.old.model (taken_of taken.now) shift (code item) at) ≡ None }
+    ensures ok { OnOk result (draft.new ≡ after_step draft.old (ops.raise_item draft.old.model (taken_of taken.now) shift (code item) at)) }
     ensures err { OnErr result (draft.new ≡ draft.old) }
 {
     let arena = draft.arena();
-    let top = sum(arena.point(arena.tail(item)), d);
-    let edge = HalfEdge::plus(riser(taken, i));
-    let vertex = taken.vertices + 1 + i;
+    let top = sum(arena.point(arena.tail(item)), shift);
+    let edge = HalfEdge::plus(riser(taken, at));
+    let vertex = taken.vertices + 1 + at;
     draft.step_accepted(Op::Mev(Corner::At(item), Corner::At(item), edge, vertex, top))
 }
 
-/// Closes the side over item i of a loop, between the edges that rise at it and at the next.
-fn close_side(draft: &mut Draft, taken: &Counters, count: u32, i: u32) -> Result<(), AllocError>
-    requires inside { i + 1 < count }
+/// Closes the side over the item at this place of a loop, between the edges that rise at it and at the next.
+fn close_side(draft: &mut Draft, taken: &Counters, count: u32, at: u32) -> Result<(), AllocError>
+    requires inside { at + 1 < count }
     requires faces_left { taken.now.faces + count ≤ 1000000 }
     requires loops_left { taken.now.loops + count ≤ 1000000 }
     requires edges_left { taken.now.edges + 2 * count ≤ 1000000 }
-    requires accepted { first_false draft.old.model (ops.close (taken_of taken.now) count i) ≡ None }
-    ensures ok { OnOk result (draft.new ≡ after_step draft.old (ops.close (taken_of taken.now) count i)) }
+    requires accepted { first_false draft.old.model (ops.close (taken_of taken.now) count at) ≡ None }
+    ensures ok { OnOk result (draft.new ≡ after_step draft.old (ops.close (taken_of taken.now) count at)) }
     ensures err { OnErr result (draft.new ≡ draft.old) }
 {
-    let from = HalfEdge::minus(riser(taken, i));
-    let to = HalfEdge::minus(riser(taken, i + 1));
-    let top = HalfEdge::plus(top_edge(taken, count, i));
-    draft.step_accepted(Op::Mef(from, to, top, taken.faces + 1 + i, taken.loops + 1 + i))
+    let from = HalfEdge::minus(riser(taken, at));
+    let to = HalfEdge::minus(riser(taken, at + 1));
+    let top = HalfEdge::plus(top_edge(taken, count, at));
+    draft.step_accepted(Op::Mef(from, to, top, taken.faces + 1 + at, taken.loops + 1 + at))
 }
 
 /// Closes the side over the last item of a loop, up to the first top edge.
@@ -137,12 +137,12 @@ fn counted_on(taken: &Counters, count: u32) -> Counters
     }
 }
 
-/// The half-edge at place i of some.
-fn item_at(items: &[HalfEdge], i: usize) -> HalfEdge
-    requires { i < length items.now }
-    ensures { result ≡ get_or items.now i result }
+/// The half-edge of this index, of some.
+fn item_at(items: &[HalfEdge], index: usize) -> HalfEdge
+    requires { index < length items.now }
+    ensures { result ≡ get_or items.now index result }
 {
-    items[i]
+    items[index]
 }
 
 /// Sweeps the loop that holds these half-edges, in the order of listings. On `AllocError` the draft may have taken some steps.
@@ -150,17 +150,23 @@ pub(crate) fn raise_items(
     draft: &mut Draft,
     taken: &Counters,
     items: &[HalfEdge],
-    d: Point,
+    shift: Point,
 ) -> Result<(), AllocError>
-    requires { CanRise draft.old.model (taken_of taken.now) d (map code items.now) }
-    ensures model { OnOk result (draft.new.model ≡ effects draft.old.model (ops.loop_ops draft.old.model (taken_of taken.now) d (map code items.now))) }
+    requires { CanRise draft.old.model (taken_of taken.now) shift (map code items.now) }
+    ensures model { OnOk result (draft.new.model ≡ effects draft.old.model (ops.loop_ops draft.old.model (taken_of taken.now) shift (map code items.now))) }
     ensures session { draft.new.session ≡ draft.old.session }
 {
     let count = items.len() as u32;
-    raise_item(draft, taken, item_at(items, 0), 0, d)?;
+    raise_item(draft, taken, item_at(items, 0), 0, shift)?;
     let mut done = 0;
     'items: while done + 1 < count {
-        raise_item(draft, taken, item_at(items, done as usize + 1), done + 1, d)?;
+        raise_item(
+            draft,
+            taken,
+            item_at(items, done as usize + 1),
+            done + 1,
+            shift,
+        )?;
         close_side(draft, taken, count, done)?;
         done += 1;
     }
@@ -173,38 +179,38 @@ fn raise_loop(
     draft: &mut Draft,
     taken: &Counters,
     l: u32,
-    d: Point,
+    shift: Point,
 ) -> Result<Counters, AllocError>
-    requires { Ready draft.old.model (taken_of taken.now) (face_of draft.old.model l) l d (items_of (content draft.old.model l)) }
+    requires { Ready draft.old.model (taken_of taken.now) (face_of draft.old.model l) l shift (items_of (content draft.old.model l)) }
     ensures counters { IfOk result (λ after. taken_of after ≡ ops.taken_after (taken_of taken.now) (length (items_of (content draft.old.model l)))) }
-    ensures model { OnOk result (draft.new.model ≡ effects draft.old.model (ops.loop_ops draft.old.model (taken_of taken.now) d (items_of (content draft.old.model l)))) }
+    ensures model { OnOk result (draft.new.model ≡ effects draft.old.model (ops.loop_ops draft.old.model (taken_of taken.now) shift (items_of (content draft.old.model l)))) }
     ensures session { draft.new.session ≡ draft.old.session }
 {
     let items = loop_items(alloc, draft.arena(), l)?;
-    raise_items(draft, taken, items.as_slice(), d)?;
+    raise_items(draft, taken, items.as_slice(), shift)?;
     Ok(counted_on(taken, items.len() as u32))
 }
 
-/// Sweeps face f of the draft's model along d, where that isn't refused. On `AllocError` the draft may have taken some steps.
+/// Sweeps face f of the draft's model by the shift, where that isn't refused. On `AllocError` the draft may have taken some steps.
 pub(crate) fn raise(
     alloc: Global,
     draft: &mut Draft,
     taken: &Counters,
     f: u32,
-    d: Point,
+    shift: Point,
 ) -> Result<(), AllocError>
     requires taken { taken_of taken.now ≡ taken_in draft.old.model }
-    requires accepted { prism_refusal draft.old.model f d ≡ None }
-    ensures model { OnOk result (draft.new.model ≡ prism_model draft.old.model f d) }
+    requires accepted { prism_refusal draft.old.model f shift ≡ None }
+    ensures model { OnOk result (draft.new.model ≡ prism_model draft.old.model f shift) }
     ensures session { draft.new.session ≡ draft.old.session }
 {
     let arena = draft.arena();
     let outer = arena.outer(f);
     let rings: Vec<u32> = rings_of(arena, f).collect(alloc)?;
-    let mut taken = raise_loop(alloc, draft, taken, outer, d)?;
+    let mut taken = raise_loop(alloc, draft, taken, outer, shift)?;
     let mut rest = rings.as_slice();
     'rings: while let [ring, others @ ..] = rest {
-        taken = raise_loop(alloc, draft, &taken, *ring, d)?;
+        taken = raise_loop(alloc, draft, &taken, *ring, shift)?;
         rest = others;
     }
     Ok(())

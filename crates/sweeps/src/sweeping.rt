@@ -19,22 +19,22 @@ use std::alloc::Global;
 use undo_journal::{Draft, Failure, Session};
 
 /// Whether a vector is zero.
-fn is_zero(d: Point) -> bool
-    ensures { result ≡ same_point d origin }
+fn is_zero(shift: Point) -> bool
+    ensures { result ≡ same_point shift origin }
 {
-    d.x == 0 && (d.y == 0 && d.z == 0)
+    shift.x == 0 && (shift.y == 0 && shift.z == 0)
 }
 
-/// Whether face f can be swept along d.
+/// Whether face f can be swept by the shift.
 ///
 /// Refused, in this order: NumberRange; NoFace; ZeroSweep with the face; LoneLoop with the least lone loop of the face; PointRange
 /// with the vertex of the first corner whose moved point is out of range; NumbersSpent with 2 for faces, 3 for loops, 4 for edges,
 /// 5 for vertices.
 #[tactic(auto, unfolding(shapes::specs::Prism::prism_conditions, crate::specs::Corners::tally))]
-fn check_sweep(arena: &Arena, taken: Counters, f: u32, d: Point) -> Result<(), Refusal>
+fn check_sweep(arena: &Arena, taken: Counters, f: u32, shift: Point) -> Result<(), Refusal>
     requires ready { IsReady arena.now }
     requires taken { taken_of taken ≡ taken_in arena.now.model }
-    ensures { result ≡ verdict (prism_refusal arena.now.model f d) }
+    ensures { result ≡ verdict (prism_refusal arena.now.model f shift) }
 {
     if !is_number(f) {
         return refused(Why::NumberRange, f);
@@ -42,13 +42,13 @@ fn check_sweep(arena: &Arena, taken: Counters, f: u32, d: Point) -> Result<(), R
     if !arena.has(Kind::Face, f) {
         return refused(Why::NoFace, f);
     }
-    if is_zero(d) {
+    if is_zero(shift) {
         return refused(Why::ZeroSweep, f);
     }
     if let Some(l) = least_lone_of_face(arena, f) {
         return refused(Why::LoneLoop, l);
     }
-    let tally = face_tally(arena, d, f);
+    let tally = face_tally(arena, shift, f);
     if let Some(v) = tally.far {
         return refused(Why::PointRange, v);
     }
@@ -56,29 +56,34 @@ fn check_sweep(arena: &Arena, taken: Counters, f: u32, d: Point) -> Result<(), R
     check_left(taken, count, count, 2 * count, count)
 }
 
-/// A sweep as one command: face f moves along d. At each corner of its loops a new edge rises to a new vertex, and each edge of
-/// its loops gets a side face. Face f keeps its number and is the far face, with the new edges between the new vertices.
+/// A sweep as one command: face f moves by the shift. At each corner of its loops a new edge rises to a new vertex, and each edge of its
+/// loops gets a side face. Face f keeps its number and is the far face, with the new edges between the new vertices.
 ///
 /// Refused, in this order: NumberRange; NoFace; ZeroSweep with the face; LoneLoop with the least lone loop of the face; PointRange
 /// with the vertex of the first corner whose moved point is out of range, in the order of the outer loop and then the rings,
 /// rising; NumbersSpent with 2 for faces, 3 for loops, 4 for edges, 5 for vertices. Where memory is refused `Memory` is answered.
 /// On any failure the session is as it was. An accepted sweep leaves one record.
-pub fn sweep(alloc: Global, session: Session, f: u32, d: Point) -> (Session, Result<(), Failure>)
-    ensures ok { OnOk result.1 ((sweep_refusal session.machine f d ≡ None) × (result.0.machine ≡ sweep session.machine f d)) }
+pub fn sweep(
+    alloc: Global,
+    session: Session,
+    f: u32,
+    shift: Point,
+) -> (Session, Result<(), Failure>)
+    ensures ok { OnOk result.1 ((sweep_refusal session.machine f shift ≡ None) × (result.0.machine ≡ sweep session.machine f shift)) }
     ensures recorded { OnOk result.1 (IsRecorded session result.0) }
-    ensures refused { (refusal : Refusal) → ((result.1 ≡ Err (Failure.Refused refusal)) ↔ (sweep_refusal session.machine f d ≡ Some refusal)) }
+    ensures refused { (refusal : Refusal) → ((result.1 ≡ Err (Failure.Refused refusal)) ↔ (sweep_refusal session.machine f shift ≡ Some refusal)) }
     ensures err { OnErr result.1 (result.0 ≡ session) }
 {
     let arena = session.arena();
     let taken = counters_of(arena);
-    if let Err(refusal) = check_sweep(arena, taken, f, d) {
+    if let Err(refusal) = check_sweep(arena, taken, f, shift) {
         return (session, Err(Failure::Refused(refusal)));
     }
     let mut draft = match Draft::open(session) {
         Ok(draft) => draft,
         Err((session, error)) => return (session, Err(Failure::Memory(error))),
     };
-    match raise(alloc, &mut draft, &taken, f, d) {
+    match raise(alloc, &mut draft, &taken, f, shift) {
         Ok(()) => (draft.commit(), Ok(())),
         Err(error) => (draft.abandon(), Err(Failure::Memory(error))),
     }

@@ -60,12 +60,12 @@ impl OpList {
         self.as_slice().len()
     }
 
-    /// The operator at place i, counted from 0.
-    pub fn get(&self, i: usize) -> &Op
-        requires { i < length self.now }
-        ensures { result.now ≡ slice_index_or self.now i result.now }
+    /// The operator of this index, counted from 0.
+    pub fn get(&self, index: usize) -> &Op
+        requires { index < length self.now }
+        ensures { result.now ≡ slice_index_or self.now index result.now }
     {
-        &self.as_slice()[i]
+        &self.as_slice()[index]
     }
 }
 

@@ -104,16 +104,16 @@ impl Session {
         self.records.len() - self.place
     }
 
-    /// The record of command i, counted from 0. Each of its operators is accepted in its turn.
-    pub fn record(&self, i: usize) -> &Record
-        requires { i < depth self.now.machine + ahead self.now.machine }
-        ensures exact { result.now ≡ slice_index_or self.now.records i result.now }
-        ensures forward_goes { AreAccepted (model_at self.now.machine i) result.now.forward }
-        ensures forward { effects (model_at self.now.machine i) result.now.forward ≡ model_at self.now.machine (i + 1) }
-        ensures back_goes { AreAccepted (model_at self.now.machine (i + 1)) result.now.back }
-        ensures back { effects (model_at self.now.machine (i + 1)) result.now.back ≡ model_at self.now.machine i }
+    /// The record of the command of this index, counted from 0. Each of its operators is accepted in its turn.
+    pub fn record(&self, index: usize) -> &Record
+        requires { index < depth self.now.machine + ahead self.now.machine }
+        ensures exact { result.now ≡ slice_index_or self.now.records index result.now }
+        ensures forward_goes { AreAccepted (model_at self.now.machine index) result.now.forward }
+        ensures forward { effects (model_at self.now.machine index) result.now.forward ≡ model_at self.now.machine (index + 1) }
+        ensures back_goes { AreAccepted (model_at self.now.machine (index + 1)) result.now.back }
+        ensures back { effects (model_at self.now.machine (index + 1)) result.now.back ≡ model_at self.now.machine index }
     {
-        &self.records[i]
+        &self.records[index]
     }
 
     /// Applies an operator and records it in the place of those ahead. On `AllocError` nothing has changed.

@@ -55,43 +55,43 @@ impl Chains {
         head_of(&self.heads, owner).count
     }
 
-    /// The least item of an owner above n, or none. Where n is 0, an item of the owner or past the room, this is one step; else
-    /// the place of n is looked for.
-    pub fn after(&self, owner: u32, n: u32) -> Option<u32>
-        ensures { IsNextItem self.now.owner_of owner n result }
+    /// The least item of an owner above the number, or none. Where the number is 0, an item of the owner or past the room, this is one
+    /// step; else its place is looked for.
+    pub fn after(&self, owner: u32, number: u32) -> Option<u32>
+        ensures { IsNextItem self.now.owner_of owner number result }
     {
-        let next = above(&self.heads, &self.links, owner, n);
+        let next = above(&self.heads, &self.links, owner, number);
         if next == 0 { None } else { Some(next) }
     }
 
-    /// Number n becomes an item of an owner; n is free, and both numbers have their room. The place of n is looked for, and n is then
-    /// the finger: items that come in order cost one step each, and where none goes the numbers up to N, in whatever order they come,
-    /// cost no more than about N log N in all.
-    pub fn insert(&mut self, owner: u32, n: u32)
+    /// A number becomes an item of an owner; it is free, and both numbers have their room. Its place is looked for, and it is then the
+    /// finger: items that come in order cost one step each, and where none goes the numbers up to N, in whatever order they come, cost
+    /// no more than about N log N in all.
+    pub fn insert(&mut self, owner: u32, item: u32)
         requires owner_room { owner < self.old.owners_end }
-        requires room { n < self.old.items_end }
-        requires some { n ≢ 0 }
-        requires free { get self.old.owner_of n ≡ None }
-        ensures { self.new ≡ put self.old n owner }
+        requires room { item < self.old.items_end }
+        requires some { item ≢ 0 }
+        requires free { get self.old.owner_of item ≡ None }
+        ensures { self.new ≡ put self.old item owner }
     {
         let head = head_of(&self.heads, owner);
-        let place = place_of(&self.heads, &self.links, owner, head, n);
+        let place = place_of(&self.heads, &self.links, owner, head, item);
         let new = Link {
             owner,
             previous: place.previous,
             next: place.next,
         };
-        link_in(&mut self.links, n, new);
-        gain(&mut self.heads, n, new, head);
+        link_in(&mut self.links, item, new);
+        gain(&mut self.heads, item, new, head);
     }
 
-    /// Item n goes, which is there. The finger moves to a neighbour. It walks over nothing.
-    pub fn remove(&mut self, n: u32)
-        requires { has self.old.owner_of n ≡ true }
-        ensures { self.new ≡ take self.old n }
+    /// An item goes, which is there. The finger moves to a neighbour. It walks over nothing.
+    pub fn remove(&mut self, item: u32)
+        requires { has self.old.owner_of item ≡ true }
+        ensures { self.new ≡ take self.old item }
     {
-        let gone = self.links.known(n);
-        link_out(&mut self.links, n, gone);
+        let gone = self.links.known(item);
+        link_out(&mut self.links, item, gone);
         lose(&mut self.heads, gone);
     }
 
@@ -108,13 +108,13 @@ impl Chains {
 
     /// Makes the rows reach to an item's number, at most 1,000,000. An `Err` comes only where memory is short, and then all is
     /// as it was.
-    pub fn reach_item(&mut self, n: u32) -> Result<(), AllocError>
-        requires { n ≤ 1000000 }
+    pub fn reach_item(&mut self, item: u32) -> Result<(), AllocError>
+        requires { item ≤ 1000000 }
         ensures grown { OwnersHaveGrown self.old self.new }
-        ensures ok { OnOk result (n < self.new.items_end) }
-        ensures known { n < self.old.items_end → IsOk result }
+        ensures ok { OnOk result (item < self.new.items_end) }
+        ensures known { item < self.old.items_end → IsOk result }
     {
-        self.links.reach(n)
+        self.links.reach(item)
     }
 
     /// The same items, owners and room, in memory of its own. An `Err` comes only where memory is short.

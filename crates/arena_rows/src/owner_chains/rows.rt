@@ -48,99 +48,99 @@ fn known_head(heads: &Rows<Head>, owner: u32) -> Head
     heads.known(owner)
 }
 
-/// The item that follows n in an owner's chain, or 0. The first one follows 0.
-pub(crate) fn follower(heads: &Rows<Head>, links: &Rows<Link>, owner: u32, n: u32) -> u32
-    ensures { result ≡ follower heads.now links.now owner n }
+/// The item that follows this one in an owner's chain, or 0. The first one follows 0.
+pub(crate) fn follower(heads: &Rows<Head>, links: &Rows<Link>, owner: u32, item: u32) -> u32
+    ensures { result ≡ follower heads.now links.now owner item }
 {
-    if n == 0 {
+    if item == 0 {
         return head_of(heads, owner).first;
     }
-    match links.find(n) {
+    match links.find(item) {
         Some(link) => link.next,
         None => 0,
     }
 }
 
-/// Makes item n lead on to another one. Nothing changes where n is 0.
-fn lead_on(links: &mut Rows<Link>, n: u32, to: u32)
+/// Makes the item lead on to another one. Nothing changes where it is 0.
+fn lead_on(links: &mut Rows<Link>, item: u32, to: u32)
     requires zero { link_at links.old 0 ≡ None }
-    requires there { n ≢ 0 → IsSome (link_at links.old n) }
-    ensures rows { (q : ℕ) → link_at links.new q ≡ cond (nat_eq q n) (leading_on to (link_at links.old q)) (link_at links.old q) }
+    requires there { item ≢ 0 → IsSome (link_at links.old item) }
+    ensures rows { (q : ℕ) → link_at links.new q ≡ cond (nat_eq q item) (leading_on to (link_at links.old q)) (link_at links.old q) }
     ensures len { length links.new ≡ length links.old }
 {
-    if n == 0 {
+    if item == 0 {
         return;
     }
-    let old = links.known(n);
+    let old = links.known(item);
     let row = Link {
         owner: old.owner,
         previous: old.previous,
         next: to,
     };
-    links.set(n, row);
+    links.set(item, row);
 }
 
-/// Makes item n lead back to another one. Nothing changes where n is 0.
-fn lead_back(links: &mut Rows<Link>, n: u32, to: u32)
+/// Makes the item lead back to another one. Nothing changes where it is 0.
+fn lead_back(links: &mut Rows<Link>, item: u32, to: u32)
     requires zero { link_at links.old 0 ≡ None }
-    requires there { n ≢ 0 → IsSome (link_at links.old n) }
-    ensures rows { (q : ℕ) → link_at links.new q ≡ cond (nat_eq q n) (leading_back to (link_at links.old q)) (link_at links.old q) }
+    requires there { item ≢ 0 → IsSome (link_at links.old item) }
+    ensures rows { (q : ℕ) → link_at links.new q ≡ cond (nat_eq q item) (leading_back to (link_at links.old q)) (link_at links.old q) }
     ensures len { length links.new ≡ length links.old }
 {
-    if n == 0 {
+    if item == 0 {
         return;
     }
-    let old = links.known(n);
+    let old = links.known(item);
     let row = Link {
         owner: old.owner,
         previous: to,
         next: old.next,
     };
-    links.set(n, row);
+    links.set(item, row);
 }
 
-/// Puts item n into the chain, between the two to which it leads.
+/// Puts the item into the chain, between the two to which it leads.
 #[tactic(auto, unfolding(crate::specs::owner_chains::Chains::linked_in))]
-pub(crate) fn link_in(links: &mut Rows<Link>, n: u32, new: Link)
-    requires within { n < length links.old }
+pub(crate) fn link_in(links: &mut Rows<Link>, item: u32, new: Link)
+    requires within { item < length links.old }
     requires zero { link_at links.old 0 ≡ None }
     requires previous { new.previous ≢ 0 → IsSome (link_at links.old new.previous) }
     requires next { new.next ≢ 0 → IsSome (link_at links.old new.next) }
-    ensures rows { (q : ℕ) → link_at links.new q ≡ linked_in n new q (link_at links.old q) }
+    ensures rows { (q : ℕ) → link_at links.new q ≡ linked_in item new q (link_at links.old q) }
     ensures len { length links.new ≡ length links.old }
 {
-    lead_on(links, new.previous, n);
-    lead_back(links, new.next, n);
-    links.put(n, new);
+    lead_on(links, new.previous, item);
+    lead_back(links, new.next, item);
+    links.put(item, new);
 }
 
-/// Takes item n out of the chain: the two to which it leads then lead to each other.
+/// Takes the item out of the chain: the two to which it leads then lead to each other.
 #[tactic(auto, unfolding(crate::specs::owner_chains::Chains::linked_out))]
-pub(crate) fn link_out(links: &mut Rows<Link>, n: u32, old: Link)
-    requires within { n < length links.old }
+pub(crate) fn link_out(links: &mut Rows<Link>, item: u32, old: Link)
+    requires within { item < length links.old }
     requires zero { link_at links.old 0 ≡ None }
     requires previous { old.previous ≢ 0 → IsSome (link_at links.old old.previous) }
     requires next { old.next ≢ 0 → IsSome (link_at links.old old.next) }
-    ensures rows { (q : ℕ) → link_at links.new q ≡ linked_out n old q (link_at links.old q) }
+    ensures rows { (q : ℕ) → link_at links.new q ≡ linked_out item old q (link_at links.old q) }
     ensures len { length links.new ≡ length links.old }
 {
     lead_on(links, old.previous, old.next);
     lead_back(links, old.next, old.previous);
-    links.take(n);
+    links.take(item);
 }
 
-/// Gives an owner a new item n, which is in the chain, and says so in what the owner has.
-pub(crate) fn gain(heads: &mut Rows<Head>, n: u32, new: Link, old: Head)
+/// Gives an owner a new item, which is in the chain, and says so in what the owner has.
+pub(crate) fn gain(heads: &mut Rows<Head>, item: u32, new: Link, old: Head)
     requires old { old ≡ head_at heads.old new.owner }
     requires there { new.owner < length heads.old }
     requires limit { (head_at heads.old new.owner).count ≤ 1000001 }
-    ensures rows { (q : ℕ) → head_at heads.new q ≡ cond (nat_eq q new.owner) (gained n new (head_at heads.old new.owner)) (head_at heads.old q) }
+    ensures rows { (q : ℕ) → head_at heads.new q ≡ cond (nat_eq q new.owner) (gained item new (head_at heads.old new.owner)) (head_at heads.old q) }
     ensures len { length heads.new ≡ length heads.old }
 {
     let head = Head {
         count: old.count + 1,
-        first: if new.previous == 0 { n } else { old.first },
-        finger: n,
+        first: if new.previous == 0 { item } else { old.first },
+        finger: item,
     };
     if old.count == 0 {
         heads.put(new.owner, head);

@@ -95,14 +95,14 @@ impl EdgeRings {
     }
 
     /// Wakes both half-edges of an edge.
-    pub fn wake_edge(&mut self, e: u32, a: u32, b: u32)
+    pub fn wake_edge(&mut self, e: u32, start: u32, end: u32)
         requires limit { e ≤ 1000000 }
         requires first { IsAsleep self.old (plus e) }
         requires second { IsAsleep self.old (minus e) }
-        ensures spots { spot self.new ≡ woken (woken (spot self.old) (plus e) a) (minus e) b }
+        ensures spots { spot self.new ≡ woken (woken (spot self.old) (plus e) start) (minus e) end }
         ensures known { contains_key self.new ≡ contains_key self.old }
     {
-        links::wake_edge(&mut self.rings, &mut self.labels, e, a, b);
+        links::wake_edge(&mut self.rings, &mut self.labels, e, start, end);
         self.edges.put(e);
     }
 

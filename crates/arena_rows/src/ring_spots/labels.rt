@@ -19,31 +19,31 @@ pub struct Label {
     pub loop_number: u32,
 }
 
-/// What stands at number n, whether its row is written or not.
-fn row_of(labels: &Rows<Label>, n: u32) -> Label
-    ensures { result ≡ row_of labels.now n }
+/// What stands at the number, whether its row is written or not.
+fn row_of(labels: &Rows<Label>, number: u32) -> Label
+    ensures { result ≡ row_of labels.now number }
 {
-    match labels.find(n) {
+    match labels.find(number) {
         Some(row) => row,
         None => Label {
-            own: n,
-            holder: n,
+            own: number,
+            holder: number,
             loop_number: 0,
         },
     }
 }
 
-/// Writes row n. Where it is there already, that its number is in use needn't be noted.
+/// Writes the row of the number. Where it is there already, that the number is in use needn't be noted.
 #[inline]
-fn write(labels: &mut Rows<Label>, n: u32, row: Label)
-    requires { has_label labels.old n ≡ true }
-    ensures rows { (q : ℕ) → row_at labels.new q ≡ cond (nat_eq q n) (Some row) (row_at labels.old q) }
+fn write(labels: &mut Rows<Label>, number: u32, row: Label)
+    requires { has_label labels.old number ≡ true }
+    ensures rows { (q : ℕ) → row_at labels.new q ≡ cond (nat_eq q number) (Some row) (row_at labels.old q) }
     ensures len { length labels.new ≡ length labels.old }
 {
-    if labels.has(n) {
-        labels.set(n, row);
+    if labels.has(number) {
+        labels.set(number, row);
     } else {
-        labels.put(n, row);
+        labels.put(number, row);
     }
 }
 

@@ -20,17 +20,17 @@ pub(crate) fn has_edge_room(rings: &Rings, e: u32) -> bool
 }
 
 /// Wakes both half-edges of an edge. Each has the label that it owns, which stands for no loop.
-pub(crate) fn wake_edge(rings: &mut Rings, labels: &mut Rows<Label>, e: u32, a: u32, b: u32)
+pub(crate) fn wake_edge(rings: &mut Rings, labels: &mut Rows<Label>, e: u32, start: u32, end: u32)
     requires whole { AreLabelled (spot rings.old) (contains_key rings.old) labels.old }
     requires limit { e ≤ 1000000 }
     requires first { IsAsleep rings.old (plus e) }
     requires second { IsAsleep rings.old (minus e) }
     ensures whole { AreLabelled (spot rings.new) (contains_key rings.new) labels.new }
-    ensures spots { in_loops labels.new (spot rings.new) ≡ woken (woken (in_loops labels.old (spot rings.old)) (plus e) a) (minus e) b }
+    ensures spots { in_loops labels.new (spot rings.new) ≡ woken (woken (in_loops labels.old (spot rings.old)) (plus e) start) (minus e) end }
     ensures known { contains_key rings.new ≡ contains_key rings.old }
 {
-    wake(rings, labels, 2 * e, a);
-    wake(rings, labels, 2 * e + 1, b);
+    wake(rings, labels, 2 * e, start);
+    wake(rings, labels, 2 * e + 1, end);
 }
 
 /// Wakes a half-edge with the label that it owns, which stands for no loop.
@@ -119,15 +119,15 @@ pub(crate) fn room_edge(
 }
 
 /// Gives a half-edge its node. Its label is there.
-fn room_code(rings: &mut Rings, labels: &Rows<Label>, c: u32) -> Result<(), AllocError>
+fn room_code(rings: &mut Rings, labels: &Rows<Label>, code: u32) -> Result<(), AllocError>
     requires whole { AreLabelled (spot rings.old) (contains_key rings.old) labels.now }
-    requires limit { c ≤ 2000001 }
-    requires label { has_label labels.now c ≡ true }
+    requires limit { code ≤ 2000001 }
+    requires label { has_label labels.now code ≡ true }
     ensures whole { AreLabelled (spot rings.new) (contains_key rings.new) labels.now }
     ensures spots { spot rings.new ≡ spot rings.old }
     ensures kept { (q : ℕ) → contains_key rings.old q ≡ true → contains_key rings.new q ≡ true }
-    ensures only { (q : ℕ) → q ≢ c → contains_key rings.new q ≡ contains_key rings.old q }
-    ensures ok { OnOk result (contains_key rings.new c ≡ true) }
+    ensures only { (q : ℕ) → q ≢ code → contains_key rings.new q ≡ contains_key rings.old q }
+    ensures ok { OnOk result (contains_key rings.new code ≡ true) }
 {
-    rings.room(c)
+    rings.room(code)
 }

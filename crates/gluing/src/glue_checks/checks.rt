@@ -25,44 +25,44 @@ fn has_rings(arena: &Arena, f: u32) -> bool
 }
 
 /// Whether the two faces are there, of different solids, and without rings.
-fn check_faces(arena: &Arena, f: u32, g: u32) -> Result<(), Refusal>
+fn check_faces(arena: &Arena, f: u32, other: u32) -> Result<(), Refusal>
     requires { IsReady arena.now }
-    ensures { result ≡ verdict (first_refusal (face_conditions arena.now.model f g)) }
+    ensures { result ≡ verdict (first_refusal (face_conditions arena.now.model f other)) }
 {
     if !is_number(f) {
         return refused(Why::NumberRange, f);
     }
-    if !is_number(g) {
-        return refused(Why::NumberRange, g);
+    if !is_number(other) {
+        return refused(Why::NumberRange, other);
     }
     if !arena.has(Kind::Face, f) {
         return refused(Why::NoFace, f);
     }
-    if !arena.has(Kind::Face, g) {
-        return refused(Why::NoFace, g);
+    if !arena.has(Kind::Face, other) {
+        return refused(Why::NoFace, other);
     }
     let solid = arena.solid_of(f);
-    if solid == arena.solid_of(g) {
+    if solid == arena.solid_of(other) {
         return refused(Why::SameSolid, solid);
     }
     if has_rings(arena, f) {
         return refused(Why::HasRings, f);
     }
-    if has_rings(arena, g) {
-        return refused(Why::HasRings, g);
+    if has_rings(arena, other) {
+        return refused(Why::HasRings, other);
     }
     Ok(())
 }
 
 /// Whether the two solids have no lone loop, and flat faces only.
-fn check_solids(arena: &Arena, s: u32, t: u32) -> Result<(), Refusal>
+fn check_solids(arena: &Arena, s: u32, other: u32) -> Result<(), Refusal>
     requires { IsReady arena.now }
-    ensures { result ≡ verdict (first_refusal (solid_conditions arena.now.model s t)) }
+    ensures { result ≡ verdict (first_refusal (solid_conditions arena.now.model s other)) }
 {
-    if let Some(l) = least_lone_of_both(arena, s, t) {
+    if let Some(l) = least_lone_of_both(arena, s, other) {
         return refused(Why::LoneLoop, l);
     }
-    if let Some(f) = least_bent_of_both(arena, s, t) {
+    if let Some(f) = least_bent_of_both(arena, s, other) {
         return refused(Why::NotFlat, f);
     }
     Ok(())
@@ -73,56 +73,56 @@ fn check_outlines(
     alloc: Global,
     arena: &Arena,
     f: u32,
-    g: u32,
+    other: u32,
 ) -> Result<Result<(), Refusal>, AllocError>
     requires ready { IsReady arena.now }
     requires first_there { has_number arena.now Kind.Face f ≡ true }
-    requires second_there { has_number arena.now Kind.Face g ≡ true }
+    requires second_there { has_number arena.now Kind.Face other ≡ true }
     requires first_held { is_lone (content arena.now.model (outer arena.now.model f)) ≡ false }
-    requires second_held { is_lone (content arena.now.model (outer arena.now.model g)) ≡ false }
-    ensures { IfOk result (λ checked. checked ≡ verdict (first_refusal (outline_conditions arena.now.model f g))) }
+    requires second_held { is_lone (content arena.now.model (outer arena.now.model other)) ≡ false }
+    ensures { IfOk result (λ checked. checked ≡ verdict (first_refusal (outline_conditions arena.now.model f other))) }
 {
     let points = outline(alloc, arena, f)?;
     if has_repeats(alloc, points.as_slice())? {
         return Ok(refused(Why::RepeatedPoint, f));
     }
-    let others = outline(alloc, arena, g)?;
+    let others = outline(alloc, arena, other)?;
     if has_repeats(alloc, others.as_slice())? {
-        return Ok(refused(Why::RepeatedPoint, g));
+        return Ok(refused(Why::RepeatedPoint, other));
     }
     if !is_rotation(points.as_slice(), backwards(others).as_slice()) {
-        return Ok(refused(Why::NoMatch, g));
+        return Ok(refused(Why::NoMatch, other));
     }
     Ok(Ok(()))
 }
 
-/// Whether face g can be glued to face f.
+/// Whether the other face can be glued to face f.
 ///
-/// Refused, in this order: NumberRange; NoFace; SameSolid with the solid; HasRings with the face; LoneLoop with the least lone
-/// loop of the two solids; NotFlat with their least face that isn't flat; RepeatedPoint with the face, f before g, of which two
-/// corners have equal points; NoMatch with g where the points of g, read backwards, are no rotation of those of f; NumbersSpent
-/// with 4 where no number is left for an edge.
+/// Refused, in this order: NumberRange; NoFace; SameSolid with the solid; HasRings with the face; LoneLoop with the least lone loop of
+/// the two solids; NotFlat with their least face that isn't flat; RepeatedPoint with the face, f before the other, of which two corners
+/// have equal points; NoMatch with the other where its points, read backwards, are no rotation of those of f; NumbersSpent with 4 where
+/// no number is left for an edge.
 ///
-/// It looks once at each face of the two solids, and takes n log n steps for n corners of f and g. `AllocError` where memory is
+/// It looks once at each face of the two solids, and takes n log n steps for n corners of the two faces. `AllocError` where memory is
 /// refused.
 pub(crate) fn check_glue(
     alloc: Global,
     arena: &Arena,
     f: u32,
-    g: u32,
+    other: u32,
 ) -> Result<Result<(), Refusal>, AllocError>
     requires { IsReady arena.now }
-    ensures { IfOk result (λ checked. checked ≡ verdict (glue_refusal arena.now.model f g)) }
+    ensures { IfOk result (λ checked. checked ≡ verdict (glue_refusal arena.now.model f other)) }
 {
-    let faces = check_faces(arena, f, g);
+    let faces = check_faces(arena, f, other);
     if faces.is_err() {
         return Ok(faces);
     }
-    let solids = check_solids(arena, arena.solid_of(f), arena.solid_of(g));
+    let solids = check_solids(arena, arena.solid_of(f), arena.solid_of(other));
     if solids.is_err() {
         return Ok(solids);
     }
-    let outlines = check_outlines(alloc, arena, f, g)?;
+    let outlines = check_outlines(alloc, arena, f, other)?;
     if outlines.is_err() {
         return Ok(outlines);
     }

@@ -15,40 +15,40 @@ use split_sections::start;
 use std::alloc::AllocError;
 use undo_journal::Draft;
 
-/// The place before place i, round a cycle of so many.
-fn place_before(count: u32, i: u32) -> u32
-    requires { i < count }
-    ensures { result ≡ ops.place_before count i }
+/// The place before this one, round a cycle of so many.
+fn place_before(count: u32, at: u32) -> u32
+    requires { at < count }
+    ensures { result ≡ ops.place_before count at }
 {
-    if i == 0 { count - 1 } else { i - 1 }
+    if at == 0 { count - 1 } else { at - 1 }
 }
 
-/// Raises the copy of the vertex at place i: a riser leads from it to a new vertex at its point, between the back of its strip and
+/// Raises the copy of the vertex at this place: a riser leads from it to a new vertex at its point, between the back of its strip and
 /// the mate of the half before.
 fn raise_copy(
     draft: &mut Draft,
     from: &Progress,
     halves: &[HalfEdge],
-    i: u32,
+    at: u32,
 ) -> Result<(), AllocError>
-    requires inside { i < length halves.now }
-    requires there { has_half draft.old.model (get_or (map code halves.now) i 0) ≡ true }
+    requires inside { at < length halves.now }
+    requires there { has_half draft.old.model (get_or (map code halves.now) at 0) ≡ true }
     requires edges_left { from.now.edges + 2 * length halves.now ≤ 1000000 }
     requires vertices_left { from.now.vertices + length halves.now ≤ 1000000 }
-    requires accepted { first_false draft.old.model (ops.raise_copy draft.old.model (taken_of from.now) (map code halves.now) i) ≡ None }
-    ensures ok { OnOk result (draft.new ≡ after_step draft.old (ops.raise_copy draft.old.model (taken_of from.now) (map code halves.now) i)) }
+    requires accepted { first_false draft.old.model (ops.raise_copy draft.old.model (taken_of from.now) (map code halves.now) at) ≡ None }
+    ensures ok { OnOk result (draft.new ≡ after_step draft.old (ops.raise_copy draft.old.model (taken_of from.now) (map code halves.now) at)) }
     ensures err { OnErr result (draft.new ≡ draft.old) }
 {
     let count = halves.len() as u32;
-    let back = HalfEdge::minus(from.edges + i + 1);
-    let before = halves[place_before(count, i) as usize].mate();
-    let riser = HalfEdge::plus(from.edges + count + i + 1);
-    let point = start(draft.arena(), halves[i as usize]);
+    let back = HalfEdge::minus(from.edges + at + 1);
+    let before = halves[place_before(count, at) as usize].mate();
+    let riser = HalfEdge::plus(from.edges + count + at + 1);
+    let point = start(draft.arena(), halves[at as usize]);
     draft.step_accepted(Op::Mev(
         Corner::At(back),
         Corner::At(before),
         riser,
-        from.vertices + i + 1,
+        from.vertices + at + 1,
         point,
     ))
 }

@@ -86,21 +86,21 @@ fn push_outer(list: &mut FaceList, caps: &[Caps]) -> Result<(), AllocError>
 }
 
 /// Makes the caps of the holes rings of the caps of the first outer cycle, and then parts the faces above and the caps above that are
-/// left from solid s as solid t, where each of these operators is accepted in its turn. On `AllocError` some may be taken.
+/// left from solid s as solid `upper`, where each of these operators is accepted in its turn. On `AllocError` some may be taken.
 pub(crate) fn part_upper(
     alloc: Global,
     draft: &mut Draft,
     s: u32,
-    t: u32,
+    upper: u32,
     above: &[u32],
     caps: &[Caps],
 ) -> Result<(), AllocError>
-    requires { AreAccepted draft.old.model (hole_ops (all_caps caps.now) ++ Part s t (upper_left above.now (all_caps caps.now)) ∷ []) }
-    ensures model { OnOk result (draft.new.model ≡ effects draft.old.model (hole_ops (all_caps caps.now) ++ Part s t (upper_left above.now (all_caps caps.now)) ∷ [])) }
+    requires { AreAccepted draft.old.model (hole_ops (all_caps caps.now) ++ Part s upper (upper_left above.now (all_caps caps.now)) ∷ []) }
+    ensures model { OnOk result (draft.new.model ≡ effects draft.old.model (hole_ops (all_caps caps.now) ++ Part s upper (upper_left above.now (all_caps caps.now)) ∷ [])) }
     ensures session { draft.new.session ≡ draft.old.session }
 {
     close_holes(draft, outer_caps(caps), caps)?;
     let mut faces = listed(alloc, above)?;
     push_outer(&mut faces, caps)?;
-    draft.step_accepted(Op::Part(s, t, faces))
+    draft.step_accepted(Op::Part(s, upper, faces))
 }

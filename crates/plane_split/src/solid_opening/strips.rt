@@ -15,26 +15,26 @@ use split_drawing::Progress;
 use std::alloc::AllocError;
 use undo_journal::Draft;
 
-/// Cuts the strip at place i off: from the half's mate up to what follows it in its loop.
+/// Cuts the strip at this place off: from the half's mate up to what follows it in its loop.
 fn cut_strip(
     draft: &mut Draft,
     from: &Progress,
     halves: &[HalfEdge],
-    i: u32,
+    at: u32,
 ) -> Result<(), AllocError>
-    requires inside { i < length halves.now }
-    requires there { has_half draft.old.model (mate (get_or (map code halves.now) i 0)) ≡ true }
-    requires faces_left { from.now.faces + i + 1 ≤ 1000000 }
-    requires loops_left { from.now.loops + i + 1 ≤ 1000000 }
-    requires edges_left { from.now.edges + i + 1 ≤ 1000000 }
-    requires accepted { first_false draft.old.model (ops.cut_strip draft.old.model (taken_of from.now) (map code halves.now) i) ≡ None }
-    ensures ok { OnOk result (draft.new ≡ after_step draft.old (ops.cut_strip draft.old.model (taken_of from.now) (map code halves.now) i)) }
+    requires inside { at < length halves.now }
+    requires there { has_half draft.old.model (mate (get_or (map code halves.now) at 0)) ≡ true }
+    requires faces_left { from.now.faces + at + 1 ≤ 1000000 }
+    requires loops_left { from.now.loops + at + 1 ≤ 1000000 }
+    requires edges_left { from.now.edges + at + 1 ≤ 1000000 }
+    requires accepted { first_false draft.old.model (ops.cut_strip draft.old.model (taken_of from.now) (map code halves.now) at) ≡ None }
+    ensures ok { OnOk result (draft.new ≡ after_step draft.old (ops.cut_strip draft.old.model (taken_of from.now) (map code halves.now) at)) }
     ensures err { OnErr result (draft.new ≡ draft.old) }
 {
-    let mate = halves[i as usize].mate();
+    let mate = halves[at as usize].mate();
     let next = next_item(draft.arena(), mate);
-    let edge = HalfEdge::plus(from.edges + i + 1);
-    draft.step_accepted(Op::Mef(mate, next, edge, from.faces + i + 1, from.loops + i + 1))
+    let edge = HalfEdge::plus(from.edges + at + 1);
+    draft.step_accepted(Op::Mef(mate, next, edge, from.faces + at + 1, from.loops + at + 1))
 }
 
 /// Cuts a strip off above each edge of a cycle along which solid s can be opened, with the numbers after those taken. On

@@ -14,21 +14,22 @@ fn minus(edge: u32) -> HalfEdge {
     HalfEdge { edge, first: false }
 }
 
-/// The first command makes solid 1 with vertex 1. Command n puts vertex n at the end of the line, by edge n - 1.
-fn command(n: u32) -> Op {
+/// The first command makes solid 1 with vertex 1. Each of the others puts the vertex of its number at the end of the line, by the edge
+/// before that number.
+fn command(number: u32) -> Op {
     let point = Point {
-        x: i64::from(n),
+        x: i64::from(number),
         y: 0,
         z: 0,
     };
-    if n <= 1 {
+    if number <= 1 {
         return Op::Mvfs(1, 1, 1, 1, point);
     }
-    if n == 2 {
+    if number == 2 {
         return Op::Mev(Corner::Lone(1), Corner::Lone(1), plus(1), 2, point);
     }
-    let end = Corner::At(minus(n - 2));
-    Op::Mev(end, end, plus(n - 1), n, point)
+    let end = Corner::At(minus(number - 2));
+    Op::Mev(end, end, plus(number - 1), number, point)
 }
 
 fn act(rt: &impl Abort, session: &mut Session, op: Op) {
@@ -43,10 +44,10 @@ fn redo(rt: &impl Abort, session: &mut Session) {
     assert!(rt; session.redo().is_ok());
 }
 
-/// A session after commands 1 to n.
-fn line(rt: &impl Abort, alloc: Global, n: u32) -> Result<Session, Fail> {
+/// A session after this many commands.
+fn line(rt: &impl Abort, alloc: Global, count: u32) -> Result<Session, Fail> {
     let mut session = Session::new(alloc)?;
-    for k in 1..=n {
+    for k in 1..=count {
         act(rt, &mut session, command(k));
     }
     Ok(session)

@@ -195,13 +195,13 @@ module _ (M : Model) (f g : ℕ) (sound : Sound M) (accepted : glue_refusal M f 
   unfolding glue_conditions
   solids_apart = eqb-false s t (not-true _ hold.1.1.1.1.0)
 
-  pub plain_f : has_rings M f ≡ false
+  pub ringless_f : has_rings M f ≡ false
   unfolding glue_conditions
-  plain_f = not-true _ hold.1.1.1.1.1.0
+  ringless_f = not-true _ hold.1.1.1.1.1.0
 
-  pub plain_g : has_rings M g ≡ false
+  pub ringless_g : has_rings M g ≡ false
   unfolding glue_conditions
-  plain_g = not-true _ hold.1.1.1.1.1.1.0
+  ringless_g = not-true _ hold.1.1.1.1.1.1.0
 
   none_lone : table.first_where (λ _ row. is_lone row.content && lists fs row.face) M.loops ≡ 0
   unfolding glue_conditions
@@ -371,7 +371,7 @@ module _ (M : Model) (f g : ℕ) (sound : Sound M) (accepted : glue_refusal M f 
       let turns : IsRotation items_g (a ∷ rest a items_g) = rotation_at a items_g ai in
       let one : length (rest a items_g) ≡ 1 = thin a b (rest a items_g) (IsRing-same (after M) items_g (a ∷ rest a items_g) turns (ring_l M sound (outer M g) items_g has_g cycle_g)) (apart_at a items_g apart_g ai) on_a on_b
       (λ q. mate_other a (q ∙ sym e)) in
-      never_two M sound g g_there plain_g cycle_g (flat g g_there (inr refl)) (IsRotation-length items_g (a ∷ rest a items_g) turns ∙ ap suc one)
+      never_two M sound g g_there ringless_g cycle_g (flat g g_there (inr refl)) (IsRotation-length items_g (a ∷ rest a items_g) turns ∙ ap suc one)
 
   -- ---- all of it
 
@@ -382,8 +382,8 @@ module _ (M : Model) (f g : ℕ) (sound : Sound M) (accepted : glue_refusal M f 
     f_there = f_there;
     g_there = g_there;
     solids_apart = solids_apart;
-    alone_f = no_rings_means M f plain_f;
-    alone_g = no_rings_means M g plain_g;
+    alone_f = no_rings_means M f ringless_f;
+    alone_g = no_rings_means M g ringless_g;
     first = loop_row M (outer M f) has_f ∙ (λ i. Some (record { face = (sound.outers_there f f_there).1 i; content = cycle_f i }));
     second = loop_row M (outer M g) has_g ∙ (λ i. Some (record { face = (sound.outers_there g g_there).1 i; content = (cycle_g ∙ ap cycle opposite) i }));
     starts_once = λ h k i j e. finish_once h k i j (sym (partner_start h i) ∙ ap (point_of M) e ∙ partner_start k j);

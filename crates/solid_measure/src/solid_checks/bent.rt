@@ -18,9 +18,9 @@ pub fn least_bent(arena: &Arena, s: u32) -> Option<u32>
 }
 
 /// The least face of two solids that isn't flat, if there is one.
-pub fn least_bent_of_both(arena: &Arena, s: u32, t: u32) -> Option<u32>
+pub fn least_bent_of_both(arena: &Arena, s: u32, other: u32) -> Option<u32>
     requires { IsReady arena.now }
-    ensures { result ≡ first_such (λ f. not (is_flat arena.now.model f)) (faces_of_both arena.now.model s t) }
+    ensures { result ≡ first_such (λ f. not (is_flat arena.now.model f)) (faces_of_both arena.now.model s other) }
 {
-    lesser(least_bent(arena, s), least_bent(arena, t))
+    lesser(least_bent(arena, s), least_bent(arena, other))
 }

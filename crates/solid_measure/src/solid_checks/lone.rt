@@ -15,9 +15,9 @@ pub fn least_lone(arena: &Arena, s: u32) -> Option<u32>
 }
 
 /// The least lone loop of the faces of two solids, if there is one.
-pub fn least_lone_of_both(arena: &Arena, s: u32, t: u32) -> Option<u32>
+pub fn least_lone_of_both(arena: &Arena, s: u32, other: u32) -> Option<u32>
     requires { IsReady arena.now }
-    ensures { result ≡ least_lone arena.now.model (faces_of_both arena.now.model s t) }
+    ensures { result ≡ least_lone arena.now.model (faces_of_both arena.now.model s other) }
 {
-    lesser(least_lone(arena, s), least_lone(arena, t))
+    lesser(least_lone(arena, s), least_lone(arena, other))
 }

@@ -31,22 +31,22 @@ fn refusal(why: Why, number: u32) -> Refusal
     Refusal { why, number }
 }
 
-/// Whether solid s is there, and t is free.
-fn check_numbers(arena: &Arena, s: u32, t: u32) -> Result<(), Refusal>
+/// Whether solid s is there, and the number of the upper one is free.
+fn check_numbers(arena: &Arena, s: u32, upper: u32) -> Result<(), Refusal>
     requires { IsReady arena.now }
-    ensures { result ≡ verdict (first_refusal (number_conditions arena.now.model s t)) }
+    ensures { result ≡ verdict (first_refusal (number_conditions arena.now.model s upper)) }
 {
     if !is_number(s) {
         return refused(Why::NumberRange, s);
     }
-    if !is_number(t) {
-        return refused(Why::NumberRange, t);
+    if !is_number(upper) {
+        return refused(Why::NumberRange, upper);
     }
     if !arena.has(Kind::Solid, s) {
         return refused(Why::NoSolid, s);
     }
-    if arena.has(Kind::Solid, t) {
-        return refused(Why::SolidTaken, t);
+    if arena.has(Kind::Solid, upper) {
+        return refused(Why::SolidTaken, upper);
     }
     Ok(())
 }
@@ -159,8 +159,8 @@ fn check_section(
     check_cuts(alloc, arena, plane, s, &met)
 }
 
-/// What the plane cuts of solid s, where it can begin to split s, whose upper part is to be solid t: the conditions that are tested
-/// before anything is changed, and what the tests have found.
+/// What the plane cuts of solid s, where it can begin to split s, whose upper part is to be solid `upper`: the conditions that are
+/// tested before anything is changed, and what the tests have found.
 ///
 /// Refused, in this order: NumberRange; NoSolid; SolidTaken; PlaneRange with 1 to 4 for the first of the plane's numbers that is out
 /// of range (1,000,000,000 either way, for the last one 3,000,000,000,000,000,000), or with 0 where the first three are zero;
@@ -178,14 +178,14 @@ pub fn check_begin(
     arena: &Arena,
     s: u32,
     plane: &Plane,
-    t: u32,
+    upper: u32,
 ) -> Result<Result<Cuts, Refusal>, AllocError>
     requires { IsReady arena.now }
-    ensures begins { IfOk result (λ checked. IfOk checked (λ _. first_refusal (first_conditions arena.now.model s plane.now t) ≡ None)) }
+    ensures begins { IfOk result (λ checked. IfOk checked (λ _. first_refusal (first_conditions arena.now.model s plane.now upper) ≡ None)) }
     ensures cuts { IfOk result (λ checked. IfOk checked (λ cuts. AreCuts arena.now.model plane.now s cuts)) }
-    ensures refused { IfOk result (λ checked. IfErr checked (λ refusal. first_refusal (first_conditions arena.now.model s plane.now t) ≡ Some refusal)) }
+    ensures refused { IfOk result (λ checked. IfErr checked (λ refusal. first_refusal (first_conditions arena.now.model s plane.now upper) ≡ Some refusal)) }
 {
-    if let Err(refusal) = check_numbers(arena, s, t) {
+    if let Err(refusal) = check_numbers(arena, s, upper) {
         return Ok(Err(refusal));
     }
     if let Err(refusal) = check_plane(*plane) {

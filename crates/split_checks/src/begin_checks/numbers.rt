@@ -10,7 +10,7 @@ use euler_conditions::Arena;
 use euler_operators::{NUMBER_LIMIT, Refusal};
 use solid_measure::counters_of;
 
-/// One more than the greatest number. Who wants so many more numbers, or more, finds too few.
+/// One more than the greatest number. So many numbers of a kind are never left.
 pub(crate) const TOO_MANY: usize = NUMBER_LIMIT as usize + 1;
 
 /// How many pairs of cut places some faces have; `TOO_MANY` where they have more.

@@ -8,17 +8,17 @@ ghost use Rattle.shapes.specs.split.Split.{plane_in_range};
 use euler_operators::{Plane, Refusal, Why, refused};
 
 /// Whether a number of a plane is in the range of coordinates.
-fn is_coordinate(n: i128) -> bool
-    ensures { result ≡ is_coordinate n }
+fn is_coordinate(number: i128) -> bool
+    ensures { result ≡ is_coordinate number }
 {
-    -1_000_000_000 <= n && n <= 1_000_000_000
+    -1_000_000_000 <= number && number <= 1_000_000_000
 }
 
 /// Whether a plane's last number is in its range.
-fn is_offset(n: i128) -> bool
-    ensures { result ≡ is_offset n }
+fn is_offset(number: i128) -> bool
+    ensures { result ≡ is_offset number }
 {
-    -3_000_000_000_000_000_000 <= n && n <= 3_000_000_000_000_000_000
+    -3_000_000_000_000_000_000 <= number && number <= 3_000_000_000_000_000_000
 }
 
 /// Whether one of the plane's first three numbers isn't zero.

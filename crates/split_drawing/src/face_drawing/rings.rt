@@ -26,15 +26,15 @@ pub(crate) fn ring_free(arena: &Arena, progress: Progress, f: u32, count: usize)
     }
 }
 
-/// Gives the rings to face k, where each of these operators is accepted in its turn. On `AllocError` some may be given.
-pub(crate) fn move_rings(draft: &mut Draft, rings: &[u32], k: u32) -> Result<(), AllocError>
-    requires { AreAccepted draft.old.model (ring_ops rings.now k) }
-    ensures model { OnOk result (draft.new.model ≡ effects draft.old.model (ring_ops rings.now k)) }
+/// Gives the rings to the face `to`, where each of these operators is accepted in its turn. On `AllocError` some may be given.
+pub(crate) fn move_rings(draft: &mut Draft, rings: &[u32], to: u32) -> Result<(), AllocError>
+    requires { AreAccepted draft.old.model (ring_ops rings.now to) }
+    ensures model { OnOk result (draft.new.model ≡ effects draft.old.model (ring_ops rings.now to)) }
     ensures session { draft.new.session ≡ draft.old.session }
 {
     let mut rest = rings;
     'rings: while let [l, others @ ..] = rest {
-        draft.step_accepted(Op::RingIn(*l, k))?;
+        draft.step_accepted(Op::RingIn(*l, to))?;
         rest = others;
     }
     Ok(())

@@ -33,21 +33,21 @@ fn rings_above(alloc: Global, arena: &Arena, plane: Plane, f: u32) -> Result<Vec
     Ok(rings)
 }
 
-/// Gives the rings of face f above the plane to face k, where each such step is accepted in its turn. On `AllocError` some may be
+/// Gives the rings of face f above the plane to the face `to`, where each such step is accepted in its turn. On `AllocError` some may be
 /// given.
 pub(crate) fn share_rings(
     alloc: Global,
     draft: &mut Draft,
     plane: Plane,
     f: u32,
-    k: u32,
+    to: u32,
 ) -> Result<(), AllocError>
     requires plane { IsCutPlane plane }
     requires there { table.has draft.old.model.faces f ≡ true }
-    requires accepted { AreAccepted draft.old.model (ring_ops (rings_above draft.old.model plane f) k) }
-    ensures model { OnOk result (draft.new.model ≡ with_rings draft.old.model (rings_above draft.old.model plane f) k) }
+    requires accepted { AreAccepted draft.old.model (ring_ops (rings_above draft.old.model plane f) to) }
+    ensures model { OnOk result (draft.new.model ≡ with_rings draft.old.model (rings_above draft.old.model plane f) to) }
     ensures session { draft.new.session ≡ draft.old.session }
 {
     let rings = rings_above(alloc, draft.arena(), plane, f)?;
-    move_rings(draft, rings.as_slice(), k)
+    move_rings(draft, rings.as_slice(), to)
 }

@@ -160,14 +160,14 @@ module _ (M : Model) (e k v : ℕ) (q : Point) (goes : CanCut M e k) where
       grind (arith, nat_tests, cycle_there, plus_there, where_held_there, in-holds, where_held_none, holds-none, count-canonical, count-insert_before, tick_other, new_apart, next_half, in_one, next_there, doubled_plus, cycle_sound, minus_there)
 
   -- the plus half isn't in the loop of the minus half
-  no_plus : count (plus e) ys ≡ 0
-  no_plus = none-holds (plus e) (cycle ys) (other_loop M goes.sound (plus e) m second_row (λ s. goes.apart (sym s)) at_b)
+  plus_elsewhere : count (plus e) ys ≡ 0
+  plus_elsewhere = none-holds (plus e) (cycle ys) (other_loop M goes.sound (plus e) m second_row (λ s. goes.apart (sym s)) at_b)
 
   -- in the loop of the minus half
   rows_b : second m (first m second_row)
       ≡ both m second_row
   rows_b =
-      grind (arith, where_held_none, holds-none, no_plus, where_held_there, in-holds, next_there, put_between, cycle_sound, minus_there, cycle_there, no_new, minus_row, doubled_minus)
+      grind (arith, where_held_none, holds-none, plus_elsewhere, where_held_there, in-holds, next_there, put_between, cycle_sound, minus_there, cycle_there, no_new, minus_row, doubled_minus)
 
   -- a loop that holds neither stays
   stays : (n : ℕ) (row : LoopRow) → table.get M.loops n ≡ Some row → count (plus e) (items_of row.content) ≡ 0 → count (minus e) (items_of row.content) ≡ 0 → rewritten (flat_map (doubled e k)) row.content ≡ row.content
@@ -192,7 +192,7 @@ module _ (M : Model) (e k v : ℕ) (q : Point) (goes : CanCut M e k) where
   -- round the tail of the plus half, the item after the minus half comes next
   one_leaves : (t : Table EdgeRow) → M.edges ≡ t → arc M (plus e) (after M (minus e)) ≡ plus e ∷ []
   unfolding arc after table.get
-  one_leaves t is = grind (arith, nat_tests, some_rows, plus_row, plus_there, true≢false, in-holds, next_there, holds-none, no_plus, mate_plus)
+  one_leaves t is = grind (arith, nat_tests, some_rows, plus_row, plus_there, true≢false, in-holds, next_there, holds-none, plus_elsewhere, mate_plus)
 
   only_plus : (x : ℕ) (r : EdgeRow) → x ≢ e → with_tails (plus e ∷ []) v x r ≡ r
   only_plus x r n = grind (arith, nat_tests, tick_other)

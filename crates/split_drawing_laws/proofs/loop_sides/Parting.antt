@@ -56,20 +56,20 @@ pub none_new : (M : Model) (e x : ℕ) → table.get M.edges e ≡ None → HasH
 none_new M e x free there = grind (arith, row_elsewhere, plus_row, minus_row)
 
 module _ (M : Model) (e c d : ℕ) (sound : Sound M) (free : table.get M.edges e ≡ None) where
-  no_plus : (q : ℕ) → count (plus e) (items_of (content M q)) ≡ 0
-  no_plus q = none_free M sound (plus e) (ap (table.get M.edges) (plus_row e).0 ∙ free) q
+  plus_in_no_loop : (q : ℕ) → count (plus e) (items_of (content M q)) ≡ 0
+  plus_in_no_loop q = none_free M sound (plus e) (ap (table.get M.edges) (plus_row e).0 ∙ free) q
 
-  no_minus : (q : ℕ) → count (minus e) (items_of (content M q)) ≡ 0
-  no_minus q = none_free M sound (minus e) (ap (table.get M.edges) (minus_row e).0 ∙ free) q
+  minus_in_no_loop : (q : ℕ) → count (minus e) (items_of (content M q)) ≡ 0
+  minus_in_no_loop q = none_free M sound (minus e) (ap (table.get M.edges) (minus_row e).0 ∙ free) q
 
   ring_of : (q : ℕ) → IsRing (after M) (items_of (content M q))
   ring_of q = (light M sound q).1
 
   -- a loop with neither corner is left alone
   other_ring : (q : ℕ) → q ≢ loop_of M c → q ≢ loop_of M d → IsRing (after_mef (after M) (plus e) (minus e) c d) (items_of (content M q))
-  other_ring q a b = IsRing-splice_other _ (plus e) (minus e) (items_of (content M q)) (no_plus q) (no_minus q)
-      (IsRing-led_over_other _ d (minus e) (items_of (content M q)) (only_there M sound d q b) (no_minus q)
-      (IsRing-led_over_other (after M) c (plus e) (items_of (content M q)) (only_there M sound c q a) (no_plus q) (ring_of q)))
+  other_ring q a b = IsRing-splice_other _ (plus e) (minus e) (items_of (content M q)) (plus_in_no_loop q) (minus_in_no_loop q)
+      (IsRing-led_over_other _ d (minus e) (items_of (content M q)) (only_there M sound d q b) (minus_in_no_loop q)
+      (IsRing-led_over_other (after M) c (plus e) (items_of (content M q)) (only_there M sound c q a) (plus_in_no_loop q) (ring_of q)))
 
 -- ---- an edge drawn
 
@@ -82,7 +82,7 @@ module _ (M : Model) (u k e f l : ℕ) (can : CanDraw M u k e f l) where
 
   two_rings : IsRing (after_mef (after M) (plus e) (minus e) u k) (mef_old (plus e) u k (cycle_of M u)) × IsRing (after_mef (after M) (plus e) (minus e) u k) (mef_new (minus e) u k (cycle_of M u))
   two_rings = IsRing-mef (plus e) (minus e) u k (cycle_of M u) (cycle_sound M can.sound u can.u_there).apart (plus_other e)
-      (no_plus M e u k can.sound can.edge_free (loop_of M u)) (no_minus M e u k can.sound can.edge_free (loop_of M u))
+      (plus_in_no_loop M e u k can.sound can.edge_free (loop_of M u)) (minus_in_no_loop M e u k can.sound can.edge_free (loop_of M u))
       (after M) (cycle_there M can.sound u can.u_there) k_in (ring_of M e u k can.sound can.edge_free (loop_of M u))
 
   rings_drawn : (q : ℕ) → Has (face_drawn M u k e f l).loops q → IsRing (after_mef (after M) (plus e) (minus e) u k) (items_of (content (face_drawn M u k e f l) q))
@@ -115,8 +115,8 @@ module _ (M : Model) (c d e : ℕ) (can : CanJoin M c d e) where
 
   joined_ring : IsRing (after_mef (after M) (plus e) (minus e) c d) (mekr_ring (plus e) (minus e) c d (cycle_of M c) (cycle_of M d))
   joined_ring = IsRing-mekr (after M) (plus e) (minus e) c d (cycle_of M c) (cycle_of M d) apart_both (cycle_there M can.sound c can.c_there) (cycle_there M can.sound d can.d_there) (plus_other e)
-      (omega (arith, count-append (plus e) (cycle_of M c) (cycle_of M d), no_plus M e c d can.sound can.edge_free (loop_of M c), no_plus M e c d can.sound can.edge_free (loop_of M d)))
-      (omega (arith, count-append (minus e) (cycle_of M c) (cycle_of M d), no_minus M e c d can.sound can.edge_free (loop_of M c), no_minus M e c d can.sound can.edge_free (loop_of M d)))
+      (omega (arith, count-append (plus e) (cycle_of M c) (cycle_of M d), plus_in_no_loop M e c d can.sound can.edge_free (loop_of M c), plus_in_no_loop M e c d can.sound can.edge_free (loop_of M d)))
+      (omega (arith, count-append (minus e) (cycle_of M c) (cycle_of M d), minus_in_no_loop M e c d can.sound can.edge_free (loop_of M c), minus_in_no_loop M e c d can.sound can.edge_free (loop_of M d)))
       (ring_of M e c d can.sound can.edge_free (loop_of M c)) (ring_of M e c d can.sound can.edge_free (loop_of M d))
 
   rings_joined : (q : ℕ) → Has (loops_joined M c d e).loops q → IsRing (after_mef (after M) (plus e) (minus e) c d) (items_of (content (loops_joined M c d e) q))

@@ -33,13 +33,13 @@ fn mates_area(arena: &Arena, halves: &[HalfEdge]) -> Vector
 }
 
 /// The product of a sum of cross products with a direction, at most 3 * 10^34 in magnitude.
-fn along(n: Vector, to: Point) -> i128
-    requires n { IsVectorWithin area_limit (read n) }
+fn along(vector: Vector, to: Point) -> i128
+    requires vector { IsVectorWithin area_limit (read vector) }
     requires to { IsInRange to }
-    ensures is { result ≡ dot (read n) to }
+    ensures is { result ≡ dot (read vector) to }
     ensures within { IsWithin 30000000000000000000000000000000000 result }
 {
-    dot([n.x, n.y, n.z], to)
+    dot([vector.x, vector.y, vector.z], to)
 }
 
 /// Whether a cycle of below halves is a hole: the normal of its cap below points against the plane's direction. It takes n steps for

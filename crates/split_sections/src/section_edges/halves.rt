@@ -14,12 +14,12 @@ use euler_operators::{Content, HalfEdge, Kind};
 use solid_walks::least_item;
 use std::alloc::{AllocError, Global};
 
-/// Whether n is one of the numbers, which rise.
-fn is_listed(numbers: &[u32], n: u32) -> bool
+/// Whether the number is one of those listed, which rise.
+fn is_listed(numbers: &[u32], number: u32) -> bool
     requires { strictly_rises numbers.now ≡ true }
-    ensures { result ≡ lists numbers.now n }
+    ensures { result ≡ lists numbers.now number }
 {
-    numbers.binary_search(&n).is_ok()
+    numbers.binary_search(&number).is_ok()
 }
 
 /// Whether the half-edge lies in one of the faces above, which rise.
@@ -43,7 +43,7 @@ fn leads_above(arena: &Arena, above: &[u32], h: HalfEdge) -> bool
 }
 
 /// Adds the half-edges of the loop in which h stands whose mates lie in faces above, from its least half-edge on.
-fn push_ring_below(
+fn push_leading_in_ring(
     arena: &Arena,
     above: &[u32],
     h: HalfEdge,
@@ -68,7 +68,7 @@ fn push_ring_below(
 }
 
 /// Adds the half-edges of loop l whose mates lie in faces above.
-fn push_loop_below(
+fn push_leading_in_loop(
     arena: &Arena,
     above: &[u32],
     l: u32,
@@ -81,12 +81,12 @@ fn push_loop_below(
 {
     match arena.content(l) {
         Content::Lone(_) => Ok(()),
-        Content::Ring(h) => push_ring_below(arena, above, h, found),
+        Content::Ring(h) => push_leading_in_ring(arena, above, h, found),
     }
 }
 
 /// Adds the half-edges of face f whose mates lie in faces above; none where f is above itself.
-fn push_face_below(
+fn push_below_halves(
     arena: &Arena,
     above: &[u32],
     f: u32,
@@ -100,10 +100,10 @@ fn push_face_below(
     if is_listed(above, f) {
         return Ok(());
     }
-    push_loop_below(arena, above, arena.outer(f), found)?;
+    push_leading_in_loop(arena, above, arena.outer(f), found)?;
     let mut last = 0;
     'rings: while let Some(l) = arena.ring_after(f, last) {
-        push_loop_below(arena, above, l, found)?;
+        push_leading_in_loop(arena, above, l, found)?;
         last = l;
     }
     Ok(())
@@ -123,7 +123,7 @@ fn below_met(
     let mut found = Vec::new(alloc);
     let mut last = 0;
     'faces: while let Some(f) = arena.face_after(s, last) {
-        push_face_below(arena, above, f, &mut found)?;
+        push_below_halves(arena, above, f, &mut found)?;
         last = f;
     }
     Ok(found)

@@ -5,8 +5,8 @@ abbrev pub invariant-search : goal.invariant-search
 invariant-search l = record {
   within : l.high ≤ length l.faces;
   order : l.low ≤ l.high;
-  below : (k : ℕ) → k < l.low → get_or l.faces k 0 < l.n;
-  above : (k : ℕ) → l.high ≤ k → k < length l.faces → l.n < get_or l.faces k 0;
+  below : (k : ℕ) → k < l.low → get_or l.faces k 0 < l.f;
+  above : (k : ℕ) → l.high ≤ k → k < length l.faces → l.f < get_or l.faces k 0;
 }
 
 abbrev pub decreases-search : goal.decreases-search

@@ -6,16 +6,16 @@ use Rattle.undo_journal.specs.Machine.{accepted}
 use Rattle.gluing.proofs.command.glue.Goals as goal
 
 pub returns-in-Err-clause-refused : goal.returns-in-Err-clause-refused
-returns-in-Err-clause-refused c = λ refusal is. sym (λ i. shapes.glue_refusal (c.arena.ensures.model i) c.args.f c.args.g) ∙ c.in-Err.ensures.refused refusal is
+returns-in-Err-clause-refused c = λ refusal is. sym (λ i. shapes.glue_refusal (c.arena.ensures.model i) c.args.f c.args.other) ∙ c.in-Err.ensures.refused refusal is
 
 pub join-requires : goal.join-requires
-join-requires c = ap (λ (d : DraftJournal). shapes.glue_refusal d.model c.args.f c.args.g) c.in-Ok.ensures.ok ∙ sym (ap (λ M. shapes.glue_refusal M c.args.f c.args.g) c.arena.ensures.model) ∙ c.in_default.ensures.ok
+join-requires c = ap (λ (d : DraftJournal). shapes.glue_refusal d.model c.args.f c.args.other) c.in-Ok.ensures.ok ∙ sym (ap (λ M. shapes.glue_refusal M c.args.f c.args.other) c.arena.ensures.model) ∙ c.in_default.ensures.ok
 
 pub returns-in-Ok-join-clause-ok : goal.returns-in-Ok-join-clause-ok
 returns-in-Ok-join-clause-ok c =
-    let model = c.in-Ok-join.ensures.model ∙ ap (λ (d : DraftJournal). glue_model d.model c.args.f c.args.g) c.in-Ok.ensures.ok in
+    let model = c.in-Ok-join.ensures.model ∙ ap (λ (d : DraftJournal). glue_model d.model c.args.f c.args.other) c.in-Ok.ensures.ok in
     let session = c.in-Ok-join.ensures.session ∙ ap (λ (d : DraftJournal). d.session) c.in-Ok.ensures.ok in (
-      sym (ap (λ M. shapes.glue_refusal M c.args.f c.args.g) c.arena.ensures.model) ∙ c.in_default.ensures.ok,
+      sym (ap (λ M. shapes.glue_refusal M c.args.f c.args.other) c.arena.ensures.model) ∙ c.in_default.ensures.ok,
       ap (λ (j : Journal). j.machine) c.commit.ensures ∙ (λ t. accepted (session t).machine (model t)),
     )
 

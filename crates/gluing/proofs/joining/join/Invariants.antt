@@ -6,7 +6,7 @@ use Rattle.gluing.proofs.joining.join.Given as goal
 
 abbrev pub invariant-items : goal.invariant-items
 invariant-items l = record {
-  joining : Joining l.fn.draft.model l.f l.g l.draft.model (code l.item);
+  joining : Joining l.fn.draft.model l.f l.other l.draft.model (code l.item);
   session : l.draft.session ≡ l.fn.draft.session;
 }
 

@@ -9,16 +9,16 @@ use Rattle.gluing.proofs.joining.open_seam.Goals as goal
 pub step_accepted-requires-3 : goal.step_accepted-requires-3
 step_accepted-requires-3 c =
     let solid = c.solid_of-solid.ensures ∙ ap (λ X. solid_of X c.args.f) c.arena.ensures.model in
-    let other = c.solid_of-other.ensures ∙ ap (λ X. solid_of X c.args.g) c.arena-2.ensures.model in
-    let ops = opening_left c.args.draft.now.model c.args.f c.args.g c.args.edge c.args.first c.args.partner c.solid_of-solid.result c.solid_of-other.result c.plus.result (half (plus c.args.edge)) solid other c.plus.ensures refl c.requires.accepted in
+    let other = c.solid_of-other_solid.ensures ∙ ap (λ X. solid_of X c.args.other) c.arena-2.ensures.model in
+    let ops = opening_left c.args.draft.now.model c.args.f c.args.other c.args.edge c.args.first c.args.partner c.solid_of-solid.result c.solid_of-other_solid.result c.plus.result (half (plus c.args.edge)) solid other c.plus.ensures refl c.requires.accepted in
     let one = next_taken ops (ap (λ (d : DraftJournal). d.model) c.in_ok-step_accepted.ensures.ok) in
     next_goes (next_taken one (ap (λ (d : DraftJournal). d.model) c.in_ok-step_accepted-2.ensures.ok))
 
 pub step_accepted-requires-4 : goal.step_accepted-requires-4
 step_accepted-requires-4 c =
     let solid = c.solid_of-solid.ensures ∙ ap (λ X. solid_of X c.args.f) c.arena.ensures.model in
-    let other = c.solid_of-other.ensures ∙ ap (λ X. solid_of X c.args.g) c.arena-2.ensures.model in
-    let ops = opening_left c.args.draft.now.model c.args.f c.args.g c.args.edge c.args.first c.args.partner c.solid_of-solid.result c.solid_of-other.result c.plus.result c.plus-2.result solid other c.plus.ensures c.plus-2.ensures c.requires.accepted in
+    let other = c.solid_of-other_solid.ensures ∙ ap (λ X. solid_of X c.args.other) c.arena-2.ensures.model in
+    let ops = opening_left c.args.draft.now.model c.args.f c.args.other c.args.edge c.args.first c.args.partner c.solid_of-solid.result c.solid_of-other_solid.result c.plus.result c.plus-2.result solid other c.plus.ensures c.plus-2.ensures c.requires.accepted in
     let one = next_taken ops (ap (λ (d : DraftJournal). d.model) c.in_ok-step_accepted.ensures.ok) in
     let two = next_taken one (ap (λ (d : DraftJournal). d.model) c.in_ok-step_accepted-2.ensures.ok) in
     next_goes (next_taken two (ap (λ (d : DraftJournal). d.model) c.in_ok-step_accepted-3.ensures.ok))
@@ -26,8 +26,8 @@ step_accepted-requires-4 c =
 pub returns-clause-model : goal.returns-clause-model
 returns-clause-model c =
     let solid = c.solid_of-solid.ensures ∙ ap (λ X. solid_of X c.args.f) c.arena.ensures.model in
-    let other = c.solid_of-other.ensures ∙ ap (λ X. solid_of X c.args.g) c.arena-2.ensures.model in
-    let ops = opening_left c.args.draft.now.model c.args.f c.args.g c.args.edge c.args.first c.args.partner c.solid_of-solid.result c.solid_of-other.result c.plus.result c.plus-2.result solid other c.plus.ensures c.plus-2.ensures c.requires.accepted in
+    let other = c.solid_of-other_solid.ensures ∙ ap (λ X. solid_of X c.args.other) c.arena-2.ensures.model in
+    let ops = opening_left c.args.draft.now.model c.args.f c.args.other c.args.edge c.args.first c.args.partner c.solid_of-solid.result c.solid_of-other_solid.result c.plus.result c.plus-2.result solid other c.plus.ensures c.plus-2.ensures c.requires.accepted in
     let one = next_taken ops (ap (λ (d : DraftJournal). d.model) c.in_ok-step_accepted.ensures.ok) in
     let two = next_taken one (ap (λ (d : DraftJournal). d.model) c.in_ok-step_accepted-2.ensures.ok) in
     let three = next_taken two (ap (λ (d : DraftJournal). d.model) c.in_ok-step_accepted-3.ensures.ok) in

@@ -15,8 +15,8 @@ returns-then-from-to-clause-is c =
 pub overflow_sub-start : goal.overflow_sub-start
 overflow_sub-start c = (gap_told c.args.start c.args.end c.requires.start c.requires.end).fits
 
-pub whole_quotient-requires-clause-w : goal.whole_quotient-requires-clause-w
-whole_quotient-requires-clause-w c = λ e. opposite_apart c.args.start c.args.end c.requires.opposite (sym (gap_told c.args.start c.args.end c.requires.start c.requires.end).kept ∙ e)
+pub whole_quotient-requires-clause-divisor : goal.whole_quotient-requires-clause-divisor
+whole_quotient-requires-clause-divisor c = λ e. opposite_apart c.args.start c.args.end c.requires.opposite (sym (gap_told c.args.start c.args.end c.requires.start c.requires.end).kept ∙ e)
 
 pub whole_quotient-requires-clause-range : goal.whole_quotient-requires-clause-range
 whole_quotient-requires-clause-range c =

@@ -27,18 +27,18 @@ pub returns-in-Err-clause-refused : goal.returns-in-Err-clause-refused
 returns-in-Err-clause-refused c = λ refusal is.
     let plane : c.plane_of-plane.result ≡ record { a = c.args.a; b = c.args.b; c = c.args.c; d = c.args.d } =
     c.plane_of-plane.ensures ∙ plane_is c.args.a c.args.b c.args.c c.args.d c.ranges.a c.ranges.b c.ranges.c c.ranges.d in
-    sym (λ i. split_refusal (c.arena.ensures.model i) c.args.s (plane i) c.args.t) ∙ c.in-Err.ensures.refused refusal (same_failure c.in-Err.failure (failure.Refused refusal) is)
+    sym (λ i. split_refusal (c.arena.ensures.model i) c.args.s (plane i) c.args.upper) ∙ c.in-Err.ensures.refused refusal (same_failure c.in-Err.failure (failure.Refused refusal) is)
 
 pub returns-in-Ok-Ok-clause-ok : goal.returns-in-Ok-Ok-clause-ok
 returns-in-Ok-Ok-clause-ok c =
     let plane : c.plane_of-plane.result ≡ record { a = c.args.a; b = c.args.b; c = c.args.c; d = c.args.d } =
     c.plane_of-plane.ensures ∙ plane_is c.args.a c.args.b c.args.c c.args.d c.ranges.a c.ranges.b c.ranges.c c.ranges.d in
     let opened = c.in-Ok-open.ensures.ok in (
-      sym (λ i. split_refusal (opened i).model c.args.s (plane i) c.args.t)
-          ∙ verdict_passed (split_refusal c.in-Ok-open.draft.model c.args.s c.plane_of-plane.result c.args.t) tt (sym c.in-Ok-Ok.field-0-is ∙ c.in-Ok-Ok.ensures.carried),
+      sym (λ i. split_refusal (opened i).model c.args.s (plane i) c.args.upper)
+          ∙ verdict_passed (split_refusal c.in-Ok-open.draft.model c.args.s c.plane_of-plane.result c.args.upper) tt (sym c.in-Ok-Ok.field-0-is ∙ c.in-Ok-Ok.ensures.carried),
       ap (λ (j : Journal). j.machine) c.commit.ensures
           ∙ (λ i. accepted (c.in-Ok-Ok.ensures.session i).machine (c.in-Ok-Ok.ensures.model (ap Ok c.in-Ok-Ok.field-0-is) i))
-          ∙ (λ i. accepted (opened i).session.machine (split_model (opened i).model c.args.s (plane i) c.args.t)),
+          ∙ (λ i. accepted (opened i).session.machine (split_model (opened i).model c.args.s (plane i) c.args.upper)),
     )
 
 pub returns-in-Ok-Ok-clause-recorded : goal.returns-in-Ok-Ok-clause-recorded
@@ -51,8 +51,8 @@ pub returns-in-Ok-Err-clause-refused : goal.returns-in-Ok-Err-clause-refused
 returns-in-Ok-Err-clause-refused c = λ refusal is.
     let plane : c.plane_of-plane.result ≡ record { a = c.args.a; b = c.args.b; c = c.args.c; d = c.args.d } =
     c.plane_of-plane.ensures ∙ plane_is c.args.a c.args.b c.args.c c.args.d c.ranges.a c.ranges.b c.ranges.c c.ranges.d in
-    sym (λ i. split_refusal (c.in-Ok-open.ensures.ok i).model c.args.s (plane i) c.args.t)
-    ∙ verdict_failed (split_refusal c.in-Ok-open.draft.model c.args.s c.plane_of-plane.result c.args.t) refusal
+    sym (λ i. split_refusal (c.in-Ok-open.ensures.ok i).model c.args.s (plane i) c.args.upper)
+    ∙ verdict_failed (split_refusal c.in-Ok-open.draft.model c.args.s c.plane_of-plane.result c.args.upper) refusal
     (ap Err (sym (same_refusal c.in-Ok-Err.refusal refusal is)) ∙ sym c.in-Ok-Err.field-0-is ∙ c.in-Ok-Err.ensures.carried)
 
 pub returns-in-Ok-Err-clause-err : goal.returns-in-Ok-Err-clause-err

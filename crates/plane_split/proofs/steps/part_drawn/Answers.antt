@@ -5,17 +5,17 @@ use Rattle.plane_split.proofs.Parted.{section_opens, upper_leads}
 use Rattle.plane_split.proofs.steps.part_drawn.Goals as goal
 
 pub open_section-requires-clause-opens : goal.open_section-requires-clause-opens
-open_section-requires-clause-opens c = section_opens c.args.draft.now.model c.args.drawn.now c.args.s c.args.plane.now c.args.t c.args.section.now c.requires.drawn c.requires.section
+open_section-requires-clause-opens c = section_opens c.args.draft.now.model c.args.drawn.now c.args.s c.args.plane.now c.args.upper c.args.section.now c.requires.drawn c.requires.section
 
 pub part_upper-requires : goal.part_upper-requires
 part_upper-requires c =
     let opened = c.in_ok-caps.ensures.opened in
-    (upper_leads c.args.draft.now.model c.args.drawn.now c.args.s c.args.plane.now c.args.t c.args.section.now c.requires.drawn c.requires.section
+    (upper_leads c.args.draft.now.model c.args.drawn.now c.args.s c.args.plane.now c.args.upper c.args.section.now c.requires.drawn c.requires.section
     c.open_section.new.draft.model c.as_slice-above.result.now (all_caps c.as_slice.result.now) opened.0 c.as_slice-above.ensures.value (ap all_caps c.as_slice.ensures.value ∙ opened.1)).accepted
 
 pub returns-clause-model : goal.returns-clause-model
 returns-clause-model c =
     let opened = c.in_ok-caps.ensures.opened in
-    let made = (upper_leads c.args.draft.now.model c.args.drawn.now c.args.s c.args.plane.now c.args.t c.args.section.now c.requires.drawn c.requires.section
+    let made = (upper_leads c.args.draft.now.model c.args.drawn.now c.args.s c.args.plane.now c.args.upper c.args.section.now c.requires.drawn c.requires.section
     c.open_section.new.draft.model c.as_slice-above.result.now (all_caps c.as_slice.result.now) opened.0 c.as_slice-above.ensures.value (ap all_caps c.as_slice.ensures.value ∙ opened.1)).made in
     on_ok_weaker c.part_upper.result (λ h. h ∙ made) c.part_upper.ensures.model

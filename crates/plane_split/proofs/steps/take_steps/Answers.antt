@@ -8,17 +8,17 @@ use Rattle.plane_split.proofs.Parted.{split_is}
 use Rattle.plane_split.proofs.steps.take_steps.Goals as goal
 
 pub check_later-requires-clause-plane : goal.check_later-requires-clause-plane
-check_later-requires-clause-plane c = plane_within c.args.draft.now.model c.args.s c.args.plane.now c.args.t c.requires.begins
+check_later-requires-clause-plane c = plane_within c.args.draft.now.model c.args.s c.args.plane.now c.args.upper c.requires.begins
 
 pub check_later-requires-clause-there : goal.check_later-requires-clause-there
 check_later-requires-clause-there c =
-    still_there c.args.draft.now.model c.args.s c.args.plane.now c.args.t c.requires.begins c.requires.sound (drawing_of c.in_ok-drawn.drawn c.arena.result.now.model [])
+    still_there c.args.draft.now.model c.args.s c.args.plane.now c.args.upper c.requires.begins c.requires.sound (drawing_of c.in_ok-drawn.drawn c.arena.result.now.model [])
     (ap (λ X. drawing_of c.in_ok-drawn.drawn X []) c.arena.ensures.model ∙ c.in_ok-drawn.ensures.drawn)
 
 pub returns-in-Err-clause-carried : goal.returns-in-Err-clause-carried
 returns-in-Err-clause-carried c =
     let found = c.in_ok-section.ensures.refused c.in-Err.refusal (ap Ok c.in-Err.is) in
-    ap verdict (sym found ∙ later_decide c.args.draft.now.model c.args.s c.args.plane.now c.args.t c.requires.begins (drawing_of c.in_ok-drawn.drawn c.arena.result.now.model [])
+    ap verdict (sym found ∙ later_decide c.args.draft.now.model c.args.s c.args.plane.now c.args.upper c.requires.begins (drawing_of c.in_ok-drawn.drawn c.arena.result.now.model [])
     (ap (λ X. drawing_of c.in_ok-drawn.drawn X []) c.arena.ensures.model ∙ c.in_ok-drawn.ensures.drawn))
 
 pub part_drawn-requires-clause-drawn : goal.part_drawn-requires-clause-drawn
@@ -27,7 +27,7 @@ part_drawn-requires-clause-drawn c =
     record {
       before = c.args.draft.now.model;
       sound = c.requires.sound;
-      accepted = sym (later_decide c.args.draft.now.model c.args.s c.args.plane.now c.args.t c.requires.begins (drawing_of c.in_ok-drawn.drawn c.arena.result.now.model [])
+      accepted = sym (later_decide c.args.draft.now.model c.args.s c.args.plane.now c.args.upper c.requires.begins (drawing_of c.in_ok-drawn.drawn c.arena.result.now.model [])
           (ap (λ X. drawing_of c.in_ok-drawn.drawn X []) c.arena.ensures.model ∙ c.in_ok-drawn.ensures.drawn)) ∙ found.0;
       drawn = c.in_ok-drawn.ensures.drawn;
     }
@@ -40,9 +40,9 @@ part_drawn-requires-clause-section c =
 pub returns-clause-carried : goal.returns-clause-carried
 returns-clause-carried c =
     let found = c.in_ok-section.ensures.open c.in-Ok.section (ap Ok c.in-Ok.is) in
-    ap verdict (sym found.0 ∙ later_decide c.args.draft.now.model c.args.s c.args.plane.now c.args.t c.requires.begins (drawing_of c.in_ok-drawn.drawn c.arena.result.now.model [])
+    ap verdict (sym found.0 ∙ later_decide c.args.draft.now.model c.args.s c.args.plane.now c.args.upper c.requires.begins (drawing_of c.in_ok-drawn.drawn c.arena.result.now.model [])
     (ap (λ X. drawing_of c.in_ok-drawn.drawn X []) c.arena.ensures.model ∙ c.in_ok-drawn.ensures.drawn))
 
 pub returns-clause-model : goal.returns-clause-model
 returns-clause-model c = λ is.
-    c.in_ok-part_drawn.ensures.model ∙ ap (λ x. split_above x c.args.s c.args.plane.now c.args.t) c.in_ok-drawn.ensures.drawn ∙ split_is c.args.draft.now.model c.args.s c.args.plane.now c.args.t
+    c.in_ok-part_drawn.ensures.model ∙ ap (λ x. split_above x c.args.s c.args.plane.now c.args.upper) c.in_ok-drawn.ensures.drawn ∙ split_is c.args.draft.now.model c.args.s c.args.plane.now c.args.upper

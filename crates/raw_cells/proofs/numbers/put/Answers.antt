@@ -9,6 +9,6 @@ returns-then-before-eq0-clause-summed c = put-turned _ _ c.requires.summed _ _ c
 
 pub returns-else-before-eq0-clause-summed : goal.returns-else-before-eq0-clause-summed
 returns-else-before-eq0-clause-summed c =
-    let read : c.index-before.result.now ≡ word_at c.args.words.now.items (c.args.n / 64) = c.index-before.ensures ∙ get_or_default_zero _ _ _ c.requires.room in
-    let some : 0 < word_at c.args.words.now.items (c.args.n / 64) = omega (arith, read, c.if-before-eq0.false) in
+    let read : c.index-before.result.now ≡ word_at c.args.words.now.items (c.args.number / 64) = c.index-before.ensures ∙ get_or_default_zero _ _ _ c.requires.room in
+    let some : 0 < word_at c.args.words.now.items (c.args.number / 64) = omega (arith, read, c.if-before-eq0.false) in
     put-kept _ _ c.requires.summed _ _ c.set.ensures.others c.set.ensures.len c.set.ensures.uses some

@@ -7,10 +7,10 @@ pub put-requires : goal.put-requires
 put-requires g c = c.requires.room
 
 pub returns-then-contains-clause-same : goal.returns-then-contains-clause-same
-returns-then-contains-clause-same g c = λ u. ap (λ cells. slice_index_or cells c.args.n None) c.put.ensures ∙ get_or-set_same _ _ _ _ c.requires.room ∙ sym c.get.ensures
+returns-then-contains-clause-same g c = λ u. ap (λ cells. slice_index_or cells c.args.number None) c.put.ensures ∙ get_or-set_same _ _ _ _ c.requires.room ∙ sym c.get.ensures
 
 pub returns-then-contains-clause-others : goal.returns-then-contains-clause-others
-returns-then-contains-clause-others g c = λ k ne. ap (λ cells. slice_index_or cells k None) c.put.ensures ∙ get_or-set_other c.args.copy.now c.args.n k (Some c.get.result) None ne
+returns-then-contains-clause-others g c = λ k ne. ap (λ cells. slice_index_or cells k None) c.put.ensures ∙ get_or-set_other c.args.copy.now c.args.number k (Some c.get.result) None ne
 
 pub returns-then-contains-clause-len : goal.returns-then-contains-clause-len
 returns-then-contains-clause-len g c = ap length c.put.ensures ∙ length-set _ _ _

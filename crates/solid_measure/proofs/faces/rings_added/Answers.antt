@@ -9,10 +9,10 @@ use Rattle.solid_measure.proofs.Boundaries.{area_to_limited, area_to_start, area
 use Rattle.solid_measure.proofs.faces.rings_added.Goals as goal
 
 pub rings-init : goal.rings-init
-rings-init c = record { most = omega arith; summed = c.requires.n ∙ area_to_start c.args.arena.now.model c.requires.ready.sound c.args.f }
+rings-init c = record { most = omega arith; summed = c.requires.vector ∙ area_to_start c.args.arena.now.model c.requires.ready.sound c.args.f }
 
-pub loop_added-sum-requires-clause-n : goal.loop_added-sum-requires-clause-n
-loop_added-sum-requires-clause-n c = subst (IsVectorWithin area_limit) (sym c.rings.invariant.summed) (area_to_limited c.args.arena.now.model c.requires.ready.sound c.args.f c.rings.last)
+pub loop_added-sum-requires-clause-vector : goal.loop_added-sum-requires-clause-vector
+loop_added-sum-requires-clause-vector c = subst (IsVectorWithin area_limit) (sym c.rings.invariant.summed) (area_to_limited c.args.arena.now.model c.requires.ready.sound c.args.f c.rings.last)
 
 pub rings-preserved : goal.rings-preserved
 rings-preserved c =

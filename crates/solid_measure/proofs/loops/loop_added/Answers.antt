@@ -12,4 +12,4 @@ pub walk_round-requires-clause-item : goal.walk_round-requires-clause-item
 walk_round-requires-clause-item c = ring_has (content c.args.arena.now.model c.args.l) c.in-Ring.first c.in-Ring.ensures
 
 pub returns-in-Lone : goal.returns-in-Lone
-returns-in-Lone c = lone_adds c.args.arena.now.model (content c.args.arena.now.model c.args.l) c.in-Lone.field-0 (read c.args.n) c.in-Lone.ensures
+returns-in-Lone c = lone_adds c.args.arena.now.model (content c.args.arena.now.model c.args.l) c.in-Lone.field-0 (read c.args.vector) c.in-Lone.ensures

@@ -12,6 +12,6 @@ abbrev pub invariant-round : goal.invariant-round
 invariant-round l = record {
   from : l.from ≡ start l.arena.model l.code;
   range : IsInRange l.from;
-  area : AreaRound l.arena.model l.l (code l.fn.first) l.code (steps - l.counter) (read l.fn.n) (read l.sum);
+  area : AreaRound l.arena.model l.l (code l.fn.first) l.code (steps - l.counter) (read l.fn.vector) (read l.sum);
   least : LeastRound l.arena.model l.l (code l.fn.first) l.code (steps - l.counter) l.least;
 }

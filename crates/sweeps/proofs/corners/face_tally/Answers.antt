@@ -13,7 +13,7 @@ use Rattle.sweeps.proofs.corners.face_tally.Goals as goal
 pub returns : goal.returns
 unfolding corners
 returns c =
-    let M = c.args.arena.now.model in let d = c.args.d in let ls = loops_of M c.args.f in
+    let M = c.args.arena.now.model in let d = c.args.shift in let ls = loops_of M c.args.f in
     fold_from_yields_List _ (λ t l. joined t (tally M d (vertices_on M (content M l)))) _ c.fold.result c.fold.ensures.ran (YieldsList-from_first (λ l. l) (λ left. left) ls c.loops_of.ensures) (λ a x b q k. search (rules, tests))
     ∙ ap (λ t. fold (λ t l. joined t (tally M d (vertices_on M (content M l)))) t ls) (tally_none M d) ∙ fold_tallies M d (λ l. vertices_on M (content M l)) (vertices_in M) refl (λ l ls. refl) [] ls
 

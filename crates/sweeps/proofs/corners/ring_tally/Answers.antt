@@ -13,7 +13,7 @@ use Rattle.sweeps.proofs.corners.ring_tally.Goals as goal
 
 pub returns : goal.returns
 returns c =
-    let M = c.args.arena.now.model in let d = c.args.d in let hs = cycle_of M (code c.args.h) in
+    let M = c.args.arena.now.model in let d = c.args.shift in let hs = cycle_of M (code c.args.h) in
     fold_from_yields_List _ (λ t h. joined t (tally M d (tail M h ∷ []))) _ c.fold.result c.fold.ensures.ran (YieldsList-from_first code (λ left. left) hs c.items_of.ensures) (λ a x b q k. search (rules, tests))
     ∙ ap (λ t. fold (λ t h. joined t (tally M d (tail M h ∷ []))) t hs) (tally_none M d) ∙ fold_tallies M d (λ h. tail M h ∷ []) (map (tail M)) refl (λ h hs. refl) [] hs
 

@@ -14,15 +14,15 @@ use Rattle.sweeps.proofs.raising.raise.Goals as goal
 
 pub outer-outer-requires : goal.outer-outer-requires
 outer-outer-requires c = subst (λ X. has X.faces c.args.f ≡ true) (sym c.arena-arena.ensures.model)
-    (face_there c.args.draft.now.model c.args.f c.args.d (subst Sound c.arena-arena.ensures.model c.arena-arena.ensures.ready.sound) c.requires.accepted)
+    (face_there c.args.draft.now.model c.args.f c.args.shift (subst Sound c.arena-arena.ensures.model c.arena-arena.ensures.ready.sound) c.requires.accepted)
 
 pub rings_of-requires-clause-there : goal.rings_of-requires-clause-there
 rings_of-requires-clause-there c = subst (λ X. has X.faces c.args.f ≡ true) (sym c.arena-arena.ensures.model)
-    (face_there c.args.draft.now.model c.args.f c.args.d (subst Sound c.arena-arena.ensures.model c.arena-arena.ensures.ready.sound) c.requires.accepted)
+    (face_there c.args.draft.now.model c.args.f c.args.shift (subst Sound c.arena-arena.ensures.model c.arena-arena.ensures.ready.sound) c.requires.accepted)
 
 pub raise_loop-requires : goal.raise_loop-requires
 raise_loop-requires c =
-    let M = c.args.draft.now.model in let A = c.arena-arena.result.now.model in let f = c.args.f in let d = c.args.d in
+    let M = c.args.draft.now.model in let A = c.arena-arena.result.now.model in let f = c.args.f in let d = c.args.shift in
     let k = taken_of c.args.taken.now in let outer = c.outer-outer.result in let rs = c.in_ok-rings.rings.items in
     let rings = items_from_collect {E = Unit {0}} (Ok c.in_ok-rings.rings) c.in_ok-rings.ensures.ran (YieldsList-from_first (λ l. l) (λ left. left) (rings_of A f) c.rings_of.ensures) in
     let going = raised.all_going M A c.arena-arena.ensures.model c.arena-arena.ensures.ready.sound f d c.requires.accepted k (c.requires.taken ∙ ap taken_in (sym c.arena-arena.ensures.model)) outer c.outer-outer.ensures rs rings in
@@ -30,7 +30,7 @@ raise_loop-requires c =
 
 pub rings-init : goal.rings-init
 rings-init c =
-    let M = c.args.draft.now.model in let A = c.arena-arena.result.now.model in let f = c.args.f in let d = c.args.d in
+    let M = c.args.draft.now.model in let A = c.arena-arena.result.now.model in let f = c.args.f in let d = c.args.shift in
     let k = taken_of c.args.taken.now in let outer = c.outer-outer.result in let rs = c.in_ok-rings.rings.items in
     let rings = items_from_collect {E = Unit {0}} (Ok c.in_ok-rings.rings) c.in_ok-rings.ensures.ran (YieldsList-from_first (λ l. l) (λ left. left) (rings_of A f) c.rings_of.ensures) in
     let going = raised.all_going M A c.arena-arena.ensures.model c.arena-arena.ensures.ready.sound f d c.requires.accepted k (c.requires.taken ∙ ap taken_in (sym c.arena-arena.ensures.model)) outer c.outer-outer.ensures rs rings in
@@ -46,11 +46,11 @@ rings-init c =
 pub raise_loop-requires-in-len1-up : goal.raise_loop-requires-in-len1-up
 raise_loop-requires-in-len1-up c =
     let M = c.args.draft.now.model in let N = c.rings.draft.model in let k = taken_of c.rings.taken in let rest = c.rings.rest.now in
-    raised.loop_ready M N k c.args.f c.args.d (raised.first rest) (raised.others rest) (raised.going_on M N k c.args.f c.args.d rest c.in-len1-up.len_at_least c.rings.invariant.going)
+    raised.loop_ready M N k c.args.f c.args.shift (raised.first rest) (raised.others rest) (raised.going_on M N k c.args.f c.args.shift rest c.in-len1-up.len_at_least c.rings.invariant.going)
 
 pub rings-preserved : goal.rings-preserved
 rings-preserved c =
-    let M = c.args.draft.now.model in let N = c.rings.draft.model in let k = taken_of c.rings.taken in let rest = c.rings.rest.now in let f = c.args.f in let d = c.args.d in
+    let M = c.args.draft.now.model in let N = c.rings.draft.model in let k = taken_of c.rings.taken in let rest = c.rings.rest.now in let f = c.args.f in let d = c.args.shift in
     let going = raised.going_on M N k f d rest c.in-len1-up.len_at_least c.rings.invariant.going in
     let X = c.raise_loop-in-len1-up.new.draft.model in let t = taken_of c.in_ok-taken-2.taken in
     record {

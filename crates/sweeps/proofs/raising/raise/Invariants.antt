@@ -6,8 +6,8 @@ use Rattle.sweeps.proofs.raising.raise.Given as goal
 
 abbrev pub invariant-rings : goal.invariant-rings
 invariant-rings l = record {
-  going : Going l.fn.draft.model l.draft.model (taken_of l.taken) l.f l.d l.rest;
-  model : (prism_from l.f l.d (record { model = l.draft.model; taken = taken_of l.taken }) l.rest).model ≡ prism_model l.fn.draft.model l.f l.d;
+  going : Going l.fn.draft.model l.draft.model (taken_of l.taken) l.f l.shift l.rest;
+  model : (prism_from l.f l.shift (record { model = l.draft.model; taken = taken_of l.taken }) l.rest).model ≡ prism_model l.fn.draft.model l.f l.shift;
   session : l.draft.session ≡ l.fn.draft.session;
 }
 

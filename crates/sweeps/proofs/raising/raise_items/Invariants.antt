@@ -8,7 +8,7 @@ use Rattle.sweeps.proofs.raising.raise_items.Given as goal
 abbrev pub invariant-items : goal.invariant-items
 invariant-items l = record {
   inside : l.done < length (map code l.items);
-  model : l.draft.model ≡ effects l.fn.draft.model (rounds l.fn.draft.model (taken_of l.taken) l.d (map code l.items) l.done);
+  model : l.draft.model ≡ effects l.fn.draft.model (rounds l.fn.draft.model (taken_of l.taken) l.shift (map code l.items) l.done);
   session : l.draft.session ≡ l.fn.draft.session;
 }
 

@@ -17,7 +17,7 @@ pub raise_items-requires : goal.raise_items-requires
 raise_items-requires c =
     let are = ap (map code) c.as_slice.ensures.value ∙ c.in_ok-items.ensures ∙ ap (λ X. items_of (content X c.args.l)) c.arena.ensures.model in
     let M = c.args.draft.now.model in
-    record { face = face_of M c.args.l; loop_number = c.args.l; ready = subst (Ready M (taken_of c.args.taken.now) (face_of M c.args.l) c.args.l c.args.d) (sym are) c.requires }
+    record { face = face_of M c.args.l; loop_number = c.args.l; ready = subst (Ready M (taken_of c.args.taken.now) (face_of M c.args.l) c.args.l c.args.shift) (sym are) c.requires }
 
 pub counted_on-requires-clause-faces_left : goal.counted_on-requires-clause-faces_left
 counted_on-requires-clause-faces_left c = (raised.has_room _ _ _ _ _ _ c.requires _ (c.in_ok-items.ensures ∙ ap (λ X. items_of (content X c.args.l)) c.arena.ensures.model) _ (c.len.ensures ∙ c.in_ok-items.items.ok.0)).faces
@@ -38,4 +38,4 @@ pub returns-clause-model : goal.returns-clause-model
 returns-clause-model c =
     let are = ap (map code) c.as_slice.ensures.value ∙ c.in_ok-items.ensures ∙ ap (λ X. items_of (content X c.args.l)) c.arena.ensures.model in
     let M = c.args.draft.now.model in
-    c.in_ok-raise_items.ensures.model ∙ ap (λ hs. effects M (loop_ops M (taken_of c.args.taken.now) c.args.d hs)) are
+    c.in_ok-raise_items.ensures.model ∙ ap (λ hs. effects M (loop_ops M (taken_of c.args.taken.now) c.args.shift hs)) are

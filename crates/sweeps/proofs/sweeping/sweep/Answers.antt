@@ -8,9 +8,9 @@ use Rattle.sweeps.proofs.sweeping.sweep.Goals as goal
 
 pub returns-in-Ok-raise-clause-ok : goal.returns-in-Ok-raise-clause-ok
 returns-in-Ok-raise-clause-ok c =
-    let model = c.in-Ok-raise.ensures.model ∙ ap (λ (d : DraftJournal). prism_model d.model c.args.f c.args.d) c.in-Ok.ensures.ok in
+    let model = c.in-Ok-raise.ensures.model ∙ ap (λ (d : DraftJournal). prism_model d.model c.args.f c.args.shift) c.in-Ok.ensures.ok in
     let session = c.in-Ok-raise.ensures.session ∙ ap (λ (d : DraftJournal). d.session) c.in-Ok.ensures.ok in (
-      sym (ap (λ M. prism_refusal M c.args.f c.args.d) c.arena-arena.ensures.model) ∙ passed _ _ (sym c.check_sweep.ensures ∙ c.in_default.is),
+      sym (ap (λ M. prism_refusal M c.args.f c.args.shift) c.arena-arena.ensures.model) ∙ passed _ _ (sym c.check_sweep.ensures ∙ c.in_default.is),
       ap (λ (j : Journal). j.machine) c.commit.ensures ∙ (λ t. accepted (session t).machine (model t)),
     )
 

@@ -17,16 +17,16 @@ gained_is n new old was first is f = λ i. record { count = (is i).count + 1; fi
 
 pub returns-then-old-eq0-clause-rows : goal.returns-then-old-eq0-clause-rows
 returns-then-old-eq0-clause-rows c =
-    let first : c.if-new-eq0.head ≡ cond (nat_eq c.args.new.previous 0) c.args.n c.args.old.first = elim c.if-new-eq0.branch [
+    let first : c.if-new-eq0.head ≡ cond (nat_eq c.args.new.previous 0) c.args.item c.args.old.first = elim c.if-new-eq0.branch [
       | then-new-eq0 w ↦ first_new _ _ _ _ w.if-new-eq0.true w.head-is
       | else-new-eq0 w ↦ first_old _ _ _ _ w.if-new-eq0.false w.head-is
     ] in
-    head_written _ _ c.args.new.owner _ _ (gained_is c.args.n c.args.new c.args.old _ c.if-new-eq0.head c.requires.old first) c.put.ensures.rows
+    head_written _ _ c.args.new.owner _ _ (gained_is c.args.item c.args.new c.args.old _ c.if-new-eq0.head c.requires.old first) c.put.ensures.rows
 
 pub returns-else-old-eq0-clause-rows : goal.returns-else-old-eq0-clause-rows
 returns-else-old-eq0-clause-rows c =
-    let first : c.if-new-eq0.head ≡ cond (nat_eq c.args.new.previous 0) c.args.n c.args.old.first = elim c.if-new-eq0.branch [
+    let first : c.if-new-eq0.head ≡ cond (nat_eq c.args.new.previous 0) c.args.item c.args.old.first = elim c.if-new-eq0.branch [
       | then-new-eq0 w ↦ first_new _ _ _ _ w.if-new-eq0.true w.head-is
       | else-new-eq0 w ↦ first_old _ _ _ _ w.if-new-eq0.false w.head-is
     ] in
-    head_written _ _ c.args.new.owner _ _ (gained_is c.args.n c.args.new c.args.old _ c.if-new-eq0.head c.requires.old first) c.set.ensures.rows
+    head_written _ _ c.args.new.owner _ _ (gained_is c.args.item c.args.new c.args.old _ c.if-new-eq0.head c.requires.old first) c.set.ensures.rows

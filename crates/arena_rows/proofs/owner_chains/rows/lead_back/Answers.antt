@@ -3,8 +3,8 @@ use Rattle.arena_rows.specs.owner_chains.Chains.{leading_back}
 use Rattle.arena_rows.proofs.owner_chains_laws.Linking.{led_row, led_none}
 use Rattle.arena_rows.proofs.owner_chains.rows.lead_back.Goals as goal
 
-pub returns-then-n-eq0-clause-rows : goal.returns-then-n-eq0-clause-rows
-returns-then-n-eq0-clause-rows c = led_none (leading_back c.args.to) c.args.links.now c.args.n refl c.requires.zero c.if-n-eq0.true
+pub returns-then-item-eq0-clause-rows : goal.returns-then-item-eq0-clause-rows
+returns-then-item-eq0-clause-rows c = led_none (leading_back c.args.to) c.args.links.now c.args.item refl c.requires.zero c.if-item-eq0.true
 
 pub returns-clause-rows : goal.returns-clause-rows
 returns-clause-rows c = led_row (leading_back c.args.to) _ _ _ _ _ c.known-old.ensures refl c.set.ensures.rows

@@ -9,7 +9,7 @@ returns c =
     let only = room_only _ _ _ _ c.room.ensures.ok c.room.ensures.err in
     let spots = room_spots _ _ _ _ c.room.ensures.ok c.room.ensures.err in
     record {
-      whole = labelled-room _ _ _ _ c.requires.whole (more_labels c.args.labels.now c.args.labels.now (λ q. refl) (omega arith)) _ _ spots (codes_more _ _ _ c.args.c c.requires.whole.table.codes_there c.requires.label only);
+      whole = labelled-room _ _ _ _ c.requires.whole (more_labels c.args.labels.now c.args.labels.now (λ q. refl) (omega arith)) _ _ spots (codes_more _ _ _ c.args.code c.requires.whole.table.codes_there c.requires.label only);
       spots = spots;
       kept = room_kept _ _ _ _ c.room.ensures.ok c.room.ensures.err;
       only = only;

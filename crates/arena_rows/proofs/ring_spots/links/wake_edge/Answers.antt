@@ -32,8 +32,8 @@ returns c =
     let p = A.table.codes_there (plus c.args.e) c.requires.first.0 in
     let m = A.table.codes_there (minus c.args.e) c.requires.second.0 in
     let owns : own c.wake.new.labels (minus c.args.e) ≡ own c.args.labels.now (minus c.args.e) = ap (λ (f : ℕ → ℕ). f (minus c.args.e)) c.wake.ensures.own in
-    let is = c.wake-2.ensures.spots ∙ ap (λ (s : Spots). woken_as s (minus c.args.e) c.args.b (own c.wake.new.labels (minus c.args.e))) c.wake.ensures.spots
-    ∙ ap (woken_as (woken_as (spot c.args.rings.now) (plus c.args.e) c.args.a (own c.args.labels.now (plus c.args.e))) (minus c.args.e) c.args.b) owns in
+    let is = c.wake-2.ensures.spots ∙ ap (λ (s : Spots). woken_as s (minus c.args.e) c.args.end (own c.wake.new.labels (minus c.args.e))) c.wake.ensures.spots
+    ∙ ap (woken_as (woken_as (spot c.args.rings.now) (plus c.args.e) c.args.start (own c.args.labels.now (plus c.args.e))) (minus c.args.e) c.args.end) owns in
     let known = c.wake-2.ensures.known ∙ c.wake.ensures.known in
     let own_same = c.wake-2.ensures.own ∙ c.wake.ensures.own in
     let holders = c.wake-2.ensures.holder ∙ c.wake.ensures.holder in
@@ -41,7 +41,7 @@ returns c =
     let loops : (q : ℕ) → loop_at c.wake-2.new.labels q ≡ cond (nat_eq q (own c.args.labels.now (minus c.args.e))) 0 (cond (nat_eq q (own c.args.labels.now (plus c.args.e))) 0 (loop_at c.args.labels.now q)) =
     λ q. c.wake-2.ensures.loops q ∙ ap (λ z. cond (nat_eq q z) 0 (loop_at c.wake.new.labels q)) owns ∙ ap (cond (nat_eq q (own c.args.labels.now (minus c.args.e))) 0) (c.wake.ensures.loops q) in
     record {
-      whole = labelled-woken _ _ _ A c.args.e c.args.a c.args.b c.requires.limit c.requires.first.1 c.requires.second.1 p m _ _ _ is known own_same holders there loops;
-      spots = loops-woken _ _ _ A c.args.e c.args.a c.args.b c.requires.limit c.requires.first.1 c.requires.second.1 p m _ _ _ is known own_same holders there loops;
+      whole = labelled-woken _ _ _ A c.args.e c.args.start c.args.end c.requires.limit c.requires.first.1 c.requires.second.1 p m _ _ _ is known own_same holders there loops;
+      spots = loops-woken _ _ _ A c.args.e c.args.start c.args.end c.requires.limit c.requires.first.1 c.requires.second.1 p m _ _ _ is known own_same holders there loops;
       known = known;
     }

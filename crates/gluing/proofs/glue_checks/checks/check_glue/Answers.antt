@@ -7,38 +7,38 @@ use Rattle.gluing.proofs.glue_checks_laws.Conditions.{all_passed, faces_failed, 
 use Rattle.gluing.proofs.glue_checks.checks.check_glue.Goals as goal
 
 pub returns-then-is_err : goal.returns-then-is_err
-returns-then-is_err c = faces_failed c.args.arena.now.model c.args.f c.args.g c.check_faces-faces.result c.check_faces-faces.ensures (sym c.is_err.ensures.value ∙ c.if-is_err.true)
+returns-then-is_err c = faces_failed c.args.arena.now.model c.args.f c.args.other c.check_faces-faces.result c.check_faces-faces.ensures (sym c.is_err.ensures.value ∙ c.if-is_err.true)
 
 pub returns-then-is_err-2 : goal.returns-then-is_err-2
 returns-then-is_err-2 c =
-    let M = c.args.arena.now.model in let f = c.args.f in let g = c.args.g in
+    let M = c.args.arena.now.model in let f = c.args.f in let g = c.args.other in
     let faces = all_passed (face_conditions M f g) c.check_faces-faces.result c.check_faces-faces.ensures (sym c.is_err.ensures.value ∙ c.if-is_err.false) in
     solids_failed M f g faces c.check_solids-solids.result (c.check_solids-solids.ensures ∙ (λ i. verdict (first_refusal (solid_conditions M (c.solid_of.ensures i) (c.solid_of-2.ensures i))))) (sym c.is_err-2.ensures.value ∙ c.if-is_err-2.true)
 
 pub check_outlines-requires-clause-first_held : goal.check_outlines-requires-clause-first_held
 check_outlines-requires-clause-first_held c =
-    let M = c.args.arena.now.model in let f = c.args.f in let g = c.args.g in
+    let M = c.args.arena.now.model in let f = c.args.f in let g = c.args.other in
     let faces = all_passed (face_conditions M f g) c.check_faces-faces.result c.check_faces-faces.ensures (sym c.is_err.ensures.value ∙ c.if-is_err.false) in
     let solids = all_passed (solid_conditions M (solid_of M f) (solid_of M g)) c.check_solids-solids.result (c.check_solids-solids.ensures ∙ (λ i. verdict (first_refusal (solid_conditions M (c.solid_of.ensures i) (c.solid_of-2.ensures i))))) (sym c.is_err-2.ensures.value ∙ c.if-is_err-2.false) in
     first_held M f g faces solids c.requires.sound
 
 pub check_outlines-requires-clause-second_held : goal.check_outlines-requires-clause-second_held
 check_outlines-requires-clause-second_held c =
-    let M = c.args.arena.now.model in let f = c.args.f in let g = c.args.g in
+    let M = c.args.arena.now.model in let f = c.args.f in let g = c.args.other in
     let faces = all_passed (face_conditions M f g) c.check_faces-faces.result c.check_faces-faces.ensures (sym c.is_err.ensures.value ∙ c.if-is_err.false) in
     let solids = all_passed (solid_conditions M (solid_of M f) (solid_of M g)) c.check_solids-solids.result (c.check_solids-solids.ensures ∙ (λ i. verdict (first_refusal (solid_conditions M (c.solid_of.ensures i) (c.solid_of-2.ensures i))))) (sym c.is_err-2.ensures.value ∙ c.if-is_err-2.false) in
     second_held M f g faces solids c.requires.sound
 
 pub returns-then-is_err-3 : goal.returns-then-is_err-3
 returns-then-is_err-3 c =
-    let M = c.args.arena.now.model in let f = c.args.f in let g = c.args.g in
+    let M = c.args.arena.now.model in let f = c.args.f in let g = c.args.other in
     let faces = all_passed (face_conditions M f g) c.check_faces-faces.result c.check_faces-faces.ensures (sym c.is_err.ensures.value ∙ c.if-is_err.false) in
     let solids = all_passed (solid_conditions M (solid_of M f) (solid_of M g)) c.check_solids-solids.result (c.check_solids-solids.ensures ∙ (λ i. verdict (first_refusal (solid_conditions M (c.solid_of.ensures i) (c.solid_of-2.ensures i))))) (sym c.is_err-2.ensures.value ∙ c.if-is_err-2.false) in
     outlines_failed M f g faces solids c.in_ok-outlines.outlines c.in_ok-outlines.ensures (sym c.is_err-3.ensures.value ∙ c.if-is_err-3.true)
 
 pub returns : goal.returns
 returns c =
-    let M = c.args.arena.now.model in let f = c.args.f in let g = c.args.g in
+    let M = c.args.arena.now.model in let f = c.args.f in let g = c.args.other in
     let faces = all_passed (face_conditions M f g) c.check_faces-faces.result c.check_faces-faces.ensures (sym c.is_err.ensures.value ∙ c.if-is_err.false) in
     let solids = all_passed (solid_conditions M (solid_of M f) (solid_of M g)) c.check_solids-solids.result (c.check_solids-solids.ensures ∙ (λ i. verdict (first_refusal (solid_conditions M (c.solid_of.ensures i) (c.solid_of-2.ensures i))))) (sym c.is_err-2.ensures.value ∙ c.if-is_err-2.false) in
     c.check_left.ensures ∙ ap (λ k. verdict (first_refusal (numbers_left k (record { faces = 0; loops = 0; edges = 1; vertices = 0 })))) c.counters_of.ensures.is ∙ ap verdict (numbers_decide M f g faces solids (all_passed (outline_conditions M f g) c.in_ok-outlines.outlines c.in_ok-outlines.ensures (sym c.is_err-3.ensures.value ∙ c.if-is_err-3.false)))

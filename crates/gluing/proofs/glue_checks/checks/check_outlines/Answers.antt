@@ -11,7 +11,7 @@ is_rotation-requires c =
 
 pub returns-then-not-is_rotation : goal.returns-then-not-is_rotation
 returns-then-not-is_rotation c =
-    let M = c.args.arena.now.model in let f = c.args.f in let g = c.args.g in
+    let M = c.args.arena.now.model in let f = c.args.f in let g = c.args.other in
     let first : has_repeats (outline M f) ≡ false = sym (ap has_repeats (c.as_slice.ensures.value ∙ c.in_ok-points.ensures)) ∙ sym c.in_ok-has_repeats.ensures ∙ c.if-branch.false in
     let second : has_repeats (outline M g) ≡ false = sym (ap has_repeats (c.as_slice-2.ensures.value ∙ c.in_ok-others.ensures)) ∙ sym c.in_ok-has_repeats-2.ensures ∙ c.if-branch-2.false in
     let turned : is_rotation (outline M f) (reverse (outline M g)) ≡ false =

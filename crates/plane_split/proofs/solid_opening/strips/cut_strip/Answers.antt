@@ -7,10 +7,10 @@ use Rattle.plane_split.proofs.solid_opening_laws.Items.{strip_op}
 use Rattle.plane_split.proofs.solid_opening.strips.cut_strip.Goals as goal
 
 pub step_accepted-requires : goal.step_accepted-requires
-step_accepted-requires c = ap (first_false c.args.draft.now.model) (strip_op c.arena.result.now.model c.args.draft.now.model c.arena.ensures.model (taken_of c.args.from.now) c.args.halves.now c.args.i c.requires.inside _
+step_accepted-requires c = ap (first_false c.args.draft.now.model) (strip_op c.arena.result.now.model c.args.draft.now.model c.arena.ensures.model (taken_of c.args.from.now) c.args.halves.now c.args.at c.requires.inside _
     c.mate-mate.result c.next_item-next.result c.plus-edge.result c.mate-mate.ensures c.next_item-next.ensures c.plus-edge.ensures) ∙ c.requires.accepted
 
 pub returns-clause-ok : goal.returns-clause-ok
 returns-clause-ok c = subst (λ op. OnOk c.step_accepted.result (c.step_accepted.new.self ≡ after_step c.args.draft.now op))
-    (strip_op c.arena.result.now.model c.args.draft.now.model c.arena.ensures.model (taken_of c.args.from.now) c.args.halves.now c.args.i c.requires.inside _
+    (strip_op c.arena.result.now.model c.args.draft.now.model c.arena.ensures.model (taken_of c.args.from.now) c.args.halves.now c.args.at c.requires.inside _
     c.mate-mate.result c.next_item-next.result c.plus-edge.result c.mate-mate.ensures c.next_item-next.ensures c.plus-edge.ensures) c.step_accepted.ensures.ok

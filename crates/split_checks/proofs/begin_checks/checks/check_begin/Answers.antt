@@ -8,18 +8,18 @@ use Rattle.split_checks.proofs.begin_checks.checks.check_begin.Goals as goal
 
 pub returns-in-Err-clause-refused : goal.returns-in-Err-clause-refused
 returns-in-Err-clause-refused c =
-    let M = c.args.arena.now.model in let s = c.args.s in let p = c.args.plane.now in let t = c.args.t in
+    let M = c.args.arena.now.model in let s = c.args.s in let p = c.args.plane.now in let t = c.args.upper in
     numbers_refused M s p t c.in-Err.refusal (verdict_failed (first_refusal (number_conditions M s t)) c.in-Err.refusal c.in-Err.ensures)
 
 pub returns-in-Err-check_plane-clause-refused : goal.returns-in-Err-check_plane-clause-refused
 returns-in-Err-check_plane-clause-refused c =
-    let M = c.args.arena.now.model in let s = c.args.s in let p = c.args.plane.now in let t = c.args.t in
+    let M = c.args.arena.now.model in let s = c.args.s in let p = c.args.plane.now in let t = c.args.upper in
     let known = verdict_passed (first_refusal (number_conditions M s t)) c.in_default.field-0 c.in_default.ensures in
     range_refused M s p t known c.in-Err-check_plane.refusal (verdict_failed (first_refusal (plane_in_range p)) c.in-Err-check_plane.refusal c.in-Err-check_plane.ensures)
 
 pub returns-in-Err-check_solid-clause-refused : goal.returns-in-Err-check_solid-clause-refused
 returns-in-Err-check_solid-clause-refused c =
-    let M = c.args.arena.now.model in let s = c.args.s in let p = c.args.plane.now in let t = c.args.t in
+    let M = c.args.arena.now.model in let s = c.args.s in let p = c.args.plane.now in let t = c.args.upper in
     let known = verdict_passed (first_refusal (number_conditions M s t)) c.in_default.field-0 c.in_default.ensures in
     let range = verdict_passed (first_refusal (plane_in_range p)) c.in_default-check_plane.field-0 c.in_default-check_plane.ensures in
     solid_refused M s p t known range c.in-Err-check_solid.refusal (verdict_failed (first_refusal (solid_conditions M s)) c.in-Err-check_solid.refusal c.in-Err-check_solid.ensures)
@@ -27,11 +27,11 @@ returns-in-Err-check_solid-clause-refused c =
 pub check_section-requires-clause-plane : goal.check_section-requires-clause-plane
 check_section-requires-clause-plane c =
     let p = c.args.plane.now in
-    cut_plane c.args.arena.now.model c.args.s p c.args.t (verdict_passed (first_refusal (plane_in_range p)) c.in_default-check_plane.field-0 c.in_default-check_plane.ensures)
+    cut_plane c.args.arena.now.model c.args.s p c.args.upper (verdict_passed (first_refusal (plane_in_range p)) c.in_default-check_plane.field-0 c.in_default-check_plane.ensures)
 
 pub returns-clause-begins : goal.returns-clause-begins
 returns-clause-begins c =
-    let M = c.args.arena.now.model in let s = c.args.s in let p = c.args.plane.now in let t = c.args.t in
+    let M = c.args.arena.now.model in let s = c.args.s in let p = c.args.plane.now in let t = c.args.upper in
     let known = verdict_passed (first_refusal (number_conditions M s t)) c.in_default.field-0 c.in_default.ensures in
     let range = verdict_passed (first_refusal (plane_in_range p)) c.in_default-check_plane.field-0 c.in_default-check_plane.ensures in
     let solid = verdict_passed (first_refusal (solid_conditions M s)) c.in_default-check_solid.field-0 c.in_default-check_solid.ensures in
@@ -39,7 +39,7 @@ returns-clause-begins c =
 
 pub returns-clause-refused : goal.returns-clause-refused
 returns-clause-refused c =
-    let M = c.args.arena.now.model in let s = c.args.s in let p = c.args.plane.now in let t = c.args.t in
+    let M = c.args.arena.now.model in let s = c.args.s in let p = c.args.plane.now in let t = c.args.upper in
     let known = verdict_passed (first_refusal (number_conditions M s t)) c.in_default.field-0 c.in_default.ensures in
     let range = verdict_passed (first_refusal (plane_in_range p)) c.in_default-check_plane.field-0 c.in_default-check_plane.ensures in
     let solid = verdict_passed (first_refusal (solid_conditions M s)) c.in_default-check_solid.field-0 c.in_default-check_solid.ensures in

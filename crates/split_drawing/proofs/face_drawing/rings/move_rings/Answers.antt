@@ -4,13 +4,13 @@ use Rattle.split_drawing.proofs.face_drawing_laws.GivenRings.{ring_goes, rings_g
 use Rattle.split_drawing.proofs.face_drawing.rings.move_rings.Goals as goal
 
 pub step_accepted-requires : goal.step_accepted-requires
-step_accepted-requires c = ring_goes c.rings.draft.model c.args.k c.rings.rest.now _ c.in-len1-up.len_at_least c.rings.invariant.accepted
+step_accepted-requires c = ring_goes c.rings.draft.model c.args.to c.rings.rest.now _ c.in-len1-up.len_at_least c.rings.invariant.accepted
 
 pub rings-preserved : goal.rings-preserved
 rings-preserved c =
     let is = ap (λ (d : DraftJournal). d.model) c.in_ok-step_accepted.ensures.ok in
     record {
-      accepted = rings_go c.rings.draft.model c.args.k c.rings.rest.now _ c.in-len1-up.len_at_least c.rings.invariant.accepted c.step_accepted.new.self.model is;
-      made = rings_made c.rings.draft.model c.args.k c.rings.rest.now _ c.in-len1-up.len_at_least c.rings.invariant.accepted c.step_accepted.new.self.model is ∙ c.rings.invariant.made;
+      accepted = rings_go c.rings.draft.model c.args.to c.rings.rest.now _ c.in-len1-up.len_at_least c.rings.invariant.accepted c.step_accepted.new.self.model is;
+      made = rings_made c.rings.draft.model c.args.to c.rings.rest.now _ c.in-len1-up.len_at_least c.rings.invariant.accepted c.step_accepted.new.self.model is ∙ c.rings.invariant.made;
       session = ap (λ (d : DraftJournal). d.session) c.in_ok-step_accepted.ensures.ok ∙ c.rings.invariant.session;
     }

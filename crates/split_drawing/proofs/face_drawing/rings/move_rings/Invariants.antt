@@ -5,8 +5,8 @@ use Rattle.split_drawing.proofs.face_drawing.rings.move_rings.Given as goal
 
 abbrev pub invariant-rings : goal.invariant-rings
 invariant-rings l = record {
-  accepted : AreAccepted l.draft.model (ring_ops l.rest l.k);
-  made : effects l.draft.model (ring_ops l.rest l.k) ≡ effects l.fn.draft.model (ring_ops l.rings l.k);
+  accepted : AreAccepted l.draft.model (ring_ops l.rest l.to);
+  made : effects l.draft.model (ring_ops l.rest l.to) ≡ effects l.fn.draft.model (ring_ops l.rings l.to);
   session : l.draft.session ≡ l.fn.draft.session;
 }
 

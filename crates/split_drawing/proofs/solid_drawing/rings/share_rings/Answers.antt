@@ -11,4 +11,4 @@ returns-clause-model c =
     let M = c.args.draft.now.model in
     let are = c.as_slice.ensures.value ∙ c.in_ok-rings.ensures ∙ ap (λ X. rings_above X c.args.plane c.args.f) c.arena.ensures.model in
     subst (λ (N : Model). OnOk c.move_rings.result (c.move_rings.new.draft.model ≡ N))
-    (ap (λ ls. effects M (ring_ops ls c.args.k)) are ∙ rings_given M (rings_above M c.args.plane c.args.f) c.args.k) c.move_rings.ensures.model
+    (ap (λ ls. effects M (ring_ops ls c.args.to)) are ∙ rings_given M (rings_above M c.args.plane c.args.f) c.args.to) c.move_rings.ensures.model

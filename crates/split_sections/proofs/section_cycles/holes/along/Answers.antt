@@ -8,4 +8,4 @@ use Rattle.split_sections.proofs.section_cycles.holes.along.Goals as goal
 pub returns-clause-is : goal.returns-clause-is
 returns-clause-is c =
     held_is c.dot.result (fits _ _ c.dot.ensures.within (omega arith)) ∙ c.dot.ensures.is
-    ∙ ap (λ v. dot v c.args.to) (held_vector_is (read c.args.n) c.args.to c.dot.result c.requires.n c.dot.ensures.within)
+    ∙ ap (λ v. dot v c.args.to) (held_vector_is (read c.args.vector) c.args.to c.dot.result c.requires.vector c.dot.ensures.within)

@@ -14,8 +14,8 @@ pub half_added-area-requires-clause-there : goal.half_added-area-requires-clause
 half_added-area-requires-clause-there c =
     subst (HasHalf c.args.arena.now.model) (sym c.mate.ensures) (mate_there c.args.arena.now.model _ (first_there c.args.arena.now.model c.halves.rest.now none c.in-len1-up.len_at_least c.halves.invariant.there))
 
-pub half_added-area-requires-clause-n : goal.half_added-area-requires-clause-n
-half_added-area-requires-clause-n c = sum_room c.args.arena.now.model c.requires.ready.sound (map code c.args.halves.now) c.requires.there c.requires.apart (map code c.halves.rest.now) (read c.halves.area) c.halves.invariant.sum
+pub half_added-area-requires-clause-vector : goal.half_added-area-requires-clause-vector
+half_added-area-requires-clause-vector c = sum_room c.args.arena.now.model c.requires.ready.sound (map code c.args.halves.now) c.requires.there c.requires.apart (map code c.halves.rest.now) (read c.halves.area) c.halves.invariant.sum
 
 pub halves-preserved : goal.halves-preserved
 halves-preserved c =

@@ -2,5 +2,5 @@ use Rattle.std.proofs.Common.{sym, ◌∙◌}
 use Rattle.split_sections.proofs.section_edges_laws.Normals.{answered_limited}
 use Rattle.split_sections.proofs.section_edges.above.points_along.Goals as goal
 
-pub dot-requires-clause-n : goal.dot-requires-clause-n
-dot-requires-clause-n c = answered_limited c.args.arena.now.model c.requires.ready.sound c.args.f c.requires.there c.in-Ok.across (sym c.in-Ok.is ∙ c.normal.ensures)
+pub dot-requires-clause-vector : goal.dot-requires-clause-vector
+dot-requires-clause-vector c = answered_limited c.args.arena.now.model c.requires.ready.sound c.args.f c.requires.there c.in-Ok.across (sym c.in-Ok.is ∙ c.normal.ensures)

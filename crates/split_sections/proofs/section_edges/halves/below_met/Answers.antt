@@ -22,7 +22,7 @@ pub faces-preserved : goal.faces-preserved
 faces-preserved c =
     let M = c.args.arena.now.model in let fs = c.args.above.now in let s = c.args.s in let f = c.in-Some.f in
     let old = map code c.faces.found.items in let here = below_in M fs (boundary M f) in let rest = below_met M fs (above f (faces_of M s)) in
-    ap (λ (hs : List ℕ). hs ++ rest) c.in_ok-push_face_below.ensures ∙ append_assoc old here rest
+    ap (λ (hs : List ℕ). hs ++ rest) c.in_ok-push_below_halves.ensures ∙ append_assoc old here rest
     ∙ ap (λ (gs : List ℕ). old ++ below_met M fs gs) (sym (next_face M s c.faces.last f c.in-Some.ensures)) ∙ c.faces.invariant
 
 pub returns : goal.returns

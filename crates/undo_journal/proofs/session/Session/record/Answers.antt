@@ -8,11 +8,11 @@ use Rattle.undo_journal.proofs.session.Session.record.Goals as goal
 
 pub index-requires : goal.index-requires
 index-requires c =
-    let h : c.args.i < length c.self.inside.records.items = within _ _ _ _ c.self.invariant c.self.view_is c.args.i c.requires in
+    let h : c.args.index < length c.self.inside.records.items = within _ _ _ _ c.self.invariant c.self.view_is c.args.index c.requires in
     omega (arith, h, c.self.inside.records.ok.0)
 
-leads : (c : goal.After-index) → Leads (model_at c.args.self.now.machine c.args.i) c.index.result.now (model_at c.args.self.now.machine (c.args.i + 1))
-leads c = leads_seen _ _ _ _ c.self.invariant c.self.view_is c.args.i _ (within _ _ _ _ c.self.invariant c.self.view_is c.args.i c.requires) c.index.ensures
+leads : (c : goal.After-index) → Leads (model_at c.args.self.now.machine c.args.index) c.index.result.now (model_at c.args.self.now.machine (c.args.index + 1))
+leads c = leads_seen _ _ _ _ c.self.invariant c.self.view_is c.args.index _ (within _ _ _ _ c.self.invariant c.self.view_is c.args.index c.requires) c.index.ensures
 
 pub returns-clause-forward_goes : goal.returns-clause-forward_goes
 returns-clause-forward_goes c = (leads c).forward_goes
@@ -27,4 +27,4 @@ pub returns-clause-back : goal.returns-clause-back
 returns-clause-back c = (leads c).back
 
 pub returns-clause-exact : goal.returns-clause-exact
-returns-clause-exact c = c.index.ensures ∙ ap (λ (rs : List Record). slice_index_or rs c.args.i c.index.result.now) (records_seen _ _ _ _ c.self.invariant c.self.view_is)
+returns-clause-exact c = c.index.ensures ∙ ap (λ (rs : List Record). slice_index_or rs c.args.index c.index.result.now) (records_seen _ _ _ _ c.self.invariant c.self.view_is)

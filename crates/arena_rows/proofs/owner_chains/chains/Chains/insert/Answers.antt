@@ -6,7 +6,7 @@ use Rattle.arena_rows.proofs.owner_chains_laws.Coming.{Comes, coming, comes, put
 use Rattle.arena_rows.proofs.owner_chains.chains.Chains.insert.Goals as goal
 
 pub place_of-place-requires-clause-free : goal.place_of-place-requires-clause-free
-place_of-place-requires-clause-free c = ap (is_of c.args.owner) (row_free c.self.inside.links c.args.n (rw (← c.self.view_is) at c.requires.free))
+place_of-place-requires-clause-free c = ap (is_of c.args.owner) (row_free c.self.inside.links c.args.item (rw (← c.self.view_is) at c.requires.free))
 
 pub link_in-requires-clause-previous : goal.link_in-requires-clause-previous
 link_in-requires-clause-previous c = λ some. item_there c.self.inside.links c.args.owner _ (c.place_of-place.ensures.below.found some).1
@@ -17,7 +17,7 @@ link_in-requires-clause-next c = λ some. item_there c.self.inside.links c.args.
 pub gain-requires-clause-limit : goal.gain-requires-clause-limit
 gain-requires-clause-limit c = omega (arith, c.self.invariant.counts c.args.owner, few_owned c.self.inside.links c.args.owner, c.self.invariant.within)
 
-step : (c : goal.After-gain) → Comes c.self.inside.heads c.gain.new.heads c.self.inside.links c.link_in.new.links c.args.n (record { owner = c.args.owner; previous = c.place_of-place.result.previous; next = c.place_of-place.result.next })
+step : (c : goal.After-gain) → Comes c.self.inside.heads c.gain.new.heads c.self.inside.links c.link_in.new.links c.args.item (record { owner = c.args.owner; previous = c.place_of-place.result.previous; next = c.place_of-place.result.next })
 step c = coming _ _ _ _ _ _ _ _ c.self.invariant c.requires.some (rw (← c.self.view_is) at c.requires.free) (rw (← c.self.view_is) at c.requires.owner_room) c.place_of-place.ensures.below
     c.place_of-place.ensures.next c.link_in.ensures.rows c.link_in.ensures.len c.gain.ensures.rows c.gain.ensures.len
 

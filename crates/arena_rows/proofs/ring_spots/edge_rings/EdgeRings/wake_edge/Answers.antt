@@ -14,11 +14,11 @@ wake_edge-requires-clause-second c = (sym (seen_known c.self.inside.labels c.sel
 pub invariant_of-self : goal.invariant_of-self
 invariant_of-self c = record {
   labelled = c.wake_edge.ensures.whole;
-  edges = edges_woken _ _ c.self.invariant.edges _ _ c.args.e c.args.a c.args.b c.requires.limit (seen_as (λ (s : Spots). woken (woken s (plus c.args.e) c.args.a) (minus c.args.e) c.args.b) c.self.inside.labels c.wake_edge.new.labels c.self.inside.rings c.wake_edge.new.rings c.wake_edge.ensures.spots) (known_as c.self.inside.labels c.wake_edge.new.labels c.self.inside.rings c.wake_edge.new.rings c.wake_edge.ensures.known) c.put.ensures.uses c.put.ensures.len;
+  edges = edges_woken _ _ c.self.invariant.edges _ _ c.args.e c.args.start c.args.end c.requires.limit (seen_as (λ (s : Spots). woken (woken s (plus c.args.e) c.args.start) (minus c.args.e) c.args.end) c.self.inside.labels c.wake_edge.new.labels c.self.inside.rings c.wake_edge.new.rings c.wake_edge.ensures.spots) (known_as c.self.inside.labels c.wake_edge.new.labels c.self.inside.rings c.wake_edge.new.rings c.wake_edge.ensures.known) c.put.ensures.uses c.put.ensures.len;
 }
 
 pub returns-clause-spots : goal.returns-clause-spots
-returns-clause-spots c = rw (← c.self.view_is) (seen_as (λ (s : Spots). woken (woken s (plus c.args.e) c.args.a) (minus c.args.e) c.args.b) c.self.inside.labels c.wake_edge.new.labels c.self.inside.rings c.wake_edge.new.rings c.wake_edge.ensures.spots)
+returns-clause-spots c = rw (← c.self.view_is) (seen_as (λ (s : Spots). woken (woken s (plus c.args.e) c.args.start) (minus c.args.e) c.args.end) c.self.inside.labels c.wake_edge.new.labels c.self.inside.rings c.wake_edge.new.rings c.wake_edge.ensures.spots)
 
 pub returns-clause-known : goal.returns-clause-known
 returns-clause-known c = rw (← c.self.view_is) (known_as c.self.inside.labels c.wake_edge.new.labels c.self.inside.rings c.wake_edge.new.rings c.wake_edge.ensures.known)

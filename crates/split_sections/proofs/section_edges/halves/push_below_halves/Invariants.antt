@@ -4,7 +4,7 @@ use Rattle.euler_operators.specs.Model.{rings_of}
 use Rattle.shapes.specs.Faces.{boundary, items_in}
 use Rattle.solid_walks.proofs.face_walks_laws.Above.{above}
 use Rattle.split_sections.specs.section_edges.BelowHalves.{leading_above}
-use Rattle.split_sections.proofs.section_edges.halves.push_face_below.Given as goal
+use Rattle.split_sections.proofs.section_edges.halves.push_below_halves.Given as goal
 
 abbrev pub invariant-rings : goal.invariant-rings
 invariant-rings l = map code l.found.items ++ leading_above l.arena.model l.above (items_in l.arena.model (above l.last (rings_of l.arena.model l.f)))

@@ -9,7 +9,7 @@ use Rattle.solid_walks.proofs.face_walks_laws.RingWalks.{next_ring}
 use Rattle.split_checks.proofs.cut_places_laws.Rings.{outer_items, ring_items, no_items}
 use Rattle.split_sections.specs.section_edges.BelowHalves.{leads_above, leading_above}
 use Rattle.split_sections.proofs.section_edges_laws.Leading.{none_below, leading_below}
-use Rattle.split_sections.proofs.section_edges.halves.push_face_below.Goals as goal
+use Rattle.split_sections.proofs.section_edges.halves.push_below_halves.Goals as goal
 
 pub returns-then-is_listed : goal.returns-then-is_listed
 returns-then-is_listed c =
@@ -20,7 +20,7 @@ pub rings-init : goal.rings-init
 rings-init c =
     let M = c.args.arena.now.model in let f = c.args.f in let fs = c.args.above.now in let had = map code c.args.found.now.items in
     let first = items_of (content M (outer M f)) in let rest = items_in M (above 0 (rings_of M f)) in
-    ap (λ (hs : List ℕ). hs ++ leading_above M fs rest) (c.in_ok-push_loop_below.ensures ∙ ap (λ l. had ++ leading_above M fs (items_of (content M l))) c.outer.ensures)
+    ap (λ (hs : List ℕ). hs ++ leading_above M fs rest) (c.in_ok-push_leading_in_loop.ensures ∙ ap (λ l. had ++ leading_above M fs (items_of (content M l))) c.outer.ensures)
     ∙ append_assoc had (leading_above M fs first) (leading_above M fs rest)
     ∙ ap (λ (hs : List ℕ). had ++ hs) (sym (filter-append (leads_above M fs) first rest) ∙ ap (leading_above M fs) (outer_items M f c.requires.ready.sound))
 
@@ -31,7 +31,7 @@ pub rings-preserved : goal.rings-preserved
 rings-preserved c =
     let M = c.args.arena.now.model in let f = c.args.f in let l = c.in-Some.l in let fs = c.args.above.now in
     let had = map code c.rings.found.items in let more = items_of (content M l) in let rest = items_in M (above l (rings_of M f)) in
-    ap (λ (hs : List ℕ). hs ++ leading_above M fs rest) c.in_ok-push_loop_below-2.ensures ∙ append_assoc had (leading_above M fs more) (leading_above M fs rest)
+    ap (λ (hs : List ℕ). hs ++ leading_above M fs rest) c.in_ok-push_leading_in_loop-2.ensures ∙ append_assoc had (leading_above M fs more) (leading_above M fs rest)
     ∙ ap (λ (hs : List ℕ). had ++ hs) (sym (filter-append (leads_above M fs) more rest) ∙ ap (leading_above M fs) (sym (ring_items M f c.rings.last l c.in-Some.ensures)))
     ∙ c.rings.invariant
 

@@ -8,8 +8,8 @@ use Rattle.solid_walks.proofs.face_walks_laws.HalfCodes.{codes_same, codes_diffe
 use Rattle.solid_walks.proofs.face_walks_laws.CycleWalks.{to_come, item_there, item_in, from_least, goes_on, comes_back}
 use Rattle.split_checks.proofs.cut_places_laws.PlaceWalks.{taken, passed_by, none_left}
 use Rattle.split_sections.specs.section_edges.BelowHalves.{leads_above, leading_above}
-use Rattle.split_sections.proofs.section_edges.halves.push_ring_below.Goals.{then-leads_above+in_ok-push, else-leads_above}
-use Rattle.split_sections.proofs.section_edges.halves.push_ring_below.Goals as goal
+use Rattle.split_sections.proofs.section_edges.halves.push_leading_in_ring.Goals.{then-leads_above+in_ok-push, else-leads_above}
+use Rattle.split_sections.proofs.section_edges.halves.push_leading_in_ring.Goals as goal
 
 pub round-init : goal.round-init
 round-init c =

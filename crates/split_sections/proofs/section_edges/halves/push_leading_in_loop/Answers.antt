@@ -5,13 +5,13 @@ use Rattle.euler_operators.specs.Model.{content}
 use Rattle.euler_conditions.proofs.Known.{filled}
 use Rattle.split_checks.proofs.cut_places_laws.Walks.{ring_there, ring_cycle, lone_items}
 use Rattle.split_sections.specs.section_edges.BelowHalves.{leading_above}
-use Rattle.split_sections.proofs.section_edges.halves.push_loop_below.Goals as goal
+use Rattle.split_sections.proofs.section_edges.halves.push_leading_in_loop.Goals as goal
 
 pub content-requires-clause-filled : goal.content-requires-clause-filled
 content-requires-clause-filled c = filled c.args.arena.now.model c.requires.ready.sound c.args.l c.requires.there
 
-pub push_ring_below-requires-clause-there : goal.push_ring_below-requires-clause-there
-push_ring_below-requires-clause-there c = ring_there c.args.arena.now.model c.requires.ready.sound c.args.l c.in-Ring.h c.in-Ring.ensures
+pub push_leading_in_ring-requires-clause-there : goal.push_leading_in_ring-requires-clause-there
+push_leading_in_ring-requires-clause-there c = ring_there c.args.arena.now.model c.requires.ready.sound c.args.l c.in-Ring.h c.in-Ring.ensures
 
 pub returns-in-Lone : goal.returns-in-Lone
 returns-in-Lone c =
@@ -21,5 +21,5 @@ returns-in-Lone c =
 pub returns-in-Ring : goal.returns-in-Ring
 returns-in-Ring c =
     let M = c.args.arena.now.model in
-    subst (λ hs. OnOk c.push_ring_below.result (map code c.push_ring_below.new.found.items ≡ map code c.args.found.now.items ++ leading_above M c.args.above.now hs))
-    (ring_cycle M c.requires.ready.sound c.args.l c.in-Ring.h c.in-Ring.ensures) c.push_ring_below.ensures
+    subst (λ hs. OnOk c.push_leading_in_ring.result (map code c.push_leading_in_ring.new.found.items ≡ map code c.args.found.now.items ++ leading_above M c.args.above.now hs))
+    (ring_cycle M c.requires.ready.sound c.args.l c.in-Ring.h c.in-Ring.ensures) c.push_leading_in_ring.ensures

@@ -4,7 +4,7 @@ use Rattle.euler_operators.specs.HalfEdge.{code}
 use Rattle.euler_operators.specs.Model.{cycle_of}
 use Rattle.solid_walks.proofs.face_walks_laws.CycleWalks.{to_come}
 use Rattle.split_sections.specs.section_edges.BelowHalves.{leading_above}
-use Rattle.split_sections.proofs.section_edges.halves.push_ring_below.Given as goal
+use Rattle.split_sections.proofs.section_edges.halves.push_leading_in_ring.Given as goal
 
 abbrev pub invariant-round : goal.invariant-round
 invariant-round l = record {
