@@ -79,22 +79,22 @@ parts d s p t w = subst (λ x. Parts x s p t) (sym w.drawn) (upper w.before s p 
 -- ---- as the code has it
 
 module _ (N : Model) (c : Progress) (s : ℕ) (p : Plane) (t : ℕ) (q : Section) (w : IsDrawn (drawing_of c N []) s p t) (is : IsSection N s p q) where
-  pub section_opens : CanBeOpenedInTurn q.above.items s (unopened N c) (cycles_of q)
+  pub section_opens : CanBeOpenedInTurn q.above.items s (unopened N c.taken) (cycles_of q)
   section_opens =
-      subst (λ a. CanBeOpenedInTurn a s (unopened N c) (cycles_of q)) (sym is.above)
-      (subst (λ cs. CanBeOpenedInTurn (faces_above N p s) s (unopened N c) cs) (sym is.cycles) (opens (drawing_of c N []) s p t w))
+      subst (λ a. CanBeOpenedInTurn a s (unopened N c.taken) (cycles_of q)) (sym is.above)
+      (subst (λ cs. CanBeOpenedInTurn (faces_above N p s) s (unopened N c.taken) cs) (sym is.cycles) (opens (drawing_of c N []) s p t w))
 
-  opened_is : opened_section N c s p q ≡ opened_at (drawing_of c N []) (faces_above N p s) s p
-  opened_is = λ i. all_opened p (is.above i) s (unopened N c) (is.cycles i)
+  opened_is : opened_section N c.taken s p q ≡ opened_at (drawing_of c N []) (faces_above N p s) s p
+  opened_is = λ i. all_opened p (is.above i) s (unopened N c.taken) (is.cycles i)
 
-  upper_is : Leads (opened_section N c s p q).model (split_above (drawing_of c N []) s p t) (upper_ops (opened_section N c s p q) q.above.items s t)
-  upper_is = subst (λ a. Leads (opened_section N c s p q).model (split_above (drawing_of c N []) s p t) (upper_ops (opened_section N c s p q) a s t)) (sym is.above)
+  upper_is : Leads (opened_section N c.taken s p q).model (split_above (drawing_of c N []) s p t) (upper_ops (opened_section N c.taken s p q) q.above.items s t)
+  upper_is = subst (λ a. Leads (opened_section N c.taken s p q).model (split_above (drawing_of c N []) s p t) (upper_ops (opened_section N c.taken s p q) a s t)) (sym is.above)
       (subst (λ o. Leads o.model (split_above (drawing_of c N []) s p t) (upper_ops o (faces_above N p s) s t)) (sym opened_is) (parts (drawing_of c N []) s p t w))
 
   -- from what the opening left, the operators of the upper part lead to the split
-  pub upper_leads : (K : Model) (above : List ℕ) (ks : List Caps) → K ≡ (opened_section N c s p q).model → above ≡ q.above.items → ks ≡ (opened_section N c s p q).caps →
+  pub upper_leads : (K : Model) (above : List ℕ) (ks : List Caps) → K ≡ (opened_section N c.taken s p q).model → above ≡ q.above.items → ks ≡ (opened_section N c.taken s p q).caps →
       Leads K (split_above (drawing_of c N []) s p t) (hole_ops ks ++ Part s t (upper_left above ks) ∷ [])
   upper_leads K above ks is_model is_above is_caps =
       subst (λ X. Leads X (split_above (drawing_of c N []) s p t) (hole_ops ks ++ Part s t (upper_left above ks) ∷ [])) (sym is_model)
-      (subst (λ a. Leads (opened_section N c s p q).model (split_above (drawing_of c N []) s p t) (hole_ops ks ++ Part s t (upper_left a ks) ∷ [])) (sym is_above)
-      (subst (λ x. Leads (opened_section N c s p q).model (split_above (drawing_of c N []) s p t) (hole_ops x ++ Part s t (upper_left q.above.items x) ∷ [])) (sym is_caps) upper_is))
+      (subst (λ a. Leads (opened_section N c.taken s p q).model (split_above (drawing_of c N []) s p t) (hole_ops ks ++ Part s t (upper_left a ks) ∷ [])) (sym is_above)
+      (subst (λ x. Leads (opened_section N c.taken s p q).model (split_above (drawing_of c N []) s p t) (hole_ops x ++ Part s t (upper_left q.above.items x) ∷ [])) (sym is_caps) upper_is))

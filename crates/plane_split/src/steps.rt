@@ -32,7 +32,7 @@ fn part_drawn(
     ensures model { OnOk result (draft.new.model ≡ split_above (drawing_of drawn.now draft.old.model []) s plane.now upper) }
     ensures session { draft.new.session ≡ draft.old.session }
 {
-    let caps = open_section(alloc, draft, s, plane, drawn, section)?;
+    let caps = open_section(alloc, draft, s, plane, &drawn.taken, section)?;
     let above = section.above.as_slice();
     part_upper(alloc, draft, s, upper, above, caps.as_slice())
 }

@@ -22,7 +22,7 @@ pub use loops::half_added;
 pub use measures::{is_flat, normal, plane, six_volume};
 pub use solid_checks::{least_bent, least_bent_of_both, least_lone, least_lone_of_both};
 pub use solid_counts::{Tally, counts};
-pub use solid_walks::{check_left, counters_of, finish, least_item, previous, start};
+pub use solid_walks::{Counters, check_left, counters_of, finish, least_item, previous, start};
 
 /// A sum of cross products of points.
 #[derive(Clone, Copy)]

@@ -1,13 +1,10 @@
 -- The progress of a drawing, as the code has it.
 use Rattle.std.specs.Prelude.{ℕ, List}
 use Rattle.euler_operators.specs.Model.{Model}
-use Rattle.shapes.specs.Fresh.{Taken}
 use Rattle.shapes.specs.split.Drawing.{Drawing}
+use Rattle.solid_measure.specs.Counters.{taken_of}
 use Rattle.split_checks.specs.declared.progress.Progress.{Progress}
-
-abbrev pub taken_of : Progress → Taken
-taken_of c = record { face = c.faces; loop = c.loops; edge = c.edges; vertex = c.vertices }
 
 -- so far a model is drawn, and pairs are left
 abbrev pub drawing_of : Progress → Model → List (ℕ × ℕ) → Drawing
-drawing_of c M left = record { model = M; taken = taken_of c; left = left; stuck = c.stuck }
+drawing_of c M left = record { model = M; taken = taken_of c.taken; left = left; stuck = c.stuck }

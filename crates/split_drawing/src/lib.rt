@@ -19,4 +19,5 @@ mod face_drawing;
 mod solid_drawing;
 
 pub use solid_drawing::draw_solid;
+pub use solid_walks::Counters;
 pub use split_checks::{Cuts, Progress, check_begin};

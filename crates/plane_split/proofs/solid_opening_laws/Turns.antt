@@ -15,8 +15,8 @@ use Rattle.split_opening_laws.specs.opening.OpeningOps.{opening_ops}
 use Rattle.split_opening_laws.proofs.opening.Whole.{opening_made}
 use Rattle.split_laws.proofs.Flags.{flags_are, next_flags}
 use Rattle.split_drawing.proofs.CutPlaces.{others, parts}
-use Rattle.split_drawing.specs.Progress.{taken_of}
-use Rattle.split_drawing.specs.declared.Progress.{Progress}
+use Rattle.split_drawing.specs.Counters.{taken_of}
+use Rattle.split_drawing.specs.declared.Counters.{Counters}
 use Rattle.split_sections.specs.section_checks.Sections.{halves_of}
 use Rattle.split_sections.specs.declared.section_checks.section.Cycle.{Cycle}
 use Rattle.plane_split.specs.solid_opening.Capped.{caps_of, all_caps, opening_of}
@@ -51,7 +51,7 @@ next_holes above s p o bs cs w next =
 
 -- ---- the next cycle
 
-module _ (above : List ℕ) (s : ℕ) (p : Plane) (M : Model) (c : Progress) (caps : List Caps) (k : Cycle) (ks : List Cycle) (w : CanBeOpenedInTurn above s (opening_of M c caps) (halves_of k ∷ map halves_of ks)) where
+module _ (above : List ℕ) (s : ℕ) (p : Plane) (M : Model) (c : Counters) (caps : List Caps) (k : Cycle) (ks : List Cycle) (w : CanBeOpenedInTurn above s (opening_of M c caps) (halves_of k ∷ map halves_of ks)) where
   abbrev o : Opening
   o = opening_of M c caps
 
@@ -72,7 +72,7 @@ module _ (above : List ℕ) (s : ℕ) (p : Plane) (M : Model) (c : Progress) (ca
 
   -- where it is told whether the cycles are holes, and the solid is opened along the first
   module _ (flags : k.hole ∷ map (λ q. q.hole) ks ≡ is_hole M p (halves_of k) ∷ map (is_hole M p) (map halves_of ks)) (K : Model) (e : K ≡ effects M (opening_ops M s (taken_of c) (halves_of k)))
-      (d : Progress) (counted : d ≡ record c { faces = c.faces + length k.halves.items + 1; loops = c.loops + length k.halves.items + 1; edges = c.edges + 2 * length k.halves.items; vertices = c.vertices + length k.halves.items })
+      (d : Counters) (counted : d ≡ record c { faces = c.faces + length k.halves.items + 1; loops = c.loops + length k.halves.items + 1; edges = c.edges + 2 * length k.halves.items; vertices = c.vertices + length k.halves.items })
       (more : List Caps) (pushed : more ≡ caps ++ record { lower = c.faces + 1; upper = c.faces + length k.halves.items + 1; hole = k.hole } ∷ []) where
     size : n ≡ length bs
     size = sym (length-map k.halves.items code)
@@ -108,7 +108,7 @@ module _ (above : List ℕ) (s : ℕ) (p : Plane) (M : Model) (c : Progress) (ca
 
 -- ---- the next cycle of a list, as the code opens it
 
-module _ (above : List ℕ) (s : ℕ) (p : Plane) (M : Model) (c : Progress) (caps : List Caps) (rest : List Cycle) (k : Cycle) (l : 1 ≤ length rest) (is : k ≡ slice_index_or rest 0 k)
+module _ (above : List ℕ) (s : ℕ) (p : Plane) (M : Model) (c : Counters) (caps : List Caps) (rest : List Cycle) (k : Cycle) (l : 1 ≤ length rest) (is : k ≡ slice_index_or rest 0 k)
     (w : CanBeOpenedInTurn above s (opening_of M c caps) (map halves_of rest)) (hs : List HalfEdge) (value : hs ≡ k.halves.items) where
   whole : rest ≡ k ∷ others rest
   whole = parts rest k l ∙ ap (λ (x : Cycle). x ∷ others rest) (sym is)
@@ -122,7 +122,7 @@ module _ (above : List ℕ) (s : ℕ) (p : Plane) (M : Model) (c : Progress) (ca
 
   -- once it is
   module _ (flags : map (λ q. q.hole) rest ≡ map (is_hole M p) (map halves_of rest)) (K : Model) (e : K ≡ effects M (opening_ops M s (taken_of c) (map code hs)))
-      (d : Progress) (counted : d ≡ record c { faces = c.faces + length hs + 1; loops = c.loops + length hs + 1; edges = c.edges + 2 * length hs; vertices = c.vertices + length hs })
+      (d : Counters) (counted : d ≡ record c { faces = c.faces + length hs + 1; loops = c.loops + length hs + 1; edges = c.edges + 2 * length hs; vertices = c.vertices + length hs })
       (cap : Caps) (cap_is : cap ≡ record { lower = c.faces + 1; upper = c.faces + length hs + 1; hole = k.hole }) (more : List Caps) (pushed : more ≡ caps ++ cap ∷ []) where
     flags_next : k.hole ∷ map (λ q. q.hole) (others rest) ≡ is_hole M p (halves_of k) ∷ map (is_hole M p) (map halves_of (others rest))
     flags_next = sym (ap (map (λ q. q.hole)) whole) ∙ flags ∙ ap (λ (r : List Cycle). map (is_hole M p) (map halves_of r)) whole

@@ -3,8 +3,8 @@ use Rattle.std.specs.Prelude.{ℕ, List, [], map}
 use Rattle.euler_operators.specs.declared.Plane.{Plane}
 use Rattle.euler_operators.specs.Model.{Model}
 use Rattle.shapes.specs.split.Opening.{Caps, Opening, all_opened}
-use Rattle.split_drawing.specs.Progress.{taken_of}
-use Rattle.split_drawing.specs.declared.Progress.{Progress}
+use Rattle.split_drawing.specs.Counters.{taken_of}
+use Rattle.split_drawing.specs.declared.Counters.{Counters}
 use Rattle.split_sections.specs.section_checks.Sections.{cycles_of}
 use Rattle.split_sections.specs.declared.section_checks.section.Section.{Section}
 use Rattle.plane_split.specs.declared.solid_opening.caps.Caps as declared
@@ -16,13 +16,13 @@ abbrev pub all_caps : List declared.Caps → List Caps
 all_caps ks = map caps_of ks
 
 -- so far a model is opened, and these are the caps
-abbrev pub opening_of : Model → Progress → List declared.Caps → Opening
+abbrev pub opening_of : Model → Counters → List declared.Caps → Opening
 opening_of M c ks = record { model = M; taken = taken_of c; caps = all_caps ks }
 
 -- nothing is opened yet
-abbrev pub unopened : Model → Progress → Opening
+abbrev pub unopened : Model → Counters → Opening
 unopened M c = record { model = M; taken = taken_of c; caps = [] }
 
 -- solid s opened along the cycles of a section
-abbrev pub opened_section : Model → Progress → ℕ → Plane → Section → Opening
+abbrev pub opened_section : Model → Counters → ℕ → Plane → Section → Opening
 opened_section M c s p q = all_opened p q.above.items s (unopened M c) (cycles_of q)

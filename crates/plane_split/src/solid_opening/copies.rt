@@ -5,12 +5,12 @@ ghost use Rattle.euler_operators.specs.Model.{has_half};
 ghost use Rattle.euler_laws.specs.Laws.{effects};
 ghost use Rattle.euler_operators.specs.Conditions.{first_false};
 ghost use Rattle.undo_journal.specs.Journal.{after_step};
-ghost use Rattle.split_drawing.specs.Progress.{taken_of};
+ghost use Rattle.split_drawing.specs.Counters.{taken_of};
 ghost use Rattle.split_opening_laws.specs.strips.StripOps as ops;
 ghost use Rattle.plane_split.specs.solid_opening.Stages.{AreStripped};
 
 use euler_operators::{Corner, HalfEdge, Op};
-use split_drawing::Progress;
+use split_drawing::Counters;
 use split_sections::start;
 use std::alloc::AllocError;
 use undo_journal::Draft;
@@ -27,7 +27,7 @@ fn place_before(count: u32, at: u32) -> u32
 /// the mate of the half before.
 fn raise_copy(
     draft: &mut Draft,
-    from: &Progress,
+    from: &Counters,
     halves: &[HalfEdge],
     at: u32,
 ) -> Result<(), AllocError>
@@ -58,7 +58,7 @@ fn raise_copy(
 pub(crate) fn raise_copies(
     draft: &mut Draft,
     s: u32,
-    from: &Progress,
+    from: &Counters,
     halves: &[HalfEdge],
 ) -> Result<(), AllocError>
     requires { AreStripped draft.old.model s (taken_of from.now) (map code halves.now) }

@@ -2,7 +2,7 @@
 ghost use Rattle.std.specs.Prelude.{◌≡◌, ◌≤◌, ◌+◌, ◌*◌, OnOk, map};
 ghost use Rattle.euler_operators.specs.HalfEdge.{code};
 ghost use Rattle.euler_laws.specs.Laws.{effects};
-ghost use Rattle.split_drawing.specs.Progress.{taken_of};
+ghost use Rattle.split_drawing.specs.Counters.{taken_of};
 ghost use Rattle.split_opening_laws.specs.opening.OpeningOps.{opening_ops};
 ghost use Rattle.plane_split.specs.solid_opening.Stages.{CanOpen};
 
@@ -11,7 +11,7 @@ use crate::solid_opening::copies::raise_copies;
 use crate::solid_opening::joinings::make_caps;
 use crate::solid_opening::strips::cut_strips;
 use euler_operators::HalfEdge;
-use split_drawing::Progress;
+use split_drawing::Counters;
 use std::alloc::AllocError;
 use undo_journal::Draft;
 
@@ -20,7 +20,7 @@ use undo_journal::Draft;
 pub(crate) fn open_cycle(
     draft: &mut Draft,
     s: u32,
-    from: &Progress,
+    from: &Counters,
     halves: &[HalfEdge],
 ) -> Result<(), AllocError>
     requires { CanOpen draft.old.model s (taken_of from.now) (map code halves.now) }
@@ -33,7 +33,7 @@ pub(crate) fn open_cycle(
 }
 
 /// The caps of a cycle of so many edges that is opened with the numbers after those taken.
-pub(crate) fn caps_after(from: &Progress, count: u32, hole: bool) -> Caps
+pub(crate) fn caps_after(from: &Counters, count: u32, hole: bool) -> Caps
     requires { from.now.faces + count + 1 ≤ 1000000 }
     ensures { result ≡ record { lower = from.now.faces + 1; upper = from.now.faces + count + 1; hole = hole } }
 {
@@ -45,18 +45,17 @@ pub(crate) fn caps_after(from: &Progress, count: u32, hole: bool) -> Caps
 }
 
 /// The greatest numbers taken once a solid is opened along a cycle of so many edges.
-pub(crate) fn counted_on(from: &Progress, count: u32) -> Progress
+pub(crate) fn counted_on(from: &Counters, count: u32) -> Counters
     requires faces_left { from.now.faces + count + 1 ≤ 1000000 }
     requires loops_left { from.now.loops + count + 1 ≤ 1000000 }
     requires edges_left { from.now.edges + 2 * count ≤ 1000000 }
     requires vertices_left { from.now.vertices + count ≤ 1000000 }
     ensures { result ≡ record from.now { faces = from.now.faces + count + 1; loops = from.now.loops + count + 1; edges = from.now.edges + 2 * count; vertices = from.now.vertices + count } }
 {
-    Progress {
+    Counters {
         faces: from.faces + count + 1,
         loops: from.loops + count + 1,
         edges: from.edges + 2 * count,
         vertices: from.vertices + count,
-        ..*from
     }
 }

@@ -1,17 +1,17 @@
 //! Strips joined into one, and that one parted into the two caps.
 ghost use Rattle.std.specs.Prelude.{◌≡◌, ◌≤◌, ◌+◌, ◌-◌, ◌*◌, OnOk};
 ghost use Rattle.euler_laws.specs.Laws.{AreAccepted, effects};
-ghost use Rattle.split_drawing.specs.Progress.{taken_of};
+ghost use Rattle.split_drawing.specs.Counters.{taken_of};
 ghost use Rattle.split_opening_laws.specs.caps.CapOps.{cap_ops, joinings};
 
 use euler_operators::{HalfEdge, Op};
-use split_drawing::Progress;
+use split_drawing::Counters;
 use std::alloc::AllocError;
 use undo_journal::Draft;
 
 /// The first of so many strips takes in the next ones, where each of these operators is accepted in its turn. On `AllocError` it
 /// may have taken in some.
-fn join_strips(draft: &mut Draft, from: &Progress, count: u32) -> Result<(), AllocError>
+fn join_strips(draft: &mut Draft, from: &Counters, count: u32) -> Result<(), AllocError>
     requires some { 1 ≤ count }
     requires edges_left { from.now.edges + 2 * count ≤ 1000000 }
     requires accepted { AreAccepted draft.old.model (joinings (taken_of from.now) count (count - 1)) }
@@ -28,7 +28,7 @@ fn join_strips(draft: &mut Draft, from: &Progress, count: u32) -> Result<(), All
 }
 
 /// Makes two caps of so many strips, where each of these operators is accepted in its turn. On `AllocError` some may be taken.
-pub(crate) fn make_caps(draft: &mut Draft, from: &Progress, count: u32) -> Result<(), AllocError>
+pub(crate) fn make_caps(draft: &mut Draft, from: &Counters, count: u32) -> Result<(), AllocError>
     requires some { 1 ≤ count }
     requires faces_left { from.now.faces + count + 1 ≤ 1000000 }
     requires loops_left { from.now.loops + count + 1 ≤ 1000000 }

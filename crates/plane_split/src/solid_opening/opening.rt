@@ -8,7 +8,7 @@ ghost use Rattle.plane_split.specs.solid_opening.Capped.{all_caps, opened_sectio
 use crate::solid_opening::caps::Caps;
 use crate::solid_opening::cycle::{caps_after, counted_on, open_cycle};
 use euler_operators::Plane;
-use split_drawing::Progress;
+use split_drawing::Counters;
 use split_sections::Section;
 use std::alloc::{AllocError, Global};
 use undo_journal::Draft;
@@ -21,7 +21,7 @@ pub(crate) fn open_section(
     draft: &mut Draft,
     s: u32,
     plane: &Plane,
-    from: &Progress,
+    from: &Counters,
     section: &Section,
 ) -> Result<Vec<Caps>, AllocError>
     requires opens { CanBeOpenedInTurn section.now.above.items s (unopened draft.old.model from.now) (cycles_of section.now) }
@@ -30,15 +30,15 @@ pub(crate) fn open_section(
         × (all_caps caps.items ≡ (opened_section draft.old.model from.now s plane.now section.now).caps)) }
     ensures session { draft.new.session ≡ draft.old.session }
 {
-    let mut progress = *from;
+    let mut taken = *from;
     let mut caps = Vec::new(alloc);
     let mut rest = section.cycles.as_slice();
     'cycles: while let [cycle, others @ ..] = rest {
         let halves = cycle.halves.as_slice();
         let count = halves.len() as u32;
-        open_cycle(draft, s, &progress, halves)?;
-        caps.push(caps_after(&progress, count, cycle.hole))?;
-        progress = counted_on(&progress, count);
+        open_cycle(draft, s, &taken, halves)?;
+        caps.push(caps_after(&taken, count, cycle.hole))?;
+        taken = counted_on(&taken, count);
         rest = others;
     }
     Ok(caps)

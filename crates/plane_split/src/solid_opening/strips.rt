@@ -5,20 +5,20 @@ ghost use Rattle.euler_operators.specs.Model.{has_half};
 ghost use Rattle.euler_laws.specs.Laws.{effects};
 ghost use Rattle.euler_operators.specs.Conditions.{first_false};
 ghost use Rattle.undo_journal.specs.Journal.{after_step};
-ghost use Rattle.split_drawing.specs.Progress.{taken_of};
+ghost use Rattle.split_drawing.specs.Counters.{taken_of};
 ghost use Rattle.split_opening_laws.specs.strips.StripOps as ops;
 ghost use Rattle.plane_split.specs.solid_opening.Stages.{CanOpen};
 
 use crate::solid_opening::halves::next_item;
 use euler_operators::{HalfEdge, Op};
-use split_drawing::Progress;
+use split_drawing::Counters;
 use std::alloc::AllocError;
 use undo_journal::Draft;
 
 /// Cuts the strip at this place off: from the half's mate up to what follows it in its loop.
 fn cut_strip(
     draft: &mut Draft,
-    from: &Progress,
+    from: &Counters,
     halves: &[HalfEdge],
     at: u32,
 ) -> Result<(), AllocError>
@@ -42,7 +42,7 @@ fn cut_strip(
 pub(crate) fn cut_strips(
     draft: &mut Draft,
     s: u32,
-    from: &Progress,
+    from: &Counters,
     halves: &[HalfEdge],
 ) -> Result<(), AllocError>
     requires { CanOpen draft.old.model s (taken_of from.now) (map code halves.now) }

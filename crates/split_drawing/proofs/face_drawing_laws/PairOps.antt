@@ -9,9 +9,9 @@ use Rattle.euler_operators.specs.Conditions.{face_at}
 use Rattle.solid_walks.proofs.face_walks_laws.HalfCodes.{code_plus}
 use Rattle.split_drawing_laws.specs.drawings.DrawingOps.{join_edge, join_pair, draw_pair}
 use Rattle.split_checks.specs.declared.cuts.Pair.{Pair}
-use Rattle.split_checks.specs.declared.progress.Progress.{Progress}
+use Rattle.solid_walks.specs.declared.numbers.Counters.{Counters}
 use Rattle.split_checks.specs.Cuts.{codes}
-use Rattle.split_checks.specs.Progress.{taken_of}
+use Rattle.solid_walks.specs.Counters.{taken_of}
 
 made : (e : ℕ) → record { edge = e; first = true } ≡ half (plus e)
 made e = sym (half-code (record { edge = e; first = true })) ∙ ap half (code_plus e)
@@ -25,5 +25,5 @@ module _ (M : Model) (q : Pair) (e : ℕ) where
   on_op r = (λ i. Mekr (At (sym (half-code q.up) i)) (At (sym (half-code q.down) i)) (made e i))
       ∙ sym (ap (λ b. cond b (join_edge (code q.down) (code q.up) e) (join_edge (code q.up) (code q.down) e)) r)
 
-pub draw_op : (c : Progress) (q : Pair) → Mef q.up q.down (record { edge = c.edges + 1; first = true }) (c.faces + 1) (c.loops + 1) ≡ draw_pair (taken_of c) (codes q)
+pub draw_op : (c : Counters) (q : Pair) → Mef q.up q.down (record { edge = c.edges + 1; first = true }) (c.faces + 1) (c.loops + 1) ≡ draw_pair (taken_of c) (codes q)
 draw_op c q = λ i. Mef (sym (half-code q.up) i) (sym (half-code q.down) i) (made (c.edges + 1) i) (c.faces + 1) (c.loops + 1)

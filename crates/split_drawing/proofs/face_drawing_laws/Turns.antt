@@ -8,10 +8,12 @@ use Rattle.shapes.specs.split.Drawing.{Drawing, in_one_loop, join_next, draw_nex
 use Rattle.split_drawing_laws.specs.drawings.DrawingOps.{join_pair, draw_pair}
 use Rattle.split_checks.proofs.cut_places_laws.Lists.{others, parts}
 use Rattle.split_checks.specs.declared.cuts.Pair.{Pair}
+use Rattle.solid_walks.specs.declared.numbers.Counters.{Counters}
 use Rattle.split_checks.specs.declared.progress.Progress.{Progress}
 use Rattle.split_checks.specs.Cuts.{codes}
 use Rattle.split_drawing.specs.face_drawing.Stuck.{stuck_at}
-use Rattle.split_checks.specs.Progress.{taken_of, drawing_of}
+use Rattle.solid_walks.specs.Counters.{taken_of}
+use Rattle.split_checks.specs.Progress.{drawing_of}
 use Rattle.split_drawing.specs.face_drawing.Passes.{CanJoin, CanDraw}
 use Rattle.split_drawing.proofs.face_drawing_laws.Steps.{join_goes, kept_on, kept_made, joined_on, joined_made, draw_goes, drawn_on, drawn_made, stuck_on, stuck_made}
 
@@ -41,14 +43,14 @@ module _ (f : ℕ) (c : Progress) (N : Model) (L : List (ℕ × ℕ)) (rest : Li
     next_join : CanJoin f d (q ∷ qs)
     next_join = subst (CanJoin f d) (opened_codes rest l) w
 
-    pub join_accepted : in_one_loop N (codes (first_pair rest)) ≡ false → first_false N (join_pair N (codes (first_pair rest)) (c.edges + 1)) ≡ None
+    pub join_accepted : in_one_loop N (codes (first_pair rest)) ≡ false → first_false N (join_pair N (codes (first_pair rest)) (c.taken.edges + 1)) ≡ None
     join_accepted e = join_goes f d q qs next_join e
 
-    pub joined : in_one_loop N (codes (first_pair rest)) ≡ false → (K : Model) → K ≡ effect N (join_pair N (codes (first_pair rest)) (c.edges + 1)) → (t : Progress) → t ≡ record c { edges = c.edges + 1 }
-        → CanJoin f (drawing_of t K L) (map codes (others rest)) × (fold join_next (drawing_of t K L) (map codes (others rest)) ≡ fold join_next (drawing_of c N L) (map codes rest))
+    pub joined : in_one_loop N (codes (first_pair rest)) ≡ false → (K : Model) → K ≡ effect N (join_pair N (codes (first_pair rest)) (c.taken.edges + 1)) → (t : Counters) → t ≡ record c.taken { edges = c.taken.edges + 1 }
+        → CanJoin f (drawing_of (record c { taken = t }) K L) (map codes (others rest)) × (fold join_next (drawing_of (record c { taken = t }) K L) (map codes (others rest)) ≡ fold join_next (drawing_of c N L) (map codes rest))
     joined e K is t counted = (
-      subst (λ x. CanJoin f (drawing_of x K L) qs) (sym counted) (joined_on f d q qs next_join e K is),
-      ap (λ x. fold join_next (drawing_of x K L) qs) counted ∙ joined_made f d q qs next_join e K is ∙ ap (fold join_next d) (sym (opened_codes rest l)),
+      subst (λ x. CanJoin f (drawing_of (record c { taken = x }) K L) qs) (sym counted) (joined_on f d q qs next_join e K is),
+      ap (λ x. fold join_next (drawing_of (record c { taken = x }) K L) qs) counted ∙ joined_made f d q qs next_join e K is ∙ ap (fold join_next d) (sym (opened_codes rest l)),
     )
 
     pub left_over : in_one_loop N (codes (first_pair rest)) ≡ true → (P : List (ℕ × ℕ)) → P ≡ L ++ codes (first_pair rest) ∷ []
@@ -63,15 +65,15 @@ module _ (f : ℕ) (c : Progress) (N : Model) (L : List (ℕ × ℕ)) (rest : Li
     next_draw : CanDraw f d (q ∷ qs)
     next_draw = subst (CanDraw f d) (opened_codes rest l) w
 
-    pub draw_accepted : in_one_loop N (codes (first_pair rest)) ≡ true → first_false N (draw_pair (taken_of c) (codes (first_pair rest))) ≡ None
+    pub draw_accepted : in_one_loop N (codes (first_pair rest)) ≡ true → first_false N (draw_pair (taken_of c.taken) (codes (first_pair rest))) ≡ None
     draw_accepted e = draw_goes f d q qs next_draw e
 
-    pub drew : in_one_loop N (codes (first_pair rest)) ≡ true → (K : Model) → K ≡ effect N (draw_pair (taken_of c) (codes (first_pair rest)))
-        → (t : Progress) → t ≡ record c { faces = c.faces + 1; loops = c.loops + 1; edges = c.edges + 1 }
-        → CanDraw f (drawing_of t K L) (map codes (others rest)) × (fold (draw_next f) (drawing_of t K L) (map codes (others rest)) ≡ fold (draw_next f) (drawing_of c N L) (map codes rest))
+    pub drew : in_one_loop N (codes (first_pair rest)) ≡ true → (K : Model) → K ≡ effect N (draw_pair (taken_of c.taken) (codes (first_pair rest)))
+        → (t : Counters) → t ≡ record c.taken { faces = c.taken.faces + 1; loops = c.taken.loops + 1; edges = c.taken.edges + 1 }
+        → CanDraw f (drawing_of (record c { taken = t }) K L) (map codes (others rest)) × (fold (draw_next f) (drawing_of (record c { taken = t }) K L) (map codes (others rest)) ≡ fold (draw_next f) (drawing_of c N L) (map codes rest))
     drew e K is t counted = (
-      subst (λ x. CanDraw f (drawing_of x K L) qs) (sym counted) (drawn_on f d q qs next_draw e K is),
-      ap (λ x. fold (draw_next f) (drawing_of x K L) qs) counted ∙ drawn_made f d q qs next_draw e K is ∙ ap (fold (draw_next f) d) (sym (opened_codes rest l)),
+      subst (λ x. CanDraw f (drawing_of (record c { taken = x }) K L) qs) (sym counted) (drawn_on f d q qs next_draw e K is),
+      ap (λ x. fold (draw_next f) (drawing_of (record c { taken = x }) K L) qs) counted ∙ drawn_made f d q qs next_draw e K is ∙ ap (fold (draw_next f) d) (sym (opened_codes rest l)),
     )
 
     pub got_stuck : in_one_loop N (codes (first_pair rest)) ≡ false → (t : Progress) → t ≡ stuck_at c f

@@ -119,10 +119,10 @@ module _ (p : Plane) (f : ℕ) (pairs : List Pair) (from : Progress) (M : Model)
       pub last_there : Has K.faces f
       last_there = drawn_there p f ps begun w (drawing_of u K (map codes now)) last_is
 
-      pub last_rings : length pairs ≡ 1 → AreAccepted K (ring_ops (rings_above K p f) u.faces)
+      pub last_rings : length pairs ≡ 1 → AreAccepted K (ring_ops (rings_above K p f) u.taken.faces)
       last_rings one = rings_go p f ps begun w (length_codes pairs ∙ one) (drawing_of u K (map codes now)) last_is
 
-      pub with_shared : length pairs ≡ 1 → (Z : Model) → Z ≡ with_rings K (rings_above K p f) u.faces → drawing_of u Z [] ≡ put_aside (drawn_between p f (map codes pairs) (drawing_of from M []))
+      pub with_shared : length pairs ≡ 1 → (Z : Model) → Z ≡ with_rings K (rings_above K p f) u.taken.faces → drawing_of u Z [] ≡ put_aside (drawn_between p f (map codes pairs) (drawing_of from M []))
       with_shared one Z is = shared p f ps begun w (eq-eqb (length ps) 1 (length_codes pairs ∙ one)) (drawing_of u K (map codes now)) last_is Z is
 
       pub with_none : length pairs ≢ 1 → drawing_of u K [] ≡ put_aside (drawn_between p f (map codes pairs) (drawing_of from M []))

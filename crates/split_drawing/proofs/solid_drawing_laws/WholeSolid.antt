@@ -19,8 +19,9 @@ use Rattle.split_checks.proofs.cut_places_laws.Lists.{of_picked}
 use Rattle.split_checks.specs.cut_places.Walks.{AreIn}
 use Rattle.split_checks.proofs.cut_places_laws.Walks.{all_in}
 use Rattle.split_drawing.specs.edge_cutting.Begins.{CanBeCut}
-use Rattle.split_checks.specs.declared.progress.Progress.{Progress}
-use Rattle.split_checks.specs.Progress.{taken_of, drawing_of}
+use Rattle.solid_walks.specs.declared.numbers.Counters.{Counters}
+use Rattle.solid_walks.specs.Counters.{taken_of}
+use Rattle.split_checks.specs.Progress.{drawing_of}
 use Rattle.split_checks.specs.Cuts.{paired_faces}
 use Rattle.split_drawing.specs.solid_drawing.Starts.{FacesThere, faces_started}
 use Rattle.split_drawing.specs.solid_drawing.Drawn.{put_aside, CanDrawFaces}
@@ -55,16 +56,16 @@ module _ (M : Model) (s : ℕ) (p : Plane) (sound : Sound M) (can : CanBeCut M s
   made_of_begun = refl
 
   -- where the progress is that before anything is drawn, and the pairs start at the cut places
-  module _ (c : Progress) (X : Model) (x : X ≡ N) (counted : taken_of c ≡ taken_in X) (free : c.stuck ≡ 0)
+  module _ (c : Counters) (X : Model) (x : X ≡ N) (counted : taken_of c ≡ taken_in X)
       (fs : List FacePairs) (are : fs ≡ faces_started X p (paired_faces M p s)) where
-    drawing_is : drawing_of c X [] ≡ begun
-    drawing_is = λ i. record { model = x i; taken = (counted ∙ ap taken_in x ∙ sym (crossings_counted M s p can.0 sound can.1)) i; left = []; stuck = free i }
+    drawing_is : drawing_of (record { taken = c; stuck = 0 }) X [] ≡ begun
+    drawing_is = λ i. record { model = x i; taken = (counted ∙ ap taken_in x ∙ sym (crossings_counted M s p can.0 sound can.1)) i; left = []; stuck = 0 }
 
     faces_are : fs ≡ straddling_pairs M s p
     faces_are = are ∙ ap (λ Y. faces_started Y p (paired_faces M p s)) x ∙ started_are M N p (straddling_faces M p s)
 
-    pub can_draw : CanDrawFaces fs (drawing_of c X [])
-    can_draw = subst (λ gs. CanDrawFaces gs (drawing_of c X [])) (sym faces_are) (subst (CanDrawFaces (straddling_pairs M s p)) (sym drawing_is) can_draw_begun)
+    pub can_draw : CanDrawFaces fs (drawing_of (record { taken = c; stuck = 0 }) X [])
+    can_draw = subst (λ gs. CanDrawFaces gs (drawing_of (record { taken = c; stuck = 0 }) X [])) (sym faces_are) (subst (CanDrawFaces (straddling_pairs M s p)) (sym drawing_is) can_draw_begun)
 
-    pub made : put_aside (faces_drawn p (drawing_of c X []) fs) ≡ put_aside (with_drawings M s p)
+    pub made : put_aside (faces_drawn p (drawing_of (record { taken = c; stuck = 0 }) X []) fs) ≡ put_aside (with_drawings M s p)
     made = (λ i. put_aside (faces_drawn p (drawing_is i) (faces_are i))) ∙ ap put_aside made_of_begun

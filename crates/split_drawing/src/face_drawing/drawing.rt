@@ -6,41 +6,37 @@ ghost use Rattle.shapes.specs.split.Drawing.{draw_next};
 ghost use Rattle.split_drawing_laws.specs.drawings.DrawingOps as ops;
 ghost use Rattle.split_checks.specs.Cuts.{codes};
 ghost use Rattle.split_drawing.specs.face_drawing.Stuck.{stuck_at};
-ghost use Rattle.split_checks.specs.Progress.{drawing_of, taken_of};
+ghost use Rattle.split_checks.specs.Progress.{drawing_of};
+ghost use Rattle.solid_walks.specs.Counters.{taken_of};
 ghost use Rattle.split_drawing.specs.face_drawing.Passes.{CanDraw};
 
 use crate::face_drawing::pairs::in_one_loop;
 use euler_operators::{HalfEdge, Op};
+use solid_walks::Counters;
 use split_checks::{Pair, Progress};
 use std::alloc::AllocError;
 use undo_journal::Draft;
 
-/// Cuts a new face off between the two of a pair, with the next edge, face and loop.
-fn draw_pair(draft: &mut Draft, progress: Progress, pair: Pair) -> Result<Progress, AllocError>
-    requires faces_left { progress.faces + 1 ≤ 1000000 }
-    requires loops_left { progress.loops + 1 ≤ 1000000 }
-    requires edges_left { progress.edges + 1 ≤ 1000000 }
-    requires accepted { first_false draft.old.model (ops.draw_pair (taken_of progress) (codes pair)) ≡ None }
-    ensures counted { IfOk result (λ next. next ≡ record progress { faces = progress.faces + 1; loops = progress.loops + 1; edges = progress.edges + 1 }) }
-    ensures ok { OnOk result (draft.new ≡ after_step draft.old (ops.draw_pair (taken_of progress) (codes pair))) }
+/// Cuts a new face off between the two of a pair, with the next edge, face and loop, and counts these.
+fn draw_pair(draft: &mut Draft, taken: Counters, pair: Pair) -> Result<Counters, AllocError>
+    requires faces_left { taken.faces + 1 ≤ 1000000 }
+    requires loops_left { taken.loops + 1 ≤ 1000000 }
+    requires edges_left { taken.edges + 1 ≤ 1000000 }
+    requires accepted { first_false draft.old.model (ops.draw_pair (taken_of taken) (codes pair)) ≡ None }
+    ensures counted { IfOk result (λ next. next ≡ record taken { faces = taken.faces + 1; loops = taken.loops + 1; edges = taken.edges + 1 }) }
+    ensures ok { OnOk result (draft.new ≡ after_step draft.old (ops.draw_pair (taken_of taken) (codes pair))) }
     ensures err { OnErr result (draft.new ≡ draft.old) }
 {
     let made = HalfEdge {
-        edge: progress.edges + 1,
+        edge: taken.edges + 1,
         first: true,
     };
-    draft.step_accepted(Op::Mef(
-        pair.up,
-        pair.down,
-        made,
-        progress.faces + 1,
-        progress.loops + 1,
-    ))?;
-    Ok(Progress {
-        faces: progress.faces + 1,
-        loops: progress.loops + 1,
-        edges: progress.edges + 1,
-        ..progress
+    draft.step_accepted(Op::Mef(pair.up, pair.down, made, taken.faces + 1, taken.loops + 1))?;
+    Ok(Counters {
+        faces: taken.faces + 1,
+        loops: taken.loops + 1,
+        edges: taken.edges + 1,
+        ..taken
     })
 }
 
@@ -74,7 +70,8 @@ pub(crate) fn draw_pairs(
     let mut rest = pairs;
     'pairs: while let [pair, others @ ..] = rest {
         if in_one_loop(draft.arena(), *pair) {
-            progress = draw_pair(draft, progress, *pair)?;
+            let taken = draw_pair(draft, progress.taken, *pair)?;
+            progress = Progress { taken, ..progress };
         } else {
             progress = stuck_at(progress, f);
         }

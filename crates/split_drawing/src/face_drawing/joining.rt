@@ -11,24 +11,25 @@ ghost use Rattle.split_checks.specs.Progress.{drawing_of};
 ghost use Rattle.split_drawing.specs.face_drawing.Passes.{CanJoin};
 
 use crate::face_drawing::pairs::{in_one_loop, join_op};
+use solid_walks::Counters;
 use split_checks::{Pair, Progress};
 use std::alloc::AllocError;
 use undo_journal::Draft;
 
-/// Joins the loops of a pair by the next edge.
-fn join_pair(draft: &mut Draft, progress: Progress, pair: Pair) -> Result<Progress, AllocError>
+/// Joins the loops of a pair by the next edge, and counts it.
+fn join_pair(draft: &mut Draft, taken: Counters, pair: Pair) -> Result<Counters, AllocError>
     requires up { has_half draft.old.model (code pair.up) ≡ true }
-    requires left { progress.edges + 1 ≤ 1000000 }
-    requires accepted { first_false draft.old.model (ops.join_pair draft.old.model (codes pair) (progress.edges + 1)) ≡ None }
-    ensures counted { IfOk result (λ next. next ≡ record progress { edges = progress.edges + 1 }) }
-    ensures ok { OnOk result (draft.new ≡ after_step draft.old (ops.join_pair draft.old.model (codes pair) (progress.edges + 1))) }
+    requires left { taken.edges + 1 ≤ 1000000 }
+    requires accepted { first_false draft.old.model (ops.join_pair draft.old.model (codes pair) (taken.edges + 1)) ≡ None }
+    ensures counted { IfOk result (λ next. next ≡ record taken { edges = taken.edges + 1 }) }
+    ensures ok { OnOk result (draft.new ≡ after_step draft.old (ops.join_pair draft.old.model (codes pair) (taken.edges + 1))) }
     ensures err { OnErr result (draft.new ≡ draft.old) }
 {
-    let op = join_op(draft.arena(), pair, progress.edges + 1);
+    let op = join_op(draft.arena(), pair, taken.edges + 1);
     draft.step_accepted(op)?;
-    Ok(Progress {
-        edges: progress.edges + 1,
-        ..progress
+    Ok(Counters {
+        edges: taken.edges + 1,
+        ..taken
     })
 }
 
@@ -52,7 +53,8 @@ pub(crate) fn join_pairs(
         if in_one_loop(draft.arena(), *pair) {
             left.push(*pair)?;
         } else {
-            progress = join_pair(draft, progress, *pair)?;
+            let taken = join_pair(draft, progress.taken, *pair)?;
+            progress = Progress { taken, ..progress };
         }
         rest = others;
     }

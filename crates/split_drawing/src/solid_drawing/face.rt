@@ -34,7 +34,7 @@ pub(crate) fn draw_face(
     let looked_at = ring_free(draft.arena(), joined, f, pairs.len());
     let drawn = draw_pairs(draft, looked_at, f, left.as_slice())?;
     if pairs.len() == 1 {
-        share_rings(alloc, draft, plane, f, drawn.faces)?;
+        share_rings(alloc, draft, plane, f, drawn.taken.faces)?;
     }
     Ok(drawn)
 }

@@ -1,35 +1,20 @@
 //! A solid cut and drawn.
 ghost use Rattle.std.specs.Prelude.{◌≡◌, [], map, IfOk};
 ghost use Rattle.euler_operators.specs.Ranges.{IsCutPlane};
-ghost use Rattle.shapes.specs.Fresh.{taken_in};
 ghost use Rattle.shapes.specs.split.Drawing.{faces_drawn, with_drawings};
 ghost use Rattle.split_drawing.specs.edge_cutting.Begins.{CanBeCut};
-ghost use Rattle.split_checks.specs.Progress.{drawing_of, taken_of};
+ghost use Rattle.split_checks.specs.Progress.{drawing_of};
 ghost use Rattle.split_checks.specs.Cuts.{AreCuts, paired};
 ghost use Rattle.split_drawing.specs.solid_drawing.Drawn.{CanDrawFaces, put_aside};
 
 use crate::edge_cutting::cut_edges;
 use crate::solid_drawing::face::draw_face;
 use crate::solid_drawing::places::faces_started;
-use euler_conditions::Arena;
-use euler_operators::{Kind, Plane};
+use euler_operators::Plane;
+use solid_walks::counters_of;
 use split_checks::{Cuts, FacePairs, Progress};
 use std::alloc::{AllocError, Global};
 use undo_journal::Draft;
-
-/// The progress before anything is drawn: the numbers taken are the greatest in use.
-fn beginning(arena: &Arena) -> Progress
-    ensures taken { taken_of result ≡ taken_in arena.now.model }
-    ensures free { result.stuck ≡ 0 }
-{
-    Progress {
-        faces: arena.greatest(Kind::Face),
-        loops: arena.greatest(Kind::Loop),
-        edges: arena.greatest(Kind::Edge),
-        vertices: arena.greatest(Kind::Vertex),
-        stuck: 0,
-    }
-}
 
 /// Draws edges between the pairs of some faces, one face after the other, and tells how far the drawing has come then. On
 /// `AllocError` some may be drawn.
@@ -84,6 +69,7 @@ pub fn draw_solid(
     draft.stays_consistent();
     cut_edges(draft, s, plane, cuts.edges.as_slice())?;
     let started = faces_started(alloc, draft.arena(), *plane, cuts.faces.as_slice())?;
-    let from = beginning(draft.arena());
+    let taken = counters_of(draft.arena());
+    let from = Progress { taken, stuck: 0 };
     draw_faces(alloc, draft, *plane, from, started.as_slice())
 }

@@ -9,7 +9,8 @@ ghost use Rattle.euler_operators.specs.Ranges.{IsCutPlane};
 ghost use Rattle.split_opening_laws.specs.cycles.SectionCycles.{AreOf};
 ghost use Rattle.shapes.specs.split.Section.{below_halves};
 ghost use Rattle.shapes.specs.split.Split.{later_conditions, section_conditions};
-ghost use Rattle.split_checks.specs.Progress.{drawing_of, taken_of};
+ghost use Rattle.solid_walks.specs.Counters.{taken_of};
+ghost use Rattle.split_checks.specs.Progress.{drawing_of};
 ghost use Rattle.split_sections.specs.section_checks.Cycles.{AreCyclesOf};
 ghost use Rattle.split_sections.specs.section_checks.Sections.{IsSection};
 ghost use Rattle.split_sections.specs.declared.section_checks.section.Cycle.{Cycle};
@@ -22,17 +23,18 @@ use crate::section_cycles::{cycles, least_branched};
 use crate::section_edges::{below_halves, faces_above};
 use euler_conditions::Arena;
 use euler_operators::{Kind, Plane, Refusal, Why};
+use solid_walks::Counters;
 use split_checks::Progress;
 use std::alloc::{AllocError, Global};
 
 /// The cycles of the section of solid s between these faces above, which rise, and its other faces, where the solid can be opened
-/// along them.
+/// along them with the numbers after those taken.
 fn check_cycles(
     alloc: Global,
     arena: &Arena,
     s: u32,
     plane: Plane,
-    drawn: &Progress,
+    taken: Counters,
     above: &[u32],
 ) -> Result<Result<Vec<Cycle>, Refusal>, AllocError>
     requires ready { IsReady arena.now }
@@ -40,8 +42,8 @@ fn check_cycles(
     requires there { has_number arena.now Kind.Solid s ≡ true }
     requires rising { strictly_rises above.now ≡ true }
     requires of_solid { AreOf arena.now.model above.now s }
-    ensures refused { (refusal : Refusal) → (result ≡ Ok (Err refusal)) → (first_refusal (section_conditions arena.now.model s plane (taken_of drawn.now) (below_halves arena.now.model above.now s)) ≡ Some refusal) }
-    ensures open { (found : Vec Cycle Global) → (result ≡ Ok (Ok found)) → ((first_refusal (section_conditions arena.now.model s plane (taken_of drawn.now) (below_halves arena.now.model above.now s)) ≡ None) × AreCyclesOf arena.now.model plane (below_halves arena.now.model above.now s) found.items) }
+    ensures refused { (refusal : Refusal) → (result ≡ Ok (Err refusal)) → (first_refusal (section_conditions arena.now.model s plane (taken_of taken) (below_halves arena.now.model above.now s)) ≡ Some refusal) }
+    ensures open { (found : Vec Cycle Global) → (result ≡ Ok (Ok found)) → ((first_refusal (section_conditions arena.now.model s plane (taken_of taken) (below_halves arena.now.model above.now s)) ≡ None) × AreCyclesOf arena.now.model plane (below_halves arena.now.model above.now s) found.items) }
 {
     let halves = below_halves(alloc, arena, above, s)?;
     let branched = least_branched(alloc, arena, halves.as_slice())?;
@@ -59,7 +61,7 @@ fn check_cycles(
             number: s,
         }));
     }
-    match check_left(drawn, halves.len(), cycles.len()) {
+    match check_left(taken, halves.len(), cycles.len()) {
         Ok(()) => Ok(Ok(cycles)),
         Err(refusal) => Ok(Err(refusal)),
     }
@@ -90,7 +92,7 @@ pub fn check_later(
         }));
     }
     let above = faces_above(alloc, arena, *plane, s)?;
-    match check_cycles(alloc, arena, s, *plane, drawn, above.as_slice())? {
+    match check_cycles(alloc, arena, s, *plane, drawn.taken, above.as_slice())? {
         Ok(cycles) => Ok(Ok(Section { above, cycles })),
         Err(refusal) => Ok(Err(refusal)),
     }

@@ -2,7 +2,7 @@ use Rattle.std.proofs.Common.{◌≡◌, ◌∙◌, ap, subst}
 use Rattle.std.specs.Result.{OnOk}
 use Rattle.euler_operators.specs.Conditions.{first_false}
 use Rattle.undo_journal.specs.Journal.{after_step}
-use Rattle.split_drawing.specs.Progress.{taken_of}
+use Rattle.split_drawing.specs.Counters.{taken_of}
 use Rattle.plane_split.proofs.solid_opening_laws.Items.{copy_op}
 use Rattle.plane_split.proofs.solid_opening.copies.raise_copy.Goals as goal
 

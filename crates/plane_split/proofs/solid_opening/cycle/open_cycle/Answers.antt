@@ -1,6 +1,6 @@
 use Rattle.std.proofs.Common.{arith}
 use Rattle.std.proofs.lemmas.Result.{on_ok_weaker}
-use Rattle.split_drawing.specs.Progress.{taken_of}
+use Rattle.split_drawing.specs.Counters.{taken_of}
 use Rattle.plane_split.proofs.solid_opening_laws.Cycles.{some_half, faces_left, loops_left, edges_left, stripped, caps_go, opened_whole}
 use Rattle.plane_split.proofs.solid_opening.cycle.open_cycle.Goals as goal
 

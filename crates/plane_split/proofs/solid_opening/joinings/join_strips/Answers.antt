@@ -1,7 +1,7 @@
 use Rattle.std.proofs.Common.{◌∙◌, ◌+◌, ◌*◌, ap, sym, refl, subst, arith}
 use Rattle.euler_laws.specs.Laws.{AreAccepted, effects}
 use Rattle.undo_journal.specs.Journal.{DraftJournal}
-use Rattle.split_drawing.specs.Progress.{taken_of}
+use Rattle.split_drawing.specs.Counters.{taken_of}
 use Rattle.plane_split.proofs.solid_opening_laws.Killed.{all_kills, no_kills, kill_goes, kills_go, kills_made}
 use Rattle.plane_split.proofs.solid_opening.joinings.join_strips.Goals as goal
 

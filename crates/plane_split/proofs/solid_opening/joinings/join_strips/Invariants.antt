@@ -1,6 +1,6 @@
 use Rattle.std.proofs.Common.{◌≡◌, ◌+◌, ◌-◌, ◌*◌, ◌≤◌}
 use Rattle.euler_laws.specs.Laws.{AreAccepted, effects}
-use Rattle.split_drawing.specs.Progress.{taken_of}
+use Rattle.split_drawing.specs.Counters.{taken_of}
 use Rattle.split_opening_laws.specs.caps.CapOps.{joinings}
 use Rattle.plane_split.proofs.solid_opening_laws.Killed.{kills}
 use Rattle.plane_split.proofs.solid_opening.joinings.join_strips.Given as goal

@@ -3,14 +3,14 @@ use Rattle.plane_split.proofs.solid_opening_laws.Turns.{cycle_opens, others_left
 use Rattle.plane_split.proofs.solid_opening.opening.open_section.Goals as goal
 
 pub open_cycle-requires : goal.open_cycle-requires
-open_cycle-requires c = cycle_opens c.args.section.now.above.items c.args.s c.args.plane.now c.cycles.draft.model c.cycles.progress c.cycles.caps.items c.cycles.rest.now c.cycle-item.result c.in-len1-up.len_at_least c.cycle-item.is
+open_cycle-requires c = cycle_opens c.args.section.now.above.items c.args.s c.args.plane.now c.cycles.draft.model c.cycles.taken c.cycles.caps.items c.cycles.rest.now c.cycle-item.result c.in-len1-up.len_at_least c.cycle-item.is
     c.cycles.invariant.opens c.as_slice-halves.result.now c.as_slice-halves.ensures.value
 
 pub cycles-preserved : goal.cycles-preserved
 cycles-preserved c =
-    let left = others_left c.args.section.now.above.items c.args.s c.args.plane.now c.cycles.draft.model c.cycles.progress c.cycles.caps.items c.cycles.rest.now c.cycle-item.result c.in-len1-up.len_at_least c.cycle-item.is
+    let left = others_left c.args.section.now.above.items c.args.s c.args.plane.now c.cycles.draft.model c.cycles.taken c.cycles.caps.items c.cycles.rest.now c.cycle-item.result c.in-len1-up.len_at_least c.cycle-item.is
     c.cycles.invariant.opens c.as_slice-halves.result.now c.as_slice-halves.ensures.value c.cycles.invariant.holes c.open_cycle.new.draft.model c.in_ok-open_cycle.ensures.model
-    c.counted_on-progress.result c.counted_on-progress.ensures c.caps_after.result c.caps_after.ensures c.push.new.self.items c.in_ok-push.ensures.items in
+    c.counted_on-taken.result c.counted_on-taken.ensures c.caps_after.result c.caps_after.ensures c.push.new.self.items c.in_ok-push.ensures.items in
     record {
       opens = left.0;
       holes = left.1;

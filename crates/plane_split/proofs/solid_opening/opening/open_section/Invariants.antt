@@ -8,9 +8,9 @@ use Rattle.plane_split.proofs.solid_opening.opening.open_section.Given as goal
 
 abbrev pub invariant-cycles : goal.invariant-cycles
 invariant-cycles l = record {
-  opens : CanBeOpenedInTurn l.section.above.items l.s (opening_of l.draft.model l.progress l.caps.items) (map halves_of l.rest);
+  opens : CanBeOpenedInTurn l.section.above.items l.s (opening_of l.draft.model l.taken l.caps.items) (map halves_of l.rest);
   holes : map (λ q. q.hole) l.rest ≡ map (is_hole l.draft.model l.plane) (map halves_of l.rest);
-  made : all_opened l.plane l.section.above.items l.s (opening_of l.draft.model l.progress l.caps.items) (map halves_of l.rest) ≡ opened_section l.fn.draft.model l.fn.from l.s l.plane l.section;
+  made : all_opened l.plane l.section.above.items l.s (opening_of l.draft.model l.taken l.caps.items) (map halves_of l.rest) ≡ opened_section l.fn.draft.model l.fn.from l.s l.plane l.section;
   session : l.draft.session ≡ l.fn.draft.session;
 }
 

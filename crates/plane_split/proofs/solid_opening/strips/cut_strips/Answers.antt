@@ -2,7 +2,7 @@ use Rattle.std.proofs.Common.{◌≡◌, ◌∙◌, map, length, ap, arith}
 use Rattle.euler_operators.specs.HalfEdge.{code}
 use Rattle.euler_laws.specs.Laws.{effects}
 use Rattle.undo_journal.specs.Journal.{DraftJournal}
-use Rattle.split_drawing.specs.Progress.{taken_of}
+use Rattle.split_drawing.specs.Counters.{taken_of}
 use Rattle.split_opening_laws.specs.strips.StripOps.{strip_ops}
 use Rattle.plane_split.proofs.solid_opening_laws.Cycles.{inside_codes, edges_left, faces_left, loops_left}
 use Rattle.plane_split.proofs.solid_opening_laws.CutOff.{mate_there, strip_goes, one_more}

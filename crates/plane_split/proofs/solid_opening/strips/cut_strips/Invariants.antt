@@ -1,7 +1,7 @@
 use Rattle.std.proofs.Common.{◌≡◌, ◌≤◌, ◌-◌, length, map}
 use Rattle.euler_operators.specs.HalfEdge.{code}
 use Rattle.euler_laws.specs.Laws.{effects}
-use Rattle.split_drawing.specs.Progress.{taken_of}
+use Rattle.split_drawing.specs.Counters.{taken_of}
 use Rattle.split_opening_laws.specs.strips.StripOps.{strip_ops}
 use Rattle.plane_split.proofs.solid_opening.strips.cut_strips.Given as goal
 

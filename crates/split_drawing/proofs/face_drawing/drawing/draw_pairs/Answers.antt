@@ -8,15 +8,15 @@ pub draw_pair-requires-clause-accepted : goal.draw_pair-requires-clause-accepted
 draw_pair-requires-clause-accepted c = draw_accepted c.args.f c.pairs.progress c.pairs.draft.model (map codes c.args.pairs.now) c.pairs.rest.now c.in-len1-up.len_at_least c.pairs.invariant.can
     (told c.arena.result.now.model c.pairs.draft.model (codes (first_pair c.pairs.rest.now)) c.in_one_loop.result true c.in_one_loop.ensures c.arena.ensures.model c.if-in_one_loop.true)
 
-pub pairs-preserved-in_ok-progress : goal.pairs-preserved-in_ok-progress
-pairs-preserved-in_ok-progress c =
+pub pairs-preserved-in_ok-taken : goal.pairs-preserved-in_ok-taken
+pairs-preserved-in_ok-taken c =
     let next = drew c.args.f c.pairs.progress c.pairs.draft.model (map codes c.args.pairs.now) c.pairs.rest.now c.in-len1-up.len_at_least c.pairs.invariant.can
     (told c.arena.result.now.model c.pairs.draft.model (codes (first_pair c.pairs.rest.now)) c.in_one_loop.result true c.in_one_loop.ensures c.arena.ensures.model c.if-in_one_loop.true)
-    c.draw_pair.new.draft.model (ap (λ (d : DraftJournal). d.model) c.in_ok-progress.ensures.ok) c.in_ok-progress.progress c.in_ok-progress.ensures.counted in
+    c.draw_pair.new.draft.model (ap (λ (d : DraftJournal). d.model) c.in_ok-taken.ensures.ok) c.in_ok-taken.taken c.in_ok-taken.ensures.counted in
     record {
       can = next.0;
       made = next.1 ∙ c.pairs.invariant.made;
-      session = ap (λ (d : DraftJournal). d.session) c.in_ok-progress.ensures.ok ∙ c.pairs.invariant.session;
+      session = ap (λ (d : DraftJournal). d.session) c.in_ok-taken.ensures.ok ∙ c.pairs.invariant.session;
     }
 
 pub pairs-preserved : goal.pairs-preserved

@@ -20,9 +20,9 @@ pub pairs-preserved : goal.pairs-preserved
 pairs-preserved c =
     let next = joined c.args.f c.pairs.progress c.pairs.draft.model (map codes c.pairs.left.items) c.pairs.rest.now c.in-len1-up.len_at_least c.pairs.invariant.can
     (told c.arena.result.now.model c.pairs.draft.model (codes (first_pair c.pairs.rest.now)) c.in_one_loop.result false c.in_one_loop.ensures c.arena.ensures.model c.if-in_one_loop.false)
-    c.join_pair.new.draft.model (ap (λ (d : DraftJournal). d.model) c.in_ok-progress.ensures.ok) c.in_ok-progress.progress c.in_ok-progress.ensures.counted in
+    c.join_pair.new.draft.model (ap (λ (d : DraftJournal). d.model) c.in_ok-taken.ensures.ok) c.in_ok-taken.taken c.in_ok-taken.ensures.counted in
     record {
       can = next.0;
       made = next.1 ∙ c.pairs.invariant.made;
-      session = ap (λ (d : DraftJournal). d.session) c.in_ok-progress.ensures.ok ∙ c.pairs.invariant.session;
+      session = ap (λ (d : DraftJournal). d.session) c.in_ok-taken.ensures.ok ∙ c.pairs.invariant.session;
     }

@@ -27,15 +27,15 @@ pub draw_faces-requires-clause-can : goal.draw_faces-requires-clause-can
 draw_faces-requires-clause-can c =
     let M = c.args.draft.now.model in let s = c.args.s in let p = c.args.plane.now in
     let pairs = ap (map paired) c.as_slice-2.ensures.value ∙ c.requires.cuts.faces in
-    can_draw M s p c.stays_consistent.ensures.model c.requires.begins c.beginning-from.result c.cut_edges.new.draft.model c.in_ok-cut_edges.ensures.model
-    (c.beginning-from.ensures.taken ∙ ap taken_in c.arena-2.ensures.model) c.beginning-from.ensures.free (map paired c.as_slice-3.result.now)
+    can_draw M s p c.stays_consistent.ensures.model c.requires.begins c.counters_of-taken.result c.cut_edges.new.draft.model c.in_ok-cut_edges.ensures.model
+    (c.counters_of-taken.ensures.is ∙ ap taken_in c.arena-2.ensures.model) (map paired c.as_slice-3.result.now)
     (ap (map paired) c.as_slice-3.ensures.value ∙ c.in_ok-started.ensures ∙ (λ i. faces_started (c.arena.ensures.model i) p (pairs i)))
 
 pub returns-clause-drawn : goal.returns-clause-drawn
 returns-clause-drawn c =
     let M = c.args.draft.now.model in let s = c.args.s in let p = c.args.plane.now in
     let pairs = ap (map paired) c.as_slice-2.ensures.value ∙ c.requires.cuts.faces in
-    let same = made M s p c.stays_consistent.ensures.model c.requires.begins c.beginning-from.result c.cut_edges.new.draft.model c.in_ok-cut_edges.ensures.model
-    (c.beginning-from.ensures.taken ∙ ap taken_in c.arena-2.ensures.model) c.beginning-from.ensures.free (map paired c.as_slice-3.result.now)
+    let same = made M s p c.stays_consistent.ensures.model c.requires.begins c.counters_of-taken.result c.cut_edges.new.draft.model c.in_ok-cut_edges.ensures.model
+    (c.counters_of-taken.ensures.is ∙ ap taken_in c.arena-2.ensures.model) (map paired c.as_slice-3.result.now)
     (ap (map paired) c.as_slice-3.ensures.value ∙ c.in_ok-started.ensures ∙ (λ i. faces_started (c.arena.ensures.model i) p (pairs i))) in
     subst (λ (D : Drawing). IfOk c.draw_faces.result (λ drawn. drawing_of drawn c.draw_faces.new.draft.model [] ≡ D)) same c.draw_faces.ensures.drawn

@@ -1,7 +1,8 @@
 use Rattle.std.proofs.Common.{◌≡◌, ◌∙◌, List, ℕ, [], true, nat_eq, Ok, None, Some, sym, ap, subst}
 use Rattle.euler_operators.specs.Conditions.{strictly_rises, first_refusal}
 use Rattle.split_opening_laws.specs.cycles.SectionCycles.{AreOf}
-use Rattle.split_checks.specs.Progress.{drawing_of, taken_of}
+use Rattle.solid_walks.specs.Counters.{taken_of}
+use Rattle.split_checks.specs.Progress.{drawing_of}
 use Rattle.split_sections.proofs.section_checks_laws.Above.{above_rises, above_of}
 use Rattle.shapes.specs.split.Section.{below_halves}
 use Rattle.shapes.specs.split.Split.{later_conditions, section_conditions}
@@ -24,7 +25,7 @@ check_cycles-requires-clause-of_solid c =
 pub returns-in-Ok-clause-open : goal.returns-in-Ok-clause-open
 returns-in-Ok-clause-open c = λ q e.
     let z : nat_eq c.args.drawn.now.stuck 0 ≡ true = ap (λ n. nat_eq n 0) c.if-drawn-ne0.false in
-    let r = subst (λ (fs : List ℕ). (first_refusal (section_conditions c.args.arena.now.model c.args.s c.args.plane.now (taken_of c.args.drawn.now) (below_halves c.args.arena.now.model fs c.args.s)) ≡ None) × AreCyclesOf c.args.arena.now.model c.args.plane.now (below_halves c.args.arena.now.model fs c.args.s) c.in-Ok.cycles.items)
+    let r = subst (λ (fs : List ℕ). (first_refusal (section_conditions c.args.arena.now.model c.args.s c.args.plane.now (taken_of c.args.drawn.now.taken) (below_halves c.args.arena.now.model fs c.args.s)) ≡ None) × AreCyclesOf c.args.arena.now.model c.args.plane.now (below_halves c.args.arena.now.model fs c.args.s) c.in-Ok.cycles.items)
     (c.as_slice.ensures.value ∙ c.in_ok-above.ensures) (c.in_ok-cycles.ensures.open c.in-Ok.cycles (ap Ok c.in-Ok.is)) in
     value_told (λ (q : Section). (first_refusal (later_conditions c.args.s c.args.plane.now (drawing_of c.args.drawn.now c.args.arena.now.model [])) ≡ None) × IsSection c.args.arena.now.model c.args.s c.args.plane.now q) (record { above = c.in_ok-above.above; cycles = c.in-Ok.cycles }) q
     (drawn c.args.s c.args.plane.now (drawing_of c.args.drawn.now c.args.arena.now.model []) z ∙ r.0, record { above = c.in_ok-above.ensures; cycles = r.1.cycles; holes = r.1.holes }) e
@@ -32,4 +33,4 @@ returns-in-Ok-clause-open c = λ q e.
 pub returns-in-Err-clause-refused : goal.returns-in-Err-clause-refused
 returns-in-Err-clause-refused c = λ r e.
     let z : nat_eq c.args.drawn.now.stuck 0 ≡ true = ap (λ n. nat_eq n 0) c.if-drawn-ne0.false in
-    told _ _ r (drawn c.args.s c.args.plane.now (drawing_of c.args.drawn.now c.args.arena.now.model []) z ∙ subst (λ (fs : List ℕ). first_refusal (section_conditions c.args.arena.now.model c.args.s c.args.plane.now (taken_of c.args.drawn.now) (below_halves c.args.arena.now.model fs c.args.s)) ≡ Some c.in-Err.refusal) (c.as_slice.ensures.value ∙ c.in_ok-above.ensures) (c.in_ok-cycles.ensures.refused c.in-Err.refusal (ap Ok c.in-Err.is))) e
+    told _ _ r (drawn c.args.s c.args.plane.now (drawing_of c.args.drawn.now c.args.arena.now.model []) z ∙ subst (λ (fs : List ℕ). first_refusal (section_conditions c.args.arena.now.model c.args.s c.args.plane.now (taken_of c.args.drawn.now.taken) (below_halves c.args.arena.now.model fs c.args.s)) ≡ Some c.in-Err.refusal) (c.as_slice.ensures.value ∙ c.in_ok-above.ensures) (c.in_ok-cycles.ensures.refused c.in-Err.refusal (ap Ok c.in-Err.is))) e
