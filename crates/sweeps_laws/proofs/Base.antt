@@ -1,5 +1,5 @@
 -- A lamina of four points: its two faces and their volumes.
-use Rattle.std.proofs.Common.{◌≡◌, ◌<◌, suc, ℕ, ◌+◌, ◌≤◌, pos, ◌+ℤ◌, List, [], ◌∷◌, ◌++◌, ap, ◌∙◌, arith, inl, inr}
+use Rattle.std.proofs.Common.{◌≡◌, ◌<◌, suc, ℕ, ◌+◌, ◌≤◌, pos, ◌+ℤ◌, List, [], ◌∷◌, ◌++◌, ap, ◌∙◌, arith}
 use Rattle.std.specs.Prelude.{get_or}
 use Rattle.euler_operators.specs.declared.Point.{Point}
 use Rattle.euler_operators.specs.Vectors.{origin, moved, dot, cross}
@@ -28,13 +28,7 @@ four_back e = first_moved (minus (e + 1)) (minus (e + 4) ∷ minus (e + 3) ∷ m
   apart x = omega (arith, back_apart e 4 x)
 
   low : (y : ℕ) → IsIn y (minus (e + 4) ∷ minus (e + 3) ∷ minus (e + 2) ∷ []) → minus (e + 1) ≤ y
-  low y i = elim (in_cases y (minus (e + 4)) (minus (e + 3) ∷ minus (e + 2) ∷ []) i) [
-    | inl p ↦ omega (arith, p)
-    | inr j ↦ elim (in_cases y (minus (e + 3)) (minus (e + 2) ∷ []) j) [
-      | inl p ↦ omega (arith, p)
-      | inr k ↦ elim (in_cases y (minus (e + 2)) [] k) [ inl p ↦ omega (arith, p) | inr z ↦ absurd (omega arith) ]
-    ]
-  ]
+  low y i = grind (arith, in_cases)
 
 module _ (M : Model) (c : Taken) (s : ℕ) (a b g h : Point) where
   abbrev corner_points : List Point
@@ -51,14 +45,11 @@ module _ (M : Model) (c : Taken) (s : ℕ) (a b g h : Point) where
 
   -- ---- edges and points
 
-  one_more : (v i : ℕ) → v + suc i + 1 ≡ v + suc (suc i)
-  one_more v i = omega arith
-
   out_at : (i : ℕ) → i < 3 → start base (plus (c.edge + suc i)) ≡ get_or corner_points i no_point
   out_at i l = ap (point_of base) (plus_tail_row base (c.edge + suc i) _ (rows.edge_at M c s corner_points i (omega (arith, l)))) ∙ rows.point_at M c s corner_points i (omega (arith, l))
 
   back_at : (i : ℕ) → i < 3 → start base (minus (c.edge + suc i)) ≡ get_or corner_points (suc i) no_point
-  back_at i l = ap (point_of base) (minus_tail_row base (c.edge + suc i) _ (rows.edge_at M c s corner_points i (omega (arith, l))) ∙ one_more c.vertex i) ∙ rows.point_at M c s corner_points (suc i) (omega (arith, l))
+  back_at i l = ap (point_of base) (minus_tail_row base (c.edge + suc i) _ (rows.edge_at M c s corner_points i (omega (arith, l))) ∙ omega arith) ∙ rows.point_at M c s corner_points (suc i) (omega (arith, l))
 
   out_one : start base (plus (c.edge + 1)) ≡ a
   out_one = out_at 0 (omega arith)

@@ -1,6 +1,6 @@
 -- The six volumes of a block and of a lamina, and of the other solids.
 use Rattle.std.specs.Prelude.{length, get_or, ◌-◌}
-use Rattle.std.proofs.Common.{◌≡◌, ℕ, suc, ◌+◌, ◌≤◌, ◌<◌, ℤ, pos, ◌+ℤ◌, ◌-ℤ◌, ◌*ℤ◌, true, false, nat_eq, List, [], None, is_some, refl, sym, ap, subst, ◌∙◌, arith, true≢false}
+use Rattle.std.proofs.Common.{◌≡◌, ℕ, suc, ◌+◌, ◌<◌, ℤ, pos, ◌-ℤ◌, true, false, nat_eq, List, [], None, is_some, refl, sym, ap, subst, ◌∙◌, arith, true≢false}
 use Rattle.std.proofs.lemmas.Bool.{not-true, ne_eqb, leb-true}
 use Rattle.euler_operators.specs.declared.Point.{Point}
 use Rattle.euler_operators.specs.Vectors.{dot}
@@ -62,28 +62,12 @@ module _ (M : Model) (s : ℕ) (p : Point) (dx dy dz : ℤ) (sound : Sound M) (e
 
 -- six times the product of its sizes
 pub block_volume : BlockMeasures
-block_volume M s p dx dy dz sound e =
-    let c = taken_in M in
-    let b = second_corner p dx dy in
-    let g = third_corner p dx dy in
-    let h = fourth_corner p dx dy in
-    let N = base M c s p b g h in
-    let d = vector (pos 0) (pos 0) dz in
-    let bounded = sound_bounded M sound in
-    let is = of M s p dx dy dz sound e in
-    ap (λ x. six_volume x s) (block_is M s p dx dy dz)
-    ∙ ap (six_volume (prism_model N (c.face + 1) d)) (sym is)
-    ∙ sweep_adds N (c.face + 1) d (base_sound M s p dx dy dz sound e) (rises M s p dx dy dz sound e)
-    ∙ (λ i. six_volume N (is i) +ℤ pos 3 *ℤ dot (normal_one M c s p b g h bounded i) d)
-    ∙ (λ i. (base_volume M c s p b g h bounded (no_faces M s sound (solid_free M s p dx dy dz e)) ∙ rectangle_flat p dx dy) i +ℤ rectangle_raised p dx dy dz i)
-    ∙ none_add (pos 6 *ℤ dx *ℤ dy *ℤ dz)
+block_volume M s p dx dy dz sound e = grind (arith, second_corner, third_corner, fourth_corner, sound_bounded, of, block_is, base_sound, rises, no_faces, solid_free, rectangle_flat, none_add, base, sweep_adds, normal_one, base_volume, rectangle_raised)
 
 -- a lamina has three points or more, and its solid is new
 lamina_new : (M : Model) (s : ℕ) (ps : List Point) → lamina_refusal M s ps ≡ None → (length ps ≡ suc (suc (suc (length ps - 3)))) × (table.has M.solids s ≡ false)
 unfolding lamina_conditions
-lamina_new M s ps e = let w = all_hold (lamina_conditions M s ps) e in (more (length ps) (leb-true 3 (length ps) w.1.1.0), not-true _ w.1.0) where
-  more : (n : ℕ) → 3 ≤ n → n ≡ suc (suc (suc (n - 3)))
-  more n l = omega (arith, l)
+lamina_new M s ps e = grind (arith, all_hold, leb-true, not-true)
 
 some_points : (M : Model) (s : ℕ) (ps : List Point) → lamina_refusal M s ps ≡ None → 0 < length ps
 some_points M s ps e = omega (arith, (lamina_new M s ps e).0)

@@ -1,7 +1,7 @@
 -- In a sound model the numbers in use lie within the greatest ones, and the loops of a face without a lone one are closed paths.
-use Rattle.std.proofs.Common.{◌≡◌, ◌≢◌, ℕ, zero, suc, ◌+◌, ◌≤◌, ◌<◌, Bool, true, false, List, [], ◌∷◌, length, get_or, Option, Some, None, is_some, unwrap_or, refl, sym, ap, subst, ◌∙◌, arith, inl, inr, true≢false}
+use Rattle.std.proofs.Common.{◌≡◌, ◌≢◌, ℕ, zero, suc, ◌≤◌, ◌<◌, Bool, true, false, List, [], ◌∷◌, length, get_or, Option, Some, None, is_some, unwrap_or, refl, sym, ap, subst, ◌∙◌, arith, true≢false}
 use Rattle.euler_operators.specs.declared.Point.{Point}
-use Rattle.euler_operators.specs.Items.{count, tick, IsIn, head_or}
+use Rattle.euler_operators.specs.Items.{count, tick, IsIn}
 use Rattle.euler_operators.proofs.Lists.{tick_same}
 use Rattle.euler_operators.specs.Rings.{IsPath, IsRing}
 use Rattle.euler_operators.proofs.Std.{IsIn-get_or}
@@ -41,15 +41,7 @@ place_last next (x ∷ y ∷ ys) e zero p l = absurd (omega arith)
 place_last next (x ∷ y ∷ ys) e (suc i) p l = place_last next (y ∷ ys) e i p.1 (omega (arith, l))
 
 place_next : (next : ℕ → ℕ) (xs : List ℕ) (i : ℕ) → IsRing next xs → i < length xs → next (get_or xs i 0) ≡ get_or xs (next_place (length xs) i) 0
-place_next next xs i r l = elim (next_cases (length xs) i) [
-  | inl p ↦ place_last next xs (head_or 0 xs) i r (omega (arith, p.0)) ∙ head_is xs ∙ ap (λ k. get_or xs k 0) (sym p.1)
-  | inr p ↦ place_inner next xs (head_or 0 xs) i r (inner i (length xs) l p.0) ∙ ap (λ k. get_or xs k 0) (same i ∙ sym p.1)
-] where
-  inner : (i n : ℕ) → i < n → i + 1 ≢ n → suc i < n
-  inner i n l ne = grind arith
-
-  same : (i : ℕ) → suc i ≡ i + 1
-  same i = omega arith
+place_next next xs i r l = grind (arith, head_is, next_cases, place_last, place_inner)
 
 -- ---- rows that aren't there
 
@@ -94,17 +86,15 @@ module _ (M : Model) (sound : Sound M) where
   pub sound_bounded : Bounded M (taken_in M)
   unfolding taken_in
   sound_bounded = record {
-    faces = all (table.greatest M.faces);
-    loops = all (table.greatest M.loops);
+    faces = omega arith;
+    loops = omega arith;
     outers = λ k. used_or_none (outer M k) (table.greatest M.loops) (table.has M.faces k) (λ t. at_most_greatest M.loops (outer M k) (sound.outers_there k t).0) (no_outer M k);
     loop_faces = λ q. used_or_none (face_of M q) (table.greatest M.faces) (table.has M.loops q) (λ t. at_most_greatest M.faces (face_of M q) (sound.loops_of_faces q t)) (no_loop_face M q);
     items = λ h q i. at_most_greatest M.edges (edge_of h) (sound.only_edges h q (in-holds h (content M q) i));
     tails = λ h. used_or_none (tail M h) (table.greatest M.vertices) (table.has M.edges (edge_of h)) (λ t. at_most_greatest M.vertices (tail M h) (sound.tails_there h t)) (no_edge_tail M h);
     lones = λ q v e. at_most_greatest M.vertices v (sound.lone_at_vertex q v e);
     own = λ k t. (sound.outers_there k t).1;
-  } where
-    all : (n : ℕ) → n ≤ n
-    all n = omega arith
+  }
 
   -- a loop that isn't lone is a closed path
   pub sound_path : (f l : ℕ) (hs : List ℕ) → Has M.loops l → face_of M l ≡ f → content M l ≡ cycle hs → IsPathOf M f l hs

@@ -4,7 +4,7 @@ use Rattle.std.proofs.Common.{◌≡◌, ◌≢◌, ℕ, zero, suc, true, false,
 use Rattle.std.proofs.lemmas.Bool.Decides.{nat_tests, eqb_tells}
 use Rattle.euler_operators.specs.declared.Point.{Point}
 use Rattle.euler_operators.specs.Rings.{canonical}
-use Rattle.euler_operators.specs.HalfEdge.{plus, minus, edge_of}
+use Rattle.euler_operators.specs.HalfEdge.{plus, minus}
 use Rattle.euler_operators.specs.Table as table
 use Rattle.euler_operators.specs.Table.{Table}
 use Rattle.euler_operators.specs.Model.{Model, cycle, FaceRow, LoopRow, EdgeRow, no_point, outer, solid_of, point_of, rings_of, faces_of, items_of, content}
@@ -12,9 +12,8 @@ use Rattle.euler_operators.specs.Sound.{Has}
 use Rattle.euler_operators.proofs.Tables.{all_where_none, first_where_zero, get-put_here, get-put_other}
 use Rattle.euler_operators.proofs.Models.{face_row, solid_row, outer_row, point_row, same_content, same_outer}
 use Rattle.euler_operators.proofs.Tests.{none_but, nat_eq_itself, less_still}
-use Rattle.euler_operators.specs.Conditions.{is_lone, lists}
 use Rattle.shapes.specs.Faces.{least_lone, items_in}
-use Rattle.shapes.specs.Fresh.{Taken, numbers_after, found}
+use Rattle.shapes.specs.Fresh.{Taken, numbers_after}
 use Rattle.shapes.specs.Lamina.{lamina_at, with_path, with_points, with_ring}
 use Rattle.shapes.proofs.fresh.Rows.{get-put_cases, all_where-put_last, greatest-put_last}
 use Rattle.sweeps_laws.proofs.swept.Lifted.{Bounded}
@@ -61,22 +60,16 @@ no_lone false f g ne = refl
 
 -- and what was there before
 
-above : (q e i : ℕ) → q ≤ e → 0 < i → q ≢ e + i
-above q e i l m z = absurd (omega arith)
-
 path_old : (t : Table EdgeRow) (e v j q : ℕ) → q ≤ e → table.get (with_path t e v j) q ≡ table.get t q
 path_old t e v zero q l = refl
-path_old t e v (suc j) q l = get-put_other (with_path t e v j) (e + suc j) (record { plus_tail = v + suc j; minus_tail = v + suc j + 1 }) q (above q e (suc j) l (omega arith)) ∙ path_old t e v j q l
+path_old t e v (suc j) q l = get-put_other (with_path t e v j) (e + suc j) (record { plus_tail = v + suc j; minus_tail = v + suc j + 1 }) q (omega (arith, l)) ∙ path_old t e v j q l
 
 ring_old : (t : Table EdgeRow) (e v n q : ℕ) → 0 < n → q ≤ e → table.get (with_ring t e v n) q ≡ table.get t q
-ring_old t e v n q some l = get-put_other (with_path t e v (n - 1)) (e + n) (record { plus_tail = v + n; minus_tail = v + 1 }) q (above q e n l some) ∙ path_old t e v (n - 1) q l
+ring_old t e v n q some l = get-put_other (with_path t e v (n - 1)) (e + n) (record { plus_tail = v + n; minus_tail = v + 1 }) q (omega (arith, l, some)) ∙ path_old t e v (n - 1) q l
 
 points_old : (t : Table Point) (v : ℕ) (ps : List Point) (j w : ℕ) → w ≤ v → table.get (with_points t v ps j) w ≡ table.get t w
 points_old t v ps zero w l = refl
-points_old t v ps (suc j) w l = get-put_other (with_points t v ps j) (v + suc j) (get_or ps j no_point) w (above w v (suc j) l (omega arith)) ∙ points_old t v ps j w l
-
-one_two : (a : ℕ) → a + 1 ≢ a + 2
-one_two a e = absurd (omega arith)
+points_old t v ps (suc j) w l = get-put_other (with_points t v ps j) (v + suc j) (get_or ps j no_point) w (omega (arith, l)) ∙ points_old t v ps j w l
 
 module _ (M : Model) (c : Taken) (s : ℕ) (ps : List Point) where
   abbrev pub drawn : Model
@@ -95,13 +88,13 @@ module _ (M : Model) (c : Taken) (s : ℕ) (ps : List Point) where
   second_loop = record { face = c.face + 2; content = cycle (canonical (reverse (map minus (numbers_after c.edge (length ps))))) }
 
   pub face_one : table.get drawn.faces (c.face + 1) ≡ Some first_face
-  face_one = get-put_other (table.put M.faces (c.face + 1) first_face) (c.face + 2) second_face (c.face + 1) (one_two c.face) ∙ get-put_here M.faces (c.face + 1) first_face
+  face_one = get-put_other (table.put M.faces (c.face + 1) first_face) (c.face + 2) second_face (c.face + 1) (omega arith) ∙ get-put_here M.faces (c.face + 1) first_face
 
   pub face_two : table.get drawn.faces (c.face + 2) ≡ Some second_face
   face_two = get-put_here (table.put M.faces (c.face + 1) first_face) (c.face + 2) second_face
 
   pub loop_one : table.get drawn.loops (c.loop + 1) ≡ Some first_loop
-  loop_one = get-put_other (table.put M.loops (c.loop + 1) first_loop) (c.loop + 2) second_loop (c.loop + 1) (one_two c.loop) ∙ get-put_here M.loops (c.loop + 1) first_loop
+  loop_one = get-put_other (table.put M.loops (c.loop + 1) first_loop) (c.loop + 2) second_loop (c.loop + 1) (omega arith) ∙ get-put_here M.loops (c.loop + 1) first_loop
 
   pub loop_two : table.get drawn.loops (c.loop + 2) ≡ Some second_loop
   loop_two = get-put_here (table.put M.loops (c.loop + 1) first_loop) (c.loop + 2) second_loop
@@ -114,8 +107,7 @@ module _ (M : Model) (c : Taken) (s : ℕ) (ps : List Point) where
 
   -- the edges, of which the last leads back to the first point, and the points
   pub edge_at : (i : ℕ) → suc i < length ps → table.get drawn.edges (c.edge + suc i) ≡ Some (record { plus_tail = c.vertex + suc i; minus_tail = c.vertex + suc i + 1 })
-  edge_at i l = get-put_other (with_path M.edges c.edge c.vertex (length ps - 1)) (c.edge + length ps) (record { plus_tail = c.vertex + length ps; minus_tail = c.vertex + 1 }) (c.edge + suc i) (λ e. absurd (omega (arith, l, e)))
-      ∙ path_new M.edges c.edge c.vertex (length ps - 1) i (omega (arith, l))
+  edge_at i l = grind (arith, get-put_other, path_new)
 
   pub last_edge_at : table.get drawn.edges (c.edge + length ps) ≡ Some (record { plus_tail = c.vertex + length ps; minus_tail = c.vertex + 1 })
   last_edge_at = get-put_here (with_path M.edges c.edge c.vertex (length ps - 1)) (c.edge + length ps) (record { plus_tail = c.vertex + length ps; minus_tail = c.vertex + 1 })
@@ -126,13 +118,7 @@ module _ (M : Model) (c : Taken) (s : ℕ) (ps : List Point) where
   module _ (bounded : Bounded M c) where
     -- a loop is one of the two new ones, or was there
     loop_cases : (q : ℕ) (y : LoopRow) → table.get drawn.loops q ≡ Some y → ((q ≡ c.loop + 2) × (y ≡ second_loop)) ⊎ (((q ≡ c.loop + 1) × (y ≡ first_loop)) ⊎ (y.face ≤ c.face))
-    loop_cases q y at = elim (get-put_cases (table.put M.loops (c.loop + 1) first_loop) (c.loop + 2) second_loop q y at) [
-      | inl p ↦ inl p
-      | inr p ↦ elim (get-put_cases M.loops (c.loop + 1) first_loop q y p.1) [
-        | inl r ↦ inr (inl r)
-        | inr r ↦ inr (inr (subst (λ k. k ≤ c.face) (face_row M q y r.1) (bounded.loop_faces q)))
-      ]
-    ]
+    loop_cases q y at = grind (arith, get-put_cases, face_row)
 
     pub rings_one : rings_of drawn (c.face + 1) ≡ []
     rings_one = all_where_none (λ q row. nat_eq row.face (c.face + 1) && not (nat_eq (outer drawn (c.face + 1)) q)) drawn.loops (λ q y at. none_but y.face (c.face + 1) (outer drawn (c.face + 1)) q (λ e. elim (loop_cases q y at) [
@@ -145,51 +131,35 @@ module _ (M : Model) (c : Taken) (s : ℕ) (ps : List Point) where
     rings_two = all_where_none (λ q row. nat_eq row.face (c.face + 2) && not (nat_eq (outer drawn (c.face + 2)) q)) drawn.loops (λ q y at. none_but y.face (c.face + 2) (outer drawn (c.face + 2)) q (λ e. elim (loop_cases q y at) [
       | inl p ↦ outer_row drawn (c.face + 2) second_face face_two ∙ sym p.0
       | inr (inl p) ↦ absurd (one_or_two c.face y.face (ap (λ r. r.face) p.1) e)
-      | inr (inr p) ↦ absurd (low c.face y.face p e)
-    ])) where
-      low : (k g : ℕ) → g ≤ k → g ≡ k + 2 → ⊥
-      low k g p e = absurd (omega arith)
+      | inr (inr p) ↦ absurd (omega (arith, p, e))
+    ]))
 
     -- no loop of the first face is lone
     pub none_lone : least_lone drawn ((c.face + 1) ∷ []) ≡ None
-    none_lone = ap found (first_where_zero (λ _ row. is_lone row.content && lists ((c.face + 1) ∷ []) row.face) drawn.loops (λ q y at. elim (loop_cases q y at) [
-      | inl p ↦ ap (λ r. is_lone r.content && lists ((c.face + 1) ∷ []) r.face) p.1
-      | inr (inl p) ↦ ap (λ r. is_lone r.content && lists ((c.face + 1) ∷ []) r.face) p.1
-      | inr (inr p) ↦ no_lone (is_lone y.content) (c.face + 1) y.face (λ e. low_not_one c.face y.face p (sym e))
-    ]))
+    none_lone = grind (arith, first_where_zero, loop_cases, no_lone, low_not_one)
 
     -- a search of the faces, and of the loops
     pub faces_found : (p : ℕ → FaceRow → Bool) → table.all_where p drawn.faces ≡ (table.all_where p M.faces ++ cond (p (c.face + 1) first_face) ((c.face + 1) ∷ []) []) ++ cond (p (c.face + 2) second_face) ((c.face + 2) ∷ []) []
-    faces_found p =
-        let first = table.put M.faces (c.face + 1) first_face in
-        all_where-put_last first (c.face + 2) second_face (omega (arith, greatest-put_last M.faces (c.face + 1) first_face (omega (arith, bounded.faces)))) p
-        ∙ ap (λ ks. ks ++ cond (p (c.face + 2) second_face) ((c.face + 2) ∷ []) []) (all_where-put_last M.faces (c.face + 1) first_face (omega (arith, bounded.faces)) p)
+    faces_found p = grind (arith, all_where-put_last, greatest-put_last)
 
     pub loops_found : (p : ℕ → LoopRow → Bool) → table.all_where p drawn.loops ≡ (table.all_where p M.loops ++ cond (p (c.loop + 1) first_loop) ((c.loop + 1) ∷ []) []) ++ cond (p (c.loop + 2) second_loop) ((c.loop + 2) ∷ []) []
-    loops_found p =
-        let first = table.put M.loops (c.loop + 1) first_loop in
-        all_where-put_last first (c.loop + 2) second_loop (omega (arith, greatest-put_last M.loops (c.loop + 1) first_loop (omega (arith, bounded.loops)))) p
-        ∙ ap (λ ks. ks ++ cond (p (c.loop + 2) second_loop) ((c.loop + 2) ∷ []) []) (all_where-put_last M.loops (c.loop + 1) first_loop (omega (arith, bounded.loops)) p)
+    loops_found p = grind (arith, all_where-put_last, greatest-put_last)
 
     -- the faces of a solid that was not there
     pub faces_are : faces_of M s ≡ [] → faces_of drawn s ≡ (c.face + 1) ∷ (c.face + 2) ∷ []
-    faces_are none = faces_found (λ _ row. nat_eq row.solid s)
-        ∙ (λ i. (none i ++ cond (nat_eq_itself s i) ((c.face + 1) ∷ []) []) ++ cond (nat_eq_itself s i) ((c.face + 2) ∷ []) [])
+    faces_are none = grind (arith, faces_found, nat_eq_itself)
 
   -- ---- other solids keep their six volumes
 
   module _ (some : 0 < length ps) where
     keeps_drawn : Keeps M drawn c.edge c.vertex
-    keeps_drawn = record {
-      tails = λ h l. same_tail M drawn h (ring_old M.edges c.edge c.vertex (length ps) (edge_of h) some l);
-      points = λ w l. same_point M drawn w (points_old M.vertices c.vertex ps (length ps) w l);
-    }
+    keeps_drawn = grind (arith, same_tail, ring_old, same_point, points_old)
 
     face_old : (k : ℕ) → k ≤ c.face → table.get drawn.faces k ≡ table.get M.faces k
-    face_old k l = get-put_other (table.put M.faces (c.face + 1) first_face) (c.face + 2) second_face k (above k c.face 2 l (omega arith)) ∙ get-put_other M.faces (c.face + 1) first_face k (above k c.face 1 l (omega arith))
+    face_old k l = get-put_other (table.put M.faces (c.face + 1) first_face) (c.face + 2) second_face k (omega (arith, l)) ∙ get-put_other M.faces (c.face + 1) first_face k (omega (arith, l))
 
     loop_old : (q : ℕ) → q ≤ c.loop → table.get drawn.loops q ≡ table.get M.loops q
-    loop_old q l = get-put_other (table.put M.loops (c.loop + 1) first_loop) (c.loop + 2) second_loop q (above q c.loop 2 l (omega arith)) ∙ get-put_other M.loops (c.loop + 1) first_loop q (above q c.loop 1 l (omega arith))
+    loop_old q l = get-put_other (table.put M.loops (c.loop + 1) first_loop) (c.loop + 2) second_loop q (omega (arith, l)) ∙ get-put_other M.loops (c.loop + 1) first_loop q (omega (arith, l))
 
     outer_old : (k : ℕ) → k ≤ c.face → outer drawn k ≡ outer M k
     outer_old k l = same_outer M drawn k (face_old k l)
@@ -203,11 +173,7 @@ module _ (M : Model) (c : Taken) (s : ℕ) (ps : List Point) where
       none_found xs m n p q e f = (λ i. (xs ++ cond (e i) (m ∷ []) []) ++ cond (f i) (n ∷ []) []) ∙ append-nil (xs ++ []) ∙ append-nil xs
 
       rings_old : (k : ℕ) → k ≤ c.face → rings_of drawn k ≡ rings_of M k
-      rings_old k l = ap (λ o. table.all_where (λ q row. nat_eq row.face k && not (nat_eq o q)) drawn.loops) (outer_old k l)
-          ∙ loops_found b (λ q row. nat_eq row.face k && not (nat_eq (outer M k) q))
-          ∙ none_found (rings_of M k) (c.loop + 1) (c.loop + 2) _ _ (other (c.face + 1) k _ (omega (arith, l))) (other (c.face + 2) k _ (omega (arith, l))) where
-            other : (a k : ℕ) (t : Bool) → k < a → (nat_eq a k && t) ≡ false
-            other a k t m = let e : nat_eq a k ≡ false = grind (arith, nat_tests) in ap (λ x. x && t) e
+      rings_old k l = grind (arith, nat_tests, outer_old, loops_found, none_found)
 
       loop_kept : (q : ℕ) → q ≤ c.loop → area drawn (items_of (content drawn q)) ≡ area M (items_of (content M q))
       loop_kept q l = ap (λ x. area drawn (items_of x)) (content_old q l)

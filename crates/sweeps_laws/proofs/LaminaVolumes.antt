@@ -1,5 +1,5 @@
 -- The six volumes of a lamina: its two faces have opposite normals, and one is told from the first point, the other from the second.
-use Rattle.std.specs.Prelude.{length, get_or, map, reverse, ◌-◌}
+use Rattle.std.specs.Prelude.{length, get_or, map, reverse}
 use Rattle.std.proofs.Common.{◌≡◌, ℕ, zero, suc, ◌+◌, ◌≤◌, ◌<◌, ℤ, pos, ◌+ℤ◌, ◌-ℤ◌, neg_ℤ, true, List, [], ◌∷◌, ◌++◌, refl, sym, ap, subst, ◌∙◌, arith, inl, inr, append-nil}
 use Rattle.std.proofs.lemmas.Bool.Decides.{eqb_tells}
 use Rattle.std.proofs.lemmas.Int.{ints}
@@ -84,11 +84,8 @@ module _ {M : Model} {c : Taken} (s : ℕ) (ps : List Point) (k : ℕ) (many : l
   out_at : (i : ℕ) → i < suc (suc k) → tail drawn (plus (c.edge + suc i)) ≡ c.vertex + suc i
   out_at i l = plus_tail_row drawn (c.edge + suc i) (record { plus_tail = c.vertex + suc i; minus_tail = c.vertex + suc i + 1 }) (rows.edge_at M c s ps i (omega (arith, many, l)))
 
-  one_more : (v : ℕ) → v + 1 + 1 ≡ v + 2
-  one_more v = omega arith
-
   back_one : tail drawn (minus (c.edge + 1)) ≡ c.vertex + 2
-  back_one = minus_tail_row drawn (c.edge + 1) (record { plus_tail = c.vertex + 1; minus_tail = c.vertex + 1 + 1 }) (rows.edge_at M c s ps 0 (omega (arith, many))) ∙ one_more c.vertex
+  back_one = minus_tail_row drawn (c.edge + 1) (record { plus_tail = c.vertex + 1; minus_tail = c.vertex + 1 + 1 }) (rows.edge_at M c s ps 0 (omega (arith, many))) ∙ omega arith
 
   -- ---- the first face
 

@@ -1,26 +1,25 @@
 -- One loop of a face swept: areas, anchors and volumes of the faces after.
-use Rattle.std.proofs.Common.{◌≡◌, ◌≢◌, ℕ, zero, suc, ◌+◌, ◌≤◌, ◌<◌, ℤ, pos, ◌+ℤ◌, ◌*ℤ◌, true, not, nat_eq, ◌&&◌, List, [], ◌∷◌, ◌++◌, length, get_or, is_some, refl, sym, ap, subst, ◌∙◌, arith, inl, inr, true≢false}
+use Rattle.std.proofs.Common.{◌≡◌, ◌≢◌, ℕ, zero, suc, ◌+◌, ◌≤◌, ◌<◌, ℤ, pos, ◌+ℤ◌, ◌*ℤ◌, true, not, nat_eq, ◌&&◌, List, [], ◌∷◌, length, get_or, is_some, refl, sym, ap, subst, ◌∙◌, arith, inl, inr, true≢false}
 use Rattle.std.proofs.lemmas.Bool.Decides.{eqb_tells}
 use Rattle.std.proofs.lemmas.Int.{ints}
 use Rattle.euler_operators.specs.declared.Point.{Point}
-use Rattle.euler_operators.specs.Vectors.{origin, moved, dot, cross}
+use Rattle.euler_operators.specs.Vectors.{moved, dot, cross}
 use Rattle.euler_operators.specs.Items.{IsIn, head_or}
-use Rattle.euler_operators.specs.HalfEdge.{edge_of, plus, minus}
-use Rattle.euler_operators.specs.Table as table
+use Rattle.euler_operators.specs.HalfEdge.{edge_of, plus}
 use Rattle.euler_operators.specs.Model.{Model, LoopContent, lone, cycle, items_of, tail, content, outer, point_of, rings_of}
 use Rattle.euler_operators.specs.Conditions.{lists, strictly_rises}
 use Rattle.euler_laws.proofs.shared.Listed.{first_listed, rest_listed, listed_cases, listed_passes}
 use Rattle.euler_laws.proofs.Sizes.{rises_on, rises_apart}
 use Rattle.shapes.specs.Faces.{start, finish, loops_of, items_in, boundary}
 use Rattle.shapes.specs.Fresh.{Taken}
-use Rattle.shapes.specs.Prism.{riser, top_edge, top_items, next_place}
+use Rattle.shapes.specs.Prism.{top_edge, top_items}
 use Rattle.shapes.specs.Measure.{area, normal, anchor, first_vertex, volume_in}
 use Rattle.shapes.proofs.fresh.Rows.{at_most_greatest}
 use Rattle.euler_operators.proofs.Vectors.{dot_moved, add_assoc}
 use Rattle.euler_operators.proofs.Sweeps.{sum_to, moved_at, area_at, moved_ring, side_area, side_volume, Linked}
 use Rattle.euler_operators.proofs.Rotations.{IsIn_head}
 use Rattle.euler_operators.proofs.Halves.{mate_plus, mate_minus}
-use Rattle.sweeps_laws.proofs.swept.Numbers.{next_cases, at_most}
+use Rattle.sweeps_laws.proofs.swept.Numbers.{next_cases}
 use Rattle.shapes.proofs.Areas.{area_push}
 use Rattle.shapes.proofs.measures.Sums.{same_volumes, volume_of}
 use Rattle.sweeps_laws.proofs.Areas.{area_sum, same_area, same_loops}
@@ -57,7 +56,7 @@ first_kept M N e v keeps bounded (cycle (h ∷ hs)) a b = start_kept keeps bound
 pub loops_within : (M : Model) (c : Taken) → Bounded M c → (k q : ℕ) → lists (outer M k ∷ rings_of M k) q ≡ true → q ≤ c.loop
 loops_within M c b k q i = elim (listed_cases (outer M k) q (rings_of M k) i) [
   | inl e ↦ subst (λ x. x ≤ c.loop) (sym e) (b.outers k)
-  | inr i ↦ let p = listed_passes (λ l row. nat_eq row.face k && not (nat_eq (outer M k) l)) M.loops q i in at_most q (table.greatest M.loops) c.loop (at_most_greatest M.loops q (ap is_some p.1)) b.loops
+  | inr i ↦ let p = listed_passes (λ l row. nat_eq row.face k && not (nat_eq (outer M k) l)) M.loops q i in grind (arith, at_most_greatest M.loops q (ap is_some p.1), b.loops)
 ]
 
 -- a closed path of n steps keeps its area where it is moved
@@ -78,26 +77,10 @@ module _ {M : Model} {c : Taken} (s : ℕ) (d : Point) {hs : List ℕ} {f l : �
   -- ---- the sides
 
   side_normal : (i : ℕ) → i < length hs → normal after (c.face + 1 + i) ≡ side_area (from_at i) (to_at i) d
-  side_normal i m = normal_is after (c.face + 1 + i)
-      ∙ ap (λ rs. area after (items_in after (outer after (c.face + 1 + i) ∷ rs))) (rings_new M c s d hs f l b r i m)
-      ∙ ap (λ q. area after (items_in after (q ∷ []))) (outer_new M c s d hs f l i m)
-      ∙ ap (λ x. area after (items_of x ++ [])) (content_new M c s d hs f l b r i m)
-      ∙ (λ t. moved (cross (item_start M c s d hs f l b r i m t) (item_finish M c s d hs f l b r i m t))
-      (moved (cross (next_start M c s d hs f l b r i m t) (up t))
-      (moved (cross (top_finish M c s d hs f l b r i m t) (back t))
-      (moved (cross (riser_finish M c s d hs f l b r i m t) (down t)) origin)))) where
-        up : finish after (plus (riser c.edge (next_place (length hs) i))) ≡ moved (to_at i) d
-        up = ap (start after) (mate_plus (riser c.edge (next_place (length hs) i))) ∙ next_finish M c s d hs f l b r i m
-
-        back : finish after (minus (top_edge c.edge (length hs) i)) ≡ moved (from_at i) d
-        back = ap (start after) (mate_minus (top_edge c.edge (length hs) i)) ∙ top_start M c s d hs f l b r i m
-
-        down : finish after (minus (riser c.edge i)) ≡ from_at i
-        down = ap (start after) (mate_minus (riser c.edge i)) ∙ riser_start M c s d hs f l b r i m
+  side_normal i m = grind (arith, normal_is, rings_new, outer_new, content_new, mate_plus, mate_minus, riser_start, item_start, item_finish, next_start, top_finish, riser_finish, next_finish, top_start)
 
   side_anchor : (i : ℕ) → i < length hs → anchor after (c.face + 1 + i) ≡ from_at i
-  side_anchor i m = ap (λ q. point_of after (first_vertex after (content after q))) (outer_new M c s d hs f l i m)
-      ∙ ap (λ x. point_of after (first_vertex after x)) (content_new M c s d hs f l b r i m) ∙ item_start M c s d hs f l b r i m
+  side_anchor i m = grind (arith, outer_new, content_new, item_start)
 
   pub side_is : (i : ℕ) → i < length hs → volume_of after (c.face + 1 + i) ≡ pos 2 *ℤ dot (area_at from_at to_at d i) d
   side_is i m = (λ t. dot (side_anchor i m t) (side_normal i m t)) ∙ side_volume (from_at i) (to_at i) d
@@ -112,12 +95,7 @@ module _ {M : Model} {c : Taken} (s : ℕ) (d : Point) {hs : List ℕ} {f l : �
         over k m = ap (start after) (mate_plus (top_edge c.edge (length hs) k)) ∙ top_finish M c s d hs f l b r k m
 
   path_linked : Linked from_at to_at d (length hs)
-  path_linked i m = r.linked i (omega (arith, m)) ∙ ap from_at (elim (next_cases (length hs) i) [ inl e ↦ absurd (last i (length hs) m e.0) | inr e ↦ e.1 ∙ more i ]) where
-    last : (i n : ℕ) → suc i < n → i + 1 ≡ n → ⊥
-    last i n m e = absurd (omega arith)
-
-    more : (i : ℕ) → i + 1 ≡ suc i
-    more i = omega arith
+  path_linked i m = grind (arith, next_cases)
 
   path_closed : (m : ℕ) → suc m ≡ length hs → to_at m ≡ from_at 0
   path_closed m e = r.linked m (omega (arith, e)) ∙ ap from_at (elim (next_cases (length hs) m) [ inl p ↦ p.1 | inr p ↦ absurd (p.0 (omega (arith, e))) ])
@@ -170,14 +148,11 @@ module _ {M : Model} {c : Taken} (s : ℕ) (d : Point) {hs : List ℕ} {f l : �
       volume_in after ks ≡ volume_in M ks +ℤ dot d (normal M f)
   faces_moved [] up i e w = absurd (true≢false (sym i))
   faces_moved (k ∷ ks) up i e w = elim (eqb_tells f k) [
-    | inl p ↦ (λ t. volume_moved k (w k (first_listed k ks)).0 (ap (outer M) (sym p.1) ∙ e) t +ℤ faces_kept ks (λ q j. ((w q (rest_listed k q ks j)).0, (w q (rest_listed k q ks j)).1 (later k q f p.1 (rises_apart k q ks up j)))) t)
+    | inl p ↦ (λ t. volume_moved k (w k (first_listed k ks)).0 (ap (outer M) (sym p.1) ∙ e) t +ℤ faces_kept ks (λ q j. ((w q (rest_listed k q ks j)).0, (w q (rest_listed k q ks j)).1 (omega (arith, p.1, rises_apart k q ks up j)))) t)
         ∙ turned (volume_of M k) (dot d (normal M k)) (volume_in M ks) ∙ ap (λ j. volume_of M k +ℤ volume_in M ks +ℤ dot d (normal M j)) (sym p.1)
     | inr p ↦ (λ t. volume_kept k (w k (first_listed k ks)).0 ((w k (first_listed k ks)).1 (λ x. p.1 (sym x))) t +ℤ faces_moved ks (rises_on k ks up) (rest_of k f ks i p.1) e (λ q j. w q (rest_listed k q ks j)) t)
         ∙ sym (add_assoc (volume_of M k) (volume_in M ks) (dot d (normal M f)))
   ] where
-    later : (k q f : ℕ) → f ≡ k → k < q → q ≢ f
-    later k q f e l s = absurd (omega arith)
-
     turned : (a b c : ℤ) → (a +ℤ b) +ℤ c ≡ (a +ℤ c) +ℤ b
     turned a b c = omega (arith, ints)
 

@@ -1,5 +1,5 @@
 -- One loop of a face swept: what the six volumes grow by.
-use Rattle.std.proofs.Common.{◌≡◌, ◌≢◌, ℕ, zero, suc, ◌+◌, ◌≤◌, pos, ◌+ℤ◌, ◌*ℤ◌, Bool, true, cond, nat_eq, List, [], ◌∷◌, ◌++◌, length, is_some, refl, sym, ap, ◌∙◌, inl, inr}
+use Rattle.std.proofs.Common.{◌≡◌, ◌≢◌, ℕ, zero, suc, ◌+◌, ◌≤◌, pos, ◌+ℤ◌, ◌*ℤ◌, Bool, true, cond, nat_eq, List, [], ◌∷◌, ◌++◌, length, is_some, refl, sym, ap, ◌∙◌, arith, inl, inr}
 use Rattle.std.proofs.lemmas.Bool.Decides.{eqb_tells}
 use Rattle.std.proofs.lemmas.Bool.{eqb-true, eq-eqb, ne_eqb}
 use Rattle.euler_operators.specs.declared.Point.{Point}
@@ -23,7 +23,6 @@ use Rattle.sweeps_laws.proofs.Areas.{area_sum, volume_last}
 use Rattle.sweeps_laws.proofs.swept.Sides.{side_face, faces_grown}
 use Rattle.sweeps_laws.proofs.swept.Lifted.{Bounded, IsPathOf, swept}
 use Rattle.sweeps_laws.proofs.Loops.{side_is, faces_kept, faces_moved, from_at, to_at}
-use Rattle.sweeps_laws.proofs.swept.Numbers.{at_most}
 
 pub six_volume_is : (M : Model) (s : ℕ) → six_volume M s ≡ volume_in M (faces_of M s)
 unfolding six_volume
@@ -31,7 +30,7 @@ six_volume_is M s = refl
 
 -- a face of solid u
 pub face_within : (M : Model) (c : Taken) → Bounded M c → (u k : ℕ) → lists (faces_of M u) k ≡ true → (k ≤ c.face) × Has M.faces k × (solid_of M k ≡ u)
-face_within M c b u k i = let p = listed_passes (λ _ row. nat_eq row.solid u) M.faces k i in (at_most k (table.greatest M.faces) c.face (at_most_greatest M.faces k (ap is_some p.1)) b.faces, ap is_some p.1, solid_row M k p.0 p.1 ∙ eqb-true p.0.solid u p.2)
+face_within M c b u k i = let p = listed_passes (λ _ row. nat_eq row.solid u) M.faces k i in (grind (arith, at_most_greatest M.faces k (ap is_some p.1), b.faces), ap is_some p.1, solid_row M k p.0 p.1 ∙ eqb-true p.0.solid u p.2)
 
 module _ {M : Model} {c : Taken} (s : ℕ) (d : Point) {hs : List ℕ} {f l : ℕ} (b : Bounded M c) (r : IsPathOf M f l hs) where
   abbrev after : Model

@@ -1,5 +1,5 @@
 -- A whole face swept: its loops one after the other.
-use Rattle.std.proofs.Common.{◌≡◌, ◌≢◌, ℕ, ◌<◌, ℤ, pos, ◌+ℤ◌, ◌*ℤ◌, true, List, [], ◌∷◌, length, refl, sym, ap, subst, ◌∙◌, arith}
+use Rattle.std.proofs.Common.{◌≡◌, ◌≢◌, ℕ, ℤ, pos, ◌+ℤ◌, ◌*ℤ◌, true, List, [], ◌∷◌, length, refl, sym, ap, ◌∙◌, arith}
 use Rattle.std.proofs.lemmas.Int.{ints}
 use Rattle.euler_operators.specs.declared.Point.{Point}
 use Rattle.euler_operators.specs.Vectors.{origin, dot}
@@ -34,8 +34,7 @@ raised_is f d g l = refl
 module _ (f : ℕ) (d : Point) (s : ℕ) where
   -- where one loop is swept the others stay closed paths, with the areas that they had
   paths_after : (M : Model) (c : Taken) (hs : List ℕ) (l : ℕ) (b : Bounded M c) (r : IsPathOf M f l hs) (ls : List ℕ) → ((q : ℕ) → lists ls q ≡ true → q ≢ l) → Paths M f ls → Paths (swept M c s d hs f l) f ls
-  paths_after M c hs l b r ls apart ps q i = let p = path_after s d b r q (items_of (content M q)) (apart q i) (ps q i) in
-      subst (λ x. IsPathOf (swept M c s d hs f l) f q (items_of x)) (sym p.0) p.1
+  paths_after M c hs l b r ls apart ps q i = grind (arith, path_after, swept)
 
   items_after : (M : Model) (c : Taken) (hs : List ℕ) (l : ℕ) (b : Bounded M c) (r : IsPathOf M f l hs) (ls : List ℕ) → Paths M f ls → area (swept M c s d hs f l) (items_in (swept M c s d hs f l) ls) ≡ area M (items_in M ls)
   items_after M c hs l b r ls ps = loops_area s d b r ls (λ q i. within M c s d (items_of (content M q)) f q b (ps q i))
@@ -43,14 +42,10 @@ module _ (f : ℕ) (d : Point) (s : ℕ) where
   -- two loops, or a loop and others, add twice their areas along d
   both : (M : Model) (l : ℕ) (ls : List ℕ) (v : ℤ) →
       (v +ℤ pos 2 *ℤ dot (area M (items_of (content M l))) d) +ℤ pos 2 *ℤ dot (area M (items_in M ls)) d ≡ v +ℤ pos 2 *ℤ dot (area M (items_in M (l ∷ ls))) d
-  both M l ls v = add_assoc v (pos 2 *ℤ dot (area M (items_of (content M l))) d) (pos 2 *ℤ dot (area M (items_in M ls)) d)
-      ∙ ap (λ x. v +ℤ x) (sym (twice_sum (dot (area M (items_of (content M l))) d) (dot (area M (items_in M ls)) d))
-      ∙ ap (λ x. pos 2 *ℤ x) (sym (dot_moved (area M (items_of (content M l))) (area M (items_in M ls)) d) ∙ ap (λ a. dot a d) (sym (area-append M (items_of (content M l)) (items_in M ls)))))
+  both M l ls v = grind (arith, add_assoc, twice_sum, dot_moved, area-append)
 
   after_least : (l : ℕ) (ls : List ℕ) → strictly_rises (l ∷ ls) ≡ true → (q : ℕ) → lists ls q ≡ true → q ≢ l
-  after_least l ls up q i = greater l q (rises_apart l q ls up i) where
-    greater : (l q : ℕ) → l < q → q ≢ l
-    greater l q m e = absurd (omega arith)
+  after_least l ls up q i = grind (arith, rises_apart)
 
   nothing_more : (v : ℤ) → v ≡ v +ℤ pos 2 *ℤ dot origin d
   nothing_more v = sym (add_none v) ∙ ap (λ x. v +ℤ pos 2 *ℤ x) (sym (dot_origin d))
@@ -118,16 +113,11 @@ module _ (M : Model) (f : ℕ) (d : Point) (b : Bounded M (taken_in M)) (there :
   prism_is = refl
 
   three : (v u w : ℤ) → u ≡ w → (v +ℤ w) +ℤ pos 2 *ℤ u ≡ v +ℤ pos 3 *ℤ u
-  three v u w e = ap (λ x. (v +ℤ x) +ℤ pos 2 *ℤ u) (sym e) ∙ turned v u (pos 2 *ℤ u) ∙ three_times v u where
-    turned : (a b c : ℤ) → (a +ℤ b) +ℤ c ≡ (a +ℤ c) +ℤ b
-    turned a b c = omega (arith, ints)
+  three v u w e = grind (arith, ints, three_times)
 
   pub paths_add : strictly_rises (rings_of M f) ≡ true → ((q : ℕ) → lists (rings_of M f) q ≡ true → outer M f ≢ q) →
       six_volume (prism_model M f d) (solid_of M f) ≡ six_volume M (solid_of M f) +ℤ pos 3 *ℤ dot (normal M f) d
-  paths_add up rings = ap (λ x. six_volume x (solid_of M f)) prism_is
-      ∙ loops_swept f d (solid_of M f) (outer M f) (rings_of M f) (growing M) b there refl refl up ps rings
-      ∙ ap (λ a. (six_volume M (solid_of M f) +ℤ dot d (normal M f)) +ℤ pos 2 *ℤ dot a d) (sym (normal_is M f))
-      ∙ three (six_volume M (solid_of M f)) (dot (normal M f) d) (dot d (normal M f)) (dot_turned (normal M f) d)
+  paths_add up rings = grind (arith, prism_is, loops_swept, normal_is, three, dot_turned)
 
   -- every other solid keeps its six volumes
   pub paths_keep : (u : ℕ) → u ≢ solid_of M f → strictly_rises (rings_of M f) ≡ true → ((q : ℕ) → lists (rings_of M f) q ≡ true → outer M f ≢ q) → six_volume (prism_model M f d) u ≡ six_volume M u

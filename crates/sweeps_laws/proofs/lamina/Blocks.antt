@@ -1,8 +1,7 @@
 -- Where a block can be made: the lamina of its base can be made, and then its first face can be swept up.
 use Rattle.std.specs.Prelude.{length, int_le}
 use Rattle.std.specs.Ordering.{int_eq}
-use Rattle.std.specs.Cmp.{signed_Decides}
-use Rattle.std.proofs.Common.{◌≡◌, ◌≢◌, ℕ, zero, suc, ◌+◌, ◌*◌, ◌≤◌, ◌<◌, ℤ, pos, negsuc, ◌+ℤ◌, Bool, true, false, cond, not, nat_le, ◌&&◌, ◌||◌, List, [], ◌∷◌, ◌++◌, Some, None, is_some, refl, sym, ap, ◌∙◌, subst, arith, true≢false, Option}
+use Rattle.std.proofs.Common.{◌≡◌, ◌≢◌, ℕ, zero, suc, ◌+◌, ◌*◌, ◌<◌, ℤ, pos, negsuc, ◌+ℤ◌, Bool, true, false, cond, not, ◌&&◌, List, [], ◌∷◌, ◌++◌, Some, None, is_some, refl, sym, ap, ◌∙◌, subst, arith, true≢false, Option}
 use Rattle.std.proofs.lemmas.Bool.Decides.{nat_tests}
 use Rattle.std.proofs.lemmas.Int.{ints}
 use Rattle.euler_operators.specs.declared.Point.{Point}
@@ -22,7 +21,7 @@ use Rattle.shapes.proofs.fresh.Rows.{greatest-put_last}
 use Rattle.shapes.proofs.fresh.Tests.{Left, numbers_are_left, left_numbers_hold, number_fits}
 use Rattle.shapes.specs.Faces.{corners, loops_of, vertices_in, vertices_on, least_lone}
 use Rattle.shapes.specs.Fresh.{Taken, taken_in, numbers_left, no_such, first_such}
-use Rattle.shapes.specs.Lamina.{with_path, first_far, first_repeated, lamina_conditions, lamina_model}
+use Rattle.shapes.specs.Lamina.{first_far, first_repeated, lamina_conditions, lamina_model}
 use Rattle.shapes.specs.Prism.{prism_conditions, prism_refusal}
 use Rattle.shapes.specs.Block.{vector, base_of, block_conditions, block_refusal}
 use Rattle.sweeps_laws.specs.lamina.Laws.{BlocksHaveBases, BasesRise}
@@ -47,10 +46,7 @@ grown_other x (pos (suc n)) l e = absurd (omega (arith, ints))
 grown_other x (negsuc n) l e = absurd (true≢false (sym l))
 
 pub other_number : (x y : ℤ) → x ≢ y → int_eq x y ≡ false
-other_number x y ne = go (int_eq x y) refl where
-  go : (b : Bool) → int_eq x y ≡ b → int_eq x y ≡ false
-  go true e = absurd (ne ((signed_Decides x y).0 e))
-  go false e = e
+other_number x y ne = grind arith
 
 no_and : (a b : Bool) → (a && false && b) ≡ false
 no_and true b = refl
@@ -103,15 +99,12 @@ ranges M s p dx dy dz e =
 
 -- ---- the lamina of the base
 
-pub fewer : (a n m : ℕ) → m ≤ n → nat_le (a + n) 1000000 ≡ true → nat_le (a + m) 1000000 ≡ true
-fewer a n m l e = grind (arith, nat_tests)
-
 pub all_near : (a b g h : Point) → is_in_range a ≡ true → is_in_range b ≡ true → is_in_range g ≡ true → is_in_range h ≡ true → first_far 0 (a ∷ b ∷ g ∷ h ∷ []) ≡ None
 all_near a b g h r s t u = λ i. cond (r i) (cond (s i) (cond (t i) (cond (u i) None (Some 4)) (Some 3)) (Some 2)) (Some 1)
 
 pub none_repeated : (a b g h : Point) → same_point b a ≡ false → same_point g a ≡ false → same_point g b ≡ false → same_point h a ≡ false → same_point h b ≡ false → same_point h g ≡ false →
     first_repeated [] 0 (a ∷ b ∷ g ∷ h ∷ []) ≡ None
-none_repeated a b g h ba ga gb ha hb hg = λ i. cond (ba i || false) (Some 2) (cond (ga i || (gb i || false)) (Some 3) (cond (ha i || (hb i || (hg i || false))) (Some 4) None))
+none_repeated a b g h ba ga gb ha hb hg = cc
 
 pub blocks_have_bases : BlocksHaveBases
 unfolding block_conditions lamina_conditions
@@ -141,10 +134,10 @@ blocks_have_bases M s p dx dy dz e =
             (
               ap (λ (o : Option ℕ). not (is_some o)) apart,
               (
-                fewer (taken_in M).face 6 2 (omega arith) left.0,
+                grind (arith, nat_tests, left.0),
                 (
-                  fewer (taken_in M).loop 6 2 (omega arith) left.1.0,
-                  (fewer (taken_in M).edge 12 4 (omega arith) left.1.1.0, (fewer (taken_in M).vertex 8 4 (omega arith) left.1.1.1.0, tt)),
+                  grind (arith, nat_tests, left.1.0),
+                  (grind (arith, nat_tests, left.1.1.0), (grind (arith, nat_tests, left.1.1.1.0), tt)),
                 ),
               ),
             ),
@@ -203,22 +196,7 @@ module _ (M : Model) (sound : Sound M) (c : Taken) (is : c ≡ taken_in M) (s : 
 
   base_left : Left c 6 6 12 8 → Left (taken_in base) 4 4 8 4
   unfolding taken_in
-  base_left left = record {
-    faces = omega (arith, left.faces, greatest_faces);
-    loops = omega (arith, left.loops, greatest_loops);
-    edges = omega (arith, left.edges, greatest_edges);
-    vertices = omega (arith, left.vertices, greatest-with_points M.vertices c.vertex ps 4 (ap (λ k. k.vertex) (sym is)));
-  } where
-    greatest_faces : table.greatest base.faces ≡ c.face + 2
-    greatest_faces = greatest-put_last (table.put M.faces (c.face + 1) (rows.first_face M c s ps)) (c.face + 2) (rows.second_face M c s ps)
-        (omega (arith, greatest-put_last M.faces (c.face + 1) (rows.first_face M c s ps) (omega (arith, bounded.faces))))
-
-    greatest_loops : table.greatest base.loops ≡ c.loop + 2
-    greatest_loops = greatest-put_last (table.put M.loops (c.loop + 1) (rows.first_loop M c s ps)) (c.loop + 2) (rows.second_loop M c s ps)
-        (omega (arith, greatest-put_last M.loops (c.loop + 1) (rows.first_loop M c s ps) (omega (arith, bounded.loops))))
-
-    greatest_edges : table.greatest base.edges ≡ c.edge + 4
-    greatest_edges = greatest-put_last (with_path M.edges c.edge c.vertex 3) (c.edge + 4) (record { plus_tail = c.vertex + 4; minus_tail = c.vertex + 1 }) (omega (arith, greatest-with_path M.edges c.edge c.vertex 3 greatest_edge))
+  base_left left = grind (arith, greatest-with_path, greatest-with_points, greatest-put_last)
 
   rises : (d : Point) → same_point d origin ≡ false → is_in_range (moved a d) ≡ true → is_in_range (moved b d) ≡ true → is_in_range (moved g d) ≡ true → is_in_range (moved h d) ≡ true →
       Left c 6 6 12 8 → prism_refusal base (c.face + 1) d ≡ None

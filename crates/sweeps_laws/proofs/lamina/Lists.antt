@@ -18,10 +18,8 @@ least_first x zs low =
     let there : IsIn (least (x ∷ zs)) (x ∷ zs) = least_with_in x zs in
     elim (eqb_tells (least (x ∷ zs)) x) [
       | inl e ↦ e.1
-      | inr ne ↦ both (least (x ∷ zs)) x at_most (low (least (x ∷ zs)) (omega (arith, there, tick_other (least (x ∷ zs)) x ne.1)))
-    ] where
-      both : (a b : ℕ) → a ≤ b → b ≤ a → a ≡ b
-      both a b l m = omega arith
+      | inr ne ↦ omega (arith, at_most, low (least (x ∷ zs)) (omega (arith, there, tick_other (least (x ∷ zs)) x ne.1)))
+    ]
 
 pub canonical_first : (x : ℕ) (zs : List ℕ) → ((y : ℕ) → IsIn y zs → x ≤ y) → canonical (x ∷ zs) ≡ x ∷ zs
 unfolding canonical
@@ -43,30 +41,18 @@ back_within e (suc j) x i = elim (eqb_tells x (minus (e + suc j))) [
 ]
 
 not_out : (e j x : ℕ) → plus (e + j) < x → count x (out e j) ≡ 0
-not_out e j x l = zero_or (count x (out e j)) (λ i. out_within e j x i) l where
-  zero_or : (n : ℕ) → (1 ≤ n → (plus (e + 1) ≤ x) × (x ≤ plus (e + j))) → plus (e + j) < x → n ≡ 0
-  zero_or zero f l = refl
-  zero_or (suc n) f l = let w : x ≤ plus (e + j) = (f (omega arith)).1 in absurd (omega (arith, w, l))
+not_out e j x l = grind (arith, out_within)
 
 not_back : (e j x : ℕ) → minus (e + j) < x → count x (back e j) ≡ 0
-not_back e j x l = zero_or (count x (back e j)) (λ i. back_within e j x i) l where
-  zero_or : (n : ℕ) → (1 ≤ n → (plus (e + 1) ≤ x) × (x ≤ minus (e + j))) → minus (e + j) < x → n ≡ 0
-  zero_or zero f l = refl
-  zero_or (suc n) f l = let w : x ≤ minus (e + j) = (f (omega arith)).1 in absurd (omega (arith, w, l))
+not_back e j x l = grind (arith, back_within)
 
 pub out_apart : (e j : ℕ) → IsApart (out e j)
-out_apart e zero x = omega arith
-out_apart e (suc j) x = elim (eqb_tells x (plus (e + suc j))) [
-  | inl p ↦ omega (arith, count-append x (out e j) (plus (e + suc j) ∷ []), tick_le x (plus (e + suc j)), not_out e j x (omega (arith, p.1)))
-  | inr p ↦ omega (arith, count-append x (out e j) (plus (e + suc j) ∷ []), out_apart e j x, tick_other x (plus (e + suc j)) p.1)
-]
+out_apart e zero x = grind arith
+out_apart e (suc j) x = grind (arith, eqb_tells, count-append, tick_le, not_out, tick_other, out_apart e j x)
 
 pub back_apart : (e j : ℕ) → IsApart (back e j)
-back_apart e zero x = omega arith
-back_apart e (suc j) x = elim (eqb_tells x (minus (e + suc j))) [
-  | inl p ↦ omega (arith, tick_le x (minus (e + suc j)), not_back e j x (omega (arith, p.1)))
-  | inr p ↦ omega (arith, back_apart e j x, tick_other x (minus (e + suc j)) p.1)
-]
+back_apart e zero x = grind arith
+back_apart e (suc j) x = grind (arith, eqb_tells, tick_le, not_back, tick_other, back_apart e j x)
 
 -- the plus halves after the first
 abbrev pub later : ℕ → ℕ → List ℕ
@@ -82,12 +68,7 @@ later_high e j y i = (out_within e (suc j) y (omega (arith, i, ap (count y) (out
 
 -- a list of the plus halves, and others that aren't less than the first, is in its canonical form
 pub canonical_out : (e j : ℕ) (ys : List ℕ) → ((y : ℕ) → IsIn y ys → plus (e + 1) ≤ y) → canonical (out e (suc j) ++ ys) ≡ out e (suc j) ++ ys
-canonical_out e j ys low = ap (λ xs. canonical (xs ++ ys)) (out_first e j)
-    ∙ canonical_first (plus (e + 1)) (later e j ++ ys) (λ y i. either y (count y (later e j)) (λ k. later_high e j y k) (λ k. low y (omega (arith, i, k, count-append y (later e j) ys))))
-    ∙ sym (ap (λ xs. xs ++ ys) (out_first e j)) where
-      either : (y n : ℕ) → (1 ≤ n → plus (e + 1) ≤ y) → (n ≡ 0 → plus (e + 1) ≤ y) → plus (e + 1) ≤ y
-      either y zero f g = g refl
-      either y (suc n) f g = f (omega arith)
+canonical_out e j ys low = grind (arith, out_first, canonical_first, later_high, count-append)
 
 -- the loop along a path, and the one along the next edge too
 pub path_read : (e j : ℕ) → canonical (out e (suc j) ++ back e (suc j)) ≡ out e (suc j) ++ back e (suc j)
@@ -107,19 +88,15 @@ first_moved x xs apart = canonical_same (xs ++ x ∷ []) (x ∷ xs) (record { fr
 pub ring_plus : (e j : ℕ) → canonical (plus (e + suc (suc j)) ∷ plus (e + 1) ∷ later e j) ≡ out e (suc (suc j))
 ring_plus e j = ap (λ xs. canonical (plus (e + suc (suc j)) ∷ xs)) (sym (out_first e j))
     ∙ moved_last (plus (e + suc (suc j))) (out e (suc j)) (out_apart e (suc (suc j)))
-    ∙ ap canonical (sym (append-nil (out e (suc (suc j))))) ∙ canonical_out e (suc j) [] (λ y i. absurd (none i)) ∙ append-nil (out e (suc (suc j))) where
-      none : 1 ≤ 0 → ⊥
-      none l = omega arith
+    ∙ ap canonical (sym (append-nil (out e (suc (suc j))))) ∙ canonical_out e (suc j) [] (λ y i. absurd (omega (arith, i))) ∙ append-nil (out e (suc (suc j)))
 
 pub ring_minus : (e j : ℕ) → canonical (back e (suc j) ++ minus (e + suc (suc j)) ∷ []) ≡ canonical (back e (suc (suc j)))
 ring_minus e j = first_moved (minus (e + suc (suc j))) (back e (suc j)) (back_apart e (suc (suc j)))
 
 -- the same lists from the numbers of the edges
 pub numbers_last : (e n : ℕ) → numbers_after e (suc n) ≡ numbers_after e n ++ (e + suc n) ∷ []
-numbers_last e zero = refl
-numbers_last e (suc n) = ap (λ xs. (e + 1) ∷ xs) (numbers_last (e + 1) n) ∙ ap (λ k. (e + 1) ∷ numbers_after (e + 1) n ++ k ∷ []) (same e n) where
-  same : (e n : ℕ) → e + 1 + suc n ≡ e + suc (suc n)
-  same e n = omega arith
+numbers_last e zero = grind arith
+numbers_last e (suc n) = grind (arith, numbers_last (e + 1) n)
 
 pub plus_halves : (e n : ℕ) → map plus (numbers_after e n) ≡ out e n
 plus_halves e zero = refl

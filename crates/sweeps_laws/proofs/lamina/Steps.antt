@@ -1,6 +1,6 @@
 -- Each operator of a lamina is accepted, and leads from one model of the path to the next.
 use Rattle.std.specs.Prelude.{map, reverse, length, get_or, ◌-◌}
-use Rattle.std.proofs.Common.{◌≡◌, ◌≢◌, ℕ, zero, suc, ◌+◌, ◌≤◌, ◌<◌, true, List, [], ◌∷◌, ◌++◌, Some, None, unwrap_or, is_some, refl, sym, ap, ◌∙◌, arith, IsTrue}
+use Rattle.std.proofs.Common.{◌≡◌, ℕ, zero, suc, ◌+◌, ◌≤◌, ◌<◌, true, List, [], ◌∷◌, ◌++◌, Some, None, unwrap_or, is_some, refl, sym, ap, ◌∙◌, arith, IsTrue}
 use Rattle.euler_operators.specs.declared.Point.{Point}
 use Rattle.euler_operators.specs.Points.{IsInRange}
 use Rattle.euler_operators.specs.Rings.{canonical}
@@ -44,9 +44,7 @@ last_row t e v j = get-put_here (with_path t e v j) (e + suc j) (record { plus_t
 
 first_row : (t : Table EdgeRow) (e v j : ℕ) → table.get (with_path t e v (suc j)) (e + 1) ≡ Some (record { plus_tail = v + 1; minus_tail = v + 1 + 1 })
 first_row t e v zero = last_row t e v zero
-first_row t e v (suc j) = get-put_other (with_path t e v (suc j)) (e + suc (suc j)) (record { plus_tail = v + suc (suc j); minus_tail = v + suc (suc j) + 1 }) (e + 1) (apart e j) ∙ first_row t e v j where
-  apart : (e j : ℕ) → e + 1 ≢ e + suc (suc j)
-  apart e j p = absurd (omega arith)
+first_row t e v (suc j) = get-put_other (with_path t e v (suc j)) (e + suc (suc j)) (record { plus_tail = v + suc (suc j); minus_tail = v + suc (suc j) + 1 }) (e + 1) (omega arith) ∙ first_row t e v j
 
 -- ---- the premises
 
@@ -155,26 +153,16 @@ module _ (M : Model) (c : Taken) (s : ℕ) (ps : List Point) (n : ℕ) (goes : G
 
   second_loop : table.put (path_at M c s ps 0).loops (c.loop + 1) (record { face = face_of (path_at M c s ps 0) (c.loop + 1); content = cycle (canonical (plus (c.edge + 1) ∷ mate (plus (c.edge + 1)) ∷ [])) })
       ≡ table.put M.loops (c.loop + 1) (record { face = c.face + 1; content = path_content c 1 })
-  second_loop = (λ i. table.put (path_at M c s ps 0).loops (c.loop + 1) (record { face = face_is 0 i; content = cycle (canonical (plus (c.edge + 1) ∷ mate_plus (c.edge + 1) i ∷ [])) }))
-      ∙ (λ i. table.put (path_at M c s ps 0).loops (c.loop + 1) (record { face = c.face + 1; content = cycle (two_halves c.edge i) }))
-      ∙ second_put
+  second_loop = grind (arith, second_put, face_is, mate_plus, two_halves)
 
   second_edge : table.put (path_at M c s ps 0).edges (edge_of (plus (c.edge + 1))) (edge_row (plus (c.edge + 1)) (lone_vertex (content (path_at M c s ps 0) (c.loop + 1))) (c.vertex + 2)) ≡ with_path M.edges c.edge c.vertex 1
   unfolding path_at
   second_edge = (λ i. table.put M.edges ((plus_row (c.edge + 1)).0 i) (edge_row_plus (c.edge + 1) (lone_vertex (content_is 0 i)) (c.vertex + 2) i))
-      ∙ ap (λ v. table.put M.edges (c.edge + 1) (record { plus_tail = c.vertex + 1; minus_tail = v })) (two c.vertex) where
-        two : (v : ℕ) → v + 2 ≡ v + 1 + 1
-        two v = omega arith
+      ∙ ap (λ v. table.put M.edges (c.edge + 1) (record { plus_tail = c.vertex + 1; minus_tail = v })) (omega arith)
 
   pub second_made : effect (path_at M c s ps 0) (next_point c ps 0) ≡ path_at M c s ps 1
   unfolding effect mev_lone code path_at
-  second_made = λ i. record {
-    solids = table.put M.solids s tt;
-    faces = table.put M.faces (c.face + 1) (record { solid = s; outer = c.loop + 1 });
-    loops = second_loop i;
-    edges = second_edge i;
-    vertices = with_points M.vertices c.vertex ps 2;
-  }
+  second_made = grind (arith, second_loop, second_edge)
 
   -- ---- a further point
 
@@ -245,8 +233,7 @@ module _ (M : Model) (c : Taken) (s : ℕ) (ps : List Point) (n : ℕ) (goes : G
 
     second_loop_free : table.get (path_at M c s ps (suc j)).loops (c.loop + 2) ≡ None
     unfolding path_at
-    second_loop_free = none_above (table.put M.loops (c.loop + 1) (record { face = c.face + 1; content = path_content c (suc j) })) (c.loop + 2)
-        (omega (arith, greatest-put_last M.loops (c.loop + 1) (record { face = c.face + 1; content = path_content c (suc j) }) above_loop))
+    second_loop_free = grind (arith, greatest-put_last, none_above)
 
     -- the loop from the end of the path on
     turned : Around (path_at M c s ps (suc j)) (c.loop + 1) (c.face + 1) (back c.edge (suc j) ++ plus (c.edge + 1) ∷ later c.edge j)

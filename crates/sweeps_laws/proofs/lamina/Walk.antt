@@ -34,20 +34,7 @@ none_far i (p ∷ ps) e k l =
 -- what the conditions say
 pub lamina_goes : (M : Model) (s : ℕ) (ps : List Point) → Sound M → lamina_refusal M s ps ≡ None → Goes M (taken_in M) s ps (length ps)
 unfolding lamina_conditions taken_in
-lamina_goes M s ps sound e =
-    let w = all_hold (lamina_conditions M s ps) e in
-    record {
-      sound = sound;
-      faces = refl;
-      loops = refl;
-      edges = refl;
-      vertices = refl;
-      solid_free = no_row _ (not-true _ w.1.0);
-      solid_fits = w.0;
-      many = leb-true 3 (length ps) w.1.1.0;
-      points_fit = none_far 0 ps (none_found (first_far 0 ps) w.1.1.1.0);
-      left = numbers_are_left (taken_in M) 2 2 (length ps) (length ps) w.1.1.1.1.1;
-    }
+lamina_goes M s ps sound e = grind (arith, all_hold, no_row, not-true, leb-true, none_far, none_found, numbers_are_left)
 
 module _ (M : Model) (c : Taken) (s : ℕ) (ps : List Point) (n : ℕ) (goes : Goes M c s ps n) where
   -- each operator on the way is accepted and leads on

@@ -249,8 +249,7 @@ module _ (M : Model) (c : Taken) (f l : ℕ) (d : Point) (hs : List ℕ) (w : Re
     last_accepted = (accepted, tt)
 
     last_is : effects P (close_last c (length hs) (suc j) ∷ []) ≡ lifted (with_sides c (solid_of M f) d hs (length hs) M) f l (top_items c.edge (length hs) (length hs))
-    last_is = does ∙ made
-        ∙ ap (λ q. lifted (with_sides c (solid_of M f) d hs q M) f l (top_items c.edge (length hs) (length hs))) last
+    last_is = cc (does, made)
 
   -- the operators of a loop sweep it
   abbrev Swept : List Op → Type 0

@@ -1,5 +1,5 @@
 -- The numbers that the sweep of a loop takes, and what the sides leave as it was.
-use Rattle.std.proofs.Common.{◌≡◌, ◌≢◌, ℕ, zero, suc, ◌+◌, ◌*◌, ◌≤◌, ◌<◌, cond, List, [], ◌∷◌, length, is_some, unwrap_or, IsTrue, refl, sym, ap, ◌∙◌, subst, arith, ◌⊎◌, inl, inr}
+use Rattle.std.proofs.Common.{◌≡◌, ◌≢◌, ℕ, zero, suc, ◌+◌, ◌*◌, ◌≤◌, ◌<◌, cond, List, [], ◌∷◌, length, is_some, unwrap_or, IsTrue, refl, sym, ap, ◌∙◌, subst, arith, ◌⊎◌}
 use Rattle.std.proofs.lemmas.Bool.{eq-eqb, ne_eqb, cases_eq}
 use Rattle.std.proofs.lemmas.Bool.Decides.{nat_tests}
 use Rattle.euler_operators.specs.declared.Point.{Point}
@@ -25,10 +25,7 @@ pub fits : (n : ℕ) → 1 ≤ n → n ≤ 1000000 → IsTrue (is_number n)
 fits n a b = grind (arith, nat_tests)
 
 pub riser_is : (e i : ℕ) → ((i ≡ 0) × (riser e i ≡ e + 1)) ⊎ ((1 ≤ i) × (riser e i ≡ e + 2 * i))
-riser_is e i = elim (cases_eq i 0) [
-  | inl p ↦ inl (p, ap (λ b. cond b (e + 1) (e + 2 * i)) (eq-eqb i 0 p))
-  | inr p ↦ inr (omega arith, ap (λ b. cond b (e + 1) (e + 2 * i)) (ne_eqb i 0 p))
-]
+riser_is e i = grind (arith, cases_eq, eq-eqb, ne_eqb)
 
 pub next_inner : (n i : ℕ) → i + 1 < n → next_place n i ≡ suc i
 next_inner n i h = ap (λ b. cond b 0 (i + 1)) (ne_eqb (i + 1) n (λ s. omega arith)) ∙ omega arith

@@ -1,5 +1,5 @@
 -- What mev at one corner and mef make of a sound model of which one loop is known.
-use Rattle.std.proofs.Common.{cond, suc, zero, ◌≡◌, ◌≢◌, ℕ, List, [], ◌∷◌, ◌++◌, None, IsTrue, refl, sym, ap, ◌∙◌, subst, arith}
+use Rattle.std.proofs.Common.{cond, suc, zero, ◌≡◌, ◌≢◌, ℕ, List, [], ◌∷◌, ◌++◌, None, IsTrue, refl, sym, ap, ◌∙◌, arith}
 use Rattle.euler_operators.specs.declared.Point.{Point}
 use Rattle.euler_operators.specs.Points.{IsInRange}
 use Rattle.euler_operators.specs.declared.Corner.TheVariants.{At}
@@ -11,7 +11,7 @@ use Rattle.euler_operators.proofs.Rotations.{count-canonical, rotate_at, rotate_
 use Rattle.euler_operators.proofs.Cuts.{upto_itself, onward_itself, upto_once}
 use Rattle.euler_operators.proofs.Edits.{count-insert_before}
 use Rattle.euler_operators.proofs.Operators.{apart_front}
-use Rattle.euler_operators.specs.HalfEdge.{edge_of, plus, minus, code, half}
+use Rattle.euler_operators.specs.HalfEdge.{edge_of, plus, minus, half}
 use Rattle.euler_operators.specs.Rings as rings
 use Rattle.euler_operators.proofs.Tests.{nat_eq_itself}
 use Rattle.euler_operators.specs.Table as table
@@ -104,17 +104,11 @@ module _ (M : Model) (l f : ℕ) (ps qs : List ℕ) (g u v : ℕ) (p : Point) (a
       ∙ ap (λ xs. record { face = f; content = cycle xs }) items_are)
 
   edges_are : table.put (table.map_rows (with_tails (arc M g g) v) M.edges) (edge_of (plus u)) (edge_row (plus u) (tail M g) v) ≡ table.put M.edges u (record { plus_tail = tail M g; minus_tail = v })
-  edges_are =
-      (λ i. table.put (table.map_rows (with_tails (arc_none M g i) v) M.edges) (edge_plus u i) (edge_row_plus u (tail M g) v i))
-      ∙ ap (λ t. table.put t u (record { plus_tail = tail M g; minus_tail = v })) (map_same (with_tails [] v) M.edges (λ q x at. refl))
+  edges_are = grind (arith, arc_none, edge_plus, edge_row_plus, map_same)
 
   pub mev_here : mev_at M g g (plus u) v p ≡ with_spur M l f (ps ++ plus u ∷ minus u ∷ g ∷ qs) u (record { plus_tail = tail M g; minus_tail = v }) v p
   unfolding mev_at
-  mev_here = λ i. record M {
-    loops = ((λ j. table.map_rows (with_before g (mate_plus u j)) (table.map_rows (with_before g (plus u)) M.loops)) ∙ loops_are) i;
-    edges = edges_are i;
-    vertices = table.put M.vertices v p;
-  }
+  mev_here = grind (arith, loops_are, mate_plus, edges_are)
 
   pub mev_does : effect M (Mev (At (half g)) (At (half g)) (half (plus u)) v p) ≡ with_spur M l f (ps ++ plus u ∷ minus u ∷ g ∷ qs) u (record { plus_tail = tail M g; minus_tail = v }) v p
   unfolding effect
@@ -133,9 +127,7 @@ module _ (M : Model) (l f : ℕ) (ps qs : List ℕ) (g u v : ℕ) (p : Point) (a
   }
 
   pub mev_fits : table.get M.vertices v ≡ None → IsTrue (is_number u) → IsTrue (is_number v) → IsInRange p → first_false M (Mev (At (half g)) (At (half g)) (half (plus u)) v p) ≡ None
-  mev_fits vertex_free edge_fits vertex_fits point_fits = mev_accepted M (half g) (half g) (half (plus u)) v p a.sound
-      (subst (λ x. MevGoes M x x (code (half (plus u))) v p) (sym (code-half g))
-      (subst (λ x. MevGoes M g g x v p) (sym (code-half (plus u))) (spur_goes vertex_free edge_fits vertex_fits point_fits)))
+  mev_fits vertex_free edge_fits vertex_fits point_fits = grind (arith, code-half, spur_goes, mev_accepted)
 
 -- the model with loop l parted in two, and one more edge and face
 abbrev pub with_chord : Model → ℕ → ℕ → List ℕ → ℕ → EdgeRow → ℕ → ℕ → List ℕ → Model
@@ -192,6 +184,4 @@ module _ (M : Model) (l f : ℕ) (g k : ℕ) (ps qs : List ℕ) (t s r : ℕ) (a
   }
 
   pub mef_fits : table.get M.faces s ≡ None → tail M g ≢ tail M k → IsTrue (is_number t) → IsTrue (is_number s) → IsTrue (is_number r) → first_false M (Mef (half g) (half k) (half (plus t)) s r) ≡ None
-  mef_fits face_free ends_apart edge_fits face_fits loop_fits = mef_accepted M (half g) (half k) (half (plus t)) s r a.sound
-      (subst (λ x. MefGoes M x (code (half k)) (code (half (plus t))) s r) (sym (code-half g)) (subst (λ x. MefGoes M g x (code (half (plus t))) s r) (sym (code-half k))
-      (subst (λ x. MefGoes M g k x s r) (sym (code-half (plus t))) (chord_goes face_free ends_apart edge_fits face_fits loop_fits))))
+  mef_fits face_free ends_apart edge_fits face_fits loop_fits = grind (arith, code-half, chord_goes, mef_accepted)

@@ -12,26 +12,16 @@ use Rattle.shapes.proofs.fresh.Rows.{all_where-put_last, greatest-put_last}
 pub place_cases : (q a n : ℕ) → (q ≤ a) ⊎ (((i : ℕ) × (i < n) × (q ≡ a + 1 + i)) ⊎ (a + n < q))
 place_cases q a zero = elim (nat_le q a) as (λ b. nat_le q a ≡ b → (q ≤ a) ⊎ (((i : ℕ) × (i < 0) × (q ≡ a + 1 + i)) ⊎ (a + 0 < q))) [
   | true ↦ λ e. inl (leb-true q a e)
-  | false ↦ λ e. inr (inr (above q a e))
-] refl where
-  above : (q a : ℕ) → nat_le q a ≡ false → a + 0 < q
-  above q a e = grind (arith, nat_tests)
+  | false ↦ λ e. inr (inr (grind (arith, nat_tests, e)))
+] refl
 place_cases q a (suc n) = elim (place_cases q a n) [
   | inl l ↦ inl l
-  | inr (inl i) ↦ inr (inl (i.0, wider i.0 n i.1, i.2))
+  | inr (inl i) ↦ inr (inl (i.0, omega (arith, i.1), i.2))
   | inr (inr m) ↦ elim (eqb_tells q (a + 1 + n)) [
-    | inl e ↦ inr (inl (n, wider_last n, e.1))
-    | inr e ↦ inr (inr (past q a n m e.1))
+    | inl e ↦ inr (inl (n, omega arith, e.1))
+    | inr e ↦ inr (inr (omega (arith, m, e.1)))
   ]
-] where
-  wider : (i n : ℕ) → i < n → i < suc n
-  wider i n l = omega arith
-
-  wider_last : (n : ℕ) → n < suc n
-  wider_last n = omega arith
-
-  past : (q a n : ℕ) → a + n < q → q ≢ a + 1 + n → a + suc n < q
-  past q a n l e = grind arith
+]
 
 module _ {X : Type 0} (t : Table X) (a : ℕ) (x : ℕ → X) where
   abbrev pub filled : ℕ → Table X
@@ -40,9 +30,7 @@ module _ {X : Type 0} (t : Table X) (a : ℕ) (x : ℕ → X) where
 
   pub filled_old : (n q : ℕ) → q ≤ a → table.get (filled n) q ≡ table.get t q
   filled_old zero q l = refl
-  filled_old (suc n) q l = get-put_other (filled n) (a + 1 + n) (x n) q (other a n q l) ∙ filled_old n q l where
-    other : (a n q : ℕ) → q ≤ a → q ≢ a + 1 + n
-    other a n q l e = absurd (omega arith)
+  filled_old (suc n) q l = get-put_other (filled n) (a + 1 + n) (x n) q (omega (arith, l)) ∙ filled_old n q l
 
   pub filled_new : (n i : ℕ) → i < n → table.get (filled n) (a + 1 + i) ≡ Some (x i)
   filled_new zero i l = absurd (omega arith)
@@ -55,16 +43,12 @@ module _ {X : Type 0} (t : Table X) (a : ℕ) (x : ℕ → X) where
 
   pub filled_past : (n q : ℕ) → a + n < q → table.get (filled n) q ≡ table.get t q
   filled_past zero q l = refl
-  filled_past (suc n) q l = get-put_other (filled n) (a + 1 + n) (x n) q (other a n q l) ∙ filled_past n q (omega (arith, l)) where
-    other : (a n q : ℕ) → a + suc n < q → q ≢ a + 1 + n
-    other a n q l e = absurd (omega arith)
+  filled_past (suc n) q l = get-put_other (filled n) (a + 1 + n) (x n) q (omega (arith, l)) ∙ filled_past n q (omega (arith, l))
 
   module _ (free : table.greatest t ≤ a) where
     pub filled_greatest : (n : ℕ) → table.greatest (filled n) ≤ a + n
-    filled_greatest zero = omega (arith, free)
-    filled_greatest (suc n) = at_most (table.greatest (filled (suc n))) a n (greatest-put_last (filled n) (a + 1 + n) (x n) (omega (arith, filled_greatest n))) where
-      at_most : (g a n : ℕ) → g ≡ a + 1 + n → g ≤ a + suc n
-      at_most g a n e = omega arith
+    filled_greatest zero = grind arith
+    filled_greatest (suc n) = grind (arith, greatest-put_last, filled_greatest n)
 
     -- a search lists the new numbers last, where they pass
     pub filled_search : (p : ℕ → X → Bool) (n : ℕ) → table.all_where p (filled (suc n)) ≡ table.all_where p (filled n) ++ cond (p (a + 1 + n) (x n)) ((a + 1 + n) ∷ []) []

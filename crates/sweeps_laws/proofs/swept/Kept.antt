@@ -16,7 +16,7 @@ use Rattle.shapes.specs.Fresh.{Taken}
 use Rattle.shapes.specs.Prism.{riser, top_edge, top_items, next_place}
 use Rattle.shapes.proofs.fresh.Rows.{at_most_greatest}
 use Rattle.sweeps_laws.proofs.swept.Filled.{place_cases, filled_greatest}
-use Rattle.sweeps_laws.proofs.swept.Numbers.{next_within, riser_most, top_most, at_most}
+use Rattle.sweeps_laws.proofs.swept.Numbers.{next_within, riser_most, top_most}
 use Rattle.sweeps_laws.proofs.swept.Sides.{start_kept, finish_kept, grown, item, side_face, side_items, side_loop, side_riser, side_top, faces_grown, edges_step}
 use Rattle.sweeps_laws.proofs.swept.Lifted.{Bounded, IsPathOf, swept, tail_lifted, keeps_swept, face_old, face_past, outer_new, loop_old, within, face_of_old, face_of_new, face_of_past, content_here, content_old, content_past, content_new, loops_are, outer_old}
 
@@ -31,9 +31,6 @@ in_cases h x xs i = elim (eqb_tells h x) [ inl e ↦ inl e.1 | inr e ↦ inr (om
 in_append : (h : ℕ) (xs ys : List ℕ) → IsIn h (xs ++ ys) → IsIn h xs ⊎ IsIn h ys
 in_append h xs ys i = elim (IsIn_or_not h xs) [ inl j ↦ inl j | inr n ↦ inr (omega (arith, count-append h xs ys)) ]
 
-none_in : (h : ℕ) → IsIn h [] → ⊥
-none_in h i = absurd (omega arith)
-
 plus_within : (h e m : ℕ) → h ≡ plus e → e ≤ m → edge_of h ≤ m
 plus_within h e m p l = subst (λ k. k ≤ m) (sym (ap edge_of p ∙ (plus_row e).0)) l
 
@@ -41,10 +38,10 @@ minus_within : (h e m : ℕ) → h ≡ minus e → e ≤ m → edge_of h ≤ m
 minus_within h e m p l = subst (λ k. k ≤ m) (sym (ap edge_of p ∙ (minus_row e).0)) l
 
 tops_within : (e n k h : ℕ) → k ≤ n → IsIn h (top_items e n k) → edge_of h ≤ e + 2 * n
-tops_within e n zero h l i = absurd (none_in h i)
+tops_within e n zero h l i = absurd (omega (arith, i))
 tops_within e n (suc k) h l i = elim (in_append h (top_items e n k) (plus (top_edge e n k) ∷ []) i) [
   | inl j ↦ tops_within e n k h (omega (arith, l)) j
-  | inr j ↦ elim (in_cases h (plus (top_edge e n k)) [] j) [ inl p ↦ plus_within h (top_edge e n k) (e + 2 * n) p (top_most e n k l) | inr z ↦ absurd (none_in h z) ]
+  | inr j ↦ elim (in_cases h (plus (top_edge e n k)) [] j) [ inl p ↦ plus_within h (top_edge e n k) (e + 2 * n) p (top_most e n k l) | inr z ↦ absurd (omega (arith, z)) ]
 ]
 
 row_within : (row : EdgeRow) (f : Bool) (m : ℕ) → row.plus_tail ≤ m → row.minus_tail ≤ m → tail_in row f ≤ m
@@ -67,9 +64,7 @@ module _ {M : Model} {c : Taken} (s : ℕ) (d : Point) {hs : List ℕ} {f l : �
   after = swept M c s d hs f l
 
   grown_within : (k : ℕ) → k ≤ length hs → (h : ℕ) → tail (grown M c s d hs k) h ≤ c.vertex + length hs
-  grown_within zero m h = more (tail M h) c.vertex (length hs) (b.tails h) where
-    more : (a v n : ℕ) → a ≤ v → a ≤ v + n
-    more a v n l = omega arith
+  grown_within zero m h = omega (arith, b.tails h)
   grown_within (suc k) m h =
       let N = grown M c s d hs k in
       let R = record N { edges = table.put N.edges (riser c.edge k) (side_riser M c s d hs k) } in
@@ -111,7 +106,7 @@ module _ {M : Model} {c : Taken} (s : ℕ) (d : Point) {hs : List ℕ} {f l : �
             | inl e ↦ minus_within h t (c.edge + 2 * n) e (top_most c.edge n j m)
             | inr i4 ↦ elim (in_cases h (minus z) [] i4) [
               | inl e ↦ minus_within h z (c.edge + 2 * n) e (riser_most c.edge n j m)
-              | inr i5 ↦ absurd (none_in h i5)
+              | inr i5 ↦ absurd (omega (arith, i5))
             ]
           ]
         ]
@@ -147,27 +142,16 @@ module _ {M : Model} {c : Taken} (s : ℕ) (d : Point) {hs : List ℕ} {f l : �
   own_after k there = elim (place_cases k c.face (length hs)) [
     | inl o ↦ ap (face_of after) (outer_old M c s d hs f l b r k o) ∙ face_of_old M c s d hs f l b r (outer M k) (b.outers k) ∙ b.own k (ap is_some (sym (face_old M c s d hs f l k o)) ∙ there)
     | inr (inl j) ↦ ap (λ x. face_of after (outer after x)) j.2 ∙ ap (face_of after) (outer_new M c s d hs f l j.0 j.1) ∙ face_of_new M c s d hs f l b r j.0 j.1 ∙ sym j.2
-    | inr (inr p) ↦ absurd (too_great k (table.greatest after.faces) (c.face + length hs) (at_most_greatest after.faces k there) faces_after p)
-  ] where
-    too_great : (k g n : ℕ) → k ≤ g → g ≤ n → n < k → ⊥
-    too_great k g n a b c = absurd (omega arith)
+    | inr (inr p) ↦ absurd (omega (arith, at_most_greatest after.faces k there, faces_after, p))
+  ]
 
   pub bounded_after : Bounded after (counted c (length hs))
-  bounded_after = record {
-    faces = faces_after;
-    loops = loops_after;
-    outers = outers_after;
-    loop_faces = loop_faces_after;
-    items = items_after;
-    tails = λ h. subst (λ t. t ≤ c.vertex + length hs) (sym (tail_lifted M c s d hs f l h)) (grown_within (length hs) (omega arith) h);
-    lones = lones_after;
-    own = own_after;
-  }
+  bounded_after = grind (arith, faces_after, loops_after, outers_after, loop_faces_after, items_after, lones_after, own_after, tail_lifted, grown_within)
 
   -- the swept face stays, with its solid and its outer loop
   module _ (there : Has M.faces f) where
     old_face : f ≤ c.face
-    old_face = at_most f (table.greatest M.faces) c.face (at_most_greatest M.faces f there) b.faces
+    old_face = grind (arith, at_most_greatest M.faces f there, b.faces)
 
     pub there_after : Has after.faces f
     there_after = ap is_some (face_old M c s d hs f l f old_face) ∙ there

@@ -21,7 +21,7 @@ use Rattle.shapes.specs.Fresh.{Taken}
 use Rattle.shapes.specs.Prism.{riser, top_edge, top_items, next_place, lifted}
 use Rattle.shapes.proofs.fresh.Rows.{at_most_greatest}
 use Rattle.sweeps_laws.proofs.swept.Filled.{place_cases, filled, filled_old, filled_new, filled_past, filled_none, same_search}
-use Rattle.sweeps_laws.proofs.swept.Numbers.{riser_above, top_above, next_within, at_most}
+use Rattle.sweeps_laws.proofs.swept.Numbers.{riser_above, top_above, next_within}
 use Rattle.sweeps_laws.proofs.swept.Sides.{Keeps, start_kept, finish_kept, grown, item, side_face, side_items, side_loop, faces_grown, loops_grown, keeps_grown, riser_row, top_row, point_grown}
 
 -- a model's numbers lie within the counters, and an outer loop is of its face
@@ -110,7 +110,7 @@ module _ (M : Model) (c : Taken) (s : ℕ) (d : Point) (hs : List ℕ) (f l : �
 
   module _ (b : Bounded M c) (r : IsPathOf M f l hs) where
     pub within : l ≤ c.loop
-    within = at_most l (table.greatest M.loops) c.loop (at_most_greatest M.loops l r.there) b.loops
+    within = grind (arith, at_most_greatest M.loops l r.there, b.loops)
 
     pub new_apart : (i : ℕ) → c.loop + 1 + i ≢ l
     new_apart i e = absurd (omega (arith, within))
@@ -180,26 +180,14 @@ module _ (M : Model) (c : Taken) (s : ℕ) (d : Point) (hs : List ℕ) (f l : �
     outer_old k m = same_outer M swept k (face_old k m)
 
     pub rings_old : (k : ℕ) → k ≤ c.face → rings_of swept k ≡ rings_of M k
-    rings_old k m = ap (λ o. table.all_where (λ q row. nat_eq row.face k && not (nat_eq o q)) swept.loops) (outer_old k m)
-        ∙ ap (table.all_where (λ q row. nat_eq row.face k && not (nat_eq (outer M k) q))) loops_are
-        ∙ all_where-map rewrite (λ q row. nat_eq row.face k && not (nat_eq (outer M k) q)) (filled M.loops c.loop (side_loop M c s d hs) (length hs))
-        ∙ same_search (λ q row. nat_eq (rewrite q row).face k && not (nat_eq (outer M k) q)) (λ q row. nat_eq row.face k && not (nat_eq (outer M k) q)) (filled M.loops c.loop (side_loop M c s d hs) (length hs))
-        (λ q row. ap (λ g. nat_eq g k && not (nat_eq (outer M k) q)) (rewrite_face q row))
-        ∙ filled_none M.loops c.loop (side_loop M c s d hs) b.loops (λ q row. nat_eq row.face k && not (nat_eq (outer M k) q)) (length hs) (λ i. ap (λ e. e && not (nat_eq (outer M k) (c.loop + 1 + i))) (new_face c.face i k m)) where
-          new_face : (a i k : ℕ) → k ≤ a → nat_eq (a + 1 + i) k ≡ false
-          new_face a i k m = grind (arith, nat_tests)
+    rings_old k m = grind (arith, loops_are, filled, side_loop, nat_tests, outer_old, all_where-map, same_search, rewrite_face, filled_none)
 
     only_loop : (i q : ℕ) → i < length hs → face_of swept q ≡ c.face + 1 + i → c.loop + 1 + i ≡ q
     only_loop i q m e = elim (place_cases q c.loop (length hs)) [
-      | inl o ↦ absurd (low (face_of M q) c.face i (sym (face_of_old q o) ∙ e) (b.loop_faces q))
-      | inr (inl j) ↦ same c.face c.loop i j.0 (sym (face_of_new j.0 j.1) ∙ ap (face_of swept) (sym j.2) ∙ e) ∙ sym j.2
-      | inr (inr p) ↦ absurd (low (face_of M q) c.face i (sym (face_of_past q p) ∙ e) (b.loop_faces q))
-    ] where
-      low : (g a i : ℕ) → g ≡ a + 1 + i → g ≤ a → ⊥
-      low g a i e m = absurd (omega arith)
-
-      same : (a b i j : ℕ) → a + 1 + j ≡ a + 1 + i → b + 1 + i ≡ b + 1 + j
-      same a b i j e = omega arith
+      | inl o ↦ absurd (omega (arith, sym (face_of_old q o) ∙ e, b.loop_faces q))
+      | inr (inl j) ↦ omega (arith, sym (face_of_new j.0 j.1) ∙ ap (face_of swept) (sym j.2) ∙ e) ∙ sym j.2
+      | inr (inr p) ↦ absurd (omega (arith, sym (face_of_past q p) ∙ e, b.loop_faces q))
+    ]
 
     pub rings_new : (i : ℕ) → i < length hs → rings_of swept (c.face + 1 + i) ≡ []
     rings_new i m = all_where_none (λ q row. nat_eq row.face (c.face + 1 + i) && not (nat_eq (outer swept (c.face + 1 + i)) q)) swept.loops

@@ -1,5 +1,5 @@
 -- The numbers of the edges that a sweep of a loop makes, and their half-edges. e is the greatest edge before, n the number of items.
-use Rattle.std.proofs.Common.{◌≡◌, ◌≢◌, ℕ, ◌+◌, ◌*◌, ◌≤◌, ◌<◌, cond, sym, ap, ◌∙◌, arith, ◌⊎◌, inl, inr}
+use Rattle.std.proofs.Common.{◌≡◌, ◌≢◌, ℕ, ◌+◌, ◌*◌, ◌≤◌, ◌<◌, cond, ap, arith, ◌⊎◌, inl, inr}
 use Rattle.std.proofs.lemmas.Bool.Decides.{eqb_tells}
 use Rattle.shapes.specs.Prism.{riser, top_edge, next_place}
 
@@ -14,15 +14,11 @@ next_cases n i = elim (eqb_tells (i + 1) n) [ inl p ↦ inl (p.1, ap (λ b. cond
 
 -- the next place is a place
 pub next_within : (n i : ℕ) → i < n → next_place n i < n
-next_within n i l = elim (next_cases n i) [ inl p ↦ omega (arith, p.0, p.1) | inr p ↦ next_less n i (next_place n i) l p.0 p.1 ] where
-  next_less : (n i k : ℕ) → i < n → i + 1 ≢ n → k ≡ i + 1 → k < n
-  next_less n i k l ne e = grind arith
+next_within n i l = grind (arith, next_cases)
 
 -- they are new, within twice n more, and no two are the same
 pub riser_above : (e i : ℕ) → e < riser e i
-riser_above e i = elim (riser_cases e i) [ inl p ↦ omega (arith, p.1) | inr p ↦ more e i (riser e i) p.0 p.1 ] where
-  more : (e i k : ℕ) → i ≢ 0 → k ≡ e + 2 * i → e < k
-  more e i k ne p = grind arith
+riser_above e i = grind (arith, riser_cases)
 
 pub top_above : (e n i : ℕ) → i < n → e < top_edge e n i
 top_above e n i l = elim (top_cases e n i) [ inl p ↦ omega (arith, p.1) | inr p ↦ omega (arith, p.1) ]
@@ -31,33 +27,15 @@ pub riser_most : (e n i : ℕ) → i < n → riser e i ≤ e + 2 * n
 riser_most e n i l = elim (riser_cases e i) [ inl p ↦ omega (arith, p.1) | inr p ↦ omega (arith, p.1) ]
 
 pub top_most : (e n i : ℕ) → i < n → top_edge e n i ≤ e + 2 * n
-top_most e n i l = elim (top_cases e n i) [ inl p ↦ omega (arith, p.1) | inr p ↦ more e n i (top_edge e n i) l p.0 p.1 ] where
-  more : (e n i k : ℕ) → i < n → i + 1 ≢ n → k ≡ e + 2 * i + 3 → k ≤ e + 2 * n
-  more e n i k l ne p = grind arith
+top_most e n i l = grind (arith, top_cases)
 
 pub riser_apart : (e i j : ℕ) → i ≢ j → riser e i ≢ riser e j
-riser_apart e i j ne s = elim (riser_cases e i) [
-  | inl p ↦ elim (riser_cases e j) [ inl q ↦ ne (p.0 ∙ sym q.0) | inr q ↦ odd e j (riser e i) (riser e j) p.1 q.1 s ]
-  | inr p ↦ elim (riser_cases e j) [ inl q ↦ odd e i (riser e j) (riser e i) q.1 p.1 (sym s) | inr q ↦ ne (omega (arith, p.1, q.1, s)) ]
-] where
-  odd : (e j a b : ℕ) → a ≡ e + 1 → b ≡ e + 2 * j → a ≡ b → ⊥
-  odd e j a b p q s = absurd (omega arith)
+riser_apart e i j ne s = grind (arith, riser_cases)
 
 pub top_apart : (e n i j : ℕ) → i < n → j < n → i ≢ j → top_edge e n i ≢ top_edge e n j
-top_apart e n i j l m ne s = elim (top_cases e n i) [
-  | inl p ↦ elim (top_cases e n j) [ inl q ↦ ne (omega (arith, p.0, q.0)) | inr q ↦ odd e n j (top_edge e n i) (top_edge e n j) p.1 q.1 s ]
-  | inr p ↦ elim (top_cases e n j) [ inl q ↦ odd e n i (top_edge e n j) (top_edge e n i) q.1 p.1 (sym s) | inr q ↦ ne (omega (arith, p.1, q.1, s)) ]
-] where
-  odd : (e n j a b : ℕ) → a ≡ e + 2 * n → b ≡ e + 2 * j + 3 → a ≡ b → ⊥
-  odd e n j a b p q s = absurd (omega arith)
+top_apart e n i j l m ne s = grind (arith, top_cases)
 
 pub riser_no_top : (e n i j : ℕ) → i < n → j < n → riser e i ≢ top_edge e n j
-riser_no_top e n i j l m s = elim (riser_cases e i) [
-  | inl p ↦ elim (top_cases e n j) [ inl q ↦ absurd (omega (arith, p.1, q.1, s)) | inr q ↦ absurd (omega (arith, p.1, q.1, s)) ]
-  | inr p ↦ elim (top_cases e n j) [ inl q ↦ absurd (omega (arith, p.1, q.1, s)) | inr q ↦ absurd (omega (arith, p.1, q.1, s)) ]
-]
+riser_no_top e n i j l m s = grind (arith, riser_cases, top_cases)
 
 -- ---- tests
-
-pub at_most : (a b c : ℕ) → a ≤ b → b ≤ c → a ≤ c
-at_most a b c m n = omega arith

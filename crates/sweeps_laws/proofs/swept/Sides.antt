@@ -1,5 +1,5 @@
 -- The tables of a model to which the sides over some items have been added.
-use Rattle.std.proofs.Common.{◌≡◌, ◌≢◌, ℕ, zero, suc, ◌+◌, ◌≤◌, ◌<◌, List, [], ◌∷◌, length, get_or, Some, refl, sym, ap, subst, ◌∙◌, arith, inl, inr}
+use Rattle.std.proofs.Common.{◌≡◌, ℕ, zero, suc, ◌+◌, ◌≤◌, ◌<◌, List, [], ◌∷◌, length, get_or, Some, refl, sym, ap, subst, ◌∙◌, arith, inl, inr}
 use Rattle.std.proofs.lemmas.Bool.Decides.{eqb_tells}
 use Rattle.euler_operators.specs.declared.Point.{Point}
 use Rattle.euler_operators.specs.Vectors.{moved}
@@ -84,14 +84,11 @@ module _ (M : Model) (c : Taken) (s : ℕ) (d : Point) (hs : List ℕ) where
   vertices_grown zero = refl
   vertices_grown (suc n) = vertices_step n ∙ ap (λ t. table.put t (c.vertex + 1 + n) (side_point n)) (vertices_grown n)
 
-  apart_above : (q e r : ℕ) → q ≤ e → e < r → q ≢ r
-  apart_above q e r l m s = absurd (omega arith)
-
   edges_kept : (n q : ℕ) → n ≤ length hs → q ≤ c.edge → table.get (grown n).edges q ≡ table.get M.edges q
   edges_kept zero q m l = refl
   edges_kept (suc n) q m l = ap (λ t. table.get t q) (edges_step n)
-      ∙ get-put_other (table.put (grown n).edges (riser c.edge n) (side_riser n)) (top_edge c.edge (length hs) n) (side_top n) q (apart_above q c.edge (top_edge c.edge (length hs) n) l (top_above c.edge (length hs) n m))
-      ∙ get-put_other (grown n).edges (riser c.edge n) (side_riser n) q (apart_above q c.edge (riser c.edge n) l (riser_above c.edge n))
+      ∙ get-put_other (table.put (grown n).edges (riser c.edge n) (side_riser n)) (top_edge c.edge (length hs) n) (side_top n) q (omega (arith, l, top_above c.edge (length hs) n m))
+      ∙ get-put_other (grown n).edges (riser c.edge n) (side_riser n) q (omega (arith, l, riser_above c.edge n))
       ∙ edges_kept n q (omega (arith, m)) l
 
   vertices_kept : (n w : ℕ) → w ≤ c.vertex → table.get (grown n).vertices w ≡ table.get M.vertices w
@@ -99,10 +96,7 @@ module _ (M : Model) (c : Taken) (s : ℕ) (d : Point) (hs : List ℕ) where
 
   -- what was there before is kept
   pub keeps_grown : (n : ℕ) → n ≤ length hs → Keeps M (grown n) c.edge c.vertex
-  keeps_grown n m = record {
-    tails = λ h l. same_tail M (grown n) h (edges_kept n (edge_of h) m l);
-    points = λ w l. same_point M (grown n) w (vertices_kept n w l);
-  }
+  keeps_grown n m = grind (arith, same_tail, edges_kept, same_point, vertices_kept)
 
   riser_grown : (n i : ℕ) → n ≤ length hs → i < n → table.get (grown n).edges (riser c.edge i) ≡ Some (side_riser i)
   riser_grown zero i m l = absurd (omega arith)
