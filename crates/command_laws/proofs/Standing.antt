@@ -21,6 +21,7 @@ use Rattle.euler_laws.proofs.shared.Listed.{listed_passes, listed-from_in}
 use Rattle.shapes.specs.Faces.{start, finish, items_in, loops_of, boundary, vertices_on, vertices_in, corners}
 use Rattle.shapes.specs.Measure.{area, normal, anchor, first_vertex, plane_through, plane_of}
 use Rattle.shapes.proofs.Areas.{area-append}
+use Rattle.shapes.proofs.walks.SolidFaces.{face_of_loop}
 use Rattle.gluing_laws.proofs.Listed.{passed, same_search}
 use Rattle.command_laws.specs.NewFaces.{corner_points}
 use Rattle.command_laws.specs.Framed.{FacesStand}
@@ -65,13 +66,7 @@ module _ (M N : Model) (k : ℕ) (row : table.get N.faces k ≡ table.get M.face
 module _ (M N : Model) (Alone : ℕ → Type 0) (sound : Sound M) (loops : KeepsLoops Alone M N) (edges : KeepsEdges Alone M N) (points : KeepsPoints Alone M N)
     (k : ℕ) (there : Has M.faces k) (alone : Alone k) (row : table.get N.faces k ≡ table.get M.faces k) (rings : rings_of N k ≡ rings_of M k) where
   loop_in : (l : ℕ) → IsIn l (loops_of M k) → Has M.loops l × (face_of M l ≡ k)
-  unfolding loops_of
-  loop_in l i = elim (eqb_tells l (outer M k)) [
-    | inl e ↦ subst (λ q. Has M.loops q × (face_of M q ≡ k)) (sym e.1) (sound.outers_there k there)
-    | inr e ↦
-        let p = listed_passes (λ q row. nat_eq row.face k && not (nat_eq (outer M k) q)) M.loops l (listed-from_in l (rings_of M k) (omega (arith, i, tick_other l (outer M k) e.1))) in
-        (ap is_some p.1, face_row M l p.0 p.1 ∙ eqb-true p.0.face k (and_parts (nat_eq p.0.face k) (not (nat_eq (outer M k) l)) p.2).0)
-  ]
+  loop_in l i = face_of_loop M sound k l there (listed-from_in l (loops_of M k) i)
 
   -- ---- one loop of it
 

@@ -40,9 +40,6 @@ pub record Later (X Y : Model) (c : Taken) (ls : List ℕ) : Type 0 where
   pub loops : (q : ℕ) → q ≤ c.loop → count q ls ≡ 0 → table.get Y.loops q ≡ table.get X.loops q
   pub starts : (h : ℕ) → edge_of h ≤ c.edge → start Y h ≡ start X h
 
-more : (q a n : ℕ) → q ≤ a → q ≤ a + n
-more q a n m = omega arith
-
 -- as many rows put after the greatest number make it as much greater
 filled_last : (t : Table FaceRow) (a : ℕ) (x : ℕ → FaceRow) → table.greatest t ≤ a → (n : ℕ) → 0 < n → table.greatest (filled t a x n) ≡ a + n
 filled_last t a x low zero l = absurd (omega arith)
