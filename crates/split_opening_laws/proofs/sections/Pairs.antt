@@ -90,7 +90,4 @@ rim_cases t k y m zero q row at = inl at
 rim_cases t k y m (suc i) q row at = elim (get-put_cases (with_rim t k y m i) (k + suc i) _ q row at) [
   | inl p ↦ grind arith
   | inr p ↦ elim (rim_cases t k y m i q row p.1) [ inl r ↦ inl r | inr r ↦ inr (r.0, omega (arith, r.1), r.2, r.3) ]
-] where
-  either : (b : Bool) (u v : ℕ) → y < u → y < v → y < cond b u v
-  either true u v a c = a
-  either false u v a c = c
+]
