@@ -47,18 +47,10 @@ fn split_word(line: &[u8]) -> (&[u8], &[u8])
     line.split_at(word_len(line))
 }
 
-/// The line from its first word on, where it has a word. Mostly one space stands before it.
-#[tactic(auto, using(crate::proofs::WordLaws::after_space, crate::proofs::WordLaws::at_front))]
+/// The line from its first word on, where it has a word.
 pub fn at_word(line: &[u8]) -> Option<&[u8]>
     ensures { MatchOption result (words line.now ≡ []) (λ r. (words line.now ≡ words r.now) × (0 < length r.now) × IsAtWord r.now) }
 {
-    if let [b' ', word @ ..] = line {
-        if let [first, ..] = word {
-            if *first > b' ' {
-                return Some(word);
-            }
-        }
-    }
     let line = skip_gap(line);
     if line.is_empty() {
         return None;
