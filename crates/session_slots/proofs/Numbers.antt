@@ -28,10 +28,6 @@ here s Vertex n (Some m) h = h
 pub next_held : (s : Store) (M : Model) → s.model ≡ M → (k : Kind) (n : ℕ) (o : Option ℕ) → IsNextNumber s k n o → IsNextNumber (store_of M) k n o
 next_held s M is k n o h = subst (λ (N : Model). IsNextNumber (store_of N) k n o) is (here s k n o h)
 
-pub lone_item : (c : LoopContent) (v : ℕ) → Tells c (told.Lone v) → IsItemOf c None
-lone_item (lone w) v e = tt
-lone_item (cycle hs) v e = absurd e
-
 pub ring_item : (c : LoopContent) (h : HalfEdge) → Tells c (told.Ring h) → IsItemOf c (Some (code h))
 ring_item (lone v) h e = absurd e
 ring_item (cycle hs) h e = e
