@@ -1,30 +1,24 @@
 -- The lamina of a block's base: its first face has one loop, of four half-edges, and these are ready to be swept.
-use Rattle.std.specs.Prelude.{map, length, reverse}
-use Rattle.std.proofs.Common.{◌≡◌, ◌≢◌, ℕ, ◌+◌, ◌≤◌, not, nat_eq, ◌&&◌, List, [], ◌∷◌, None, refl, sym, ap, subst, ◌∙◌, arith, inl, inr}
+use Rattle.std.specs.Prelude.{map, length}
+use Rattle.std.proofs.Common.{◌≡◌, ℕ, ◌+◌, List, [], ◌∷◌, None, refl, sym, ap, subst, ◌∙◌, arith}
 use Rattle.euler_operators.specs.declared.Point.{Point}
-use Rattle.euler_operators.specs.HalfEdge.{plus, minus}
-use Rattle.euler_operators.specs.Rings.{canonical}
+use Rattle.euler_operators.specs.HalfEdge.{plus}
 use Rattle.euler_operators.specs.Table as table
-use Rattle.euler_operators.specs.Model.{Model, FaceRow, LoopRow, EdgeRow, cycle, content, items_of, outer, rings_of}
+use Rattle.euler_operators.specs.Model.{Model, FaceRow, LoopRow, EdgeRow, content, items_of, outer, rings_of}
 use Rattle.euler_operators.specs.Sound.{Sound}
-use Rattle.euler_operators.proofs.Tables.{all_where_none, get-put_here, get-put_other}
-use Rattle.euler_operators.proofs.Models.{content_row, face_row, outer_row}
-use Rattle.euler_operators.proofs.Tests.{none_but}
+use Rattle.euler_operators.proofs.Models.{content_row, outer_row}
 use Rattle.euler_laws.specs.Laws.{effects}
-use Rattle.shapes.proofs.fresh.Rows.{get-put_cases, greatest-put_last}
+use Rattle.shapes.proofs.fresh.Rows.{greatest-put_last}
 use Rattle.shapes.specs.Fresh.{Taken, taken_in, numbers_after}
 use Rattle.shapes.specs.Lamina.{lamina_at, with_path}
 use Rattle.shapes.specs.Prism.{prism_refusal, prism_model}
 use Rattle.sweeps_laws.specs.prism.SweepOps.{loop_ops, taken_after}
 use Rattle.sweeps_laws.specs.prism.Ready.{Ready}
 use Rattle.sweeps_laws.proofs.FromSound.{sound_bounded}
-use Rattle.sweeps_laws.proofs.lamina.Blocks.{one_or_two, low_not_one}
+use Rattle.sweeps_laws.proofs.LaminaRows as rows
 use Rattle.sweeps_laws.proofs.lamina.Steps.{greatest-with_path, greatest-with_points}
 use Rattle.sweeps.specs.Raising.{CanRise, with_lamina}
 use Rattle.sweeps.proofs.RaisedLoops as raised
-
-first_is_not_second : (a : ℕ) → a + 1 ≢ a + 2
-first_is_not_second a e = absurd (omega arith)
 
 module _ (M : Model) (sound : Sound M) (s : ℕ) (a b g h : Point) where
   abbrev c : Taken
@@ -34,46 +28,30 @@ module _ (M : Model) (sound : Sound M) (s : ℕ) (a b g h : Point) where
   base = lamina_at M c s (a ∷ b ∷ g ∷ h ∷ [])
 
   abbrev first_face : FaceRow
-  first_face = record { solid = s; outer = c.loop + 1 }
-
-  abbrev second_face : FaceRow
-  second_face = record { solid = s; outer = c.loop + 2 }
+  first_face = rows.first_face M c s (a ∷ b ∷ g ∷ h ∷ [])
 
   abbrev items : List ℕ
   items = map plus (numbers_after c.edge 4)
 
   abbrev first_loop : LoopRow
-  first_loop = record { face = c.face + 1; content = cycle items }
+  first_loop = rows.first_loop M c s (a ∷ b ∷ g ∷ h ∷ [])
 
   outer_is : outer base (c.face + 1) ≡ c.loop + 1
-  outer_is = outer_row base (c.face + 1) first_face (get-put_other (table.put M.faces (c.face + 1) first_face) (c.face + 2) second_face (c.face + 1) (first_is_not_second c.face) ∙ get-put_here M.faces (c.face + 1) first_face)
+  outer_is = outer_row base (c.face + 1) first_face (rows.face_one M c s (a ∷ b ∷ g ∷ h ∷ []))
 
   items_are : items_of (content base (c.loop + 1)) ≡ items
-  items_are = ap items_of (content_row base (c.loop + 1) first_loop (get-put_other (table.put M.loops (c.loop + 1) first_loop) (c.loop + 2) _ (c.loop + 1) (first_is_not_second c.loop) ∙ get-put_here M.loops (c.loop + 1) first_loop))
-
-  -- the loops that were there are of other faces
-  no_rings : [] ≡ rings_of base (c.face + 1)
-  no_rings = sym (all_where_none (λ q row. nat_eq row.face (c.face + 1) && not (nat_eq (outer base (c.face + 1)) q)) base.loops (λ q y at. none_but y.face (c.face + 1) (outer base (c.face + 1)) q (λ e. elim (get-put_cases (table.put M.loops (c.loop + 1) first_loop) (c.loop + 2) _ q y at) [
-    | inl p ↦ absurd (one_or_two c.face y.face e (ap (λ (r : LoopRow). r.face) p.1))
-    | inr p ↦ elim (get-put_cases M.loops (c.loop + 1) first_loop q y p.1) [
-      | inl r ↦ outer_is ∙ sym r.0
-      | inr r ↦ absurd (low_not_one c.face y.face (subst (λ k. k ≤ c.face) (face_row M q y r.1) ((sound_bounded M sound).loop_faces q)) e)
-    ]
-  ])))
-
-  abbrev second_loop : LoopRow
-  second_loop = record { face = c.face + 2; content = cycle (canonical (reverse (map minus (numbers_after c.edge 4)))) }
+  items_are = ap items_of (content_row base (c.loop + 1) first_loop (rows.loop_one M c s (a ∷ b ∷ g ∷ h ∷ [])))
 
   abbrev last_edge : EdgeRow
   last_edge = record { plus_tail = c.vertex + 4; minus_tail = c.vertex + 1 }
 
   faces_taken : table.greatest base.faces ≡ c.face + 2
   unfolding taken_in
-  faces_taken = greatest-put_last (table.put M.faces (c.face + 1) first_face) (c.face + 2) second_face (omega (arith, greatest-put_last M.faces (c.face + 1) first_face (omega arith)))
+  faces_taken = greatest-put_last (table.put M.faces (c.face + 1) first_face) (c.face + 2) _ (omega (arith, greatest-put_last M.faces (c.face + 1) first_face (omega arith)))
 
   loops_taken : table.greatest base.loops ≡ c.loop + 2
   unfolding taken_in
-  loops_taken = greatest-put_last (table.put M.loops (c.loop + 1) first_loop) (c.loop + 2) second_loop (omega (arith, greatest-put_last M.loops (c.loop + 1) first_loop (omega arith)))
+  loops_taken = greatest-put_last (table.put M.loops (c.loop + 1) first_loop) (c.loop + 2) _ (omega (arith, greatest-put_last M.loops (c.loop + 1) first_loop (omega arith)))
 
   edges_taken : table.greatest base.edges ≡ c.edge + 4
   unfolding taken_in
@@ -95,7 +73,7 @@ module _ (M : Model) (sound : Sound M) (s : ℕ) (a b g h : Point) where
     loop_is = sym outer_is ∙ ap (λ X. outer X (c.face + 1)) (sym is)
 
     rings_are : [] ≡ rings_of N (c.face + 1)
-    rings_are = no_rings ∙ ap (λ X. rings_of X (c.face + 1)) (sym is)
+    rings_are = sym (rows.rings_one M c s (a ∷ b ∷ g ∷ h ∷ []) (sound_bounded M sound)) ∙ ap (λ X. rings_of X (c.face + 1)) (sym is)
 
     held : items_of (content N (c.loop + 1)) ≡ hs
     held = ap (λ X. items_of (content X (c.loop + 1))) is ∙ items_are ∙ sym holds
