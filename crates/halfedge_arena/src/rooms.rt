@@ -86,12 +86,12 @@ impl Arena {
 }
 
 /// The last number of the step in which a number stands.
-fn last_of_step(n: u32) -> u32
-    requires { n ≤ 1000000 }
-    ensures from { n ≤ result }
+fn last_of_step(number: u32) -> u32
+    requires { number ≤ 1000000 }
+    ensures from { number ≤ result }
     ensures limit { result ≤ 1000000 }
 {
-    let last = n / STEP * STEP + (STEP - 1);
+    let last = number / STEP * STEP + (STEP - 1);
     if last < NUMBER_LIMIT {
         last
     } else {

@@ -110,15 +110,15 @@ impl Numbers {
         self.widen(number)
     }
 
-    /// Makes the room reach to number n, and on to the end of its step.
+    /// Makes the room reach to a number, and on to the end of its step.
     #[inline(never)]
-    fn widen(&mut self, n: u32) -> Result<(), AllocError>
-        requires { n ≤ 2000001 }
+    fn widen(&mut self, number: u32) -> Result<(), AllocError>
+        requires { number ≤ 2000001 }
         ensures same { (q : ℕ) → uses self.new q ≡ uses self.old q }
         ensures grows { length self.old ≤ length self.new }
-        ensures ok { OnOk result (n / 64 < length self.new) }
+        ensures ok { OnOk result (number / 64 < length self.new) }
     {
-        let index = n / WORD;
+        let index = number / WORD;
         reach(&mut self.summaries, index / WORD + 1)?;
         reach(&mut self.words, index / STEP * STEP + STEP)
     }

@@ -178,23 +178,23 @@ fn widen<T: Copy>(
     move_on(cells, used, room, number)
 }
 
-/// Moves the cells to a block that reaches to number n. Those of the numbers in use stay as they are.
+/// Moves the cells to a block that reaches to a number. Those of the numbers in use stay as they are.
 #[inline(never)]
 fn move_on<T: Copy>(
     cells: &mut Cells<T>,
     used: &Numbers,
     room: u32,
-    n: u32,
+    number: u32,
 ) -> Result<(), AllocError>
-    requires limit { n ≤ 2000001 }
+    requires limit { number ≤ 2000001 }
     requires fits { room ≤ length cells.old }
-    requires short { length cells.old ≤ n }
+    requires short { length cells.old ≤ number }
     requires written { (k : ℕ) → uses used.now k ≡ true → is_some (row_at cells.old k) ≡ true }
     ensures same { (k : ℕ) → k < room → uses used.now k ≡ true → row_at cells.new k ≡ row_at cells.old k }
     ensures fits { room ≤ length cells.new }
-    ensures ok { OnOk result (n < length cells.new) }
+    ensures ok { OnOk result (number < length cells.new) }
 {
-    let mut wider = Cells::with_count(cells.alloc(), count_for(n))?;
+    let mut wider = Cells::with_count(cells.alloc(), count_for(number))?;
     copy_rows(cells, used, room, &mut wider);
     *cells = wider;
     Ok(())
