@@ -137,6 +137,18 @@ impl<T: Copy> Rows<T> {
         number != 0 && number < self.room
     }
 
+    /// Makes cells that stand beside the rows reach to the number. Each is written where there is a row, and stays as it is.
+    pub fn reach_beside<U: Copy>(&self, cells: &mut Cells<U>, number: u32) -> Result<(), AllocError>
+        requires limit { number ≤ 2000001 }
+        requires fits { length self.now ≤ length cells.old }
+        requires written { (k : ℕ) → has_row self.now k ≡ true → has_row cells.old k ≡ true }
+        ensures same { (k : ℕ) → has_row self.now k ≡ true → row_at cells.new k ≡ row_at cells.old k }
+        ensures fits { length self.now ≤ length cells.new }
+        ensures ok { OnOk result (number < length cells.new) }
+    {
+        widen(cells, &self.used, self.room, number)
+    }
+
     /// Makes the rows reach to the number. Where they do, this is one test, and no `Err` comes.
     #[inline(always)]
     pub fn reach(&mut self, number: u32) -> Result<(), AllocError>
@@ -255,8 +267,6 @@ fn count_for(number: u32) -> usize
         64
     } else if number < 1024 {
         1024
-    } else if number < 16384 {
-        16384
     } else {
         2000002
     }

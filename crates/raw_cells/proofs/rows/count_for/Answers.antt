@@ -7,8 +7,5 @@ returns-then-number-lt64 c = c.if-number-lt64.true
 pub returns-then-number-lt1024 : goal.returns-then-number-lt1024
 returns-then-number-lt1024 c = c.if-number-lt1024.true
 
-pub returns-then-number-lt16384 : goal.returns-then-number-lt16384
-returns-then-number-lt16384 c = c.if-number-lt16384.true
-
-pub returns-else-number-lt16384 : goal.returns-else-number-lt16384
-returns-else-number-lt16384 c = omega (arith, c.requires)
+pub returns-else-number-lt1024 : goal.returns-else-number-lt1024
+returns-else-number-lt1024 c = omega (arith, c.requires)
