@@ -1,15 +1,15 @@
 -- How a copy comes to be the same map.
 --     IsLed-spliced      a splice with the code before
---     roomed, put_here, put_there, woken_label      a code that is made known, and woken
+--     roomed, put_here, put_there      a code that is made known, and woken
 --     told, IsCopied-live, IsCopied-asleep      one code that is copied
 --     IsBegun, Begun-..      the codes below n are copied
 --     IsFollowed, Followed-..      the codes below n have their successors;  and at the end the map is the same
-use Rattle.std.proofs.Common.{◌≡◌, ℕ, ◌+◌, ◌<◌, ◌≤◌, ◌==◌, true, false, cond, Option, Some, None, IsSome, is_some, inl, inr, refl, sym, ap, ◌∙◌, subst, arith}
+use Rattle.std.proofs.Common.{◌≡◌, ℕ, ◌+◌, ◌<◌, ◌≤◌, ◌==◌, true, false, cond, Option, Some, None, is_some, inl, inr, refl, sym, ap, ◌∙◌, arith}
 use Rattle.std.specs.Ordering.{nat_cmp}
 use Rattle.std.specs.FinMap.{get, insert, empty, contains_key, get-empty}
 use Rattle.std.proofs.lemmas.Bool.{eqb-false, cases_lt, false≢true}
 use Rattle.std.proofs.lemmas.Option.{same_Some}
-use Rattle.raw_ring.specs.Rings.{Spot, RingMap, awake, of_spot, spot, next_of, tail_of, label_of, IsLive, IsAsleep, put_spot, ring_of_one, with_room, with_label, Exchanged, IsPermutation}
+use Rattle.raw_ring.specs.Rings.{Spot, RingMap, awake, of_spot, spot, next_of, tail_of, label_of, IsLive, IsAsleep, with_room, Exchanged, IsPermutation}
 use Rattle.raw_ring.specs.Copying.{but_next, IsAlike, IsCopied, IsLed}
 use Rattle.raw_ring.proofs.Mapping.{get-put, same_ring, test_same, test_is, test_other, asleep_is}
 use Rattle.raw_ring.proofs.Tying.{none_by}
@@ -72,27 +72,19 @@ roomed m c e = ap (λ o. cond (is_some o) m (insert m c None)) e
 pub IsAsleep-roomed : (m : RingMap) (c : ℕ) → get m c ≡ None → IsAsleep (with_room m c) c
 IsAsleep-roomed m c e = let here : get (with_room m c) c ≡ Some None = ap (λ n. get n c) (roomed m c e) ∙ put_here m c None in (ap is_some here, ap (λ o. is_some (awake o)) here)
 
-pub spot_put : (m : RingMap) (c : ℕ) (s : Spot) → spot (insert m c (Some s)) c ≡ Some s
-spot_put m c s = ap awake (put_here m c (Some s))
-
-pub IsLive-put : (m : RingMap) (c : ℕ) (s : Spot) → IsLive (insert m c (Some s)) c
-IsLive-put m c s = subst IsSome (sym (spot_put m c s)) refl
-
 told : (o : Option (Option Spot)) (t l : ℕ) → of_spot (λ s. s.tail) (awake o) ≡ Some t → of_spot (λ s. s.label) (awake o) ≡ Some l → Some (Some (t, l)) ≡ but_next o
 told None t l tail label = cc
 told (Some None) t l tail label = cc
 told (Some (Some s)) t l tail label = λ i. Some (Some (sym (same_Some s.tail t tail) i, sym (same_Some s.label l label) i))
 
--- a live code: it is made known, woken and labelled
-pub IsCopied-live : (m old one two new : RingMap) (c t l : ℕ) → get old c ≡ None → one ≡ with_room old c → two ≡ insert one c (Some (ring_of_one c t)) → new ≡ with_label two c l
+-- a live code: it is made known and woken
+pub IsCopied-live : (m old one new : RingMap) (c t l : ℕ) → get old c ≡ None → one ≡ with_room old c → new ≡ insert one c (Some (record { next = c; tail = t; label = l }))
     → tail_of m c ≡ Some t → label_of m c ≡ Some l → IsCopied m old new c
-IsCopied-live m old one two new c t l none is_one is_two is_new tail label =
+IsCopied-live m old one new c t l none is_one is_new tail label =
     let s : Spot = record { next = c; tail = t; label = l } in
-    let labelled : new ≡ insert two c (Some s) = is_new ∙ ap (put_spot two c (λ r. record r { label = l })) (ap (λ n. spot n c) is_two ∙ spot_put one c (ring_of_one c t)) in
     record {
-      here = ap (λ n. but_next (get n c)) labelled ∙ ap but_next (put_here two c (Some s)) ∙ told (get m c) t l tail label;
-      others = λ d other. ap (λ n. get n d) labelled ∙ put_there two c (Some s) d other ∙ ap (λ n. get n d) is_two ∙ put_there one c (Some (ring_of_one c t)) d other
-          ∙ ap (λ n. get n d) (is_one ∙ roomed old c none) ∙ put_there old c None d other;
+      here = ap (λ n. but_next (get n c)) is_new ∙ ap but_next (put_here one c (Some s)) ∙ told (get m c) t l tail label;
+      others = λ d other. ap (λ n. get n d) is_new ∙ put_there one c (Some s) d other ∙ ap (λ n. get n d) (is_one ∙ roomed old c none) ∙ put_there old c None d other;
     }
 
 -- a code that is asleep

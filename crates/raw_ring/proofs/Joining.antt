@@ -1,10 +1,12 @@
 -- The table of codes, by its columns.
 --     row_at-joined, length-joined, has-joined, next-joined      what is read
 --     place_there, label_there, live_there, lies_at, has_label      the parts of a row
---     changed      one row is written;  column_here, column_other      one column
---     rows_reached, ok_more      the columns reach further
-use Rattle.std.proofs.Common.{◌≡◌, ◌≢◌, ℕ, zero, suc, ◌<◌, ◌≤◌, Bool, true, false, cond, List, [], ◌∷◌, length, set, Option, Some, None, IsSome, is_some, Result, Ok, Err, OnOk, refl, sym, ap, ◌∙◌, subst, arith, nat_eq, inl, inr, true≢false, eq-eqb, ne_eqb}
+--     changed      one row is written;  column_here, column_other      one column;  cell_written      a column of cells
+--     IsFurther, rows_reached, joined_further, ok_more      the columns reach further
+use Rattle.std.proofs.Common.{◌≡◌, ◌≢◌, ℕ, zero, suc, ◌<◌, ◌≤◌, Bool, true, false, cond, List, [], ◌∷◌, length, set, slice_set, Option, Some, None, IsSome, is_some, Result, Ok, Err, OnOk, refl, sym, ap, ◌∙◌, subst, arith, nat_eq, inl, inr, true≢false, eq-eqb, ne_eqb}
+use Rattle.std.proofs.lemmas.Bool.{cases_eq}
 use Rattle.std.proofs.lemmas.Bool.Decides.{eqb_tells}
+use Rattle.std.proofs.lemmas.List.{get_or-set_same, get_or-set_other, length-set}
 use Rattle.raw_cells.specs.Numbers.{IsNext}
 use Rattle.raw_cells.specs.Rows.{row_at, has_row}
 use Rattle.raw_ring.specs.declared.node.NodePtr.{NodePtr}
@@ -37,6 +39,16 @@ column_here xs new c x is = is c ∙ ap (λ b. cond b (Some x) (row_at xs c)) (e
 
 pub column_other : {X : Type 0} (xs new : List (Option X)) (c : ℕ) (x : X) → ((q : ℕ) → row_at new q ≡ cond (nat_eq q c) (Some x) (row_at xs q)) → (q : ℕ) → q ≢ c → row_at new q ≡ row_at xs q
 column_other xs new c x is q ne = is q ∙ ap (λ b. cond b (Some x) (row_at xs q)) (ne_eqb q c ne)
+
+-- a cell that is written
+pub cell_written : {X : Type 0} (xs new : List (Option X)) (c : ℕ) (x : X) → c < length xs → new ≡ slice_set xs c (Some x) → (q : ℕ) → row_at new q ≡ cond (nat_eq q c) (Some x) (row_at xs q)
+cell_written xs new c x within is q = ap (λ ys. row_at ys q) is ∙ (elim (cases_eq q c) [
+  | inl e ↦ ap (row_at (slice_set xs c (Some x))) e ∙ get_or-set_same xs c (Some x) None within ∙ sym (ap (λ b. cond b (Some x) (row_at xs q)) (eq-eqb q c e))
+  | inr ne ↦ get_or-set_other xs c q (Some x) None ne ∙ sym (ap (λ b. cond b (Some x) (row_at xs q)) (ne_eqb q c ne))
+])
+
+pub cells_kept : {X : Type 0} (xs new : List (Option X)) (c : ℕ) (x : X) → new ≡ slice_set xs c (Some x) → length new ≡ length xs
+cells_kept xs new c x is = ap length is ∙ length-set xs c (Some x)
 
 -- a row that was there is there
 pub column_there : {X : Type 0} (xs new : List (Option X)) (c : ℕ) (x : X) → ((q : ℕ) → row_at new q ≡ cond (nat_eq q c) (Some x) (row_at xs q)) → (q : ℕ) → has_row xs q ≡ true → has_row new q ≡ true
@@ -86,6 +98,10 @@ module _ (ps : Places) (ls : List (Option ℕ)) (vs : List (Option Bool)) where
     pub place_within : IsSome (row_at rows c) → c < length ps
     place_within h = let r = some_of (row_at rows c) h in omega (arith, row_within rows c r.0 r.1, length-joined)
 
+    -- its marks have their cells
+    pub mark_rooms : AreJoined ps ls vs → IsSome (row_at rows c) → (c < length ls) × (c < length vs)
+    mark_rooms J h = let within = place_within h in (omega (arith, within, J.reach_labels), omega (arith, within, J.reach_lives))
+
     pub lies_at : (at : NodePtr) → row_at ps c ≡ Some at → LiesAt (row_at rows c) at
     lies_at at e = (or_zero (row_at ls c), or_false (row_at vs c), row_at-joined c ∙ ap (λ o. with_marks o (marks ls vs c)) e)
 
@@ -111,7 +127,27 @@ module _ (ps : Places) (ls : List (Option ℕ)) (vs : List (Option Bool)) where
         (λ q ne i. with_marks (row_at ps q) (or_zero (same_labels q ne i), or_false (same_lives q ne i)))
         ∙ ap (set rows c) (sym was ∙ ap f (sym row_is))
 
-pub rows_reached : (ps ps' : Places) (ls ls' : List (Option ℕ)) (vs vs' : List (Option Bool)) → ((q : ℕ) → row_at ps' q ≡ row_at ps q) → ((q : ℕ) → row_at ls' q ≡ row_at ls q) → ((q : ℕ) → row_at vs' q ≡ row_at vs q) →
+-- where there is no place, the marks don't count
+same_marks : (p : Option NodePtr) (l l' : Option ℕ) (v v' : Option Bool) → (is_some p ≡ true → l' ≡ l) → (is_some p ≡ true → v' ≡ v) → with_marks p (or_zero l', or_false v') ≡ with_marks p (or_zero l, or_false v)
+same_marks None l l' v v' e f = refl
+same_marks (Some at) l l' v v' e f = λ i. with_marks (Some at) (or_zero (e refl i), or_false (f refl i))
+
+-- the columns of marks reach further: the cells of the codes that have a place are as they were
+abbrev pub IsFurther : {X : Type 0} → Places → List (Option X) → List (Option X) → Type 0
+IsFurther ps xs new = (q : ℕ) → has_row ps q ≡ true → row_at new q ≡ row_at xs q
+
+pub rows_reached : (ps ps' : Places) (ls ls' : List (Option ℕ)) (vs vs' : List (Option Bool)) → ((q : ℕ) → row_at ps' q ≡ row_at ps q) → IsFurther ps ls ls' → IsFurther ps vs vs' →
     (q : ℕ) → row_at (joined ps' (marks ls' vs')) q ≡ row_at (joined ps (marks ls vs)) q
 rows_reached ps ps' ls ls' vs vs' same_places same_labels same_lives q =
-    row_at-joined ps' ls' vs' q ∙ (λ i. with_marks (same_places q i) (or_zero (same_labels q i), or_false (same_lives q i))) ∙ sym (row_at-joined ps ls vs q)
+    row_at-joined ps' ls' vs' q ∙ ap (λ o. with_marks o (marks ls' vs' q)) (same_places q)
+    ∙ same_marks (row_at ps q) (row_at ls q) (row_at ls' q) (row_at vs q) (row_at vs' q) (same_labels q) (same_lives q) ∙ sym (row_at-joined ps ls vs q)
+
+pub joined_further : (ps ps' : Places) (ls ls' : List (Option ℕ)) (vs vs' : List (Option Bool)) → AreJoined ps ls vs → ((q : ℕ) → row_at ps' q ≡ row_at ps q) → length ps' ≤ length ls' → length ps' ≤ length vs' → IsFurther ps ls ls' → IsFurther ps vs vs' → AreJoined ps' ls' vs'
+joined_further ps ps' ls ls' vs vs' J same_places reach_labels reach_lives same_labels same_lives =
+    let there : (k : ℕ) → has_row ps' k ≡ true → has_row ps k ≡ true = λ k h. sym (ap is_some (same_places k)) ∙ h in
+    record {
+      reach_labels = reach_labels;
+      reach_lives = reach_lives;
+      labelled = λ k h. ap is_some (same_labels k (there k h)) ∙ J.labelled k (there k h);
+      marked = λ k h. ap is_some (same_lives k (there k h)) ∙ J.marked k (there k h);
+    }

@@ -11,10 +11,10 @@ LiesAt o at = (label : ℕ) × (live : Bool) × (o ≡ Some (record { at = at; l
 abbrev pub HasLabel : Option Row → ℕ → Type 0
 HasLabel o label = (at : NodePtr) × (live : Bool) × (o ≡ Some (record { at = at; label = label; live = live }))
 
--- the row with its code live and the label 0, asleep, and with another label
-abbrev pub woken : Option Row → Option Row
-woken None = None
-woken (Some r) = Some (record { at = r.at; label = 0; live = true })
+-- the row with its code live and a label, asleep, and with another label
+abbrev pub woken : ℕ → Option Row → Option Row
+woken l None = None
+woken l (Some r) = Some (record { at = r.at; label = l; live = true })
 
 abbrev pub asleep : Option Row → Option Row
 asleep None = None

@@ -41,8 +41,7 @@ impl Rings {
     {
         self.room(code)?;
         if from.is_live(code) {
-            self.wake(code, from.tail(code));
-            self.set_label(code, from.label(code));
+            self.wake_as(code, from.tail(code), from.label(code));
         }
         Ok(())
     }

@@ -6,7 +6,7 @@ ghost use Rattle.raw_ring.specs.Table.{LiesAt, HasLabel, woken, asleep, relabell
 
 use crate::node::NodePtr;
 use crate::row::Row;
-use raw_cells::Rows;
+use raw_cells::{Cells, Rows};
 use std::alloc::{AllocError, Global};
 use std::marker::Model;
 
@@ -19,12 +19,12 @@ const STEP: u32 = 64;
 /// The rows of the known codes.
 ///
 /// Where nodes lie, labels and what is live stand apart: so a row takes 13 bytes, and nothing is lost between its parts. All three of
-/// a code are written where it becomes known, and a change is one write then. Only `reach` takes memory.
+/// a code are written where it becomes known, which the places note alone, and a change is one write then. Only `reach` takes memory.
 #[derive(Drop)]
 pub(crate) struct Table {
     places: Rows<NodePtr>,
-    labels: Rows<u32>,
-    lives: Rows<bool>,
+    labels: Cells<u32>,
+    lives: Cells<bool>,
 }
 
 impl Model for Table {
@@ -47,8 +47,8 @@ impl Table {
     {
         Table {
             places: Rows::new(alloc),
-            labels: Rows::new(alloc),
-            lives: Rows::new(alloc),
+            labels: Cells::new(alloc),
+            lives: Cells::new(alloc),
         }
     }
 
@@ -80,8 +80,8 @@ impl Table {
         match self.places.find(code) {
             Some(at) => Some(Row {
                 at,
-                label: self.labels.known(code),
-                live: self.lives.known(code),
+                label: self.labels.get(code),
+                live: self.lives.get(code),
             }),
             None => None,
         }
@@ -100,27 +100,27 @@ impl Table {
         requires { IsSome (row_at self.now code) }
         ensures { HasLabel (row_at self.now code) result }
     {
-        self.labels.known(code)
+        self.labels.get(code)
     }
 
     /// A new code gets a row, in which it is asleep.
-    pub(crate) fn add(&mut self, code: u32, at: NodePtr)
-        requires room { code < length self.old }
-        requires new { row_at self.old code ≡ None }
-        ensures { self.new ≡ set self.old code (Some (record { at = at; label = 0; live = false })) }
+    pub(crate) fn add(&mut self, new_code: u32, at: NodePtr)
+        requires room { new_code < length self.old }
+        requires new { row_at self.old new_code ≡ None }
+        ensures { self.new ≡ set self.old new_code (Some (record { at = at; label = 0; live = false })) }
     {
-        self.labels.put(code, 0);
-        self.lives.put(code, false);
-        self.places.put(code, at);
+        self.labels.put(new_code, 0);
+        self.lives.put(new_code, false);
+        self.places.put(new_code, at);
     }
 
-    /// A code that has a row is live then, with the label 0.
-    pub(crate) fn wake(&mut self, code: u32)
+    /// A code that has a row is live then, with that label.
+    pub(crate) fn wake(&mut self, code: u32, label: u32)
         requires { IsSome (row_at self.old code) }
-        ensures { self.new ≡ set self.old code (woken (row_at self.old code)) }
+        ensures { self.new ≡ set self.old code (woken label (row_at self.old code)) }
     {
-        self.labels.set(code, 0);
-        self.lives.set(code, true);
+        self.labels.put(code, label);
+        self.lives.put(code, true);
     }
 
     /// A code that has a row is asleep then.
@@ -128,7 +128,7 @@ impl Table {
         requires { IsSome (row_at self.old code) }
         ensures { self.new ≡ set self.old code (asleep (row_at self.old code)) }
     {
-        self.lives.set(code, false);
+        self.lives.put(code, false);
     }
 
     /// A code that has a row gets a label.
@@ -136,7 +136,7 @@ impl Table {
         requires { IsSome (row_at self.old code) }
         ensures { self.new ≡ set self.old code (relabelled label (row_at self.old code)) }
     {
-        self.labels.set(code, label);
+        self.labels.put(code, label);
     }
 
     /// Makes the rows reach to a code. Where they do, this is one test, and no `Err` comes.
@@ -161,8 +161,8 @@ impl Table {
         ensures ok { OnOk result (code < length self.new) }
     {
         let last = last_of_step(code);
-        self.labels.reach(last)?;
-        self.lives.reach(last)?;
+        self.places.reach_beside(&mut self.labels, last)?;
+        self.places.reach_beside(&mut self.lives, last)?;
         self.places.reach(last)
     }
 }

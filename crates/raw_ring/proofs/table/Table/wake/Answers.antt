@@ -3,26 +3,31 @@ use Rattle.raw_ring.specs.Rings.{or_zero}
 use Rattle.raw_ring.specs.Joined.{or_false, with_marks}
 use Rattle.raw_ring.specs.Table.{woken}
 use Rattle.raw_ring.proofs.Pointers.{some_of}
-use Rattle.raw_ring.proofs.Joining.{place_there, marks_changed, column_here, column_other, column_there}
+use Rattle.raw_ring.proofs.Joining.{place_there, mark_rooms, marks_changed, cell_written, cells_kept, column_here, column_other, column_there}
 use Rattle.raw_ring.proofs.table.Table.wake.Goals as goal
 
-pub set-requires : goal.set-requires
-set-requires c = c.self.invariant.labelled _ (place_there c.self.inside.places c.self.inside.labels c.self.inside.lives _ (rw (← c.self.view_is) at c.requires))
+pub put-requires : goal.put-requires
+put-requires c = (mark_rooms c.self.inside.places c.self.inside.labels c.self.inside.lives _ c.self.invariant (rw (← c.self.view_is) at c.requires)).0
 
-pub set-requires-2 : goal.set-requires-2
-set-requires-2 c = c.self.invariant.marked _ (place_there c.self.inside.places c.self.inside.labels c.self.inside.lives _ (rw (← c.self.view_is) at c.requires))
+pub put-requires-2 : goal.put-requires-2
+put-requires-2 c = (mark_rooms c.self.inside.places c.self.inside.labels c.self.inside.lives _ c.self.invariant (rw (← c.self.view_is) at c.requires)).1
 
 pub invariant_of-self : goal.invariant_of-self
-invariant_of-self c = record {
-  reach_labels = omega (arith, c.self.invariant.reach_labels, c.set.ensures.len);
-  reach_lives = omega (arith, c.self.invariant.reach_lives, c.set-2.ensures.len);
-  labelled = λ k h. column_there _ _ _ _ c.set.ensures.rows k (c.self.invariant.labelled k h);
-  marked = λ k h. column_there _ _ _ _ c.set-2.ensures.rows k (c.self.invariant.marked k h);
-}
+invariant_of-self c =
+    let rooms = mark_rooms c.self.inside.places c.self.inside.labels c.self.inside.lives _ c.self.invariant (rw (← c.self.view_is) at c.requires) in
+    let labels = cell_written _ _ _ _ rooms.0 c.put.ensures in let lives = cell_written _ _ _ _ rooms.1 c.put-2.ensures in
+    record {
+      reach_labels = omega (arith, c.self.invariant.reach_labels, cells_kept _ _ _ _ c.put.ensures);
+      reach_lives = omega (arith, c.self.invariant.reach_lives, cells_kept _ _ _ _ c.put-2.ensures);
+      labelled = λ k h. column_there _ _ _ _ labels k (c.self.invariant.labelled k h);
+      marked = λ k h. column_there _ _ _ _ lives k (c.self.invariant.marked k h);
+    }
 
 pub returns : goal.returns
 returns c =
+    let rooms = mark_rooms c.self.inside.places c.self.inside.labels c.self.inside.lives _ c.self.invariant (rw (← c.self.view_is) at c.requires) in
+    let labels = cell_written _ _ _ _ rooms.0 c.put.ensures in let lives = cell_written _ _ _ _ rooms.1 c.put-2.ensures in
     let place = some_of _ (place_there c.self.inside.places c.self.inside.labels c.self.inside.lives _ (rw (← c.self.view_is) at c.requires)) in
-    let label = column_here _ _ _ _ c.set.ensures.rows in let live = column_here _ _ _ _ c.set-2.ensures.rows in
+    let label = column_here _ _ _ _ labels in let live = column_here _ _ _ _ lives in
     rw (← c.self.view_is)
-    (marks_changed c.self.inside.places c.self.inside.labels c.self.inside.lives _ _ _ woken place.0 _ place.1 refl (λ i. with_marks (Some place.0) (or_zero (label i), or_false (live i))) (column_other _ _ _ _ c.set.ensures.rows) (column_other _ _ _ _ c.set-2.ensures.rows))
+    (marks_changed c.self.inside.places c.self.inside.labels c.self.inside.lives _ _ _ (woken c.args.label) place.0 _ place.1 refl (λ i. with_marks (Some place.0) (or_zero (label i), or_false (live i))) (column_other _ _ _ _ labels) (column_other _ _ _ _ lives))
