@@ -2,7 +2,7 @@
 use Rattle.std.proofs.Common.{◌≡◌, ◌≢◌, ℕ, ◌≤◌, Bool, true, false, cond, nat_eq, List, [], ◌∷◌, Option, Some, None, is_some, refl, sym, ap, subst, ◌∙◌, arith, true≢false, eq-eqb, ne_eqb, ◌⊎◌, inl, inr}
 use Rattle.std.proofs.lemmas.Bool.{cases_eq}
 use Rattle.std.specs.FinMap.{insert, contains_key}
-use Rattle.raw_ring.specs.Rings.{Spot, RingMap, spot, or_zero, of_spot, ring_of_one, with_label}
+use Rattle.raw_ring.specs.Rings.{Spot, RingMap, spot, or_zero, of_spot, ring_of_one}
 use Rattle.boundary_model.specs.Items.{IsIn}
 use Rattle.boundary_model.specs.HalfEdge.{plus, minus}
 use Rattle.boundary_model.proofs.Lists.{tick_le}
@@ -12,25 +12,18 @@ use Rattle.arena_rows.specs.declared.ring_spots.labels.Label.{Label}
 use Rattle.arena_rows.specs.ring_spots.Spots.{Spots, live, next, label, ring, map_spot, woken, woken_as, asleep, retailed, AreRings}
 use Rattle.arena_rows.specs.ring_spots.Labels.{own, holder, loop_at, with_loop, in_loops, but_label, AreLabelled, HaveNewLabels, has_label}
 use Rattle.arena_rows.proofs.ring_spots_laws.SpotLaws.{ring_is, live-retailed, label-retailed, ring-retailed, AreRings-retailed}
-use Rattle.arena_rows.proofs.ring_spots_laws.RingMaps.{spot-insert, known-with, known-same}
-use Rattle.arena_rows.proofs.ring_spots_laws.Relabelling.{known_step}
+use Rattle.arena_rows.proofs.ring_spots_laws.RingMaps.{spot-insert, known-same}
 use Rattle.arena_rows.proofs.ring_spots_laws.EdgeSpots.{w_rings, w_cases, old_ring, r_plus, r_minus, s_rings, s_ring, s_left, s_other}
 use Rattle.arena_rows.proofs.ring_spots_laws.LabelTables.{owned_more, holder_same, loop_same}
 use Rattle.arena_rows.proofs.ring_spots_laws.LoopSpots.{loops-same, loops-asleep, live-alike, ring-alike, AreRings-alike}
 use Rattle.arena_rows.proofs.ring_spots_laws.LabelLaws.{labelled_alike}
 
--- a code wakes, and gets a label
-pub spot-woken_as : (m mid new : RingMap) (c t l : ℕ) → mid ≡ insert m c (Some (ring_of_one c t)) → new ≡ with_label mid c l → spot new ≡ woken_as (spot m) c t l
-spot-woken_as m mid new c t l wakes gets = λ i q. (known_step mid new c l gets q ∙ ap (λ o. cond (nat_eq q c) (map_spot (λ s. record s { label = l }) o) o) (ap (λ (k : RingMap). spot k q) wakes ∙ spot-insert m c (Some (ring_of_one c t)) q) ∙ go (nat_eq q c) (spot m q)) i where
-  go : (b : Bool) (o : Option Spot) → cond b (map_spot (λ s. record s { label = l }) (cond b (Some (ring_of_one c t)) o)) (cond b (Some (ring_of_one c t)) o) ≡ cond b (Some (record { next = c; tail = t; label = l })) o
-  go true o = refl
-  go false o = refl
+-- a code wakes with a label
+pub spot-woken_as : (m new : RingMap) (c t l : ℕ) → new ≡ insert m c (Some (record { next = c; tail = t; label = l })) → spot new ≡ woken_as (spot m) c t l
+spot-woken_as m new c t l wakes = λ i q. (ap (λ (k : RingMap). spot k q) wakes ∙ spot-insert m c (Some (record { next = c; tail = t; label = l })) q) i
 
-pub live-woken_as : (m mid : RingMap) (c t : ℕ) → mid ≡ insert m c (Some (ring_of_one c t)) → live (spot mid) c ≡ true
-live-woken_as m mid c t wakes = ap (λ (k : RingMap). live (spot k) c) wakes ∙ ap is_some (spot-insert m c (Some (ring_of_one c t)) c ∙ ap (λ b. cond b (Some (ring_of_one c t)) (spot m c)) (eq-eqb c c refl))
-
-pub known-woken_as : (m mid new : RingMap) (c t l : ℕ) → contains_key m c ≡ true → mid ≡ insert m c (Some (ring_of_one c t)) → new ≡ with_label mid c l → contains_key new ≡ contains_key m
-known-woken_as m mid new c t l there wakes gets = ap (λ (k : RingMap). contains_key k) gets ∙ (λ i q. known-with mid c (λ s. record s { label = l }) q i) ∙ ap (λ (k : RingMap). contains_key k) wakes ∙ known-same m c (Some (ring_of_one c t)) there
+pub known-woken_as : (m new : RingMap) (c t l : ℕ) → contains_key m c ≡ true → new ≡ insert m c (Some (record { next = c; tail = t; label = l })) → contains_key new ≡ contains_key m
+known-woken_as m new c t l there wakes = ap (λ (k : RingMap). contains_key k) wakes ∙ known-same m c (Some (record { next = c; tail = t; label = l })) there
 
 -- whether another code is live
 pub live-woken_other : (sp : Spots) (c t l q : ℕ) → q ≢ c → live (woken_as sp c t l) q ≡ live sp q

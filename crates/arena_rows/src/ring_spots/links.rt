@@ -46,8 +46,7 @@ fn wake(rings: &mut Rings, labels: &mut Rows<Label>, code: u32, tail: u32)
     ensures there { has_label labels.new ≡ has_label labels.old }
 {
     let label = own(labels, code);
-    rings.wake(code, tail);
-    rings.set_label(code, label);
+    rings.wake_as(code, tail, label);
     stand_for(labels, label, 0);
 }
 

@@ -1,4 +1,4 @@
-use Rattle.std.proofs.Common.{◌≡◌, ℕ, Bool, true, ap, subst, ◌∙◌}
+use Rattle.std.proofs.Common.{◌≡◌, true, ap, subst, ◌∙◌}
 use Rattle.raw_ring.specs.Rings.{or_zero}
 use Rattle.arena_rows.specs.ring_spots.Labels.{own, has_label}
 use Rattle.arena_rows.proofs.ring_spots_laws.RingMaps.{live_known}

@@ -1,15 +1,12 @@
 use Rattle.std.proofs.Common.{ap, ◌∙◌}
 use Rattle.raw_ring.specs.Rings.{spot}
 use Rattle.arena_rows.specs.ring_spots.Spots.{woken_as}
-use Rattle.arena_rows.proofs.ring_spots_laws.LabelEdges.{spot-woken_as, live-woken_as, known-woken_as}
+use Rattle.arena_rows.proofs.ring_spots_laws.LabelEdges.{spot-woken_as, known-woken_as}
 use Rattle.arena_rows.proofs.ring_spots.links.wake.Goals as goal
 
-pub set_label-requires : goal.set_label-requires
-set_label-requires c = live-woken_as _ _ c.args.code c.args.tail c.wake.ensures
-
 pub returns-clause-spots : goal.returns-clause-spots
-returns-clause-spots c = spot-woken_as _ _ _ c.args.code c.args.tail c.own-label.result c.wake.ensures c.set_label.ensures
+returns-clause-spots c = spot-woken_as _ _ c.args.code c.args.tail c.own-label.result c.wake_as.ensures
     ∙ ap (woken_as (spot c.args.rings.now) c.args.code c.args.tail) c.own-label.ensures
 
 pub returns-clause-known : goal.returns-clause-known
-returns-clause-known c = known-woken_as _ _ _ c.args.code c.args.tail c.own-label.result c.requires.asleep.0 c.wake.ensures c.set_label.ensures
+returns-clause-known c = known-woken_as _ _ c.args.code c.args.tail c.own-label.result c.requires.asleep.0 c.wake_as.ensures

@@ -1,4 +1,4 @@
-use Rattle.std.proofs.Common.{◌≡◌, ℕ, Bool, true, ap, subst, ◌∙◌}
+use Rattle.std.proofs.Common.{◌≡◌, true, ap, subst, ◌∙◌}
 use Rattle.raw_ring.specs.Rings.{or_zero, spot}
 use Rattle.arena_rows.specs.ring_spots.Spots.{labelled, ring}
 use Rattle.arena_rows.specs.ring_spots.Labels.{has_label}
