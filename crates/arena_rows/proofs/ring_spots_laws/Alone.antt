@@ -57,48 +57,49 @@ module _ (sp : Spots) (known : ℕ → Bool) (rows : List (Option Label)) (a b :
         others = λ c t n m. S.others c t (ap (count c) (sym same) ∙ m) n;
       }
 
+  -- a code of the ring of a owns the label, so the ring of b takes the one that b owns
+  module _ (h_in : IsIn (holder rows (label sp b)) (ring sp a)) where
+    abbrev h : ℕ
+    h = holder rows (label sp b)
+
+    shared_there : has_label rows (label sp b) ≡ true
+    shared_there = S.table.labels_there b S.b_there
+
+    owned : own rows h ≡ label sp b
+    owned = S.table.owners.owned (label sp b) shared_there
+
+    T : ShareLabel sp known rows b h
+    T = shared_at h h_in
+
+    label_h : label sp h ≡ label sp b
+    label_h = T.one
+
+    own_is : (q : ℕ) → own rows q ≡ cond (nat_eq q h) (label sp h) (cond (nat_eq q (holder rows (label sp h))) (own rows h) (own rows q))
+    own_is q = elim (eqb_tells q h) [
+      | inl p ↦ ap (own rows) p.1 ∙ owned ∙ sym label_h ∙ sym (ap (λ t. cond t (label sp h) (cond (nat_eq q (holder rows (label sp h))) (own rows h) (own rows q))) p.0)
+      | inr p ↦ sym (ap (λ t. cond t (label sp h) (cond (nat_eq q (holder rows (label sp h))) (own rows h) (own rows q))) p.0
+          ∙ ap (λ t. cond t (own rows h) (own rows q)) (ne_eqb q (holder rows (label sp h)) (λ e. p.1 (e ∙ ap (holder rows) label_h))))
+    ]
+
+    holder_is : (q : ℕ) → holder rows q ≡ cond (nat_eq q (label sp h)) h (cond (nat_eq q (own rows h)) (holder rows (label sp h)) (holder rows q))
+    holder_is q = elim (eqb_tells q (label sp h)) [
+      | inl p ↦ ap (holder rows) (p.1 ∙ label_h) ∙ sym (ap (λ t. cond t h (cond (nat_eq q (own rows h)) (holder rows (label sp h)) (holder rows q))) p.0)
+      | inr p ↦ sym (ap (λ t. cond t h (cond (nat_eq q (own rows h)) (holder rows (label sp h)) (holder rows q))) p.0
+          ∙ ap (λ t. cond t (holder rows (label sp h)) (holder rows q)) (ne_eqb q (own rows h) (λ e. p.1 (e ∙ owned ∙ sym label_h))))
+    ]
+
+    pub labelled_kept : (l : ℕ) → l ≡ own rows b → (b_known : has_label rows b ≡ true) → AreLabelled (labelled sp l (ring sp b)) known rows
+    labelled_kept l e b_known = labelled-apart sp known rows b h T (labelled sp l (ring sp b)) rows (S.table.owners.holder_there (label sp b) shared_there) b_known refl own_is holder_is (ap (λ n. labelled sp n (ring sp b)) e) known refl
+
   module _ (alone : ring sp b ≡ b ∷ []) where
     -- b doesn't own the label that it shares, so it takes the one that it owns
-    module _ (ne : own rows b ≢ label sp b) where
-      abbrev h : ℕ
-      h = holder rows (label sp b)
-
-      shared_there : has_label rows (label sp b) ≡ true
-      shared_there = S.table.labels_there b S.b_there
-
-      owned : own rows h ≡ label sp b
-      owned = S.table.owners.owned (label sp b) shared_there
-
-      h_in : IsIn h (ring sp a)
-      h_in = elim S.held [
-        | inl j ↦ subst (λ n. IsIn (holder rows n) (ring sp a)) (sym S.one) j
-        | inr j ↦
-            let i : IsIn h (b ∷ []) = subst (IsIn h) alone (subst (λ n. IsIn (holder rows n) (ring sp b)) (sym S.one) j) in
-            absurd (ne (ap (own rows) (sym (IsIn_one b h i)) ∙ owned))
-      ]
-
-      T : ShareLabel sp known rows b h
-      T = shared_at h h_in
-
-      label_h : label sp h ≡ label sp b
-      label_h = T.one
-
-      own_is : (q : ℕ) → own rows q ≡ cond (nat_eq q h) (label sp h) (cond (nat_eq q (holder rows (label sp h))) (own rows h) (own rows q))
-      own_is q = elim (eqb_tells q h) [
-        | inl p ↦ ap (own rows) p.1 ∙ owned ∙ sym label_h ∙ sym (ap (λ t. cond t (label sp h) (cond (nat_eq q (holder rows (label sp h))) (own rows h) (own rows q))) p.0)
-        | inr p ↦ sym (ap (λ t. cond t (label sp h) (cond (nat_eq q (holder rows (label sp h))) (own rows h) (own rows q))) p.0
-            ∙ ap (λ t. cond t (own rows h) (own rows q)) (ne_eqb q (holder rows (label sp h)) (λ e. p.1 (e ∙ ap (holder rows) label_h))))
-      ]
-
-      holder_is : (q : ℕ) → holder rows q ≡ cond (nat_eq q (label sp h)) h (cond (nat_eq q (own rows h)) (holder rows (label sp h)) (holder rows q))
-      holder_is q = elim (eqb_tells q (label sp h)) [
-        | inl p ↦ ap (holder rows) (p.1 ∙ label_h) ∙ sym (ap (λ t. cond t h (cond (nat_eq q (own rows h)) (holder rows (label sp h)) (holder rows q))) p.0)
-        | inr p ↦ sym (ap (λ t. cond t h (cond (nat_eq q (own rows h)) (holder rows (label sp h)) (holder rows q))) p.0
-            ∙ ap (λ t. cond t (holder rows (label sp h)) (holder rows q)) (ne_eqb q (own rows h) (λ e. p.1 (e ∙ owned ∙ sym label_h))))
-      ]
-
-      pub labelled_own : (l : ℕ) → l ≡ own rows b → (b_known : has_label rows b ≡ true) → AreLabelled (labelled sp l (ring sp b)) known rows
-      labelled_own l e b_known = labelled-apart sp known rows b h T (labelled sp l (ring sp b)) rows (S.table.owners.holder_there (label sp b) shared_there) b_known refl own_is holder_is (ap (λ n. labelled sp n (ring sp b)) e) known refl
+    pub labelled_own : own rows b ≢ label sp b → (l : ℕ) → l ≡ own rows b → (b_known : has_label rows b ≡ true) → AreLabelled (labelled sp l (ring sp b)) known rows
+    labelled_own ne = labelled_kept (elim S.held [
+      | inl j ↦ subst (λ n. IsIn (holder rows n) (ring sp a)) (sym S.one) j
+      | inr j ↦
+          let i : IsIn (holder rows (label sp b)) (b ∷ []) = subst (IsIn (holder rows (label sp b))) alone (subst (λ n. IsIn (holder rows n) (ring sp b)) (sym S.one) j) in
+          absurd (ne (ap (own rows) (sym (IsIn_one b (holder rows (label sp b)) i)) ∙ S.table.owners.owned (label sp b) (S.table.labels_there b S.b_there)))
+    ])
 
     -- where it owns that, a takes it in exchange for its own
     pub labelled_given : (rows' : List (Option Label)) → has_label rows a ≡ true → has_label rows b ≡ true → has_label rows' ≡ has_label rows → (x : ℕ) → label sp b ≡ x →
@@ -111,6 +112,16 @@ module _ (sp : Spots) (known : ℕ → Bool) (rows : List (Option Label)) (a b :
         (subst (λ n. (q : ℕ) → own rows' q ≡ cond (nat_eq q a) n (cond (nat_eq q (holder rows n)) (own rows a) (own rows q))) at_a own_is)
         (subst (λ n. (q : ℕ) → holder rows' q ≡ cond (nat_eq q n) a (cond (nat_eq q (own rows a)) (holder rows n) (holder rows q))) at_a holder_is)
         (ap (λ n. labelled sp n (ring sp b)) e) known refl
+
+-- no code of the ring of a owns the label that a and b share, so the ring of a takes the one that a owns
+pub labelled_beside : (sp : Spots) (known : ℕ → Bool) (rows : List (Option Label)) (a b : ℕ) → ShareLabel sp known rows a b → (new : Spots) (known' : ℕ → Bool) (l : ℕ) → new ≡ labelled sp l (ring sp a) → known' ≡ known → l ≡ own rows a → has_label rows a ≡ true
+    → count (holder rows (label sp b)) (ring sp a) ≡ 0 → AreLabelled new known' rows
+labelled_beside sp known rows a b S new known' l is same e a_known missed =
+    let h_in : IsIn (holder rows (label sp a)) (ring sp b) = elim S.held [
+      | inl i ↦ let j : IsIn (holder rows (label sp b)) (ring sp a) = subst (λ n. IsIn (holder rows n) (ring sp a)) (sym S.one) i in absurd (omega (arith, j, missed))
+      | inr j ↦ j
+    ] in
+    subst (λ k. AreLabelled new k rows) (sym same) (subst (λ s. AreLabelled s known rows) (sym is) (labelled_kept sp known rows b a (share_turned sp known rows a b S) h_in l e a_known))
 
 -- two labels one after the other
 labelled_again : (sp : Spots) (rows rows' : List (Option Label)) (f l : ℕ) (hs : List ℕ) → loop_at rows' ≡ loop_at rows → labelled (in_loops rows' (labelled sp f hs)) l hs ≡ labelled (in_loops rows sp) l hs

@@ -168,6 +168,16 @@ module _ (sp : Spots) (known : ℕ → Bool) (rows : List (Option Label)) (a b :
     | inr j ↦ inr (shared_item sp S.table.rings b c (holder rows x) S.b_there h (subst (λ n. IsIn (holder rows n) (ring sp b)) (sym S.one) j) i)
   ]
 
+  -- once b owns the label, a owns the one that it owned before, which wasn't that one
+  pub own_kept : (rows' : List (Option Label)) → ((q : ℕ) → own rows' q ≡ cond (nat_eq q b) x (cond (nat_eq q (holder rows x)) (own rows b) (own rows q))) → own rows a ≢ x → own rows' a ≡ own rows a
+  own_kept rows' own_is ne =
+      let not_b : a ≢ b = λ e. let i : IsIn b (ring sp a) = subst (λ z. IsIn z (ring sp a)) e (S.table.rings.rings a S.a_there).item in absurd (omega (arith, i, S.apart)) in
+      own_is a ∙ ap (λ t. cond t x (cond (nat_eq a (holder rows x)) (own rows b) (own rows a))) (ne_eqb a b not_b)
+      ∙ ap (λ t. cond t (own rows b) (own rows a)) (ne_eqb a (holder rows x) (λ e. ne (ap (own rows) e ∙ S.table.owners.owned x (S.table.labels_there b S.b_there))))
+
+  pub relabelled_part : (new : Spots) (l : ℕ) → new ≡ labelled sp l (ring sp a) → IsRelabelled sp new a b
+  relabelled_part new l is = subst (λ s. IsRelabelled sp s a b) (sym is) (record { same = blank-labelled sp l (ring sp a); others = λ q h n m. label-labelled_out sp l (ring sp a) q n })
+
   -- the ring of b keeps the label, which b owns now, and the ring of a gets the label that a owns
   module _ (new : Spots) (rows' : List (Option Label)) (b_known : has_label rows b ≡ true) (a_known : has_label rows a ≡ true) (there : has_label rows' ≡ has_label rows)
       (own_is : (q : ℕ) → own rows' q ≡ cond (nat_eq q b) x (cond (nat_eq q (holder rows x)) (own rows b) (own rows q)))
@@ -233,9 +243,6 @@ module _ (sp : Spots) (known : ℕ → Bool) (rows : List (Option Label)) (a b :
 
     pub labelled-apart : (known' : ℕ → Bool) → known' ≡ known → AreLabelled new known' rows'
     labelled-apart known' same = subst (λ k. AreLabelled new k rows') (sym same) (subst (λ s. AreLabelled s known rows') (sym is) now_labelled)
-
-    pub relabelled-apart : IsRelabelled sp new a b
-    relabelled-apart = subst (λ s. IsRelabelled sp s a b) (sym is) (record { same = blank-labelled sp y (ring sp a); others = λ q h n m. label-labelled_out sp y (ring sp a) q n })
 
   -- the two rings are joined
   labelled-join : AreLabelled (spliced_at sp a b) known rows

@@ -1,5 +1,5 @@
 -- A walk round a ring that gives each item a label.
-use Rattle.std.proofs.Common.{◌≡◌, ◌≢◌, ℕ, ◌+◌, ◌-◌, ◌<◌, true, cond, nat_eq, List, [], ◌∷◌, Some, is_some, refl, sym, ap, subst, ◌∙◌, arith, eq-eqb, ne_eqb, eqb, inl, inr}
+use Rattle.std.proofs.Common.{◌≡◌, ◌≢◌, ℕ, ◌+◌, ◌-◌, ◌<◌, Bool, true, false, ◌||◌, cond, nat_eq, List, [], ◌∷◌, Some, is_some, refl, sym, ap, subst, ◌∙◌, arith, eq-eqb, ne_eqb, eqb, true≢false, inl, inr}
 use Rattle.std.proofs.lemmas.Bool.Decides.{eqb_tells}
 use Rattle.raw_ring.specs.Rings.{RingMap, or_zero, of_spot, spot, next_of, with_label}
 use Rattle.arena_rows.proofs.ring_spots_laws.RingMaps.{spot-with}
@@ -12,11 +12,17 @@ use Rattle.boundary_model.proofs.Places.{walk_to_more}
 use Rattle.arena_rows.specs.ring_spots.Spots.{Spots, codes, live, next, ring, is_in, map_spot, labelled, AreRings, HalfDone}
 use Rattle.arena_rows.proofs.ring_spots_laws.SpotLaws.{either, length_below, next-labelled, live-labelled, next_in_ring, ring_same, is_in-yes, is_in-no, next-label, live-map}
 
+-- the walk round a ring meets its items
+pub walk_items : (sp : Spots) (R : AreRings sp) (from n : ℕ) → live sp from ≡ true → n ≡ codes → (x : ℕ) → count x (walk_to (next sp) from from n) ≡ count x (ring sp from)
+walk_items sp R from n a e x =
+    let o = R.rings from a in
+    let w : walk_to (next sp) from from n ≡ rotate_to from (ring sp from) = orbit_from (next sp) from (ring sp from) n o.leads o.apart o.item (omega (arith, length_below codes (ring sp from) o.apart (λ x i. R.bound x (o.awake x i)))) in
+    ap (count x) w ∙ count-rotate_to x from (ring sp from)
+
 pub half_start : (sp : Spots) (R : AreRings sp) (from l n : ℕ) → live sp from ≡ true → n ≡ codes → HalfDone sp sp l (ring sp from) (walk_to (next sp) from from n)
 half_start sp R from l n a e =
     let o = R.rings from a in
-    let w : walk_to (next sp) from from n ≡ rotate_to from (ring sp from) = orbit_from (next sp) from (ring sp from) n o.leads o.apart o.item (omega (arith, length_below codes (ring sp from) o.apart (λ x i. R.bound x (o.awake x i)))) in
-    let same : (x : ℕ) → count x (walk_to (next sp) from from n) ≡ count x (ring sp from) = λ x. ap (count x) w ∙ count-rotate_to x from (ring sp from) in
+    let same : (x : ℕ) → count x (walk_to (next sp) from from n) ≡ count x (ring sp from) = walk_items sp R from n a e in
     record {
       apart = λ x. omega (arith, same x, o.apart x);
       inside = λ x i. omega (arith, same x);
@@ -71,6 +77,24 @@ half_more sp now new l from h x n k hs e d is to on =
 
 pub half_over : (sp now : Spots) (l from h n : ℕ) (hs : List ℕ) → n ≡ 0 → HalfDone sp now l hs (walk_to (next sp) from h n) → now ≡ labelled sp l hs
 half_over sp now l from h n hs e d = half_end sp now l hs (subst (λ k. HalfDone sp now l hs (walk_to (next sp) from h k)) e d)
+
+-- a code that hasn't been met yet
+module _ (f : ℕ → ℕ) (from h x n s : ℕ) (to : f h ≡ x) (ne : s ≢ h) where
+  missed_step : (k : ℕ) → n ≡ k + 1 → IsIn s (walk_to f from h n) → IsIn s (cond (eqb (f h) from) [] (walk_to f from (f h) k))
+  missed_step k e i = let j : IsIn s (h ∷ cond (eqb (f h) from) [] (walk_to f from (f h) k)) = subst (IsIn s) (walk_to_more f from h n k e) i in omega (arith, j, tick_other s h ne)
+
+  pub missed_more : (k : ℕ) → n ≡ k + 1 → x ≢ from → IsIn s (walk_to f from h n) → IsIn s (walk_to f from x k)
+  missed_more k e on i = subst (λ z. IsIn s (walk_to f from z k)) to (subst (IsIn s) (ap (λ b. cond b [] (walk_to f from (f h) k)) (ne_eqb (f h) from (λ q. on (sym to ∙ q)))) (missed_step k e i))
+
+  pub missed_last : 0 < n → x ≡ from → IsIn s (walk_to f from h n) → ⊥
+  missed_last some back i = let j : IsIn s [] = subst (IsIn s) (ap (λ b. cond b [] (walk_to f from (f h) (n - 1))) (eq-eqb (f h) from (to ∙ back))) (missed_step (n - 1) (omega (arith, some)) i) in absurd (omega (arith, j))
+
+pub missed_over : (f : ℕ → ℕ) (from h n s : ℕ) → n ≡ 0 → IsIn s (walk_to f from h n) → ⊥
+missed_over f from h n s e i = let j : IsIn s [] = subst (λ k. IsIn s (walk_to f from h k)) e i in absurd (omega (arith, j))
+
+pub not_met : (m : Bool) (h s : ℕ) → (m || eqb h s) ≡ false → (m ≡ false) × (s ≢ h)
+not_met true h s e = absurd (true≢false e)
+not_met false h s e = (refl, λ q. true≢false (sym (eq-eqb h s (sym q)) ∙ e))
 
 pub step_in : (sp : Spots) (R : AreRings sp) (from h : ℕ) → live sp from ≡ true → IsIn h (ring sp from) → IsIn (next sp h) (ring sp from)
 step_in sp R from h a i = let b = (R.rings from a).awake h i in subst (IsIn (next sp h)) (ring_same sp R from h a i) (next_in_ring sp R h b)

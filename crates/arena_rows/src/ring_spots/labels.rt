@@ -55,7 +55,7 @@ pub(crate) fn own(labels: &Rows<Label>, code: u32) -> u32
 }
 
 /// The code that owns a label.
-fn holder(labels: &Rows<Label>, label: u32) -> u32
+pub(crate) fn holder(labels: &Rows<Label>, label: u32) -> u32
     ensures { result ≡ holder labels.now label }
 {
     row_of(labels, label).holder

@@ -1,8 +1,9 @@
 //! Edges as pairs of nodes.
-ghost use Rattle.std.specs.Prelude.{◌≡◌, ◌≢◌, ◌≤◌, ◌&&◌, ◌*◌, ◌+◌, nat_eq, nat_lt, nat_le, true, cond, Some, OnOk, ℕ};
+ghost use Rattle.std.specs.Prelude.{◌≡◌, ◌≢◌, ◌≤◌, ◌&&◌, ◌*◌, ◌+◌, nat_eq, nat_lt, nat_le, true, false, cond, Some, OnOk, ℕ};
 ghost use Rattle.std.specs.FinMap.{contains_key};
 ghost use Rattle.raw_ring.specs.Rings.{spot, next_of, IsAsleep};
 ghost use Rattle.boundary_model.specs.HalfEdge.{plus, minus};
+ghost use Rattle.boundary_model.specs.Items.{count};
 ghost use Rattle.arena_rows.specs.ring_spots.Spots.{live, ring, labelled, woken, woken_as, asleep, spliced_at, retailed, AreRings};
 ghost use Rattle.arena_rows.specs.ring_spots.Labels.{has_label, own, holder, loop_at, in_loops, AreLabelled};
 
@@ -69,14 +70,29 @@ pub(crate) fn relabel(rings: &mut Rings, from: u32, l: u32)
     ensures spots { spot rings.new ≡ labelled (spot rings.old) l (ring (spot rings.old) from) }
     ensures known { contains_key rings.new ≡ contains_key rings.old }
 {
+    relabel_seeking(rings, from, l, from);
+}
+
+/// Gives each item of a ring the label l, and tells whether a code is one of them.
+#[inline(always)]
+pub(crate) fn relabel_seeking(rings: &mut Rings, from: u32, l: u32, sought: u32) -> bool
+    requires rings { AreRings (spot rings.old) }
+    requires there { live (spot rings.old) from ≡ true }
+    ensures spots { spot rings.new ≡ labelled (spot rings.old) l (ring (spot rings.old) from) }
+    ensures known { contains_key rings.new ≡ contains_key rings.old }
+    ensures missed { result ≡ false → count sought (ring (spot rings.old) from) ≡ 0 }
+{
     let mut h = from;
+    let mut met = false;
     'round: for _ in 0..HALF_EDGE_CODES {
+        met = met | (h == sought);
         rings.set_label(h, l);
         h = rings.next(h);
         if h == from {
-            return;
+            return met;
         }
     }
+    met
 }
 
 /// Exchanges the successors of two codes.

@@ -6,7 +6,7 @@ ghost use Rattle.boundary_model.specs.Items.{IsIn};
 ghost use Rattle.arena_rows.specs.ring_spots.Spots.{live, label, ring, labelled, spliced_at, AreRings};
 ghost use Rattle.arena_rows.specs.ring_spots.Labels.{loop_at, in_loops, AreLabelled, ShareLabel, IsRelabelled, HaveOneLabel};
 
-use crate::ring_spots::labels::{Label, hand_over, loop_at, own, stand_for};
+use crate::ring_spots::labels::{Label, hand_over, holder, loop_at, own, stand_for};
 use crate::ring_spots::links;
 use boundary_model::HALF_EDGE_CODES;
 use raw_cells::Rows;
@@ -82,7 +82,8 @@ fn set_apart(rings: &mut Rings, labels: &mut Rows<Label>, a: u32, b: u32)
     }
 }
 
-/// Gives the ring of `part` the label that this code owns. The one that it shared with the ring of `rest` is owned by `rest` then.
+/// Gives the ring of `part` the label that this code owns. The one that it shared stays with the ring of `rest`, and is handed over to
+/// `rest` where a code of `part`'s ring owns it.
 fn give_label(rings: &mut Rings, labels: &mut Rows<Label>, part: u32, rest: u32)
     requires { ShareLabel (spot rings.old) (contains_key rings.old) labels.old part rest }
     ensures whole { AreLabelled (spot rings.new) (contains_key rings.new) labels.new }
@@ -90,8 +91,14 @@ fn give_label(rings: &mut Rings, labels: &mut Rows<Label>, part: u32, rest: u32)
     ensures loops { loop_at labels.new ≡ loop_at labels.old }
     ensures known { contains_key rings.new ≡ contains_key rings.old }
 {
-    hand_over(labels, rest, rings.label(rest));
-    links::relabel(rings, part, own(labels, part));
+    let shared = rings.label(rest);
+    let other = own(labels, part);
+    if other == shared {
+        hand_over(labels, rest, shared);
+        links::relabel(rings, part, own(labels, part));
+    } else if links::relabel_seeking(rings, part, other, holder(labels, shared)) {
+        hand_over(labels, rest, shared);
+    }
 }
 
 /// Gives the rings of a and b one label: the shorter one gets that of the other.

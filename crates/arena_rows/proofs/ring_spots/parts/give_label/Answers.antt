@@ -1,35 +1,45 @@
-use Rattle.std.proofs.Common.{◌≡◌, true, ap, subst, ◌∙◌}
+use Rattle.std.proofs.Common.{◌≡◌, ◌≢◌, sym, ap, subst, ◌∙◌}
 use Rattle.raw_ring.specs.Rings.{or_zero, spot}
-use Rattle.arena_rows.specs.ring_spots.Spots.{labelled, ring}
-use Rattle.arena_rows.specs.ring_spots.Labels.{has_label}
+use Rattle.boundary_model.specs.Items.{count}
+use Rattle.arena_rows.specs.ring_spots.Spots.{labelled, label, ring}
+use Rattle.arena_rows.specs.ring_spots.Labels.{own, holder}
 use Rattle.arena_rows.proofs.ring_spots_laws.RingMaps.{live_known}
-use Rattle.arena_rows.proofs.ring_spots_laws.LabelLaws.{labelled-apart, relabelled-apart}
+use Rattle.arena_rows.proofs.ring_spots_laws.LabelLaws.{labelled-apart, relabelled_part, own_kept}
+use Rattle.arena_rows.proofs.ring_spots_laws.Alone.{labelled_beside}
 use Rattle.arena_rows.proofs.ring_spots.parts.give_label.Goals as goal
 
-pub hand_over-requires-clause-code : goal.hand_over-requires-clause-code
-hand_over-requires-clause-code c = c.requires.table.codes_there _ (live_known _ _ c.requires.b_there)
-
-pub hand_over-requires-clause-label : goal.hand_over-requires-clause-label
-hand_over-requires-clause-label c = subst (λ n. has_label c.args.labels.now n ≡ true) (ap or_zero c.label.ensures) (c.requires.table.labels_there _ c.requires.b_there)
-
-pub hand_over-requires-clause-holder : goal.hand_over-requires-clause-holder
-hand_over-requires-clause-holder c = c.requires.table.owners.holder_there _ (subst (λ n. has_label c.args.labels.now n ≡ true) (ap or_zero c.label.ensures) (c.requires.table.labels_there _ c.requires.b_there))
-
-pub hand_over-requires-clause-own : goal.hand_over-requires-clause-own
-hand_over-requires-clause-own c = c.requires.table.owners.own_there _ (c.requires.table.codes_there _ (live_known _ _ c.requires.b_there))
-
-pub returns-clause-whole : goal.returns-clause-whole
-returns-clause-whole c =
-    let e = ap or_zero c.label.ensures in
+pub returns-then-other-shared-clause-whole : goal.returns-then-other-shared-clause-whole
+returns-then-other-shared-clause-whole c =
+    let e = ap or_zero c.label-shared.ensures in
     let known_b = c.requires.table.codes_there c.args.rest (live_known _ _ c.requires.b_there) in
     let known_a = c.requires.table.codes_there c.args.part (live_known _ _ c.requires.a_there) in
     let is = c.relabel.ensures.spots ∙ ap (λ n. labelled (spot c.args.rings.now) n (ring (spot c.args.rings.now) c.args.part)) (c.own.ensures) in
     labelled-apart _ _ _ _ _ c.requires _ _ known_b known_a c.hand_over.ensures.there (rw (e) c.hand_over.ensures.own) (rw (e) c.hand_over.ensures.holder) is _ c.relabel.ensures.known
 
-pub returns-clause-spots : goal.returns-clause-spots
-returns-clause-spots c =
-    let e = ap or_zero c.label.ensures in
+pub returns-then-other-shared-clause-spots : goal.returns-then-other-shared-clause-spots
+returns-then-other-shared-clause-spots c = relabelled_part _ _ _ _ _ c.requires _ _ c.relabel.ensures.spots
+
+pub returns-then-relabel_seeking-clause-whole : goal.returns-then-relabel_seeking-clause-whole
+returns-then-relabel_seeking-clause-whole c =
+    let e = ap or_zero c.label-shared.ensures in
+    let given = c.hand_over-then-relabel_seeking.ensures in
     let known_b = c.requires.table.codes_there c.args.rest (live_known _ _ c.requires.b_there) in
     let known_a = c.requires.table.codes_there c.args.part (live_known _ _ c.requires.a_there) in
-    let is = c.relabel.ensures.spots ∙ ap (λ n. labelled (spot c.args.rings.now) n (ring (spot c.args.rings.now) c.args.part)) (c.own.ensures) in
-    relabelled-apart _ _ _ _ _ c.requires _ _ known_b known_a c.hand_over.ensures.there (rw (e) c.hand_over.ensures.own) (rw (e) c.hand_over.ensures.holder) is
+    let ne : own c.args.labels.now c.args.part ≢ label (spot c.args.rings.now) c.args.rest = λ q. c.if-other-shared.false (c.own-other.ensures ∙ q ∙ e) in
+    let kept : own c.hand_over-then-relabel_seeking.new.labels c.args.part ≡ own c.args.labels.now c.args.part = own_kept _ _ _ _ _ c.requires _ (rw (e) given.own) ne in
+    let is = c.relabel_seeking.ensures.spots ∙ ap (λ n. labelled (spot c.args.rings.now) n (ring (spot c.args.rings.now) c.args.part)) (c.own-other.ensures ∙ sym kept) in
+    labelled-apart _ _ _ _ _ c.requires _ _ known_b known_a given.there (rw (e) given.own) (rw (e) given.holder) is _ c.relabel_seeking.ensures.known
+
+pub returns-then-relabel_seeking-clause-spots : goal.returns-then-relabel_seeking-clause-spots
+returns-then-relabel_seeking-clause-spots c = relabelled_part _ _ _ _ _ c.requires _ _ c.relabel_seeking.ensures.spots
+
+pub returns-else-relabel_seeking-clause-whole : goal.returns-else-relabel_seeking-clause-whole
+returns-else-relabel_seeking-clause-whole c =
+    let e = ap or_zero c.label-shared.ensures in
+    let known_a = c.requires.table.codes_there c.args.part (live_known _ _ c.requires.a_there) in
+    let missed : count (holder c.args.labels.now (label (spot c.args.rings.now) c.args.rest)) (ring (spot c.args.rings.now) c.args.part) ≡ 0 =
+    subst (λ h. count h (ring (spot c.args.rings.now) c.args.part) ≡ 0) (c.holder.ensures ∙ ap (holder c.args.labels.now) (sym e)) (c.relabel_seeking.ensures.missed c.if-relabel_seeking.false) in
+    labelled_beside _ _ _ _ _ c.requires _ _ _ c.relabel_seeking.ensures.spots c.relabel_seeking.ensures.known c.own-other.ensures known_a missed
+
+pub returns-else-relabel_seeking-clause-spots : goal.returns-else-relabel_seeking-clause-spots
+returns-else-relabel_seeking-clause-spots c = relabelled_part _ _ _ _ _ c.requires _ _ c.relabel_seeking.ensures.spots
