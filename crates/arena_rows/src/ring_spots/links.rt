@@ -134,6 +134,7 @@ pub(crate) fn room_edge(
 }
 
 /// Gives a half-edge its node. Its label is there.
+#[inline(always)]
 fn room_code(rings: &mut Rings, labels: &Rows<Label>, code: u32) -> Result<(), AllocError>
     requires whole { AreLabelled (spot rings.old) (contains_key rings.old) labels.now }
     requires limit { code ≤ 2000001 }
