@@ -220,6 +220,17 @@ impl EdgeRings {
         self.rings.prev(code)
     }
 
+    /// The vertex at which a live half-edge starts, and its predecessor: what `tail` and `prev` tell, with the half-edge looked up
+    /// once.
+    pub fn tail_and_prev(&self, code: u32) -> (u32, u32)
+        requires { IsLive self.now code }
+        ensures tail { tail_of self.now code ≡ Some result.0 }
+        ensures prev { next_of self.now result.1 ≡ Some code }
+        ensures permutation { IsPermutation self.now }
+    {
+        self.rings.tail_and_prev(code)
+    }
+
     /// The vertex at which a live half-edge starts.
     pub fn tail(&self, code: u32) -> u32
         requires { IsLive self.now code }
