@@ -150,6 +150,18 @@ impl Arena {
         self.rings.tail(h.code())
     }
 
+    /// The vertex at which a half-edge starts, whose edge is there, and the item before it: what `tail` and `prev` tell, with the
+    /// half-edge looked up once.
+    pub fn tail_and_prev(&self, h: HalfEdge) -> (u32, HalfEdge)
+        requires { has_half self.now.model (code h) ≡ true }
+        ensures tail { result.0 ≡ tail self.now.model (code h) }
+        ensures in_loop { loop_of self.now.model (code h) ≢ 0 → code result.1 ≡ before self.now.model (code h) }
+        ensures loose { loop_of self.now.model (code h) ≡ 0 → code result.1 ≡ predecessor (loose_ring self.now (code h)) (code h) }
+    {
+        let (tail, last) = self.rings.tail_and_prev(h.code());
+        (tail, HalfEdge::of_code(last))
+    }
+
     /// The point of vertex v, which is there.
     pub fn point(&self, v: u32) -> Point
         requires { has_number self.now Kind.Vertex v ≡ true }
