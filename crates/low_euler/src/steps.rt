@@ -10,5 +10,5 @@ mod halves;
 mod tails;
 
 pub(crate) use corners::{loop_at, tail_at};
-pub(crate) use edges::{kill_edge, make_edge};
+pub(crate) use edges::{kill_edge, make_edge, make_edge_after};
 pub(crate) use tails::move_tails;

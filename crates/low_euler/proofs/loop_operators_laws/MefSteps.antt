@@ -10,7 +10,7 @@ use Rattle.euler_operators.specs.declared.Corner.TheVariants.{At}
 use Rattle.euler_operators.specs.HalfEdge.{code, mate, edge_of}
 use Rattle.euler_operators.specs.Table as table
 use Rattle.euler_operators.specs.Table.{Table}
-use Rattle.euler_operators.specs.Model.{Model, LoopRow, cycle, items_of, content, face_of, solid_of, loop_of, cycle_of, tail, no_loop, has_half}
+use Rattle.euler_operators.specs.Model.{Model, LoopRow, cycle, items_of, content, face_of, solid_of, loop_of, cycle_of, before, tail, no_loop, has_half}
 use Rattle.euler_operators.specs.Sound.{Sound}
 use Rattle.euler_operators.proofs.Halves.{mate_other, edge_of-code}
 use Rattle.euler_operators.proofs.Tables.{put_same}
@@ -110,7 +110,7 @@ module _ (s : Store) (first second half : HalfEdge) (f l : ℕ) (ok : Accepts s 
     no_row : {x : LoopRow} → Some x ≡ None → ⊥
     no_row e = cc
 
-  r_real : r ≢ 0
+  pub r_real : r ≢ 0
   r_real = number_real r (sound.loops_fit r (ap is_some r_row))
 
   l_real : l ≢ 0
@@ -203,6 +203,14 @@ module _ (s : Store) (first second half : HalfEdge) (f l : ℕ) (ok : Accepts s 
 
   pub g_stands : IsStanding edged.model g
   g_stands = subst (λ (t : Store). IsStanding t.model g) (sym edged_is) (two.standing_r N r l (face_of M r) f all loops (cycle xs) (cycle []) fits_one g g_in)
+
+  -- what stands before the first corner stays there
+  pub before_first : (n : ℕ) → n ≡ before M g → n ≡ before edged.model g
+  unfolding before
+  before_first n e = e ∙ sym (ap (λ (t : Store). before t.model g) edged_is ∙ two.before_r N r l (face_of M r) f all loops (cycle xs) (cycle []) fits_one g g_in)
+
+  pub corners_apart : k ≢ g
+  corners_apart e = g_k (sym e)
 
   first_is : first_in ≡ state ys [] (table.remove pair_h h)
   first_is = ap (λ t. put_before t g h) edged_is

@@ -4,7 +4,7 @@ use Rattle.std.proofs.Common.{◌≡◌, ◌≢◌, ℕ, Bool, true, false, cond
 use Rattle.std.specs.Option.{option_map}
 use Rattle.std.proofs.lemmas.Bool.Decides.{eqb_tells}
 use Rattle.euler_operators.specs.Items.{count, tick, IsIn, IsApart}
-use Rattle.euler_operators.specs.Rings.{canonical, rest}
+use Rattle.euler_operators.specs.Rings.{canonical, rest, predecessor}
 use Rattle.euler_operators.specs.Edits.{insert_before, without}
 use Rattle.euler_operators.proofs.Lists.{tick_same, tick_other, IsIn_or_not}
 use Rattle.euler_operators.proofs.Rings.{IsIn_predecessor}
@@ -61,6 +61,10 @@ module _ (M N : Model) (same : N.loops ≡ M.loops) where
   pub loop_of-same : (x : ℕ) → loop_of N x ≡ loop_of M x
   unfolding loop_of
   loop_of-same x = ap (table.first_where (λ _ row. holds x row.content)) same
+
+  pub before-same : (x : ℕ) → before N x ≡ before M x
+  unfolding before
+  before-same x = ap (λ q. predecessor (items_of (content N q)) x) (loop_of-same x) ∙ ap (λ c. predecessor (items_of c) x) (content-same (loop_of M x))
 
   pub stands-same : (x q : ℕ) → StandsIn N x q → StandsIn M x q
   stands-same x q s = ap (holds x) (sym (content-same q)) ∙ s

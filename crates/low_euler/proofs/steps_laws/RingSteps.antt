@@ -1,10 +1,10 @@
 -- An item that goes into a ring or leaves it, by a join or a cut after the item before.
 use Rattle.std.proofs.Common.{◌≡◌, ◌≢◌, ℕ, ◌+◌, List, [], ◌∷◌, ◌++◌, refl, sym, ap, ◌∙◌, arith}
-use Rattle.euler_operators.specs.Items.{count, tick, IsIn, IsApart, last_or, before, after}
-use Rattle.euler_operators.specs.Rings.{canonical, rotate_to, rest, predecessor, between, beyond, cut_left, cut_right, joined}
+use Rattle.euler_operators.specs.Items.{count, tick, IsIn, IsApart, head_or, last_or, before, after}
+use Rattle.euler_operators.specs.Rings.{canonical, rotate_to, rest, successor, predecessor, between, beyond, cut_left, cut_right, joined}
 use Rattle.euler_operators.specs.Operators.{put_ring, take_ring, mef_old, mef_new}
 use Rattle.euler_operators.proofs.Lists.{count-append, tick_same, before_at, after_at, split_at}
-use Rattle.euler_operators.proofs.Rings.{front_of, IsIn_predecessor, count_at}
+use Rattle.euler_operators.proofs.Rings.{front_of, IsIn_predecessor, count_at, predecessor_same, predecessor-successor, successor_head}
 use Rattle.euler_operators.proofs.Cuts.{ring_split, upto_other, onward_other, rest_canonical, IsApart-exchanged, apart_split, apart_joined}
 use Rattle.euler_operators.proofs.Rotations.{canonical-rotates, count-canonical, count-rotate_to, rotate_to-rotates, IsApart-rotate_to, rotate_to_is, rest_at, rest_head, rest_parts, rest_same, canonical_same, canonical_one}
 use Rattle.euler_operators.proofs.Operators.{apart_front, apart_braced, rotate_to_whole, between_canonical, beyond_canonical}
@@ -51,6 +51,16 @@ module _ (xs : List ℕ) (d : IsApart xs) (g : ℕ) (i : IsIn g xs) where
       ∙ ap (λ q. canonical (h ∷ q)) (sym e) where
         rotated : (x : ℕ) → count x (rotate_to g xs) ≡ count x xs
         rotated x = omega (arith, ap (count x) (rotate_to_is g xs i), count_at x g xs i)
+
+  -- h stands before g then
+  pub put_stands_before : (h : ℕ) → count h xs ≡ 0 → predecessor (put_ring h g xs) g ≡ h
+  put_stands_before h n =
+      let w : List ℕ = h ∷ rotate_to g xs in
+      let a : IsApart w = apart_front h (rotate_to g xs) (count-rotate_to h g xs ∙ n) (IsApart-rotate_to g xs d) in
+      let h_in : IsIn h w = omega (arith, tick_same h) in
+      let g_in : IsIn g w = omega (arith, count-rotate_to g g xs, i) in
+      let second : successor w h ≡ g = successor_head h (rotate_to g xs) ∙ ap (head_or h) (rotate_to_is g xs i) in
+      sym (predecessor_same g w (canonical w) (canonical-rotates w) a g_in) ∙ ap (predecessor w) (sym second) ∙ predecessor-successor h w a h_in
 
   -- where g isn't alone, a cut after the item before it takes it out
   module _ (ne : p ≢ g) where

@@ -1,15 +1,15 @@
 -- What the arena's writers make of a store, where an edge is made and where one half-edge goes into a loop or leaves one.
-use Rattle.std.proofs.Common.{◌≡◌, ◌≢◌, ℕ, Bool, true, false, cond, List, [], ◌∷◌, is_some, sym, ap, ◌∙◌, arith}
+use Rattle.std.proofs.Common.{◌≡◌, ◌≢◌, ℕ, Bool, true, false, cond, List, [], ◌∷◌, is_some, sym, ap, ◌∙◌, subst, arith}
 use Rattle.std.proofs.lemmas.Bool.Decides.{nat_tests}
 use Rattle.std.proofs.lemmas.Bool.{eq-eqb}
 use Rattle.euler_operators.specs.Items.{IsIn}
-use Rattle.euler_operators.specs.Rings.{rest, cut_left, cut_right, joined}
+use Rattle.euler_operators.specs.Rings.{rest, predecessor, cut_left, cut_right, joined}
 use Rattle.euler_operators.specs.Operators.{put_ring, take_ring}
 use Rattle.euler_operators.specs.HalfEdge.{mate, edge_of, is_first, plus, minus, code}
 use Rattle.euler_operators.specs.declared.HalfEdge.{HalfEdge}
 use Rattle.euler_operators.specs.Table as table
 use Rattle.euler_operators.specs.Table.{Table, tables, same_table}
-use Rattle.euler_operators.specs.Model.{Model, EdgeRow, LoopRow, lone, cycle, items_of, content, face_of, loop_of, cycle_of, before, tail}
+use Rattle.euler_operators.specs.Model.{Model, EdgeRow, LoopRow, lone, cycle, items_of, content, face_of, has_half, loop_of, cycle_of, before, tail}
 use Rattle.euler_operators.proofs.Halves.{plus_row, minus_row, mate_plus, mate_minus}
 use Rattle.euler_operators.proofs.Tables.{get-put_here, put-put, put_turned}
 use Rattle.euler_operators.proofs.Models.{content_row, face_row, holds_in, held_row, in_no_loop}
@@ -18,7 +18,7 @@ use Rattle.euler_laws.proofs.shared.Rows.{cycle_filled}
 use Rattle.euler_conditions.specs.Store as store
 use Rattle.euler_conditions.specs.Store.{Store, with_loop, with_lone, loosened, loose_key, loose_ring, join, join_loose, join_loops, cut, cut_loose, clear}
 use Rattle.low_euler.specs.steps.Steps.{IsStanding, IsLoose, with_edge, put_before, take_out}
-use Rattle.low_euler.proofs.steps_laws.RingSteps.{joined_before, cut_keeps, cut_takes, follows, nothing_follows, alone_list}
+use Rattle.low_euler.proofs.steps_laws.RingSteps.{joined_before, put_stands_before, cut_keeps, cut_takes, follows, nothing_follows, alone_list}
 
 pub remove-put_same : {X : Type 0} (t : Table X) (n : ℕ) (x : X) → table.remove (table.put t n x) n ≡ table.remove t n
 remove-put_same t n x = same_table _ _ (λ q. grind (arith, nat_tests, tables))
@@ -63,6 +63,14 @@ put_edge_second s h a b e =
 
 -- ---- half-edges that go in and out
 
+-- x, which is alone in a loose ring, can be joined to the loop of n
+pub record JoinsAlone (s : Store) (n x : ℕ) : Type 0 where
+  pub a_there : has_half s.model n ≡ true
+  pub b_there : has_half s.model x ≡ true
+  pub looped : loop_of s.model n ≢ 0
+  pub loose : loop_of s.model x ≡ 0
+  pub alone : loose_ring s x ≡ x ∷ []
+
 module _ (s : Store) (g : ℕ) (stands : IsStanding s.model g) where
   abbrev M : Model
   M = s.model
@@ -95,6 +103,32 @@ module _ (s : Store) (g : ℕ) (stands : IsStanding s.model g) where
         ∙ ap (λ l. as_join l (joined p h (items_of (content M l)) (loose_ring s h))) stands.before_near
         ∙ ap (λ ring. as_join r (joined p h xs ring)) loose.alone
         ∙ ap (as_join r) ring_put
+
+    -- h stands before g then, where g stands in its loop still
+    pub put_before_is : loop_of (put_before s g h).model g ≡ loop_of M g → before (put_before s g h).model g ≡ h
+    unfolding before put_before
+    put_before_is near =
+        let row : LoopRow = record { face = face_of M r; content = cycle (put_ring h g xs) } in
+        let N : Model = with_loop M r (cycle (put_ring h g xs)) in
+        ap (λ l. predecessor (items_of (content N l)) g) near
+        ∙ ap (λ c. predecessor (items_of c) g) (content_row N r row (get-put_here M.loops r row))
+        ∙ put_stands_before xs stands.apart g g_in h (loose.nowhere r)
+
+    -- what the join asks, and what it leaves
+    joins_here : JoinsAlone s p h
+    joins_here = record {
+      a_there = stands.before_there;
+      b_there = loose.there;
+      looped = λ e. stands.looped (sym stands.before_near ∙ e);
+      loose = in_no_loop M h loose.nowhere;
+      alone = loose.alone;
+    }
+
+    pub joins_alone : (q : Store) (n x : ℕ) → q ≡ s → n ≡ p → x ≡ h → JoinsAlone q n x
+    joins_alone q n x e en ex = subst (JoinsAlone q n) (sym ex) (subst (λ y. JoinsAlone q y h) (sym en) (subst (λ t. JoinsAlone t p h) (sym e) joins_here))
+
+    pub was_put : (q t : Store) (n x : ℕ) → q ≡ s → n ≡ p → x ≡ h → t ≡ join q n x → t ≡ put_before s g h
+    was_put q t n x e en ex d = d ∙ ap (λ z. join z n x) e ∙ ap (λ y. join s y x) en ∙ ap (join s p) ex ∙ join_puts
 
   -- a cut after the half-edge before g
   module _ (ne : p ≢ g) where

@@ -120,7 +120,7 @@ module _ (N : Model) (r l fr fl : ℕ) (all : List ℕ) (loops : TwoLoops N r l 
     pub cycle_l : (x : ℕ) → IsIn x (items_of d) → cycle_of P x ≡ items_of d
     cycle_l x i = ap (λ q. items_of (content P q)) (loop_l x i) ∙ ap items_of (content_l c d)
 
-    before_r : (x : ℕ) → IsIn x (items_of c) → before P x ≡ predecessor (items_of c) x
+    pub before_r : (x : ℕ) → IsIn x (items_of c) → before P x ≡ predecessor (items_of c) x
     unfolding before
     before_r x i = ap (λ q. predecessor q x) (cycle_r x i)
 

@@ -1,11 +1,11 @@
 -- An edge made at two half-edges by the writers of an arena.
-use Rattle.std.proofs.Common.{◌≡◌, ℕ, false, None, is_some, sym, ap, ◌∙◌}
+use Rattle.std.proofs.Common.{◌≡◌, ◌≢◌, ℕ, false, None, is_some, sym, ap, ◌∙◌}
 use Rattle.euler_operators.specs.declared.Point.{Point}
 use Rattle.euler_operators.specs.declared.HalfEdge.{HalfEdge}
 use Rattle.euler_operators.specs.declared.Corner.TheVariants.{At}
 use Rattle.euler_operators.specs.HalfEdge.{code, mate, edge_of}
 use Rattle.euler_operators.specs.Table as table
-use Rattle.euler_operators.specs.Model.{Model, tail, arc}
+use Rattle.euler_operators.specs.Model.{Model, loop_of, before, tail, arc}
 use Rattle.euler_operators.specs.Sound.{Sound}
 use Rattle.euler_operators.proofs.Halves.{edge_of-code}
 use Rattle.euler_operators.specs.declared.Op.TheVariants.{Mev}
@@ -15,7 +15,7 @@ use Rattle.euler_laws.proofs.mev.Mev.{mev_goes}
 use Rattle.euler_conditions.specs.Store.{Store, loose_key, put_vertex}
 use Rattle.euler_conditions.specs.Ready.{Accepts, after}
 use Rattle.low_euler.specs.steps.Steps.{IsStanding, IsUnused, with_edge, put_before, make_edge, with_tails_at}
-use Rattle.low_euler.proofs.steps_laws.LoopsApart.{LoopsStandApart, HasLoop, placed_of, placed-same, loop-same, standing_of, placed-edge, unused_of, loops_E, loops_put, placed-put, loop-put}
+use Rattle.low_euler.proofs.steps_laws.LoopsApart.{LoopsStandApart, HasLoop, placed_of, placed-same, loop-same, before-same, never_zero, standing_of, placed-edge, put_keeps, unused_of, loops_E, loops_put, placed-put, loop-put}
 use Rattle.low_euler.proofs.steps_laws.EdgeSteps.{first_key, first_loose, second_key, second_loose, none_loose}
 use Rattle.low_euler.proofs.steps_laws.Tails.{loops-tails, loose-tails, half-tails, free-tails}
 
@@ -86,11 +86,21 @@ module _ (s : Store) (from to half : HalfEdge) (v : ℕ) (p : Point) (ok : Accep
   from_in : HasLoop edged.model g
   from_in = loop-same M edged.model loops_are g (sound.stands g goes.g_there)
 
+  -- what stands before the first corner, and stays there
+  pub looped : loop_of M g ≢ 0
+  looped = never_zero M (placed_of M sound) g (sound.stands g goes.g_there)
+
+  pub before_from : (n : ℕ) → n ≡ before M g → n ≡ before edged.model g
+  before_from n e = e ∙ sym (before-same M edged.model loops_are g)
+
   pub from_stands : IsStanding edged.model g
   from_stands = standing_of edged.model placed_edged g from_in
 
   placed_first : LoopsStandApart first_in.model
   placed_first = placed-put edged placed_edged g h from_in (first_loose moved h u v unused)
+
+  pub from_stays : loop_of first_in.model g ≡ loop_of edged.model g
+  from_stays = placed_first.one_loop g (loop_of edged.model g) (put_keeps edged placed_edged g h from_in (first_loose moved h u v unused) g (loop_of edged.model g) from_in)
 
   to_in : HasLoop first_in.model k
   to_in = loop-put edged placed_edged g h from_in (first_loose moved h u v unused) k (loop-same M edged.model loops_are k (sound.stands k goes.k_there))

@@ -2,9 +2,9 @@
 ghost use Rattle.std.specs.Prelude.{◌≡◌};
 ghost use Rattle.euler_conditions.specs.Ready.{Accepts, after};
 
-use crate::steps::{kill_edge, make_edge};
+use crate::steps::{kill_edge, make_edge_after};
 use euler_conditions::Arena;
-use euler_operators::{Corner, HalfEdge, Kind, Op};
+use euler_operators::{HalfEdge, Kind, Op};
 
 /// Makes an edge between two corners of one loop, which parts the loop's face. `half` starts at the first corner.
 /// What follows the first corner up to before the second, and then the mate of `half`, becomes the outer loop of the
@@ -22,20 +22,13 @@ pub(crate) fn mef(
     requires { Accepts arena.old (Op.Mef first second half face outer) }
     ensures { arena.new ≡ after arena.old (Op.Mef first second half face outer) }
 {
-    let start = arena.tail(first);
+    let (start, last) = arena.tail_and_prev(first);
     let end = arena.tail(second);
     let old_face = arena.face_of(arena.loop_of(first));
     let solid = arena.solid_of(old_face);
     prove!(arena.has(Kind::Solid, solid));
     arena.put_loop(outer, face);
-    make_edge(
-        arena,
-        Corner::At(first),
-        Corner::At(second),
-        half,
-        start,
-        end,
-    );
+    make_edge_after(arena, last, first, second, half, start, end);
     arena.cut(half, half.mate(), outer);
     arena.put_face(face, solid, outer);
 }

@@ -1,12 +1,13 @@
 //! An edge that is made between two corners, and one that is killed.
 ghost use Rattle.std.specs.Prelude.{◌≡◌, true, false};
 ghost use Rattle.euler_operators.specs.HalfEdge.{code, mate};
+ghost use Rattle.euler_operators.specs.Model.{loop_of, before};
 ghost use Rattle.euler_conditions.specs.Store.{has_room, has_number};
-ghost use Rattle.low_euler.specs.steps.Steps.{IsStanding, IsUnused, CanTake, with_edge, put_at, take_out, make_edge, kill_edge};
+ghost use Rattle.low_euler.specs.steps.Steps.{IsStanding, IsUnused, CanTake, with_edge, put_before, put_at, take_out, make_edge, kill_edge};
 
 use crate::steps::corners::put_at;
 use crate::steps::halves::take_out;
-use euler_conditions::Arena;
+use euler_conditions::{Arena, same};
 use euler_operators::{Corner, HalfEdge, Kind};
 
 /// Makes the edge of `half`, which starts at one vertex and ends at another. Both its half-edges are loose.
@@ -44,6 +45,33 @@ pub(crate) fn make_edge(
     put_edge(arena, half, start, end);
     put_at(arena, first, half);
     put_at(arena, second, half.mate());
+}
+
+/// Makes an edge between two half-edges, as `make_edge` does at their corners. `last` stands before the first of them. Where the two
+/// are the same, it stands in its loop still once `half` is put before it.
+#[inline(always)]
+pub(crate) fn make_edge_after(
+    arena: &mut Arena,
+    last: HalfEdge,
+    first: HalfEdge,
+    second: HalfEdge,
+    half: HalfEdge,
+    start: u32,
+    end: u32,
+)
+    requires room { has_room arena.old Kind.Edge half.edge ≡ true }
+    requires free { has_number arena.old Kind.Edge half.edge ≡ false }
+    requires unused { IsUnused arena.old (code half) }
+    requires last { code last ≡ before (with_edge arena.old (code half) start end).model (code first) }
+    requires first { IsStanding (with_edge arena.old (code half) start end).model (code first) }
+    requires second { IsStanding (put_before (with_edge arena.old (code half) start end) (code first) (code half)).model (code second) }
+    requires stays { code second ≡ code first → loop_of (put_before (with_edge arena.old (code half) start end) (code first) (code half)).model (code first) ≡ loop_of (with_edge arena.old (code half) start end).model (code first) }
+    ensures { arena.new ≡ make_edge arena.old (Corner.At first) (Corner.At second) (code half) start end }
+{
+    put_edge(arena, half, start, end);
+    arena.join_alone(last, half);
+    let other = if same(first, second) { half } else { arena.prev(second) };
+    arena.join_alone(other, half.mate());
 }
 
 /// Kills an edge: the mate of `half` is taken out of its loop, and then `half`.

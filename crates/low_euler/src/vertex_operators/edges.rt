@@ -3,7 +3,7 @@ ghost use Rattle.std.specs.Prelude.{◌≡◌};
 ghost use Rattle.euler_conditions.specs.Ready.{Accepts, after};
 
 use crate::reading;
-use crate::steps::{kill_edge, make_edge, move_tails};
+use crate::steps::{kill_edge, make_edge, make_edge_after, move_tails};
 use euler_conditions::Arena;
 use euler_operators::{Corner, HalfEdge, Op, Point};
 
@@ -59,10 +59,10 @@ fn mev_at(
     requires { Accepts arena.old (Op.Mev (Corner.At from) (Corner.At to) half vertex point) }
     ensures { arena.new ≡ after arena.old (Op.Mev (Corner.At from) (Corner.At to) half vertex point) }
 {
-    let old = arena.tail(from);
+    let (old, last) = arena.tail_and_prev(from);
     move_tails(arena, from, to, vertex);
     arena.put_vertex(vertex, point);
-    make_edge(arena, Corner::At(from), Corner::At(to), half, old, vertex);
+    make_edge_after(arena, last, from, to, half, old, vertex);
 }
 
 /// Kills an edge, whose ends no other edge has, and the vertex at which the mate starts. What else started there starts

@@ -1,15 +1,15 @@
 use Rattle.std.proofs.Common.{◌≡◌, ◌≢◌, true, false, [], is_some, sym, ap, ◌∙◌, subst, true≢false}
 use Rattle.euler_operators.specs.HalfEdge.{code}
 use Rattle.euler_operators.specs.Table as table
-use Rattle.euler_operators.specs.Model.{has_half, loop_of, content, items_of, face_of, solid_of}
+use Rattle.euler_operators.specs.Model.{has_half, loop_of, before, content, items_of, face_of, solid_of}
 use Rattle.euler_operators.proofs.Halves.{mate_other}
 use Rattle.euler_conditions.specs.Store.{Store}
 use Rattle.low_euler.specs.steps.Steps.{IsStanding, IsUnused, put_before}
 use Rattle.low_euler.proofs.loop_operators_laws.MefSteps as steps
 use Rattle.low_euler.proofs.loop_operators.faces.mef.Goals as goal
 
-pub tail-start-requires : goal.tail-start-requires
-tail-start-requires c = (steps.goes _ _ _ _ _ _ c.requires).g_there
+pub tail_and_prev-start-requires : goal.tail_and_prev-start-requires
+tail_and_prev-start-requires c = (steps.goes _ _ _ _ _ _ c.requires).g_there
 
 pub tail-end-requires : goal.tail-end-requires
 tail-end-requires c = (steps.goes _ _ _ _ _ _ c.requires).k_there
@@ -33,20 +33,22 @@ prove-unreachable-requires c =
 pub put_loop-requires-clause-free : goal.put_loop-requires-clause-free
 put_loop-requires-clause-free c = ap is_some (steps.goes _ _ _ _ _ _ c.requires).loop_free
 
-pub make_edge-requires : goal.make_edge-requires
-make_edge-requires c =
-    let edged = sym (steps.was_edged _ _ _ _ _ _ c.requires _ _ _ c.put_loop.ensures c.tail-start.ensures c.tail-end.ensures) in
+pub make_edge_after-requires : goal.make_edge_after-requires
+make_edge_after-requires c =
+    let edged = sym (steps.was_edged _ _ _ _ _ _ c.requires _ _ _ c.put_loop.ensures c.tail_and_prev-start.ensures.tail c.tail-end.ensures) in
     record {
       room = subst (λ (t : Store). table.has t.room.edges c.args.half.edge ≡ true) (sym c.put_loop.ensures) (steps.edge_room _ _ _ _ _ _ c.requires);
       free = subst (λ (t : Store). table.has t.model.edges c.args.half.edge ≡ false) (sym c.put_loop.ensures) (steps.edge_free _ _ _ _ _ _ c.requires);
       unused = subst (λ t. IsUnused t (code c.args.half)) (sym c.put_loop.ensures) (steps.unused _ _ _ _ _ _ c.requires);
+      last = subst (λ (t : Store). code c.tail_and_prev-start.result.1 ≡ before t.model (code c.args.first)) edged (steps.before_first _ _ _ _ _ _ c.requires _ (c.tail_and_prev-start.ensures.in_loop (steps.r_real _ _ _ _ _ _ c.requires)));
       first = subst (λ (t : Store). IsStanding t.model (code c.args.first)) edged (steps.g_stands _ _ _ _ _ _ c.requires);
       second = subst (λ t. IsStanding (put_before t (code c.args.first) (code c.args.half)).model (code c.args.second)) edged (steps.k_stands _ _ _ _ _ _ c.requires);
+      stays = λ e. absurd (steps.corners_apart _ _ _ _ _ _ c.requires e);
     }
 
 pub cut-requires : goal.cut-requires
 cut-requires c =
-    let e1 = steps.was_second _ _ _ _ _ _ c.requires _ _ _ _ c.put_loop.ensures c.tail-start.ensures c.tail-end.ensures c.make_edge.ensures in
+    let e1 = steps.was_second _ _ _ _ _ _ c.requires _ _ _ _ c.put_loop.ensures c.tail_and_prev-start.ensures.tail c.tail-end.ensures c.make_edge_after.ensures in
     record {
       a_there = subst (λ (t : Store). has_half t.model (code c.args.half) ≡ true) (sym e1) (steps.h_stands _ _ _ _ _ _ c.requires).there;
       b_there = steps.mate_there _ _ _ _ _ _ c.requires _ _ c.mate.ensures e1;
@@ -59,7 +61,7 @@ cut-requires c =
 
 pub put_face-requires : goal.put_face-requires
 put_face-requires c =
-    let e1 = steps.was_second _ _ _ _ _ _ c.requires _ _ _ _ c.put_loop.ensures c.tail-start.ensures c.tail-end.ensures c.make_edge.ensures in
+    let e1 = steps.was_second _ _ _ _ _ _ c.requires _ _ _ _ c.put_loop.ensures c.tail_and_prev-start.ensures.tail c.tail-end.ensures c.make_edge_after.ensures in
     let e2 = steps.was_parted _ _ _ _ _ _ c.requires _ _ _ c.mate.ensures e1 c.cut.ensures in
     let solid = c.solid_of-solid.ensures ∙ ap (solid_of c.args.arena.now.model) (c.face_of-old_face.ensures ∙ ap (face_of c.args.arena.now.model) c.loop_of.ensures) in
     record {
@@ -71,7 +73,7 @@ put_face-requires c =
 
 pub returns : goal.returns
 returns c =
-    let e1 = steps.was_second _ _ _ _ _ _ c.requires _ _ _ _ c.put_loop.ensures c.tail-start.ensures c.tail-end.ensures c.make_edge.ensures in
+    let e1 = steps.was_second _ _ _ _ _ _ c.requires _ _ _ _ c.put_loop.ensures c.tail_and_prev-start.ensures.tail c.tail-end.ensures c.make_edge_after.ensures in
     let e2 = steps.was_parted _ _ _ _ _ _ c.requires _ _ _ c.mate.ensures e1 c.cut.ensures in
     let solid = c.solid_of-solid.ensures ∙ ap (solid_of c.args.arena.now.model) (c.face_of-old_face.ensures ∙ ap (face_of c.args.arena.now.model) c.loop_of.ensures) in
     steps.was_made _ _ _ _ _ _ c.requires _ _ _ solid e2 c.put_face.ensures

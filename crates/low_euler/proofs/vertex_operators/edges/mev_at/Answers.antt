@@ -1,14 +1,15 @@
-use Rattle.std.proofs.Common.{ap, sym, subst, ◌∙◌}
+use Rattle.std.proofs.Common.{◌≡◌, ap, sym, subst, ◌∙◌}
 use Rattle.euler_operators.specs.HalfEdge.{code}
 use Rattle.euler_operators.specs.Table as table
+use Rattle.euler_operators.specs.Model.{loop_of, before}
 use Rattle.euler_conditions.specs.Store.{Store, Extents, within}
 use Rattle.low_euler.specs.steps.Steps.{IsStanding, IsUnused, put_before}
 use Rattle.low_euler.proofs.steps_laws.Tails.{room-tails}
 use Rattle.low_euler.proofs.vertex_operators_laws.CornerSteps as steps
 use Rattle.low_euler.proofs.vertex_operators.edges.mev_at.Goals as goal
 
-pub tail-old-requires : goal.tail-old-requires
-tail-old-requires c = (steps.goes _ _ _ _ _ _ c.requires).g_there
+pub tail_and_prev-old-requires : goal.tail_and_prev-old-requires
+tail_and_prev-old-requires c = (steps.goes _ _ _ _ _ _ c.requires).g_there
 
 pub move_tails-requires : goal.move_tails-requires
 move_tails-requires c = record {
@@ -24,19 +25,21 @@ put_vertex-requires c = record {
   range = (steps.goes _ _ _ _ _ _ c.requires).point_fits;
 }
 
-pub make_edge-requires : goal.make_edge-requires
-make_edge-requires c =
+pub make_edge_after-requires : goal.make_edge_after-requires
+make_edge_after-requires c =
     let e1 = steps.was_moved _ _ _ _ _ _ c.requires _ _ c.move_tails.ensures c.put_vertex.ensures in
-    let edged = sym (steps.was_edged _ _ _ _ _ _ c.requires _ _ e1 c.tail-old.ensures) in
+    let edged = sym (steps.was_edged _ _ _ _ _ _ c.requires _ _ e1 c.tail_and_prev-old.ensures.tail) in
     record {
       room = ap (λ (t : Store). table.has t.room.edges c.args.half.edge) e1 ∙ ap (λ (r : Extents). table.has r.edges c.args.half.edge) (room-tails _ _ _) ∙ c.requires.room.0;
       free = ap (λ (t : Store). table.has t.model.edges c.args.half.edge) e1 ∙ steps.edge_free _ _ _ _ _ _ c.requires;
       unused = subst (λ t. IsUnused t (code c.args.half)) (sym e1) (steps.unused _ _ _ _ _ _ c.requires);
+      last = subst (λ (t : Store). code c.tail_and_prev-old.result.1 ≡ before t.model (code c.args.from)) edged (steps.before_from _ _ _ _ _ _ c.requires _ (c.tail_and_prev-old.ensures.in_loop (steps.looped _ _ _ _ _ _ c.requires)));
       first = subst (λ (t : Store). IsStanding t.model (code c.args.from)) edged (steps.from_stands _ _ _ _ _ _ c.requires);
       second = subst (λ t. IsStanding (put_before t (code c.args.from) (code c.args.half)).model (code c.args.to)) edged (steps.to_stands _ _ _ _ _ _ c.requires);
+      stays = λ _. subst (λ t. loop_of (put_before t (code c.args.from) (code c.args.half)).model (code c.args.from) ≡ loop_of t.model (code c.args.from)) edged (steps.from_stays _ _ _ _ _ _ c.requires);
     }
 
 pub returns : goal.returns
 returns c =
     let e1 = steps.was_moved _ _ _ _ _ _ c.requires _ _ c.move_tails.ensures c.put_vertex.ensures in
-    steps.was_made _ _ _ _ _ _ c.requires _ _ _ e1 c.tail-old.ensures c.make_edge.ensures
+    steps.was_made _ _ _ _ _ _ c.requires _ _ _ e1 c.tail_and_prev-old.ensures.tail c.make_edge_after.ensures
