@@ -12,7 +12,7 @@ ghost use Rattle.euler_operators.specs.Conditions.{verdict};
 ghost use Rattle.euler_operators.specs.declared.Refusal.{Refusal};
 
 use crate::record::{OpList, Record};
-use crate::steps::replay_all;
+use crate::steps::{place_for_one, replay_all};
 use euler_operators::{Op, Refusal, Why};
 use low_euler::{Arena, advance, check};
 use std::alloc::{AllocError, Global};
@@ -122,7 +122,7 @@ impl Session {
         ensures ok { OnOk result (self.new ≡ after_act self.old op) }
         ensures err { OnErr result (self.new ≡ self.old) }
     {
-        self.records.reserve(1)?;
+        place_for_one(&mut self.records)?;
         // `advance` writes another one in its place
         let mut inverse = Op::Kvfs(0);
         advance(self.alloc, &mut *self.arena, &op, &mut inverse)?;

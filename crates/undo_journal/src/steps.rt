@@ -1,5 +1,6 @@
 //! Operators applied in turn.
-ghost use Rattle.std.specs.Prelude.{◌≡◌, [], ◌∷◌, ◌++◌, OnOk, OnErr, None};
+ghost use Rattle.std.specs.Prelude.{◌≡◌, ◌<◌, vec_len, [], ◌∷◌, ◌++◌, OnOk, OnErr, None};
+ghost use Rattle.std.specs.Vec.{vec_capacity};
 ghost use Rattle.low_euler.specs.Store.{HasGrown};
 ghost use Rattle.euler_operators.specs.Conditions.{first_false};
 ghost use Rattle.euler_operators.specs.Effect.{inverse};
@@ -25,6 +26,18 @@ pub(crate) fn replay_all(arena: &mut Arena, ops: &[Op])
     }
 }
 
+/// Makes a place for one more in a list. Where there is one, this is one test.
+#[inline(always)]
+pub(crate) fn place_for_one<T>(list: &mut Vec<T>) -> Result<(), AllocError>
+    ensures items { list.new.items ≡ list.old.items }
+    ensures place { OnOk result (vec_len list.new < vec_capacity list.new) }
+{
+    if list.len() < list.capacity() {
+        return Ok(());
+    }
+    list.reserve(1)
+}
+
 /// Applies an operator that is accepted, and appends it and its inverse to two lists. All memory is taken before the change:
 /// on `AllocError` the model and the lists are as they were.
 pub(crate) fn step(
@@ -43,12 +56,17 @@ pub(crate) fn step(
     ensures err_forward { OnErr result (forward.new.items ≡ forward.old.items) }
     ensures err_back { OnErr result (back.new.items ≡ back.old.items) }
 {
-    forward.reserve(1)?;
-    back.reserve(1)?;
-    // `advance` writes another one in its place
-    let mut inverse = Op::Kvfs(0);
-    advance(alloc, arena, &op, &mut inverse)?;
+    place_for_one(forward)?;
+    place_for_one(back)?;
+    let applied = forward.len();
+    let inverse = back.len();
     forward.push_reserved(op);
-    back.push_reserved(inverse);
+    // `advance` writes another one in its place
+    back.push_reserved(Op::Kvfs(0));
+    if let Err(error) = advance(alloc, arena, &forward[applied], &mut back[inverse]) {
+        forward.truncate(applied);
+        back.truncate(inverse);
+        return Err(error);
+    }
     Ok(())
 }

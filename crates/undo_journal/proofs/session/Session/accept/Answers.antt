@@ -17,13 +17,13 @@ advance-requires-clause-accepted c =
 
 pub invariant_of-self-in_err-advance : goal.invariant_of-self-in_err-advance
 invariant_of-self-in_err-advance c =
-    subst (λ (rs : List Record). IsKept c.advance.new.arena rs c.self.inside.place) (sym c.reserve.ensures.items)
+    subst (λ (rs : List Record). IsKept c.advance.new.arena rs c.self.inside.place) (sym c.place_for_one.ensures.items)
     (kept_grown _ _ _ _ (subst (λ (s : Store). HasGrown s c.advance.new.arena) c.deref_mut.ensures.value c.in_err-advance.ensures.err) c.self.invariant)
 
 abbrev records : (c : goal.After-self-2-1) → c.push_reserved.new.self.items ≡ take c.self.inside.place c.self.inside.records.items ++ record { forward = c.args.op ∷ []; back = inverse c.self.inside.arena.value.model c.args.op ∷ [] } ∷ []
 records c =
     c.push_reserved.ensures.items
-    ∙ ap (λ (rs : List Record). rs ++ record { forward = c.one.result; back = c.one-2.result } ∷ []) (c.drop_ahead.ensures.items ∙ ap (take c.self.inside.place) c.reserve.ensures.items)
+    ∙ ap (λ (rs : List Record). rs ++ record { forward = c.one.result; back = c.one-2.result } ∷ []) (c.drop_ahead.ensures.items ∙ ap (take c.self.inside.place) c.place_for_one.ensures.items)
     ∙ ap (λ (ops : List Op). take c.self.inside.place c.self.inside.records.items ++ record { forward = ops; back = c.one-2.result } ∷ []) c.one.ensures
     ∙ ap (λ (ops : List Op). take c.self.inside.place c.self.inside.records.items ++ record { forward = c.args.op ∷ []; back = ops } ∷ []) (c.one-2.ensures ∙ ap (λ (op : Op). op ∷ []) (c.in_ok-advance.ensures.inverse ∙ ap (λ (s : Store). inverse s.model c.args.op) c.deref_mut.ensures.value))
 
