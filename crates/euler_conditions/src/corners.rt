@@ -73,13 +73,44 @@ fn vertex(arena: &Arena, corner: Corner) -> Result<u32, Refusal>
     }
 }
 
+/// Whether two corners are one.
+fn are_one(from: Corner, to: Corner) -> bool
+    ensures { result ≡ true → from ≡ to }
+{
+    match from {
+        Corner::At(g) => match to {
+            Corner::At(h) => halves::same(g, h),
+            Corner::Lone(_) => false,
+        },
+        Corner::Lone(l) => match to {
+            Corner::At(_) => false,
+            Corner::Lone(k) => l == k,
+        },
+    }
+}
+
+/// The vertex of a corner that is given twice, as `vertex` answers it.
+#[inline(always)]
+fn twice(arena: &Arena, corner: Corner) -> Result<(u32, u32), Refusal>
+    requires ready { IsReady arena.now }
+    requires known { (corner_known arena.now.model corner).holds ≡ true }
+    ensures { result ≡ answer (first_refusal (corner_lone arena.now.model corner ∷ [])) (corner_tail arena.now.model corner, corner_tail arena.now.model corner) }
+{
+    let both = vertex(arena, corner)?;
+    Ok((both, both))
+}
+
 /// The vertices of two corners that are there: their edges or loops are, and the loops of those without a half-edge are lone.
+/// A corner that is given twice is looked at once.
 #[inline(always)]
 pub(crate) fn vertices(arena: &Arena, from: Corner, to: Corner) -> Result<(u32, u32), Refusal>
     requires { IsReady arena.now }
     ensures { result ≡ answer (first_refusal (corner_known arena.now.model from ∷ corner_known arena.now.model to ∷ corner_lone arena.now.model from ∷ corner_lone arena.now.model to ∷ [])) (corner_tail arena.now.model from, corner_tail arena.now.model to) }
 {
     known(arena, from)?;
+    if are_one(from, to) {
+        return twice(arena, from);
+    }
     known(arena, to)?;
     let start = vertex(arena, from)?;
     let end = vertex(arena, to)?;
