@@ -70,7 +70,11 @@ pub(crate) fn make_edge_after(
 {
     put_edge(arena, half, start, end);
     arena.join_alone(last, half);
-    let other = if same(first, second) { half } else { arena.prev(second) };
+    let other = if same(first, second) {
+        half
+    } else {
+        arena.prev(second)
+    };
     arena.join_alone(other, half.mate());
 }
 
