@@ -1,4 +1,5 @@
 pub mod AsciiLaws
+pub mod AsciiWords
 pub mod LinesLaws
 pub mod LinesOf
 pub mod NameLaws

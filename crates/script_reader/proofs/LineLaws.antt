@@ -60,7 +60,7 @@ found_passes test (y ∷ ys) x e = elim (cases_Bool (test y)) [
 name_told : (w : Word) (n : Name) → name_of w ≡ Some n → w ≡ word_of n
 name_told w n e = (bytes_eq-Decides w (word_of n)).0 (found_passes (λ m. bytes_eq w (word_of m)) names n e)
 
-spelled_name : (n : Name) → name_of (word_of n) ≡ Some n
+pub spelled_name : (n : Name) → name_of (word_of n) ≡ Some n
 spelled_name name.Mvfs = refl
 spelled_name name.Kvfs = refl
 spelled_name name.Mev = refl
@@ -133,7 +133,7 @@ err_arguments n ws f h = err_all (kinds_of n) (build n) ws f h
 
 -- ---- the words of a line
 
-words_ok : (ws : List Word) (d : Command) → command_of_words ws ≡ Ok d → WordsSpell ws d
+pub words_ok : (ws : List Word) (d : Command) → command_of_words ws ≡ Ok d → WordsSpell ws d
 words_ok [] d e = cc e
 words_ok (w ∷ ws) d e = elim (cases_Bool (is_comment w)) [
   | inl is ↦ let same : d ≡ Nothing = cc (rw is at e) in inl (comment_told w is, same)
@@ -186,14 +186,14 @@ err_words (w ∷ ws) f h = elim h.1 [
 
 -- ---- a line
 
-ascii_told : (line : List ℕ) → is_ascii line ≡ true → IsAscii line
+pub ascii_told : (line : List ℕ) → is_ascii line ≡ true → IsAscii line
 ascii_told [] e = tt
 ascii_told (b ∷ line) e = elim (cases_Bool (nat_lt b 128)) [
   | inl low ↦ (grind (arith, nat_tests, low), ascii_told line (rw low at e))
   | inr high ↦ absurd (cc (rw high at e))
 ]
 
-told_ascii : (line : List ℕ) → IsAscii line → is_ascii line ≡ true
+pub told_ascii : (line : List ℕ) → IsAscii line → is_ascii line ≡ true
 told_ascii [] h = refl
 told_ascii (b ∷ line) h = let low : nat_lt b 128 ≡ true = grind (arith, nat_tests, h.0) in rw (low, told_ascii line h.1) refl
 

@@ -26,6 +26,6 @@ pub use command::{Command, Fault};
 pub use laws::{
     lines_and_words_are_parts, lines_come_in_order, reading_is_spelling, the_end_stays,
 };
-pub use line::read_line;
+pub use line::{is_ascii, is_long, read_line, read_words};
 pub use lines::{Found, Lines, NextLine};
 pub use polygon::{Corners, Polygon};

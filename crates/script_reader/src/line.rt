@@ -1,7 +1,7 @@
 //! Reads a line.
-ghost use Rattle.std.specs.Prelude.{◌≡◌};
+ghost use Rattle.std.specs.Prelude.{◌≡◌, nat_lt, length};
 ghost use Rattle.script_reader.specs.Words.{words};
-ghost use Rattle.script_reader.specs.Grammar.{is_comment, command_of_words, command_of};
+ghost use Rattle.script_reader.specs.Grammar.{is_ascii, is_comment, command_of_words, command_of};
 
 use super::buffer::LINE_LIMIT;
 use super::command::{Command, Fault};
@@ -15,7 +15,9 @@ fn is_comment(word: &[u8]) -> bool
     matches!(word, [b'#', ..])
 }
 
-fn read_words(line: &[u8]) -> Result<Command<'_>, Fault>
+/// What the words of a line say, whatever its length and its other bytes. A command that does something is what `read_line` says of a line within
+/// the limit, since each of its bytes belongs to a word that was read, or separates two.
+pub fn read_words(line: &[u8]) -> Result<Command<'_>, Fault>
     ensures { result ≡ command_of_words (words line.now) }
 {
     let Some((word, rest)) = next_word(line) else {
@@ -28,15 +30,30 @@ fn read_words(line: &[u8]) -> Result<Command<'_>, Fault>
     arguments(name, rest)
 }
 
-/// The command of a line, which is given without its newline, or the line's first fault. It takes no memory.
+/// Whether a line is past the limit.
+pub fn is_long(line: &[u8]) -> bool
+    ensures { result ≡ nat_lt 65536 (length line.now) }
+{
+    line.len() > LINE_LIMIT
+}
+
+/// Whether each byte of a line is below 128.
+#[inline(never)]
 #[tactic(auto, using(crate::proofs::AsciiLaws::ascii_is))]
+pub fn is_ascii(line: &[u8]) -> bool
+    ensures { result ≡ is_ascii line.now }
+{
+    line.is_ascii()
+}
+
+/// The command of a line, which is given without its newline, or the line's first fault. It takes no memory.
 pub fn read_line(line: &[u8]) -> Result<Command<'_>, Fault>
     ensures { result ≡ command_of line.now }
 {
-    if line.len() > LINE_LIMIT {
+    if is_long(line) {
         return Err(Fault::LongLine);
     }
-    if !line.is_ascii() {
+    if !is_ascii(line) {
         return Err(Fault::NotAscii);
     }
     read_words(line)

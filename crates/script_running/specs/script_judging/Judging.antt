@@ -32,6 +32,9 @@ done = Told reply.Done
 abbrev pub refused : Refusal → Answer
 refused r = Told (reply.Refused (refusal.code_of r.why) r.number)
 
+abbrev pub faulty : Fault → Answer
+faulty f = Told (reply.Fault (fault.code_of f))
+
 -- what a command is answered that ended so
 abbrev pub outcome : Result (Unit {0}) Failure → Answer
 outcome (Ok _) = done
@@ -98,7 +101,7 @@ Obeys s command.List a t = (a ≡ Listing) × (t ≡ s)
 -- the command that a line spells is obeyed, and a line with a fault is told it
 abbrev pub Answers : Machine → Result Command Fault → Answer → Machine → Type 0
 Answers s (Ok c) a t = Obeys s c a t
-Answers s (Err f) a t = (a ≡ Told (reply.Fault (fault.code_of f))) × (t ≡ s)
+Answers s (Err f) a t = (a ≡ faulty f) × (t ≡ s)
 
 -- from s the machine may answer a line so, and go on to t
 abbrev pub Judges : Machine → List ℕ → Answer → Machine → Type 0

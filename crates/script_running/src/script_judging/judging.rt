@@ -1,15 +1,16 @@
 //! What a line is answered.
-ghost use Rattle.std.specs.Prelude.{◌≡◌, ◌<◌, ◌≤◌, Some};
+ghost use Rattle.std.specs.Prelude.{◌≡◌, ◌<◌, ◌≤◌, cond, Some};
 ghost use Rattle.euler_conditions.specs.Ready.{IsReady};
-ghost use Rattle.script_running.specs.script_judging.Judging.{refused, outcome, told, plane_reply, volume_reply, count_reply, StaysUnlessDone, Moves, Acts, complains, one_line, counted};
-ghost use Rattle.script_running.specs.script_judging.Settling.{Settles, Decides, StaysTillDone};
+ghost use Rattle.script_running.specs.script_judging.Judging.{refused, faulty, outcome, told, plane_reply, volume_reply, count_reply, StaysUnlessDone, Moves, Acts, complains, one_line, counted};
+ghost use Rattle.script_running.specs.script_judging.Settling.{SettlesLine, Decides, StaysTillDone};
+ghost use Rattle.script_reader.specs.Grammar.{is_ascii};
 ghost use Rattle.script_running.specs.Outs.{is_clean};
 ghost use Rattle.undo_journal.specs.Machine as machine;
 
 use crate::script_judging::larger::Larger;
 use euler_conditions::Arena;
 use euler_operators::{Op, Point, Refusal};
-use script_reader::{Command, Polygon, read_line};
+use script_reader::{Command, Fault, Polygon, is_ascii, is_long, read_words};
 use solid_listing::{Reply, WriteFault};
 use solid_measure::{counts, is_flat, plane, six_volume};
 use undo_journal::{Failure, Session};
@@ -238,13 +239,50 @@ fn later_split<'a>(solid: u32, plane: [i64; 4], above: u32) -> Option<Larger<'a>
     Some(Larger::Split(solid, plane, above))
 }
 
-/// Answers a command, or gives back the larger one that it is.
-fn obey<'a>(session: &mut Session, command: Command<'a>, answer: &mut Answer) -> Option<Larger<'a>>
-    ensures settled { Settles session.old.machine command.entry result answer.new session.new.machine }
+/// Answers a line with this fault. The rooms for answers are here and in the next ones, so that no other line pays for them.
+#[inline(never)]
+fn tell_fault(fault: Fault, answer: &mut Answer)
+    ensures { answer.new ≡ faulty fault }
+{
+    *answer = Answer::Reply(Reply::Fault(fault.code()));
+}
+
+/// Answers a line within the limit of whose words this is the first fault: it is told, or that the line isn't ASCII.
+#[inline(never)]
+fn tell_first_fault(line: &[u8], fault: Fault, answer: &mut Answer)
+    ensures { answer.new ≡ cond (is_ascii line.now) (faulty fault) (faulty Fault.NotAscii) }
+{
+    if is_ascii(line) {
+        tell_fault(fault, answer);
+    } else {
+        tell_fault(Fault::NotAscii, answer);
+    }
+}
+
+/// Answers a line within the limit whose words ask for nothing: it has no reply, or is told that it isn't ASCII.
+#[inline(never)]
+fn tell_nothing(line: &[u8], answer: &mut Answer)
+    ensures { answer.new ≡ cond (is_ascii line.now) Answer.Silent (faulty Fault.NotAscii) }
+{
+    if is_ascii(line) {
+        *answer = Answer::Silent;
+    } else {
+        tell_fault(Fault::NotAscii, answer);
+    }
+}
+
+/// Answers a line within the limit whose words spell this command, or gives back the larger one that it is.
+fn obey<'a>(
+    session: &mut Session,
+    line: &'a [u8],
+    command: Command<'a>,
+    answer: &mut Answer,
+) -> Option<Larger<'a>>
+    ensures settled { SettlesLine session.old.machine line.now command.entry result answer.new session.new.machine }
     ensures kept { StaysTillDone result answer.new session.old session.new }
 {
     match command {
-        Command::Nothing => *answer = Answer::Silent,
+        Command::Nothing => tell_nothing(line, answer),
         Command::Act(op) => act(session, op, answer),
         Command::Plane(face) => answer_plane(session.arena(), face, answer),
         Command::Volume(solid) => answer_volume(session.arena(), solid, answer),
@@ -265,14 +303,21 @@ fn obey<'a>(session: &mut Session, command: Command<'a>, answer: &mut Answer) ->
 
 /// Judges a line: its answer is put where it is kept, since it has the size of a plane; a larger command that the line spells is given back.
 /// Where the answer is not `ok`, or there is none yet, the session is as it was.
+///
+/// A line that spells a command is read once. Only one that spells none is looked at again, for a byte that isn't ASCII.
+#[tactic(auto, using(crate::proofs::script_judging_laws::Decided::decides))]
 pub fn judge<'a>(session: &mut Session, line: &'a [u8], answer: &mut Answer) -> Option<Larger<'a>>
     ensures answered { Decides session.old.machine line.now result answer.new session.new.machine }
     ensures kept { StaysTillDone result answer.new session.old session.new }
 {
-    match read_line(line) {
-        Ok(command) => obey(session, command, answer),
+    if is_long(line) {
+        tell_fault(Fault::LongLine, answer);
+        return None;
+    }
+    match read_words(line) {
+        Ok(command) => obey(session, line, command, answer),
         Err(fault) => {
-            *answer = Answer::Reply(Reply::Fault(fault.code()));
+            tell_first_fault(line, fault, answer);
             None
         }
     }
