@@ -22,17 +22,19 @@ pub struct Pair {
     pub down: HalfEdge,
 }
 
-/// A face that straddles the plane, and the pairs of its cut places, each with its up place first, in the order of their points.
-#[derive(Drop)]
-pub struct FacePairs {
+/// A face that straddles the plane, and how many pairs its cut places make.
+#[derive(Clone, Copy)]
+pub struct PairedFace {
     pub face: u32,
-    pub pairs: Vec<Pair>,
+    pub pairs: usize,
 }
 
-/// What a plane cuts of a solid: the edges that cross it, rising, each with the point at which it meets it, and the faces that straddle
-/// it, rising, each with the pairs of its cut places.
+/// What a plane cuts of a solid: the edges that cross it, rising, each with the point at which it meets it; the faces that straddle it,
+/// rising; and the pairs of their cut places, one face after the other, each pair with its up place first, those of a face in the order
+/// of their points.
 #[derive(Drop)]
 pub struct Cuts {
     pub edges: Vec<CutEdge>,
-    pub faces: Vec<FacePairs>,
+    pub faces: Vec<PairedFace>,
+    pub pairs: Vec<Pair>,
 }

@@ -9,11 +9,11 @@
 //! From a ready arena and a plane in range: whether a solid has vertices above the plane and below it, the faces that straddle the
 //! plane, rising, with word on which it touches and which it cuts too often, the edges that cross it, rising, the cut places of the
 //! faces that straddle, or `AllocError`. `in_order`: exactly the given cut places in the order of their points, or none where two
-//! points are equal, or `AllocError`. `pairs_of_places`: the pairs of some cut places in that order, the up place first, or none
-//! where two points are equal or a pair isn't one up and one down, or `AllocError`. `check_begin`: the first
-//! false one of the conditions with which a split begins, with its value; or none, and then exactly what the plane cuts of the
-//! solid: the edges that cross it, rising, each with the point at which it meets it, and the faces that straddle it, rising, each
-//! with the pairs of its cut places; or `AllocError`.
+//! points are equal, or `AllocError`. `push_pairs` appends the pairs of some cut places in that order, the up place first, or
+//! tells that two points are equal or a pair isn't one up and one down, or `AllocError`. `check_begin`: the first false one of the
+//! conditions with which a split begins, with its value; or none, and then exactly what the plane cuts of the solid: the edges that
+//! cross it, rising, each with the point at which it meets it; the faces that straddle it, rising, each with how many pairs of cut
+//! places it has; and these pairs, one face after the other; or `AllocError`.
 #![tactic(auto)]
 
 mod begin_checks;
@@ -25,6 +25,6 @@ mod progress;
 
 pub use begin_checks::check_begin;
 pub use cut_places::{loop_reaches, reaches, starts_on};
-pub use cuts::{CutEdge, Cuts, FacePairs, Pair};
+pub use cuts::{CutEdge, Cuts, Pair, PairedFace};
 pub use progress::Progress;
 pub use solid_measure::{Vector, half_added, normal};

@@ -63,7 +63,7 @@ module _ (M : Model) (p : Plane) where
     tail_is : {A : Type 0} (x y : A) (xs ys : List A) → x ∷ xs ≡ y ∷ ys → xs ≡ ys
     tail_is x y xs ys e = cc
 
-    many : q.places ≡ length (places M p q.face)
+    pub many : q.places ≡ length (places M p q.face)
     many = ap (λ (r : FaceMet). r.places) (head_is q (face_met M p q.face) qs (map (face_met M p) (faces_in qs)) t.told)
 
     pub enough : q.places ≤ length hs

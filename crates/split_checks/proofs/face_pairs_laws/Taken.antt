@@ -1,5 +1,5 @@
 -- Places that are taken two by two.
-use Rattle.std.proofs.Common.{◌≡◌, ℕ, ◌<◌, Bool, ◌&&◌, not, List, [], ◌∷◌, ◌++◌, map, length, refl, sym, ap, ◌∙◌, arith, true, false, true≢false, Option, Some, IfSome, subst}
+use Rattle.std.proofs.Common.{◌≡◌, ℕ, ◌<◌, Bool, ◌&&◌, not, List, [], ◌∷◌, ◌++◌, map, length, refl, sym, ap, ◌∙◌, arith, true, false, true≢false, subst}
 use Rattle.std.specs.List.{list_all}
 use Rattle.std.proofs.lemmas.List.{append-nil}
 use Rattle.euler_operators.specs.declared.Plane.{Plane}
@@ -20,10 +20,6 @@ last_alone M p made all es more e is none done =
 pub none_left : {X : Type 0} (es : List X) (n : ℕ) → n ≡ length es → (0 < n → false ≡ true) → es ≡ []
 none_left [] n e some = refl
 none_left (x ∷ xs) n e some = absurd (true≢false (sym (some (omega (arith, e)))))
-
--- what holds of what is there
-pub at_present : {X : Type 0} (o : Option X) (x : X) (P : X → Type 0) → o ≡ Some x → IfSome o P → P x
-at_present o x P e h = subst (λ y. IfSome y P) e h
 
 -- the first two items of a list
 pub two_taken : {X : Type 0} (xs more left : List X) (a b : X) → xs ≡ a ∷ more → more ≡ b ∷ left → xs ≡ a ∷ b ∷ left

@@ -4,7 +4,7 @@ ghost use Rattle.euler_operators.specs.HalfEdge.{code};
 ghost use Rattle.euler_conditions.specs.Ready.{IsReady};
 ghost use Rattle.euler_operators.specs.Conditions.{first_refusal, verdict};
 ghost use Rattle.euler_operators.specs.Ranges.{IsCutPlane};
-ghost use Rattle.split_checks.specs.Cuts.{AreCuts, all_place_pairs, paired};
+ghost use Rattle.split_checks.specs.Cuts.{AreCuts, all_pairs, codes, paired_face};
 ghost use Rattle.split_checks.specs.begin_checks.Conditions.{face_conditions, number_conditions, sectioning_conditions, solid_conditions};
 ghost use Rattle.split_checks.specs.cut_places.Meetings.{AreTold, IsSolidMet, faces_in};
 ghost use Rattle.split_checks.specs.cut_places.Places.{AreFacesAlong};
@@ -14,10 +14,10 @@ ghost use Rattle.shapes.specs.split.Split.{cut_conditions, first_conditions};
 
 use crate::begin_checks::crossings::cut_edges;
 use crate::begin_checks::flaws::{Flaw, first_flawed};
-use crate::begin_checks::numbers::{TOO_MANY, check_left, pair_count};
+use crate::begin_checks::numbers::{TOO_MANY, check_left};
 use crate::begin_checks::planes::check_plane;
 use crate::cut_places::{FaceMet, Met, rising_meeting};
-use crate::cuts::{Crossings, Cuts, FacePairs};
+use crate::cuts::{Crossings, Cuts, Pair, PairedFace};
 use crate::face_pairs::pairs_of_faces;
 use euler_conditions::Arena;
 use euler_operators::{HalfEdge, Kind, Plane, Refusal, Why, is_number, refused};
@@ -72,7 +72,7 @@ fn is_met(met: &Met) -> bool
     met.above && met.below
 }
 
-/// The faces, which straddle the plane, each with the pairs of its cut places, where they can be cut.
+/// The faces, which straddle the plane, and the pairs of their cut places, one face after the other, where they can be cut.
 fn check_faces(
     alloc: Global,
     arena: &Arena,
@@ -80,14 +80,15 @@ fn check_faces(
     crossings: Crossings<'_>,
     faces: &[FaceMet],
     places: &[HalfEdge],
-) -> Result<Result<Vec<FacePairs>, Refusal>, AllocError>
+) -> Result<Result<(Vec<PairedFace>, Vec<Pair>), Refusal>, AllocError>
     requires ready { IsReady arena.now }
     requires plane { IsCutPlane plane }
     requires crossings { AreCrossings arena.now.model plane crossings.edges.now crossings.cut.now }
     requires whole { AreFacesAlong arena.now.model plane crossings.edges.now (faces_in faces.now) }
     requires told { AreTold arena.now.model plane faces.now (map code places.now) }
     ensures accepted { IfOk result (λ checked. IfOk checked (λ _. first_refusal (face_conditions arena.now.model plane (faces_in faces.now)) ≡ None)) }
-    ensures paired { IfOk result (λ checked. IfOk checked (λ pairs. map paired pairs.items ≡ all_place_pairs arena.now.model plane (faces_in faces.now))) }
+    ensures faces { IfOk result (λ checked. IfOk checked (λ paired. paired.0.items ≡ map (paired_face arena.now.model plane) (faces_in faces.now))) }
+    ensures pairs { IfOk result (λ checked. IfOk checked (λ paired. map codes paired.1.items ≡ all_pairs arena.now.model plane (faces_in faces.now))) }
     ensures refused { IfOk result (λ checked. IfErr checked (λ refusal. first_refusal (face_conditions arena.now.model plane (faces_in faces.now)) ≡ Some refusal)) }
 {
     if let Some(f) = first_flawed(Flaw::Touched, faces) {
@@ -97,7 +98,7 @@ fn check_faces(
         return Ok(Err(refusal(Why::CutOften, f)));
     }
     match pairs_of_faces(alloc, arena, plane, crossings, faces, places)? {
-        Ok(pairs) => Ok(Ok(pairs)),
+        Ok(paired) => Ok(Ok(paired)),
         Err(f) => Ok(Err(refusal(Why::CutCrossed, f))),
     }
 }
@@ -128,13 +129,16 @@ fn check_cuts(
     };
     let places = met.looked.places.as_slice();
     let straddling = met.faces.as_slice();
-    let faces = match check_faces(alloc, arena, plane, crossings, straddling, places)? {
-        Ok(faces) => faces,
+    let (faces, pairs) = match check_faces(alloc, arena, plane, crossings, straddling, places)? {
+        Ok(paired) => paired,
         Err(refusal) => return Ok(Err(refusal)),
     };
-    let pairs = pair_count(faces.as_slice());
-    match check_left(arena, edges.len().min(TOO_MANY), pairs) {
-        Ok(()) => Ok(Ok(Cuts { edges: cut, faces })),
+    match check_left(arena, edges.len().min(TOO_MANY), pairs.len().min(TOO_MANY)) {
+        Ok(()) => Ok(Ok(Cuts {
+            edges: cut,
+            faces,
+            pairs,
+        })),
         Err(refusal) => Ok(Err(refusal)),
     }
 }

@@ -5,20 +5,20 @@ ghost use Rattle.euler_operators.specs.Ranges.{IsCutPlane};
 ghost use Rattle.euler_conditions.specs.Ready.{IsReady};
 ghost use Rattle.shapes.specs.Fresh.{first_such};
 ghost use Rattle.shapes.specs.split.Places.{is_crossed};
-ghost use Rattle.split_checks.specs.Cuts.{all_place_pairs, paired};
+ghost use Rattle.split_checks.specs.Cuts.{all_pairs, codes, paired_face};
 ghost use Rattle.split_checks.specs.cut_places.Meetings.{AreTold, faces_in};
 ghost use Rattle.split_checks.specs.cut_places.Places.{AreFacesAlong};
 ghost use Rattle.split_checks.specs.place_order.Order.{AreCrossings};
 
 use crate::cut_places::FaceMet;
-use crate::cuts::{Crossings, FacePairs};
-use crate::face_pairs::pairs::pairs_of_places;
+use crate::cuts::{Crossings, Pair, PairedFace};
+use crate::face_pairs::pairs::push_pairs;
 use euler_conditions::Arena;
 use euler_operators::{HalfEdge, Plane};
 use std::alloc::{AllocError, Global};
 
-/// The faces, of which these are the cut places one face after the other, each with the pairs of its places; or the first of them that has two cut places at one point, or a pair that isn't
-/// one up and one down.
+/// The faces, of which these are the cut places one face after the other, and the pairs of their places, one face after the other; or the
+/// first of them that has two cut places at one point, or a pair that isn't one up and one down.
 pub(crate) fn pairs_of_faces(
     alloc: Global,
     arena: &Arena,
@@ -26,31 +26,33 @@ pub(crate) fn pairs_of_faces(
     crossings: Crossings<'_>,
     faces: &[FaceMet],
     places: &[HalfEdge],
-) -> Result<Result<Vec<FacePairs>, u32>, AllocError>
+) -> Result<Result<(Vec<PairedFace>, Vec<Pair>), u32>, AllocError>
     requires ready { IsReady arena.now }
     requires plane { IsCutPlane plane }
     requires crossings { AreCrossings arena.now.model plane crossings.edges.now crossings.cut.now }
     requires whole { AreFacesAlong arena.now.model plane crossings.edges.now (faces_in faces.now) }
     requires told { AreTold arena.now.model plane faces.now (map code places.now) }
     ensures uncrossed { IfOk result (λ found. IfOk found (λ _. first_such (is_crossed arena.now.model plane) (faces_in faces.now) ≡ None)) }
-    ensures paired { IfOk result (λ found. IfOk found (λ pairs. map paired pairs.items ≡ all_place_pairs arena.now.model plane (faces_in faces.now))) }
+    ensures faces { IfOk result (λ found. IfOk found (λ paired. paired.0.items ≡ map (paired_face arena.now.model plane) (faces_in faces.now))) }
+    ensures pairs { IfOk result (λ found. IfOk found (λ paired. map codes paired.1.items ≡ all_pairs arena.now.model plane (faces_in faces.now))) }
     ensures crossed { IfOk result (λ found. IfErr found (λ f. first_such (is_crossed arena.now.model plane) (faces_in faces.now) ≡ Some f)) }
 {
     let mut found = Vec::new(alloc);
+    let mut pairs = Vec::new(alloc);
     let mut rest = faces;
     let mut left = places;
     'faces: while let [met, others @ ..] = rest {
         let (mine, more) = left.split_at(met.places);
-        let made = pairs_of_places(alloc, arena, plane, crossings, mine)?;
-        match made {
-            Some(pairs) => found.push(FacePairs {
-                face: met.face,
-                pairs,
-            })?,
-            None => return Ok(Err(met.face)),
+        let are_paired = push_pairs(alloc, arena, plane, crossings, mine, &mut pairs)?;
+        if !are_paired {
+            return Ok(Err(met.face));
         }
+        found.push(PairedFace {
+            face: met.face,
+            pairs: met.places / 2,
+        })?;
         rest = others;
         left = more;
     }
-    Ok(Ok(found))
+    Ok(Ok((found, pairs)))
 }

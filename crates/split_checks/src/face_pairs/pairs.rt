@@ -1,5 +1,5 @@
 //! The pairs of the cut places of one face.
-ghost use Rattle.std.specs.Prelude.{◌≡◌, ◌||◌, ◌∷◌, [], true, not, is_none, is_some, map, IfOk, IfSome};
+ghost use Rattle.std.specs.Prelude.{◌≡◌, ◌||◌, ◌∷◌, ◌++◌, [], true, not, is_none, is_some, map, Ok, IfOk, IfSome};
 ghost use Rattle.std.specs.List.{list_all};
 ghost use Rattle.euler_operators.specs.HalfEdge.{code};
 ghost use Rattle.euler_operators.specs.Model.{has_half};
@@ -43,81 +43,100 @@ fn up_and_down(arena: &Arena, plane: Plane, first: HalfEdge, second: HalfEdge) -
 /// The pair of two cut places, the only ones of a face, whose order needn't be known; none where they have equal points or aren't one
 /// up and one down.
 fn only_pair(
-    alloc: Global,
     arena: &Arena,
     plane: Plane,
     crossings: Crossings<'_>,
     first: HalfEdge,
     second: HalfEdge,
-) -> Result<Option<Vec<Pair>>, AllocError>
+) -> Option<Pair>
     requires ready { IsReady arena.now }
     requires plane { IsCutPlane plane }
     requires crossings { AreCrossings arena.now.model plane crossings.edges.now crossings.cut.now }
     requires first { IsPlaceAlong arena.now.model plane crossings.edges.now (code first) }
     requires second { IsPlaceAlong arena.now.model plane crossings.edges.now (code second) }
-    ensures crossed { IfOk result (λ found. is_none found ≡ same_point (place_point arena.now.model plane (code first)) (place_point arena.now.model plane (code second)) || not (is_up_and_down arena.now.model plane (code first, code second))) }
-    ensures pairs { IfOk result (λ found. IfSome found (λ pairs. map codes pairs.items ≡ map (up_first arena.now.model plane) (in_pairs (sorted arena.now.model plane (code first ∷ code second ∷ []))))) }
+    ensures crossed { is_none result ≡ same_point (place_point arena.now.model plane (code first)) (place_point arena.now.model plane (code second)) || not (is_up_and_down arena.now.model plane (code first, code second)) }
+    ensures pair { IfSome result (λ pair. codes pair ∷ [] ≡ map (up_first arena.now.model plane) (in_pairs (sorted arena.now.model plane (code first ∷ code second ∷ [])))) }
 {
     let met = place_point(arena, plane, crossings, first);
     if met == place_point(arena, plane, crossings, second) {
-        return Ok(None);
+        return None;
     }
-    let Some(pair) = up_and_down(arena, plane, first, second) else {
-        return Ok(None);
-    };
-    let mut pairs = Vec::new(alloc);
-    pairs.push(pair)?;
-    Ok(Some(pairs))
+    up_and_down(arena, plane, first, second)
 }
 
-/// Places two by two, in their order, each pair with its up place first; none where a pair isn't one up and one down.
-fn pairs_in_order(
-    alloc: Global,
+/// Adds the pair of two cut places, the only ones of a face, where they are in pairs. It tells whether they are.
+fn push_only_pair(
+    arena: &Arena,
+    plane: Plane,
+    crossings: Crossings<'_>,
+    first: HalfEdge,
+    second: HalfEdge,
+    pairs: &mut Vec<Pair>,
+) -> Result<bool, AllocError>
+    requires ready { IsReady arena.now }
+    requires plane { IsCutPlane plane }
+    requires crossings { AreCrossings arena.now.model plane crossings.edges.now crossings.cut.now }
+    requires first { IsPlaceAlong arena.now.model plane crossings.edges.now (code first) }
+    requires second { IsPlaceAlong arena.now.model plane crossings.edges.now (code second) }
+    ensures crossed { IfOk result (λ paired. not paired ≡ same_point (place_point arena.now.model plane (code first)) (place_point arena.now.model plane (code second)) || not (is_up_and_down arena.now.model plane (code first, code second))) }
+    ensures pairs { (result ≡ Ok true) → (map codes pairs.new.items ≡ map codes pairs.old.items ++ map (up_first arena.now.model plane) (in_pairs (sorted arena.now.model plane (code first ∷ code second ∷ [])))) }
+{
+    let Some(pair) = only_pair(arena, plane, crossings, first, second) else {
+        return Ok(false);
+    };
+    pairs.push(pair)?;
+    Ok(true)
+}
+
+/// Adds places two by two, in their order, each pair with its up place first. It tells whether each pair is one up and one down.
+fn push_in_order(
     arena: &Arena,
     plane: Plane,
     order: Places,
-) -> Result<Option<Vec<Pair>>, AllocError>
+    pairs: &mut Vec<Pair>,
+) -> Result<bool, AllocError>
     requires ready { IsReady arena.now }
     requires plane { IsCutPlane plane }
     requires there { AreThere arena.now.model (places_of order.entries) }
-    ensures crossed { IfOk result (λ found. is_none found ≡ not (list_all (is_up_and_down arena.now.model plane) (in_pairs (places_of order.entries)))) }
-    ensures pairs { IfOk result (λ found. IfSome found (λ pairs. map codes pairs.items ≡ map (up_first arena.now.model plane) (in_pairs (places_of order.entries)))) }
+    ensures crossed { IfOk result (λ paired. not paired ≡ not (list_all (is_up_and_down arena.now.model plane) (in_pairs (places_of order.entries)))) }
+    ensures pairs { (result ≡ Ok true) → (map codes pairs.new.items ≡ map codes pairs.old.items ++ map (up_first arena.now.model plane) (in_pairs (places_of order.entries))) }
 {
-    let mut pairs = Vec::new(alloc);
     let mut left = order;
     'pairs: while let Some((_, first)) = left.pop_first() {
         let Some((_, second)) = left.pop_first() else {
-            return Ok(Some(pairs));
+            return Ok(true);
         };
         let Some(pair) = up_and_down(arena, plane, first, second) else {
-            return Ok(None);
+            return Ok(false);
         };
         pairs.push(pair)?;
     }
-    Ok(Some(pairs))
+    Ok(true)
 }
 
-/// The pairs of the cut places of a face, each with its up place first, in the order of their points; none where two places have equal
-/// points, or a pair isn't one up and one down. Of two places the points are compared, but not put in order.
-pub(crate) fn pairs_of_places(
+/// Adds the pairs of the cut places of a face, each with its up place first, in the order of their points. It tells whether they are in
+/// pairs: no two places have equal points, and each pair is one up and one down. Of two places the points are compared, but not put in
+/// order.
+pub(crate) fn push_pairs(
     alloc: Global,
     arena: &Arena,
     plane: Plane,
     crossings: Crossings<'_>,
     places: &[HalfEdge],
-) -> Result<Option<Vec<Pair>>, AllocError>
+    pairs: &mut Vec<Pair>,
+) -> Result<bool, AllocError>
     requires ready { IsReady arena.now }
     requires plane { IsCutPlane plane }
     requires crossings { AreCrossings arena.now.model plane crossings.edges.now crossings.cut.now }
     requires whole { ArePlacesAlong arena.now.model plane crossings.edges.now (map code places.now) }
-    ensures crossed { IfOk result (λ found. is_none found ≡ are_crossed arena.now.model plane (map code places.now)) }
-    ensures pairs { IfOk result (λ found. IfSome found (λ pairs. map codes pairs.items ≡ map (up_first arena.now.model plane) (in_pairs (sorted arena.now.model plane (map code places.now))))) }
+    ensures crossed { IfOk result (λ paired. not paired ≡ are_crossed arena.now.model plane (map code places.now)) }
+    ensures pairs { (result ≡ Ok true) → (map codes pairs.new.items ≡ map codes pairs.old.items ++ map (up_first arena.now.model plane) (in_pairs (sorted arena.now.model plane (map code places.now)))) }
 {
     if let [first, second] = places {
-        return only_pair(alloc, arena, plane, crossings, *first, *second);
+        return push_only_pair(arena, plane, crossings, *first, *second, pairs);
     }
     match in_order(alloc, arena, plane, crossings, places)? {
-        Some(order) => pairs_in_order(alloc, arena, plane, order),
-        None => Ok(None),
+        Some(order) => push_in_order(arena, plane, order, pairs),
+        None => Ok(false),
     }
 }

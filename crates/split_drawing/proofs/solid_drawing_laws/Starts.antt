@@ -1,5 +1,6 @@
 -- The cut places of the faces that straddle, in pairs, once the edges that cross the plane are cut.
-use Rattle.std.proofs.Common.{◌≡◌, ℕ, Bool, true, false, cond, List, [], ◌∷◌, map, refl, arith}
+use Rattle.std.proofs.Common.{◌≡◌, ℕ, ◌+◌, Bool, true, false, cond, List, [], ◌∷◌, ◌++◌, length, map, refl, sym, ap, ◌∙◌, arith}
+use Rattle.std.proofs.lemmas.List.{length-append, length-map, map-append, take_at, drop_at}
 use Rattle.euler_operators.specs.declared.Plane.{Plane}
 use Rattle.euler_operators.specs.Items.{IsIn}
 use Rattle.euler_operators.proofs.Lists.{tick_same}
@@ -8,12 +9,13 @@ use Rattle.euler_operators.specs.Sound.{Sound, HasHalf}
 use Rattle.shapes.proofs.walks.FaceLoops.{items_there}
 use Rattle.shapes.specs.Faces.{loops_of, boundary}
 use Rattle.shapes.specs.split.Places.{is_place, places, goes_up, sorted, in_pairs, sorted_pairs, up_first, place_pairs}
-use Rattle.shapes.specs.split.Drawing.{drawn_pairs, all_pairs}
+use Rattle.shapes.specs.split.Drawing.{FacePairs, drawn_pairs, all_pairs}
 use Rattle.split_drawing_laws.specs.crossings.Kept.{Kept}
 use Rattle.split_drawing_laws.proofs.pairs.Sorted.{count-sorted}
 use Rattle.split_checks.proofs.cut_places_laws.Lists.{of_picked}
-use Rattle.split_checks.specs.Cuts.{all_place_pairs}
-use Rattle.split_drawing.specs.solid_drawing.Starts.{PairsThere, FacesThere, pairs_started, faces_started}
+use Rattle.split_checks.specs.Cuts as split_checks
+use Rattle.split_checks.specs.Cuts.{how_many_pairs, paired, paired_face}
+use Rattle.split_drawing.specs.solid_drawing.Starts.{PairsThere, pair_started, pairs_started}
 
 module _ (M N : Model) (p : Plane) where
   -- what starts at the pairs of a face's cut places are the pairs between which edges are drawn
@@ -21,9 +23,16 @@ module _ (M N : Model) (p : Plane) where
   unfolding drawn_pairs
   pairs_are f = refl
 
-  pub started_are : (fs : List ℕ) → faces_started N p (all_place_pairs M p fs) ≡ all_pairs M N p fs
+  -- each face takes what starts at its own
+  pub started_are : (fs : List ℕ) → paired (map (paired_face M p) fs) (pairs_started N p (split_checks.all_pairs M p fs)) ≡ all_pairs M N p fs
   started_are [] = refl
-  started_are (f ∷ fs) = λ i. record { face = f; pairs = pairs_are f i } ∷ started_are fs i
+  started_are (f ∷ fs) =
+      let n = length (place_pairs M p f) in let mine = pairs_started N p (place_pairs M p f) in let rest = pairs_started N p (split_checks.all_pairs M p fs) in
+      let both : pairs_started N p (split_checks.all_pairs M p (f ∷ fs)) ≡ mine ++ rest = map-append (pair_started N p) (place_pairs M p f) (split_checks.all_pairs M p fs) in
+      let many : length mine ≡ n = length-map (place_pairs M p f) (pair_started N p) in
+      ap (λ (qs : List (ℕ × ℕ)). paired (map (paired_face M p) (f ∷ fs)) qs) both
+      ∙ (λ i. record { face = f; pairs = (take_at mine rest n many ∙ pairs_are f) i } ∷ paired (map (paired_face M p) fs) (drop_at mine rest n many i))
+      ∙ ap (λ (gs : List FacePairs). record { face = f; pairs = drawn_pairs M N p f } ∷ gs) (started_are fs)
 
   either_there : (b : Bool) (h k : ℕ) (qs : List (ℕ × ℕ)) → HasHalf N h → HasHalf N k → PairsThere N qs → PairsThere N (cond b (h, k) (k, h) ∷ qs)
   either_there true h k qs a c r = (a, c, r)
@@ -44,6 +53,15 @@ module _ (M N : Model) (p : Plane) where
     unfolding place_pairs sorted_pairs
     pairs_there = paired_there (sorted M p (places M p f)) (λ h i. place_there h (omega (arith, i, count-sorted M p h (places M p f))))
 
-  pub faces_there : Sound M → Kept M N → (fs : List ℕ) → FacesThere N (all_place_pairs M p fs)
-  faces_there sound kept [] = tt
-  faces_there sound kept (f ∷ fs) = (pairs_there sound kept f, faces_there sound kept fs)
+  both_there : (qs rs : List (ℕ × ℕ)) → PairsThere N qs → PairsThere N rs → PairsThere N (qs ++ rs)
+  both_there [] rs a c = c
+  both_there (q ∷ qs) rs a c = (a.0, a.1, both_there qs rs a.2 c)
+
+  pub all_there : Sound M → Kept M N → (fs : List ℕ) → PairsThere N (split_checks.all_pairs M p fs)
+  all_there sound kept [] = tt
+  all_there sound kept (f ∷ fs) = both_there (place_pairs M p f) (split_checks.all_pairs M p fs) (pairs_there sound kept f) (all_there sound kept fs)
+
+  -- as many as the faces tell
+  pub many_pairs : (fs : List ℕ) → how_many_pairs (map (paired_face M p) fs) ≡ length (split_checks.all_pairs M p fs)
+  many_pairs [] = refl
+  many_pairs (f ∷ fs) = ap (λ n. length (place_pairs M p f) + n) (many_pairs fs) ∙ sym (length-append (place_pairs M p f) (split_checks.all_pairs M p fs))

@@ -1,5 +1,6 @@
 -- A solid drawn, from its edges cut to its last face.
-use Rattle.std.proofs.Common.{◌≡◌, ℕ, [], is_some, refl, sym, ap, ◌∙◌, subst, nat_eq, List}
+use Rattle.std.proofs.Common.{◌≡◌, ◌≤◌, ℕ, [], is_some, length, map, refl, sym, ap, ◌∙◌, subst, arith, nat_eq, List}
+use Rattle.std.proofs.lemmas.List.{length-map}
 use Rattle.euler_operators.specs.declared.Plane.{Plane}
 use Rattle.euler_operators.specs.Items.{IsIn}
 use Rattle.euler_operators.specs.Model.{Model, faces_of}
@@ -7,7 +8,7 @@ use Rattle.euler_operators.specs.Sound.{Sound, Has}
 use Rattle.shapes.specs.Fresh.{taken_in}
 use Rattle.shapes.specs.split.Sides.{straddles, straddling_faces}
 use Rattle.shapes.specs.split.Crossings.{with_crossings}
-use Rattle.shapes.specs.split.Drawing.{Drawing, FacePairs, faces_drawn, undrawn, straddling_pairs, with_drawings}
+use Rattle.shapes.specs.split.Drawing.{Drawing, faces_drawn, undrawn, straddling_pairs, with_drawings}
 use Rattle.split_drawing_laws.specs.crossings.Kept.{Kept}
 use Rattle.euler_laws.proofs.shared.Counted.{all_where_has}
 use Rattle.euler_laws.proofs.shared.Listed.{IsIn-from_listed}
@@ -22,10 +23,13 @@ use Rattle.split_drawing.specs.edge_cutting.Begins.{CanBeCut}
 use Rattle.solid_walks.specs.declared.numbers.Counters.{Counters}
 use Rattle.solid_walks.specs.Counters.{taken_of}
 use Rattle.split_checks.specs.Progress.{drawing_of}
-use Rattle.split_checks.specs.Cuts.{paired_faces}
-use Rattle.split_drawing.specs.solid_drawing.Starts.{FacesThere, faces_started}
+use Rattle.split_checks.specs.Cuts.{AreCuts, all_pairs, codes, how_many_pairs, paired}
+use Rattle.split_checks.specs.declared.cuts.Cuts.{Cuts}
+use Rattle.split_checks.specs.declared.cuts.Pair.{Pair}
+use Rattle.split_checks.specs.declared.cuts.PairedFace.{PairedFace}
+use Rattle.split_drawing.specs.solid_drawing.Starts.{PairsThere, pair_started, pairs_started}
 use Rattle.split_drawing.specs.solid_drawing.Drawn.{put_aside, CanDrawFaces}
-use Rattle.split_drawing.proofs.solid_drawing_laws.Starts.{started_are, faces_there}
+use Rattle.split_drawing.proofs.solid_drawing_laws.Starts.{started_are, all_there, many_pairs}
 
 module _ (M : Model) (s : ℕ) (p : Plane) (sound : Sound M) (can : CanBeCut M s p) where
   abbrev N : Model
@@ -38,8 +42,8 @@ module _ (M : Model) (s : ℕ) (p : Plane) (sound : Sound M) (can : CanBeCut M s
   kept = crossings_keep M s p can.0 sound can.1
 
   -- the pairs of cut places are there then
-  pub all_there : FacesThere N (paired_faces M p s)
-  all_there = faces_there M N p sound kept (straddling_faces M p s)
+  pub pairs_there : PairsThere N (all_pairs M p (straddling_faces M p s))
+  pairs_there = all_there M N p sound kept (straddling_faces M p s)
 
   face_there : (f : ℕ) → IsIn f (straddling_faces M p s) → Has N.faces f
   face_there f i = subst (λ t. Has t f) (sym kept.faces) (ap is_some (all_where_has (λ _ row. nat_eq row.solid s) M.faces f (of_picked (straddles M p) f (faces_of M s) i).0).1)
@@ -57,15 +61,26 @@ module _ (M : Model) (s : ℕ) (p : Plane) (sound : Sound M) (can : CanBeCut M s
 
   -- where the progress is that before anything is drawn, and the pairs start at the cut places
   module _ (c : Counters) (X : Model) (x : X ≡ N) (counted : taken_of c ≡ taken_in X)
-      (fs : List FacePairs) (are : fs ≡ faces_started X p (paired_faces M p s)) where
+      (cuts : Cuts) (told : AreCuts M p s cuts) (fs : List PairedFace) (are : fs ≡ cuts.faces.items) (qs : List Pair) (started : map codes qs ≡ pairs_started X p (map codes cuts.pairs.items)) where
     drawing_is : drawing_of (record { taken = c; stuck = 0 }) X [] ≡ begun
     drawing_is = λ i. record { model = x i; taken = (counted ∙ ap taken_in x ∙ sym (crossings_counted M s p can.0 sound can.1)) i; left = []; stuck = 0 }
 
-    faces_are : fs ≡ straddling_pairs M s p
-    faces_are = are ∙ ap (λ Y. faces_started Y p (paired_faces M p s)) x ∙ started_are M N p (straddling_faces M p s)
+    faces_are : paired fs (map codes qs) ≡ straddling_pairs M s p
+    faces_are = (λ i. paired ((are ∙ told.faces) i) ((started ∙ (λ j. pairs_started (x j) p (told.pairs j))) i)) ∙ started_are M N p (straddling_faces M p s)
 
-    pub can_draw : CanDrawFaces fs (drawing_of (record { taken = c; stuck = 0 }) X [])
+    pub enough : how_many_pairs fs ≤ length qs
+    enough = omega (
+      arith,
+      ap how_many_pairs (are ∙ told.faces),
+      many_pairs M N p (straddling_faces M p s),
+      ap (λ (rs : List (ℕ × ℕ)). length rs) told.pairs,
+      ap (λ (rs : List (ℕ × ℕ)). length rs) started,
+      length-map (map codes cuts.pairs.items) (pair_started X p),
+      length-map qs codes,
+    )
+
+    pub can_draw : CanDrawFaces (paired fs (map codes qs)) (drawing_of (record { taken = c; stuck = 0 }) X [])
     can_draw = subst (λ gs. CanDrawFaces gs (drawing_of (record { taken = c; stuck = 0 }) X [])) (sym faces_are) (subst (CanDrawFaces (straddling_pairs M s p)) (sym drawing_is) can_draw_begun)
 
-    pub made : put_aside (faces_drawn p (drawing_of (record { taken = c; stuck = 0 }) X []) fs) ≡ put_aside (with_drawings M s p)
+    pub made : put_aside (faces_drawn p (drawing_of (record { taken = c; stuck = 0 }) X []) (paired fs (map codes qs))) ≡ put_aside (with_drawings M s p)
     made = (λ i. put_aside (faces_drawn p (drawing_is i) (faces_are i))) ∙ ap put_aside made_of_begun

@@ -3,23 +3,16 @@ use Rattle.std.specs.Prelude.{ℕ, List, [], ◌∷◌, map}
 use Rattle.euler_operators.specs.declared.Plane.{Plane}
 use Rattle.euler_operators.specs.Model.{Model}
 use Rattle.euler_operators.specs.Sound.{HasHalf}
-use Rattle.shapes.specs.split.Drawing.{FacePairs, from_place}
+use Rattle.shapes.specs.split.Drawing.{from_place}
 
--- what starts at the places of a pair, of some pairs, and of the pairs of some faces
+-- what starts at the places of a pair, and of some pairs
 abbrev pub pair_started : Model → Plane → ℕ × ℕ → ℕ × ℕ
 pair_started N p q = (from_place N p q.0, from_place N p q.1)
 
 abbrev pub pairs_started : Model → Plane → List (ℕ × ℕ) → List (ℕ × ℕ)
 pairs_started N p qs = map (pair_started N p) qs
 
-abbrev pub faces_started : Model → Plane → List FacePairs → List FacePairs
-faces_started N p fs = map (λ f. record { face = f.face; pairs = pairs_started N p f.pairs }) fs
-
--- the edges of both half-edges of each pair are there, and so with the pairs of each of some faces
+-- the edges of both half-edges of each pair are there
 abbrev pub PairsThere : Model → List (ℕ × ℕ) → Type 0
 PairsThere M [] = Unit {0}
 PairsThere M (q ∷ qs) = HasHalf M q.0 × HasHalf M q.1 × PairsThere M qs
-
-abbrev pub FacesThere : Model → List FacePairs → Type 0
-FacesThere M [] = Unit {0}
-FacesThere M (f ∷ fs) = PairsThere M f.pairs × FacesThere M fs

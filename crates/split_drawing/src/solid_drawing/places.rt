@@ -6,12 +6,11 @@ ghost use Rattle.euler_conditions.specs.Ready.{IsReady};
 ghost use Rattle.euler_operators.specs.Ranges.{IsCutPlane};
 ghost use Rattle.shapes.specs.split.Drawing.{from_place};
 ghost use Rattle.split_checks.specs.Cuts.{codes};
-ghost use Rattle.split_checks.specs.Cuts.{paired};
-ghost use Rattle.split_drawing.specs.solid_drawing.Starts.{FacesThere, PairsThere, faces_started, pair_started, pairs_started};
+ghost use Rattle.split_drawing.specs.solid_drawing.Starts.{PairsThere, pair_started, pairs_started};
 
 use euler_conditions::Arena;
 use euler_operators::{HalfEdge, Plane};
-use split_checks::{FacePairs, Pair, starts_on};
+use split_checks::{Pair, starts_on};
 use std::alloc::{AllocError, Global};
 
 /// The half-edge that starts at the cut place that h told: h where it starts on the plane, else the one after it.
@@ -43,7 +42,7 @@ fn pair_started(arena: &Arena, plane: Plane, pair: Pair) -> Pair
 }
 
 /// The half-edges that start at the cut places of some pairs.
-fn pairs_started(
+pub(crate) fn pairs_started(
     alloc: Global,
     arena: &Arena,
     plane: Plane,
@@ -55,33 +54,10 @@ fn pairs_started(
     ensures { IfOk result (λ started. map codes started.items ≡ pairs_started arena.now.model plane (map codes pairs.now)) }
 {
     let mut started = Vec::new(alloc);
+    started.reserve(pairs.len())?;
     let mut rest = pairs;
     'pairs: while let [pair, others @ ..] = rest {
         started.push(pair_started(arena, plane, *pair))?;
-        rest = others;
-    }
-    Ok(started)
-}
-
-/// The half-edges that start at the cut places of the pairs of some faces.
-pub(crate) fn faces_started(
-    alloc: Global,
-    arena: &Arena,
-    plane: Plane,
-    faces: &[FacePairs],
-) -> Result<Vec<FacePairs>, AllocError>
-    requires ready { IsReady arena.now }
-    requires there { FacesThere arena.now.model (map paired faces.now) }
-    requires plane { IsCutPlane plane }
-    ensures { IfOk result (λ started. map paired started.items ≡ faces_started arena.now.model plane (map paired faces.now)) }
-{
-    let mut started = Vec::new(alloc);
-    let mut rest = faces;
-    'faces: while let [face, others @ ..] = rest {
-        started.push(FacePairs {
-            face: face.face,
-            pairs: pairs_started(alloc, arena, plane, face.pairs.as_slice())?,
-        })?;
         rest = others;
     }
     Ok(started)

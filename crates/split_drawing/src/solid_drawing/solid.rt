@@ -1,49 +1,46 @@
 //! A solid cut and drawn.
-ghost use Rattle.std.specs.Prelude.{◌≡◌, [], map, IfOk};
+ghost use Rattle.std.specs.Prelude.{◌≡◌, ◌≤◌, [], length, map, IfOk};
 ghost use Rattle.euler_operators.specs.Ranges.{IsCutPlane};
 ghost use Rattle.shapes.specs.split.Drawing.{faces_drawn, with_drawings};
 ghost use Rattle.split_drawing.specs.edge_cutting.Begins.{CanBeCut};
 ghost use Rattle.split_checks.specs.Progress.{drawing_of};
-ghost use Rattle.split_checks.specs.Cuts.{AreCuts, paired};
+ghost use Rattle.split_checks.specs.Cuts.{AreCuts, codes, how_many_pairs, paired};
 ghost use Rattle.split_drawing.specs.solid_drawing.Drawn.{CanDrawFaces, put_aside};
 
 use crate::edge_cutting::cut_edges;
 use crate::solid_drawing::face::draw_face;
-use crate::solid_drawing::places::faces_started;
+use crate::solid_drawing::places::pairs_started;
 use euler_operators::Plane;
 use solid_walks::counters_of;
-use split_checks::{Cuts, FacePairs, Progress};
+use split_checks::{Cuts, Pair, PairedFace, Progress};
 use std::alloc::{AllocError, Global};
 use undo_journal::Draft;
 
-/// Draws edges between the pairs of some faces, one face after the other, and tells how far the drawing has come then. On
-/// `AllocError` some may be drawn.
+/// Draws edges between the pairs of some faces, one face after the other, and tells how far the drawing has come then. The pairs come
+/// one face after the other. On `AllocError` some may be drawn.
 fn draw_faces(
     alloc: Global,
     draft: &mut Draft,
     plane: Plane,
     from: Progress,
-    faces: &[FacePairs],
+    faces: &[PairedFace],
+    pairs: &[Pair],
 ) -> Result<Progress, AllocError>
     requires plane { IsCutPlane plane }
-    requires can { CanDrawFaces (map paired faces.now) (drawing_of from draft.old.model []) }
-    ensures drawn { IfOk result (λ drawn. drawing_of drawn draft.new.model [] ≡ put_aside (faces_drawn plane (drawing_of from draft.old.model []) (map paired faces.now))) }
+    requires enough { how_many_pairs faces.now ≤ length pairs.now }
+    requires can { CanDrawFaces (paired faces.now (map codes pairs.now)) (drawing_of from draft.old.model []) }
+    ensures drawn { IfOk result (λ drawn. drawing_of drawn draft.new.model [] ≡ put_aside (faces_drawn plane (drawing_of from draft.old.model []) (paired faces.now (map codes pairs.now)))) }
     ensures session { draft.new.session ≡ draft.old.session }
 {
     let mut progress = from;
     let mut left = Vec::new(alloc);
     let mut rest = faces;
+    let mut later = pairs;
     'faces: while let [face, others @ ..] = rest {
-        progress = draw_face(
-            alloc,
-            draft,
-            plane,
-            progress,
-            face.face,
-            face.pairs.as_slice(),
-            &mut left,
-        )?;
+        let (mine, more) = later.split_at(face.pairs);
+        progress = draw_face(alloc, draft, plane, progress, face.face, mine, &mut left)?;
         rest = others;
+        later = more;
     }
     Ok(progress)
 }
@@ -68,8 +65,9 @@ pub fn draw_solid(
     // the draft's model is sound
     draft.stays_consistent();
     cut_edges(draft, s, plane, cuts.edges.as_slice())?;
-    let started = faces_started(alloc, draft.arena(), *plane, cuts.faces.as_slice())?;
+    let started = pairs_started(alloc, draft.arena(), *plane, cuts.pairs.as_slice())?;
     let taken = counters_of(draft.arena());
     let from = Progress { taken, stuck: 0 };
-    draw_faces(alloc, draft, *plane, from, started.as_slice())
+    let faces = cuts.faces.as_slice();
+    draw_faces(alloc, draft, *plane, from, faces, started.as_slice())
 }

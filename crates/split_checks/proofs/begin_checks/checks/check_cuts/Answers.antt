@@ -1,12 +1,11 @@
-use Rattle.std.proofs.Common.{◌≡◌, ◌∙◌, ◌+◌, ℕ, List, Some, None, map, length, sym, ap, subst}
+use Rattle.std.proofs.Common.{◌≡◌, ◌∙◌, ◌+◌, ℕ, List, Some, None, map, length, vec_len, sym, ap, subst, arith}
 use Rattle.std.specs.Prelude.{min}
 use Rattle.euler_operators.specs.HalfEdge.{code}
 use Rattle.euler_operators.specs.Conditions.{first_refusal, strictly_rises}
 use Rattle.euler_laws.proofs.shared.Goes.{verdict_passed, verdict_failed}
 use Rattle.shapes.specs.Fresh.{first_such, numbers_left, taken_in}
-use Rattle.shapes.specs.split.Drawing.{FacePairs}
 use Rattle.shapes.specs.split.Sides.{straddling_faces}
-use Rattle.split_checks.specs.Cuts.{how_many_pairs, all_place_pairs, cut_at, paired}
+use Rattle.split_checks.specs.Cuts.{all_pairs, codes, cut_at, paired_face}
 use Rattle.split_checks.specs.begin_checks.Conditions.{face_conditions}
 use Rattle.split_checks.specs.cut_places.Crossings.{AreCrossing, is_off}
 use Rattle.split_checks.specs.cut_places.Meetings.{faces_in}
@@ -14,7 +13,7 @@ use Rattle.split_checks.specs.cut_places.Places.{AreFacesAlong}
 use Rattle.split_checks.proofs.cut_places_laws.Edges.{all_cross, straddling_along}
 use Rattle.split_checks.proofs.cut_places_laws.Sorted.{crossings_rise}
 use Rattle.split_checks.proofs.cut_places_laws.Told.{solid_faces, solid_told}
-use Rattle.split_checks.proofs.face_pairs_laws.Counts.{all_counted}
+use Rattle.split_checks.proofs.face_pairs_laws.Counts.{many_pairs}
 use Rattle.split_checks.proofs.begin_checks_laws.Stages.{at_ok, at_err, edges_refused, faces_refused, numbers_decide}
 use Rattle.split_checks.proofs.begin_checks.checks.check_cuts.Goals as goal
 
@@ -53,19 +52,20 @@ returns-in-Err-2-clause-refused c =
     let whole = sym (at_ok c.in_ok-cut.field-0 c.in-Ok.cut (λ _. first_such (is_off M p) c.as_slice-edges.result.now ≡ None) c.in-Ok.is c.in_ok-cut.ensures.whole) ∙ ap (first_such (is_off M p)) (c.as_slice-edges.ensures.value ∙ c.requires.met.edges) in
     faces_refused M c.args.s p whole c.in-Err-2.refusal
     (ap (λ fs. first_refusal (face_conditions M p fs)) (sym (ap faces_in c.as_slice-straddling.ensures.value ∙ solid_faces M p c.args.s c.args.met.now c.requires.met))
-    ∙ at_err c.in_ok-faces.field-0 c.in-Err-2.refusal (λ refusal. first_refusal (face_conditions M p (faces_in c.as_slice-straddling.result.now)) ≡ Some refusal) c.in-Err-2.is c.in_ok-faces.ensures.refused)
+    ∙ at_err c.in_ok-paired.field-0 c.in-Err-2.refusal (λ refusal. first_refusal (face_conditions M p (faces_in c.as_slice-straddling.result.now)) ≡ Some refusal) c.in-Err-2.is c.in_ok-paired.ensures.refused)
 
 pub returns-in-Ok-check_left-clause-accepted : goal.returns-in-Ok-check_left-clause-accepted
 returns-in-Ok-check_left-clause-accepted c =
     let M = c.args.arena.now.model in let p = c.args.plane in let s = c.args.s in
     let whole = sym (at_ok c.in_ok-cut.field-0 c.in-Ok.cut (λ _. first_such (is_off M p) c.as_slice-edges.result.now ≡ None) c.in-Ok.is c.in_ok-cut.ensures.whole) ∙ ap (first_such (is_off M p)) (c.as_slice-edges.ensures.value ∙ c.requires.met.edges) in
     let cut = ap faces_in c.as_slice-straddling.ensures.value ∙ solid_faces M p s c.args.met.now c.requires.met in
-    let m = c.min.result in let n = c.pair_count-pairs.result in
-    let faces = at_ok c.in_ok-faces.field-0 c.in-Ok-2.faces (λ _. first_refusal (face_conditions M p (faces_in c.as_slice-straddling.result.now)) ≡ None) c.in-Ok-2.is c.in_ok-faces.ensures.accepted in
-    let pairs = at_ok c.in_ok-faces.field-0 c.in-Ok-2.faces (λ pairs. map paired pairs.items ≡ all_place_pairs M p (faces_in c.as_slice-straddling.result.now)) c.in-Ok-2.is c.in_ok-faces.ensures.paired in
+    let m = c.min.result in let n = c.min-2.result in
+    let faces = at_ok c.in_ok-paired.field-0 c.in-Ok-2.paired (λ _. first_refusal (face_conditions M p (faces_in c.as_slice-straddling.result.now)) ≡ None) c.in-Ok-2.is c.in_ok-paired.ensures.accepted in
+    let pairs = at_ok c.in_ok-paired.field-0 c.in-Ok-2.paired (λ paired. map codes paired.1.items ≡ all_pairs M p (faces_in c.as_slice-straddling.result.now)) c.in-Ok-2.is c.in_ok-paired.ensures.pairs in
+    let held : vec_len c.in-Ok-2.paired.1 ≡ length c.in-Ok-2.paired.1.items = omega (arith, c.in-Ok-2.paired.1.ok.0) in
     sym (numbers_decide M s p whole (ap (λ fs. first_refusal (face_conditions M p fs)) (sym cut) ∙ faces) m n
     (c.min.ensures ∙ ap (λ (es : List ℕ). min (length es) 1000001) (c.as_slice-edges.ensures.value ∙ c.requires.met.edges))
-    (c.pair_count-pairs.ensures ∙ ap (λ (fs : List FacePairs). min (how_many_pairs fs) 1000001) (ap (map paired) c.as_slice-2.ensures.value ∙ pairs ∙ ap (all_place_pairs M p) cut) ∙ ap (λ k. min k 1000001) (all_counted M p _)))
+    (c.min-2.ensures ∙ ap (λ k. min k 1000001) (c.len.ensures ∙ held ∙ many_pairs M p _ _ (pairs ∙ ap (all_pairs M p) cut))))
     ∙ verdict_passed (first_refusal (numbers_left (taken_in M) (record { faces = n; loops = n; edges = m + n; vertices = m }))) c.in-Ok-check_left.field-0 c.in-Ok-check_left.ensures
 
 pub returns-in-Err-check_left-clause-refused : goal.returns-in-Err-check_left-clause-refused
@@ -73,12 +73,13 @@ returns-in-Err-check_left-clause-refused c =
     let M = c.args.arena.now.model in let p = c.args.plane in let s = c.args.s in
     let whole = sym (at_ok c.in_ok-cut.field-0 c.in-Ok.cut (λ _. first_such (is_off M p) c.as_slice-edges.result.now ≡ None) c.in-Ok.is c.in_ok-cut.ensures.whole) ∙ ap (first_such (is_off M p)) (c.as_slice-edges.ensures.value ∙ c.requires.met.edges) in
     let cut = ap faces_in c.as_slice-straddling.ensures.value ∙ solid_faces M p s c.args.met.now c.requires.met in
-    let m = c.min.result in let n = c.pair_count-pairs.result in
-    let faces = at_ok c.in_ok-faces.field-0 c.in-Ok-2.faces (λ _. first_refusal (face_conditions M p (faces_in c.as_slice-straddling.result.now)) ≡ None) c.in-Ok-2.is c.in_ok-faces.ensures.accepted in
-    let pairs = at_ok c.in_ok-faces.field-0 c.in-Ok-2.faces (λ pairs. map paired pairs.items ≡ all_place_pairs M p (faces_in c.as_slice-straddling.result.now)) c.in-Ok-2.is c.in_ok-faces.ensures.paired in
+    let m = c.min.result in let n = c.min-2.result in
+    let faces = at_ok c.in_ok-paired.field-0 c.in-Ok-2.paired (λ _. first_refusal (face_conditions M p (faces_in c.as_slice-straddling.result.now)) ≡ None) c.in-Ok-2.is c.in_ok-paired.ensures.accepted in
+    let pairs = at_ok c.in_ok-paired.field-0 c.in-Ok-2.paired (λ paired. map codes paired.1.items ≡ all_pairs M p (faces_in c.as_slice-straddling.result.now)) c.in-Ok-2.is c.in_ok-paired.ensures.pairs in
+    let held : vec_len c.in-Ok-2.paired.1 ≡ length c.in-Ok-2.paired.1.items = omega (arith, c.in-Ok-2.paired.1.ok.0) in
     sym (numbers_decide M s p whole (ap (λ fs. first_refusal (face_conditions M p fs)) (sym cut) ∙ faces) m n
     (c.min.ensures ∙ ap (λ (es : List ℕ). min (length es) 1000001) (c.as_slice-edges.ensures.value ∙ c.requires.met.edges))
-    (c.pair_count-pairs.ensures ∙ ap (λ (fs : List FacePairs). min (how_many_pairs fs) 1000001) (ap (map paired) c.as_slice-2.ensures.value ∙ pairs ∙ ap (all_place_pairs M p) cut) ∙ ap (λ k. min k 1000001) (all_counted M p _)))
+    (c.min-2.ensures ∙ ap (λ k. min k 1000001) (c.len.ensures ∙ held ∙ many_pairs M p _ _ (pairs ∙ ap (all_pairs M p) cut))))
     ∙ verdict_failed (first_refusal (numbers_left (taken_in M) (record { faces = n; loops = n; edges = m + n; vertices = m }))) c.in-Err-check_left.refusal c.in-Err-check_left.ensures
 
 pub returns-in-Ok-check_left-clause-cuts : goal.returns-in-Ok-check_left-clause-cuts
@@ -86,6 +87,8 @@ returns-in-Ok-check_left-clause-cuts c =
     let M = c.args.arena.now.model in let p = c.args.plane in let s = c.args.s in
     record {
       edges = at_ok c.in_ok-cut.field-0 c.in-Ok.cut (λ cut. cut.items ≡ map (cut_at M p) c.as_slice-edges.result.now) c.in-Ok.is c.in_ok-cut.ensures.cut ∙ ap (map (cut_at M p)) (c.as_slice-edges.ensures.value ∙ c.requires.met.edges);
-      faces = at_ok c.in_ok-faces.field-0 c.in-Ok-2.faces (λ pairs. map paired pairs.items ≡ all_place_pairs M p (faces_in c.as_slice-straddling.result.now)) c.in-Ok-2.is c.in_ok-faces.ensures.paired
-          ∙ ap (all_place_pairs M p) (ap faces_in c.as_slice-straddling.ensures.value ∙ solid_faces M p s c.args.met.now c.requires.met);
+      faces = at_ok c.in_ok-paired.field-0 c.in-Ok-2.paired (λ paired. paired.0.items ≡ map (paired_face M p) (faces_in c.as_slice-straddling.result.now)) c.in-Ok-2.is c.in_ok-paired.ensures.faces
+          ∙ ap (map (paired_face M p)) (ap faces_in c.as_slice-straddling.ensures.value ∙ solid_faces M p s c.args.met.now c.requires.met);
+      pairs = at_ok c.in_ok-paired.field-0 c.in-Ok-2.paired (λ paired. map codes paired.1.items ≡ all_pairs M p (faces_in c.as_slice-straddling.result.now)) c.in-Ok-2.is c.in_ok-paired.ensures.pairs
+          ∙ ap (all_pairs M p) (ap faces_in c.as_slice-straddling.ensures.value ∙ solid_faces M p s c.args.met.now c.requires.met);
     }

@@ -23,10 +23,10 @@ pub returns-in-Ok-clause-accepted : goal.returns-in-Ok-clause-accepted
 returns-in-Ok-clause-accepted c =
     let M = c.args.arena.now.model in let p = c.args.plane in let qs = c.args.faces.now in let hs = map code c.args.places.now in
     none_refused M p (faces_in qs) (c.in_default.ensures ∙ first_flaw M p Touched qs hs c.requires.told) (c.in_default-first_flawed.ensures ∙ first_flaw M p CutOften qs hs c.requires.told)
-    (at_ok c.in_ok-pairs.field-0 c.in-Ok.pairs (λ _. first_such (is_crossed M p) (faces_in qs) ≡ None) c.in-Ok.is c.in_ok-pairs.ensures.uncrossed)
+    (at_ok c.in_ok-paired.field-0 c.in-Ok.paired (λ _. first_such (is_crossed M p) (faces_in qs) ≡ None) c.in-Ok.is c.in_ok-paired.ensures.uncrossed)
 
 pub returns-in-Err-clause-refused : goal.returns-in-Err-clause-refused
 returns-in-Err-clause-refused c =
     let M = c.args.arena.now.model in let p = c.args.plane in let qs = c.args.faces.now in let hs = map code c.args.places.now in
     crossed_refused M p (faces_in qs) (c.in_default.ensures ∙ first_flaw M p Touched qs hs c.requires.told) (c.in_default-first_flawed.ensures ∙ first_flaw M p CutOften qs hs c.requires.told) c.in-Err.f
-    (at_err c.in_ok-pairs.field-0 c.in-Err.f (λ f. first_such (is_crossed M p) (faces_in qs) ≡ Some f) c.in-Err.is c.in_ok-pairs.ensures.crossed) ∙ ap Some (sym c.refusal-in-Err.ensures)
+    (at_err c.in_ok-paired.field-0 c.in-Err.f (λ f. first_such (is_crossed M p) (faces_in qs) ≡ Some f) c.in-Err.is c.in_ok-paired.ensures.crossed) ∙ ap Some (sym c.refusal-in-Err.ensures)

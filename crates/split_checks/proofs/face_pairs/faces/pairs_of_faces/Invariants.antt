@@ -2,7 +2,7 @@ use Rattle.std.proofs.Common.{◌≡◌, ◌++◌, map, length}
 use Rattle.euler_operators.specs.HalfEdge.{code}
 use Rattle.shapes.specs.Fresh.{first_such}
 use Rattle.shapes.specs.split.Places.{is_crossed}
-use Rattle.split_checks.specs.Cuts.{paired, all_place_pairs}
+use Rattle.split_checks.specs.Cuts.{all_pairs, codes, paired_face}
 use Rattle.split_checks.specs.cut_places.Meetings.{AreTold, faces_in}
 use Rattle.split_checks.specs.cut_places.Places.{AreFacesAlong}
 use Rattle.split_checks.proofs.face_pairs.faces.pairs_of_faces.Given as goal
@@ -12,7 +12,8 @@ invariant-faces l = record {
   whole : AreFacesAlong l.arena.model l.plane l.crossings.edges.now (faces_in l.rest);
   told : AreTold l.arena.model l.plane l.rest (map code l.left);
   first : first_such (is_crossed l.arena.model l.plane) (faces_in l.rest) ≡ first_such (is_crossed l.arena.model l.plane) (faces_in l.faces);
-  made : map paired l.found.items ++ all_place_pairs l.arena.model l.plane (faces_in l.rest) ≡ all_place_pairs l.arena.model l.plane (faces_in l.faces);
+  found : l.found.items ++ map (paired_face l.arena.model l.plane) (faces_in l.rest) ≡ map (paired_face l.arena.model l.plane) (faces_in l.faces);
+  made : map codes l.pairs.items ++ all_pairs l.arena.model l.plane (faces_in l.rest) ≡ all_pairs l.arena.model l.plane (faces_in l.faces);
 }
 
 abbrev pub decreases-faces : goal.decreases-faces

@@ -5,37 +5,42 @@ use Rattle.shapes.specs.split.Crossings.{with_crossings}
 use Rattle.shapes.specs.split.Drawing.{Drawing}
 use Rattle.split_drawing.proofs.edge_cutting_laws.Remaining.{cut_plane}
 use Rattle.split_checks.specs.Progress.{drawing_of}
-use Rattle.split_checks.specs.Cuts.{paired}
-use Rattle.split_drawing.specs.solid_drawing.Starts.{FacesThere, faces_started}
-use Rattle.split_drawing.proofs.solid_drawing_laws.WholeSolid.{all_there, can_draw, made}
+use Rattle.split_checks.specs.Cuts.{codes}
+use Rattle.split_drawing.specs.solid_drawing.Starts.{PairsThere, pairs_started}
+use Rattle.split_drawing.proofs.solid_drawing_laws.WholeSolid.{pairs_there, enough, can_draw, made}
 use Rattle.split_drawing.proofs.solid_drawing.solid.draw_solid.Goals as goal
 
-pub faces_started-requires-clause-there : goal.faces_started-requires-clause-there
-faces_started-requires-clause-there c =
+pub pairs_started-requires-clause-there : goal.pairs_started-requires-clause-there
+pairs_started-requires-clause-there c =
     let M = c.args.draft.now.model in let s = c.args.s in let p = c.args.plane.now in
     let cut = c.arena.ensures.model ∙ c.in_ok-cut_edges.ensures.model in
-    let pairs = ap (map paired) c.as_slice-2.ensures.value ∙ c.requires.cuts.faces in
-    subst (λ (X : Model). FacesThere X (map paired c.as_slice-2.result.now)) (sym cut) (subst (FacesThere (with_crossings M s p).model) (sym pairs) (all_there M s p c.stays_consistent.ensures.model c.requires.begins))
+    let pairs = ap (map codes) c.as_slice-2.ensures.value ∙ c.requires.cuts.pairs in
+    subst (λ (X : Model). PairsThere X (map codes c.as_slice-2.result.now)) (sym cut) (subst (PairsThere (with_crossings M s p).model) (sym pairs) (pairs_there M s p c.stays_consistent.ensures.model c.requires.begins))
 
-pub faces_started-requires-clause-plane : goal.faces_started-requires-clause-plane
-faces_started-requires-clause-plane c = cut_plane c.args.draft.now.model c.args.s c.args.plane.now c.requires.begins
+pub pairs_started-requires-clause-plane : goal.pairs_started-requires-clause-plane
+pairs_started-requires-clause-plane c = cut_plane c.args.draft.now.model c.args.s c.args.plane.now c.requires.begins
 
 pub draw_faces-requires-clause-plane : goal.draw_faces-requires-clause-plane
 draw_faces-requires-clause-plane c = cut_plane c.args.draft.now.model c.args.s c.args.plane.now c.requires.begins
 
+pub draw_faces-requires-clause-enough : goal.draw_faces-requires-clause-enough
+draw_faces-requires-clause-enough c =
+    let M = c.args.draft.now.model in let s = c.args.s in let p = c.args.plane.now in
+    enough M s p c.stays_consistent.ensures.model c.requires.begins c.counters_of-taken.result c.cut_edges.new.draft.model c.in_ok-cut_edges.ensures.model
+    (c.counters_of-taken.ensures.is ∙ ap taken_in c.arena-2.ensures.model) c.args.cuts.now c.requires.cuts c.as_slice-faces.result.now c.as_slice-faces.ensures.value c.as_slice-3.result.now
+    (ap (map codes) c.as_slice-3.ensures.value ∙ c.in_ok-started.ensures ∙ (λ i. pairs_started (c.arena.ensures.model i) p (map codes (c.as_slice-2.ensures.value i))))
+
 pub draw_faces-requires-clause-can : goal.draw_faces-requires-clause-can
 draw_faces-requires-clause-can c =
     let M = c.args.draft.now.model in let s = c.args.s in let p = c.args.plane.now in
-    let pairs = ap (map paired) c.as_slice-2.ensures.value ∙ c.requires.cuts.faces in
     can_draw M s p c.stays_consistent.ensures.model c.requires.begins c.counters_of-taken.result c.cut_edges.new.draft.model c.in_ok-cut_edges.ensures.model
-    (c.counters_of-taken.ensures.is ∙ ap taken_in c.arena-2.ensures.model) (map paired c.as_slice-3.result.now)
-    (ap (map paired) c.as_slice-3.ensures.value ∙ c.in_ok-started.ensures ∙ (λ i. faces_started (c.arena.ensures.model i) p (pairs i)))
+    (c.counters_of-taken.ensures.is ∙ ap taken_in c.arena-2.ensures.model) c.args.cuts.now c.requires.cuts c.as_slice-faces.result.now c.as_slice-faces.ensures.value c.as_slice-3.result.now
+    (ap (map codes) c.as_slice-3.ensures.value ∙ c.in_ok-started.ensures ∙ (λ i. pairs_started (c.arena.ensures.model i) p (map codes (c.as_slice-2.ensures.value i))))
 
 pub returns-clause-drawn : goal.returns-clause-drawn
 returns-clause-drawn c =
     let M = c.args.draft.now.model in let s = c.args.s in let p = c.args.plane.now in
-    let pairs = ap (map paired) c.as_slice-2.ensures.value ∙ c.requires.cuts.faces in
     let same = made M s p c.stays_consistent.ensures.model c.requires.begins c.counters_of-taken.result c.cut_edges.new.draft.model c.in_ok-cut_edges.ensures.model
-    (c.counters_of-taken.ensures.is ∙ ap taken_in c.arena-2.ensures.model) (map paired c.as_slice-3.result.now)
-    (ap (map paired) c.as_slice-3.ensures.value ∙ c.in_ok-started.ensures ∙ (λ i. faces_started (c.arena.ensures.model i) p (pairs i))) in
+    (c.counters_of-taken.ensures.is ∙ ap taken_in c.arena-2.ensures.model) c.args.cuts.now c.requires.cuts c.as_slice-faces.result.now c.as_slice-faces.ensures.value c.as_slice-3.result.now
+    (ap (map codes) c.as_slice-3.ensures.value ∙ c.in_ok-started.ensures ∙ (λ i. pairs_started (c.arena.ensures.model i) p (map codes (c.as_slice-2.ensures.value i)))) in
     subst (λ (D : Drawing). IfOk c.draw_faces.result (λ drawn. drawing_of drawn c.draw_faces.new.draft.model [] ≡ D)) same c.draw_faces.ensures.drawn

@@ -8,12 +8,12 @@ use Rattle.split_checks.specs.cut_places.Walks.{AreThere}
 use Rattle.split_checks.specs.place_order.Order.{Key, places_of}
 use Rattle.split_checks.specs.declared.cuts.Pair.{Pair}
 use Rattle.split_checks.proofs.face_pairs_laws.Taken.{last_alone, none_left, pair_fails, second_there, two_taken}
-use Rattle.split_checks.proofs.face_pairs.pairs.pairs_in_order.Goals as goal
+use Rattle.split_checks.proofs.face_pairs.pairs.push_in_order.Goals as goal
 
 pub returns-in_default-pop_first-clause-pairs : goal.returns-in_default-pop_first-clause-pairs
 returns-in_default-pop_first-clause-pairs c =
     let none : c.pop_first.new.self.entries ≡ [] = none_left c.pop_first.new.self.entries _ refl c.in_default-pop_first.ensures.variant.1 in
-    last_alone c.args.arena.now.model c.args.plane (map codes c.pairs.pairs.items) _ c.pairs.left.entries c.pop_first.new.self.entries (c.in-Some.field-0-0, c.in-Some.first) c.in-Some.ensures.removal none c.pairs.invariant.made
+    λ _. last_alone c.args.arena.now.model c.args.plane (map codes c.pairs.pairs.items) _ c.pairs.left.entries c.pop_first.new.self.entries (c.in-Some.field-0-0, c.in-Some.first) c.in-Some.ensures.removal none c.pairs.invariant.made
 
 pub pairs-preserved : goal.pairs-preserved
 pairs-preserved c =
