@@ -1,7 +1,10 @@
 -- The section edges of one face: none where it is above, else those whose mates lie in faces above.
-use Rattle.std.proofs.Common.{◌≡◌, ℕ, true, false, cond, not, ◌&&◌, List, [], ◌∷◌, refl, sym, ap, ◌∙◌, arith}
-use Rattle.euler_operators.specs.Items.{IsIn}
-use Rattle.euler_operators.proofs.Lists.{tick_same}
+use Rattle.std.proofs.Common.{◌≡◌, ℕ, Bool, true, false, cond, not, ◌&&◌, List, [], ◌∷◌, ◌++◌, refl, sym, ap, ◌∙◌, arith}
+use Rattle.std.specs.Prelude.{filter}
+use Rattle.std.proofs.lemmas.List.Elements.{filter-append}
+use Rattle.euler_operators.specs.Items.{count, IsIn, SameItems}
+use Rattle.euler_operators.specs.Rings.{IsRotation}
+use Rattle.euler_operators.proofs.Lists.{count-append, tick_same}
 use Rattle.euler_operators.specs.Model.{Model, loop_of}
 use Rattle.euler_operators.specs.Sound.{Sound, Has}
 use Rattle.euler_operators.specs.Conditions.{face_at, lists}
@@ -45,3 +48,23 @@ module _ (M : Model) (above : List ℕ) (f : ℕ) where
 
     pub leading_below : lists above f ≡ false → leading_above M above (boundary M f) ≡ below_in M above (boundary M f)
     leading_below low = all_in (boundary M f) bounding low
+
+-- ---- met in another order
+
+-- those of a ring from any of its items on
+pub picked_turned : (p : ℕ → Bool) (xs ys : List ℕ) → IsRotation xs ys → SameItems (filter p ys) (filter p xs)
+picked_turned p xs ys r x =
+    omega (
+      arith,
+      ap (count x) (ap (filter p) r.here ∙ filter-append p r.front r.back),
+      ap (count x) (ap (filter p) r.there ∙ filter-append p r.back r.front),
+      count-append x (filter p r.front) (filter p r.back),
+      count-append x (filter p r.back) (filter p r.front),
+    )
+
+pub after_had : (had xs ys : List ℕ) → SameItems xs ys → SameItems (had ++ xs) (had ++ ys)
+after_had had xs ys same x = omega (arith, same x, count-append x had xs, count-append x had ys)
+
+-- some more are met, and the rest is still to come
+pub more_met : (now had more rest all : List ℕ) → SameItems now (had ++ more) → SameItems (had ++ (more ++ rest)) all → SameItems (now ++ rest) all
+more_met now had more rest all e same x = omega (arith, e x, same x, count-append x now rest, count-append x had more, count-append x had (more ++ rest), count-append x more rest)

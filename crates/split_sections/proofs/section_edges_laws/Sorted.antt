@@ -1,5 +1,5 @@
 -- The halves in faces below, sorted by their edges after a walk over faces has met them.
-use Rattle.std.proofs.Common.{◌≡◌, ℕ, suc, ◌<◌, true, ◌&&◌, List, [], ◌∷◌, map, refl, sym, ap, subst, ◌∙◌, arith, true≢false, inl, inr}
+use Rattle.std.proofs.Common.{◌≡◌, ℕ, suc, ◌<◌, true, ◌&&◌, List, [], ◌∷◌, map, refl, sym, ap, ◌∙◌, arith, true≢false, inl, inr}
 use Rattle.std.specs.List.Sorted.{IsPermutation, IsNonDecreasingBy}
 use Rattle.std.proofs.lemmas.Bool.{lt-ltb}
 use Rattle.std.proofs.lemmas.List.Sorted.{IsPermutation-map}
@@ -53,10 +53,10 @@ module _ (M : Model) (above : List ℕ) (s : ℕ) where
         first = elim (less_or_same g.edge h.edge (up 0 1 g (omega arith) (omega arith))) [ inl l ↦ lesser_half g h l | inr e ↦ absurd (same e) ]
 
   -- what a walk met, sorted by edges, are the below halves of the solid
-  pub sorted_met : Sound M → (found hs : List HalfEdge) → map code found ≡ below_met M above (faces_of M s) → IsPermutation found hs → IsNonDecreasingBy (λ h. h.edge) hs → map code hs ≡ below_halves M above s
+  pub sorted_met : Sound M → (found hs : List HalfEdge) → SameItems (map code found) (below_met M above (faces_of M s)) → IsPermutation found hs → IsNonDecreasingBy (λ h. h.edge) hs → map code hs ≡ below_halves M above s
   sorted_met sound found hs walked moved up =
       let ms = map code hs in let bs = below_halves M above s in
-      let same : SameItems (below_met M above (faces_of M s)) ms = subst (λ ks. SameItems ks ms) walked (SameItems-from_permutation (map code found) ms (IsPermutation-map code found hs moved)) in
+      let same : SameItems (below_met M above (faces_of M s)) ms = λ x. omega (arith, walked x, SameItems-from_permutation (map code found) ms (IsPermutation-map code found hs moved) x) in
       let apart : IsApart ms = λ x. omega (arith, met_apart M sound above s x, same x) in
       let are : (m : ℕ) → IsIn m ms → IsBelowHalf M above s m = λ m i. met_below M sound above s m (omega (arith, i, same m)) in
       let in_halves : (m : ℕ) → IsIn m ms → IsIn m bs = λ m i. are_halves M above s sound m (are m i) in

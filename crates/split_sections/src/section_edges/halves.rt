@@ -1,6 +1,7 @@
 //! The halves of the section edges that lie in faces below.
 ghost use Rattle.std.specs.Prelude.{◌≡◌, ◌++◌, true, map, IfOk, OnOk};
 ghost use Rattle.euler_operators.specs.HalfEdge.{code};
+ghost use Rattle.euler_operators.specs.Items.{SameItems};
 ghost use Rattle.euler_operators.specs.Model.{content, cycle_of, faces_of, has_half, items_of};
 ghost use Rattle.euler_conditions.specs.Ready.{IsReady};
 ghost use Rattle.euler_operators.specs.Conditions.{face_at, lists, strictly_rises};
@@ -11,7 +12,6 @@ ghost use Rattle.split_sections.specs.section_edges.BelowHalves.{below_in, below
 
 use euler_conditions::Arena;
 use euler_operators::{Content, HalfEdge, Kind};
-use solid_walks::least_item;
 use std::alloc::{AllocError, Global};
 
 /// Whether the number is one of those listed, which rise.
@@ -42,7 +42,7 @@ fn leads_above(arena: &Arena, above: &[u32], h: HalfEdge) -> bool
     is_above(arena, above, h.mate())
 }
 
-/// Adds the half-edges of the loop in which h stands whose mates lie in faces above, from its least half-edge on.
+/// Adds the half-edges of the loop in which h stands whose mates lie in faces above, as they come from h on.
 fn push_leading_in_ring(
     arena: &Arena,
     above: &[u32],
@@ -52,16 +52,15 @@ fn push_leading_in_ring(
     requires ready { IsReady arena.now }
     requires rises { strictly_rises above.now ≡ true }
     requires there { has_half arena.now.model (code h) ≡ true }
-    ensures { OnOk result (map code found.new.items ≡ map code found.old.items ++ leading_above arena.now.model above.now (cycle_of arena.now.model (code h))) }
+    ensures { OnOk result (SameItems (map code found.new.items) (map code found.old.items ++ leading_above arena.now.model above.now (cycle_of arena.now.model (code h)))) }
 {
-    let first = least_item(arena, h);
-    let mut at = first;
+    let mut at = h;
     'round: loop {
         if leads_above(arena, above, at) {
             found.push(at)?;
         }
         at = arena.next(at);
-        if at == first {
+        if at == h {
             return Ok(());
         }
     }
@@ -77,7 +76,7 @@ fn push_leading_in_loop(
     requires ready { IsReady arena.now }
     requires rises { strictly_rises above.now ≡ true }
     requires there { has_number arena.now Kind.Loop l ≡ true }
-    ensures { OnOk result (map code found.new.items ≡ map code found.old.items ++ leading_above arena.now.model above.now (items_of (content arena.now.model l))) }
+    ensures { OnOk result (SameItems (map code found.new.items) (map code found.old.items ++ leading_above arena.now.model above.now (items_of (content arena.now.model l)))) }
 {
     match arena.content(l) {
         Content::Lone(_) => Ok(()),
@@ -95,7 +94,7 @@ fn push_below_halves(
     requires ready { IsReady arena.now }
     requires rises { strictly_rises above.now ≡ true }
     requires there { has_number arena.now Kind.Face f ≡ true }
-    ensures { OnOk result (map code found.new.items ≡ map code found.old.items ++ below_in arena.now.model above.now (boundary arena.now.model f)) }
+    ensures { OnOk result (SameItems (map code found.new.items) (map code found.old.items ++ below_in arena.now.model above.now (boundary arena.now.model f))) }
 {
     if is_listed(above, f) {
         return Ok(());
@@ -109,7 +108,7 @@ fn push_below_halves(
     Ok(())
 }
 
-/// The halves of the section edges of solid s that lie in faces that aren't above, face by face.
+/// The halves of the section edges of solid s that lie in faces that aren't above, face by face, those of a loop from any one on.
 fn below_met(
     alloc: Global,
     arena: &Arena,
@@ -118,7 +117,7 @@ fn below_met(
 ) -> Result<Vec<HalfEdge>, AllocError>
     requires ready { IsReady arena.now }
     requires rises { strictly_rises above.now ≡ true }
-    ensures { IfOk result (λ found. map code found.items ≡ below_met arena.now.model above.now (faces_of arena.now.model s)) }
+    ensures { IfOk result (λ found. SameItems (map code found.items) (below_met arena.now.model above.now (faces_of arena.now.model s))) }
 {
     let mut found = Vec::new(alloc);
     let mut last = 0;

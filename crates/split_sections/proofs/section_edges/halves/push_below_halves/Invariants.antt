@@ -1,4 +1,5 @@
-use Rattle.std.proofs.Common.{◌≡◌, ◌++◌, map, length}
+use Rattle.std.proofs.Common.{◌++◌, map, length}
+use Rattle.euler_operators.specs.Items.{SameItems}
 use Rattle.euler_operators.specs.HalfEdge.{code}
 use Rattle.euler_operators.specs.Model.{rings_of}
 use Rattle.shapes.specs.Faces.{boundary, items_in}
@@ -7,8 +8,8 @@ use Rattle.split_sections.specs.section_edges.BelowHalves.{leading_above}
 use Rattle.split_sections.proofs.section_edges.halves.push_below_halves.Given as goal
 
 abbrev pub invariant-rings : goal.invariant-rings
-invariant-rings l = map code l.found.items ++ leading_above l.arena.model l.above (items_in l.arena.model (above l.last (rings_of l.arena.model l.f)))
-    ≡ map code l.fn.found.items ++ leading_above l.arena.model l.above (boundary l.arena.model l.f)
+invariant-rings l = SameItems (map code l.found.items ++ leading_above l.arena.model l.above (items_in l.arena.model (above l.last (rings_of l.arena.model l.f))))
+    (map code l.fn.found.items ++ leading_above l.arena.model l.above (boundary l.arena.model l.f))
 
 abbrev pub decreases-rings : goal.decreases-rings
 decreases-rings l = length (above l.last (rings_of l.arena.model l.f))

@@ -1,5 +1,6 @@
-use Rattle.std.proofs.Common.{◌≡◌, ◌∙◌, ℕ, List, ◌++◌, OnOk, map, subst, sym, ap}
+use Rattle.std.proofs.Common.{◌∙◌, ℕ, List, ◌++◌, OnOk, map, subst, sym, ap}
 use Rattle.std.proofs.lemmas.List.{append-nil}
+use Rattle.euler_operators.specs.Items.{count, SameItems}
 use Rattle.euler_operators.specs.HalfEdge.{code}
 use Rattle.euler_operators.specs.Model.{content}
 use Rattle.euler_conditions.proofs.Known.{filled}
@@ -16,10 +17,10 @@ push_leading_in_ring-requires-clause-there c = ring_there c.args.arena.now.model
 pub returns-in-Lone : goal.returns-in-Lone
 returns-in-Lone c =
     let M = c.args.arena.now.model in let had = map code c.args.found.now.items in
-    sym (append-nil had) ∙ ap (λ (hs : List ℕ). had ++ leading_above M c.args.above.now hs) (sym (lone_items (content M c.args.l) c.in-Lone.field-0 c.in-Lone.ensures))
+    λ x. ap (count x) (sym (append-nil had) ∙ ap (λ (hs : List ℕ). had ++ leading_above M c.args.above.now hs) (sym (lone_items (content M c.args.l) c.in-Lone.field-0 c.in-Lone.ensures)))
 
 pub returns-in-Ring : goal.returns-in-Ring
 returns-in-Ring c =
     let M = c.args.arena.now.model in
-    subst (λ hs. OnOk c.push_leading_in_ring.result (map code c.push_leading_in_ring.new.found.items ≡ map code c.args.found.now.items ++ leading_above M c.args.above.now hs))
+    subst (λ hs. OnOk c.push_leading_in_ring.result (SameItems (map code c.push_leading_in_ring.new.found.items) (map code c.args.found.now.items ++ leading_above M c.args.above.now hs)))
     (ring_cycle M c.requires.ready.sound c.args.l c.in-Ring.h c.in-Ring.ensures) c.push_leading_in_ring.ensures
