@@ -4,13 +4,14 @@ use Rattle.std.specs.Prelude.{filter}
 use Rattle.std.proofs.lemmas.Bool.Decides.{eqb_tells}
 use Rattle.std.proofs.lemmas.Bool.{ne_eqb, eq-eqb}
 use Rattle.std.proofs.lemmas.List.{append_assoc, append-nil}
-use Rattle.euler_operators.specs.Items.{count, IsIn, SameItems, least}
+use Rattle.euler_operators.specs.Items.{tick, count, IsIn, SameItems, least}
 use Rattle.euler_operators.proofs.Lists.{tick_same, tick_other, count-append, IsIn_or_not, least_le, least_in, least_same}
+use Rattle.euler_operators.proofs.Members.{apart_within}
 use Rattle.euler_operators.specs.Rings.{orbit}
 use Rattle.euler_operators.specs.Conditions.{lists, strictly_rises}
 use Rattle.euler_laws.proofs.Sizes.{rises_over, rises_on}
 use Rattle.split_opening_laws.specs.cycles.Permuting.{Permutes}
-use Rattle.split_opening_laws.proofs.cycles.Orbits.{around_within, around_here, around_same}
+use Rattle.split_opening_laws.proofs.cycles.Orbits.{around_apart, around_within, around_here, around_same}
 use Rattle.euler_laws.proofs.shared.Listed.{IsIn-from_listed, listed-from_in}
 
 -- what stands before an item of a rising list is less
@@ -150,3 +151,42 @@ module _ (next : ℕ → ℕ) (bs : List ℕ) where
       either_second : (p q : Bool) → q ≡ true → (p || q) ≡ true
       either_second true q e = refl
       either_second false q e = e
+
+-- where what is left is all met, all cycles are found
+module _ (next : ℕ → ℕ) (bs : List ℕ) (w : Permutes next bs) (up : strictly_rises bs ≡ true) where
+  all_met : (left : List ℕ) (found : List (List ℕ)) (met : ℕ → Bool) → Finding next bs left found met → ((x : ℕ) → IsIn x left → met x ≡ true) → found ≡ map (ring next bs) (filter (begins next bs) bs)
+  all_met [] found met f each = all_found next bs [] found met f refl
+  all_met (x ∷ xs) found met f each = all_met xs found met (found_before next bs w up (x ∷ xs) found met f x xs refl (each x (omega (arith, tick_same x)))) (λ y i. each y (omega (arith, i)))
+
+  -- a cycle of as many items as there are has each of them
+  every_item : (b : ℕ) → IsIn b bs → length (ring next bs b) ≡ length bs → (x : ℕ) → IsIn x bs → IsIn x (ring next bs b)
+  every_item b i many x j = elim (IsIn_or_not x (ring next bs b)) [
+    | inl k ↦ k
+    | inr z ↦ absurd (omega (arith, many, apart_within (x ∷ ring next bs b) bs (apart z) within))
+  ] where
+    apart : count x (ring next bs b) ≡ 0 → (y : ℕ) → count y (x ∷ ring next bs b) ≤ 1
+    apart z y = elim (eqb_tells y x) [
+      | inl e ↦ omega (arith, z, tick_same x, ap (λ k. tick k x) e.1, ap (λ k. count k (ring next bs b)) e.1)
+      | inr e ↦ omega (arith, tick_other y x e.1, around_apart next bs w b i y)
+    ]
+
+    within : (y : ℕ) → IsIn y (x ∷ ring next bs b) → IsIn y bs
+    within y k = elim (eqb_tells y x) [
+      | inl e ↦ omega (arith, j, ap (λ n. count n bs) e.1)
+      | inr e ↦ around_within next bs w b i y (omega (arith, k, tick_other y x e.1))
+    ]
+
+  -- and is the last that is found
+  pub found_whole : (left : List ℕ) (found : List (List ℕ)) (met : ℕ → Bool) (f : Finding next bs left found met) (b : ℕ) (rest : List ℕ) → left ≡ b ∷ rest → met b ≡ false → (cycle : List ℕ) → cycle ≡ ring next bs b
+      → length cycle ≡ length bs → (more : List (List ℕ)) → more ≡ found ++ cycle ∷ [] → more ≡ map (ring next bs) (filter (begins next bs) bs)
+  found_whole left found met f b rest e t cycle is many more em =
+      let i = now_in next bs w up left found met f b rest e in
+      let wider : ℕ → Bool = λ x. lists cycle x || met x in
+      let now = found_now next bs w up left found met f b rest e t cycle is more em wider (λ x. refl) in
+      all_met rest more wider now (λ x j. ap (λ c. c || met x) (listed-from_in x cycle (omega (
+        arith,
+        ap (count x) is,
+        every_item b i (ap (λ (ks : List ℕ). length ks) (sym is) ∙ many) x (in_rest left f b rest e x j),
+      )))) where
+        in_rest : (left : List ℕ) → Finding next bs left found met → (b : ℕ) (rest : List ℕ) → left ≡ b ∷ rest → (x : ℕ) → IsIn x rest → IsIn x bs
+        in_rest left f b rest e x j = omega (arith, j, ap (count x) (f.parts ∙ ap (λ ks. f.done ++ ks) e), count-append x f.done (b ∷ rest))

@@ -1,10 +1,11 @@
 -- The cycles of the below halves, all found.
-use Rattle.std.proofs.Common.{◌≡◌, ℕ, ◌≤◌, ◌<◌, Bool, List, [], ◌∷◌, ◌++◌, map, length, Vec, refl, ap, ◌∙◌, arith}
+use Rattle.std.proofs.Common.{◌≡◌, ℕ, ◌≤◌, ◌<◌, Bool, true, false, List, [], ◌∷◌, ◌++◌, map, length, Vec, refl, sym, ap, ◌∙◌, arith}
 use Rattle.std.specs.declared.alloc.Global.{Global}
-use Rattle.std.proofs.lemmas.List.{map-append}
+use Rattle.std.proofs.lemmas.List.{length-map, map-append}
 use Rattle.euler_operators.specs.Items.{count, IsIn}
 use Rattle.euler_operators.specs.declared.HalfEdge.{HalfEdge}
 use Rattle.euler_operators.specs.HalfEdge.{code}
+use Rattle.euler_operators.specs.Conditions.{strictly_rises}
 use Rattle.euler_operators.specs.Model.{Model}
 use Rattle.euler_operators.specs.Sound.{Sound, HasHalf}
 use Rattle.euler_laws.proofs.shared.Bounds.{steps_are, half_below}
@@ -13,7 +14,7 @@ use Rattle.shapes.specs.split.Section.{next_below, cycle_from, section_cycles}
 use Rattle.split_opening_laws.specs.cycles.Permuting.{Permutes}
 use Rattle.split_opening_laws.proofs.cycles.Orbits.{around_within}
 use Rattle.split_sections.specs.section_cycles.Halves.{AreThere, codes}
-use Rattle.split_sections.proofs.section_cycles_laws.Found.{Finding, all_found}
+use Rattle.split_sections.proofs.section_cycles_laws.Found.{Finding, all_found, found_whole}
 
 pub number_fits : (M : Model) → Sound M → (h : HalfEdge) → HasHalf M (code h) → h.edge ≤ 1000000
 number_fits M sound h t = edge_fits M sound h t
@@ -33,3 +34,9 @@ codes_pushed old cycle new e = ap (λ (cs : List (Vec HalfEdge Global)). map cod
 pub listed_cycles : (M : Model) (bs left : List ℕ) (found : List (List ℕ)) (met : ℕ → Bool) → Finding (next_below M bs) bs left found met → left ≡ [] → found ≡ section_cycles M bs
 unfolding section_cycles
 listed_cycles M bs left found met f e = all_found (next_below M bs) bs left found met f e
+
+pub whole_cycle : (M : Model) (hs : List HalfEdge) → Permutes (next_below M (map code hs)) (map code hs) → strictly_rises (map code hs) ≡ true → (left : List ℕ) (found : List (List ℕ)) (met : ℕ → Bool) → Finding (next_below M (map code hs)) (map code hs) left found met
+    → (b : ℕ) (rest : List ℕ) → left ≡ b ∷ rest → met b ≡ false → (cycle : Vec HalfEdge Global) → codes cycle ≡ cycle_from M (map code hs) b → length cycle.items ≡ length hs → (more : List (List ℕ)) → more ≡ found ++ codes cycle ∷ [] → more ≡ section_cycles M (map code hs)
+unfolding section_cycles
+whole_cycle M hs w up left found met f b rest e t cycle is many more em =
+    found_whole (next_below M (map code hs)) (map code hs) w up left found met f b rest e t (codes cycle) is (length-map cycle.items code ∙ many ∙ sym (length-map hs code)) more em

@@ -77,6 +77,10 @@ pub(crate) fn cycles(
     'halves: while let [half, others @ ..] = rest {
         if !met.contains(&half.code()) {
             let cycle = cycle_from(alloc, arena, halves, &starts, *half)?;
+            if cycle.len() == halves.len() {
+                cycles.push(cycle)?;
+                return Ok(cycles);
+            }
             meet(&mut met, cycle.as_slice())?;
             cycles.push(cycle)?;
         }

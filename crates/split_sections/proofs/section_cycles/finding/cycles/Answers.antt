@@ -1,4 +1,4 @@
-use Rattle.std.proofs.Common.{◌∙◌, ℕ, ◌≤◌, ◌||◌, List, map, Vec, Global, sym, ap, subst}
+use Rattle.std.proofs.Common.{◌≡◌, ◌∙◌, ℕ, ◌≤◌, ◌||◌, List, length, map, vec_len, Vec, Global, sym, ap, subst, arith}
 use Rattle.std.specs.BTreeSet.{contains}
 use Rattle.std.specs.Ordering.{nat_cmp, is_eq}
 use Rattle.std.specs.List.{list_any}
@@ -11,7 +11,7 @@ use Rattle.split_sections.specs.section_cycles.Halves.{codes}
 use Rattle.split_sections.proofs.section_cycles_laws.Chains.{none}
 use Rattle.split_sections.proofs.section_cycles_laws.Found.{Finding, none_found, found_before, found_now, now_in}
 use Rattle.split_sections.proofs.section_cycles_laws.Meetings.{first_code}
-use Rattle.split_sections.proofs.section_cycles_laws.Whole.{number_fits, cycle_low, no_more, listed_cycles, codes_pushed}
+use Rattle.split_sections.proofs.section_cycles_laws.Whole.{number_fits, cycle_low, no_more, listed_cycles, codes_pushed, whole_cycle}
 use Rattle.split_sections.proofs.section_cycles.finding.cycles.Goals as goal
 
 pub halves-init : goal.halves-init
@@ -37,12 +37,20 @@ meet-requires c =
     (cycle_low M c.requires.ready.sound bs c.requires.there c.requires.next _
     (now_in (next_below M bs) bs c.requires.next c.requires.rising _ _ _ c.halves.invariant _ _ (first_code c.halves.rest.now none c.in-len1-up.len_at_least)) (codes c.in_ok-cycle.cycle) c.in_ok-cycle.ensures)
 
-pub halves-preserved-in_ok-push : goal.halves-preserved-in_ok-push
-halves-preserved-in_ok-push c =
+pub returns-then-len-halves : goal.returns-then-len-halves
+returns-then-len-halves c =
+    let M = c.args.arena.now.model in let bs : List ℕ = map code c.args.halves.now in
+    let held : vec_len c.in_ok-cycle.cycle ≡ length c.in_ok-cycle.cycle.items = omega (arith, c.in_ok-cycle.cycle.ok.0) in
+    whole_cycle M c.args.halves.now c.requires.next c.requires.rising _ _ _ c.halves.invariant _ _ (first_code c.halves.rest.now none c.in-len1-up.len_at_least)
+    (ap (contains nat_cmp c.halves.met) (sym c.code.ensures) ∙ sym c.contains.ensures ∙ c.if-not-contains.true)
+    c.in_ok-cycle.cycle c.in_ok-cycle.ensures (sym held ∙ sym c.len.ensures ∙ c.if-len-halves.true) (map codes c.push.new.self.items) (codes_pushed c.halves.cycles.items c.in_ok-cycle.cycle c.push.new.self.items c.in_ok-push.ensures.items)
+
+pub halves-preserved-in_ok-push-2 : goal.halves-preserved-in_ok-push-2
+halves-preserved-in_ok-push-2 c =
     let M = c.args.arena.now.model in let bs : List ℕ = map code c.args.halves.now in
     found_now (next_below M bs) bs c.requires.next c.requires.rising _ _ _ c.halves.invariant _ _ (first_code c.halves.rest.now none c.in-len1-up.len_at_least)
     (ap (contains nat_cmp c.halves.met) (sym c.code.ensures) ∙ sym c.contains.ensures ∙ c.if-not-contains.true)
-    (codes c.in_ok-cycle.cycle) c.in_ok-cycle.ensures (map codes c.push.new.self.items) (codes_pushed c.halves.cycles.items c.in_ok-cycle.cycle c.push.new.self.items c.in_ok-push.ensures.items) (contains nat_cmp c.meet.new.met)
+    (codes c.in_ok-cycle.cycle) c.in_ok-cycle.ensures (map codes c.push-then-not-contains.new.self.items) (codes_pushed c.halves.cycles.items c.in_ok-cycle.cycle c.push-then-not-contains.new.self.items c.in_ok-push-2.ensures.items) (contains nat_cmp c.meet.new.met)
     (λ x. c.in_ok-meet.ensures x ∙ ap (λ (hs : List HalfEdge). lists (map code hs) x || contains nat_cmp c.halves.met x) c.as_slice.ensures.value)
 
 pub halves-preserved : goal.halves-preserved
