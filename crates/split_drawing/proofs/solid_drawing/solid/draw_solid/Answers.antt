@@ -23,17 +23,17 @@ pairs_started-requires-clause-plane c = cut_plane c.args.draft.now.model c.args.
 pub draw_faces-requires-clause-plane : goal.draw_faces-requires-clause-plane
 draw_faces-requires-clause-plane c = cut_plane c.args.draft.now.model c.args.s c.args.plane.now c.requires.begins
 
-pub draw_faces-requires-clause-enough : goal.draw_faces-requires-clause-enough
-draw_faces-requires-clause-enough c =
-    let M = c.args.draft.now.model in let s = c.args.s in let p = c.args.plane.now in
-    enough M s p c.stays_consistent.ensures.model c.requires.begins c.counters_of-taken.result c.cut_edges.new.draft.model c.in_ok-cut_edges.ensures.model
-    (c.counters_of-taken.ensures.is ∙ ap taken_in c.arena-2.ensures.model) c.args.cuts.now c.requires.cuts c.as_slice-faces.result.now c.as_slice-faces.ensures.value c.as_slice-3.result.now
-    (ap (map codes) c.as_slice-3.ensures.value ∙ c.in_ok-started.ensures ∙ (λ i. pairs_started (c.arena.ensures.model i) p (map codes (c.as_slice-2.ensures.value i))))
-
 pub draw_faces-requires-clause-can : goal.draw_faces-requires-clause-can
 draw_faces-requires-clause-can c =
     let M = c.args.draft.now.model in let s = c.args.s in let p = c.args.plane.now in
     can_draw M s p c.stays_consistent.ensures.model c.requires.begins c.counters_of-taken.result c.cut_edges.new.draft.model c.in_ok-cut_edges.ensures.model
+    (c.counters_of-taken.ensures.is ∙ ap taken_in c.arena-2.ensures.model) c.args.cuts.now c.requires.cuts c.as_slice-faces.result.now c.as_slice-faces.ensures.value c.as_slice-3.result.now
+    (ap (map codes) c.as_slice-3.ensures.value ∙ c.in_ok-started.ensures ∙ (λ i. pairs_started (c.arena.ensures.model i) p (map codes (c.as_slice-2.ensures.value i))))
+
+pub draw_faces-requires-clause-enough : goal.draw_faces-requires-clause-enough
+draw_faces-requires-clause-enough c =
+    let M = c.args.draft.now.model in let s = c.args.s in let p = c.args.plane.now in
+    enough M s p c.stays_consistent.ensures.model c.requires.begins c.counters_of-taken.result c.cut_edges.new.draft.model c.in_ok-cut_edges.ensures.model
     (c.counters_of-taken.ensures.is ∙ ap taken_in c.arena-2.ensures.model) c.args.cuts.now c.requires.cuts c.as_slice-faces.result.now c.as_slice-faces.ensures.value c.as_slice-3.result.now
     (ap (map codes) c.as_slice-3.ensures.value ∙ c.in_ok-started.ensures ∙ (λ i. pairs_started (c.arena.ensures.model i) p (map codes (c.as_slice-2.ensures.value i))))
 
