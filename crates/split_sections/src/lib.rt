@@ -8,8 +8,8 @@
 //! From a ready arena: `faces_above`, the faces of a solid above a plane in range, rising, where a face wholly on the plane is
 //! above unless its normal points along the plane's direction; `below_halves`, the halves of the section edges in the faces that
 //! aren't above, by rising edge; or `AllocError`. `least_branched`: the least vertex at which more than two section edges meet,
-//! or none; `cycles`: the cycles of the below halves, each from its least on, by these; `is_hole`: whether the normal of a
-//! cycle's cap below points against the plane; or `AllocError`. `check_later`: of the conditions of a split that are tested once
+//! or none; `cycles`: the cycles of the below halves, each from its least on, by these, with word on which are holes, where the
+//! normal of a cycle's cap below points against the plane; or `AllocError`. `check_later`: of the conditions of a split that are tested once
 //! the faces are drawn the first false one, with its value, or the faces above and the cycles of the section with word on which
 //! are holes, or `AllocError`.
 #![tactic(auto)]
@@ -18,5 +18,6 @@ mod section_checks;
 mod section_cycles;
 mod section_edges;
 
-pub use section_checks::{Cycle, Section, check_later};
+pub use section_checks::{Section, check_later};
+pub use section_cycles::Cycle;
 pub use solid_walks::start;

@@ -6,4 +6,4 @@ mod numbers;
 mod section;
 
 pub use checks::check_later;
-pub use section::{Cycle, Section};
+pub use section::Section;

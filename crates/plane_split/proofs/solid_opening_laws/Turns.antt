@@ -17,8 +17,8 @@ use Rattle.split_laws.proofs.Flags.{flags_are, next_flags}
 use Rattle.split_drawing.proofs.CutPlaces.{others, parts}
 use Rattle.split_drawing.specs.Counters.{taken_of}
 use Rattle.split_drawing.specs.declared.Counters.{Counters}
-use Rattle.split_sections.specs.section_checks.Sections.{halves_of}
-use Rattle.split_sections.specs.declared.section_checks.section.Cycle.{Cycle}
+use Rattle.split_sections.specs.section_cycles.Halves.{halves_of}
+use Rattle.split_sections.specs.declared.section_cycles.cycle.Cycle.{Cycle}
 use Rattle.plane_split.specs.solid_opening.Capped.{caps_of, all_caps, opening_of}
 use Rattle.plane_split.specs.solid_opening.Stages.{CanOpen}
 use Rattle.plane_split.specs.declared.solid_opening.caps.Caps.{Caps}

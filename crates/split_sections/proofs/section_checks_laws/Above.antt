@@ -4,20 +4,17 @@ use Rattle.std.proofs.lemmas.Bool.{eqb-true}
 use Rattle.std.specs.Prelude.{filter, unwrap_or}
 use Rattle.euler_operators.specs.declared.Plane.{Plane}
 use Rattle.euler_operators.specs.Items.{least}
-use Rattle.euler_operators.specs.Model.{Model, tail, solid_of, faces_of, no_face}
+use Rattle.euler_operators.specs.Model.{Model, solid_of, faces_of, no_face}
 use Rattle.euler_operators.specs.Sound.{Sound}
 use Rattle.euler_operators.specs.Conditions.{strictly_rises}
 use Rattle.euler_operators.proofs.Members.{count-filter}
 use Rattle.euler_laws.proofs.shared.Listed.{all_where-rises, IsIn-from_listed}
 use Rattle.shapes.specs.split.Sides.{face_is_above, faces_above}
 use Rattle.shapes.specs.split.Section.{below_halves, cycle_from, section_cycles}
-use Rattle.split_opening_laws.specs.cycles.SectionCycles.{AreOf, IsUnbranched, AreSectionCycles}
+use Rattle.split_opening_laws.specs.cycles.SectionCycles.{AreOf}
 use Rattle.split_opening_laws.proofs.cycles.RisingLists.{filter_rises}
 use Rattle.split_opening_laws.proofs.cycles.BelowHalves.{halves_apart, halves_are}
-use Rattle.split_opening_laws.proofs.cycles.Cycles.{cycles_lead_round}
-use Rattle.split_opening_laws.proofs.cycles.Meets.{apart_before}
 use Rattle.split_sections.specs.section_cycles.Halves.{AreThere}
-use Rattle.split_sections.specs.section_checks.Cycles.{AreCycles}
 use Rattle.euler_laws.proofs.shared.Counted.{all_where_has}
 use Rattle.shapes.proofs.walks.FaceLoops.{halves_short}
 
@@ -51,13 +48,6 @@ module _ (M : Model) (sound : Sound M) (above : List ℕ) (s : ℕ) (faces : Are
 
   pub few_halves : length (below_halves M above s) ≤ 2000002
   few_halves = halves_short M sound (below_halves M above s) (record { apart = halves_apart M above s sound; there = halves_there })
-
-  module _ (unbranched : IsUnbranched M (below_halves M above s)) where
-    pub are_cycles : AreCycles M (section_cycles M (below_halves M above s))
-    are_cycles = go (section_cycles M (below_halves M above s)) (cycles_lead_round M above s sound faces unbranched) where
-      go : (cs : List (List ℕ)) → AreSectionCycles M above s cs → AreCycles M cs
-      go [] a = tt
-      go (c ∷ cs) a = ((λ b i. (a.0.halves b i).there, apart_before (tail M) c a.0.starts_apart), go cs a.1)
 
   pub few_cycles : length (section_cycles M (below_halves M above s)) ≤ 2000002
   unfolding section_cycles

@@ -16,10 +16,10 @@ use Rattle.split_opening_laws.specs.cycles.SectionCycles.{AreOf, IsUnbranched}
 use Rattle.split_opening_laws.proofs.cycles.BelowHalves.{halves_rise}
 use Rattle.split_opening_laws.proofs.cycles.NextBelow.{permutes}
 use Rattle.split_sections.specs.section_cycles.Halves.{AreThere}
-use Rattle.split_sections.specs.section_checks.Cycles.{AreCycles, AreCyclesOf, has_stray}
-use Rattle.split_sections.specs.section_checks.Sections.{halves_of}
-use Rattle.split_sections.specs.declared.section_checks.section.Cycle.{Cycle}
-use Rattle.split_sections.proofs.section_checks_laws.Above.{halves_there, few_halves, are_cycles, few_cycles}
+use Rattle.split_sections.specs.section_checks.Cycles.{AreCyclesOf, has_stray}
+use Rattle.split_sections.specs.section_cycles.Halves.{halves_of}
+use Rattle.split_sections.specs.declared.section_cycles.cycle.Cycle.{Cycle}
+use Rattle.split_sections.proofs.section_checks_laws.Above.{halves_there, few_halves, few_cycles}
 use Rattle.split_sections.proofs.section_checks_laws.HoleFlags.{stray_is}
 use Rattle.split_sections.proofs.section_checks_laws.Stages.{branched, stray, to_numbers}
 
@@ -46,9 +46,6 @@ module _ (M : Model) (sound : Sound M) (above : List ℕ) (s : ℕ) (faces : Are
     module _ (cs : List (List ℕ)) (is : cs ≡ section_cycles M (map code hs)) where
       cycles_are : cs ≡ section_cycles M (below_halves M above s)
       cycles_are = is ∙ ap (section_cycles M) e
-
-      pub cycles_now : AreCycles M cs
-      cycles_now = subst (AreCycles M) (sym cycles_are) (are_cycles M sound above s faces unbranched)
 
       module _ (p : Plane) (told : List Cycle) (h : map halves_of told ≡ cs) (w : map (λ c. c.hole) told ≡ map (is_hole M p) cs) where
         told_holes : map (λ c. c.hole) told ≡ map (is_hole M p) (map halves_of told)

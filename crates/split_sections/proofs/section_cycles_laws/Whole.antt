@@ -1,19 +1,20 @@
 -- The cycles of the below halves, all found.
-use Rattle.std.proofs.Common.{◌≡◌, ℕ, ◌≤◌, ◌<◌, Bool, true, false, List, [], ◌∷◌, ◌++◌, map, length, Vec, refl, sym, ap, ◌∙◌, arith}
-use Rattle.std.specs.declared.alloc.Global.{Global}
+use Rattle.std.proofs.Common.{◌≡◌, ℕ, ◌≤◌, ◌<◌, Bool, true, false, List, [], ◌∷◌, ◌++◌, map, length, refl, sym, ap, ◌∙◌, arith}
 use Rattle.std.proofs.lemmas.List.{length-map, map-append}
-use Rattle.euler_operators.specs.Items.{count, IsIn}
+use Rattle.euler_operators.specs.Items.{count, IsIn, IsApart}
 use Rattle.euler_operators.specs.declared.HalfEdge.{HalfEdge}
+use Rattle.euler_operators.specs.declared.Plane.{Plane}
 use Rattle.euler_operators.specs.HalfEdge.{code}
 use Rattle.euler_operators.specs.Conditions.{strictly_rises}
 use Rattle.euler_operators.specs.Model.{Model}
 use Rattle.euler_operators.specs.Sound.{Sound, HasHalf}
 use Rattle.euler_laws.proofs.shared.Bounds.{steps_are, half_below}
 use Rattle.solid_walks.proofs.face_walks_laws.HalfCodes.{edge_fits}
-use Rattle.shapes.specs.split.Section.{next_below, cycle_from, section_cycles}
+use Rattle.shapes.specs.split.Section.{next_below, cycle_from, section_cycles, is_hole}
 use Rattle.split_opening_laws.specs.cycles.Permuting.{Permutes}
-use Rattle.split_opening_laws.proofs.cycles.Orbits.{around_within}
-use Rattle.split_sections.specs.section_cycles.Halves.{AreThere, codes}
+use Rattle.split_opening_laws.proofs.cycles.Orbits.{around_apart, around_within}
+use Rattle.split_sections.specs.section_cycles.Halves.{AreThere, halves_of}
+use Rattle.split_sections.specs.declared.section_cycles.cycle.Cycle.{Cycle}
 use Rattle.split_sections.proofs.section_cycles_laws.Found.{Finding, all_found, found_whole}
 
 pub number_fits : (M : Model) → Sound M → (h : HalfEdge) → HasHalf M (code h) → h.edge ≤ 1000000
@@ -28,15 +29,30 @@ pub no_more : (hs : List HalfEdge) → length hs < 1 → map code hs ≡ []
 no_more [] l = refl
 no_more (h ∷ hs) l = absurd (omega (arith, l))
 
-pub codes_pushed : (old : List (Vec HalfEdge Global)) (cycle : Vec HalfEdge Global) (new : List (Vec HalfEdge Global)) → new ≡ old ++ cycle ∷ [] → map codes new ≡ map codes old ++ codes cycle ∷ []
-codes_pushed old cycle new e = ap (λ (cs : List (Vec HalfEdge Global)). map codes cs) e ∙ map-append codes old (cycle ∷ [])
+pub halves_pushed : (old : List Cycle) (cycle : Cycle) (new : List Cycle) → new ≡ old ++ cycle ∷ [] → map halves_of new ≡ map halves_of old ++ halves_of cycle ∷ []
+halves_pushed old cycle new e = ap (λ (cs : List Cycle). map halves_of cs) e ∙ map-append halves_of old (cycle ∷ [])
+
+abbrev pub AreTold : Model → Plane → List Cycle → Type 0
+AreTold M p cs = map (λ c. c.hole) cs ≡ map (is_hole M p) (map halves_of cs)
+
+pub holes_pushed : (M : Model) (p : Plane) (old : List Cycle) (cycle : Cycle) (new : List Cycle) → new ≡ old ++ cycle ∷ [] → AreTold M p old → cycle.hole ≡ is_hole M p (halves_of cycle) → AreTold M p new
+holes_pushed M p old cycle new e told one =
+    ap (λ (cs : List Cycle). map (λ c. c.hole) cs) e ∙ map-append (λ (c : Cycle). c.hole) old (cycle ∷ []) ∙ (λ i. told i ++ one i ∷ [])
+    ∙ sym (map-append (is_hole M p) (map halves_of old) (halves_of cycle ∷ [])) ∙ sym (ap (map (is_hole M p)) (halves_pushed old cycle new e))
+
+-- a cycle of some halves is of different ones that are there
+pub round_there : (M : Model) (bs : List ℕ) → AreThere M bs → Permutes (next_below M bs) bs → (first : ℕ) → IsIn first bs → (cycle : List ℕ) → cycle ≡ cycle_from M bs first → AreThere M cycle
+round_there M bs there w first i cycle is b j = there b (around_within (next_below M bs) bs w first i b (omega (arith, ap (count b) is, j)))
+
+pub round_apart : (M : Model) (bs : List ℕ) → Permutes (next_below M bs) bs → (first : ℕ) → IsIn first bs → (cycle : List ℕ) → cycle ≡ cycle_from M bs first → IsApart cycle
+round_apart M bs w first i cycle is b = omega (arith, ap (count b) is, around_apart (next_below M bs) bs w first i b)
 
 pub listed_cycles : (M : Model) (bs left : List ℕ) (found : List (List ℕ)) (met : ℕ → Bool) → Finding (next_below M bs) bs left found met → left ≡ [] → found ≡ section_cycles M bs
 unfolding section_cycles
 listed_cycles M bs left found met f e = all_found (next_below M bs) bs left found met f e
 
 pub whole_cycle : (M : Model) (hs : List HalfEdge) → Permutes (next_below M (map code hs)) (map code hs) → strictly_rises (map code hs) ≡ true → (left : List ℕ) (found : List (List ℕ)) (met : ℕ → Bool) → Finding (next_below M (map code hs)) (map code hs) left found met
-    → (b : ℕ) (rest : List ℕ) → left ≡ b ∷ rest → met b ≡ false → (cycle : Vec HalfEdge Global) → codes cycle ≡ cycle_from M (map code hs) b → length cycle.items ≡ length hs → (more : List (List ℕ)) → more ≡ found ++ codes cycle ∷ [] → more ≡ section_cycles M (map code hs)
+    → (b : ℕ) (rest : List ℕ) → left ≡ b ∷ rest → met b ≡ false → (cycle : Cycle) → halves_of cycle ≡ cycle_from M (map code hs) b → length cycle.halves.items ≡ length hs → (more : List (List ℕ)) → more ≡ found ++ halves_of cycle ∷ [] → more ≡ section_cycles M (map code hs)
 unfolding section_cycles
 whole_cycle M hs w up left found met f b rest e t cycle is many more em =
-    found_whole (next_below M (map code hs)) (map code hs) w up left found met f b rest e t (codes cycle) is (length-map cycle.items code ∙ many ∙ sym (length-map hs code)) more em
+    found_whole (next_below M (map code hs)) (map code hs) w up left found met f b rest e t (halves_of cycle) is (length-map cycle.halves.items code ∙ many ∙ sym (length-map hs code)) more em

@@ -1,17 +1,10 @@
 -- The cycles of a section as they are found, and which of them are holes.
-use Rattle.std.specs.Prelude.{◌≡◌, ℕ, ◌+◌, Bool, not, ◌&&◌, nat_eq, nat_lt, List, [], ◌∷◌, map, filter, length}
+use Rattle.std.specs.Prelude.{◌≡◌, ℕ, ◌+◌, Bool, not, ◌&&◌, nat_eq, nat_lt, List, map, filter, length}
 use Rattle.euler_operators.specs.declared.Plane.{Plane}
-use Rattle.euler_operators.specs.Items.{IsApart}
 use Rattle.euler_operators.specs.Model.{Model}
 use Rattle.shapes.specs.split.Section.{section_cycles, is_hole}
-use Rattle.split_sections.specs.section_cycles.Halves.{AreThere}
-use Rattle.split_sections.specs.section_checks.Sections.{halves_of}
-use Rattle.split_sections.specs.declared.section_checks.section.Cycle.{Cycle}
-
--- the half-edges of each of some cycles are there, and all different
-abbrev pub AreCycles : Model → List (List ℕ) → Type 0
-AreCycles M [] = Unit {0}
-AreCycles M (c ∷ cs) = (AreThere M c × IsApart c) × AreCycles M cs
+use Rattle.split_sections.specs.section_cycles.Halves.{halves_of}
+use Rattle.split_sections.specs.declared.section_cycles.cycle.Cycle.{Cycle}
 
 -- a cycle is a hole, and not exactly one is outer
 abbrev pub has_stray : List Cycle → Bool

@@ -1,17 +1,13 @@
 -- The section of a solid, as the code has it.
 use Rattle.std.specs.Prelude.{◌≡◌, ℕ, Bool, List, map}
 use Rattle.euler_operators.specs.declared.Plane.{Plane}
-use Rattle.euler_operators.specs.HalfEdge.{code}
 use Rattle.euler_operators.specs.Model.{Model}
 use Rattle.shapes.specs.split.Section.{below_halves, section_cycles, is_hole}
 use Rattle.shapes.specs.split.Sides.{faces_above}
-use Rattle.split_sections.specs.declared.section_checks.section.Cycle.{Cycle}
+use Rattle.split_sections.specs.section_cycles.Halves.{halves_of}
 use Rattle.split_sections.specs.declared.section_checks.section.Section.{Section}
 
--- the halves of a cycle
-abbrev pub halves_of : Cycle → List ℕ
-halves_of c = map code c.halves.items
-
+-- the halves of each cycle
 abbrev pub cycles_of : Section → List (List ℕ)
 cycles_of q = map halves_of q.cycles.items
 

@@ -1,13 +1,13 @@
 -- Lists of half-edges, as the code has them.
-use Rattle.std.specs.Prelude.{◌≡◌, ℕ, nat_eq, Bool, true, false, List, [], ◌∷◌, map, Vec}
-use Rattle.std.specs.declared.alloc.Global.{Global}
+use Rattle.std.specs.Prelude.{◌≡◌, ℕ, nat_eq, Bool, true, false, List, [], ◌∷◌, map}
 use Rattle.euler_operators.specs.Items.{IsIn}
-use Rattle.euler_operators.specs.declared.HalfEdge.{HalfEdge}
 use Rattle.euler_operators.specs.HalfEdge.{code}
 use Rattle.euler_operators.specs.Model.{Model, has_half}
+use Rattle.split_sections.specs.declared.section_cycles.cycle.Cycle.{Cycle}
 
-abbrev pub codes : Vec HalfEdge Global → List ℕ
-codes hs = map code hs.items
+-- the halves of a cycle
+abbrev pub halves_of : Cycle → List ℕ
+halves_of c = map code c.halves.items
 
 -- each of these half-edges is there
 abbrev pub AreThere : Model → List ℕ → Type 0

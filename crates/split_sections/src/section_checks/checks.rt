@@ -13,13 +13,13 @@ ghost use Rattle.solid_walks.specs.Counters.{taken_of};
 ghost use Rattle.split_checks.specs.Progress.{drawing_of};
 ghost use Rattle.split_sections.specs.section_checks.Cycles.{AreCyclesOf};
 ghost use Rattle.split_sections.specs.section_checks.Sections.{IsSection};
-ghost use Rattle.split_sections.specs.declared.section_checks.section.Cycle.{Cycle};
+ghost use Rattle.split_sections.specs.declared.section_cycles.cycle.Cycle.{Cycle};
 ghost use Rattle.split_sections.specs.declared.section_checks.section.Section.{Section};
 
-use crate::section_checks::holes::{has_stray_hole, with_holes};
+use crate::section_checks::holes::has_stray_hole;
 use crate::section_checks::numbers::check_left;
-use crate::section_checks::section::{Cycle, Section};
-use crate::section_cycles::{cycles, least_branched};
+use crate::section_checks::section::Section;
+use crate::section_cycles::{Cycle, cycles, least_branched};
 use crate::section_edges::{below_halves, faces_above};
 use euler_conditions::Arena;
 use euler_operators::{Kind, Plane, Refusal, Why};
@@ -53,8 +53,7 @@ fn check_cycles(
             number: v,
         }));
     }
-    let found = cycles(alloc, arena, halves.as_slice())?;
-    let cycles = with_holes(alloc, arena, plane, found)?;
+    let cycles = cycles(alloc, arena, plane, halves.as_slice())?;
     if has_stray_hole(cycles.as_slice()) {
         return Ok(Err(Refusal {
             why: Why::SectionHoles,

@@ -5,15 +5,18 @@ ghost use Rattle.std.specs.Ordering.{nat_cmp};
 ghost use Rattle.euler_operators.specs.Items.{IsIn};
 ghost use Rattle.euler_operators.specs.HalfEdge.{code};
 ghost use Rattle.euler_conditions.specs.Ready.{IsReady};
+ghost use Rattle.euler_operators.specs.Ranges.{IsCutPlane};
 ghost use Rattle.euler_operators.specs.Conditions.{lists, strictly_rises};
 ghost use Rattle.split_opening_laws.specs.cycles.Permuting.{Permutes};
-ghost use Rattle.shapes.specs.split.Section.{cycle_from, next_below, section_cycles};
-ghost use Rattle.split_sections.specs.section_cycles.Halves.{AreThere, codes};
+ghost use Rattle.shapes.specs.split.Section.{cycle_from, is_hole, next_below, section_cycles};
+ghost use Rattle.split_sections.specs.section_cycles.Halves.{AreThere, halves_of};
 ghost use Rattle.split_sections.specs.section_cycles.Starts.{AreStarts};
 
+use crate::section_cycles::cycle::Cycle;
+use crate::section_cycles::holes::is_hole;
 use crate::section_cycles::starts::{next_half, starts_of};
 use euler_conditions::{Arena, same};
-use euler_operators::HalfEdge;
+use euler_operators::{HalfEdge, Plane};
 use std::alloc::{AllocError, Global};
 use std::collections::{BTreeMap, BTreeSet};
 
@@ -44,6 +47,33 @@ fn cycle_from(
     Ok(cycle)
 }
 
+/// The cycle of the halves from one of them on, each of which leads to one of them and no two to the same, with word on whether it is a
+/// hole.
+fn cycle_with_hole(
+    alloc: Global,
+    arena: &Arena,
+    plane: Plane,
+    halves: &[HalfEdge],
+    starts: &BTreeMap<u32, HalfEdge>,
+    first: HalfEdge,
+) -> Result<Cycle, AllocError>
+    requires ready { IsReady arena.now }
+    requires plane { IsCutPlane plane }
+    requires there { AreThere arena.now.model (map code halves.now) }
+    requires starts { AreStarts arena.now.model (map code halves.now) starts.now }
+    requires next { Permutes (next_below arena.now.model (map code halves.now)) (map code halves.now) }
+    requires first { IsIn (code first) (map code halves.now) }
+    ensures halves { IfOk result (λ cycle. halves_of cycle ≡ cycle_from arena.now.model (map code halves.now) (code first)) }
+    ensures hole { IfOk result (λ cycle. cycle.hole ≡ is_hole arena.now.model plane (halves_of cycle)) }
+{
+    let round = cycle_from(alloc, arena, halves, starts, first)?;
+    let hole = is_hole(arena, plane, round.as_slice());
+    Ok(Cycle {
+        halves: round,
+        hole,
+    })
+}
+
 /// Adds half-edges to those met.
 fn meet(met: &mut BTreeSet<u32>, halves: &[HalfEdge]) -> Result<(), AllocError>
     requires { (b : ℕ) → IsIn b (map code halves.now) → b ≤ 2000001 }
@@ -57,18 +87,21 @@ fn meet(met: &mut BTreeSet<u32>, halves: &[HalfEdge]) -> Result<(), AllocError>
     Ok(())
 }
 
-/// The cycles of these below halves, each from its least half on, by their least halves. Each leads to the one that starts where it
-/// ends, and no two to the same. It takes n log n steps for n halves. `AllocError` where memory is refused.
+/// The cycles of these below halves, each from its least half on, by their least halves, with word on which are holes. Each half leads to
+/// the one that starts where it ends, and no two to the same. It takes n log n steps for n halves. `AllocError` where memory is refused.
 pub(crate) fn cycles(
     alloc: Global,
     arena: &Arena,
+    plane: Plane,
     halves: &[HalfEdge],
-) -> Result<Vec<Vec<HalfEdge>>, AllocError>
+) -> Result<Vec<Cycle>, AllocError>
     requires ready { IsReady arena.now }
+    requires plane { IsCutPlane plane }
     requires there { AreThere arena.now.model (map code halves.now) }
     requires rising { strictly_rises (map code halves.now) ≡ true }
     requires next { Permutes (next_below arena.now.model (map code halves.now)) (map code halves.now) }
-    ensures { IfOk result (λ found. map codes found.items ≡ section_cycles arena.now.model (map code halves.now)) }
+    ensures halves { IfOk result (λ found. map halves_of found.items ≡ section_cycles arena.now.model (map code halves.now)) }
+    ensures holes { IfOk result (λ found. map (λ c. c.hole) found.items ≡ map (is_hole arena.now.model plane) (map halves_of found.items)) }
 {
     let starts = starts_of(alloc, arena, halves)?;
     let mut met = BTreeSet::new(alloc);
@@ -76,12 +109,12 @@ pub(crate) fn cycles(
     let mut rest = halves;
     'halves: while let [half, others @ ..] = rest {
         if !met.contains(&half.code()) {
-            let cycle = cycle_from(alloc, arena, halves, &starts, *half)?;
-            if cycle.len() == halves.len() {
+            let cycle = cycle_with_hole(alloc, arena, plane, halves, &starts, *half)?;
+            if cycle.halves.len() == halves.len() {
                 cycles.push(cycle)?;
                 return Ok(cycles);
             }
-            meet(&mut met, cycle.as_slice())?;
+            meet(&mut met, cycle.halves.as_slice())?;
             cycles.push(cycle)?;
         }
         rest = others;
