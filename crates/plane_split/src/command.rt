@@ -8,12 +8,13 @@ ghost use Rattle.undo_journal.specs.Journal.{IsRecorded};
 ghost use Rattle.shapes.specs.split.Split as spec;
 ghost use Rattle.plane_split.specs.Machine.{plane_with, split, split_refusal};
 ghost use Rattle.split_drawing.specs.Cuts.{AreCuts};
+ghost use Rattle.split_drawing.specs.Noted.{AreSides};
 ghost use Rattle.split_drawing_laws.specs.crossings.Laws.{CanBegin};
 
 use crate::steps::carry_out;
 use euler_conditions::Arena;
 use euler_operators::Plane;
-use split_drawing::{Cuts, check_begin};
+use split_drawing::{Cuts, Sides, check_begin, none_noted};
 use std::alloc::Global;
 use undo_journal::{Draft, Failure, Session};
 
@@ -30,13 +31,22 @@ fn plane_of(a: i64, b: i64, c: i64, d: i64) -> Plane
 }
 
 /// What the plane cuts of solid s, where it can begin to split s, whose upper part is to be solid `upper`; and if it can't why.
-fn admit(alloc: Global, arena: &Arena, s: u32, plane: &Plane, upper: u32) -> Result<Cuts, Failure>
-    requires { IsReady arena.now }
+fn admit(
+    alloc: Global,
+    arena: &Arena,
+    s: u32,
+    plane: &Plane,
+    upper: u32,
+    sides: &mut Sides,
+) -> Result<Cuts, Failure>
+    requires ready { IsReady arena.now }
+    requires sides { AreSides arena.now.model plane.now sides.old }
     ensures ok { OnOk result (CanBegin arena.now.model s plane.now upper) }
     ensures cuts { IfOk result (λ cuts. AreCuts arena.now.model plane.now s cuts) }
+    ensures sides { AreSides arena.now.model plane.now sides.new }
     ensures refused { (refusal : Refusal) → (result ≡ Err (Failure.Refused refusal)) → (spec.split_refusal arena.now.model s plane.now upper ≡ Some refusal) }
 {
-    match check_begin(alloc, arena, s, plane, upper) {
+    match check_begin(alloc, arena, s, plane, upper, sides) {
         Ok(Ok(cuts)) => Ok(cuts),
         Ok(Err(refusal)) => Err(Failure::Refused(refusal)),
         Err(error) => Err(Failure::Memory(error)),
@@ -83,7 +93,8 @@ pub fn split(
     ensures err { OnErr result.1 (result.0 ≡ session) }
 {
     let plane = plane_of(a, b, c, d);
-    let cuts = match admit(alloc, session.arena(), s, &plane, upper) {
+    let mut sides = none_noted();
+    let cuts = match admit(alloc, session.arena(), s, &plane, upper, &mut sides) {
         Ok(cuts) => cuts,
         Err(failure) => return (session, Err(failure)),
     };
@@ -91,7 +102,7 @@ pub fn split(
         Ok(draft) => draft,
         Err((session, error)) => return (session, Err(Failure::Memory(error))),
     };
-    match carry_out(alloc, &mut draft, s, &plane, upper, &cuts) {
+    match carry_out(alloc, &mut draft, s, &plane, upper, &cuts, &mut sides) {
         Ok(Ok(())) => (draft.commit(), Ok(())),
         Ok(Err(refusal)) => (draft.abandon(), Err(Failure::Refused(refusal))),
         Err(error) => (draft.abandon(), Err(Failure::Memory(error))),

@@ -5,13 +5,14 @@ ghost use Rattle.euler_operators.specs.Conditions.{verdict};
 ghost use Rattle.shapes.specs.split.Split.{split_above, split_model, split_refusal};
 ghost use Rattle.split_drawing_laws.specs.crossings.Laws.{CanBegin};
 ghost use Rattle.split_drawing.specs.Cuts.{AreCuts};
+ghost use Rattle.split_drawing.specs.Noted.{AreSides};
 ghost use Rattle.split_drawing.specs.Progress.{drawing_of};
 ghost use Rattle.split_sections.specs.section_checks.Sections.{IsSection};
 ghost use Rattle.plane_split.specs.Drawn.{IsDrawn};
 
 use crate::solid_opening::{open_section, part_upper};
 use euler_operators::{NUMBER_LIMIT, Plane, Refusal};
-use split_drawing::{Cuts, Progress, draw_solid};
+use split_drawing::{Cuts, Progress, Sides, draw_solid};
 use split_sections::{Section, check_later};
 use std::alloc::{AllocError, Global};
 use undo_journal::Draft;
@@ -47,16 +48,18 @@ fn take_steps(
     plane: &Plane,
     upper: u32,
     cuts: &Cuts,
+    sides: &mut Sides,
 ) -> Result<Result<(), Refusal>, AllocError>
     requires sound { Sound draft.old.model }
     requires begins { CanBegin draft.old.model s plane.now upper }
     requires cuts { AreCuts draft.old.model plane.now s cuts.now }
+    requires sides { AreSides draft.old.model plane.now sides.old }
     ensures carried { IfOk result (λ carried. carried ≡ verdict (split_refusal draft.old.model s plane.now upper)) }
     ensures model { (result ≡ Ok (Ok tt)) → (draft.new.model ≡ split_model draft.old.model s plane.now upper) }
     ensures session { draft.new.session ≡ draft.old.session }
 {
     let drawn = draw_solid(alloc, draft, s, plane, cuts)?;
-    let section = match check_later(alloc, draft.arena(), s, plane, &drawn)? {
+    let section = match check_later(alloc, draft.arena(), s, plane, &drawn, sides)? {
         Ok(section) => section,
         Err(refusal) => return Ok(Err(refusal)),
     };
@@ -81,14 +84,16 @@ pub(crate) fn carry_out(
     plane: &Plane,
     upper: u32,
     cuts: &Cuts,
+    sides: &mut Sides,
 ) -> Result<Result<(), Refusal>, AllocError>
     requires sound { Sound draft.old.model }
     requires begins { CanBegin draft.old.model s plane.now upper }
     requires cuts { AreCuts draft.old.model plane.now s cuts.now }
+    requires sides { AreSides draft.old.model plane.now sides.old }
     ensures carried { IfOk result (λ carried. carried ≡ verdict (split_refusal draft.old.model s plane.now upper)) }
     ensures model { (result ≡ Ok (Ok tt)) → (draft.new.model ≡ split_model draft.old.model s plane.now upper) }
     ensures session { draft.new.session ≡ draft.old.session }
 {
     draft.reserve(usual_steps(cuts))?;
-    take_steps(alloc, draft, s, plane, upper, cuts)
+    take_steps(alloc, draft, s, plane, upper, cuts, sides)
 }

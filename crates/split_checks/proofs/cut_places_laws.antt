@@ -11,4 +11,5 @@ pub mod Edges
 pub mod Searched
 pub mod Sorted
 pub mod Met
+pub mod NotedSides
 pub mod Told

@@ -1,16 +1,20 @@
 //! What a plane meets of a solid, found in one walk over its corners: on which sides they lie, which edges cross the plane, which faces
 //! straddle it, and the cut places of these.
 
+mod face_sides;
 mod found;
 mod halves;
 mod looking;
 mod meetings;
+mod noted;
 mod planes;
 mod rising;
 mod sides;
 
+pub use face_sides::face_side;
 pub(crate) use found::{FaceMet, Met};
 pub(crate) use halves::goes_up;
 pub use halves::starts_on;
+pub use noted::{Noted, Sides, none_noted};
 pub(crate) use rising::rising_meeting;
-pub use sides::{loop_reaches, reaches};
+pub use sides::loop_reaches;

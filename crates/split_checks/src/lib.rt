@@ -1,8 +1,9 @@
 //! What a plane meets of a solid, and whether it can begin to split it, tested before anything is changed.
 //!
 //! `cut_places` looks at each corner of a solid once, and tells on which sides of the plane corners lie, which edges cross it, which
-//! faces straddle it, and which are the cut places of these; `place_order` puts the places of a face in the order of their points, and
-//! `face_pairs` in pairs; `begin_checks` tests the conditions with which a split begins, and tells the `Cuts` that it has found.
+//! faces straddle it, and which are the cut places of these; it notes the sides of vertices, so that they needn't be computed again.
+//! `place_order` puts the places of a face in the order of their points, and `face_pairs` in pairs; `begin_checks` tests the conditions
+//! with which a split begins, and tells the `Cuts` that it has found.
 //!
 //! # What is proved
 //!
@@ -24,7 +25,7 @@ mod place_order;
 mod progress;
 
 pub use begin_checks::check_begin;
-pub use cut_places::{loop_reaches, reaches, starts_on};
+pub use cut_places::{Noted, Sides, face_side, loop_reaches, none_noted, starts_on};
 pub use cuts::{CutEdge, Cuts, Pair, PairedFace};
 pub use progress::Progress;
 pub use solid_measure::{Vector, half_added, normal};

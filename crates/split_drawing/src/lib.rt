@@ -20,4 +20,4 @@ mod solid_drawing;
 
 pub use solid_drawing::draw_solid;
 pub use solid_walks::Counters;
-pub use split_checks::{Cuts, Progress, check_begin};
+pub use split_checks::{Cuts, Progress, Sides, check_begin, none_noted};

@@ -56,7 +56,7 @@ or_turned true false = refl
 or_turned false true = refl
 or_turned false false = refl
 
-or_joined : (a b c : Bool) → (a || b) || c ≡ a || (b || c)
+pub or_joined : (a b c : Bool) → (a || b) || c ≡ a || (b || c)
 or_joined true b c = refl
 or_joined false b c = refl
 

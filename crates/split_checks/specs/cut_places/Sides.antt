@@ -1,5 +1,5 @@
 -- Sides of a plane, as signs.
-use Rattle.std.specs.Prelude.{ℕ, Bool, true, false, List}
+use Rattle.std.specs.Prelude.{ℕ, Bool, true, false, cond, List}
 use Rattle.std.specs.List.{list_any}
 use Rattle.euler_operators.specs.declared.Point.{Point}
 use Rattle.euler_operators.specs.declared.Plane.{Plane}
@@ -38,3 +38,7 @@ some_start side M p hs = list_any (λ h. lies side p (start M h)) hs
 -- whether a face has a corner there
 abbrev pub reaches : Sign → Model → Plane → ℕ → Bool
 reaches side M p f = some_lie side M p (corners M f)
+
+-- the side that is reached with a corner above or not, and with one below or not
+abbrev pub side_reached : Bool → Bool → Sign
+side_reached above below = cond above Above (cond below Below On)

@@ -7,6 +7,7 @@ ghost use Rattle.euler_operators.specs.Ranges.{IsCutPlane};
 ghost use Rattle.split_checks.specs.Cuts.{AreCuts, all_pairs, codes, paired_face};
 ghost use Rattle.split_checks.specs.begin_checks.Conditions.{face_conditions, number_conditions, sectioning_conditions, solid_conditions};
 ghost use Rattle.split_checks.specs.cut_places.Meetings.{AreTold, IsSolidMet, faces_in};
+ghost use Rattle.split_checks.specs.cut_places.Noted.{AreSides};
 ghost use Rattle.split_checks.specs.cut_places.Places.{AreFacesAlong};
 ghost use Rattle.split_checks.specs.place_order.Order.{AreCrossings};
 ghost use Rattle.shapes.specs.split.Sides.{crossing_edges, straddling_faces};
@@ -16,7 +17,7 @@ use crate::begin_checks::crossings::cut_edges;
 use crate::begin_checks::flaws::{Flaw, first_flawed};
 use crate::begin_checks::numbers::{TOO_MANY, check_left};
 use crate::begin_checks::planes::check_plane;
-use crate::cut_places::{FaceMet, Met, rising_meeting};
+use crate::cut_places::{FaceMet, Met, Sides, rising_meeting};
 use crate::cuts::{Crossings, Cuts, Pair, PairedFace};
 use crate::face_pairs::pairs_of_faces;
 use euler_conditions::Arena;
@@ -148,15 +149,18 @@ fn check_section(
     alloc: Global,
     arena: &Arena,
     plane: Plane,
+    sides: &mut Sides,
     s: u32,
 ) -> Result<Result<Cuts, Refusal>, AllocError>
     requires ready { IsReady arena.now }
     requires plane { IsCutPlane plane }
+    requires sides { AreSides arena.now.model plane sides.old }
     ensures accepted { IfOk result (λ checked. IfOk checked (λ _. first_refusal (sectioning_conditions arena.now.model s plane) ≡ None)) }
     ensures cuts { IfOk result (λ checked. IfOk checked (λ cuts. AreCuts arena.now.model plane s cuts)) }
     ensures refused { IfOk result (λ checked. IfErr checked (λ refusal. first_refusal (sectioning_conditions arena.now.model s plane) ≡ Some refusal)) }
+    ensures sides { AreSides arena.now.model plane sides.new }
 {
-    let met = rising_meeting(alloc, arena, plane, s)?;
+    let met = rising_meeting(alloc, arena, plane, sides, s)?;
     if !is_met(&met) {
         return Ok(Err(refusal(Why::PlaneMisses, s)));
     }
@@ -175,19 +179,23 @@ fn check_section(
 /// cut places at one point, or, with the places in the order of their points, a pair that isn't one up and one down; NumbersSpent
 /// with 2, 3, 4 or 5 where no numbers are left for the faces, loops, edges or vertices that cutting the edges and the faces takes.
 ///
-/// It looks at the faces of s alone, at each a few times, and at the sides of the plane on which a corner lies once. It takes n log n
-/// steps for n edges that cross, and for n cut places of a face. `AllocError` where memory is refused.
+/// It looks at the faces of s alone, at each a few times, and once at the side of the plane on which each corner lies, which it computes
+/// where it isn't noted in `sides`. It takes n log n steps for n edges that cross, and for n cut places of a face. `AllocError` where
+/// memory is refused.
 pub fn check_begin(
     alloc: Global,
     arena: &Arena,
     s: u32,
     plane: &Plane,
     upper: u32,
+    sides: &mut Sides,
 ) -> Result<Result<Cuts, Refusal>, AllocError>
-    requires { IsReady arena.now }
+    requires ready { IsReady arena.now }
+    requires sides { AreSides arena.now.model plane.now sides.old }
     ensures begins { IfOk result (λ checked. IfOk checked (λ _. first_refusal (first_conditions arena.now.model s plane.now upper) ≡ None)) }
     ensures cuts { IfOk result (λ checked. IfOk checked (λ cuts. AreCuts arena.now.model plane.now s cuts)) }
     ensures refused { IfOk result (λ checked. IfErr checked (λ refusal. first_refusal (first_conditions arena.now.model s plane.now upper) ≡ Some refusal)) }
+    ensures sides { AreSides arena.now.model plane.now sides.new }
 {
     if let Err(refusal) = check_numbers(arena, s, upper) {
         return Ok(Err(refusal));
@@ -198,5 +206,5 @@ pub fn check_begin(
     if let Err(refusal) = check_solid(arena, s) {
         return Ok(Err(refusal));
     }
-    check_section(alloc, arena, *plane, s)
+    check_section(alloc, arena, *plane, sides, s)
 }

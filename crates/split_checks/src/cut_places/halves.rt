@@ -4,25 +4,15 @@ ghost use Rattle.euler_operators.specs.HalfEdge.{code};
 ghost use Rattle.euler_operators.specs.Model.{before, has_half};
 ghost use Rattle.euler_conditions.specs.Ready.{IsReady};
 ghost use Rattle.euler_operators.specs.Ranges.{IsCutPlane};
-ghost use Rattle.euler_operators.specs.Vectors.{are_opposite, height, is_on, sign_of};
+ghost use Rattle.euler_operators.specs.Vectors.{are_opposite, is_on};
 ghost use Rattle.shapes.specs.Faces.{finish, start};
 ghost use Rattle.split_checks.specs.cut_places.Sides.{lies};
 ghost use Rattle.shapes.specs.split.Places.{goes_up};
 
-use crate::cut_places::planes::{are_opposite, lies, side_of};
+use crate::cut_places::planes::{are_opposite, lies};
 use euler_conditions::Arena;
 use euler_operators::{HalfEdge, Plane, Sign};
 use solid_measure::{finish, previous, start};
-
-/// On which side of the plane the half-edge starts.
-pub(crate) fn start_side(arena: &Arena, plane: Plane, h: HalfEdge) -> Sign
-    requires ready { IsReady arena.now }
-    requires there { has_half arena.now.model (code h) ≡ true }
-    requires plane { IsCutPlane plane }
-    ensures { result ≡ sign_of (height plane (start arena.now.model (code h))) }
-{
-    side_of(plane, start(arena, h))
-}
 
 /// Whether the half-edge starts on that side of the plane.
 pub(crate) fn starts_at(arena: &Arena, plane: Plane, side: Sign, h: HalfEdge) -> bool

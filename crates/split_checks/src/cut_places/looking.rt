@@ -9,10 +9,12 @@ ghost use Rattle.euler_conditions.specs.Store.{has_number};
 ghost use Rattle.shapes.specs.Faces.{finish, start, vertices_on};
 ghost use Rattle.shapes.specs.split.Places.{loop_is_cut};
 ghost use Rattle.split_checks.specs.cut_places.Meetings.{IsMet, IsRound, with_side};
+ghost use Rattle.split_checks.specs.cut_places.Noted.{AreSides};
 
 use crate::cut_places::found::Looked;
-use crate::cut_places::halves::{passes, start_side};
-use crate::cut_places::planes::{opposite, same, side_of};
+use crate::cut_places::halves::passes;
+use crate::cut_places::noted::{Sides, start_side, vertex_side};
+use crate::cut_places::planes::{opposite, same};
 use euler_conditions::Arena;
 use euler_operators::{Content, HalfEdge, Kind, Plane, Sign};
 use solid_measure::least_item;
@@ -65,20 +67,23 @@ fn look_at(
 fn look_round(
     arena: &Arena,
     plane: Plane,
+    sides: &mut Sides,
     h: HalfEdge,
     looked: &mut Looked,
 ) -> Result<(), AllocError>
     requires ready { IsReady arena.now }
     requires there { has_half arena.now.model (code h) ≡ true }
     requires plane { IsCutPlane plane }
-    ensures { OnOk result (IsRound arena.now.model plane looked.old looked.new (cycle_of arena.now.model (code h))) }
+    requires sides { AreSides arena.now.model plane sides.old }
+    ensures sides { AreSides arena.now.model plane sides.new }
+    ensures met { OnOk result (IsRound arena.now.model plane looked.old looked.new (cycle_of arena.now.model (code h))) }
 {
     let first = least_item(arena, h);
     let mut at = first;
-    let mut from = start_side(arena, plane, first);
+    let mut from = start_side(arena, plane, sides, first);
     'round: loop {
         let next = arena.next(at);
-        let to = start_side(arena, plane, next);
+        let to = start_side(arena, plane, sides, next);
         look_at(arena, plane, at, from, to, looked)?;
         if next == first {
             return Ok(());
@@ -89,18 +94,26 @@ fn look_round(
 }
 
 /// The corners of loop l are looked at.
-fn look_along(arena: &Arena, plane: Plane, l: u32, looked: &mut Looked) -> Result<(), AllocError>
+fn look_along(
+    arena: &Arena,
+    plane: Plane,
+    sides: &mut Sides,
+    l: u32,
+    looked: &mut Looked,
+) -> Result<(), AllocError>
     requires ready { IsReady arena.now }
     requires there { has_number arena.now Kind.Loop l ≡ true }
     requires plane { IsCutPlane plane }
-    ensures { OnOk result (IsMet arena.now.model plane looked.old looked.new (items_of (content arena.now.model l)) (vertices_on arena.now.model (content arena.now.model l))) }
+    requires sides { AreSides arena.now.model plane sides.old }
+    ensures sides { AreSides arena.now.model plane sides.new }
+    ensures met { OnOk result (IsMet arena.now.model plane looked.old looked.new (items_of (content arena.now.model l)) (vertices_on arena.now.model (content arena.now.model l))) }
 {
     match arena.content(l) {
         Content::Lone(v) => {
-            mark_side(looked, side_of(plane, arena.point(v)));
+            mark_side(looked, vertex_side(arena, plane, sides, v));
             Ok(())
         }
-        Content::Ring(h) => look_round(arena, plane, h, looked),
+        Content::Ring(h) => look_round(arena, plane, sides, h, looked),
     }
 }
 
@@ -108,16 +121,19 @@ fn look_along(arena: &Arena, plane: Plane, l: u32, looked: &mut Looked) -> Resul
 pub(crate) fn look_at_loop(
     arena: &Arena,
     plane: Plane,
+    sides: &mut Sides,
     l: u32,
     looked: &mut Looked,
 ) -> Result<bool, AllocError>
     requires ready { IsReady arena.now }
     requires there { has_number arena.now Kind.Loop l ≡ true }
     requires plane { IsCutPlane plane }
+    requires sides { AreSides arena.now.model plane sides.old }
+    ensures sides { AreSides arena.now.model plane sides.new }
     ensures met { OnOk result (IsMet arena.now.model plane looked.old looked.new (items_of (content arena.now.model l)) (vertices_on arena.now.model (content arena.now.model l))) }
     ensures cut { IfOk result (λ cut. cut ≡ loop_is_cut arena.now.model plane l) }
 {
     let before = looked.places.len();
-    look_along(arena, plane, l, looked)?;
+    look_along(arena, plane, sides, l, looked)?;
     Ok(looked.places.len() > before)
 }

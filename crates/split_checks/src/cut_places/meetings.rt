@@ -8,9 +8,11 @@ ghost use Rattle.euler_conditions.specs.Store.{has_number};
 ghost use Rattle.shapes.specs.Faces.{boundary, corners, items_in, vertices_in};
 ghost use Rattle.shapes.specs.split.Places.{is_cut_often, loop_is_cut};
 ghost use Rattle.split_checks.specs.cut_places.Meetings.{IsFaceMet, IsMet, IsMeeting, unmarked};
+ghost use Rattle.split_checks.specs.cut_places.Noted.{AreSides};
 
 use crate::cut_places::found::{FaceMet, Looked, Met};
 use crate::cut_places::looking::look_at_loop;
+use crate::cut_places::noted::Sides;
 use euler_conditions::Arena;
 use euler_operators::{Kind, Plane};
 use std::alloc::{AllocError, Global};
@@ -19,19 +21,22 @@ use std::alloc::{AllocError, Global};
 fn look_at_rings(
     arena: &Arena,
     plane: Plane,
+    sides: &mut Sides,
     f: u32,
     looked: &mut Looked,
 ) -> Result<bool, AllocError>
     requires ready { IsReady arena.now }
     requires there { has_number arena.now Kind.Face f ≡ true }
     requires plane { IsCutPlane plane }
+    requires sides { AreSides arena.now.model plane sides.old }
+    ensures sides { AreSides arena.now.model plane sides.new }
     ensures met { OnOk result (IsMet arena.now.model plane looked.old looked.new (items_in arena.now.model (rings_of arena.now.model f)) (vertices_in arena.now.model (rings_of arena.now.model f))) }
     ensures cut { IfOk result (λ cut. cut ≡ list_all (loop_is_cut arena.now.model plane) (rings_of arena.now.model f)) }
 {
     let mut all = true;
     let mut last = 0;
     'rings: while let Some(l) = arena.ring_after(f, last) {
-        all &= look_at_loop(arena, plane, l, looked)?;
+        all &= look_at_loop(arena, plane, sides, l, looked)?;
         last = l;
     }
     Ok(all)
@@ -49,18 +54,21 @@ fn is_often(outer_cut: bool, rings_cut: bool, places: usize) -> bool
 fn look_at_loops(
     arena: &Arena,
     plane: Plane,
+    sides: &mut Sides,
     f: u32,
     looked: &mut Looked,
 ) -> Result<bool, AllocError>
     requires ready { IsReady arena.now }
     requires there { has_number arena.now Kind.Face f ≡ true }
     requires plane { IsCutPlane plane }
+    requires sides { AreSides arena.now.model plane sides.old }
+    ensures sides { AreSides arena.now.model plane sides.new }
     ensures met { OnOk result (IsMet arena.now.model plane looked.old looked.new (boundary arena.now.model f) (corners arena.now.model f)) }
     ensures often { IfOk result (λ often. often ≡ is_cut_often arena.now.model plane f) }
 {
     let before = looked.places.len();
-    let outer_cut = look_at_loop(arena, plane, arena.outer(f), looked)?;
-    let rings_cut = look_at_rings(arena, plane, f, looked)?;
+    let outer_cut = look_at_loop(arena, plane, sides, arena.outer(f), looked)?;
+    let rings_cut = look_at_rings(arena, plane, sides, f, looked)?;
     let places = looked.places.len() - before;
     Ok(is_often(outer_cut, rings_cut, places))
 }
@@ -82,15 +90,23 @@ fn straddles(looked: &Looked) -> bool
 }
 
 /// Adds what the plane meets of face f.
-fn look_at_face(arena: &Arena, plane: Plane, f: u32, met: &mut Met) -> Result<(), AllocError>
+fn look_at_face(
+    arena: &Arena,
+    plane: Plane,
+    sides: &mut Sides,
+    f: u32,
+    met: &mut Met,
+) -> Result<(), AllocError>
     requires ready { IsReady arena.now }
     requires there { has_number arena.now Kind.Face f ≡ true }
     requires plane { IsCutPlane plane }
-    ensures { OnOk result (IsFaceMet arena.now.model plane met.old met.new f) }
+    requires sides { AreSides arena.now.model plane sides.old }
+    ensures sides { AreSides arena.now.model plane sides.new }
+    ensures met { OnOk result (IsFaceMet arena.now.model plane met.old met.new f) }
 {
     let before = met.looked.places.len();
     unmark(&mut met.looked);
-    let often = look_at_loops(arena, plane, f, &mut met.looked)?;
+    let often = look_at_loops(arena, plane, sides, f, &mut met.looked)?;
     met.above |= met.looked.above;
     met.below |= met.looked.below;
     if straddles(&met.looked) {
@@ -129,15 +145,23 @@ fn nothing_met(alloc: Global) -> Met
 }
 
 /// What the plane meets of solid s. It walks twice round each loop, and looks at each corner once.
-pub(crate) fn meeting(alloc: Global, arena: &Arena, plane: Plane, s: u32) -> Result<Met, AllocError>
+pub(crate) fn meeting(
+    alloc: Global,
+    arena: &Arena,
+    plane: Plane,
+    sides: &mut Sides,
+    s: u32,
+) -> Result<Met, AllocError>
     requires ready { IsReady arena.now }
     requires plane { IsCutPlane plane }
-    ensures { IfOk result (λ met. IsMeeting arena.now.model plane (faces_of arena.now.model s) met) }
+    requires sides { AreSides arena.now.model plane sides.old }
+    ensures sides { AreSides arena.now.model plane sides.new }
+    ensures met { IfOk result (λ met. IsMeeting arena.now.model plane (faces_of arena.now.model s) met) }
 {
     let mut met = nothing_met(alloc);
     let mut last = 0;
     'faces: while let Some(f) = arena.face_after(s, last) {
-        look_at_face(arena, plane, f, &mut met)?;
+        look_at_face(arena, plane, sides, f, &mut met)?;
         last = f;
     }
     Ok(met)

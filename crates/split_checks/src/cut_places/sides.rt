@@ -1,4 +1,4 @@
-//! On which sides of a plane faces have corners.
+//! Whether loops have a corner on a side of a plane.
 ghost use Rattle.std.specs.Prelude.{◌≡◌, true};
 ghost use Rattle.euler_operators.specs.HalfEdge.{code};
 ghost use Rattle.euler_operators.specs.Model.{content, cycle_of, has_half};
@@ -6,7 +6,7 @@ ghost use Rattle.euler_conditions.specs.Ready.{IsReady};
 ghost use Rattle.euler_conditions.specs.Store.{has_number};
 ghost use Rattle.euler_operators.specs.Ranges.{IsCutPlane};
 ghost use Rattle.shapes.specs.Faces.{vertices_on};
-ghost use Rattle.split_checks.specs.cut_places.Sides.{reaches, some_lie, some_start};
+ghost use Rattle.split_checks.specs.cut_places.Sides.{some_lie, some_start};
 
 use crate::cut_places::halves::starts_at;
 use crate::cut_places::planes::lies;
@@ -43,24 +43,4 @@ pub fn loop_reaches(arena: &Arena, plane: Plane, side: Sign, l: u32) -> bool
         Content::Lone(v) => lies(plane, arena.point(v), side),
         Content::Ring(h) => ring_reaches(arena, plane, side, h),
     }
-}
-
-/// Whether face f has a corner on that side of the plane. It takes no memory.
-pub fn reaches(arena: &Arena, plane: Plane, side: Sign, f: u32) -> bool
-    requires ready { IsReady arena.now }
-    requires there { has_number arena.now Kind.Face f ≡ true }
-    requires plane { IsCutPlane plane }
-    ensures { result ≡ reaches side arena.now.model plane f }
-{
-    if loop_reaches(arena, plane, side, arena.outer(f)) {
-        return true;
-    }
-    let mut last = 0;
-    'rings: while let Some(l) = arena.ring_after(f, last) {
-        if loop_reaches(arena, plane, side, l) {
-            return true;
-        }
-        last = l;
-    }
-    false
 }

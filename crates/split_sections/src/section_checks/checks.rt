@@ -10,6 +10,7 @@ ghost use Rattle.split_opening_laws.specs.cycles.SectionCycles.{AreOf};
 ghost use Rattle.shapes.specs.split.Section.{below_halves};
 ghost use Rattle.shapes.specs.split.Split.{later_conditions, section_conditions};
 ghost use Rattle.solid_walks.specs.Counters.{taken_of};
+ghost use Rattle.split_checks.specs.cut_places.Noted.{AreSides};
 ghost use Rattle.split_checks.specs.Progress.{drawing_of};
 ghost use Rattle.split_sections.specs.section_checks.Cycles.{AreCyclesOf};
 ghost use Rattle.split_sections.specs.section_checks.Sections.{IsSection};
@@ -24,7 +25,7 @@ use crate::section_edges::{below_halves, faces_above};
 use euler_conditions::Arena;
 use euler_operators::{Kind, Plane, Refusal, Why};
 use solid_walks::Counters;
-use split_checks::Progress;
+use split_checks::{Progress, Sides};
 use std::alloc::{AllocError, Global};
 
 /// The cycles of the section of solid s between these faces above, which rise, and its other faces, where the solid can be opened
@@ -70,16 +71,19 @@ fn check_cycles(
 ///
 /// Refused, in this order: CutCrossed with the first face that could not be drawn; BranchedVertex with the least vertex at which more
 /// than two section edges meet; SectionHoles with s where a cycle is a hole and not exactly one is outer; NumbersSpent with 2, 3, 4 or
-/// 5 where no numbers are left for the faces, loops, edges or vertices that the opening takes. `AllocError` where memory is refused.
+/// 5 where no numbers are left for the faces, loops, edges or vertices that the opening takes. Sides that aren't noted in `sides` are
+/// computed, and noted then. `AllocError` where memory is refused.
 pub fn check_later(
     alloc: Global,
     arena: &Arena,
     s: u32,
     plane: &Plane,
     drawn: &Progress,
+    sides: &mut Sides,
 ) -> Result<Result<Section, Refusal>, AllocError>
     requires ready { IsReady arena.now }
     requires plane { IsCutPlane plane.now }
+    requires sides { AreSides arena.now.model plane.now sides.old }
     requires there { has_number arena.now Kind.Solid s ≡ true }
     ensures refused { (refusal : Refusal) → (result ≡ Ok (Err refusal)) → (first_refusal (later_conditions s plane.now (drawing_of drawn.now arena.now.model [])) ≡ Some refusal) }
     ensures open { (section : Section) → (result ≡ Ok (Ok section)) → ((first_refusal (later_conditions s plane.now (drawing_of drawn.now arena.now.model [])) ≡ None) × IsSection arena.now.model s plane.now section) }
@@ -90,7 +94,7 @@ pub fn check_later(
             number: drawn.stuck,
         }));
     }
-    let above = faces_above(alloc, arena, *plane, s)?;
+    let above = faces_above(alloc, arena, *plane, sides, s)?;
     match check_cycles(alloc, arena, s, *plane, drawn.taken, above.as_slice())? {
         Ok(cycles) => Ok(Ok(Section { above, cycles })),
         Err(refusal) => Ok(Err(refusal)),

@@ -6,11 +6,12 @@ ghost use Rattle.euler_operators.specs.Points.{IsInRange};
 ghost use Rattle.euler_operators.specs.Ranges.{IsCutPlane};
 ghost use Rattle.euler_operators.specs.Vectors.{direction, dot};
 ghost use Rattle.split_checks.specs.Measure.{normal};
+ghost use Rattle.split_checks.specs.cut_places.Noted.{AreSides};
 ghost use Rattle.shapes.specs.split.Sides.{face_is_above, faces_above};
 
 use euler_conditions::Arena;
 use euler_operators::{Kind, Plane, Point, Sign, dot};
-use split_checks::{normal, reaches};
+use split_checks::{Sides, face_side, normal};
 use std::alloc::{AllocError, Global};
 
 /// The direction in which the plane has its above side, as a point in range.
@@ -42,34 +43,42 @@ fn points_along(arena: &Arena, plane: Plane, f: u32) -> bool
 /// Whether face f is above the plane: it has a corner above, or lies wholly on it with a normal that doesn't point along the plane's
 /// direction.
 #[tactic(auto, unfolding(shapes::specs::split::Sides::face_is_above))]
-fn is_above(arena: &Arena, plane: Plane, f: u32) -> bool
+fn is_above(arena: &Arena, plane: Plane, sides: &mut Sides, f: u32) -> bool
     requires ready { IsReady arena.now }
     requires there { has_number arena.now Kind.Face f ≡ true }
     requires plane { IsCutPlane plane }
-    ensures { result ≡ face_is_above arena.now.model plane f }
+    requires sides { AreSides arena.now.model plane sides.old }
+    ensures is { result ≡ face_is_above arena.now.model plane f }
+    ensures sides { AreSides arena.now.model plane sides.new }
 {
-    reaches(arena, plane, Sign::Above, f)
-        || (!reaches(arena, plane, Sign::Below, f) && !points_along(arena, plane, f))
+    match face_side(arena, plane, sides, f) {
+        Sign::Below => false,
+        Sign::On => !points_along(arena, plane, f),
+        Sign::Above => true,
+    }
 }
 
 /// The faces of solid s that are above the plane, rising: those with a corner above it, and those wholly on it whose normal doesn't
-/// point along the plane's direction. It walks at most three times over the corners of each face.
+/// point along the plane's direction. It walks at most twice over the corners of each face.
 pub(crate) fn faces_above(
     alloc: Global,
     arena: &Arena,
     plane: Plane,
+    sides: &mut Sides,
     s: u32,
 ) -> Result<Vec<u32>, AllocError>
     requires ready { IsReady arena.now }
     requires plane { IsCutPlane plane }
+    requires sides { AreSides arena.now.model plane sides.old }
     requires there { has_number arena.now Kind.Solid s ≡ true }
-    ensures { IfOk result (λ found. found.items ≡ faces_above arena.now.model plane s) }
+    ensures found { IfOk result (λ found. found.items ≡ faces_above arena.now.model plane s) }
+    ensures sides { AreSides arena.now.model plane sides.new }
 {
     let mut faces = Vec::new(alloc);
     faces.reserve(arena.face_count(s) as usize)?;
     let mut last = 0;
     'faces: while let Some(f) = arena.face_after(s, last) {
-        if is_above(arena, plane, f) {
+        if is_above(arena, plane, sides, f) {
             faces.push(f)?;
         }
         last = f;

@@ -23,6 +23,9 @@ plane_is a b c d fa fb fc fd = λ i. record { a = to_z-of_z w64 a fa i; b = to_z
 recorded_by : (s j k : Journal) → j ≡ k → IsRecorded s k → IsRecorded s j
 recorded_by s j k e h = subst (IsRecorded s) (sym e) h
 
+pub admit-requires-clause-sides : goal.admit-requires-clause-sides
+admit-requires-clause-sides c = c.none_noted-sides.ensures c.arena.result.now.model c.plane_of-plane.result
+
 pub returns-in-Err-clause-refused : goal.returns-in-Err-clause-refused
 returns-in-Err-clause-refused c = λ refusal is.
     let plane : c.plane_of-plane.result ≡ record { a = c.args.a; b = c.args.b; c = c.args.c; d = c.args.d } =

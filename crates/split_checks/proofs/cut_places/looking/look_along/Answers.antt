@@ -1,5 +1,5 @@
-use Rattle.std.proofs.Common.{OnOk, ℕ, List, map, subst, sym}
-use Rattle.euler_operators.specs.Model.{content, items_of, tail}
+use Rattle.std.proofs.Common.{OnOk, ℕ, List, map, refl, subst, sym}
+use Rattle.euler_operators.specs.Model.{content, items_of, point_of, tail}
 use Rattle.euler_conditions.proofs.Known.{filled}
 use Rattle.split_checks.specs.cut_places.Meetings.{IsMet}
 use Rattle.split_checks.proofs.cut_places_laws.Walks.{ring_there, ring_cycle, ring_vertices}
@@ -12,11 +12,11 @@ content-requires-clause-filled c = filled c.args.arena.now.model c.requires.read
 pub look_round-requires-clause-there : goal.look_round-requires-clause-there
 look_round-requires-clause-there c = ring_there c.args.arena.now.model c.requires.ready.sound c.args.l c.in-Ring.h c.in-Ring.ensures
 
-pub returns-in-Lone : goal.returns-in-Lone
-returns-in-Lone c = lone_holds c.args.arena.now.model c.args.plane (content c.args.arena.now.model c.args.l) c.in-Lone.v c.point.result c.args.looked.now c.mark_side.new.looked c.side_of.result c.in-Lone.ensures c.point.ensures.point c.side_of.ensures c.mark_side.ensures
+pub returns-in-Lone-clause-met : goal.returns-in-Lone-clause-met
+returns-in-Lone-clause-met c = lone_holds c.args.arena.now.model c.args.plane (content c.args.arena.now.model c.args.l) c.in-Lone.v (point_of c.args.arena.now.model c.in-Lone.v) c.args.looked.now c.mark_side.new.looked c.vertex_side.result c.in-Lone.ensures refl c.vertex_side.ensures.is c.mark_side.ensures
 
-pub returns-in-Ring : goal.returns-in-Ring
-returns-in-Ring c =
+pub returns-in-Ring-clause-met : goal.returns-in-Ring-clause-met
+returns-in-Ring-clause-met c =
     let M = c.args.arena.now.model in let p = c.args.plane in let l = c.args.l in let old = c.args.looked.now in let new = c.look_round.new.looked in
     subst (λ (vs : List ℕ). OnOk c.look_round.result (IsMet M p old new (items_of (content M l)) vs)) (sym (ring_vertices M (content M l) c.in-Ring.h c.in-Ring.ensures))
-    (subst (λ (hs : List ℕ). OnOk c.look_round.result (IsMet M p old new hs (map (tail M) hs))) (ring_cycle M c.requires.ready.sound l c.in-Ring.h c.in-Ring.ensures) c.look_round.ensures)
+    (subst (λ (hs : List ℕ). OnOk c.look_round.result (IsMet M p old new hs (map (tail M) hs))) (ring_cycle M c.requires.ready.sound l c.in-Ring.h c.in-Ring.ensures) c.look_round.ensures.met)

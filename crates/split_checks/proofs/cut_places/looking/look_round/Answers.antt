@@ -15,7 +15,8 @@ round-init c =
     let M = c.args.arena.now.model in let sound = c.requires.ready.sound in let first = code c.least_item-first.result in let l = c.least_item-first.ensures in
     record {
       at_in = item_in M sound first l.there;
-      side = c.start_side-from.ensures;
+      side = c.start_side-from.ensures.is;
+      sides = c.start_side-from.ensures.sides;
       walked = subst (λ (hs : List ℕ). Walked M c.args.plane c.args.looked.now c.args.looked.now hs (cycle_of M first)) (from_least M sound first l.there (l.least ∙ ap least (sym l.same_loop))) (walk_begins M c.args.plane c.args.looked.now (cycle_of M first));
     }
 
@@ -31,11 +32,11 @@ look_at-requires-clause-there c = item_there c.args.arena.now.model c.requires.r
 
 pub look_at-requires-clause-to : goal.look_at-requires-clause-to
 look_at-requires-clause-to c =
-    c.start_side-to.ensures ∙ ap (λ q. sign_of (height c.args.plane q))
+    c.start_side-to.ensures.is ∙ ap (λ q. sign_of (height c.args.plane q))
     (next_starts c.args.arena.now.model c.requires.ready.sound (code c.least_item-first.result) c.least_item-first.ensures.there (code c.round.at) (code c.next-next.result) c.round.invariant.at_in c.next-next.ensures.in_loop)
 
-pub returns-then-eq : goal.returns-then-eq
-returns-then-eq c =
+pub returns-then-eq-clause-met : goal.returns-then-eq-clause-met
+returns-then-eq-clause-met c =
     let M = c.args.arena.now.model in let p = c.args.plane in let first = code c.least_item-first.result in let l = c.least_item-first.ensures in
     let left = to_come first (cycle_of M first) (code c.round.at) in
     let back = comes_back M c.requires.ready.sound first l.there (code c.round.at) (code c.next-next.result) c.round.invariant.at_in c.next-next.ensures.in_loop (codes_same c.next-next.result c.least_item-first.result (sym c.eq.ensures ∙ c.if-eq.true)) in
@@ -55,6 +56,7 @@ round-preserved c =
     let walked = walk_on M p c.args.looked.now c.round.looked c.look_at.new.looked (code c.round.at) left (cycle_of M first) c.round.invariant.walked c.in_ok-look_at.ensures in
     record {
       at_in = on.0;
-      side = c.start_side-to.ensures;
+      side = c.start_side-to.ensures.is;
+      sides = c.start_side-to.ensures.sides;
       walked = subst (λ (hs : List ℕ). Walked M p c.args.looked.now c.look_at.new.looked hs (cycle_of M first)) on.1 walked;
     }

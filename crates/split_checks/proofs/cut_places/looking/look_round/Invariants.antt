@@ -5,6 +5,7 @@ use Rattle.euler_operators.specs.Vectors.{height, sign_of}
 use Rattle.euler_operators.specs.Model.{cycle_of}
 use Rattle.shapes.specs.Faces.{start}
 use Rattle.solid_measure.proofs.face_walks_laws.CycleWalks.{to_come}
+use Rattle.split_checks.specs.cut_places.Noted.{AreSides}
 use Rattle.split_checks.proofs.cut_places_laws.Met.{Walked}
 use Rattle.split_checks.proofs.cut_places.looking.look_round.Given as goal
 
@@ -12,6 +13,7 @@ abbrev pub invariant-round : goal.invariant-round
 invariant-round l = record {
   at_in : IsIn (code l.at) (cycle_of l.arena.model (code l.first));
   side : l.from ≡ sign_of (height l.plane (start l.arena.model (code l.at)));
+  sides : AreSides l.arena.model l.plane l.sides;
   walked : Walked l.arena.model l.plane l.fn.looked l.looked (code l.at ∷ to_come (code l.first) (cycle_of l.arena.model (code l.first)) (code l.at)) (cycle_of l.arena.model (code l.first));
 }
 

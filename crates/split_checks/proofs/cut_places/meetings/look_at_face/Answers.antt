@@ -13,16 +13,16 @@ overflow_sub-len c =
     let met = subst (λ k. IsMet M p k n (boundary M f) (corners M f)) c.unmark.ensures c.in_ok-often.ensures.met in
     no_fewer M p (unmarked o) n (boundary M f) (corners M f) met c.len-before.result c.len.result c.len-before.ensures c.len.ensures
 
-pub returns-in_ok-push : goal.returns-in_ok-push
-returns-in_ok-push c =
+pub returns-in_ok-push-clause-met : goal.returns-in_ok-push-clause-met
+returns-in_ok-push-clause-met c =
     let M = c.args.arena.now.model in let p = c.args.plane in let f = c.args.f in let old = c.args.met.now in let n = c.look_at_loops.new.looked in
     let met = subst (λ k. IsMet M p k n (boundary M f) (corners M f)) c.unmark.ensures c.in_ok-often.ensures.met in
     let told = face_told M p f old.looked n n.touched c.in_ok-often.often _ met refl c.in_ok-often.ensures.often (places_told M p f old.looked n c.len-before.result c.len.result met c.len-before.ensures c.len.ensures) in
     face_done M p f old _ n true met (sym c.if-straddles.true ∙ c.straddles.ensures) refl refl refl
     (c.in_ok-push.ensures.items ∙ ap (λ (q : FaceMet). old.faces.items ++ q ∷ []) told) (places_added M p f old.looked n met)
 
-pub returns-else-straddles : goal.returns-else-straddles
-returns-else-straddles c =
+pub returns-else-straddles-clause-met : goal.returns-else-straddles-clause-met
+returns-else-straddles-clause-met c =
     let M = c.args.arena.now.model in let p = c.args.plane in let f = c.args.f in let old = c.args.met.now in let n = c.look_at_loops.new.looked in
     let met = subst (λ k. IsMet M p k n (boundary M f) (corners M f)) c.unmark.ensures c.in_ok-often.ensures.met in
     face_done M p f old _ n false met (sym c.if-straddles.false ∙ c.straddles.ensures) refl refl refl

@@ -12,6 +12,7 @@ rings-init c =
     let M = c.args.arena.now.model in let f = c.args.f in let p = c.args.plane in let from = rings_from_zero M f c.requires.ready.sound in
     record {
       cut = ap (list_all (loop_is_cut M p)) from;
+      sides = c.requires.sides;
       walked = subst (λ (ls : List ℕ). LoopsWalked M p c.args.looked.now c.args.looked.now ls (rings_of M f)) (sym from) (loops_begin M p c.args.looked.now (rings_of M f));
     }
 
@@ -24,6 +25,7 @@ rings-preserved c =
     let rest = above l (rings_of M f) in let next = next_ring M f c.rings.last l c.in-Some.ensures in
     record {
       cut = and_joined c.rings.all _ (list_all test rest) ∙ (λ i. c.rings.all && (c.in_ok-all.ensures.cut i && list_all test rest)) ∙ ap (λ (ls : List ℕ). c.rings.all && list_all test ls) (sym next) ∙ c.rings.invariant.cut;
+      sides = c.look_at_loop.ensures.sides;
       walked = loops_on M p c.args.looked.now c.rings.looked c.look_at_loop.new.looked l rest (rings_of M f)
           (subst (λ (ls : List ℕ). LoopsWalked M p c.args.looked.now c.rings.looked ls (rings_of M f)) next c.rings.invariant.walked) c.in_ok-all.ensures.met;
     }

@@ -8,7 +8,10 @@ use Rattle.split_checks.proofs.cut_places.meetings.meeting.Goals as goal
 pub faces-init : goal.faces-init
 faces-init c =
     let M = c.args.arena.now.model in let p = c.args.plane in let s = c.args.s in let met = c.nothing_met-met.result in let e = c.nothing_met-met.ensures in
-    subst (λ (fs : List ℕ). FacesWalked M p met fs (faces_of M s)) (sym (faces_from_zero M c.requires.ready.sound s)) (faces_begin M p met (faces_of M s) e.above e.below e.edges e.faces e.places)
+    record {
+      sides = c.requires.sides;
+      walked = subst (λ (fs : List ℕ). FacesWalked M p met fs (faces_of M s)) (sym (faces_from_zero M c.requires.ready.sound s)) (faces_begin M p met (faces_of M s) e.above e.below e.edges e.faces e.places);
+    }
 
 pub faces-smaller : goal.faces-smaller
 faces-smaller c = let next = next_face c.args.arena.now.model c.args.s c.faces.last c.in-Some.f c.in-Some.ensures in omega (arith, ap length next)
@@ -16,10 +19,13 @@ faces-smaller c = let next = next_face c.args.arena.now.model c.args.s c.faces.l
 pub faces-preserved : goal.faces-preserved
 faces-preserved c =
     let M = c.args.arena.now.model in let p = c.args.plane in let s = c.args.s in let f = c.in-Some.f in
-    faces_on M p c.faces.met c.look_at_face.new.met f (above f (faces_of M s)) (faces_of M s)
-    (subst (λ (fs : List ℕ). FacesWalked M p c.faces.met fs (faces_of M s)) (next_face M s c.faces.last f c.in-Some.ensures) c.faces.invariant) c.in_ok-look_at_face.ensures
+    record {
+      sides = c.look_at_face.ensures.sides;
+      walked = faces_on M p c.faces.met c.look_at_face.new.met f (above f (faces_of M s)) (faces_of M s)
+          (subst (λ (fs : List ℕ). FacesWalked M p c.faces.met fs (faces_of M s)) (next_face M s c.faces.last f c.in-Some.ensures) c.faces.invariant.walked) c.in_ok-look_at_face.ensures.met;
+    }
 
-pub returns : goal.returns
-returns c =
+pub returns-clause-met : goal.returns-clause-met
+returns-clause-met c =
     let M = c.args.arena.now.model in let s = c.args.s in
-    faces_end M c.args.plane c.faces.met (above c.faces.last (faces_of M s)) (faces_of M s) c.faces.invariant (no_face_left M s c.faces.last c.in_default.ensures)
+    faces_end M c.args.plane c.faces.met (above c.faces.last (faces_of M s)) (faces_of M s) c.faces.invariant.walked (no_face_left M s c.faces.last c.in_default.ensures)

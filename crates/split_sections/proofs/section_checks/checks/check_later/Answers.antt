@@ -15,22 +15,22 @@ use Rattle.split_sections.proofs.section_checks.checks.check_later.Goals as goal
 pub check_cycles-requires-clause-rising : goal.check_cycles-requires-clause-rising
 check_cycles-requires-clause-rising c =
     let M = c.args.arena.now.model in
-    subst (λ (fs : List ℕ). strictly_rises fs ≡ true) (sym (c.as_slice.ensures.value ∙ c.in_ok-above.ensures)) (above_rises M c.requires.ready.sound c.args.s c.args.plane.now)
+    subst (λ (fs : List ℕ). strictly_rises fs ≡ true) (sym (c.as_slice.ensures.value ∙ c.in_ok-above.ensures.found)) (above_rises M c.requires.ready.sound c.args.s c.args.plane.now)
 
 pub check_cycles-requires-clause-of_solid : goal.check_cycles-requires-clause-of_solid
 check_cycles-requires-clause-of_solid c =
     let M = c.args.arena.now.model in
-    subst (λ (fs : List ℕ). AreOf M fs c.args.s) (sym (c.as_slice.ensures.value ∙ c.in_ok-above.ensures)) (above_of M c.requires.ready.sound c.args.s c.args.plane.now)
+    subst (λ (fs : List ℕ). AreOf M fs c.args.s) (sym (c.as_slice.ensures.value ∙ c.in_ok-above.ensures.found)) (above_of M c.requires.ready.sound c.args.s c.args.plane.now)
 
 pub returns-in-Ok-clause-open : goal.returns-in-Ok-clause-open
 returns-in-Ok-clause-open c = λ q e.
     let z : nat_eq c.args.drawn.now.stuck 0 ≡ true = ap (λ n. nat_eq n 0) c.if-drawn-ne0.false in
     let r = subst (λ (fs : List ℕ). (first_refusal (section_conditions c.args.arena.now.model c.args.s c.args.plane.now (taken_of c.args.drawn.now.taken) (below_halves c.args.arena.now.model fs c.args.s)) ≡ None) × AreCyclesOf c.args.arena.now.model c.args.plane.now (below_halves c.args.arena.now.model fs c.args.s) c.in-Ok.cycles.items)
-    (c.as_slice.ensures.value ∙ c.in_ok-above.ensures) (c.in_ok-cycles.ensures.open c.in-Ok.cycles (ap Ok c.in-Ok.is)) in
+    (c.as_slice.ensures.value ∙ c.in_ok-above.ensures.found) (c.in_ok-cycles.ensures.open c.in-Ok.cycles (ap Ok c.in-Ok.is)) in
     value_told (λ (q : Section). (first_refusal (later_conditions c.args.s c.args.plane.now (drawing_of c.args.drawn.now c.args.arena.now.model [])) ≡ None) × IsSection c.args.arena.now.model c.args.s c.args.plane.now q) (record { above = c.in_ok-above.above; cycles = c.in-Ok.cycles }) q
-    (drawn c.args.s c.args.plane.now (drawing_of c.args.drawn.now c.args.arena.now.model []) z ∙ r.0, record { above = c.in_ok-above.ensures; cycles = r.1.cycles; holes = r.1.holes }) e
+    (drawn c.args.s c.args.plane.now (drawing_of c.args.drawn.now c.args.arena.now.model []) z ∙ r.0, record { above = c.in_ok-above.ensures.found; cycles = r.1.cycles; holes = r.1.holes }) e
 
 pub returns-in-Err-clause-refused : goal.returns-in-Err-clause-refused
 returns-in-Err-clause-refused c = λ r e.
     let z : nat_eq c.args.drawn.now.stuck 0 ≡ true = ap (λ n. nat_eq n 0) c.if-drawn-ne0.false in
-    told _ _ r (drawn c.args.s c.args.plane.now (drawing_of c.args.drawn.now c.args.arena.now.model []) z ∙ subst (λ (fs : List ℕ). first_refusal (section_conditions c.args.arena.now.model c.args.s c.args.plane.now (taken_of c.args.drawn.now.taken) (below_halves c.args.arena.now.model fs c.args.s)) ≡ Some c.in-Err.refusal) (c.as_slice.ensures.value ∙ c.in_ok-above.ensures) (c.in_ok-cycles.ensures.refused c.in-Err.refusal (ap Ok c.in-Err.is))) e
+    told _ _ r (drawn c.args.s c.args.plane.now (drawing_of c.args.drawn.now c.args.arena.now.model []) z ∙ subst (λ (fs : List ℕ). first_refusal (section_conditions c.args.arena.now.model c.args.s c.args.plane.now (taken_of c.args.drawn.now.taken) (below_halves c.args.arena.now.model fs c.args.s)) ≡ Some c.in-Err.refusal) (c.as_slice.ensures.value ∙ c.in_ok-above.ensures.found) (c.in_ok-cycles.ensures.refused c.in-Err.refusal (ap Ok c.in-Err.is))) e

@@ -3,10 +3,14 @@ use Rattle.std.specs.Prelude.{filter}
 use Rattle.euler_operators.specs.Model.{faces_of}
 use Rattle.solid_walks.proofs.face_walks_laws.Above.{above}
 use Rattle.shapes.specs.split.Sides.{face_is_above, faces_above}
+use Rattle.split_checks.specs.cut_places.Noted.{AreSides}
 use Rattle.split_sections.proofs.section_edges.above.faces_above.Given as goal
 
 abbrev pub invariant-faces : goal.invariant-faces
-invariant-faces l = l.faces.items ++ filter (face_is_above l.arena.model l.plane) (above l.last (faces_of l.arena.model l.s)) ≡ faces_above l.arena.model l.plane l.s
+invariant-faces l = record {
+  sides : AreSides l.arena.model l.plane l.sides;
+  found : l.faces.items ++ filter (face_is_above l.arena.model l.plane) (above l.last (faces_of l.arena.model l.s)) ≡ faces_above l.arena.model l.plane l.s;
+}
 
 abbrev pub decreases-faces : goal.decreases-faces
 decreases-faces l = length (above l.last (faces_of l.arena.model l.s))

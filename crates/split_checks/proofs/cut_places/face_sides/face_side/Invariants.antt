@@ -1,0 +1,18 @@
+use Rattle.std.proofs.Common.{◌≡◌, ◌||◌, length}
+use Rattle.euler_operators.specs.Model.{rings_of}
+use Rattle.euler_operators.specs.declared.Sign.TheVariants.{Above, Below}
+use Rattle.shapes.specs.Faces.{vertices_in}
+use Rattle.solid_measure.proofs.face_walks_laws.Above.{above}
+use Rattle.split_checks.specs.cut_places.Noted.{AreSides}
+use Rattle.split_checks.specs.cut_places.Sides.{reaches, some_lie}
+use Rattle.split_checks.proofs.cut_places.face_sides.face_side.Given as goal
+
+abbrev pub invariant-rings : goal.invariant-rings
+invariant-rings l = record {
+  sides : AreSides l.arena.model l.plane l.sides;
+  up : some_lie Above l.arena.model l.plane (vertices_in l.arena.model (above l.last (rings_of l.arena.model l.f))) ≡ reaches Above l.arena.model l.plane l.f;
+  down : l.below || some_lie Below l.arena.model l.plane (vertices_in l.arena.model (above l.last (rings_of l.arena.model l.f))) ≡ reaches Below l.arena.model l.plane l.f;
+}
+
+abbrev pub decreases-rings : goal.decreases-rings
+decreases-rings l = length (above l.last (rings_of l.arena.model l.f))

@@ -1,0 +1,82 @@
+-- Sides that are noted, and the side that corners reach.
+use Rattle.std.proofs.Common.{◌≡◌, ◌≢◌, ℕ, zero, suc, Bool, true, false, List, [], ◌∷◌, replicate, slice_index_or, slice_set, refl, sym, ap, ◌∙◌, true≢false}
+use Rattle.euler_operators.specs.declared.Plane.{Plane}
+use Rattle.euler_operators.specs.declared.Sign.{Sign}
+use Rattle.euler_operators.specs.declared.Sign.TheVariants.{Below, On, Above}
+use Rattle.euler_operators.specs.declared.Content.TheVariants.{Lone}
+use Rattle.euler_operators.specs.Vectors.{height, sign_of}
+use Rattle.euler_operators.specs.Model.{Model, LoopContent, lone, cycle, is_number, point_of}
+use Rattle.euler_operators.specs.Sound.{Sound, Has}
+use Rattle.euler_conditions.specs.Store.{Tells}
+use Rattle.shapes.specs.Faces.{vertices_on}
+use Rattle.split_checks.specs.declared.cut_places.noted.Noted.{Noted}
+use Rattle.split_checks.specs.cut_places.Noted.{IsSide, AreNoted}
+use Rattle.split_checks.specs.cut_places.Sides.{same_sign, side_reached, some_lie}
+use Rattle.split_checks.proofs.cut_places_laws.Met.{or_false}
+use Rattle.split_checks.proofs.cut_places_laws.Signs.{sign_lies}
+
+-- ---- what is noted
+
+module _ (M : Model) (p : Plane) where
+  pub none_right : (n : Noted) → n.vertex ≡ 0 → (k : ℕ) → AreNoted M p (replicate k n)
+  none_right n none zero = tt
+  none_right n none (suc k) = (λ ne. absurd (ne none), none_right n none k)
+
+  -- at each place, and nothing past the last
+  pub noted_at : (ns : List Noted) (i : ℕ) (d : Noted) → d.vertex ≡ 0 → AreNoted M p ns → (slice_index_or ns i d).vertex ≢ 0 → IsSide M p (slice_index_or ns i d)
+  noted_at [] i d none are ne = absurd (ne none)
+  noted_at (n ∷ ns) zero d none are ne = are.0 ne
+  noted_at (n ∷ ns) (suc i) d none are ne = noted_at ns i d none are.1 ne
+
+  pub one_noted : (ns : List Noted) (i : ℕ) (n : Noted) → AreNoted M p ns → IsSide M p n → AreNoted M p (slice_set ns i n)
+  one_noted [] i n are is = tt
+  one_noted (m ∷ ns) zero n are is = (λ ne. is, are.1)
+  one_noted (m ∷ ns) (suc i) n are is = (are.0, one_noted ns i n are.1 is)
+
+  -- a vertex that is there is told by its number
+  pub told_of : Sound M → (n : Noted) (v : ℕ) → (n.vertex ≢ 0 → IsSide M p n) → n.vertex ≡ v → Has M.vertices v → n.side ≡ sign_of (height p (point_of M v))
+  told_of sound n v right e there = (right (λ z. true≢false (sym (sound.vertices_fit v there) ∙ ap is_number (sym e ∙ z)))).side ∙ ap (λ u. sign_of (height p (point_of M u))) e
+
+-- points that stay keep their sides
+pub noted_still : (M N : Model) (p : Plane) → ((v : ℕ) → Has M.vertices v → Has N.vertices v × (point_of N v ≡ point_of M v)) → (ns : List Noted) → AreNoted M p ns → AreNoted N p ns
+noted_still M N p stay [] are = tt
+noted_still M N p stay (n ∷ ns) are = (
+  λ ne.
+      let is = are.0 ne in let still = stay n.vertex is.there in
+      record { there = still.0; side = is.side ∙ ap (λ q. sign_of (height p q)) (sym still.1) },
+  noted_still M N p stay ns are.1,
+)
+
+-- ---- what is reached
+
+pub is_up : (s : Sign) → same_sign s Above ≡ true → s ≡ Above
+is_up Below e = absurd (true≢false (sym e))
+is_up On e = absurd (true≢false (sym e))
+is_up Above e = refl
+
+-- what a side that is reached tells
+pub told_up : (s : Sign) (a b : Bool) → s ≡ side_reached a b → same_sign s Above ≡ a
+told_up s a b e = ap (λ t. same_sign t Above) e ∙ go a b where
+  go : (x y : Bool) → same_sign (side_reached x y) Above ≡ x
+  go true y = refl
+  go false true = refl
+  go false false = refl
+
+pub told_down : (s : Sign) (a b : Bool) → s ≡ side_reached a b → a ≡ false → same_sign s Below ≡ b
+told_down s a b e low = ap (λ t. same_sign t Below) (e ∙ ap (λ x. side_reached x b) low) ∙ go b where
+  go : (y : Bool) → same_sign (side_reached false y) Below ≡ y
+  go true = refl
+  go false = refl
+
+-- a lone vertex
+one_reached : (s : Sign) → s ≡ side_reached (same_sign s Above) (same_sign s Below)
+one_reached Below = refl
+one_reached On = refl
+one_reached Above = refl
+
+pub lone_side : (M : Model) (p : Plane) (l : LoopContent) (v : ℕ) (s : Sign) → Tells l (Lone v) → s ≡ sign_of (height p (point_of M v))
+    → s ≡ side_reached (some_lie Above M p (vertices_on M l)) (some_lie Below M p (vertices_on M l))
+lone_side M p (cycle hs) v s tells is = absurd tells
+lone_side M p (lone w) v s tells is = one_reached s ∙ (λ i. side_reached (lies_there Above i) (lies_there Below i)) where
+  lies_there : (side : Sign) → same_sign s side ≡ some_lie side M p (w ∷ [])
+  lies_there side = ap (λ t. same_sign t side) (is ∙ ap (λ u. sign_of (height p (point_of M u))) tells) ∙ sign_lies side p (point_of M w) ∙ or_false _

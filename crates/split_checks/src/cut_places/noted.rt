@@ -1,0 +1,76 @@
+//! The sides of a plane on which vertices lie, noted so that they needn't be computed again.
+ghost use Rattle.std.specs.Prelude.{◌≡◌, true};
+ghost use Rattle.euler_operators.specs.HalfEdge.{code};
+ghost use Rattle.euler_operators.specs.Model.{Model, has_half, point_of};
+ghost use Rattle.euler_operators.specs.Ranges.{IsCutPlane};
+ghost use Rattle.euler_operators.specs.Vectors.{height, sign_of};
+ghost use Rattle.euler_operators.specs.declared.Plane.{Plane};
+ghost use Rattle.euler_conditions.specs.Ready.{IsReady};
+ghost use Rattle.euler_conditions.specs.Store.{has_number};
+ghost use Rattle.shapes.specs.Faces.{start};
+ghost use Rattle.split_checks.specs.cut_places.Noted.{AreSides};
+
+use crate::cut_places::planes::side_of;
+use euler_conditions::Arena;
+use euler_operators::{HalfEdge, Kind, Plane, Sign};
+
+/// How many sides are noted at most.
+const PLACES: u32 = 32;
+
+/// A vertex and its side; nothing is noted where the number is 0.
+#[derive(Clone, Copy)]
+pub struct Noted {
+    pub vertex: u32,
+    pub side: Sign,
+}
+
+/// The sides of vertices, each at the place of its number modulo 32. Of vertices with one place the last one met is noted, so those
+/// of up to 32 numbers in a row are each computed once. A test of the number tells a vertex from others with its place.
+#[derive(Drop)]
+pub struct Sides {
+    pub noted: [Noted; 32],
+}
+
+/// No side is noted.
+pub fn none_noted() -> Sides
+    ensures { (M : Model) (p : Plane) → AreSides M p result }
+{
+    let none = Noted {
+        vertex: 0,
+        side: Sign::Below,
+    };
+    Sides { noted: [none; 32] }
+}
+
+/// On which side of the plane vertex v lies, as noted, or else computed, and noted then.
+#[inline(always)]
+pub(crate) fn vertex_side(arena: &Arena, plane: Plane, sides: &mut Sides, v: u32) -> Sign
+    requires ready { IsReady arena.now }
+    requires there { has_number arena.now Kind.Vertex v ≡ true }
+    requires plane { IsCutPlane plane }
+    requires sides { AreSides arena.now.model plane sides.old }
+    ensures is { result ≡ sign_of (height plane (point_of arena.now.model v)) }
+    ensures sides { AreSides arena.now.model plane sides.new }
+{
+    let place = (v % PLACES) as usize;
+    let noted = sides.noted[place];
+    if noted.vertex == v {
+        return noted.side;
+    }
+    let side = side_of(plane, arena.point(v));
+    sides.noted[place] = Noted { vertex: v, side };
+    side
+}
+
+/// On which side of the plane the half-edge starts, as noted, or else computed, and noted then.
+#[inline(always)]
+pub(crate) fn start_side(arena: &Arena, plane: Plane, sides: &mut Sides, h: HalfEdge) -> Sign
+    requires ready { IsReady arena.now }
+    requires there { has_half arena.now.model (code h) ≡ true }
+    requires plane { IsCutPlane plane }
+    requires sides { AreSides arena.now.model plane sides.old }
+    ensures is { result ≡ sign_of (height plane (start arena.now.model (code h))) }
+    ensures sides { AreSides arena.now.model plane sides.new }
+{
+    vertex_side(arena, plane, sides, arena.tail(h))
+}
