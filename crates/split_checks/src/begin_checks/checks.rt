@@ -85,6 +85,7 @@ fn check_faces(
     requires ready { IsReady arena.now }
     requires plane { IsCutPlane plane }
     requires crossings { AreCrossings arena.now.model plane crossings.edges.now crossings.cut.now }
+    requires sides { AreSides arena.now.model plane crossings.sides.now }
     requires whole { AreFacesAlong arena.now.model plane crossings.edges.now (faces_in faces.now) }
     requires told { AreTold arena.now.model plane faces.now (map code places.now) }
     ensures accepted { IfOk result (λ checked. IfOk checked (λ _. first_refusal (face_conditions arena.now.model plane (faces_in faces.now)) ≡ None)) }
@@ -109,11 +110,13 @@ fn check_cuts(
     alloc: Global,
     arena: &Arena,
     plane: Plane,
+    sides: &Sides,
     s: u32,
     met: &Met,
 ) -> Result<Result<Cuts, Refusal>, AllocError>
     requires ready { IsReady arena.now }
     requires plane { IsCutPlane plane }
+    requires sides { AreSides arena.now.model plane sides.now }
     requires met { IsSolidMet arena.now.model plane s met.now }
     ensures accepted { IfOk result (λ checked. IfOk checked (λ _. first_refusal (cut_conditions arena.now.model plane (crossing_edges arena.now.model plane s) (straddling_faces arena.now.model plane s)) ≡ None)) }
     ensures cuts { IfOk result (λ checked. IfOk checked (λ cuts. AreCuts arena.now.model plane s cuts)) }
@@ -127,6 +130,7 @@ fn check_cuts(
     let crossings = Crossings {
         edges,
         cut: cut.as_slice(),
+        sides,
     };
     let places = met.looked.places.as_slice();
     let straddling = met.faces.as_slice();
@@ -164,7 +168,7 @@ fn check_section(
     if !is_met(&met) {
         return Ok(Err(refusal(Why::PlaneMisses, s)));
     }
-    check_cuts(alloc, arena, plane, s, &met)
+    check_cuts(alloc, arena, plane, &*sides, s, &met)
 }
 
 /// What the plane cuts of solid s, where it can begin to split s, whose upper part is to be solid `upper`: the conditions that are
@@ -179,9 +183,9 @@ fn check_section(
 /// cut places at one point, or, with the places in the order of their points, a pair that isn't one up and one down; NumbersSpent
 /// with 2, 3, 4 or 5 where no numbers are left for the faces, loops, edges or vertices that cutting the edges and the faces takes.
 ///
-/// It looks at the faces of s alone, at each a few times, and once at the side of the plane on which each corner lies, which it computes
-/// where it isn't noted in `sides`. It takes n log n steps for n edges that cross, and for n cut places of a face. `AllocError` where
-/// memory is refused.
+/// It looks at the faces of s alone, at each a few times. On which side of the plane a corner lies it computes where that isn't noted in
+/// `sides`, and besides for the two corners next to one that lies on the plane. It takes n log n steps for n edges that cross, and for n
+/// cut places of a face. `AllocError` where memory is refused.
 pub fn check_begin(
     alloc: Global,
     arena: &Arena,

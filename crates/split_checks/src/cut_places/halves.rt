@@ -6,10 +6,12 @@ ghost use Rattle.euler_conditions.specs.Ready.{IsReady};
 ghost use Rattle.euler_operators.specs.Ranges.{IsCutPlane};
 ghost use Rattle.euler_operators.specs.Vectors.{are_opposite, is_on};
 ghost use Rattle.shapes.specs.Faces.{finish, start};
+ghost use Rattle.split_checks.specs.cut_places.Noted.{AreSides};
 ghost use Rattle.split_checks.specs.cut_places.Sides.{lies};
 ghost use Rattle.shapes.specs.split.Places.{goes_up};
 
-use crate::cut_places::planes::{are_opposite, lies};
+use crate::cut_places::noted::{Sides, known_start};
+use crate::cut_places::planes::{are_opposite, lies, same};
 use euler_conditions::Arena;
 use euler_operators::{HalfEdge, Plane, Sign};
 use solid_measure::{finish, previous, start};
@@ -34,6 +36,17 @@ pub fn starts_on(arena: &Arena, plane: Plane, h: HalfEdge) -> bool
     starts_at(arena, plane, Sign::On, h)
 }
 
+/// Whether the half-edge starts on the plane. It computes that where it isn't noted.
+pub(crate) fn known_on(arena: &Arena, plane: Plane, sides: &Sides, h: HalfEdge) -> bool
+    requires ready { IsReady arena.now }
+    requires there { has_half arena.now.model (code h) ≡ true }
+    requires plane { IsCutPlane plane }
+    requires sides { AreSides arena.now.model plane sides.now }
+    ensures { result ≡ is_on plane (start arena.now.model (code h)) }
+{
+    same(known_start(arena, plane, sides, h), Sign::On)
+}
+
 /// Whether the corners before and after the half-edge's own lie strictly on opposite sides of the plane.
 pub(crate) fn passes(arena: &Arena, plane: Plane, h: HalfEdge) -> bool
     requires ready { IsReady arena.now }
@@ -44,12 +57,13 @@ pub(crate) fn passes(arena: &Arena, plane: Plane, h: HalfEdge) -> bool
     are_opposite(plane, start(arena, previous(arena, h)), finish(arena, h))
 }
 
-/// Whether a cut place is up: its half-edge ends above the plane.
-pub(crate) fn goes_up(arena: &Arena, plane: Plane, h: HalfEdge) -> bool
+/// Whether a cut place is up: its half-edge ends above the plane. It computes that where it isn't noted.
+pub(crate) fn goes_up(arena: &Arena, plane: Plane, sides: &Sides, h: HalfEdge) -> bool
     requires ready { IsReady arena.now }
     requires there { has_half arena.now.model (code h) ≡ true }
     requires plane { IsCutPlane plane }
+    requires sides { AreSides arena.now.model plane sides.now }
     ensures { result ≡ goes_up arena.now.model plane (code h) }
 {
-    lies(plane, finish(arena, h), Sign::Above)
+    same(known_start(arena, plane, sides, h.mate()), Sign::Above)
 }

@@ -7,6 +7,7 @@ ghost use Rattle.shapes.specs.Fresh.{first_such};
 ghost use Rattle.shapes.specs.split.Places.{is_crossed};
 ghost use Rattle.split_checks.specs.Cuts.{all_pairs, codes, paired_face};
 ghost use Rattle.split_checks.specs.cut_places.Meetings.{AreTold, faces_in};
+ghost use Rattle.split_checks.specs.cut_places.Noted.{AreSides};
 ghost use Rattle.split_checks.specs.cut_places.Places.{AreFacesAlong};
 ghost use Rattle.split_checks.specs.place_order.Order.{AreCrossings};
 
@@ -30,6 +31,7 @@ pub(crate) fn pairs_of_faces(
     requires ready { IsReady arena.now }
     requires plane { IsCutPlane plane }
     requires crossings { AreCrossings arena.now.model plane crossings.edges.now crossings.cut.now }
+    requires sides { AreSides arena.now.model plane crossings.sides.now }
     requires whole { AreFacesAlong arena.now.model plane crossings.edges.now (faces_in faces.now) }
     requires told { AreTold arena.now.model plane faces.now (map code places.now) }
     ensures uncrossed { IfOk result (λ found. IfOk found (λ _. first_such (is_crossed arena.now.model plane) (faces_in faces.now) ≡ None)) }

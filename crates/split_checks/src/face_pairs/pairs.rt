@@ -8,10 +8,11 @@ ghost use Rattle.euler_operators.specs.Vectors.{same_point};
 ghost use Rattle.euler_conditions.specs.Ready.{IsReady};
 ghost use Rattle.shapes.specs.split.Places.{in_pairs, is_up_and_down, place_point, sorted, up_first};
 ghost use Rattle.split_checks.specs.Cuts.{codes};
+ghost use Rattle.split_checks.specs.cut_places.Noted.{AreSides};
 ghost use Rattle.split_checks.specs.cut_places.Walks.{AreThere};
 ghost use Rattle.split_checks.specs.place_order.Order.{AreCrossings, ArePlacesAlong, IsPlaceAlong, are_crossed, places_of};
 
-use crate::cut_places::goes_up;
+use crate::cut_places::{Sides, goes_up};
 use crate::cuts::{Crossings, Pair};
 use crate::place_order::{Places, in_order, place_point};
 use euler_conditions::Arena;
@@ -19,15 +20,26 @@ use euler_operators::{HalfEdge, Plane};
 use std::alloc::{AllocError, Global};
 
 /// Two cut places as a pair, where one is up and the other down.
-fn up_and_down(arena: &Arena, plane: Plane, first: HalfEdge, second: HalfEdge) -> Option<Pair>
+#[inline(always)]
+fn up_and_down(
+    arena: &Arena,
+    plane: Plane,
+    sides: &Sides,
+    first: HalfEdge,
+    second: HalfEdge,
+) -> Option<Pair>
     requires ready { IsReady arena.now }
     requires first { has_half arena.now.model (code first) ≡ true }
     requires second { has_half arena.now.model (code second) ≡ true }
     requires plane { IsCutPlane plane }
+    requires sides { AreSides arena.now.model plane sides.now }
     ensures differ { is_some result ≡ is_up_and_down arena.now.model plane (code first, code second) }
     ensures pair { IfSome result (λ pair. codes pair ≡ up_first arena.now.model plane (code first, code second)) }
 {
-    match (goes_up(arena, plane, first), goes_up(arena, plane, second)) {
+    match (
+        goes_up(arena, plane, sides, first),
+        goes_up(arena, plane, sides, second),
+    ) {
         (true, false) => Some(Pair {
             up: first,
             down: second,
@@ -52,6 +64,7 @@ fn only_pair(
     requires ready { IsReady arena.now }
     requires plane { IsCutPlane plane }
     requires crossings { AreCrossings arena.now.model plane crossings.edges.now crossings.cut.now }
+    requires sides { AreSides arena.now.model plane crossings.sides.now }
     requires first { IsPlaceAlong arena.now.model plane crossings.edges.now (code first) }
     requires second { IsPlaceAlong arena.now.model plane crossings.edges.now (code second) }
     ensures crossed { is_none result ≡ same_point (place_point arena.now.model plane (code first)) (place_point arena.now.model plane (code second)) || not (is_up_and_down arena.now.model plane (code first, code second)) }
@@ -61,7 +74,7 @@ fn only_pair(
     if met == place_point(arena, plane, crossings, second) {
         return None;
     }
-    up_and_down(arena, plane, first, second)
+    up_and_down(arena, plane, crossings.sides, first, second)
 }
 
 /// Adds the pair of two cut places, the only ones of a face, where they are in pairs. It tells whether they are.
@@ -76,6 +89,7 @@ fn push_only_pair(
     requires ready { IsReady arena.now }
     requires plane { IsCutPlane plane }
     requires crossings { AreCrossings arena.now.model plane crossings.edges.now crossings.cut.now }
+    requires sides { AreSides arena.now.model plane crossings.sides.now }
     requires first { IsPlaceAlong arena.now.model plane crossings.edges.now (code first) }
     requires second { IsPlaceAlong arena.now.model plane crossings.edges.now (code second) }
     ensures crossed { IfOk result (λ paired. not paired ≡ same_point (place_point arena.now.model plane (code first)) (place_point arena.now.model plane (code second)) || not (is_up_and_down arena.now.model plane (code first, code second))) }
@@ -92,11 +106,13 @@ fn push_only_pair(
 fn push_in_order(
     arena: &Arena,
     plane: Plane,
+    sides: &Sides,
     order: Places,
     pairs: &mut Vec<Pair>,
 ) -> Result<bool, AllocError>
     requires ready { IsReady arena.now }
     requires plane { IsCutPlane plane }
+    requires sides { AreSides arena.now.model plane sides.now }
     requires there { AreThere arena.now.model (places_of order.entries) }
     ensures crossed { IfOk result (λ paired. not paired ≡ not (list_all (is_up_and_down arena.now.model plane) (in_pairs (places_of order.entries)))) }
     ensures pairs { (result ≡ Ok true) → (map codes pairs.new.items ≡ map codes pairs.old.items ++ map (up_first arena.now.model plane) (in_pairs (places_of order.entries))) }
@@ -106,7 +122,7 @@ fn push_in_order(
         let Some((_, second)) = left.pop_first() else {
             return Ok(true);
         };
-        let Some(pair) = up_and_down(arena, plane, first, second) else {
+        let Some(pair) = up_and_down(arena, plane, sides, first, second) else {
             return Ok(false);
         };
         pairs.push(pair)?;
@@ -128,6 +144,7 @@ pub(crate) fn push_pairs(
     requires ready { IsReady arena.now }
     requires plane { IsCutPlane plane }
     requires crossings { AreCrossings arena.now.model plane crossings.edges.now crossings.cut.now }
+    requires sides { AreSides arena.now.model plane crossings.sides.now }
     requires whole { ArePlacesAlong arena.now.model plane crossings.edges.now (map code places.now) }
     ensures crossed { IfOk result (λ paired. not paired ≡ are_crossed arena.now.model plane (map code places.now)) }
     ensures pairs { (result ≡ Ok true) → (map codes pairs.new.items ≡ map codes pairs.old.items ++ map (up_first arena.now.model plane) (in_pairs (sorted arena.now.model plane (map code places.now)))) }
@@ -136,7 +153,7 @@ pub(crate) fn push_pairs(
         return push_only_pair(arena, plane, crossings, *first, *second, pairs);
     }
     match in_order(alloc, arena, plane, crossings, places)? {
-        Some(order) => push_in_order(arena, plane, order, pairs),
+        Some(order) => push_in_order(arena, plane, crossings.sides, order, pairs),
         None => Ok(false),
     }
 }

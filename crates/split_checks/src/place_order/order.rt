@@ -3,6 +3,7 @@ ghost use Rattle.std.specs.Prelude.{◌≡◌, true, false, map, IfOk, MatchOpti
 ghost use Rattle.euler_operators.specs.HalfEdge.{code};
 ghost use Rattle.euler_conditions.specs.Ready.{IsReady};
 ghost use Rattle.euler_operators.specs.Ranges.{IsCutPlane};
+ghost use Rattle.split_checks.specs.cut_places.Noted.{AreSides};
 ghost use Rattle.split_checks.specs.place_order.Order.{AreCrossings, ArePlacesAlong, entries_of};
 ghost use Rattle.shapes.specs.split.Places.{some_meet, sorted};
 
@@ -27,6 +28,7 @@ pub(crate) fn in_order(
     requires ready { IsReady arena.now }
     requires plane { IsCutPlane plane }
     requires crossings { AreCrossings arena.now.model plane crossings.edges.now crossings.cut.now }
+    requires sides { AreSides arena.now.model plane crossings.sides.now }
     requires whole { ArePlacesAlong arena.now.model plane crossings.edges.now (map code places.now) }
     ensures { IfOk result (λ found. MatchOption found (some_meet arena.now.model plane (map code places.now) ≡ true)
         (λ order. (some_meet arena.now.model plane (map code places.now) ≡ false) × (order.entries ≡ entries_of arena.now.model plane (sorted arena.now.model plane (map code places.now))))) }

@@ -3,10 +3,11 @@ ghost use Rattle.std.specs.Prelude.{◌≡◌};
 ghost use Rattle.euler_operators.specs.HalfEdge.{code};
 ghost use Rattle.euler_conditions.specs.Ready.{IsReady};
 ghost use Rattle.euler_operators.specs.Ranges.{IsCutPlane};
+ghost use Rattle.split_checks.specs.cut_places.Noted.{AreSides};
 ghost use Rattle.split_checks.specs.place_order.Order.{AreCrossings, IsPlaceAlong, key};
 ghost use Rattle.shapes.specs.split.Places.{place_point};
 
-use crate::cut_places::starts_on;
+use crate::cut_places::known_on;
 use crate::cuts::Crossings;
 use euler_conditions::Arena;
 use euler_operators::{HalfEdge, Plane, Point};
@@ -22,10 +23,11 @@ pub(crate) fn place_point(
     requires ready { IsReady arena.now }
     requires plane { IsCutPlane plane }
     requires crossings { AreCrossings arena.now.model plane crossings.edges.now crossings.cut.now }
+    requires sides { AreSides arena.now.model plane crossings.sides.now }
     requires place { IsPlaceAlong arena.now.model plane crossings.edges.now (code h) }
     ensures { result ≡ place_point arena.now.model plane (code h) }
 {
-    if starts_on(arena, plane, h) {
+    if known_on(arena, plane, crossings.sides, h) {
         return start(arena, h);
     }
     match crossings.edges.binary_search(&h.edge) {

@@ -1,0 +1,19 @@
+use Rattle.std.proofs.Common.{◌∙◌, ap}
+use Rattle.euler_operators.specs.HalfEdge.{code}
+use Rattle.euler_operators.specs.Table as table
+use Rattle.euler_operators.specs.Model.{has_half}
+use Rattle.euler_operators.specs.Vectors.{height, sign_of}
+use Rattle.euler_operators.specs.declared.Sign.TheVariants.{Above}
+use Rattle.euler_operators.proofs.Halves.{edge_of-mate}
+use Rattle.shapes.specs.Faces.{finish, start}
+use Rattle.split_checks.specs.cut_places.Sides.{same_sign}
+use Rattle.split_checks.proofs.cut_places_laws.Signs.{sign_lies}
+use Rattle.split_checks.proofs.cut_places.halves.goes_up.Goals as goal
+
+pub known_start-requires-clause-there : goal.known_start-requires-clause-there
+known_start-requires-clause-there c = ap (has_half c.args.arena.now.model) c.mate.ensures ∙ ap (table.has c.args.arena.now.model.edges) (edge_of-mate (code c.args.h)) ∙ c.requires.there
+
+pub returns : goal.returns
+returns c =
+    let M = c.args.arena.now.model in let p = c.args.plane in
+    c.same.ensures ∙ ap (λ side. same_sign side Above) (c.known_start.ensures.is ∙ ap (λ k. sign_of (height p (start M k))) c.mate.ensures) ∙ sign_lies Above p (finish M (code c.args.h))
