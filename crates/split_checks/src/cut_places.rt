@@ -13,8 +13,8 @@ mod sides;
 
 pub use face_sides::face_side;
 pub(crate) use found::{FaceMet, Met};
+pub(crate) use halves::goes_up;
 pub use halves::starts_on;
-pub(crate) use halves::{goes_up, known_on};
 pub use noted::{Noted, Sides, none_noted};
 pub(crate) use rising::rising_meeting;
 pub use sides::loop_reaches;

@@ -26,18 +26,8 @@ pub(crate) fn starts_at(arena: &Arena, plane: Plane, side: Sign, h: HalfEdge) ->
     lies(plane, start(arena, h), side)
 }
 
-/// Whether the half-edge starts on the plane.
-pub fn starts_on(arena: &Arena, plane: Plane, h: HalfEdge) -> bool
-    requires ready { IsReady arena.now }
-    requires there { has_half arena.now.model (code h) ≡ true }
-    requires plane { IsCutPlane plane }
-    ensures { result ≡ is_on plane (start arena.now.model (code h)) }
-{
-    starts_at(arena, plane, Sign::On, h)
-}
-
 /// Whether the half-edge starts on the plane. It computes that where it isn't noted.
-pub(crate) fn known_on(arena: &Arena, plane: Plane, sides: &Sides, h: HalfEdge) -> bool
+pub fn starts_on(arena: &Arena, plane: Plane, sides: &Sides, h: HalfEdge) -> bool
     requires ready { IsReady arena.now }
     requires there { has_half arena.now.model (code h) ≡ true }
     requires plane { IsCutPlane plane }

@@ -7,7 +7,7 @@ ghost use Rattle.split_checks.specs.cut_places.Noted.{AreSides};
 ghost use Rattle.split_checks.specs.place_order.Order.{AreCrossings, IsPlaceAlong, key};
 ghost use Rattle.shapes.specs.split.Places.{place_point};
 
-use crate::cut_places::known_on;
+use crate::cut_places::starts_on;
 use crate::cuts::Crossings;
 use euler_conditions::Arena;
 use euler_operators::{HalfEdge, Plane, Point};
@@ -27,7 +27,7 @@ pub(crate) fn place_point(
     requires place { IsPlaceAlong arena.now.model plane crossings.edges.now (code h) }
     ensures { result ≡ place_point arena.now.model plane (code h) }
 {
-    if known_on(arena, plane, crossings.sides, h) {
+    if starts_on(arena, plane, crossings.sides, h) {
         return start(arena, h);
     }
     match crossings.edges.binary_search(&h.edge) {

@@ -1,9 +1,9 @@
 -- A solid drawn, from its edges cut to its last face.
-use Rattle.std.proofs.Common.{◌≡◌, ◌≤◌, ℕ, [], is_some, length, map, refl, sym, ap, ◌∙◌, subst, arith, nat_eq, List}
+use Rattle.std.proofs.Common.{◌≡◌, ◌≤◌, ℕ, [], is_some, unwrap_or, length, map, refl, sym, ap, ◌∙◌, subst, arith, nat_eq, List}
 use Rattle.std.proofs.lemmas.List.{length-map}
 use Rattle.euler_operators.specs.declared.Plane.{Plane}
 use Rattle.euler_operators.specs.Items.{IsIn}
-use Rattle.euler_operators.specs.Model.{Model, faces_of}
+use Rattle.euler_operators.specs.Model.{Model, faces_of, no_point, point_of}
 use Rattle.euler_operators.specs.Sound.{Sound, Has}
 use Rattle.shapes.specs.Fresh.{taken_in}
 use Rattle.shapes.specs.split.Sides.{straddles, straddling_faces}
@@ -17,6 +17,9 @@ use Rattle.split_drawing_laws.proofs.drawings.Counted.{faces_are as faces_same}
 use Rattle.split_drawing_laws.proofs.drawings.Whole.{drawable}
 use Rattle.split_drawing_laws.proofs.pairs.Whole.{can_be_drawn}
 use Rattle.split_checks.proofs.cut_places_laws.Lists.{of_picked}
+use Rattle.split_checks.specs.cut_places.Noted.{AreNoted}
+use Rattle.split_checks.specs.declared.cut_places.noted.Noted.{Noted}
+use Rattle.split_checks.proofs.cut_places_laws.NotedSides.{noted_still}
 use Rattle.split_checks.specs.cut_places.Walks.{AreIn}
 use Rattle.split_checks.proofs.cut_places_laws.Walks.{all_in}
 use Rattle.split_drawing.specs.edge_cutting.Begins.{CanBeCut}
@@ -44,6 +47,11 @@ module _ (M : Model) (s : ℕ) (p : Plane) (sound : Sound M) (can : CanBeCut M s
   -- the pairs of cut places are there then
   pub pairs_there : PairsThere N (all_pairs M p (straddling_faces M p s))
   pairs_there = all_there M N p sound kept (straddling_faces M p s)
+
+  -- what is noted of vertices holds then
+  pub still_noted : (ns : List Noted) → AreNoted M p ns → AreNoted N p ns
+  unfolding point_of
+  still_noted ns are = noted_still M N p (λ v there. let row = kept.points v there in (ap is_some row ∙ there, ap (λ o. unwrap_or o no_point) row)) ns are
 
   face_there : (f : ℕ) → IsIn f (straddling_faces M p s) → Has N.faces f
   face_there f i = subst (λ t. Has t f) (sym kept.faces) (ap is_some (all_where_has (λ _ row. nat_eq row.solid s) M.faces f (of_picked (straddles M p) f (faces_of M s) i).0).1)

@@ -6,21 +6,23 @@ ghost use Rattle.euler_conditions.specs.Ready.{IsReady};
 ghost use Rattle.euler_operators.specs.Ranges.{IsCutPlane};
 ghost use Rattle.shapes.specs.split.Drawing.{from_place};
 ghost use Rattle.split_checks.specs.Cuts.{codes};
+ghost use Rattle.split_checks.specs.cut_places.Noted.{AreSides};
 ghost use Rattle.split_drawing.specs.solid_drawing.Starts.{PairsThere, pair_started, pairs_started};
 
 use euler_conditions::Arena;
 use euler_operators::{HalfEdge, Plane};
-use split_checks::{Pair, starts_on};
+use split_checks::{Pair, Sides, starts_on};
 use std::alloc::{AllocError, Global};
 
 /// The half-edge that starts at the cut place that h told: h where it starts on the plane, else the one after it.
-fn from_place(arena: &Arena, plane: Plane, h: HalfEdge) -> HalfEdge
+fn from_place(arena: &Arena, plane: Plane, sides: &Sides, h: HalfEdge) -> HalfEdge
     requires ready { IsReady arena.now }
     requires there { has_half arena.now.model (code h) ≡ true }
     requires plane { IsCutPlane plane }
+    requires sides { AreSides arena.now.model plane sides.now }
     ensures { code result ≡ from_place arena.now.model plane (code h) }
 {
-    if starts_on(arena, plane, h) {
+    if starts_on(arena, plane, sides, h) {
         h
     } else {
         arena.next(h)
@@ -28,16 +30,17 @@ fn from_place(arena: &Arena, plane: Plane, h: HalfEdge) -> HalfEdge
 }
 
 /// The half-edges that start at the cut places of a pair.
-fn pair_started(arena: &Arena, plane: Plane, pair: Pair) -> Pair
+fn pair_started(arena: &Arena, plane: Plane, sides: &Sides, pair: Pair) -> Pair
     requires ready { IsReady arena.now }
     requires up { has_half arena.now.model (code pair.up) ≡ true }
     requires down { has_half arena.now.model (code pair.down) ≡ true }
     requires plane { IsCutPlane plane }
+    requires sides { AreSides arena.now.model plane sides.now }
     ensures { codes result ≡ pair_started arena.now.model plane (codes pair) }
 {
     Pair {
-        up: from_place(arena, plane, pair.up),
-        down: from_place(arena, plane, pair.down),
+        up: from_place(arena, plane, sides, pair.up),
+        down: from_place(arena, plane, sides, pair.down),
     }
 }
 
@@ -46,18 +49,20 @@ pub(crate) fn pairs_started(
     alloc: Global,
     arena: &Arena,
     plane: Plane,
+    sides: &Sides,
     pairs: &[Pair],
 ) -> Result<Vec<Pair>, AllocError>
     requires ready { IsReady arena.now }
     requires there { PairsThere arena.now.model (map codes pairs.now) }
     requires plane { IsCutPlane plane }
+    requires sides { AreSides arena.now.model plane sides.now }
     ensures { IfOk result (λ started. map codes started.items ≡ pairs_started arena.now.model plane (map codes pairs.now)) }
 {
     let mut started = Vec::new(alloc);
     started.reserve(pairs.len())?;
     let mut rest = pairs;
     'pairs: while let [pair, others @ ..] = rest {
-        started.push(pair_started(arena, plane, *pair))?;
+        started.push(pair_started(arena, plane, sides, *pair))?;
         rest = others;
     }
     Ok(started)

@@ -5,6 +5,7 @@ ghost use Rattle.shapes.specs.split.Drawing.{faces_drawn, with_drawings};
 ghost use Rattle.split_drawing.specs.edge_cutting.Begins.{CanBeCut};
 ghost use Rattle.split_checks.specs.Progress.{drawing_of};
 ghost use Rattle.split_checks.specs.Cuts.{AreCuts, codes, how_many_pairs, paired};
+ghost use Rattle.split_checks.specs.cut_places.Noted.{AreSides};
 ghost use Rattle.split_drawing.specs.solid_drawing.Drawn.{CanDrawFaces, put_aside};
 
 use crate::edge_cutting::cut_edges;
@@ -12,7 +13,7 @@ use crate::solid_drawing::face::draw_face;
 use crate::solid_drawing::places::pairs_started;
 use euler_operators::Plane;
 use solid_walks::counters_of;
-use split_checks::{Cuts, Pair, PairedFace, Progress};
+use split_checks::{Cuts, Pair, PairedFace, Progress, Sides};
 use std::alloc::{AllocError, Global};
 use undo_journal::Draft;
 
@@ -47,7 +48,7 @@ fn draw_faces(
 
 /// Cuts the edges of solid s that cross the plane, and then draws edges between the cut places of its faces that straddle, where the
 /// plane can begin to split s, and these are its cuts: the first two rewritings of a split. It tells the greatest numbers taken then,
-/// and the first face that can't be drawn, or 0.
+/// and the first face that can't be drawn, or 0. On which side of the plane a cut place starts it computes where `sides` doesn't note it.
 ///
 /// On `AllocError` some steps may be taken; the session that the draft came from stands, and `abandon` gives it back.
 pub fn draw_solid(
@@ -56,16 +57,18 @@ pub fn draw_solid(
     s: u32,
     plane: &Plane,
     cuts: &Cuts,
+    sides: &Sides,
 ) -> Result<Progress, AllocError>
     requires begins { CanBeCut draft.old.model s plane.now }
     requires cuts { AreCuts draft.old.model plane.now s cuts.now }
+    requires sides { AreSides draft.old.model plane.now sides.now }
     ensures drawn { IfOk result (λ drawn. drawing_of drawn draft.new.model [] ≡ put_aside (with_drawings draft.old.model s plane.now)) }
     ensures session { draft.new.session ≡ draft.old.session }
 {
     // the draft's model is sound
     draft.stays_consistent();
     cut_edges(draft, s, plane, cuts.edges.as_slice())?;
-    let started = pairs_started(alloc, draft.arena(), *plane, cuts.pairs.as_slice())?;
+    let started = pairs_started(alloc, draft.arena(), *plane, sides, cuts.pairs.as_slice())?;
     let taken = counters_of(draft.arena());
     let from = Progress { taken, stuck: 0 };
     let faces = cuts.faces.as_slice();

@@ -6,8 +6,9 @@ use Rattle.shapes.specs.split.Drawing.{Drawing}
 use Rattle.split_drawing.proofs.edge_cutting_laws.Remaining.{cut_plane}
 use Rattle.split_checks.specs.Progress.{drawing_of}
 use Rattle.split_checks.specs.Cuts.{codes}
+use Rattle.split_checks.specs.cut_places.Noted.{AreSides}
 use Rattle.split_drawing.specs.solid_drawing.Starts.{PairsThere, pairs_started}
-use Rattle.split_drawing.proofs.solid_drawing_laws.WholeSolid.{pairs_there, enough, can_draw, made}
+use Rattle.split_drawing.proofs.solid_drawing_laws.WholeSolid.{pairs_there, still_noted, enough, can_draw, made}
 use Rattle.split_drawing.proofs.solid_drawing.solid.draw_solid.Goals as goal
 
 pub pairs_started-requires-clause-there : goal.pairs_started-requires-clause-there
@@ -19,6 +20,12 @@ pairs_started-requires-clause-there c =
 
 pub pairs_started-requires-clause-plane : goal.pairs_started-requires-clause-plane
 pairs_started-requires-clause-plane c = cut_plane c.args.draft.now.model c.args.s c.args.plane.now c.requires.begins
+
+pub pairs_started-requires-clause-sides : goal.pairs_started-requires-clause-sides
+pairs_started-requires-clause-sides c =
+    let cut = c.arena.ensures.model ∙ c.in_ok-cut_edges.ensures.model in
+    subst (λ (X : Model). AreSides X c.args.plane.now c.args.sides.now) (sym cut)
+    (still_noted c.args.draft.now.model c.args.s c.args.plane.now c.stays_consistent.ensures.model c.requires.begins c.args.sides.now.noted c.requires.sides)
 
 pub draw_faces-requires-clause-plane : goal.draw_faces-requires-clause-plane
 draw_faces-requires-clause-plane c = cut_plane c.args.draft.now.model c.args.s c.args.plane.now c.requires.begins
