@@ -9,8 +9,8 @@ ghost use Rattle.undo_journal.specs.Machine as machine;
 
 use crate::script_judging::larger::Larger;
 use euler_conditions::Arena;
-use euler_operators::{Op, Point, Refusal};
-use script_reader::{Command, Fault, Polygon, is_ascii, is_long, read_words};
+use euler_operators::{Op, Refusal};
+use script_reader::{Command, Fault, is_ascii, is_long, read_words};
 use solid_listing::{Reply, WriteFault};
 use solid_measure::{counts, is_flat, plane, six_volume};
 use undo_journal::{Failure, Session};
@@ -199,46 +199,6 @@ pub fn answer_count(arena: &Arena, solid: u32, answer: &mut Answer)
     *answer = told(count_reply(arena, solid));
 }
 
-/// A lamina that is yet to be carried out. It is made here, and the others in the next ones, so that no other line pays for their rooms.
-#[inline(never)]
-fn later_lamina(solid: u32, polygon: Polygon<'_>) -> Option<Larger<'_>>
-    ensures { result ≡ Some (Larger.Lamina solid polygon.entry) }
-{
-    Some(Larger::Lamina(solid, polygon))
-}
-
-/// A block.
-#[inline(never)]
-fn later_block<'a>(solid: u32, corner: Point, dx: i64, dy: i64, dz: i64) -> Option<Larger<'a>>
-    ensures { result ≡ Some (Larger.Block solid corner dx dy dz) }
-{
-    Some(Larger::Block(solid, corner, dx, dy, dz))
-}
-
-/// A sweep.
-#[inline(never)]
-fn later_sweep<'a>(face: u32, way: Point) -> Option<Larger<'a>>
-    ensures { result ≡ Some (Larger.Sweep face way) }
-{
-    Some(Larger::Sweep(face, way))
-}
-
-/// A glue.
-#[inline(never)]
-fn later_glue<'a>(face: u32, other: u32) -> Option<Larger<'a>>
-    ensures { result ≡ Some (Larger.Glue face other) }
-{
-    Some(Larger::Glue(face, other))
-}
-
-/// A split.
-#[inline(never)]
-fn later_split<'a>(solid: u32, plane: [i64; 4], above: u32) -> Option<Larger<'a>>
-    ensures { result ≡ Some (Larger.Split solid plane above) }
-{
-    Some(Larger::Split(solid, plane, above))
-}
-
 /// Answers a line with this fault. The rooms for answers are here and in the next ones, so that no other line pays for them.
 #[inline(never)]
 fn tell_fault(fault: Fault, answer: &mut Answer)
@@ -290,13 +250,13 @@ fn obey<'a>(
         Command::Undo => undo(session, answer),
         Command::Redo => redo(session, answer),
         Command::List => *answer = Answer::Listing,
-        Command::Lamina(solid, polygon) => return later_lamina(solid, polygon),
+        Command::Lamina(solid, polygon) => return Some(Larger::Lamina(solid, polygon)),
         Command::Block(solid, corner, dx, dy, dz) => {
-            return later_block(solid, corner, dx, dy, dz);
+            return Some(Larger::Block(solid, corner, dx, dy, dz));
         }
-        Command::Sweep(face, way) => return later_sweep(face, way),
-        Command::Glue(face, other) => return later_glue(face, other),
-        Command::Split(solid, plane, above) => return later_split(solid, plane, above),
+        Command::Sweep(face, way) => return Some(Larger::Sweep(face, way)),
+        Command::Glue(face, other) => return Some(Larger::Glue(face, other)),
+        Command::Split(solid, plane, above) => return Some(Larger::Split(solid, plane, above)),
     }
     None
 }
