@@ -9,9 +9,9 @@ ghost use Rattle.undo_journal.specs.Histories.{Follows, IsConsistent};
 ghost use Rattle.euler_operators.specs.Conditions.{first_false};
 ghost use Rattle.euler_operators.specs.declared.Refusal.{Refusal};
 
-use crate::record::{OpList, Record};
+use crate::record::{OpList, PLACES, Record};
 use crate::session::{Failure, Session};
-use crate::steps::{replay_all, step};
+use crate::steps::{place_for_one, replay_all, step};
 use euler_operators::Op;
 use low_euler::{Arena, check};
 use std::alloc::{AllocError, Global};
@@ -53,7 +53,7 @@ impl Draft {
         ensures err { IfErr result (λ e. e.0 ≡ session) }
     {
         let mut session = session;
-        if let Err(error) = session.records.reserve(1) {
+        if let Err(error) = place_for_one(&mut session.records, PLACES) {
             return Err((session, error));
         }
         let Session {

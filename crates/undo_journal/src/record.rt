@@ -5,6 +5,10 @@ use euler_operators::Op;
 use std::marker::Model;
 use std::slice;
 
+/// How many records get their places at a time. A list of more than a few hundred is a block of its own to the system, which makes it
+/// longer without a copy and gives its pages as they are touched.
+pub(crate) const PLACES: usize = 1024;
+
 /// Operators in the order in which they are applied. A list of one operator takes no memory of its own.
 #[derive(Drop)]
 pub struct OpList {

@@ -11,7 +11,7 @@ ghost use Rattle.euler_laws.specs.Laws.{effects, AreAccepted};
 ghost use Rattle.euler_operators.specs.Conditions.{verdict};
 ghost use Rattle.euler_operators.specs.declared.Refusal.{Refusal};
 
-use crate::record::{OpList, Record};
+use crate::record::{OpList, PLACES, Record};
 use crate::steps::{place_for_one, replay_all};
 use euler_operators::{Op, Refusal, Why};
 use low_euler::{Arena, advance, check};
@@ -122,7 +122,7 @@ impl Session {
         ensures ok { OnOk result (self.new ≡ after_act self.old op) }
         ensures err { OnErr result (self.new ≡ self.old) }
     {
-        place_for_one(&mut self.records)?;
+        place_for_one(&mut self.records, PLACES)?;
         // `advance` writes another one in its place
         let mut inverse = Op::Kvfs(0);
         advance(self.alloc, &mut *self.arena, &op, &mut inverse)?;

@@ -26,16 +26,17 @@ pub(crate) fn replay_all(arena: &mut Arena, ops: &[Op])
     }
 }
 
-/// Makes a place for one more in a list. Where there is one, this is one test.
+/// Makes a place for one more in a list: where there is none, places for so many more. Where there is one, this is one test.
 #[inline(always)]
-pub(crate) fn place_for_one<T>(list: &mut Vec<T>) -> Result<(), AllocError>
+pub(crate) fn place_for_one<T>(list: &mut Vec<T>, more: usize) -> Result<(), AllocError>
+    requires more { 0 < more }
     ensures items { list.new.items ≡ list.old.items }
     ensures place { OnOk result (vec_len list.new < vec_capacity list.new) }
 {
     if list.len() < list.capacity() {
         return Ok(());
     }
-    list.reserve(1)
+    list.reserve(more)
 }
 
 /// Applies an operator that is accepted, and appends it and its inverse to two lists. All memory is taken before the change:
@@ -56,8 +57,8 @@ pub(crate) fn step(
     ensures err_forward { OnErr result (forward.new.items ≡ forward.old.items) }
     ensures err_back { OnErr result (back.new.items ≡ back.old.items) }
 {
-    place_for_one(forward)?;
-    place_for_one(back)?;
+    place_for_one(forward, 1)?;
+    place_for_one(back, 1)?;
     let applied = forward.len();
     let inverse = back.len();
     forward.push_reserved(op);
