@@ -145,6 +145,7 @@ impl<T: Copy> Rows<T> {
         ensures same { (k : ℕ) → has_row self.now k ≡ true → row_at cells.new k ≡ row_at cells.old k }
         ensures fits { length self.now ≤ length cells.new }
         ensures ok { OnOk result (number < length cells.new) }
+        ensures known { number < length cells.old → IsOk result }
     {
         widen(cells, &self.used, self.room, number)
     }
@@ -183,6 +184,7 @@ fn widen<T: Copy>(
     ensures same { (k : ℕ) → k < room → uses used.now k ≡ true → row_at cells.new k ≡ row_at cells.old k }
     ensures fits { room ≤ length cells.new }
     ensures ok { OnOk result (number < length cells.new) }
+    ensures known { number < length cells.old → IsOk result }
 {
     if (number as usize) < cells.len() {
         return Ok(());

@@ -15,3 +15,6 @@ move_on-requires-clause-short g c = omega (arith, c.if-number-len.false, c.len.e
 
 pub move_on-requires-clause-written : goal.move_on-requires-clause-written
 move_on-requires-clause-written g c = c.requires.written
+
+pub returns-clause-known : goal.returns-clause-known
+returns-clause-known g c = λ fits. absurd (omega (arith, fits, c.if-number-len.false, c.len.ensures))
