@@ -4,5 +4,6 @@ pub mod TwoLoops
 pub mod LooseRings
 pub mod SoundLoops
 pub mod LoopsApart
+pub mod BothSteps
 pub mod EdgeSteps
 pub mod Tails

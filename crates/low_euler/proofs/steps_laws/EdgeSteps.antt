@@ -17,7 +17,7 @@ use Rattle.euler_operators.specs.Effect.{edge_row}
 use Rattle.euler_conditions.specs.Store.{Store, with_loop, loose_key, loose_ring, fill, join}
 use Rattle.low_euler.specs.steps.Steps.{IsStanding, IsLoose, IsUnused, with_edge, put_before, take_out, put_at}
 use Rattle.low_euler.proofs.steps_laws.RingSteps.{count_put}
-use Rattle.low_euler.proofs.steps_laws.StoreSteps.{put_before_is, JoinsAlone, joins_alone, was_put}
+use Rattle.low_euler.proofs.steps_laws.StoreSteps.{JoinsAlone, joins_alone, was_put}
 use Rattle.low_euler.proofs.steps_laws.LooseRings.{AreSingles, pair, pair_singles, get_first, left_second, pair_gone, singles_remove, key_is, ring_is, halves_of}
 
 -- a loop that gets another ring, without m, doesn't come to hold m
@@ -64,7 +64,7 @@ module _ (s : Store) (h a b : ℕ) (unused : IsUnused s h) where
   none_first : (q : ℕ) → count h (items_of (content E.model q)) ≡ 0
   none_first q = ap (λ c. count h (items_of c)) (content_E q) ∙ unused.first q
 
-  none_second : (q : ℕ) → count m (items_of (content E.model q)) ≡ 0
+  pub none_second : (q : ℕ) → count m (items_of (content E.model q)) ≡ 0
   none_second q = ap (λ c. count m (items_of c)) (content_E q) ∙ unused.second q
 
   -- both half-edges are loose: the one from the start on, under its own number, and the other once that is put at a corner
@@ -116,6 +116,9 @@ module _ (s : Store) (h a b : ℕ) (unused : IsUnused s h) where
   pub none_loose : table.remove (table.remove E.loose h) m ≡ s.loose
   none_loose = ap (λ z. table.remove (table.remove z h) m) loose_is ∙ pair_gone h m h_m ∙ sym unused.bare
 
+  pub loose_made : (c : Corner) → table.remove (table.remove E.loose (loose_key E h)) (loose_key (put_at E c h) m) ≡ s.loose
+  loose_made c = ap (λ q. table.remove (table.remove E.loose (loose_key E h)) q) (second_key c) ∙ ap (λ q. table.remove (table.remove E.loose q) m) first_key ∙ none_loose
+
 -- ---- an edge that is killed
 
 two_alone : (t : Table (List ℕ)) (a b x : ℕ) → a ≢ b → (x ≡ a) ⊎ (x ≡ b) → table.get (table.put (table.put t a (a ∷ [])) b (b ∷ [])) x ≡ Some (x ∷ [])
@@ -165,10 +168,6 @@ module _ (s : Store) (half from to : HalfEdge) (a b : ℕ) (unused : IsUnused s 
 
     pub first_was : (q t : Store) (n : ℕ) → q ≡ edged → n ≡ before edged.model g → t ≡ join q n h → t ≡ first_in
     first_was q t n e en d = was_put edged g first h alone_first q t n h e en refl d
-
-    -- where the two are the same, half stands before it then
-    pub half_before : k ≡ g → loop_of first_in.model g ≡ loop_of edged.model g → h ≡ before first_in.model k
-    half_before e near = sym (ap (before first_in.model) e ∙ put_before_is edged g first h alone_first near)
 
     module _ (second : IsStanding first_in.model k) where
       pub second_asks : (q : Store) (n x : ℕ) → q ≡ first_in → n ≡ before first_in.model k → x ≡ mate h → JoinsAlone q n x

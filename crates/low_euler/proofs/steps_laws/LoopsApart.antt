@@ -25,14 +25,7 @@ use Rattle.euler_laws.proofs.shared.Same as same
 use Rattle.euler_laws.proofs.shared.Rows.{count_or_lone}
 use Rattle.euler_laws.proofs.shared.Undo.{put_in, taken_out}
 use Rattle.euler_conditions.specs.Store.{Store}
-use Rattle.low_euler.specs.steps.Steps.{IsStanding, IsLoose, IsUnused, with_edge, put_before, take_out}
-
--- loops hold half-edges of edges that are there, each once and in one loop only, and 0 is no loop
-pub record LoopsStandApart (M : Model) : Type 0 where
-  pub only : (h l : ℕ) → StandsIn M h l → HasHalf M h
-  pub apart : (l : ℕ) → IsApart (items_of (content M l))
-  pub one_loop : (h l : ℕ) → StandsIn M h l → loop_of M h ≡ l
-  pub no_zero : table.get M.loops 0 ≡ None
+use Rattle.low_euler.specs.steps.Steps.{LoopsStandApart, IsStanding, IsLoose, IsUnused, with_edge, put_before, take_out}
 
 -- half-edge h stands in its loop
 abbrev pub HasLoop : Model → ℕ → Type 0
@@ -117,7 +110,7 @@ module _ (M : Model) (placed : LoopsStandApart M) where
   unfolding before
   before_in g s = IsIn_predecessor g (cycle_of M g) (holds_in g (content M (loop_of M g)) s)
 
-  before_stands : (g : ℕ) → HasLoop M g → StandsIn M (before M g) (loop_of M g)
+  pub before_stands : (g : ℕ) → HasLoop M g → StandsIn M (before M g) (loop_of M g)
   before_stands g s = in-holds (before M g) (content M (loop_of M g)) (before_in g s)
 
   -- a half-edge of a loop stands there, and so does the one before it

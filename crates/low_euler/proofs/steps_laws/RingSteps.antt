@@ -1,10 +1,10 @@
 -- An item that goes into a ring or leaves it, by a join or a cut after the item before.
-use Rattle.std.proofs.Common.{◌≡◌, ◌≢◌, ℕ, ◌+◌, List, [], ◌∷◌, ◌++◌, refl, sym, ap, ◌∙◌, arith}
-use Rattle.euler_operators.specs.Items.{count, tick, IsIn, IsApart, head_or, last_or, before, after}
-use Rattle.euler_operators.specs.Rings.{canonical, rotate_to, rest, successor, predecessor, between, beyond, cut_left, cut_right, joined}
+use Rattle.std.proofs.Common.{◌≡◌, ◌≢◌, ℕ, ◌+◌, List, [], ◌∷◌, ◌++◌, refl, sym, ap, ◌∙◌, subst, arith}
+use Rattle.euler_operators.specs.Items.{count, tick, IsIn, IsApart, last_or, before, after}
+use Rattle.euler_operators.specs.Rings.{canonical, rotate_to, rest, predecessor, between, beyond, cut_left, cut_right, joined}
 use Rattle.euler_operators.specs.Operators.{put_ring, take_ring, mef_old, mef_new}
 use Rattle.euler_operators.proofs.Lists.{count-append, tick_same, before_at, after_at, split_at}
-use Rattle.euler_operators.proofs.Rings.{front_of, IsIn_predecessor, count_at, predecessor_same, predecessor-successor, successor_head}
+use Rattle.euler_operators.proofs.Rings.{front_of, IsIn_predecessor, count_at}
 use Rattle.euler_operators.proofs.Cuts.{ring_split, upto_other, onward_other, rest_canonical, IsApart-exchanged, apart_split, apart_joined}
 use Rattle.euler_operators.proofs.Rotations.{canonical-rotates, count-canonical, count-rotate_to, rotate_to-rotates, IsApart-rotate_to, rotate_to_is, rest_at, rest_head, rest_parts, rest_same, canonical_same, canonical_one}
 use Rattle.euler_operators.proofs.Operators.{apart_front, apart_braced, rotate_to_whole, between_canonical, beyond_canonical}
@@ -17,6 +17,33 @@ last_split x (u ∷ us) ne = front_of u us
 
 pub count_put : (x h g : ℕ) (xs : List ℕ) → count x (put_ring h g xs) ≡ tick x h + count x xs
 count_put x h g xs = count-canonical x (h ∷ rotate_to g xs) ∙ omega (arith, count-rotate_to x g xs)
+
+-- h alone, joined after p, which nothing but ps follows
+joined_last : (p h : ℕ) (ps ys : List ℕ) → rest p ys ≡ ps → IsApart (h ∷ (ps ++ p ∷ [])) → joined p h ys (h ∷ []) ≡ canonical (h ∷ (ps ++ p ∷ []))
+joined_last p h ps ys e a =
+    ap (λ q. canonical ((p ∷ q) ++ h ∷ rest p ys)) (rest_head h [])
+    ∙ ap (λ q. canonical (p ∷ h ∷ q)) e
+    ∙ sym (canonical_same (h ∷ (ps ++ p ∷ [])) (p ∷ h ∷ ps) (record { front = h ∷ ps; back = p ∷ []; here = refl; there = refl }) a)
+
+-- h put before g, and then m before k, which stands between us and os from g on
+module _ (h m g k : ℕ) (xs us os : List ℕ) (d : IsApart xs) (split : rotate_to g xs ≡ us ++ k ∷ os) (hm : h ≡ m → ⊥) (n : count h xs ≡ 0) (o : count m xs ≡ 0) where
+  counted : (x : ℕ) → count x (us ++ k ∷ os) ≡ count x xs
+  counted x = ap (count x) (sym split) ∙ count-rotate_to x g xs
+
+  split_apart : IsApart (us ++ k ∷ os)
+  split_apart x = omega (arith, counted x, d x)
+
+  one_apart : IsApart ((h ∷ us) ++ k ∷ os)
+  one_apart = apart_front h (us ++ k ∷ os) (counted h ∙ n) split_apart
+
+  apart_two : IsApart ((h ∷ us) ++ m ∷ k ∷ os)
+  apart_two = apart_braced h m us (k ∷ os) hm (counted h ∙ n) (counted m ∙ o) split_apart
+
+  whole_ring : put_ring m k (put_ring h g xs) ≡ canonical ((h ∷ us) ++ m ∷ k ∷ os)
+  whole_ring =
+      ap (λ q. put_ring m k (canonical (h ∷ q))) split
+      ∙ ap (λ q. canonical (m ∷ q)) (rotate_to_whole k ((h ∷ us) ++ k ∷ os) (os ++ (h ∷ us)) one_apart (record { front = h ∷ us; back = k ∷ os; here = refl; there = refl }))
+      ∙ sym (canonical_same ((h ∷ us) ++ m ∷ k ∷ os) (m ∷ k ∷ (os ++ (h ∷ us))) (record { front = h ∷ us; back = m ∷ k ∷ os; here = refl; there = refl }) apart_two)
 
 module _ (xs : List ℕ) (d : IsApart xs) (g : ℕ) (i : IsIn g xs) where
   -- the item before g
@@ -39,28 +66,29 @@ module _ (xs : List ℕ) (d : IsApart xs) (g : ℕ) (i : IsIn g xs) where
   pub upto_before : rotate_to g xs ≡ rest p xs ++ p ∷ []
   upto_before = upto_p.1 ∙ ap (λ q. q ++ p ∷ []) (sym (rest_p upto_p.0 upto_p.1))
 
+  -- the ring from g on holds each item once
+  onward_apart : IsApart (upto_p.0 ++ p ∷ [])
+  onward_apart = subst IsApart upto_p.1 (IsApart-rotate_to g xs d)
+
+  onward_none : (h : ℕ) → count h xs ≡ 0 → count h (upto_p.0 ++ p ∷ []) ≡ 0
+  onward_none h n = ap (count h) (sym upto_p.1) ∙ count-rotate_to h g xs ∙ n
+
   -- h alone, joined after the item before g
   pub joined_before : (h : ℕ) → count h xs ≡ 0 → joined p h xs (h ∷ []) ≡ put_ring h g xs
-  joined_before h n =
-      let e = upto_p.1 in
-      let ps = upto_p.0 in
-      let a : IsApart (h ∷ (ps ++ p ∷ [])) = λ x. omega (arith, apart_front h xs n d x, ap (count x) e, rotated x) in
-      ap (λ q. canonical ((p ∷ q) ++ h ∷ rest p xs)) (rest_head h [])
-      ∙ ap (λ q. canonical (p ∷ h ∷ q)) (rest_p ps e)
-      ∙ sym (canonical_same (h ∷ (ps ++ p ∷ [])) (p ∷ h ∷ ps) (record { front = h ∷ ps; back = p ∷ []; here = refl; there = refl }) a)
-      ∙ ap (λ q. canonical (h ∷ q)) (sym e) where
-        rotated : (x : ℕ) → count x (rotate_to g xs) ≡ count x xs
-        rotated x = omega (arith, ap (count x) (rotate_to_is g xs i), count_at x g xs i)
+  joined_before h n = joined_last p h upto_p.0 xs (rest_p upto_p.0 upto_p.1) (apart_front h (upto_p.0 ++ p ∷ []) (onward_none h n) onward_apart) ∙ ap (λ q. canonical (h ∷ q)) (sym upto_p.1)
 
-  -- h stands before g then
-  pub put_stands_before : (h : ℕ) → count h xs ≡ 0 → predecessor (put_ring h g xs) g ≡ h
-  put_stands_before h n =
-      let w : List ℕ = h ∷ rotate_to g xs in
-      let a : IsApart w = apart_front h (rotate_to g xs) (count-rotate_to h g xs ∙ n) (IsApart-rotate_to g xs d) in
-      let h_in : IsIn h w = omega (arith, tick_same h) in
-      let g_in : IsIn g w = omega (arith, count-rotate_to g g xs, i) in
-      let second : successor w h ≡ g = successor_head h (rotate_to g xs) ∙ ap (head_or h) (rotate_to_is g xs i) in
-      sym (predecessor_same g w (canonical w) (canonical-rotates w) a g_in) ∙ ap (predecessor w) (sym second) ∙ predecessor-successor h w a h_in
+  -- h alone, joined there once m is put before g: the ring that has m put before g once h is
+  pub joined_twice : (h m : ℕ) → (h ≡ m → ⊥) → count h xs ≡ 0 → count m xs ≡ 0 → joined p h (put_ring m g xs) (h ∷ []) ≡ put_ring m g (put_ring h g xs)
+  joined_twice h m hm n o =
+      let w : List ℕ = m ∷ (upto_p.0 ++ p ∷ []) in
+      let a : IsApart (h ∷ w) = apart_braced h m [] (upto_p.0 ++ p ∷ []) hm (onward_none h n) (onward_none m o) onward_apart in
+      let b : IsApart w = λ x. omega (arith, a x) in
+      let j : IsIn p w = omega (arith, count-append p (m ∷ upto_p.0) (p ∷ []), tick_same p) in
+      let none : count p (m ∷ upto_p.0) ≡ 0 = omega (arith, b p, count-append p (m ∷ upto_p.0) (p ∷ []), tick_same p) in
+      ap (λ q. joined p h (canonical (m ∷ q)) (h ∷ [])) upto_p.1
+      ∙ joined_last p h (m ∷ upto_p.0) (canonical w) (sym (rest_same p w (canonical w) (canonical-rotates w) b j) ∙ rest_at p (m ∷ upto_p.0) [] none) a
+      ∙ ap (λ q. canonical (h ∷ m ∷ q)) (sym upto_p.1 ∙ rotate_to_is g xs i)
+      ∙ sym (whole_ring h m g g xs [] (rest g xs) d (rotate_to_is g xs i) hm n o)
 
   -- where g isn't alone, a cut after the item before it takes it out
   module _ (ne : p ≢ g) where
@@ -100,7 +128,7 @@ module _ (xs : List ℕ) (d : IsApart xs) (g : ℕ) (i : IsIn g xs) where
       let z = both_empty (after g xs) (before g xs) (sym (rest_parts g xs) ∙ e) in
       split_at g xs i ∙ ap (λ q. q ++ g ∷ after g xs) z.1 ∙ ap (λ q. g ∷ q) z.0
 
--- h put before g, and then m before k: the two rings that a cut at h and m gives are those of mef
+-- the two rings that a cut at h and m then gives are those of mef
 module _ (h m g k : ℕ) (xs : List ℕ) (d : IsApart xs) (i : IsIn g xs) (j : IsIn k xs) (ne : g ≡ k → ⊥) (hm : h ≡ m → ⊥) (n : count h xs ≡ 0) (o : count m xs ≡ 0) where
   abbrev us : List ℕ
   us = between g k xs
@@ -108,37 +136,22 @@ module _ (h m g k : ℕ) (xs : List ℕ) (d : IsApart xs) (i : IsIn g xs) (j : I
   abbrev os : List ℕ
   os = beyond g k xs
 
-  split : rotate_to g xs ≡ (g ∷ us) ++ k ∷ os
-  split = ring_split g k xs i j ne
+  apart : IsApart ((h ∷ g ∷ us) ++ m ∷ k ∷ os)
+  apart = apart_two h m g k xs (g ∷ us) os d (ring_split g k xs i j ne) hm n o
 
-  counted : (x : ℕ) → count x ((g ∷ us) ++ k ∷ os) ≡ count x xs
-  counted x = ap (count x) (sym split) ∙ count-rotate_to x g xs
-
-  split_apart : IsApart ((g ∷ us) ++ k ∷ os)
-  split_apart x = omega (arith, counted x, d x)
-
-  one_apart : IsApart ((h ∷ g ∷ us) ++ k ∷ os)
-  one_apart = apart_front h ((g ∷ us) ++ k ∷ os) (counted h ∙ n) split_apart
-
-  apart_two : IsApart ((h ∷ g ∷ us) ++ m ∷ k ∷ os)
-  apart_two = apart_braced h m (g ∷ us) (k ∷ os) hm (counted h ∙ n) (counted m ∙ o) split_apart
-
-  whole_ring : put_ring m k (put_ring h g xs) ≡ canonical ((h ∷ g ∷ us) ++ m ∷ k ∷ os)
-  whole_ring =
-      ap (λ q. put_ring m k (canonical (h ∷ q))) split
-      ∙ ap (λ q. canonical (m ∷ q)) (rotate_to_whole k ((h ∷ g ∷ us) ++ k ∷ os) (os ++ (h ∷ g ∷ us)) one_apart (record { front = h ∷ g ∷ us; back = k ∷ os; here = refl; there = refl }))
-      ∙ sym (canonical_same ((h ∷ g ∷ us) ++ m ∷ k ∷ os) (m ∷ k ∷ (os ++ (h ∷ g ∷ us))) (record { front = h ∷ g ∷ us; back = m ∷ k ∷ os; here = refl; there = refl }) apart_two)
+  whole : put_ring m k (put_ring h g xs) ≡ canonical ((h ∷ g ∷ us) ++ m ∷ k ∷ os)
+  whole = whole_ring h m g k xs (g ∷ us) os d (ring_split g k xs i j ne) hm n o
 
   pub cut_old : cut_left h m (put_ring m k (put_ring h g xs)) ≡ mef_old h g k xs
-  cut_old = ap (cut_left h m) whole_ring ∙ ap (λ q. canonical (h ∷ q)) (beyond_canonical h m (g ∷ us) (k ∷ os) apart_two)
+  cut_old = ap (cut_left h m) whole ∙ ap (λ q. canonical (h ∷ q)) (beyond_canonical h m (g ∷ us) (k ∷ os) apart)
       ∙ ap (λ q. canonical (h ∷ q)) (sym (onward_other g k xs i j ne))
 
   pub cut_new : cut_right h m (put_ring m k (put_ring h g xs)) ≡ mef_new m g k xs
-  cut_new = ap (cut_right h m) whole_ring ∙ ap (λ q. canonical (m ∷ q)) (between_canonical h m (g ∷ us) (k ∷ os) apart_two)
+  cut_new = ap (cut_right h m) whole ∙ ap (λ q. canonical (m ∷ q)) (between_canonical h m (g ∷ us) (k ∷ os) apart)
       ∙ sym (canonical_same ((g ∷ us) ++ m ∷ []) (m ∷ g ∷ us) (record { front = g ∷ us; back = m ∷ []; here = refl; there = refl }) apart_new)
       ∙ ap (λ q. canonical (q ++ m ∷ [])) (sym (upto_other g k xs i ne)) where
         apart_new : IsApart ((g ∷ us) ++ m ∷ [])
-        apart_new x = omega (arith, apart_two x, count-append x (h ∷ g ∷ us) (m ∷ k ∷ os), count-append x (g ∷ us) (m ∷ []))
+        apart_new x = omega (arith, apart x, count-append x (h ∷ g ∷ us) (m ∷ k ∷ os), count-append x (g ∷ us) (m ∷ []))
 
 -- kemr: what is left of the two rings of a cut at h and m, once h and m are taken out
 module _ (h m : ℕ) (xs : List ℕ) (d : IsApart xs) (i : IsIn h xs) (j : IsIn m xs) (hm : h ≡ m → ⊥) where

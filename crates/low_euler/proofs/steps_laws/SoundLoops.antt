@@ -12,7 +12,8 @@ use Rattle.euler_operators.specs.Sound.{Sound, HasHalf}
 use Rattle.euler_operators.proofs.Halves.{mate_other, edge_of-mate}
 use Rattle.euler_operators.proofs.Models.{in-holds}
 use Rattle.low_euler.proofs.steps_laws.TwoLoops.{TwoLoops}
-use Rattle.low_euler.proofs.steps_laws.LoopsApart.{LoopsStandApart, placed_of, free_none}
+use Rattle.low_euler.specs.steps.Steps.{LoopsStandApart}
+use Rattle.low_euler.proofs.steps_laws.LoopsApart.{placed_of, free_none}
 
 module _ (M : Model) (sound : Sound M) where
   abbrev hs : ℕ → List ℕ

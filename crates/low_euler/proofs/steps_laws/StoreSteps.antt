@@ -1,16 +1,16 @@
 -- What the arena's writers make of a store, where an edge is made and where one half-edge goes into a loop or leaves one.
-use Rattle.std.proofs.Common.{◌≡◌, ◌≢◌, ℕ, Bool, true, false, cond, List, [], ◌∷◌, is_some, sym, ap, ◌∙◌, subst, arith}
+use Rattle.std.proofs.Common.{◌≡◌, ◌≢◌, ℕ, Bool, true, false, cond, not, List, [], ◌∷◌, is_some, refl, sym, ap, ◌∙◌, subst, arith}
 use Rattle.std.proofs.lemmas.Bool.Decides.{nat_tests}
 use Rattle.std.proofs.lemmas.Bool.{eq-eqb}
 use Rattle.euler_operators.specs.Items.{IsIn}
-use Rattle.euler_operators.specs.Rings.{rest, predecessor, cut_left, cut_right, joined}
-use Rattle.euler_operators.specs.Operators.{put_ring, take_ring}
+use Rattle.euler_operators.specs.Rings.{rest, cut_left, cut_right, joined}
+use Rattle.euler_operators.specs.Operators.{take_ring}
 use Rattle.euler_operators.specs.HalfEdge.{mate, edge_of, is_first, plus, minus, code}
 use Rattle.euler_operators.specs.declared.HalfEdge.{HalfEdge}
 use Rattle.euler_operators.specs.Table as table
 use Rattle.euler_operators.specs.Table.{Table, tables, same_table}
-use Rattle.euler_operators.specs.Model.{Model, EdgeRow, LoopRow, lone, cycle, items_of, content, face_of, has_half, loop_of, cycle_of, before, tail}
-use Rattle.euler_operators.proofs.Halves.{plus_row, minus_row, mate_plus, mate_minus}
+use Rattle.euler_operators.specs.Model.{Model, EdgeRow, LoopContent, LoopRow, lone, cycle, items_of, content, face_of, has_half, loop_of, cycle_of, before, tail}
+use Rattle.euler_operators.proofs.Halves.{plus_row, mate_plus, mate_minus, mate-mate, mate_other, edge_of-mate, is_first-mate}
 use Rattle.euler_operators.proofs.Tables.{get-put_here, put-put, put_turned}
 use Rattle.euler_operators.proofs.Models.{content_row, face_row, holds_in, held_row, in_no_loop}
 use Rattle.euler_operators.specs.Effect.{edge_row, cycle_or_lone}
@@ -18,7 +18,7 @@ use Rattle.euler_laws.proofs.shared.Rows.{cycle_filled}
 use Rattle.euler_conditions.specs.Store as store
 use Rattle.euler_conditions.specs.Store.{Store, with_loop, with_lone, loosened, loose_key, loose_ring, join, join_loose, join_loops, cut, cut_loose, clear}
 use Rattle.low_euler.specs.steps.Steps.{IsStanding, IsLoose, with_edge, put_before, take_out}
-use Rattle.low_euler.proofs.steps_laws.RingSteps.{joined_before, put_stands_before, cut_keeps, cut_takes, follows, nothing_follows, alone_list}
+use Rattle.low_euler.proofs.steps_laws.RingSteps.{joined_before, cut_keeps, cut_takes, follows, nothing_follows, alone_list}
 
 pub remove-put_same : {X : Type 0} (t : Table X) (n : ℕ) (x : X) → table.remove (table.put t n x) n ≡ table.remove t n
 remove-put_same t n x = same_table _ _ (λ q. grind (arith, nat_tests, tables))
@@ -39,27 +39,45 @@ with_edge_is s h m n a b f e g i =
     ∙ ap (λ q. as_edge s h m q (edge_row h a b)) g
     ∙ ap (λ q. as_edge s h m n (cond q (record { plus_tail = a; minus_tail = b }) (record { plus_tail = b; minus_tail = a }))) i
 
-code_first : (h : HalfEdge) → h.first ≡ true → code h ≡ plus h.edge
-unfolding code
-code_first h e = ap (λ b. cond b (plus h.edge) (minus h.edge)) e
+either : (f : Bool) (x y : EdgeRow) → cond (not f) x y ≡ cond f y x
+either true x y = refl
+either false x y = refl
 
-code_second : (h : HalfEdge) → h.first ≡ false → code h ≡ minus h.edge
-unfolding code
-code_second h e = ap (λ b. cond b (plus h.edge) (minus h.edge)) e
+-- an edge is the same from its other end
+pub edge_turned : (s : Store) (h a b : ℕ) → with_edge s (mate h) b a ≡ with_edge s h a b
+edge_turned s h a b =
+    with_edge_is s (mate h) h (edge_of h) b a (not (is_first h)) (mate-mate h) (edge_of-mate h) (is_first-mate h)
+    ∙ ap (as_edge s (mate h) h (edge_of h)) (either (is_first h) (record { plus_tail = b; minus_tail = a }) (record { plus_tail = a; minus_tail = b }))
+    ∙ ap (λ t. record s { model = record s.model { edges = table.put s.model.edges (edge_of h) (edge_row h a b) }; loose = t })
+    (put_turned s.loose (mate h) h (mate h ∷ []) (h ∷ []) (λ e. mate_other h (sym e)))
+    ∙ sym (with_edge_is s h (mate h) (edge_of h) a b (is_first h) refl refl refl)
 
 pub put_edge_first : (s : Store) (h : HalfEdge) (a b : ℕ) → h.first ≡ true → store.put_edge s h.edge a b ≡ with_edge s (code h) a b
-unfolding store.put_edge
-put_edge_first s h a b e = sym (ap (λ q. with_edge s q a b) (code_first h e)
+unfolding store.put_edge code
+put_edge_first s h a b e = sym (ap (λ q. with_edge s (cond q (plus h.edge) (minus h.edge)) a b) e
     ∙ with_edge_is s (plus h.edge) (minus h.edge) h.edge a b true (mate_plus h.edge) (plus_row h.edge).0 (plus_row h.edge).1)
 
 pub put_edge_second : (s : Store) (h : HalfEdge) (a b : ℕ) → h.first ≡ false → store.put_edge s h.edge b a ≡ with_edge s (code h) a b
-unfolding store.put_edge
+unfolding code
 put_edge_second s h a b e =
-    let ne : plus h.edge ≢ minus h.edge = omega arith in
-    sym (ap (λ q. with_edge s q a b) (code_second h e)
-    ∙ with_edge_is s (minus h.edge) (plus h.edge) h.edge a b false (mate_minus h.edge) (minus_row h.edge).0 (minus_row h.edge).1
-    ∙ ap (λ t. record s { model = record s.model { edges = table.put s.model.edges h.edge (record { plus_tail = b; minus_tail = a }) }; loose = t })
-    (sym (put_turned s.loose (plus h.edge) (minus h.edge) (plus h.edge ∷ []) (minus h.edge ∷ []) ne)))
+    put_edge_first s (record { edge = h.edge; first = true }) b a refl
+    ∙ ap (λ q. with_edge s q b a) (sym (mate_minus h.edge))
+    ∙ edge_turned s (minus h.edge) a b
+    ∙ ap (λ q. with_edge s (cond q (plus h.edge) (minus h.edge)) a b) (sym e)
+
+-- ---- a loop's content, once it is written, and once it is written again
+
+module _ (M : Model) (r : ℕ) (c : LoopContent) where
+  abbrev written : LoopRow
+  written = record { face = face_of M r; content = c }
+
+  pub content_written : content (with_loop M r c) r ≡ c
+  content_written = content_row (with_loop M r c) r written (get-put_here M.loops r written)
+
+  pub written_again : (d : LoopContent) → with_loop (with_loop M r c) r d ≡ with_loop M r d
+  written_again d =
+      ap (λ f. record M { loops = table.put (table.put M.loops r written) r (record { face = f; content = d }) }) (face_row (with_loop M r c) r written (get-put_here M.loops r written))
+      ∙ ap (λ t. record M { loops = t }) (put-put M.loops r written (record { face = face_of M r; content = d }))
 
 -- ---- half-edges that go in and out
 
@@ -70,6 +88,34 @@ pub record JoinsAlone (s : Store) (n x : ℕ) : Type 0 where
   pub looped : loop_of s.model n ≢ 0
   pub loose : loop_of s.model x ≡ 0
   pub alone : loose_ring s x ≡ x ∷ []
+
+-- a half-edge that is alone, joined after p, which stands in loop r
+module _ (s : Store) (p r h : ℕ) (there : has_half s.model p ≡ true) (near : loop_of s.model p ≡ r) (real : r ≢ 0) (loose : IsLoose s h) where
+  abbrev as_join : ℕ → List ℕ → Store
+  as_join l ys = record s { model = with_loop s.model l (cycle ys); loose = table.remove s.loose (loose_key s h) }
+
+  pub join_is : join s p h ≡ as_join r (joined p h (items_of (content s.model r)) (h ∷ []))
+  unfolding join_loose
+  join_is =
+      ap (λ b. cond b (join_loose s p h) (join_loops s p h)) (eq-eqb (loop_of s.model h) 0 (in_no_loop s.model h loose.nowhere))
+      ∙ ap (λ l. as_join l (joined p h (items_of (content s.model l)) (loose_ring s h))) near
+      ∙ ap (λ ring. as_join r (joined p h (items_of (content s.model r)) ring)) loose.alone
+
+  -- what the join asks, and what it leaves
+  joins_here : JoinsAlone s p h
+  joins_here = record {
+    a_there = there;
+    b_there = loose.there;
+    looped = λ e. real (sym near ∙ e);
+    loose = in_no_loop s.model h loose.nowhere;
+    alone = loose.alone;
+  }
+
+  pub joins_after : (q : Store) (n x : ℕ) → q ≡ s → n ≡ p → x ≡ h → JoinsAlone q n x
+  joins_after q n x e en ex = subst (JoinsAlone q n) (sym ex) (subst (λ y. JoinsAlone q y h) (sym en) (subst (λ t. JoinsAlone t p h) (sym e) joins_here))
+
+  pub was_joined : (q t : Store) (n x : ℕ) → q ≡ s → n ≡ p → x ≡ h → t ≡ join q n x → t ≡ join s p h
+  was_joined q t n x e en ex d = d ∙ ap (λ z. join z n x) e ∙ ap (λ y. join s y x) en ∙ ap (join s p) ex
 
 module _ (s : Store) (g : ℕ) (stands : IsStanding s.model g) where
   abbrev M : Model
@@ -89,46 +135,16 @@ module _ (s : Store) (g : ℕ) (stands : IsStanding s.model g) where
 
   -- a join after the half-edge before g
   module _ (h : ℕ) (loose : IsLoose s h) where
-    abbrev as_join : ℕ → List ℕ → Store
-    as_join l ys = record s { model = with_loop M l (cycle ys); loose = table.remove s.loose (loose_key s h) }
-
-    ring_put : joined p h xs (h ∷ []) ≡ put_ring h g xs
-    unfolding before
-    ring_put = joined_before xs stands.apart g g_in h (loose.nowhere r)
-
     pub join_puts : join s p h ≡ put_before s g h
-    unfolding join_loose put_before
-    join_puts =
-        ap (λ b. cond b (join_loose s p h) (join_loops s p h)) (eq-eqb (loop_of M h) 0 (in_no_loop M h loose.nowhere))
-        ∙ ap (λ l. as_join l (joined p h (items_of (content M l)) (loose_ring s h))) stands.before_near
-        ∙ ap (λ ring. as_join r (joined p h xs ring)) loose.alone
-        ∙ ap (as_join r) ring_put
-
-    -- h stands before g then, where g stands in its loop still
-    pub put_before_is : loop_of (put_before s g h).model g ≡ loop_of M g → before (put_before s g h).model g ≡ h
     unfolding before put_before
-    put_before_is near =
-        let row : LoopRow = record { face = face_of M r; content = cycle (put_ring h g xs) } in
-        let N : Model = with_loop M r (cycle (put_ring h g xs)) in
-        ap (λ l. predecessor (items_of (content N l)) g) near
-        ∙ ap (λ c. predecessor (items_of c) g) (content_row N r row (get-put_here M.loops r row))
-        ∙ put_stands_before xs stands.apart g g_in h (loose.nowhere r)
-
-    -- what the join asks, and what it leaves
-    joins_here : JoinsAlone s p h
-    joins_here = record {
-      a_there = stands.before_there;
-      b_there = loose.there;
-      looped = λ e. stands.looped (sym stands.before_near ∙ e);
-      loose = in_no_loop M h loose.nowhere;
-      alone = loose.alone;
-    }
+    join_puts = join_is s p r h stands.before_there stands.before_near stands.looped loose
+        ∙ ap (as_join s p r h stands.before_there stands.before_near stands.looped loose r) (joined_before xs stands.apart g g_in h (loose.nowhere r))
 
     pub joins_alone : (q : Store) (n x : ℕ) → q ≡ s → n ≡ p → x ≡ h → JoinsAlone q n x
-    joins_alone q n x e en ex = subst (JoinsAlone q n) (sym ex) (subst (λ y. JoinsAlone q y h) (sym en) (subst (λ t. JoinsAlone t p h) (sym e) joins_here))
+    joins_alone = joins_after s p r h stands.before_there stands.before_near stands.looped loose
 
     pub was_put : (q t : Store) (n x : ℕ) → q ≡ s → n ≡ p → x ≡ h → t ≡ join q n x → t ≡ put_before s g h
-    was_put q t n x e en ex d = d ∙ ap (λ z. join z n x) e ∙ ap (λ y. join s y x) en ∙ ap (join s p) ex ∙ join_puts
+    was_put q t n x e en ex d = was_joined s p r h stands.before_there stands.before_near stands.looped loose q t n x e en ex d ∙ join_puts
 
   -- a cut after the half-edge before g
   module _ (ne : p ≢ g) where
@@ -161,12 +177,6 @@ module _ (s : Store) (g : ℕ) (stands : IsStanding s.model g) where
     unfolding before
     none_follow = nothing_follows xs stands.apart g g_in e
 
-    abbrev bare_row : LoopRow
-    bare_row = record { face = face_of M r; content = cycle [] }
-
-    face_again : face_of (with_loop M r (cycle [])) r ≡ face_of M r
-    face_again = face_row (with_loop M r (cycle [])) r bare_row (get-put_here M.loops r bare_row)
-
     one_item : xs ≡ g ∷ []
     one_item = alone_list (cycle_of M g) stands.apart g g_in none_follow
 
@@ -175,17 +185,16 @@ module _ (s : Store) (g : ℕ) (stands : IsStanding s.model g) where
 
     still_there : table.has (clear s r).model.loops r ≡ true
     unfolding clear
-    still_there = ap is_some (get-put_here M.loops r bare_row)
+    still_there = ap is_some (get-put_here M.loops r (record { face = face_of M r; content = cycle [] }))
 
     now_bare : items_of (content (clear s r).model r) ≡ []
     unfolding clear
-    now_bare = ap items_of (content_row (with_loop M r (cycle [])) r bare_row (get-put_here M.loops r bare_row))
+    now_bare = ap items_of (content_written M r (cycle []))
 
     clear_takes_out : with_lone (clear s r) r (tail M g) ≡ take_out s g
     unfolding clear take_out
     clear_takes_out =
-        ap (λ f. record s { model = record M { loops = table.put (table.put M.loops r bare_row) r (record { face = f; content = lone (tail M g) }) }; loose = loosened xs s.loose }) face_again
-        ∙ ap (λ t. record s { model = record M { loops = t }; loose = loosened xs s.loose }) (put-put M.loops r bare_row (record { face = face_of M r; content = lone (tail M g) }))
+        ap (λ (N : Model). record s { model = N; loose = loosened xs s.loose }) (written_again M r (cycle []) (lone (tail M g)))
         ∙ ap (λ ring. record s { model = with_loop M r (lone (tail M g)); loose = loosened ring s.loose }) one_item
         ∙ ap (λ ys. record s { model = with_loop M r (cycle_or_lone ys (tail M g)); loose = table.put s.loose g (g ∷ []) }) (sym none_follow)
 

@@ -12,11 +12,12 @@ use Rattle.euler_operators.specs.declared.Op.TheVariants.{Mev}
 use Rattle.euler_operators.specs.Effect.{effect, mev_at, with_before, with_tails, edge_row}
 use Rattle.euler_laws.proofs.mev.MevSound.{MevGoes}
 use Rattle.euler_laws.proofs.mev.Mev.{mev_goes}
-use Rattle.euler_conditions.specs.Store.{Store, loose_key, put_vertex}
+use Rattle.euler_conditions.specs.Store.{Store, put_vertex}
 use Rattle.euler_conditions.specs.Ready.{Accepts, after}
-use Rattle.low_euler.specs.steps.Steps.{IsStanding, IsUnused, with_edge, put_before, make_edge, with_tails_at}
-use Rattle.low_euler.proofs.steps_laws.LoopsApart.{LoopsStandApart, HasLoop, placed_of, placed-same, loop-same, before-same, never_zero, standing_of, placed-edge, put_keeps, unused_of, loops_E, loops_put, placed-put, loop-put}
-use Rattle.low_euler.proofs.steps_laws.EdgeSteps.{first_key, first_loose, second_key, second_loose, none_loose}
+use Rattle.low_euler.specs.steps.Steps.{LoopsStandApart, IsStanding, IsUnused, with_edge, put_before, make_edge, with_tails_at}
+use Rattle.low_euler.proofs.steps_laws.LoopsApart.{HasLoop, placed_of, placed-same, loop-same, before-same, never_zero, standing_of, placed-edge, unused_of, loops_E, loops_put, placed-put, loop-put}
+use Rattle.low_euler.proofs.steps_laws.EdgeSteps as edge
+use Rattle.low_euler.proofs.steps_laws.EdgeSteps.{first_loose, second_loose}
 use Rattle.low_euler.proofs.steps_laws.Tails.{loops-tails, loose-tails, half-tails, free-tails}
 
 module _ (s : Store) (from to half : HalfEdge) (v : ℕ) (p : Point) (ok : Accepts s (Mev (At from) (At to) half v p)) where
@@ -77,7 +78,7 @@ module _ (s : Store) (from to half : HalfEdge) (v : ℕ) (p : Point) (ok : Accep
   pub unused : IsUnused moved h
   unused = unused_of moved placed bare h u v edge_none
 
-  placed_edged : LoopsStandApart edged.model
+  pub placed_edged : LoopsStandApart edged.model
   placed_edged = placed-edge moved placed bare h u v edge_none
 
   loops_are : edged.model.loops ≡ M.loops
@@ -86,7 +87,7 @@ module _ (s : Store) (from to half : HalfEdge) (v : ℕ) (p : Point) (ok : Accep
   from_in : HasLoop edged.model g
   from_in = loop-same M edged.model loops_are g (sound.stands g goes.g_there)
 
-  -- what stands before the first corner, and stays there
+  -- what stands before the first corner
   pub looped : loop_of M g ≢ 0
   looped = never_zero M (placed_of M sound) g (sound.stands g goes.g_there)
 
@@ -98,9 +99,6 @@ module _ (s : Store) (from to half : HalfEdge) (v : ℕ) (p : Point) (ok : Accep
 
   placed_first : LoopsStandApart first_in.model
   placed_first = placed-put edged placed_edged g h from_in (first_loose moved h u v unused)
-
-  pub from_stays : loop_of first_in.model g ≡ loop_of edged.model g
-  from_stays = placed_first.one_loop g (loop_of edged.model g) (put_keeps edged placed_edged g h from_in (first_loose moved h u v unused) g (loop_of edged.model g) from_in)
 
   to_in : HasLoop first_in.model k
   to_in = loop-put edged placed_edged g h from_in (first_loose moved h u v unused) k (loop-same M edged.model loops_are k (sound.stands k goes.k_there))
@@ -115,9 +113,7 @@ module _ (s : Store) (from to half : HalfEdge) (v : ℕ) (p : Point) (ok : Accep
 
   loose_made : (make_edge moved (At from) (At to) h u v).loose ≡ s.loose
   unfolding put_before
-  loose_made =
-      ap (λ q. table.remove (table.remove edged.loose (loose_key edged h)) q) (second_key moved h u v unused (At from))
-      ∙ ap (λ q. table.remove (table.remove edged.loose q) m) (first_key moved h u v unused) ∙ none_loose moved h u v unused ∙ loose-tails s (arc M g k) v
+  loose_made = edge.loose_made moved h u v unused (At from) ∙ loose-tails s (arc M g k) v
 
   -- together they are mev
   pub made_is : make_edge moved (At from) (At to) h u v ≡ after s (Mev (At from) (At to) half v p)

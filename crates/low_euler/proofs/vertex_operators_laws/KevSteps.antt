@@ -29,10 +29,10 @@ use Rattle.euler_laws.proofs.shared.Same.{mapped_some}
 use Rattle.euler_laws.proofs.kev.Kev.{kev_goes}
 use Rattle.euler_conditions.specs.Store.{Store, take_edge, take_vertex}
 use Rattle.euler_conditions.specs.Ready.{Accepts, after as after_op}
-use Rattle.low_euler.specs.steps.Steps.{IsStanding, take_out, kill_edge, with_tails_at}
+use Rattle.low_euler.specs.steps.Steps.{LoopsStandApart, IsStanding, take_out, kill_edge, with_tails_at}
 use Rattle.low_euler.proofs.steps_laws.RingSteps.{upto_before}
 use Rattle.low_euler.proofs.steps_laws.LooseRings.{edge_gone as both_gone, halves_back}
-use Rattle.low_euler.proofs.steps_laws.LoopsApart.{LoopsStandApart, HasLoop, placed_of, placed-same, loop-same, content-same, face_of-same, never_zero, standing_of, same_or_lone, placed-taken, loop-taken, content-O, face-O, has-O}
+use Rattle.low_euler.proofs.steps_laws.LoopsApart.{HasLoop, placed_of, placed-same, loop-same, content-same, face_of-same, never_zero, standing_of, same_or_lone, placed-taken, loop-taken, content-O, face-O, has-O}
 use Rattle.low_euler.proofs.steps_laws.Tails.{loops-tails, half-tails, edges-tails, tail-tails}
 
 -- ---- items taken out of a list

@@ -25,8 +25,8 @@ use Rattle.euler_laws.proofs.mev.MevLoneSound.{LoneGoes}
 use Rattle.euler_laws.proofs.mev.Mev.{lone_goes}
 use Rattle.euler_conditions.specs.Store.{Store, put_vertex, fill, with_loop, loose_ring}
 use Rattle.euler_conditions.specs.Ready.{Accepts, after}
-use Rattle.low_euler.specs.steps.Steps.{IsStanding, IsUnused, CanTake, with_edge, put_before, make_edge}
-use Rattle.low_euler.proofs.steps_laws.LoopsApart.{LoopsStandApart, placed_of, placed-same, free_none, unused_of}
+use Rattle.low_euler.specs.steps.Steps.{LoopsStandApart, IsStanding, IsUnused, CanTake, with_edge, put_before, make_edge}
+use Rattle.low_euler.proofs.steps_laws.LoopsApart.{placed_of, placed-same, free_none, unused_of}
 use Rattle.low_euler.proofs.steps_laws.EdgeSteps.{first_key, first_ring, first_loose, second_key, none_loose}
 
 module _ (s : Store) (l : ℕ) (half : HalfEdge) (v : ℕ) (p : Point) (ok : Accepts s (Mev (Lone l) (Lone l) half v p)) where

@@ -1,6 +1,6 @@
 -- Steps of which operators on an arena are made: an edge that is made or killed, a half-edge that goes into a loop or leaves one,
 -- and tails that move.
-use Rattle.std.specs.Prelude.{◌≡◌, ◌≢◌, ℕ, true, List, [], ◌∷◌}
+use Rattle.std.specs.Prelude.{◌≡◌, ◌≢◌, ℕ, true, List, [], ◌∷◌, None}
 use Rattle.euler_operators.specs.Items.{count, IsApart}
 use Rattle.euler_operators.specs.Rings.{rest}
 use Rattle.euler_operators.specs.Operators.{put_ring}
@@ -13,6 +13,13 @@ use Rattle.euler_operators.specs.Sound.{StandsIn}
 use Rattle.euler_operators.specs.Effect.{edge_row, cycle_or_lone, with_tails}
 use Rattle.euler_operators.specs.Conditions.{is_lone}
 use Rattle.euler_conditions.specs.Store.{Store, with_loop, loose_key, loose_ring, fill, take_edge}
+
+-- loops hold half-edges of edges that are there, each once and in one loop only, and 0 is no loop
+pub record LoopsStandApart (M : Model) : Type 0 where
+  pub only : (h l : ℕ) → StandsIn M h l → has_half M h ≡ true
+  pub apart : (l : ℕ) → IsApart (items_of (content M l))
+  pub one_loop : (h l : ℕ) → StandsIn M h l → loop_of M h ≡ l
+  pub no_zero : table.get M.loops 0 ≡ None
 
 -- half-edge h stands in a loop, as the half-edge before it does
 pub record IsStanding (M : Model) (h : ℕ) : Type 0 where

@@ -1,9 +1,9 @@
 //! An edge that is made between two corners, and one that is killed.
 ghost use Rattle.std.specs.Prelude.{◌≡◌, true, false};
 ghost use Rattle.euler_operators.specs.HalfEdge.{code, mate};
-ghost use Rattle.euler_operators.specs.Model.{loop_of, before};
+ghost use Rattle.euler_operators.specs.Model.{before};
 ghost use Rattle.euler_conditions.specs.Store.{has_room, has_number};
-ghost use Rattle.low_euler.specs.steps.Steps.{IsStanding, IsUnused, CanTake, with_edge, put_before, put_at, take_out, make_edge, kill_edge};
+ghost use Rattle.low_euler.specs.steps.Steps.{LoopsStandApart, IsStanding, IsUnused, CanTake, with_edge, put_before, put_at, take_out, make_edge, kill_edge};
 
 use crate::steps::corners::put_at;
 use crate::steps::halves::take_out;
@@ -48,7 +48,7 @@ pub(crate) fn make_edge(
 }
 
 /// Makes an edge between two half-edges, as `make_edge` does at their corners. `last` stands before the first of them. Where the two
-/// are the same, it stands in its loop still once `half` is put before it.
+/// are the same, the mate is put there first and `half` goes between `last` and it, so that `half`'s row is read in one splice only.
 #[inline(always)]
 pub(crate) fn make_edge_after(
     arena: &mut Arena,
@@ -65,17 +65,18 @@ pub(crate) fn make_edge_after(
     requires last { code last ≡ before (with_edge arena.old (code half) start end).model (code first) }
     requires first { IsStanding (with_edge arena.old (code half) start end).model (code first) }
     requires second { IsStanding (put_before (with_edge arena.old (code half) start end) (code first) (code half)).model (code second) }
-    requires stays { code second ≡ code first → loop_of (put_before (with_edge arena.old (code half) start end) (code first) (code half)).model (code first) ≡ loop_of (with_edge arena.old (code half) start end).model (code first) }
+    requires apart { code second ≡ code first → LoopsStandApart (with_edge arena.old (code half) start end).model }
     ensures { arena.new ≡ make_edge arena.old (Corner.At first) (Corner.At second) (code half) start end }
 {
     put_edge(arena, half, start, end);
-    arena.join_alone(last, half);
-    let other = if same(first, second) {
-        half
+    if same(first, second) {
+        arena.join_alone(last, half.mate());
+        arena.join_alone(last, half);
     } else {
-        arena.prev(second)
-    };
-    arena.join_alone(other, half.mate());
+        arena.join_alone(last, half);
+        let other = arena.prev(second);
+        arena.join_alone(other, half.mate());
+    }
 }
 
 /// Kills an edge: the mate of `half` is taken out of its loop, and then `half`.

@@ -43,7 +43,7 @@ make_edge_after-requires c =
       last = subst (λ (t : Store). code c.tail_and_prev-start.result.1 ≡ before t.model (code c.args.first)) edged (steps.before_first _ _ _ _ _ _ c.requires _ (c.tail_and_prev-start.ensures.in_loop (steps.r_real _ _ _ _ _ _ c.requires)));
       first = subst (λ (t : Store). IsStanding t.model (code c.args.first)) edged (steps.g_stands _ _ _ _ _ _ c.requires);
       second = subst (λ t. IsStanding (put_before t (code c.args.first) (code c.args.half)).model (code c.args.second)) edged (steps.k_stands _ _ _ _ _ _ c.requires);
-      stays = λ e. absurd (steps.corners_apart _ _ _ _ _ _ c.requires e);
+      apart = λ e. absurd (steps.corners_apart _ _ _ _ _ _ c.requires e);
     }
 
 pub cut-requires : goal.cut-requires

@@ -1,9 +1,9 @@
 use Rattle.std.proofs.Common.{◌≡◌, ap, sym, subst, ◌∙◌}
 use Rattle.euler_operators.specs.HalfEdge.{code}
 use Rattle.euler_operators.specs.Table as table
-use Rattle.euler_operators.specs.Model.{loop_of, before}
+use Rattle.euler_operators.specs.Model.{before}
 use Rattle.euler_conditions.specs.Store.{Store, Extents, within}
-use Rattle.low_euler.specs.steps.Steps.{IsStanding, IsUnused, put_before}
+use Rattle.low_euler.specs.steps.Steps.{LoopsStandApart, IsStanding, IsUnused, put_before}
 use Rattle.low_euler.proofs.steps_laws.Tails.{room-tails}
 use Rattle.low_euler.proofs.vertex_operators_laws.CornerSteps as steps
 use Rattle.low_euler.proofs.vertex_operators.edges.mev_at.Goals as goal
@@ -36,7 +36,7 @@ make_edge_after-requires c =
       last = subst (λ (t : Store). code c.tail_and_prev-old.result.1 ≡ before t.model (code c.args.from)) edged (steps.before_from _ _ _ _ _ _ c.requires _ (c.tail_and_prev-old.ensures.in_loop (steps.looped _ _ _ _ _ _ c.requires)));
       first = subst (λ (t : Store). IsStanding t.model (code c.args.from)) edged (steps.from_stands _ _ _ _ _ _ c.requires);
       second = subst (λ t. IsStanding (put_before t (code c.args.from) (code c.args.half)).model (code c.args.to)) edged (steps.to_stands _ _ _ _ _ _ c.requires);
-      stays = λ _. subst (λ t. loop_of (put_before t (code c.args.from) (code c.args.half)).model (code c.args.from) ≡ loop_of t.model (code c.args.from)) edged (steps.from_stays _ _ _ _ _ _ c.requires);
+      apart = λ _. subst (λ (t : Store). LoopsStandApart t.model) edged (steps.placed_edged _ _ _ _ _ _ c.requires);
     }
 
 pub returns : goal.returns
