@@ -91,8 +91,8 @@ module _ (M : Model) where
       returned : returns ≡ nat_eq (after M (mate (code h))) (code h)
       returned = sym r ∙ ap (λ k. nat_eq k (code h)) back_is
 
-      pub first_corner : cond turns (cond returns (Lone l) (At b)) (At a) ≡ kev_corner M (code h)
-      first_corner = λ i. cond (turned i) (cond (returned i) (Lone (le i)) (At (half_then b back_is i))) (At (half_then a ae i))
-
-      pub second_corner : cond (turns && returns) (Lone l) (At b) ≡ kev_corner_mate M (code h)
-      second_corner = λ i. cond (turned i && returned i) (Lone (le i)) (At (half_then b back_is i))
+      pub corners : (cond turns (cond returns (Lone l) (At b)) (At a) ≡ kev_corner M (code h)) × (cond (turns && returns) (Lone l) (At b) ≡ kev_corner_mate M (code h))
+      corners = (
+        λ i. cond (turned i) (cond (returned i) (Lone (le i)) (At (half_then b back_is i))) (At (half_then a ae i)),
+        λ i. cond (turned i && returned i) (Lone (le i)) (At (half_then b back_is i)),
+      )

@@ -10,7 +10,7 @@ use Rattle.euler_operators.specs.declared.HalfEdge.{HalfEdge}
 use Rattle.euler_operators.specs.HalfEdge.{code, mate, edge_of}
 use Rattle.euler_operators.specs.Table as table
 use Rattle.euler_operators.specs.Table.{Table}
-use Rattle.euler_operators.specs.Model.{Model, LoopContent, LoopRow, cycle, items_of, content, face_of, loop_of, cycle_of, tail, no_loop, has_half}
+use Rattle.euler_operators.specs.Model.{Model, LoopContent, LoopRow, cycle, items_of, content, face_of, loop_of, cycle_of, tail, no_loop}
 use Rattle.euler_operators.specs.Sound.{Sound}
 use Rattle.euler_operators.proofs.Halves.{mate_other}
 use Rattle.euler_operators.proofs.Tables.{put_same}
@@ -27,7 +27,7 @@ use Rattle.euler_conditions.specs.Store.{Store, put_loop, cut, cut_loose, cut_to
 use Rattle.low_euler.specs.steps.Steps.{IsStanding, take_out, kill_edge}
 use Rattle.low_euler.proofs.steps_laws.RingSteps.{rest_left, rest_right}
 use Rattle.low_euler.proofs.steps_laws.TwoLoops as two
-use Rattle.low_euler.proofs.steps_laws.TwoLoops.{TwoLoops}
+use Rattle.low_euler.proofs.steps_laws.TwoLoops.{TwoLoops, CanCut}
 use Rattle.low_euler.proofs.steps_laws.LooseRings.{pair, edge_gone, halves_back}
 use Rattle.low_euler.proofs.steps_laws.SoundLoops.{sound_loops}
 
@@ -139,26 +139,8 @@ module _ (s : Store) (half : HalfEdge) (l : ℕ) (ok : Accepts s (Kemr half l)) 
   fits_two : Fits (cycle left) (cycle right)
   fits_two x = omega (arith, count_all x, count-cut h m xs once h_in m_in hm x)
 
-  -- what the cut asks
-  pub h_stands : IsStanding looped.model h
-  h_stands = subst (λ (t : Store). IsStanding t.model h) (sym looped_is) (two.standing_r M r l (face_of M r) (face_of M r) all loops (cycle xs) (cycle []) fits_one h h_in)
-
-  m_stands : IsStanding looped.model m
-  m_stands = subst (λ (t : Store). IsStanding t.model m) (sym looped_is) (two.standing_r M r l (face_of M r) (face_of M r) all loops (cycle xs) (cycle []) fits_one m m_in)
-
-  pub mate_there : (p : Store) (n : ℕ) → n ≡ m → p ≡ looped → has_half p.model n ≡ true
-  mate_there p n en e = ap (has_half p.model) en ∙ ap (λ (t : Store). has_half t.model m) e ∙ m_stands.there
-
-  pub mate_near : (p : Store) (n : ℕ) → n ≡ m → p ≡ looped → loop_of p.model n ≡ loop_of p.model h
-  mate_near p n en e = ap (loop_of p.model) en ∙ subst (λ (t : Store). loop_of t.model m ≡ loop_of t.model h) (sym (e ∙ looped_is))
-      (two.loop_r M r l (face_of M r) (face_of M r) all loops (cycle xs) (cycle []) fits_one m m_in ∙ sym (two.loop_r M r l (face_of M r) (face_of M r) all loops (cycle xs) (cycle []) fits_one h h_in))
-
-  pub l_there : table.has looped.model.loops l ≡ true
-  l_there = subst (λ (t : Store). table.has t.model.loops l ≡ true) (sym looped_is)
-      (ap is_some (two.get_l M r l (face_of M r) (face_of M r) all loops M.loops (record { face = face_of M r; content = cycle xs }) (record { face = face_of M r; content = cycle [] })))
-
-  pub l_bare : items_of (content looped.model l) ≡ []
-  l_bare = subst (λ (t : Store). items_of (content t.model l) ≡ []) (sym looped_is) (ap items_of (two.content_l M r l (face_of M r) (face_of M r) all loops (cycle xs) (cycle [])))
+  pub cut_asks : (p : Store) (n : ℕ) → p ≡ looped → n ≡ m → CanCut p h n l
+  cut_asks p n e en = two.cut_asks M r l (face_of M r) (face_of M r) all loops s.room xs table.empty fits_one h m h_in m_in hm p n (e ∙ looped_is) en
 
   parted_is : parted ≡ state (cycle left) (cycle right) table.empty
   parted_is = ap (λ b. cond b (cut_loose looped h m) (cut_to looped h m l)) (ne_eqb l 0 (number_real l goes.loop_fits))

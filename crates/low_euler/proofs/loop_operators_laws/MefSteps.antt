@@ -10,7 +10,7 @@ use Rattle.euler_operators.specs.declared.Corner.TheVariants.{At}
 use Rattle.euler_operators.specs.HalfEdge.{code, mate, edge_of}
 use Rattle.euler_operators.specs.Table as table
 use Rattle.euler_operators.specs.Table.{Table}
-use Rattle.euler_operators.specs.Model.{Model, LoopRow, cycle, items_of, content, face_of, solid_of, loop_of, cycle_of, before, tail, no_loop, has_half}
+use Rattle.euler_operators.specs.Model.{Model, LoopRow, cycle, items_of, content, face_of, solid_of, loop_of, cycle_of, before, tail, no_loop}
 use Rattle.euler_operators.specs.Sound.{Sound}
 use Rattle.euler_operators.proofs.Halves.{mate_other, edge_of-code}
 use Rattle.euler_operators.proofs.Tables.{put_same}
@@ -26,7 +26,7 @@ use Rattle.euler_conditions.specs.Store.{Store, Extents, within, put_loop, cut, 
 use Rattle.low_euler.specs.steps.Steps.{IsStanding, IsUnused, with_edge, put_before, make_edge}
 use Rattle.low_euler.proofs.steps_laws.RingSteps.{cut_old, cut_new, count_put}
 use Rattle.low_euler.proofs.steps_laws.TwoLoops as two
-use Rattle.low_euler.proofs.steps_laws.TwoLoops.{TwoLoops}
+use Rattle.low_euler.proofs.steps_laws.TwoLoops.{TwoLoops, CanCut}
 use Rattle.low_euler.proofs.steps_laws.LooseRings.{pair, pair_singles, get_first, left_second, pair_gone, singles_remove, key_is}
 use Rattle.low_euler.proofs.steps_laws.SoundLoops.{edged_loops, none_first, none_second}
 use Rattle.low_euler.proofs.steps_laws.LoopsApart.{content-same}
@@ -235,19 +235,8 @@ module _ (s : Store) (first second half : HalfEdge) (f l : ℕ) (ok : Accepts s 
   m_in : IsIn m zs
   m_in = omega (arith, count_put m m k ys, tick_same m)
 
-  -- what the cut asks
-  pub h_stands : IsStanding second_in.model h
-  h_stands = subst (λ (t : Store). IsStanding t.model h) (sym second_is) (two.standing_r N r l (face_of M r) f all loops (cycle zs) (cycle []) fits_three h h_in)
-
-  pub m_stands : IsStanding second_in.model m
-  m_stands = subst (λ (t : Store). IsStanding t.model m) (sym second_is) (two.standing_r N r l (face_of M r) f all loops (cycle zs) (cycle []) fits_three m m_in)
-
-  pub l_there : table.has second_in.model.loops l ≡ true
-  l_there = subst (λ (t : Store). table.has t.model.loops l ≡ true) (sym second_is)
-      (ap is_some (two.get_l N r l (face_of M r) f all loops N.loops (record { face = face_of M r; content = cycle zs }) (record { face = f; content = cycle [] })))
-
-  pub l_bare : items_of (content second_in.model l) ≡ []
-  l_bare = subst (λ (t : Store). items_of (content t.model l) ≡ []) (sym second_is) (ap items_of (two.content_l N r l (face_of M r) f all loops (cycle zs) (cycle [])))
+  pub cut_asks : (p : Store) (n : ℕ) → p ≡ second_in → n ≡ m → CanCut p h n l
+  cut_asks p n e en = two.cut_asks N r l (face_of M r) f all loops s.room zs table.empty fits_three h m h_in m_in (mate_other h) p n (e ∙ second_is) en
 
   parted_is : parted ≡ state (mef_old h g k xs) (mef_new m g k xs) table.empty
   parted_is = ap (λ b. cond b (cut_loose second_in h m) (cut_to second_in h m l)) (ne_eqb l 0 l_real)
@@ -274,13 +263,6 @@ module _ (s : Store) (first second half : HalfEdge) (f l : ℕ) (ok : Accepts s 
 
   pub was_made : (p q : Store) (n : ℕ) → n ≡ solid_of M (face_at M g) → p ≡ parted → q ≡ put_face p f n l → q ≡ after s (Mef first second half f l)
   was_made p q n en e d = d ∙ ap (λ x. put_face p f x l) en ∙ ap (λ t. put_face t f (solid_of M (face_at M g)) l) e ∙ made_is_after
-
-  pub mate_there : (p : Store) (n : ℕ) → n ≡ m → p ≡ second_in → has_half p.model n ≡ true
-  mate_there p n en e = ap (has_half p.model) en ∙ ap (λ (t : Store). has_half t.model m) e ∙ m_stands.there
-
-  pub mate_near : (p : Store) (n : ℕ) → n ≡ m → p ≡ second_in → loop_of p.model n ≡ loop_of p.model h
-  mate_near p n en e = ap (loop_of p.model) en ∙ subst (λ (t : Store). loop_of t.model m ≡ loop_of t.model h) (sym (e ∙ second_is))
-      (two.loop_r N r l (face_of M r) f all loops (cycle zs) (cycle []) fits_three m m_in ∙ sym (two.loop_r N r l (face_of M r) f all loops (cycle zs) (cycle []) fits_three h h_in))
 
   -- what the new face asks
   parted_room : (p : Store) → p ≡ parted → p.room ≡ s.room

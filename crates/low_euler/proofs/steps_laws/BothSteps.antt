@@ -16,7 +16,7 @@ use Rattle.euler_conditions.specs.Store.{Store, with_loop, loose_key, join}
 use Rattle.low_euler.specs.steps.Steps.{LoopsStandApart, IsStanding, IsLoose, IsUnused, with_edge, put_before}
 use Rattle.low_euler.proofs.steps_laws.RingSteps.{joined_twice}
 use Rattle.low_euler.proofs.steps_laws.StoreSteps.{JoinsAlone, join_is, joins_after, was_joined, joins_alone, was_put, edge_turned, content_written, written_again}
-use Rattle.low_euler.proofs.steps_laws.LoopsApart.{placed-put, put_keeps, before_stands}
+use Rattle.low_euler.proofs.steps_laws.LoopsApart.{stays-put, before_stands}
 use Rattle.low_euler.proofs.steps_laws.EdgeSteps.{first_loose, second_loose, loose_made, none_second}
 
 -- h is put before g, and then m before g
@@ -53,7 +53,7 @@ module _ (s : Store) (h a b : ℕ) (from : HalfEdge) (unused : IsUnused s h) (pl
 
   -- what stood in the loop stands there still
   stays : (x : ℕ) → StandsIn edged.model x r → loop_of half_in.model x ≡ r
-  stays x t = (placed-put edged placed g h stands.stands alone).one_loop x r (put_keeps edged placed g h stands.stands alone x r t)
+  stays x t = stays-put edged placed g h stands.stands alone x r t
 
   last_stays : loop_of half_in.model p ≡ r
   last_stays = stays p (before_stands edged.model placed g stands.stands)

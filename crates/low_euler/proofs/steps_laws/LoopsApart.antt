@@ -1,12 +1,13 @@
 -- Models of which the loops hold half-edges that are there, each once and in one loop: what stays so where one half-edge goes into a
 -- loop or leaves one, and where an edge is made.
-use Rattle.std.proofs.Common.{◌≡◌, ◌≢◌, ℕ, Bool, true, false, cond, List, [], ◌∷◌, Option, Some, None, is_some, unwrap_or, refl, sym, ap, ◌∙◌, subst, arith, ◌⊎◌, inl, inr, true≢false}
+use Rattle.std.proofs.Common.{◌≡◌, ◌≢◌, ℕ, ◌+◌, Bool, true, false, cond, List, [], ◌∷◌, Option, Some, None, is_some, unwrap_or, refl, sym, ap, ◌∙◌, subst, arith, ◌⊎◌, inl, inr, true≢false}
 use Rattle.std.specs.Option.{option_map}
 use Rattle.std.proofs.lemmas.Bool.Decides.{eqb_tells}
 use Rattle.euler_operators.specs.Items.{count, tick, IsIn, IsApart}
 use Rattle.euler_operators.specs.Rings.{canonical, rest, predecessor}
+use Rattle.euler_operators.specs.Operators.{put_ring}
 use Rattle.euler_operators.specs.Edits.{insert_before, without}
-use Rattle.euler_operators.proofs.Lists.{tick_same, tick_other, IsIn_or_not}
+use Rattle.euler_operators.proofs.Lists.{tick_same, tick_other, tick_le, IsIn_or_not}
 use Rattle.euler_operators.proofs.Rings.{IsIn_predecessor}
 use Rattle.euler_operators.proofs.Rotations.{count-canonical, canonical_nil}
 use Rattle.euler_operators.proofs.Edits.{without_none}
@@ -15,17 +16,18 @@ use Rattle.euler_operators.specs.Table as table
 use Rattle.euler_operators.specs.Model.{Model, LoopContent, cycle, LoopRow, no_loop, items_of, holds, loop_of, content, face_of, cycle_of, before, tail}
 use Rattle.euler_operators.specs.Sound.{Sound, HasHalf, StandsIn}
 use Rattle.euler_operators.proofs.Halves.{edge_of-mate}
-use Rattle.euler_operators.proofs.Tables.{map_one}
+use Rattle.euler_operators.proofs.Tables.{map_one, get-put_other}
 use Rattle.euler_operators.proofs.Models.{holds_in, in-holds, holds-none, content_row, held_row}
 use Rattle.euler_operators.specs.Effect.{edge_row, where_held, with_before, cycle_or_lone}
-use Rattle.euler_laws.proofs.shared.Loops.{count_put_there, count_put_none, count_out, count_gone, apart_out, light, loop_at}
-use Rattle.euler_laws.proofs.shared.Loops as loops
+use Rattle.euler_laws.proofs.shared.Loops.{count_out, count_gone, apart_out, light, loop_at}
 use Rattle.euler_laws.proofs.shared.Same.{Rewritten, content-new, face-same}
 use Rattle.euler_laws.proofs.shared.Same as same
 use Rattle.euler_laws.proofs.shared.Rows.{count_or_lone}
 use Rattle.euler_laws.proofs.shared.Undo.{put_in, taken_out}
-use Rattle.euler_conditions.specs.Store.{Store}
+use Rattle.euler_conditions.specs.Store.{Store, with_loop}
 use Rattle.low_euler.specs.steps.Steps.{LoopsStandApart, IsStanding, IsLoose, IsUnused, with_edge, put_before, take_out}
+use Rattle.low_euler.proofs.steps_laws.RingSteps.{count_put}
+use Rattle.low_euler.proofs.steps_laws.StoreSteps.{content_written}
 
 -- half-edge h stands in its loop
 abbrev pub HasLoop : Model → ℕ → Type 0
@@ -155,82 +157,90 @@ module _ (M N : Model) (g : ℕ) (new : List ℕ → LoopContent) (is : N.loops 
   pub zero-where : table.get M.loops 0 ≡ None → table.get N.loops 0 ≡ None
   zero-where e = ap (λ t. table.get t 0) is ∙ table.get-map_rows (where_held g new) M.loops 0 ∙ ap (option_map (where_held g new 0)) e
 
--- ---- a half-edge put before another
+-- ---- a half-edge put into a loop
 
-module _ (s : Store) (placed : LoopsStandApart s.model) (g h : ℕ) (stands : HasLoop s.model g) (loose : IsLoose s h) where
-  abbrev M : Model
-  M = s.model
-
+-- h, which stood nowhere, comes to loop l
+module _ (M : Model) (placed : LoopsStandApart M) (l h : ℕ) (ring : List ℕ) (real : l ≢ 0) (there : HasHalf M h) (nowhere : (q : ℕ) → count h (items_of (content M q)) ≡ 0)
+    (counts : (x : ℕ) → count x ring ≡ tick x h + count x (items_of (content M l))) where
   abbrev N : Model
-  N = (put_before s g h).model
+  N = with_loop M l (cycle ring)
+
+  abbrev row : LoopRow
+  row = record { face = face_of M l; content = cycle ring }
 
   abbrev hs : ℕ → List ℕ
   hs q = items_of (content M q)
 
-  pub loops_put : N.loops ≡ table.map_rows (with_before g h) M.loops
-  unfolding put_before
-  loops_put =
-      let r : ℕ = loop_of M g in
-      ap (λ ring. table.put M.loops r (record { face = face_of M r; content = cycle ring }))
-      (sym (put_in (cycle_of M g) (placed.apart r) g h (holds_in g (content M r) stands) (loose.nowhere r)))
-      ∙ sym (in_its_loop M placed g (λ xs. cycle (canonical (insert_before g h xs))) stands)
-
-  content-N : (q : ℕ) → content N q ≡ loops.put_before g h (content M q)
-  content-N q = content-where M N g (λ xs. cycle (canonical (insert_before g h xs))) loops_put q
+  count_in : (x q : ℕ) → ((q ≡ l) × (count x (items_of (content N q)) ≡ tick x h + count x (hs q))) ⊎ (count x (items_of (content N q)) ≡ count x (hs q))
+  unfolding content
+  count_in x q = elim (eqb_tells q l) [
+    | inl e ↦ inl (e.1, ap (λ k. count x (items_of (content N k))) e.1 ∙ ap (λ c. count x (items_of c)) (content_written M l (cycle ring)) ∙ counts x ∙ sym (ap (λ k. tick x h + count x (hs k)) e.1))
+    | inr e ↦ inr (ap (λ o. count x (items_of (unwrap_or o no_loop).content)) (get-put_other M.loops l row q e.1))
+  ]
 
   pub put_keeps : (x q : ℕ) → StandsIn M x q → StandsIn N x q
-  put_keeps x q t = in-holds x (content N q) (subst (λ c. IsIn x (items_of c)) (sym (content-N q)) (elim (IsIn_or_not g (hs q)) [
-    | inl i ↦ omega (arith, holds_in x (content M q) t, count_put_there x g h (content M q) i)
-    | inr n ↦ omega (arith, holds_in x (content M q) t, count_put_none x g h (content M q) n)
-  ]))
+  put_keeps x q t = in-holds x (content N q) (elim (count_in x q) [ inl a ↦ omega (arith, holds_in x (content M q) t, a.1) | inr a ↦ omega (arith, holds_in x (content M q) t, a) ])
 
-  put_came : (x q : ℕ) → StandsIn N x q → ((x ≡ h) × StandsIn M g q) ⊎ StandsIn M x q
-  put_came x q t =
-      let i : IsIn x (items_of (loops.put_before g h (content M q))) = subst (λ c. IsIn x (items_of c)) (content-N q) (holds_in x (content N q) t) in
-      elim (IsIn_or_not g (hs q)) [
-        | inl a ↦ elim (eqb_tells x h) [
-          | inl e ↦ inl (e.1, in-holds g (content M q) a)
-          | inr e ↦ inr (in-holds x (content M q) (omega (arith, i, count_put_there x g h (content M q) a, tick_other x h e.1)))
-        ]
-        | inr a ↦ inr (in-holds x (content M q) (omega (arith, i, count_put_none x g h (content M q) a)))
-      ]
+  pub stands_there : StandsIn N h l
+  stands_there = in-holds h (content N l) (omega (arith, ap (λ c. count h (items_of c)) (content_written M l (cycle ring)), counts h, tick_same h))
 
-  put_once : (x q p : ℕ) → StandsIn N x q → StandsIn N x p → p ≡ q
-  put_once x q p t u = elim (put_came x q t) [
-    | inl a ↦ elim (put_came x p u) [
-      | inl b ↦ sym (placed.one_loop g p b.1) ∙ placed.one_loop g q a.1
-      | inr b ↦ absurd (omega (arith, holds_in x (content M p) b, ap (λ y. count y (hs p)) a.0, loose.nowhere p))
-    ]
-    | inr a ↦ elim (put_came x p u) [
-      | inl b ↦ absurd (omega (arith, holds_in x (content M q) a, ap (λ y. count y (hs q)) b.0, loose.nowhere q))
-      | inr b ↦ sym (placed.one_loop x p b) ∙ placed.one_loop x q a
-    ]
-  ]
+  there_only : (q : ℕ) → StandsIn N h q → q ≡ l
+  there_only q t = elim (count_in h q) [ inl a ↦ a.0 | inr a ↦ absurd (omega (arith, holds_in h (content N q) t, a, nowhere q)) ]
 
-  put_apart : (q : ℕ) → IsApart (items_of (loops.put_before g h (content M q)))
-  put_apart q x = elim (IsIn_or_not g (hs q)) [
+  stood : (x q : ℕ) → x ≢ h → StandsIn N x q → StandsIn M x q
+  stood x q ne t = in-holds x (content M q) (elim (count_in x q) [ inl a ↦ omega (arith, holds_in x (content N q) t, a.1, tick_other x h ne) | inr a ↦ omega (arith, holds_in x (content N q) t, a) ])
+
+  once : (q : ℕ) → IsApart (items_of (content N q))
+  once q x = elim (count_in x q) [
     | inl a ↦ elim (eqb_tells x h) [
-      | inl e ↦ omega (arith, count_put_there x g h (content M q) a, ap (λ y. count y (hs q)) e.1, loose.nowhere q, ap (λ y. tick y h) e.1, tick_same h)
-      | inr e ↦ omega (arith, count_put_there x g h (content M q) a, tick_other x h e.1, placed.apart q x)
+      | inl e ↦ omega (arith, a.1, tick_le x h, ap (λ y. count y (hs q)) e.1, nowhere q)
+      | inr e ↦ omega (arith, a.1, tick_other x h e.1, placed.apart q x)
     ]
-    | inr a ↦ omega (arith, count_put_none x g h (content M q) a, placed.apart q x)
+    | inr a ↦ omega (arith, a, placed.apart q x)
   ]
 
-  half_N : (x : ℕ) → HasHalf M x → HasHalf N x
-  unfolding put_before
-  half_N x t = t
-
-  pub placed-put : LoopsStandApart N
-  unfolding put_before
-  placed-put = record {
-    only = λ x q t. half_N x (elim (put_came x q t) [ inl a ↦ subst (HasHalf M) (sym a.0) loose.there | inr a ↦ placed.only x q a ]);
-    apart = λ q. subst (λ c. IsApart (items_of c)) (sym (content-N q)) (put_apart q);
-    one_loop = λ x q t. loop_at N x q t (λ p u. put_once x q p t u);
-    no_zero = zero-where M N g (λ xs. cycle (canonical (insert_before g h xs))) loops_put placed.no_zero;
+  pub placed_with : LoopsStandApart N
+  placed_with = record {
+    only = λ x q t. elim (eqb_tells x h) [ inl e ↦ subst (HasHalf M) (sym e.1) there | inr e ↦ placed.only x q (stood x q e.1 t) ];
+    apart = once;
+    one_loop = λ x q t. loop_at N x q t (λ p u. elim (eqb_tells x h) [
+      | inl e ↦ there_only p (subst (λ y. StandsIn N y p) e.1 u) ∙ sym (there_only q (subst (λ y. StandsIn N y q) e.1 t))
+      | inr e ↦ sym (placed.one_loop x p (stood x p e.1 u)) ∙ placed.one_loop x q (stood x q e.1 t)
+    ]);
+    no_zero = get-put_other M.loops l row 0 (λ e. real (sym e)) ∙ placed.no_zero;
   }
 
-  pub loop-put : (x : ℕ) → HasLoop M x → HasLoop N x
-  loop-put x t = let u = put_keeps x (loop_of M x) t in subst (StandsIn N x) (sym (placed-put.one_loop x (loop_of M x) u)) u
+  -- what stood in a loop stands there still
+  pub stays_with : (x q : ℕ) → StandsIn M x q → loop_of N x ≡ q
+  stays_with x q t = placed_with.one_loop x q (put_keeps x q t)
+
+-- h is put before g
+module _ (s : Store) (placed : LoopsStandApart s.model) (g h : ℕ) (stands : HasLoop s.model g) (loose : IsLoose s h) where
+  abbrev r : ℕ
+  r = loop_of s.model g
+
+  abbrev xs : List ℕ
+  xs = cycle_of s.model g
+
+  pub loops_put : (put_before s g h).model.loops ≡ table.map_rows (with_before g h) s.model.loops
+  unfolding put_before
+  loops_put =
+      ap (λ ring. table.put s.model.loops r (record { face = face_of s.model r; content = cycle ring }))
+      (sym (put_in xs (placed.apart r) g h (holds_in g (content s.model r) stands) (loose.nowhere r)))
+      ∙ sym (in_its_loop s.model placed g (λ ys. cycle (canonical (insert_before g h ys))) stands)
+
+  pub placed-put : LoopsStandApart (put_before s g h).model
+  unfolding put_before
+  placed-put = placed_with s.model placed r h (put_ring h g xs) (never_zero s.model placed g stands) loose.there loose.nowhere (λ x. count_put x h g xs)
+
+  pub stays-put : (x q : ℕ) → StandsIn s.model x q → loop_of (put_before s g h).model x ≡ q
+  unfolding put_before
+  stays-put = stays_with s.model placed r h (put_ring h g xs) (never_zero s.model placed g stands) loose.there loose.nowhere (λ x. count_put x h g xs)
+
+  pub loop-put : (x : ℕ) → HasLoop s.model x → HasLoop (put_before s g h).model x
+  unfolding put_before
+  loop-put x t = subst (StandsIn (put_before s g h).model x) (sym (stays-put x (loop_of s.model x) t))
+      (put_keeps s.model placed r h (put_ring h g xs) (never_zero s.model placed g stands) loose.there loose.nowhere (λ y. count_put y h g xs) x (loop_of s.model x) t)
 
 -- ---- a new edge
 

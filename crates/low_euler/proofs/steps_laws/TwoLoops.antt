@@ -1,18 +1,20 @@
 -- Stores that differ in the contents of two loops only: what the readers answer there, and what the steps make of them.
-use Rattle.std.proofs.Common.{◌≡◌, ◌≢◌, ℕ, ◌+◌, ◌≤◌, cond, List, [], ◌∷◌, Some, unwrap_or, refl, sym, ap, ◌∙◌, subst, arith, inl, inr}
+use Rattle.std.proofs.Common.{◌≡◌, ◌≢◌, ℕ, ◌+◌, ◌≤◌, true, cond, List, [], ◌∷◌, Some, is_some, unwrap_or, refl, sym, ap, ◌∙◌, subst, arith, ◌⊎◌, inl, inr}
 use Rattle.std.proofs.lemmas.Bool.Decides.{nat_tests, eqb_tells}
 use Rattle.std.proofs.lemmas.Bool.{ne_eqb}
 use Rattle.euler_operators.specs.Items.{count, IsIn, IsApart}
 use Rattle.euler_operators.specs.Rings.{rest, predecessor, cut_left, cut_right, joined}
 use Rattle.euler_operators.specs.Operators.{put_ring}
+use Rattle.euler_operators.proofs.Lists.{IsIn_or_not}
 use Rattle.euler_operators.proofs.Rings.{IsIn_predecessor}
 use Rattle.euler_operators.specs.Table as table
 use Rattle.euler_operators.specs.Table.{Table, tables}
-use Rattle.euler_operators.specs.Model.{Model, LoopContent, LoopRow, cycle, holds, items_of, content, face_of, loop_of, cycle_of, before, tail, no_loop}
-use Rattle.euler_operators.specs.Sound.{HasHalf}
-use Rattle.euler_operators.proofs.Tables.{first_where_is, put-put, put_turned}
+use Rattle.euler_operators.specs.Model.{Model, LoopContent, LoopRow, cycle, holds, items_of, content, face_of, has_half, loop_of, cycle_of, before, tail, no_loop}
+use Rattle.euler_operators.specs.Sound.{HasHalf, StandsIn}
+use Rattle.euler_operators.proofs.Tables.{put-put, put_turned}
 use Rattle.euler_operators.proofs.Models.{content_row, face_row, in-holds, holds_in}
 use Rattle.euler_operators.specs.Effect.{cycle_or_lone}
+use Rattle.euler_laws.proofs.shared.Loops.{loop_at}
 use Rattle.euler_conditions.specs.Store.{Store, Extents, loose_key, loose_ring, fill, join, join_loose, join_loops, cut_to}
 use Rattle.low_euler.specs.steps.Steps.{IsStanding, put_before, take_out}
 
@@ -24,6 +26,15 @@ pub record TwoLoops (N : Model) (r l : ℕ) (all : List ℕ) : Type 0 where
   pub once : IsApart all
   pub there : (x : ℕ) → IsIn x all → HasHalf N x
   pub others : (x q : ℕ) → IsIn x all → q ≢ r → q ≢ l → count x (items_of (content N q)) ≡ 0
+
+-- a loop can be cut at a and b, and what stands from b on goes to loop l
+pub record CanCut (s : Store) (a b l : ℕ) : Type 0 where
+  pub a_there : has_half s.model a ≡ true
+  pub b_there : has_half s.model b ≡ true
+  pub looped : loop_of s.model a ≢ 0
+  pub together : loop_of s.model b ≡ loop_of s.model a
+  pub apart : a ≢ b
+  pub free : (table.has s.model.loops l ≡ true) × (items_of (content s.model l) ≡ [])
 
 module _ (N : Model) (r l fr fl : ℕ) (all : List ℕ) (loops : TwoLoops N r l all) where
   abbrev pub row_r : LoopContent → LoopRow
@@ -78,40 +89,30 @@ module _ (N : Model) (r l fr fl : ℕ) (all : List ℕ) (loops : TwoLoops N r l 
     count_else : (x q : ℕ) → IsIn x all → q ≢ r → q ≢ l → count x (items_of (content P q)) ≡ 0
     count_else x q i a b = ap (λ k. count x (items_of k)) (content_else q a b) ∙ loops.others x q i a b
 
-    -- a half-edge of the first loop, or of the second, stands there
-    pub loop_r : (x : ℕ) → IsIn x (items_of c) → loop_of P x ≡ r
-    unfolding loop_of
-    loop_r x i = first_where_is (λ _ row. holds x row.content) P.loops r (row_r c) (get_r N.loops (row_r c) (row_l d)) (in-holds x c i)
-        (λ q y at h.
-        let j : IsIn x (items_of (content P q)) = holds_in x (content P q) (ap (holds x) (content_row P q y at) ∙ h) in
+    -- a half-edge of the two stands in one of them
+    found : (x q : ℕ) → IsIn x all → StandsIn P x q → ((q ≡ r) × IsIn x (items_of c)) ⊎ ((q ≡ l) × IsIn x (items_of d))
+    found x q i t =
+        let j : IsIn x (items_of (content P q)) = holds_in x (content P q) t in
         elim (eqb_tells q r) [
-          | inl a ↦ a.1
+          | inl a ↦ inl (a.1, subst (λ k. IsIn x (items_of k)) (ap (content P) a.1 ∙ content_r c d) j)
           | inr a ↦ elim (eqb_tells q l) [
-            | inl b ↦ absurd (omega (arith, j, ap (λ k. count x (items_of (content P k))) b.1, ap (λ k. count x (items_of k)) (content_l c d), fits x, loops.once x, i))
-            | inr b ↦ absurd (omega (arith, j, count_else x q (omega (arith, fits x, i)) a.1 b.1))
+            | inl b ↦ inr (b.1, subst (λ k. IsIn x (items_of k)) (ap (content P) b.1 ∙ content_l c d) j)
+            | inr b ↦ absurd (omega (arith, j, count_else x q i a.1 b.1))
           ]
-        ])
+        ]
+
+    pub loop_r : (x : ℕ) → IsIn x (items_of c) → loop_of P x ≡ r
+    loop_r x i = loop_at P x r (ap (holds x) (content_r c d) ∙ in-holds x c i)
+        (λ q t. elim (found x q (omega (arith, fits x, i)) t) [ inl a ↦ a.0 | inr b ↦ absurd (omega (arith, fits x, loops.once x, i, b.1)) ])
 
     pub loop_l : (x : ℕ) → IsIn x (items_of d) → loop_of P x ≡ l
-    unfolding loop_of
-    loop_l x i = first_where_is (λ _ row. holds x row.content) P.loops l (row_l d) (get_l N.loops (row_r c) (row_l d)) (in-holds x d i)
-        (λ q y at h.
-        let j : IsIn x (items_of (content P q)) = holds_in x (content P q) (ap (holds x) (content_row P q y at) ∙ h) in
-        elim (eqb_tells q l) [
-          | inl a ↦ a.1
-          | inr a ↦ elim (eqb_tells q r) [
-            | inl b ↦ absurd (omega (arith, j, ap (λ k. count x (items_of (content P k))) b.1, ap (λ k. count x (items_of k)) (content_r c d), fits x, loops.once x, i))
-            | inr b ↦ absurd (omega (arith, j, count_else x q (omega (arith, fits x, i)) b.1 a.1))
-          ]
-        ])
+    loop_l x i = loop_at P x l (ap (holds x) (content_l c d) ∙ in-holds x d i)
+        (λ q t. elim (found x q (omega (arith, fits x, i)) t) [ inl a ↦ absurd (omega (arith, fits x, loops.once x, i, a.1)) | inr b ↦ b.0 ])
 
     pub nowhere : (x : ℕ) → IsIn x all → count x (items_of c) + count x (items_of d) ≡ 0 → (q : ℕ) → count x (items_of (content P q)) ≡ 0
-    nowhere x i n q = elim (eqb_tells q r) [
-      | inl a ↦ omega (arith, n, ap (λ k. count x (items_of (content P k))) a.1, ap (λ k. count x (items_of k)) (content_r c d))
-      | inr a ↦ elim (eqb_tells q l) [
-        | inl b ↦ omega (arith, n, ap (λ k. count x (items_of (content P k))) b.1, ap (λ k. count x (items_of k)) (content_l c d))
-        | inr b ↦ count_else x q i a.1 b.1
-      ]
+    nowhere x i n q = elim (IsIn_or_not x (items_of (content P q))) [
+      | inl j ↦ absurd (elim (found x q i (in-holds x (content P q) j)) [ inl a ↦ omega (arith, n, a.1) | inr b ↦ omega (arith, n, b.1) ])
+      | inr none ↦ none
     ]
 
     pub cycle_r : (x : ℕ) → IsIn x (items_of c) → cycle_of P x ≡ items_of c
@@ -124,38 +125,26 @@ module _ (N : Model) (r l fr fl : ℕ) (all : List ℕ) (loops : TwoLoops N r l 
     unfolding before
     before_r x i = ap (λ q. predecessor q x) (cycle_r x i)
 
-    before_l : (x : ℕ) → IsIn x (items_of d) → before P x ≡ predecessor (items_of d) x
+    -- a half-edge of loop k, which holds some of them
+    standing_in : (k : ℕ) (e : LoopContent) → content P k ≡ e → k ≢ 0 → ((x : ℕ) → count x (items_of e) ≤ count x all) → ((x : ℕ) → IsIn x (items_of e) → loop_of P x ≡ k) → (x : ℕ) → IsIn x (items_of e) → IsStanding P x
     unfolding before
-    before_l x i = ap (λ q. predecessor q x) (cycle_l x i)
-
-    half_P : (x : ℕ) → IsIn x all → HasHalf P x
-    half_P x i = loops.there x i
-
-    before_in_r : (x : ℕ) → IsIn x (items_of c) → IsIn (before P x) (items_of c)
-    before_in_r x i = subst (λ y. IsIn y (items_of c)) (sym (before_r x i)) (IsIn_predecessor x (items_of c) i)
-
-    before_in_l : (x : ℕ) → IsIn x (items_of d) → IsIn (before P x) (items_of d)
-    before_in_l x i = subst (λ y. IsIn y (items_of d)) (sym (before_l x i)) (IsIn_predecessor x (items_of d) i)
+    standing_in k e at real some in_k x i =
+        let ring : cycle_of P x ≡ items_of e = ap (λ q. items_of (content P q)) (in_k x i) ∙ ap items_of at in
+        let last : IsIn (before P x) (items_of e) = subst (λ q. IsIn (predecessor q x) (items_of e)) (sym ring) (IsIn_predecessor x (items_of e) i) in
+        record {
+          there = loops.there x (omega (arith, some x, i));
+          stands = ap (λ q. holds x (content P q)) (in_k x i) ∙ ap (holds x) at ∙ in-holds x e i;
+          looped = λ z. real (sym (in_k x i) ∙ z);
+          apart = λ y. omega (arith, ap (count y) ring, some y, loops.once y);
+          before_there = loops.there (before P x) (omega (arith, some (before P x), last));
+          before_near = in_k (before P x) last ∙ sym (in_k x i);
+        }
 
     pub standing_r : (x : ℕ) → IsIn x (items_of c) → IsStanding P x
-    standing_r x i = record {
-      there = half_P x (omega (arith, fits x, i));
-      stands = ap (λ q. holds x (content P q)) (loop_r x i) ∙ ap (holds x) (content_r c d) ∙ in-holds x c i;
-      looped = λ e. loops.first_real (sym (loop_r x i) ∙ e);
-      apart = λ y. omega (arith, ap (count y) (cycle_r x i), fits y, loops.once y);
-      before_there = half_P (before P x) (omega (arith, fits (before P x), before_in_r x i));
-      before_near = loop_r (before P x) (before_in_r x i) ∙ sym (loop_r x i);
-    }
+    standing_r = standing_in r c (content_r c d) loops.first_real (λ x. omega (arith, fits x)) loop_r
 
     pub standing_l : (x : ℕ) → IsIn x (items_of d) → IsStanding P x
-    standing_l x i = record {
-      there = half_P x (omega (arith, fits x, i));
-      stands = ap (λ q. holds x (content P q)) (loop_l x i) ∙ ap (holds x) (content_l c d) ∙ in-holds x d i;
-      looped = λ e. loops.second_real (sym (loop_l x i) ∙ e);
-      apart = λ y. omega (arith, ap (count y) (cycle_l x i), fits y, loops.once y);
-      before_there = half_P (before P x) (omega (arith, fits (before P x), before_in_l x i));
-      before_near = loop_l (before P x) (before_in_l x i) ∙ sym (loop_l x i);
-    }
+    standing_l = standing_in l d (content_l c d) loops.second_real (λ x. omega (arith, fits x)) loop_l
 
   -- ---- the steps
 
@@ -229,11 +218,23 @@ module _ (N : Model) (r l fr fl : ℕ) (all : List ℕ) (loops : TwoLoops N r l 
     unfolding cut_to
     cut_parts xs d z fits a b i =
         let P : Model = holding (cycle xs) d in
-        ap (λ hs. state_2 (cycle xs) d (loop_of P a) (record { face = face_of P (loop_of P a); content = cycle (cut_left a b hs) }) l (record { face = face_of P l; content = cycle (cut_right a b hs) }) z) (cycle_r (cycle xs) d fits a i)
-        ∙ ap (λ q. state_2 (cycle xs) d q (record { face = face_of P q; content = cycle (cut_left a b xs) }) l (record { face = face_of P l; content = cycle (cut_right a b xs) }) z) (loop_r (cycle xs) d fits a i)
-        ∙ ap (λ f. state_2 (cycle xs) d r (record { face = f; content = cycle (cut_left a b xs) }) l (record { face = face_of P l; content = cycle (cut_right a b xs) }) z) (face_r (cycle xs) d)
-        ∙ ap (λ f. state_2 (cycle xs) d r (row_r (cycle (cut_left a b xs))) l (record { face = f; content = cycle (cut_right a b xs) }) z) (face_l (cycle xs) d)
+        let at = loop_r (cycle xs) d fits a i in
+        let hs = cycle_r (cycle xs) d fits a i in
+        (λ k. state_2 (cycle xs) d (at k) (record { face = face_of P (at k); content = cycle (cut_left a b (hs k)) }) l (record { face = face_of P l; content = cycle (cut_right a b (hs k)) }) z)
+        ∙ (λ k. state_2 (cycle xs) d r (record { face = face_r (cycle xs) d k; content = cycle (cut_left a b xs) }) l (record { face = face_l (cycle xs) d k; content = cycle (cut_right a b xs) }) z)
         ∙ both (cycle xs) d (cycle (cut_left a b xs)) (cycle (cut_right a b xs)) z
+
+    -- what the cut asks, where the second loop is empty
+    pub cut_asks : (xs : List ℕ) (z : Table (List ℕ)) → Fits (cycle xs) (cycle []) → (a b : ℕ) → IsIn a xs → IsIn b xs → a ≢ b →
+        (p : Store) (n : ℕ) → p ≡ state (cycle xs) (cycle []) z → n ≡ b → CanCut p a n l
+    cut_asks xs z fits a b i j ne p n e en = subst (λ k. CanCut p a k l) (sym en) (subst (λ t. CanCut t a b l) (sym e) (record {
+      a_there = (standing_r (cycle xs) (cycle []) fits a i).there;
+      b_there = (standing_r (cycle xs) (cycle []) fits b j).there;
+      looped = (standing_r (cycle xs) (cycle []) fits a i).looped;
+      together = loop_r (cycle xs) (cycle []) fits b j ∙ sym (loop_r (cycle xs) (cycle []) fits a i);
+      apart = ne;
+      free = (ap is_some (get_l N.loops (row_r (cycle xs)) (row_l (cycle []))), ap items_of (content_l (cycle xs) (cycle [])));
+    }))
 
     -- the two loops become one, and the second is empty
     pub join_parts : (xs ys : List ℕ) (z : Table (List ℕ)) → Fits (cycle xs) (cycle ys) → (a b : ℕ) → IsIn a xs → IsIn b ys →
@@ -244,12 +245,10 @@ module _ (N : Model) (r l fr fl : ℕ) (all : List ℕ) (loops : TwoLoops N r l 
         let s : Store = state (cycle xs) (cycle ys) z in
         let la = loop_r (cycle xs) (cycle ys) fits a i in
         let lb = loop_l (cycle xs) (cycle ys) fits b j in
+        let ha = cycle_r (cycle xs) (cycle ys) fits a i in
+        let hb = cycle_l (cycle xs) (cycle ys) fits b j in
         ap (λ t. cond t (join_loose s a b) (join_loops s a b)) (ne_eqb (loop_of P b) 0 (λ e. loops.second_real (sym lb ∙ e)))
-        ∙ ap (λ hs. state_2 (cycle xs) (cycle ys) (loop_of P b) (record { face = face_of P (loop_of P b); content = cycle [] }) (loop_of P a) (record { face = face_of P (loop_of P a); content = cycle (joined a b hs (cycle_of P b)) }) z) (cycle_r (cycle xs) (cycle ys) fits a i)
-        ∙ ap (λ hs. state_2 (cycle xs) (cycle ys) (loop_of P b) (record { face = face_of P (loop_of P b); content = cycle [] }) (loop_of P a) (record { face = face_of P (loop_of P a); content = cycle (joined a b xs hs) }) z) (cycle_l (cycle xs) (cycle ys) fits b j)
-        ∙ ap (λ q. state_2 (cycle xs) (cycle ys) q (record { face = face_of P q; content = cycle [] }) (loop_of P a) (record { face = face_of P (loop_of P a); content = cycle (joined a b xs ys) }) z) lb
-        ∙ ap (λ q. state_2 (cycle xs) (cycle ys) l (record { face = face_of P l; content = cycle [] }) q (record { face = face_of P q; content = cycle (joined a b xs ys) }) z) la
-        ∙ ap (λ f. state_2 (cycle xs) (cycle ys) l (record { face = f; content = cycle [] }) r (record { face = face_of P r; content = cycle (joined a b xs ys) }) z) (face_l (cycle xs) (cycle ys))
-        ∙ ap (λ f. state_2 (cycle xs) (cycle ys) l (row_l (cycle [])) r (record { face = f; content = cycle (joined a b xs ys) }) z) (face_r (cycle xs) (cycle ys))
+        ∙ (λ k. state_2 (cycle xs) (cycle ys) (lb k) (record { face = face_of P (lb k); content = cycle [] }) (la k) (record { face = face_of P (la k); content = cycle (joined a b (ha k) (hb k)) }) z)
+        ∙ (λ k. state_2 (cycle xs) (cycle ys) l (record { face = face_l (cycle xs) (cycle ys) k; content = cycle [] }) r (record { face = face_r (cycle xs) (cycle ys) k; content = cycle (joined a b xs ys) }) z)
         ∙ ap (λ t. record { model = record N { loops = t }; loose = z; room = R })
         (ap (λ t. table.put t r (row_r (cycle (joined a b xs ys)))) (put_l (cycle xs) (cycle ys) (cycle [])) ∙ put_r (cycle xs) (cycle []) (cycle (joined a b xs ys)))

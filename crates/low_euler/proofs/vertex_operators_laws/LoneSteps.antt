@@ -1,32 +1,29 @@
 -- An edge made at a lone loop by the writers of an arena.
-use Rattle.std.proofs.Common.{◌≡◌, ◌≢◌, ℕ, true, false, List, [], ◌∷◌, is_some, unwrap_or, refl, sym, ap, subst, ◌∙◌, arith, true≢false, inl, inr}
-use Rattle.std.proofs.lemmas.Bool.Decides.{eqb_tells}
+use Rattle.std.proofs.Common.{◌≡◌, ◌≢◌, ℕ, ◌+◌, true, false, List, [], ◌∷◌, is_some, refl, sym, ap, subst, ◌∙◌, arith, true≢false}
 use Rattle.euler_operators.specs.declared.Point.{Point}
-use Rattle.euler_operators.specs.Items.{count, IsIn, last_or}
-use Rattle.euler_operators.specs.Rings.{canonical, predecessor}
+use Rattle.euler_operators.specs.Items.{count, tick}
+use Rattle.euler_operators.specs.Rings.{canonical}
 use Rattle.euler_operators.specs.Operators.{put_ring}
-use Rattle.euler_operators.proofs.Lists.{tick_same, tick_other, tick_le}
-use Rattle.euler_operators.proofs.Rotations.{rest_head, rotate_to_head, canonical_same}
+use Rattle.euler_operators.proofs.Lists.{tick_other, tick_le}
+use Rattle.euler_operators.proofs.Operators.{apart_front}
+use Rattle.euler_operators.proofs.Rotations.{rotate_to_head, canonical_same}
 use Rattle.euler_operators.specs.declared.HalfEdge.{HalfEdge}
 use Rattle.euler_operators.specs.declared.Corner.TheVariants.{At, Lone}
 use Rattle.euler_operators.specs.HalfEdge.{code, mate}
 use Rattle.euler_operators.specs.Table as table
-use Rattle.euler_operators.specs.Table.{Table}
-use Rattle.euler_operators.specs.Model.{Model, LoopRow, cycle, items_of, holds, no_loop, has_half, loop_of, cycle_of, before, face_of, content, is_number}
+use Rattle.euler_operators.specs.Model.{Model, cycle, items_of, loop_of, cycle_of, face_of, content, is_number}
 use Rattle.euler_operators.specs.Sound.{StandsIn}
 use Rattle.euler_operators.proofs.Halves.{mate_other, edge_of-code}
-use Rattle.euler_operators.proofs.Models.{holds_in, in-holds}
-use Rattle.euler_operators.proofs.Tables.{get-put_here, get-put_other, put-put}
 use Rattle.euler_operators.specs.declared.Op.TheVariants.{Mev}
 use Rattle.euler_operators.specs.Conditions.{lone_vertex, is_lone}
 use Rattle.euler_operators.specs.Effect.{effect, mev_lone}
-use Rattle.euler_laws.proofs.shared.Loops.{loop_at}
 use Rattle.euler_laws.proofs.mev.MevLoneSound.{LoneGoes}
 use Rattle.euler_laws.proofs.mev.Mev.{lone_goes}
-use Rattle.euler_conditions.specs.Store.{Store, put_vertex, fill, with_loop, loose_ring}
+use Rattle.euler_conditions.specs.Store.{Store, put_vertex, fill, with_loop}
 use Rattle.euler_conditions.specs.Ready.{Accepts, after}
-use Rattle.low_euler.specs.steps.Steps.{LoopsStandApart, IsStanding, IsUnused, CanTake, with_edge, put_before, make_edge}
-use Rattle.low_euler.proofs.steps_laws.LoopsApart.{placed_of, placed-same, free_none, unused_of}
+use Rattle.low_euler.specs.steps.Steps.{LoopsStandApart, IsStanding, IsLoose, IsUnused, CanTake, with_edge, put_before, make_edge}
+use Rattle.low_euler.proofs.steps_laws.StoreSteps.{content_written, written_again}
+use Rattle.low_euler.proofs.steps_laws.LoopsApart.{placed_of, placed-same, placed-edge, placed_with, stands_there, standing_of, unused_of}
 use Rattle.low_euler.proofs.steps_laws.EdgeSteps.{first_key, first_ring, first_loose, second_key, none_loose}
 
 module _ (s : Store) (l : ℕ) (half : HalfEdge) (v : ℕ) (p : Point) (ok : Accepts s (Mev (Lone l) (Lone l) half v p)) where
@@ -77,71 +74,41 @@ module _ (s : Store) (l : ℕ) (half : HalfEdge) (v : ℕ) (p : Point) (ok : Acc
   lone_takes = (goes.loop_there, ap items_of goes.is_lone)
 
   -- the loop holds h alone then
-  abbrev row : List ℕ → LoopRow
-  row ring = record { face = face_of M l; content = cycle ring }
+  abbrev filled : Store
+  filled = record edged { model = with_loop edged.model l (cycle (h ∷ [])); loose = table.remove edged.loose h }
 
-  abbrev filled : List ℕ → ℕ → Store
-  filled ring k = record edged { model = record edged.model { loops = table.put M.loops l (row ring) }; loose = table.remove edged.loose k }
-
-  first_is : first_in ≡ filled (h ∷ []) h
-  unfolding fill with_edge face_of
-  first_is = ap (λ k. filled (loose_ring edged h) k) (first_key begun h u v unused) ∙ ap (λ ring. filled ring h) (first_ring begun h u v unused)
-
-  abbrev F : Model
-  F = (filled (h ∷ []) h).model
-
-  content_l : content F l ≡ cycle (h ∷ [])
-  unfolding content
-  content_l = ap (λ o. (unwrap_or o no_loop).content) (get-put_here M.loops l (row (h ∷ [])))
-
-  content_other : (q : ℕ) → q ≢ l → content F q ≡ content M q
-  unfolding content
-  content_other q ne = ap (λ o. (unwrap_or o no_loop).content) (get-put_other M.loops l (row (h ∷ [])) q ne)
-
-  face_l : (unwrap_or (table.get (table.put M.loops l (row (h ∷ []))) l) no_loop).face ≡ face_of M l
-  face_l = ap (λ o. (unwrap_or o no_loop).face) (get-put_here M.loops l (row (h ∷ [])))
+  first_is : first_in ≡ filled
+  unfolding fill
+  first_is = λ i. record edged { model = with_loop edged.model l (cycle (first_ring begun h u v unused i)); loose = table.remove edged.loose (first_key begun h u v unused i) }
 
   l_real : l ≢ 0
   l_real e = true≢false (sym (ok.ready.sound.loops_fit l goes.loop_there) ∙ ap is_number e)
 
-  h_holds : StandsIn F h l
-  h_holds = in-holds h (content F l) (subst (λ c. IsIn h (items_of c)) (sym content_l) (omega (arith, tick_same h)))
+  alone : IsLoose edged h
+  alone = first_loose begun h u v unused
 
-  only_l : (q : ℕ) → StandsIn F h q → q ≡ l
-  only_l q t = elim (eqb_tells q l) [
-    | inl e ↦ e.1
-    | inr e ↦ absurd (omega (arith, holds_in h (content F q) t, ap (λ c. count h (items_of c)) (content_other q e.1), free_none M (placed_of M ok.ready.sound) h goes.edge_free q))
-  ]
+  placed_edged : LoopsStandApart edged.model
+  placed_edged = placed-edge begun placed ok.ready.bare h u v goes.edge_free
 
-  loop_h : loop_of F h ≡ l
-  loop_h = loop_at F h l h_holds only_l
+  count_filled : (x : ℕ) → count x (h ∷ []) ≡ tick x h + count x (items_of (content edged.model l))
+  count_filled x = omega (arith, ap (count x) lone_takes.1)
 
-  cycle_h : cycle_of F h ≡ h ∷ []
-  cycle_h = ap (λ q. items_of (content F q)) loop_h ∙ ap items_of content_l
+  placed_filled : LoopsStandApart filled.model
+  placed_filled = placed_with edged.model placed_edged l h (h ∷ []) l_real alone.there alone.nowhere count_filled
 
-  before_h : before F h ≡ h
-  unfolding before
-  before_h = ap (λ hs. predecessor hs h) cycle_h ∙ ap (last_or h) (rest_head h [])
+  h_there : StandsIn filled.model h l
+  h_there = stands_there edged.model placed_edged l h (h ∷ []) l_real alone.there alone.nowhere count_filled
+
+  loop_h : loop_of filled.model h ≡ l
+  loop_h = placed_filled.one_loop h l h_there
 
   pub half_stands : IsStanding first_in.model h
-  half_stands = subst (λ (t : Store). IsStanding t.model h) (sym first_is) (record {
-    there = half_there;
-    stands = ap (λ q. holds h (content F q)) loop_h ∙ h_holds;
-    looped = λ e. l_real (sym loop_h ∙ e);
-    apart = λ x. omega (arith, ap (count x) cycle_h, tick_le x h);
-    before_there = ap (has_half F) before_h ∙ half_there;
-    before_near = ap (loop_of F) before_h;
-  }) where
-    half_there : has_half F h ≡ true
-    half_there = (first_loose begun h u v unused).there
+  half_stands = subst (λ (t : Store). IsStanding t.model h) (sym first_is) (standing_of filled.model placed_filled h (subst (StandsIn filled.model h) (sym loop_h) h_there))
 
   -- and then both
   turned : canonical (m ∷ h ∷ []) ≡ canonical (h ∷ m ∷ [])
   turned = canonical_same (m ∷ h ∷ []) (h ∷ m ∷ []) (record { front = m ∷ []; back = h ∷ []; here = refl; there = refl })
-      (λ x. elim (eqb_tells x m) [
-        | inl e ↦ omega (arith, tick_le x m, tick_other x h (λ q. mate_other h (sym q ∙ e.1)))
-        | inr e ↦ omega (arith, tick_other x m e.1, tick_le x h)
-      ])
+      (apart_front m (h ∷ []) (omega (arith, tick_other m h (λ e. mate_other h (sym e)))) (λ x. omega (arith, tick_le x h)))
 
   abbrev as_put : Store → ℕ → List ℕ → ℕ → Store
   as_put t q ring k = record t { model = with_loop t.model q (cycle ring); loose = table.remove t.loose k }
@@ -151,13 +118,11 @@ module _ (s : Store) (l : ℕ) (half : HalfEdge) (v : ℕ) (p : Point) (ok : Acc
   made_is =
       ap (λ k. as_put first_in (loop_of first_in.model h) (put_ring m h (cycle_of first_in.model h)) k) (second_key begun h u v unused (Lone l))
       ∙ ap (λ (t : Store). as_put t (loop_of t.model h) (put_ring m h (cycle_of t.model h)) m) first_is
-      ∙ ap (λ q. as_put (filled (h ∷ []) h) q (put_ring m h (cycle_of F h)) m) loop_h
-      ∙ ap (λ hs. as_put (filled (h ∷ []) h) l (put_ring m h hs) m) cycle_h
-      ∙ ap (λ hs. as_put (filled (h ∷ []) h) l (canonical (m ∷ hs)) m) (rotate_to_head h [])
-      ∙ ap (λ ring. as_put (filled (h ∷ []) h) l ring m) turned
-      ∙ ap (λ g. record edged { model = record edged.model { loops = table.put (table.put M.loops l (row (h ∷ []))) l (record { face = g; content = cycle (canonical (h ∷ m ∷ [])) }) }; loose = table.remove (table.remove edged.loose h) m }) face_l
-      ∙ ap (λ (t : Table LoopRow). record edged { model = record edged.model { loops = t }; loose = table.remove (table.remove edged.loose h) m }) (put-put M.loops l (row (h ∷ [])) (row (canonical (h ∷ m ∷ []))))
-      ∙ ap (λ z. record edged { model = record edged.model { loops = table.put M.loops l (row (canonical (h ∷ m ∷ []))) }; loose = z }) (none_loose begun h u v unused)
+      ∙ ap (λ q. as_put filled q (put_ring m h (items_of (content filled.model q))) m) loop_h
+      ∙ ap (λ c. as_put filled l (put_ring m h (items_of c)) m) (content_written edged.model l (cycle (h ∷ [])))
+      ∙ ap (λ hs. as_put filled l (canonical (m ∷ hs)) m) (rotate_to_head h [])
+      ∙ ap (λ ring. as_put filled l ring m) turned
+      ∙ (λ i. record edged { model = written_again edged.model l (cycle (h ∷ [])) (cycle (canonical (h ∷ m ∷ []))) i; loose = none_loose begun h u v unused i })
 
   pub was_made : (q t : Store) (a : ℕ) → q ≡ begun → a ≡ u → t ≡ make_edge q (Lone l) (At half) h a v → t ≡ after s (Mev (Lone l) (Lone l) half v p)
   was_made q t a e ea d = d ∙ ap (λ z. put_before (fill z l h) h m) (was_edged q a e ea) ∙ made_is

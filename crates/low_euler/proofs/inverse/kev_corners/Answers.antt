@@ -2,7 +2,7 @@ use Rattle.euler_laws.proofs.kev.Kev.{kev_goes}
 use Rattle.euler_laws.proofs.shared.Rows.{of_half}
 use Rattle.low_euler.proofs.Accepted.{mate_there}
 use Rattle.std.proofs.Common.{true, false, refl, sym, ◌∙◌}
-use Rattle.low_euler.proofs.Inverses.{first_corner, second_corner}
+use Rattle.low_euler.proofs.Inverses.{corners}
 use Rattle.low_euler.proofs.inverse.kev_corners.Goals as goal
 
 pub next-following-requires-clause-there : goal.next-following-requires-clause-there
@@ -15,32 +15,20 @@ next-back-requires-clause-there c =
 pub loop_of-requires-clause-there : goal.loop_of-requires-clause-there
 loop_of-requires-clause-there c = of_half c.args.arena.now.model c.args.h (kev_goes c.args.arena.now.model c.args.h c.requires.ready.sound c.requires.accepted).h_there
 
-pub returns-then-not-same-clause-first : goal.returns-then-not-same-clause-first
-returns-then-not-same-clause-first c =
-    first_corner c.args.arena.now.model c.args.h c.mate-mate.result c.next-following.result c.next-back.result c.mate-mate.ensures c.next-following.ensures.next c.next-back.ensures.next
-    false _ _ (sym c.same.ensures ∙ c.if-not-same.true) refl refl
+pub returns-then-not-same : goal.returns-then-not-same
+returns-then-not-same c =
+    let k = corners c.args.arena.now.model c.args.h c.mate-mate.result c.next-following.result c.next-back.result c.mate-mate.ensures c.next-following.ensures.next c.next-back.ensures.next
+    false _ _ (sym c.same.ensures ∙ c.if-not-same.true) refl refl in
+    record { first = k.0; second = k.1 }
 
-pub returns-then-not-same-clause-second : goal.returns-then-not-same-clause-second
-returns-then-not-same-clause-second c =
-    second_corner c.args.arena.now.model c.args.h c.mate-mate.result c.next-following.result c.next-back.result c.mate-mate.ensures c.next-following.ensures.next c.next-back.ensures.next
-    false _ _ (sym c.same.ensures ∙ c.if-not-same.true) refl refl
+pub returns-then-same : goal.returns-then-same
+returns-then-same c =
+    let k = corners c.args.arena.now.model c.args.h c.mate-mate.result c.next-following.result c.next-back.result c.mate-mate.ensures c.next-following.ensures.next c.next-back.ensures.next
+    true true _ (sym c.same.ensures ∙ c.if-not-same.false) (sym c.same-else-not-same.ensures ∙ c.if-same.true) c.loop_of.ensures.is in
+    record { first = k.0; second = k.1 }
 
-pub returns-then-same-clause-first : goal.returns-then-same-clause-first
-returns-then-same-clause-first c =
-    first_corner c.args.arena.now.model c.args.h c.mate-mate.result c.next-following.result c.next-back.result c.mate-mate.ensures c.next-following.ensures.next c.next-back.ensures.next
-    true true _ (sym c.same.ensures ∙ c.if-not-same.false) (sym c.same-else-not-same.ensures ∙ c.if-same.true) c.loop_of.ensures.is
-
-pub returns-then-same-clause-second : goal.returns-then-same-clause-second
-returns-then-same-clause-second c =
-    second_corner c.args.arena.now.model c.args.h c.mate-mate.result c.next-following.result c.next-back.result c.mate-mate.ensures c.next-following.ensures.next c.next-back.ensures.next
-    true true _ (sym c.same.ensures ∙ c.if-not-same.false) (sym c.same-else-not-same.ensures ∙ c.if-same.true) c.loop_of.ensures.is
-
-pub returns-else-same-clause-first : goal.returns-else-same-clause-first
-returns-else-same-clause-first c =
-    first_corner c.args.arena.now.model c.args.h c.mate-mate.result c.next-following.result c.next-back.result c.mate-mate.ensures c.next-following.ensures.next c.next-back.ensures.next
-    true false _ (sym c.same.ensures ∙ c.if-not-same.false) (sym c.same-else-not-same.ensures ∙ c.if-same.false) refl
-
-pub returns-else-same-clause-second : goal.returns-else-same-clause-second
-returns-else-same-clause-second c =
-    second_corner c.args.arena.now.model c.args.h c.mate-mate.result c.next-following.result c.next-back.result c.mate-mate.ensures c.next-following.ensures.next c.next-back.ensures.next
-    true false _ (sym c.same.ensures ∙ c.if-not-same.false) (sym c.same-else-not-same.ensures ∙ c.if-same.false) refl
+pub returns-else-same : goal.returns-else-same
+returns-else-same c =
+    let k = corners c.args.arena.now.model c.args.h c.mate-mate.result c.next-following.result c.next-back.result c.mate-mate.ensures c.next-following.ensures.next c.next-back.ensures.next
+    true false _ (sym c.same.ensures ∙ c.if-not-same.false) (sym c.same-else-not-same.ensures ∙ c.if-same.false) refl in
+    record { first = k.0; second = k.1 }

@@ -1,8 +1,7 @@
-use Rattle.std.proofs.Common.{◌≡◌, ◌≢◌, true, false, [], is_some, sym, ap, ◌∙◌, subst, true≢false}
+use Rattle.std.proofs.Common.{◌≡◌, true, false, is_some, sym, ap, ◌∙◌, subst, true≢false}
 use Rattle.euler_operators.specs.HalfEdge.{code}
 use Rattle.euler_operators.specs.Table as table
-use Rattle.euler_operators.specs.Model.{has_half, loop_of, before, content, items_of, face_of, solid_of}
-use Rattle.euler_operators.proofs.Halves.{mate_other}
+use Rattle.euler_operators.specs.Model.{before, face_of, solid_of}
 use Rattle.euler_conditions.specs.Store.{Store}
 use Rattle.low_euler.specs.steps.Steps.{IsStanding, IsUnused, put_before}
 use Rattle.low_euler.proofs.loop_operators_laws.MefSteps as steps
@@ -49,15 +48,8 @@ make_edge_after-requires c =
 pub cut-requires : goal.cut-requires
 cut-requires c =
     let e1 = steps.was_second _ _ _ _ _ _ c.requires _ _ _ _ c.put_loop.ensures c.tail_and_prev-start.ensures.tail c.tail-end.ensures c.make_edge_after.ensures in
-    record {
-      a_there = subst (λ (t : Store). has_half t.model (code c.args.half) ≡ true) (sym e1) (steps.h_stands _ _ _ _ _ _ c.requires).there;
-      b_there = steps.mate_there _ _ _ _ _ _ c.requires _ _ c.mate.ensures e1;
-      looped = subst (λ (t : Store). loop_of t.model (code c.args.half) ≢ 0) (sym e1) (steps.h_stands _ _ _ _ _ _ c.requires).looped;
-      together = steps.mate_near _ _ _ _ _ _ c.requires _ _ c.mate.ensures e1;
-      apart = λ e. mate_other (code c.args.half) (e ∙ c.mate.ensures);
-      free = subst (λ (t : Store). c.args.outer ≢ 0 → (table.has t.model.loops c.args.outer ≡ true) × (items_of (content t.model c.args.outer) ≡ [])) (sym e1)
-          (λ _. (steps.l_there _ _ _ _ _ _ c.requires, steps.l_bare _ _ _ _ _ _ c.requires));
-    }
+    let asks = steps.cut_asks _ _ _ _ _ _ c.requires _ _ e1 c.mate.ensures in
+    record { a_there = asks.a_there; b_there = asks.b_there; looped = asks.looped; together = asks.together; apart = asks.apart; free = λ _. asks.free }
 
 pub put_face-requires : goal.put_face-requires
 put_face-requires c =

@@ -1,8 +1,7 @@
-use Rattle.std.proofs.Common.{◌≡◌, ◌≢◌, true, [], is_some, sym, ap, ◌∙◌, subst, true≢false}
+use Rattle.std.proofs.Common.{◌≡◌, true, is_some, sym, ap, ◌∙◌, subst, true≢false}
 use Rattle.euler_operators.specs.HalfEdge.{code, mate}
 use Rattle.euler_operators.specs.Table as table
-use Rattle.euler_operators.specs.Model.{has_half, loop_of, content, items_of, face_of}
-use Rattle.euler_operators.proofs.Halves.{mate_other}
+use Rattle.euler_operators.specs.Model.{face_of}
 use Rattle.euler_conditions.specs.Store.{Store}
 use Rattle.low_euler.specs.steps.Steps.{IsStanding, take_out}
 use Rattle.low_euler.proofs.loop_operators_laws.KemrSteps as steps
@@ -25,15 +24,8 @@ put_loop-requires-clause-free c = ap is_some (steps.goes _ _ _ c.requires).loop_
 pub cut-requires : goal.cut-requires
 cut-requires c =
     let e1 = steps.was_looped _ _ _ c.requires _ _ (c.face_of-face.ensures ∙ ap (face_of c.args.arena.now.model) c.loop_of.ensures) c.put_loop.ensures in
-    record {
-      a_there = subst (λ (t : Store). has_half t.model (code c.args.half) ≡ true) (sym e1) (steps.h_stands _ _ _ c.requires).there;
-      b_there = steps.mate_there _ _ _ c.requires _ _ c.mate.ensures e1;
-      looped = subst (λ (t : Store). loop_of t.model (code c.args.half) ≢ 0) (sym e1) (steps.h_stands _ _ _ c.requires).looped;
-      together = steps.mate_near _ _ _ c.requires _ _ c.mate.ensures e1;
-      apart = λ e. mate_other (code c.args.half) (e ∙ c.mate.ensures);
-      free = subst (λ (t : Store). c.args.ring ≢ 0 → (table.has t.model.loops c.args.ring ≡ true) × (items_of (content t.model c.args.ring) ≡ [])) (sym e1)
-          (λ _. (steps.l_there _ _ _ c.requires, steps.l_bare _ _ _ c.requires));
-    }
+    let asks = steps.cut_asks _ _ _ c.requires _ _ e1 c.mate.ensures in
+    record { a_there = asks.a_there; b_there = asks.b_there; looped = asks.looped; together = asks.together; apart = asks.apart; free = λ _. asks.free }
 
 pub kill_edge-requires : goal.kill_edge-requires
 kill_edge-requires c =
