@@ -91,16 +91,6 @@ module _ (s : Store) (half : HalfEdge) (ok : Accepts s (Kef half)) where
   abbrev pub made : Store
   made = take_face loopless (face_at M m)
 
-  -- what each call leaves
-  pub was_one : (q : Store) (n : ℕ) → n ≡ m → q ≡ join s h n → q ≡ one
-  was_one q n en d = d ∙ ap (join s h) en
-
-  pub was_edgeless : (p q : Store) → p ≡ one → q ≡ kill_edge p h → q ≡ edgeless
-  was_edgeless p q e d = d ∙ ap (λ t. kill_edge t h) e
-
-  pub was_loopless : (p q : Store) (n : ℕ) → n ≡ l → p ≡ edgeless → q ≡ take_loop p n → q ≡ loopless
-  was_loopless p q n en ep d = d ∙ ap (take_loop p) en ∙ ap (λ t. take_loop t l) ep
-
   -- what the readers and the join ask
   pub mate_there : (n : ℕ) → n ≡ m → has_half M n ≡ true
   mate_there n e = ap (has_half M) e ∙ laws.m_there M sound h goes
@@ -243,12 +233,8 @@ module _ (s : Store) (half : HalfEdge) (ok : Accepts s (Kef half)) where
   with_loops t z = record s { model = record M { faces = table.remove M.faces (face_at M m); loops = t; edges = table.remove M.edges (edge_of h) }; loose = z }
 
   -- together they are kef
-  made_is : made ≡ record s { model = kef M h }
-  unfolding kef
+  pub made_is : made ≡ after s (Kef half)
+  unfolding effect kef
   made_is = ap (λ t. take_face t (face_at M m)) loopless_is
       ∙ ap (with_loops (table.remove (table.put M.loops r (record { face = face_of M r; content = cycle (canonical (A ++ B)) })) l)) (sym bare)
       ∙ ap (λ t. with_loops t s.loose) (sym (laws.loops_are M sound h goes))
-
-  pub was_made : (p q : Store) (n : ℕ) → n ≡ face_at M m → p ≡ loopless → q ≡ take_face p n → q ≡ after s (Kef half)
-  unfolding effect
-  was_made p q n en ep d = d ∙ ap (take_face p) en ∙ ap (λ t. take_face t (face_at M m)) ep ∙ made_is

@@ -79,13 +79,6 @@ module _ (s : Store) (half : HalfEdge) (l : ℕ) (ok : Accepts s (Kemr half l)) 
   abbrev pub made : Store
   made = kill_edge parted h
 
-  -- what each call leaves
-  pub was_looped : (q : Store) (f : ℕ) → f ≡ face_at M h → q ≡ put_loop s l f → q ≡ looped
-  was_looped q f ef d = d ∙ ap (put_loop s l) ef
-
-  pub was_parted : (p q : Store) (n : ℕ) → n ≡ m → p ≡ looped → q ≡ cut p h n l → q ≡ parted
-  was_parted p q n en e d = d ∙ ap (λ x. cut p h x l) en ∙ ap (λ t. cut t h m l) e
-
   -- the two loops, and the half-edges in them
   h_in : IsIn h xs
   h_in = laws.h_in M sound h l goes
@@ -179,12 +172,8 @@ module _ (s : Store) (half : HalfEdge) (l : ℕ) (ok : Accepts s (Kemr half l)) 
   with_loops t = record s { model = record M { loops = t; edges = table.remove M.edges (edge_of h) } }
 
   -- together they are kemr
-  made_is : made ≡ record s { model = kemr M h l }
-  unfolding kemr take_edge
+  pub made_is : made ≡ after s (Kemr half l)
+  unfolding effect kemr take_edge
   made_is = ap (λ t. take_edge t (edge_of h)) second_is
       ∙ ap (λ z. record s { model = record (two.holding M r l (face_of M r) (face_of M r) all loops (cycle_or_lone Y (tail M h)) (cycle_or_lone X (tail M m))) { edges = table.remove M.edges (edge_of h) }; loose = z }) (edge_gone m h m_h (edge_of h) (halves_back h) ∙ sym bare)
       ∙ ap with_loops (sym (laws.loops_are M sound h l goes))
-
-  pub was_made : (p q : Store) → p ≡ parted → q ≡ kill_edge p h → q ≡ after s (Kemr half l)
-  unfolding effect
-  was_made p q e d = d ∙ ap (λ t. kill_edge t h) e ∙ made_is

@@ -98,9 +98,6 @@ module _ (s : Store) (first second half : HalfEdge) (f l : ℕ) (ok : Accepts s 
   pub was_second : (p q : Store) (a b : ℕ) → p ≡ looped → a ≡ tail M g → b ≡ tail M k → q ≡ make_edge p (At first) (At second) h a b → q ≡ second_in
   was_second p q a b e ea eb d = d ∙ ap (λ t. put_before (put_before t g h) k m) (was_edged p a b e ea eb)
 
-  pub was_parted : (p q : Store) (n : ℕ) → n ≡ m → p ≡ second_in → q ≡ cut p h n l → q ≡ parted
-  was_parted p q n en e d = d ∙ ap (λ x. cut p h x l) en ∙ ap (λ t. cut t h m l) e
-
   -- the two loops, and the half-edges in them
   r_row : table.get M.loops r ≡ Some (record { face = face_of M r; content = cycle xs })
   r_row = row_of M sound g goes.g_there
@@ -251,18 +248,11 @@ module _ (s : Store) (first second half : HalfEdge) (f l : ℕ) (ok : Accepts s 
   with_loops t = record s { model = record M { faces = table.put M.faces f (record { solid = solid_of M (face_at M g); outer = l }); loops = t; edges = N.edges } }
 
   -- together they are mef
-  made_is : made ≡ record s { model = mef M g k h f l }
-  unfolding mef
+  pub made_is : made ≡ after s (Mef first second half f l)
+  unfolding effect mef
   made_is = ap (λ t. put_face t f (solid_of M (face_at M g)) l) parted_is
       ∙ ap (λ z. put_face (state (mef_old h g k xs) (mef_new m g k xs) z) f (solid_of M (face_at M g)) l) (sym bare)
       ∙ ap with_loops (sym (loops-mef M sound g k h f l goes.g_there goes.edge_free goes.loop_free))
-
-  made_is_after : made ≡ after s (Mef first second half f l)
-  unfolding effect
-  made_is_after = made_is
-
-  pub was_made : (p q : Store) (n : ℕ) → n ≡ solid_of M (face_at M g) → p ≡ parted → q ≡ put_face p f n l → q ≡ after s (Mef first second half f l)
-  was_made p q n en e d = d ∙ ap (λ x. put_face p f x l) en ∙ ap (λ t. put_face t f (solid_of M (face_at M g)) l) e ∙ made_is_after
 
   -- what the new face asks
   parted_room : (p : Store) → p ≡ parted → p.room ≡ s.room

@@ -114,9 +114,6 @@ module _ (s : Store) (first second : Corner) (half : HalfEdge) (ok : Accepts s (
   pub was_second : (q : Store) (a b : ℕ) → a ≡ u → b ≡ w → q ≡ make_edge s first second h a b → q ≡ second_in
   was_second q a b ea eb d = d ∙ ap (λ t. put_at (put_at t first h) second m) (was_edged a b ea eb)
 
-  pub was_one : (p q : Store) (n : ℕ) → n ≡ m → p ≡ second_in → q ≡ join p h n → q ≡ one
-  was_one p q n en e d = d ∙ ap (join p h) en ∙ ap (λ t. join t h m) e
-
   -- the two loops, and the half-edges in them
   abbrev C : LoopContent
   C = content M r
@@ -326,12 +323,8 @@ module _ (s : Store) (first second : Corner) (half : HalfEdge) (ok : Accepts s (
       ∙ ap items_of (two.content_l N r l (face_of M r) (face_of M l) all loops (cycle ring) (cycle []))
 
   -- together they are mekr
-  made_is : made ≡ record s { model = mekr M first second h }
-  unfolding mekr
+  pub made_is : made ≡ after s (Mekr first second half)
+  unfolding effect mekr
   made_is = ap (λ t. take_loop t l) one_is
       ∙ ap (λ t. record { model = record N { loops = t }; loose = table.empty; room = s.room }) (remove-put_same (table.put M.loops r (record { face = face_of M r; content = cycle ring })) l (record { face = face_of M l; content = cycle [] }))
       ∙ ap (λ z. record { model = record N { loops = table.remove (table.put M.loops r (record { face = face_of M r; content = cycle ring })) l }; loose = z; room = s.room }) (sym bare)
-
-  pub was_made : (p q : Store) (n : ℕ) → n ≡ l → p ≡ one → q ≡ take_loop p n → q ≡ after s (Mekr first second half)
-  unfolding effect
-  was_made p q n en ep d = d ∙ ap (take_loop p) en ∙ ap (λ t. take_loop t l) ep ∙ made_is

@@ -1,5 +1,5 @@
--- Both half-edges of a new edge, put before one half-edge in either order.
-use Rattle.std.proofs.Common.{◌≡◌, ℕ, true, List, [], ◌∷◌, sym, ap, ◌∙◌, subst}
+-- Two loose half-edges put before one half-edge, in either order.
+use Rattle.std.proofs.Common.{◌≡◌, ◌≢◌, ℕ, true, List, [], ◌∷◌, refl, sym, ap, ◌∙◌, subst}
 use Rattle.euler_operators.specs.Items.{count}
 use Rattle.euler_operators.specs.Rings.{joined}
 use Rattle.euler_operators.specs.Operators.{put_ring}
@@ -15,131 +15,104 @@ use Rattle.euler_operators.proofs.Models.{holds_in}
 use Rattle.euler_conditions.specs.Store.{Store, with_loop, loose_key, join}
 use Rattle.low_euler.specs.steps.Steps.{LoopsStandApart, IsStanding, IsLoose, IsUnused, with_edge, put_before}
 use Rattle.low_euler.proofs.steps_laws.RingSteps.{joined_twice}
-use Rattle.low_euler.proofs.steps_laws.StoreSteps.{JoinsAlone, join_is, joins_after, was_joined, joins_alone, was_put, edge_turned, content_written, written_again}
+use Rattle.low_euler.proofs.steps_laws.StoreSteps.{JoinsAlone, join_is, joins_after, was_joined, edge_turned, content_written, written_again}
 use Rattle.low_euler.proofs.steps_laws.LoopsApart.{stays-put, before_stands}
-use Rattle.low_euler.proofs.steps_laws.EdgeSteps.{first_loose, second_loose, loose_made, none_second}
+use Rattle.low_euler.proofs.steps_laws.EdgeSteps.{first_loose, second_loose, loose_made}
 
--- h is put before g, and then m before g
+-- x is put before g, and then y before g
 abbrev both_put : Store → ℕ → ℕ → ℕ → Table (List ℕ) → Store
-both_put t g h m z = record t { model = with_loop t.model (loop_of t.model g) (cycle (put_ring m g (put_ring h g (cycle_of t.model g)))); loose = z }
+both_put t g x y z = record t { model = with_loop t.model (loop_of t.model g) (cycle (put_ring y g (put_ring x g (cycle_of t.model g)))); loose = z }
 
-module _ (s : Store) (h a b : ℕ) (from : HalfEdge) (unused : IsUnused s h) (placed : LoopsStandApart (with_edge s h a b).model) (stands : IsStanding (with_edge s h a b).model (code from)) where
-  abbrev edged : Store
-  edged = with_edge s h a b
-
-  abbrev g : ℕ
-  g = code from
-
+module _ (t : Store) (g x y : ℕ) (z : Table (List ℕ)) (placed : LoopsStandApart t.model) (stands : IsStanding t.model g) (alone : IsLoose t x) (other : IsLoose (put_before t g x) y)
+    (gone : table.remove (put_before t g x).loose (loose_key (put_before t g x) y) ≡ z) where
   abbrev p : ℕ
-  p = before edged.model g
+  p = before t.model g
 
   abbrev r : ℕ
-  r = loop_of edged.model g
+  r = loop_of t.model g
 
   abbrev xs : List ℕ
-  xs = cycle_of edged.model g
+  xs = cycle_of t.model g
 
-  abbrev half_in : Store
-  half_in = put_before edged g h
-
-  abbrev m : ℕ
-  m = mate h
-
-  alone : IsLoose edged h
-  alone = first_loose s h a b unused
-
-  left : IsLoose half_in m
-  left = second_loose s h a b unused (At from)
+  abbrev one_in : Store
+  one_in = put_before t g x
 
   -- what stood in the loop stands there still
-  stays : (x : ℕ) → StandsIn edged.model x r → loop_of half_in.model x ≡ r
-  stays x t = stays-put edged placed g h stands.stands alone x r t
+  stays : (k : ℕ) → StandsIn t.model k r → loop_of one_in.model k ≡ r
+  stays k i = stays-put t placed g x stands.stands alone k r i
 
-  last_stays : loop_of half_in.model p ≡ r
-  last_stays = stays p (before_stands edged.model placed g stands.stands)
+  pub last_stays : loop_of one_in.model p ≡ r
+  last_stays = stays p (before_stands t.model placed g stands.stands)
 
-  last_there : has_half half_in.model p ≡ true
+  pub last_there : has_half one_in.model p ≡ true
   unfolding put_before
   last_there = stands.before_there
 
   -- another ring for the loop then
-  again : (f : List ℕ → List ℕ) (z : Table (List ℕ)) →
-      record half_in { model = with_loop half_in.model r (cycle (f (items_of (content half_in.model r)))); loose = z } ≡ record edged { model = with_loop edged.model r (cycle (f (put_ring h g xs))); loose = z }
+  again : (f : List ℕ → List ℕ) (w : Table (List ℕ)) →
+      record one_in { model = with_loop one_in.model r (cycle (f (items_of (content one_in.model r)))); loose = w } ≡ record t { model = with_loop t.model r (cycle (f (put_ring x g xs))); loose = w }
   unfolding put_before
-  again f z =
-      let ring : LoopContent = cycle (put_ring h g xs) in
-      ap (λ c. record edged { model = with_loop (with_loop edged.model r ring) r (cycle (f (items_of c))); loose = z }) (content_written edged.model r ring)
-      ∙ ap (λ (N : Model). record edged { model = N; loose = z }) (written_again edged.model r ring (cycle (f (put_ring h g xs))))
+  again f w =
+      let ring : LoopContent = cycle (put_ring x g xs) in
+      ap (λ c. record t { model = with_loop (with_loop t.model r ring) r (cycle (f (items_of c))); loose = w }) (content_written t.model r ring)
+      ∙ ap (λ (N : Model). record t { model = N; loose = w }) (written_again t.model r ring (cycle (f (put_ring x g xs))))
 
-  -- the mate put before the same one
-  pub mate_put : put_before half_in g m ≡ both_put edged g h m s.loose
+  -- y put before the same one
+  pub put_both : put_before one_in g y ≡ both_put t g x y z
   unfolding put_before
-  mate_put =
-      ap (λ l. record half_in { model = with_loop half_in.model l (cycle (put_ring m g (items_of (content half_in.model l)))); loose = table.remove half_in.loose (loose_key half_in m) }) (stays g stands.stands)
-      ∙ again (put_ring m g) (table.remove half_in.loose (loose_key half_in m))
-      ∙ ap (both_put edged g h m) (loose_made s h a b unused (At from))
+  put_both =
+      ap (λ l. record one_in { model = with_loop one_in.model l (cycle (put_ring y g (items_of (content one_in.model l)))); loose = table.remove one_in.loose (loose_key one_in y) }) (stays g stands.stands)
+      ∙ again (put_ring y g) (table.remove one_in.loose (loose_key one_in y)) ∙ ap (both_put t g x y) gone
 
-  -- the mate joined after what stood before it at first: as if the mate had been put first
-  mate_joined : join half_in p m ≡ both_put edged g m h s.loose
-  unfolding put_before before
-  mate_joined =
-      join_is half_in p r m last_there last_stays stands.looped left
-      ∙ again (λ ys. joined p m ys (m ∷ [])) (table.remove half_in.loose (loose_key half_in m))
-      ∙ ap (λ ys. record edged { model = with_loop edged.model r (cycle ys); loose = table.remove half_in.loose (loose_key half_in m) })
-      (joined_twice xs stands.apart g (holds_in g (content edged.model r) stands.stands) m h (λ e. mate_other h (sym e)) (none_second s h a b unused r) (alone.nowhere r))
-      ∙ ap (both_put edged g m h) (loose_made s h a b unused (At from))
+  -- y joined after what stood before g at first: as if y had been put first
+  pub joined_both : y ≢ x → count y xs ≡ 0 → join one_in p y ≡ both_put t g y x z
+  unfolding before
+  joined_both ne none =
+      join_is one_in p r y last_there last_stays stands.looped other
+      ∙ again (λ ys. joined p y ys (y ∷ [])) (table.remove one_in.loose (loose_key one_in y))
+      ∙ ap (λ ys. record t { model = with_loop t.model r (cycle ys); loose = table.remove one_in.loose (loose_key one_in y) })
+      (joined_twice xs stands.apart g (holds_in g (content t.model r) stands.stands) y x ne none (alone.nowhere r))
+      ∙ ap (both_put t g y x) gone
 
-  module _ (q : Store) (n x : ℕ) (e : q ≡ edged) (en : n ≡ p) (ex : x ≡ h) where
-    pub one_asks : JoinsAlone q n x
-    one_asks = joins_alone edged g stands h alone q n x e en ex
-
-    module _ (t : Store) (d : t ≡ join q n x) where
-      one_was : t ≡ half_in
-      one_was = was_put edged g stands h alone q t n x e en ex d
-
-      pub two_asks : (y : ℕ) → y ≡ m → JoinsAlone t n y
-      two_asks y ey = joins_after half_in p r m last_there last_stays stands.looped left t n y one_was en ey
-
-      pub two_was : (u : Store) (y : ℕ) → y ≡ m → u ≡ join t n y → u ≡ both_put edged g m h s.loose
-      two_was u y ey f = was_joined half_in p r m last_there last_stays stands.looped left t u n y one_was en ey f ∙ mate_joined
-
--- the mate of a new edge's half-edge, and then half, joined after the half-edge before another
+-- the mate of a new edge's half-edge put before another one, and then half joined after what stood before that one at first
 module _ (s : Store) (half from : HalfEdge) (a b : ℕ) (unused : IsUnused s (code half)) (placed : LoopsStandApart (with_edge s (code half) a b).model) (first : IsStanding (with_edge s (code half) a b).model (code from)) where
   abbrev h : ℕ
   h = code half
 
-  abbrev turned : Store
-  turned = with_edge s (mate h) b a
+  abbrev m : ℕ
+  m = mate h
 
-  same : turned ≡ with_edge s h a b
-  same = edge_turned s h a b
+  abbrev g : ℕ
+  g = code from
 
-  unused_mate : IsUnused s (mate h)
-  unused_mate = record { bare = unused.bare; first = unused.second; second = λ l. ap (λ x. count x (items_of (content s.model l))) (mate-mate h) ∙ unused.first l }
+  abbrev edged : Store
+  edged = with_edge s h a b
 
-  placed_turned : LoopsStandApart turned.model
-  placed_turned = subst (λ (t : Store). LoopsStandApart t.model) (sym same) placed
+  unused_mate : IsUnused s m
+  unused_mate = record { bare = unused.bare; first = unused.second; second = λ l. ap (λ k. count k (items_of (content s.model l))) (mate-mate h) ∙ unused.first l }
 
-  first_turned : IsStanding turned.model (code from)
-  first_turned = subst (λ (t : Store). IsStanding t.model (code from)) (sym same) first
+  pub mate_loose : IsLoose edged m
+  mate_loose = subst (λ t. IsLoose t m) (edge_turned s h a b) (first_loose s m b a unused_mate)
 
-  module _ (q : Store) (n x : ℕ) (e : q ≡ with_edge s h a b) (en : n ≡ before (with_edge s h a b).model (code from)) (ex : x ≡ mate h) where
-    was : q ≡ turned
-    was = e ∙ sym same
+  half_left : IsLoose (put_before edged g m) h
+  half_left = subst (IsLoose (put_before edged g m)) (mate-mate h) (subst (λ t. IsLoose (put_before t g m) (mate m)) (edge_turned s h a b) (second_loose s m b a unused_mate (At from)))
 
-    before_was : n ≡ before turned.model (code from)
-    before_was = en ∙ ap (λ (t : Store). before t.model (code from)) (sym same)
+  none_left : table.remove (put_before edged g m).loose (loose_key (put_before edged g m) h) ≡ s.loose
+  none_left = subst (λ k. table.remove (put_before edged g m).loose (loose_key (put_before edged g m) k) ≡ s.loose) (mate-mate h)
+      (subst (λ t. table.remove (put_before t g m).loose (loose_key (put_before t g m) (mate m)) ≡ s.loose) (edge_turned s h a b) (loose_made s m b a unused_mate (At from)))
 
-    pub mate_asks : JoinsAlone q n x
-    mate_asks = one_asks s (mate h) b a from unused_mate placed_turned first_turned q n x was before_was ex
+  there : has_half (put_before edged g m).model (before edged.model g) ≡ true
+  there = last_there edged g m h s.loose placed first mate_loose half_left none_left
 
-    module _ (t : Store) (d : t ≡ join q n x) where
-      pub half_asks : JoinsAlone t n h
-      half_asks = two_asks s (mate h) b a from unused_mate placed_turned first_turned q n x was before_was ex t d h (sym (mate-mate h))
+  near : loop_of (put_before edged g m).model (before edged.model g) ≡ loop_of edged.model g
+  near = last_stays edged g m h s.loose placed first mate_loose half_left none_left
 
-      pub half_was : (u : Store) → u ≡ join t n h → u ≡ put_before (put_before (with_edge s h a b) (code from) h) (code from) (mate h)
-      half_was u f =
-          two_was s (mate h) b a from unused_mate placed_turned first_turned q n x was before_was ex t d u h (sym (mate-mate h)) f
-          ∙ ap (λ y. both_put turned (code from) y (mate h) s.loose) (mate-mate h)
-          ∙ ap (λ z. both_put z (code from) h (mate h) s.loose) same
-          ∙ sym (mate_put s h a b from unused placed first)
+  module _ (q : Store) (n : ℕ) (e : q ≡ put_before edged g m) (en : n ≡ before edged.model g) where
+    pub half_asks : JoinsAlone q n h
+    half_asks = joins_after (put_before edged g m) (before edged.model g) (loop_of edged.model g) h there near first.looped half_left q n h e en refl
+
+    pub half_was : (u : Store) → u ≡ join q n h → u ≡ put_before (put_before edged g h) g m
+    half_was u d =
+        was_joined (put_before edged g m) (before edged.model g) (loop_of edged.model g) h there near first.looped half_left q u n h e en refl d
+        ∙ joined_both edged g m h s.loose placed first mate_loose half_left none_left (mate_other h) ((first_loose s h a b unused).nowhere (loop_of edged.model g))
+        ∙ sym (put_both edged g h m s.loose placed first (first_loose s h a b unused) (second_loose s h a b unused (At from)) (loose_made s h a b unused (At from)))

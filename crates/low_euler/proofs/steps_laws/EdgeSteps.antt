@@ -4,20 +4,18 @@ use Rattle.std.proofs.lemmas.Bool.Decides.{nat_tests, eqb_tells}
 use Rattle.euler_operators.specs.Items.{count}
 use Rattle.euler_operators.specs.Operators.{put_ring}
 use Rattle.euler_operators.proofs.Lists.{tick_other}
-use Rattle.euler_operators.specs.declared.HalfEdge.{HalfEdge}
 use Rattle.euler_operators.specs.declared.Corner.{Corner}
 use Rattle.euler_operators.specs.declared.Corner.TheVariants.{At, Lone}
 use Rattle.euler_operators.specs.HalfEdge.{code, mate, edge_of, plus, minus}
 use Rattle.euler_operators.proofs.Halves.{mate_other, edge_of-mate}
 use Rattle.euler_operators.specs.Table as table
 use Rattle.euler_operators.specs.Table.{Table, tables}
-use Rattle.euler_operators.specs.Model.{Model, cycle, items_of, no_loop, content, face_of, has_half, loop_of, cycle_of, before}
+use Rattle.euler_operators.specs.Model.{Model, cycle, items_of, no_loop, content, face_of, has_half, loop_of, cycle_of}
 use Rattle.euler_operators.proofs.Tables.{get-put_here, get-put_other}
 use Rattle.euler_operators.specs.Effect.{edge_row}
-use Rattle.euler_conditions.specs.Store.{Store, with_loop, loose_key, loose_ring, fill, join}
-use Rattle.low_euler.specs.steps.Steps.{IsStanding, IsLoose, IsUnused, with_edge, put_before, take_out, put_at}
+use Rattle.euler_conditions.specs.Store.{Store, with_loop, loose_key, loose_ring, fill}
+use Rattle.low_euler.specs.steps.Steps.{IsLoose, IsUnused, with_edge, put_before, take_out, put_at}
 use Rattle.low_euler.proofs.steps_laws.RingSteps.{count_put}
-use Rattle.low_euler.proofs.steps_laws.StoreSteps.{JoinsAlone, joins_alone, was_put}
 use Rattle.low_euler.proofs.steps_laws.LooseRings.{AreSingles, pair, pair_singles, get_first, left_second, pair_gone, singles_remove, key_is, ring_is, halves_of}
 
 -- a loop that gets another ring, without m, doesn't come to hold m
@@ -116,8 +114,13 @@ module _ (s : Store) (h a b : ℕ) (unused : IsUnused s h) where
   pub none_loose : table.remove (table.remove E.loose h) m ≡ s.loose
   none_loose = ap (λ z. table.remove (table.remove z h) m) loose_is ∙ pair_gone h m h_m ∙ sym unused.bare
 
-  pub loose_made : (c : Corner) → table.remove (table.remove E.loose (loose_key E h)) (loose_key (put_at E c h) m) ≡ s.loose
-  loose_made c = ap (λ q. table.remove (table.remove E.loose (loose_key E h)) q) (second_key c) ∙ ap (λ q. table.remove (table.remove E.loose q) m) first_key ∙ none_loose
+  left_is : (c : Corner) → (put_at E c h).loose ≡ table.remove E.loose h
+  unfolding put_before fill
+  left_is (At g) = ap (table.remove E.loose) first_key
+  left_is (Lone l) = ap (table.remove E.loose) first_key
+
+  pub loose_made : (c : Corner) → table.remove (put_at E c h).loose (loose_key (put_at E c h) m) ≡ s.loose
+  loose_made c = ap (table.remove (put_at E c h).loose) (second_key c) ∙ ap (λ z. table.remove z m) (left_is c) ∙ none_loose
 
 -- ---- an edge that is killed
 
@@ -138,44 +141,3 @@ both_out s h e is =
       | inl q ↦ (at (plus e) (inr (ap plus is ∙ q.0)), at (minus e) (inl (ap minus is ∙ q.1)))
       | inr q ↦ (at (plus e) (inl (ap plus is ∙ q.0)), at (minus e) (inr (ap minus is ∙ q.1)))
     ]
-
--- half put before one half-edge, and then its mate before another, each by a join after what stands there
-module _ (s : Store) (half from to : HalfEdge) (a b : ℕ) (unused : IsUnused s (code half)) where
-  abbrev h : ℕ
-  h = code half
-
-  abbrev g : ℕ
-  g = code from
-
-  abbrev k : ℕ
-  k = code to
-
-  abbrev edged : Store
-  edged = with_edge s h a b
-
-  abbrev first_in : Store
-  first_in = put_before edged g h
-
-  alone_first : IsLoose edged h
-  alone_first = first_loose s h a b unused
-
-  alone_second : IsLoose first_in (mate h)
-  alone_second = second_loose s h a b unused (At from)
-
-  module _ (first : IsStanding edged.model g) where
-    pub first_asks : (q : Store) (n : ℕ) → q ≡ edged → n ≡ before edged.model g → JoinsAlone q n h
-    first_asks q n e en = joins_alone edged g first h alone_first q n h e en refl
-
-    pub first_was : (q t : Store) (n : ℕ) → q ≡ edged → n ≡ before edged.model g → t ≡ join q n h → t ≡ first_in
-    first_was q t n e en d = was_put edged g first h alone_first q t n h e en refl d
-
-    module _ (second : IsStanding first_in.model k) where
-      pub second_asks : (q : Store) (n x : ℕ) → q ≡ first_in → n ≡ before first_in.model k → x ≡ mate h → JoinsAlone q n x
-      second_asks q n x e en ex = joins_alone first_in k second (mate h) alone_second q n x e en ex
-
-      pub second_was : (q t : Store) (n x : ℕ) → q ≡ first_in → n ≡ before first_in.model k → x ≡ mate h → t ≡ join q n x → t ≡ put_before first_in k (mate h)
-      second_was q t n x e en ex d = was_put first_in k second (mate h) alone_second q t n x e en ex d
-
-      -- what stands before the second one, where it is read then
-      pub second_before : (q : Store) (n : ℕ) → q ≡ first_in → (loop_of q.model k ≢ 0 → n ≡ before q.model k) → n ≡ before first_in.model k
-      second_before q n e is = is (λ z. second.looped (sym (ap (λ (t : Store). loop_of t.model k) e) ∙ z)) ∙ ap (λ (t : Store). before t.model k) e

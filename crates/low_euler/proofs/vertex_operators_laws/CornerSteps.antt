@@ -56,9 +56,6 @@ module _ (s : Store) (from to half : HalfEdge) (v : ℕ) (p : Point) (ok : Accep
   first_in = put_before edged g h
 
   -- what each call leaves
-  pub was_moved : (q t : Store) → q ≡ with_tails_at s (arc M g k) v → t ≡ put_vertex q v p → t ≡ moved
-  was_moved q t e d = d ∙ ap (λ z. put_vertex z v p) e
-
   pub was_edged : (q : Store) (a : ℕ) → q ≡ moved → a ≡ u → with_edge q h a v ≡ edged
   was_edged q a e ea = ap (λ t. with_edge t h a v) e ∙ ap (λ x. with_edge moved h x v) ea
 
@@ -129,6 +126,3 @@ module _ (s : Store) (from to half : HalfEdge) (v : ℕ) (p : Point) (ok : Accep
         };
         loose = loose i;
       }
-
-  pub was_made : (q t : Store) (a : ℕ) → q ≡ moved → a ≡ u → t ≡ make_edge q (At from) (At to) h a v → t ≡ after s (Mev (At from) (At to) half v p)
-  was_made q t a e ea d = d ∙ ap (λ z. put_before (put_before z g h) k m) (was_edged q a e ea) ∙ made_is

@@ -155,13 +155,6 @@ module _ (s : Store) (half : HalfEdge) (ok : Accepts s (Kev half)) where
   abbrev G : Model
   G = edgeless.model
 
-  -- what each call leaves
-  pub was_moved : (q : Store) (from to a : ℕ) → from ≡ after M h → to ≡ m → a ≡ u → q ≡ with_tails_at s (arc M from to) a → q ≡ moved
-  was_moved q from to a ef et ea d = d ∙ ap (λ x. with_tails_at s (arc M x to) a) ef ∙ ap (λ x. with_tails_at s (arc M (after M h) x) a) et ∙ ap (with_tails_at s arc') ea
-
-  pub was_edgeless : (p q : Store) → p ≡ moved → q ≡ kill_edge p h → q ≡ edgeless
-  was_edgeless p q e d = d ∙ ap (λ t. kill_edge t h) e
-
   -- what the edge that is killed asks
   loops_moved : moved.model.loops ≡ M.loops
   loops_moved = loops-tails s arc' u
@@ -293,13 +286,10 @@ module _ (s : Store) (half : HalfEdge) (ok : Accepts s (Kev half)) where
       ∙ both_gone m h (λ e. mate_other h (sym e)) (edge_of h) (halves_back h) ∙ sym ok.ready.bare
 
   -- together they are kev
-  made_is : take_vertex edgeless w ≡ after_op s (Kev half)
+  pub made_is : take_vertex edgeless w ≡ after_op s (Kev half)
   unfolding effect kev take_edge take_out with_tails_at
   made_is =
       let p : G.loops ≡ (kev M h).loops = loops_made in
       let q : G.edges ≡ (kev M h).edges = edges_made in
       let r : edgeless.loose ≡ s.loose = loose_made in
       λ i. record s { model = record M { loops = p i; edges = q i; vertices = table.remove M.vertices w }; loose = r i }
-
-  pub was_made : (p q : Store) (n : ℕ) → n ≡ w → p ≡ edgeless → q ≡ take_vertex p n → q ≡ after_op s (Kev half)
-  was_made p q n en e d = d ∙ ap (take_vertex p) en ∙ ap (λ t. take_vertex t w) e ∙ made_is

@@ -113,7 +113,7 @@ module _ (s : Store) (l : ℕ) (half : HalfEdge) (v : ℕ) (p : Point) (ok : Acc
   abbrev as_put : Store → ℕ → List ℕ → ℕ → Store
   as_put t q ring k = record t { model = with_loop t.model q (cycle ring); loose = table.remove t.loose k }
 
-  made_is : make_edge begun (Lone l) (At half) h u v ≡ after s (Mev (Lone l) (Lone l) half v p)
+  pub made_is : make_edge begun (Lone l) (At half) h u v ≡ after s (Mev (Lone l) (Lone l) half v p)
   unfolding effect mev_lone with_edge put_before face_of
   made_is =
       ap (λ k. as_put first_in (loop_of first_in.model h) (put_ring m h (cycle_of first_in.model h)) k) (second_key begun h u v unused (Lone l))
@@ -123,6 +123,3 @@ module _ (s : Store) (l : ℕ) (half : HalfEdge) (v : ℕ) (p : Point) (ok : Acc
       ∙ ap (λ hs. as_put filled l (canonical (m ∷ hs)) m) (rotate_to_head h [])
       ∙ ap (λ ring. as_put filled l ring m) turned
       ∙ (λ i. record edged { model = written_again edged.model l (cycle (h ∷ [])) (cycle (canonical (h ∷ m ∷ []))) i; loose = none_loose begun h u v unused i })
-
-  pub was_made : (q t : Store) (a : ℕ) → q ≡ begun → a ≡ u → t ≡ make_edge q (Lone l) (At half) h a v → t ≡ after s (Mev (Lone l) (Lone l) half v p)
-  was_made q t a e ea d = d ∙ ap (λ z. put_before (fill z l h) h m) (was_edged q a e ea) ∙ made_is

@@ -6,7 +6,7 @@ ghost use Rattle.euler_conditions.specs.Store.{has_room, has_number};
 ghost use Rattle.low_euler.specs.steps.Steps.{LoopsStandApart, IsStanding, IsUnused, CanTake, with_edge, put_before, put_at, take_out, make_edge, kill_edge};
 
 use crate::steps::corners::put_at;
-use crate::steps::halves::take_out;
+use crate::steps::halves::{put_before, take_out};
 use euler_conditions::{Arena, same};
 use euler_operators::{Corner, HalfEdge, Kind};
 
@@ -74,8 +74,7 @@ pub(crate) fn make_edge_after(
         arena.join_alone(last, half);
     } else {
         arena.join_alone(last, half);
-        let other = arena.prev(second);
-        arena.join_alone(other, half.mate());
+        put_before(arena, second, half.mate());
     }
 }
 

@@ -7,6 +7,7 @@ use euler_conditions::{Arena, same};
 use euler_operators::HalfEdge;
 
 /// Puts `half`, which is loose, before `corner` in its loop.
+#[inline(always)]
 pub(crate) fn put_before(arena: &mut Arena, corner: HalfEdge, half: HalfEdge)
     requires corner { IsStanding arena.old.model (code corner) }
     requires half { IsLoose arena.old (code half) }

@@ -1,8 +1,8 @@
 use Rattle.std.proofs.Common.{sym, ap, ◌∙◌, subst}
 use Rattle.euler_operators.specs.HalfEdge.{code, mate}
 use Rattle.euler_operators.specs.Model.{loop_of, face_of}
-use Rattle.euler_conditions.specs.Store.{Store}
-use Rattle.low_euler.specs.steps.Steps.{IsStanding, take_out}
+use Rattle.euler_conditions.specs.Store.{Store, join, take_loop, take_face}
+use Rattle.low_euler.specs.steps.Steps.{IsStanding, take_out, kill_edge}
 use Rattle.low_euler.proofs.loop_operators_laws.KefSteps as steps
 use Rattle.low_euler.proofs.loop_operators.faces.kef.Goals as goal
 
@@ -22,7 +22,7 @@ join-requires c = record {
 
 pub kill_edge-requires : goal.kill_edge-requires
 kill_edge-requires c =
-    let e1 = sym (steps.was_one _ _ c.requires _ _ c.mate-mate.ensures c.join.ensures) in
+    let e1 = sym (c.join.ensures ∙ ap (join c.args.arena.now (code c.args.half)) c.mate-mate.ensures) in
     record {
       mate = subst (λ (t : Store). IsStanding t.model (mate (code c.args.half))) e1 (steps.m_stands _ _ c.requires);
       half = subst (λ t. IsStanding (take_out t (mate (code c.args.half))).model (code c.args.half)) e1 (steps.h_stands _ _ c.requires);
@@ -30,23 +30,24 @@ kill_edge-requires c =
 
 pub take_loop-requires : goal.take_loop-requires
 take_loop-requires c =
-    let e1 = steps.was_one _ _ c.requires _ _ c.mate-mate.ensures c.join.ensures in
-    let e2 = steps.was_edgeless _ _ c.requires _ _ e1 c.kill_edge.ensures in
+    let e1 = c.join.ensures ∙ ap (join c.args.arena.now (code c.args.half)) c.mate-mate.ensures in
+    let e2 = c.kill_edge.ensures ∙ ap (λ t. kill_edge t (code c.args.half)) e1 in
     let killed = c.loop_of-killed.ensures ∙ ap (loop_of c.args.arena.now.model) c.mate-mate.ensures in
     record { there = steps.gone_still _ _ c.requires _ _ killed e2; bare = steps.gone_bare _ _ c.requires _ _ killed e2 }
 
 pub take_face-requires : goal.take_face-requires
 take_face-requires c =
-    let e1 = steps.was_one _ _ c.requires _ _ c.mate-mate.ensures c.join.ensures in
-    let e2 = steps.was_edgeless _ _ c.requires _ _ e1 c.kill_edge.ensures in
+    let e1 = c.join.ensures ∙ ap (join c.args.arena.now (code c.args.half)) c.mate-mate.ensures in
+    let e2 = c.kill_edge.ensures ∙ ap (λ t. kill_edge t (code c.args.half)) e1 in
     let killed = c.loop_of-killed.ensures ∙ ap (loop_of c.args.arena.now.model) c.mate-mate.ensures in
-    let e3 = steps.was_loopless _ _ c.requires _ _ _ killed e2 c.take_loop.ensures in
+    let e3 = c.take_loop.ensures ∙ (λ i. take_loop (e2 i) (killed i)) in
     steps.face_still _ _ c.requires _ _ (c.face_of-face.ensures ∙ ap (face_of c.args.arena.now.model) killed) e3
 
 pub returns : goal.returns
 returns c =
-    let e1 = steps.was_one _ _ c.requires _ _ c.mate-mate.ensures c.join.ensures in
-    let e2 = steps.was_edgeless _ _ c.requires _ _ e1 c.kill_edge.ensures in
+    let e1 = c.join.ensures ∙ ap (join c.args.arena.now (code c.args.half)) c.mate-mate.ensures in
+    let e2 = c.kill_edge.ensures ∙ ap (λ t. kill_edge t (code c.args.half)) e1 in
     let killed = c.loop_of-killed.ensures ∙ ap (loop_of c.args.arena.now.model) c.mate-mate.ensures in
-    let e3 = steps.was_loopless _ _ c.requires _ _ _ killed e2 c.take_loop.ensures in
-    steps.was_made _ _ c.requires _ _ _ (c.face_of-face.ensures ∙ ap (face_of c.args.arena.now.model) killed) e3 c.take_face.ensures
+    let e3 = c.take_loop.ensures ∙ (λ i. take_loop (e2 i) (killed i)) in
+    let face = c.face_of-face.ensures ∙ ap (face_of c.args.arena.now.model) killed in
+    c.take_face.ensures ∙ (λ i. take_face (e3 i) (face i)) ∙ steps.made_is _ _ c.requires

@@ -2,7 +2,7 @@ use Rattle.std.proofs.Common.{◌≡◌, true, false, is_some, sym, ap, ◌∙�
 use Rattle.euler_operators.specs.HalfEdge.{code}
 use Rattle.euler_operators.specs.Table as table
 use Rattle.euler_operators.specs.Model.{before, face_of, solid_of}
-use Rattle.euler_conditions.specs.Store.{Store}
+use Rattle.euler_conditions.specs.Store.{Store, cut, put_face}
 use Rattle.low_euler.specs.steps.Steps.{IsStanding, IsUnused, put_before}
 use Rattle.low_euler.proofs.loop_operators_laws.MefSteps as steps
 use Rattle.low_euler.proofs.loop_operators.faces.mef.Goals as goal
@@ -54,7 +54,7 @@ cut-requires c =
 pub put_face-requires : goal.put_face-requires
 put_face-requires c =
     let e1 = steps.was_second _ _ _ _ _ _ c.requires _ _ _ _ c.put_loop.ensures c.tail_and_prev-start.ensures.tail c.tail-end.ensures c.make_edge_after.ensures in
-    let e2 = steps.was_parted _ _ _ _ _ _ c.requires _ _ _ c.mate.ensures e1 c.cut.ensures in
+    let e2 = c.cut.ensures ∙ (λ i. cut (e1 i) (code c.args.half) (c.mate.ensures i) c.args.outer) in
     let solid = c.solid_of-solid.ensures ∙ ap (solid_of c.args.arena.now.model) (c.face_of-old_face.ensures ∙ ap (face_of c.args.arena.now.model) c.loop_of.ensures) in
     record {
       room = steps.face_room _ _ _ _ _ _ c.requires _ e2;
@@ -66,6 +66,6 @@ put_face-requires c =
 pub returns : goal.returns
 returns c =
     let e1 = steps.was_second _ _ _ _ _ _ c.requires _ _ _ _ c.put_loop.ensures c.tail_and_prev-start.ensures.tail c.tail-end.ensures c.make_edge_after.ensures in
-    let e2 = steps.was_parted _ _ _ _ _ _ c.requires _ _ _ c.mate.ensures e1 c.cut.ensures in
+    let e2 = c.cut.ensures ∙ (λ i. cut (e1 i) (code c.args.half) (c.mate.ensures i) c.args.outer) in
     let solid = c.solid_of-solid.ensures ∙ ap (solid_of c.args.arena.now.model) (c.face_of-old_face.ensures ∙ ap (face_of c.args.arena.now.model) c.loop_of.ensures) in
-    steps.was_made _ _ _ _ _ _ c.requires _ _ _ solid e2 c.put_face.ensures
+    c.put_face.ensures ∙ (λ i. put_face (e2 i) c.args.face (solid i) c.args.outer) ∙ steps.made_is _ _ _ _ _ _ c.requires

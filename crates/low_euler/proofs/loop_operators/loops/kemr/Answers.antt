@@ -2,8 +2,8 @@ use Rattle.std.proofs.Common.{◌≡◌, true, is_some, sym, ap, ◌∙◌, subs
 use Rattle.euler_operators.specs.HalfEdge.{code, mate}
 use Rattle.euler_operators.specs.Table as table
 use Rattle.euler_operators.specs.Model.{face_of}
-use Rattle.euler_conditions.specs.Store.{Store}
-use Rattle.low_euler.specs.steps.Steps.{IsStanding, take_out}
+use Rattle.euler_conditions.specs.Store.{Store, put_loop, cut}
+use Rattle.low_euler.specs.steps.Steps.{IsStanding, take_out, kill_edge}
 use Rattle.low_euler.proofs.loop_operators_laws.KemrSteps as steps
 use Rattle.low_euler.proofs.loop_operators.loops.kemr.Goals as goal
 
@@ -23,14 +23,14 @@ put_loop-requires-clause-free c = ap is_some (steps.goes _ _ _ c.requires).loop_
 
 pub cut-requires : goal.cut-requires
 cut-requires c =
-    let e1 = steps.was_looped _ _ _ c.requires _ _ (c.face_of-face.ensures ∙ ap (face_of c.args.arena.now.model) c.loop_of.ensures) c.put_loop.ensures in
+    let e1 = c.put_loop.ensures ∙ ap (put_loop c.args.arena.now c.args.ring) (c.face_of-face.ensures ∙ ap (face_of c.args.arena.now.model) c.loop_of.ensures) in
     let asks = steps.cut_asks _ _ _ c.requires _ _ e1 c.mate.ensures in
     record { a_there = asks.a_there; b_there = asks.b_there; looped = asks.looped; together = asks.together; apart = asks.apart; free = λ _. asks.free }
 
 pub kill_edge-requires : goal.kill_edge-requires
 kill_edge-requires c =
-    let e1 = steps.was_looped _ _ _ c.requires _ _ (c.face_of-face.ensures ∙ ap (face_of c.args.arena.now.model) c.loop_of.ensures) c.put_loop.ensures in
-    let e2 = sym (steps.was_parted _ _ _ c.requires _ _ _ c.mate.ensures e1 c.cut.ensures) in
+    let e1 = c.put_loop.ensures ∙ ap (put_loop c.args.arena.now c.args.ring) (c.face_of-face.ensures ∙ ap (face_of c.args.arena.now.model) c.loop_of.ensures) in
+    let e2 = sym (c.cut.ensures ∙ (λ i. cut (e1 i) (code c.args.half) (c.mate.ensures i) c.args.ring)) in
     record {
       mate = subst (λ (t : Store). IsStanding t.model (mate (code c.args.half))) e2 (steps.m_parted _ _ _ c.requires);
       half = subst (λ t. IsStanding (take_out t (mate (code c.args.half))).model (code c.args.half)) e2 (steps.h_first _ _ _ c.requires);
@@ -38,6 +38,6 @@ kill_edge-requires c =
 
 pub returns : goal.returns
 returns c =
-    let e1 = steps.was_looped _ _ _ c.requires _ _ (c.face_of-face.ensures ∙ ap (face_of c.args.arena.now.model) c.loop_of.ensures) c.put_loop.ensures in
-    let e2 = steps.was_parted _ _ _ c.requires _ _ _ c.mate.ensures e1 c.cut.ensures in
-    steps.was_made _ _ _ c.requires _ _ e2 c.kill_edge.ensures
+    let e1 = c.put_loop.ensures ∙ ap (put_loop c.args.arena.now c.args.ring) (c.face_of-face.ensures ∙ ap (face_of c.args.arena.now.model) c.loop_of.ensures) in
+    let e2 = c.cut.ensures ∙ (λ i. cut (e1 i) (code c.args.half) (c.mate.ensures i) c.args.ring) in
+    c.kill_edge.ensures ∙ ap (λ t. kill_edge t (code c.args.half)) e2 ∙ steps.made_is _ _ _ c.requires

@@ -1,6 +1,6 @@
-use Rattle.std.proofs.Common.{sym, subst}
+use Rattle.std.proofs.Common.{sym, subst, ◌∙◌}
 use Rattle.euler_operators.specs.HalfEdge.{code}
-use Rattle.euler_conditions.specs.Store.{Store}
+use Rattle.euler_conditions.specs.Store.{Store, join, take_loop}
 use Rattle.low_euler.specs.steps.Steps.{CanTake, put_at}
 use Rattle.low_euler.proofs.loop_operators_laws.MekrSteps as steps
 use Rattle.low_euler.proofs.loop_operators.loops.mekr.Goals as goal
@@ -38,11 +38,11 @@ join-requires c =
 pub take_loop-requires : goal.take_loop-requires
 take_loop-requires c =
     let e1 = steps.was_second _ _ _ _ c.requires _ _ _ c.tail_at-start.ensures c.tail_at-end.ensures c.make_edge.ensures in
-    let e2 = steps.was_one _ _ _ _ c.requires _ _ _ c.mate.ensures e1 c.join.ensures in
+    let e2 = c.join.ensures ∙ (λ i. join (e1 i) (code c.args.half) (c.mate.ensures i)) in
     record { there = steps.ring_there _ _ _ _ c.requires _ _ c.loop_at-ring.ensures e2; bare = steps.ring_bare _ _ _ _ c.requires _ _ c.loop_at-ring.ensures e2 }
 
 pub returns : goal.returns
 returns c =
     let e1 = steps.was_second _ _ _ _ c.requires _ _ _ c.tail_at-start.ensures c.tail_at-end.ensures c.make_edge.ensures in
-    let e2 = steps.was_one _ _ _ _ c.requires _ _ _ c.mate.ensures e1 c.join.ensures in
-    steps.was_made _ _ _ _ c.requires _ _ _ c.loop_at-ring.ensures e2 c.take_loop.ensures
+    let e2 = c.join.ensures ∙ (λ i. join (e1 i) (code c.args.half) (c.mate.ensures i)) in
+    c.take_loop.ensures ∙ (λ i. take_loop (e2 i) (c.loop_at-ring.ensures i)) ∙ steps.made_is _ _ _ _ c.requires

@@ -1,9 +1,9 @@
 use Rattle.std.proofs.Common.{ap, sym, subst, ◌∙◌}
 use Rattle.euler_operators.specs.HalfEdge.{code, mate}
-use Rattle.euler_operators.specs.Model.{has_half, tail}
+use Rattle.euler_operators.specs.Model.{has_half, tail, arc}
 use Rattle.euler_operators.specs.Sound.{HasHalf}
-use Rattle.euler_conditions.specs.Store.{Store}
-use Rattle.low_euler.specs.steps.Steps.{IsStanding, take_out}
+use Rattle.euler_conditions.specs.Store.{Store, take_vertex}
+use Rattle.low_euler.specs.steps.Steps.{IsStanding, take_out, kill_edge, with_tails_at}
 use Rattle.low_euler.proofs.vertex_operators_laws.KevSteps as steps
 use Rattle.low_euler.proofs.vertex_operators.edges.kev.Goals as goal
 
@@ -29,7 +29,7 @@ move_tails-requires c =
 pub kill_edge-requires : goal.kill_edge-requires
 kill_edge-requires c =
     let following = c.next-following.ensures.in_loop (steps.half_looped _ _ c.requires) in
-    let e1 = sym (steps.was_moved _ _ c.requires _ _ _ _ following c.mate-mate.ensures c.tail-kept.ensures c.move_tails.ensures) in
+    let e1 = sym (c.move_tails.ensures ∙ (λ i. with_tails_at c.args.arena.now (arc c.args.arena.now.model (following i) (c.mate-mate.ensures i)) (c.tail-kept.ensures i))) in
     record {
       mate = subst (λ (t : Store). IsStanding t.model (mate (code c.args.half))) e1 (steps.mate_stands _ _ c.requires);
       half = subst (λ t. IsStanding (take_out t (mate (code c.args.half))).model (code c.args.half)) e1 (steps.half_stands _ _ c.requires);
@@ -38,13 +38,14 @@ kill_edge-requires c =
 pub take_vertex-requires : goal.take_vertex-requires
 take_vertex-requires c =
     let following = c.next-following.ensures.in_loop (steps.half_looped _ _ c.requires) in
-    let e1 = steps.was_moved _ _ c.requires _ _ _ _ following c.mate-mate.ensures c.tail-kept.ensures c.move_tails.ensures in
-    let e2 = steps.was_edgeless _ _ c.requires _ _ e1 c.kill_edge.ensures in
+    let e1 = c.move_tails.ensures ∙ (λ i. with_tails_at c.args.arena.now (arc c.args.arena.now.model (following i) (c.mate-mate.ensures i)) (c.tail-kept.ensures i)) in
+    let e2 = c.kill_edge.ensures ∙ ap (λ t. kill_edge t (code c.args.half)) e1 in
     steps.vertex_there _ _ c.requires _ _ (c.tail-killed.ensures ∙ ap (tail c.args.arena.now.model) c.mate-mate.ensures) e2
 
 pub returns : goal.returns
 returns c =
     let following = c.next-following.ensures.in_loop (steps.half_looped _ _ c.requires) in
-    let e1 = steps.was_moved _ _ c.requires _ _ _ _ following c.mate-mate.ensures c.tail-kept.ensures c.move_tails.ensures in
-    let e2 = steps.was_edgeless _ _ c.requires _ _ e1 c.kill_edge.ensures in
-    steps.was_made _ _ c.requires _ _ _ (c.tail-killed.ensures ∙ ap (tail c.args.arena.now.model) c.mate-mate.ensures) e2 c.take_vertex.ensures
+    let e1 = c.move_tails.ensures ∙ (λ i. with_tails_at c.args.arena.now (arc c.args.arena.now.model (following i) (c.mate-mate.ensures i)) (c.tail-kept.ensures i)) in
+    let e2 = c.kill_edge.ensures ∙ ap (λ t. kill_edge t (code c.args.half)) e1 in
+    let killed = c.tail-killed.ensures ∙ ap (tail c.args.arena.now.model) c.mate-mate.ensures in
+    c.take_vertex.ensures ∙ (λ i. take_vertex (e2 i) (killed i)) ∙ steps.made_is _ _ c.requires

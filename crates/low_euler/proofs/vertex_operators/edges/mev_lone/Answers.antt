@@ -1,9 +1,9 @@
 use Rattle.std.proofs.Common.{ap, sym, subst, ◌∙◌}
-use Rattle.euler_operators.specs.HalfEdge.{code}
+use Rattle.euler_operators.specs.HalfEdge.{code, mate}
 use Rattle.euler_operators.specs.declared.Corner.TheVariants.{Lone}
 use Rattle.euler_operators.specs.Table as table
 use Rattle.euler_conditions.specs.Store.{Store, fill}
-use Rattle.low_euler.specs.steps.Steps.{IsStanding, IsUnused, CanTake}
+use Rattle.low_euler.specs.steps.Steps.{IsStanding, IsUnused, CanTake, put_before}
 use Rattle.low_euler.proofs.vertex_operators_laws.LoneSteps as steps
 use Rattle.low_euler.proofs.vertex_operators.edges.mev_lone.Goals as goal
 
@@ -25,4 +25,7 @@ make_edge-requires c =
     }
 
 pub returns : goal.returns
-returns c = steps.was_made _ _ _ _ _ c.requires _ _ _ c.put_vertex.ensures c.lone_vertex-old.ensures c.make_edge.ensures
+returns c =
+    c.make_edge.ensures
+    ∙ ap (λ t. put_before (fill t c.args.l (code c.args.half)) (code c.args.half) (mate (code c.args.half))) (steps.was_edged _ _ _ _ _ c.requires _ _ c.put_vertex.ensures c.lone_vertex-old.ensures)
+    ∙ steps.made_is _ _ _ _ _ c.requires
