@@ -4,10 +4,10 @@ use Rattle.std.specs.Option.{option_map}
 use Rattle.std.proofs.lemmas.Bool.Decides.{nat_tests, eqb_tells}
 use Rattle.euler_operators.specs.Items.{count, tick}
 use Rattle.euler_operators.proofs.Lists.{tick_same, tick_other}
-use Rattle.euler_operators.specs.Table.{Table, get, map_rows, put, remove, get-map_rows, get-put}
+use Rattle.euler_operators.specs.Table.{Table, get, map_rows, put, remove, get-map_rows}
 use Rattle.euler_operators.specs.Model.{Model, FaceRow, no_face, solid_of, outer, faces_of, is_number}
 use Rattle.euler_operators.specs.Sound.{Sound}
-use Rattle.euler_operators.proofs.Tables.{map-put, put_same, map_same, all_where_none, none_all_where, passes, count-all_where}
+use Rattle.euler_operators.proofs.Tables.{get-put_here, get-put_other, map-put, put_same, map_same, all_where_none, none_all_where, passes, count-all_where}
 use Rattle.euler_operators.specs.Conditions.{conditions, first_false}
 use Rattle.euler_operators.specs.Effect.{effect, merge, faces_to_solid}
 use Rattle.euler_operators.specs.declared.Op.TheVariants.{Merge}
@@ -49,15 +49,9 @@ module _ (s : Store) (kept gone : ℕ) where
     unfolding effect merge
     merge_same is = ap (λ (t : Table FaceRow). record s { model = record s.model { solids = remove s.model.solids gone; faces = t } }) (rows_after is)
 
-    got_other : (k : ℕ) → k ≢ face → get (put s.model.faces face row_after) k ≡ get s.model.faces k
-    got_other k ne = let e : nat_eq k face ≡ false = grind (arith, nat_tests) in get-put s.model.faces face row_after k ∙ ap (λ b. cond b (Some row_after) (get s.model.faces k)) e
-
-    got_here : get (put s.model.faces face row_after) face ≡ Some row_after
-    got_here = let e : nat_eq face face ≡ true = grind (arith, nat_tests) in get-put s.model.faces face row_after face ∙ ap (λ b. cond b (Some row_after) (get s.model.faces face)) e
-
     other_face : (k : ℕ) → k ≢ face → is_face_of (set_solid s face kept).model gone k ≡ is_face_of s.model gone k
     unfolding solid_of
-    other_face k ne = let g = got_other k ne in λ i. is_some (g i) && nat_eq (unwrap_or (g i) no_face).solid gone
+    other_face k ne = let g = get-put_other s.model.faces face row_after k ne in λ i. is_some (g i) && nat_eq (unwrap_or (g i) no_face).solid gone
 
     counted : (o : Option FaceRow) (b : Bool) → (is_some o && nat_eq (unwrap_or o no_face).solid gone) ≡ b → (q : ℕ) → passes (λ _ (row : FaceRow). nat_eq row.solid gone) q o ≡ cond b 1 0
     counted None b e q = ap {B = ℕ} (λ c. cond c 1 0) e
@@ -68,7 +62,7 @@ module _ (s : Store) (kept gone : ℕ) where
     count_in M q b e = count-all_where (λ _ (row : FaceRow). nat_eq row.solid gone) M.faces q ∙ counted (get M.faces q) b e q
 
     face_goes : is_face_of (set_solid s face kept).model gone face ≡ false
-    face_goes = row_tells (set_solid s face kept).model gone face row_after got_here ∙ differs
+    face_goes = row_tells (set_solid s face kept).model gone face row_after (get-put_here s.model.faces face row_after) ∙ differs
 
     -- one face is taken from the solid
     pub one_less : is_face_of s.model gone face ≡ true → length (faces_of s.model gone) ≡ 1 + length (faces_of (set_solid s face kept).model gone)

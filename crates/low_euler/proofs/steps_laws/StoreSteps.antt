@@ -180,33 +180,20 @@ module _ (s : Store) (g : ℕ) (stands : IsStanding s.model g) where
     one_item : xs ≡ g ∷ []
     one_item = alone_list (cycle_of M g) stands.apart g g_in none_follow
 
-    row_there : table.has M.loops r ≡ true
+    pub row_there : table.has M.loops r ≡ true
     row_there = ap is_some (held_row M g r stands.stands)
 
-    still_there : table.has (clear s r).model.loops r ≡ true
+    pub still_there : table.has (clear s r).model.loops r ≡ true
     unfolding clear
     still_there = ap is_some (get-put_here M.loops r (record { face = face_of M r; content = cycle [] }))
 
-    now_bare : items_of (content (clear s r).model r) ≡ []
+    pub now_bare : items_of (content (clear s r).model r) ≡ []
     unfolding clear
     now_bare = ap items_of (content_written M r (cycle []))
 
-    clear_takes_out : with_lone (clear s r) r (tail M g) ≡ take_out s g
+    pub clear_takes_out : with_lone (clear s r) r (tail M g) ≡ take_out s g
     unfolding clear take_out
     clear_takes_out =
         ap (λ (N : Model). record s { model = N; loose = loosened xs s.loose }) (written_again M r (cycle []) (lone (tail M g)))
         ∙ ap (λ ring. record s { model = with_loop M r (lone (tail M g)); loose = loosened ring s.loose }) one_item
         ∙ ap (λ ys. record s { model = with_loop M r (cycle_or_lone ys (tail M g)); loose = table.put s.loose g (g ∷ []) }) (sym none_follow)
-
-    -- what the clearing and the setting ask, and what they leave
-    pub emptied_there : (n : ℕ) → n ≡ r → table.has M.loops n ≡ true
-    emptied_there n en = ap (table.has M.loops) en ∙ row_there
-
-    pub cleared_there : (q : Store) (n : ℕ) → n ≡ r → q ≡ clear s n → table.has q.model.loops n ≡ true
-    cleared_there q n en d = ap (λ (t : Store). table.has t.model.loops n) d ∙ ap (λ l. table.has (clear s l).model.loops l) en ∙ still_there
-
-    pub cleared_bare : (q : Store) (n : ℕ) → n ≡ r → q ≡ clear s n → items_of (content q.model n) ≡ []
-    cleared_bare q n en d = ap (λ (t : Store). items_of (content t.model n)) d ∙ ap (λ l. items_of (content (clear s l).model l)) en ∙ now_bare
-
-    pub was_emptied : (q t : Store) (n v : ℕ) → n ≡ r → v ≡ tail M g → q ≡ clear s n → t ≡ with_lone q n v → t ≡ take_out s g
-    was_emptied q t n v en ev d f = f ∙ ap (λ z. with_lone z n v) d ∙ ap (λ l. with_lone (clear s l) l v) en ∙ ap (with_lone (clear s r) r) ev ∙ clear_takes_out

@@ -53,7 +53,7 @@ module _ (next : ℕ → ℕ) (ws : List ℕ) (d : IsApart ws) (r : IsRing next 
 
 -- ---- rows of edges
 
-cond_same : {X : Type 0} (b : Bool) (x : X) → cond b x x ≡ x
+pub cond_same : {X : Type 0} (b : Bool) (x : X) → cond b x x ≡ x
 cond_same true x = refl
 cond_same false x = refl
 
@@ -150,7 +150,7 @@ module _ (s now : Store) (g k x v : ℕ) (sound : Sound s.model) (k_there : HasH
   arc_step : x ≢ k → arc M x k ≡ x ∷ arc M (round M x) k
   arc_step ne = arc_from x x_in ∙ upto_step (round M) ws fan.apart fan.ring x k x_in k_in ne ∙ ap (λ q. x ∷ q) (sym (arc_from (round M x) round_in))
 
-  pub shorter : x ≢ k → length (arc M (round M x) k) < length (arc M x k)
+  shorter : x ≢ k → length (arc M (round M x) k) < length (arc M x k)
   shorter ne = omega (arith, ap length (arc_step ne))
 
   loops_kept : now.model.loops ≡ M.loops
@@ -180,14 +180,14 @@ module _ (s now : Store) (g k x v : ℕ) (sound : Sound s.model) (k_there : HasH
     zero_loop : (l : ℕ) → l ≡ 0 → StandsIn M (mate x) l → ⊥
     zero_loop l e s = true≢false (sym (sound.loops_fit 0 (ap is_some (held_row M (mate x) 0 (subst (StandsIn M (mate x)) e s)))))
 
-  pub mate_looped : loop_of (set_tail now x v).model (mate x) ≢ 0
+  mate_looped : loop_of (set_tail now x v).model (mate x) ≢ 0
   mate_looped e = mate_loop (sym (loop_of-same M (set_tail now x v).model set_loops (mate x)) ∙ e)
 
   after-same : (N : Model) → N.loops ≡ M.loops → (y : ℕ) → after N y ≡ after M y
   unfolding after
   after-same N same y = ap (λ q. successor (items_of (content N q)) y) (loop_of-same M N same y) ∙ ap (λ c. successor (items_of c) y) (content-same M N same (loop_of M y))
 
-  pub next_is : after (set_tail now x v).model (mate x) ≡ round M x
+  next_is : after (set_tail now x v).model (mate x) ≡ round M x
   next_is = after-same (set_tail now x v).model set_loops (mate x)
 
   set_kept : set_tail now x v ≡ record s { model = record M { edges = (set_tail now x v).model.edges } }
@@ -198,7 +198,7 @@ module _ (s now : Store) (g k x v : ℕ) (sound : Sound s.model) (k_there : HasH
   unfolding set_tail
   set_ends ne = tails_step now.model.edges x v (arc M (round M x) k) (half_now x w.here) ∙ ap (λ q. table.map_rows (with_tails q v) now.model.edges) (sym (arc_step ne)) ∙ w.ends
 
-  pub come_on : x ≢ k → HasCome s (set_tail now x v) g k (round M x) v
+  come_on : x ≢ k → HasCome s (set_tail now x v) g k (round M x) v
   come_on ne = record {
     here = (fan.of_it (round M x) round_in).0;
     one_tail = (fan.of_it (round M x) round_in).1;
@@ -213,6 +213,18 @@ module _ (s now : Store) (g k x v : ℕ) (sound : Sound s.model) (k_there : HasH
       let none : arc M x k ≡ [] = arc_from x x_in ∙ ap (λ y. upto x y ws) (sym e) ∙ upto_itself x ws x_in in
       w.kept ∙ ap (λ t. record s { model = record M { edges = t } })
       (sym (map_same (with_tails [] v) now.model.edges (λ q row at. refl)) ∙ ap (λ q. table.map_rows (with_tails q v) now.model.edges) (sym none) ∙ w.ends)
+
+  -- where the next one round is read behind the mate
+  module _ (q : Store) (n y : ℕ) (set : q ≡ set_tail now x v) (mate_is : n ≡ mate x) (next_in : loop_of q.model n ≢ 0 → y ≡ after q.model n) (ne : x ≢ k) where
+    next_was : y ≡ round M x
+    next_was = next_in (λ e. mate_looped (sym (ap (λ (u : Store). loop_of u.model n) set ∙ ap (loop_of (set_tail now x v).model) mate_is) ∙ e))
+        ∙ ap (λ (u : Store). after u.model n) set ∙ ap (after (set_tail now x v).model) mate_is ∙ next_is
+
+    pub next_shorter : length (arc M y k) < length (arc M x k)
+    next_shorter = subst (λ z. length (arc M z k) < length (arc M x k)) (sym next_was) (shorter ne)
+
+    pub come_next : HasCome s q g k y v
+    come_next = subst (λ u. HasCome s u g k y v) (sym set) (subst (λ z. HasCome s (set_tail now x v) g k z v) (sym next_was) (come_on ne))
 
 -- ---- what stays where tails move
 

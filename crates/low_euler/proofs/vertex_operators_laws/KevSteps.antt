@@ -1,5 +1,5 @@
 -- An edge and the vertex at its far end killed by the writers of an arena.
-use Rattle.std.proofs.Common.{◌≡◌, ◌≢◌, ℕ, Bool, true, false, cond, nat_eq, nat_lt, List, [], ◌∷◌, ◌++◌, None, is_some, unwrap_or, refl, sym, ap, subst, ◌∙◌, arith, ◌⊎◌, inl, inr}
+use Rattle.std.proofs.Common.{◌≡◌, ◌≢◌, ℕ, true, false, cond, nat_eq, nat_lt, List, [], ◌∷◌, ◌++◌, None, is_some, unwrap_or, refl, sym, ap, subst, ◌∙◌, arith, ◌⊎◌, inl, inr}
 use Rattle.std.proofs.lemmas.Bool.Decides.{nat_tests, eqb_tells}
 use Rattle.euler_operators.specs.Items.{count, IsIn, IsApart, before as before_item, after as after_item}
 use Rattle.euler_operators.specs.Rings.{canonical, rest, rotate_to, successor, predecessor}
@@ -15,6 +15,7 @@ use Rattle.euler_operators.specs.Table as table
 use Rattle.euler_operators.specs.Model.{Model, LoopContent, cycle, no_edge, items_of, holds, tail, tail_in, loop_of, face_of, content, after, round, arc}
 use Rattle.euler_operators.specs.Sound.{Sound, HasHalf}
 use Rattle.euler_operators.proofs.Halves.{mate_other, mate-mate}
+use Rattle.euler_operators.proofs.Tables.{get-remove_here, get-remove_other}
 use Rattle.euler_operators.proofs.Models.{in-holds, holds-none, cycle_there, mate_there as half_mate}
 use Rattle.euler_operators.specs.declared.Op.TheVariants.{Kev}
 use Rattle.euler_operators.specs.Effect.{effect, kev, cycle_or_lone}
@@ -33,7 +34,7 @@ use Rattle.low_euler.specs.steps.Steps.{LoopsStandApart, IsStanding, take_out, k
 use Rattle.low_euler.proofs.steps_laws.RingSteps.{upto_before}
 use Rattle.low_euler.proofs.steps_laws.LooseRings.{edge_gone as both_gone, halves_back}
 use Rattle.low_euler.proofs.steps_laws.LoopsApart.{HasLoop, placed_of, placed-same, loop-same, content-same, face_of-same, never_zero, standing_of, same_or_lone, placed-taken, loop-taken, content-O, face-O, has-O}
-use Rattle.low_euler.proofs.steps_laws.Tails.{loops-tails, half-tails, edges-tails, tail-tails}
+use Rattle.low_euler.proofs.steps_laws.Tails.{cond_same, loops-tails, half-tails, edges-tails, tail-tails}
 
 -- ---- items taken out of a list
 
@@ -208,15 +209,13 @@ module _ (s : Store) (half : HalfEdge) (ok : Accepts s (Kev half)) where
   pub vertex_there : (p : Store) (n : ℕ) → n ≡ w → p ≡ edgeless → table.has p.model.vertices n ≡ true
   vertex_there p n en e = ap (table.has p.model.vertices) en ∙ ap (λ (t : Store). table.has t.model.vertices w) e ∙ vertex_kept
 
-  edges_G : (e : ℕ) → table.get G.edges e ≡ cond (nat_eq e (edge_of h)) None (table.get moved.model.edges e)
-  unfolding take_edge take_out
-  edges_G e = table.get-remove moved.model.edges (edge_of h) e
-
   edge_other : (e : ℕ) → e ≢ edge_of h → table.get G.edges e ≡ table.get moved.model.edges e
-  edge_other e ne = let t : nat_eq e (edge_of h) ≡ false = grind (arith, nat_tests, ne) in edges_G e ∙ ap (λ b. cond b None (table.get moved.model.edges e)) t
+  unfolding take_edge take_out
+  edge_other e ne = get-remove_other moved.model.edges (edge_of h) e ne
 
   edge_none : table.get G.edges (edge_of h) ≡ None
-  edge_none = let t : nat_eq (edge_of h) (edge_of h) ≡ true = grind (arith, nat_tests) in edges_G (edge_of h) ∙ ap (λ b. cond b None (table.get moved.model.edges (edge_of h))) t
+  unfolding take_edge take_out
+  edge_none = get-remove_here moved.model.edges (edge_of h)
 
   has_edge : (e : ℕ) → table.has G.edges e ≡ table.has (kev M h).edges e
   has_edge e = elim (eqb_tells e (edge_of h)) [
@@ -242,10 +241,7 @@ module _ (s : Store) (half : HalfEdge) (ok : Accepts s (Kev half)) where
   -- h starts where it did
   tail_first : tail first_out.model h ≡ u
   unfolding take_out tail
-  tail_first = tail-tails s arc' u h half_there ∙ either (nat_lt 0 (count h arc')) where
-    either : (b : Bool) → cond b u u ≡ u
-    either true = refl
-    either false = refl
+  tail_first = tail-tails s arc' u h half_there ∙ cond_same (nat_lt 0 (count h arc')) u
 
   loops_edgeless : G.loops ≡ (take_out first_out h).model.loops
   unfolding take_edge
