@@ -1,5 +1,5 @@
 -- What mekr's writers make of a store, one after another.
-use Rattle.std.proofs.Common.{◌≡◌, ◌≢◌, ℕ, ◌+◌, true, false, List, [], ◌∷◌, ◌++◌, None, is_some, refl, sym, ap, ◌∙◌, subst, arith, true≢false}
+use Rattle.std.proofs.Common.{◌≡◌, ◌≢◌, ℕ, ◌+◌, true, false, List, [], ◌∷◌, ◌++◌, Some, None, is_some, refl, sym, ap, ◌∙◌, subst, arith, true≢false}
 use Rattle.euler_operators.specs.Items.{count, tick, IsIn, IsApart}
 use Rattle.euler_operators.specs.Rings.{canonical, rotate_to, joined}
 use Rattle.euler_operators.proofs.Lists.{count-append, tick_same, tick_other}
@@ -12,7 +12,7 @@ use Rattle.euler_operators.specs.declared.Corner.TheVariants.{At, Lone}
 use Rattle.euler_operators.specs.HalfEdge.{code, mate, edge_of}
 use Rattle.euler_operators.specs.Table as table
 use Rattle.euler_operators.specs.Table.{Table}
-use Rattle.euler_operators.specs.Model.{Model, LoopContent, lone, cycle, items_of, content, face_of, loop_of, has_half}
+use Rattle.euler_operators.specs.Model.{Model, LoopContent, lone, cycle, items_of, content, face_of, loop_of, cycle_of, has_half}
 use Rattle.euler_operators.specs.Sound.{Sound}
 use Rattle.euler_operators.proofs.Halves.{mate_other, edge_of-code}
 use Rattle.euler_operators.proofs.Tables.{put_same}
@@ -24,8 +24,8 @@ use Rattle.euler_conditions.specs.Ready.{Accepts, after}
 use Rattle.euler_laws.proofs.shared.Goes.{all_hold}
 use Rattle.euler_laws.proofs.shared.Rows.{half_of, loop_row}
 use Rattle.euler_laws.proofs.mekr.MekrSpots.{JoinGoes, join_goes, count_spot}
-use Rattle.euler_conditions.specs.Store.{Store, join, take_loop, loose_key, loose_ring}
-use Rattle.low_euler.specs.steps.Steps.{IsStanding, IsUnused, IsCorner, CanTake, with_edge, put_at, make_edge}
+use Rattle.euler_conditions.specs.Store.{Store, with_loop, fill, join, take_loop}
+use Rattle.low_euler.specs.steps.Steps.{IsStanding, IsUnused, IsCorner, CanTake, with_edge, put_before, put_at, make_edge}
 use Rattle.low_euler.proofs.steps_laws.StoreSteps.{remove-put_same}
 use Rattle.low_euler.proofs.steps_laws.TwoLoops as two
 use Rattle.low_euler.proofs.steps_laws.TwoLoops.{TwoLoops}
@@ -196,35 +196,43 @@ module _ (s : Store) (first second : Corner) (half : HalfEdge) (ok : Accepts s (
   in_corner : (g : HalfEdge) (q : ℕ) → loop_of M (code g) ≡ q → has_half M (code g) ≡ true → IsIn (code g) (items_of (content M q))
   in_corner g q e t = subst (λ k. IsIn (code g) (items_of (content M k))) e (cycle_there M sound (code g) t)
 
-  first_takes_at : (c : Corner) → corner_loop M c ≡ r → IsCorner M c → CanTake (state C D loose).model c
-  first_takes_at (At g) e t = two.standing_r N r l (face_of M r) (face_of M l) all loops C D fits_one (code g) (in_corner g r e t)
-  first_takes_at (Lone k) e t = (
-    ap (λ q. table.has (state C D loose).model.loops q) e ∙ ap is_some (two.get_r N r l (face_of M r) (face_of M l) all loops N.loops (record { face = face_of M r; content = C }) (record { face = face_of M l; content = D })),
-    ap (λ q. items_of (content (state C D loose).model q)) e ∙ ap items_of (two.content_r N r l (face_of M r) (face_of M l) all loops C D) ∙ none_in_lone C (ap (λ q. is_lone (content M q)) (sym e) ∙ t.1),
+  -- a corner of loop k of the model, in another one
+  takes_at : (Q : Model) (k : ℕ) → table.has Q.loops k ≡ true → content Q k ≡ content M k → ((x : ℕ) → IsIn x (items_of (content M k)) → IsStanding Q x) → (c : Corner) → corner_loop M c ≡ k → IsCorner M c → CanTake Q c
+  takes_at Q k there same stands (At g) e t = stands (code g) (in_corner g k e t)
+  takes_at Q k there same stands (Lone q) e t = (
+    ap (table.has Q.loops) e ∙ there,
+    ap (λ i. items_of (content Q i)) e ∙ ap items_of same ∙ none_in_lone (content M k) (ap (λ i. is_lone (content M i)) (sym e) ∙ t.1),
   )
 
+  -- x, which is alone in its ring, put at such a corner
+  put_corner : (t : Store) (k x : ℕ) → content t.model k ≡ content M k → ((g : ℕ) → IsIn g (items_of (content M k)) → loop_of t.model g ≡ k) → AreSingles t.loose → table.get t.loose x ≡ Some (x ∷ []) →
+      (c : Corner) → corner_loop M c ≡ k → IsCorner M c → put_at t c x ≡ record t { model = with_loop t.model k (cycle (canonical (x ∷ corner_list M c))); loose = table.remove t.loose x }
+  unfolding put_before fill
+  put_corner t k x same in_k each at (At g) e there =
+      let near : loop_of t.model (code g) ≡ k = in_k (code g) (in_corner g k e there) in
+      let ring : cycle_of t.model (code g) ≡ cycle_of M (code g) = ap (λ q. items_of (content t.model q)) near ∙ ap items_of same ∙ ap (λ q. items_of (content M q)) (sym e) in
+      λ i. record t { model = with_loop t.model (near i) (cycle (canonical (x ∷ rotate_to (code g) (ring i)))); loose = table.remove t.loose (key_is t x each at i) }
+  put_corner t k x same in_k each at (Lone q) e there =
+      (λ i. record t { model = with_loop t.model (e i) (cycle (ring_is t x each at i)); loose = table.remove t.loose (key_is t x each at i) })
+      ∙ ap (λ hs. record t { model = with_loop t.model k (cycle hs); loose = table.remove t.loose x }) (sym (canonical_one x))
+
   pub first_takes : CanTake edged.model first
-  first_takes = subst (λ (t : Store). CanTake t.model first) (sym edged_is) (first_takes_at first refl first_there)
+  first_takes = subst (λ (t : Store). CanTake t.model first) (sym edged_is)
+      (takes_at (state C D loose).model r (ap is_some (two.get_r N r l (face_of M r) (face_of M l) all loops N.loops (record { face = face_of M r; content = C }) (record { face = face_of M l; content = D })))
+      (two.content_r N r l (face_of M r) (face_of M l) all loops C D) (two.standing_r N r l (face_of M r) (face_of M l) all loops C D fits_one) first refl first_there)
 
   -- h and what the first corner's loop reads from there on
   abbrev ys : List ℕ
   ys = canonical (h ∷ Y)
 
-  key_h : loose_key (state C D loose) h ≡ h
-  key_h = key_is (state C D loose) h (pair_singles h m hm) (get_first h m hm)
+  abbrev left : Table (List ℕ)
+  left = table.remove loose h
 
-  put_first : (c : Corner) → corner_loop M c ≡ r → IsCorner M c → put_at (state C D loose) c h ≡ state (cycle (canonical (h ∷ corner_list M c))) D (table.remove loose h)
-  put_first (At g) e t =
-      two.put_before_r N r l (face_of M r) (face_of M l) all loops s.room C D loose fits_one (code g) h (in_corner g r e t)
-      ∙ ap (λ q. state (cycle (canonical (h ∷ rotate_to (code g) (items_of C)))) D (table.remove loose q)) key_h
-      ∙ ap (λ q. state (cycle (canonical (h ∷ rotate_to (code g) (items_of (content M q))))) D (table.remove loose h)) (sym e)
-  put_first (Lone k) e t =
-      two.fill_r N r l (face_of M r) (face_of M l) all loops s.room C D loose k h e
-      ∙ ap (λ q. state (cycle (loose_ring (state C D loose) h)) D (table.remove loose q)) key_h
-      ∙ ap (λ ring. state (cycle ring) D (table.remove loose h)) (ring_is (state C D loose) h (pair_singles h m hm) (get_first h m hm) ∙ sym (canonical_one h))
-
-  first_is : first_in ≡ state (cycle ys) D (table.remove loose h)
-  first_is = ap (λ t. put_at t first h) edged_is ∙ put_first first refl first_there
+  first_is : first_in ≡ state (cycle ys) D left
+  first_is = ap (λ t. put_at t first h) edged_is
+      ∙ put_corner (state C D loose) r h (two.content_r N r l (face_of M r) (face_of M l) all loops C D) (two.loop_r N r l (face_of M r) (face_of M l) all loops C D fits_one)
+      (pair_singles h m hm) (get_first h m hm) first refl first_there
+      ∙ two.new_r N r l (face_of M r) (face_of M l) all loops s.room C D (cycle ys) left r refl
 
   count_ys : (x : ℕ) → count x ys ≡ tick x h + count x (items_of C)
   count_ys x = count-canonical x (h ∷ Y) ∙ omega (arith, count_C x)
@@ -234,40 +242,20 @@ module _ (s : Store) (first second : Corner) (half : HalfEdge) (ok : Accepts s (
 
   -- ---- the second corner
 
-  abbrev left : Table (List ℕ)
-  left = table.remove loose h
-
-  second_takes_at : (c : Corner) → corner_loop M c ≡ l → IsCorner M c → CanTake (state (cycle ys) D left).model c
-  second_takes_at (At g) e t = two.standing_l N r l (face_of M r) (face_of M l) all loops (cycle ys) D fits_two (code g) (in_corner g l e t)
-  second_takes_at (Lone k) e t = (
-    ap (λ q. table.has (state (cycle ys) D left).model.loops q) e ∙ ap is_some (two.get_l N r l (face_of M r) (face_of M l) all loops N.loops (record { face = face_of M r; content = cycle ys }) (record { face = face_of M l; content = D })),
-    ap (λ q. items_of (content (state (cycle ys) D left).model q)) e ∙ ap items_of (two.content_l N r l (face_of M r) (face_of M l) all loops (cycle ys) D) ∙ none_in_lone D (ap (λ q. is_lone (content M q)) (sym e) ∙ t.1),
-  )
-
   pub second_takes : CanTake first_in.model second
-  second_takes = subst (λ (t : Store). CanTake t.model second) (sym first_is) (second_takes_at second refl second_there)
+  second_takes = subst (λ (t : Store). CanTake t.model second) (sym first_is)
+      (takes_at (state (cycle ys) D left).model l (ap is_some (two.get_l N r l (face_of M r) (face_of M l) all loops N.loops (record { face = face_of M r; content = cycle ys }) (record { face = face_of M l; content = D })))
+      (two.content_l N r l (face_of M r) (face_of M l) all loops (cycle ys) D) (two.standing_l N r l (face_of M r) (face_of M l) all loops (cycle ys) D fits_two) second refl second_there)
 
   abbrev xs : List ℕ
   xs = canonical (m ∷ X)
 
-  left_singles : AreSingles left
-  left_singles = singles_remove loose h (pair_singles h m hm)
-
-  key_m : loose_key (state (cycle ys) D left) m ≡ m
-  key_m = key_is (state (cycle ys) D left) m left_singles (left_second h m hm)
-
-  put_second : (c : Corner) → corner_loop M c ≡ l → IsCorner M c → put_at (state (cycle ys) D left) c m ≡ state (cycle ys) (cycle (canonical (m ∷ corner_list M c))) (table.remove left m)
-  put_second (At g) e t =
-      two.put_before_l N r l (face_of M r) (face_of M l) all loops s.room (cycle ys) D left fits_two (code g) m (in_corner g l e t)
-      ∙ ap (λ q. state (cycle ys) (cycle (canonical (m ∷ rotate_to (code g) (items_of D)))) (table.remove left q)) key_m
-      ∙ ap (λ q. state (cycle ys) (cycle (canonical (m ∷ rotate_to (code g) (items_of (content M q))))) (table.remove left m)) (sym e)
-  put_second (Lone k) e t =
-      two.fill_l N r l (face_of M r) (face_of M l) all loops s.room (cycle ys) D left k m e
-      ∙ ap (λ q. state (cycle ys) (cycle (loose_ring (state (cycle ys) D left) m)) (table.remove left q)) key_m
-      ∙ ap (λ ring. state (cycle ys) (cycle ring) (table.remove left m)) (ring_is (state (cycle ys) D left) m left_singles (left_second h m hm) ∙ sym (canonical_one m))
-
   second_is : second_in ≡ state (cycle ys) (cycle xs) table.empty
-  second_is = ap (λ t. put_at t second m) first_is ∙ put_second second refl second_there ∙ ap (state (cycle ys) (cycle xs)) (pair_gone h m hm)
+  second_is = ap (λ t. put_at t second m) first_is
+      ∙ put_corner (state (cycle ys) D left) l m (two.content_l N r l (face_of M r) (face_of M l) all loops (cycle ys) D) (two.loop_l N r l (face_of M r) (face_of M l) all loops (cycle ys) D fits_two)
+      (singles_remove loose h (pair_singles h m hm)) (left_second h m hm) second refl second_there
+      ∙ two.new_l N r l (face_of M r) (face_of M l) all loops s.room (cycle ys) D (cycle xs) (table.remove left m) l refl
+      ∙ ap (state (cycle ys) (cycle xs)) (pair_gone h m hm)
 
   count_xs : (x : ℕ) → count x xs ≡ tick x m + count x (items_of D)
   count_xs x = count-canonical x (m ∷ X) ∙ omega (arith, count_D x)

@@ -13,10 +13,10 @@ use Rattle.euler_operators.proofs.Rotations.{count-canonical, canonical_nil}
 use Rattle.euler_operators.proofs.Edits.{without_none}
 use Rattle.euler_operators.specs.HalfEdge.{mate, edge_of}
 use Rattle.euler_operators.specs.Table as table
-use Rattle.euler_operators.specs.Model.{Model, LoopContent, cycle, LoopRow, no_loop, items_of, holds, loop_of, content, face_of, cycle_of, before, tail}
+use Rattle.euler_operators.specs.Model.{Model, EdgeRow, LoopContent, cycle, LoopRow, no_loop, items_of, holds, loop_of, content, face_of, cycle_of, before, tail}
 use Rattle.euler_operators.specs.Sound.{Sound, HasHalf, StandsIn}
 use Rattle.euler_operators.proofs.Halves.{edge_of-mate}
-use Rattle.euler_operators.proofs.Tables.{map_one, get-put_other}
+use Rattle.euler_operators.proofs.Tables.{map_one, get-put_here, get-put_other}
 use Rattle.euler_operators.proofs.Models.{holds_in, in-holds, holds-none, content_row, held_row}
 use Rattle.euler_operators.specs.Effect.{edge_row, where_held, with_before, cycle_or_lone}
 use Rattle.euler_laws.proofs.shared.Loops.{count_out, count_gone, apart_out, light, loop_at}
@@ -244,16 +244,19 @@ module _ (s : Store) (placed : LoopsStandApart s.model) (g h : ℕ) (stands : Ha
 
 -- ---- a new edge
 
+pub half-put : (M : Model) (e : ℕ) (row : EdgeRow) (x : ℕ) → HasHalf M x → HasHalf (record M { edges = table.put M.edges e row }) x
+half-put M e row x t = elim (eqb_tells (edge_of x) e) [
+  | inl a ↦ ap (table.has (table.put M.edges e row)) a.1 ∙ ap is_some (get-put_here M.edges e row)
+  | inr a ↦ ap is_some (get-put_other M.edges e row (edge_of x) a.1) ∙ t
+]
+
 module _ (s : Store) (placed : LoopsStandApart s.model) (bare : s.loose ≡ table.empty) (h a b : ℕ) (free : table.get s.model.edges (edge_of h) ≡ None) where
   abbrev E : Store
   E = with_edge s h a b
 
   half_E : (x : ℕ) → HasHalf s.model x → HasHalf E.model x
   unfolding with_edge
-  half_E x t = elim (eqb_tells (edge_of x) (edge_of h)) [
-    | inl e ↦ absurd (true≢false (sym t ∙ ap is_some (ap (table.get s.model.edges) e.1 ∙ free)))
-    | inr e ↦ ap is_some (table.get-put s.model.edges (edge_of h) (edge_row h a b) (edge_of x) ∙ ap (λ c. cond c (Some (edge_row h a b)) (table.get s.model.edges (edge_of x))) e.0) ∙ t
-  ]
+  half_E x t = half-put s.model (edge_of h) (edge_row h a b) x t
 
   pub loops_E : E.model.loops ≡ s.model.loops
   unfolding with_edge

@@ -1,19 +1,19 @@
 -- Two loops of a sound model, also with a new edge whose half-edges are loose.
-use Rattle.std.proofs.Common.{◌≡◌, ◌≢◌, ℕ, ◌+◌, cond, List, ◌∷◌, ◌++◌, Some, None, is_some, refl, sym, ap, ◌∙◌, subst, arith, inl, inr}
-use Rattle.std.proofs.lemmas.Bool.Decides.{nat_tests, eqb_tells}
+use Rattle.std.proofs.Common.{◌≡◌, ◌≢◌, ℕ, ◌+◌, List, ◌∷◌, ◌++◌, None, is_some, refl, sym, ap, ◌∙◌, subst, arith, inl, inr}
+use Rattle.std.proofs.lemmas.Bool.Decides.{eqb_tells}
 use Rattle.euler_operators.specs.Items.{count, IsIn, IsApart}
 use Rattle.euler_operators.proofs.Lists.{count-append, tick_other, IsIn_or_not}
 use Rattle.euler_operators.proofs.Operators.{apart_front}
 use Rattle.euler_operators.specs.HalfEdge.{mate, edge_of}
 use Rattle.euler_operators.specs.Table as table
-use Rattle.euler_operators.specs.Table.{tables}
 use Rattle.euler_operators.specs.Model.{Model, EdgeRow, items_of, content}
 use Rattle.euler_operators.specs.Sound.{Sound, HasHalf}
 use Rattle.euler_operators.proofs.Halves.{mate_other, edge_of-mate}
+use Rattle.euler_operators.proofs.Tables.{get-put_here}
 use Rattle.euler_operators.proofs.Models.{in-holds}
 use Rattle.low_euler.proofs.steps_laws.TwoLoops.{TwoLoops}
 use Rattle.low_euler.specs.steps.Steps.{LoopsStandApart}
-use Rattle.low_euler.proofs.steps_laws.LoopsApart.{placed_of, free_none}
+use Rattle.low_euler.proofs.steps_laws.LoopsApart.{placed_of, free_none, half-put}
 
 module _ (M : Model) (sound : Sound M) where
   abbrev hs : ℕ → List ℕ
@@ -65,20 +65,11 @@ module _ (M : Model) (sound : Sound M) where
       abbrev m : ℕ
       m = mate h
 
-      row_there : table.get N.edges (edge_of h) ≡ Some row
-      row_there = grind (arith, nat_tests, tables)
-
-      half_N : (x : ℕ) → HasHalf M x → HasHalf N x
-      half_N x t = elim (eqb_tells (edge_of x) (edge_of h)) [
-        | inl e ↦ ap is_some (ap (table.get N.edges) e.1 ∙ row_there)
-        | inr e ↦ ap is_some (table.get-put M.edges (edge_of h) row (edge_of x) ∙ ap (λ b. cond b (Some row) (table.get M.edges (edge_of x))) e.0) ∙ t
-      ]
-
       pub half_h : HasHalf N h
-      half_h = ap is_some row_there
+      half_h = ap is_some (get-put_here M.edges (edge_of h) row)
 
       pub half_m : HasHalf N m
-      half_m = ap is_some (ap (table.get N.edges) (edge_of-mate h) ∙ row_there)
+      half_m = ap (table.has N.edges) (edge_of-mate h) ∙ half_h
 
       pub none_first : (q : ℕ) → count h (hs q) ≡ 0
       none_first = free_none M placed h free
@@ -112,7 +103,7 @@ module _ (M : Model) (sound : Sound M) where
         first_real = first;
         second_real = second;
         once = once_both;
-        there = which (HasHalf N) half_h half_m (λ x i. half_N x (sound_loops.there x i));
+        there = which (HasHalf N) half_h half_m (λ x i. half-put M (edge_of h) row x (sound_loops.there x i));
         others = λ x q i a b. ap (λ c. count x (items_of c)) (content_N q)
             ∙ which (λ y. count y (hs q) ≡ 0) (none_first q) (none_second q) (λ y j. sound_loops.others y q j a b) x i;
       }

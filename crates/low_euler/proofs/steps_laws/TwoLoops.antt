@@ -15,7 +15,7 @@ use Rattle.euler_operators.proofs.Tables.{put-put, put_turned}
 use Rattle.euler_operators.proofs.Models.{content_row, face_row, in-holds, holds_in}
 use Rattle.euler_operators.specs.Effect.{cycle_or_lone}
 use Rattle.euler_laws.proofs.shared.Loops.{loop_at}
-use Rattle.euler_conditions.specs.Store.{Store, Extents, loose_key, loose_ring, fill, join, join_loose, join_loops, cut_to}
+use Rattle.euler_conditions.specs.Store.{Store, Extents, loose_key, join, join_loose, join_loops, cut_to}
 use Rattle.low_euler.specs.steps.Steps.{IsStanding, put_before, take_out}
 
 -- two loops of a model, and half-edges that stand in no other loop
@@ -157,11 +157,11 @@ module _ (N : Model) (r l fr fl : ℕ) (all : List ℕ) (loops : TwoLoops N r l 
     state_r c d q f e z = record { model = record N { loops = table.put (holding c d).loops q (record { face = f; content = e }) }; loose = z; room = R }
 
     -- a new content of the first loop, or of the second
-    new_r : (c d e : LoopContent) (z : Table (List ℕ)) (q : ℕ) → q ≡ r → state_r c d q (face_of (holding c d) q) e z ≡ state e d z
+    pub new_r : (c d e : LoopContent) (z : Table (List ℕ)) (q : ℕ) → q ≡ r → state_r c d q (face_of (holding c d) q) e z ≡ state e d z
     new_r c d e z q a = ap (λ k. state_r c d k (face_of (holding c d) k) e z) a ∙ ap (λ f. state_r c d r f e z) (face_r c d)
         ∙ ap (λ t. record { model = record N { loops = t }; loose = z; room = R }) (put_r c d e)
 
-    new_l : (c d e : LoopContent) (z : Table (List ℕ)) (q : ℕ) → q ≡ l → state_r c d q (face_of (holding c d) q) e z ≡ state c e z
+    pub new_l : (c d e : LoopContent) (z : Table (List ℕ)) (q : ℕ) → q ≡ l → state_r c d q (face_of (holding c d) q) e z ≡ state c e z
     new_l c d e z q a = ap (λ k. state_r c d k (face_of (holding c d) k) e z) a ∙ ap (λ f. state_r c d l f e z) (face_l c d)
         ∙ ap (λ t. record { model = record N { loops = t }; loose = z; room = R }) (put_l c d e)
 
@@ -171,12 +171,6 @@ module _ (N : Model) (r l fr fl : ℕ) (all : List ℕ) (loops : TwoLoops N r l 
       put_before_r g h i =
           ap (λ hs. state_r c d (loop_of (holding c d) g) (face_of (holding c d) (loop_of (holding c d) g)) (cycle (put_ring h g hs)) (table.remove z (loose_key (state c d z) h))) (cycle_r c d fits g i)
           ∙ new_r c d (cycle (put_ring h g (items_of c))) (table.remove z (loose_key (state c d z) h)) (loop_of (holding c d) g) (loop_r c d fits g i)
-
-      pub put_before_l : (g h : ℕ) → IsIn g (items_of d) → put_before (state c d z) g h ≡ state c (cycle (put_ring h g (items_of d))) (table.remove z (loose_key (state c d z) h))
-      unfolding put_before
-      put_before_l g h i =
-          ap (λ hs. state_r c d (loop_of (holding c d) g) (face_of (holding c d) (loop_of (holding c d) g)) (cycle (put_ring h g hs)) (table.remove z (loose_key (state c d z) h))) (cycle_l c d fits g i)
-          ∙ new_l c d (cycle (put_ring h g (items_of d))) (table.remove z (loose_key (state c d z) h)) (loop_of (holding c d) g) (loop_l c d fits g i)
 
       tail_same : (x : ℕ) → tail (holding c d) x ≡ tail N x
       unfolding tail
@@ -195,15 +189,6 @@ module _ (N : Model) (r l fr fl : ℕ) (all : List ℕ) (loops : TwoLoops N r l 
           ap (λ hs. state_r c d (loop_of (holding c d) h) (face_of (holding c d) (loop_of (holding c d) h)) (cycle_or_lone (rest h hs) (tail (holding c d) h)) (table.put z h (h ∷ []))) (cycle_l c d fits h i)
           ∙ ap (λ v. state_r c d (loop_of (holding c d) h) (face_of (holding c d) (loop_of (holding c d) h)) (cycle_or_lone (rest h (items_of d)) v) (table.put z h (h ∷ []))) (tail_same h)
           ∙ new_l c d (cycle_or_lone (rest h (items_of d)) (tail N h)) (table.put z h (h ∷ [])) (loop_of (holding c d) h) (loop_l c d fits h i)
-
-    -- the first loop takes the ring of a loose half-edge, or the second does
-    pub fill_r : (c d : LoopContent) (z : Table (List ℕ)) (q h : ℕ) → q ≡ r → fill (state c d z) q h ≡ state (cycle (loose_ring (state c d z) h)) d (table.remove z (loose_key (state c d z) h))
-    unfolding fill
-    fill_r c d z q h e = new_r c d (cycle (loose_ring (state c d z) h)) (table.remove z (loose_key (state c d z) h)) q e
-
-    pub fill_l : (c d : LoopContent) (z : Table (List ℕ)) (q h : ℕ) → q ≡ l → fill (state c d z) q h ≡ state c (cycle (loose_ring (state c d z) h)) (table.remove z (loose_key (state c d z) h))
-    unfolding fill
-    fill_l c d z q h e = new_l c d (cycle (loose_ring (state c d z) h)) (table.remove z (loose_key (state c d z) h)) q e
 
     abbrev state_2 : LoopContent → LoopContent → ℕ → LoopRow → ℕ → LoopRow → Table (List ℕ) → Store
     state_2 c d q x k y z = record { model = record N { loops = table.put (table.put (holding c d).loops q x) k y }; loose = z; room = R }
