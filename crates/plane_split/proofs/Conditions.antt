@@ -1,10 +1,10 @@
 -- The conditions of a split: those that are tested first and what they say, and those that are tested once the faces are drawn.
-use Rattle.std.proofs.Common.{◌≡◌, ℕ, true, Some, is_some, unwrap_or, Result, Err, sym, ap, ◌∙◌}
+use Rattle.std.proofs.Common.{◌≡◌, ℕ, true, Some, Result, Err, sym, ap, ◌∙◌}
 use Rattle.euler_operators.specs.declared.Plane.{Plane}
 use Rattle.euler_operators.specs.Ranges.{IsCutPlane}
 use Rattle.euler_operators.proofs.Magnitudes.{coordinate_within, offset_within}
 use Rattle.euler_operators.specs.Table as table
-use Rattle.euler_operators.specs.Model.{Model, no_point, point_of}
+use Rattle.euler_operators.specs.Model.{Model}
 use Rattle.euler_operators.specs.Sound.{Sound, Has}
 use Rattle.euler_operators.specs.Conditions.{AllHold, first_refusal}
 use Rattle.euler_operators.specs.declared.Refusal.{Refusal}
@@ -15,8 +15,6 @@ use Rattle.shapes.specs.split.Drawing.{Drawing, straddling_pairs, with_drawings}
 use Rattle.shapes.specs.split.Split.{first_conditions, later_conditions, split_conditions, split_refusal}
 use Rattle.split_drawing_laws.specs.crossings.Laws.{CanBegin}
 use Rattle.split_drawing_laws.proofs.crossings.Whole.{crossings_keep}
-use Rattle.split_drawing_laws.specs.drawings.DrawnIn.{Stays}
-use Rattle.split_drawing_laws.proofs.drawings.Whole.{drawing_stays}
 use Rattle.split_drawing_laws.proofs.pairs.Whole.{can_be_drawn}
 use Rattle.split_laws.specs.drawn.Kept.{KeepsSolids}
 use Rattle.split_laws.proofs.drawn.Solids.{drawing_keeps}
@@ -57,17 +55,6 @@ module _ (M : Model) (s : ℕ) (p : Plane) (t : ℕ) where
     drawn_keeps : Sound M → KeepsSolids (with_crossings M s p).model (with_drawings M s p).model
     unfolding with_drawings
     drawn_keeps sound = drawing_keeps p (with_crossings M s p) (straddling_pairs M s p) (can_be_drawn M s p t sound begun)
-
-    drawn_stays : Sound M → Stays (with_crossings M s p).model (with_drawings M s p).model
-    unfolding with_drawings
-    drawn_stays sound = drawing_stays p (with_crossings M s p) (straddling_pairs M s p) (can_be_drawn M s p t sound begun)
-
-    -- each vertex is there at its point once the faces are drawn
-    pub points_still : Sound M → (d : Drawing) → d ≡ put_aside (with_drawings M s p) → (v : ℕ) → Has M.vertices v → Has d.model.vertices v × (point_of d.model v ≡ point_of M v)
-    unfolding point_of
-    points_still sound d e v there =
-        let row = ap (λ x. table.get x.model.vertices v) e ∙ ap (λ u. table.get u v) (drawn_stays sound).vertices ∙ (crossings_keep M s p t sound begun).points v there in
-        (ap is_some row ∙ there, ap (λ o. unwrap_or o no_point) row)
 
     -- the solid is there once its faces are drawn
     pub still_there : Sound M → (d : Drawing) → d ≡ put_aside (with_drawings M s p) → table.has d.model.solids s ≡ true

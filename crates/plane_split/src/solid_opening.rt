@@ -3,7 +3,6 @@
 mod caps;
 mod copies;
 mod cycle;
-mod halves;
 mod joinings;
 mod opening;
 mod parting;

@@ -58,7 +58,7 @@ fn take_steps(
     ensures model { (result ≡ Ok (Ok tt)) → (draft.new.model ≡ split_model draft.old.model s plane.now upper) }
     ensures session { draft.new.session ≡ draft.old.session }
 {
-    let drawn = draw_solid(alloc, draft, s, plane, cuts, &*sides)?;
+    let drawn = draw_solid(alloc, draft, s, plane, cuts, sides)?;
     let section = match check_later(alloc, draft.arena(), s, plane, &drawn, sides)? {
         Ok(section) => section,
         Err(refusal) => return Ok(Err(refusal)),

@@ -8,13 +8,10 @@ mod looking;
 mod meetings;
 mod noted;
 mod planes;
-mod rising;
-mod sides;
 
-pub use face_sides::face_side;
+pub use face_sides::{face_side, loop_side};
 pub(crate) use found::{FaceMet, Met};
 pub(crate) use halves::goes_up;
-pub use halves::starts_on;
-pub use noted::{Noted, Sides, none_noted};
-pub(crate) use rising::rising_meeting;
-pub use sides::loop_reaches;
+pub(crate) use meetings::meeting;
+pub use noted::{Noted, Sides, none_noted, start_side};
+pub use planes::same;

@@ -1,5 +1,4 @@
 //! What a plane cuts of a solid.
-use crate::cut_places::Sides;
 use euler_operators::{HalfEdge, Point};
 
 /// An edge that crosses the plane, and the point at which it meets it.
@@ -9,13 +8,11 @@ pub struct CutEdge {
     pub point: Point,
 }
 
-/// The edges that cross a plane, rising, and each of them with the point at which it meets the plane, in the same order; and the sides
-/// of the plane that are noted.
+/// The edges that cross a plane, rising, and each of them with the point at which it meets the plane, in the same order.
 #[derive(Clone, Copy)]
 pub(crate) struct Crossings<'a> {
     pub edges: &'a [u32],
     pub cut: &'a [CutEdge],
-    pub sides: &'a Sides,
 }
 
 /// Two half-edges of a face that tell, or start at, the cut places of a pair, the one that is up and the one that is down.

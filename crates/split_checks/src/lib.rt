@@ -25,7 +25,7 @@ mod place_order;
 mod progress;
 
 pub use begin_checks::check_begin;
-pub use cut_places::{Noted, Sides, face_side, loop_reaches, none_noted, starts_on};
+pub use cut_places::{Noted, Sides, face_side, loop_side, none_noted, same, start_side};
 pub use cuts::{CutEdge, Cuts, Pair, PairedFace};
 pub use progress::Progress;
 pub use solid_measure::{Vector, half_added, normal};

@@ -1,4 +1,3 @@
-pub mod Sorted
 pub mod Meetings
 pub mod Sums
 pub mod Chains

@@ -5,9 +5,10 @@ use Rattle.std.proofs.lemmas.List.{get_or-map, length-map}
 use Rattle.euler_operators.specs.declared.Point.{Point}
 use Rattle.euler_operators.specs.declared.HalfEdge.{HalfEdge}
 use Rattle.euler_operators.specs.declared.Corner.TheVariants.{At}
-use Rattle.euler_operators.specs.HalfEdge.{code, half, mate, plus, minus}
+use Rattle.euler_operators.specs.HalfEdge.{code, half, edge_of, mate, plus, minus}
 use Rattle.euler_operators.specs.Model.{Model, tail, point_of, after}
-use Rattle.euler_operators.proofs.Halves.{half-code}
+use Rattle.euler_operators.specs.Sound.{Has, HasHalf}
+use Rattle.euler_operators.proofs.Halves.{half-code, edge_of-code}
 use Rattle.euler_operators.specs.declared.Op.TheVariants.{Mev, Mef}
 use Rattle.shapes.specs.Fresh.{Taken}
 use Rattle.split_opening_laws.specs.strips.StripOps.{cut_strip, place_before, raise_copy}
@@ -33,6 +34,10 @@ module _ (X N : Model) (model : X ≡ N) (c : Taken) (hs : List HalfEdge) (i : �
 
   here : code (slice_index_or hs i d) ≡ get_or bs i 0
   here = item_is hs i d lt
+
+  -- the edge of its mate is there
+  pub next_there : (h : HalfEdge) → code h ≡ mate (code (slice_index_or hs i d)) → HasHalf N (mate (get_or (map code hs) i 0)) → Has X.edges h.edge
+  next_there h is_h there = subst (λ (Y : Model). Has Y.edges h.edge) (sym model) (subst (Has N.edges) (ap edge_of (sym (is_h ∙ ap mate here)) ∙ edge_of-code h) there)
 
   -- the operator that cuts the strip at a place off
   pub strip_op : (h next edge : HalfEdge) → code h ≡ mate (code (slice_index_or hs i d)) → code next ≡ after X (code h) → edge ≡ half (plus (c.edge + i + 1))

@@ -9,7 +9,7 @@ ghost use Rattle.split_drawing.specs.Counters.{taken_of};
 ghost use Rattle.split_opening_laws.specs.strips.StripOps as ops;
 ghost use Rattle.plane_split.specs.solid_opening.Stages.{CanOpen};
 
-use crate::solid_opening::halves::next_item;
+use euler_conditions::next;
 use euler_operators::{HalfEdge, Op};
 use split_drawing::Counters;
 use std::alloc::AllocError;
@@ -32,7 +32,7 @@ fn cut_strip(
     ensures err { OnErr result (draft.new ≡ draft.old) }
 {
     let mate = halves[at as usize].mate();
-    let next = next_item(draft.arena(), mate);
+    let next = next(draft.arena(), mate);
     let edge = HalfEdge::plus(from.edges + at + 1);
     draft.step_accepted(Op::Mef(mate, next, edge, from.faces + at + 1, from.loops + at + 1))
 }

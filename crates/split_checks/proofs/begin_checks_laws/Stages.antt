@@ -7,10 +7,10 @@ use Rattle.euler_operators.specs.declared.Plane.{Plane}
 use Rattle.euler_operators.specs.Ranges.{IsCutPlane}
 use Rattle.euler_operators.proofs.Magnitudes.{coordinate_within, offset_within}
 use Rattle.euler_operators.specs.Model.{Model, faces_of}
-use Rattle.euler_operators.specs.Conditions.{Condition, need, first_refusal}
+use Rattle.euler_operators.specs.Conditions.{Condition, need, first_refusal, verdict}
 use Rattle.euler_operators.specs.declared.Why.TheVariants.{PlaneMisses, NotLattice, NumbersSpent, TouchedFace, CutOften, CutCrossed}
 use Rattle.euler_operators.specs.declared.Refusal.{Refusal}
-use Rattle.euler_laws.proofs.shared.Goes.{all_hold}
+use Rattle.euler_laws.proofs.shared.Goes.{all_hold, verdict_passed, verdict_failed}
 use Rattle.shapes.proofs.fresh.Tests.{first_refusal-append, first_refusal-refused}
 use Rattle.shapes.specs.Fresh.{Taken, taken_in, numbers_left, no_such, first_such}
 use Rattle.shapes.specs.split.Places.{is_touched, is_cut_often, is_crossed, pair_count}
@@ -105,25 +105,25 @@ module _ (M : Model) (s : ℕ) (p : Plane) (t : ℕ) where
   unfolding first_conditions
   all_is = refl
 
-  pub cut_plane : first_refusal (plane_in_range p) ≡ None → IsCutPlane p
-  cut_plane e = let h = all_hold (plane_in_range p) e in ((coordinate_within p.a h.0, coordinate_within p.b h.1.0, coordinate_within p.c h.1.1.0), offset_within p.d h.1.1.1.0)
+  pub cut_plane : (u : Unit {0}) → Ok u ≡ verdict (first_refusal (plane_in_range p)) → IsCutPlane p
+  cut_plane u e = let h = all_hold (plane_in_range p) (verdict_passed _ u e) in ((coordinate_within p.a h.0, coordinate_within p.b h.1.0, coordinate_within p.c h.1.1.0), offset_within p.d h.1.1.1.0)
 
-  pub numbers_refused : (r : Refusal) → first_refusal (number_conditions M s t) ≡ Some r → first_refusal (first_conditions M s p t) ≡ Some r
-  numbers_refused r e = ap first_refusal all_is ∙ first_refusal-refused (number_conditions M s t) (plane_in_range p ++ (solid_conditions M s ++ sectioning_conditions M s p)) r e
+  pub numbers_refused : (r : Refusal) → Err r ≡ verdict (first_refusal (number_conditions M s t)) → first_refusal (first_conditions M s p t) ≡ Some r
+  numbers_refused r e = ap first_refusal all_is ∙ first_refusal-refused (number_conditions M s t) (plane_in_range p ++ (solid_conditions M s ++ sectioning_conditions M s p)) r (verdict_failed _ r e)
 
-  module _ (known : first_refusal (number_conditions M s t) ≡ None) where
+  module _ (u : Unit {0}) (known : Ok u ≡ verdict (first_refusal (number_conditions M s t))) where
     after_numbers : first_refusal (plane_in_range p ++ (solid_conditions M s ++ sectioning_conditions M s p)) ≡ first_refusal (first_conditions M s p t)
-    after_numbers = sym (first_refusal-append (number_conditions M s t) (plane_in_range p ++ (solid_conditions M s ++ sectioning_conditions M s p)) known) ∙ ap first_refusal (sym all_is)
+    after_numbers = sym (first_refusal-append (number_conditions M s t) (plane_in_range p ++ (solid_conditions M s ++ sectioning_conditions M s p)) (verdict_passed _ u known)) ∙ ap first_refusal (sym all_is)
 
-    pub range_refused : (r : Refusal) → first_refusal (plane_in_range p) ≡ Some r → first_refusal (first_conditions M s p t) ≡ Some r
-    range_refused r e = sym after_numbers ∙ first_refusal-refused (plane_in_range p) (solid_conditions M s ++ sectioning_conditions M s p) r e
+    pub range_refused : (r : Refusal) → Err r ≡ verdict (first_refusal (plane_in_range p)) → first_refusal (first_conditions M s p t) ≡ Some r
+    range_refused r e = sym after_numbers ∙ first_refusal-refused (plane_in_range p) (solid_conditions M s ++ sectioning_conditions M s p) r (verdict_failed _ r e)
 
-    module _ (range : first_refusal (plane_in_range p) ≡ None) where
+    module _ (v : Unit {0}) (range : Ok v ≡ verdict (first_refusal (plane_in_range p))) where
       after_range : first_refusal (solid_conditions M s ++ sectioning_conditions M s p) ≡ first_refusal (first_conditions M s p t)
-      after_range = sym (first_refusal-append (plane_in_range p) (solid_conditions M s ++ sectioning_conditions M s p) range) ∙ after_numbers
+      after_range = sym (first_refusal-append (plane_in_range p) (solid_conditions M s ++ sectioning_conditions M s p) (verdict_passed _ v range)) ∙ after_numbers
 
-      pub solid_refused : (r : Refusal) → first_refusal (solid_conditions M s) ≡ Some r → first_refusal (first_conditions M s p t) ≡ Some r
-      solid_refused r e = sym after_range ∙ first_refusal-refused (solid_conditions M s) (sectioning_conditions M s p) r e
+      pub solid_refused : (r : Refusal) → Err r ≡ verdict (first_refusal (solid_conditions M s)) → first_refusal (first_conditions M s p t) ≡ Some r
+      solid_refused r e = sym after_range ∙ first_refusal-refused (solid_conditions M s) (sectioning_conditions M s p) r (verdict_failed _ r e)
 
-      pub section_decides : first_refusal (solid_conditions M s) ≡ None → first_refusal (sectioning_conditions M s p) ≡ first_refusal (first_conditions M s p t)
-      section_decides solid = sym (first_refusal-append (solid_conditions M s) (sectioning_conditions M s p) solid) ∙ after_range
+      pub section_decides : (w : Unit {0}) → Ok w ≡ verdict (first_refusal (solid_conditions M s)) → first_refusal (sectioning_conditions M s p) ≡ first_refusal (first_conditions M s p t)
+      section_decides w solid = sym (first_refusal-append (solid_conditions M s) (sectioning_conditions M s p) (verdict_passed _ w solid)) ∙ after_range

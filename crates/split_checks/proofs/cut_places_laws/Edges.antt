@@ -35,7 +35,7 @@ use Rattle.shapes.proofs.walks.FaceLoops.{different_items, items_counted, items_
 use Rattle.shapes.proofs.walks.SolidFaces.{solid_loops, all_loops_apart, loop_in_solid, solid_has_loop, face_of_loop, listed_face}
 
 -- an item of a loop stands among the items of some loops with it
-item_of : (M : Model) (ls : List ℕ) (l x : ℕ) → IsIn l ls → IsIn x (items_of (content M l)) → IsIn x (items_in M ls)
+pub item_of : (M : Model) (ls : List ℕ) (l x : ℕ) → IsIn l ls → IsIn x (items_of (content M l)) → IsIn x (items_in M ls)
 item_of M [] l x i j = absurd (omega arith)
 item_of M (k ∷ ls) l x i j = elim (eqb_tells l k) [
   | inl e ↦ omega (arith, count-append x (items_of (content M k)) (items_in M ls), j, ap (λ m. count x (items_of (content M m))) e.1)

@@ -1,11 +1,12 @@
 -- Sides that are noted, and the side that corners reach.
-use Rattle.std.proofs.Common.{◌≡◌, ◌≢◌, ℕ, zero, suc, Bool, true, false, List, [], ◌∷◌, replicate, slice_index_or, slice_set, refl, sym, ap, ◌∙◌, true≢false}
+use Rattle.std.proofs.Common.{◌≡◌, ◌≢◌, ℕ, zero, suc, Bool, true, false, List, [], ◌∷◌, replicate, slice_index_or, slice_set, is_some, unwrap_or, refl, sym, ap, ◌∙◌, true≢false}
 use Rattle.euler_operators.specs.declared.Plane.{Plane}
 use Rattle.euler_operators.specs.declared.Sign.{Sign}
 use Rattle.euler_operators.specs.declared.Sign.TheVariants.{Below, On, Above}
 use Rattle.euler_operators.specs.declared.Content.TheVariants.{Lone}
 use Rattle.euler_operators.specs.Vectors.{height, sign_of}
-use Rattle.euler_operators.specs.Model.{Model, LoopContent, lone, cycle, is_number, point_of}
+use Rattle.euler_operators.specs.Table as table
+use Rattle.euler_operators.specs.Model.{Model, LoopContent, lone, cycle, is_number, no_point, point_of}
 use Rattle.euler_operators.specs.Sound.{Sound, Has}
 use Rattle.euler_conditions.specs.Store.{Tells}
 use Rattle.shapes.specs.Faces.{vertices_on}
@@ -37,13 +38,14 @@ module _ (M : Model) (p : Plane) where
   pub told_of : Sound M → (n : Noted) (v : ℕ) → (n.vertex ≢ 0 → IsSide M p n) → n.vertex ≡ v → Has M.vertices v → n.side ≡ sign_of (height p (point_of M v))
   told_of sound n v right e there = (right (λ z. true≢false (sym (sound.vertices_fit v there) ∙ ap is_number (sym e ∙ z)))).side ∙ ap (λ u. sign_of (height p (point_of M u))) e
 
--- points that stay keep their sides
-pub noted_still : (M N : Model) (p : Plane) → ((v : ℕ) → Has M.vertices v → Has N.vertices v × (point_of N v ≡ point_of M v)) → (ns : List Noted) → AreNoted M p ns → AreNoted N p ns
+-- vertices whose rows stay keep their sides
+pub noted_still : (M N : Model) (p : Plane) → ((v : ℕ) → Has M.vertices v → table.get N.vertices v ≡ table.get M.vertices v) → (ns : List Noted) → AreNoted M p ns → AreNoted N p ns
+unfolding point_of
 noted_still M N p stay [] are = tt
 noted_still M N p stay (n ∷ ns) are = (
   λ ne.
-      let is = are.0 ne in let still = stay n.vertex is.there in
-      record { there = still.0; side = is.side ∙ ap (λ q. sign_of (height p q)) (sym still.1) },
+      let is = are.0 ne in let row = stay n.vertex is.there in
+      record { there = ap is_some row ∙ is.there; side = is.side ∙ ap (λ o. sign_of (height p (unwrap_or o no_point))) (sym row) },
   noted_still M N p stay ns are.1,
 )
 

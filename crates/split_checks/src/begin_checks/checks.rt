@@ -17,7 +17,7 @@ use crate::begin_checks::crossings::cut_edges;
 use crate::begin_checks::flaws::{Flaw, first_flawed};
 use crate::begin_checks::numbers::{TOO_MANY, check_left};
 use crate::begin_checks::planes::check_plane;
-use crate::cut_places::{FaceMet, Met, Sides, rising_meeting};
+use crate::cut_places::{FaceMet, Met, Sides, meeting};
 use crate::cuts::{Crossings, Cuts, Pair, PairedFace};
 use crate::face_pairs::pairs_of_faces;
 use euler_conditions::Arena;
@@ -78,6 +78,7 @@ fn check_faces(
     alloc: Global,
     arena: &Arena,
     plane: Plane,
+    sides: &mut Sides,
     crossings: Crossings<'_>,
     faces: &[FaceMet],
     places: &[HalfEdge],
@@ -85,9 +86,10 @@ fn check_faces(
     requires ready { IsReady arena.now }
     requires plane { IsCutPlane plane }
     requires crossings { AreCrossings arena.now.model plane crossings.edges.now crossings.cut.now }
-    requires sides { AreSides arena.now.model plane crossings.sides.now }
+    requires sides { AreSides arena.now.model plane sides.old }
     requires whole { AreFacesAlong arena.now.model plane crossings.edges.now (faces_in faces.now) }
     requires told { AreTold arena.now.model plane faces.now (map code places.now) }
+    ensures sides { AreSides arena.now.model plane sides.new }
     ensures accepted { IfOk result (λ checked. IfOk checked (λ _. first_refusal (face_conditions arena.now.model plane (faces_in faces.now)) ≡ None)) }
     ensures faces { IfOk result (λ checked. IfOk checked (λ paired. paired.0.items ≡ map (paired_face arena.now.model plane) (faces_in faces.now))) }
     ensures pairs { IfOk result (λ checked. IfOk checked (λ paired. map codes paired.1.items ≡ all_pairs arena.now.model plane (faces_in faces.now))) }
@@ -99,7 +101,7 @@ fn check_faces(
     if let Some(f) = first_flawed(Flaw::CutOften, faces) {
         return Ok(Err(refusal(Why::CutOften, f)));
     }
-    match pairs_of_faces(alloc, arena, plane, crossings, faces, places)? {
+    match pairs_of_faces(alloc, arena, plane, sides, crossings, faces, places)? {
         Ok(paired) => Ok(Ok(paired)),
         Err(f) => Ok(Err(refusal(Why::CutCrossed, f))),
     }
@@ -110,14 +112,15 @@ fn check_cuts(
     alloc: Global,
     arena: &Arena,
     plane: Plane,
-    sides: &Sides,
+    sides: &mut Sides,
     s: u32,
     met: &Met,
 ) -> Result<Result<Cuts, Refusal>, AllocError>
     requires ready { IsReady arena.now }
     requires plane { IsCutPlane plane }
-    requires sides { AreSides arena.now.model plane sides.now }
+    requires sides { AreSides arena.now.model plane sides.old }
     requires met { IsSolidMet arena.now.model plane s met.now }
+    ensures sides { AreSides arena.now.model plane sides.new }
     ensures accepted { IfOk result (λ checked. IfOk checked (λ _. first_refusal (cut_conditions arena.now.model plane (crossing_edges arena.now.model plane s) (straddling_faces arena.now.model plane s)) ≡ None)) }
     ensures cuts { IfOk result (λ checked. IfOk checked (λ cuts. AreCuts arena.now.model plane s cuts)) }
     ensures refused { IfOk result (λ checked. IfErr checked (λ refusal. first_refusal (cut_conditions arena.now.model plane (crossing_edges arena.now.model plane s) (straddling_faces arena.now.model plane s)) ≡ Some refusal)) }
@@ -130,11 +133,12 @@ fn check_cuts(
     let crossings = Crossings {
         edges,
         cut: cut.as_slice(),
-        sides,
     };
     let places = met.looked.places.as_slice();
     let straddling = met.faces.as_slice();
-    let (faces, pairs) = match check_faces(alloc, arena, plane, crossings, straddling, places)? {
+    let (faces, pairs) = match check_faces(
+        alloc, arena, plane, sides, crossings, straddling, places,
+    )? {
         Ok(paired) => paired,
         Err(refusal) => return Ok(Err(refusal)),
     };
@@ -164,11 +168,11 @@ fn check_section(
     ensures refused { IfOk result (λ checked. IfErr checked (λ refusal. first_refusal (sectioning_conditions arena.now.model s plane) ≡ Some refusal)) }
     ensures sides { AreSides arena.now.model plane sides.new }
 {
-    let met = rising_meeting(alloc, arena, plane, sides, s)?;
+    let met = meeting(alloc, arena, plane, sides, s)?;
     if !is_met(&met) {
         return Ok(Err(refusal(Why::PlaneMisses, s)));
     }
-    check_cuts(alloc, arena, plane, &*sides, s, &met)
+    check_cuts(alloc, arena, plane, sides, s, &met)
 }
 
 /// What the plane cuts of solid s, where it can begin to split s, whose upper part is to be solid `upper`: the conditions that are
@@ -184,8 +188,8 @@ fn check_section(
 /// with 2, 3, 4 or 5 where no numbers are left for the faces, loops, edges or vertices that cutting the edges and the faces takes.
 ///
 /// It looks at the faces of s alone, at each a few times. On which side of the plane a corner lies it computes where that isn't noted in
-/// `sides`, and besides for the two corners next to one that lies on the plane. It takes n log n steps for n edges that cross, and for n
-/// cut places of a face. `AllocError` where memory is refused.
+/// `sides`, and notes it then. It takes n log n steps for n edges that cross, and for n cut places of a face. `AllocError` where memory is
+/// refused.
 pub fn check_begin(
     alloc: Global,
     arena: &Arena,

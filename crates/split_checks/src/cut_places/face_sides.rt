@@ -46,8 +46,9 @@ fn ring_side(arena: &Arena, plane: Plane, sides: &mut Sides, h: HalfEdge) -> Sig
     }
 }
 
-/// The side that loop l reaches.
-fn loop_side(arena: &Arena, plane: Plane, sides: &mut Sides, l: u32) -> Sign
+/// The side that loop l reaches: above where it has a corner above the plane, or else below where it has one below, or else on. It takes
+/// no memory.
+pub fn loop_side(arena: &Arena, plane: Plane, sides: &mut Sides, l: u32) -> Sign
     requires ready { IsReady arena.now }
     requires there { has_number arena.now Kind.Loop l ≡ true }
     requires plane { IsCutPlane plane }
@@ -61,8 +62,7 @@ fn loop_side(arena: &Arena, plane: Plane, sides: &mut Sides, l: u32) -> Sign
     }
 }
 
-/// The side that face f reaches: above where it has a corner above the plane, or else below where it has one below, or else on. It
-/// takes no memory, and looks at each corner once.
+/// The side that face f reaches, as a loop does. It takes no memory, and looks at each corner once.
 pub fn face_side(arena: &Arena, plane: Plane, sides: &mut Sides, f: u32) -> Sign
     requires ready { IsReady arena.now }
     requires there { has_number arena.now Kind.Face f ≡ true }

@@ -35,6 +35,7 @@ fn mark_side(looked: &mut Looked, side: Sign)
 fn look_at(
     arena: &Arena,
     plane: Plane,
+    sides: &mut Sides,
     h: HalfEdge,
     from: Sign,
     to: Sign,
@@ -43,9 +44,11 @@ fn look_at(
     requires ready { IsReady arena.now }
     requires there { has_half arena.now.model (code h) ≡ true }
     requires plane { IsCutPlane plane }
+    requires sides { AreSides arena.now.model plane sides.old }
     requires from { from ≡ sign_of (height plane (start arena.now.model (code h))) }
     requires to { to ≡ sign_of (height plane (finish arena.now.model (code h))) }
-    ensures { OnOk result (IsMet arena.now.model plane looked.old looked.new (code h ∷ []) (tail arena.now.model (code h) ∷ [])) }
+    ensures sides { AreSides arena.now.model plane sides.new }
+    ensures met { OnOk result (IsMet arena.now.model plane looked.old looked.new (code h ∷ []) (tail arena.now.model (code h) ∷ [])) }
 {
     mark_side(looked, from);
     if opposite(from, to) {
@@ -54,7 +57,7 @@ fn look_at(
         }
         looked.places.push(h)?;
     } else if same(from, Sign::On) {
-        if passes(arena, plane, h) {
+        if passes(arena, plane, sides, h, to) {
             looked.places.push(h)?;
         } else {
             looked.touched = true;
@@ -84,7 +87,7 @@ fn look_round(
     'round: loop {
         let next = arena.next(at);
         let to = start_side(arena, plane, sides, next);
-        look_at(arena, plane, at, from, to, looked)?;
+        look_at(arena, plane, sides, at, from, to, looked)?;
         if next == first {
             return Ok(());
         }

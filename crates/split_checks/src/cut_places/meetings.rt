@@ -1,13 +1,13 @@
 //! What a plane meets of a solid, found in one walk over its faces.
 ghost use Rattle.std.specs.Prelude.{◌≡◌, ◌&&◌, ◌||◌, [], true, false, not, nat_eq, IfOk, OnOk};
 ghost use Rattle.std.specs.List.{list_all};
-ghost use Rattle.euler_operators.specs.Model.{faces_of, rings_of};
+ghost use Rattle.euler_operators.specs.Model.{rings_of};
 ghost use Rattle.euler_operators.specs.Ranges.{IsCutPlane};
 ghost use Rattle.euler_conditions.specs.Ready.{IsReady};
 ghost use Rattle.euler_conditions.specs.Store.{has_number};
 ghost use Rattle.shapes.specs.Faces.{boundary, corners, items_in, vertices_in};
 ghost use Rattle.shapes.specs.split.Places.{is_cut_often, loop_is_cut};
-ghost use Rattle.split_checks.specs.cut_places.Meetings.{IsFaceMet, IsMet, IsMeeting, unmarked};
+ghost use Rattle.split_checks.specs.cut_places.Meetings.{IsFaceMet, IsMet, IsSolidMet, unmarked};
 ghost use Rattle.split_checks.specs.cut_places.Noted.{AreSides};
 
 use crate::cut_places::found::{FaceMet, Looked, Met};
@@ -144,7 +144,7 @@ fn nothing_met(alloc: Global) -> Met
     }
 }
 
-/// What the plane meets of solid s. It walks twice round each loop, and looks at each corner once.
+/// What the plane meets of solid s, with the edges that cross it rising. It walks twice round each loop, and looks at each corner once.
 pub(crate) fn meeting(
     alloc: Global,
     arena: &Arena,
@@ -156,7 +156,7 @@ pub(crate) fn meeting(
     requires plane { IsCutPlane plane }
     requires sides { AreSides arena.now.model plane sides.old }
     ensures sides { AreSides arena.now.model plane sides.new }
-    ensures met { IfOk result (λ met. IsMeeting arena.now.model plane (faces_of arena.now.model s) met) }
+    ensures met { IfOk result (λ met. IsSolidMet arena.now.model plane s met) }
 {
     let mut met = nothing_met(alloc);
     let mut last = 0;
@@ -164,5 +164,6 @@ pub(crate) fn meeting(
         look_at_face(arena, plane, sides, f, &mut met)?;
         last = f;
     }
+    met.looked.edges.sort()?;
     Ok(met)
 }

@@ -24,9 +24,8 @@ pub struct Noted {
     pub side: Sign,
 }
 
-/// The sides of vertices, each at the place of its number modulo 32. Of vertices with one place the last one noted stands there, so
-/// those of up to 32 numbers in a row are each computed once. A test of the number tells a vertex from others with its place. At cut
-/// places sides are looked up here, and computed where they aren't noted, but not noted then.
+/// The sides of vertices, each at the place of its number modulo 32. Of vertices with one place the last one asked for stands there, so
+/// those of up to 32 numbers in a row are each computed once. A test of the number tells a vertex from others with its place.
 #[derive(Drop)]
 pub struct Sides {
     pub noted: [Noted; 32],
@@ -41,23 +40,6 @@ pub fn none_noted() -> Sides
         side: Sign::Below,
     };
     Sides { noted: [none; 32] }
-}
-
-/// On which side of the plane vertex v lies, as noted, or else computed; it notes nothing.
-#[inline(always)]
-pub(crate) fn known_side(arena: &Arena, plane: Plane, sides: &Sides, v: u32) -> Sign
-    requires ready { IsReady arena.now }
-    requires there { has_number arena.now Kind.Vertex v ≡ true }
-    requires plane { IsCutPlane plane }
-    requires sides { AreSides arena.now.model plane sides.now }
-    ensures is { result ≡ sign_of (height plane (point_of arena.now.model v)) }
-{
-    let noted = sides.noted[(v % PLACES) as usize];
-    if noted.vertex == v {
-        noted.side
-    } else {
-        side_of(plane, arena.point(v))
-    }
 }
 
 /// On which side of the plane vertex v lies, as noted, or else computed, and noted then.
@@ -82,7 +64,7 @@ pub(crate) fn vertex_side(arena: &Arena, plane: Plane, sides: &mut Sides, v: u32
 
 /// On which side of the plane the half-edge starts, as noted, or else computed, and noted then.
 #[inline(always)]
-pub(crate) fn start_side(arena: &Arena, plane: Plane, sides: &mut Sides, h: HalfEdge) -> Sign
+pub fn start_side(arena: &Arena, plane: Plane, sides: &mut Sides, h: HalfEdge) -> Sign
     requires ready { IsReady arena.now }
     requires there { has_half arena.now.model (code h) ≡ true }
     requires plane { IsCutPlane plane }
@@ -91,16 +73,4 @@ pub(crate) fn start_side(arena: &Arena, plane: Plane, sides: &mut Sides, h: Half
     ensures sides { AreSides arena.now.model plane sides.new }
 {
     vertex_side(arena, plane, sides, arena.tail(h))
-}
-
-/// On which side of the plane the half-edge starts, as noted, or else computed; it notes nothing.
-#[inline(always)]
-pub(crate) fn known_start(arena: &Arena, plane: Plane, sides: &Sides, h: HalfEdge) -> Sign
-    requires ready { IsReady arena.now }
-    requires there { has_half arena.now.model (code h) ≡ true }
-    requires plane { IsCutPlane plane }
-    requires sides { AreSides arena.now.model plane sides.now }
-    ensures is { result ≡ sign_of (height plane (start arena.now.model (code h))) }
-{
-    known_side(arena, plane, sides, arena.tail(h))
 }

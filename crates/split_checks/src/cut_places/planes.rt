@@ -2,13 +2,13 @@
 ghost use Rattle.std.specs.Prelude.{◌≡◌, ◌*ℤ◌, true};
 ghost use Rattle.euler_operators.specs.Points.{IsInRange, is_coordinate};
 ghost use Rattle.euler_operators.specs.Ranges.{IsCutPlane, IsWithin};
-ghost use Rattle.euler_operators.specs.Vectors.{are_opposite, height, sign_of};
-ghost use Rattle.split_checks.specs.cut_places.Sides.{lies, opposite_signs, same_sign};
+ghost use Rattle.euler_operators.specs.Vectors.{height, sign_of};
+ghost use Rattle.split_checks.specs.cut_places.Sides.{opposite_signs, same_sign};
 
 use euler_operators::{Plane, Point, Sign};
 
 /// Whether two signs are one.
-pub(crate) fn same(a: Sign, b: Sign) -> bool
+pub fn same(a: Sign, b: Sign) -> bool
     ensures { result ≡ same_sign a b }
 {
     match (a, b) {
@@ -64,23 +64,4 @@ pub(crate) fn side_of(plane: Plane, p: Point) -> Sign
     } else {
         Sign::On
     }
-}
-
-/// Whether the point lies on that side of the plane.
-pub(crate) fn lies(plane: Plane, p: Point, sign: Sign) -> bool
-    requires plane { IsCutPlane plane }
-    requires p { IsInRange p }
-    ensures { result ≡ lies sign plane p }
-{
-    same(side_of(plane, p), sign)
-}
-
-/// Whether the points lie strictly on opposite sides of the plane.
-pub(crate) fn are_opposite(plane: Plane, p: Point, q: Point) -> bool
-    requires plane { IsCutPlane plane }
-    requires p { IsInRange p }
-    requires q { IsInRange q }
-    ensures { result ≡ are_opposite plane p q }
-{
-    opposite(side_of(plane, p), side_of(plane, q))
 }

@@ -11,7 +11,7 @@ ghost use Rattle.split_checks.specs.cut_places.Noted.{AreSides};
 ghost use Rattle.split_checks.specs.cut_places.Places.{AreFacesAlong};
 ghost use Rattle.split_checks.specs.place_order.Order.{AreCrossings};
 
-use crate::cut_places::FaceMet;
+use crate::cut_places::{FaceMet, Sides};
 use crate::cuts::{Crossings, Pair, PairedFace};
 use crate::face_pairs::pairs::push_pairs;
 use euler_conditions::Arena;
@@ -24,6 +24,7 @@ pub(crate) fn pairs_of_faces(
     alloc: Global,
     arena: &Arena,
     plane: Plane,
+    sides: &mut Sides,
     crossings: Crossings<'_>,
     faces: &[FaceMet],
     places: &[HalfEdge],
@@ -31,9 +32,10 @@ pub(crate) fn pairs_of_faces(
     requires ready { IsReady arena.now }
     requires plane { IsCutPlane plane }
     requires crossings { AreCrossings arena.now.model plane crossings.edges.now crossings.cut.now }
-    requires sides { AreSides arena.now.model plane crossings.sides.now }
+    requires sides { AreSides arena.now.model plane sides.old }
     requires whole { AreFacesAlong arena.now.model plane crossings.edges.now (faces_in faces.now) }
     requires told { AreTold arena.now.model plane faces.now (map code places.now) }
+    ensures sides { AreSides arena.now.model plane sides.new }
     ensures uncrossed { IfOk result (λ found. IfOk found (λ _. first_such (is_crossed arena.now.model plane) (faces_in faces.now) ≡ None)) }
     ensures faces { IfOk result (λ found. IfOk found (λ paired. paired.0.items ≡ map (paired_face arena.now.model plane) (faces_in faces.now))) }
     ensures pairs { IfOk result (λ found. IfOk found (λ paired. map codes paired.1.items ≡ all_pairs arena.now.model plane (faces_in faces.now))) }
@@ -45,7 +47,7 @@ pub(crate) fn pairs_of_faces(
     let mut left = places;
     'faces: while let [met, others @ ..] = rest {
         let (mine, more) = left.split_at(met.places);
-        let are_paired = push_pairs(alloc, arena, plane, crossings, mine, &mut pairs)?;
+        let are_paired = push_pairs(alloc, arena, plane, sides, crossings, mine, &mut pairs)?;
         if !are_paired {
             return Ok(Err(met.face));
         }

@@ -24,7 +24,7 @@ use std::alloc::{AllocError, Global};
 fn up_and_down(
     arena: &Arena,
     plane: Plane,
-    sides: &Sides,
+    sides: &mut Sides,
     first: HalfEdge,
     second: HalfEdge,
 ) -> Option<Pair>
@@ -32,7 +32,8 @@ fn up_and_down(
     requires first { has_half arena.now.model (code first) ≡ true }
     requires second { has_half arena.now.model (code second) ≡ true }
     requires plane { IsCutPlane plane }
-    requires sides { AreSides arena.now.model plane sides.now }
+    requires sides { AreSides arena.now.model plane sides.old }
+    ensures sides { AreSides arena.now.model plane sides.new }
     ensures differ { is_some result ≡ is_up_and_down arena.now.model plane (code first, code second) }
     ensures pair { IfSome result (λ pair. codes pair ≡ up_first arena.now.model plane (code first, code second)) }
 {
@@ -57,6 +58,7 @@ fn up_and_down(
 fn only_pair(
     arena: &Arena,
     plane: Plane,
+    sides: &mut Sides,
     crossings: Crossings<'_>,
     first: HalfEdge,
     second: HalfEdge,
@@ -64,23 +66,25 @@ fn only_pair(
     requires ready { IsReady arena.now }
     requires plane { IsCutPlane plane }
     requires crossings { AreCrossings arena.now.model plane crossings.edges.now crossings.cut.now }
-    requires sides { AreSides arena.now.model plane crossings.sides.now }
+    requires sides { AreSides arena.now.model plane sides.old }
     requires first { IsPlaceAlong arena.now.model plane crossings.edges.now (code first) }
     requires second { IsPlaceAlong arena.now.model plane crossings.edges.now (code second) }
+    ensures sides { AreSides arena.now.model plane sides.new }
     ensures crossed { is_none result ≡ same_point (place_point arena.now.model plane (code first)) (place_point arena.now.model plane (code second)) || not (is_up_and_down arena.now.model plane (code first, code second)) }
     ensures pair { IfSome result (λ pair. codes pair ∷ [] ≡ map (up_first arena.now.model plane) (in_pairs (sorted arena.now.model plane (code first ∷ code second ∷ [])))) }
 {
-    let met = place_point(arena, plane, crossings, first);
-    if met == place_point(arena, plane, crossings, second) {
+    let met = place_point(arena, plane, sides, crossings, first);
+    if met == place_point(arena, plane, sides, crossings, second) {
         return None;
     }
-    up_and_down(arena, plane, crossings.sides, first, second)
+    up_and_down(arena, plane, sides, first, second)
 }
 
 /// Adds the pair of two cut places, the only ones of a face, where they are in pairs. It tells whether they are.
 fn push_only_pair(
     arena: &Arena,
     plane: Plane,
+    sides: &mut Sides,
     crossings: Crossings<'_>,
     first: HalfEdge,
     second: HalfEdge,
@@ -89,13 +93,14 @@ fn push_only_pair(
     requires ready { IsReady arena.now }
     requires plane { IsCutPlane plane }
     requires crossings { AreCrossings arena.now.model plane crossings.edges.now crossings.cut.now }
-    requires sides { AreSides arena.now.model plane crossings.sides.now }
+    requires sides { AreSides arena.now.model plane sides.old }
     requires first { IsPlaceAlong arena.now.model plane crossings.edges.now (code first) }
     requires second { IsPlaceAlong arena.now.model plane crossings.edges.now (code second) }
+    ensures sides { AreSides arena.now.model plane sides.new }
     ensures crossed { IfOk result (λ paired. not paired ≡ same_point (place_point arena.now.model plane (code first)) (place_point arena.now.model plane (code second)) || not (is_up_and_down arena.now.model plane (code first, code second))) }
     ensures pairs { (result ≡ Ok true) → (map codes pairs.new.items ≡ map codes pairs.old.items ++ map (up_first arena.now.model plane) (in_pairs (sorted arena.now.model plane (code first ∷ code second ∷ [])))) }
 {
-    let Some(pair) = only_pair(arena, plane, crossings, first, second) else {
+    let Some(pair) = only_pair(arena, plane, sides, crossings, first, second) else {
         return Ok(false);
     };
     pairs.push(pair)?;
@@ -106,14 +111,15 @@ fn push_only_pair(
 fn push_in_order(
     arena: &Arena,
     plane: Plane,
-    sides: &Sides,
+    sides: &mut Sides,
     order: Places,
     pairs: &mut Vec<Pair>,
 ) -> Result<bool, AllocError>
     requires ready { IsReady arena.now }
     requires plane { IsCutPlane plane }
-    requires sides { AreSides arena.now.model plane sides.now }
+    requires sides { AreSides arena.now.model plane sides.old }
     requires there { AreThere arena.now.model (places_of order.entries) }
+    ensures sides { AreSides arena.now.model plane sides.new }
     ensures crossed { IfOk result (λ paired. not paired ≡ not (list_all (is_up_and_down arena.now.model plane) (in_pairs (places_of order.entries)))) }
     ensures pairs { (result ≡ Ok true) → (map codes pairs.new.items ≡ map codes pairs.old.items ++ map (up_first arena.now.model plane) (in_pairs (places_of order.entries))) }
 {
@@ -137,6 +143,7 @@ pub(crate) fn push_pairs(
     alloc: Global,
     arena: &Arena,
     plane: Plane,
+    sides: &mut Sides,
     crossings: Crossings<'_>,
     places: &[HalfEdge],
     pairs: &mut Vec<Pair>,
@@ -144,16 +151,17 @@ pub(crate) fn push_pairs(
     requires ready { IsReady arena.now }
     requires plane { IsCutPlane plane }
     requires crossings { AreCrossings arena.now.model plane crossings.edges.now crossings.cut.now }
-    requires sides { AreSides arena.now.model plane crossings.sides.now }
+    requires sides { AreSides arena.now.model plane sides.old }
     requires whole { ArePlacesAlong arena.now.model plane crossings.edges.now (map code places.now) }
+    ensures sides { AreSides arena.now.model plane sides.new }
     ensures crossed { IfOk result (λ paired. not paired ≡ are_crossed arena.now.model plane (map code places.now)) }
     ensures pairs { (result ≡ Ok true) → (map codes pairs.new.items ≡ map codes pairs.old.items ++ map (up_first arena.now.model plane) (in_pairs (sorted arena.now.model plane (map code places.now)))) }
 {
     if let [first, second] = places {
-        return push_only_pair(arena, plane, crossings, *first, *second, pairs);
+        return push_only_pair(arena, plane, sides, crossings, *first, *second, pairs);
     }
-    match in_order(alloc, arena, plane, crossings, places)? {
-        Some(order) => push_in_order(arena, plane, crossings.sides, order, pairs),
+    match in_order(alloc, arena, plane, sides, crossings, places)? {
+        Some(order) => push_in_order(arena, plane, sides, order, pairs),
         None => Ok(false),
     }
 }

@@ -7,6 +7,7 @@ ghost use Rattle.split_checks.specs.cut_places.Noted.{AreSides};
 ghost use Rattle.split_checks.specs.place_order.Order.{AreCrossings, ArePlacesAlong, entries_of};
 ghost use Rattle.shapes.specs.split.Places.{some_meet, sorted};
 
+use crate::cut_places::Sides;
 use crate::cuts::Crossings;
 use crate::place_order::points::{key_of, place_point};
 use euler_conditions::Arena;
@@ -22,21 +23,23 @@ pub(crate) fn in_order(
     alloc: Global,
     arena: &Arena,
     plane: Plane,
+    sides: &mut Sides,
     crossings: Crossings<'_>,
     places: &[HalfEdge],
 ) -> Result<Option<Places>, AllocError>
     requires ready { IsReady arena.now }
     requires plane { IsCutPlane plane }
     requires crossings { AreCrossings arena.now.model plane crossings.edges.now crossings.cut.now }
-    requires sides { AreSides arena.now.model plane crossings.sides.now }
+    requires sides { AreSides arena.now.model plane sides.old }
     requires whole { ArePlacesAlong arena.now.model plane crossings.edges.now (map code places.now) }
-    ensures { IfOk result (λ found. MatchOption found (some_meet arena.now.model plane (map code places.now) ≡ true)
+    ensures sides { AreSides arena.now.model plane sides.new }
+    ensures order { IfOk result (λ found. MatchOption found (some_meet arena.now.model plane (map code places.now) ≡ true)
         (λ order. (some_meet arena.now.model plane (map code places.now) ≡ false) × (order.entries ≡ entries_of arena.now.model plane (sorted arena.now.model plane (map code places.now))))) }
 {
     let mut rest = places;
     let mut order = BTreeMap::new(alloc);
     'places: while let [others @ .., h] = rest {
-        let met = order.insert(key_of(place_point(arena, plane, crossings, *h)), *h)?;
+        let met = order.insert(key_of(place_point(arena, plane, sides, crossings, *h)), *h)?;
         if met.is_some() {
             return Ok(None);
         }

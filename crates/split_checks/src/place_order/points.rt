@@ -7,27 +7,29 @@ ghost use Rattle.split_checks.specs.cut_places.Noted.{AreSides};
 ghost use Rattle.split_checks.specs.place_order.Order.{AreCrossings, IsPlaceAlong, key};
 ghost use Rattle.shapes.specs.split.Places.{place_point};
 
-use crate::cut_places::starts_on;
+use crate::cut_places::{Sides, same, start_side};
 use crate::cuts::Crossings;
 use euler_conditions::Arena;
-use euler_operators::{HalfEdge, Plane, Point};
+use euler_operators::{HalfEdge, Plane, Point, Sign};
 use solid_measure::start;
 
 /// The point of a cut place, where its edge is among the crossings or it starts on the plane.
 pub(crate) fn place_point(
     arena: &Arena,
     plane: Plane,
+    sides: &mut Sides,
     crossings: Crossings<'_>,
     h: HalfEdge,
 ) -> Point
     requires ready { IsReady arena.now }
     requires plane { IsCutPlane plane }
     requires crossings { AreCrossings arena.now.model plane crossings.edges.now crossings.cut.now }
-    requires sides { AreSides arena.now.model plane crossings.sides.now }
+    requires sides { AreSides arena.now.model plane sides.old }
     requires place { IsPlaceAlong arena.now.model plane crossings.edges.now (code h) }
-    ensures { result ≡ place_point arena.now.model plane (code h) }
+    ensures is { result ≡ place_point arena.now.model plane (code h) }
+    ensures sides { AreSides arena.now.model plane sides.new }
 {
-    if starts_on(arena, plane, crossings.sides, h) {
+    if same(start_side(arena, plane, sides, h), Sign::On) {
         return start(arena, h);
     }
     match crossings.edges.binary_search(&h.edge) {

@@ -1,26 +1,23 @@
--- The second half-edge of an edge, as the code has it, and the operator that cuts the edge.
-use Rattle.std.proofs.Common.{◌≡◌, ℕ, ◌+◌, sym, ap, ◌∙◌}
+-- The operator that cuts an edge, as the code has it.
+use Rattle.std.proofs.Common.{◌≡◌, ℕ, ◌+◌, sym, ap, subst, ◌∙◌}
 use Rattle.euler_operators.specs.declared.HalfEdge.{HalfEdge}
 use Rattle.euler_operators.specs.declared.Corner.TheVariants.{At}
 use Rattle.euler_operators.specs.HalfEdge.{code, half, edge_of, plus, minus}
-use Rattle.euler_operators.specs.Table as table
 use Rattle.euler_operators.specs.Model.{Model, after}
-use Rattle.euler_operators.specs.Sound.{Has, HasHalf}
-use Rattle.euler_operators.proofs.Halves.{half-code, code-half}
-use Rattle.euler_operators.proofs.Models.{minus_there}
+use Rattle.euler_operators.specs.Sound.{Has}
+use Rattle.euler_operators.proofs.Halves.{half-code, code-half, edge_of-code, minus_row}
 use Rattle.euler_operators.specs.declared.Op.TheVariants.{Mev}
-use Rattle.shapes.specs.Fresh.{taken_in}
+use Rattle.shapes.specs.Fresh.{Taken, taken_in}
+use Rattle.solid_walks.specs.Counters.{taken_of}
+use Rattle.solid_walks.specs.declared.numbers.Counters.{Counters}
 use Rattle.split_checks.specs.declared.cuts.CutEdge.{CutEdge}
 use Rattle.split_drawing.specs.edge_cutting.Begins.{cut_op}
 
-module _ (M : Model) (e : ℕ) (h : HalfEdge) (is : h ≡ half (minus e)) where
-  pub minus_code : code h ≡ minus e
-  minus_code = ap code is ∙ code-half (minus e)
+pub second_edge : (X M : Model) → X ≡ M → (e : ℕ) (h : HalfEdge) → h ≡ half (minus e) → Has M.edges e → Has X.edges h.edge
+second_edge X M x e h is there = subst (λ (Y : Model). Has Y.edges h.edge) (sym x) (subst (Has M.edges) (sym (sym (edge_of-code h) ∙ ap edge_of (ap code is ∙ code-half (minus e)) ∙ (minus_row e).0)) there)
 
-  pub second_there : Has M.edges e → HasHalf M (code h)
-  second_there there = ap (λ x. table.has M.edges (edge_of x)) minus_code ∙ minus_there M e there
-
-pub same_cut : (M : Model) (c : CutEdge) (first next edge : HalfEdge) (vertex : ℕ) → first ≡ half (plus c.edge) → code next ≡ after M (minus c.edge) → edge ≡ half (plus ((taken_in M).edge + 1))
-    → vertex ≡ (taken_in M).vertex + 1 → Mev (At first) (At next) edge vertex c.point ≡ cut_op M c
-same_cut M c first next edge vertex is_first is_next is_edge is_vertex =
-    λ i. Mev (At (is_first i)) (At ((sym (half-code next) ∙ ap half is_next) i)) (is_edge i) (is_vertex i) c.point
+pub same_cut : (X M : Model) → X ≡ M → (c : CutEdge) (t : Counters) → taken_of t ≡ taken_in M → (first second next edge : HalfEdge) → first ≡ half (plus c.edge) → second ≡ half (minus c.edge)
+    → code next ≡ after X (code second) → edge ≡ half (plus (t.edges + 1)) → Mev (At first) (At next) edge (t.vertices + 1) c.point ≡ cut_op M c
+same_cut X M x c t counted first second next edge is_first is_second is_next is_edge =
+    let is : next ≡ half (after M (minus c.edge)) = sym (half-code next) ∙ ap half (is_next ∙ (λ i. after (x i) ((ap code is_second ∙ code-half (minus c.edge)) i))) in
+    λ i. Mev (At (is_first i)) (At (is i)) ((is_edge ∙ ap (λ (k : Taken). half (plus (k.edge + 1))) counted) i) (ap (λ (k : Taken). k.vertex + 1) counted i) c.point

@@ -18,7 +18,7 @@ use Rattle.euler_operators.specs.Conditions.{AllHold, first_false}
 use Rattle.euler_operators.specs.Effect.{effect}
 use Rattle.euler_laws.proofs.shared.Goes.{all_hold}
 use Rattle.shapes.specs.Faces.{start, finish}
-use Rattle.shapes.specs.Fresh.{taken_in, Growing, growing}
+use Rattle.shapes.specs.Fresh.{Taken, taken_in, Growing, growing}
 use Rattle.shapes.specs.split.Sides.{crossing_edges}
 use Rattle.shapes.specs.split.Crossings.{next_cut, all_cut, with_crossings}
 use Rattle.shapes.specs.split.Split.{first_conditions}
@@ -26,6 +26,8 @@ use Rattle.split_drawing_laws.specs.crossings.CrossingOps.{cut_edge}
 use Rattle.split_drawing_laws.proofs.crossings.Steps.{CutGoes, cut_accepted, cut_made}
 use Rattle.split_drawing_laws.proofs.crossings.Runs.{cut_at, Crossing, Going, kept_start, goes_now, next_model, going_on}
 use Rattle.split_drawing_laws.proofs.crossings.Whole as whole
+use Rattle.solid_walks.specs.Counters.{taken_of}
+use Rattle.solid_walks.specs.declared.numbers.Counters.{Counters}
 use Rattle.split_checks.specs.declared.cuts.CutEdge.{CutEdge}
 use Rattle.split_checks.specs.Cuts as cuts
 use Rattle.split_checks.specs.cut_places.Crossings.{IsCrossing}
@@ -121,17 +123,24 @@ module _ (M : Model) (s : ℕ) (p : Plane) (N : Model) (e : ℕ) (rs : List ℕ)
   pub vertex_left : (taken_in N).vertex + 1 ≤ 1000000
   vertex_left = omega (arith, c.going.vertices_left)
 
-  -- once it is cut the others remain
-  pub next_taken : (K : Model) → K ≡ effect N (cut_edge p (growing N) e) → Cutting M s p K rs
-  next_taken K is =
-      let g : Growing = next_cut p (growing N) e in
-      let on : Going M p g (e ∷ c.done) rs = going_on M p c.sound (growing N) c.done e rs c.going in
-      let model : g.model ≡ K = next_model M p c.sound (growing N) c.done e rs c.going
-      ∙ sym (cut_made N e ((taken_in N).edge + 1) ((taken_in N).vertex + 1) (cut_at N p e) goes) ∙ sym is in
-      let same : g ≡ growing K = λ i. record { model = model i; taken = (on.counted ∙ ap taken_in model) i } in
-      record {
-        sound = c.sound;
-        done = e ∷ c.done;
-        going = subst (λ h. Going M p h (e ∷ c.done) rs) same on;
-        made = ap (λ (h : Growing). (all_cut p h rs).model) (sym same) ∙ c.made;
-      }
+  -- once it is cut the others remain, and its edge and vertex are counted
+  module _ (K : Model) (is : K ≡ effect N (cut_edge p (growing N) e)) where
+    on : Going M p (next_cut p (growing N) e) (e ∷ c.done) rs
+    on = going_on M p c.sound (growing N) c.done e rs c.going
+
+    grown : next_cut p (growing N) e ≡ growing K
+    grown =
+        let model = next_model M p c.sound (growing N) c.done e rs c.going ∙ sym (cut_made N e ((taken_in N).edge + 1) ((taken_in N).vertex + 1) (cut_at N p e) goes) ∙ sym is in
+        λ i. record { model = model i; taken = (on.counted ∙ ap taken_in model) i }
+
+    pub next_taken : Cutting M s p K rs
+    next_taken = record {
+      sound = c.sound;
+      done = e ∷ c.done;
+      going = subst (λ h. Going M p h (e ∷ c.done) rs) grown on;
+      made = ap (λ (h : Growing). (all_cut p h rs).model) (sym grown) ∙ c.made;
+    }
+
+    pub next_counted : (t : Counters) → taken_of t ≡ taken_in N → (u : Counters) → u ≡ record t { edges = t.edges + 1; vertices = t.vertices + 1 } → taken_of u ≡ taken_in K
+    unfolding next_cut
+    next_counted t told u counted = ap taken_of counted ∙ ap (λ (k : Taken). record k { edge = k.edge + 1; vertex = k.vertex + 1 }) told ∙ ap (λ (h : Growing). h.taken) grown

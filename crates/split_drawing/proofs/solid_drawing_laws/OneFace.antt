@@ -3,6 +3,7 @@ use Rattle.std.proofs.Common.{◌≡◌, ℕ, Bool, true, false, cond, ◌&&◌,
 use Rattle.std.proofs.lemmas.Bool.{ne_eqb, eq-eqb}
 use Rattle.std.specs.Prelude.{fold}
 use Rattle.euler_operators.specs.declared.Plane.{Plane}
+use Rattle.euler_operators.specs.Table as table
 use Rattle.euler_operators.specs.Model.{Model, content}
 use Rattle.euler_operators.specs.Sound.{Has}
 use Rattle.euler_operators.specs.Conditions.{has_rings}
@@ -14,6 +15,9 @@ use Rattle.shapes.specs.split.Drawing.{Drawing, join_next, draw_next, all_joined
 use Rattle.split_drawing_laws.specs.drawings.DrawingOps.{ring_ops}
 use Rattle.split_drawing_laws.proofs.drawings.Faces.{begun_joining, joins, going, going_on, fitting_on, last, newer_face}
 use Rattle.split_drawing_laws.proofs.drawings.Rings.{Moved, rings_move, rings_are, rings_apart}
+use Rattle.split_checks.specs.cut_places.Noted.{AreNoted}
+use Rattle.split_checks.proofs.cut_places_laws.NotedSides.{noted_still}
+use Rattle.split_checks.specs.declared.cut_places.noted.Noted.{Noted}
 use Rattle.split_checks.specs.declared.cuts.Pair.{Pair}
 use Rattle.split_checks.specs.declared.progress.Progress.{Progress}
 use Rattle.split_checks.specs.Cuts.{codes}
@@ -118,6 +122,9 @@ module _ (p : Plane) (f : ℕ) (pairs : List Pair) (from : Progress) (M : Model)
 
       pub last_there : Has K.faces f
       last_there = drawn_there p f ps begun w (drawing_of u K (map codes now)) last_is
+
+      pub last_noted : (ns : List Noted) → AreNoted M p ns → AreNoted K p ns
+      last_noted ns are = noted_still M K p (λ v _. ap (λ (x : Drawing). table.get x.model.vertices v) last_is ∙ ap (λ t. table.get t v) (last p f ps begun 0 w.ready).drawn.stays.vertices) ns are
 
       pub last_rings : length pairs ≡ 1 → AreAccepted K (ring_ops (rings_above K p f) u.taken.faces)
       last_rings one = rings_go p f ps begun w (length_codes pairs ∙ one) (drawing_of u K (map codes now)) last_is

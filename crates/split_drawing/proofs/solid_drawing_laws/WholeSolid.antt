@@ -1,9 +1,9 @@
 -- A solid drawn, from its edges cut to its last face.
-use Rattle.std.proofs.Common.{◌≡◌, ◌≤◌, ℕ, [], is_some, unwrap_or, length, map, refl, sym, ap, ◌∙◌, subst, arith, nat_eq, List}
+use Rattle.std.proofs.Common.{◌≡◌, ◌≤◌, ℕ, [], is_some, length, map, refl, sym, ap, ◌∙◌, subst, arith, nat_eq, List}
 use Rattle.std.proofs.lemmas.List.{length-map}
 use Rattle.euler_operators.specs.declared.Plane.{Plane}
 use Rattle.euler_operators.specs.Items.{IsIn}
-use Rattle.euler_operators.specs.Model.{Model, faces_of, no_point, point_of}
+use Rattle.euler_operators.specs.Model.{Model, faces_of}
 use Rattle.euler_operators.specs.Sound.{Sound, Has}
 use Rattle.shapes.specs.Fresh.{taken_in}
 use Rattle.shapes.specs.split.Sides.{straddles, straddling_faces}
@@ -50,8 +50,7 @@ module _ (M : Model) (s : ℕ) (p : Plane) (sound : Sound M) (can : CanBeCut M s
 
   -- what is noted of vertices holds then
   pub still_noted : (ns : List Noted) → AreNoted M p ns → AreNoted N p ns
-  unfolding point_of
-  still_noted ns are = noted_still M N p (λ v there. let row = kept.points v there in (ap is_some row ∙ there, ap (λ o. unwrap_or o no_point) row)) ns are
+  still_noted ns are = noted_still M N p kept.points ns are
 
   face_there : (f : ℕ) → IsIn f (straddling_faces M p s) → Has N.faces f
   face_there f i = subst (λ t. Has t f) (sym kept.faces) (ap is_some (all_where_has (λ _ row. nat_eq row.solid s) M.faces f (of_picked (straddles M p) f (faces_of M s) i).0).1)

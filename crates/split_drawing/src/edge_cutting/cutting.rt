@@ -1,52 +1,56 @@
 //! Edges cut one after the other in a draft.
-ghost use Rattle.std.specs.Prelude.{◌≡◌, ◌≤◌, ◌+◌, true, None, OnOk, OnErr, map};
-ghost use Rattle.euler_operators.specs.HalfEdge.{code};
-ghost use Rattle.euler_operators.specs.Model.{after, has_half};
-ghost use Rattle.euler_conditions.specs.Ready.{IsReady};
+ghost use Rattle.std.specs.Prelude.{◌≡◌, ◌≤◌, ◌+◌, None, IfOk, OnOk, OnErr, map};
 ghost use Rattle.euler_operators.specs.Conditions.{first_false};
 ghost use Rattle.euler_operators.specs.Sound.{Has, Sound};
 ghost use Rattle.shapes.specs.Fresh.{taken_in};
 ghost use Rattle.undo_journal.specs.Journal.{after_step};
 ghost use Rattle.shapes.specs.split.Crossings.{with_crossings};
 ghost use Rattle.shapes.specs.split.Sides.{crossing_edges};
+ghost use Rattle.solid_walks.specs.Counters.{taken_of};
 ghost use Rattle.split_checks.specs.Cuts.{cut_at};
 ghost use Rattle.split_drawing.specs.edge_cutting.Begins.{CanBeCut, cut_op};
 
-use crate::edge_cutting::fresh::{fresh_edge, fresh_vertex};
-use euler_conditions::Arena;
+use euler_conditions::next;
 use euler_operators::{Corner, HalfEdge, Op, Plane};
+use solid_walks::{Counters, counters_of};
 use split_checks::CutEdge;
 use std::alloc::AllocError;
 use undo_journal::Draft;
 
-/// The item after the half-edge in its loop.
-fn next_item(arena: &Arena, h: HalfEdge) -> HalfEdge
-    requires ready { IsReady arena.now }
-    requires there { has_half arena.now.model (code h) ≡ true }
-    ensures { code result ≡ after arena.now.model (code h) }
-{
-    arena.next(h)
-}
-
-/// Cuts an edge at a point: a new edge leads to a new vertex there, between the edge's first half-edge and what follows its second.
-fn cut_edge(draft: &mut Draft, cut: CutEdge) -> Result<(), AllocError>
+/// Cuts an edge at a point: the next edge leads to the next vertex there, between the edge's first half-edge and what follows its
+/// second. It counts both.
+fn cut_edge(draft: &mut Draft, taken: Counters, cut: CutEdge) -> Result<Counters, AllocError>
     requires there { Has draft.old.model.edges cut.edge }
+    requires taken { taken_of taken ≡ taken_in draft.old.model }
     requires edge_left { (taken_in draft.old.model).edge + 1 ≤ 1000000 }
     requires vertex_left { (taken_in draft.old.model).vertex + 1 ≤ 1000000 }
     requires accepted { first_false draft.old.model (cut_op draft.old.model cut) ≡ None }
+    ensures counted { IfOk result (λ next. next ≡ record taken { edges = taken.edges + 1; vertices = taken.vertices + 1 }) }
     ensures ok { OnOk result (draft.new ≡ after_step draft.old (cut_op draft.old.model cut)) }
     ensures err { OnErr result (draft.new ≡ draft.old) }
 {
-    let arena = draft.arena();
+    let edges = taken.edges + 1;
+    let vertices = taken.vertices + 1;
     let first = HalfEdge::plus(cut.edge);
-    let next = next_item(arena, HalfEdge::minus(cut.edge));
-    let edge = HalfEdge::plus(fresh_edge(arena));
-    let vertex = fresh_vertex(arena);
-    draft.step_accepted(Op::Mev(Corner::At(first), Corner::At(next), edge, vertex, cut.point))
+    let next = next(draft.arena(), HalfEdge::minus(cut.edge));
+    let made = HalfEdge::plus(edges);
+    draft.step_accepted(Op::Mev(
+        Corner::At(first),
+        Corner::At(next),
+        made,
+        vertices,
+        cut.point,
+    ))?;
+    Ok(Counters {
+        edges,
+        vertices,
+        ..taken
+    })
 }
 
 /// Cuts the edges of solid s that cross the plane where they meet it, from the least edge to the greatest: the first rewriting of a
-/// split of the draft's model, where such a split can begin. The new edges and vertices have the numbers after the greatest in use.
+/// split of the draft's model, where such a split can begin. The new edges and vertices have the numbers after the greatest in use. It
+/// tells the greatest numbers in use then.
 ///
 /// On `AllocError` some edges may be cut; the session that the draft came from stands, and `abandon` gives it back.
 pub(crate) fn cut_edges(
@@ -54,17 +58,19 @@ pub(crate) fn cut_edges(
     s: u32,
     plane: &Plane,
     edges: &[CutEdge],
-) -> Result<(), AllocError>
+) -> Result<Counters, AllocError>
     requires sound { Sound draft.old.model }
     requires begins { CanBeCut draft.old.model s plane.now }
     requires edges { edges.now ≡ map (cut_at draft.old.model plane.now) (crossing_edges draft.old.model plane.now s) }
     ensures model { OnOk result (draft.new.model ≡ (with_crossings draft.old.model s plane.now).model) }
+    ensures counted { IfOk result (λ taken. taken_of taken ≡ taken_in draft.new.model) }
     ensures session { draft.new.session ≡ draft.old.session }
 {
+    let mut taken = counters_of(draft.arena());
     let mut rest = edges;
     'edges: while let [edge, others @ ..] = rest {
-        cut_edge(draft, *edge)?;
+        taken = cut_edge(draft, taken, *edge)?;
         rest = others;
     }
-    Ok(())
+    Ok(taken)
 }

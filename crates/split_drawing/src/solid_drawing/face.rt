@@ -1,15 +1,16 @@
 //! A face drawn between its pairs.
-ghost use Rattle.std.specs.Prelude.{◌≡◌, [], map, IfOk};
+ghost use Rattle.std.specs.Prelude.{◌≡◌, [], map, IfOk, OnOk};
 ghost use Rattle.euler_operators.specs.Ranges.{IsCutPlane};
 ghost use Rattle.shapes.specs.split.Drawing.{drawn_between};
 ghost use Rattle.split_checks.specs.Cuts.{codes};
+ghost use Rattle.split_checks.specs.cut_places.Noted.{AreSides};
 ghost use Rattle.split_checks.specs.Progress.{drawing_of};
 ghost use Rattle.split_drawing.specs.solid_drawing.Drawn.{CanDrawFace, put_aside};
 
 use crate::face_drawing::{draw_pairs, join_pairs, ring_free};
 use crate::solid_drawing::rings::share_rings;
 use euler_operators::Plane;
-use split_checks::{Pair, Progress};
+use split_checks::{Pair, Progress, Sides};
 use std::alloc::{AllocError, Global};
 use undo_journal::Draft;
 
@@ -20,21 +21,24 @@ pub(crate) fn draw_face(
     alloc: Global,
     draft: &mut Draft,
     plane: Plane,
+    sides: &mut Sides,
     from: Progress,
     f: u32,
     pairs: &[Pair],
     left: &mut Vec<Pair>,
 ) -> Result<Progress, AllocError>
     requires plane { IsCutPlane plane }
+    requires sides { AreSides draft.old.model plane sides.old }
     requires can { CanDrawFace plane f (map codes pairs.now) (drawing_of from draft.old.model []) }
     ensures drawn { IfOk result (λ drawn. drawing_of drawn draft.new.model [] ≡ put_aside (drawn_between plane f (map codes pairs.now) (drawing_of from draft.old.model []))) }
+    ensures sides { OnOk result (AreSides draft.new.model plane sides.new) }
     ensures session { draft.new.session ≡ draft.old.session }
 {
     let joined = join_pairs(draft, from, f, pairs, left)?;
     let looked_at = ring_free(draft.arena(), joined, f, pairs.len());
     let drawn = draw_pairs(draft, looked_at, f, left.as_slice())?;
     if pairs.len() == 1 {
-        share_rings(alloc, draft, plane, f, drawn.taken.faces)?;
+        share_rings(alloc, draft, plane, sides, f, drawn.taken.faces)?;
     }
     Ok(drawn)
 }

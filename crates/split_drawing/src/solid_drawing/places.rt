@@ -10,19 +10,20 @@ ghost use Rattle.split_checks.specs.cut_places.Noted.{AreSides};
 ghost use Rattle.split_drawing.specs.solid_drawing.Starts.{PairsThere, pair_started, pairs_started};
 
 use euler_conditions::Arena;
-use euler_operators::{HalfEdge, Plane};
-use split_checks::{Pair, Sides, starts_on};
+use euler_operators::{HalfEdge, Plane, Sign};
+use split_checks::{Pair, Sides, same, start_side};
 use std::alloc::{AllocError, Global};
 
 /// The half-edge that starts at the cut place that h told: h where it starts on the plane, else the one after it.
-fn from_place(arena: &Arena, plane: Plane, sides: &Sides, h: HalfEdge) -> HalfEdge
+fn from_place(arena: &Arena, plane: Plane, sides: &mut Sides, h: HalfEdge) -> HalfEdge
     requires ready { IsReady arena.now }
     requires there { has_half arena.now.model (code h) ≡ true }
     requires plane { IsCutPlane plane }
-    requires sides { AreSides arena.now.model plane sides.now }
-    ensures { code result ≡ from_place arena.now.model plane (code h) }
+    requires sides { AreSides arena.now.model plane sides.old }
+    ensures is { code result ≡ from_place arena.now.model plane (code h) }
+    ensures sides { AreSides arena.now.model plane sides.new }
 {
-    if starts_on(arena, plane, sides, h) {
+    if same(start_side(arena, plane, sides, h), Sign::On) {
         h
     } else {
         arena.next(h)
@@ -30,13 +31,14 @@ fn from_place(arena: &Arena, plane: Plane, sides: &Sides, h: HalfEdge) -> HalfEd
 }
 
 /// The half-edges that start at the cut places of a pair.
-fn pair_started(arena: &Arena, plane: Plane, sides: &Sides, pair: Pair) -> Pair
+fn pair_started(arena: &Arena, plane: Plane, sides: &mut Sides, pair: Pair) -> Pair
     requires ready { IsReady arena.now }
     requires up { has_half arena.now.model (code pair.up) ≡ true }
     requires down { has_half arena.now.model (code pair.down) ≡ true }
     requires plane { IsCutPlane plane }
-    requires sides { AreSides arena.now.model plane sides.now }
-    ensures { codes result ≡ pair_started arena.now.model plane (codes pair) }
+    requires sides { AreSides arena.now.model plane sides.old }
+    ensures sides { AreSides arena.now.model plane sides.new }
+    ensures are { codes result ≡ pair_started arena.now.model plane (codes pair) }
 {
     Pair {
         up: from_place(arena, plane, sides, pair.up),
@@ -49,14 +51,15 @@ pub(crate) fn pairs_started(
     alloc: Global,
     arena: &Arena,
     plane: Plane,
-    sides: &Sides,
+    sides: &mut Sides,
     pairs: &[Pair],
 ) -> Result<Vec<Pair>, AllocError>
     requires ready { IsReady arena.now }
     requires there { PairsThere arena.now.model (map codes pairs.now) }
     requires plane { IsCutPlane plane }
-    requires sides { AreSides arena.now.model plane sides.now }
-    ensures { IfOk result (λ started. map codes started.items ≡ pairs_started arena.now.model plane (map codes pairs.now)) }
+    requires sides { AreSides arena.now.model plane sides.old }
+    ensures sides { AreSides arena.now.model plane sides.new }
+    ensures are { IfOk result (λ started. map codes started.items ≡ pairs_started arena.now.model plane (map codes pairs.now)) }
 {
     let mut started = Vec::new(alloc);
     started.reserve(pairs.len())?;

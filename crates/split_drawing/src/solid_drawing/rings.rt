@@ -6,26 +6,35 @@ ghost use Rattle.euler_laws.specs.Laws.{AreAccepted};
 ghost use Rattle.euler_conditions.specs.Store.{has_number};
 ghost use Rattle.euler_operators.specs.Ranges.{IsCutPlane};
 ghost use Rattle.shapes.specs.split.Drawing.{rings_above, with_rings};
+ghost use Rattle.split_checks.specs.cut_places.Noted.{AreSides};
 ghost use Rattle.split_drawing_laws.specs.drawings.DrawingOps.{ring_ops};
 
 use crate::face_drawing::move_rings;
 use euler_conditions::Arena;
 use euler_operators::{Kind, Plane, Sign};
-use split_checks::loop_reaches;
+use split_checks::{Sides, loop_side, same};
 use std::alloc::{AllocError, Global};
 use undo_journal::Draft;
 
 /// The rings of face f that have a corner above the plane, rising.
-fn rings_above(alloc: Global, arena: &Arena, plane: Plane, f: u32) -> Result<Vec<u32>, AllocError>
+fn rings_above(
+    alloc: Global,
+    arena: &Arena,
+    plane: Plane,
+    sides: &mut Sides,
+    f: u32,
+) -> Result<Vec<u32>, AllocError>
     requires ready { IsReady arena.now }
     requires there { has_number arena.now Kind.Face f ≡ true }
     requires plane { IsCutPlane plane }
-    ensures { IfOk result (λ rings. rings.items ≡ rings_above arena.now.model plane f) }
+    requires sides { AreSides arena.now.model plane sides.old }
+    ensures sides { AreSides arena.now.model plane sides.new }
+    ensures rings { IfOk result (λ rings. rings.items ≡ rings_above arena.now.model plane f) }
 {
     let mut rings = Vec::new(alloc);
     let mut last = 0;
     'rings: while let Some(l) = arena.ring_after(f, last) {
-        if loop_reaches(arena, plane, Sign::Above, l) {
+        if same(loop_side(arena, plane, sides, l), Sign::Above) {
             rings.push(l)?;
         }
         last = l;
@@ -39,15 +48,19 @@ pub(crate) fn share_rings(
     alloc: Global,
     draft: &mut Draft,
     plane: Plane,
+    sides: &mut Sides,
     f: u32,
     to: u32,
 ) -> Result<(), AllocError>
     requires plane { IsCutPlane plane }
+    requires sides { AreSides draft.old.model plane sides.old }
     requires there { table.has draft.old.model.faces f ≡ true }
     requires accepted { AreAccepted draft.old.model (ring_ops (rings_above draft.old.model plane f) to) }
     ensures model { OnOk result (draft.new.model ≡ with_rings draft.old.model (rings_above draft.old.model plane f) to) }
+    ensures sides { OnOk result (AreSides draft.new.model plane sides.new) }
     ensures session { draft.new.session ≡ draft.old.session }
 {
-    let rings = rings_above(alloc, draft.arena(), plane, f)?;
-    move_rings(draft, rings.as_slice(), to)
+    let rings = rings_above(alloc, draft.arena(), plane, sides, f)?;
+    move_rings(draft, rings.as_slice(), to)?;
+    Ok(())
 }

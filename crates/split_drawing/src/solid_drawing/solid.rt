@@ -1,5 +1,5 @@
 //! A solid cut and drawn.
-ghost use Rattle.std.specs.Prelude.{◌≡◌, ◌≤◌, [], length, map, IfOk};
+ghost use Rattle.std.specs.Prelude.{◌≡◌, ◌≤◌, [], length, map, IfOk, OnOk};
 ghost use Rattle.euler_operators.specs.Ranges.{IsCutPlane};
 ghost use Rattle.shapes.specs.split.Drawing.{faces_drawn, with_drawings};
 ghost use Rattle.split_drawing.specs.edge_cutting.Begins.{CanBeCut};
@@ -12,7 +12,6 @@ use crate::edge_cutting::cut_edges;
 use crate::solid_drawing::face::draw_face;
 use crate::solid_drawing::places::pairs_started;
 use euler_operators::Plane;
-use solid_walks::counters_of;
 use split_checks::{Cuts, Pair, PairedFace, Progress, Sides};
 use std::alloc::{AllocError, Global};
 use undo_journal::Draft;
@@ -23,14 +22,17 @@ fn draw_faces(
     alloc: Global,
     draft: &mut Draft,
     plane: Plane,
+    sides: &mut Sides,
     from: Progress,
     faces: &[PairedFace],
     pairs: &[Pair],
 ) -> Result<Progress, AllocError>
     requires plane { IsCutPlane plane }
+    requires sides { AreSides draft.old.model plane sides.old }
     requires enough { how_many_pairs faces.now ≤ length pairs.now }
     requires can { CanDrawFaces (paired faces.now (map codes pairs.now)) (drawing_of from draft.old.model []) }
     ensures drawn { IfOk result (λ drawn. drawing_of drawn draft.new.model [] ≡ put_aside (faces_drawn plane (drawing_of from draft.old.model []) (paired faces.now (map codes pairs.now)))) }
+    ensures sides { OnOk result (AreSides draft.new.model plane sides.new) }
     ensures session { draft.new.session ≡ draft.old.session }
 {
     let mut progress = from;
@@ -39,7 +41,9 @@ fn draw_faces(
     let mut later = pairs;
     'faces: while let [face, others @ ..] = rest {
         let (mine, more) = later.split_at(face.pairs);
-        progress = draw_face(alloc, draft, plane, progress, face.face, mine, &mut left)?;
+        progress = draw_face(
+            alloc, draft, plane, sides, progress, face.face, mine, &mut left,
+        )?;
         rest = others;
         later = more;
     }
@@ -48,7 +52,8 @@ fn draw_faces(
 
 /// Cuts the edges of solid s that cross the plane, and then draws edges between the cut places of its faces that straddle, where the
 /// plane can begin to split s, and these are its cuts: the first two rewritings of a split. It tells the greatest numbers taken then,
-/// and the first face that can't be drawn, or 0. On which side of the plane a cut place starts it computes where `sides` doesn't note it.
+/// and the first face that can't be drawn, or 0. Sides that aren't noted in `sides` are
+/// computed, and noted then.
 ///
 /// On `AllocError` some steps may be taken; the session that the draft came from stands, and `abandon` gives it back.
 pub fn draw_solid(
@@ -57,20 +62,20 @@ pub fn draw_solid(
     s: u32,
     plane: &Plane,
     cuts: &Cuts,
-    sides: &Sides,
+    sides: &mut Sides,
 ) -> Result<Progress, AllocError>
     requires begins { CanBeCut draft.old.model s plane.now }
     requires cuts { AreCuts draft.old.model plane.now s cuts.now }
-    requires sides { AreSides draft.old.model plane.now sides.now }
+    requires sides { AreSides draft.old.model plane.now sides.old }
     ensures drawn { IfOk result (λ drawn. drawing_of drawn draft.new.model [] ≡ put_aside (with_drawings draft.old.model s plane.now)) }
+    ensures sides { OnOk result (AreSides draft.new.model plane.now sides.new) }
     ensures session { draft.new.session ≡ draft.old.session }
 {
     // the draft's model is sound
     draft.stays_consistent();
-    cut_edges(draft, s, plane, cuts.edges.as_slice())?;
+    let taken = cut_edges(draft, s, plane, cuts.edges.as_slice())?;
     let started = pairs_started(alloc, draft.arena(), *plane, sides, cuts.pairs.as_slice())?;
-    let taken = counters_of(draft.arena());
     let from = Progress { taken, stuck: 0 };
     let faces = cuts.faces.as_slice();
-    draw_faces(alloc, draft, *plane, from, faces, started.as_slice())
+    draw_faces(alloc, draft, *plane, sides, from, faces, started.as_slice())
 }

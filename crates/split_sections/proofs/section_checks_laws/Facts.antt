@@ -1,5 +1,5 @@
 -- What the conditions of a section come to, from the half-edges and cycles that were found.
-use Rattle.std.proofs.Common.{◌≡◌, ℕ, ◌+◌, ◌*◌, ◌≤◌, true, false, List, map, length, Some, None, sym, ap, subst, ◌∙◌, arith}
+use Rattle.std.proofs.Common.{◌≡◌, ℕ, ◌+◌, ◌*◌, ◌≤◌, Bool, true, false, List, map, length, vec_len, Vec, Global, Option, Some, None, sym, ap, subst, ◌∙◌, arith}
 use Rattle.std.proofs.lemmas.List.{length-map}
 use Rattle.euler_operators.specs.declared.Plane.{Plane}
 use Rattle.euler_operators.specs.declared.HalfEdge.{HalfEdge}
@@ -13,62 +13,75 @@ use Rattle.shapes.specs.split.Section.{below_halves, section_ends, least_branche
 use Rattle.shapes.specs.split.Split.{section_conditions}
 use Rattle.split_opening_laws.specs.cycles.Permuting.{Permutes}
 use Rattle.split_opening_laws.specs.cycles.SectionCycles.{AreOf, IsUnbranched}
-use Rattle.split_opening_laws.proofs.cycles.BelowHalves.{halves_rise}
+use Rattle.split_opening_laws.proofs.cycles.BelowHalves.{halves_rise, starts_are_ends}
 use Rattle.split_opening_laws.proofs.cycles.NextBelow.{permutes}
 use Rattle.split_sections.specs.section_cycles.Halves.{AreThere}
 use Rattle.split_sections.specs.section_checks.Cycles.{AreCyclesOf, has_stray}
 use Rattle.split_sections.specs.section_cycles.Halves.{halves_of}
+use Rattle.split_sections.specs.section_cycles.Starts.{AreBalanced}
 use Rattle.split_sections.specs.declared.section_cycles.cycle.Cycle.{Cycle}
 use Rattle.split_sections.proofs.section_checks_laws.Above.{halves_there, few_halves, few_cycles}
 use Rattle.split_sections.proofs.section_checks_laws.HoleFlags.{stray_is}
 use Rattle.split_sections.proofs.section_checks_laws.Stages.{branched, stray, to_numbers}
 
-module _ (M : Model) (sound : Sound M) (above : List ℕ) (s : ℕ) (faces : AreOf M above s) (hs : List HalfEdge) (e : map code hs ≡ below_halves M above s) where
+module _ (M : Model) (sound : Sound M) (above : List ℕ) (s : ℕ) (faces : AreOf M above s) (halves : Vec HalfEdge Global) (met : map code halves.items ≡ below_halves M above s)
+    (hs : List HalfEdge) (value : hs ≡ halves.items) where
+  e : map code hs ≡ below_halves M above s
+  e = ap (λ (gs : List HalfEdge). map code gs) value ∙ met
+
   pub there_now : AreThere M (map code hs)
   there_now = subst (AreThere M) (sym e) (halves_there M sound above s faces)
 
   pub rising_now : strictly_rises (map code hs) ≡ true
   rising_now = ap strictly_rises e ∙ halves_rise M above s sound
 
-  pub few_now : length hs ≤ 2000002
-  few_now = omega (arith, few_halves M sound above s faces, length-map hs code, ap (λ (bs : List ℕ). length bs) e)
+  as_many : length (below_halves M above s) ≡ vec_len halves
+  as_many = sym (ap (λ (bs : List ℕ). length bs) met) ∙ length-map halves.items code ∙ omega (arith, halves.ok.0)
 
-  pub branched_now : (p : Plane) (c : Taken) (v : ℕ) → Some v ≡ least_branched M (section_ends M (map code hs)) → first_refusal (section_conditions M s p c (below_halves M above s)) ≡ Some (record { why = BranchedVertex; number = v })
-  branched_now p c v is = branched M s p c (below_halves M above s) v (is ∙ ap (λ bs. least_branched M (section_ends M bs)) e)
+  pub few_now : vec_len halves ≤ 2000002
+  few_now = omega (arith, few_halves M sound above s faces, as_many)
 
-  module _ (none : None ≡ least_branched M (section_ends M (map code hs))) where
-    unbranched : IsUnbranched M (below_halves M above s)
-    unbranched = sym (none ∙ ap (λ bs. least_branched M (section_ends M bs)) e)
+  -- what a search for a branched vertex has found
+  module _ (o : Option ℕ) (searched : AreBalanced M (map code hs) → o ≡ least_branched M (section_ends M (map code hs))) where
+    found : o ≡ least_branched M (section_ends M (below_halves M above s))
+    found = searched (subst (AreBalanced M) (sym e) (starts_are_ends M above s sound faces)) ∙ ap (λ bs. least_branched M (section_ends M bs)) e
 
-    pub next_now : Permutes (next_below M (map code hs)) (map code hs)
-    next_now = subst (λ bs. Permutes (next_below M bs) bs) (sym e) (permutes M above s sound faces unbranched)
+    pub branched_now : (p : Plane) (c : Taken) (v : ℕ) → o ≡ Some v → first_refusal (section_conditions M s p c (below_halves M above s)) ≡ Some (record { why = BranchedVertex; number = v })
+    branched_now p c v is = branched M s p c (below_halves M above s) v (sym is ∙ found)
 
-    module _ (cs : List (List ℕ)) (is : cs ≡ section_cycles M (map code hs)) where
-      cycles_are : cs ≡ section_cycles M (below_halves M above s)
-      cycles_are = is ∙ ap (section_cycles M) e
+    module _ (none : o ≡ None) where
+      unbranched : IsUnbranched M (below_halves M above s)
+      unbranched = sym found ∙ none
 
-      module _ (p : Plane) (told : List Cycle) (h : map halves_of told ≡ cs) (w : map (λ c. c.hole) told ≡ map (is_hole M p) cs) where
-        told_holes : map (λ c. c.hole) told ≡ map (is_hole M p) (map halves_of told)
-        told_holes = w ∙ ap (λ (ks : List (List ℕ)). map (is_hole M p) ks) (sym h)
+      pub next_now : Permutes (next_below M (map code hs)) (map code hs)
+      next_now = subst (λ bs. Permutes (next_below M bs) bs) (sym e) (permutes M above s sound faces unbranched)
 
-        pub all_now : AreCyclesOf M p (below_halves M above s) told
-        all_now = record { cycles = h ∙ cycles_are; holes = told_holes }
+      module _ (p : Plane) (told : Vec Cycle Global) (h : map halves_of told.items ≡ section_cycles M (map code hs)) (w : map (λ c. c.hole) told.items ≡ map (is_hole M p) (map halves_of told.items)) where
+        cycles_are : map halves_of told.items ≡ section_cycles M (below_halves M above s)
+        cycles_are = h ∙ ap (section_cycles M) e
 
-        as_long : length told ≡ length (section_cycles M (below_halves M above s))
-        as_long = sym (length-map told halves_of) ∙ ap (λ (ks : List (List ℕ)). length ks) (h ∙ cycles_are)
+        pub all_now : AreCyclesOf M p (below_halves M above s) told.items
+        all_now = record { cycles = cycles_are; holes = w }
 
-        pub few_told : length told ≤ 2000002
+        as_long : length (section_cycles M (below_halves M above s)) ≡ vec_len told
+        as_long = sym (ap (λ (ks : List (List ℕ)). length ks) cycles_are) ∙ length-map told.items halves_of ∙ omega (arith, told.ok.0)
+
+        pub few_told : vec_len told ≤ 2000002
         few_told = omega (arith, few_cycles M sound above s faces, as_long)
 
-        stray_told : has_stray told ≡ has_stray_hole M p (section_cycles M (below_halves M above s))
-        stray_told = stray_is M p told told_holes ∙ ap (has_stray_hole M p) (h ∙ cycles_are)
+        pub few_listed : (cs : List Cycle) → cs ≡ told.items → length cs ≤ 2000002
+        few_listed cs are = omega (arith, few_told, told.ok.0, ap (λ (ks : List Cycle). length ks) are)
 
-        pub stray_now : (c : Taken) → has_stray told ≡ true → first_refusal (section_conditions M s p c (below_halves M above s)) ≡ Some (record { why = SectionHoles; number = s })
-        stray_now c t = stray M s p c (below_halves M above s) unbranched (sym stray_told ∙ t)
+        -- whether a hole is found to be stray
+        module _ (c : Taken) (cs : List Cycle) (are : cs ≡ told.items) (b : Bool) (tested : b ≡ has_stray cs) where
+          stray_told : has_stray_hole M p (section_cycles M (below_halves M above s)) ≡ b
+          stray_told = sym (tested ∙ ap (λ (ks : List Cycle). has_stray ks) are ∙ stray_is M p told.items w ∙ ap (has_stray_hole M p) cycles_are)
 
-        pub numbers_now : (c : Taken) → has_stray told ≡ false → (m n : ℕ) → m ≡ length hs → n ≡ length told
-            → first_refusal (section_conditions M s p c (below_halves M above s)) ≡ first_refusal (numbers_left c (record { faces = m + n; loops = m + n; edges = 2 * m; vertices = m }))
-        numbers_now c t m n em en =
-            let long : length (below_halves M above s) ≡ m = sym (em ∙ sym (length-map hs code) ∙ ap (λ (bs : List ℕ). length bs) e) in
-            let many : length (section_cycles M (below_halves M above s)) ≡ n = sym (en ∙ as_long) in
-            to_numbers M s p c (below_halves M above s) unbranched (sym stray_told ∙ t) ∙ (λ i. first_refusal (numbers_left c (record { faces = long i + many i; loops = long i + many i; edges = 2 * long i; vertices = long i })))
+          pub stray_now : b ≡ true → first_refusal (section_conditions M s p c (below_halves M above s)) ≡ Some (record { why = SectionHoles; number = s })
+          stray_now t = stray M s p c (below_halves M above s) unbranched (stray_told ∙ t)
+
+          pub numbers_now : b ≡ false → (m n : ℕ) → m ≡ vec_len halves → n ≡ vec_len told
+              → first_refusal (section_conditions M s p c (below_halves M above s)) ≡ first_refusal (numbers_left c (record { faces = m + n; loops = m + n; edges = 2 * m; vertices = m }))
+          numbers_now t m n em en =
+              let long = as_many ∙ sym em in let many = as_long ∙ sym en in
+              to_numbers M s p c (below_halves M above s) unbranched (stray_told ∙ t) ∙ (λ i. first_refusal (numbers_left c (record { faces = long i + many i; loops = long i + many i; edges = 2 * long i; vertices = long i })))

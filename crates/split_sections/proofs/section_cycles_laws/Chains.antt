@@ -1,64 +1,113 @@
 -- Half-edges by the vertices at which they start, as they are put into a map from the last to the first.
-use Rattle.std.proofs.Common.{◌≡◌, ℕ, suc, Bool, true, false, cond, nat_eq, List, [], ◌∷◌, ◌++◌, map, Option, Some, unwrap_or, refl, sym, ap, ◌∙◌, arith, ◌-◌, ◌≤◌, length, slice_index_or}
+use Rattle.std.proofs.Common.{◌≡◌, ℕ, zero, suc, ◌+◌, Bool, true, false, cond, ◌&&◌, ◌||◌, nat_eq, nat_lt, List, [], ◌∷◌, ◌++◌, map, Option, Some, None, is_some, unwrap_or, refl, sym, ap, ◌∙◌, subst, arith, ◌-◌, ◌≤◌, ◌<◌, length, slice_index_or, inl, inr}
 use Rattle.std.specs.BTreeMap.{BTreeMap, get}
 use Rattle.std.specs.Map.{lookup}
 use Rattle.std.specs.Ordering.{nat_cmp, is_eq}
-use Rattle.std.proofs.lemmas.List.{append_assoc, append-nil, map-append}
-use Rattle.std.specs.Prelude.{take}
-use Rattle.euler_operators.specs.Items.{count}
-use Rattle.euler_operators.proofs.Lists.{tick_same, count-append}
+use Rattle.std.proofs.lemmas.Bool.Decides.{nat_tests, eqb_tells}
+use Rattle.std.proofs.lemmas.List.{append_assoc, append-nil}
+use Rattle.euler_operators.specs.Items.{count, tick}
+use Rattle.euler_operators.proofs.Lists.{tick_same, tick_other, count-append}
 use Rattle.euler_operators.proofs.Tests.{number_tied}
 use Rattle.euler_operators.specs.declared.HalfEdge.{HalfEdge}
 use Rattle.euler_operators.specs.HalfEdge.{code}
 use Rattle.euler_operators.specs.Model.{Model, tail}
 use Rattle.euler_operators.specs.Sound.{HasHalf}
 use Rattle.shapes.specs.Fresh.{first_such}
+use Rattle.split_checks.specs.Least.{only, lesser}
+use Rattle.split_checks.proofs.Searches.{IsLeast, least_same, least_either}
+use Rattle.split_checks.proofs.cut_places_laws.Lists.{fewer, last_code}
 use Rattle.split_sections.specs.section_cycles.Halves.{AreThere}
-use Rattle.split_sections.specs.section_cycles.Starts.{code_or_none, half_at, AreStarts}
+use Rattle.split_sections.specs.section_cycles.Starts.{code_or_none, AreStarts}
 
--- of all half-edges these are left, and the others are in the map
-pub record Placed (M : Model) (all left : List ℕ) (starts : BTreeMap ℕ HalfEdge) : Type 0 where
+-- more than one of these half-edges start at the vertex
+abbrev pub several : Model → List ℕ → ℕ → Bool
+several M hs v = nat_lt 1 (count v (map (tail M) hs))
+
+-- of all half-edges these are left, and the others are in the map, with the least vertex at which more than one of them start
+pub record Placed (M : Model) (all left : List ℕ) (starts : BTreeMap ℕ HalfEdge) (branched : Option ℕ) : Type 0 where
   pub done : List ℕ
   pub parts : all ≡ left ++ done
   pub told : AreStarts M done starts
+  pub held : (v : ℕ) → is_some (get nat_cmp starts v) ≡ nat_lt 0 (count v (map (tail M) done))
+  pub least : IsLeast (several M done) branched
 
-pub none_placed : (M : Model) (all : List ℕ) (starts : BTreeMap ℕ HalfEdge) → starts.entries ≡ [] → Placed M all all starts
-none_placed M all starts e = record { done = []; parts = sym (append-nil all); told = λ v. empty v } where
-  empty : (v : ℕ) → half_at starts v ≡ 0
-  empty v = ap (λ (es : List (ℕ × HalfEdge)). code_or_none (lookup (λ k. is_eq (nat_cmp v k)) es)) e
+pub none_placed : (M : Model) (all : List ℕ) (starts : BTreeMap ℕ HalfEdge) → starts.entries ≡ [] → Placed M all all starts None
+none_placed M all starts e = record { done = []; parts = sym (append-nil all); told = λ v. ap code_or_none (empty v); held = λ v. ap is_some (empty v); least = λ v. refl } where
+  empty : (v : ℕ) → get nat_cmp starts v ≡ None
+  empty v = ap (λ (es : List (ℕ × HalfEdge)). lookup (λ k. is_eq (nat_cmp v k)) es) e
 
-pub one_placed : (M : Model) (all left : List ℕ) (starts next : BTreeMap ℕ HalfEdge) → Placed M all left starts → (h : HalfEdge) (rest : List ℕ) (t : ℕ) → left ≡ rest ++ code h ∷ [] → t ≡ tail M (code h)
-    → ((v : ℕ) → get nat_cmp next v ≡ cond (is_eq (nat_cmp t v)) (Some h) (get nat_cmp starts v)) → Placed M all rest next
-one_placed M all left starts next p h rest t e is updates = record {
+-- ---- one more half-edge, which starts at t, beside those of which n start at v, and m at t
+
+positive : (n : ℕ) → 0 < n → nat_lt 0 n ≡ true
+positive n l = grind (arith, nat_tests)
+
+held_now : (t v n : ℕ) → nat_eq t v || nat_lt 0 n ≡ nat_lt 0 (tick v t + n)
+held_now t v n = elim (eqb_tells t v) [
+  | inl e ↦ ap (λ b. b || nat_lt 0 n) e.0 ∙ sym (positive (tick v t + n) (omega (arith, tick_same v, ap (tick v) e.1)))
+  | inr e ↦ ap (λ b. b || nat_lt 0 n) e.0 ∙ ap (nat_lt 0) (let s : n ≡ tick v t + n = omega (arith, tick_other v t (λ s. e.1 (sym s))) in s)
+]
+
+several_now : (t v n m : ℕ) → (v ≡ t → n ≡ m) → nat_lt 1 n || (nat_lt 0 m && nat_eq v t) ≡ nat_lt 1 (tick v t + n)
+several_now t v n m same = elim (eqb_tells v t) [
+  | inl e ↦ (λ i. nat_lt 1 n || (nat_lt 0 (sym (same e.1) i) && e.0 i)) ∙ both n ∙ ap (nat_lt 1) (let s : suc n ≡ tick v t + n = omega (arith, tick_same v, ap (tick v) e.1) in s)
+  | inr e ↦ ap (λ b. nat_lt 1 n || (nat_lt 0 m && b)) e.0 ∙ alone (nat_lt 1 n) (nat_lt 0 m) ∙ ap (nat_lt 1) (let s : n ≡ tick v t + n = omega (arith, tick_other v t e.1) in s)
+] where
+  both : (k : ℕ) → nat_lt 1 k || (nat_lt 0 k && true) ≡ nat_lt 1 (suc k)
+  both zero = refl
+  both (suc zero) = refl
+  both (suc (suc k)) =
+      let e : nat_lt 1 (suc (suc k)) ≡ true = grind (arith, nat_tests) in let f : nat_lt 1 (suc (suc (suc k))) ≡ true = grind (arith, nat_tests) in
+      ap (λ b. b || (nat_lt 0 (suc (suc k)) && true)) e ∙ sym f
+
+  alone : (a b : Bool) → a || (b && false) ≡ a
+  alone true b = refl
+  alone false true = refl
+  alone false false = refl
+
+one_only : (b : Bool) (t : ℕ) → IsLeast (λ v. b && nat_eq v t) (only b t)
+one_only true t = (grind (arith, nat_tests), λ v l. grind (arith, nat_tests))
+one_only false t = λ v. refl
+
+pub one_placed : (M : Model) (all left : List ℕ) (starts next : BTreeMap ℕ HalfEdge) (branched : Option ℕ) → Placed M all left starts branched → (h : HalfEdge) (rest : List ℕ) (t : ℕ) → left ≡ rest ++ code h ∷ [] → t ≡ tail M (code h)
+    → ((v : ℕ) → get nat_cmp next v ≡ cond (is_eq (nat_cmp t v)) (Some h) (get nat_cmp starts v)) → (old more : Option ℕ) (met : Bool) → met ≡ is_some (get nat_cmp starts t) → old ≡ only met t → more ≡ lesser branched old → Placed M all rest next more
+one_placed M all left starts next branched p h rest t e is updates old more met had alone both = record {
   done = code h ∷ p.done;
   parts = p.parts ∙ ap (λ ks. ks ++ p.done) e ∙ append_assoc rest (code h ∷ []) p.done;
-  told = λ v. ap code_or_none (updates v) ∙ ap (λ b. code_or_none (cond b (Some h) (get nat_cmp starts v))) (number_tied t v ∙ ap (λ n. nat_eq n v) is) ∙ chosen (nat_eq (tail M (code h)) v) (get nat_cmp starts v) (first_such (λ c. nat_eq (tail M c) v) p.done) (p.told v);
+  told = λ v. ap code_or_none (at v) ∙ chosen (nat_eq (tail M (code h)) v) (get nat_cmp starts v) (first_such (λ c. nat_eq (tail M c) v) p.done) (p.told v);
+  held = λ v. ap is_some (at v) ∙ either (nat_eq (tail M (code h)) v) (get nat_cmp starts v) ∙ ap (λ b. nat_eq (tail M (code h)) v || b) (p.held v) ∙ held_now (tail M (code h)) v (count v ts);
+  least = subst (IsLeast (several M (code h ∷ p.done))) (sym more_is)
+      (least_same (λ v. several M p.done v || (nat_lt 0 (count t ts) && nat_eq v t)) (several M (code h ∷ p.done))
+      (λ v. several_now t v (count v ts) (count t ts) (ap (λ k. count k ts)) ∙ ap (λ k. nat_lt 1 (tick v k + count v ts)) is)
+      (lesser branched (only (nat_lt 0 (count t ts)) t)) (least_either (several M p.done) (λ v. nat_lt 0 (count t ts) && nat_eq v t) branched (only (nat_lt 0 (count t ts)) t) p.least (one_only (nat_lt 0 (count t ts)) t)));
 } where
+  ts : List ℕ
+  ts = map (tail M) p.done
+
+  at : (v : ℕ) → get nat_cmp next v ≡ cond (nat_eq (tail M (code h)) v) (Some h) (get nat_cmp starts v)
+  at v = updates v ∙ ap (λ b. cond b (Some h) (get nat_cmp starts v)) (number_tied t v ∙ ap (λ n. nat_eq n v) is)
+
+  more_is : more ≡ lesser branched (only (nat_lt 0 (count t ts)) t)
+  more_is = both ∙ ap (lesser branched) (alone ∙ ap (λ b. only b t) (had ∙ p.held t))
+
   chosen : (b : Bool) (o : Option HalfEdge) (n : Option ℕ) → code_or_none o ≡ unwrap_or n 0 → code_or_none (cond b (Some h) o) ≡ unwrap_or (cond b (Some (code h)) n) 0
   chosen true o n e = refl
   chosen false o n e = e
 
-pub all_placed : (M : Model) (all left : List ℕ) (starts : BTreeMap ℕ HalfEdge) → Placed M all left starts → left ≡ [] → AreStarts M all starts
-all_placed M all left starts p e v = p.told v ∙ ap (λ ks. unwrap_or (first_such (λ c. nat_eq (tail M c) v) ks) 0) (sym (p.parts ∙ ap (λ ks. ks ++ p.done) e))
+  either : (b : Bool) (o : Option HalfEdge) → is_some (cond b (Some h) o) ≡ b || is_some o
+  either true o = refl
+  either false o = refl
+
+module _ (M : Model) (all left : List ℕ) (starts : BTreeMap ℕ HalfEdge) (branched : Option ℕ) (p : Placed M all left starts branched) (e : left ≡ []) where
+  done_is : p.done ≡ all
+  done_is = sym (p.parts ∙ ap (λ ks. ks ++ p.done) e)
+
+  pub all_placed : AreStarts M all starts
+  all_placed v = p.told v ∙ ap (λ ks. unwrap_or (first_such (λ c. nat_eq (tail M c) v) ks) 0) done_is
+
+  pub all_least : IsLeast (several M all) branched
+  all_least = subst (λ ks. IsLeast (several M ks) branched) done_is p.least
 
 -- ---- the last of a list, and the others
-
--- what a slice has past its end
-abbrev pub none : HalfEdge
-none = record { edge = 0; first = false }
-
-abbrev pub fewer : {A : Type 0} → List A → List A
-fewer xs = take (length xs - 1) xs
-
-pub last_part : {A : Type 0} (xs : List A) (d : A) → 1 ≤ length xs → xs ≡ fewer xs ++ slice_index_or xs (length xs - 1) d ∷ []
-last_part [] d l = absurd (omega (arith, l))
-last_part {A} (x ∷ []) d l = refl
-last_part {A} (x ∷ y ∷ ys) d l =
-    let e : length (x ∷ y ∷ ys) - 1 ≡ suc (length (y ∷ ys) - 1) = omega arith in
-    ap (λ (zs : List A). x ∷ zs) (last_part (y ∷ ys) d (omega arith)) ∙ sym (λ i. take (e i) (x ∷ y ∷ ys) ++ slice_index_or (x ∷ y ∷ ys) (e i) d ∷ [])
-
-pub last_code : (hs : List HalfEdge) (d : HalfEdge) → 1 ≤ length hs → map code hs ≡ map code (fewer hs) ++ code (slice_index_or hs (length hs - 1) d) ∷ []
-last_code hs d l = ap (λ (ks : List HalfEdge). map code ks) (last_part hs d l) ∙ map-append code (fewer hs) (slice_index_or hs (length hs - 1) d ∷ [])
 
 pub last_there : (M : Model) (hs : List HalfEdge) (d : HalfEdge) → 1 ≤ length hs → AreThere M (map code hs) → HasHalf M (code (slice_index_or hs (length hs - 1) d))
 last_there M hs d l t =

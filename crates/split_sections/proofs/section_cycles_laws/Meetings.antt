@@ -1,16 +1,10 @@
--- The vertices at which section edges meet: of the ends of these edges, sorted, the least that stands more than twice.
-use Rattle.std.proofs.Common.{◌≡◌, ℕ, ◌+◌, ◌≤◌, ◌<◌, true, false, nat_lt, List, [], ◌∷◌, ◌++◌, map, length, slice_index_or, Option, Some, None, is_some, refl, sym, ap, subst, ◌∙◌, arith, true≢false, ◌⊎◌, inl, inr}
-use Rattle.std.specs.List.Sorted.{IsPermutation, IsSorted, IsNonDecreasing}
-use Rattle.std.specs.Ordering.{nat_cmp}
-use Rattle.std.specs.List.{sum_by}
+-- The vertices at which section edges meet.
+use Rattle.std.proofs.Common.{◌≡◌, ℕ, ◌+◌, ◌≤◌, ◌<◌, true, false, nat_lt, List, [], ◌∷◌, map, length, slice_index_or, Option, Some, None, is_some, refl, sym, ap, subst, ◌∙◌, arith, true≢false, ◌⊎◌, inl, inr}
 use Rattle.std.proofs.lemmas.Bool.Decides.{nat_tests}
-use Rattle.std.proofs.lemmas.List.Sorted.{IsNonDecreasingBy-from_sort}
-use Rattle.std.proofs.lemmas.List.Sums.{sum_by-cons}
 use Rattle.euler_operators.specs.declared.Point.{Point}
-use Rattle.euler_operators.specs.Items.{tick, count, IsIn, SameItems}
+use Rattle.euler_operators.specs.Items.{count, IsIn}
 use Rattle.euler_operators.proofs.Lists.{tick_same, count-append, IsIn_or_not}
 use Rattle.euler_operators.proofs.Maps.{from_map}
-use Rattle.euler_operators.proofs.Std.{SameItems-from_permutation}
 use Rattle.euler_operators.proofs.Models.{mate_there}
 use Rattle.euler_operators.specs.declared.HalfEdge.{HalfEdge}
 use Rattle.euler_operators.specs.HalfEdge.{code, mate}
@@ -19,12 +13,12 @@ use Rattle.euler_operators.specs.Model.{Model, tail, is_number}
 use Rattle.euler_operators.specs.Sound.{Sound, HasHalf, Has}
 use Rattle.solid_walks.proofs.face_walks_laws.Above.{AllAbove, all_above_members}
 use Rattle.solid_walks.proofs.face_walks_laws.TableWalks.{passes, member_passing}
-use Rattle.split_checks.specs.Least.{least_such}
 use Rattle.split_checks.proofs.Searches.{IsLeast, one_least, least_same, least_row}
 use Rattle.shapes.specs.split.Section.{section_ends, least_branched}
 use Rattle.split_checks.proofs.cut_places_laws.Lists.{others, parts}
 use Rattle.split_sections.specs.section_cycles.Halves.{AreThere}
-use Rattle.split_sections.proofs.section_cycles_laws.Sorted.{often, least_often}
+use Rattle.split_sections.specs.section_cycles.Starts.{AreBalanced}
+use Rattle.split_sections.proofs.section_cycles_laws.Chains.{several}
 
 -- ---- the half-edges of a list, one by one
 
@@ -37,38 +31,11 @@ others_there M hs d l t b i = t b (subst (λ (ks : List HalfEdge). IsIn b (map c
 pub first_code : (hs : List HalfEdge) (d : HalfEdge) → 1 ≤ length hs → map code hs ≡ code (slice_index_or hs 0 d) ∷ map code (others hs)
 first_code hs d l = ap (λ (ks : List HalfEdge). map code ks) (parts hs d l)
 
+pub no_more : (hs : List HalfEdge) → length hs < 1 → map code hs ≡ []
+no_more [] l = refl
+no_more (h ∷ hs) l = absurd (omega (arith, l))
+
 -- ---- their ends
-
--- both ends of the first are met
-pub ends_more : (M : Model) (hs : List HalfEdge) (d : HalfEdge) → 1 ≤ length hs → (v all : ℕ) (ends ones more : List ℕ) (t u : ℕ)
-    → t ≡ tail M (code (slice_index_or hs 0 d)) → u ≡ tail M (mate (code (slice_index_or hs 0 d))) → ones ≡ ends ++ t ∷ [] → more ≡ ones ++ u ∷ []
-    → count v ends + count v (section_ends M (map code hs)) ≡ all → count v more + count v (section_ends M (map code (others hs))) ≡ all
-ends_more M hs d l v all ends ones more t u et eu e f counted =
-    let b : ℕ = code (slice_index_or hs 0 d) in
-    let bs : List ℕ = map code (others hs) in
-    let whole : count v (section_ends M (map code hs)) ≡ count v (section_ends M (b ∷ bs)) = ap (λ (ks : List HalfEdge). count v (section_ends M (map code ks))) (parts hs d l) in
-    omega (
-      arith,
-      counted,
-      whole,
-      count-append v (map (tail M) (b ∷ bs)) (map (λ c. tail M (mate c)) (b ∷ bs)),
-      count-append v (map (tail M) bs) (map (λ c. tail M (mate c)) bs),
-      ap (count v) e,
-      ap (count v) f,
-      count-append v ends (t ∷ []),
-      count-append v ones (u ∷ []),
-      ap (tick v) et,
-      ap (tick v) eu,
-    )
-
--- ---- sorted
-
-counted : (x : ℕ) (xs : List ℕ) → sum_by (tick x) xs ≡ count x xs
-counted x [] = refl
-counted x (y ∷ ys) = sum_by-cons (tick x) y ys ∙ ap (λ n. tick x y + n) (counted x ys)
-
-pub sorted_up : (xs : List ℕ) → IsSorted nat_cmp xs → IsNonDecreasing xs
-sorted_up xs sorted = IsNonDecreasingBy-from_sort (λ x. x) xs sorted
 
 module _ (M : Model) (sound : Sound M) (bs : List ℕ) (there : AreThere M bs) where
   end_there : (v : ℕ) → IsIn v (section_ends M bs) → Has M.vertices v
@@ -101,7 +68,12 @@ module _ (M : Model) (sound : Sound M) (bs : List ℕ) (there : AreThere M bs) w
   branched_least : IsLeast (λ v. nat_lt 2 (count v (section_ends M bs))) (least_branched M (section_ends M bs))
   branched_least = least_same _ _ (λ v. there_or_not v (table.get M.vertices v) refl) (least_branched M (section_ends M bs)) (least_row (λ v _. nat_lt 2 (count v (section_ends M bs))) M.vertices positive)
 
-  pub least_is : (ends sorted : List ℕ) → SameItems ends (section_ends M bs) → IsPermutation ends sorted → least_such (often sorted) sorted ≡ least_branched M (section_ends M bs)
-  least_is ends sorted same moved =
-      one_least (often sorted) (least_such (often sorted) sorted) (least_branched M (section_ends M bs)) (least_often sorted)
-      (least_same (λ v. nat_lt 2 (count v (section_ends M bs))) (often sorted) (λ v. ap (nat_lt 2) (sym (same v) ∙ SameItems-from_permutation ends sorted moved v)) (least_branched M (section_ends M bs)) branched_least)
+  -- where as many start at a vertex as end there, it is the least at which more than one start
+  pub branched_is : AreBalanced M bs → (o : Option ℕ) → IsLeast (several M bs) o → o ≡ least_branched M (section_ends M bs)
+  branched_is same o least = one_least (several M bs) o (least_branched M (section_ends M bs)) least
+      (least_same (λ v. nat_lt 2 (count v (section_ends M bs))) (several M bs) (λ v. twice (count v (map (tail M) bs)) _ (ends v)) (least_branched M (section_ends M bs)) branched_least) where
+        ends : (v : ℕ) → count v (section_ends M bs) ≡ count v (map (tail M) bs) + count v (map (tail M) bs)
+        ends v = omega (arith, count-append v (map (tail M) bs) (map (λ b. tail M (mate b)) bs), same v)
+
+        twice : (n m : ℕ) → m ≡ n + n → nat_lt 2 m ≡ nat_lt 1 n
+        twice n m e = grind (arith, nat_tests)

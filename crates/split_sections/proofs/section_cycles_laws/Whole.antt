@@ -1,5 +1,5 @@
 -- The cycles of the below halves, all found.
-use Rattle.std.proofs.Common.{◌≡◌, ℕ, ◌≤◌, ◌<◌, Bool, true, false, List, [], ◌∷◌, ◌++◌, map, length, refl, sym, ap, ◌∙◌, arith}
+use Rattle.std.proofs.Common.{◌≡◌, ℕ, ◌≤◌, Bool, true, false, List, [], ◌∷◌, ◌++◌, map, length, sym, ap, ◌∙◌, arith}
 use Rattle.std.proofs.lemmas.List.{length-map, map-append}
 use Rattle.euler_operators.specs.Items.{count, IsIn, IsApart}
 use Rattle.euler_operators.specs.declared.HalfEdge.{HalfEdge}
@@ -24,10 +24,6 @@ pub cycle_low : (M : Model) → Sound M → (bs : List ℕ) → AreThere M bs �
 cycle_low M sound bs there w first i cycle is b j =
     let k : IsIn b (cycle_from M bs first) = omega (arith, ap (count b) is, j) in
     omega (arith, steps_are, half_below M sound b (there b (around_within (next_below M bs) bs w first i b k)))
-
-pub no_more : (hs : List HalfEdge) → length hs < 1 → map code hs ≡ []
-no_more [] l = refl
-no_more (h ∷ hs) l = absurd (omega (arith, l))
 
 pub halves_pushed : (old : List Cycle) (cycle : Cycle) (new : List Cycle) → new ≡ old ++ cycle ∷ [] → map halves_of new ≡ map halves_of old ++ halves_of cycle ∷ []
 halves_pushed old cycle new e = ap (λ (cs : List Cycle). map halves_of cs) e ∙ map-append halves_of old (cycle ∷ [])

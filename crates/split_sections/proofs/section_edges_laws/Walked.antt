@@ -1,32 +1,23 @@
 -- The halves in faces below that a walk over the faces of a solid meets are the below halves of its section.
 use Rattle.std.specs.Prelude.{filter}
-use Rattle.std.proofs.Common.{◌≡◌, ℕ, Bool, not, ◌&&◌, List, [], ◌∷◌, ◌++◌, refl, sym, ap, subst, ◌∙◌, arith, inl, inr}
+use Rattle.std.proofs.Common.{◌≡◌, ℕ, Bool, not, ◌&&◌, List, [], ◌∷◌, ◌++◌, refl, sym, ap, subst, ◌∙◌, arith}
 use Rattle.std.proofs.lemmas.Bool.{and_parts, not-true}
-use Rattle.std.proofs.lemmas.Bool.Decides.{eqb_tells}
 use Rattle.std.proofs.lemmas.List.Elements.{filter-append}
-use Rattle.euler_operators.specs.Items.{count, IsIn, IsApart}
-use Rattle.euler_operators.proofs.Lists.{count-append, tick_other}
+use Rattle.euler_operators.specs.Items.{IsIn, IsApart}
 use Rattle.euler_operators.specs.HalfEdge.{mate}
-use Rattle.euler_operators.specs.Model.{Model, items_of, content, loop_of, faces_of}
+use Rattle.euler_operators.specs.Model.{Model, loop_of, faces_of}
 use Rattle.euler_operators.specs.Sound.{Sound}
 use Rattle.euler_operators.proofs.Models.{cycle_there, loop_there}
 use Rattle.euler_operators.proofs.Members.{IsIn-filter}
 use Rattle.euler_operators.specs.Conditions.{face_at, lists}
 use Rattle.shapes.specs.Faces.{items_in, loops_of, boundary}
+use Rattle.split_checks.proofs.cut_places_laws.Edges.{item_of}
 use Rattle.split_checks.proofs.cut_places_laws.Lists.{of_picked, picked_apart}
 use Rattle.split_opening_laws.specs.cycles.SectionCycles.{IsBelowHalf}
 use Rattle.split_sections.specs.section_edges.BelowHalves.{is_below, below_met}
 use Rattle.shapes.specs.Walks.{loops_in}
 use Rattle.shapes.proofs.walks.FaceLoops.{different_items, items_counted, items_there, items_joined}
 use Rattle.shapes.proofs.walks.SolidFaces.{solid_loops, all_loops_apart, loop_in_solid, solid_has_loop}
-
--- an item of a loop stands among the items of some loops with it
-item_of : (M : Model) (ls : List ℕ) (l x : ℕ) → IsIn l ls → IsIn x (items_of (content M l)) → IsIn x (items_in M ls)
-item_of M [] l x i j = absurd (omega arith)
-item_of M (k ∷ ls) l x i j = elim (eqb_tells l k) [
-  | inl e ↦ omega (arith, count-append x (items_of (content M k)) (items_in M ls), j, ap (λ m. count x (items_of (content M m))) e.1)
-  | inr n ↦ omega (arith, count-append x (items_of (content M k)) (items_in M ls), item_of M ls l x (omega (arith, i, tick_other l k n.1)) j)
-]
 
 module _ (M : Model) (sound : Sound M) (above : List ℕ) (s : ℕ) where
   abbrev halves : List ℕ

@@ -20,7 +20,7 @@ ghost use Rattle.split_sections.specs.declared.section_checks.section.Section.{S
 use crate::section_checks::holes::has_stray_hole;
 use crate::section_checks::numbers::check_left;
 use crate::section_checks::section::Section;
-use crate::section_cycles::{Cycle, cycles, least_branched};
+use crate::section_cycles::{Cycle, cycles, starts_of};
 use crate::section_edges::{below_halves, faces_above};
 use euler_conditions::Arena;
 use euler_operators::{Kind, Plane, Refusal, Why};
@@ -47,14 +47,15 @@ fn check_cycles(
     ensures open { (found : Vec Cycle Global) → (result ≡ Ok (Ok found)) → ((first_refusal (section_conditions arena.now.model s plane (taken_of taken) (below_halves arena.now.model above.now s)) ≡ None) × AreCyclesOf arena.now.model plane (below_halves arena.now.model above.now s) found.items) }
 {
     let halves = below_halves(alloc, arena, above, s)?;
-    let branched = least_branched(alloc, arena, halves.as_slice())?;
-    if let Some(v) = branched {
+    let listed = halves.as_slice();
+    let found = starts_of(alloc, arena, listed)?;
+    if let Some(v) = found.1 {
         return Ok(Err(Refusal {
             why: Why::BranchedVertex,
             number: v,
         }));
     }
-    let cycles = cycles(alloc, arena, plane, halves.as_slice())?;
+    let cycles = cycles(alloc, arena, plane, listed, &found.0)?;
     if has_stray_hole(cycles.as_slice()) {
         return Ok(Err(Refusal {
             why: Why::SectionHoles,

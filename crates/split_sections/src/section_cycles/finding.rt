@@ -14,7 +14,7 @@ ghost use Rattle.split_sections.specs.section_cycles.Starts.{AreStarts};
 
 use crate::section_cycles::cycle::Cycle;
 use crate::section_cycles::holes::is_hole;
-use crate::section_cycles::starts::{next_half, starts_of};
+use crate::section_cycles::starts::next_half;
 use euler_conditions::{Arena, same};
 use euler_operators::{HalfEdge, Plane};
 use std::alloc::{AllocError, Global};
@@ -87,29 +87,30 @@ fn meet(met: &mut BTreeSet<u32>, halves: &[HalfEdge]) -> Result<(), AllocError>
     Ok(())
 }
 
-/// The cycles of these below halves, each from its least half on, by their least halves, with word on which are holes. Each half leads to
-/// the one that starts where it ends, and no two to the same. It takes n log n steps for n halves. `AllocError` where memory is refused.
+/// The cycles of these below halves, which the map has by the vertices at which they start, each cycle from its least half on, by their
+/// least halves, with word on which are holes. Each half leads to the one that starts where it ends, and no two to the same. It takes n log n steps for n halves. `AllocError` where memory is refused.
 pub(crate) fn cycles(
     alloc: Global,
     arena: &Arena,
     plane: Plane,
     halves: &[HalfEdge],
+    starts: &BTreeMap<u32, HalfEdge>,
 ) -> Result<Vec<Cycle>, AllocError>
     requires ready { IsReady arena.now }
     requires plane { IsCutPlane plane }
     requires there { AreThere arena.now.model (map code halves.now) }
+    requires starts { AreStarts arena.now.model (map code halves.now) starts.now }
     requires rising { strictly_rises (map code halves.now) ≡ true }
     requires next { Permutes (next_below arena.now.model (map code halves.now)) (map code halves.now) }
     ensures halves { IfOk result (λ found. map halves_of found.items ≡ section_cycles arena.now.model (map code halves.now)) }
     ensures holes { IfOk result (λ found. map (λ c. c.hole) found.items ≡ map (is_hole arena.now.model plane) (map halves_of found.items)) }
 {
-    let starts = starts_of(alloc, arena, halves)?;
     let mut met = BTreeSet::new(alloc);
     let mut cycles = Vec::new(alloc);
     let mut rest = halves;
     'halves: while let [half, others @ ..] = rest {
         if !met.contains(&half.code()) {
-            let cycle = cycle_with_hole(alloc, arena, plane, halves, &starts, *half)?;
+            let cycle = cycle_with_hole(alloc, arena, plane, halves, starts, *half)?;
             if cycle.halves.len() == halves.len() {
                 cycles.push(cycle)?;
                 return Ok(cycles);

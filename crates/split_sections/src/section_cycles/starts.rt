@@ -3,31 +3,46 @@ ghost use Rattle.std.specs.Prelude.{◌≡◌, ◌≢◌, true, IfOk, map};
 ghost use Rattle.euler_operators.specs.HalfEdge.{code, mate};
 ghost use Rattle.euler_operators.specs.Model.{has_half, tail};
 ghost use Rattle.euler_conditions.specs.Ready.{IsReady};
+ghost use Rattle.shapes.specs.split.Section.{least_branched, section_ends};
+ghost use Rattle.split_checks.specs.Least.{only};
 ghost use Rattle.split_sections.specs.section_cycles.Halves.{AreThere};
-ghost use Rattle.split_sections.specs.section_cycles.Starts.{AreStarts, half_at};
+ghost use Rattle.split_sections.specs.section_cycles.Starts.{AreBalanced, AreStarts, half_at};
 
 use euler_conditions::Arena;
 use euler_operators::HalfEdge;
+use solid_walks::lesser;
 use std::alloc::{AllocError, Global};
 use std::collections::BTreeMap;
 
-/// For each vertex the first of these half-edges that starts at it.
+/// The number alone, if it is wanted.
+fn only(wanted: bool, number: u32) -> Option<u32>
+    ensures { result ≡ only wanted number }
+{
+    if wanted { Some(number) } else { None }
+}
+
+/// For each vertex the first of these half-edges that starts at it; and the least vertex at which more than two of their edges meet, if
+/// there is one, where as many start at each vertex as end there. It takes n log n steps for n half-edges.
 pub(crate) fn starts_of(
     alloc: Global,
     arena: &Arena,
     halves: &[HalfEdge],
-) -> Result<BTreeMap<u32, HalfEdge>, AllocError>
+) -> Result<(BTreeMap<u32, HalfEdge>, Option<u32>), AllocError>
     requires ready { IsReady arena.now }
     requires there { AreThere arena.now.model (map code halves.now) }
-    ensures { IfOk result (λ starts. AreStarts arena.now.model (map code halves.now) starts) }
+    ensures starts { IfOk result (λ found. AreStarts arena.now.model (map code halves.now) found.0) }
+    ensures branched { IfOk result (λ found. AreBalanced arena.now.model (map code halves.now) → found.1 ≡ least_branched arena.now.model (section_ends arena.now.model (map code halves.now))) }
 {
     let mut starts = BTreeMap::new(alloc);
+    let mut branched = None;
     let mut rest = halves;
     'halves: while let [others @ .., half] = rest {
-        starts.insert(arena.tail(*half), *half)?;
+        let vertex = arena.tail(*half);
+        let met = starts.insert(vertex, *half)?;
+        branched = lesser(branched, only(met.is_some(), vertex));
         rest = others;
     }
-    Ok(starts)
+    Ok((starts, branched))
 }
 
 /// The half-edge that starts where this one ends.

@@ -1,10 +1,10 @@
 use Rattle.std.proofs.Common.{[], Ok, sym, ap, subst, ◌∙◌}
 use Rattle.euler_operators.specs.Conditions.{verdict}
 use Rattle.shapes.specs.split.Split.{split_above}
+use Rattle.split_drawing.specs.Noted.{AreSides}
 use Rattle.split_drawing.specs.Progress.{drawing_of}
 use Rattle.split_sections.specs.section_checks.Sections.{IsSection}
-use Rattle.plane_split.proofs.Conditions.{plane_within, points_still, still_there, later_decide}
-use Rattle.split_drawing.proofs.NotedSides.{noted_still}
+use Rattle.plane_split.proofs.Conditions.{plane_within, still_there, later_decide}
 use Rattle.plane_split.proofs.Parted.{split_is}
 use Rattle.plane_split.proofs.steps.take_steps.Goals as goal
 
@@ -18,9 +18,7 @@ check_later-requires-clause-there c =
 
 pub check_later-requires-clause-sides : goal.check_later-requires-clause-sides
 check_later-requires-clause-sides c =
-    noted_still c.args.draft.now.model c.arena.result.now.model c.args.plane.now
-    (points_still c.args.draft.now.model c.args.s c.args.plane.now c.args.upper c.requires.begins c.requires.sound (drawing_of c.in_ok-drawn.drawn c.arena.result.now.model [])
-    (ap (λ X. drawing_of c.in_ok-drawn.drawn X []) c.arena.ensures.model ∙ c.in_ok-drawn.ensures.drawn)) c.args.sides.now.noted c.requires.sides
+    subst (λ X. AreSides X c.args.plane.now c.draw_solid.new.sides) (sym c.arena.ensures.model) c.in_ok-drawn.ensures.sides
 
 pub returns-in-Err-clause-carried : goal.returns-in-Err-clause-carried
 returns-in-Err-clause-carried c =

@@ -1,10 +1,15 @@
-use Rattle.std.proofs.Common.{◌≡◌, ◌∙◌, ◌+◌, ℕ, List, Some, None, map, length, vec_len, sym, ap, subst, arith}
+use Rattle.std.proofs.Common.{◌≡◌, ◌∙◌, ◌+◌, ℕ, List, Result, Ok, IfOk, Some, None, Vec, Global, map, length, vec_len, sym, ap, subst, arith}
 use Rattle.std.specs.Prelude.{min}
+use Rattle.euler_operators.specs.declared.Plane.{Plane}
+use Rattle.euler_operators.specs.declared.Refusal.{Refusal}
 use Rattle.euler_operators.specs.HalfEdge.{code}
+use Rattle.euler_operators.specs.Model.{Model}
 use Rattle.euler_operators.specs.Conditions.{first_refusal, strictly_rises}
 use Rattle.euler_laws.proofs.shared.Goes.{verdict_passed, verdict_failed}
 use Rattle.shapes.specs.Fresh.{first_such, numbers_left, taken_in}
-use Rattle.shapes.specs.split.Sides.{straddling_faces}
+use Rattle.shapes.specs.split.Sides.{crossing_edges, straddling_faces}
+use Rattle.shapes.specs.split.Split.{cut_conditions}
+use Rattle.split_checks.specs.declared.cuts.Pair.{Pair}
 use Rattle.split_checks.specs.Cuts.{all_pairs, codes, cut_at, paired_face}
 use Rattle.split_checks.specs.begin_checks.Conditions.{face_conditions}
 use Rattle.split_checks.specs.cut_places.Crossings.{AreCrossing, is_off}
@@ -16,6 +21,21 @@ use Rattle.split_checks.proofs.cut_places_laws.Told.{solid_faces, solid_told}
 use Rattle.split_checks.proofs.face_pairs_laws.Counts.{many_pairs}
 use Rattle.split_checks.proofs.begin_checks_laws.Stages.{at_ok, at_err, edges_refused, faces_refused, numbers_decide}
 use Rattle.split_checks.proofs.begin_checks.checks.check_cuts.Goals as goal
+
+-- the numbers that are left decide where the edges and the faces can be cut
+left : {A B : Type 0} (M : Model) (s : ℕ) (p : Plane) (es fs : List ℕ) → es ≡ crossing_edges M p s → fs ≡ straddling_faces M p s
+    → (edges : Result A ℕ) (cut : A) → edges ≡ Ok cut → IfOk edges (λ _. first_such (is_off M p) es ≡ None)
+    → (faces : Result (B × Vec Pair Global) Refusal) (paired : B × Vec Pair Global) → faces ≡ Ok paired
+    → IfOk faces (λ _. first_refusal (face_conditions M p fs) ≡ None) → IfOk faces (λ paired. map codes paired.1.items ≡ all_pairs M p fs)
+    → (m n k : ℕ) → m ≡ min (length es) 1000001 → n ≡ min k 1000001 → k ≡ vec_len paired.1
+    → first_refusal (numbers_left (taken_in M) (record { faces = n; loops = n; edges = m + n; vertices = m })) ≡ first_refusal (cut_conditions M p (crossing_edges M p s) (straddling_faces M p s))
+left M s p es fs along straddling edges cut is_cut on faces paired is_paired drawable pairs m n k is_m is_n is_k =
+    let held : vec_len paired.1 ≡ length paired.1.items = omega (arith, paired.1.ok.0) in
+    let whole = at_ok edges cut (λ _. first_such (is_off M p) es ≡ None) is_cut on in
+    let able = at_ok faces paired (λ _. first_refusal (face_conditions M p fs) ≡ None) is_paired drawable in
+    let are = at_ok faces paired (λ paired. map codes paired.1.items ≡ all_pairs M p fs) is_paired pairs in
+    numbers_decide M s p (sym whole ∙ ap (first_such (is_off M p)) along) (ap (λ gs. first_refusal (face_conditions M p gs)) (sym straddling) ∙ able) m n
+    (is_m ∙ ap (λ (ks : List ℕ). min (length ks) 1000001) along) (is_n ∙ ap (λ j. min j 1000001) (is_k ∙ held ∙ many_pairs M p _ _ (are ∙ ap (all_pairs M p) straddling)))
 
 pub cut_edges-requires-clause-crossing : goal.cut_edges-requires-clause-crossing
 cut_edges-requires-clause-crossing c =
@@ -56,31 +76,17 @@ returns-in-Err-2-clause-refused c =
 
 pub returns-in-Ok-check_left-clause-accepted : goal.returns-in-Ok-check_left-clause-accepted
 returns-in-Ok-check_left-clause-accepted c =
-    let M = c.args.arena.now.model in let p = c.args.plane in let s = c.args.s in
-    let whole = sym (at_ok c.in_ok-cut.field-0 c.in-Ok.cut (λ _. first_such (is_off M p) c.as_slice-edges.result.now ≡ None) c.in-Ok.is c.in_ok-cut.ensures.whole) ∙ ap (first_such (is_off M p)) (c.as_slice-edges.ensures.value ∙ c.requires.met.edges) in
-    let cut = ap faces_in c.as_slice-straddling.ensures.value ∙ solid_faces M p s c.args.met.now c.requires.met in
-    let m = c.min.result in let n = c.min-2.result in
-    let faces = at_ok c.in_ok-paired.field-0 c.in-Ok-2.paired (λ _. first_refusal (face_conditions M p (faces_in c.as_slice-straddling.result.now)) ≡ None) c.in-Ok-2.is c.in_ok-paired.ensures.accepted in
-    let pairs = at_ok c.in_ok-paired.field-0 c.in-Ok-2.paired (λ paired. map codes paired.1.items ≡ all_pairs M p (faces_in c.as_slice-straddling.result.now)) c.in-Ok-2.is c.in_ok-paired.ensures.pairs in
-    let held : vec_len c.in-Ok-2.paired.1 ≡ length c.in-Ok-2.paired.1.items = omega (arith, c.in-Ok-2.paired.1.ok.0) in
-    sym (numbers_decide M s p whole (ap (λ fs. first_refusal (face_conditions M p fs)) (sym cut) ∙ faces) m n
-    (c.min.ensures ∙ ap (λ (es : List ℕ). min (length es) 1000001) (c.as_slice-edges.ensures.value ∙ c.requires.met.edges))
-    (c.min-2.ensures ∙ ap (λ k. min k 1000001) (c.len.ensures ∙ held ∙ many_pairs M p _ _ (pairs ∙ ap (all_pairs M p) cut))))
-    ∙ verdict_passed (first_refusal (numbers_left (taken_in M) (record { faces = n; loops = n; edges = m + n; vertices = m }))) c.in-Ok-check_left.field-0 c.in-Ok-check_left.ensures
+    let M = c.args.arena.now.model in
+    sym (left M c.args.s c.args.plane _ _ (c.as_slice-edges.ensures.value ∙ c.requires.met.edges) (ap faces_in c.as_slice-straddling.ensures.value ∙ solid_faces M c.args.plane c.args.s c.args.met.now c.requires.met)
+    _ _ c.in-Ok.is c.in_ok-cut.ensures.whole _ _ c.in-Ok-2.is c.in_ok-paired.ensures.accepted c.in_ok-paired.ensures.pairs c.min.result c.min-2.result c.len.result c.min.ensures c.min-2.ensures c.len.ensures)
+    ∙ verdict_passed _ c.in-Ok-check_left.field-0 c.in-Ok-check_left.ensures
 
 pub returns-in-Err-check_left-clause-refused : goal.returns-in-Err-check_left-clause-refused
 returns-in-Err-check_left-clause-refused c =
-    let M = c.args.arena.now.model in let p = c.args.plane in let s = c.args.s in
-    let whole = sym (at_ok c.in_ok-cut.field-0 c.in-Ok.cut (λ _. first_such (is_off M p) c.as_slice-edges.result.now ≡ None) c.in-Ok.is c.in_ok-cut.ensures.whole) ∙ ap (first_such (is_off M p)) (c.as_slice-edges.ensures.value ∙ c.requires.met.edges) in
-    let cut = ap faces_in c.as_slice-straddling.ensures.value ∙ solid_faces M p s c.args.met.now c.requires.met in
-    let m = c.min.result in let n = c.min-2.result in
-    let faces = at_ok c.in_ok-paired.field-0 c.in-Ok-2.paired (λ _. first_refusal (face_conditions M p (faces_in c.as_slice-straddling.result.now)) ≡ None) c.in-Ok-2.is c.in_ok-paired.ensures.accepted in
-    let pairs = at_ok c.in_ok-paired.field-0 c.in-Ok-2.paired (λ paired. map codes paired.1.items ≡ all_pairs M p (faces_in c.as_slice-straddling.result.now)) c.in-Ok-2.is c.in_ok-paired.ensures.pairs in
-    let held : vec_len c.in-Ok-2.paired.1 ≡ length c.in-Ok-2.paired.1.items = omega (arith, c.in-Ok-2.paired.1.ok.0) in
-    sym (numbers_decide M s p whole (ap (λ fs. first_refusal (face_conditions M p fs)) (sym cut) ∙ faces) m n
-    (c.min.ensures ∙ ap (λ (es : List ℕ). min (length es) 1000001) (c.as_slice-edges.ensures.value ∙ c.requires.met.edges))
-    (c.min-2.ensures ∙ ap (λ k. min k 1000001) (c.len.ensures ∙ held ∙ many_pairs M p _ _ (pairs ∙ ap (all_pairs M p) cut))))
-    ∙ verdict_failed (first_refusal (numbers_left (taken_in M) (record { faces = n; loops = n; edges = m + n; vertices = m }))) c.in-Err-check_left.refusal c.in-Err-check_left.ensures
+    let M = c.args.arena.now.model in
+    sym (left M c.args.s c.args.plane _ _ (c.as_slice-edges.ensures.value ∙ c.requires.met.edges) (ap faces_in c.as_slice-straddling.ensures.value ∙ solid_faces M c.args.plane c.args.s c.args.met.now c.requires.met)
+    _ _ c.in-Ok.is c.in_ok-cut.ensures.whole _ _ c.in-Ok-2.is c.in_ok-paired.ensures.accepted c.in_ok-paired.ensures.pairs c.min.result c.min-2.result c.len.result c.min.ensures c.min-2.ensures c.len.ensures)
+    ∙ verdict_failed _ c.in-Err-check_left.refusal c.in-Err-check_left.ensures
 
 pub returns-in-Ok-check_left-clause-cuts : goal.returns-in-Ok-check_left-clause-cuts
 returns-in-Ok-check_left-clause-cuts c =

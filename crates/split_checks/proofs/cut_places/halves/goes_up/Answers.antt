@@ -10,10 +10,10 @@ use Rattle.split_checks.specs.cut_places.Sides.{same_sign}
 use Rattle.split_checks.proofs.cut_places_laws.Signs.{sign_lies}
 use Rattle.split_checks.proofs.cut_places.halves.goes_up.Goals as goal
 
-pub known_start-requires-clause-there : goal.known_start-requires-clause-there
-known_start-requires-clause-there c = ap (has_half c.args.arena.now.model) c.mate.ensures ∙ ap (table.has c.args.arena.now.model.edges) (edge_of-mate (code c.args.h)) ∙ c.requires.there
+pub start_side-requires-clause-there : goal.start_side-requires-clause-there
+start_side-requires-clause-there c = ap (has_half c.args.arena.now.model) c.mate.ensures ∙ ap (table.has c.args.arena.now.model.edges) (edge_of-mate (code c.args.h)) ∙ c.requires.there
 
-pub returns : goal.returns
-returns c =
+pub returns-clause-is : goal.returns-clause-is
+returns-clause-is c =
     let M = c.args.arena.now.model in let p = c.args.plane in
-    c.same.ensures ∙ ap (λ side. same_sign side Above) (c.known_start.ensures.is ∙ ap (λ k. sign_of (height p (start M k))) c.mate.ensures) ∙ sign_lies Above p (finish M (code c.args.h))
+    c.same.ensures ∙ ap (λ side. same_sign side Above) (c.start_side.ensures.is ∙ ap (λ k. sign_of (height p (start M k))) c.mate.ensures) ∙ sign_lies Above p (finish M (code c.args.h))

@@ -40,7 +40,7 @@ returns-then-eq-clause-met c =
     let M = c.args.arena.now.model in let p = c.args.plane in let first = code c.least_item-first.result in let l = c.least_item-first.ensures in
     let left = to_come first (cycle_of M first) (code c.round.at) in
     let back = comes_back M c.requires.ready.sound first l.there (code c.round.at) (code c.next-next.result) c.round.invariant.at_in c.next-next.ensures.in_loop (codes_same c.next-next.result c.least_item-first.result (sym c.eq.ensures ∙ c.if-eq.true)) in
-    let walked = walk_on M p c.args.looked.now c.round.looked c.look_at.new.looked (code c.round.at) left (cycle_of M first) c.round.invariant.walked c.in_ok-look_at.ensures in
+    let walked = walk_on M p c.args.looked.now c.round.looked c.look_at.new.looked (code c.round.at) left (cycle_of M first) c.round.invariant.walked c.in_ok-look_at.ensures.met in
     subst (IsRound M p c.args.looked.now c.look_at.new.looked) l.same_loop (walk_ends M p c.args.looked.now c.look_at.new.looked left (cycle_of M first) walked back.0)
 
 pub round-smaller : goal.round-smaller
@@ -53,10 +53,10 @@ round-preserved c =
     let M = c.args.arena.now.model in let p = c.args.plane in let first = code c.least_item-first.result in let l = c.least_item-first.ensures in
     let left = to_come first (cycle_of M first) (code c.round.at) in
     let on = goes_on M c.requires.ready.sound first l.there (code c.round.at) (code c.next-next.result) c.round.invariant.at_in c.next-next.ensures.in_loop (codes_differ c.next-next.result c.least_item-first.result (sym c.eq.ensures ∙ c.if-eq.false)) in
-    let walked = walk_on M p c.args.looked.now c.round.looked c.look_at.new.looked (code c.round.at) left (cycle_of M first) c.round.invariant.walked c.in_ok-look_at.ensures in
+    let walked = walk_on M p c.args.looked.now c.round.looked c.look_at.new.looked (code c.round.at) left (cycle_of M first) c.round.invariant.walked c.in_ok-look_at.ensures.met in
     record {
       at_in = on.0;
       side = c.start_side-to.ensures.is;
-      sides = c.start_side-to.ensures.sides;
+      sides = c.look_at.ensures.sides;
       walked = subst (λ (hs : List ℕ). Walked M p c.args.looked.now c.look_at.new.looked hs (cycle_of M first)) on.1 walked;
     }

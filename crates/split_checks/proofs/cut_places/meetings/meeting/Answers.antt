@@ -1,8 +1,10 @@
 use Rattle.std.proofs.Common.{ap, sym, subst, ℕ, List, length, arith}
+use Rattle.std.specs.List.Sorted.{IsPermutation}
 use Rattle.euler_operators.specs.Model.{faces_of}
 use Rattle.solid_measure.proofs.face_walks_laws.Above.{above}
 use Rattle.solid_measure.proofs.solid_checks_laws.FaceWalks.{next_face, no_face_left, faces_from_zero}
 use Rattle.split_checks.proofs.cut_places_laws.Met.{FacesWalked, faces_begin, faces_on, faces_end}
+use Rattle.split_checks.proofs.cut_places_laws.Sorted.{sorted_crossings}
 use Rattle.split_checks.proofs.cut_places.meetings.meeting.Goals as goal
 
 pub faces-init : goal.faces-init
@@ -28,4 +30,11 @@ faces-preserved c =
 pub returns-clause-met : goal.returns-clause-met
 returns-clause-met c =
     let M = c.args.arena.now.model in let s = c.args.s in
-    faces_end M c.args.plane c.faces.met (above c.faces.last (faces_of M s)) (faces_of M s) c.faces.invariant.walked (no_face_left M s c.faces.last c.in_default.ensures)
+    let m = faces_end M c.args.plane c.faces.met (above c.faces.last (faces_of M s)) (faces_of M s) c.faces.invariant.walked (no_face_left M s c.faces.last c.in_default.ensures) in
+    record {
+      above = m.above;
+      below = m.below;
+      edges = sorted_crossings M c.requires.ready.sound s c.args.plane c.sort.new.self.items (subst (λ es. IsPermutation es c.sort.new.self.items) m.edges c.sort.ensures.permutation) c.in_ok-sort.ensures.sorted;
+      faces = m.faces;
+      places = m.places;
+    }

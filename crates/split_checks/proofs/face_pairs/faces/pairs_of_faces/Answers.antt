@@ -49,6 +49,7 @@ faces-preserved c =
     let counted : q.places / 2 ≡ length (place_pairs M p q.face) =
     ap (λ n. n / 2) (many M p q (others qs) hs told) ∙ sym (pairs_of_places M p q.face) in
     record {
+      sides = c.push_pairs.ensures.sides;
       whole = along.2;
       told = subst (λ (ks : List ℕ). AreTold M p (others qs) ks) (sym (ap (map code) c.split_at.ensures.back)) (more M p q (others qs) hs told);
       first = sym (ap (λ (rs : List FaceMet). first_such test (faces_in rs)) is ∙ ap (λ b. cond b (Some q.face) (first_such test (faces_in (others qs)))) passed) ∙ c.faces.invariant.first;

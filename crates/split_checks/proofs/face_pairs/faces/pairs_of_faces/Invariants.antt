@@ -4,11 +4,13 @@ use Rattle.shapes.specs.Fresh.{first_such}
 use Rattle.shapes.specs.split.Places.{is_crossed}
 use Rattle.split_checks.specs.Cuts.{all_pairs, codes, paired_face}
 use Rattle.split_checks.specs.cut_places.Meetings.{AreTold, faces_in}
+use Rattle.split_checks.specs.cut_places.Noted.{AreSides}
 use Rattle.split_checks.specs.cut_places.Places.{AreFacesAlong}
 use Rattle.split_checks.proofs.face_pairs.faces.pairs_of_faces.Given as goal
 
 abbrev pub invariant-faces : goal.invariant-faces
 invariant-faces l = record {
+  sides : AreSides l.arena.model l.plane l.sides;
   whole : AreFacesAlong l.arena.model l.plane l.crossings.edges.now (faces_in l.rest);
   told : AreTold l.arena.model l.plane l.rest (map code l.left);
   first : first_such (is_crossed l.arena.model l.plane) (faces_in l.rest) ≡ first_such (is_crossed l.arena.model l.plane) (faces_in l.faces);

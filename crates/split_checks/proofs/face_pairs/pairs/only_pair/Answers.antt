@@ -31,13 +31,13 @@ one_pair M p h k (Some q) e f = ap (λ (r : ℕ × ℕ). r ∷ []) f ∙ two_pai
 pub returns-then-eq-clause-crossed : goal.returns-then-eq-clause-crossed
 returns-then-eq-clause-crossed c =
     let M = c.args.arena.now.model in let p = c.args.plane in let h = code c.args.first in let k = code c.args.second in
-    let met : same_point (place_point M p h) (place_point M p k) ≡ true = compared c.place_point-met.result c.place_point.result _ _ c.eq.result c.place_point-met.ensures c.place_point.ensures c.eq.ensures ∙ c.if-eq.true in
+    let met : same_point (place_point M p h) (place_point M p k) ≡ true = compared c.place_point-met.result c.place_point.result _ _ c.eq.result c.place_point-met.ensures.is c.place_point.ensures.is c.eq.ensures ∙ c.if-eq.true in
     sym (ap (λ b. b || not (is_up_and_down M p (h, k))) met)
 
 pub returns-clause-crossed : goal.returns-clause-crossed
 returns-clause-crossed c =
     let M = c.args.arena.now.model in let p = c.args.plane in
-    let apart : same_point (place_point M p (code c.args.first)) (place_point M p (code c.args.second)) ≡ false = compared c.place_point-met.result c.place_point.result _ _ c.eq.result c.place_point-met.ensures c.place_point.ensures c.eq.ensures ∙ c.if-eq.false in
+    let apart : same_point (place_point M p (code c.args.first)) (place_point M p (code c.args.second)) ≡ false = compared c.place_point-met.result c.place_point.result _ _ c.eq.result c.place_point-met.ensures.is c.place_point.ensures.is c.eq.ensures ∙ c.if-eq.false in
     none_or_some c.up_and_down.result ∙ sym (λ i. apart i || not (sym c.up_and_down.ensures.differ i))
 
 pub returns-clause-pair : goal.returns-clause-pair

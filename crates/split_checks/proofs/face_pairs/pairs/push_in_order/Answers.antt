@@ -23,6 +23,7 @@ pairs-preserved c =
     c.in-Some.ensures.removal ∙ ap (λ (fs : List (Key × HalfEdge)). (c.in-Some.field-0-0, c.in-Some.first) ∷ fs) c.in-Some-pop_first.ensures.removal in
     let rest = map up (in_pairs (places_of left)) in
     record {
+      sides = c.up_and_down.ensures.sides;
       there = (subst (λ (fs : List (Key × HalfEdge)). AreThere M (places_of fs)) is c.pairs.invariant.there).1.1;
       differ = sym (ap (λ (fs : List (Key × HalfEdge)). list_all test (in_pairs (places_of fs))) is ∙ ap (λ b. b && list_all test (in_pairs (places_of left))) (sym c.in-Some-up_and_down.ensures.differ)) ∙ c.pairs.invariant.differ;
       made = ap (λ (ps : List Pair). map codes ps ++ rest) c.in_ok-push.ensures.items ∙ ap (λ (qs : List (ℕ × ℕ)). qs ++ rest) (map-append codes c.pairs.pairs.items _) ∙ append_assoc had _ rest

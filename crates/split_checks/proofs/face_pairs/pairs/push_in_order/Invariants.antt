@@ -2,12 +2,14 @@ use Rattle.std.proofs.Common.{◌≡◌, ◌++◌, map, length}
 use Rattle.std.specs.List.{list_all}
 use Rattle.shapes.specs.split.Places.{in_pairs, is_up_and_down, up_first}
 use Rattle.split_checks.specs.Cuts.{codes}
+use Rattle.split_checks.specs.cut_places.Noted.{AreSides}
 use Rattle.split_checks.specs.cut_places.Walks.{AreThere}
 use Rattle.split_checks.specs.place_order.Order.{places_of}
 use Rattle.split_checks.proofs.face_pairs.pairs.push_in_order.Given as goal
 
 abbrev pub invariant-pairs : goal.invariant-pairs
 invariant-pairs l = record {
+  sides : AreSides l.arena.model l.plane l.sides;
   there : AreThere l.arena.model (places_of l.left.entries);
   differ : list_all (is_up_and_down l.arena.model l.plane) (in_pairs (places_of l.left.entries)) ≡ list_all (is_up_and_down l.arena.model l.plane) (in_pairs (places_of l.fn.order.entries));
   made : map codes l.pairs.items ++ map (up_first l.arena.model l.plane) (in_pairs (places_of l.left.entries))

@@ -36,23 +36,23 @@ returns-in-len2-clause-pairs c =
 pub push_in_order-requires-clause-there : goal.push_in_order-requires-clause-there
 push_in_order-requires-clause-there c =
     let M = c.args.arena.now.model in let p = c.args.plane in let hs : List ℕ = map code c.args.places.now in
-    let fact = at_some c.in_ok-order.field-0 c.in-Some.order (some_meet M p hs ≡ true) (λ order. (some_meet M p hs ≡ false) × (order.entries ≡ entries_of M p (sorted M p hs))) c.in-Some.is c.in_ok-order.ensures in
+    let fact = at_some c.in_ok-order.field-0 c.in-Some.order (some_meet M p hs ≡ true) (λ order. (some_meet M p hs ≡ false) × (order.entries ≡ entries_of M p (sorted M p hs))) c.in-Some.is c.in_ok-order.ensures.order in
     order_there M p hs c.in-Some.order.entries fact.1 c.args.crossings.edges.now c.requires.whole
 
 pub returns-in-Some-clause-crossed : goal.returns-in-Some-clause-crossed
 returns-in-Some-clause-crossed c =
     let M = c.args.arena.now.model in let p = c.args.plane in let hs : List ℕ = map code c.args.places.now in
-    let fact = at_some c.in_ok-order.field-0 c.in-Some.order (some_meet M p hs ≡ true) (λ order. (some_meet M p hs ≡ false) × (order.entries ≡ entries_of M p (sorted M p hs))) c.in-Some.is c.in_ok-order.ensures in
+    let fact = at_some c.in_ok-order.field-0 c.in-Some.order (some_meet M p hs ≡ true) (λ order. (some_meet M p hs ≡ false) × (order.entries ≡ entries_of M p (sorted M p hs))) c.in-Some.is c.in_ok-order.ensures.order in
     subst (λ b. IfOk c.push_in_order.result (λ paired. not paired ≡ b)) (ordered M p hs (places_of c.in-Some.order.entries) fact.0 (held_in_order M p hs c.in-Some.order.entries fact.1)) c.push_in_order.ensures.crossed
 
 pub returns-in-Some-clause-pairs : goal.returns-in-Some-clause-pairs
 returns-in-Some-clause-pairs c =
     let M = c.args.arena.now.model in let p = c.args.plane in let hs : List ℕ = map code c.args.places.now in
-    let fact = at_some c.in_ok-order.field-0 c.in-Some.order (some_meet M p hs ≡ true) (λ order. (some_meet M p hs ≡ false) × (order.entries ≡ entries_of M p (sorted M p hs))) c.in-Some.is c.in_ok-order.ensures in
+    let fact = at_some c.in_ok-order.field-0 c.in-Some.order (some_meet M p hs ≡ true) (λ order. (some_meet M p hs ≡ false) × (order.entries ≡ entries_of M p (sorted M p hs))) c.in-Some.is c.in_ok-order.ensures.order in
     subst (λ qs. (c.push_in_order.result ≡ Ok true) → (map codes c.push_in_order.new.pairs.items ≡ map codes c.args.pairs.now.items ++ qs))
     (ap (λ ks. map (up_first M p) (in_pairs ks)) (held_in_order M p hs c.in-Some.order.entries fact.1)) c.push_in_order.ensures.pairs
 
 pub returns-in-None-clause-crossed : goal.returns-in-None-clause-crossed
 returns-in-None-clause-crossed c =
     let M = c.args.arena.now.model in let p = c.args.plane in let hs : List ℕ = map code c.args.places.now in
-    crossed_by M p hs (at_none c.in_ok-order.field-0 (some_meet M p hs ≡ true) (λ order. (some_meet M p hs ≡ false) × (order.entries ≡ entries_of M p (sorted M p hs))) c.in-None.is c.in_ok-order.ensures)
+    crossed_by M p hs (at_none c.in_ok-order.field-0 (some_meet M p hs ≡ true) (λ order. (some_meet M p hs ≡ false) × (order.entries ≡ entries_of M p (sorted M p hs))) c.in-None.is c.in_ok-order.ensures.order)

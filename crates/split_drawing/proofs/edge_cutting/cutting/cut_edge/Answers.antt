@@ -1,27 +1,23 @@
-use Rattle.std.proofs.Common.{◌≡◌, ◌∙◌, ◌+◌, ap, sym, subst}
-use Rattle.std.specs.Result.{OnOk}
-use Rattle.euler_operators.specs.HalfEdge.{half, plus}
-use Rattle.euler_operators.specs.Model.{after}
-use Rattle.euler_operators.specs.Sound.{Has}
+use Rattle.std.proofs.Common.{◌∙◌, ap, arith}
 use Rattle.euler_operators.specs.Conditions.{first_false}
 use Rattle.undo_journal.specs.Journal.{after_step}
-use Rattle.shapes.specs.Fresh.{taken_in}
-use Rattle.split_drawing.proofs.edge_cutting_laws.Halves.{minus_code, second_there, same_cut}
+use Rattle.shapes.specs.Fresh.{Taken}
+use Rattle.split_drawing.proofs.edge_cutting_laws.Halves.{same_cut, second_edge}
 use Rattle.split_drawing.proofs.edge_cutting.cutting.cut_edge.Goals as goal
 
-pub next_item-next-requires-clause-there : goal.next_item-next-requires-clause-there
-next_item-next-requires-clause-there c = second_there c.arena-arena.result.now.model c.args.cut.edge c.minus.result c.minus.ensures (subst (λ X. Has X.edges c.args.cut.edge) (sym c.arena-arena.ensures.model) c.requires.there)
+pub overflow_add-edges : goal.overflow_add-edges
+overflow_add-edges c = omega (arith, c.requires.edge_left, ap (λ (k : Taken). k.edge) c.requires.taken)
+
+pub overflow_add-vertices : goal.overflow_add-vertices
+overflow_add-vertices c = omega (arith, c.requires.vertex_left, ap (λ (k : Taken). k.vertex) c.requires.taken)
+
+pub next-next-requires-clause-there : goal.next-next-requires-clause-there
+next-next-requires-clause-there c = second_edge c.arena.result.now.model c.args.draft.now.model c.arena.ensures.model c.args.cut.edge c.minus.result c.minus.ensures c.requires.there
 
 pub step_accepted-requires : goal.step_accepted-requires
-step_accepted-requires c = let M = c.args.draft.now.model in ap (first_false M) (same_cut M c.args.cut c.plus-first.result c.next_item-next.result c.plus-edge.result c.fresh_vertex-vertex.result
-    c.plus-first.ensures
-    (c.next_item-next.ensures ∙ (λ i. after (c.arena-arena.ensures.model i) (minus_code M c.args.cut.edge c.minus.result c.minus.ensures i)))
-    (c.plus-edge.ensures ∙ ap (λ n. half (plus n)) (c.fresh_edge.ensures ∙ ap (λ X. (taken_in X).edge + 1) c.arena-arena.ensures.model))
-    (c.fresh_vertex-vertex.ensures ∙ ap (λ X. (taken_in X).vertex + 1) c.arena-arena.ensures.model)) ∙ c.requires.accepted
+step_accepted-requires c = ap (first_false c.args.draft.now.model) (same_cut c.arena.result.now.model c.args.draft.now.model c.arena.ensures.model c.args.cut c.args.taken c.requires.taken c.plus-first.result c.minus.result c.next-next.result c.plus-made.result
+    c.plus-first.ensures c.minus.ensures c.next-next.ensures.next c.plus-made.ensures) ∙ c.requires.accepted
 
 pub returns-clause-ok : goal.returns-clause-ok
-returns-clause-ok c = let M = c.args.draft.now.model in subst (λ op. OnOk c.step_accepted.result (c.step_accepted.new.self ≡ after_step c.args.draft.now op)) (same_cut M c.args.cut c.plus-first.result c.next_item-next.result c.plus-edge.result c.fresh_vertex-vertex.result
-    c.plus-first.ensures
-    (c.next_item-next.ensures ∙ (λ i. after (c.arena-arena.ensures.model i) (minus_code M c.args.cut.edge c.minus.result c.minus.ensures i)))
-    (c.plus-edge.ensures ∙ ap (λ n. half (plus n)) (c.fresh_edge.ensures ∙ ap (λ X. (taken_in X).edge + 1) c.arena-arena.ensures.model))
-    (c.fresh_vertex-vertex.ensures ∙ ap (λ X. (taken_in X).vertex + 1) c.arena-arena.ensures.model)) c.step_accepted.ensures.ok
+returns-clause-ok c = c.in_ok-step_accepted.ensures.ok ∙ ap (after_step c.args.draft.now) (same_cut c.arena.result.now.model c.args.draft.now.model c.arena.ensures.model c.args.cut c.args.taken c.requires.taken c.plus-first.result c.minus.result c.next-next.result c.plus-made.result
+    c.plus-first.ensures c.minus.ensures c.next-next.ensures.next c.plus-made.ensures)

@@ -2,8 +2,9 @@ use Rattle.std.proofs.Common.{◌∙◌, ap, sym, subst, refl}
 use Rattle.undo_journal.specs.Journal.{DraftJournal}
 use Rattle.euler_operators.specs.Conditions.{first_false}
 use Rattle.euler_operators.specs.Effect.{effect}
+use Rattle.shapes.specs.Fresh.{taken_in}
 use Rattle.shapes.specs.split.Sides.{crossing_edges}
-use Rattle.split_drawing.proofs.edge_cutting_laws.Remaining.{Cutting, AreAt, edges_in, no_cut, all_at, edges_at, begins, opened, opened_at, next_goes, next_crosses, next_op, next_taken, edge_left, vertex_left}
+use Rattle.split_drawing.proofs.edge_cutting_laws.Remaining.{Cutting, AreAt, edges_in, no_cut, all_at, edges_at, begins, opened, opened_at, next_goes, next_crosses, next_op, next_taken, next_counted, edge_left, vertex_left}
 use Rattle.split_drawing.proofs.edge_cutting.cutting.cut_edges.Goals as goal
 
 pub edges-init : goal.edges-init
@@ -12,6 +13,7 @@ edges-init c =
     record {
       cutting = subst (λ cs. Cutting M c.args.s p M (edges_in cs)) (sym c.requires.edges) (subst (Cutting M c.args.s p M) (sym (edges_at M p es)) (begins M c.args.s p c.requires.sound c.requires.begins));
       points = subst (AreAt M p) (sym c.requires.edges) (all_at M p es);
+      counted = c.counters_of-taken.ensures.is ∙ ap taken_in c.arena.ensures.model;
       session = refl;
     }
 
@@ -33,8 +35,10 @@ pub edges-preserved : goal.edges-preserved
 edges-preserved c =
     let next = (opened c.args.draft.now.model c.args.s c.args.plane.now c.edges.draft.model c.edges.rest.now _ c.in-len1-up.len_at_least c.edges.invariant.cutting) in
     let at = (opened_at c.args.draft.now.model c.args.plane.now c.edges.rest.now _ c.in-len1-up.len_at_least c.edges.invariant.points) in
+    let model = ap (λ (d : DraftJournal). d.model) c.in_ok-taken.ensures.ok ∙ ap (effect c.edges.draft.model) (next_op _ _ _ _ _ _ next _ at.0) in
     record {
-      cutting = next_taken _ _ _ _ _ _ next c.cut_edge.new.draft.model (ap (λ (d : DraftJournal). d.model) c.in_ok-cut_edge.ensures.ok ∙ ap (effect c.edges.draft.model) (next_op _ _ _ _ _ _ next _ at.0));
+      cutting = next_taken _ _ _ _ _ _ next c.cut_edge.new.draft.model model;
       points = at.1;
-      session = ap (λ (d : DraftJournal). d.session) c.in_ok-cut_edge.ensures.ok ∙ c.edges.invariant.session;
+      counted = next_counted _ _ _ _ _ _ next c.cut_edge.new.draft.model model c.edges.taken c.edges.invariant.counted _ c.in_ok-taken.ensures.counted;
+      session = ap (λ (d : DraftJournal). d.session) c.in_ok-taken.ensures.ok ∙ c.edges.invariant.session;
     }

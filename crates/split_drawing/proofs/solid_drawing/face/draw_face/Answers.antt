@@ -3,7 +3,7 @@ use Rattle.euler_operators.specs.Model.{Model}
 use Rattle.euler_operators.specs.Sound.{Has}
 use Rattle.split_checks.specs.Cuts.{codes}
 use Rattle.split_checks.specs.Progress.{drawing_of}
-use Rattle.split_drawing.proofs.solid_drawing_laws.OneFace.{can_join, then_there, then_draw, last_there, last_rings, with_shared, with_none}
+use Rattle.split_drawing.proofs.solid_drawing_laws.OneFace.{can_join, then_there, then_draw, last_there, last_noted, last_rings, with_shared, with_none}
 use Rattle.split_drawing.proofs.solid_drawing.face.draw_face.Goals as goal
 
 pub join_pairs-requires : goal.join_pairs-requires
@@ -36,3 +36,13 @@ pub returns-else-pairs-eq1-clause-drawn : goal.returns-else-pairs-eq1-clause-dra
 returns-else-pairs-eq1-clause-drawn c = with_none c.args.plane c.args.f c.args.pairs.now c.args.from c.args.draft.now.model c.requires.can c.in_ok-joined.joined c.join_pairs.new.draft.model c.join_pairs.new.left.items c.in_ok-joined.ensures.joined
     c.arena.result.now.model c.arena.ensures.model c.ring_free-looked_at.result c.ring_free-looked_at.ensures c.as_slice.result.now c.as_slice.ensures.value
     c.in_ok-drawn.drawn c.draw_pairs.new.draft.model c.in_ok-drawn.ensures.drawn c.if-pairs-eq1.false
+
+pub share_rings-requires-clause-sides : goal.share_rings-requires-clause-sides
+share_rings-requires-clause-sides c = last_noted c.args.plane c.args.f c.args.pairs.now c.args.from c.args.draft.now.model c.requires.can c.in_ok-joined.joined c.join_pairs.new.draft.model c.join_pairs.new.left.items c.in_ok-joined.ensures.joined
+    c.arena.result.now.model c.arena.ensures.model c.ring_free-looked_at.result c.ring_free-looked_at.ensures c.as_slice.result.now c.as_slice.ensures.value
+    c.in_ok-drawn.drawn c.draw_pairs.new.draft.model c.in_ok-drawn.ensures.drawn c.args.sides.now.noted c.requires.sides
+
+pub returns-else-pairs-eq1-clause-sides : goal.returns-else-pairs-eq1-clause-sides
+returns-else-pairs-eq1-clause-sides c = last_noted c.args.plane c.args.f c.args.pairs.now c.args.from c.args.draft.now.model c.requires.can c.in_ok-joined.joined c.join_pairs.new.draft.model c.join_pairs.new.left.items c.in_ok-joined.ensures.joined
+    c.arena.result.now.model c.arena.ensures.model c.ring_free-looked_at.result c.ring_free-looked_at.ensures c.as_slice.result.now c.as_slice.ensures.value
+    c.in_ok-drawn.drawn c.draw_pairs.new.draft.model c.in_ok-drawn.ensures.drawn c.args.sides.now.noted c.requires.sides

@@ -1,10 +1,12 @@
 use Rattle.std.proofs.Common.{◌≡◌, ◌++◌, map, length}
 use Rattle.split_checks.specs.Cuts.{codes}
+use Rattle.split_checks.specs.cut_places.Noted.{AreSides}
 use Rattle.split_drawing.specs.solid_drawing.Starts.{PairsThere, pairs_started}
 use Rattle.split_drawing.proofs.solid_drawing.places.pairs_started.Given as goal
 
 abbrev pub invariant-pairs : goal.invariant-pairs
 invariant-pairs l = record {
+  sides : AreSides l.arena.model l.plane l.sides;
   there : PairsThere l.arena.model (map codes l.rest);
   made : map codes l.started.items ++ pairs_started l.arena.model l.plane (map codes l.rest) ≡ pairs_started l.arena.model l.plane (map codes l.pairs);
 }

@@ -1,7 +1,9 @@
-use Rattle.std.proofs.Common.{◌≡◌, ◌∙◌, OnOk, ap, subst}
+use Rattle.std.proofs.Common.{◌∙◌, ap, refl, subst, sym}
 use Rattle.euler_operators.specs.Model.{Model}
 use Rattle.euler_laws.specs.Laws.{effects}
-use Rattle.shapes.specs.split.Drawing.{rings_above}
+use Rattle.shapes.specs.split.Drawing.{rings_above, with_rings}
+use Rattle.split_checks.specs.cut_places.Noted.{AreSides}
+use Rattle.split_checks.proofs.cut_places_laws.NotedSides.{noted_still}
 use Rattle.split_drawing_laws.specs.drawings.DrawingOps.{ring_ops}
 use Rattle.split_drawing.proofs.solid_drawing_laws.RingSteps.{rings_given}
 use Rattle.split_drawing.proofs.solid_drawing.rings.share_rings.Goals as goal
@@ -9,6 +11,11 @@ use Rattle.split_drawing.proofs.solid_drawing.rings.share_rings.Goals as goal
 pub returns-clause-model : goal.returns-clause-model
 returns-clause-model c =
     let M = c.args.draft.now.model in
-    let are = c.as_slice.ensures.value ∙ c.in_ok-rings.ensures ∙ ap (λ X. rings_above X c.args.plane c.args.f) c.arena.ensures.model in
-    subst (λ (N : Model). OnOk c.move_rings.result (c.move_rings.new.draft.model ≡ N))
-    (ap (λ ls. effects M (ring_ops ls c.args.to)) are ∙ rings_given M (rings_above M c.args.plane c.args.f) c.args.to) c.move_rings.ensures.model
+    let are = c.as_slice.ensures.value ∙ c.in_ok-rings.ensures.rings ∙ ap (λ X. rings_above X c.args.plane c.args.f) c.arena.ensures.model in
+    c.in_ok-move_rings.ensures.model ∙ ap (λ ls. effects M (ring_ops ls c.args.to)) are ∙ rings_given M (rings_above M c.args.plane c.args.f) c.args.to
+
+pub returns-clause-sides : goal.returns-clause-sides
+returns-clause-sides c =
+    let M = c.args.draft.now.model in let p = c.args.plane in let sides = c.rings_above.new.sides in let ls = c.as_slice.result.now in
+    let made = c.in_ok-move_rings.ensures.model ∙ rings_given M ls c.args.to in
+    subst (λ (X : Model). AreSides X p sides) (sym made) (noted_still M (with_rings M ls c.args.to) p (λ v _. refl) sides.noted (subst (λ (X : Model). AreSides X p sides) c.arena.ensures.model c.rings_above.ensures.sides))

@@ -20,6 +20,7 @@ faces-preserved c =
     let rest = c.faces.rest.now in let later = c.faces.later.now in
     let opened = parts rest no_pairs c.in-len1-up.len_at_least in
     record {
+      sides = c.in_ok-progress.ensures.sides;
       enough = enough_later rest later c.faces.invariant.enough (slice_index_or rest 0 no_pairs) (others rest) opened c.split_at.result.1.now c.split_at.ensures.back;
       can = can_go_on c.args.plane c.faces.progress c.faces.draft.model rest later c.faces.invariant.can (slice_index_or rest 0 no_pairs) (others rest) opened c.split_at.result.0.now c.split_at.result.1.now
           c.split_at.ensures.front c.split_at.ensures.back c.in_ok-progress.progress c.draw_face.new.draft.model c.in_ok-progress.ensures.drawn;

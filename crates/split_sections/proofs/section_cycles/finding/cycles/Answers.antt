@@ -9,10 +9,10 @@ use Rattle.euler_operators.specs.HalfEdge.{code}
 use Rattle.shapes.specs.split.Section.{next_below}
 use Rattle.split_sections.specs.section_cycles.Halves.{halves_of}
 use Rattle.split_sections.specs.declared.section_cycles.cycle.Cycle.{Cycle}
-use Rattle.split_sections.proofs.section_cycles_laws.Chains.{none}
+use Rattle.split_checks.proofs.cut_places_laws.Lists.{no_half}
 use Rattle.split_sections.proofs.section_cycles_laws.Found.{Finding, none_found, found_before, found_now, now_in}
-use Rattle.split_sections.proofs.section_cycles_laws.Meetings.{first_code}
-use Rattle.split_sections.proofs.section_cycles_laws.Whole.{AreTold, holes_pushed, number_fits, cycle_low, no_more, listed_cycles, halves_pushed, whole_cycle}
+use Rattle.split_sections.proofs.section_cycles_laws.Meetings.{first_code, no_more}
+use Rattle.split_sections.proofs.section_cycles_laws.Whole.{AreTold, holes_pushed, number_fits, cycle_low, listed_cycles, halves_pushed, whole_cycle}
 use Rattle.split_sections.proofs.section_cycles.finding.cycles.Goals as goal
 
 pub halves-init : goal.halves-init
@@ -27,25 +27,25 @@ halves-init c =
 pub code-requires : goal.code-requires
 code-requires c =
     let M = c.args.arena.now.model in let bs : List ℕ = map code c.args.halves.now in
-    number_fits M c.requires.ready.sound _ (c.requires.there _ (now_in (next_below M bs) bs c.requires.next c.requires.rising _ _ _ c.halves.invariant.found (code _) _ (first_code c.halves.rest.now none c.in-len1-up.len_at_least)))
+    number_fits M c.requires.ready.sound _ (c.requires.there _ (now_in (next_below M bs) bs c.requires.next c.requires.rising _ _ _ c.halves.invariant.found (code _) _ (first_code c.halves.rest.now no_half c.in-len1-up.len_at_least)))
 
 pub cycle_with_hole-requires-clause-first : goal.cycle_with_hole-requires-clause-first
 cycle_with_hole-requires-clause-first c =
     let M = c.args.arena.now.model in let bs : List ℕ = map code c.args.halves.now in
-    now_in (next_below M bs) bs c.requires.next c.requires.rising _ _ _ c.halves.invariant.found _ _ (first_code c.halves.rest.now none c.in-len1-up.len_at_least)
+    now_in (next_below M bs) bs c.requires.next c.requires.rising _ _ _ c.halves.invariant.found _ _ (first_code c.halves.rest.now no_half c.in-len1-up.len_at_least)
 
 pub meet-requires : goal.meet-requires
 meet-requires c =
     let M = c.args.arena.now.model in let bs : List ℕ = map code c.args.halves.now in
     subst (λ (hs : List HalfEdge). (b : ℕ) → IsIn b (map code hs) → b ≤ 2000001) (sym c.as_slice.ensures.value)
     (cycle_low M c.requires.ready.sound bs c.requires.there c.requires.next _
-    (now_in (next_below M bs) bs c.requires.next c.requires.rising _ _ _ c.halves.invariant.found _ _ (first_code c.halves.rest.now none c.in-len1-up.len_at_least)) (halves_of c.in_ok-cycle.cycle) c.in_ok-cycle.ensures.halves)
+    (now_in (next_below M bs) bs c.requires.next c.requires.rising _ _ _ c.halves.invariant.found _ _ (first_code c.halves.rest.now no_half c.in-len1-up.len_at_least)) (halves_of c.in_ok-cycle.cycle) c.in_ok-cycle.ensures.halves)
 
 pub returns-then-len-halves-clause-halves : goal.returns-then-len-halves-clause-halves
 returns-then-len-halves-clause-halves c =
     let M = c.args.arena.now.model in let bs : List ℕ = map code c.args.halves.now in
     let held : vec_len c.in_ok-cycle.cycle.halves ≡ length c.in_ok-cycle.cycle.halves.items = omega (arith, c.in_ok-cycle.cycle.halves.ok.0) in
-    whole_cycle M c.args.halves.now c.requires.next c.requires.rising _ _ _ c.halves.invariant.found _ _ (first_code c.halves.rest.now none c.in-len1-up.len_at_least)
+    whole_cycle M c.args.halves.now c.requires.next c.requires.rising _ _ _ c.halves.invariant.found _ _ (first_code c.halves.rest.now no_half c.in-len1-up.len_at_least)
     (ap (contains nat_cmp c.halves.met) (sym c.code.ensures) ∙ sym c.contains.ensures ∙ c.if-not-contains.true)
     c.in_ok-cycle.cycle c.in_ok-cycle.ensures.halves (sym held ∙ sym c.len.ensures ∙ c.if-len-halves.true) (map halves_of c.push.new.self.items) (halves_pushed c.halves.cycles.items c.in_ok-cycle.cycle c.push.new.self.items c.in_ok-push.ensures.items)
 
@@ -56,7 +56,7 @@ pub halves-preserved-in_ok-push-2 : goal.halves-preserved-in_ok-push-2
 halves-preserved-in_ok-push-2 c =
     let M = c.args.arena.now.model in let bs : List ℕ = map code c.args.halves.now in
     record {
-      found = found_now (next_below M bs) bs c.requires.next c.requires.rising _ _ _ c.halves.invariant.found _ _ (first_code c.halves.rest.now none c.in-len1-up.len_at_least)
+      found = found_now (next_below M bs) bs c.requires.next c.requires.rising _ _ _ c.halves.invariant.found _ _ (first_code c.halves.rest.now no_half c.in-len1-up.len_at_least)
           (ap (contains nat_cmp c.halves.met) (sym c.code.ensures) ∙ sym c.contains.ensures ∙ c.if-not-contains.true)
           (halves_of c.in_ok-cycle.cycle) c.in_ok-cycle.ensures.halves (map halves_of c.push-then-not-contains.new.self.items) (halves_pushed c.halves.cycles.items c.in_ok-cycle.cycle c.push-then-not-contains.new.self.items c.in_ok-push-2.ensures.items) (contains nat_cmp c.meet.new.met)
           (λ x. c.in_ok-meet.ensures x ∙ ap (λ (hs : List HalfEdge). lists (map code hs) x || contains nat_cmp c.halves.met x) c.as_slice.ensures.value);
@@ -67,7 +67,7 @@ pub halves-preserved : goal.halves-preserved
 halves-preserved c =
     let M = c.args.arena.now.model in let bs : List ℕ = map code c.args.halves.now in
     record {
-      found = found_before (next_below M bs) bs c.requires.next c.requires.rising _ _ _ c.halves.invariant.found _ _ (first_code c.halves.rest.now none c.in-len1-up.len_at_least)
+      found = found_before (next_below M bs) bs c.requires.next c.requires.rising _ _ _ c.halves.invariant.found _ _ (first_code c.halves.rest.now no_half c.in-len1-up.len_at_least)
           (ap (contains nat_cmp c.halves.met) (sym c.code.ensures) ∙ sym c.contains.ensures ∙ c.if-not-contains.false);
       holes = c.halves.invariant.holes;
     }

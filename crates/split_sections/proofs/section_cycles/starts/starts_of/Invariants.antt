@@ -7,7 +7,7 @@ use Rattle.split_sections.proofs.section_cycles.starts.starts_of.Given as goal
 abbrev pub invariant-halves : goal.invariant-halves
 invariant-halves l = record {
   there : AreThere l.arena.model (map code l.rest);
-  placed : Placed l.arena.model (map code l.halves) (map code l.rest) l.starts;
+  placed : Placed l.arena.model (map code l.halves) (map code l.rest) l.starts l.branched;
 }
 
 abbrev pub decreases-halves : goal.decreases-halves

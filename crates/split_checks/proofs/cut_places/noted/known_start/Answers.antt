@@ -1,7 +1,0 @@
-use Rattle.std.proofs.Common.{◌∙◌, ap}
-use Rattle.euler_operators.specs.HalfEdge.{code}
-use Rattle.euler_operators.specs.Table as table
-use Rattle.split_checks.proofs.cut_places.noted.known_start.Goals as goal
-
-pub known_side-requires-clause-there : goal.known_side-requires-clause-there
-known_side-requires-clause-there c = ap (table.has c.args.arena.now.model.vertices) c.tail.ensures ∙ c.requires.ready.sound.tails_there (code c.args.h) c.requires.there
