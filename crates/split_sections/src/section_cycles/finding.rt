@@ -88,7 +88,8 @@ fn meet(met: &mut BTreeSet<u32>, halves: &[HalfEdge]) -> Result<(), AllocError>
 }
 
 /// The cycles of these below halves, which the map has by the vertices at which they start, each cycle from its least half on, by their
-/// least halves, with word on which are holes. Each half leads to the one that starts where it ends, and no two to the same. It takes n log n steps for n halves. `AllocError` where memory is refused.
+/// least halves, with word on which are holes. Each half leads to the one that starts where it ends, and no two to the same. It takes
+/// n log n steps for n halves. `AllocError` where memory is refused.
 pub(crate) fn cycles(
     alloc: Global,
     arena: &Arena,

@@ -12,6 +12,7 @@ ghost use Rattle.split_sections.specs.section_edges.BelowHalves.{below_in, below
 
 use euler_conditions::Arena;
 use euler_operators::{Content, HalfEdge, Kind};
+use solid_walks::items_round;
 use std::alloc::{AllocError, Global};
 
 /// Whether the number is one of those listed, which rise.
@@ -54,16 +55,12 @@ fn push_leading_in_ring(
     requires there { has_half arena.now.model (code h) ≡ true }
     ensures { OnOk result (SameItems (map code found.new.items) (map code found.old.items ++ leading_above arena.now.model above.now (cycle_of arena.now.model (code h)))) }
 {
-    let mut at = h;
-    'round: loop {
+    'round: for at in items_round(arena, h) {
         if leads_above(arena, above, at) {
             found.push(at)?;
         }
-        at = arena.next(at);
-        if at == h {
-            return Ok(());
-        }
     }
+    Ok(())
 }
 
 /// Adds the half-edges of loop l whose mates lie in faces above.
