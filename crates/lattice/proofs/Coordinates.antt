@@ -15,8 +15,7 @@ use Rattle.lattice.proofs.Magnitudes.{fits, held, held_short, held_is, coordinat
 pub coordinate_told : (r : Option ℤ) (from to m n h k : ℤ) → is_coordinate from ≡ true → is_coordinate to ≡ true → m ≡ h → n ≡ k → IsWithin 6000000000000000000 m → IsWithin 6000000000000000000 n →
     r ≡ whole_quotient (held_short to *ℤ held m -ℤ held_short from *ℤ held n) (held m -ℤ held n) → r ≡ whole_quotient (to *ℤ h -ℤ from *ℤ k) (h -ℤ k)
 coordinate_told r from to m n h k kf kt em en wm wn e =
-    let p : held m ≡ h = held_is m (fits _ _ wm (omega arith)) ∙ em in let q : held n ≡ k = held_is n (fits _ _ wn (omega arith)) ∙ en in
-    e ∙ (λ i. whole_quotient (coordinate_is to kt i *ℤ p i -ℤ coordinate_is from kf i *ℤ q i) (p i -ℤ q i))
+    grind (arith, held m, held_is m, fits, held n, held_is n, coordinate_is to kt, coordinate_is from kf)
 
 pub opposite_told : (m n h k : ℤ) → m ≡ h → n ≡ k → IsWithin 6000000000000000000 m → IsWithin 6000000000000000000 n → opposite h k ≡ true → opposite (held m) (held n) ≡ true
 opposite_told m n h k em en wm wn o = (λ i. opposite ((held_is m (fits _ _ wm (omega arith)) ∙ em) i) ((held_is n (fits _ _ wn (omega arith)) ∙ en) i)) ∙ o

@@ -65,11 +65,9 @@ back_quotient : (p q m n : ℤ) → m -ℤ n ≢ pos 0 → int_div (p *ℤ n -�
 back_quotient p q m n ne = (λ i. int_div (turned_difference (q *ℤ m) (p *ℤ n) i) (turned_difference m n i)) ∙ turned_quotient (q *ℤ m -ℤ p *ℤ n) (m -ℤ n) ne
 
 pub cut_back : (s : Plane) (p q : Point) → are_opposite s p q ≡ true → cut_between s q p ≡ cut_between s p q
-cut_back s p q o = let ne : height s p -ℤ height s q ≢ pos 0 = opposite_apart (height s p) (height s q) o in λ i. record {
-  x = back_quotient p.x q.x (height s p) (height s q) ne i;
-  y = back_quotient p.y q.y (height s p) (height s q) ne i;
-  z = back_quotient p.z q.z (height s p) (height s q) ne i;
-}
+cut_back s p q o =
+    let one = back_quotient p.x q.x (height s p) (height s q) in let two = back_quotient p.y q.y (height s p) (height s q) in
+    grind (arith, opposite_apart (height s p) (height s q) o, one, p.x, q.x, two, p.y, q.y, back_quotient p.z q.z (height s p) (height s q), p.z, q.z)
 
 -- ---- in range
 
@@ -89,10 +87,7 @@ far_apart m n e = grind (arith, ints)
 
 pub cut_within : (to from m n : ℤ) → IsWithin 1000000000 to → IsWithin 1000000000 from → opposite m n ≡ true → unsigned_abs (to *ℤ m -ℤ from *ℤ n) ≤ 1000000000 * unsigned_abs (m -ℤ n)
 cut_within to from m n wt wf o =
-    let a = product_within to m 1000000000 (unsigned_abs m) _ wt (omega arith) refl in
-    let b = product_within from n 1000000000 (unsigned_abs n) _ wf (omega arith) refl in
-    let c : unsigned_abs (to *ℤ m -ℤ from *ℤ n) ≤ unsigned_abs (to *ℤ m) + unsigned_abs (from *ℤ n) = omega (arith, ints) in
-    omega (arith, a, b, c, far_apart m n o)
+    grind (arith, product_within to m 1000000000 (unsigned_abs m), product_within from n 1000000000 (unsigned_abs n), ints, far_apart m n o)
 
 pub quotient_within : (m w : ℤ) → unsigned_abs m ≤ 1000000000 * unsigned_abs w → IsWithin 1000000000 (int_div m w)
 quotient_within m w h = subst (λ n. n ≤ 1000000000) (sym (quotient_size m w)) (div-le_of_le-mul (unsigned_abs w) (omega (arith, h)))
@@ -106,6 +101,5 @@ cut_coordinate p q m n cp cq o = within_coordinate (int_div (q *ℤ m -ℤ p *�
 
 pub cut_fits : (s : Plane) (p q : Point) → IsInRange p → IsInRange q → are_opposite s p q ≡ true → IsInRange (cut_between s p q)
 cut_fits s p q rp rq o =
-    let a = coordinates p rp in
-    let b = coordinates q rq in
-    λ i. cut_coordinate p.x q.x (height s p) (height s q) a.0 b.0 o i && (cut_coordinate p.y q.y (height s p) (height s q) a.1 b.1 o i && cut_coordinate p.z q.z (height s p) (height s q) a.2 b.2 o i)
+    let one = cut_coordinate p.x q.x (height s p) (height s q) in let two = cut_coordinate p.y q.y (height s p) (height s q) in
+    grind (arith, coordinates p rp, coordinates q rq, one, p.x, q.x, two, p.y, q.y, cut_coordinate p.z q.z (height s p) (height s q), p.z, q.z)

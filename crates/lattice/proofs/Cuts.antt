@@ -29,10 +29,7 @@ zero_bits : (z : ℤ) → FitsSigned w128 z → cast_unsigned w128 z ≡ 0 → i
 zero_bits z f e = let h : z ≡ pos 0 = sym (held_is z f) ∙ ap (cast_signed w128) e in ap (λ y. int_eq y (pos 0)) h
 
 no_zero_bits : (z : ℤ) → FitsSigned w128 z → cast_unsigned w128 z ≢ 0 → int_eq z (pos 0) ≡ false
-no_zero_bits z f ne = elim (int_eq z (pos 0)) as (λ b. int_eq z (pos 0) ≡ b → b ≡ false) [
-  | true ↦ λ e. let h : z ≡ pos 0 = grind (arith, ints) in absurd (ne (ap (cast_unsigned w128) h))
-  | false ↦ λ e. refl
-] refl
+no_zero_bits z f ne = grind (arith, ints)
 
 module _ (m w : ℤ) (fm : FitsSigned w128 m) (fw : FitsSigned w128 w) (range : unsigned_abs m ≤ 1000000000 * unsigned_abs w) where
   quotient_fits : FitsSigned w128 (int_div m w)

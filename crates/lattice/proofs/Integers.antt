@@ -44,11 +44,9 @@ products a b c d u v p q e f =
     omega arith
 
 pub mul-dif : (u v p q : ℕ) → dif u v *ℤ dif p q ≡ dif (u * p + v * q) (u * q + v * p)
-mul-dif u v p q = let ps = product_is (dif u v) (dif p q) in same_in (dif u v *ℤ dif p q) (dif (u * p + v * q) (u * q + v * p))
-    (let e = products (up (dif u v)) (down (dif u v)) (up (dif p q)) (down (dif p q)) u v p q (dif_is u v) (dif_is p q) in
-    let g : up (dif u v *ℤ dif p q) ≡ up (dif u v) * up (dif p q) + down (dif u v) * down (dif p q) = ps.0 in
-    let h : down (dif u v *ℤ dif p q) ≡ up (dif u v) * down (dif p q) + down (dif u v) * up (dif p q) = ps.1 in
-    omega (arith, dif_is (u * p + v * q) (u * q + v * p)))
+mul-dif u v p q =
+    let one = products (up (dif u v)) (down (dif u v)) (up (dif p q)) (down (dif p q)) u v p q (dif_is u v) (dif_is p q) in
+    grind (arith, product_is (dif u v) (dif p q), one, dif_is u v, dif_is p q, dif_is (u * p + v * q) (u * q + v * p))
 
 -- for `simp`, at variables of the form dif u v
 pub ruleset difs = (add-dif, sub-dif, neg-dif, mul-dif)

@@ -93,15 +93,7 @@ pub record Told (k : ℕ) (z y : ℤ) : Type 0 where
 
 -- what is equal to a number at most k in magnitude
 told_as : (k : ℕ) (z y : ℤ) → z ≡ y → IsWithin k y → k ≤ 100000000000000000000000000000000000000 → Told k z y
-told_as k z y e w least =
-    let f = fits k y w least in let h = held_as z y e f in record {
-      fits = fits_as z y e f;
-      made = e;
-      kept = h;
-      told_within = w;
-      made_within = subst (IsWithin k) (sym e) w;
-      kept_within = subst (IsWithin k) (sym h) w;
-    }
+told_as k z y e w least = grind (arith, fits k y w least, held_as z y e, fits_as z y e)
 
 -- a number at most m in magnitude times a coordinate, which the code holds as r
 pub scaled_told : (m k : ℕ) (a x r : ℤ) → IsWithin m a → is_coordinate x ≡ true → FitsSigned w128 a → FitsSigned w128 r → r ≡ held_short x → m * 1000000000 ≡ k →

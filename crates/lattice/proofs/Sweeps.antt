@@ -22,21 +22,11 @@ sum_first a (suc n) = sym (moved_twice (a 0) (sum_to (λ i. a (suc i)) n) (a (su
 
 pub same_sum : (a b : ℕ → Point) (n : ℕ) → ((i : ℕ) → i < n → a i ≡ b i) → sum_to a n ≡ sum_to b n
 same_sum a b zero e = refl
-same_sum a b (suc n) e = λ i. moved (same_sum a b n (λ k l. e k (below k n l)) i) (e n (last n) i) where
-  below : (k n : ℕ) → k < n → k < suc n
-  below k n l = omega arith
-
-  last : (n : ℕ) → n < suc n
-  last n = omega arith
+same_sum a b (suc n) e = grind (arith, same_sum a b n)
 
 pub same_total : (v w : ℕ → ℤ) (n : ℕ) → ((i : ℕ) → i < n → v i ≡ w i) → total_to v n ≡ total_to w n
 same_total v w zero e = refl
-same_total v w (suc n) e = λ i. same_total v w n (λ k l. e k (below k n l)) i +ℤ e n (last n) i where
-  below : (k n : ℕ) → k < n → k < suc n
-  below k n l = omega arith
-
-  last : (n : ℕ) → n < suc n
-  last n = omega arith
+same_total v w (suc n) e = grind (arith, same_total v w n)
 
 -- ---- a closed path keeps its area where it is moved
 
@@ -77,14 +67,7 @@ module _ (p q : ℕ → Point) (d : Point) where
 
   moved_path : (n : ℕ) → Linked (suc n) → sum_to moved_at (suc n) ≡ moved (sum_to area_at (suc n)) (cross d (from_to (p 0) (q n)))
   moved_path zero e = ap (λ s. moved s (moved_at 0)) (sym (nothing_moved origin d (p 0))) ∙ step_at (p 0) (q 0) (p 0) d origin
-  moved_path (suc n) e =
-      ap (λ s. moved s (moved_at (suc n))) (moved_path n (λ i l. e i (below i n l)) ∙ ap (λ r. moved (sum_to area_at (suc n)) (cross d (from_to (p 0) r))) (e n (last n)))
-      ∙ step_at (p (suc n)) (q (suc n)) (p 0) d (sum_to area_at (suc n)) where
-        below : (i n : ℕ) → suc i < suc n → suc i < suc (suc n)
-        below i n l = omega arith
-
-        last : (n : ℕ) → suc n < suc (suc n)
-        last n = omega arith
+  moved_path (suc n) e = grind (arith, moved_path n, from_to (p 0), step_at (p (suc n)) (q (suc n)) (p 0) d (sum_to area_at (suc n)))
 
   pub moved_ring : (n : ℕ) → Linked (suc n) → q n ≡ p 0 → sum_to moved_at (suc n) ≡ sum_to area_at (suc n)
   moved_ring n e c = moved_path n e ∙ ap (λ r. moved (sum_to area_at (suc n)) (cross d (from_to (p 0) r))) c ∙ nothing_moved (sum_to area_at (suc n)) d (p 0)
