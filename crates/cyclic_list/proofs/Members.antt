@@ -1,12 +1,12 @@
 -- What stands in lists that are made of others, and how many items they have.
-use Rattle.std.proofs.Common.{◌≡◌, ◌≢◌, ℕ, ◌+◌, ◌≤◌, Bool, true, false, cond, List, [], ◌∷◌, ◌++◌, map, length, refl, sym, ap, ◌∙◌, arith, ◌⊎◌, inl, inr}
+use Rattle.std.proofs.Common.{◌≡◌, ◌≢◌, ℕ, ◌+◌, ◌≤◌, Bool, true, false, cond, List, [], ◌∷◌, ◌++◌, map, length, refl, ap, ◌∙◌, arith, ◌⊎◌, inl, inr}
 use Rattle.std.specs.Prelude.{filter}
 use Rattle.std.specs.List.{list_all}
-use Rattle.std.proofs.lemmas.Bool.{and_from, and_parts}
+use Rattle.std.proofs.lemmas.Bool.{and_from}
 use Rattle.std.proofs.lemmas.Bool.Decides.{eqb_tells}
 use Rattle.std.proofs.lemmas.List.{length-append}
-use Rattle.cyclic_list.specs.Items.{tick, count, IsIn, IsApart, SameItems, head_or, before, after}
-use Rattle.cyclic_list.proofs.Lists.{tick_same, tick_other, count-append, split_at, IsIn_or_not}
+use Rattle.cyclic_list.specs.Items.{count, IsIn, IsApart, SameItems, head_or, before, after}
+use Rattle.cyclic_list.proofs.Lists.{tick_same, tick_other, count-append, split_at}
 use Rattle.cyclic_list.proofs.Rotations.{IsIn_head}
 use Rattle.cyclic_list.proofs.Maps.{from_map}
 
@@ -49,21 +49,12 @@ count_taken x y xs ys s e = omega (arith, s y, ap (count y) e, count-append y (b
 
 pub IsIn-map : (f : ℕ → ℕ) (x : ℕ) (xs : List ℕ) → IsIn x xs → IsIn (f x) (map f xs)
 IsIn-map f x [] i = absurd (omega arith)
-IsIn-map f x (y ∷ ys) i = elim (eqb_tells x y) [
-  | inl e ↦ omega (arith, ap (λ z. tick (f z) (f y)) e.1, tick_same (f y))
-  | inr e ↦ omega (arith, IsIn-map f x ys (omega (arith, i, tick_other x y e.1)))
-]
+IsIn-map f x (y ∷ ys) i = grind (arith, eqb_tells x y, tick_same (f y), IsIn-map f x ys, tick_other x y)
 
 -- different items have different images
 pub IsApart-images : (f : ℕ → ℕ) (xs : List ℕ) → IsApart xs → ((x y : ℕ) → IsIn x xs → IsIn y xs → f x ≡ f y → x ≡ y) → IsApart (map f xs)
 IsApart-images f [] d one z = omega arith
-IsApart-images f (x ∷ xs) d one z = let rest = IsApart-images f xs (λ y. omega (arith, d y)) (λ y w i j. one y w (omega (arith, i)) (omega (arith, j))) z in elim (eqb_tells z (f x)) [
-  | inl s ↦ elim (IsIn_or_not z (map f xs)) [
-    | inl i ↦ let r = from_map f z xs i in absurd (let e : r.0 ≡ x = one r.0 x (omega (arith, r.1)) (omega (arith, tick_same x)) (sym r.2 ∙ s.1) in omega (arith, d x, tick_same x, r.1, ap (λ k. count k xs) e))
-    | inr n ↦ omega (arith, n, ap (λ k. tick k (f x)) s.1, tick_same (f x))
-  ]
-  | inr n ↦ omega (arith, tick_other z (f x) n.1, rest)
-]
+IsApart-images f (x ∷ xs) d one z = grind (arith, IsApart-images f xs, eqb_tells z (f x), from_map f z xs, tick_same x, tick_same (f x))
 
 pub all_mapped : (p : ℕ → Bool) (f : ℕ → ℕ) (xs : List ℕ) → ((x : ℕ) → IsIn x xs → p (f x) ≡ true) → list_all p (map f xs) ≡ true
 all_mapped p f [] h = refl
@@ -71,33 +62,17 @@ all_mapped p f (x ∷ xs) h = and_from (p (f x)) (list_all p (map f xs)) (h x (I
 
 pub each_mapped : (p : ℕ → Bool) (f : ℕ → ℕ) (xs : List ℕ) (x : ℕ) → list_all p (map f xs) ≡ true → IsIn x xs → p (f x) ≡ true
 each_mapped p f [] x all i = absurd (omega arith)
-each_mapped p f (y ∷ ys) x all i = let a = and_parts (p (f y)) (list_all p (map f ys)) all in elim (eqb_tells x y) [
-  | inl e ↦ ap (λ k. p (f k)) e.1 ∙ a.0
-  | inr e ↦ each_mapped p f ys x a.1 (omega (arith, tick_other x y e.1))
-]
+each_mapped p f (y ∷ ys) x all i = grind (arith, eqb_tells x y, each_mapped p f ys x, tick_other x y)
 
 -- ---- picked by a test
 
 pub IsIn-filter : (p : ℕ → Bool) (x : ℕ) (xs : List ℕ) → IsIn x xs → p x ≡ true → IsIn x (filter p xs)
 IsIn-filter p x [] i e = absurd (omega arith)
-IsIn-filter p x (y ∷ ys) i e = elim (eqb_tells x y) [
-  | inl s ↦ now (p y) (ap p (sym s.1) ∙ e) s.1
-  | inr s ↦ later (p y) (IsIn-filter p x ys (omega (arith, i, tick_other x y s.1)) e)
-] where
-  now : (b : Bool) → b ≡ true → x ≡ y → IsIn x (cond b (y ∷ filter p ys) (filter p ys))
-  now true t s = omega (arith, ap (λ k. tick k y) s, tick_same y)
-  now false t s = cc
-
-  later : (b : Bool) → IsIn x (filter p ys) → IsIn x (cond b (y ∷ filter p ys) (filter p ys))
-  later true j = omega (arith, j)
-  later false j = j
+IsIn-filter p x (y ∷ ys) i e = grind (arith, eqb_tells x y, IsIn-filter p x ys, tick_other x y, tick_same y)
 
 pub count-filter : (p : ℕ → Bool) (x : ℕ) (xs : List ℕ) → count x (filter p xs) ≤ count x xs
 count-filter p x [] = omega arith
-count-filter p x (y ∷ ys) = go (p y) (count-filter p x ys) where
-  go : (b : Bool) → count x (filter p ys) ≤ count x ys → count x (cond b (y ∷ filter p ys) (filter p ys)) ≤ tick x y + count x ys
-  go true l = omega (arith, l)
-  go false l = omega (arith, l)
+count-filter p x (y ∷ ys) = grind (arith, count-filter p x ys)
 
 pub filter_passes : (p : ℕ → Bool) (x : ℕ) (xs : List ℕ) → IsIn x (filter p xs) → p x ≡ true
 filter_passes p x [] i = absurd (omega arith)
@@ -115,12 +90,8 @@ filter_passes p x (y ∷ ys) i = go (p y) refl (filter_passes p x ys) i where
 pub apart_within : (xs ys : List ℕ) → IsApart xs → ((x : ℕ) → IsIn x xs → IsIn x ys) → length xs ≤ length ys
 apart_within [] ys d h = omega arith
 apart_within (x ∷ xs) ys d h =
-    let s : ys ≡ before x ys ++ x ∷ after x ys = split_at x ys (h x (omega (arith, tick_same x))) in
-    let l = apart_within xs (before x ys ++ after x ys) (λ y. omega (arith, d y)) (λ y i. elim (eqb_tells y x) [
-      | inl e ↦ absurd (omega (arith, d x, tick_same x, i, ap (λ k. count k xs) e.1))
-      | inr n ↦ omega (arith, h y (omega (arith, i)), ap (count y) s, count-append y (before x ys) (x ∷ after x ys), count-append y (before x ys) (after x ys), tick_other y x n.1)
-    ]) in
-    omega (arith, l, ap (λ (zs : List ℕ). length zs) s, length-append (before x ys) (x ∷ after x ys), length-append (before x ys) (after x ys))
+    let one = length-append (before x ys) (x ∷ after x ys) in
+    grind (arith, split_at x ys, apart_within xs (before x ys ++ after x ys), count-append, tick_other, one, length-append (before x ys) (after x ys))
 
 length-split : (x : ℕ) (ps qs : List ℕ) → length (ps ++ x ∷ qs) ≡ 1 + length (ps ++ qs)
 length-split x ps qs = omega (arith, length-append ps (x ∷ qs), length-append ps qs)
@@ -130,7 +101,4 @@ pub same_length : (xs ys : List ℕ) → ((x : ℕ) → count x xs ≡ count x y
 same_length [] [] h = refl
 same_length [] (y ∷ ys) h = absurd (omega (arith, h y, tick_same y))
 same_length (x ∷ xs) ys h =
-    let i : IsIn x ys = omega (arith, h x, tick_same x) in
-    let e = split_at x ys i in
-    let r = same_length xs (before x ys ++ after x ys) (λ q. omega (arith, h q, ap (count q) e, count-append q (before x ys) (x ∷ after x ys), count-append q (before x ys) (after x ys))) in
-    omega (arith, r, ap (λ (zs : List ℕ). length zs) e, length-split x (before x ys) (after x ys))
+    grind (arith, tick_same x, split_at x ys, same_length xs (before x ys ++ after x ys), count-append, length-split x (before x ys) (after x ys))
