@@ -1,5 +1,5 @@
 -- What each operator adds to vertices less edges plus faces less rings.
-use Rattle.std.proofs.Common.{◌≡◌, ℕ, List, pos, neg_ℤ, ◌+ℤ◌, ◌+◌, ◌*◌, None, ap, subst, ◌∙◌, arith}
+use Rattle.std.proofs.Common.{◌≡◌, ℕ, List, pos, neg_ℤ, ◌+ℤ◌, ◌+◌, ◌*◌, None, subst, arith}
 use Rattle.std.proofs.lemmas.Int.{ints}
 use Rattle.euler_operators.specs.declared.Point.{Point}
 use Rattle.euler_operators.specs.declared.HalfEdge.{HalfEdge}
@@ -35,23 +35,11 @@ Adds op g = (M : Model) → Sound M → first_false M op ≡ None → Grown M (e
 
 mvfs_adds : (s f l v : ℕ) (p : Point) → Adds (Mvfs s f l v p) 2
 unfolding effect mvfs
-mvfs_adds s f l v p M sound e =
-    let goes = mvfs_goes M s f l v p e in
-    let N : Model = mvfs M s f l v p in
-    let a : size N.vertices ≡ size M.vertices + 1 = size-put_new M.vertices v p goes.vertex_free in
-    let b : size N.faces ≡ size M.faces + 1 = size-put_new M.faces f _ goes.face_free in
-    let c : size N.loops ≡ size M.loops + 1 = size-put_new M.loops l _ goes.loop_free in
-    omega (arith, a, b, c)
+mvfs_adds s f l v p M sound e = grind (arith, mvfs_goes, size-put_new)
 
 mev_adds : (c d : Corner) (h : HalfEdge) (v : ℕ) (p : Point) → Adds (Mev c d h v p) 0
 unfolding effect mev_at mev_lone
-mev_adds (At g) (At k) h v p M sound e =
-    let goes = mev_goes M g k h v p e in
-    let N : Model = mev_at M (code g) (code k) (code h) v p in
-    let a : size N.vertices ≡ size M.vertices + 1 = size-put_new M.vertices v p goes.vertex_free in
-    let b : size N.edges ≡ size M.edges + 1 = size-put_new _ (edge_of (code h)) _ (mapped_none _ M.edges (edge_of (code h)) goes.edge_free) ∙ ap (λ n. n + 1) (size-map_rows _ M.edges) in
-    let c : size N.loops ≡ size M.loops = size-map_rows _ _ ∙ size-map_rows _ M.loops in
-    omega (arith, a, b, c)
+mev_adds (At g) (At k) h v p M sound e = grind (arith, mev_goes, size-put_new, mapped_none, size-map_rows)
 mev_adds (At g) (Lone l) h v p M sound e = absurd (mixed_first M g l h v p sound e)
 mev_adds (Lone l) (At k) h v p M sound e = absurd (mixed_second M l k h v p sound e)
 mev_adds (Lone l) (Lone d) h v p M sound e =
@@ -65,13 +53,7 @@ mev_adds (Lone l) (Lone d) h v p M sound e =
 
 mef_adds : (g k h : HalfEdge) (f l : ℕ) → Adds (Mef g k h f l) 0
 unfolding effect mef
-mef_adds g k h f l M sound e =
-    let goes = mef_goes M g k h f l e in
-    let N : Model = mef M (code g) (code k) (code h) f l in
-    let a : size N.faces ≡ size M.faces + 1 = size-put_new M.faces f _ goes.face_free in
-    let b : size N.edges ≡ size M.edges + 1 = size-put_new M.edges (edge_of (code h)) _ goes.edge_free in
-    let c : size N.loops ≡ size M.loops + 1 = size-put_new _ l _ (mapped_none _ M.loops l goes.loop_free) ∙ ap (λ n. n + 1) (size-map_rows _ M.loops) in
-    omega (arith, a, b, c)
+mef_adds g k h f l M sound e = grind (arith, mef_goes, size-put_new, mapped_none, size-map_rows)
 
 kemr_adds : (h : HalfEdge) (l : ℕ) → Adds (Kemr h l) 0
 unfolding effect kemr
@@ -80,16 +62,14 @@ kemr_adds h l M sound e =
     let N : Model = kemr M (code h) l in
     let w = row_some (table.get M.edges (edge_of (code h))) goes.h_there in
     let a : size N.edges + 1 ≡ size M.edges = size-remove M.edges (edge_of (code h)) w.0 w.1 in
-    let c : size N.loops ≡ size M.loops + 1 = size-put_new _ l _ (mapped_none _ M.loops l goes.loop_free) ∙ ap (λ n. n + 1) (size-map_rows _ M.loops) in
-    omega (arith, a, c)
+    grind (arith, size-put_new, mapped_none, goes.loop_free, size-map_rows)
 
 mfkrh_adds : (l f : ℕ) → Adds (Mfkrh l f) 2
 unfolding effect mfkrh
 mfkrh_adds l f M sound e =
     let N : Model = mfkrh M l f in
     let a : size N.faces ≡ size M.faces + 1 = size-put_new M.faces f _ (mfkrh_goes M l f e).face_free in
-    let c : size N.loops ≡ size M.loops = size-map_rows _ M.loops in
-    omega (arith, a, c)
+    grind (arith, size-map_rows)
 
 -- the others rewrite rows, and keep each table's size
 ring_in_adds : (l f : ℕ) → Adds (RingIn l f) 0

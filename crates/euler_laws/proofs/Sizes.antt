@@ -1,5 +1,5 @@
 -- How many rows tables have after a change, and how many rings a sound model has.
-use Rattle.std.proofs.Common.{◌≡◌, ◌≢◌, ℕ, suc, ◌+◌, ◌≤◌, ◌<◌, Bool, true, false, cond, not, nat_eq, nat_lt, List, [], ◌∷◌, length, Some, None, is_some, refl, sym, ap, ◌∙◌, arith, true≢false}
+use Rattle.std.proofs.Common.{◌≡◌, ◌≢◌, ℕ, suc, ◌+◌, ◌≤◌, ◌<◌, Bool, true, cond, not, nat_eq, nat_lt, List, [], ◌∷◌, length, Some, None, is_some, refl, sym, ap, ◌∙◌, arith, true≢false}
 use Rattle.std.specs.Option.{option_map}
 use Rattle.std.specs.Ordering.{nat_cmp}
 use Rattle.std.specs.Cmp.{nat_cmp_total}
@@ -129,13 +129,10 @@ module _ (M : Model) (sound : Sound M) where
   -- as many loops are outer loops as there are faces
   outers_as_faces : length outers ≡ length all_faces
   outers_as_faces =
-      let a : length outers ≤ length all_faces = no_longer (face_of M) outers all_faces (all_where-rises is_outer M.loops)
-      (λ l k. face_listed (face_of M l) (sound.loops_of_faces l (outer_there l k).0))
-      (λ l k x y e. sym (outer_there l x).1 ∙ ap (outer M) e ∙ (outer_there k y).1) in
-      let b : length all_faces ≤ length outers = no_longer (outer M) all_faces outers (all_where-rises (λ _ _. true) M.faces)
-      (λ f k. let o = sound.outers_there f (listed_face f k) in there_outer (outer M f) o.0 (ap (outer M) o.1))
-      (λ f g x y e. sym (sound.outers_there f (listed_face f x)).1 ∙ ap (face_of M) e ∙ (sound.outers_there g (listed_face g y)).1) in
-      omega arith
+      let rising = all_where-rises is_outer M.loops in
+      let a : length outers ≤ length all_faces =
+      grind (arith, no_longer (face_of M) outers all_faces rising, rising, face_listed, sound.loops_of_faces, outer_there) in
+      grind (arith, no_longer (outer M) all_faces outers, all_where-rises, sound.outers_there, listed_face, there_outer)
 
   -- each loop is the outer loop of its face or a ring, and each face has one outer loop
   pub loops_are : size M.loops ≡ size M.faces + length (all_rings M)

@@ -1,5 +1,5 @@
 -- kfmrh makes a face a ring of another face, and mfkrh a ring a face: they keep a sound model sound and take each other back.
-use Rattle.std.proofs.Common.{◌≡◌, ◌≢◌, ℕ, nat_eq, Some, None, is_some, IsTrue, refl, sym, ap, ◌∙◌, subst, inl, inr, arith}
+use Rattle.std.proofs.Common.{◌≡◌, ◌≢◌, ℕ, Some, None, is_some, IsTrue, refl, sym, ap, ◌∙◌, subst, inl, inr, arith}
 use Rattle.std.proofs.lemmas.Bool.Decides.{eqb_tells}
 use Rattle.std.proofs.lemmas.Bool.{not-true, ne_eqb, eq-eqb, eqb-true, eqb-false}
 use Rattle.euler_operators.specs.Table as table
@@ -15,7 +15,7 @@ use Rattle.euler_operators.specs.Effect.{effect, inverse, kfmrh, mfkrh, loop_to_
 use Rattle.euler_laws.proofs.shared.Goes.{◌also◌, all_hold, none_refuses, not_false, taken}
 use Rattle.euler_laws.proofs.shared.Parts.{FaceSet, row_here, has_on, has_back, solid_other, outer_other, fit-put, fit-remove}
 use Rattle.euler_laws.proofs.shared.Faces.{SameWalks, LoopMoves, face_moved, face_kept, walks_same, old_outer, sound-moves, loop_home}
-use Rattle.euler_laws.proofs.shared.Rows.{put_again, face_there, no_rings_means, means_no_rings, never_outer, is_ring, test_ring}
+use Rattle.euler_laws.proofs.shared.Rows.{put_again, face_there, no_rings_means, means_no_rings, never_outer, is_ring}
 use Rattle.euler_laws.proofs.shared.Lawful.{IsLawful}
 
 pub record KillGoes (M : Model) (f g : ℕ) : Type 0 where
@@ -91,22 +91,18 @@ module _ (M : Model) (sound : Sound M) (f g : ℕ) (goes : KillGoes M f g) where
     kept = λ q t a. has_on kill_set.rows (face_of M q) (not_face_g q t a) (sound.loops_of_faces q t);
     outers = λ p t. let a = not_g p t in let b = face_back p t in inr (old_outer kill_moves sound p b (kill_outer p a) (not_outer p b a));
     in_solid = λ p t. subst (Has M.solids) (sym (kill_solid p (not_g p t))) (sound.faces_of_solids p (face_back p t));
-    has_face = λ s t. let x = sound.solid_has_face s t in elim (eqb_tells x.0 g) [
-      | inl e ↦ (f, has_on kill_set.rows f goes.apart goes.f_there, f_solid ∙ ap (solid_of M) (sym e.1) ∙ x.2)
-      | inr e ↦ (x.0, has_on kill_set.rows x.0 e.1 x.1, kill_solid x.0 e.1 ∙ x.2)
-    ];
+    has_face =
+        let one = has_on kill_set.rows f goes.apart goes.f_there in
+        grind (arith, sound.solid_has_face, eqb_tells, one, goes.f_there, f_solid, has_on kill_set.rows, kill_solid);
     solid_new = f_solid ∙ ap (solid_of M) (sym l_face);
     solid_kept = λ q t a. kill_solid (face_of M q) (not_face_g q t a);
     fit = fit-remove M.faces sound.faces_fit g;
   })
 
   pub make_goes : MakeGoes N l g
-  make_goes = record {
-    l_there = kill_same.loops l ∙ kill_moves.there;
-    face_free = g_gone;
-    is_ring = λ e. not_outer f goes.f_there goes.apart (sym (kill_outer f goes.apart) ∙ ap (outer N) (sym kill_face_l) ∙ e);
-    face_fits = sound.faces_fit g goes.g_there;
-  }
+  make_goes =
+      let two = sound.faces_fit in
+      grind (arith, two, kill_same.loops, kill_moves.there, g_gone, not_outer, goes.f_there, goes.apart, kill_outer, kill_face_l, goes.g_there)
 
   -- mfkrh takes it back
   pub mfkrh-kfmrh : mfkrh N l g ≡ M
@@ -221,14 +217,8 @@ mfkrh_goes M l f e = named (all_hold (conditions M (Mfkrh l f)) e) where
 
 pub mfkrh_accepted : (N : Model) (l f : ℕ) → Sound N → MakeGoes N l f → first_false N (Mfkrh l f) ≡ None
 unfolding first_false conditions
-mfkrh_accepted N l f sound goes = none_refuses (conditions N (Mfkrh l f)) (
-    sound.loops_fit l goes.l_there
-    also goes.face_fits
-    also goes.l_there
-    also not_false _ (taken _ goes.face_free)
-    also test_ring (table.has N.loops l) (nat_eq (face_of N l) (face_of N l)) (nat_eq (outer N (face_of N l)) l) goes.l_there (nat_eq_itself (face_of N l)) (ne_eqb _ _ goes.is_ring)
-    also tt
-    )
+mfkrh_accepted N l f sound goes =
+    grind (arith, none_refuses, sound.loops_fit, goes.l_there, goes.face_fits, taken, goes.face_free, table.has, nat_eq_itself, ne_eqb, goes.is_ring)
 
 pub kfmrh_lawful : (f g : ℕ) → IsLawful (Kfmrh f g)
 unfolding effect inverse

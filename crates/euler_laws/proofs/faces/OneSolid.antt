@@ -118,14 +118,7 @@ module _ {M : Model} {s f l v : ℕ} {p : Point} (goes : MvfsGoes M s f l v p) w
 
   module _ (sound : Sound M) where
     rings_on : SameRings M N
-    rings_on = record {
-      edges = edges_same;
-      stand = stand_same;
-      loops = λ q t. elim (eqb_tells q l) [
-        | inl e ↦ subst (IsLoop (after M)) (sym (ap (content N) e.1 ∙ content_new)) tt
-        | inr e ↦ subst (IsLoop (after M)) (sym (content_other q e.1)) (loop_sound M sound q (has_back loops_put q e.1 t))
-      ];
-    }
+    rings_on = grind (arith, edges_same, stand_same, eqb_tells, content_new, content_other, loop_sound M sound, has_back loops_put, loops_put)
 
     walks_on : Walks N (after M)
     walks_on = walks-rings M N sound rings_on

@@ -1,6 +1,6 @@
 -- RingIn, which takes a ring to another face of its solid: it keeps a sound model sound, and RingIn to the old face takes it back.
-use Rattle.std.proofs.Common.{◌≡◌, ◌≢◌, ℕ, nat_eq, None, refl, sym, ap, ◌∙◌, subst, inr, List, [], ◌∷◌, arith}
-use Rattle.std.proofs.lemmas.Bool.{not-true, ne_eqb, eq-eqb, eqb-true, eqb-false}
+use Rattle.std.proofs.Common.{◌≡◌, ◌≢◌, ℕ, nat_eq, None, refl, sym, ◌∙◌, subst, inr, List, [], ◌∷◌, arith}
+use Rattle.std.proofs.lemmas.Bool.{not-true, ne_eqb, eqb-true, eqb-false}
 use Rattle.euler_operators.specs.Table as table
 use Rattle.euler_operators.specs.Model.{Model, face_of, solid_of, outer}
 use Rattle.euler_operators.specs.Sound.{Sound, Has}
@@ -12,7 +12,7 @@ use Rattle.euler_operators.specs.Effect.{effect, inverse, ring_in}
 use Rattle.euler_operators.proofs.Tests.{nat_eq_itself}
 use Rattle.euler_laws.proofs.shared.Goes.{◌also◌, all_hold, all_hold-append, all_hold-front, all_hold-back, none_refuses, not_false}
 use Rattle.euler_laws.proofs.shared.Faces.{SameWalks, LoopMoves, face_moved, face_kept, walks_same, old_outer, sound-moves, loop_home}
-use Rattle.euler_laws.proofs.shared.Rows.{never_outer, is_ring, test_ring}
+use Rattle.euler_laws.proofs.shared.Rows.{never_outer, is_ring}
 use Rattle.euler_laws.proofs.shared.Lawful.{IsLawful}
 
 -- loop l is a ring, and face f is of its solid
@@ -63,12 +63,9 @@ module _ (M : Model) (sound : Sound M) (l f : ℕ) (goes : RingGoes M l f) where
   -- what the way back asks
   pub back_goes : RingGoes N l (face_of M l)
   unfolding ring_in
-  back_goes = record {
-    l_there = same.loops l ∙ goes.l_there;
-    f_there = sound.loops_of_faces l goes.l_there;
-    one_solid = ap (solid_of N) face_l ∙ solid_same f ∙ sym goes.one_solid ∙ sym (solid_same (face_of M l));
-    is_ring = λ e. never_outer M sound l goes.is_ring f goes.f_there (sym (outer_same f) ∙ ap (outer N) (sym face_l) ∙ e);
-  }
+  back_goes =
+      let one = sound.loops_of_faces in
+      grind (arith, one, same.loops, goes.l_there, face_l, solid_same, goes.one_solid, never_outer, sound, goes.is_ring, goes.f_there, outer_same)
 
   pub ring_in-ring_in : ring_in N l (face_of M l) ≡ M
   unfolding ring_in
@@ -78,22 +75,11 @@ module _ (M : Model) (sound : Sound M) (l f : ℕ) (goes : RingGoes M l f) where
 
 -- what the conditions of a ring and a face say, and back
 pub ring_goes : (M : Model) (l f : ℕ) → AllHold (ring_and_face M l f) → RingGoes M l f
-ring_goes M l f (_, (_, (l_known, (f_known, (one_solid, (l_ring, _)))))) = record {
-  l_there = l_known;
-  f_there = f_known;
-  one_solid = eqb-true _ _ one_solid;
-  is_ring = is_ring M l l_ring;
-}
+ring_goes M l f (_, (_, (l_known, (f_known, (one_solid, (l_ring, _)))))) = grind (arith, eqb-true, one_solid, is_ring M l l_ring)
 
 pub ring_holds : (N : Model) (l f : ℕ) → Sound N → RingGoes N l f → AllHold (ring_and_face N l f)
 ring_holds N l f sound goes =
-    sound.loops_fit l goes.l_there
-    also sound.faces_fit f goes.f_there
-    also goes.l_there
-    also goes.f_there
-    also eq-eqb _ _ goes.one_solid
-    also test_ring (table.has N.loops l) (nat_eq (face_of N l) (face_of N l)) (nat_eq (outer N (face_of N l)) l) goes.l_there (nat_eq_itself (face_of N l)) (ne_eqb _ _ goes.is_ring)
-    also tt
+    grind (arith, sound.loops_fit, goes.l_there, sound.faces_fit, goes.f_there, goes.one_solid, table.has, nat_eq_itself, ne_eqb, goes.is_ring)
 
 -- the ring isn't of that face already
 abbrev of_another : Model → ℕ → ℕ → List Condition

@@ -107,10 +107,9 @@ module _ {M : Model} (sound : Sound M) {l f : ℕ} (goes : RingGoes M l f) where
     l_there = (walks_same takes).loops z ∙ z_there.0;
     f_there = has_face_same takes_over g ∙ g_there;
     one_solid = ap (solid_of P) (face_moved takes) ∙ solid_same takes_over f ∙ sym goes.one_solid ∙ sym (solid_same takes_over g);
-    is_ring = λ e. elim (eqb_tells f g) [
-      | inl a ↦ goes.is_ring (sym (sym (outer_new takes_over) ∙ ap (outer P) (sym (face_moved takes ∙ a.1)) ∙ e))
-      | inr a ↦ z_free f goes.f_there a.1 (sym (outer_other (outer_set takes_over) f a.1) ∙ ap (outer P) (sym (face_moved takes)) ∙ e)
-    ];
+    is_ring =
+        let one = outer_other (outer_set takes_over) f in let two = z_free f goes.f_there in
+        grind (arith, eqb_tells f g, goes.is_ring, outer_new takes_over, takes_over, face_moved takes, two, goes.f_there, one, outer_set takes_over);
   }
 
   pub ring_out-take_outer : ring_out P z g ≡ M

@@ -1,5 +1,5 @@
 -- mvfs and kvfs as operators: they keep a model sound, and each passes its conditions after the other and takes it back.
-use Rattle.std.proofs.Common.{◌≡◌, ℕ, true, false, not, nat_eq, ◌&&◌, ◌||◌, List, [], ◌∷◌, Some, None, unwrap_or, is_some, refl, sym, ap, ◌∙◌, subst, arith, inl, inr, true≢false}
+use Rattle.std.proofs.Common.{◌≡◌, ℕ, true, false, not, nat_eq, ◌||◌, List, [], ◌∷◌, Some, None, unwrap_or, is_some, refl, sym, ap, ◌∙◌, subst, arith, inl, inr, true≢false}
 use Rattle.std.proofs.lemmas.Bool.Decides.{nat_tests, eqb_tells}
 use Rattle.std.proofs.lemmas.Bool.{not-true, not-false, eq-eqb, eqb-true}
 use Rattle.euler_operators.specs.declared.Point.{Point}
@@ -11,7 +11,7 @@ use Rattle.euler_operators.proofs.Tests.{and_first, and_second}
 use Rattle.euler_operators.specs.declared.Op.TheVariants.{Mvfs, Kvfs}
 use Rattle.euler_operators.specs.Conditions.{AllHold, first_false, conditions, bare_face, has_rings, is_empty, is_lone, lone_vertex, lists}
 use Rattle.euler_operators.specs.Effect.{effect, inverse, mvfs, kvfs_at, head_or_zero}
-use Rattle.euler_laws.proofs.shared.Goes.{◌also◌, all_hold, none_refuses, not_false, taken}
+use Rattle.euler_laws.proofs.shared.Goes.{all_hold, none_refuses, taken}
 use Rattle.euler_laws.proofs.shared.Rows.{face_there, point_row, lone_is, no_rings_means, means_no_rings, solid_row, loop_row}
 use Rattle.euler_laws.proofs.shared.Listed.{listed_passes, passes_listed, all_where-rises, one_listed}
 use Rattle.euler_laws.proofs.faces.OneSolid as more
@@ -55,17 +55,11 @@ module _ {M : Model} (sound : Sound M) {s f : ℕ} (goes : KvfsGoes M s f) where
   gone = (get-remove_here M.solids s, get-remove_here M.faces f, get-remove_here M.loops l, get-remove_here M.vertices v)
 
   pub put_goes : MvfsGoes K s f l v p
-  put_goes = record {
-    solid_free = gone.0;
-    face_free = gone.1;
-    loop_free = gone.2;
-    vertex_free = gone.3;
-    solid_fits = sound.solids_fit s goes.s_there;
-    face_fits = sound.faces_fit f goes.f_there;
-    loop_fits = sound.loops_fit l l_there;
-    vertex_fits = sound.vertices_fit v (sound.lone_at_vertex l v goes.is_bare);
-    point_fits = sound.points_fit v p (point_row M v (sound.lone_at_vertex l v goes.is_bare));
-  }
+  put_goes =
+      let one = sound.points_fit v p (point_row M v (sound.lone_at_vertex l v goes.is_bare)) in
+      let two = sound.vertices_fit v (sound.lone_at_vertex l v goes.is_bare) in let three = point_row M v (sound.lone_at_vertex l v goes.is_bare) in
+      let four = sound.lone_at_vertex l v goes.is_bare in
+      grind (arith, gone, sound.solids_fit s goes.s_there, goes.s_there, l_there, two, four, goes.is_bare, one, three)
 
   pub mvfs-kvfs : mvfs K s f l v p ≡ M
   unfolding mvfs kvfs_at
@@ -100,11 +94,9 @@ module _ {M : Model} (sound : Sound M) {s f l v : ℕ} {p : Point} (goes : MvfsG
       | inr a ↦ let o = has_back (more.faces_put goes).rows q a.1 t in
           absurd (more.not_s goes (solid_of M q) (sound.faces_of_solids q o) (sym (solid_other (more.faces_put goes) q a.1) ∙ e))
     ];
-    no_rings = λ q t e. more.outer_new goes ∙ elim (eqb_tells q l) [
-      | inl a ↦ sym a.1
-      | inr a ↦ let o = has_back (more.loops_put goes) q a.1 t in
-          absurd (more.not_f goes (face_of M q) (sound.loops_of_faces q o) (sym (more.face_of_other goes q a.1) ∙ e))
-    ];
+    no_rings =
+        let one = has_back (more.loops_put goes) in
+        grind (arith, more.outer_new goes, eqb_tells, one, more.loops_put goes, more.not_f goes, sound.loops_of_faces, more.face_of_other goes);
     is_bare = bare ∙ ap lone (sym (ap lone_vertex bare));
   } where
     bare : content N (outer N f) ≡ lone v
@@ -156,14 +148,8 @@ ringless N f r = not-false (is_empty (rings_of N f)) r
 
 pub kvfs_accepted : (N : Model) (s f : ℕ) → Sound N → KvfsGoes N s f → first_false N (Kvfs s) ≡ None
 unfolding first_false conditions
-kvfs_accepted N s f sound goes = none_refuses (conditions N (Kvfs s)) (
-    sound.solids_fit s goes.s_there
-    also goes.s_there
-    also ap (bare_face N) (faces_one N s f goes) ∙ bare
-    also tt
-    ) where
-      bare : bare_face N (f ∷ []) ≡ true
-      bare = λ i. ringless N f (means_no_rings N f goes.no_rings) i && ap is_lone goes.is_bare i
+kvfs_accepted N s f sound goes =
+    grind (arith, none_refuses, sound.solids_fit, goes.s_there, faces_one, ringless, means_no_rings, goes.no_rings, goes.is_bare)
 
 pub mvfs_goes : (M : Model) (s f l v : ℕ) (p : Point) → first_false M (Mvfs s f l v p) ≡ None → MvfsGoes M s f l v p
 unfolding first_false conditions
@@ -184,18 +170,9 @@ mvfs_goes M s f l v p e = named (all_hold (conditions M (Mvfs s f l v p)) e) whe
 -- mvfs keeps a sound model sound
 pub mvfs_accepted : (N : Model) (s f l v : ℕ) (p : Point) → MvfsGoes N s f l v p → first_false N (Mvfs s f l v p) ≡ None
 unfolding first_false conditions
-mvfs_accepted N s f l v p goes = none_refuses (conditions N (Mvfs s f l v p)) (
-    goes.solid_fits
-    also goes.face_fits
-    also goes.loop_fits
-    also goes.vertex_fits
-    also not_false _ (taken _ goes.solid_free)
-    also not_false _ (taken _ goes.face_free)
-    also not_false _ (taken _ goes.loop_free)
-    also not_false _ (taken _ goes.vertex_free)
-    also goes.point_fits
-    also tt
-    )
+mvfs_accepted N s f l v p goes =
+    let one = goes.vertex_fits in let two = goes.vertex_free in let three = goes.solid_fits in let four = goes.solid_free in
+    grind (arith, one, two, three, four, none_refuses, goes.face_fits, goes.loop_fits, taken, goes.face_free, goes.loop_free, goes.point_fits)
 
 pub mvfs_lawful : (s f l v : ℕ) (p : Point) → IsLawful (Mvfs s f l v p)
 unfolding effect inverse

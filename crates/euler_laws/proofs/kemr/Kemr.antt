@@ -17,7 +17,7 @@ use Rattle.euler_operators.proofs.Halves.{edge_of-code, code-half, mate-mate, ma
 use Rattle.euler_operators.proofs.Tables.{two_undone, no_row}
 use Rattle.euler_operators.proofs.Models.{row_of}
 use Rattle.euler_operators.specs.declared.Op.TheVariants.{Kemr, Mekr}
-use Rattle.euler_operators.specs.Conditions.{AllHold, first_false, conditions, corner_tail, corner_loop, corner_list, corner_known, corner_lone, corner_number, lone_vertex, is_lone}
+use Rattle.euler_operators.specs.Conditions.{AllHold, first_false, conditions, corner_tail, corner_loop, corner_list, corner_known, corner_lone, corner_number, is_lone}
 use Rattle.euler_operators.specs.Effect.{effect, inverse, kemr, mekr, corner_of, cycle_or_lone, edge_row}
 use Rattle.euler_laws.proofs.shared.Goes.{◌also◌, all_hold, none_refuses, not_false, taken}
 use Rattle.euler_laws.proofs.shared.Parts.{outer_stays}
@@ -41,14 +41,7 @@ pub record CornerAt (N : Model) (c : Corner) (q v : ℕ) (zs : List ℕ) : Type 
 -- the corner before the first item of a loop, or of the loop where it is lone
 pub corner_here : (N : Model) → Sound N → (zs : List ℕ) (q v : ℕ) → content N q ≡ cycle_or_lone zs v → Has N.loops q → IsApart zs → ((y : ℕ) → IsIn y zs → (loop_of N y ≡ q) × HasHalf N y) → ((y : ℕ) (ys : List ℕ) → zs ≡ y ∷ ys → tail N y ≡ v) →
     CornerAt N (corner_of zs q) q v zs
-corner_here N sound [] q v e there d each first = record {
-  loop = refl;
-  vertex = ap lone_vertex e;
-  list = refl;
-  known = there;
-  bare = ap is_lone e;
-  fits = sound.loops_fit q there;
-}
+corner_here N sound [] q v e there d each first = grind (arith, there, is_lone, sound.loops_fit)
 corner_here N sound (y ∷ ys) q v e there d each first =
     let o = each y (omega (arith, tick_same y)) in
     let t : HasHalf N (code (half y)) = subst (HasHalf N) (sym (code-half y)) o.1 in

@@ -11,7 +11,7 @@ use Rattle.euler_operators.proofs.Cuts.{ring_split}
 use Rattle.euler_operators.proofs.Leads.{IsRing-kemr}
 use Rattle.euler_operators.specs.HalfEdge.{mate, edge_of}
 use Rattle.euler_operators.specs.Table as table
-use Rattle.euler_operators.specs.Model.{Model, LoopContent, cycle, LoopRow, items_of, tail, loop_of, content, face_of, cycle_of, after, outer, solid_of, is_number}
+use Rattle.euler_operators.specs.Model.{Model, LoopContent, cycle, LoopRow, items_of, tail, loop_of, content, face_of, cycle_of, after, solid_of, is_number}
 use Rattle.euler_operators.specs.Sound.{Sound, Has, HasHalf, StandsIn, IsCycle, IsLoneAt}
 use Rattle.euler_operators.proofs.Halves.{mate_other}
 use Rattle.euler_operators.proofs.Tables.{row_elsewhere}
@@ -189,16 +189,7 @@ module _ (M : Model) (sound : Sound M) (h l : ℕ) (goes : KemrGoes M h l) where
 
   pub faces_stay : FacesStay M N
   unfolding kemr
-  faces_stay = record {
-    faces = refl;
-    solids = refl;
-    kept = λ q old now. face_same set q (not_l q old);
-    new = λ q there. elim (eqb_tells q l) [
-      | inl e ↦ inr (subst (Has M.faces) (sym (ap (face_of N) e.1 ∙ face_l)) (sound.loops_of_faces r has_r))
-      | inr e ↦ inl (sym (has_same set q e.1) ∙ there)
-    ];
-    outers = λ p there. let o = (sound.outers_there p there).0 in has_same set (outer M p) (not_l _ o) ∙ o;
-  }
+  faces_stay = grind (arith, face_same set, not_l, eqb_tells, face_l, sound.loops_of_faces r has_r, has_r, has_same set, sound.outers_there)
 
   one_solid : (x : ℕ) → HasHalf N x → solid_at N (loop_of N x) ≡ solid_at N (loop_of N (mate x))
   one_solid = one_solid-rows sound rows (solid_at M r)

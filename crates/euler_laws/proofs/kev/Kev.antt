@@ -1,20 +1,20 @@
 -- kev as an operator: it keeps a model sound. The inverses of mev and of kev pass their conditions and take them back.
-use Rattle.std.proofs.Common.{◌≡◌, ◌≢◌, ℕ, Bool, true, false, cond, nat_eq, ◌&&◌, None, refl, sym, ap, ◌∙◌, arith, inl, inr}
+use Rattle.std.proofs.Common.{◌≡◌, ◌≢◌, ℕ, Bool, true, false, cond, nat_eq, ◌&&◌, None, refl, ap, arith}
 use Rattle.std.proofs.lemmas.Bool.Decides.{eqb_tells}
-use Rattle.std.proofs.lemmas.Bool.{not-true, ne_eqb, eq-eqb, eqb-true}
+use Rattle.std.proofs.lemmas.Bool.{not-true, ne_eqb, eqb-true}
 use Rattle.euler_operators.specs.declared.Point.{Point}
 use Rattle.euler_operators.specs.declared.HalfEdge.{HalfEdge}
 use Rattle.euler_operators.specs.declared.Corner.{Corner}
 use Rattle.euler_operators.specs.declared.Corner.TheVariants.{At, Lone}
-use Rattle.euler_operators.specs.HalfEdge.{code, half, mate, edge_of}
-use Rattle.euler_operators.specs.Model.{Model, tail, loop_of, content, after, point_of, is_number}
+use Rattle.euler_operators.specs.HalfEdge.{code, half, mate}
+use Rattle.euler_operators.specs.Model.{Model, tail, loop_of, content, after, point_of}
 use Rattle.euler_operators.specs.Sound.{Sound}
 use Rattle.euler_operators.proofs.Tests.{none_but}
 use Rattle.euler_operators.proofs.Halves.{edge_of-code, code-half}
 use Rattle.euler_operators.specs.declared.Op.TheVariants.{Mev, Kev}
 use Rattle.euler_operators.specs.Conditions.{AllHold, first_false, conditions, lone_vertex}
 use Rattle.euler_operators.specs.Effect.{effect, inverse, mev_at, mev_lone, kev, kev_corner, kev_corner_mate}
-use Rattle.euler_laws.proofs.shared.Goes.{◌also◌, all_hold, none_refuses, not_false}
+use Rattle.euler_laws.proofs.shared.Goes.{all_hold, none_refuses}
 use Rattle.euler_laws.proofs.shared.Undo.{parallel_none, none_parallel}
 use Rattle.euler_laws.proofs.mev.MevSound.{MevGoes, sound-mev}
 use Rattle.euler_laws.proofs.kev.MevUndo.{kev-mev_at}
@@ -26,7 +26,7 @@ use Rattle.euler_laws.proofs.kev.KevSound.{KevGoes, sound-kev}
 use Rattle.euler_laws.proofs.kev.KevUndo as redo
 use Rattle.euler_laws.proofs.kev.KevUndo.{mev_at-kev, mev_lone-kev}
 use Rattle.euler_laws.proofs.mev.Mev.{mev_goes, mev_accepted, lone_goes, lone_accepted, mixed_first, mixed_second}
-use Rattle.euler_laws.proofs.shared.Rows.{half_of, of_half, ring_none}
+use Rattle.euler_laws.proofs.shared.Rows.{half_of, ring_none}
 use Rattle.euler_laws.proofs.shared.Lawful.{IsLawful}
 
 -- ---- conditions
@@ -43,13 +43,8 @@ kev_goes M h sound e = named (all_hold (conditions M (Kev h)) e) where
 
 pub kev_accepted : (N : Model) (h : HalfEdge) → Sound N → KevGoes N (code h) → first_false N (Kev h) ≡ None
 unfolding first_false conditions
-kev_accepted N h sound goes = none_refuses (conditions N (Kev h)) (
-    ap is_number (sym (edge_of-code h)) ∙ sound.edges_fit (edge_of (code h)) goes.h_there
-    also of_half N h goes.h_there
-    also eq-eqb _ _ (parallel_none N (code h) goes.no_parallel)
-    also not_false _ (none_but (after N (mate (code h))) (code h) (after N (code h)) (mate (code h)) goes.not_bare)
-    also tt
-    )
+kev_accepted N h sound goes =
+    grind (arith, none_refuses, edge_of-code, sound.edges_fit, goes.h_there, parallel_none, goes.no_parallel, none_but, goes.not_bare)
 
 -- ---- mev
 
@@ -83,11 +78,7 @@ mate_at true f l c e = ap (λ x. cond x (Lone l) (At (half c))) e
 mate_at false f l c e = refl
 
 corners_open : (M : Model) (h : ℕ) → after M (mate h) ≢ h → (kev_corner M h ≡ At (half (corner M h))) × (kev_corner_mate M h ≡ At (half (after M (mate h))))
-corners_open M h ne =
-    let f : nat_eq (after M (mate h)) h ≡ false = ne_eqb _ _ ne in (
-      corner_at (nat_eq (after M h) (mate h)) (nat_eq (after M (mate h)) h) (loop_of M h) (after M h) (after M (mate h)) f,
-      mate_at (nat_eq (after M h) (mate h)) (nat_eq (after M (mate h)) h) (loop_of M h) (after M (mate h)) f,
-    )
+corners_open M h ne = grind (arith, ne_eqb, corner_at, mate_at)
 
 corners_bare : (M : Model) (h : ℕ) → after M (mate h) ≡ h → after M h ≡ mate h → (kev_corner M h ≡ Lone (loop_of M h)) × (kev_corner_mate M h ≡ Lone (loop_of M h))
 corners_bare M h a b = grind arith
@@ -108,26 +99,17 @@ module _ (M : Model) (h : HalfEdge) (sound : Sound M) (goes : KevGoes M (code h)
 
   kev_back : effect N (Mev (kev_corner M (code h)) (kev_corner_mate M (code h)) h (tail M m) p) ≡ M
   unfolding effect
-  kev_back = elim (eqb_tells (after M m) (code h)) [
-    | inl e ↦ let c = corners_bare M (code h) e.1 (goes.not_bare e.1) in
-        ap (λ x. effect N (Mev x (kev_corner_mate M (code h)) h (tail M m) p)) c.0 ∙ ap (λ x. effect N (Mev (Lone (loop_of M (code h))) x h (tail M m) p)) c.1
-        ∙ mev_lone-kev sound goes e.1
-    | inr e ↦ let c = corners_open M (code h) e.1 in
-        ap (λ x. effect N (Mev x (kev_corner_mate M (code h)) h (tail M m) p)) c.0 ∙ ap (λ x. effect N (Mev (At (half (corner M (code h)))) x h (tail M m) p)) c.1
-        ∙ ap (λ x. mev_at N x (code (half (after M m))) (code h) (tail M m) p) (code-half (corner M (code h)))
-        ∙ ap (λ x. mev_at N (corner M (code h)) x (code h) (tail M m) p) (code-half (after M m))
-        ∙ mev_at-kev sound goes e.1
-  ]
+  kev_back =
+      let one = eqb_tells (after M m) (code h) in let two = code-half (corner M (code h)) in let three = corners_bare M (code h) in
+      let four = mev_lone-kev sound goes in
+      grind (arith, one, three, goes.not_bare, four, goes, corners_open M (code h), two, code-half (after M m), mev_at-kev sound goes)
 
   kev_back_goes : first_false N (Mev (kev_corner M (code h)) (kev_corner_mate M (code h)) h (tail M m) p) ≡ None
-  kev_back_goes = elim (eqb_tells (after M m) (code h)) [
-    | inl e ↦ let c = corners_bare M (code h) e.1 (goes.not_bare e.1) in
-        ap (λ x. first_false N (Mev x (kev_corner_mate M (code h)) h (tail M m) p)) c.0 ∙ ap (λ x. first_false N (Mev (Lone (loop_of M (code h))) x h (tail M m) p)) c.1
-        ∙ lone_accepted N (loop_of M (code h)) h (tail M m) (tail M (code h)) p (sound-kev M sound (code h) goes) (redo.lone_goes sound goes e.1)
-    | inr e ↦ let c = corners_open M (code h) e.1 in
-        ap (λ x. first_false N (Mev x (kev_corner_mate M (code h)) h (tail M m) p)) c.0 ∙ ap (λ x. first_false N (Mev (At (half (corner M (code h)))) x h (tail M m) p)) c.1
-        ∙ mev_accepted N (half (corner M (code h))) (half (after M m)) h (tail M m) p (sound-kev M sound (code h) goes) (codes_goes e.1)
-  ]
+  kev_back_goes =
+      let one = mev_accepted N (half (corner M (code h))) (half (after M m)) h (tail M m) p (sound-kev M sound (code h) goes) in
+      let two = lone_accepted N (loop_of M (code h)) h (tail M m) (tail M (code h)) p (sound-kev M sound (code h) goes) in
+      let three = sound-kev M sound (code h) goes in let four = eqb_tells (after M m) (code h) in
+      grind (arith, four, corners_bare M (code h), goes.not_bare, two, three, redo.lone_goes sound goes, corners_open M (code h), one, codes_goes)
 
 pub kev_lawful : (h : HalfEdge) → IsLawful (Kev h)
 unfolding effect inverse

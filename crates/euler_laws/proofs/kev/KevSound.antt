@@ -107,10 +107,7 @@ module _ (M : Model) (sound : Sound M) (h : ℕ) (goes : KevGoes M h) where
 
   -- a loop with neither half stays, and others lose what they have of the two
   pub touched : (c : LoopContent) → ((new c ≡ cycle_or_lone (out c) u) × (IsIn h (items_of c) ⊎ IsIn m (items_of c))) ⊎ ((new c ≡ c) × (count h (items_of c) ≡ 0) × (count m (items_of c) ≡ 0))
-  touched c = elim (IsIn_or_not h (items_of c)) [
-    | inl a ↦ inl (back_h h u c a, inl a)
-    | inr a ↦ elim (IsIn_or_not m (items_of c)) [ inl b ↦ inl (back_m h u c b, inr b) | inr b ↦ inr (back_none h u c a b, a, b) ]
-  ]
+  touched c = grind (arith, IsIn_or_not h (items_of c), back_h h u c, IsIn_or_not m (items_of c), back_m h u c, back_none h u c)
 
   pub out_none : (c : LoopContent) → count h (items_of c) ≡ 0 → count m (items_of c) ≡ 0 → out c ≡ items_of c
   out_none c a b = ap (without m) (without_none h (items_of c) a) ∙ without_none m (items_of c) b
@@ -148,10 +145,7 @@ module _ (M : Model) (sound : Sound M) (h : ℕ) (goes : KevGoes M h) where
   came x q s =
       let c : LoopContent = content M q in
       let d : IsApart (items_of c) = (light M sound q).0 in
-      let i : IsIn x (items_of (new c)) = subst (λ y. IsIn x (items_of y)) (content-N q) (holds_in x (content N q) s) in
-      let a : x ≢ h = λ e. omega (arith, i, count_new x c, ap (λ y. count y (out c)) e, h_out c d) in
-      let b : x ≢ m = λ e. omega (arith, i, count_new x c, ap (λ y. count y (out c)) e, m_out c d) in
-      (a, b, in-holds x c (omega (arith, i, count_new x c, count_kept x c a b)))
+      grind (arith, content-N q, holds_in x (content N q) s, count_new x c, h_out c d, m_out c d, in-holds x c, count_kept x c)
 
   pub stay : (x q : ℕ) → x ≢ h → x ≢ m → StandsIn M x q → StandsIn N x q
   stay x q a b s =
@@ -211,29 +205,18 @@ module _ (M : Model) (sound : Sound M) (h : ℕ) (goes : KevGoes M h) where
   loop_new (lone v) l = subst (IsLoop F) (sym (back_none h u (lone v) refl refl)) tt
   loop_new (cycle hs) l =
       let r : IsRing F (without m (without h hs)) = ring_out (redirect (after M) h (after M h)) m (without h hs) (apart_out h hs l.0.apart) (ring_out (after M) h hs l.0.apart l.1) in
-      elim (touched (cycle hs)) [
-        | inl t ↦ subst (IsLoop F) (sym t.0) (loop_or_lone F (without m (without h hs)) u (apart_out m (without h hs) (apart_out h hs l.0.apart)) r)
-        | inr t ↦ subst (IsLoop F) (sym t.0) (l.0, subst (IsRing F) (out_none (cycle hs) t.1 t.2) r)
-      ]
+      let one = loop_or_lone F (without m (without h hs)) u (apart_out m (without h hs) (apart_out h hs l.0.apart)) r in
+      grind (arith, one, touched (cycle hs), apart_out m (without h hs) (apart_out h hs l.0.apart), apart_out h hs l.0.apart, out_none (cycle hs))
 
   pub loops : (q : ℕ) → Has N.loops q → IsLoop F (content N q)
   loops q there = subst (IsLoop F) (sym (content-N q)) (loop_new (content M q) (loop_sound M sound q (sym (same.loop q) ∙ there)))
 
   -- where after(m) is h nothing else starts at the two ends
   pub bare : after M m ≡ h → (x : ℕ) → HasHalf M x → edge_of x ≢ edge_of h → (tail M x ≢ u) × (tail M x ≢ w)
-  bare e x there a = (
-    alone_there M sound h goes.h_there e x there a,
-    alone_there M sound m m_there (ap (after M) (mate-mate h) ∙ goes.not_bare e) x there (λ t. a (t ∙ edge_of-mate h)),
-  )
+  bare e x there a = grind (arith, alone_there, sound, goes.h_there, there, m_there, mate-mate, goes.not_bare, edge_of-mate)
 
   pub apart_both : IsApart (ws ++ vs)
-  apart_both x = elim (IsIn_or_not x ws) [
-    | inl i ↦ elim (IsIn_or_not x vs) [
-      | inl j ↦ absurd (u_w (sym (fan.of_it x i).1 ∙ (fan_killed.of_it x j).1))
-      | inr j ↦ omega (arith, count-append x ws vs, fan.apart x)
-    ]
-    | inr i ↦ omega (arith, count-append x ws vs, fan_killed.apart x)
-  ]
+  apart_both x = grind (arith, u_w, fan.of_it x, fan_killed.of_it x, count-append x ws vs, fan.apart x, fan_killed.apart x)
 
   abbrev pub both : List ℕ
   both = rest h ws ++ rest m vs
@@ -274,14 +257,8 @@ module _ (M : Model) (sound : Sound M) (h : ℕ) (goes : KevGoes M h) where
         items = f.items;
         apart = f.apart;
         ring = fan_kev_other (after M) h f.items nh nm f.ring;
-        of_it = λ y i.
-            let t = f.of_it y i in
-            let c : edge_of y ≢ edge_of h = other_edge y (λ e. a (sym t.1 ∙ ap (tail M) e)) (λ e. b (sym t.1 ∙ ap (tail M) e)) in
-            (half_old y t.0 c, tail_kept y t.0 c (λ e. b (sym t.1 ∙ e)) ∙ t.1);
-        all = λ y there e. let t = half_cases y there in elim (eqb_tells (tail M y) w) [
-          | inl q ↦ absurd (a (sym e ∙ tail_moved y t.0 t.1 q.1))
-          | inr q ↦ f.all y t.0 (sym (tail_kept y t.0 t.1 q.1) ∙ e)
-        ];
+        of_it = grind (arith, f.of_it, other_edge, half_old, tail_kept);
+        all = grind (arith, half_cases, eqb_tells, tail_moved, f.all, tail_kept);
       }
 
   pub fans : (x : ℕ) → HasHalf N x → Fan F N (tail N x)
@@ -337,9 +314,7 @@ module _ (M : Model) (sound : Sound M) (h : ℕ) (goes : KevGoes M h) where
         let lm : loop_of M m ≡ q = ap (loop_of M) (sym to_m) ∙ loop_after M sound h goes.h_there ∙ lh in
         (sym lh, elim (next_in m m_there lm) [ inl b ↦ b | inr b ↦ absurd (m_on b) ])
     | inr a ↦
-        let lm : loop_of M m ≡ q = sound.one_loop m q (in-holds m (content M q) a) in
-        let to_h : after M m ≡ h = elim (next_in m m_there lm) [ inl b ↦ b | inr b ↦ absurd (m_on b) ] in
-        (sym (ap (loop_of M) (sym to_h) ∙ loop_after M sound m m_there ∙ lm), to_h)
+        grind (arith, sound.one_loop m q (in-holds m (content M q) a), next_in m m_there, m_on, loop_after M sound m m_there)
   ] where
     each : (x : ℕ) → IsIn x (items_of (content M q)) → (x ≡ h) ⊎ (x ≡ m)
     each x j = elim (eqb_tells x h) [
@@ -361,34 +336,22 @@ module _ (M : Model) (sound : Sound M) (h : ℕ) (goes : KevGoes M h) where
       let l = light M sound (loop_of M h) in
       let z : (x : ℕ) → count x (out c) ≡ 0 = λ x. elim (IsIn_or_not x (out c)) [
         | inl j ↦
-            let a : x ≢ h = λ q. omega (arith, j, ap (λ y. count y (out c)) q, h_out c l.0) in
-            let b : x ≢ m = λ q. omega (arith, j, ap (λ y. count y (out c)) q, m_out c l.0) in
-            elim (two_reaches (after M) h m x (goes.not_bare e) e (ring_reaches (after M) (items_of c) h x l.1 i (omega (arith, count_kept x c a b)))) [ inl q ↦ absurd (a q) | inr q ↦ absurd (b q) ]
+            let one = two_reaches (after M) h m x (goes.not_bare e) e in
+            grind (arith, one, h_out c l.0, m_out c l.0, ring_reaches (after M) (items_of c) h x l.1 i, count_kept x c)
         | inr j ↦ j
       ] in
       content-N (loop_of M h) ∙ back_h h u c i ∙ ap (λ xs. cycle_or_lone xs u) (no_items (out c) z)
 
   pub tails_there-kev : (x : ℕ) → HasHalf N x → Has N.vertices (tail N x)
-  tails_there-kev x there = let o = half_cases x there in elim (eqb_tells (tail M x) w) [
-    | inl q ↦ subst (Has N.vertices) (sym (tail_moved x o.0 o.1 q.1)) has_u
-    | inr q ↦ subst (Has N.vertices) (sym (tail_kept x o.0 o.1 q.1)) (has_vertex _ q.1 (sound.tails_there x o.0))
-  ]
+  tails_there-kev x there =
+      grind (arith, half_cases x there, eqb_tells (tail M x) w, tail_moved x, has_u, tail_kept x, has_vertex, sound.tails_there x)
 
   pub ends_differ-kev : (x : ℕ) → HasHalf N x → tail N x ≢ tail N (mate x)
   ends_differ-kev x there e =
-      let o = half_cases x there in
-      let t = mate_there M x o.0 in
-      let a = mate_edge_apart x h o.1 in
-      elim (eqb_tells (tail M x) w) [
-        | inl p ↦ elim (eqb_tells (tail M (mate x)) w) [
-          | inl q ↦ sound.ends_differ x o.0 (p.1 ∙ sym q.1)
-          | inr q ↦ goes.no_parallel (mate x) t a (sym (sym (tail_moved x o.0 o.1 p.1) ∙ e ∙ tail_kept (mate x) t a q.1)) (ap (tail M) (mate-mate x) ∙ p.1)
-        ]
-        | inr p ↦ elim (eqb_tells (tail M (mate x)) w) [
-          | inl q ↦ goes.no_parallel x o.0 o.1 (sym (tail_kept x o.0 o.1 p.1) ∙ e ∙ tail_moved (mate x) t a q.1) q.1
-          | inr q ↦ sound.ends_differ x o.0 (sym (tail_kept x o.0 o.1 p.1) ∙ e ∙ tail_kept (mate x) t a q.1)
-        ]
-      ]
+      let one = eqb_tells (tail M (mate x)) w in let two = goes.no_parallel (mate x) in let three = eqb_tells (tail M x) w in
+      let four = mate_edge_apart x h in let five = sound.ends_differ x in let six = tail_moved (mate x) in let seven = half_cases x there in
+      let eight = tail_kept (mate x) in
+      grind (arith, seven, mate_there M x, four, three, one, five, two, tail_moved x, eight, mate-mate x, goes.no_parallel x, tail_kept x, six)
 
   -- another half-edge at u, or the lone loop
   pub at_u : ((q : ℕ) × IsLoneAt N q u) ⊎ IsTail N u
@@ -427,14 +390,9 @@ module _ (M : Model) (sound : Sound M) (h : ℕ) (goes : KevGoes M h) where
   )
 
   pub one_lone-kev : (a b t : ℕ) → IsLoneAt N a t → IsLoneAt N b t → a ≡ b
-  one_lone-kev a b t x y = grind (
-    arith,
-    lone_back a t x,
-    lone_back b t y,
-    sound.one_lone a b t,
-    sound.lone_is_no_tail a h goes.h_there,
-    sound.lone_is_no_tail b h goes.h_there,
-  )
+  one_lone-kev a b t x y =
+      let one = sound.lone_is_no_tail a h goes.h_there in
+      grind (arith, lone_back a t x, lone_back b t y, sound.one_lone a b t, one, goes.h_there, sound.lone_is_no_tail b h goes.h_there)
 
   pub lone_at_vertex-kev : (q t : ℕ) → IsLoneAt N q t → Has N.vertices t
   lone_at_vertex-kev q t x = grind (arith, lone_back q t x, has_vertex t, sound.lone_is_no_tail q m m_there, m_there, sound.lone_at_vertex q t, has_u)

@@ -3,8 +3,8 @@ use Rattle.std.proofs.Common.{◌≡◌, ◌≢◌, ℕ, ◌+◌, cond, nat_eq, 
 use Rattle.std.proofs.lemmas.Bool.Decides.{eqb_tells}
 use Rattle.euler_operators.specs.Items.{count, tick, IsIn, IsApart, head_or}
 use Rattle.euler_operators.specs.Rings.{canonical, rotate_to, rest, between, beyond, successor, IsRing, IsRotation, IsPath}
-use Rattle.euler_operators.specs.Edits.{insert_before, without}
-use Rattle.euler_operators.specs.Operators.{mev_ring, kev_ring, take_ring}
+use Rattle.euler_operators.specs.Edits.{without}
+use Rattle.euler_operators.specs.Operators.{kev_ring, take_ring}
 use Rattle.euler_operators.proofs.Lists.{count-append, tick_same, tick_other, IsIn_or_not, count-before}
 use Rattle.euler_operators.proofs.Rotations.{count-canonical, IsApart-canonical, canonical-rotates, rotate_to_same, rotate_to_head, count-rotate_to}
 use Rattle.euler_operators.proofs.Rings.{IsIn_successor, count_at, IsRing-same, rotation_at, IsPath-agree}
@@ -46,14 +46,7 @@ module _ (hs : List ℕ) (cy : IsCycle hs) (h m : ℕ) (hm : h ≢ m) where
     ys' = beyond h m hs
 
     pub corners_in : (ys' ≢ []) → IsIn (head_or m ys') (kev_ring h m hs) × IsIn (head_or (head_or m ys') xs') (kev_ring h m hs)
-    corners_in ne = go xs' ys' ne where
-      go : (xs ys : List ℕ) → ys ≢ [] → IsIn (head_or m ys) (canonical (xs ++ ys)) × IsIn (head_or (head_or m ys) xs) (canonical (xs ++ ys))
-      go xs [] ne = absurd (ne refl)
-      go [] (y ∷ ys) ne = let t : IsIn y (canonical (y ∷ ys)) = omega (arith, count-canonical y (y ∷ ys), tick_same y) in (t, t)
-      go (x ∷ xs) (y ∷ ys) ne = (
-        omega (arith, count-canonical y ((x ∷ xs) ++ y ∷ ys), count-append y (x ∷ xs) (y ∷ ys), tick_same y),
-        omega (arith, count-canonical x ((x ∷ xs) ++ y ∷ ys), count-append x (x ∷ xs) (y ∷ ys), tick_same x),
-      )
+    corners_in ne = grind (arith, count-canonical, tick_same, count-append)
 
     gone : (x : ℕ) → count x (kev_ring h m hs) + tick x h + tick x m ≡ count x hs
     gone x = omega (arith, count-canonical x (xs' ++ ys'), count-append x xs' ys', ap (count x) (ring_split h m hs i j hm), count-append x (h ∷ xs') (m ∷ ys'), count-rotated x) where
@@ -63,18 +56,8 @@ module _ (hs : List ℕ) (cy : IsCycle hs) (h m : ℕ) (hm : h ≢ m) where
     pub both_back : ys' ≢ [] → (c d : ℕ) → d ≡ head_or m ys' → c ≡ head_or (head_or m ys') xs' →
         put_before d m (put_before c h (cycle (kev_ring h m hs))) ≡ cycle hs
     both_back ne c d de ce =
-        let zs : List ℕ = kev_ring h m hs in
-        let t = corners_in ne in
-        let di : IsIn d zs = subst (λ y. IsIn y zs) (sym de) t.0 in
-        let ci : IsIn c zs = subst (λ y. IsIn y zs) (sym ce) t.1 in
-        let az : IsApart zs = IsApart-canonical (xs' ++ ys') (apart_left h m hs cy.apart i j hm) in
-        let nh : count h zs ≡ 0 = omega (arith, gone h, tick_same h, cy.apart h) in
-        let nm : count m zs ≡ 0 = omega (arith, gone m, tick_same m, cy.apart m) in
-        ap (put_before d m) (put_there c h (cycle zs) ci)
-        ∙ put_there d m (cycle (canonical (insert_before c h zs))) (omega (arith, count-canonical d (insert_before c h zs), count-insert_before d c h zs ci))
-        ∙ ap cycle (both_in zs az h m c d ci di hm nh nm
-        ∙ ap (λ y. mev_ring h m y d zs) ce ∙ ap (λ y. mev_ring h m (head_or (head_or m ys') xs') y zs) de
-        ∙ mev-kev h m hs cy.apart i j hm (λ e. absurd (ne e)) ∙ cy.from_least)
+        let one = cy.from_least in let two = cy.apart in let three = count-insert_before in let four = corners_in in
+        grind (arith, one, two, three, four, ce, IsApart-canonical, apart_left, hm, gone, tick_same, put_there, count-canonical, both_in, mev-kev)
 
   -- one in this loop
   pub one_back : IsIn h hs → successor hs h ≢ h → put_before (successor hs h) h (cycle (take_ring h hs)) ≡ cycle hs
@@ -224,16 +207,9 @@ module _ {M : Model} (sound : Sound M) {h : ℕ} (goes : KevGoes M h) where
     ]
 
     pub put_goes : MevGoes N c d h w (point_of M w)
-    put_goes = record {
-      g_there = c_new.0;
-      k_there = d_new.0;
-      edge_free = kill.edge_gone M sound h goes;
-      vertex_free = kill.vertex_gone M sound h goes;
-      one_tail = d_new.1 ∙ sym c_new.1;
-      edge_fits = sound.edges_fit (edge_of h) goes.h_there;
-      vertex_fits = sound.vertices_fit w (sound.tails_there m m_there);
-      point_fits = sound.points_fit w (point_of M w) point_there;
-    }
+    put_goes =
+        let one = sound.vertices_fit in let two = sound.tails_there in
+        grind (arith, one, two, c_new, d_new, kill.edge_gone, kill.vertex_gone, sound.edges_fit, goes.h_there, m_there, sound.points_fit, point_there)
 
     abbrev pub K : Model
     K = mev_at N c d h w (point_of M w)

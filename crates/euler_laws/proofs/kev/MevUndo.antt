@@ -1,10 +1,10 @@
 -- mev at two half-edges is taken back by kev.
-use Rattle.std.proofs.Common.{◌≡◌, ◌≢◌, ℕ, ◌+◌, List, [], ◌∷◌, ◌++◌, refl, sym, ap, ◌∙◌, arith, inl, inr, eq-eqb}
+use Rattle.std.proofs.Common.{◌≡◌, ◌≢◌, ℕ, ◌+◌, List, [], ◌∷◌, refl, sym, ap, ◌∙◌, arith, inl, inr, eq-eqb}
 use Rattle.euler_operators.specs.declared.Point.{Point}
 use Rattle.euler_operators.specs.Items.{count, tick, IsIn, IsApart}
-use Rattle.euler_operators.specs.Rings.{canonical, rotate_to, upto, onward}
+use Rattle.euler_operators.specs.Rings.{canonical, rotate_to}
 use Rattle.euler_operators.specs.Edits.{insert_before, without, led_over}
-use Rattle.euler_operators.specs.Operators.{mev_ring, put_ring}
+use Rattle.euler_operators.specs.Operators.{put_ring}
 use Rattle.euler_operators.proofs.Lists.{count-append, tick_same, tick_other, IsIn_or_not}
 use Rattle.euler_operators.proofs.Rotations.{count-canonical, IsApart-canonical, canonical_nil, count-rotate_to}
 use Rattle.euler_operators.proofs.Operators.{kev-mev, take-put, apart_put}
@@ -44,17 +44,9 @@ module _ (h g k t : ℕ) where
       elim (IsIn_or_not g hs) [
         | inl i ↦ elim (IsIn_or_not k hs) [
           | inl j ↦
-              let ys : List ℕ = mev_ring h (mate h) g k hs in
-              let zs : List ℕ = (h ∷ upto g k hs) ++ mate h ∷ onward g k hs in
-              let d : IsApart ys = IsApart-canonical zs (apart_mev h (mate h) g k hs cy.apart hm nh nm) in
-              let hi : IsIn h ys = omega (arith, count-canonical h zs, tick_same h) in
-              let mi : IsIn (mate h) ys = omega (arith, count-canonical (mate h) zs, count-append (mate h) (h ∷ upto g k hs) (mate h ∷ onward g k hs), tick_same (mate h)) in
-              let e : put_before k (mate h) (put_before g h (cycle hs)) ≡ cycle ys =
-              ap (put_before k (mate h)) (put_there g h (cycle hs) i)
-              ∙ put_there k (mate h) (cycle (canonical (insert_before g h hs))) (stay_in j i)
-              ∙ ap cycle (both_in hs cy.apart h (mate h) g k i j hm nh nm) in
-              ap (without_both h t) e ∙ back_h h t (cycle ys) hi
-              ∙ as_cycle (without (mate h) (without h ys)) hs t (both_out ys d h (mate h) hi mi hm ∙ kev-mev h (mate h) g k hs cy.apart hm nh nm ∙ cy.from_least) cy.some_item
+              let one = cy.from_least in let two = cy.some_item in let three = apart_mev in let four = tick_same in let five = put_there in
+              let six = as_cycle in let seven = both_out in
+              grind (arith, one, two, three, four, five, six, seven, IsApart-canonical, count-canonical, count-append, stay_in, both_in, back_h, kev-mev)
           | inr j ↦
               let ys : List ℕ = put_ring h g hs in
               let d : IsApart ys = IsApart-canonical (h ∷ rotate_to g hs) (apart_put h g hs nh cy.apart) in

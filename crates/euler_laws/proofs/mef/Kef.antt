@@ -1,5 +1,5 @@
 -- kef as an operator: it keeps a model sound, and mef takes it back; and kef passes its conditions after mef and takes it back.
-use Rattle.std.proofs.Common.{◌≡◌, ℕ, true, None, is_some, refl, sym, ap, ◌∙◌, inl, inr, arith}
+use Rattle.std.proofs.Common.{◌≡◌, ℕ, true, None, is_some, refl, sym, ap, ◌∙◌, arith}
 use Rattle.std.proofs.lemmas.Bool.Decides.{eqb_tells}
 use Rattle.std.proofs.lemmas.Bool.{not-true, ne_eqb, eq-eqb, eqb-false}
 use Rattle.euler_operators.specs.Operators.{mef_old, mef_new, kef_ring}
@@ -7,7 +7,7 @@ use Rattle.euler_operators.proofs.Operators.{kef-mef}
 use Rattle.euler_operators.specs.declared.HalfEdge.{HalfEdge}
 use Rattle.euler_operators.specs.HalfEdge.{code, mate, edge_of}
 use Rattle.euler_operators.specs.Table as table
-use Rattle.euler_operators.specs.Model.{Model, cycle, items_of, loop_of, content, cycle_of, face_of, outer, is_number}
+use Rattle.euler_operators.specs.Model.{Model, cycle, items_of, loop_of, content, cycle_of, face_of, is_number}
 use Rattle.euler_operators.specs.Sound.{Sound, HasHalf}
 use Rattle.euler_operators.proofs.Halves.{edge_of-code, code-half}
 use Rattle.euler_operators.proofs.Tables.{remove-put, two_undone}
@@ -42,13 +42,8 @@ kef_goes M h e = named (all_hold (conditions M (Kef h)) e) where
 
 pub kef_accepted : (N : Model) (h : HalfEdge) → Sound N → KefGoes N (code h) → first_false N (Kef h) ≡ None
 unfolding first_false conditions
-kef_accepted N h sound goes = none_refuses (conditions N (Kef h)) (
-    ap is_number (sym (edge_of-code h)) ∙ sound.edges_fit (edge_of (code h)) goes.h_there
-    also of_half N h goes.h_there
-    also not_false _ (ne_eqb _ _ goes.faces_apart)
-    also not_false _ (means_no_rings N (face_at N (mate (code h))) goes.no_rings)
-    also tt
-    )
+kef_accepted N h sound goes =
+    grind (arith, none_refuses, edge_of-code, sound.edges_fit, goes.h_there, ne_eqb, goes.faces_apart, means_no_rings, goes.no_rings)
 
 pub mef_accepted : (N : Model) (g k h : HalfEdge) (f l : ℕ) → Sound N → MefGoes N (code g) (code k) (code h) f l → first_false N (Mef g k h f l) ≡ None
 unfolding first_false conditions
@@ -74,15 +69,9 @@ mef_accepted N g k h f l sound goes = none_refuses (conditions N (Mef g k h f l)
 
 pub kef_lawful : (h : HalfEdge) → IsLawful (Kef h)
 unfolding effect inverse
-kef_lawful h M sound e = grind (
-  arith,
-  kef_goes M h e,
-  sound-kef M sound (code h),
-  code-half,
-  mef_accepted,
-  gone.put_goes M sound (code h),
-  gone.mef-after-kef M sound (code h),
-)
+kef_lawful h M sound e =
+    let one = gone.mef-after-kef M sound (code h) in
+    grind (arith, kef_goes M h e, sound-kef M sound (code h), code-half, mef_accepted, gone.put_goes M sound (code h), one)
 
 -- ---- mef
 
@@ -95,10 +84,7 @@ made_goes M sound g k h f l goes =
     record {
       h_there = half_h (comes (made.more sound goes));
       faces_apart = λ p. made.not_f sound goes (face_of M (loop_of M g)) (made.face_r sound goes) (sym fh ∙ p ∙ fm);
-      no_rings = λ q there p. ap (outer N) fm ∙ made.outer_new sound goes ∙ elim (eqb_tells q l) [
-        | inl a ↦ sym a.1
-        | inr a ↦ absurd (made.not_f sound goes (face_of M q) (sound.loops_of_faces q (sym (has_same set q a.1) ∙ there)) (sym (face_same set q a.1) ∙ p ∙ fm))
-      ];
+      no_rings = grind (arith, made.outer_new sound goes, eqb_tells, made.not_f sound goes, sound.loops_of_faces, has_same set, face_same set);
     }
 
 module _ {M : Model} (sound : Sound M) {g k h f l : ℕ} (goes : MefGoes M g k h f l) where

@@ -1,6 +1,5 @@
 -- A sound model stays sound under kef.
 use Rattle.std.proofs.Common.{◌≡◌, ◌≢◌, ℕ, ◌+◌, List, [], ◌++◌, None, is_some, refl, sym, ap, ◌∙◌, subst, arith, ◌⊎◌, inl, inr}
-use Rattle.std.proofs.lemmas.Bool.Decides.{eqb_tells}
 use Rattle.euler_operators.specs.Items.{count, tick, IsIn, IsApart}
 use Rattle.euler_operators.specs.Rings.{canonical, rest, IsRing}
 use Rattle.euler_operators.specs.Operators.{after_kef, kef_ring, mef_old, mef_new}
@@ -147,10 +146,7 @@ module _ (M : Model) (sound : Sound M) (h : ℕ) (goes : KefGoes M h) where
   }) (omega (arith, h_in)) (omega (arith, m_in)) (gone h (inl refl)) (gone m (inr refl))
 
   pub loop_joined : (x : ℕ) → edge_of x ≢ edge_of h → IsIn x xs ⊎ IsIn x ys → loop_of N x ≡ r
-  loop_joined x a i = loop_both sound rows x r (inl refl) (in-holds x (content N r) (subst (λ c. IsIn x (items_of c)) (sym (content_first set)) (elim i [
-    | inl j ↦ omega (arith, j, count_zs x, ticks_apart x h a)
-    | inr j ↦ omega (arith, j, count_zs x, ticks_apart x h a)
-  ])))
+  loop_joined x a i = grind (arith, loop_both sound rows x r, in-holds x (content N r), content_first set, count_zs x, ticks_apart x h a)
 
   zs_item : (x : ℕ) × IsIn x (rest m ys ++ rest h xs)
   unfolding after
@@ -211,18 +207,11 @@ module _ (M : Model) (sound : Sound M) (h : ℕ) (goes : KefGoes M h) where
   faces : FacesHold N
   unfolding kef
   faces = record {
-    loops_of_faces = λ q there. let a = not_s q there in let t = sym (has_same set q a) ∙ there in
-        subst (Has N.faces) (sym (face_same set q a)) (has_on face_set.rows (face_of M q) (face_not_f q t a) (sound.loops_of_faces q t));
-    outers_there = λ p there.
-        let a = not_f p there in
-        let o = sound.outers_there p (face_back p there) in
-        let b : outer M p ≢ s = λ e. a (sym o.1 ∙ ap (face_of M) e) in
-        (subst (Has N.loops) (sym (outer_other face_set p a)) (has_same set (outer M p) b ∙ o.0), ap (face_of N) (outer_other face_set p a) ∙ face_same set (outer M p) b ∙ o.1);
+    loops_of_faces = grind (arith, not_s, has_same set, face_same set, has_on face_set.rows, face_not_f, sound.loops_of_faces);
+    outers_there = grind (arith, not_f, sound.outers_there, face_back, outer_other face_set, face_set, has_same set, face_same set);
     faces_of_solids = λ p there. subst (Has M.solids) (sym (solid_other face_set p (not_f p there))) (sound.faces_of_solids p (face_back p there));
-    solid_has_face = λ t there. let x = sound.solid_has_face t there in elim (eqb_tells x.0 f) [
-      | inl e ↦ (face_of M r, has_on face_set.rows _ goes.faces_apart (sound.loops_of_faces r has_r), solid_other face_set _ goes.faces_apart ∙ one_side ∙ ap (solid_of M) (sym e.1) ∙ x.2)
-      | inr e ↦ (x.0, has_on face_set.rows x.0 e.1 x.1, solid_other face_set x.0 e.1 ∙ x.2)
-    ];
+    solid_has_face =
+        grind (arith, sound.solid_has_face, has_on face_set.rows, goes.faces_apart, sound.loops_of_faces r has_r, solid_other face_set, one_side);
     one_solid = one_solid-rows sound rows (solid_at M r)
         (λ q o there. elim o [ inl e ↦ ap (solid_at N) e ∙ solid_loop r has_r r_s | inr e ↦ absurd (not_s q there e) ])
         (λ q o there. elim o [ inl e ↦ ap (solid_at M) e | inr e ↦ ap (solid_at M) e ∙ sym one_side ]) (λ q n there. solid_loop q there n.1);
@@ -230,14 +219,8 @@ module _ (M : Model) (sound : Sound M) (h : ℕ) (goes : KefGoes M h) where
 
   ranges : RangesHold N
   unfolding kef
-  ranges = record {
-    solids_fit = sound.solids_fit;
-    faces_fit = fit-remove M.faces sound.faces_fit f;
-    loops_fit = fit-remove _ (fit-map M.loops sound.loops_fit _) s;
-    edges_fit = fit-remove M.edges sound.edges_fit (edge_of h);
-    vertices_fit = sound.vertices_fit;
-    points_fit = sound.points_fit;
-  }
+  ranges =
+      grind (arith, sound.solids_fit, fit-remove, sound.faces_fit, fit-map, sound.loops_fit, sound.edges_fit, sound.vertices_fit, sound.points_fit)
 
   -- a sound model stays sound under kef
   pub sound-kef : Sound N

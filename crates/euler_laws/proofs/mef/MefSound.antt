@@ -91,12 +91,7 @@ module _ {M : Model} (sound : Sound M) {g k h f l : ℕ} (goes : MefGoes M g k h
   has_r = ap is_some (row_of M sound g goes.g_there)
 
   pub set : RowsSet M N r l kept (Some new)
-  set = record {
-    are = loops-mef M sound g k h f l goes.g_there goes.edge_free goes.loop_free;
-    apart = row_elsewhere M.loops r l has_r goes.loop_free;
-    there = has_r;
-    face = refl;
-  }
+  set = grind (arith, loops-mef, sound, goes.g_there, goes.edge_free, goes.loop_free, row_elsewhere, has_r)
 
   pub content_l : content N l ≡ cycle (mef_new m g k xs)
   content_l = content_row N l new (row_second set)
@@ -194,19 +189,11 @@ module _ {M : Model} (sound : Sound M) {g k h f l : ℕ} (goes : MefGoes M g k h
   faces : FacesHold N
   unfolding mef
   faces = record {
-    loops_of_faces = λ q there. elim (eqb_tells q l) [
-      | inl a ↦ subst (Has N.faces) (sym (ap (face_of N) a.1 ∙ face_l)) (ap is_some (row_here face_set.rows))
-      | inr a ↦ subst (Has N.faces) (sym (face_same set q a.1)) (face_on _ (sound.loops_of_faces q (sym (has_same set q a.1) ∙ there)))
-    ];
-    outers_there = λ p there. elim (eqb_tells p f) [
-      | inl e ↦ let o : outer N p ≡ l = ap (outer N) e.1 ∙ outer_new in (subst (Has N.loops) (sym o) (ap is_some (row_second set)), ap (face_of N) o ∙ face_l ∙ sym e.1)
-      | inr e ↦ let o = outer_other face_set p e.1 in let t = sound.outers_there p (has_back face_set.rows p e.1 there) in
-          (subst (Has N.loops) (sym o) (has_same set _ (not_l _ t.0) ∙ t.0), ap (face_of N) o ∙ face_same set _ (not_l _ t.0) ∙ t.1)
-    ];
-    faces_of_solids = λ p there. elim (eqb_tells p f) [
-      | inl e ↦ subst (Has M.solids) (sym (ap (solid_of N) e.1 ∙ solid_new)) (sound.faces_of_solids _ face_r)
-      | inr e ↦ subst (Has M.solids) (sym (solid_other face_set p e.1)) (sound.faces_of_solids p (has_back face_set.rows p e.1 there))
-    ];
+    loops_of_faces = grind (arith, eqb_tells, face_l, row_here face_set.rows, face_same set, face_on, sound.loops_of_faces, has_same set);
+    outers_there =
+        let one = has_back face_set.rows in let two = outer_other face_set in
+        grind (arith, eqb_tells, outer_new, row_second set, face_l, two, face_set, sound.outers_there, one, has_same set, not_l, face_same set);
+    faces_of_solids = grind (arith, eqb_tells, solid_new, sound.faces_of_solids, face_r, solid_other face_set, face_set, has_back face_set.rows);
     solid_has_face = λ s there. let x = sound.solid_has_face s there in (x.0, face_on x.0 x.1, solid_other face_set x.0 (not_f x.0 x.1) ∙ x.2);
     one_solid = one_solid-rows sound rows (solid_at M r)
         (λ q o there. elim o [ inl e ↦ ap (solid_at N) e ∙ solid_kept r has_r | inr e ↦ ap (solid_at N) e ∙ ap (solid_of N) face_l ∙ solid_new ])

@@ -1,17 +1,16 @@
 -- mekr as an operator: it keeps a model sound, and kemr passes its conditions after it and takes it back.
-use Rattle.std.proofs.Common.{◌≡◌, ℕ, None, is_some, refl, sym, ap, ◌∙◌, arith}
+use Rattle.std.proofs.Common.{◌≡◌, ℕ, None, refl, arith}
 use Rattle.std.proofs.lemmas.Bool.{eq-eqb}
 use Rattle.euler_operators.specs.declared.HalfEdge.{HalfEdge}
 use Rattle.euler_operators.specs.declared.Corner.{Corner}
-use Rattle.euler_operators.specs.HalfEdge.{code, edge_of}
-use Rattle.euler_operators.specs.Table as table
-use Rattle.euler_operators.specs.Model.{Model, is_number}
+use Rattle.euler_operators.specs.HalfEdge.{code}
+use Rattle.euler_operators.specs.Model.{Model}
 use Rattle.euler_operators.specs.Sound.{Sound}
 use Rattle.euler_operators.proofs.Halves.{edge_of-code}
 use Rattle.euler_operators.specs.declared.Op.TheVariants.{Kemr, Mekr}
 use Rattle.euler_operators.specs.Conditions.{first_false, conditions, corner_tail, corner_loop, corner_list}
 use Rattle.euler_operators.specs.Effect.{effect, inverse, mekr}
-use Rattle.euler_laws.proofs.shared.Goes.{◌also◌, none_refuses, not_false, taken}
+use Rattle.euler_laws.proofs.shared.Goes.{none_refuses, not_false}
 use Rattle.euler_laws.proofs.kemr.KemrSound.{KemrGoes}
 use Rattle.euler_laws.proofs.mekr.MekrSpots.{join_goes}
 use Rattle.euler_laws.proofs.mekr.MekrSound.{join_loops, sound-join, part_goes, kemr-join_back}
@@ -20,14 +19,8 @@ use Rattle.euler_laws.proofs.shared.Lawful.{IsLawful}
 -- where kemr goes, none of its conditions refuses
 pub kemr_accepted : (N : Model) (h : HalfEdge) (l : ℕ) → Sound N → KemrGoes N (code h) l → first_false N (Kemr h l) ≡ None
 unfolding first_false conditions
-kemr_accepted N h l sound goes = none_refuses (conditions N (Kemr h l)) (
-    ap is_number (sym (edge_of-code h)) ∙ sound.edges_fit (edge_of (code h)) goes.h_there
-    also goes.loop_fits
-    also ap (λ x. is_some (table.get N.edges x)) (sym (edge_of-code h)) ∙ goes.h_there
-    also not_false _ (taken _ goes.loop_free)
-    also eq-eqb _ _ goes.one_loop
-    also tt
-    )
+kemr_accepted N h l sound goes =
+    grind (arith, none_refuses, edge_of-code, sound.edges_fit, goes.h_there, goes.loop_fits, not_false, goes.loop_free, eq-eqb, goes.one_loop)
 
 -- mekr joins what its corners stand for
 pub mekr_is : (M : Model) (c d : Corner) (h : ℕ) → mekr M c d h ≡ join_loops M h (corner_loop M c) (corner_loop M d) (corner_tail M c) (corner_tail M d) (corner_list M c) (corner_list M d)

@@ -1,5 +1,5 @@
 -- A sound model stays sound under mekr.
-use Rattle.std.proofs.Common.{◌≡◌, ◌≢◌, ℕ, ◌+◌, List, [], ◌∷◌, ◌++◌, None, is_some, refl, sym, ap, ◌∙◌, subst, arith, ◌⊎◌, inl, inr, eq-eqb, ne_eqb}
+use Rattle.std.proofs.Common.{◌≡◌, ◌≢◌, ℕ, ◌+◌, List, [], ◌∷◌, ◌++◌, None, refl, sym, ap, ◌∙◌, subst, arith, ◌⊎◌, inl, inr, eq-eqb, ne_eqb}
 use Rattle.euler_operators.specs.Items.{count, tick, IsIn, IsApart, head_or}
 use Rattle.euler_operators.specs.Rings.{canonical, IsPath, IsRing, between, beyond}
 use Rattle.euler_operators.specs.Operators.{after_mef}
@@ -9,7 +9,7 @@ use Rattle.euler_operators.proofs.Rings.{IsPath-append, IsPath-sent}
 use Rattle.euler_operators.proofs.Operators.{apart_braced, between_canonical, beyond_canonical}
 use Rattle.euler_operators.specs.HalfEdge.{mate, edge_of}
 use Rattle.euler_operators.specs.Table as table
-use Rattle.euler_operators.specs.Model.{Model, lone, cycle, LoopRow, items_of, holds, tail, loop_of, content, face_of, solid_of, after, outer, cycle_of}
+use Rattle.euler_operators.specs.Model.{Model, lone, cycle, LoopRow, items_of, tail, loop_of, content, face_of, after, cycle_of}
 use Rattle.euler_operators.specs.Sound.{Sound, Has, HasHalf}
 use Rattle.euler_operators.proofs.Halves.{mate_other, mate-mate}
 use Rattle.euler_operators.proofs.Tables.{row_elsewhere, remove-put}
@@ -164,8 +164,7 @@ module _ {M : Model} (sound : Sound M) {h q l u w : ℕ} {Y X : List ℕ} (goes 
   }) (omega (arith, count_now h, count_zs h, tick_same h)) (omega (arith, count_now m, count_zs m, tick_same m))
 
   pub loop_new : (x : ℕ) → (x ≡ h) ⊎ (x ≡ m) → loop_of N x ≡ q
-  loop_new x d = loop_both sound rows x q (inl refl) (ap (holds x) (content_first set) ∙ in-holds x (cycle (canonical zs))
-      (elim d [ inl a ↦ omega (arith, count_zs x, ap (tick x) (sym a), tick_same x) | inr a ↦ omega (arith, count_zs x, ap (tick x) (sym a), tick_same x) ]))
+  loop_new x d = grind (arith, loop_both sound rows x q, content_first set, in-holds x (cycle (canonical zs)), count_zs x, tick_same x)
 
   at_h : F h ≡ e
   at_h = led_h (after M) h m c e hm he ce
@@ -191,10 +190,8 @@ module _ {M : Model} (sound : Sound M) {h q l u w : ℕ} {Y X : List ℕ} (goes 
   ring_zs = (at_h ∙ sym (head_in h m X Y), IsPath-append F X (m ∷ Y) h path_X (at_m, path_Y))
 
   two_loops : (p : ℕ) → OneOf q l p → Has N.loops p → IsLoop F (content N p)
-  two_loops p o there = elim o [
-    | inl a ↦ subst (IsLoop F) (sym (ap (content N) a ∙ content_first set)) (canonical_cycle zs apart_zs h (omega (arith, tick_same h)), canonical_ring F zs ring_zs)
-    | inr a ↦ absurd (not_l p there a)
-  ]
+  two_loops p o there =
+      grind (arith, content_first set, canonical_cycle zs apart_zs h, apart_zs h, tick_same h, canonical_ring F zs ring_zs, ring_zs, not_l p there)
 
   other_ring : (hs : List ℕ) → Elsewhere sound rows hs → IsRing (after M) hs → IsRing F hs
   other_ring hs each t =
@@ -204,24 +201,13 @@ module _ {M : Model} (sound : Sound M) {h q l u w : ℕ} {Y X : List ℕ} (goes 
       (none e (λ o. elim e_cases [ inl k ↦ absurd (not_m (comes more) e o k.1) | inr k ↦ inr (in_X e k.0).1 ])) t
 
   put : PutBefore M h u w c e
-  put = record {
-    sound = sound;
-    first = λ o. elim c_cases [ inl k ↦ absurd (not_h (comes more) c o k.1) | inr k ↦ k.1 ];
-    second = λ o. elim e_cases [ inl k ↦ absurd (not_m (comes more) e o k.1) | inr k ↦ k.1 ];
-    apart = he;
-  }
+  put = grind (arith, sound, c_cases, not_h (comes more) c, comes more, more, e_cases, not_m (comes more) e, he)
 
   fan_u : Fan F N u
-  fan_u = elim c_cases [
-    | inl o ↦ fan_alone more F u h (first_starts more) (λ y there z. sound.lone_is_no_tail q y there (o.2 ∙ ap lone (sym z))) (at_m ∙ o.1)
-    | inr o ↦ fan_first more put (in_Y c o.0).0
-  ]
+  fan_u = grind (arith, c_cases, fan_alone more F u h (first_starts more), sound.lone_is_no_tail q, at_m, fan_first more put, in_Y c)
 
   fan_w : Fan F N w
-  fan_w = elim e_cases [
-    | inl o ↦ fan_alone more F w m (second_starts more) (λ y there z. sound.lone_is_no_tail l y there (o.2 ∙ ap lone (sym z))) (ap F (mate-mate h) ∙ at_h ∙ o.1)
-    | inr o ↦ fan_second more put (in_X e o.0).0
-  ]
+  fan_w = grind (arith, e_cases, fan_alone more F w m (second_starts more), sound.lone_is_no_tail l, mate-mate h, at_h, fan_second more put, in_X e)
 
   pub walks : Walks N F
   walks = walks-rows sound rows F two_loops other_ring (fans-more more F fan_u fan_w (fan_other more put))
@@ -238,10 +224,7 @@ module _ {M : Model} (sound : Sound M) {h q l u w : ℕ} {Y X : List ℕ} (goes 
     back = λ v t a. t;
     lone_back = λ p t z. let b = lone_else sound rows (content_first set) content_l p t z in
         (b.0, λ a. b.1 (only_lone M sound q u Y goes.first p (b.0 ∙ ap lone a)), λ a. b.2 (only_lone M sound l w X goes.second p (b.0 ∙ ap lone a)));
-    lone_on = λ p t z a b. rows.other_content p (
-      λ o. a (was_empty Y u t (sym goes.first.holds_it ∙ ap (content M) (sym o) ∙ z)).1,
-      λ o. b (was_empty X w t (sym goes.second.holds_it ∙ ap (content M) (sym o) ∙ z)).1,
-    ) ∙ z;
+    lone_on = grind (arith, rows.other_content, was_empty Y u, goes.first.holds_it, was_empty X w, goes.second.holds_it);
   })
 
   -- ---- faces
@@ -249,19 +232,12 @@ module _ {M : Model} (sound : Sound M) {h q l u w : ℕ} {Y X : List ℕ} (goes 
   -- the loop that goes was no outer loop
   faces_stay : FacesStay M N
   unfolding join_loops
-  faces_stay = record {
-    faces = refl;
-    solids = refl;
-    kept = λ p old now. face_same set p (not_l p now);
-    new = λ p there. inl (sym (has_same set p (not_l p there)) ∙ there);
-    outers = λ f there. has_same set (outer M f) (never_outer M sound l goes.no_outer f there) ∙ (sound.outers_there f there).0;
-  }
+  faces_stay = grind (arith, face_same set, not_l, has_same set, never_outer M sound l goes.no_outer, goes.no_outer, sound.outers_there)
 
   one_solid : (x : ℕ) → HasHalf N x → solid_at N (loop_of N x) ≡ solid_at N (loop_of N (mate x))
-  one_solid = one_solid-rows sound rows (solid_at M q)
-      (λ p o there. elim o [ inl a ↦ ap (solid_at N) a ∙ solid_kept sound faces_stay q goes.first.there (ap is_some (row_first set)) | inr a ↦ absurd (not_l p there a) ])
-      (λ p o there. elim o [ inl a ↦ ap (solid_at M) a | inr a ↦ ap (solid_at M) a ∙ sym (ap (solid_of M) goes.one_face) ])
-      (λ p n there. solid_kept sound faces_stay p there (has_same set p n.1 ∙ there))
+  one_solid =
+      let one = solid_kept sound faces_stay q goes.first.there in
+      grind (arith, one_solid-rows sound rows (solid_at M q), one, row_first set, not_l, goes.one_face, solid_kept sound faces_stay, has_same set)
 
   ranges : RangesHold N
   unfolding join_loops
@@ -287,12 +263,7 @@ module _ {M : Model} (sound : Sound M) {h q l u w : ℕ} {Y X : List ℕ} (goes 
   loop_h = loop_new h (inl refl)
 
   pub part_goes : KemrGoes N h l
-  part_goes = record {
-    h_there = half_h (comes more);
-    loop_free = row_second set;
-    one_loop = loop_h ∙ sym (loop_new m (inr refl));
-    loop_fits = sound.loops_fit l goes.second.there;
-  }
+  part_goes = grind (arith, half_h (comes more), comes more, row_second set, loop_h, loop_new m, sound.loops_fit l goes.second.there)
 
   cycle_h : cycle_of N h ≡ canonical ((h ∷ X) ++ m ∷ Y)
   cycle_h = ap (λ p. items_of (content N p)) loop_h ∙ ap items_of (content_first set)

@@ -3,7 +3,7 @@ use Rattle.std.proofs.Common.{◌≡◌, ◌≢◌, ℕ, true, List, [], ◌∷�
 use Rattle.std.proofs.lemmas.Bool.Decides.{nat_tests}
 use Rattle.std.proofs.lemmas.Bool.{not-true, eqb-true, eqb-false}
 use Rattle.euler_operators.specs.Items.{count, IsIn, IsApart, head_or}
-use Rattle.euler_operators.specs.Rings.{canonical, rotate_to, rest, IsRing}
+use Rattle.euler_operators.specs.Rings.{canonical, rotate_to, IsRing}
 use Rattle.euler_operators.proofs.Lists.{tick_same}
 use Rattle.euler_operators.proofs.Rotations.{rotate_to_is, IsApart-rotate_to, canonical-rotate_to, canonical-rotates, IsRotation-sym}
 use Rattle.euler_operators.proofs.Rings.{IsRing-same}
@@ -12,7 +12,7 @@ use Rattle.euler_operators.specs.declared.Corner.{Corner}
 use Rattle.euler_operators.specs.declared.Corner.TheVariants.{At, Lone}
 use Rattle.euler_operators.specs.HalfEdge.{code, edge_of}
 use Rattle.euler_operators.specs.Table as table
-use Rattle.euler_operators.specs.Model.{Model, lone, cycle, items_of, tail, after, loop_of, content, cycle_of, face_of, outer, is_number}
+use Rattle.euler_operators.specs.Model.{Model, lone, items_of, tail, after, loop_of, content, cycle_of, face_of, outer, is_number}
 use Rattle.euler_operators.specs.Sound.{Sound, Has, HasHalf, StandsIn}
 use Rattle.euler_operators.proofs.Halves.{edge_of-code}
 use Rattle.euler_operators.proofs.Models.{in-holds, row_of, content_cycle, cycle_there, cycle_sound}
@@ -35,17 +35,7 @@ pub record Spot (M : Model) (q v : ℕ) (zs : List ℕ) : Type 0 where
 -- the loop of a half-edge, from it on
 pub spot_at : (M : Model) → Sound M → (x : ℕ) → HasHalf M x → Spot M (loop_of M x) (tail M x) (rotate_to x (cycle_of M x))
 spot_at M sound x there =
-    let xs : List ℕ = cycle_of M x in
-    let cy = cycle_sound M sound x there in
-    let is : rotate_to x xs ≡ x ∷ rest x xs = rotate_to_is x xs (cycle_there M sound x there) in
-    record {
-      there = ap is_some (row_of M sound x there);
-      holds_it = content_cycle M sound x there
-          ∙ ap cycle (sym (ap canonical (sym is) ∙ canonical-rotate_to x xs cy.apart ∙ cy.from_least))
-          ∙ sym (ap (λ zs. cycle_or_lone zs (tail M x)) is);
-      apart = IsApart-rotate_to x xs cy.apart;
-      starts = λ y ys e. ap (tail M) (same_head x y (rest x xs) ys (sym is ∙ e));
-    }
+    grind (arith, cycle_sound, sound, there, rotate_to_is, cycle_there, row_of, content_cycle, canonical-rotate_to, IsApart-rotate_to, same_head)
 
 -- each corner that is known is a spot
 pub spot_of : (M : Model) → Sound M → (c : Corner) → (corner_known M c).holds ≡ true → (corner_lone M c).holds ≡ true → Spot M (corner_loop M c) (corner_tail M c) (corner_list M c)

@@ -1,5 +1,5 @@
 -- Faces that go to another solid, and merge: it keeps a sound model sound.
-use Rattle.std.proofs.Common.{◌≡◌, ◌≢◌, ℕ, Bool, true, false, cond, nat_eq, Option, Some, None, unwrap_or, is_some, refl, sym, ap, ◌∙◌, subst, arith, true≢false}
+use Rattle.std.proofs.Common.{◌≡◌, ◌≢◌, ℕ, Bool, true, false, cond, nat_eq, Some, None, unwrap_or, is_some, refl, sym, ap, ◌∙◌, subst, arith, true≢false}
 use Rattle.std.specs.Option.{option_map}
 use Rattle.std.proofs.lemmas.Bool.Decides.{nat_tests, eqb_tells}
 use Rattle.std.proofs.lemmas.Bool.{not-true, ne_eqb, eqb-false}
@@ -10,9 +10,9 @@ use Rattle.euler_operators.specs.Model.{Model, FaceRow, no_face, no_loop, loop_o
 use Rattle.euler_operators.specs.Sound.{Sound, Has, HasHalf, NumbersFit}
 use Rattle.euler_operators.proofs.Models.{row_of, mate_there}
 use Rattle.euler_operators.specs.declared.Op.TheVariants.{Merge}
-use Rattle.euler_operators.specs.Conditions.{AllHold, first_false, conditions}
+use Rattle.euler_operators.specs.Conditions.{first_false, conditions}
 use Rattle.euler_operators.specs.Effect.{merge, faces_to_solid}
-use Rattle.euler_laws.proofs.shared.Goes.{◌also◌, all_hold, none_refuses, not_false}
+use Rattle.euler_laws.proofs.shared.Goes.{all_hold, none_refuses}
 use Rattle.euler_laws.proofs.shared.Rows.{face_there}
 use Rattle.euler_laws.proofs.shared.Faces.{sound-same}
 use Rattle.euler_laws.proofs.shared.Same.{mapped_some}
@@ -69,10 +69,7 @@ module _ (M N : Model) (pick : ℕ → FaceRow → Bool) (n : ℕ) (is : N.faces
 
   pub outer_moved : (q : ℕ) → outer N q ≡ outer M q
   unfolding outer
-  outer_moved q = ap (λ o. (unwrap_or o no_face).outer) (row_is q) ∙ go (table.get M.faces q) where
-    go : (o : Option FaceRow) → (unwrap_or (option_map (faces_to_solid pick n q) o) no_face).outer ≡ (unwrap_or o no_face).outer
-    go None = refl
-    go (Some row) = row_outer q row
+  outer_moved q = grind (arith, row_is, table.get, row_outer)
 
   at_row : (q : ℕ) (row : FaceRow) → table.get M.faces q ≡ Some row → solid_of N q ≡ cond (pick q row) n row.solid
   unfolding solid_of
@@ -102,13 +99,7 @@ module _ {M : Model} (sound : Sound M) {s t : ℕ} (goes : MergeGoes M s t) wher
 
   pub merge_other : OtherSolids M N
   unfolding merge
-  merge_other = record {
-    loops = refl;
-    edges = refl;
-    vertices = refl;
-    has_face = has_moved M N (λ _ row. nat_eq row.solid t) s faces_are;
-    outers = outer_moved M N (λ _ row. nat_eq row.solid t) s faces_are;
-  }
+  merge_other = grind (arith, has_moved M N, faces_are, outer_moved M N)
 
   pub solid_new : (q : ℕ) → Has M.faces q → solid_of N q ≡ joined s t (solid_of M q)
   solid_new q there = solid_moved M N (λ _ row. nat_eq row.solid t) s faces_are q there
@@ -148,17 +139,8 @@ module _ {M : Model} (sound : Sound M) {s t : ℕ} (goes : MergeGoes M s t) wher
 
 pub merge_goes : (M : Model) (s t : ℕ) → first_false M (Merge s t) ≡ None → MergeGoes M s t
 unfolding first_false conditions
-merge_goes M s t e = named (all_hold (conditions M (Merge s t)) e) where
-  named : AllHold (conditions M (Merge s t)) → MergeGoes M s t
-  named (_, (_, (s_known, (t_known, (solids_differ, _))))) = record { s_there = s_known; t_there = t_known; apart = eqb-false _ _ (not-true _ solids_differ) }
+merge_goes M s t e = grind (arith, all_hold (conditions M (Merge s t)) e, eqb-false, not-true)
 
 pub merge_accepted : (N : Model) (s t : ℕ) → Sound N → MergeGoes N s t → first_false N (Merge s t) ≡ None
 unfolding first_false conditions
-merge_accepted N s t sound goes = none_refuses (conditions N (Merge s t)) (
-    sound.solids_fit s goes.s_there
-    also sound.solids_fit t goes.t_there
-    also goes.s_there
-    also goes.t_there
-    also not_false _ (ne_eqb _ _ goes.apart)
-    also tt
-    )
+merge_accepted N s t sound goes = grind (arith, none_refuses, sound.solids_fit, goes.s_there, goes.t_there, ne_eqb, goes.apart)

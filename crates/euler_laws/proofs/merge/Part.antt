@@ -48,13 +48,7 @@ module _ {M : Model} (sound : Sound M) {s t : ℕ} {fs : List ℕ} (goes : PartG
 
   pub part_other : OtherSolids M N
   unfolding part
-  part_other = record {
-    loops = refl;
-    edges = refl;
-    vertices = refl;
-    has_face = has_moved M N (λ f _. lists fs f) t faces_are;
-    outers = outer_moved M N (λ f _. lists fs f) t faces_are;
-  }
+  part_other = grind (arith, has_moved M N, faces_are, outer_moved M N)
 
   pub solid_new : (q : ℕ) → Has M.faces q → solid_of N q ≡ parted fs t q (solid_of M q)
   solid_new q there = solid_moved M N (λ f _. lists fs f) t faces_are q there
@@ -163,9 +157,7 @@ module _ {M : Model} (sound : Sound M) {s t : ℕ} (goes : MergeGoes M s t) wher
     rises = all_where-rises (λ _ row. nat_eq row.solid t) M.faces;
     left = let x = sound.solid_has_face s goes.s_there in
         (x.0, face_on x.0 x.1, joins.solid_new sound goes x.0 x.1 ∙ ap (joins.joined s t) x.2 ∙ joins.joined_same sound goes s goes.apart, face_listed x.0 x.1 ∙ ap (λ n. nat_eq n t) x.2 ∙ ne_eqb s t goes.apart);
-    whole = λ x h. let there = half_back x h in
-        ap (lists (faces_of M t)) (face_at_same x) ∙ face_listed (face_at M x) (half_face M sound x there) ∙ ap (λ n. nat_eq n t) (sound.one_solid x there)
-        ∙ sym (ap (lists (faces_of M t)) (face_at_same (mate x)) ∙ face_listed (face_at M (mate x)) (half_face M sound (mate x) (mate_there M x there)));
+    whole = grind (arith, half_back, face_at_same, face_listed, half_face M sound, sound, sound.one_solid, mate_there M);
   }
 
   row_home : (q : ℕ) (row : FaceRow) → table.get M.faces q ≡ Some row →
@@ -250,10 +242,7 @@ torn_not M fs sound z x there =
     let w = row_some (table.get M.edges (edge_of x)) there in
     let e : lists fs (face_at M (plus (edge_of x))) ≡ lists fs (face_at M (minus (edge_of x))) = means_same _ _
     (zero_first_where (λ e _. differ (lists fs (face_at M (plus e))) (lists fs (face_at M (minus e)))) M.edges (λ q row at s. no_zero q s (sound.edges_fit q (ap is_some at))) z (edge_of x) w.0 w.1) in
-    elim (halves_of_edge x) [
-      | inl p ↦ ap (λ y. lists fs (face_at M y)) p.0 ∙ e ∙ ap (λ y. lists fs (face_at M y)) (sym (ap mate p.0 ∙ mate_plus (edge_of x)))
-      | inr p ↦ ap (λ y. lists fs (face_at M y)) p.0 ∙ sym e ∙ ap (λ y. lists fs (face_at M y)) (sym (ap mate p.0 ∙ mate_minus (edge_of x)))
-    ]
+    grind (arith, halves_of_edge x, mate_plus (edge_of x), mate_minus (edge_of x))
 
 pub part_goes : (M : Model) (s t : ℕ) (fs : List ℕ) → Sound M → first_false M (Part s t fs) ≡ None → PartGoes M s t fs
 unfolding first_false conditions

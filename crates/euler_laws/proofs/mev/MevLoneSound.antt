@@ -1,5 +1,5 @@
 -- A sound model stays sound under mev at a lone loop.
-use Rattle.std.proofs.Common.{◌≡◌, ◌≢◌, ℕ, ◌+◌, true, false, cond, nat_eq, List, [], ◌∷◌, Some, None, is_some, IsTrue, refl, sym, ap, ◌∙◌, subst, arith, inl, inr}
+use Rattle.std.proofs.Common.{◌≡◌, ◌≢◌, ℕ, ◌+◌, true, cond, nat_eq, List, [], ◌∷◌, Some, None, is_some, IsTrue, sym, ap, ◌∙◌, subst, arith, inl, inr}
 use Rattle.std.proofs.lemmas.Bool.Decides.{nat_tests, eqb_tells}
 use Rattle.euler_operators.specs.declared.Point.{Point}
 use Rattle.euler_operators.specs.Points.{IsInRange}
@@ -53,12 +53,10 @@ module _ {M : Model} (sound : Sound M) {l h v u : ℕ} {p : Point} (goes : LoneG
   F_h = let e : nat_eq h h ≡ true = grind (arith, nat_tests) in ap (λ b. cond b m (cond (nat_eq h m) h (after M h))) e
 
   F_m : F m ≡ h
-  F_m = let a : m ≢ h = λ q. mate_other h (sym q) in let e : nat_eq m h ≡ false = grind (arith, nat_tests) in let f : nat_eq m m ≡ true = grind (arith, nat_tests) in
-      ap (λ b. cond b m (cond (nat_eq m m) h (after M m))) e ∙ ap (λ b. cond b h (after M m)) f
+  F_m = grind (arith, mate_other h, nat_tests)
 
   F_old : (x : ℕ) → x ≢ h → x ≢ m → F x ≡ after M x
-  F_old x a b = let e : nat_eq x h ≡ false = grind (arith, nat_tests) in let f : nat_eq x m ≡ false = grind (arith, nat_tests) in
-      ap (λ t. cond t m (cond (nat_eq x m) h (after M x))) e ∙ ap (λ t. cond t h (after M x)) f
+  F_old x a b = grind (arith, nat_tests)
 
   u_there : Has M.vertices u
   u_there = sound.lone_at_vertex l u goes.is_lone
@@ -91,18 +89,8 @@ module _ {M : Model} (sound : Sound M) {l h v u : ℕ} {p : Point} (goes : LoneG
 
   pub same : SameFaces M N
   unfolding mev_lone
-  same = record {
-    faces = refl;
-    solids = refl;
-    face = λ q. elim (eqb_tells q l) [
-      | inl e ↦ ap (face_of N) e.1 ∙ face_row N l pair loop_new ∙ sym (ap (face_of M) e.1)
-      | inr e ↦ same_face M N q (loop_other q e.1)
-    ];
-    loop = λ q. elim (eqb_tells q l) [
-      | inl e ↦ ap (table.has N.loops) e.1 ∙ ap is_some loop_new ∙ sym (ap (table.has M.loops) e.1 ∙ goes.loop_there)
-      | inr e ↦ ap is_some (loop_other q e.1)
-    ];
-  }
+  same =
+      grind (arith, eqb_tells, face_row N l pair loop_new, loop_new, same_face M N, loop_other, table.has N.loops, table.has M.loops, goes.loop_there)
 
   -- ---- walks
 
@@ -110,11 +98,7 @@ module _ {M : Model} (sound : Sound M) {l h v u : ℕ} {p : Point} (goes : LoneG
   count_now x = ap (λ c. count x (items_of c)) content_new ∙ count-canonical x (h ∷ m ∷ [])
 
   rows : TwoRows M N (edge_of h) l l
-  rows = two_rows-more edge (record {
-    other_row = λ q a b. loop_other q a;
-    others = λ x a. omega (arith, count_now x, ap (λ c. count x (items_of c)) goes.is_lone, ticks_apart x h a);
-    once = λ x s t. refl;
-  }) (omega (arith, count_now h, tick_same h)) (omega (arith, count_now m, tick_same m))
+  rows = grind (arith, two_rows-more, edge, loop_other, count_now, goes.is_lone, ticks_apart, tick_same)
 
   two_loops : (q : ℕ) → OneOf l l q → Has N.loops q → IsLoop F (content N q)
   two_loops q o there = subst (IsLoop F) (sym (ap (content N) (elim o [ inl a ↦ a | inr a ↦ a ]) ∙ content_new)) (
@@ -178,10 +162,9 @@ module _ {M : Model} (sound : Sound M) {l h v u : ℕ} {p : Point} (goes : LoneG
   stay = stay_of_same M N sound same
 
   one_solid : (x : ℕ) → HasHalf N x → solid_at N (loop_of N x) ≡ solid_at N (loop_of N (mate x))
-  one_solid = one_solid-rows sound rows (solid_at M l)
-      (λ q o there. let e : q ≡ l = elim o [ inl a ↦ a | inr a ↦ a ] in ap (solid_at N) e ∙ solid_kept sound stay l goes.loop_there (ap is_some loop_new))
-      (λ q o there. ap (solid_at M) (elim o [ inl a ↦ a | inr a ↦ a ]))
-      (λ q n there. solid_kept sound stay q there (same.loop q ∙ there))
+  one_solid =
+      let one = one_solid-rows sound rows (solid_at M l) in
+      grind (arith, one, solid_kept sound stay l goes.loop_there, goes.loop_there, solid_kept sound stay, same.loop)
 
   ranges : RangesHold N
   unfolding mev_lone
@@ -196,10 +179,7 @@ module _ {M : Model} (sound : Sound M) {l h v u : ℕ} {p : Point} (goes : LoneG
 
   -- no other edge ends at the new vertex
   pub no_parallel-lone : (x : ℕ) → HasHalf N x → edge_of x ≢ edge_of h → tail N x ≡ tail N h → tail N (mate x) ≢ tail N m
-  no_parallel-lone x there a e f = elim (half_cases (comes edge) x there) [
-    | inl o ↦ never_u x o (sym (tail_old edge x o) ∙ e ∙ tail-h (comes edge))
-    | inr d ↦ elim d [ inl q ↦ a (ap edge_of q) | inr q ↦ a (ap edge_of q ∙ edge_of-mate h) ]
-  ]
+  no_parallel-lone x there a e f = grind (arith, half_cases, comes, edge, there, never_u, tail_old, tail-h, edge_of-mate)
 
   -- a sound model stays sound under mev at a lone loop
   pub sound-mev_lone : Sound N

@@ -123,13 +123,9 @@ module _ (M : Model) (sound : Sound M) (g k h v : ℕ) (p : Point) (goes : MevGo
 
   pub rewritten : Rewritten M N new
   unfolding mev_at
-  rewritten = record {
-    rewrite = λ q row. with_before k m q (with_before g h q row);
-    is = map_twice (with_before k m) (with_before g h) M.loops;
-    contents = λ q row. before_content k m q (with_before g h q row) ∙ ap (put_before k m) (before_content g h q row);
-    faces = λ q row. before_face k m q (with_before g h q row) ∙ before_face g h q row;
-    none = ap (put_before k m) (put_none g h (cycle []) refl) ∙ put_none k m (cycle []) refl;
-  }
+  rewritten =
+      let one = map_twice (with_before k m) (with_before g h) M.loops in let two = put_none g h (cycle []) refl in
+      grind (arith, one, before_content k m, before_content g h, before_face k m, before_face g h, two, put_none k m (cycle []) refl)
 
   pub same : SameFaces M N
   unfolding mev_at
@@ -179,16 +175,10 @@ module _ (M : Model) (sound : Sound M) (g k h v : ℕ) (p : Point) (goes : MevGo
   s = loop_of M k
 
   at_h : (q : ℕ) → StandsIn N h q → r ≡ q
-  at_h q t = elim (came h q t) [
-    | inl a ↦ sound.one_loop g q a.1
-    | inr d ↦ elim d [ inl a ↦ absurd (mate_other h a.0) | inr a ↦ absurd (not_h new_edge h (sound.only_edges h q a) refl) ]
-  ]
+  at_h q t = grind (arith, came h q t, sound.one_loop g q, mate_other h, not_h new_edge h, sound.only_edges h q)
 
   at_m : (q : ℕ) → StandsIn N m q → s ≡ q
-  at_m q t = elim (came m q t) [
-    | inl a ↦ absurd (mate_other h (sym a.0))
-    | inr d ↦ elim d [ inl a ↦ sound.one_loop k q a.1 | inr a ↦ absurd (not_m new_edge m (sound.only_edges m q a) refl) ]
-  ]
+  at_m q t = grind (arith, came m q t, mate_other h, sound.one_loop k q, not_m new_edge m, sound.only_edges m q)
 
   at_old : (x q : ℕ) → x ≢ h → x ≢ m → StandsIn N x q → loop_of M x ≡ q
   at_old x q a b t = elim (came x q t) [ inl e ↦ absurd (a e.0) | inr d ↦ elim d [ inl e ↦ absurd (b e.0) | inr o ↦ sound.one_loop x q o ] ]
@@ -208,20 +198,16 @@ module _ (M : Model) (sound : Sound M) (g k h v : ℕ) (p : Point) (goes : MevGo
     other_loop = λ q n. same.loop q;
     other_edge = λ d a. ap is_some (edge_mapped d a) ∙ mapped_some _ (table.get M.edges d);
     others = λ x a. omega (arith, count_old x r a, count_old x s a);
-    once = λ x t o. elim (eqb_tells x h) [
-      | inl a ↦ at_h s (subst (λ y. StandsIn N y s) a.1 o)
-      | inr a ↦ elim (eqb_tells x m) [ inl b ↦ sym (at_m r (subst (λ y. StandsIn N y r) b.1 t)) | inr b ↦ sym (at_old x r a.1 b.1 t) ∙ at_old x s a.1 b.1 o ]
-    ];
+    once = grind (arith, eqb_tells, at_h s, at_m r, at_old);
     stood = λ x e t. absurd (edge_apart new_edge x t e);
     stands = λ x e t. of_edge (λ y. 1 ≤ in_both N r s y) h x (stands_both N r s h r (inl refl) stands_h) (stands_both N r s m s (inr refl) stands_m) e;
     there = λ x e i. of_edge (HasHalf N) h x (half_h new_edge) (half_m new_edge) e;
   }
 
   pub first_no_m : (q : ℕ) → count m (items_of (first q)) ≡ 0
-  first_no_m q = let z = none_free M sound m m_free q in elim (IsIn_or_not g (hs q)) [
-    | inl a ↦ omega (arith, count_put_there m g h (content M q) a, tick_other m h (λ e. mate_other h (sym e)))
-    | inr a ↦ omega (arith, count_put_none m g h (content M q) a)
-  ]
+  first_no_m q =
+      let z = none_free M sound m m_free q in
+      grind (arith, IsIn_or_not g (hs q), count_put_there m g h (content M q), tick_other m h, mate_other h, count_put_none m g h (content M q))
 
   pub loops : (q : ℕ) → Has N.loops q → IsLoop F (content N q)
   loops q there = subst (IsLoop F) (sym (content-N q))
@@ -283,13 +269,7 @@ module _ (M : Model) (sound : Sound M) (g k h v : ℕ) (p : Point) (goes : MevGo
         apart = f.apart;
         ring = fan_mev_other (after M) h g k (λ e. not_h new_edge k goes.k_there (sym e)) f.items f.apart (h_fan f) (m_fan f) f.ring no_g no_k;
         of_it = λ y i. let t = f.of_it y i in (half_old new_edge y t.0, tail_kept y t.0 (not_moved y (λ e. a (sym t.1 ∙ e))) ∙ t.1);
-        all = λ y there e. elim (half_cases new_edge y there) [
-          | inl t ↦ elim (IsIn_or_not y moved) [
-            | inl j ↦ absurd (never_v x o (sym e ∙ tail_moved y t j))
-            | inr z ↦ f.all y t (sym (tail_kept y t z) ∙ e)
-          ]
-          | inr d ↦ elim d [ inl q ↦ absurd (a (sym e ∙ ap (tail N) q ∙ tail-h new_edge)) | inr q ↦ absurd (never_v x o (sym e ∙ ap (tail N) q ∙ tail-m new_edge)) ]
-        ];
+        all = grind (arith, half_cases new_edge, new_edge, IsIn_or_not, never_v x o, tail_moved, f.all, tail_kept, tail-h new_edge, tail-m new_edge);
       }
 
   pub fans : (x : ℕ) → HasHalf N x → Fan F N (tail N x)
@@ -331,13 +311,9 @@ module _ (M : Model) (sound : Sound M) (g k h v : ℕ) (p : Point) (goes : MevGo
   other_end x j e = grind (arith, moved_old x j, mate_there M x, never_v (mate x), tail_kept (mate x), not_moved (mate x), sound.ends_differ x)
 
   ends_differ : (x : ℕ) → HasHalf M x → tail N x ≢ tail N (mate x)
-  ends_differ x o same = let t = mate_there M x o in elim (IsIn_or_not x moved) [
-    | inl j ↦ other_end x j (sym same ∙ tail_moved x o j)
-    | inr z ↦ elim (IsIn_or_not (mate x) moved) [
-      | inl j ↦ never_v x o (sym (tail_kept x o z) ∙ same ∙ tail_moved (mate x) t j)
-      | inr y ↦ sound.ends_differ x o (sym (tail_kept x o z) ∙ same ∙ tail_kept (mate x) t y)
-    ]
-  ]
+  ends_differ x o same =
+      let one = IsIn_or_not (mate x) moved in let two = sound.ends_differ x o in let three = IsIn_or_not x moved in let four = tail_moved (mate x) in
+      grind (arith, mate_there M x o, three, other_end x, tail_moved x o, one, never_v x o, tail_kept x o, four, two, tail_kept (mate x))
 
   tails : (x : ℕ) → HasHalf M x → (tail N x ≡ tail M x) ⊎ ((tail N x ≡ v) × (tail M x ≡ u))
   tails x o = elim (IsIn_or_not x moved) [ inl j ↦ inr (tail_moved x o j, (moved_old x j).1) | inr z ↦ inl (tail_kept x o z) ]

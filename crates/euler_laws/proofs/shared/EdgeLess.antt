@@ -2,7 +2,7 @@
 use Rattle.std.proofs.Common.{◌≡◌, ◌≢◌, ℕ, ◌+◌, List, None, is_some, refl, sym, ap, ◌∙◌, subst, arith, ◌⊎◌, inl, inr}
 use Rattle.std.proofs.lemmas.Bool.Decides.{eqb_tells}
 use Rattle.euler_operators.specs.Items.{count, tick, IsIn}
-use Rattle.euler_operators.specs.Rings.{IsRing, rest}
+use Rattle.euler_operators.specs.Rings.{IsRing}
 use Rattle.euler_operators.specs.Operators.{take_ring, after_kef}
 use Rattle.euler_operators.proofs.Leads.{IsRing-redirect_other, IsRing-splice_other}
 use Rattle.euler_operators.proofs.Lists.{tick_same, tick_other}
@@ -85,29 +85,11 @@ module _ {M N : Model} {h : ℕ} (less : OneLess M N h) where
   -- a fan without one of its half-edges
   pub fan_less : (next F : ℕ → ℕ) (t x : ℕ) (g : Fan next M t) → IsIn x g.items → edge_of x ≡ edge_of h → ((y : ℕ) → IsIn y g.items → y ≢ x → edge_of y ≢ edge_of h) → IsRing (λ y. F (mate y)) (take_ring x g.items) → Fan F N t
   fan_less next F t x g i e others ring =
-      let c : (y : ℕ) → tick y x + count y (take_ring x g.items) ≡ count y g.items = λ y. omega (arith, count-canonical y (rest x g.items), count_at y x g.items i) in
-      record {
-        items = take_ring x g.items;
-        apart = λ y. omega (arith, c y, g.apart y);
-        ring = ring;
-        of_it = λ y j.
-            let k : IsIn y g.items = omega (arith, c y) in
-            let a : edge_of y ≢ edge_of h = others y k (λ p. omega (arith, c y, ap (tick y) (sym p), tick_same y, g.apart y)) in
-            let o = g.of_it y k in (half_old y o.0 a, tail_old y a ∙ o.1);
-        all = λ y there p. let o = half_cases y there in
-            let n : y ≢ x = λ z. o.1 (ap edge_of z ∙ e) in
-            omega (arith, c y, tick_other y x n, g.all y o.0 (sym (tail_old y o.1) ∙ p));
-      }
+      grind (arith, count-canonical, count_at, g.apart, ring, others, tick_same, g.of_it, half_old, tail_old, half_cases, tick_other, g.all)
 
   -- a fan in which the edge has no half
   pub fan_stays : (next F : ℕ → ℕ) (t : ℕ) (g : Fan next M t) → ((y : ℕ) → IsIn y g.items → edge_of y ≢ edge_of h) → IsRing (λ y. F (mate y)) g.items → Fan F N t
-  fan_stays next F t g others ring = record {
-    items = g.items;
-    apart = g.apart;
-    ring = ring;
-    of_it = λ y i. let o = g.of_it y i in (half_old y o.0 (others y i), tail_old y (others y i) ∙ o.1);
-    all = λ y there e. let o = half_cases y there in g.all y o.0 (sym (tail_old y o.1) ∙ e);
-  }
+  fan_stays next F t g others ring = grind (arith, g.apart, ring, g.of_it, half_old, others, tail_old, half_cases, g.all)
 
 -- what follows what in a ring without the edge, after kef or kemr
 pub ring_kef-other : (next : ℕ → ℕ) (h m : ℕ) (hs : List ℕ) → count h hs ≡ 0 → count m hs ≡ 0 → IsRing next hs → IsRing (after_kef next h m) hs
@@ -182,16 +164,12 @@ module _ {M N : Model} {h : ℕ} (sound : Sound M) (less : OneLess M N h) where
     still v y e t a b = let o = other_edge y h a b in record { half = y; there = half_old less y t o; starts = tail_old less y o ∙ sym e }
 
     at_u : ((p : ℕ) × IsLoneAt N p u) ⊎ IsTail N u
-    at_u = elim (eqb_tells (after M m) h) [
-      | inl b ↦ inl (q, old.first_lone b.1)
-      | inr b ↦ inr (still u (after M m) (sym (sound.ends_meet m m_there ∙ ap (tail M) (mate-mate h))) (half_after M sound m m_there) b.1 (next_other M sound m m_there))
-    ]
+    at_u = grind (arith, still u (after M m), sound.ends_meet m m_there, mate-mate h, half_after M sound m m_there, next_other M sound m m_there)
 
     at_w : ((p : ℕ) × IsLoneAt N p w) ⊎ IsTail N w
-    at_w = elim (eqb_tells (after M h) m) [
-      | inl b ↦ inl (k, old.second_lone b.1)
-      | inr b ↦ inr (still w (after M h) (sym (sound.ends_meet h less.there)) (half_after M sound h less.there) (next_other M sound h less.there) b.1)
-    ]
+    at_w =
+        let one = half_after M sound h less.there in let two = next_other M sound h less.there in
+        grind (arith, eqb_tells (after M h) m, old.second_lone, still w (after M h), sound.ends_meet h less.there, one, two)
 
     at_end : (x : ℕ) → HasHalf M x → ((p : ℕ) × IsLoneAt N p (tail M x)) ⊎ IsTail N (tail M x)
     at_end x there = elim (eqb_tells (edge_of x) (edge_of h)) [
@@ -207,19 +185,8 @@ module _ {M N : Model} {h : ℕ} (sound : Sound M) (less : OneLess M N h) where
     none_at_w p v a e = sound.lone_is_no_tail p m m_there (a ∙ ap lone e)
 
     one_lone-less : (a b v : ℕ) → IsLoneAt N a v → IsLoneAt N b v → a ≡ b
-    one_lone-less a b v x y = elim (old.lone_back a v x) [
-      | inl o ↦ elim (old.lone_back b v y) [
-        | inl p ↦ sound.one_lone a b v o p
-        | inr d ↦ elim d [ inl p ↦ absurd (none_at_u a v o p.1) | inr p ↦ absurd (none_at_w a v o p.1) ]
-      ]
-      | inr c ↦ elim (old.lone_back b v y) [
-        | inl p ↦ elim c [ inl o ↦ absurd (none_at_u b v p o.1) | inr o ↦ absurd (none_at_w b v p o.1) ]
-        | inr d ↦ elim c [
-          | inl o ↦ elim d [ inl p ↦ o.0 ∙ sym p.0 | inr p ↦ absurd (u_w (sym o.1 ∙ p.1)) ]
-          | inr o ↦ elim d [ inl p ↦ absurd (u_w (sym p.1 ∙ o.1)) | inr p ↦ o.0 ∙ sym p.0 ]
-        ]
-      ]
-    ]
+    one_lone-less a b v x y =
+        grind (arith, old.lone_back a v x, old.lone_back b v y, sound.one_lone a b v, none_at_u a v, none_at_w a v, none_at_u b v, none_at_w b v, u_w)
 
     lone_is_no_tail-less : (p x : ℕ) → HasHalf N x → content N p ≢ lone (tail N x)
     lone_is_no_tail-less p x there e =
@@ -236,8 +203,7 @@ module _ {M N : Model} {h : ℕ} (sound : Sound M) (less : OneLess M N h) where
     pub vertices_hold-less : VerticesHold N
     vertices_hold-less = record {
       tails_there = λ x there. let o = half_cases less x there in subst (Has N.vertices) (sym (tail_old less x o.1)) (on _ (sound.tails_there x o.0));
-      ends_differ = λ x there e. let o = half_cases less x there in
-          sound.ends_differ x o.0 (sym (tail_old less x o.1) ∙ e ∙ tail_old less (mate x) (mate_edge_apart x h o.1));
+      ends_differ = grind (arith, half_cases less, sound.ends_differ, tail_old less, mate_edge_apart);
       lone_or_tail = λ v there. elim (sound.lone_or_tail v (subst (λ y. Has y v) old.vertices there)) [
         | inl a ↦ inl (a.0, old.lone_on a.0 v a.1)
         | inr x ↦ subst (λ y. ((p : ℕ) × IsLoneAt N p y) ⊎ IsTail N y) x.starts (at_end x.half x.there)

@@ -1,7 +1,7 @@
 -- A model with one edge more: its half-edges, the fans of its vertices, and what stands at them.
-use Rattle.std.proofs.Common.{◌≡◌, ◌≢◌, ℕ, List, [], ◌∷◌, Some, None, is_some, refl, sym, ap, ◌∙◌, subst, arith, ◌⊎◌, inl, inr}
+use Rattle.std.proofs.Common.{◌≡◌, ◌≢◌, ℕ, List, [], ◌∷◌, Some, None, is_some, sym, ap, ◌∙◌, subst, arith, ◌⊎◌, inl, inr}
 use Rattle.std.proofs.lemmas.Bool.Decides.{eqb_tells}
-use Rattle.euler_operators.specs.Items.{count, tick, IsIn}
+use Rattle.euler_operators.specs.Items.{count, IsIn}
 use Rattle.euler_operators.specs.Rings.{IsRing}
 use Rattle.euler_operators.specs.Operators.{put_ring, after_mef}
 use Rattle.euler_operators.proofs.Leads.{IsRing-led_over_other, IsRing-splice_other}
@@ -9,7 +9,7 @@ use Rattle.euler_operators.proofs.Lists.{tick_same, tick_other, tick_le, IsIn_or
 use Rattle.euler_operators.proofs.Rotations.{count-canonical, count-rotate_to}
 use Rattle.euler_operators.specs.HalfEdge.{mate, edge_of}
 use Rattle.euler_operators.specs.Table as table
-use Rattle.euler_operators.specs.Model.{Model, lone, tail, after}
+use Rattle.euler_operators.specs.Model.{Model, tail, after}
 use Rattle.euler_operators.specs.Sound.{Sound, Has, HasHalf, IsTail, IsLoneAt}
 use Rattle.euler_operators.proofs.Halves.{edge_of-mate, same_edge, mate-mate}
 use Rattle.euler_operators.proofs.Models.{tail_row, mate_there}
@@ -78,12 +78,7 @@ module _ {M N : Model} {h u w : ℕ} (more : OneMore M N h u w) where
   edge_other e a = ap (λ t. table.get t e) more.edges ∙ get-put_other M.edges (edge_of h) (edge_row h u w) e a
 
   pub comes : EdgeComes M N h u w
-  comes = record {
-    row = ap (λ t. table.get t (edge_of h)) more.edges ∙ get-put_here M.edges (edge_of h) (edge_row h u w);
-    others = λ e a. ap is_some (edge_other e a);
-    free = more.free;
-    ends_apart = more.ends_apart;
-  }
+  comes = grind (arith, table.get, get-put_here, edge_other, more.free, more.ends_apart)
 
   pub tail_old : (x : ℕ) → HasHalf M x → tail N x ≡ tail M x
   tail_old x there = same_tail M N x (edge_other (edge_of x) (edge_apart comes x there))
@@ -105,10 +100,7 @@ module _ {M N : Model} {h u w : ℕ} (more : OneMore M N h u w) where
     apart = λ y. omega (arith, tick_le y x);
     ring = (on, tt);
     of_it = λ y i. let e : y ≡ x = only y i in (subst (HasHalf N) (sym e) new.0, ap (tail N) e ∙ new.1);
-    all = λ y o e. elim (new.2 y o e) [
-      | inl b ↦ absurd (bare y b (sym (tail_old y b) ∙ e))
-      | inr q ↦ omega (arith, ap (tick y) (sym q), tick_same y)
-    ];
+    all = grind (arith, bare, tail_old, tick_same);
   } where
     only : (y : ℕ) → IsIn y (x ∷ []) → y ≡ x
     only y i = elim (eqb_tells y x) [ inl e ↦ e.1 | inr e ↦ absurd (omega (arith, i, tick_other y x e.1)) ]
@@ -119,26 +111,13 @@ module _ {M N : Model} {h u w : ℕ} (more : OneMore M N h u w) where
 
   -- a fan at which the edge has no end
   pub fan_stays : (next F : ℕ → ℕ) (t : ℕ) (g : Fan next M t) → u ≢ t → w ≢ t → IsRing (λ y. F (mate y)) g.items → Fan F N t
-  fan_stays next F t g a b ring = record {
-    items = g.items;
-    apart = g.apart;
-    ring = ring;
-    of_it = λ y i. let o = g.of_it y i in (half_old comes y o.0, tail_old y o.0 ∙ o.1);
-    all = λ y there e. elim (half_cases comes y there) [
-      | inl o ↦ g.all y o (sym (tail_old y o) ∙ e)
-      | inr d ↦ elim d [ inl q ↦ absurd (a (sym (tail-h comes) ∙ ap (tail N) (sym q) ∙ e)) | inr q ↦ absurd (b (sym (tail-m comes) ∙ ap (tail N) (sym q) ∙ e)) ]
-    ];
-  }
+  fan_stays next F t g a b ring =
+      grind (arith, g.apart, ring, g.of_it, half_old comes, comes, tail_old, half_cases comes, g.all, tail-h comes, tail-m comes)
 
   -- the fans of the two ends, and each other
   pub fans-more : (F : ℕ → ℕ) → Fan F N u → Fan F N w → ((x : ℕ) → HasHalf M x → u ≢ tail M x → w ≢ tail M x → Fan F N (tail M x)) → (x : ℕ) → HasHalf N x → Fan F N (tail N x)
-  fans-more F first second other x there = elim (half_cases comes x there) [
-    | inl o ↦ subst (Fan F N) (sym (tail_old x o)) (elim (eqb_tells (tail M x) u) [
-      | inl a ↦ subst (Fan F N) (sym a.1) first
-      | inr a ↦ elim (eqb_tells (tail M x) w) [ inl b ↦ subst (Fan F N) (sym b.1) second | inr b ↦ other x o (λ z. a.1 (sym z)) (λ z. b.1 (sym z)) ]
-    ])
-    | inr d ↦ elim d [ inl a ↦ subst (Fan F N) (sym (ap (tail N) a ∙ tail-h comes)) first | inr a ↦ subst (Fan F N) (sym (ap (tail N) a ∙ tail-m comes)) second ]
-  ]
+  fans-more F first second other x there =
+      grind (arith, half_cases comes x there, Fan F N, tail_old x, eqb_tells (tail M x) u, eqb_tells (tail M x) w, tail-h comes, tail-m comes)
 
 -- ---- the rings and fans where h is put before c at u, and its mate before e at w
 
@@ -158,12 +137,9 @@ module _ {M N : Model} {h u w c e : ℕ} (more : OneMore M N h u w) (put : PutBe
 
   -- nothing new stands in an old fan, nor what starts elsewhere
   out : (t : ℕ) (g : Fan (after M) M t) → (count h g.items ≡ 0) × (count (mate h) g.items ≡ 0) × (u ≢ t → count c g.items ≡ 0) × (w ≢ t → count e g.items ≡ 0)
-  out t g = (
-    not_in_fan (after M) M t g h (λ o z. not_h (comes more) h o refl),
-    not_in_fan (after M) M t g (mate h) (λ o z. not_m (comes more) (mate h) o refl),
-    λ a. not_in_fan (after M) M t g c (λ o z. a (sym (put.first o) ∙ z)),
-    λ a. not_in_fan (after M) M t g e (λ o z. a (sym (put.second o) ∙ z)),
-  )
+  out t g =
+      let one = not_in_fan (after M) M t g (mate h) in let two = not_in_fan (after M) M t g h in let three = not_in_fan (after M) M t g c in
+      grind (arith, two, not_h (comes more) h, comes more, one, not_m (comes more) (mate h), three, not_in_fan (after M) M t g e)
 
   pub fan_first : HasHalf M c → Fan F N u
   fan_first there =
@@ -199,25 +175,15 @@ pub record NewVertices (M N : Model) (u w : ℕ) : Type 0 where
 -- where an old half-edge starts where it did, or is moved from u to w
 module _ {M N : Model} {h u w : ℕ} (sound : Sound M) (new : EdgeComes M N h u w) (tails : (x : ℕ) → HasHalf M x → (tail N x ≡ tail M x) ⊎ ((tail N x ≡ w) × (tail M x ≡ u))) where
   old_tail : (v : ℕ) → IsTail M v → v ≢ u → IsTail N v
-  old_tail v t a = record {
-    half = t.half;
-    there = half_old new t.half t.there;
-    starts = elim (tails t.half t.there) [ inl e ↦ e ∙ t.starts | inr e ↦ absurd (a (sym t.starts ∙ e.1)) ];
-  }
+  old_tail v t a = grind (arith, t.half, half_old new t.half t.there, t.there, tails t.half t.there, t.starts)
 
   -- each tail is an old one, u or w
   tail_cases : (x : ℕ) → HasHalf N x → (HasHalf M x × (tail N x ≡ tail M x)) ⊎ ((tail N x ≡ u) ⊎ (tail N x ≡ w))
-  tail_cases x there = elim (half_cases new x there) [
-    | inl o ↦ elim (tails x o) [ inl e ↦ inl (o, e) | inr e ↦ inr (inr e.0) ]
-    | inr d ↦ elim d [ inl e ↦ inr (inl (ap (tail N) e ∙ tail-h new)) | inr e ↦ inr (inr (ap (tail N) e ∙ tail-m new)) ]
-  ]
+  tail_cases x there = grind (arith, half_cases new x there, there, tails x, tail-h new, tail-m new)
 
   pub vertices-more : NewVertices M N u w → ((x : ℕ) → HasHalf M x → tail N x ≢ tail N (mate x)) → VerticesHold N
   vertices-more vs differ = record {
-    tails_there = λ x there. elim (tail_cases x there) [
-      | inl o ↦ subst (Has N.vertices) (sym o.1) (vs.on _ (sound.tails_there x o.0))
-      | inr d ↦ elim d [ inl e ↦ subst (Has N.vertices) (sym e) vs.first_there | inr e ↦ subst (Has N.vertices) (sym e) vs.second_there ]
-    ];
+    tails_there = grind (arith, tail_cases, vs.on, sound.tails_there, vs.first_there, vs.second_there);
     ends_differ = λ x there. elim (half_cases new x there) [ inl o ↦ differ x o | inr d ↦ new_ends_differ new x d ];
     lone_or_tail = λ v there. elim (eqb_tells v w) [
       | inl b ↦ inr (record { half = mate h; there = half_m new; starts = tail-m new ∙ sym b.1 })
@@ -226,10 +192,7 @@ module _ {M N : Model} {h u w : ℕ} (sound : Sound M) (new : EdgeComes M N h u 
         | inr a ↦ elim (sound.lone_or_tail v (vs.back v there b.1)) [ inl l ↦ inl (l.0, vs.lone_on l.0 v l.1 a.1 b.1) | inr t ↦ inr (old_tail v t a.1) ]
       ]
     ];
-    lone_is_no_tail = λ q x there e. let b = vs.lone_back q (tail N x) e in elim (tail_cases x there) [
-      | inl o ↦ sound.lone_is_no_tail q x o.0 (b.0 ∙ ap lone o.1)
-      | inr d ↦ elim d [ inl s ↦ b.1 s | inr s ↦ b.2 s ]
-    ];
+    lone_is_no_tail = λ q x there e. let b = vs.lone_back q (tail N x) e in grind (arith, tail_cases x there, there, sound.lone_is_no_tail q x);
     one_lone = λ q k v a b. sound.one_lone q k v (vs.lone_back q v a).0 (vs.lone_back k v b).0;
     lone_at_vertex = λ q v a. vs.on v (sound.lone_at_vertex q v (vs.lone_back q v a).0);
   }

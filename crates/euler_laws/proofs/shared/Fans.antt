@@ -67,12 +67,7 @@ way_on next g w y =
             path = IsPath-append next (before x ps) (x ∷ []) (next x) (IsPath-left next (before x ps) (x ∷ after_item x ps) x (subst (λ q. IsPath next q x) s y.path)) (refl, tt);
             starts = head_before x w ps i ∙ head_push x w w y.front ∙ y.starts;
           }
-      | inr n ↦ record {
-        front = ps;
-        apart = apart_back x ps n y.apart;
-        path = IsPath-append next ps (x ∷ []) (next x) y.path (refl, tt);
-        starts = head_push x x w y.front ∙ y.starts;
-      }
+      | inr n ↦ grind (arith, apart_back x ps n y.apart, IsPath-append next ps (x ∷ []) (next x) y.path, head_push x x w y.front)
     ]
 
 way_of : (next : ℕ → ℕ) (g w : ℕ) → Reaches next g w → Way next g w
@@ -107,8 +102,7 @@ module _ (M : Model) (sound : Sound M) where
   pub reach_half : (x y : ℕ) → HasHalf M x → Reaches (round M) x y → HasHalf M y × (tail M y ≡ tail M x)
   reach_half x y there here = (there, refl)
   reach_half x y there (further {h = w} p) =
-      let q = reach_half x w there p in
-      (half_after (mate w) (mate_there M w q.0), sound.ends_meet (mate w) (mate_there M w q.0) ∙ ap (tail M) (mate-mate w) ∙ q.1)
+      grind (arith, reach_half x w there p, half_after (mate w), mate_there M w, sound.ends_meet (mate w), mate-mate w)
 
   -- the half-edge from which one comes to g
   pub back_of : (g : ℕ) → HasHalf M g → (b : ℕ) × HasHalf M b × (after M b ≡ g)

@@ -1,5 +1,5 @@
 -- The numbers of a table whose rows pass a test: which they are, and that they rise.
-use Rattle.std.proofs.Common.{◌≡◌, ◌≢◌, ℕ, Bool, true, false, cond, nat_eq, ◌<◌, ◌&&◌, ◌||◌, T, List, [], ◌∷◌, ◌++◌, Some, ne_eqb, refl, sym, ap, subst, ◌∙◌, arith, true≢false, ◌⊎◌, inl, inr}
+use Rattle.std.proofs.Common.{◌≡◌, ◌≢◌, ℕ, Bool, true, false, nat_eq, ◌<◌, ◌||◌, T, List, [], ◌∷◌, ◌++◌, Some, ne_eqb, refl, sym, ap, ◌∙◌, arith, true≢false, ◌⊎◌}
 use Rattle.std.specs.Ordering.{nat_cmp}
 use Rattle.std.specs.FinMap.Entries.{find, is_sorted, below_all}
 use Rattle.std.proofs.lemmas.Bool.Decides.{nat_tests, eqb_tells}
@@ -42,29 +42,18 @@ module _ {X : Type 0} where
   -- what is found past the numbers below k is greater
   pub found_past : (k q : ℕ) (es : List (ℕ × X)) (y : X) → T (below_all nat_cmp k es) → find nat_cmp q es ≡ Some y → k < q
   found_past k q [] y h is = cc
-  found_past k q (e ∷ es) y h is = elim (eqb_tells q e.0) [
-    | inl s ↦ subst (λ n. k < n) (sym s.1) (less_means k e.0 (and_left _ _ h))
-    | inr a ↦ found_past k q es y (and_right _ _ h) (sym (find_later q e es a.1) ∙ is)
-  ]
+  found_past k q (e ∷ es) y h is = grind (arith, eqb_tells q e.0, less_means k e.0, and_left, found_past k q es y, and_right, find_later q e es, is)
 
   abbrev Found : (ℕ → X → Bool) → ℕ → List (ℕ × X) → Type 0
   Found p n es = (x : X) × (find nat_cmp n es ≡ Some x) × (p n x ≡ true)
 
   found_on : (p : ℕ → X → Bool) (n : ℕ) (e : ℕ × X) (es : List (ℕ × X)) → T (is_sorted nat_cmp (e ∷ es)) → Found p n es → Found p n (e ∷ es)
-  found_on p n e es s f = (f.0, find_later n e es (λ same. less_apart e.0 n (found_past e.0 n es f.0 (and_left _ _ s) f.1) same) ∙ f.1, f.2) where
-    less_apart : (a b : ℕ) → a < b → b ≡ a → ⊥
-    less_apart a b l same = absurd (omega arith)
+  found_on p n e es s f = grind (arith, find_later n e es, found_past e.0 n es f.0, and_left)
 
   listed_in : (p : ℕ → X → Bool) (n : ℕ) (es : List (ℕ × X)) → T (is_sorted nat_cmp es) → lists (all_in p es) n ≡ true → Found p n es
   listed_in p n [] s l = absurd (true≢false (sym l))
   listed_in p n (e ∷ es) s l =
-      elim (p e.0 e.1) as (λ b. p e.0 e.1 ≡ b → lists (cond b (e.0 ∷ all_in p es) (all_in p es)) n ≡ true → Found p n (e ∷ es)) [
-        | true ↦ λ t l. elim (listed_cases e.0 n (all_in p es) l) [
-          | inl q ↦ subst (λ k. Found p k (e ∷ es)) (sym q) (e.1, find_here e es, t)
-          | inr q ↦ found_on p n e es s (listed_in p n es (and_right _ _ s) q)
-        ]
-        | false ↦ λ t l. found_on p n e es s (listed_in p n es (and_right _ _ s) l)
-      ] refl l
+      grind (arith, all_in p es, listed_cases e.0 n (all_in p es), find_here e es, found_on p n e es s, listed_in p n es, and_right)
 
   in_list : (p : ℕ → X → Bool) (n : ℕ) (x : X) (es : List (ℕ × X)) → find nat_cmp n es ≡ Some x → p n x ≡ true → lists (all_in p es) n ≡ true
   in_list p n x [] at passes = cc
@@ -72,17 +61,12 @@ module _ {X : Type 0} where
 
   rises_past : (p : ℕ → X → Bool) (k : ℕ) (es : List (ℕ × X)) → T (below_all nat_cmp k es) → T (is_sorted nat_cmp es) → strictly_rises (k ∷ all_in p es) ≡ true
   rises_past p k [] h s = refl
-  rises_past p k (e ∷ es) h s = elim (p e.0 e.1) as (λ b. strictly_rises (k ∷ cond b (e.0 ∷ all_in p es) (all_in p es)) ≡ true) [
-    | true ↦ ap (λ b. b && strictly_rises (e.0 ∷ all_in p es)) (lt-ltb k e.0 (less_means k e.0 (and_left _ _ h))) ∙ rises_past p e.0 es (and_left _ _ s) (and_right _ _ s)
-    | false ↦ rises_past p k es (and_right _ _ h) (and_right _ _ s)
-  ]
+  rises_past p k (e ∷ es) h s =
+      grind (arith, all_in p es, lt-ltb k e.0, less_means k e.0, and_left, rises_past p e.0 es, and_right, rises_past p k es)
 
   rises_in : (p : ℕ → X → Bool) (es : List (ℕ × X)) → T (is_sorted nat_cmp es) → strictly_rises (all_in p es) ≡ true
   rises_in p [] s = refl
-  rises_in p (e ∷ es) s = elim (p e.0 e.1) as (λ b. strictly_rises (cond b (e.0 ∷ all_in p es) (all_in p es)) ≡ true) [
-    | true ↦ rises_past p e.0 es (and_left _ _ s) (and_right _ _ s)
-    | false ↦ rises_in p es (and_right _ _ s)
-  ]
+  rises_in p (e ∷ es) s = grind (arith, all_in p es, rises_past p e.0 es, and_left, and_right, rises_in p es)
 
 -- what is listed has a row that passes
 pub listed_passes : {X : Type 0} (p : ℕ → X → Bool) (t : Table X) (n : ℕ) → lists (all_where p t) n ≡ true → (x : X) × (get t n ≡ Some x) × (p n x ≡ true)

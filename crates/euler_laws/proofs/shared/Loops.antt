@@ -1,5 +1,5 @@
 -- What a loop holds, changed one half-edge at a time; and how a model's walks follow from its loops and fans.
-use Rattle.std.proofs.Common.{◌≡◌, ◌≢◌, ℕ, ◌+◌, cond, List, None, is_some, refl, sym, ap, ◌∙◌, subst, arith, ◌⊎◌, inl, inr}
+use Rattle.std.proofs.Common.{◌≡◌, ◌≢◌, ℕ, ◌+◌, cond, List, None, refl, sym, ap, ◌∙◌, subst, arith, ◌⊎◌, inl, inr}
 use Rattle.std.proofs.lemmas.Bool.Decides.{eqb_tells}
 use Rattle.euler_operators.specs.Items.{count, tick, IsIn, IsApart}
 use Rattle.euler_operators.specs.Rings.{canonical, successor, IsRing}
@@ -28,11 +28,7 @@ abbrev pub IsLight : (ℕ → ℕ) → LoopContent → Type 0
 IsLight next c = IsApart (items_of c) × IsRing next (items_of c)
 
 pub canonical_cycle : (hs : List ℕ) → IsApart hs → (x : ℕ) → IsIn x hs → IsCycle (canonical hs)
-canonical_cycle hs d x i = record {
-  some_item = λ e. let t : count x (canonical hs) ≡ 0 = ap (count x) e in omega (arith, count-canonical x hs);
-  apart = IsApart-canonical hs d;
-  from_least = canonical-canonical hs d;
-}
+canonical_cycle hs d x i = grind (arith, count-canonical x hs, IsApart-canonical hs d, canonical-canonical hs d)
 
 pub canonical_ring : (next : ℕ → ℕ) (hs : List ℕ) → IsRing next hs → IsRing next (canonical hs)
 canonical_ring next hs r = IsRing-same next hs (canonical hs) (canonical-rotates hs) r
@@ -55,10 +51,7 @@ pub one_vertex : (a b : ℕ) → lone a ≡ lone b → a ≡ b
 one_vertex a b e = cc
 
 pub lone_put : (g h v : ℕ) (c : LoopContent) → put_before g h c ≡ lone v → c ≡ lone v
-lone_put g h v c e = elim (IsIn_or_not g (items_of c)) [
-  | inl i ↦ absurd (never_lone _ v (sym (put_there g h c i) ∙ e))
-  | inr n ↦ sym (put_none g h c n) ∙ e
-]
+lone_put g h v c e = grind (arith, IsIn_or_not g (items_of c), never_lone, put_there g h c, put_none g h c)
 
 pub count_put_there : (x g h : ℕ) (c : LoopContent) → IsIn g (items_of c) → count x (items_of (put_before g h c)) ≡ tick x h + count x (items_of c)
 count_put_there x g h c i = ap (λ y. count x (items_of y)) (put_there g h c i) ∙ count-canonical x (insert_before g h (items_of c)) ∙ count-insert_before x g h (items_of c) i
@@ -77,15 +70,9 @@ pub put_came : (x g h : ℕ) (c : LoopContent) → IsIn x (items_of (put_before 
 put_came x g h c i = grind (arith, count_put_there, count_put_none)
 
 pub light_put : (next : ℕ → ℕ) (g h : ℕ) (c : LoopContent) → count h (items_of c) ≡ 0 → IsLight next c → IsLight (led_over next g h) (put_before g h c)
-light_put next g h c n l = elim (IsIn_or_not g (items_of c)) [
-  | inl i ↦ (
-    λ x. omega (arith, count_put_there x g h c i, l.0 x, n, tick_cases x),
-    subst (λ y. IsRing (led_over next g h) (items_of y)) (sym (put_there g h c i)) (canonical_ring _ (insert_before g h (items_of c)) (IsRing-insert_before next g h (items_of c) l.0 i n l.1)),
-  )
-  | inr z ↦ subst (IsLight (led_over next g h)) (sym (put_none g h c z)) (l.0, IsRing-led_over_other next g h (items_of c) z n l.1)
-] where
-  tick_cases : (x : ℕ) → (tick x h ≡ 0) ⊎ ((tick x h ≡ 1) × (count x (items_of c) ≡ 0))
-  tick_cases x = elim (eqb_tells x h) [ inl e ↦ inr (ap (tick x) (sym e.1) ∙ tick_same x, ap (λ y. count y (items_of c)) e.1 ∙ n) | inr e ↦ inl (tick_other x h e.1) ]
+light_put next g h c n l =
+    let one = IsRing-led_over_other in
+    grind (arith, one, IsIn_or_not, count_put_there, put_there, canonical_ring, IsRing-insert_before, put_none, eqb_tells, tick_same, tick_other)
 
 pub loop_put : (next : ℕ → ℕ) (g h : ℕ) (c : LoopContent) → count h (items_of c) ≡ 0 → IsLoop next c → IsLoop (led_over next g h) (put_before g h c)
 loop_put next g h (lone v) n l = subst (IsLoop (led_over next g h)) (sym (put_lone g h v)) tt
@@ -112,10 +99,7 @@ pub apart_out : (h : ℕ) (hs : List ℕ) → IsApart hs → IsApart (without h 
 apart_out h hs d x = grind (arith, count-without, without_none)
 
 pub ring_out : (next : ℕ → ℕ) (h : ℕ) (hs : List ℕ) → IsApart hs → IsRing next hs → IsRing (redirect next h (next h)) (without h hs)
-ring_out next h hs d r = elim (IsIn_or_not h hs) [
-  | inl i ↦ IsRing-without next h hs d i r
-  | inr n ↦ subst (IsRing (redirect next h (next h))) (sym (without_none h hs n)) (IsRing-redirect_other next h (next h) hs n r)
-]
+ring_out next h hs d r = grind (arith, IsIn_or_not h hs, IsRing-without next h hs d, without_none h hs, IsRing-redirect_other next h (next h) hs)
 
 -- ---- a sound model's loops
 
@@ -180,8 +164,7 @@ module _ (N : Model) (next : ℕ → ℕ) (w : Walks N next) where
   pub after-walks : (x : ℕ) → HasHalf N x → after N x ≡ next x
   unfolding after
   after-walks x t =
-      let s = stands-walks x t in
-      sym (next_is_successor next (cycle_of N x) x (ring_items (content N (loop_of N x)) (w.loops (loop_of N x) (ap is_some (held_row N x (loop_of N x) s)))) (holds_in x (content N (loop_of N x)) s))
+      grind (arith, stands-walks x t, next_is_successor next (cycle_of N x) x, held_row N x (loop_of N x), holds_in x (content N (loop_of N x)))
 
   pub ends_meet-walks : (x : ℕ) → HasHalf N x → tail N (after N x) ≡ tail N (mate x)
   ends_meet-walks x t =

@@ -1,5 +1,5 @@
 -- Soundness in four parts: the walks of loops and vertices, what stands at vertices, faces and solids, and the ranges of numbers and points.
-use Rattle.std.proofs.Common.{◌≡◌, ◌≢◌, ℕ, Option, Some, None, is_some, IsTrue, true, sym, ap, ◌∙◌, subst, ◌⊎◌, inl, inr, arith}
+use Rattle.std.proofs.Common.{◌≡◌, ◌≢◌, ℕ, Option, Some, None, is_some, IsTrue, true, sym, ap, ◌∙◌, subst, ◌⊎◌, arith}
 use Rattle.std.proofs.lemmas.Bool.Decides.{eqb_tells}
 use Rattle.euler_operators.specs.declared.Point.{Point}
 use Rattle.euler_operators.specs.Points.{IsInRange}
@@ -161,20 +161,10 @@ module _ {M N : Model} (sound : Sound M) (stay : FacesStay M N) where
   face_back f t = subst (λ y. Has y f) stay.faces t
 
   pub faces_hold : ((x : ℕ) → HasHalf N x → solid_at N (loop_of N x) ≡ solid_at N (loop_of N (mate x))) → FacesHold N
-  faces_hold one = record {
-    loops_of_faces = λ q t. face_on (face_of N q) (elim (stay.new q t) [ inl o ↦ subst (Has M.faces) (sym (stay.kept q o t)) (sound.loops_of_faces q o) | inr n ↦ n ]);
-    outers_there = λ f t. let o = sound.outers_there f (face_back f t) in let k = stay.outers f (face_back f t) in
-        (subst (Has N.loops) (sym (outer_stays f)) k, ap (face_of N) (outer_stays f) ∙ stay.kept (outer M f) o.0 k ∙ o.1);
-    faces_of_solids = λ f t. subst (λ y. Has y (solid_of N f)) (sym stay.solids) (subst (Has M.solids) (sym (solid_stays f)) (sound.faces_of_solids f (face_back f t)));
-    solid_has_face = λ s t. let x = sound.solid_has_face s (subst (λ y. Has y s) stay.solids t) in (x.0, face_on x.0 x.1, solid_stays x.0 ∙ x.2);
-    one_solid = one;
-  }
+  faces_hold one =
+      let two = sound.faces_of_solids in let three = sound.loops_of_faces in let four = sound.solid_has_face in let five = sound.outers_there in
+      let six = stay.outers in
+      grind (arith, two, three, four, five, six, face_on, stay.new, stay.kept, face_back, N.loops, outer_stays, stay.solids, M.solids, solid_stays)
 
 pub stay_of_same : (M N : Model) → Sound M → SameFaces M N → FacesStay M N
-stay_of_same M N sound same = record {
-  faces = same.faces;
-  solids = same.solids;
-  kept = λ q o n. same.face q;
-  new = λ q t. inl (sym (same.loop q) ∙ t);
-  outers = λ f t. same.loop (outer M f) ∙ (sound.outers_there f t).0;
-}
+stay_of_same M N sound same = grind (arith, same.faces, same.solids, same.face, same.loop, sound.outers_there)

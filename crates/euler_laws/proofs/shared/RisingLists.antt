@@ -1,5 +1,5 @@
 -- Rising lists of numbers.
-use Rattle.std.proofs.Common.{◌≡◌, ◌≢◌, ℕ, zero, suc, ◌+◌, ◌<◌, ◌≤◌, Bool, true, false, nat_eq, ◌&&◌, List, [], ◌∷◌, length, get_or, refl, sym, ap, ◌∙◌, arith, true≢false, ◌⊎◌, inl, inr}
+use Rattle.std.proofs.Common.{◌≡◌, ℕ, zero, suc, ◌+◌, ◌<◌, ◌≤◌, true, false, nat_eq, ◌&&◌, List, [], ◌∷◌, length, get_or, refl, sym, ap, ◌∙◌, arith, true≢false, ◌⊎◌, inl, inr}
 use Rattle.std.proofs.lemmas.Bool.Decides.{eqb_tells}
 use Rattle.std.proofs.lemmas.Bool.{and_parts}
 use Rattle.euler_operators.specs.Conditions.{lists, lists_all, strictly_rises}
@@ -36,19 +36,9 @@ pub within : (fs gs : List ℕ) → strictly_rises fs ≡ true → strictly_rise
 within [] [] r s i = (omega arith, λ e. refl)
 within [] (g ∷ gs) r s i = (omega arith, λ e. absurd (omega arith))
 within (f ∷ fs) [] r s i = absurd (true≢false (sym (i f (first_listed f fs))))
-within (f ∷ fs) (g ∷ gs) r s i = grind (
-  arith,
-  first_listed f fs,
-  within fs gs (rises_on f fs r) (rises_on g gs s),
-  rises_on f fs r,
-  rises_on g gs s,
-  listed_cases g,
-  rest_listed f,
-  rises_apart f,
-  within (f ∷ fs) gs r (rises_on g gs s),
-  listed_cases f,
-  rises_apart g f gs s,
-)
+within (f ∷ fs) (g ∷ gs) r s i =
+    let one = within fs gs (rises_on f fs r) (rises_on g gs s) in let two = within (f ∷ fs) gs r (rises_on g gs s) in
+    grind (arith, one, rises_on f fs r, rises_on g gs s, listed_cases g, rest_listed f, rises_apart f, two, listed_cases f, rises_apart g f gs s)
 
 all_within : (fs gs : List ℕ) → lists_all fs gs ≡ true → (q : ℕ) → lists gs q ≡ true → lists fs q ≡ true
 all_within fs [] a q l = absurd (true≢false (sym l))
@@ -60,13 +50,7 @@ within_all fs (g ∷ gs) i = ap (λ b. b && lists_all fs gs) (i g (first_listed 
 
 -- a rising list within another lists all of it where it is as long
 pub all_listed : (fs gs : List ℕ) → strictly_rises fs ≡ true → strictly_rises gs ≡ true → ((q : ℕ) → lists fs q ≡ true → lists gs q ≡ true) → lists_all fs gs ≡ nat_eq (length fs) (length gs)
-all_listed fs gs r s i = elim (eqb_tells (length fs) (length gs)) [
-  | inl e ↦ within_all fs gs (λ q l. ap (λ xs. lists xs q) ((within fs gs r s i).1 e.1) ∙ l) ∙ sym e.0
-  | inr e ↦ go (lists_all fs gs) refl e.1 ∙ sym e.0
-] where
-  go : (b : Bool) → lists_all fs gs ≡ b → length fs ≢ length gs → lists_all fs gs ≡ false
-  go true a ne = absurd (ne (omega (arith, (within fs gs r s i).0, (within gs fs s r (all_within fs gs a)).0)))
-  go false a ne = a
+all_listed fs gs r s i = grind (arith, eqb_tells, within_all, within, all_within)
 
 -- ---- halves of a rising list
 
@@ -80,7 +64,4 @@ less_or : (a b : ℕ) → (a < b) ⊎ (b ≤ a)
 less_or a b = grind arith
 
 pub not_found : (fs : List ℕ) (n low : ℕ) → ((k : ℕ) → k < low → get_or fs k 0 < n) → ((k : ℕ) → low ≤ k → k < length fs → n < get_or fs k 0) → false ≡ lists fs n
-not_found fs n low below above = go (lists fs n) refl where
-  go : (b : Bool) → lists fs n ≡ b → false ≡ b
-  go false e = refl
-  go true e = let p = place_of fs n e in absurd (elim (less_or p.0 low) [ inl l ↦ omega (arith, below p.0 l, p.2) | inr l ↦ omega (arith, above p.0 l p.1, p.2) ])
+not_found fs n low below above = grind (arith, place_of, less_or)

@@ -1,5 +1,5 @@
 -- What single rows and loops of a model say, and small facts that several operators share.
-use Rattle.std.proofs.Common.{◌≡◌, ◌≢◌, ℕ, ◌+◌, Bool, true, false, cond, not, nat_eq, ◌&&◌, List, [], ◌∷◌, ◌++◌, Some, None, unwrap_or, is_some, refl, sym, ap, ◌∙◌, arith, true≢false}
+use Rattle.std.proofs.Common.{◌≡◌, ◌≢◌, ℕ, ◌+◌, Bool, true, false, cond, not, nat_eq, ◌&&◌, List, [], ◌∷◌, Some, None, unwrap_or, is_some, refl, sym, ap, ◌∙◌, arith, true≢false}
 use Rattle.std.proofs.lemmas.Bool.Decides.{nat_tests}
 use Rattle.std.proofs.lemmas.Bool.{eqb-false}
 use Rattle.euler_operators.specs.Items.{count, IsIn, IsApart, head_or}
@@ -154,11 +154,10 @@ test_ring a b c x y z = (λ i. x i && y i && not (z i))
 
 -- what follows m in the ring h X m Y
 pub after_second : (hs : List ℕ) → IsCycle hs → (h m : ℕ) → h ≢ m → IsIn h hs → IsIn m hs → successor hs m ≡ head_or h (beyond h m hs)
-after_second hs cy h m hm i j = successor_same m hs (rotate_to h hs) (rotate_to-rotates h hs) cy.apart j ∙ ap (λ q. successor q m) (ring_split h m hs i j hm)
-    ∙ successor_at m (h ∷ between h m hs) (beyond h m hs) (omega (arith, tick_other m h (λ e. hm (sym e)), count-before m (rest h hs))) ∙ head_in (beyond h m hs) where
-      head_in : (ys : List ℕ) → head_or m (ys ++ h ∷ between h m hs) ≡ head_or h ys
-      head_in [] = refl
-      head_in (y ∷ ys) = refl
+after_second hs cy h m hm i j =
+    let one = successor_same m hs (rotate_to h hs) (rotate_to-rotates h hs) cy.apart j in
+    let two = successor_at m (h ∷ between h m hs) (beyond h m hs) in
+    grind (arith, one, rotate_to-rotates h hs, ring_split h m hs i j hm, two, tick_other m h, count-before m (rest h hs))
 
 pub not_lone_cycle : (c : LoopContent) → is_lone c ≡ false → c ≡ cycle (items_of c)
 not_lone_cycle (lone v) e = absurd (true≢false e)

@@ -10,10 +10,7 @@ use Rattle.euler_laws.proofs.shared.Fans.{loop_after, kept_round}
 use Rattle.euler_operators.specs.HalfEdge.{edge_of, is_first}
 
 pub map_twice : {X : Type 0} (f g : ℕ → X → X) (t : Table X) → map_rows f (map_rows g t) ≡ map_rows (λ q x. f q (g q x)) t
-map_twice {X = X} f g t = same_table _ _ (λ q. get-map_rows f (map_rows g t) q ∙ ap (option_map (f q)) (get-map_rows g t q) ∙ on (table.get t q) q ∙ sym (get-map_rows (λ q x. f q (g q x)) t q)) where
-  on : (o : Option X) (q : ℕ) → option_map (f q) (option_map (g q) o) ≡ option_map (λ x. f q (g q x)) o
-  on None q = refl
-  on (Some x) q = refl
+map_twice {X = X} f g t = grind (arith, same_table, get-map_rows f (map_rows g t), map_rows g t, get-map_rows g t, table.get t, get-map_rows)
 
 pub mapped_some : {X : Type 0} (f : X → X) (o : Option X) → is_some (option_map f o) ≡ is_some o
 mapped_some f None = refl

@@ -122,16 +122,9 @@ module _ {M N : Model} {e r s : ℕ} (sound : Sound M) (rows : TwoRows M N e r s
 
   -- each half-edge stands in one of the two, or it is old and stands where it did
   place_cases : (x : ℕ) → HasHalf N x → (1 ≤ in_both N r s x) ⊎ (HasHalf M x × Neither r s (loop_of M x) × (in_both N r s x ≡ 0))
-  place_cases x t = elim (some_or_none (in_both N r s x)) [
-    | inl i ↦ inl i
-    | inr z ↦ elim (eqb_tells (edge_of x) e) [
-      | inl a ↦ absurd (omega (arith, rows.stands x a.1 t, z))
-      | inr a ↦ let o = half_back x a.1 t in elim (which r s (loop_of M x)) [
-        | inl k ↦ absurd (omega (arith, z, rows.others x a.1, stands_both M r s x (loop_of M x) k (sound.stands x o)))
-        | inr n ↦ inr (o, n, z)
-      ]
-    ]
-  ]
+  place_cases x t =
+      let one = stands_both M r s x (loop_of M x) in
+      grind (arith, some_or_none (in_both N r s x), rows.stands x, half_back x, which r s (loop_of M x), rows.others x, one, sound.stands x)
 
   stays : (x : ℕ) → HasHalf M x → Neither r s (loop_of M x) → StandsIn N x (loop_of M x)
   stays x o n = ap (holds x) (rows.other_content (loop_of M x) n) ∙ sound.stands x o
@@ -145,10 +138,7 @@ module _ {M N : Model} {e r s : ℕ} (sound : Sound M) (rows : TwoRows M N e r s
   -- ---- lone loops, where neither of the two is lone
 
   pub lone_else : {hs ks : List ℕ} → content N r ≡ cycle hs → content N s ≡ cycle ks → (q v : ℕ) → content N q ≡ lone v → (content M q ≡ lone v) × (q ≢ r) × (q ≢ s)
-  lone_else a b q v e = elim (which r s q) [
-    | inl o ↦ absurd (elim o [ inl p ↦ never_lone _ v (sym a ∙ ap (content N) (sym p) ∙ e) | inr p ↦ never_lone _ v (sym b ∙ ap (content N) (sym p) ∙ e) ])
-    | inr n ↦ (sym (rows.other_content q n) ∙ e, n.0, n.1)
-  ]
+  lone_else a b q v e = grind (arith, which r s q, never_lone, rows.other_content q)
 
   pub lone_still : {hs ks : List ℕ} → content M r ≡ cycle hs → content M s ≡ cycle ks → (q v : ℕ) → content M q ≡ lone v → content N q ≡ lone v
   lone_still a b q v e = rows.other_content q (λ p. never_lone _ v (sym a ∙ ap (content M) (sym p) ∙ e), λ p. never_lone _ v (sym b ∙ ap (content M) (sym p) ∙ e)) ∙ e

@@ -77,15 +77,10 @@ module _ (hs : List ℕ) (d : IsApart hs) where
   pub both_out : (h m : ℕ) → IsIn h hs → IsIn m hs → h ≢ m → canonical (without m (without h hs)) ≡ kev_ring h m hs
   both_out h m i j ne =
       let xs : List ℕ = without h hs in
-      let ys : List ℕ = take_ring h hs in
-      let dx : IsApart xs = apart_out h hs d in
-      let mr : IsIn m (rest h hs) = IsIn_rest h m hs i j ne in
-      let r : IsRotation xs (rest h hs) = without-rotates h hs in
-      let dr : IsApart (rest h hs) = λ x. omega (arith, apart_at h hs d i x) in
-      let mx : IsIn m xs = omega (arith, same_count xs (rest h hs) r m) in
-      canonical_same (without m xs) (rest m xs) (without-rotates m xs) (apart_out m xs dx)
-      ∙ ap canonical (rest_same m xs (rest h hs) r dx mx ∙ rest_same m (rest h hs) ys (canonical-rotates (rest h hs)) dr mr)
-      ∙ sym (kev_ring_is h m hs d i j ne) where
+      let one = canonical_same (without m xs) (rest m xs) (without-rotates m xs) in let two = kev_ring_is h m hs d i j ne in
+      let three = without-rotates h hs in let four = same_count xs (rest h hs) in let five = canonical-rotates (rest h hs) in
+      let six = rest_same m (rest h hs) in let seven = without-rotates m xs in let eight = IsIn_rest h m hs i j ne in
+      grind (arith, eight, three, apart_at h hs d i, four, one, seven, apart_out m xs, rest_same m xs (rest h hs), six, five, two) where
         same_count : (a b : List ℕ) → IsRotation a b → (x : ℕ) → count x a ≡ count x b
         same_count a b r x = ap (count x) r.here ∙ count-append x r.front r.back ∙ (let t : count x r.front + count x r.back ≡ count x r.back + count x r.front = omega arith in t) ∙ sym (ap (count x) r.there ∙ count-append x r.back r.front)
 
@@ -100,13 +95,9 @@ module _ (hs : List ℕ) (d : IsApart hs) where
   pub both_in : (h m g k : ℕ) → IsIn g hs → IsIn k hs → h ≢ m → count h hs ≡ 0 → count m hs ≡ 0 → canonical (insert_before k m (canonical (insert_before g h hs))) ≡ mev_ring h m g k hs
   both_in h m g k i j ne nh nm =
       let xs : List ℕ = insert_before g h hs in
-      let ys : List ℕ = canonical xs in
-      let dx : IsApart xs = put_apart g h i nh in
-      let kx : IsIn k xs = omega (arith, count-insert_before k g h hs i) in
-      let mx : count m xs ≡ 0 = omega (arith, count-insert_before m g h hs i, tick_other m h (λ e. ne (sym e))) in
-      let dk : IsApart (insert_before k m xs) = two_apart xs dx k m kx mx in
-      sym (canonical_same (insert_before k m xs) (insert_before k m ys) (insert_before_same k m xs ys (canonical-rotates xs) dx kx mx) dk)
-      ∙ mev_ring_is h m g k hs d i j ne nh nm where
+      let one = mev_ring_is h m g k hs d i j ne nh nm in let two = count-insert_before k g h hs i in
+      let three = count-insert_before m g h hs i in let four = canonical_same (insert_before k m xs) in
+      grind (arith, put_apart g h i nh, two, three, two_apart xs, four, insert_before_same k m xs, canonical-rotates xs, one) where
         two_apart : (xs : List ℕ) → IsApart xs → (k m : ℕ) → IsIn k xs → count m xs ≡ 0 → IsApart (insert_before k m xs)
         two_apart xs dx k m i n x = elim (eqb_tells x m) [
           | inl e ↦ omega (arith, count-insert_before x k m xs i, ap (λ y. count y xs) e.1, ap (tick x) (sym e.1), tick_same x)
@@ -145,20 +136,8 @@ module _ (M : Model) (h : ℕ) where
   pub parallel_none : NoParallel → parallel M h ≡ 0
   parallel_none n = first_where_zero meets M.edges (λ e row at.
       let t = tails_in e row at in
-      never_meets e (edge_of h) (tail M h) (tail M (mate h)) row
-      (λ a p q. n (plus e) (ap is_some (ap (table.get M.edges) (plus_row e).0 ∙ at)) (λ s. a (sym (plus_row e).0 ∙ s)) (t.0 ∙ p) (ap (tail M) (mate_plus e) ∙ t.1 ∙ q))
-      (λ a p q. n (minus e) (ap is_some (ap (table.get M.edges) (minus_row e).0 ∙ at)) (λ s. a (sym (minus_row e).0 ∙ s)) (t.1 ∙ q) (ap (tail M) (mate_minus e) ∙ t.0 ∙ p)))
+      grind (arith, never_meets, table.get, plus_row, mate_plus, minus_row, mate_minus))
 
   pub none_parallel : ((e : ℕ) → Has M.edges e → IsTrue (is_number e)) → parallel M h ≡ 0 → NoParallel
   none_parallel fit z x there ne a b =
-      let w = row_some (table.get M.edges (edge_of x)) there in
-      let t = tails_in (edge_of x) w.0 w.1 in
-      let f = zero_first_where meets M.edges (λ e row at s. no_zero e s (fit e (ap is_some at))) z (edge_of x) w.0 w.1 in
-      elim (halves_of_edge x) [
-        | inl p ↦ no_meet (edge_of x) (edge_of h) 0 (tail M h) (tail M (mate h)) w.0 ne f
-            (sym t.0 ∙ ap (tail M) (sym p.0) ∙ a)
-            (sym t.1 ∙ ap (tail M) (sym (ap mate p.0 ∙ mate_plus (edge_of x))) ∙ b)
-        | inr p ↦ no_meet_back (edge_of x) (edge_of h) 0 (tail M h) (tail M (mate h)) w.0 ne f
-            (sym t.0 ∙ ap (tail M) (sym (ap mate p.0 ∙ mate_minus (edge_of x))) ∙ b)
-            (sym t.1 ∙ ap (tail M) (sym p.0) ∙ a)
-      ]
+      grind (arith, row_some, tails_in, zero_first_where, no_zero, halves_of_edge, no_meet, mate_plus, no_meet_back, mate_minus)

@@ -29,16 +29,8 @@ up_to_all n (m ∷ ms) h = takes m n ms (h m (first_listed m ms)) ∙ ap (λ xs.
 pub up_to_next : (n m : ℕ) (ns : List ℕ) → strictly_rises ns ≡ true → lists ns m ≡ true → n < m → ((k : ℕ) → lists ns k ≡ true → n < k → m ≤ k) → up_to m ns ≡ up_to n ns ++ m ∷ []
 up_to_next n m [] r i l h = absurd (true≢false (sym i))
 up_to_next n m (a ∷ bs) r i l h = elim (at_most_or_above a n) [
-  | inl s ↦ elim (listed_cases a m bs i) [
-    | inl e ↦ absurd (omega (arith, s, l, e))
-    | inr j ↦ takes a m bs (omega (arith, s, l)) ∙ ap (λ xs. a ∷ xs) (up_to_next n m bs (rises_on a bs r) j l (λ k q. h k (rest_listed a k bs q))) ∙ sym (ap (λ xs. xs ++ m ∷ []) (takes a n bs s))
-  ]
-  | inr s ↦ elim (listed_cases a m bs i) [
-    | inl e ↦
-        takes a m bs (omega (arith, e)) ∙ ap (λ xs. a ∷ xs) (up_to_none m bs (λ k q. omega (arith, rises_apart a k bs r q, e))) ∙ ap (λ x. x ∷ []) (sym e)
-        ∙ sym (ap (λ xs. xs ++ m ∷ []) (drops a n bs s ∙ up_to_none n bs (λ k q. omega (arith, rises_apart a k bs r q, s))))
-    | inr j ↦ absurd (omega (arith, h a (first_listed a bs) s, rises_apart a m bs r j))
-  ]
+  | inl s ↦ grind (arith, listed_cases a m bs i, takes a m bs, up_to_next n m bs (rises_on a bs r), rises_on a bs r, rest_listed a, takes a n bs s)
+  | inr s ↦ grind (arith, up_to_none m bs, rises_apart a, drops a n bs s, up_to_none n bs, first_listed a bs, rises_apart a m bs r)
 ]
 
 pub count_up_to : (x n : ℕ) (ns : List ℕ) → count x (up_to n ns) ≤ count x ns
