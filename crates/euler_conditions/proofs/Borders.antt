@@ -1,5 +1,5 @@
 -- Edges between listed faces and others.
-use Rattle.std.proofs.Common.{◌≡◌, ◌≢◌, ℕ, ◌≤◌, ◌<◌, Bool, true, false, cond, not, nat_eq, ◌||◌, List, [], ◌∷◌, ◌++◌, length, append_assoc, Option, Some, None, Ok, Err, is_some, refl, sym, ap, subst, ◌∙◌, arith, true≢false, ◌⊎◌, inl, inr}
+use Rattle.std.proofs.Common.{◌≡◌, ◌≢◌, ℕ, ◌≤◌, Bool, true, false, cond, not, nat_eq, ◌||◌, List, [], ◌∷◌, ◌++◌, length, append_assoc, Option, Some, None, Ok, Err, is_some, refl, sym, ap, subst, ◌∙◌, arith, true≢false, ◌⊎◌, inl, inr}
 use Rattle.std.proofs.lemmas.Bool.Decides.{nat_tests}
 use Rattle.std.proofs.lemmas.Bool.{not-true, ne_eqb, eq-eqb, eqb-true}
 use Rattle.euler_operators.specs.Items.{IsIn}
@@ -7,13 +7,13 @@ use Rattle.euler_operators.specs.HalfEdge.{code, mate, edge_of, plus, minus}
 use Rattle.euler_operators.specs.declared.HalfEdge.{HalfEdge}
 use Rattle.euler_operators.specs.declared.Content.TheVariants as Content
 use Rattle.euler_operators.specs.Table as table
-use Rattle.euler_operators.specs.Model.{Model, EdgeRow, LoopContent, lone, cycle, items_of, content, face_of, outer, loop_of, solid_of, faces_of, is_ring_of, is_number}
+use Rattle.euler_operators.specs.Model.{Model, EdgeRow, LoopContent, lone, cycle, items_of, content, face_of, outer, loop_of, solid_of, faces_of, is_ring_of}
 use Rattle.euler_operators.specs.Sound.{Sound, Has, HasHalf}
 use Rattle.euler_operators.proofs.Halves.{plus_row, minus_row, mate_plus, mate_minus}
 use Rattle.euler_operators.proofs.Models.{in-holds, holds_in, loop_there}
 use Rattle.euler_operators.proofs.Tables.{first_where_zero, zero_first_where, row_some}
 use Rattle.halfedge_arena.specs.Store.{Tells, IsNextRing}
-use Rattle.euler_operators.specs.Conditions.{Condition, AllHold, conditions, first_false, need, never, first_refusal, verdict, numbers_in_range, faces_known, faces_in, lists, lists_all, strictly_rises, is_empty, is_bad_part, face_at, torn_edge, differ, has_rings}
+use Rattle.euler_operators.specs.Conditions.{Condition, AllHold, conditions, first_false, need, never, first_refusal, verdict, numbers_in_range, faces_known, faces_in, lists, strictly_rises, is_empty, is_bad_part, face_at, torn_edge, differ, has_rings}
 use Rattle.euler_operators.specs.declared.Refusal.{Refusal}
 use Rattle.euler_operators.specs.declared.Why.TheVariants.{NoSolid, SolidTaken, BadPart}
 use Rattle.euler_operators.specs.declared.Op.TheVariants.{Part}
@@ -52,15 +52,10 @@ module _ (M : Model) (sound : Sound M) (fs : List ℕ) where
   differ_cases false b e = inr (refl, e)
 
   tested : (x : ℕ) (row : EdgeRow) → lists fs (face_at M x) ≡ true → lists fs (face_at M (mate x)) ≡ false → Test (edge_of x) row ≡ true
-  tested x row p q = elim (halves_of_edge x) [
-    | inl e ↦ differ_in _ _ (ap (λ y. lists fs (face_at M y)) (sym e.0) ∙ p) (ap (λ y. lists fs (face_at M y)) (sym (ap mate e.0 ∙ mate_plus (edge_of x))) ∙ q)
-    | inr e ↦ differ_out _ _ (ap (λ y. lists fs (face_at M y)) (sym (ap mate e.0 ∙ mate_minus (edge_of x))) ∙ q) (ap (λ y. lists fs (face_at M y)) (sym e.0) ∙ p)
-  ]
+  tested x row p q = grind (arith, halves_of_edge x, differ_in, mate_plus (edge_of x), differ_out, mate_minus (edge_of x))
 
   edge_used : (e : ℕ) (row : EdgeRow) → table.get M.edges e ≡ Some row → e ≢ 0
-  edge_used e row at z = go e (sound.edges_fit e (ap is_some at)) z where
-    go : (e : ℕ) → is_number e ≡ true → e ≡ 0 → ⊥
-    go e n z = grind (arith, nat_tests)
+  edge_used e row at z = grind (arith, sound.edges_fit e, nat_tests)
 
   pub out_torn : (f : ℕ) → lists fs f ≡ true → FaceLeadsOut M fs f → true ≡ not (nat_eq (torn_edge M fs) 0)
   out_torn f l o =
@@ -84,30 +79,15 @@ module _ (M : Model) (sound : Sound M) (fs : List ℕ) where
 
 -- the rings up to the next one
 pub rings_met : (M : Model) (fs : List ℕ) (f last ring : ℕ) → IsNextRing M f last (Some ring) → ((k : ℕ) → k ≤ last → is_ring_of M f k ≡ true → StaysIn M fs k) → StaysIn M fs ring → (k : ℕ) → k ≤ ring → is_ring_of M f k ≡ true → StaysIn M fs k
-rings_met M fs f last ring next old new k l r = elim (three k last ring l) [
-  | inl a ↦ old k a r
-  | inr b ↦ elim b [
-    | inl e ↦ subst (StaysIn M fs) (sym e) new
-    | inr c ↦ absurd (true≢false (sym r ∙ next.2 k c.0 c.1))
-  ]
-] where
-  three : (k last ring : ℕ) → k ≤ ring → (k ≤ last) ⊎ ((k ≡ ring) ⊎ ((last < k) × (k < ring)))
-  three k last ring l = grind arith
+rings_met M fs f last ring next old new k l r = grind (arith, ring)
 
 -- the rings after the last one
 pub rings_done : (M : Model) (fs : List ℕ) (f last : ℕ) → IsNextRing M f last None → ((k : ℕ) → k ≤ last → is_ring_of M f k ≡ true → StaysIn M fs k) → (k : ℕ) → is_ring_of M f k ≡ true → StaysIn M fs k
-rings_done M fs f last none old k r = elim (two k last) [ inl a ↦ old k a r | inr b ↦ absurd (true≢false (sym r ∙ none k b)) ] where
-  two : (k last : ℕ) → (k ≤ last) ⊎ (last < k)
-  two k last = grind arith
+rings_done M fs f last none old k r = grind (arith)
 
 -- what makes a part bad, for rising faces of the solid
 pub bad_is : (M : Model) (s : ℕ) (fs : List ℕ) → AreFacesOf M s fs → strictly_rises fs ≡ true → is_empty fs ≡ false → is_bad_part M s fs ≡ (nat_eq (length fs) (length (faces_of M s)) || not (nat_eq (torn_edge M fs) 0))
-bad_is M s fs are rises some =
-    ap (λ b. b || not (strictly_rises fs) || lists_all fs (faces_of M s) || not (nat_eq (torn_edge M fs) 0)) some
-    ∙ ap (λ b. not b || lists_all fs (faces_of M s) || not (nat_eq (torn_edge M fs) 0)) rises
-    ∙ ap (λ b. b || not (nat_eq (torn_edge M fs) 0)) (all_listed fs (faces_of M s) rises (all_where-rises (λ _ row. nat_eq row.solid s) M.faces) inside) where
-      inside : (q : ℕ) → lists fs q ≡ true → lists (faces_of M s) q ≡ true
-      inside q l = let a = are q l in let r = face_there M q a.0 in passes_listed (λ _ row. nat_eq row.solid s) M.faces q _ r (eq-eqb (solid_of M q) s a.1)
+bad_is M s fs are rises some = grind (arith, all_listed, all_where-rises, face_there, passes_listed, eq-eqb)
 
 -- ---- the conditions of part, part by part
 

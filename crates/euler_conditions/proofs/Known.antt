@@ -1,5 +1,5 @@
 -- What a sound model has: the things that its half-edges name.
-use Rattle.std.proofs.Common.{◌≡◌, ◌≢◌, ℕ, ◌+◌, ◌*◌, Bool, true, false, cond, not, nat_eq, ◌&&◌, [], refl, sym, ap, ◌∙◌, arith}
+use Rattle.std.proofs.Common.{◌≡◌, ◌≢◌, ℕ, true, false, cond, not, nat_eq, ◌&&◌, [], refl, sym, ap, ◌∙◌, arith}
 use mathlib.Core.Bool.{beq}
 use Rattle.std.proofs.lemmas.Bool.Decides.{nat_tests}
 use Rattle.euler_operators.specs.declared.HalfEdge.{HalfEdge}
@@ -22,21 +22,14 @@ mate_edge h m e = sym (edge_of-code m) ∙ ap edge_of e ∙ edge_of-mate (code h
 -- two half-edges are one where their codes are
 pub same_test : (h m : HalfEdge) → (nat_eq h.edge m.edge && beq h.first m.first) ≡ nat_eq (code h) (code m)
 unfolding code
-same_test h m = go h.edge m.edge h.first m.first where
-  go : (a b : ℕ) (p q : Bool) → (nat_eq a b && beq p q) ≡ nat_eq (cond p (2 * a) (2 * a + 1)) (cond q (2 * b) (2 * b + 1))
-  go a b true true = grind (arith, nat_tests)
-  go a b true false = grind (arith, nat_tests)
-  go a b false true = grind (arith, nat_tests)
-  go a b false false = grind (arith, nat_tests)
+same_test h m = grind (arith, h.edge, m.edge, h.first, m.first, nat_tests)
 
 -- whether g is of another edge and leads to the far end
 pub leads_far : (M : Model) (h g : HalfEdge) (far t : ℕ) → nat_eq g.edge h.edge ≡ false → t ≡ tail M (mate (code g)) → nat_eq t far ≡ leads_to M (code h) far (code g)
-leads_far M h g far t other e =
-    ap (λ n. nat_eq n far) e ∙ sym (ap (λ b. not b && nat_eq (tail M (mate (code g))) far) ((λ i. nat_eq (edge_of-code g i) (edge_of-code h i)) ∙ other))
+leads_far M h g far t other e = grind (arith, edge_of-code g, edge_of-code h)
 
 pub leads_not : (M : Model) (h g : HalfEdge) (far : ℕ) → nat_eq g.edge h.edge ≡ true → not (nat_eq g.edge h.edge) ≡ leads_to M (code h) far (code g)
-leads_not M h g far same =
-    ap not same ∙ sym (ap (λ b. not b && nat_eq (tail M (mate (code g))) far) ((λ i. nat_eq (edge_of-code g i) (edge_of-code h i)) ∙ same))
+leads_not M h g far same = grind (arith, edge_of-code g, edge_of-code h)
 
 -- the least edge that was found, where g leads to the far end
 pub found_then : (M : Model) (h far : ℕ) (g : HalfEdge) (old least : ℕ) → leads_to M h far (code g) ≡ true → least ≡ lesser old g.edge → least ≡ cond (leads_to M h far (code g)) (lesser old (edge_of (code g))) old

@@ -1,5 +1,5 @@
 -- The walk round one end of an edge meets every edge beside it.
-use Rattle.std.proofs.Common.{◌≡◌, ◌≢◌, ℕ, ◌+◌, ◌≤◌, Bool, true, false, cond, not, nat_eq, ◌&&◌, ◌||◌, List, [], ◌∷◌, ◌++◌, length, Some, is_some, refl, sym, ap, subst, ◌∙◌, arith, true≢false, ◌⊎◌, inl, inr}
+use Rattle.std.proofs.Common.{◌≡◌, ◌≢◌, ℕ, ◌+◌, ◌≤◌, Bool, true, false, cond, not, nat_eq, ◌&&◌, ◌||◌, List, [], ◌∷◌, ◌++◌, length, Some, is_some, refl, sym, ap, subst, ◌∙◌, arith, ◌⊎◌, inl, inr}
 use Rattle.std.proofs.lemmas.Bool.Decides.{nat_tests, eqb_tells}
 use Rattle.std.proofs.lemmas.Bool.{and_parts, and_from, or_left, or_right, or_cases, not-true, eq-eqb, eqb-true}
 use Rattle.euler_operators.specs.Items.{count, IsIn}
@@ -11,7 +11,7 @@ use Rattle.euler_operators.proofs.Places.{walk_done, walk_on, walk_over}
 use Rattle.euler_operators.specs.HalfEdge.{mate, edge_of, plus, minus}
 use Rattle.euler_operators.specs.Table as table
 use Rattle.euler_operators.specs.Table.{first_where}
-use Rattle.euler_operators.specs.Model.{Model, EdgeRow, tail, after, round, is_number}
+use Rattle.euler_operators.specs.Model.{Model, EdgeRow, tail, after, round}
 use Rattle.euler_operators.specs.Sound.{Sound, HasHalf}
 use Rattle.euler_operators.proofs.Halves.{plus_row, minus_row, mate_plus, mate_minus, mate-mate, edge_of-mate}
 use Rattle.euler_operators.proofs.Models.{plus_tail_row, minus_tail_row}
@@ -49,31 +49,13 @@ module _ (M : Model) (h far : ℕ) where
   last_in g met = omega (arith, count-append g met (g ∷ []), tick_same g)
 
   seen_other : (least g : ℕ) (met : List ℕ) → leads_to M h far g ≡ false → Seen M h far least met → Seen M h far least (met ++ g ∷ [])
-  seen_other least g met other s = record {
-    one = λ ne. let y = s.one ne in (y.0, more y.0 g met y.1, y.2, y.3);
-    all = λ x i b. elim (IsIn_push x g met i) [ inl j ↦ s.all x j b | inr e ↦ absurd (true≢false (sym b ∙ ap (leads_to M h far) e ∙ other)) ];
-  }
+  seen_other least g met other s = grind (arith, s.one, more, IsIn_push, s.all)
 
   lesser_cases : (least e : ℕ) → ((least ≡ 0) × (lesser least e ≡ e)) ⊎ ((least ≢ 0) × (least ≤ e) × (lesser least e ≡ least)) ⊎ ((least ≢ 0) × (e ≤ least) × (lesser least e ≡ e))
   lesser_cases least e = grind (arith, nat_tests)
 
   seen_beside : (least g : ℕ) (met : List ℕ) → leads_to M h far g ≡ true → edge_of g ≢ 0 → Seen M h far least met → Seen M h far (lesser least (edge_of g)) (met ++ g ∷ [])
-  seen_beside least g met beside fits s = elim (lesser_cases least (edge_of g)) [
-    | inl z ↦ record {
-      one = λ ne. (g, last_in g met, sym z.1, beside);
-      all = λ x i b. elim (IsIn_push x g met i) [ inl j ↦ absurd ((s.all x j b).0 z.0) | inr e ↦ (λ n. fits (sym z.1 ∙ n), omega (arith, z.1, ap edge_of e)) ];
-    }
-    | inr w ↦ elim w [
-      | inl k ↦ record {
-        one = λ ne. let y = s.one k.0 in (y.0, more y.0 g met y.1, y.2 ∙ sym k.2, y.3);
-        all = λ x i b. elim (IsIn_push x g met i) [ inl j ↦ (λ n. k.0 (sym k.2 ∙ n), omega (arith, k.2, (s.all x j b).1)) | inr e ↦ (λ n. k.0 (sym k.2 ∙ n), omega (arith, k.1, k.2, ap edge_of e)) ];
-      }
-      | inr k ↦ record {
-        one = λ ne. (g, last_in g met, sym k.2, beside);
-        all = λ x i b. elim (IsIn_push x g met i) [ inl j ↦ (λ n. fits (sym k.2 ∙ n), omega (arith, k.1, k.2, (s.all x j b).1)) | inr e ↦ (λ n. fits (sym k.2 ∙ n), omega (arith, k.2, ap edge_of e)) ];
-      }
-    ]
-  ]
+  seen_beside least g met beside fits s = grind (arith, lesser_cases least (edge_of g), last_in g met, IsIn_push, s.all, s.one, more)
 
 -- ---- what the whole walk finds
 
@@ -138,18 +120,11 @@ module _ (M : Model) (sound : Sound M) (h : ℕ) (there : HasHalf M h) where
   met_beside : (x : ℕ) → IsIn x whole → leads_to M h far x ≡ true → (row : EdgeRow) × (table.get M.edges (edge_of x) ≡ Some row) × (Beside (edge_of x) row ≡ true)
   met_beside x i l =
       let o = of_whole x i in let r = row_some (table.get M.edges (edge_of x)) o.0 in let parts = and_parts _ _ l in
-      let ends : tail M (mate x) ≡ far = eqb-true (tail M (mate x)) far parts.1 in (
-        r.0,
-        r.1,
-        and_from (not (nat_eq (edge_of x) (edge_of h))) _ parts.0 (elim (halves_of_edge x) [
-          | inl p ↦ or_left _ _ (and_from _ _
-              (eq-eqb r.0.plus_tail (tail M h) (sym (plus_tail_row M (edge_of x) r.0 r.1) ∙ ap (tail M) (sym p.0) ∙ o.1))
-              (eq-eqb r.0.minus_tail far (sym (minus_tail_row M (edge_of x) r.0 r.1) ∙ ap (tail M) (sym (ap mate p.0 ∙ mate_plus (edge_of x))) ∙ ends)))
-          | inr p ↦ or_right _ _ (and_from _ _
-              (eq-eqb r.0.plus_tail far (sym (plus_tail_row M (edge_of x) r.0 r.1) ∙ ap (tail M) (sym (ap mate p.0 ∙ mate_minus (edge_of x))) ∙ ends))
-              (eq-eqb r.0.minus_tail (tail M h) (sym (minus_tail_row M (edge_of x) r.0 r.1) ∙ ap (tail M) (sym p.0) ∙ o.1)))
-        ]),
-      )
+      let ends : tail M (mate x) ≡ far = eqb-true (tail M (mate x)) far parts.1 in
+      let one = and_from (not (nat_eq (edge_of x) (edge_of h))) in let two = minus_tail_row M (edge_of x) r.0 r.1 in
+      let three = plus_tail_row M (edge_of x) r.0 r.1 in let four = eq-eqb r.0.minus_tail (tail M h) in let five = eq-eqb r.0.plus_tail (tail M h) in
+      let six = eq-eqb r.0.minus_tail far in let seven = eq-eqb r.0.plus_tail far in let eight = mate_minus (edge_of x) in
+      grind (arith, one, halves_of_edge x, or_left, and_from, five, r.0.plus_tail, three, six, r.0.minus_tail, two, mate_plus (edge_of x), or_right, seven, eight, four)
 
   none_beside : Seen M h far 0 whole → (e : ℕ) (row : EdgeRow) → table.get M.edges e ≡ Some row → Beside e row ≡ false
   none_beside s e row at = elim (Beside e row) as (λ b. Beside e row ≡ b → b ≡ false) [
@@ -173,9 +148,7 @@ module _ (M : Model) (sound : Sound M) (h : ℕ) (there : HasHalf M h) where
   walk_start = record { met = []; walked = refl; seen = seen_none M h far; there = there }
 
   edge_fits : (x : ℕ) → HasHalf M x → edge_of x ≢ 0
-  edge_fits x t z = not_number (edge_of x) z (sound.edges_fit (edge_of x) t) where
-    not_number : (e : ℕ) → e ≡ 0 → is_number e ≡ true → ⊥
-    not_number e z n = grind (arith, nat_tests)
+  edge_fits x t z = grind (arith, sound.edges_fit (edge_of x) t, nat_tests)
 
   module _ (old least g n k : ℕ) (w : HalfSeen M h far old g n) (steps : n ≡ k + 1) (found : (least ≡ cond (leads_to M h far g) (lesser old (edge_of g)) old)) where
     seen_more : Seen M h far least (w.met ++ g ∷ [])
@@ -201,12 +174,10 @@ module _ (M : Model) (sound : Sound M) (h : ℕ) (there : HasHalf M h) where
 module _ (M : Model) (sound : Sound M) (h : ℕ) (there : HasHalf M h) (f : ℕ) (ends : f ≡ tail M (mate h)) (old least g x n k : ℕ) (w : HalfSeen M h f old g n)
     (counts : n ≡ k + 1) (found : least ≡ cond (leads_to M h f g) (lesser old (edge_of g)) old) (goes : x ≡ round M g) where
   pub step_closed : x ≡ h → least ≡ parallel M h
-  step_closed e = subst (λ d. HalfSeen M h d old g n → (least ≡ cond (leads_to M h d g) (lesser old (edge_of g)) old) → least ≡ parallel M h) (sym ends)
-      (λ v i. walk_closed M sound h there old least g n k v counts i (sym goes ∙ e)) w found
+  step_closed e = grind (arith, walk_closed M sound h there old least g n k)
 
   pub step_more : x ≢ h → HasHalf M x → HalfSeen M h f least x k
-  step_more ne t = subst (λ d. HalfSeen M h d old g n → (least ≡ cond (leads_to M h d g) (lesser old (edge_of g)) old) → HalfSeen M h d least x k) (sym ends)
-      (λ v i. subst (λ y. HalfSeen M h (tail M (mate h)) least y k) (sym goes) (walk_more M sound h there old least g n k v counts i (λ e. ne (goes ∙ e)) (subst (HasHalf M) goes t))) w found
+  step_more ne t = grind (arith, walk_more M sound h there old least g n k)
 
 -- ---- the other end
 
@@ -218,21 +189,7 @@ or_turned false false = refl
 
 -- the edges beside a half-edge are those beside its mate
 pub parallel_turned : (M : Model) (h : ℕ) → parallel M (mate h) ≡ parallel M h
-parallel_turned M h = λ i. first_where (λ e row. turned e row i) M.edges where
-  near : ℕ
-  near = tail M h
-
-  far : ℕ
-  far = tail M (mate h)
-
-  joins : EdgeRow → ℕ → ℕ → Bool
-  joins row a b = nat_eq row.plus_tail a && nat_eq row.minus_tail b
-
-  turned : (e : ℕ) (row : EdgeRow) → (not (nat_eq e (edge_of (mate h))) && (joins row far (tail M (mate (mate h))) || joins row (tail M (mate (mate h))) far)) ≡ (not (nat_eq e (edge_of h)) && (joins row near far || joins row far near))
-  turned e row =
-      ap (λ d. not (nat_eq e d) && (joins row far (tail M (mate (mate h))) || joins row (tail M (mate (mate h))) far)) (edge_of-mate h)
-      ∙ ap (λ k. not (nat_eq e (edge_of h)) && (joins row far (tail M k) || joins row (tail M k) far)) (mate-mate h)
-      ∙ ap (λ b. not (nat_eq e (edge_of h)) && b) (or_turned (joins row far near) (joins row near far))
+parallel_turned M h = grind (arith, first_where, edge_of-mate h, mate-mate h, or_turned)
 
 pub mate_there : (M : Model) (h m : ℕ) → HasHalf M h → m ≡ mate h → HasHalf M m
 mate_there M h m t e = ap (λ x. table.has M.edges (edge_of x)) e ∙ ap (table.has M.edges) (edge_of-mate h) ∙ t
