@@ -1,7 +1,7 @@
 -- When a block, a lamina and a sweep are accepted.
 use Rattle.std.specs.Prelude.{nat_le, length, map}
 use Rattle.std.specs.List.{list_all, list_any}
-use Rattle.std.proofs.Common.{◌≡◌, ℕ, ◌+◌, ◌*◌, ◌≤◌, Bool, true, false, not, cond, nat_eq, ◌&&◌, ◌||◌, List, [], ◌∷◌, ◌++◌, Some, None, is_some, refl, sym, ap, subst, ◌∙◌, arith, true≢false}
+use Rattle.std.proofs.Common.{◌≡◌, ℕ, ◌+◌, ◌*◌, ◌≤◌, Bool, true, false, not, cond, ◌||◌, List, [], ◌∷◌, ◌++◌, Some, None, is_some, refl, sym, ap, subst, ◌∙◌, arith, true≢false}
 use Rattle.std.proofs.lemmas.Bool.{and_parts, eq-eqb, eqb-true}
 use Rattle.std.proofs.lemmas.Bool.Decides.{nat_tests, eqb_tells}
 use Rattle.std.proofs.lemmas.List.{length-map}
@@ -9,14 +9,14 @@ use Rattle.euler_operators.specs.declared.Point.{Point}
 use Rattle.euler_operators.specs.Points.{is_in_range}
 use Rattle.euler_operators.specs.Vectors.{moved, same_point}
 use Rattle.euler_operators.specs.Table as table
-use Rattle.euler_operators.specs.Model.{Model, LoopRow, content, outer, point_of}
-use Rattle.euler_operators.specs.Conditions.{is_lone, lists}
+use Rattle.euler_operators.specs.Model.{Model, content, outer, point_of}
+use Rattle.euler_operators.specs.Conditions.{is_lone}
 use Rattle.euler_operators.proofs.Models.{content_row}
 use Rattle.euler_operators.proofs.Tables.{first_where_zero, none_all_where}
 use Rattle.euler_operators.proofs.Tests.{and_false}
 use Rattle.euler_laws.proofs.shared.Goes.{◌also◌, none_refuses}
 use Rattle.shapes.specs.Faces.{corners, loops_of, vertices_in, vertices_on, least_lone}
-use Rattle.shapes.specs.Fresh.{taken_in, first_such, found}
+use Rattle.shapes.specs.Fresh.{taken_in, first_such}
 use Rattle.shapes.specs.Lamina.{lamina_conditions, first_far, first_repeated}
 use Rattle.shapes.specs.Prism.{prism_conditions}
 use Rattle.shapes.specs.Block.{block_conditions}
@@ -90,13 +90,9 @@ module _ {M : Model} {f s : ℕ} {ps : List Point} (face : IsFaceOf M f s ps) wh
   outer_cycles l = grind (arith, many, corners_on)
 
   pub none_lone : 2 ≤ length ps → least_lone M (f ∷ []) ≡ None
-  none_lone l = ap found (first_where_zero (λ _ row. is_lone row.content && lists (f ∷ []) row.face) M.loops (λ q y at. each q y at (nat_eq f y.face) refl)) where
-    outer_is : (q : ℕ) (y : LoopRow) → (nat_eq y.face f && not (nat_eq (outer M f) q)) ≡ false → f ≡ y.face → outer M f ≡ q
-    outer_is q y e same = grind (arith, eqb_tells, eq-eqb)
-
-    each : (q : ℕ) (y : LoopRow) → table.get M.loops q ≡ Some y → (b : Bool) → nat_eq f y.face ≡ b → (is_lone y.content && (nat_eq f y.face || false)) ≡ false
-    each q y at false e = grind (arith, and_false)
-    each q y at true e = grind (arith, outer_is, none_all_where, face.plain, eqb-true, content_row, outer_cycles)
+  none_lone l =
+      let one = table.get M.loops in
+      grind (arith, first_where_zero, eqb_tells, eq-eqb, one, and_false, none_all_where, face.plain, eqb-true, content_row, outer_cycles)
 
 pub sweeps_fit : SweepsFit
 unfolding prism_conditions taken_in

@@ -1,5 +1,4 @@
 -- The six faces of a block.
-use Rattle.std.specs.Prelude.{length}
 use Rattle.std.proofs.Common.{◌≡◌, ℕ, ◌+◌, ◌<◌, ℤ, None, sym, ap, subst, ◌∙◌, arith, refl}
 use Rattle.euler_operators.specs.declared.Point.{Point}
 use Rattle.euler_operators.specs.Table as table
@@ -41,26 +40,20 @@ module _ (M : Model) (s : ℕ) (p : Point) (dx dy dz : ℤ) (sound : Sound M) (g
   bottom = model_other base (lamina_face M) (up_by dz) base_sound (bases_rise M s p dx dy dz sound goes) ((taken_in M).face + 2) s (turned_back (base_of p dx dy)) (λ e. absurd (omega (arith, e))) base_faces.1
 
   side : (i : ℕ) → i < 4 → IsFaceOf (prism_model base (lamina_face M) (up_by dz)) (table.greatest M.faces + 3 + i) s (side_over (up_by dz) (nth (base_of p dx dy) i) (nth (base_of p dx dy) (next_place 4 i)))
-  side i l = let N = prism_model base (lamina_face M) (up_by dz) in
-      subst (λ k. IsFaceOf N k s (side_over (up_by dz) (nth (base_of p dx dy) i) (nth (base_of p dx dy) (next_place 4 i)))) (ap (λ g. g + 1 + i) (lamina_counted M s (base_of p dx dy)) ∙ on (table.greatest M.faces) i)
-      (subst (λ u. IsFaceOf N (table.greatest base.faces + 1 + i) u (side_over (up_by dz) (nth (base_of p dx dy) i) (nth (base_of p dx dy) (next_place 4 i)))) base_faces.0.solid
-      (subst (λ ps. i < length ps → IsFaceOf N (table.greatest base.faces + 1 + i) (solid_of base (lamina_face M)) (side_over (up_by dz) (nth ps i) (nth ps (next_place (length ps) i)))) base_faces.0.points
-      (model_sides base (lamina_face M) (up_by dz) base_sound (bases_rise M s p dx dy dz sound goes) base_faces.0.plain i) l)) where
-        on : (g i : ℕ) → g + 2 + 1 + i ≡ g + 3 + i
-        on g i = omega arith
+  side i l =
+      let one = model_sides base (lamina_face M) (up_by dz) base_sound (bases_rise M s p dx dy dz sound goes) base_faces.0.plain i in
+      let two = lamina_counted M s (base_of p dx dy) in let three = bases_rise M s p dx dy dz sound goes in
+      grind (arith, two, table.greatest M.faces, table.greatest base.faces, base_faces.0.solid, base_faces.0.points, one, three, base_faces.0.plain)
 
   counted : table.greatest (prism_model base (lamina_face M) (up_by dz)).faces ≡ table.greatest M.faces + 6
-  counted = model_counted base (lamina_face M) (up_by dz) base_sound (bases_rise M s p dx dy dz sound goes)
-      ∙ (λ i. lamina_counted M s (base_of p dx dy) i + length (base_faces.0.points i)) ∙ six (table.greatest M.faces) where
-        six : (g : ℕ) → g + 2 + 4 ≡ g + 6
-        six g = omega arith
+  counted =
+      let one = model_counted base (lamina_face M) (up_by dz) base_sound (bases_rise M s p dx dy dz sound goes) in
+      grind (arith, one, bases_rise M s p dx dy dz sound goes, lamina_counted M s (base_of p dx dy), base_faces.0.points, table.greatest M.faces)
 
 pub block_has_top_and_bottom : BlockHasTopAndBottom
 block_has_top_and_bottom before after s p dx dy dz sound made =
-    subst (λ N. IsFaceOf N (last_face before + 1) s (all_moved (up_by dz) (base_of p dx dy)) × IsFaceOf N (last_face before + 2) s (turned_back (base_of p dx dy))) (sym (ap held made.1 ∙ block_is (held before) s p dx dy dz sound made.0))
-    (subst (λ g. IsFaceOf (prism_model (base (held before) s p dx dy dz sound made.0) (lamina_face (held before)) (up_by dz)) (g + 1) s (all_moved (up_by dz) (base_of p dx dy))
-    × IsFaceOf (prism_model (base (held before) s p dx dy dz sound made.0) (lamina_face (held before)) (up_by dz)) (g + 2) s (turned_back (base_of p dx dy))) (face_counted (held before))
-    (top (held before) s p dx dy dz sound made.0, bottom (held before) s p dx dy dz sound made.0))
+    let one = block_is (held before) s p dx dy dz sound made.0 in let two = bottom (held before) s p dx dy dz sound made.0 in
+    grind (arith, made, one, held before, face_counted (held before), top (held before) s p dx dy dz sound made.0, two)
 
 pub block_has_four_sides : BlockHasFourSides
 block_has_four_sides before after s p dx dy dz i sound made l =

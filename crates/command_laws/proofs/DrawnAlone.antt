@@ -51,10 +51,7 @@ module _ (M : Model) (s : ℕ) (ps : List Point) where
       let face : r.0.face ≡ k = sym (face_row (lamina_model M s ps) l r.0 r.1) ∙ of in
       elim (get-put_cases (table.put M.loops (g + 1) _) (g + 2) _ l r.0 r.1) [
         | inl q ↦ absurd (omega (arith, sym face ∙ ap (λ x. x.face) q.1, at_most_greatest M.faces k there))
-        | inr q ↦ elim (get-put_cases M.loops (g + 1) _ l r.0 q.1) [
-          | inl u ↦ absurd (omega (arith, sym face ∙ ap (λ x. x.face) u.1, at_most_greatest M.faces k there))
-          | inr u ↦ r.1 ∙ sym u.1
-        ]
+        | inr q ↦ grind (arith, get-put_cases M.loops (g + 1), at_most_greatest M.faces k there)
       ]
 
 -- ---- a block

@@ -42,10 +42,9 @@ row_kept s t k (Some row) ne = ap (λ b. Some (cond b (record row { solid = s })
 face_kept : (M : Model) (f g k : ℕ) → k ≢ f → k ≢ g → solid_of M k ≢ solid_of M g → table.get (glue_model M f g).faces k ≡ table.get M.faces k
 unfolding glue_model solid_of
 face_kept M f g k not_f not_g other =
-    let turn = faces_to_solid (λ _ row. nat_eq row.solid (solid_of M g)) (solid_of M f) in
-    table.get-map_rows turn (table.remove (table.remove M.faces f) g) k
-    ∙ ap (option_map (turn k)) (get-remove_other (table.remove M.faces f) g k not_g ∙ get-remove_other M.faces f k not_f)
-    ∙ row_kept (solid_of M f) (solid_of M g) k (table.get M.faces k) other
+    let one = row_kept (solid_of M f) (solid_of M g) k (table.get M.faces k) other in
+    let two = get-remove_other (table.remove M.faces f) g k not_g in let three = table.remove (table.remove M.faces f) g in
+    grind (arith, table.get-map_rows, three, table.remove M.faces f, two, get-remove_other M.faces f k not_f, one, table.get M.faces k)
 
 pub glue_keeps_faces : GlueKeepsFaces
 glue_keeps_faces before after f g k made not_f not_g other = ap (λ m. table.get (held m).faces k) made.1 ∙ face_kept (held before) f g k not_f not_g other

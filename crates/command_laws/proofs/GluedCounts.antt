@@ -5,7 +5,7 @@ use Rattle.std.proofs.lemmas.Int.{ints}
 use Rattle.std.proofs.lemmas.Bool.{eq-eqb, eqb-false, ne_eqb}
 use Rattle.std.proofs.lemmas.List.{length-map}
 use Rattle.euler_operators.specs.HalfEdge.{edge_of, mate}
-use Rattle.euler_operators.specs.Items.{count, IsIn, IsApart}
+use Rattle.euler_operators.specs.Items.{IsIn, IsApart}
 use Rattle.euler_operators.specs.Table as table
 use Rattle.euler_operators.specs.Table.{Table}
 use Rattle.euler_operators.specs.Model.{Model, FaceRow, face_of, faces_of, outer, solid_of, tail}
@@ -43,14 +43,9 @@ use Rattle.command_laws.proofs.Owners.{Agree, is_either, is_of, many_either, nei
 pub without_size : {X : Type 0} (t : Table X) (ns : List ℕ) → IsApart ns → ((n : ℕ) → IsIn n ns → Has t n) → size (without_rows t ns) + length ns ≡ size t
 without_size t [] apart there = omega arith
 without_size t (n ∷ ns) apart there =
-    let once : count n ns ≡ 0 = omega (arith, apart n, tick_same n) in
-    let row = row_some (table.get t n) (there n (IsIn_head n ns)) in
-    omega (
-      arith,
-      ap size (without_first t ns n),
-      size-remove (without_rows t ns) n row.0 (without_there t ns n once ∙ row.1),
-      without_size t ns (λ x. omega (arith, apart x)) (λ k i. there k (omega (arith, i))),
-    )
+    let one = row_some (table.get t n) (there n (IsIn_head n ns)) in let two = size-remove (without_rows t ns) n in
+    let three = there n (IsIn_head n ns) in let four = without_first t ns n in
+    grind (arith, apart n, tick_same n, one, table.get t n, three, IsIn_head n ns, four, two, without_there t ns n, without_size t ns, apart, there)
 
 -- ---- two solids glued
 

@@ -53,9 +53,7 @@ module _ (M : Model) (c : Taken) (s : ℕ) (a b : Point) (rest : List Point) (bo
   ]
 
   minus_at : (i : ℕ) → i < suc (length rest) → start drawn (minus (c.edge + suc i)) ≡ nth ps (suc i)
-  minus_at i l = ap (point_of drawn) (minus_tail_row drawn (c.edge + suc i) _ (rows.edge_at M c s ps i (omega (arith, l))) ∙ more c.vertex i) ∙ rows.point_at M c s ps (suc i) (omega (arith, l)) where
-    more : (v i : ℕ) → v + suc i + 1 ≡ v + suc (suc i)
-    more v i = omega arith
+  minus_at i l = grind (arith, minus_tail_row drawn (c.edge + suc i), rows.edge_at M c s ps i, rows.point_at M c s ps (suc i))
 
   minus_last : start drawn (minus (c.edge + suc (suc (length rest)))) ≡ a
   minus_last = ap (point_of drawn) (minus_tail_row drawn (c.edge + suc (suc (length rest))) _ (rows.last_edge_at M c s ps)) ∙ rows.point_at M c s ps 0 (omega arith)
@@ -124,8 +122,7 @@ lamina_faces M s ps sound goes = subst (λ N. IsFaceOf N ((taken_in M).face + 1)
 
 pub lamina_has_two_faces : LaminaHasTwoFaces
 lamina_has_two_faces before after s ps sound made =
-    subst (λ N. IsFaceOf N (last_face before + 1) s ps × IsFaceOf N (last_face before + 2) s (turned_back ps)) (sym (ap held made.1))
-    (subst (λ g. IsFaceOf (lamina_model (held before) s ps) (g + 1) s ps × IsFaceOf (lamina_model (held before) s ps) (g + 2) s (turned_back ps)) (face_counted (held before)) (lamina_faces (held before) s ps sound made.0))
+    grind (arith, made, held before, face_counted (held before), lamina_faces (held before) s ps sound made.0)
 
 pub lamina_counted : (M : Model) (s : ℕ) (ps : List Point) → table.greatest (lamina_model M s ps).faces ≡ table.greatest M.faces + 2
 lamina_counted M s ps = ap (λ (N : Model). table.greatest N.faces) (lamina_is M s ps) ∙ greatest_drawn M (taken_in M) s ps (omega (arith, face_counted M)) ∙ ap (λ g. g + 2) (face_counted M)

@@ -1,10 +1,10 @@
 -- The counts of a lamina and of a block.
-use Rattle.std.proofs.Common.{◌≡◌, ◌≢◌, ℕ, ◌+◌, ◌-◌, ◌*◌, ◌<◌, ℤ, pos, true, false, nat_eq, nat_le, List, [], append-nil, length, None, is_some, refl, sym, ap, subst, ◌∙◌, arith, true≢false, ◌⊎◌, inl, inr}
+use Rattle.std.proofs.Common.{◌≡◌, ◌≢◌, ℕ, ◌+◌, ◌-◌, ◌<◌, ℤ, pos, false, nat_eq, List, [], append-nil, length, None, is_some, refl, sym, ap, ◌∙◌, arith, true≢false, ◌⊎◌, inl, inr}
 use Rattle.std.proofs.lemmas.Int.{ints}
 use Rattle.std.proofs.lemmas.Bool.Decides.{nat_tests, eqb_tells}
 use Rattle.std.proofs.lemmas.Bool.{ne_eqb, eqb-false, not-true}
 use Rattle.euler_operators.specs.declared.Point.{Point}
-use Rattle.euler_operators.specs.HalfEdge.{edge_of, plus}
+use Rattle.euler_operators.specs.HalfEdge.{plus}
 use Rattle.euler_operators.specs.Table as table
 use Rattle.euler_operators.specs.Table.{Table}
 use Rattle.euler_operators.specs.Model.{Model, EdgeRow, faces_of, rings_of, solid_of}
@@ -15,25 +15,25 @@ use Rattle.euler_operators.proofs.Tables.{all_where_none, get-put_other}
 use Rattle.euler_laws.specs.Laws.{size}
 use Rattle.euler_laws.proofs.Sizes.{size-put_new}
 use Rattle.euler_laws.proofs.shared.Goes.{all_hold}
-use Rattle.shapes.specs.Block.{base_of, block_refusal, block_model}
+use Rattle.shapes.specs.Block.{block_refusal, block_model}
 use Rattle.shapes.specs.Faces.{boundary, corners_in, edges_of, loops_of, vertices_of}
 use Rattle.shapes.specs.Fresh.{Taken, taken_in}
-use Rattle.shapes.specs.Lamina.{lamina_conditions, lamina_face, lamina_refusal, lamina_at, lamina_model, with_points, with_path, with_ring}
-use Rattle.shapes.specs.Prism.{prism_model, prism_refusal}
+use Rattle.shapes.specs.Lamina.{lamina_conditions, lamina_refusal, lamina_at, lamina_model, with_points, with_path, with_ring}
+use Rattle.shapes.specs.Prism.{prism_refusal}
 use Rattle.shapes.proofs.fresh.Rows.{none_above, at_most_greatest}
 use Rattle.solid_measure.specs.solid_counts.Counts.{tally_of, counts, rings_in}
 use Rattle.sweeps_laws.proofs.lamina.Blocks.{bases_rise, blocks_have_bases}
 use Rattle.sweeps_laws.proofs.lamina.Walk.{lamina_is_sound}
 use Rattle.undo_journal.specs.Machine.{held}
 use Rattle.command_laws.specs.Counted.{BlockCounts, BlockKeepsCounts, LaminaCounts, LaminaKeepsCounts}
-use Rattle.command_laws.specs.NewFaces.{corner_points, up_by}
+use Rattle.command_laws.specs.NewFaces.{corner_points}
 use Rattle.command_laws.proofs.DrawnAlone.{lamina_keeps, lamina_keeps_rows}
 use Rattle.command_laws.proofs.Kept.{lamina_kept}
 use Rattle.command_laws.proofs.LaminaFaces.{lamina_faces}
 use Rattle.command_laws.proofs.Outlines.{as_many}
 use Rattle.command_laws.proofs.Owners.{Agree, is_of, others_kept, solid_of_edge, solid_of_loop}
 use Rattle.command_laws.proofs.SweptFaces.{before_points}
-use Rattle.command_laws.proofs.SweptCounts.{counted_more, model_adds_counts, model_keeps_counts, with_more}
+use Rattle.command_laws.proofs.SweptCounts.{counted_more, model_adds_counts, model_keeps_counts}
 use Rattle.sweeps_laws.proofs.LaminaRows as rows
 use Rattle.command_laws.proofs.Series.{others_stay, one_each}
 
@@ -81,9 +81,7 @@ ring_size t e v free n some =
 
 fits : (M : Model) (s : ℕ) (ps : List Point) → lamina_refusal M s ps ≡ None → (table.has M.solids s ≡ false) × (0 < length ps)
 unfolding lamina_conditions
-fits M s ps e = let h = all_hold (lamina_conditions M s ps) e in (not-true (table.has M.solids s) h.1.0, some (length ps) h.1.1.0) where
-  some : (n : ℕ) → nat_le 3 n ≡ true → 0 < n
-  some n e = grind (arith, nat_tests)
+fits M s ps e = grind (arith, all_hold (lamina_conditions M s ps) e, not-true (table.has M.solids s), table.has M.solids s, nat_tests)
 
 module _ (M : Model) (s : ℕ) (ps : List Point) (sound : Sound M) (goes : lamina_refusal M s ps ≡ None) (after : Sound (lamina_at M (taken_in M) s ps)) where
   abbrev c : Taken
@@ -123,15 +121,7 @@ module _ (M : Model) (s : ℕ) (ps : List Point) (sound : Sound M) (goes : lamin
   ]
 
   agree : Agree M N (is_of s) (is_of s)
-  agree = record {
-    before = sound;
-    after = after;
-    faces = λ k there out. (face_kept k there, out);
-    faces_back = λ k there out. elim (face_cases k) [ inl e ↦ (e, out) | inr e ↦ absurd (eqb-false (solid_of N k) s out e) ];
-    loops = λ q there out. loop_kept q there;
-    loops_back = λ q there out. elim (loop_cases q) [ inl e ↦ e | inr e ↦ absurd (eqb-false (solid_of_loop N q) s out e) ];
-    edges = λ h there out. edge_kept (edge_of h) there;
-  }
+  agree = grind (arith, after, face_kept, face_cases, eqb-false, loop_kept, loop_cases, edge_kept)
 
   made : let t = counts M s in counts N s ≡ tally_of (t.v + length ps) (t.e + length ps) (t.f + 2) t.r
   unfolding taken_in
@@ -172,17 +162,8 @@ as_corners M f d ps sound goes plain is = grind (arith, ints, append-nil, as_man
 pub block_model_counts : (M : Model) (s : ℕ) (p : Point) (dx dy dz : ℤ) → Sound M → block_refusal M s p dx dy dz ≡ None → counts (block_model M s p dx dy dz) s ≡ record { v = 8; e = 12; f = 6; r = 0; sum = pos 2 }
 unfolding block_model
 block_model_counts M s p dx dy dz sound goes =
-    let ps = base_of p dx dy in
-    let base = lamina_model M s ps in
-    let f = lamina_face M in
-    let fits = blocks_have_bases M s p dx dy dz goes in
-    let rises = bases_rise M s p dx dy dz sound goes in
-    let firm = lamina_is_sound M s ps sound fits in
-    let face = (lamina_faces M s ps sound fits).0 in
-    let four : length (boundary base f) ≡ 4 = as_corners base f (up_by dz) ps firm rises face.plain face.points in
-    subst (λ u. counts (prism_model base f (up_by dz)) u ≡ with_more (counts base u) (length (boundary base f)) (2 * length (boundary base f)) (length (boundary base f))) face.solid (model_adds_counts base f (up_by dz) firm rises)
-    ∙ ap (λ n. with_more (counts base s) n (2 * n) n) four
-    ∙ ap (λ t. with_more t 4 8 4) (model_counts M s ps sound fits)
+    let one = blocks_have_bases M s p dx dy dz goes in
+    grind (arith, one, bases_rise M s p dx dy dz sound goes, lamina_is_sound M s, lamina_faces M s, as_corners, model_adds_counts, model_counts M s)
 
 pub block_counts : BlockCounts
 block_counts before after s p dx dy dz sound made = ap (λ m. counts (held m) s) made.1 ∙ block_model_counts (held before) s p dx dy dz sound made.0

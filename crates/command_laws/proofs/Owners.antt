@@ -8,8 +8,8 @@ use Rattle.euler_operators.specs.Items.{count, IsIn, IsApart}
 use Rattle.euler_operators.specs.HalfEdge.{edge_of, plus}
 use Rattle.euler_operators.specs.Table as table
 use Rattle.euler_operators.specs.Table.{Table, all_in}
-use Rattle.euler_operators.specs.Model.{Model, LoopContent, FaceRow, LoopRow, lone, cycle, items_of, holds, content, face_of, loop_of, solid_of, tail, rings_of, faces_of}
-use Rattle.euler_operators.specs.Sound.{Sound, Has, HasHalf, StandsIn}
+use Rattle.euler_operators.specs.Model.{Model, LoopContent, FaceRow, LoopRow, lone, cycle, items_of, content, face_of, loop_of, solid_of, tail, rings_of, faces_of}
+use Rattle.euler_operators.specs.Sound.{Sound, Has, HasHalf}
 use Rattle.euler_operators.specs.Conditions.{face_at, lists}
 use Rattle.euler_operators.proofs.Lists.{count-append, tick_same, tick_other, IsIn_or_not}
 use Rattle.euler_operators.proofs.Members.{IsIn-map, same_length}
@@ -58,8 +58,8 @@ module _ {X : Type 0} (a b : ℕ → Bool) where
   -- where what doesn't pass stays, as many more pass as there are rows more
   balanced : (t u : Table X) → ((k : ℕ) → Has t k → a k ≡ false → Has u k × (b k ≡ false)) → ((k : ℕ) → Has u k → b k ≡ false → Has t k × (a k ≡ false)) → many b u + size t ≡ many a t + size u
   balanced t u there back =
-      let rest : many (λ k. not (a k)) t ≡ many (λ k. not (b k)) u = same_length (table.all_where (λ k _. not (a k)) t) (table.all_where (λ k _. not (b k)) u)
-      (λ k. count-all_where (λ k _. not (a k)) t k ∙ same_left k (table.get t k) (table.get u k) (there k) (back k) ∙ sym (count-all_where (λ k _. not (b k)) u k)) in
+      let rest : many (λ k. not (a k)) t ≡ many (λ k. not (b k)) u =
+      grind (arith, same_length, table.all_where, count-all_where, same_left, table.get t, table.get u, there) in
       omega (arith, size_parts (λ k _. a k) t, size_parts (λ k _. b k) u, rest)
 
 -- whether a solid is solid s
@@ -125,17 +125,14 @@ corners_are M (f ∷ fs) = ap (λ vs. vertices_in M (loops_of M f) ++ vs) (corne
 -- a vertex on some loops is on one of them
 pub on_one : (M : Model) (ls : List ℕ) (v : ℕ) → IsIn v (vertices_in M ls) → (l : ℕ) × IsIn l ls × IsIn v (vertices_on M (content M l))
 on_one M [] v i = absurd (omega arith)
-on_one M (l ∷ ls) v i = elim (IsIn_or_not v (vertices_on M (content M l))) [
-  | inl j ↦ (l, omega (arith, tick_same l), j)
-  | inr n ↦ let r = on_one M ls v (omega (arith, i, n, count-append v (vertices_on M (content M l)) (vertices_in M ls))) in (r.0, omega (arith, r.1), r.2)
-]
+on_one M (l ∷ ls) v i =
+    let one = count-append v (vertices_on M (content M l)) (vertices_in M ls) in
+    grind (arith, IsIn_or_not v (vertices_on M (content M l)), tick_same l, on_one M ls v, one)
 
 on_some : (M : Model) (ls : List ℕ) (l v : ℕ) → IsIn l ls → IsIn v (vertices_on M (content M l)) → IsIn v (vertices_in M ls)
 on_some M [] l v i j = absurd (omega arith)
-on_some M (k ∷ ls) l v i j = elim (eqb_tells l k) [
-  | inl e ↦ omega (arith, count-append v (vertices_on M (content M k)) (vertices_in M ls), j, ap (λ m. count v (vertices_on M (content M m))) e.1)
-  | inr n ↦ omega (arith, count-append v (vertices_on M (content M k)) (vertices_in M ls), on_some M ls l v (omega (arith, i, tick_other l k n.1)) j)
-]
+on_some M (k ∷ ls) l v i j =
+    grind (arith, eqb_tells l k, count-append v (vertices_on M (content M k)) (vertices_in M ls), on_some M ls l v, tick_other l k)
 
 -- vertex v is on a loop of solid s
 pub record OnSolid (M : Model) (s v : ℕ) : Type 0 where
@@ -206,9 +203,8 @@ module _ (M : Model) (sound : Sound M) where
 
     corner_on : (v : ℕ) → lists corners_of v ≡ true → OnSolid M s v
     corner_on v i =
-        let w = on_one M (solid_loops M sound s) v (omega (arith, ap (count v) (corners_are M (faces_of M s)), IsIn-from_listed v corners_of i)) in
-        let l = loop_in_solid M sound s w.0 w.1 in
-        record { loop = w.0; there = l.0; solid = l.1; on = w.2 }
+        let one = on_one M (solid_loops M sound s) v in
+        grind (arith, one, solid_loops M sound s, corners_are M (faces_of M s), IsIn-from_listed v corners_of i, loop_in_solid M sound s)
 
     on_corner : (v : ℕ) → OnSolid M s v → lists corners_of v ≡ true
     on_corner v w = listed-from_in v corners_of (omega (arith, ap (count v) (corners_are M (faces_of M s)), on_some M (solid_loops M sound s) w.loop v (solid_has_loop M sound s w.loop w.there w.solid) w.on))
@@ -263,29 +259,15 @@ module _ (M N : Model) (a b : ℕ → Bool) (w : Agree M N a b) where
 
   pub half_kept : (h : ℕ) → HasHalf M h → a (solid_of_half M h) ≡ false → HasHalf N h × (b (solid_of_half N h) ≡ false) × (loop_of N h ≡ loop_of M h) × (tail N h ≡ tail M h)
   half_kept h there out =
-      let l = loop_kept (loop_of M h) (loop_there M w.before h there) out in
-      let row = w.edges h there out in
-      let at : loop_of N h ≡ loop_of M h = w.after.one_loop h (loop_of M h) (ap (holds h) l.2 ∙ w.before.stands h there) in
-      (ap is_some row ∙ there, ap (λ q. b (solid_of_loop N q)) at ∙ l.1, at, same_tail M N h row)
+      let one = loop_kept (loop_of M h) (loop_there M w.before h there) out in let two = w.after.one_loop h (loop_of M h) in
+      grind (arith, one, loop_there M w.before h there, w.before, w.edges h there out, two, w.before.stands h there, there, same_tail M N h)
 
   -- so the models agree the other way round too
   pub turned : Agree N M b a
-  turned = record {
-    before = w.after;
-    after = w.before;
-    faces = λ k there out. let r = w.faces_back k there out in (sym r.0, r.1);
-    faces_back = λ k there out. let r = w.faces k there out in (sym r.0, r.1);
-    loops = λ l there out. sym (w.loops_back l there out);
-    loops_back = λ l there out. sym (w.loops l there out);
-    edges = λ h there out.
-        let l = loop_of N h in
-        let k = face_of N l in
-        let has = loop_there N w.after h there in
-        let row = w.loops_back l has out in
-        let f = w.faces_back k (w.after.loops_of_faces l has) out in
-        let stands : StandsIn M h l = ap (holds h) (sym (same_content M N l row)) ∙ w.after.stands h there in
-        sym (w.edges h (w.before.only_edges h l stands) (ap (λ q. a (solid_of_loop M q)) (w.before.one_loop h l stands) ∙ ap (λ q. a (solid_of M q)) (sym (same_face M N l row)) ∙ ap a (sym (same_solid M N k f.0)) ∙ f.1));
-  }
+  turned =
+      let one = loop_there N w.after in let two = same_content M N in let three = same_solid M N in let four = same_face M N in
+      let five = w.after.loops_of_faces in let six = w.before.only_edges in
+      grind (arith, w.after, w.before, w.faces_back, w.faces, w.loops_back, w.loops, one, five, two, w.after.stands, w.edges, six, w.before.one_loop, four, three)
 
 module _ (M N : Model) (a b : ℕ → Bool) (w : Agree M N a b) where
   edge_kept : (e : ℕ) → Has M.edges e → a (solid_of_edge M e) ≡ false → Has N.edges e × (b (solid_of_edge N e) ≡ false)
@@ -295,9 +277,8 @@ module _ (M N : Model) (a b : ℕ → Bool) (w : Agree M N a b) where
   on_kept v l there out on = elim (vertex_cases M l v on) [
     | inl is ↦ subst (λ c. IsIn v (vertices_on N c)) (sym ((loop_kept M N a b w l there out).2 ∙ is)) (IsIn_head v [])
     | inr h ↦
-        let at = item_loop M w.before l h.0 h.1 in
-        let k = half_kept M N a b w h.0 (item_there M w.before l h.0 h.1) (ap (λ q. a (solid_of_loop M q)) at ∙ out) in
-        subst (λ u. IsOn N u l) (k.3 ∙ h.2) (subst (IsOn N (tail N h.0)) (k.2 ∙ at) (half_is_on N w.after h.0 k.0))
+        let known = item_there M w.before l h.0 h.1 in
+        grind (arith, item_loop M w.before l h.0 h.1, w.before, half_kept M N a b w h.0 known, known, half_is_on N w.after h.0, w.after)
   ]
 
   vertex_kept : (v : ℕ) → Has M.vertices v → a (solid_of_vertex M v) ≡ false → Has N.vertices v × (b (solid_of_vertex N v) ≡ false)
@@ -337,15 +318,7 @@ module _ (M N : Model) (a b : ℕ → Bool) (w : Agree M N a b) (u : ℕ) (out :
   of_u v o = eqb-true v u (not-false (is_of u v) o)
 
   within : Agree M N (all_but u) (all_but u)
-  within = record {
-    before = w.before;
-    after = w.after;
-    faces = λ k there o. ((w.faces k there (ap a (of_u (solid_of M k) o) ∙ out)).0, o);
-    faces_back = λ k there o. ((w.faces_back k there (ap b (of_u (solid_of N k) o) ∙ off)).0, o);
-    loops = λ l there o. w.loops l there (ap a (of_u (solid_of_loop M l) o) ∙ out);
-    loops_back = λ l there o. w.loops_back l there (ap b (of_u (solid_of_loop N l) o) ∙ off);
-    edges = λ h there o. w.edges h there (ap a (of_u (solid_of_half M h) o) ∙ out);
-  }
+  within = grind (arith, w.before, w.after, w.faces, of_u, w.faces_back, w.loops, w.loops_back, w.edges)
 
   same_many : {X : Type 0} (t v : Table X) (p q : ℕ → ℕ) → many (λ k. all_but u (q k)) v + size t ≡ many (λ k. all_but u (p k)) t + size v → many (λ k. is_of u (q k)) v ≡ many (λ k. is_of u (p k)) t
   same_many t v p q e = omega (arith, e, size_parts (λ k _. is_of u (p k)) t, size_parts (λ k _. is_of u (q k)) v)
@@ -368,30 +341,14 @@ module _ (M N : Model) (a b : ℕ → Bool) (w : Agree M N a b) (u : ℕ) (out :
 -- ---- one change after another
 
 pub agree_none : (M : Model) (a : ℕ → Bool) → Sound M → Agree M M a a
-agree_none M a sound = record {
-  before = sound;
-  after = sound;
-  faces = λ k there out. (refl, out);
-  faces_back = λ k there out. (refl, out);
-  loops = λ l there out. refl;
-  loops_back = λ l there out. refl;
-  edges = λ h there out. refl;
-}
+agree_none M a sound = grind (arith)
 
 pub agree_on : (M N P : Model) (a b c : ℕ → Bool) → Agree M N a b → Agree N P b c → Agree M P a c
 agree_on M N P a b c v w = record {
   before = v.before;
   after = w.after;
-  faces = λ k there out.
-      let x = v.faces k there out in
-      let same = same_solid M N k x.0 in
-      let y = w.faces k (ap is_some x.0 ∙ there) (ap b same ∙ x.1) in
-      (y.0 ∙ x.0, ap c (sym same) ∙ y.1);
-  faces_back = λ k there out.
-      let y = w.faces_back k there out in
-      let same = same_solid N P k y.0 in
-      let x = v.faces_back k (ap is_some (sym y.0) ∙ there) (ap b (sym same) ∙ y.1) in
-      (y.0 ∙ x.0, ap a same ∙ x.1);
+  faces = grind (arith, v.faces, same_solid M N, w.faces);
+  faces_back = grind (arith, w.faces_back, same_solid N P, v.faces_back);
   loops = λ l there out. let x = loop_kept M N a b v l there out in w.loops l x.0 x.1 ∙ v.loops l there out;
   loops_back = λ l there out. let y = loop_kept P N c b (turned N P b c w) l there out in w.loops_back l there out ∙ v.loops_back l y.0 y.1;
   edges = λ h there out. let x = half_kept M N a b v h there out in w.edges h x.0 x.1 ∙ v.edges h there out;

@@ -1,11 +1,10 @@
 -- A face whose loops, edges and vertices are left alone stands as it did.
 use Rattle.std.specs.Prelude.{map}
-use Rattle.std.proofs.Common.{◌≡◌, ◌≢◌, ℕ, Bool, cond, not, nat_eq, ◌&&◌, List, [], ◌∷◌, ◌++◌, Option, Some, None, is_some, refl, sym, ap, subst, ◌∙◌, arith, inl, inr, true≢false}
+use Rattle.std.proofs.Common.{◌≡◌, ◌≢◌, ℕ, Bool, cond, not, nat_eq, ◌&&◌, List, [], ◌∷◌, ◌++◌, Option, Some, None, refl, sym, ap, subst, ◌∙◌, arith}
 use Rattle.std.proofs.lemmas.List.{map-append}
-use Rattle.std.proofs.lemmas.Bool.{eqb-true, and_parts, ne_eqb}
+use Rattle.std.proofs.lemmas.Bool.{ne_eqb}
 use Rattle.euler_operators.specs.Vectors.{moved, cross}
 use Rattle.euler_operators.specs.Items.{IsIn}
-use Rattle.euler_operators.proofs.Lists.{tick_other}
 use Rattle.std.proofs.lemmas.Bool.Decides.{eqb_tells}
 use Rattle.euler_operators.proofs.Members.{IsIn_rest, IsIn-map}
 use Rattle.euler_operators.proofs.Rotations.{IsIn_head}
@@ -17,7 +16,7 @@ use Rattle.euler_operators.specs.Conditions.{face_at}
 use Rattle.euler_operators.proofs.Halves.{edge_of-mate}
 use Rattle.euler_operators.proofs.Models.{face_row, item_there, holds_in, same_content, same_outer, same_solid}
 use Rattle.euler_laws.proofs.shared.Fans.{half_after, loop_after}
-use Rattle.euler_laws.proofs.shared.Listed.{listed_passes, listed-from_in}
+use Rattle.euler_laws.proofs.shared.Listed.{listed-from_in}
 use Rattle.shapes.specs.Faces.{start, finish, items_in, loops_of, boundary, vertices_on, vertices_in, corners}
 use Rattle.shapes.specs.Measure.{area, normal, anchor, first_vertex, plane_through, plane_of}
 use Rattle.shapes.proofs.Areas.{area-append}
@@ -42,21 +41,11 @@ module _ (M N : Model) (k : ℕ) (row : table.get N.faces k ≡ table.get M.face
 
   each_loop : (l : ℕ) (o p : Option LoopRow) → table.get N.loops l ≡ o → table.get M.loops l ≡ p → passed (is_ring N) l o ≡ passed (is_ring M) l p
   each_loop l None None e f = refl
-  each_loop l (Some x) None e f = elim (eqb_tells x.face k) [
-    | inl s ↦ absurd (true≢false (ap is_some (sym e ∙ back l (ap is_some e) (face_row N l x e ∙ s.1) ∙ f)))
-    | inr s ↦ not_of N l x s.1
-  ]
-  each_loop l None (Some y) e f = elim (eqb_tells y.face k) [
-    | inl s ↦ absurd (true≢false (ap is_some (sym f ∙ sym (on l (ap is_some f) (face_row M l y f ∙ s.1)) ∙ e)))
-    | inr s ↦ sym (not_of M l y s.1)
-  ]
-  each_loop l (Some x) (Some y) e f = elim (eqb_tells y.face k) [
-    | inl s ↦ ap (passed (is_ring N) l) (sym e ∙ on l (ap is_some f) (face_row M l y f ∙ s.1) ∙ f) ∙ ap (λ o. cond (nat_eq y.face k && not (nat_eq o l)) 1 0) (same_outer M N k row)
-    | inr s ↦ elim (eqb_tells x.face k) [
-      | inl u ↦ ap (passed (is_ring N) l) (sym e ∙ back l (ap is_some e) (face_row N l x e ∙ u.1) ∙ f) ∙ ap (λ o. cond (nat_eq y.face k && not (nat_eq o l)) 1 0) (same_outer M N k row)
-      | inr u ↦ not_of N l x u.1 ∙ sym (not_of M l y s.1)
-    ]
-  ]
+  each_loop l (Some x) None e f = grind (arith, eqb_tells x.face k, face_row N l x e, not_of N l x)
+  each_loop l None (Some y) e f = grind (arith, eqb_tells y.face k, on l, face_row M l y f, not_of M l y)
+  each_loop l (Some x) (Some y) e f =
+      let one = passed (is_ring N) l in let two = same_outer M N k row in
+      grind (arith, eqb_tells y.face k, one, on l, face_row M l y f, two, eqb_tells x.face k, face_row N l x e, not_of N l x, not_of M l y)
 
   pub rings_same : rings_of N k ≡ rings_of M k
   rings_same = same_search (is_ring N) (is_ring M) N.loops M.loops (λ l. each_loop l (table.get N.loops l) (table.get M.loops l) refl refl)

@@ -1,6 +1,5 @@
 -- What a sweep adds to the counts of a solid.
 use Rattle.std.proofs.Common.{◌≡◌, ◌≢◌, ℕ, zero, suc, ◌+◌, ◌*◌, ◌≤◌, ◌<◌, false, List, [], ◌∷◌, length, None, is_some, refl, sym, ap, subst, ◌∙◌, arith, ◌⊎◌, inl, inr}
-use Rattle.std.specs.Prelude.{pos, ◌-ℤ◌}
 use Rattle.std.proofs.lemmas.Int.{ints}
 use Rattle.std.proofs.lemmas.Bool.Decides.{eqb_tells}
 use Rattle.std.proofs.lemmas.Bool.{eqb-false, ne_eqb}
@@ -8,19 +7,18 @@ use Rattle.std.proofs.lemmas.List.{length-append}
 use Rattle.euler_operators.specs.declared.Point.{Point}
 use Rattle.euler_operators.specs.Table as table
 use Rattle.euler_operators.specs.Table.{Table}
-use Rattle.euler_operators.specs.Model.{Model, items_of, content, face_of, solid_of, faces_of}
+use Rattle.euler_operators.specs.Model.{Model, items_of, content, face_of, solid_of}
 use Rattle.euler_operators.specs.Sound.{Sound, Has}
-use Rattle.euler_operators.specs.HalfEdge.{edge_of}
 use Rattle.euler_operators.proofs.Models.{content_row, face_row, solid_row, same_solid}
 use Rattle.euler_operators.proofs.Rotations.{IsIn_head}
 use Rattle.euler_operators.proofs.Tables.{get-put_here, get-put_other, in_use_within}
 use Rattle.euler_laws.specs.Laws.{effects, size}
 use Rattle.euler_laws.proofs.Sizes.{size-put_new, size-put_old}
-use Rattle.shapes.specs.Faces.{boundary, loops_of, items_in, vertices_of, edges_of}
+use Rattle.shapes.specs.Faces.{boundary, loops_of, items_in}
 use Rattle.shapes.specs.Fresh.{Taken, taken_in}
 use Rattle.shapes.specs.Prism.{riser, top_edge, top_items, with_side, with_sides, lifted, prism_from, prism_refusal, prism_model}
 use Rattle.solid_measure.specs.declared.solid_counts.Tally.{Tally}
-use Rattle.solid_measure.specs.solid_counts.Counts.{tally_of, counts, rings_in}
+use Rattle.solid_measure.specs.solid_counts.Counts.{tally_of, counts}
 use Rattle.sweeps_laws.specs.prism.Ready.{Ready}
 use Rattle.sweeps_laws.specs.prism.SweepOps.{loop_ops, taken_after}
 use Rattle.sweeps_laws.proofs.prism.Accepted.{begins}
@@ -43,26 +41,16 @@ with_more t v e f = record t { v = t.v + v; e = t.e + e; f = t.f + f }
 pub counted_more : (M N : Model) (s v e f : ℕ) → Agree M N (is_of s) (is_of s) → size N.vertices ≡ size M.vertices + v → size N.edges ≡ size M.edges + e → size N.faces ≡ size M.faces + f → size N.loops ≡ size M.loops + f →
     let t = counts M s in counts N s ≡ tally_of (t.v + v) (t.e + e) (t.f + f) t.r
 unfolding counts
-counted_more M N s v e f w vs es fs ls = λ i. tally_of (vertices i) (edges i) (faces i) (rings i) where
-  vertices : length (vertices_of N s) ≡ length (vertices_of M s) + v
-  vertices = omega (arith, vertices_many M w.before s, vertices_many N w.after s, more_vertices M N (is_of s) (is_of s) w, vs)
-
-  edges : length (edges_of N s) ≡ length (edges_of M s) + e
-  edges = omega (arith, more_edges M N (is_of s) (is_of s) w, es)
-
-  faces : length (faces_of N s) ≡ length (faces_of M s) + f
-  faces = omega (arith, faces_many M w.before s, faces_many N w.after s, more_faces M N (is_of s) (is_of s) w, fs)
-
-  rings : length (rings_in N (faces_of N s)) ≡ length (rings_in M (faces_of M s))
-  rings = omega (arith, loops_many M w.before s, loops_many N w.after s, more_loops M N (is_of s) (is_of s) w, ls, faces)
+counted_more M N s v e f w vs es fs ls =
+    let one = more_vertices M N (is_of s) (is_of s) w in let two = more_edges M N (is_of s) (is_of s) w in
+    let three = more_faces M N (is_of s) (is_of s) w in let four = more_loops M N (is_of s) (is_of s) w in let five = vertices_many M w.before s in
+    let six = vertices_many N w.after s in let seven = faces_many M w.before s in
+    grind (arith, five, w.before, six, w.after, one, two, seven, faces_many N w.after s, three, loops_many M w.before s, loops_many N w.after s, four)
 
 -- v - e + f - r is as it was
 evenly : (M : Model) (s n : ℕ) → let t = counts M s in tally_of (t.v + n) (t.e + 2 * n) (t.f + n) t.r ≡ with_more t n (2 * n) n
 unfolding counts
-evenly M s n = ap (λ z. record { v = length (vertices_of M s) + n; e = length (edges_of M s) + 2 * n; f = length (faces_of M s) + n; r = length (rings_in M (faces_of M s)); sum = z })
-    (balance (length (vertices_of M s)) (length (edges_of M s)) (length (faces_of M s)) (length (rings_in M (faces_of M s)))) where
-      balance : (v e f r : ℕ) → pos (v + n + (f + n)) -ℤ pos (e + 2 * n + r) ≡ pos (v + f) -ℤ pos (e + r)
-      balance v e f r = omega (arith, ints)
+evenly M s n = grind (arith, ints)
 
 -- rows put one after the other
 less_apart : (j n : ℕ) → j < n → j ≢ n
@@ -171,15 +159,8 @@ module _ {M : Model} {c : Taken} {f l : ℕ} {d : Point} {hs : List ℕ} (w : Re
       ∙ ap (λ k. k + 1) (size-put_new (S n).edges r _ free_r) ∙ two_more (size (S n).edges) (size M.edges) n (size_edges n (omega (arith, m)))
 
   pub agree : Sound N → Agree M N (is_of s) (is_of s)
-  agree after = record {
-    before = w.sound;
-    after = after;
-    faces = λ k there out. (face_kept k there, out);
-    faces_back = λ k there out. elim (face_cases k there) [ inl e ↦ (e, out) | inr e ↦ absurd (eqb-false (solid_of N k) s out e) ];
-    loops = λ q there out. loop_kept q (λ e. eqb-false (solid_of_loop M q) s out (ap (solid_of_loop M) e ∙ ap (solid_of M) (face_row M l _ w.at))) there;
-    loops_back = λ q there out. elim (loop_cases q there) [ inl e ↦ e | inr e ↦ absurd (eqb-false (solid_of_loop N q) s out e) ];
-    edges = λ h there out. old_edge M c f l d hs w (length hs) (edge_of h) there;
-  }
+  agree after =
+      grind (arith, w.sound, after, face_kept, face_cases, eqb-false, loop_kept, face_row M l, w.at, loop_cases, old_edge M c f l d hs w (length hs))
 
   pub step : (after : Sound N) → counts N s ≡ with_more (counts M s) (length hs) (2 * length hs) (length hs)
   step after = counted_more M N s (length hs) (2 * length hs) (length hs) (agree after) (size_vertices (length hs)) (size_edges (length hs) (omega arith)) (size_faces (length hs)) lifted_size ∙ evenly M s (length hs)

@@ -11,7 +11,7 @@ use Rattle.shapes.specs.Fresh.{growing}
 use Rattle.shapes.specs.Prism.{prism_refusal, prism_model, prism_from, next_place}
 use Rattle.sweeps_laws.proofs.swept.Lifted.{IsPathOf}
 use Rattle.undo_journal.specs.Machine.{held}
-use Rattle.command_laws.specs.NewFaces.{corner_points, nth, all_moved, side_over, last_face, IsFaceOf, SweptFaceIsFar, SidesStand}
+use Rattle.command_laws.specs.NewFaces.{corner_points, nth, all_moved, side_over, IsFaceOf, SweptFaceIsFar, SidesStand}
 use Rattle.command_laws.specs.RingedFaces.{loop_points}
 use Rattle.command_laws.proofs.Outlines.{points_are, plane_is}
 use Rattle.command_laws.proofs.Standing.{faces_stand}
@@ -64,9 +64,7 @@ model_other M f d sound goes k s ps ne was = faces_stand M (prism_model M f d) k
 -- ---- the laws
 
 pub swept_face_is_far : SweptFaceIsFar
-swept_face_is_far before after f d sound made plain =
-    subst (λ N. IsFaceOf N f (solid_of (held before) f) (all_moved d (corner_points (held before) f))) (sym (ap held made.1)) (model_far (held before) f d sound made.0 plain)
+swept_face_is_far before after f d sound made plain = grind (arith, held before, made, model_far (held before) f d sound made.0 plain)
 
 pub sides_stand : SidesStand
-sides_stand before after f d i sound made plain l = let ps = corner_points (held before) f in
-    subst (λ N. IsFaceOf N (last_face before + 1 + i) (solid_of (held before) f) (side_over d (nth ps i) (nth ps (next_place (length ps) i)))) (sym (ap held made.1)) (model_sides (held before) f d sound made.0 plain i l)
+sides_stand before after f d i sound made plain l = grind (arith, held before, made, model_sides (held before) f d sound made.0 plain i l)

@@ -111,9 +111,7 @@ module _ (f s : ℕ) (d : Point) where
 
   -- a face more for each corner
   pub taken_all : (M : Model) (ls : List ℕ) (g : Growing) → Ready f s g ls → ((q : ℕ) → IsIn q ls → content g.model q ≡ content M q) → (prism_from f d g ls).taken.face ≡ g.taken.face + length (vertices_in M ls)
-  taken_all M [] g w same = none g.taken.face where
-    none : (n : ℕ) → n ≡ n + 0
-    none n = omega arith
+  taken_all M [] g w same = grind (arith)
   taken_all M (l ∷ ls) g w same =
       let n = length (items d w) in
       ap (λ x. (prism_from f d x ls).taken.face) (raised_is d w)

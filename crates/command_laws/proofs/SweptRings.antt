@@ -234,9 +234,8 @@ ringed_face_is_far before after f d sound made =
     subst (λ N. IsFarFace (held before) N f d) (sym (ap held made.1 ∙ prism_is (held before) f d sound made.0)) (far_face (held before) f d sound made.0)
 
 pub ringed_sides_stand : RingedSidesStand
-ringed_sides_stand before after f d ls rs l i sound made parts m = let ps = loop_points (held before) l in
-    subst (λ N. IsFaceOf N (last_face before + corner_count (held before) ls + 1 + i) (solid_of (held before) f) (side_over d (nth ps i) (nth ps (next_place (length ps) i))))
-    (sym (ap held made.1 ∙ prism_is (held before) f d sound made.0)) (side_at (held before) f d sound made.0 ls rs l parts i m)
+ringed_sides_stand before after f d ls rs l i sound made parts m =
+    grind (arith, held before, made, prism_is (held before) f d sound made.0, side_at (held before) f d sound made.0 ls rs l parts i m)
 
 pub sweep_takes_faces : SweepTakesFaces
 sweep_takes_faces before after f d sound made = ap last_face made.1 ∙ ap (λ (N : Model). table.greatest N.faces) (prism_is (held before) f d sound made.0) ∙ all_counted (held before) f d sound made.0
