@@ -1,6 +1,6 @@
 -- The caps once a solid is opened along all cycles of its section: their numbers, their corners, and their normals.
 use Rattle.std.specs.Prelude.{pos, int_lt, filter}
-use Rattle.std.proofs.Common.{◌≡◌, ℕ, zero, suc, ◌+◌, ◌<◌, true, List, [], ◌∷◌, ◌++◌, length, map, get_or, refl, sym, ap, subst, ◌∙◌, arith, ◌≢◌, ◌≤◌, ℤ, ◌+ℤ◌, Bool, false, cond, nat_eq, inl, inr}
+use Rattle.std.proofs.Common.{◌≡◌, ℕ, zero, suc, ◌+◌, ◌<◌, true, List, [], ◌∷◌, ◌++◌, length, map, get_or, refl, sym, ap, subst, ◌∙◌, arith, ◌≢◌, ◌≤◌, ℤ, ◌+ℤ◌, Bool, false, cond, nat_eq}
 use Rattle.std.proofs.lemmas.Int.{ints}
 use Rattle.std.proofs.lemmas.List.{append_assoc, append-nil, map-append}
 use Rattle.std.proofs.lemmas.Bool.Decides.{eqb_tells}
@@ -196,17 +196,9 @@ module _ (A : Model) (p : Plane) (q : ℕ × ℕ) (w : CanTake A p q.0 q.1) wher
   same_taken x (r ∷ rs) c = λ i. cond (nat_eq r.0 x) (moved (taken.normal_same A p q.0 q.1 w r.1 c.2 c.1 i) (same_taken x rs c.3 i)) (same_taken x rs c.3 i)
 
   sums_on : (x : ℕ) (t : Point) (rs : List (ℕ × ℕ)) → ClearOf q.0 q.1 rs → Sums x t (q ∷ rs) A → Sums x t rs B
-  sums_on x t rs c s = record {
-    never = s.never.1;
-    sum = elim (eqb_tells q.0 x) [
-      | inl e ↦
-          let taken_one : normal B x ≡ moved (normal A q.1) (normal A x) = ap (normal B) (sym e.1) ∙ taken.normal_f A p q.0 q.1 w ∙ ap (λ k. moved (normal A q.1) (normal A k)) e.1 in
-          (λ i. moved (same_taken x rs c i) (taken_one i)) ∙ moved_on (taken_by A x rs) (normal A q.1) (normal A x)
-          ∙ sym (ap (λ b. moved (cond b (moved (normal A q.1) (taken_by A x rs)) (taken_by A x rs)) (normal A x)) e.0) ∙ s.sum
-      | inr e ↦ (λ i. moved (same_taken x rs c i) (taken.normal_same A p q.0 q.1 w x (λ z. e.1 (sym z)) s.never.0 i))
-          ∙ sym (ap (λ b. moved (cond b (moved (normal A q.1) (taken_by A x rs)) (taken_by A x rs)) (normal A x)) e.0) ∙ s.sum
-    ];
-  }
+  sums_on x t rs c s =
+      let one = moved_on (taken_by A x rs) (normal A q.1) (normal A x) in
+      grind (arith, s.never, eqb_tells q.0 x, taken.normal_f A p q.0 q.1 w, same_taken x rs c, one, s.sum, taken.normal_same A p q.0 q.1 w x)
 
 never_taken : (x : ℕ) (o : Caps) (hs : List Caps) → count x (cap_faces hs) ≡ 0 → IsNeverTaken x (closing o hs)
 never_taken x o [] z = tt
@@ -237,18 +229,12 @@ counted_holes (k ∷ ks) zero l e = omega (arith, ap (λ b. length (cond b (k �
     go : (b : Bool) → length (filter (λ k. k.hole) ks) ≤ length ks → length (cond b (k ∷ filter (λ k. k.hole) ks) (filter (λ k. k.hole) ks)) ≤ suc (length ks)
     go true r = omega (arith, r)
     go false r = omega (arith, r)
-counted_holes (k ∷ ks) (suc i) l e = go k.hole (counted_holes ks i (omega (arith, l)) e) where
-  go : (b : Bool) → length (filter (λ k. k.hole) ks) < length ks → length (cond b (k ∷ filter (λ k. k.hole) ks) (filter (λ k. k.hole) ks)) < suc (length ks)
-  go true r = omega (arith, r)
-  go false r = omega (arith, r)
+counted_holes (k ∷ ks) (suc i) l e = grind (arith, counted_holes ks i)
 
 pub outer_is : (ks : List Caps) (i : ℕ) → i < length ks → (get_or ks i no_caps).hole ≡ false → length ks ≡ length (filter (λ k. k.hole) ks) + 1 → outer_caps ks ≡ get_or ks i no_caps
 outer_is [] i l e one = absurd (omega (arith, l))
 outer_is (k ∷ ks) zero l e one = ap (λ b. cond b (outer_caps ks) k) e
-outer_is (k ∷ ks) (suc i) l e one = go (outer_is ks i (omega (arith, l)) e) k.hole refl one where
-  go : (length ks ≡ length (filter (λ k. k.hole) ks) + 1 → outer_caps ks ≡ get_or ks i no_caps) → (b : Bool) → k.hole ≡ b → suc (length ks) ≡ length (cond b (k ∷ filter (λ k. k.hole) ks) (filter (λ k. k.hole) ks)) + 1 → outer_caps (k ∷ ks) ≡ get_or ks i no_caps
-  go later true is n = ap (λ b. cond b (outer_caps ks) k) is ∙ later (omega (arith, n))
-  go later false is n = absurd (omega (arith, n, counted_holes ks i (omega (arith, l)) e))
+outer_is (k ∷ ks) (suc i) l e one = grind (arith, outer_is ks i, counted_holes ks i)
 
 -- ---- opposite vectors
 

@@ -1,12 +1,12 @@
 -- The caps once the holes are closed and the upper faces parted from the solid.
-use Rattle.std.proofs.Common.{◌≡◌, ◌≢◌, ℕ, zero, suc, ◌+◌, ◌<◌, ◌≤◌, Bool, true, false, cond, List, [], ◌∷◌, length, map, get_or, Some, is_some, refl, sym, ap, subst, ◌∙◌, arith, true≢false, inl, inr}
+use Rattle.std.proofs.Common.{◌≡◌, ◌≢◌, ℕ, zero, suc, ◌+◌, ◌<◌, ◌≤◌, Bool, true, false, cond, List, [], ◌∷◌, length, map, get_or, Some, is_some, refl, sym, ap, subst, ◌∙◌, arith, true≢false}
 use Rattle.std.specs.Prelude.{filter, pos, int_lt}
 use Rattle.std.specs.Option.{option_map}
 use Rattle.std.proofs.lemmas.Bool.Decides.{eqb_tells}
 use Rattle.std.proofs.lemmas.Bool.{false_from_ne_true}
 use Rattle.euler_operators.specs.declared.Plane.{Plane}
 use Rattle.euler_operators.specs.declared.Point.{Point}
-use Rattle.euler_operators.specs.Items.{count, IsIn, tick}
+use Rattle.euler_operators.specs.Items.{count, tick}
 use Rattle.euler_operators.specs.Vectors.{cross, direction, dot, is_on, moved, origin}
 use Rattle.euler_operators.specs.Table as table
 use Rattle.euler_operators.specs.Model.{Model, FaceRow, LoopContent, content, cycle, face_of, lone, outer, point_of, solid_of, tail}
@@ -68,22 +68,17 @@ module _ (M : Model) (p : Plane) (k f g : ℕ) (w : CanTake M p f g) where
 
   still_on : LiesOn M p k → LiesOn N p k
   still_on on l there of v i =
-      let had = sym (taken.loop_there M p f g w l) ∙ there in
-      let was : IsIn v (vertices_on M (content M l)) = subst (IsIn v) (kept_on M f g (content N l) ∙ ap (vertices_on M) (taken.content_same M p f g w l)) i in
-      ap (is_on p) (kept_point M f g v) ∙ elim (eqb_tells l (outer M g)) [
-        | inl e ↦ outer_on M p g w.g_along v (subst (λ q. IsIn v (vertices_on M (content M q))) e.1 was)
-        | inr e ↦ on l had (sym (taken.face_else M p f g w l had e.1) ∙ of) v was
-      ]
+      let one = taken.content_same M p f g w l in let two = taken.loop_there M p f g w l in let three = kept_on M f g (content N l) in
+      let four = taken.face_else M p f g w l in
+      grind (arith, two, three, one, kept_point M f g v, eqb_tells l (outer M g), outer_on M p g w.g_along v, w.g_along, on l, four)
 
   both_along : (a b : Point) → cross (direction p) a ≡ origin → cross (direction p) b ≡ origin → cross (direction p) (moved a b) ≡ origin
   both_along a b x y = cross_moved (direction p) a b ∙ (λ i. moved (x i) (y i))
 
   still_along : k ≢ g → cross (direction p) (normal M k) ≡ origin → cross (direction p) (normal N k) ≡ origin
-  still_along ne along = elim (eqb_tells k f) [
-    | inl e ↦ ap (λ j. cross (direction p) (normal N j)) e.1 ∙ ap (cross (direction p)) (taken.normal_f M p f g w)
-        ∙ both_along (normal M g) (normal M f) w.g_along.across (ap (λ j. cross (direction p) (normal M j)) (sym e.1) ∙ along)
-    | inr e ↦ ap (cross (direction p)) (taken.normal_same M p f g w k e.1 ne) ∙ along
-  ]
+  still_along ne along =
+      let one = both_along (normal M g) (normal M f) w.g_along.across in
+      grind (arith, eqb_tells k f, taken.normal_f M p f g w, one, w.g_along.across, along, taken.normal_same M p f g w k)
 
   still_stands : Stands p k M → Stands p k N
   still_stands was there =
@@ -198,10 +193,7 @@ module _ (d : Drawing) (above : List ℕ) (s : ℕ) (p : Plane) (t : ℕ) (w : C
 
     part_on : (f : ℕ) → LiesOn K p f → LiesOn P p f
     unfolding part face_of content point_of tail
-    part_on f on q there of v j = on q there of v (kept_vertices (content K q) j) where
-      kept_vertices : (c : LoopContent) → IsIn v (vertices_on P c) → IsIn v (vertices_on K c)
-      kept_vertices (lone u) j = j
-      kept_vertices (cycle hs) j = j
+    part_on f on q there of v j = grind (arith, on q there of v)
 
     part_row : (f : ℕ) (row : FaceRow) → table.get K.faces f ≡ Some row → table.get P.faces f ≡ Some (split.go K s t us f row)
     part_row f row e = split.row_is K s t us f ∙ ap (option_map (split.go K s t us f)) e
@@ -224,10 +216,9 @@ module _ (d : Drawing) (above : List ℕ) (s : ℕ) (p : Plane) (t : ℕ) (w : C
         }
 
     pub both_caps : Sound P → k.hole ≡ false → IsCapOf P p s k.lower × IsCapOf P p t k.upper
-    both_caps sound e = (
-      one_cap sound k.lower false e (omega (arith, tick_same k.lower)) plain.0 along.0 level.0,
-      one_cap sound k.upper true e (omega (arith, tick_same k.upper)) plain.1 along.1 level.1,
-    )
+    both_caps sound e =
+        let one = one_cap sound k.lower false e in
+        grind (arith, one, k.lower, tick_same k.lower, plain, along, level, one_cap sound k.upper true e, k.upper, tick_same k.upper)
 
     pub both_gone : k.hole ≡ true → (table.has P.faces k.lower ≡ false) × (table.has P.faces k.upper ≡ false)
     both_gone e = (gone e k.lower (omega (arith, tick_same k.lower)), gone e k.upper (omega (arith, tick_same k.upper)))
