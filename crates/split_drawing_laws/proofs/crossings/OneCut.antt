@@ -5,7 +5,7 @@ use Rattle.std.specs.Ordering.{nat_cmp}
 use Rattle.std.specs.FinMap.Entries.{find}
 use Rattle.std.proofs.Common.{◌≡◌, ℕ, ◌+◌, ◌≤◌, false, cond, nat_eq, List, [], ◌∷◌, ◌++◌, refl, sym, ap, ◌∙◌, arith, ◌≢◌, suc, ◌*◌, true, length, Option, Some, None, is_some, true≢false}
 use Rattle.std.proofs.lemmas.Bool.Decides.{nat_tests}
-use Rattle.euler_operators.specs.Items.{count, tick, IsIn, IsApart, head_or}
+use Rattle.euler_operators.specs.Items.{count, tick, IsIn, IsApart}
 use Rattle.euler_operators.specs.Rings.{rotate_to, canonical, rest, successor}
 use Rattle.euler_operators.specs.Edits.{insert_before, insert_after}
 use Rattle.euler_operators.specs.HalfEdge.{plus, minus, edge_of}
@@ -54,16 +54,13 @@ module _ (e k : ℕ) where
   doubled_minus (h ∷ hs) a b =
       grind (arith, tick_is, absent, nat_eq_turned, doubled_none, doubled_other, doubled_minus hs (omega arith) (omega arith))
 
-rotated_head : (m : ℕ) (r : List ℕ) → rotate_to (head_or m r) (r ++ m ∷ []) ≡ r ++ m ∷ []
-rotated_head m r = grind (arith, rotate_to_head)
-
 -- the ring from the item after m on
 from_next : (m : ℕ) (xs : List ℕ) → IsApart xs → IsIn m xs → rotate_to (successor xs m) xs ≡ rest m xs ++ m ∷ []
 from_next m xs apart there =
     rotate_to_same (successor xs m) xs (rest m xs ++ m ∷ [])
     (IsRotation-trans xs (m ∷ rest m xs) (rest m xs ++ m ∷ []) apart (rotation_at m xs there) (record { front = m ∷ []; back = rest m xs; here = refl; there = refl }))
     apart (IsIn_successor m xs there)
-    ∙ rotated_head m (rest m xs)
+    ∙ grind (arith, rotate_to_head)
 
 -- put before the next item, or after this one: the same ring
 pub put_between : (m y : ℕ) (xs : List ℕ) → IsApart xs → IsIn m xs → count y xs ≡ 0 → canonical (insert_before (successor xs m) y xs) ≡ canonical (insert_after m y xs)

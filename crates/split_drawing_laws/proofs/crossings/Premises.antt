@@ -195,14 +195,8 @@ module _ (M : Model) (sound : Sound M) (s : ℕ) (p : Plane) where
       l_there : Has M.loops l
       l_there = ap is_some (held_row M (plus e) l (subst (λ q. StandsIn M (plus e) q) first (sound.stands (plus e) (plus_there M e e_there))))
 
-      of_solid : solid_of M (face_of M l) ≡ s
-      of_solid = ap (λ q. solid_of M (face_of M q)) (sym first) ∙ (edge_facts e i).1
-
       face_in : IsIn (face_of M l) (faces_of M s)
-      face_in = in_solid M (face_of M l) s (sound.loops_of_faces l l_there) of_solid
-
-      plus_corner : IsIn (tail M (plus e)) (corners M (face_of M l))
-      plus_corner = tail_in_face M (plus e) l l_there first_in
+      face_in = in_solid M (face_of M l) s (sound.loops_of_faces l l_there) (ap (λ q. solid_of M (face_of M q)) (sym first) ∙ (edge_facts e i).1)
 
       minus_corner : IsIn (tail M (minus e)) (corners M (face_of M l))
       minus_corner = tail_in_face M (minus e) l l_there second_in
@@ -212,7 +206,7 @@ module _ (M : Model) (sound : Sound M) (s : ℕ) (p : Plane) where
 
       face_straddles : straddles M p (face_of M l) ≡ true
       unfolding straddles
-      face_straddles = grind (arith, both_sides, plus_crosses, plus_corner, minus_corner, any_passes)
+      face_straddles = grind (arith, both_sides, plus_crosses, tail_in_face M (plus e) l l_there first_in, minus_corner, any_passes)
 
       places_meet : some_meet M p (places M p (face_of M l)) ≡ true
       unfolding places

@@ -149,19 +149,13 @@ module _ (M : Model) (p : Plane) (sound : Sound M) (g : Growing) (ds : List ℕ)
   pub crossing_now : Crossing M p e
   crossing_now = w.crossing e (omega (arith, tick_same e))
 
-  edge_is : g.taken.edge ≡ table.greatest g.model.edges
-  unfolding taken_in
-  edge_is = ap (λ c. c.edge) w.counted
-
-  vertex_is : g.taken.vertex ≡ table.greatest g.model.vertices
-  unfolding taken_in
-  vertex_is = ap (λ c. c.vertex) w.counted
-
   edge_above : table.greatest g.model.edges < g.taken.edge + 1
-  edge_above = omega (arith, edge_is)
+  unfolding taken_in
+  edge_above = omega (arith, ap (λ c. c.edge) w.counted)
 
   vertex_above : table.greatest g.model.vertices < g.taken.vertex + 1
-  vertex_above = omega (arith, vertex_is)
+  unfolding taken_in
+  vertex_above = omega (arith, ap (λ c. c.vertex) w.counted)
 
   pub uncut_now : count e ds ≡ 0
   uncut_now = omega (arith, w.apart e, tick_same e)

@@ -62,12 +62,9 @@ module _ (M : Model) (e k v : ℕ) (q : Point) (goes : CutGoes M e k v q) where
   next_starts : tail M (after M (minus e)) ≡ tail M (plus e)
   next_starts = goes.can.sound.ends_meet (minus e) (minus_there M e goes.can.there) ∙ ap (tail M) (mate_minus e)
 
-  next_is_there : HasHalf M (after M (minus e))
-  unfolding after
-  next_is_there = next_half M e k v q goes.can
-
   pub mev_goes : MevGoes M (plus e) (after M (minus e)) (plus k) v q
-  mev_goes = grind (arith, plus_there, next_is_there, plus_row, next_starts)
+  unfolding after
+  mev_goes = grind (arith, plus_there, next_half M e k v q goes.can, plus_row, next_starts)
 
   pub cut_accepted : first_false M (Mev (At (half (plus e))) (At (half (after M (minus e)))) (half (plus k)) v q) ≡ None
   cut_accepted = grind (arith, mev_accepted, code-half, mev_goes)
@@ -111,31 +108,20 @@ module _ (M : Model) (e k v : ℕ) (q : Point) (goes : CutGoes M e k v q) where
     | inr a ↦ ap is_some (edge_other x a.1 (apart_new x there)) ∙ there
   ]
 
-  vertex_other : (w : ℕ) → w ≢ v → table.get (edge_cut M e k v q).vertices w ≡ table.get M.vertices w
-  unfolding edge_cut
-  vertex_other w a = get-put_other M.vertices v q w a
-
   pub point_new : point_of (edge_cut M e k v q) v ≡ q
   unfolding edge_cut point_of
   point_new = ap (λ o. unwrap_or o no_point) (get-put_here M.vertices v q)
 
-  same_solids : (edge_cut M e k v q).solids ≡ M.solids
-  unfolding edge_cut
-  same_solids = refl
-
-  same_faces : (edge_cut M e k v q).faces ≡ M.faces
-  unfolding edge_cut
-  same_faces = refl
-
   pub cut_keeps : Kept M (edge_cut M e k v q)
+  unfolding edge_cut
   cut_keeps = record {
-    solids = same_solids;
-    faces = same_faces;
+    solids = refl;
+    faces = refl;
     loops = loop-same M (edge_cut M e k v q) (rewritten (flat_map (doubled e k))) rewrites;
     face = face-same M (edge_cut M e k v q) (rewritten (flat_map (doubled e k))) rewrites;
     halves = λ h there. edge_stays (edge_of h) there;
     loop = loop_stays;
-    points = λ w there. vertex_other w (λ is. true≢false (sym there ∙ ap is_some (ap (table.get M.vertices) is ∙ goes.vertex_free)));
+    points = λ w there. get-put_other M.vertices v q w (λ is. true≢false (sym there ∙ ap is_some (ap (table.get M.vertices) is ∙ goes.vertex_free)));
   }
 
   -- ---- where half-edges start then

@@ -83,9 +83,6 @@ module _ (M : Model) (s : ℕ) (p : Plane) (t : ℕ) (sound : Sound M) (accepted
   pub crossings_keep : Kept M (with_crossings M s p).model
   crossings_keep = crossings_cut.kept
 
-  pub is_cut : (e : ℕ) → IsIn e (crossing_edges M p s) → IsIn e gone.list
-  is_cut e i = omega (arith, i, gone.same e)
-
   pub not_cut : (e : ℕ) → count e (crossing_edges M p s) ≡ 0 → count e gone.list ≡ 0
   not_cut e z = omega (arith, z, gone.same e)
 
@@ -133,19 +130,16 @@ module _ (M : Model) (s : ℕ) (p : Plane) (t : ℕ) (sound : Sound M) (accepted
 
   -- an edge that crosses the plane: from its plus half the place is at that half, from its minus half at the next one
   module _ (e : ℕ) (i : IsIn e (crossing_edges M p s)) where
-    crossing : (crosses M p (plus e) ≡ true)
-    crossing = (crossing_here M sound s p can_cut e i).crossing
-
     e_there : Has M.edges e
     e_there = (crossing_here M sound s p can_cut e i).there
 
     plus_starts : start N (plus e) ≡ place_point M p (plus e)
-    plus_starts = crossings_cut.cut_starts e e_there (is_cut e i)
-        ∙ sym (crossing_point M sound s p can_cut e i (plus e) crossing)
+    plus_starts = crossings_cut.cut_starts e e_there (omega (arith, i, gone.same e))
+        ∙ sym (crossing_point M sound s p can_cut e i (plus e) (crossing_here M sound s p can_cut e i).crossing)
 
     pub plus_on : is_on p (start N (plus e)) ≡ true
     plus_on = level_on (height p (start N (plus e)))
-        (ap (height p) (crossings_cut.cut_starts e e_there (is_cut e i)) ∙ (crossing_here M sound s p can_cut e i).level)
+        (ap (height p) (crossings_cut.cut_starts e e_there (omega (arith, i, gone.same e))) ∙ (crossing_here M sound s p can_cut e i).level)
 
     at_plus : AtPlace M N p (plus e)
     at_plus = at_itself (plus e) (plus_there M e e_there) plus_starts plus_on
@@ -170,12 +164,10 @@ module _ (M : Model) (s : ℕ) (p : Plane) (t : ℕ) (sound : Sound M) (accepted
   stays_plus : (e : ℕ) → Has M.edges e → crosses M p (plus e) ≡ false → start N (plus e) ≡ start M (plus e)
   stays_plus e there off = grind (arith, start_plus, IsIn_or_not, filter_passes)
 
-  on_place : (h : ℕ) → is_on p (start M h) ≡ true → place_point M p h ≡ start M h
-  unfolding place_point
-  on_place h on = ap (λ b. cond b (start M h) (cut_between p (start M h) (finish M h))) on
-
   at_corner : (h : ℕ) → HasHalf M h → is_on p (start M h) ≡ true → start N h ≡ start M h → AtPlace M N p h
-  at_corner h there on same = at_itself h there (same ∙ sym (on_place h on)) (ap (is_on p) same ∙ on)
+  unfolding place_point
+  at_corner h there on same =
+      at_itself h there (same ∙ sym (ap (λ b. cond b (start M h) (cut_between p (start M h) (finish M h))) on)) (ap (is_on p) same ∙ on)
 
   pub on_when : (h : ℕ) → is_place M p h ≡ true → crosses M p h ≡ false → is_on p (start M h) ≡ true
   unfolding is_place

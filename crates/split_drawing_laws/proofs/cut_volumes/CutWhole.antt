@@ -27,7 +27,7 @@ use Rattle.split_drawing_laws.proofs.crossings.Steps.{CutGoes}
 use Rattle.split_drawing_laws.proofs.crossings.Runs.{cut_at, Crossing, same_start, same_finish, Going, crossing_now, uncut_now, goes_now, next_model, going_on}
 use Rattle.split_drawing_laws.proofs.cut_volumes.OneCut.{Between, keeps, normal_stays, plane_stays, anchor_stays}
 use Rattle.split_drawing_laws.proofs.cut_volumes.Told.{Measured, measured_none, measured_on, solid_stays, same_plane, flat_still, all_volumes}
-use Rattle.split_drawing_laws.proofs.crossings.Premises.{Cuttable, edge_facts, solid_facts, in_solid}
+use Rattle.split_drawing_laws.proofs.crossings.Premises.{edge_facts, solid_facts, in_solid}
 use Rattle.split_drawing_laws.proofs.crossings.Whole.{can_cut, begins, crossings_sound}
 
 -- ---- one edge of solid s cut
@@ -104,11 +104,8 @@ module _ (M : Model) (s : ℕ) (p : Plane) (t : ℕ) (sound : Sound M) (accepted
 
   -- ---- all edges cut
 
-  c : Cuttable M s p
-  c = can_cut M s p t sound accepted
-
   of_solid : OfSolid M p s (crossing_edges M p s)
-  of_solid = record { whole = c.whole; of_s = λ e i. (edge_facts M sound s p e i).1 }
+  of_solid = record { whole = (can_cut M s p t sound accepted).whole; of_s = λ e i. (edge_facts M sound s p e i).1 }
 
   pub crossings_measured : Measured M (with_crossings M s p).model s
   unfolding with_crossings

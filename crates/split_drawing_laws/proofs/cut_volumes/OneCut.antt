@@ -1,6 +1,6 @@
 -- One edge cut at a point between its ends: the areas of loops and the normals of faces stay.
 use Rattle.std.specs.Prelude.{flat_map}
-use Rattle.std.proofs.Common.{◌≡◌, ◌≢◌, ℕ, true, not, nat_eq, ◌&&◌, List, [], ◌∷◌, unwrap_or, refl, sym, ap, ◌∙◌, ◌⊎◌, inl, inr, map, subst, arith}
+use Rattle.std.proofs.Common.{◌≡◌, ◌≢◌, ℕ, true, not, nat_eq, ◌&&◌, List, [], ◌∷◌, unwrap_or, refl, sym, ap, ◌∙◌, ◌⊎◌, inl, inr, subst, arith}
 use Rattle.std.proofs.lemmas.Bool.Decides.{eqb_tells}
 use Rattle.euler_operators.specs.declared.Point.{Point}
 use Rattle.euler_operators.specs.declared.Plane.{Plane}
@@ -75,14 +75,11 @@ module _ (M : Model) (e k v : ℕ) (q : Point) (goes : CutGoes M e k v q) where
 
   -- ---- where half-edges start then
 
-  at_new : (h : ℕ) → tail K h ≡ v → start K h ≡ q
-  at_new h is = ap (point_of K) is ∙ point_new M e k v q goes
-
   at_old : (h g : ℕ) → HasHalf M g → tail K h ≡ tail M g → start K h ≡ start M g
   at_old h g there is = ap (point_of K) is ∙ kept_point M K keeps (tail M g) (goes.can.sound.tails_there g there)
 
   pub plus_start : start (edge_cut M e k v q) (plus e) ≡ q
-  plus_start = at_new (plus e) (tail_old M e k v q goes).0
+  plus_start = ap (point_of K) (tail_old M e k v q goes).0 ∙ point_new M e k v q goes
 
   pub minus_start : start (edge_cut M e k v q) (minus e) ≡ start M (minus e)
   minus_start = at_old (minus e) (minus e) (minus_there M e goes.can.there) (tail_old M e k v q goes).1
@@ -91,7 +88,7 @@ module _ (M : Model) (e k v : ℕ) (q : Point) (goes : CutGoes M e k v q) where
   new_plus = at_old (plus k) (plus e) (plus_there M e goes.can.there) (tail_new M e k v q goes).0
 
   pub new_minus : start (edge_cut M e k v q) (minus k) ≡ q
-  new_minus = at_new (minus k) (tail_new M e k v q goes).1
+  new_minus = ap (point_of K) (tail_new M e k v q goes).1 ∙ point_new M e k v q goes
 
   pub other_start : (h : ℕ) → HasHalf M h → edge_of h ≢ e → start (edge_cut M e k v q) h ≡ start M h
   other_start h there ne = at_old h h there (tail_other M e k v q goes h there ne)
@@ -198,12 +195,9 @@ module _ (M : Model) (e k v : ℕ) (q : Point) (goes : CutGoes M e k v q) where
       ]
     ]
 
-    cycle_on : (l : ℕ) (hs : List ℕ) → content M l ≡ cycle hs → are_on M r (vertices_on M (content M l)) ≡ true → are_on K r (map (tail K) (canonical (flat_map (doubled e k) hs))) ≡ true
-    cycle_on l hs is on = grind (arith, all_mapped, from_flat, count-canonical, doubled_on, item_there, item_on, item_ends_on)
-
     content_on : (l : ℕ) (c : LoopContent) → content M l ≡ c → are_on M r (vertices_on M (content M l)) ≡ true → are_on K r (vertices_on K (rewritten (flat_map (doubled e k)) c)) ≡ true
     content_on l (lone n) is on = ap (λ z. is_on r z && true) (kept_point M K keeps n (goes.can.sound.lone_at_vertex l n is)) ∙ sym (ap (λ c. are_on M r (vertices_on M c)) is) ∙ on
-    content_on l (cycle hs) is on = cycle_on l hs is on
+    content_on l (cycle hs) is on = grind (arith, all_mapped, from_flat, count-canonical, doubled_on, item_there, item_on, item_ends_on)
 
     -- the corners of a face stay on the plane
     pub plane_stays : (f : ℕ) → are_on M r (corners M f) ≡ true → are_on (edge_cut M e k v q) r (corners (edge_cut M e k v q) f) ≡ true

@@ -176,9 +176,7 @@ module _ (M N : Model) (s : ℕ) (new : Sound N) (w : Measured M N s) where
       | inr e ↦ λ i. dot (w.anchors f there e.1 i) (w.normals f i)
     ]
 
-    same_faces : (u : ℕ) → faces_of N u ≡ faces_of M u
-    same_faces u = ap (table.all_where (λ _ row. nat_eq row.solid u)) w.faces
-
     pub all_volumes : (u : ℕ) → six_volume N u ≡ six_volume M u
     unfolding six_volume
-    all_volumes u = ap (volume_in N) (same_faces u) ∙ volumes_stay M N (faces_of M u) (λ f i. face_volume f (has u f i).0)
+    all_volumes u = ap (volume_in N) (ap (table.all_where (λ _ row. nat_eq row.solid u)) w.faces)
+        ∙ volumes_stay M N (faces_of M u) (λ f i. face_volume f (has u f i).0)

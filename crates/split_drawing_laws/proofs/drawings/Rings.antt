@@ -59,14 +59,11 @@ module _ (N : Model) (l k : ℕ) (sound : Sound N) (goes : RingGoes N l k) where
   unfolding ring_in
   ring_faces = refl
 
-  tail_is : (h : ℕ) → tail (ring_in N l k) h ≡ tail N h
-  unfolding tail
-  tail_is h = ap (λ t. tail_in (unwrap_or (table.get t (edge_of h)) no_edge) (is_first h)) same_walks.edges
-
   pub ring_stays : Stays N (ring_in N l k)
+  unfolding tail
   ring_stays = record {
     halves = λ h there. subst (λ t. Has t (edge_of h)) (sym same_walks.edges) there;
-    tails = λ h there. tail_is h;
+    tails = λ h there. ap (λ t. tail_in (unwrap_or (table.get t (edge_of h)) no_edge) (is_first h)) same_walks.edges;
     vertices = same_walks.vertices;
     faces = λ g there. subst (λ t. Has t g) (sym ring_faces) there;
   }

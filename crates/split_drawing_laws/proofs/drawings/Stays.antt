@@ -132,9 +132,6 @@ module _ (M : Model) (c d e : ℕ) (can : CanJoin M c d e) where
   abbrev J : Model
   J = loops_joined M c d e
 
-  join_new : Sound (loops_joined M c d e)
-  join_new = join_sound M c d e can
-
   pub row_joined : table.get (loops_joined M c d e).loops (loop_of M c) ≡ Some (record { face = face_at M c; content = cycle (mekr_ring (plus e) (minus e) c d (cycle_of M c) (cycle_of M d)) })
   unfolding loops_joined
   row_joined = get-put_here _ (loop_of M c) _
@@ -165,13 +162,14 @@ module _ (M : Model) (c d e : ℕ) (can : CanJoin M c d e) where
   join_tails = new_tails M J e (tail M c) (tail M d) joined_edges can.edge_free
 
   pub join_beside : (h : ℕ) → HasHalf M h → loop_of M h ≢ loop_of M c → loop_of M h ≢ loop_of M d → (loop_of (loops_joined M c d e) h ≡ loop_of M h) × (face_at (loops_joined M c d e) h ≡ face_at M h)
-  join_beside h there a b = kept_place M J can.sound join_new h there (row_other (loop_of M h) a b)
+  join_beside h there a b = kept_place M J can.sound (join_sound M c d e can) h there (row_other (loop_of M h) a b)
 
   count_joined : (x : ℕ) → count x (cycle_of M c) + count x (cycle_of M d) ≤ count x (mekr_ring (plus e) (minus e) c d (cycle_of M c) (cycle_of M d))
   count_joined x = omega (arith, count-canonical x ((plus e ∷ rotate_to d (cycle_of M d)) ++ minus e ∷ rotate_to c (cycle_of M c)), count-append x (plus e ∷ rotate_to d (cycle_of M d)) (minus e ∷ rotate_to c (cycle_of M c)), count-rotate_to x d (cycle_of M d), count-rotate_to x c (cycle_of M c))
 
   joined_at : (h : ℕ) → IsIn h (mekr_ring (plus e) (minus e) c d (cycle_of M c) (cycle_of M d)) → face_at (loops_joined M c d e) h ≡ face_at M c
-  joined_at h i = ap (face_of J) (stands_at J join_new h (loop_of M c) _ (content_row J (loop_of M c) _ row_joined) i) ∙ face_row J (loop_of M c) _ row_joined
+  joined_at h i = ap (face_of J) (stands_at J (join_sound M c d e can) h (loop_of M c) _ (content_row J (loop_of M c) _ row_joined) i)
+      ∙ face_row J (loop_of M c) _ row_joined
 
   in_cycle : (h x : ℕ) → HasHalf M h → loop_of M h ≡ loop_of M x → IsIn h (cycle_of M x)
   in_cycle h x there at = subst (λ q. IsIn h (items_of (content M q))) at (cycle_there M can.sound h there)

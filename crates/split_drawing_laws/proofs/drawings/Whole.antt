@@ -13,7 +13,7 @@ use Rattle.shapes.specs.Fresh.{Growing}
 use Rattle.shapes.specs.split.Drawing.{Drawing, FacePairs, drawn_between, next_drawn, faces_drawn, undrawn}
 use Rattle.split_drawing_laws.specs.drawings.DrawingOps.{face_ops, ops_from, drawing_ops}
 use Rattle.split_drawing_laws.specs.drawings.DrawnIn.{Stays, DrawnIn, Fresh, PairsHaveRoom}
-use Rattle.split_drawing_laws.specs.drawings.Pairs.{Fits, AllFit, LoneInOneLoop, FacesFit, pairs_in}
+use Rattle.split_drawing_laws.specs.drawings.Pairs.{AllFit, LoneInOneLoop, FacesFit, pairs_in}
 use Rattle.split_drawing_laws.specs.drawings.Laws.{CanBeDrawn}
 use Rattle.split_drawing_laws.proofs.drawings.Passes.{room_as}
 use Rattle.split_drawing_laws.specs.drawings.Passing.{Drawable, Ready}
@@ -27,12 +27,9 @@ module _ (D K : Model) (f g : ℕ) (drawn : DrawnIn D K f) (other : g ≢ f) whe
   beside : (h : ℕ) → HasHalf D h → face_at D h ≡ g → (loop_of K h ≡ loop_of D h) × (face_at K h ≡ g)
   beside h there at = let b = drawn.beside h there (λ e. other (sym at ∙ e)) in (b.0, b.1 ∙ at)
 
-  fits_stay : (q : ℕ × ℕ) → Fits D g q → Fits K g q
-  fits_stay q w = grind (arith, beside)
-
   all_fit_stay : (qs : List (ℕ × ℕ)) → AllFit D g qs → AllFit K g qs
   all_fit_stay [] w = tt
-  all_fit_stay (q ∷ qs) w = (fits_stay q w.0, all_fit_stay qs w.1)
+  all_fit_stay (q ∷ qs) w = (grind (arith, beside), all_fit_stay qs w.1)
 
   lone_stays : (qs : List (ℕ × ℕ)) → AllFit D g qs → LoneInOneLoop D qs → LoneInOneLoop K qs
   lone_stays qs e f = grind (arith, beside)

@@ -51,9 +51,6 @@ pub record Within (M X : Model) (f : ℕ) : Type 0 where
   pub old_solid : (g : ℕ) → Has M.faces g → solid_of X g ≡ solid_of M g
   pub new_solid : (g : ℕ) → Has X.faces g → table.get M.faces g ≡ None → solid_of X g ≡ solid_of M f
 
-pub nothing_within : (M : Model) (f : ℕ) → Within M M f
-nothing_within M f = grind (arith, never_free)
-
 -- face f of M lies on a plane
 module _ (M : Model) (f : ℕ) (sound : Sound M) (f_there : Has M.faces f) (r : Plane) (some : IsPlane r) (on_f : OnFace M r f) where
   -- ---- two loops joined
@@ -84,20 +81,17 @@ module _ (M : Model) (f : ℕ) (sound : Sound M) (f_there : Has M.faces f) (r : 
     abbrev K : Model
     K = face_drawn X u k e g l
 
-    F_there : Has X.faces (face_at X u)
-    F_there = half_face X can.sound u can.u_there
-
     -- u's face lies on the planes of f
     comes_on : (t : Plane) → OnFace M t f → OnFace X t (face_at X u)
     comes_on t on = elim drawn [
       | inl s ↦ subst (OnFace X t) (sym s) (w.olds f f_there t on)
-      | inr none ↦ w.news (face_at X u) F_there none t on
+      | inr none ↦ w.news (face_at X u) (half_face X can.sound u can.u_there) none t on
     ]
 
     comes_solid : solid_of X (face_at X u) ≡ solid_of M f
     comes_solid = elim drawn [
       | inl s ↦ ap (solid_of X) s ∙ w.old_solid f f_there
-      | inr none ↦ w.new_solid (face_at X u) F_there none
+      | inr none ↦ w.new_solid (face_at X u) (half_face X can.sound u can.u_there) none
     ]
 
     old_row : (h : ℕ) → Has X.faces h → table.get K.faces h ≡ table.get X.faces h
@@ -134,9 +128,6 @@ module _ (M : Model) (f : ℕ) (sound : Sound M) (f_there : Has M.faces f) (r : 
     row_same : (g : ℕ) → table.get R.faces g ≡ table.get X.faces g
     row_same g = ap (λ t. table.get t g) (ring_faces X l k moves_on.sound moves_on.goes)
 
-    has_was : (g : ℕ) → Has R.faces g → Has X.faces g
-    has_was g there = sym (ap is_some (row_same g)) ∙ there
-
     pub move_within : Within M (ring_in X l k) f
     move_within = record {
       volumes = λ v. move_volumes X f l k moves_on r some (w.olds f f_there r on_f) (w.news k newer.there newer.new r on_f) v ∙ w.volumes v;
@@ -144,10 +135,10 @@ module _ (M : Model) (f : ℕ) (sound : Sound M) (f_there : Has M.faces f) (r : 
       olds = λ g there t on. moves.else_on X f l k moves_on t g (λ s. never_free M.faces g there (ap (table.get M.faces) s ∙ newer.new)) (w.olds g there t on);
       news = λ g there none t on. elim (eqb_tells g k) [
         | inl s ↦ subst (OnFace R t) (sym s.1) (moves.moved_on X f l k moves_on t (w.olds f f_there t on) (w.news k newer.there newer.new t on))
-        | inr s ↦ moves.else_on X f l k moves_on t g s.1 (w.news g (has_was g there) none t on)
+        | inr s ↦ moves.else_on X f l k moves_on t g s.1 (w.news g (sym (ap is_some (row_same g)) ∙ there) none t on)
       ];
       old_solid = λ g there. same_solid X R g (row_same g) ∙ w.old_solid g there;
-      new_solid = λ g there none. same_solid X R g (row_same g) ∙ w.new_solid g (has_was g there) none;
+      new_solid = λ g there none. same_solid X R g (row_same g) ∙ w.new_solid g (sym (ap is_some (row_same g)) ∙ there) none;
     }
 
 -- ---- one face drawn
@@ -156,7 +147,7 @@ face_within : (p : Plane) (f : ℕ) (qs : List (ℕ × ℕ)) (d : Drawing) (n : 
 face_within p f qs d n w there r some on = between_keeps p f qs d n w (λ X. Within d.model X f)
     (join_within d.model f w.sound there r some on)
     (λ N q e g l can drawn fits. draw_within d.model f w.sound there r some on N q.0 q.1 e g l can (drawn.within q.0 fits.u_there fits.u_face))
-    (move_within d.model f w.sound there r some on) (nothing_within d.model f)
+    (move_within d.model f w.sound there r some on) (grind (arith, never_free))
 
 -- ---- faces drawn one after the other: volumes stay, and each face of the solid lies on the planes of one that was there before
 
@@ -173,9 +164,6 @@ pub record Spread (B X : Model) (s : ℕ) : Type 0 where
   pub there : (g : ℕ) → Has B.faces g → Has X.faces g
   pub old_solid : (g : ℕ) → Has B.faces g → solid_of X g ≡ solid_of B g
   pub origin : (g : ℕ) → Has X.faces g → solid_of X g ≡ s → Comes B X s g
-
-pub nothing_spread : (B : Model) (s : ℕ) → Spread B B s
-nothing_spread B s = grind arith
 
 -- each face of solid s lies on a plane
 pub record LiesFlat (B : Model) (f : ℕ) : Type 0 where
@@ -228,9 +216,6 @@ module _ (M : Model) (s : ℕ) (p : Plane) (t : ℕ) (sound : Sound M) (accepted
   abbrev D : Model
   D = (faces_drawn p (undrawn (with_crossings M s p)) (straddling_pairs M s p)).model
 
-  abbrev fs : List ℕ
-  fs = straddling_faces M p s
-
   N_sound : Sound N
   N_sound = crossings_sound M s p t sound accepted
 
@@ -262,12 +247,12 @@ module _ (M : Model) (s : ℕ) (p : Plane) (t : ℕ) (sound : Sound M) (accepted
   lies_flat : (f : ℕ) → Has N.faces f → solid_of N f ≡ s → LiesFlat N f
   lies_flat f there of_s = record { plane = plane_of M f; some = some_plane f there of_s; on = on_plane f there of_s }
 
-  of_s : (f : ℕ) → IsIn f fs → Has N.faces f × (solid_of N f ≡ s)
+  of_s : (f : ℕ) → IsIn f (straddling_faces M p s) → Has N.faces f × (solid_of N f ≡ s)
   of_s f i = let w = face_facts M s p f i in (subst (λ x. Has x f) (sym same_faces) w.0, solid_stays M N same_faces f ∙ w.1)
 
   spread : Spread N D s
   spread = all_spread N s p lies_flat (undrawn (with_crossings M s p)) (straddling_pairs M s p) 0 (drawable (with_crossings M s p) (straddling_pairs M s p) can)
-      (λ f i. of_s f (subst (IsIn f) (faces_are M N p fs) i)) (nothing_spread N s)
+      (λ f i. of_s f (subst (IsIn f) (faces_are M N p (straddling_faces M p s)) i)) (grind arith)
 
   lies_now : (f : ℕ) → IsIn f (faces_of D s) → LiesOnOld M D s f
   lies_now f i =

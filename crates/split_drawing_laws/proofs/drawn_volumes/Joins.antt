@@ -82,9 +82,6 @@ module _ (N : Model) (c d e : ℕ) (can : CanJoin N c d e) where
   -- ---- normals
 
   module _ (f : ℕ) (there : Has N.faces f) where
-    same_count : (h : ℕ) → HasHalf N h → count h (boundary K f) ≡ count h (boundary N f)
-    same_count h was = one_count N K can.sound J_sound stays f there h was (join_faces N c d e can h was)
-
     normal_else : f ≢ F → normal K f ≡ normal N f
     normal_else ne = grind (arith, normal_kept, J_sound, stays, cases, join_faces, plus_face, minus_face)
 
@@ -93,7 +90,7 @@ module _ (N : Model) (c d e : ℕ) (can : CanJoin N c d e) where
         (λ is. (bound_one K J_sound f h (subst (HasHalf K) (sym is) (plus_there N K e _ (joined_edges N c d e can))) (ap (face_at K) is ∙ plus_face ∙ sym at), bound_none N can.sound f h there (λ t s. (none_new N e h can.edge_free t).0 is)))
         (λ is. (bound_one K J_sound f h (subst (HasHalf K) (sym is) (minus_there N K e _ (joined_edges N c d e can))) (ap (face_at K) is ∙ minus_face ∙ sym at), bound_none N can.sound f h there (λ t s. (none_new N e h can.edge_free t).1 is)))
         (λ a b. elim (half_there N h) [
-          | inl was ↦ same_count h was
+          | inl was ↦ one_count N K can.sound J_sound stays f there h was (join_faces N c d e can h was)
           | inr not_was ↦ no_count N K can.sound J_sound stays f there h not_was (λ t s. elim (cases h t) [ inl was ↦ not_was was | inr new ↦ elim new [ inl is ↦ a is | inr is ↦ b is ] ])
         ])) ∙ no_area K e (boundary N f) ∙ area_after N K can.sound stays f
 

@@ -30,12 +30,10 @@ module _ (N : Model) (f l k : ℕ) (can : CanMove N f l k) where
   abbrev K : Model
   K = ring_in N l k
 
-  l_face : face_of K l ≡ k
-  l_face = moving.face_l N can.sound l k can.goes
-
   -- the half-edges of the ring go to k, and the others keep their face
   gone : (h : ℕ) → HasHalf N h → loop_of N h ≡ l → (face_at N h ≡ f) × (face_at K h ≡ k)
-  gone h there at = (ap (face_of N) at ∙ can.face, ap (face_of K) (place_is N l k can.sound can.goes h there ∙ at) ∙ l_face)
+  gone h there at =
+      (ap (face_of N) at ∙ can.face, ap (face_of K) (place_is N l k can.sound can.goes h there ∙ at) ∙ moving.face_l N can.sound l k can.goes)
 
   -- ---- planes
 
@@ -47,7 +45,7 @@ module _ (N : Model) (f l k : ℕ) (can : CanMove N f l k) where
       | inr s ↦ w.halves h was (sym (face_kept N l k can.sound can.goes h was s.1) ∙ at)
     ];
     lones = λ q v at is. ap (is_on t) (point_still N K can.sound (ring_stays N l k can.sound can.goes) v) ∙ elim (eqb_tells q l) [
-      | inl s ↦ absurd (ne (sym at ∙ ap (face_of K) s.1 ∙ l_face))
+      | inl s ↦ absurd (ne (sym at ∙ ap (face_of K) s.1 ∙ moving.face_l N can.sound l k can.goes))
       | inr s ↦ w.lones q v (sym (face_else N l k can.sound can.goes q s.1) ∙ at) (sym ((same_walks N l k can.sound can.goes).contents q) ∙ is)
     ];
   }

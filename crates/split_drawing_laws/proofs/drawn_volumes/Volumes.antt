@@ -93,12 +93,9 @@ module _ (N : Model) (u k e g l : ℕ) (can : CanDraw N u k e g l) (r : Plane) (
     | inr s ↦ else_count v f s.1
   ]
 
-  turned : (a b : ℤ) → a +ℤ b ≡ b +ℤ a
-  turned a b = omega (arith, ints)
-
   pub draw_volumes : (v : ℕ) → six_volume (face_drawn N u k e g l) v ≡ six_volume N v
   draw_volumes v = six_is K v ∙ elim (eqb_tells (solid_of N F) v) [
-    | inl at ↦ total_same (volume_of K) (faces_of K v) (g ∷ faces_of N v) (with_new v at.1) ∙ turned (volume_of K g) (total (volume_of K) (faces_of N v))
+    | inl at ↦ total_same (volume_of K) (faces_of K v) (g ∷ faces_of N v) (with_new v at.1) ∙ omega (arith, ints)
         ∙ sym (changed_one (volume_of N) (volume_of K) F (volume_of K g) split (faces_of N v) (λ f i ne. else_told f (solid_facts N v f i).0 ne) (counted_in N F v F_there at.1))
     | inr ne ↦ total_same (volume_of K) (faces_of K v) (faces_of N v) (without v ne.1)
         ∙ sym (unchanged (volume_of N) (volume_of K) (faces_of N v) (λ f i. else_told f (solid_facts N v f i).0 (λ s. ne.1 (ap (solid_of N) (sym s) ∙ (solid_facts N v f i).1))))

@@ -66,15 +66,12 @@ module _ (M N : Model) (f c d e : ℕ) (can : CanJoin N c d e) (at : face_at N c
 abbrev pub given : List ℕ → ℕ → ℕ → LoopRow → LoopRow
 given ls k q row = cond (lists ls q) (record row { face = k }) row
 
-given_twice : (l : ℕ) (ls : List ℕ) (k q : ℕ) (row : LoopRow) → given ls k q (loop_to_face l k q row) ≡ given (l ∷ ls) k q row
-given_twice l ls k q row = grind arith
-
 rows_given : (t : Table LoopRow) (ls : List ℕ) (k q : ℕ) → table.get (fold (λ t l. table.map_rows (loop_to_face l k) t) t ls) q ≡ option_map (given ls k q) (table.get t q)
 rows_given t [] k q = grind arith
 rows_given t (l ∷ ls) k q = rows_given (table.map_rows (loop_to_face l k) t) ls k q ∙ ap (option_map (given ls k q)) (get-map_rows (loop_to_face l k) t q) ∙ go (table.get t q) where
   go : (o : Option LoopRow) → option_map (given ls k q) (option_map (loop_to_face l k q) o) ≡ option_map (given (l ∷ ls) k q) o
   go None = refl
-  go (Some row) = ap Some (given_twice l ls k q row)
+  go (Some row) = ap Some (grind arith)
 
 module _ (N : Model) (ls : List ℕ) (k q : ℕ) where
   pub given_content : content (with_rings N ls k) q ≡ content N q

@@ -94,9 +94,6 @@ module _ (M : Model) (s : ℕ) (p : Plane) (t : ℕ) (sound : Sound M) (begins :
   straddling_there : (f : ℕ) → IsIn f fs → Has N.faces f
   straddling_there f i = subst (λ u. Has u f) (sym (crossings_keep M s p t sound begins).faces) (face_facts M s p f i).0
 
-  none_done : Stage N N side s fs fs
-  none_done = grind (arith, sided_first, straddling_there)
-
   pairs_here : (gs : List ℕ) → ((f : ℕ) → IsIn f gs → IsIn f fs) → AllPairsOf N side p (all_pairs M N p gs)
   pairs_here [] within = tt
   pairs_here (g ∷ gs) within = (pairs_of M s p t sound begins g (within g (omega (arith, tick_same g))), pairs_here gs (λ f i. within f (omega (arith, i))))
@@ -106,7 +103,7 @@ module _ (M : Model) (s : ℕ) (p : Plane) (t : ℕ) (sound : Sound M) (begins :
 
   stage : Stage N D side s fs []
   stage = all_done N side s fs p N_sound (undrawn (with_crossings M s p)) (straddling_pairs M s p) 0 (drawable (with_crossings M s p) (straddling_pairs M s p) can) (λ f i. faces_not_zero M sound s p f (face_in f i)) face_in (pairs_here fs (λ f i. i)) ends
-      (subst (Stage N N side s fs) (sym (faces_are M N p fs)) none_done)
+      (subst (Stage N N side s fs) (sym (faces_are M N p fs)) (grind (arith, sided_first, straddling_there)))
 
   -- ---- the half-edges of the solid
 
@@ -157,16 +154,11 @@ module _ (M : Model) (s : ℕ) (p : Plane) (t : ℕ) (sound : Sound M) (begins :
         let r : TailIn D v (loops_of D f) = tail_in D v (loops_of D f) loop_cycle i in
         subst (λ u. LiesOn p b (point_of D u)) (sym r.is) (item_lies r.half r.loop r.loop_in r.half_in)
 
-    none_below : ((v : ℕ) → IsIn v (corners D f) → LiesOn p true (point_of D v)) → reaches_below D p f ≡ false
-    none_below lies = none_from (λ v. is_below p (point_of D v)) (corners D f) lies
-
-    none_above : ((v : ℕ) → IsIn v (corners D f) → LiesOn p false (point_of D v)) → reaches_above D p f ≡ false
-    none_above lies = none_from (λ v. is_above p (point_of D v)) (corners D f) lies
-
     either_none : (c : Bool) → ((v : ℕ) → IsIn v (corners D f) → LiesOn p c (point_of D v)) → straddles D p f ≡ false
     unfolding straddles
-    either_none true lies = ap (λ a. reaches_above D p f && a) (none_below lies) ∙ and_false (reaches_above D p f)
-    either_none false lies = ap (λ a. a && reaches_below D p f) (none_above lies)
+    either_none true lies = ap (λ a. reaches_above D p f && a) (none_from (λ v. is_below p (point_of D v)) (corners D f) lies)
+        ∙ and_false (reaches_above D p f)
+    either_none false lies = ap (λ a. a && reaches_below D p f) (none_from (λ v. is_above p (point_of D v)) (corners D f) lies)
 
     pub face_is_sided : straddles D p f ≡ false
     face_is_sided = either_none b corner_lies

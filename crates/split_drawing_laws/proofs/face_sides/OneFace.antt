@@ -139,11 +139,9 @@ module _ (B : Model) (side : ℕ → Bool) (p : Plane) (f : ℕ) (q : ℕ × ℕ
   can = pair_can X X f q e g l w.sound (joined_drawn X X f (none_joined X f w.sound)) w.fit.0 w.alone (w.fresh.edges e (omega arith)) g_free (w.fresh.loops l (omega arith))
       (edge_fits d.taken n room_one) (face_fits d.taken n room_one) (loop_fits d.taken n room_one)
 
-  u_row : table.get X.loops (loop_of X q.0) ≡ table.get B.loops (loop_of X q.0)
-  u_row = untouched.loops (loop_of X q.0) (loop_there X w.sound q.0 w.fit.0.u_there) w.fit.0.u_face
-
   outer_is : outer X f ≡ loop_of X q.0
-  outer_is = same_outer B X f untouched.row ∙ sym (pairs.single q refl) ∙ loop_back B X B_sound w.sound q.0 w.fit.0.u_there u_row
+  outer_is = same_outer B X f untouched.row ∙ sym (pairs.single q refl)
+      ∙ loop_back B X B_sound w.sound q.0 w.fit.0.u_there (untouched.loops (loop_of X q.0) (loop_there X w.sound q.0 w.fit.0.u_there) w.fit.0.u_face)
 
   K_stays : Stays X K
   K_stays = draw_stays X q.0 q.1 e g l can
@@ -212,9 +210,6 @@ module _ (B : Model) (side : ℕ → Bool) (p : Plane) (f : ℕ) (q r : ℕ × �
   abbrev J : Drawing
   J = all_joined ps d
 
-  abbrev stops : Bool
-  stops = nat_lt 1 (length ps) && has_rings J.model f
-
   abbrev D : Drawing
   D = all_drawn f J
 
@@ -227,12 +222,10 @@ module _ (B : Model) (side : ℕ → Bool) (p : Plane) (f : ℕ) (q r : ℕ × �
   unshared : drawn_between p f ps d ≡ all_drawn f (ring_free f ps J)
   unshared = ap (λ b. cond b (record (all_drawn f (ring_free f ps J)) { model = with_rings (all_drawn f (ring_free f ps J)).model (rings_above (all_drawn f (ring_free f ps J)).model p f) (all_drawn f (ring_free f ps J)).taken.face }) (all_drawn f (ring_free f ps J))) not_one
 
-  not_stopped : stops ≡ false
-  not_stopped = false_from_ne_true stops (λ e. (draws_go_on f (stuck_at f J) J.left).stuck (stuck_now f J some)
+  not_stopped : (nat_lt 1 (length ps) && has_rings J.model f) ≡ false
+  not_stopped =
+      false_from_ne_true (nat_lt 1 (length ps) && has_rings J.model f) (λ e. (draws_go_on f (stuck_at f J) J.left).stuck (stuck_now f J some)
       (sym (ap (λ b. (all_drawn f (cond b (stuck_at f J) J)).stuck) e) ∙ ap (λ x. x.stuck) (sym unshared) ∙ free))
-
-  no_rings : has_rings J.model f ≡ false
-  no_rings = grind (arith, more, not_stopped)
 
   many_is : drawn_between p f ps d ≡ D
   many_is = unshared ∙ ap (λ b. all_drawn f (cond b (stuck_at f J) J)) not_stopped
@@ -250,12 +243,12 @@ module _ (B : Model) (side : ℕ → Bool) (p : Plane) (f : ℕ) (q r : ℕ × �
   q_face = (joins p f ps d n w).state.joined.faces q.0 w.fit.0.u_there ∙ w.fit.0.u_face
 
   q_outer : outer J.model f ≡ loop_of J.model q.0
-  q_outer = no_rings_means J.model f no_rings (loop_of J.model q.0) (loop_there J.model state_sound q.0 q_there) q_face
+  q_outer = no_rings_means J.model f (grind (arith, more, not_stopped)) (loop_of J.model q.0) (loop_there J.model state_sound q.0 q_there) q_face
 
   begun_alone : Alone B d.model J.model f
   begun_alone z there drawn = elim drawn [
     | inl a ↦
-        let is : outer J.model f ≡ z = no_rings_means J.model f no_rings z there a in
+        let is : outer J.model f ≡ z = no_rings_means J.model f (grind (arith, more, not_stopped)) z there a in
         record { outer_is = ap (outer J.model) a ∙ is; held = record { half = q.0; old = old.0.0; at = sym q_outer ∙ is } }
     | inr none ↦ absurd (never_free J.model.faces (face_of J.model z) (state_sound.loops_of_faces z there) (ap (λ t. table.get t (face_of J.model z)) joined.faces ∙ none))
   ]
@@ -264,12 +257,9 @@ module _ (B : Model) (side : ℕ → Bool) (p : Plane) (f : ℕ) (q r : ℕ × �
   parting = draws_part B d.model f w.sound J J.left n (joins p f ps d n w).state.pairs joined.old (going p f ps d n w)
       (record { beside = joined.beside; stays = stays_on B d.model J.model stays (joins p f ps d n w).state.joined.stays; alone = begun_alone })
 
-  D_sound : Sound D.model
-  D_sound = subst (λ x. Sound x.model) many_is (face_goes p f ps d n w).drawn.sound
-
   D_sided : (h : ℕ) → Has D.model.faces h → ComesOf d.model f h → IsSided B D.model side h
   D_sided h there drawn =
-      let o = D_sound.outers_there h there in
+      let o = (subst (λ x. Sound x.model) many_is (face_goes p f ps d n w).drawn.sound).outers_there h there in
       let a : Lone B D.model (outer D.model h) = parting.alone (outer D.model h) o.0 (subst (ComesOf d.model f) (sym o.1) drawn) in (
         side a.held.half,
         λ z z_there face.

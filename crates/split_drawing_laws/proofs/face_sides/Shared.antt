@@ -42,10 +42,6 @@ none_from t (x ∷ xs) none = ap (λ b. b || list_any t xs) (none x (omega (arit
 -- ---- corners
 
 module _ (B K : Model) (stays : Stays B K) (p : Plane) where
-  pub points_stay : (v : ℕ) → point_of K v ≡ point_of B v
-  unfolding point_of
-  points_stay v = ap (λ t. unwrap_or (table.get t v) no_point) stays.vertices
-
   tails_stay : (hs : List ℕ) → ((h : ℕ) → IsIn h hs → HasHalf B h) → map (tail K) hs ≡ map (tail B) hs
   tails_stay [] old = refl
   tails_stay (h ∷ hs) old = λ i. stays.tails h (old h (omega (arith, tick_same h))) i ∷ tails_stay hs (λ g j. old g (omega (arith, j))) i
@@ -55,8 +51,9 @@ module _ (B K : Model) (stays : Stays B K) (p : Plane) where
   vertices_stay (cycle hs) old = tails_stay hs old
 
   any_above : (vs : List ℕ) → some_above K p vs ≡ some_above B p vs
+  unfolding point_of
   any_above [] = refl
-  any_above (v ∷ vs) = λ i. is_above p (points_stay v i) || any_above vs i
+  any_above (v ∷ vs) = λ i. is_above p (ap (λ t. unwrap_or (table.get t v) no_point) stays.vertices i) || any_above vs i
 
   -- a loop whose content stays keeps its corners where they were
   pub above_stays : (r : ℕ) → Sound B → content K r ≡ content B r → some_above K p (vertices_on K (content K r)) ≡ some_above B p (vertices_on B (content B r))
@@ -104,12 +101,6 @@ module _ (B N : Model) (side : ℕ → Bool) (p : Plane) (f u k e g l : ℕ) (c 
   f_other : f ≢ g
   f_other s = never_free N.faces f c.f_there (ap (table.get N.faces) s ∙ c.can.face_free)
 
-  first_face : face_of K (loop_of N u) ≡ f
-  first_face = old_loop_face N u k e g l c.can ∙ c.u_face
-
-  second_face : face_of K l ≡ g
-  second_face = new_loop_face N u k e g l c.can
-
   outer_is : outer K f ≡ loop_of N u
   outer_is = outer_kept N u k e g l c.can f c.f_there ∙ c.u_outer
 
@@ -133,7 +124,7 @@ module _ (B N : Model) (side : ℕ → Bool) (p : Plane) (f u k e g l : ℕ) (c 
     not_first s = inner (outer_is ∙ sym s)
 
     same_row : table.get K.loops r ≡ table.get N.loops r
-    same_row = row_else N u k e g l c.can r not_first (λ s. f_other (sym face ∙ ap (face_of K) s ∙ second_face))
+    same_row = row_else N u k e g l c.can r not_first (λ s. f_other (sym face ∙ ap (face_of K) s ∙ new_loop_face N u k e g l c.can))
 
     was : HeldOn B N side r (test r)
     was = c.rings r (ap is_some (sym same_row) ∙ there) (sym (same_face N K r same_row) ∙ face) (λ s. not_first (s ∙ c.u_outer))
@@ -196,7 +187,7 @@ module _ (B N : Model) (side : ℕ → Bool) (p : Plane) (f u k e g l : ℕ) (c 
       cut_off at = elim (eqb_tells q l) [
         | inl a ↦ subst (λ z. HeldOn B K side z true) (sym a.1) second_held
         | inr a ↦ elim (eqb_tells q (loop_of N u)) [
-          | inl b ↦ absurd (f_other (sym first_face ∙ ap (face_of K) (sym b.1) ∙ at))
+          | inl b ↦ absurd (f_other (sym (old_loop_face N u k e g l c.can ∙ c.u_face) ∙ ap (face_of K) (sym b.1) ∙ at))
           | inr b ↦
               let same : table.get K.loops q ≡ table.get N.loops q = row_else N u k e g l c.can q b.1 a.1 in
               absurd (never_free N.faces g (subst (Has N.faces) (sym (same_face N K q same) ∙ at) (c.can.sound.loops_of_faces q (ap is_some (sym same) ∙ was_loop q there))) c.can.face_free)

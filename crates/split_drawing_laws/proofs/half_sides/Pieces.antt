@@ -86,9 +86,6 @@ module _ (M N : Model) (p : Plane) (ds : List ℕ) (a : AreCut M N p ds) (w : Pi
   in_n : (x : ℕ) → Has M.edges x → Has N.edges x
   in_n x there = plus_edge N x (a.kept.halves (plus x) (plus_there M x there))
 
-  never_new : Has M.edges k → ⊥
-  never_new there = true≢false (sym (in_n k there) ∙ ap is_some goes.can.edge_free)
-
   there_now : Has K.edges k
   there_now = ap is_some (edge_new N e k v (cut_at N p e) goes)
 
@@ -96,7 +93,7 @@ module _ (M N : Model) (p : Plane) (ds : List ℕ) (a : AreCut M N p ds) (w : Pi
   cut_now = record {
     old = c.there;
     there = there_now;
-    new = never_new;
+    new = (λ there. true≢false (sym (in_n k there) ∙ ap is_some goes.can.edge_free));
     starts = (tail_new N e k v (cut_at N p e) goes).0 ∙ a.plus_tails e c.there uncut;
     first = after_first N e k v (cut_at N p e) goes (plus_there K k there_now);
     second = after_second N e k v (cut_at N p e) goes;

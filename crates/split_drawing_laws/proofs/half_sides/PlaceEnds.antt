@@ -92,13 +92,6 @@ module _ (M : Model) (s : ℕ) (p : Plane) (t : ℕ) (sound : Sound M) (begins :
     unfolding places
     in_face h j = omega (arith, j, count-filter (is_place M p) h (boundary M f))
 
-    place_passes : (h : ℕ) → IsIn h (places M p f) → is_place M p h ≡ true
-    unfolding places
-    place_passes h j = filter_passes (is_place M p) h (boundary M f) j
-
-    half_there : (h : ℕ) → IsIn h (places M p f) → HasHalf M h
-    half_there h j = item_there M sound f (face_facts M s p f i).0 h (in_face h j)
-
     half_face : (h : ℕ) → IsIn h (places M p f) → face_at M h ≡ f
     half_face h j = item_face M sound f (face_facts M s p f i).0 h (in_face h j)
 
@@ -114,7 +107,7 @@ module _ (M : Model) (s : ℕ) (p : Plane) (t : ℕ) (sound : Sound M) (begins :
 
     edge_in : (h : ℕ) → IsIn h (places M p f) → crosses M p h ≡ true → IsIn (edge_of h) (crossing_edges M p s)
     edge_in h j c =
-        let there : Has M.edges (edge_of h) = half_there h j in
+        let there : Has M.edges (edge_of h) = item_there M sound f (face_facts M s p f i).0 h (in_face h j) in
         let of_s : solid_of M (face_at M h) ≡ s = ap (solid_of M) (half_face h j) ∙ (face_facts M s p f i).1 in
         elim (halves_of_edge h) [
           | inl e ↦ in_crossing M s p t sound begins (edge_of h) there (ap (λ x. solid_of M (face_at M x)) (sym e.0) ∙ of_s) (ap (crosses M p) (sym e.0) ∙ c)
@@ -126,12 +119,12 @@ module _ (M : Model) (s : ℕ) (p : Plane) (t : ℕ) (sound : Sound M) (begins :
     cut_level h k = grind (arith, can_cut, crossing_point, edge_facts, crossing_here, halves_of_edge, one_point)
 
     point_on : (h : ℕ) → IsIn h (places M p f) → is_on p (place_point M p h) ≡ true
-    unfolding place_point
+    unfolding place_point places
     point_on h j = go (crosses M p h) refl where
       go : (b : Bool) → crosses M p h ≡ b → is_on p (place_point M p h) ≡ true
       go true c = level_on (height p (place_point M p h)) (cut_level h (edge_in h j c))
       go false c =
-          let on : is_on p (start M h) ≡ true = on_when M s p t sound begins h (place_passes h j) c in
+          let on : is_on p (start M h) ≡ true = on_when M s p t sound begins h (filter_passes (is_place M p) h (boundary M f) j) c in
           ap (is_on p) (ap (λ b. cond b (start M h) (cut_between p (start M h) (finish M h))) on) ∙ on
 
     pub place_on : (h : ℕ) → IsIn h (places M p f) → is_on p (start N (from_place N p h)) ≡ true

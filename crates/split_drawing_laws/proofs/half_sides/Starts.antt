@@ -185,11 +185,8 @@ module _ (M : Model) (s : ℕ) (p : Plane) (t : ℕ) (sound : Sound M) (begins :
 
     -- at a corner of M
     module _ (old : HasHalf M (after N x)) (uncut : count (edge_of (after N x)) es ≡ 0) where
-      same_start : start N y ≡ start M y
-      same_start = uncut_start y old uncut
-
       on_old : is_on p (start M y) ≡ true
-      on_old = ap (is_on p) (sym same_start) ∙ on
+      on_old = ap (is_on p) (sym (uncut_start y old uncut)) ∙ on
 
       of_f : face_at M y ≡ f
       of_f = sym (old_face y old)

@@ -51,9 +51,6 @@ module _ (M : Model) (s : ℕ) (p : Plane) (t : ℕ) (sound : Sound M) (begins :
   unfolding side_of
   side_beside h e = ap (λ b. cond b (half_is_above N p h) (reaches_above M p (face_at N h))) e
 
-  straddling_solid : (f : ℕ) → IsIn f fs → solid_of N f ≡ s
-  straddling_solid f i = same_solid M s p t sound begins f ∙ (face_facts M s p f i).1
-
   -- ---- no half-edge of the solid crosses the plane
 
   plus_stays_aside : (e : ℕ) → Has N.edges e → solid_of N (face_at N (plus e)) ≡ s → crosses N p (plus e) ≡ false
@@ -155,7 +152,7 @@ module _ (M : Model) (s : ℕ) (p : Plane) (t : ℕ) (sound : Sound M) (begins :
       ends_at = ap (λ q. is_above p (start N x) || is_above p q) meets
 
       of_s : solid_of N (face_at N (after N x)) ≡ s
-      of_s = straddling_solid (face_at N (after N x)) i
+      of_s = same_solid M s p t sound begins (face_at N (after N x)) ∙ (face_facts M s p (face_at N (after N x)) i).1
 
       aside_here : are_opposite p (start N x) (start N (after N x)) ≡ false
       aside_here = ap (are_opposite p (start N x)) (sym meets) ∙ stays_aside x there (ap (solid_of N) (sym one_face) ∙ of_s)

@@ -42,12 +42,6 @@ side_m h m c d side hm = ap (λ b. cond b (side d) (cond (m == m) (side c) (side
 pub side_old : (h m c d : ℕ) (side : ℕ → Bool) (x : ℕ) → x ≢ h → x ≢ m → with_sides h m c d side x ≡ side x
 side_old h m c d side x a b = ap (λ t. cond t (side d) (cond (x == m) (side c) (side x))) (ne_eqb x h a) ∙ ap (λ t. cond t (side c) (side x)) (ne_eqb x m b)
 
-not_not : (a b c : Bool) → a ≡ not b → c ≡ not a → b ≡ c
-not_not a b c e f = grind arith
-
-same_not : (a b c : Bool) → c ≡ not a → c ≡ not b → a ≡ b
-same_not a b c e f = grind arith
-
 -- what is asked of the old items, and of the two open places c and d, on different sides
 pub record Closing (Old : ℕ → Type 0) (next : ℕ → ℕ) (side : ℕ → Bool) (h m c d : ℕ) (before then_open : List ℕ) : Type 0 where
   pub hm : h ≢ m
@@ -81,35 +75,26 @@ module _ (Old New : ℕ → Type 0) (next : ℕ → ℕ) (side : ℕ → Bool) (
   not_open : (x : ℕ) → count x before ≡ 0 → count x then_open ≡ 0
   not_open x z = omega (arith, z, w.closed x)
 
-  c_in : IsIn c before
-  c_in = omega (arith, w.closed c, tick_same c)
-
-  d_in : IsIn d before
-  d_in = omega (arith, w.closed d, tick_same d)
-
   c_closed : count c then_open ≡ 0
   c_closed = omega (arith, w.closed c, tick_same c, w.apart c)
-
-  d_closed : count d then_open ≡ 0
-  d_closed = omega (arith, w.closed d, tick_same d, w.apart d)
 
   -- where one comes then from an old item
   at_c : (x : ℕ) → Old x → next x ≡ c → (side' (F x) ≡ side' x) × (count (F x) then_open ≡ 0)
   at_c x o e =
       let g : F x ≡ h = as_mev x o ∙ mev_at_c next h m c d x (w.fresh x o).0 (w.fresh x o).1 hd e in
-      let t : side c ≡ not (side x) = ap side (sym e) ∙ s.across x o (subst (λ y. IsIn y before) (sym e) c_in) in
-      (ap side' g ∙ side_h h m c d side ∙ same_not (side d) (side x) (side c) w.sides t ∙ sym (old_side x o), ap (λ y. count y then_open) g ∙ not_open h w.none_new.0)
+      let t : side c ≡ not (side x) = ap side (sym e) ∙ s.across x o (subst (λ y. IsIn y before) (sym e) (omega (arith, w.closed c, tick_same c))) in
+      (ap side' g ∙ side_h h m c d side ∙ grind arith ∙ sym (old_side x o), ap (λ y. count y then_open) g ∙ not_open h w.none_new.0)
 
   at_d : (x : ℕ) → Old x → next x ≡ d → (side' (F x) ≡ side' x) × (count (F x) then_open ≡ 0)
   at_d x o e =
       let g : F x ≡ m = as_mev x o ∙ mev_at_d next h m c d x (w.fresh x o).0 (w.fresh x o).1 w.cd e in
-      let t : side d ≡ not (side x) = ap side (sym e) ∙ s.across x o (subst (λ y. IsIn y before) (sym e) d_in) in
-      (ap side' g ∙ side_m h m c d side w.hm ∙ sym (not_not (side d) (side x) (side c) t w.sides) ∙ sym (old_side x o), ap (λ y. count y then_open) g ∙ not_open m w.none_new.1)
+      let t : side d ≡ not (side x) = ap side (sym e) ∙ s.across x o (subst (λ y. IsIn y before) (sym e) (omega (arith, w.closed d, tick_same d))) in
+      (ap side' g ∙ side_m h m c d side w.hm ∙ sym (grind arith) ∙ sym (old_side x o), ap (λ y. count y then_open) g ∙ not_open m w.none_new.1)
 
   at_h : (side' (F h) ≡ side' h) × (count (F h) then_open ≡ 0)
   at_h =
       let g : F h ≡ d = splice_at (after_mev next h m c d) h m ∙ mev_at_m next h m c d in
-      (ap side' g ∙ old_side d w.d_old ∙ sym (side_h h m c d side), ap (λ y. count y then_open) g ∙ d_closed)
+      (ap side' g ∙ old_side d w.d_old ∙ sym (side_h h m c d side), ap (λ y. count y then_open) g ∙ omega (arith, w.closed d, tick_same d, w.apart d))
 
   at_m : (side' (F m) ≡ side' m) × (count (F m) then_open ≡ 0)
   at_m =

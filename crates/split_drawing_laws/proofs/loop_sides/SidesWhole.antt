@@ -189,12 +189,9 @@ draw_goes f d q = goes_either (in_one_loop d.model q) d (cut_off d q) (stuck_at 
 pub draws_go_on : (f : ℕ) (d : Drawing) (qs : List (ℕ × ℕ)) → GoesOn d (fold (draw_next f) d qs)
 draws_go_on f d qs = goes_all (draw_next f) (draw_goes f) d qs
 
-face_goes_on : (p : Plane) (d : Drawing) (f : FacePairs) → GoesOn d (next_drawn p d f)
-unfolding next_drawn
-face_goes_on p d f = grind (arith, goes_all, join_goes, goes_through, goes_either, goes_stuck, draws_go_on)
-
 pub faces_go_on : (p : Plane) (d : Drawing) (fs : List FacePairs) → GoesOn d (fold (next_drawn p) d fs)
-faces_go_on p d fs = goes_all (next_drawn p) (face_goes_on p) d fs
+unfolding next_drawn
+faces_go_on p d fs = goes_all (next_drawn p) (λ d f. grind (arith, goes_all, join_goes, goes_through, goes_either, goes_stuck, draws_go_on)) d fs
 
 pub not_stuck : (p : Plane) (d : Drawing) (fs : List FacePairs) → (fold (next_drawn p) d fs).stuck ≡ 0 → d.stuck ≡ 0
 not_stuck p d fs free = elim (eqb_tells d.stuck 0) [ inl e ↦ e.1 | inr e ↦ absurd ((faces_go_on p d fs).stuck e.1 free) ]
@@ -214,11 +211,9 @@ faces_parted B first S p d (f ∷ fs) n w some cross free fine parted =
 -- ---- the drawing
 
 module _ (p : Plane) (g : Growing) (fs : List FacePairs) (first mine : ℕ → Bool) (can : CanBeDrawn g fs) (sides : TakeSides p g fs first mine) (free : (faces_drawn p (undrawn g) fs).stuck ≡ 0) where
-  none_drawn : Parted g.model g.model p first (λ h. mine h ≡ true) (all_ends fs)
-  none_drawn = grind arith
-
   pub all_drawn_parted : Parted g.model (faces_drawn p (undrawn g) fs).model p first (λ h. mine h ≡ true) []
-  all_drawn_parted = faces_parted g.model first (λ h. mine h ≡ true) p (undrawn g) fs 0 (drawable g fs can) sides.some sides.cross free sides.fine none_drawn
+  all_drawn_parted =
+      faces_parted g.model first (λ h. mine h ≡ true) p (undrawn g) fs 0 (drawable g fs can) sides.some sides.cross free sides.fine (grind arith)
 
   pub loops_on_one_side : (x y : ℕ) → HasHalf (faces_drawn p (undrawn g) fs).model x → HasHalf (faces_drawn p (undrawn g) fs).model y →
       loop_of (faces_drawn p (undrawn g) fs).model x ≡ loop_of (faces_drawn p (undrawn g) fs).model y → mine x ≡ true → mine y ≡ true →

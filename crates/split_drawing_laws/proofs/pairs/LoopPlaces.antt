@@ -53,9 +53,6 @@ IsEven n = (k : ℕ) × (n ≡ 2 * k)
 pub two_less : (n : ℕ) → IsEven (suc (suc n)) → IsEven n
 two_less n even = (even.0 - 1, omega (arith, even.1))
 
-pub even_sum : (m n : ℕ) → IsEven m → IsEven n → IsEven (m + n)
-even_sum m n a b = (a.0 + b.0, omega (arith, a.1, b.1))
-
 -- 1 where the side is true
 abbrev one : Bool → ℕ
 one b = cond b 1 0
@@ -158,7 +155,7 @@ module _ (M : Model) (sound : Sound M) (p : Plane) where
       let later = some_even ls (λ h i. untouched h (omega (arith, i, count-append h (items_of (content M l)) (items_in M ls)))) in
       subst IsEven
       (sym (ap length (filter-append (is_place M p) (items_of (content M l)) (items_in M ls)) ∙ length-append (filter (is_place M p) (items_of (content M l))) (filter (is_place M p) (items_in M ls))))
-      (even_sum (length (filter (is_place M p) (items_of (content M l)))) (length (filter (is_place M p) (items_in M ls))) first later)
+      ((first.0 + later.0, omega (arith, first.1, later.1)))
 
   -- ---- a face
 

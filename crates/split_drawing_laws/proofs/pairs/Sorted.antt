@@ -7,7 +7,7 @@ use Rattle.euler_operators.specs.Items.{count, tick, IsApart, IsIn}
 use Rattle.euler_operators.specs.Model.{Model, loop_of}
 use Rattle.euler_operators.proofs.Lists.{tick_same}
 use Rattle.shapes.specs.split.Places.{place_point, sorted_in, sorted, goes_up, in_pairs, up_first, places, sorted_pairs, place_pairs, is_crossed}
-use Rattle.shapes.specs.split.Drawing.{from_place, in_one_loop, drawn_pairs}
+use Rattle.shapes.specs.split.Drawing.{from_place, drawn_pairs}
 use Rattle.split_drawing_laws.specs.drawings.Pairs.{Fits, AllFit, LoneInOneLoop}
 use Rattle.split_drawing_laws.specs.loop_sides.Parted.{ends}
 use Rattle.split_drawing_laws.proofs.pairs.LoopPlaces.{IsEven, two_less}
@@ -65,14 +65,11 @@ module _ (M N : Model) (p : Plane) where
         all_fit f ks (λ x. omega (arith, apart x)) (λ x y i j. fits x y (omega (arith, i)) (omega (arith, j))),
       )
 
-  either_loop : (l : ℕ) (b : Bool) (h k : ℕ) → loop_of N (from_place N p h) ≡ l → loop_of N (from_place N p k) ≡ l → in_one_loop N (between (cond b (h, k) (k, h))) ≡ true
-  either_loop l b h k e f = grind (arith, eq-eqb)
-
   -- an even number of places, where two alone are those of one loop
   pub lone_in_loop : (l : ℕ) (hs : List ℕ) → IsEven (length hs) → (length hs ≡ 2 → (x : ℕ) → IsIn x hs → loop_of N (from_place N p x) ≡ l) → LoneInOneLoop N (drawn hs)
   lone_in_loop l [] even two = tt
   lone_in_loop l (h ∷ []) even two = tt
-  lone_in_loop l (h ∷ k ∷ []) even two = either_loop l (goes_up M p h) h k (two refl h (omega (arith, tick_same h))) (two refl k (omega (arith, tick_same k)))
+  lone_in_loop l (h ∷ k ∷ []) even two = grind (arith, eq-eqb)
   lone_in_loop l (h ∷ k ∷ j ∷ []) even two = absurd (omega (arith, even.1))
   lone_in_loop l (h ∷ k ∷ j ∷ i ∷ hs) even two = tt
 

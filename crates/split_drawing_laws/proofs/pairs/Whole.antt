@@ -52,15 +52,12 @@ module _ (p : Plane) where
   all_grown g (e ∷ es) = grind (arith, next_taken, all_grown (next_cut p g e) es)
 
   module _ (M : Model) (s : ℕ) where
-    crossings_grown : Grown (taken_in M) (with_crossings M s p).taken (length (crossing_edges M p s))
-    unfolding with_crossings
-    crossings_grown = all_grown (growing M) (crossing_edges M p s)
-
     -- room for the pairs that a split counts
     pub pairs_room : Left (taken_in M) (pair_count M p (straddling_faces M p s)) (pair_count M p (straddling_faces M p s))
         (length (crossing_edges M p s) + pair_count M p (straddling_faces M p s)) (length (crossing_edges M p s)) →
         PairsHaveRoom (with_crossings M s p).taken (pairs_in (straddling_pairs M s p))
-    pairs_room left = grind (arith, crossings_grown, pairs_counted)
+    unfolding with_crossings
+    pairs_room left = grind (arith, all_grown (growing M) (crossing_edges M p s), pairs_counted)
 
 -- ---- from the first conditions of a split to the drawing of its faces
 
