@@ -1,17 +1,27 @@
--- A solid with flat faces, turned inside out.
-use Rattle.std.proofs.Common.{◌≡◌, ◌≢◌, ℕ, true, not, nat_eq, ℤ, ◌+ℤ◌, neg_ℤ, List, [], ◌∷◌, map, reverse, is_some, refl, sym, ap, ◌∙◌, arith}
+-- A model with its loops run the other way, and a solid with flat faces turned inside out.
+use Rattle.std.proofs.Common.{◌≡◌, ℕ, not, nat_eq, ◌&&◌, List, [], ◌∷◌, map, reverse, Option, Some, None, unwrap_or, refl, sym, ap, ◌∙◌, ◌≢◌, true, ℤ, ◌+ℤ◌, neg_ℤ, is_some, arith}
+use Rattle.std.specs.Option.{option_map}
+use Rattle.euler_operators.specs.Vectors.{moved, cross, origin, dot, same_point, is_on, direction}
+use Rattle.euler_operators.specs.Items.{SameItems, count, IsIn, head_or}
+use Rattle.euler_operators.specs.Rings.{canonical, IsRing}
+use Rattle.euler_operators.proofs.Rotations.{canonical_nil, count-canonical, IsIn_head}
+use Rattle.euler_operators.proofs.Tables.{all_where-map}
+use Rattle.euler_operators.specs.HalfEdge.{mate}
+use Rattle.euler_operators.specs.Table as table
+use Rattle.euler_operators.specs.Table.{get-map_rows}
+use Rattle.euler_operators.specs.Model.{Model, LoopContent, lone, cycle, LoopRow, no_loop, items_of, tail, content, outer, point_of, rings_of, after, faces_of}
+use Rattle.shapes.specs.Faces.{start, loops_of, items_in, boundary, vertices_on, corners}
+use Rattle.shapes.specs.Measure.{area, normal, anchor, first_vertex, plane_of, is_flat, volume_in, six_volume}
+use Rattle.shapes.proofs.Areas.{area-append}
+use Rattle.shapes.specs.Vectors.{negated}
+use Rattle.solid_measure_laws.specs.Models.{run_back, row_back, turned}
+use Rattle.shapes.proofs.measures.Sums.{area_same, area_mates, area_back, moved_back, dot_back, count-mates}
 use Rattle.std.specs.List.{list_all}
 use Rattle.std.proofs.lemmas.Bool.{and_parts}
 use Rattle.std.proofs.lemmas.Int.{ints}
 use Rattle.euler_operators.specs.declared.Plane.{Plane}
-use Rattle.euler_operators.specs.Vectors.{origin, dot, same_point, is_on, direction}
-use Rattle.euler_operators.specs.Items.{count, IsIn, head_or}
-use Rattle.euler_operators.specs.Rings.{canonical, IsRing}
-use Rattle.euler_operators.proofs.Rotations.{count-canonical, IsIn_head}
 use Rattle.euler_operators.proofs.Std.{SameItems-from_permutation}
 use Rattle.std.proofs.lemmas.List.Sorted.{IsPermutation-reverse}
-use Rattle.euler_operators.specs.HalfEdge.{mate}
-use Rattle.euler_operators.specs.Model.{Model, LoopContent, lone, cycle, items_of, tail, content, outer, point_of, after, faces_of}
 use Rattle.euler_operators.specs.Sound.{Sound, Has}
 use Rattle.euler_operators.proofs.Halves.{mate-mate}
 use Rattle.euler_operators.proofs.Models.{in-holds}
@@ -20,12 +30,9 @@ use Rattle.euler_operators.proofs.Rings.{ring_stays}
 use Rattle.euler_operators.specs.Conditions.{lists}
 use Rattle.euler_laws.proofs.shared.Listed.{first_listed, rest_listed, listed_passes}
 use Rattle.euler_laws.proofs.shared.Loops.{light}
-use Rattle.shapes.specs.Faces.{vertices_on, corners, loops_of}
-use Rattle.shapes.specs.Measure.{normal, anchor, first_vertex, plane_of, is_flat, volume_in, six_volume}
-use Rattle.solid_measure_laws.specs.Models.{run_back, turned}
 use Rattle.shapes.proofs.measures.FlatFaces.{list_parts, are_on, plane_told}
-use Rattle.shapes.proofs.measures.Sums.{dot_back, count-mates}
-use Rattle.solid_measure_laws.proofs.Turned.{outer_kept, content_turned, normal_turned}
+
+-- ---- a solid with flat faces, turned inside out
 
 -- a loop run back, from its least item on
 abbrev back : List ℕ → List ℕ
@@ -35,6 +42,54 @@ count_back : (x : ℕ) (hs : List ℕ) → count x (back hs) ≡ count (mate x) 
 count_back x hs = count-canonical x (reverse (map mate hs)) ∙ sym (SameItems-from_permutation (map mate hs) (reverse (map mate hs)) (IsPermutation-reverse (map mate hs)) x) ∙ count-mates x hs
 
 module _ (M : Model) where
+  start_kept : (h : ℕ) → start (turned M) h ≡ start M h
+  unfolding turned tail point_of
+  start_kept h = refl
+
+  area_kept : (hs : List ℕ) → area (turned M) hs ≡ area M hs
+  area_kept [] = refl
+  area_kept (h ∷ hs) = λ i. moved (cross (start_kept h i) (start_kept (mate h) i)) (area_kept hs i)
+
+  pub outer_kept : (f : ℕ) → outer (turned M) f ≡ outer M f
+  unfolding turned outer
+  outer_kept f = refl
+
+  rings_kept : (f : ℕ) → rings_of (turned M) f ≡ rings_of M f
+  unfolding turned outer
+  rings_kept f = all_where-map (λ _ row. row_back row) (λ l row. nat_eq row.face f && not (nat_eq (outer M f) l)) M.loops
+
+  loops_kept : (f : ℕ) → loops_of (turned M) f ≡ loops_of M f
+  unfolding loops_of
+  loops_kept f = λ i. outer_kept f i ∷ rings_kept f i
+
+  content_in : (o : Option LoopRow) → (unwrap_or (option_map row_back o) no_loop).content ≡ run_back (unwrap_or o no_loop).content
+  content_in None = ap cycle (sym canonical_nil)
+  content_in (Some row) = refl
+
+  pub content_turned : (l : ℕ) → content (turned M) l ≡ run_back (content M l)
+  unfolding turned content
+  content_turned l = ap (λ o. (unwrap_or o no_loop).content) (get-map_rows (λ _ row. row_back row) M.loops l) ∙ content_in (table.get M.loops l)
+
+  back_area : (x : LoopContent) → area M (items_of (run_back x)) ≡ negated (area M (items_of x))
+  back_area (lone v) = refl
+  back_area (cycle hs) = area_same M (canonical (reverse (map mate hs))) (reverse (map mate hs)) (λ x. count-canonical x (reverse (map mate hs))) ∙ area_back M hs
+
+  loops_turned : (ls : List ℕ) → area M (items_in (turned M) ls) ≡ negated (area M (items_in M ls))
+  loops_turned [] = refl
+  loops_turned (l ∷ ls) = area-append M (items_of (content (turned M) l)) (items_in (turned M) ls)
+      ∙ (λ i. moved ((ap (λ x. area M (items_of x)) (content_turned l) ∙ back_area (content M l)) i) (loops_turned ls i))
+      ∙ moved_back (area M (items_of (content M l))) (area M (items_in M ls))
+      ∙ ap negated (sym (area-append M (items_of (content M l)) (items_in M ls)))
+
+  pub normal_turned : (f : ℕ) → normal (turned M) f ≡ negated (normal M f)
+  unfolding normal boundary
+  normal_turned f = area_kept (items_in (turned M) (loops_of (turned M) f)) ∙ ap (λ ls. area M (items_in (turned M) ls)) (loops_kept f) ∙ loops_turned (loops_of M f)
+
+  -- the other halves of a face's half-edges, in any order
+  pub normal_opposed : (f g : ℕ) → SameItems (boundary M g) (map mate (boundary M f)) → normal M g ≡ negated (normal M f)
+  unfolding normal
+  normal_opposed f g s = area_same M (boundary M g) (map mate (boundary M f)) s ∙ area_mates M (boundary M f)
+
   point_kept : (v : ℕ) → point_of (turned M) v ≡ point_of M v
   unfolding turned point_of
   point_kept v = refl
@@ -54,7 +109,7 @@ module _ (M : Model) where
   anchor_is : (f : ℕ) → anchor (turned M) f ≡ point_of M (first_vertex M (run_back (content M (outer M f))))
   anchor_is f = point_kept (first_vertex (turned M) (content (turned M) (outer (turned M) f)))
       ∙ ap (point_of M) (first_kept (content (turned M) (outer (turned M) f)))
-      ∙ ap (λ x. point_of M (first_vertex M x)) (ap (content (turned M)) (outer_kept M f) ∙ content_turned M (outer M f))
+      ∙ ap (λ x. point_of M (first_vertex M x)) (ap (content (turned M)) (outer_kept f) ∙ content_turned (outer M f))
 
   module _ (s : Plane) (next : ℕ → ℕ) where
     -- the first corner of a loop that is run back is one of its corners
@@ -82,7 +137,7 @@ module _ (M : Model) where
     unfolding is_flat
     face_inverted f there flat =
         let on = (and_parts (not (same_point (direction (plane_of M f)) origin)) (are_on M (plane_of M f) (corners M f)) flat).1 in
-        ap (dot (anchor (turned M) f)) (normal_turned M f) ∙ dot_back (anchor (turned M) f) (normal M f) ∙ ap neg_ℤ (plane_told M f (anchor (turned M) f) (anchor_on f (plane_of M f) there on))
+        ap (dot (anchor (turned M) f)) (normal_turned f) ∙ dot_back (anchor (turned M) f) (normal M f) ∙ ap neg_ℤ (plane_told M f (anchor (turned M) f) (anchor_on f (plane_of M f) there on))
 
     faces_inverted : (fs : List ℕ) → ((f : ℕ) → lists fs f ≡ true → Has M.faces f) → list_all (is_flat M) fs ≡ true → volume_in (turned M) fs ≡ neg_ℤ (volume_in M fs)
     faces_inverted [] there flat = refl
