@@ -20,9 +20,8 @@ use Rattle.euler_operators.proofs.Vectors.{none_add}
 use Rattle.euler_operators.proofs.Rectangles.{second_corner, third_corner, fourth_corner, rectangle_flat, rectangle_raised}
 use Rattle.euler_operators.proofs.Models.{solid_row}
 use Rattle.sweeps_laws.proofs.FromSound.{sound_bounded, sweep_adds, sweep_keeps_others}
-use Rattle.sweeps_laws.proofs.LaminaVolumes.{lamina_volume, flat_volume}
+use Rattle.sweeps_laws.proofs.LaminaVolumes.{lamina_volume, flat_volume, base, base_normal, base_volume}
 use Rattle.sweeps_laws.specs.Laws.{BlockMeasures, BlockKeepsOthers, LaminaMeasures, FlatLaminasMeasureNothing, LaminaKeepsOthers}
-use Rattle.sweeps_laws.proofs.Base.{base, normal_one, base_volume}
 use Rattle.sweeps_laws.proofs.LaminaRows.{solid_one, lamina_keeps}
 
 solid_free : (M : Model) (s : ℕ) (p : Point) (dx dy dz : ℤ) → block_refusal M s p dx dy dz ≡ None → table.has M.solids s ≡ false
@@ -45,24 +44,21 @@ module _ (M : Model) (s : ℕ) (p : Point) (dx dy dz : ℤ) (sound : Sound M) (e
   abbrev L : Model
   L = base M (taken_in M) s p (second_corner p dx dy) (third_corner p dx dy) (fourth_corner p dx dy)
 
-  abbrev up : Point
-  up = vector (pos 0) (pos 0) dz
-
   made : lamina_model M s (base_of p dx dy) ≡ L
   made = lamina_is M s (base_of p dx dy)
 
   base_sound : Sound L
   base_sound = subst Sound made (lamina_is_sound M s (base_of p dx dy) sound (blocks_have_bases M s p dx dy dz e))
 
-  rises : prism_refusal L ((taken_in M).face + 1) up ≡ None
-  rises = subst (λ X. prism_refusal X ((taken_in M).face + 1) up ≡ None) made (bases_rise M s p dx dy dz sound e)
+  rises : prism_refusal L ((taken_in M).face + 1) (vector (pos 0) (pos 0) dz) ≡ None
+  rises = subst (λ X. prism_refusal X ((taken_in M).face + 1) (vector (pos 0) (pos 0) dz) ≡ None) made (bases_rise M s p dx dy dz sound e)
 
   of : solid_of L ((taken_in M).face + 1) ≡ s
   of = solid_one M (taken_in M) s (base_of p dx dy)
 
 -- six times the product of its sizes
 pub block_volume : BlockMeasures
-block_volume M s p dx dy dz sound e = grind (arith, second_corner, third_corner, fourth_corner, sound_bounded, of, block_is, base_sound, rises, no_faces, solid_free, rectangle_flat, none_add, base, sweep_adds, normal_one, base_volume, rectangle_raised)
+block_volume M s p dx dy dz sound e = grind (arith, second_corner, third_corner, fourth_corner, sound_bounded, of, block_is, base_sound, rises, no_faces, solid_free, rectangle_flat, none_add, base, sweep_adds, base_normal, base_volume, rectangle_raised)
 
 -- a lamina has three points or more, and its solid is new
 lamina_new : (M : Model) (s : ℕ) (ps : List Point) → lamina_refusal M s ps ≡ None → (length ps ≡ suc (suc (suc (length ps - 3)))) × (table.has M.solids s ≡ false)

@@ -70,13 +70,10 @@ no_edge_tail : (M : Model) (h : ℕ) → table.has M.edges (edge_of h) ≡ false
 unfolding tail
 no_edge_tail M h e = tail_none (table.get M.edges (edge_of h)) (is_first h) e
 
-zero_within : (a n : ℕ) → a ≡ 0 → a ≤ n
-zero_within a n e = omega (arith, e)
-
 -- a number that is used where there is a row, and is 0 where there is none
 used_or_none : (a g : ℕ) (b : Bool) → (b ≡ true → a ≤ g) → (b ≡ false → a ≡ 0) → a ≤ g
 used_or_none a g true u n = u refl
-used_or_none a g false u n = zero_within a g (n refl)
+used_or_none a g false u n = omega (arith, (n refl))
 
 some_items : (hs : List ℕ) → hs ≢ [] → 0 < length hs
 some_items [] ne = absurd (ne refl)

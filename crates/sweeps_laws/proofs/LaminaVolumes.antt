@@ -1,22 +1,22 @@
 -- The six volumes of a lamina: its two faces have opposite normals, and one is told from the first point, the other from the second.
 use Rattle.std.specs.Prelude.{length, get_or, map, reverse}
-use Rattle.std.proofs.Common.{◌≡◌, ℕ, zero, suc, ◌+◌, ◌≤◌, ◌<◌, ℤ, pos, ◌+ℤ◌, ◌-ℤ◌, neg_ℤ, true, List, [], ◌∷◌, ◌++◌, refl, sym, ap, subst, ◌∙◌, arith, inl, inr, append-nil}
+use Rattle.std.proofs.Common.{◌≡◌, ℕ, zero, suc, ◌+◌, ◌≤◌, ◌<◌, ℤ, pos, ◌+ℤ◌, ◌-ℤ◌, true, List, [], ◌∷◌, ◌++◌, refl, sym, ap, subst, ◌∙◌, arith, inl, inr, append-nil}
 use Rattle.std.proofs.lemmas.Bool.Decides.{eqb_tells}
 use Rattle.std.proofs.lemmas.Int.{ints}
 use Rattle.euler_operators.specs.declared.Point.{Point}
-use Rattle.euler_operators.specs.Vectors.{dot}
+use Rattle.euler_operators.specs.Vectors.{dot, origin, moved, cross}
 use Rattle.euler_operators.specs.Items.{count, IsIn, IsApart, head_or}
 use Rattle.euler_operators.specs.Rings.{canonical}
 use Rattle.euler_operators.specs.HalfEdge.{mate, plus, minus}
 use Rattle.euler_operators.specs.Model.{Model, cycle, no_point, items_of, tail, content, outer, point_of, faces_of}
 use Rattle.euler_operators.specs.Conditions.{lists}
 use Rattle.euler_operators.proofs.Models.{content_row, outer_row, plus_tail_row, minus_tail_row}
-use Rattle.euler_operators.proofs.Halves.{mate_plus}
+use Rattle.euler_operators.proofs.Halves.{mate_plus, mate_minus}
 use Rattle.euler_operators.proofs.Lists.{count-append, tick_same, tick_other}
 use Rattle.euler_operators.proofs.Rotations.{count-canonical}
 use Rattle.euler_operators.proofs.Members.{IsIn-map}
 use Rattle.euler_laws.proofs.shared.Listed.{listed-from_in}
-use Rattle.shapes.specs.Faces.{items_in, vertices_in, vertices_on, corners, loops_of}
+use Rattle.shapes.specs.Faces.{items_in, vertices_in, vertices_on, corners, loops_of, start, finish}
 use Rattle.shapes.specs.Fresh.{Taken, numbers_after}
 use Rattle.shapes.specs.Measure.{area, normal, anchor, first_vertex, is_flat, volume_in, six_volume}
 use Rattle.shapes.specs.Vectors.{negated}
@@ -27,7 +27,9 @@ use Rattle.sweeps_laws.proofs.lamina.Lists.{out_first, plus_halves, minus_halves
 use Rattle.sweeps_laws.proofs.LaminaRows as rows
 use Rattle.sweeps_laws.proofs.swept.Lifted.{Bounded}
 use Rattle.sweeps_laws.proofs.Loops.{normal_is}
-use Rattle.sweeps_laws.proofs.Volumes.{six_volume_is}
+use Rattle.sweeps_laws.proofs.LaminaRows.{six_volume_is}
+use Rattle.shapes.specs.Lamina.{lamina_at}
+use Rattle.euler_operators.proofs.Rectangles.{ring_area}
 
 -- ---- the loop the other way round, from its least half-edge on
 
@@ -59,9 +61,6 @@ mates (e ∷ es) = λ i. sym (mate_plus e) i ∷ mates es i
 second_in : (e j : ℕ) → IsIn (plus (e + 2)) (out e (suc (suc j)))
 second_in e zero = omega (arith, count-append (plus (e + 2)) (out e 1) (plus (e + 2) ∷ []), tick_same (plus (e + 2)))
 second_in e (suc j) = omega (arith, count-append (plus (e + 2)) (out e (suc (suc j))) (plus (e + suc (suc (suc j))) ∷ []), second_in e j)
-
-difference : (m n : ℤ) → m +ℤ (neg_ℤ n +ℤ pos 0) ≡ m -ℤ n
-difference m n = omega (arith, ints)
 
 no_difference : (m n : ℤ) → n ≡ m → m -ℤ n ≡ pos 0
 no_difference m n e = omega (arith, ints)
@@ -121,19 +120,24 @@ module _ {M : Model} {c : Taken} (s : ℕ) (ps : List Point) (k : ℕ) (many : l
       ∙ ap (λ hs. point_of drawn (tail drawn (head_or 0 hs))) (back_from_first c.edge (suc (suc k)))
       ∙ ap (point_of drawn) back_one ∙ rows.point_at M c s ps 1 (omega (arith, many))
 
-  normal_two : normal drawn (c.face + 2) ≡ negated (normal drawn face)
-  normal_two = normal_is drawn (c.face + 2) ∙ ap (λ rs. area drawn (items_in drawn (outer drawn (c.face + 2) ∷ rs))) (rows.rings_two M c s ps b)
+  normal_back : normal drawn (c.face + 2) ≡ area drawn (canonical halves_back)
+  normal_back = normal_is drawn (c.face + 2) ∙ ap (λ rs. area drawn (items_in drawn (outer drawn (c.face + 2) ∷ rs))) (rows.rings_two M c s ps b)
       ∙ ap (λ q. area drawn (items_in drawn (q ∷ []))) outer_two ∙ ap (λ x. area drawn (items_of x ++ [])) content_two ∙ ap (area drawn) (append-nil (canonical halves_back))
-      ∙ area_same drawn (canonical halves_back) halves_back (λ x. count-canonical x halves_back)
+
+  normal_two : normal drawn (c.face + 2) ≡ negated (normal drawn face)
+  normal_two = normal_back ∙ area_same drawn (canonical halves_back) halves_back (λ x. count-canonical x halves_back)
       ∙ ap (λ hs. area drawn (reverse hs)) (mates (numbers_after c.edge (length ps))) ∙ area_back drawn halves ∙ ap negated (sym normal_one)
 
   -- ---- both
 
+  faces_volume : faces_of M s ≡ [] → six_volume drawn s ≡ dot (get_or ps 0 no_point) (normal drawn face) +ℤ (dot (get_or ps 1 no_point) (normal drawn (c.face + 2)) +ℤ pos 0)
+  faces_volume none = six_volume_is drawn s ∙ ap (volume_in drawn) (rows.faces_are M c s ps b none)
+      ∙ (λ i. dot (anchor_one i) (normal drawn face) +ℤ (dot (anchor_two i) (normal drawn (c.face + 2)) +ℤ pos 0))
+
   pub lamina_volume : faces_of M s ≡ [] → six_volume drawn s ≡ dot (get_or ps 0 no_point) (normal drawn face) -ℤ dot (get_or ps 1 no_point) (normal drawn face)
-  lamina_volume none = six_volume_is drawn s ∙ ap (volume_in drawn) (rows.faces_are M c s ps b none)
-      ∙ (λ i. dot (anchor_one i) (normal drawn face) +ℤ (dot (anchor_two i) (normal_two i) +ℤ pos 0))
-      ∙ ap (λ v. dot (get_or ps 0 no_point) (normal drawn face) +ℤ (v +ℤ pos 0)) (dot_back (get_or ps 1 no_point) (normal drawn face))
-      ∙ difference (dot (get_or ps 0 no_point) (normal drawn face)) (dot (get_or ps 1 no_point) (normal drawn face))
+  lamina_volume none = faces_volume none
+      ∙ ap (λ v. dot (get_or ps 0 no_point) (normal drawn face) +ℤ (v +ℤ pos 0)) (ap (dot (get_or ps 1 no_point)) normal_two ∙ dot_back (get_or ps 1 no_point) (normal drawn face))
+      ∙ omega (arith, ints)
 
   -- the second vertex is one of the first face's corners
   second_corner : lists (corners drawn face) (c.vertex + 2) ≡ true
@@ -149,3 +153,46 @@ module _ {M : Model} {c : Taken} (s : ℕ) (ps : List Point) (k : ℕ) (many : l
   pub flat_volume : faces_of M s ≡ [] → is_flat drawn face ≡ true → six_volume drawn s ≡ pos 0
   flat_volume none flat = lamina_volume none ∙ no_difference (dot (get_or ps 0 no_point) (normal drawn face)) (dot (get_or ps 1 no_point) (normal drawn face))
       (ap (λ p. dot p (normal drawn face)) (sym (rows.point_at M c s ps 1 (omega (arith, many)))) ∙ corner_told drawn face (c.vertex + 2) flat second_corner ∙ ap (λ p. dot p (normal drawn face)) anchor_one)
+
+-- ---- four points
+
+module _ (M : Model) (c : Taken) (s : ℕ) (a b g h : Point) where
+  abbrev four : List Point
+  four = a ∷ b ∷ g ∷ h ∷ []
+
+  abbrev pub base : Model
+  base = lamina_at M c s four
+
+  out_starts : (i : ℕ) → i < 3 → start base (plus (c.edge + suc i)) ≡ get_or four i no_point
+  out_starts i l = ap (point_of base) (plus_tail_row base (c.edge + suc i) _ (rows.edge_at M c s four i (omega (arith, l)))) ∙ rows.point_at M c s four i (omega (arith, l))
+
+  back_starts : (i : ℕ) → i < 3 → start base (minus (c.edge + suc i)) ≡ get_or four (suc i) no_point
+  back_starts i l = ap (point_of base) (minus_tail_row base (c.edge + suc i) _ (rows.edge_at M c s four i (omega (arith, l))) ∙ omega arith) ∙ rows.point_at M c s four (suc i) (omega (arith, l))
+
+  last_starts : start base (plus (c.edge + 4)) ≡ h
+  last_starts = ap (point_of base) (plus_tail_row base (c.edge + 4) _ (rows.last_edge_at M c s four)) ∙ rows.point_at M c s four 3 (omega arith)
+
+  last_ends : start base (minus (c.edge + 4)) ≡ a
+  last_ends = ap (point_of base) (minus_tail_row base (c.edge + 4) _ (rows.last_edge_at M c s four)) ∙ rows.point_at M c s four 0 (omega arith)
+
+  -- a half-edge ends where its mate starts
+  plus_ends : (e : ℕ) (p : Point) → start base (minus e) ≡ p → finish base (plus e) ≡ p
+  plus_ends e p i = ap (start base) (mate_plus e) ∙ i
+
+  minus_ends : (e : ℕ) (p : Point) → start base (plus e) ≡ p → finish base (minus e) ≡ p
+  minus_ends e p i = ap (start base) (mate_minus e) ∙ i
+
+  module _ (bounded : Bounded M c) where
+    pub base_normal : normal base (c.face + 1) ≡ ring_area a b g h
+    base_normal = normal_one s four 1 refl bounded ∙ ap (area base) (plus_halves c.edge 4)
+        ∙ (λ i. moved (cross (out_starts 0 (omega arith) i) (plus_ends (c.edge + 1) b (back_starts 0 (omega arith)) i)) (moved (cross (out_starts 1 (omega arith) i) (plus_ends (c.edge + 2) g (back_starts 1 (omega arith)) i))
+        (moved (cross (out_starts 2 (omega arith) i) (plus_ends (c.edge + 3) h (back_starts 2 (omega arith)) i)) (moved (cross (last_starts i) (plus_ends (c.edge + 4) a last_ends i)) origin))))
+
+    back_normal : normal base (c.face + 2) ≡ ring_area b a h g
+    back_normal = normal_back s four 1 refl bounded ∙ ap (area base) (ap canonical (minus_halves c.edge 4) ∙ back_from_first c.edge 3)
+        ∙ (λ i. moved (cross (back_starts 0 (omega arith) i) (minus_ends (c.edge + 1) a (out_starts 0 (omega arith)) i)) (moved (cross (last_ends i) (minus_ends (c.edge + 4) h last_starts i))
+        (moved (cross (back_starts 2 (omega arith) i) (minus_ends (c.edge + 3) g (out_starts 2 (omega arith)) i)) (moved (cross (back_starts 1 (omega arith) i) (minus_ends (c.edge + 2) b (out_starts 1 (omega arith)) i)) origin))))
+
+    -- the six volumes of a solid that was not there
+    pub base_volume : faces_of M s ≡ [] → six_volume base s ≡ dot a (ring_area a b g h) +ℤ (dot b (ring_area b a h g) +ℤ pos 0)
+    base_volume none = faces_volume s four 1 refl bounded none ∙ (λ i. dot a (base_normal i) +ℤ (dot b (back_normal i) +ℤ pos 0))

@@ -1,31 +1,55 @@
--- One loop of a face swept: areas, anchors and volumes of the faces after.
-use Rattle.std.proofs.Common.{◌≡◌, ◌≢◌, ℕ, zero, suc, ◌+◌, ◌≤◌, ◌<◌, ℤ, pos, ◌+ℤ◌, ◌*ℤ◌, true, not, nat_eq, ◌&&◌, List, [], ◌∷◌, length, get_or, is_some, refl, sym, ap, subst, ◌∙◌, arith, inl, inr, true≢false}
+-- Areas of lists of half-edges and of loops, as sums along the places and where each stays; the volume of one face more.
+use Rattle.std.proofs.Common.{◌≡◌, ℕ, ◌+ℤ◌, true, List, [], ◌∷◌, ◌++◌, length, get_or, refl, sym, ap, ◌∙◌, ◌≢◌, zero, suc, ◌+◌, ◌≤◌, ◌<◌, ℤ, pos, ◌*ℤ◌, not, nat_eq, ◌&&◌, is_some, subst, arith, inl, inr, true≢false}
+use Rattle.euler_operators.specs.Vectors.{moved, cross, dot}
+use Rattle.euler_operators.specs.Items.{IsIn, head_or}
+use Rattle.euler_operators.specs.Model.{Model, items_of, content, LoopContent, lone, cycle, tail, outer, point_of, rings_of}
+use Rattle.euler_operators.specs.Conditions.{lists, strictly_rises}
+use Rattle.euler_laws.proofs.shared.Listed.{first_listed, rest_listed, listed_cases, listed_passes}
+use Rattle.shapes.specs.Faces.{start, finish, items_in, loops_of, boundary}
+use Rattle.shapes.specs.Measure.{area, volume_in, normal, anchor, first_vertex}
+use Rattle.shapes.proofs.Areas.{area-append, area_push}
+use Rattle.shapes.proofs.measures.Sums.{volume_of, volume_append, same_volumes}
+use Rattle.euler_operators.proofs.Vectors.{add_none, dot_moved, add_assoc}
+use Rattle.euler_operators.proofs.Sweeps.{sum_to, sum_first, moved_at, area_at, moved_ring, side_area, side_volume, Linked}
+use Rattle.euler_operators.proofs.Members.{IsIn_rest}
+use Rattle.euler_operators.proofs.Rotations.{IsIn_head}
 use Rattle.std.proofs.lemmas.Bool.Decides.{eqb_tells}
 use Rattle.std.proofs.lemmas.Int.{ints}
 use Rattle.euler_operators.specs.declared.Point.{Point}
-use Rattle.euler_operators.specs.Vectors.{moved, dot, cross}
-use Rattle.euler_operators.specs.Items.{IsIn, head_or}
 use Rattle.euler_operators.specs.HalfEdge.{edge_of, plus}
-use Rattle.euler_operators.specs.Model.{Model, LoopContent, lone, cycle, items_of, tail, content, outer, point_of, rings_of}
-use Rattle.euler_operators.specs.Conditions.{lists, strictly_rises}
-use Rattle.euler_laws.proofs.shared.Listed.{first_listed, rest_listed, listed_cases, listed_passes}
 use Rattle.euler_laws.proofs.Sizes.{rises_on, rises_apart}
-use Rattle.shapes.specs.Faces.{start, finish, loops_of, items_in, boundary}
 use Rattle.shapes.specs.Fresh.{Taken}
 use Rattle.shapes.specs.Prism.{top_edge, top_items}
-use Rattle.shapes.specs.Measure.{area, normal, anchor, first_vertex, volume_in}
 use Rattle.shapes.proofs.fresh.Rows.{at_most_greatest}
-use Rattle.euler_operators.proofs.Vectors.{dot_moved, add_assoc}
-use Rattle.euler_operators.proofs.Sweeps.{sum_to, moved_at, area_at, moved_ring, side_area, side_volume, Linked}
-use Rattle.euler_operators.proofs.Rotations.{IsIn_head}
 use Rattle.euler_operators.proofs.Halves.{mate_plus, mate_minus}
 use Rattle.sweeps_laws.proofs.swept.Numbers.{next_cases}
-use Rattle.shapes.proofs.Areas.{area_push}
-use Rattle.shapes.proofs.measures.Sums.{same_volumes, volume_of}
-use Rattle.sweeps_laws.proofs.Areas.{area_sum, same_area, same_loops}
 use Rattle.sweeps_laws.proofs.swept.Sides.{Keeps, start_kept, finish_kept}
 use Rattle.sweeps_laws.proofs.swept.Lifted.{Bounded, IsPathOf, swept, keeps_swept, outer_new, content_here, content_old, content_new, outer_old, rings_old, rings_new, from_point, to_point, riser_start, riser_finish, top_start, top_finish, next_start, next_finish, item_start, item_finish}
 use Rattle.sweeps_laws.proofs.prism.Loops.{tops_head}
+
+module _ (M : Model) where
+  -- the area as a sum along the places
+  pub area_sum : (hs : List ℕ) → area M hs ≡ sum_to (λ i. cross (start M (get_or hs i 0)) (finish M (get_or hs i 0))) (length hs)
+  area_sum [] = refl
+  area_sum (h ∷ hs) = ap (moved (cross (start M h) (finish M h))) (area_sum hs) ∙ sum_first (λ i. cross (start M (get_or (h ∷ hs) i 0)) (finish M (get_or (h ∷ hs) i 0))) (length hs)
+
+  pub volume_last : (ks : List ℕ) (k : ℕ) → volume_in M (ks ++ k ∷ []) ≡ volume_in M ks +ℤ volume_of M k
+  volume_last ks k = volume_append M ks (k ∷ []) ∙ ap (λ v. volume_in M ks +ℤ v) (add_none (volume_of M k))
+
+module _ (M N : Model) where
+  -- half-edges that start and end where they did have the area that they had
+  pub same_area : (hs : List ℕ) → ((h : ℕ) → IsIn h hs → (start N h ≡ start M h) × (finish N h ≡ finish M h)) → area N hs ≡ area M hs
+  same_area [] e = refl
+  same_area (h ∷ hs) e = let p = e h (IsIn_head h hs) in λ i. moved (cross (p.0 i) (p.1 i)) (same_area hs (λ g s. e g (IsIn_rest g h hs s)) i)
+
+  -- so have loops, where each has
+  pub same_loops : (ls : List ℕ) → ((q : ℕ) → lists ls q ≡ true → area N (items_of (content N q)) ≡ area M (items_of (content M q))) → area N (items_in N ls) ≡ area M (items_in M ls)
+  same_loops [] e = refl
+  same_loops (q ∷ ls) e = area-append N (items_of (content N q)) (items_in N ls)
+      ∙ (λ i. moved (e q (first_listed q ls) i) (same_loops ls (λ k l. e k (rest_listed q k ls l)) i))
+      ∙ sym (area-append M (items_of (content M q)) (items_in M ls))
+
+-- ---- one loop of a face swept: areas, anchors and volumes of the faces after
 
 -- the normal of a face, over its outer loop and its rings
 pub normal_is : (M : Model) (k : ℕ) → normal M k ≡ area M (items_in M (outer M k ∷ rings_of M k))
@@ -41,15 +65,12 @@ pub top_head : (e n k : ℕ) → 0 < k → head_or 0 (top_items e n k) ≡ plus 
 top_head e n zero l = absurd (omega arith)
 top_head e n (suc k) l = ap (head_or 0) (tops_head e n k).1
 
-first_edge : (e : ℕ) → edge_of 0 ≤ e
-unfolding edge_of
-first_edge e = omega arith
-
 -- what starts where the loop's path starts is its anchor
 pub first_kept : (M N : Model) (e v : ℕ) (keeps : Keeps M N e v) (bounded : (h : ℕ) → tail M h ≤ v) (x : LoopContent) →
     ((h : ℕ) → IsIn h (items_of x) → edge_of h ≤ e) → ((w : ℕ) → x ≡ lone w → w ≤ v) → point_of N (first_vertex N x) ≡ point_of M (first_vertex M x)
+unfolding edge_of
 first_kept M N e v keeps bounded (lone w) a b = keeps.points w (b w refl)
-first_kept M N e v keeps bounded (cycle []) a b = start_kept keeps bounded 0 (first_edge e)
+first_kept M N e v keeps bounded (cycle []) a b = start_kept keeps bounded 0 (omega arith)
 first_kept M N e v keeps bounded (cycle (h ∷ hs)) a b = start_kept keeps bounded h (a h (IsIn_head h hs))
 
 -- the loops of a face
@@ -94,14 +115,12 @@ module _ {M : Model} {c : Taken} (s : ℕ) (d : Point) {hs : List ℕ} {f l : �
         over : (k : ℕ) (m : k < length hs) → finish after (plus (top_edge c.edge (length hs) k)) ≡ moved (to_at k) d
         over k m = ap (start after) (mate_plus (top_edge c.edge (length hs) k)) ∙ top_finish M c s d hs f l b r k m
 
-  path_linked : Linked from_at to_at d (length hs)
-  path_linked i m = grind (arith, next_cases)
-
   path_closed : (m : ℕ) → suc m ≡ length hs → to_at m ≡ from_at 0
   path_closed m e = r.linked m (omega (arith, e)) ∙ ap from_at (elim (next_cases (length hs) m) [ inl p ↦ p.1 | inr p ↦ absurd (p.0 (omega (arith, e))) ])
 
   pub area_lifted : area after (top_items c.edge (length hs) (length hs)) ≡ area M hs
-  area_lifted = tops_area (length hs) (omega arith) ∙ ring_moved from_at to_at d (length hs) r.some_item path_linked path_closed ∙ sym (area_sum M hs)
+  area_lifted = tops_area (length hs) (omega arith)
+      ∙ ring_moved from_at to_at d (length hs) r.some_item (λ i m. grind (arith, next_cases)) path_closed ∙ sym (area_sum M hs)
 
   pub loop_area : (q : ℕ) → q ≤ c.loop → area after (items_of (content after q)) ≡ area M (items_of (content M q))
   loop_area q m = elim (eqb_tells q l) [

@@ -2,7 +2,7 @@
 use Rattle.std.proofs.Common.{◌≡◌, ◌≢◌, ℕ, ℤ, pos, ◌+ℤ◌, ◌*ℤ◌, true, List, [], ◌∷◌, length, refl, sym, ap, ◌∙◌, arith}
 use Rattle.std.proofs.lemmas.Int.{ints}
 use Rattle.euler_operators.specs.declared.Point.{Point}
-use Rattle.euler_operators.specs.Vectors.{origin, dot}
+use Rattle.euler_operators.specs.Vectors.{dot}
 use Rattle.euler_operators.specs.Model.{Model, items_of, content, outer, solid_of, rings_of}
 use Rattle.euler_operators.specs.Sound.{Has}
 use Rattle.euler_operators.specs.Conditions.{lists, strictly_rises}
@@ -16,7 +16,7 @@ use Rattle.euler_operators.proofs.Vectors.{dot_moved, dot_origin, dot_turned, tw
 use Rattle.shapes.proofs.Areas.{area-append}
 use Rattle.sweeps_laws.proofs.swept.Lifted.{Bounded, IsPathOf, swept, within}
 use Rattle.sweeps_laws.proofs.Loops.{normal_is, loops_area}
-use Rattle.sweeps_laws.proofs.Volumes.{ring_adds, outer_adds, others_kept}
+use Rattle.sweeps_laws.proofs.LaminaRows.{ring_adds, outer_adds, others_kept}
 use Rattle.sweeps_laws.proofs.swept.Kept.{counted, bounded_after, there_after, solid_after, outer_after, path_after}
 
 -- each listed loop is a closed path of face f
@@ -44,17 +44,12 @@ module _ (f : ℕ) (d : Point) (s : ℕ) where
       (v +ℤ pos 2 *ℤ dot (area M (items_of (content M l))) d) +ℤ pos 2 *ℤ dot (area M (items_in M ls)) d ≡ v +ℤ pos 2 *ℤ dot (area M (items_in M (l ∷ ls))) d
   both M l ls v = grind (arith, add_assoc, twice_sum, dot_moved, area-append)
 
-  after_least : (l : ℕ) (ls : List ℕ) → strictly_rises (l ∷ ls) ≡ true → (q : ℕ) → lists ls q ≡ true → q ≢ l
-  after_least l ls up q i = grind (arith, rises_apart)
-
-  nothing_more : (v : ℤ) → v ≡ v +ℤ pos 2 *ℤ dot origin d
-  nothing_more v = sym (add_none v) ∙ ap (λ x. v +ℤ pos 2 *ℤ x) (sym (dot_origin d))
-
   -- rings, one after the other
   rings_swept : (ls : List ℕ) (g : Growing) → Bounded g.model g.taken → Has g.model.faces f → solid_of g.model f ≡ s → strictly_rises ls ≡ true → Paths g.model f ls →
       ((q : ℕ) → lists ls q ≡ true → outer g.model f ≢ q) →
       six_volume (prism_from f d g ls).model s ≡ six_volume g.model s +ℤ pos 2 *ℤ dot (area g.model (items_in g.model ls)) d
-  rings_swept [] g b there of up ps rings = nothing_more (six_volume g.model s)
+  rings_swept [] g b there of up ps rings = sym (add_none (six_volume g.model s))
+      ∙ ap (λ x. (six_volume g.model s) +ℤ pos 2 *ℤ x) (sym (dot_origin d))
   rings_swept (l ∷ ls) g b there of up ps rings =
       let M = g.model in
       let hs = items_of (content M l) in
@@ -63,7 +58,7 @@ module _ (f : ℕ) (d : Point) (s : ℕ) where
       let o = outer_after s d b r there in
       ap (λ x. six_volume (prism_from f d x ls).model s) (raised_is f d g l ∙ ap (raised_as f d g l) of)
       ∙ rings_swept ls (raised_as f d g l s) (bounded_after s d b r) (there_after s d b r there) (solid_after s d b r there ∙ of) (rises_on l ls up)
-      (paths_after M g.taken hs l b r ls (after_least l ls up) rest) (λ q i e. rings q (rest_listed l q ls i) (sym o ∙ e))
+      (paths_after M g.taken hs l b r ls (λ q i. grind (arith, rises_apart)) rest) (λ q i e. rings q (rest_listed l q ls i) (sym o ∙ e))
       ∙ (λ t. ring_adds s d b r (rings l (first_listed l ls)) t +ℤ pos 2 *ℤ dot (items_after M g.taken hs l b r ls rest t) d)
       ∙ both M l ls (six_volume M s)
 
@@ -90,7 +85,7 @@ module _ (f : ℕ) (d : Point) (s : ℕ) where
 
   rising_apart : (ls : List ℕ) → strictly_rises ls ≡ true → AreApart ls
   rising_apart [] up = tt
-  rising_apart (l ∷ ls) up = (after_least l ls up, rising_apart ls (rises_on l ls up))
+  rising_apart (l ∷ ls) up = ((λ q i. grind (arith, rises_apart)), rising_apart ls (rises_on l ls up))
 
   -- another solid, whatever loops of the face are swept
   others_swept : (u : ℕ) → u ≢ s → (ls : List ℕ) (g : Growing) → Bounded g.model g.taken → Has g.model.faces f → solid_of g.model f ≡ s → AreApart ls → Paths g.model f ls →

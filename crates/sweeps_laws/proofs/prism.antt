@@ -1,6 +1,5 @@
 pub mod Steps
 pub mod Sides
-pub mod Rounds
 pub mod Loops
 pub mod Turns
 pub mod Whole

@@ -34,12 +34,6 @@ use Rattle.sweeps_laws.proofs.lamina.Steps.{greatest-with_path, greatest-with_po
 
 -- ---- coordinates
 
-none_twice : (a : ℤ) → (a +ℤ pos 0) +ℤ pos 0 ≡ a
-none_twice a = omega (arith, ints)
-
-none_then : (a b : ℤ) → (a +ℤ pos 0) +ℤ b ≡ a +ℤ b
-none_then a b = omega (arith, ints)
-
 pub grown_other : (x u : ℤ) → int_le (pos 1) u ≡ true → x +ℤ u ≢ x
 grown_other x (pos zero) l e = absurd (true≢false (sym l))
 grown_other x (pos (suc n)) l e = absurd (omega (arith, ints))
@@ -224,7 +218,7 @@ bases_rise M s p dx dy dz sound e =
     let d : Point = vector (pos 0) (pos 0) dz in
     rises M sound (taken_in M) refl s p b g h d (other_z d origin (rise_other dz w.1.1.1.1.0))
     (in_range (moved p d) p.x p.y (p.z +ℤ dz) (add_none p.x) (add_none p.y) refl r.px r.py r.qz)
-    (in_range (moved b d) (p.x +ℤ dx) p.y (p.z +ℤ dz) (add_none (p.x +ℤ dx)) (none_twice p.y) (none_then p.z dz) r.qx r.py r.qz)
-    (in_range (moved g d) (p.x +ℤ dx) (p.y +ℤ dy) (p.z +ℤ dz) (add_none (p.x +ℤ dx)) (add_none (p.y +ℤ dy)) (none_then p.z dz) r.qx r.qy r.qz)
-    (in_range (moved h d) p.x (p.y +ℤ dy) (p.z +ℤ dz) (none_twice p.x) (add_none (p.y +ℤ dy)) (none_then p.z dz) r.px r.qy r.qz)
+    (in_range (moved b d) (p.x +ℤ dx) p.y (p.z +ℤ dz) (add_none (p.x +ℤ dx)) (omega (arith, ints)) (omega (arith, ints)) r.qx r.py r.qz)
+    (in_range (moved g d) (p.x +ℤ dx) (p.y +ℤ dy) (p.z +ℤ dz) (add_none (p.x +ℤ dx)) (add_none (p.y +ℤ dy)) (omega (arith, ints)) r.qx r.qy r.qz)
+    (in_range (moved h d) p.x (p.y +ℤ dy) (p.z +ℤ dz) (omega (arith, ints)) (add_none (p.y +ℤ dy)) (omega (arith, ints)) r.px r.qy r.qz)
     (numbers_are_left (taken_in M) 6 6 12 8 w.1.1.1.1.1.1.1)

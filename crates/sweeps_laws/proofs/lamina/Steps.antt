@@ -64,9 +64,6 @@ module _ (M : Model) (c : Taken) (s : ℕ) (ps : List Point) (n : ℕ) (goes : G
   above_face : table.greatest M.faces < c.face + 1
   above_face = omega (arith, goes.faces)
 
-  above_loop : table.greatest M.loops < c.loop + 1
-  above_loop = omega (arith, goes.loops)
-
   edge_free : (j i : ℕ) → j < i → table.get (with_path M.edges c.edge c.vertex j) (c.edge + i) ≡ None
   edge_free j i l = none_above (with_path M.edges c.edge c.vertex j) (c.edge + i) (omega (arith, greatest-with_path M.edges c.edge c.vertex j goes.edges, l))
 
@@ -91,7 +88,7 @@ module _ (M : Model) (c : Taken) (s : ℕ) (ps : List Point) (n : ℕ) (goes : G
   first_accepted = mvfs_accepted M s (c.face + 1) (c.loop + 1) (c.vertex + 1) (get_or ps 0 no_point) (record {
     solid_free = goes.solid_free;
     face_free = none_above M.faces (c.face + 1) above_face;
-    loop_free = none_above M.loops (c.loop + 1) above_loop;
+    loop_free = none_above M.loops (c.loop + 1) (omega (arith, goes.loops));
     vertex_free = vertex_free 0 1 (omega arith);
     solid_fits = goes.solid_fits;
     face_fits = face_fits 1 (omega arith) (omega arith);
@@ -187,12 +184,9 @@ module _ (M : Model) (c : Taken) (s : ℕ) (ps : List Point) (n : ℕ) (goes : G
     unfolding path_at
     u_free = edge_free (suc j) (suc (suc j)) (omega arith)
 
-    turn_row : table.get P.edges (c.edge + suc j) ≡ Some (record { plus_tail = c.vertex + suc j; minus_tail = c.vertex + suc j + 1 })
-    unfolding path_at
-    turn_row = last_row M.edges c.edge c.vertex j
-
     turn_tail : tail P g ≡ c.vertex + suc (suc j)
-    turn_tail = minus_tail_row P (c.edge + suc j) _ turn_row ∙ omega arith
+    unfolding path_at
+    turn_tail = minus_tail_row P (c.edge + suc j) _ (last_row M.edges c.edge c.vertex j) ∙ omega arith
 
     module _ (sound : Sound P) where
       around : Around P (c.loop + 1) (c.face + 1) (out c.edge (suc j) ++ back c.edge (suc j))
@@ -220,12 +214,9 @@ module _ (M : Model) (c : Taken) (s : ℕ) (ps : List Point) (n : ℕ) (goes : G
   -- ---- the last edge
 
   module _ (j : ℕ) (sound : Sound (path_at M c s ps (suc j))) where
-    start_row : table.get (path_at M c s ps (suc j)).edges (c.edge + 1) ≡ Some (record { plus_tail = c.vertex + 1; minus_tail = c.vertex + 1 + 1 })
-    unfolding path_at
-    start_row = first_row M.edges c.edge c.vertex j
-
     start_tail : tail (path_at M c s ps (suc j)) (plus (c.edge + 1)) ≡ c.vertex + 1
-    start_tail = plus_tail_row (path_at M c s ps (suc j)) (c.edge + 1) _ start_row
+    unfolding path_at
+    start_tail = plus_tail_row (path_at M c s ps (suc j)) (c.edge + 1) _ (first_row M.edges c.edge c.vertex j)
 
     second_face_free : table.get (path_at M c s ps (suc j)).faces (c.face + 2) ≡ None
     unfolding path_at

@@ -1,6 +1,6 @@
 -- From the conditions of a lamina: its operators in order, and the model that they leave.
 use Rattle.std.specs.Prelude.{length, get_or, ◌-◌}
-use Rattle.std.proofs.Common.{◌≡◌, ℕ, zero, suc, ◌+◌, ◌≤◌, ◌<◌, true, false, cond, List, [], ◌∷◌, ◌++◌, Some, None, is_some, refl, ap, subst, ◌∙◌, arith, true≢false}
+use Rattle.std.proofs.Common.{◌≡◌, ℕ, zero, suc, ◌+◌, ◌<◌, true, false, cond, List, [], ◌∷◌, ◌++◌, Some, None, is_some, refl, ap, subst, ◌∙◌, arith, true≢false}
 use Rattle.std.proofs.lemmas.Bool.{not-true, leb-true}
 use Rattle.euler_operators.specs.declared.Point.{Point}
 use Rattle.euler_operators.specs.Points.{is_in_range}
@@ -73,12 +73,9 @@ module _ (M : Model) (c : Taken) (s : ℕ) (ps : List Point) (n : ℕ) (goes : G
       (leads_on (path_at M c s ps 0) (path_at M c s ps j) (lamina_at M c s ps) (further_points c ps j) (last_edge c j ∷ []) (walked j (omega (arith, all)))
       (leads_one (path_at M c s ps j) (lamina_at M c s ps) (last_edge c j) (close_accepted M c s ps n goes j all) (close_made M c s ps n goes j all is)))
 
-one_less : (n : ℕ) → 3 ≤ n → n ≡ suc (n - 1)
-one_less n l = omega (arith, l)
-
 lamina_leads : (M : Model) (s : ℕ) (ps : List Point) → Sound M → lamina_refusal M s ps ≡ None → Leads M (lamina_model M s ps) (lamina_operators M s ps)
 unfolding lamina_operators lamina_model
-lamina_leads M s ps sound e = let goes = lamina_goes M s ps sound e in all_lead M (taken_in M) s ps (length ps) goes (length ps - 1) (one_less (length ps) goes.many) refl
+lamina_leads M s ps sound e = let goes = lamina_goes M s ps sound e in all_lead M (taken_in M) s ps (length ps) goes (length ps - 1) (omega (arith, goes.many)) refl
 
 pub operators_are_accepted : OperatorsAreAccepted
 operators_are_accepted M s ps sound e = (lamina_leads M s ps sound e).accepted

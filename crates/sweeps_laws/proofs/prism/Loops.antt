@@ -29,8 +29,7 @@ use Rattle.shapes.specs.Prism.{riser, top_edge, top_items, next_place, with_side
 use Rattle.sweeps_laws.specs.prism.Part.{lifted_part, prism_part}
 use Rattle.sweeps_laws.specs.prism.SweepOps.{raise, close, close_last, rounds, loop_ops}
 use Rattle.sweeps_laws.proofs.prism.Steps.{with_chord, mev_does, mev_fits, mef_does, mef_fits}
-use Rattle.sweeps_laws.proofs.prism.Sides.{fits, riser_is, next_last, two_items, from_least}
-use Rattle.sweeps_laws.proofs.prism.Rounds.{drop_next, loop_within, part_loop, part_edge_free, part_face_free, part_loop_free, part_riser, part_solid, round_accepted, round_is}
+use Rattle.sweeps_laws.proofs.prism.Sides.{fits, riser_is, next_last, two_items, from_least, drop_next, loop_within, part_loop, part_edge_free, part_face_free, part_loop_free, part_riser, part_solid, round_accepted, round_is}
 use Rattle.sweeps_laws.proofs.swept.Numbers.{top_cases}
 use Rattle.euler_laws.proofs.shared.KnownLoop.{Around, apart_xs}
 use Rattle.sweeps_laws.specs.prism.Ready.{Ready}

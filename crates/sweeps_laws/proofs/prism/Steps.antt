@@ -61,9 +61,6 @@ module _ (M : Model) (l f : ℕ) (ps qs : List ℕ) (g u v : ℕ) (p : Point) (a
   g_here : IsIn g (canonical (ps ++ g ∷ qs))
   g_here = omega (arith, g_in, count-canonical g (ps ++ g ∷ qs))
 
-  g_once : count g ps ≡ 0
-  g_once = omega (arith, apart_xs M l f (ps ++ g ∷ qs) a g, count-append g ps (g ∷ qs), tick_same g)
-
   none_new : (x : ℕ) → edge_of x ≡ u → count x (canonical (ps ++ g ∷ qs)) ≡ 0
   none_new x e = not_held M a.sound x (ap (table.get M.edges) e ∙ edge_free) l (record { face = f; content = cycle (canonical (ps ++ g ∷ qs)) }) a.at
 
@@ -82,7 +79,8 @@ module _ (M : Model) (l f : ℕ) (ps qs : List ℕ) (g u v : ℕ) (p : Point) (a
       apart_front (plus u) (minus u ∷ g ∷ (qs ++ ps)) no_h (apart_front (minus u) (g ∷ (qs ++ ps)) no_m base)
 
   turned : rotate_to g (canonical (ps ++ g ∷ qs)) ≡ g ∷ (qs ++ ps)
-  turned = rotated_canonical M l f (ps ++ g ∷ qs) a g g_in ∙ rotate_at g ps qs g_once
+  turned = rotated_canonical M l f (ps ++ g ∷ qs) a g g_in
+      ∙ rotate_at g ps qs (omega (arith, apart_xs M l f (ps ++ g ∷ qs) a g, count-append g ps (g ∷ qs), tick_same g))
 
   items_are : canonical (insert_before g (minus u) (canonical (insert_before g (plus u) (canonical (ps ++ g ∷ qs))))) ≡ canonical (ps ++ plus u ∷ minus u ∷ g ∷ qs)
   items_are =

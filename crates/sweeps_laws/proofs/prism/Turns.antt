@@ -1,5 +1,5 @@
 -- The steps of a loop's sweep, as they are taken one after the other.
-use Rattle.std.proofs.Common.{◌≡◌, ◌≢◌, ℕ, suc, ◌+◌, ◌-◌, ◌≤◌, ◌<◌, List, [], ◌∷◌, length, None, is_some, true, true≢false, unwrap_or, sym, ap, ◌∙◌, subst, arith}
+use Rattle.std.proofs.Common.{◌≡◌, ◌≢◌, ℕ, suc, ◌+◌, ◌-◌, ◌≤◌, ◌<◌, List, [], ◌∷◌, length, None, is_some, true≢false, unwrap_or, sym, ap, ◌∙◌, subst, arith}
 use Rattle.std.specs.Prelude.{get_or}
 use Rattle.euler_operators.specs.declared.Point.{Point}
 use Rattle.euler_operators.specs.Points.{IsInRange}
@@ -22,8 +22,7 @@ use Rattle.shapes.specs.Fresh.{Taken}
 use Rattle.shapes.specs.Prism.{riser}
 use Rattle.sweeps_laws.specs.prism.Part.{prism_part}
 use Rattle.sweeps_laws.specs.prism.SweepOps.{raise_item, raise, close, close_last, rounds, loop_ops}
-use Rattle.sweeps_laws.proofs.prism.Sides.{riser_is, half_there, old_edge, sides_vertices}
-use Rattle.sweeps_laws.proofs.prism.Rounds.{part_tail}
+use Rattle.sweeps_laws.proofs.prism.Sides.{riser_is, half_there, old_edge, sides_vertices, part_tail}
 use Rattle.sweeps_laws.proofs.prism.Loops.{rounds_go, loop_swept}
 use Rattle.sweeps_laws.specs.prism.Ready.{Ready}
 
@@ -42,11 +41,9 @@ module _ (M : Model) (c : Taken) (f l : ℕ) (d : Point) (hs : List ℕ) (w : Re
   unfolding prism_part point_of
   part_point i v there = ap (λ o. unwrap_or o no_point) (get-put_other _ _ _ v (λ s. there (w.vertices_free v (omega arith))) ∙ sides_vertices M c f l d hs w i v (λ j lt s. there (w.vertices_free v (omega arith))))
 
-  some_vertex : (v : ℕ) → is_some (table.get M.vertices v) ≡ true → table.get M.vertices v ≢ None
-  some_vertex v there none = true≢false (sym there ∙ ap is_some none)
-
   part_start : (i h : ℕ) → HasHalf M h → start (prism_part c f l d hs i M) h ≡ start M h
-  part_start i h there = ap (point_of (prism_part c f l d hs i M)) (part_tail w i h there) ∙ part_point i (tail M h) (some_vertex (tail M h) (w.sound.tails_there h there))
+  part_start i h there = ap (point_of (prism_part c f l d hs i M)) (part_tail w i h there)
+      ∙ part_point i (tail M h) (λ none. true≢false (sym (w.sound.tails_there h there) ∙ ap is_some none))
 
   module _ (i : ℕ) (lt : i < length hs) where
     pub turn_half : (h : ℕ) → IsIn h hs → HasHalf (N i) h

@@ -25,8 +25,7 @@ use Rattle.shapes.specs.Faces.{start, vertices_on, vertices_in}
 use Rattle.shapes.specs.Fresh.{Taken}
 use Rattle.shapes.specs.Prism.{riser, top_items, with_sides, lifted, raised, raised_over, prism_from}
 use Rattle.sweeps_laws.specs.prism.SweepOps.{close, close_last, rounds, loop_ops, taken_after, ops_from}
-use Rattle.sweeps_laws.proofs.prism.Sides.{riser_is, old_edge, old_start, sides_edges, sides_faces, sides_loops, sides_vertices, two_items}
-use Rattle.sweeps_laws.proofs.prism.Rounds.{loop_within}
+use Rattle.sweeps_laws.proofs.prism.Sides.{riser_is, old_edge, old_start, sides_edges, sides_faces, sides_loops, sides_vertices, two_items, loop_within}
 use Rattle.sweeps_laws.proofs.prism.Loops.{loop_swept}
 use Rattle.sweeps_laws.proofs.swept.Numbers.{top_cases}
 use Rattle.sweeps_laws.specs.prism.Ready.{Ready}
@@ -60,11 +59,8 @@ module _ (M N : Model) (c : Taken) (f l : ℕ) (d : Point) (ls : List ℕ) (g : 
   abbrev hs : List ℕ
   hs = items_of (content M l)
 
-  l_once : count l ls ≡ 0
-  l_once = omega (arith, g.apart l, tick_same l)
-
   not_l : (k : ℕ) → IsIn k ls → k ≢ l
-  not_l k i e = let z : count k ls ≡ 0 = ap (λ q. count q ls) e ∙ l_once in omega (arith, i, z)
+  not_l k i e = let z : count k ls ≡ 0 = ap (λ q. count q ls) e ∙ omega (arith, g.apart l, tick_same l) in omega (arith, i, z)
 
   corners_are : length (vertices_in M (l ∷ ls)) ≡ length hs + length (vertices_in M ls)
   corners_are = ap (λ q. length (vertices_on M q ++ vertices_in M ls)) (g.contents l (IsIn_head l ls)) ∙ length-append (map (tail M) hs) (vertices_in M ls) ∙ ap (λ q. q + length (vertices_in M ls)) (length-map hs (tail M))
@@ -101,16 +97,13 @@ module _ (M N : Model) (c : Taken) (f l : ℕ) (d : Point) (ls : List ℕ) (g : 
   swept : effects N (loop_ops M c d hs) ≡ N'
   swept = ap (effects N) ops_are ∙ (loop_swept N c f l d hs ready).1
 
-  start_after : (h : ℕ) → HasHalf N h → start N' h ≡ start N h
-  unfolding tail point_of
-  start_after h there = old_start N c f l d hs ready (length hs) h there
-
   loop_after : (k : ℕ) → IsIn k ls → table.get N'.loops k ≡ table.get N.loops k
   loop_after k i =
       let b : k ≤ c.loop = in_use_within N.loops c.loop g.loops_free k (ap is_some (g.rows k (IsIn_rest k l ls i))) in
       get-put_other _ l _ k (not_l k i) ∙ sides_loops N c f l d hs ready (length hs) k (λ j lt s. omega arith)
 
   next : Going M N' (taken_after c (length hs)) f d ls
+  unfolding tail point_of
   next = record {
     sound = subst Sound swept (effects_keep_sound N (loop_ops M c d hs) g.sound accepted);
     faces_free = λ q a. sides_faces N c f l d hs ready (length hs) q (λ j lt s. omega arith) ∙ g.faces_free q (omega arith);
@@ -122,7 +115,7 @@ module _ (M N : Model) (c : Taken) (f l : ℕ) (d : Point) (ls : List ℕ) (g : 
     edges_left = omega (arith, g.edges_left, corners_are);
     vertices_left = omega (arith, g.vertices_left, corners_are);
     halves = λ h there. ap is_some (old_edge N c f l d hs ready (length hs) (edge_of h) (g.halves h there)) ∙ g.halves h there;
-    starts = λ h there. start_after h (g.halves h there) ∙ g.starts h there;
+    starts = λ h there. old_start N c f l d hs ready (length hs) h (g.halves h there) ∙ g.starts h there;
     apart = λ x. omega (arith, g.apart x);
     rows = λ k i. loop_after k i ∙ g.rows k (IsIn_rest k l ls i);
     items_there = λ k i. g.items_there k (IsIn_rest k l ls i);

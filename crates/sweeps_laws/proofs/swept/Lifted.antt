@@ -112,11 +112,9 @@ module _ (M : Model) (c : Taken) (s : ℕ) (d : Point) (hs : List ℕ) (f l : �
     pub within : l ≤ c.loop
     within = grind (arith, at_most_greatest M.loops l r.there, b.loops)
 
-    pub new_apart : (i : ℕ) → c.loop + 1 + i ≢ l
-    new_apart i e = absurd (omega (arith, within))
-
     pub loop_new : (i : ℕ) → i < length hs → table.get swept.loops (c.loop + 1 + i) ≡ Some (side_loop M c s d hs i)
-    loop_new i m = loop_other (c.loop + 1 + i) (new_apart i) ∙ filled_new M.loops c.loop (side_loop M c s d hs) (length hs) i m
+    loop_new i m = loop_other (c.loop + 1 + i) (λ e. absurd (omega (arith, within)))
+        ∙ filled_new M.loops c.loop (side_loop M c s d hs) (length hs) i m
 
     pub face_of_old : (q : ℕ) → q ≤ c.loop → face_of swept q ≡ face_of M q
     face_of_old q m = elim (eqb_tells q l) [
@@ -127,11 +125,8 @@ module _ (M : Model) (c : Taken) (s : ℕ) (d : Point) (hs : List ℕ) (f l : �
     pub face_of_new : (i : ℕ) → i < length hs → face_of swept (c.loop + 1 + i) ≡ c.face + 1 + i
     face_of_new i m = face_row swept (c.loop + 1 + i) (side_loop M c s d hs i) (loop_new i m)
 
-    past_apart : (q : ℕ) → c.loop + length hs < q → q ≢ l
-    past_apart q m e = absurd (omega (arith, within))
-
     pub face_of_past : (q : ℕ) → c.loop + length hs < q → face_of swept q ≡ face_of M q
-    face_of_past q m = same_face M swept q (loop_past q (past_apart q m) m)
+    face_of_past q m = same_face M swept q (loop_past q (λ e. absurd (omega (arith, within))) m)
 
     pub content_here : content swept l ≡ cycle (top_items c.edge (length hs) (length hs))
     content_here = content_row swept l lifted_row loop_here
@@ -140,7 +135,7 @@ module _ (M : Model) (c : Taken) (s : ℕ) (d : Point) (hs : List ℕ) (f l : �
     content_old q ne m = same_content M swept q (loop_old q ne m)
 
     pub content_past : (q : ℕ) → c.loop + length hs < q → content swept q ≡ content M q
-    content_past q m = same_content M swept q (loop_past q (past_apart q m) m)
+    content_past q m = same_content M swept q (loop_past q (λ e. absurd (omega (arith, within))) m)
 
     pub items_within : (i : ℕ) → i < length hs → edge_of (item M c s d hs i) ≤ c.edge
     items_within i m = b.items (item M c s d hs i) l (subst (λ x. IsIn (item M c s d hs i) (items_of x)) (sym r.content) (IsIn-get_or hs i 0 m))
@@ -205,9 +200,6 @@ module _ (M : Model) (c : Taken) (s : ℕ) (d : Point) (hs : List ℕ) (f l : �
     new_point : (i : ℕ) → i < length hs → point_of swept (c.vertex + 1 + i) ≡ moved (from_point i) d
     new_point i m = point_lifted (c.vertex + 1 + i) ∙ point_grown M c s d hs items_within b.tails i m
 
-    next_point : (i : ℕ) → i < length hs → from_point (next_place (length hs) i) ≡ to_point i
-    next_point i m = sym (r.linked i m)
-
     pub riser_start : (i : ℕ) → i < length hs → start swept (plus (riser c.edge i)) ≡ from_point i
     riser_start i m = ap (point_of swept) (plus_tail_row swept (riser c.edge i) _ (riser_row M c s d hs items_within b.tails i m)) ∙ keeps_swept.points (tail M (item M c s d hs i)) (b.tails (item M c s d hs i))
 
@@ -219,13 +211,13 @@ module _ (M : Model) (c : Taken) (s : ℕ) (d : Point) (hs : List ℕ) (f l : �
 
     pub top_finish : (i : ℕ) → i < length hs → start swept (minus (top_edge c.edge (length hs) i)) ≡ moved (to_point i) d
     top_finish i m = ap (point_of swept) (minus_tail_row swept (top_edge c.edge (length hs) i) _ (top_row M c s d hs items_within b.tails i m))
-        ∙ new_point (next_place (length hs) i) (next_within (length hs) i m) ∙ ap (λ p. moved p d) (next_point i m)
+        ∙ new_point (next_place (length hs) i) (next_within (length hs) i m) ∙ ap (λ p. moved p d) (sym (r.linked i m))
 
     pub next_start : (i : ℕ) → i < length hs → start swept (plus (riser c.edge (next_place (length hs) i))) ≡ to_point i
-    next_start i m = riser_start (next_place (length hs) i) (next_within (length hs) i m) ∙ next_point i m
+    next_start i m = riser_start (next_place (length hs) i) (next_within (length hs) i m) ∙ sym (r.linked i m)
 
     pub next_finish : (i : ℕ) → i < length hs → start swept (minus (riser c.edge (next_place (length hs) i))) ≡ moved (to_point i) d
-    next_finish i m = riser_finish (next_place (length hs) i) (next_within (length hs) i m) ∙ ap (λ p. moved p d) (next_point i m)
+    next_finish i m = riser_finish (next_place (length hs) i) (next_within (length hs) i m) ∙ ap (λ p. moved p d) (sym (r.linked i m))
 
     pub item_start : (i : ℕ) → i < length hs → start swept (item M c s d hs i) ≡ from_point i
     item_start i m = start_kept keeps_swept b.tails (item M c s d hs i) (items_within i m)

@@ -56,33 +56,24 @@ module _ (M : Model) (c : Taken) (s : ℕ) (d : Point) (hs : List ℕ) where
   abbrev pub side_point : ℕ → Point
   side_point i = moved (start (grown i) (item i)) d
 
-  faces_step : (i : ℕ) (N : Model) → (with_side c s d hs i N).faces ≡ table.put N.faces (c.face + 1 + i) (side_face i)
-  unfolding with_side
-  faces_step i N = refl
-
-  loops_step : (i : ℕ) (N : Model) → (with_side c s d hs i N).loops ≡ table.put N.loops (c.loop + 1 + i) (side_loop i)
-  unfolding with_side
-  loops_step i N = refl
-
   pub edges_step : (i : ℕ) → (with_side c s d hs i (grown i)).edges ≡ table.put (table.put (grown i).edges (riser c.edge i) (side_riser i)) (top_edge c.edge (length hs) i) (side_top i)
   unfolding with_side
   edges_step i = refl
 
-  vertices_step : (i : ℕ) → (with_side c s d hs i (grown i)).vertices ≡ table.put (grown i).vertices (c.vertex + 1 + i) (side_point i)
-  unfolding with_side
-  vertices_step i = refl
-
   pub faces_grown : (n : ℕ) → (grown n).faces ≡ filled M.faces c.face side_face n
+  unfolding with_side
   faces_grown zero = refl
-  faces_grown (suc n) = faces_step n (grown n) ∙ ap (λ t. table.put t (c.face + 1 + n) (side_face n)) (faces_grown n)
+  faces_grown (suc n) = refl ∙ ap (λ t. table.put t (c.face + 1 + n) (side_face n)) (faces_grown n)
 
   pub loops_grown : (n : ℕ) → (grown n).loops ≡ filled M.loops c.loop side_loop n
+  unfolding with_side
   loops_grown zero = refl
-  loops_grown (suc n) = loops_step n (grown n) ∙ ap (λ t. table.put t (c.loop + 1 + n) (side_loop n)) (loops_grown n)
+  loops_grown (suc n) = refl ∙ ap (λ t. table.put t (c.loop + 1 + n) (side_loop n)) (loops_grown n)
 
   vertices_grown : (n : ℕ) → (grown n).vertices ≡ filled M.vertices c.vertex side_point n
+  unfolding with_side
   vertices_grown zero = refl
-  vertices_grown (suc n) = vertices_step n ∙ ap (λ t. table.put t (c.vertex + 1 + n) (side_point n)) (vertices_grown n)
+  vertices_grown (suc n) = refl ∙ ap (λ t. table.put t (c.vertex + 1 + n) (side_point n)) (vertices_grown n)
 
   edges_kept : (n q : ℕ) → n ≤ length hs → q ≤ c.edge → table.get (grown n).edges q ≡ table.get M.edges q
   edges_kept zero q m l = refl
