@@ -1,35 +1,60 @@
--- The six volumes of the glued solid: both faces go, and together they added nothing.
-use Rattle.std.proofs.Common.{◌≡◌, ◌≢◌, ℕ, ◌+◌, ℤ, pos, ◌+ℤ◌, neg_ℤ, true, cond, nat_eq, Bool, List, [], ◌∷◌, ◌++◌, map, Option, Some, None, is_some, refl, sym, ap, ◌∙◌, arith, true≢false, ◌⊎◌, inl}
+-- The glued solid: its other faces measure what they did, and the two that go added nothing together.
+use Rattle.std.proofs.Common.{◌≡◌, ◌≢◌, ℕ, true, false, cond, not, nat_eq, ◌&&◌, Bool, List, [], ◌∷◌, Option, Some, None, unwrap_or, refl, sym, ap, ◌∙◌, arith, inl, inr, ◌+◌, ℤ, pos, ◌+ℤ◌, neg_ℤ, ◌++◌, map, is_some, true≢false, ◌⊎◌}
+use Rattle.std.specs.Prelude.{map}
 use Rattle.std.specs.Option.{option_map}
-use Rattle.std.proofs.lemmas.Int.{ints}
 use Rattle.std.proofs.lemmas.Bool.Decides.{nat_tests, eqb_tells}
 use Rattle.std.proofs.lemmas.Bool.{ne_eqb, eq-eqb, eqb-true}
-use Rattle.euler_operators.specs.Vectors.{dot}
-use Rattle.euler_operators.specs.Items.{count, IsIn, SameItems, head_or}
-use Rattle.euler_operators.specs.Rings.{successor}
-use Rattle.euler_operators.proofs.Lists.{count-append, tick_same, tick_other}
-use Rattle.euler_operators.proofs.Rings.{IsIn_successor}
+use Rattle.euler_operators.specs.Vectors.{moved, dot}
+use Rattle.euler_operators.specs.Items.{count, IsIn, head_or, SameItems}
+use Rattle.euler_operators.specs.Rings.{canonical, successor}
+use Rattle.euler_operators.proofs.Lists.{tick_same, tick_other, count-append}
+use Rattle.euler_operators.proofs.Rotations.{count-canonical, canonical_nil}
+use Rattle.euler_operators.proofs.Maps.{from_map}
 use Rattle.euler_operators.specs.Table as table
-use Rattle.euler_operators.specs.Table.{Table, tables}
-use Rattle.euler_operators.specs.Model.{Model, cycle, FaceRow, items_of, tail, content, outer, solid_of, point_of, rings_of, faces_of, after, cycle_of}
-use Rattle.euler_operators.specs.Sound.{Has}
+use Rattle.euler_operators.specs.Table.{Table, tables, get-map_rows}
+use Rattle.euler_operators.specs.Model.{Model, LoopContent, lone, cycle, FaceRow, LoopRow, no_face, no_loop, items_of, tail, content, face_of, outer, solid_of, point_of, rings_of, faces_of, after, cycle_of}
+use Rattle.euler_operators.specs.Sound.{Has, StandsIn}
+use Rattle.euler_operators.proofs.Models.{in-holds, face_row}
+use Rattle.euler_operators.proofs.Members.{IsIn_first, IsIn_some_head}
 use Rattle.euler_operators.specs.Conditions.{lists}
 use Rattle.euler_operators.specs.Effect.{faces_to_solid}
-use Rattle.euler_laws.proofs.shared.Listed.{listed_passes, listed_as}
+use Rattle.euler_laws.proofs.shared.Listed.{first_listed, rest_listed, listed_front, listed_passes, listed_as}
+use Rattle.shapes.specs.Faces.{start, items_in, loops_of, boundary, corners, vertices_on, finish}
+use Rattle.shapes.specs.Rewriting.{rewritten, rewritten_row}
+use Rattle.shapes.specs.Measure.{area, normal, anchor, first_vertex, is_flat, volume_in, six_volume}
+use Rattle.shapes.proofs.walks.SolidFaces.{face_of_loop}
+use Rattle.shapes.proofs.Areas.{area-append, moved_nothing}
+use Rattle.shapes.proofs.measures.FlatFaces.{corner_told}
+use Rattle.shapes.proofs.measures.Sums.{area_same, area_renamed, area_opposed, dot_back}
+use Rattle.gluing_laws.proofs.Listed.{one_if, passed, same_search, volume_of, count_where, volume_append, volume_same, same_volumes}
+use Rattle.gluing_laws.proofs.Seams as seams
+use Rattle.gluing_laws.proofs.Seams.{Seamed, Glued, Stays}
+use Rattle.std.proofs.lemmas.Int.{ints}
+use Rattle.euler_operators.proofs.Rings.{IsIn_successor}
 use Rattle.euler_laws.proofs.shared.Rows.{face_there, solid_either}
 use Rattle.euler_laws.proofs.shared.Same.{mapped_some}
-use Rattle.shapes.specs.Faces.{start, finish, items_in, loops_of, boundary}
-use Rattle.shapes.specs.Measure.{area, normal, anchor, first_vertex, volume_in, six_volume}
-use Rattle.shapes.proofs.Areas.{area-append, moved_nothing}
-use Rattle.euler_operators.proofs.Members.{IsIn_some_head}
 use Rattle.euler_operators.proofs.Vectors.{none_added}
 use Rattle.shapes.specs.Vectors.{negated}
-use Rattle.shapes.proofs.measures.Sums.{area_same, area_opposed, dot_back}
-use Rattle.gluing_laws.proofs.Listed.{one_if, passed, count_where, volume_of, volume_append, volume_same, same_volumes}
-use Rattle.gluing_laws.proofs.Seams as seams
-use Rattle.gluing_laws.proofs.Seams.{Seamed, Glued}
-use Rattle.gluing_laws.proofs.Normals as normals
-use Rattle.gluing_laws.proofs.Normals.{item_told}
+
+-- ---- corners
+
+listed_map : (a : ℕ → ℕ) (x : ℕ) (xs : List ℕ) → IsIn x xs → lists (map a xs) (a x) ≡ true
+listed_map a x [] i = absurd (omega (arith, i))
+listed_map a x (y ∷ ys) i = elim (eqb_tells x y) [
+  | inl e ↦ ap (λ k. lists (a y ∷ map a ys) (a k)) e.1 ∙ first_listed (a y) (map a ys)
+  | inr e ↦ rest_listed (a y) (a x) (map a ys) (listed_map a x ys (omega (arith, i, tick_other x y e.1)))
+]
+
+-- the items of a face's outer loop start at corners
+pub corner_at : (M : Model) (k : ℕ) (cs : List ℕ) (y : ℕ) → content M (outer M k) ≡ cycle cs → IsIn y cs → lists (corners M k) (tail M y) ≡ true
+unfolding corners loops_of
+corner_at M k cs y is i = listed_front (vertices_on M (content M (outer M k))) _ (tail M y) (ap (λ c. lists (vertices_on M c) (tail M y)) is ∙ listed_map (tail M) y cs i)
+
+-- and so tell what the anchor does
+pub item_told : (M : Model) (k : ℕ) (cs : List ℕ) (y : ℕ) → is_flat M k ≡ true → content M (outer M k) ≡ cycle cs → IsIn y cs → dot (start M y) (normal M k) ≡ dot (anchor M k) (normal M k)
+item_told M k cs y flat is i = corner_told M k (tail M y) flat (corner_at M k cs y is i)
+
+-- ---- the six volumes of the glued solid: both faces go, and together they added nothing
 
 -- ---- faces with one loop
 
@@ -47,6 +72,145 @@ was_either : (a s t : ℕ) → nat_eq (cond (nat_eq a t) s a) s ≡ true → (a 
 was_either a s t is = grind (arith, eqb_tells, eqb-true)
 
 module _ {M N : Model} {f g : ℕ} {partner_of : ℕ → ℕ} {hs gs : List ℕ} (w : Seamed M f g partner_of hs gs) (n : Glued M N f g partner_of hs) where
+  abbrev swap : ℕ → ℕ
+  swap = seams.swap w n
+
+  abbrev StaysHere : ℕ → ℕ → Type 0
+  StaysHere = Stays w n
+
+  -- ---- loops
+
+  abbrev kept : Table LoopRow
+  kept = table.remove (table.remove M.loops (outer M f)) (outer M g)
+
+  row_in : (l : ℕ) → table.get N.loops l ≡ option_map (rewritten_row (map swap) l) (table.get kept l)
+  row_in l = ap (λ t. table.get t l) n.loops ∙ get-map_rows (rewritten_row (map swap)) kept l
+
+  loop_row : (l : ℕ) → l ≢ outer M f → l ≢ outer M g → table.get N.loops l ≡ option_map (rewritten_row (map swap) l) (table.get M.loops l)
+  loop_row l a b = row_in l ∙ ap (option_map (rewritten_row (map swap) l)) (grind (arith, nat_tests, tables))
+
+  content_in : (l : ℕ) (o : Option LoopRow) → (unwrap_or (option_map (rewritten_row (map swap) l) o) no_loop).content ≡ rewritten (map swap) (unwrap_or o no_loop).content
+  content_in l None = ap cycle (sym canonical_nil)
+  content_in l (Some row) = refl
+
+  pub content_is : (l : ℕ) → l ≢ outer M f → l ≢ outer M g → content N l ≡ rewritten (map swap) (content M l)
+  unfolding content
+  content_is l a b = ap (λ o. (unwrap_or o no_loop).content) (loop_row l a b) ∙ content_in l (table.get M.loops l)
+
+  content_area : (c : LoopContent) → ((y : ℕ) → IsIn y (items_of c) → StaysHere (swap y) y) → area N (items_of (rewritten (map swap) c)) ≡ area M (items_of c)
+  content_area (lone v) e = refl
+  content_area (cycle cs) e = area_same N (canonical (map swap cs)) (map swap cs) (λ x. count-canonical x (map swap cs)) ∙ area_renamed M N swap cs e
+
+  each_swapped : (l : ℕ) → l ≢ outer M g → (y : ℕ) → IsIn y (items_of (content M l)) → StaysHere (swap y) y
+  each_swapped l b y i =
+      let s : StandsIn M y l = in-holds y (content M l) i in
+      seams.swapped w n y (w.sound.only_edges y l s) (λ e. b (sym (w.sound.one_loop y l s) ∙ e))
+
+  loop_area : (l : ℕ) → l ≢ outer M f → l ≢ outer M g → area N (items_of (content N l)) ≡ area M (items_of (content M l))
+  loop_area l a b = ap (λ c. area N (items_of c)) (content_is l a b) ∙ content_area (content M l) (each_swapped l b)
+
+  loops_area : (ls : List ℕ) → ((l : ℕ) → lists ls l ≡ true → (l ≢ outer M f) × (l ≢ outer M g)) → area N (items_in N ls) ≡ area M (items_in M ls)
+  loops_area [] e = refl
+  loops_area (l ∷ ls) e =
+      let p = e l (first_listed l ls) in
+      area-append N (items_of (content N l)) (items_in N ls)
+      ∙ (λ i. moved (loop_area l p.0 p.1 i) (loops_area ls (λ q j. e q (rest_listed l q ls j)) i))
+      ∙ sym (area-append M (items_of (content M l)) (items_in M ls))
+
+  -- ---- faces
+
+  abbrev pub to_s : ℕ → FaceRow → FaceRow
+  to_s = faces_to_solid (λ _ row. nat_eq row.solid (solid_of M g)) (solid_of M f)
+
+  abbrev pub faces_left : Table FaceRow
+  faces_left = table.remove (table.remove M.faces f) g
+
+  pub face_at_row : (k : ℕ) → table.get N.faces k ≡ option_map (to_s k) (table.get faces_left k)
+  face_at_row k = ap (λ t. table.get t k) n.faces ∙ get-map_rows to_s faces_left k
+
+  pub other_face : (k : ℕ) → k ≢ f → k ≢ g → table.get N.faces k ≡ option_map (to_s k) (table.get M.faces k)
+  other_face k a b = face_at_row k ∙ ap (option_map (to_s k)) (grind (arith, nat_tests, tables))
+
+  outer_either : (b : Bool) (row : FaceRow) → (cond b (record row { solid = solid_of M f }) row).outer ≡ row.outer
+  outer_either true row = refl
+  outer_either false row = refl
+
+  outer_in : (k : ℕ) (o : Option FaceRow) → (unwrap_or (option_map (to_s k) o) no_face).outer ≡ (unwrap_or o no_face).outer
+  outer_in k None = refl
+  outer_in k (Some row) = outer_either (nat_eq row.solid (solid_of M g)) row
+
+  -- face k is neither f nor g
+  module _ (k : ℕ) (there : Has M.faces k) (not_f : k ≢ f) (not_g : k ≢ g) where
+    pub outer_is : outer N k ≡ outer M k
+    unfolding outer
+    outer_is = ap (λ o. (unwrap_or o no_face).outer) (other_face k not_f not_g) ∙ outer_in k (table.get M.faces k)
+
+    abbrev ring_before : ℕ → LoopRow → Bool
+    ring_before l row = nat_eq row.face k && not (nat_eq (outer M k) l)
+
+    abbrev ring_after : ℕ → LoopRow → Bool
+    ring_after l row = nat_eq row.face k && not (nat_eq (outer N k) l)
+
+    same_row : (l : ℕ) (o : Option LoopRow) → passed ring_after l (option_map (rewritten_row (map swap) l) o) ≡ passed ring_before l o
+    same_row l None = refl
+    same_row l (Some row) = ap (λ o. one_if (nat_eq row.face k && not (nat_eq o l))) outer_is
+
+    none_passes : (l : ℕ) → face_of M l ≢ k → passed ring_before l (table.get M.loops l) ≡ 0
+    none_passes l ne = go (table.get M.loops l) refl where
+      go : (o : Option LoopRow) → table.get M.loops l ≡ o → passed ring_before l o ≡ 0
+      go None e = refl
+      go (Some row) e = ap (λ b. one_if (b && not (nat_eq (outer M k) l))) (ne_eqb row.face k (λ s. ne (face_row M l row e ∙ s)))
+
+    loop_gone : (l : ℕ) → table.get kept l ≡ None → face_of M l ≢ k → passed ring_after l (table.get N.loops l) ≡ passed ring_before l (table.get M.loops l)
+    loop_gone l e ne = ap (passed ring_after l) (row_in l ∙ ap (option_map (rewritten_row (map swap) l)) e) ∙ sym (none_passes l ne)
+
+    rings_are : rings_of N k ≡ rings_of M k
+    rings_are = same_search ring_after ring_before N.loops M.loops (λ l. elim (eqb_tells l (outer M f)) [
+      | inl e ↦ loop_gone l (grind (arith, nat_tests, tables)) (λ s. not_f (sym s ∙ ap (face_of M) e.1 ∙ seams.face_f w))
+      | inr a ↦ elim (eqb_tells l (outer M g)) [
+        | inl e ↦ loop_gone l (grind (arith, nat_tests, tables)) (λ s. not_g (sym s ∙ ap (face_of M) e.1 ∙ seams.face_g w))
+        | inr b ↦ ap (passed ring_after l) (loop_row l a.1 b.1) ∙ same_row l (table.get M.loops l)
+      ]
+    ])
+
+    pub own : face_of M (outer M k) ≡ k
+    own = (w.sound.outers_there k there).1
+
+    pub loop_else : (l : ℕ) → face_of M l ≡ k → (l ≢ outer M f) × (l ≢ outer M g)
+    loop_else l of = grind (arith, seams.face_f w, seams.face_g w)
+
+    pub normal_is : normal N k ≡ normal M k
+    unfolding normal boundary loops_of
+    normal_is = ap (λ ls. area N (items_in N ls)) (λ i. outer_is i ∷ rings_are i)
+        ∙ loops_area (loops_of M k) (λ l i. loop_else l (face_of_loop M w.sound k l there i).1)
+
+    -- ---- anchors
+
+    anchor_in : (c : LoopContent) → c ≢ cycle [] → content M (outer M k) ≡ c → is_flat M k ≡ true → dot (point_of N (first_vertex N (rewritten (map swap) c))) (normal M k) ≡ dot (anchor M k) (normal M k)
+    anchor_in (lone v) ne is flat =
+        ap (λ p. dot p (normal M k)) (seams.point_kept w n v (λ h i e. w.sound.lone_is_no_tail (outer M k) (partner_of h) (seams.half_g w (partner_of h) (seams.partner_in w h i)) (is ∙ ap lone (sym e)))
+        ∙ sym (ap (λ c. point_of M (first_vertex M c)) is))
+    anchor_in (cycle []) ne is flat = absurd (ne refl)
+    anchor_in (cycle (c ∷ cs)) ne is flat =
+        let zs : List ℕ = canonical (map swap (c ∷ cs)) in
+        let some : IsIn (swap c) zs = omega (arith, count-canonical (swap c) (map swap (c ∷ cs)), tick_same (swap c)) in
+        let first : IsIn (head_or 0 zs) (map swap (c ∷ cs)) = omega (arith, IsIn_first zs (swap c) some, count-canonical (head_or 0 zs) (map swap (c ∷ cs))) in
+        let y = from_map swap (head_or 0 zs) (c ∷ cs) first in
+        ap (λ p. dot p (normal M k)) (ap (start N) y.2 ∙ (each_swapped (outer M k) (loop_else (outer M k) own).1 y.0 (ap_in y.0 (c ∷ cs) is y.1)).0)
+        ∙ item_told M k (c ∷ cs) y.0 flat is y.1 where
+          ap_in : (y : ℕ) (cs : List ℕ) → content M (outer M k) ≡ cycle cs → IsIn y cs → IsIn y (items_of (content M (outer M k)))
+          ap_in y cs is i = omega (arith, i, ap (λ c. count y (items_of c)) is)
+
+    anchor_told : is_flat M k ≡ true → dot (anchor N k) (normal M k) ≡ dot (anchor M k) (normal M k)
+    anchor_told flat =
+        let l = outer M k in
+        ap (λ c. dot (point_of N (first_vertex N c)) (normal M k)) (ap (content N) outer_is ∙ content_is l (loop_else l own).0 (loop_else l own).1)
+        ∙ anchor_in (content M l) (λ e. (w.sound.cycles l [] (w.sound.outers_there k there).0 e).some_item refl) refl flat
+
+    -- the face adds what it did
+    pub volume_is : is_flat M k ≡ true → volume_of N k ≡ volume_of M k
+    volume_is flat = ap (dot (anchor N k)) normal_is ∙ anchor_told flat
+
   abbrev s : ℕ
   s = solid_of M f
 
@@ -86,9 +250,6 @@ module _ {M N : Model} {f g : ℕ} {partner_of : ℕ → ℕ} {hs gs : List ℕ}
   abbrev of : ℕ → ℕ → FaceRow → Bool
   of u k row = nat_eq row.solid u
 
-  abbrev to_s : ℕ → FaceRow → FaceRow
-  to_s = faces_to_solid (λ _ row. nat_eq row.solid t) s
-
   abbrev left : Table FaceRow
   left = table.remove (table.remove M.faces f) g
 
@@ -99,7 +260,7 @@ module _ {M N : Model} {f g : ℕ} {partner_of : ℕ → ℕ} {hs gs : List ℕ}
   left_g = grind (arith, nat_tests, tables)
 
   free_after : (k : ℕ) → table.get left k ≡ None → table.get N.faces k ≡ None
-  free_after k e = normals.face_at_row w n k ∙ ap (option_map (to_s k)) e
+  free_after k e = face_at_row k ∙ ap (option_map (to_s k)) e
 
   none_after : (k : ℕ) → table.get left k ≡ None → count k (faces_of N s) ≡ 0
   none_after k e = count_where (of s) N.faces k ∙ ap (passed (of s) k) (free_after k e)
@@ -123,7 +284,7 @@ module _ {M N : Model} {f g : ℕ} {partner_of : ℕ → ℕ} {hs gs : List ℕ}
   at_other : (k : ℕ) → k ≢ f → k ≢ g → SameAt k
   at_other k a b =
       let now : count k (faces_of N s) ≡ passed (of s) k (table.get M.faces k) + passed (of t) k (table.get M.faces k) =
-      count_where (of s) N.faces k ∙ ap (passed (of s) k) (normals.other_face w n k a b) ∙ both_rows k (table.get M.faces k) in
+      count_where (of s) N.faces k ∙ ap (passed (of s) k) (other_face k a b) ∙ both_rows k (table.get M.faces k) in
       omega (arith, tick_other k f a, tick_other k g b, now, count_where (of s) M.faces k, count_where (of t) M.faces k, count-append k (faces_of M s) (faces_of M t))
 
   -- the faces of both solids but the two
@@ -139,12 +300,12 @@ module _ {M N : Model} {f g : ℕ} {partner_of : ℕ → ℕ} {hs gs : List ℕ}
       let r = listed_passes (of s) N.faces k i in
       let not_f : k ≢ f = not_free k f (ap is_some r.1) left_f in
       let not_g : k ≢ g = not_free k g (ap is_some r.1) left_g in
-      let at = normals.other_face w n k not_f not_g in
+      let at = other_face k not_f not_g in
       let there : Has M.faces k = sym (mapped_some (to_s k) (table.get M.faces k)) ∙ ap is_some (sym at ∙ r.1) in
       let now : table.get N.faces k ≡ Some (to_s k (record { solid = solid_of M k; outer = outer M k })) = at ∙ ap (option_map (to_s k)) (face_there M k there) in
       let passes : of s k (to_s k (record { solid = solid_of M k; outer = outer M k })) ≡ true = sym (listed_as (of s) N.faces k (to_s k (record { solid = solid_of M k; outer = outer M k })) now) ∙ i in
       let solid = was_either (solid_of M k) s t (sym (ap (λ v. nat_eq v s) (solid_either (nat_eq (solid_of M k) t) (record { solid = solid_of M k; outer = outer M k }) s)) ∙ passes) in
-      normals.volume_is w n k there not_f not_g (w.flat k there solid)
+      volume_is k there not_f not_g (w.flat k there solid)
 
   pub solids_add : six_volume N s ≡ six_volume M s +ℤ six_volume M t
   unfolding six_volume

@@ -24,8 +24,7 @@ use Rattle.shapes.proofs.glue.Renamings.{renamed_not}
 use Rattle.gluing_laws.proofs.Listed.{one_if, passed, same_search, volume_of, same_volumes}
 use Rattle.gluing_laws.proofs.Seams as seams
 use Rattle.gluing_laws.proofs.Seams.{Seamed, Glued, side}
-use Rattle.gluing_laws.proofs.Places as places
-use Rattle.gluing_laws.proofs.Normals as normals
+use Rattle.gluing_laws.proofs.Adding as normals
 
 -- a solid that is neither s nor t has the faces that it had
 of_neither : (a s t u : ℕ) → u ≢ s → u ≢ t → one_if (nat_eq (cond (nat_eq a t) s a) u) ≡ one_if (nat_eq a u)
@@ -41,12 +40,6 @@ module _ {M N : Model} {f g : ℕ} {partner_of : ℕ → ℕ} {hs gs : List ℕ}
   abbrev left : Table FaceRow
   left = table.remove (table.remove M.faces f) g
 
-  left_f : (k : ℕ) → k ≡ f → table.get left k ≡ None
-  left_f k e = grind (arith, nat_tests, tables)
-
-  left_g : (k : ℕ) → k ≡ g → table.get left k ≡ None
-  left_g k e = grind (arith, nat_tests, tables)
-
   face_gone : (k : ℕ) → table.get left k ≡ None → Has M.faces k → solid_of M k ≢ u → passed of k (table.get N.faces k) ≡ passed of k (table.get M.faces k)
   face_gone k e there ne = ap (passed of k) (normals.face_at_row w n k ∙ ap (option_map (to_s k)) e)
       ∙ sym (ap (passed of k) (face_there M k there) ∙ ap one_if (ne_eqb (solid_of M k) u ne))
@@ -57,9 +50,9 @@ module _ {M N : Model} {f g : ℕ} {partner_of : ℕ → ℕ} {hs gs : List ℕ}
 
   faces_are : faces_of N u ≡ faces_of M u
   faces_are = same_search of of N.faces M.faces (λ k. elim (eqb_tells k f) [
-    | inl e ↦ face_gone k (left_f k e.1) (ap (table.has M.faces) e.1 ∙ w.f_there) (λ q. not_s (sym q ∙ ap (solid_of M) e.1))
+    | inl e ↦ face_gone k (grind (arith, nat_tests, tables)) (ap (table.has M.faces) e.1 ∙ w.f_there) (λ q. not_s (sym q ∙ ap (solid_of M) e.1))
     | inr a ↦ elim (eqb_tells k g) [
-      | inl e ↦ face_gone k (left_g k e.1) (ap (table.has M.faces) e.1 ∙ w.g_there) (λ q. not_t (sym q ∙ ap (solid_of M) e.1))
+      | inl e ↦ face_gone k (grind (arith, nat_tests, tables)) (ap (table.has M.faces) e.1 ∙ w.g_there) (λ q. not_t (sym q ∙ ap (solid_of M) e.1))
       | inr b ↦ ap (passed of k) (normals.other_face w n k a.1 b.1) ∙ row_kept k (table.get M.faces k)
     ]
   ])
@@ -69,7 +62,7 @@ module _ {M N : Model} {f g : ℕ} {partner_of : ℕ → ℕ} {hs gs : List ℕ}
     l = outer M k
 
     abbrev swap : ℕ → ℕ
-    swap = places.swap w n
+    swap = seams.swap w n
 
     not_f : k ≢ f
     not_f e = not_s (sym is_of ∙ ap (solid_of M) e)
@@ -97,7 +90,7 @@ module _ {M N : Model} {f g : ℕ} {partner_of : ℕ → ℕ} {hs gs : List ℕ}
     all_stay cs (x ∷ xs) is within = λ i. swap_not cs x is (within x (IsIn_head x xs)) i ∷ all_stay cs xs is (λ y j. within y (omega (arith, j))) i
 
     anchor_in : (c : LoopContent) → c ≢ cycle [] → content M l ≡ c → point_of N (first_vertex N (rewritten (map swap) c)) ≡ point_of M (first_vertex M c)
-    anchor_in (lone v) ne is = places.point_kept w n v (λ h i e. w.sound.lone_is_no_tail l (partner_of h) (seams.half_g w (partner_of h) (seams.partner_in w h i)) (is ∙ ap lone (sym e)))
+    anchor_in (lone v) ne is = seams.point_kept w n v (λ h i e. w.sound.lone_is_no_tail l (partner_of h) (seams.half_g w (partner_of h) (seams.partner_in w h i)) (is ∙ ap lone (sym e)))
     anchor_in (cycle []) ne is = absurd (ne refl)
     anchor_in (cycle (c ∷ cs)) ne is =
         let i : IsIn c (c ∷ cs) = IsIn_head c cs in
@@ -106,7 +99,7 @@ module _ {M N : Model} {f g : ℕ} {partner_of : ℕ → ℕ} {hs gs : List ℕ}
         ap (λ xs. point_of N (tail N (head_or 0 (canonical xs)))) (all_stay (c ∷ cs) (c ∷ cs) is (λ x j. j))
         ∙ ap (λ xs. point_of N (tail N (head_or 0 xs))) least
         ∙ ap (start N) (sym (swap_not (c ∷ cs) c is i))
-        ∙ (places.swapped w n c (w.sound.only_edges c l s) (λ e. (normals.loop_else w n k there not_f not_g l own).1 (sym (w.sound.one_loop c l s) ∙ e))).0
+        ∙ (seams.swapped w n c (w.sound.only_edges c l s) (λ e. (normals.loop_else w n k there not_f not_g l own).1 (sym (w.sound.one_loop c l s) ∙ e))).0
 
     anchor_is : anchor N k ≡ anchor M k
     anchor_is =
@@ -117,9 +110,7 @@ module _ {M N : Model} {f g : ℕ} {partner_of : ℕ → ℕ} {hs gs : List ℕ}
     pub volume_stays : volume_of N k ≡ volume_of M k
     volume_stays = λ i. dot (anchor_is i) (normals.normal_is w n k there not_f not_g i)
 
-  each_stays : (k : ℕ) → lists (faces_of M u) k ≡ true → volume_of N k ≡ volume_of M k
-  each_stays k i = grind (arith, listed_passes, volume_stays, eqb-true, listed_as, face_there)
-
   pub others_stay : six_volume N u ≡ six_volume M u
   unfolding six_volume
-  others_stay = ap (volume_in N) faces_are ∙ same_volumes M N (faces_of M u) each_stays
+  others_stay = ap (volume_in N) faces_are
+      ∙ same_volumes M N (faces_of M u) (λ k i. grind (arith, listed_passes, volume_stays, eqb-true, listed_as, face_there))

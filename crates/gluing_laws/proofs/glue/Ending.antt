@@ -80,11 +80,8 @@ module _ (M : Model) (f g : ℕ) (partner_of : ℕ → ℕ) (hs : List ℕ) (x :
   loop_g : loop_of N (mate m) ≡ l
   loop_g = ap (loop_of N) (mate-mate (partner_of h)) ∙ loop_is N l f (h ∷ partner_of h ∷ []) around_l (partner_of h) g_in
 
-  face_l : face_of N l ≡ f
-  face_l = face_row N l (record { face = f; content = cycle (canonical (h ∷ partner_of h ∷ [])) }) around_l.at
-
   face_g : face_at N (mate m) ≡ f
-  face_g = ap (face_of N) loop_g ∙ face_l
+  face_g = ap (face_of N) loop_g ∙ face_row N l (record { face = f; content = cycle (canonical (h ∷ partner_of h ∷ [])) }) around_l.at
 
   -- no other loop is of f
   face_else : (p : ℕ) → p ≢ l → Has N.loops p → face_of N p ≢ f
@@ -118,15 +115,12 @@ module _ (M : Model) (f g : ℕ) (partner_of : ℕ → ℕ) (hs : List ℕ) (x :
         unmoved true = refl
         unmoved false = refl
 
-  outer_f : outer N f ≡ l
-  unfolding outer
-  outer_f = ap (λ o. (unwrap_or o no_face).outer) face_row_f
-
   goes : KefGoes N m
+  unfolding outer
   goes = record {
     h_there = m_there;
     faces_apart = λ e. face_else q q_l (kill_has e) (e ∙ face_g);
-    no_rings = λ p there is. ap (outer N) face_g ∙ outer_f ∙ only p there (is ∙ face_g);
+    no_rings = λ p there is. ap (outer N) face_g ∙ ap (λ o. (unwrap_or o no_face).outer) face_row_f ∙ only p there (is ∙ face_g);
   } where
     kill_has : face_at N m ≡ face_at N (mate m) → Has N.loops q
     kill_has e = ap is_some (row_of N w.sound m m_there)
@@ -205,14 +199,11 @@ module _ (M : Model) (f g : ℕ) (partner_of : ℕ → ℕ) (hs : List ℕ) (x :
   faces_after : table.remove N.faces (face_at N (mate m)) ≡ X.faces
   faces_after = (λ i. table.remove (stages.faces_are M f g partner_of hs x h done (h ∷ []) w i) (face_g i)) ∙ remove_both _ M.faces f g
 
-  kef_is : kef N m ≡ X
-  unfolding kef glued_part
-  kef_is = λ i. record { solids = X.solids; faces = faces_after i; loops = loops_after i; edges = edges_after i; vertices = vertices_after i }
-
   -- the solids are glued
   pub ending_is : effect N (Kef (half m)) ≡ X
-  unfolding effect
-  ending_is = ap (kef N) (code-half m) ∙ kef_is
+  unfolding effect kef glued_part
+  ending_is = ap (kef N) (code-half m)
+      ∙ (λ i. record { solids = X.solids; faces = faces_after i; loops = loops_after i; edges = edges_after i; vertices = vertices_after i })
 
 -- ---- the pairs as the definition of a glue has them
 

@@ -215,11 +215,8 @@ module _ (M : Model) (f g : ℕ) (partner_of : ℕ → ℕ) (h : ℕ) (mid : Lis
 
   -- ---- kev
 
-  kept_row : {Y : Type 0} (u : Table Y) (a b : ℕ) (v : Y) → a ≢ b → table.get (table.remove (table.put u a v) b) a ≡ Some v
-  kept_row u a b v ne = grind (arith, nat_tests, tables)
-
   around_B : Around B l f zs
-  around_B = record { sound = sound_B; at = kept_row A.loops l r _ l_r }
+  around_B = record { sound = sound_B; at = grind (arith, nat_tests, tables) }
 
   plus_in : IsIn (plus x) zs
   plus_in = omega (arith, tick_same (plus x))
@@ -347,24 +344,14 @@ module _ (M : Model) (f g : ℕ) (partner_of : ℕ → ℕ) (h : ℕ) (mid : Lis
     on (lone v) e = refl
     on (cycle cs) e = ap cycle (ap canonical (same_items cs) ∙ (w.sound.cycles q cs (ap is_some at) e).from_least)
 
-  put_kept : {Y : Type 0} (u : Table Y) (a b : ℕ) (v z : Y) → a ≢ b → table.remove (table.put (table.put u b v) a z) b ≡ table.put (table.remove (table.remove u a) b) a z
-  put_kept u a b v z ne = same_table _ _ (λ n. grind (arith, nat_tests, tables))
-
   loops_then : C.loops ≡ X.loops
   unfolding glued_part
-  loops_then = put_kept M.loops l r row_r row_l l_r ∙ ap (λ u. table.put u l row_l) (sym (map_same (rewritten_row (map (renamed []))) kept (λ q row at. same_row q row (kept_there q row at))))
+  loops_then = same_table _ _ (λ n. grind (arith, nat_tests, tables))
+      ∙ ap (λ u. table.put u l row_l) (sym (map_same (rewritten_row (map (renamed []))) kept (λ q row at. same_row q row (kept_there q row at))))
 
-  meets : tail M h ≡ tail M (mate last)
-  meets = facing.meets_round M f g partner_of hs x w h mid last refl
-
-  abbrev tail_from : ℕ → ℕ
-  tail_from j = tail M (partner_of j)
-
-  abbrev tail_to : ℕ → ℕ
-  tail_to j = tail M (mate j)
-
-  move_on : (u : ℕ) → cond (nat_eq u (tail M k)) (tail M h) u ≡ renamed (paired tail_from tail_to (last ∷ [])) u
-  move_on u = ap (λ v. cond (nat_eq u (tail M k)) v u) meets ∙ sym (renamed_more tail_from tail_to [] last (λ j i. absurd (omega (arith, i))) u)
+  move_on : (u : ℕ) → cond (nat_eq u (tail M k)) (tail M h) u ≡ renamed (paired (λ j. tail M (partner_of j)) (λ j. tail M (mate j)) (last ∷ [])) u
+  move_on u = ap (λ v. cond (nat_eq u (tail M k)) v u) (facing.meets_round M f g partner_of hs x w h mid last refl)
+      ∙ sym (renamed_more (λ j. tail M (partner_of j)) (λ j. tail M (mate j)) [] last (λ j i. absurd (omega (arith, i))) u)
 
   edges_then : C.edges ≡ X.edges
   unfolding glued_part

@@ -113,17 +113,15 @@ module _ {N : Model} {l f g h k : ℕ} {qs : List ℕ} {x s r : ℕ} (c : Closes
   edge_minus : edge_of (minus x) ≡ x
   edge_minus = (minus_row x).0
 
-  A_edge : table.get A.edges x ≡ Some new_edge
-  A_edge = get-put_here N.edges x new_edge
-
   A_other : (y : ℕ) → edge_of y ≢ x → table.get A.edges (edge_of y) ≡ table.get N.edges (edge_of y)
   A_other y ne = get-put_other N.edges x new_edge (edge_of y) ne
 
   A_plus : tail A (plus x) ≡ tail N g
-  A_plus = tail_row A (plus x) new_edge (ap (table.get A.edges) edge_plus ∙ A_edge) ∙ ap (tail_in new_edge) (plus_row x).1
+  A_plus = tail_row A (plus x) new_edge (ap (table.get A.edges) edge_plus ∙ get-put_here N.edges x new_edge) ∙ ap (tail_in new_edge) (plus_row x).1
 
   A_minus : tail A (minus x) ≡ tail N k
-  A_minus = tail_row A (minus x) new_edge (ap (table.get A.edges) edge_minus ∙ A_edge) ∙ ap (tail_in new_edge) (minus_row x).1
+  A_minus = tail_row A (minus x) new_edge (ap (table.get A.edges) edge_minus ∙ get-put_here N.edges x new_edge)
+      ∙ ap (tail_in new_edge) (minus_row x).1
 
   -- ---- kev
 
@@ -210,11 +208,8 @@ module _ {N : Model} {l f g h k : ℕ} {qs : List ℕ} {x s r : ℕ} (c : Closes
   abbrev q : ℕ
   q = loop_of N (mate g)
 
-  g_there : HasHalf N g
-  g_there = half_is N l f ((g ∷ h ∷ []) ++ k ∷ qs) c.around g (omega (arith, tick_same g))
-
   m_there : HasHalf N (mate g)
-  m_there = mate_there N g g_there
+  m_there = mate_there N g (half_is N l f ((g ∷ h ∷ []) ++ k ∷ qs) c.around g (omega (arith, tick_same g)))
 
   row_q : table.get N.loops q ≡ Some (record { face = face_of N q; content = cycle (cycle_of N (mate g)) })
   row_q = row_of N c.around.sound (mate g) m_there
@@ -228,20 +223,14 @@ module _ {N : Model} {l f g h k : ℕ} {qs : List ℕ} {x s r : ℕ} (c : Closes
   around_gh : Around B r s (g ∷ h ∷ [])
   around_gh = record { sound = sound_B; at = get-put_here _ r _ }
 
-  g_in : IsIn g (g ∷ h ∷ [])
-  g_in = omega (arith, tick_same g)
-
   loop_g : loop_of B (mate (mate g)) ≡ r
-  loop_g = ap (loop_of B) (mate-mate g) ∙ loop_is B r s (g ∷ h ∷ []) around_gh g g_in
+  loop_g = ap (loop_of B) (mate-mate g) ∙ loop_is B r s (g ∷ h ∷ []) around_gh g (omega (arith, tick_same g))
 
   B_at_q : table.get B.loops q ≡ Some (record { face = face_of N q; content = cycle (cycle_of N (mate g)) })
   B_at_q = B_other q c.mate_else (not_r q (ap is_some row_q)) ∙ row_q
 
   loop_m : loop_of B (mate g) ≡ q
   loop_m = sound_B.one_loop (mate g) q (ap (holds (mate g)) (content_row B q _ B_at_q ∙ sym (content_row N q _ row_q)) ∙ c.around.sound.stands (mate g) m_there)
-
-  face_r : face_of B r ≡ s
-  face_r = face_row B r (record { face = s; content = cycle (canonical (g ∷ h ∷ [])) }) (get-put_here _ r _)
 
   face_q : face_of B q ≡ face_of N q
   face_q = face_row B q (record { face = face_of N q; content = cycle (cycle_of N (mate g)) }) B_at_q
@@ -265,14 +254,11 @@ module _ {N : Model} {l f g h k : ℕ} {qs : List ℕ} {x s r : ℕ} (c : Closes
   outer_s = ap (λ o. (unwrap_or o no_face).outer) (get-put_here N.faces s (record { solid = solid_of N f; outer = r }))
 
   face_g : face_at B (mate (mate g)) ≡ s
-  face_g = ap (face_of B) loop_g ∙ face_r
-
-  B_half : HasHalf B (mate g)
-  B_half = ap is_some (get-map_rows (moved_tail (tail N g) (tail N k)) N.edges (edge_of (mate g))) ∙ mapped_some _ _ ∙ m_there
+  face_g = ap (face_of B) loop_g ∙ face_row B r (record { face = s; content = cycle (canonical (g ∷ h ∷ [])) }) (get-put_here _ r _)
 
   kef_goes : KefGoes B (mate g)
   kef_goes = record {
-    h_there = B_half;
+    h_there = ap is_some (get-map_rows (moved_tail (tail N g) (tail N k)) N.edges (edge_of (mate g))) ∙ mapped_some _ _ ∙ m_there;
     faces_apart = λ e. not_s q (ap is_some row_q) (sym face_q ∙ ap (face_of B) (sym loop_m) ∙ e ∙ face_g);
     no_rings = λ p there is. ap (outer B) face_g ∙ outer_s ∙ only_r p there (is ∙ face_g);
   }
@@ -292,11 +278,9 @@ module _ {N : Model} {l f g h k : ℕ} {qs : List ℕ} {x s r : ℕ} (c : Closes
   cycle_m : cycle_of B (mate g) ≡ cycle_of N (mate g)
   cycle_m = ap (λ p. items_of (content B p)) loop_m ∙ ap items_of (content_row B q _ B_at_q)
 
-  cycle_g : cycle_of B (mate (mate g)) ≡ canonical (g ∷ h ∷ [])
-  cycle_g = ap (λ p. items_of (content B p)) loop_g ∙ ap items_of (content_row B r _ (get-put_here _ r _))
-
   rest_g : rest (mate (mate g)) (cycle_of B (mate (mate g))) ≡ h ∷ []
-  rest_g = (λ i. rest (mate-mate g i) (cycle_g i)) ∙ rest_canonical g (h ∷ []) (apart_xs B r s (g ∷ h ∷ []) around_gh)
+  rest_g = (λ i. rest (mate-mate g i) ((ap (λ p. items_of (content B p)) loop_g ∙ ap items_of (content_row B r _ (get-put_here _ r _))) i))
+      ∙ rest_canonical g (h ∷ []) (apart_xs B r s (g ∷ h ∷ []) around_gh)
 
   put_apart : {X : Type 0} (t : Table X) (a b d : ℕ) (u v w : X) → a ≢ b → d ≢ b → table.get t b ≡ None → table.remove (table.put (table.put (table.put t a u) b v) d w) b ≡ table.put (table.put t a u) d w
   put_apart t a b d u v w ab db free = same_table _ _ (λ n. grind (arith, nat_tests, tables))
@@ -306,13 +290,9 @@ module _ {N : Model} {l f g h k : ℕ} {qs : List ℕ} {x s r : ℕ} (c : Closes
       ∙ (λ i. table.remove (table.put B.loops (loop_m i) (record { face = (ap (face_of B) loop_m ∙ face_q) i; content = cycle (canonical (rest_g i ++ rest (mate g) (cycle_m i))) })) (loop_g i))
       ∙ put_apart N.loops l r q _ _ _ l_r (not_r q (ap is_some row_q)) c.loop_free
 
-  kef_is : kef B (mate g) ≡ closed
-  unfolding kef
-  kef_is = grind (arith, face_g, remove-put, c.face_free, closed_loops, edge_of-mate)
-
   pub closed_is : effect B (Kef (half (mate g))) ≡ closed
-  unfolding effect
-  closed_is = ap (kef B) (code-half (mate g)) ∙ kef_is
+  unfolding effect kef
+  closed_is = ap (kef B) (code-half (mate g)) ∙ grind (arith, face_g, remove-put, c.face_free, closed_loops, edge_of-mate)
 
   -- the three operators
   pub closing_leads : Leads N closed (closing g k x s r)

@@ -55,14 +55,11 @@ module _ (M : Model) (f g : ℕ) (partner_of : ℕ → ℕ) (hs : List ℕ) (x l
   h_more : IsIn h (h ∷ k ∷ more)
   h_more = omega (arith, tick_same h)
 
-  k_more : IsIn k (h ∷ k ∷ more)
-  k_more = omega (arith, tick_same k)
-
   h_in : IsIn h hs
   h_in = stages.all_in M f g partner_of hs x last done (h ∷ k ∷ more) w h h_more
 
   k_in : IsIn k hs
-  k_in = stages.all_in M f g partner_of hs x last done (h ∷ k ∷ more) w k k_more
+  k_in = stages.all_in M f g partner_of hs x last done (h ∷ k ∷ more) w k (omega (arith, tick_same k))
 
   h_once : (count h done ≡ 0) × (count h (k ∷ more) ≡ 0)
   h_once = grind (arith, facing.apart M f g partner_of hs x F h, count-append h done (h ∷ k ∷ more), tick_same h)
@@ -92,7 +89,7 @@ module _ (M : Model) (f g : ℕ) (partner_of : ℕ → ℕ) (hs : List ℕ) (x l
   tail_g = stages.tail_partner M f g partner_of hs x last done (h ∷ k ∷ more) w h h_more not_last g_there
 
   tail_k : tail N k ≡ tail M k
-  tail_k = stages.tail_here M f g partner_of hs x last done (h ∷ k ∷ more) w k k_more k_there
+  tail_k = stages.tail_here M f g partner_of hs x last done (h ∷ k ∷ more) w k (omega (arith, tick_same k)) k_there
 
   meets : tail M k ≡ tail M (mate h)
   meets = facing.meets M f g partner_of hs x F done h k more w.split
@@ -141,11 +138,8 @@ module _ (M : Model) (f g : ℕ) (partner_of : ℕ → ℕ) (hs : List ℕ) (x l
   abbrev X : Model
   X = glued_part M f g partner_of last (done ++ h ∷ []) (k ∷ more)
 
-  abbrev m : ℕ
-  m = mate (partner_of h)
-
   abbrev q : ℕ
-  q = loop_of N m
+  q = loop_of N (mate (partner_of h))
 
   abbrev swap : ℕ → ℕ
   swap = renamed (paired (λ j. mate (partner_of j)) (λ j. j) done)
@@ -159,10 +153,7 @@ module _ (M : Model) (f g : ℕ) (partner_of : ℕ → ℕ) (hs : List ℕ) (x l
   swap_puts : {Y : Type 0} (t : Table Y) (a b : ℕ) (u v z : Y) → b ≢ a → table.put (table.put (table.put t a u) a v) b z ≡ table.put (table.put t b z) a v
   swap_puts t a b u v z ne = same_table _ _ (λ n. grind (arith, nat_tests, tables))
 
-  abbrev after_round : Model
-  after_round = closed closes
-
-  loops_next : after_round.loops ≡ X.loops
+  loops_next : (closed closes).loops ≡ X.loops
   unfolding glued_part
   loops_next =
       ap (λ t. table.put (table.put t l (record { face = f; content = cycle (canonical (k ∷ qs)) })) q turned_row) (stages.loops_are M f g partner_of hs x last done (h ∷ k ∷ more) w)
@@ -181,7 +172,7 @@ module _ (M : Model) (f g : ℕ) (partner_of : ℕ → ℕ) (hs : List ℕ) (x l
   move_on : (u : ℕ) → cond (nat_eq (renamed moves_before u) (tail M (partner_of h))) (tail M (mate h)) (renamed moves_before u) ≡ renamed moves_after u
   move_on u = sym (renamed_more tail_from tail_to (last ∷ done) h (λ j i. facing.never_ends M f g partner_of hs x F j h (moved_in j i) h_in) u)
 
-  edges_next : after_round.edges ≡ X.edges
+  edges_next : (closed closes).edges ≡ X.edges
   unfolding glued_part
   edges_next =
       (λ i. table.remove (table.map_rows (moved_tail (tail_g i) ((tail_k ∙ meets) i)) (stages.edges_are M f g partner_of hs x last done (h ∷ k ∷ more) w i)) (edge_of (partner_of h)))
@@ -191,17 +182,15 @@ module _ (M : Model) (f g : ℕ) (partner_of : ℕ → ℕ) (hs : List ℕ) (x l
       ∙ sym (map_removed (renamed_tails moves_after) (without_rows M.edges gone) (edge_of (partner_of h)))
       ∙ ap (table.map_rows (renamed_tails moves_after)) (sym (without_more M.edges gone (edge_of (partner_of h))) ∙ ap (without_rows M.edges) (sym (map-append (λ j. edge_of (partner_of j)) done (h ∷ []))))
 
-  vertices_next : after_round.vertices ≡ X.vertices
+  vertices_next : (closed closes).vertices ≡ X.vertices
   unfolding glued_part
   vertices_next = grind (arith, tail_g, without_more, map-append)
-
-  after_is : after_round ≡ X
-  unfolding glued_part
-  after_is = λ i. record { solids = X.solids; faces = X.faces; loops = loops_next i; edges = edges_next i; vertices = vertices_next i }
 
   -- the three operators of the item are accepted, and then it is glued too
   pub turn_accepted : AreAccepted N (closing (partner_of h) k x g r)
   turn_accepted = (closing_leads closes).accepted
 
   pub turn_is : effects N (closing (partner_of h) k x g r) ≡ X
-  turn_is = (closing_leads closes).made ∙ after_is
+  unfolding glued_part
+  turn_is = (closing_leads closes).made
+      ∙ (λ i. record { solids = X.solids; faces = X.faces; loops = loops_next i; edges = edges_next i; vertices = vertices_next i })
