@@ -1,3 +1,2 @@
 pub mod Joined
-mod Parted
 pub mod Whole

@@ -3,4 +3,3 @@ pub mod Orbits
 pub mod RisingLists
 pub mod BelowHalves
 pub mod NextBelow
-pub mod Cycles

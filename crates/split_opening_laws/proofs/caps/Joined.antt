@@ -59,16 +59,13 @@ module _ {X : Type 0} where
   gone_first t k zero j = refl
   gone_first t k (suc n) j = ap (λ s. without_rows s (numbers_after (k + 1) n)) (remove_turned t j (k + 1)) ∙ gone_first (table.remove t (k + 1)) (k + 1) n j
 
-  removed_none : (t : Table X) (k q : ℕ) → table.get t q ≡ None → table.get (table.remove t k) q ≡ None
-  removed_none t k q free = grind (arith, nat_tests, tables)
-
   removed_here : (t : Table X) (k q : ℕ) → q ≡ k → table.get (table.remove t k) q ≡ None
   removed_here t k q e = grind (arith, nat_tests, tables)
 
   -- a free number stays free, and what is left is hs it was
   pub gone_free : (t : Table X) (k n q : ℕ) → table.get t q ≡ None → table.get (without_rows t (numbers_after k n)) q ≡ None
   gone_free t k zero q free = free
-  gone_free t k (suc n) q free = gone_free (table.remove t (k + 1)) (k + 1) n q (removed_none t (k + 1) q free)
+  gone_free t k (suc n) q free = gone_free (table.remove t (k + 1)) (k + 1) n q (grind (arith, nat_tests, tables))
 
   pub gone_back : (t : Table X) (k n q : ℕ) → Has (without_rows t (numbers_after k n)) q → table.get (without_rows t (numbers_after k n)) q ≡ table.get t q
   gone_back t k zero q there = refl
@@ -165,14 +162,9 @@ module _ (N : Model) (s : ℕ) (c : Taken) (hs : List ℕ) (w : HasStrips N s c 
   around_first : Around P l1 f1 (front ++ minus x ∷ [])
   around_first = record { sound = sound; at = at_first N s c hs w n ∙ ap (λ xs. Some (record { face = f1; content = cycle (canonical xs) })) loop_here }
 
-  l_else : l ≢ l1
-  l_else q = omega (arith, q)
-
-  at_next : table.get P.loops l ≡ Some (record { face = f; content = cycle (canonical strip) })
-  at_next = at_else N s c hs w n l l_else ∙ gone_above N.loops l1 n l (omega arith) ∙ w.loops (suc n) later
-
   around_next : Around P l f strip
-  around_next = record { sound = sound; at = at_next }
+  around_next =
+      record { sound = sound; at = at_else N s c hs w n l (λ q. omega (arith, q)) ∙ gone_above N.loops l1 n l (omega arith) ∙ w.loops (suc n) later }
 
   h_in : IsIn (minus x) (front ++ minus x ∷ [])
   h_in = omega (arith, count-append (minus x) front (minus x ∷ []), tick_same (minus x))
@@ -189,26 +181,16 @@ module _ (N : Model) (s : ℕ) (c : Taken) (hs : List ℕ) (w : HasStrips N s c 
   face_l1 : face_of P l1 ≡ f1
   face_l1 = face_is P l1 f1 (front ++ minus x ∷ []) around_first
 
-  face_h : face_at P (minus x) ≡ f1
-  face_h = ap (face_of P) loop_h ∙ face_l1
-
   face_k : face_at P (mate (minus x)) ≡ f
   face_k = ap (face_of P) loop_k ∙ face_is P l f strip around_next
-
-  f_apart : f1 ≢ f
-  f_apart q = omega (arith, q)
 
   face_row_f : table.get P.faces f ≡ Some (record { solid = s; outer = l })
   face_row_f = ap (λ t. table.get t f) (joined_faces N s c hs w n) ∙ gone_above N.faces f1 n f (omega arith) ∙ w.faces (suc n) later
 
-  outer_f : outer P f ≡ l
-  unfolding outer
-  outer_f = ap (λ o. (unwrap_or o no_face).outer) face_row_f
-
   -- no other loop is of the next strip's face
   only_l : (q : ℕ) → Has P.loops q → face_of P q ≡ f → l ≡ q
   only_l q there is = elim (eqb_tells q l1) [
-    | inl p ↦ absurd (f_apart (sym face_l1 ∙ ap (face_of P) (sym p.1) ∙ is))
+    | inl p ↦ absurd (omega (arith, (sym face_l1 ∙ ap (face_of P) (sym p.1) ∙ is)))
     | inr ne ↦
         let kept : table.get P.loops q ≡ table.get (without_rows N.loops (numbers_after l1 n)) q = at_else N s c hs w n q ne.1 in
         let same : table.get P.loops q ≡ table.get N.loops q = kept ∙ gone_back N.loops l1 n q (sym (ap is_some kept) ∙ there) in
@@ -216,10 +198,11 @@ module _ (N : Model) (s : ℕ) (c : Taken) (hs : List ℕ) (w : HasStrips N s c 
   ]
 
   goes : KefGoes P (minus x)
+  unfolding outer
   goes = record {
     h_there = half_is P l1 f1 (front ++ minus x ∷ []) around_first (minus x) h_in;
-    faces_apart = λ q. f_apart (sym face_h ∙ q ∙ face_k);
-    no_rings = λ q there is. ap (outer P) face_k ∙ outer_f ∙ only_l q there (is ∙ face_k);
+    faces_apart = λ q. omega (arith, (sym (ap (face_of P) loop_h ∙ face_l1) ∙ q ∙ face_k));
+    no_rings = λ q there is. ap (outer P) face_k ∙ ap (λ o. (unwrap_or o no_face).outer) face_row_f ∙ only_l q there (is ∙ face_k);
   }
 
   riser_is : c.edge + m + 1 + suc n ≡ x
@@ -272,7 +255,7 @@ module _ (N : Model) (s : ℕ) (c : Taken) (hs : List ℕ) (w : HasStrips N s c 
   loops_next : (kef P (minus x)).loops ≡ X.loops
   loops_next = kill.loops_are P sound (minus x) goes
       ∙ (λ i. table.remove (table.put (joined_loops N s c hs w n i) (loop_h i) (record { face = (ap (face_of P) loop_h ∙ face_l1) i; content = cycle (turned i) })) (loop_k i))
-      ∙ put_gone (without_rows N.loops (numbers_after l1 n)) l1 l _ _ l_else
+      ∙ put_gone (without_rows N.loops (numbers_after l1 n)) l1 l _ _ (λ q. omega (arith, q))
       ∙ ap (λ t. table.put t l1 (record { face = f1; content = cycle (canonical (joined_loop c hs (suc n))) })) (gone_next N.loops c.loop)
       ∙ sym (joined_loops N s c hs w (suc n))
 
@@ -286,13 +269,10 @@ module _ (N : Model) (s : ℕ) (c : Taken) (hs : List ℕ) (w : HasStrips N s c 
   unfolding joined_part
   kept_next = (refl, refl)
 
-  kef_is : kef P (minus x) ≡ X
-  unfolding kef
-  kef_is = λ i. record { solids = kept_next.0 i; faces = faces_next i; loops = loops_next i; edges = edges_next i; vertices = kept_next.1 i }
-
   next_is : effect P (Kef (half (minus x))) ≡ X
-  unfolding effect
-  next_is = ap (kef P) (code-half (minus x)) ∙ kef_is
+  unfolding effect kef
+  next_is = ap (kef P) (code-half (minus x))
+      ∙ (λ i. record { solids = kept_next.0 i; faces = faces_next i; loops = loops_next i; edges = edges_next i; vertices = kept_next.1 i })
 
   -- the next strip_riser goes, and its strip is joined too
   pub next_joined : (first_false P (Kef (half (minus (c.edge + m + 1 + suc n)))) ≡ None) × (effect P (Kef (half (minus (c.edge + m + 1 + suc n)))) ≡ X)

@@ -1,33 +1,224 @@
--- A cycle has two strips at least: the mate of a single one would end where it starts.
-use Rattle.std.specs.Prelude.{get_or, reverse}
-use Rattle.std.proofs.Common.{◌≡◌, ℕ, ◌+◌, ◌≤◌, List, [], ◌∷◌, ◌++◌, length, Some, sym, ap, ◌∙◌, arith, inl, inr, zero, suc, ◌-◌, ◌<◌, map, subst}
-use Rattle.std.proofs.lemmas.Bool.{cases_lt}
-use Rattle.std.proofs.Math.Seq.{take-suc}
-use Rattle.std.proofs.lemmas.List.{map-append}
-use Rattle.euler_operators.specs.Items.{IsIn, IsApart}
-use Rattle.euler_operators.specs.Rings.{canonical, successor}
+-- All strips joined: kemr of the first strip_riser parts their loop, and mfkrh makes a face of the ring; from the strips to the caps.
+use Rattle.std.proofs.Common.{◌≡◌, ◌≢◌, ℕ, suc, ◌+◌, ◌-◌, ◌≤◌, List, [], ◌∷◌, ◌++◌, map, length, Some, None, is_some, unwrap_or, cond, refl, sym, ap, ◌∙◌, subst, arith, inl, inr, zero, ◌<◌}
+use Rattle.std.specs.Prelude.{reverse, take, get_or}
+use Rattle.std.proofs.lemmas.Bool.{eq-eqb, ne_eqb, cases_lt}
+use Rattle.std.proofs.lemmas.List.{append_assoc, length-reverse, take_all, map-append}
+use Rattle.euler_operators.specs.Items.{count, IsIn, IsApart}
+use Rattle.euler_operators.specs.Rings.{canonical, rest, successor}
+use Rattle.euler_operators.proofs.Lists.{count-append, tick_same, before_at, after_at}
+use Rattle.euler_operators.proofs.Rotations.{canonical-rotates, rest_same, rest_at}
 use Rattle.euler_operators.specs.HalfEdge.{plus, minus, half}
-use Rattle.euler_operators.specs.Model.{Model, cycle, tail, after}
+use Rattle.euler_operators.specs.Table as table
+use Rattle.euler_operators.specs.Model.{Model, LoopRow, cycle, no_face, loop_of, face_of, solid_of, outer, cycle_of, tail, after}
 use Rattle.euler_operators.specs.Sound.{Sound}
-use Rattle.euler_operators.specs.declared.Op.{Op}
-use Rattle.euler_operators.specs.declared.Op.TheVariants.{Kef}
-use Rattle.euler_operators.proofs.Lists.{count-append, tick_same}
-use Rattle.euler_operators.proofs.Rings.{successor_same, successor_head, successor_last}
-use Rattle.euler_operators.proofs.Rotations.{canonical-rotates}
-use Rattle.euler_operators.proofs.Halves.{mate_minus}
-use Rattle.euler_operators.proofs.Tables.{put_same}
+use Rattle.euler_operators.proofs.Halves.{plus_row, code-half, mate_plus, mate_minus}
+use Rattle.euler_operators.proofs.Tables.{map_one, get-put_here, put-put, put_same}
+use Rattle.euler_operators.proofs.Models.{face_row}
+use Rattle.euler_operators.specs.declared.Op.TheVariants.{Kemr, Mfkrh, Kef}
+use Rattle.euler_operators.specs.Conditions.{first_false}
+use Rattle.euler_operators.specs.Effect.{effect, kemr, mfkrh, cycle_or_lone, loop_to_face}
+use Rattle.euler_laws.proofs.kemr.KemrSound as parted
+use Rattle.euler_laws.proofs.kemr.KemrSound.{KemrGoes}
+use Rattle.euler_laws.proofs.mekr.Mekr.{kemr_accepted}
+use Rattle.euler_laws.proofs.faces.Kfmrh.{MakeGoes, mfkrh_accepted}
+use Rattle.euler_laws.proofs.Cases.{effect_keeps_sound}
 use Rattle.euler_laws.specs.Laws.{effects, AreAccepted}
-use Rattle.euler_laws.proofs.shared.KnownLoop.{Around, apart_xs, half_is, cycle_is}
-use Rattle.euler_laws.proofs.Runs.{effects-append, AreAccepted-append, effects_keep_sound}
-use Rattle.shapes.specs.Fresh.{Taken, numbers_after}
-use Rattle.shapes.specs.Prism.{next_place}
+use Rattle.euler_laws.proofs.shared.KnownLoop.{Around, apart_xs, loop_is, half_is, cycle_is, face_is}
 use Rattle.sweeps_laws.proofs.prism.Sides.{next_last}
-use Rattle.sweeps_laws.proofs.lamina.Lists.{numbers_last}
+use Rattle.shapes.specs.Fresh.{Taken, numbers_after}
+use Rattle.shapes.specs.Rewriting.{without_rows}
 use Rattle.split_opening_laws.specs.caps.Strips.{HasStrips, strip_riser, strip_loop}
 use Rattle.split_opening_laws.specs.caps.Caps.{joined_loop, joined_part, capped}
-use Rattle.split_opening_laws.specs.caps.CapOps.{joinings, partings, cap_ops}
-use Rattle.split_opening_laws.proofs.caps.Joined.{next_joined}
-use Rattle.split_opening_laws.proofs.caps.Parted.{parting_accepted, parting_is}
+use Rattle.split_opening_laws.specs.caps.CapOps.{partings, joinings, cap_ops}
+use Rattle.split_opening_laws.proofs.caps.Joined.{canonical_run, gone_first, gone_free, gone_below, joined_faces, joined_loops, joined_edges, at_first, at_else, next_joined}
+use Rattle.std.proofs.Math.Seq.{take-suc}
+use Rattle.euler_operators.specs.declared.Op.{Op}
+use Rattle.euler_operators.proofs.Rings.{successor_same, successor_head, successor_last}
+use Rattle.euler_laws.proofs.Runs.{effects-append, AreAccepted-append, effects_keep_sound}
+use Rattle.shapes.specs.Prism.{next_place}
+use Rattle.sweeps_laws.proofs.lamina.Lists.{numbers_last}
+
+-- some items make a cycle
+some_cycle : (xs : List ℕ) (v : ℕ) → 1 ≤ length xs → cycle_or_lone xs v ≡ cycle (canonical xs)
+some_cycle xs v e = grind arith
+
+module _ (N : Model) (s : ℕ) (c : Taken) (hs : List ℕ) (w : HasStrips N s c hs) (n : ℕ) (all : length hs ≡ suc n) (sound : Sound (joined_part N c hs n)) where
+  abbrev m : ℕ
+  m = length hs
+
+  abbrev P : Model
+  P = joined_part N c hs n
+
+  abbrev f1 : ℕ
+  f1 = c.face + 1
+
+  abbrev l1 : ℕ
+  l1 = c.loop + 1
+
+  abbrev F : ℕ
+  F = c.face + m + 1
+
+  abbrev L : ℕ
+  L = c.loop + m + 1
+
+  abbrev x : ℕ
+  x = strip_riser c m 0
+
+  -- the two caps' items
+  abbrev lower : List ℕ
+  lower = reverse hs
+
+  abbrev upper : List ℕ
+  upper = map minus (numbers_after c.edge m)
+
+  abbrev ring : List ℕ
+  ring = lower ++ plus x ∷ (upper ++ minus x ∷ [])
+
+  loop_here : joined_loop c hs n ≡ ring
+  loop_here = (λ i. reverse (take (sym all i) hs) ++ plus x ∷ (map minus (numbers_after c.edge (sym all i)) ++ minus (strip_riser c m (next_last m n (omega (arith, all)) i)) ∷ []))
+      ∙ ap (λ xs. reverse xs ++ plus x ∷ (upper ++ minus x ∷ [])) (take_all m hs (omega arith))
+
+  around : Around P l1 f1 ring
+  around = record { sound = sound; at = at_first N s c hs w n ∙ ap (λ xs. Some (record { face = f1; content = cycle (canonical xs) })) loop_here }
+
+  h_in : IsIn (plus x) ring
+  h_in = omega (arith, count-append (plus x) lower (plus x ∷ (upper ++ minus x ∷ [])), tick_same (plus x))
+
+  m_in : IsIn (minus x) ring
+  m_in = omega (arith, count-append (minus x) lower (plus x ∷ (upper ++ minus x ∷ [])), count-append (minus x) upper (minus x ∷ []), tick_same (minus x))
+
+  loop_h : loop_of P (plus x) ≡ l1
+  loop_h = loop_is P l1 f1 ring around (plus x) h_in
+
+  face_l1 : face_of P l1 ≡ f1
+  face_l1 = face_is P l1 f1 ring around
+
+  goes : KemrGoes P (plus x) L
+  goes = record {
+    h_there = half_is P l1 f1 ring around (plus x) h_in;
+    loop_free = at_else N s c hs w n L (λ q. omega (arith, q, w.some)) ∙ gone_free N.loops l1 n L w.loop_free;
+    one_loop = loop_h ∙ sym (ap (loop_of P) (mate_plus x) ∙ loop_is P l1 f1 ring around (minus x) m_in);
+    loop_fits = w.loop_fits;
+  }
+
+  kemr_ok : first_false P (Kemr (half (plus x)) L) ≡ None
+  kemr_ok = kemr_accepted P (half (plus x)) L sound (subst (λ h. KemrGoes P h L) (sym (code-half (plus x))) goes)
+
+  -- ---- the loop parted
+
+  apart : IsApart ring
+  apart = apart_xs P l1 f1 ring around
+
+  rest_h : rest (plus x) (cycle_of P (plus x)) ≡ upper ++ minus x ∷ lower
+  rest_h = ap (rest (plus x)) (cycle_is P l1 f1 ring around (plus x) h_in)
+      ∙ sym (rest_same (plus x) ring (canonical ring) (canonical-rotates ring) apart h_in)
+      ∙ rest_at (plus x) lower (upper ++ minus x ∷ []) (omega (arith, apart (plus x), count-append (plus x) lower (plus x ∷ (upper ++ minus x ∷ [])), tick_same (plus x)))
+      ∙ append_assoc upper (minus x ∷ []) lower
+
+  none_upper : count (minus x) upper ≡ 0
+  none_upper = omega (arith, apart (minus x), count-append (minus x) lower (plus x ∷ (upper ++ minus x ∷ [])), count-append (minus x) upper (minus x ∷ []), tick_same (minus x))
+
+  abbrev lower_row : LoopRow
+  lower_row = record { face = f1; content = cycle (canonical lower) }
+
+  abbrev ring_row : LoopRow
+  ring_row = record { face = f1; content = cycle (canonical upper) }
+
+  abbrev upper_row : LoopRow
+  upper_row = record { face = F; content = cycle (canonical upper) }
+
+  abbrev K : Model
+  K = record P {
+    loops = table.put (table.put P.loops l1 lower_row) L ring_row;
+    edges = table.remove P.edges x;
+  }
+
+  kemr_loops : (kemr P (plus x) L).loops ≡ K.loops
+  kemr_loops = grind (arith, parted.loops_are, goes, loop_h, face_l1, some_cycle, length-reverse, mate_plus, rest_h, before_at, none_upper, after_at)
+
+  kemr_is : effect P (Kemr (half (plus x)) L) ≡ K
+  unfolding effect kemr
+  kemr_is = ap (λ h. kemr P h L) (code-half (plus x)) ∙ (λ i. record P { loops = kemr_loops i; edges = table.remove P.edges ((plus_row x).0 i) })
+
+  sound_K : Sound K
+  sound_K = subst Sound kemr_is (effect_keeps_sound P (Kemr (half (plus x)) L) sound kemr_ok)
+
+  -- ---- the ring made a face
+
+  at_L : table.get K.loops L ≡ Some ring_row
+  at_L = get-put_here (table.put P.loops l1 lower_row) L ring_row
+
+  face_L : face_of K L ≡ f1
+  face_L = face_row K L ring_row at_L
+
+  face_row_1 : table.get K.faces f1 ≡ Some (record { solid = s; outer = l1 })
+  face_row_1 = ap (λ t. table.get t f1) (joined_faces N s c hs w n) ∙ gone_below N.faces f1 n f1 (omega arith) ∙ w.faces 0 (omega (arith, w.some))
+
+  solid_1 : solid_of K f1 ≡ s
+  unfolding solid_of
+  solid_1 = ap (λ o. (unwrap_or o no_face).solid) face_row_1
+
+  makes : MakeGoes K L F
+  unfolding outer
+  makes = record {
+    l_there = ap is_some at_L;
+    face_free = ap (λ t. table.get t F) (joined_faces N s c hs w n) ∙ gone_free N.faces f1 n F w.face_free;
+    is_ring = λ q. omega (arith, (sym (sym (ap (λ o. (unwrap_or o no_face).outer) face_row_1) ∙ ap (outer K) (sym face_L) ∙ q)), w.some);
+    face_fits = w.face_fits;
+  }
+
+  abbrev X : Model
+  X = capped N s c hs
+
+  gives : (q : ℕ) (row : LoopRow) → q ≢ L → loop_to_face L F q row ≡ row
+  gives q row ne = ap (λ b. cond b (record row { face = F }) row) (ne_eqb q L ne)
+
+  given : loop_to_face L F L ring_row ≡ upper_row
+  given = ap (λ b. cond b upper_row ring_row) (eq-eqb L L refl)
+
+  before_last : n ≡ m - 1
+  before_last = omega (arith, all)
+
+  canonical_upper : canonical upper ≡ upper
+  canonical_upper = subst (λ j. canonical (map minus (numbers_after c.edge j)) ≡ map minus (numbers_after c.edge j)) (sym all) (canonical_run c.edge n)
+
+  loops_after : table.map_rows (loop_to_face L F) K.loops ≡ X.loops
+  unfolding capped
+  loops_after = map_one (loop_to_face L F) K.loops L ring_row at_L (λ q row ne at. gives q row ne)
+      ∙ put-put (table.put P.loops l1 lower_row) L ring_row (loop_to_face L F L ring_row)
+      ∙ ap (table.put (table.put P.loops l1 lower_row) L) given
+      ∙ ap (λ t. table.put (table.put t l1 lower_row) L upper_row) (joined_loops N s c hs w n)
+      ∙ ap (λ t. table.put t L upper_row) (put-put (without_rows N.loops (numbers_after l1 n)) l1 (record { face = f1; content = cycle (canonical (joined_loop c hs n)) }) lower_row)
+      ∙ (λ i. table.put (table.put (without_rows N.loops (numbers_after l1 (before_last i))) l1 lower_row) L (record { face = F; content = cycle (canonical_upper i) }))
+      ∙ refl
+
+  faces_after : table.put K.faces F (record { solid = solid_of K (face_of K L); outer = L }) ≡ X.faces
+  unfolding capped
+  faces_after = (λ i. table.put (joined_faces N s c hs w n i) F (record { solid = (ap (solid_of K) face_L ∙ solid_1) i; outer = L }))
+      ∙ ap (λ j. table.put (without_rows N.faces (numbers_after f1 j)) F (record { solid = s; outer = L })) before_last
+      ∙ refl
+
+  edges_after : K.edges ≡ X.edges
+  unfolding capped
+  edges_after = ap (λ t. table.remove t x) (joined_edges N s c hs w n)
+      ∙ sym (gone_first N.edges (c.edge + m + 1) n x)
+      ∙ ap (λ j. without_rows N.edges (numbers_after (c.edge + m) j)) (sym all)
+      ∙ refl
+
+  kept_after : (P.solids ≡ X.solids) × (P.vertices ≡ X.vertices)
+  unfolding joined_part capped
+  kept_after = (refl, refl)
+
+  -- the two operators are accepted, and then there are two caps
+  pub parting_accepted : AreAccepted P (partings c m)
+  parting_accepted = (kemr_ok, (subst (λ Y. first_false Y (Mfkrh L F) ≡ None) (sym kemr_is) (mfkrh_accepted K L F sound_K makes), tt))
+
+  pub parting_is : effects P (partings c m) ≡ X
+  unfolding effect mfkrh
+  parting_is = ap (λ Y. effect Y (Mfkrh L F)) kemr_is
+      ∙ (λ i. record { solids = kept_after.0 i; faces = faces_after i; loops = loops_after i; edges = edges_after i; vertices = kept_after.1 i })
+
+-- ---- a cycle has two strips at least: the mate of a single one would end where it starts
 
 -- what follows an item in a loop of a model
 after_in : (M : Model) (l f : ℕ) (xs : List ℕ) → Around M l f xs → (g : ℕ) → IsIn g xs → after M g ≡ successor xs g
@@ -38,38 +229,36 @@ module _ (N : Model) (s : ℕ) (c : Taken) (hs : List ℕ) (sound : Sound N) (w 
   abbrev a : ℕ
   a = get_or hs 0 0
 
-  abbrev x : ℕ
-  x = strip_riser c (length hs) 0
+  abbrev riser : ℕ
+  riser = strip_riser c (length hs) 0
 
   abbrev strip : List ℕ
-  strip = (a ∷ plus x ∷ minus (c.edge + 1) ∷ []) ++ minus x ∷ []
+  strip = (a ∷ plus riser ∷ minus (c.edge + 1) ∷ []) ++ minus riser ∷ []
 
-  around : Around N (c.loop + 1) (c.face + 1) strip
-  around = record {
+  strip_around : Around N (c.loop + 1) (c.face + 1) strip
+  strip_around = record {
     sound = sound;
-    at = w.loops 0 (omega (arith, w.some)) ∙ ap (λ i. Some (record { face = c.face + 1; content = cycle (canonical (a ∷ plus x ∷ minus (c.edge + 1) ∷ minus (strip_riser c (length hs) i) ∷ [])) })) (next_last (length hs) 0 (sym single));
+    at = w.loops 0 (omega (arith, w.some)) ∙ ap (λ i. Some (record { face = c.face + 1; content = cycle (canonical (a ∷ plus riser ∷ minus (c.edge + 1) ∷ minus (strip_riser c (length hs) i) ∷ [])) })) (next_last (length hs) 0 (sym single));
   }
 
-  apart : IsApart strip
-  apart = apart_xs N (c.loop + 1) (c.face + 1) strip around
+  strip_apart : IsApart strip
+  strip_apart = apart_xs N (c.loop + 1) (c.face + 1) strip strip_around
 
   a_in : IsIn a strip
   a_in = omega (arith, tick_same a)
 
-  x_in : IsIn (minus x) strip
-  x_in = omega (arith, tick_same (minus x), count-append (minus x) (a ∷ plus x ∷ minus (c.edge + 1) ∷ []) (minus x ∷ []))
+  x_in : IsIn (minus riser) strip
+  x_in = omega (arith, tick_same (minus riser), count-append (minus riser) (a ∷ plus riser ∷ minus (c.edge + 1) ∷ []) (minus riser ∷ []))
 
-  after_a : after N a ≡ plus x
-  after_a = after_in N (c.loop + 1) (c.face + 1) strip around a a_in ∙ successor_head a (plus x ∷ minus (c.edge + 1) ∷ minus x ∷ [])
-
-  after_x : after N (minus x) ≡ a
-  after_x = after_in N (c.loop + 1) (c.face + 1) strip around (minus x) x_in
-      ∙ successor_last a (minus x) (plus x ∷ minus (c.edge + 1) ∷ []) (omega (arith, apart (minus x), tick_same (minus x), count-append (minus x) (a ∷ plus x ∷ minus (c.edge + 1) ∷ []) (minus x ∷ [])))
+  after_x : after N (minus riser) ≡ a
+  after_x = after_in N (c.loop + 1) (c.face + 1) strip strip_around (minus riser) x_in
+      ∙ successor_last a (minus riser) (plus riser ∷ minus (c.edge + 1) ∷ []) (omega (arith, strip_apart (minus riser), tick_same (minus riser), count-append (minus riser) (a ∷ plus riser ∷ minus (c.edge + 1) ∷ []) (minus riser ∷ [])))
 
   no_single : ⊥
-  no_single = sound.ends_differ a (half_is N (c.loop + 1) (c.face + 1) strip around a a_in)
-      (ap (tail N) (sym after_x) ∙ sound.ends_meet (minus x) (half_is N (c.loop + 1) (c.face + 1) strip around (minus x) x_in) ∙ ap (tail N) (mate_minus x)
-      ∙ ap (tail N) (sym after_a) ∙ sound.ends_meet a (half_is N (c.loop + 1) (c.face + 1) strip around a a_in))
+  no_single = sound.ends_differ a (half_is N (c.loop + 1) (c.face + 1) strip strip_around a a_in)
+      (ap (tail N) (sym after_x) ∙ sound.ends_meet (minus riser) (half_is N (c.loop + 1) (c.face + 1) strip strip_around (minus riser) x_in) ∙ ap (tail N) (mate_minus riser)
+      ∙ ap (tail N) (sym (after_in N (c.loop + 1) (c.face + 1) strip strip_around a a_in ∙ successor_head a (plus riser ∷ minus (c.edge + 1) ∷ minus riser ∷ [])))
+      ∙ sound.ends_meet a (half_is N (c.loop + 1) (c.face + 1) strip strip_around a a_in))
 
 pub two_strips : (N : Model) (s : ℕ) (c : Taken) (hs : List ℕ) → Sound N → HasStrips N s c hs → 2 ≤ length hs
 two_strips N s c hs sound w = elim (cases_lt (length hs) 2) [
@@ -80,12 +269,12 @@ two_strips N s c hs sound w = elim (cases_lt (length hs) 2) [
 -- ---- from the strips to the caps, operator by operator
 
 module _ (N : Model) (s : ℕ) (c : Taken) (hs : List ℕ) (sound : Sound N) (w : HasStrips N s c hs) where
-  abbrev m : ℕ
-  m = length hs
+  abbrev long : ℕ
+  long = length hs
 
   -- before the first operator the first strip stands alone
   loop_alone : strip_loop c hs 0 ≡ joined_loop c hs 0
-  loop_alone = ap (λ xs. reverse xs ++ plus (strip_riser c m 0) ∷ minus (c.edge + 1) ∷ minus (strip_riser c m (next_place m 0)) ∷ []) (sym (take-suc hs 0 0 (omega (arith, w.some))))
+  loop_alone = ap (λ xs. reverse xs ++ plus (strip_riser c long 0) ∷ minus (c.edge + 1) ∷ minus (strip_riser c long (next_place long 0)) ∷ []) (sym (take-suc hs 0 0 (omega (arith, w.some))))
 
   first_alone : N ≡ joined_part N c hs 0
   unfolding joined_part
@@ -94,39 +283,39 @@ module _ (N : Model) (s : ℕ) (c : Taken) (hs : List ℕ) (sound : Sound N) (w 
         (w.loops 0 (omega (arith, w.some)) ∙ ap (λ xs. Some (record { face = c.face + 1; content = cycle (canonical xs) })) loop_alone)) i;
   }
 
-  joinings_last : (n : ℕ) → joinings c m (suc n) ≡ joinings c m n ++ Kef (half (minus (c.edge + m + 1 + suc n))) ∷ []
-  joinings_last n = ap (map (λ e. Kef (half (minus e)))) (numbers_last (c.edge + m + 1) n) ∙ map-append (λ e. Kef (half (minus e))) (numbers_after (c.edge + m + 1) n) ((c.edge + m + 1 + suc n) ∷ [])
+  joinings_last : (n : ℕ) → joinings c long (suc n) ≡ joinings c long n ++ Kef (half (minus (c.edge + long + 1 + suc n))) ∷ []
+  joinings_last n = ap (map (λ e. Kef (half (minus e)))) (numbers_last (c.edge + long + 1) n) ∙ map-append (λ e. Kef (half (minus e))) (numbers_after (c.edge + long + 1) n) ((c.edge + long + 1 + suc n) ∷ [])
 
   -- some strips joined
-  pub joins : (n : ℕ) → n < m → AreAccepted N (joinings c m n) × (effects N (joinings c m n) ≡ joined_part N c hs n)
+  pub joins : (n : ℕ) → n < long → AreAccepted N (joinings c long n) × (effects N (joinings c long n) ≡ joined_part N c hs n)
   joins zero l = (tt, first_alone)
   joins (suc n) l =
       let r = joins n (omega (arith, l)) in
-      let one : List Op = Kef (half (minus (c.edge + m + 1 + suc n))) ∷ [] in
-      let so : Sound (joined_part N c hs n) = subst Sound r.1 (effects_keep_sound N (joinings c m n) sound r.0) in
+      let one : List Op = Kef (half (minus (c.edge + long + 1 + suc n))) ∷ [] in
+      let so : Sound (joined_part N c hs n) = subst Sound r.1 (effects_keep_sound N (joinings c long n) sound r.0) in
       let t = next_joined N s c hs w n l so in (
-        subst (AreAccepted N) (sym (joinings_last n)) (AreAccepted-append N (joinings c m n) one r.0 (subst (λ X. AreAccepted X one) (sym r.1) (t.0, tt))),
-        ap (effects N) (joinings_last n) ∙ effects-append N (joinings c m n) one ∙ ap (λ X. effects X one) r.1 ∙ t.1,
+        subst (AreAccepted N) (sym (joinings_last n)) (AreAccepted-append N (joinings c long n) one r.0 (subst (λ X. AreAccepted X one) (sym r.1) (t.0, tt))),
+        ap (effects N) (joinings_last n) ∙ effects-append N (joinings c long n) one ∙ ap (λ X. effects X one) r.1 ∙ t.1,
       )
 
-  all : m ≡ suc (m - 1)
+  all : long ≡ suc (long - 1)
   all = omega (arith, w.some)
 
-  joined : AreAccepted N (joinings c m (m - 1)) × (effects N (joinings c m (m - 1)) ≡ joined_part N c hs (m - 1))
-  joined = joins (m - 1) (omega (arith, w.some))
+  joined : AreAccepted N (joinings c long (long - 1)) × (effects N (joinings c long (long - 1)) ≡ joined_part N c hs (long - 1))
+  joined = joins (long - 1) (omega (arith, w.some))
 
-  sound_joined : Sound (joined_part N c hs (m - 1))
-  sound_joined = subst Sound joined.1 (effects_keep_sound N (joinings c m (m - 1)) sound joined.0)
+  sound_joined : Sound (joined_part N c hs (long - 1))
+  sound_joined = subst Sound joined.1 (effects_keep_sound N (joinings c long (long - 1)) sound joined.0)
 
   -- no operator is refused
-  pub caps_accepted : AreAccepted N (cap_ops c m)
+  pub caps_accepted : AreAccepted N (cap_ops c long)
   unfolding cap_ops
-  caps_accepted = AreAccepted-append N (joinings c m (m - 1)) (partings c m) joined.0 (subst (λ X. AreAccepted X (partings c m)) (sym joined.1) (parting_accepted N s c hs w (m - 1) all sound_joined))
+  caps_accepted = AreAccepted-append N (joinings c long (long - 1)) (partings c long) joined.0 (subst (λ X. AreAccepted X (partings c long)) (sym joined.1) (parting_accepted N s c hs w (long - 1) all sound_joined))
 
   -- and they leave two caps
-  pub caps_made : effects N (cap_ops c m) ≡ capped N s c hs
+  pub caps_made : effects N (cap_ops c long) ≡ capped N s c hs
   unfolding cap_ops
-  caps_made = effects-append N (joinings c m (m - 1)) (partings c m) ∙ ap (λ X. effects X (partings c m)) joined.1 ∙ parting_is N s c hs w (m - 1) all sound_joined
+  caps_made = effects-append N (joinings c long (long - 1)) (partings c long) ∙ ap (λ X. effects X (partings c long)) joined.1 ∙ parting_is N s c hs w (long - 1) all sound_joined
 
   pub capped_sound : Sound (capped N s c hs)
-  capped_sound = subst Sound caps_made (effects_keep_sound N (cap_ops c m) sound caps_accepted)
+  capped_sound = subst Sound caps_made (effects_keep_sound N (cap_ops c long) sound caps_accepted)

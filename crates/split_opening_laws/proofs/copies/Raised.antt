@@ -76,20 +76,15 @@ module _ (N : Model) (sound : Sound N) (up : ℕ → Bool) (g k : ℕ) (w : Spli
         | inr e ↦ all_down q qs (λ b j. here b (omega (arith, j))) (omega (arith, none)) p.1 (ap up (sym p.0) ∙ d) y (omega (arith, i, tick_other y x e.1))
       ]
 
-  g_in : IsIn g ws
-  g_in = fan.all g w.g_there refl
-
-  k_in : IsIn k ws
-  k_in = fan.all k w.k_there w.one_tail
-
   parts : rotate_to g ws ≡ (g ∷ between g k ws) ++ k ∷ beyond g k ws
-  parts = ring_split g k ws g_in k_in w.apart
+  parts = ring_split g k ws (fan.all g w.g_there refl) (fan.all k w.k_there w.one_tail) w.apart
 
   counts : (y : ℕ) → count y ws ≡ count y (g ∷ between g k ws) + count y (k ∷ beyond g k ws)
   counts y = sym (count-rotate_to y g ws) ∙ ap (count y) parts ∙ count-append y (g ∷ between g k ws) (k ∷ beyond g k ws)
 
   arc_parts : arc N g k ≡ g ∷ between g k ws
-  arc_parts = arc_is N ws g k fan.apart fan.ring (λ x i. (fan.of_it x i).0) g_in k_in ∙ upto_other g k ws g_in w.apart
+  arc_parts = arc_is N ws g k fan.apart fan.ring (λ x i. (fan.of_it x i).0) (fan.all g w.g_there refl) (fan.all k w.k_there w.one_tail)
+      ∙ upto_other g k ws (fan.all g w.g_there refl) w.apart
 
   path : IsPath (round N) ((g ∷ between g k ws) ++ k ∷ beyond g k ws) g
   path = subst (IsRing (round N)) parts (IsRing-same (round N) ws (rotate_to g ws) (rotate_to-rotates g ws) fan.ring)
@@ -232,14 +227,11 @@ module _ (M : Model) (above : List ℕ) (s : ℕ) (c : Taken) (bs : List ℕ) (w
   pub back_tail : (j : ℕ) → j < m → tail N (minus (c.edge + suc j)) ≡ renamed copies (tail M (get_or bs j 0))
   back_tail j lt = minus_tail_row N (c.edge + suc j) (raised_edge M bs copies j) (out_edge j lt)
 
-  riser_row : (j : ℕ) → j < i → table.get N.edges (copy_riser c bs j) ≡ Some (riser_edge M c bs j)
-  riser_row j lt = grind (arith, raised_edges, rows_at)
-
   pub rise_tail : (j : ℕ) → j < i → tail N (plus (copy_riser c bs j)) ≡ tail M (get_or bs j 0)
-  rise_tail j lt = plus_tail_row N (copy_riser c bs j) (riser_edge M c bs j) (riser_row j lt)
+  rise_tail j lt = plus_tail_row N (copy_riser c bs j) (riser_edge M c bs j) (grind (arith, raised_edges, rows_at))
 
   pub fall_tail : (j : ℕ) → j < i → tail N (minus (copy_riser c bs j)) ≡ c.vertex + suc j
-  fall_tail j lt = minus_tail_row N (copy_riser c bs j) (riser_edge M c bs j) (riser_row j lt)
+  fall_tail j lt = minus_tail_row N (copy_riser c bs j) (riser_edge M c bs j) (grind (arith, raised_edges, rows_at))
 
   -- ---- the half-edges that are there
 

@@ -128,11 +128,9 @@ module _ (M : Model) (above : List ℕ) where
 
 -- of half-edges that are there those at v stand in the fan of v
 module _ (M : Model) (v : ℕ) (fan : Fan (after M) M v) where
-  in_fan : (x : ℕ) → HasHalf M x → count x fan.items ≡ tick v (tail M x)
-  in_fan x t = grind (arith, tick_same)
-
   starts_counted : (cs : List ℕ) → ((c : ℕ) → IsIn c cs → HasHalf M c) → count v (map (tail M) cs) ≡ total (λ x. count x cs) fan.items
-  starts_counted cs t = count_map (tail M) v cs ∙ total_same (λ c. tick v (tail M c)) (λ c. count c fan.items) cs (λ c i. sym (in_fan c (t c i))) ∙ sym (meet_turned fan.items cs)
+  starts_counted cs t = count_map (tail M) v cs
+      ∙ total_same (λ c. tick v (tail M c)) (λ c. count c fan.items) cs (λ c i. sym (grind (arith, tick_same))) ∙ sym (meet_turned fan.items cs)
 
 turned_and : (a b c : Bool) → a ≡ c → bit (not b && a) ≡ bit (c && not b)
 turned_and a b c e = grind (arith, bit)

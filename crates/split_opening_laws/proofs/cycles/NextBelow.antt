@@ -1,24 +1,33 @@
--- Where no vertex is branched, each below half leads to one other, and no two to the same.
-use Rattle.std.proofs.Common.{◌≡◌, ℕ, ◌≤◌, Bool, true, false, cond, nat_eq, nat_lt, List, [], ◌∷◌, map, Some, is_some, unwrap_or, refl, sym, ap, ◌∙◌, arith, true≢false, inl, inr, subst}
+-- Where no vertex is branched, each below half leads to one other, and no two to the same: so they form cycles.
+use Rattle.std.proofs.Common.{◌≡◌, ℕ, ◌≤◌, Bool, true, false, cond, nat_eq, nat_lt, List, [], ◌∷◌, map, Some, is_some, unwrap_or, refl, sym, ap, ◌∙◌, arith, true≢false, inl, inr, subst, ◌≢◌, zero, suc, ◌+◌, ◌<◌, ◌++◌, length, get_or, ◌⊎◌}
 use Rattle.std.proofs.lemmas.Bool.Decides.{nat_tests, eqb_tells}
-use Rattle.std.proofs.lemmas.Bool.{eq-eqb, eqb-true}
-use Rattle.euler_operators.specs.Items.{count, IsIn, IsApart}
+use Rattle.std.proofs.lemmas.Bool.{eq-eqb, eqb-true, ne_eqb}
+use Rattle.euler_operators.specs.Items.{count, IsIn, IsApart, SameItems, head_or, least}
 use Rattle.euler_operators.proofs.Lists.{tick_same, tick_other, count-append, IsIn_or_not}
-use Rattle.euler_operators.proofs.Maps.{from_map}
+use Rattle.euler_operators.proofs.Maps.{from_map, IsApart-map}
 use Rattle.euler_operators.specs.HalfEdge.{mate}
 use Rattle.euler_operators.specs.Table as table
 use Rattle.euler_operators.specs.Model.{Model, tail}
-use Rattle.euler_operators.specs.Sound.{Sound, Has}
+use Rattle.euler_operators.specs.Sound.{Sound, Has, HasHalf}
 use Rattle.euler_operators.proofs.Tables.{zero_first_where, row_some}
-use Rattle.euler_operators.proofs.Members.{IsIn-map}
+use Rattle.euler_operators.proofs.Members.{IsIn-map, apart_within}
 use Rattle.euler_laws.proofs.shared.Goes.{no_zero}
 use Rattle.shapes.proofs.fresh.Tests.{zero_found}
 use Rattle.shapes.specs.Fresh.{first_such}
-use Rattle.shapes.specs.split.Section.{below_halves, section_ends, next_below}
+use Rattle.shapes.specs.split.Section.{below_halves, section_ends, next_below, cycle_from, section_cycles}
 use Rattle.split_opening_laws.specs.cycles.Permuting.{Permutes}
-use Rattle.split_opening_laws.specs.cycles.SectionCycles.{AreOf, IsUnbranched}
+use Rattle.split_opening_laws.specs.cycles.SectionCycles.{AreOf, IsUnbranched, IsSectionCycle, AreSectionCycles, AreApartCycles}
 use Rattle.split_opening_laws.proofs.cycles.Meets.{known_by}
-use Rattle.split_opening_laws.proofs.cycles.BelowHalves.{halves_apart, half_there, starts_are_ends}
+use Rattle.split_opening_laws.proofs.cycles.BelowHalves.{halves_apart, half_there, starts_are_ends, halves_rise, halves_are, is_half}
+use Rattle.std.specs.Prelude.{flat_map}
+use Rattle.euler_operators.specs.Rings.{IsPath, IsRing}
+use Rattle.euler_operators.proofs.Std.{IsIn-get_or}
+use Rattle.euler_operators.proofs.Halves.{mate-mate}
+use Rattle.euler_operators.proofs.Models.{mate_there}
+use Rattle.euler_operators.specs.Conditions.{face_at, lists, strictly_rises}
+use Rattle.shapes.specs.Prism.{next_place}
+use Rattle.split_opening_laws.proofs.cycles.RisingLists.{filter_rises}
+use Rattle.split_opening_laws.proofs.cycles.Orbits.{around, around_is, around_ring, around_apart, around_within, leaders, leader_in, leader_least, covers}
 
 -- where a number of the list passes, the first one that does is found
 first_found : (p : ℕ → Bool) (ns : List ℕ) (n : ℕ) → IsIn n ns → p n ≡ true → IsIn (unwrap_or (first_such p ns) 0) ns × (p (unwrap_or (first_such p ns) 0) ≡ true)
@@ -33,6 +42,44 @@ first_found p (m ∷ ms) n i t = go (p m) refl (λ j. first_found p ms n j t) wh
 
 at_most_two : (n : ℕ) → nat_lt 2 n ≡ false → n ≤ 2
 at_most_two n e = grind (arith, nat_tests)
+
+-- ---- the cycles of a section where no vertex is branched
+
+-- ---- rings read by place
+
+path_place : (next : ℕ → ℕ) (x : ℕ) (xs : List ℕ) (d i : ℕ) → IsPath next (x ∷ xs) d → i < length (x ∷ xs) →
+    ((i + 1 ≡ length (x ∷ xs)) × (next (get_or (x ∷ xs) i 0) ≡ d)) ⊎ ((i + 1 < length (x ∷ xs)) × (next (get_or (x ∷ xs) i 0) ≡ get_or (x ∷ xs) (suc i) 0))
+path_place next x [] d zero p l = inl (omega arith, p.0)
+path_place next x [] d (suc i) p l = absurd (omega (arith, l))
+path_place next x (y ∷ ys) d zero p l = inr (omega arith, p.0)
+path_place next x (y ∷ ys) d (suc i) p l = grind (arith, path_place next y ys d i p.1 (omega (arith, l)))
+
+-- next leads from each place to the next one round
+ring_place : (next : ℕ → ℕ) (x : ℕ) (xs : List ℕ) (i : ℕ) → IsRing next (x ∷ xs) → i < length (x ∷ xs) → next (get_or (x ∷ xs) i 0) ≡ get_or (x ∷ xs) (next_place (length (x ∷ xs)) i) 0
+ring_place next x xs i r l = grind (arith, path_place, eq-eqb, ne_eqb)
+
+-- the item from which a ring leads to one of its items
+ring_back : (next : ℕ → ℕ) (x : ℕ) (xs : List ℕ) (d b : ℕ) → IsPath next (x ∷ xs) d → IsIn b (xs ++ d ∷ []) → (a : ℕ) × IsIn a (x ∷ xs) × (next a ≡ b)
+ring_back next x [] d b p i = elim (eqb_tells b d) [
+  | inl e ↦ (x, omega (arith, tick_same x), p.0 ∙ sym e.1)
+  | inr e ↦ absurd (omega (arith, i, tick_other b d e.1))
+]
+ring_back next x (y ∷ ys) d b p i = elim (eqb_tells b y) [
+  | inl e ↦ (x, omega (arith, tick_same x), p.0 ∙ sym e.1)
+  | inr e ↦ let r = ring_back next y ys d b p.1 (omega (arith, i, tick_other b y e.1)) in (r.0, omega (arith, r.1), r.2)
+]
+
+heads_are : (f : ℕ → List ℕ) (ls : List ℕ) → ((l : ℕ) → IsIn l ls → head_or 0 (f l) ≡ l) → map (head_or 0) (map f ls) ≡ ls
+heads_are f [] e = refl
+heads_are f (l ∷ ls) e = λ i. e l (omega (arith, tick_same l)) i ∷ heads_are f ls (λ k j. e k (omega (arith, j))) i
+
+leasts_are : (f : ℕ → List ℕ) (ls : List ℕ) → ((l : ℕ) → IsIn l ls → least (f l) ≡ l) → map least (map f ls) ≡ ls
+leasts_are f [] e = refl
+leasts_are f (l ∷ ls) e = λ i. e l (omega (arith, tick_same l)) i ∷ leasts_are f ls (λ k j. e k (omega (arith, j))) i
+
+flat_is : (f : ℕ → List ℕ) (ls : List ℕ) → flat_map (λ bs. bs) (map f ls) ≡ flat_map f ls
+flat_is f [] = refl
+flat_is f (l ∷ ls) = ap (λ q. f l ++ q) (flat_is f ls)
 
 module _ (M : Model) (above : List ℕ) (s : ℕ) (sound : Sound M) (faces : AreOf M above s) (unbranched : IsUnbranched M (below_halves M above s)) where
   abbrev halves : List ℕ
@@ -82,3 +129,112 @@ module _ (M : Model) (above : List ℕ) (s : ℕ) (sound : Sound M) (faces : Are
     stays = λ b i. (found b i).0;
     one_way = λ b c i j e. known_by (λ b. tail M (mate b)) halves finishes_apart b c i j (sym (next_starts b i) ∙ ap (tail M) e ∙ next_starts c j);
   }
+
+  abbrev next : ℕ → ℕ
+  next = next_below M (below_halves M above s)
+
+  abbrev w : Permutes next halves
+  w = permutes
+
+  -- ---- one cycle
+
+  module _ (b : ℕ) (i : IsIn b halves) (others : List ℕ) (is : around next halves w b ≡ b ∷ others) where
+    ring : IsRing next (b ∷ others)
+    ring = subst (IsRing next) is (around_ring next halves w b i)
+
+    apart : IsApart (b ∷ others)
+    apart = subst IsApart is (around_apart next halves w b i)
+
+    within : (x : ℕ) → IsIn x (b ∷ others) → IsIn x halves
+    within x j = around_within next halves w b i x (subst (λ q. IsIn x q) (sym is) j)
+
+    there : (x : ℕ) → IsIn x (b ∷ others) → HasHalf M x
+    there x j = half_there M above s sound faces x (within x j)
+
+    two : (ps : List ℕ) → others ≡ ps → 2 ≤ length (b ∷ ps)
+    two (p ∷ ps) e = omega arith
+    two [] e = absurd (sound.ends_differ b (there b (omega (arith, tick_same b))) (sym (ap (tail M) (subst (λ q. IsRing next (b ∷ q)) e ring).0) ∙ next_starts b i))
+
+    meet : (k : ℕ) → k < length (b ∷ others) → tail M (get_or (b ∷ others) (next_place (length (b ∷ others)) k) 0) ≡ tail M (mate (get_or (b ∷ others) k 0))
+    meet k l = ap (tail M) (sym (ring_place next b others k ring l)) ∙ next_starts (get_or (b ∷ others) k 0) (within (get_or (b ∷ others) k 0) (IsIn-get_or (b ∷ others) k 0 l))
+
+    ends_apart : IsApart (map (tail M) (b ∷ others))
+    ends_apart = IsApart-map (tail M) (b ∷ others) (λ x j y k e. known_by (tail M) halves (starts_apart) x y (within x j) (within y k) e) apart
+
+    -- the half before c ends where c starts
+    back : (c : ℕ) → IsIn c (b ∷ others) → (a : ℕ) × IsIn a (b ∷ others) × (next a ≡ c)
+    back c j = ring_back next b others b c ring (turned c others j) where
+      turned : (c : ℕ) (qs : List ℕ) → IsIn c (b ∷ qs) → IsIn c (qs ++ b ∷ [])
+      turned c [] j = j
+      turned c (q ∷ qs) j = later (IsIn_or_not c (b ∷ qs)) (turned c qs) j where
+        later : IsIn c (b ∷ qs) ⊎ (count c (b ∷ qs) ≡ 0) → (IsIn c (b ∷ qs) → IsIn c (qs ++ b ∷ [])) → IsIn c (b ∷ q ∷ qs) → IsIn c (q ∷ (qs ++ b ∷ []))
+        later (inl k) more j = omega (arith, more k)
+        later (inr z) more j = omega (arith, z, j)
+
+    crossing : (h c : ℕ) → HasHalf M h → IsIn c (b ∷ others) → tail M h ≡ tail M c → lists above (face_at M h) ≢ lists above (face_at M (mate h)) → IsIn h (b ∷ others) ⊎ IsIn (mate h) (b ∷ others)
+    crossing h c t j e ne = go (lists above (face_at M h)) refl (lists above (face_at M (mate h))) refl where
+      starts : IsIn h halves → h ≡ c
+      starts k = known_by (tail M) halves (starts_apart) h c k (within c j) e
+
+      finishes : IsIn (mate h) halves → (a : ℕ) → IsIn a (b ∷ others) → next a ≡ c → mate h ≡ a
+      finishes k a l n = known_by (λ x. tail M (mate x)) halves (finishes_apart) (mate h) a k (within a l)
+          (ap (tail M) (mate-mate h) ∙ e ∙ ap (tail M) (sym n) ∙ next_starts a (within a l))
+
+      go : (x : Bool) → lists above (face_at M h) ≡ x → (y : Bool) → lists above (face_at M (mate h)) ≡ y → IsIn h (b ∷ others) ⊎ IsIn (mate h) (b ∷ others)
+      go true p true q = absurd (ne (p ∙ sym q))
+      go false p false q = absurd (ne (p ∙ sym q))
+      go false p true q = inl (subst (λ x. IsIn x (b ∷ others)) (sym (starts (is_half M above s sound faces h t p q))) j)
+      go true p false q =
+          let r = back c j in
+          inr (subst (λ x. IsIn x (b ∷ others)) (sym (finishes (is_half M above s sound faces (mate h) (mate_there M h t) q (ap (λ x. lists above (face_at M x)) (mate-mate h) ∙ p)) r.0 r.1 r.2)) r.1)
+
+    one_cycle : IsSectionCycle M above s (b ∷ others)
+    one_cycle = record {
+      two_halves = two others refl;
+      halves = λ x j. halves_are M above s sound x (within x j);
+      meet = meet;
+      starts_apart = ends_apart;
+      no_branch = crossing;
+    }
+
+  pub is_section_cycle : (b : ℕ) → IsIn b (below_halves M above s) → IsSectionCycle M above s (cycle_from M (below_halves M above s) b)
+  is_section_cycle b i = let e = around_is next halves w b i in subst (IsSectionCycle M above s) (sym e) (one_cycle b i _ e)
+
+  -- ---- all cycles
+
+  all_cycles : (ls : List ℕ) → ((l : ℕ) → IsIn l ls → IsIn l halves) → AreSectionCycles M above s (map (cycle_from M halves) ls)
+  all_cycles [] i = tt
+  all_cycles (l ∷ ls) i = (is_section_cycle l (i l (omega (arith, tick_same l))), all_cycles ls (λ k j. i k (omega (arith, j))))
+
+  pub cycles_lead_round : AreSectionCycles M above s (section_cycles M (below_halves M above s))
+  unfolding section_cycles
+  cycles_lead_round = all_cycles (leaders next halves w) (leader_in next halves w)
+
+  pub cycles_cover : SameItems (flat_map (λ bs. bs) (section_cycles M (below_halves M above s))) (below_halves M above s)
+  unfolding section_cycles
+  cycles_cover x = ap (count x) (flat_is (around next halves w) (leaders next halves w)) ∙ covers next halves w x
+
+  first_of : (l : ℕ) → IsIn l (leaders next halves w) → head_or 0 (around next halves w l) ≡ l
+  first_of l i = ap (head_or 0) (around_is next halves w l (leader_in next halves w l i))
+
+  pub cycles_begin : map (head_or 0) (section_cycles M (below_halves M above s)) ≡ map least (section_cycles M (below_halves M above s))
+  unfolding section_cycles
+  cycles_begin = heads_are (around next halves w) (leaders next halves w) first_of ∙ sym (leasts_are (around next halves w) (leaders next halves w) (leader_least next halves w))
+
+  pub cycles_rise : strictly_rises (map least (section_cycles M (below_halves M above s))) ≡ true
+  unfolding section_cycles
+  cycles_rise = ap strictly_rises (leasts_are (around next halves w) (leaders next halves w) (leader_least next halves w)) ∙ filter_rises _ halves (halves_rise M above s sound)
+
+  pub cycles_apart : AreApartCycles M above s (section_cycles M (below_halves M above s))
+  cycles_apart =
+      let all : List ℕ = flat_map (λ bs. bs) (section_cycles M halves) in
+      record {
+        cycles = cycles_lead_round;
+        starts_apart = IsApart-map (tail M) all
+            (λ x i y j e. known_by (tail M) halves (starts_apart) x y (omega (arith, i, cycles_cover x)) (omega (arith, j, cycles_cover y)) e)
+            (λ x. omega (arith, cycles_cover x, halves_apart M above s sound x));
+      }
+
+  -- and they are as long as the list of all
+  pub cycles_long : length (flat_map (λ bs. bs) (section_cycles M (below_halves M above s))) ≡ length (below_halves M above s)
+  cycles_long = grind (arith, apart_within, cycles_cover, halves_apart)

@@ -36,11 +36,9 @@ module _ (next : ℕ → ℕ) (xs : List ℕ) (w : Permutes next xs) where
       omega (arith, a q, ap (count q) (path_maps next h ps q p), count-append q ps (q ∷ []), tick_same q, tick_other q h ne)
 
   module _ (h : ℕ) (ps : List ℕ) (q : ℕ) (d : IsApart (h ∷ ps)) (p : IsPath next (h ∷ ps) q) (i : (x : ℕ) → IsIn x (h ∷ ps) → IsIn x xs) where
-    end_in : IsIn q xs
-    end_in = subst (λ y. IsIn y xs) (IsPath_last next h ps q p) (w.stays (last_or h ps) (i (last_or h ps) (IsIn_last h ps)))
-
     more_in : (x : ℕ) → IsIn x (h ∷ (ps ++ q ∷ [])) → IsIn x xs
-    more_in x j = grind (arith, end_in, count-append)
+    more_in x j =
+        grind (arith, subst (λ y. IsIn y xs) (IsPath_last next h ps q p) (w.stays (last_or h ps) (i (last_or h ps) (IsIn_last h ps))), count-append)
 
     more_apart : (q ≡ h → ⊥) → IsApart (h ∷ (ps ++ q ∷ []))
     more_apart ne = apart_back q (h ∷ ps) (fresh h ps q d p i ne) d

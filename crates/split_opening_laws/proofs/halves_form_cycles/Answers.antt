@@ -1,4 +1,4 @@
-use Rattle.split_opening_laws.proofs.cycles.Cycles.{cycles_cover, cycles_begin, cycles_rise, cycles_lead_round, cycles_apart, cycles_long}
+use Rattle.split_opening_laws.proofs.cycles.NextBelow.{cycles_cover, cycles_begin, cycles_rise, cycles_lead_round, cycles_apart, cycles_long}
 use Rattle.split_opening_laws.proofs.halves_form_cycles.Goals as goal
 
 pub returns : goal.returns

@@ -1,7 +1,7 @@
 -- Once the copies are raised there are strips along the mates.
 use Rattle.std.specs.Prelude.{map, reverse}
 use Rattle.std.specs.Option.{option_map}
-use Rattle.std.proofs.Common.{◌≡◌, ℕ, suc, ◌+◌, ◌<◌, List, [], ◌++◌, length, Option, Some, None, is_some, refl, sym, ap, ◌∙◌, subst, arith, inl, inr, true≢false, ◌≢◌, zero, ◌≤◌, ◌-◌}
+use Rattle.std.proofs.Common.{◌≡◌, ℕ, suc, ◌+◌, ◌<◌, List, ◌++◌, length, Option, Some, None, is_some, refl, sym, ap, ◌∙◌, subst, arith, inl, inr, true≢false, zero, ◌≤◌, ◌-◌}
 use Rattle.std.proofs.lemmas.Bool.{lt-ltb, cases_lt}
 use Rattle.std.proofs.lemmas.List.{length-map, get_or-map}
 use Rattle.euler_operators.specs.Rings.{canonical}
@@ -148,41 +148,27 @@ module _ (M : Model) (above : List ℕ) (s : ℕ) (c : Taken) (bs : List ℕ) (w
 
   -- ---- faces
 
-  C_faces : C.faces ≡ table.put (without_rows N.faces (numbers_after (c.face + 1) (length hs - 1))) (c.face + length hs + 1) (face_at_end (length hs))
-  unfolding capped
-  C_faces = refl
-
-  X_faces : table.put (table.put M.faces (c.face + 1) (record { solid = s; outer = c.loop + 1 })) (c.face + m + 1) (face_at_end m) ≡ X.faces
-  unfolding opened_along
-  X_faces = refl
-
   faces_open : C.faces ≡ X.faces
-  faces_open = C_faces
+  unfolding capped opened_along
+  faces_open = refl
       ∙ (λ i. table.put (without_rows (raised_faces i) (numbers_after (c.face + 1) (size i - 1))) (c.face + size i + 1) (face_at_end (size i)))
       ∙ ap (λ k. table.put (without_rows (with_rows M.faces c.face (strip_face s c) k) (numbers_after (c.face + 1) (m - 1))) (c.face + m + 1) (face_at_end m)) one_and_rest
       ∙ ap (λ t. table.put t (c.face + m + 1) (face_at_end m)) (gone_later M.faces c.face (strip_face s c) w.free.faces (m - 1))
-      ∙ X_faces
+      ∙ refl
 
   -- ---- loops
 
   abbrev rewritten : Table LoopRow
   rewritten = table.map_rows (rewritten_row (map (renamed (put_out c bs m)))) M.loops
 
-  C_loops : C.loops ≡ table.put (table.put (without_rows N.loops (numbers_after (c.loop + 1) (length hs - 1))) (c.loop + 1) lower) (c.loop + length hs + 1) (upper (length hs))
-  unfolding capped
-  C_loops = refl
-
-  X_loops : table.put (table.put rewritten (c.loop + 1) lower) (c.loop + m + 1) (upper m) ≡ X.loops
-  unfolding opened_along
-  X_loops = refl
-
   loops_open : C.loops ≡ X.loops
-  loops_open = C_loops
+  unfolding capped opened_along
+  loops_open = refl
       ∙ (λ i. table.put (table.put (without_rows (raised_loops i) (numbers_after (c.loop + 1) (size i - 1))) (c.loop + 1) lower) (c.loop + size i + 1) (upper (size i)))
       ∙ ap (λ k. table.put (table.put (without_rows (with_rows rewritten c.loop (raised_loop c bs m) k) (numbers_after (c.loop + 1) (m - 1))) (c.loop + 1) lower) (c.loop + m + 1) (upper m)) one_and_rest
       ∙ ap (λ t. table.put (table.put t (c.loop + 1) lower) (c.loop + m + 1) (upper m)) (gone_later rewritten c.loop (raised_loop c bs m) loops_free (m - 1))
       ∙ ap (λ t. table.put t (c.loop + m + 1) (upper m)) (put-put rewritten (c.loop + 1) (raised_loop c bs m 0) lower)
-      ∙ X_loops
+      ∙ refl
 
   -- ---- edges
 
@@ -222,13 +208,10 @@ module _ (M : Model) (above : List ℕ) (s : ℕ) (c : Taken) (bs : List ℕ) (w
   abbrev A : Model
   A = strips_cut M s c bs m
 
-  abbrev sound : Sound N
-  sound = raised_sound M above s c bs w
-
   last : Leads N X (cap_ops c m)
   last = subst (λ n. Leads N X (cap_ops c n)) (length-map bs mate) (record {
-    accepted = caps_accepted N s c (map mate bs) sound raised_strips;
-    made = caps_made N s c (map mate bs) sound raised_strips ∙ capped_is_open;
+    accepted = caps_accepted N s c (map mate bs) (raised_sound M above s c bs w) raised_strips;
+    made = caps_made N s c (map mate bs) (raised_sound M above s c bs w) raised_strips ∙ capped_is_open;
   })
 
   all : Leads M X (strip_ops M s c bs m ++ copy_ops M c bs m ++ cap_ops c m)

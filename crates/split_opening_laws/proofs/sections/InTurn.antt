@@ -30,7 +30,7 @@ use Rattle.split_opening_laws.specs.sections.InTurn.{halves_in, AreBetween, uppe
 use Rattle.split_opening_laws.specs.strips.Opened.{CanBeOpened}
 use Rattle.split_opening_laws.specs.sections.Capped.{IsPlain, ArePlain, cap_faces, HasCaps}
 use Rattle.split_opening_laws.proofs.cycles.BelowHalves.{halves_are, is_half}
-use Rattle.split_opening_laws.proofs.cycles.Cycles.{cycles_cover, cycles_long, cycles_apart}
+use Rattle.split_opening_laws.proofs.cycles.NextBelow.{cycles_cover, cycles_long, cycles_apart}
 use Rattle.split_opening_laws.proofs.opening.Whole.{opened_sound}
 use Rattle.split_opening_laws.proofs.sections.StillBetween.{cycles_stay, still_between, still_there, still_of_solid}
 use Rattle.split_opening_laws.proofs.sections.StillFree.{still_free}
@@ -187,12 +187,9 @@ module _ (M : Model) (above : List ℕ) (s : ℕ) (c : Taken) (bs : List ℕ) (w
   old_loop : (l : ℕ) → Has M.loops l → face_of M l ≤ c.face
   old_loop l there = in_use_within M.faces c.face w.free.faces (face_of M l) (w.sound.loops_of_faces l there)
 
-  outer_still : (f : ℕ) → Has M.faces f → outer N f ≡ outer M f
-  unfolding outer
-  outer_still f t = ap (λ o. (unwrap_or o no_face).outer) (face_still M above s c bs w.sound w.free f t)
-
   -- a face without rings has none then
   still_plain : (f : ℕ) → IsPlain M s f → IsPlain N s f
+  unfolding outer
   still_plain f v = let l : f ≤ c.face = in_use_within M.faces c.face w.free.faces f v.there in record {
     there = ap is_some (face_still M above s c bs w.sound w.free f v.there) ∙ v.there;
     of_solid = solid_kept M above s c bs w.sound w.free f v.there ∙ v.of_solid;
@@ -200,7 +197,7 @@ module _ (M : Model) (above : List ℕ) (s : ℕ) (c : Taken) (bs : List ℕ) (w
       | inl p ↦ absurd (omega (arith, l, e, p.1))
       | inr q ↦ elim q [
         | inl p ↦ absurd (omega (arith, l, e, p.1))
-        | inr p ↦ v.no_ring k p.0 (p.1 ∙ e) ∙ sym (outer_still f v.there)
+        | inr p ↦ v.no_ring k p.0 (p.1 ∙ e) ∙ sym (ap (λ o. (unwrap_or o no_face).outer) (face_still M above s c bs w.sound w.free f v.there))
       ]
     ];
   }

@@ -189,10 +189,7 @@ module _ (M : Model) (above : List ℕ) (s : ℕ) (c : Taken) (bs : List ℕ) (w
         ap (solid_of N) place.1 ∙ cut_solid i (face_at M a) there
         ∙ sym (w.sound.one_solid (get_or bs i 0) (on.half_there M above s c bs w i lt)) ∙ (w.cycle.halves (get_or bs i 0) (on.half_in M above s c bs w i lt)).of_solid
 
-    mef_is : mef N a k (plus e) f l ≡ strips_cut M s c bs (suc i)
-    unfolding mef strips_cut
-    mef_is = grind (arith, solid_is, loops_next, edge_plus, edge_row_plus, tail_k, cut_tail, a_old)
-
     pub strip_is : effect N (cut_strip N c bs i) ≡ strips_cut M s c bs (suc i)
-    unfolding effect
-    strip_is = (λ n. mef N (code-half a n) (code-half k n) (code-half (plus e) n) f l) ∙ mef_is
+    unfolding effect mef strips_cut
+    strip_is = (λ n. mef N (code-half a n) (code-half k n) (code-half (plus e) n) f l)
+        ∙ grind (arith, solid_is, loops_next, edge_plus, edge_row_plus, tail_k, cut_tail, a_old)
