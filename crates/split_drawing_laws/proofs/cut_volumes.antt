@@ -1,3 +1,2 @@
-pub mod OneCut
 pub mod Told
 pub mod CutWhole

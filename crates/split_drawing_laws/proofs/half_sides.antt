@@ -1,4 +1,3 @@
 pub mod Pieces
 pub mod Starts
 pub mod PlaceEnds
-pub mod Taking

@@ -1,7 +1,6 @@
 pub mod drawn
 pub mod Openings
 pub mod Holes
-pub mod Left
 pub mod Flags
 pub mod Whole
 pub mod opened

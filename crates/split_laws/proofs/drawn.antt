@@ -1,3 +1,2 @@
 pub mod Solids
 pub mod Drawn
-pub mod BothSides

@@ -29,10 +29,8 @@ use Rattle.split_drawing_laws.proofs.drawings.Rings.{RingOf, Newer, ring_faces}
 use Rattle.split_drawing_laws.proofs.face_sides.Beside.{never_free}
 use Rattle.split_drawing_laws.proofs.drawn_volumes.Bounds.{OnFace, on_face, face_on}
 use Rattle.split_drawing_laws.proofs.drawn_volumes.Draws as draws
-use Rattle.split_drawing_laws.proofs.drawn_volumes.Joins as joins
-use Rattle.split_drawing_laws.proofs.drawn_volumes.Moves as moves
-use Rattle.split_drawing_laws.proofs.drawn_volumes.Moves.{CanMove}
-use Rattle.split_drawing_laws.proofs.drawn_volumes.Volumes.{IsPlane, draw_volumes, join_volumes, move_volumes}
+use Rattle.split_drawing_laws.proofs.drawn_volumes.Volumes as moves
+use Rattle.split_drawing_laws.proofs.drawn_volumes.Volumes.{CanMove, IsPlane, draw_volumes, join_volumes, move_volumes}
 use Rattle.split_drawing_laws.proofs.drawings.Faces.{between_keeps}
 use Rattle.split_drawing_laws.proofs.drawings.Whole.{ready, drawable_on, next_is, drawable, drawing_sound}
 use Rattle.split_drawing_laws.proofs.crossings.Whole.{crossings_sound}
@@ -60,7 +58,7 @@ module _ (M : Model) (f : ℕ) (sound : Sound M) (f_there : Has M.faces f) (r : 
     J = loops_joined X c d e
 
     same : J.faces ≡ X.faces
-    same = joins.faces_joined X c d e can
+    same = draws.faces_joined X c d e can
 
     was : (g : ℕ) → Has J.faces g → Has X.faces g
     was g there = subst (λ t. Has t g) same there
@@ -69,8 +67,8 @@ module _ (M : Model) (f : ℕ) (sound : Sound M) (f_there : Has M.faces f) (r : 
     join_within = record {
       volumes = λ v. join_volumes X c d e can r some (subst (OnFace X r) (sym at) (w.olds f f_there r on_f)) v ∙ w.volumes v;
       there = λ g there. subst (λ t. Has t g) (sym same) (w.there g there);
-      olds = λ g there t on. joins.joined_on X c d e can t g (w.olds g there t on);
-      news = λ g there none t on. joins.joined_on X c d e can t g (w.news g (was g there) none t on);
+      olds = λ g there t on. draws.joined_on X c d e can t g (w.olds g there t on);
+      news = λ g there none t on. draws.joined_on X c d e can t g (w.news g (was g there) none t on);
       old_solid = λ g there. same_solid X J g (ap (λ t. table.get t g) same) ∙ w.old_solid g there;
       new_solid = λ g there none. same_solid X J g (ap (λ t. table.get t g) same) ∙ w.new_solid g (was g there) none;
     }

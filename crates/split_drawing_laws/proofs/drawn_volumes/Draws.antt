@@ -1,10 +1,10 @@
--- An edge drawn between two half-edges of a loop: the two faces lie on the planes of the one that was, and their normals sum to its.
-use Rattle.std.proofs.Common.{◌≡◌, ◌≢◌, ℕ, ◌+◌, true, ◌∷◌, ◌++◌, Some, is_some, unwrap_or, sym, ap, ◌∙◌, subst, arith, ◌⊎◌, inl, inr}
+-- An edge drawn, or two loops joined: the faces lie on the planes of the one that was, and their normals sum to its.
+use Rattle.std.proofs.Common.{◌≡◌, ◌≢◌, ℕ, ◌+◌, true, ◌∷◌, ◌++◌, Some, is_some, unwrap_or, sym, ap, ◌∙◌, subst, arith, ◌⊎◌, inl, inr, [], true≢false}
 use Rattle.std.proofs.lemmas.Bool.Decides.{eqb_tells}
 use Rattle.euler_operators.specs.declared.Plane.{Plane}
 use Rattle.euler_operators.specs.Vectors.{moved, is_on}
-use Rattle.euler_operators.specs.Items.{count, SameItems}
-use Rattle.euler_operators.proofs.Lists.{tick_same, count-append}
+use Rattle.euler_operators.specs.Items.{count, SameItems, tick}
+use Rattle.euler_operators.proofs.Lists.{tick_same, count-append, tick_other}
 use Rattle.euler_operators.specs.HalfEdge.{plus, minus}
 use Rattle.euler_operators.specs.Table as table
 use Rattle.euler_operators.specs.Model.{Model, no_face, lone, tail, content, outer, point_of, loop_of, face_of, solid_of, cycle_of}
@@ -18,12 +18,14 @@ use Rattle.shapes.specs.Faces.{start, boundary}
 use Rattle.shapes.specs.Measure.{normal, anchor}
 use Rattle.shapes.proofs.Areas.{area-append}
 use Rattle.shapes.proofs.measures.Sums.{area_same}
-use Rattle.shapes.specs.split.Drawing.{face_drawn}
+use Rattle.shapes.specs.split.Drawing.{face_drawn, loops_joined}
 use Rattle.split_drawing_laws.specs.drawings.DrawnIn.{Stays}
-use Rattle.split_drawing_laws.proofs.drawings.Drawn.{CanDraw, draw_sound, face_drawn_new, face_drawn_else}
-use Rattle.split_drawing_laws.proofs.drawings.Stays.{stands_at, row_old, row_new, row_else, edges_are, draw_stays, draw_tails, draw_beside, draw_within}
-use Rattle.split_drawing_laws.proofs.loop_sides.Parting.{none_new, halves_drawn}
-use Rattle.split_drawing_laws.proofs.drawn_volumes.Bounds.{OnFace, anchor_still, lone_there, bound_one, bound_none, point_still, start_still, half_there, plus_there, minus_there, area_after, normal_kept, two_halves, no_area, normal_is}
+use Rattle.split_drawing_laws.proofs.drawings.Drawn.{CanDraw, draw_sound, face_drawn_new, face_drawn_else, CanJoin, join_sound, loops_joined_faces}
+use Rattle.split_drawing_laws.proofs.drawings.Stays.{stands_at, row_old, row_new, row_else, edges_are, draw_stays, draw_tails, draw_beside, draw_within, row_joined, row_other, row_gone, joined_edges, join_stays, join_tails, join_faces}
+use Rattle.split_drawing_laws.proofs.loop_sides.Parting.{none_new, halves_drawn, halves_joined}
+use Rattle.split_drawing_laws.proofs.drawn_volumes.Bounds.{OnFace, anchor_still, lone_there, bound_one, bound_none, point_still, start_still, half_there, plus_there, minus_there, area_after, normal_kept, two_halves, no_area, normal_is, one_count, no_count}
+use Rattle.euler_operators.specs.Rings.{rotate_to}
+use Rattle.euler_operators.proofs.Rotations.{count-canonical}
 
 module _ (N : Model) (u k e g l : ℕ) (can : CanDraw N u k e g l) where
   abbrev K : Model
@@ -174,3 +176,85 @@ module _ (N : Model) (u k e g l : ℕ) (can : CanDraw N u k e g l) where
   anchor_else f there ne = let o = can.sound.outers_there f there in
       anchor_still N K can.sound stays f there (same_outer N K f (face_else f (not_new f there))) (same_content N K (outer N f)
       (row_else N u k e g l can (outer N f) (λ s. ne (sym o.1 ∙ ap (face_of N) s)) (row_elsewhere N.loops (outer N f) l o.0 can.loop_free)))
+
+-- ---- two loops of a face joined by an edge: the face lies on its planes and keeps its normal
+
+module _ (N : Model) (c d e : ℕ) (can : CanJoin N c d e) where
+  abbrev J : Model
+  J = loops_joined N c d e
+
+  abbrev G : ℕ
+  G = face_at N c
+
+  pub J_sound : Sound (loops_joined N c d e)
+  J_sound = join_sound N c d e can
+
+  keeps : Stays N J
+  keeps = join_stays N c d e can
+
+  pub faces_joined : (loops_joined N c d e).faces ≡ N.faces
+  faces_joined = loops_joined_faces N c d e
+
+  at_joined : (h : ℕ) → count h (plus e ∷ minus e ∷ []) ≡ 1 → face_at J h ≡ G
+  at_joined h one = ap (face_of J) (stands_at J J_sound h (loop_of N c) _ (content_row J (loop_of N c) _ (row_joined N c d e can))
+      (omega (arith, one, count-canonical h ((plus e ∷ rotate_to d (cycle_of N d)) ++ minus e ∷ rotate_to c (cycle_of N c)), count-append h (plus e ∷ rotate_to d (cycle_of N d)) (minus e ∷ rotate_to c (cycle_of N c)))))
+      ∙ face_row J (loop_of N c) _ (row_joined N c d e can)
+
+  plus_joins : face_at J (plus e) ≡ G
+  plus_joins = at_joined (plus e) (let o : tick (plus e) (minus e) ≡ 0 = tick_other (plus e) (minus e) (λ s. absurd (omega (arith, s))) in omega (arith, tick_same (plus e), o))
+
+  minus_joins : face_at J (minus e) ≡ G
+  minus_joins = at_joined (minus e) (let o : tick (minus e) (plus e) ≡ 0 = tick_other (minus e) (plus e) (λ s. absurd (omega (arith, s))) in omega (arith, tick_same (minus e), o))
+
+  plus_goes : start J (plus e) ≡ start N c
+  plus_goes = ap (point_of J) (join_tails N c d e can).0 ∙ point_still N J can.sound keeps (tail N c)
+
+  minus_goes : start J (minus e) ≡ start N d
+  minus_goes = ap (point_of J) (join_tails N c d e can).1 ∙ point_still N J can.sound keeps (tail N d)
+
+  joined_cases : (h : ℕ) → HasHalf J h → HasHalf N h ⊎ ((h ≡ plus e) ⊎ (h ≡ minus e))
+  joined_cases = halves_joined N c d e can
+
+  lone_joins : (q v : ℕ) → content J q ≡ lone v → table.get J.loops q ≡ table.get N.loops q
+  lone_joins q v is = row_other N c d e can q
+      (λ s. never_lone _ v (sym (ap (content J) s ∙ content_row J (loop_of N c) _ (row_joined N c d e can)) ∙ is))
+      (λ s. true≢false (sym (lone_there J q v is) ∙ ap is_some (ap (table.get J.loops) s ∙ row_gone N c d e can)))
+
+  -- each face lies on its planes
+  pub joined_on : (t : Plane) (f : ℕ) → OnFace N t f → OnFace (loops_joined N c d e) t f
+  joined_on t f w = record {
+    halves = λ h now at. elim (joined_cases h now) [
+      | inl was ↦ ap (is_on t) (start_still N J can.sound keeps h was) ∙ w.halves h was (sym (join_faces N c d e can h was) ∙ at)
+      | inr new ↦ elim new [
+        | inl is ↦ ap (is_on t) (ap (start J) is ∙ plus_goes) ∙ w.halves c can.c_there (sym plus_joins ∙ sym (ap (face_at J) is) ∙ at)
+        | inr is ↦ ap (is_on t) (ap (start J) is ∙ minus_goes) ∙ w.halves d can.d_there (sym can.one_face ∙ sym minus_joins ∙ sym (ap (face_at J) is) ∙ at)
+      ]
+    ];
+    lones = λ q v at is.
+        let row = lone_joins q v is in
+        ap (is_on t) (point_still N J can.sound keeps v) ∙ w.lones q v (sym (same_face N J q row) ∙ at) (sym (same_content N J q row) ∙ is);
+  }
+
+  -- ---- normals
+
+  module _ (f : ℕ) (there : Has N.faces f) where
+    normal_beside : f ≢ G → normal J f ≡ normal N f
+    normal_beside ne = grind (arith, normal_kept, J_sound, keeps, joined_cases, join_faces, plus_joins, minus_joins)
+
+    normal_here : f ≡ G → normal J f ≡ normal N f
+    normal_here at = normal_is J f ∙ area_same J (boundary J f) (plus e ∷ minus e ∷ boundary N f) (λ h. two_halves h e (count h (boundary J f)) (boundary N f)
+        (λ is. (bound_one J J_sound f h (subst (HasHalf J) (sym is) (plus_there N J e _ (joined_edges N c d e can))) (ap (face_at J) is ∙ plus_joins ∙ sym at), bound_none N can.sound f h there (λ t s. (none_new N e h can.edge_free t).0 is)))
+        (λ is. (bound_one J J_sound f h (subst (HasHalf J) (sym is) (minus_there N J e _ (joined_edges N c d e can))) (ap (face_at J) is ∙ minus_joins ∙ sym at), bound_none N can.sound f h there (λ t s. (none_new N e h can.edge_free t).1 is)))
+        (λ a b. elim (half_there N h) [
+          | inl was ↦ one_count N J can.sound J_sound keeps f there h was (join_faces N c d e can h was)
+          | inr not_was ↦ no_count N J can.sound J_sound keeps f there h not_was (λ t s. elim (joined_cases h t) [ inl was ↦ not_was was | inr new ↦ elim new [ inl is ↦ a is | inr is ↦ b is ] ])
+        ])) ∙ no_area J e (boundary N f) ∙ area_after N J can.sound keeps f
+
+    pub normal_joined : normal (loops_joined N c d e) f ≡ normal N f
+    normal_joined = elim (eqb_tells f G) [ inl at ↦ normal_here at.1 | inr ne ↦ normal_beside ne.1 ]
+
+    -- another face keeps its anchor
+    pub anchor_joined : f ≢ face_at N c → anchor (loops_joined N c d e) f ≡ anchor N f
+    anchor_joined ne = let o = can.sound.outers_there f there in
+        anchor_still N J can.sound keeps f there (same_outer N J f (ap (λ t. table.get t f) faces_joined)) (same_content N J (outer N f)
+        (row_other N c d e can (outer N f) (λ s. ne (sym o.1 ∙ ap (face_of N) s)) (λ s. ne (sym o.1 ∙ ap (face_of N) s ∙ sym can.one_face))))

@@ -1,33 +1,118 @@
--- An edge drawn, two loops joined, a ring moved: each solid keeps its six volumes, where the face lies on a plane.
-use Rattle.std.proofs.Common.{◌≡◌, ◌≢◌, ℕ, ℤ, ◌+ℤ◌, ◌-ℤ◌, true, not, cond, nat_eq, ◌&&◌, ◌∷◌, is_some, refl, sym, ap, ◌∙◌, subst, arith, inl, inr}
-use Rattle.std.proofs.lemmas.Int.{ints}
+-- A ring given to another face; and each solid keeps its six volumes where an edge is drawn, two loops are joined or a ring is moved.
+use Rattle.std.proofs.Common.{◌≡◌, ◌≢◌, ℕ, ◌++◌, sym, ap, ◌∙◌, arith, inl, inr, ℤ, ◌+ℤ◌, ◌-ℤ◌, true, not, cond, nat_eq, ◌&&◌, ◌∷◌, is_some, refl, subst}
 use Rattle.std.proofs.lemmas.Bool.Decides.{eqb_tells}
-use Rattle.std.proofs.lemmas.Bool.{ne_eqb, eq-eqb}
-use Rattle.euler_operators.specs.declared.Point.{Point}
 use Rattle.euler_operators.specs.declared.Plane.{Plane}
-use Rattle.euler_operators.specs.Vectors.{origin, dot, same_point, is_on, direction}
+use Rattle.euler_operators.specs.Vectors.{moved, is_on, origin, dot, same_point, direction}
 use Rattle.euler_operators.specs.Items.{count, SameItems}
-use Rattle.euler_operators.proofs.Lists.{tick_same, tick_other}
-use Rattle.euler_operators.specs.Table as table
-use Rattle.euler_operators.specs.Model.{Model, solid_of, faces_of}
-use Rattle.euler_operators.specs.Sound.{Sound, Has}
+use Rattle.euler_operators.proofs.Lists.{count-append, tick_same, tick_other}
+use Rattle.euler_operators.specs.Model.{Model, loop_of, face_of, outer, solid_of, faces_of}
+use Rattle.euler_operators.specs.Sound.{Sound, Has, HasHalf}
 use Rattle.euler_operators.specs.Conditions.{face_at}
 use Rattle.euler_operators.specs.Effect.{ring_in}
-use Rattle.euler_laws.proofs.shared.Fans.{half_face}
+use Rattle.euler_laws.proofs.faces.RingIn as moving
+use Rattle.euler_laws.proofs.faces.RingIn.{RingGoes}
+use Rattle.shapes.specs.Faces.{boundary}
 use Rattle.shapes.specs.Measure.{normal, anchor, six_volume}
+use Rattle.shapes.proofs.Areas.{area-append}
+use Rattle.shapes.proofs.measures.Sums.{area_same, total, volume_of, unchanged, total_same}
+use Rattle.split_drawing_laws.proofs.drawn_volumes.Bounds.{OnFace, anchor_still, bound_one, bound_none, point_still, start_still, half_there, area_after, one_count, no_count, normal_kept, normal_is, face_on}
+use Rattle.split_drawing_laws.proofs.drawings.Rings.{ring_sound, same_walks, ring_stays, ring_back, place_is, face_else, face_kept, ring_faces}
+use Rattle.std.proofs.lemmas.Int.{ints}
+use Rattle.std.proofs.lemmas.Bool.{ne_eqb, eq-eqb}
+use Rattle.euler_operators.specs.declared.Point.{Point}
+use Rattle.euler_operators.specs.Table as table
+use Rattle.euler_laws.proofs.shared.Fans.{half_face}
 use Rattle.shapes.proofs.measures.FlatFaces.{anchor_on, told_anywhere}
 use Rattle.shapes.specs.split.Drawing.{face_drawn, loops_joined}
 use Rattle.split_drawing_laws.proofs.drawings.Drawn.{CanDraw, CanJoin}
-use Rattle.split_drawing_laws.proofs.drawings.Rings.{ring_sound, ring_faces}
 use Rattle.euler_operators.proofs.Vectors.{dot_sum}
-use Rattle.split_drawing_laws.proofs.drawn_volumes.Bounds.{OnFace, face_on}
 use Rattle.split_drawing_laws.proofs.drawn_volumes.Draws as draws
-use Rattle.split_drawing_laws.proofs.drawn_volumes.Joins as joins
-use Rattle.split_drawing_laws.proofs.drawn_volumes.Moves as moves
-use Rattle.split_drawing_laws.proofs.drawn_volumes.Moves.{CanMove}
-use Rattle.shapes.proofs.measures.Sums.{total, volume_of, unchanged, total_same}
 use Rattle.split_drawing_laws.proofs.cut_volumes.Told.{counted_in, counted_out, same_count, six_is, changed_one}
 use Rattle.split_drawing_laws.proofs.crossings.Premises.{solid_facts}
+
+-- loop l is a ring of face f and goes to another face k
+pub record CanMove (N : Model) (f l k : ℕ) : Type 0 where
+  pub sound : Sound N
+  pub goes : RingGoes N l k
+  pub face : face_of N l ≡ f
+  pub f_there : Has N.faces f
+  pub apart : f ≢ k
+
+module _ (N : Model) (f l k : ℕ) (can : CanMove N f l k) where
+  abbrev X : Model
+  X = ring_in N l k
+
+  -- the half-edges of the ring go to k, and the others keep their face
+  gone : (h : ℕ) → HasHalf N h → loop_of N h ≡ l → (face_at N h ≡ f) × (face_at X h ≡ k)
+  gone h there at =
+      (ap (face_of N) at ∙ can.face, ap (face_of X) (place_is N l k can.sound can.goes h there ∙ at) ∙ moving.face_l N can.sound l k can.goes)
+
+  -- ---- planes
+
+  -- another face than k lies on its planes
+  pub else_on : (t : Plane) (g : ℕ) → g ≢ k → OnFace N t g → OnFace (ring_in N l k) t g
+  else_on t g ne w = record {
+    halves = λ h now at. let was = ring_back N l k can.sound can.goes h now in ap (is_on t) (start_still N X can.sound (ring_stays N l k can.sound can.goes) h was) ∙ elim (eqb_tells (loop_of N h) l) [
+      | inl s ↦ absurd (ne (sym at ∙ (gone h was s.1).1))
+      | inr s ↦ w.halves h was (sym (face_kept N l k can.sound can.goes h was s.1) ∙ at)
+    ];
+    lones = λ q v at is. ap (is_on t) (point_still N X can.sound (ring_stays N l k can.sound can.goes) v) ∙ elim (eqb_tells q l) [
+      | inl s ↦ absurd (ne (sym at ∙ ap (face_of X) s.1 ∙ moving.face_l N can.sound l k can.goes))
+      | inr s ↦ w.lones q v (sym (face_else N l k can.sound can.goes q s.1) ∙ at) (sym ((same_walks N l k can.sound can.goes).contents q) ∙ is)
+    ];
+  }
+
+  -- and k on those of both
+  pub moved_on : (t : Plane) → OnFace N t f → OnFace N t k → OnFace (ring_in N l k) t k
+  moved_on t a b = record {
+    halves = λ h now at. let was = ring_back N l k can.sound can.goes h now in ap (is_on t) (start_still N X can.sound (ring_stays N l k can.sound can.goes) h was) ∙ elim (eqb_tells (loop_of N h) l) [
+      | inl s ↦ a.halves h was (gone h was s.1).0
+      | inr s ↦ b.halves h was (sym (face_kept N l k can.sound can.goes h was s.1) ∙ at)
+    ];
+    lones = λ q v at is. ap (is_on t) (point_still N X can.sound (ring_stays N l k can.sound can.goes) v) ∙ elim (eqb_tells q l) [
+      | inl s ↦ a.lones q v (ap (face_of N) s.1 ∙ can.face) (sym ((same_walks N l k can.sound can.goes).contents q) ∙ is)
+      | inr s ↦ b.lones q v (sym (face_else N l k can.sound can.goes q s.1) ∙ at) (sym ((same_walks N l k can.sound can.goes).contents q) ∙ is)
+    ];
+  }
+
+  -- ---- normals
+
+  f_now : Has X.faces f
+  f_now = (ring_stays N l k can.sound can.goes).faces f can.f_there
+
+  one : (g h : ℕ) → Has N.faces g → HasHalf N h → face_at X h ≡ face_at N h → count h (boundary X g) ≡ count h (boundary N g)
+  one g h there = one_count N X can.sound (ring_sound N l k can.sound can.goes) (ring_stays N l k can.sound can.goes) g there h
+
+  none : (g h : ℕ) → Has N.faces g → (HasHalf N h → ⊥) → count h (boundary X g) ≡ count h (boundary N g)
+  none g h there not_was = no_count N X can.sound (ring_sound N l k can.sound can.goes) (ring_stays N l k can.sound can.goes) g there h not_was (λ t s. not_was (ring_back N l k can.sound can.goes h t))
+
+  both : SameItems (boundary X f ++ boundary X k) (boundary N f ++ boundary N k)
+  both h = elim (half_there N h) [
+    | inl was ↦ elim (eqb_tells (loop_of N h) l) [
+      | inl s ↦
+          let w = gone h was s.1 in
+          let a : count h (boundary X f) ≡ 0 = bound_none X (ring_sound N l k can.sound can.goes) f h f_now (λ t z. can.apart (sym z ∙ w.1)) in
+          let b : count h (boundary X k) ≡ 1 = bound_one X (ring_sound N l k can.sound can.goes) k h ((ring_stays N l k can.sound can.goes).halves h was) w.1 in
+          let c : count h (boundary N f) ≡ 1 = bound_one N can.sound f h was w.0 in
+          let d : count h (boundary N k) ≡ 0 = bound_none N can.sound k h can.goes.f_there (λ t z. can.apart (sym w.0 ∙ z)) in
+          omega (arith, a, b, c, d, count-append h (boundary X f) (boundary X k), count-append h (boundary N f) (boundary N k))
+      | inr s ↦ omega (arith, one f h can.f_there was (face_kept N l k can.sound can.goes h was s.1), one k h can.goes.f_there was (face_kept N l k can.sound can.goes h was s.1), count-append h (boundary X f) (boundary X k), count-append h (boundary N f) (boundary N k))
+    ]
+    | inr not_was ↦ omega (arith, none f h can.f_there not_was, none k h can.goes.f_there not_was, count-append h (boundary X f) (boundary X k), count-append h (boundary N f) (boundary N k))
+  ]
+
+  pub normals_sum : moved (normal (ring_in N l k) f) (normal (ring_in N l k) k) ≡ moved (normal N f) (normal N k)
+  normals_sum = (λ i. moved (normal_is X f i) (normal_is X k i)) ∙ sym (area-append X (boundary X f) (boundary X k))
+      ∙ area_same X (boundary X f ++ boundary X k) (boundary N f ++ boundary N k) both ∙ area-append X (boundary N f) (boundary N k) ∙ (λ i. moved (area_after N X can.sound (ring_stays N l k can.sound can.goes) f i) (area_after N X can.sound (ring_stays N l k can.sound can.goes) k i))
+
+  pub normal_else : (g : ℕ) → Has N.faces g → g ≢ f → g ≢ k → normal (ring_in N l k) g ≡ normal N g
+  normal_else g there not_f not_k = grind (arith, normal_kept, ring_sound, ring_stays, ring_back, gone, face_kept)
+
+  -- each face keeps its anchor
+  pub anchor_moved : (g : ℕ) → Has N.faces g → anchor (ring_in N l k) g ≡ anchor N g
+  anchor_moved g there = anchor_still N X can.sound (ring_stays N l k can.sound can.goes) g there (moving.outer_same N can.sound l k can.goes g) ((same_walks N l k can.sound can.goes).contents (outer N g))
+
+-- ---- an edge drawn, two loops joined, a ring moved: each solid keeps its six volumes, where the face lies on a plane
 
 -- the plane has a direction
 abbrev pub IsPlane : Plane → Type 0
@@ -111,13 +196,13 @@ module _ (N : Model) (c d e : ℕ) (can : CanJoin N c d e) (r : Plane) (some : I
   joined_told f there = elim (eqb_tells f (face_at N c)) [
     | inl at ↦
         let here : OnFace N r f = subst (OnFace N r) (sym at.1) w in
-        told_from J (joins.J_sound N c d e can) r some f (anchor N f) (subst (λ t. Has t f) (sym (joins.faces_joined N c d e can)) there) (joins.joined_on N c d e can r f here) (anchor_lies N can.sound r some f there here)
-        ∙ ap (dot (anchor N f)) (joins.normal_joined N c d e can f there)
-    | inr ne ↦ λ i. dot (joins.anchor_joined N c d e can f there ne.1 i) (joins.normal_joined N c d e can f there i)
+        told_from J (draws.J_sound N c d e can) r some f (anchor N f) (subst (λ t. Has t f) (sym (draws.faces_joined N c d e can)) there) (draws.joined_on N c d e can r f here) (anchor_lies N can.sound r some f there here)
+        ∙ ap (dot (anchor N f)) (draws.normal_joined N c d e can f there)
+    | inr ne ↦ λ i. dot (draws.anchor_joined N c d e can f there ne.1 i) (draws.normal_joined N c d e can f there i)
   ]
 
   pub join_volumes : (v : ℕ) → six_volume (loops_joined N c d e) v ≡ six_volume N v
-  join_volumes v = grind (arith, six_is, total, volume_of, joins.faces_joined, unchanged, joined_told, solid_facts)
+  join_volumes v = grind (arith, six_is, total, volume_of, draws.faces_joined, unchanged, joined_told, solid_facts)
 
 -- ---- a ring moved
 
@@ -133,12 +218,12 @@ module _ (N : Model) (f l k : ℕ) (can : CanMove N f l k) (r : Plane) (some : I
       let p : Point = anchor N f in
       let on : is_on r p ≡ true = anchor_lies N can.sound r some f can.f_there w in
       ap (λ x. volume_of N f +ℤ x) (told_from N can.sound r some k p can.goes.f_there z on) ∙ sym (dot_sum p (normal N f) (normal N k))
-      ∙ ap (dot p) (sym (moves.normals_sum N f l k can)) ∙ dot_sum p (normal R f) (normal R k)
-      ∙ sym (λ i. told_from R (ring_sound N l k can.sound can.goes) r some f p (now f can.f_there) (moves.else_on N f l k can r f can.apart w) on i
-      +ℤ told_from R (ring_sound N l k can.sound can.goes) r some k p (now k can.goes.f_there) (moves.moved_on N f l k can r w z) on i)
+      ∙ ap (dot p) (sym (normals_sum N f l k can)) ∙ dot_sum p (normal R f) (normal R k)
+      ∙ sym (λ i. told_from R (ring_sound N l k can.sound can.goes) r some f p (now f can.f_there) (else_on N f l k can r f can.apart w) on i
+      +ℤ told_from R (ring_sound N l k can.sound can.goes) r some k p (now k can.goes.f_there) (moved_on N f l k can r w z) on i)
 
   same_told : (h : ℕ) → Has N.faces h → h ≢ f → h ≢ k → volume_of N h ≡ volume_of R h
-  same_told h there a b = sym (λ i. dot (moves.anchor_moved N f l k can h there i) (moves.normal_else N f l k can h there a b i))
+  same_told h there a b = sym (λ i. dot (anchor_moved N f l k can h there i) (normal_else N f l k can h there a b i))
 
   one_solid : solid_of N f ≡ solid_of N k
   one_solid = ap (solid_of N) (sym can.face) ∙ can.goes.one_solid

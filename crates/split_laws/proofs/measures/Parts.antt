@@ -12,7 +12,7 @@ use Rattle.shapes.specs.split.Split.{split_refusal, split_model}
 use Rattle.split_drawing_laws.specs.face_sides.Lone.{NoLoopIsLone}
 use Rattle.split_drawing_laws.proofs.drawn_volumes.Bounds.{lone_there}
 use Rattle.split_drawing_laws.proofs.drawn_volumes.DrawWhole.{drawings_volumes}
-use Rattle.split_drawing_laws.proofs.face_sides.Final.{none_lone}
+use Rattle.split_drawing_laws.proofs.face_sides.Begun.{none_lone}
 use Rattle.split_laws.specs.volumes.Laws.{CanBeSplit}
 use Rattle.split_laws.proofs.volumes.Split.{both_there, split_shares, split_keeps}
 use Rattle.split_laws.specs.sides.Sided.{IsOfSolid}

@@ -31,7 +31,7 @@ use Rattle.split_drawing_laws.proofs.cut_volumes.Told.{item_loop}
 use Rattle.split_drawing_laws.specs.drawn_volumes.Laws.{LiesOnOld}
 use Rattle.split_drawing_laws.proofs.drawn_volumes.Bounds.{OnFace, on_face}
 use Rattle.split_drawing_laws.proofs.drawn_volumes.DrawWhole.{drawn_lies}
-use Rattle.split_drawing_laws.proofs.face_sides.Final.{none_straddles}
+use Rattle.split_drawing_laws.proofs.face_sides.Begun.{none_straddles}
 use Rattle.split_drawing_laws.proofs.crossings.Premises.{in_solid}
 use Rattle.split_opening_laws.specs.sections.InTurn.{halves_in}
 use Rattle.split_laws.specs.opened.Laws.{LieOn}
@@ -40,8 +40,7 @@ use Rattle.split_laws.specs.volumes.Laws.{CanBeSplit}
 use Rattle.split_laws.specs.sides.Sided.{IsOnSide, AreSided}
 use Rattle.split_laws.proofs.sides.Vertices.{begun_sided}
 use Rattle.split_laws.specs.drawn.Kept.{HasFace}
-use Rattle.split_laws.proofs.drawn.BothSides.{some_above}
-use Rattle.split_laws.proofs.drawn.Drawn.{begins, never_stuck, no_stray, drawn_sound, t_free, can_open_all, no_caps}
+use Rattle.split_laws.proofs.drawn.Drawn.{some_above, begins, never_stuck, no_stray, drawn_sound, t_free, can_open_all, no_caps}
 
 -- what is neither above nor below lies level
 level : (n : ℤ) → int_lt (pos 0) n ≡ false → int_lt n (pos 0) ≡ false → int_eq n (pos 0) ≡ true

@@ -22,7 +22,7 @@ use Rattle.split_opening_laws.proofs.cycles.Meets.{count_filter}
 use Rattle.split_drawing_laws.specs.face_sides.Lone.{NoLoopIsLone}
 use Rattle.split_drawing_laws.proofs.crossings.Premises.{tail_in_face, solid_facts}
 use Rattle.split_drawing_laws.proofs.pairs.LoopPlaces.{none_passes}
-use Rattle.split_drawing_laws.proofs.face_sides.Final.{TailIn, tail_in}
+use Rattle.split_drawing_laws.proofs.face_sides.Begun.{TailIn, tail_in}
 use Rattle.split_drawing_laws.proofs.face_sides.Shared.{none_from}
 use Rattle.split_laws.specs.sides.Sided.{IsOnSide, AreSided, IsOfSolid}
 

@@ -1,5 +1,4 @@
-use Rattle.split_laws.proofs.drawn.Drawn.{drawn_keeps}
-use Rattle.split_laws.proofs.drawn.BothSides.{some_above, some_below}
+use Rattle.split_laws.proofs.drawn.Drawn.{drawn_keeps, some_above, some_below}
 use Rattle.split_laws.proofs.solids_reach_both_sides.Goals as goal
 
 pub returns : goal.returns
