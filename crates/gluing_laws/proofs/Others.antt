@@ -1,5 +1,5 @@
 -- The solids that aren't glued keep their six volumes.
-use Rattle.std.proofs.Common.{◌≡◌, ◌≢◌, ℕ, true, cond, nat_eq, Bool, List, [], ◌∷◌, map, Option, Some, None, refl, sym, ap, ◌∙◌, arith, inl, inr}
+use Rattle.std.proofs.Common.{◌≡◌, ◌≢◌, ℕ, cond, nat_eq, Bool, List, [], ◌∷◌, map, Option, Some, None, refl, sym, ap, ◌∙◌, arith, inl, inr}
 use Rattle.std.specs.Option.{option_map}
 use Rattle.std.proofs.lemmas.Bool.Decides.{nat_tests, eqb_tells}
 use Rattle.std.proofs.lemmas.Bool.{ne_eqb, eqb-true}
@@ -13,7 +13,6 @@ use Rattle.euler_operators.specs.Table.{Table, tables}
 use Rattle.euler_operators.specs.Model.{Model, LoopContent, lone, cycle, FaceRow, holds, tail, content, face_of, outer, solid_of, point_of, faces_of}
 use Rattle.euler_operators.specs.Sound.{Has, StandsIn}
 use Rattle.euler_operators.proofs.Models.{in-holds}
-use Rattle.euler_operators.specs.Conditions.{lists}
 use Rattle.euler_operators.specs.Effect.{faces_to_solid}
 use Rattle.euler_laws.proofs.shared.Listed.{listed_passes, listed_as}
 use Rattle.euler_laws.proofs.shared.Rows.{face_there, solid_either}

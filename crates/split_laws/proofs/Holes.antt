@@ -33,10 +33,6 @@ pub solids_kept : (N : Model) (f g : ℕ) → (kfmrh N f g).solids ≡ N.solids
 unfolding kfmrh
 solids_kept N f g = refl
 
-effect_is : (N : Model) (f g : ℕ) → effect N (Kfmrh f g) ≡ kfmrh N f g
-unfolding effect
-effect_is N f g = refl
-
 pub row_kept : (N : Model) (f g p : ℕ) → p ≢ g → table.get (kfmrh N f g).faces p ≡ table.get N.faces p
 unfolding kfmrh
 row_kept N f g p a = grind (arith, nat_tests, tables)
@@ -46,7 +42,8 @@ module _ (N : Model) (sound : Sound N) (f g : ℕ) (goes : KillGoes N f g) where
   K = kfmrh N f g
 
   pub kill_leads : Leads N (kfmrh N f g) (Kfmrh f g ∷ [])
-  kill_leads = leads_one N K (Kfmrh f g) (kfmrh_accepted N f g sound goes) (effect_is N f g)
+  unfolding effect
+  kill_leads = leads_one N K (Kfmrh f g) (kfmrh_accepted N f g sound goes) (refl)
 
   rings : SameRings N K
   rings = grind (arith, kill_same, loop_sound)

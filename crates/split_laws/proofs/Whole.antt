@@ -86,10 +86,6 @@ part_same N s t us = λ i. record {
   vertices = N.vertices;
 }
 
-effect_is : (N : Model) (s t : ℕ) (fs : List ℕ) → effect N (Part s t fs) ≡ part N s t fs
-unfolding effect
-effect_is N s t fs = refl
-
 -- a face of solid s on either side
 pub record BothSides (N : Model) (s : ℕ) (us : List ℕ) : Type 0 where
   pub upper : ℕ
@@ -120,7 +116,8 @@ module _ (N : Model) (s t : ℕ) (us : List ℕ) (w : CanPart N s us) (both : Bo
   }
 
   pub part_leads : Leads N (part N s t (still_there N us)) (Part s t (still_there N us) ∷ [])
-  part_leads = leads_one N (part N s t fs) (Part s t fs) (part_accepted N s t fs w.sound goes) (effect_is N s t fs)
+  unfolding effect
+  part_leads = leads_one N (part N s t fs) (Part s t fs) (part_accepted N s t fs w.sound goes) (refl)
 
 -- ---- which of the upper faces are left when the holes are closed
 
@@ -279,10 +276,6 @@ module _ (d : Drawing) (above : List ℕ) (s : ℕ) (p : Plane)
   pub left_row : (f : ℕ) → Has D.faces f → table.get K.faces f ≡ table.get D.faces f
   left_row f there = let o = old f there in closed.rows f (omega (arith, o.no_cap, holes_counted f ks)) ∙ o.row
 
-  pub solid_left : (f : ℕ) → Has D.faces f → solid_of K f ≡ solid_of D f
-  unfolding solid_of
-  solid_left f there = ap (λ o. (unwrap_or o no_face).solid) (left_row f there)
-
   pub faces_left : still_there K us ≡ upper_left above ks
   faces_left = left_are X.model K s us above ks (hole_ops ks) closed caps.plain (λ x. omega (arith, once x)) (λ f i. let l = listed-from_in f above i in
       let there : Has D.faces f = above_there above s begun cycles opens f l in ap is_some (left_row f there) ∙ there)
@@ -295,6 +288,7 @@ module _ (d : Drawing) (above : List ℕ) (s : ℕ) (p : Plane)
 
   module _ (first_above : HasFace d.model s above true) (first_below : HasFace d.model s above false) (t : ℕ) (t_free : table.get d.model.solids t ≡ None) (t_fits : IsTrue (is_number t)) where
     sides : BothSides K s us
+    unfolding solid_of
     sides =
         let o = old first_below.face first_below.there in
         record {
@@ -303,7 +297,7 @@ module _ (d : Drawing) (above : List ℕ) (s : ℕ) (p : Plane)
           upper_listed = listed-from_in first_above.face us (omega (arith, IsIn-from_listed first_above.face above first_above.is, count-append first_above.face above (map (λ k. k.upper) ks)));
           lower = first_below.face;
           lower_there = ap is_some (left_row first_below.face first_below.there) ∙ first_below.there;
-          lower_of = solid_left first_below.face first_below.there ∙ first_below.of_solid;
+          lower_of = ap (λ o. (unwrap_or o no_face).solid) (left_row first_below.face first_below.there) ∙ first_below.of_solid;
           lower_unlisted = not_listed first_below.face us (omega (arith, none_counted first_below.face above first_below.is, o.no_cap, caps_counted first_below.face ks, count-append first_below.face above (map (λ k. k.upper) ks)));
         }
 

@@ -96,10 +96,6 @@ module _ (M : Model) (s : ℕ) (p : Plane) (t : ℕ) (sound : Sound M) (accepted
   unfolding first_conditions
   t_fits = first.1.0
 
-  t_free_before : table.get M.solids t ≡ None
-  unfolding first_conditions
-  t_free_before = no_row (table.get M.solids t) (not-true (table.has M.solids t) first.1.1.1.0)
-
   pub none_lone : least_lone M (faces_of M s) ≡ None
   unfolding first_conditions
   none_lone = none_found (least_lone M (faces_of M s)) first.1.1.1.1.1.1.1.1.1.0
@@ -157,7 +153,9 @@ module _ (M : Model) (s : ℕ) (p : Plane) (t : ℕ) (sound : Sound M) (accepted
   }
 
   pub t_free : table.get (with_drawings M s p).model.solids t ≡ None
-  t_free = ap (λ u. table.get u t) (drawn_keeps.solids ∙ (crossings_keep M s p t sound begins).solids) ∙ t_free_before
+  unfolding first_conditions
+  t_free = ap (λ u. table.get u t) (drawn_keeps.solids ∙ (crossings_keep M s p t sound begins).solids)
+      ∙ no_row (table.get M.solids t) (not-true (table.has M.solids t) first.1.1.1.0)
 
   -- a face above is there and of the solid
   pub above_facts : (f : ℕ) → lists (faces_above (with_drawings M s p).model p s) f ≡ true → Has (with_drawings M s p).model.faces f × (solid_of (with_drawings M s p).model f ≡ s)
@@ -176,9 +174,6 @@ module _ (M : Model) (s : ℕ) (p : Plane) (t : ℕ) (sound : Sound M) (accepted
 
   abbrev N : Model
   N = (with_crossings M s p).model
-
-  abbrev es : List ℕ
-  es = crossing_edges M p s
 
   N_sound : Sound N
   N_sound = crossings_sound M s p t sound begins
@@ -218,7 +213,7 @@ module _ (M : Model) (s : ℕ) (p : Plane) (t : ℕ) (sound : Sound M) (accepted
   old_half h there e = record { half = h; there = (crossings_keep M s p t sound begins).halves h there; starts = e; face = old_face M s p t sound begins h there }
 
   plus_at : (e : ℕ) → Has M.edges e → HalfAt N (tail M (plus e)) (face_at M (plus e))
-  plus_at e there = elim (IsIn_or_not e es) [
+  plus_at e there = elim (IsIn_or_not e (crossing_edges M p s)) [
     | inl i ↦ let c = (crossing_pieces M s p t sound begins).cuts e i in cut_half e c.0 c.1
     | inr z ↦ old_half (plus e) (plus_there M e there) ((crossings_cut M s p t sound begins).plus_tails e there (not_cut M s p t sound begins e z))
   ]

@@ -35,18 +35,6 @@ none_new M f = record { rows = λ g t. refl; news = λ g t n. absurd (never_free
 same_new : (M X Y : Model) (f : ℕ) → Y.faces ≡ X.faces → Y.solids ≡ X.solids → NewOf M X f → NewOf M Y f
 same_new M X Y f faces solids a = grind (arith, same_solid)
 
-joined_new : (M X : Model) (f c d e : ℕ) → NewOf M X f → NewOf M (loops_joined X c d e) f
-unfolding loops_joined
-joined_new M X f c d e a = same_new M X (loops_joined X c d e) f refl refl a
-
-moved_new : (M X : Model) (f l k : ℕ) → NewOf M X f → NewOf M (ring_in X l k) f
-unfolding ring_in
-moved_new M X f l k a = same_new M X (ring_in X l k) f refl refl a
-
-draw_solids : (N : Model) (u k e f l : ℕ) → (face_drawn N u k e f l).solids ≡ N.solids
-unfolding face_drawn
-draw_solids N u k e f l = refl
-
 module _ (M : Model) (f : ℕ) (sound : Sound M) where
   -- a half-edge of the face is of its solid still
   half_of : (X : Model) → DrawnIn M X f → NewOf M X f → (h : ℕ) → HasHalf M h → face_at M h ≡ f → solid_of X (face_at X h) ≡ solid_of M f
@@ -63,21 +51,23 @@ module _ (M : Model) (f : ℕ) (sound : Sound M) where
     was_there k t s = true≢false (sym t ∙ ap is_some (sym (a.rows k t) ∙ ap (table.get X.faces) s ∙ face_free))
 
     one_new : NewOf M (face_drawn X q.0 q.1 e g l) f
+    unfolding face_drawn
     one_new = record {
       rows = λ k t. face_drawn_else X q.0 q.1 e g l k (was_there k t) ∙ a.rows k t;
       news = λ k t n. elim (eqb_tells k g) [
         | inl s ↦ ap (solid_of K) s.1 ∙ solid_row K g _ (face_drawn_new X q.0 q.1 e g l) ∙ half_of X drawn a q.0 fits.u_there fits.u_face
         | inr s ↦ same_solid X K k (face_drawn_else X q.0 q.1 e g l k s.1) ∙ a.news k (sym (ap is_some (face_drawn_else X q.0 q.1 e g l k s.1)) ∙ t) n
       ];
-      solids = draw_solids X q.0 q.1 e g l ∙ a.solids;
+      solids = refl ∙ a.solids;
     }
 
 -- one face
 face_new : (p : Plane) (f : ℕ) (qs : List (ℕ × ℕ)) (d : Drawing) (n : ℕ) → Ready p f qs d n → NewOf d.model (drawn_between p f qs d).model f
+unfolding loops_joined ring_in
 face_new p f qs d n w = between_keeps p f qs d n w (λ X. NewOf d.model X f)
-    (λ N c k e can at a. joined_new d.model N f c k e a)
+    (λ N c k e can at a. same_new d.model N (loops_joined N c k e) f refl refl a)
     (λ N q e g l can drawn fits a. one_new d.model f w.sound N q e g l drawn fits can.face_free a)
-    (λ N l k drawn ring newer a. moved_new d.model N f l k a) (none_new d.model f)
+    (λ N l k drawn ring newer a. same_new d.model N (ring_in N l k) f refl refl a) (none_new d.model f)
 
 -- ---- each half-edge stays in its solid
 

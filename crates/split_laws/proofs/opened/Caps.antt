@@ -14,7 +14,7 @@ use Rattle.euler_operators.proofs.Maps.{from_map, count-reverse}
 use Rattle.euler_operators.proofs.Rotations.{count-canonical, IsIn_head}
 use Rattle.euler_operators.specs.HalfEdge.{mate, minus}
 use Rattle.euler_operators.specs.Table as table
-use Rattle.euler_operators.specs.Model.{Model, cycle, no_face, tail, content, outer, point_of, rings_of, LoopContent, items_of}
+use Rattle.euler_operators.specs.Model.{Model, cycle, no_face, tail, content, outer, point_of, rings_of, items_of}
 use Rattle.euler_operators.proofs.Models.{content_row, mate_there}
 use Rattle.euler_operators.proofs.Tables.{get-put_here, get-put_other}
 use Rattle.shapes.specs.Faces.{start, finish, items_in}
@@ -113,11 +113,8 @@ module _ (M N : Model) (same : SamePlaces M N) where
   pub same_area : (ls : List ℕ) → area N (items_in N ls) ≡ area M (items_in M ls)
   same_area ls = ap (area N) (items_same ls) ∙ area_kept M N (items_in M ls) (λ h i. (same_start h, same_start (mate h)))
 
-  first_same : (c : LoopContent) → point_of N (first_vertex N c) ≡ point_of M (first_vertex M c)
-  first_same c = grind (arith, same_start)
-
   pub same_anchor : (k : ℕ) → outer N k ≡ outer M k → anchor N k ≡ anchor M k
-  same_anchor k e = ap (λ c. point_of N (first_vertex N c)) (same.contents (outer N k) ∙ ap (content M) e) ∙ first_same (content M (outer M k))
+  same_anchor k e = ap (λ c. point_of N (first_vertex N c)) (same.contents (outer N k) ∙ ap (content M) e) ∙ grind (arith, same_start)
 
 -- ---- vectors and planes
 
@@ -157,9 +154,6 @@ module _ (M : Model) (above : List ℕ) (s : ℕ) (c : Taken) (bs : List ℕ) (w
   upper_content : content N (outer N (c.face + length bs + 1)) ≡ cycle (map minus (numbers_after c.edge (length bs)))
   upper_content = ap (content N) outer_upper ∙ content_row N (c.loop + length bs + 1) _ upper_loop
 
-  lower_alone : rings_of N (c.face + 1) ≡ []
-  lower_alone = plain_alone N s (c.face + 1) (plain_lower M above s c bs w)
-
   upper_alone : rings_of N (c.face + length bs + 1) ≡ []
   upper_alone = plain_alone N s (c.face + length bs + 1) (plain_upper M above s c bs w)
 
@@ -169,7 +163,8 @@ module _ (M : Model) (above : List ℕ) (s : ℕ) (c : Taken) (bs : List ℕ) (w
   halves_kept = area_kept M N bs (λ h i. (start_old M above s c bs w h (w.cycle.halves h i).there, finish_old M above s c bs w h (w.cycle.halves h i).there))
 
   pub lower_normal : normal N (c.face + 1) ≡ negated (area M bs)
-  lower_normal = only_loop N (c.face + 1) (canonical (reverse (map mate bs))) lower_alone lower_content
+  lower_normal =
+      only_loop N (c.face + 1) (canonical (reverse (map mate bs))) (plain_alone N s (c.face + 1) (plain_lower M above s c bs w)) lower_content
       ∙ area_same N (canonical (reverse (map mate bs))) (map mate bs) (λ x. count-canonical x (reverse (map mate bs)) ∙ count-reverse x (map mate bs))
       ∙ area_mates N bs ∙ ap negated halves_kept
 
@@ -193,9 +188,6 @@ module _ (M : Model) (above : List ℕ) (s : ℕ) (c : Taken) (bs : List ℕ) (w
     some_mate : IsIn (mate (get_or bs 0 0)) (map mate bs)
     some_mate = IsIn-map mate (get_or bs 0 0) bs (half_in M above s c bs w 0 (omega (arith, w.cycle.two_halves)))
 
-    in_lower : (h : ℕ) → IsIn h (canonical (reverse (map mate bs))) → is_on p (start N h) ≡ true
-    in_lower h i = grind (arith, from_map, count-canonical, count-reverse, start_old, mate_there, ends_on)
-
     in_upper : (h : ℕ) → IsIn h (map minus (numbers_after c.edge (length bs))) → is_on p (start N h) ≡ true
     in_upper h i =
         let r = from_map minus h (numbers_after c.edge m) i in
@@ -211,7 +203,7 @@ module _ (M : Model) (above : List ℕ) (s : ℕ) (c : Taken) (bs : List ℕ) (w
       items = canonical (reverse (map mate bs));
       some_item = λ e. absurd (omega (arith, some_mate, ap (count (mate (get_or bs 0 0))) e, count-canonical (mate (get_or bs 0 0)) (reverse (map mate bs)), count-reverse (mate (get_or bs 0 0)) (map mate bs)));
       outer_is = lower_content;
-      on_plane = in_lower;
+      on_plane = (λ h i. grind (arith, from_map, count-canonical, count-reverse, start_old, mate_there, ends_on));
       across = ap (cross (direction p)) lower_normal ∙ cross_negated (direction p) (area M bs) cycle_across;
     }
 

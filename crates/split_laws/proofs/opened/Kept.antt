@@ -101,17 +101,10 @@ module _ (M N : Model) (swap : ℕ → ℕ) (w : Rewritten M N swap) where
     pub rings_are : rings_of N k ≡ rings_of M k
     rings_are = same_search ring_after ring_before N.loops M.loops (λ l. same_ring l (table.get M.loops l) refl)
 
-    loops_are : loops_of N k ≡ loops_of M k
-    unfolding loops_of
-    loops_are = λ i. outer_is i ∷ rings_are i
-
-    loop_there : (l : ℕ) → lists (loops_of M k) l ≡ true → Has M.loops l
-    unfolding loops_of
-    loop_there l i = grind (arith, listed_cases, outer_there, listed_passes)
-
     pub normal_is : normal N k ≡ normal M k
-    unfolding normal boundary
-    normal_is = ap (λ ls. area N (items_in N ls)) loops_are ∙ loops_area (loops_of M k) loop_there
+    unfolding normal boundary loops_of
+    normal_is = ap (λ ls. area N (items_in N ls)) (λ i. outer_is i ∷ rings_are i)
+        ∙ loops_area (loops_of M k) (λ l i. grind (arith, listed_cases, outer_there, listed_passes))
 
     pub outer_content : content N (outer N k) ≡ rewritten (map swap) (content M (outer M k))
     outer_content = ap (content N) outer_is ∙ content_is (outer M k) outer_there

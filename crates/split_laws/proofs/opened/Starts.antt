@@ -31,12 +31,6 @@ module _ (M : Model) (above : List ℕ) (s : ℕ) (c : Taken) (bs : List ℕ) (w
   abbrev m : ℕ
   m = length bs
 
-  abbrev mates : List ℕ
-  mates = map mate bs
-
-  abbrev copies : List (ℕ × ℕ)
-  copies = copied M c bs (length bs)
-
   abbrev N : Model
   N = opened_along M above s c bs
 
@@ -79,7 +73,8 @@ module _ (M : Model) (above : List ℕ) (s : ℕ) (c : Taken) (bs : List ℕ) (w
   -- ---- the edges round the cap above
 
   rim_edge : (j : ℕ) → j < m → table.get N.edges (c.edge + suc j) ≡ Some (rim_row c.vertex m j)
-  rim_edge j l = ap (λ t. table.get t (c.edge + suc j)) (edges_are M above s c bs) ∙ rim_at (table.map_rows (opened_row M above mates copies) M.edges) c.edge c.vertex m m j l
+  rim_edge j l = ap (λ t. table.get t (c.edge + suc j)) (edges_are M above s c bs)
+      ∙ rim_at (table.map_rows (opened_row M above (map mate bs) (copied M c bs (length bs))) M.edges) c.edge c.vertex m m j l
 
   -- the one half goes along the mate
   out_start : (j : ℕ) → j < m → start N (plus (c.edge + suc j)) ≡ start M (mate (get_or bs j 0))

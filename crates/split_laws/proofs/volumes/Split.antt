@@ -9,7 +9,7 @@ use Rattle.euler_operators.specs.Vectors.{dot}
 use Rattle.euler_operators.specs.Items.{SameItems, count}
 use Rattle.euler_operators.specs.Table as table
 use Rattle.euler_operators.specs.Table.{get-map_rows}
-use Rattle.euler_operators.specs.Model.{Model, FaceRow, no_face, tail, content, outer, point_of, rings_of, faces_of, solid_of}
+use Rattle.euler_operators.specs.Model.{Model, FaceRow, no_face, tail, content, outer, point_of, faces_of, solid_of}
 use Rattle.euler_operators.specs.Conditions.{lists, strictly_rises}
 use Rattle.euler_operators.specs.Effect.{part, faces_to_solid}
 use Rattle.euler_operators.specs.declared.Plane.{Plane}
@@ -83,13 +83,9 @@ module _ (M : Model) (s t : ℕ) (fs : List ℕ) where
   unfolding outer
   outer_same k = ap (λ o. (unwrap_or o no_face).outer) (row_is k) ∙ outer_in k (table.get M.faces k)
 
-  rings_same : (k : ℕ) → rings_of N k ≡ rings_of M k
-  unfolding part
-  rings_same k = ap (λ o. table.all_where (λ l row. nat_eq row.face k && not (nat_eq o l)) M.loops) (outer_same k)
-
   loops_same : (k : ℕ) → loops_of N k ≡ loops_of M k
-  unfolding loops_of
-  loops_same k = λ i. outer_same k i ∷ rings_same k i
+  unfolding loops_of part
+  loops_same k = λ i. outer_same k i ∷ (ap (λ o. table.all_where (λ l row. nat_eq row.face k && not (nat_eq o l)) M.loops) (outer_same k) i)
 
   pub normal_same : (k : ℕ) → normal N k ≡ normal M k
   unfolding normal boundary

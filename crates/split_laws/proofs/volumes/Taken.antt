@@ -1,5 +1,5 @@
 -- A cap that becomes a ring of another cap on the same plane: their normals add up, and so do what they add to the six volumes.
-use Rattle.std.proofs.Common.{◌≡◌, ◌≢◌, ℕ, ◌+◌, ℤ, ◌+ℤ◌, Bool, cond, not, nat_eq, ◌&&◌, List, [], ◌∷◌, ◌++◌, Option, Some, None, is_some, refl, sym, ap, ◌∙◌, subst, arith, true≢false, inl, inr}
+use Rattle.std.proofs.Common.{◌≡◌, ◌≢◌, ℕ, ◌+◌, ℤ, ◌+ℤ◌, Bool, cond, not, nat_eq, ◌&&◌, List, [], ◌∷◌, ◌++◌, Option, Some, None, is_some, refl, sym, ap, ◌∙◌, arith, true≢false, inl, inr}
 use Rattle.std.specs.Option.{option_map}
 use Rattle.std.proofs.lemmas.Bool.Decides.{eqb_tells}
 use Rattle.std.proofs.lemmas.Bool.{ne_eqb, eq-eqb}
@@ -137,11 +137,8 @@ module _ (M : Model) (p : Plane) (f g : ℕ) (w : CanTake M p f g) where
   abbrev ring_after : ℕ → ℕ → LoopRow → Bool
   ring_after k l row = nat_eq row.face k && not (nat_eq (outer N k) l)
 
-  own_g : face_of M (outer M g) ≡ g
-  own_g = (w.outers g w.g_there).1
-
   row_of_g : (l : ℕ) (row : LoopRow) → table.get M.loops l ≡ Some row → l ≡ outer M g → row.face ≡ g
-  row_of_g l row at e = sym (face_row M l row at) ∙ ap (face_of M) e ∙ own_g
+  row_of_g l row at e = sym (face_row M l row at) ∙ ap (face_of M) e ∙ (w.outers g w.g_there).1
 
   else_ring : (k l : ℕ) (row : LoopRow) → k ≢ g → l ≢ outer M g → passed (ring_after k) l (Some (loop_to_face (outer M g) f l row)) ≡ passed (ring_before k) l (Some row)
   else_ring k l row ne away = ap (λ b. one_if (ring_after k l (cond b (record row { face = f }) row))) (ne_eqb l (outer M g) away) ∙ ap (λ o. one_if (nat_eq row.face k && not (nat_eq o l))) (outer_same k ne)
@@ -157,7 +154,7 @@ module _ (M : Model) (p : Plane) (f g : ℕ) (w : CanTake M p f g) where
   rings_same k not_f not_g = same_search (ring_after k) (ring_before k) N.loops M.loops (λ l. ap (passed (ring_after k) l) (row_is l) ∙ same_ring k not_f not_g l (table.get M.loops l) refl)
 
   not_outer_f : outer M f ≢ outer M g
-  not_outer_f e = w.apart (sym (w.outers f w.f_there).1 ∙ ap (face_of M) e ∙ own_g)
+  not_outer_f e = w.apart (sym (w.outers f w.f_there).1 ∙ ap (face_of M) e ∙ (w.outers g w.g_there).1)
 
   more_ring : (l : ℕ) (o : Option LoopRow) → table.get M.loops l ≡ o → passed (ring_after f) l (option_map (loop_to_face (outer M g) f l) o) ≡ tick l (outer M g) + passed (ring_before f) l o
   more_ring l o e = grind (arith, tick_other, true≢false, passed, one_if, eq-eqb, ne_eqb, not_outer_f, outer_same, row_of_g, tick_same, else_ring)
@@ -205,15 +202,13 @@ module _ (M : Model) (p : Plane) (f g : ℕ) (w : CanTake M p f g) where
   solid_count : (u k : ℕ) → Has M.faces k → count k (faces_of M u) ≡ one_if (nat_eq (solid_of M k) u)
   solid_count u k there = count_where (of u) M.faces k ∙ ap (passed (of u) k) (face_there M k there)
 
-  with_g : SameItems (g ∷ faces_of N (solid_of M f)) (faces_of M (solid_of M f))
-  with_g k = grind (arith, solid_count, none_of_g, same_at)
-
   solid_keeps : six_volume N (solid_of M f) ≡ six_volume M (solid_of M f)
   unfolding six_volume
   solid_keeps =
       let s = solid_of M f in
       let here : count f (faces_of N s) ≡ 1 = same_at s f w.apart ∙ solid_count s f w.f_there ∙ ap one_if (eq-eqb s s refl) in
-      sum_with M N f (volume_of M g) volume_f (faces_of N s) here (λ k i ne. volume_other k ne (not_g_in s k i)) ∙ volume_same M (g ∷ faces_of N s) (faces_of M s) with_g
+      sum_with M N f (volume_of M g) volume_f (faces_of N s) here (λ k i ne. volume_other k ne (not_g_in s k i))
+      ∙ volume_same M (g ∷ faces_of N s) (faces_of M s) (λ k. grind (arith, solid_count, none_of_g, same_at))
 
   other_keeps : (u : ℕ) → u ≢ solid_of M f → six_volume N u ≡ six_volume M u
   unfolding six_volume
