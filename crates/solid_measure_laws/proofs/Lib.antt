@@ -1,3 +1,2 @@
-pub mod Inverted
-pub mod Closed
+pub mod Moved
 pub mod Cuts

@@ -1,4 +1,4 @@
-use Rattle.solid_measure_laws.proofs.Closed.{normal_kept, volume_moved, normals_close, volume_kept}
+use Rattle.solid_measure_laws.proofs.Moved.{normal_kept, volume_moved, normals_close, volume_kept}
 use Rattle.solid_measure_laws.proofs.moved_solids_keep_volumes.Goals as goal
 
 pub returns : goal.returns

@@ -1,37 +1,47 @@
 -- A model moved: normals stay, and volumes grow by the sum of the normals along the way, which is nothing over a whole solid.
-use Rattle.std.proofs.Common.{◌≡◌, ◌≢◌, ℕ, nat_eq, ℤ, pos, ◌+ℤ◌, ◌-ℤ◌, ◌*ℤ◌, true, List, [], ◌∷◌, ◌++◌, Option, Some, None, is_some, unwrap_or, refl, sym, ap, ◌∙◌, arith, true≢false, ◌+◌, ◌≤◌, Bool, false, cond, not, ◌&&◌, map, inl, inr}
+-- A model with its loops run the other way: a solid with flat faces, turned inside out.
+use Rattle.std.proofs.Common.{◌≡◌, ◌≢◌, ℕ, nat_eq, ℤ, pos, ◌+ℤ◌, ◌-ℤ◌, ◌*ℤ◌, true, List, [], ◌∷◌, ◌++◌, Option, Some, None, is_some, unwrap_or, refl, sym, ap, ◌∙◌, arith, true≢false, ◌+◌, ◌≤◌, Bool, false, cond, not, ◌&&◌, map, inl, inr, reverse, neg_ℤ}
 use Rattle.std.specs.Option.{option_map}
 use Rattle.std.proofs.lemmas.Int.{ints}
 use Rattle.euler_operators.specs.declared.Point.{Point}
-use Rattle.euler_operators.specs.Vectors.{origin, moved, dot, cross}
-use Rattle.euler_operators.specs.Items.{IsIn, count, tick}
+use Rattle.euler_operators.specs.Vectors.{origin, moved, dot, cross, same_point, is_on, direction}
+use Rattle.euler_operators.specs.Items.{IsIn, count, tick, SameItems, head_or}
 use Rattle.euler_operators.specs.HalfEdge.{mate}
 use Rattle.euler_operators.specs.Table as table
 use Rattle.euler_operators.specs.Table.{get-map_rows}
-use Rattle.euler_operators.specs.Model.{Model, LoopContent, lone, cycle, no_point, items_of, tail, content, outer, point_of, faces_of, has_half, holds, loop_of, face_of, solid_of, rings_of}
+use Rattle.euler_operators.specs.Model.{Model, LoopContent, lone, cycle, no_point, items_of, tail, content, outer, point_of, faces_of, has_half, holds, loop_of, face_of, solid_of, rings_of, LoopRow, no_loop, after}
 use Rattle.euler_operators.specs.Sound.{Sound, Has, HasHalf}
 use Rattle.euler_operators.proofs.Models.{in-holds, mate_there, holds_in, loop_there}
 use Rattle.euler_operators.specs.Conditions.{lists, strictly_rises}
 use Rattle.euler_laws.proofs.shared.Listed.{first_listed, rest_listed, listed_passes, listed_as, all_where-rises, IsIn-from_listed}
-use Rattle.shapes.specs.Faces.{start, finish, loops_of, items_in, boundary}
-use Rattle.shapes.specs.Measure.{area, normal, anchor, first_vertex, volume_in, six_volume}
+use Rattle.shapes.specs.Faces.{start, finish, loops_of, items_in, boundary, vertices_on, corners}
+use Rattle.shapes.specs.Measure.{area, normal, anchor, first_vertex, volume_in, six_volume, plane_of, is_flat}
 use Rattle.shapes.proofs.Areas.{area-append}
 use Rattle.euler_operators.proofs.Integers.{dif-parts, difs, same_dif}
 use Rattle.euler_operators.proofs.Vectors.{same_vector, moved_none, dot_moved, dot_turned, dot_origin, dot_sum, add_none}
-use Rattle.euler_operators.proofs.Members.{IsIn_rest}
-use Rattle.euler_operators.proofs.Rotations.{IsIn_head}
-use Rattle.shapes.specs.Vectors.{towards}
-use Rattle.solid_measure_laws.specs.Models.{shifted, normals_in}
+use Rattle.euler_operators.proofs.Members.{IsIn_rest, IsIn_first, each_mapped}
+use Rattle.euler_operators.proofs.Rotations.{IsIn_head, canonical_nil, count-canonical}
+use Rattle.shapes.specs.Vectors.{towards, negated}
+use Rattle.solid_measure_laws.specs.Models.{shifted, normals_in, run_back, row_back, turned}
 use Rattle.shapes.proofs.measures.Products.{cross_nothing}
 use Rattle.shapes.proofs.measures.Paths.{begins, Leads, loop_closed}
 use Rattle.std.proofs.lemmas.Bool.Decides.{nat_tests, eqb_tells}
 use Rattle.euler_operators.proofs.Lists.{count-append, tick_same, tick_other, IsIn_or_not}
-use Rattle.euler_operators.proofs.Halves.{edge_of-mate}
+use Rattle.euler_operators.proofs.Halves.{edge_of-mate, mate-mate}
 use Rattle.euler_laws.proofs.shared.Loops.{light}
 use Rattle.euler_laws.proofs.shared.Rows.{loop_row, face_there}
 use Rattle.shapes.proofs.walks.FaceLoops.{items_there}
 use Rattle.euler_laws.proofs.shared.Counted.{counted_once, none_counted}
-use Rattle.shapes.proofs.measures.Sums.{area_same, area_mates, own_opposite, count-mates}
+use Rattle.shapes.proofs.measures.Sums.{area_same, area_mates, own_opposite, count-mates, area_back, moved_back, dot_back}
+use Rattle.euler_operators.specs.Rings.{canonical, IsRing}
+use Rattle.euler_operators.proofs.Tables.{all_where-map}
+use Rattle.std.specs.List.{list_all}
+use Rattle.std.proofs.lemmas.Bool.{and_parts}
+use Rattle.euler_operators.specs.declared.Plane.{Plane}
+use Rattle.euler_operators.proofs.Std.{SameItems-from_permutation}
+use Rattle.std.proofs.lemmas.List.Sorted.{IsPermutation-reverse}
+use Rattle.euler_operators.proofs.Rings.{ring_stays}
+use Rattle.shapes.proofs.measures.FlatFaces.{list_parts, are_on, plane_told}
 
 -- ---- a path moved by d: from p over q to e
 
@@ -53,10 +63,10 @@ stays : (d e p : Point) → moved p (cross d (towards e e)) ≡ p
 stays d e p = ap (λ v. moved p (cross d v)) (nowhere e) ∙ ap (moved p) (cross_nothing d) ∙ moved_none p
 
 module _ (M : Model) (d : Point) where
-  abbrev after : Model
-  after = shifted M d
+  abbrev N : Model
+  N = shifted M d
 
-  tail_kept : (h : ℕ) → tail after h ≡ tail M h
+  tail_kept : (h : ℕ) → tail N h ≡ tail M h
   unfolding shifted tail
   tail_kept h = refl
 
@@ -64,81 +74,81 @@ module _ (M : Model) (d : Point) where
   point_in None e = absurd (true≢false (sym e))
   point_in (Some p) e = refl
 
-  pub point_moved : (v : ℕ) → Has M.vertices v → point_of after v ≡ moved (point_of M v) d
+  pub point_moved : (v : ℕ) → Has M.vertices v → point_of N v ≡ moved (point_of M v) d
   unfolding shifted point_of
   point_moved v there = ap (λ o. unwrap_or o no_point) (get-map_rows (λ _ p. moved p d) M.vertices v) ∙ point_in (table.get M.vertices v) there
 
-  content_kept : (l : ℕ) → content after l ≡ content M l
+  content_kept : (l : ℕ) → content N l ≡ content M l
   unfolding shifted content
   content_kept l = refl
 
-  outer_kept : (f : ℕ) → outer after f ≡ outer M f
+  outer_kept : (f : ℕ) → outer N f ≡ outer M f
   unfolding shifted outer
   outer_kept f = refl
 
-  loops_kept : (f : ℕ) → loops_of after f ≡ loops_of M f
+  loops_kept : (f : ℕ) → loops_of N f ≡ loops_of M f
   unfolding shifted loops_of outer
   loops_kept f = refl
 
-  faces_kept : (s : ℕ) → faces_of after s ≡ faces_of M s
+  faces_kept : (s : ℕ) → faces_of N s ≡ faces_of M s
   unfolding shifted
   faces_kept s = refl
 
-  items_kept : (ls : List ℕ) → items_in after ls ≡ items_in M ls
+  items_kept : (ls : List ℕ) → items_in N ls ≡ items_in M ls
   items_kept [] = refl
   items_kept (l ∷ ls) = λ i. items_of (content_kept l i) ++ items_kept ls i
 
   -- ---- normals
 
   module _ (sound : Sound M) where
-    start_moved : (h : ℕ) → HasHalf M h → start after h ≡ moved (start M h) d
-    start_moved h there = ap (point_of after) (tail_kept h) ∙ point_moved (tail M h) (sound.tails_there h there)
+    start_moved : (h : ℕ) → HasHalf M h → start N h ≡ moved (start M h) d
+    start_moved h there = ap (point_of N) (tail_kept h) ∙ point_moved (tail M h) (sound.tails_there h there)
 
-    finish_moved : (h : ℕ) → HasHalf M h → finish after h ≡ moved (finish M h) d
+    finish_moved : (h : ℕ) → HasHalf M h → finish N h ≡ moved (finish M h) d
     finish_moved h there = start_moved (mate h) (mate_there M h there)
 
-    path_moved : (hs : List ℕ) (e : Point) → Leads M hs e → ((h : ℕ) → IsIn h hs → HasHalf M h) → area after hs ≡ moved (area M hs) (cross d (towards (begins M hs e) e))
+    path_moved : (hs : List ℕ) (e : Point) → Leads M hs e → ((h : ℕ) → IsIn h hs → HasHalf M h) → area N hs ≡ moved (area M hs) (cross d (towards (begins M hs e) e))
     path_moved [] e leads there = sym (stays d e origin)
     path_moved (h ∷ hs) e leads there =
         let t = there h (IsIn_head h hs) in
         (λ i. moved (cross (start_moved h t i) (finish_moved h t i)) ((path_moved hs e leads.1 (λ g j. there g (IsIn_rest g h hs j)) ∙ ap (λ p. moved (area M hs) (cross d (towards p e))) (sym leads.0)) i))
         ∙ step_moved (start M h) (finish M h) d (area M hs) e
 
-    loop_moved : (l : ℕ) → area after (items_of (content M l)) ≡ area M (items_of (content M l))
+    loop_moved : (l : ℕ) → area N (items_of (content M l)) ≡ area M (items_of (content M l))
     loop_moved l = path_moved (items_of (content M l)) (begins M (items_of (content M l)) origin) (loop_closed M sound l) (λ h i. sound.only_edges h l (in-holds h (content M l) i)) ∙ ends (items_of (content M l)) where
       ends : (hs : List ℕ) → moved (area M hs) (cross d (towards (begins M hs (begins M hs origin)) (begins M hs origin))) ≡ area M hs
       ends [] = stays d origin (area M [])
       ends (h ∷ hs) = stays d (start M h) (area M (h ∷ hs))
 
-    loops_moved : (ls : List ℕ) → area after (items_in M ls) ≡ area M (items_in M ls)
+    loops_moved : (ls : List ℕ) → area N (items_in M ls) ≡ area M (items_in M ls)
     loops_moved [] = refl
-    loops_moved (l ∷ ls) = area-append after (items_of (content M l)) (items_in M ls) ∙ (λ i. moved (loop_moved l i) (loops_moved ls i)) ∙ sym (area-append M (items_of (content M l)) (items_in M ls))
+    loops_moved (l ∷ ls) = area-append N (items_of (content M l)) (items_in M ls) ∙ (λ i. moved (loop_moved l i) (loops_moved ls i)) ∙ sym (area-append M (items_of (content M l)) (items_in M ls))
 
     -- each face keeps its normal
-    pub normal_kept : (f : ℕ) → normal after f ≡ normal M f
+    pub normal_kept : (f : ℕ) → normal N f ≡ normal M f
     unfolding normal boundary
-    normal_kept f = ap (λ ls. area after (items_in after ls)) (loops_kept f) ∙ ap (area after) (items_kept (loops_of M f)) ∙ loops_moved (loops_of M f)
+    normal_kept f = ap (λ ls. area N (items_in N ls)) (loops_kept f) ∙ ap (area N) (items_kept (loops_of M f)) ∙ loops_moved (loops_of M f)
 
     -- ---- volumes
 
-    first_moved : (x : LoopContent) → x ≢ cycle [] → ((v : ℕ) → x ≡ lone v → Has M.vertices v) → ((h : ℕ) → IsIn h (items_of x) → HasHalf M h) → point_of after (first_vertex after x) ≡ moved (point_of M (first_vertex M x)) d
+    first_moved : (x : LoopContent) → x ≢ cycle [] → ((v : ℕ) → x ≡ lone v → Has M.vertices v) → ((h : ℕ) → IsIn h (items_of x) → HasHalf M h) → point_of N (first_vertex N x) ≡ moved (point_of M (first_vertex M x)) d
     first_moved (lone v) ne lones halves = point_moved v (lones v refl)
     first_moved (cycle []) ne lones halves = absurd (ne refl)
     first_moved (cycle (h ∷ hs)) ne lones halves = start_moved h (halves h (IsIn_head h hs))
 
-    anchor_moved : (f : ℕ) → Has M.faces f → anchor after f ≡ moved (anchor M f) d
+    anchor_moved : (f : ℕ) → Has M.faces f → anchor N f ≡ moved (anchor M f) d
     anchor_moved f there =
         let l = outer M f in
-        ap (λ k. point_of after (first_vertex after (content after k))) (outer_kept f) ∙ ap (λ x. point_of after (first_vertex after x)) (content_kept l)
+        ap (λ k. point_of N (first_vertex N (content N k))) (outer_kept f) ∙ ap (λ x. point_of N (first_vertex N x)) (content_kept l)
         ∙ first_moved (content M l) (λ e. (sound.cycles l [] (sound.outers_there f there).0 e).some_item refl) (λ v e. sound.lone_at_vertex l v e) (λ h i. sound.only_edges h l (in-holds h (content M l) i))
 
-    face_moved : (f : ℕ) → Has M.faces f → dot (anchor after f) (normal after f) ≡ dot (anchor M f) (normal M f) +ℤ dot d (normal M f)
+    face_moved : (f : ℕ) → Has M.faces f → dot (anchor N f) (normal N f) ≡ dot (anchor M f) (normal M f) +ℤ dot d (normal M f)
     face_moved f there = (λ i. dot (anchor_moved f there i) (normal_kept f i)) ∙ dot_moved (anchor M f) d (normal M f)
 
     exchanged : (a b c e : ℤ) → (a +ℤ b) +ℤ (c +ℤ e) ≡ (a +ℤ c) +ℤ (b +ℤ e)
     exchanged a b c e = omega (arith, ints)
 
-    faces_moved : (fs : List ℕ) → ((f : ℕ) → lists fs f ≡ true → Has M.faces f) → volume_in after fs ≡ volume_in M fs +ℤ dot d (normals_in M fs)
+    faces_moved : (fs : List ℕ) → ((f : ℕ) → lists fs f ≡ true → Has M.faces f) → volume_in N fs ≡ volume_in M fs +ℤ dot d (normals_in M fs)
     faces_moved [] there = sym (dot_origin d) ∙ dot_turned origin d ∙ sym (nothing (dot d origin)) where
       nothing : (a : ℤ) → pos 0 +ℤ a ≡ a
       nothing a = omega (arith, ints)
@@ -148,9 +158,9 @@ module _ (M : Model) (d : Point) where
         ∙ ap (λ t. volume_in M (f ∷ fs) +ℤ t) (sym (dot_sum d (normal M f) (normals_in M fs)))
 
     -- the six volumes grow by the sum of the normals along d
-    pub volume_moved : (s : ℕ) → six_volume after s ≡ six_volume M s +ℤ dot d (normals_in M (faces_of M s))
+    pub volume_moved : (s : ℕ) → six_volume N s ≡ six_volume M s +ℤ dot d (normals_in M (faces_of M s))
     unfolding six_volume
-    volume_moved s = ap (volume_in after) (faces_kept s) ∙ faces_moved (faces_of M s) (λ f i. ap is_some (listed_passes (λ _ row. nat_eq row.solid s) M.faces f i).1)
+    volume_moved s = ap (volume_in N) (faces_kept s) ∙ faces_moved (faces_of M s) (λ f i. ap is_some (listed_passes (λ _ row. nat_eq row.solid s) M.faces f i).1)
 
 -- ---- the normals of a solid's faces sum to nothing: each edge has both its halves there
 
@@ -262,3 +272,122 @@ module _ (M : Model) (sound : Sound M) where
     -- so a solid that is moved keeps its six volumes
     pub volume_kept : (d : Point) → six_volume (shifted M d) s ≡ six_volume M s
     volume_kept d = volume_moved M d sound s ∙ ap (λ v. six_volume M s +ℤ dot d v) normals_close ∙ ap (λ t. six_volume M s +ℤ t) (dot_turned d origin ∙ dot_origin d) ∙ add_none (six_volume M s)
+
+-- ---- a model with its loops run the other way, and a solid with flat faces turned inside out
+
+-- a loop run back, from its least item on
+abbrev back : List ℕ → List ℕ
+back hs = canonical (reverse (map mate hs))
+
+count_back : (x : ℕ) (hs : List ℕ) → count x (back hs) ≡ count (mate x) hs
+count_back x hs = count-canonical x (reverse (map mate hs)) ∙ sym (SameItems-from_permutation (map mate hs) (reverse (map mate hs)) (IsPermutation-reverse (map mate hs)) x) ∙ count-mates x hs
+
+module _ (M : Model) where
+  start_kept : (h : ℕ) → start (turned M) h ≡ start M h
+  unfolding turned tail point_of
+  start_kept h = refl
+
+  area_kept : (hs : List ℕ) → area (turned M) hs ≡ area M hs
+  area_kept [] = refl
+  area_kept (h ∷ hs) = λ i. moved (cross (start_kept h i) (start_kept (mate h) i)) (area_kept hs i)
+
+  pub outer_turned : (f : ℕ) → outer (turned M) f ≡ outer M f
+  unfolding turned outer
+  outer_turned f = refl
+
+  rings_kept : (f : ℕ) → rings_of (turned M) f ≡ rings_of M f
+  unfolding turned outer
+  rings_kept f = all_where-map (λ _ row. row_back row) (λ l row. nat_eq row.face f && not (nat_eq (outer M f) l)) M.loops
+
+  own_loops_turned : (f : ℕ) → loops_of (turned M) f ≡ loops_of M f
+  unfolding loops_of
+  own_loops_turned f = λ i. outer_turned f i ∷ rings_kept f i
+
+  content_in : (o : Option LoopRow) → (unwrap_or (option_map row_back o) no_loop).content ≡ run_back (unwrap_or o no_loop).content
+  content_in None = ap cycle (sym canonical_nil)
+  content_in (Some row) = refl
+
+  pub content_turned : (l : ℕ) → content (turned M) l ≡ run_back (content M l)
+  unfolding turned content
+  content_turned l = ap (λ o. (unwrap_or o no_loop).content) (get-map_rows (λ _ row. row_back row) M.loops l) ∙ content_in (table.get M.loops l)
+
+  back_area : (x : LoopContent) → area M (items_of (run_back x)) ≡ negated (area M (items_of x))
+  back_area (lone v) = refl
+  back_area (cycle hs) = area_same M (canonical (reverse (map mate hs))) (reverse (map mate hs)) (λ x. count-canonical x (reverse (map mate hs))) ∙ area_back M hs
+
+  loops_turned : (ls : List ℕ) → area M (items_in (turned M) ls) ≡ negated (area M (items_in M ls))
+  loops_turned [] = refl
+  loops_turned (l ∷ ls) = area-append M (items_of (content (turned M) l)) (items_in (turned M) ls)
+      ∙ (λ i. moved ((ap (λ x. area M (items_of x)) (content_turned l) ∙ back_area (content M l)) i) (loops_turned ls i))
+      ∙ moved_back (area M (items_of (content M l))) (area M (items_in M ls))
+      ∙ ap negated (sym (area-append M (items_of (content M l)) (items_in M ls)))
+
+  pub normal_turned : (f : ℕ) → normal (turned M) f ≡ negated (normal M f)
+  unfolding normal boundary
+  normal_turned f = area_kept (items_in (turned M) (loops_of (turned M) f)) ∙ ap (λ ls. area M (items_in (turned M) ls)) (own_loops_turned f) ∙ loops_turned (loops_of M f)
+
+  -- the other halves of a face's half-edges, in any order
+  pub normal_opposed : (f g : ℕ) → SameItems (boundary M g) (map mate (boundary M f)) → normal M g ≡ negated (normal M f)
+  unfolding normal
+  normal_opposed f g s = area_same M (boundary M g) (map mate (boundary M f)) s ∙ area_mates M (boundary M f)
+
+  point_kept : (v : ℕ) → point_of (turned M) v ≡ point_of M v
+  unfolding turned point_of
+  point_kept v = refl
+
+  tail_turned : (h : ℕ) → tail (turned M) h ≡ tail M h
+  unfolding turned tail
+  tail_turned h = refl
+
+  faces_turned : (s : ℕ) → faces_of (turned M) s ≡ faces_of M s
+  unfolding turned
+  faces_turned s = refl
+
+  first_kept : (x : LoopContent) → first_vertex (turned M) x ≡ first_vertex M x
+  first_kept (lone v) = refl
+  first_kept (cycle hs) = tail_turned (head_or 0 hs)
+
+  anchor_is : (f : ℕ) → anchor (turned M) f ≡ point_of M (first_vertex M (run_back (content M (outer M f))))
+  anchor_is f = point_kept (first_vertex (turned M) (content (turned M) (outer (turned M) f)))
+      ∙ ap (point_of M) (first_kept (content (turned M) (outer (turned M) f)))
+      ∙ ap (λ x. point_of M (first_vertex M x)) (ap (content (turned M)) (outer_turned f) ∙ content_turned (outer M f))
+
+  module _ (s : Plane) (next : ℕ → ℕ) where
+    -- the first corner of a loop that is run back is one of its corners
+    first_back : (x : LoopContent) → x ≢ cycle [] → IsRing next (items_of x) → ((g : ℕ) → IsIn g (items_of x) → tail M (next g) ≡ tail M (mate g)) →
+        are_on M s (vertices_on M x) ≡ true → is_on s (point_of M (first_vertex M (run_back x))) ≡ true
+    first_back (lone v) ne ring meet on = (and_parts _ _ on).0
+    first_back (cycle []) ne ring meet on = absurd (ne refl)
+    first_back (cycle (h ∷ hs)) ne ring meet on =
+        let ks = back (h ∷ hs) in
+        let k = head_or 0 ks in
+        let there : IsIn (mate h) ks = omega (arith, count_back (mate h) (h ∷ hs), ap (λ x. count x (h ∷ hs)) (mate-mate h), IsIn_head h hs) in
+        let g : IsIn (mate k) (h ∷ hs) = omega (arith, count_back k (h ∷ hs), IsIn_first ks (mate h) there) in
+        ap (λ v. is_on s (point_of M v)) (ap (tail M) (sym (mate-mate k)) ∙ sym (meet (mate k) g))
+        ∙ each_mapped (λ v. is_on s (point_of M v)) (tail M) (h ∷ hs) (next (mate k)) on (ring_stays next (h ∷ hs) (mate k) ring g)
+
+  module _ (sound : Sound M) where
+    anchor_on : (f : ℕ) (s : Plane) → Has M.faces f → are_on M s (corners M f) ≡ true → is_on s (anchor (turned M) f) ≡ true
+    unfolding corners loops_of
+    anchor_on f s there on =
+        let l = outer M f in
+        ap (is_on s) (anchor_is f) ∙ first_back s (after M) (content M l) (λ e. (sound.cycles l [] (sound.outers_there f there).0 e).some_item refl) (light M sound l).1
+        (λ g i. sound.ends_meet g (sound.only_edges g l (in-holds g (content M l) i))) (list_parts (λ v. is_on s (point_of M v)) (vertices_on M (content M l)) _ on).0
+
+    face_inverted : (f : ℕ) → Has M.faces f → is_flat M f ≡ true → dot (anchor (turned M) f) (normal (turned M) f) ≡ neg_ℤ (dot (anchor M f) (normal M f))
+    unfolding is_flat
+    face_inverted f there flat =
+        let on = (and_parts (not (same_point (direction (plane_of M f)) origin)) (are_on M (plane_of M f) (corners M f)) flat).1 in
+        ap (dot (anchor (turned M) f)) (normal_turned f) ∙ dot_back (anchor (turned M) f) (normal M f) ∙ ap neg_ℤ (plane_told M f (anchor (turned M) f) (anchor_on f (plane_of M f) there on))
+
+    faces_inverted : (fs : List ℕ) → ((f : ℕ) → lists fs f ≡ true → Has M.faces f) → list_all (is_flat M) fs ≡ true → volume_in (turned M) fs ≡ neg_ℤ (volume_in M fs)
+    faces_inverted [] there flat = refl
+    faces_inverted (f ∷ fs) there flat =
+        let a = and_parts (is_flat M f) (list_all (is_flat M) fs) flat in
+        (λ i. face_inverted f (there f (first_listed f fs)) a.0 i +ℤ faces_inverted fs (λ g j. there g (rest_listed f g fs j)) a.1 i) ∙ both (dot (anchor M f) (normal M f)) (volume_in M fs) where
+          both : (a b : ℤ) → neg_ℤ a +ℤ neg_ℤ b ≡ neg_ℤ (a +ℤ b)
+          both a b = omega (arith, ints)
+
+    pub volume_inverted : (s : ℕ) → list_all (is_flat M) (faces_of M s) ≡ true → six_volume (turned M) s ≡ neg_ℤ (six_volume M s)
+    unfolding six_volume
+    volume_inverted s flat = ap (volume_in (turned M)) (faces_turned s) ∙ faces_inverted (faces_of M s) (λ f i. ap is_some (listed_passes (λ _ row. nat_eq row.solid s) M.faces f i).1) flat
