@@ -8,11 +8,11 @@ use Rattle.euler_operators.specs.Vectors.{moved, dot}
 use Rattle.euler_operators.specs.Items.{count, IsIn, head_or, SameItems}
 use Rattle.euler_operators.specs.Rings.{canonical, successor}
 use Rattle.euler_operators.proofs.Lists.{tick_same, tick_other, count-append}
-use Rattle.euler_operators.proofs.Rotations.{count-canonical, canonical_nil}
+use Rattle.euler_operators.proofs.Rotations.{count-canonical, canonical_nil, IsIn_head}
 use Rattle.euler_operators.proofs.Maps.{from_map}
 use Rattle.euler_operators.specs.Table as table
 use Rattle.euler_operators.specs.Table.{Table, tables, get-map_rows}
-use Rattle.euler_operators.specs.Model.{Model, LoopContent, lone, cycle, FaceRow, LoopRow, no_face, no_loop, items_of, tail, content, face_of, outer, solid_of, point_of, rings_of, faces_of, after, cycle_of}
+use Rattle.euler_operators.specs.Model.{Model, LoopContent, lone, cycle, FaceRow, LoopRow, no_face, no_loop, items_of, tail, content, face_of, outer, solid_of, point_of, rings_of, faces_of, after, cycle_of, holds}
 use Rattle.euler_operators.specs.Sound.{Has, StandsIn}
 use Rattle.euler_operators.proofs.Models.{in-holds, face_row}
 use Rattle.euler_operators.proofs.Members.{IsIn_first, IsIn_some_head}
@@ -28,13 +28,15 @@ use Rattle.shapes.proofs.measures.FlatFaces.{corner_told}
 use Rattle.shapes.proofs.measures.Sums.{area_same, area_renamed, area_opposed, dot_back}
 use Rattle.gluing_laws.proofs.Listed.{one_if, passed, same_search, volume_of, count_where, volume_append, volume_same, same_volumes}
 use Rattle.gluing_laws.proofs.Seams as seams
-use Rattle.gluing_laws.proofs.Seams.{Seamed, Glued, Stays}
+use Rattle.gluing_laws.proofs.Seams.{Seamed, Glued, Stays, side}
 use Rattle.std.proofs.lemmas.Int.{ints}
 use Rattle.euler_operators.proofs.Rings.{IsIn_successor}
 use Rattle.euler_laws.proofs.shared.Rows.{face_there, solid_either}
 use Rattle.euler_laws.proofs.shared.Same.{mapped_some}
 use Rattle.euler_operators.proofs.Vectors.{none_added}
 use Rattle.shapes.specs.Vectors.{negated}
+use Rattle.euler_operators.specs.HalfEdge.{mate}
+use Rattle.shapes.proofs.glue.Renamings.{renamed_not}
 
 -- ---- corners
 
@@ -70,6 +72,12 @@ of_both a s t ne = grind (arith, eqb_tells, one_if, eq-eqb, ne_eqb)
 
 was_either : (a s t : ℕ) → nat_eq (cond (nat_eq a t) s a) s ≡ true → (a ≡ s) ⊎ (a ≡ t)
 was_either a s t is = grind (arith, eqb_tells, eqb-true)
+
+-- ---- the solids that aren't glued keep their six volumes
+
+-- a solid that is neither s nor t has the faces that it had
+of_neither : (a s t u : ℕ) → u ≢ s → u ≢ t → one_if (nat_eq (cond (nat_eq a t) s a) u) ≡ one_if (nat_eq a u)
+of_neither a s t u not_s not_t = grind (arith, eqb_tells, one_if, ne_eqb)
 
 module _ {M N : Model} {f g : ℕ} {partner_of : ℕ → ℕ} {hs gs : List ℕ} (w : Seamed M f g partner_of hs gs) (n : Glued M N f g partner_of hs) where
   abbrev swap : ℕ → ℕ
@@ -250,19 +258,16 @@ module _ {M N : Model} {f g : ℕ} {partner_of : ℕ → ℕ} {hs gs : List ℕ}
   abbrev of : ℕ → ℕ → FaceRow → Bool
   of u k row = nat_eq row.solid u
 
-  abbrev left : Table FaceRow
-  left = table.remove (table.remove M.faces f) g
-
-  left_f : table.get left f ≡ None
+  left_f : table.get faces_left f ≡ None
   left_f = grind (arith, nat_tests, tables)
 
-  left_g : table.get left g ≡ None
+  left_g : table.get faces_left g ≡ None
   left_g = grind (arith, nat_tests, tables)
 
-  free_after : (k : ℕ) → table.get left k ≡ None → table.get N.faces k ≡ None
+  free_after : (k : ℕ) → table.get faces_left k ≡ None → table.get N.faces k ≡ None
   free_after k e = face_at_row k ∙ ap (option_map (to_s k)) e
 
-  none_after : (k : ℕ) → table.get left k ≡ None → count k (faces_of N s) ≡ 0
+  none_after : (k : ℕ) → table.get faces_left k ≡ None → count k (faces_of N s) ≡ 0
   none_after k e = count_where (of s) N.faces k ∙ ap (passed (of s) k) (free_after k e)
 
   of_solid : (k u : ℕ) → Has M.faces k → count k (faces_of M u) ≡ one_if (nat_eq (solid_of M k) u)
@@ -291,8 +296,8 @@ module _ {M N : Model} {f g : ℕ} {partner_of : ℕ → ℕ} {hs gs : List ℕ}
   same_faces : SameItems (f ∷ g ∷ faces_of N s) (faces_of M s ++ faces_of M t)
   same_faces k = grind (arith, eqb_tells, at_f, at_g, at_other)
 
-  not_free : (k j : ℕ) → table.has N.faces k ≡ true → table.get left j ≡ None → k ≢ j
-  not_free k j there e q = true≢false (sym there ∙ ap is_some (free_after k (ap (table.get left) q ∙ e)))
+  not_free : (k j : ℕ) → table.has N.faces k ≡ true → table.get faces_left j ≡ None → k ≢ j
+  not_free k j there e q = true≢false (sym there ∙ ap is_some (free_after k (ap (table.get faces_left) q ∙ e)))
 
   -- each adds what it did
   each_kept : (k : ℕ) → lists (faces_of N s) k ≡ true → volume_of N k ≡ volume_of M k
@@ -313,3 +318,76 @@ module _ {M N : Model} {f g : ℕ} {partner_of : ℕ → ℕ} {hs gs : List ℕ}
       ∙ sym (none_added (volume_of M f) (volume_of M g) (volume_in M (faces_of N s)) both_nothing)
       ∙ volume_same M (f ∷ g ∷ faces_of N s) (faces_of M s ++ faces_of M t) same_faces
       ∙ volume_append M (faces_of M s) (faces_of M t)
+
+  module _ (u : ℕ) (not_s : u ≢ solid_of M f) (not_t : u ≢ solid_of M g) where
+    face_gone : (k : ℕ) → table.get faces_left k ≡ None → Has M.faces k → solid_of M k ≢ u → passed (of u) k (table.get N.faces k) ≡ passed (of u) k (table.get M.faces k)
+    face_gone k e there ne = ap (passed (of u) k) (face_at_row k ∙ ap (option_map (to_s k)) e)
+        ∙ sym (ap (passed (of u) k) (face_there M k there) ∙ ap one_if (ne_eqb (solid_of M k) u ne))
+
+    row_kept : (k : ℕ) (o : Option FaceRow) → passed (of u) k (option_map (to_s k) o) ≡ passed (of u) k o
+    row_kept k None = refl
+    row_kept k (Some row) = ap (λ v. one_if (nat_eq v u)) (solid_either (nat_eq row.solid (solid_of M g)) row (solid_of M f)) ∙ of_neither row.solid (solid_of M f) (solid_of M g) u not_s not_t
+
+    faces_are : faces_of N u ≡ faces_of M u
+    faces_are = same_search (of u) (of u) N.faces M.faces (λ k. elim (eqb_tells k f) [
+      | inl e ↦ face_gone k (grind (arith, nat_tests, tables)) (ap (table.has M.faces) e.1 ∙ w.f_there) (λ q. not_s (sym q ∙ ap (solid_of M) e.1))
+      | inr a ↦ elim (eqb_tells k g) [
+        | inl e ↦ face_gone k (grind (arith, nat_tests, tables)) (ap (table.has M.faces) e.1 ∙ w.g_there) (λ q. not_t (sym q ∙ ap (solid_of M) e.1))
+        | inr b ↦ ap (passed (of u) k) (other_face k a.1 b.1) ∙ row_kept k (table.get M.faces k)
+      ]
+    ])
+
+    module _ (k : ℕ) (there : Has M.faces k) (is_of : solid_of M k ≡ u) where
+      abbrev l : ℕ
+      l = outer M k
+
+      not_f : k ≢ f
+      not_f e = not_s (sym is_of ∙ ap (solid_of M) e)
+
+      not_g : k ≢ g
+      not_g e = not_t (sym is_of ∙ ap (solid_of M) e)
+
+      own_loop : face_of M l ≡ k
+      own_loop = (w.sound.outers_there k there).1
+
+      stands : (cs : List ℕ) (y : ℕ) → content M l ≡ cycle cs → IsIn y cs → StandsIn M y l
+      stands cs y is i = ap (λ c. holds y c) is ∙ in-holds y (cycle cs) i
+
+      side_is : (cs : List ℕ) (y : ℕ) → content M l ≡ cycle cs → IsIn y cs → side w y ≡ u
+      side_is cs y is i = ap (λ q. solid_of M (face_of M q)) (w.sound.one_loop y l (stands cs y is i)) ∙ ap (solid_of M) own_loop ∙ is_of
+
+      -- nothing there is replaced
+      swap_not : (cs : List ℕ) (y : ℕ) → content M l ≡ cycle cs → IsIn y cs → swap y ≡ y
+      swap_not cs y is i = renamed_not (λ h. mate (partner_of h)) (λ h. h) hs y (λ h j e.
+          let p = seams.partner_in w h j in
+          not_t (sym (side_is cs y is i) ∙ ap (side w) (sym e) ∙ seams.side_mate w (partner_of h) (seams.half_g w (partner_of h) p) ∙ seams.side_g w (partner_of h) p))
+
+      all_stay : (cs xs : List ℕ) → content M l ≡ cycle cs → ((x : ℕ) → IsIn x xs → IsIn x cs) → map swap xs ≡ xs
+      all_stay cs [] is within = refl
+      all_stay cs (x ∷ xs) is within = λ i. swap_not cs x is (within x (IsIn_head x xs)) i ∷ all_stay cs xs is (λ y j. within y (omega (arith, j))) i
+
+      anchor_stays : (c : LoopContent) → c ≢ cycle [] → content M l ≡ c → point_of N (first_vertex N (rewritten (map swap) c)) ≡ point_of M (first_vertex M c)
+      anchor_stays (lone v) ne is = seams.point_kept w n v (λ h i e. w.sound.lone_is_no_tail l (partner_of h) (seams.half_g w (partner_of h) (seams.partner_in w h i)) (is ∙ ap lone (sym e)))
+      anchor_stays (cycle []) ne is = absurd (ne refl)
+      anchor_stays (cycle (c ∷ cs)) ne is =
+          let i : IsIn c (c ∷ cs) = IsIn_head c cs in
+          let s : StandsIn M c l = stands (c ∷ cs) c is i in
+          let least : canonical (c ∷ cs) ≡ c ∷ cs = (w.sound.cycles l (c ∷ cs) (w.sound.outers_there k there).0 is).from_least in
+          ap (λ xs. point_of N (tail N (head_or 0 (canonical xs)))) (all_stay (c ∷ cs) (c ∷ cs) is (λ x j. j))
+          ∙ ap (λ xs. point_of N (tail N (head_or 0 xs))) least
+          ∙ ap (start N) (sym (swap_not (c ∷ cs) c is i))
+          ∙ (seams.swapped w n c (w.sound.only_edges c l s) (λ e. (loop_else k there not_f not_g l own_loop).1 (sym (w.sound.one_loop c l s) ∙ e))).0
+
+      anchor_is : anchor N k ≡ anchor M k
+      anchor_is =
+          let a = loop_else k there not_f not_g l own_loop in
+          ap (λ c. point_of N (first_vertex N c)) (ap (content N) (outer_is k there not_f not_g) ∙ content_is l a.0 a.1)
+          ∙ anchor_stays (content M l) (λ e. (w.sound.cycles l [] (w.sound.outers_there k there).0 e).some_item refl) refl
+
+      pub volume_stays : volume_of N k ≡ volume_of M k
+      volume_stays = λ i. dot (anchor_is i) (normal_is k there not_f not_g i)
+
+    pub others_stay : six_volume N u ≡ six_volume M u
+    unfolding six_volume
+    others_stay = ap (volume_in N) faces_are
+        ∙ same_volumes M N (faces_of M u) (λ k i. grind (arith, listed_passes, volume_stays, eqb-true, listed_as, face_there))
