@@ -1,4 +1,3 @@
 pub mod Bounds
-pub mod Draws
 pub mod Volumes
 pub mod DrawWhole

@@ -1,4 +1,3 @@
-pub mod Rows
 pub mod Cycle
 pub mod Copied
 pub mod Strip

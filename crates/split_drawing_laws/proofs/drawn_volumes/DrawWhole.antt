@@ -28,7 +28,7 @@ use Rattle.split_drawing_laws.proofs.drawings.Drawn.{CanDraw, CanJoin}
 use Rattle.split_drawing_laws.proofs.drawings.Rings.{RingOf, Newer, ring_faces}
 use Rattle.split_drawing_laws.proofs.face_sides.Beside.{never_free}
 use Rattle.split_drawing_laws.proofs.drawn_volumes.Bounds.{OnFace, on_face, face_on}
-use Rattle.split_drawing_laws.proofs.drawn_volumes.Draws as draws
+use Rattle.split_drawing_laws.proofs.drawn_volumes.Bounds as draws
 use Rattle.split_drawing_laws.proofs.drawn_volumes.Volumes as moves
 use Rattle.split_drawing_laws.proofs.drawn_volumes.Volumes.{CanMove, IsPlane, draw_volumes, join_volumes, move_volumes}
 use Rattle.split_drawing_laws.proofs.drawings.Faces.{between_keeps}

@@ -26,7 +26,7 @@ use Rattle.shapes.proofs.measures.FlatFaces.{anchor_on, told_anywhere}
 use Rattle.shapes.specs.split.Drawing.{face_drawn, loops_joined}
 use Rattle.split_drawing_laws.proofs.drawings.Drawn.{CanDraw, CanJoin}
 use Rattle.euler_operators.proofs.Vectors.{dot_sum}
-use Rattle.split_drawing_laws.proofs.drawn_volumes.Draws as draws
+use Rattle.split_drawing_laws.proofs.drawn_volumes.Bounds as draws
 use Rattle.split_drawing_laws.proofs.cut_volumes.Told.{counted_in, counted_out, same_count, six_is, changed_one}
 use Rattle.split_drawing_laws.proofs.crossings.Premises.{solid_facts}
 
@@ -49,31 +49,24 @@ module _ (N : Model) (f l k : ℕ) (can : CanMove N f l k) where
 
   -- ---- planes
 
-  -- another face than k lies on its planes
-  pub else_on : (t : Plane) (g : ℕ) → g ≢ k → OnFace N t g → OnFace (ring_in N l k) t g
-  else_on t g ne w = record {
+  -- a face lies on its planes, and k on those of both
+  now_on : (t : Plane) (g : ℕ) → OnFace N t g → (g ≡ k → OnFace N t f) → OnFace X t g
+  now_on t g w too = record {
     halves = λ h now at. let was = ring_back N l k can.sound can.goes h now in ap (is_on t) (start_still N X can.sound (ring_stays N l k can.sound can.goes) h was) ∙ elim (eqb_tells (loop_of N h) l) [
-      | inl s ↦ absurd (ne (sym at ∙ (gone h was s.1).1))
+      | inl s ↦ (too (sym at ∙ (gone h was s.1).1)).halves h was (gone h was s.1).0
       | inr s ↦ w.halves h was (sym (face_kept N l k can.sound can.goes h was s.1) ∙ at)
     ];
     lones = λ q v at is. ap (is_on t) (point_still N X can.sound (ring_stays N l k can.sound can.goes) v) ∙ elim (eqb_tells q l) [
-      | inl s ↦ absurd (ne (sym at ∙ ap (face_of X) s.1 ∙ moving.face_l N can.sound l k can.goes))
+      | inl s ↦ (too (sym at ∙ ap (face_of X) s.1 ∙ moving.face_l N can.sound l k can.goes)).lones q v (ap (face_of N) s.1 ∙ can.face) (sym ((same_walks N l k can.sound can.goes).contents q) ∙ is)
       | inr s ↦ w.lones q v (sym (face_else N l k can.sound can.goes q s.1) ∙ at) (sym ((same_walks N l k can.sound can.goes).contents q) ∙ is)
     ];
   }
 
-  -- and k on those of both
+  pub else_on : (t : Plane) (g : ℕ) → g ≢ k → OnFace N t g → OnFace (ring_in N l k) t g
+  else_on t g ne w = now_on t g w (λ e. absurd (ne e))
+
   pub moved_on : (t : Plane) → OnFace N t f → OnFace N t k → OnFace (ring_in N l k) t k
-  moved_on t a b = record {
-    halves = λ h now at. let was = ring_back N l k can.sound can.goes h now in ap (is_on t) (start_still N X can.sound (ring_stays N l k can.sound can.goes) h was) ∙ elim (eqb_tells (loop_of N h) l) [
-      | inl s ↦ a.halves h was (gone h was s.1).0
-      | inr s ↦ b.halves h was (sym (face_kept N l k can.sound can.goes h was s.1) ∙ at)
-    ];
-    lones = λ q v at is. ap (is_on t) (point_still N X can.sound (ring_stays N l k can.sound can.goes) v) ∙ elim (eqb_tells q l) [
-      | inl s ↦ a.lones q v (ap (face_of N) s.1 ∙ can.face) (sym ((same_walks N l k can.sound can.goes).contents q) ∙ is)
-      | inr s ↦ b.lones q v (sym (face_else N l k can.sound can.goes q s.1) ∙ at) (sym ((same_walks N l k can.sound can.goes).contents q) ∙ is)
-    ];
-  }
+  moved_on t a b = now_on t k b (λ e. a)
 
   -- ---- normals
 

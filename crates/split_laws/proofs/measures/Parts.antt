@@ -16,8 +16,7 @@ use Rattle.split_drawing_laws.proofs.face_sides.Begun.{none_lone}
 use Rattle.split_laws.specs.volumes.Laws.{CanBeSplit}
 use Rattle.split_laws.proofs.volumes.Split.{both_there, split_shares, split_keeps}
 use Rattle.split_laws.specs.sides.Sided.{IsOfSolid}
-use Rattle.split_laws.proofs.sides.Sides.{parts_sided, NoneLone, parts_none}
-use Rattle.split_laws.proofs.sides.Vertices.{vertices_fail}
+use Rattle.split_laws.proofs.sides.Sides.{parts_sided, NoneLone, parts_none, vertices_fail}
 use Rattle.split_laws.proofs.drawn.Drawn.{begins, never_stuck}
 use Rattle.split_laws.proofs.Whole.{split_sound}
 use Rattle.split_laws.proofs.measures.Splittable.{drawn_sided, s_there, can_be_split}

@@ -38,7 +38,7 @@ use Rattle.split_laws.specs.opened.Laws.{LieOn}
 use Rattle.split_laws.specs.opened.Told.{AllTellAlike}
 use Rattle.split_laws.specs.volumes.Laws.{CanBeSplit}
 use Rattle.split_laws.specs.sides.Sided.{IsOnSide, AreSided}
-use Rattle.split_laws.proofs.sides.Vertices.{begun_sided}
+use Rattle.split_laws.proofs.sides.Sides.{begun_sided}
 use Rattle.split_laws.specs.drawn.Kept.{HasFace}
 use Rattle.split_laws.proofs.drawn.Drawn.{some_above, begins, never_stuck, no_stray, drawn_sound, t_free, can_open_all, no_caps}
 

@@ -22,10 +22,9 @@ use Rattle.split_opening_laws.specs.strips.Opened.{CanBeOpened}
 use Rattle.split_opening_laws.specs.strips.Strips.{copied}
 use Rattle.split_opening_laws.proofs.strips.Copied.{points_next}
 use Rattle.split_opening_laws.proofs.strips.Cycle.{next_within, low_vertex, next_copy}
-use Rattle.split_opening_laws.proofs.strips.Rows.{length-numbers_after, numbers_at, renamed_cases}
+use Rattle.split_opening_laws.proofs.sections.Pairs.{length-numbers_after, numbers_at, renamed_cases, rim_row, rim_at}
 use Rattle.split_opening_laws.proofs.sections.OpenedRows.{edges_are, vertices_are, tail_is}
 use Rattle.split_laws.proofs.Flags.{vertex_still}
-use Rattle.split_opening_laws.proofs.sections.Pairs.{rim_row, rim_at}
 
 module _ (M : Model) (above : List ℕ) (s : ℕ) (c : Taken) (bs : List ℕ) (w : CanBeOpened M above s c bs) where
   abbrev m : ℕ

@@ -1,5 +1,4 @@
-use Rattle.split_laws.proofs.sides.Vertices.{begun_sided}
-use Rattle.split_laws.proofs.sides.Sides.{openings_sided, parts_sided}
+use Rattle.split_laws.proofs.sides.Sides.{begun_sided, openings_sided, parts_sided}
 use Rattle.split_laws.proofs.parts_lie_on_their_sides.Goals as goal
 
 pub returns : goal.returns

@@ -19,6 +19,7 @@ use Rattle.euler_operators.proofs.Tables.{get-remove_other, remove_turned, get-p
 use Rattle.euler_operators.proofs.Rotations.{canonical-rotates, canonical_same, rest_same, rest_at}
 use Rattle.euler_operators.proofs.Halves.{minus_row, code-half, mate_minus}
 use Rattle.euler_operators.proofs.Models.{same_face}
+use Rattle.euler_operators.proofs.Maps.{from_map}
 use Rattle.euler_laws.proofs.mef.KefSound as kill
 use Rattle.euler_laws.proofs.mef.KefSound.{KefGoes}
 use Rattle.euler_laws.proofs.mef.Kef.{kef_accepted}
@@ -28,6 +29,7 @@ use Rattle.shapes.specs.Rewriting.{without_rows}
 use Rattle.shapes.specs.Prism.{next_place}
 use Rattle.sweeps_laws.proofs.lamina.Lists.{canonical_first, numbers_last}
 use Rattle.sweeps_laws.proofs.prism.Sides.{next_inner}
+use Rattle.split_opening_laws.proofs.sections.Pairs.{in_numbers}
 use Rattle.split_opening_laws.specs.caps.Strips.{HasStrips, strip_riser}
 use Rattle.split_opening_laws.specs.caps.Caps.{joined_loop, joined_part}
 
@@ -36,16 +38,9 @@ use Rattle.split_opening_laws.specs.caps.Caps.{joined_loop, joined_part}
 pub next_number : (k n : ℕ) → k + 1 + suc n ≡ k + suc (suc n)
 next_number k n = omega arith
 
-minus_above : (k n x : ℕ) → IsIn x (map minus (numbers_after k n)) → minus k ≤ x
-minus_above k zero x i = absurd (omega (arith, i))
-minus_above k (suc n) x i = elim (eqb_tells x (minus (k + 1))) [
-  | inl e ↦ omega (arith, e.1)
-  | inr ne ↦ let r = minus_above (k + 1) n x (omega (arith, i, tick_other x (minus (k + 1)) ne.1)) in omega (arith, r)
-]
-
 -- the halves of a run of edges stand in their canonical form
 pub canonical_run : (k n : ℕ) → canonical (map minus (numbers_after k (suc n))) ≡ map minus (numbers_after k (suc n))
-canonical_run k n = canonical_first (minus (k + 1)) (map minus (numbers_after (k + 1) n)) (λ y i. minus_above (k + 1) n y i)
+canonical_run k n = canonical_first (minus (k + 1)) (map minus (numbers_after (k + 1) n)) (λ y i. let m = from_map minus y (numbers_after (k + 1) n) i in omega (arith, m.2, (in_numbers (k + 1) n m.0 m.1).0))
 
 -- ---- rows
 

@@ -26,14 +26,13 @@ use Rattle.split_opening_laws.specs.caps.Caps.{capped}
 use Rattle.split_opening_laws.specs.strips.StripOps.{strip_ops, copy_ops}
 use Rattle.split_opening_laws.specs.caps.CapOps.{cap_ops}
 use Rattle.split_opening_laws.specs.opening.OpeningOps.{opening_ops}
-use Rattle.split_opening_laws.proofs.strips.Rows.{rows_at, rows_high, rows_split, rows_low}
+use Rattle.split_opening_laws.proofs.sections.Pairs.{rows_at, rows_high, rows_split, rows_low, rim_row}
 use Rattle.split_opening_laws.proofs.strips.Cycle.{next_within, next_copy}
 use Rattle.split_opening_laws.proofs.caps.Joined.{gone_below, gone_within, gone_above}
 use Rattle.split_opening_laws.proofs.strips.Copied.{copy_at}
 use Rattle.split_opening_laws.proofs.strips.Whole.{strips_accepted, strips_are_cut}
 use Rattle.split_opening_laws.proofs.copies.Raising.{copies_accepted, copies_are_raised, raised_sound}
 use Rattle.split_opening_laws.proofs.caps.Whole.{caps_accepted, caps_made}
-use Rattle.split_opening_laws.proofs.sections.Pairs.{rim_row}
 
 -- ---- rows that are put at fresh numbers and go again
 

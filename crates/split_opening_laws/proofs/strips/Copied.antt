@@ -11,7 +11,7 @@ use Rattle.shapes.specs.Rewriting.{renamed}
 use Rattle.shapes.specs.split.Opening.{with_copies}
 use Rattle.split_opening_laws.specs.strips.Strips.{copied}
 use Rattle.split_opening_laws.specs.strips.Opened.{CanBeOpened}
-use Rattle.split_opening_laws.proofs.strips.Rows.{length-numbers_after, numbers_at, numbers_above, both_more, both_none, renamed_cases, misses_both, renamed_more}
+use Rattle.split_opening_laws.proofs.sections.Pairs.{length-numbers_after, numbers_at, in_numbers, both_more, both_none, renamed_cases, misses_both, renamed_more}
 use Rattle.split_opening_laws.proofs.strips.Cycle as on
 use Rattle.sweeps_laws.proofs.lamina.Lists.{numbers_last}
 
@@ -48,7 +48,7 @@ module _ (M : Model) (above : List ℕ) (s : ℕ) (c : Taken) (bs : List ℕ) (w
   copy_next i v lt =
       ap (λ ps. renamed ps v) (copied_next i lt)
       ∙ renamed_more (copied M c bs i) (tail M (get_or bs i 0)) (c.vertex + suc i) v
-      (misses_both (tail M (get_or bs i 0)) (map (tail M) bs) (numbers_after c.vertex i) (λ y j e. omega (arith, e, start_low i lt, numbers_above c.vertex i y j)))
+      (misses_both (tail M (get_or bs i 0)) (map (tail M) bs) (numbers_after c.vertex i) (λ y j e. omega (arith, e, start_low i lt, (in_numbers c.vertex i y j).0)))
 
   -- the vertices with one copy more
   pub points_next : (i : ℕ) → i < length bs → with_copies M (copied M c bs (suc i)) ≡ table.put (with_copies M (copied M c bs i)) (c.vertex + suc i) (point_of M (tail M (get_or bs i 0)))

@@ -30,7 +30,7 @@ pub use Rattle.sweeps_laws.proofs.swept.Numbers.{next_cases, next_within}
 use Rattle.split_opening_laws.specs.strips.StripOps.{place_before}
 use Rattle.split_opening_laws.specs.strips.Opened.{CanBeOpened}
 use Rattle.split_opening_laws.specs.strips.Strips.{with_rows, put_out}
-use Rattle.split_opening_laws.proofs.strips.Rows.{rows_at, rows_low, length-numbers_after, numbers_at, numbers_above, both_more, renamed_cases, misses_both, renamed_more}
+use Rattle.split_opening_laws.proofs.sections.Pairs.{rows_at, rows_low, length-numbers_after, numbers_at, in_numbers, both_more, renamed_cases, misses_both, renamed_more}
 
 -- ---- places round a list
 
@@ -182,7 +182,7 @@ module _ (M : Model) (above : List ℕ) (s : ℕ) (c : Taken) (bs : List ℕ) (w
       ∙ renamed_more (put_out c bs i) (mate (get_or bs i 0)) (plus (c.edge + suc i)) u
       (misses_both (mate (get_or bs i 0)) (map mate bs) (map plus (numbers_after c.edge i))
       (λ y j. let r = from_map plus y (numbers_after c.edge i) j in
-      λ e. low_half (mate (get_or bs i 0)) r.0 c.edge (low_edge (mate (get_or bs i 0)) (mate_there i lt)) (numbers_above c.edge i r.0 r.1) (sym r.2 ∙ e)))
+      λ e. low_half (mate (get_or bs i 0)) r.0 c.edge (low_edge (mate (get_or bs i 0)) (mate_there i lt)) (in_numbers c.edge i r.0 r.1).0 (sym r.2 ∙ e)))
 
   -- ---- a model with i mates put out and n rows more
 
