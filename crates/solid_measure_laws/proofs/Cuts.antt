@@ -25,11 +25,9 @@ whole t w e = none (int_div t w *ℤ w) (int_rem t w) t (quot-rem t w) ((signed_
 pub spread : (x p w : ℤ) → (x -ℤ p) *ℤ w ≡ x *ℤ w -ℤ p *ℤ w
 spread x p w = rw (dif-parts x, dif-parts p, dif-parts w) (simp difs (same_dif _ _ _ _ (omega arith)))
 
-rest_part : (p q m n : ℤ) → (q *ℤ m -ℤ p *ℤ n) -ℤ p *ℤ (m -ℤ n) ≡ (q -ℤ p) *ℤ m
-rest_part p q m n = rw (dif-parts p, dif-parts q, dif-parts m, dif-parts n) (simp difs (same_dif _ _ _ _ (omega arith)))
-
 divided : (p q m n x : ℤ) → x *ℤ (m -ℤ n) ≡ q *ℤ m -ℤ p *ℤ n → (x -ℤ p) *ℤ (m -ℤ n) ≡ (q -ℤ p) *ℤ m
-divided p q m n x e = spread x p (m -ℤ n) ∙ ap (λ t. t -ℤ p *ℤ (m -ℤ n)) e ∙ rest_part p q m n
+divided p q m n x e = spread x p (m -ℤ n) ∙ ap (λ t. t -ℤ p *ℤ (m -ℤ n)) e
+    ∙ rw (dif-parts p, dif-parts q, dif-parts m, dif-parts n) (simp difs (same_dif _ _ _ _ (omega arith)))
 
 -- ---- the height of the cut
 
@@ -51,9 +49,6 @@ height_at a b c d px py pz qx qy qz x y z m n u v at_p at_q ex ey ez = height_pa
     ∙ (λ i. (ap (λ t. a *ℤ t) ex ∙ share a px qx m n) i +ℤ (ap (λ t. b *ℤ t) ey ∙ share b py qy m n) i +ℤ (ap (λ t. c *ℤ t) ez ∙ share c pz qz m n) i +ℤ d *ℤ (m -ℤ n))
     ∙ both (a *ℤ qx) (b *ℤ qy) (c *ℤ qz) d (a *ℤ px) (b *ℤ py) (c *ℤ pz) m n
     ∙ (λ i. at_q i *ℤ m -ℤ at_p i *ℤ n)
-
-cancel : (m n : ℤ) → n *ℤ m -ℤ m *ℤ n ≡ pos 0
-cancel m n = rw (dif-parts m, dif-parts n, number 0) (simp difs (same_dif _ _ _ _ (omega arith)))
 
 level_part : (m n z : ℤ) → z ≡ pos 0 → z *ℤ m -ℤ z *ℤ n ≡ z
 level_part m n z e = rw (dif-parts m, dif-parts n, e ∙ number 0) (simp difs (same_dif _ _ _ _ (omega arith)))
@@ -149,7 +144,7 @@ module _ (s : Plane) (p q : Point) (o : are_opposite s p q ≡ true) (cuts : cut
   height_none t e = (signed_Decides (height t cut) (pos 0)).1 (no_product (m -ℤ n) (height t cut) e (opposite_apart m n o))
 
   pub cut_on : is_on s (cut_between s p q) ≡ true
-  cut_on = height_none s (height_told s m n refl refl ∙ cancel m n)
+  cut_on = height_none s (height_told s m n refl refl ∙ rw (dif-parts m, dif-parts n, number 0) (simp difs (same_dif _ _ _ _ (omega arith))))
 
   -- it lies on each plane on which both ends lie
   pub cut_on_each : (t : Plane) → is_on t p ≡ true → is_on t q ≡ true → is_on t (cut_between s p q) ≡ true
@@ -168,9 +163,6 @@ module _ (s : Plane) (p q : Point) (o : are_opposite s p q ≡ true) (cuts : cut
     some a b l e = absurd (omega (arith, l, ap unsigned_abs e))
 
 -- ---- from the other end
-
-multiple_turned : (p q m n : ℤ) → p *ℤ n -ℤ q *ℤ m ≡ neg_ℤ (q *ℤ m -ℤ p *ℤ n)
-multiple_turned p q m n = rw (dif-parts p, dif-parts q, dif-parts m, dif-parts n) (simp (difs, neg-dif) (same_dif _ _ _ _ (omega arith)))
 
 none_over : (n : ℕ) → neg_ℤ (pos (0 / n)) ≡ pos (0 / n)
 none_over n = ap (λ k. neg_ℤ (pos k)) (zero-div n) ∙ sym (ap pos (zero-div n))
@@ -203,9 +195,6 @@ remainder_turned (pos zero) w = ap (λ k. pos (0 % k)) (same_size w) ∙ ap pos 
 remainder_turned (pos (suc a)) w = ap (λ k. neg_ℤ (pos (suc a % k))) (same_size w)
 remainder_turned (negsuc a) w = ap (λ k. pos (suc a % k)) (same_size w) ∙ sym (twice_turned (suc a % unsigned_abs w))
 
-still_none : (r : ℤ) → int_eq (neg_ℤ r) (pos 0) ≡ int_eq r (pos 0)
-still_none r = grind (arith, ints)
-
 module _ (s : Plane) (p q : Point) where
   abbrev multiple : ℤ → ℤ → ℤ
   multiple a b = cut_multiple s p q a b
@@ -214,16 +203,15 @@ module _ (s : Plane) (p q : Point) where
   gap = height s p -ℤ height s q
 
   turned_multiple : (a b : ℤ) → cut_multiple s q p b a ≡ neg_ℤ (multiple a b)
-  turned_multiple a b = multiple_turned a b (height s p) (height s q)
-
-  turned_gap : height s q -ℤ height s p ≡ neg_ℤ gap
-  turned_gap = turned_difference (height s p) (height s q)
+  turned_multiple a b =
+      rw (dif-parts a, dif-parts b, dif-parts (height s p), dif-parts (height s q)) (simp (difs, neg-dif) (same_dif _ _ _ _ (omega arith)))
 
   quotient : (a b : ℤ) → int_div (cut_multiple s q p b a) (height s q -ℤ height s p) ≡ int_div (multiple a b) gap
-  quotient a b = (λ i. int_div (turned_multiple a b i) (turned_gap i)) ∙ quotient_turned (multiple a b) gap
+  quotient a b = (λ i. int_div (turned_multiple a b i) (turned_difference (height s p) (height s q) i)) ∙ quotient_turned (multiple a b) gap
 
   remainder : (a b : ℤ) → int_eq (int_rem (cut_multiple s q p b a) (height s q -ℤ height s p)) (pos 0) ≡ int_eq (int_rem (multiple a b) gap) (pos 0)
-  remainder a b = (λ i. int_eq (int_rem (turned_multiple a b i) (turned_gap i)) (pos 0)) ∙ ap (λ r. int_eq r (pos 0)) (remainder_turned (multiple a b) gap) ∙ still_none (int_rem (multiple a b) gap)
+  remainder a b = (λ i. int_eq (int_rem (turned_multiple a b i) (turned_difference (height s p) (height s q) i)) (pos 0))
+      ∙ ap (λ r. int_eq r (pos 0)) (remainder_turned (multiple a b) gap) ∙ grind (arith, ints)
 
   pub cuts_either_way : (cuts_lattice s q p ≡ cuts_lattice s p q) × (cut_between s q p ≡ cut_between s p q)
   cuts_either_way = (
@@ -252,9 +240,6 @@ no_gap a b e = omega (arith, ints)
 no_size : (r : ℤ) → unsigned_abs r ≡ 0 → r ≡ pos 0
 no_size r e = omega (arith, ints)
 
-some_size : (w : ℤ) → w ≢ pos 0 → 0 < unsigned_abs w
-some_size w ne = grind (arith, ints)
-
 module _ (x w t : ℤ) (some : w ≢ pos 0) (e : x *ℤ w ≡ t) where
   left_over : (x -ℤ int_div t w) *ℤ w ≡ int_rem t w
   left_over = spread x (int_div t w) w ∙ rest (x *ℤ w) (int_div t w *ℤ w) (int_rem t w) t e (quot-rem t w)
@@ -263,7 +248,7 @@ module _ (x w t : ℤ) (some : w ≢ pos 0) (e : x *ℤ w ≡ t) where
   left_size = sym (unsigned_abs-mul (x -ℤ int_div t w) w) ∙ ap unsigned_abs left_over
 
   none_left : unsigned_abs (x -ℤ int_div t w) ≡ 0
-  none_left = no_times (unsigned_abs (x -ℤ int_div t w)) (unsigned_abs w) (unsigned_abs (int_rem t w)) left_size (rem_below t w (some_size w some))
+  none_left = no_times (unsigned_abs (x -ℤ int_div t w)) (unsigned_abs w) (unsigned_abs (int_rem t w)) left_size (rem_below t w (grind (arith, ints)))
 
   quotient_is : int_div t w ≡ x
   quotient_is = no_gap x (int_div t w) none_left

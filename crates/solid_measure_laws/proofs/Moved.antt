@@ -66,10 +66,6 @@ module _ (M : Model) (d : Point) where
   abbrev N : Model
   N = shifted M d
 
-  tail_kept : (h : ℕ) → tail N h ≡ tail M h
-  unfolding shifted tail
-  tail_kept h = refl
-
   point_in : (o : Option Point) → is_some o ≡ true → unwrap_or (option_map (λ p. moved p d) o) no_point ≡ moved (unwrap_or o no_point) d
   point_in None e = absurd (true≢false (sym e))
   point_in (Some p) e = refl
@@ -82,17 +78,9 @@ module _ (M : Model) (d : Point) where
   unfolding shifted content
   content_kept l = refl
 
-  outer_kept : (f : ℕ) → outer N f ≡ outer M f
-  unfolding shifted outer
-  outer_kept f = refl
-
   loops_kept : (f : ℕ) → loops_of N f ≡ loops_of M f
   unfolding shifted loops_of outer
   loops_kept f = refl
-
-  faces_kept : (s : ℕ) → faces_of N s ≡ faces_of M s
-  unfolding shifted
-  faces_kept s = refl
 
   items_kept : (ls : List ℕ) → items_in N ls ≡ items_in M ls
   items_kept [] = refl
@@ -102,7 +90,8 @@ module _ (M : Model) (d : Point) where
 
   module _ (sound : Sound M) where
     start_moved : (h : ℕ) → HasHalf M h → start N h ≡ moved (start M h) d
-    start_moved h there = ap (point_of N) (tail_kept h) ∙ point_moved (tail M h) (sound.tails_there h there)
+    unfolding shifted tail
+    start_moved h there = point_moved (tail M h) (sound.tails_there h there)
 
     finish_moved : (h : ℕ) → HasHalf M h → finish N h ≡ moved (finish M h) d
     finish_moved h there = start_moved (mate h) (mate_there M h there)
@@ -137,16 +126,14 @@ module _ (M : Model) (d : Point) where
     first_moved (cycle (h ∷ hs)) ne lones halves = start_moved h (halves h (IsIn_head h hs))
 
     anchor_moved : (f : ℕ) → Has M.faces f → anchor N f ≡ moved (anchor M f) d
+    unfolding shifted outer
     anchor_moved f there =
         let l = outer M f in
-        ap (λ k. point_of N (first_vertex N (content N k))) (outer_kept f) ∙ ap (λ x. point_of N (first_vertex N x)) (content_kept l)
+        ap (λ x. point_of N (first_vertex N x)) (content_kept l)
         ∙ first_moved (content M l) (λ e. (sound.cycles l [] (sound.outers_there f there).0 e).some_item refl) (λ v e. sound.lone_at_vertex l v e) (λ h i. sound.only_edges h l (in-holds h (content M l) i))
 
     face_moved : (f : ℕ) → Has M.faces f → dot (anchor N f) (normal N f) ≡ dot (anchor M f) (normal M f) +ℤ dot d (normal M f)
     face_moved f there = (λ i. dot (anchor_moved f there i) (normal_kept f i)) ∙ dot_moved (anchor M f) d (normal M f)
-
-    exchanged : (a b c e : ℤ) → (a +ℤ b) +ℤ (c +ℤ e) ≡ (a +ℤ c) +ℤ (b +ℤ e)
-    exchanged a b c e = omega (arith, ints)
 
     faces_moved : (fs : List ℕ) → ((f : ℕ) → lists fs f ≡ true → Has M.faces f) → volume_in N fs ≡ volume_in M fs +ℤ dot d (normals_in M fs)
     faces_moved [] there = sym (dot_origin d) ∙ dot_turned origin d ∙ sym (nothing (dot d origin)) where
@@ -154,13 +141,13 @@ module _ (M : Model) (d : Point) where
       nothing a = omega (arith, ints)
     faces_moved (f ∷ fs) there =
         (λ i. face_moved f (there f (first_listed f fs)) i +ℤ faces_moved fs (λ g j. there g (rest_listed f g fs j)) i)
-        ∙ exchanged (dot (anchor M f) (normal M f)) (dot d (normal M f)) (volume_in M fs) (dot d (normals_in M fs))
+        ∙ omega (arith, ints)
         ∙ ap (λ t. volume_in M (f ∷ fs) +ℤ t) (sym (dot_sum d (normal M f) (normals_in M fs)))
 
     -- the six volumes grow by the sum of the normals along d
     pub volume_moved : (s : ℕ) → six_volume N s ≡ six_volume M s +ℤ dot d (normals_in M (faces_of M s))
-    unfolding six_volume
-    volume_moved s = ap (volume_in N) (faces_kept s) ∙ faces_moved (faces_of M s) (λ f i. ap is_some (listed_passes (λ _ row. nat_eq row.solid s) M.faces f i).1)
+    unfolding six_volume shifted
+    volume_moved s = faces_moved (faces_of M s) (λ f i. ap is_some (listed_passes (λ _ row. nat_eq row.solid s) M.faces f i).1)
 
 -- ---- the normals of a solid's faces sum to nothing: each edge has both its halves there
 
@@ -243,11 +230,9 @@ module _ (M : Model) (sound : Sound M) where
   face_counted f s there = count_listed f (faces_of M s) (all_where-rises (λ _ row. nat_eq row.solid s) M.faces) ∙ ap (λ b. cond b 1 0) (listed_as (λ _ row. nat_eq row.solid s) M.faces f _ (face_there M f there))
 
   module _ (s : ℕ) where
-    each_there : (f : ℕ) → lists (faces_of M s) f ≡ true → Has M.faces f
-    each_there f i = ap is_some (listed_passes (λ _ row. nat_eq row.solid s) M.faces f i).1
-
     half_counted : (x : ℕ) → HasHalf M x → count x (halves_in M (faces_of M s)) ≡ cond (nat_eq (solid_of M (face_of M (loop_of M x))) s) 1 0
-    half_counted x there = in_faces x there (faces_of M s) each_there ∙ face_counted (face_of M (loop_of M x)) s (sound.loops_of_faces (loop_of M x) (loop_there M sound x there))
+    half_counted x there = in_faces x there (faces_of M s) (λ f i. ap is_some (listed_passes (λ _ row. nat_eq row.solid s) M.faces f i).1)
+        ∙ face_counted (face_of M (loop_of M x)) s (sound.loops_of_faces (loop_of M x) (loop_there M sound x there))
 
     none_there : (x : ℕ) (fs : List ℕ) → has_half M x ≡ false → count x (halves_in M fs) ≡ 0
     unfolding boundary
@@ -295,13 +280,10 @@ module _ (M : Model) where
   unfolding turned outer
   outer_turned f = refl
 
-  rings_kept : (f : ℕ) → rings_of (turned M) f ≡ rings_of M f
-  unfolding turned outer
-  rings_kept f = all_where-map (λ _ row. row_back row) (λ l row. nat_eq row.face f && not (nat_eq (outer M f) l)) M.loops
-
   own_loops_turned : (f : ℕ) → loops_of (turned M) f ≡ loops_of M f
-  unfolding loops_of
-  own_loops_turned f = λ i. outer_turned f i ∷ rings_kept f i
+  unfolding loops_of turned outer
+  own_loops_turned f =
+      λ i. outer_turned f i ∷ (all_where-map (λ _ row. row_back row) (λ l row. nat_eq row.face f && not (nat_eq (outer M f) l)) M.loops i)
 
   content_in : (o : Option LoopRow) → (unwrap_or (option_map row_back o) no_loop).content ≡ run_back (unwrap_or o no_loop).content
   content_in None = ap cycle (sym canonical_nil)
@@ -331,25 +313,14 @@ module _ (M : Model) where
   unfolding normal
   normal_opposed f g s = area_same M (boundary M g) (map mate (boundary M f)) s ∙ area_mates M (boundary M f)
 
-  point_kept : (v : ℕ) → point_of (turned M) v ≡ point_of M v
-  unfolding turned point_of
-  point_kept v = refl
-
-  tail_turned : (h : ℕ) → tail (turned M) h ≡ tail M h
-  unfolding turned tail
-  tail_turned h = refl
-
-  faces_turned : (s : ℕ) → faces_of (turned M) s ≡ faces_of M s
-  unfolding turned
-  faces_turned s = refl
-
   first_kept : (x : LoopContent) → first_vertex (turned M) x ≡ first_vertex M x
+  unfolding turned tail
   first_kept (lone v) = refl
-  first_kept (cycle hs) = tail_turned (head_or 0 hs)
+  first_kept (cycle hs) = refl
 
   anchor_is : (f : ℕ) → anchor (turned M) f ≡ point_of M (first_vertex M (run_back (content M (outer M f))))
-  anchor_is f = point_kept (first_vertex (turned M) (content (turned M) (outer (turned M) f)))
-      ∙ ap (point_of M) (first_kept (content (turned M) (outer (turned M) f)))
+  unfolding turned point_of
+  anchor_is f = ap (point_of M) (first_kept (content (turned M) (outer (turned M) f)))
       ∙ ap (λ x. point_of M (first_vertex M x)) (ap (content (turned M)) (outer_turned f) ∙ content_turned (outer M f))
 
   module _ (s : Plane) (next : ℕ → ℕ) where
@@ -389,5 +360,5 @@ module _ (M : Model) where
           both a b = omega (arith, ints)
 
     pub volume_inverted : (s : ℕ) → list_all (is_flat M) (faces_of M s) ≡ true → six_volume (turned M) s ≡ neg_ℤ (six_volume M s)
-    unfolding six_volume
-    volume_inverted s flat = ap (volume_in (turned M)) (faces_turned s) ∙ faces_inverted (faces_of M s) (λ f i. ap is_some (listed_passes (λ _ row. nat_eq row.solid s) M.faces f i).1) flat
+    unfolding six_volume turned
+    volume_inverted s flat = faces_inverted (faces_of M s) (λ f i. ap is_some (listed_passes (λ _ row. nat_eq row.solid s) M.faces f i).1) flat
