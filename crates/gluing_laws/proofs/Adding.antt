@@ -4,7 +4,7 @@ use Rattle.std.specs.Prelude.{map}
 use Rattle.std.specs.Option.{option_map}
 use Rattle.std.proofs.lemmas.Bool.Decides.{nat_tests, eqb_tells}
 use Rattle.std.proofs.lemmas.Bool.{ne_eqb, eq-eqb, eqb-true}
-use Rattle.euler_operators.specs.Vectors.{moved, dot}
+use Rattle.euler_operators.specs.Vectors.{dot}
 use Rattle.euler_operators.specs.Items.{count, IsIn, head_or, SameItems}
 use Rattle.euler_operators.specs.Rings.{canonical, successor}
 use Rattle.euler_operators.proofs.Lists.{tick_same, tick_other, count-append}
@@ -26,6 +26,7 @@ use Rattle.shapes.proofs.walks.SolidFaces.{face_of_loop}
 use Rattle.shapes.proofs.Areas.{area-append, moved_nothing}
 use Rattle.shapes.proofs.measures.FlatFaces.{corner_told}
 use Rattle.shapes.proofs.measures.Sums.{area_same, area_renamed, area_opposed, dot_back}
+use Rattle.sweeps_laws.proofs.Loops.{same_loops}
 use Rattle.gluing_laws.proofs.Listed.{one_if, passed, same_search, volume_of, count_where, volume_append, volume_same, same_volumes}
 use Rattle.gluing_laws.proofs.Seams as seams
 use Rattle.gluing_laws.proofs.Seams.{Seamed, Glued, Stays, side}
@@ -118,12 +119,7 @@ module _ {M N : Model} {f g : ℕ} {partner_of : ℕ → ℕ} {hs gs : List ℕ}
   loop_area l a b = ap (λ c. area N (items_of c)) (content_is l a b) ∙ content_area (content M l) (each_swapped l b)
 
   loops_area : (ls : List ℕ) → ((l : ℕ) → lists ls l ≡ true → (l ≢ outer M f) × (l ≢ outer M g)) → area N (items_in N ls) ≡ area M (items_in M ls)
-  loops_area [] e = refl
-  loops_area (l ∷ ls) e =
-      let p = e l (first_listed l ls) in
-      area-append N (items_of (content N l)) (items_in N ls)
-      ∙ (λ i. moved (loop_area l p.0 p.1 i) (loops_area ls (λ q j. e q (rest_listed l q ls j)) i))
-      ∙ sym (area-append M (items_of (content M l)) (items_in M ls))
+  loops_area ls e = same_loops M N ls (λ l i. let p = e l i in loop_area l p.0 p.1)
 
   -- ---- faces
 
@@ -264,11 +260,8 @@ module _ {M N : Model} {f g : ℕ} {partner_of : ℕ → ℕ} {hs gs : List ℕ}
   left_g : table.get faces_left g ≡ None
   left_g = grind (arith, nat_tests, tables)
 
-  free_after : (k : ℕ) → table.get faces_left k ≡ None → table.get N.faces k ≡ None
-  free_after k e = face_at_row k ∙ ap (option_map (to_s k)) e
-
   none_after : (k : ℕ) → table.get faces_left k ≡ None → count k (faces_of N s) ≡ 0
-  none_after k e = count_where (of s) N.faces k ∙ ap (passed (of s) k) (free_after k e)
+  none_after k e = count_where (of s) N.faces k ∙ ap (passed (of s) k) (face_at_row k ∙ ap (option_map (to_s k)) e)
 
   of_solid : (k u : ℕ) → Has M.faces k → count k (faces_of M u) ≡ one_if (nat_eq (solid_of M k) u)
   of_solid k u there = count_where (of u) M.faces k ∙ ap (passed (of u) k) (face_there M k there)
@@ -297,7 +290,7 @@ module _ {M N : Model} {f g : ℕ} {partner_of : ℕ → ℕ} {hs gs : List ℕ}
   same_faces k = grind (arith, eqb_tells, at_f, at_g, at_other)
 
   not_free : (k j : ℕ) → table.has N.faces k ≡ true → table.get faces_left j ≡ None → k ≢ j
-  not_free k j there e q = true≢false (sym there ∙ ap is_some (free_after k (ap (table.get faces_left) q ∙ e)))
+  not_free k j there e q = true≢false (sym there ∙ ap is_some (face_at_row k ∙ ap (option_map (to_s k)) (ap (table.get faces_left) q ∙ e)))
 
   -- each adds what it did
   each_kept : (k : ℕ) → lists (faces_of N s) k ≡ true → volume_of N k ≡ volume_of M k

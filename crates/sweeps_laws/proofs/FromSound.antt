@@ -73,7 +73,7 @@ no_edge_tail M h e = tail_none (table.get M.edges (edge_of h)) (is_first h) e
 -- a number that is used where there is a row, and is 0 where there is none
 used_or_none : (a g : ℕ) (b : Bool) → (b ≡ true → a ≤ g) → (b ≡ false → a ≡ 0) → a ≤ g
 used_or_none a g true u n = u refl
-used_or_none a g false u n = omega (arith, (n refl))
+used_or_none a g false u n = omega (arith, n refl)
 
 some_items : (hs : List ℕ) → hs ≢ [] → 0 < length hs
 some_items [] ne = absurd (ne refl)

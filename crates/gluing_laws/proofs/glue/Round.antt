@@ -188,17 +188,13 @@ module _ {N : Model} {l f g h k : ℕ} {qs : List ℕ} {x s r : ℕ} (c : Closes
   B_edges : table.remove A.edges (edge_of (minus x)) ≡ N.edges
   B_edges = ap (table.remove A.edges) edge_minus ∙ remove-put N.edges x new_edge c.edge_free
 
-  kev_is : kev A (minus x) ≡ B
-  unfolding kev
-  kev_is = λ i. record A {
+  pub B_is : effect A (Kev (half (minus x))) ≡ B
+  unfolding effect kev
+  B_is = ap (kev A) (code-half (minus x)) ∙ (λ i. record A {
     loops = ((λ j. table.map_rows (out_edge (minus x) (mate_minus x j) (A_minus j)) A.loops) ∙ B_loops) i;
     edges = table.map_rows (moved_tail ((ap (tail A) (mate_minus x) ∙ A_plus) i) (A_minus i)) (B_edges i);
     vertices = table.remove N.vertices ((ap (tail A) (mate_minus x) ∙ A_plus) i);
-  }
-
-  pub B_is : effect A (Kev (half (minus x))) ≡ B
-  unfolding effect
-  B_is = ap (kev A) (code-half (minus x)) ∙ kev_is
+  })
 
   sound_B : Sound B
   sound_B = subst Sound B_is (effect_keeps_sound A (Kev (half (minus x))) sound_A kev_ok)

@@ -63,9 +63,6 @@ module _ (M : Model) (f : ℕ) (d : Point) (sound : Sound M) (accepted : prism_r
         listed : (k : ℕ) → k ≡ f → lists (f ∷ []) k ≡ true
         listed k e = let s : nat_eq f k ≡ true = grind (arith, nat_tests) in ap (λ b. b || false) s
 
-  row_is : (l : ℕ) → IsIn l (loops_of M f) → table.get M.loops l ≡ Some (record { face = f; content = cycle (items_of (content M l)) })
-  row_is l i = let p = of_face l i in loop_row M l p.0 ∙ (λ j. Some (record { face = p.1 j; content = is_cycle l i j }))
-
   -- each corner's moved point is in range
   near : (l : ℕ) → IsIn l (loops_of M f) → (h : ℕ) → IsIn h (items_of (content M l)) → IsInRange (moved (start M h) d)
   unfolding corners
@@ -86,7 +83,7 @@ module _ (M : Model) (f : ℕ) (d : Point) (sound : Sound M) (accepted : prism_r
     halves = λ h there. there;
     starts = λ h there. refl;
     apart = loops_of_apart M sound f;
-    rows = row_is;
+    rows = (λ l i. let p = of_face l i in loop_row M l p.0 ∙ (λ j. Some (record { face = p.1 j; content = is_cycle l i j })));
     items_there = λ l i h j. item_there M sound l h j;
     contents = is_cycle;
     points_fit = near;

@@ -340,18 +340,15 @@ module _ {M : Model} {c : Taken} {f l : ℕ} {d : Point} {hs : List ℕ} (w : Re
         ∙ (λ j. table.put (table.put P.edges t (record { plus_tail = tail_b j; minus_tail = (tail_u ∙ ap (λ k. c.vertex + 1 + k) (sym next_is)) j })) u
         (record { plus_tail = (part_tail i g there ∙ sym (old_tail M c f l d hs w (suc i) g there)) j; minus_tail = v }))
 
-    made : N2 ≡ prism_part c f l d hs (suc i) M
+    pub round_accepted : AreAccepted (prism_part c f l d hs i M) (raise M c d hs (suc i) ∷ close c (length hs) i ∷ [])
+    round_accepted = (accepted0, (subst (λ X. first_false X (close c (length hs) i) ≡ None) (sym first) accepted1, tt))
+
+    pub round_is : effects (prism_part c f l d hs i M) (raise M c d hs (suc i) ∷ close c (length hs) i ∷ []) ≡ prism_part c f l d hs (suc i) M
     unfolding prism_part with_side solid_of
-    made = λ j. record {
+    round_is = ap (λ X. effect X (close c (length hs) i)) first ∙ second ∙ (λ j. record {
       solids = P.solids;
       faces = ap (λ q. table.put (with_sides c (solid_of M f) d hs i M).faces s (record { solid = q; outer = r })) (old_solid M c f l d hs w i) j;
       loops = loops_are j;
       edges = edges_are j;
       vertices = table.put P.vertices v (moved (sym (old_start M c f l d hs w (suc i) g (half_there M c f l d hs w g g_in)) j) d);
-    }
-
-    pub round_accepted : AreAccepted (prism_part c f l d hs i M) (raise M c d hs (suc i) ∷ close c (length hs) i ∷ [])
-    round_accepted = (accepted0, (subst (λ X. first_false X (close c (length hs) i) ≡ None) (sym first) accepted1, tt))
-
-    pub round_is : effects (prism_part c f l d hs i M) (raise M c d hs (suc i) ∷ close c (length hs) i ∷ []) ≡ prism_part c f l d hs (suc i) M
-    round_is = ap (λ X. effect X (close c (length hs) i)) first ∙ second ∙ made
+    })

@@ -177,16 +177,13 @@ module _ (M : Model) (c : Taken) (s : ℕ) (d : Point) (hs : List ℕ) (f l : �
     pub rings_old : (k : ℕ) → k ≤ c.face → rings_of swept k ≡ rings_of M k
     rings_old k m = grind (arith, loops_are, filled, side_loop, nat_tests, outer_old, all_where-map, same_search, rewrite_face, filled_none)
 
-    only_loop : (i q : ℕ) → i < length hs → face_of swept q ≡ c.face + 1 + i → c.loop + 1 + i ≡ q
-    only_loop i q m e = elim (place_cases q c.loop (length hs)) [
-      | inl o ↦ absurd (omega (arith, sym (face_of_old q o) ∙ e, b.loop_faces q))
-      | inr (inl j) ↦ omega (arith, sym (face_of_new j.0 j.1) ∙ ap (face_of swept) (sym j.2) ∙ e) ∙ sym j.2
-      | inr (inr p) ↦ absurd (omega (arith, sym (face_of_past q p) ∙ e, b.loop_faces q))
-    ]
-
     pub rings_new : (i : ℕ) → i < length hs → rings_of swept (c.face + 1 + i) ≡ []
     rings_new i m = all_where_none (λ q row. nat_eq row.face (c.face + 1 + i) && not (nat_eq (outer swept (c.face + 1 + i)) q)) swept.loops
-        (λ q y at. none_but y.face (c.face + 1 + i) (outer swept (c.face + 1 + i)) q (λ e. outer_new i m ∙ only_loop i q m (face_row swept q y at ∙ e)))
+        (λ q y at. none_but y.face (c.face + 1 + i) (outer swept (c.face + 1 + i)) q (λ e. outer_new i m ∙ (elim (place_cases q c.loop (length hs)) [
+          | inl o ↦ absurd (omega (arith, sym (face_of_old q o) ∙ (face_row swept q y at ∙ e), b.loop_faces q))
+          | inr (inl j) ↦ omega (arith, sym (face_of_new j.0 j.1) ∙ ap (face_of swept) (sym j.2) ∙ (face_row swept q y at ∙ e)) ∙ sym j.2
+          | inr (inr p) ↦ absurd (omega (arith, sym (face_of_past q p) ∙ (face_row swept q y at ∙ e), b.loop_faces q))
+        ])))
 
     -- ---- where the new half-edges start and end
 
