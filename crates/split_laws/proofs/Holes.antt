@@ -43,7 +43,7 @@ module _ (N : Model) (sound : Sound N) (f g : ℕ) (goes : KillGoes N f g) where
 
   pub kill_leads : Leads N (kfmrh N f g) (Kfmrh f g ∷ [])
   unfolding effect
-  kill_leads = leads_one N K (Kfmrh f g) (kfmrh_accepted N f g sound goes) (refl)
+  kill_leads = leads_one N K (Kfmrh f g) (kfmrh_accepted N f g sound goes) refl
 
   rings : SameRings N K
   rings = grind (arith, kill_same, loop_sound)

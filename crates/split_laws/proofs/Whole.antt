@@ -1,6 +1,6 @@
 -- The upper faces that are left parted from the solid: a split from its first operator to its two solids.
 use Rattle.std.specs.Prelude.{filter, map, fold}
-use Rattle.std.proofs.Common.{◌≡◌, ℕ, Bool, true, false, cond, List, [], ◌∷◌, None, is_some, IsTrue, refl, sym, ap, ◌∙◌, subst, inl, inr, true≢false, ◌+◌, ◌≤◌, not, ◌++◌, arith, ◌<◌, length, unwrap_or}
+use Rattle.std.proofs.Common.{◌≡◌, ℕ, Bool, true, false, cond, List, [], ◌∷◌, None, is_some, IsTrue, refl, sym, ap, ◌∙◌, subst, ◌+◌, ◌≤◌, not, ◌++◌, arith, ◌<◌, length, unwrap_or}
 use Rattle.euler_operators.specs.HalfEdge.{mate}
 use Rattle.euler_operators.specs.Table as table
 use Rattle.euler_operators.specs.Model.{Model, loop_of, solid_of, is_number, no_face}
@@ -14,8 +14,9 @@ use Rattle.euler_operators.proofs.Models.{row_of, mate_there}
 use Rattle.euler_operators.proofs.Tests.{same_truth}
 use Rattle.euler_operators.proofs.Tables.{map_alike}
 use Rattle.euler_operators.proofs.Lists.{tick_same, count-append}
-use Rattle.euler_laws.proofs.shared.Listed.{first_listed, rest_listed, listed_cases, IsIn-from_listed, listed-from_in}
+use Rattle.euler_laws.proofs.shared.Listed.{IsIn-from_listed, listed-from_in}
 use Rattle.euler_laws.proofs.merge.Part.{PartGoes, part_accepted}
+use Rattle.euler_operators.proofs.Members.{IsIn-filter, count-filter, filter_passes}
 use Rattle.shapes.specs.split.Opening.{Caps, Opening, outer_caps, hole_closed, holes_closed}
 use Rattle.shapes.specs.split.Split.{upper_left, opened_at, split_above, split_refusal, split_model, split_drawn}
 use Rattle.split_drawing_laws.proofs.drawings.Runs.{Leads, leads_one, leads_on}
@@ -47,28 +48,11 @@ still_there N fs = filter (table.has N.faces) fs
 
 -- what is listed in a thinned list passes the test and stands in the whole
 filter_lists : (p : ℕ → Bool) (fs : List ℕ) (f : ℕ) → lists (filter p fs) f ≡ true → (p f ≡ true) × (lists fs f ≡ true)
-filter_lists p [] f l = absurd (true≢false (sym l))
-filter_lists p (g ∷ fs) f l = go (p g) refl (filter_lists p fs f) l where
-  go : (b : Bool) → p g ≡ b → (lists (filter p fs) f ≡ true → (p f ≡ true) × (lists fs f ≡ true)) → lists (cond b (g ∷ filter p fs) (filter p fs)) f ≡ true → (p f ≡ true) × (lists (g ∷ fs) f ≡ true)
-  go false e r l = let w = r l in (w.0, rest_listed g f fs w.1)
-  go true e r l = elim (listed_cases g f (filter p fs) l) [
-    | inl s ↦ (ap p s ∙ e, ap (lists (g ∷ fs)) s ∙ first_listed g fs)
-    | inr t ↦ let w = r t in (w.0, rest_listed g f fs w.1)
-  ]
+filter_lists p fs f l = let i = IsIn-from_listed f (filter p fs) l in (filter_passes p f fs i, listed-from_in f fs (omega (arith, i, count-filter p f fs)))
 
 -- and the other way
 lists_filter : (p : ℕ → Bool) (fs : List ℕ) (f : ℕ) → p f ≡ true → lists fs f ≡ true → lists (filter p fs) f ≡ true
-lists_filter p [] f t l = l
-lists_filter p (g ∷ fs) f t l = go (p g) refl (lists_filter p fs f t) where
-  go : (b : Bool) → p g ≡ b → (lists fs f ≡ true → lists (filter p fs) f ≡ true) → lists (cond b (g ∷ filter p fs) (filter p fs)) f ≡ true
-  go true e r = elim (listed_cases g f fs l) [
-    | inl s ↦ ap (lists (g ∷ filter p fs)) s ∙ first_listed g (filter p fs)
-    | inr k ↦ rest_listed g f (filter p fs) (r k)
-  ]
-  go false e r = elim (listed_cases g f fs l) [
-    | inl s ↦ absurd (true≢false (sym t ∙ ap p s ∙ e))
-    | inr k ↦ r k
-  ]
+lists_filter p fs f t l = listed-from_in f (filter p fs) (IsIn-filter p f fs (IsIn-from_listed f fs l) t)
 
 -- of what is there, all that is listed is still
 pub still_lists : (N : Model) (us : List ℕ) (f : ℕ) → Has N.faces f → lists (still_there N us) f ≡ lists us f
@@ -117,7 +101,7 @@ module _ (N : Model) (s t : ℕ) (us : List ℕ) (w : CanPart N s us) (both : Bo
 
   pub part_leads : Leads N (part N s t (still_there N us)) (Part s t (still_there N us) ∷ [])
   unfolding effect
-  part_leads = leads_one N (part N s t fs) (Part s t fs) (part_accepted N s t fs w.sound goes) (refl)
+  part_leads = leads_one N (part N s t fs) (Part s t fs) (part_accepted N s t fs w.sound goes) refl
 
 -- ---- which of the upper faces are left when the holes are closed
 

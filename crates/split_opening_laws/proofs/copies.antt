@@ -1,4 +1,3 @@
 pub mod Raised
-pub mod Sides
 pub mod Copies
 pub mod Raising

@@ -82,11 +82,6 @@ module _ (M : Model) (e k v : ℕ) (q : Point) (goes : CutGoes M e k v q) where
   unfolding edge_cut rotate_to canonical
   rewrites = record { rewrite = rewritten_row (flat_map (doubled e k)); is = refl; contents = λ n row. refl; faces = λ n row. refl; none = refl }
 
-  loop_stays : (h : ℕ) → HasHalf M h → loop_of (edge_cut M e k v q) h ≡ loop_of M h
-  loop_stays h there = cut_sound.one_loop h (loop_of M h)
-      (ap (holds h) (content-new M (edge_cut M e k v q) (rewritten (flat_map (doubled e k))) rewrites (loop_of M h))
-      ∙ still_held e k h (content M (loop_of M h)) (holds_in h (content M (loop_of M h)) (goes.can.sound.stands h there)))
-
   pub apart_new : (x : ℕ) → Has M.edges x → x ≢ k
   apart_new x there is = true≢false (sym there ∙ ap is_some (ap (table.get M.edges) is ∙ goes.can.edge_free))
 
@@ -120,7 +115,9 @@ module _ (M : Model) (e k v : ℕ) (q : Point) (goes : CutGoes M e k v q) where
     loops = loop-same M (edge_cut M e k v q) (rewritten (flat_map (doubled e k))) rewrites;
     face = face-same M (edge_cut M e k v q) (rewritten (flat_map (doubled e k))) rewrites;
     halves = λ h there. edge_stays (edge_of h) there;
-    loop = loop_stays;
+    loop = λ h there. cut_sound.one_loop h (loop_of M h)
+        (ap (holds h) (content-new M (edge_cut M e k v q) (rewritten (flat_map (doubled e k))) rewrites (loop_of M h))
+        ∙ still_held e k h (content M (loop_of M h)) (holds_in h (content M (loop_of M h)) (goes.can.sound.stands h there)));
     points = λ w there. get-put_other M.vertices v q w (λ is. true≢false (sym there ∙ ap is_some (ap (table.get M.vertices) is ∙ goes.vertex_free)));
   }
 

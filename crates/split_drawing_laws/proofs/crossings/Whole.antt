@@ -1,7 +1,7 @@
 -- All edges of a solid that cross a plane cut: from the first conditions of a split to the model.
 use Rattle.std.specs.Prelude.{filter}
-use Rattle.std.proofs.Common.{◌≡◌, ℕ, Bool, true, false, nat_eq, [], None, is_some, unwrap_or, refl, sym, ap, ◌∙◌, arith, inl, inr, cond, ◌&&◌, ◌||◌, subst, true≢false}
-use Rattle.std.proofs.lemmas.Bool.{eqb-true, false_from_ne_true}
+use Rattle.std.proofs.Common.{◌≡◌, ℕ, Bool, true, false, nat_eq, [], None, is_some, unwrap_or, refl, sym, ap, ◌∙◌, arith, inl, inr, cond, ◌&&◌, ◌||◌, subst}
+use Rattle.std.proofs.lemmas.Bool.{eqb-true, false_from_ne_true, and_parts}
 use Rattle.euler_operators.specs.declared.Plane.{Plane}
 use Rattle.euler_operators.specs.Vectors.{are_opposite, height, is_on, cut_between}
 use Rattle.euler_operators.specs.Items.{count, IsIn}
@@ -171,11 +171,8 @@ module _ (M : Model) (s : ℕ) (p : Plane) (t : ℕ) (sound : Sound M) (accepted
 
   pub on_when : (h : ℕ) → is_place M p h ≡ true → crosses M p h ≡ false → is_on p (start M h) ≡ true
   unfolding is_place
-  on_when h place off = go (crosses M p h) (is_on p (start M h)) (are_opposite p (start M (before M h)) (finish M h)) place off where
-    go : (a b c : Bool) → (a || (b && c)) ≡ true → a ≡ false → b ≡ true
-    go true b c e n = absurd (true≢false n)
-    go false true c e n = refl
-    go false false c e n = absurd (true≢false (sym e))
+  on_when h place off = (and_parts (is_on p (start M h)) (are_opposite p (start M (before M h)) (finish M h))
+      (sym (ap (λ a. a || (is_on p (start M h) && are_opposite p (start M (before M h)) (finish M h))) off) ∙ place)).0
 
   pub turned : (e : ℕ) (b : Bool) → crosses M p (minus e) ≡ b → crosses M p (plus e) ≡ b
   turned e b is = grind (arith, mate_plus, opposite_turned, mate_minus)

@@ -17,12 +17,12 @@ use Rattle.euler_operators.proofs.Rotations.{IsIn_head}
 use Rattle.euler_operators.proofs.Models.{same_solid, in-holds, item_there}
 use Rattle.euler_operators.proofs.Vectors.{add_assoc, dot_turned}
 use Rattle.euler_operators.proofs.Rings.{IsIn_successor}
-use Rattle.euler_laws.proofs.shared.Listed.{all_where-rises}
+use Rattle.euler_laws.proofs.shared.Listed.{all_where-rises, IsIn-from_listed}
 use Rattle.euler_laws.proofs.shared.Counted.{counted_once}
 use Rattle.euler_laws.proofs.shared.RisingLists.{within}
 use Rattle.shapes.specs.Measure.{six_volume, normal, anchor, plane_through, plane_of, is_flat, volume_in}
 use Rattle.shapes.specs.Faces.{start, finish, vertices_on, vertices_in, corners}
-use Rattle.shapes.proofs.measures.Sums.{total, volume_of, volume_is, unchanged}
+use Rattle.shapes.proofs.measures.Sums.{total, volume_of, volume_is, unchanged, same_volumes}
 use Rattle.shapes.proofs.measures.FlatFaces.{list_parts, are_on, anchor_on, plane_told}
 use Rattle.shapes.proofs.walks.FaceLoops.{listed_ring, ring_listed, rings_rise}
 use Rattle.split_drawing_laws.proofs.crossings.Premises.{solid_facts, in_solid}
@@ -138,11 +138,6 @@ measured_on M N K s a b = grind (arith, solid_stays)
 
 -- ---- volumes
 
-module _ (M N : Model) where
-  pub volumes_stay : (fs : List ℕ) → ((f : ℕ) → IsIn f fs → dot (anchor N f) (normal N f) ≡ dot (anchor M f) (normal M f)) → volume_in N fs ≡ volume_in M fs
-  volumes_stay [] each = refl
-  volumes_stay (f ∷ fs) each = λ i. each f (IsIn_head f fs) i +ℤ volumes_stay fs (λ g j. each g (IsIn_rest g f fs j)) i
-
 -- the corners of a flat face lie on its plane
 pub flat_on : (M : Model) (f : ℕ) → is_flat M f ≡ true → (not (same_point (direction (plane_of M f)) origin) ≡ true) × (are_on M (plane_of M f) (corners M f) ≡ true)
 unfolding is_flat
@@ -179,4 +174,4 @@ module _ (M N : Model) (s : ℕ) (new : Sound N) (w : Measured M N s) where
     pub all_volumes : (u : ℕ) → six_volume N u ≡ six_volume M u
     unfolding six_volume
     all_volumes u = ap (volume_in N) (ap (table.all_where (λ _ row. nat_eq row.solid u)) w.faces)
-        ∙ volumes_stay M N (faces_of M u) (λ f i. face_volume f (has u f i).0)
+        ∙ same_volumes M N (faces_of M u) (λ f l. face_volume f (has u f (IsIn-from_listed f (faces_of M u) l)).0)

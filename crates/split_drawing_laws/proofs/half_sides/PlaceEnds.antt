@@ -257,13 +257,9 @@ module _ (M : Model) (s : ℕ) (p : Plane) (t : ℕ) (sound : Sound M) (begins :
     of_solid : IsIn f (faces_of M s)
     of_solid = in_solid M f s (half_face M sound g there) of_s
 
-    below_then : (b : Bool) → is_below p (start M g) ≡ b → reaches_above M p f ≡ true → is_below p (start M g) ≡ false
-    below_then false a up = a
-    below_then true a up = absurd (true≢false
-        (sym (listed-from_in f fs (IsIn-filter (straddles M p) f (faces_of M s) of_solid (both_ways f up (any_passes (λ v. is_below p (point_of M v)) (tail M g) (corners M f) corner a)))) ∙ beside))
-
     go : (b : Bool) → reaches_above M p f ≡ b → LiesOn p b (start M g)
-    go true up = below_then (is_below p (start M g)) refl up
+    go true up = false_from_ne_true (is_below p (start M g)) (λ a. true≢false (sym (listed-from_in f fs (IsIn-filter (straddles M p) f (faces_of M s) of_solid
+        (both_ways f up (any_passes (λ v. is_below p (point_of M v)) (tail M g) (corners M f) corner a)))) ∙ beside))
     go false none = none_passes (λ v. is_above p (point_of M v)) (tail M g) (corners M f) none corner
 
   lies_beside : (h : ℕ) → HasHalf N h → solid_of N (face_at N h) ≡ s → lists fs (face_at N h) ≡ false → LiesOn p (side h) (start N h)
@@ -307,17 +303,10 @@ module _ (M : Model) (s : ℕ) (p : Plane) (t : ℕ) (sound : Sound M) (begins :
     meets : finish N x ≡ start N (after N x)
     meets = ap (point_of N) (sym (new_sound.ends_meet x there))
 
-    goes_beside : lists fs (face_at N (after N x)) ≡ false → Goes x
-    goes_beside e = never_place x (λ i. true≢false (sym (listed-from_in (face_at N (after N x)) fs (place_facts (after N x) i).1) ∙ e))
-        (side_beside (after N x) e ∙ ap (reaches_above M p) one_face ∙ sym (side_beside x (ap (lists fs) (sym one_face) ∙ e)))
-
     -- in a face that straddles
     module _ (i : IsIn (face_at N (after N x)) (straddling_faces M p s)) where
       side_here : side x ≡ half_is_above N p x
       side_here = side_within x (subst (λ f. IsIn f fs) one_face i)
-
-      side_next : side (after N x) ≡ half_is_above N p (after N x)
-      side_next = side_within (after N x) i
 
       ends_at : half_is_above N p x ≡ (is_above p (start N x) || is_above p (start N (after N x)))
       ends_at = ap (λ q. is_above p (start N x) || is_above p q) meets
@@ -330,7 +319,7 @@ module _ (M : Model) (s : ℕ) (p : Plane) (t : ℕ) (sound : Sound M) (begins :
 
       goes_off : is_on p (start N (after N x)) ≡ false → Goes x
       goes_off off = never_place x (λ j. true≢false (sym (place_facts (after N x) j).2 ∙ off))
-          (side_next
+          (side_within (after N x) i
           ∙ side_kept (height p (start N x)) (height p (start N (after N x))) (height p (finish N (after N x))) aside_here (stays_aside (after N x) (half_after N new_sound x there) of_s) off
           ∙ sym (side_here ∙ ends_at))
 
@@ -339,7 +328,7 @@ module _ (M : Model) (s : ℕ) (p : Plane) (t : ℕ) (sound : Sound M) (begins :
           let w : TurnAt M N p x = turn_at M s p t sound begins x there on i in
           let in_ends : IsIn (after N x) (all_ends (all_pairs M N p fs)) = in_all_ends M N p (face_at N (after N x)) (after N x) fs i
           (subst (λ y. IsIn y (ends (drawn_pairs M N p (face_at N (after N x))))) w.is (place_in_ends (face_at N (after N x)) i w.place w.of_face)) in
-          let changes : side (after N x) ≡ not (side x) = side_next
+          let changes : side (after N x) ≡ not (side x) = side_within (after N x) i
           ∙ side_changed (height p (start N x)) (height p (start N (after N x))) (height p (finish N (after N x))) on w.across
           ∙ ap not (sym (side_here ∙ ends_at)) in
           ((λ z. absurd (omega (arith, z, in_ends))), (λ j. changes))
@@ -347,7 +336,8 @@ module _ (M : Model) (s : ℕ) (p : Plane) (t : ℕ) (sound : Sound M) (begins :
     goes : Goes x
     goes = go (lists fs (face_at N (after N x))) (is_on p (start N (after N x))) refl refl where
       go : (a b : Bool) → lists fs (face_at N (after N x)) ≡ a → is_on p (start N (after N x)) ≡ b → Goes x
-      go false b e f = goes_beside e
+      go false b e f = never_place x (λ i. true≢false (sym (listed-from_in (face_at N (after N x)) fs (place_facts (after N x) i).1) ∙ e))
+          (side_beside (after N x) e ∙ ap (reaches_above M p) one_face ∙ sym (side_beside x (ap (lists fs) (sym one_face) ∙ e)))
       go true true e f = goes_on (IsIn-from_listed (face_at N (after N x)) fs e) f
       go true false e f = goes_off (IsIn-from_listed (face_at N (after N x)) fs e) f
 

@@ -1,8 +1,9 @@
 -- The side of a half-edge, by the heights of its ends.
 use Rattle.std.specs.Prelude.{int_lt}
 use Rattle.std.specs.Ordering.{int_eq}
-use Rattle.std.proofs.Common.{◌≡◌, true, false, not, ◌||◌, ℤ, pos, arith, ℕ, Bool, cond, ◌&&◌, List, sym, ap, ◌∙◌, subst, ◌⊎◌, inl, inr, true≢false}
+use Rattle.std.proofs.Common.{◌≡◌, true, false, not, ◌||◌, ℤ, pos, arith, ℕ, cond, ◌&&◌, List, sym, ap, ◌∙◌, subst, ◌⊎◌, inl, inr, true≢false}
 use Rattle.std.proofs.lemmas.Int.{ints}
+use Rattle.std.proofs.lemmas.Bool.{and_parts}
 use Rattle.euler_operators.specs.Vectors.{opposite, height, are_opposite, is_on}
 use Rattle.euler_operators.specs.declared.Plane.{Plane}
 use Rattle.euler_operators.specs.Items.{count, IsIn}
@@ -199,11 +200,8 @@ module _ (M : Model) (s : ℕ) (p : Plane) (t : ℕ) (sound : Sound M) (begins :
 
       opposite_then : are_opposite p (start M (before M y)) (finish M y) ≡ true
       unfolding is_place
-      opposite_then = go (crosses M p y) (is_on p (start M y)) (are_opposite p (start M (before M y)) (finish M y)) is_then_place crosses_not where
-        go : (a b c : Bool) → (a || (b && c)) ≡ true → a ≡ false → c ≡ true
-        go true b c e n = absurd (true≢false n)
-        go false true c e n = e
-        go false false c e n = absurd (true≢false (sym e))
+      opposite_then = (and_parts (is_on p (start M y)) (are_opposite p (start M (before M y)) (finish M y))
+          (sym (ap (λ a. a || (is_on p (start M y) && are_opposite p (start M (before M y)) (finish M y))) crosses_not) ∙ is_then_place)).1
 
       abbrev back : ℕ
       back = (back_of M sound y old).0

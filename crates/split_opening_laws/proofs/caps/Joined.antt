@@ -14,7 +14,7 @@ use Rattle.euler_operators.specs.Model.{Model, cycle, no_face, loop_of, face_of,
 use Rattle.euler_operators.specs.declared.Op.TheVariants.{Kef}
 use Rattle.euler_operators.specs.Conditions.{face_at, first_false}
 use Rattle.euler_operators.specs.Effect.{effect, kef}
-use Rattle.euler_operators.proofs.Lists.{tick_other, count-append, tick_same}
+use Rattle.euler_operators.proofs.Lists.{count-append, tick_same}
 use Rattle.euler_operators.proofs.Tables.{get-remove_other, remove_turned, get-put_here, get-put_other}
 use Rattle.euler_operators.proofs.Rotations.{canonical-rotates, canonical_same, rest_same, rest_at}
 use Rattle.euler_operators.proofs.Halves.{minus_row, code-half, mate_minus}
@@ -185,7 +185,7 @@ module _ (N : Model) (s : ℕ) (c : Taken) (hs : List ℕ) (w : HasStrips N s c 
   -- no other loop is of the next strip's face
   only_l : (q : ℕ) → Has P.loops q → face_of P q ≡ f → l ≡ q
   only_l q there is = elim (eqb_tells q l1) [
-    | inl p ↦ absurd (omega (arith, (sym face_l1 ∙ ap (face_of P) (sym p.1) ∙ is)))
+    | inl p ↦ absurd (omega (arith, sym face_l1 ∙ ap (face_of P) (sym p.1) ∙ is))
     | inr ne ↦
         let kept : table.get P.loops q ≡ table.get (without_rows N.loops (numbers_after l1 n)) q = at_else N s c hs w n q ne.1 in
         let same : table.get P.loops q ≡ table.get N.loops q = kept ∙ gone_back N.loops l1 n q (sym (ap is_some kept) ∙ there) in
@@ -196,7 +196,7 @@ module _ (N : Model) (s : ℕ) (c : Taken) (hs : List ℕ) (w : HasStrips N s c 
   unfolding outer
   goes = record {
     h_there = half_is P l1 f1 (front ++ minus x ∷ []) around_first (minus x) h_in;
-    faces_apart = λ q. omega (arith, (sym (ap (face_of P) loop_h ∙ face_l1) ∙ q ∙ face_k));
+    faces_apart = λ q. omega (arith, sym (ap (face_of P) loop_h ∙ face_l1) ∙ q ∙ face_k);
     no_rings = λ q there is. ap (outer P) face_k ∙ ap (λ o. (unwrap_or o no_face).outer) face_row_f ∙ only_l q there (is ∙ face_k);
   }
 

@@ -163,7 +163,7 @@ module _ (N : Model) (s : ℕ) (c : Taken) (hs : List ℕ) (w : HasStrips N s c 
   makes = record {
     l_there = ap is_some at_L;
     face_free = ap (λ t. table.get t F) (joined_faces N s c hs w n) ∙ gone_free N.faces f1 n F w.face_free;
-    is_ring = λ q. omega (arith, (sym (sym (ap (λ o. (unwrap_or o no_face).outer) face_row_1) ∙ ap (outer K) (sym face_L) ∙ q)), w.some);
+    is_ring = λ q. omega (arith, sym (sym (ap (λ o. (unwrap_or o no_face).outer) face_row_1) ∙ ap (outer K) (sym face_L) ∙ q), w.some);
     face_fits = w.face_fits;
   }
 

@@ -35,7 +35,6 @@ use Rattle.split_opening_laws.proofs.strips.Cycle as on
 use Rattle.split_opening_laws.proofs.strips.Cycle.{before_below, before_apart, next-before, next_once}
 use Rattle.split_opening_laws.proofs.copies.Raised as raised
 use Rattle.split_opening_laws.proofs.copies.Raised.{not_less, arc_first, arc_up, arc_down, arc_else}
-use Rattle.split_opening_laws.proofs.copies.Sides as sides
 use Rattle.euler_laws.proofs.shared.KnownLoop.{loop_is, apart_xs}
 use Rattle.euler_laws.proofs.shared.Rows.{where_held_none, where_held_there, edge_row_plus, point_row}
 use Rattle.euler_operators.specs.Conditions.{face_at, lists, first_false}
@@ -172,7 +171,7 @@ module _ (M : Model) (above : List ℕ) (s : ℕ) (c : Taken) (bs : List ℕ) (w
   fallen_is =
       let d : IsApart (items p) = items_apart p p_below in
       let b : ℕ = minus (c.edge + suc p) in
-      let last : items p ≡ (k ∷ rises) ++ b ∷ [] = sides.last_items M above s c bs w i lt sound in
+      let last : items p ≡ (k ∷ rises) ++ b ∷ [] = raised.last_items M above s c bs w i sound lt in
       let none : count (minus u) (items p) ≡ 0 = none_new (minus u) p p_below (minus_row u).0 in
       let in_front : insert_before k (minus u) ((k ∷ rises) ++ b ∷ []) ≡ minus u ∷ ((k ∷ rises) ++ b ∷ []) = insert_before_at k (minus u) [] (rises ++ b ∷ []) refl in
       let here : insert_before k (minus u) (items p) ≡ minus u ∷ ((k ∷ rises) ++ b ∷ []) = ap (insert_before k (minus u)) last ∙ in_front in
@@ -232,7 +231,7 @@ module _ (M : Model) (above : List ℕ) (s : ℕ) (c : Taken) (bs : List ℕ) (w
   moved = arc (copies_raised M above s c bs i) (minus (c.edge + suc i)) (mate (get_or bs (place_before (length bs) i) 0))
 
   g_tail : tail N g ≡ x
-  g_tail = sides.g_tail M above s c bs w i lt sound
+  g_tail = raised.g_tail M above s c bs w i sound lt
 
   some_less : (h : ℕ) → IsIn h moved → nat_lt 0 (count h moved) ≡ true
   some_less h at = lt-ltb 0 (count h moved) (omega (arith, at))
@@ -244,15 +243,15 @@ module _ (M : Model) (above : List ℕ) (s : ℕ) (c : Taken) (bs : List ℕ) (w
   moves : (h : ℕ) → HasHalf N h → (side h ≡ true) ⊎ (h ≡ g) → nat_lt 0 (count h moved) ≡ nat_eq (tail N h) x
   moves h there above_or = elim (eqb_tells (tail N h) x) [
     | inl e ↦ elim above_or [
-      | inl t ↦ some_less h (arc_up N sound side g k (sides.splits M above s c bs w i lt sound) h there (e.1 ∙ sym g_tail) t) ∙ sym e.0
-      | inr q ↦ some_less h (subst (λ z. IsIn z moved) (sym q) (arc_first N sound side g k (sides.splits M above s c bs w i lt sound))) ∙ sym e.0
+      | inl t ↦ some_less h (arc_up N sound side g k (raised.splits M above s c bs w i sound lt) h there (e.1 ∙ sym g_tail) t) ∙ sym e.0
+      | inr q ↦ some_less h (subst (λ z. IsIn z moved) (sym q) (arc_first N sound side g k (raised.splits M above s c bs w i sound lt))) ∙ sym e.0
     ]
-    | inr e ↦ none_less h (arc_else N sound side g k (sides.splits M above s c bs w i lt sound) h (λ q. e.1 (q ∙ g_tail))) ∙ sym e.0
+    | inr e ↦ none_less h (arc_else N sound side g k (raised.splits M above s c bs w i sound lt) h (λ q. e.1 (q ∙ g_tail))) ∙ sym e.0
   ]
 
   -- nothing else does
   stays : (h : ℕ) → side h ≡ false → h ≢ g → nat_lt 0 (count h moved) ≡ false
-  stays h d ne = none_less h (arc_down N sound side g k (sides.splits M above s c bs w i lt sound) h d ne)
+  stays h d ne = none_less h (arc_down N sound side g k (raised.splits M above s c bs w i sound lt) h d ne)
 
   other_edge : (h e : ℕ) → edge_of h ≡ e → e ≢ c.edge + suc i → h ≢ g
   other_edge h e is ne q = ne (sym is ∙ ap edge_of q ∙ (minus_row (c.edge + suc i)).0)
@@ -262,12 +261,12 @@ module _ (M : Model) (above : List ℕ) (s : ℕ) (c : Taken) (bs : List ℕ) (w
 
   -- a half-edge that was there
   old_moves : (h : ℕ) → HasHalf M h → cond (nat_lt 0 (count h moved)) y (opened_tail M above mates copies h (tail M h)) ≡ opened_tail M above mates copies' h (tail M h)
-  old_moves h there = elim (sides.tested M above s c bs w i lt sound (lists above (face_at M h) && not (lists mates h))) [
+  old_moves h there = elim (raised.tested M above s c bs w i sound lt (lists above (face_at M h) && not (lists mates h))) [
     | inl t ↦ grind (arith, both_true, raised.old_tail, raised.old_side, moves, raised.old_half, turned)
     | inr f ↦
         let is : opened_tail M above mates copies h (tail M h) ≡ tail M h = ap (λ b. cond b (renamed copies (tail M h)) (tail M h)) f in
-        let down : side h ≡ false = elim (sides.tested M above s c bs w i lt sound (lists mates h)) [
-          | inl l ↦ (sides.listed_side M above s c bs w i lt sound h l).0
+        let down : side h ≡ false = elim (raised.tested M above s c bs w i sound lt (lists mates h)) [
+          | inl l ↦ (raised.listed_side M above s c bs w i sound lt h l).0
           | inr l ↦ raised.old_side M above s c bs w i sound h there l ∙ grind arith
         ] in
         (λ n. cond (stays h down (other_edge h (edge_of h) refl (λ e. omega (arith, e, on.low_edge M above s c bs w h there))) n) y (is n))
@@ -300,11 +299,11 @@ module _ (M : Model) (above : List ℕ) (s : ℕ) (c : Taken) (bs : List ℕ) (w
     second : cond (nat_lt 0 (count (minus (c.edge + suc j)) moved)) y (renamed copies (tail M (get_or bs j 0))) ≡ renamed copies' (tail M (get_or bs j 0))
     second =
         ap (λ b. cond b y (renamed copies (tail M (get_or bs j 0)))) (elim (eqb_tells j i) [
-          | inl e ↦ grind (arith, moves, sides.g_there, raised.back_tail)
+          | inl e ↦ grind (arith, moves, raised.g_there, raised.back_tail)
           | inr e ↦
               stays (minus (c.edge + suc j)) (raised.strip_side M above s c bs w i sound j (minus (c.edge + suc j)) below (raised.back_in M above s c bs w i sound j))
               (other_edge (minus (c.edge + suc j)) (c.edge + suc j) (minus_row (c.edge + suc j)).0 (λ q. e.1 (omega arith)))
-              ∙ sym (apart (renamed copies (tail M (get_or bs j 0))) x (λ q. e.1 (sides.back_start M above s c bs w i lt sound j below (raised.back_tail M above s c bs w i sound j below ∙ q))))
+              ∙ sym (apart (renamed copies (tail M (get_or bs j 0))) x (λ q. e.1 (raised.back_start M above s c bs w i sound lt j below (raised.back_tail M above s c bs w i sound j below ∙ q))))
         ])
         ∙ turned (tail M (get_or bs j 0)) where
           apart : (a b : ℕ) → a ≢ b → nat_eq a b ≡ false
@@ -353,11 +352,11 @@ module _ (M : Model) (above : List ℕ) (s : ℕ) (c : Taken) (bs : List ℕ) (w
 
   goes : MevGoes N g k (plus u) y (point_of M x)
   goes = record {
-    g_there = sides.g_there M above s c bs w i lt sound;
-    k_there = sides.k_there M above s c bs w i lt sound;
+    g_there = raised.g_there M above s c bs w i sound lt;
+    k_there = raised.k_there M above s c bs w i sound lt;
     edge_free = ap (table.get N.edges) (edge_plus u) ∙ edge_free;
     vertex_free = ap (λ t. table.get t y) (raised.raised_vertices M above s c bs w i sound) ∙ copy.points_free M above s c bs w i y (omega arith) (omega arith);
-    one_tail = sides.k_tail M above s c bs w i lt sound ∙ sym (sides.g_tail M above s c bs w i lt sound);
+    one_tail = raised.k_tail M above s c bs w i sound lt ∙ sym (raised.g_tail M above s c bs w i sound lt);
     edge_fits = ap is_number (edge_plus u) ∙ fits u (omega arith) (omega (arith, w.left.edges, lt));
     vertex_fits = fits y (omega arith) (omega (arith, w.left.vertices, lt));
     point_fits = w.sound.points_fit x (point_of M x) (point_row M x (w.sound.tails_there (get_or bs i 0) (on.half_there M above s c bs w i lt)));
@@ -380,10 +379,7 @@ module _ (M : Model) (above : List ℕ) (s : ℕ) (c : Taken) (bs : List ℕ) (w
   unfolding copies_raised
   solids_stay = refl
 
-  mev_is : mev_at N g k (plus u) y (point_of M x) ≡ copies_raised M above s c bs (suc i)
-  unfolding mev_at
-  mev_is = λ n. record { solids = solids_stay n; faces = faces_stay n; loops = loops_next n; edges = edges_next n; vertices = vertices_next n }
-
   pub copy_is : effect N (raise_copy M c bs i) ≡ copies_raised M above s c bs (suc i)
-  unfolding effect
-  copy_is = (λ n. mev_at N (code-half g n) (code-half k n) (code-half (plus u) n) y (point_of M x)) ∙ mev_is
+  unfolding effect mev_at
+  copy_is = (λ n. mev_at N (code-half g n) (code-half k n) (code-half (plus u) n) y (point_of M x))
+      ∙ (λ n. record { solids = solids_stay n; faces = faces_stay n; loops = loops_next n; edges = edges_next n; vertices = vertices_next n })

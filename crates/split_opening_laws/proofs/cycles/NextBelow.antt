@@ -158,9 +158,6 @@ module _ (M : Model) (above : List ℕ) (s : ℕ) (sound : Sound M) (faces : Are
     meet : (k : ℕ) → k < length (b ∷ others) → tail M (get_or (b ∷ others) (next_place (length (b ∷ others)) k) 0) ≡ tail M (mate (get_or (b ∷ others) k 0))
     meet k l = ap (tail M) (sym (ring_place next b others k ring l)) ∙ next_starts (get_or (b ∷ others) k 0) (within (get_or (b ∷ others) k 0) (IsIn-get_or (b ∷ others) k 0 l))
 
-    ends_apart : IsApart (map (tail M) (b ∷ others))
-    ends_apart = IsApart-map (tail M) (b ∷ others) (λ x j y k e. known_by (tail M) halves (starts_apart) x y (within x j) (within y k) e) apart
-
     -- the half before c ends where c starts
     back : (c : ℕ) → IsIn c (b ∷ others) → (a : ℕ) × IsIn a (b ∷ others) × (next a ≡ c)
     back c j = ring_back next b others b c ring (turned c others j) where
@@ -193,7 +190,7 @@ module _ (M : Model) (above : List ℕ) (s : ℕ) (sound : Sound M) (faces : Are
       two_halves = two others refl;
       halves = λ x j. halves_are M above s sound x (within x j);
       meet = meet;
-      starts_apart = ends_apart;
+      starts_apart = IsApart-map (tail M) (b ∷ others) (λ x j y k e. known_by (tail M) halves (starts_apart) x y (within x j) (within y k) e) apart;
       no_branch = crossing;
     }
 
