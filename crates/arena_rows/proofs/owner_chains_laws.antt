@@ -4,6 +4,7 @@ pub mod Following
 pub mod Placing
 pub mod Tables
 pub mod Linking
+pub mod Leading
 pub mod Coming
 pub mod Going
 pub mod Whole

@@ -1,7 +1,6 @@
 -- What becomes of a row where two items are led elsewhere.
-use Rattle.std.proofs.Common.{◌≡◌, ◌≢◌, ℕ, Bool, true, false, cond, nat_eq, List, Option, Some, None, is_some, refl, sym, ap, ◌∙◌, inl, inr}
+use Rattle.std.proofs.Common.{◌≡◌, ◌≢◌, ℕ, Bool, true, false, cond, nat_eq, List, Option, Some, None, is_some, refl, sym, ap, ◌∙◌, eq-eqb, ne_eqb, inl, inr}
 use Rattle.std.proofs.lemmas.Bool.Decides.{eqb_tells}
-use Rattle.std.proofs.lemmas.Bool.{eqb-true, eqb-false}
 use Rattle.arena_rows.specs.declared.owner_chains.rows.Link.{Link}
 use Rattle.arena_rows.specs.owner_chains.Owners.{is_owner}
 use Rattle.arena_rows.specs.owner_chains.Chains.{link_at, owner_in, is_of, leading_on, leading_back, relinked}
@@ -23,69 +22,38 @@ module _ (a x b y q : ℕ) where
   abbrev led : Bool → Bool → Option Link → Option Link
   led da db row = cond db (leading_back y (cond da (leading_on x row) row)) (cond da (leading_on x row) row)
 
-  pub relinked_row : (row : Option Link) (now : Link) → relinked a x b y q row ≡ Some now → IsRelinked a x b y q row now
-  relinked_row row now is = go (nat_eq q a) refl (nat_eq q b) refl row is where
-    go : (da : Bool) → nat_eq q a ≡ da → (db : Bool) → nat_eq q b ≡ db → (row : Option Link) → led da db row ≡ Some now → IsRelinked a x b y q row now
-    go true ea true eb None e = cc
-    go true ea false eb None e = cc
-    go false ea true eb None e = cc
-    go false ea false eb None e = cc
-    go true ea true eb (Some link) e = let s = same_link _ _ e in record {
-      link = link;
-      was = refl;
-      owner = ap (λ l. l.owner) (sym s);
-      on = λ h. ap (λ l. l.next) (sym s);
-      next = λ h. absurd (h (eqb-true q a ea));
-      back = λ h. ap (λ l. l.previous) (sym s);
-      previous = λ h. absurd (h (eqb-true q b eb));
-    }
-    go true ea false eb (Some link) e = let s = same_link _ _ e in record {
-      link = link;
-      was = refl;
-      owner = ap (λ l. l.owner) (sym s);
-      on = λ h. ap (λ l. l.next) (sym s);
-      next = λ h. absurd (h (eqb-true q a ea));
-      back = λ h. absurd (eqb-false q b eb h);
-      previous = λ h. ap (λ l. l.previous) (sym s);
-    }
-    go false ea true eb (Some link) e = let s = same_link _ _ e in record {
-      link = link;
-      was = refl;
-      owner = ap (λ l. l.owner) (sym s);
-      on = λ h. absurd (eqb-false q a ea h);
-      next = λ h. ap (λ l. l.next) (sym s);
-      back = λ h. ap (λ l. l.previous) (sym s);
-      previous = λ h. absurd (h (eqb-true q b eb));
-    }
-    go false ea false eb (Some link) e = let s = same_link _ _ e in record {
-      link = link;
-      was = refl;
-      owner = ap (λ l. l.owner) (sym s);
-      on = λ h. absurd (eqb-false q a ea h);
-      next = λ h. ap (λ l. l.next) (sym s);
-      back = λ h. absurd (eqb-false q b eb h);
-      previous = λ h. ap (λ l. l.previous) (sym s);
-    }
+  led_none_is : (da db : Bool) → led da db None ≡ None
+  led_none_is true true = refl
+  led_none_is true false = refl
+  led_none_is false true = refl
+  led_none_is false false = refl
 
-  pub owner_in-relinked : (row : Option Link) → owner_in (relinked a x b y q row) ≡ owner_in row
-  owner_in-relinked row = go (nat_eq q a) (nat_eq q b) row where
-    go : (da db : Bool) (row : Option Link) → owner_in (led da db row) ≡ owner_in row
-    go true true None = refl
-    go true false None = refl
-    go false true None = refl
-    go false false None = refl
-    go true true (Some link) = refl
-    go true false (Some link) = refl
-    go false true (Some link) = refl
-    go false false (Some link) = refl
+  led_some_is : (da db : Bool) (link : Link) → led da db (Some link) ≡ Some (record { owner = link.owner; previous = cond db y link.previous; next = cond da x link.next })
+  led_some_is true true link = refl
+  led_some_is true false link = refl
+  led_some_is false true link = refl
+  led_some_is false false link = refl
 
   pub none_relinked : relinked a x b y q None ≡ None
-  none_relinked = go (nat_eq q a) (nat_eq q b) where
-    go : (da db : Bool) → led da db None ≡ None
-    go true true = refl
-    go true false = refl
-    go false true = refl
-    go false false = refl
+  none_relinked = led_none_is (nat_eq q a) (nat_eq q b)
+
+  pub relinked_row : (row : Option Link) (now : Link) → relinked a x b y q row ≡ Some now → IsRelinked a x b y q row now
+  relinked_row None now is = let z = sym none_relinked ∙ is in cc
+  relinked_row (Some link) now is =
+      let s = same_link _ _ (sym is ∙ led_some_is (nat_eq q a) (nat_eq q b) link) in
+      record {
+        link = link;
+        was = refl;
+        owner = ap (λ l. l.owner) s;
+        on = λ h. ap (λ l. l.next) s ∙ ap (λ t. cond t x link.next) (eq-eqb q a h);
+        next = λ h. ap (λ l. l.next) s ∙ ap (λ t. cond t x link.next) (ne_eqb q a h);
+        back = λ h. ap (λ l. l.previous) s ∙ ap (λ t. cond t y link.previous) (eq-eqb q b h);
+        previous = λ h. ap (λ l. l.previous) s ∙ ap (λ t. cond t y link.previous) (ne_eqb q b h);
+      }
+
+  pub owner_in-relinked : (row : Option Link) → owner_in (relinked a x b y q row) ≡ owner_in row
+  owner_in-relinked None = ap owner_in none_relinked
+  owner_in-relinked (Some link) = ap owner_in (led_some_is (nat_eq q a) (nat_eq q b) link)
 
 -- the items of an owner, by the owners
 pub is_of-owner_in : (o : ℕ) (row : Option Link) → is_of o row ≡ is_owner o (owner_in row)

@@ -1,18 +1,15 @@
 -- The table of owners that the rows stand for.
-use Rattle.std.proofs.Common.{◌≡◌, ℕ, zero, suc, ◌≤◌, ◌<◌, Bool, true, false, cond, nat_eq, nat_lt, List, [], ◌∷◌, length, Option, Some, None, is_some, refl, sym, ap, ◌∙◌, arith, true≢false}
+use Rattle.std.proofs.Common.{◌≡◌, ℕ, ◌≤◌, true, false, cond, nat_eq, List, length, Option, Some, None, is_some, refl, sym, ap, ◌∙◌, arith}
 use Rattle.std.specs.Prelude.{slice_index_or}
-use Rattle.std.proofs.lemmas.Bool.Decides.{nat_tests}
-use Rattle.boundary_model.specs.Table.{get, put, remove, get-put, get-remove, get-tabulate, same_table}
+use Rattle.boundary_model.specs.Table.{get, put, remove, get-put, get-remove, tabulate, same_table}
 use Rattle.arena_rows.specs.declared.owner_chains.rows.Head.{Head}
 use Rattle.arena_rows.specs.declared.owner_chains.rows.Link.{Link}
 use Rattle.arena_rows.specs.owner_chains.Owners.{owned, is_owner}
-use Rattle.arena_rows.specs.owner_chains.Chains.{head_in, head_at, link_at, owner_in, is_of, items, owners_of}
+use Rattle.arena_rows.specs.owner_chains.Chains.{head_in, head_at, link_at, owner_in, items, owners_of}
+use Rattle.arena_rows.specs.Rows.{map_row, table_of}
+use Rattle.arena_rows.proofs.Views.{row_within, get-table_of, has-row}
+use Rattle.arena_rows.proofs.owner_chains_laws.Linking.{is_of-owner_in}
 use Rattle.arena_rows.proofs.owner_chains_laws.Counting.{few}
-
-pub link_past : (links : List (Option Link)) (q : ℕ) → length links ≤ q → link_at links q ≡ None
-link_past [] q h = refl
-link_past (x ∷ links) zero h = absurd (omega arith)
-link_past (x ∷ links) (suc q) h = link_past links q (omega arith)
 
 -- an owner that has an item has its row
 pub head_there : (row : Option Head) → 1 ≤ (head_in row).count → is_some row ≡ true
@@ -24,27 +21,19 @@ pub head_written : (heads new : List (Option Head)) (o : ℕ) (row now : Head) �
     head_at new q ≡ cond (nat_eq q o) now (head_at heads q)
 head_written heads new o row now is rows q = ap head_in (rows q) ∙ (elim (nat_eq q o) as (λ b. head_in (cond b (Some row) (slice_index_or heads q None)) ≡ cond b now (head_at heads q)) [ true ↦ is | false ↦ refl ])
 
-pub link_within : (links : List (Option Link)) (q : ℕ) → is_some (link_at links q) ≡ true → q < length links
-link_within [] q h = absurd (true≢false (sym h))
-link_within (x ∷ links) zero h = omega arith
-link_within (x ∷ links) (suc q) h = omega (arith, link_within links q h)
-
 module _ (links : List (Option Link)) where
-  below_or : (q : ℕ) → cond (nat_lt q (length links)) (owner_in (link_at links q)) None ≡ owner_in (link_at links q)
-  below_or q = go (nat_lt q (length links)) refl where
-    go : (b : Bool) → nat_lt q (length links) ≡ b → cond b (owner_in (link_at links q)) None ≡ owner_in (link_at links q)
-    go true e = refl
-    go false e = let p : length links ≤ q = grind (arith, nat_tests) in sym (ap owner_in (link_past links q p))
+  owner_is : (row : Option Link) → owner_in row ≡ map_row (λ (link : Link). link.owner) row
+  owner_is None = refl
+  owner_is (Some link) = refl
+
+  owners_are : owners_of links ≡ table_of (λ (link : Link). link.owner) links
+  owners_are = λ i. tabulate (λ k. owner_is (link_at links k) i) (length links)
 
   pub owner_at : (q : ℕ) → get (owners_of links) q ≡ owner_in (link_at links q)
-  owner_at q = get-tabulate (λ k. owner_in (link_at links k)) (length links) q ∙ below_or q
-
-  is_some-owner : (row : Option Link) → is_some (owner_in row) ≡ is_some row
-  is_some-owner None = refl
-  is_some-owner (Some link) = refl
+  owner_at q = ap (λ t. get t q) owners_are ∙ get-table_of (λ (link : Link). link.owner) links q ∙ sym (owner_is (link_at links q))
 
   pub row_there : (q : ℕ) → is_some (get (owners_of links) q) ≡ true → is_some (link_at links q) ≡ true
-  row_there q h = sym (is_some-owner (link_at links q)) ∙ sym (ap is_some (owner_at q)) ∙ h
+  row_there q h = has-row (λ (link : Link). link.owner) links q (ap (λ t. is_some (get t q)) (sym owners_are) ∙ h)
 
   pub row_free : (q : ℕ) → get (owners_of links) q ≡ None → link_at links q ≡ None
   row_free q h = go (link_at links q) (sym (owner_at q) ∙ h) where
@@ -52,15 +41,11 @@ module _ (links : List (Option Link)) where
     go None e = refl
     go (Some link) e = cc
 
-  is_owner-in : (o : ℕ) (row : Option Link) → is_owner o (owner_in row) ≡ is_of o row
-  is_owner-in o None = refl
-  is_owner-in o (Some link) = refl
-
   pub item_at : (o q : ℕ) → is_owner o (get (owners_of links) q) ≡ items links o q
-  item_at o q = ap (is_owner o) (owner_at q) ∙ is_owner-in o (link_at links q)
+  item_at o q = ap (is_owner o) (owner_at q) ∙ sym (is_of-owner_in o (link_at links q))
 
   pub few_owned : (o : ℕ) → length (owned o (owners_of links)) ≤ length links
-  few_owned o = few (λ _ x. nat_eq x o) (owners_of links) (length links) (λ q h. link_within links q (row_there q h))
+  few_owned o = few (λ _ x. nat_eq x o) (owners_of links) (length links) (λ q h. row_within links q (row_there q h))
 
 module _ (links new : List (Option Link)) where
   pub owners_of-same : ((q : ℕ) → link_at new q ≡ link_at links q) → owners_of new ≡ owners_of links
