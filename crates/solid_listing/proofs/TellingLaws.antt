@@ -1,5 +1,5 @@
 -- Telling one text after another.
-use Rattle.std.proofs.Common.{◌≡◌, ℕ, List, [], ◌++◌, Option, Result, Ok, Err, refl, sym, ap, subst, ◌∙◌, append_assoc}
+use Rattle.std.proofs.Common.{◌≡◌, ℕ, List, [], ◌++◌, Option, Result, Ok, Err, sym, ap, subst, ◌∙◌, append_assoc}
 use Rattle.std.proofs.lemmas.List.{append-nil}
 use Rattle.std.proofs.KnownBytes.{Appends-nil, Appends-trans}
 use Rattle.std.specs.Io.KnownBytes.{Appends}
@@ -32,6 +32,10 @@ Breaks-after a b c xs ys g s = subst (Stops a.contents c.contents)
     (sym (append_assoc g.front b.pending ys) ∙ ap (λ (t : List ℕ). t ++ ys) (sym g.parts) ∙ append_assoc a.pending xs ys)
     (stops_after a.contents b.contents c.contents g.front (b.pending ++ ys) g.appended s)
 
+-- the same text in other words
+pub tells_as : {A E : Type 0} (a b : Outgoing) (xs ys : List ℕ) (r : Result A E) → xs ≡ ys → Tells a b xs r → Tells a b ys r
+tells_as a b xs ys r e = subst (λ (t : List ℕ). Tells a b t r) e
+
 -- a text after another that is all told
 pub tells_after : {A E : Type 0} (a b c : Outgoing) (xs ys : List ℕ) (r : Result A E) → Gathers a b xs → Tells b c ys r → Tells a c (xs ++ ys) r
 tells_after a b c xs ys (Ok x) h t = Gathers-trans a b c xs ys h t
@@ -45,8 +49,8 @@ pub record Telling (old new : Outgoing) (text rest : List ℕ) : Type 0 where
   pub parts : text ≡ front ++ rest
   pub gathered : Gathers old new front
 
-pub none_yet : (a : Outgoing) (text : List ℕ) → Telling a a text text
-none_yet a text = record { front = []; parts = refl; gathered = Gathers-nil a }
+pub none_yet : (a : Outgoing) (text rest : List ℕ) → text ≡ rest → Telling a a text rest
+none_yet a text rest e = record { front = []; parts = e; gathered = Gathers-nil a }
 
 pub told_more : (a b c : Outgoing) (text rest next bs : List ℕ) → Telling a b text rest → Gathers b c bs → rest ≡ bs ++ next → Telling a c text next
 told_more a b c text rest next bs w h e = record {
@@ -61,8 +65,8 @@ breaks_inside a b c text rest next bs w s e = subst (Breaks a c)
     (append_assoc w.front bs next ∙ ap (λ (xs : List ℕ). w.front ++ xs) (sym e) ∙ sym w.parts)
     (Breaks-longer a c (w.front ++ bs) next (Breaks-after a b c w.front bs w.gathered s))
 
-pub all_told : (a b : Outgoing) (text : List ℕ) → Telling a b text [] → Gathers a b text
-all_told a b text w = subst (Gathers a b) (sym (w.parts ∙ append-nil w.front)) w.gathered
+pub all_told : (a b : Outgoing) (text rest : List ℕ) → Telling a b text rest → rest ≡ [] → Gathers a b text
+all_told a b text rest w none = subst (Gathers a b) (sym (w.parts ∙ ap (λ (t : List ℕ). w.front ++ t) none ∙ append-nil w.front)) w.gathered
 
 -- ---- a text that goes out
 

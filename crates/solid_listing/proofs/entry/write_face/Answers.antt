@@ -4,9 +4,9 @@ use Rattle.euler_operators.specs.declared.Kind.TheVariants.{Face}
 use Rattle.euler_operators.specs.Model.{Model, solid_of, outer, rings_of}
 use Rattle.solid_listing.specs.Lines.{spaced, line_text}
 use Rattle.solid_listing.specs.Listing.{line}
-use Rattle.solid_listing.specs.Writing.{Gathers, outgoing, Tells}
+use Rattle.solid_listing.specs.Writing.{Gathers, outgoing}
 use Rattle.solid_listing.proofs.LineLaws.{line_parts}
-use Rattle.solid_listing.proofs.TellingLaws.{Breaks, Breaks-longer, Breaks-after, tells_after}
+use Rattle.solid_listing.proofs.TellingLaws.{Breaks, Breaks-longer, Breaks-after, tells_as, tells_after}
 use Rattle.solid_listing.proofs.entry.write_face.Goals as goal
 
 -- the first words of the line, the rings, and the newline
@@ -24,35 +24,22 @@ head_is M f s o p q = λ i. codes "face" ++ spaced (map decimal (f ∷ p i ∷ q
 
 pub returns-in_err-put_words : goal.returns-in_err-put_words
 returns-in_err-put_words g c =
-    let M = c.args.arena.now.model in
-    let f = c.args.f in
     let a = outgoing (g.W.Write.contents c.args.writer.now) c.args.text.now in
     let b = outgoing (g.W.Write.contents c.put_words.new.writer) c.put_words.new.text in
-    let is = head_is M f c.solid_of.result c.outer.result c.solid_of.ensures c.outer.ensures in
     let p = err_from_is_err_and c.from_residual.result c.from_residual.ensures.1 in
-    rw p.1 (subst (Breaks a b) (sym (parts M f)) (Breaks-longer a b (head M f) (rings M f ++ 10 ∷ []) (subst (Breaks a b) is c.in_err-put_words.ensures)))
+    rw p.1 (subst (Breaks a b) (sym (parts _ _)) (Breaks-longer a b _ _ (subst (Breaks a b) (head_is _ _ _ _ c.solid_of.ensures c.outer.ensures) c.in_err-put_words.ensures)))
 
 pub returns-in_err-write_rings : goal.returns-in_err-write_rings
 returns-in_err-write_rings g c =
-    let M = c.args.arena.now.model in
-    let f = c.args.f in
     let a = outgoing (g.W.Write.contents c.args.writer.now) c.args.text.now in
     let b = outgoing (g.W.Write.contents c.put_words.new.writer) c.put_words.new.text in
-    let is = head_is M f c.solid_of.result c.outer.result c.solid_of.ensures c.outer.ensures in
     let d = outgoing (g.W.Write.contents c.write_rings.new.writer) c.write_rings.new.text in
     let p = err_from_is_err_and c.from_residual-in_err-write_rings.result c.from_residual-in_err-write_rings.ensures.1 in
-    let wrote = subst (Gathers a b) is c.in_ok-put_words.ensures in
-    rw p.1 (subst (Breaks a d) (sym (parts M f)) (Breaks-after a b d (head M f) (rings M f ++ 10 ∷ []) wrote (Breaks-longer b d (rings M f) (10 ∷ []) c.in_err-write_rings.ensures)))
+    let wrote = subst (Gathers a b) (head_is _ _ _ _ c.solid_of.ensures c.outer.ensures) c.in_ok-put_words.ensures in
+    rw p.1 (subst (Breaks a d) (sym (parts _ _)) (Breaks-after a b d _ _ wrote (Breaks-longer b d (rings c.args.arena.now.model c.args.f) (10 ∷ []) c.in_err-write_rings.ensures)))
 
 pub returns : goal.returns
 returns g c =
-    let M = c.args.arena.now.model in
-    let f = c.args.f in
-    let a = outgoing (g.W.Write.contents c.args.writer.now) c.args.text.now in
-    let b = outgoing (g.W.Write.contents c.put_words.new.writer) c.put_words.new.text in
-    let is = head_is M f c.solid_of.result c.outer.result c.solid_of.ensures c.outer.ensures in
-    let d = outgoing (g.W.Write.contents c.write_rings.new.writer) c.write_rings.new.text in
     let e = outgoing (g.W.Write.contents c.put.new.writer) c.put.new.text in
-    let r = c.put.result in
-    let wrote = subst (Gathers a b) is c.in_ok-put_words.ensures in
-    subst (λ (t : List ℕ). Tells a e t r) (sym (parts M f)) (tells_after a b e (head M f) (rings M f ++ 10 ∷ []) r wrote (tells_after b d e (rings M f) (10 ∷ []) r c.in_ok-write_rings.ensures c.put.ensures))
+    let wrote = subst (Gathers _ _) (head_is _ _ _ _ c.solid_of.ensures c.outer.ensures) c.in_ok-put_words.ensures in
+    tells_as _ e _ _ c.put.result (sym (parts _ _)) (tells_after _ _ e _ _ c.put.result wrote (tells_after _ _ e (rings c.args.arena.now.model c.args.f) (10 ∷ []) c.put.result c.in_ok-write_rings.ensures c.put.ensures))

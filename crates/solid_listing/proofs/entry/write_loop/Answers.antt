@@ -4,9 +4,9 @@ use Rattle.euler_operators.specs.declared.Kind.TheVariants.{Loop}
 use Rattle.euler_operators.specs.Model.{Model, content}
 use Rattle.solid_listing.specs.Lines.{spaced, line_text}
 use Rattle.solid_listing.specs.Listing.{line, content_words}
-use Rattle.solid_listing.specs.Writing.{outgoing, Tells}
+use Rattle.solid_listing.specs.Writing.{outgoing}
 use Rattle.solid_listing.proofs.LineLaws.{line_parts}
-use Rattle.solid_listing.proofs.TellingLaws.{Breaks, Breaks-longer, Breaks-after, tells_after}
+use Rattle.solid_listing.proofs.TellingLaws.{Breaks, Breaks-longer, Breaks-after, tells_as, tells_after}
 use Rattle.solid_listing.proofs.entry.write_loop.Goals as goal
 
 -- the first words of the line, what the loop holds, and the newline
@@ -21,30 +21,20 @@ parts M l = line_parts (codes "loop") (decimal l ∷ []) (content_words (content
 
 pub returns-in_err-put_words : goal.returns-in_err-put_words
 returns-in_err-put_words g c =
-    let M = c.args.arena.now.model in
-    let l = c.args.l in
     let a = outgoing (g.W.Write.contents c.args.writer.now) c.args.text.now in
     let b = outgoing (g.W.Write.contents c.put_words.new.writer) c.put_words.new.text in
     let p = err_from_is_err_and c.from_residual.result c.from_residual.ensures.1 in
-    rw p.1 (subst (Breaks a b) (sym (parts M l)) (Breaks-longer a b (head l) (held M l ++ 10 ∷ []) c.in_err-put_words.ensures))
+    rw p.1 (subst (Breaks a b) (sym (parts _ _)) (Breaks-longer a b (head c.args.l) _ c.in_err-put_words.ensures))
 
 pub returns-in_err-write_content : goal.returns-in_err-write_content
 returns-in_err-write_content g c =
-    let M = c.args.arena.now.model in
-    let l = c.args.l in
     let a = outgoing (g.W.Write.contents c.args.writer.now) c.args.text.now in
     let b = outgoing (g.W.Write.contents c.put_words.new.writer) c.put_words.new.text in
     let d = outgoing (g.W.Write.contents c.write_content.new.writer) c.write_content.new.text in
     let p = err_from_is_err_and c.from_residual-in_err-write_content.result c.from_residual-in_err-write_content.ensures.1 in
-    rw p.1 (subst (Breaks a d) (sym (parts M l)) (Breaks-after a b d (head l) (held M l ++ 10 ∷ []) c.in_ok-put_words.ensures (Breaks-longer b d (held M l) (10 ∷ []) c.in_err-write_content.ensures)))
+    rw p.1 (subst (Breaks a d) (sym (parts _ _)) (Breaks-after a b d (head c.args.l) _ c.in_ok-put_words.ensures (Breaks-longer b d (held c.args.arena.now.model c.args.l) (10 ∷ []) c.in_err-write_content.ensures)))
 
 pub returns : goal.returns
 returns g c =
-    let M = c.args.arena.now.model in
-    let l = c.args.l in
-    let a = outgoing (g.W.Write.contents c.args.writer.now) c.args.text.now in
-    let b = outgoing (g.W.Write.contents c.put_words.new.writer) c.put_words.new.text in
-    let d = outgoing (g.W.Write.contents c.write_content.new.writer) c.write_content.new.text in
     let e = outgoing (g.W.Write.contents c.put.new.writer) c.put.new.text in
-    let r = c.put.result in
-    subst (λ (t : List ℕ). Tells a e t r) (sym (parts M l)) (tells_after a b e (head l) (held M l ++ 10 ∷ []) r c.in_ok-put_words.ensures (tells_after b d e (held M l) (10 ∷ []) r c.in_ok-write_content.ensures c.put.ensures))
+    tells_as _ e _ _ c.put.result (sym (parts _ _)) (tells_after _ _ e (head c.args.l) _ c.put.result c.in_ok-put_words.ensures (tells_after _ _ e (held c.args.arena.now.model c.args.l) (10 ∷ []) c.put.result c.in_ok-write_content.ensures c.put.ensures))

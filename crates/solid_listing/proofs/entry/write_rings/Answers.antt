@@ -2,58 +2,31 @@ use Rattle.std.proofs.Common.{◌≡◌, ◌∙◌, ap, sym, subst, ℕ, List, [
 use Rattle.std.proofs.lemmas.Result.{err_from_is_err_and}
 use Rattle.euler_operators.specs.Model.{rings_of}
 use Rattle.solid_listing.specs.Lines.{spaced}
-use Rattle.solid_walks.proofs.face_walks_laws.Above.{above}
 use Rattle.solid_walks.proofs.face_walks_laws.RingWalks.{next_ring, no_ring, rings_from_zero}
-use Rattle.solid_listing.proofs.TellingLaws.{Gathers-nil, Telling, none_yet, told_more, breaks_inside, all_told}
+use Rattle.solid_listing.proofs.TellingLaws.{Gathers-nil, none_yet, told_more, breaks_inside, all_told}
 use Rattle.solid_listing.specs.Writing.{Gathers, outgoing}
 use Rattle.solid_listing.proofs.entry.write_rings.Goals as goal
 
 pub loop-l-init : goal.loop-l-init
-loop-l-init g c =
-    let M = c.args.arena.now.model in
-    let w = outgoing (g.W.Write.contents c.args.writer.now) c.args.text.now in
-    let text = spaced (map decimal (rings_of M c.args.f)) in
-    subst (λ ns. Telling w w text (spaced (map decimal ns))) (sym (rings_from_zero M c.args.f c.requires.sound)) (none_yet w text)
+loop-l-init g c = none_yet _ _ _ (ap (λ ns. spaced (map decimal ns)) (sym (rings_from_zero c.args.arena.now.model c.args.f c.requires.sound)))
 
 pub returns-in_err-put_spaced : goal.returns-in_err-put_spaced
 returns-in_err-put_spaced g c =
-    let M = c.args.arena.now.model in
-    let rings = rings_of M c.args.f in
-    let a = outgoing (g.W.Write.contents c.args.writer.now) c.args.text.now in
-    let b = outgoing (g.W.Write.contents c.loop-l.writer) c.loop-l.text in
-    let text = spaced (map decimal rings) in
     let d = outgoing (g.W.Write.contents c.put_spaced.new.writer) c.put_spaced.new.text in
-    let n = c.in-Some.l in
-    let next = ap (λ ns. spaced (map decimal ns)) (next_ring M c.args.f c.loop-l.above n c.in-Some.ensures) in
-    let rest = spaced (map decimal (above c.loop-l.above rings)) in
-    let later = spaced (map decimal (above n rings)) in
     let p = err_from_is_err_and c.from_residual.result c.from_residual.ensures.1 in
-    rw p.1 (breaks_inside a b d text rest later (32 ∷ decimal n) c.loop-l.invariant c.in_err-put_spaced.ensures next)
+    rw p.1 (breaks_inside _ _ d _ _ _ (32 ∷ decimal c.in-Some.l) c.loop-l.invariant c.in_err-put_spaced.ensures
+    (ap (λ ns. spaced (map decimal ns)) (next_ring c.args.arena.now.model c.args.f c.loop-l.above c.in-Some.l c.in-Some.ensures)))
 
 pub loop-l-smaller : goal.loop-l-smaller
 loop-l-smaller g c = let next = next_ring c.args.arena.now.model c.args.f c.loop-l.above c.in-Some.l c.in-Some.ensures in omega (arith, ap length next)
 
 pub loop-l-preserved : goal.loop-l-preserved
 loop-l-preserved g c =
-    let M = c.args.arena.now.model in
-    let rings = rings_of M c.args.f in
-    let a = outgoing (g.W.Write.contents c.args.writer.now) c.args.text.now in
-    let b = outgoing (g.W.Write.contents c.loop-l.writer) c.loop-l.text in
-    let text = spaced (map decimal rings) in
-    let d = outgoing (g.W.Write.contents c.put_spaced.new.writer) c.put_spaced.new.text in
-    let n = c.in-Some.l in
-    let next = ap (λ ns. spaced (map decimal ns)) (next_ring M c.args.f c.loop-l.above n c.in-Some.ensures) in
-    let rest = spaced (map decimal (above c.loop-l.above rings)) in
-    let later = spaced (map decimal (above n rings)) in
-    told_more a b d text rest later (32 ∷ decimal n) c.loop-l.invariant c.in_ok-put_spaced.ensures next
+    told_more _ _ _ _ _ _ _ c.loop-l.invariant c.in_ok-put_spaced.ensures
+    (ap (λ ns. spaced (map decimal ns)) (next_ring c.args.arena.now.model c.args.f c.loop-l.above c.in-Some.l c.in-Some.ensures))
 
 pub returns : goal.returns
-returns g c =
-    let M = c.args.arena.now.model in
-    let a = outgoing (g.W.Write.contents c.args.writer.now) c.args.text.now in
-    let b = outgoing (g.W.Write.contents c.loop-l.writer) c.loop-l.text in
-    let text = spaced (map decimal (rings_of M c.args.f)) in
-    all_told a b text (subst (λ ns. Telling a b text (spaced (map decimal ns))) (no_ring M c.args.f c.loop-l.above c.in_default.ensures) c.loop-l.invariant)
+returns g c = all_told _ _ _ _ c.loop-l.invariant (ap (λ ns. spaced (map decimal ns)) (no_ring c.args.arena.now.model c.args.f c.loop-l.above c.in_default.ensures))
 
 none_are : (ns : List ℕ) → length ns ≡ 0 → [] ≡ ns
 none_are [] e = refl
