@@ -2,7 +2,6 @@
 use Rattle.std.proofs.Common.{◌≡◌, ℕ, ◌+◌, ◌≤◌, Bool, true, false, cond, List, [], ◌∷◌, ◌++◌, length, map, refl, sym, ap, subst, ◌∙◌, arith, inl, inr}
 use Rattle.std.proofs.lemmas.Bool.Decides.{eqb_tells}
 use Rattle.euler_operators.specs.Items.{count, tick, IsIn, IsApart}
-use Rattle.euler_operators.specs.Rings.{IsRotation}
 use Rattle.euler_operators.proofs.Lists.{tick_same, tick_other}
 use Rattle.euler_operators.proofs.Members.{apart_within}
 
@@ -19,9 +18,6 @@ module _ (p : ℕ → Bool) where
   pub how_many-append : (xs ys : List ℕ) → how_many p (xs ++ ys) ≡ how_many p xs + how_many p ys
   how_many-append [] ys = omega arith
   how_many-append (x ∷ xs) ys = omega (arith, how_many-append xs ys)
-
-  pub how_many_turned : (xs ys : List ℕ) → IsRotation xs ys → how_many p xs ≡ how_many p ys
-  how_many_turned xs ys r = omega (arith, ap (how_many p) r.here, ap (how_many p) r.there, how_many-append r.front r.back, how_many-append r.back r.front)
 
   pub how_many_short : (xs : List ℕ) → how_many p xs ≤ length xs
   how_many_short [] = omega arith

@@ -54,19 +54,12 @@ on_one M (l ∷ ls) v i = elim (IsIn_or_not v (vertices_on M (content M l))) [
   | inr n ↦ let r = on_one M ls v (omega (arith, i, n, count-append v (vertices_on M (content M l)) (vertices_in M ls))) in (r.0, omega (arith, r.1), r.2)
 ]
 
-on_some : (M : Model) (ls : List ℕ) (l v : ℕ) → IsIn l ls → IsIn v (vertices_on M (content M l)) → IsIn v (vertices_in M ls)
-on_some M [] l v i j = absurd (omega arith)
-on_some M (k ∷ ls) l v i j = elim (eqb_tells l k) [
-  | inl e ↦ omega (arith, count-append v (vertices_on M (content M k)) (vertices_in M ls), j, ap (λ m. count v (vertices_on M (content M m))) e.1)
-  | inr n ↦ omega (arith, count-append v (vertices_on M (content M k)) (vertices_in M ls), on_some M ls l v (omega (arith, i, tick_other l k n.1)) j)
-]
-
--- an item of a loop stands among the items of some loops with it
-item_of : (M : Model) (ls : List ℕ) (l x : ℕ) → IsIn l ls → IsIn x (items_of (content M l)) → IsIn x (items_in M ls)
-item_of M [] l x i j = absurd (omega arith)
-item_of M (k ∷ ls) l x i j = elim (eqb_tells l k) [
-  | inl e ↦ omega (arith, count-append x (items_of (content M k)) (items_in M ls), j, ap (λ m. count x (items_of (content M m))) e.1)
-  | inr n ↦ omega (arith, count-append x (items_of (content M k)) (items_in M ls), item_of M ls l x (omega (arith, i, tick_other l k n.1)) j)
+-- an item of the list of one loop stands in that of some loops with it
+in_some : (f : ℕ → List ℕ) (all : List ℕ → List ℕ) → ((l : ℕ) (ls : List ℕ) → all (l ∷ ls) ≡ f l ++ all ls) → (ls : List ℕ) (l x : ℕ) → IsIn l ls → IsIn x (f l) → IsIn x (all ls)
+in_some f all step [] l x i j = absurd (omega arith)
+in_some f all step (k ∷ ls) l x i j = elim (eqb_tells l k) [
+  | inl e ↦ omega (arith, ap (count x) (step k ls), count-append x (f k) (all ls), j, ap (λ m. count x (f m)) e.1)
+  | inr n ↦ omega (arith, ap (count x) (step k ls), count-append x (f k) (all ls), in_some f all step ls l x (omega (arith, i, tick_other l k n.1)) j)
 ]
 
 -- the vertex of a lone loop
@@ -100,7 +93,7 @@ module _ (M : Model) (sound : Sound M) (s : ℕ) where
   half_solid x i = (items_there M sound loops x i, (loop_in_solid M sound s (loop_of M x) (omega (arith, i, items_counted M sound loops x))).1)
 
   solid_half : (x : ℕ) → HasHalf M x → solid_of M (face_at M x) ≡ s → IsIn x halves
-  solid_half x t e = item_of M loops (loop_of M x) x (solid_has_loop M sound s (loop_of M x) (loop_there M sound x t) e) (cycle_there M sound x t)
+  solid_half x t e = in_some (λ l. items_of (content M l)) (items_in M) (λ l ls. refl) loops (loop_of M x) x (solid_has_loop M sound s (loop_of M x) (loop_there M sound x t) e) (cycle_there M sound x t)
 
   -- all half-edges at a vertex are of one solid
   one_solid_round : (x y : ℕ) → HasHalf M x → HasHalf M y → tail M x ≡ tail M y → solid_of M (face_at M y) ≡ solid_of M (face_at M x)
@@ -157,7 +150,7 @@ module _ (M : Model) (sound : Sound M) (s : ℕ) where
   -- a vertex that is on one of the loops
   vertex_listed : (v l : ℕ) → Has M.vertices v → IsIn l loops → IsIn v (vertices_on M (content M l)) → IsIn v solid_vertices
   vertex_listed v l t i j =
-      let c : IsIn v (corners_in M (faces_of M s)) = omega (arith, ap (count v) (corners_are M (faces_of M s)), on_some M loops l v i j) in
+      let c : IsIn v (corners_in M (faces_of M s)) = omega (arith, ap (count v) (corners_are M (faces_of M s)), in_some (λ l. vertices_on M (content M l)) (vertices_in M) (λ l ls. refl) loops l v i j) in
       let r = row_some (table.get M.vertices v) t in
       IsIn-from_listed v solid_vertices (passes_listed (λ v _. lists (corners_in M (faces_of M s)) v) M.vertices v r.0 r.1 (listed-from_in v (corners_in M (faces_of M s)) c))
 
@@ -234,7 +227,7 @@ module _ (M : Model) (sound : Sound M) (s : ℕ) where
     ]
     go l i (cycle hs) e j =
         let m = of_map (tail M) v hs j in
-        let x : IsIn m.0 halves = item_of M loops l m.0 i (omega (arith, m.1, ap (λ c. count m.0 (items_of c)) e)) in
+        let x : IsIn m.0 halves = in_some (λ l. items_of (content M l)) (items_in M) (λ l ls. refl) loops l m.0 i (omega (arith, m.1, ap (λ c. count m.0 (items_of c)) e)) in
         omega (arith, count-append v lone_ones led_ones, of_half m.0 v x m.2)
 
   pub vertices_counted : (loops_met M loops).vertices ≡ length (vertices_of M s)
