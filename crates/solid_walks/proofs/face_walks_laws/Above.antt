@@ -37,7 +37,7 @@ not_member n k (x ∷ xs) l h =
     let e : nat_eq k x ≡ false = grind (arith, nat_tests) in
     ap (λ b. b || member k xs) e ∙ not_member n k xs l h.1
 
-here : (k : ℕ) (xs : List ℕ) → member k (k ∷ xs) ≡ true
+pub here : (k : ℕ) (xs : List ℕ) → member k (k ∷ xs) ≡ true
 here k xs = let e : nat_eq k k ≡ true = grind (arith, nat_tests) in ap (λ b. b || member k xs) e
 
 or_false : (a b : Bool) → a || b ≡ false → b ≡ false

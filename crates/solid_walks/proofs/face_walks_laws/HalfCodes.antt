@@ -17,10 +17,6 @@ pub code_plus : (e : ℕ) → code (record { edge = e; first = true }) ≡ plus 
 unfolding code
 code_plus e = refl
 
-pub code_minus : (e : ℕ) → code (record { edge = e; first = false }) ≡ minus e
-unfolding code
-code_minus e = refl
-
 -- an edge that is there has a number in range
 pub edge_fits : (M : Model) → Sound M → (h : HalfEdge) → HasHalf M (code h) → h.edge ≤ 1000000
 edge_fits M sound h there = number_fits h.edge (ap is_number (sym (edge_of-code h)) ∙ sound.edges_fit (edge_of (code h)) there)

@@ -1,9 +1,9 @@
 -- What an arena answers as a walk goes from a ring of a face to the next.
-use Rattle.std.proofs.Common.{◌≡◌, ℕ, ◌<◌, Bool, true, false, not, ◌&&◌, nat_eq, [], ◌∷◌, Option, Some, None, is_some, unwrap_or, refl, sym, ◌∙◌, arith}
-use Rattle.std.proofs.lemmas.Bool.Decides.{nat_tests}
+use Rattle.std.proofs.Common.{◌≡◌, ℕ, Bool, true, false, not, ◌&&◌, nat_eq, [], ◌∷◌, Option, Some, None, is_some, unwrap_or, refl, sym, ◌∙◌}
 use Rattle.euler_operators.specs.Table.{get, has}
-use Rattle.euler_operators.specs.Model.{Model, LoopRow, no_loop, face_of, outer, rings_of, is_ring_of, is_number}
+use Rattle.euler_operators.specs.Model.{Model, LoopRow, no_loop, face_of, outer, rings_of, is_ring_of}
 use Rattle.euler_operators.specs.Sound.{Sound}
+use Rattle.euler_operators.proofs.Models.{one_or_more}
 use Rattle.euler_conditions.specs.Store.{IsNextRing}
 use Rattle.solid_walks.proofs.face_walks_laws.Above.{above, member, all_above, next_above, none_above, all_above_members}
 use Rattle.solid_walks.proofs.face_walks_laws.TableWalks.{passes, rising_passing, member_passing}
@@ -31,6 +31,4 @@ module _ (M : Model) (f : ℕ) where
   ring_there false b c e = e
 
   pub rings_from_zero : Sound M → above 0 (rings_of M f) ≡ rings_of M f
-  rings_from_zero sound = all_above 0 (rings_of M f) (all_above_members 0 (rings_of M f) (λ k there. one_or_more k (sound.loops_fit k (ring_there (has M.loops k) (nat_eq (face_of M k) f) (not (nat_eq (outer M f) k)) (sym (member_rings k) ∙ there))))) where
-    one_or_more : (k : ℕ) → is_number k ≡ true → 0 < k
-    one_or_more k e = grind (arith, nat_tests)
+  rings_from_zero sound = all_above 0 (rings_of M f) (all_above_members 0 (rings_of M f) (λ k there. one_or_more k (sound.loops_fit k (ring_there (has M.loops k) (nat_eq (face_of M k) f) (not (nat_eq (outer M f) k)) (sym (member_rings k) ∙ there)))))
