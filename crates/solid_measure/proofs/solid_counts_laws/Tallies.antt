@@ -18,7 +18,8 @@ use Rattle.euler_operators.proofs.Halves.{plus_row, first_is_plus}
 use Rattle.euler_operators.proofs.Models.{cycle_there, loop_there}
 use Rattle.euler_operators.proofs.Members.{IsIn-map, IsApart-images}
 use Rattle.euler_operators.proofs.Tables.{row_some}
-use Rattle.euler_operators.specs.Conditions.{lists, is_lone, face_at}
+use Rattle.euler_operators.specs.Conditions.{lists, is_lone, lone_vertex, face_at}
+use Rattle.euler_laws.proofs.shared.Rows.{lone_is}
 use Rattle.euler_laws.proofs.shared.Fans.{kept_round, loop_after}
 use Rattle.euler_laws.proofs.shared.Listed.{listed_passes, passes_listed, all_where-rises, IsIn-from_listed, listed-from_in}
 use Rattle.shapes.specs.Faces.{items_in, loops_of, vertices_on, vertices_in, corners, corners_in, vertices_of, edges_of}
@@ -61,15 +62,6 @@ in_some f all step (k ∷ ls) l x i j = elim (eqb_tells l k) [
   | inl e ↦ omega (arith, ap (count x) (step k ls), count-append x (f k) (all ls), j, ap (λ m. count x (f m)) e.1)
   | inr n ↦ omega (arith, ap (count x) (step k ls), count-append x (f k) (all ls), in_some f all step ls l x (omega (arith, i, tick_other l k n.1)) j)
 ]
-
--- the vertex of a lone loop
-abbrev lone_vertex : LoopContent → ℕ
-lone_vertex (lone v) = v
-lone_vertex (cycle hs) = 0
-
-lone_at : (c : LoopContent) → is_lone c ≡ true → c ≡ lone (lone_vertex c)
-lone_at (lone v) e = refl
-lone_at (cycle hs) e = absurd (true≢false (sym e))
 
 -- what the code holds of counts and of their difference
 count_held : (z : ℤ) (n : ℕ) → z ≡ pos n → n ≤ 5000001 → to_z w64 (of_z w64 z) ≡ pos n
@@ -164,7 +156,7 @@ module _ (M : Model) (sound : Sound M) (s : ℕ) where
   lone_of v i =
       let m = of_map (λ l. lone_vertex (content M l)) v (passing (is_lone_loop M) loops) i in
       let p = of_passing (is_lone_loop M) m.0 loops m.1 in
-      (m.0, p.0, lone_at (content M m.0) p.1 ∙ ap lone m.2)
+      (m.0, p.0, lone_is (content M m.0) p.1 ∙ ap lone m.2)
 
   of_lone : (l v : ℕ) → IsIn l loops → IsLoneAt M l v → IsIn v lone_ones
   of_lone l v i e =
@@ -187,7 +179,7 @@ module _ (M : Model) (sound : Sound M) (s : ℕ) where
 
   lone_apart : IsApart lone_ones
   lone_apart = IsApart-images (λ l. lone_vertex (content M l)) (passing (is_lone_loop M) loops) (passing_apart (is_lone_loop M) loops (all_loops_apart M sound s)) (λ l k i j e.
-      sound.one_lone l k (lone_vertex (content M l)) (lone_at (content M l) (of_passing (is_lone_loop M) l loops i).1) (lone_at (content M k) (of_passing (is_lone_loop M) k loops j).1 ∙ ap lone (sym e)))
+      sound.one_lone l k (lone_vertex (content M l)) (lone_is (content M l) (of_passing (is_lone_loop M) l loops i).1) (lone_is (content M k) (of_passing (is_lone_loop M) k loops j).1 ∙ ap lone (sym e)))
 
   led_apart : IsApart led_ones
   led_apart = IsApart-images (tail M) (passing (leads M) halves) (passing_apart (leads M) halves halves_apart) (λ x y i j e.
