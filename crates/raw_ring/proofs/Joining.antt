@@ -2,7 +2,7 @@
 --     row_at-joined, length-joined, has-joined, next-joined      what is read
 --     place_there, label_there, live_there, lies_at, has_label      the parts of a row
 --     changed      one row is written;  column_here, column_other      one column;  cell_written      a column of cells
---     IsFurther, rows_reached, joined_further, ok_more      the columns reach further
+--     IsFurther, rows_reached, ok_more      the columns reach further
 use Rattle.std.proofs.Common.{◌≡◌, ◌≢◌, ℕ, zero, suc, ◌<◌, ◌≤◌, Bool, true, false, cond, List, [], ◌∷◌, length, set, slice_set, Option, Some, None, IsSome, is_some, Result, Ok, Err, OnOk, refl, sym, ap, ◌∙◌, subst, arith, nat_eq, inl, inr, true≢false, eq-eqb, ne_eqb}
 use Rattle.std.proofs.lemmas.Bool.{cases_eq}
 use Rattle.std.proofs.lemmas.Bool.Decides.{eqb_tells}
@@ -141,13 +141,3 @@ pub rows_reached : (ps ps' : Places) (ls ls' : List (Option ℕ)) (vs vs' : List
 rows_reached ps ps' ls ls' vs vs' same_places same_labels same_lives q =
     row_at-joined ps' ls' vs' q ∙ ap (λ o. with_marks o (marks ls' vs' q)) (same_places q)
     ∙ same_marks (row_at ps q) (row_at ls q) (row_at ls' q) (row_at vs q) (row_at vs' q) (same_labels q) (same_lives q) ∙ sym (row_at-joined ps ls vs q)
-
-pub joined_further : (ps ps' : Places) (ls ls' : List (Option ℕ)) (vs vs' : List (Option Bool)) → AreJoined ps ls vs → ((q : ℕ) → row_at ps' q ≡ row_at ps q) → length ps' ≤ length ls' → length ps' ≤ length vs' → IsFurther ps ls ls' → IsFurther ps vs vs' → AreJoined ps' ls' vs'
-joined_further ps ps' ls ls' vs vs' J same_places reach_labels reach_lives same_labels same_lives =
-    let there : (k : ℕ) → has_row ps' k ≡ true → has_row ps k ≡ true = λ k h. sym (ap is_some (same_places k)) ∙ h in
-    record {
-      reach_labels = reach_labels;
-      reach_lives = reach_lives;
-      labelled = λ k h. ap is_some (same_labels k (there k h)) ∙ J.labelled k (there k h);
-      marked = λ k h. ap is_some (same_lives k (there k h)) ∙ J.marked k (there k h);
-    }
