@@ -6,14 +6,13 @@ use Rattle.boundary_model.specs.declared.Point.{Point}
 use Rattle.arena_rows.specs.declared.rows.FaceCell.{FaceCell}
 use Rattle.arena_rows.specs.declared.rows.LoopCell.{LoopCell}
 use Rattle.arena_rows.specs.declared.rows.Held.TheVariants.{Empty, At}
-use Rattle.boundary_model.specs.Table.{get, put, remove, get-put, same_table}
+use Rattle.boundary_model.specs.Table.{get, put, remove}
 use Rattle.raw_cells.specs.Rows.{row_at}
-use Rattle.arena_rows.specs.Rows.{map_row, table_of}
+use Rattle.arena_rows.specs.Rows.{table_of}
 use Rattle.boundary_model.specs.Model.{Model, cycle}
 use Rattle.arena_rows.specs.Store.{Store, loosened}
 use Rattle.arena_rows.specs.ring_spots.Spots.{Spots, live, next, label, ring, spliced_at, labelled, AreRings}
 use Rattle.arena_rows.specs.View.{store_of, RowsAreTied, held_content, loop_row, AreLoops, StandsAt}
-use Rattle.arena_rows.proofs.Views.{get-table_of}
 use Rattle.boundary_model.specs.Items.{IsIn}
 use Rattle.boundary_model.specs.Rings.{cut_left, cut_right, joined, successor, predecessor}
 use Rattle.boundary_model.proofs.Rings.{successor-predecessor}
@@ -26,7 +25,7 @@ use Rattle.arena_rows.specs.View.{Fits}
 use Rattle.arena_rows.proofs.Views.{has-row, fits-write, table_of-put}
 use Rattle.arena_rows.proofs.Writes.{row_here}
 use Rattle.arena_rows.proofs.Stands.{half_there, loop_of_is, cycle_of_is, content_row, face_row_of, loose_key_is, loose_ring_is, next_successor}
-use Rattle.arena_rows.proofs.Tellings.{store_is, content_alike, same_loop}
+use Rattle.arena_rows.proofs.Tellings.{store_is, content_alike, same_loop, loops_table_rows}
 use Rattle.arena_rows.proofs.Cutting.{IsBare, rings2, live2, AreLoops-cut, loose-cut_to, loose-cut_loose, edges-cut, loops-cut, ring_of_right, apart_rows, jrings2, jlive2, jedges, jkept, jring_of, loose-join_loops, loose-join_loose, AreLoops-join}
 use Rattle.arena_rows.proofs.Filling.{tied_with}
 
@@ -46,19 +45,6 @@ pub record JoinFacts (sp : Spots) (a b : ℕ) : Type 0 where
 -- a row at another number
 pub row_there : {X : Type 0} (rows new : List (Option X)) (n : ℕ) (x : Option X) → ((q : ℕ) → row_at new q ≡ cond (nat_eq q n) x (row_at rows q)) → (q : ℕ) → q ≢ n → row_at new q ≡ row_at rows q
 row_there rows new n x is q ne = is q ∙ ap (λ b. cond b x (row_at rows q)) (ne_eqb q n ne)
-
--- one row is written, and what the others hold reads alike
-loops_table_rows : (sp new : Spots) (rows0 rows : List (Option LoopCell)) (l : ℕ) (cell : LoopCell) → ((q : ℕ) → row_at rows q ≡ cond (nat_eq q l) (Some cell) (row_at rows0 q)) → ((q : ℕ) (c : LoopCell) → q ≢ l → row_at rows0 q ≡ Some c → held_content new c.held ≡ held_content sp c.held) →
-    table_of (loop_row new) rows ≡ put (table_of (loop_row sp) rows0) l (loop_row new cell)
-loops_table_rows sp new rows0 rows l cell is alike = same_table (table_of (loop_row new) rows) (put (table_of (loop_row sp) rows0) l (loop_row new cell)) (λ q.
-    get-table_of (loop_row new) rows q ∙ ap (map_row (loop_row new)) (is q) ∙ elim (eqb_tells q l) [
-      | inl p ↦ ap (λ b. map_row (loop_row new) (cond b (Some cell) (row_at rows0 q))) p.0 ∙ sym (get-put _ l (loop_row new cell) q ∙ ap (λ b. cond b (Some (loop_row new cell)) (get (table_of (loop_row sp) rows0) q)) p.0)
-      | inr p ↦ ap (λ b. map_row (loop_row new) (cond b (Some cell) (row_at rows0 q))) p.0 ∙ other q p.1 (row_at rows0 q) refl ∙ sym (get-put _ l (loop_row new cell) q ∙ ap (λ b. cond b (Some (loop_row new cell)) (get (table_of (loop_row sp) rows0) q)) p.0 ∙ get-table_of (loop_row sp) rows0 q)
-    ])
-  where
-    other : (q : ℕ) → q ≢ l → (o : Option LoopCell) → row_at rows0 q ≡ o → map_row (loop_row new) o ≡ map_row (loop_row sp) o
-    other q n None at = refl
-    other q n (Some c) at = ap (λ k. Some (record { face = c.face; content = k })) (alike q c n at)
 
 module _ (sp : Spots) (known : ℕ → Bool) (solids : List (Option Bool)) (faces : List (Option FaceCell)) (loops : List (Option LoopCell)) (vertices : List (Option Point)) (tied : RowsAreTied sp known solids faces loops vertices) where
   abbrev S : Store

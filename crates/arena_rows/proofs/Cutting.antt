@@ -1,5 +1,5 @@
 -- A cut and a join, as the nodes and rows do them.
-use Rattle.std.proofs.Common.{◌≡◌, ◌≢◌, ℕ, ◌+◌, Bool, true, false, cond, nat_eq, List, [], Option, Some, None, is_some, refl, sym, ap, subst, ◌∙◌, arith, true≢false, inl, inr}
+use Rattle.std.proofs.Common.{◌≡◌, ◌≢◌, ℕ, ◌+◌, true, cond, nat_eq, List, [], Option, Some, None, is_some, sym, ap, subst, ◌∙◌, arith, true≢false, inl, inr}
 use Rattle.std.proofs.lemmas.Bool.Decides.{eqb_tells}
 use Rattle.std.proofs.lemmas.Option.{same_Some}
 use Rattle.boundary_model.specs.Items.{count, IsIn, head_or}
@@ -18,7 +18,7 @@ use Rattle.arena_rows.specs.ring_spots.SpotTables.{edge_row, loose_row}
 use Rattle.boundary_model.specs.Rings.{cut_left, cut_right, joined}
 use Rattle.boundary_model.proofs.Cuts.{IsIn-cut}
 use Rattle.arena_rows.proofs.ring_spots_laws.SpotLaws.{ring_left, ring_right, ring_beside, cut_items, AreRings-cut, AreRings-labelled, ring-labelled, live-labelled, live-spliced, label-spliced, label-labelled_in, label-labelled_out, ring_joint, ring_aside, join_items, AreRings-join}
-use Rattle.arena_rows.proofs.ring_spots_laws.SpotTables.{loose_none, loose_dead, loose_alike, loose_removed, loose_same, edges_same, tails-labelled, tails-spliced}
+use Rattle.arena_rows.proofs.ring_spots_laws.SpotTables.{loose_none, loose_kept, loose_removed, loose_same, edges_same, tails-labelled, tails-spliced}
 use Rattle.arena_rows.proofs.Tellings.{loose_added, same_loop, loops_table}
 use Rattle.boundary_model.specs.Model.{items_of}
 
@@ -172,10 +172,7 @@ module _ (sp : Spots) (loops : List (Option LoopCell)) (R : AreRings sp) (are : 
 
     -- the loose rings after the cut
     out_alike : (k : ℕ) → count k whole ≡ 0 → loose_row sp2 k ≡ loose_row sp k
-    out_alike k n = go (live sp k) refl where
-      go : (t : Bool) → live sp k ≡ t → loose_row sp2 k ≡ loose_row sp k
-      go true h = loose_alike sp sp2 k (live2 k) (label_out k n) (ring_out k h n)
-      go false h = loose_dead sp2 k (live2 k ∙ h) ∙ sym (loose_dead sp k h)
+    out_alike k n = loose_kept sp sp2 k (live2 k) (λ h. (label_out k n, ring_out k h n))
 
     in_none : (k : ℕ) → IsIn k whole → loose_row sp k ≡ None
     in_none k i = loose_none sp k (λ z. looped (sym ((R.rings a a_there).one_label k i) ∙ z))
@@ -303,10 +300,7 @@ module _ (sp : Spots) (loops : List (Option LoopCell)) (R : AreRings sp) (are : 
     jedges = edges_same sp js2 (λ q. tails-spliced js1 a b q ∙ tails-labelled sp jla ys q)
 
     jout_alike : (k : ℕ) → count k joint ≡ 0 → loose_row js2 k ≡ loose_row sp k
-    jout_alike k n = go (live sp k) refl where
-      go : (t : Bool) → live sp k ≡ t → loose_row js2 k ≡ loose_row sp k
-      go true h = loose_alike sp js2 k (jlive2 k) (jlabel_out k (omega (arith, jitems k))) (jring_out k h n)
-      go false h = loose_dead js2 k (jlive2 k ∙ h) ∙ sym (loose_dead sp k h)
+    jout_alike k n = loose_kept sp js2 k (jlive2 k) (λ h. (jlabel_out k (omega (arith, jitems k)), jring_out k h n))
 
     jin_none : (k : ℕ) → IsIn k joint → loose_row js2 k ≡ None
     jin_none k i = loose_none js2 k (λ z. looped (sym (jlabel_in k i) ∙ z))

@@ -140,6 +140,9 @@ module _ {X : Type 0} (g : X → ℕ) (rows : List (Option X)) (os : Owners) (of
     pub after_move : (between new : Owners) (x : X) → between ≡ take os n → new ≡ put between n (g x) → ((q : ℕ) → row_at rows' q ≡ cond (nat_eq q n) (Some x) (row_at rows q)) → new.owner_of ≡ table_of g rows'
     after_move between new x e f is = ap (λ (t : Owners). t.owner_of) f ∙ ap (λ (t : Owners). table.put t.owner_of n (g x)) e ∙ put_after os.owner_of n (g x) ∙ owners_new x is
 
+pub grown_none : (os : Owners) → OwnersHaveGrown os os
+grown_none os = record { same = refl; owners = omega arith; items = omega arith }
+
 -- the ends stay
 pub record HasSameEnds (old new : Owners) : Type 0 where
   pub owners : new.owners_end ≡ old.owners_end
@@ -188,6 +191,17 @@ module _ (solids : List (Option Bool)) (faces : List (Option FaceCell)) (loops :
 
   pub indexed_solids : (new : List (Option Bool)) → length new ≡ length solids → AreIndexed new faces loops ss fs
   indexed_solids new len = record { of_solids = indexed.of_solids; of_faces = indexed.of_faces; solid_owners = omega (arith, indexed.solid_owners, len); face_owners = indexed.face_owners; face_items = indexed.face_items; loop_items = indexed.loop_items }
+
+  -- no number loses its room
+  pub indexed_grown : (ss' fs' : Owners) → OwnersHaveGrown ss ss' → OwnersHaveGrown fs fs' → AreIndexed solids faces loops ss' fs'
+  indexed_grown ss' fs' more_ss more_fs = record {
+    of_solids = more_ss.same ∙ indexed.of_solids;
+    of_faces = more_fs.same ∙ indexed.of_faces;
+    solid_owners = omega (arith, indexed.solid_owners, more_ss.owners);
+    face_owners = omega (arith, indexed.face_owners, more_fs.owners);
+    face_items = omega (arith, indexed.face_items, more_ss.items);
+    loop_items = omega (arith, indexed.loop_items, more_fs.items);
+  }
 
   pub indexed_more_faces : (new : List (Option FaceCell)) (ss' fs' : Owners) → ((q : ℕ) → row_at new q ≡ row_at faces q) → OwnersHaveGrown ss ss' → OwnersHaveGrown fs fs' → length new ≤ ss'.items_end → length new ≤ fs'.owners_end → AreIndexed solids new loops ss' fs'
   indexed_more_faces new ss' fs' rows more_ss more_fs reach_items reach_owners = record {

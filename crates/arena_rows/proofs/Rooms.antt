@@ -36,6 +36,15 @@ pub rooms_ok : {E : Type 0} (r : Result (Unit {0}) E) (n last k : ℕ) → 1 ≤
 rooms_ok (Ok u) n last k least from h = within_is n k least (omega (arith, from, h))
 rooms_ok (Err e) n last k least from h = tt
 
+-- the numbers of each kind have their room still
+kinds_kept : (s t : Store) → ((n : ℕ) → has_room s Kind.Solid n ≡ true → has_room t Kind.Solid n ≡ true) → ((n : ℕ) → has_room s Kind.Face n ≡ true → has_room t Kind.Face n ≡ true) → ((n : ℕ) → has_room s Kind.Loop n ≡ true → has_room t Kind.Loop n ≡ true) →
+    ((n : ℕ) → has_room s Kind.Edge n ≡ true → has_room t Kind.Edge n ≡ true) → ((n : ℕ) → has_room s Kind.Vertex n ≡ true → has_room t Kind.Vertex n ≡ true) → (kind : Kind) (n : ℕ) → has_room s kind n ≡ true → has_room t kind n ≡ true
+kinds_kept s t solids faces loops edges vertices Kind.Solid = solids
+kinds_kept s t solids faces loops edges vertices Kind.Face = faces
+kinds_kept s t solids faces loops edges vertices Kind.Loop = loops
+kinds_kept s t solids faces loops edges vertices Kind.Edge = edges
+kinds_kept s t solids faces loops edges vertices Kind.Vertex = vertices
+
 module _ (sp : Spots) (known : ℕ → Bool) (solids : List (Option Bool)) (faces : List (Option FaceCell)) (loops : List (Option LoopCell)) (vertices : List (Option Point)) (tied : RowsAreTied sp known solids faces loops vertices) where
   abbrev S : Store
   S = store_of sp known solids faces loops vertices
@@ -45,14 +54,8 @@ module _ (sp : Spots) (known : ℕ → Bool) (solids : List (Option Bool)) (face
     grown_solids = record {
       model = λ i. record S.model { solids = table_of-same solid_row solid_row solids new (λ q. ap (map_row solid_row) (same q)) i };
       loose = refl;
-      kept = λ kind n. kept_solids n kind;
-    } where
-      kept_solids : (n : ℕ) (kind : Kind) → has_room S kind n ≡ true → has_room (store_of sp known new faces loops vertices) kind n ≡ true
-      kept_solids n Kind.Solid h = within_more n (length solids) (length new) grows h
-      kept_solids n Kind.Face h = h
-      kept_solids n Kind.Loop h = h
-      kept_solids n Kind.Edge h = h
-      kept_solids n Kind.Vertex h = h
+      kept = kinds_kept S (store_of sp known new faces loops vertices) (λ n. within_more n (length solids) (length new) grows) (λ n h. h) (λ n h. h) (λ n h. h) (λ n h. h);
+    }
 
   module _ (new : List (Option FaceCell)) (same : (q : ℕ) → row_at new q ≡ row_at faces q) (grows : length faces ≤ length new) (limit : length new ≤ 1000001) where
     pub more_faces : RowsAreTied sp known solids new loops vertices
@@ -62,14 +65,8 @@ module _ (sp : Spots) (known : ℕ → Bool) (solids : List (Option Bool)) (face
     grown_faces = record {
       model = λ i. record S.model { faces = table_of-same face_row face_row faces new (λ q. ap (map_row face_row) (same q)) i };
       loose = refl;
-      kept = λ kind n. kept_faces n kind;
-    } where
-      kept_faces : (n : ℕ) (kind : Kind) → has_room S kind n ≡ true → has_room (store_of sp known solids new loops vertices) kind n ≡ true
-      kept_faces n Kind.Solid h = h
-      kept_faces n Kind.Face h = within_more n (length faces) (length new) grows h
-      kept_faces n Kind.Loop h = h
-      kept_faces n Kind.Edge h = h
-      kept_faces n Kind.Vertex h = h
+      kept = kinds_kept S (store_of sp known solids new loops vertices) (λ n h. h) (λ n. within_more n (length faces) (length new) grows) (λ n h. h) (λ n h. h) (λ n h. h);
+    }
 
   module _ (new : List (Option LoopCell)) (same : (q : ℕ) → row_at new q ≡ row_at loops q) (grows : length loops ≤ length new) (limit : length new ≤ 1000001) where
     loops_same_rows : AreLoops sp new
@@ -85,14 +82,8 @@ module _ (sp : Spots) (known : ℕ → Bool) (solids : List (Option Bool)) (face
     grown_loops = record {
       model = λ i. record S.model { loops = table_of-same (loop_row sp) (loop_row sp) loops new (λ q. ap (map_row (loop_row sp)) (same q)) i };
       loose = refl;
-      kept = λ kind n. kept_loops n kind;
-    } where
-      kept_loops : (n : ℕ) (kind : Kind) → has_room S kind n ≡ true → has_room (store_of sp known solids faces new vertices) kind n ≡ true
-      kept_loops n Kind.Solid h = h
-      kept_loops n Kind.Face h = h
-      kept_loops n Kind.Loop h = within_more n (length loops) (length new) grows h
-      kept_loops n Kind.Edge h = h
-      kept_loops n Kind.Vertex h = h
+      kept = kinds_kept S (store_of sp known solids faces new vertices) (λ n h. h) (λ n h. h) (λ n. within_more n (length loops) (length new) grows) (λ n h. h) (λ n h. h);
+    }
 
   module _ (new : List (Option Point)) (same : (q : ℕ) → row_at new q ≡ row_at vertices q) (grows : length vertices ≤ length new) (limit : length new ≤ 1000001) where
     pub more_vertices : RowsAreTied sp known solids faces loops new
@@ -102,14 +93,8 @@ module _ (sp : Spots) (known : ℕ → Bool) (solids : List (Option Bool)) (face
     grown_vertices = record {
       model = λ i. record S.model { vertices = table_of-same (λ p. p) (λ p. p) vertices new (λ q. ap (map_row (λ p. p)) (same q)) i };
       loose = refl;
-      kept = λ kind n. kept_vertices n kind;
-    } where
-      kept_vertices : (n : ℕ) (kind : Kind) → has_room S kind n ≡ true → has_room (store_of sp known solids faces loops new) kind n ≡ true
-      kept_vertices n Kind.Solid h = h
-      kept_vertices n Kind.Face h = h
-      kept_vertices n Kind.Loop h = h
-      kept_vertices n Kind.Edge h = h
-      kept_vertices n Kind.Vertex h = within_more n (length vertices) (length new) grows h
+      kept = kinds_kept S (store_of sp known solids faces loops new) (λ n h. h) (λ n h. h) (λ n h. h) (λ n h. h) (λ n. within_more n (length vertices) (length new) grows);
+    }
 
   module _ (sp' : Spots) (known' : ℕ → Bool) (spots : sp' ≡ sp) (keeps : (c : ℕ) → known c ≡ true → known' c ≡ true) where
     pub more_edges : RowsAreTied sp' known' solids faces loops vertices
@@ -127,14 +112,8 @@ module _ (sp : Spots) (known : ℕ → Bool) (solids : List (Option Bool)) (face
     grown_edges = record {
       model = λ i. (store_of (spots i) known' solids faces loops vertices).model;
       loose = λ i. (store_of (spots i) known' solids faces loops vertices).loose;
-      kept = λ kind n. kept_edges n kind;
-    } where
-      kept_edges : (n : ℕ) (kind : Kind) → has_room S kind n ≡ true → has_room (store_of sp' known' solids faces loops vertices) kind n ≡ true
-      kept_edges n Kind.Solid h = h
-      kept_edges n Kind.Face h = h
-      kept_edges n Kind.Loop h = h
-      kept_edges n Kind.Edge h = room_kept n h
-      kept_edges n Kind.Vertex h = h
+      kept = kinds_kept S (store_of sp' known' solids faces loops vertices) (λ n h. h) (λ n h. h) (λ n h. h) room_kept (λ n h. h);
+    }
 
 pub edges_ok : {E : Type 0} (known : ℕ → Bool) (r : Result (Unit {0}) E) (e : ℕ) → 1 ≤ e → e ≤ 1000000 → OnOk r ((known (plus e) ≡ true) × (known (minus e) ≡ true)) → OnOk r (is_some (get (tabulate (edge_room known) edges_end) e) ≡ true)
 edges_ok known (Ok u) e l m h =

@@ -35,18 +35,23 @@ content_alike sp new l Empty e k = refl
 content_alike sp new l (Lone v) e k = refl
 content_alike sp new l (At c) e k = ap cycle (k c e.0 e.1)
 
+-- one row is written, and what the others hold reads alike
+pub loops_table_rows : (sp new : Spots) (rows0 rows : List (Option LoopCell)) (l : ℕ) (cell : LoopCell) → ((q : ℕ) → row_at rows q ≡ cond (nat_eq q l) (Some cell) (row_at rows0 q)) → ((q : ℕ) (c : LoopCell) → q ≢ l → row_at rows0 q ≡ Some c → held_content new c.held ≡ held_content sp c.held) →
+    table_of (loop_row new) rows ≡ put (table_of (loop_row sp) rows0) l (loop_row new cell)
+loops_table_rows sp new rows0 rows l cell is alike = same_table (table_of (loop_row new) rows) (put (table_of (loop_row sp) rows0) l (loop_row new cell)) (λ q.
+    get-table_of (loop_row new) rows q ∙ ap (map_row (loop_row new)) (is q) ∙ elim (eqb_tells q l) [
+      | inl p ↦ ap (λ b. map_row (loop_row new) (cond b (Some cell) (row_at rows0 q))) p.0 ∙ sym (get-put _ l (loop_row new cell) q ∙ ap (λ b. cond b (Some (loop_row new cell)) (get (table_of (loop_row sp) rows0) q)) p.0)
+      | inr p ↦ ap (λ b. map_row (loop_row new) (cond b (Some cell) (row_at rows0 q))) p.0 ∙ other q p.1 (row_at rows0 q) refl ∙ sym (get-put _ l (loop_row new cell) q ∙ ap (λ b. cond b (Some (loop_row new cell)) (get (table_of (loop_row sp) rows0) q)) p.0 ∙ get-table_of (loop_row sp) rows0 q)
+    ])
+  where
+    other : (q : ℕ) → q ≢ l → (o : Option LoopCell) → row_at rows0 q ≡ o → map_row (loop_row new) o ≡ map_row (loop_row sp) o
+    other q n None at = refl
+    other q n (Some c) at = ap (λ k. Some (record { face = c.face; content = k })) (alike q c n at)
+
 -- one row is written, and the rings of the other loops stay
 pub loops_table : (sp new : Spots) (loops rows : List (Option LoopCell)) → AreLoops sp loops → (l : ℕ) (cell : LoopCell) → ((q : ℕ) → row_at rows q ≡ cond (nat_eq q l) (Some cell) (row_at loops q)) → ((q c : ℕ) → q ≢ l → live sp c ≡ true → label sp c ≡ q → ring new c ≡ ring sp c) →
     table_of (loop_row new) rows ≡ put (table_of (loop_row sp) loops) l (loop_row new cell)
-loops_table sp new loops rows are l cell is kept = same_table (table_of (loop_row new) rows) (put (table_of (loop_row sp) loops) l (loop_row new cell)) (λ q.
-    get-table_of (loop_row new) rows q ∙ ap (map_row (loop_row new)) (is q) ∙ elim (eqb_tells q l) [
-      | inl p ↦ ap (λ b. map_row (loop_row new) (cond b (Some cell) (row_at loops q))) p.0 ∙ sym (get-put _ l (loop_row new cell) q ∙ ap (λ b. cond b (Some (loop_row new cell)) (get (table_of (loop_row sp) loops) q)) p.0)
-      | inr p ↦ ap (λ b. map_row (loop_row new) (cond b (Some cell) (row_at loops q))) p.0 ∙ other q p.1 (row_at loops q) refl ∙ sym (get-put _ l (loop_row new cell) q ∙ ap (λ b. cond b (Some (loop_row new cell)) (get (table_of (loop_row sp) loops) q)) p.0 ∙ get-table_of (loop_row sp) loops q)
-    ])
-  where
-    other : (q : ℕ) → q ≢ l → (o : Option LoopCell) → row_at loops q ≡ o → map_row (loop_row new) o ≡ map_row (loop_row sp) o
-    other q n None at = refl
-    other q n (Some c) at = ap (λ k. Some (record { face = c.face; content = k })) (content_alike sp new q c.held (are.entries q c at) (λ d a e. kept q d n a e))
+loops_table sp new loops rows are l cell is kept = loops_table_rows sp new loops rows l cell is (λ q c n at. content_alike sp new q c.held (are.entries q c at) (λ d a e. kept q d n a e))
 
 pub loops_same : (sp new : Spots) (loops : List (Option LoopCell)) → AreLoops sp loops → ((c : ℕ) → live sp c ≡ true → label sp c ≢ 0 → ring new c ≡ ring sp c) → row_at loops 0 ≡ None → table_of (loop_row new) loops ≡ table_of (loop_row sp) loops
 loops_same sp new loops are kept zero = same_table (table_of (loop_row new) loops) (table_of (loop_row sp) loops) (λ q. get-table_of (loop_row new) loops q ∙ other q (row_at loops q) refl ∙ sym (get-table_of (loop_row sp) loops q)) where
@@ -55,6 +60,23 @@ loops_same sp new loops are kept zero = same_table (table_of (loop_row new) loop
   other q (Some c) at =
       let n : q ≢ 0 = λ e. true≢false (sym (sym (ap is_some zero) ∙ ap (λ k. is_some (row_at loops k)) (sym e) ∙ ap is_some at)) in
       ap (λ k. Some (record { face = c.face; content = k })) (content_alike sp new q c.held (are.entries q c at) (λ d a e. kept d a (λ z. n (sym e ∙ z))))
+
+-- the codes that stand in loops are those that did, with their labels and rings
+pub loops_kept : (sp new : Spots) (loops : List (Option LoopCell)) → AreLoops sp loops → row_at loops 0 ≡ None → ((c : ℕ) → live sp c ≡ true → label sp c ≢ 0 → (live new c ≡ true) × (label new c ≡ label sp c) × (ring new c ≡ ring sp c)) →
+    ((c : ℕ) → live new c ≡ true → label new c ≢ 0 → (live sp c ≡ true) × (label sp c ≢ 0)) → AreLoops new loops
+loops_kept sp new loops are zero on back = record {
+  entries = λ q k at. entry q (λ z. true≢false (sym (ap is_some at) ∙ ap (λ n. is_some (row_at loops n)) z ∙ ap is_some zero)) k.held (are.entries q k at);
+  stands = λ x b n.
+      let o = back x b n in
+      let s = are.stands x o.0 o.1 in
+      let t = are.entries (label sp x) (record { face = s.face; held = At s.entry }) s.here in
+      let kept = on s.entry t.0 (λ z. o.1 (sym t.1 ∙ z)) in
+      subst (StandsAt new loops x) (sym (on x o.0 o.1).1) (record { face = s.face; entry = s.entry; here = s.here; item = subst (IsIn x) (sym kept.2) s.item });
+} where
+  entry : (q : ℕ) → q ≢ 0 → (k : Held) → HasEntry sp q k → HasEntry new q k
+  entry q z Empty e = tt
+  entry q z (Lone v) e = tt
+  entry q z (At c) e = let o = on c e.0 (λ y. z (sym e.1 ∙ y)) in (o.0, o.1 ∙ e.1)
 
 -- what stands in the loop of a stands in its ring
 pub same_loop : (sp : Spots) (loops : List (Option LoopCell)) → (R : AreRings sp) → AreLoops sp loops → (a c : ℕ) → live sp a ≡ true → live sp c ≡ true → label sp a ≢ 0 → label sp c ≡ label sp a → IsIn c (ring sp a)

@@ -6,7 +6,6 @@ use Rattle.raw_ring.specs.Rings.{Spot, or_zero, of_spot, ring_of_one}
 use Rattle.boundary_model.specs.Items.{IsIn, head_or}
 use Rattle.boundary_model.proofs.Lists.{tick_le}
 use Rattle.boundary_model.proofs.Rotations.{IsIn_head, canonical_one}
-use Rattle.boundary_model.proofs.Rings.{IsPath-agree}
 use Rattle.boundary_model.specs.HalfEdge.{plus, minus, edge_of, is_first, mate}
 use Rattle.boundary_model.specs.Table.{Table, get, put, remove, tabulate, get-put, get-remove, same_table}
 use Rattle.boundary_model.specs.Model.{EdgeRow, no_edge}
@@ -15,8 +14,8 @@ use Rattle.boundary_model.proofs.Tests.{and_first, and_second}
 use Rattle.boundary_model.proofs.Members.{IsIn_one}
 use Rattle.arena_rows.specs.ring_spots.Spots.{Spots, codes, edges_end, live, next, label, tail_at, ring, map_spot, woken, asleep, retailed, IsRingOf, AreRings}
 use Rattle.arena_rows.specs.ring_spots.SpotTables.{edge_row, both_tails, loose_row, edge_room}
-use Rattle.arena_rows.proofs.ring_spots_laws.SpotLaws.{AreRings-retailed, live-retailed, ring_kept, ring_of, ring_same, next_in_ring, canonical_ring}
-use Rattle.arena_rows.proofs.ring_spots_laws.SpotTables.{half_is, row_live, edges_at, loose_row_is, loose_at, loose_row_means, loose_dead, loose_alike, codes_are, edge_has, edge_has_room}
+use Rattle.arena_rows.proofs.ring_spots_laws.SpotLaws.{AreRings-retailed, live-retailed, ring_kept, ring_of, ring_same, next_in_ring}
+use Rattle.arena_rows.proofs.ring_spots_laws.SpotTables.{half_is, row_live, edges_at, loose_row_is, loose_at, loose_row_means, loose_dead, loose_kept, codes_are, edge_has, edge_has_room}
 
 module _ (sp : Spots) (R : AreRings sp) where
   module _ (h v : ℕ) (a : live sp h ≡ true) where
@@ -103,7 +102,7 @@ module _ (sp : Spots) (R : AreRings sp) where
     }) (canonical_one x)
 
     pub old_ring : (c : ℕ) → live sp c ≡ true → (ring wide c ≡ ring sp c) × IsRingOf wide c (ring wide c)
-    old_ring c a = ring_kept sp wide R c a (λ x b. ap is_some (w_old x b) ∙ b) w_bound
+    old_ring c a = ring_kept sp wide R c a (λ x _ b. ap is_some (w_old x b) ∙ b) w_bound
         (λ x i. ap (λ o. or_zero (of_spot (λ s. s.next) o)) (w_old x ((R.rings c a).awake x i)))
         (λ x i. ap (λ o. or_zero (of_spot (λ s. s.label) o)) (w_old x ((R.rings c a).awake x i)) ∙ (R.rings c a).one_label x i ∙ sym (ap (λ o. or_zero (of_spot (λ s. s.label) o)) (w_old c a)))
 
@@ -138,10 +137,7 @@ module _ (sp : Spots) (R : AreRings sp) where
     w_label x a = ap (λ o. or_zero (of_spot (λ s. s.label) o)) (w_old x a)
 
     w_loose_old : (k : ℕ) → k ≢ plus e → k ≢ minus e → loose_row wide k ≡ loose_row sp k
-    w_loose_old k n m = go (live sp k) refl where
-      go : (t : Bool) → live sp k ≡ t → loose_row wide k ≡ loose_row sp k
-      go true h = loose_alike sp wide k (ap is_some (w_old k h)) (w_label k h) (old_ring k h).0
-      go false h = loose_dead wide k (ap is_some (w_other k n m) ∙ h) ∙ sym (loose_dead sp k h)
+    w_loose_old k n m = loose_kept sp wide k (ap is_some (w_other k n m)) (λ h. (w_label k h, (old_ring k h).0))
 
     w_loose_plus : loose_row wide (plus e) ≡ Some (plus e ∷ [])
     w_loose_plus = loose_row_is wide w_rings (plus e) l_plus (ap (λ o. or_zero (of_spot (λ s. s.label) o)) w_plus) (ap (head_or 0) r_plus.0) ∙ ap Some r_plus.0
@@ -203,15 +199,9 @@ module _ (sp : Spots) (R : AreRings sp) where
         (λ q. m (IsIn_one (minus e) c (subst (IsIn c) (sym (ring_same sp R c x a i) ∙ ap (ring sp) q ∙ one_minus) (R.rings c a).item)))
 
     pub s_ring : (c : ℕ) → live sp c ≡ true → c ≢ plus e → c ≢ minus e → (ring gone c ≡ ring sp c) × IsRingOf gone c (ring gone c)
-    s_ring c a n m =
-        let o = R.rings c a in
-        ring_of gone s_bound c (ring sp c) (record {
-          leads = IsPath-agree (next sp) (next gone) (ring sp c) (head_or 0 (ring sp c)) (λ x i. ap (λ o. or_zero (of_spot (λ s. s.next) o)) (sym (s_item c x a n m i))) o.leads;
-          apart = o.apart;
-          item = o.item;
-          awake = λ x i. ap is_some (s_item c x a n m i) ∙ o.awake x i;
-          one_label = λ x i. ap (λ o. or_zero (of_spot (λ s. s.label) o)) (s_item c x a n m i) ∙ o.one_label x i ∙ sym (ap (λ o. or_zero (of_spot (λ s. s.label) o)) (s_other c n m));
-        }) (canonical_ring sp R c a)
+    s_ring c a n m = ring_kept sp gone R c a (λ x i b. ap is_some (s_item c x a n m i) ∙ b) s_bound
+        (λ x i. ap (λ o. or_zero (of_spot (λ s. s.next) o)) (s_item c x a n m i))
+        (λ x i. ap (λ o. or_zero (of_spot (λ s. s.label) o)) (s_item c x a n m i) ∙ (R.rings c a).one_label x i ∙ sym (ap (λ o. or_zero (of_spot (λ s. s.label) o)) (s_other c n m)))
 
     pub s_rings : AreRings gone
     s_rings = record {
@@ -224,15 +214,15 @@ module _ (sp : Spots) (R : AreRings sp) where
     }
 
   -- an edge whose two half-edges are loose, each alone
-  module _ (e : ℕ) (row_plus : loose_row sp (plus e) ≡ Some (plus e ∷ [])) (row_minus : loose_row sp (minus e) ≡ Some (minus e ∷ [])) where
+  module _ (e : ℕ) (at_plus : get (tabulate (loose_row sp) codes) (plus e) ≡ Some (plus e ∷ [])) (at_minus : get (tabulate (loose_row sp) codes) (minus e) ≡ Some (minus e ∷ [])) where
     abbrev less : Spots
     less = asleep (asleep sp (plus e)) (minus e)
 
     t_plus : (live sp (plus e) ≡ true) × (label sp (plus e) ≡ 0) × (head_or 0 (ring sp (plus e)) ≡ plus e) × (ring sp (plus e) ≡ plus e ∷ [])
-    t_plus = loose_row_means sp R (plus e) (plus e ∷ []) row_plus
+    t_plus = loose_row_means sp R (plus e) (plus e ∷ []) (sym (loose_at sp R (plus e)) ∙ at_plus)
 
     t_minus : (live sp (minus e) ≡ true) × (label sp (minus e) ≡ 0) × (head_or 0 (ring sp (minus e)) ≡ minus e) × (ring sp (minus e) ≡ minus e ∷ [])
-    t_minus = loose_row_means sp R (minus e) (minus e ∷ []) row_minus
+    t_minus = loose_row_means sp R (minus e) (minus e ∷ []) (sym (loose_at sp R (minus e)) ∙ at_minus)
 
     pub ring_of_plus : ring sp (plus e) ≡ plus e ∷ []
     ring_of_plus = t_plus.3
@@ -260,10 +250,7 @@ module _ (sp : Spots) (R : AreRings sp) where
     s_named x n = (λ q. n (ap (label sp) q ∙ t_plus.1), λ q. n (ap (label sp) q ∙ t_minus.1))
 
     s_loose_old : (k : ℕ) → k ≢ plus e → k ≢ minus e → loose_row less k ≡ loose_row sp k
-    s_loose_old k n m = go (live sp k) refl where
-      go : (t : Bool) → live sp k ≡ t → loose_row less k ≡ loose_row sp k
-      go true h = loose_alike sp less k (ap is_some (s_other e t_plus.3 t_minus.3 k n m)) (s_label k n m) (s_ring e t_plus.3 t_minus.3 k h n m).0
-      go false h = loose_dead less k (ap is_some (s_other e t_plus.3 t_minus.3 k n m) ∙ h) ∙ sym (loose_dead sp k h)
+    s_loose_old k n m = loose_kept sp less k (ap is_some (s_other e t_plus.3 t_minus.3 k n m)) (λ h. (s_label k n m, (s_ring e t_plus.3 t_minus.3 k h n m).0))
 
     abbrev loose2 : Table (List ℕ)
     loose2 = remove (tabulate (loose_row sp) codes) (plus e)

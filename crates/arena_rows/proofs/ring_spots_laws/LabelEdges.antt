@@ -5,18 +5,17 @@ use Rattle.std.specs.FinMap.{insert, contains_key}
 use Rattle.raw_ring.specs.Rings.{Spot, RingMap, spot, or_zero, of_spot, ring_of_one}
 use Rattle.boundary_model.specs.Items.{IsIn}
 use Rattle.boundary_model.specs.HalfEdge.{plus, minus}
-use Rattle.boundary_model.proofs.Lists.{tick_le}
-use Rattle.boundary_model.proofs.Rotations.{IsIn_head, canonical_one}
 use Rattle.boundary_model.proofs.Members.{IsIn_one}
 use Rattle.arena_rows.specs.declared.ring_spots.labels.Label.{Label}
 use Rattle.arena_rows.specs.ring_spots.Spots.{Spots, live, next, label, ring, map_spot, woken, woken_as, asleep, retailed, AreRings}
 use Rattle.arena_rows.specs.ring_spots.Labels.{own, holder, loop_at, with_loop, in_loops, but_label, AreLabelled, HaveNewLabels, has_label}
-use Rattle.arena_rows.proofs.ring_spots_laws.SpotLaws.{ring_is, live-retailed, label-retailed, ring-retailed, AreRings-retailed}
+use Rattle.arena_rows.proofs.ring_spots_laws.SpotLaws.{live-retailed, label-retailed, ring-retailed, AreRings-retailed}
 use Rattle.arena_rows.proofs.ring_spots_laws.RingMaps.{spot-insert, known-same}
 use Rattle.arena_rows.proofs.ring_spots_laws.EdgeSpots.{w_rings, w_cases, old_ring, r_plus, r_minus, s_rings, s_ring, s_left, s_other}
 use Rattle.arena_rows.proofs.ring_spots_laws.LabelTables.{owned_more, holder_same, loop_same}
 use Rattle.arena_rows.proofs.ring_spots_laws.LoopSpots.{loops-same, loops-asleep, live-alike, ring-alike, AreRings-alike}
-use Rattle.arena_rows.proofs.ring_spots_laws.LabelLaws.{labelled_alike}
+use Rattle.arena_rows.proofs.ring_spots_laws.Alone.{ring_alone}
+use Rattle.arena_rows.proofs.ring_spots_laws.LabelLaws.{labelled_alike, table_kept, labelled_stays}
 
 -- a code wakes with a label
 pub spot-woken_as : (m new : RingMap) (c t l : ℕ) → new ≡ insert m c (Some (record { next = c; tail = t; label = l })) → spot new ≡ woken_as (spot m) c t l
@@ -52,27 +51,15 @@ module _ (sp : Spots) (known : ℕ → Bool) (rows new : List (Option Label)) (A
 module _ (sp : Spots) (known : ℕ → Bool) (rows : List (Option Label)) (A : AreLabelled sp known rows) where
   -- a half-edge starts elsewhere
   pub labelled-retailed : (c v : ℕ) (now : Spots) (known' : ℕ → Bool) → now ≡ retailed sp c v → known' ≡ known → AreLabelled now known' rows
-  labelled-retailed c v now known' is same = subst (λ k. AreLabelled now k rows) (sym same) (subst (λ s. AreLabelled s known rows) (sym is) (record {
-    table = record {
-      rings = AreRings-retailed sp A.table.rings c v;
-      owners = A.table.owners;
-      codes_there = A.table.codes_there;
-      labels_there = λ q a. subst (λ n. has_label rows n ≡ true) (sym (label-retailed sp c v q)) (A.table.labels_there q (sym (live-retailed sp c v q) ∙ a));
-    };
-    held = λ q a. subst (λ hs. IsIn (holder rows (label (retailed sp c v) q)) hs) (sym (ring-retailed sp A.table.rings c v q))
-        (subst (λ n. IsIn (holder rows n) (ring sp q)) (sym (label-retailed sp c v q)) (A.held q (sym (live-retailed sp c v q) ∙ a)));
-  }))
+  labelled-retailed c v = labelled_stays sp (retailed sp c v) known rows A (AreRings-retailed sp A.table.rings c v) (λ q a. (sym (live-retailed sp c v q) ∙ a, label-retailed sp c v q, ring-retailed sp A.table.rings c v q))
 
   -- an edge goes to sleep, whose half-edges are rings of one
   module _ (e : ℕ) (plus_live : live sp (plus e) ≡ true) (minus_live : live sp (minus e) ≡ true) (plus_next : next sp (plus e) ≡ plus e) (minus_next : next sp (minus e) ≡ minus e) where
-    alone : (c : ℕ) → live sp c ≡ true → next sp c ≡ c → ring sp c ≡ c ∷ []
-    alone c a n = ring_is sp c (c ∷ []) (n, tt) (λ y. omega (arith, tick_le y c)) (IsIn_head c []) (λ x i. A.table.rings.bound x (ap (live sp) (IsIn_one c x i) ∙ a)) ∙ canonical_one c
-
     alone_plus : ring sp (plus e) ≡ plus e ∷ []
-    alone_plus = alone (plus e) plus_live plus_next
+    alone_plus = ring_alone sp A.table.rings (plus e) plus_live plus_next
 
     alone_minus : ring sp (minus e) ≡ minus e ∷ []
-    alone_minus = alone (minus e) minus_live minus_next
+    alone_minus = ring_alone sp A.table.rings (minus e) minus_live minus_next
 
     abbrev less : Spots
     less = asleep (asleep sp (plus e)) (minus e)
@@ -81,16 +68,8 @@ module _ (sp : Spots) (known : ℕ → Bool) (rows : List (Option Label)) (A : A
     label_left c a = let l = s_left sp A.table.rings e alone_plus alone_minus c a in ap (λ o. or_zero (of_spot (λ s. s.label) o)) (s_other sp A.table.rings e alone_plus alone_minus c l.0 l.1)
 
     pub labelled-asleep : (now : Spots) (known' : ℕ → Bool) → now ≡ less → known' ≡ known → AreLabelled now known' rows
-    labelled-asleep now known' is same = subst (λ k. AreLabelled now k rows) (sym same) (subst (λ s. AreLabelled s known rows) (sym is) (record {
-      table = record {
-        rings = s_rings sp A.table.rings e alone_plus alone_minus;
-        owners = A.table.owners;
-        codes_there = A.table.codes_there;
-        labels_there = λ c a. let l = s_left sp A.table.rings e alone_plus alone_minus c a in subst (λ n. has_label rows n ≡ true) (sym (label_left c a)) (A.table.labels_there c l.2);
-      };
-      held = λ c a. let l = s_left sp A.table.rings e alone_plus alone_minus c a in
-          subst (λ hs. IsIn (holder rows (label less c)) hs) (sym (s_ring sp A.table.rings e alone_plus alone_minus c l.2 l.0 l.1).0) (subst (λ n. IsIn (holder rows n) (ring sp c)) (sym (label_left c a)) (A.held c l.2));
-    }))
+    labelled-asleep = labelled_stays sp less known rows A (s_rings sp A.table.rings e alone_plus alone_minus) (λ c a.
+        let l = s_left sp A.table.rings e alone_plus alone_minus c a in (l.2, label_left c a, (s_ring sp A.table.rings e alone_plus alone_minus c l.2 l.0 l.1).0))
 
   pub loops-asleep_both : (e : ℕ) (now : Spots) → now ≡ asleep (asleep sp (plus e)) (minus e) → in_loops rows now ≡ asleep (asleep (in_loops rows sp) (plus e)) (minus e)
   loops-asleep_both e now is = ap (in_loops rows) is ∙ loops-asleep rows (asleep sp (plus e)) (minus e) ∙ ap (λ s. asleep s (minus e)) (loops-asleep rows sp (plus e))
@@ -170,16 +149,11 @@ module _ (sp : Spots) (known : ℕ → Bool) (rows : List (Option Label)) (A : A
 
     now_labelled : AreLabelled now known rows
     now_labelled = record {
-      table = record {
-        rings = now_rings;
-        owners = A.table.owners;
-        codes_there = A.table.codes_there;
-        labels_there = λ c a. elim (cases_now c a) [
-          | inl p ↦ subst (λ n. has_label rows n ≡ true) (sym (ap (label now) p ∙ label_plus)) (A.table.owners.own_there (plus e) plus_known)
-          | inr (inl p) ↦ subst (λ n. has_label rows n ≡ true) (sym (ap (label now) p ∙ label_minus)) (A.table.owners.own_there (minus e) minus_known)
-          | inr (inr b) ↦ subst (λ n. has_label rows n ≡ true) (sym (now_label c b)) (A.table.labels_there c b)
-        ];
-      };
+      table = table_kept sp now known rows A.table now_rings (λ c a. elim (cases_now c a) [
+        | inl p ↦ subst (λ n. has_label rows n ≡ true) (sym (ap (label now) p ∙ label_plus)) (A.table.owners.own_there (plus e) plus_known)
+        | inr (inl p) ↦ subst (λ n. has_label rows n ≡ true) (sym (ap (label now) p ∙ label_minus)) (A.table.owners.own_there (minus e) minus_known)
+        | inr (inr b) ↦ subst (λ n. has_label rows n ≡ true) (sym (now_label c b)) (A.table.labels_there c b)
+      ]);
       held = λ c a. elim (cases_now c a) [
         | inl p ↦ holds c x a (ap (label now) p ∙ label_plus) (A.table.owners.held (plus e) plus_known ∙ sym p)
         | inr (inl p) ↦ holds c y a (ap (label now) p ∙ label_minus) (A.table.owners.held (minus e) minus_known ∙ sym p)

@@ -6,7 +6,7 @@ use Rattle.boundary_model.proofs.Lists.{IsIn_or_not}
 use Rattle.boundary_model.proofs.Cuts.{IsIn-cut}
 use Rattle.arena_rows.specs.declared.ring_spots.labels.Label.{Label}
 use Rattle.arena_rows.specs.ring_spots.Spots.{Spots, live, label, ring, labelled, spliced_at, AreRings}
-use Rattle.arena_rows.specs.ring_spots.Labels.{own, holder, loop_at, in_loops, AreOwned, AreLabelled, ShareLabel, IsRelabelled, HaveOneLabel, has_label}
+use Rattle.arena_rows.specs.ring_spots.Labels.{own, holder, loop_at, in_loops, AreOwned, HaveLabels, AreLabelled, ShareLabel, IsRelabelled, HaveOneLabel, has_label}
 use Rattle.arena_rows.proofs.ring_spots_laws.SpotLaws.{ring_same, ring_meet, live-labelled, ring-labelled, label-labelled_in, label-labelled_out, AreRings-labelled, live-spliced, label-spliced, AreRings-cut, ring_left, ring_right, ring_beside, cut_items, AreRings-join, ring_joint, ring_aside, join_items}
 use Rattle.arena_rows.proofs.ring_spots_laws.LabelTables.{handed_over, holder_x, holder_other}
 use Rattle.arena_rows.proofs.ring_spots_laws.LoopSpots.{blank-labelled, loops-labelled}
@@ -27,6 +27,18 @@ labelled_alike sp known rows new A o h there = record {
   };
   held = λ c a. subst (λ (f : ℕ → ℕ). IsIn (f (label sp c)) (ring sp c)) (sym h) (A.held c a);
 }
+
+-- the rows stay, and each live code has a label that is there
+pub table_kept : (sp new : Spots) (known : ℕ → Bool) (rows : List (Option Label)) → HaveLabels sp known rows → AreRings new → ((c : ℕ) → live new c ≡ true → has_label rows (label new c) ≡ true) → HaveLabels new known rows
+table_kept sp new known rows T R labels = record { rings = R; owners = T.owners; codes_there = T.codes_there; labels_there = labels }
+
+-- each live code was live, with its label and its ring
+pub labelled_stays : (sp new : Spots) (known : ℕ → Bool) (rows : List (Option Label)) → AreLabelled sp known rows → AreRings new → ((c : ℕ) → live new c ≡ true → (live sp c ≡ true) × (label new c ≡ label sp c) × (ring new c ≡ ring sp c)) →
+    (now : Spots) (known' : ℕ → Bool) → now ≡ new → known' ≡ known → AreLabelled now known' rows
+labelled_stays sp new known rows A R kept now known' is same = subst (λ k. AreLabelled now k rows) (sym same) (subst (λ s. AreLabelled s known rows) (sym is) (record {
+  table = table_kept sp new known rows A.table R (λ c a. let k = kept c a in subst (λ n. has_label rows n ≡ true) (sym k.1) (A.table.labels_there c k.0));
+  held = λ c a. let k = kept c a in subst (λ hs. IsIn (holder rows (label new c)) hs) (sym k.2) (subst (λ n. IsIn (holder rows n) (ring sp c)) (sym k.1) (A.held c k.0));
+}))
 
 module _ (sp : Spots) (known : ℕ → Bool) (rows : List (Option Label)) (A : AreLabelled sp known rows) where
   -- two codes with one label stand in one ring
@@ -61,12 +73,7 @@ module _ (sp : Spots) (known : ℕ → Bool) (rows : List (Option Label)) (A : A
 
     pub share-cut : ShareLabel cutted known rows a b
     share-cut = let o = A.table.rings.rings a a_there in record {
-      table = record {
-        rings = AreRings-cut sp A.table.rings a b a_there cut_b_there together ne;
-        owners = A.table.owners;
-        codes_there = A.table.codes_there;
-        labels_there = λ c h. subst (λ n. has_label rows n ≡ true) (sym (label-spliced sp a b c)) (A.table.labels_there c (sym (live-spliced sp a b c) ∙ h));
-      };
+      table = table_kept sp cutted known rows A.table (AreRings-cut sp A.table.rings a b a_there cut_b_there together ne) (λ c h. subst (λ n. has_label rows n ≡ true) (sym (label-spliced sp a b c)) (A.table.labels_there c (sym (live-spliced sp a b c) ∙ h)));
       a_there = live-spliced sp a b a ∙ a_there;
       b_there = live-spliced sp a b b ∙ cut_b_there;
       apart = let i : IsIn b (ring cutted b) = subst (IsIn b) (sym cut_right_is) cut_sides.1 in omega (arith, i, cut_count b, o.apart b);
@@ -104,15 +111,10 @@ module _ (sp : Spots) (known : ℕ → Bool) (rows : List (Option Label)) (A : A
 
     shared : ShareLabel like_b known rows a b
     shared = record {
-      table = record {
-        rings = AreRings-labelled sp A.table.rings a lb a_there;
-        owners = A.table.owners;
-        codes_there = A.table.codes_there;
-        labels_there = λ c h. let k = sym (live-labelled sp lb (ring sp a) c) ∙ h in elim (IsIn_or_not c (ring sp a)) [
-          | inl i ↦ subst (λ n. has_label rows n ≡ true) (sym (label-labelled_in sp lb (ring sp a) c i k)) (A.table.labels_there b b_there)
-          | inr n ↦ subst (λ n. has_label rows n ≡ true) (sym (label-labelled_out sp lb (ring sp a) c n)) (A.table.labels_there c k)
-        ];
-      };
+      table = table_kept sp like_b known rows A.table (AreRings-labelled sp A.table.rings a lb a_there) (λ c h. let k = sym (live-labelled sp lb (ring sp a) c) ∙ h in elim (IsIn_or_not c (ring sp a)) [
+        | inl i ↦ subst (λ n. has_label rows n ≡ true) (sym (label-labelled_in sp lb (ring sp a) c i k)) (A.table.labels_there b b_there)
+        | inr n ↦ subst (λ n. has_label rows n ≡ true) (sym (label-labelled_out sp lb (ring sp a) c n)) (A.table.labels_there c k)
+      ]);
       a_there = live-labelled sp lb (ring sp a) a ∙ a_there;
       b_there = live-labelled sp lb (ring sp a) b ∙ b_there;
       apart = ap (count b) (like_b_rings a) ∙ b_apart;
@@ -247,12 +249,7 @@ module _ (sp : Spots) (known : ℕ → Bool) (rows : List (Option Label)) (a b :
   -- the two rings are joined
   labelled-join : AreLabelled (spliced_at sp a b) known rows
   labelled-join = record {
-    table = record {
-      rings = AreRings-join sp S.table.rings a b S.a_there S.b_there S.apart S.one;
-      owners = S.table.owners;
-      codes_there = S.table.codes_there;
-      labels_there = λ c h. subst (λ n. has_label rows n ≡ true) (sym (label-spliced sp a b c)) (S.table.labels_there c (sym (live-spliced sp a b c) ∙ h));
-    };
+    table = table_kept sp (spliced_at sp a b) known rows S.table (AreRings-join sp S.table.rings a b S.a_there S.b_there S.apart S.one) (λ c h. subst (λ n. has_label rows n ≡ true) (sym (label-spliced sp a b c)) (S.table.labels_there c (sym (live-spliced sp a b c) ∙ h)));
     held = λ c h. let k = sym (live-spliced sp a b c) ∙ h in elim (IsIn_or_not c (joined a b (ring sp a) (ring sp b))) [
       | inl i ↦ in_joint c k i
       | inr n ↦ subst (λ hs. IsIn (holder rows (label (spliced_at sp a b) c)) hs) (sym (ring_aside sp S.table.rings a b S.a_there S.b_there S.apart S.one c k n).0)

@@ -1,8 +1,9 @@
 -- The table of labels, where rows are written, where labels come and where one gets another owner.
-use Rattle.std.proofs.Common.{◌≡◌, ◌≢◌, ℕ, zero, suc, ◌<◌, ◌≤◌, Bool, true, false, cond, nat_eq, nat_lt, List, [], ◌∷◌, length, Option, Some, None, unwrap_or, Result, Ok, Err, OnOk, refl, sym, ap, subst, ◌∙◌, arith, eq-eqb, ne_eqb, ◌⊎◌, inl, inr}
+use Rattle.std.proofs.Common.{◌≡◌, ◌≢◌, ℕ, ◌<◌, ◌≤◌, Bool, true, false, cond, nat_eq, nat_lt, List, [], length, Option, Some, unwrap_or, Result, Ok, Err, OnOk, refl, sym, ap, subst, ◌∙◌, arith, eq-eqb, ne_eqb, ◌⊎◌, inl, inr}
 use Rattle.std.proofs.lemmas.Bool.Decides.{eqb_tells, nat_tests}
 use Rattle.raw_cells.specs.Rows.{row_at}
 use Rattle.arena_rows.specs.declared.ring_spots.labels.Label.{Label}
+use Rattle.arena_rows.proofs.Views.{row_past}
 use Rattle.arena_rows.specs.ring_spots.Labels.{new_label, row_of, has_label, own, holder, loop_at, AreOwned, HaveNewLabels}
 
 yes_or_no : (b : Bool) → (b ≡ true) ⊎ (b ≡ false)
@@ -46,11 +47,6 @@ beyond n k h = grind (arith, nat_tests)
 inside : (n k : ℕ) → n < k → nat_lt n k ≡ true
 inside n k h = grind (arith, nat_tests)
 
-no_row : (rows : List (Option Label)) (n : ℕ) → length rows ≤ n → row_at rows n ≡ None
-no_row [] n h = refl
-no_row (x ∷ rows) zero h = absurd (omega (arith, h))
-no_row (x ∷ rows) (suc n) h = no_row rows n (omega (arith, h))
-
 pub label_within : (rows : List (Option Label)) (n : ℕ) → has_label rows n ≡ true → n < length rows
 label_within rows n h = within n (length rows) h
 
@@ -70,61 +66,53 @@ pub more_labels : (rows new : List (Option Label)) → ((q : ℕ) → row_at new
 more_labels rows new same grows = record {
   kept = λ k h. inside k (length new) (omega (arith, grows, within k (length rows) h));
   same = λ k h. ap (λ o. unwrap_or o (new_label k)) (same k);
-  added = λ k f h. ap (λ o. unwrap_or o (new_label k)) (same k ∙ no_row rows k (beyond k (length rows) f));
+  added = λ k f h. ap (λ o. unwrap_or o (new_label k)) (same k ∙ row_past rows k (beyond k (length rows) f));
 }
+
+-- a map that has x at c now, and at d what it had at c
+module _ (f f' : ℕ → ℕ) (c x d : ℕ) (is : (q : ℕ) → f' q ≡ cond (nat_eq q c) x (cond (nat_eq q d) (f c) (f q))) where
+  turned_here : f' c ≡ x
+  turned_here = is c ∙ ap (λ b. cond b x (cond (nat_eq c d) (f c) (f c))) (eq-eqb c c refl)
+
+  turned_before : (q : ℕ) → q ≢ c → q ≡ d → f' q ≡ f c
+  turned_before q n e = is q ∙ ap (λ b. cond b x (cond (nat_eq q d) (f c) (f q))) (ne_eqb q c n) ∙ ap (λ b. cond b (f c) (f q)) (eq-eqb q d e)
+
+  turned_other : (q : ℕ) → q ≢ c → q ≢ d → f' q ≡ f q
+  turned_other q n m = is q ∙ ap (λ b. cond b x (cond (nat_eq q d) (f c) (f q))) (ne_eqb q c n) ∙ ap (λ b. cond b (f c) (f q)) (ne_eqb q d m)
+
+  turned_there : (there : ℕ → Bool) → there x ≡ true → there (f c) ≡ true → (q : ℕ) → there (f q) ≡ true → there (f' q) ≡ true
+  turned_there there x_there c_there q l = elim (eqb_tells q c) [
+    | inl p ↦ ap there (ap f' p.1 ∙ turned_here) ∙ x_there
+    | inr n ↦ elim (eqb_tells q d) [ inl r ↦ ap there (turned_before q n.1 r.1) ∙ c_there | inr m ↦ ap there (turned_other q n.1 m.1) ∙ l ]
+  ]
+
+-- g undoes f still, once both are turned
+undone : (f g f' g' : ℕ → ℕ) (there : ℕ → Bool) (c x : ℕ) → there c ≡ true → ((n : ℕ) → there n ≡ true → g (f n) ≡ n) → ((q : ℕ) → f' q ≡ cond (nat_eq q c) x (cond (nat_eq q (g x)) (f c) (f q))) →
+    ((q : ℕ) → g' q ≡ cond (nat_eq q x) c (cond (nat_eq q (f c)) (g x) (g q))) → (q : ℕ) → there q ≡ true → g' (f' q) ≡ q
+undone f g f' g' there c x c_there back f_is g_is q l = elim (eqb_tells q c) [
+  | inl p ↦ ap g' (ap f' p.1 ∙ turned_here f f' c x (g x) f_is) ∙ turned_here g g' x c (f c) g_is ∙ sym p.1
+  | inr n ↦ elim (eqb_tells q (g x)) [
+    | inl r ↦ ap g' (turned_before f f' c x (g x) f_is q n.1 r.1) ∙ turned_before g g' x c (f c) g_is (f c) (λ e. n.1 (r.1 ∙ sym (ap g e) ∙ back c c_there)) refl ∙ sym r.1
+    | inr m ↦ ap g' (turned_other f f' c x (g x) f_is q n.1 m.1) ∙ turned_other g g' x c (f c) g_is (f q) (λ e. m.1 (sym (back q l) ∙ ap g e)) (λ e. n.1 (sym (back q l) ∙ ap g e ∙ back c c_there)) ∙ back q l
+  ]
+]
 
 module _ (own holder : ℕ → ℕ) (there : ℕ → Bool) (A : AreOwned own holder there) where
   -- a code becomes the owner of label x, and the code that owned it gets the other one's label
   module _ (own' holder' : ℕ → ℕ) (c x : ℕ) (c_there : there c ≡ true) (x_there : there x ≡ true) (own_is : (q : ℕ) → own' q ≡ cond (nat_eq q c) x (cond (nat_eq q (holder x)) (own c) (own q)))
       (holder_is : (q : ℕ) → holder' q ≡ cond (nat_eq q x) c (cond (nat_eq q (own c)) (holder x) (holder q))) where
-    own_c : own' c ≡ x
-    own_c = own_is c ∙ ap (λ b. cond b x (cond (nat_eq c (holder x)) (own c) (own c))) (eq-eqb c c refl)
-
     pub holder_x : holder' x ≡ c
-    holder_x = holder_is x ∙ ap (λ b. cond b c (cond (nat_eq x (own c)) (holder x) (holder x))) (eq-eqb x x refl)
-
-    own_before : (q : ℕ) → q ≢ c → q ≡ holder x → own' q ≡ own c
-    own_before q n e = own_is q ∙ ap (λ b. cond b x (cond (nat_eq q (holder x)) (own c) (own q))) (ne_eqb q c n) ∙ ap (λ b. cond b (own c) (own q)) (eq-eqb q (holder x) e)
-
-    own_other : (q : ℕ) → q ≢ c → q ≢ holder x → own' q ≡ own q
-    own_other q n m = own_is q ∙ ap (λ b. cond b x (cond (nat_eq q (holder x)) (own c) (own q))) (ne_eqb q c n) ∙ ap (λ b. cond b (own c) (own q)) (ne_eqb q (holder x) m)
-
-    holder_before : (q : ℕ) → q ≢ x → q ≡ own c → holder' q ≡ holder x
-    holder_before q n e = holder_is q ∙ ap (λ b. cond b c (cond (nat_eq q (own c)) (holder x) (holder q))) (ne_eqb q x n) ∙ ap (λ b. cond b (holder x) (holder q)) (eq-eqb q (own c) e)
+    holder_x = turned_here holder holder' x c (own c) holder_is
 
     pub holder_other : (q : ℕ) → q ≢ x → q ≢ own c → holder' q ≡ holder q
-    holder_other q n m = holder_is q ∙ ap (λ b. cond b c (cond (nat_eq q (own c)) (holder x) (holder q))) (ne_eqb q x n) ∙ ap (λ b. cond b (holder x) (holder q)) (ne_eqb q (own c) m)
+    holder_other = turned_other holder holder' x c (own c) holder_is
 
     pub handed_over : AreOwned own' holder' there
     handed_over = record {
-      own_there = λ q l. elim (eqb_tells q c) [
-        | inl p ↦ subst (λ z. there z ≡ true) (sym (ap own' p.1 ∙ own_c)) x_there
-        | inr n ↦ elim (eqb_tells q (holder x)) [
-          | inl r ↦ subst (λ z. there z ≡ true) (sym (own_before q n.1 r.1)) (A.own_there c c_there)
-          | inr m ↦ subst (λ z. there z ≡ true) (sym (own_other q n.1 m.1)) (A.own_there q l)
-        ]
-      ];
-      holder_there = λ q l. elim (eqb_tells q x) [
-        | inl p ↦ subst (λ z. there z ≡ true) (sym (ap holder' p.1 ∙ holder_x)) c_there
-        | inr n ↦ elim (eqb_tells q (own c)) [
-          | inl r ↦ subst (λ z. there z ≡ true) (sym (holder_before q n.1 r.1)) (A.holder_there x x_there)
-          | inr m ↦ subst (λ z. there z ≡ true) (sym (holder_other q n.1 m.1)) (A.holder_there q l)
-        ]
-      ];
-      held = λ q l. elim (eqb_tells q c) [
-        | inl p ↦ ap holder' (ap own' p.1 ∙ own_c) ∙ holder_x ∙ sym p.1
-        | inr n ↦ elim (eqb_tells q (holder x)) [
-          | inl r ↦ ap holder' (own_before q n.1 r.1) ∙ holder_before (own c) (λ e. n.1 (r.1 ∙ sym (ap holder e) ∙ A.held c c_there)) refl ∙ sym r.1
-          | inr m ↦ ap holder' (own_other q n.1 m.1) ∙ holder_other (own q) (λ e. m.1 (sym (A.held q l) ∙ ap holder e)) (λ e. n.1 (sym (A.held q l) ∙ ap holder e ∙ A.held c c_there)) ∙ A.held q l
-        ]
-      ];
-      owned = λ q l. elim (eqb_tells q x) [
-        | inl p ↦ ap own' (ap holder' p.1 ∙ holder_x) ∙ own_c ∙ sym p.1
-        | inr n ↦ elim (eqb_tells q (own c)) [
-          | inl r ↦ ap own' (holder_before q n.1 r.1) ∙ own_before (holder x) (λ e. n.1 (r.1 ∙ ap own (sym e) ∙ A.owned x x_there)) refl ∙ sym r.1
-          | inr m ↦ ap own' (holder_other q n.1 m.1) ∙ own_other (holder q) (λ e. m.1 (sym (A.owned q l) ∙ ap own e)) (λ e. n.1 (sym (A.owned q l) ∙ ap own e ∙ A.owned x x_there)) ∙ A.owned q l
-        ]
-      ];
+      own_there = λ q l. turned_there own own' c x (holder x) own_is there x_there (A.own_there c c_there) q (A.own_there q l);
+      holder_there = λ q l. turned_there holder holder' x c (own c) holder_is there c_there (A.holder_there x x_there) q (A.holder_there q l);
+      held = undone own holder own' holder' there c x c_there A.held own_is holder_is;
+      owned = undone holder own holder' own' there x c x_there A.owned holder_is own_is;
     }
 
 module _ (rows new : List (Option Label)) (h : HaveNewLabels rows new) where

@@ -61,7 +61,7 @@ module _ (sp new : Spots) (same : (q : ℕ) → but_label (new q) ≡ but_label 
   pub AreRings-alike : AreRings sp → ((c : ℕ) → live sp c ≡ true → (x : ℕ) → IsIn x (ring sp c) → label new x ≡ label new c) → AreRings new
   AreRings-alike R labels = let bound : (x : ℕ) → live new x ≡ true → x < codes = λ x a. R.bound x (sym (live-alike x) ∙ a) in record {
     bound = bound;
-    rings = λ c a. let b = sym (live-alike c) ∙ a in (ring_kept sp new R c b (λ x e. live-alike x ∙ e) bound (λ x i. next-alike x) (labels c b)).1;
+    rings = λ c a. let b = sym (live-alike c) ∙ a in (ring_kept sp new R c b (λ x _ e. live-alike x ∙ e) bound (λ x i. next-alike x) (labels c b)).1;
     mates = λ c a. live-alike (mate c) ∙ R.mates c (sym (live-alike c) ∙ a);
   }
 

@@ -1,6 +1,7 @@
 -- What the map of the rings says of each code once it is changed.
 use Rattle.std.proofs.Common.{◌≡◌, ◌≢◌, ℕ, Bool, true, false, cond, nat_eq, Option, Some, None, is_some, Result, Ok, Err, OnOk, OnErr, refl, sym, ap, ◌∙◌, true≢false, eq-eqb, ne_eqb, inl, inr}
 use Rattle.std.proofs.lemmas.Bool.Decides.{eqb_tells}
+use Rattle.std.proofs.lemmas.Bool.{eqb-true}
 use Rattle.std.specs.FinMap.{get, insert, contains_key, empty}
 use Rattle.std.specs.FinMap as map
 use Rattle.std.specs.Ordering.{nat_cmp}
@@ -57,9 +58,6 @@ module _ (m : RingMap) (c : ℕ) (f : Spot → Spot) where
 pub next_is : (m : RingMap) (c : ℕ) → next (spot m) c ≡ or_zero (next_of m c)
 next_is m c = refl
 
-linked : (n : ℕ) (s : Spot) → Spot
-linked n s = record s { next = n }
-
 same_next : (o : Option Spot) → map_spot (λ s. record s { next = or_zero (of_spot (λ s. s.next) o) }) o ≡ o
 same_next None = refl
 same_next (Some s) = refl
@@ -68,32 +66,20 @@ twice : (n k : ℕ) (o : Option Spot) → map_spot (λ s. record s { next = n })
 twice n k None = refl
 twice n k (Some s) = refl
 
+-- two codes led elsewhere, one after the other
+both_led : (da db : Bool) (x y : ℕ) (o : Option Spot) → (da ≡ true → db ≡ true → x ≡ y) → cond db (map_spot (λ s. record s { next = x }) (cond da (map_spot (λ s. record s { next = y }) o) o)) (cond da (map_spot (λ s. record s { next = y }) o) o)
+    ≡ map_spot (λ s. record s { next = cond da y (cond db x (or_zero (of_spot (λ s. s.next) o))) }) o
+both_led true true x y o e = twice x y o ∙ ap (λ n. map_spot (λ s. record s { next = n }) o) (e refl refl)
+both_led true false x y o e = refl
+both_led false true x y o e = refl
+both_led false false x y o e = sym (same_next o)
+
 -- a splice
 pub spot-spliced : (m : RingMap) (a b : ℕ) → spot (spliced m a b) ≡ spliced_at (spot m) a b
-spot-spliced m a b = λ i q. go q i where
-  first : RingMap
-  first = with_next m a (or_zero (next_of m b))
-
-  go : (q : ℕ) → spot (spliced m a b) q ≡ spliced_at (spot m) a b q
-  go q = spot-with (with_next m a (or_zero (next_of m b))) b (λ s. record s { next = or_zero (next_of m a) }) q
-      ∙ ap (λ o. cond (nat_eq q b) (map_spot (λ s. record s { next = or_zero (next_of m a) }) o) o) (spot-with m a (λ s. record s { next = or_zero (next_of m b) }) q)
-      ∙ elim (eqb_tells q a) [
-        | inl p ↦ ap (λ t. cond (nat_eq q b) (map_spot (λ s. record s { next = or_zero (next_of m a) }) (cond t (map_spot (λ s. record s { next = or_zero (next_of m b) }) (spot m q)) (spot m q))) (cond t (map_spot (λ s. record s { next = or_zero (next_of m b) }) (spot m q)) (spot m q))) p.0
-            ∙ elim (eqb_tells q b) [
-              | inl r ↦ ap (λ t. cond t (map_spot (λ s. record s { next = or_zero (next_of m a) }) (map_spot (λ s. record s { next = or_zero (next_of m b) }) (spot m q))) (map_spot (λ s. record s { next = or_zero (next_of m b) }) (spot m q))) r.0
-                  ∙ twice _ _ (spot m q) ∙ ap (λ n. map_spot (λ s. record s { next = n }) (spot m q)) (ap (λ z. or_zero (next_of m z)) (sym p.1 ∙ r.1))
-                  ∙ sym (ap (λ t. map_spot (λ s. record s { next = cond t (or_zero (next_of m b)) (cond (nat_eq q b) (or_zero (next_of m a)) (or_zero (next_of m q))) }) (spot m q)) p.0)
-              | inr r ↦ ap (λ t. cond t (map_spot (λ s. record s { next = or_zero (next_of m a) }) (map_spot (λ s. record s { next = or_zero (next_of m b) }) (spot m q))) (map_spot (λ s. record s { next = or_zero (next_of m b) }) (spot m q))) r.0
-                  ∙ sym (ap (λ t. map_spot (λ s. record s { next = cond t (or_zero (next_of m b)) (cond (nat_eq q b) (or_zero (next_of m a)) (or_zero (next_of m q))) }) (spot m q)) p.0)
-            ]
-        | inr p ↦ ap (λ t. cond (nat_eq q b) (map_spot (λ s. record s { next = or_zero (next_of m a) }) (cond t (map_spot (λ s. record s { next = or_zero (next_of m b) }) (spot m q)) (spot m q))) (cond t (map_spot (λ s. record s { next = or_zero (next_of m b) }) (spot m q)) (spot m q))) p.0
-            ∙ elim (eqb_tells q b) [
-              | inl r ↦ ap (λ t. cond t (map_spot (λ s. record s { next = or_zero (next_of m a) }) (spot m q)) (spot m q)) r.0
-                  ∙ sym (ap (λ t. map_spot (λ s. record s { next = cond t (or_zero (next_of m b)) (cond (nat_eq q b) (or_zero (next_of m a)) (or_zero (next_of m q))) }) (spot m q)) p.0 ∙ ap (λ t. map_spot (λ s. record s { next = cond t (or_zero (next_of m a)) (or_zero (next_of m q)) }) (spot m q)) r.0)
-              | inr r ↦ ap (λ t. cond t (map_spot (λ s. record s { next = or_zero (next_of m a) }) (spot m q)) (spot m q)) r.0
-                  ∙ sym (ap (λ t. map_spot (λ s. record s { next = cond t (or_zero (next_of m b)) (cond (nat_eq q b) (or_zero (next_of m a)) (or_zero (next_of m q))) }) (spot m q)) p.0 ∙ ap (λ t. map_spot (λ s. record s { next = cond t (or_zero (next_of m a)) (or_zero (next_of m q)) }) (spot m q)) r.0 ∙ same_next (spot m q))
-            ]
-      ]
+spot-spliced m a b = λ i q. (
+    spot-with (with_next m a (or_zero (next_of m b))) b (λ s. record s { next = or_zero (next_of m a) }) q
+    ∙ ap (λ o. cond (nat_eq q b) (map_spot (λ s. record s { next = or_zero (next_of m a) }) o) o) (spot-with m a (λ s. record s { next = or_zero (next_of m b) }) q)
+    ∙ both_led (nat_eq q a) (nat_eq q b) (or_zero (next_of m a)) (or_zero (next_of m b)) (spot m q) (λ s t. ap (λ z. or_zero (next_of m z)) (sym (eqb-true q a s) ∙ eqb-true q b t))) i
 
 pub known-spliced : (m : RingMap) (a b : ℕ) → contains_key (spliced m a b) ≡ contains_key m
 known-spliced m a b = λ i q. (known-with (with_next m a (or_zero (next_of m b))) b (λ s. record s { next = or_zero (next_of m a) }) q ∙ known-with m a (λ s. record s { next = or_zero (next_of m b) }) q) i

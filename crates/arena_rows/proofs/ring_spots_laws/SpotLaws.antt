@@ -2,13 +2,14 @@
 --     length_below      a list without repeats of numbers below n has at most n items
 --     ring_is, ring_same      the ring of a code, by any list that `next` leads round;  one for all its items
 --     AreRings-..       the rings stay rings
-use Rattle.std.proofs.Common.{◌≡◌, ◌≢◌, ℕ, zero, suc, ◌+◌, ◌≤◌, ◌<◌, Bool, true, false, cond, nat_eq, nat_lt, List, [], ◌∷◌, ◌++◌, length, Option, Some, None, is_some, refl, sym, ap, subst, ◌∙◌, arith, true≢false, inl, inr}
-use Rattle.std.proofs.lemmas.Bool.Decides.{nat_tests}
+use Rattle.std.proofs.Common.{◌≡◌, ◌≢◌, ℕ, zero, suc, ◌+◌, ◌≤◌, ◌<◌, Bool, true, false, cond, nat_eq, List, [], ◌∷◌, ◌++◌, length, Option, Some, None, is_some, refl, sym, ap, subst, ◌∙◌, arith, true≢false, inl, inr}
+use Rattle.std.proofs.lemmas.Bool.Decides.{nat_tests, eqb_tells}
 use Rattle.raw_ring.specs.Rings.{Spot, or_zero, of_spot}
-use Rattle.boundary_model.specs.Items.{count, IsIn, IsApart, head_or}
+use Rattle.boundary_model.specs.Items.{count, tick, IsIn, IsApart, head_or}
 use Rattle.boundary_model.specs.Rings.{canonical, orbit, IsRing, splice, cut_left, cut_right, joined, rest, between, beyond}
-use Rattle.boundary_model.proofs.Lists.{count-append, IsIn_or_not}
-use Rattle.boundary_model.proofs.Rotations.{count-canonical, canonical-canonical, IsIn_head}
+use Rattle.boundary_model.proofs.Lists.{count-append, IsIn_or_not, tick_same}
+use Rattle.boundary_model.proofs.Members.{apart_within}
+use Rattle.boundary_model.proofs.Rotations.{count-canonical, canonical-canonical}
 use Rattle.boundary_model.proofs.Rings.{IsPath-agree, canonical-orbit, next_is_successor, IsIn_successor}
 use Rattle.boundary_model.proofs.Cuts.{splice_elsewhere, count-cut, IsApart-cut, IsRing-cut, count-joined, IsApart-joined, IsRing-join}
 use Rattle.boundary_model.specs.HalfEdge.{mate}
@@ -16,43 +17,25 @@ use Rattle.arena_rows.specs.ring_spots.Spots.{Spots, codes, live, next, label, r
 
 -- ---- lists of numbers below a bound
 
-total : ℕ → List ℕ → ℕ
-total zero xs = 0
-total (suc n) xs = count n xs + total n xs
+upto : ℕ → List ℕ
+upto zero = []
+upto (suc n) = n ∷ upto n
 
-abbrev below_one : ℕ → ℕ → ℕ
-below_one y n = cond (nat_lt y n) 1 0
+length-upto : (n : ℕ) → length (upto n) ≡ n
+unfolding upto
+length-upto zero = refl
+length-upto (suc n) = omega (arith, length-upto n)
 
-tick_below : (y n : ℕ) → count n (y ∷ []) + below_one y n ≡ below_one y (suc n)
-tick_below y n = grind (arith, nat_tests)
-
-total-nil : (n : ℕ) → total n [] ≡ 0
-unfolding total
-total-nil zero = refl
-total-nil (suc n) = omega (arith, total-nil n)
-
-below_zero : (y : ℕ) → below_one y 0 ≡ 0
-below_zero y = grind (arith, nat_tests)
-
-total-cons : (n y : ℕ) (ys : List ℕ) → total n (y ∷ ys) ≡ below_one y n + total n ys
-unfolding total
-total-cons zero y ys = sym (omega (arith, below_zero y))
-total-cons (suc n) y ys = omega (arith, total-cons n y ys, tick_below y n)
-
-total_le : (n : ℕ) (xs : List ℕ) → IsApart xs → total n xs ≤ n
-unfolding total
-total_le zero xs d = omega arith
-total_le (suc n) xs d = omega (arith, d n, total_le n xs d)
-
-below_is : (y n : ℕ) → y < n → below_one y n ≡ 1
-below_is y n h = grind (arith, nat_tests)
-
-total_all : (n : ℕ) (xs : List ℕ) → ((x : ℕ) → IsIn x xs → x < n) → total n xs ≡ length xs
-total_all n [] h = total-nil n
-total_all n (x ∷ xs) h = omega (arith, total-cons n x xs, below_is x n (h x (IsIn_head x xs)), total_all n xs (λ y i. h y (omega arith)))
+in-upto : (n x : ℕ) → x < n → IsIn x (upto n)
+unfolding upto
+in-upto zero x l = absurd (omega arith)
+in-upto (suc n) x l = elim (eqb_tells x n) [
+  | inl e ↦ omega (arith, ap (tick x) (sym e.1), tick_same x)
+  | inr e ↦ let i = in-upto n x (omega (arith, e.1)) in omega (arith, i)
+]
 
 pub length_below : (n : ℕ) (xs : List ℕ) → IsApart xs → ((x : ℕ) → IsIn x xs → x < n) → length xs ≤ n
-length_below n xs d h = omega (arith, total_le n xs d, total_all n xs h)
+length_below n xs d h = omega (arith, apart_within xs (upto n) d (λ x i. in-upto n x (h x i)), length-upto n)
 
 pub canonical_fixed : (xs : List ℕ) → IsApart (canonical xs) → canonical (canonical xs) ≡ canonical xs
 canonical_fixed xs d = canonical-canonical xs (λ x. omega (arith, count-canonical x xs, d x))
@@ -88,7 +71,7 @@ module _ (sp : Spots) (R : AreRings sp) where
   next_in_ring c a = let o = R.rings c a in subst (λ z. IsIn z (ring sp c)) (sym (next_is_successor (next sp) (ring sp c) c o.leads o.item)) (IsIn_successor c (ring sp c) o.item)
 
 -- a ring in spots that have the same live codes, links and, on it, labels
-pub ring_kept : (sp new : Spots) → AreRings sp → (c : ℕ) → live sp c ≡ true → ((x : ℕ) → live sp x ≡ true → live new x ≡ true) → ((x : ℕ) → live new x ≡ true → x < codes) → ((x : ℕ) → IsIn x (ring sp c) → next new x ≡ next sp x) →
+pub ring_kept : (sp new : Spots) → AreRings sp → (c : ℕ) → live sp c ≡ true → ((x : ℕ) → IsIn x (ring sp c) → live sp x ≡ true → live new x ≡ true) → ((x : ℕ) → live new x ≡ true → x < codes) → ((x : ℕ) → IsIn x (ring sp c) → next new x ≡ next sp x) →
     ((x : ℕ) → IsIn x (ring sp c) → label new x ≡ label new c) → (ring new c ≡ ring sp c) × IsRingOf new c (ring new c)
 ring_kept sp new R c a lives bound links labels =
     let o = R.rings c a in
@@ -96,7 +79,7 @@ ring_kept sp new R c a lives bound links labels =
       leads = IsPath-agree (next sp) (next new) (ring sp c) (head_or 0 (ring sp c)) (λ x i. sym (links x i)) o.leads;
       apart = o.apart;
       item = o.item;
-      awake = λ d i. lives d (o.awake d i);
+      awake = λ d i. lives d i (o.awake d i);
       one_label = labels;
     } in
     ring_of new bound c (ring sp c) p (canonical_ring sp R c a)
@@ -180,7 +163,7 @@ module _ (sp : Spots) (R : AreRings sp) where
   AreRings-retailed c t = let new = retailed sp c t in let bound : (x : ℕ) → live new x ≡ true → x < codes = λ x a. R.bound x (sym (live-retailed sp c t x) ∙ a) in record {
     bound = bound;
     rings = λ d a. let b = sym (live-retailed sp c t d) ∙ a in
-        (ring_kept sp new R d b (λ x e. live-retailed sp c t x ∙ e) bound (λ x i. next-retailed sp c t x)
+        (ring_kept sp new R d b (λ x _ e. live-retailed sp c t x ∙ e) bound (λ x i. next-retailed sp c t x)
         (λ x i. label-retailed sp c t x ∙ (R.rings d b).one_label x i ∙ sym (label-retailed sp c t d))).1;
     mates = λ d a. live-retailed sp c t (mate d) ∙ R.mates d (sym (live-retailed sp c t d) ∙ a);
   }
@@ -213,7 +196,7 @@ module _ (sp : Spots) (R : AreRings sp) where
     AreRings-labelled = let bound : (x : ℕ) → live relabelled x ≡ true → x < codes = λ x a. R.bound x (sym (live-labelled sp l (ring sp b) x) ∙ a) in record {
       bound = bound;
       rings = λ d a. let e = sym (live-labelled sp l (ring sp b) d) ∙ a in
-          (ring_kept sp relabelled R d e (λ x q. live-labelled sp l (ring sp b) x ∙ q) bound (λ x i. next-labelled sp l (ring sp b) x) (λ x i. labels_kept d x e i)).1;
+          (ring_kept sp relabelled R d e (λ x _ q. live-labelled sp l (ring sp b) x ∙ q) bound (λ x i. next-labelled sp l (ring sp b) x) (λ x i. labels_kept d x e i)).1;
       mates = λ d a. live-labelled sp l (ring sp b) (mate d) ∙ R.mates d (sym (live-labelled sp l (ring sp b) d) ∙ a);
     }
 
@@ -226,7 +209,7 @@ module _ (sp : Spots) (R : AreRings sp) where
 
     -- a ring that holds neither
     other_ring : (c : ℕ) → live sp c ≡ true → count a (ring sp c) ≡ 0 → count b (ring sp c) ≡ 0 → (ring changed c ≡ ring sp c) × IsRingOf changed c (ring changed c)
-    other_ring c h n m = ring_kept sp changed R c h (λ x q. live-spliced sp a b x ∙ q) changed_bound
+    other_ring c h n m = ring_kept sp changed R c h (λ x _ q. live-spliced sp a b x ∙ q) changed_bound
         (λ x i. next-spliced sp a b x ((R.rings c h).awake x i) ∙ splice_elsewhere (next sp) a b x
         (λ e. let z : count x (ring sp c) ≡ 0 = ap (λ w. count w (ring sp c)) e ∙ n in absurd (omega arith))
         (λ e. let z : count x (ring sp c) ≡ 0 = ap (λ w. count w (ring sp c)) e ∙ m in absurd (omega arith)))

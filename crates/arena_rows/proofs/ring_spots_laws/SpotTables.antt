@@ -163,6 +163,13 @@ loose_later sp k n = ap (λ b. cond (live sp k && (nat_eq (label sp k) 0 && b)) 
 pub loose_alike : (sp new : Spots) (k : ℕ) → live new k ≡ live sp k → label new k ≡ label sp k → ring new k ≡ ring sp k → loose_row new k ≡ loose_row sp k
 loose_alike sp new k a l r = λ i. cond (a i && (nat_eq (l i) 0 && nat_eq (head_or 0 (r i)) k)) (Some (r i)) None
 
+-- or the code is dead still
+pub loose_kept : (sp new : Spots) (k : ℕ) → live new k ≡ live sp k → (live sp k ≡ true → (label new k ≡ label sp k) × (ring new k ≡ ring sp k)) → loose_row new k ≡ loose_row sp k
+loose_kept sp new k a same = go (live sp k) refl where
+  go : (b : Bool) → live sp k ≡ b → loose_row new k ≡ loose_row sp k
+  go true h = let e = same h in loose_alike sp new k a e.0 e.1
+  go false h = loose_dead new k (a ∙ h) ∙ sym (loose_dead sp k h)
+
 pub loose_same : (sp new : Spots) → ((k : ℕ) → loose_row new k ≡ loose_row sp k) → tabulate (loose_row new) codes ≡ tabulate (loose_row sp) codes
 loose_same sp new e = ap (λ (f : ℕ → Option (List ℕ)). tabulate f codes) (λ i k. e k i)
 
