@@ -21,9 +21,9 @@ told_of (Err (failure.Refused r)) = Refused r
 told_of (Err (failure.Memory e)) = Memory
 
 -- what undo or redo is told that ended so
-abbrev pub told_refusal : Result (Unit {0}) Refusal → Told
-told_refusal (Ok _) = Done
-told_refusal (Err r) = Refused r
+abbrev pub told_of_move : Result (Unit {0}) Refusal → Told
+told_of_move (Ok _) = Done
+told_of_move (Err r) = Refused r
 
 -- undo and redo go on to a machine, or are refused
 abbrev pub Moves : Option Refusal → Machine → Machine → Told → Machine → Type 0

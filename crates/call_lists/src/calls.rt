@@ -1,6 +1,6 @@
 //! What a call of a session is, and what it is told.
 ghost use Rattle.std.specs.Prelude.{◌≡◌};
-ghost use Rattle.call_lists.specs.Making.{told_of, told_refusal};
+ghost use Rattle.call_lists.specs.Making.{told_of, told_of_move};
 
 use arrayvec::ArrayVec;
 use euler_operators::{Op, Point, Refusal};
@@ -56,7 +56,7 @@ pub(crate) fn outcome(ended: Result<(), Failure>) -> Told
 
 /// What undo or redo is told that ended so.
 pub(crate) fn moved(ended: Result<(), Refusal>) -> Told
-    ensures { result ≡ told_refusal ended }
+    ensures { result ≡ told_of_move ended }
 {
     match ended {
         Ok(()) => Told::Done,

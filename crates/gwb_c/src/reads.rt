@@ -164,13 +164,13 @@ pub extern "C" fn gwb_half_edges(alloc: Global, gwb: &mut Gwb, l: u32, buf: &mut
     count
 }
 
-fn find_ring_after(slot: &Slot, face: u32, above: u32, ring: &mut u32) -> u32
-    ensures { Finds (IsRingAfter face above) (Some slot.now) ring.old ring.new result }
+fn find_ring_after(slot: &Slot, face: u32, last: u32, ring: &mut u32) -> u32
+    ensures { Finds (IsRingAfter face last) (Some slot.now) ring.old ring.new result }
 {
     let Some(stage) = &slot.stage else {
         return ABSENT;
     };
-    match session_slots::ring_after(stage.arena(), face, above) {
+    match session_slots::ring_after(stage.arena(), face, last) {
         Some(found) => {
             *ring = found;
             FOUND
@@ -185,27 +185,27 @@ pub extern "C" fn gwb_ring_after(
     alloc: Global,
     gwb: &mut Gwb,
     face: u32,
-    above: u32,
+    last: u32,
     ring: &mut u32,
 ) -> u32
     ensures state { gwb.new.kept.value ≡ gwb.old.kept.value }
-    ensures value { Finds (IsRingAfter face above) gwb.old.kept.value ring.old ring.new result }
+    ensures value { Finds (IsRingAfter face last) gwb.old.kept.value ring.old ring.new result }
 {
     let Some(slot) = take(alloc, gwb) else {
         return CLOSED;
     };
-    let told = find_ring_after(&slot, face, above, ring);
+    let told = find_ring_after(&slot, face, last, ring);
     put(gwb, slot);
     told
 }
 
-fn find_face_after(slot: &Slot, solid: u32, above: u32, face: &mut u32) -> u32
-    ensures { Finds (IsFaceAfter solid above) (Some slot.now) face.old face.new result }
+fn find_face_after(slot: &Slot, solid: u32, last: u32, face: &mut u32) -> u32
+    ensures { Finds (IsFaceAfter solid last) (Some slot.now) face.old face.new result }
 {
     let Some(stage) = &slot.stage else {
         return ABSENT;
     };
-    match session_slots::face_after(stage.arena(), solid, above) {
+    match session_slots::face_after(stage.arena(), solid, last) {
         Some(found) => {
             *face = found;
             FOUND
@@ -220,27 +220,27 @@ pub extern "C" fn gwb_face_after(
     alloc: Global,
     gwb: &mut Gwb,
     solid: u32,
-    above: u32,
+    last: u32,
     face: &mut u32,
 ) -> u32
     ensures state { gwb.new.kept.value ≡ gwb.old.kept.value }
-    ensures value { Finds (IsFaceAfter solid above) gwb.old.kept.value face.old face.new result }
+    ensures value { Finds (IsFaceAfter solid last) gwb.old.kept.value face.old face.new result }
 {
     let Some(slot) = take(alloc, gwb) else {
         return CLOSED;
     };
-    let told = find_face_after(&slot, solid, above, face);
+    let told = find_face_after(&slot, solid, last, face);
     put(gwb, slot);
     told
 }
 
-fn find_number_after(slot: &Slot, entity: u32, above: u32, number: &mut u32) -> u32
-    ensures { Finds (IsNumberAfter (kind_of entity) above) (Some slot.now) number.old number.new result }
+fn find_number_after(slot: &Slot, entity: u32, last: u32, number: &mut u32) -> u32
+    ensures { Finds (IsNumberAfter (kind_of entity) last) (Some slot.now) number.old number.new result }
 {
     let Some(stage) = &slot.stage else {
         return ABSENT;
     };
-    match session_slots::number_after(stage.arena(), entity, above) {
+    match session_slots::number_after(stage.arena(), entity, last) {
         Some(found) => {
             *number = found;
             FOUND
@@ -255,16 +255,16 @@ pub extern "C" fn gwb_number_after(
     alloc: Global,
     gwb: &mut Gwb,
     entity: u32,
-    above: u32,
+    last: u32,
     number: &mut u32,
 ) -> u32
     ensures state { gwb.new.kept.value ≡ gwb.old.kept.value }
-    ensures value { Finds (IsNumberAfter (kind_of entity) above) gwb.old.kept.value number.old number.new result }
+    ensures value { Finds (IsNumberAfter (kind_of entity) last) gwb.old.kept.value number.old number.new result }
 {
     let Some(slot) = take(alloc, gwb) else {
         return CLOSED;
     };
-    let told = find_number_after(&slot, entity, above, number);
+    let told = find_number_after(&slot, entity, last, number);
     put(gwb, slot);
     told
 }

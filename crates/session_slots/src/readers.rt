@@ -158,20 +158,20 @@ pub fn next_half_edge(arena: &Arena, item: u32) -> Option<u32>
 }
 
 /// The least ring of a face above the one given.
-pub fn ring_after(arena: &Arena, face: u32, above: u32) -> Option<u32>
-    ensures { IsRingAfter face above arena.now.model result }
+pub fn ring_after(arena: &Arena, face: u32, last: u32) -> Option<u32>
+    ensures { IsRingAfter face last arena.now.model result }
 {
     if !arena.has(Kind::Face, face) {
         return None;
     }
-    arena.ring_after(face, above)
+    arena.ring_after(face, last)
 }
 
 /// The least face of a solid above the one given.
-pub fn face_after(arena: &Arena, solid: u32, above: u32) -> Option<u32>
-    ensures { IsFaceAfter solid above arena.now.model result }
+pub fn face_after(arena: &Arena, solid: u32, last: u32) -> Option<u32>
+    ensures { IsFaceAfter solid last arena.now.model result }
 {
-    arena.face_after(solid, above)
+    arena.face_after(solid, last)
 }
 
 /// The kind that C means by a number.
@@ -189,18 +189,18 @@ fn kind_of(entity: u32) -> Option<Kind>
 }
 
 /// The least number of a kind in use above the one given.
-fn after_of_kind(arena: &Arena, kind: Kind, above: u32) -> Option<u32>
-    ensures { IsNextNumber (store_of arena.now.model) kind above result }
+fn after_of_kind(arena: &Arena, kind: Kind, last: u32) -> Option<u32>
+    ensures { IsNextNumber (store_of arena.now.model) kind last result }
 {
-    arena.after_number(kind, above)
+    arena.after_number(kind, last)
 }
 
 /// The least number in use above the one given, of the kind that C means.
-pub fn number_after(arena: &Arena, entity: u32, above: u32) -> Option<u32>
-    ensures { IsNumberAfter (kind_of entity) above arena.now.model result }
+pub fn number_after(arena: &Arena, entity: u32, last: u32) -> Option<u32>
+    ensures { IsNumberAfter (kind_of entity) last arena.now.model result }
 {
     match kind_of(entity) {
-        Some(kind) => after_of_kind(arena, kind, above),
+        Some(kind) => after_of_kind(arena, kind, last),
         None => None,
     }
 }
