@@ -5,14 +5,14 @@ use Rattle.std.proofs.lemmas.Option.{same_Some}
 use Rattle.boundary_model.specs.declared.Point.{Point}
 use Rattle.arena_rows.specs.declared.rows.FaceCell.{FaceCell}
 use Rattle.arena_rows.specs.declared.rows.LoopCell.{LoopCell}
-use Rattle.arena_rows.specs.declared.rows.Held.TheVariants.{Empty, At}
+use Rattle.arena_rows.specs.declared.rows.StoredContent.TheVariants.{Empty, At}
 use Rattle.boundary_model.specs.Table.{get, put, remove}
 use Rattle.raw_cells.specs.Rows.{row_at}
 use Rattle.arena_rows.specs.Rows.{table_of}
 use Rattle.boundary_model.specs.Model.{Model, cycle}
 use Rattle.arena_rows.specs.Store.{Store, loosened}
 use Rattle.arena_rows.specs.ring_spots.Spots.{Spots, live, next, label, ring, spliced_at, labelled, AreRings}
-use Rattle.arena_rows.specs.View.{store_of, RowsAreTied, held_content, loop_row, AreLoops, StandsAt}
+use Rattle.arena_rows.specs.View.{store_of, RowsAreTied, stored_content, loop_row, AreLoops, StandsAt}
 use Rattle.boundary_model.specs.Items.{IsIn}
 use Rattle.boundary_model.specs.Rings.{cut_left, cut_right, joined, successor, predecessor}
 use Rattle.boundary_model.proofs.Rings.{successor-predecessor}
@@ -99,7 +99,7 @@ module _ (sp : Spots) (known : ℕ → Bool) (solids : List (Option Bool)) (face
     cut_live : (x : ℕ) → live cutted x ≡ live sp x
     cut_live = live2 sp loops R are tied.loops_fit.no_zero a b g.a_there g.b_there g.looped g.one ne l g.free
 
-    module _ (cell : LoopCell) (found : row_at loops here ≡ Some cell) (rows1 : List (Option LoopCell)) (len1 : length rows1 ≡ length loops) (is1 : (q : ℕ) → row_at rows1 q ≡ cond (nat_eq q here) (Some (record { face = cell.face; held = At a })) (row_at loops q)) where
+    module _ (cell : LoopCell) (found : row_at loops here ≡ Some cell) (rows1 : List (Option LoopCell)) (len1 : length rows1 ≡ length loops) (is1 : (q : ℕ) → row_at rows1 q ≡ cond (nat_eq q here) (Some (record { face = cell.face; stored = At a })) (row_at loops q)) where
       pub fits1 : Fits rows1
       fits1 = fits-write loops rows1 here _ tied.loops_fit g.looped len1 is1
 
@@ -124,7 +124,7 @@ module _ (sp : Spots) (known : ℕ → Bool) (solids : List (Option Bool)) (face
       pub kept_bare : l ≢ 0 → is_some (row_at rows1 l) ≡ true
       kept_bare n = ap is_some (row_there loops rows1 here _ is1 l (apart_rows sp loops R are tied.loops_fit.no_zero a b g.a_there g.b_there g.looped g.one ne l g.free n) ∙ (g.free n).here)
 
-      module _ (n : l ≢ 0) (cell2 : LoopCell) (found2 : row_at rows1 l ≡ Some cell2) (rows2 : List (Option LoopCell)) (len2 : length rows2 ≡ length rows1) (is2 : (q : ℕ) → row_at rows2 q ≡ cond (nat_eq q l) (Some (record { face = cell2.face; held = At b })) (row_at rows1 q)) where
+      module _ (n : l ≢ 0) (cell2 : LoopCell) (found2 : row_at rows1 l ≡ Some cell2) (rows2 : List (Option LoopCell)) (len2 : length rows2 ≡ length rows1) (is2 : (q : ℕ) → row_at rows2 q ≡ cond (nat_eq q l) (Some (record { face = cell2.face; stored = At b })) (row_at rows1 q)) where
         not_here : l ≢ here
         not_here = apart_rows sp loops R are tied.loops_fit.no_zero a b g.a_there g.b_there g.looped g.one ne l g.free n
 
@@ -160,8 +160,8 @@ module _ (sp : Spots) (known : ℕ → Bool) (solids : List (Option Bool)) (face
 
     -- rows0 are the rows once b's loop is empty, and d is the entry of a's loop then
     module _ (d : ℕ) (d_in : IsIn d (ring sp a)) (cell : LoopCell) (found : row_at loops jhere ≡ Some cell) (rows0 : List (Option LoopCell)) (len0 : length rows0 ≡ length loops) (fits0 : Fits rows0) (rows : List (Option LoopCell)) (len : length rows ≡ length rows0)
-        (is1 : (q : ℕ) → row_at rows q ≡ cond (nat_eq q jhere) (Some (record { face = cell.face; held = At d })) (row_at rows0 q))
-        (empty_b : (c : LoopCell) → row_at rows0 jthere ≡ Some c → c.held ≡ Empty) (same : (q : ℕ) → q ≢ jthere → row_at rows0 q ≡ row_at loops q) where
+        (is1 : (q : ℕ) → row_at rows q ≡ cond (nat_eq q jhere) (Some (record { face = cell.face; stored = At d })) (row_at rows0 q))
+        (empty_b : (c : LoopCell) → row_at rows0 jthere ≡ Some c → c.stored ≡ Empty) (same : (q : ℕ) → q ≢ jthere → row_at rows0 q ≡ row_at loops q) where
       jfits : Fits rows
       jfits = fits-write rows0 rows jhere _ fits0 g.looped len is1
 
@@ -171,15 +171,15 @@ module _ (sp : Spots) (known : ℕ → Bool) (solids : List (Option Bool)) (face
           (AreLoops-join sp loops R are tied.loops_fit.no_zero a b g.a_there g.b_there g.looped g.other d d_in rows cell.face (row_here rows0 rows jhere _ is1)
           (λ c at. empty_b c (sym (row_there rows0 rows jhere _ is1 jthere g.other) ∙ at)) (λ q n m. row_there rows0 rows jhere _ is1 q n ∙ same q m)) jfits)
 
-      alike : (q : ℕ) (c : LoopCell) → q ≢ jhere → row_at rows0 q ≡ Some c → held_content jspots c.held ≡ held_content sp c.held
+      alike : (q : ℕ) (c : LoopCell) → q ≢ jhere → row_at rows0 q ≡ Some c → stored_content jspots c.stored ≡ stored_content sp c.stored
       alike q c n at = elim (eqb_tells q jthere) [
-        | inl p ↦ let e = empty_b c (ap (row_at rows0) (sym p.1) ∙ at) in ap (held_content jspots) e ∙ sym (ap (held_content sp) e)
-        | inr p ↦ content_alike sp jspots q c.held (are.entries q c (sym (same q p.1) ∙ at)) (λ d h e. jkept sp loops R are tied.loops_fit.no_zero a b g.a_there g.b_there g.looped g.other q d n p.1 h e)
+        | inl p ↦ let e = empty_b c (ap (row_at rows0) (sym p.1) ∙ at) in ap (stored_content jspots) e ∙ sym (ap (stored_content sp) e)
+        | inr p ↦ content_alike sp jspots q c.stored (are.entries q c (sym (same q p.1) ∙ at)) (λ d h e. jkept sp loops R are tied.loops_fit.no_zero a b g.a_there g.b_there g.looped g.other q d n p.1 h e)
       ]
 
       loops_join : (ys : List ℕ) → ys ≡ ring sp b → table_of (loop_row jspots) rows ≡ put (table_of (loop_row sp) rows0) (loop_of M a) (held_row M (loop_of M a) (cycle (joined a b (cycle_of M a) ys)))
       loops_join ys ey =
-          loops_table_rows sp jspots rows0 rows jhere (record { face = cell.face; held = At d }) is1 alike
+          loops_table_rows sp jspots rows0 rows jhere (record { face = cell.face; stored = At d }) is1 alike
           ∙ ap (λ hs. put (table_of (loop_row sp) rows0) jhere (record { face = cell.face; content = cycle hs })) (jring_of sp loops R are tied.loops_fit.no_zero a b g.a_there g.b_there g.looped g.other d d_in)
           ∙ ap (λ hs. put (table_of (loop_row sp) rows0) jhere (record { face = cell.face; content = cycle (joined a b (ring sp a) hs) })) (sym ey)
           ∙ ap (λ f. put (table_of (loop_row sp) rows0) jhere (record { face = f; content = cycle (joined a b (ring sp a) ys) })) (sym (face_row_of sp known solids faces loops vertices tied jhere cell found))
@@ -193,7 +193,7 @@ module _ (sp : Spots) (known : ℕ → Bool) (solids : List (Option Bool)) (face
           (loops_join (loose_ring S b) (loose_ring_is sp known solids faces loops vertices tied b g.b_there z) ∙ ap (λ w. put (table_of (loop_row sp) w) (loop_of M a) (held_row M (loop_of M a) (cycle (joined a b (cycle_of M a) (loose_ring S b))))) r)
           (loose-join_loose sp loops R are tied.loops_fit.no_zero a b g.a_there g.b_there g.looped g.other ∙ ap (remove S.loose) (sym (loose_key_is sp known solids faces loops vertices tied b g.b_there z)))
 
-      pub store_join_loops : jthere ≢ 0 → (cell2 : LoopCell) → row_at loops jthere ≡ Some cell2 → ((q : ℕ) → row_at rows0 q ≡ cond (nat_eq q jthere) (Some (record { face = cell2.face; held = Empty })) (row_at loops q)) →
+      pub store_join_loops : jthere ≢ 0 → (cell2 : LoopCell) → row_at loops jthere ≡ Some cell2 → ((q : ℕ) → row_at rows0 q ≡ cond (nat_eq q jthere) (Some (record { face = cell2.face; stored = Empty })) (row_at loops q)) →
           (known' : ℕ → Bool) → known' ≡ known → (new : Spots) → new ≡ jspots → store_of new known' solids faces rows vertices ≡ join_loops S a b
       unfolding join_loops
       store_join_loops n cell2 found2 is0 known' k new e = (λ i. store_of (e i) (k i) solids faces rows vertices)
@@ -211,7 +211,7 @@ module _ (sp : Spots) (known : ℕ → Bool) (solids : List (Option Bool)) (face
       row_a = are.stands a g.a_there g.looped
 
       abbrev cell_a : LoopCell
-      cell_a = record { face = row_a.face; held = At row_a.entry }
+      cell_a = record { face = row_a.face; stored = At row_a.entry }
 
       entry_there : live sp row_a.entry ≡ true
       entry_there = (are.entries jhere cell_a row_a.here).0
@@ -225,7 +225,7 @@ module _ (sp : Spots) (known : ℕ → Bool) (solids : List (Option Bool)) (face
         | inr p ↦ sym (ap (λ t. cond t (Some cell_a) (row_at loops q)) p.0)
       ]
 
-      no_cell : (c : LoopCell) → row_at loops jthere ≡ Some c → c.held ≡ Empty
+      no_cell : (c : LoopCell) → row_at loops jthere ≡ Some c → c.stored ≡ Empty
       no_cell c at = let e = sym (ap (row_at loops) loose ∙ tied.loops_fit.no_zero) ∙ at in cc
 
       pub tied_join_kept : (known' : ℕ → Bool) (new : Spots) → new ≡ jspots → RowsAreTied new known' solids faces loops vertices
@@ -266,8 +266,8 @@ join_zero s a b e = sym (ap (λ t. cond t (join_loose s a b) (join_loops s a b))
 pub join_other : (s : Store) (a b : ℕ) → loop_of s.model b ≢ 0 → join_loops s a b ≡ cond (nat_eq (loop_of s.model b) 0) (join_loose s a b) (join_loops s a b)
 join_other s a b n = sym (ap (λ t. cond t (join_loose s a b) (join_loops s a b)) (ne_eqb (loop_of s.model b) 0 n))
 
-pub empty_cell : (rows new : List (Option LoopCell)) (n : ℕ) (f : ℕ) → ((q : ℕ) → row_at new q ≡ cond (nat_eq q n) (Some (record { face = f; held = Empty })) (row_at rows q)) → (c : LoopCell) → row_at new n ≡ Some c → c.held ≡ Empty
-empty_cell rows new n f is c at = ap (λ (k : LoopCell). k.held) (same_Some _ _ (sym at ∙ row_here rows new n _ is))
+pub empty_cell : (rows new : List (Option LoopCell)) (n : ℕ) (f : ℕ) → ((q : ℕ) → row_at new q ≡ cond (nat_eq q n) (Some (record { face = f; stored = Empty })) (row_at rows q)) → (c : LoopCell) → row_at new n ≡ Some c → c.stored ≡ Empty
+empty_cell rows new n f is c at = ap (λ (k : LoopCell). k.stored) (same_Some _ _ (sym at ∙ row_here rows new n _ is))
 
-pub zero_cell : (rows : List (Option LoopCell)) (n : ℕ) → row_at rows 0 ≡ None → n ≡ 0 → (c : LoopCell) → row_at rows n ≡ Some c → c.held ≡ Empty
+pub zero_cell : (rows : List (Option LoopCell)) (n : ℕ) → row_at rows 0 ≡ None → n ≡ 0 → (c : LoopCell) → row_at rows n ≡ Some c → c.stored ≡ Empty
 zero_cell rows n none z c at = let e = sym (ap (row_at rows) z ∙ none) ∙ at in cc

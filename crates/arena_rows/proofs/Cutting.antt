@@ -5,15 +5,15 @@ use Rattle.std.proofs.lemmas.Option.{same_Some}
 use Rattle.boundary_model.specs.Items.{count, IsIn, head_or}
 use Rattle.boundary_model.proofs.Lists.{IsIn_or_not}
 use Rattle.arena_rows.specs.declared.rows.LoopCell.{LoopCell}
-use Rattle.arena_rows.specs.declared.rows.Held.{Held}
-use Rattle.arena_rows.specs.declared.rows.Held.TheVariants.{Empty, Lone, At}
+use Rattle.arena_rows.specs.declared.rows.StoredContent.{StoredContent}
+use Rattle.arena_rows.specs.declared.rows.StoredContent.TheVariants.{Empty, Lone, At}
 use Rattle.boundary_model.specs.Table.{put, remove, tabulate}
 use Rattle.raw_cells.specs.Rows.{row_at}
 use Rattle.arena_rows.specs.Rows.{table_of}
 use Rattle.boundary_model.specs.Model.{cycle}
 use Rattle.arena_rows.specs.Store.{loosened}
 use Rattle.arena_rows.specs.ring_spots.Spots.{Spots, codes, live, label, ring, spliced_at, labelled, AreRings}
-use Rattle.arena_rows.specs.View.{held_content, loop_row, HasEntry, AreLoops, StandsAt}
+use Rattle.arena_rows.specs.View.{stored_content, loop_row, HasEntry, AreLoops, StandsAt}
 use Rattle.arena_rows.specs.ring_spots.SpotTables.{edge_row, loose_row}
 use Rattle.boundary_model.specs.Rings.{cut_left, cut_right, joined}
 use Rattle.boundary_model.proofs.Cuts.{IsIn-cut}
@@ -26,7 +26,7 @@ use Rattle.boundary_model.specs.Model.{items_of}
 pub record IsBare (sp : Spots) (loops : List (Option LoopCell)) (l : ℕ) : Type 0 where
   pub cell : LoopCell
   pub here : row_at loops l ≡ Some cell
-  pub bare : items_of (held_content sp cell.held) ≡ []
+  pub bare : items_of (stored_content sp cell.stored) ≡ []
 
 module _ (sp : Spots) (loops : List (Option LoopCell)) (R : AreRings sp) (are : AreLoops sp loops) (zero : row_at loops 0 ≡ None) (a b : ℕ) (a_there : live sp a ≡ true) (b_there : live sp b ≡ true) (looped : label sp a ≢ 0) where
   module _ (one : label sp b ≡ label sp a) (ne : a ≢ b) (l : ℕ) (free : l ≢ 0 → IsBare sp loops l) where
@@ -113,26 +113,26 @@ module _ (sp : Spots) (loops : List (Option LoopCell)) (R : AreRings sp) (are : 
     apart_l n e =
         let f = free n in
         let i : IsIn a (ring sp (are.stands a a_there looped).entry) = (are.stands a a_there looped).item in
-        let z : held_content sp f.cell.held ≡ cycle (ring sp (are.stands a a_there looped).entry) = ap (λ (c : LoopCell). held_content sp c.held) (same_Some _ _ (sym f.here ∙ ap (row_at loops) e ∙ (are.stands a a_there looped).here)) in
+        let z : stored_content sp f.cell.stored ≡ cycle (ring sp (are.stands a a_there looped).entry) = ap (λ (c : LoopCell). stored_content sp c.stored) (same_Some _ _ (sym f.here ∙ ap (row_at loops) e ∙ (are.stands a a_there looped).here)) in
         let k : count a (ring sp (are.stands a a_there looped).entry) ≡ 0 = ap (count a) (sym (ap items_of z) ∙ f.bare) in
         absurd (omega arith)
 
     -- the rows after the cut
-    module _ (new : List (Option LoopCell)) (fa : ℕ) (at_la : row_at new la ≡ Some (record { face = fa; held = At a })) (at_l : l ≢ 0 → (f : ℕ) × (row_at new l ≡ Some (record { face = f; held = At b })))
+    module _ (new : List (Option LoopCell)) (fa : ℕ) (at_la : row_at new la ≡ Some (record { face = fa; stored = At a })) (at_l : l ≢ 0 → (f : ℕ) × (row_at new l ≡ Some (record { face = f; stored = At b })))
         (elsewhere : (q : ℕ) → q ≢ la → q ≢ l → row_at new q ≡ row_at loops q) (new_zero : row_at new 0 ≡ None) where
-      old : (q : ℕ) → q ≢ la → (held : Held) → HasEntry sp q held → HasEntry sp2 q held
+      old : (q : ℕ) → q ≢ la → (stored : StoredContent) → HasEntry sp q stored → HasEntry sp2 q stored
       old q n Empty e = tt
       old q n (Lone v) e = tt
       old q n (At c) e = (live2 c ∙ e.0, label_out c (out c (λ z. n (sym e.1 ∙ z))) ∙ e.1)
 
-      cut_entries : (q : ℕ) (cell : LoopCell) → row_at new q ≡ Some cell → HasEntry sp2 q cell.held
+      cut_entries : (q : ℕ) (cell : LoopCell) → row_at new q ≡ Some cell → HasEntry sp2 q cell.stored
       cut_entries q cell at = elim (eqb_tells q la) [
-        | inl p ↦ subst (HasEntry sp2 q) (ap (λ (c : LoopCell). c.held) (same_Some _ _ (sym (ap (row_at new) p.1 ∙ at_la) ∙ at))) (live2 a ∙ a_there, label_left a a_left ∙ sym p.1)
+        | inl p ↦ subst (HasEntry sp2 q) (ap (λ (c : LoopCell). c.stored) (same_Some _ _ (sym (ap (row_at new) p.1 ∙ at_la) ∙ at))) (live2 a ∙ a_there, label_left a a_left ∙ sym p.1)
         | inr p ↦ elim (eqb_tells q l) [
           | inl r ↦
               let n : l ≢ 0 = λ z. true≢false (ap is_some (sym at) ∙ ap is_some (ap (row_at new) (r.1 ∙ z) ∙ new_zero)) in
-              subst (HasEntry sp2 q) (ap (λ (c : LoopCell). c.held) (same_Some _ _ (sym (ap (row_at new) r.1 ∙ (at_l n).1) ∙ at))) (live2 b ∙ b_there, label_right b b_right ∙ sym r.1)
-          | inr r ↦ old q p.1 cell.held (are.entries q cell (sym (elsewhere q p.1 r.1) ∙ at))
+              subst (HasEntry sp2 q) (ap (λ (c : LoopCell). c.stored) (same_Some _ _ (sym (ap (row_at new) r.1 ∙ (at_l n).1) ∙ at))) (live2 b ∙ b_there, label_right b b_right ∙ sym r.1)
+          | inr r ↦ old q p.1 cell.stored (are.entries q cell (sym (elsewhere q p.1 r.1) ∙ at))
         ]
       ]
 
@@ -148,11 +148,11 @@ module _ (sp : Spots) (loops : List (Option LoopCell)) (R : AreRings sp) (are : 
               let e = label_out x away in
               let there : live sp x ≡ true = sym (live2 x) ∙ h in
               let s = are.stands x there (λ z. n (e ∙ z)) in
-              let ent = are.entries (label sp x) (record { face = s.face; held = At s.entry }) s.here in
+              let ent = are.entries (label sp x) (record { face = s.face; stored = At s.entry }) s.here in
               let not_la : label sp x ≢ la = λ z. let w : IsIn x whole = same_loop sp loops R are a x a_there there looped z in absurd (omega arith) in
               let not_l : label sp x ≢ l = λ z.
               let nz : l ≢ 0 = λ y. n (e ∙ z ∙ y) in let f = free nz in
-              let c : held_content sp f.cell.held ≡ cycle (ring sp s.entry) = ap (λ (c : LoopCell). held_content sp c.held) (same_Some _ _ (sym f.here ∙ ap (row_at loops) (sym z) ∙ s.here)) in
+              let c : stored_content sp f.cell.stored ≡ cycle (ring sp s.entry) = ap (λ (c : LoopCell). stored_content sp c.stored) (same_Some _ _ (sym f.here ∙ ap (row_at loops) (sym z) ∙ s.here)) in
               let u : count x (ring sp s.entry) ≡ 0 = ap (count x) (sym (ap items_of c) ∙ f.bare) in
               let i = s.item in absurd (omega arith) in
               subst (StandsAt sp2 new x) (sym e) (record {
@@ -196,8 +196,8 @@ module _ (sp : Spots) (loops : List (Option LoopCell)) (R : AreRings sp) (are : 
     pub edges-cut : tabulate (edge_row sp2) codes ≡ tabulate (edge_row sp) codes
     edges-cut = edges_same sp sp2 (λ q. tails-labelled sp1 l (ring sp1 b) q ∙ tails-spliced sp a b q)
 
-    pub loops-cut : (rows : List (Option LoopCell)) (fa : ℕ) → ((q : ℕ) → row_at rows q ≡ cond (nat_eq q la) (Some (record { face = fa; held = At a })) (row_at loops q)) → table_of (loop_row sp2) rows ≡ put (table_of (loop_row sp) loops) la (record { face = fa; content = cycle left })
-    loops-cut rows fa is = loops_table sp sp2 loops rows are la (record { face = fa; held = At a }) is kept2 ∙ ap (λ hs. put (table_of (loop_row sp) loops) la (record { face = fa; content = cycle hs })) ring_of_left
+    pub loops-cut : (rows : List (Option LoopCell)) (fa : ℕ) → ((q : ℕ) → row_at rows q ≡ cond (nat_eq q la) (Some (record { face = fa; stored = At a })) (row_at loops q)) → table_of (loop_row sp2) rows ≡ put (table_of (loop_row sp) loops) la (record { face = fa; content = cycle left })
+    loops-cut rows fa is = loops_table sp sp2 loops rows are la (record { face = fa; stored = At a }) is kept2 ∙ ap (λ hs. put (table_of (loop_row sp) loops) la (record { face = fa; content = cycle hs })) ring_of_left
 
   -- a's loop takes the ring of b, which stands in another loop or in none
   module _ (other : label sp b ≢ label sp a) where
@@ -328,21 +328,21 @@ module _ (sp : Spots) (loops : List (Option LoopCell)) (R : AreRings sp) (are : 
     jring_of d i = jring_in d (joint_in d i)
 
     -- the rows after the join: loop b is empty, if it is a loop, and loop a has an entry d of its own
-    module _ (d : ℕ) (d_in : IsIn d (ring sp a)) (new : List (Option LoopCell)) (fa : ℕ) (at_la : row_at new jla ≡ Some (record { face = fa; held = At d })) (at_lb : (cell : LoopCell) → row_at new jlb ≡ Some cell → cell.held ≡ Empty)
+    module _ (d : ℕ) (d_in : IsIn d (ring sp a)) (new : List (Option LoopCell)) (fa : ℕ) (at_la : row_at new jla ≡ Some (record { face = fa; stored = At d })) (at_lb : (cell : LoopCell) → row_at new jlb ≡ Some cell → cell.stored ≡ Empty)
         (elsewhere : (q : ℕ) → q ≢ jla → q ≢ jlb → row_at new q ≡ row_at loops q) where
-      jold : (q : ℕ) → q ≢ jla → q ≢ jlb → (held : Held) → HasEntry sp q held → HasEntry js2 q held
+      jold : (q : ℕ) → q ≢ jla → q ≢ jlb → (stored : StoredContent) → HasEntry sp q stored → HasEntry js2 q stored
       jold q n m Empty e = tt
       jold q n m (Lone v) e = tt
       jold q n m (At c) e =
           let z = jaway c (λ z. n (sym e.1 ∙ z)) (λ z. m (sym e.1 ∙ z)) in
           (jlive2 c ∙ e.0, jlabel_out c (omega (arith, jitems c)) ∙ e.1)
 
-      join_entries : (q : ℕ) (cell : LoopCell) → row_at new q ≡ Some cell → HasEntry js2 q cell.held
+      join_entries : (q : ℕ) (cell : LoopCell) → row_at new q ≡ Some cell → HasEntry js2 q cell.stored
       join_entries q cell at = elim (eqb_tells q jla) [
-        | inl p ↦ subst (HasEntry js2 q) (ap (λ (c : LoopCell). c.held) (same_Some _ _ (sym (ap (row_at new) p.1 ∙ at_la) ∙ at))) (jlive2 d ∙ (R.rings a a_there).awake d d_in, jlabel_in d (joint_in d d_in) ∙ sym p.1)
+        | inl p ↦ subst (HasEntry js2 q) (ap (λ (c : LoopCell). c.stored) (same_Some _ _ (sym (ap (row_at new) p.1 ∙ at_la) ∙ at))) (jlive2 d ∙ (R.rings a a_there).awake d d_in, jlabel_in d (joint_in d d_in) ∙ sym p.1)
         | inr p ↦ elim (eqb_tells q jlb) [
           | inl r ↦ subst (HasEntry js2 q) (sym (at_lb cell (ap (row_at new) (sym r.1) ∙ at))) tt
-          | inr r ↦ jold q p.1 r.1 cell.held (are.entries q cell (sym (elsewhere q p.1 r.1) ∙ at))
+          | inr r ↦ jold q p.1 r.1 cell.stored (are.entries q cell (sym (elsewhere q p.1 r.1) ∙ at))
         ]
       ]
 
@@ -353,7 +353,7 @@ module _ (sp : Spots) (loops : List (Option LoopCell)) (R : AreRings sp) (are : 
             let e = jlabel_out x (omega (arith, jitems x)) in
             let there : live sp x ≡ true = sym (jlive2 x) ∙ h in
             let s = are.stands x there (λ z. n (e ∙ z)) in
-            let ent = are.entries (label sp x) (record { face = s.face; held = At s.entry }) s.here in
+            let ent = are.entries (label sp x) (record { face = s.face; stored = At s.entry }) s.here in
             let not_la : label sp x ≢ jla = λ z. let w : IsIn x xs = same_loop sp loops R are a x a_there there looped z in absurd (omega (arith, jitems x)) in
             let not_lb : label sp x ≢ jlb = λ z. let w : IsIn x ys = same_loop sp loops R are b x b_there there (λ y. n (e ∙ z ∙ y)) z in absurd (omega (arith, jitems x)) in
             subst (StandsAt js2 new x) (sym e) (record {

@@ -8,14 +8,14 @@ use Rattle.boundary_model.proofs.Lists.{IsIn_or_not}
 use Rattle.boundary_model.proofs.Tables.{get-put_here}
 use Rattle.arena_rows.specs.declared.rows.FaceCell.{FaceCell}
 use Rattle.arena_rows.specs.declared.rows.LoopCell.{LoopCell}
-use Rattle.arena_rows.specs.declared.rows.Held.{Held}
-use Rattle.arena_rows.specs.declared.rows.Held.TheVariants.{Empty, Lone, At}
+use Rattle.arena_rows.specs.declared.rows.StoredContent.{StoredContent}
+use Rattle.arena_rows.specs.declared.rows.StoredContent.TheVariants.{Empty, Lone, At}
 use Rattle.boundary_model.specs.Table.{get, put, remove}
 use Rattle.raw_cells.specs.Rows.{row_at}
 use Rattle.boundary_model.specs.Model.{Model, cycle}
 use Rattle.arena_rows.specs.Store.{Store, loosened}
 use Rattle.arena_rows.specs.ring_spots.Spots.{Spots, live, label, ring, labelled, AreRings}
-use Rattle.arena_rows.specs.View.{store_of, RowsAreTied, held_content, loop_row, HasEntry, AreLoops, StandsAt}
+use Rattle.arena_rows.specs.View.{store_of, RowsAreTied, stored_content, loop_row, HasEntry, AreLoops, StandsAt}
 use Rattle.std.proofs.Common.{unwrap_or}
 use Rattle.boundary_model.specs.Model.{no_loop}
 use Rattle.boundary_model.specs.Model.{items_of, content, face_of}
@@ -49,9 +49,9 @@ module _ (sp : Spots) (known : ℕ → Bool) (solids : List (Option Bool)) (face
     l_not = row_not_zero loops l tied.loops_fit (ap is_some found)
 
     -- the ring of d goes out of loop l
-    module _ (d : ℕ) (held : cell.held ≡ At d) (is : (q : ℕ) → row_at rows q ≡ cond (nat_eq q l) (Some (record { face = cell.face; held = Empty })) (row_at loops q)) where
+    module _ (d : ℕ) (stored : cell.stored ≡ At d) (is : (q : ℕ) → row_at rows q ≡ cond (nat_eq q l) (Some (record { face = cell.face; stored = Empty })) (row_at loops q)) where
       entry : HasEntry sp l (At d)
-      entry = subst (HasEntry sp l) held (are.entries l cell found)
+      entry = subst (HasEntry sp l) stored (are.entries l cell found)
 
       abbrev cleared : Spots
       cleared = labelled sp 0 (ring sp d)
@@ -77,7 +77,7 @@ module _ (sp : Spots) (known : ℕ → Bool) (solids : List (Option Bool)) (face
       c_rings : AreRings cleared
       c_rings = AreRings-labelled sp R d 0 entry.0
 
-      old_entry : (q : ℕ) → q ≢ l → (h : Held) → HasEntry sp q h → HasEntry cleared q h
+      old_entry : (q : ℕ) → q ≢ l → (h : StoredContent) → HasEntry sp q h → HasEntry cleared q h
       old_entry q n Empty e = tt
       old_entry q n (Lone v) e = tt
       old_entry q n (At c) e = (c_live c ∙ e.0, c_out c (away c (λ z. n (sym e.1 ∙ z))) ∙ e.1)
@@ -85,8 +85,8 @@ module _ (sp : Spots) (known : ℕ → Bool) (solids : List (Option Bool)) (face
       c_loops : AreLoops cleared rows
       c_loops = record {
         entries = λ q k at. elim (eqb_tells q l) [
-          | inl p ↦ subst (HasEntry cleared q) (ap (λ (w : LoopCell). w.held) (same_Some _ _ (sym (ap (row_at rows) p.1 ∙ row_here loops rows l _ is) ∙ at))) tt
-          | inr p ↦ old_entry q p.1 k.held (are.entries q k (sym (is q ∙ ap (λ b. cond b (Some (record { face = cell.face; held = Empty })) (row_at loops q)) p.0) ∙ at))
+          | inl p ↦ subst (HasEntry cleared q) (ap (λ (w : LoopCell). w.stored) (same_Some _ _ (sym (ap (row_at rows) p.1 ∙ row_here loops rows l _ is) ∙ at))) tt
+          | inr p ↦ old_entry q p.1 k.stored (are.entries q k (sym (is q ∙ ap (λ b. cond b (Some (record { face = cell.face; stored = Empty })) (row_at loops q)) p.0) ∙ at))
         ];
         stands = λ h a n. elim (IsIn_or_not h (ring sp d)) [
           | inl i ↦ absurd (n (c_in h i))
@@ -94,13 +94,13 @@ module _ (sp : Spots) (known : ℕ → Bool) (solids : List (Option Bool)) (face
               let e = c_out h m in
               let s = are.stands h (sym (c_live h) ∙ a) (λ z. n (e ∙ z)) in
               let other : label sp h ≢ l = λ z.
-              let f : At s.entry ≡ At d = ap (λ (w : LoopCell). w.held) (same_Some _ _ (sym s.here ∙ ap (row_at loops) z ∙ found)) ∙ held in
+              let f : At s.entry ≡ At d = ap (λ (w : LoopCell). w.stored) (same_Some _ _ (sym s.here ∙ ap (row_at loops) z ∙ found)) ∙ stored in
               let g : s.entry ≡ d = cc in
               let i : IsIn h (ring sp d) = subst (λ w. IsIn h (ring sp w)) g s.item in absurd (omega arith) in
               subst (StandsAt cleared rows h) (sym e) (record {
                 face = s.face;
                 entry = s.entry;
-                here = is (label sp h) ∙ ap (λ b. cond b (Some (record { face = cell.face; held = Empty })) (row_at loops (label sp h))) (ne_eqb (label sp h) l other) ∙ s.here;
+                here = is (label sp h) ∙ ap (λ b. cond b (Some (record { face = cell.face; stored = Empty })) (row_at loops (label sp h))) (ne_eqb (label sp h) l other) ∙ s.here;
                 item = subst (IsIn h) (sym (c_ring s.entry)) s.item;
               })
         ];
@@ -113,29 +113,29 @@ module _ (sp : Spots) (known : ℕ → Bool) (solids : List (Option Bool)) (face
       unfolding clear
       store_clear known' k new e = (λ i. store_of (e i) (k i) solids faces rows vertices)
           ∙ store_is sp known solids faces loops vertices cleared rows _ _ len (edges_same sp cleared (λ q. tails-labelled sp 0 (ring sp d) q))
-          (loops_table sp cleared loops rows are l (record { face = cell.face; held = Empty }) is (λ q c _ _ _. c_ring c)
+          (loops_table sp cleared loops rows are l (record { face = cell.face; stored = Empty }) is (λ q c _ _ _. c_ring c)
           ∙ ap (λ f. put M.loops l (record { face = f; content = cycle [] })) (sym (face_row_of sp known solids faces loops vertices tied l cell found)))
           (loose_added sp cleared R c_rings d (ring sp d) (c_live d ∙ entry.0) (c_in d (R.rings d entry.0).item) (c_ring d) (λ x i. loose_none sp x (λ z. l_not (sym (c_of_l x i) ∙ z)))
           (λ x n. loose_alike sp cleared x (c_live x) (c_out x n) (c_ring x))
-          ∙ ap (λ c. loosened (items_of c) S.loose) (sym (content_row sp known solids faces loops vertices tied l cell found ∙ ap (held_content sp) held)))
+          ∙ ap (λ c. loosened (items_of c) S.loose) (sym (content_row sp known solids faces loops vertices tied l cell found ∙ ap (stored_content sp) stored)))
 
     -- loop l, which holds no half-edge, gets other content without one
-    module _ (bare : items_of (held_content sp cell.held) ≡ []) (x : Held) (free : HasEntry sp l x) (is : (q : ℕ) → row_at rows q ≡ cond (nat_eq q l) (Some (record { face = cell.face; held = x })) (row_at loops q)) where
+    module _ (bare : items_of (stored_content sp cell.stored) ≡ []) (x : StoredContent) (free : HasEntry sp l x) (is : (q : ℕ) → row_at rows q ≡ cond (nat_eq q l) (Some (record { face = cell.face; stored = x })) (row_at loops q)) where
       pub tied_bare : RowsAreTied sp known solids faces rows vertices
       tied_bare = tied_loops sp known solids faces loops vertices tied rows (fits-write loops rows l _ tied.loops_fit l_not len is)
-          (loops_write sp loops rows l _ are (λ k e. subst (HasEntry sp l) (ap (λ (w : LoopCell). w.held) (same_Some _ _ e)) free) (λ h a s. no_stand_bare sp loops rows cell h l found bare s) is)
+          (loops_write sp loops rows l _ are (λ k e. subst (HasEntry sp l) (ap (λ (w : LoopCell). w.stored) (same_Some _ _ e)) free) (λ h a s. no_stand_bare sp loops rows cell h l found bare s) is)
 
-      pub store_bare : store_of sp known solids faces rows vertices ≡ record S { model = with_loop M l (held_content sp x) }
+      pub store_bare : store_of sp known solids faces rows vertices ≡ record S { model = with_loop M l (stored_content sp x) }
       store_bare = store_loops sp known solids faces loops vertices tied rows _ len
-          (table_of-put (loop_row sp) loops rows l _ is ∙ ap (λ f. put M.loops l (record { face = f; content = held_content sp x })) (sym (face_row_of sp known solids faces loops vertices tied l cell found)))
+          (table_of-put (loop_row sp) loops rows l _ is ∙ ap (λ f. put M.loops l (record { face = f; content = stored_content sp x })) (sym (face_row_of sp known solids faces loops vertices tied l cell found)))
 
       pub store_clear_bare : x ≡ Empty → store_of sp known solids faces rows vertices ≡ clear S l
       unfolding clear
-      store_clear_bare e = store_bare ∙ ap (λ h. record S { model = with_loop M l (held_content sp h) }) e
+      store_clear_bare e = store_bare ∙ ap (λ h. record S { model = with_loop M l (stored_content sp h) }) e
           ∙ ap (λ hs. record S { model = with_loop M l (cycle []); loose = loosened hs S.loose }) (sym (ap items_of (content_row sp known solids faces loops vertices tied l cell found) ∙ bare))
 
     -- loop l takes the loose ring of h
-    module _ (bare : items_of (held_content sp cell.held) ≡ []) (h : ℕ) (a : live sp h ≡ true) (z : label sp h ≡ 0) (is : (q : ℕ) → row_at rows q ≡ cond (nat_eq q l) (Some (record { face = cell.face; held = At h })) (row_at loops q)) where
+    module _ (bare : items_of (stored_content sp cell.stored) ≡ []) (h : ℕ) (a : live sp h ≡ true) (z : label sp h ≡ 0) (is : (q : ℕ) → row_at rows q ≡ cond (nat_eq q l) (Some (record { face = cell.face; stored = At h })) (row_at loops q)) where
       abbrev filled : Spots
       filled = labelled sp l (ring sp h)
 
@@ -157,7 +157,7 @@ module _ (sp : Spots) (known : ℕ → Bool) (solids : List (Option Bool)) (face
       f_rings : AreRings filled
       f_rings = AreRings-labelled sp R h l a
 
-      f_entry : (q : ℕ) → q ≢ 0 → (k : Held) → HasEntry sp q k → HasEntry filled q k
+      f_entry : (q : ℕ) → q ≢ 0 → (k : StoredContent) → HasEntry sp q k → HasEntry filled q k
       f_entry q n Empty e = tt
       f_entry q n (Lone v) e = tt
       f_entry q n (At c) e = (f_live c ∙ e.0, f_out c (f_away c (λ y. n (sym e.1 ∙ y))) ∙ e.1)
@@ -165,10 +165,10 @@ module _ (sp : Spots) (known : ℕ → Bool) (solids : List (Option Bool)) (face
       f_loops : AreLoops filled rows
       f_loops = record {
         entries = λ q k at. elim (eqb_tells q l) [
-          | inl p ↦ subst (HasEntry filled q) (ap (λ (w : LoopCell). w.held) (same_Some _ _ (sym (ap (row_at rows) p.1 ∙ row_here loops rows l _ is) ∙ at))) (f_live h ∙ a, f_in h (R.rings h a).item ∙ sym p.1)
+          | inl p ↦ subst (HasEntry filled q) (ap (λ (w : LoopCell). w.stored) (same_Some _ _ (sym (ap (row_at rows) p.1 ∙ row_here loops rows l _ is) ∙ at))) (f_live h ∙ a, f_in h (R.rings h a).item ∙ sym p.1)
           | inr p ↦
-              let old = sym (is q ∙ ap (λ b. cond b (Some (record { face = cell.face; held = At h })) (row_at loops q)) p.0) ∙ at in
-              f_entry q (row_not_zero loops q tied.loops_fit (ap is_some old)) k.held (are.entries q k old)
+              let old = sym (is q ∙ ap (λ b. cond b (Some (record { face = cell.face; stored = At h })) (row_at loops q)) p.0) ∙ at in
+              f_entry q (row_not_zero loops q tied.loops_fit (ap is_some old)) k.stored (are.entries q k old)
         ];
         stands = λ x b n. elim (IsIn_or_not x (ring sp h)) [
           | inl i ↦ subst (StandsAt filled rows x) (sym (f_in x i)) (record { face = cell.face; entry = h; here = row_here loops rows l _ is; item = subst (IsIn x) (sym (f_ring h)) i })
@@ -177,7 +177,7 @@ module _ (sp : Spots) (known : ℕ → Bool) (solids : List (Option Bool)) (face
               let s = are.stands x (sym (f_live x) ∙ b) (λ y. n (e ∙ y)) in
               let moved : StandsAt sp rows x (label sp x) = elim (eqb_tells (label sp x) l) [
                 | inl p ↦ subst (StandsAt sp rows x) (sym p.1) (no_stand_bare sp loops rows cell x l found bare (subst (StandsAt sp loops x) p.1 s))
-                | inr p ↦ record { face = s.face; entry = s.entry; here = is (label sp x) ∙ ap (λ b. cond b (Some (record { face = cell.face; held = At h })) (row_at loops (label sp x))) p.0 ∙ s.here; item = s.item }
+                | inr p ↦ record { face = s.face; entry = s.entry; here = is (label sp x) ∙ ap (λ b. cond b (Some (record { face = cell.face; stored = At h })) (row_at loops (label sp x))) p.0 ∙ s.here; item = s.item }
               ] in
               subst (StandsAt filled rows x) (sym e) (record { face = moved.face; entry = moved.entry; here = moved.here; item = subst (IsIn x) (sym (f_ring moved.entry)) moved.item })
         ];
@@ -190,14 +190,14 @@ module _ (sp : Spots) (known : ℕ → Bool) (solids : List (Option Bool)) (face
       unfolding fill
       store_fill known' k new e = (λ i. store_of (e i) (k i) solids faces rows vertices)
           ∙ store_is sp known solids faces loops vertices filled rows _ _ len (edges_same sp filled (λ q. tails-labelled sp l (ring sp h) q))
-          (loops_table sp filled loops rows are l (record { face = cell.face; held = At h }) is (λ q c _ _ _. f_ring c)
+          (loops_table sp filled loops rows are l (record { face = cell.face; stored = At h }) is (λ q c _ _ _. f_ring c)
           ∙ ap (λ hs. put M.loops l (record { face = cell.face; content = cycle hs })) (f_ring h)
           ∙ ap (λ f. put M.loops l (record { face = f; content = cycle (ring sp h) })) (sym (face_row_of sp known solids faces loops vertices tied l cell found))
           ∙ ap (λ hs. put M.loops l (held_row M l (cycle hs))) (sym (loose_ring_is sp known solids faces loops vertices tied h a z)))
           (loose_removed sp filled R f_rings h a (λ x i. loose_none filled x (λ y. l_not (sym (f_in x i) ∙ y))) (λ x n. loose_alike sp filled x (f_live x) (f_out x n) (f_ring x))
           ∙ ap (remove S.loose) (sym (loose_key_is sp known solids faces loops vertices tied h a z)))
 
-pub bare_of : (sp : Spots) (held : Held) → ((c : ℕ) → held ≡ At c → ⊥) → items_of (held_content sp held) ≡ []
+pub bare_of : (sp : Spots) (stored : StoredContent) → ((c : ℕ) → stored ≡ At c → ⊥) → items_of (stored_content sp stored) ≡ []
 bare_of sp Empty n = refl
 bare_of sp (Lone v) n = refl
 bare_of sp (At c) n = absurd (n c refl)

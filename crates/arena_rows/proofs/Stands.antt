@@ -9,8 +9,8 @@ use Rattle.boundary_model.specs.Rings.{successor, predecessor}
 use Rattle.boundary_model.proofs.Rings.{next_is_successor, predecessor-successor}
 use Rattle.arena_rows.specs.declared.rows.FaceCell.{FaceCell}
 use Rattle.arena_rows.specs.declared.rows.LoopCell.{LoopCell}
-use Rattle.arena_rows.specs.declared.rows.Held.{Held}
-use Rattle.arena_rows.specs.declared.rows.Held.TheVariants.{Empty, Lone, At}
+use Rattle.arena_rows.specs.declared.rows.StoredContent.{StoredContent}
+use Rattle.arena_rows.specs.declared.rows.StoredContent.TheVariants.{Empty, Lone, At}
 use Rattle.boundary_model.specs.HalfEdge.{plus, minus, edge_of, is_first}
 use Rattle.boundary_model.specs.Table.{get}
 use Rattle.raw_cells.specs.Rows.{row_at}
@@ -18,7 +18,7 @@ use Rattle.arena_rows.specs.Rows.{map_row}
 use Rattle.boundary_model.specs.Model.{Model, lone, cycle, LoopRow, holds, items_of, has_half, tail, tail_in, loop_of, content, face_of, cycle_of, after, before, no_loop, no_edge}
 use Rattle.arena_rows.specs.Store.{Store, loose_key, loose_ring}
 use Rattle.arena_rows.specs.ring_spots.Spots.{Spots, live, next, label, tail_at, ring, AreRings}
-use Rattle.arena_rows.specs.View.{store_of, RowsAreTied, held_content, loop_row, HasEntry}
+use Rattle.arena_rows.specs.View.{store_of, RowsAreTied, stored_content, loop_row, HasEntry}
 use Rattle.boundary_model.proofs.Tables.{first_where_is, first_where_zero}
 use Rattle.boundary_model.proofs.Models.{holds_in, in-holds}
 use Rattle.arena_rows.proofs.Views.{get-table_of}
@@ -46,10 +46,10 @@ module _ (sp : Spots) (known : ℕ → Bool) (solids : List (Option Bool)) (face
       ]
 
   -- a loop's row that holds h
-  held_by : (h q : ℕ) (held : Held) → HasEntry sp q held → holds h (held_content sp held) ≡ true → (label sp h ≡ q) × (live sp h ≡ true) × (held_content sp held ≡ cycle (ring sp h))
-  held_by h q Empty e k = absurd (omega (arith, holds_in h (cycle []) k))
-  held_by h q (Lone v) e k = absurd (omega (arith, holds_in h (lone v) k))
-  held_by h q (At c) e k =
+  stored_by : (h q : ℕ) (stored : StoredContent) → HasEntry sp q stored → holds h (stored_content sp stored) ≡ true → (label sp h ≡ q) × (live sp h ≡ true) × (stored_content sp stored ≡ cycle (ring sp h))
+  stored_by h q Empty e k = absurd (omega (arith, holds_in h (cycle []) k))
+  stored_by h q (Lone v) e k = absurd (omega (arith, holds_in h (lone v) k))
+  stored_by h q (At c) e k =
       let i : IsIn h (ring sp c) = holds_in h (cycle (ring sp c)) k in let o = R.rings c e.0 in
       (o.one_label h i ∙ e.1, o.awake h i, ap cycle (sym (ring_same sp R c h e.0 i)))
 
@@ -59,14 +59,14 @@ module _ (sp : Spots) (known : ℕ → Bool) (solids : List (Option Bool)) (face
     go None e s = cc
     go (Some cell) e s =
         let r : row ≡ loop_row sp cell = sym (same_Some _ _ s) in
-        let got = held_by h q cell.held (tied.loops_tied.entries q cell e) (ap (λ w. holds h w.content) (sym r) ∙ k) in
+        let got = stored_by h q cell.stored (tied.loops_tied.entries q cell e) (ap (λ w. holds h w.content) (sym r) ∙ k) in
         (got.0, got.1, ap (λ w. w.content) r ∙ got.2)
 
   -- the row of the loop of a labelled code
   pub row_of_label : (h : ℕ) → (a : live sp h ≡ true) → (n : label sp h ≢ 0) → get M.loops (label sp h) ≡ Some (record { face = (tied.loops_tied.stands h a n).face; content = cycle (ring sp h) })
   row_of_label h a n =
       let s = tied.loops_tied.stands h a n in
-      let e = tied.loops_tied.entries (label sp h) (record { face = s.face; held = At s.entry }) s.here in
+      let e = tied.loops_tied.entries (label sp h) (record { face = s.face; stored = At s.entry }) s.here in
       get-table_of (loop_row sp) loops (label sp h) ∙ ap (map_row (loop_row sp)) s.here ∙ ap (λ hs. Some (record { face = s.face; content = cycle hs })) (sym (ring_same sp R s.entry h e.0 s.item))
 
   in_loop : (h : ℕ) → live sp h ≡ true → label sp h ≢ 0 → loop_of M h ≡ label sp h
@@ -93,7 +93,7 @@ module _ (sp : Spots) (known : ℕ → Bool) (solids : List (Option Bool)) (face
   pub cycle_of_is : (h : ℕ) → live sp h ≡ true → label sp h ≢ 0 → cycle_of M h ≡ ring sp h
   cycle_of_is h a n = ap (λ l. items_of (content M l)) (loop_of_is h a) ∙ ap items_of (content_of_label h a n)
 
-  pub content_row : (l : ℕ) (cell : LoopCell) → row_at loops l ≡ Some cell → content M l ≡ held_content sp cell.held
+  pub content_row : (l : ℕ) (cell : LoopCell) → row_at loops l ≡ Some cell → content M l ≡ stored_content sp cell.stored
   unfolding content
   content_row l cell at = ap (λ o. (unwrap_or o no_loop).content) (get-table_of (loop_row sp) loops l ∙ ap (map_row (loop_row sp)) at)
 
@@ -132,5 +132,5 @@ module _ (sp : Spots) (known : ℕ → Bool) (solids : List (Option Bool)) (face
   pub loose_before : (h r : ℕ) → live sp h ≡ true → live sp r ≡ true → next sp r ≡ h → loop_of M h ≡ 0 → r ≡ predecessor (loose_ring S h) h
   loose_before h r a b e z = prev_predecessor h r b e ∙ ap (λ hs. predecessor hs h) (sym (loose_ring_is h a (sym (loop_of_is h a) ∙ z)))
 
-  pub entry_in : (l c : ℕ) (cell : LoopCell) → row_at loops l ≡ Some cell → cell.held ≡ At c → IsIn c (ring sp c)
+  pub entry_in : (l c : ℕ) (cell : LoopCell) → row_at loops l ≡ Some cell → cell.stored ≡ At c → IsIn c (ring sp c)
   entry_in l c cell at e = (R.rings c (subst (HasEntry sp l) e (tied.loops_tied.entries l cell at)).0).item

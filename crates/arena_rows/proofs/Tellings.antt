@@ -7,15 +7,15 @@ use Rattle.boundary_model.specs.declared.Point.{Point}
 use Rattle.boundary_model.specs.Items.{count, IsIn, head_or}
 use Rattle.arena_rows.specs.declared.rows.FaceCell.{FaceCell}
 use Rattle.arena_rows.specs.declared.rows.LoopCell.{LoopCell}
-use Rattle.arena_rows.specs.declared.rows.Held.{Held}
-use Rattle.arena_rows.specs.declared.rows.Held.TheVariants.{Empty, Lone, At}
+use Rattle.arena_rows.specs.declared.rows.StoredContent.{StoredContent}
+use Rattle.arena_rows.specs.declared.rows.StoredContent.TheVariants.{Empty, Lone, At}
 use Rattle.boundary_model.specs.Table.{Table, get, put, tabulate, get-put, same_table}
 use Rattle.raw_cells.specs.Rows.{row_at}
 use Rattle.arena_rows.specs.Rows.{map_row, table_of}
 use Rattle.boundary_model.specs.Model.{cycle, LoopRow}
 use Rattle.arena_rows.specs.Store.{Store, loosened}
 use Rattle.arena_rows.specs.ring_spots.Spots.{Spots, codes, live, label, ring, AreRings}
-use Rattle.arena_rows.specs.View.{store_of, held_content, loop_row, HasEntry, AreLoops, StandsAt}
+use Rattle.arena_rows.specs.View.{store_of, stored_content, loop_row, HasEntry, AreLoops, StandsAt}
 use Rattle.arena_rows.specs.ring_spots.SpotTables.{edge_row, loose_row}
 use Rattle.arena_rows.proofs.Views.{get-table_of}
 use Rattle.arena_rows.proofs.ring_spots_laws.SpotLaws.{ring_same}
@@ -30,13 +30,13 @@ loose_added sp new R N c hs a z e inside outside = loose_put sp new R N c hs a z
 
 -- ---- loops
 
-pub content_alike : (sp new : Spots) (l : ℕ) (held : Held) → HasEntry sp l held → ((c : ℕ) → live sp c ≡ true → label sp c ≡ l → ring new c ≡ ring sp c) → held_content new held ≡ held_content sp held
+pub content_alike : (sp new : Spots) (l : ℕ) (stored : StoredContent) → HasEntry sp l stored → ((c : ℕ) → live sp c ≡ true → label sp c ≡ l → ring new c ≡ ring sp c) → stored_content new stored ≡ stored_content sp stored
 content_alike sp new l Empty e k = refl
 content_alike sp new l (Lone v) e k = refl
 content_alike sp new l (At c) e k = ap cycle (k c e.0 e.1)
 
 -- one row is written, and what the others hold reads alike
-pub loops_table_rows : (sp new : Spots) (rows0 rows : List (Option LoopCell)) (l : ℕ) (cell : LoopCell) → ((q : ℕ) → row_at rows q ≡ cond (nat_eq q l) (Some cell) (row_at rows0 q)) → ((q : ℕ) (c : LoopCell) → q ≢ l → row_at rows0 q ≡ Some c → held_content new c.held ≡ held_content sp c.held) →
+pub loops_table_rows : (sp new : Spots) (rows0 rows : List (Option LoopCell)) (l : ℕ) (cell : LoopCell) → ((q : ℕ) → row_at rows q ≡ cond (nat_eq q l) (Some cell) (row_at rows0 q)) → ((q : ℕ) (c : LoopCell) → q ≢ l → row_at rows0 q ≡ Some c → stored_content new c.stored ≡ stored_content sp c.stored) →
     table_of (loop_row new) rows ≡ put (table_of (loop_row sp) rows0) l (loop_row new cell)
 loops_table_rows sp new rows0 rows l cell is alike = same_table (table_of (loop_row new) rows) (put (table_of (loop_row sp) rows0) l (loop_row new cell)) (λ q.
     get-table_of (loop_row new) rows q ∙ ap (map_row (loop_row new)) (is q) ∙ elim (eqb_tells q l) [
@@ -51,7 +51,7 @@ loops_table_rows sp new rows0 rows l cell is alike = same_table (table_of (loop_
 -- one row is written, and the rings of the other loops stay
 pub loops_table : (sp new : Spots) (loops rows : List (Option LoopCell)) → AreLoops sp loops → (l : ℕ) (cell : LoopCell) → ((q : ℕ) → row_at rows q ≡ cond (nat_eq q l) (Some cell) (row_at loops q)) → ((q c : ℕ) → q ≢ l → live sp c ≡ true → label sp c ≡ q → ring new c ≡ ring sp c) →
     table_of (loop_row new) rows ≡ put (table_of (loop_row sp) loops) l (loop_row new cell)
-loops_table sp new loops rows are l cell is kept = loops_table_rows sp new loops rows l cell is (λ q c n at. content_alike sp new q c.held (are.entries q c at) (λ d a e. kept q d n a e))
+loops_table sp new loops rows are l cell is kept = loops_table_rows sp new loops rows l cell is (λ q c n at. content_alike sp new q c.stored (are.entries q c at) (λ d a e. kept q d n a e))
 
 pub loops_same : (sp new : Spots) (loops : List (Option LoopCell)) → AreLoops sp loops → ((c : ℕ) → live sp c ≡ true → label sp c ≢ 0 → ring new c ≡ ring sp c) → row_at loops 0 ≡ None → table_of (loop_row new) loops ≡ table_of (loop_row sp) loops
 loops_same sp new loops are kept zero = same_table (table_of (loop_row new) loops) (table_of (loop_row sp) loops) (λ q. get-table_of (loop_row new) loops q ∙ other q (row_at loops q) refl ∙ sym (get-table_of (loop_row sp) loops q)) where
@@ -59,21 +59,21 @@ loops_same sp new loops are kept zero = same_table (table_of (loop_row new) loop
   other q None at = refl
   other q (Some c) at =
       let n : q ≢ 0 = λ e. true≢false (sym (sym (ap is_some zero) ∙ ap (λ k. is_some (row_at loops k)) (sym e) ∙ ap is_some at)) in
-      ap (λ k. Some (record { face = c.face; content = k })) (content_alike sp new q c.held (are.entries q c at) (λ d a e. kept d a (λ z. n (sym e ∙ z))))
+      ap (λ k. Some (record { face = c.face; content = k })) (content_alike sp new q c.stored (are.entries q c at) (λ d a e. kept d a (λ z. n (sym e ∙ z))))
 
 -- the codes that stand in loops are those that did, with their labels and rings
 pub loops_kept : (sp new : Spots) (loops : List (Option LoopCell)) → AreLoops sp loops → row_at loops 0 ≡ None → ((c : ℕ) → live sp c ≡ true → label sp c ≢ 0 → (live new c ≡ true) × (label new c ≡ label sp c) × (ring new c ≡ ring sp c)) →
     ((c : ℕ) → live new c ≡ true → label new c ≢ 0 → (live sp c ≡ true) × (label sp c ≢ 0)) → AreLoops new loops
 loops_kept sp new loops are zero on back = record {
-  entries = λ q k at. entry q (λ z. true≢false (sym (ap is_some at) ∙ ap (λ n. is_some (row_at loops n)) z ∙ ap is_some zero)) k.held (are.entries q k at);
+  entries = λ q k at. entry q (λ z. true≢false (sym (ap is_some at) ∙ ap (λ n. is_some (row_at loops n)) z ∙ ap is_some zero)) k.stored (are.entries q k at);
   stands = λ x b n.
       let o = back x b n in
       let s = are.stands x o.0 o.1 in
-      let t = are.entries (label sp x) (record { face = s.face; held = At s.entry }) s.here in
+      let t = are.entries (label sp x) (record { face = s.face; stored = At s.entry }) s.here in
       let kept = on s.entry t.0 (λ z. o.1 (sym t.1 ∙ z)) in
       subst (StandsAt new loops x) (sym (on x o.0 o.1).1) (record { face = s.face; entry = s.entry; here = s.here; item = subst (IsIn x) (sym kept.2) s.item });
 } where
-  entry : (q : ℕ) → q ≢ 0 → (k : Held) → HasEntry sp q k → HasEntry new q k
+  entry : (q : ℕ) → q ≢ 0 → (k : StoredContent) → HasEntry sp q k → HasEntry new q k
   entry q z Empty e = tt
   entry q z (Lone v) e = tt
   entry q z (At c) e = let o = on c e.0 (λ y. z (sym e.1 ∙ y)) in (o.0, o.1 ∙ e.1)
@@ -83,9 +83,9 @@ pub same_loop : (sp : Spots) (loops : List (Option LoopCell)) → (R : AreRings 
 same_loop sp loops R are a c k j n e =
     let s = are.stands a k n in
     let t = subst (StandsAt sp loops c) e (are.stands c j (λ z. n (sym e ∙ z))) in
-    let f : At t.entry ≡ At s.entry = ap (λ (w : LoopCell). w.held) (same_Some _ _ (sym t.here ∙ s.here)) in
+    let f : At t.entry ≡ At s.entry = ap (λ (w : LoopCell). w.stored) (same_Some _ _ (sym t.here ∙ s.here)) in
     let d : t.entry ≡ s.entry = cc in
-    let h = are.entries (label sp a) (record { face = s.face; held = At s.entry }) s.here in
+    let h = are.entries (label sp a) (record { face = s.face; stored = At s.entry }) s.here in
     let i : IsIn c (ring sp s.entry) = subst (λ w. IsIn c (ring sp w)) d t.item in
     subst (IsIn c) (sym (ring_same sp R s.entry a h.0 s.item)) i
 

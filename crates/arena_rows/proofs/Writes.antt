@@ -7,15 +7,15 @@ use Rattle.boundary_model.specs.Points.{IsInRange}
 use Rattle.boundary_model.specs.Items.{count}
 use Rattle.arena_rows.specs.declared.rows.FaceCell.{FaceCell}
 use Rattle.arena_rows.specs.declared.rows.LoopCell.{LoopCell}
-use Rattle.arena_rows.specs.declared.rows.Held.{Held}
-use Rattle.arena_rows.specs.declared.rows.Held.TheVariants.{Empty}
+use Rattle.arena_rows.specs.declared.rows.StoredContent.{StoredContent}
+use Rattle.arena_rows.specs.declared.rows.StoredContent.TheVariants.{Empty}
 use Rattle.boundary_model.specs.Table.{Table}
 use Rattle.raw_cells.specs.Rows.{row_at}
 use Rattle.arena_rows.specs.Rows.{table_of}
 use Rattle.boundary_model.specs.Model.{cycle, FaceRow, LoopRow, items_of}
 use Rattle.arena_rows.specs.Store.{Store}
 use Rattle.arena_rows.specs.ring_spots.Spots.{Spots, live, label, ring}
-use Rattle.arena_rows.specs.View.{store_of, RowsAreTied, Fits, AreLoops, HasEntry, StandsAt, held_content, loop_row, face_row, solid_row}
+use Rattle.arena_rows.specs.View.{store_of, RowsAreTied, Fits, AreLoops, HasEntry, StandsAt, stored_content, loop_row, face_row, solid_row}
 
 pub row_here : {X : Type 0} (rows new : List (Option X)) (n : ℕ) (x : Option X) → ((q : ℕ) → row_at new q ≡ cond (nat_eq q n) x (row_at rows q)) → row_at new n ≡ x
 row_here rows new n x is = is n ∙ ap (λ b. cond b x (row_at rows n)) (eq-eqb n n refl)
@@ -59,11 +59,11 @@ pub stands_kept : (sp : Spots) (rows new : List (Option LoopCell)) (h q : ℕ) �
 stands_kept sp rows new h q e s = record { face = s.face; entry = s.entry; here = e ∙ s.here; item = s.item }
 
 -- the loops where one row is written
-pub loops_write : (sp : Spots) (rows new : List (Option LoopCell)) (l : ℕ) (x : Option LoopCell) → AreLoops sp rows → ((cell : LoopCell) → x ≡ Some cell → HasEntry sp l cell.held) →
+pub loops_write : (sp : Spots) (rows new : List (Option LoopCell)) (l : ℕ) (x : Option LoopCell) → AreLoops sp rows → ((cell : LoopCell) → x ≡ Some cell → HasEntry sp l cell.stored) →
     ((h : ℕ) → live sp h ≡ true → StandsAt sp rows h l → StandsAt sp new h l) → ((q : ℕ) → row_at new q ≡ cond (nat_eq q l) x (row_at rows q)) → AreLoops sp new
 loops_write sp rows new l x are entry keeps is = record {
   entries = λ q cell at. elim (eqb_tells q l) [
-    | inl e ↦ subst (λ k. HasEntry sp k cell.held) (sym e.1) (entry cell (sym (is q ∙ ap (λ b. cond b x (row_at rows q)) e.0) ∙ at))
+    | inl e ↦ subst (λ k. HasEntry sp k cell.stored) (sym e.1) (entry cell (sym (is q ∙ ap (λ b. cond b x (row_at rows q)) e.0) ∙ at))
     | inr e ↦ are.entries q cell (sym (is q ∙ ap (λ b. cond b x (row_at rows q)) e.0) ∙ at)
   ];
   stands = λ h a n. elim (eqb_tells (label sp h) l) [
@@ -79,23 +79,23 @@ no_stand sp rows h l free s = true≢false (sym (ap is_some s.here) ∙ free)
 pub no_stand_free : (sp : Spots) (rows new : List (Option LoopCell)) (h l : ℕ) → is_some (row_at rows l) ≡ false → StandsAt sp rows h l → StandsAt sp new h l
 no_stand_free sp rows new h l free s = absurd (no_stand sp rows h l free s)
 
-pub no_stand_bare : (sp : Spots) (rows new : List (Option LoopCell)) (cell : LoopCell) (h l : ℕ) → row_at rows l ≡ Some cell → items_of (held_content sp cell.held) ≡ [] → StandsAt sp rows h l → StandsAt sp new h l
+pub no_stand_bare : (sp : Spots) (rows new : List (Option LoopCell)) (cell : LoopCell) (h l : ℕ) → row_at rows l ≡ Some cell → items_of (stored_content sp cell.stored) ≡ [] → StandsAt sp rows h l → StandsAt sp new h l
 no_stand_bare sp rows new cell h l at bare s =
-    let e : held_content sp cell.held ≡ cycle (ring sp s.entry) = ap (λ c. held_content sp c.held) (same_Some _ _ (sym at ∙ s.here)) in
+    let e : stored_content sp cell.stored ≡ cycle (ring sp s.entry) = ap (λ c. stored_content sp c.stored) (same_Some _ _ (sym at ∙ s.here)) in
     let z : count h (ring sp s.entry) ≡ 0 = ap (count h) (sym (ap items_of e) ∙ bare) in
     let i = s.item in
     absurd (omega arith)
 
-pub stand_moved : (sp : Spots) (rows new : List (Option LoopCell)) (cell : LoopCell) (h l f : ℕ) → row_at rows l ≡ Some cell → row_at new l ≡ Some (record { face = f; held = cell.held }) → StandsAt sp rows h l → StandsAt sp new h l
+pub stand_moved : (sp : Spots) (rows new : List (Option LoopCell)) (cell : LoopCell) (h l f : ℕ) → row_at rows l ≡ Some cell → row_at new l ≡ Some (record { face = f; stored = cell.stored }) → StandsAt sp rows h l → StandsAt sp new h l
 stand_moved sp rows new cell h l f at is s = record {
   face = f;
   entry = s.entry;
-  here = is ∙ ap (λ c. Some (record { face = f; held = c.held })) (same_Some _ _ (sym at ∙ s.here));
+  here = is ∙ ap (λ c. Some (record { face = f; stored = c.stored })) (same_Some _ _ (sym at ∙ s.here));
   item = s.item;
 }
 
-pub entry_empty : (sp : Spots) (l f : ℕ) (cell : LoopCell) → Some (record { face = f; held = Empty }) ≡ Some cell → HasEntry sp l cell.held
-entry_empty sp l f cell e = subst (HasEntry sp l) (ap (λ c. c.held) (same_Some _ _ e)) tt
+pub entry_empty : (sp : Spots) (l f : ℕ) (cell : LoopCell) → Some (record { face = f; stored = Empty }) ≡ Some cell → HasEntry sp l cell.stored
+entry_empty sp l f cell e = subst (HasEntry sp l) (ap (λ c. c.stored) (same_Some _ _ e)) tt
 
-pub entry_same : (sp : Spots) (l f : ℕ) (held : Held) (cell : LoopCell) → HasEntry sp l held → Some (record { face = f; held = held }) ≡ Some cell → HasEntry sp l cell.held
-entry_same sp l f held cell h e = subst (HasEntry sp l) (ap (λ c. c.held) (same_Some _ _ e)) h
+pub entry_same : (sp : Spots) (l f : ℕ) (stored : StoredContent) (cell : LoopCell) → HasEntry sp l stored → Some (record { face = f; stored = stored }) ≡ Some cell → HasEntry sp l cell.stored
+entry_same sp l f stored cell h e = subst (HasEntry sp l) (ap (λ c. c.stored) (same_Some _ _ e)) h

@@ -6,8 +6,8 @@ use Rattle.boundary_model.specs.Points.{IsInRange}
 use Rattle.boundary_model.specs.Items.{IsIn}
 use Rattle.arena_rows.specs.declared.rows.FaceCell.{FaceCell}
 use Rattle.arena_rows.specs.declared.rows.LoopCell.{LoopCell}
-use Rattle.arena_rows.specs.declared.rows.Held.{Held}
-use Rattle.arena_rows.specs.declared.rows.Held.TheVariants.{Empty, Lone, At}
+use Rattle.arena_rows.specs.declared.rows.StoredContent.{StoredContent}
+use Rattle.arena_rows.specs.declared.rows.StoredContent.TheVariants.{Empty, Lone, At}
 use Rattle.boundary_model.specs.Table.{Table, tabulate}
 use Rattle.boundary_model.specs.Model.{LoopContent, lone, cycle, FaceRow, LoopRow}
 use Rattle.arena_rows.specs.Store.{Store}
@@ -22,13 +22,13 @@ solid_row b = tt
 abbrev pub face_row : FaceCell → FaceRow
 face_row cell = record { solid = cell.solid; outer = cell.outer }
 
-abbrev pub held_content : Spots → Held → LoopContent
-held_content sp Empty = cycle []
-held_content sp (Lone v) = lone v
-held_content sp (At c) = cycle (ring sp c)
+abbrev pub stored_content : Spots → StoredContent → LoopContent
+stored_content sp Empty = cycle []
+stored_content sp (Lone v) = lone v
+stored_content sp (At c) = cycle (ring sp c)
 
 abbrev pub loop_row : Spots → LoopCell → LoopRow
-loop_row sp cell = record { face = cell.face; content = held_content sp cell.held }
+loop_row sp cell = record { face = cell.face; content = stored_content sp cell.stored }
 
 abbrev pub store_of : Spots → (ℕ → Bool) → List (Option Bool) → List (Option FaceCell) → List (Option LoopCell) → List (Option Point) → Store
 store_of sp known solids faces loops vertices = record {
@@ -50,7 +50,7 @@ store_of sp known solids faces loops vertices = record {
 }
 
 -- a loop with a ring has the label of its item
-abbrev pub HasEntry : Spots → ℕ → Held → Type 0
+abbrev pub HasEntry : Spots → ℕ → StoredContent → Type 0
 HasEntry sp l Empty = Unit {0}
 HasEntry sp l (Lone v) = Unit {0}
 HasEntry sp l (At c) = (live sp c ≡ true) × (label sp c ≡ l)
@@ -64,11 +64,11 @@ pub record Fits {X : Type 0} (rows : List (Option X)) : Type 0 where
 pub record StandsAt (sp : Spots) (loops : List (Option LoopCell)) (h l : ℕ) : Type 0 where
   pub face : ℕ
   pub entry : ℕ
-  pub here : row_at loops l ≡ Some (record { face = face; held = At entry })
+  pub here : row_at loops l ≡ Some (record { face = face; stored = At entry })
   pub item : IsIn h (ring sp entry)
 
 pub record AreLoops (sp : Spots) (loops : List (Option LoopCell)) : Type 0 where
-  pub entries : (l : ℕ) (cell : LoopCell) → row_at loops l ≡ Some cell → HasEntry sp l cell.held
+  pub entries : (l : ℕ) (cell : LoopCell) → row_at loops l ≡ Some cell → HasEntry sp l cell.stored
   pub stands : (h : ℕ) → live sp h ≡ true → label sp h ≢ 0 → StandsAt sp loops h (label sp h)
 
 pub record RowsAreTied (sp : Spots) (known : ℕ → Bool) (solids : List (Option Bool)) (faces : List (Option FaceCell)) (loops : List (Option LoopCell)) (vertices : List (Option Point)) : Type 0 where

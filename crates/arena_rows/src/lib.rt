@@ -19,4 +19,4 @@ mod rows;
 pub use owner_chains::Chains;
 pub use raw_cells::Rows;
 pub use ring_spots::EdgeRings;
-pub use rows::{FaceCell, Held, LoopCell, names};
+pub use rows::{FaceCell, LoopCell, StoredContent, names};

@@ -16,7 +16,7 @@ pub struct FaceCell {
 
 /// What a loop holds, by the code of one of its items.
 #[derive(Clone, Copy)]
-pub enum Held {
+pub enum StoredContent {
     /// Nothing, as between two writes.
     Empty,
     /// No half-edge: the loop is lone at this vertex.
@@ -31,7 +31,7 @@ pub struct LoopCell {
     /// The face's number.
     pub face: u32,
     /// What the loop holds.
-    pub held: Held,
+    pub stored: StoredContent,
 }
 
 /// Whether loop l is there and names face f.

@@ -5,7 +5,7 @@ ghost use Rattle.boundary_model.specs.Model.{items_of, content, has_half, loop_o
 ghost use Rattle.arena_rows.specs.Store.{has_number, clear, fill, with_lone, set_content, IsLoose};
 
 use crate::arena::Arena;
-use arena_rows::{Held, LoopCell};
+use arena_rows::{LoopCell, StoredContent};
 use boundary_model::{Content, HalfEdge, Kind};
 
 impl Arena {
@@ -19,9 +19,9 @@ impl Arena {
         let old = self.loops.known(l);
         let cell = LoopCell {
             face: old.face,
-            held: Held::Empty,
+            stored: StoredContent::Empty,
         };
-        if let Held::At(c) = old.held {
+        if let StoredContent::At(c) = old.stored {
             self.rings.relabel(c, 0);
             self.loops.set(l, cell);
             return;
@@ -38,7 +38,7 @@ impl Arena {
         let old = self.loops.known(l);
         let cell = LoopCell {
             face: old.face,
-            held: Held::Lone(v),
+            stored: StoredContent::Lone(v),
         };
         self.loops.set(l, cell);
     }
@@ -58,7 +58,7 @@ impl Arena {
         let old = self.loops.known(l);
         let cell = LoopCell {
             face: old.face,
-            held: Held::At(item),
+            stored: StoredContent::At(item),
         };
         self.rings.relabel(item, l);
         self.loops.set(l, cell);

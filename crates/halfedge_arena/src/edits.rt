@@ -7,7 +7,7 @@ ghost use Rattle.boundary_model.specs.Model.{items_of, content, has_half};
 ghost use Rattle.arena_rows.specs.Store.{has_room, has_number, put_solid, take_solid, put_face, take_face, set_outer, set_solid, put_vertex, take_vertex, put_loop, take_loop, set_face, set_tail, put_edge, take_edge};
 
 use crate::arena::Arena;
-use arena_rows::{FaceCell, Held, LoopCell};
+use arena_rows::{FaceCell, LoopCell, StoredContent};
 use boundary_model::{HalfEdge, Kind, PackedPoint, Point};
 
 impl Arena {
@@ -107,7 +107,7 @@ impl Arena {
     {
         let cell = LoopCell {
             face: f,
-            held: Held::Empty,
+            stored: StoredContent::Empty,
         };
         self.loops.put(l, cell);
         self.face_loops.insert(f, l);
@@ -132,7 +132,7 @@ impl Arena {
         let old = self.loops.known(l);
         let cell = LoopCell {
             face: f,
-            held: old.held,
+            stored: old.stored,
         };
         self.loops.set(l, cell);
         self.face_loops.remove(l);

@@ -5,7 +5,7 @@ ghost use Rattle.boundary_model.specs.Model.{items_of, content, has_half, loop_o
 ghost use Rattle.arena_rows.specs.Store.{has_number, loose_ring, cut, join};
 
 use crate::arena::Arena;
-use arena_rows::{Held, LoopCell};
+use arena_rows::{LoopCell, StoredContent};
 use boundary_model::{HalfEdge, Kind};
 
 impl Arena {
@@ -30,7 +30,7 @@ impl Arena {
         self.rings.cut(first, second, l);
         let cell = LoopCell {
             face,
-            held: Held::At(first),
+            stored: StoredContent::At(first),
         };
         self.loops.set(kept, cell);
         if l == 0 {
@@ -39,7 +39,7 @@ impl Arena {
         let other = self.loops.known(l).face;
         let cell = LoopCell {
             face: other,
-            held: Held::At(second),
+            stored: StoredContent::At(second),
         };
         self.loops.set(l, cell);
     }
@@ -64,7 +64,7 @@ impl Arena {
         self.rings.join(first, second);
         let cell = LoopCell {
             face,
-            held: Held::At(first),
+            stored: StoredContent::At(first),
         };
         if gone == 0 {
             self.loops.set(kept, cell);
@@ -73,7 +73,7 @@ impl Arena {
         let other = self.loops.known(gone).face;
         let empty = LoopCell {
             face: other,
-            held: Held::Empty,
+            stored: StoredContent::Empty,
         };
         self.loops.set(gone, empty);
         self.loops.set(kept, cell);
@@ -99,7 +99,7 @@ impl Arena {
         self.rings.cut_alone(stays, goes, 0);
         let cell = LoopCell {
             face,
-            held: Held::At(stays),
+            stored: StoredContent::At(stays),
         };
         self.loops.set(kept, cell);
     }

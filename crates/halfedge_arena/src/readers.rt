@@ -7,7 +7,7 @@ ghost use Rattle.boundary_model.specs.Model.{cycle, point_of, solid_of, outer, f
 ghost use Rattle.arena_rows.specs.Store.{has_room, has_number, loose_ring, Tells, only_item};
 
 use crate::arena::Arena;
-use arena_rows::{Held, names};
+use arena_rows::{StoredContent, names};
 use boundary_model::{Content, HalfEdge, Kind, Point};
 
 impl Arena {
@@ -109,10 +109,10 @@ impl Arena {
         requires filled { content self.now.model l ≢ cycle [] }
         ensures { Tells (content self.now.model l) result }
     {
-        match self.loops.known(l).held {
-            Held::Lone(v) => Content::Lone(v),
-            Held::At(c) => Content::Ring(HalfEdge::of_code(c)),
-            Held::Empty => unreachable!(),
+        match self.loops.known(l).stored {
+            StoredContent::Lone(v) => Content::Lone(v),
+            StoredContent::At(c) => Content::Ring(HalfEdge::of_code(c)),
+            StoredContent::Empty => unreachable!(),
         }
     }
 

@@ -1,5 +1,5 @@
 mod Conditions
-mod Held
+mod SplitModels
 mod Parted
 pub use Rattle.split_laws.proofs.Openings
 pub use Rattle.split_laws.proofs.Whole

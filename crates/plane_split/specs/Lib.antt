@@ -1,5 +1,5 @@
 pub mod Drawn
-pub mod Held
+pub mod SplitModels
 pub use Rattle.split_laws.specs.SplitOps
 pub use Rattle.split_laws.specs.drawn.Kept
 pub use Rattle.split_opening_laws.specs.sections.InTurn

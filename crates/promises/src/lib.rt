@@ -60,7 +60,7 @@ ghost use Rattle.script_running.specs.laws_below.LaminaLaws.{OperatorsAreAccepte
 ghost use Rattle.script_running.specs.laws_below.OperatorLaws.{effects, AreAccepted, NothingIsRefusedWhereAllHold, RefusalsNameTheFirstFalse, EmptyIsSound, EffectsAreSound, EulerNumberGrows, InversesAreAccepted, InversesUndo, RunsAreSound, InversesOfRunsAreAccepted, InversesOfRunsUndo};
 ghost use Rattle.script_running.specs.laws_below.PartLaws.{PartsAreSolids, SplitsShareVolumes, SplitsKeepOthers, VerticesLieOnEitherSide};
 ghost use Rattle.script_running.specs.laws_below.SplitCalls.{SplitsAreCalls};
-ghost use Rattle.script_running.specs.laws_below.SplitHeld.{SplitsAreHeld, HeldAreSound, PartsAreHeld, HeldShareVolumes, HeldKeepOthers, HeldLieOnEitherSide};
+ghost use Rattle.script_running.specs.laws_below.SplitModels.{SplitsAreHeld, HeldAreSound, PartsAreHeld, HeldShareVolumes, HeldKeepOthers, HeldLieOnEitherSide};
 ghost use Rattle.script_running.specs.laws_below.SplitLaws.{SplitsAreAccepted, SplitsMakeSplit, SplitAreSound};
 ghost use Rattle.script_running.specs.laws_below.SweepCalls.{LaminasAreCalls, BlocksAreCalls, SweepsAreCalls};
 ghost use Rattle.script_running.specs.laws_below.SweepLaws.{SweepsAreAccepted, SweepsMakePrisms, PrismsAreSound};

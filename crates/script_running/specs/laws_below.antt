@@ -4,9 +4,9 @@ pub use Rattle.gluing.specs.GlueLaws
 pub use Rattle.gluing.specs.Measures as GlueMeasures
 pub use Rattle.gluing.specs.VolumeLaws as GlueVolumes
 pub use Rattle.plane_split.specs.Calls as SplitCalls
-pub use Rattle.plane_split.specs.Held as SplitHeld
 pub use Rattle.plane_split.specs.PartLaws
 pub use Rattle.plane_split.specs.SplitLaws
+pub use Rattle.plane_split.specs.SplitModels
 pub use Rattle.solid_listing.specs.Telling
 pub use Rattle.sweeps.specs.BlockLaws
 pub use Rattle.sweeps.specs.Calls as SweepCalls

@@ -45,7 +45,7 @@ use Rattle.split_laws.proofs.Whole.{split_accepted, split_made}
 use Rattle.split_laws.proofs.drawn.Drawn.{begins, drawn_stays, never_stuck}
 use Rattle.split_laws.proofs.measures.Splittable.{can_be_split}
 use Rattle.undo_journal.specs.Machine.{Machine, held}
-use Rattle.plane_split.specs.Held.{IsSplit}
+use Rattle.plane_split.specs.SplitModels.{IsSplit}
 use Rattle.command_laws.proofs.Owners.{Agree, faces_many, is_either, is_of, loops_many, many_either, more_edges, more_faces, more_loops, more_vertices, not_either, others_kept, solid_of_edge, solid_of_loop, solid_of_vertex, vertices_many}
 use Rattle.split_caps.specs.Capped.{caps_of, cycles_of}
 use Rattle.split_caps.specs.Counted.{SplitKeepsCounts, SplitMakesCounts, SplitSharesCounts, SplitSharesSums}

@@ -8,7 +8,7 @@ use Rattle.shapes.specs.split.Sides.{crossing_edges, straddling_faces}
 use Rattle.solid_measure.specs.solid_counts.Counts.{counts}
 use Rattle.split_opening_laws.specs.sections.InTurn.{halves_in}
 use Rattle.undo_journal.specs.Machine.{Machine, held}
-use Rattle.plane_split.specs.Held.{IsSplit}
+use Rattle.plane_split.specs.SplitModels.{IsSplit}
 use Rattle.split_caps.specs.Capped.{cycles_of, caps_of}
 
 -- of vertices, edges, faces and rings the two parts together have as many more than the solid had as the session holds more

@@ -9,7 +9,7 @@ use Rattle.shapes.specs.Measure.{normal}
 use Rattle.shapes.specs.split.Drawing.{with_drawings}
 use Rattle.shapes.specs.split.Section.{is_hole, holes_in}
 use Rattle.undo_journal.specs.Machine.{Machine, held}
-use Rattle.plane_split.specs.Held.{IsSplit}
+use Rattle.plane_split.specs.SplitModels.{IsSplit}
 use Rattle.split_caps.specs.Capped.{cycles_of, caps_of, cap, lower_numbers, upper_numbers, IsCapOf, area_below, sum_of}
 
 -- each cycle has two caps, numbered on from the last face that was drawn, and they are a hole's where the cycle is one

@@ -23,7 +23,7 @@ use Rattle.split_laws.proofs.drawn.Drawn.{begins, drawn_stays}
 use Rattle.split_laws.proofs.measures.Splittable.{can_be_split}
 use Rattle.split_laws.proofs.volumes.Split as split
 use Rattle.undo_journal.specs.Machine.{Machine, held}
-use Rattle.plane_split.specs.Held.{IsSplit}
+use Rattle.plane_split.specs.SplitModels.{IsSplit}
 use Rattle.command_laws.specs.LeftAlone.{OfOthers}
 use Rattle.command_laws.proofs.Owners.{Agree, agree_on, is_either, is_of, solid_of_half, solid_of_loop}
 use Rattle.command_laws.proofs.OnFaces.{vertex_there}

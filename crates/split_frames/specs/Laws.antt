@@ -3,7 +3,7 @@ use Rattle.std.specs.Prelude.{ℕ}
 use Rattle.euler_operators.specs.declared.Plane.{Plane}
 use Rattle.euler_operators.specs.Sound.{Sound}
 use Rattle.undo_journal.specs.Machine.{Machine, held}
-use Rattle.plane_split.specs.Held.{IsSplit}
+use Rattle.plane_split.specs.SplitModels.{IsSplit}
 use Rattle.command_laws.specs.LeftAlone.{KeepsRows, KeepsOwners, KeepsLoops, KeepsEdges, KeepsPoints, KeepsShapes, OfOthers}
 
 -- each face of another solid has its row

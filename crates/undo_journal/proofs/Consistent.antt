@@ -15,7 +15,7 @@ use Rattle.undo_journal.specs.Machine.{Machine, DraftState, start, held, depth, 
 use Rattle.undo_journal.specs.Recorded.{models, model_at}
 use Rattle.undo_journal.specs.Histories.{Call, acted, made, committed, abandoned, undone, redone, stopped, unless, first_of, run_refusal, tried, after_call, after_calls, Follows, IsConsistent}
 use Rattle.undo_journal.specs.Laws.{LargerCommandsAreCalls, HistoriesAreConsistent}
-use Rattle.undo_journal.specs.Held.{models_ahead, machine_of, AllLead, IsJournal}
+use Rattle.undo_journal.specs.Sessions.{models_ahead, machine_of, AllLead, IsJournal}
 use Rattle.undo_journal.proofs.Copies.{one_more, at_place, how_many, undone_to_first, redone_to_last}
 use Rattle.undo_journal.proofs.Journals.{models_are}
 

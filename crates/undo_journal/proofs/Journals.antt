@@ -7,7 +7,7 @@ use Rattle.euler_laws.specs.Laws.{effects, AreAccepted}
 use Rattle.undo_journal.specs.declared.record.Record.{Record}
 use Rattle.undo_journal.specs.Machine.{depth, ahead, accepted, back_to, forth_to, undo, redo}
 use Rattle.undo_journal.specs.Recorded.{models, model_at}
-use Rattle.undo_journal.specs.Held.{models_back, models_ahead, past_of, future_of, machine_of, Leads, AllLead, gone_forth, IsJournal}
+use Rattle.undo_journal.specs.Sessions.{models_back, models_ahead, past_of, future_of, machine_of, Leads, AllLead, gone_forth, IsJournal}
 
 -- records taken back in their order
 abbrev gone_back : Model → List Record → Model

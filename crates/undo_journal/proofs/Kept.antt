@@ -16,7 +16,7 @@ use Rattle.low_euler.specs.Ready.{IsReady}
 use Rattle.undo_journal.specs.declared.record.Record.{Record}
 use Rattle.undo_journal.specs.Journal.{new_journal}
 use Rattle.low_euler.specs.Room.{IsStepped}
-use Rattle.undo_journal.specs.Held.{past_of, future_of, journal_of, Leads, IsJournal, AllHaveRoom, RecordsHaveRoom, IsKept, opened, command_of, IsDrafted, all_after}
+use Rattle.undo_journal.specs.Sessions.{past_of, future_of, journal_of, Leads, IsJournal, AllHaveRoom, RecordsHaveRoom, IsKept, opened, command_of, IsDrafted, all_after}
 use Rattle.undo_journal.proofs.Journals.{journal_start, journal_more, journal_on, journal_back}
 use Rattle.undo_journal.proofs.Rooms.{ops_kept, records_kept, ops-append, ops-reverse, records-append, records-take, keeps_all_after}
 

@@ -10,7 +10,7 @@ use Rattle.undo_journal.specs.declared.record.Record.{Record}
 use Rattle.low_euler.specs.Room.{KeepsRoom}
 use Rattle.low_euler.proofs.Made.{room_kept}
 use Rattle.low_euler.proofs.Undone.{keeps_room}
-use Rattle.undo_journal.specs.Held.{AllHaveRoom, RecordsHaveRoom, all_after}
+use Rattle.undo_journal.specs.Sessions.{AllHaveRoom, RecordsHaveRoom, all_after}
 
 pub op_kept : (s t : Store) (o : Op) → KeepsRoom s t → HasRoomFor s o → HasRoomFor t o
 op_kept s t o k room = room_kept s t (made o) k room

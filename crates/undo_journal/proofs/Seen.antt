@@ -12,7 +12,7 @@ use Rattle.undo_journal.specs.Machine.{Machine, held, depth, ahead, accepted, un
 use Rattle.undo_journal.specs.Journal.{Journal, DraftJournal, recorded, after_act, after_undo, after_redo, new_draft, after_step, after_commit}
 use Rattle.undo_journal.specs.Recorded.{model_at}
 use Rattle.low_euler.specs.Room.{IsStepped}
-use Rattle.undo_journal.specs.Held.{machine_of, journal_of, Leads, IsKept, opened, draft_of, command_of, IsDrafted}
+use Rattle.undo_journal.specs.Sessions.{machine_of, journal_of, Leads, IsKept, opened, draft_of, command_of, IsDrafted}
 use Rattle.undo_journal.proofs.Journals.{depth_is, ahead_is, leads_at, machine_more, place_undone, place_redone}
 use Rattle.undo_journal.proofs.Kept.{one_leads, opened_same}
 

@@ -10,7 +10,7 @@ use Rattle.euler_operators.specs.Effect.{effect}
 use Rattle.euler_laws.specs.Laws.{effects, AreAccepted}
 use Rattle.euler_laws.proofs.Runs.{effects-append}
 use Rattle.low_euler.specs.Ready.{IsReady, HasRoomFor, Accepts, after}
-use Rattle.undo_journal.specs.Held.{AllHaveRoom, all_after}
+use Rattle.undo_journal.specs.Sessions.{AllHaveRoom, all_after}
 use Rattle.undo_journal.proofs.Rooms.{op_kept, keeps_all_after}
 
 goes_at : (M : Model) (ops : List Op) (i : ℕ) (o : Op) → i < length ops → o ≡ get_or ops i o → AreAccepted M ops → first_false (effects M (take i ops)) o ≡ None

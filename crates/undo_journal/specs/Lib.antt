@@ -3,5 +3,5 @@ pub mod Recorded
 pub mod Journal
 pub mod Histories
 pub mod Laws
-pub mod Held
+pub mod Sessions
 pub mod Listed

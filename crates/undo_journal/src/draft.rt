@@ -4,7 +4,7 @@ ghost use Rattle.low_euler.specs.Ready.{IsReady};
 ghost use Rattle.euler_operators.specs.Sound.{Sound};
 ghost use Rattle.undo_journal.specs.Machine.{held};
 ghost use Rattle.undo_journal.specs.Journal.{new_draft, after_step, after_commit};
-ghost use Rattle.undo_journal.specs.Held.{RecordsHaveRoom, AllHaveRoom};
+ghost use Rattle.undo_journal.specs.Sessions.{RecordsHaveRoom, AllHaveRoom};
 ghost use Rattle.undo_journal.specs.Histories.{Follows, IsConsistent};
 ghost use Rattle.euler_operators.specs.Conditions.{first_false};
 ghost use Rattle.euler_operators.specs.declared.Refusal.{Refusal};
@@ -38,7 +38,7 @@ impl Model for Draft {
 
     ghost coded = { coded_draft_journal };
 
-    ghost use Rattle.undo_journal.specs.Held.{draft_of, IsDrafted};
+    ghost use Rattle.undo_journal.specs.Sessions.{draft_of, IsDrafted};
 
     ghost view = { λ d. draft_of d.arena.value.model d.records.items d.place d.forward.items d.back.items };
 

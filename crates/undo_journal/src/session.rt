@@ -4,7 +4,7 @@ ghost use Rattle.std.specs.Vec.{vec_capacity};
 ghost use Rattle.low_euler.specs.Ready.{IsReady};
 ghost use Rattle.undo_journal.specs.Machine.{held, depth, ahead, act_refusal, undo_refusal, redo_refusal};
 ghost use Rattle.undo_journal.specs.Journal.{new_journal, after_act, after_undo, after_redo};
-ghost use Rattle.undo_journal.specs.Held.{RecordsHaveRoom};
+ghost use Rattle.undo_journal.specs.Sessions.{RecordsHaveRoom};
 ghost use Rattle.undo_journal.specs.Recorded.{model_at};
 ghost use Rattle.undo_journal.specs.Histories.{IsConsistent};
 ghost use Rattle.euler_laws.specs.Laws.{effects, AreAccepted};
@@ -53,7 +53,7 @@ impl Model for Session {
 
     ghost coded = { coded_journal };
 
-    ghost use Rattle.undo_journal.specs.Held.{journal_of, IsKept};
+    ghost use Rattle.undo_journal.specs.Sessions.{journal_of, IsKept};
 
     ghost view = { λ s. journal_of s.arena.value.model s.records.items s.place };
 

@@ -7,7 +7,7 @@ ghost use Rattle.euler_operators.specs.Effect.{inverse};
 ghost use Rattle.euler_laws.specs.Laws.{AreAccepted};
 ghost use Rattle.low_euler.specs.Ready.{IsReady};
 ghost use Rattle.low_euler.specs.Room.{IsStepped};
-ghost use Rattle.undo_journal.specs.Held.{AllHaveRoom, all_after};
+ghost use Rattle.undo_journal.specs.Sessions.{AllHaveRoom, all_after};
 
 use euler_operators::Op;
 use low_euler::{Arena, advance, replay};

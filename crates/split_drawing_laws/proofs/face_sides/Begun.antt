@@ -37,7 +37,7 @@ use Rattle.split_drawing_laws.specs.drawings.Pairs.{AllFit, LoneInOneLoop, Faces
 use Rattle.split_drawing_laws.specs.loop_sides.Parted.{ends, LiesOn, Parted}
 use Rattle.split_drawing_laws.specs.half_sides.HalfSides.{half_is_above, side_of, is_own}
 use Rattle.split_drawing_laws.proofs.half_sides.PlaceEnds.{side_within, place_in_ends, pairs_up, side_beside, take_sides}
-use Rattle.split_drawing_laws.proofs.face_sides.Beside.{Held}
+use Rattle.split_drawing_laws.proofs.face_sides.Beside.{HoldsOld}
 use Rattle.split_drawing_laws.proofs.face_sides.OneFace.{IsSided, PairsOf, AllOld, Stage, AllPairsOf, all_done}
 use Rattle.split_drawing_laws.proofs.face_sides.Shared.{any_from, HeldOn, none_from}
 use Rattle.split_drawing_laws.specs.drawings.Laws.{CanBeDrawn}
@@ -116,7 +116,7 @@ module _ (M : Model) (s : ℕ) (p : Plane) (t : ℕ) (sound : Sound M) (begins :
         listed = listed-from_in (face_of M q) (faces_of M s) (in_solid M (face_of M q) s (sound.loops_of_faces q there) of_s)
 
   -- so each holds a half-edge
-  pub loop_holds : (q : ℕ) → Has (with_crossings M s p).model.loops q → solid_of (with_crossings M s p).model (face_of (with_crossings M s p).model q) ≡ s → Held (with_crossings M s p).model (with_crossings M s p).model q
+  pub loop_holds : (q : ℕ) → Has (with_crossings M s p).model.loops q → solid_of (with_crossings M s p).model (face_of (with_crossings M s p).model q) ≡ s → HoldsOld (with_crossings M s p).model (with_crossings M s p).model q
   loop_holds q there of_s =
       let was : Has M.loops q = sym (keep.loops q) ∙ there in
       let is : content M q ≡ cycle (items_of (content M q)) = is_cycle q was (ap (solid_of M) (sym (keep.face q)) ∙ sym (same_solid M s p t sound begins (face_of N q)) ∙ of_s) in
@@ -130,7 +130,7 @@ module _ (M : Model) (s : ℕ) (p : Plane) (t : ℕ) (sound : Sound M) (begins :
   sided_first g there of_s z = (
     reaches_above M p g,
     λ q q_there at.
-        let a : Held N N q = loop_holds q q_there (ap (solid_of N) at ∙ of_s) in
+        let a : HoldsOld N N q = loop_holds q q_there (ap (solid_of N) at ∙ of_s) in
         let face : face_at N a.half ≡ g = ap (face_of N) a.at ∙ at in
         record { held = a; on = side_beside M s p t sound begins a.half (ap (lists fs) face ∙ false_from_ne_true (lists fs g) (λ e. absurd (omega (arith, z, IsIn-from_listed g fs e)))) ∙ ap (reaches_above M p) face },
   )
@@ -140,7 +140,7 @@ module _ (M : Model) (s : ℕ) (p : Plane) (t : ℕ) (sound : Sound M) (begins :
   module _ (f : ℕ) (i : IsIn f (straddling_faces M p s)) where
     -- a loop of f with a corner above holds a half-edge above, and one without holds one below
     module _ (r : ℕ) (there : Has N.loops r) (at : face_of N r ≡ f) where
-      some_half : Held N N r
+      some_half : HoldsOld N N r
       some_half = loop_holds r there (ap (solid_of N) at ∙ same_solid M s p t sound begins f ∙ (face_facts M s p f i).1)
 
       abbrev h : ℕ

@@ -92,7 +92,7 @@ module _ (N : Model) (ls : List ℕ) (k q : ℕ) where
 -- ---- where a face has no ring, no face that is cut off it has one
 
 -- loop q of N holds a half-edge of B
-pub record Held (B N : Model) (q : ℕ) : Type 0 where
+pub record HoldsOld (B N : Model) (q : ℕ) : Type 0 where
   pub half : ℕ
   pub old : HasHalf B half
   pub at : loop_of N half ≡ q
@@ -100,7 +100,7 @@ pub record Held (B N : Model) (q : ℕ) : Type 0 where
 -- q is the outer loop of its face, and holds a half-edge of B
 pub record Lone (B N : Model) (q : ℕ) : Type 0 where
   pub outer_is : outer N (face_of N q) ≡ q
-  pub held : Held B N q
+  pub held : HoldsOld B N q
 
 -- so is each loop of f, and of the faces that are new since M
 abbrev pub Alone : Model → Model → Model → ℕ → Type 0

@@ -24,7 +24,7 @@ use Rattle.split_drawing_laws.specs.drawings.DrawnIn.{Stays}
 use Rattle.split_drawing_laws.proofs.drawings.Drawn.{CanDraw, draw_sound}
 use Rattle.split_drawing_laws.proofs.drawings.Rings.{RingOf, rings_are}
 use Rattle.split_drawing_laws.proofs.drawings.Stays.{row_else, draw_beside}
-use Rattle.split_drawing_laws.proofs.face_sides.Beside.{Held, u_goes, k_stays, outer_kept, old_loop_face, new_loop_face, never_free, given_content, given_has, given_else, given_face}
+use Rattle.split_drawing_laws.proofs.face_sides.Beside.{HoldsOld, u_goes, k_stays, outer_kept, old_loop_face, new_loop_face, never_free, given_content, given_has, given_else, given_face}
 
 -- ---- tests of lists
 
@@ -65,7 +65,7 @@ module _ (B K : Model) (stays : Stays B K) (p : Plane) where
 
 -- loop q of N holds a half-edge of B on side b
 pub record HeldOn (B N : Model) (side : ℕ → Bool) (q : ℕ) (b : Bool) : Type 0 where
-  pub held : Held B N q
+  pub held : HoldsOld B N q
   pub on : side held.half ≡ b
 
 -- so does each loop of face g

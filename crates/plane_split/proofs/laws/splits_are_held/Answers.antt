@@ -1,4 +1,4 @@
-use Rattle.plane_split.proofs.Held.{held_is, held_sound, parts_held, held_share, others_held, held_sided}
+use Rattle.plane_split.proofs.SplitModels.{held_is, held_sound, parts_held, held_share, others_held, held_sided}
 use Rattle.plane_split.proofs.laws.splits_are_held.Goals as goal
 
 pub returns : goal.returns

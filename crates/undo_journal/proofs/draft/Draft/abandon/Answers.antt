@@ -2,7 +2,7 @@ use Rattle.std.specs.Prelude.{◌≡◌, reverse}
 use Rattle.std.proofs.Common.{sym, subst, ap, ◌∙◌}
 use Rattle.low_euler.specs.Store.{Store}
 use Rattle.low_euler.specs.Ready.{IsReady}
-use Rattle.undo_journal.specs.Held.{AllHaveRoom, IsKept, all_after}
+use Rattle.undo_journal.specs.Sessions.{AllHaveRoom, IsKept, all_after}
 use Rattle.undo_journal.proofs.Rooms.{ops-reverse}
 use Rattle.undo_journal.proofs.Kept.{kept_abandon}
 use Rattle.undo_journal.proofs.draft.Draft.abandon.Goals as goal

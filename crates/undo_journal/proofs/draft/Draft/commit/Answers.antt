@@ -2,7 +2,7 @@ use Rattle.std.specs.Prelude.{◌≡◌, ◌+◌, ◌++◌, List, [], ◌∷◌,
 use Rattle.std.proofs.Common.{sym, subst, ap, ◌∙◌}
 use Rattle.euler_operators.specs.declared.Op.{Op}
 use Rattle.undo_journal.specs.declared.record.Record.{Record}
-use Rattle.undo_journal.specs.Held.{journal_of, command_of, IsKept}
+use Rattle.undo_journal.specs.Sessions.{journal_of, command_of, IsKept}
 use Rattle.undo_journal.proofs.Kept.{kept_commit}
 use Rattle.undo_journal.proofs.Seen.{commit_seen}
 use Rattle.undo_journal.proofs.draft.Draft.commit.Goals as goal

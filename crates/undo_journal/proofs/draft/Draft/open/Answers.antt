@@ -2,7 +2,7 @@ use Rattle.std.specs.Prelude.{List, []}
 use Rattle.std.proofs.Common.{ap, ◌∙◌}
 use Rattle.euler_operators.specs.declared.Op.{Op}
 use Rattle.undo_journal.specs.declared.record.Record.{Record}
-use Rattle.undo_journal.specs.Held.{draft_of}
+use Rattle.undo_journal.specs.Sessions.{draft_of}
 use Rattle.undo_journal.proofs.Seen.{open_seen}
 use Rattle.undo_journal.proofs.draft.Draft.open.Goals as goal
 

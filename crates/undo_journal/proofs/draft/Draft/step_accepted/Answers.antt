@@ -8,7 +8,7 @@ use Rattle.euler_operators.specs.Effect.{inverse}
 use Rattle.undo_journal.specs.declared.record.Record.{Record}
 use Rattle.undo_journal.specs.Journal.{DraftJournal, after_step}
 use Rattle.low_euler.specs.Room.{IsStepped}
-use Rattle.undo_journal.specs.Held.{draft_of, IsDrafted}
+use Rattle.undo_journal.specs.Sessions.{draft_of, IsDrafted}
 use Rattle.undo_journal.proofs.Kept.{drafted_step, drafted_grown}
 use Rattle.undo_journal.proofs.Seen.{step_seen}
 use Rattle.undo_journal.proofs.draft.Draft.step_accepted.Goals as goal

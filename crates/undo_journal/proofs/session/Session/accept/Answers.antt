@@ -6,7 +6,7 @@ use Rattle.euler_operators.specs.Effect.{inverse}
 use Rattle.low_euler.specs.Store.{Store, HasGrown}
 use Rattle.undo_journal.specs.declared.record.Record.{Record}
 use Rattle.low_euler.specs.Room.{IsStepped}
-use Rattle.undo_journal.specs.Held.{journal_of, IsKept}
+use Rattle.undo_journal.specs.Sessions.{journal_of, IsKept}
 use Rattle.undo_journal.proofs.Kept.{kept_act, kept_grown}
 use Rattle.undo_journal.proofs.Seen.{goes_seen, act_seen}
 use Rattle.undo_journal.proofs.session.Session.accept.Goals as goal

@@ -2,7 +2,7 @@ use Rattle.std.specs.Prelude.{List}
 use Rattle.std.proofs.Common.{sym, subst, ap, ◌∙◌}
 use Rattle.low_euler.specs.Store.{Store, empty_store}
 use Rattle.undo_journal.specs.declared.record.Record.{Record}
-use Rattle.undo_journal.specs.Held.{journal_of, IsKept}
+use Rattle.undo_journal.specs.Sessions.{journal_of, IsKept}
 use Rattle.undo_journal.proofs.Kept.{kept_start, journal_started}
 use Rattle.undo_journal.proofs.session.Session.new.Goals as goal
 

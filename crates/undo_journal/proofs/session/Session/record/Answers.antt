@@ -2,7 +2,7 @@ use Rattle.std.specs.Prelude.{List, slice_index_or}
 use Rattle.std.proofs.Common.{◌<◌, ◌+◌, length, arith, ap, ◌∙◌}
 use Rattle.undo_journal.specs.declared.record.Record.{Record}
 use Rattle.undo_journal.specs.Recorded.{model_at}
-use Rattle.undo_journal.specs.Held.{Leads}
+use Rattle.undo_journal.specs.Sessions.{Leads}
 use Rattle.undo_journal.proofs.Seen.{within, leads_seen, records_seen}
 use Rattle.undo_journal.proofs.session.Session.record.Goals as goal
 

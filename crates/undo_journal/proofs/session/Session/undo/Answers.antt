@@ -7,7 +7,7 @@ use Rattle.euler_operators.specs.Conditions.{verdict, first_refusal, never}
 use Rattle.euler_operators.specs.declared.Why.TheVariants.{NothingToUndo}
 use Rattle.low_euler.specs.Ready.{IsReady}
 use Rattle.undo_journal.specs.Machine.{depth}
-use Rattle.undo_journal.specs.Held.{journal_of, AllHaveRoom, IsKept, all_after}
+use Rattle.undo_journal.specs.Sessions.{journal_of, AllHaveRoom, IsKept, all_after}
 use Rattle.undo_journal.proofs.Journals.{goes_back}
 use Rattle.undo_journal.proofs.Rooms.{record_room}
 use Rattle.undo_journal.proofs.Kept.{kept_undo}

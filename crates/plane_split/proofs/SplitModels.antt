@@ -9,7 +9,7 @@ use Rattle.shapes.specs.split.Sides.{some_above, some_below}
 use Rattle.shapes.specs.split.Split.{split_model}
 use Rattle.split_laws.proofs.Whole.{split_sound}
 use Rattle.split_laws.proofs.measures.Parts.{parts_there, volumes_shared, others_kept, vertices_sided}
-use Rattle.plane_split.specs.Held.{IsSplit}
+use Rattle.plane_split.specs.SplitModels.{IsSplit}
 
 module _ (before after : Machine) (s : ℕ) (p : Plane) (t : ℕ) (sound : Sound (held before)) (done : IsSplit before after s p t) where
   pub held_is : held after ≡ split_model (held before) s p t
