@@ -1,3 +1,4 @@
+#![tactic(auto)]
 //! Rows by number, and what an arena of rows and rings of half-edges stands for.
 //!
 //! `rows` has the rows of faces and of loops. `owner_chains` holds items by owner: each owner's items, from the least to the greatest. `ring_spots` holds half-edges
@@ -10,7 +11,6 @@
 //! Items that have owners (`Chains`): `insert` and `remove` are equations on the table of owners, `count` is how many items an
 //! owner has, `after` its least item above a number; `reach_owner`, `reach_item` keep all, also on `AllocError`; `copy` is equal.
 //! Rings of half-edges (`EdgeRings`), on which `halfedge_arena` stands with the rows.
-#![tactic(auto)]
 
 mod owner_chains;
 mod ring_spots;

@@ -1,3 +1,4 @@
+#![tactic(auto)]
 //! Blocks machined, as a stranger to the workbench would write it. A block is made, a face of it swept up, the sweep taken back, and an
 //! operator tried in a draft that is given up. And a block is made longer by a second one that is glued to it, and cut in two. What the
 //! functions say of volumes, sides and undo is proved from the contracts of the calls and the laws beside them alone.
@@ -17,7 +18,6 @@
 //! side of the first at which they meet still has its corners, which are those of the second one's, the other way round. The block
 //! made longer by the second one glued to it has 180; and so have its two parts once it is cut, with four commands to undo. A list
 //! of four calls in one is told what the plain machine may tell, and leads to a machine that may come of them, which is consistent.
-#![tactic(auto)]
 
 mod blocks;
 mod commands;

@@ -1,3 +1,4 @@
+#![tactic(auto)]
 //! The words of a boundary model: half-edges, corners and kinds of numbers. Its definitions stand in specs/:
 //! tables, the model of solids, faces, loops, edges and vertices, and when a model is sound.
 //!
@@ -5,7 +6,6 @@
 //!
 //! The definitions of model and soundness; `mate`, `code`, `of_code` of half-edges; `plus`, `minus`: the two half-edges of an
 //! edge.
-#![tactic(auto)]
 
 ghost use Rattle.std.specs.Prelude.{◌≡◌, ◌≤◌};
 ghost use Rattle.boundary_model.specs.HalfEdge as half_edge;

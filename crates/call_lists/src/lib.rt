@@ -1,3 +1,4 @@
+#![tactic(auto)]
 //! Lists of calls: a session taken through any list of commands, drafts, undos and redos, with one answer a call.
 //!
 //! `calls` has what a call is and what it is told; `making` makes one call, or a whole list; `drafts` has the draft of a call.
@@ -12,7 +13,6 @@
 //! commands can be undone and redone is counted from the calls and answers, and so many undos and redos lead to the empty model
 //! and to the last one. `lists_have_one_answer`: where no answer is `Memory` there is one list of answers, and one machine after
 //! it.
-#![tactic(auto)]
 
 mod calls;
 mod drafts;

@@ -1,3 +1,4 @@
+#![tactic(auto)]
 //! The laws that a program on top of the workbench needs: what a session holds after a command that was answered Ok, told from what the
 //! call says of it alone. Each function does nothing: its contract is what is proved, over every machine.
 //!
@@ -14,7 +15,6 @@
 //! the solid that goes, but for the first face and its loop. What `counts` answers of the solid after a lamina, a block, a sweep of
 //! any face, and a glue, told from what it answered before, and that it answers of every other solid what it did. What a split
 //! leaves as it was is proved in `split_frames`; what its caps are, and what `counts` answers after it, in `split_caps`.
-#![tactic(auto)]
 
 mod counted;
 mod frames;

@@ -1,3 +1,4 @@
+#![tactic(auto)]
 //! The command line of the program, and how the program ends.
 //!
 //! # What is proved
@@ -6,7 +7,6 @@
 //! succeeds only where clap has no cause to refuse them. Refused memory is no mistake in the words, and help that can't be
 //! written is a write fault (`Trouble`). `status_of` answers the status that belongs to how the program ended, which is how `run`
 //! did; that the process ends with it isn't said.
-#![tactic(auto)]
 
 mod ending;
 mod words;

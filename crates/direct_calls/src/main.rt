@@ -1,10 +1,10 @@
+#![tactic(auto)]
 //! Calls of the kernel that no script reaches, made once each, with what they answer.
 //!
 //! `rings` links codes by the raw rings, `points` orders points, `arenas` copies an arena and changes a loop's content, and `sessions`
 //! goes on after a large lamina, `steps` glues by the steps of a draft. With one word, `lamina`, `act`, `draft` or `copy`, the program makes a lamina of 64
 //! points and then does only what the word says, so that whoever counts allocations or refuses one sees what that call asks for; with `committed` or
 //! `abandoned` it takes the steps of a glue.
-#![tactic(auto)]
 
 mod arenas;
 mod points;

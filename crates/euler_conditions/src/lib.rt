@@ -1,9 +1,9 @@
+#![tactic(auto)]
 //! The conditions of the Euler operators, tested on an arena: the first false one is named.
 //!
 //! # What is proved
 //!
 //! `check` is Ok exactly where all conditions hold, else it names the first false one, with its value, for every operator.
-#![tactic(auto)]
 
 mod corners;
 mod ends;

@@ -1,3 +1,4 @@
+#![tactic(auto)]
 //! The laws of the Euler operators: an accepted operator keeps a sound model sound (`effects_are_sound`), its inverse takes it back
 //! (`inverses_undo`), so for lists of operators (`runs_are_undone`), and how the Euler number grows (`euler_number_grows`). Each
 //! function does nothing: its contract is what is proved, over every sound model and every operator whose conditions hold in it.
@@ -16,7 +17,6 @@
 //! r grows by 2 at mvfs and mfkrh, falls by 2 at kvfs and kfmrh, and stays at every other operator.
 //! `refusals_name_the_first_false`: of any conditions in their order nothing is refused exactly where each holds, else the first
 //! that doesn't.
-#![tactic(auto)]
 
 ghost use Rattle.euler_laws.specs.Laws.{NothingIsRefusedWhereAllHold, RefusalsNameTheFirstFalse, EmptyIsSound, EffectsAreSound, InversesAreAccepted, InversesUndo, RunsAreSound, InversesOfRunsAreAccepted, InversesOfRunsUndo, LoopsAreOuterOrRings, EulerNumberGrows};
 

@@ -1,10 +1,10 @@
+#![tactic(auto)]
 //! Euler operators and their conditions.
 //!
 //! # What is proved
 //!
 //! The definitions of conditions, effects and inverses, checked by computation against worked scripts; `FaceList` is a list;
 //! `Why::code` is the printed number.
-#![tactic(auto)]
 
 ghost use Rattle.std.specs.Prelude.{◌≡◌, ℕ, List, [], ◌++◌, ◌∷◌, length, OnOk, OnErr, Err, slice_index, ◌<◌};
 ghost use Rattle.euler_operators.specs.Refusal.{code_of};

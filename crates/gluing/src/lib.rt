@@ -1,3 +1,4 @@
+#![tactic(auto)]
 //! Gluing: two solids become one along a face of each, as one command.
 //!
 //! `glue_checks` tests the conditions on an arena, in their order; `joining` glues the two faces operator by operator in a draft.
@@ -10,7 +11,6 @@
 //! first false condition and its value; else `Memory`, which may come in place of a refusal; on any failure the session is as it
 //! was, the models ahead included. No operator inside is ever refused. `glue_measures`: what the six volumes of each solid of the
 //! session are after it.
-#![tactic(auto)]
 
 mod command;
 mod glue_checks;

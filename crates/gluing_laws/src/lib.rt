@@ -1,3 +1,4 @@
+#![tactic(auto)]
 //! The laws of glues: two solids glued together operator by operator, at a face of each (`glues_make_glued`), and their volumes
 //! (`glues_add`). Each function does nothing: its contract is what is proved, over every sound model and every glue that isn't refused.
 //!
@@ -8,7 +9,6 @@
 //! `glues_make_glued`: from a sound model and true conditions the operators of a glue are accepted, each in its turn, and
 //! together make exactly the model that `shapes` writes down, which is sound. `glues_add`: the six volumes of the two solids add,
 //! and every other solid keeps its own.
-#![tactic(auto)]
 
 ghost use Rattle.gluing_laws.specs.glue.Laws.{GluesAreAccepted, GluesMakeGlued, GluedAreSound};
 ghost use Rattle.gluing_laws.specs.Laws.{GlueAdds, OthersStay};

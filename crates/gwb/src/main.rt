@@ -1,3 +1,4 @@
+#![tactic(auto)]
 //! The Geometric WorkBench: reads a script from a file or from standard input and answers each command on standard output.
 //!
 //! Statuses: 0 where each command was answered and none refused, 1 where some reply begins with `refused`, `fault` or
@@ -8,7 +9,6 @@
 //!
 //! A script is answered as `run` promises (`answer`). The words of the command line and the exit status are `command_line`'s, and
 //! proved there; that the process ends with that status isn't said.
-#![tactic(auto)]
 
 ghost use Rattle.command_line.specs.Endings.{Answered};
 

@@ -1,3 +1,4 @@
+#![tactic(auto)]
 //! The workbench as a static library for C: a session or a draft behind a handle, lines that are answered, and readers of the model shown.
 //!
 //! `exports` has the calls that take and give text, `operators`, `larger`, `laminas`, `parts` and `queries` those that are a command each,
@@ -15,7 +16,6 @@
 //! draft (`Carries`, and `Parts` where its faces are listed); a query tells what the model shown gives (`Asks`), and writes what the
 //! reader of its answer writes (`Tells`). A draft that is committed is one command, and one that is abandoned leaves no trace
 //! (`Slot_ends`); what a draft or a session has not changes nothing (`CallsOfSession`, `CallsOfDraft`).
-#![tactic(auto)]
 
 mod drafts;
 mod exports;

@@ -1,3 +1,4 @@
+#![tactic(auto)]
 //! The Euler operators in place. A caller tests an operator by `check`, asks for its room by `room_op`, and then applies it: by
 //! `apply`, which answers the operator that takes it back, or by `replay`, which answers nothing. `advance` is `room_op` and `apply`
 //! in one. Only `room_op` and `advance` take memory.
@@ -13,7 +14,6 @@
 //! leaves the effect, a sound model, and answers the inverse, which is accepted and takes the arena back; `replay` has the same
 //! effect. Neither can fail. `advance` makes the room, leaves the effect and writes the inverse; what the operator and its inverse make
 //! has its room then; on `AllocError` model and room are as after `room_op`.
-#![tactic(auto)]
 
 mod advancing;
 mod applying;

@@ -1,6 +1,6 @@
+#![tactic(auto)]
 //! Machines blocks and says what they measure. What is said of volumes and commands is proved before it is written: each function has it from
 //! `block_machining`, which makes the blocks.
-#![tactic(auto)]
 
 use block_machining::{known, machined, made, parted, taken_back};
 use call_lists::Told;

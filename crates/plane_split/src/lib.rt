@@ -1,3 +1,4 @@
+#![tactic(auto)]
 //! Splitting: a solid is cut by a plane into two, as one command.
 //!
 //! `command` tests the conditions and makes the split one command; `steps` has the three rewritings one after the other; `solid_opening`
@@ -16,7 +17,6 @@
 //! it is refused once the faces are drawn. No operator inside is ever refused. `splits_are_held`: whoever called `split` and was
 //! answered Ok holds a sound model in which both parts are solids, which share the six volumes of the one, every other solid
 //! keeping its own, and in which no vertex of the part that keeps the number lies above the plane, none of the other below it.
-#![tactic(auto)]
 
 mod command;
 mod laws;

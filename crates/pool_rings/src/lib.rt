@@ -1,6 +1,6 @@
+#![tactic(auto)]
 //! What a splice makes of the rings of a pool. The function does nothing: its contract is what is proved, of any two pools of which the
 //! contract of `Rings::splice` says that the second is the first with two successors exchanged.
-#![tactic(auto)]
 
 ghost use Rattle.pool_rings.specs.Laws.{SplicedPoolsCut, SplicedPoolsJoin, SplicedPoolsKeepOthers, SplicedPoolsStay, PoolsLeadBack};
 

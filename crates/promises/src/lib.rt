@@ -1,3 +1,4 @@
+#![tactic(auto)]
 //! What holds of the workbench, in one file. Each function has a promise as its contract. The laws do nothing but call those that they
 //! sum up, which do nothing either: what they say is proved in the crates where they stand, over every machine, every sound model and
 //! every list of calls. The calls do nothing but make the call of that meaning. The first has the headline, the last runs a script.
@@ -34,7 +35,6 @@
 //! `split_solids_are_held`); listings tell models (`listings_tell_models`), and a script has one output
 //! (`scripts_have_one_output`). `every_line_is_answered` runs a script with the contract of `run`. What else single calls answer
 //! is said by their own crates, which the head of the file names.
-#![tactic(auto)]
 
 ghost use Rattle.std.specs.Prelude.{◌≡◌, ◌↔◌, ◌+◌, ◌<◌, OnOk, OnErr, IfOk, IfErr, None, Some, Err, slice_index_or};
 ghost use Rattle.call_lists.specs.Conditions.{first_false, verdict};

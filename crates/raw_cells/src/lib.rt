@@ -1,3 +1,4 @@
+#![tactic(auto)]
 //! Cells and rows by number, in memory that isn't written before a number comes into use.
 //!
 //! A new block is room alone: the system gives its pages as they are touched. So a block for all numbers costs what is used of it.
@@ -11,7 +12,6 @@
 //!
 //! Numbers in use: `put` and `take` are equations on which numbers are, `contains` tells of one, `after` the least one above a number,
 //! and `last` the greatest; `reach` keeps all, also on `AllocError`; `copy` is equal. Rows by number (`Rows`): the same of rows.
-#![tactic(auto)]
 
 mod block;
 mod cells;

@@ -1,3 +1,4 @@
+#![tactic(auto)]
 //! Reads a script: its bytes as lines, and a line as a command or a fault.
 //!
 //! Each function of `laws` does nothing: its contract is a law of the lines or of the grammar.
@@ -7,7 +8,6 @@
 //! `read_line` is the grammar of the script, for every command word; what is read is spelled so and the other way, and each fault
 //! has its cause, the first from the left. `Lines` gives the lines of the bytes read, for every way in which a reader cuts them.
 //! A read that a signal interrupts is tried again, at most 1,000,000 times in a row.
-#![tactic(auto)]
 
 mod buffer;
 mod command;

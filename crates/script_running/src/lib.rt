@@ -1,3 +1,4 @@
+#![tactic(auto)]
 //! Running: a whole script answered, from the bytes of a reader to those of a writer.
 //!
 //! `script_judging` has the answer to one line, and what its command does to the session; `running` the lines one after the other.
@@ -17,7 +18,6 @@
 //! lines that came with their newlines are answered; after a write fault a prefix of the replies is out; and where the first
 //! memory was refused nothing was read or written. It returns for every reader. `one_output`: where no reply is `memory`, the
 //! lines of a script have one output, and one summary.
-#![tactic(auto)]
 
 mod laws;
 pub mod laws_below;

@@ -1,3 +1,4 @@
+#![tactic(auto)]
 //! Sessions and drafts in slots: a session or a draft of its next command, beside the answer to the last command and the greatest numbers
 //! in use before it.
 //!
@@ -14,7 +15,6 @@
 //! more (`Slot_asks`). `commit` makes a draft one command, and `abandon` leaves no trace of it (`Slot_ends`). The greatest numbers in use are
 //! those of the model shown, whatever was done. What the last answer told, and what a reader tells, are equations, but for where a loop's
 //! list of half-edges begins.
-#![tactic(auto)]
 
 mod answers;
 mod arguments;

@@ -1,3 +1,4 @@
+#![tactic(auto)]
 //! Shapes, as definitions and their laws: what belongs to a face or a solid, walks over these, the fresh numbers that a larger command
 //! takes, rewritings of whole tables, the models that a lamina, a sweep and a block make, and normals, planes and volumes.
 //!
@@ -13,4 +14,3 @@
 //! the model that it makes; the conditions of a split and the model that it makes, as three rewritings. The definitions of
 //! normals, planes and volumes, and that sums over half-edges may be joined and turned. The laws of walks over the faces of a
 //! solid, the loops of a face and the half-edges of a loop.
-#![tactic(auto)]

@@ -1,3 +1,4 @@
+#![tactic(auto)]
 //! The texts that the workbench writes: replies and listings.
 //!
 //! `listing_tells` does nothing: its contract is the law that a listing says all of a sound model.
@@ -7,7 +8,6 @@
 //! `write_reply` and `write_listing` write exactly their text, or on a fault a prefix of it. `tell_reply` and `tell_listing` put it behind
 //! a `Text` that is pending, of which a front may go out; `release` writes all of that. Two sound models have equal listings exactly
 //! where they are equal.
-#![tactic(auto)]
 
 mod cycle;
 mod entry;

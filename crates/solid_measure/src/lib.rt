@@ -1,3 +1,4 @@
+#![tactic(auto)]
 //! Measures of a boundary model: normals, planes, volumes and counts. Nothing here takes memory, and every number is exact.
 //!
 //! `solid_counts` counts what a solid has; `solid_checks` says what the larger commands ask of whole solids: that no loop is lone, and
@@ -10,7 +11,6 @@
 //! `normal`, `plane`, `is_flat`, `six_volume` are the sums over the model, refused exactly where NumberRange, or after it NoFace
 //! or NoSolid, is false. All partial sums fit 128 bits. The least lone loop, and the least face that isn't flat, of one solid or
 //! of two.
-#![tactic(auto)]
 
 mod faces;
 mod loops;

@@ -1,3 +1,4 @@
+#![tactic(auto)]
 //! The laws of normals and volumes (`flat_faces`, `turned_loops`, `moved_solids_keep_volumes`) and of cut points (`cut_points`). Each
 //! function does nothing: its contract is what is proved.
 //!
@@ -9,7 +10,6 @@
 //! model's solid sum to nothing, so a solid that is moved keeps its six volumes, and each face its normal. `cut_points`: the cut
 //! point lies on the plane, strictly inside the segment, and on each plane on which both ends lie; and where a lattice point lies
 //! so, it is the cut point, so that there is none only where no lattice point lies so.
-#![tactic(auto)]
 
 ghost use Rattle.solid_measure_laws.specs.Laws.{FlatFaces, ToldAnywhere, ToldFromCorners, TurnedPaths, OpposedFaces, TurnedFaces, InvertedSolids, ShiftedFaces, ShiftedSolids, ClosedSolids, MovedSolids, CutsOnPlane, CutsInside, CutsMissNone, CutsOnEachPlane, CutsKeepAreas, CutsEitherWay};
 

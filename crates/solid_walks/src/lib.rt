@@ -1,3 +1,4 @@
+#![tactic(auto)]
 //! Walks over a solid: from face to face and from loop to loop, round a loop, and round a vertex. Beside them, the lone loops of a face,
 //! and the numbers that are left for what a larger command makes.
 //!
@@ -11,7 +12,6 @@
 //! What an iterator gives is the list itself: the faces of a solid, rising; the loops of a face, the outer one first, then the rings,
 //! rising; the half-edges of a loop, each once, from the given one or from the least on. `leads`: whether a half-edge is of the least edge
 //! at its vertex, by a walk both ways round it. The least lone loop of a face.
-#![tactic(auto)]
 
 mod around;
 mod codes;

@@ -1,3 +1,4 @@
+#![tactic(auto)]
 //! The caps of a split, and what its two parts count, told from what the call says of it alone. Each function does nothing: its contract
 //! is what is proved, over every machine.
 //!
@@ -13,7 +14,6 @@
 //! section and its holes alone. Of every other solid `counts` answers what it did. Not proved: that the holes of a section have less
 //! area than its outer cycle, so that the cap below points along the direction then too; what each part counts alone; the faces and
 //! the rings apart from each other by the section.
-#![tactic(auto)]
 
 ghost use Rattle.split_caps.specs.Counted.{SplitSharesCounts, SplitSharesSums, SplitMakesCounts, SplitKeepsCounts};
 ghost use Rattle.split_caps.specs.Laws.{CapsAreNumbered, CapsStand, HolesAreClosed, CapsHaveNormals, CapsFaceApart};

@@ -1,3 +1,4 @@
+#![tactic(auto)]
 //! What a plane meets of a solid, and whether it can begin to split it, tested before anything is changed.
 //!
 //! `cut_places` looks at each corner of a solid once, and tells on which sides of the plane corners lie, which edges cross it, which
@@ -15,7 +16,6 @@
 //! conditions with which a split begins, with its value; or none, and then exactly what the plane cuts of the solid: the edges that
 //! cross it, rising, each with the point at which it meets it; the faces that straddle it, rising, each with how many pairs of cut
 //! places it has; and these pairs, one face after the other; or `AllocError`.
-#![tactic(auto)]
 
 mod begin_checks;
 mod cut_places;

@@ -1,3 +1,4 @@
+#![tactic(auto)]
 //! The first two rewritings of a split, in a draft: crossing edges are cut, and straddling faces drawn.
 //!
 //! `edge_cutting` cuts the edges; `face_drawing` draws edges in one face, `solid_drawing` in all of a solid.
@@ -12,7 +13,6 @@
 //! is ever refused. `draw_solid`: from a draft in whose model the first conditions of a split hold, and what the plane cuts there
 //! of the solid, Ok only with exactly the model of the first two rewritings, the numbers taken and the first face that can't be
 //! drawn included, else `AllocError`; the session that the draft came from stands either way. No operator inside is ever refused.
-#![tactic(auto)]
 
 mod edge_cutting;
 mod face_drawing;

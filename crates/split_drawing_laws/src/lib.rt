@@ -1,3 +1,4 @@
+#![tactic(auto)]
 //! The laws of the first two rewritings of a split: the edges that cross the plane are cut, and edges are drawn between the cut places
 //! of faces; on which side of the plane loops and faces lie then, and what the volumes are. The functions do nothing: their contracts
 //! are what is proved, over every sound model in which the first conditions of a split hold.
@@ -20,7 +21,6 @@
 //! are even in number (`cut_places_can_be_drawn`). From the same conditions, cutting edges and drawing faces keeps the six
 //! volumes of every solid, and each face of the solid lies on the plane of a face that it had before (`crossings_keep_volumes`,
 //! `drawings_keep_volumes`).
-#![tactic(auto)]
 
 ghost use Rattle.split_drawing_laws.specs.crossings.Laws.{CrossingsAreAccepted, CrossingsAreMade, CrossingsAreSound, CrossingsAreCounted, CrossingsKeep, NoneCrosses, PlacesStart, TailsStay};
 ghost use Rattle.split_drawing_laws.specs.drawings.Laws.{DrawingsAreAccepted, DrawingsAreMade, DrawingsAreSound, DrawingsKeep};

@@ -1,3 +1,4 @@
+#![tactic(auto)]
 //! The laws of splits: a solid split by a plane operator by operator, the six volumes of its two parts, and the sides on which they
 //! lie. The functions do nothing: their contracts are what is proved, over every sound model and every split that isn't refused.
 //!
@@ -20,7 +21,6 @@
 //! parts are solids of the model, their six volumes sum to those of the solid, and every other solid keeps its own
 //! (`parts_share_volumes`); and no vertex of the solid that keeps its number lies above the plane, none of the new one below it,
 //! since no loop of either is lone (`parts_lie_on_either_side`).
-#![tactic(auto)]
 
 ghost use Rattle.split_laws.specs.drawn.Laws.{DrawingsKeepSolids, SolidsHaveAFaceAbove, SolidsHaveAFaceBelow, SectionsOpenInTurn};
 ghost use Rattle.split_laws.specs.Laws.{OpeningsAreAccepted, OpeningsAreMade, SplitsAreAccepted, SplitsMakeSplit, SplitAreSound};

@@ -1,3 +1,4 @@
+#![tactic(auto)]
 //! The laws of the third rewriting of a split: the cycles of a section, and a solid opened along one of them, operator by operator:
 //! strips cut off, copies raised, caps closed. The functions do nothing: their contracts are what is proved, of the cycles over every
 //! sound model and every list of faces of a solid, and of the openings over every model and every cycle along which a solid can be opened.
@@ -14,7 +15,6 @@
 //! along all, after which no edge lies between an upper face and another. `cycles_open_solids`: the operators that open a solid
 //! along one such cycle are accepted, each in its turn, and together make exactly the third rewriting for it, which is sound:
 //! strips cut off above the edges, copies raised at the vertices, and caps made of the strips.
-#![tactic(auto)]
 
 ghost use Rattle.split_opening_laws.specs.cycles.Laws.{BelowHalvesRise, BelowHalvesAre, AsManyStartAsEnd, OneStartsAndOneEnds, NextBelowPermutes, CyclesCover, CyclesRise, CyclesLeadRound, CyclesAreApart};
 ghost use Rattle.split_opening_laws.specs.sections.Laws.{CyclesStay, NumbersStayFree, SectionsCanBeOpened, OpeningsAreSound, OthersCanBeOpened, AllAreOpened, NoneIsTorn, CapsStay, CapsRise};

@@ -1,3 +1,4 @@
+#![tactic(auto)]
 //! The section of a solid by a plane once its faces are drawn: its edges, its cycles, and what is tested then.
 //!
 //! `section_edges` has the faces above the plane and the halves below of the section's edges; `section_cycles` the cycles that these
@@ -12,7 +13,6 @@
 //! halves, each from its least on, by these, with word on which are holes, where the normal of a cycle's cap below points against
 //! the plane; or `AllocError`. `check_later`: of the conditions of a split that are tested once the faces are drawn the first false
 //! one, with its value, or the faces above and the cycles of the section with word on which are holes, or `AllocError`.
-#![tactic(auto)]
 
 mod section_checks;
 mod section_cycles;

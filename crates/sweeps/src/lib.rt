@@ -1,3 +1,4 @@
+#![tactic(auto)]
 //! Commands that make shapes: a lamina, a block, a sweep of a face. Each is one command of the journal. What they make of volumes
 //! is said by `lamina_measures`, `block_measures` and `sweep_measures`.
 //!
@@ -7,7 +8,6 @@
 //! model, and one record; refused exactly where a condition is false, with the first such and its value; on any failure the
 //! session is as it was, the models ahead included. No operator inside is ever refused. `sweep_measures`, `block_measures`,
 //! `lamina_measures`: what the six volumes of each solid of the session are after a command, from what they were before.
-#![tactic(auto)]
 
 mod blocks;
 mod corners;

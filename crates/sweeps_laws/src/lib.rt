@@ -1,3 +1,4 @@
+#![tactic(auto)]
 //! The laws of laminas, blocks and sweeps: their operators are accepted in turn and together make the model
 //! (`operators_make_lamina`, `operators_make_blocks`, `sweeps_make_prisms`), and what they measure (`sweeps_add`, `blocks_measure`,
 //! `laminas_measure`). Each function does nothing: its contract is what is proved, over every sound model in which the command's
@@ -14,7 +15,6 @@
 //! solid, N the normal of the face before, for bent faces and faces with rings too. `blocks_measure`: a block has six times the
 //! product of its sizes. `laminas_measure`: a lamina has the difference of its first two points along the normal of its first
 //! face, which is nothing where that face is flat. Every other solid keeps its own in each of these.
-#![tactic(auto)]
 
 ghost use Rattle.sweeps_laws.specs.lamina.Laws.{OperatorsAreAccepted, OperatorsMakeLamina, LaminaIsSound, BlocksHaveBases, BasesRise};
 ghost use Rattle.sweeps_laws.specs.prism.Laws.{SweepsAreAccepted, SweepsMakePrisms, PrismsAreSound};

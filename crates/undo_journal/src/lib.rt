@@ -1,3 +1,4 @@
+#![tactic(auto)]
 //! The undo journal: a session of commands, each of which can be undone and redone without limit, and drafts of commands.
 //!
 //! A session holds one arena. Each command leaves a record: its operators, and those that take it back. `undo` and `redo`
@@ -20,7 +21,6 @@
 //! where there was none) or takes them back (`abandon`, after which the models ahead stand); a failed step changes nothing;
 //! `step_accepted`, for an operator that is known to be accepted, fails only on refused memory; `commit` and `abandon` always
 //! succeed.
-#![tactic(auto)]
 
 mod draft;
 mod laws;
