@@ -30,7 +30,7 @@ use Rattle.shapes.proofs.glue.Facing as facing
 use Rattle.shapes.proofs.glue.Facing.{Facing}
 use Rattle.shapes.proofs.glue.Facts as facts
 use Rattle.shapes.proofs.glue.Renamings.{without_first, without_there}
-use Rattle.gluing_laws.proofs.glue.Accepted.{glued_sound}
+use Rattle.gluing_laws.proofs.glue.Glued.{glued_sound}
 use Rattle.gluing_laws.proofs.glue.Ending.{glued_all}
 use Rattle.solid_measure.specs.solid_counts.Counts.{counts, rings_in}
 use Rattle.undo_journal.specs.Machine.{held}

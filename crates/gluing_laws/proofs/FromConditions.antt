@@ -12,7 +12,7 @@ use Rattle.shapes.proofs.glue.Facts as facts
 use Rattle.shapes.proofs.glue.Facts.{facing}
 use Rattle.gluing_laws.proofs.glue.Ending.{glued_all, glued_along_is}
 use Rattle.gluing_laws.proofs.Seams.{Seamed, Glued}
-use Rattle.gluing_laws.proofs.Adding.{solids_add, others_stay}
+use Rattle.gluing_laws.proofs.Measures.{solids_add, others_stay}
 
 seamed : (M : Model) (f g : ℕ) → Sound M → glue_refusal M f g ≡ None → Seamed M f g (partner M (rim M g)) (rim M f) (rim M g)
 seamed M f g sound e = let w = facing M f g sound e in record {

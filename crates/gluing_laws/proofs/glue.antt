@@ -3,4 +3,4 @@ pub mod Stages
 pub mod Turn
 pub mod Ending
 pub mod Opening
-pub mod Accepted
+pub mod Glued

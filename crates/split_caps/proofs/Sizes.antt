@@ -33,7 +33,7 @@ use Rattle.split_opening_laws.specs.sections.InTurn.{CanBeOpenedInTurn, halves_i
 use Rattle.split_opening_laws.specs.Numbers.{AreFree}
 use Rattle.split_opening_laws.proofs.sections.InTurn.{openings_carry}
 use Rattle.split_opening_laws.proofs.sections.OpenedRows as opened
-use Rattle.split_opening_laws.proofs.sections.Pairs.{rim_above}
+use Rattle.split_opening_laws.proofs.sections.Numbered.{rim_above}
 
 none : (n : ℕ) → n ≡ n + 0
 none n = omega arith

@@ -36,7 +36,7 @@ use Rattle.split_opening_laws.specs.strips.Opened.{CanBeOpened}
 use Rattle.split_opening_laws.proofs.opening.Whole.{opened_sound}
 use Rattle.split_opening_laws.proofs.sections.InTurn.{can_open, openings_carry}
 use Rattle.split_opening_laws.proofs.sections.OpenedRows.{upper_row, edges_are, face_still, faces_are, loop_row}
-use Rattle.split_opening_laws.proofs.sections.Pairs.{renamed_not, rim_below}
+use Rattle.split_opening_laws.proofs.sections.Numbered.{renamed_not, rim_below}
 use Rattle.split_laws.specs.SplitOps.{closing_ops}
 use Rattle.split_laws.proofs.Flags.{vertex_still}
 use Rattle.split_laws.proofs.opened.Caps.{loop_kinds, lower_row}

@@ -23,7 +23,7 @@ use Rattle.split_opening_laws.specs.cycles.SectionCycles.{IsSectionCycle, AreSec
 use Rattle.split_opening_laws.specs.Numbers.{AreFree}
 use Rattle.split_opening_laws.specs.sections.InTurn.{CanBeOpenedInTurn}
 use Rattle.split_opening_laws.specs.sections.Capped.{cap_faces}
-use Rattle.split_opening_laws.proofs.sections.Pairs.{in_numbers, other_number}
+use Rattle.split_opening_laws.proofs.sections.Numbered.{in_numbers, other_number}
 use Rattle.split_opening_laws.proofs.sections.OpenedRows.{vertices_are, face_still}
 use Rattle.split_opening_laws.proofs.sections.StillFree.{copied_other}
 use Rattle.split_opening_laws.proofs.sections.StillBetween.{start_same, end_same, starts_elsewhere}

@@ -1,4 +1,4 @@
-pub mod Pairs
+pub mod Numbered
 pub mod StillFree
 pub mod OpenedRows
 pub mod StillBetween

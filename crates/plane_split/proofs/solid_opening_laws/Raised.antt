@@ -17,7 +17,7 @@ use Rattle.euler_laws.specs.Laws.{effects}
 use Rattle.euler_laws.proofs.Runs.{effects-append}
 use Rattle.shapes.specs.Fresh.{Taken, numbers_after}
 use Rattle.shapes.specs.Rewriting.{renamed}
-use Rattle.split_opening_laws.proofs.sections.Pairs.{in_numbers}
+use Rattle.split_opening_laws.proofs.sections.Numbered.{in_numbers}
 use Rattle.split_opening_laws.proofs.sections.StillFree.{copied_other}
 use Rattle.split_opening_laws.specs.strips.Strips.{copy_riser, copied, strips_cut, copies_raised}
 use Rattle.split_opening_laws.specs.strips.StripOps.{place_before, raise_copy, copy_ops}

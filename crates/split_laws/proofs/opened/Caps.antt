@@ -36,7 +36,7 @@ use Rattle.split_opening_laws.proofs.sections.InTurn.{plain_alone, plain_lower, 
 use Rattle.split_opening_laws.proofs.sections.OpenedRows.{loops_are, upper_row}
 use Rattle.split_laws.specs.opened.Told.{LiesAlong}
 use Rattle.split_laws.proofs.opened.Starts.{start_old, finish_old, back_along}
-use Rattle.gluing_laws.proofs.Adding.{only_loop}
+use Rattle.gluing_laws.proofs.Measures.{only_loop}
 
 -- ---- lists
 

@@ -34,7 +34,7 @@ use Rattle.split_opening_laws.specs.strips.Opened.{CanBeOpened}
 use Rattle.split_opening_laws.specs.sections.InTurn.{halves_in, CanBeOpenedInTurn}
 use Rattle.split_opening_laws.specs.sections.Capped.{ArePlain, HasCaps}
 use Rattle.split_opening_laws.proofs.sections.OpenedRows.{faces_are, loop_row, face_still, upper_row}
-use Rattle.split_opening_laws.proofs.sections.Pairs.{renamed_not}
+use Rattle.split_opening_laws.proofs.sections.Numbered.{renamed_not}
 use Rattle.split_opening_laws.proofs.sections.StillBetween.{there_in}
 use Rattle.split_opening_laws.proofs.sections.InTurn.{can_open, openings_carry, capped_carry, opened_next, new_caps}
 use Rattle.gluing_laws.proofs.Listed.{one_if, passed, count_where, same_search, volume_of, volume_same, same_volumes}

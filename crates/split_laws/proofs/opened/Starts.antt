@@ -22,7 +22,7 @@ use Rattle.split_opening_laws.specs.strips.Opened.{CanBeOpened}
 use Rattle.split_opening_laws.specs.strips.Strips.{copied}
 use Rattle.split_opening_laws.proofs.strips.Copied.{points_next}
 use Rattle.split_opening_laws.proofs.strips.Cycle.{next_within, low_vertex, next_copy}
-use Rattle.split_opening_laws.proofs.sections.Pairs.{length-numbers_after, numbers_at, renamed_cases, rim_row, rim_at}
+use Rattle.split_opening_laws.proofs.sections.Numbered.{length-numbers_after, numbers_at, renamed_cases, rim_row, rim_at}
 use Rattle.split_opening_laws.proofs.sections.OpenedRows.{edges_are, vertices_are, tail_is}
 use Rattle.split_laws.proofs.Flags.{vertex_still}
 

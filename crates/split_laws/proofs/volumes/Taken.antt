@@ -25,7 +25,7 @@ use Rattle.shapes.proofs.measures.FlatFaces.{told_alike}
 use Rattle.shapes.proofs.measures.Products.{cross_moved}
 use Rattle.shapes.proofs.measures.Sums.{area_same}
 use Rattle.gluing_laws.proofs.Listed.{one_if, passed, count_where, same_search, volume_of, volume_same}
-use Rattle.gluing_laws.proofs.Adding.{only_loop}
+use Rattle.gluing_laws.proofs.Measures.{only_loop}
 use Rattle.split_laws.specs.opened.Told.{LiesAlong, OutersAreOwn}
 use Rattle.split_laws.proofs.opened.Caps.{anchor_along, SamePlaces, same_start, same_area, same_anchor}
 use Rattle.shapes.proofs.walks.FaceLoops.{items_joined}

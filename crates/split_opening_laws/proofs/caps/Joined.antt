@@ -29,7 +29,7 @@ use Rattle.shapes.specs.Rewriting.{without_rows}
 use Rattle.shapes.specs.Prism.{next_place}
 use Rattle.sweeps_laws.proofs.lamina.Lists.{canonical_first, numbers_last}
 use Rattle.sweeps_laws.proofs.prism.Sides.{next_inner}
-use Rattle.split_opening_laws.proofs.sections.Pairs.{in_numbers}
+use Rattle.split_opening_laws.proofs.sections.Numbered.{in_numbers}
 use Rattle.split_opening_laws.specs.caps.Strips.{HasStrips, strip_riser}
 use Rattle.split_opening_laws.specs.caps.Caps.{joined_loop, joined_part}
 

@@ -30,7 +30,7 @@ use Rattle.shapes.specs.split.Opening.{opened_row, opened_tail}
 use Rattle.split_opening_laws.specs.strips.Strips.{with_rows, put_out, copy_riser, riser_edge, copied, raised_items, raised_loop, raised_edge, copies_raised}
 use Rattle.split_opening_laws.specs.strips.StripOps.{place_before, raise_copy}
 use Rattle.split_opening_laws.specs.strips.Opened.{CanBeOpened}
-use Rattle.split_opening_laws.proofs.sections.Pairs.{rows_low, rows_high, rows_same, rows_map}
+use Rattle.split_opening_laws.proofs.sections.Numbered.{rows_low, rows_high, rows_same, rows_map}
 use Rattle.split_opening_laws.proofs.strips.Cycle as on
 use Rattle.split_opening_laws.proofs.strips.Cycle.{before_below, before_apart, next-before, next_once}
 use Rattle.split_opening_laws.proofs.copies.Raised as raised

@@ -28,7 +28,7 @@ use Rattle.shapes.specs.Rewriting.{rewritten_row, renamed}
 use Rattle.shapes.specs.split.Opening.{opened_tail, opened_row, with_copies}
 use Rattle.split_opening_laws.specs.strips.Strips.{with_rows, put_out, copy_riser, riser_edge, copied, raised_items, raised_loop, raised_edge, copies_raised}
 use Rattle.split_opening_laws.specs.strips.Opened.{CanBeOpened}
-use Rattle.split_opening_laws.proofs.sections.Pairs.{rows_at, rows_low, rows_split}
+use Rattle.split_opening_laws.proofs.sections.Numbered.{rows_at, rows_low, rows_split}
 use Rattle.split_opening_laws.proofs.strips.Cycle as on
 use Rattle.euler_operators.proofs.Halves.{mate-mate, minus_row, mate_plus, mate_minus}
 use Rattle.split_opening_laws.specs.strips.StripOps.{place_before}

@@ -17,7 +17,7 @@ use Rattle.shapes.specs.split.Opening.{opened_tail, opened_row, with_copies}
 use Rattle.split_opening_laws.specs.strips.Strips.{with_rows, put_out, strip_face, strip_row, copied, raised_loop, raised_edge, strips_cut, copies_raised}
 use Rattle.split_opening_laws.specs.strips.StripOps.{raise_copy, copy_ops}
 use Rattle.split_opening_laws.specs.strips.Opened.{CanBeOpened}
-use Rattle.split_opening_laws.proofs.sections.Pairs.{rows_same}
+use Rattle.split_opening_laws.proofs.sections.Numbered.{rows_same}
 use Rattle.split_opening_laws.proofs.strips.Copied as copy
 use Rattle.split_opening_laws.proofs.copies.Raised.{not_less}
 use Rattle.split_opening_laws.proofs.copies.Copies.{copy_accepted, copy_is}

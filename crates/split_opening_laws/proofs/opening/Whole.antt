@@ -26,7 +26,7 @@ use Rattle.split_opening_laws.specs.caps.Caps.{capped}
 use Rattle.split_opening_laws.specs.strips.StripOps.{strip_ops, copy_ops}
 use Rattle.split_opening_laws.specs.caps.CapOps.{cap_ops}
 use Rattle.split_opening_laws.specs.opening.OpeningOps.{opening_ops}
-use Rattle.split_opening_laws.proofs.sections.Pairs.{rows_at, rows_high, rows_split, rows_low, rim_row}
+use Rattle.split_opening_laws.proofs.sections.Numbered.{rows_at, rows_high, rows_split, rows_low, rim_row}
 use Rattle.split_opening_laws.proofs.strips.Cycle.{next_within, next_copy}
 use Rattle.split_opening_laws.proofs.caps.Joined.{gone_below, gone_within, gone_above}
 use Rattle.split_opening_laws.proofs.strips.Copied.{copy_at}

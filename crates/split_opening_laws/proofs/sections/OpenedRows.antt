@@ -23,7 +23,7 @@ use Rattle.shapes.specs.Rewriting.{rewritten_row, renamed}
 use Rattle.shapes.specs.split.Opening.{opened_tail, opened_row, with_rim, with_copies, both_lists, opened_along}
 use Rattle.shapes.proofs.fresh.Rows.{get-put_cases}
 use Rattle.split_opening_laws.specs.Numbers.{AreFree}
-use Rattle.split_opening_laws.proofs.sections.Pairs.{other_number, rim_below, rim_cases, renamed_one, renamed_not, in_numbers, numbers_in, renamed_onto, length-numbers_after}
+use Rattle.split_opening_laws.proofs.sections.Numbered.{other_number, rim_below, rim_cases, renamed_one, renamed_not, in_numbers, numbers_in, renamed_onto, length-numbers_after}
 
 -- ---- in which faces the half-edges of a section cycle and of its copy lie, once a solid is opened along it
 

@@ -14,7 +14,7 @@ use Rattle.shapes.specs.Fresh.{Taken, numbers_after}
 use Rattle.shapes.specs.Rewriting.{rewritten_row, renamed}
 use Rattle.shapes.specs.split.Opening.{opened_row, both_lists, opened_along, Opening, next_opened}
 use Rattle.split_opening_laws.specs.Numbers.{AreFree}
-use Rattle.split_opening_laws.proofs.sections.Pairs.{in_numbers, rim_above}
+use Rattle.split_opening_laws.proofs.sections.Numbered.{in_numbers, rim_above}
 use Rattle.split_opening_laws.proofs.sections.OpenedRows.{faces_are, loops_are, edges_are, vertices_are}
 
 pub copied_other : (M : Model) (t : Table Point) (xs ys : List ℕ) (q : ℕ) → count q ys ≡ 0 → table.get (fold (λ t p. table.put t p.1 (point_of M p.0)) t (both_lists xs ys)) q ≡ table.get t q

@@ -11,7 +11,7 @@ use Rattle.shapes.specs.Rewriting.{renamed}
 use Rattle.shapes.specs.split.Opening.{with_copies}
 use Rattle.split_opening_laws.specs.strips.Strips.{copied}
 use Rattle.split_opening_laws.specs.strips.Opened.{CanBeOpened}
-use Rattle.split_opening_laws.proofs.sections.Pairs.{length-numbers_after, numbers_at, in_numbers, both_more, both_none, renamed_cases, misses_both, renamed_more}
+use Rattle.split_opening_laws.proofs.sections.Numbered.{length-numbers_after, numbers_at, in_numbers, both_more, both_none, renamed_cases, misses_both, renamed_more}
 use Rattle.split_opening_laws.proofs.strips.Cycle as on
 use Rattle.sweeps_laws.proofs.lamina.Lists.{numbers_last}
 

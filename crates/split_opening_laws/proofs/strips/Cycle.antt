@@ -30,7 +30,7 @@ pub use Rattle.sweeps_laws.proofs.swept.Numbers.{next_cases, next_within}
 use Rattle.split_opening_laws.specs.strips.StripOps.{place_before}
 use Rattle.split_opening_laws.specs.strips.Opened.{CanBeOpened}
 use Rattle.split_opening_laws.specs.strips.Strips.{with_rows, put_out}
-use Rattle.split_opening_laws.proofs.sections.Pairs.{rows_at, rows_low, length-numbers_after, numbers_at, in_numbers, both_more, renamed_cases, misses_both, renamed_more}
+use Rattle.split_opening_laws.proofs.sections.Numbered.{rows_at, rows_low, length-numbers_after, numbers_at, in_numbers, both_more, renamed_cases, misses_both, renamed_more}
 
 -- ---- places round a list
 

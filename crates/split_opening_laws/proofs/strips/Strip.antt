@@ -28,7 +28,7 @@ use Rattle.shapes.proofs.glue.Swapped.{row_stays, row_turns}
 use Rattle.split_opening_laws.specs.strips.Strips.{with_rows, put_out, strip_face, strip_row, strip_edge, strips_cut}
 use Rattle.split_opening_laws.specs.strips.StripOps.{cut_strip}
 use Rattle.split_opening_laws.specs.strips.Opened.{CanBeOpened}
-use Rattle.split_opening_laws.proofs.sections.Pairs.{rows_low, rows_high, rows_same, rows_map}
+use Rattle.split_opening_laws.proofs.sections.Numbered.{rows_low, rows_high, rows_same, rows_map}
 use Rattle.split_opening_laws.proofs.strips.Cycle as on
 
 -- an item of a ring of others, cut before the next one

@@ -16,7 +16,7 @@ use Rattle.shapes.specs.Rewriting.{rewritten, rewritten_row, renamed}
 use Rattle.split_opening_laws.specs.strips.Strips.{strips_cut}
 use Rattle.split_opening_laws.specs.strips.StripOps.{cut_strip, strip_ops}
 use Rattle.split_opening_laws.specs.strips.Opened.{CanBeOpened}
-use Rattle.split_opening_laws.proofs.sections.Pairs.{both_none}
+use Rattle.split_opening_laws.proofs.sections.Numbered.{both_none}
 use Rattle.split_opening_laws.proofs.strips.Strip.{strip_accepted, strip_is}
 
 same_items : (cs : List ℕ) → map (renamed []) cs ≡ cs

@@ -2,7 +2,7 @@ use Rattle.std.proofs.Common.{ap, ◌∙◌}
 use Rattle.shapes.specs.glue.GlueOps.{glue_ops}
 use Rattle.undo_journal.specs.Machine.{held, accepted}
 use Rattle.undo_journal.proofs.Consistent.{larger_commands_are_calls}
-use Rattle.gluing_laws.proofs.glue.Accepted.{glue_accepted, glue_is_glued}
+use Rattle.gluing_laws.proofs.glue.Glued.{glue_accepted, glue_is_glued}
 use Rattle.gluing.proofs.laws.glues_are_calls.Goals as goal
 
 pub returns : goal.returns
