@@ -23,7 +23,7 @@ use Rattle.shapes.specs.Faces.{start, items_in, loops_of, boundary, corners, ver
 use Rattle.shapes.specs.Rewriting.{rewritten, rewritten_row}
 use Rattle.shapes.specs.Measure.{area, normal, anchor, first_vertex, is_flat, volume_in, six_volume}
 use Rattle.shapes.proofs.walks.SolidFaces.{face_of_loop}
-use Rattle.shapes.proofs.Areas.{area-append, moved_nothing}
+use Rattle.shapes.proofs.Areas.{area-append}
 use Rattle.shapes.proofs.measures.FlatFaces.{corner_told}
 use Rattle.shapes.proofs.measures.Sums.{area_same, area_renamed, area_opposed, dot_back}
 use Rattle.sweeps_laws.proofs.Loops.{same_loops}
@@ -34,7 +34,7 @@ use Rattle.std.proofs.lemmas.Int.{ints}
 use Rattle.euler_operators.proofs.Rings.{IsIn_successor}
 use Rattle.euler_laws.proofs.shared.Rows.{face_there, solid_either}
 use Rattle.euler_laws.proofs.shared.Same.{mapped_some}
-use Rattle.euler_operators.proofs.Vectors.{none_added}
+use Rattle.euler_operators.proofs.Vectors.{moved_none, none_added}
 use Rattle.shapes.specs.Vectors.{negated}
 use Rattle.euler_operators.specs.HalfEdge.{mate}
 use Rattle.shapes.proofs.glue.Renamings.{renamed_not}
@@ -63,7 +63,7 @@ item_told M k cs y flat is i = corner_told M k (tail M y) flat (corner_at M k cs
 
 pub only_loop : (M : Model) (k : ℕ) (cs : List ℕ) → rings_of M k ≡ [] → content M (outer M k) ≡ cycle cs → normal M k ≡ area M cs
 unfolding normal boundary loops_of
-only_loop M k cs alone is = ap (λ rs. area M (items_in M (outer M k ∷ rs))) alone ∙ ap (λ c. area M (items_of c ++ [])) is ∙ area-append M cs [] ∙ moved_nothing (area M cs)
+only_loop M k cs alone is = ap (λ rs. area M (items_in M (outer M k ∷ rs))) alone ∙ ap (λ c. area M (items_of c ++ [])) is ∙ area-append M cs [] ∙ moved_none (area M cs)
 
 -- ---- rows of faces
 

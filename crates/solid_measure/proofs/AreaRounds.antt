@@ -13,11 +13,12 @@ use Rattle.shapes.specs.Faces.{start, finish}
 use Rattle.solid_measure.specs.Measure.{area, area_limit}
 use Rattle.shapes.proofs.walks.Rounds.{Round, round_start, round_more, round_closed, round_ended, half_in, met_once, items_apart}
 use Rattle.shapes.proofs.walks.FaceLoops.{AreHalves}
-use Rattle.solid_measure.proofs.Areas.{area_turned, area_push, area_limited, moved_more, moved_nothing, moved_within}
+use Rattle.euler_operators.proofs.Vectors.{moved_none, moved_twice}
+use Rattle.solid_measure.proofs.Areas.{area_turned, area_push, area_limited, moved_within}
 
 -- a lone loop adds nothing
 pub lone_adds : (M : Model) (c : LoopContent) (v : ℕ) (n : Point) → Tells c (Content.Lone v) → n ≡ moved n (area M (items_of c))
-lone_adds M (lone w) v n t = sym (moved_nothing n)
+lone_adds M (lone w) v n t = sym (moved_none n)
 lone_adds M (cycle hs) v n t = absurd t
 
 -- a half-edge ends where the one after it starts
@@ -31,7 +32,7 @@ pub record AreaRound (M : Model) (l first h n : ℕ) (from now : Point) : Type 0
 
 module _ (M : Model) (sound : Sound M) (l first : ℕ) (item : IsIn first (items_of (content M l))) (from : Point) where
   pub area_start : AreaRound M l first first steps from from
-  area_start = record { round = round_start M sound l first item; summed = sym (moved_nothing from) }
+  area_start = record { round = round_start M sound l first item; summed = sym (moved_none from) }
 
   module _ (h n : ℕ) (now : Point) (w : AreaRound M l first h n from now) where
     met_halves : AreHalves M w.round.met
@@ -51,7 +52,7 @@ module _ (M : Model) (sound : Sound M) (l first : ℕ) (item : IsIn first (items
 
     module _ (k : ℕ) (more : n ≡ k + 1) (next : Point) (adds : next ≡ moved now (cross (start M h) (finish M h))) where
       summed_more : next ≡ moved from (area M (w.round.met ++ h ∷ []))
-      summed_more = adds ∙ ap (λ p. moved p (cross (start M h) (finish M h))) w.summed ∙ moved_more from (area M w.round.met) (cross (start M h) (finish M h)) ∙ ap (moved from) (sym (area_push M w.round.met h))
+      summed_more = adds ∙ ap (λ p. moved p (cross (start M h) (finish M h))) w.summed ∙ moved_twice from (area M w.round.met) (cross (start M h) (finish M h)) ∙ ap (moved from) (sym (area_push M w.round.met h))
 
       pub area_closed : after M h ≡ first → next ≡ moved from (area M (items_of (content M l)))
       area_closed e = summed_more ∙ ap (moved from) (sym (area_turned M (items_of (content M l)) (w.round.met ++ h ∷ []) (round_closed M sound l first item h n k w.round more e)))

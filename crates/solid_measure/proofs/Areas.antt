@@ -11,7 +11,7 @@ use Rattle.euler_operators.specs.Table as table
 use Rattle.euler_operators.specs.Model.{Model, tail, point_of, no_point}
 use Rattle.euler_operators.specs.Sound.{Sound}
 use Rattle.shapes.specs.Faces.{start, finish}
-pub use Rattle.shapes.proofs.Areas.{same_vector, moved_more, moved_turned, moved_nothing, nothing_moved, area-append, area_turned, area_push}
+pub use Rattle.shapes.proofs.Areas.{area-append, area_turned, area_push}
 use Rattle.solid_measure.specs.Measure.{area, area_limit}
 use Rattle.shapes.proofs.walks.FaceLoops.{AreHalves, halves_short}
 

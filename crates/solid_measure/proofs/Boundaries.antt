@@ -11,7 +11,8 @@ use Rattle.shapes.specs.Faces.{items_in, boundary}
 use Rattle.shapes.proofs.walks.FaceLoops.{loops_to, items_joined, different_items, loops_apart, loops_none}
 use Rattle.solid_walks.proofs.NextRing.{loops_more, loops_all}
 use Rattle.solid_measure.specs.Measure.{area, area_limit, normal}
-use Rattle.solid_measure.proofs.Areas.{area-append, area_limited, nothing_moved}
+use Rattle.euler_operators.proofs.Vectors.{none_moved}
+use Rattle.solid_measure.proofs.Areas.{area-append, area_limited}
 
 -- the sum over the loops of a face that don't pass n
 unfoldable pub area_to : Model → ℕ → ℕ → Point
@@ -25,7 +26,7 @@ module _ (M : Model) (sound : Sound M) where
 
     pub area_to_start : moved origin (area M (items_of (content M (outer M f)))) ≡ area_to M f 0
     unfolding area_to
-    area_to_start = nothing_moved (area M (items_of (content M (outer M f)))) ∙ sym (ap (λ ls. area M (items_in M ls)) (loops_none M sound f) ∙ ap (area M) (append-nil (items_of (content M (outer M f)))))
+    area_to_start = none_moved (area M (items_of (content M (outer M f)))) ∙ sym (ap (λ ls. area M (items_in M ls)) (loops_none M sound f) ∙ ap (area M) (append-nil (items_of (content M (outer M f)))))
 
     pub area_to_next : (last ring : ℕ) → IsNextRing M f last (Some ring) → moved (area_to M f last) (area M (items_of (content M ring))) ≡ area_to M f ring
     unfolding area_to

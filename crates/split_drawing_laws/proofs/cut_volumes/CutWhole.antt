@@ -22,7 +22,8 @@ use Rattle.shapes.specs.Rewriting.{rewritten}
 use Rattle.shapes.specs.Measure.{area, normal, anchor, first_vertex, plane_of, is_plane_of, is_flat, six_volume}
 use Rattle.shapes.specs.Vectors.{negated}
 use Rattle.shapes.specs.split.Crossings.{doubled, edge_cut, next_cut, all_cut, with_crossings}
-use Rattle.shapes.proofs.Areas.{area-append, moved_nothing, moved_turned}
+use Rattle.euler_operators.proofs.Vectors.{moved_none}
+use Rattle.shapes.proofs.Areas.{area-append, moved_turned}
 use Rattle.shapes.proofs.measures.Sums.{area_same, cross_back, moved_back}
 use Rattle.shapes.proofs.measures.FlatFaces.{are_on}
 use Rattle.split_drawing_laws.specs.crossings.Kept.{Kept}
@@ -142,7 +143,7 @@ module _ (M : Model) (e k v : ℕ) (q : Point) (goes : CutGoes M e k v q) where
     plus_area =
         let k_ends : finish K (plus k) ≡ q = ap (start K) (mate_plus k) ∙ new_minus in
         let e_ends : finish K (plus e) ≡ b = ap (start K) (mate_plus e) ∙ far in
-        (λ i. moved (cross (new_plus i) (k_ends i)) (moved (cross (plus_start i) (e_ends i)) origin)) ∙ ap (moved (cross a q)) (moved_nothing (cross q b)) ∙ w.areas
+        (λ i. moved (cross (new_plus i) (k_ends i)) (moved (cross (plus_start i) (e_ends i)) origin)) ∙ ap (moved (cross a q)) (moved_none (cross q b)) ∙ w.areas
 
     minus_area : area K (minus e ∷ minus k ∷ []) ≡ part (minus e)
     minus_area =
@@ -150,7 +151,7 @@ module _ (M : Model) (e k v : ℕ) (q : Point) (goes : CutGoes M e k v q) where
         let k_ends : finish K (minus k) ≡ a = ap (start K) (mate_minus k) ∙ new_plus in
         let starts : start M (minus e) ≡ b = sym (ap (start M) (mate_plus e)) in
         let ends : finish M (minus e) ≡ a = ap (start M) (mate_minus e) in
-        (λ i. moved (cross (far i) (e_ends i)) (moved (cross (new_minus i) (k_ends i)) origin)) ∙ ap (moved (cross b q)) (moved_nothing (cross q a))
+        (λ i. moved (cross (far i) (e_ends i)) (moved (cross (new_minus i) (k_ends i)) origin)) ∙ ap (moved (cross b q)) (moved_none (cross q a))
         ∙ between_back a b q w ∙ sym (λ i. cross (starts i) (ends i))
 
     doubled_area : (h : ℕ) → HasHalf M h → area K (doubled e k h) ≡ part h
@@ -158,7 +159,7 @@ module _ (M : Model) (e k v : ℕ) (q : Point) (goes : CutGoes M e k v q) where
       | inl c ↦ ap (area K) c.1 ∙ plus_area ∙ ap part (sym c.0)
       | inr c ↦ elim c [
         | inl d ↦ ap (area K) d.1 ∙ minus_area ∙ ap part (sym d.0)
-        | inr d ↦ ap (area K) d.2 ∙ moved_nothing (cross (start K h) (finish K h)) ∙ (λ i. cross (other_start h there (other_edge e h d.0 d.1) i) (other_finish h there (other_edge e h d.0 d.1) i))
+        | inr d ↦ ap (area K) d.2 ∙ moved_none (cross (start K h) (finish K h)) ∙ (λ i. cross (other_start h there (other_edge e h d.0 d.1) i) (other_finish h there (other_edge e h d.0 d.1) i))
       ]
     ]
 

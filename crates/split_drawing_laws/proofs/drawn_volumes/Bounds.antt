@@ -23,7 +23,8 @@ use Rattle.shapes.specs.Measure.{area, anchor, first_vertex, normal}
 use Rattle.shapes.proofs.measures.FlatFaces.{are_on}
 use Rattle.shapes.proofs.walks.SolidFaces.{face_of_loop}
 use Rattle.shapes.proofs.walks.FaceLoops.{AreHalves, different_items, loops_of_apart}
-use Rattle.shapes.proofs.Areas.{moved_more, nothing_moved, area-append}
+use Rattle.euler_operators.proofs.Vectors.{moved_twice, none_moved}
+use Rattle.shapes.proofs.Areas.{area-append}
 use Rattle.shapes.proofs.measures.Sums.{area_same, halves_cancel}
 use Rattle.split_drawing_laws.specs.drawings.DrawnIn.{Stays}
 use Rattle.split_drawing_laws.proofs.crossings.Premises.{loop_in_face, item_in_face}
@@ -176,7 +177,7 @@ no_area K e hs =
     let first : Point = cross (start K (plus e)) (finish K (plus e)) in
     let second : Point = cross (start K (mate (plus e))) (finish K (mate (plus e))) in
     ap (λ h. moved first (moved (cross (start K h) (finish K h)) (area K hs))) (sym (mate_plus e))
-    ∙ sym (moved_more first second (area K hs)) ∙ ap (λ x. moved x (area K hs)) (halves_cancel K (plus e)) ∙ nothing_moved (area K hs)
+    ∙ sym (moved_twice first second (area K hs)) ∙ ap (λ x. moved x (area K hs)) (halves_cancel K (plus e)) ∙ none_moved (area K hs)
 
 -- ---- an edge drawn, or two loops joined: the faces lie on the planes of the one that was, and their normals sum to its
 
