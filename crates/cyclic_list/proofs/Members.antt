@@ -1,11 +1,11 @@
 -- What stands in lists that are made of others, and how many items they have.
-use Rattle.std.proofs.Common.{◌≡◌, ◌≢◌, ℕ, ◌+◌, ◌≤◌, Bool, true, false, cond, List, [], ◌∷◌, ◌++◌, map, length, refl, ap, ◌∙◌, arith, ◌⊎◌, inl, inr}
+use Rattle.std.proofs.Common.{◌≡◌, ◌≢◌, ℕ, zero, suc, ◌+◌, ◌≤◌, ◌<◌, Bool, true, false, cond, List, [], ◌∷◌, ◌++◌, map, length, refl, sym, ap, ◌∙◌, arith, ◌⊎◌, inl, inr}
 use Rattle.std.specs.Prelude.{filter}
 use Rattle.std.specs.List.{list_all}
 use Rattle.std.proofs.lemmas.Bool.{and_from}
 use Rattle.std.proofs.lemmas.Bool.Decides.{eqb_tells}
 use Rattle.std.proofs.lemmas.List.{length-append}
-use Rattle.cyclic_list.specs.Items.{count, IsIn, IsApart, SameItems, head_or, before, after}
+use Rattle.cyclic_list.specs.Items.{count, tick, IsIn, IsApart, SameItems, head_or, before, after}
 use Rattle.cyclic_list.proofs.Lists.{tick_same, tick_other, count-append, split_at}
 use Rattle.cyclic_list.proofs.Rotations.{IsIn_head}
 use Rattle.cyclic_list.proofs.Maps.{from_map}
@@ -92,6 +92,27 @@ apart_within [] ys d h = omega arith
 apart_within (x ∷ xs) ys d h =
     let one = length-append (before x ys) (x ∷ after x ys) in
     grind (arith, split_at x ys, apart_within xs (before x ys ++ after x ys), count-append, tick_other, one, length-append (before x ys) (after x ys))
+
+numbers_below : ℕ → List ℕ
+numbers_below zero = []
+numbers_below (suc n) = n ∷ numbers_below n
+
+length-numbers_below : (n : ℕ) → length (numbers_below n) ≡ n
+unfolding numbers_below
+length-numbers_below zero = refl
+length-numbers_below (suc n) = omega (arith, length-numbers_below n)
+
+in-numbers_below : (n x : ℕ) → x < n → IsIn x (numbers_below n)
+unfolding numbers_below
+in-numbers_below zero x l = absurd (omega arith)
+in-numbers_below (suc n) x l = elim (eqb_tells x n) [
+  | inl e ↦ omega (arith, ap (tick x) (sym e.1), tick_same x)
+  | inr e ↦ let i = in-numbers_below n x (omega (arith, e.1)) in omega (arith, i)
+]
+
+-- a list without repeats of numbers below n has at most n items
+pub length_below : (n : ℕ) (xs : List ℕ) → IsApart xs → ((x : ℕ) → IsIn x xs → x < n) → length xs ≤ n
+length_below n xs d h = omega (arith, apart_within xs (numbers_below n) d (λ x i. in-numbers_below n x (h x i)), length-numbers_below n)
 
 length-split : (x : ℕ) (ps qs : List ℕ) → length (ps ++ x ∷ qs) ≡ 1 + length (ps ++ qs)
 length-split x ps qs = omega (arith, length-append ps (x ∷ qs), length-append ps qs)

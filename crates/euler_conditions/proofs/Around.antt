@@ -13,7 +13,8 @@ use Rattle.euler_operators.specs.Sound.{Sound, HasHalf, StandsIn}
 use Rattle.euler_operators.proofs.Models.{in-holds, cycle_sound}
 use Rattle.euler_operators.specs.Conditions.{lists, face_at}
 use Rattle.euler_conditions.specs.Parts.{StaysIn}
-use Rattle.euler_laws.proofs.shared.Bounds.{steps, steps_are, length_below}
+use Rattle.euler_operators.proofs.Members.{length_below}
+use Rattle.euler_laws.proofs.shared.Bounds.{steps, steps_are}
 
 -- the walk round loop l from its item first on has come to h, and all before stay in
 pub record HalfRound (M : Model) (fs : List ℕ) (l first h n : ℕ) : Type 0 where

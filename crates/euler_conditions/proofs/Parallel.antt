@@ -16,11 +16,11 @@ use Rattle.euler_operators.specs.Sound.{Sound, HasHalf}
 use Rattle.euler_operators.proofs.Halves.{plus_row, minus_row, mate_plus, mate_minus, mate-mate, edge_of-mate}
 use Rattle.euler_operators.proofs.Models.{plus_tail_row, minus_tail_row}
 use Rattle.euler_operators.proofs.Tables.{first_where_zero, row_some}
-use Rattle.euler_operators.proofs.Members.{IsIn_push}
+use Rattle.euler_operators.proofs.Members.{IsIn_push, length_below}
 use Rattle.euler_operators.specs.Conditions.{parallel}
 use Rattle.euler_laws.proofs.shared.Fans.{Fan, fan_of}
 use Rattle.euler_laws.proofs.shared.Arcs.{halves_of_edge}
-use Rattle.euler_laws.proofs.shared.Bounds.{steps, length_below, half_below}
+use Rattle.euler_laws.proofs.shared.Bounds.{steps, half_below}
 use Rattle.euler_laws.proofs.shared.FirstWhere.{first_where_least}
 use Rattle.euler_conditions.specs.Ends.{leads_to, lesser}
 

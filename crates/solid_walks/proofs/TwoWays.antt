@@ -12,7 +12,8 @@ use Rattle.euler_operators.specs.Sound.{Sound, HasHalf}
 use Rattle.euler_operators.proofs.Halves.{mate-mate}
 use Rattle.euler_operators.proofs.Models.{in-holds, cycle_there, cycle_sound, mate_there}
 use Rattle.euler_laws.proofs.shared.Fans.{Fan, fan_of, loop_after}
-use Rattle.euler_laws.proofs.shared.Bounds.{steps, length_below, half_below}
+use Rattle.euler_operators.proofs.Members.{length_below}
+use Rattle.euler_laws.proofs.shared.Bounds.{steps, half_below}
 use Rattle.shapes.specs.Walks.{leads}
 use Rattle.shapes.proofs.walks.FirstEdges.{leads_true, leads_false}
 

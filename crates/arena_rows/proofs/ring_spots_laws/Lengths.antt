@@ -5,7 +5,7 @@ use Rattle.boundary_model.proofs.Rotations.{length-rotate_to}
 use Rattle.boundary_model.proofs.Rings.{orbit_from}
 use Rattle.boundary_model.proofs.Places.{walk_to_more}
 use Rattle.arena_rows.specs.ring_spots.Spots.{Spots, codes, live, next, ring, AreRings}
-use Rattle.arena_rows.proofs.ring_spots_laws.SpotLaws.{length_below}
+use Rattle.boundary_model.proofs.Members.{length_below}
 
 -- after i items the walk from a stands at p, and has at most n to go
 abbrev pub Counted : Spots → ℕ → ℕ → ℕ → ℕ → Type 0

@@ -10,7 +10,8 @@ use Rattle.boundary_model.proofs.Rotations.{count-rotate_to, IsIn_head}
 use Rattle.boundary_model.proofs.Rings.{orbit_from}
 use Rattle.boundary_model.proofs.Places.{walk_to_more}
 use Rattle.arena_rows.specs.ring_spots.Spots.{Spots, codes, live, next, ring, is_in, map_spot, labelled, AreRings, HalfDone}
-use Rattle.arena_rows.proofs.ring_spots_laws.SpotLaws.{either, length_below, next-labelled, live-labelled, next_in_ring, ring_same, is_in-yes, is_in-no, next-label, live-map}
+use Rattle.boundary_model.proofs.Members.{length_below}
+use Rattle.arena_rows.proofs.ring_spots_laws.SpotLaws.{either, next-labelled, live-labelled, next_in_ring, ring_same, is_in-yes, is_in-no, next-label, live-map}
 
 -- the walk round a ring meets its items
 pub walk_items : (sp : Spots) (R : AreRings sp) (from n : ℕ) → live sp from ≡ true → n ≡ codes → (x : ℕ) → count x (walk_to (next sp) from from n) ≡ count x (ring sp from)

@@ -1,41 +1,18 @@
 -- Rings of live codes, and what becomes of them.
---     length_below      a list without repeats of numbers below n has at most n items
 --     ring_is, ring_same      the ring of a code, by any list that `next` leads round;  one for all its items
 --     AreRings-..       the rings stay rings
-use Rattle.std.proofs.Common.{◌≡◌, ◌≢◌, ℕ, zero, suc, ◌+◌, ◌≤◌, ◌<◌, Bool, true, false, cond, nat_eq, List, [], ◌∷◌, ◌++◌, length, Option, Some, None, is_some, refl, sym, ap, subst, ◌∙◌, arith, true≢false, inl, inr}
-use Rattle.std.proofs.lemmas.Bool.Decides.{nat_tests, eqb_tells}
+use Rattle.std.proofs.Common.{◌≡◌, ◌≢◌, ℕ, ◌+◌, ◌≤◌, ◌<◌, Bool, true, false, cond, nat_eq, List, [], ◌∷◌, ◌++◌, length, Option, Some, None, is_some, refl, sym, ap, subst, ◌∙◌, arith, true≢false, inl, inr}
+use Rattle.std.proofs.lemmas.Bool.Decides.{nat_tests}
 use Rattle.raw_ring.specs.Rings.{Spot, or_zero, of_spot}
-use Rattle.boundary_model.specs.Items.{count, tick, IsIn, IsApart, head_or}
+use Rattle.boundary_model.specs.Items.{count, IsIn, IsApart, head_or}
 use Rattle.boundary_model.specs.Rings.{canonical, orbit, IsRing, splice, cut_left, cut_right, joined, rest, between, beyond}
 use Rattle.boundary_model.proofs.Lists.{count-append, IsIn_or_not, tick_same}
-use Rattle.boundary_model.proofs.Members.{apart_within}
+use Rattle.boundary_model.proofs.Members.{length_below}
 use Rattle.boundary_model.proofs.Rotations.{count-canonical, canonical-canonical}
 use Rattle.boundary_model.proofs.Rings.{IsPath-agree, canonical-orbit, next_is_successor, IsIn_successor}
 use Rattle.boundary_model.proofs.Cuts.{splice_elsewhere, count-cut, IsApart-cut, IsRing-cut, count-joined, IsApart-joined, IsRing-join}
 use Rattle.boundary_model.specs.HalfEdge.{mate}
 use Rattle.arena_rows.specs.ring_spots.Spots.{Spots, codes, live, next, label, ring, is_in, map_spot, retailed, spliced_at, labelled, IsRingOf, AreRings}
-
--- ---- lists of numbers below a bound
-
-upto : ℕ → List ℕ
-upto zero = []
-upto (suc n) = n ∷ upto n
-
-length-upto : (n : ℕ) → length (upto n) ≡ n
-unfolding upto
-length-upto zero = refl
-length-upto (suc n) = omega (arith, length-upto n)
-
-in-upto : (n x : ℕ) → x < n → IsIn x (upto n)
-unfolding upto
-in-upto zero x l = absurd (omega arith)
-in-upto (suc n) x l = elim (eqb_tells x n) [
-  | inl e ↦ omega (arith, ap (tick x) (sym e.1), tick_same x)
-  | inr e ↦ let i = in-upto n x (omega (arith, e.1)) in omega (arith, i)
-]
-
-pub length_below : (n : ℕ) (xs : List ℕ) → IsApart xs → ((x : ℕ) → IsIn x xs → x < n) → length xs ≤ n
-length_below n xs d h = omega (arith, apart_within xs (upto n) d (λ x i. in-upto n x (h x i)), length-upto n)
 
 pub canonical_fixed : (xs : List ℕ) → IsApart (canonical xs) → canonical (canonical xs) ≡ canonical xs
 canonical_fixed xs d = canonical-canonical xs (λ x. omega (arith, count-canonical x xs, d x))

@@ -8,13 +8,13 @@ use Rattle.euler_operators.proofs.Lists.{count-append, tick_same, tick_other, Is
 use Rattle.euler_operators.specs.Table as table
 use Rattle.euler_operators.specs.Model.{Model, LoopContent, lone, cycle, LoopRow, no_loop, items_of, content, tail, loop_of, outer, face_of, rings_of, is_ring_of}
 use Rattle.euler_operators.specs.Sound.{Sound, HasHalf}
-use Rattle.euler_operators.proofs.Members.{IsIn-map}
+use Rattle.euler_operators.proofs.Members.{IsIn-map, length_below}
 use Rattle.euler_operators.proofs.Models.{in-holds}
 use Rattle.euler_operators.proofs.Tables.{row_some}
 use Rattle.euler_operators.specs.Conditions.{lists, strictly_rises}
 use Rattle.euler_laws.proofs.shared.Listed.{listed_passes, passes_listed, all_where-rises}
 use Rattle.euler_laws.proofs.shared.FaceRings.{ring_there}
-use Rattle.euler_laws.proofs.shared.Bounds.{steps, steps_are, length_below, half_below}
+use Rattle.euler_laws.proofs.shared.Bounds.{steps, steps_are, half_below}
 use Rattle.euler_laws.proofs.shared.Counted.{none_counted, counted_once}
 use Rattle.euler_laws.proofs.shared.UpTo.{up_to, up_to_none, count_up_to}
 use Rattle.shapes.specs.Faces.{items_in, loops_of, vertices_on, vertices_in}

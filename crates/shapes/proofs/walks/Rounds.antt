@@ -9,7 +9,8 @@ use Rattle.euler_operators.proofs.Places.{walk_done, walk_on, walk_over}
 use Rattle.euler_operators.specs.Model.{Model, items_of, content, loop_of, after}
 use Rattle.euler_operators.specs.Sound.{Sound, HasHalf, StandsIn}
 use Rattle.euler_operators.proofs.Models.{in-holds, cycle_sound}
-use Rattle.euler_laws.proofs.shared.Bounds.{steps, length_below, half_below}
+use Rattle.euler_operators.proofs.Members.{length_below}
+use Rattle.euler_laws.proofs.shared.Bounds.{steps, half_below}
 
 -- the walk round loop l from its item first on has met some items and come to h, and n steps may follow
 pub record Round (M : Model) (l first h n : ℕ) : Type 0 where

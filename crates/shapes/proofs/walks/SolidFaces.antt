@@ -10,7 +10,8 @@ use Rattle.euler_operators.specs.Sound.{Sound, Has}
 use Rattle.euler_operators.specs.Conditions.{lists, strictly_rises}
 use Rattle.euler_laws.proofs.shared.Listed.{first_listed, rest_listed, listed_cases, all_where-rises, IsIn-from_listed, listed-from_in}
 use Rattle.euler_laws.proofs.shared.FaceRings.{ring_there, outer_or_ring}
-use Rattle.euler_laws.proofs.shared.Bounds.{length_below, ring_number}
+use Rattle.euler_operators.proofs.Members.{length_below}
+use Rattle.euler_laws.proofs.shared.Bounds.{ring_number}
 use Rattle.euler_laws.proofs.shared.Counted.{counted_once}
 use Rattle.euler_laws.proofs.shared.UpTo.{up_to, up_to_none, count_up_to, listed_up_to}
 use Rattle.shapes.specs.Faces.{loops_of}
