@@ -175,6 +175,13 @@ not_ready old now ready still same e lacks =
     let moved : is_ready Open now.buffer.unread ≡ has_line old = ap (λ (xs : List ℕ). is_ready Open xs) same ∙ ap (λ (x : Ending). is_ready x old.buffer.unread) opened in
     cc (calm, moved, ready)
 
+-- how a script ends is one way of four
+pub open_not_ended : (x : Ending) → x ≡ Open → x ≡ Ended → ⊥
+open_not_ended x e f = cc (e, f)
+
+pub failed_not_ended : Failed ≡ Ended → ⊥
+failed_not_ended e = cc e
+
 -- bytes were read, all of them within the limit
 pub all_within : (a b : Option (List ℕ)) (taken count n : ℕ) (old new given : List ℕ) → count ≡ taken + n → Consumes a b given → new ≡ old ++ given → length given ≡ n → taken + n ≤ 67108864 → Reads a b taken count old new
 unfolding within_limit

@@ -1,21 +1,22 @@
-use Rattle.std.proofs.Common.{◌≡◌, ◌⊎◌, inl, inr, ◌<◌, refl, sym, ap, subst, rules, arith, length, true, []}
+use Rattle.std.proofs.Common.{◌≡◌, ◌⊎◌, inl, inr, ◌<◌, ◌∙◌, refl, sym, ap, subst, rules, arith, length, true, ℕ, List, []}
+use borrow.Author.Tests.{ltb-true}
 use Rattle.script_reader.specs.Buffer.{TakesLine}
 use Rattle.script_reader.specs.Newline.{Lacks}
 use Rattle.script_reader.specs.Lines.{LastAnswer}
 use Rattle.script_reader.specs.declared.lines.Ending.{Ending}
 use Rattle.script_reader.specs.declared.lines.Ending.TheVariants.{Open}
-use Rattle.script_reader.proofs.LinesLaws.{Waits, starts, clears, reads, long_line, last_answer, Waits-same, not_ready}
+use Rattle.script_reader.proofs.LinesLaws.{Waits, starts, clears, reads, long_line, last_answer, Waits-same, not_ready, open_not_ended}
 use Rattle.script_reader.proofs.lines.Lines.advance.Goals as goal
 use Rattle.script_reader.proofs.lines.Lines.advance.Goals.{then-is_long, else-is_long, then-len-gt-LINE_LIMIT, else-len-gt-LINE_LIMIT}
 
 pub loop-self-init : goal.loop-self-init
-loop-self-init g c = (starts (g.R.Read.remaining c.args.self.now.reader) c.args.self.now.taken c.args.self.now.buffer.unread, λ e f. absurd (cc (e, f)), λ _. (record { reader = refl; taken = refl; ending = refl }, refl))
+loop-self-init g c = (starts (g.R.Read.remaining c.args.self.now.reader) c.args.self.now.taken c.args.self.now.buffer.unread, λ e f. absurd (open_not_ended _ e f), λ _. (record { reader = refl; taken = refl; ending = refl }, refl))
 
 pub returns-then-line-gt-LINE_LIMIT : goal.returns-then-line-gt-LINE_LIMIT
 returns-then-line-gt-LINE_LIMIT g c =
     let old = c.loop-self.self in
     let took = subst (TakesLine old.buffer c.take_line.new.self) c.if-take_line.true c.take_line.ensures in
-    let long : (c.loop-self.is_long ≡ true) ⊎ (65536 < length c.take_line.new.self.line) = elim c.if-is_long.branch [ then-is_long w ↦ inl (search rules) | else-is_long w ↦ inr (search rules) ] in
+    let long : (c.loop-self.is_long ≡ true) ⊎ (65536 < length c.take_line.new.self.line) = elim c.if-is_long.branch [ then-is_long w ↦ inl (assumption) | else-is_long w ↦ inr (subst (λ (xs : List ℕ). 65536 < length xs) w.line.ensures (ltb-true _ _ (sym w.value-is ∙ c.if-line-gt-LINE_LIMIT.true))) ] in
     record {
       advances = long_line (g.R.Read.remaining c.args.self.now.reader) (g.R.Read.remaining old.reader) c.args.self.now.taken old.taken c.args.self.now.buffer.unread old.buffer.unread c.take_line.new.self c.loop-self.is_long old.ending c.loop-self.invariant.0 took.0 took.1 long;
       end = search rules;
@@ -51,10 +52,10 @@ loop-self-preserved g c =
     refl refl rest.0 refl c.loop-self.invariant.0 in
     let waits : Waits (g.R.Read.remaining first.reader) (g.R.Read.remaining mid.reader) first.taken mid.taken first.buffer.unread mid.buffer.unread c.if-len-gt-LINE_LIMIT.is_long = elim c.if-len-gt-LINE_LIMIT.branch [
       | then-len-gt-LINE_LIMIT w ↦ Waits-same (g.R.Read.remaining first.reader) (g.R.Read.remaining old.reader) (g.R.Read.remaining mid.reader) first.taken old.taken mid.taken first.buffer.unread [] mid.buffer.unread true c.if-len-gt-LINE_LIMIT.is_long
-          (search rules) (search rules) (search rules) (search rules)
+          (search rules) (search rules) (search rules) (assumption)
           (clears (g.R.Read.remaining first.reader) (g.R.Read.remaining old.reader) first.taken old.taken first.buffer.unread c.take_line.new.self.unread c.loop-self.is_long before lacks (omega arith))
       | else-len-gt-LINE_LIMIT w ↦ Waits-same (g.R.Read.remaining first.reader) (g.R.Read.remaining old.reader) (g.R.Read.remaining mid.reader) first.taken old.taken mid.taken first.buffer.unread c.take_line.new.self.unread mid.buffer.unread c.loop-self.is_long c.if-len-gt-LINE_LIMIT.is_long
-          (search rules) (search rules) (search rules) (search rules) before
+          (search rules) (search rules) (search rules) (assumption) before
     ] in (
       reads (g.R.Read.remaining first.reader) (g.R.Read.remaining mid.reader) (g.R.Read.remaining new.reader) first.taken mid.taken new.taken first.buffer.unread mid.buffer.unread new.buffer.unread c.if-len-gt-LINE_LIMIT.is_long waits c.fill.ensures.reads (search rules),
       λ e. c.fill.ensures.end,

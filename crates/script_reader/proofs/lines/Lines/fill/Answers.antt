@@ -1,9 +1,9 @@
 use Rattle.std.proofs.Common.{arith, rules}
-use Rattle.script_reader.proofs.LinesLaws.{all_within, one_past}
+use Rattle.script_reader.proofs.LinesLaws.{all_within, one_past, failed_not_ended}
 use Rattle.script_reader.proofs.lines.Lines.fill.Goals as goal
 
 pub returns-in-Err-clause-end : goal.returns-in-Err-clause-end
-returns-in-Err-clause-end g c = λ e. absurd (cc e)
+returns-in-Err-clause-end g c = λ e. absurd (failed_not_ended e)
 
 pub returns-then-self-gt-SCRIPT_LIMIT-clause-reads : goal.returns-then-self-gt-SCRIPT_LIMIT-clause-reads
 returns-then-self-gt-SCRIPT_LIMIT-clause-reads g c =
