@@ -1,10 +1,11 @@
 -- Bytes below 128, by index and by list.
-use Rattle.std.proofs.Common.{◌≡◌, ℕ, zero, suc, ◌<◌, ◌≤◌, Bool, true, false, List, [], ◌∷◌, sym, refl, arith}
-use Rattle.std.specs.Prelude.{slice_index}
+use Rattle.std.proofs.Common.{◌≡◌, ℕ, zero, suc, ◌<◌, ◌≤◌, Bool, true, false, List, [], ◌∷◌, Err, length, sym, refl, arith}
+use Rattle.std.specs.Prelude.{nat_lt, slice_index}
 use Rattle.std.specs.Bool.{MatchBool}
 use Rattle.std.specs.Str.{IsAscii, IsNotAscii}
 use Rattle.std.proofs.lemmas.Bool.Decides.{nat_tests}
-use Rattle.script_reader.specs.Grammar.{is_ascii}
+use Rattle.script_reader.specs.Grammar.{is_ascii, command_of}
+use Rattle.script_reader.specs.declared.command.Fault.TheVariants.{NotAscii}
 
 all_below : (line : List ℕ) → IsAscii line → is_ascii line ≡ true
 all_below [] all = refl
@@ -23,3 +24,7 @@ one_above (b ∷ line) (suc i) above =
 pub ascii_is : (line : List ℕ) (is : Bool) → MatchBool is (IsAscii line) (IsNotAscii line) → is ≡ is_ascii line
 ascii_is line true all = sym (all_below line all)
 ascii_is line false some = sym (one_above line some.0 some.1)
+
+-- what is told of a line within the limit that isn't ASCII
+pub told_not_ascii : (line : List ℕ) → nat_lt 65536 (length line) ≡ false → is_ascii line ≡ false → Err NotAscii ≡ command_of line
+told_not_ascii line short other = rw (short, other) refl

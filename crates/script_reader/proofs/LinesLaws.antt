@@ -182,6 +182,11 @@ open_not_ended x e f = cc (e, f)
 pub failed_not_ended : Failed ≡ Ended → ⊥
 failed_not_ended e = cc e
 
+-- no byte was read
+pub none_read : (a b : Option (List ℕ)) (taken n : ℕ) (old new given : List ℕ) → Consumes a b given → new ≡ old ++ given → length given ≡ n → n ≡ 0 → Reads a b taken taken old new
+none_read a b taken n old new [] consumed more is none = record { given = []; consumed = consumed; counted = omega arith; text = more ∙ ap (λ (xs : List ℕ). old ++ xs) (sym (limit_none taken)) }
+none_read a b taken n old new (x ∷ xs) consumed more is none = absurd (omega (arith, is, none))
+
 -- bytes were read, all of them within the limit
 pub all_within : (a b : Option (List ℕ)) (taken count n : ℕ) (old new given : List ℕ) → count ≡ taken + n → Consumes a b given → new ≡ old ++ given → length given ≡ n → taken + n ≤ 67108864 → Reads a b taken count old new
 unfolding within_limit

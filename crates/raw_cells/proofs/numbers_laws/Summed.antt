@@ -119,6 +119,9 @@ module _ (words summaries : List ℕ) (S : AreSummed words summaries) where
           let is : has_bits new (n / 64) ≡ true = grind (arith, nat_tests) in
           summed-kept (is ∙ sym (ap (has_bits words) (sym k.1) ∙ word_of words k.0 (was_there k.0 k.2)))
 
+      pub take-turned : word_at new (n / 64) ≡ 0 → (after : List ℕ) → ((q : ℕ) → uses after q ≡ cond (nat_eq q (n / 64)) false (uses summaries q)) → length after ≡ length summaries → AreSummed new after
+      take-turned none after = summed-turned after false (ap (nat_lt 0) none)
+
   -- ---- the greatest number in use
 
   pub has_summary : (i k : ℕ) → uses summaries i ≡ false → k / 64 ≡ i → uses words k ≡ false

@@ -13,3 +13,6 @@ returns-clause-same g c = rw (← c.self.view_is) (λ k h. c.widen.ensures.same 
 
 pub returns-clause-fits : goal.returns-clause-fits
 returns-clause-fits g c = rw (← c.self.view_is) (omega (arith, c.widen.ensures.fits, length_rows _ _ _ c.self.invariant))
+
+pub returns-clause-known : goal.returns-clause-known
+returns-clause-known g c = c.widen.ensures.known
