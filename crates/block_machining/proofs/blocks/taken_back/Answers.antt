@@ -3,6 +3,15 @@ use Rattle.sweeps.specs.PlainMachine.{depth, undo}
 use Rattle.block_machining.proofs.Undone.{one_fewer}
 use Rattle.block_machining.proofs.blocks.taken_back.Goals as goal
 
+pub unwrap-requires : goal.unwrap-requires
+unwrap-requires c = rw (c.undo.ensures.refused, c.in_ok-session.ensures.depth)
+
+pub unwrap-requires-2 : goal.unwrap-requires-2
+unwrap-requires-2 c =
+    let once = rw c.unwrap.ensures at c.undo.ensures.ok in
+    let left : depth c.undo.new.self.machine ≡ 1 = (λ i. depth (once i).machine) ∙ one_fewer c.in_ok-session.session.machine 1 c.in_ok-session.ensures.depth in
+    rw (c.undo-2.ensures.refused, left)
+
 pub returns-clause-depth : goal.returns-clause-depth
 returns-clause-depth c =
     let once : c.undo.new.self.machine ≡ undo c.in_ok-session.session.machine = search rules in
