@@ -28,3 +28,7 @@ module _ (M : Model) (sound : Sound M) (f : ℕ) where
   -- three numbers that an arena answers are those of the normal, and in its range
   pub answered_limited : Has M.faces f → (ns : List ℤ) → Ok ns ≡ answer (face_refusal M f) (numbers_of (normal M f)) → IsVectorWithin normal_limit (vector_of ns)
   answered_limited there ns e = subst (λ ms. IsVectorWithin normal_limit (vector_of ms)) (sym (ap numbers_in (e ∙ ap (λ r. answer r (numbers_of (normal M f))) (no_refusal there)))) normal_limited
+
+  -- and it refuses none
+  pub not_refused : Has M.faces f → (r : Refusal) → Err r ≡ answer (face_refusal M f) (numbers_of (normal M f)) → ⊥
+  not_refused there r e = let ok : ◌≡◌ {A = Result (List ℤ) Refusal} (Err r) (Ok (numbers_of (normal M f))) = e ∙ ap (λ o. answer o (numbers_of (normal M f))) (no_refusal there) in cc

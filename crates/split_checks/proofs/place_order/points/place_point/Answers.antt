@@ -1,11 +1,14 @@
-use Rattle.std.proofs.Common.{◌∙◌, sym, ap, subst}
+use Rattle.std.proofs.Common.{◌∙◌, List, length, sym, ap, subst, arith}
+use Rattle.std.proofs.lemmas.List.{length-map}
 use Rattle.euler_operators.specs.HalfEdge.{code}
 use Rattle.euler_operators.specs.Items.{IsIn}
 use Rattle.euler_operators.specs.declared.Sign.TheVariants.{On}
 use Rattle.euler_operators.proofs.Halves.{edge_of-code}
 use Rattle.euler_laws.proofs.shared.Listed.{listed-from_in}
 use Rattle.shapes.specs.Faces.{start}
+use Rattle.split_checks.specs.Cuts.{cut_at}
 use Rattle.split_checks.specs.cut_places.Sides.{same_sign}
+use Rattle.split_checks.specs.declared.cuts.CutEdge.{CutEdge}
 use Rattle.split_checks.proofs.cut_places_laws.Searched.{found_at, none_missed}
 use Rattle.split_checks.proofs.cut_places_laws.Signs.{sign_lies}
 use Rattle.split_checks.proofs.place_order_laws.PlacePoints.{place_off, point_on, point_found}
@@ -31,3 +34,13 @@ unreachable-requires c =
     let told = c.same.ensures ∙ ap (λ s. same_sign s On) c.start_side.ensures.is ∙ sign_lies On p (start M (code h)) in
     let across = place_off M p (code h) c.requires.place.place (sym told ∙ c.if-same.false) in
     none_missed es h.edge _ c.requires.crossings.rising (listed-from_in h.edge es (subst (λ e. IsIn e es) (edge_of-code h) (c.requires.place.crossing across))) c.in-Err.ensures.position
+
+pub bounds-crossings-i : goal.bounds-crossings-i
+bounds-crossings-i c =
+    let es = c.args.crossings.edges.now in let at = found_at es c.args.h.edge c.in-Ok.i c.requires.crossings.rising c.in-Ok.ensures.position in
+    omega (arith, at.0, ap (λ (ds : List CutEdge). length ds) c.requires.crossings.points, length-map es (cut_at c.args.arena.now.model c.args.plane))
+
+pub offset_bounds-crossings-i : goal.offset_bounds-crossings-i
+offset_bounds-crossings-i c =
+    let es = c.args.crossings.edges.now in let at = found_at es c.args.h.edge c.in-Ok.i c.requires.crossings.rising c.in-Ok.ensures.position in
+    omega (arith, at.0, ap (λ (ds : List CutEdge). length ds) c.requires.crossings.points, length-map es (cut_at c.args.arena.now.model c.args.plane), c.ranges.crossings)

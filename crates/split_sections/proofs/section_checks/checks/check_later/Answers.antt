@@ -1,4 +1,5 @@
-use Rattle.std.proofs.Common.{◌≡◌, ◌∙◌, List, ℕ, [], true, nat_eq, Ok, None, Some, sym, ap, subst}
+use Rattle.std.proofs.Common.{◌≡◌, ◌∙◌, List, ℕ, [], true, false, nat_eq, Ok, None, Some, sym, ap, subst, arith}
+use Rattle.std.proofs.lemmas.Bool.Decides.{nat_tests}
 use Rattle.euler_operators.specs.Conditions.{strictly_rises, first_refusal}
 use Rattle.split_opening_laws.specs.cycles.SectionCycles.{AreOf}
 use Rattle.solid_walks.specs.Counters.{taken_of}
@@ -9,7 +10,7 @@ use Rattle.shapes.specs.split.Split.{later_conditions, section_conditions}
 use Rattle.split_sections.specs.section_checks.Cycles.{AreCyclesOf}
 use Rattle.split_sections.specs.section_checks.Sections.{IsSection}
 use Rattle.split_sections.specs.declared.section_checks.section.Section.{Section}
-use Rattle.split_sections.proofs.section_checks_laws.Stages.{told, value_told, drawn}
+use Rattle.split_sections.proofs.section_checks_laws.Stages.{told, value_told, drawn, stuck}
 use Rattle.split_sections.proofs.section_checks.checks.check_later.Goals as goal
 
 pub check_cycles-requires-clause-rising : goal.check_cycles-requires-clause-rising
@@ -34,3 +35,9 @@ pub returns-in-Err-clause-refused : goal.returns-in-Err-clause-refused
 returns-in-Err-clause-refused c = λ r e.
     let z : nat_eq c.args.drawn.now.stuck 0 ≡ true = ap (λ n. nat_eq n 0) c.if-drawn-ne0.false in
     told _ _ r (drawn c.args.s c.args.plane.now (drawing_of c.args.drawn.now c.args.arena.now.model []) z ∙ subst (λ (fs : List ℕ). first_refusal (section_conditions c.args.arena.now.model c.args.s c.args.plane.now (taken_of c.args.drawn.now.taken) (below_halves c.args.arena.now.model fs c.args.s)) ≡ Some c.in-Err.refusal) (c.as_slice.ensures.value ∙ c.in_ok-above.ensures.found) (c.in_ok-cycles.ensures.refused c.in-Err.refusal (ap Ok c.in-Err.is))) e
+
+pub returns-then-drawn-ne0-clause-refused : goal.returns-then-drawn-ne0-clause-refused
+returns-then-drawn-ne0-clause-refused c = λ r e.
+    let ne = c.if-drawn-ne0.true in
+    let z : nat_eq c.args.drawn.now.stuck 0 ≡ false = grind (arith, nat_tests, ne) in
+    told _ _ r (stuck c.args.s c.args.plane.now (drawing_of c.args.drawn.now c.args.arena.now.model []) z) e
