@@ -3,13 +3,15 @@ use Rattle.std.proofs.Common.{◌≡◌, ◌∙◌, inl, inr, Option, Some, None
 use Rattle.std.specs.Prelude.{◌↔◌, Result}
 use Rattle.euler_operators.specs.declared.Op.{Op}
 use Rattle.euler_operators.specs.declared.Refusal.{Refusal}
+use Rattle.euler_operators.specs.Conditions.{verdict}
 use Rattle.euler_operators.specs.Model.{Model}
+use Rattle.undo_journal.specs.Machine.{Machine}
 use Rattle.undo_journal.specs.Journal.{Journal, DraftJournal, after_step}
 use Rattle.undo_journal.specs.declared.session.Failure.{Failure}
 use Rattle.undo_journal.specs.declared.session.Failure.TheVariants as failure
 use Rattle.solid_listing.specs.declared.reply.Reply.TheVariants as reply
 use Rattle.script_reader.specs.declared.command.Command.{Command}
-use Rattle.script_running.specs.script_judging.Judging.{Obeys, refused, outcome}
+use Rattle.script_running.specs.script_judging.Judging.{Obeys, Moves, done, refused, outcome}
 use Rattle.script_running.specs.declared.script_judging.judging.Answer.{Answer}
 use Rattle.script_running.specs.declared.script_judging.judging.Answer.TheVariants.{Reply as Told}
 pub use Rattle.script_running.proofs.script_judging_laws.Acted.{acts_on}
@@ -27,6 +29,15 @@ pub steps_on : (o : Option Refusal) (d : DraftJournal) (op : Op) (ended : Result
 steps_on o d op (Ok _) e ok iff err = subst (λ (q : Option Refusal). Steps q d op (outcome (Ok tt)) e) (sym ok.0) (inl (refl, ok.1))
 steps_on o d op (Err (failure.Refused r)) e ok iff err = subst (λ (q : Option Refusal). Steps q d op (refused r) e) (sym ((iff r).0 refl)) (refl, err)
 steps_on o d op (Err (failure.Memory m)) e ok iff err = told_memory o d op e (λ r h. absurd (cc ((iff r).1 h))) err
+
+-- undo and redo are answered by what their refusal is
+pub moved : (o : Option Refusal) (s next t : Journal) → Ok tt ≡ verdict o → t ≡ next → Moves o s.machine next.machine done t.machine
+moved None s next t e is = (refl, ap (λ (j : Journal). j.machine) is)
+moved (Some r) s next t e is = absurd (cc e)
+
+pub not_moved : (o : Option Refusal) (s : Journal) (to : Machine) (t : Journal) (r : Refusal) → Err r ≡ verdict o → t ≡ s → Moves o s.machine to (refused r) t.machine
+not_moved None s to t r e is = absurd (cc e)
+not_moved (Some q) s to t r e is = (cc e, ap (λ (j : Journal). j.machine) is)
 
 pub the_same : {X : Type 0} (x y : X) (o : Option X) → o ≡ Some x → o ≡ Some y → x ≡ y
 the_same x y o e f = cc

@@ -1,5 +1,7 @@
-use Rattle.std.proofs.Common.{rules}
+use Rattle.std.proofs.Common.{ap}
+use Rattle.euler_operators.specs.declared.HalfEdge.{HalfEdge}
+use Rattle.euler_operators.specs.declared.Op.TheVariants as operator
 use Rattle.session_slots.proofs.arguments.kev.Goals as goal
 
 pub returns : goal.returns
-returns c = search rules
+returns c = ap (λ (h : HalfEdge). operator.Kev h) c.of_code.ensures

@@ -1,5 +1,7 @@
-use Rattle.std.proofs.Common.{rules}
+use Rattle.std.proofs.Common.{Option, false, refl, sym, subst}
+use Rattle.session_slots.specs.declared.slot.Slot.{Slot}
+use Rattle.session_slots.specs.Opening.{Opened}
 use Rattle.session_slots.proofs.handle.begin.Goals as goal
 
 pub returns-in-Some : goal.returns-in-Some
-returns-in-Some c = search rules
+returns-in-Some c = subst (λ (o : Option Slot). Opened o c.put.new.gwb.kept.value false) (sym c.in-Some.ensures.slot) (refl, c.put.ensures)

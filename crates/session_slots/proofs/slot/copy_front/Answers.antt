@@ -1,5 +1,5 @@
-use Rattle.std.proofs.Common.{rules}
+use Rattle.std.proofs.Common.{refl}
 use Rattle.session_slots.proofs.slot.copy_front.Goals as goal
 
 pub returns-clause-value : goal.returns-clause-value
-returns-clause-value c = search rules
+returns-clause-value c = refl
