@@ -16,7 +16,11 @@ pub AreAccepted-append : (M : Model) (ops more : List Op) → AreAccepted M ops 
 AreAccepted-append M [] more a b = b
 AreAccepted-append M (op ∷ ops) more a b = (a.0, AreAccepted-append (effect M op) ops more a.1 b)
 
--- of lists of operators accepted one after the other, the second is accepted after the first
+-- of two lists of operators accepted one after the other, the first is accepted, and the second after it
+pub AreAccepted-front : (M : Model) (ops more : List Op) → AreAccepted M (ops ++ more) → AreAccepted M ops
+AreAccepted-front M [] more a = tt
+AreAccepted-front M (op ∷ ops) more a = (a.0, AreAccepted-front (effect M op) ops more a.1)
+
 pub AreAccepted-back : (M : Model) (ops more : List Op) → AreAccepted M (ops ++ more) → AreAccepted (effects M ops) more
 AreAccepted-back M [] more a = a
 AreAccepted-back M (op ∷ ops) more a = AreAccepted-back (effect M op) ops more a.1
@@ -65,3 +69,19 @@ leads_first M N K op more a e b = leads_on M N K (op ∷ []) more (leads_one M N
 
 pub leads_sound : (M N : Model) (ops : List Op) → Sound M → Leads M N ops → Sound N
 leads_sound M N ops sound a = subst Sound a.made (effects_keep_sound M ops sound a.accepted)
+
+-- of operators that lead on from N the next one is accepted
+pub next_goes : {N X : Model} {op : Op} {ops : List Op} → Leads N X (op ∷ ops) → first_false N op ≡ None
+next_goes w = w.accepted.0
+
+-- once it is taken the others lead on
+pub next_taken : {N X K : Model} {op : Op} {ops : List Op} → Leads N X (op ∷ ops) → K ≡ effect N op → Leads K X ops
+next_taken {X = X} {ops = ops} w e = subst (λ Y. Leads Y X ops) (sym e) (record { accepted = w.accepted.1; made = w.made })
+
+-- once some are taken together the others lead on
+pub some_taken : (N : Model) (ops more : List Op) (X K : Model) → AreAccepted N (ops ++ more) → effects N (ops ++ more) ≡ X → K ≡ effects N ops → Leads K X more
+some_taken N ops more X K accepted made e = subst (λ Y. Leads Y X more) (sym e) (record { accepted = AreAccepted-back N ops more accepted; made = sym (effects-append N ops more) ∙ made })
+
+-- once all are taken the model is made
+pub all_taken : {N X : Model} → Leads N X [] → N ≡ X
+all_taken w = w.made

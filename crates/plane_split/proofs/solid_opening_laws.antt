@@ -1,7 +1,6 @@
 pub mod Items
 pub mod CutOff
 pub mod Raised
-pub mod Taken
 pub mod Killed
 pub mod Cycles
 pub mod Turns

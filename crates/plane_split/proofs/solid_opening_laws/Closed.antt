@@ -10,16 +10,16 @@ use Rattle.split_laws.specs.SplitOps.{hole_ops}
 use Rattle.plane_split.specs.declared.solid_opening.caps.Caps.{Caps}
 use Rattle.plane_split.specs.solid_opening.Capped.{caps_of, all_caps}
 use Rattle.plane_split.specs.solid_opening.Closing.{holes_ops, outer_uppers}
-use Rattle.plane_split.proofs.solid_opening_laws.Taken.{first_part, Remaining, some_taken}
+use Rattle.euler_laws.proofs.Runs.{Leads, AreAccepted-front, some_taken}
 
 module _ (M : Model) (s t : ℕ) (above : List ℕ) (caps : List Caps) (outer : Caps) (is : caps_of outer ≡ outer_caps (all_caps caps))
     (accepted : AreAccepted M (hole_ops (all_caps caps) ++ Part s t (upper_left above (all_caps caps)) ∷ [])) where
   pub closings_go : AreAccepted M (holes_ops (caps_of outer) caps)
-  closings_go = subst (λ (o : shape.Caps). AreAccepted M (holes_ops o caps)) (sym is) (first_part M (hole_ops (all_caps caps)) (Part s t (upper_left above (all_caps caps)) ∷ []) accepted)
+  closings_go = subst (λ (o : shape.Caps). AreAccepted M (holes_ops o caps)) (sym is) (AreAccepted-front M (hole_ops (all_caps caps)) (Part s t (upper_left above (all_caps caps)) ∷ []) accepted)
 
   -- once the holes are closed it remains
   pub part_left : (K : Model) → K ≡ effects M (holes_ops (caps_of outer) caps) → (faces : List ℕ) → faces ≡ above ++ outer_uppers caps
-      → Remaining K (Part s t faces ∷ []) (effects M (hole_ops (all_caps caps) ++ Part s t (upper_left above (all_caps caps)) ∷ []))
-  part_left K e faces are = subst (λ fs. Remaining K (Part s t fs ∷ []) (effects M (hole_ops (all_caps caps) ++ Part s t (upper_left above (all_caps caps)) ∷ []))) (sym are)
+      → Leads K (effects M (hole_ops (all_caps caps) ++ Part s t (upper_left above (all_caps caps)) ∷ [])) (Part s t faces ∷ [])
+  part_left K e faces are = subst (λ fs. Leads K (effects M (hole_ops (all_caps caps) ++ Part s t (upper_left above (all_caps caps)) ∷ [])) (Part s t fs ∷ [])) (sym are)
       (some_taken M (hole_ops (all_caps caps)) (Part s t (upper_left above (all_caps caps)) ∷ []) _ K accepted refl
       (e ∙ ap (λ (o : shape.Caps). effects M (holes_ops o caps)) is))

@@ -10,7 +10,7 @@ use Rattle.euler_operators.specs.Effect.{effect}
 use Rattle.euler_laws.specs.Laws.{AreAccepted, effects}
 use Rattle.shapes.specs.Fresh.{Taken, numbers_after}
 use Rattle.split_opening_laws.specs.caps.CapOps.{joinings, partings, cap_ops}
-use Rattle.plane_split.proofs.solid_opening_laws.Taken.{first_part, Remaining, some_taken}
+use Rattle.euler_laws.proofs.Runs.{Leads, AreAccepted-front, some_taken}
 
 -- the edges after k up to the last go
 abbrev pub kills : ℕ → ℕ → List Op
@@ -51,11 +51,11 @@ module _ (N : Model) (k last : ℕ) (lt : k < last) (accepted : AreAccepted N (k
 module _ (N : Model) (c : Taken) (m : ℕ) (accepted : AreAccepted N (cap_ops c m)) where
   pub joinings_go : AreAccepted N (joinings c m (m - 1))
   unfolding cap_ops
-  joinings_go = first_part N (joinings c m (m - 1)) (partings c m) accepted
+  joinings_go = AreAccepted-front N (joinings c m (m - 1)) (partings c m) accepted
 
   -- once the strips are joined these two remain
   pub partings_left : (K : Model) → K ≡ effects N (joinings c m (m - 1)) → (h : HalfEdge) → h ≡ half (plus (c.edge + m + 1))
-      → Remaining K (Kemr h (c.loop + m + 1) ∷ Mfkrh (c.loop + m + 1) (c.face + m + 1) ∷ []) (effects N (cap_ops c m))
+      → Leads K (effects N (cap_ops c m)) (Kemr h (c.loop + m + 1) ∷ Mfkrh (c.loop + m + 1) (c.face + m + 1) ∷ [])
   unfolding cap_ops
-  partings_left K e h is = subst (λ g. Remaining K (Kemr g (c.loop + m + 1) ∷ Mfkrh (c.loop + m + 1) (c.face + m + 1) ∷ []) (effects N (cap_ops c m))) (sym is)
+  partings_left K e h is = subst (λ g. Leads K (effects N (cap_ops c m)) (Kemr g (c.loop + m + 1) ∷ Mfkrh (c.loop + m + 1) (c.face + m + 1) ∷ [])) (sym is)
       (some_taken N (joinings c m (m - 1)) (partings c m) (effects N (cap_ops c m)) K accepted refl e)

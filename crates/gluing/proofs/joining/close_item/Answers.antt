@@ -3,7 +3,8 @@ use Rattle.std.proofs.lemmas.Result.{on_ok_weaker}
 use Rattle.euler_operators.specs.HalfEdge.{code, half, mate, minus}
 use Rattle.euler_operators.proofs.Halves.{code-half}
 use Rattle.undo_journal.specs.Journal.{DraftJournal}
-use Rattle.gluing.proofs.Remaining.{closing_left, next_goes, next_taken, all_taken, session_stays}
+use Rattle.euler_laws.proofs.Runs.{next_goes, next_taken, all_taken}
+use Rattle.gluing.proofs.Remaining.{closing_left, session_stays}
 use Rattle.gluing.proofs.joining.close_item.Goals as goal
 
 pub step_accepted-requires : goal.step_accepted-requires

@@ -3,7 +3,8 @@ use Rattle.std.proofs.lemmas.Result.{on_ok_weaker}
 use Rattle.euler_operators.specs.HalfEdge.{half, plus}
 use Rattle.euler_operators.specs.Model.{solid_of}
 use Rattle.undo_journal.specs.Journal.{DraftJournal}
-use Rattle.gluing.proofs.Remaining.{opening_left, next_goes, next_taken, all_taken, session_stays}
+use Rattle.euler_laws.proofs.Runs.{next_goes, next_taken, all_taken}
+use Rattle.gluing.proofs.Remaining.{opening_left, session_stays}
 use Rattle.gluing.proofs.joining.open_seam.Goals as goal
 
 pub step_accepted-requires-3 : goal.step_accepted-requires-3
