@@ -2,7 +2,7 @@
 use Rattle.std.proofs.Common.{◌≡◌, ◌≢◌, ℕ, ◌+◌, Bool, true, false, cond, not, nat_eq, ◌||◌, List, [], ◌∷◌, ◌++◌, length, Option, Some, None, is_some, refl, sym, ap, subst, ◌∙◌, arith, true≢false, inl, inr}
 use Rattle.std.proofs.lemmas.Bool.Decides.{eqb_tells, nat_tests}
 use Rattle.std.proofs.lemmas.Bool.{eq-eqb, eqb-true, false_from_ne_true, not-false}
-use Rattle.std.proofs.lemmas.List.{length-append, append_assoc}
+use Rattle.std.proofs.lemmas.List.{length-append}
 use Rattle.euler_operators.specs.declared.Point.{Point}
 use Rattle.euler_operators.specs.Items.{count, IsIn, IsApart}
 use Rattle.euler_operators.specs.HalfEdge.{edge_of, plus}
@@ -11,7 +11,7 @@ use Rattle.euler_operators.specs.Table.{Table, all_in}
 use Rattle.euler_operators.specs.Model.{Model, LoopContent, FaceRow, LoopRow, lone, cycle, items_of, content, face_of, loop_of, solid_of, tail, rings_of, faces_of}
 use Rattle.euler_operators.specs.Sound.{Sound, Has, HasHalf}
 use Rattle.euler_operators.specs.Conditions.{face_at, lists}
-use Rattle.euler_operators.proofs.Lists.{count-append, tick_same, tick_other, IsIn_or_not}
+use Rattle.euler_operators.proofs.Lists.{tick_same}
 use Rattle.euler_operators.proofs.Members.{IsIn-map, same_length}
 use Rattle.euler_operators.proofs.Rotations.{IsIn_head}
 use Rattle.euler_operators.proofs.Models.{content_row, solid_row, item_there, loop_there, cycle_there, never_lone, same_solid, same_face, same_content, plus_there, plus_edge}
@@ -23,9 +23,10 @@ use Rattle.euler_laws.proofs.shared.FirstWhere.{first_passes}
 use Rattle.euler_laws.proofs.shared.Listed.{listed_passes, all_where-rises, IsIn-from_listed, listed-from_in}
 use Rattle.euler_laws.proofs.shared.Rows.{loop_row}
 use Rattle.euler_laws.proofs.shared.Same.{one_solid_round, same_tail}
-use Rattle.shapes.specs.Faces.{loops_of, vertices_on, vertices_in, corners, corners_in, vertices_of}
+use Rattle.shapes.specs.Faces.{loops_of, vertices_on, corners_in, vertices_of}
 use Rattle.shapes.specs.Walks.{loops_in}
 use Rattle.shapes.proofs.walks.SolidFaces.{solid_loops, all_loops_apart, loop_in_solid, solid_has_loop}
+use Rattle.shapes.proofs.walks.Corners.{corners_are, on_one, on_some}
 use Rattle.solid_measure.specs.solid_counts.Counts.{rings_in, tally_of, counts}
 use Rattle.solid_measure.proofs.solid_counts_laws.HowMany.{equally_many}
 use Rattle.gluing_laws.proofs.Listed.{one_if}
@@ -110,29 +111,6 @@ home M v = table.first_where (λ _ row. lists (vertices_on M row.content) v) M.l
 
 abbrev pub solid_of_vertex : Model → ℕ → ℕ
 solid_of_vertex M v = solid_of_loop M (home M v)
-
--- ---- corners, by loops
-
-vertices_joined : (M : Model) (ls ks : List ℕ) → vertices_in M (ls ++ ks) ≡ vertices_in M ls ++ vertices_in M ks
-vertices_joined M [] ks = refl
-vertices_joined M (l ∷ ls) ks = ap (λ vs. vertices_on M (content M l) ++ vs) (vertices_joined M ls ks) ∙ sym (append_assoc (vertices_on M (content M l)) (vertices_in M ls) (vertices_in M ks))
-
-corners_are : (M : Model) (fs : List ℕ) → corners_in M fs ≡ vertices_in M (loops_in M fs)
-unfolding corners
-corners_are M [] = refl
-corners_are M (f ∷ fs) = ap (λ vs. vertices_in M (loops_of M f) ++ vs) (corners_are M fs) ∙ sym (vertices_joined M (loops_of M f) (loops_in M fs))
-
--- a vertex on some loops is on one of them
-pub on_one : (M : Model) (ls : List ℕ) (v : ℕ) → IsIn v (vertices_in M ls) → (l : ℕ) × IsIn l ls × IsIn v (vertices_on M (content M l))
-on_one M [] v i = absurd (omega arith)
-on_one M (l ∷ ls) v i =
-    let one = count-append v (vertices_on M (content M l)) (vertices_in M ls) in
-    grind (arith, IsIn_or_not v (vertices_on M (content M l)), tick_same l, on_one M ls v, one)
-
-on_some : (M : Model) (ls : List ℕ) (l v : ℕ) → IsIn l ls → IsIn v (vertices_on M (content M l)) → IsIn v (vertices_in M ls)
-on_some M [] l v i j = absurd (omega arith)
-on_some M (k ∷ ls) l v i j =
-    grind (arith, eqb_tells l k, count-append v (vertices_on M (content M k)) (vertices_in M ls), on_some M ls l v, tick_other l k)
 
 -- vertex v is on a loop of solid s
 pub record OnSolid (M : Model) (s v : ℕ) : Type 0 where

@@ -2,3 +2,4 @@ pub mod Rounds
 pub mod FaceLoops
 pub mod SolidFaces
 pub mod FirstEdges
+pub mod Corners

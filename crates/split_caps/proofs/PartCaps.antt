@@ -40,7 +40,7 @@ use Rattle.split_laws.proofs.volumes.Split as split
 use Rattle.split_laws.proofs.volumes.Taken as taken
 use Rattle.split_laws.proofs.volumes.Taken.{CanTake}
 use Rattle.split_laws.proofs.opened.InTurn.{along_each}
-use Rattle.command_laws.proofs.Owners.{on_one}
+use Rattle.shapes.proofs.walks.Corners.{on_one}
 use Rattle.split_caps.specs.Capped.{IsCapOf, area_below, sum_of}
 use Rattle.split_caps.proofs.OpenedCaps.{both_opposite, both_take, closed_normal, taken_by, lowers, normals_are, outer_is, told_at, told_filtered, uppers, AllFaceApart, LiesOn, caps_apart, outer_on, plain_lies, FacesApart, apart_each}
 

@@ -7,7 +7,7 @@ use mir.Val.{to_z, of_z}
 use Rattle.euler_operators.proofs.Magnitudes.{difference_within}
 use Rattle.std.proofs.lemmas.Bool.Decides.{eqb_tells}
 use Rattle.std.proofs.lemmas.Bool.{eq-eqb, eqb-true}
-use Rattle.std.proofs.lemmas.List.{length-append, length-map, append_assoc}
+use Rattle.std.proofs.lemmas.List.{length-append, length-map}
 use Rattle.euler_operators.specs.Items.{count, IsIn, IsApart}
 use Rattle.euler_operators.proofs.Lists.{count-append, tick_same, tick_other, IsIn_or_not}
 use Rattle.euler_operators.specs.HalfEdge.{edge_of, is_first, plus}
@@ -22,7 +22,7 @@ use Rattle.euler_operators.specs.Conditions.{lists, is_lone, lone_vertex, face_a
 use Rattle.euler_laws.proofs.shared.Rows.{lone_is}
 use Rattle.euler_laws.proofs.shared.Fans.{kept_round, loop_after}
 use Rattle.euler_laws.proofs.shared.Listed.{listed_passes, passes_listed, all_where-rises, IsIn-from_listed, listed-from_in}
-use Rattle.shapes.specs.Faces.{items_in, loops_of, vertices_on, vertices_in, corners, corners_in, vertices_of, edges_of}
+use Rattle.shapes.specs.Faces.{items_in, vertices_on, vertices_in, corners_in, vertices_of, edges_of}
 use Rattle.solid_measure.specs.solid_counts.Counts.{rings_in, counts}
 use Rattle.solid_measure.specs.declared.solid_counts.Met.{Met}
 use Rattle.solid_measure.specs.declared.solid_counts.Tally.{Tally}
@@ -30,38 +30,12 @@ use Rattle.solid_measure.specs.solid_counts.Sums.{IsFew, loops_met}
 use Rattle.solid_measure.proofs.solid_counts_laws.HowMany.{passing, passing_are, passing_apart, of_passing, in_passing, of_map, equally_many}
 use Rattle.solid_measure.proofs.solid_counts_laws.Sums.{is_lone_loop, loops_are, loops_few}
 use Rattle.solid_measure.proofs.solid_counts_laws.FaceSums.{rings_few}
-use Rattle.shapes.specs.Walks.{leads, loops_in}
+use Rattle.shapes.specs.Walks.{leads}
 use Rattle.euler_laws.proofs.shared.Counted.{counted_once}
 use Rattle.shapes.proofs.walks.FaceLoops.{different_items, items_counted, items_there}
 use Rattle.shapes.proofs.walks.SolidFaces.{solid_loops, all_loops_apart, loop_in_solid, solid_has_loop, faces_short}
 use Rattle.shapes.proofs.walks.FirstEdges.{one_leads, only_leads}
-
--- ---- corners, by loops
-
-vertices_joined : (M : Model) (ls ks : List ℕ) → vertices_in M (ls ++ ks) ≡ vertices_in M ls ++ vertices_in M ks
-vertices_joined M [] ks = refl
-vertices_joined M (l ∷ ls) ks = ap (λ vs. vertices_on M (content M l) ++ vs) (vertices_joined M ls ks) ∙ sym (append_assoc (vertices_on M (content M l)) (vertices_in M ls) (vertices_in M ks))
-
-corners_are : (M : Model) (fs : List ℕ) → corners_in M fs ≡ vertices_in M (loops_in M fs)
-unfolding corners
-corners_are M [] = refl
-corners_are M (f ∷ fs) = ap (λ vs. vertices_in M (loops_of M f) ++ vs) (corners_are M fs) ∙ sym (vertices_joined M (loops_of M f) (loops_in M fs))
-
--- a vertex on some loops is on one of them
-on_one : (M : Model) (ls : List ℕ) (v : ℕ) → IsIn v (vertices_in M ls) → (l : ℕ) × IsIn l ls × IsIn v (vertices_on M (content M l))
-on_one M [] v i = absurd (omega arith)
-on_one M (l ∷ ls) v i = elim (IsIn_or_not v (vertices_on M (content M l))) [
-  | inl j ↦ (l, omega (arith, tick_same l), j)
-  | inr n ↦ let r = on_one M ls v (omega (arith, i, n, count-append v (vertices_on M (content M l)) (vertices_in M ls))) in (r.0, omega (arith, r.1), r.2)
-]
-
--- an item of the list of one loop stands in that of some loops with it
-in_some : (f : ℕ → List ℕ) (all : List ℕ → List ℕ) → ((l : ℕ) (ls : List ℕ) → all (l ∷ ls) ≡ f l ++ all ls) → (ls : List ℕ) (l x : ℕ) → IsIn l ls → IsIn x (f l) → IsIn x (all ls)
-in_some f all step [] l x i j = absurd (omega arith)
-in_some f all step (k ∷ ls) l x i j = elim (eqb_tells l k) [
-  | inl e ↦ omega (arith, ap (count x) (step k ls), count-append x (f k) (all ls), j, ap (λ m. count x (f m)) e.1)
-  | inr n ↦ omega (arith, ap (count x) (step k ls), count-append x (f k) (all ls), in_some f all step ls l x (omega (arith, i, tick_other l k n.1)) j)
-]
+use Rattle.shapes.proofs.walks.Corners.{corners_are, on_one, in_some, on_some}
 
 -- what the code holds of counts and of their difference
 count_held : (z : ℤ) (n : ℕ) → z ≡ pos n → n ≤ 5000001 → to_z w64 (of_z w64 z) ≡ pos n
@@ -142,7 +116,7 @@ module _ (M : Model) (sound : Sound M) (s : ℕ) where
   -- a vertex that is on one of the loops
   vertex_listed : (v l : ℕ) → Has M.vertices v → IsIn l loops → IsIn v (vertices_on M (content M l)) → IsIn v solid_vertices
   vertex_listed v l t i j =
-      let c : IsIn v (corners_in M (faces_of M s)) = omega (arith, ap (count v) (corners_are M (faces_of M s)), in_some (λ l. vertices_on M (content M l)) (vertices_in M) (λ l ls. refl) loops l v i j) in
+      let c : IsIn v (corners_in M (faces_of M s)) = omega (arith, ap (count v) (corners_are M (faces_of M s)), on_some M loops l v i j) in
       let r = row_some (table.get M.vertices v) t in
       IsIn-from_listed v solid_vertices (passes_listed (λ v _. lists (corners_in M (faces_of M s)) v) M.vertices v r.0 r.1 (listed-from_in v (corners_in M (faces_of M s)) c))
 

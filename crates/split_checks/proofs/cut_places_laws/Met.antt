@@ -19,6 +19,7 @@ use Rattle.euler_conditions.specs.Store.{Tells}
 use Rattle.euler_operators.proofs.Halves.{edge_of-code, is_first-code}
 use Rattle.shapes.specs.Faces.{start, finish, boundary, corners, loops_of, items_in, vertices_on, vertices_in}
 use Rattle.shapes.proofs.walks.FaceLoops.{items_joined}
+use Rattle.shapes.proofs.walks.Corners.{vertices_joined}
 use Rattle.shapes.specs.split.Places.{is_place, is_touched, is_cut_often, places}
 use Rattle.shapes.specs.split.Sides.{crosses, reaches_above, reaches_below, straddles}
 use Rattle.split_checks.specs.cut_places.Crossings.{leads_across, crossings_in, crossings_met}
@@ -239,16 +240,12 @@ module _ (M : Model) (p : Plane) where
   pub loops_begin : (o : Looked) (all : List ℕ) → LoopsWalked o o all all
   loops_begin o all = record { done = []; whole = refl; met = nothing_met o }
 
-  vertices_joined : (ls ks : List ℕ) → vertices_in M (ls ++ ks) ≡ vertices_in M ls ++ vertices_in M ks
-  vertices_joined [] ks = refl
-  vertices_joined (l ∷ ls) ks = ap (λ (vs : List ℕ). vertices_on M (content M l) ++ vs) (vertices_joined ls ks) ∙ sym (append_assoc (vertices_on M (content M l)) (vertices_in M ls) (vertices_in M ks))
-
   pub loops_on : (old now next : Looked) (l : ℕ) (rest all : List ℕ) → LoopsWalked old now (l ∷ rest) all → IsMet M p now next (items_of (content M l)) (vertices_on M (content M l)) → LoopsWalked old next rest all
   loops_on old now next l rest all w m = record {
     done = w.done ++ l ∷ [];
     whole = append_assoc w.done (l ∷ []) rest ∙ w.whole;
     met = subst (λ (hs : List ℕ). IsMet M p old next hs (vertices_in M (w.done ++ l ∷ []))) (ap (λ (hs : List ℕ). items_in M w.done ++ hs) (sym (append-nil (items_of (content M l)))) ∙ sym (items_joined M w.done (l ∷ [])))
-        (subst (IsMet M p old next (items_in M w.done ++ items_of (content M l))) (ap (λ (vs : List ℕ). vertices_in M w.done ++ vs) (sym (append-nil (vertices_on M (content M l)))) ∙ sym (vertices_joined w.done (l ∷ [])))
+        (subst (IsMet M p old next (items_in M w.done ++ items_of (content M l))) (ap (λ (vs : List ℕ). vertices_in M w.done ++ vs) (sym (append-nil (vertices_on M (content M l)))) ∙ sym (vertices_joined M w.done (l ∷ [])))
         (more_met old now next (items_in M w.done) (items_of (content M l)) (vertices_in M w.done) (vertices_on M (content M l)) w.met m));
   }
 

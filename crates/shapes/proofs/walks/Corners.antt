@@ -1,0 +1,38 @@
+-- The corners of some loops and of some faces, loop by loop.
+use Rattle.std.proofs.Common.{◌≡◌, ℕ, List, [], ◌∷◌, ◌++◌, refl, sym, ap, ◌∙◌, arith, inl, inr}
+use Rattle.std.proofs.lemmas.Bool.Decides.{eqb_tells}
+use Rattle.std.proofs.lemmas.List.{append_assoc}
+use Rattle.euler_operators.specs.Items.{count, IsIn}
+use Rattle.euler_operators.proofs.Lists.{count-append, tick_same, tick_other, IsIn_or_not}
+use Rattle.euler_operators.specs.Model.{Model, content}
+use Rattle.shapes.specs.Faces.{loops_of, vertices_on, vertices_in, corners, corners_in}
+use Rattle.shapes.specs.Walks.{loops_in}
+
+pub vertices_joined : (M : Model) (ls ks : List ℕ) → vertices_in M (ls ++ ks) ≡ vertices_in M ls ++ vertices_in M ks
+vertices_joined M [] ks = refl
+vertices_joined M (l ∷ ls) ks = ap (λ vs. vertices_on M (content M l) ++ vs) (vertices_joined M ls ks) ∙ sym (append_assoc (vertices_on M (content M l)) (vertices_in M ls) (vertices_in M ks))
+
+pub corners_are : (M : Model) (fs : List ℕ) → corners_in M fs ≡ vertices_in M (loops_in M fs)
+unfolding corners
+corners_are M [] = refl
+corners_are M (f ∷ fs) = ap (λ vs. vertices_in M (loops_of M f) ++ vs) (corners_are M fs) ∙ sym (vertices_joined M (loops_of M f) (loops_in M fs))
+
+-- a vertex on some loops is on one of them
+pub on_one : (M : Model) (ls : List ℕ) (v : ℕ) → IsIn v (vertices_in M ls) → (l : ℕ) × IsIn l ls × IsIn v (vertices_on M (content M l))
+on_one M [] v i = absurd (omega arith)
+on_one M (l ∷ ls) v i = elim (IsIn_or_not v (vertices_on M (content M l))) [
+  | inl j ↦ (l, omega (arith, tick_same l), j)
+  | inr n ↦ let r = on_one M ls v (omega (arith, i, n, count-append v (vertices_on M (content M l)) (vertices_in M ls))) in (r.0, omega (arith, r.1), r.2)
+]
+
+-- an item of the list of one loop stands in that of some loops with it
+pub in_some : (f : ℕ → List ℕ) (all : List ℕ → List ℕ) → ((l : ℕ) (ls : List ℕ) → all (l ∷ ls) ≡ f l ++ all ls) → (ls : List ℕ) (l x : ℕ) → IsIn l ls → IsIn x (f l) → IsIn x (all ls)
+in_some f all step [] l x i j = absurd (omega arith)
+in_some f all step (k ∷ ls) l x i j = elim (eqb_tells l k) [
+  | inl e ↦ omega (arith, ap (count x) (step k ls), count-append x (f k) (all ls), j, ap (λ m. count x (f m)) e.1)
+  | inr n ↦ omega (arith, ap (count x) (step k ls), count-append x (f k) (all ls), in_some f all step ls l x (omega (arith, i, tick_other l k n.1)) j)
+]
+
+-- so does a vertex on one loop
+pub on_some : (M : Model) (ls : List ℕ) (l v : ℕ) → IsIn l ls → IsIn v (vertices_on M (content M l)) → IsIn v (vertices_in M ls)
+on_some M = in_some (λ l. vertices_on M (content M l)) (vertices_in M) (λ l ls. refl)
