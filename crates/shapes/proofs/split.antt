@@ -1,3 +1,4 @@
 pub mod WorkedSplits
 pub mod WorkedSections
 pub mod WorkedRefusals
+pub mod Sorted

@@ -11,7 +11,7 @@ use Rattle.shapes.specs.Faces.{loops_of, boundary}
 use Rattle.shapes.specs.split.Places.{is_place, places, goes_up, sorted, in_pairs, sorted_pairs, up_first, place_pairs}
 use Rattle.shapes.specs.split.Drawing.{FacePairs, drawn_pairs, all_pairs}
 use Rattle.split_drawing_laws.specs.crossings.Kept.{Kept}
-use Rattle.split_drawing_laws.proofs.pairs.Sorted.{count-sorted}
+use Rattle.shapes.proofs.split.Sorted.{count-sorted}
 use Rattle.split_checks.proofs.cut_places_laws.Lists.{of_picked}
 use Rattle.split_checks.specs.Cuts as split_checks
 use Rattle.split_checks.specs.Cuts.{how_many_pairs, paired, paired_face}

@@ -1,6 +1,7 @@
 -- What is asked of a drawing: fresh numbers, how many pairs there are, and that no face is drawn twice.
-use Rattle.std.proofs.Common.{◌≡◌, ℕ, suc, ◌+◌, ◌/◌, nat_eq, List, [], ◌∷◌, length, refl, ap, arith}
+use Rattle.std.proofs.Common.{◌≡◌, ℕ, ◌+◌, ◌/◌, nat_eq, List, [], ◌∷◌, length, refl, ap, arith}
 use Rattle.std.specs.Prelude.{map}
+use Rattle.std.proofs.lemmas.List.{length-map}
 use Rattle.euler_operators.specs.declared.Plane.{Plane}
 use Rattle.euler_operators.specs.Items.{IsApart}
 use Rattle.euler_operators.specs.Model.{Model, faces_of}
@@ -10,11 +11,11 @@ use Rattle.shapes.proofs.fresh.Rows.{none_above}
 use Rattle.euler_laws.proofs.shared.Counted.{counted_once}
 use Rattle.shapes.specs.Fresh.{taken_in}
 use Rattle.shapes.specs.split.Sides.{straddles, straddling_faces}
-use Rattle.shapes.specs.split.Places.{places, in_pairs, sorted_pairs, place_pairs, pair_count}
+use Rattle.shapes.specs.split.Places.{places, sorted_pairs, place_pairs, pair_count}
 use Rattle.shapes.specs.split.Drawing.{drawn_pairs, all_pairs}
 use Rattle.split_drawing_laws.specs.drawings.DrawnIn.{Fresh}
 use Rattle.split_drawing_laws.specs.drawings.Pairs.{pairs_in}
-use Rattle.split_drawing_laws.proofs.pairs.Sorted.{length-sorted}
+use Rattle.shapes.proofs.split.Sorted.{length-sorted, length-in_pairs}
 
 -- above the greatest numbers in use all are free
 pub fresh_taken : (M : Model) → Fresh M (taken_in M)
@@ -25,18 +26,9 @@ fresh_taken M = record { faces = none_above M.faces; loops = none_above M.loops;
 pub straddling_apart : (M : Model) (p : Plane) (s : ℕ) → IsApart (straddling_faces M p s)
 straddling_apart M p s x = omega (arith, count-filter (straddles M p) x (faces_of M s), counted_once x (faces_of M s) (all_where-rises (λ _ row. nat_eq row.solid s) M.faces))
 
-length_map : {X Y : Type 0} (g : X → Y) (xs : List X) → length (map g xs) ≡ length xs
-length_map g [] = refl
-length_map g (x ∷ xs) = ap suc (length_map g xs)
-
-length_in_pairs : (hs : List ℕ) → length (in_pairs hs) ≡ length hs / 2
-length_in_pairs [] = omega arith
-length_in_pairs (h ∷ []) = omega arith
-length_in_pairs (h ∷ k ∷ ks) = let s : length (in_pairs ks) ≡ length ks / 2 = length_in_pairs ks in omega (arith, s)
-
 pairs_of : (M N : Model) (p : Plane) (f : ℕ) → length (drawn_pairs M N p f) ≡ length (places M p f) / 2
 unfolding drawn_pairs place_pairs sorted_pairs
-pairs_of M N p f = grind (arith, length_map, length_in_pairs, length-sorted)
+pairs_of M N p f = grind (arith, length-map, length-in_pairs, length-sorted)
 
 -- faces stay when they get their pairs
 pub faces_are : (M N : Model) (p : Plane) (fs : List ℕ) → map (λ f. f.face) (all_pairs M N p fs) ≡ fs

@@ -30,7 +30,8 @@ use Rattle.split_drawing_laws.specs.crossings.Laws.{CanBegin}
 use Rattle.split_drawing_laws.specs.half_sides.HalfSides.{half_is_above, side_of, is_own}
 use Rattle.split_drawing_laws.proofs.crossings.Whole.{at_place, item_there, item_face, turned, in_crossing, on_when, can_cut, crossings_sound, same_solid, none_crosses}
 use Rattle.split_drawing_laws.proofs.crossings.Premises.{edge_facts, crossing_here, crossing_point, one_point, face_facts, any_passes, tail_in_face, faces_not_zero, in_solid, edge_listed}
-use Rattle.split_drawing_laws.proofs.pairs.Sorted.{between, drawn, points_apart, all_places_drawn, count-sorted, sorted_apart}
+use Rattle.shapes.proofs.split.Sorted.{count-sorted}
+use Rattle.split_drawing_laws.proofs.pairs.Sorted.{between, drawn, points_apart, all_places_drawn, sorted_apart}
 use Rattle.split_drawing_laws.proofs.pairs.LoopPlaces.{places_even, none_passes}
 use Rattle.split_drawing_laws.proofs.pairs.Whole.{places_apart, place_face}
 use Rattle.split_drawing_laws.proofs.half_sides.Starts.{side_ahead, TurnAt, turn_at, side_kept, side_changed, starts_above, starts_below, crosses_back, comes_from}

@@ -1,6 +1,6 @@
--- Places sorted by their points: the same places.
+-- Places sorted by their points: what holds of them and of their pairs.
 use Rattle.std.specs.Prelude.{map}
-use Rattle.std.proofs.Common.{◌≡◌, ℕ, suc, ◌+◌, true, false, cond, List, [], ◌∷◌, length, refl, ap, ◌∙◌, arith, ◌≢◌, ◌*◌, Bool, sym, subst, true≢false}
+use Rattle.std.proofs.Common.{◌≡◌, ℕ, ◌+◌, true, false, cond, List, [], ◌∷◌, length, refl, ap, ◌∙◌, arith, ◌≢◌, ◌*◌, Bool, sym, subst, true≢false}
 use Rattle.std.proofs.lemmas.Bool.{eq-eqb}
 use Rattle.euler_operators.specs.declared.Plane.{Plane}
 use Rattle.euler_operators.specs.Items.{count, tick, IsApart, IsIn}
@@ -8,31 +8,15 @@ use Rattle.euler_operators.specs.Model.{Model, loop_of}
 use Rattle.euler_operators.proofs.Lists.{tick_same}
 use Rattle.shapes.specs.split.Places.{place_point, sorted_in, sorted, goes_up, in_pairs, up_first, places, sorted_pairs, place_pairs, is_crossed}
 use Rattle.shapes.specs.split.Drawing.{from_place, drawn_pairs}
+use Rattle.shapes.proofs.split.Sorted.{count-sorted, length-sorted}
 use Rattle.split_drawing_laws.specs.drawings.Pairs.{Fits, AllFit, LoneInOneLoop}
 use Rattle.split_drawing_laws.specs.loop_sides.Parted.{ends}
 use Rattle.split_drawing_laws.proofs.pairs.LoopPlaces.{IsEven, two_less}
 use Rattle.split_drawing_laws.proofs.crossings.Premises.{two_meet}
 
 module _ (M : Model) (p : Plane) where
-  count-sorted_in : (x h : ℕ) (ks : List ℕ) → count x (sorted_in M p h ks) ≡ tick x h + count x ks
-  count-sorted_in x h [] = refl
-  count-sorted_in x h (k ∷ ks) = grind (arith, count-sorted_in x h ks)
-
-  -- each as often as before
-  pub count-sorted : (x : ℕ) (hs : List ℕ) → count x (sorted M p hs) ≡ count x hs
-  count-sorted x [] = refl
-  count-sorted x (h ∷ hs) = count-sorted_in x h (sorted M p hs) ∙ ap (λ n. tick x h + n) (count-sorted x hs)
-
   pub sorted_apart : (hs : List ℕ) → IsApart hs → IsApart (sorted M p hs)
-  sorted_apart hs apart x = omega (arith, apart x, count-sorted x hs)
-
-  pub length-sorted_in : (h : ℕ) (ks : List ℕ) → length (sorted_in M p h ks) ≡ suc (length ks)
-  length-sorted_in h [] = refl
-  length-sorted_in h (k ∷ ks) = grind (arith, length-sorted_in h ks)
-
-  pub length-sorted : (hs : List ℕ) → length (sorted M p hs) ≡ length hs
-  length-sorted [] = refl
-  length-sorted (h ∷ hs) = length-sorted_in h (sorted M p hs) ∙ ap suc (length-sorted hs)
+  sorted_apart hs apart x = omega (arith, apart x, count-sorted M p x hs)
 
 -- ---- the pairs of a list of places fit where any two of these places do
 

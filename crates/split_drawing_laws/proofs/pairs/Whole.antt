@@ -33,7 +33,8 @@ use Rattle.split_drawing_laws.proofs.drawings.Counted.{pairs_counted, fresh_take
 use Rattle.split_drawing_laws.proofs.crossings.Whole.{at_place, item_face, can_cut, crossings_accepted, crossings_made, crossings_sound, crossings_counted, crossings_keep}
 use Rattle.split_drawing_laws.proofs.crossings.Premises.{Cuttable, face_facts}
 use Rattle.split_drawing_laws.proofs.drawings.Whole.{drawing_accepted, drawing_made, drawing_sound}
-use Rattle.split_drawing_laws.proofs.pairs.Sorted.{count-sorted, sorted_apart, length-sorted, all_paired, between, drawn, all_fit, lone_in_loop, points_apart}
+use Rattle.shapes.proofs.split.Sorted.{count-sorted, length-sorted}
+use Rattle.split_drawing_laws.proofs.pairs.Sorted.{sorted_apart, all_paired, between, drawn, all_fit, lone_in_loop, points_apart}
 use Rattle.split_drawing_laws.proofs.pairs.LoopPlaces.{places_even, two_outer, IsEven}
 
 -- an edge and a vertex for each edge that is cut
