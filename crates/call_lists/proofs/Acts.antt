@@ -1,5 +1,5 @@
 -- What a call is told, from how the session's call ended.
-use Rattle.std.proofs.Common.{◌≡◌, inl, inr, Option, Some, None, Ok, Err, refl, sym, ap, subst, OnOk, OnErr}
+use Rattle.std.proofs.Common.{◌≡◌, inl, inr, Option, Some, None, Ok, Err, refl, sym, subst, OnOk, OnErr}
 use Rattle.std.specs.Prelude.{◌↔◌, Result}
 use Rattle.std.proofs.lemmas.Result.{on_ok_weaker}
 use Rattle.euler_operators.specs.declared.Refusal.{Refusal}
@@ -7,6 +7,7 @@ use Rattle.undo_journal.specs.Machine.{Machine}
 use Rattle.undo_journal.specs.Journal.{Journal}
 use Rattle.undo_journal.specs.declared.session.Failure.{Failure}
 use Rattle.undo_journal.specs.declared.session.Failure.TheVariants as failure
+use Rattle.undo_journal.proofs.Journals.{same_machine}
 use Rattle.call_lists.specs.declared.calls.Told.{Told}
 use Rattle.call_lists.specs.declared.calls.Told.TheVariants.{Done, Refused, Memory}
 use Rattle.call_lists.specs.Making.{Acts, StaysUnlessDone, Tries, told_of}
@@ -15,9 +16,6 @@ use Rattle.call_lists.specs.Making.{Acts, StaysUnlessDone, Tries, told_of}
 told_memory : (o : Option Refusal) (s acted t : Machine) → ((r : Refusal) → o ≡ Some r → ⊥) → t ≡ s → Acts o s acted Memory t
 told_memory None s acted t never et = inr (refl, et)
 told_memory (Some r) s acted t never et = absurd (never r refl)
-
-pub same_machine : {t s : Journal} → t ≡ s → t.machine ≡ s.machine
-same_machine e = ap (λ (j : Journal). j.machine) e
 
 -- a call that leaves the session as it was where it ends in an error is told `Done`, or leaves it so
 stays : (s : Journal) (ended : Result (Unit {0}) Failure) (t : Journal) → OnErr ended (t ≡ s) → StaysUnlessDone (told_of ended) s t

@@ -7,12 +7,13 @@ use Rattle.euler_operators.specs.declared.Op.{Op}
 use Rattle.euler_operators.specs.declared.Refusal.{Refusal}
 use Rattle.euler_operators.specs.Conditions.{first_false}
 use Rattle.euler_operators.specs.Effect.{effect}
-use Rattle.euler_laws.specs.Laws.{effects, AreAccepted}
+use Rattle.euler_laws.specs.Laws.{effects}
 use Rattle.euler_laws.proofs.Runs.{effects_keep_sound}
 use Rattle.undo_journal.specs.Machine.{Machine, DraftState, held, depth, accepted, act, act_refusal, undo, undo_refusal, redo, redo_refusal, open_draft, draft_step, commit}
 use Rattle.undo_journal.specs.Recorded.{models}
 use Rattle.undo_journal.specs.Histories as histories
-use Rattle.undo_journal.specs.Histories.{unless, first_of, run_refusal, tried, after_call, after_calls, Follows, IsConsistent}
+use Rattle.undo_journal.specs.Histories.{unless, run_refusal, tried, after_call, after_calls, Follows, IsConsistent}
+use Rattle.undo_journal.proofs.Consistent.{none_first, run_goes}
 use Rattle.undo_journal.proofs.Copies.{at_place, how_many, accepted_is_appended, undo_moves_the_place, redo_moves_the_place, undone_to_first, redone_to_last}
 use Rattle.sweeps.specs.Machine.{lamina, lamina_refusal, block, block_refusal, sweep, sweep_refusal}
 use Rattle.gluing.specs.Machine.{glue, glue_refusal}
@@ -24,7 +25,6 @@ use Rattle.sweeps.specs.Calls.{LaminasAreCalls, BlocksAreCalls, SweepsAreCalls}
 use Rattle.gluing.specs.Calls.{GluesAreCalls}
 use Rattle.plane_split.specs.Calls.{SplitsAreCalls}
 use Rattle.call_lists.specs.Laws.{ListsAreHistories, ListsKeepConsistent}
-use Rattle.call_lists.proofs.Lists.{both_none}
 use Rattle.call_lists.specs.Making.{Moves, Acts, Tries, Makes}
 
 -- models that begin with the empty one, each sound, each made of the one before it by accepted operators
@@ -112,19 +112,15 @@ pub consistent_redo : (s : Machine) → IsConsistent s → IsConsistent (redo s)
 consistent_redo s c = consistent (redo s) (subst Whole (sym (redo_moves_the_place s).0) (whole s c))
 
 -- operators of which none is refused, each tried in its turn
-accepted_all : (M : Model) (ops : List Op) → run_refusal M ops ≡ None → AreAccepted M ops
-accepted_all M [] e = tt
-accepted_all M (op ∷ ops) e = let both = both_none (first_false M op) (run_refusal (effect M op) ops) e in (both.0, accepted_all (effect M op) ops both.1)
-
 tried_all : (d : DraftState) (ops : List Op) → run_refusal d.model ops ≡ None → tried d ops ≡ record { session = d.session; model = effects d.model ops }
 tried_all d [] e = refl
 tried_all d (op ∷ ops) e =
-    let both = both_none (first_false d.model op) (run_refusal (effect d.model op) ops) e in
+    let both = none_first (first_false d.model op) (run_refusal (effect d.model op) ops) e in
     ap (λ (o : Option Refusal). tried (unless o (draft_step d op) d) ops) both.0 ∙ tried_all (draft_step d op) ops both.1
 
 -- where a larger command of some operators is accepted, they make its model
 made_follows : (s : Machine) (N : Model) (ops : List Op) (o : Option Refusal) → run_refusal (held s) ops ≡ o → unless o (accepted s (effects (held s) ops)) s ≡ accepted s N → Follows (held s) N
-made_follows s N ops None e is = record { operators = ops; are_accepted = accepted_all (held s) ops e; make = ap held is }
+made_follows s N ops None e is = record { operators = ops; are_accepted = run_goes (held s) ops e; make = ap held is }
 made_follows s N ops (Some r) e is = let d : depth s ≡ suc (depth s) = ap depth is in absurd (omega (arith, d))
 
 -- one call of the plain machine leads from s to t, which is consistent
@@ -168,7 +164,7 @@ committed s ops c goes = record {
   call = histories.committed ops;
   leads = refl;
   consistent = subst (λ (d : DraftState). IsConsistent (commit d)) (sym (tried_all (open_draft s) ops goes))
-      (consistent_accepted s (effects (held s) ops) c (record { operators = ops; are_accepted = accepted_all (held s) ops goes; make = refl }));
+      (consistent_accepted s (effects (held s) ops) c (record { operators = ops; are_accepted = run_goes (held s) ops goes; make = refl }));
 }
 
 abandoned : (s : Machine) → IsConsistent s → Steps s s
@@ -217,12 +213,3 @@ lists_keep_consistent l s t [] [] k h = subst IsConsistent (sym h) k
 lists_keep_consistent l s t [] (a ∷ answers) k h = absurd h
 lists_keep_consistent l s t (c ∷ calls) [] k h = absurd h
 lists_keep_consistent l s t (c ∷ calls) (a ∷ answers) k h = lists_keep_consistent l h.0 t calls answers (step l s h.0 c a k h.1).consistent h.2
-
--- a draft's machine stays
-kept : (d : DraftState) (op : Op) (o : Option Refusal) → (unless o (draft_step d op) d).session ≡ d.session
-kept d op None = refl
-kept d op (Some r) = refl
-
-pub tried_session : (d : DraftState) (ops : List Op) → (tried d ops).session ≡ d.session
-tried_session d [] = refl
-tried_session d (op ∷ ops) = tried_session (unless (first_false d.model op) (draft_step d op) d) ops ∙ kept d op (first_false d.model op)

@@ -6,6 +6,7 @@ use Rattle.euler_operators.specs.Conditions.{first_false}
 use Rattle.euler_operators.specs.Effect.{effect}
 use Rattle.undo_journal.specs.Machine.{Machine, DraftState, draft_step}
 use Rattle.undo_journal.specs.Histories.{unless, first_of, run_refusal, tried}
+use Rattle.undo_journal.proofs.Consistent.{none_first}
 use Rattle.call_lists.specs.declared.calls.Call.{Call}
 use Rattle.call_lists.specs.declared.calls.Told.{Told}
 use Rattle.call_lists.specs.Making.{Makes, MakesAll, AreTold}
@@ -27,16 +28,12 @@ first_some a b r e = ap (λ (x : Option Refusal). first_of x b) e
 stepped : (d : DraftState) (op : Op) (o : Option Refusal) → o ≡ None → unless o (draft_step d op) d ≡ draft_step d op
 stepped d op o e = ap (λ (x : Option Refusal). unless x (draft_step d op) d) e
 
-pub both_none : (a b : Option Refusal) → first_of a b ≡ None → (a ≡ None) × (b ≡ None)
-both_none None b e = (refl, e)
-both_none (Some r) b e = absurd (cc e)
-
 -- one step more that is accepted, and one that isn't, whatever comes after it
 pub one_step : (d : DraftState) (ops : List Op) (op : Op) → run_refusal d.model ops ≡ None → first_false (tried d ops).model op ≡ None
     → (run_refusal d.model (ops ++ op ∷ []) ≡ None) × (tried d (ops ++ op ∷ []) ≡ draft_step (tried d ops) op)
 one_step d [] op none goes = (first_none (first_false d.model op) None goes, stepped d op (first_false d.model op) goes)
 one_step d (p ∷ ops) op none goes =
-    let both = both_none (first_false d.model p) (run_refusal (effect d.model p) ops) none in
+    let both = none_first (first_false d.model p) (run_refusal (effect d.model p) ops) none in
     let first : unless (first_false d.model p) (draft_step d p) d ≡ draft_step d p = stepped d p (first_false d.model p) both.0 in
     let later = one_step (draft_step d p) ops op both.1 (subst (λ (x : DraftState). first_false (tried x ops).model op ≡ None) first goes) in (
       first_none (first_false d.model p) (run_refusal (effect d.model p) (ops ++ op ∷ [])) both.0 ∙ later.0,
@@ -47,7 +44,7 @@ pub refused_at : (d : DraftState) (ops : List Op) (op : Op) (rest : List Op) (r 
     → run_refusal d.model (ops ++ op ∷ rest) ≡ Some r
 refused_at d [] op rest r none named = first_some (first_false d.model op) (run_refusal (effect d.model op) rest) r named
 refused_at d (p ∷ ops) op rest r none named =
-    let both = both_none (first_false d.model p) (run_refusal (effect d.model p) ops) none in
+    let both = none_first (first_false d.model p) (run_refusal (effect d.model p) ops) none in
     let first : unless (first_false d.model p) (draft_step d p) d ≡ draft_step d p = stepped d p (first_false d.model p) both.0 in
     first_none (first_false d.model p) (run_refusal (effect d.model p) (ops ++ op ∷ rest)) both.0
     ∙ refused_at (draft_step d p) ops op rest r both.1 (subst (λ (x : DraftState). first_false (tried x ops).model op ≡ Some r) first named)

@@ -5,6 +5,7 @@ use Rattle.euler_operators.specs.declared.Op.{Op}
 use Rattle.euler_operators.specs.declared.Refusal.{Refusal}
 use Rattle.undo_journal.specs.Machine.{Machine, depth, held, accepted, act, act_refusal, undo, undo_refusal, redo, redo_refusal, open_draft, commit}
 use Rattle.undo_journal.specs.Histories.{run_refusal, tried, undos, redos}
+use Rattle.undo_journal.proofs.Consistent.{tried_session}
 use Rattle.undo_journal.proofs.Copies.{redone_to_last}
 use Rattle.sweeps.specs.Machine.{lamina, lamina_refusal, block, block_refusal, sweep, sweep_refusal}
 use Rattle.gluing.specs.Machine.{glue, glue_refusal}
@@ -15,7 +16,7 @@ use Rattle.call_lists.specs.declared.calls.Told.{Told}
 use Rattle.call_lists.specs.declared.calls.Told.TheVariants.{Done, Refused, Memory}
 use Rattle.call_lists.specs.Making.{Moves, Acts, Tries, Makes}
 use Rattle.call_lists.specs.Laws.{Place, place_of, place_after, place_after_all, PlacesAreCounted, UndosLeadToTheFirst, RedosLeadToTheLast}
-use Rattle.call_lists.proofs.Histories.{LargerAreCalls, lists_keep_consistent, tried_session}
+use Rattle.call_lists.proofs.Histories.{LargerAreCalls, lists_keep_consistent}
 
 abbrev placed : ℕ → ℕ → Place
 placed a b = record { behind = a; ahead = b }

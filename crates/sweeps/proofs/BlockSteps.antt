@@ -59,3 +59,7 @@ module _ (M : Model) (sound : Sound M) (s : ℕ) (p : Point) (dx dy dz : ℤ) (e
 -- what holds of the sizes as they were passed on holds of the sizes
 pub at_sizes : (P : ℤ → ℤ → ℤ → Type 0) (a b g x y z : ℤ) → a ≡ x → b ≡ y → g ≡ z → P a b g → P x y z
 at_sizes P a b g x y z ex ey ez h = subst (λ i. P i y z) ex (subst (λ i. P a i z) ey (subst (λ i. P a b i) ez h))
+
+-- so at the four coefficients of a plane
+pub at_coefficients : (P : ℤ → ℤ → ℤ → ℤ → Type 0) (a b g e x y z w : ℤ) → a ≡ x → b ≡ y → g ≡ z → e ≡ w → P a b g e → P x y z w
+at_coefficients P a b g e x y z w ea eb eg ee h = at_sizes (λ i j k. P i j k w) a b g x y z ea eb eg (subst (P a b g) ee h)

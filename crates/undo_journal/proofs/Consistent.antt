@@ -110,11 +110,11 @@ further_follows M N K f g = record {
   make = effects-append M f.operators g.operators ∙ ap (λ (X : Model). effects X g.operators) f.make ∙ g.make;
 }
 
-none_first : (a b : Option Refusal) → first_of a b ≡ None → (a ≡ None) × (b ≡ None)
+pub none_first : (a b : Option Refusal) → first_of a b ≡ None → (a ≡ None) × (b ≡ None)
 none_first None b e = (refl, e)
 none_first (Some r) b e = absurd (true≢false (ap is_some e))
 
-run_goes : (M : Model) (ops : List Op) → run_refusal M ops ≡ None → AreAccepted M ops
+pub run_goes : (M : Model) (ops : List Op) → run_refusal M ops ≡ None → AreAccepted M ops
 run_goes M [] e = tt
 run_goes M (op ∷ ops) e = let both = none_first (first_false M op) (run_refusal (effect M op) ops) e in (both.0, run_goes (effect M op) ops both.1)
 
@@ -133,7 +133,7 @@ grown_unless None new old n g = n refl
 grown_unless (Some r) new old n g = g
 
 -- a draft's machine stays, and its model follows the one held
-tried_session : (d : DraftState) (ops : List Op) → (tried d ops).session ≡ d.session
+pub tried_session : (d : DraftState) (ops : List Op) → (tried d ops).session ≡ d.session
 tried_session d [] = refl
 tried_session d (op ∷ ops) = tried_session (unless (first_false d.model op) (draft_step d op) d) ops ∙ one_session d op (first_false d.model op)
   where

@@ -6,8 +6,13 @@ use Rattle.euler_operators.specs.Model.{Model, empty_model}
 use Rattle.euler_laws.specs.Laws.{effects, AreAccepted}
 use Rattle.undo_journal.specs.declared.record.Record.{Record}
 use Rattle.undo_journal.specs.Machine.{depth, ahead, accepted, back_to, forth_to, undo, redo}
+use Rattle.undo_journal.specs.Journal.{Journal}
 use Rattle.undo_journal.specs.Recorded.{models, model_at}
 use Rattle.undo_journal.specs.Sessions.{models_back, models_ahead, past_of, future_of, machine_of, Leads, AllLead, gone_forth, IsJournal}
+
+-- the same session holds the same machine
+pub same_machine : {t s : Journal} → t ≡ s → t.machine ≡ s.machine
+same_machine e = ap (λ (j : Journal). j.machine) e
 
 -- records taken back in their order
 abbrev gone_back : Model → List Record → Model

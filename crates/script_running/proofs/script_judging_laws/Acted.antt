@@ -1,26 +1,22 @@
 -- What a command is answered, from how the session's call ended.
-use Rattle.std.proofs.Common.{◌≡◌, inl, inr, Option, Some, None, Ok, Err, refl, sym, ap, subst, OnOk, OnErr}
-use Rattle.std.specs.Prelude.{◌↔◌, ℤ, Result}
+use Rattle.std.proofs.Common.{◌≡◌, inl, inr, Option, Some, None, Ok, Err, refl, sym, subst, OnOk, OnErr}
+use Rattle.std.specs.Prelude.{◌↔◌, Result}
 use Rattle.std.proofs.lemmas.Result.{on_ok_weaker}
 use Rattle.euler_operators.specs.declared.Refusal.{Refusal}
 use Rattle.undo_journal.specs.Machine.{Machine}
 use Rattle.undo_journal.specs.Journal.{Journal}
 use Rattle.undo_journal.specs.declared.session.Failure.{Failure}
 use Rattle.undo_journal.specs.declared.session.Failure.TheVariants as failure
+use Rattle.undo_journal.proofs.Journals.{same_machine}
 use Rattle.solid_listing.specs.declared.reply.Reply.TheVariants as reply
 use Rattle.script_running.specs.script_judging.Judging.{Acts, StaysUnlessDone, Tries, refused, outcome}
 use Rattle.script_running.specs.declared.script_judging.judging.Answer.{Answer}
 use Rattle.script_running.specs.declared.script_judging.judging.Answer.TheVariants.{Reply as Told}
-use Rattle.sweeps.proofs.BlockSteps.{at_sizes}
 
 -- memory is told only where the command isn't refused
 told_memory : (o : Option Refusal) (s acted t : Machine) → ((r : Refusal) → o ≡ Some r → ⊥) → t ≡ s → Acts o s acted (Told reply.Memory) t
 told_memory None s acted t never et = inr (refl, et)
 told_memory (Some r) s acted t never et = absurd (never r refl)
-
--- the same session holds the same machine
-pub same_machine : {t s : Journal} → t ≡ s → t.machine ≡ s.machine
-same_machine e = ap (λ (j : Journal). j.machine) e
 
 -- a call that leaves the session as it was where it ends in an error is answered `ok`, or leaves it so
 pub stays : (s : Journal) (ended : Result (Unit {0}) Failure) (t : Journal) → OnErr ended (t ≡ s) → StaysUnlessDone (outcome ended) s t
@@ -56,7 +52,3 @@ tries o s acted (Err (failure.Memory e)) t ok told err = inr (refl, same_machine
 pub tries_told : (o : Option Refusal) (s : Journal) (acted : Machine) (ended : Result (Unit {0}) Failure) (t : Journal) (a : Answer) → a ≡ outcome ended → OnOk ended ((o ≡ None) × (t.machine ≡ acted))
     → ((r : Refusal) → ended ≡ Err (failure.Refused r) → o ≡ Some r) → OnErr ended (t ≡ s) → Tries o s.machine acted a t.machine
 tries_told o s acted ended t a is ok told err = subst (λ (b : Answer). Tries o s.machine acted b t.machine) (sym is) (tries o s acted ended t ok told err)
-
--- and so for the coefficients of a plane
-pub of_coefficients : (P : ℤ → ℤ → ℤ → ℤ → Type 0) (a b g e x y z w : ℤ) → a ≡ x → b ≡ y → g ≡ z → e ≡ w → P a b g e → P x y z w
-of_coefficients P a b g e x y z w ea eb eg ee h = at_sizes (λ i j k. P i j k w) a b g x y z ea eb eg (subst (P a b g) ee h)
