@@ -18,6 +18,7 @@ pub mod Counted
 pub mod UpTo
 pub mod FirstWhere
 pub mod Bounds
+pub mod Rounds
 pub mod FaceRings
 pub mod KnownLoop
 pub mod Empty

@@ -1,4 +1,3 @@
-pub mod Rounds
 pub mod FaceLoops
 pub mod SolidFaces
 pub mod FirstEdges

@@ -11,7 +11,7 @@ use Rattle.solid_walks.specs.Store.{Tells}
 use Rattle.euler_laws.proofs.shared.Bounds.{steps}
 use Rattle.shapes.specs.Faces.{start, finish}
 use Rattle.solid_measure.specs.Measure.{area, area_limit}
-use Rattle.shapes.proofs.walks.Rounds.{Round, round_start, round_more, round_closed, round_ended, half_in, met_once, items_apart}
+use Rattle.euler_laws.proofs.shared.Rounds.{Round, round_start, round_more, round_closed, round_ended, half_in, met_once, items_apart}
 use Rattle.shapes.proofs.walks.FaceLoops.{AreHalves}
 use Rattle.euler_operators.proofs.Vectors.{moved_none, moved_twice}
 use Rattle.solid_measure.proofs.Areas.{area_turned, area_push, area_limited, moved_within}

@@ -8,7 +8,7 @@ use Rattle.euler_operators.proofs.Rotations.{IsRotation-same, head_canonical}
 use Rattle.euler_operators.specs.Model.{Model, items_of, content, after}
 use Rattle.euler_operators.specs.Sound.{Sound}
 use Rattle.euler_laws.proofs.shared.Bounds.{steps}
-use Rattle.shapes.proofs.walks.Rounds.{Round, round_start, round_more, round_closed, round_ended, items_from_least}
+use Rattle.euler_laws.proofs.shared.Rounds.{Round, round_start, round_more, round_closed, round_ended, items_from_least}
 
 -- the walk has come to h; k is an item, and nothing that was met is less
 pub record LeastRound (M : Model) (l first h n k : ℕ) : Type 0 where

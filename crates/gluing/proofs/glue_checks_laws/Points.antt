@@ -7,27 +7,13 @@ use Rattle.std.proofs.lemmas.Bool.{or_parts}
 use Rattle.std.proofs.lemmas.List.{reverse-append}
 use Rattle.euler_operators.specs.declared.Point.{Point}
 use Rattle.euler_operators.specs.Vectors.{same_point}
-use Rattle.euler_operators.proofs.Crossings.{same_int}
+use Rattle.euler_operators.proofs.Crossings.{same_as}
 use Rattle.euler_operators.proofs.Tests.{or_false}
 use Rattle.shapes.specs.glue.Glue.{has_repeats}
 use Rattle.gluing.specs.glue_checks.Places.{place_from}
 
-same_number : (m n : ℤ) → int_eq m n ≡ true → m ≡ n
-same_number m n e = grind arith
-
 numbers_turned : (m n : ℤ) → int_eq m n ≡ int_eq n m
 numbers_turned m n = grind arith
-
-pub same_is : (p q : Point) → same_point p q ≡ true → p ≡ q
-same_is p q e = go (int_eq p.x q.x) (int_eq p.y q.y) (int_eq p.z q.z) refl refl refl e where
-  go : (a b c : Bool) → int_eq p.x q.x ≡ a → int_eq p.y q.y ≡ b → int_eq p.z q.z ≡ c → a && b && c ≡ true → p ≡ q
-  go true true true x y z e = λ i. record { x = same_number p.x q.x x i; y = same_number p.y q.y y i; z = same_number p.z q.z z i }
-  go true true false x y z e = absurd (true≢false (sym e))
-  go true false c x y z e = absurd (true≢false (sym e))
-  go false b c x y z e = absurd (true≢false (sym e))
-
-pub same_itself : (p : Point) → same_point p p ≡ true
-same_itself p = λ i. same_int p.x i && same_int p.y i && same_int p.z i
 
 pub same_turned : (p q : Point) → same_point p q ≡ same_point q p
 same_turned p q = λ i. numbers_turned p.x q.x i && numbers_turned p.y q.y i && numbers_turned p.z q.z i
@@ -104,7 +90,7 @@ repeats_turned (p ∷ ps) = ap has_repeats (reverse-append (p ∷ []) ps) ∙ re
 
 any_at : (p : Point) (ps : List Point) (i : ℕ) (d : Point) → i < length ps → p ≡ get_or ps i d → list_any (same_point p) ps ≡ true
 any_at p [] i d l e = absurd (omega arith)
-any_at p (q ∷ qs) zero d l e = ap (λ b. b || list_any (same_point p) qs) (ap (same_point p) (sym e) ∙ same_itself p)
+any_at p (q ∷ qs) zero d l e = ap (λ b. b || list_any (same_point p) qs) (ap (same_point p) (sym e) ∙ same_as p p refl)
 any_at p (q ∷ qs) (suc i) d l e = later (same_point p q) (any_at p qs i d (omega (arith, l)) e) where
   later : (a : Bool) {b : Bool} → b ≡ true → a || b ≡ true
   later true e = refl

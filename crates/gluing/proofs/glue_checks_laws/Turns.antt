@@ -2,23 +2,19 @@
 use Rattle.std.proofs.Common.{◌≡◌, ◌≢◌, ℕ, zero, suc, ◌+◌, ◌-◌, ◌<◌, ◌≤◌, Bool, true, false, cond, ◌&&◌, List, [], ◌∷◌, ◌++◌, length, Some, None, refl, sym, ap, subst, ◌∙◌, arith, true≢false, inl, inr}
 use Rattle.std.specs.Prelude.{get_or, take, drop, is_some, slice_index_or}
 use Rattle.std.proofs.lemmas.List.{append-nil, get_or-drop, take_all, drop_all, length-drop, length-take-le}
-use Rattle.std.proofs.lemmas.Bool.{or_cases, and_parts, cases_eq, or_left, or_right}
+use Rattle.std.proofs.lemmas.Bool.{or_cases, cases_eq, or_left, or_right}
 use Rattle.euler_operators.specs.declared.Point.{Point}
 use Rattle.euler_operators.specs.Vectors.{same_point}
+use Rattle.euler_operators.proofs.Crossings.{same_as}
 use Rattle.euler_operators.proofs.Tests.{same_truth}
 use Rattle.shapes.specs.glue.Glue.{has_repeats, same_points, is_turned, is_rotation}
 use Rattle.gluing.specs.glue_checks.Places.{place_from}
-use Rattle.gluing.proofs.glue_checks_laws.Points.{same_is, same_itself, one_place}
-
-pub same_lists : (ps qs : List Point) → same_points ps qs ≡ true → ps ≡ qs
-same_lists [] [] e = refl
-same_lists [] (q ∷ qs) e = absurd (true≢false (sym e))
-same_lists (p ∷ ps) [] e = absurd (true≢false (sym e))
-same_lists (p ∷ ps) (q ∷ qs) e = let b = and_parts (same_point p q) (same_points ps qs) e in (λ i. same_is p q b.0 i ∷ same_lists ps qs b.1 i)
+use Rattle.shapes.proofs.glue.Points.{same_is, same_lists}
+use Rattle.gluing.proofs.glue_checks_laws.Points.{one_place}
 
 pub lists_same : (ps : List Point) → same_points ps ps ≡ true
 lists_same [] = refl
-lists_same (p ∷ ps) = λ i. same_itself p i && lists_same ps i
+lists_same (p ∷ ps) = λ i. same_as p p refl i && lists_same ps i
 
 -- compared in two parts
 pub in_parts : (xs bs cs : List Point) → same_points (take (length bs) xs) bs && same_points (drop (length bs) xs) cs ≡ same_points xs (bs ++ cs)
@@ -104,7 +100,7 @@ module _ (p : Point) where
     | false ↦ λ t f. at i l s t (missing_from (n + 1) qs f)
   ] refl e where
     at : (i : ℕ) → i < suc (length qs) → p ≡ get_or (q ∷ qs) i p → same_point q p ≡ false → ((j : ℕ) → j < length qs → p ≢ get_or qs j p) → ⊥
-    at zero l s t rest = true≢false (sym (ap (λ r. same_point r p) (sym s) ∙ same_itself p) ∙ t)
+    at zero l s t rest = true≢false (sym (ap (λ r. same_point r p) (sym s) ∙ same_as p p refl) ∙ t)
     at (suc i) l s t rest = rest i (omega (arith, l)) s
 
   pub not_found : (ps qs : List Point) → length (p ∷ ps) ≡ length qs → place_from 0 p qs ≡ None → is_rotation (p ∷ ps) qs ≡ false

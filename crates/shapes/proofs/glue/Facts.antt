@@ -34,7 +34,7 @@ use Rattle.shapes.specs.Measure.{area, normal, is_flat, plane_of}
 use Rattle.shapes.specs.glue.Glue.{rim, outline, has_repeats, is_rotation, partner, glue_conditions, glue_refusal}
 use Rattle.shapes.specs.glue.GlueOps.{fresh_edge}
 use Rattle.shapes.proofs.glue.Facing.{Facing}
-use Rattle.shapes.proofs.glue.Points.{same_is, once, turned_list, other_list, such_is, there_and_back}
+use Rattle.shapes.proofs.glue.Points.{same_is, no_points, both_points, once, turned_list, other_list, such_is, there_and_back}
 
 -- ---- a loop of a sound model
 
@@ -110,12 +110,6 @@ module _ (M : Model) (sound : Sound M) (g : ℕ) (there : Has M.faces g) (alone 
   never_two flat two = let p = two_of gs two in true≢false (sym (has_normal flat) ∙ ap not (same_as (normal M g) origin (two_thin p.0 p.1 p.2)))
 
 -- ---- the partners of a path
-
-no_points : {p : Point} {ps : List Point} → p ∷ ps ≡ [] → ⊥
-no_points e = cc
-
-both_points : {p q : Point} {ps qs : List Point} → p ∷ ps ≡ q ∷ qs → (p ≡ q) × (ps ≡ qs)
-both_points e = (cc, cc)
 
 head_in : (gs ys : List ℕ) (e : ℕ) → ((y : ℕ) → IsIn y ys → IsIn y gs) → IsIn e gs → IsIn (head_or e ys) gs
 head_in gs [] e yi ei = ei

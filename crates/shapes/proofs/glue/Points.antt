@@ -34,6 +34,12 @@ same_lists [] (q ∷ qs) e = absurd (true≢false (sym e))
 same_lists (p ∷ ps) [] e = absurd (true≢false (sym e))
 same_lists (p ∷ ps) (q ∷ qs) e = let a = and_parts (same_point p q) (same_points ps qs) e in λ i. same_is p q a.0 i ∷ same_lists ps qs a.1 i
 
+pub no_points : {p : Point} {ps : List Point} → p ∷ ps ≡ [] → ⊥
+no_points e = cc
+
+pub both_points : {p q : Point} {ps qs : List Point} → p ∷ ps ≡ q ∷ qs → (p ≡ q) × (ps ≡ qs)
+both_points e = (cc, cc)
+
 -- a list turned by i places
 pub turned_by : (n : ℕ) (ps qs : List Point) → is_turned n ps qs ≡ true → (i : ℕ) × (ps ≡ drop i qs ++ take i qs)
 turned_by zero ps qs e = (0, same_lists ps qs e ∙ sym (append-nil qs))
@@ -101,19 +107,13 @@ module _ (a : ℕ → Point) where
         ]
       ]
 
-  no_nil : {p : Point} {ps : List Point} → p ∷ ps ≡ [] → ⊥
-  no_nil e = cc
-
-  heads : {p q : Point} {ps qs : List Point} → p ∷ ps ≡ q ∷ qs → (p ≡ q) × (ps ≡ qs)
-  heads e = (cc, cc)
-
   -- of two lists with the same points each number has one in the other
   pub other_list : (xs ys : List ℕ) → map a xs ≡ map a ys → (x : ℕ) → IsIn x xs → (y : ℕ) × IsIn y ys × (a y ≡ a x)
   other_list [] ys e x i = absurd (omega (arith, i))
-  other_list (z ∷ xs) [] e x i = absurd (no_nil e)
+  other_list (z ∷ xs) [] e x i = absurd (no_points e)
   other_list (z ∷ xs) (y ∷ ys) e x i = elim (eqb_tells x z) [
-    | inl s ↦ (y, omega (arith, tick_same y), sym (heads e).0 ∙ ap a (sym s.1))
-    | inr ne ↦ let r = other_list xs ys (heads e).1 x (omega (arith, i, tick_other x z ne.1)) in (r.0, omega (arith, r.1), r.2)
+    | inl s ↦ (y, omega (arith, tick_same y), sym (both_points e).0 ∙ ap a (sym s.1))
+    | inr ne ↦ let r = other_list xs ys (both_points e).1 x (omega (arith, i, tick_other x z ne.1)) in (r.0, omega (arith, r.1), r.2)
   ]
 
 -- a search finds the only number that passes

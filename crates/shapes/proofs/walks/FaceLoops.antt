@@ -18,7 +18,7 @@ use Rattle.euler_laws.proofs.shared.Bounds.{steps, steps_are, half_below}
 use Rattle.euler_laws.proofs.shared.Counted.{none_counted, counted_once}
 use Rattle.euler_laws.proofs.shared.UpTo.{up_to, up_to_none, count_up_to}
 use Rattle.shapes.specs.Faces.{items_in, loops_of, vertices_on, vertices_in}
-use Rattle.shapes.proofs.walks.Rounds.{half_in, items_apart}
+use Rattle.euler_laws.proofs.shared.Rounds.{half_in, items_apart}
 
 -- the outer loop of a face and its rings that don't pass n
 abbrev pub loops_to : Model → ℕ → ℕ → List ℕ

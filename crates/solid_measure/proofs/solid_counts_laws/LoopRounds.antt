@@ -12,7 +12,7 @@ use Rattle.euler_laws.proofs.shared.Bounds.{steps}
 use Rattle.solid_measure.specs.declared.solid_counts.Met.{Met}
 use Rattle.shapes.specs.Walks.{leads}
 use Rattle.solid_measure.specs.solid_counts.Sums.{IsFew, together, nothing, half_met, halves_met, loop_met}
-use Rattle.shapes.proofs.walks.Rounds.{Round, round_start, round_more, round_closed, round_ended, half_in, met_once, items_apart}
+use Rattle.euler_laws.proofs.shared.Rounds.{Round, round_start, round_more, round_closed, round_ended, half_in, met_once, items_apart}
 use Rattle.shapes.proofs.walks.FaceLoops.{AreHalves}
 use Rattle.solid_measure.proofs.solid_counts_laws.Sums.{halves_push, halves_turned, halves_few}
 

@@ -1,13 +1,12 @@
 use Rattle.std.proofs.Common.{ℕ, ◌+◌, ◌-◌, sym, subst, ◌∙◌, arith}
 use Rattle.std.proofs.lemmas.Bool.{not-false, eqb-true, eqb-false}
 use Rattle.euler_operators.specs.HalfEdge.{code, mate}
-use Rattle.euler_operators.specs.Model.{content, after}
-use Rattle.euler_operators.specs.Sound.{HasHalf}
+use Rattle.euler_operators.specs.Model.{content}
 use Rattle.euler_operators.specs.Conditions.{lists, face_at}
 use Rattle.euler_conditions.proofs.Known.{filled}
 use Rattle.euler_laws.proofs.shared.Bounds.{steps, steps_are}
-use Rattle.euler_laws.proofs.shared.Rows.{half_of, of_half}
-use Rattle.euler_conditions.proofs.Around.{HalfRound, round_start, round_closed, round_more, round_ended, next_in}
+use Rattle.euler_laws.proofs.shared.Rows.{of_half}
+use Rattle.euler_conditions.proofs.Around.{HalfRound, round_start, round_closed, round_more, round_ended}
 use Rattle.euler_conditions.proofs.Borders.{ring_has}
 use Rattle.euler_conditions.proofs.torn.loop_leads_out.Goals as goal
 
@@ -21,10 +20,10 @@ round-init c =
     subst (HalfRound M c.args.listed_faces.now l first first) (omega arith) (round_start M c.requires.ready.sound c.args.listed_faces.now l first item)
 
 pub leads_out-requires-clause-there : goal.leads_out-requires-clause-there
-leads_out-requires-clause-there c = of_half c.args.arena.now.model c.round.h c.round.invariant.there
+leads_out-requires-clause-there c = of_half c.args.arena.now.model c.round.h c.round.invariant.round.there
 
 pub next-h-requires-clause-there : goal.next-h-requires-clause-there
-next-h-requires-clause-there c = of_half c.args.arena.now.model c.round.h c.round.invariant.there
+next-h-requires-clause-there c = of_half c.args.arena.now.model c.round.h c.round.invariant.round.there
 
 pub returns-then-same-clause-within : goal.returns-then-same-clause-within
 returns-then-same-clause-within c =
@@ -40,10 +39,9 @@ round-preserved c =
     let item = ring_has (content M l) c.in-Ring.first c.in-Ring.ensures in
     let stays = not-false (lists fs (face_at M (mate h))) (sym c.leads_out.ensures ∙ c.if-leads_out.false) in
     let apart = eqb-false (code c.next-h.result) first (sym c.same.ensures ∙ c.if-same.false) in
-    let there : HasHalf M (after M h) = subst (HasHalf M) c.next-h.ensures.next (half_of M c.next-h.result c.next-h.ensures.there) in
     subst (λ x. HalfRound M fs l first x (steps - (c.round.counter + 1))) (sym c.next-h.ensures.next)
     (round_more M c.requires.ready.sound fs l first item h (steps - c.round.counter) (steps - (c.round.counter + 1)) c.round.invariant (omega (arith, steps_are)) stays
-    (λ e. apart (c.next-h.ensures.next ∙ e)) there (next_in M c.requires.ready.sound fs l first item h c.round.invariant.here))
+    (λ e. apart (c.next-h.ensures.next ∙ e)))
 
 pub returns-clause-within : goal.returns-clause-within
 returns-clause-within c =

@@ -2,7 +2,7 @@ use Rattle.std.proofs.Common.{◌≢◌, ℕ, ◌+◌, ◌-◌, sym, ap, subst, 
 use Rattle.euler_operators.specs.HalfEdge.{code}
 use Rattle.euler_operators.specs.Model.{has_half}
 use Rattle.euler_laws.proofs.shared.Bounds.{steps, steps_are}
-use Rattle.shapes.proofs.walks.Rounds.{half_in}
+use Rattle.euler_laws.proofs.shared.Rounds.{half_in}
 use Rattle.solid_walks.proofs.face_walks_laws.HalfCodes.{edge_fits}
 use Rattle.solid_measure.specs.Measure.{read}
 use Rattle.solid_measure.proofs.AreaRounds.{AreaRound, crossed_is, area_start, area_room, area_closed, area_more, area_ended}
