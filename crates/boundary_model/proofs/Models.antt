@@ -141,6 +141,14 @@ pub never_lone : (hs : List ℕ) (v : ℕ) → cycle hs ≢ lone v
 unfolding lone_tells
 never_lone hs v e = true≢false (sym (ap lone_tells e))
 
+-- a lone loop is there
+pub lone_there : (M : Model) (l v : ℕ) → content M l ≡ lone v → Has M.loops l
+unfolding content
+lone_there M l v = go (get M.loops l) where
+  go : (o : Option LoopRow) → (unwrap_or o no_loop).content ≡ lone v → is_some o ≡ true
+  go None e = absurd (never_lone [] v e)
+  go (Some row) e = refl
+
 -- ---- half-edges and edges
 
 pub mate_there : (M : Model) (h : ℕ) → HasHalf M h → HasHalf M (mate h)
@@ -162,6 +170,9 @@ loop_there M sound h there = ap is_some (row_of M sound h there)
 
 pub item_there : (M : Model) → Sound M → (l h : ℕ) → IsIn h (items_of (content M l)) → HasHalf M h
 item_there M sound l h i = sound.only_edges h l (in-holds h (content M l) i)
+
+pub item_loop : (M : Model) → Sound M → (l h : ℕ) → IsIn h (items_of (content M l)) → loop_of M h ≡ l
+item_loop M sound l h i = sound.one_loop h l (in-holds h (content M l) i)
 
 pub loop_number : (M : Model) → Sound M → (l : ℕ) (row : LoopRow) → get M.loops l ≡ Some row → l ≢ 0
 loop_number M sound l row at = number_real l (sound.loops_fit l (ap is_some at))

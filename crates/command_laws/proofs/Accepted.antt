@@ -22,6 +22,7 @@ use Rattle.shapes.specs.Prism.{prism_conditions}
 use Rattle.shapes.specs.Block.{block_conditions}
 use Rattle.shapes.specs.glue.Glue.{has_repeats}
 use Rattle.undo_journal.specs.Machine.{held}
+use Rattle.gluing.proofs.glue_checks_laws.Points.{same_turned}
 use Rattle.command_laws.specs.NewFaces.{IsFaceOf, all_moved}
 use Rattle.command_laws.specs.Accepted.{BlocksFit, LaminasFit, SweepsFit}
 
@@ -42,9 +43,6 @@ neither : (a b : Bool) → (a || b) ≡ false → (a ≡ false) × (b ≡ false)
 neither true b e = absurd (true≢false e)
 neither false b e = (refl, e)
 
-turned : (p q : Point) → same_point p q ≡ same_point q p
-turned p q = grind arith
-
 -- none of ps is one of the points seen
 abbrev AreNew : List Point → List Point → Type 0
 AreNew seen [] = Unit {0}
@@ -56,7 +54,7 @@ any_last p q (r ∷ seen) e f = let w = neither (same_point q r) (list_any (same
 
 new_still : (p : Point) (seen ps : List Point) → AreNew seen ps → list_any (same_point p) ps ≡ false → AreNew (seen ++ p ∷ []) ps
 new_still p seen [] a e = tt
-new_still p seen (q ∷ ps) a e = let w = neither (same_point p q) (list_any (same_point p) ps) e in (any_last p q seen a.0 (turned q p ∙ w.0), new_still p seen ps a.1 w.1)
+new_still p seen (q ∷ ps) a e = let w = neither (same_point p q) (list_any (same_point p) ps) e in (any_last p q seen a.0 (same_turned q p ∙ w.0), new_still p seen ps a.1 w.1)
 
 none_repeated : (seen : List Point) (i : ℕ) (ps : List Point) → AreNew seen ps → has_repeats ps ≡ false → first_repeated seen i ps ≡ None
 none_repeated seen i [] a e = refl

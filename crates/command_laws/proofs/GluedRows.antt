@@ -14,7 +14,7 @@ use Rattle.euler_operators.specs.Table.{Table}
 use Rattle.euler_operators.specs.Model.{Model, LoopContent, LoopRow, lone, cycle, holds, tail, content, face_of, outer, solid_of}
 use Rattle.euler_operators.specs.Sound.{Has, HasHalf}
 use Rattle.euler_operators.proofs.Halves.{minus_row, plus_row, same_edge}
-use Rattle.euler_operators.proofs.Models.{face_row, in-holds, item_there, minus_tail_row, minus_there, plus_tail_row, plus_there}
+use Rattle.euler_operators.proofs.Models.{face_row, in-holds, item_there, minus_tail_row, minus_there, plus_tail_row, plus_there, item_loop}
 use Rattle.euler_operators.proofs.Tables.{get-remove_here, get-remove_other, row_some}
 use Rattle.euler_laws.proofs.shared.Rows.{loop_row}
 use Rattle.shapes.specs.Faces.{vertices_on}
@@ -25,7 +25,7 @@ use Rattle.shapes.proofs.glue.Facing as facing
 use Rattle.shapes.proofs.glue.Facing.{Facing}
 use Rattle.shapes.proofs.glue.Renamings.{renamed_not, without_there}
 use Rattle.gluing_laws.proofs.glue.Ending.{glued_all, glued_along_is}
-use Rattle.command_laws.proofs.OnFaces.{item_loop, vertex_cases}
+use Rattle.command_laws.proofs.OnFaces.{vertex_cases}
 use Rattle.command_laws.proofs.Owners.{solid_of_half, solid_of_loop}
 
 pub glue_is : (M : Model) (f g : ℕ) → glue_model M f g ≡ glued_all M f g (partner M (rim M g)) (rim M f)

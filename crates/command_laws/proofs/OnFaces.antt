@@ -2,9 +2,9 @@
 use Rattle.std.proofs.Common.{◌≡◌, ℕ, subst, ◌⊎◌, inl, inr, arith}
 use Rattle.euler_operators.specs.Items.{IsIn}
 use Rattle.euler_operators.proofs.Maps.{from_map}
-use Rattle.euler_operators.specs.Model.{Model, lone, items_of, tail, content, loop_of}
+use Rattle.euler_operators.specs.Model.{Model, lone, items_of, tail, content}
 use Rattle.euler_operators.specs.Sound.{Sound, Has}
-use Rattle.euler_operators.proofs.Models.{item_there, in-holds}
+use Rattle.euler_operators.proofs.Models.{item_there}
 use Rattle.shapes.specs.Faces.{vertices_on}
 
 -- a vertex on a loop is that of the lone loop, or some item starts there
@@ -12,9 +12,6 @@ pub vertex_cases : (M : Model) (l v : ℕ) → IsIn v (vertices_on M (content M 
 vertex_cases M l v i = grind (arith, from_map)
 
 module _ (M : Model) (sound : Sound M) where
-  pub item_loop : (l h : ℕ) → IsIn h (items_of (content M l)) → loop_of M h ≡ l
-  item_loop l h i = sound.one_loop h l (in-holds h (content M l) i)
-
   pub vertex_there : (l v : ℕ) → IsIn v (vertices_on M (content M l)) → Has M.vertices v
   vertex_there l v i = elim (vertex_cases M l v i) [
     | inl e ↦ sound.lone_at_vertex l v e

@@ -14,7 +14,7 @@ use Rattle.euler_operators.specs.Conditions.{face_at, lists}
 use Rattle.euler_operators.proofs.Lists.{tick_same}
 use Rattle.euler_operators.proofs.Members.{IsIn-map, same_length}
 use Rattle.euler_operators.proofs.Rotations.{IsIn_head}
-use Rattle.euler_operators.proofs.Models.{content_row, solid_row, item_there, loop_there, cycle_there, never_lone, same_solid, same_face, same_content, plus_there, plus_edge}
+use Rattle.euler_operators.proofs.Models.{content_row, solid_row, item_there, item_loop, lone_there, loop_there, cycle_there, same_solid, same_face, same_content, plus_there, plus_edge}
 use Rattle.euler_operators.proofs.Tables.{passes, count-all_where, row_some}
 use Rattle.euler_laws.specs.Laws.{size}
 use Rattle.euler_laws.proofs.Sizes.{size_parts}
@@ -30,7 +30,7 @@ use Rattle.shapes.proofs.walks.Corners.{corners_are, on_one, on_some}
 use Rattle.solid_measure.specs.solid_counts.Counts.{rings_in, tally_of, counts}
 use Rattle.solid_measure.proofs.solid_counts_laws.HowMany.{equally_many}
 use Rattle.gluing_laws.proofs.Listed.{one_if}
-use Rattle.command_laws.proofs.OnFaces.{item_loop, vertex_cases, vertex_there}
+use Rattle.command_laws.proofs.OnFaces.{vertex_cases, vertex_there}
 
 -- ---- rows that pass a test on their numbers
 
@@ -140,13 +140,9 @@ module _ (M : Model) (sound : Sound M) where
     go (cycle hs) i = IsIn-map (tail M) h hs i
 
   -- each vertex is on a loop
-  lone_there : (l v : ℕ) → content M l ≡ lone v → Has M.loops l
-  unfolding content
-  lone_there l v e = grind (arith, never_lone)
-
   on_some_loop : (v : ℕ) → Has M.vertices v → (l : ℕ) × Has M.loops l × IsOn M v l
   on_some_loop v there = elim (sound.lone_or_tail v there) [
-    | inl w ↦ (w.0, lone_there w.0 v w.1, subst (λ c. IsIn v (vertices_on M c)) (sym w.1) (omega (arith, tick_same v)))
+    | inl w ↦ (w.0, lone_there M w.0 v w.1, subst (λ c. IsIn v (vertices_on M c)) (sym w.1) (omega (arith, tick_same v)))
     | inr w ↦ (loop_of M w.half, loop_there M sound w.half w.there, subst (λ k. IsOn M k (loop_of M w.half)) w.starts (half_is_on w.half w.there))
   ]
 

@@ -14,7 +14,7 @@ use Rattle.euler_operators.specs.Model.{Model, LoopContent, LoopRow, lone, cycle
 use Rattle.euler_operators.specs.Sound.{Sound, Has, HasHalf}
 use Rattle.euler_operators.specs.Conditions.{face_at}
 use Rattle.euler_operators.proofs.Halves.{edge_of-mate}
-use Rattle.euler_operators.proofs.Models.{face_row, item_there, holds_in, same_content, same_outer, same_solid}
+use Rattle.euler_operators.proofs.Models.{face_row, item_there, holds_in, same_content, same_outer, same_solid, item_loop}
 use Rattle.euler_laws.proofs.shared.Fans.{half_after, loop_after}
 use Rattle.euler_laws.proofs.shared.Listed.{listed-from_in}
 use Rattle.shapes.specs.Faces.{start, finish, items_in, loops_of, boundary, vertices_on, vertices_in, corners}
@@ -25,7 +25,6 @@ use Rattle.gluing_laws.proofs.Listed.{passed, same_search}
 use Rattle.command_laws.specs.NewFaces.{corner_points}
 use Rattle.command_laws.specs.Framed.{FacesStand}
 use Rattle.command_laws.specs.LeftAlone.{KeepsLoops, KeepsEdges, KeepsPoints, StandsAsBefore}
-use Rattle.command_laws.proofs.OnFaces.{item_loop}
 use Rattle.euler_laws.proofs.shared.Same.{same_tail, same_point}
 
 -- ---- rings

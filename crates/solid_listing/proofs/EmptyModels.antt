@@ -1,13 +1,13 @@
 -- A sound model without solids has nothing.
-use Rattle.std.proofs.Common.{◌≡◌, ◌≢◌, ℕ, true, List, [], ◌∷◌, ◌++◌, map, codes, Option, Some, None, is_some, unwrap_or, refl, sym, ap, ◌∙◌, true≢false, inl, inr}
+use Rattle.std.proofs.Common.{◌≡◌, ◌≢◌, ℕ, true, List, [], ◌∷◌, ◌++◌, map, codes, is_some, refl, sym, ap, ◌∙◌, true≢false, inl, inr}
 use Rattle.euler_operators.specs.declared.Kind.{Kind}
 use Rattle.euler_operators.specs.declared.Kind.TheVariants.{Solid, Face, Loop, Edge, Vertex}
 use Rattle.euler_operators.specs.HalfEdge.{plus}
-use Rattle.euler_operators.specs.Table.{Table, get, has, numbers}
-use Rattle.euler_operators.specs.Model.{Model, LoopRow, lone, no_loop, content, solid_of, face_of, loop_of}
+use Rattle.euler_operators.specs.Table.{Table, has, numbers}
+use Rattle.euler_operators.specs.Model.{Model, solid_of, face_of, loop_of}
 use Rattle.euler_operators.specs.Sound.{Sound, Has, HasHalf}
 use Rattle.euler_operators.proofs.Halves.{plus_row}
-use Rattle.euler_operators.proofs.Models.{held_row, one_or_more}
+use Rattle.euler_operators.proofs.Models.{held_row, lone_there, one_or_more}
 use Rattle.euler_conditions.specs.Store.{Store, IsGreatest}
 use Rattle.solid_listing.specs.Lines.{text_of}
 use Rattle.solid_listing.specs.Listing.{line, numbers_of, lines, or_empty, listing}
@@ -35,16 +35,9 @@ module _ (M : Model) (sound : Sound M) (none : (k : ℕ) → Has M.solids k → 
   without_edges : (e : ℕ) → Has M.edges e → ⊥
   without_edges e there = no_half (plus e) (ap (has M.edges) (plus_row e).0 ∙ there)
 
-  lone_there : (l v : ℕ) → content M l ≡ lone v → Has M.loops l
-  unfolding content
-  lone_there l v = go (get M.loops l) where
-    go : (o : Option LoopRow) → (unwrap_or o no_loop).content ≡ lone v → is_some o ≡ true
-    go None e = cc
-    go (Some row) e = refl
-
   no_vertex : (v : ℕ) → Has M.vertices v → ⊥
   no_vertex v there = elim (sound.lone_or_tail v there) [
-    | inl p ↦ without_loops p.0 (lone_there p.0 v p.1)
+    | inl p ↦ without_loops p.0 (lone_there M p.0 v p.1)
     | inr t ↦ no_half t.half t.there
   ]
 

@@ -6,9 +6,9 @@ use Rattle.euler_operators.proofs.Lists.{count-append}
 use Rattle.euler_operators.proofs.Rings.{orbit_from, IsRing-from_successor, IsIn_successor}
 use Rattle.euler_operators.proofs.Rotations.{count-rotate_to, rotate_to-rotates}
 use Rattle.euler_operators.proofs.Places.{walk_done, walk_on, walk_over}
-use Rattle.euler_operators.specs.Model.{Model, items_of, content, loop_of, after}
-use Rattle.euler_operators.specs.Sound.{Sound, HasHalf, StandsIn}
-use Rattle.euler_operators.proofs.Models.{in-holds, cycle_sound}
+use Rattle.euler_operators.specs.Model.{Model, items_of, content, after}
+use Rattle.euler_operators.specs.Sound.{Sound, HasHalf}
+use Rattle.euler_operators.proofs.Models.{item_there, item_loop, cycle_sound}
 use Rattle.euler_operators.proofs.Members.{length_below}
 use Rattle.euler_laws.proofs.shared.Bounds.{steps, half_below}
 
@@ -20,27 +20,21 @@ pub record Round (M : Model) (l first h n : ℕ) : Type 0 where
   pub here : IsIn h (items_of (content M l))
 
 module _ (M : Model) (sound : Sound M) (l first : ℕ) (item : IsIn first (items_of (content M l))) where
-  stands : (x : ℕ) → IsIn x (items_of (content M l)) → StandsIn M x l
-  stands x i = in-holds x (content M l) i
-
   pub half_in : (x : ℕ) → IsIn x (items_of (content M l)) → HasHalf M x
-  half_in x i = sound.only_edges x l (stands x i)
-
-  loop_is : (x : ℕ) → IsIn x (items_of (content M l)) → loop_of M x ≡ l
-  loop_is x i = sound.one_loop x l (stands x i)
+  half_in x i = item_there M sound l x i
 
   abbrev xs : List ℕ
   xs = items_of (content M l)
 
   pub items_apart : IsApart xs
-  items_apart = subst (λ k. IsApart (items_of (content M k))) (loop_is first item) (cycle_sound M sound first (half_in first item)).apart
+  items_apart = subst (λ k. IsApart (items_of (content M k))) (item_loop M sound l first item) (cycle_sound M sound first (half_in first item)).apart
 
   pub items_from_least : canonical xs ≡ xs
-  items_from_least = subst (λ k. canonical (items_of (content M k)) ≡ items_of (content M k)) (loop_is first item) (cycle_sound M sound first (half_in first item)).from_least
+  items_from_least = subst (λ k. canonical (items_of (content M k)) ≡ items_of (content M k)) (item_loop M sound l first item) (cycle_sound M sound first (half_in first item)).from_least
 
   next_is : (x : ℕ) → IsIn x xs → after M x ≡ successor xs x
   unfolding after
-  next_is x i = ap (λ k. successor (items_of (content M k)) x) (loop_is x i)
+  next_is x i = ap (λ k. successor (items_of (content M k)) x) (item_loop M sound l x i)
 
   pub next_in : (x : ℕ) → IsIn x xs → IsIn (after M x) xs
   next_in x i = subst (λ y. IsIn y xs) (sym (next_is x i)) (IsIn_successor x xs i)

@@ -14,7 +14,7 @@ use Rattle.euler_operators.specs.Table as table
 use Rattle.euler_operators.proofs.Rotations.{count-canonical, IsIn_head}
 use Rattle.euler_operators.proofs.Halves.{plus_row, same_edge, edge_of-mate, mate_plus, mate_minus}
 use Rattle.euler_operators.proofs.Members.{IsIn_rest, IsIn_one, all_mapped}
-use Rattle.euler_operators.proofs.Models.{item_there, mate_there, plus_there, minus_there}
+use Rattle.euler_operators.proofs.Models.{item_there, item_loop, mate_there, plus_there, minus_there}
 use Rattle.euler_operators.proofs.Lists.{count-append, tick_other, IsIn_or_not}
 use Rattle.euler_laws.proofs.shared.Same.{content-new}
 use Rattle.shapes.specs.Faces.{start, finish, loops_of, items_in, boundary, vertices_on, vertices_in, corners}
@@ -30,7 +30,7 @@ use Rattle.split_drawing_laws.specs.crossings.Kept.{Kept}
 use Rattle.split_drawing_laws.proofs.crossings.OneCut.{doubled_none}
 use Rattle.split_drawing_laws.proofs.crossings.Steps.{CutGoes, cut_sound, rewrites, cut_keeps, point_new, tail_old, tail_new, tail_other}
 use Rattle.split_drawing_laws.proofs.crossings.Runs.{kept_point, cut_at, Crossing, same_start, same_finish, Going, crossing_now, uncut_now, goes_now, next_model, going_on}
-use Rattle.split_drawing_laws.proofs.cut_volumes.Told.{same_rings, loop_on, loops_on, item_on, item_loop, item_ends_on, Measured, measured_none, measured_on, solid_stays, same_plane, flat_still, all_volumes}
+use Rattle.split_drawing_laws.proofs.cut_volumes.Told.{same_rings, loop_on, loops_on, item_on, item_ends_on, Measured, measured_none, measured_on, solid_stays, same_plane, flat_still, all_volumes}
 use Rattle.std.proofs.lemmas.Bool.{and_parts, not-false}
 use Rattle.euler_operators.specs.Conditions.{face_at, AllHold, first_refusal, lists}
 use Rattle.euler_laws.proofs.shared.Goes.{all_hold}

@@ -6,7 +6,7 @@ use Rattle.std.proofs.lemmas.Bool.Decides.{eqb_tells}
 use Rattle.std.proofs.lemmas.Bool.{and_parts}
 use Rattle.euler_operators.specs.Items.{count, tick, IsIn}
 use Rattle.euler_operators.specs.Table as table
-use Rattle.euler_operators.specs.Model.{Model, solid_of, faces_of, LoopContent, items_of, content, point_of, loop_of, is_ring_of, rings_of, after, no_face}
+use Rattle.euler_operators.specs.Model.{Model, solid_of, faces_of, LoopContent, items_of, content, point_of, is_ring_of, rings_of, after, no_face}
 use Rattle.euler_operators.specs.Sound.{Has, Sound}
 use Rattle.euler_operators.specs.declared.Plane.{Plane}
 use Rattle.euler_operators.specs.Vectors.{is_on, origin, dot, same_point, direction}
@@ -14,12 +14,12 @@ use Rattle.euler_operators.specs.Conditions.{lists, strictly_rises}
 use Rattle.euler_operators.proofs.Lists.{tick_same, tick_other, IsIn_or_not}
 use Rattle.euler_operators.proofs.Members.{IsIn_rest, each_mapped}
 use Rattle.euler_operators.proofs.Rotations.{IsIn_head}
-use Rattle.euler_operators.proofs.Models.{same_solid, in-holds, item_there}
+use Rattle.euler_operators.proofs.Models.{same_solid, item_there}
 use Rattle.euler_operators.proofs.Vectors.{add_assoc, dot_turned}
-use Rattle.euler_operators.proofs.Rings.{IsIn_successor}
 use Rattle.euler_laws.proofs.shared.Listed.{all_where-rises, IsIn-from_listed}
 use Rattle.euler_laws.proofs.shared.Counted.{counted_once}
 use Rattle.euler_laws.proofs.shared.RisingLists.{within}
+use Rattle.euler_laws.proofs.shared.Rounds.{next_in}
 use Rattle.shapes.specs.Measure.{six_volume, normal, anchor, plane_through, plane_of, is_flat, volume_in}
 use Rattle.shapes.specs.Faces.{start, finish, vertices_on, vertices_in, corners}
 use Rattle.shapes.proofs.measures.Sums.{total, volume_of, volume_is, unchanged, same_volumes}
@@ -92,13 +92,9 @@ module _ (M : Model) (r : Plane) where
   item_on c h e f = grind (arith, each_mapped)
 
 module _ (M : Model) (sound : Sound M) where
-  pub item_loop : (l h : ℕ) → IsIn h (items_of (content M l)) → loop_of M h ≡ l
-  item_loop l h i = sound.one_loop h l (in-holds h (content M l) i)
-
   -- what comes after an item of a loop is one of its items
   pub next_item : (l h : ℕ) → IsIn h (items_of (content M l)) → IsIn (after M h) (items_of (content M l))
-  unfolding after
-  next_item l h i = grind (arith, item_loop, IsIn_successor)
+  next_item l h i = next_in M sound l h i h i
 
   -- so it ends at a corner
   pub item_ends_on : (r : Plane) (l h : ℕ) → are_on M r (vertices_on M (content M l)) ≡ true → IsIn h (items_of (content M l)) → is_on r (finish M h) ≡ true

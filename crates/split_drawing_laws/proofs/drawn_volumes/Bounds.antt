@@ -12,7 +12,7 @@ use Rattle.euler_operators.specs.Sound.{Sound, Has, HasHalf}
 use Rattle.euler_operators.specs.Conditions.{face_at}
 use Rattle.euler_operators.specs.declared.Point.{Point}
 use Rattle.euler_operators.proofs.Lists.{IsIn_or_not, tick_same, tick_other, count-append}
-use Rattle.euler_operators.proofs.Models.{cycle_there, loop_there, item_there, never_lone, mate_there, content_row, face_row, same_content, same_face, same_outer}
+use Rattle.euler_operators.proofs.Models.{cycle_there, loop_there, lone_there, item_there, item_loop, never_lone, mate_there, content_row, face_row, same_content, same_face, same_outer}
 use Rattle.euler_operators.proofs.Members.{IsIn_rest, all_mapped}
 use Rattle.euler_operators.proofs.Rotations.{IsIn_head, count-canonical}
 use Rattle.euler_operators.proofs.Halves.{plus_row, minus_row, mate_plus, plus_other}
@@ -29,7 +29,7 @@ use Rattle.shapes.proofs.measures.Sums.{area_same, halves_cancel}
 use Rattle.split_drawing_laws.specs.drawings.DrawnIn.{Stays}
 use Rattle.split_drawing_laws.proofs.crossings.Premises.{loop_in_face, item_in_face}
 use Rattle.split_drawing_laws.proofs.crossings.Whole.{item_face}
-use Rattle.split_drawing_laws.proofs.cut_volumes.Told.{loop_on, loops_on, item_on, item_loop}
+use Rattle.split_drawing_laws.proofs.cut_volumes.Told.{loop_on, loops_on, item_on}
 use Rattle.euler_laws.proofs.mef.MefUndo.{count-mef_old, count-mef_new}
 use Rattle.euler_laws.proofs.shared.Fans.{half_face}
 use Rattle.shapes.specs.split.Drawing.{face_drawn, loops_joined}
@@ -42,11 +42,6 @@ use Rattle.euler_operators.specs.Rings.{rotate_to}
 pub record OnFace (N : Model) (t : Plane) (f : ℕ) : Type 0 where
   pub halves : (h : ℕ) → HasHalf N h → face_at N h ≡ f → is_on t (start N h) ≡ true
   pub lones : (q v : ℕ) → face_of N q ≡ f → content N q ≡ lone v → is_on t (point_of N v) ≡ true
-
--- a lone loop is there
-pub lone_there : (N : Model) (q v : ℕ) → content N q ≡ lone v → Has N.loops q
-unfolding content
-lone_there N q v e = grind (arith, never_lone)
 
 module _ (N : Model) (sound : Sound N) where
   -- the loops of a face are of it

@@ -11,7 +11,7 @@ use Rattle.euler_operators.proofs.Lists.{tick_other, count-append, tick_same, Is
 use Rattle.euler_operators.specs.Table as table
 use Rattle.euler_operators.specs.Model.{Model, cycle, items_of, content, tail, loop_of, face_of, solid_of, outer, after, cycle_of, point_of, faces_of, LoopContent, has_half}
 use Rattle.euler_operators.specs.Sound.{Sound, Has, HasHalf}
-use Rattle.euler_operators.proofs.Models.{in-holds, content_cycle, cycle_there, same_outer, never_lone, same_solid as solid_same}
+use Rattle.euler_operators.proofs.Models.{in-holds, content_cycle, cycle_there, lone_there, same_outer, never_lone, same_solid as solid_same}
 use Rattle.euler_operators.proofs.Tables.{zero_first_where}
 use Rattle.euler_operators.proofs.Members.{IsIn-map, IsIn-filter, IsIn_one, IsIn_some_head}
 use Rattle.euler_operators.proofs.Maps.{from_map}
@@ -47,7 +47,7 @@ use Rattle.split_drawing_laws.proofs.loop_sides.Parting.{loop_on_one_side}
 use Rattle.split_drawing_laws.proofs.loop_sides.SidesWhole.{all_drawn_parted, loops_on_one_side}
 use Rattle.split_drawing_laws.specs.face_sides.Lone.{NoLoopIsLone}
 use Rattle.split_drawing_laws.specs.face_sides.Laws.{IsDrawn}
-use Rattle.split_drawing_laws.proofs.drawn_volumes.Bounds.{lone_there, loop_facts}
+use Rattle.split_drawing_laws.proofs.drawn_volumes.Bounds.{loop_facts}
 use Rattle.split_drawing_laws.proofs.drawings.Counted.{faces_are}
 use Rattle.euler_laws.proofs.shared.Counted.{none_counted}
 

@@ -4,13 +4,13 @@ use Rattle.euler_operators.specs.declared.Plane.{Plane}
 use Rattle.euler_operators.specs.Vectors.{is_above, is_below}
 use Rattle.euler_operators.specs.Model.{Model}
 use Rattle.euler_operators.specs.Sound.{Sound, Has}
+use Rattle.euler_operators.proofs.Models.{lone_there}
 use Rattle.shapes.specs.Faces.{start, vertices_of}
 use Rattle.shapes.specs.Measure.{six_volume}
 use Rattle.shapes.specs.split.Sides.{some_above, some_below, faces_above}
 use Rattle.shapes.specs.split.Drawing.{with_drawings}
 use Rattle.shapes.specs.split.Split.{split_refusal, split_model}
 use Rattle.split_drawing_laws.specs.face_sides.Lone.{NoLoopIsLone}
-use Rattle.split_drawing_laws.proofs.drawn_volumes.Bounds.{lone_there}
 use Rattle.split_drawing_laws.proofs.drawn_volumes.DrawWhole.{drawings_volumes}
 use Rattle.split_drawing_laws.proofs.face_sides.Begun.{none_lone}
 use Rattle.split_laws.specs.volumes.Laws.{CanBeSplit}

@@ -14,7 +14,7 @@ use Rattle.euler_operators.specs.Table as table
 use Rattle.euler_operators.specs.Model.{Model, tail, after, loop_of, face_of, outer, point_of, solid_of, faces_of}
 use Rattle.euler_operators.specs.Sound.{Sound, Has, HasHalf}
 use Rattle.euler_operators.proofs.Halves.{mate-mate}
-use Rattle.euler_operators.proofs.Models.{cycle_there, loop_there as has_loop, item_there, mate_there}
+use Rattle.euler_operators.proofs.Models.{cycle_there, loop_there as has_loop, item_there, mate_there, item_loop}
 use Rattle.euler_operators.specs.Conditions.{AllHold, face_at, lists}
 use Rattle.euler_laws.proofs.shared.Fans.{half_after, loop_after, half_face}
 use Rattle.euler_laws.proofs.shared.Goes.{all_hold}
@@ -27,7 +27,6 @@ use Rattle.shapes.specs.split.Drawing.{with_drawings}
 use Rattle.shapes.specs.split.Section.{below_halves, section_cycles}
 use Rattle.shapes.specs.split.Split.{first_conditions, split_refusal}
 use Rattle.split_opening_laws.specs.cycles.SectionCycles.{IsBelowHalf, AreSectionCycles}
-use Rattle.split_drawing_laws.proofs.cut_volumes.Told.{item_loop}
 use Rattle.split_drawing_laws.specs.drawn_volumes.Laws.{LiesOnOld}
 use Rattle.split_drawing_laws.proofs.drawn_volumes.Bounds.{OnFace, on_face}
 use Rattle.split_drawing_laws.proofs.drawn_volumes.DrawWhole.{drawn_lies}

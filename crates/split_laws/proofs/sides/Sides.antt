@@ -13,7 +13,7 @@ use Rattle.euler_operators.specs.Sound.{Has, IsLoneAt, Sound}
 use Rattle.euler_operators.specs.Conditions.{lists}
 use Rattle.euler_operators.specs.Effect.{kfmrh, part}
 use Rattle.euler_operators.proofs.Tables.{row_some}
-use Rattle.euler_operators.proofs.Models.{content_row, never_lone}
+use Rattle.euler_operators.proofs.Models.{content_row, never_lone, lone_there}
 use Rattle.euler_laws.proofs.shared.Listed.{other_last, passes_listed, IsIn-from_listed, listed-from_in}
 use Rattle.shapes.specs.Faces.{start, loops_of, corners, corners_in, vertices_of}
 use Rattle.shapes.specs.Fresh.{Taken}
@@ -26,7 +26,6 @@ use Rattle.shapes.specs.Rewriting.{rewritten}
 use Rattle.split_opening_laws.specs.strips.Opened.{CanBeOpened}
 use Rattle.split_opening_laws.specs.sections.InTurn.{upper_faces, CanBeOpenedInTurn}
 use Rattle.split_opening_laws.proofs.sections.InTurn.{upper_next, can_open, openings_carry, new_caps}
-use Rattle.split_drawing_laws.proofs.drawn_volumes.Bounds.{lone_there}
 use Rattle.split_laws.specs.opened.Told.{LiesAlong}
 use Rattle.split_laws.specs.opened.Laws.{LieOn}
 use Rattle.split_laws.specs.volumes.Laws.{CanBeSplit, CanBeParted}

@@ -7,18 +7,14 @@ use Rattle.euler_operators.specs.declared.Plane.{Plane}
 use Rattle.euler_operators.specs.HalfEdge.{code}
 use Rattle.euler_operators.specs.Conditions.{strictly_rises}
 use Rattle.euler_operators.specs.Model.{Model}
-use Rattle.euler_operators.specs.Sound.{Sound, HasHalf}
+use Rattle.euler_operators.specs.Sound.{Sound}
 use Rattle.euler_laws.proofs.shared.Bounds.{steps_are, half_below}
-use Rattle.solid_walks.proofs.face_walks_laws.HalfCodes.{edge_fits}
 use Rattle.shapes.specs.split.Section.{next_below, cycle_from, section_cycles, is_hole}
 use Rattle.split_opening_laws.specs.cycles.Permuting.{Permutes}
 use Rattle.split_opening_laws.proofs.cycles.Orbits.{around_apart, around_within}
 use Rattle.split_sections.specs.section_cycles.Halves.{AreThere, halves_of}
 use Rattle.split_sections.specs.declared.section_cycles.cycle.Cycle.{Cycle}
 use Rattle.split_sections.proofs.section_cycles_laws.Found.{Finding, all_found, found_whole}
-
-pub number_fits : (M : Model) → Sound M → (h : HalfEdge) → HasHalf M (code h) → h.edge ≤ 1000000
-number_fits M sound h t = edge_fits M sound h t
 
 pub cycle_low : (M : Model) → Sound M → (bs : List ℕ) → AreThere M bs → Permutes (next_below M bs) bs → (first : ℕ) → IsIn first bs → (cycle : List ℕ) → cycle ≡ cycle_from M bs first → (b : ℕ) → IsIn b cycle → b ≤ 2000001
 cycle_low M sound bs there w first i cycle is b j =

@@ -6,13 +6,14 @@ use Rattle.euler_operators.specs.Items.{IsIn}
 use Rattle.euler_operators.specs.Conditions.{lists}
 use Rattle.euler_operators.specs.declared.HalfEdge.{HalfEdge}
 use Rattle.euler_operators.specs.HalfEdge.{code}
+use Rattle.solid_walks.proofs.face_walks_laws.HalfCodes.{edge_fits}
 use Rattle.shapes.specs.split.Section.{next_below}
 use Rattle.split_sections.specs.section_cycles.Halves.{halves_of}
 use Rattle.split_sections.specs.declared.section_cycles.cycle.Cycle.{Cycle}
 use Rattle.split_checks.proofs.cut_places_laws.Lists.{no_half}
 use Rattle.split_sections.proofs.section_cycles_laws.Found.{Finding, none_found, found_before, found_now, now_in}
 use Rattle.split_sections.proofs.section_cycles_laws.Meetings.{first_code, no_more}
-use Rattle.split_sections.proofs.section_cycles_laws.Whole.{AreTold, holes_pushed, number_fits, cycle_low, listed_cycles, halves_pushed, whole_cycle}
+use Rattle.split_sections.proofs.section_cycles_laws.Whole.{AreTold, holes_pushed, cycle_low, listed_cycles, halves_pushed, whole_cycle}
 use Rattle.split_sections.proofs.section_cycles.finding.cycles.Goals as goal
 
 pub halves-init : goal.halves-init
@@ -27,7 +28,7 @@ halves-init c =
 pub code-requires : goal.code-requires
 code-requires c =
     let M = c.args.arena.now.model in let bs : List ℕ = map code c.args.halves.now in
-    number_fits M c.requires.ready.sound _ (c.requires.there _ (now_in (next_below M bs) bs c.requires.next c.requires.rising _ _ _ c.halves.invariant.found (code _) _ (first_code c.halves.rest.now no_half c.in-len1-up.len_at_least)))
+    edge_fits M c.requires.ready.sound _ (c.requires.there _ (now_in (next_below M bs) bs c.requires.next c.requires.rising _ _ _ c.halves.invariant.found (code _) _ (first_code c.halves.rest.now no_half c.in-len1-up.len_at_least)))
 
 pub cycle_with_hole-requires-clause-first : goal.cycle_with_hole-requires-clause-first
 cycle_with_hole-requires-clause-first c =
