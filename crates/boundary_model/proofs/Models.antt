@@ -1,15 +1,14 @@
 -- What a sound model says of its half-edges and loops.
-use Rattle.std.proofs.Common.{◌≡◌, ◌≢◌, ℕ, ◌+◌, ◌*◌, ◌≤◌, Bool, true, false, cond, not, nat_eq, nat_lt, ◌<◌, T, List, [], ◌∷◌, ◌++◌, Option, Some, None, is_some, unwrap_or, refl, sym, ap, subst, ◌∙◌, arith, IsTrue, true≢false, ◌⊎◌, inl, inr}
-use Rattle.std.proofs.lemmas.Bool.Decides.{nat_tests, eqb_tells}
-use Rattle.cyclic_list.specs.Items.{count, IsIn, IsApart}
-use Rattle.cyclic_list.specs.Rings.{canonical}
+use Rattle.std.proofs.Common.{◌≡◌, ◌≢◌, ℕ, ◌+◌, ◌*◌, ◌≤◌, Bool, true, false, ◌<◌, List, [], ◌∷◌, ◌++◌, Option, Some, None, is_some, unwrap_or, refl, sym, ap, ◌∙◌, arith, true≢false, ◌⊎◌}
+use Rattle.std.proofs.lemmas.Bool.Decides.{nat_tests}
+use Rattle.cyclic_list.specs.Items.{count, IsIn}
 use Rattle.boundary_model.specs.HalfEdge.{mate, edge_of, is_first, plus, minus}
-use Rattle.boundary_model.specs.Table.{Table, get, has, first_where}
+use Rattle.boundary_model.specs.Table.{get, has}
 use Rattle.boundary_model.specs.Model.{Model, LoopContent, lone, cycle, FaceRow, LoopRow, EdgeRow, items_of, holds, no_face, no_loop, no_edge, no_point, tail, tail_in, loop_of, content, face_of, solid_of, outer, point_of, cycle_of, is_number}
 use Rattle.boundary_model.specs.Sound.{Sound, Has, HasHalf, StandsIn, IsCycle}
 use Rattle.lattice.specs.declared.Point.{Point}
 use Rattle.boundary_model.proofs.Halves.{edge_of-mate, plus_row, minus_row}
-use Rattle.boundary_model.proofs.Tables.{first_where_is, first_where_zero}
+use Rattle.boundary_model.proofs.Tables.{first_where_zero}
 
 -- to stand in a loop is to be counted there
 pub holds_in : (h : ℕ) (c : LoopContent) → holds h c ≡ true → IsIn h (items_of c)

@@ -1,11 +1,11 @@
 -- Two faces of two solids along which these are glued: what follows in a sound model, and what the glued model holds.
-use Rattle.std.proofs.Common.{◌≡◌, ◌≢◌, ℕ, nat_eq, List, [], true, sym, ap, ◌∙◌, arith, ◌⊎◌, false, Bool, Option, Some, None, is_some, unwrap_or, refl, true≢false, inl, inr}
+use Rattle.std.proofs.Common.{◌≡◌, ◌≢◌, ℕ, nat_eq, List, [], true, sym, ap, ◌∙◌, arith, ◌⊎◌, unwrap_or, inl, inr}
 use Rattle.std.specs.Prelude.{map}
 use Rattle.euler_operators.specs.Items.{IsIn, SameItems, count}
 use Rattle.euler_operators.proofs.Maps.{from_map}
 use Rattle.euler_operators.specs.HalfEdge.{mate, edge_of}
 use Rattle.euler_operators.specs.Table as table
-use Rattle.euler_operators.specs.Model.{Model, cycle, holds, tail, loop_of, content, face_of, solid_of, outer, rings_of, EdgeRow, tail_in, no_edge, no_point, point_of}
+use Rattle.euler_operators.specs.Model.{Model, cycle, holds, tail, loop_of, content, face_of, solid_of, outer, rings_of, no_point, point_of}
 use Rattle.euler_operators.specs.Sound.{Sound, Has, HasHalf, StandsIn}
 use Rattle.euler_operators.proofs.Models.{in-holds, mate_there}
 use Rattle.euler_operators.proofs.Members.{IsIn-map}
@@ -20,7 +20,7 @@ use Rattle.std.specs.Option.{option_map}
 use Rattle.euler_operators.proofs.Lists.{IsIn_or_not}
 use Rattle.euler_operators.specs.Table.{get-map_rows}
 use Rattle.euler_operators.proofs.Halves.{mate-mate, edge_of-mate, same_edge}
-use Rattle.shapes.proofs.glue.Renamings.{renamed_cases, without_there}
+use Rattle.shapes.proofs.glue.Renamings.{renamed_cases, without_there, tail_renamed}
 
 -- the items hs of f have partners, the items gs of g, which go back along them
 pub record Seamed (M : Model) (f g : ℕ) (partner_of : ℕ → ℕ) (hs gs : List ℕ) : Type 0 where
@@ -151,15 +151,9 @@ module _ {M N : Model} {f g : ℕ} {partner_of : ℕ → ℕ} {hs gs : List ℕ}
   edge_row : (e : ℕ) → table.get N.edges e ≡ option_map (renamed_tails (paired from_tail to_tail hs) e) (table.get (without_rows M.edges gone) e)
   edge_row e = ap (λ t. table.get t e) n.edges ∙ get-map_rows _ (without_rows M.edges gone) e
 
-  tail_moved : (o : Option EdgeRow) (e : ℕ) (b : Bool) → is_some o ≡ true →
-      tail_in (unwrap_or (option_map (renamed_tails (paired from_tail to_tail hs) e) o) no_edge) b ≡ renamed (paired from_tail to_tail hs) (tail_in (unwrap_or o no_edge) b)
-  tail_moved None e b t = absurd (true≢false (sym t))
-  tail_moved (Some row) e true t = refl
-  tail_moved (Some row) e false t = refl
-
   start_kept : (y : ℕ) → HasHalf M y → count (edge_of y) gone ≡ 0 → start N y ≡ start M y
   unfolding tail
-  start_kept y there c = ap (point_of N) (grind (arith, edge_row, without_there, tail_moved)) ∙ point_moved (tail M y)
+  start_kept y there c = ap (point_of N) (grind (arith, edge_row, without_there, tail_renamed (paired from_tail to_tail hs))) ∙ point_moved (tail M y)
 
   -- z starts and ends where y did
   abbrev pub Stays : ℕ → ℕ → Type 0

@@ -15,7 +15,7 @@ use Rattle.euler_operators.specs.HalfEdge.{mate, edge_of, half, plus, minus}
 use Rattle.euler_operators.specs.Table as table
 use Rattle.euler_operators.specs.Table.{Table, tables, same_table}
 use Rattle.euler_operators.specs.declared.Corner.TheVariants.{At}
-use Rattle.euler_operators.specs.Model.{Model, FaceRow, LoopRow, EdgeRow, lone, cycle, LoopContent, items_of, tail, tail_in, content, face_of, solid_of, outer, is_number}
+use Rattle.euler_operators.specs.Model.{Model, FaceRow, LoopRow, EdgeRow, cycle, items_of, tail, tail_in, content, face_of, solid_of, outer, is_number}
 use Rattle.euler_operators.specs.Model as model
 use Rattle.euler_operators.specs.Sound.{Sound, HasHalf}
 use Rattle.euler_operators.proofs.Halves.{code-half, plus_row, minus_row, edge_of-mate, mate_plus}
@@ -37,20 +37,16 @@ use Rattle.euler_laws.specs.Laws.{effects, AreAccepted}
 use Rattle.euler_laws.proofs.Cases.{effect_keeps_sound}
 use Rattle.euler_laws.proofs.Runs.{Leads, leads_one, leads_first}
 use Rattle.sweeps_laws.proofs.prism.Steps.{edge_plus}
-use Rattle.shapes.specs.Rewriting.{rewritten, rewritten_row, renamed}
+use Rattle.shapes.specs.Rewriting.{rewritten_row, renamed}
 use Rattle.shapes.specs.glue.GlueOps.{opening}
 use Rattle.shapes.specs.glue.Part.{paired, seam, glued_part}
-use Rattle.shapes.proofs.glue.Renamings.{renamed_more}
+use Rattle.shapes.proofs.glue.Renamings.{renamed_more, row_unrenamed}
 use Rattle.shapes.proofs.glue.Swapped.{map_agree, map_removed}
 use Rattle.shapes.proofs.glue.Facing as facing
 use Rattle.shapes.proofs.glue.Facing.{Facing}
 use Rattle.gluing_laws.proofs.glue.Round.{out_edge, out_here, out_none}
 use Rattle.euler_laws.proofs.shared.KnownLoop.{Around, half_is, loop_is, cycle_is, apart_xs}
 use Rattle.euler_laws.proofs.shared.Same.{same_tail}
-
-same_items : (cs : List ℕ) → map (renamed []) cs ≡ cs
-same_items [] = refl
-same_items (c ∷ cs) = ap (λ t. c ∷ t) (same_items cs)
 
 module _ (M : Model) (f g : ℕ) (partner_of : ℕ → ℕ) (h : ℕ) (mid : List ℕ) (last x : ℕ) (w : Facing M f g partner_of (h ∷ (mid ++ last ∷ [])) x) where
   abbrev hs : List ℕ
@@ -338,16 +334,10 @@ module _ (M : Model) (f g : ℕ) (partner_of : ℕ → ℕ) (h : ℕ) (mid : Lis
       go false true z = absurd (true≢false (sym (ap is_some z)))
       go false false z = z
 
-  same_row : (q : ℕ) (row : LoopRow) → table.get M.loops q ≡ Some row → rewritten_row (map (renamed [])) q row ≡ row
-  same_row q row at = ap (λ c. record { face = row.face; content = c }) (on row.content (content_row M q row at)) where
-    on : (c : LoopContent) → content M q ≡ c → rewritten (map (renamed [])) c ≡ c
-    on (lone v) e = refl
-    on (cycle cs) e = ap cycle (ap canonical (same_items cs) ∙ (w.sound.cycles q cs (ap is_some at) e).from_least)
-
   loops_then : C.loops ≡ X.loops
   unfolding glued_part
   loops_then = same_table _ _ (λ n. grind (arith, nat_tests, tables))
-      ∙ ap (λ u. table.put u l row_l) (sym (map_same (rewritten_row (map (renamed []))) kept (λ q row at. same_row q row (kept_there q row at))))
+      ∙ ap (λ u. table.put u l row_l) (sym (map_same (rewritten_row (map (renamed []))) kept (λ q row at. row_unrenamed M w.sound q row (kept_there q row at))))
 
   move_on : (u : ℕ) → cond (nat_eq u (tail M k)) (tail M h) u ≡ renamed (paired (λ j. tail M (partner_of j)) (λ j. tail M (mate j)) (last ∷ [])) u
   move_on u = ap (λ v. cond (nat_eq u (tail M k)) v u) (facing.meets_round M f g partner_of hs x w h mid last refl)

@@ -1,5 +1,5 @@
 -- What a model holds while two solids are being glued together, and one item more.
-use Rattle.std.proofs.Common.{◌≡◌, ◌≢◌, ℕ, true, false, nat_eq, Bool, List, ◌∷◌, ◌++◌, Option, Some, None, is_some, unwrap_or, refl, sym, ap, ◌∙◌, subst, arith, true≢false, inl, inr, cond, []}
+use Rattle.std.proofs.Common.{◌≡◌, ◌≢◌, ℕ, nat_eq, List, ◌∷◌, ◌++◌, Option, Some, None, is_some, unwrap_or, refl, sym, ap, ◌∙◌, subst, arith, true≢false, inl, inr, cond, []}
 use Rattle.std.specs.Prelude.{map, reverse}
 use Rattle.std.specs.Option.{option_map}
 use Rattle.std.proofs.lemmas.Bool.Decides.{nat_tests, eqb_tells}
@@ -10,7 +10,7 @@ use Rattle.euler_operators.proofs.Tables.{get-put_here, get-put_other}
 use Rattle.euler_operators.specs.HalfEdge.{mate, edge_of, is_first}
 use Rattle.euler_operators.specs.Table as table
 use Rattle.euler_operators.specs.Table.{Table, tables, get-map_rows, same_table, get-put}
-use Rattle.euler_operators.specs.Model.{Model, EdgeRow, LoopRow, cycle, tail, tail_in, no_edge, solid_of, outer, items_of, loop_of, content, face_of, cycle_of}
+use Rattle.euler_operators.specs.Model.{Model, LoopRow, cycle, tail, tail_in, no_edge, solid_of, outer, items_of, loop_of, content, face_of, cycle_of}
 use Rattle.euler_operators.specs.Sound.{Sound, HasHalf, StandsIn}
 use Rattle.euler_operators.specs.Effect.{faces_to_solid}
 use Rattle.euler_laws.proofs.shared.Same.{mapped_some}
@@ -18,7 +18,7 @@ use Rattle.euler_laws.proofs.shared.KnownLoop.{Around, half_is, loop_is}
 use Rattle.shapes.specs.Rewriting.{rewritten_row, renamed, without_rows}
 use Rattle.shapes.specs.glue.Glue.{renamed_tails}
 use Rattle.shapes.specs.glue.Part.{paired, seam, glued_part}
-use Rattle.shapes.proofs.glue.Renamings.{renamed_not, without_there, without_gone, renamed_more, replaced}
+use Rattle.shapes.proofs.glue.Renamings.{renamed_not, without_there, without_gone, renamed_more, replaced, tail_renamed}
 use Rattle.shapes.proofs.glue.Facing as facing
 use Rattle.shapes.proofs.glue.Facing.{Facing, side}
 use Rattle.euler_operators.proofs.Rotations.{count-canonical}
@@ -111,15 +111,9 @@ module _ (M : Model) (f g : ℕ) (partner_of : ℕ → ℕ) (hs : List ℕ) (x l
   pub half_back : (y : ℕ) → HasHalf N y → HasHalf M y
   half_back y there = ap is_some (sym (still y there)) ∙ sym (mapped_some _ (table.get (without_rows M.edges gone) (edge_of y))) ∙ ap is_some (sym (edge_row (edge_of y))) ∙ there
 
-  tail_moved : (o : Option EdgeRow) (e : ℕ) (b : Bool) → is_some o ≡ true →
-      tail_in (unwrap_or (option_map (renamed_tails (paired (λ h. tail M (partner_of h)) (λ h. tail M (mate h)) (last ∷ done)) e) o) no_edge) b ≡ move (tail_in (unwrap_or o no_edge) b)
-  tail_moved None e b t = absurd (true≢false (sym t))
-  tail_moved (Some row) e true t = refl
-  tail_moved (Some row) e false t = refl
-
   pub tail_is : (y : ℕ) → HasHalf N y → tail N y ≡ move (tail M y)
   unfolding tail
-  tail_is y there = ap (λ o. tail_in (unwrap_or o no_edge) (is_first y)) (edge_row (edge_of y) ∙ ap (option_map _) (still y there)) ∙ tail_moved (table.get M.edges (edge_of y)) (edge_of y) (is_first y) (half_back y there)
+  tail_is y there = ap (λ o. tail_in (unwrap_or o no_edge) (is_first y)) (edge_row (edge_of y) ∙ ap (option_map _) (still y there)) ∙ tail_renamed (paired (λ h. tail M (partner_of h)) (λ h. tail M (mate h)) (last ∷ done)) (table.get M.edges (edge_of y)) (edge_of y) (is_first y) (half_back y there)
 
   pub edge_free : table.get N.edges x ≡ None
   edge_free = edge_row x ∙ ap (option_map _) (elim (IsIn_or_not x gone) [

@@ -1,6 +1,7 @@
 -- Renamings by lists of pairs, one pair more; and what they make of a ring.
-use Rattle.std.proofs.Common.{◌≡◌, ◌≢◌, ℕ, ◌+◌, false, cond, nat_eq, List, [], ◌∷◌, ◌++◌, None, refl, sym, ap, ◌∙◌, subst, arith, ◌⊎◌, inl, inr}
+use Rattle.std.proofs.Common.{◌≡◌, ◌≢◌, ℕ, ◌+◌, Bool, true, false, cond, nat_eq, List, [], ◌∷◌, ◌++◌, Option, Some, None, is_some, unwrap_or, refl, sym, ap, ◌∙◌, subst, arith, true≢false, ◌⊎◌, inl, inr}
 use Rattle.std.specs.Prelude.{map}
+use Rattle.std.specs.Option.{option_map}
 use Rattle.std.proofs.lemmas.Bool.Decides.{nat_tests, eqb_tells}
 use Rattle.std.proofs.lemmas.Bool.{ne_eqb}
 use Rattle.euler_operators.specs.Items.{count, IsIn, IsApart, before, after}
@@ -11,7 +12,11 @@ use Rattle.euler_operators.proofs.Tests.{nat_eq_turned, nat_eq_itself}
 use Rattle.euler_operators.proofs.Tables.{remove_turned, get-remove_other}
 use Rattle.euler_operators.specs.Table as table
 use Rattle.euler_operators.specs.Table.{Table, tables}
-use Rattle.shapes.specs.Rewriting.{renamed, without_rows}
+use Rattle.euler_operators.specs.Model.{Model, LoopContent, LoopRow, EdgeRow, lone, cycle, content, tail_in, no_edge}
+use Rattle.euler_operators.specs.Sound.{Sound}
+use Rattle.euler_operators.proofs.Models.{content_row}
+use Rattle.shapes.specs.Rewriting.{rewritten, rewritten_row, renamed, without_rows}
+use Rattle.shapes.specs.glue.Glue.{renamed_tails}
 use Rattle.shapes.specs.glue.Part.{paired}
 
 -- ---- renamings
@@ -128,3 +133,23 @@ replaced_ring m h xs apart i out =
     ap (λ t. canonical (h ∷ t)) r
     ∙ canonical_same (h ∷ (qs ++ ps)) (ps ++ h ∷ qs) (record { front = h ∷ qs; back = ps; here = refl; there = refl }) d
     ∙ ap canonical (sym new)
+
+-- ---- rows renamed
+
+none_renamed : (cs : List ℕ) → map (renamed []) cs ≡ cs
+none_renamed [] = refl
+none_renamed (c ∷ cs) = ap (λ t. c ∷ t) (none_renamed cs)
+
+-- a loop whose items no pair renames stays as it is
+pub row_unrenamed : (M : Model) → Sound M → (q : ℕ) (row : LoopRow) → table.get M.loops q ≡ Some row → rewritten_row (map (renamed [])) q row ≡ row
+row_unrenamed M sound q row at = ap (λ x. record { face = row.face; content = x }) (go row.content (content_row M q row at)) where
+  go : (x : LoopContent) → content M q ≡ x → rewritten (map (renamed [])) x ≡ x
+  go (lone v) e = refl
+  go (cycle cs) e = ap cycle (ap canonical (none_renamed cs) ∙ (sound.cycles q cs (ap is_some at) e).from_least)
+
+-- the tail of a half-edge is renamed with its row
+pub tail_renamed : (ps : List (ℕ × ℕ)) (o : Option EdgeRow) (e : ℕ) (b : Bool) → is_some o ≡ true →
+    tail_in (unwrap_or (option_map (renamed_tails ps e) o) no_edge) b ≡ renamed ps (tail_in (unwrap_or o no_edge) b)
+tail_renamed ps None e b there = absurd (true≢false (sym there))
+tail_renamed ps (Some row) e true there = refl
+tail_renamed ps (Some row) e false there = refl

@@ -1,5 +1,5 @@
 -- What walks over all loops of a solid count are its vertices and its edges.
-use Rattle.std.proofs.Common.{◌≡◌, ℕ, ◌+◌, ◌≤◌, Bool, true, nat_eq, List, [], ◌∷◌, ◌++◌, length, map, is_some, refl, sym, ap, subst, ◌∙◌, arith, true≢false, inl, inr}
+use Rattle.std.proofs.Common.{◌≡◌, ℕ, ◌+◌, ◌≤◌, Bool, true, nat_eq, List, [], ◌∷◌, ◌++◌, length, map, is_some, refl, sym, ap, subst, ◌∙◌, arith, inl, inr}
 use Rattle.std.specs.Prelude.{ℤ, pos, ◌-ℤ◌, FitsSigned}
 use Rattle.std.proofs.lemmas.Int.{ints, to_z-of_z, fits_signed_from_abs}
 use mir.Syntax.{w64}
@@ -22,7 +22,7 @@ use Rattle.euler_operators.specs.Conditions.{lists, is_lone, lone_vertex, face_a
 use Rattle.euler_laws.proofs.shared.Rows.{lone_is}
 use Rattle.euler_laws.proofs.shared.Fans.{kept_round, loop_after}
 use Rattle.euler_laws.proofs.shared.Listed.{listed_passes, passes_listed, all_where-rises, IsIn-from_listed, listed-from_in}
-use Rattle.shapes.specs.Faces.{items_in, vertices_on, vertices_in, corners_in, vertices_of, edges_of}
+use Rattle.shapes.specs.Faces.{items_in, vertices_on, corners_in, vertices_of, edges_of}
 use Rattle.solid_measure.specs.solid_counts.Counts.{rings_in, counts}
 use Rattle.solid_measure.specs.declared.solid_counts.Met.{Met}
 use Rattle.solid_measure.specs.declared.solid_counts.Tally.{Tally}

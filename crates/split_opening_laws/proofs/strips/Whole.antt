@@ -1,36 +1,26 @@
 -- All strips cut off, one after the other.
-use Rattle.std.proofs.Common.{◌≡◌, ℕ, zero, suc, ◌≤◌, List, [], ◌∷◌, length, Some, is_some, refl, sym, ap, ◌∙◌, subst, arith}
+use Rattle.std.proofs.Common.{◌≡◌, ℕ, zero, suc, ◌≤◌, List, [], ◌∷◌, length, sym, ap, ◌∙◌, subst, arith}
 use Rattle.std.specs.Prelude.{map}
-use Rattle.euler_operators.specs.Rings.{canonical}
 use Rattle.euler_operators.specs.HalfEdge.{mate}
 use Rattle.euler_operators.specs.Table as table
-use Rattle.euler_operators.specs.Model.{Model, LoopContent, LoopRow, lone, cycle, content}
+use Rattle.euler_operators.specs.Model.{Model}
 use Rattle.euler_operators.specs.Sound.{Sound}
 use Rattle.euler_operators.proofs.Tables.{map_same}
-use Rattle.euler_operators.proofs.Models.{content_row}
 use Rattle.euler_operators.specs.Effect.{effect}
 use Rattle.euler_laws.specs.Laws.{effects, AreAccepted}
 use Rattle.euler_laws.proofs.Runs.{effects-append, AreAccepted-append, effects_keep_sound}
 use Rattle.shapes.specs.Fresh.{Taken}
-use Rattle.shapes.specs.Rewriting.{rewritten, rewritten_row, renamed}
+use Rattle.shapes.specs.Rewriting.{rewritten_row, renamed}
+use Rattle.shapes.proofs.glue.Renamings.{row_unrenamed}
 use Rattle.split_opening_laws.specs.strips.Strips.{strips_cut}
 use Rattle.split_opening_laws.specs.strips.StripOps.{cut_strip, strip_ops}
 use Rattle.split_opening_laws.specs.strips.Opened.{CanBeOpened}
 use Rattle.split_opening_laws.proofs.sections.Numbered.{both_none}
 use Rattle.split_opening_laws.proofs.strips.Strip.{strip_accepted, strip_is}
 
-same_items : (cs : List ℕ) → map (renamed []) cs ≡ cs
-same_items [] = refl
-same_items (c ∷ cs) = ap (λ t. c ∷ t) (same_items cs)
-
 -- loops are not changed by no renaming
 pub none_renamed : (M : Model) → Sound M → table.map_rows (rewritten_row (map (renamed []))) M.loops ≡ M.loops
-none_renamed M sound = map_same (rewritten_row (map (renamed []))) M.loops row_stays where
-  row_stays : (q : ℕ) (row : LoopRow) → table.get M.loops q ≡ Some row → rewritten_row (map (renamed [])) q row ≡ row
-  row_stays q row at = ap (λ x. record { face = row.face; content = x }) (go row.content (content_row M q row at)) where
-    go : (x : LoopContent) → content M q ≡ x → rewritten (map (renamed [])) x ≡ x
-    go (lone v) e = refl
-    go (cycle cs) e = ap cycle (ap canonical (same_items cs) ∙ (sound.cycles q cs (ap is_some at) e).from_least)
+none_renamed M sound = map_same (rewritten_row (map (renamed []))) M.loops (row_unrenamed M sound)
 
 module _ (M : Model) (above : List ℕ) (s : ℕ) (c : Taken) (bs : List ℕ) (w : CanBeOpened M above s c bs) where
   none_cut : M ≡ strips_cut M s c bs 0
