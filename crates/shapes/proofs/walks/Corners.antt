@@ -1,12 +1,17 @@
--- The corners of some loops and of some faces, loop by loop.
+-- The corners of some loops and of some faces, loop by loop; and the half-edges of a solid.
 use Rattle.std.proofs.Common.{◌≡◌, ℕ, List, [], ◌∷◌, ◌++◌, refl, sym, ap, ◌∙◌, arith, inl, inr}
 use Rattle.std.proofs.lemmas.Bool.Decides.{eqb_tells}
 use Rattle.std.proofs.lemmas.List.{append_assoc}
-use Rattle.euler_operators.specs.Items.{count, IsIn}
+use Rattle.euler_operators.specs.Items.{count, IsIn, IsApart}
 use Rattle.euler_operators.proofs.Lists.{count-append, tick_same, tick_other, IsIn_or_not}
-use Rattle.euler_operators.specs.Model.{Model, content}
-use Rattle.shapes.specs.Faces.{loops_of, vertices_on, vertices_in, corners, corners_in}
+use Rattle.euler_operators.specs.Model.{Model, items_of, content, loop_of, solid_of}
+use Rattle.euler_operators.specs.Sound.{Sound, HasHalf}
+use Rattle.euler_operators.specs.Conditions.{face_at}
+use Rattle.euler_operators.proofs.Models.{cycle_there, loop_there}
+use Rattle.shapes.specs.Faces.{items_in, loops_of, vertices_on, vertices_in, corners, corners_in}
 use Rattle.shapes.specs.Walks.{loops_in}
+use Rattle.shapes.proofs.walks.FaceLoops.{different_items, items_counted, items_there}
+use Rattle.shapes.proofs.walks.SolidFaces.{solid_loops, all_loops_apart, loop_in_solid, solid_has_loop}
 
 pub vertices_joined : (M : Model) (ls ks : List ℕ) → vertices_in M (ls ++ ks) ≡ vertices_in M ls ++ vertices_in M ks
 vertices_joined M [] ks = refl
@@ -36,3 +41,19 @@ in_some f all step (k ∷ ls) l x i j = elim (eqb_tells l k) [
 -- so does a vertex on one loop
 pub on_some : (M : Model) (ls : List ℕ) (l v : ℕ) → IsIn l ls → IsIn v (vertices_on M (content M l)) → IsIn v (vertices_in M ls)
 on_some M = in_some (λ l. vertices_on M (content M l)) (vertices_in M) (λ l ls. refl)
+
+-- ---- the half-edges of a solid
+
+module _ (M : Model) (sound : Sound M) (s : ℕ) where
+  abbrev pub solid_halves : List ℕ
+  solid_halves = items_in M (solid_loops M sound s)
+
+  pub halves_apart : IsApart solid_halves
+  halves_apart = (different_items M sound (solid_loops M sound s) (all_loops_apart M sound s)).apart
+
+  -- are those whose face is of the solid
+  pub half_solid : (x : ℕ) → IsIn x solid_halves → HasHalf M x × (solid_of M (face_at M x) ≡ s)
+  half_solid x i = (items_there M sound (solid_loops M sound s) x i, (loop_in_solid M sound s (loop_of M x) (omega (arith, i, items_counted M sound (solid_loops M sound s) x))).1)
+
+  pub solid_half : (x : ℕ) → HasHalf M x → solid_of M (face_at M x) ≡ s → IsIn x solid_halves
+  solid_half x t e = in_some (λ l. items_of (content M l)) (items_in M) (λ l ls. refl) (solid_loops M sound s) (loop_of M x) x (solid_has_loop M sound s (loop_of M x) (loop_there M sound x t) e) (cycle_there M sound x t)

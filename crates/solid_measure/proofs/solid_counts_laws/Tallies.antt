@@ -12,7 +12,7 @@ use Rattle.euler_operators.specs.Items.{count, IsIn, IsApart}
 use Rattle.euler_operators.proofs.Lists.{count-append, tick_same, tick_other, IsIn_or_not}
 use Rattle.euler_operators.specs.HalfEdge.{edge_of, is_first, plus}
 use Rattle.euler_operators.specs.Table as table
-use Rattle.euler_operators.specs.Model.{Model, LoopContent, lone, cycle, items_of, tail, content, loop_of, face_of, solid_of, faces_of}
+use Rattle.euler_operators.specs.Model.{Model, LoopContent, lone, cycle, items_of, tail, content, loop_of, solid_of, faces_of}
 use Rattle.euler_operators.specs.Sound.{Sound, Has, HasHalf, IsLoneAt}
 use Rattle.euler_operators.proofs.Halves.{plus_row, first_is_plus}
 use Rattle.euler_operators.proofs.Models.{cycle_there, loop_there}
@@ -20,7 +20,7 @@ use Rattle.euler_operators.proofs.Members.{IsIn-map, IsApart-images}
 use Rattle.euler_operators.proofs.Tables.{row_some}
 use Rattle.euler_operators.specs.Conditions.{lists, is_lone, lone_vertex, face_at}
 use Rattle.euler_laws.proofs.shared.Rows.{lone_is}
-use Rattle.euler_laws.proofs.shared.Fans.{kept_round, loop_after}
+use Rattle.euler_laws.proofs.shared.Same.{one_solid_round}
 use Rattle.euler_laws.proofs.shared.Listed.{listed_passes, passes_listed, all_where-rises, IsIn-from_listed, listed-from_in}
 use Rattle.shapes.specs.Faces.{items_in, vertices_on, corners_in, vertices_of, edges_of}
 use Rattle.solid_measure.specs.solid_counts.Counts.{rings_in, counts}
@@ -32,10 +32,9 @@ use Rattle.solid_measure.proofs.solid_counts_laws.Sums.{is_lone_loop, loops_are,
 use Rattle.solid_measure.proofs.solid_counts_laws.FaceSums.{rings_few}
 use Rattle.shapes.specs.Walks.{leads}
 use Rattle.euler_laws.proofs.shared.Counted.{counted_once}
-use Rattle.shapes.proofs.walks.FaceLoops.{different_items, items_counted, items_there}
 use Rattle.shapes.proofs.walks.SolidFaces.{solid_loops, all_loops_apart, loop_in_solid, solid_has_loop, faces_short}
 use Rattle.shapes.proofs.walks.FirstEdges.{one_leads, only_leads}
-use Rattle.shapes.proofs.walks.Corners.{corners_are, on_one, in_some, on_some}
+use Rattle.shapes.proofs.walks.Corners.{corners_are, on_one, in_some, on_some, halves_apart, half_solid, solid_half}
 
 -- what the code holds of counts and of their difference
 count_held : (z : ℤ) (n : ℕ) → z ≡ pos n → n ≤ 5000001 → to_z w64 (of_z w64 z) ≡ pos n
@@ -51,20 +50,6 @@ module _ (M : Model) (sound : Sound M) (s : ℕ) where
   abbrev halves : List ℕ
   halves = items_in M loops
 
-  halves_apart : IsApart halves
-  halves_apart = (different_items M sound loops (all_loops_apart M sound s)).apart
-
-  -- a half-edge is of the solid where its face is
-  half_solid : (x : ℕ) → IsIn x halves → HasHalf M x × (solid_of M (face_at M x) ≡ s)
-  half_solid x i = (items_there M sound loops x i, (loop_in_solid M sound s (loop_of M x) (omega (arith, i, items_counted M sound loops x))).1)
-
-  solid_half : (x : ℕ) → HasHalf M x → solid_of M (face_at M x) ≡ s → IsIn x halves
-  solid_half x t e = in_some (λ l. items_of (content M l)) (items_in M) (λ l ls. refl) loops (loop_of M x) x (solid_has_loop M sound s (loop_of M x) (loop_there M sound x t) e) (cycle_there M sound x t)
-
-  -- all half-edges at a vertex are of one solid
-  one_solid_round : (x y : ℕ) → HasHalf M x → HasHalf M y → tail M x ≡ tail M y → solid_of M (face_at M y) ≡ solid_of M (face_at M x)
-  one_solid_round x y t u e = kept_round M sound (λ h. solid_of M (face_of M (loop_of M h))) (λ h k. ap (λ l. solid_of M (face_of M l)) (loop_after M sound h k)) (λ h k. sym (sound.one_solid h k)) x y t (sound.one_fan x y t u e)
-
   -- ---- edges
 
   -- the row of an edge of the solid
@@ -78,7 +63,7 @@ module _ (M : Model) (sound : Sound M) (s : ℕ) where
   edge_listed e i =
       let m = of_map edge_of e (passing is_first halves) i in
       let p = of_passing is_first m.0 halves m.1 in
-      let h = half_solid m.0 p.0 in
+      let h = half_solid M sound s m.0 p.0 in
       let x : m.0 ≡ plus e = first_is_plus m.0 p.1 ∙ ap plus m.2 in
       let r = row_some (table.get M.edges e) (ap (table.has M.edges) (sym m.2) ∙ h.0) in
       IsIn-from_listed e (edges_of M s) (passes_listed (λ e _. OfSolid e) M.edges e r.0 r.1 (eq-eqb (solid_of M (face_at M (plus e))) s (ap (λ y. solid_of M (face_at M y)) (sym x) ∙ h.1)))
@@ -87,11 +72,11 @@ module _ (M : Model) (sound : Sound M) (s : ℕ) where
   listed_edge e i =
       let r = listed_passes (λ e _. OfSolid e) M.edges e (listed-from_in e (edges_of M s) i) in
       let t : HasHalf M (plus e) = ap (table.has M.edges) (plus_row e).0 ∙ ap is_some r.1 in
-      let h : IsIn (plus e) halves = solid_half (plus e) t (eqb-true (solid_of M (face_at M (plus e))) s r.2) in
+      let h : IsIn (plus e) halves = solid_half M sound s (plus e) t (eqb-true (solid_of M (face_at M (plus e))) s r.2) in
       subst (λ k. IsIn k (map edge_of (passing is_first halves))) (plus_row e).0 (IsIn-map edge_of (plus e) (passing is_first halves) (in_passing is_first (plus e) halves h (plus_row e).1))
 
   plus_apart : IsApart (map edge_of (passing is_first halves))
-  plus_apart = IsApart-images edge_of (passing is_first halves) (passing_apart is_first halves halves_apart) (λ x y i j e.
+  plus_apart = IsApart-images edge_of (passing is_first halves) (passing_apart is_first halves (halves_apart M sound s)) (λ x y i j e.
       first_is_plus x (of_passing is_first x halves i).1 ∙ ap plus e ∙ sym (first_is_plus y (of_passing is_first y halves j).1))
 
   pub edges_counted : (loops_met M loops).edges ≡ length (edges_of M s)
@@ -146,9 +131,9 @@ module _ (M : Model) (sound : Sound M) (s : ℕ) where
   -- a half-edge of the solid has its vertex counted
   of_half : (x v : ℕ) → IsIn x halves → tail M x ≡ v → IsIn v led_ones
   of_half x v i e =
-      let h = half_solid x i in
+      let h = half_solid M sound s x i in
       let y = one_leads M x h.0 in
-      let j : IsIn y.0 halves = solid_half y.0 y.1 (one_solid_round x y.0 h.0 y.1 (sym y.2) ∙ h.1) in
+      let j : IsIn y.0 halves = solid_half M sound s y.0 y.1 (one_solid_round M sound x y.0 h.0 y.1 (sym y.2) ∙ h.1) in
       subst (λ k. IsIn k led_ones) (y.2 ∙ e) (IsIn-map (tail M) y.0 (passing (leads M) halves) (in_passing (leads M) y.0 halves j y.3))
 
   lone_apart : IsApart lone_ones
@@ -156,13 +141,13 @@ module _ (M : Model) (sound : Sound M) (s : ℕ) where
       sound.one_lone l k (lone_vertex (content M l)) (lone_is (content M l) (of_passing (is_lone_loop M) l loops i).1) (lone_is (content M k) (of_passing (is_lone_loop M) k loops j).1 ∙ ap lone (sym e)))
 
   led_apart : IsApart led_ones
-  led_apart = IsApart-images (tail M) (passing (leads M) halves) (passing_apart (leads M) halves halves_apart) (λ x y i j e.
+  led_apart = IsApart-images (tail M) (passing (leads M) halves) (passing_apart (leads M) halves (halves_apart M sound s)) (λ x y i j e.
       let p = of_passing (leads M) x halves i in let q = of_passing (leads M) y halves j in
-      only_leads M sound x y (half_solid x p.0).0 (half_solid y q.0).0 p.1 q.1 e)
+      only_leads M sound x y (half_solid M sound s x p.0).0 (half_solid M sound s y q.0).0 p.1 q.1 e)
 
   -- no vertex is counted for a lone loop and for a half-edge
   not_both : (v : ℕ) → IsIn v lone_ones → IsIn v led_ones → ⊥
-  not_both v i j = let l = lone_of v i in let x = led_of v j in sound.lone_is_no_tail l.0 x.0 (half_solid x.0 x.1).0 (l.2 ∙ ap lone (sym x.3))
+  not_both v i j = let l = lone_of v i in let x = led_of v j in sound.lone_is_no_tail l.0 x.0 (half_solid M sound s x.0 x.1).0 (l.2 ∙ ap lone (sym x.3))
 
   counted_apart : IsApart (lone_ones ++ led_ones)
   counted_apart v = elim (IsIn_or_not v lone_ones) [
@@ -175,7 +160,7 @@ module _ (M : Model) (sound : Sound M) (s : ℕ) where
     | inl j ↦ let l = lone_of v j in vertex_listed v l.0 (sound.lone_at_vertex l.0 v l.2) l.1 (omega (arith, ap (λ c. count v (vertices_on M c)) l.2, tick_same v))
     | inr n ↦
         let x = led_of v (omega (arith, i, n, count-append v lone_ones led_ones)) in
-        let h = half_solid x.0 x.1 in
+        let h = half_solid M sound s x.0 x.1 in
         let l : ℕ = loop_of M x.0 in
         vertex_listed v l (ap (table.has M.vertices) (sym x.3) ∙ sound.tails_there x.0 h.0) (solid_has_loop M sound s l (loop_there M sound x.0 h.0) h.1)
         (subst (λ k. IsIn k (vertices_on M (content M l))) x.3 (tail_on (content M l) x.0 (cycle_there M sound x.0 h.0)))

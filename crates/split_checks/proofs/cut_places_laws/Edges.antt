@@ -2,18 +2,16 @@
 use Rattle.std.specs.Prelude.{filter}
 use Rattle.std.proofs.Common.{◌≡◌, ℕ, Bool, true, ◌&&◌, nat_eq, List, [], ◌∷◌, ◌++◌, length, map, is_some, refl, sym, ap, subst, ◌∙◌, arith, inl, inr}
 use Rattle.std.proofs.lemmas.Bool.{and_parts, eq-eqb, eqb-true}
-use Rattle.std.proofs.lemmas.Bool.Decides.{eqb_tells}
 use Rattle.std.proofs.lemmas.List.{map-append}
 use Rattle.std.proofs.lemmas.List.Elements.{filter-append}
 use Rattle.euler_operators.specs.declared.Plane.{Plane}
-use Rattle.euler_operators.specs.Items.{count, IsIn, IsApart}
-use Rattle.euler_operators.proofs.Lists.{count-append, tick_same, tick_other}
+use Rattle.euler_operators.specs.Items.{IsIn, IsApart}
+use Rattle.euler_operators.proofs.Lists.{tick_same}
 use Rattle.euler_operators.specs.HalfEdge.{edge_of, is_first, mate, plus}
 use Rattle.euler_operators.specs.Table as table
-use Rattle.euler_operators.specs.Model.{Model, items_of, content, loop_of, solid_of, faces_of}
+use Rattle.euler_operators.specs.Model.{Model, loop_of, solid_of, faces_of}
 use Rattle.euler_operators.specs.Sound.{Sound, Has, HasHalf}
 use Rattle.euler_operators.proofs.Halves.{plus_row, mate_minus, first_is_plus}
-use Rattle.euler_operators.proofs.Models.{cycle_there, loop_there}
 use Rattle.euler_operators.proofs.Members.{IsIn-map, IsApart-images, IsIn-filter}
 use Rattle.euler_operators.proofs.Tables.{row_some}
 use Rattle.euler_operators.specs.Conditions.{face_at}
@@ -31,16 +29,9 @@ use Rattle.split_checks.proofs.cut_places_laws.Lists.{of_picked, picked_apart, p
 use Rattle.solid_measure.proofs.face_walks_laws.Above.{Rising}
 use Rattle.shapes.specs.Walks.{loops_in}
 use Rattle.euler_laws.proofs.shared.Counted.{counted_once}
-use Rattle.shapes.proofs.walks.FaceLoops.{different_items, items_counted, items_there, items_joined}
-use Rattle.shapes.proofs.walks.SolidFaces.{solid_loops, all_loops_apart, loop_in_solid, solid_has_loop, face_of_loop, listed_face}
-
--- an item of a loop stands among the items of some loops with it
-pub item_of : (M : Model) (ls : List ℕ) (l x : ℕ) → IsIn l ls → IsIn x (items_of (content M l)) → IsIn x (items_in M ls)
-item_of M [] l x i j = absurd (omega arith)
-item_of M (k ∷ ls) l x i j = elim (eqb_tells l k) [
-  | inl e ↦ omega (arith, count-append x (items_of (content M k)) (items_in M ls), j, ap (λ m. count x (items_of (content M m))) e.1)
-  | inr n ↦ omega (arith, count-append x (items_of (content M k)) (items_in M ls), item_of M ls l x (omega (arith, i, tick_other l k n.1)) j)
-]
+use Rattle.shapes.proofs.walks.FaceLoops.{items_counted, items_there, items_joined}
+use Rattle.shapes.proofs.walks.Corners.{halves_apart, half_solid, solid_half}
+use Rattle.shapes.proofs.walks.SolidFaces.{solid_loops, face_of_loop, listed_face}
 
 all_crossing : (M : Model) (p : Plane) (es : List ℕ) → ((e : ℕ) → IsIn e es → IsCrossing M p e) → AreCrossing M p es
 all_crossing M p [] each = tt
@@ -76,15 +67,6 @@ module _ (M : Model) (sound : Sound M) (s : ℕ) (p : Plane) where
   met_is : met ≡ map edge_of (filter across halves)
   met_is = met_in_faces (faces_of M s)
 
-  halves_apart : IsApart halves
-  halves_apart = (different_items M sound (solid_loops M sound s) (all_loops_apart M sound s)).apart
-
-  half_solid : (x : ℕ) → IsIn x halves → HasHalf M x × (solid_of M (face_at M x) ≡ s)
-  half_solid x i = (items_there M sound (solid_loops M sound s) x i, (loop_in_solid M sound s (loop_of M x) (omega (arith, i, items_counted M sound (solid_loops M sound s) x))).1)
-
-  solid_half : (x : ℕ) → HasHalf M x → solid_of M (face_at M x) ≡ s → IsIn x halves
-  solid_half x t e = item_of M (solid_loops M sound s) (loop_of M x) x (solid_has_loop M sound s (loop_of M x) (loop_there M sound x t) e) (cycle_there M sound x t)
-
   abbrev of_solid : ℕ → Bool
   of_solid e = nat_eq (solid_of M (face_at M (plus e))) s
 
@@ -105,7 +87,7 @@ module _ (M : Model) (sound : Sound M) (s : ℕ) (p : Plane) where
       let m = of_map edge_of e (filter across halves) (subst (IsIn e) met_is i) in
       let o = of_picked across m.0 halves m.1 in
       let b = and_parts (is_first m.0) (crosses M p m.0) o.1 in
-      let h = half_solid m.0 o.0 in
+      let h = half_solid M sound s m.0 o.0 in
       let x : m.0 ≡ plus e = first_is_plus m.0 b.0 ∙ ap plus m.2 in
       edge_in e (ap (table.has M.edges) (sym m.2) ∙ h.0) (ap (λ y. solid_of M (face_at M y)) (sym x) ∙ h.1) (ap (crosses M p) (sym x) ∙ b.1)
 
@@ -113,12 +95,12 @@ module _ (M : Model) (sound : Sound M) (s : ℕ) (p : Plane) where
   crossing_met e i =
       let o = in_edge e i in
       let t : HasHalf M (plus e) = ap (table.has M.edges) (plus_row e).0 ∙ o.0 in
-      let h : IsIn (plus e) halves = solid_half (plus e) t o.1 in
+      let h : IsIn (plus e) halves = solid_half M sound s (plus e) t o.1 in
       subst (IsIn e) (sym met_is) (subst (λ k. IsIn k (map edge_of (filter across halves))) (plus_row e).0
       (IsIn-map edge_of (plus e) (filter across halves) (IsIn-filter across (plus e) halves h (ap (λ b. b && crosses M p (plus e)) (plus_row e).1 ∙ o.2))))
 
   pub met_apart : IsApart met
-  met_apart = subst IsApart (sym met_is) (IsApart-images edge_of (filter across halves) (picked_apart across halves halves_apart) (λ x y i j e.
+  met_apart = subst IsApart (sym met_is) (IsApart-images edge_of (filter across halves) (picked_apart across halves (halves_apart M sound s)) (λ x y i j e.
       first_is_plus x (and_parts (is_first x) (crosses M p x) (of_picked across x halves i).1).0 ∙ ap plus e ∙ sym (first_is_plus y (and_parts (is_first y) (crosses M p y) (of_picked across y halves j).1).0)))
 
   pub crossing_apart : IsApart (crossing_edges M p s)

@@ -1,23 +1,22 @@
 -- The halves in faces below that a walk over the faces of a solid meets are the below halves of its section.
 use Rattle.std.specs.Prelude.{filter}
-use Rattle.std.proofs.Common.{◌≡◌, ℕ, Bool, not, ◌&&◌, List, [], ◌∷◌, ◌++◌, refl, sym, ap, subst, ◌∙◌, arith}
+use Rattle.std.proofs.Common.{◌≡◌, ℕ, Bool, not, ◌&&◌, List, [], ◌∷◌, ◌++◌, refl, sym, ap, subst, ◌∙◌}
 use Rattle.std.proofs.lemmas.Bool.{and_parts, not-true}
 use Rattle.std.proofs.lemmas.List.Elements.{filter-append}
 use Rattle.euler_operators.specs.Items.{IsIn, IsApart}
 use Rattle.euler_operators.specs.HalfEdge.{mate}
-use Rattle.euler_operators.specs.Model.{Model, loop_of, faces_of}
+use Rattle.euler_operators.specs.Model.{Model, faces_of}
 use Rattle.euler_operators.specs.Sound.{Sound}
-use Rattle.euler_operators.proofs.Models.{cycle_there, loop_there}
 use Rattle.euler_operators.proofs.Members.{IsIn-filter}
 use Rattle.euler_operators.specs.Conditions.{face_at, lists}
 use Rattle.shapes.specs.Faces.{items_in, loops_of, boundary}
-use Rattle.split_checks.proofs.cut_places_laws.Edges.{item_of}
+use Rattle.shapes.proofs.walks.Corners.{halves_apart, half_solid, solid_half}
 use Rattle.split_checks.proofs.cut_places_laws.Lists.{of_picked, picked_apart}
 use Rattle.split_opening_laws.specs.cycles.SectionCycles.{IsBelowHalf}
 use Rattle.split_sections.specs.section_edges.BelowHalves.{is_below, below_met}
 use Rattle.shapes.specs.Walks.{loops_in}
-use Rattle.shapes.proofs.walks.FaceLoops.{different_items, items_counted, items_there, items_joined}
-use Rattle.shapes.proofs.walks.SolidFaces.{solid_loops, all_loops_apart, loop_in_solid, solid_has_loop}
+use Rattle.shapes.proofs.walks.FaceLoops.{items_joined}
+use Rattle.shapes.proofs.walks.SolidFaces.{solid_loops}
 
 module _ (M : Model) (sound : Sound M) (above : List ℕ) (s : ℕ) where
   abbrev halves : List ℕ
@@ -40,20 +39,21 @@ module _ (M : Model) (sound : Sound M) (above : List ℕ) (s : ℕ) where
   met_is = met_in_faces (faces_of M s)
 
   pub met_apart : IsApart met
-  met_apart = subst IsApart (sym met_is) (picked_apart test halves (different_items M sound (solid_loops M sound s) (all_loops_apart M sound s)).apart)
+  met_apart = subst IsApart (sym met_is) (picked_apart test halves (halves_apart M sound s))
 
   pub met_below : (h : ℕ) → IsIn h met → IsBelowHalf M above s h
   met_below h i =
       let o = of_picked test h halves (subst (IsIn h) met_is i) in
       let b = and_parts (not (lists above (face_at M h))) (lists above (face_at M (mate h))) o.1 in
+      let of_s = half_solid M sound s h o.0 in
       record {
-        there = items_there M sound (solid_loops M sound s) h o.0;
-        of_solid = (loop_in_solid M sound s (loop_of M h) (omega (arith, o.0, items_counted M sound (solid_loops M sound s) h))).1;
+        there = of_s.0;
+        of_solid = of_s.1;
         below = not-true (lists above (face_at M h)) b.0;
         mate_above = b.1;
       }
 
   pub below_is_met : (h : ℕ) → IsBelowHalf M above s h → IsIn h met
   below_is_met h w =
-      let i = item_of M (solid_loops M sound s) (loop_of M h) h (solid_has_loop M sound s (loop_of M h) (loop_there M sound h w.there) w.of_solid) (cycle_there M sound h w.there) in
+      let i = solid_half M sound s h w.there w.of_solid in
       subst (IsIn h) (sym met_is) (IsIn-filter test h halves i (ap (λ b. not b && lists above (face_at M (mate h))) w.below ∙ w.mate_above))
