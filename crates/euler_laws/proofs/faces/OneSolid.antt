@@ -1,6 +1,7 @@
 -- A model, and the one with one more solid of one face, one lone loop and one vertex: where one is sound, the other is.
 use Rattle.std.proofs.Common.{◌≡◌, ◌≢◌, ℕ, List, [], Some, None, is_some, IsTrue, refl, sym, ap, ◌∙◌, subst, ◌⊎◌, inl, inr, arith}
 use Rattle.std.proofs.lemmas.Bool.Decides.{eqb_tells}
+use Rattle.std.proofs.lemmas.Option.{same_Some}
 use Rattle.euler_operators.specs.declared.Point.{Point}
 use Rattle.euler_operators.specs.Points.{IsInRange}
 use Rattle.euler_operators.specs.HalfEdge.{mate}
@@ -13,7 +14,7 @@ use Rattle.euler_operators.specs.Effect.{mvfs}
 use Rattle.euler_laws.proofs.shared.Loops.{IsLoop, loop_sound, Walks, stands-walks, one_loop-walks, cycles-walks, ends_meet-walks, one_fan-walks, one_vertex}
 use Rattle.euler_laws.proofs.shared.Same.{solid_at}
 use Rattle.euler_laws.proofs.shared.Rings.{SameRings, half_back, tail_same, walks-rings, loop-rings, ends_differ-rings, tail-rings, edges_fit-rings}
-use Rattle.euler_laws.proofs.shared.Rows.{one_row, content_none}
+use Rattle.euler_laws.proofs.shared.Rows.{content_none}
 use Rattle.euler_laws.proofs.shared.Parts.{RowSet, FaceSet, row_here, row_other, has_on, has_back, solid_other, outer_other}
 
 -- what the conditions of mvfs say
@@ -188,7 +189,7 @@ module _ {M : Model} {s f l v : ℕ} {p : Point} (goes : MvfsGoes M s f l v p) w
       edges_fit = edges_fit-rings M N sound rings_on;
       vertices_fit = λ n t. elim (eqb_tells n v) [ inl e ↦ subst (λ y. IsTrue (is_number y)) (sym e.1) goes.vertex_fits | inr e ↦ sound.vertices_fit n (has_back vertices_put n e.1 t) ];
       points_fit = λ w q at. elim (eqb_tells w v) [
-        | inl e ↦ subst IsInRange (one_row (sym (row_here vertices_put) ∙ ap (table.get N.vertices) (sym e.1) ∙ at)) goes.point_fits
+        | inl e ↦ subst IsInRange (same_Some _ _ (sym (row_here vertices_put) ∙ ap (table.get N.vertices) (sym e.1) ∙ at)) goes.point_fits
         | inr e ↦ sound.points_fit w q (sym (row_other vertices_put w e.1) ∙ at)
       ];
     }

@@ -35,9 +35,6 @@ held_row M sound h there new =
     map_one (where_held h new) M.loops (loop_of M h) _ (row_of M sound h there) (λ q row ne at. where_held_none h new q row (other_loop M sound h q row ne at))
     ∙ ap (table.put M.loops (loop_of M h)) (where_held_there h new (loop_of M h) _ (in-holds h (cycle (cycle_of M h)) (cycle_there M sound h there)))
 
-pub one_row : {X : Type 0} {x y : X} → Some x ≡ Some y → x ≡ y
-one_row e = cc
-
 pub no_items : (xs : List ℕ) → ((x : ℕ) → count x xs ≡ 0) → xs ≡ []
 no_items [] e = refl
 no_items (x ∷ xs) e = absurd (omega (arith, e x, tick_same x))

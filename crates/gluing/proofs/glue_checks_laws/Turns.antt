@@ -1,7 +1,7 @@
 -- Lists of points that are turns of one another.
 use Rattle.std.proofs.Common.{◌≡◌, ◌≢◌, ℕ, zero, suc, ◌+◌, ◌-◌, ◌<◌, ◌≤◌, Bool, true, false, cond, ◌&&◌, List, [], ◌∷◌, ◌++◌, length, Some, None, refl, sym, ap, subst, ◌∙◌, arith, true≢false, inl, inr}
 use Rattle.std.specs.Prelude.{get_or, take, drop, is_some, slice_index_or}
-use Rattle.std.proofs.lemmas.List.{append-nil, get_or-drop, take_all, drop_all, length-drop, length-take-le}
+use Rattle.std.proofs.lemmas.List.{append-nil, length-append, get_or-drop, take_all, drop_all, length-drop, length-take-le}
 use Rattle.std.proofs.lemmas.Bool.{or_cases, cases_eq, or_left, or_right}
 use Rattle.euler_operators.specs.declared.Point.{Point}
 use Rattle.euler_operators.specs.Vectors.{same_point}
@@ -49,12 +49,8 @@ some_turn (suc n) ps qs e = elim (or_cases (same_points ps (turned (suc n) qs)) 
   | inr lower ↦ (let t = some_turn n ps qs lower in (t.0, (let l : t.0 ≤ n = t.1 in omega arith), t.2))
 ]
 
-length_append : (xs ys : List Point) → length (xs ++ ys) ≡ length xs + length ys
-length_append [] ys = omega arith
-length_append (x ∷ xs) ys = let e = length_append xs ys in omega arith
-
 length_turned : (j : ℕ) (qs : List Point) → j ≤ length qs → length (turned j qs) ≡ length qs
-length_turned j qs l = length_append (drop j qs) (take j qs) ∙ (let d = length-drop j qs in let t = length-take-le j qs l in omega arith)
+length_turned j qs l = length-append (drop j qs) (take j qs) ∙ (let d = length-drop j qs in let t = length-take-le j qs l in omega arith)
 
 -- lists of other lengths are no turns
 pub other_length : (ps qs : List Point) → length ps ≢ length qs → is_rotation ps qs ≡ false

@@ -3,6 +3,7 @@ use Rattle.std.proofs.Common.{◌≡◌, ◌≢◌, ℕ, nat_eq, List, ◌∷◌
 use Rattle.std.specs.Prelude.{map, reverse}
 use Rattle.std.specs.Option.{option_map}
 use Rattle.std.proofs.lemmas.Bool.Decides.{nat_tests, eqb_tells}
+use Rattle.std.proofs.lemmas.Option.{same_Some}
 use Rattle.euler_operators.specs.Items.{count, IsIn}
 use Rattle.euler_operators.specs.Rings.{canonical, rest}
 use Rattle.euler_operators.proofs.Lists.{count-append, tick_other, IsIn_or_not}
@@ -25,7 +26,6 @@ use Rattle.euler_operators.proofs.Rotations.{count-canonical}
 use Rattle.euler_operators.proofs.Maps.{from_map, count-reverse}
 use Rattle.euler_operators.proofs.Models.{content_row, holds_in, none-holds, other_loop, row_of, cycle_there, cycle_sound, mate_there}
 use Rattle.euler_operators.proofs.Members.{IsIn-map}
-use Rattle.euler_laws.proofs.shared.Rows.{one_row}
 use Rattle.shapes.proofs.glue.Swapped.{row_stays, row_turns}
 
 -- some items are glued, the others aren't yet; last is the last item
@@ -205,7 +205,7 @@ module _ (M : Model) (f g : ℕ) (partner_of : ℕ → ℕ) (hs : List ℕ) (x l
     -- each row of the others, before and after
     turned_at : (o : Option LoopRow) → option_map (rewritten_row (map swap) q) o ≡ Some (record { face = face_of N q; content = cycle (cycle_of N m) }) → option_map (rewritten_row (map swap_more) q) o ≡ Some turned_row
     turned_at None e = absurd (true≢false (sym (ap is_some e)))
-    turned_at (Some row) e = ap Some (row_turns swap swap_more m h swaps_on q (face_of N q) row (cycle_of N m) (one_row e) (cycle_sound N w.sound m m_there).apart (cycle_there N w.sound m m_there) h_else)
+    turned_at (Some row) e = ap Some (row_turns swap swap_more m h swaps_on q (face_of N q) row (cycle_of N m) (same_Some _ _ e) (cycle_sound N w.sound m m_there).apart (cycle_there N w.sound m m_there) h_else)
 
     stays_at : (p : ℕ) → p ≢ q → (o : Option LoopRow) → ((y : LoopRow) → option_map (rewritten_row (map swap) p) o ≡ Some y → table.get N.loops p ≡ Some y) → option_map (rewritten_row (map swap_more) p) o ≡ option_map (rewritten_row (map swap) p) o
     stays_at p ne None e = refl

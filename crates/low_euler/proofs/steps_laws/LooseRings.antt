@@ -1,6 +1,7 @@
 -- Tables of loose rings of one half-edge each.
 use Rattle.std.proofs.Common.{◌≡◌, ◌≢◌, ℕ, cond, List, [], ◌∷◌, Some, None, unwrap_or, sym, ap, ◌∙◌, arith, ◌⊎◌, inl, inr}
 use Rattle.std.proofs.lemmas.Bool.Decides.{nat_tests, eqb_tells}
+use Rattle.std.proofs.lemmas.Option.{same_Some}
 use Rattle.euler_operators.specs.Items.{count, IsIn}
 use Rattle.euler_operators.proofs.Lists.{tick_same, tick_other}
 use Rattle.euler_operators.specs.HalfEdge.{mate, edge_of, plus, minus}
@@ -9,7 +10,6 @@ use Rattle.euler_operators.specs.Table.{Table, tables, same_table}
 use Rattle.euler_operators.specs.Model.{cycle, holds}
 use Rattle.euler_operators.proofs.Halves.{mate_cases}
 use Rattle.euler_operators.proofs.Tables.{first_where_is}
-use Rattle.euler_laws.proofs.shared.Rows.{one_row}
 use Rattle.euler_operators.proofs.Models.{in-holds, holds_in}
 use Rattle.euler_conditions.specs.Store.{Store, loose_key, loose_ring}
 
@@ -27,7 +27,7 @@ pub singles_put : (z : Table (List ℕ)) (h : ℕ) → AreSingles z → AreSingl
 singles_put z h each k ks at =
     let g = table.get-put z h (h ∷ []) k in
     elim (eqb_tells k h) [
-      | inl e ↦ one_row (sym at ∙ g ∙ ap (λ b. cond b (Some (h ∷ [])) (table.get z k)) e.0) ∙ ap (λ x. x ∷ []) (sym e.1)
+      | inl e ↦ same_Some _ _ (sym at ∙ g ∙ ap (λ b. cond b (Some (h ∷ [])) (table.get z k)) e.0) ∙ ap (λ x. x ∷ []) (sym e.1)
       | inr e ↦ each k ks (sym (g ∙ ap (λ b. cond b (Some (h ∷ [])) (table.get z k)) e.0) ∙ at)
     ]
 

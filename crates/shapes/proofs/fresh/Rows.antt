@@ -8,6 +8,7 @@ use Rattle.std.specs.FinMap.Entries.{find, is_sorted, by_order}
 use Rattle.std.specs.Cmp.{unsigned_tied}
 use Rattle.std.specs.declared.cmp.Ordering.TheVariants.{Greater}
 use Rattle.std.proofs.lemmas.Bool.{leb-true, leb-false}
+use Rattle.std.proofs.lemmas.Option.{same_Some}
 use Rattle.euler_operators.proofs.Tables.{and_left, and_right}
 use Rattle.euler_operators.specs.Table as table
 use Rattle.euler_operators.specs.Table.{Table, all_in, greatest_in}
@@ -91,11 +92,9 @@ at_most_greatest t k there = elim (nat_le k (table.greatest t)) as (λ b. nat_le
 -- a row that is found was put or was there
 pub get-put_cases : {X : Type 0} (t : Table X) (k : ℕ) (v : X) (q : ℕ) (x : X) → table.get (table.put t k v) q ≡ Some x → ((q ≡ k) × (x ≡ v)) ⊎ ((q ≢ k) × (table.get t q ≡ Some x))
 get-put_cases t k v q x at = elim (eqb_tells q k) [
-  | inl e ↦ inl (e.1, one (sym at ∙ table.get-put t k v q ∙ ap (λ b. cond b (Some v) (table.get t q)) e.0))
+  | inl e ↦ inl (e.1, same_Some _ _ (sym at ∙ table.get-put t k v q ∙ ap (λ b. cond b (Some v) (table.get t q)) e.0))
   | inr e ↦ inr (e.1, sym (table.get-put t k v q ∙ ap (λ b. cond b (Some v) (table.get t q)) e.0) ∙ at)
-] where
-  one : {X : Type 0} {x y : X} → Some x ≡ Some y → x ≡ y
-  one e = cc
+]
 
 found_greatest : {X : Type 0} (e : ℕ × X) (es : List (ℕ × X)) → is_some (find nat_cmp (greatest_in (e ∷ es)) (e ∷ es)) ≡ true
 found_greatest e [] = ap (λ c. is_some (cond c (Some e.1) None)) (unsigned_tied e.0 e.0 ∙ nat_eq_itself e.0)

@@ -6,7 +6,7 @@ use Rattle.std.specs.Ordering.{int_eq}
 use Rattle.std.specs.Cmp.{signed_Decides}
 use Rattle.std.proofs.lemmas.Bool.Decides.{eqb_tells}
 use Rattle.std.proofs.lemmas.Bool.{and_parts, or_parts}
-use Rattle.std.proofs.lemmas.List.{append-nil, reverse-append, reverse-reverse, take-append-drop}
+use Rattle.std.proofs.lemmas.List.{append-nil, map-append, reverse-append, reverse-reverse, take-append-drop, take-map, drop-map}
 use Rattle.euler_operators.specs.declared.Point.{Point}
 use Rattle.euler_operators.specs.Vectors.{same_point, moved, cross, origin}
 use Rattle.euler_operators.specs.Items.{IsIn}
@@ -51,23 +51,9 @@ turned_by (suc n) ps qs e = elim (same_points ps (drop (suc n) qs ++ take (suc n
 -- ---- the points of numbers
 
 module _ (a : ℕ → Point) where
-  map_points : (xs ys : List ℕ) → map a (xs ++ ys) ≡ map a xs ++ map a ys
-  map_points [] ys = refl
-  map_points (x ∷ xs) ys = ap (λ t. a x ∷ t) (map_points xs ys)
-
-  drop_map : (i : ℕ) (xs : List ℕ) → drop i (map a xs) ≡ map a (drop i xs)
-  drop_map zero xs = refl
-  drop_map (suc i) [] = refl
-  drop_map (suc i) (x ∷ xs) = drop_map i xs
-
-  take_map : (i : ℕ) (xs : List ℕ) → take i (map a xs) ≡ map a (take i xs)
-  take_map zero xs = refl
-  take_map (suc i) [] = refl
-  take_map (suc i) (x ∷ xs) = ap (λ t. a x ∷ t) (take_map i xs)
-
   reverse_map : (xs : List ℕ) → reverse (map a xs) ≡ map a (reverse xs)
   reverse_map [] = refl
-  reverse_map (x ∷ xs) = reverse-append (a x ∷ []) (map a xs) ∙ ap (λ t. t ++ a x ∷ []) (reverse_map xs) ∙ sym (map_points (reverse xs) (x ∷ [])) ∙ ap (map a) (sym (reverse-cons x xs))
+  reverse_map (x ∷ xs) = reverse-append (a x ∷ []) (map a xs) ∙ ap (λ t. t ++ a x ∷ []) (reverse_map xs) ∙ sym (map-append a (reverse xs) (x ∷ [])) ∙ ap (map a) (sym (reverse-cons x xs))
 
   -- where the points of gs backwards are a rotation of those of hs, gs backwards itself can be turned so
   pub turned_list : (hs gs : List ℕ) → is_rotation (map a hs) (reverse (map a gs)) ≡ true → (ts : List ℕ) × (map a hs ≡ map a ts) × IsRotation gs (reverse ts)
@@ -75,7 +61,7 @@ module _ (a : ℕ → Point) where
       let p = turned_by (length (reverse (map a gs))) (map a hs) (reverse (map a gs)) e in
       let bs : List ℕ = reverse gs in (
         drop p.0 bs ++ take p.0 bs,
-        p.1 ∙ (λ j. drop p.0 (reverse_map gs j) ++ take p.0 (reverse_map gs j)) ∙ (λ j. drop_map p.0 bs j ++ take_map p.0 bs j) ∙ sym (map_points (drop p.0 bs) (take p.0 bs)),
+        p.1 ∙ (λ j. drop p.0 (reverse_map gs j) ++ take p.0 (reverse_map gs j)) ∙ (λ j. drop-map a p.0 bs j ++ take-map a p.0 bs j) ∙ sym (map-append a (drop p.0 bs) (take p.0 bs)),
         record {
           front = reverse (drop p.0 bs);
           back = reverse (take p.0 bs);

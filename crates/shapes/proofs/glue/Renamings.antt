@@ -4,6 +4,7 @@ use Rattle.std.specs.Prelude.{map}
 use Rattle.std.specs.Option.{option_map}
 use Rattle.std.proofs.lemmas.Bool.Decides.{nat_tests, eqb_tells}
 use Rattle.std.proofs.lemmas.Bool.{ne_eqb}
+use Rattle.std.proofs.lemmas.List.{map-append}
 use Rattle.euler_operators.specs.Items.{count, IsIn, IsApart, before, after}
 use Rattle.euler_operators.specs.Rings.{canonical, rest}
 use Rattle.euler_operators.proofs.Lists.{count-append, tick_same, tick_other, split_at, count-before}
@@ -110,10 +111,6 @@ replaced_none m h (x ∷ xs) c = elim (eqb_tells x m) [
   | inr e ↦ λ i. ap (λ b. cond b h x) e.0 i ∷ replaced_none m h xs (omega (arith, c)) i
 ]
 
-map_two : (f : ℕ → ℕ) (xs ys : List ℕ) → map f (xs ++ ys) ≡ map f xs ++ map f ys
-map_two f [] ys = refl
-map_two f (x ∷ xs) ys = ap (λ t. f x ∷ t) (map_two f xs ys)
-
 -- the ring read from after m on, with h in m's place
 pub replaced_ring : (m h : ℕ) (xs : List ℕ) → IsApart xs → IsIn m xs → count h xs ≡ 0 → canonical (h ∷ rest m (canonical xs)) ≡ canonical (map (replaced m h) xs)
 replaced_ring m h xs apart i out =
@@ -123,7 +120,7 @@ replaced_ring m h xs apart i out =
     let counts : (x : ℕ) → count x xs ≡ count x ps + count x (m ∷ qs) = λ x. ap (count x) split ∙ count-append x ps (m ∷ qs) in
     let none_p : count m ps ≡ 0 = count-before m xs in
     let none_q : count m qs ≡ 0 = omega (arith, counts m, apart m, tick_same m) in
-    let new : map (replaced m h) xs ≡ ps ++ h ∷ qs = ap (map (replaced m h)) split ∙ map_two (replaced m h) ps (m ∷ qs)
+    let new : map (replaced m h) xs ≡ ps ++ h ∷ qs = ap (map (replaced m h)) split ∙ map-append (replaced m h) ps (m ∷ qs)
     ∙ (λ j. replaced_none m h ps none_p j ++ (ap (λ b. cond b h m) (nat_eq_itself m)) j ∷ replaced_none m h qs none_q j) in
     let r : rest m (canonical xs) ≡ qs ++ ps = sym (rest_same m xs (canonical xs) (canonical-rotates xs) apart i) ∙ rest_parts m xs in
     let d : IsApart (h ∷ (qs ++ ps)) = λ x. elim (eqb_tells x h) [

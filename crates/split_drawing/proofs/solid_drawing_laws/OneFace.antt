@@ -1,6 +1,7 @@
 -- One face drawn between its pairs, step by step as the code does it.
-use Rattle.std.proofs.Common.{◌≡◌, ℕ, Bool, true, false, cond, ◌&&◌, nat_eq, nat_lt, suc, List, [], ◌∷◌, length, map, ◌≢◌, refl, sym, ap, ◌∙◌, subst}
+use Rattle.std.proofs.Common.{◌≡◌, ℕ, Bool, true, false, cond, ◌&&◌, nat_eq, nat_lt, List, [], ◌∷◌, length, map, ◌≢◌, refl, sym, ap, ◌∙◌, subst}
 use Rattle.std.proofs.lemmas.Bool.{ne_eqb, eq-eqb}
+use Rattle.std.proofs.lemmas.List.{length-map}
 use Rattle.std.specs.Prelude.{fold}
 use Rattle.euler_operators.specs.declared.Plane.{Plane}
 use Rattle.euler_operators.specs.Table as table
@@ -25,10 +26,6 @@ use Rattle.split_drawing.specs.face_drawing.Stuck.{stuck_at}
 use Rattle.split_checks.specs.Progress.{drawing_of}
 use Rattle.split_drawing.specs.face_drawing.Passes.{CanJoin, CanDraw}
 use Rattle.split_drawing.specs.solid_drawing.Drawn.{CanDrawFace, put_aside}
-
-pub length_codes : (qs : List Pair) → length (map codes qs) ≡ length qs
-length_codes [] = refl
-length_codes (q ∷ qs) = ap suc (length_codes qs)
 
 -- looked at between the two passes
 module _ (f : ℕ) (c : Progress) (N : Model) (L : List (ℕ × ℕ)) where
@@ -110,7 +107,7 @@ module _ (p : Plane) (f : ℕ) (pairs : List Pair) (from : Progress) (M : Model)
   module _ (X : Model) (same : X ≡ N) (t : Progress) (told : t ≡ cond (nat_lt 1 (length pairs) && has_rings X f) (stuck_at c f) c) (now : List Pair) (are : now ≡ left) where
     looked_is : drawing_of t N (map codes now) ≡ ring_free f (map codes pairs) (all_joined (map codes pairs) (drawing_of from M []))
     looked_is = ap (λ (qs : List Pair). drawing_of t N (map codes qs)) are
-        ∙ looked_at f c N (map codes left) ps X (length pairs) t same (sym (length_codes pairs)) told
+        ∙ looked_at f c N (map codes left) ps X (length pairs) t same (sym (length-map pairs codes)) told
         ∙ ap (ring_free f ps) joined
 
     pub then_draw : CanDraw f (drawing_of t N (map codes now)) (map codes now)
@@ -127,10 +124,10 @@ module _ (p : Plane) (f : ℕ) (pairs : List Pair) (from : Progress) (M : Model)
       last_noted ns are = noted_still M K p (λ v _. ap (λ (x : Drawing). table.get x.model.vertices v) last_is ∙ ap (λ t. table.get t v) (last p f ps begun 0 w.ready).drawn.stays.vertices) ns are
 
       pub last_rings : length pairs ≡ 1 → AreAccepted K (ring_ops (rings_above K p f) u.taken.faces)
-      last_rings one = rings_go p f ps begun w (length_codes pairs ∙ one) (drawing_of u K (map codes now)) last_is
+      last_rings one = rings_go p f ps begun w (length-map pairs codes ∙ one) (drawing_of u K (map codes now)) last_is
 
       pub with_shared : length pairs ≡ 1 → (Z : Model) → Z ≡ with_rings K (rings_above K p f) u.taken.faces → drawing_of u Z [] ≡ put_aside (drawn_between p f (map codes pairs) (drawing_of from M []))
-      with_shared one Z is = shared p f ps begun w (eq-eqb (length ps) 1 (length_codes pairs ∙ one)) (drawing_of u K (map codes now)) last_is Z is
+      with_shared one Z is = shared p f ps begun w (eq-eqb (length ps) 1 (length-map pairs codes ∙ one)) (drawing_of u K (map codes now)) last_is Z is
 
       pub with_none : length pairs ≢ 1 → drawing_of u K [] ≡ put_aside (drawn_between p f (map codes pairs) (drawing_of from M []))
-      with_none more = unshared p f ps begun w (ne_eqb (length ps) 1 (λ e. more (sym (length_codes pairs) ∙ e))) (drawing_of u K (map codes now)) last_is
+      with_none more = unshared p f ps begun w (ne_eqb (length ps) 1 (λ e. more (sym (length-map pairs codes) ∙ e))) (drawing_of u K (map codes now)) last_is

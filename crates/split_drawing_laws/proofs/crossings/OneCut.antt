@@ -5,6 +5,7 @@ use Rattle.std.specs.Ordering.{nat_cmp}
 use Rattle.std.specs.FinMap.Entries.{find}
 use Rattle.std.proofs.Common.{◌≡◌, ℕ, ◌+◌, ◌≤◌, false, cond, nat_eq, List, [], ◌∷◌, ◌++◌, refl, sym, ap, ◌∙◌, arith, ◌≢◌, suc, ◌*◌, true, length, Option, Some, None, is_some, true≢false}
 use Rattle.std.proofs.lemmas.Bool.Decides.{nat_tests}
+use Rattle.std.proofs.lemmas.Option.{same_Some}
 use Rattle.euler_operators.specs.Items.{count, tick, IsIn, IsApart}
 use Rattle.euler_operators.specs.Rings.{rotate_to, canonical, rest, successor}
 use Rattle.euler_operators.specs.Edits.{insert_before, insert_after}
@@ -24,7 +25,7 @@ use Rattle.euler_operators.proofs.Lists.{tick_same, tick_other}
 use Rattle.euler_operators.proofs.Tables.{map_one, put_turned, row_some}
 use Rattle.euler_operators.proofs.Models.{content_row, row_of, not_held, other_loop, in-holds, holds-none, none-holds, cycle_there, cycle_sound, minus_tail_row, plus_there, minus_there}
 use Rattle.euler_operators.proofs.Halves.{plus_row, minus_row, mate_plus}
-use Rattle.euler_laws.proofs.shared.Rows.{where_held_none, where_held_there, one_row, edge_row_plus}
+use Rattle.euler_laws.proofs.shared.Rows.{where_held_none, where_held_there, edge_row_plus}
 use Rattle.shapes.specs.split.Crossings.{doubled, edge_cut}
 use Rattle.shapes.specs.Rewriting.{rewritten, rewritten_row}
 
@@ -184,7 +185,7 @@ module _ (M : Model) (e k v : ℕ) (q : Point) (goes : CanCut M e k) where
       ∙ sym (ap (λ c. record row { content = c }) (stays n row at (none-holds (plus e) row.content no_a) (none-holds (minus e) row.content no_b)))
 
   all_rows : (n : ℕ) (row : LoopRow) → table.get M.loops n ≡ Some row → second n (first n row) ≡ both n row
-  all_rows n row at = grind (arith, one_row, row_of M goes.sound (plus e) (plus_there M e goes.there), rows_a, at_b, rows_b, other_rows)
+  all_rows n row at = grind (arith, same_Some, row_of M goes.sound (plus e) (plus_there M e goes.there), rows_a, at_b, rows_b, other_rows)
 
   -- round the tail of the plus half, the item after the minus half comes next
   one_leaves : (t : Table EdgeRow) → M.edges ≡ t → arc M (plus e) (after M (minus e)) ≡ plus e ∷ []

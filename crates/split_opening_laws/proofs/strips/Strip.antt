@@ -3,6 +3,7 @@ use Rattle.std.proofs.Common.{◌≡◌, ◌≢◌, ℕ, suc, ◌+◌, ◌<◌, 
 use Rattle.std.specs.Prelude.{map, get_or}
 use Rattle.std.specs.Option.{option_map}
 use Rattle.std.proofs.lemmas.Bool.Decides.{eqb_tells}
+use Rattle.std.proofs.lemmas.Option.{same_Some}
 use Rattle.euler_operators.specs.Items.{IsIn, IsApart}
 use Rattle.euler_operators.specs.Rings.{canonical, rest, successor, upto, onward}
 use Rattle.euler_operators.proofs.Rotations.{rotate_to_is}
@@ -16,7 +17,7 @@ use Rattle.euler_operators.proofs.Tables.{in_use_within, map_alike}
 use Rattle.euler_operators.specs.Conditions.{face_at, first_false}
 use Rattle.euler_operators.specs.Effect.{effect, mef, where_held}
 use Rattle.euler_laws.proofs.shared.Fans.{half_after, loop_after}
-use Rattle.euler_laws.proofs.shared.Rows.{where_held_none, where_held_there, one_row, edge_row_plus}
+use Rattle.euler_laws.proofs.shared.Rows.{where_held_none, where_held_there, edge_row_plus}
 use Rattle.euler_laws.proofs.shared.Same.{map_twice}
 use Rattle.euler_laws.proofs.mef.MefSound.{MefGoes}
 use Rattle.euler_laws.proofs.mef.Kef.{mef_accepted}
@@ -152,7 +153,7 @@ module _ (M : Model) (above : List ℕ) (s : ℕ) (c : Taken) (bs : List ℕ) (w
         let more : (u : ℕ) → new u ≡ cond (nat_eq (old u) a) (plus e) (old u) = λ u. on.out_next M above s c bs w i u lt in
         elim (eqb_tells q (loop_of N a)) [
           | inl p ↦
-              let is : rewritten_row (map old) q row ≡ record { face = face_at N a; content = cycle xs } = one_row (sym here ∙ ap (table.get N.loops) p.1 ∙ row_of N sound a a_there) in
+              let is : rewritten_row (map old) q row ≡ record { face = face_at N a; content = cycle xs } = same_Some _ _ (sym here ∙ ap (table.get N.loops) p.1 ∙ row_of N sound a a_there) in
               ap (where_held a turn q) is
               ∙ where_held_there a turn q (record { face = face_at N a; content = cycle xs }) (in-holds a (cycle xs) in_xs)
               ∙ ap (λ t. record { face = face_at N a; content = cycle (canonical (plus e ∷ t)) }) parts.1
