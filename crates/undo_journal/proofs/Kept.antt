@@ -1,5 +1,5 @@
 -- What a session and a draft keep, from call to call.
-use Rattle.std.specs.Prelude.{◌≡◌, ℕ, ◌+◌, ◌-◌, ◌<◌, List, [], ◌∷◌, ◌++◌, take, get_or, length, reverse, None, refl}
+use Rattle.std.specs.Prelude.{◌≡◌, ℕ, ◌+◌, ◌-◌, ◌<◌, List, [], ◌∷◌, ◌++◌, take, drop, get_or, length, reverse, None, refl}
 use Rattle.std.proofs.Common.{sym, ap, subst, ◌∙◌}
 use Rattle.std.proofs.lemmas.List.{reverse-append}
 use Rattle.euler_operators.specs.Model.{Model, empty_model}
@@ -15,10 +15,12 @@ use Rattle.euler_laws.proofs.Runs.{effects-append, AreAccepted-append}
 use Rattle.low_euler.specs.Ready.{IsReady}
 use Rattle.undo_journal.specs.declared.record.Record.{Record}
 use Rattle.undo_journal.specs.Journal.{new_journal}
-use Rattle.low_euler.specs.Room.{IsStepped}
-use Rattle.undo_journal.specs.Sessions.{past_of, future_of, journal_of, Leads, IsJournal, AllHaveRoom, RecordsHaveRoom, IsKept, opened, command_of, IsDrafted, all_after}
+use Rattle.low_euler.specs.Room.{IsStepped, KeepsRoom}
+use Rattle.undo_journal.specs.Sessions.{past_of, future_of, journal_of, Leads, IsJournal, AllHaveRoom, RecordsHaveRoom, IsKept, opened, command_of, each_inverse, IsDrafted, all_after}
+use Rattle.undo_journal.proofs.Consistent.{journal_consistent}
+use Rattle.undo_journal.proofs.Marks.{each-append, rest_goes_back, rest_undone, front_opened, front_leads, front_paired}
 use Rattle.undo_journal.proofs.Journals.{journal_start, journal_more, journal_on, journal_back}
-use Rattle.undo_journal.proofs.Rooms.{ops_kept, records_kept, ops-append, ops-reverse, records-append, records-take, keeps_all_after}
+use Rattle.undo_journal.proofs.Rooms.{ops_kept, records_kept, ops-append, ops-reverse, ops-take, ops-drop, records-append, records-take, keeps_all_after}
 
 -- a session of no command
 pub kept_start : IsKept empty_store [] 0
@@ -44,6 +46,7 @@ drafted_grown s t records place forward back grown kept = record {
   ready = ready_grown s t grown kept.ready;
   journal = subst (λ (M : Model). IsJournal (opened M back) records place) (sym grown.model) kept.journal;
   leads = subst (λ (M : Model). Leads (opened M back) (command_of forward back) M) (sym grown.model) kept.leads;
+  paired = subst (λ (M : Model). back ≡ each_inverse (opened M back) forward) (sym grown.model) kept.paired;
   room = records_kept s t records grown.kept kept.room;
   forward_room = ops_kept s t forward grown.kept kept.forward_room;
   back_room = ops_kept s t back grown.kept kept.back_room;
@@ -95,11 +98,19 @@ module _ (M N : Model) (forward back : List Op) (o : Op) (sound : Sound M) (goes
       subst (λ (X : Model). Leads X (command_of (forward ++ o ∷ []) (back ++ inverse M o ∷ [])) N) (sym opened_same)
       (subst (λ (xs : List Op). Leads (opened M back) (record { forward = forward ++ o ∷ []; back = xs }) N) (sym turned) (longer_leads leads))
 
+  pub longer_paired : effects (opened M back) forward ≡ M → back ≡ each_inverse (opened M back) forward → back ++ inverse M o ∷ [] ≡ each_inverse (opened N (back ++ inverse M o ∷ [])) (forward ++ o ∷ [])
+  longer_paired made paired =
+      ap (λ (xs : List Op). xs ++ inverse M o ∷ []) paired
+      ∙ ap (λ (X : Model). each_inverse (opened M back) forward ++ inverse X o ∷ []) (sym made)
+      ∙ sym (each-append (opened M back) forward (o ∷ []))
+      ∙ ap (λ (X : Model). each_inverse X (forward ++ o ∷ [])) (sym opened_same)
+
 pub drafted_step : (s t : Store) (records : List Record) (place : ℕ) (forward back : List Op) (o : Op) → IsDrafted s records place forward back → first_false s.model o ≡ None → IsStepped s o t → IsDrafted t records place (forward ++ o ∷ []) (back ++ inverse s.model o ∷ [])
 drafted_step s t records place forward back o kept goes stepped = record {
   ready = stepped.ready;
   journal = subst (λ (M : Model). IsJournal M records place) (sym (opened_same s.model t.model forward back o kept.ready.sound goes stepped.model)) kept.journal;
   leads = draft_leads s.model t.model forward back o kept.ready.sound goes stepped.model kept.leads;
+  paired = longer_paired s.model t.model forward back o kept.ready.sound goes stepped.model kept.leads.forward kept.paired;
   room = records_kept s t records stepped.kept kept.room;
   forward_room = ops-append t forward (o ∷ []) (ops_kept s t forward stepped.kept kept.forward_room) (stepped.room, tt);
   back_room = ops-append t back (inverse s.model o ∷ []) (ops_kept s t back stepped.kept kept.back_room) (stepped.inverse_room, tt);
@@ -108,6 +119,51 @@ drafted_step s t records place forward back o kept goes stepped = record {
 pub kept_commit : (s : Store) (records : List Record) (place : ℕ) (forward back : List Op) → IsDrafted s records place forward back → IsKept s (take place records ++ command_of forward back ∷ []) (place + 1)
 kept_commit s records place forward back kept =
     kept_more (opened s.model back) s records place (command_of forward back) kept.journal kept.room kept.ready kept.leads kept.forward_room (ops-reverse s back kept.back_room)
+
+-- a draft whose steps from the place n on are taken back
+module _ (s : Store) (records : List Record) (place : ℕ) (forward back : List Op) (kept : IsDrafted s records place forward back) (n : ℕ) where
+  abbrev started : Model
+  started = opened s.model back
+
+  started_sound : Sound started
+  started_sound = (journal_consistent started records place kept.journal).held_sound
+
+  abbrev marked : Model
+  marked = effects started (take n forward)
+
+  pub back_goes : AreAccepted s.model (reverse (drop n back))
+  back_goes = rest_goes_back started s.model forward back n started_sound kept.leads.forward_goes kept.leads.forward kept.paired
+
+  pub back_room : AllHaveRoom s (reverse (drop n back))
+  back_room = ops-reverse s (drop n back) (ops-drop s n back kept.back_room)
+
+  pub back_made : effects s.model (reverse (drop n back)) ≡ marked
+  back_made = rest_undone started s.model forward back n started_sound kept.leads.forward_goes kept.leads.forward kept.paired
+
+  marked_opened : opened marked (take n back) ≡ started
+  marked_opened = front_opened started s.model forward back n started_sound kept.leads.forward_goes kept.leads.forward kept.paired
+
+  module _ (t : Store) (is : t ≡ all_after s (reverse (drop n back))) (ready : IsReady t) where
+    pub made : t.model ≡ marked
+    made = ap (λ (x : Store). x.model) is ∙ back_made
+
+    pub same_start : opened t.model (take n back) ≡ started
+    same_start = ap (λ (X : Model). opened X (take n back)) made ∙ marked_opened
+
+    keeps : KeepsRoom s t
+    keeps = subst (KeepsRoom s) (sym is) (keeps_all_after s (reverse (drop n back)))
+
+    pub drafted_back : IsDrafted t records place (take n forward) (take n back)
+    drafted_back = record {
+      ready = ready;
+      journal = subst (λ (M : Model). IsJournal M records place) (sym same_start) kept.journal;
+      leads = subst (λ (M : Model). Leads M (command_of (take n forward) (take n back)) t.model) (sym same_start)
+          (subst (λ (M : Model). Leads started (command_of (take n forward) (take n back)) M) (sym made) (front_leads started s.model forward back n started_sound kept.leads.forward_goes kept.leads.forward kept.paired));
+      paired = front_paired started s.model forward back n started_sound kept.leads.forward_goes kept.leads.forward kept.paired ∙ ap (λ (M : Model). each_inverse M (take n forward)) (sym same_start);
+      room = records_kept s t records keeps kept.room;
+      forward_room = ops-take t n forward (ops_kept s t forward keeps kept.forward_room);
+      back_room = ops-take t n back (ops_kept s t back keeps kept.back_room);
+    }
 
 -- a draft that is abandoned
 pub kept_abandon : (s : Store) (records : List Record) (place : ℕ) (forward back : List Op) → IsDrafted s records place forward back → IsReady (all_after s (reverse back)) → IsKept (all_after s (reverse back)) records place

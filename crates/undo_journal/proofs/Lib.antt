@@ -4,5 +4,6 @@ pub mod Journals
 pub mod Consistent
 pub mod Rooms
 pub mod Turns
+pub mod Marks
 pub mod Kept
 pub mod Seen

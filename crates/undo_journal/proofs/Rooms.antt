@@ -1,5 +1,5 @@
 -- Room that is there stays.
-use Rattle.std.specs.Prelude.{◌≡◌, ℕ, zero, suc, ◌<◌, List, [], ◌∷◌, ◌++◌, take, get_or, length, reverse}
+use Rattle.std.specs.Prelude.{◌≡◌, ℕ, zero, suc, ◌<◌, List, [], ◌∷◌, ◌++◌, take, drop, get_or, length, reverse}
 use Rattle.std.proofs.Common.{sym, subst, arith}
 use Rattle.std.proofs.lemmas.List.{reverse-append}
 use Rattle.euler_laws.specs.Laws.{effects}
@@ -34,6 +34,16 @@ ops-append s (o ∷ xs) ys a b = (a.0, ops-append s xs ys a.1 b)
 pub ops-reverse : (s : Store) (xs : List Op) → AllHaveRoom s xs → AllHaveRoom s (reverse xs)
 ops-reverse s [] a = tt
 ops-reverse s (o ∷ xs) a = subst (AllHaveRoom s) (sym (reverse-append (o ∷ []) xs)) (ops-append s (reverse xs) (o ∷ []) (ops-reverse s xs a.1) (a.0, tt))
+
+pub ops-take : (s : Store) (n : ℕ) (xs : List Op) → AllHaveRoom s xs → AllHaveRoom s (take n xs)
+ops-take s zero xs a = tt
+ops-take s (suc n) [] a = tt
+ops-take s (suc n) (o ∷ xs) a = (a.0, ops-take s n xs a.1)
+
+pub ops-drop : (s : Store) (n : ℕ) (xs : List Op) → AllHaveRoom s xs → AllHaveRoom s (drop n xs)
+ops-drop s zero xs a = a
+ops-drop s (suc n) [] a = tt
+ops-drop s (suc n) (o ∷ xs) a = ops-drop s n xs a.1
 
 pub records-append : (s : Store) (xs ys : List Record) → RecordsHaveRoom s xs → RecordsHaveRoom s ys → RecordsHaveRoom s (xs ++ ys)
 records-append s [] ys a b = b

@@ -1,5 +1,5 @@
 -- What callers see of a session and of a draft: the plain machine, and the records.
-use Rattle.std.specs.Prelude.{◌≡◌, ℕ, ◌+◌, ◌-◌, ◌<◌, ◌≤◌, List, [], ◌∷◌, ◌++◌, take, get_or, length, None}
+use Rattle.std.specs.Prelude.{◌≡◌, ℕ, ◌+◌, ◌-◌, ◌<◌, ◌≤◌, List, [], ◌∷◌, ◌++◌, take, drop, reverse, get_or, length, None, refl}
 use Rattle.std.proofs.Common.{sym, ap, subst, ◌∙◌, arith}
 use Rattle.euler_operators.specs.Model.{Model}
 use Rattle.low_euler.specs.Store.{Store}
@@ -9,12 +9,14 @@ use Rattle.euler_operators.specs.Effect.{effect, inverse}
 use Rattle.euler_laws.specs.Laws.{effects}
 use Rattle.undo_journal.specs.declared.record.Record.{Record}
 use Rattle.undo_journal.specs.Machine.{Machine, held, depth, ahead, accepted, undo, redo}
-use Rattle.undo_journal.specs.Journal.{Journal, DraftJournal, recorded, after_act, after_undo, after_redo, new_draft, after_step, after_commit}
+use Rattle.undo_journal.specs.Journal.{Journal, DraftJournal, recorded, after_act, after_undo, after_redo, new_draft, after_step, after_commit, IsMark, back_at}
 use Rattle.undo_journal.specs.Recorded.{model_at}
+use Rattle.low_euler.specs.Ready.{IsReady}
 use Rattle.low_euler.specs.Room.{IsStepped}
-use Rattle.undo_journal.specs.Sessions.{machine_of, journal_of, Leads, IsKept, opened, draft_of, command_of, IsDrafted}
+use Rattle.undo_journal.specs.Sessions.{machine_of, journal_of, Leads, IsKept, opened, draft_of, command_of, IsDrafted, all_after}
 use Rattle.undo_journal.proofs.Journals.{depth_is, ahead_is, leads_at, machine_more, place_undone, place_redone}
-use Rattle.undo_journal.proofs.Kept.{one_leads, opened_same}
+use Rattle.undo_journal.proofs.Kept.{one_leads, opened_same, same_start, made}
+use Rattle.undo_journal.proofs.Marks.{each-length}
 
 module _ (s : Store) (records : List Record) (place : ℕ) (j : Journal) (kept : IsKept s records place) (seen : journal_of s.model records place ≡ j) where
   pub machine_seen : machine_of s.model records place ≡ j.machine
@@ -80,6 +82,20 @@ module _ (s : Store) (records : List Record) (place : ℕ) (forward back : List 
       ap (λ (M : Model). record { session = journal_of M records place; model = t.model; forward = forward ++ o ∷ []; back = back ++ inverse s.model o ∷ [] }) (opened_same s.model t.model forward back o kept.ready.sound goes stepped.model)
       ∙ ap (λ (N : Model). record { session = journal_of (opened s.model back) records place; model = N; forward = forward ++ o ∷ []; back = back ++ inverse s.model o ∷ [] }) stepped.model
       ∙ ap (λ (x : DraftJournal). after_step x o) seen
+
+  -- the draft at a mark
+  pub back_seen : (n : ℕ) (t : Store) → t ≡ all_after s (reverse (drop n back)) → IsReady t → draft_of t.model records place (take n forward) (take n back) ≡ back_at d n
+  back_seen n t is ready =
+      ap (λ (M : Model). record { session = journal_of M records place; model = t.model; forward = take n forward; back = take n back }) (same_start s records place forward back kept n t is ready)
+      ∙ ap (λ (N : Model). record { session = journal_of (opened s.model back) records place; model = N; forward = take n forward; back = take n back }) (made s records place forward back kept n t is ready)
+      ∙ ap (λ (x : DraftJournal). back_at x n) seen
+
+  pub mark_seen : IsMark d (length forward)
+  mark_seen = subst (λ (x : DraftJournal). IsMark x (length forward)) seen (record {
+    steps = refl;
+    inverses = sym (ap length kept.paired ∙ each-length (opened s.model back) forward);
+    model = sym kept.leads.forward;
+  })
 
   -- the place at which the command is recorded
   committed : take place records ++ command_of forward back ∷ [] ≡ recorded (journal_of (opened s.model back) records place) (command_of forward back)

@@ -1,10 +1,11 @@
 -- What contracts see of a session and of a draft: the plain machine, and the records of its commands.
-use Rattle.std.specs.Prelude.{◌≡◌, List, [], ◌∷◌, ◌++◌, take, reverse, refl}
+use Rattle.std.specs.Prelude.{◌≡◌, ℕ, List, [], ◌∷◌, ◌++◌, length, take, reverse, refl}
 use Rattle.std.specs.Coded.{Coded, code_by, coded×, coded_list}
 use Rattle.euler_operators.specs.contracts.Op as operator
 use Rattle.euler_operators.specs.declared.Op.{Op}
 use Rattle.euler_operators.specs.Model.{Model}
 use Rattle.euler_operators.specs.Effect.{inverse}
+use Rattle.euler_laws.specs.Laws.{effects}
 use Rattle.low_euler.specs.Codes.{coded_model}
 use Rattle.undo_journal.specs.contracts.record.Record as command
 use Rattle.undo_journal.specs.declared.record.Record.{Record}
@@ -59,6 +60,24 @@ after_step d op = record { session = d.session; model = (draft_step (plain d) op
 -- the steps become one command, also where there was none; the inverses take it back, the last one first
 abbrev pub after_commit : DraftJournal → Journal
 after_commit d = record { machine = commit (plain d); records = recorded d.session (record { forward = d.forward; back = reverse d.back }) }
+
+-- a mark: how many steps there are, each with its inverse; they make the draft's model of the one that the session holds
+pub record IsMark (d : DraftJournal) (mark : ℕ) : Type 0 where
+  pub steps : mark ≡ length d.forward
+  pub inverses : mark ≡ length d.back
+  pub model : d.model ≡ effects (held d.session.machine) d.forward
+
+-- a draft to which further steps may have come
+pub record IsFurther (old new : DraftJournal) : Type 0 where
+  pub session : new.session ≡ old.session
+  pub steps : List Op
+  pub forward : new.forward ≡ old.forward ++ steps
+  pub inverses : List Op
+  pub back : new.back ≡ old.back ++ inverses
+
+-- the draft with its first steps alone
+abbrev pub back_at : DraftJournal → ℕ → DraftJournal
+back_at d mark = record { session = d.session; model = effects (held d.session.machine) (take mark d.forward); forward = take mark d.forward; back = take mark d.back }
 
 -- codes, by which these can be what contracts see
 abbrev pub coded_journal : Coded Journal

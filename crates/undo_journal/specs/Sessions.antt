@@ -3,6 +3,7 @@ use Rattle.std.specs.Prelude.{◌≡◌, ℕ, ◌≤◌, List, [], ◌∷◌, le
 use Rattle.euler_operators.specs.Model.{Model, empty_model}
 use Rattle.low_euler.specs.Store.{Store}
 use Rattle.euler_operators.specs.declared.Op.{Op}
+use Rattle.euler_operators.specs.Effect.{effect, inverse}
 use Rattle.euler_laws.specs.Laws.{effects, AreAccepted}
 use Rattle.low_euler.specs.Ready.{IsReady, HasRoomFor}
 use Rattle.undo_journal.specs.declared.record.Record.{Record}
@@ -83,11 +84,17 @@ draft_of M records place forward back = record { session = journal_of (opened M 
 abbrev pub command_of : List Op → List Op → Record
 command_of forward back = record { forward = forward; back = reverse back }
 
+-- the inverse of each of some operators, in their order
+abbrev pub each_inverse : Model → List Op → List Op
+each_inverse M [] = []
+each_inverse M (o ∷ os) = inverse M o ∷ each_inverse (effect M o) os
+
 -- what holds of a draft
 pub record IsDrafted (s : Store) (records : List Record) (place : ℕ) (forward back : List Op) : Type 0 where
   pub ready : IsReady s
   pub journal : IsJournal (opened s.model back) records place
   pub leads : Leads (opened s.model back) (command_of forward back) s.model
+  pub paired : back ≡ each_inverse (opened s.model back) forward
   pub room : RecordsHaveRoom s records
   pub forward_room : AllHaveRoom s forward
   pub back_room : AllHaveRoom s back

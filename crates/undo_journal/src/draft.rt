@@ -3,7 +3,7 @@ ghost use Rattle.std.specs.Prelude.{◌≡◌, ◌↔◌, OnOk, OnErr, IfOk, IfE
 ghost use Rattle.low_euler.specs.Ready.{IsReady};
 ghost use Rattle.euler_operators.specs.Sound.{Sound};
 ghost use Rattle.undo_journal.specs.Machine.{held};
-ghost use Rattle.undo_journal.specs.Journal.{new_draft, after_step, after_commit};
+ghost use Rattle.undo_journal.specs.Journal.{new_draft, after_step, after_commit, IsMark, IsFurther, back_at};
 ghost use Rattle.undo_journal.specs.Sessions.{RecordsHaveRoom, AllHaveRoom};
 ghost use Rattle.undo_journal.specs.Histories.{Follows, IsConsistent};
 ghost use Rattle.euler_operators.specs.Conditions.{first_false};
@@ -11,7 +11,7 @@ ghost use Rattle.euler_operators.specs.declared.Refusal.{Refusal};
 
 use crate::record::{OpList, PLACES, Record};
 use crate::session::{Failure, Session};
-use crate::steps::{place_for_one, replay_all, step};
+use crate::steps::{place_for_one, replay_all, step, take_back};
 use euler_operators::Op;
 use low_euler::{Arena, check};
 use std::alloc::{AllocError, Global};
@@ -107,6 +107,7 @@ impl Draft {
         requires { first_false self.old.model op ≡ None }
         ensures ok { OnOk result (self.new ≡ after_step self.old op) }
         ensures err { OnErr result (self.new ≡ self.old) }
+        ensures further { IsFurther self.old self.new }
     {
         step(
             self.alloc,
@@ -119,10 +120,12 @@ impl Draft {
 
     /// One operator as a step. Where one of its conditions is false the first such is named, with its value; where memory is
     /// refused `Memory` is answered. Then nothing has changed, and the draft goes on.
+    #[tactic(auto, using(crate::proofs::Marks::further_none))]
     pub fn step(&mut self, op: Op) -> Result<(), Failure>
         ensures ok { OnOk result ((first_false self.old.model op ≡ None) × (self.new ≡ after_step self.old op)) }
         ensures refused { (refusal : Refusal) → ((result ≡ Err (Failure.Refused refusal)) ↔ (first_false self.old.model op ≡ Some refusal)) }
         ensures err { OnErr result (self.new ≡ self.old) }
+        ensures further { IsFurther self.old self.new }
     {
         if let Err(refusal) = check(&*self.arena, &op) {
             return Err(Failure::Refused(refusal));
@@ -131,6 +134,21 @@ impl Draft {
             Ok(()) => Ok(()),
             Err(error) => Err(Failure::Memory(error)),
         }
+    }
+
+    /// How many steps there are: a mark, for `back_to`.
+    pub fn mark(&self) -> usize
+        ensures { IsMark self.now result }
+    {
+        self.forward.len()
+    }
+
+    /// Takes the steps since a mark back, the last first. Where there are no more steps than that, nothing changes. It takes no memory.
+    pub fn back_to(&mut self, mark: usize)
+        ensures { self.new ≡ back_at self.old mark }
+    {
+        take_back(&mut *self.arena, &mut self.back, mark);
+        self.forward.truncate(mark);
     }
 
     /// Makes the steps one command, also where there was none. It drops the models ahead. It takes no memory.

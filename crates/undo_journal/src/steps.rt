@@ -1,5 +1,5 @@
 //! Operators applied in turn.
-ghost use Rattle.std.specs.Prelude.{◌≡◌, ◌<◌, vec_len, [], ◌∷◌, ◌++◌, OnOk, OnErr, None};
+ghost use Rattle.std.specs.Prelude.{◌≡◌, ◌<◌, vec_len, [], ◌∷◌, ◌++◌, OnOk, OnErr, None, take, drop, reverse};
 ghost use Rattle.std.specs.Vec.{vec_capacity};
 ghost use Rattle.low_euler.specs.Store.{HasGrown};
 ghost use Rattle.euler_operators.specs.Conditions.{first_false};
@@ -24,6 +24,23 @@ pub(crate) fn replay_all(arena: &mut Arena, ops: &[Op])
     for op in ops {
         replay(arena, op);
     }
+}
+
+/// Takes the operators of a list from a place on, the last first: it applies them, and drops them. It takes no memory.
+pub(crate) fn take_back(arena: &mut Arena, back: &mut Vec<Op>, place: usize)
+    requires ready { IsReady arena.old }
+    requires accepted { AreAccepted arena.old.model (reverse (drop place back.old.items)) }
+    requires room { AllHaveRoom arena.old (reverse (drop place back.old.items)) }
+    ensures effects { arena.new ≡ all_after arena.old (reverse (drop place back.old.items)) }
+    ensures ready { IsReady arena.new }
+    ensures items { back.new.items ≡ take place back.old.items }
+{
+    if back.len() <= place {
+        return;
+    }
+    back[place..].reverse();
+    replay_all(arena, &back[place..]);
+    back.truncate(place);
 }
 
 /// Makes a place for one more in a list: where there is none, places for so many more. Where there is one, this is one test.

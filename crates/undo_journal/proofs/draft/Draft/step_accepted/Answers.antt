@@ -10,7 +10,9 @@ use Rattle.undo_journal.specs.Journal.{DraftJournal, after_step}
 use Rattle.low_euler.specs.Room.{IsStepped}
 use Rattle.undo_journal.specs.Sessions.{draft_of, IsDrafted}
 use Rattle.undo_journal.proofs.Kept.{drafted_step, drafted_grown}
+use Rattle.euler_operators.specs.Model.{Model}
 use Rattle.undo_journal.proofs.Seen.{step_seen}
+use Rattle.undo_journal.proofs.Marks.{further_tried}
 use Rattle.undo_journal.proofs.draft.Draft.step_accepted.Goals as goal
 
 module _ (s t : Store) (records : List Record) (place : ℕ) (forward back : List Op) (o : Op) (kept : IsDrafted s records place forward back) (goes : first_false s.model o ≡ None) (f b : List Op) where
@@ -25,6 +27,10 @@ module _ (s t : Store) (records : List Record) (place : ℕ) (forward back : Lis
   seen_ok : (d : DraftJournal) → draft_of s.model records place forward back ≡ d → (r : Result (Unit {0}) AllocError) → OnOk r (IsStepped s o t) → OnOk r (f ≡ forward ++ o ∷ []) → OnOk r (b ≡ back ++ inverse s.model o ∷ []) → OnOk r (draft_of t.model records place f b ≡ after_step d o)
   seen_ok d seen (Ok u) stepped fs bs = ap (λ (x : List Op). draft_of t.model records place x b) fs ∙ ap (draft_of t.model records place (forward ++ o ∷ [])) bs ∙ step_seen s records place forward back d kept seen t o goes stepped
   seen_ok d seen (Err e) stepped fs bs = tt
+
+  seen_err : (d : DraftJournal) → draft_of s.model records place forward back ≡ d → (r : Result (Unit {0}) AllocError) → OnErr r (HasGrown s t) → OnErr r (f ≡ forward) → OnErr r (b ≡ back) → OnErr r (draft_of t.model records place f b ≡ d)
+  seen_err d seen (Ok u) grown fk bk = tt
+  seen_err d seen (Err e) grown fk bk = ap (λ (x : List Op). draft_of t.model records place x b) fk ∙ ap (draft_of t.model records place forward) bk ∙ ap (λ (M : Model). draft_of M records place forward back) grown.model ∙ seen
 
 -- what the step does to the arena, in its box
 module _ (s t u : Store) (o : Op) (at : s ≡ t) (r : Result (Unit {0}) AllocError) where
@@ -56,3 +62,9 @@ pub returns-clause-ok : goal.returns-clause-ok
 returns-clause-ok c =
     let at = c.deref_mut.ensures.value in
     seen_ok _ c.step.new.arena _ _ _ _ _ c.self.invariant.1 (goes_on c) c.step.new.forward.items _ _ c.self.view_is c.step.result (stepped_at _ _ _ _ at _ c.step.ensures.stepped) c.step.ensures.forward (back_at _ _ c.step.new.arena _ at _ _ _ c.step.ensures.back)
+
+pub returns-clause-further : goal.returns-clause-further
+returns-clause-further c =
+    let at = c.deref_mut.ensures.value in
+    further_tried _ _ c.args.op c.step.result (returns-clause-ok c)
+    (seen_err _ c.step.new.arena _ _ _ _ _ c.self.invariant.1 (goes_on c) c.step.new.forward.items _ _ c.self.view_is c.step.result (grown_at _ _ _ c.args.op at _ c.step.ensures.err) c.step.ensures.err_forward c.step.ensures.err_back)
