@@ -4,9 +4,10 @@
 //! `rings` links codes by the raw rings, `points` orders points, `arenas` copies an arena and changes a loop's content, and `sessions`
 //! goes on after a large lamina, `steps` glues by the steps of a draft. With one word, `lamina`, `act`, `draft` or `copy`, the program makes a lamina of 64
 //! points and then does only what the word says, so that whoever counts allocations or refuses one sees what that call asks for; with `committed` or
-//! `abandoned` it takes the steps of a glue.
+//! `abandoned` it takes the steps of a glue, and with `larger` it takes larger commands as the steps of a draft.
 
 mod arenas;
+mod larger;
 mod points;
 mod rings;
 mod sessions;
@@ -41,6 +42,7 @@ fn tell(rt: &HostRuntime, word: &str) {
     match word {
         "committed" => steps::tell_glue(rt, true),
         "abandoned" => steps::tell_glue(rt, false),
+        "larger" => larger::tell(rt),
         _ => {
             let _ = println!(rt; "{}", sessions::after_a_lamina(rt.alloc(), word));
         }

@@ -1,22 +1,14 @@
 -- Operators that are still to be taken.
-use Rattle.std.specs.Prelude.{Result, Ok, Err, OnOk, OnErr}
 use Rattle.std.proofs.Common.{◌≡◌, ℕ, [], ◌∷◌, refl, sym, ap, ◌∙◌, subst}
 use Rattle.euler_operators.specs.declared.HalfEdge.{HalfEdge}
 use Rattle.euler_operators.specs.declared.Corner.TheVariants.{At}
 use Rattle.euler_operators.specs.HalfEdge.{code, half, mate, plus, minus}
 use Rattle.euler_operators.specs.Model.{Model, solid_of}
 use Rattle.euler_operators.proofs.Halves.{half-code}
-use Rattle.euler_operators.specs.declared.Op.{Op}
 use Rattle.euler_operators.specs.declared.Op.TheVariants.{Merge, Kfmrh, Mekr, Kev, Mef, Kef}
 use Rattle.euler_laws.specs.Laws.{effects, AreAccepted}
 use Rattle.euler_laws.proofs.Runs.{Leads}
-use Rattle.undo_journal.specs.Journal.{DraftJournal, after_step}
 use Rattle.shapes.specs.glue.GlueOps.{opening, closing}
-
--- a step, taken or stopped by memory, leaves the session from which the draft was opened
-pub session_stays : {T E : Type 0} (r : Result T E) (d e : DraftJournal) (op : Op) → OnOk r (e ≡ after_step d op) → OnErr r (e ≡ d) → e.session ≡ d.session
-session_stays (Ok x) d e op taken stopped = ap (λ (k : DraftJournal). k.session) taken
-session_stays (Err x) d e op taken stopped = ap (λ (k : DraftJournal). k.session) stopped
 
 -- ---- the operators of a glue, as half-edges are written in the code
 

@@ -3,11 +3,12 @@ ghost use Rattle.std.specs.Prelude.{◌≡◌, None, Some, Err, OnOk, OnErr};
 ghost use Rattle.euler_operators.specs.declared.Refusal.{Refusal};
 ghost use Rattle.euler_conditions.specs.Ready.{IsReady};
 ghost use Rattle.shapes.specs.glue.Glue as spec;
-ghost use Rattle.undo_journal.specs.Journal.{IsRecorded};
+ghost use Rattle.shapes.specs.glue.Glue.{glue_model};
+ghost use Rattle.undo_journal.specs.Journal.{IsRecorded, IsFurther};
 ghost use Rattle.gluing.specs.Machine.{glue, glue_refusal};
 
 use crate::glue_checks::check_glue;
-use crate::joining::join;
+use crate::joining::try_join;
 use euler_conditions::Arena;
 use std::alloc::Global;
 use undo_journal::{Draft, Failure, Session};
@@ -21,6 +22,23 @@ fn admit(alloc: Global, arena: &Arena, f: u32, other: u32) -> Result<(), Failure
     match check_glue(alloc, arena, f, other) {
         Ok(Ok(())) => Ok(()),
         Ok(Err(refusal)) => Err(Failure::Refused(refusal)),
+        Err(error) => Err(Failure::Memory(error)),
+    }
+}
+
+/// A glue as steps of a draft: as `glue`, of the draft's model. On any failure the draft is as it was, and goes on.
+#[tactic(auto, using(undo_journal::proofs::Marks::further_none, undo_journal::proofs::Marks::further_back))]
+pub fn glue_in(alloc: Global, draft: &mut Draft, f: u32, other: u32) -> Result<(), Failure>
+    ensures ok { OnOk result ((spec.glue_refusal draft.old.model f other ≡ None) × (draft.new.model ≡ glue_model draft.old.model f other)) }
+    ensures refused { (refusal : Refusal) → (result ≡ Err (Failure.Refused refusal)) → (spec.glue_refusal draft.old.model f other ≡ Some refusal) }
+    ensures further { IsFurther draft.old draft.new }
+    ensures err { OnErr result (draft.new ≡ draft.old) }
+{
+    if let Err(failure) = admit(alloc, draft.arena(), f, other) {
+        return Err(failure);
+    }
+    match try_join(draft, f, other) {
+        Ok(()) => Ok(()),
         Err(error) => Err(Failure::Memory(error)),
     }
 }
@@ -51,7 +69,7 @@ pub fn glue(alloc: Global, session: Session, f: u32, other: u32) -> (Session, Re
         Ok(draft) => draft,
         Err((session, error)) => return (session, Err(Failure::Memory(error))),
     };
-    match join(&mut draft, f, other) {
+    match try_join(&mut draft, f, other) {
         Ok(()) => (draft.commit(), Ok(())),
         Err(error) => (draft.abandon(), Err(Failure::Memory(error))),
     }

@@ -1,5 +1,5 @@
 //! Two faces glued operator by operator in a draft.
-ghost use Rattle.std.specs.Prelude.{◌≡◌, ◌≤◌, true, None, OnOk};
+ghost use Rattle.std.specs.Prelude.{◌≡◌, ◌≤◌, true, None, OnOk, OnErr};
 ghost use Rattle.euler_operators.specs.HalfEdge.{code};
 ghost use Rattle.euler_operators.specs.Model.{after, before, has_half, outer};
 ghost use Rattle.euler_operators.specs.Sound.{Has};
@@ -8,6 +8,7 @@ ghost use Rattle.euler_laws.specs.Laws.{AreAccepted, effects};
 ghost use Rattle.euler_conditions.specs.Store.{has_number};
 ghost use Rattle.shapes.specs.glue.Glue.{glue_model, glue_refusal};
 ghost use Rattle.shapes.specs.glue.GlueOps.{closing, fresh_edge, opening};
+ghost use Rattle.undo_journal.specs.Journal.{IsFurther};
 
 use crate::rims::{first_item, item_at};
 use euler_conditions::Arena;
@@ -70,7 +71,7 @@ fn open_seam(
     requires second_there { Has draft.old.model.faces other }
     requires accepted { AreAccepted draft.old.model (opening draft.old.model f other (code first) (code partner) edge) }
     ensures model { OnOk result (draft.new.model ≡ effects draft.old.model (opening draft.old.model f other (code first) (code partner) edge)) }
-    ensures session { draft.new.session ≡ draft.old.session }
+    ensures further { IsFurther draft.old draft.new }
 {
     let solid = draft.arena().solid_of(f);
     let other_solid = draft.arena().solid_of(other);
@@ -90,7 +91,7 @@ fn close_item(
 ) -> Result<(), AllocError>
     requires { AreAccepted draft.old.model (closing (code partner) (code next) spare.edge spare.face spare.ring) }
     ensures model { OnOk result (draft.new.model ≡ effects draft.old.model (closing (code partner) (code next) spare.edge spare.face spare.ring)) }
-    ensures session { draft.new.session ≡ draft.old.session }
+    ensures further { IsFurther draft.old draft.new }
 {
     draft.step_accepted(Op::Mef(
         partner,
@@ -103,14 +104,14 @@ fn close_item(
     draft.step_accepted(Op::Kef(partner.mate()))
 }
 
-/// Glues the other face of the draft's model to face f, where that isn't refused. On `AllocError` the draft may have taken some steps.
+/// Takes the steps of a glue that isn't refused. On `AllocError` some may be taken.
 ///
 /// Once the seam is open it holds the items that aren't glued yet and, back along them, their partners: the partner of the first
 /// one comes before it.
-pub(crate) fn join(draft: &mut Draft, f: u32, other: u32) -> Result<(), AllocError>
+fn join(draft: &mut Draft, f: u32, other: u32) -> Result<(), AllocError>
     requires { glue_refusal draft.old.model f other ≡ None }
     ensures model { OnOk result (draft.new.model ≡ glue_model draft.old.model f other) }
-    ensures session { draft.new.session ≡ draft.old.session }
+    ensures further { IsFurther draft.old draft.new }
 {
     let arena = draft.arena();
     let spare = spare_of(arena, other);
@@ -126,5 +127,23 @@ pub(crate) fn join(draft: &mut Draft, f: u32, other: u32) -> Result<(), AllocErr
         }
         close_item(draft, partner, next, spare)?;
         item = next;
+    }
+}
+
+/// Glues the other face of the draft's model to face f, where that isn't refused. On `AllocError` the draft is as it was.
+#[tactic(auto, using(undo_journal::proofs::Marks::further_none, undo_journal::proofs::Marks::further_back))]
+pub(crate) fn try_join(draft: &mut Draft, f: u32, other: u32) -> Result<(), AllocError>
+    requires { glue_refusal draft.old.model f other ≡ None }
+    ensures model { OnOk result (draft.new.model ≡ glue_model draft.old.model f other) }
+    ensures further { IsFurther draft.old draft.new }
+    ensures err { OnErr result (draft.new ≡ draft.old) }
+{
+    let mark = draft.mark();
+    match join(draft, f, other) {
+        Ok(()) => Ok(()),
+        Err(error) => {
+            draft.back_to(mark);
+            Err(error)
+        }
     }
 }

@@ -18,7 +18,7 @@ mod joining;
 mod laws;
 mod rims;
 
-pub use command::glue;
+pub use command::{glue, glue_in};
 pub use euler_operators::Kind;
 pub use gluing_laws::{glues_add, glues_make_glued};
 pub use laws::{glue_measures, glues_are_calls};

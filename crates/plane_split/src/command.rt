@@ -4,14 +4,15 @@ ghost use Rattle.euler_operators.specs.declared.Refusal.{Refusal};
 ghost use Rattle.euler_conditions.specs.Ready.{IsReady};
 ghost use Rattle.euler_operators.specs.Sound.{Sound};
 ghost use Rattle.undo_journal.specs.Machine.{held};
-ghost use Rattle.undo_journal.specs.Journal.{IsRecorded};
+ghost use Rattle.undo_journal.specs.Journal.{IsRecorded, IsFurther};
 ghost use Rattle.shapes.specs.split.Split as spec;
+ghost use Rattle.shapes.specs.split.Split.{split_model};
 ghost use Rattle.plane_split.specs.Machine.{plane_with, split, split_refusal};
 ghost use Rattle.split_drawing.specs.Cuts.{AreCuts};
 ghost use Rattle.split_drawing.specs.Noted.{AreSides};
 ghost use Rattle.split_drawing_laws.specs.crossings.Laws.{CanBegin};
 
-use crate::steps::carry_out;
+use crate::steps::try_split;
 use euler_conditions::Arena;
 use euler_operators::Plane;
 use split_drawing::{Cuts, Sides, check_begin, none_noted};
@@ -51,6 +52,32 @@ fn admit(
         Ok(Err(refusal)) => Err(Failure::Refused(refusal)),
         Err(error) => Err(Failure::Memory(error)),
     }
+}
+
+/// A split as steps of a draft: as `split`, of the draft's model. On any failure the draft is as it was, and goes on.
+#[tactic(auto, using(undo_journal::proofs::Marks::further_none, undo_journal::proofs::Marks::further_back))]
+pub fn split_in(
+    alloc: Global,
+    draft: &mut Draft,
+    s: u32,
+    a: i64,
+    b: i64,
+    c: i64,
+    d: i64,
+    upper: u32,
+) -> Result<(), Failure>
+    ensures ok { OnOk result ((spec.split_refusal draft.old.model s (plane_with a b c d) upper ≡ None) × (draft.new.model ≡ split_model draft.old.model s (plane_with a b c d) upper)) }
+    ensures refused { (refusal : Refusal) → (result ≡ Err (Failure.Refused refusal)) → (spec.split_refusal draft.old.model s (plane_with a b c d) upper ≡ Some refusal) }
+    ensures further { IsFurther draft.old draft.new }
+    ensures err { OnErr result (draft.new ≡ draft.old) }
+{
+    let plane = plane_of(a, b, c, d);
+    let mut sides = none_noted();
+    let cuts = match admit(alloc, draft.arena(), s, &plane, upper, &mut sides) {
+        Ok(cuts) => cuts,
+        Err(failure) => return Err(failure),
+    };
+    try_split(alloc, draft, s, &plane, upper, &cuts, &mut sides)
 }
 
 /// A split as one command: solid s keeps what is below the plane `a x + b y + c z + d = 0`, and what is above it, where that sum is
@@ -102,9 +129,8 @@ pub fn split(
         Ok(draft) => draft,
         Err((session, error)) => return (session, Err(Failure::Memory(error))),
     };
-    match carry_out(alloc, &mut draft, s, &plane, upper, &cuts, &mut sides) {
-        Ok(Ok(())) => (draft.commit(), Ok(())),
-        Ok(Err(refusal)) => (draft.abandon(), Err(Failure::Refused(refusal))),
-        Err(error) => (draft.abandon(), Err(Failure::Memory(error))),
+    match try_split(alloc, &mut draft, s, &plane, upper, &cuts, &mut sides) {
+        Ok(()) => (draft.commit(), Ok(())),
+        Err(failure) => (draft.abandon(), Err(failure)),
     }
 }

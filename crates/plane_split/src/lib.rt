@@ -23,6 +23,6 @@ mod laws;
 mod solid_opening;
 mod steps;
 
-pub use command::split;
+pub use command::{split, split_in};
 pub use laws::{splits_are_calls, splits_are_held};
 pub use split_laws::{parts_lie_on_either_side, parts_share_volumes, splits_make_split};

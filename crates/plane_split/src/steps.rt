@@ -1,6 +1,7 @@
 //! The three rewritings of a split, one after the other in a draft.
-ghost use Rattle.std.specs.Prelude.{◌≡◌, [], Ok, OnOk, IfOk};
+ghost use Rattle.std.specs.Prelude.{◌≡◌, [], None, Some, Ok, Err, OnOk, OnErr, IfOk};
 ghost use Rattle.euler_operators.specs.Sound.{Sound};
+ghost use Rattle.euler_operators.specs.declared.Refusal.{Refusal};
 ghost use Rattle.euler_operators.specs.Conditions.{verdict};
 ghost use Rattle.shapes.specs.split.Split.{split_above, split_model, split_refusal};
 ghost use Rattle.split_drawing_laws.specs.crossings.Laws.{CanBegin};
@@ -9,13 +10,14 @@ ghost use Rattle.split_drawing.specs.Noted.{AreSides};
 ghost use Rattle.split_drawing.specs.Progress.{drawing_of};
 ghost use Rattle.split_sections.specs.section_checks.Sections.{IsSection};
 ghost use Rattle.plane_split.specs.Drawn.{IsDrawn};
+ghost use Rattle.undo_journal.specs.Journal.{IsFurther};
 
 use crate::solid_opening::{open_section, part_upper};
 use euler_operators::{NUMBER_LIMIT, Plane, Refusal};
 use split_drawing::{Cuts, Progress, Sides, draw_solid};
 use split_sections::{Section, check_later};
 use std::alloc::{AllocError, Global};
-use undo_journal::Draft;
+use undo_journal::{Draft, Failure};
 
 /// Opens solid s along its section once its faces are drawn, and parts what is above the plane as solid `upper`. On `AllocError` some
 /// steps may be taken.
@@ -31,7 +33,7 @@ fn part_drawn(
     requires drawn { IsDrawn (drawing_of drawn.now draft.old.model []) s plane.now upper }
     requires section { IsSection draft.old.model s plane.now section.now }
     ensures model { OnOk result (draft.new.model ≡ split_above (drawing_of drawn.now draft.old.model []) s plane.now upper) }
-    ensures session { draft.new.session ≡ draft.old.session }
+    ensures further { IsFurther draft.old draft.new }
 {
     let caps = open_section(alloc, draft, s, plane, &drawn.taken, section)?;
     let above = section.above.as_slice();
@@ -56,7 +58,7 @@ fn take_steps(
     requires sides { AreSides draft.old.model plane.now sides.old }
     ensures carried { IfOk result (λ carried. carried ≡ verdict (split_refusal draft.old.model s plane.now upper)) }
     ensures model { (result ≡ Ok (Ok tt)) → (draft.new.model ≡ split_model draft.old.model s plane.now upper) }
-    ensures session { draft.new.session ≡ draft.old.session }
+    ensures further { IsFurther draft.old draft.new }
 {
     let drawn = draw_solid(alloc, draft, s, plane, cuts, sides)?;
     let section = match check_later(alloc, draft.arena(), s, plane, &drawn, sides)? {
@@ -77,7 +79,7 @@ fn usual_steps(cuts: &Cuts) -> usize {
 
 /// Takes the steps of a split, with the memory to list as many as most splits take at once. On a refusal or `AllocError` some may be
 /// taken.
-pub(crate) fn carry_out(
+fn carry_out(
     alloc: Global,
     draft: &mut Draft,
     s: u32,
@@ -92,8 +94,43 @@ pub(crate) fn carry_out(
     requires sides { AreSides draft.old.model plane.now sides.old }
     ensures carried { IfOk result (λ carried. carried ≡ verdict (split_refusal draft.old.model s plane.now upper)) }
     ensures model { (result ≡ Ok (Ok tt)) → (draft.new.model ≡ split_model draft.old.model s plane.now upper) }
-    ensures session { draft.new.session ≡ draft.old.session }
+    ensures further { IsFurther draft.old draft.new }
 {
     draft.reserve(usual_steps(cuts))?;
     take_steps(alloc, draft, s, plane, upper, cuts, sides)
+}
+
+/// Splits solid s of the draft's model by the plane, where that can begin and these are its cuts. On a refusal or `Memory` the draft is as
+/// it was.
+#[tactic(auto, using(undo_journal::proofs::Marks::further_none, undo_journal::proofs::Marks::further_back))]
+pub(crate) fn try_split(
+    alloc: Global,
+    draft: &mut Draft,
+    s: u32,
+    plane: &Plane,
+    upper: u32,
+    cuts: &Cuts,
+    sides: &mut Sides,
+) -> Result<(), Failure>
+    requires sound { Sound draft.old.model }
+    requires begins { CanBegin draft.old.model s plane.now upper }
+    requires cuts { AreCuts draft.old.model plane.now s cuts.now }
+    requires sides { AreSides draft.old.model plane.now sides.old }
+    ensures ok { OnOk result ((split_refusal draft.old.model s plane.now upper ≡ None) × (draft.new.model ≡ split_model draft.old.model s plane.now upper)) }
+    ensures refused { (refusal : Refusal) → (result ≡ Err (Failure.Refused refusal)) → (split_refusal draft.old.model s plane.now upper ≡ Some refusal) }
+    ensures further { IsFurther draft.old draft.new }
+    ensures err { OnErr result (draft.new ≡ draft.old) }
+{
+    let mark = draft.mark();
+    match carry_out(alloc, draft, s, plane, upper, cuts, sides) {
+        Ok(Ok(())) => Ok(()),
+        Ok(Err(refusal)) => {
+            draft.back_to(mark);
+            Err(Failure::Refused(refusal))
+        }
+        Err(error) => {
+            draft.back_to(mark);
+            Err(Failure::Memory(error))
+        }
+    }
 }

@@ -10,7 +10,7 @@ ghost use Rattle.shapes.specs.Block.{vector, base_of, block_model};
 ghost use Rattle.shapes.specs.Block as spec;
 ghost use Rattle.shapes.specs.Fresh.{numbers_after, taken_in};
 ghost use Rattle.solid_walks.specs.Counters.{AreWithin, taken_of};
-ghost use Rattle.undo_journal.specs.Journal.{IsRecorded};
+ghost use Rattle.undo_journal.specs.Journal.{IsRecorded, IsFurther};
 ghost use Rattle.sweeps.specs.Machine.{block, block_refusal};
 ghost use Rattle.sweeps.specs.Raising.{with_lamina};
 
@@ -133,7 +133,7 @@ fn draw_base_and_walls(
     requires within { AreWithin taken.now }
     requires accepted { spec.block_refusal draft.old.model solid corner size.x size.y size.z ≡ None }
     ensures ok { OnOk result (draft.new.model ≡ block_model draft.old.model solid corner size.x size.y size.z) }
-    ensures session { draft.new.session ≡ draft.old.session }
+    ensures further { IsFurther draft.old draft.new }
 {
     draft.stays_consistent();
     let corners = base(corner, size);
@@ -158,10 +158,77 @@ fn draw_block(
     requires within { AreWithin taken.now }
     requires accepted { spec.block_refusal draft.old.model solid corner size.x size.y size.z ≡ None }
     ensures ok { OnOk result (draft.new.model ≡ block_model draft.old.model solid corner size.x size.y size.z) }
-    ensures session { draft.new.session ≡ draft.old.session }
+    ensures further { IsFurther draft.old draft.new }
 {
     draft.reserve(13)?;
     draw_base_and_walls(draft, taken, solid, corner, size)
+}
+
+/// Draws a block whose conditions hold. Where memory is refused the draft is as it was.
+#[tactic(auto, using(undo_journal::proofs::Marks::further_none, undo_journal::proofs::Marks::further_back))]
+fn try_block(
+    draft: &mut Draft,
+    taken: &Counters,
+    solid: u32,
+    corner: Point,
+    size: Point,
+) -> Result<(), AllocError>
+    requires taken { taken_of taken.now ≡ taken_in draft.old.model }
+    requires within { AreWithin taken.now }
+    requires accepted { spec.block_refusal draft.old.model solid corner size.x size.y size.z ≡ None }
+    ensures ok { OnOk result (draft.new.model ≡ block_model draft.old.model solid corner size.x size.y size.z) }
+    ensures further { IsFurther draft.old draft.new }
+    ensures err { OnErr result (draft.new ≡ draft.old) }
+{
+    let mark = draft.mark();
+    match draw_block(draft, taken, solid, corner, size) {
+        Ok(()) => Ok(()),
+        Err(error) => {
+            draft.back_to(mark);
+            Err(error)
+        }
+    }
+}
+
+/// A block as steps of a draft, by its sizes in one vector.
+#[tactic(auto, using(undo_journal::proofs::Marks::further_none, undo_journal::proofs::Marks::further_back))]
+fn block_of_in(draft: &mut Draft, solid: u32, corner: Point, size: Point) -> Result<(), Failure>
+    ensures ok { OnOk result ((spec.block_refusal draft.old.model solid corner size.x size.y size.z ≡ None) × (draft.new.model ≡ block_model draft.old.model solid corner size.x size.y size.z)) }
+    ensures refused { (refusal : Refusal) → ((result ≡ Err (Failure.Refused refusal)) ↔ (spec.block_refusal draft.old.model solid corner size.x size.y size.z ≡ Some refusal)) }
+    ensures further { IsFurther draft.old draft.new }
+    ensures err { OnErr result (draft.new ≡ draft.old) }
+{
+    let arena = draft.arena();
+    let taken = counters_of(arena);
+    if let Err(refusal) = check_block(arena, taken, solid, corner, size) {
+        return Err(Failure::Refused(refusal));
+    }
+    match try_block(draft, &taken, solid, corner, size) {
+        Ok(()) => Ok(()),
+        Err(error) => Err(Failure::Memory(error)),
+    }
+}
+
+/// A block as steps of a draft: as `block`, of the draft's model. On any failure the draft is as it was, and goes on.
+pub fn block_in(
+    draft: &mut Draft,
+    solid: u32,
+    corner: Point,
+    dx: i64,
+    dy: i64,
+    dz: i64,
+) -> Result<(), Failure>
+    ensures ok { OnOk result ((spec.block_refusal draft.old.model solid corner dx dy dz ≡ None) × (draft.new.model ≡ block_model draft.old.model solid corner dx dy dz)) }
+    ensures refused { (refusal : Refusal) → ((result ≡ Err (Failure.Refused refusal)) ↔ (spec.block_refusal draft.old.model solid corner dx dy dz ≡ Some refusal)) }
+    ensures further { IsFurther draft.old draft.new }
+    ensures err { OnErr result (draft.new ≡ draft.old) }
+{
+    let size = Point {
+        x: dx,
+        y: dy,
+        z: dz,
+    };
+    block_of_in(draft, solid, corner, size)
 }
 
 /// A block as one command, by its sizes in one vector.
@@ -185,7 +252,7 @@ fn block_of(
         Ok(draft) => draft,
         Err((session, error)) => return (session, Err(Failure::Memory(error))),
     };
-    match draw_block(&mut draft, &taken, solid, corner, size) {
+    match try_block(&mut draft, &taken, solid, corner, size) {
         Ok(()) => (draft.commit(), Ok(())),
         Err(error) => (draft.abandon(), Err(Failure::Memory(error))),
     }

@@ -10,7 +10,7 @@ ghost use Rattle.shapes.specs.Fresh.{taken_in};
 ghost use Rattle.shapes.specs.Lamina.{lamina_model};
 ghost use Rattle.shapes.specs.Lamina as spec;
 ghost use Rattle.solid_walks.specs.Counters.{AreWithin, taken_of};
-ghost use Rattle.undo_journal.specs.Journal.{IsRecorded};
+ghost use Rattle.undo_journal.specs.Journal.{IsRecorded, IsFurther};
 ghost use Rattle.sweeps.specs.Machine.{lamina, lamina_refusal};
 
 use arrayvec::ArrayVec;
@@ -123,7 +123,7 @@ pub(crate) fn draw_lamina(
     requires few { length points.now ≤ 64 }
     requires accepted { spec.lamina_refusal draft.old.model solid points.now ≡ None }
     ensures ok { OnOk result (draft.new.model ≡ lamina_model draft.old.model solid points.now) }
-    ensures session { draft.new.session ≡ draft.old.session }
+    ensures further { IsFurther draft.old draft.new }
 {
     draft.stays_consistent();
     let first = point_at(points, 0);
@@ -154,6 +154,51 @@ pub(crate) fn draw_lamina(
     ))
 }
 
+/// Draws a lamina whose conditions hold. Where memory is refused the draft is as it was.
+#[tactic(auto, using(undo_journal::proofs::Marks::further_none, undo_journal::proofs::Marks::further_back))]
+fn try_lamina(
+    draft: &mut Draft,
+    taken: &Counters,
+    solid: u32,
+    points: &[Point],
+) -> Result<(), AllocError>
+    requires taken { taken_of taken.now ≡ taken_in draft.old.model }
+    requires within { AreWithin taken.now }
+    requires few { length points.now ≤ 64 }
+    requires accepted { spec.lamina_refusal draft.old.model solid points.now ≡ None }
+    ensures ok { OnOk result (draft.new.model ≡ lamina_model draft.old.model solid points.now) }
+    ensures further { IsFurther draft.old draft.new }
+    ensures err { OnErr result (draft.new ≡ draft.old) }
+{
+    let mark = draft.mark();
+    match draw_lamina(draft, taken, solid, points) {
+        Ok(()) => Ok(()),
+        Err(error) => {
+            draft.back_to(mark);
+            Err(error)
+        }
+    }
+}
+
+/// A lamina as steps of a draft: as `lamina`, of the draft's model. On any failure the draft is as it was, and goes on.
+#[tactic(auto, using(undo_journal::proofs::Marks::further_none, undo_journal::proofs::Marks::further_back))]
+pub fn lamina_in(draft: &mut Draft, solid: u32, points: &ArrayVec<Point, 64>) -> Result<(), Failure>
+    ensures ok { OnOk result ((spec.lamina_refusal draft.old.model solid points.now.items ≡ None) × (draft.new.model ≡ lamina_model draft.old.model solid points.now.items)) }
+    ensures refused { (refusal : Refusal) → ((result ≡ Err (Failure.Refused refusal)) ↔ (spec.lamina_refusal draft.old.model solid points.now.items ≡ Some refusal)) }
+    ensures further { IsFurther draft.old draft.new }
+    ensures err { OnErr result (draft.new ≡ draft.old) }
+{
+    let arena = draft.arena();
+    let taken = counters_of(arena);
+    if let Err(refusal) = check_lamina(arena, taken, solid, points) {
+        return Err(Failure::Refused(refusal));
+    }
+    match try_lamina(draft, &taken, solid, points.as_slice()) {
+        Ok(()) => Ok(()),
+        Err(error) => Err(Failure::Memory(error)),
+    }
+}
+
 /// A lamina as one command: the new solid with a ring of new edges through the points, at least 3 and all different, and a face
 /// on either side. Face f, the first fresh number, has the ring from the first point on; face f + 1 has it the other way round.
 ///
@@ -180,7 +225,7 @@ pub fn lamina(
         Ok(draft) => draft,
         Err((session, error)) => return (session, Err(Failure::Memory(error))),
     };
-    match draw_lamina(&mut draft, &taken, solid, points.as_slice()) {
+    match try_lamina(&mut draft, &taken, solid, points.as_slice()) {
         Ok(()) => (draft.commit(), Ok(())),
         Err(error) => (draft.abandon(), Err(Failure::Memory(error))),
     }

@@ -16,15 +16,15 @@ mod laws;
 mod raising;
 mod sweeping;
 
-pub use blocks::block;
+pub use blocks::{block, block_in};
 pub use euler_laws::{
     effects_are_sound, euler_number_grows, inverses_undo, refusals_name_the_first_false,
     runs_are_undone,
 };
 pub use euler_operators::{Op, Point};
-pub use laminas::lamina;
+pub use laminas::{lamina, lamina_in};
 pub use laws::{block_measures, lamina_measures, larger_commands_are_calls, sweep_measures};
-pub use sweeping::sweep;
+pub use sweeping::{sweep, sweep_in};
 pub use sweeps_laws::{operators_make_blocks, operators_make_lamina, sweeps_make_prisms};
 pub use undo_journal::{
     Draft, Failure, Session, histories_are_consistent, machines_are_copies,

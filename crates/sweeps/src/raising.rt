@@ -8,7 +8,7 @@ ghost use Rattle.euler_conditions.specs.Ready.{IsReady};
 ghost use Rattle.euler_conditions.specs.Store.{has_number};
 ghost use Rattle.euler_laws.specs.Laws.{effects};
 ghost use Rattle.euler_operators.specs.Conditions.{first_false, is_lone};
-ghost use Rattle.undo_journal.specs.Journal.{after_step};
+ghost use Rattle.undo_journal.specs.Journal.{after_step, IsFurther};
 ghost use Rattle.shapes.specs.Faces.{start};
 ghost use Rattle.shapes.specs.Prism as prism;
 ghost use Rattle.shapes.specs.Prism.{prism_refusal, prism_model};
@@ -74,6 +74,7 @@ fn raise_item(
     requires accepted { first_false draft.old.model (ops.raise_item draft.old.model (taken_of taken.now) shift (code item) at) ≡ None }
     ensures ok { OnOk result (draft.new ≡ after_step draft.old (ops.raise_item draft.old.model (taken_of taken.now) shift (code item) at)) }
     ensures err { OnErr result (draft.new ≡ draft.old) }
+    ensures further { IsFurther draft.old draft.new }
 {
     let arena = draft.arena();
     let top = sum(arena.point(arena.tail(item)), shift);
@@ -91,6 +92,7 @@ fn close_side(draft: &mut Draft, taken: &Counters, count: u32, at: u32) -> Resul
     requires accepted { first_false draft.old.model (ops.close (taken_of taken.now) count at) ≡ None }
     ensures ok { OnOk result (draft.new ≡ after_step draft.old (ops.close (taken_of taken.now) count at)) }
     ensures err { OnErr result (draft.new ≡ draft.old) }
+    ensures further { IsFurther draft.old draft.new }
 {
     let from = HalfEdge::minus(riser(taken, at));
     let to = HalfEdge::minus(riser(taken, at + 1));
@@ -107,6 +109,7 @@ fn close_last(draft: &mut Draft, taken: &Counters, count: u32) -> Result<(), All
     requires accepted { first_false draft.old.model (ops.close_last (taken_of taken.now) count (count - 1)) ≡ None }
     ensures ok { OnOk result (draft.new ≡ after_step draft.old (ops.close_last (taken_of taken.now) count (count - 1))) }
     ensures err { OnErr result (draft.new ≡ draft.old) }
+    ensures further { IsFurther draft.old draft.new }
 {
     let last = count - 1;
     let from = HalfEdge::minus(riser(taken, last));
@@ -154,7 +157,7 @@ pub(crate) fn raise_items(
 ) -> Result<(), AllocError>
     requires { CanRise draft.old.model (taken_of taken.now) shift (map code items.now) }
     ensures model { OnOk result (draft.new.model ≡ effects draft.old.model (ops.loop_ops draft.old.model (taken_of taken.now) shift (map code items.now))) }
-    ensures session { draft.new.session ≡ draft.old.session }
+    ensures further { IsFurther draft.old draft.new }
 {
     let count = items.len() as u32;
     raise_item(draft, taken, item_at(items, 0), 0, shift)?;
@@ -184,7 +187,7 @@ fn raise_loop(
     requires { Ready draft.old.model (taken_of taken.now) (face_of draft.old.model l) l shift (items_of (content draft.old.model l)) }
     ensures counters { IfOk result (λ after. taken_of after ≡ ops.taken_after (taken_of taken.now) (length (items_of (content draft.old.model l)))) }
     ensures model { OnOk result (draft.new.model ≡ effects draft.old.model (ops.loop_ops draft.old.model (taken_of taken.now) shift (items_of (content draft.old.model l)))) }
-    ensures session { draft.new.session ≡ draft.old.session }
+    ensures further { IsFurther draft.old draft.new }
 {
     let items = loop_items(alloc, draft.arena(), l)?;
     raise_items(draft, taken, items.as_slice(), shift)?;
@@ -202,7 +205,7 @@ pub(crate) fn raise(
     requires taken { taken_of taken.now ≡ taken_in draft.old.model }
     requires accepted { prism_refusal draft.old.model f shift ≡ None }
     ensures model { OnOk result (draft.new.model ≡ prism_model draft.old.model f shift) }
-    ensures session { draft.new.session ≡ draft.old.session }
+    ensures further { IsFurther draft.old draft.new }
 {
     let arena = draft.arena();
     let outer = arena.outer(f);

@@ -5,9 +5,9 @@ ghost use Rattle.euler_operators.specs.Conditions.{verdict};
 ghost use Rattle.euler_operators.specs.declared.Refusal.{Refusal};
 ghost use Rattle.euler_conditions.specs.Ready.{IsReady};
 ghost use Rattle.shapes.specs.Fresh.{taken_in};
-ghost use Rattle.shapes.specs.Prism.{prism_refusal};
+ghost use Rattle.shapes.specs.Prism.{prism_refusal, prism_model};
 ghost use Rattle.solid_walks.specs.Counters.{taken_of};
-ghost use Rattle.undo_journal.specs.Journal.{IsRecorded};
+ghost use Rattle.undo_journal.specs.Journal.{IsRecorded, IsFurther};
 ghost use Rattle.sweeps.specs.Machine.{sweep, sweep_refusal};
 
 use crate::corners::face_tally;
@@ -15,7 +15,7 @@ use crate::raising::raise;
 use euler_conditions::Arena;
 use euler_operators::{Kind, Point, Refusal, Why, is_number, refused};
 use solid_walks::{Counters, check_left, counters_of, least_lone_of_face};
-use std::alloc::Global;
+use std::alloc::{AllocError, Global};
 use undo_journal::{Draft, Failure, Session};
 
 /// Whether a vector is zero.
@@ -56,6 +56,50 @@ fn check_sweep(arena: &Arena, taken: Counters, f: u32, shift: Point) -> Result<(
     check_left(taken, count, count, 2 * count, count)
 }
 
+/// Raises a face whose conditions hold. Where memory is refused the draft is as it was.
+#[tactic(auto, using(undo_journal::proofs::Marks::further_none, undo_journal::proofs::Marks::further_back))]
+fn try_raise(
+    alloc: Global,
+    draft: &mut Draft,
+    taken: &Counters,
+    f: u32,
+    shift: Point,
+) -> Result<(), AllocError>
+    requires taken { taken_of taken.now ≡ taken_in draft.old.model }
+    requires accepted { prism_refusal draft.old.model f shift ≡ None }
+    ensures model { OnOk result (draft.new.model ≡ prism_model draft.old.model f shift) }
+    ensures further { IsFurther draft.old draft.new }
+    ensures err { OnErr result (draft.new ≡ draft.old) }
+{
+    let mark = draft.mark();
+    match raise(alloc, draft, taken, f, shift) {
+        Ok(()) => Ok(()),
+        Err(error) => {
+            draft.back_to(mark);
+            Err(error)
+        }
+    }
+}
+
+/// A sweep as steps of a draft: as `sweep`, of the draft's model. On any failure the draft is as it was, and goes on.
+#[tactic(auto, using(undo_journal::proofs::Marks::further_none, undo_journal::proofs::Marks::further_back))]
+pub fn sweep_in(alloc: Global, draft: &mut Draft, f: u32, shift: Point) -> Result<(), Failure>
+    ensures ok { OnOk result ((prism_refusal draft.old.model f shift ≡ None) × (draft.new.model ≡ prism_model draft.old.model f shift)) }
+    ensures refused { (refusal : Refusal) → ((result ≡ Err (Failure.Refused refusal)) ↔ (prism_refusal draft.old.model f shift ≡ Some refusal)) }
+    ensures further { IsFurther draft.old draft.new }
+    ensures err { OnErr result (draft.new ≡ draft.old) }
+{
+    let arena = draft.arena();
+    let taken = counters_of(arena);
+    if let Err(refusal) = check_sweep(arena, taken, f, shift) {
+        return Err(Failure::Refused(refusal));
+    }
+    match try_raise(alloc, draft, &taken, f, shift) {
+        Ok(()) => Ok(()),
+        Err(error) => Err(Failure::Memory(error)),
+    }
+}
+
 /// A sweep as one command: face f moves by the shift. At each corner of its loops a new edge rises to a new vertex, and each edge of its
 /// loops gets a side face. Face f keeps its number and is the far face, with the new edges between the new vertices.
 ///
@@ -83,7 +127,7 @@ pub fn sweep(
         Ok(draft) => draft,
         Err((session, error)) => return (session, Err(Failure::Memory(error))),
     };
-    match raise(alloc, &mut draft, &taken, f, shift) {
+    match try_raise(alloc, &mut draft, &taken, f, shift) {
         Ok(()) => (draft.commit(), Ok(())),
         Err(error) => (draft.abandon(), Err(Failure::Memory(error))),
     }

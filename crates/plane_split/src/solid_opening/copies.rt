@@ -4,7 +4,7 @@ ghost use Rattle.euler_operators.specs.HalfEdge.{code};
 ghost use Rattle.euler_operators.specs.Model.{has_half};
 ghost use Rattle.euler_laws.specs.Laws.{effects};
 ghost use Rattle.euler_operators.specs.Conditions.{first_false};
-ghost use Rattle.undo_journal.specs.Journal.{after_step};
+ghost use Rattle.undo_journal.specs.Journal.{after_step, IsFurther};
 ghost use Rattle.split_drawing.specs.Counters.{taken_of};
 ghost use Rattle.split_opening_laws.specs.strips.StripOps as ops;
 ghost use Rattle.plane_split.specs.solid_opening.Stages.{AreStripped};
@@ -38,6 +38,7 @@ fn raise_copy(
     requires accepted { first_false draft.old.model (ops.raise_copy draft.old.model (taken_of from.now) (map code halves.now) at) ≡ None }
     ensures ok { OnOk result (draft.new ≡ after_step draft.old (ops.raise_copy draft.old.model (taken_of from.now) (map code halves.now) at)) }
     ensures err { OnErr result (draft.new ≡ draft.old) }
+    ensures further { IsFurther draft.old draft.new }
 {
     let count = halves.len() as u32;
     let back = HalfEdge::minus(from.edges + at + 1);
@@ -55,6 +56,7 @@ fn raise_copy(
 
 /// Raises a copy of each vertex of a cycle whose strips are cut off, with the numbers after those that the strips took. On
 /// `AllocError` some may be raised.
+#[tactic(auto, using(undo_journal::proofs::Marks::further_none))]
 pub(crate) fn raise_copies(
     draft: &mut Draft,
     s: u32,
@@ -63,7 +65,7 @@ pub(crate) fn raise_copies(
 ) -> Result<(), AllocError>
     requires { AreStripped draft.old.model s (taken_of from.now) (map code halves.now) }
     ensures model { OnOk result (draft.new.model ≡ effects draft.old.model (ops.copy_ops draft.old.model (taken_of from.now) (map code halves.now) (length halves.now))) }
-    ensures session { draft.new.session ≡ draft.old.session }
+    ensures further { IsFurther draft.old draft.new }
 {
     let count = halves.len() as u32;
     let mut i = 0;

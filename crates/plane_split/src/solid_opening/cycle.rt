@@ -5,6 +5,7 @@ ghost use Rattle.euler_laws.specs.Laws.{effects};
 ghost use Rattle.split_drawing.specs.Counters.{taken_of};
 ghost use Rattle.split_opening_laws.specs.opening.OpeningOps.{opening_ops};
 ghost use Rattle.plane_split.specs.solid_opening.Stages.{CanOpen};
+ghost use Rattle.undo_journal.specs.Journal.{IsFurther};
 
 use crate::solid_opening::caps::Caps;
 use crate::solid_opening::copies::raise_copies;
@@ -25,7 +26,7 @@ pub(crate) fn open_cycle(
 ) -> Result<(), AllocError>
     requires { CanOpen draft.old.model s (taken_of from.now) (map code halves.now) }
     ensures model { OnOk result (draft.new.model ≡ effects draft.old.model (opening_ops draft.old.model s (taken_of from.now) (map code halves.now))) }
-    ensures session { draft.new.session ≡ draft.old.session }
+    ensures further { IsFurther draft.old draft.new }
 {
     cut_strips(draft, s, from, halves)?;
     raise_copies(draft, s, from, halves)?;

@@ -3,6 +3,7 @@ ghost use Rattle.std.specs.Prelude.{◌≡◌, ◌≤◌, ◌+◌, ◌-◌, ◌*
 ghost use Rattle.euler_laws.specs.Laws.{AreAccepted, effects};
 ghost use Rattle.split_drawing.specs.Counters.{taken_of};
 ghost use Rattle.split_opening_laws.specs.caps.CapOps.{cap_ops, joinings};
+ghost use Rattle.undo_journal.specs.Journal.{IsFurther};
 
 use euler_operators::{HalfEdge, Op};
 use split_drawing::Counters;
@@ -16,7 +17,7 @@ fn join_strips(draft: &mut Draft, from: &Counters, count: u32) -> Result<(), All
     requires edges_left { from.now.edges + 2 * count ≤ 1000000 }
     requires accepted { AreAccepted draft.old.model (joinings (taken_of from.now) count (count - 1)) }
     ensures model { OnOk result (draft.new.model ≡ effects draft.old.model (joinings (taken_of from.now) count (count - 1))) }
-    ensures session { draft.new.session ≡ draft.old.session }
+    ensures further { IsFurther draft.old draft.new }
 {
     let last = from.edges + 2 * count;
     let mut riser = from.edges + count + 1;
@@ -35,7 +36,7 @@ pub(crate) fn make_caps(draft: &mut Draft, from: &Counters, count: u32) -> Resul
     requires edges_left { from.now.edges + 2 * count ≤ 1000000 }
     requires accepted { AreAccepted draft.old.model (cap_ops (taken_of from.now) count) }
     ensures model { OnOk result (draft.new.model ≡ effects draft.old.model (cap_ops (taken_of from.now) count)) }
-    ensures session { draft.new.session ≡ draft.old.session }
+    ensures further { IsFurther draft.old draft.new }
 {
     join_strips(draft, from, count)?;
     let ring = from.loops + count + 1;

@@ -4,6 +4,7 @@ ghost use Rattle.shapes.specs.split.Section.{is_hole};
 ghost use Rattle.split_opening_laws.specs.sections.InTurn.{CanBeOpenedInTurn};
 ghost use Rattle.split_sections.specs.section_checks.Sections.{cycles_of, hole_flags};
 ghost use Rattle.plane_split.specs.solid_opening.Capped.{all_caps, opened_section, unopened};
+ghost use Rattle.undo_journal.specs.Journal.{IsFurther};
 
 use crate::solid_opening::caps::Caps;
 use crate::solid_opening::cycle::{caps_after, counted_on, open_cycle};
@@ -16,6 +17,7 @@ use undo_journal::Draft;
 /// Opens solid s along each cycle of its section in turn, and closes it there by two caps: the caps of each cycle, in their order.
 ///
 /// On `AllocError` some steps may be taken; the session that the draft came from stands, and `abandon` gives it back.
+#[tactic(auto, using(undo_journal::proofs::Marks::further_none))]
 pub(crate) fn open_section(
     alloc: Global,
     draft: &mut Draft,
@@ -28,7 +30,7 @@ pub(crate) fn open_section(
     requires holes { hole_flags section.now ≡ map (is_hole draft.old.model plane.now) (cycles_of section.now) }
     ensures opened { IfOk result (λ caps. (draft.new.model ≡ (opened_section draft.old.model from.now s plane.now section.now).model)
         × (all_caps caps.items ≡ (opened_section draft.old.model from.now s plane.now section.now).caps)) }
-    ensures session { draft.new.session ≡ draft.old.session }
+    ensures further { IsFurther draft.old draft.new }
 {
     let mut taken = *from;
     let mut caps = Vec::new(alloc);

@@ -7,6 +7,7 @@ ghost use Rattle.shapes.specs.split.Split.{upper_left};
 ghost use Rattle.split_laws.specs.SplitOps.{hole_ops};
 ghost use Rattle.plane_split.specs.solid_opening.Capped.{all_caps, caps_of};
 ghost use Rattle.plane_split.specs.solid_opening.Closing.{holes_ops, outer_uppers};
+ghost use Rattle.undo_journal.specs.Journal.{IsFurther};
 
 use crate::solid_opening::caps::Caps;
 use euler_operators::{FaceList, Op};
@@ -35,7 +36,7 @@ fn outer_caps(caps: &[Caps]) -> Caps
 fn close_hole(draft: &mut Draft, outer: Caps, hole: Caps) -> Result<(), AllocError>
     requires { AreAccepted draft.old.model (Kfmrh outer.lower hole.lower ∷ Kfmrh outer.upper hole.upper ∷ []) }
     ensures model { OnOk result (draft.new.model ≡ effects draft.old.model (Kfmrh outer.lower hole.lower ∷ Kfmrh outer.upper hole.upper ∷ [])) }
-    ensures session { draft.new.session ≡ draft.old.session }
+    ensures further { IsFurther draft.old draft.new }
 {
     draft.step_accepted(Op::Kfmrh(outer.lower, hole.lower))?;
     draft.step_accepted(Op::Kfmrh(outer.upper, hole.upper))
@@ -43,10 +44,11 @@ fn close_hole(draft: &mut Draft, outer: Caps, hole: Caps) -> Result<(), AllocErr
 
 /// Makes the caps of each hole rings of the outer caps, where each of these operators is accepted in its turn. On `AllocError` some
 /// may be taken.
+#[tactic(auto, using(undo_journal::proofs::Marks::further_none))]
 fn close_holes(draft: &mut Draft, outer: Caps, caps: &[Caps]) -> Result<(), AllocError>
     requires { AreAccepted draft.old.model (holes_ops (caps_of outer) caps.now) }
     ensures model { OnOk result (draft.new.model ≡ effects draft.old.model (holes_ops (caps_of outer) caps.now)) }
-    ensures session { draft.new.session ≡ draft.old.session }
+    ensures further { IsFurther draft.old draft.new }
 {
     let mut rest = caps;
     'caps: while let [first, others @ ..] = rest {
@@ -97,7 +99,7 @@ pub(crate) fn part_upper(
 ) -> Result<(), AllocError>
     requires { AreAccepted draft.old.model (hole_ops (all_caps caps.now) ++ Part s upper (upper_left above.now (all_caps caps.now)) ∷ []) }
     ensures model { OnOk result (draft.new.model ≡ effects draft.old.model (hole_ops (all_caps caps.now) ++ Part s upper (upper_left above.now (all_caps caps.now)) ∷ [])) }
-    ensures session { draft.new.session ≡ draft.old.session }
+    ensures further { IsFurther draft.old draft.new }
 {
     close_holes(draft, outer_caps(caps), caps)?;
     let mut faces = listed(alloc, above)?;

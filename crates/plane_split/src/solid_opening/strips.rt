@@ -4,7 +4,7 @@ ghost use Rattle.euler_operators.specs.HalfEdge.{code, mate};
 ghost use Rattle.euler_operators.specs.Model.{has_half};
 ghost use Rattle.euler_laws.specs.Laws.{effects};
 ghost use Rattle.euler_operators.specs.Conditions.{first_false};
-ghost use Rattle.undo_journal.specs.Journal.{after_step};
+ghost use Rattle.undo_journal.specs.Journal.{after_step, IsFurther};
 ghost use Rattle.split_drawing.specs.Counters.{taken_of};
 ghost use Rattle.split_opening_laws.specs.strips.StripOps as ops;
 ghost use Rattle.plane_split.specs.solid_opening.Stages.{CanOpen};
@@ -30,6 +30,7 @@ fn cut_strip(
     requires accepted { first_false draft.old.model (ops.cut_strip draft.old.model (taken_of from.now) (map code halves.now) at) ≡ None }
     ensures ok { OnOk result (draft.new ≡ after_step draft.old (ops.cut_strip draft.old.model (taken_of from.now) (map code halves.now) at)) }
     ensures err { OnErr result (draft.new ≡ draft.old) }
+    ensures further { IsFurther draft.old draft.new }
 {
     let mate = halves[at as usize].mate();
     let next = next(draft.arena(), mate);
@@ -39,6 +40,7 @@ fn cut_strip(
 
 /// Cuts a strip off above each edge of a cycle along which solid s can be opened, with the numbers after those taken. On
 /// `AllocError` some may be cut off.
+#[tactic(auto, using(undo_journal::proofs::Marks::further_none))]
 pub(crate) fn cut_strips(
     draft: &mut Draft,
     s: u32,
@@ -47,7 +49,7 @@ pub(crate) fn cut_strips(
 ) -> Result<(), AllocError>
     requires { CanOpen draft.old.model s (taken_of from.now) (map code halves.now) }
     ensures model { OnOk result (draft.new.model ≡ effects draft.old.model (ops.strip_ops draft.old.model s (taken_of from.now) (map code halves.now) (length halves.now))) }
-    ensures session { draft.new.session ≡ draft.old.session }
+    ensures further { IsFurther draft.old draft.new }
 {
     let count = halves.len() as u32;
     let mut i = 0;

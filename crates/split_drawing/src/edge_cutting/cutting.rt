@@ -3,7 +3,7 @@ ghost use Rattle.std.specs.Prelude.{◌≡◌, ◌≤◌, ◌+◌, None, IfOk, O
 ghost use Rattle.euler_operators.specs.Conditions.{first_false};
 ghost use Rattle.euler_operators.specs.Sound.{Has, Sound};
 ghost use Rattle.shapes.specs.Fresh.{taken_in};
-ghost use Rattle.undo_journal.specs.Journal.{after_step};
+ghost use Rattle.undo_journal.specs.Journal.{after_step, IsFurther};
 ghost use Rattle.shapes.specs.split.Crossings.{with_crossings};
 ghost use Rattle.shapes.specs.split.Sides.{crossing_edges};
 ghost use Rattle.solid_walks.specs.Counters.{taken_of};
@@ -28,6 +28,7 @@ fn cut_edge(draft: &mut Draft, taken: Counters, cut: CutEdge) -> Result<Counters
     ensures counted { IfOk result (λ next. next ≡ record taken { edges = taken.edges + 1; vertices = taken.vertices + 1 }) }
     ensures ok { OnOk result (draft.new ≡ after_step draft.old (cut_op draft.old.model cut)) }
     ensures err { OnErr result (draft.new ≡ draft.old) }
+    ensures further { IsFurther draft.old draft.new }
 {
     let edges = taken.edges + 1;
     let vertices = taken.vertices + 1;
@@ -64,7 +65,7 @@ pub(crate) fn cut_edges(
     requires edges { edges.now ≡ map (cut_at draft.old.model plane.now) (crossing_edges draft.old.model plane.now s) }
     ensures model { OnOk result (draft.new.model ≡ (with_crossings draft.old.model s plane.now).model) }
     ensures counted { IfOk result (λ taken. taken_of taken ≡ taken_in draft.new.model) }
-    ensures session { draft.new.session ≡ draft.old.session }
+    ensures further { IsFurther draft.old draft.new }
 {
     let mut taken = counters_of(draft.arena());
     let mut rest = edges;

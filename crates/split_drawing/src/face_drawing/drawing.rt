@@ -1,7 +1,7 @@
 //! The second pass over the pairs of a face: each pair that is left cuts a new face off.
 ghost use Rattle.std.specs.Prelude.{◌≡◌, ◌≤◌, ◌+◌, None, OnOk, OnErr, IfOk, fold, map};
 ghost use Rattle.euler_operators.specs.Conditions.{first_false};
-ghost use Rattle.undo_journal.specs.Journal.{after_step};
+ghost use Rattle.undo_journal.specs.Journal.{after_step, IsFurther};
 ghost use Rattle.shapes.specs.split.Drawing.{draw_next};
 ghost use Rattle.split_drawing_laws.specs.drawings.DrawingOps as ops;
 ghost use Rattle.split_checks.specs.Cuts.{codes};
@@ -26,6 +26,7 @@ fn draw_pair(draft: &mut Draft, taken: Counters, pair: Pair) -> Result<Counters,
     ensures counted { IfOk result (λ next. next ≡ record taken { faces = taken.faces + 1; loops = taken.loops + 1; edges = taken.edges + 1 }) }
     ensures ok { OnOk result (draft.new ≡ after_step draft.old (ops.draw_pair (taken_of taken) (codes pair))) }
     ensures err { OnErr result (draft.new ≡ draft.old) }
+    ensures further { IsFurther draft.old draft.new }
 {
     let made = HalfEdge {
         edge: taken.edges + 1,
@@ -56,6 +57,7 @@ pub(crate) fn stuck_at(progress: Progress, f: u32) -> Progress
 
 /// Cuts new faces off face f between the pairs, each of which stands in one loop when its turn comes, and tells how far the drawing
 /// has come then: where a pair stands in different loops f can't be drawn. On `AllocError` some may be cut off.
+#[tactic(auto, using(undo_journal::proofs::Marks::further_none))]
 pub(crate) fn draw_pairs(
     draft: &mut Draft,
     from: Progress,
@@ -64,7 +66,7 @@ pub(crate) fn draw_pairs(
 ) -> Result<Progress, AllocError>
     requires { CanDraw f (drawing_of from draft.old.model (map codes pairs.now)) (map codes pairs.now) }
     ensures drawn { IfOk result (λ next. drawing_of next draft.new.model (map codes pairs.now) ≡ fold (draw_next f) (drawing_of from draft.old.model (map codes pairs.now)) (map codes pairs.now)) }
-    ensures session { draft.new.session ≡ draft.old.session }
+    ensures further { IsFurther draft.old draft.new }
 {
     let mut progress = from;
     let mut rest = pairs;

@@ -3,7 +3,7 @@ ghost use Rattle.std.specs.Prelude.{◌≡◌, ◌≤◌, ◌+◌, true, [], Non
 ghost use Rattle.euler_operators.specs.HalfEdge.{code};
 ghost use Rattle.euler_operators.specs.Model.{has_half};
 ghost use Rattle.euler_operators.specs.Conditions.{first_false};
-ghost use Rattle.undo_journal.specs.Journal.{after_step};
+ghost use Rattle.undo_journal.specs.Journal.{after_step, IsFurther};
 ghost use Rattle.shapes.specs.split.Drawing.{join_next};
 ghost use Rattle.split_drawing_laws.specs.drawings.DrawingOps as ops;
 ghost use Rattle.split_checks.specs.Cuts.{codes};
@@ -24,6 +24,7 @@ fn join_pair(draft: &mut Draft, taken: Counters, pair: Pair) -> Result<Counters,
     ensures counted { IfOk result (λ next. next ≡ record taken { edges = taken.edges + 1 }) }
     ensures ok { OnOk result (draft.new ≡ after_step draft.old (ops.join_pair draft.old.model (codes pair) (taken.edges + 1))) }
     ensures err { OnErr result (draft.new ≡ draft.old) }
+    ensures further { IsFurther draft.old draft.new }
 {
     let op = join_op(draft.arena(), pair, taken.edges + 1);
     draft.step_accepted(op)?;
@@ -35,6 +36,7 @@ fn join_pair(draft: &mut Draft, taken: Counters, pair: Pair) -> Result<Counters,
 
 /// Joins the pairs of face f that stand in different loops, each when its turn comes, and tells how far the drawing has come then. It
 /// leaves the pairs that stood in one loop, in their order, and nothing else, in the list. On `AllocError` some may be joined.
+#[tactic(auto, using(undo_journal::proofs::Marks::further_none))]
 pub(crate) fn join_pairs(
     draft: &mut Draft,
     from: Progress,
@@ -44,7 +46,7 @@ pub(crate) fn join_pairs(
 ) -> Result<Progress, AllocError>
     requires { CanJoin f (drawing_of from draft.old.model []) (map codes pairs.now) }
     ensures joined { IfOk result (λ joined. drawing_of joined draft.new.model (map codes left.new.items) ≡ fold join_next (drawing_of from draft.old.model []) (map codes pairs.now)) }
-    ensures session { draft.new.session ≡ draft.old.session }
+    ensures further { IsFurther draft.old draft.new }
 {
     left.clear();
     let mut progress = from;

@@ -5,6 +5,7 @@ ghost use Rattle.euler_operators.specs.Conditions.{has_rings};
 ghost use Rattle.euler_conditions.specs.Store.{has_number};
 ghost use Rattle.split_drawing_laws.specs.drawings.DrawingOps.{ring_ops};
 ghost use Rattle.split_drawing.specs.face_drawing.Stuck.{stuck_at};
+ghost use Rattle.undo_journal.specs.Journal.{IsFurther};
 
 use crate::face_drawing::drawing::stuck_at;
 use euler_conditions::Arena;
@@ -27,10 +28,11 @@ pub(crate) fn ring_free(arena: &Arena, progress: Progress, f: u32, count: usize)
 }
 
 /// Gives the rings to the face `to`, where each of these operators is accepted in its turn. On `AllocError` some may be given.
+#[tactic(auto, using(undo_journal::proofs::Marks::further_none))]
 pub(crate) fn move_rings(draft: &mut Draft, rings: &[u32], to: u32) -> Result<(), AllocError>
     requires { AreAccepted draft.old.model (ring_ops rings.now to) }
     ensures model { OnOk result (draft.new.model ≡ effects draft.old.model (ring_ops rings.now to)) }
-    ensures session { draft.new.session ≡ draft.old.session }
+    ensures further { IsFurther draft.old draft.new }
 {
     let mut rest = rings;
     'rings: while let [l, others @ ..] = rest {

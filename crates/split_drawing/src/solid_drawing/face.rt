@@ -6,6 +6,7 @@ ghost use Rattle.split_checks.specs.Cuts.{codes};
 ghost use Rattle.split_checks.specs.cut_places.Noted.{AreSides};
 ghost use Rattle.split_checks.specs.Progress.{drawing_of};
 ghost use Rattle.split_drawing.specs.solid_drawing.Drawn.{CanDrawFace, put_aside};
+ghost use Rattle.undo_journal.specs.Journal.{IsFurther};
 
 use crate::face_drawing::{draw_pairs, join_pairs, ring_free};
 use crate::solid_drawing::rings::share_rings;
@@ -32,7 +33,7 @@ pub(crate) fn draw_face(
     requires can { CanDrawFace plane f (map codes pairs.now) (drawing_of from draft.old.model []) }
     ensures drawn { IfOk result (λ drawn. drawing_of drawn draft.new.model [] ≡ put_aside (drawn_between plane f (map codes pairs.now) (drawing_of from draft.old.model []))) }
     ensures sides { OnOk result (AreSides draft.new.model plane sides.new) }
-    ensures session { draft.new.session ≡ draft.old.session }
+    ensures further { IsFurther draft.old draft.new }
 {
     let joined = join_pairs(draft, from, f, pairs, left)?;
     let looked_at = ring_free(draft.arena(), joined, f, pairs.len());

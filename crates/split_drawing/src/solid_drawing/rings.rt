@@ -8,6 +8,7 @@ ghost use Rattle.euler_operators.specs.Ranges.{IsCutPlane};
 ghost use Rattle.shapes.specs.split.Drawing.{rings_above, with_rings};
 ghost use Rattle.split_checks.specs.cut_places.Noted.{AreSides};
 ghost use Rattle.split_drawing_laws.specs.drawings.DrawingOps.{ring_ops};
+ghost use Rattle.undo_journal.specs.Journal.{IsFurther};
 
 use crate::face_drawing::move_rings;
 use euler_conditions::Arena;
@@ -44,6 +45,7 @@ fn rings_above(
 
 /// Gives the rings of face f above the plane to the face `to`, where each such step is accepted in its turn. On `AllocError` some may be
 /// given.
+#[tactic(auto, using(undo_journal::proofs::Marks::further_none))]
 pub(crate) fn share_rings(
     alloc: Global,
     draft: &mut Draft,
@@ -58,7 +60,7 @@ pub(crate) fn share_rings(
     requires accepted { AreAccepted draft.old.model (ring_ops (rings_above draft.old.model plane f) to) }
     ensures model { OnOk result (draft.new.model ≡ with_rings draft.old.model (rings_above draft.old.model plane f) to) }
     ensures sides { OnOk result (AreSides draft.new.model plane sides.new) }
-    ensures session { draft.new.session ≡ draft.old.session }
+    ensures further { IsFurther draft.old draft.new }
 {
     let rings = rings_above(alloc, draft.arena(), plane, sides, f)?;
     move_rings(draft, rings.as_slice(), to)?;

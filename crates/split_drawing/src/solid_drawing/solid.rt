@@ -7,6 +7,7 @@ ghost use Rattle.split_checks.specs.Progress.{drawing_of};
 ghost use Rattle.split_checks.specs.Cuts.{AreCuts, codes, how_many_pairs, paired};
 ghost use Rattle.split_checks.specs.cut_places.Noted.{AreSides};
 ghost use Rattle.split_drawing.specs.solid_drawing.Drawn.{CanDrawFaces, put_aside};
+ghost use Rattle.undo_journal.specs.Journal.{IsFurther};
 
 use crate::edge_cutting::cut_edges;
 use crate::solid_drawing::face::draw_face;
@@ -18,6 +19,7 @@ use undo_journal::Draft;
 
 /// Draws edges between the pairs of some faces, one face after the other, and tells how far the drawing has come then. The pairs come
 /// one face after the other. On `AllocError` some may be drawn.
+#[tactic(auto, using(undo_journal::proofs::Marks::further_none))]
 fn draw_faces(
     alloc: Global,
     draft: &mut Draft,
@@ -33,7 +35,7 @@ fn draw_faces(
     requires can { CanDrawFaces (paired faces.now (map codes pairs.now)) (drawing_of from draft.old.model []) }
     ensures drawn { IfOk result (λ drawn. drawing_of drawn draft.new.model [] ≡ put_aside (faces_drawn plane (drawing_of from draft.old.model []) (paired faces.now (map codes pairs.now)))) }
     ensures sides { OnOk result (AreSides draft.new.model plane sides.new) }
-    ensures session { draft.new.session ≡ draft.old.session }
+    ensures further { IsFurther draft.old draft.new }
 {
     let mut progress = from;
     let mut left = Vec::new(alloc);
@@ -69,7 +71,7 @@ pub fn draw_solid(
     requires sides { AreSides draft.old.model plane.now sides.old }
     ensures drawn { IfOk result (λ drawn. drawing_of drawn draft.new.model [] ≡ put_aside (with_drawings draft.old.model s plane.now)) }
     ensures sides { OnOk result (AreSides draft.new.model plane.now sides.new) }
-    ensures session { draft.new.session ≡ draft.old.session }
+    ensures further { IsFurther draft.old draft.new }
 {
     // the draft's model is sound
     draft.stays_consistent();

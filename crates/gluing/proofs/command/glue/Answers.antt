@@ -8,22 +8,22 @@ use Rattle.gluing.proofs.command.glue.Goals as goal
 pub returns-in-Err-clause-refused : goal.returns-in-Err-clause-refused
 returns-in-Err-clause-refused c = λ refusal is. sym (λ i. shapes.glue_refusal (c.arena.ensures.model i) c.args.f c.args.other) ∙ c.in-Err.ensures.refused refusal is
 
-pub join-requires : goal.join-requires
-join-requires c = ap (λ (d : DraftJournal). shapes.glue_refusal d.model c.args.f c.args.other) c.in-Ok.ensures.ok ∙ sym (ap (λ M. shapes.glue_refusal M c.args.f c.args.other) c.arena.ensures.model) ∙ c.in_default.ensures.ok
+pub try_join-requires : goal.try_join-requires
+try_join-requires c = ap (λ (d : DraftJournal). shapes.glue_refusal d.model c.args.f c.args.other) c.in-Ok.ensures.ok ∙ sym (ap (λ M. shapes.glue_refusal M c.args.f c.args.other) c.arena.ensures.model) ∙ c.in_default.ensures.ok
 
-pub returns-in-Ok-join-clause-ok : goal.returns-in-Ok-join-clause-ok
-returns-in-Ok-join-clause-ok c =
-    let model = c.in-Ok-join.ensures.model ∙ ap (λ (d : DraftJournal). glue_model d.model c.args.f c.args.other) c.in-Ok.ensures.ok in
-    let session = c.in-Ok-join.ensures.session ∙ ap (λ (d : DraftJournal). d.session) c.in-Ok.ensures.ok in (
+pub returns-in-Ok-try_join-clause-ok : goal.returns-in-Ok-try_join-clause-ok
+returns-in-Ok-try_join-clause-ok c =
+    let model = c.in-Ok-try_join.ensures.model ∙ ap (λ (d : DraftJournal). glue_model d.model c.args.f c.args.other) c.in-Ok.ensures.ok in
+    let session = c.in-Ok-try_join.ensures.further.session ∙ ap (λ (d : DraftJournal). d.session) c.in-Ok.ensures.ok in (
       sym (ap (λ M. shapes.glue_refusal M c.args.f c.args.other) c.arena.ensures.model) ∙ c.in_default.ensures.ok,
       ap (λ (j : Journal). j.machine) c.commit.ensures ∙ (λ t. accepted (session t).machine (model t)),
     )
 
-pub returns-in-Err-join-clause-ok : goal.returns-in-Err-join-clause-ok
-returns-in-Err-join-clause-ok c = tt
+pub returns-in-Err-try_join-clause-ok : goal.returns-in-Err-try_join-clause-ok
+returns-in-Err-try_join-clause-ok c = tt
 
-pub returns-in-Err-join-clause-recorded : goal.returns-in-Err-join-clause-recorded
-returns-in-Err-join-clause-recorded c = tt
+pub returns-in-Err-try_join-clause-recorded : goal.returns-in-Err-try_join-clause-recorded
+returns-in-Err-try_join-clause-recorded c = tt
 
-pub returns-in-Err-join-clause-err : goal.returns-in-Err-join-clause-err
-returns-in-Err-join-clause-err c = search rules
+pub returns-in-Err-try_join-clause-err : goal.returns-in-Err-try_join-clause-err
+returns-in-Err-try_join-clause-err c = search rules

@@ -1,10 +1,11 @@
-use Rattle.std.proofs.Common.{refl, ap, ◌∙◌}
+use Rattle.std.proofs.Common.{refl, ap}
 use Rattle.std.proofs.lemmas.Result.{on_ok_weaker}
 use Rattle.euler_operators.specs.HalfEdge.{code, half, mate, minus}
 use Rattle.euler_operators.proofs.Halves.{code-half}
 use Rattle.undo_journal.specs.Journal.{DraftJournal}
 use Rattle.euler_laws.proofs.Runs.{next_goes, next_taken, all_taken}
-use Rattle.gluing.proofs.Remaining.{closing_left, session_stays}
+use Rattle.undo_journal.proofs.Marks.{further_on}
+use Rattle.gluing.proofs.Remaining.{closing_left}
 use Rattle.gluing.proofs.joining.close_item.Goals as goal
 
 pub step_accepted-requires : goal.step_accepted-requires
@@ -32,8 +33,5 @@ returns-clause-model c =
     let two = next_taken one (ap (λ (d : DraftJournal). d.model) c.in_ok-step_accepted-2.ensures.ok) in
     on_ok_weaker c.step_accepted-3.result (λ step. all_taken (next_taken two (ap (λ (d : DraftJournal). d.model) step))) c.step_accepted-3.ensures.ok
 
-pub returns-clause-session : goal.returns-clause-session
-returns-clause-session c =
-    session_stays c.step_accepted-3.result _ _ _ c.step_accepted-3.ensures.ok c.step_accepted-3.ensures.err
-    ∙ ap (λ (d : DraftJournal). d.session) c.in_ok-step_accepted-2.ensures.ok
-    ∙ ap (λ (d : DraftJournal). d.session) c.in_ok-step_accepted.ensures.ok
+pub returns-clause-further : goal.returns-clause-further
+returns-clause-further c = further_on _ _ _ (further_on _ _ _ c.in_ok-step_accepted.ensures.further c.in_ok-step_accepted-2.ensures.further) c.step_accepted-3.ensures.further

@@ -11,7 +11,7 @@ use Rattle.shapes.specs.Faces.{start}
 use Rattle.solid_walks.proofs.face_walks_laws.HalfCodes.{codes_same, codes_differ}
 use Rattle.shapes.specs.glue.Glue.{rim, partner, glue_refusal}
 use Rattle.shapes.specs.glue.GlueOps.{fresh_edge}
-use Rattle.gluing.proofs.Remaining.{session_stays}
+use Rattle.undo_journal.proofs.Marks.{further_on}
 use Rattle.gluing.proofs.Opened as opened
 use Rattle.gluing.proofs.Joined as joined
 use Rattle.gluing.proofs.joining.join.Goals as goal
@@ -70,7 +70,7 @@ items-init c =
     let edge = c.spare_of-spare.ensures.edge ∙ ap fresh_edge c.arena-arena.ensures.model in
     record {
       joining = opened.opening_makes c.args.draft.now.model c.args.f c.args.other (subst Sound c.arena-arena.ensures.model c.arena-arena.ensures.ready.sound) c.requires (code c.first_item-first.result) (code c.item_at-across.result) c.spare_of-spare.result.edge first across edge c.open_seam.new.draft.model c.in_ok-open_seam.ensures.model;
-      session = c.in_ok-open_seam.ensures.session;
+      further = c.in_ok-open_seam.ensures.further;
     }
 
 pub neighbours-requires-clause-there : goal.neighbours-requires-clause-there
@@ -93,8 +93,8 @@ returns-then-eq-clause-model c =
     let makes = joined.last_makes _ _ _ _ _ c.items.invariant.joining (code c.neighbours.result.0) (code c.neighbours.result.1) previous next same (Kef c.mate.result) op in
     on_ok_weaker c.step_accepted.result (λ step. ap (λ (d : DraftJournal). d.model) step ∙ makes) c.step_accepted.ensures.ok
 
-pub returns-then-eq-clause-session : goal.returns-then-eq-clause-session
-returns-then-eq-clause-session c = session_stays c.step_accepted.result _ _ _ c.step_accepted.ensures.ok c.step_accepted.ensures.err ∙ c.items.invariant.session
+pub returns-then-eq-clause-further : goal.returns-then-eq-clause-further
+returns-then-eq-clause-further c = further_on _ _ _ c.items.invariant.further c.step_accepted.ensures.further
 
 pub close_item-requires : goal.close_item-requires
 close_item-requires c =
@@ -126,5 +126,5 @@ items-preserved c =
     let ring = c.spare_of-spare.ensures.ring ∙ ap (λ X. outer X c.args.other) c.arena-arena.ensures.model in
     record {
       joining = joined.closing_makes _ _ _ _ _ c.items.invariant.joining (code c.neighbours.result.0) (code c.neighbours.result.1) previous next other spare.edge spare.face spare.ring edge c.spare_of-spare.ensures.face ring c.close_item.new.draft.model c.in_ok-close_item.ensures.model;
-      session = c.in_ok-close_item.ensures.session ∙ c.items.invariant.session;
+      further = further_on _ _ _ c.items.invariant.further c.in_ok-close_item.ensures.further;
     }

@@ -1,13 +1,14 @@
-use Rattle.std.proofs.Common.{◌≡◌, length}
+use Rattle.std.proofs.Common.{length}
 use Rattle.euler_operators.specs.HalfEdge.{code}
 use Rattle.euler_operators.specs.Model.{cycle_of}
+use Rattle.undo_journal.specs.Journal.{IsFurther}
 use Rattle.gluing.proofs.Joined.{Joining}
 use Rattle.gluing.proofs.joining.join.Given as goal
 
 abbrev pub invariant-items : goal.invariant-items
 invariant-items l = record {
   joining : Joining l.fn.draft.model l.f l.other l.draft.model (code l.item);
-  session : l.draft.session ≡ l.fn.draft.session;
+  further : IsFurther l.fn.draft l.draft;
 }
 
 abbrev pub decreases-items : goal.decreases-items

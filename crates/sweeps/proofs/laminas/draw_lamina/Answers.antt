@@ -5,6 +5,7 @@ use Rattle.euler_operators.specs.declared.Op.TheVariants.{Mef}
 use Rattle.euler_operators.proofs.Halves.{half-plus, half-minus}
 use Rattle.undo_journal.specs.Journal.{DraftJournal}
 use Rattle.sweeps.proofs.Drawing.{begun, first_is, first_goes, first_along, next_goes, next_along, last_goes, last_done}
+use Rattle.undo_journal.proofs.Marks.{further_on}
 use Rattle.sweeps.proofs.laminas.draw_lamina.Goals as goal
 
 pub point_at-first-requires : goal.point_at-first-requires
@@ -20,7 +21,7 @@ step_accepted-requires c =
 pub further-init : goal.further-init
 further-init c =
     let g = begun c.args.draft.now.model c.args.taken.now c.args.solid c.args.points.now c.stays_consistent.ensures.model c.requires.taken c.requires.accepted in
-    (first_along _ _ c.args.solid c.args.points.now g _ _ (ap (λ (d : DraftJournal). d.model) c.in_ok-step_accepted.ensures.ok) (first_is _ _ c.args.solid c.args.points.now g _ _ refl c.point_at-first.ensures), ap (λ (d : DraftJournal). d.session) c.in_ok-step_accepted.ensures.ok)
+    (first_along _ _ c.args.solid c.args.points.now g _ _ (ap (λ (d : DraftJournal). d.model) c.in_ok-step_accepted.ensures.ok) (first_is _ _ c.args.solid c.args.points.now g _ _ refl c.point_at-first.ensures), c.in_ok-step_accepted.ensures.further)
 
 pub step_accepted-requires-in-further : goal.step_accepted-requires-in-further
 step_accepted-requires-in-further c =
@@ -33,7 +34,7 @@ further-preserved c =
     let g = begun c.args.draft.now.model c.args.taken.now c.args.solid c.args.points.now c.stays_consistent.ensures.model c.requires.taken c.requires.accepted in
     let l : c.further.i < length c.args.points.now = search rules in (
       next_along _ _ c.args.solid c.args.points.now g c.further.i _ c.further.end c.further.invariant.0 _ _ _ _ refl (c.plus.ensures ∙ half-plus _) refl c.point_at-next.ensures l _ _ (ap (λ (d : DraftJournal). d.model) c.in_ok-step_accepted-2.ensures.ok) (c.minus.ensures ∙ half-minus _),
-      ap (λ (d : DraftJournal). d.session) c.in_ok-step_accepted-2.ensures.ok ∙ c.further.invariant.1,
+      further_on _ _ _ c.further.invariant.1 c.in_ok-step_accepted-2.ensures.further,
     )
 
 pub step_accepted-requires-2 : goal.step_accepted-requires-2

@@ -1,7 +1,7 @@
-use Rattle.std.proofs.Common.{◌≡◌}
 use Rattle.solid_walks.specs.Counters.{taken_of}
 use Rattle.sweeps.proofs.Drawing.{Along}
+use Rattle.undo_journal.specs.Journal.{IsFurther}
 use Rattle.sweeps.proofs.laminas.draw_lamina.Given as goal
 
 abbrev pub invariant-further : goal.invariant-further
-invariant-further l = Along l.fn.draft.model (taken_of l.taken) l.solid l.points l.i l.draft.model l.end × (l.draft.session ≡ l.fn.draft.session)
+invariant-further l = Along l.fn.draft.model (taken_of l.taken) l.solid l.points l.i l.draft.model l.end × IsFurther l.fn.draft l.draft

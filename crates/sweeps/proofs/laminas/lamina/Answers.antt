@@ -6,18 +6,18 @@ use Rattle.undo_journal.specs.Machine.{accepted}
 use Rattle.sweeps.proofs.Drawing.{passed}
 use Rattle.sweeps.proofs.laminas.lamina.Goals as goal
 
-pub draw_lamina-requires-clause-accepted : goal.draw_lamina-requires-clause-accepted
-draw_lamina-requires-clause-accepted c =
+pub try_lamina-requires-clause-accepted : goal.try_lamina-requires-clause-accepted
+try_lamina-requires-clause-accepted c =
     ap (λ ps. lamina_refusal c.in-Ok.draft.model c.args.solid ps) c.as_slice.ensures.value ∙ ap (λ (d : DraftJournal). lamina_refusal d.model c.args.solid c.args.points.now.items) c.in-Ok.ensures.ok
     ∙ sym (ap (λ M. lamina_refusal M c.args.solid c.args.points.now.items) c.arena-arena.ensures.model) ∙ passed _ _ (sym c.check_lamina.ensures ∙ c.in_default.is)
 
-pub returns-in-Ok-draw_lamina-clause-ok : goal.returns-in-Ok-draw_lamina-clause-ok
-returns-in-Ok-draw_lamina-clause-ok c =
-    let model = c.in-Ok-draw_lamina.ensures.ok ∙ ap (λ ps. lamina_model c.in-Ok.draft.model c.args.solid ps) c.as_slice.ensures.value ∙ ap (λ (d : DraftJournal). lamina_model d.model c.args.solid c.args.points.now.items) c.in-Ok.ensures.ok in
-    let session = c.in-Ok-draw_lamina.ensures.session ∙ ap (λ (d : DraftJournal). d.session) c.in-Ok.ensures.ok in (
+pub returns-in-Ok-try_lamina-clause-ok : goal.returns-in-Ok-try_lamina-clause-ok
+returns-in-Ok-try_lamina-clause-ok c =
+    let model = c.in-Ok-try_lamina.ensures.ok ∙ ap (λ ps. lamina_model c.in-Ok.draft.model c.args.solid ps) c.as_slice.ensures.value ∙ ap (λ (d : DraftJournal). lamina_model d.model c.args.solid c.args.points.now.items) c.in-Ok.ensures.ok in
+    let session = c.in-Ok-try_lamina.ensures.further.session ∙ ap (λ (d : DraftJournal). d.session) c.in-Ok.ensures.ok in (
       sym (ap (λ M. lamina_refusal M c.args.solid c.args.points.now.items) c.arena-arena.ensures.model) ∙ passed _ _ (sym c.check_lamina.ensures ∙ c.in_default.is),
       ap (λ (j : Journal). j.machine) c.commit.ensures ∙ (λ t. accepted (session t).machine (model t)),
     )
 
-pub draw_lamina-requires-clause-taken : goal.draw_lamina-requires-clause-taken
-draw_lamina-requires-clause-taken c = c.counters_of-taken.ensures.is ∙ ap taken_in c.arena-arena.ensures.model ∙ sym (ap (λ (d : DraftJournal). taken_in d.model) c.in-Ok.ensures.ok)
+pub try_lamina-requires-clause-taken : goal.try_lamina-requires-clause-taken
+try_lamina-requires-clause-taken c = c.counters_of-taken.ensures.is ∙ ap taken_in c.arena-arena.ensures.model ∙ sym (ap (λ (d : DraftJournal). taken_in d.model) c.in-Ok.ensures.ok)

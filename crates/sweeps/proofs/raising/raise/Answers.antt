@@ -10,6 +10,7 @@ use Rattle.sweeps_laws.proofs.prism.Whole.{Going}
 use Rattle.sweeps_laws.proofs.prism.Accepted.{face_there}
 use Rattle.solid_walks.specs.Counters.{taken_of}
 use Rattle.sweeps.proofs.RaisedLoops as raised
+use Rattle.undo_journal.proofs.Marks.{further_none, further_on}
 use Rattle.sweeps.proofs.raising.raise.Goals as goal
 
 pub outer-outer-requires : goal.outer-outer-requires
@@ -40,7 +41,7 @@ rings-init c =
       model = ap (λ xs. (prism_from f d (record { model = X; taken = t }) xs).model) c.as_slice-rest.ensures.value
           ∙ raised.loop_model M M k f d outer rs going X c.in_ok-taken.ensures.model t c.in_ok-taken.ensures.counters
           ∙ raised.all_model M A c.arena-arena.ensures.model c.arena-arena.ensures.ready.sound f d c.requires.accepted k (c.requires.taken ∙ ap taken_in (sym c.arena-arena.ensures.model)) outer c.outer-outer.ensures rs rings;
-      session = c.in_ok-taken.ensures.session;
+      further = c.in_ok-taken.ensures.further;
     }
 
 pub raise_loop-requires-in-len1-up : goal.raise_loop-requires-in-len1-up
@@ -57,5 +58,8 @@ rings-preserved c =
       going = raised.loop_next M N k f d (raised.first rest) (raised.others rest) going X c.in_ok-taken-2.ensures.model t c.in_ok-taken-2.ensures.counters;
       model = raised.loop_model M N k f d (raised.first rest) (raised.others rest) going X c.in_ok-taken-2.ensures.model t c.in_ok-taken-2.ensures.counters
           ∙ raised.same_model M N k f d rest c.in-len1-up.len_at_least ∙ c.rings.invariant.model;
-      session = c.in_ok-taken-2.ensures.session ∙ c.rings.invariant.session;
+      further = further_on _ _ _ c.rings.invariant.further c.in_ok-taken-2.ensures.further;
     }
+
+pub returns-in_err-rings-clause-further : goal.returns-in_err-rings-clause-further
+returns-in_err-rings-clause-further c = further_none _

@@ -7,6 +7,7 @@ use Rattle.sweeps_laws.specs.prism.SweepOps.{close, close_last}
 use Rattle.sweeps_laws.proofs.prism.Sides.{two_items}
 use Rattle.solid_walks.specs.Counters.{taken_of}
 use Rattle.sweeps.proofs.RaisedItems as raised
+use Rattle.undo_journal.proofs.Marks.{further_on}
 use Rattle.sweeps.proofs.raising.raise_items.Goals as goal
 
 pub item_at-requires : goal.item_at-requires
@@ -31,7 +32,7 @@ pub items-init : goal.items-init
 items-init c = record {
   inside = omega (arith, two_items _ _ _ _ _ _ c.requires.ready);
   model = ap (λ (x : DraftJournal). x.model) c.in_ok-raise_item.ensures.ok ∙ raised.after_first _ _ _ _ _ _ c.requires.ready c.args.items.now refl c.item_at.result c.item_at.ensures;
-  session = ap (λ (x : DraftJournal). x.session) c.in_ok-raise_item.ensures.ok;
+  further = c.in_ok-raise_item.ensures.further;
 }
 
 more : (n k : ℕ) → k ≡ n → (i : ℕ) → i + 1 < k → i + 1 < n
@@ -58,7 +59,7 @@ items-preserved c = record {
       ∙ ap (λ n. effect c.raise_item-in-items.new.draft.model (close (taken_of c.args.taken.now) n c.items.done)) (raised.how_many _ _ _ _ _ _ c.requires.ready c.args.items.now refl)
       ∙ raised.after_next _ _ _ _ _ _ c.requires.ready c.args.items.now refl c.items.done c.items.draft.model c.items.invariant.model (more _ _ (raised.how_many _ _ _ _ _ _ c.requires.ready c.args.items.now refl) c.items.done c.items-test.true) c.item_at-in-items.result c.item_at-in-items.ensures
       c.raise_item-in-items.new.draft.model (ap (λ (x : DraftJournal). x.model) c.in_ok-raise_item-2.ensures.ok);
-  session = ap (λ (x : DraftJournal). x.session) c.in_ok-close_side.ensures.ok ∙ ap (λ (x : DraftJournal). x.session) c.in_ok-raise_item-2.ensures.ok ∙ c.items.invariant.session;
+  further = further_on _ _ _ (further_on _ _ _ c.items.invariant.further c.in_ok-raise_item-2.ensures.further) c.in_ok-close_side.ensures.further;
 }
 
 pub close_last-requires-clause-some : goal.close_last-requires-clause-some

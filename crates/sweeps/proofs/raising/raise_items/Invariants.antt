@@ -3,13 +3,14 @@ use Rattle.euler_operators.specs.HalfEdge.{code}
 use Rattle.euler_laws.specs.Laws.{effects}
 use Rattle.sweeps_laws.specs.prism.SweepOps.{rounds}
 use Rattle.solid_walks.specs.Counters.{taken_of}
+use Rattle.undo_journal.specs.Journal.{IsFurther}
 use Rattle.sweeps.proofs.raising.raise_items.Given as goal
 
 abbrev pub invariant-items : goal.invariant-items
 invariant-items l = record {
   inside : l.done < length (map code l.items);
   model : l.draft.model ≡ effects l.fn.draft.model (rounds l.fn.draft.model (taken_of l.taken) l.shift (map code l.items) l.done);
-  session : l.draft.session ≡ l.fn.draft.session;
+  further : IsFurther l.fn.draft l.draft;
 }
 
 abbrev pub decreases-items : goal.decreases-items

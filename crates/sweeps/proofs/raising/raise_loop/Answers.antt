@@ -8,6 +8,7 @@ use Rattle.sweeps_laws.specs.prism.Ready.{Ready}
 use Rattle.sweeps_laws.proofs.prism.Sides.{content_is}
 use Rattle.solid_walks.specs.Counters.{taken_of}
 use Rattle.sweeps.proofs.RaisedItems as raised
+use Rattle.undo_journal.proofs.Marks.{further_none}
 use Rattle.sweeps.proofs.raising.raise_loop.Goals as goal
 
 pub loop_items-requires-clause-held : goal.loop_items-requires-clause-held
@@ -39,3 +40,6 @@ returns-clause-model c =
     let are = ap (map code) c.as_slice.ensures.value ∙ c.in_ok-items.ensures ∙ ap (λ X. items_of (content X c.args.l)) c.arena.ensures.model in
     let M = c.args.draft.now.model in
     c.in_ok-raise_items.ensures.model ∙ ap (λ hs. effects M (loop_ops M (taken_of c.args.taken.now) c.args.shift hs)) are
+
+pub returns-in_err-items-clause-further : goal.returns-in_err-items-clause-further
+returns-in_err-items-clause-further c = further_none _

@@ -6,22 +6,22 @@ use Rattle.undo_journal.specs.Machine.{accepted}
 use Rattle.sweeps.proofs.Drawing.{passed}
 use Rattle.sweeps.proofs.sweeping.sweep.Goals as goal
 
-pub returns-in-Ok-raise-clause-ok : goal.returns-in-Ok-raise-clause-ok
-returns-in-Ok-raise-clause-ok c =
-    let model = c.in-Ok-raise.ensures.model ∙ ap (λ (d : DraftJournal). prism_model d.model c.args.f c.args.shift) c.in-Ok.ensures.ok in
-    let session = c.in-Ok-raise.ensures.session ∙ ap (λ (d : DraftJournal). d.session) c.in-Ok.ensures.ok in (
+pub returns-in-Ok-try_raise-clause-ok : goal.returns-in-Ok-try_raise-clause-ok
+returns-in-Ok-try_raise-clause-ok c =
+    let model = c.in-Ok-try_raise.ensures.model ∙ ap (λ (d : DraftJournal). prism_model d.model c.args.f c.args.shift) c.in-Ok.ensures.ok in
+    let session = c.in-Ok-try_raise.ensures.further.session ∙ ap (λ (d : DraftJournal). d.session) c.in-Ok.ensures.ok in (
       sym (ap (λ M. prism_refusal M c.args.f c.args.shift) c.arena-arena.ensures.model) ∙ passed _ _ (sym c.check_sweep.ensures ∙ c.in_default.is),
       ap (λ (j : Journal). j.machine) c.commit.ensures ∙ (λ t. accepted (session t).machine (model t)),
     )
 
-pub raise-requires-clause-taken : goal.raise-requires-clause-taken
-raise-requires-clause-taken c = c.counters_of-taken.ensures.is ∙ ap taken_in c.arena-arena.ensures.model ∙ sym (ap (λ (d : DraftJournal). taken_in d.model) c.in-Ok.ensures.ok)
+pub try_raise-requires-clause-taken : goal.try_raise-requires-clause-taken
+try_raise-requires-clause-taken c = c.counters_of-taken.ensures.is ∙ ap taken_in c.arena-arena.ensures.model ∙ sym (ap (λ (d : DraftJournal). taken_in d.model) c.in-Ok.ensures.ok)
 
-pub returns-in-Err-raise-clause-ok : goal.returns-in-Err-raise-clause-ok
-returns-in-Err-raise-clause-ok c = tt
+pub returns-in-Err-try_raise-clause-ok : goal.returns-in-Err-try_raise-clause-ok
+returns-in-Err-try_raise-clause-ok c = tt
 
-pub returns-in-Err-raise-clause-recorded : goal.returns-in-Err-raise-clause-recorded
-returns-in-Err-raise-clause-recorded c = tt
+pub returns-in-Err-try_raise-clause-recorded : goal.returns-in-Err-try_raise-clause-recorded
+returns-in-Err-try_raise-clause-recorded c = tt
 
-pub returns-in-Err-raise-clause-err : goal.returns-in-Err-raise-clause-err
-returns-in-Err-raise-clause-err c = search rules
+pub returns-in-Err-try_raise-clause-err : goal.returns-in-Err-try_raise-clause-err
+returns-in-Err-try_raise-clause-err c = search rules

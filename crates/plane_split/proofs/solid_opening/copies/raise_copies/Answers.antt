@@ -6,6 +6,7 @@ use Rattle.split_drawing.specs.Counters.{taken_of}
 use Rattle.split_opening_laws.specs.strips.StripOps.{copy_ops}
 use Rattle.plane_split.proofs.solid_opening_laws.Cycles.{inside_codes, edges_left, vertices_left}
 use Rattle.plane_split.proofs.solid_opening_laws.Raised.{half_there, copy_goes, one_raised}
+use Rattle.undo_journal.proofs.Marks.{further_on}
 use Rattle.plane_split.proofs.solid_opening.copies.raise_copies.Goals as goal
 
 pub raise_copy-requires-clause-there : goal.raise_copy-requires-clause-there
@@ -25,7 +26,7 @@ copies-preserved c = record {
   inside = omega (arith, c.copies-test.true);
   model = one_raised c.args.draft.now.model c.args.s (taken_of c.args.from.now) (map code c.args.halves.now) c.requires c.copies.i (inside_codes c.args.halves.now c.copies.i c.copies-test.true) c.copies.draft.model c.copies.invariant.model
       c.raise_copy.new.draft.model (ap (λ (d : DraftJournal). d.model) c.in_ok-raise_copy.ensures.ok);
-  session = ap (λ (d : DraftJournal). d.session) c.in_ok-raise_copy.ensures.ok ∙ c.copies.invariant.session;
+  further = further_on _ _ _ c.copies.invariant.further c.in_ok-raise_copy.ensures.further;
 }
 
 pub returns-clause-model : goal.returns-clause-model

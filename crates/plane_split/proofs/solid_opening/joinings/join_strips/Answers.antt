@@ -1,8 +1,9 @@
-use Rattle.std.proofs.Common.{◌∙◌, ◌+◌, ◌*◌, ap, sym, refl, subst, arith}
+use Rattle.std.proofs.Common.{◌∙◌, ◌+◌, ◌*◌, ap, sym, subst, arith}
 use Rattle.euler_laws.specs.Laws.{AreAccepted, effects}
 use Rattle.undo_journal.specs.Journal.{DraftJournal}
 use Rattle.split_drawing.specs.Counters.{taken_of}
 use Rattle.plane_split.proofs.solid_opening_laws.Killed.{all_kills, no_kills, kill_goes, kills_go, kills_made}
+use Rattle.undo_journal.proofs.Marks.{further_none, further_on}
 use Rattle.plane_split.proofs.solid_opening.joinings.join_strips.Goals as goal
 
 pub risers-init : goal.risers-init
@@ -12,7 +13,7 @@ risers-init c =
       inside = omega (arith, c.requires.some);
       accepted = subst (AreAccepted c.args.draft.now.model) (sym all) c.requires.accepted;
       made = ap (effects c.args.draft.now.model) all;
-      session = refl;
+      further = further_none _;
     }
 
 pub step_accepted-requires : goal.step_accepted-requires
@@ -26,7 +27,7 @@ risers-preserved c =
       inside = omega (arith, c.risers-test.true);
       accepted = kills_go c.risers.draft.model c.risers.riser last c.risers-test.true c.risers.invariant.accepted c.minus.result c.minus.ensures c.step_accepted.new.self.model is;
       made = kills_made c.risers.draft.model c.risers.riser last c.risers-test.true c.risers.invariant.accepted c.minus.result c.minus.ensures c.step_accepted.new.self.model is ∙ c.risers.invariant.made;
-      session = ap (λ (d : DraftJournal). d.session) c.in_ok-step_accepted.ensures.ok ∙ c.risers.invariant.session;
+      further = further_on _ _ _ c.risers.invariant.further c.in_ok-step_accepted.ensures.further;
     }
 
 pub returns-clause-model : goal.returns-clause-model

@@ -3,6 +3,7 @@ use Rattle.euler_laws.specs.Laws.{AreAccepted, effects}
 use Rattle.split_drawing.specs.Counters.{taken_of}
 use Rattle.split_opening_laws.specs.caps.CapOps.{joinings}
 use Rattle.plane_split.proofs.solid_opening_laws.Killed.{kills}
+use Rattle.undo_journal.specs.Journal.{IsFurther}
 use Rattle.plane_split.proofs.solid_opening.joinings.join_strips.Given as goal
 
 abbrev pub invariant-risers : goal.invariant-risers
@@ -10,7 +11,7 @@ invariant-risers l = record {
   inside : l.riser ≤ l.from.edges + 2 * l.count;
   accepted : AreAccepted l.draft.model (kills l.riser (l.from.edges + 2 * l.count));
   made : effects l.draft.model (kills l.riser (l.from.edges + 2 * l.count)) ≡ effects l.fn.draft.model (joinings (taken_of l.from) l.count (l.count - 1));
-  session : l.draft.session ≡ l.fn.draft.session;
+  further : IsFurther l.fn.draft l.draft;
 }
 
 abbrev pub decreases-risers : goal.decreases-risers

@@ -1,5 +1,6 @@
 use Rattle.std.proofs.Common.{◌∙◌}
 use Rattle.plane_split.proofs.solid_opening_laws.Turns.{cycle_opens, others_left}
+use Rattle.undo_journal.proofs.Marks.{further_on}
 use Rattle.plane_split.proofs.solid_opening.opening.open_section.Goals as goal
 
 pub open_cycle-requires : goal.open_cycle-requires
@@ -15,5 +16,5 @@ cycles-preserved c =
       opens = left.0;
       holes = left.1;
       made = left.2 ∙ c.cycles.invariant.made;
-      session = c.in_ok-open_cycle.ensures.session ∙ c.cycles.invariant.session;
+      further = further_on _ _ _ c.cycles.invariant.further c.in_ok-open_cycle.ensures.further;
     }

@@ -4,6 +4,7 @@ use Rattle.shapes.specs.split.Opening.{all_opened}
 use Rattle.split_opening_laws.specs.sections.InTurn.{CanBeOpenedInTurn}
 use Rattle.split_sections.specs.section_cycles.Halves.{halves_of}
 use Rattle.plane_split.specs.solid_opening.Capped.{opening_of, opened_section}
+use Rattle.undo_journal.specs.Journal.{IsFurther}
 use Rattle.plane_split.proofs.solid_opening.opening.open_section.Given as goal
 
 abbrev pub invariant-cycles : goal.invariant-cycles
@@ -11,7 +12,7 @@ invariant-cycles l = record {
   opens : CanBeOpenedInTurn l.section.above.items l.s (opening_of l.draft.model l.taken l.caps.items) (map halves_of l.rest);
   holes : map (λ q. q.hole) l.rest ≡ map (is_hole l.draft.model l.plane) (map halves_of l.rest);
   made : all_opened l.plane l.section.above.items l.s (opening_of l.draft.model l.taken l.caps.items) (map halves_of l.rest) ≡ opened_section l.fn.draft.model l.fn.from l.s l.plane l.section;
-  session : l.draft.session ≡ l.fn.draft.session;
+  further : IsFurther l.fn.draft l.draft;
 }
 
 abbrev pub decreases-cycles : goal.decreases-cycles

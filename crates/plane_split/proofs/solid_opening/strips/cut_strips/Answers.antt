@@ -6,6 +6,7 @@ use Rattle.split_drawing.specs.Counters.{taken_of}
 use Rattle.split_opening_laws.specs.strips.StripOps.{strip_ops}
 use Rattle.plane_split.proofs.solid_opening_laws.Cycles.{inside_codes, edges_left, faces_left, loops_left}
 use Rattle.plane_split.proofs.solid_opening_laws.CutOff.{mate_there, strip_goes, one_more}
+use Rattle.undo_journal.proofs.Marks.{further_on}
 use Rattle.plane_split.proofs.solid_opening.strips.cut_strips.Goals as goal
 
 pub cut_strip-requires-clause-there : goal.cut_strip-requires-clause-there
@@ -28,7 +29,7 @@ strips-preserved c = record {
   inside = omega (arith, c.strips-test.true);
   model = one_more c.args.draft.now.model c.args.s (taken_of c.args.from.now) (map code c.args.halves.now) c.requires c.strips.i (inside_codes c.args.halves.now c.strips.i c.strips-test.true) c.strips.draft.model c.strips.invariant.model
       c.cut_strip.new.draft.model (ap (λ (d : DraftJournal). d.model) c.in_ok-cut_strip.ensures.ok);
-  session = ap (λ (d : DraftJournal). d.session) c.in_ok-cut_strip.ensures.ok ∙ c.strips.invariant.session;
+  further = further_on _ _ _ c.strips.invariant.further c.in_ok-cut_strip.ensures.further;
 }
 
 pub returns-clause-model : goal.returns-clause-model

@@ -3,13 +3,14 @@ use Rattle.euler_operators.specs.HalfEdge.{code}
 use Rattle.euler_laws.specs.Laws.{effects}
 use Rattle.split_drawing.specs.Counters.{taken_of}
 use Rattle.split_opening_laws.specs.strips.StripOps.{strip_ops}
+use Rattle.undo_journal.specs.Journal.{IsFurther}
 use Rattle.plane_split.proofs.solid_opening.strips.cut_strips.Given as goal
 
 abbrev pub invariant-strips : goal.invariant-strips
 invariant-strips l = record {
   inside : l.i ≤ length l.halves;
   model : l.draft.model ≡ effects l.fn.draft.model (strip_ops l.fn.draft.model l.s (taken_of l.from) (map code l.halves) l.i);
-  session : l.draft.session ≡ l.fn.draft.session;
+  further : IsFurther l.fn.draft l.draft;
 }
 
 abbrev pub decreases-strips : goal.decreases-strips

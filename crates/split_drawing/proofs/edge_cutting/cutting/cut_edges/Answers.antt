@@ -1,10 +1,11 @@
-use Rattle.std.proofs.Common.{◌∙◌, ap, sym, subst, refl}
+use Rattle.std.proofs.Common.{◌∙◌, ap, sym, subst}
 use Rattle.undo_journal.specs.Journal.{DraftJournal}
 use Rattle.euler_operators.specs.Conditions.{first_false}
 use Rattle.euler_operators.specs.Effect.{effect}
 use Rattle.shapes.specs.Fresh.{taken_in}
 use Rattle.shapes.specs.split.Sides.{crossing_edges}
 use Rattle.split_drawing.proofs.edge_cutting_laws.Remaining.{Cutting, AreAt, edges_in, no_cut, all_at, edges_at, begins, opened, opened_at, next_goes, next_crosses, next_op, next_taken, next_counted, edge_left, vertex_left}
+use Rattle.undo_journal.proofs.Marks.{further_none, further_on}
 use Rattle.split_drawing.proofs.edge_cutting.cutting.cut_edges.Goals as goal
 
 pub edges-init : goal.edges-init
@@ -14,7 +15,7 @@ edges-init c =
       cutting = subst (λ cs. Cutting M c.args.s p M (edges_in cs)) (sym c.requires.edges) (subst (Cutting M c.args.s p M) (sym (edges_at M p es)) (begins M c.args.s p c.requires.sound c.requires.begins));
       points = subst (AreAt M p) (sym c.requires.edges) (all_at M p es);
       counted = c.counters_of-taken.ensures.is ∙ ap taken_in c.arena.ensures.model;
-      session = refl;
+      further = further_none _;
     }
 
 pub cut_edge-requires-clause-there : goal.cut_edge-requires-clause-there
@@ -40,5 +41,5 @@ edges-preserved c =
       cutting = next_taken _ _ _ _ _ _ next c.cut_edge.new.draft.model model;
       points = at.1;
       counted = next_counted _ _ _ _ _ _ next c.cut_edge.new.draft.model model c.edges.taken c.edges.invariant.counted _ c.in_ok-taken.ensures.counted;
-      session = ap (λ (d : DraftJournal). d.session) c.in_ok-taken.ensures.ok ∙ c.edges.invariant.session;
+      further = further_on _ _ _ c.edges.invariant.further c.in_ok-taken.ensures.further;
     }

@@ -2,6 +2,7 @@ use Rattle.std.proofs.Common.{◌≡◌, length}
 use Rattle.shapes.specs.Fresh.{taken_in}
 use Rattle.solid_walks.specs.Counters.{taken_of}
 use Rattle.split_drawing.proofs.edge_cutting_laws.Remaining.{Cutting, AreAt, edges_in}
+use Rattle.undo_journal.specs.Journal.{IsFurther}
 use Rattle.split_drawing.proofs.edge_cutting.cutting.cut_edges.Given as goal
 
 abbrev pub invariant-edges : goal.invariant-edges
@@ -9,7 +10,7 @@ invariant-edges l = record {
   cutting : Cutting l.fn.draft.model l.s l.plane l.draft.model (edges_in l.rest);
   points : AreAt l.fn.draft.model l.plane l.rest;
   counted : taken_of l.taken ≡ taken_in l.draft.model;
-  session : l.draft.session ≡ l.fn.draft.session;
+  further : IsFurther l.fn.draft l.draft;
 }
 
 abbrev pub decreases-edges : goal.decreases-edges

@@ -3,6 +3,7 @@ use Rattle.std.proofs.lemmas.List.{map-append}
 use Rattle.undo_journal.specs.Journal.{DraftJournal}
 use Rattle.split_checks.specs.Cuts.{codes}
 use Rattle.split_drawing.proofs.face_drawing_laws.Turns.{first_pair, told, join_accepted, joined, left_over}
+use Rattle.undo_journal.proofs.Marks.{further_on}
 use Rattle.split_drawing.proofs.face_drawing.joining.join_pairs.Goals as goal
 
 pub join_pair-requires-clause-accepted : goal.join_pair-requires-clause-accepted
@@ -14,7 +15,7 @@ pairs-preserved-in_ok-push c =
     let next = left_over c.args.f c.pairs.progress c.pairs.draft.model (map codes c.pairs.left.items) c.pairs.rest.now c.in-len1-up.len_at_least c.pairs.invariant.can
     (told c.arena.result.now.model c.pairs.draft.model (codes (first_pair c.pairs.rest.now)) c.in_one_loop.result true c.in_one_loop.ensures c.arena.ensures.model c.if-in_one_loop.true)
     (map codes c.push.new.self.items) (ap (map codes) c.in_ok-push.ensures.items ∙ map-append codes c.pairs.left.items (first_pair c.pairs.rest.now ∷ [])) in
-    record { can = next.0; made = next.1 ∙ c.pairs.invariant.made; session = c.pairs.invariant.session }
+    record { can = next.0; made = next.1 ∙ c.pairs.invariant.made; further = c.pairs.invariant.further }
 
 pub pairs-preserved : goal.pairs-preserved
 pairs-preserved c =
@@ -24,5 +25,5 @@ pairs-preserved c =
     record {
       can = next.0;
       made = next.1 ∙ c.pairs.invariant.made;
-      session = ap (λ (d : DraftJournal). d.session) c.in_ok-taken.ensures.ok ∙ c.pairs.invariant.session;
+      further = further_on _ _ _ c.pairs.invariant.further c.in_ok-taken.ensures.further;
     }

@@ -4,13 +4,14 @@ use Rattle.shapes.specs.split.Drawing.{join_next}
 use Rattle.split_checks.specs.Cuts.{codes}
 use Rattle.split_checks.specs.Progress.{drawing_of}
 use Rattle.split_drawing.specs.face_drawing.Passes.{CanJoin}
+use Rattle.undo_journal.specs.Journal.{IsFurther}
 use Rattle.split_drawing.proofs.face_drawing.joining.join_pairs.Given as goal
 
 abbrev pub invariant-pairs : goal.invariant-pairs
 invariant-pairs l = record {
   can : CanJoin l.f (drawing_of l.progress l.draft.model (map codes l.left.items)) (map codes l.rest);
   made : fold join_next (drawing_of l.progress l.draft.model (map codes l.left.items)) (map codes l.rest) ≡ fold join_next (drawing_of l.fn.from l.fn.draft.model []) (map codes l.pairs);
-  session : l.draft.session ≡ l.fn.draft.session;
+  further : IsFurther l.fn.draft l.draft;
 }
 
 abbrev pub decreases-pairs : goal.decreases-pairs

@@ -1,13 +1,14 @@
 use Rattle.std.proofs.Common.{◌≡◌, length}
 use Rattle.euler_laws.specs.Laws.{AreAccepted, effects}
 use Rattle.split_drawing_laws.specs.drawings.DrawingOps.{ring_ops}
+use Rattle.undo_journal.specs.Journal.{IsFurther}
 use Rattle.split_drawing.proofs.face_drawing.rings.move_rings.Given as goal
 
 abbrev pub invariant-rings : goal.invariant-rings
 invariant-rings l = record {
   accepted : AreAccepted l.draft.model (ring_ops l.rest l.to);
   made : effects l.draft.model (ring_ops l.rest l.to) ≡ effects l.fn.draft.model (ring_ops l.rings l.to);
-  session : l.draft.session ≡ l.fn.draft.session;
+  further : IsFurther l.fn.draft l.draft;
 }
 
 abbrev pub decreases-rings : goal.decreases-rings

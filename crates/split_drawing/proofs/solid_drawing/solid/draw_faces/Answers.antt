@@ -1,6 +1,7 @@
 use Rattle.std.proofs.Common.{◌∙◌, slice_index_or}
 use Rattle.split_checks.proofs.cut_places_laws.Lists.{others, parts}
 use Rattle.split_drawing.proofs.solid_drawing_laws.FaceTurns.{no_pairs, enough_here, enough_later, can_draw, can_go_on, made_on}
+use Rattle.undo_journal.proofs.Marks.{further_on}
 use Rattle.split_drawing.proofs.solid_drawing.solid.draw_faces.Goals as goal
 
 pub split_at-requires : goal.split_at-requires
@@ -26,5 +27,5 @@ faces-preserved c =
           c.split_at.ensures.front c.split_at.ensures.back c.in_ok-progress.progress c.draw_face.new.draft.model c.in_ok-progress.ensures.drawn;
       made = made_on c.args.plane c.faces.progress c.faces.draft.model rest later c.faces.invariant.can (slice_index_or rest 0 no_pairs) (others rest) opened c.split_at.result.0.now c.split_at.result.1.now
           c.split_at.ensures.front c.split_at.ensures.back c.in_ok-progress.progress c.draw_face.new.draft.model c.in_ok-progress.ensures.drawn ∙ c.faces.invariant.made;
-      session = c.in_ok-progress.ensures.session ∙ c.faces.invariant.session;
+      further = further_on _ _ _ c.faces.invariant.further c.in_ok-progress.ensures.further;
     }

@@ -1,0 +1,16 @@
+use Rattle.std.proofs.Common.{Ok, Err, sym, ap, ◌∙◌}
+use Rattle.shapes.specs.split.Split.{split_refusal}
+use Rattle.euler_laws.proofs.shared.Goes.{verdict_passed, verdict_failed}
+use Rattle.plane_split.proofs.Conditions.{same_refusal}
+use Rattle.plane_split.proofs.steps.try_split.Goals as goal
+
+pub returns-in-Ok-Ok-clause-ok : goal.returns-in-Ok-Ok-clause-ok
+returns-in-Ok-Ok-clause-ok c = (
+  verdict_passed (split_refusal c.args.draft.now.model c.args.s c.args.plane.now c.args.upper) tt (sym c.in-Ok-Ok.field-0-is ∙ c.in-Ok-Ok.ensures.carried),
+  c.in-Ok-Ok.ensures.model (ap Ok c.in-Ok-Ok.field-0-is),
+)
+
+pub returns-in-Ok-Err-clause-refused : goal.returns-in-Ok-Err-clause-refused
+returns-in-Ok-Err-clause-refused c = λ refusal is.
+    verdict_failed (split_refusal c.args.draft.now.model c.args.s c.args.plane.now c.args.upper) refusal
+    (ap Err (sym (same_refusal c.in-Ok-Err.refusal refusal is)) ∙ sym c.in-Ok-Err.field-0-is ∙ c.in-Ok-Err.ensures.carried)
