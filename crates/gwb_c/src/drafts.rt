@@ -16,13 +16,13 @@ pub extern "C" fn gwb_draft(alloc: Global, gwb: &mut Gwb) -> u32
     let Some(slot) = take(alloc, gwb) else {
         return CLOSED;
     };
-    if is_drafting(&slot) {
+    if is_drafting(slot.slot()) {
         put(gwb, slot);
         return IN_DRAFT;
     }
     let mut slot = slot;
-    session_slots::open(&mut slot);
-    let kind = status(&slot.answer);
+    session_slots::open(slot.slot_mut());
+    let kind = status(&slot.slot().answer);
     put(gwb, slot);
     kind
 }
@@ -35,13 +35,13 @@ pub extern "C" fn gwb_commit(alloc: Global, gwb: &mut Gwb) -> u32
     let Some(slot) = take(alloc, gwb) else {
         return CLOSED;
     };
-    if !is_drafting(&slot) {
+    if !is_drafting(slot.slot()) {
         put(gwb, slot);
         return NO_DRAFT;
     }
     let mut slot = slot;
-    session_slots::commit(&mut slot);
-    let kind = status(&slot.answer);
+    session_slots::commit(slot.slot_mut());
+    let kind = status(&slot.slot().answer);
     put(gwb, slot);
     kind
 }
@@ -54,13 +54,13 @@ pub extern "C" fn gwb_abandon(alloc: Global, gwb: &mut Gwb) -> u32
     let Some(slot) = take(alloc, gwb) else {
         return CLOSED;
     };
-    if !is_drafting(&slot) {
+    if !is_drafting(slot.slot()) {
         put(gwb, slot);
         return NO_DRAFT;
     }
     let mut slot = slot;
-    session_slots::abandon(&mut slot);
-    let kind = status(&slot.answer);
+    session_slots::abandon(slot.slot_mut());
+    let kind = status(&slot.slot().answer);
     put(gwb, slot);
     kind
 }

@@ -2,11 +2,13 @@
 ghost use Rattle.std.specs.Prelude.{◌≡◌, Some, None};
 ghost use Rattle.session_slots.specs.Stages.{undos, redos};
 ghost use Rattle.session_slots.specs.Opening.{Opened};
+ghost use Rattle.session_slots.specs.Owned.{slot_in};
 ghost use Rattle.gwb_c.specs.Handle.{Hears, Numbers, Replies};
 
 use crate::told::{CLOSED, IN_DRAFT};
 use session_slots::{
-    Gwb, Slot, Stage, begin, copy_front, hear, is_drafting, put, status, take, text_of,
+    Gwb, GwbLent, Slot, Stage, begin, copy_front, hear, hide, is_drafting, put, show, status, take,
+    text_of,
 };
 use std::alloc::Global;
 
@@ -23,7 +25,9 @@ pub extern "C" fn gwb_open(alloc: Global, gwb: &mut Gwb) -> bool
 pub extern "C" fn gwb_close(alloc: Global, gwb: &mut Gwb)
     ensures { gwb.new.kept.value ≡ None }
 {
-    drop(take(alloc, gwb));
+    if let Some(slot) = take(alloc, gwb) {
+        slot.free();
+    }
 }
 
 /// Answers a line, without its newline, and keeps the answer. Says what kind of answer it is: 0 silent, 1 `ok`, 2 `refused`,
@@ -35,13 +39,13 @@ pub extern "C" fn gwb_line(alloc: Global, gwb: &mut Gwb, line: &[u8]) -> u32
     let Some(slot) = take(alloc, gwb) else {
         return CLOSED;
     };
-    if is_drafting(&slot) {
+    if is_drafting(slot.slot()) {
         put(gwb, slot);
         return IN_DRAFT;
     }
     let mut slot = slot;
-    hear(alloc, &mut slot, line);
-    let kind = status(&slot.answer);
+    hear(alloc, slot.slot_mut(), line);
+    let kind = status(&slot.slot().answer);
     put(gwb, slot);
     kind
 }
@@ -49,20 +53,20 @@ pub extern "C" fn gwb_line(alloc: Global, gwb: &mut Gwb, line: &[u8]) -> u32
 /// Writes the text of the last answer, as far as there is room, and says how long it is: `SIZE_MAX` where memory is refused, or
 /// there is no session. It can be asked again with more room.
 #[unsafe(no_mangle)]
-pub extern "C" fn gwb_reply(alloc: Global, gwb: &mut Gwb, buf: &mut [u8]) -> usize
-    ensures state { gwb.new.kept.value ≡ gwb.old.kept.value }
-    ensures text { Replies gwb.old.kept.value buf.old buf.new result }
+pub extern "C" fn gwb_lent_reply(alloc: Global, gwb: &mut GwbLent, buf: &mut [u8]) -> usize
+    ensures state { gwb.new.lent.loan ≡ gwb.old.lent.loan }
+    ensures text { Replies (slot_in gwb.old.lent.loan) buf.old buf.new result }
 {
-    let Some(slot) = take(alloc, gwb) else {
+    let Some(shown) = show(gwb) else {
         return usize::MAX;
     };
     let mut length = usize::MAX;
-    if let Some(stage) = &slot.stage {
-        if let Some(text) = text_of(alloc, stage.arena(), &slot.answer) {
+    if let Some(stage) = &shown.slot().stage {
+        if let Some(text) = text_of(alloc, stage.arena(), &shown.slot().answer) {
             length = copy_front(&text, buf);
         }
     }
-    put(gwb, slot);
+    hide(gwb, shown);
     length
 }
 
@@ -106,28 +110,28 @@ fn ahead_of(slot: &Slot) -> usize
 
 /// How many commands can be undone, in a draft none: `SIZE_MAX` where there is no session.
 #[unsafe(no_mangle)]
-pub extern "C" fn gwb_depth(alloc: Global, gwb: &mut Gwb) -> usize
-    ensures state { gwb.new.kept.value ≡ gwb.old.kept.value }
-    ensures value { Numbers undos gwb.old.kept.value result }
+pub extern "C" fn gwb_lent_depth(gwb: &mut GwbLent) -> usize
+    ensures state { gwb.new.lent.loan ≡ gwb.old.lent.loan }
+    ensures value { Numbers undos (slot_in gwb.old.lent.loan) result }
 {
-    let Some(slot) = take(alloc, gwb) else {
+    let Some(shown) = show(gwb) else {
         return usize::MAX;
     };
-    let count = depth_of(&slot);
-    put(gwb, slot);
+    let count = depth_of(shown.slot());
+    hide(gwb, shown);
     count
 }
 
 /// How many commands can be redone, in a draft none: `SIZE_MAX` where there is no session.
 #[unsafe(no_mangle)]
-pub extern "C" fn gwb_ahead(alloc: Global, gwb: &mut Gwb) -> usize
-    ensures state { gwb.new.kept.value ≡ gwb.old.kept.value }
-    ensures value { Numbers redos gwb.old.kept.value result }
+pub extern "C" fn gwb_lent_ahead(gwb: &mut GwbLent) -> usize
+    ensures state { gwb.new.lent.loan ≡ gwb.old.lent.loan }
+    ensures value { Numbers redos (slot_in gwb.old.lent.loan) result }
 {
-    let Some(slot) = take(alloc, gwb) else {
+    let Some(shown) = show(gwb) else {
         return usize::MAX;
     };
-    let count = ahead_of(&slot);
-    put(gwb, slot);
+    let count = ahead_of(shown.slot());
+    hide(gwb, shown);
     count
 }

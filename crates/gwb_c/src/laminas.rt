@@ -24,13 +24,13 @@ pub extern "C" fn gwb_lamina(alloc: Global, gwb: &mut Gwb, solid: u32, points: &
         put(gwb, slot);
         return NO_CALL;
     }
-    if is_drafting(&slot) {
+    if is_drafting(slot.slot()) {
         put(gwb, slot);
         return IN_DRAFT;
     }
     let mut slot = slot;
-    session_slots::lamina(alloc, &mut slot, solid, &polygon(points));
-    let kind = status(&slot.answer);
+    session_slots::lamina(alloc, slot.slot_mut(), solid, &polygon(points));
+    let kind = status(&slot.slot().answer);
     put(gwb, slot);
     kind
 }

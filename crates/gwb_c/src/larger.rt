@@ -17,13 +17,13 @@ fn carry(alloc: Global, gwb: &mut Gwb, larger: Larger<'_>) -> u32
     let Some(slot) = take(alloc, gwb) else {
         return CLOSED;
     };
-    if is_drafting(&slot) {
+    if is_drafting(slot.slot()) {
         put(gwb, slot);
         return IN_DRAFT;
     }
     let mut slot = slot;
-    session_slots::carry(alloc, &mut slot, larger);
-    let kind = status(&slot.answer);
+    session_slots::carry(alloc, slot.slot_mut(), larger);
+    let kind = status(&slot.slot().answer);
     put(gwb, slot);
     kind
 }
@@ -109,13 +109,13 @@ pub extern "C" fn gwb_undo(alloc: Global, gwb: &mut Gwb) -> u32
     let Some(slot) = take(alloc, gwb) else {
         return CLOSED;
     };
-    if is_drafting(&slot) {
+    if is_drafting(slot.slot()) {
         put(gwb, slot);
         return IN_DRAFT;
     }
     let mut slot = slot;
-    session_slots::undo(&mut slot);
-    let kind = status(&slot.answer);
+    session_slots::undo(slot.slot_mut());
+    let kind = status(&slot.slot().answer);
     put(gwb, slot);
     kind
 }
@@ -128,13 +128,13 @@ pub extern "C" fn gwb_redo(alloc: Global, gwb: &mut Gwb) -> u32
     let Some(slot) = take(alloc, gwb) else {
         return CLOSED;
     };
-    if is_drafting(&slot) {
+    if is_drafting(slot.slot()) {
         put(gwb, slot);
         return IN_DRAFT;
     }
     let mut slot = slot;
-    session_slots::redo(&mut slot);
-    let kind = status(&slot.answer);
+    session_slots::redo(slot.slot_mut());
+    let kind = status(&slot.slot().answer);
     put(gwb, slot);
     kind
 }

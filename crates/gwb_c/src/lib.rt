@@ -10,8 +10,9 @@
 //!
 //! Every call of the library for C, in words of the plain machine: which machine or draft a handle stands for before and after, what
 //! comes back, and that for a closed handle nothing happens but the answer that says so. `gwb_line` answers a line as the plain
-//! machine may; `gwb_reply` gives the text of that answer as far as there is room, and its length; the values of the last answer and
-//! the readers of the model shown are exact, but for where a loop's list of half-edges begins, with a word for what isn't there. A
+//! machine may; `gwb_lent_reply` gives the text of that answer as far as there is room, and its length; the values of the last answer and
+//! the readers of the model shown are exact, but for where a loop's list of half-edges begins, with a word for what isn't there. A reader
+//! (`gwb_lent_*`) takes a copy of the handle and a share of the time for which its slot is lent, and gives both back, so readers may run at once. A
 //! typed call does what the line does that spells the same command (`Does`); an operator is a command of a session and a step of a
 //! draft (`Carries`, and `Parts` where its faces are listed); a query tells what the model shown gives (`Asks`), and writes what the
 //! reader of its answer writes (`Tells`). A draft that is committed is one command, and one that is abandoned leaves no trace
@@ -31,4 +32,4 @@ mod told;
 mod version;
 
 pub use fresh::Range;
-pub use session_slots::{Counts, EdgeRow, FaceRow, Gwb, Place, PlaneRow, Refused, Wide};
+pub use session_slots::{Counts, EdgeRow, FaceRow, Gwb, GwbLent, Place, PlaneRow, Refused, Wide};

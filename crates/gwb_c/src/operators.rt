@@ -20,8 +20,8 @@ fn act(alloc: Global, gwb: &mut Gwb, op: Op) -> u32
         return CLOSED;
     };
     let mut slot = slot;
-    session_slots::act(&mut slot, op);
-    let kind = status(&slot.answer);
+    session_slots::act(slot.slot_mut(), op);
+    let kind = status(&slot.slot().answer);
     put(gwb, slot);
     kind
 }

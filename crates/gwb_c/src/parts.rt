@@ -20,8 +20,8 @@ pub extern "C" fn gwb_part(alloc: Global, gwb: &mut Gwb, faces: &[u32], solid: u
         return NO_CALL;
     }
     let mut slot = slot;
-    session_slots::part(alloc, &mut slot, faces, solid);
-    let kind = status(&slot.answer);
+    session_slots::part(alloc, slot.slot_mut(), faces, solid);
+    let kind = status(&slot.slot().answer);
     put(gwb, slot);
     kind
 }

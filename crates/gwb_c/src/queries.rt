@@ -26,9 +26,9 @@ pub extern "C" fn gwb_face_plane(
         return CLOSED;
     };
     let mut slot = slot;
-    tell_plane(&mut slot, face);
-    let kind = status(&slot.answer);
-    give_plane(plane_of(&slot.answer), plane);
+    tell_plane(slot.slot_mut(), face);
+    let kind = status(&slot.slot().answer);
+    give_plane(plane_of(&slot.slot().answer), plane);
     put(gwb, slot);
     kind
 }
@@ -48,9 +48,9 @@ pub extern "C" fn gwb_volume(
         return CLOSED;
     };
     let mut slot = slot;
-    tell_volume(&mut slot, solid);
-    let kind = status(&slot.answer);
-    give_wide(volume_of(&slot.answer), six_volumes);
+    tell_volume(slot.slot_mut(), solid);
+    let kind = status(&slot.slot().answer);
+    give_wide(volume_of(&slot.slot().answer), six_volumes);
     put(gwb, slot);
     kind
 }
@@ -65,9 +65,9 @@ pub extern "C" fn gwb_count(alloc: Global, gwb: &mut Gwb, solid: u32, counts: &m
         return CLOSED;
     };
     let mut slot = slot;
-    tell_count(&mut slot, solid);
-    let kind = status(&slot.answer);
-    give(counts_of(&slot.answer), counts);
+    tell_count(slot.slot_mut(), solid);
+    let kind = status(&slot.slot().answer);
+    give(counts_of(&slot.slot().answer), counts);
     put(gwb, slot);
     kind
 }

@@ -2,6 +2,8 @@ pub mod Overlaid
 pub mod CycleRounds
 mod Numbers
 mod Values
+mod Loans
+mod Spoken
 mod KeptSteps
 pub mod Acting
 mod Queried

@@ -17,6 +17,16 @@ abbrev pub answer_in : Option Slot → Option Answer
 answer_in None = None
 answer_in (Some x) = Some x.answer
 
+-- whether there is a session or a draft
+abbrev pub is_staged : Option Stage → Bool
+is_staged None = false
+is_staged (Some g) = true
+
+-- whether a handle is closed, or has a session or a draft
+abbrev pub is_whole : Option Slot → Bool
+is_whole None = true
+is_whole (Some x) = is_staged x.stage
+
 -- a closed handle gets a new session that has answered nothing; else nothing has changed
 abbrev pub Opened : Option Slot → Option Slot → Bool → Type 0
 Opened None new true = (stage_in new ≡ Some (Session new_journal)) × (answer_in new ≡ Some Silent)

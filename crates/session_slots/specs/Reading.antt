@@ -4,7 +4,7 @@ use Rattle.euler_operators.specs.Items.{IsIn}
 use Rattle.euler_operators.specs.Rings.{IsRotation}
 use Rattle.euler_operators.specs.Table as table
 use Rattle.euler_operators.specs.HalfEdge.{plus, minus, edge_of}
-use Rattle.euler_operators.specs.Model.{Model, LoopContent, lone, cycle, items_of, solid_of, outer, face_of, content, tail, after, point_of}
+use Rattle.euler_operators.specs.Model.{Model, LoopContent, lone, cycle, items_of, solid_of, outer, face_of, content, tail, after, before, loop_of, point_of}
 use Rattle.euler_operators.specs.declared.Kind.{Kind}
 use Rattle.euler_operators.specs.declared.Kind.TheVariants as kind
 use Rattle.euler_conditions.specs.Store.{Store, empty_store, IsNextNumber, IsNextRing, IsNextFace}
@@ -53,6 +53,14 @@ AreHalfEdges l M hs = IsRotation (items_of (content M l)) hs
 -- the item after half-edge h in its loop, if h's edge is there
 abbrev pub after_in : ℕ → Model → Option ℕ
 after_in h M = cond (table.has M.edges (edge_of h)) (Some (after M h)) None
+
+-- the item before it
+abbrev pub before_in : ℕ → Model → Option ℕ
+before_in h M = cond (table.has M.edges (edge_of h)) (Some (before M h)) None
+
+-- the loop in which half-edge h stands
+abbrev pub loop_in : ℕ → Model → Option ℕ
+loop_in h M = cond (table.has M.edges (edge_of h)) (Some (loop_of M h)) None
 
 -- the least ring of face f above n; none where f is not there
 abbrev pub IsRingAfter : ℕ → ℕ → Model → Option ℕ → Type 0

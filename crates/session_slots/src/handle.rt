@@ -1,19 +1,20 @@
 //! The handle: a slot that lies with C, or none.
-ghost use Rattle.std.specs.Prelude.{◌≡◌, ◌↔◌, IsTrue, IsSome, Some, None, MatchOption};
-ghost use Rattle.session_slots.specs.Opening.{Opened};
+ghost use Rattle.std.specs.Prelude.{◌≡◌, ◌↔◌, true, IsTrue, IsSome, IfSome, Some, None, MatchOption};
+ghost use Rattle.session_slots.specs.Opening.{Opened, is_staged, is_whole};
 
+use crate::held::Held;
 use crate::kept::Kept;
-use crate::slot::{Slot, made};
+use crate::slot::made;
 use std::alloc::Global;
 use std::mem;
 
 /// A session, or none before `gwb_open` and after `gwb_close`.
 #[repr(C)]
-#[derive(Drop)]
 pub struct Gwb {
     is_open: bool,
     pub kept: Kept,
     ghost agrees: { IsTrue is_open ↔ IsSome kept.value },
+    ghost whole: { is_whole kept.value ≡ true },
 }
 
 /// A closed handle.
@@ -26,25 +27,38 @@ fn closed() -> Gwb
     }
 }
 
-/// Hands a session over to C.
-pub fn put(gwb: &mut Gwb, slot: Box<Slot, Global>)
-    ensures { gwb.new.kept.value ≡ Some slot.value }
+/// Ends a closed handle.
+fn end(gwb: Gwb)
+    requires { gwb.kept.value ≡ None }
 {
-    *gwb = Gwb {
+    let Gwb { is_open: _, kept } = gwb;
+    kept.close();
+}
+
+/// Hands a session over to C, in a closed handle.
+pub fn put(gwb: &mut Gwb, slot: Held)
+    requires closed { gwb.old.kept.value ≡ None }
+    requires staged { is_staged slot.stage ≡ true }
+    ensures { gwb.new.kept.value ≡ Some slot }
+{
+    let open = Gwb {
         is_open: true,
-        kept: Kept::of(slot),
+        kept: Kept::of(slot.into_box()),
     };
+    end(mem::replace(gwb, open));
 }
 
 /// The session, if there is one: until it is handed over again the handle is closed.
-pub fn take(alloc: Global, gwb: &mut Gwb) -> Option<Box<Slot, Global>>
+pub fn take(alloc: Global, gwb: &mut Gwb) -> Option<Held>
     ensures left { gwb.new.kept.value ≡ None }
-    ensures slot { MatchOption result (gwb.old.kept.value ≡ None) (λ b. gwb.old.kept.value ≡ Some b.value) }
+    ensures staged { IfSome result (λ h. is_staged h.stage ≡ true) }
+    ensures slot { MatchOption result (gwb.old.kept.value ≡ None) (λ h. gwb.old.kept.value ≡ Some h) }
 {
-    let old = mem::replace(gwb, closed());
-    if old.is_open {
-        Some(old.kept.into_box(alloc))
+    let Gwb { is_open, kept } = mem::replace(gwb, closed());
+    if is_open {
+        Some(Held::of(kept.into_box(alloc)))
     } else {
+        kept.close();
         None
     }
 }
@@ -60,7 +74,7 @@ pub fn begin(alloc: Global, gwb: &mut Gwb) -> bool
     match made(alloc) {
         None => false,
         Some(slot) => {
-            put(gwb, slot);
+            put(gwb, Held::of(slot));
             true
         }
     }

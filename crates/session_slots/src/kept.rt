@@ -8,9 +8,8 @@ use std::alloc::Global;
 use std::marker::Model;
 use std::ptr;
 
-/// A box whose pointer lies with C, or none.
+/// A box whose pointer lies with C, or none. It isn't let go but by `into_box` and, where it is none, `close`.
 #[repr(C)]
-#[derive(Drop)]
 pub struct Kept {
     at: *mut u8,
     pub ghost value: { Option Slot },
@@ -29,6 +28,13 @@ impl Kept {
     {
         let at = ptr::null_mut();
         Kept { at }
+    }
+
+    /// Ends what has no box.
+    pub(crate) fn close(self)
+        requires { self.value ≡ None }
+    {
+        let Kept { at: _ } = self;
     }
 
     fn lay_down(loose: Loose<Slot, Global>) -> Kept

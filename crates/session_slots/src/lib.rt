@@ -4,8 +4,9 @@
 //!
 //! `stage` has a session or a draft, `counted_stage` this with the greatest numbers in use, `slot` what a line does to a slot; `commands`,
 //! `drafts`, `parts` and `measures` what a command, a draft, a part and a query do that are given as values. `answers` gives the
-//! last answer as values, `readers` and `cycles` read the model shown. `handle` has a slot that lies with C, by a pointer (`kept`, `loose`),
-//! and `arguments` what C gives to a call, as the kernel takes it.
+//! last answer as values, `readers`, `cycles` and `spokes` read the model shown. `handle` has a slot that lies with C, by a pointer (`kept`,
+//! `loose`), and is taken out of it for a call (`held`); `lent` has a copy of a handle whose slot is lent to readers, of which any number may
+//! run at once. `arguments` has what C gives to a call, as the kernel takes it.
 //!
 //! # What is proved
 //!
@@ -23,12 +24,15 @@ mod counted_stage;
 mod cycles;
 mod drafts;
 mod handle;
+mod held;
 mod kept;
+mod lent;
 mod loose;
 mod measures;
 mod parts;
 mod readers;
 mod slot;
+mod spokes;
 mod stage;
 
 pub use answers::{
@@ -41,12 +45,15 @@ pub use counted_stage::CountedStage;
 pub use cycles::half_edges;
 pub use drafts::{abandon, commit, open};
 pub use handle::{Gwb, begin, put, take};
+pub use held::Held;
 pub use kept::Kept;
+pub use lent::{GwbLent, Lent, Shown, hide, show};
 pub use measures::{tell_count, tell_plane, tell_volume};
 pub use parts::part;
 pub use readers::{
-    EdgeRow, FaceRow, Place, edge, face, face_after, face_of_loop, first_half_edge, lone_vertex,
-    next_half_edge, number_after, ring_after, vertex,
+    EdgeRow, FaceRow, Place, edge, face, face_after, face_of_loop, first_half_edge, half_edge_loop,
+    lone_vertex, next_half_edge, number_after, previous_half_edge, ring_after, vertex,
 };
 pub use slot::{Slot, copy_front, hear, is_drafting, text_of};
+pub use spokes::vertex_half_edge;
 pub use stage::{OpenDraft, Stage};

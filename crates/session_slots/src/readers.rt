@@ -1,13 +1,14 @@
 //! The model held, read without text.
 ghost use Rattle.std.specs.Prelude.{◌≡◌, true};
 ghost use Rattle.euler_operators.specs.HalfEdge.{code, edge_of};
-ghost use Rattle.euler_operators.specs.Model.{content, after};
+ghost use Rattle.euler_operators.specs.Model.{content, after, before, loop_of};
 ghost use Rattle.euler_conditions.specs.Store.{has_number, IsNextNumber};
 ghost use Rattle.euler_conditions.specs.Ready.{IsReady};
-ghost use Rattle.session_slots.specs.Reading.{face_in, edge_in, ends_of, point_in, face_of_loop_in, lone_of, lone_in, after_in, IsRingAfter, IsFaceAfter, IsItemOf, IsFirst, kind_of, store_of, IsNumberAfter};
+ghost use Rattle.session_slots.specs.Reading.{face_in, edge_in, ends_of, point_in, face_of_loop_in, lone_of, lone_in, after_in, before_in, loop_in, IsRingAfter, IsFaceAfter, IsItemOf, IsFirst, kind_of, store_of, IsNumberAfter};
 
-use euler_conditions::{Arena, next};
+use euler_conditions::{Arena, loop_of, next};
 use euler_operators::{Content, HalfEdge, Kind, Point};
+use solid_walks::previous_code;
 
 /// The solid of a face, and its outer loop.
 #[repr(C)]
@@ -58,7 +59,7 @@ pub fn face_of_loop(arena: &Arena, l: u32) -> Option<u32>
 }
 
 /// The vertices of an edge that is there.
-fn ends(arena: &Arena, e: u32) -> EdgeRow
+pub(crate) fn ends(arena: &Arena, e: u32) -> EdgeRow
     requires { has_number arena.now Kind.Edge e ≡ true }
     ensures { result ≡ ends_of arena.now.model e }
 {
@@ -155,6 +156,39 @@ pub fn next_half_edge(arena: &Arena, item: u32) -> Option<u32>
         return None;
     }
     Some(code_after(arena, half))
+}
+
+/// The loop of a half-edge whose edge is there.
+fn loop_at(arena: &Arena, half: HalfEdge) -> u32
+    requires ready { IsReady arena.now }
+    requires there { has_number arena.now Kind.Edge half.edge ≡ true }
+    ensures { result ≡ loop_of arena.now.model (code half) }
+{
+    loop_of(arena, half)
+}
+
+/// The loop in which a half-edge stands.
+pub fn half_edge_loop(arena: &Arena, item: u32) -> Option<u32>
+    requires { IsReady arena.now }
+    ensures { result ≡ loop_in item arena.now.model }
+{
+    let half = half_of(item);
+    if !arena.has(Kind::Edge, half.edge) {
+        return None;
+    }
+    Some(loop_at(arena, half))
+}
+
+/// The half-edge before another in its loop.
+pub fn previous_half_edge(arena: &Arena, item: u32) -> Option<u32>
+    requires { IsReady arena.now }
+    ensures { result ≡ before_in item arena.now.model }
+{
+    let half = half_of(item);
+    if !arena.has(Kind::Edge, half.edge) {
+        return None;
+    }
+    Some(previous_code(arena, item))
 }
 
 /// The least ring of a face above the one given.

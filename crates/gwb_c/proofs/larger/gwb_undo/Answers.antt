@@ -8,13 +8,13 @@ use Rattle.gwb_c.proofs.larger.gwb_undo.Goals as goal
 
 pub returns-then-is_drafting : goal.returns-then-is_drafting
 returns-then-is_drafting c =
-    let x = c.in-Some.slot.value in
+    let x = c.in-Some.slot in
     turned_away (λ x y. Slot_does x command.Undo y) c.args.gwb.now.kept.value x c.in-Some.ensures.slot c.put.new.gwb.kept.value
-    (is_so x c.deref.result.now c.is_drafting.result true c.is_drafting.ensures c.deref.ensures c.if-is_drafting.true) c.put.ensures
+    (is_so x c.slot.result.now c.is_drafting.result true c.is_drafting.ensures c.slot.ensures c.if-is_drafting.true) c.put.ensures
 
 pub returns : goal.returns
 returns c =
-    let x = c.in-Some.slot.value in let after = c.undo.new.slot in
+    let x = c.in-Some.slot in let after = c.undo.new.slot in
     goes_on_in_session (λ x y. Slot_does x command.Undo y) c.args.gwb.now.kept.value x c.in-Some.ensures.slot c.put-2.new.gwb.kept.value after c.put-2.ensures
-    c.status-kind.result (c.status-kind.ensures ∙ ap (λ (x : Slot). status_of x.answer) c.deref-2.ensures) (subst (λ x. Slot_does x command.Undo after) c.deref_mut.ensures.value c.undo.ensures)
-    (is_so x c.deref.result.now c.is_drafting.result false c.is_drafting.ensures c.deref.ensures c.if-is_drafting.false)
+    c.status-kind.result (c.status-kind.ensures ∙ ap (λ (x : Slot). status_of x.answer) c.slot-2.ensures) (subst (λ x. Slot_does x command.Undo after) c.slot_mut.ensures.value c.undo.ensures)
+    (is_so x c.slot.result.now c.is_drafting.result false c.is_drafting.ensures c.slot.ensures c.if-is_drafting.false)

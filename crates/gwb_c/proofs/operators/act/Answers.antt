@@ -8,5 +8,5 @@ use Rattle.gwb_c.proofs.operators.act.Goals as goal
 pub returns : goal.returns
 returns c =
     let op = c.args.op in let after = c.act.new.slot in
-    goes_on (λ x y. Slot_carries x op y) c.args.gwb.now.kept.value c.in-Some.slot.value c.in-Some.ensures.slot c.put.new.gwb.kept.value after c.put.ensures
-    c.status-kind.result (c.status-kind.ensures ∙ ap (λ (x : Slot). status_of x.answer) c.deref.ensures) (subst (λ x. Slot_carries x op after) c.deref_mut.ensures.value c.act.ensures)
+    goes_on (λ x y. Slot_carries x op y) c.args.gwb.now.kept.value c.in-Some.slot c.in-Some.ensures.slot c.put.new.gwb.kept.value after c.put.ensures
+    c.status-kind.result (c.status-kind.ensures ∙ ap (λ (x : Slot). status_of x.answer) c.slot.ensures) (subst (λ x. Slot_carries x op after) c.slot_mut.ensures.value c.act.ensures)

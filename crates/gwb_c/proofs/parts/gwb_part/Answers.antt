@@ -8,5 +8,5 @@ use Rattle.gwb_c.proofs.parts.gwb_part.Goals as goal
 pub returns-clause-made : goal.returns-clause-made
 returns-clause-made c = λ some.
     let fs = c.args.faces.now in let t = c.args.solid in let after = c.part.new.slot in
-    goes_on (λ x y. Slot_makes_part x fs t y) c.args.gwb.now.kept.value c.in-Some.slot.value c.in-Some.ensures.slot c.put-2.new.gwb.kept.value after c.put-2.ensures
-    c.status-kind.result (c.status-kind.ensures ∙ ap (λ (x : Slot). status_of x.answer) c.deref.ensures) (subst (λ x. Slot_makes_part x fs t after) c.deref_mut.ensures.value c.part.ensures)
+    goes_on (λ x y. Slot_makes_part x fs t y) c.args.gwb.now.kept.value c.in-Some.slot c.in-Some.ensures.slot c.put-2.new.gwb.kept.value after c.put-2.ensures
+    c.status-kind.result (c.status-kind.ensures ∙ ap (λ (x : Slot). status_of x.answer) c.slot.ensures) (subst (λ x. Slot_makes_part x fs t after) c.slot_mut.ensures.value c.part.ensures)

@@ -5,6 +5,8 @@ use Rattle.session_slots.specs.Answered.{counts_in, status_of}
 use Rattle.gwb_c.specs.Handle.{Recalls, Gives}
 use Rattle.session_slots.specs.Slots.{Slot_asks}
 use Rattle.gwb_c.proofs.Turning.{goes_on}
+use Rattle.session_slots.specs.Opening.{is_staged}
+use Rattle.gwb_c.proofs.Staying.{stays}
 use Rattle.gwb_c.proofs.queries.gwb_count.Goals as goal
 
 pub returns-in_default-clause-value : goal.returns-in_default-clause-value
@@ -13,13 +15,19 @@ returns-in_default-clause-value c = (9, subst (λ o. Recalls counts_in o c.args.
 pub returns-clause-state : goal.returns-clause-state
 returns-clause-state c =
     let after = c.tell_count.new.slot in
-    goes_on (λ x y. Slot_asks x (λ M. count_reply M c.args.solid) y) c.args.gwb.now.kept.value c.in-Some.slot.value c.in-Some.ensures.slot c.put.new.gwb.kept.value after c.put.ensures
-    c.status-kind.result (c.status-kind.ensures ∙ ap (λ (x : Slot). status_of x.answer) c.deref.ensures) (subst (λ x. Slot_asks x (λ M. count_reply M c.args.solid) after) c.deref_mut.ensures.value c.tell_count.ensures)
+    goes_on (λ x y. Slot_asks x (λ M. count_reply M c.args.solid) y) c.args.gwb.now.kept.value c.in-Some.slot c.in-Some.ensures.slot c.put.new.gwb.kept.value after c.put.ensures
+    c.status-kind.result (c.status-kind.ensures ∙ ap (λ (x : Slot). status_of x.answer) c.slot.ensures) (subst (λ x. Slot_asks x (λ M. count_reply M c.args.solid) after) c.slot_mut.ensures.value c.tell_count.ensures)
 
 pub returns-clause-value : goal.returns-clause-value
 returns-clause-value c =
     let old = c.args.counts.now in let new = c.give.new.out in let told = c.give.result in (
       told,
       subst (λ o. Recalls counts_in o old new told) (sym c.put.ensures)
-          (subst (λ v. Gives v old new told) (c.counts_of.ensures ∙ ap (λ (x : Slot). counts_in x.answer) c.deref-2.ensures) c.give.ensures),
+          (subst (λ v. Gives v old new told) (c.counts_of.ensures ∙ ap (λ (x : Slot). counts_in x.answer) c.slot-2.ensures) c.give.ensures),
     )
+
+pub put-requires-clause-staged : goal.put-requires-clause-staged
+put-requires-clause-staged c =
+    let after = c.tell_count.new.slot in
+    let asked = subst (λ x. Slot_asks x (λ M. count_reply M c.args.solid) after) c.slot_mut.ensures.value c.tell_count.ensures in
+    stays c.in-Some.slot.stage after.stage c.in-Some.ensures.staged (λ g e. ap is_staged (asked.0 g e).0)

@@ -1,0 +1,15 @@
+-- A `&` to what is lent is made of its share of the token. Assumes `Logic`.
+use denote.Param.Shared.{copy_shared}
+use denote.Struct.Field.{RawPtr-field}
+use denote.Struct.Laws.{RawPtr-copy}
+use denote.Struct.Lending.{of_Lends, lent_at, lent_at_shr_laws}
+use Rattle.session_slots.specs.contracts.slot.Slot.{the_row as R}
+use Rattle.session_slots.proofs.slot.Slot.TheLaws.{the_row_laws as L}
+use Rattle.session_slots.specs.contracts.lent.Shown as C
+use Rattle.session_slots.proofs.lent.Shown.TheLaw.Statement.{statement}
+use Rattle.session_slots.proofs.Loans.{Lends-loan}
+
+pub shares : statement
+shares =
+    of_Lends C.struct C.the_codes C.the_heap C.the_lent (λ d p. lent_at_shr_laws R L.shr_laws d.at d.loan.0) (copy_shared RawPtr-field RawPtr-copy, tt)
+    (λ M 𝓤 𝓛 d p. Lends-loan 𝓛 (lent_at R d.at d.loan.0) (lent_at_shr_laws R L.shr_laws d.at d.loan.0) d.loan.1.0 d.loan.1.1 C.the_row.lives)

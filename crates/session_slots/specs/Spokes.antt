@@ -1,0 +1,14 @@
+-- Half-edges that start at a vertex.
+use Rattle.std.specs.Prelude.{◌≡◌, ◌≢◌, ℕ, true, Option, Some, None}
+use Rattle.euler_operators.specs.HalfEdge.{edge_of}
+use Rattle.euler_operators.specs.Model.{Model, has_half, tail}
+
+-- a half-edge of edge e that starts at v; none where neither does
+abbrev pub IsStartOf : Model → ℕ → ℕ → Option ℕ → Type 0
+IsStartOf M e v None = (h : ℕ) → edge_of h ≡ e → tail M h ≢ v
+IsStartOf M e v (Some h) = (edge_of h ≡ e) × (tail M h ≡ v)
+
+-- a half-edge that starts at v; none where none does
+abbrev pub IsStart : ℕ → Model → Option ℕ → Type 0
+IsStart v M None = (h : ℕ) → has_half M h ≡ true → tail M h ≢ v
+IsStart v M (Some h) = (has_half M h ≡ true) × (tail M h ≡ v)
