@@ -33,8 +33,9 @@
 //! their sides of the plane (`splits_are_made`, `parts_share_the_volume`, `parts_lie_on_their_sides`); glues and splits are calls
 //! of a history too, and what a session holds after one is said in words of the machine (`glued_solids_are_held`,
 //! `split_solids_are_held`); listings tell models (`listings_tell_models`), and a script has one output
-//! (`scripts_have_one_output`). `every_line_is_answered` runs a script with the contract of `run`. What else single calls answer
-//! is said by their own crates, which the head of the file names.
+//! (`scripts_have_one_output`). `every_line_is_answered` runs a script with the contract of `run`; `every_script_is_answered` does
+//! so in words of bytes alone, as do the laws of answers behind it (`broken_scripts_are_answered`, `answers_are_told_of_bytes`,
+//! `volumes_are_told_of_bytes`, `replies_are_told_apart`). What else single calls answer is said by their own crates, which the head of the file names.
 
 ghost use Rattle.std.specs.Prelude.{◌≡◌, ◌↔◌, ◌+◌, ◌<◌, OnOk, OnErr, IfOk, IfErr, None, Some, Err, slice_index_or};
 ghost use Rattle.call_lists.specs.Conditions.{first_false, verdict};
@@ -47,6 +48,8 @@ ghost use Rattle.call_lists.specs.PlainMachine.{held, depth, ahead, act_refusal,
 ghost use Rattle.call_lists.specs.Recorded.{model_at};
 ghost use Rattle.pool_rings.specs.Laws.{SplicedPoolsCut, SplicedPoolsJoin, SplicedPoolsKeepOthers, SplicedPoolsStay, PoolsLeadBack};
 ghost use Rattle.promises.specs.Splices.{SplicesCut, SplicesJoin, SplicesKeepOthers};
+ghost use Rattle.script_laws.specs.Laws.{RunsTell, BrokenRunsTell, FailedRunsTell, AnsweredSo, AnswersStay, OthersCanBeLeftOut, UndoAndRedoCanBeLeftOut, UndoneLinesCanBeLeftOut, UndosLeadBack, SomeUndosLeadBack, EqualListingsGoOnAlike, BlocksMeasure, PartsShareVolumes, RepliesTell, RefusalsTell, FaultsTell};
+ghost use Rattle.script_laws.specs.Scripts.{Answered};
 ghost use Rattle.script_running.specs.Histories.{LinesAreCalls, LinesLeadOn, HistoriesMakeConsistent, RunsTellHistories};
 ghost use Rattle.script_running.specs.Laws.{OneOutput, HasNoMemory};
 ghost use Rattle.script_running.specs.Runs.{Runs};
@@ -72,6 +75,11 @@ use call_lists::{
     lists_have_one_answer, make, make_all, six_volume, undos_and_redos_lead_to_the_ends,
 };
 use pool_rings::splices_of_pools;
+use script_laws::{
+    answer_script, answered_so, answers_stay, blocks_measure, equal_listings_go_on_alike,
+    others_can_be_left_out, parts_share_volumes, replies_tell, runs_tell,
+    undo_and_redo_can_be_left_out, undone_lines_can_be_left_out, undos_lead_back,
+};
 use script_running::{
     RunFault, Summary, laws_below, lines_are_calls, one_output, run, runs_tell_histories,
 };
@@ -487,4 +495,69 @@ pub fn every_line_is_answered<R: Read + Drop, W: Write>(
     ensures { Runs (R.remaining reader) (W.contents writer.old) (W.contents writer.new) stop result }
 {
     run(alloc, reader, writer, stop)
+}
+
+/// A script that is run to its end, told of its bytes alone. What is written has an answer to each line in turn; a line that is answered
+/// `memory` counts for those behind it as if it hadn't been there. Where there is none, all that is written is a function of the bytes
+/// that were read, `answers`.
+pub fn every_script_is_answered<R: Read + Drop, W: Write>(
+    alloc: Global,
+    reader: R,
+    writer: &mut W,
+) -> Result<Summary, RunFault>
+    ensures { IfOk result (λ summary. Answered (R.remaining reader) (W.contents writer.old) (W.contents writer.new) summary) }
+{
+    answer_script(alloc, reader, writer)
+}
+
+/// So it is of the lines that came with their newlines where a read failed or the script was too long, and of the front of the answers where
+/// a write failed.
+pub fn broken_scripts_are_answered()
+    ensures ended { RunsTell }
+    ensures broken { BrokenRunsTell }
+    ensures failed { FailedRunsTell }
+{
+    runs_tell();
+}
+
+/// Of these answers, and no model stands in it. What was answered stays, whatever comes. A line that isn't answered `ok` can be left out, and
+/// so can `undo` with `redo` behind it, and a line with `undo` behind it where no `redo` comes: the other answers are the same. As many
+/// undos as commands were answered `ok` lead back to the start, where `list` is answered `empty`. Behind two scripts that come to equal
+/// listings all but undo and redo is answered alike. One script stands there with its answers.
+pub fn answers_are_told_of_bytes()
+    ensures stay { AnswersStay }
+    ensures others { OthersCanBeLeftOut }
+    ensures redone { UndoAndRedoCanBeLeftOut }
+    ensures undone { UndoneLinesCanBeLeftOut }
+    ensures back { UndosLeadBack }
+    ensures some { SomeUndosLeadBack }
+    ensures equal { EqualListingsGoOnAlike }
+    ensures example { AnsweredSo }
+{
+    answered_so();
+    answers_stay();
+    others_can_be_left_out();
+    undo_and_redo_can_be_left_out();
+    undone_lines_can_be_left_out();
+    undos_lead_back();
+    equal_listings_go_on_alike();
+}
+
+/// Nor in this. Behind a block that was answered `ok`, `volume` is answered six times the product of its sizes; behind a split the volumes of
+/// both parts are answered, and sum to what was answered of the solid before.
+pub fn volumes_are_told_of_bytes()
+    ensures block { BlocksMeasure }
+    ensures split { PartsShareVolumes }
+{
+    blocks_measure();
+    parts_share_volumes();
+}
+
+/// A text begins with one reply at most, whose numbers tell why a command was refused, or what is wrong with a line.
+pub fn replies_are_told_apart()
+    ensures replies { RepliesTell }
+    ensures refusals { RefusalsTell }
+    ensures faults { FaultsTell }
+{
+    replies_tell();
 }

@@ -64,7 +64,7 @@ answers_so : (s : Machine) (r : Result Command Fault) (a : Answer) (t : Machine)
 answers_so s (Ok c) a t p x = obeys_so s c a t p x
 answers_so s (Err f) a t p x = p
 
-judges_so : (s : Machine) (line : List ℕ) (a : Answer) (t : Machine) → Judges s line a t → IsQuiet a → (a ≡ answer_of s line) × (t ≡ machine_after s line)
+pub judges_so : (s : Machine) (line : List ℕ) (a : Answer) (t : Machine) → Judges s line a t → IsQuiet a → (a ≡ answer_of s line) × (t ≡ machine_after s line)
 unfolding answer_of machine_after
 judges_so s line a t p x = answers_so s (command_of line) a t p x
 
@@ -97,7 +97,7 @@ answers_to : (s : Machine) (r : Result Command Fault) → Answers s r (answered 
 answers_to s (Ok c) = obeys_to s c
 answers_to s (Err f) = (refl, refl)
 
-judges_to : (s : Machine) (line : List ℕ) → Judges s line (answer_of s line) (machine_after s line)
+pub judges_to : (s : Machine) (line : List ℕ) → Judges s line (answer_of s line) (machine_after s line)
 unfolding answer_of machine_after
 judges_to s line = answers_to s (command_of line)
 

@@ -1,0 +1,16 @@
+mod Behind
+mod Kept
+mod Texts
+mod Spelled
+mod Undone
+mod Alike
+mod Ran
+mod Listed
+mod Told
+mod Answered
+mod Replies
+mod Numbers
+mod Back
+mod Worked
+mod Written
+mod Measured

@@ -1,0 +1,19 @@
+-- What a run writes.
+use Rattle.std.proofs.Common.{◌≡◌, ℕ, ◌-◌, ◌≤◌, false, List, length, refl, ap, ◌∙◌, arith}
+use Rattle.std.proofs.lemmas.List.{take_all}
+use Rattle.script_reader.specs.Lines.{lines_of, within_limit}
+use Rattle.script_running.specs.Output.{output_of}
+use Rattle.script_laws.specs.Scripts.{answers}
+use Rattle.script_laws.specs.Laws.{RunsAnswer}
+
+pub all_within : (given : List ℕ) → length given ≤ 67108864 → within_limit 0 given ≡ given
+unfolding within_limit
+all_within given h = take_all (67108864 - 0) given (omega (arith, h))
+
+answers_is : (script : List ℕ) → output_of false (lines_of script) ≡ answers script
+unfolding answers
+answers_is script = refl
+
+pub runs_answer : RunsAnswer
+runs_answer reader old new summary run none =
+    (run.output none).0 ∙ ap (λ (t : List ℕ). output_of false (lines_of t)) (all_within run.moves.given (run.finished refl).1) ∙ answers_is run.moves.given

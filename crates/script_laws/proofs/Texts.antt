@@ -1,0 +1,267 @@
+-- The lines of an answer's text, and how many of them are `ok`.
+use Rattle.std.proofs.Common.{◌≡◌, ◌≢◌, inl, inr, ℕ, zero, suc, ◌+◌, ◌/◌, ◌%◌, Bool, true, false, cond, ◌&&◌, nat_eq, nat_lt, List, [], ◌∷◌, ◌++◌, map, codes, flat_map, bytes_eq, ℤ, pos, negsuc, refl, sym, ap, ◌∙◌, arith}
+use Rattle.std.proofs.lemmas.List.{append-nil, append_assoc}
+use Rattle.std.proofs.lemmas.Bool.Decides.{nat_tests}
+use Rattle.std.proofs.lemmas.Bool.{cases_Bool, true≢false}
+use Rattle.std.specs.Fmt.{decimal, signed_decimal, digits, digits_onto, digit_glyph}
+use Rattle.std.specs.List.{AllByRecursion}
+use Rattle.std.specs.Prelude.{◌==◌}
+use Rattle.euler_operators.specs.declared.Kind.{Kind}
+use Rattle.euler_operators.specs.declared.Kind.TheVariants.{Solid, Face, Loop, Edge, Vertex}
+use Rattle.euler_operators.specs.HalfEdge.{is_first, edge_of}
+use Rattle.euler_operators.specs.Model.{Model, LoopContent, lone, cycle, content, rings_of}
+use Rattle.undo_journal.specs.Machine.{Machine, held}
+use Rattle.script_reader.specs.Newline.{Lacks, has_newline}
+use Rattle.script_reader.specs.Lines.{lines_of}
+use Rattle.script_reader.proofs.LinesOf.{first_line}
+use Rattle.script_reader.proofs.NewlineLaws.{Lacks-append}
+use Rattle.solid_listing.specs.Lines.{spaced, line_text, text_of}
+use Rattle.solid_listing.specs.Listing.{half_word, content_words, line, numbers_of, kind_lines, kinds, lines, or_empty, listing}
+use Rattle.solid_listing.specs.Replies.{reply_words, reply_text}
+use Rattle.solid_listing.specs.declared.reply.Reply.{Reply}
+use Rattle.solid_listing.specs.declared.reply.Reply.TheVariants as reply
+use Rattle.script_running.specs.script_judging.Judging.{answer_text}
+use Rattle.script_running.specs.declared.script_judging.judging.Answer.{Answer}
+use Rattle.script_running.specs.declared.script_judging.judging.Answer.TheVariants.{Silent, Reply as Told, Listing}
+use Rattle.script_laws.specs.Scripts.{EndsLine, count_lines, oks}
+use Rattle.script_laws.proofs.Behind.{lines_append, ends_append}
+
+-- ---- words without newlines
+
+abbrev AreWords : List (List ℕ) → Type 0
+AreWords ws = AllByRecursion Lacks ws
+
+lacks_if : (xs : List ℕ) → has_newline xs ≡ false → Lacks xs
+lacks_if [] e = tt
+lacks_if (x ∷ xs) e = (
+  λ (same : x ≡ 10). grind (arith, nat_tests),
+  elim (cases_Bool (x == 10)) [ inl is ↦ absurd (true≢false (rw is at e)) | inr isnt ↦ lacks_if xs (rw isnt at e) ],
+)
+
+glyph_other : (t : Bool) (d : ℕ) → cond t (48 + d) (87 + d) ≢ 10
+glyph_other true d e = omega (arith, e)
+glyph_other false d e = omega (arith, e)
+
+either_lacks : (t : Bool) (xs ys : List ℕ) → Lacks xs → Lacks ys → Lacks (cond t xs ys)
+either_lacks true xs ys h k = h
+either_lacks false xs ys h k = k
+
+lacks_onto : (k n : ℕ) (acc : List ℕ) → Lacks acc → Lacks (digits_onto k 10 false n acc)
+lacks_onto zero n acc h = h
+lacks_onto (suc k) n acc h =
+    let more : Lacks (digit_glyph false (n % 10) ∷ acc) = (glyph_other (nat_lt (n % 10) 10) (n % 10), h) in
+    either_lacks (n / 10 == 0) _ _ more (lacks_onto k (n / 10) _ more)
+
+lacks_decimal : (n : ℕ) → Lacks (decimal n)
+unfolding digits
+lacks_decimal n = lacks_onto 64 n [] tt
+
+lacks_signed : (z : ℤ) → Lacks (signed_decimal z)
+lacks_signed (pos n) = lacks_decimal n
+lacks_signed (negsuc n) = (λ e. omega (arith, e), lacks_decimal (suc n))
+
+sign_other : (b : Bool) → cond {A = ℕ} b 43 45 ≢ 10
+sign_other true e = omega (arith, e)
+sign_other false e = omega (arith, e)
+
+lacks_half : (h : ℕ) → Lacks (half_word h)
+lacks_half h = (sign_other (is_first h), lacks_decimal (edge_of h))
+
+are_words : {X : Type 0} (f : X → List ℕ) → ((x : X) → Lacks (f x)) → (xs : List X) → AreWords (map f xs)
+are_words f h [] = tt
+are_words f h (x ∷ xs) = (h x, are_words f h xs)
+
+words_append : (vs ws : List (List ℕ)) → AreWords vs → AreWords ws → AreWords (vs ++ ws)
+words_append [] ws h k = k
+words_append (v ∷ vs) ws h k = (h.0, words_append vs ws h.1 k)
+
+lacks_spaced : (ws : List (List ℕ)) → AreWords ws → Lacks (spaced ws)
+lacks_spaced [] h = tt
+lacks_spaced (w ∷ ws) h = (λ e. omega (arith, e), Lacks-append w (spaced ws) h.0 (lacks_spaced ws h.1))
+
+-- ---- a line of words
+
+-- the line isn't `ok`: its first byte is another one
+abbrev IsOther : List (List ℕ) → Type 0
+IsOther [] = ⊥
+IsOther ([] ∷ ws) = ⊥
+IsOther ((b ∷ w) ∷ ws) = (nat_eq b 111 ≡ false) × Lacks (b ∷ w) × AreWords ws
+
+text_is : (w : List ℕ) (ws : List (List ℕ)) (rest : List ℕ) → line_text (w ∷ ws) ++ rest ≡ (w ++ spaced ws) ++ 10 ∷ rest
+text_is w ws rest = append_assoc w (spaced ws ++ 10 ∷ []) rest ∙ ap (λ (t : List ℕ). w ++ t) (append_assoc (spaced ws) (10 ∷ []) rest) ∙ sym (append_assoc w (spaced ws) (10 ∷ rest))
+
+other_lines : (b : ℕ) (w : List ℕ) (ws : List (List ℕ)) (rest : List ℕ) → IsOther ((b ∷ w) ∷ ws) → lines_of (line_text ((b ∷ w) ∷ ws) ++ rest) ≡ ((b ∷ w) ++ spaced ws) ∷ lines_of rest
+other_lines b w ws rest h = ap lines_of (text_is (b ∷ w) ws rest) ∙ first_line ((b ∷ w) ++ spaced ws) rest (Lacks-append (b ∷ w) (spaced ws) h.1 (lacks_spaced ws h.2))
+
+not_ok : (t : Bool) (u : Bool) (n : ℕ) → t ≡ false → cond (t && u) 1 0 + n ≡ n
+not_ok true u n e = absurd (true≢false e)
+not_ok false u n e = omega arith
+
+other_oks : (l : List (List ℕ)) (rest : List ℕ) → IsOther l → oks (line_text l ++ rest) ≡ oks rest
+other_oks [] rest h = absurd h
+other_oks ([] ∷ ws) rest h = absurd h
+other_oks ((b ∷ w) ∷ ws) rest h = ap (count_lines (codes "ok")) (other_lines b w ws rest h) ∙ not_ok (nat_eq b 111) (bytes_eq (w ++ spaced ws) (107 ∷ [])) (oks rest) h.0
+
+line_ends : (l : List (List ℕ)) → IsOther l → EndsLine (line_text l)
+line_ends [] h = absurd h
+line_ends ([] ∷ ws) h = absurd h
+line_ends ((b ∷ w) ∷ ws) h = inr ((b ∷ w) ++ spaced ws, sym (append-nil (line_text ((b ∷ w) ∷ ws))) ∙ text_is (b ∷ w) ws [])
+
+-- ---- many lines
+
+abbrev AreOthers : List (List (List ℕ)) → Type 0
+AreOthers ls = AllByRecursion IsOther ls
+
+others_append : (ls ms : List (List (List ℕ))) → AreOthers ls → AreOthers ms → AreOthers (ls ++ ms)
+others_append [] ms h k = k
+others_append (l ∷ ls) ms h k = (h.0, others_append ls ms h.1 k)
+
+are_others : (f : ℕ → List (List ℕ)) → ((n : ℕ) → IsOther (f n)) → (ns : List ℕ) → AreOthers (map f ns)
+are_others f h [] = tt
+are_others f h (n ∷ ns) = (h n, are_others f h ns)
+
+no_oks : (ls : List (List (List ℕ))) → AreOthers ls → oks (text_of ls) ≡ 0
+no_oks [] h = refl
+no_oks (l ∷ ls) h = other_oks l (text_of ls) h.0 ∙ no_oks ls h.1
+
+text_ends : (ls : List (List (List ℕ))) → AreOthers ls → EndsLine (text_of ls)
+text_ends [] h = inl refl
+text_ends (l ∷ ls) h = ends_append (line_text l) (text_of ls) (line_ends l h.0) (text_ends ls h.1)
+
+-- ---- listings
+
+content_lacks : (c : LoopContent) → AreWords (content_words c)
+content_lacks (lone v) = (lacks_if (codes "at") refl, (lacks_decimal v, tt))
+content_lacks (cycle hs) = are_words half_word lacks_half hs
+
+line_other : (M : Model) (kind : Kind) (n : ℕ) → IsOther (line M kind n)
+line_other M Solid s = (refl, lacks_if (codes "solid") refl, (lacks_decimal s, tt))
+line_other M Face f = (refl, lacks_if (codes "face") refl, (lacks_decimal f, (lacks_decimal _, (lacks_decimal _, are_words decimal lacks_decimal (rings_of M f)))))
+line_other M Loop l = (refl, lacks_if (codes "loop") refl, (lacks_decimal l, content_lacks (content M l)))
+line_other M Edge e = (refl, lacks_if (codes "edge") refl, (lacks_decimal e, (lacks_decimal _, (lacks_decimal _, tt))))
+line_other M Vertex v = (refl, lacks_if (codes "vertex") refl, (lacks_decimal v, (lacks_signed _, (lacks_signed _, (lacks_signed _, tt)))))
+
+kinds_others : (M : Model) (ks : List Kind) → AreOthers (flat_map (kind_lines M) ks)
+kinds_others M [] = tt
+kinds_others M (k ∷ ks) = others_append (kind_lines M k) (flat_map (kind_lines M) ks) (are_others (line M k) (line_other M k) (numbers_of M k)) (kinds_others M ks)
+
+or_empty_others : (ls : List (List (List ℕ))) → AreOthers ls → AreOthers (or_empty ls)
+or_empty_others [] h = ((refl, lacks_if (codes "empty") refl, tt), tt)
+or_empty_others (l ∷ ls) h = h
+
+listing_others : (M : Model) → AreOthers (or_empty (lines M))
+unfolding lines
+listing_others M = or_empty_others (lines M) (kinds_others M kinds)
+
+listing_oks : (M : Model) → oks (listing M) ≡ 0
+unfolding listing
+listing_oks M = no_oks (or_empty (lines M)) (listing_others M)
+
+listing_ends : (M : Model) → EndsLine (listing M)
+unfolding listing
+listing_ends M = text_ends (or_empty (lines M)) (listing_others M)
+
+-- ---- replies
+
+flat_lacks : (b : Bool) → Lacks (cond b (codes "flat") (codes "bent"))
+flat_lacks true = lacks_if (codes "flat") refl
+flat_lacks false = lacks_if (codes "bent") refl
+
+-- whether a command was done
+abbrev pub is_ok : Answer → Bool
+is_ok Silent = false
+is_ok (Told reply.Done) = true
+is_ok (Told (reply.Refused w x)) = false
+is_ok (Told (reply.Fault n)) = false
+is_ok (Told reply.Memory) = false
+is_ok (Told (reply.Plane p flat)) = false
+is_ok (Told (reply.Volume n)) = false
+is_ok (Told (reply.Count ns)) = false
+is_ok Listing = false
+
+reply_other : (r : Reply) → is_ok (Told r) ≡ false → IsOther (reply_words r)
+reply_other reply.Done e = absurd (true≢false e)
+reply_other (reply.Refused w x) e = (refl, lacks_if (codes "refused") refl, (lacks_decimal w, (lacks_decimal x, tt)))
+reply_other (reply.Fault n) e = (refl, lacks_if (codes "fault") refl, (lacks_decimal n, tt))
+reply_other reply.Memory e = (refl, lacks_if (codes "memory") refl, tt)
+reply_other (reply.Plane p flat) e = (refl, lacks_if (codes "plane") refl, (lacks_signed _, (lacks_signed _, (lacks_signed _, (lacks_signed _, (flat_lacks flat, tt))))))
+reply_other (reply.Volume n) e = (refl, lacks_if (codes "volume") refl, (lacks_signed n, tt))
+reply_other (reply.Count ns) e = (refl, lacks_if (codes "count") refl, are_words signed_decimal lacks_signed ns)
+
+other_reply_oks : (r : Reply) → is_ok (Told r) ≡ false → oks (reply_text r) ≡ 0
+unfolding reply_text
+other_reply_oks r e = ap oks (sym (append-nil (line_text (reply_words r)))) ∙ other_oks (reply_words r) [] (reply_other r e)
+
+other_reply_ends : (r : Reply) → is_ok (Told r) ≡ false → EndsLine (reply_text r)
+unfolding reply_text
+other_reply_ends r e = line_ends (reply_words r) (reply_other r e)
+
+done_oks : oks (reply_text reply.Done) ≡ 1
+unfolding reply_text
+done_oks = refl
+
+done_ends : EndsLine (reply_text reply.Done)
+unfolding reply_text
+done_ends = inr (codes "ok", refl)
+
+reply_oks : (r : Reply) (b : Bool) → is_ok (Told r) ≡ b → oks (reply_text r) ≡ cond b 1 0
+reply_oks reply.Done true e = done_oks
+reply_oks reply.Done false e = absurd (true≢false e)
+reply_oks r false e = other_reply_oks r e
+reply_oks r true e = only r e where
+  only : (r : Reply) → is_ok (Told r) ≡ true → oks (reply_text r) ≡ 1
+  only reply.Done e = done_oks
+  only (reply.Refused w x) e = absurd (true≢false (sym e))
+  only (reply.Fault n) e = absurd (true≢false (sym e))
+  only reply.Memory e = absurd (true≢false (sym e))
+  only (reply.Plane p flat) e = absurd (true≢false (sym e))
+  only (reply.Volume n) e = absurd (true≢false (sym e))
+  only (reply.Count ns) e = absurd (true≢false (sym e))
+
+pub answer_oks : (s : Machine) (a : Answer) → oks (answer_text s a) ≡ cond (is_ok a) 1 0
+answer_oks s Silent = refl
+answer_oks s (Told r) = reply_oks r (is_ok (Told r)) refl
+answer_oks s Listing = listing_oks (held s)
+
+reply_ends : (r : Reply) (b : Bool) → is_ok (Told r) ≡ b → EndsLine (reply_text r)
+reply_ends reply.Done b e = done_ends
+reply_ends (reply.Refused w x) b e = other_reply_ends (reply.Refused w x) refl
+reply_ends (reply.Fault n) b e = other_reply_ends (reply.Fault n) refl
+reply_ends reply.Memory b e = other_reply_ends reply.Memory refl
+reply_ends (reply.Plane p flat) b e = other_reply_ends (reply.Plane p flat) refl
+reply_ends (reply.Volume n) b e = other_reply_ends (reply.Volume n) refl
+reply_ends (reply.Count ns) b e = other_reply_ends (reply.Count ns) refl
+
+pub answer_ends : (s : Machine) (a : Answer) → EndsLine (answer_text s a)
+answer_ends s Silent = inl refl
+answer_ends s (Told r) = reply_ends r _ refl
+answer_ends s Listing = listing_ends (held s)
+
+-- a reply is one line
+pub record IsLine (text : List ℕ) : Type 0 where
+  pub line : List ℕ
+  pub whole : text ≡ line ++ 10 ∷ []
+  pub first : (rest : List ℕ) → lines_of (text ++ rest) ≡ line ∷ lines_of rest
+
+is_line : (l : List (List ℕ)) → IsOther l → IsLine (line_text l)
+is_line [] h = absurd h
+is_line ([] ∷ ws) h = absurd h
+is_line ((b ∷ w) ∷ ws) h = record { line = (b ∷ w) ++ spaced ws; whole = sym (append-nil (line_text ((b ∷ w) ∷ ws))) ∙ text_is (b ∷ w) ws []; first = λ rest. other_lines b w ws rest h }
+
+pub reply_line : (r : Reply) → IsLine (line_text (reply_words r))
+reply_line reply.Done = record { line = codes "ok"; whole = refl; first = λ rest. refl }
+reply_line (reply.Refused w x) = is_line (reply_words (reply.Refused w x)) (reply_other (reply.Refused w x) refl)
+reply_line (reply.Fault n) = is_line (reply_words (reply.Fault n)) (reply_other (reply.Fault n) refl)
+reply_line reply.Memory = is_line (reply_words reply.Memory) (reply_other reply.Memory refl)
+reply_line (reply.Plane p flat) = is_line (reply_words (reply.Plane p flat)) (reply_other (reply.Plane p flat) refl)
+reply_line (reply.Volume n) = is_line (reply_words (reply.Volume n)) (reply_other (reply.Volume n) refl)
+reply_line (reply.Count ns) = is_line (reply_words (reply.Count ns)) (reply_other (reply.Count ns) refl)
+
+-- ---- the lines of two texts
+
+count_append : (l : List ℕ) (xs ys : List (List ℕ)) → count_lines l (xs ++ ys) ≡ count_lines l xs + count_lines l ys
+count_append l [] ys = omega arith
+count_append l (x ∷ xs) ys = omega (arith, count_append l xs ys)
+
+pub oks_append : (a b : List ℕ) → EndsLine a → oks (a ++ b) ≡ oks a + oks b
+oks_append a b h = ap (count_lines (codes "ok")) (lines_append a b h) ∙ count_append (codes "ok") (lines_of a) (lines_of b)

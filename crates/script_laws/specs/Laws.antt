@@ -1,0 +1,129 @@
+-- What scripts are answered, told of their bytes alone.
+use Rattle.std.specs.Prelude.{◌≡◌, ◌≢◌, ◌<◌, ◌^◌, ℕ, false, List, [], ◌∷◌, ◌++◌, codes, map, Option, ℤ, pos, ◌+ℤ◌, ◌*ℤ◌}
+use Rattle.std.specs.Fmt.{decimal, signed_decimal}
+use Rattle.std.specs.Int.Signed.{mag}
+use Rattle.std.specs.List.{AllByRecursion}
+use Rattle.euler_operators.specs.Refusal as why
+use Rattle.euler_operators.specs.declared.Why.{Why}
+use Rattle.solid_listing.specs.Lines.{spaced}
+use Rattle.solid_listing.specs.Replies.{reply_text}
+use Rattle.solid_listing.specs.declared.reply.Reply.{Reply}
+use Rattle.solid_listing.specs.declared.reply.Reply.TheVariants as reply
+use Rattle.script_reader.specs.Fault as fault
+use Rattle.script_reader.specs.declared.command.Fault.{Fault}
+use Rattle.script_reader.specs.Newline as newline
+use Rattle.script_reader.specs.Lines.{lines_of, within_limit}
+use Rattle.script_reader.specs.Words.{words}
+use Rattle.script_running.specs.Runs.{Served, BreaksOff, WriteFails}
+use Rattle.script_running.specs.declared.script_judging.judging.Summary.{Summary}
+use Rattle.script_laws.specs.Scripts.{answers, EndsLine, ended, HasNo, oks, Adds, Tells, SameBehind, IsTakenBack}
+
+abbrev pub Anything : List ℕ → Type 0
+Anything more = Unit {0}
+
+-- where no reply is `memory`, a run that isn't to stop writes the answers to the bytes that it was given
+abbrev pub RunsAnswer : Type 0
+RunsAnswer = (reader old new : Option (List ℕ)) (summary : Summary) (run : Served reader old new false summary) → summary.memory ≡ 0 → run.moves.out ≡ answers run.moves.given
+
+-- whatever memory is refused, a run that isn't to stop writes the answers to its lines, of which those that are answered `memory` change nothing
+abbrev pub RunsTell : Type 0
+RunsTell = (reader old new : Option (List ℕ)) (summary : Summary) (run : Served reader old new false summary) → Tells [] (lines_of run.moves.given) run.moves.out
+
+-- after a failed read, or where the script is too long, the answers to the lines that came with their newlines
+abbrev pub BrokenRunsTell : Type 0
+BrokenRunsTell = (reader old new : Option (List ℕ)) (run : BreaksOff reader old new false) → Tells [] run.judged run.moves.out
+
+-- after a failed write the front of the answers
+abbrev pub FailedRunsTell : Type 0
+FailedRunsTell = (reader old new : Option (List ℕ)) (run : WriteFails reader old new false) → (rest : List ℕ) × Tells [] (lines_of (within_limit 0 run.moves.given)) (run.moves.out ++ rest)
+
+-- an example, computed
+abbrev pub AnsweredSo : Type 0
+AnsweredSo = answers (codes "mvfs 1 1 1 1 0 0 0\nmev @1 @1 1 2 5 0 0\nkvfs 1\nlist\nundo\nlist\nundo\nlist\n") ≡ codes "ok\nok\nrefused 12 1\nsolid 1\nface 1 1 1\nloop 1 +1 -1\nedge 1 1 2\nvertex 1 0 0 0\nvertex 2 5 0 0\nok\nsolid 1\nface 1 1 1\nloop 1 at 1\nvertex 1 0 0 0\nok\nempty\n"
+
+-- what was answered stays, whatever comes behind
+abbrev pub AnswersStay : Type 0
+AnswersStay = (script more : List ℕ) → EndsLine script → (reply : List ℕ) × Adds script more reply
+
+-- a line that isn't answered `ok` can be left out: a refused command, a fault, a question, a comment
+abbrev pub OthersCanBeLeftOut : Type 0
+OthersCanBeLeftOut = (script line reply : List ℕ) → EndsLine script → newline.Lacks line → Adds script (ended line) reply → reply ≢ codes "ok\n"
+    → SameBehind Anything (script ++ ended line) script
+
+-- undone and done again: as if nothing had been said
+abbrev pub UndoAndRedoCanBeLeftOut : Type 0
+UndoAndRedoCanBeLeftOut = (script : List ℕ) → EndsLine script → Adds script (codes "undo\n") (codes "ok\n")
+    → Adds script (codes "undo\nredo\n") (codes "ok\nok\n") × SameBehind Anything (script ++ codes "undo\nredo\n") script
+
+-- a line that was answered `ok` and isn't `undo` itself, with `undo` behind it, can be left out where no `redo` comes
+abbrev pub UndoneLinesCanBeLeftOut : Type 0
+UndoneLinesCanBeLeftOut = (script line : List ℕ) → EndsLine script → newline.Lacks line → words line ≢ codes "undo" ∷ [] → Adds script (ended line) (codes "ok\n")
+    → Adds script (ended line ++ codes "undo\n") (codes "ok\nok\n") × SameBehind (HasNo (codes "redo")) (script ++ (ended line ++ codes "undo\n")) script
+
+-- as many undos as there are replies `ok`, where none of them is an undo's or a redo's, lead back to the start
+abbrev pub UndosLeadBack : Type 0
+UndosLeadBack = (script : List ℕ) → EndsLine script → HasNo (codes "undo") script → HasNo (codes "redo") script → IsTakenBack script (oks (answers script))
+
+-- and whatever the script was, some number of undos does
+abbrev pub SomeUndosLeadBack : Type 0
+SomeUndosLeadBack = (script : List ℕ) → EndsLine script → (n : ℕ) × IsTakenBack script n
+
+-- where two scripts come to equal listings, whatever comes is answered alike, but for undo and redo
+abbrev pub EqualListingsGoOnAlike : Type 0
+EqualListingsGoOnAlike = (one other text : List ℕ) → EndsLine one → EndsLine other → Adds one (codes "list\n") text → Adds other (codes "list\n") text
+    → SameBehind (λ more. HasNo (codes "undo") more × HasNo (codes "redo") more) one other
+
+-- ---- geometry
+
+-- numbers that a line may give
+abbrev pub IsWritten : ℤ → Type 0
+IsWritten z = mag z < 2 ^ 63
+
+-- the lines of a block, of a split, and of a solid's volume, and what the last is answered
+abbrev pub block_line : ℕ → ℤ → ℤ → ℤ → ℤ → ℤ → ℤ → List ℕ
+block_line n x y z dx dy dz = ended (codes "block" ++ spaced (decimal n ∷ map signed_decimal (x ∷ y ∷ z ∷ dx ∷ dy ∷ dz ∷ [])))
+
+abbrev pub split_line : ℕ → ℤ → ℤ → ℤ → ℤ → ℕ → List ℕ
+split_line n a b c d m = ended (codes "split" ++ spaced (decimal n ∷ signed_decimal a ∷ signed_decimal b ∷ signed_decimal c ∷ signed_decimal d ∷ decimal m ∷ []))
+
+abbrev pub volume_line : ℕ → List ℕ
+volume_line n = ended (codes "volume" ++ spaced (decimal n ∷ []))
+
+abbrev pub volume_answer : ℤ → List ℕ
+volume_answer z = ended (codes "volume" ++ spaced (signed_decimal z ∷ []))
+
+-- behind a block that was answered `ok`, its volume is answered: six times the product of its sizes
+abbrev pub BlocksMeasure : Type 0
+BlocksMeasure = (script : List ℕ) (n : ℕ) (x y z dx dy dz : ℤ) → EndsLine script → n < 2 ^ 32 → AllByRecursion IsWritten (x ∷ y ∷ z ∷ dx ∷ dy ∷ dz ∷ [])
+    → Adds script (block_line n x y z dx dy dz) (codes "ok\n")
+    → Adds (script ++ block_line n x y z dx dy dz) (volume_line n) (volume_answer (pos 6 *ℤ dx *ℤ dy *ℤ dz))
+
+-- behind a split that was answered `ok` the volumes of both parts sum to what was answered of the solid before
+abbrev pub PartsShareVolumes : Type 0
+PartsShareVolumes = (script : List ℕ) (n m : ℕ) (a b c d z : ℤ) → EndsLine script → n < 2 ^ 32 → m < 2 ^ 32 → AllByRecursion IsWritten (a ∷ b ∷ c ∷ d ∷ [])
+    → Adds script (volume_line n) (volume_answer z) → Adds script (split_line n a b c d m) (codes "ok\n")
+    → (u : ℤ) × (v : ℤ) × Adds script (volume_line n) (volume_answer (u +ℤ v))
+    × Adds (script ++ split_line n a b c d m) (volume_line n) (volume_answer u) × Adds (script ++ split_line n a b c d m) (volume_line m) (volume_answer v)
+
+-- ---- replies
+
+-- the numbers of a reply are those of their types
+abbrev pub Fits : Reply → Type 0
+Fits reply.Done = Unit {0}
+Fits (reply.Refused n x) = (n < 2 ^ 32) × (x < 2 ^ 32)
+Fits (reply.Fault n) = n < 2 ^ 32
+Fits reply.Memory = Unit {0}
+Fits (reply.Plane p flat) = (mag p.a < 2 ^ 127) × (mag p.b < 2 ^ 127) × (mag p.c < 2 ^ 127) × (mag p.d < 2 ^ 127)
+Fits (reply.Volume n) = mag n < 2 ^ 127
+Fits (reply.Count ns) = AllByRecursion (λ n. mag n < 2 ^ 63) ns
+
+-- a text begins with one reply at most
+abbrev pub RepliesTell : Type 0
+RepliesTell = (r q : Reply) (x y : List ℕ) → Fits r → Fits q → reply_text r ++ x ≡ reply_text q ++ y → (r ≡ q) × (x ≡ y)
+
+-- and its number tells why a command was refused, and what is wrong with a line
+abbrev pub RefusalsTell : Type 0
+RefusalsTell = (a b : Why) → why.code_of a ≡ why.code_of b → a ≡ b
+
+abbrev pub FaultsTell : Type 0
+FaultsTell = (a b : Fault) → fault.code_of a ≡ fault.code_of b → a ≡ b
