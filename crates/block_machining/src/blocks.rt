@@ -9,7 +9,7 @@ ghost use Rattle.sweeps.specs.Measure.{six_volume};
 ghost use Rattle.sweeps.specs.Model.{empty_model};
 ghost use Rattle.sweeps.specs.Sound.{Has};
 
-use crate::commands::{cut, joined, raised, tried};
+use crate::machining::{cut, joined, raised, tried};
 use command_laws::{
     blocks_leave_alone, blocks_make_faces, faces_are_kept, faces_stand, shapes_are_counted,
     solids_are_there, undos_go_back,

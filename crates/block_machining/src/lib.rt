@@ -3,7 +3,7 @@
 //! operator tried in a draft that is given up. And a block is made longer by a second one that is glued to it, and cut in two. What the
 //! functions say of volumes, sides and undo is proved from the contracts of the calls and the laws beside them alone.
 //!
-//! `commands` has the commands of the workbench with what a program wants of them, `blocks` what is made with these, `lists` a list of calls
+//! `machining` has the commands of the workbench with what a program wants of them, `blocks` what is made with these, `lists` a list of calls
 //! that is made in one.
 //!
 //! # What is proved
@@ -20,9 +20,9 @@
 //! of four calls in one is told what the plain machine may tell, and leads to a machine that may come of them, which is consistent.
 
 mod blocks;
-mod commands;
 mod lists;
+mod machining;
 
 pub use blocks::{machined, parted, taken_back};
-pub use commands::known;
 pub use lists::made;
+pub use machining::known;

@@ -1,180 +1,32 @@
 -- A list of calls is a history.
-use Rattle.std.proofs.Common.{◌≡◌, ℕ, zero, suc, ◌+◌, ◌<◌, ◌≤◌, inl, inr, Option, Some, None, List, [], ◌∷◌, ◌++◌, length, take, get_or, refl, sym, ap, subst, ◌∙◌, arith}
-use Rattle.std.proofs.lemmas.Bool.{cases_lt}
-use Rattle.euler_operators.specs.Model.{Model, empty_model}
+use Rattle.std.proofs.Common.{◌≡◌, ℕ, suc, inl, inr, Option, None, List, [], ◌∷◌, length, refl, sym, ap, subst, ◌∙◌}
+use Rattle.euler_operators.specs.Model.{Model}
 use Rattle.euler_operators.specs.Sound.{Sound}
 use Rattle.euler_operators.specs.declared.Op.{Op}
 use Rattle.euler_operators.specs.declared.Refusal.{Refusal}
-use Rattle.euler_operators.specs.Conditions.{first_false}
-use Rattle.euler_operators.specs.Effect.{effect}
-use Rattle.euler_laws.specs.Laws.{effects}
-use Rattle.euler_laws.proofs.Runs.{effects_keep_sound}
-use Rattle.undo_journal.specs.Machine.{Machine, DraftState, held, depth, accepted, act, act_refusal, undo, undo_refusal, redo, redo_refusal, open_draft, draft_step, commit}
-use Rattle.undo_journal.specs.Recorded.{models}
+use Rattle.euler_laws.specs.Laws.{AreAccepted, effects}
+use Rattle.undo_journal.specs.Machine.{Machine, DraftState, held, accepted, act, undo_refusal, redo_refusal, open_draft, draft_step, commit}
+use Rattle.undo_journal.specs.Journal.{Journal, DraftJournal, after_undo, after_redo, plain, IsRecorded, IsFurther}
 use Rattle.undo_journal.specs.Histories as histories
-use Rattle.undo_journal.specs.Histories.{unless, run_refusal, tried, after_call, after_calls, Follows, IsConsistent}
-use Rattle.undo_journal.proofs.Consistent.{none_first, run_goes}
-use Rattle.undo_journal.proofs.Copies.{at_place, how_many, accepted_is_appended, undo_moves_the_place, redo_moves_the_place, undone_to_first, redone_to_last}
-use Rattle.sweeps.specs.Machine.{lamina, lamina_refusal, block, block_refusal, sweep, sweep_refusal}
-use Rattle.gluing.specs.Machine.{glue, glue_refusal}
-use Rattle.plane_split.specs.Machine.{plane_with, split, split_refusal}
-use Rattle.call_lists.specs.declared.calls.Call.{Call}
-use Rattle.call_lists.specs.declared.calls.Told.{Told}
-use Rattle.call_lists.specs.declared.calls.Call.TheVariants as call
+use Rattle.undo_journal.specs.Histories.{unless, tried, after_call, after_calls, IsConsistent}
 use Rattle.sweeps.specs.Calls.{LaminasAreCalls, BlocksAreCalls, SweepsAreCalls}
 use Rattle.gluing.specs.Calls.{GluesAreCalls}
 use Rattle.plane_split.specs.Calls.{SplitsAreCalls}
-use Rattle.call_lists.specs.Laws.{ListsAreHistories, ListsKeepConsistent}
-use Rattle.call_lists.specs.Making.{Moves, Acts, Tries, Makes}
-
--- models that begin with the empty one, each sound, each made of the one before it by accepted operators
-pub record Whole (Ms : List Model) : Type 0 where
-  pub first : get_or Ms 0 empty_model ≡ empty_model
-  pub sound : (i : ℕ) → i < length Ms → Sound (get_or Ms i empty_model)
-  pub linked : (i : ℕ) → i + 1 < length Ms → Follows (get_or Ms i empty_model) (get_or Ms (i + 1) empty_model)
-
-pub whole : (s : Machine) → IsConsistent s → Whole (models s)
-whole s c = let n = how_many s in record {
-  first = c.first;
-  sound = λ i h. c.sound i (omega (arith, n, h));
-  linked = λ i h. c.linked i (omega (arith, n, h));
-}
-
-pub consistent : (s : Machine) → Whole (models s) → IsConsistent s
-consistent s w = let n = how_many s in record {
-  first = w.first;
-  sound = λ i h. w.sound i (omega (arith, n, h));
-  linked = λ i h. w.linked i (omega (arith, n, h));
-  held_sound = subst Sound (at_place s) (w.sound (depth s) (omega (arith, n)));
-  undone = undone_to_first s ∙ w.first;
-  redone = redone_to_last s;
-}
-
--- the first models, and one more
-at_front : (n : ℕ) (Xs : List Model) (N d : Model) (i : ℕ) → i < n → n ≤ length Xs → get_or (take n Xs ++ N ∷ []) i d ≡ get_or Xs i d
-at_front zero Xs N d i h k = absurd (omega (arith, h))
-at_front (suc n) [] N d i h k = absurd (omega (arith, k))
-at_front (suc n) (X ∷ Xs) N d zero h k = refl
-at_front (suc n) (X ∷ Xs) N d (suc i) h k = at_front n Xs N d i (omega (arith, h)) (omega (arith, k))
-
-at_end : (n : ℕ) (Xs : List Model) (N d : Model) → n ≤ length Xs → get_or (take n Xs ++ N ∷ []) n d ≡ N
-at_end zero Xs N d k = refl
-at_end (suc n) [] N d k = absurd (omega (arith, k))
-at_end (suc n) (X ∷ Xs) N d k = at_end n Xs N d (omega (arith, k))
-
-as_long : (n : ℕ) (Xs : List Model) (N : Model) → n ≤ length Xs → length (take n Xs ++ N ∷ []) ≡ suc n
-as_long zero Xs N k = refl
-as_long (suc n) [] N k = absurd (omega (arith, k))
-as_long (suc n) (X ∷ Xs) N k = ap suc (as_long n Xs N (omega (arith, k)))
-
-abbrev lengthened : ℕ → List Model → Model → List Model
-lengthened n Xs N = take (suc n) Xs ++ N ∷ []
-
-module _ (n : ℕ) (Xs : List Model) (N : Model) (k : suc n ≤ length Xs) (w : Whole Xs) (f : Follows (get_or Xs n empty_model) N) where
-  new_sound : Sound N
-  new_sound = subst Sound f.make (effects_keep_sound (get_or Xs n empty_model) f.operators (w.sound n (omega (arith, k))) f.are_accepted)
-
-  sound_at : (i : ℕ) → i < length (lengthened n Xs N) → Sound (get_or (lengthened n Xs N) i empty_model)
-  sound_at i h = let l = as_long (suc n) Xs N k in elim (cases_lt i (suc n)) [
-    | inl small ↦ subst Sound (sym (at_front (suc n) Xs N empty_model i small k)) (w.sound i (omega (arith, small, k)))
-    | inr last ↦ subst Sound (sym (at_end (suc n) Xs N empty_model k) ∙ ap (λ (j : ℕ). get_or (lengthened n Xs N) j empty_model) (omega (arith, last, h, l))) new_sound
-  ]
-
-  linked_at : (i : ℕ) → i + 1 < length (lengthened n Xs N) → Follows (get_or (lengthened n Xs N) i empty_model) (get_or (lengthened n Xs N) (i + 1) empty_model)
-  linked_at i h = let l = as_long (suc n) Xs N k in elim (cases_lt (i + 1) (suc n)) [
-    | inl small ↦ subst (λ (X : Model). Follows X (get_or (lengthened n Xs N) (i + 1) empty_model)) (sym (at_front (suc n) Xs N empty_model i (omega (arith, small)) k))
-        (subst (Follows (get_or Xs i empty_model)) (sym (at_front (suc n) Xs N empty_model (i + 1) small k)) (w.linked i (omega (arith, small, k))))
-    | inr last ↦
-        let e : n ≡ i = omega (arith, last, h, l) in
-        let e1 : suc n ≡ i + 1 = omega (arith, e) in
-        subst (λ (X : Model). Follows X (get_or (lengthened n Xs N) (i + 1) empty_model)) (ap (λ (j : ℕ). get_or Xs j empty_model) e ∙ sym (at_front (suc n) Xs N empty_model i (omega (arith, e)) k))
-        (subst (Follows (get_or Xs n empty_model)) (sym (at_end (suc n) Xs N empty_model k) ∙ ap (λ (j : ℕ). get_or (lengthened n Xs N) j empty_model) e1) f)
-  ]
-
-  longer : Whole (lengthened n Xs N)
-  longer = record {
-    first = at_front (suc n) Xs N empty_model 0 (omega arith) k ∙ w.first;
-    sound = sound_at;
-    linked = linked_at;
-  }
-
-pub consistent_accepted : (s : Machine) (N : Model) → IsConsistent s → Follows (held s) N → IsConsistent (accepted s N)
-consistent_accepted s N c f =
-    let n = how_many s in
-    let next : depth s + 1 ≡ suc (depth s) = omega arith in
-    let is : models (accepted s N) ≡ take (suc (depth s)) (models s) ++ N ∷ [] = (accepted_is_appended s N).0 ∙ ap (λ (m : ℕ). take m (models s) ++ N ∷ []) next in
-    consistent (accepted s N) (subst Whole (sym is) (longer (depth s) (models s) N (omega (arith, n)) (whole s c) (subst (λ (X : Model). Follows X N) (sym (at_place s)) f)))
-
-pub consistent_undo : (s : Machine) → IsConsistent s → IsConsistent (undo s)
-consistent_undo s c = consistent (undo s) (subst Whole (sym (undo_moves_the_place s).0) (whole s c))
-
-pub consistent_redo : (s : Machine) → IsConsistent s → IsConsistent (redo s)
-consistent_redo s c = consistent (redo s) (subst Whole (sym (redo_moves_the_place s).0) (whole s c))
-
--- operators of which none is refused, each tried in its turn
-tried_all : (d : DraftState) (ops : List Op) → run_refusal d.model ops ≡ None → tried d ops ≡ record { session = d.session; model = effects d.model ops }
-tried_all d [] e = refl
-tried_all d (op ∷ ops) e =
-    let both = none_first (first_false d.model op) (run_refusal (effect d.model op) ops) e in
-    ap (λ (o : Option Refusal). tried (unless o (draft_step d op) d) ops) both.0 ∙ tried_all (draft_step d op) ops both.1
-
--- where a larger command of some operators is accepted, they make its model
-made_follows : (s : Machine) (N : Model) (ops : List Op) (o : Option Refusal) → run_refusal (held s) ops ≡ o → unless o (accepted s (effects (held s) ops)) s ≡ accepted s N → Follows (held s) N
-made_follows s N ops None e is = record { operators = ops; are_accepted = run_goes (held s) ops e; make = ap held is }
-made_follows s N ops (Some r) e is = let d : depth s ≡ suc (depth s) = ap depth is in absurd (omega (arith, d))
-
--- one call of the plain machine leads from s to t, which is consistent
-pub record Steps (s t : Machine) : Type 0 where
-  pub call : histories.Call
-  pub leads : after_call s call ≡ t
-  pub consistent : IsConsistent t
-
-stays : (s t : Machine) → IsConsistent s → t ≡ s → Steps s t
-stays s t c e = record { call = histories.stopped; leads = sym e; consistent = subst IsConsistent (sym e) c }
-
-acts : (o : Option Refusal) (s next t : Machine) (a : Told) → IsConsistent s → (o ≡ None → Steps s next) → Acts o s next a t → Steps s t
-acts None s next t a c goes (inl h) = subst (Steps s) (sym h.1) (goes refl)
-acts None s next t a c goes (inr h) = stays s t c h.1
-acts (Some r) s next t a c goes h = stays s t c h.1
-
-tries : (o : Option Refusal) (s next t : Machine) (a : Told) → IsConsistent s → (o ≡ None → Steps s next) → Tries o s next a t → Steps s t
-tries o s next t a c goes (inl h) = acts o s next t a c goes h
-tries o s next t a c goes (inr h) = stays s t c h.1
-
-moves : (o : Option Refusal) (s next t : Machine) (a : Told) → IsConsistent s → Steps s next → Moves o s next a t → Steps s t
-moves None s next t a c goes h = subst (Steps s) (sym h.1) goes
-moves (Some r) s next t a c goes h = stays s t c h.1
-
-acted : (s : Machine) (op : Op) → IsConsistent s → act_refusal s op ≡ None → Steps s (act s op)
-acted s op c goes = record {
-  call = histories.acted op;
-  leads = ap (λ (o : Option Refusal). unless o (act s op) s) goes;
-  consistent = consistent_accepted s (effect (held s) op) c (record { operators = op ∷ []; are_accepted = (goes, tt); make = refl });
-}
-
-made : (s : Machine) (N : Model) (ops : List Op) → IsConsistent s → after_call s (histories.made ops) ≡ accepted s N → Steps s (accepted s N)
-made s N ops c is = record {
-  call = histories.made ops;
-  leads = is;
-  consistent = consistent_accepted s N c (made_follows s N ops (run_refusal (held s) ops) refl is);
-}
-
-committed : (s : Machine) (ops : List Op) → IsConsistent s → run_refusal (held s) ops ≡ None → Steps s (commit (tried (open_draft s) ops))
-committed s ops c goes = record {
-  call = histories.committed ops;
-  leads = refl;
-  consistent = subst (λ (d : DraftState). IsConsistent (commit d)) (sym (tried_all (open_draft s) ops goes))
-      (consistent_accepted s (effects (held s) ops) c (record { operators = ops; are_accepted = run_goes (held s) ops goes; make = refl }));
-}
-
-abandoned : (s : Machine) → IsConsistent s → Steps s s
-abandoned s c = stays s s c refl
-
-undone : (s : Machine) → IsConsistent s → Steps s (undo s)
-undone s c = record { call = histories.undone; leads = refl; consistent = consistent_undo s c }
-
-redone : (s : Machine) → IsConsistent s → Steps s (redo s)
-redone s c = record { call = histories.redone; leads = refl; consistent = consistent_redo s c }
+use Rattle.plane_split.specs.Machine.{plane_with}
+use Rattle.commands.specs.declared.command.Change.{Change}
+use Rattle.commands.specs.declared.command.Change.TheVariants as change
+use Rattle.commands.specs.declared.command.Command.{Command}
+use Rattle.commands.specs.declared.command.Command.TheVariants as command
+use Rattle.commands.specs.declared.command.Call.{Call}
+use Rattle.commands.specs.declared.command.Call.TheVariants as call
+use Rattle.commands.specs.declared.command.Told.{Told}
+use Rattle.commands.specs.declared.stage.OpenDraft.{OpenDraft}
+use Rattle.commands.specs.declared.stage.Stage.{Stage}
+use Rattle.commands.specs.declared.stage.Stage.TheVariants.{Session, Drafting}
+use Rattle.commands.specs.Changes.{refusal_of, made, MayLack}
+use Rattle.commands.specs.Telling.{Tells, TellsSession, TellsDraft, IsWhole}
+use Rattle.commands.proofs.Settling.{ended}
+use Rattle.call_lists.specs.Laws.{machine_of, ListsAreHistories}
 
 -- the larger commands are calls
 pub record LargerAreCalls : Type 0 where
@@ -184,32 +36,90 @@ pub record LargerAreCalls : Type 0 where
   pub glue : GluesAreCalls
   pub split : SplitsAreCalls
 
-pub step : LargerAreCalls → (s t : Machine) (c : Call) (a : Told) → IsConsistent s → Makes s c a t → Steps s t
-step l s t (call.Act op) a k h = acts (act_refusal s op) s (act s op) t a k (acted s op k) h
-step l s t (call.Lamina n ps) a k h = acts (lamina_refusal s n ps.value.items) s (lamina s n ps.value.items) t a k (λ goes. made s _ _ k (l.lamina s n ps.value.items k.held_sound goes)) h
-step l s t (call.Block n p dx dy dz) a k h = acts (block_refusal s n p dx dy dz) s (block s n p dx dy dz) t a k (λ goes. made s _ _ k (l.block s n p dx dy dz k.held_sound goes)) h
-step l s t (call.Sweep f d) a k h = acts (sweep_refusal s f d) s (sweep s f d) t a k (λ goes. made s _ _ k (l.sweep s f d k.held_sound goes)) h
-step l s t (call.Glue f g) a k h = tries (glue_refusal s f g) s (glue s f g) t a k (λ goes. made s _ _ k (l.glue s f g k.held_sound goes)) h
-step l s t (call.Split n x y z w m) a k h = tries (split_refusal s n (plane_with x y z w) m) s (split s n (plane_with x y z w) m) t a k (λ goes. made s _ _ k (l.split s n (plane_with x y z w) m k.held_sound goes)) h
-step l s t (call.Commit ops) a k h = tries (run_refusal (held s) ops.items) s (commit (tried (open_draft s) ops.items)) t a k (committed s ops.items k) h
-step l s t (call.Abandon ops) a k h = tries (run_refusal (held s) ops.items) s s t a k (λ goes. abandoned s k) h
-step l s t call.Undo a k h = moves (undo_refusal s) s (undo s) t a k (undone s k) h
-step l s t call.Redo a k h = moves (redo_refusal s) s (redo s) t a k (redone s k) h
+-- one call of the plain machine leads from s to t
+pub record IsCall (s t : Machine) : Type 0 where
+  pub call : histories.Call
+  pub leads : after_call s call ≡ t
+
+idle : (s t : Machine) → t ≡ s → IsCall s t
+idle s t e = record { call = histories.stopped; leads = sym e }
+
+-- a change that isn't refused
+called : LargerAreCalls → (s : Machine) (c : Change) → Sound (held s) → refusal_of (held s) c ≡ None → IsCall s (accepted s (made (held s) c))
+called l s (change.Act op) sound goes = record { call = histories.acted op; leads = ap (λ (o : Option Refusal). unless o (act s op) s) goes }
+called l s (change.Lamina n ps) sound goes = record { call = histories.made _; leads = l.lamina s n ps sound goes }
+called l s (change.Block n p dx dy dz) sound goes = record { call = histories.made _; leads = l.block s n p dx dy dz sound goes }
+called l s (change.Sweep f d) sound goes = record { call = histories.made _; leads = l.sweep s f d sound goes }
+called l s (change.Glue f g) sound goes = record { call = histories.made _; leads = l.glue s f g sound goes }
+called l s (change.Split n x y z w m) sound goes = record { call = histories.made _; leads = l.split s n (plane_with x y z w) m sound goes }
+
+session_call : LargerAreCalls → (s t : Journal) (c : Command) (a : Told) → IsConsistent s.machine → TellsSession s c a t → IsCall s.machine t.machine
+session_call l s t (command.Change c) a whole h = elim (ended (refusal_of (held s.machine) c) (MayLack (held s.machine) c) (t ≡ s) ((t.machine ≡ accepted s.machine (made (held s.machine) c)) × IsRecorded s t) a h) [
+  | inl d ↦ subst (IsCall s.machine) (sym d.2.0) (called l s.machine c whole.held_sound d.1)
+  | inr (inl r) ↦ idle s.machine t.machine (ap (λ (j : Journal). j.machine) r.3)
+  | inr (inr m) ↦ idle s.machine t.machine (ap (λ (j : Journal). j.machine) m.1)
+]
+session_call l s t (command.Ask q) a whole h = idle s.machine t.machine (ap (λ (j : Journal). j.machine) h.1)
+session_call l s t command.Undo a whole h = elim (ended (undo_refusal s.machine) ⊥ (t ≡ s) (t ≡ after_undo s) a h) [
+  | inl d ↦ record { call = histories.undone; leads = sym (ap (λ (j : Journal). j.machine) d.2) }
+  | inr (inl r) ↦ idle s.machine t.machine (ap (λ (j : Journal). j.machine) r.3)
+  | inr (inr m) ↦ idle s.machine t.machine (ap (λ (j : Journal). j.machine) m.1)
+]
+session_call l s t command.Redo a whole h = elim (ended (redo_refusal s.machine) ⊥ (t ≡ s) (t ≡ after_redo s) a h) [
+  | inl d ↦ record { call = histories.redone; leads = sym (ap (λ (j : Journal). j.machine) d.2) }
+  | inr (inl r) ↦ idle s.machine t.machine (ap (λ (j : Journal). j.machine) r.3)
+  | inr (inr m) ↦ idle s.machine t.machine (ap (λ (j : Journal). j.machine) m.1)
+]
+
+-- whatever a draft is told, its session stays
+pub session_stays : (d e : DraftJournal) (c : Command) (a : Told) → TellsDraft d c a e → e.session ≡ d.session
+session_stays d e (command.Change c) a h = elim (ended (refusal_of d.model c) (MayLack d.model c) (e ≡ d) ((e.model ≡ made d.model c) × IsFurther d e) a h) [
+  | inl x ↦ x.2.1.session
+  | inr (inl r) ↦ ap (λ (x : DraftJournal). x.session) r.3
+  | inr (inr m) ↦ ap (λ (x : DraftJournal). x.session) m.1
+]
+session_stays d e (command.Ask q) a h = ap (λ (x : DraftJournal). x.session) h.1
+session_stays d e command.Undo a h = ap (λ (x : DraftJournal). x.session) h.1
+session_stays d e command.Redo a h = ap (λ (x : DraftJournal). x.session) h.1
+
+-- operators that are accepted, each tried as a step
+tried_all : (d : DraftState) (ops : List Op) → AreAccepted d.model ops → tried d ops ≡ record { session = d.session; model = effects d.model ops }
+tried_all d [] goes = refl
+tried_all d (op ∷ ops) goes = ap (λ (o : Option Refusal). tried (unless o (draft_step d op) d) ops) goes.0 ∙ tried_all (draft_step d op) ops goes.1
+
+committed : (d : DraftJournal) (ops : List Op) → AreAccepted (held d.session.machine) ops → effects (held d.session.machine) ops ≡ d.model → IsCall d.session.machine (commit (plain d))
+committed d ops goes make = record {
+  call = histories.committed ops;
+  leads = ap commit (tried_all (open_draft d.session.machine) ops goes) ∙ ap (accepted d.session.machine) make;
+}
+
+led : (m : Machine) (g h : Stage) → h ≡ g → IsCall m (machine_of g) → IsCall m (machine_of h)
+led m g h is call = subst (λ (k : Stage). IsCall m (machine_of k)) (sym is) call
+
+pub stage_call : LargerAreCalls → (g h : Stage) (c : Call) (a : Told) → IsWhole g → Tells g c a h → IsCall (machine_of g) (machine_of h)
+stage_call l (Session s) h (call.Give c) a whole x = led s.machine (Session x.0) h x.1 (session_call l s x.0 c a whole x.2)
+stage_call l (Session s) h call.Open a whole (inl x) = led s.machine _ h x.1 (idle s.machine s.machine refl)
+stage_call l (Session s) h call.Open a whole (inr x) = led s.machine _ h x.1 (idle s.machine s.machine refl)
+stage_call l (Session s) h call.Mark a whole x = led s.machine _ h x.1 (idle s.machine s.machine refl)
+stage_call l (Session s) h (call.Back n) a whole x = led s.machine _ h x.1 (idle s.machine s.machine refl)
+stage_call l (Session s) h call.Commit a whole x = led s.machine _ h x.1 (idle s.machine s.machine refl)
+stage_call l (Session s) h call.Abandon a whole x = led s.machine _ h x.1 (idle s.machine s.machine refl)
+stage_call l (Drafting d) h (call.Give c) a whole x =
+    led d.draft.session.machine (Drafting x.0) h x.1 (idle d.draft.session.machine x.0.draft.session.machine (ap (λ (j : Journal). j.machine) (session_stays d.draft x.0.draft c a x.2)))
+stage_call l (Drafting d) h call.Open a whole x = led d.draft.session.machine _ h x.1 (idle d.draft.session.machine d.draft.session.machine refl)
+stage_call l (Drafting d) h call.Mark a whole x = led d.draft.session.machine _ h x.3 (idle d.draft.session.machine d.draft.session.machine refl)
+stage_call l (Drafting d) h (call.Back n) a whole x = led d.draft.session.machine _ h x.1 (idle d.draft.session.machine d.draft.session.machine refl)
+stage_call l (Drafting d) h call.Commit a whole x = led d.draft.session.machine _ h x.1 (committed d.draft whole.2.operators whole.2.are_accepted whole.2.make)
+stage_call l (Drafting d) h call.Abandon a whole x = led d.draft.session.machine _ h x.1 (idle d.draft.session.machine d.draft.session.machine refl)
 
 pub lists_are_histories : LargerAreCalls → ListsAreHistories
-lists_are_histories l s t [] [] k h = record { history = []; as_many = refl; leads = sym h }
-lists_are_histories l s t [] (a ∷ answers) k h = absurd h
-lists_are_histories l s t (c ∷ calls) [] k h = absurd h
-lists_are_histories l s t (c ∷ calls) (a ∷ answers) k h =
-    let first = step l s h.0 c a k h.1 in
-    let later = lists_are_histories l h.0 t calls answers first.consistent h.2 in record {
+lists_are_histories l g h [] [] whole x = record { history = []; as_many = refl; leads = sym (ap machine_of x) }
+lists_are_histories l g h [] (a ∷ answers) whole x = absurd x
+lists_are_histories l g h (c ∷ calls) [] whole x = absurd x
+lists_are_histories l g h (c ∷ calls) (a ∷ answers) whole x =
+    let first = stage_call l g x.0 c a whole x.1 in
+    let later = lists_are_histories l x.0 h calls answers x.2 x.3 in record {
       history = first.call ∷ later.history;
       as_many = ap suc later.as_many;
       leads = ap (λ (m : Machine). after_calls m later.history) first.leads ∙ later.leads;
     }
-
-pub lists_keep_consistent : LargerAreCalls → ListsKeepConsistent
-lists_keep_consistent l s t [] [] k h = subst IsConsistent (sym h) k
-lists_keep_consistent l s t [] (a ∷ answers) k h = absurd h
-lists_keep_consistent l s t (c ∷ calls) [] k h = absurd h
-lists_keep_consistent l s t (c ∷ calls) (a ∷ answers) k h = lists_keep_consistent l h.0 t calls answers (step l s h.0 c a k h.1).consistent h.2

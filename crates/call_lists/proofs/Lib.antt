@@ -1,4 +1,3 @@
-pub mod Acts
 pub mod Lists
 pub mod Histories
 pub mod Places

@@ -1,90 +1,146 @@
 -- How many commands can be undone, and redone, after a list of calls.
-use Rattle.std.proofs.Common.{◌≡◌, ℕ, suc, ◌+◌, inl, inr, Option, Some, None, List, [], ◌∷◌, length, is_some, refl, sym, ap, subst, ◌∙◌, arith, true≢false}
+use Rattle.std.proofs.Common.{◌≡◌, ℕ, suc, ◌+◌, ◌-◌, Bool, true, false, inl, inr, Option, Some, None, List, [], ◌∷◌, length, is_some, refl, sym, ap, subst, ◌∙◌, arith, true≢false}
+use Rattle.std.specs.Prelude.{◌≢◌}
 use Rattle.euler_operators.specs.Model.{Model}
-use Rattle.euler_operators.specs.declared.Op.{Op}
 use Rattle.euler_operators.specs.declared.Refusal.{Refusal}
-use Rattle.undo_journal.specs.Machine.{Machine, depth, held, accepted, act, act_refusal, undo, undo_refusal, redo, redo_refusal, open_draft, commit}
-use Rattle.undo_journal.specs.Histories.{run_refusal, tried, undos, redos}
-use Rattle.undo_journal.proofs.Consistent.{tried_session}
+use Rattle.undo_journal.specs.Machine.{Machine, depth, ahead, held, accepted, undo, undo_refusal, redo, redo_refusal}
+use Rattle.undo_journal.specs.Journal.{Journal, DraftJournal, after_undo, after_redo, IsRecorded}
+use Rattle.undo_journal.specs.Histories.{undos, redos, IsConsistent}
 use Rattle.undo_journal.proofs.Copies.{redone_to_last}
-use Rattle.sweeps.specs.Machine.{lamina, lamina_refusal, block, block_refusal, sweep, sweep_refusal}
-use Rattle.gluing.specs.Machine.{glue, glue_refusal}
-use Rattle.plane_split.specs.Machine.{plane_with, split, split_refusal}
-use Rattle.call_lists.specs.declared.calls.Call.{Call}
-use Rattle.call_lists.specs.declared.calls.Call.TheVariants as call
-use Rattle.call_lists.specs.declared.calls.Told.{Told}
-use Rattle.call_lists.specs.declared.calls.Told.TheVariants.{Done, Refused, Memory}
-use Rattle.call_lists.specs.Making.{Moves, Acts, Tries, Makes}
-use Rattle.call_lists.specs.Laws.{Place, place_of, place_after, place_after_all, PlacesAreCounted, UndosLeadToTheFirst, RedosLeadToTheLast}
-use Rattle.call_lists.proofs.Histories.{LargerAreCalls, lists_keep_consistent}
+use Rattle.commands.specs.declared.command.Command.{Command}
+use Rattle.commands.specs.declared.command.Command.TheVariants as command
+use Rattle.commands.specs.declared.command.Call.{Call}
+use Rattle.commands.specs.declared.command.Call.TheVariants as call
+use Rattle.commands.specs.declared.command.Told.{Told}
+use Rattle.commands.specs.declared.command.Told.TheVariants as told
+use Rattle.commands.specs.declared.command.Told.TheVariants.{Done, Refused, Memory, InDraft, NoDraft}
+use Rattle.commands.specs.declared.stage.Stage.{Stage}
+use Rattle.commands.specs.declared.stage.Stage.TheVariants.{Session, Drafting}
+use Rattle.commands.specs.Changes.{refusal_of, made, MayLack}
+use Rattle.commands.specs.Telling.{Tells, TellsSession, IsWhole}
+use Rattle.commands.proofs.Settling.{ended, not_done, memory_not_done}
+use Rattle.call_lists.specs.Laws.{Place, machine_of, place_of, after_done, place_after, place_after_all, PlacesAreCounted, UndosLeadToTheFirst, RedosLeadToTheLast}
+use Rattle.call_lists.proofs.Histories.{session_stays}
+use Rattle.call_lists.proofs.Lists.{lists_keep_whole}
 
-abbrev placed : ℕ → ℕ → Place
-placed a b = record { behind = a; ahead = b }
+abbrev placed : ℕ → ℕ → Bool → Place
+placed a b drafting = record { behind = a; ahead = b; drafting = drafting }
 
-place_is : (a b x y : ℕ) → a ≡ x → b ≡ y → placed a b ≡ placed x y
-place_is a b x y p q = λ i. record { behind = p i; ahead = q i }
+place_is : (a b x y : ℕ) (drafting : Bool) → a ≡ x → b ≡ y → placed a b drafting ≡ placed x y drafting
+place_is a b x y drafting p q = λ i. record { behind = p i; ahead = q i; drafting = drafting }
 
--- a call that has changed nothing
-told_nothing : (c : Call) (s t : Machine) (a b : Told) → a ≡ b → t ≡ s → place_after (place_of s) c b ≡ place_of s → place_of t ≡ place_after (place_of s) c a
-told_nothing c s t a b told e same = subst (λ (x : Told). place_of t ≡ place_after (place_of s) c x) (sym told) (ap place_of e ∙ sym same)
+-- what isn't told `Done` keeps the place
+kept_place : (p : Place) (c : Call) (a : Told) → a ≢ Done → place_after p c a ≡ p
+kept_place p c Done other = absurd (other refl)
+kept_place p c (Refused r) other = refl
+kept_place p c Memory other = refl
+kept_place p c InDraft other = refl
+kept_place p c NoDraft other = refl
+kept_place p c (told.Plane q flat) other = refl
+kept_place p c (told.Volume n) other = refl
+kept_place p c (told.Counts n) other = refl
+kept_place p c (told.Steps n) other = refl
 
-told_done : (c : Call) (s next t : Machine) (a : Told) → a ≡ Done → t ≡ next → place_of next ≡ place_after (place_of s) c Done → place_of t ≡ place_after (place_of s) c a
-told_done c s next t a told e moved = subst (λ (x : Told). place_of t ≡ place_after (place_of s) c x) (sym told) (ap place_of e ∙ moved)
+-- and so does a call after which the place would be the same
+idle_place : (p : Place) (c : Call) (a : Told) → after_done p c ≡ p → place_after p c a ≡ p
+idle_place p c Done same = same
+idle_place p c (Refused r) same = refl
+idle_place p c Memory same = refl
+idle_place p c InDraft same = refl
+idle_place p c NoDraft same = refl
+idle_place p c (told.Plane q flat) same = refl
+idle_place p c (told.Volume n) same = refl
+idle_place p c (told.Counts n) same = refl
+idle_place p c (told.Steps n) same = refl
 
-acts : (c : Call) (o : Option Refusal) (s next t : Machine) (a : Told) → place_of next ≡ place_after (place_of s) c Done → Acts o s next a t → place_of t ≡ place_after (place_of s) c a
-acts c None s next t a moved (inl h) = told_done c s next t a h.0 h.1 moved
-acts c None s next t a moved (inr h) = told_nothing c s t a Memory h.0 h.1 refl
-acts c (Some r) s next t a moved h = told_nothing c s t a (Refused r) h.0 h.1 refl
+not_memory : (a : Told) → a ≡ Memory → a ≢ Done
+not_memory a is e = memory_not_done (sym is ∙ e)
 
-tries : (c : Call) (o : Option Refusal) (s next t : Machine) (a : Told) → place_of next ≡ place_after (place_of s) c Done → Tries o s next a t → place_of t ≡ place_after (place_of s) c a
-tries c o s next t a moved (inl h) = acts c o s next t a moved h
-tries c o s next t a moved (inr h) = told_nothing c s t a Memory h.0 h.1 refl
+not_refused : (a : Told) (r : Refusal) → a ≡ Refused r → a ≢ Done
+not_refused a r is e = not_done r (sym is ∙ e)
 
-moves : (c : Call) (o : Option Refusal) (s next t : Machine) (a : Told) → (o ≡ None → place_of next ≡ place_after (place_of s) c Done) → Moves o s next a t → place_of t ≡ place_after (place_of s) c a
-moves c None s next t a moved h = told_done c s next t a h.0 h.1 (moved refl)
-moves c (Some r) s next t a moved h = told_nothing c s t a (Refused r) h.0 h.1 refl
+no_draft_is_not_done : NoDraft ≢ Done
+no_draft_is_not_done e = cc
+
+in_draft_is_not_done : InDraft ≢ Done
+in_draft_is_not_done e = cc
+
+-- a call that has changed nothing, and one that was done
+stayed : (g h : Stage) (c : Call) (a : Told) → a ≢ Done → h ≡ g → place_of h ≡ place_after (place_of g) c a
+stayed g h c a other is = ap place_of is ∙ sym (kept_place (place_of g) c a other)
+
+went : (g h : Stage) (c : Call) (a : Told) → a ≡ Done → place_of h ≡ after_done (place_of g) c → place_of h ≡ place_after (place_of g) c a
+went g h c a is moved = subst (λ (b : Told). place_of h ≡ place_after (place_of g) c b) (sym is) moved
 
 one_more : (n : ℕ) → suc n ≡ n + 1
 one_more n = omega arith
 
 -- an accepted command
-accepted_place : (s : Machine) (N : Model) → place_of (accepted s N) ≡ placed (depth s + 1) 0
-accepted_place s N = place_is (suc (depth s)) 0 (depth s + 1) 0 (one_more (depth s)) refl
+accepted_place : (s t : Journal) (N : Model) → t.machine ≡ accepted s.machine N → place_of (Session t) ≡ placed (depth s.machine + 1) 0 false
+accepted_place s t N is = place_is (depth t.machine) (ahead t.machine) (depth s.machine + 1) 0 false (ap depth is ∙ one_more (depth s.machine)) (ap ahead is)
 
 -- undo where a command is behind, and redo where one is ahead
-undo_place : (past : List Model) (M : Model) (future : List Model) → undo_refusal (record { past = past; present = M; future = future }) ≡ None
-    → place_of (undo (record { past = past; present = M; future = future })) ≡ place_after (place_of (record { past = past; present = M; future = future })) call.Undo Done
-undo_place [] M future goes = absurd (true≢false (ap is_some goes))
-undo_place (P ∷ past) M future goes = place_is (length past) (suc (length future)) _ (length future + 1) (omega arith) (one_more (length future))
+undone_place : (past : List Model) (M : Model) (future : List Model) → undo_refusal (record { past = past; present = M; future = future }) ≡ None
+    → (depth (undo (record { past = past; present = M; future = future })) ≡ length past - 1) × (ahead (undo (record { past = past; present = M; future = future })) ≡ length future + 1)
+undone_place [] M future goes = absurd (true≢false (ap is_some goes))
+undone_place (P ∷ past) M future goes = (omega arith, one_more (length future))
 
-redo_place : (past : List Model) (M : Model) (future : List Model) → redo_refusal (record { past = past; present = M; future = future }) ≡ None
-    → place_of (redo (record { past = past; present = M; future = future })) ≡ place_after (place_of (record { past = past; present = M; future = future })) call.Redo Done
-redo_place past M [] goes = absurd (true≢false (ap is_some goes))
-redo_place past M (N ∷ future) goes = place_is (suc (length past)) (length future) (length past + 1) _ (one_more (length past)) (omega arith)
+redone_place : (past : List Model) (M : Model) (future : List Model) → redo_refusal (record { past = past; present = M; future = future }) ≡ None
+    → (depth (redo (record { past = past; present = M; future = future })) ≡ length past + 1) × (ahead (redo (record { past = past; present = M; future = future })) ≡ length future - 1)
+redone_place past M [] goes = absurd (true≢false (ap is_some goes))
+redone_place past M (N ∷ future) goes = (one_more (length past), omega arith)
 
-commit_place : (s : Machine) (ops : List Op) → place_of (commit (tried (open_draft s) ops)) ≡ placed (depth s + 1) 0
-commit_place s ops = ap (λ (x : Machine). place_of (accepted x (tried (open_draft s) ops).model)) (tried_session (open_draft s) ops) ∙ accepted_place s (tried (open_draft s) ops).model
+session_place : (s t : Journal) (c : Command) (a : Told) → TellsSession s c a t → place_of (Session t) ≡ place_after (place_of (Session s)) (call.Give c) a
+session_place s t (command.Change c) a h = elim (ended (refusal_of (held s.machine) c) (MayLack (held s.machine) c) (t ≡ s) ((t.machine ≡ accepted s.machine (made (held s.machine) c)) × IsRecorded s t) a h) [
+  | inl d ↦ went (Session s) (Session t) (call.Give (command.Change c)) a d.0 (accepted_place s t (made (held s.machine) c) d.2.0)
+  | inr (inl r) ↦ stayed (Session s) (Session t) (call.Give (command.Change c)) a (not_refused a r.0 r.1) (ap Session r.3)
+  | inr (inr m) ↦ stayed (Session s) (Session t) (call.Give (command.Change c)) a (not_memory a m.0) (ap Session m.1)
+]
+session_place s t (command.Ask q) a h = ap (λ (j : Journal). place_of (Session j)) h.1 ∙ sym (idle_place (place_of (Session s)) (call.Give (command.Ask q)) a refl)
+session_place s t command.Undo a h = elim (ended (undo_refusal s.machine) ⊥ (t ≡ s) (t ≡ after_undo s) a h) [
+  | inl d ↦
+      let moved = undone_place s.machine.past s.machine.present s.machine.future d.1 in
+      went (Session s) (Session t) (call.Give command.Undo) a d.0 (place_is _ _ _ _ false (ap (λ (j : Journal). depth j.machine) d.2 ∙ moved.0) (ap (λ (j : Journal). ahead j.machine) d.2 ∙ moved.1))
+  | inr (inl r) ↦ stayed (Session s) (Session t) (call.Give command.Undo) a (not_refused a r.0 r.1) (ap Session r.3)
+  | inr (inr m) ↦ stayed (Session s) (Session t) (call.Give command.Undo) a (not_memory a m.0) (ap Session m.1)
+]
+session_place s t command.Redo a h = elim (ended (redo_refusal s.machine) ⊥ (t ≡ s) (t ≡ after_redo s) a h) [
+  | inl d ↦
+      let moved = redone_place s.machine.past s.machine.present s.machine.future d.1 in
+      went (Session s) (Session t) (call.Give command.Redo) a d.0 (place_is _ _ _ _ false (ap (λ (j : Journal). depth j.machine) d.2 ∙ moved.0) (ap (λ (j : Journal). ahead j.machine) d.2 ∙ moved.1))
+  | inr (inl r) ↦ stayed (Session s) (Session t) (call.Give command.Redo) a (not_refused a r.0 r.1) (ap Session r.3)
+  | inr (inr m) ↦ stayed (Session s) (Session t) (call.Give command.Redo) a (not_memory a m.0) (ap Session m.1)
+]
 
-one_place : (s t : Machine) (c : Call) (a : Told) → Makes s c a t → place_of t ≡ place_after (place_of s) c a
-one_place s t (call.Act op) a h = acts (call.Act op) (act_refusal s op) s (act s op) t a (accepted_place s (act s op).present) h
-one_place s t (call.Lamina n ps) a h = acts (call.Lamina n ps) (lamina_refusal s n ps.value.items) s (lamina s n ps.value.items) t a (accepted_place s (lamina s n ps.value.items).present) h
-one_place s t (call.Block n p dx dy dz) a h = acts (call.Block n p dx dy dz) (block_refusal s n p dx dy dz) s (block s n p dx dy dz) t a (accepted_place s (block s n p dx dy dz).present) h
-one_place s t (call.Sweep f d) a h = acts (call.Sweep f d) (sweep_refusal s f d) s (sweep s f d) t a (accepted_place s (sweep s f d).present) h
-one_place s t (call.Glue f g) a h = tries (call.Glue f g) (glue_refusal s f g) s (glue s f g) t a (accepted_place s (glue s f g).present) h
-one_place s t (call.Split n x y z w m) a h = tries (call.Split n x y z w m) (split_refusal s n (plane_with x y z w) m) s (split s n (plane_with x y z w) m) t a (accepted_place s (split s n (plane_with x y z w) m).present) h
-one_place s t (call.Commit ops) a h = tries (call.Commit ops) (run_refusal (held s) ops.items) s (commit (tried (open_draft s) ops.items)) t a (commit_place s ops.items) h
-one_place s t (call.Abandon ops) a h = tries (call.Abandon ops) (run_refusal (held s) ops.items) s s t a refl h
-one_place s t call.Undo a h = moves call.Undo (undo_refusal s) s (undo s) t a (undo_place s.past s.present s.future) h
-one_place s t call.Redo a h = moves call.Redo (redo_refusal s) s (redo s) t a (redo_place s.past s.present s.future) h
+one_place : (g h : Stage) (c : Call) (a : Told) → Tells g c a h → place_of h ≡ place_after (place_of g) c a
+one_place (Session s) h (call.Give c) a x = ap place_of x.1 ∙ session_place s x.0 c a x.2
+one_place (Session s) h call.Open a (inl x) = went (Session s) h call.Open a x.0 (ap place_of x.1)
+one_place (Session s) h call.Open a (inr x) = stayed (Session s) h call.Open a (not_memory a x.0) x.1
+one_place (Session s) h call.Mark a x = stayed (Session s) h call.Mark a (λ e. no_draft_is_not_done (sym x.0 ∙ e)) x.1
+one_place (Session s) h (call.Back n) a x = stayed (Session s) h (call.Back n) a (λ e. no_draft_is_not_done (sym x.0 ∙ e)) x.1
+one_place (Session s) h call.Commit a x = stayed (Session s) h call.Commit a (λ e. no_draft_is_not_done (sym x.0 ∙ e)) x.1
+one_place (Session s) h call.Abandon a x = stayed (Session s) h call.Abandon a (λ e. no_draft_is_not_done (sym x.0 ∙ e)) x.1
+one_place (Drafting d) h (call.Give c) a x =
+    ap place_of x.1 ∙ ap (λ (j : Journal). placed (depth j.machine) (ahead j.machine) true) (session_stays d.draft x.0.draft c a x.2) ∙ sym (idle_place (place_of (Drafting d)) (call.Give c) a refl)
+one_place (Drafting d) h call.Open a x = stayed (Drafting d) h call.Open a (λ e. in_draft_is_not_done (sym x.0 ∙ e)) x.1
+one_place (Drafting d) h call.Mark a x = ap place_of x.3 ∙ sym (idle_place (place_of (Drafting d)) call.Mark a refl)
+one_place (Drafting d) h (call.Back n) a x = went (Drafting d) h (call.Back n) a x.0 (ap place_of x.1)
+one_place (Drafting d) h call.Commit a x = went (Drafting d) h call.Commit a x.0 (ap place_of x.1 ∙ place_is _ _ _ _ false (one_more (depth d.draft.session.machine)) refl)
+one_place (Drafting d) h call.Abandon a x = went (Drafting d) h call.Abandon a x.0 (ap place_of x.1)
 
 pub places_are_counted : PlacesAreCounted
-places_are_counted s t [] [] h = ap place_of h
-places_are_counted s t [] (a ∷ answers) h = absurd h
-places_are_counted s t (c ∷ calls) [] h = absurd h
-places_are_counted s t (c ∷ calls) (a ∷ answers) h = places_are_counted h.0 t calls answers h.2 ∙ ap (λ (p : Place). place_after_all p calls answers) (one_place s h.0 c a h.1)
+places_are_counted g h [] [] x = ap place_of x
+places_are_counted g h [] (a ∷ answers) x = absurd x
+places_are_counted g h (c ∷ calls) [] x = absurd x
+places_are_counted g h (c ∷ calls) (a ∷ answers) x = places_are_counted x.0 h calls answers x.3 ∙ ap (λ (p : Place). place_after_all p calls answers) (one_place g x.0 c a x.1)
 
-pub undos_lead_to_the_first : LargerAreCalls → UndosLeadToTheFirst
-undos_lead_to_the_first l s t calls answers k h = ap (λ (p : Place). held (undos p.behind t)) (sym (places_are_counted s t calls answers h)) ∙ (lists_keep_consistent l s t calls answers k h).undone
+machine_whole : (g : Stage) → IsWhole g → IsConsistent (machine_of g)
+machine_whole (Session s) whole = whole
+machine_whole (Drafting d) whole = whole.0
+
+pub undos_lead_to_the_first : UndosLeadToTheFirst
+undos_lead_to_the_first g h calls answers whole x =
+    ap (λ (p : Place). held (undos p.behind (machine_of h))) (sym (places_are_counted g h calls answers x)) ∙ (machine_whole h (lists_keep_whole g h calls answers whole x)).undone
 
 pub redos_lead_to_the_last : RedosLeadToTheLast
-redos_lead_to_the_last s t calls answers h = ap (λ (p : Place). held (redos p.ahead t)) (sym (places_are_counted s t calls answers h)) ∙ redone_to_last t
+redos_lead_to_the_last g h calls answers x = ap (λ (p : Place). held (redos p.ahead (machine_of h))) (sym (places_are_counted g h calls answers x)) ∙ redone_to_last (machine_of h)

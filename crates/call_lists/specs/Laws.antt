@@ -1,15 +1,31 @@
 -- The laws of lists of calls.
-use Rattle.std.specs.Prelude.{◌≡◌, ◌≢◌, ℕ, ◌+◌, ◌-◌, List, [], ◌∷◌, length}
-use Rattle.euler_operators.specs.Model.{empty_model}
+use Rattle.std.specs.Prelude.{◌≡◌, ◌≢◌, ℕ, ◌+◌, ◌-◌, Bool, true, false, cond, List, [], ◌∷◌, ◌++◌, length}
+use Rattle.euler_operators.specs.Model.{Model, empty_model}
 use Rattle.undo_journal.specs.Machine.{Machine, held, depth, ahead}
 use Rattle.undo_journal.specs.Recorded.{model_at}
 use Rattle.undo_journal.specs.Histories as histories
-use Rattle.undo_journal.specs.Histories.{after_calls, undos, redos, IsConsistent}
-use Rattle.call_lists.specs.declared.calls.Call.{Call}
-use Rattle.call_lists.specs.declared.calls.Call.TheVariants as call
-use Rattle.call_lists.specs.declared.calls.Told.{Told}
-use Rattle.call_lists.specs.declared.calls.Told.TheVariants.{Done, Refused, Memory}
-use Rattle.call_lists.specs.Making.{Makes, MakesAll}
+use Rattle.undo_journal.specs.Histories.{after_calls, undos, redos}
+use Rattle.commands.specs.declared.command.Change.{Change}
+use Rattle.commands.specs.declared.command.Command.{Command}
+use Rattle.commands.specs.declared.command.Command.TheVariants as command
+use Rattle.commands.specs.declared.command.Call.{Call}
+use Rattle.commands.specs.declared.command.Call.TheVariants as call
+use Rattle.commands.specs.declared.command.Told.{Told}
+use Rattle.commands.specs.declared.command.Told.TheVariants.{Done, Memory}
+use Rattle.commands.specs.declared.stage.Stage.{Stage}
+use Rattle.commands.specs.declared.stage.Stage.TheVariants.{Session, Drafting}
+use Rattle.commands.specs.Telling.{Tells, IsWhole, shown}
+use Rattle.call_lists.specs.Making.{MakesAll}
+
+-- the machine of a session; of a draft that of the session in which it was opened
+abbrev pub machine_of : Stage → Machine
+machine_of (Session s) = s.machine
+machine_of (Drafting d) = d.draft.session.machine
+
+-- whether there is a draft
+abbrev pub is_draft : Stage → Bool
+is_draft (Session s) = false
+is_draft (Drafting d) = true
 
 -- a list of so many calls of the plain machine leads from s to t
 pub record Leads (s : Machine) (many : ℕ) (t : Machine) : Type 0 where
@@ -19,34 +35,55 @@ pub record Leads (s : Machine) (many : ℕ) (t : Machine) : Type 0 where
 
 -- what `make_all` says of a list is such a history, with one call for each
 abbrev pub ListsAreHistories : Type 0
-ListsAreHistories = (s t : Machine) (calls : List Call) (answers : List Told) → IsConsistent s → MakesAll s calls answers t → Leads s (length calls) t
+ListsAreHistories = (g h : Stage) (calls : List Call) (answers : List Told) → IsWhole g → MakesAll g calls answers h → Leads (machine_of g) (length calls) (machine_of h)
 
--- the machine stays consistent, so that each of its models is sound
-abbrev pub ListsKeepConsistent : Type 0
-ListsKeepConsistent = (s t : Machine) (calls : List Call) (answers : List Told) → IsConsistent s → MakesAll s calls answers t → IsConsistent t
+-- each model of the session that a list leads to is sound, and so is the draft's
+abbrev pub ListsKeepWhole : Type 0
+ListsKeepWhole = (g h : Stage) (calls : List Call) (answers : List Told) → IsWhole g → MakesAll g calls answers h → IsWhole h
 
--- how many commands can be undone, and how many redone
+-- a list of calls and one behind it lead through a stage whose models are sound
+pub record GoesThrough (g : Stage) (calls more : List Call) (answers : List Told) (h : Stage) : Type 0 where
+  pub between : Stage
+  pub told : List Told
+  pub later : List Told
+  pub answers_are : answers ≡ told ++ later
+  pub before : MakesAll g calls told between
+  pub whole : IsWhole between
+  pub after : MakesAll between more later h
+
+-- so every model that was ever held is sound, also one that a later command dropped
+abbrev pub EachIsWhole : Type 0
+EachIsWhole = (g h : Stage) (calls more : List Call) (answers : List Told) → IsWhole g → MakesAll g (calls ++ more) answers h → GoesThrough g calls more answers h
+
+-- how many commands can be undone, and how many redone, and whether there is a draft
 pub record Place : Type 0 where
   pub behind : ℕ
   pub ahead : ℕ
+  pub drafting : Bool
 
-abbrev pub place_of : Machine → Place
-place_of s = record { behind = depth s; ahead = ahead s }
+abbrev pub place_of : Stage → Place
+place_of g = record { behind = depth (machine_of g); ahead = ahead (machine_of g); drafting = is_draft g }
 
--- an accepted command is one more, and those ahead are gone; undo takes one back, which redo makes again
+-- in a session a command that is done is one more, and those ahead are gone; undo takes one back, which redo makes again
+abbrev pub after_command : Place → Command → Place
+after_command p (command.Change c) = record { behind = p.behind + 1; ahead = 0; drafting = false }
+after_command p (command.Ask q) = p
+after_command p command.Undo = record { behind = p.behind - 1; ahead = p.ahead + 1; drafting = false }
+after_command p command.Redo = record { behind = p.behind + 1; ahead = p.ahead - 1; drafting = false }
+
+-- a session opens a draft, which ends as one command, or leaves no trace
+abbrev pub after_done : Place → Call → Place
+after_done p (call.Give c) = cond p.drafting p (after_command p c)
+after_done p call.Open = record { behind = p.behind; ahead = p.ahead; drafting = true }
+after_done p call.Mark = p
+after_done p (call.Back n) = p
+after_done p call.Commit = record { behind = p.behind + 1; ahead = 0; drafting = false }
+after_done p call.Abandon = record { behind = p.behind; ahead = p.ahead; drafting = false }
+
+-- what isn't told `Done` changes nothing
 abbrev pub place_after : Place → Call → Told → Place
-place_after p c (Refused r) = p
-place_after p c Memory = p
-place_after p (call.Abandon ops) Done = p
-place_after p call.Undo Done = record { behind = p.behind - 1; ahead = p.ahead + 1 }
-place_after p call.Redo Done = record { behind = p.behind + 1; ahead = p.ahead - 1 }
-place_after p (call.Act op) Done = record { behind = p.behind + 1; ahead = 0 }
-place_after p (call.Lamina n ps) Done = record { behind = p.behind + 1; ahead = 0 }
-place_after p (call.Block n q dx dy dz) Done = record { behind = p.behind + 1; ahead = 0 }
-place_after p (call.Sweep f d) Done = record { behind = p.behind + 1; ahead = 0 }
-place_after p (call.Glue f g) Done = record { behind = p.behind + 1; ahead = 0 }
-place_after p (call.Split n x y z w m) Done = record { behind = p.behind + 1; ahead = 0 }
-place_after p (call.Commit ops) Done = record { behind = p.behind + 1; ahead = 0 }
+place_after p c Done = after_done p c
+place_after p c a = p
 
 abbrev pub place_after_all : Place → List Call → List Told → Place
 place_after_all p [] answers = p
@@ -55,28 +92,75 @@ place_after_all p (c ∷ calls) (a ∷ answers) = place_after_all (place_after p
 
 -- so the place after a list is known from its calls and answers alone
 abbrev pub PlacesAreCounted : Type 0
-PlacesAreCounted = (s t : Machine) (calls : List Call) (answers : List Told) → MakesAll s calls answers t → place_of t ≡ place_after_all (place_of s) calls answers
+PlacesAreCounted = (g h : Stage) (calls : List Call) (answers : List Told) → MakesAll g calls answers h → place_of h ≡ place_after_all (place_of g) calls answers
 
--- as many undos as commands were accepted and not taken back hold the empty model
+-- as many undos as commands were done and not taken back hold the empty model
 abbrev pub UndosLeadToTheFirst : Type 0
-UndosLeadToTheFirst = (s t : Machine) (calls : List Call) (answers : List Told) → IsConsistent s → MakesAll s calls answers t
-    → held (undos (place_after_all (place_of s) calls answers).behind t) ≡ empty_model
+UndosLeadToTheFirst = (g h : Stage) (calls : List Call) (answers : List Told) → IsWhole g → MakesAll g calls answers h
+    → held (undos (place_after_all (place_of g) calls answers).behind (machine_of h)) ≡ empty_model
 
 -- and as many redos as were taken back hold the last model
 abbrev pub RedosLeadToTheLast : Type 0
-RedosLeadToTheLast = (s t : Machine) (calls : List Call) (answers : List Told) → MakesAll s calls answers t
-    → held (redos (place_after_all (place_of s) calls answers).ahead t) ≡ model_at t (depth t + ahead t)
+RedosLeadToTheLast = (g h : Stage) (calls : List Call) (answers : List Told) → MakesAll g calls answers h
+    → held (redos (place_after_all (place_of g) calls answers).ahead (machine_of h)) ≡ model_at (machine_of h) (depth (machine_of h) + ahead (machine_of h))
+
+-- a call that isn't told `Done` leaves the session or draft as it was, its records and steps too
+abbrev pub OnlyDoneChanges : Type 0
+OnlyDoneChanges = (g h : Stage) (c : Call) (a : Told) → a ≢ Done → Tells g c a h → h ≡ g
+
+-- none is told `Done`
+abbrev pub AreNotDone : List Told → Type 0
+AreNotDone [] = Unit {0}
+AreNotDone (a ∷ answers) = (a ≢ Done) × AreNotDone answers
+
+-- and so a list of calls of which none is done
+abbrev pub IdleListsStay : Type 0
+IdleListsStay = (g h : Stage) (calls : List Call) (answers : List Told) → AreNotDone answers → MakesAll g calls answers h → h ≡ g
+
+-- whether a call was told that memory was refused
+abbrev pub is_memory : Told → Bool
+is_memory Memory = true
+is_memory a = false
+
+-- the calls that were told something else, and what these were told
+abbrev pub heard : List Call → List Told → List Call
+heard [] answers = []
+heard (c ∷ calls) [] = []
+heard (c ∷ calls) (a ∷ answers) = cond (is_memory a) (heard calls answers) (c ∷ heard calls answers)
+
+abbrev pub told_else : List Told → List Told
+told_else [] = []
+told_else (a ∷ answers) = cond (is_memory a) (told_else answers) (a ∷ told_else answers)
+
+-- calls that are told `Memory` can be left out, and the rest is told the same
+abbrev pub MemoryCanBeLeftOut : Type 0
+MemoryCanBeLeftOut = (g h : Stage) (calls : List Call) (answers : List Told) → MakesAll g calls answers h → MakesAll g (heard calls answers) (told_else answers) h
 
 -- no answer is `Memory`
 abbrev pub HaveNoMemory : List Told → Type 0
 HaveNoMemory [] = Unit {0}
 HaveNoMemory (a ∷ answers) = (a ≢ Memory) × HaveNoMemory answers
 
--- then the calls have one list of answers, and lead to one machine
-abbrev pub ListsHaveOneAnswer : Type 0
-ListsHaveOneAnswer = (s t u : Machine) (calls : List Call) (answers others : List Told) → HaveNoMemory answers → HaveNoMemory others
-    → MakesAll s calls answers t → MakesAll s calls others u → (others ≡ answers) × (u ≡ t)
+-- no call has to do with a mark: how many steps a larger command takes is left open
+abbrev pub IsUnmarked : Call → Type 0
+IsUnmarked call.Mark = ⊥
+IsUnmarked (call.Back n) = ⊥
+IsUnmarked c = Unit {0}
 
--- a call that isn't told `Done` leaves the machine as it was
-abbrev pub OnlyDoneChanges : Type 0
-OnlyDoneChanges = (s t : Machine) (c : Call) (a : Told) → a ≢ Done → Makes s c a t → t ≡ s
+abbrev pub AreUnmarked : List Call → Type 0
+AreUnmarked [] = Unit {0}
+AreUnmarked (c ∷ calls) = IsUnmarked c × AreUnmarked calls
+
+-- what a stage is but for its records and steps
+pub record View : Type 0 where
+  pub machine : Machine
+  pub model : Model
+  pub drafting : Bool
+
+abbrev pub view_of : Stage → View
+view_of g = record { machine = machine_of g; model = shown g; drafting = is_draft g }
+
+-- then the calls have one list of answers, and lead to one machine and one model
+abbrev pub ListsHaveOneAnswer : Type 0
+ListsHaveOneAnswer = (g k h j : Stage) (calls : List Call) (answers others : List Told) → AreUnmarked calls → HaveNoMemory answers → HaveNoMemory others
+    → view_of k ≡ view_of g → MakesAll g calls answers h → MakesAll k calls others j → (others ≡ answers) × (view_of j ≡ view_of h)

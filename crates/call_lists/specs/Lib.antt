@@ -1,5 +1,6 @@
 pub mod Making
 pub mod Laws
+pub use Rattle.commands.specs.Telling
 pub use Rattle.euler_operators.specs.Conditions
 pub use Rattle.gluing.specs.Measure
 pub use Rattle.undo_journal.specs.Histories

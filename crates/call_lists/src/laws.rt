@@ -1,36 +1,35 @@
-//! The laws of lists of calls. Each function does nothing: its contract is what is proved, over every machine and every list.
-ghost use Rattle.call_lists.specs.Laws.{ListsAreHistories, ListsKeepConsistent, PlacesAreCounted, UndosLeadToTheFirst, RedosLeadToTheLast, ListsHaveOneAnswer, OnlyDoneChanges};
+//! The laws of lists of calls. Each function does nothing: its contract is what is proved, over every session or draft and every list.
+ghost use Rattle.call_lists.specs.Laws.{ListsAreHistories, ListsKeepWhole, EachIsWhole, PlacesAreCounted, UndosLeadToTheFirst, RedosLeadToTheLast, ListsHaveOneAnswer, OnlyDoneChanges, IdleListsStay, MemoryCanBeLeftOut};
 
 use gluing::glues_are_calls;
 use plane_split::splits_are_calls;
 use sweeps::larger_commands_are_calls;
 
-/// What `make_all` says of a list is a history: a list of as many calls of the plain machine leads to the machine after it, call by call.
-/// It stays consistent.
+/// What `make_all` says of a list is a history: a list of as many calls of the plain machine leads to the machine after it. Every model on
+/// the way is sound, also one that a later command dropped.
 pub fn lists_are_histories()
     ensures histories { ListsAreHistories }
-    ensures consistent { ListsKeepConsistent }
+    ensures whole { ListsKeepWhole }
+    ensures each { EachIsWhole }
 {
     larger_commands_are_calls();
     glues_are_calls();
     splits_are_calls();
 }
 
-/// After a list of calls as many commands can be undone as were accepted and not taken back, and as many redone as were taken back since
+/// After a list of calls as many commands can be undone as were done and not taken back, and as many redone as were taken back since
 /// the last one. So many undos give the first model, the empty one, and so many redos the last.
 pub fn undos_and_redos_lead_to_the_ends()
     ensures counted { PlacesAreCounted }
     ensures undos { UndosLeadToTheFirst }
     ensures redos { RedosLeadToTheLast }
-{
-    larger_commands_are_calls();
-    glues_are_calls();
-    splits_are_calls();
-}
+{}
 
-/// Where no answer is `Memory`, a list of calls has one list of answers, and leads to one machine. A call that isn't told `Done` changes
-/// nothing.
+/// A call that isn't told `Done` changes nothing, nor does a list of such calls; a call that is told `Memory` can be left out. Where no
+/// answer is `Memory`, a list of calls without marks has one list of answers, and leads to one machine and one model.
 pub fn lists_have_one_answer()
     ensures one { ListsHaveOneAnswer }
     ensures kept { OnlyDoneChanges }
+    ensures idle { IdleListsStay }
+    ensures memory { MemoryCanBeLeftOut }
 {}

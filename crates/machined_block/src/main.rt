@@ -33,9 +33,9 @@ fn tell_parts(rt: &HostRuntime) -> Result<(), Failure> {
 /// Says what a list of calls was told, one answer a call.
 fn tell_list(rt: &HostRuntime) -> Result<(), Failure> {
     let mut told = Vec::new(rt.alloc());
-    let session = made(rt.alloc(), &mut told).map_err(Failure::Memory)?;
+    let stage = made(rt.alloc(), &mut told).map_err(Failure::Memory)?;
     let accepted = told.iter().filter(|answer| **answer == Told::Done).count();
-    let (calls, commands) = (told.len(), session.depth());
+    let (calls, commands) = (told.len(), stage.depth());
     let _ = println!(rt; "{calls} calls in one: {accepted} accepted, {commands} command to undo");
     Ok(())
 }

@@ -41,11 +41,12 @@ ghost use Rattle.std.specs.Prelude.{◌≡◌, ◌↔◌, ◌+◌, ◌<◌, OnOk
 ghost use Rattle.call_lists.specs.Conditions.{first_false, verdict};
 ghost use Rattle.call_lists.specs.Histories.{IsConsistent};
 ghost use Rattle.call_lists.specs.Journal.{new_journal, after_act, after_undo, after_redo, new_draft, after_step, after_commit};
-ghost use Rattle.call_lists.specs.Laws.{ListsAreHistories, ListsKeepConsistent, PlacesAreCounted, UndosLeadToTheFirst, RedosLeadToTheLast, ListsHaveOneAnswer, OnlyDoneChanges};
-ghost use Rattle.call_lists.specs.Making.{AreTold, Makes, StaysUnlessDone};
+ghost use Rattle.call_lists.specs.Laws.{ListsAreHistories, ListsKeepWhole, EachIsWhole, PlacesAreCounted, UndosLeadToTheFirst, RedosLeadToTheLast, ListsHaveOneAnswer, OnlyDoneChanges, IdleListsStay, MemoryCanBeLeftOut};
+ghost use Rattle.call_lists.specs.Making.{AreTold};
 ghost use Rattle.call_lists.specs.Measure.{answer, six_volume, solid_refusal};
 ghost use Rattle.call_lists.specs.PlainMachine.{held, depth, ahead, act_refusal, undo_refusal, redo_refusal};
 ghost use Rattle.call_lists.specs.Recorded.{model_at};
+ghost use Rattle.call_lists.specs.Telling.{Tells, IsWhole};
 ghost use Rattle.pool_rings.specs.Laws.{SplicedPoolsCut, SplicedPoolsJoin, SplicedPoolsKeepOthers, SplicedPoolsStay, PoolsLeadBack};
 ghost use Rattle.promises.specs.Splices.{SplicesCut, SplicesJoin, SplicesKeepOthers};
 ghost use Rattle.script_laws.specs.Laws.{RunsTell, BrokenRunsTell, FailedRunsTell, AnsweredSo, AnswersStay, OthersCanBeLeftOut, UndoAndRedoCanBeLeftOut, UndoneLinesCanBeLeftOut, UndosLeadBack, SomeUndosLeadBack, EqualListingsGoOnAlike, BlocksMeasure, PartsShareVolumes, RepliesTell, RefusalsTell, FaultsTell};
@@ -71,7 +72,7 @@ ghost use Rattle.script_running.specs.laws_below.SweepMeasures.{SweptSolid, Othe
 ghost use Rattle.script_running.specs.laws_below.Telling.{ListingTells};
 
 use call_lists::{
-    Call, Draft, Failure, Op, Record, Refusal, Session, Told, lists_are_histories,
+    Call, Draft, Failure, Op, Record, Refusal, Session, Stage, Told, lists_are_histories,
     lists_have_one_answer, make, make_all, six_volume, undos_and_redos_lead_to_the_ends,
 };
 use pool_rings::splices_of_pools;
@@ -86,56 +87,59 @@ use script_running::{
 use std::alloc::{AllocError, Global};
 use std::io::{Read, Write};
 
-/// After any list of commands, undos and redos the workbench holds, with equal numbers, coordinates and cyclic loops, the model of a plain
-/// machine that keeps a whole copy of every model. Undoing gives the model before and redoing the model after. A refused command names its
-/// first false condition, or refused memory, and changes nothing. Every model held is sound.
+/// After any list of commands, drafts with marks, undos and redos the workbench holds, with equal numbers, coordinates and cyclic loops, the
+/// model of a plain machine that keeps a whole copy of every model. Undoing gives the model before and redoing the model after. A refused
+/// command names its first false condition, or refused memory, and changes nothing. Every model held on the way is sound.
 ///
-/// `told` gets one answer a call, and room for all is made first: on `AllocError` no call was made.
+/// The list begins with a session, or with a draft of its next command, and ends with either. `told` gets one answer a call, and room for
+/// all is made first: on `AllocError` no call was made.
 pub fn every_list_of_calls_is_answered(
     alloc: Global,
-    session: Session,
-    calls: Vec<Call>,
+    stage: Stage,
+    calls: Vec<Call<'_>>,
     told: &mut Vec<Told>,
-) -> (Session, Result<(), AllocError>)
-    ensures made { OnOk result.1 (AreTold session.machine calls.items told.old.items told.new.items result.0.machine) }
-    ensures err { OnErr result.1 ((result.0 ≡ session) × (told.new.items ≡ told.old.items)) }
-    ensures consistent { IsConsistent result.0.machine }
+) -> (Stage, Result<(), AllocError>)
+    ensures made { OnOk result.1 (AreTold stage calls.entry.items told.old.items told.new.items result.0) }
+    ensures err { OnErr result.1 ((result.0 ≡ stage) × (told.new.items ≡ told.old.items)) }
+    ensures whole { IsWhole result.0 }
 {
-    make_all(alloc, session, calls, told)
+    make_all(alloc, stage, calls, told)
 }
 
-/// After any such list as many commands can be undone as were accepted and not taken back, and as many redone as were taken back since the
-/// last accepted one: both are counted from the calls and their answers alone. So many undos give the empty model, and so many redos
-/// the last one. The list is a history of as many calls, and the machine after it is consistent.
+/// After any such list as many commands can be undone as were done and not taken back, and as many redone as were taken back since the
+/// last one: both are counted from the calls and their answers alone. So many undos give the empty model, and so many redos the last one.
+/// The list is a history of as many calls, and every model that was held on the way is sound, also one that a later command dropped.
 pub fn lists_of_calls_are_taken_back()
     ensures counted { PlacesAreCounted }
     ensures undos { UndosLeadToTheFirst }
     ensures redos { RedosLeadToTheLast }
     ensures histories { ListsAreHistories }
-    ensures consistent { ListsKeepConsistent }
+    ensures whole { ListsKeepWhole }
+    ensures each { EachIsWhole }
 {
     undos_and_redos_lead_to_the_ends();
     lists_are_histories();
 }
 
-/// Where no answer is `Memory`, such a list has one list of answers, and leads to one machine. A call that isn't told `Done` changes
-/// nothing.
+/// A call that isn't told `Done` changes nothing, records and steps too, nor does a list of such calls; and calls that are told `Memory` can
+/// be left out of a list. Where no answer is `Memory`, a list without marks has one list of answers, and leads to one machine and one model.
 pub fn lists_of_calls_have_one_answer()
     ensures one { ListsHaveOneAnswer }
     ensures kept { OnlyDoneChanges }
+    ensures idle { IdleListsStay }
+    ensures memory { MemoryCanBeLeftOut }
 {
     lists_have_one_answer();
 }
 
-/// So it is of one call: an operator, a lamina, a block, a sweep, a glue, a split, a draft committed or abandoned, undo or redo. It is
-/// refused by its first condition that is false alone; a glue, a split and a draft may be told `Memory` in place of that refusal. A call
-/// that isn't told `Done` leaves the session as it was, its records too.
-pub fn every_call_is_answered(alloc: Global, session: Session, call: Call) -> (Session, Told)
-    ensures made { Makes session.machine call result.1 result.0.machine }
-    ensures kept { StaysUnlessDone result.1 session result.0 }
-    ensures consistent { IsConsistent result.0.machine }
+/// So it is of one call: a change, as an operator, a lamina, a block, a sweep, a glue or a split, in a session one command and in a draft
+/// steps; a question; undo or redo; a draft opened, marked, taken back to a mark, committed or abandoned. It is refused by its first
+/// condition that is false alone; a glue and a split may be told `Memory` in place of that refusal.
+pub fn every_call_is_answered(alloc: Global, stage: Stage, call: Call<'_>) -> (Stage, Told)
+    ensures told { Tells stage call.entry result.1 result.0 }
+    ensures whole { IsWhole result.0 }
 {
-    make(alloc, session, call)
+    make(alloc, stage, call)
 }
 
 /// A new session holds the empty model, and has no record.

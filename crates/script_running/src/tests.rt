@@ -3,7 +3,7 @@
 //! What a script can say is a file of `tests/scripts`, which `tests/scripts.py` runs on the built program; what a run meets there is
 //! tried by `tests/program.sh`.
 
-mod commands;
+mod records;
 mod runs;
 mod sessions;
 mod streams;

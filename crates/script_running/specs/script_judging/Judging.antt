@@ -4,12 +4,13 @@ use Rattle.euler_operators.specs.declared.Plane.{Plane}
 use Rattle.euler_operators.specs.declared.Refusal.{Refusal}
 use Rattle.euler_operators.specs.Refusal as refusal
 use Rattle.euler_operators.specs.Model.{Model}
-use Rattle.sweeps.specs.Machine.{lamina, lamina_refusal, block, block_refusal, sweep, sweep_refusal}
-use Rattle.gluing.specs.Machine.{glue, glue_refusal}
-use Rattle.plane_split.specs.Machine.{plane_with, split, split_refusal}
+use Rattle.plane_split.specs.Machine.{plane_with}
+use Rattle.commands.specs.declared.command.Change.{Change}
+use Rattle.commands.specs.declared.command.Change.TheVariants as change
+use Rattle.commands.specs.Changes.{refusal_of, made}
 use Rattle.solid_measure.specs.declared.solid_counts.Tally.{Tally}
 use Rattle.solid_measure.specs.Measure.{answer, face_refusal, solid_refusal, plane_of, is_flat, six_volume, counts}
-use Rattle.undo_journal.specs.Machine.{Machine, held, act, act_refusal, undo, undo_refusal, redo, redo_refusal}
+use Rattle.undo_journal.specs.Machine.{Machine, held, accepted, undo, undo_refusal, redo, redo_refusal}
 use Rattle.undo_journal.specs.Journal.{Journal}
 use Rattle.undo_journal.specs.declared.session.Failure.{Failure}
 use Rattle.undo_journal.specs.declared.session.Failure.TheVariants as failure
@@ -59,9 +60,19 @@ Acts (Some r) s acted a t = (a ≡ refused r) × (t ≡ s)
 abbrev pub Tries : Option Refusal → Machine → Machine → Answer → Machine → Type 0
 Tries o s acted a t = Acts o s acted a t ⊎ ((a ≡ Told reply.Memory) × (t ≡ s))
 
+-- a change of the model: it is done, or refused, or told that memory was refused
+abbrev pub Carries : Machine → Change → Answer → Machine → Type 0
+Carries s (change.Glue f g) a t = Tries (refusal_of (held s) (change.Glue f g)) s (accepted s (made (held s) (change.Glue f g))) a t
+Carries s (change.Split n x y z w m) a t = Tries (refusal_of (held s) (change.Split n x y z w m)) s (accepted s (made (held s) (change.Split n x y z w m))) a t
+Carries s c a t = Acts (refusal_of (held s) c) s (accepted s (made (held s) c)) a t
+
 -- the plane that has the four coefficients
 abbrev pub given_plane : List ℤ → Plane
 given_plane cs = plane_with (get_or cs 0 (pos 0)) (get_or cs 1 (pos 0)) (get_or cs 2 (pos 0)) (get_or cs 3 (pos 0))
+
+-- the split by it
+abbrev pub split_by : ℕ → List ℤ → ℕ → Change
+split_by n cs m = change.Split n (get_or cs 0 (pos 0)) (get_or cs 1 (pos 0)) (get_or cs 2 (pos 0)) (get_or cs 3 (pos 0)) m
 
 -- a query is told a reply, or refused
 abbrev pub told : Result Reply Refusal → Answer
@@ -85,12 +96,12 @@ count_reply M s = answer (solid_refusal M s) (reply.Count (tally_words (counts M
 -- from s the machine may answer a command so, and go on to t
 abbrev pub Obeys : Machine → Command → Answer → Machine → Type 0
 Obeys s command.Nothing a t = (a ≡ Silent) × (t ≡ s)
-Obeys s (command.Act op) a t = Acts (act_refusal s op) s (act s op) a t
-Obeys s (command.Lamina n ps) a t = Acts (lamina_refusal s n ps) s (lamina s n ps) a t
-Obeys s (command.Block n p dx dy dz) a t = Acts (block_refusal s n p dx dy dz) s (block s n p dx dy dz) a t
-Obeys s (command.Sweep f d) a t = Acts (sweep_refusal s f d) s (sweep s f d) a t
-Obeys s (command.Glue f g) a t = Tries (glue_refusal s f g) s (glue s f g) a t
-Obeys s (command.Split n cs m) a t = Tries (split_refusal s n (given_plane cs) m) s (split s n (given_plane cs) m) a t
+Obeys s (command.Act op) a t = Carries s (change.Act op) a t
+Obeys s (command.Lamina n ps) a t = Carries s (change.Lamina n ps) a t
+Obeys s (command.Block n p dx dy dz) a t = Carries s (change.Block n p dx dy dz) a t
+Obeys s (command.Sweep f d) a t = Carries s (change.Sweep f d) a t
+Obeys s (command.Glue f g) a t = Carries s (change.Glue f g) a t
+Obeys s (command.Split n cs m) a t = Carries s (split_by n cs m) a t
 Obeys s (command.Plane f) a t = (a ≡ told (plane_reply (held s) f)) × (t ≡ s)
 Obeys s (command.Volume n) a t = (a ≡ told (volume_reply (held s) n)) × (t ≡ s)
 Obeys s (command.Count n) a t = (a ≡ told (count_reply (held s) n)) × (t ≡ s)

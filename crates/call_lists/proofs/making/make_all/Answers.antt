@@ -1,6 +1,6 @@
 use Rattle.std.proofs.Common.{◌≡◌, ◌∷◌, [], List, length, vec_len, refl, sym, ap, subst, ◌∙◌, append_assoc, append-nil, arith}
 use Rattle.std.specs.Vec.Iter.{into_iter_items}
-use Rattle.call_lists.specs.declared.calls.Call.{Call}
+use Rattle.commands.specs.declared.command.Call.{Call}
 use Rattle.call_lists.specs.Making.{AreTold}
 use Rattle.call_lists.proofs.Lists.{told_more, nothing_left}
 use Rattle.call_lists.proofs.making.make_all.Goals as goal
@@ -25,7 +25,7 @@ loop-call-preserved c =
     record {
       all = append_assoc at.yielded (call ∷ []) _ ∙ rw (← steps) at.invariant.all;
       many = let was = at.invariant.many in let gone = c.in-Some.ensures.steps.1 in omega arith;
-      told = told_more _ _ _ _ _ _ _ call _ at.invariant.told (rw c.unwrap.ensures at c.push.ensures.items) c.make-next.ensures.made;
+      told = told_more _ _ _ _ _ _ _ call _ at.invariant.told (rw c.unwrap.ensures at c.push.ensures.items) c.make-next.ensures.told c.make-next.ensures.whole;
       room = let was = at.invariant.room in let long = rw c.unwrap.ensures at c.push.ensures.len in let wide = c.push.ensures.capacity in omega (arith, was, long, wide, short);
     }
 
@@ -35,7 +35,7 @@ returns c =
     let empty : into_iter_items at.call-iterator ≡ [] = nothing_left _ (sym at.invariant.many ∙ c.in-None.ensures.steps.0) in
     let all : at.yielded ≡ c.args.calls.items = sym (append-nil at.yielded) ∙ rw empty at at.invariant.all ∙ c.into_iter-call-iterator.ensures.into_iter_gives.0 in
     record {
-      made = subst (λ (calls : List Call). AreTold c.args.session.machine calls c.args.told.now.items at.told.items at.session.machine) all at.invariant.told;
+      made = subst (λ (calls : List Call). AreTold c.args.stage calls c.args.told.now.items at.told.items at.stage) all at.invariant.told;
       err = tt;
-      consistent = c.stays_consistent-2.ensures;
+      whole = c.stays_whole-2.ensures;
     }

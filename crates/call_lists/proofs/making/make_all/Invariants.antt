@@ -8,6 +8,6 @@ abbrev pub invariant-loop-call : goal.invariant-loop-call
 invariant-loop-call l = record {
   all : l.yielded ++ into_iter_items l.call-iterator ≡ into_iter_items l.initial.call-iterator;
   many : into_iter_len l.call-iterator ≡ length (into_iter_items l.call-iterator);
-  told : AreTold l.fn.session.machine l.yielded l.fn.told.items l.told.items l.session.machine;
+  told : AreTold l.fn.stage l.yielded l.fn.told.items l.told.items l.stage;
   room : vec_len l.told + length (into_iter_items l.call-iterator) ≤ vec_capacity l.told;
 }

@@ -1,0 +1,34 @@
+use Rattle.std.proofs.Common.{w64, subst}
+use Rattle.std.proofs.lemmas.Int.{to_z-of_z}
+use Rattle.std.proofs.lemmas.Result.{on_ok_weaker}
+use Rattle.sweeps.specs.PlainMachine.{held}
+use Rattle.block_machining.specs.Cutting.{AreCapped, LieOnEitherSide, ShareSums}
+use Rattle.block_machining.proofs.Accepted.{accepted_undone}
+use Rattle.block_machining.proofs.machining.cut.Goals as goal
+
+pub returns-clause-volume : goal.returns-clause-volume
+returns-clause-volume c = on_ok_weaker c.split.result.1 (λ made. c.splits_are_held.ensures.volumes c.args.session.machine c.split.result.0.machine c.args.s _ c.args.upper c.split.ensures.sound made) c.split.ensures.ok
+
+pub returns-clause-parts : goal.returns-clause-parts
+returns-clause-parts c = on_ok_weaker c.split.result.1 (λ made. c.splits_are_held.ensures.parts c.args.session.machine c.split.result.0.machine c.args.s _ c.args.upper c.split.ensures.sound made) c.split.ensures.ok
+
+pub returns-clause-sides : goal.returns-clause-sides
+returns-clause-sides c = on_ok_weaker c.split.result.1 (λ made.
+    subst (λ d. LieOnEitherSide (held c.split.result.0.machine) d c.args.s c.args.upper) (to_z-of_z w64 c.args.d c.ranges.d)
+    (c.splits_are_held.ensures.sides c.args.session.machine c.split.result.0.machine c.args.s _ c.args.upper c.split.ensures.sound made)) c.split.ensures.ok
+
+pub returns-clause-undone : goal.returns-clause-undone
+returns-clause-undone c = on_ok_weaker c.split.result.1 (λ made. accepted_undone c.args.session.machine c.split.result.0.machine _ made.1) c.split.ensures.ok
+
+pub returns-clause-caps : goal.returns-clause-caps
+returns-clause-caps c = on_ok_weaker c.split.result.1 (λ made.
+    subst (λ d. AreCapped (held c.args.session.machine) (held c.split.result.0.machine) d c.args.s c.args.upper) (to_z-of_z w64 c.args.d c.ranges.d)
+    (λ i. c.caps_close_the_parts.ensures.outer c.args.session.machine c.split.result.0.machine c.args.s _ c.args.upper i c.split.ensures.sound made)) c.split.ensures.ok
+
+pub returns-clause-sum : goal.returns-clause-sum
+returns-clause-sum c = on_ok_weaker c.split.result.1 (λ made.
+    subst (λ d. ShareSums (held c.args.session.machine) (held c.split.result.0.machine) d c.args.s c.args.upper) (to_z-of_z w64 c.args.d c.ranges.d)
+    (c.splits_share_counts.ensures.sums c.args.session.machine c.split.result.0.machine c.args.s _ c.args.upper c.split.ensures.sound made)) c.split.ensures.ok
+
+pub returns-clause-kept : goal.returns-clause-kept
+returns-clause-kept c = on_ok_weaker c.split.result.1 (λ made. c.splits_leave_alone.ensures.loops c.args.session.machine c.split.result.0.machine c.args.s _ c.args.upper c.split.ensures.sound made) c.split.ensures.ok

@@ -1,0 +1,69 @@
+-- How a command that was settled ended.
+use Rattle.std.proofs.Common.{◌≡◌, inl, inr, Option, Some, None, Ok, Err, refl, sym, ap, ◌∙◌, OnOk, OnErr}
+use Rattle.std.specs.Prelude.{◌≢◌, ◌⊎◌, ◌↔◌, Result, Bool, true, false}
+use Rattle.euler_operators.specs.declared.Refusal.{Refusal}
+use Rattle.undo_journal.specs.declared.session.Failure.{Failure}
+use Rattle.undo_journal.specs.declared.session.Failure.TheVariants as failure
+use Rattle.commands.specs.declared.command.Told.{Told}
+use Rattle.commands.specs.declared.command.Told.TheVariants as told
+use Rattle.commands.specs.declared.command.Told.TheVariants.{Done, Refused, Memory, InDraft, NoDraft}
+use Rattle.commands.specs.Telling.{Settled, told_of, told_of_move}
+
+-- done, or refused, or memory was refused
+abbrev pub Ended : Option Refusal → (Stays Goes : Type 0) → Told → Type 0
+Ended o Stays Goes a = ((a ≡ Done) × (o ≡ None) × Goes) ⊎ (((r : Refusal) × (a ≡ Refused r) × (o ≡ Some r) × Stays) ⊎ ((a ≡ Memory) × Stays))
+
+pub ended : (o : Option Refusal) (L S G : Type 0) (a : Told) → Settled o L S G a → Ended o S G a
+ended o L S G Done h = inl (refl, h.0, h.1)
+ended o L S G (Refused r) h = inr (inl (r, refl, h.0, h.1))
+ended o L S G Memory h = inr (inr (refl, h.1))
+ended o L S G InDraft h = absurd h
+ended o L S G NoDraft h = absurd h
+ended o L S G (told.Plane p flat) h = absurd h
+ended o L S G (told.Volume n) h = absurd h
+ended o L S G (told.Counts n) h = absurd h
+ended o L S G (told.Steps n) h = absurd h
+
+pub not_done : (r : Refusal) → Refused r ≢ Done
+not_done r e = cc
+
+pub memory_not_done : Memory ≢ Done
+memory_not_done e = cc
+
+-- what isn't done stays
+pub stays : (o : Option Refusal) (L S G : Type 0) (a : Told) → a ≢ Done → Settled o L S G a → S
+stays o L S G Done other h = absurd (other refl)
+stays o L S G (Refused r) other h = h.1
+stays o L S G Memory other h = h.1
+stays o L S G InDraft other h = absurd h
+stays o L S G NoDraft other h = absurd h
+stays o L S G (told.Plane p flat) other h = absurd h
+stays o L S G (told.Volume n) other h = absurd h
+stays o L S G (told.Counts n) other h = absurd h
+stays o L S G (told.Steps n) other h = absurd h
+
+-- a change that ended so is settled
+pub settled : (o : Option Refusal) (L S G : Type 0) (r : Result (Unit {0}) Failure) → OnOk r ((o ≡ None) × G) → ((q : Refusal) → r ≡ Err (failure.Refused q) → o ≡ Some q)
+    → (told_of r ≡ Memory → L) → OnErr r S → Settled o L S G (told_of r)
+settled o L S G (Ok _) ok named lacks err = ok
+settled o L S G (Err (failure.Refused q)) ok named lacks err = (named q refl, err)
+settled o L S G (Err (failure.Memory e)) ok named lacks err = (lacks refl, err)
+
+-- a command that is refused exactly where a condition is false lacks memory only where none is
+pub lacks_where_accepted : (o : Option Refusal) (r : Result (Unit {0}) Failure) → ((q : Refusal) → (r ≡ Err (failure.Refused q)) ↔ (o ≡ Some q)) → told_of r ≡ Memory → o ≡ None
+lacks_where_accepted None r iff is = refl
+lacks_where_accepted (Some q) r iff is = absurd (not_memory q (sym (ap told_of ((iff q).1 refl)) ∙ is))
+  where
+    not_memory : (q : Refusal) → Refused q ≢ Memory
+    not_memory q e = cc
+
+-- and its refusal names that condition
+pub named : (o : Option Refusal) (r : Result (Unit {0}) Failure) → ((q : Refusal) → (r ≡ Err (failure.Refused q)) ↔ (o ≡ Some q)) → (q : Refusal) → r ≡ Err (failure.Refused q) → o ≡ Some q
+named o r iff q is = (iff q).0 is
+
+-- an operator that ended so is settled, where what it leads to says what is wanted
+pub settled_act : (o : Option Refusal) (S G N : Type 0) (r : Result (Unit {0}) Failure) → (N → G) → OnOk r ((o ≡ None) × N) → ((q : Refusal) → (r ≡ Err (failure.Refused q)) ↔ (o ≡ Some q)) → OnErr r S
+    → Settled o (o ≡ None) S G (told_of r)
+settled_act o S G N (Ok _) gives ok iff err = (ok.0, gives ok.1)
+settled_act o S G N (Err (failure.Refused q)) gives ok iff err = ((iff q).0 refl, err)
+settled_act o S G N (Err (failure.Memory e)) gives ok iff err = (lacks_where_accepted o (Err (failure.Memory e)) iff refl, err)

@@ -1,0 +1,19 @@
+use Rattle.std.proofs.Common.{sym, ap, ◌∙◌}
+use Rattle.shapes.specs.Lamina.{lamina_refusal}
+use Rattle.undo_journal.specs.Machine.{held}
+use Rattle.commands.proofs.Settling.{named, lacks_where_accepted}
+use Rattle.commands.proofs.changing.change.Goals as goal
+
+pub returns-in-Lamina-clause-refused : goal.returns-in-Lamina-clause-refused
+returns-in-Lamina-clause-refused c = rw c.in-Lamina.is
+    (λ refusal is. ap (lamina_refusal (held c.args.session.machine) c.in-Lamina.solid) (sym c.points.ensures) ∙ named _ _ c.lamina.ensures.refused refusal is)
+
+pub returns-in-Lamina-clause-memory : goal.returns-in-Lamina-clause-memory
+returns-in-Lamina-clause-memory c = rw c.in-Lamina.is
+    (λ is. ap (lamina_refusal (held c.args.session.machine) c.in-Lamina.solid) (sym c.points.ensures) ∙ lacks_where_accepted _ _ c.lamina.ensures.refused is)
+
+pub returns-in-Sweep-clause-refused : goal.returns-in-Sweep-clause-refused
+returns-in-Sweep-clause-refused c = rw c.in-Sweep.is (named _ _ c.sweep.ensures.refused)
+
+pub returns-in-Sweep-clause-memory : goal.returns-in-Sweep-clause-memory
+returns-in-Sweep-clause-memory c = rw c.in-Sweep.is (lacks_where_accepted _ _ c.sweep.ensures.refused)

@@ -1,0 +1,19 @@
+use Rattle.std.proofs.Common.{refl, sym, subst}
+use Rattle.commands.specs.declared.command.Change.TheVariants as change
+use Rattle.commands.specs.declared.command.Command.TheVariants as command
+use Rattle.commands.specs.declared.command.Call.TheVariants as call
+use Rattle.commands.specs.declared.stage.OpenDraft.{OpenDraft}
+use Rattle.commands.specs.declared.stage.Stage.{Stage}
+use Rattle.commands.specs.declared.stage.Stage.TheVariants.{Session, Drafting}
+use Rattle.commands.specs.Telling.{Tells, told_of}
+use Rattle.commands.proofs.making.act.Goals as goal
+
+pub returns-in-Session : goal.returns-in-Session
+returns-in-Session c =
+    let t = c.act_on_session.new.session in
+    subst (λ (g : Stage). Tells g (call.Give (command.Change (change.Act c.args.op))) (told_of c.act_on_session.result) (Session t)) (sym c.in-Session.is) (t, refl, c.act_on_session.ensures)
+
+pub returns-in-Drafting : goal.returns-in-Drafting
+returns-in-Drafting c =
+    let e : OpenDraft = record { draft = c.act_on_draft.new.draft } in
+    subst (λ (g : Stage). Tells g (call.Give (command.Change (change.Act c.args.op))) (told_of c.act_on_draft.result) (Drafting e)) (sym c.in-Drafting.is) (e, refl, c.act_on_draft.ensures)

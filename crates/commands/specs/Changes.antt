@@ -1,0 +1,38 @@
+-- What a change, an operator or a larger command, makes of a model.
+use Rattle.std.specs.Prelude.{◌≡◌, Option, None}
+use Rattle.euler_operators.specs.declared.Refusal.{Refusal}
+use Rattle.euler_operators.specs.Conditions.{first_false}
+use Rattle.euler_operators.specs.Effect.{effect}
+use Rattle.euler_operators.specs.Model.{Model}
+use Rattle.shapes.specs.Lamina.{lamina_refusal, lamina_model}
+use Rattle.shapes.specs.Block.{block_refusal, block_model}
+use Rattle.shapes.specs.Prism.{prism_refusal, prism_model}
+use Rattle.shapes.specs.glue.Glue.{glue_refusal, glue_model}
+use Rattle.shapes.specs.split.Split.{split_refusal, split_model}
+use Rattle.plane_split.specs.Machine.{plane_with}
+use Rattle.commands.specs.declared.command.Change.{Change}
+use Rattle.commands.specs.declared.command.Change.TheVariants as change
+
+-- the first of its conditions that is false
+abbrev pub refusal_of : Model → Change → Option Refusal
+refusal_of M (change.Act op) = first_false M op
+refusal_of M (change.Lamina n ps) = lamina_refusal M n ps
+refusal_of M (change.Block n p dx dy dz) = block_refusal M n p dx dy dz
+refusal_of M (change.Sweep f d) = prism_refusal M f d
+refusal_of M (change.Glue f g) = glue_refusal M f g
+refusal_of M (change.Split n x y z w m) = split_refusal M n (plane_with x y z w) m
+
+-- the model that it makes
+abbrev pub made : Model → Change → Model
+made M (change.Act op) = effect M op
+made M (change.Lamina n ps) = lamina_model M n ps
+made M (change.Block n p dx dy dz) = block_model M n p dx dy dz
+made M (change.Sweep f d) = prism_model M f d
+made M (change.Glue f g) = glue_model M f g
+made M (change.Split n x y z w m) = split_model M n (plane_with x y z w) m
+
+-- memory may be refused to it: to a change whose conditions are tested without memory only where they hold
+abbrev pub MayLack : Model → Change → Type 0
+MayLack M (change.Glue f g) = Unit {0}
+MayLack M (change.Split n x y z w m) = Unit {0}
+MayLack M c = refusal_of M c ≡ None

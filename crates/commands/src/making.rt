@@ -1,0 +1,189 @@
+//! Calls of a session, or of a draft of its next command.
+ghost use Rattle.std.specs.Prelude.{◌≡◌};
+ghost use Rattle.euler_operators.specs.declared.Refusal.{Refusal};
+ghost use Rattle.undo_journal.specs.Journal.{back_at};
+ghost use Rattle.commands.specs.declared.command.Change.TheVariants as change;
+ghost use Rattle.commands.specs.declared.command.Call.TheVariants as call;
+ghost use Rattle.commands.specs.declared.command.Command.TheVariants as command;
+ghost use Rattle.commands.specs.declared.stage.Stage.TheVariants as stages;
+ghost use Rattle.commands.specs.Telling.{Tells, TellsSession, TellsDraft, IsWhole, told_of, told_of_move};
+
+use crate::asking::ask;
+use crate::changing::change;
+use crate::command::{Call, Change, Command, Told, outcome};
+use crate::drafting::change_in;
+use crate::stage::{OpenDraft, Stage};
+use euler_operators::{Op, Refusal};
+use std::alloc::Global;
+use undo_journal::{Draft, Failure, Session};
+
+/// What undo or redo is told that ended so.
+fn moved(ended: Result<(), Refusal>) -> Told
+    ensures { result ≡ told_of_move ended }
+{
+    match ended {
+        Ok(()) => Told::Done,
+        Err(refusal) => Told::Refused(refusal),
+    }
+}
+
+fn change_told(alloc: Global, session: Session, wanted: Change<'_>) -> (Session, Told)
+    ensures { TellsSession session (command.Change wanted.entry) result.1 result.0 }
+{
+    let (session, ended) = change(alloc, session, wanted);
+    (session, outcome(ended))
+}
+
+fn undo(session: Session) -> (Session, Told)
+    ensures { TellsSession session command.Undo result.1 result.0 }
+{
+    let mut session = session;
+    let ended = session.undo();
+    (session, moved(ended))
+}
+
+fn redo(session: Session) -> (Session, Told)
+    ensures { TellsSession session command.Redo result.1 result.0 }
+{
+    let mut session = session;
+    let ended = session.redo();
+    (session, moved(ended))
+}
+
+/// Gives a session a command. What isn't done leaves the session as it was, its records too.
+pub fn give(alloc: Global, session: Session, command: Command<'_>) -> (Session, Told)
+    ensures { TellsSession session command.entry result.1 result.0 }
+{
+    match command {
+        Command::Change(wanted) => change_told(alloc, session, wanted),
+        Command::Ask(question) => {
+            let told = ask(session.arena(), question);
+            (session, told)
+        }
+        Command::Undo => undo(session),
+        Command::Redo => redo(session),
+    }
+}
+
+fn change_in_told(alloc: Global, draft: &mut Draft, wanted: Change<'_>) -> Told
+    ensures { TellsDraft draft.old (command.Change wanted.entry) result draft.new }
+{
+    let ended = change_in(alloc, draft, wanted);
+    outcome(ended)
+}
+
+/// Gives a draft a command: a change as steps, or a question. What isn't done leaves the draft as it was, and it goes on.
+pub fn give_in(alloc: Global, draft: &mut Draft, command: Command<'_>) -> Told
+    ensures { TellsDraft draft.old command.entry result draft.new }
+{
+    match command {
+        Command::Change(wanted) => change_in_told(alloc, draft, wanted),
+        Command::Ask(question) => ask(draft.arena(), question),
+        Command::Undo => Told::InDraft,
+        Command::Redo => Told::InDraft,
+    }
+}
+
+fn act_on_session(session: &mut Session, op: Op) -> Result<(), Failure>
+    ensures { TellsSession session.old (command.Change (change.Act op)) (told_of result) session.new }
+{
+    session.act(op)
+}
+
+fn act_on_draft(draft: &mut Draft, op: Op) -> Result<(), Failure>
+    ensures { TellsDraft draft.old (command.Change (change.Act op)) (told_of result) draft.new }
+{
+    draft.step(op)
+}
+
+/// Gives a session or a draft an operator, where it lies: in a session it is a command, in a draft a step. It does what `make` does.
+#[inline(always)]
+pub fn act(stage: &mut Stage, op: Op) -> Result<(), Failure>
+    ensures { Tells stage.old (call.Give (command.Change (change.Act op))) (told_of result) stage.new }
+{
+    match stage {
+        Stage::Session(session) => act_on_session(session, op),
+        Stage::Drafting(open) => act_on_draft(&mut open.draft, op),
+    }
+}
+
+fn open(session: Session) -> (Stage, Told)
+    ensures { Tells (stages.Session session) call.Open result.1 result.0 }
+{
+    match Draft::open(session) {
+        Ok(draft) => (Stage::Drafting(OpenDraft { draft }), Told::Done),
+        Err((session, _)) => (Stage::Session(session), Told::Memory),
+    }
+}
+
+fn make_on_session(alloc: Global, session: Session, wanted: Call<'_>) -> (Stage, Told)
+    ensures { Tells (stages.Session session) wanted.entry result.1 result.0 }
+{
+    match wanted {
+        Call::Give(command) => {
+            let (session, told) = give(alloc, session, command);
+            (Stage::Session(session), told)
+        }
+        Call::Open => open(session),
+        Call::Mark => (Stage::Session(session), Told::NoDraft),
+        Call::Back(_) => (Stage::Session(session), Told::NoDraft),
+        Call::Commit => (Stage::Session(session), Told::NoDraft),
+        Call::Abandon => (Stage::Session(session), Told::NoDraft),
+    }
+}
+
+fn give_draft(alloc: Global, drafting: OpenDraft, command: Command<'_>) -> (Stage, Told)
+    ensures { Tells (stages.Drafting drafting) (call.Give command.entry) result.1 result.0 }
+{
+    let mut drafting = drafting;
+    let told = give_in(alloc, &mut drafting.draft, command);
+    (Stage::Drafting(drafting), told)
+}
+
+fn mark(drafting: OpenDraft) -> (Stage, Told)
+    ensures { Tells (stages.Drafting drafting) call.Mark result.1 result.0 }
+{
+    let steps = drafting.draft.mark();
+    (Stage::Drafting(drafting), Told::Steps(steps))
+}
+
+fn back(drafting: OpenDraft, steps: usize) -> (Stage, Told)
+    ensures { Tells (stages.Drafting drafting) (call.Back steps) result.1 result.0 }
+{
+    let mut drafting = drafting;
+    drafting.draft.back_to(steps);
+    (Stage::Drafting(drafting), Told::Done)
+}
+
+fn make_on_draft(alloc: Global, drafting: OpenDraft, wanted: Call<'_>) -> (Stage, Told)
+    ensures { Tells (stages.Drafting drafting) wanted.entry result.1 result.0 }
+{
+    match wanted {
+        Call::Give(command) => give_draft(alloc, drafting, command),
+        Call::Open => (Stage::Drafting(drafting), Told::InDraft),
+        Call::Mark => mark(drafting),
+        Call::Back(steps) => back(drafting, steps),
+        Call::Commit => (Stage::Session(drafting.commit()), Told::Done),
+        Call::Abandon => (Stage::Session(drafting.abandon()), Told::Done),
+    }
+}
+
+fn make_one(alloc: Global, stage: Stage, wanted: Call<'_>) -> (Stage, Told)
+    ensures { Tells stage wanted.entry result.1 result.0 }
+{
+    match stage {
+        Stage::Session(session) => make_on_session(alloc, session, wanted),
+        Stage::Drafting(drafting) => make_on_draft(alloc, drafting, wanted),
+    }
+}
+
+/// Makes a call of a session, or of a draft of its next command. What it is told and the session or draft after it are what `Tells` says of
+/// them: a call that isn't told `Done` leaves both as they were, records and steps too. Each session and draft on the way is whole.
+pub fn make(alloc: Global, stage: Stage, call: Call<'_>) -> (Stage, Told)
+    ensures told { Tells stage call.entry result.1 result.0 }
+    ensures whole { IsWhole result.0 }
+{
+    let (stage, told) = make_one(alloc, stage, call);
+    stage.stays_whole();
+    (stage, told)
+}

@@ -1,0 +1,98 @@
+//! A session, or a draft of its next command.
+ghost use Rattle.std.specs.Prelude.{◌≡◌};
+ghost use Rattle.euler_conditions.specs.Ready.{IsReady};
+ghost use Rattle.undo_journal.specs.Journal.{after_commit};
+ghost use Rattle.commands.specs.Telling.{shown, undos, redos, steps_in, IsWhole};
+
+use euler_conditions::Arena;
+use undo_journal::{Draft, Session};
+
+/// A draft, which is abandoned where it is let go.
+pub struct OpenDraft {
+    pub draft: Draft,
+}
+
+impl Drop for OpenDraft {
+    fn drop(self) {
+        let OpenDraft { draft } = self;
+        drop(draft.abandon());
+    }
+}
+
+impl OpenDraft {
+    /// Makes the steps one command.
+    pub fn commit(self) -> Session
+        ensures { result ≡ after_commit self.draft }
+    {
+        let OpenDraft { draft } = self;
+        draft.commit()
+    }
+
+    /// Takes the steps back.
+    pub fn abandon(self) -> Session
+        ensures { result ≡ self.draft.session }
+    {
+        let OpenDraft { draft } = self;
+        draft.abandon()
+    }
+}
+
+/// A session, or a draft of its next command.
+#[derive(Drop)]
+pub enum Stage {
+    Session(Session),
+    Drafting(OpenDraft),
+}
+
+impl Stage {
+    /// The arena of the model shown: the session's, or the draft's.
+    pub fn arena(&self) -> &Arena
+        ensures model { result.now.model ≡ shown self.now }
+        ensures ready { IsReady result.now }
+    {
+        match self {
+            Stage::Session(session) => session.arena(),
+            Stage::Drafting(open) => open.draft.arena(),
+        }
+    }
+
+    /// How many commands can be undone: in a draft none.
+    pub fn depth(&self) -> usize
+        ensures { result ≡ undos self.now }
+    {
+        match self {
+            Stage::Session(session) => session.depth(),
+            Stage::Drafting(_) => 0,
+        }
+    }
+
+    /// How many commands can be redone: in a draft none.
+    pub fn ahead(&self) -> usize
+        ensures { result ≡ redos self.now }
+    {
+        match self {
+            Stage::Session(session) => session.ahead(),
+            Stage::Drafting(_) => 0,
+        }
+    }
+
+    /// How many steps the draft has: without one none.
+    pub fn steps(&self) -> usize
+        ensures { result ≡ steps_in self.now }
+    {
+        match self {
+            Stage::Session(_) => 0,
+            Stage::Drafting(open) => open.draft.mark(),
+        }
+    }
+
+    /// Every model of the session is sound, and the draft's is. It does nothing: its contract is what is proved.
+    pub fn stays_whole(&self)
+        ensures { IsWhole self.now }
+    {
+        match self {
+            Stage::Session(session) => session.stays_consistent(),
+            Stage::Drafting(open) => open.draft.stays_consistent(),
+        }
+    }
+}
