@@ -1,27 +1,39 @@
--- What a typed call does to the session behind a handle: what the line does that spells the same command.
-use Rattle.std.specs.Prelude.{◌≡◌, ℕ, List, Option, Some, None, Result}
+-- What a typed call does to the session or draft behind a handle.
+use Rattle.std.specs.Prelude.{◌≡◌, ℕ, List, Option, Some, None}
 use Rattle.euler_operators.specs.declared.Op.{Op}
-use Rattle.euler_operators.specs.declared.Refusal.{Refusal}
-use Rattle.euler_operators.specs.Model.{Model}
-use Rattle.solid_listing.specs.declared.reply.Reply.{Reply}
-use Rattle.script_reader.specs.declared.command.Command.{Command}
+use Rattle.commands.specs.declared.command.Change.{Change}
+use Rattle.commands.specs.declared.command.Change.TheVariants as change
+use Rattle.commands.specs.declared.command.Question.{Question}
+use Rattle.commands.specs.declared.command.Command.TheVariants as command
+use Rattle.commands.specs.declared.command.Call.{Call}
+use Rattle.commands.specs.declared.command.Call.TheVariants as call
 use Rattle.script_running.specs.declared.script_judging.judging.Answer.{Answer}
-use Rattle.session_slots.specs.Slots.{Slot_does, Slot_carries, Slot_asks}
+use Rattle.session_slots.specs.Slots.{Slot_does, Slot_asks}
 use Rattle.session_slots.specs.Parting.{Slot_makes_part}
 use Rattle.session_slots.specs.declared.slot.Slot.{Slot}
-use Rattle.gwb_c.specs.Handle.{Calls, CallsOfSession, Recalls, RecallsBy}
+use Rattle.gwb_c.specs.Handle.{Calls, CallsOfSession, CallsOfDraft, Recalls, RecallsBy}
 
--- a call that is a command of the session
-abbrev pub Does : Option Slot → Command → Option Slot → ℕ → Type 0
-Does old c new kind = CallsOfSession (λ x y. Slot_does x c y) old new kind
+-- a call that a session has and a draft has, one that a draft has not, and one that only a draft has
+abbrev pub Does : Option Slot → Call → Option Slot → ℕ → Type 0
+Does old c new kind = Calls (λ x y. Slot_does x c y) old new kind
 
--- a call that is an operator: in a session a command, in a draft a step
-abbrev pub Carries : Option Slot → Op → Option Slot → ℕ → Type 0
-Carries old op new kind = Calls (λ x y. Slot_carries x op y) old new kind
+abbrev pub DoesInSession : Option Slot → Call → Option Slot → ℕ → Type 0
+DoesInSession old c new kind = CallsOfSession (λ x y. Slot_does x c y) old new kind
+
+abbrev pub DoesInDraft : Option Slot → Call → Option Slot → ℕ → Type 0
+DoesInDraft old c new kind = CallsOfDraft (λ x y. Slot_does x c y) old new kind
+
+-- a call that is a change of the model: in a session a command, in a draft steps
+abbrev pub Changes : Option Slot → Change → Option Slot → ℕ → Type 0
+Changes old c new kind = Does old (call.Give (command.Change c)) new kind
+
+-- an operator is one
+abbrev pub Acts : Option Slot → Op → Option Slot → ℕ → Type 0
+Acts old op new kind = Changes old (change.Act op) new kind
 
 -- a call that is a query
-abbrev pub Asks : Option Slot → (Model → Result Reply Refusal) → Option Slot → ℕ → Type 0
-Asks old f new kind = Calls (λ x y. Slot_asks x f y) old new kind
+abbrev pub Asks : Option Slot → Question → Option Slot → ℕ → Type 0
+Asks old q new kind = Calls (λ x y. Slot_asks x q y) old new kind
 
 -- a call that makes faces of a solid one of their own
 abbrev pub Parts : Option Slot → List ℕ → ℕ → Option Slot → ℕ → Type 0

@@ -10,7 +10,7 @@ use Rattle.session_slots.specs.Stages.{shown, is_draft, text_in}
 use Rattle.session_slots.specs.Slots.{Slot_notes}
 use Rattle.session_slots.specs.Written.{laid_over, WritesOne}
 use Rattle.gwb_c.specs.declared.fresh.Range.{Range}
-use Rattle.session_slots.specs.declared.stage.Stage.{Stage}
+use Rattle.commands.specs.declared.stage.Stage.{Stage}
 use Rattle.session_slots.specs.declared.slot.Slot.{Slot}
 
 -- C is told a number alone, and nothing has changed; or R leads to a slot, and C is told the kind of its answer

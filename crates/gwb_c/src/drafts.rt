@@ -1,66 +1,66 @@
-//! Calls of C: drafts. What is done in one becomes one command, or is taken back.
-ghost use Rattle.std.specs.Prelude.{◌≡◌};
-ghost use Rattle.undo_journal.specs.Journal.{after_commit};
-ghost use Rattle.session_slots.specs.Slots.{Slot_drafts, Slot_ends};
-ghost use Rattle.gwb_c.specs.Handle.{CallsOfSession, CallsOfDraft};
+//! Calls of C: drafts. What is done in one becomes one command, or is taken back, to its beginning or to a mark.
+ghost use Rattle.std.specs.Prelude.{◌≡◌, Some};
+ghost use Rattle.commands.specs.declared.command.Call.TheVariants as call;
+ghost use Rattle.session_slots.specs.Stages.{steps_in};
+ghost use Rattle.session_slots.specs.Owned.{slot_in};
+ghost use Rattle.gwb_c.specs.Calls.{DoesInSession, DoesInDraft};
+ghost use Rattle.gwb_c.specs.Handle.{Numbers};
 
-use crate::told::{CLOSED, IN_DRAFT, NO_DRAFT};
-use session_slots::{Gwb, is_drafting, put, status, take};
+use crate::calling::{call_of_draft, call_of_session};
+use session_slots::{Call, Gwb, GwbLent, Slot, hide, show};
 use std::alloc::Global;
 
-/// Opens a draft of the next command: from then on operators are its steps.
+/// Opens a draft of the next command: from then on operators and larger commands are its steps.
 #[unsafe(no_mangle)]
 pub extern "C" fn gwb_draft(alloc: Global, gwb: &mut Gwb) -> u32
-    ensures { CallsOfSession (λ x y. Slot_drafts x y) gwb.old.kept.value gwb.new.kept.value result }
+    ensures { DoesInSession gwb.old.kept.value call.Open gwb.new.kept.value result }
 {
-    let Some(slot) = take(alloc, gwb) else {
-        return CLOSED;
-    };
-    if is_drafting(slot.slot()) {
-        put(gwb, slot);
-        return IN_DRAFT;
-    }
-    let mut slot = slot;
-    session_slots::open(slot.slot_mut());
-    let kind = status(&slot.slot().answer);
-    put(gwb, slot);
-    kind
+    call_of_session(alloc, gwb, Call::Open)
 }
 
 /// Makes the steps of the draft one command, also where there was none. It takes no memory.
 #[unsafe(no_mangle)]
 pub extern "C" fn gwb_commit(alloc: Global, gwb: &mut Gwb) -> u32
-    ensures { CallsOfDraft (λ x y. Slot_ends (λ d. after_commit d) x y) gwb.old.kept.value gwb.new.kept.value result }
+    ensures { DoesInDraft gwb.old.kept.value call.Commit gwb.new.kept.value result }
 {
-    let Some(slot) = take(alloc, gwb) else {
-        return CLOSED;
-    };
-    if !is_drafting(slot.slot()) {
-        put(gwb, slot);
-        return NO_DRAFT;
-    }
-    let mut slot = slot;
-    session_slots::commit(slot.slot_mut());
-    let kind = status(&slot.slot().answer);
-    put(gwb, slot);
-    kind
+    call_of_draft(alloc, gwb, Call::Commit)
 }
 
-/// Takes the steps of the draft back: the session is as it was before it, the commands that can be redone included. It takes no memory.
+/// Takes the steps of the draft back, and leaves no trace of it. It takes no memory.
 #[unsafe(no_mangle)]
 pub extern "C" fn gwb_abandon(alloc: Global, gwb: &mut Gwb) -> u32
-    ensures { CallsOfDraft (λ x y. Slot_ends (λ d. d.session) x y) gwb.old.kept.value gwb.new.kept.value result }
+    ensures { DoesInDraft gwb.old.kept.value call.Abandon gwb.new.kept.value result }
 {
-    let Some(slot) = take(alloc, gwb) else {
-        return CLOSED;
-    };
-    if !is_drafting(slot.slot()) {
-        put(gwb, slot);
-        return NO_DRAFT;
+    call_of_draft(alloc, gwb, Call::Abandon)
+}
+
+/// Takes the steps of the draft since a mark back; where there are no more than that, nothing changes. It takes no memory.
+#[unsafe(no_mangle)]
+pub extern "C" fn gwb_back(alloc: Global, gwb: &mut Gwb, mark: usize) -> u32
+    ensures { DoesInDraft gwb.old.kept.value (call.Back mark) gwb.new.kept.value result }
+{
+    call_of_draft(alloc, gwb, Call::Back(mark))
+}
+
+fn steps_of(slot: &Slot) -> usize
+    ensures { Numbers steps_in (Some slot.now) result }
+{
+    match &slot.stage {
+        Some(counted) => counted.stage().steps(),
+        None => 0,
     }
-    let mut slot = slot;
-    session_slots::abandon(slot.slot_mut());
-    let kind = status(&slot.slot().answer);
-    put(gwb, slot);
-    kind
+}
+
+/// How many steps the draft has, as a mark for `gwb_back`: 0 where there is no draft, `SIZE_MAX` where there is no session.
+#[unsafe(no_mangle)]
+pub extern "C" fn gwb_lent_mark(gwb: &mut GwbLent) -> usize
+    ensures state { gwb.new.lent.loan ≡ gwb.old.lent.loan }
+    ensures value { Numbers steps_in (slot_in gwb.old.lent.loan) result }
+{
+    let Some(shown) = show(gwb) else {
+        return usize::MAX;
+    };
+    let count = steps_of(shown.slot());
+    hide(gwb, shown);
+    count
 }

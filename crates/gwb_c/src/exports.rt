@@ -7,7 +7,7 @@ ghost use Rattle.gwb_c.specs.Handle.{Hears, Numbers, Replies};
 
 use crate::told::{CLOSED, IN_DRAFT};
 use session_slots::{
-    Gwb, GwbLent, Slot, Stage, begin, copy_front, hear, hide, is_drafting, put, show, status, take,
+    Gwb, GwbLent, Slot, begin, copy_front, hear, hide, is_drafting, put, show, status, take,
     text_of,
 };
 use std::alloc::Global;
@@ -70,31 +70,11 @@ pub extern "C" fn gwb_lent_reply(alloc: Global, gwb: &mut GwbLent, buf: &mut [u8
     length
 }
 
-/// How many commands can be undone: in a draft none.
-fn depth(stage: &Stage) -> usize
-    ensures { result ≡ undos stage.now }
-{
-    match stage {
-        Stage::Session(session) => session.depth(),
-        Stage::Drafting(_) => 0,
-    }
-}
-
-/// How many commands can be redone: in a draft none.
-fn ahead(stage: &Stage) -> usize
-    ensures { result ≡ redos stage.now }
-{
-    match stage {
-        Stage::Session(session) => session.ahead(),
-        Stage::Drafting(_) => 0,
-    }
-}
-
 fn depth_of(slot: &Slot) -> usize
     ensures { Numbers undos (Some slot.now) result }
 {
     match &slot.stage {
-        Some(stage) => depth(stage.stage()),
+        Some(counted) => counted.stage().depth(),
         None => 0,
     }
 }
@@ -103,7 +83,7 @@ fn ahead_of(slot: &Slot) -> usize
     ensures { Numbers redos (Some slot.now) result }
 {
     match &slot.stage {
-        Some(stage) => ahead(stage.stage()),
+        Some(counted) => counted.stage().ahead(),
         None => 0,
     }
 }

@@ -1,36 +1,34 @@
 //! Calls of C: a lamina of points.
 ghost use Rattle.std.specs.Prelude.{◌≡◌, ◌<◌, ◌≤◌, length};
-ghost use Rattle.script_reader.specs.declared.command.Command.TheVariants as command;
+ghost use Rattle.commands.specs.declared.command.Change.TheVariants as change;
 ghost use Rattle.session_slots.specs.Arguments.{polygon_of};
-ghost use Rattle.gwb_c.specs.Calls.{Does, Leaves};
+ghost use Rattle.gwb_c.specs.Calls.{Changes, Leaves};
 
-use crate::told::{CLOSED, IN_DRAFT, NO_CALL};
-use session_slots::{Gwb, Place, is_drafting, polygon, put, status, take};
+use crate::calling::{call, no_call};
+use session_slots::{Call, Change, Command, Gwb, Place, Points, polygon};
 use std::alloc::Global;
 
 /// A polygon has no more points.
 const MOST_POINTS: usize = 64;
 
-/// Makes a lamina: a solid of two faces, whose corners are the points in order. More than 64 points make no call, and a draft has none.
+/// A lamina of so many points.
+fn lamina(alloc: Global, gwb: &mut Gwb, solid: u32, places: &[Place]) -> u32
+    requires { length places.now ≤ 64 }
+    ensures { Changes gwb.old.kept.value (change.Lamina solid (polygon_of places.now)) gwb.new.kept.value result }
+{
+    let corners = polygon(places);
+    let wanted = Change::Lamina(solid, Points::of(&corners));
+    call(alloc, gwb, Call::Give(Command::Change(wanted)))
+}
+
+/// Makes a lamina: a solid of two faces, whose corners are the points in order. More than 64 points make no call.
 #[unsafe(no_mangle)]
 pub extern "C" fn gwb_lamina(alloc: Global, gwb: &mut Gwb, solid: u32, points: &[Place]) -> u32
-    ensures made { length points.now ≤ 64 → Does gwb.old.kept.value (command.Lamina solid (polygon_of points.now)) gwb.new.kept.value result }
+    ensures made { length points.now ≤ 64 → Changes gwb.old.kept.value (change.Lamina solid (polygon_of points.now)) gwb.new.kept.value result }
     ensures too_many { 64 < length points.now → Leaves gwb.old.kept.value 10 gwb.new.kept.value result }
 {
-    let Some(slot) = take(alloc, gwb) else {
-        return CLOSED;
-    };
     if points.len() > MOST_POINTS {
-        put(gwb, slot);
-        return NO_CALL;
+        return no_call(alloc, gwb);
     }
-    if is_drafting(slot.slot()) {
-        put(gwb, slot);
-        return IN_DRAFT;
-    }
-    let mut slot = slot;
-    session_slots::lamina(alloc, slot.slot_mut(), solid, &polygon(points));
-    let kind = status(&slot.slot().answer);
-    put(gwb, slot);
-    kind
+    lamina(alloc, gwb, solid, points)
 }

@@ -1,31 +1,20 @@
-//! Calls of C: commands of several operators, undo and redo. A draft has none of these.
-ghost use Rattle.std.specs.Prelude.{◌≡◌, [], ◌∷◌};
-ghost use Rattle.script_reader.specs.declared.command.Command.TheVariants as command;
-ghost use Rattle.script_running.specs.script_judging.Settling.{spelled};
-ghost use Rattle.gwb_c.specs.Calls.{Does};
+//! Calls of C: commands of several operators, each a command of its own or steps of a draft, and undo and redo, which a draft hasn't.
+ghost use Rattle.std.specs.Prelude.{◌≡◌};
+ghost use Rattle.commands.specs.declared.command.Change.TheVariants as change;
+ghost use Rattle.commands.specs.declared.command.Command.TheVariants as command;
+ghost use Rattle.commands.specs.declared.command.Call.TheVariants as call;
+ghost use Rattle.gwb_c.specs.Calls.{Changes, DoesInSession};
 
-use crate::told::{CLOSED, IN_DRAFT};
+use crate::calling::{call, call_of_session};
 use euler_operators::Point;
-use script_running::Larger;
-use session_slots::{Gwb, is_drafting, put, status, take};
+use session_slots::{Call, Change, Command, Gwb};
 use std::alloc::Global;
 
-/// Carries a larger command out on the session, if there is one.
-fn carry(alloc: Global, gwb: &mut Gwb, larger: Larger<'_>) -> u32
-    ensures { Does gwb.old.kept.value (spelled larger.entry) gwb.new.kept.value result }
+/// A larger command.
+fn carry(alloc: Global, gwb: &mut Gwb, wanted: Change<'_>) -> u32
+    ensures { Changes gwb.old.kept.value wanted.entry gwb.new.kept.value result }
 {
-    let Some(slot) = take(alloc, gwb) else {
-        return CLOSED;
-    };
-    if is_drafting(slot.slot()) {
-        put(gwb, slot);
-        return IN_DRAFT;
-    }
-    let mut slot = slot;
-    session_slots::carry(alloc, slot.slot_mut(), larger);
-    let kind = status(&slot.slot().answer);
-    put(gwb, slot);
-    kind
+    call(alloc, gwb, Call::Give(Command::Change(wanted)))
 }
 
 /// Makes a block from a corner, of the sizes along x, y and z.
@@ -41,12 +30,12 @@ pub extern "C" fn gwb_block(
     dy: i64,
     dz: i64,
 ) -> u32
-    ensures { Does gwb.old.kept.value (command.Block solid (record { x = x; y = y; z = z }) dx dy dz) gwb.new.kept.value result }
+    ensures { Changes gwb.old.kept.value (change.Block solid (record { x = x; y = y; z = z }) dx dy dz) gwb.new.kept.value result }
 {
     carry(
         alloc,
         gwb,
-        Larger::Block(solid, Point { x, y, z }, dx, dy, dz),
+        Change::Block(solid, Point { x, y, z }, dx, dy, dz),
     )
 }
 
@@ -60,12 +49,12 @@ pub extern "C" fn gwb_sweep(
     dy: i64,
     dz: i64,
 ) -> u32
-    ensures { Does gwb.old.kept.value (command.Sweep face (record { x = dx; y = dy; z = dz })) gwb.new.kept.value result }
+    ensures { Changes gwb.old.kept.value (change.Sweep face (record { x = dx; y = dy; z = dz })) gwb.new.kept.value result }
 {
     carry(
         alloc,
         gwb,
-        Larger::Sweep(
+        Change::Sweep(
             face,
             Point {
                 x: dx,
@@ -79,9 +68,9 @@ pub extern "C" fn gwb_sweep(
 /// Glues two solids along a face of each.
 #[unsafe(no_mangle)]
 pub extern "C" fn gwb_glue(alloc: Global, gwb: &mut Gwb, face: u32, other: u32) -> u32
-    ensures { Does gwb.old.kept.value (command.Glue face other) gwb.new.kept.value result }
+    ensures { Changes gwb.old.kept.value (change.Glue face other) gwb.new.kept.value result }
 {
-    carry(alloc, gwb, Larger::Glue(face, other))
+    carry(alloc, gwb, Change::Glue(face, other))
 }
 
 /// Splits a solid by the plane `a x + b y + c z + d = 0`: what lies above becomes a new solid.
@@ -96,45 +85,23 @@ pub extern "C" fn gwb_split(
     d: i64,
     above: u32,
 ) -> u32
-    ensures { Does gwb.old.kept.value (command.Split solid (a ∷ b ∷ c ∷ d ∷ []) above) gwb.new.kept.value result }
+    ensures { Changes gwb.old.kept.value (change.Split solid a b c d above) gwb.new.kept.value result }
 {
-    carry(alloc, gwb, Larger::Split(solid, [a, b, c, d], above))
+    carry(alloc, gwb, Change::Split(solid, a, b, c, d, above))
 }
 
-/// Takes the last command back.
+/// Takes the last command back. A draft hasn't this call.
 #[unsafe(no_mangle)]
 pub extern "C" fn gwb_undo(alloc: Global, gwb: &mut Gwb) -> u32
-    ensures { Does gwb.old.kept.value command.Undo gwb.new.kept.value result }
+    ensures { DoesInSession gwb.old.kept.value (call.Give command.Undo) gwb.new.kept.value result }
 {
-    let Some(slot) = take(alloc, gwb) else {
-        return CLOSED;
-    };
-    if is_drafting(slot.slot()) {
-        put(gwb, slot);
-        return IN_DRAFT;
-    }
-    let mut slot = slot;
-    session_slots::undo(slot.slot_mut());
-    let kind = status(&slot.slot().answer);
-    put(gwb, slot);
-    kind
+    call_of_session(alloc, gwb, Call::Give(Command::Undo))
 }
 
-/// Does the next command again.
+/// Does the next command again. A draft hasn't this call.
 #[unsafe(no_mangle)]
 pub extern "C" fn gwb_redo(alloc: Global, gwb: &mut Gwb) -> u32
-    ensures { Does gwb.old.kept.value command.Redo gwb.new.kept.value result }
+    ensures { DoesInSession gwb.old.kept.value (call.Give command.Redo) gwb.new.kept.value result }
 {
-    let Some(slot) = take(alloc, gwb) else {
-        return CLOSED;
-    };
-    if is_drafting(slot.slot()) {
-        put(gwb, slot);
-        return IN_DRAFT;
-    }
-    let mut slot = slot;
-    session_slots::redo(slot.slot_mut());
-    let kind = status(&slot.slot().answer);
-    put(gwb, slot);
-    kind
+    call_of_session(alloc, gwb, Call::Give(Command::Redo))
 }

@@ -18,6 +18,7 @@
 //! reader of its answer writes (`Tells`). A draft that is committed is one command, and one that is abandoned leaves no trace
 //! (`Slot_ends`); what a draft or a session has not changes nothing (`CallsOfSession`, `CallsOfDraft`).
 
+mod calling;
 mod drafts;
 mod exports;
 mod fresh;

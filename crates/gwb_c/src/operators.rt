@@ -3,7 +3,7 @@ ghost use Rattle.std.specs.Prelude.{◌≡◌, cond, nat_eq};
 ghost use Rattle.euler_operators.specs.HalfEdge.{half};
 ghost use Rattle.script_reader.specs.Grammar.{plus};
 ghost use Rattle.session_slots.specs.Arguments.{corner_of};
-ghost use Rattle.gwb_c.specs.Calls.{Carries};
+ghost use Rattle.gwb_c.specs.Calls.{Acts};
 
 use crate::told::CLOSED;
 use euler_operators::{HalfEdge, Op, Point};
@@ -14,7 +14,7 @@ use std::alloc::Global;
 /// the session takes it, and not handed on from call to call.
 #[inline(always)]
 fn act(alloc: Global, gwb: &mut Gwb, op: Op) -> u32
-    ensures { Carries gwb.old.kept.value op gwb.new.kept.value result }
+    ensures { Acts gwb.old.kept.value op gwb.new.kept.value result }
 {
     let Some(slot) = take(alloc, gwb) else {
         return CLOSED;
@@ -39,7 +39,7 @@ pub extern "C" fn gwb_mvfs(
     y: i64,
     z: i64,
 ) -> u32
-    ensures { Carries gwb.old.kept.value (Op.Mvfs solid face outer vertex (record { x = x; y = y; z = z })) gwb.new.kept.value result }
+    ensures { Acts gwb.old.kept.value (Op.Mvfs solid face outer vertex (record { x = x; y = y; z = z })) gwb.new.kept.value result }
 {
     act(
         alloc,
@@ -51,7 +51,7 @@ pub extern "C" fn gwb_mvfs(
 /// Kills a solid of one vertex.
 #[unsafe(no_mangle)]
 pub extern "C" fn gwb_kvfs(alloc: Global, gwb: &mut Gwb, solid: u32) -> u32
-    ensures { Carries gwb.old.kept.value (Op.Kvfs solid) gwb.new.kept.value result }
+    ensures { Acts gwb.old.kept.value (Op.Kvfs solid) gwb.new.kept.value result }
 {
     act(alloc, gwb, Op::Kvfs(solid))
 }
@@ -69,7 +69,7 @@ pub extern "C" fn gwb_mev(
     y: i64,
     z: i64,
 ) -> u32
-    ensures { Carries gwb.old.kept.value (Op.Mev (corner_of from) (corner_of to) (plus edge) vertex (record { x = x; y = y; z = z })) gwb.new.kept.value result }
+    ensures { Acts gwb.old.kept.value (Op.Mev (corner_of from) (corner_of to) (plus edge) vertex (record { x = x; y = y; z = z })) gwb.new.kept.value result }
 {
     act(
         alloc,
@@ -87,7 +87,7 @@ pub extern "C" fn gwb_mev(
 /// Kills an edge and the vertex at its end.
 #[unsafe(no_mangle)]
 pub extern "C" fn gwb_kev(alloc: Global, gwb: &mut Gwb, half_edge: u32) -> u32
-    ensures { Carries gwb.old.kept.value (Op.Kev (half half_edge)) gwb.new.kept.value result }
+    ensures { Acts gwb.old.kept.value (Op.Kev (half half_edge)) gwb.new.kept.value result }
 {
     act(alloc, gwb, kev(half_edge))
 }
@@ -103,7 +103,7 @@ pub extern "C" fn gwb_mef(
     face: u32,
     outer: u32,
 ) -> u32
-    ensures { Carries gwb.old.kept.value (Op.Mef (half from) (half to) (plus edge) face outer) gwb.new.kept.value result }
+    ensures { Acts gwb.old.kept.value (Op.Mef (half from) (half to) (plus edge) face outer) gwb.new.kept.value result }
 {
     act(
         alloc,
@@ -121,7 +121,7 @@ pub extern "C" fn gwb_mef(
 /// Kills an edge between two faces, and one of these.
 #[unsafe(no_mangle)]
 pub extern "C" fn gwb_kef(alloc: Global, gwb: &mut Gwb, half_edge: u32) -> u32
-    ensures { Carries gwb.old.kept.value (Op.Kef (half half_edge)) gwb.new.kept.value result }
+    ensures { Acts gwb.old.kept.value (Op.Kef (half half_edge)) gwb.new.kept.value result }
 {
     act(alloc, gwb, Op::Kef(HalfEdge::of_code(half_edge)))
 }
@@ -129,7 +129,7 @@ pub extern "C" fn gwb_kef(alloc: Global, gwb: &mut Gwb, half_edge: u32) -> u32
 /// Kills an edge, and makes a ring.
 #[unsafe(no_mangle)]
 pub extern "C" fn gwb_kemr(alloc: Global, gwb: &mut Gwb, half_edge: u32, ring: u32) -> u32
-    ensures { Carries gwb.old.kept.value (Op.Kemr (half half_edge) ring) gwb.new.kept.value result }
+    ensures { Acts gwb.old.kept.value (Op.Kemr (half half_edge) ring) gwb.new.kept.value result }
 {
     act(alloc, gwb, Op::Kemr(HalfEdge::of_code(half_edge), ring))
 }
@@ -137,7 +137,7 @@ pub extern "C" fn gwb_kemr(alloc: Global, gwb: &mut Gwb, half_edge: u32, ring: u
 /// Makes an edge from a corner to a ring, which it kills.
 #[unsafe(no_mangle)]
 pub extern "C" fn gwb_mekr(alloc: Global, gwb: &mut Gwb, from: u32, to: u32, edge: u32) -> u32
-    ensures { Carries gwb.old.kept.value (Op.Mekr (corner_of from) (corner_of to) (plus edge)) gwb.new.kept.value result }
+    ensures { Acts gwb.old.kept.value (Op.Mekr (corner_of from) (corner_of to) (plus edge)) gwb.new.kept.value result }
 {
     act(alloc, gwb, Op::Mekr(corner(from), corner(to), plus(edge)))
 }
@@ -145,7 +145,7 @@ pub extern "C" fn gwb_mekr(alloc: Global, gwb: &mut Gwb, from: u32, to: u32, edg
 /// Kills a face, whose outer loop becomes a ring of another.
 #[unsafe(no_mangle)]
 pub extern "C" fn gwb_kfmrh(alloc: Global, gwb: &mut Gwb, face: u32, other: u32) -> u32
-    ensures { Carries gwb.old.kept.value (Op.Kfmrh face other) gwb.new.kept.value result }
+    ensures { Acts gwb.old.kept.value (Op.Kfmrh face other) gwb.new.kept.value result }
 {
     act(alloc, gwb, Op::Kfmrh(face, other))
 }
@@ -153,7 +153,7 @@ pub extern "C" fn gwb_kfmrh(alloc: Global, gwb: &mut Gwb, face: u32, other: u32)
 /// Makes a face of a ring.
 #[unsafe(no_mangle)]
 pub extern "C" fn gwb_mfkrh(alloc: Global, gwb: &mut Gwb, ring: u32, face: u32) -> u32
-    ensures { Carries gwb.old.kept.value (Op.Mfkrh ring face) gwb.new.kept.value result }
+    ensures { Acts gwb.old.kept.value (Op.Mfkrh ring face) gwb.new.kept.value result }
 {
     act(alloc, gwb, Op::Mfkrh(ring, face))
 }
@@ -161,7 +161,7 @@ pub extern "C" fn gwb_mfkrh(alloc: Global, gwb: &mut Gwb, ring: u32, face: u32) 
 /// Moves a ring to a face: as a ring of it where `out` is 0, else as its outer loop.
 #[unsafe(no_mangle)]
 pub extern "C" fn gwb_ringmv(alloc: Global, gwb: &mut Gwb, ring: u32, face: u32, out: u32) -> u32
-    ensures { Carries gwb.old.kept.value (cond (nat_eq out 0) (Op.RingIn ring face) (Op.RingOut ring face)) gwb.new.kept.value result }
+    ensures { Acts gwb.old.kept.value (cond (nat_eq out 0) (Op.RingIn ring face) (Op.RingOut ring face)) gwb.new.kept.value result }
 {
     act(alloc, gwb, ringmv(ring, face, out))
 }
@@ -169,7 +169,7 @@ pub extern "C" fn gwb_ringmv(alloc: Global, gwb: &mut Gwb, ring: u32, face: u32,
 /// Makes a ring the outer loop of its face, whose outer loop until then becomes a ring of the face given.
 #[unsafe(no_mangle)]
 pub extern "C" fn gwb_outer(alloc: Global, gwb: &mut Gwb, ring: u32, face: u32) -> u32
-    ensures { Carries gwb.old.kept.value (Op.Outer ring face) gwb.new.kept.value result }
+    ensures { Acts gwb.old.kept.value (Op.Outer ring face) gwb.new.kept.value result }
 {
     act(alloc, gwb, Op::Outer(ring, face))
 }
@@ -177,7 +177,7 @@ pub extern "C" fn gwb_outer(alloc: Global, gwb: &mut Gwb, ring: u32, face: u32) 
 /// Makes two solids one.
 #[unsafe(no_mangle)]
 pub extern "C" fn gwb_merge(alloc: Global, gwb: &mut Gwb, solid: u32, other: u32) -> u32
-    ensures { Carries gwb.old.kept.value (Op.Merge solid other) gwb.new.kept.value result }
+    ensures { Acts gwb.old.kept.value (Op.Merge solid other) gwb.new.kept.value result }
 {
     act(alloc, gwb, Op::Merge(solid, other))
 }

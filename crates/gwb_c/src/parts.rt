@@ -2,9 +2,25 @@
 ghost use Rattle.std.specs.Prelude.{◌≡◌, ◌<◌, [], length};
 ghost use Rattle.gwb_c.specs.Calls.{Leaves, Parts};
 
-use crate::told::{CLOSED, NO_CALL};
+use crate::calling::no_call;
+use crate::told::CLOSED;
 use session_slots::{Gwb, put, status, take};
 use std::alloc::Global;
+
+/// Makes a new solid of some faces of one, of which there is one.
+fn part(alloc: Global, gwb: &mut Gwb, faces: &[u32], solid: u32) -> u32
+    requires { 0 < length faces.now }
+    ensures { Parts gwb.old.kept.value faces.now solid gwb.new.kept.value result }
+{
+    let Some(slot) = take(alloc, gwb) else {
+        return CLOSED;
+    };
+    let mut slot = slot;
+    session_slots::part(alloc, slot.slot_mut(), faces, solid);
+    let kind = status(&slot.slot().answer);
+    put(gwb, slot);
+    kind
+}
 
 /// Makes a new solid of some faces of one. No faces make no call.
 #[unsafe(no_mangle)]
@@ -12,16 +28,8 @@ pub extern "C" fn gwb_part(alloc: Global, gwb: &mut Gwb, faces: &[u32], solid: u
     ensures made { 0 < length faces.now → Parts gwb.old.kept.value faces.now solid gwb.new.kept.value result }
     ensures none { faces.now ≡ [] → Leaves gwb.old.kept.value 10 gwb.new.kept.value result }
 {
-    let Some(slot) = take(alloc, gwb) else {
-        return CLOSED;
-    };
     if faces.is_empty() {
-        put(gwb, slot);
-        return NO_CALL;
+        return no_call(alloc, gwb);
     }
-    let mut slot = slot;
-    session_slots::part(alloc, slot.slot_mut(), faces, solid);
-    let kind = status(&slot.slot().answer);
-    put(gwb, slot);
-    kind
+    part(alloc, gwb, faces, solid)
 }

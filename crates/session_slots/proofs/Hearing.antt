@@ -7,8 +7,8 @@ use Rattle.script_running.specs.script_judging.Settling.{spelled}
 use Rattle.script_running.specs.declared.script_judging.larger.Larger.{Larger}
 use Rattle.script_running.specs.declared.script_judging.judging.Answer.{Answer}
 use Rattle.session_slots.specs.Slots.{Decides_on}
-use Rattle.session_slots.specs.declared.stage.Stage.{Stage}
-use Rattle.session_slots.specs.declared.stage.Stage.TheVariants.{Session}
+use Rattle.commands.specs.declared.stage.Stage.{Stage}
+use Rattle.commands.specs.declared.stage.Stage.TheVariants.{Session}
 
 -- a session goes on as it is answered
 pub heard : (s : Journal) (line : List ℕ) (a : Answer) (h : Stage) → Decides_on (Session s) line None a h → (t : Journal) × (Some h ≡ Some (Session t)) × Judges s.machine line a t.machine

@@ -3,8 +3,8 @@ use Rattle.std.specs.Prelude.{◌≡◌, Bool, true, false, Option, Some, None}
 use Rattle.undo_journal.specs.Journal.{new_journal}
 use Rattle.script_running.specs.declared.script_judging.judging.Answer.{Answer}
 use Rattle.script_running.specs.declared.script_judging.judging.Answer.TheVariants.{Silent}
-use Rattle.session_slots.specs.declared.stage.Stage.{Stage}
-use Rattle.session_slots.specs.declared.stage.Stage.TheVariants.{Session}
+use Rattle.commands.specs.declared.stage.Stage.{Stage}
+use Rattle.commands.specs.declared.stage.Stage.TheVariants.{Session}
 use Rattle.session_slots.specs.declared.slot.Slot.{Slot}
 
 -- what a handle holds: a session or a draft

@@ -5,13 +5,15 @@ use Rattle.euler_operators.specs.declared.Op.TheVariants as operator
 use Rattle.euler_operators.specs.declared.Refusal.{Refusal}
 use Rattle.euler_operators.specs.Model.{Model, solid_of}
 use Rattle.solid_measure.specs.Measure.{face_refusal}
-use Rattle.solid_listing.specs.declared.reply.Reply.TheVariants as reply
-use Rattle.script_running.specs.script_judging.Judging.{refused}
-use Rattle.script_running.specs.declared.script_judging.judging.Answer.{Answer}
-use Rattle.script_running.specs.declared.script_judging.judging.Answer.TheVariants.{Reply as Told}
-use Rattle.session_slots.specs.Slots.{Counts_in}
-use Rattle.session_slots.specs.Stages.{shown, Acts_on}
-use Rattle.session_slots.specs.declared.stage.Stage.{Stage}
+use Rattle.commands.specs.declared.command.Change.TheVariants as change
+use Rattle.commands.specs.declared.command.Command.TheVariants as command
+use Rattle.commands.specs.declared.command.Call.TheVariants as call
+use Rattle.commands.specs.declared.command.Told.{Told}
+use Rattle.commands.specs.declared.command.Told.TheVariants.{Refused, Memory}
+use Rattle.commands.specs.Telling.{Tells}
+use Rattle.session_slots.specs.Slots.{Counts_in, answer_after}
+use Rattle.session_slots.specs.Stages.{shown}
+use Rattle.commands.specs.declared.stage.Stage.{Stage}
 use Rattle.session_slots.specs.declared.slot.Slot.{Slot}
 
 -- the operator that makes solid t of the faces: they leave the solid of the first one
@@ -19,14 +21,14 @@ abbrev pub part_of : Model → List ℕ → ℕ → Op
 part_of M fs t = operator.Part (solid_of M (get_or fs 0 0)) t fs
 
 -- refused where the first one is no face; else the operator is carried out, but that memory may be refused before its conditions are tested
-abbrev pub Moves_faces : Option Refusal → Stage → Op → Answer → Stage → Type 0
-Moves_faces (Some r) g op a h = (a ≡ refused r) × (h ≡ g)
-Moves_faces None g op a h = Acts_on g op a h ⊎ ((a ≡ Told reply.Memory) × (h ≡ g))
+abbrev pub Moves_faces : Option Refusal → Stage → Op → Told → Stage → Type 0
+Moves_faces (Some r) g op a h = (a ≡ Refused r) × (h ≡ g)
+Moves_faces None g op a h = Tells g (call.Give (command.Change (change.Act op))) a h ⊎ ((a ≡ Memory) × (h ≡ g))
 
 -- a session or a draft goes on so
 abbrev pub Slot_parts : Slot → List ℕ → ℕ → Slot → Type 0
-Slot_parts old fs t new = (g : Stage) → old.stage ≡ Some g → (h : Stage) × (new.stage ≡ Some h)
-    × Moves_faces (face_refusal (shown g) (get_or fs 0 0)) g (part_of (shown g) fs t) new.answer h
+Slot_parts old fs t new = (g : Stage) → old.stage ≡ Some g → (h : Stage) × (a : Told) × (new.stage ≡ Some h)
+    × Moves_faces (face_refusal (shown g) (get_or fs 0 0)) g (part_of (shown g) fs t) a h × (new.answer ≡ answer_after old.answer a)
 
 -- and the greatest numbers in use before it are kept
 abbrev pub Slot_makes_part : Slot → List ℕ → ℕ → Slot → Type 0

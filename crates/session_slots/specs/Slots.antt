@@ -1,23 +1,26 @@
 -- What a call does to a slot: a session, or a draft of its next command, with the answer to the last command.
-use Rattle.std.specs.Prelude.{◌≡◌, ℕ, List, Option, Some, None, Result}
-use Rattle.euler_operators.specs.declared.Op.{Op}
-use Rattle.euler_operators.specs.declared.Refusal.{Refusal}
-use Rattle.euler_operators.specs.Model.{Model}
-use Rattle.undo_journal.specs.Journal.{Journal, DraftJournal}
-use Rattle.script_reader.specs.declared.command.Command.{Command}
-use Rattle.solid_listing.specs.declared.reply.Reply.{Reply}
-use Rattle.script_running.specs.script_judging.Judging.{Judges, Obeys, done, told}
+use Rattle.std.specs.Prelude.{◌≡◌, ℕ, List, Option, Some, None}
+use Rattle.undo_journal.specs.Journal.{Journal}
+use Rattle.script_reader.specs.declared.command.Command as lines
+use Rattle.solid_listing.specs.declared.reply.Reply.TheVariants as reply
+use Rattle.script_running.specs.script_judging.Judging.{Judges, Obeys, done, refused, tally_words}
 use Rattle.script_running.specs.script_judging.Settling.{Decides}
 use Rattle.script_running.specs.declared.script_judging.larger.Larger.{Larger}
 use Rattle.script_running.specs.declared.script_judging.judging.Answer.{Answer}
-use Rattle.script_running.specs.declared.script_judging.judging.Answer.TheVariants.{Silent}
+use Rattle.script_running.specs.declared.script_judging.judging.Answer.TheVariants.{Silent, Reply}
 use Rattle.shapes.specs.Fresh.{taken_in}
 use Rattle.solid_walks.specs.Counters.{taken_of}
 use Rattle.solid_walks.specs.declared.numbers.Counters.{Counters}
-use Rattle.session_slots.specs.Stages.{shown, Acts_on, Opens}
-use Rattle.session_slots.specs.declared.stage.OpenDraft.{OpenDraft}
-use Rattle.session_slots.specs.declared.stage.Stage.{Stage}
-use Rattle.session_slots.specs.declared.stage.Stage.TheVariants.{Session, Drafting}
+use Rattle.commands.specs.declared.command.Question.{Question}
+use Rattle.commands.specs.declared.command.Command.TheVariants as command
+use Rattle.commands.specs.declared.command.Call.{Call}
+use Rattle.commands.specs.declared.command.Call.TheVariants as call
+use Rattle.commands.specs.declared.command.Told.{Told}
+use Rattle.commands.specs.declared.command.Told.TheVariants as told
+use Rattle.commands.specs.declared.stage.Stage.{Stage}
+use Rattle.commands.specs.declared.stage.Stage.TheVariants.{Session, Drafting}
+use Rattle.commands.specs.Telling.{Tells}
+use Rattle.session_slots.specs.Stages.{shown}
 use Rattle.session_slots.specs.declared.slot.Slot.{Slot}
 
 -- the greatest numbers in use in the model shown
@@ -38,38 +41,29 @@ abbrev pub Slot_notes : Slot → List ℕ → Slot → Type 0
 Slot_notes old line new = Slot_hears old line new × Counts_in old new.before
 
 -- a session goes on as the command is obeyed, and the answer is kept
-abbrev pub Slot_obeys : Slot → Command → Slot → Type 0
+abbrev pub Slot_obeys : Slot → lines.Command → Slot → Type 0
 Slot_obeys old c new = (s : Journal) → old.stage ≡ Some (Session s) → (t : Journal) × (new.stage ≡ Some (Session t)) × Obeys s.machine c new.answer t.machine
 
--- a command of the session is obeyed, and the greatest numbers in use before it are kept
-abbrev pub Slot_does : Slot → Command → Slot → Type 0
-Slot_does old c new = Slot_obeys old c new × Counts_in old new.before
+-- the last answer after a call that was told so; a call that the session or draft hasn't, and one that concerns a mark, leave it
+abbrev pub answer_after : Answer → Told → Answer
+answer_after b told.Done = done
+answer_after b (told.Refused r) = refused r
+answer_after b told.Memory = Reply reply.Memory
+answer_after b told.InDraft = b
+answer_after b told.NoDraft = b
+answer_after b (told.Plane p flat) = Reply (reply.Plane p flat)
+answer_after b (told.Volume n) = Reply (reply.Volume n)
+answer_after b (told.Counts n) = Reply (reply.Count (tally_words n))
+answer_after b (told.Steps n) = b
 
--- an operator: in a session a command, in a draft a step
-abbrev pub Slot_acts : Slot → Op → Slot → Type 0
-Slot_acts old op new = (g : Stage) → old.stage ≡ Some g → (h : Stage) × (new.stage ≡ Some h) × Acts_on g op new.answer h
+-- a session or a draft goes on as the call is told, and the answer is kept
+abbrev pub Slot_makes : Slot → Call → Slot → Type 0
+Slot_makes old c new = (g : Stage) → old.stage ≡ Some g → (h : Stage) × (a : Told) × (new.stage ≡ Some h) × Tells g c a h × (new.answer ≡ answer_after old.answer a)
 
 -- and the greatest numbers in use before it are kept
-abbrev pub Slot_carries : Slot → Op → Slot → Type 0
-Slot_carries old op new = Slot_acts old op new × Counts_in old new.before
+abbrev pub Slot_does : Slot → Call → Slot → Type 0
+Slot_does old c new = Slot_makes old c new × Counts_in old new.before
 
--- a query is told what the model shown gives, and the session or the draft stays as it is
-abbrev pub Slot_answers : Slot → (Model → Result Reply Refusal) → Slot → Type 0
-Slot_answers old f new = (g : Stage) → old.stage ≡ Some g → (new.stage ≡ Some g) × (new.answer ≡ told (f (shown g)))
-
-abbrev pub Slot_asks : Slot → (Model → Result Reply Refusal) → Slot → Type 0
-Slot_asks old f new = Slot_answers old f new × Counts_in old new.before
-
--- a draft of the session's next command is opened, or memory was refused
-abbrev pub Slot_opens : Slot → Slot → Type 0
-Slot_opens old new = (s : Journal) → old.stage ≡ Some (Session s) → (h : Stage) × (new.stage ≡ Some h) × Opens s new.answer h
-
-abbrev pub Slot_drafts : Slot → Slot → Type 0
-Slot_drafts old new = Slot_opens old new × Counts_in old new.before
-
--- a draft ends in a session: f says in which
-abbrev pub Slot_closes : (DraftJournal → Journal) → Slot → Slot → Type 0
-Slot_closes f old new = (d : OpenDraft) → old.stage ≡ Some (Drafting d) → (new.stage ≡ Some (Session (f d.draft))) × (new.answer ≡ done)
-
-abbrev pub Slot_ends : (DraftJournal → Journal) → Slot → Slot → Type 0
-Slot_ends f old new = Slot_closes f old new × Counts_in old new.before
+-- a question is no command: it leaves the numbers before the last one
+abbrev pub Slot_asks : Slot → Question → Slot → Type 0
+Slot_asks old q new = Slot_makes old (call.Give (command.Ask q)) new × (new.before ≡ old.before)

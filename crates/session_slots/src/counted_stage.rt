@@ -3,13 +3,14 @@ ghost use Rattle.std.specs.Prelude.{◌≡◌, false};
 ghost use Rattle.euler_conditions.specs.Ready.{IsReady};
 ghost use Rattle.shapes.specs.Fresh.{taken_in};
 ghost use Rattle.solid_walks.specs.Counters.{taken_of};
-ghost use Rattle.script_running.specs.script_judging.Judging.{outcome};
-ghost use Rattle.script_reader.specs.declared.command.Command.TheVariants as command;
-ghost use Rattle.session_slots.specs.Stages.{shown, is_done, Acts_on, Obeys_on};
+ghost use Rattle.commands.specs.declared.command.Change.TheVariants as change;
+ghost use Rattle.commands.specs.declared.command.Command.TheVariants as command;
+ghost use Rattle.commands.specs.declared.command.Call.TheVariants as call;
+ghost use Rattle.commands.specs.Telling.{shown, Tells, told_of};
+ghost use Rattle.session_slots.specs.Stages.{is_done};
 ghost use Rattle.session_slots.specs.Slots.{Decides_on};
 
-use crate::commands::{act_on, redo_on, undo_on};
-use crate::stage::{Stage, arena};
+use commands::Stage;
 use euler_conditions::Arena;
 use euler_operators::Op;
 use script_running::{Answer, Larger, judge};
@@ -27,8 +28,8 @@ pub struct CountedStage {
 
 impl Model for CountedStage {
     ghost use Rattle.std.specs.Prelude.{◌≡◌};
-    ghost use Rattle.session_slots.specs.declared.stage.Stage.{Stage};
-    ghost use Rattle.session_slots.specs.contracts.stage.Stage.{the_row};
+    ghost use Rattle.commands.specs.declared.stage.Stage.{Stage};
+    ghost use Rattle.commands.specs.contracts.stage.Stage.{the_row};
 
     ghost Value = { Stage };
 
@@ -36,7 +37,7 @@ impl Model for CountedStage {
 
     ghost use Rattle.shapes.specs.Fresh.{taken_in};
     ghost use Rattle.solid_walks.specs.Counters.{taken_of};
-    ghost use Rattle.session_slots.specs.Stages.{shown};
+    ghost use Rattle.commands.specs.Telling.{shown};
 
     ghost view = { λ c. c.stage };
 
@@ -57,7 +58,7 @@ fn greatest_after(done: bool, stage: &Stage, greatest: Counters) -> Counters
     ensures { taken_of result ≡ taken_in (shown stage.now) }
 {
     if done {
-        counters_of(arena(stage))
+        counters_of(stage.arena())
     } else {
         greatest
     }
@@ -82,7 +83,7 @@ impl CountedStage {
     pub(crate) fn of(stage: Stage) -> CountedStage
         ensures { result ≡ stage }
     {
-        let greatest = counters_of(arena(&stage));
+        let greatest = counters_of(stage.arena());
         CountedStage { stage, greatest }
     }
 
@@ -104,7 +105,7 @@ impl CountedStage {
         ensures model { result.now.model ≡ shown self.now }
         ensures ready { IsReady result.now }
     {
-        arena(&self.stage)
+        self.stage.arena()
     }
 
     /// The greatest numbers in use.
@@ -117,27 +118,9 @@ impl CountedStage {
     /// One operator: in a session a command, in a draft a step.
     #[inline(always)]
     pub(crate) fn act(&mut self, op: Op) -> Result<(), Failure>
-        ensures { Acts_on self.old op (outcome result) self.new }
+        ensures { Tells self.old (call.Give (command.Change (change.Act op))) (told_of result) self.new }
     {
-        let ended = act_on(&mut self.stage, op);
-        self.greatest = greatest_after(ended.is_ok(), &self.stage, self.greatest);
-        ended
-    }
-
-    /// Takes the last command of a session back.
-    pub(crate) fn undo(&mut self) -> Result<(), Failure>
-        ensures { Obeys_on self.old command.Undo (outcome result) self.new }
-    {
-        let ended = undo_on(&mut self.stage);
-        self.greatest = greatest_after(ended.is_ok(), &self.stage, self.greatest);
-        ended
-    }
-
-    /// Does the next command of a session again.
-    pub(crate) fn redo(&mut self) -> Result<(), Failure>
-        ensures { Obeys_on self.old command.Redo (outcome result) self.new }
-    {
-        let ended = redo_on(&mut self.stage);
+        let ended = commands::act(&mut self.stage, op);
         self.greatest = greatest_after(ended.is_ok(), &self.stage, self.greatest);
         ended
     }

@@ -2,53 +2,48 @@
 //! Sessions and drafts in slots: a session or a draft of its next command, beside the answer to the last command and the greatest numbers
 //! in use before it.
 //!
-//! `stage` has a session or a draft, `counted_stage` this with the greatest numbers in use, `slot` what a line does to a slot; `commands`,
-//! `drafts`, `parts` and `measures` what a command, a draft, a part and a query do that are given as values. `answers` gives the
+//! `counted_stage` has a session or a draft with the greatest numbers in use, `slot` what a line does to a slot, and `calls` what a call does
+//! that is given as a value; `parts` makes some faces a solid of their own. `answers` gives the
 //! last answer as values, `readers`, `cycles` and `spokes` read the model shown. `handle` has a slot that lies with C, by a pointer (`kept`,
 //! `loose`), and is taken out of it for a call (`held`); `lent` has a copy of a handle whose slot is lent to readers, of which any number may
 //! run at once. `arguments` has what C gives to a call, as the kernel takes it.
 //!
 //! # What is proved
 //!
-//! Each call on a slot, in words of the plain machine: `hear` answers a line as the machine may (`Slot_notes`); `act` makes an operator a
-//! command of a session, and a step of a draft (`Slot_carries`); `undo`, `redo`, `carry` and `lamina` do what the line does that spells the
-//! same command (`Slot_does`), `part` what the operator does (`Slot_makes_part`); a query tells what the model shown gives, and changes no
-//! more (`Slot_asks`). `commit` makes a draft one command, and `abandon` leaves no trace of it (`Slot_ends`). The greatest numbers in use are
+//! Each call on a slot, in words of the plain machine: `hear` answers a line as the machine may (`Slot_notes`). `make` makes a call of any kind
+//! on a session or a draft, and `act` an operator, as `commands` says that they may be told (`Slot_does`); `ask` tells what the model shown
+//! gives, and changes no more (`Slot_asks`); `part` does what the operator does (`Slot_makes_part`). The greatest numbers in use are
 //! those of the model shown, whatever was done. What the last answer told, and what a reader tells, are equations, but for where a loop's
 //! list of half-edges begins.
 
 mod answers;
 mod arguments;
-mod commands;
+mod calls;
 mod counted_stage;
 mod cycles;
-mod drafts;
 mod handle;
 mod held;
 mod kept;
 mod lent;
 mod loose;
-mod measures;
 mod parts;
 mod readers;
 mod slot;
 mod spokes;
-mod stage;
 
 pub use answers::{
     Counts, PlaneRow, Refused, Wide, counts_of, fault_of, halves, plane_of, plane_row, refusal_of,
     status, volume_of,
 };
 pub use arguments::{corner, kev, plus, polygon, ringmv};
-pub use commands::{act, carry, lamina, redo, undo};
+pub use calls::{act, ask, make};
+pub use commands::{Call, Change, Command, OpenDraft, Points, Question, Stage};
 pub use counted_stage::CountedStage;
 pub use cycles::half_edges;
-pub use drafts::{abandon, commit, open};
 pub use handle::{Gwb, begin, put, take};
 pub use held::Held;
 pub use kept::Kept;
 pub use lent::{GwbLent, Lent, Shown, hide, show};
-pub use measures::{tell_count, tell_plane, tell_volume};
 pub use parts::part;
 pub use readers::{
     EdgeRow, FaceRow, Place, edge, face, face_after, face_of_loop, first_half_edge, half_edge_loop,
@@ -56,4 +51,3 @@ pub use readers::{
 };
 pub use slot::{Slot, copy_front, hear, is_drafting, text_of};
 pub use spokes::vertex_half_edge;
-pub use stage::{OpenDraft, Stage};

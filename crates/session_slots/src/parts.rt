@@ -2,15 +2,14 @@
 ghost use Rattle.std.specs.Prelude.{◌≡◌, ◌<◌, length, get_or, IfOk};
 ghost use Rattle.euler_operators.specs.Model.{solid_of};
 ghost use Rattle.solid_measure.specs.Measure.{answer, face_refusal};
-ghost use Rattle.script_running.specs.script_judging.Judging.{outcome};
-ghost use Rattle.session_slots.specs.Stages.{shown};
+ghost use Rattle.commands.specs.Telling.{shown, told_of};
 ghost use Rattle.session_slots.specs.Parting.{part_of, Moves_faces, Slot_parts, Slot_makes_part};
 
+use crate::calls::keep_outcome;
 use crate::counted_stage::CountedStage;
 use crate::slot::{Slot, counted_in};
 use euler_conditions::Arena;
 use euler_operators::{FaceList, Kind, Op, Refusal, Why, is_number};
-use script_running::tell_outcome;
 use std::alloc::{AllocError, Global};
 use undo_journal::Failure;
 
@@ -49,7 +48,7 @@ fn solid_of(arena: &Arena, face: u32) -> Result<u32, Refusal>
 /// Parts some faces, of which there is one, from the solid of the first. Their list is made before the operator's conditions are tested.
 fn part_on(alloc: Global, stage: &mut CountedStage, faces: &[u32], made: u32) -> Result<(), Failure>
     requires { 0 < length faces.now }
-    ensures { Moves_faces (face_refusal (shown stage.old) (get_or faces.now 0 0)) stage.old (part_of (shown stage.old) faces.now made) (outcome result) stage.new }
+    ensures { Moves_faces (face_refusal (shown stage.old) (get_or faces.now 0 0)) stage.old (part_of (shown stage.old) faces.now made) (told_of result) stage.new }
 {
     let from = match solid_of(stage.arena(), faces[0]) {
         Ok(from) => from,
@@ -67,7 +66,7 @@ fn part_in(alloc: Global, slot: &mut Slot, faces: &[u32], made: u32)
 {
     if let Some(stage) = &mut slot.stage {
         let ended = part_on(alloc, stage, faces, made);
-        tell_outcome(ended, &mut slot.answer);
+        keep_outcome(ended, &mut slot.answer);
     }
 }
 

@@ -3,13 +3,13 @@ ghost use Rattle.std.specs.Prelude.{◌≡◌, IfSome, Some, length};
 ghost use Rattle.euler_conditions.specs.Ready.{IsReady};
 ghost use Rattle.undo_journal.specs.Journal.{Journal, new_journal};
 ghost use Rattle.script_running.specs.script_judging.Settling.{spelled};
-ghost use Rattle.session_slots.specs.declared.stage.Stage.TheVariants as stages;
+ghost use Rattle.commands.specs.declared.stage.Stage.TheVariants as stages;
 ghost use Rattle.session_slots.specs.Stages.{is_draft, text_in};
 ghost use Rattle.session_slots.specs.Slots.{Counts_in, Slot_obeys, Slot_hears, Slot_notes};
 ghost use Rattle.session_slots.specs.Written.{laid_over};
 
 use crate::counted_stage::CountedStage;
-use crate::stage::Stage;
+use commands::Stage;
 use euler_conditions::Arena;
 use script_running::{Answer, Larger, carry_out};
 use solid_listing::{Reply, write_listing, write_reply};

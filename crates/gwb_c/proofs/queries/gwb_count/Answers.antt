@@ -1,5 +1,5 @@
 use Rattle.std.proofs.Common.{◌∙◌, refl, sym, ap, subst}
-use Rattle.script_running.specs.script_judging.Judging.{count_reply}
+use Rattle.commands.specs.declared.command.Question.TheVariants as question
 use Rattle.session_slots.specs.declared.slot.Slot.{Slot}
 use Rattle.session_slots.specs.Answered.{counts_in, status_of}
 use Rattle.gwb_c.specs.Handle.{Recalls, Gives}
@@ -14,9 +14,9 @@ returns-in_default-clause-value c = (9, subst (λ o. Recalls counts_in o c.args.
 
 pub returns-clause-state : goal.returns-clause-state
 returns-clause-state c =
-    let after = c.tell_count.new.slot in
-    goes_on (λ x y. Slot_asks x (λ M. count_reply M c.args.solid) y) c.args.gwb.now.kept.value c.in-Some.slot c.in-Some.ensures.slot c.put.new.gwb.kept.value after c.put.ensures
-    c.status-kind.result (c.status-kind.ensures ∙ ap (λ (x : Slot). status_of x.answer) c.slot.ensures) (subst (λ x. Slot_asks x (λ M. count_reply M c.args.solid) after) c.slot_mut.ensures.value c.tell_count.ensures)
+    let after = c.ask.new.slot in
+    goes_on (λ x y. Slot_asks x (question.Count c.args.solid) y) c.args.gwb.now.kept.value c.in-Some.slot c.in-Some.ensures.slot c.put.new.gwb.kept.value after c.put.ensures
+    c.status-kind.result (c.status-kind.ensures ∙ ap (λ (x : Slot). status_of x.answer) c.slot.ensures) (subst (λ x. Slot_asks x (question.Count c.args.solid) after) c.slot_mut.ensures.value c.ask.ensures)
 
 pub returns-clause-value : goal.returns-clause-value
 returns-clause-value c =
@@ -28,6 +28,6 @@ returns-clause-value c =
 
 pub put-requires-clause-staged : goal.put-requires-clause-staged
 put-requires-clause-staged c =
-    let after = c.tell_count.new.slot in
-    let asked = subst (λ x. Slot_asks x (λ M. count_reply M c.args.solid) after) c.slot_mut.ensures.value c.tell_count.ensures in
-    stays c.in-Some.slot.stage after.stage c.in-Some.ensures.staged (λ g e. ap is_staged (asked.0 g e).0)
+    let after = c.ask.new.slot in
+    let asked = subst (λ x. Slot_asks x (question.Count c.args.solid) after) c.slot_mut.ensures.value c.ask.ensures in
+    stays c.in-Some.slot.stage after.stage c.in-Some.ensures.staged (λ g e. ap is_staged (asked.0 g e).2)

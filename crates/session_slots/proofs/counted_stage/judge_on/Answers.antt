@@ -1,7 +1,7 @@
 use Rattle.std.proofs.Common.{◌∙◌, None, refl, sym, ap, subst}
 use Rattle.script_running.specs.declared.script_judging.judging.Answer.TheVariants.{Silent}
-use Rattle.session_slots.specs.declared.stage.Stage.{Stage}
-use Rattle.session_slots.specs.declared.stage.Stage.TheVariants.{Session}
+use Rattle.commands.specs.declared.stage.Stage.{Stage}
+use Rattle.commands.specs.declared.stage.Stage.TheVariants.{Session}
 use Rattle.session_slots.specs.Slots.{Decides_on}
 use Rattle.session_slots.specs.Stages.{shown}
 use Rattle.session_slots.proofs.Unchanged.{shows_judged}

@@ -1,6 +1,6 @@
 use Rattle.std.proofs.Common.{None, Some, subst}
 use Rattle.session_slots.specs.Slots.{Decides_on}
-use Rattle.session_slots.specs.declared.stage.Stage.{Stage}
+use Rattle.commands.specs.declared.stage.Stage.{Stage}
 use Rattle.session_slots.proofs.Acting.{the_same}
 use Rattle.session_slots.proofs.Hearing.{heard, finished}
 use Rattle.session_slots.proofs.slot.answer_line.Goals as goal

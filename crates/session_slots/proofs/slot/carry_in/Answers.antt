@@ -2,7 +2,7 @@ use Rattle.std.proofs.Common.{Some, ap, subst}
 use Rattle.undo_journal.specs.Journal.{Journal}
 use Rattle.script_running.specs.script_judging.Judging.{Obeys}
 use Rattle.script_running.specs.script_judging.Settling.{spelled}
-use Rattle.session_slots.specs.declared.stage.Stage.{Stage}
+use Rattle.commands.specs.declared.stage.Stage.{Stage}
 use Rattle.session_slots.proofs.Acting.{the_same}
 use Rattle.session_slots.proofs.slot.carry_in.Goals as goal
 

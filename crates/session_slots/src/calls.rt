@@ -1,0 +1,113 @@
+//! Calls given as values: what each does to a slot.
+ghost use Rattle.std.specs.Prelude.{◌≡◌};
+ghost use Rattle.commands.specs.declared.command.Change.TheVariants as change;
+ghost use Rattle.commands.specs.declared.command.Command.TheVariants as command;
+ghost use Rattle.commands.specs.declared.command.Call.TheVariants as call;
+ghost use Rattle.commands.specs.Telling.{told_of};
+ghost use Rattle.session_slots.specs.Slots.{answer_after, Slot_makes, Slot_does, Slot_asks};
+
+use crate::counted_stage::CountedStage;
+use crate::slot::{Slot, counted_in};
+use commands::{Call, Question, Told};
+use euler_operators::{Op, Refusal};
+use script_running::Answer;
+use solid_listing::Reply;
+use solid_measure::Tally;
+use std::alloc::Global;
+use undo_journal::Failure;
+
+fn refused(refusal: Refusal) -> Answer
+    ensures { result ≡ answer_after Answer.Silent (Told.Refused refusal) }
+{
+    Answer::Reply(Reply::Refused(refusal.why.code(), refusal.number))
+}
+
+fn counted(tally: Tally) -> Answer
+    ensures { result ≡ answer_after Answer.Silent (Told.Counts tally) }
+{
+    Answer::Reply(Reply::Count([
+        tally.v as i64,
+        tally.e as i64,
+        tally.f as i64,
+        tally.r as i64,
+        tally.sum,
+    ]))
+}
+
+/// Keeps the answer to a call that was told so. One that the session or draft hasn't, or that concerns a mark, leaves the last answer.
+fn keep(told: Told, answer: &mut Answer)
+    ensures { answer.new ≡ answer_after answer.old told }
+{
+    match told {
+        Told::Done => *answer = Answer::Reply(Reply::Done),
+        Told::Refused(refusal) => *answer = refused(refusal),
+        Told::Memory => *answer = Answer::Reply(Reply::Memory),
+        Told::InDraft => {}
+        Told::NoDraft => {}
+        Told::Plane(plane, flat) => *answer = Answer::Reply(Reply::Plane(plane, flat)),
+        Told::Volume(n) => *answer = Answer::Reply(Reply::Volume(n)),
+        Told::Counts(tally) => *answer = counted(tally),
+        Told::Steps(_) => {}
+    }
+}
+
+/// Keeps the answer to a change that ended so.
+pub(crate) fn keep_outcome(ended: Result<(), Failure>, answer: &mut Answer)
+    ensures { answer.new ≡ answer_after answer.old (told_of ended) }
+{
+    match ended {
+        Ok(()) => *answer = Answer::Reply(Reply::Done),
+        Err(Failure::Refused(refusal)) => *answer = refused(refusal),
+        Err(Failure::Memory(_)) => *answer = Answer::Reply(Reply::Memory),
+    }
+}
+
+fn make_in(alloc: Global, slot: &mut Slot, wanted: Call<'_>)
+    ensures { Slot_makes slot.old wanted.entry slot.new }
+{
+    let Some(counted) = slot.stage.take() else {
+        return;
+    };
+    let (stage, told) = commands::make(alloc, counted.into_stage(), wanted);
+    slot.stage = Some(CountedStage::of(stage));
+    keep(told, &mut slot.answer);
+}
+
+/// Makes a call, and keeps its answer and the greatest numbers in use before it.
+pub fn make(alloc: Global, slot: &mut Slot, wanted: Call<'_>)
+    ensures { Slot_does slot.old wanted.entry slot.new }
+{
+    let before = counted_in(slot);
+    make_in(alloc, slot, wanted);
+    slot.before = before;
+}
+
+#[inline(always)]
+fn act_in(slot: &mut Slot, op: Op)
+    ensures { Slot_makes slot.old (call.Give (command.Change (change.Act op))) slot.new }
+{
+    if let Some(stage) = &mut slot.stage {
+        let ended = stage.act(op);
+        keep_outcome(ended, &mut slot.answer);
+    }
+}
+
+/// One operator: in a session a command, in a draft a step.
+#[inline(always)]
+pub fn act(slot: &mut Slot, op: Op)
+    ensures { Slot_does slot.old (call.Give (command.Change (change.Act op))) slot.new }
+{
+    let before = counted_in(slot);
+    act_in(slot, op);
+    slot.before = before;
+}
+
+/// Answers a question about the model shown. It is no command: the numbers before the last one are kept.
+pub fn ask(slot: &mut Slot, question: Question)
+    ensures { Slot_asks slot.old question slot.new }
+{
+    if let Some(stage) = &slot.stage {
+        let told = commands::ask(stage.arena(), question);
+        keep(told, &mut slot.answer);
+    }
+}
