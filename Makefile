@@ -1,5 +1,6 @@
 # Installs gwb: the program, its man page, the companions, and the library where it is built. It proves and builds nothing of the kernel.
 #
+#   make check                               all tests that need no proof, in a minute or two: the last line counts
 #   make install PREFIX=/usr/local           DESTDIR=.. is put before every place, as for a package
 #   make uninstall PREFIX=/usr/local         takes away what was installed
 #
@@ -16,11 +17,15 @@ SHARE = $(ROOT)/share/gwb
 LIBRARY = $(MAKE) -C bindings PREFIX=$(abspath $(PREFIX)) DESTDIR=$(abspath $(DESTDIR)) ARCHIVE=$(abspath $(ARCHIVE))
 COMPANIONS = $(notdir $(wildcard companions/gwb-*))
 
-.PHONY: help install uninstall install-program install-companions install-library
+.PHONY: help check install uninstall install-program install-companions install-library
 help:
+	@echo 'make check                          runs all tests that need no proof on what is built'
 	@echo 'make install PREFIX=/usr/local      installs the program, the library where it is built, the man page and the companions'
 	@echo 'make uninstall PREFIX=/usr/local    takes them away'
 	@echo '.ci/run                             proves, tests and builds everything'
+
+check: $(PROGRAM)
+	tests/run.py $(PROGRAM) $(wildcard $(ARCHIVE))
 
 install: install-program install-companions install-library
 
@@ -28,7 +33,7 @@ $(PROGRAM):
 	@echo '$(PROGRAM) is not built. One of these proves and builds it:'
 	@echo '    (cd crates/gwb && rt run) < examples/wire.gwb'
 	@echo '    .ci/run'
-	@echo 'A program that lies elsewhere: make install PROGRAM=..'
+	@echo 'A program that lies elsewhere is named by PROGRAM=..'
 	@false
 
 install-program: $(PROGRAM)

@@ -1,0 +1,119 @@
+#!/usr/bin/env python3
+"""Runs all tests that need no proof on a built program, and on the library's archive where one is given.
+
+    tests/run.py [PROGRAM [ARCHIVE]]      PROGRAM is crates/gwb/out/gwb where none is given
+
+A program or archive that is named and isn't there is a failure. A test whose tools aren't there is skipped, and so is what a test leaves out for
+want of one; each is named. The calls that no script reaches are tried where `rt ci` has left their program. The last line counts what passed, failed and was skipped.
+"""
+import re
+import shutil
+import subprocess
+import sys
+from dataclasses import dataclass
+from pathlib import Path
+from typing import Iterator, List, Tuple
+
+TOP = Path(__file__).resolve().parent.parent
+DIRECT_CALLS = TOP / 'crates' / 'direct_calls' / 'out' / 'direct_calls'
+_LAST = re.compile(r'(\d+) (passed|compared), (\d+) (?:failed|wrong)(?:, (\d+) skipped)?$')
+_LEFT_OUT = re.compile(r'(?:skipped|not tried): ')
+
+
+@dataclass(frozen=True)
+class Trial:
+    """A test: its words, from the top of the repository on, and the tools and built programs without which it can't begin."""
+
+    words: Tuple[str, ...]
+    tools: Tuple[str, ...] = ()
+    built: Tuple[Path, ...] = ()
+
+    def __str__(self) -> str:
+        return ' '.join(self.words)
+
+
+@dataclass(frozen=True)
+class Outcome:
+    """How many comparisons passed and failed, and what was left out."""
+
+    passed: int
+    failed: int
+    skipped: Tuple[str, ...] = ()
+
+
+def trials(program: str, archive: str) -> Iterator[Trial]:
+    """The tests, those of documents first."""
+    for name in ('quotes', 'versions', 'refusals', 'pages'):
+        yield Trial((f'tests/{name}.py',))
+    yield Trial(('tests/scripts.py', program))
+    yield Trial(('tests/program.sh', program))
+    yield Trial(('tests/refused_growths.py', program), ('cc',))
+    yield Trial(('tests/documents.py', program))
+    yield Trial(('companions/tests/run.py', program))
+    yield Trial(('tests/install.py', program), ('make',))
+    yield Trial(('tests/direct_calls.py', str(DIRECT_CALLS), program), ('cc',), (DIRECT_CALLS,))
+    if archive:
+        yield Trial(('tests/library.sh', archive, program), ('cc', 'c++', 'make'))
+        yield Trial(('tests/install.py', program, archive), ('cc', 'make'))
+
+
+def outcome_of(trial: Trial) -> Outcome:
+    """Runs a test, or says what it lacks."""
+    missing = [tool for tool in trial.tools if shutil.which(tool) is None] + [str(path) for path in trial.built if not path.is_file()]
+    if missing:
+        return Outcome(0, 0, (f'{trial}: there is no {", ".join(missing)}',))
+    try:
+        done = subprocess.run([TOP / trial.words[0], *trial.words[1:]], cwd=TOP, stdout=subprocess.PIPE, stderr=subprocess.STDOUT, check=False)
+    except OSError as error:
+        print(error)
+        return Outcome(0, 1)
+    return counted(trial, done.returncode, done.stdout.decode(errors='replace').splitlines())
+
+
+def counted(trial: Trial, status: int, lines: List[str]) -> Outcome:
+    """What a test's last line says. One that ends otherwise than that line says has failed."""
+    last = _LAST.match(lines[-1]) if lines else None
+    if last is None or (int(last.group(1)) == 0 or status != 0) and int(last.group(3)) == 0:
+        print(*lines[-12:], f'{trial}: it ended with status {status}', sep='\n')
+        return Outcome(0, 1)
+    failed = int(last.group(3))
+    passed = int(last.group(1)) - (failed if last.group(2) == 'compared' else 0)
+    if failed:
+        print(*lines, sep='\n')
+    return Outcome(passed, failed, left_out(trial, lines, int(last.group(4) or 0)))
+
+
+def left_out(trial: Trial, lines: List[str], count: int) -> Tuple[str, ...]:
+    """What a test says that it left out; what it counts and doesn't name is called so."""
+    named = [f'{trial}: {_LEFT_OUT.sub("", line)}' for line in lines if _LEFT_OUT.match(line)]
+    return (*named, *[f'{trial}: one more, which it does not name'] * (count - len(named)))
+
+
+def absent(*files: str) -> List[str]:
+    """What is wrong with the files that are to be tried: those that aren't there."""
+    return [f'{file}: there is no such file' for file in files if file and not Path(file).is_file()]
+
+
+def main() -> int:
+    if len(sys.argv) > 3:
+        sys.exit(__doc__)
+    words = [*sys.argv[1:], *['crates/gwb/out/gwb', ''][len(sys.argv) - 1:]]
+    program, archive = (str(Path(word).resolve()) if word else '' for word in words)
+    missing = absent(program, archive)
+    if missing:
+        print(*missing, f'0 passed, {len(missing)} failed, 0 skipped', sep='\n')
+        return 1
+    found: List[Outcome] = []
+    for trial in trials(program, archive):
+        outcome = outcome_of(trial)
+        print(f'{trial}: {outcome.passed} passed, {outcome.failed} failed, {len(outcome.skipped)} skipped', flush=True)
+        found.append(outcome)
+    skipped = [name for outcome in found for name in outcome.skipped]
+    failed = sum(outcome.failed for outcome in found)
+    told = [f'skipped: {name}' for name in skipped]
+    print(*told, f'{sum(outcome.passed for outcome in found)} passed, {failed} failed, {len(skipped)} skipped', sep='\n')
+    return 1 if failed else 0
+
+
+if __name__ == '__main__':
+    sys.exit(main())
