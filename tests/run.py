@@ -43,7 +43,7 @@ class Outcome:
 
 def trials(program: str, archive: str) -> Iterator[Trial]:
     """The tests, those of documents first."""
-    for name in ('quotes', 'versions', 'refusals', 'pages'):
+    for name in ('quotes', 'versions', 'refusals', 'pages', 'words'):
         yield Trial((f'tests/{name}.py',))
     yield Trial(('tests/scripts.py', program))
     yield Trial(('tests/program.sh', program))

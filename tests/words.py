@@ -1,0 +1,127 @@
+#!/usr/bin/env python3
+"""Counts the words of the pages, and looks whether what they count and name is so.
+
+    tests/words.py
+
+The README has 1,100 words at most, and all pages together 30,000: README.md and each page in docs, bench, bindings, companions and tests, but not
+CHANGELOG.md, which grows with each release. A word is what stands between blanks. The cell of a table has fewer than 200 characters. Each link
+leads to a file that is there, and to a heading of it; the must-fail edits are as many as docs/WRONG_BODIES.md says, and those that pages name
+are there; the crates of docs/DESIGN.md are those of crates.txt. The last line counts.
+"""
+import re
+import sys
+from pathlib import Path
+from typing import Iterator, List, Set
+
+TOP = Path(__file__).resolve().parent.parent
+README_WORDS = 1_100
+ALL_WORDS = 30_000
+CELL = 200
+_LINK = re.compile(r'\]\(([^)\s]+)\)')
+_EDIT = re.compile(r'`([a-z_]+/[a-z_0-9]+)`')
+_FENCE = re.compile(r'^```.*?^```$', re.MULTILINE | re.DOTALL)
+
+
+def pages() -> List[Path]:
+    """The pages whose words are counted."""
+    return [TOP / 'README.md', *sorted(TOP.glob('*/*.md'))]
+
+
+def name_of(path: Path) -> str:
+    """A file as the complaints name it."""
+    return str(path.relative_to(TOP))
+
+
+def words(path: Path) -> int:
+    """How many words a page has."""
+    return len(path.read_text().split())
+
+
+def too_many(name: str, found: int, most: int) -> str:
+    """What is wrong with so many words, or nothing."""
+    return f'{name}: {found:,} words, and not {most:,} at most' if found > most else ''
+
+
+def prose(path: Path) -> str:
+    """A page without its blocks."""
+    return _FENCE.sub('', path.read_text())
+
+
+def long_cells(path: Path) -> str:
+    """What is wrong with the cells of a page's tables, or nothing."""
+    rows = [line for line in prose(path).splitlines() if line.startswith('|')]
+    cells = [cell.strip() for row in rows for cell in row.strip('|').split(' | ')]
+    long = [cell for cell in cells if len(cell) >= CELL]
+    return f'{name_of(path)}: {len(long)} cells of {CELL} characters and more, the first {long[0][:60]!r}' if long else ''
+
+
+def anchors(path: Path) -> Set[str]:
+    """The headings of a page as links name them."""
+    headings = re.findall(r'^#+ (.*)$', prose(path), re.MULTILINE)
+    return {re.sub(r'[^\w\- ]', '', heading.lower()).strip().replace(' ', '-') for heading in headings}
+
+
+def leads_on(path: Path, link: str) -> bool:
+    """Whether a link of a page leads to a file, and to a heading of it where it names one."""
+    file, _, heading = link.partition('#')
+    target = (path.parent / file).resolve() if file else path
+    return target.exists() and (not heading or heading in anchors(target))
+
+
+def broken_links(path: Path) -> str:
+    """What is wrong with the links of a page, or nothing."""
+    links = [link for link in _LINK.findall(path.read_text()) if '://' not in link]
+    broken = [link for link in links if not leads_on(path, link)]
+    return f'{name_of(path)}: nothing at {", ".join(broken)}' if broken else ''
+
+
+def edits() -> Set[str]:
+    """The must-fail edits, as pages name them."""
+    return {f'{path.parent.parent.name}/{path.stem}' for path in TOP.glob('crates/*/must-fail/*.edit')}
+
+
+def missing_edits(path: Path) -> str:
+    """What is wrong with the edits that a page names, or nothing."""
+    crates = {edit.partition('/')[0] for edit in edits()}
+    named = [edit for edit in _EDIT.findall(path.read_text()) if edit.partition('/')[0] in crates]
+    missing = sorted({edit for edit in named if edit not in edits() and not (TOP / 'crates' / edit).exists()})
+    return f'{name_of(path)}: no edit {", ".join(missing)}' if missing else ''
+
+
+def counted_edits() -> str:
+    """What is wrong with how many edits docs/WRONG_BODIES.md says there are, or nothing."""
+    page = TOP / 'docs' / 'WRONG_BODIES.md'
+    said = re.search(r'There are (\d+)\b', page.read_text())
+    return '' if said and int(said.group(1)) == len(edits()) else f'{name_of(page)}: there are {len(edits())} edits, and it says something else'
+
+
+def listed_crates() -> Iterator[str]:
+    """What is wrong with the crates in the map of docs/DESIGN.md, which has all, and in its list, which has some: one text for each, or nothing."""
+    text = (TOP / 'docs' / 'DESIGN.md').read_text()
+    wanted = set(re.findall(r'^([a-z]\w*)(?: staticlib)?:', (TOP / 'crates.txt').read_text(), re.MULTILINE))
+    drawn = set(re.findall(r'^ │ {3}([a-z_]+) {2,}', text, re.MULTILINE))
+    named = set(re.findall(r'^- \*\*(\w+)\*\*:', text.partition('## Where to look')[0], re.MULTILINE))
+    for what, wrong in (('map', wanted ^ drawn), ('list', named - wanted)):
+        yield f'docs/DESIGN.md: its {what} and crates.txt differ in {", ".join(sorted(wrong))}' if wrong else ''
+
+
+def findings() -> Iterator[str]:
+    """For each comparison what is wrong, or nothing."""
+    found = {path: words(path) for path in pages()}
+    yield too_many('README.md', found[TOP / 'README.md'], README_WORDS)
+    yield too_many('all pages', sum(found.values()), ALL_WORDS)
+    for path in found:
+        yield from (long_cells(path), broken_links(path), missing_edits(path))
+    yield counted_edits()
+    yield from listed_crates()
+
+
+def main() -> int:
+    found = list(findings())
+    wrong = [why for why in found if why]
+    print(*wrong, f'{len(found)} compared, {len(wrong)} wrong', sep='\n')
+    return 1 if wrong else 0
+
+
+if __name__ == '__main__':
+    sys.exit(main())
