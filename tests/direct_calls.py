@@ -7,12 +7,12 @@ Needs a C compiler, `cc`. An operator, and a draft of one, copy no model: each i
 is refused. A copy of the arena asks for more, and answers `memory` then. The steps of the glue of two blocks are refused each of their
 allocations in turn: a step is taken when it is given again, and a draft that is abandoned leaves the two blocks.
 """
-import os
 import subprocess
 import sys
 import tempfile
 
 import refused_growths
+from counts import GWB, TOP, needs, there, told
 
 WANTED = {'act': 'ok', 'draft': 'ok', 'copy': 'memory'}
 BLOCKS = 'block 1 0 0 0 4 4 4;block 2 0 0 4 4 4 4'
@@ -61,18 +61,14 @@ def listed(path):
 
 
 def main():
-    crates = os.path.join(os.path.dirname(os.path.abspath(__file__)), '..', 'crates')
-    given = sys.argv[1:] + [os.path.join(crates, name, 'out', name) for name in ('direct_calls', 'gwb')][len(sys.argv) - 1:]
-    path, gwb = map(os.path.abspath, given[:2])
+    given = sys.argv[1:] + [TOP / 'crates' / 'direct_calls' / 'out' / 'direct_calls', GWB][len(sys.argv) - 1:]
+    path, gwb = map(there, given[:2])
+    needs('cc')
     begun = listed(gwb)
     with tempfile.TemporaryDirectory() as folder:
         program = Program(path, folder)
         found = [*findings(program), *steps(program, 'committed', begun), *steps(program, 'abandoned', begun)]
-    wrong = [why for why in found if why]
-    for why in wrong:
-        print(why)
-    print('%d compared, %d wrong' % (len(found), len(wrong)))
-    return 1 if wrong else 0
+    return told(found)
 
 
 if __name__ == '__main__':

@@ -15,7 +15,8 @@ import sys
 from pathlib import Path
 from typing import Dict, Iterator, List, NamedTuple, Set, Tuple
 
-TOP = Path(__file__).resolve().parent.parent
+from counts import GWB, TOP, there, told
+
 sys.path.insert(0, str(TOP / 'companions'))
 
 from gwb.errors import CompanionError
@@ -191,18 +192,14 @@ def findings(program: Path) -> Iterator[str]:
 
 def main() -> int:
     words = [word for word in sys.argv[1:] if word != '--draw']
-    program = Path(words[0] if words else TOP / 'crates' / 'gwb' / 'out' / 'gwb').resolve()
+    program = there(words[0] if words else GWB)
     if '--draw' in sys.argv:
         draw(program)
     try:
         found = list(findings(program))
     except (CompanionError, OSError, subprocess.TimeoutExpired) as error:
         found = [str(error)]
-    wrong = [why for why in found if why]
-    for why in wrong:
-        print(why)
-    print(f'{len(found) - len(wrong)} passed, {len(wrong)} failed')
-    return 1 if wrong else 0
+    return told(found)
 
 
 if __name__ == '__main__':

@@ -6,7 +6,8 @@
 #   tests/library.sh [ARCHIVE [PROGRAM]]
 #
 # ARCHIVE is crates/gwb_c/out/libgwb_c.a where none is given, which is built then (`rt lib`: it proves what isn't proved yet); PROGRAM is
-# crates/gwb/out/gwb. Needs cc, c++ and python3; what needs rustc, valgrind or the program is left out where they aren't there, and says so.
+# crates/gwb/out/gwb where none is given. What needs a tool that isn't there, or the program where none was given and none is built, is named as
+# skipped, and counted.
 cd "$(dirname "$0")/.." || exit 2
 archive=$(realpath -m "${1:-crates/gwb_c/out/libgwb_c.a}")
 program=$(realpath -m "${2:-crates/gwb/out/gwb}")
@@ -14,6 +15,7 @@ dir=$(mktemp -d)
 trap 'rm -rf "$dir"' EXIT
 passed=0
 failed=0
+skipped=0
 
 # tried NAME COMMAND..: runs a command that has to succeed
 tried() {
@@ -30,20 +32,36 @@ tried() {
     fi
 }
 
-# counted NAME COMMAND..: runs a command whose last line is 'N compared, M wrong' or 'N passed, M failed'
+# has TOOL NAME..: whether a tool is there; else each of what it was to try is skipped
+has() {
+    tool=$1
+    shift
+    command -v "$tool" > /dev/null && return
+    for name in "$@"; do
+        echo "skipped: $name: there is no $tool"
+        skipped=$((skipped + 1))
+    done
+    false
+}
+
+# counted NAME COMMAND..: runs a command whose last line is 'N compared, M wrong' or 'N passed, M failed', where ', K skipped' may follow
 counted() {
     name=$1
     shift
     "$@" > "$dir/log" 2>&1
     status=$?
-    read -r well first bad second <<END
+    read -r well first bad second left _ <<END
 $(tail -n 1 "$dir/log")
 END
-    case "$first $second" in
+    case "$first ${second%,}" in
     'compared, wrong') well=$((well - bad)) ;;
     'passed, failed') ;;
-    *) well=0 bad=1 ;;
+    *) well=0 bad=1 left=0 ;;
     esac
+    case $well$bad$left in
+    *[!0-9]*) well=0 bad=1 left=0 ;;
+    esac
+    grep '^skipped: ' "$dir/log"
     [ "$status" = 0 ] || [ "$bad" != 0 ] || bad=1
     if [ "$bad" != 0 ]; then
         echo "$name: status $status"
@@ -52,6 +70,7 @@ END
     echo "$name: $well passed, $bad failed"
     passed=$((passed + well))
     failed=$((failed + bad))
+    skipped=$((skipped + ${left:-0}))
 }
 
 # prints NAME EXPECTED COMMAND..: runs a command that has to print what the file says
@@ -80,6 +99,14 @@ if [ ! -f "$archive" ]; then
     echo '0 passed, 1 failed'
     exit 1
 fi
+if [ $# -gt 1 ] && [ ! -x "$program" ]; then
+    echo "there is no program $program"
+    echo '0 passed, 1 failed'
+    exit 1
+fi
+for tool in cc "${CXX:-c++}" make python3; do
+    has "$tool" 'the library, of which nothing was tried' || { echo "0 passed, 0 failed, $skipped skipped"; exit 0; }
+done
 
 make_here() {
     make -C bindings "ARCHIVE=$archive" "OUT=$dir/built" "$@"
@@ -93,24 +120,20 @@ tried 'the tests in C++ are built' "${CXX:-c++}" -std=c++17 -Wall -Wextra -Werro
     tests/library_cpp.cpp "$dir/built/libgwb.a"
 counted 'the tests in C++' "$dir/built/library_cpp"
 prints 'the example in Python' bindings/examples/block_python.expected bindings/examples/block.py "$dir/built/libgwb.so"
-if command -v rustc > /dev/null; then
+if has rustc 'the crate and the example in Rust are built' 'the example in Rust' 'the tests in Rust'; then
     tried 'the crate and the example in Rust are built' make_here rust
     prints 'the example in Rust' bindings/examples/block_rust.expected "$dir/built/block_rust"
     tried 'the tests in Rust' "$dir/built/session_rust"
-else
-    echo 'not tried: the crate in Rust, since there is no rustc'
 fi
-if command -v valgrind > /dev/null; then
+if has valgrind 'valgrind over the example in C' 'valgrind over the tests in C++'; then
     tried 'valgrind over the example in C' valgrind -q --error-exitcode=9 --leak-check=full --show-leak-kinds=all "$dir/built/block_c"
     tried 'valgrind over the tests in C++' valgrind -q --error-exitcode=9 --leak-check=full --show-leak-kinds=all "$dir/built/library_cpp"
-else
-    echo 'not tried: the example in C and the tests in C++ under valgrind, which is not there'
 fi
 
 tried 'worked scripts are built' cc -O2 -std=gnu11 -Wall -Wextra -Werror -Ibindings/include -o "$dir/built/worked" tests/library_worked.c \
     "$dir/built/libgwb.a"
 counted 'the calls over worked scripts' "$dir/built/worked"
-if command -v valgrind > /dev/null; then
+if has valgrind 'valgrind over worked scripts'; then
     tried 'valgrind over worked scripts' valgrind -q --error-exitcode=9 --leak-check=full --show-leak-kinds=all "$dir/built/worked"
 fi
 
@@ -123,7 +146,7 @@ typed() {
 tried 'typed calls beside lines are built' cc -O2 -std=gnu11 -Wall -Wextra -Werror -Ibindings/include -o "$dir/built/typed" tests/library_typed.c \
     "$dir/built/libgwb.a"
 tried 'a million random commands as typed calls' typed 1400000 env
-if command -v valgrind > /dev/null; then
+if has valgrind 'valgrind over typed calls'; then
     tried 'valgrind over typed calls' typed 2000 valgrind -q --error-exitcode=9 --leak-check=full --show-leak-kinds=all
 fi
 
@@ -131,12 +154,10 @@ tried 'models by readers' python3 tests/library_readers.py "$dir/built/libgwb.so
 tried 'the library over a heap that refuses' cc -O2 -shared -fPIC -o "$dir/built/counting.so" bindings/heap.c tests/counting_heap.c \
     -Wl,--whole-archive "$archive" -Wl,--no-whole-archive -Wl,--wrap=malloc,--wrap=realloc,--wrap=free
 counted 'each allocation refused' python3 tests/library_refusals.py "$dir/built/counting.so"
-if [ -x "$program" ]; then
+if has "$program" '100,000 random lines' 'the example in Python over the program'; then
     tried '100,000 random lines' python3 tests/library_lines.py "$dir/built/libgwb.so" "$program"
     prints 'the example in Python over the program' bindings/examples/block_python.expected bindings/examples/block.py "$program"
-else
-    echo "not tried: random lines against the program, since there is no $program"
 fi
 counted 'the session in Python over the library' env "GWB=$dir/built/libgwb.so" python3 tests/library_companions.py
-echo "$passed passed, $failed failed"
+echo "$passed passed, $failed failed, $skipped skipped"
 [ "$failed" = 0 ]

@@ -1,19 +1,20 @@
 #!/usr/bin/env python3
 """Runs the companions' tests of the Python session over the library that the environment variable GWB names."""
+import os
 import sys
 import unittest
-from pathlib import Path
+from counts import TOP, there
 
-TESTS = Path(__file__).resolve().parent.parent / 'companions' / 'tests'
+TESTS = TOP / 'companions' / 'tests'
 sys.path.insert(0, str(TESTS))
+
+from counting import tried  # noqa: E402
 
 
 def main():
+    there(os.environ.get('GWB', 'GWB, which is to name a library'), 'library')
     names = sorted(path.stem for path in TESTS.glob('test_session*.py'))
-    result = unittest.TextTestRunner(stream=sys.stdout).run(unittest.defaultTestLoader.loadTestsFromNames(names))
-    failed = len({getattr(test, 'test_case', test) for test, _ in result.failures + result.errors})
-    print('%d passed, %d failed' % (result.testsRun - len(result.skipped) - failed, failed))
-    return 0 if result.wasSuccessful() else 1
+    return tried(unittest.defaultTestLoader.loadTestsFromNames(names))
 
 
 if __name__ == '__main__':

@@ -11,6 +11,7 @@ import ctypes
 import subprocess
 import sys
 
+from counts import there
 from library_session import Refusal, Session, loaded
 from random_lines import Lines
 
@@ -79,10 +80,10 @@ def complaint(session, line, output, at):
 
 
 def main():
-    library, program = sys.argv[1:3]
+    library, program = there(sys.argv[1], 'library'), there(sys.argv[2])
     lines = list(Lines(SEED).take(int(sys.argv[3]) if len(sys.argv) > 3 else 100000))
     output = replies(program, lines)
-    session = Session(loaded(library))
+    session = Session(loaded(str(library)))
     if not session.open():
         sys.exit('no session')
     count = at = 0

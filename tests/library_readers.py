@@ -8,6 +8,7 @@ The models are those that the lines of random_lines.py leave, every 50th line.
 import ctypes
 import sys
 
+from counts import there
 from library_session import NO_TEXT, Handle, Session, loaded
 from random_lines import Lines
 
@@ -142,7 +143,7 @@ def closed(session, readers):
 
 
 def main():
-    library = loaded(sys.argv[1])
+    library = loaded(str(there(sys.argv[1], 'library')))
     session = Session(library)
     readers = Readers(library, session)
     if not session.open():

@@ -14,7 +14,8 @@ import textwrap
 from pathlib import Path
 from typing import Dict, Iterator, List
 
-TOP = Path(__file__).resolve().parent.parent
+from counts import TOP, told, without
+
 MANUAL = TOP / 'docs' / 'gwb.1'
 DATE = '2026-11-25'
 # The sections of the page, by the headings of docs/SCRIPT.md that they are made from.
@@ -138,18 +139,15 @@ def tidy(lines: List[str]) -> str:
 def findings() -> Iterator[str]:
     """For each comparison what is wrong, or nothing."""
     yield '' if MANUAL.exists() and MANUAL.read_text() == manual() else 'docs/gwb.1 is not the one that --write makes'
-    for command in ([['mandoc', '-T', 'lint', '-W', 'warning', str(MANUAL)]] if shutil.which('mandoc') else []):
-        done = subprocess.run(command, capture_output=True, text=True)
+    if shutil.which('mandoc'):
+        done = subprocess.run(['mandoc', '-T', 'lint', '-W', 'warning', str(MANUAL)], capture_output=True, text=True)
         yield '' if done.returncode == 0 else done.stdout.strip()
 
 
 def main() -> int:
     if '--write' in sys.argv[1:]:
         MANUAL.write_text(manual())
-    found = list(findings())
-    wrong = [why for why in found if why]
-    print(*wrong, f'{len(found) - len(wrong)} passed, {len(wrong)} failed', sep='\n')
-    return 1 if wrong else 0
+    return told(findings(), [] if shutil.which('mandoc') else [without('mandoc', 'the look of mandoc at docs/gwb.1')])
 
 
 if __name__ == '__main__':

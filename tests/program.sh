@@ -4,7 +4,11 @@
 #
 #   tests/program.sh [PROGRAM]        PROGRAM is crates/gwb/out/gwb where none is given
 cd "$(dirname "$0")/.." || exit 2
-program=$(realpath "${1:-crates/gwb/out/gwb}")
+program=$(realpath -m "${1:-crates/gwb/out/gwb}")
+if [ ! -x "$program" ]; then
+    printf 'there is no program %s\n0 passed, 1 failed\n' "$program"
+    exit 1
+fi
 dir=$(mktemp -d)
 trap 'rm -rf "$dir"' EXIT
 count=0
@@ -73,11 +77,15 @@ gwb --help; ended help 0; same 'usage in help' 1 "$(grep -c 'Usage: gwb \[--stop
 gwb --version; ended version 0
 
 # Output that fails.
+skipped=0
 if [ -c /dev/full ]; then
     for words in '' --help; do
         timeout 60 "$program" $words < examples/wire.gwb > /dev/full 2> "$dir/err"; echo $? > "$dir/status"
         ended "a full device $words" 3 'gwb: write fault'
     done
+else
+    skipped=2
+    echo 'skipped: a full device, twice: there is no /dev/full'
 fi
 yes mvfs | head -n 100000 | { timeout 60 "$program" 2> "$dir/err"; echo $? > "$dir/status"; } | head -n 1 > /dev/null
 ended 'a pipe that is closed' 3 'gwb: write fault'
@@ -126,5 +134,5 @@ exec 3>&- 4<&-
 wait $!; echo $? > "$dir/status"
 ended 'a conversation' 0
 
-echo "$count compared, $wrong wrong"
+echo "$((count - wrong)) passed, $wrong failed, $skipped skipped"
 [ "$wrong" = 0 ]

@@ -13,7 +13,8 @@ import sys
 from pathlib import Path
 from typing import Iterator, List, Tuple
 
-TOP = Path(__file__).resolve().parent.parent
+from counts import TOP, closing, told
+
 PAGE = TOP / 'docs' / 'PROOFS.md'
 BLOCK = re.compile(r'^```([^\n]*)\n(.*?)^```$', re.MULTILINE | re.DOTALL)
 
@@ -80,18 +81,14 @@ def main() -> int:
     try:
         found = list(quotations(page))
     except Missing as error:
-        print(f'{PAGE.name}: {error}\n0 passed, 1 failed')
+        print(f'{PAGE.name}: {error}', closing(0, 1), sep='\n')
         return 1
     if '--write' in sys.argv[1:]:
         for words, text, wanted in found:
             page = page.replace(f'```{words}\n{text}```', f'```{words}\n{wanted}```')
         PAGE.write_text(page)
         found = list(quotations(page))
-    wrong = [words for words, text, wanted in found if text != wanted]
-    for words in wrong:
-        print(f'{PAGE.name}: {words}: the source says something else')
-    print(f'{len(found) - len(wrong)} passed, {len(wrong)} failed')
-    return 1 if wrong else 0
+    return told('' if text == wanted else f'{PAGE.name}: {words}: the source says something else' for words, text, wanted in found)
 
 
 if __name__ == '__main__':

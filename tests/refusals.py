@@ -12,7 +12,8 @@ import sys
 from pathlib import Path
 from typing import Dict, Iterator, List, Tuple
 
-TOP = Path(__file__).resolve().parent.parent
+from counts import TOP, told
+
 sys.path.insert(0, str(TOP / 'companions'))
 
 from gwb.language import FAULTS, condition_text
@@ -162,10 +163,7 @@ def main() -> int:
         for file, make in MAKERS.items():
             (TOP / file).parent.mkdir(parents=True, exist_ok=True)
             (TOP / file).write_text(make(names))
-    found = list(findings(names))
-    wrong = [why for why in found if why]
-    print(*wrong, f'{len(found) - len(wrong)} passed, {len(wrong)} failed', sep='\n')
-    return 1 if wrong else 0
+    return told(findings(names))
 
 
 if __name__ == '__main__':

@@ -13,6 +13,8 @@ import subprocess
 import sys
 import tempfile
 
+from counts import GWB, needs, there, told
+
 HERE = os.path.dirname(os.path.abspath(__file__))
 HOLED = ('block 1 0 0 0 6 6 6;mev +7 +7 13 9 2 2 6;kemr +13 7;mev @7 @7 13 10 2 4 6;mev -13 -13 14 11 4 4 6;mev -14 -14 15 12 4 2 6;mef -15 +13 16 7 8;'
          'sweep 7 0 0 -6;kfmrh 2 7;')
@@ -66,10 +68,14 @@ class Program:
 
     def run(self, commands, refused=0):
         """Replies (the listing is the last), status and text with an allocation refused, or none."""
-        done = self.start([], ''.join(c + '\n' for c in commands).encode(), refused)
+        done = self.answer(commands, refused)
         lines = done.stdout.decode().splitlines()
         cut = len(commands) - 1
         return lines[:cut] + [lines[cut:]], done.returncode, done.stderr.decode()
+
+    def answer(self, commands, refused):
+        """The ended run on commands."""
+        return self.start([], ''.join(c + '\n' for c in commands).encode(), refused)
 
     def allocations(self):
         """How many allocations the last run asked for."""
@@ -78,12 +84,12 @@ class Program:
 
 
 def complaint(program, commands, n, whole, done):
-    """What is wrong with a run in which allocation n was refused, or None. The whole run had all its memory."""
+    """What is wrong with a run in which allocation n was refused, or nothing. The whole run had all its memory."""
     replies, status, text = done
     if status == 3:
-        return None if (replies, text) == ([[]], 'gwb: out of memory\n') else 'before the run: %r, %r' % (text, replies)
+        return '' if (replies, text) == ([[]], 'gwb: out of memory\n') else 'before the run: %r, %r' % (text, replies)
     if 'memory' not in replies:
-        return None if done == whole else 'other replies without a word of memory: %r' % replies
+        return '' if done == whole else 'other replies without a word of memory: %r' % replies
     if (status, text) != (1, '') or replies.count('memory') != 1:
         return 'status %d, %r: %r' % (status, text, replies)
     k = replies.index('memory')
@@ -92,7 +98,7 @@ def complaint(program, commands, n, whole, done):
     twice = program.run(commands[:k + 1] + commands[k:], n)[0]
     if twice != whole[0][:k] + ['memory'] + whole[0][k:]:
         return 'the command given again: %r' % twice
-    return None
+    return ''
 
 
 def taken(program, commands):
@@ -126,39 +132,35 @@ def copies_nothing(program):
     return replies[:2] == ['ok', 'ok'] and status == 0
 
 
+def refusals(program, commands):
+    """For each allocation of a script what is wrong where it is refused, or nothing."""
+    whole = program.run(commands)
+    runs = [program.run(commands, n) for n in range(1, program.allocations() + 1)]
+    if whole[1] not in (0, 1) or whole[2] or not any('memory' in replies for replies, _, _ in runs):
+        yield 'no allocation of a command was refused: %r' % (whole,)
+    for n, done in enumerate(runs, 1):
+        why = complaint(program, commands, n, whole, done)
+        yield 'allocation %d: %s' % (n, why) if why else ''
+
+
+def findings(program):
+    """For each comparison what is wrong, or nothing."""
+    for name, script in SCRIPTS.items():
+        commands = script.split(';')
+        for why in refusals(program, commands):
+            yield '%s, %s' % (name, why) if why else ''
+        for what, is_so in takes_none(program, commands):
+            yield '' if is_so else '%s: more memory is asked for, or other replies are given, with %s after it' % (name, what)
+    for command in MAKING:
+        yield '' if keeps_room(program, command) else '%s: given again after its undo, it asks for more than %d allocations' % (command, RECORD)
+    yield '' if copies_nothing(program) else 'a new solid beside a lamina of %d points asks for %d allocations or more' % (len(POLYGON), COPY)
+
+
 def main():
-    path = os.path.abspath(sys.argv[1] if len(sys.argv) > 1 else os.path.join(HERE, '..', 'crates', 'gwb', 'out', 'gwb'))
-    count = wrong = 0
+    path = there(sys.argv[1] if len(sys.argv) > 1 else GWB)
+    needs('cc')
     with tempfile.TemporaryDirectory() as folder:
-        program = Program(path, folder)
-        for name, commands in SCRIPTS.items():
-            commands = commands.split(';')
-            whole = program.run(commands)
-            runs = [program.run(commands, n) for n in range(1, program.allocations() + 1)]
-            complaints = [complaint(program, commands, n, whole, done) for n, done in enumerate(runs, 1)]
-            if whole[1] not in (0, 1) or whole[2] or not any('memory' in replies for replies, _, _ in runs):
-                complaints.append('no allocation of a command was refused: %r' % (whole,))
-            for what, is_so in takes_none(program, commands):
-                count += 1
-                if not is_so:
-                    wrong += 1
-                    print('%s: more memory is asked for, or other replies are given, with %s after it' % (name, what))
-            count += len(complaints)
-            for n, why in enumerate(complaints, 1):
-                if why:
-                    wrong += 1
-                    print('%s, allocation %d: %s' % (name, n, why))
-        for command in MAKING:
-            count += 1
-            if not keeps_room(program, command):
-                wrong += 1
-                print('%s: given again after its undo, it asks for more than %d allocations' % (command, RECORD))
-        count += 1
-        if not copies_nothing(program):
-            wrong += 1
-            print('a new solid beside a lamina of %d points asks for %d allocations or more' % (len(POLYGON), COPY))
-    print('%d compared, %d wrong' % (count, wrong))
-    return 1 if wrong else 0
+        return told(findings(Program(path, folder)))
 
 
 if __name__ == '__main__':

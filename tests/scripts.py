@@ -9,9 +9,9 @@ those under --stop. The status is to be 1 where a reply begins with `refused`, `
 import re
 import subprocess
 import sys
-from pathlib import Path
 
-TOP = Path(__file__).resolve().parent.parent
+from counts import GWB, TOP, there, told
+
 FOLDERS = TOP / 'tests' / 'scripts', TOP / 'examples'
 
 
@@ -53,17 +53,15 @@ def complaint(program, script, flags, replies):
     return None
 
 
-def main():
-    program = Path(sys.argv[1] if len(sys.argv) > 1 else TOP / 'crates' / 'gwb' / 'out' / 'gwb').resolve()
-    count = wrong = 0
+def findings(program):
+    """For each run what is wrong, or nothing."""
     for script, flags, replies in runs():
-        count += 1
         why = complaint(program, script, flags, replies)
-        if why:
-            wrong += 1
-            print('%s: %s' % (replies.relative_to(TOP), why))
-    print('%d compared, %d wrong' % (count, wrong))
-    return 1 if wrong or not count else 0
+        yield '%s: %s' % (replies.relative_to(TOP), why) if why else ''
+
+
+def main():
+    return told(findings(there(sys.argv[1] if len(sys.argv) > 1 else GWB)))
 
 
 if __name__ == '__main__':

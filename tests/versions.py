@@ -11,7 +11,7 @@ import sys
 from pathlib import Path
 from typing import Iterator, List, NamedTuple
 
-TOP = Path(__file__).resolve().parent.parent
+from counts import TOP, closing, told, without
 
 
 class Place(NamedTuple):
@@ -44,30 +44,27 @@ def complaint(place: Place) -> str:
     return '' if found.group(1) == place.wanted else f'{place.file}: {found.group(1)}, not {place.wanted}'
 
 
-def logic_complaints() -> List[str]:
-    """What is wrong with the logic that the README names, or an empty text; nothing where there is no kit to compare it with. That the kit is none
-    of those named is told, and isn't wrong: the proofs rest on the logic."""
-    if shutil.which('rt') is None:
-        print('README.md: its logic was compared with none, since there is no rt')
-        return []
+def logic_complaint() -> str:
+    """What is wrong with the logic that the README names, or nothing. That the kit is none of those named is told, and isn't wrong: the proofs
+    rest on the logic."""
     said = subprocess.run(['rt', 'version'], stdout=subprocess.PIPE, check=False, text=True).stdout
     kit = re.match(r'(\S+) logic (\w+)', said)
     if kit is None:
-        return [f'rt version: {said!r} names no logic']
+        return f'rt version: {said!r} names no logic'
     if not re.search(rf'`{kit.group(1)}\b', (TOP / 'README.md').read_text()):
         print(f'README.md: this kit, {kit.group(1)}, is none that it names')
-    return [complaint(Place('README.md', r'`rattle-kit-\w+ logic (\w+)`', kit.group(2)))]
+    return complaint(Place('README.md', r'`rattle-kit-\w+ logic (\w+)`', kit.group(2)))
 
 
 def main() -> int:
     version = (TOP / 'VERSION').read_text().strip()
     if not re.fullmatch(r'\d+\.\d+\.\d+', version):
-        print(f'VERSION: {version!r} is no version\n0 passed, 1 failed')
+        print(f'VERSION: {version!r} is no version', closing(0, 1), sep='\n')
         return 1
-    found = [complaint(place) for place in places(version)] + logic_complaints()
-    wrong = [why for why in found if why]
-    print(*wrong, f'{len(found) - len(wrong)} passed, {len(wrong)} failed', sep='\n')
-    return 1 if wrong else 0
+    found = [complaint(place) for place in places(version)]
+    if shutil.which('rt') is None:
+        return told(found, [without('rt', 'the logic that README.md names')])
+    return told([*found, logic_complaint()])
 
 
 if __name__ == '__main__':

@@ -1,0 +1,136 @@
+#!/usr/bin/env python3
+"""No test passes by not running, and the gate counts what its tests tell it.
+
+    tests/gate.py
+
+Each test that takes a program or a library is started on one that isn't there, and those that need tools where there are none. The gate,
+.ci/run, is run in a folder of its own, in which `rt`, .ci/needs, .ci/archive and all tests are stubs that print what they are to. The last
+line counts.
+"""
+import os
+import shutil
+import subprocess
+import sys
+import tempfile
+from pathlib import Path
+from typing import Dict, Iterator, List, NamedTuple, Sequence
+
+from counts import TOP, told
+
+NOWHERE = '/nowhere'
+# Each test on a file that isn't there; what stands in the place of the other files is one that is.
+MISSING = [['tests/scripts.py', NOWHERE], ['tests/program.sh', NOWHERE], ['tests/refused_growths.py', NOWHERE], ['tests/documents.py', NOWHERE],
+           ['tests/direct_calls.py', NOWHERE], ['tests/direct_calls.py', '/bin/sh', NOWHERE],
+           ['companions/tests/run.py', NOWHERE], ['tests/library.sh', NOWHERE], ['tests/library.sh', '/bin/sh', NOWHERE],
+           ['tests/library_lines.py', NOWHERE, '/bin/sh'], ['tests/library_lines.py', '/bin/sh', NOWHERE],
+           ['tests/library_readers.py', NOWHERE], ['tests/library_refusals.py', NOWHERE],
+           ['env', f'GWB={NOWHERE}', 'tests/library_companions.py'], ['env', '-u', 'GWB', 'tests/library_companions.py']]
+# Each test that skips all that it does where a tool isn't there, or a part of it.
+TOOLS = [['tests/refused_growths.py', '/bin/sh'], ['tests/direct_calls.py', '/bin/sh', '/bin/sh'], ['tests/library.sh', '/bin/sh'],
+         ['tests/pages.py'], ['tests/versions.py']]
+ALWAYS = ['sh', 'env', 'dirname', 'realpath', 'mktemp', 'rm', 'date']
+
+
+def run(words: Sequence[str], folder: Path = TOP, **more: str) -> 'subprocess.CompletedProcess[str]':
+    """The ended run of a command, with what it wrote to both outputs."""
+    return subprocess.run(words, cwd=folder, env={**os.environ, **more}, stdout=subprocess.PIPE, stderr=subprocess.STDOUT, text=True, timeout=120)
+
+
+def missing() -> Iterator[str]:
+    """Where what is to be tried isn't there, a test says so in a line, and counts as failed."""
+    for words in MISSING:
+        done = run(words)
+        lines = done.stdout.splitlines()
+        is_so = done.returncode == 1 and len(lines) == 2 and lines[-1] == '0 passed, 1 failed'
+        yield '' if is_so else f'{" ".join(words)}: status {done.returncode}: {done.stdout[-300:]}'
+
+
+def without_tools(folder: Path) -> Iterator[str]:
+    """Where a tool isn't there, what it is for is named and counted."""
+    (folder / 'python3').symlink_to(sys.executable)
+    for name in ALWAYS:
+        (folder / name).symlink_to(shutil.which(name) or NOWHERE)
+    for words in TOOLS:
+        done = run(words, PATH=str(folder))
+        lines = done.stdout.splitlines()
+        named = [line for line in lines if line.startswith('skipped: ')]
+        is_so = done.returncode == 0 and named and lines[-1].endswith(f', 0 failed, {len(named)} skipped')
+        yield '' if is_so else f'{" ".join(words)} without tools: status {done.returncode}: {done.stdout[-300:]}'
+
+
+class Case(NamedTuple):
+    """A run of the gate: what it shows, what tests print in place of one test passed, the last line wanted, and words before it."""
+
+    name: str
+    prints: Dict[str, str]
+    wanted: str
+    said: str = ''
+    files: Sequence[str] = ('crates/gwb/out/gwb', 'crates/direct_calls/out/direct_calls')
+
+
+PASSED = '1 passed, 0 failed'
+# The tests that the gate runs but for those of a second program: `rt ci`, and one test each.
+CASES = [
+    Case('all pass', {}, '{all} passed, 0 failed, 1 skipped', 'skipped: rt ci left no crates/gwb/out/gwb.by-rattle'),
+    Case('a test fails', {'tests/scripts.py': '5 passed, 2 failed'}, '{others} passed, 2 failed, 1 skipped'),
+    Case('a comparison is wrong', {'tests/scripts.py': '5 compared, 2 wrong'}, '{others} passed, 2 failed, 1 skipped'),
+    Case('a test skips', {'tests/pages.py': 'skipped: this: there is no that\n1 passed, 0 failed, 1 skipped'},
+         '{all} passed, 0 failed, 2 skipped', 'skipped: tests/pages.py: this: there is no that'),
+    Case('a test ends in an error', {'tests/quotes.py': 'Traceback'}, '{fewer} passed, 1 failed, 1 skipped', 'tests/quotes.py: status 0 after'),
+    Case('a test counts below zero', {'tests/quotes.py': '-6 passed, 0 failed'}, '{fewer} passed, 1 failed, 1 skipped'),
+    Case('a test tries nothing', {'tests/quotes.py': '0 passed, 0 failed'}, '{fewer} passed, 1 failed, 1 skipped'),
+    Case('no program is left', {}, '{alone} passed, 1 failed, 1 skipped', 'rt ci left no crates/gwb/out/gwb or', ())]
+
+
+def stub(path: Path, text: str) -> None:
+    """A command that runs these lines of a shell."""
+    path.parent.mkdir(parents=True, exist_ok=True)
+    path.write_text(f'#!/bin/sh\n{text}\n')
+    path.chmod(0o755)
+
+
+def stubs(folder: Path, case: Case) -> None:
+    """A tree like the project's, whose commands print what the case says. `rt ci` tells which libraries of an earlier run it finds."""
+    shutil.copytree(TOP / '.ci', folder / '.ci')
+    tests = [f'tests/{path.name}' for end in ('py', 'sh') for path in (TOP / 'tests').glob(f'*.{end}')]
+    for name in [*tests, 'companions/tests/run.py']:
+        stub(folder / name, f"cat <<'END'\n{case.prints.get(name, PASSED)}\nEND")
+    stub(folder / '.ci' / 'needs', ':')
+    stub(folder / '.ci' / 'archive', 'mkdir -p crates/gwb_c/out && touch crates/gwb_c/out/libgwb_c.a')
+    made = ''.join(f'mkdir -p {os.path.dirname(name)}; cp .ci/needs {name}; ' for name in case.files)
+    stub(folder / 'bin' / 'rt', f'ls -d crates/*/out/rlib; {made}\necho "{PASSED}"')
+    for name in ('built_by_ci/out/rlib/built_by_ci.rlib/format', 'built_by_hand/out/rlib/stamp'):
+        path = folder / 'crates' / name
+        path.parent.mkdir(parents=True)
+        path.touch()
+
+
+def gate(case: Case) -> str:
+    """What is wrong with a run of the gate, or nothing."""
+    with tempfile.TemporaryDirectory() as name:
+        folder = Path(name)
+        stubs(folder, case)
+        done = run([str(folder / '.ci' / 'run')], folder, PATH=f'{folder / "bin"}:{os.environ["PATH"]}')
+    *lines, last = done.stdout.splitlines() or ['']
+    count = sum(line.startswith('== ') for line in lines) - sum(line in ('== .ci/needs', '== crates/gwb_c/out/libgwb_c.a') for line in lines)
+    numbers = {'all': count, 'alone': count, 'others': count + (2 if 'compared' in str(case.prints) else 4), 'fewer': count - 1}
+    why: List[str] = []
+    if last != case.wanted.format(**numbers) or done.returncode != (' 0 failed' not in last):
+        why.append(f'status {done.returncode}, last line {last!r}')
+    if not any(line.startswith(case.said) for line in lines):
+        why.append(f'no line {case.said!r}')
+    if [line for line in lines if line.endswith('/out/rlib')] != ['crates/built_by_hand/out/rlib']:
+        why.append('rt ci finds libraries of an earlier run, or those of other commands are gone')
+    return f'the gate where {case.name}: {"; ".join(why)}' if why else ''
+
+
+def findings() -> Iterator[str]:
+    """For each comparison what is wrong, or nothing."""
+    yield from missing()
+    with tempfile.TemporaryDirectory() as folder:
+        yield from without_tools(Path(folder))
+    yield from map(gate, CASES)
+
+
+if __name__ == '__main__':
+    sys.exit(told(findings()))
