@@ -6,7 +6,8 @@
 Needs a C compiler, `cc`. Each script is run as often as the program asks for memory, each time with another allocation refused. Where
 the memory that a run begins with is refused, nothing is written, the status is 3 and the text `gwb: out of memory`. Otherwise one
 command is answered `memory`: then the replies are those to the script without that command, so the refused command changed
-nothing; and where the script has that command a second time after it, all else is answered as if nothing had been refused.
+nothing; where the script has that command a second time after it, all else is answered as if nothing had been refused; and behind the
+refusal as many undos as commands are done lead to the empty model, and as many redos back to the model held.
 """
 import os
 import subprocess
@@ -73,6 +74,10 @@ class Program:
         cut = len(commands) - 1
         return lines[:cut] + [lines[cut:]], done.returncode, done.stderr.decode()
 
+    def lines(self, commands, refused=0):
+        """The lines of all replies, with an allocation refused, or none."""
+        return self.answer(commands, refused).stdout.decode().splitlines()
+
     def answer(self, commands, refused):
         """The ended run on commands."""
         return self.start([], ''.join(c + '\n' for c in commands).encode(), refused)
@@ -99,6 +104,22 @@ def complaint(program, commands, n, whole, done):
     if twice != whole[0][:k] + ['memory'] + whole[0][k:]:
         return 'the command given again: %r' % twice
     return ''
+
+
+def depth(commands, replies):
+    """How many of the commands can be undone after these replies."""
+    done = [command for command, reply in zip(commands, replies) if reply == 'ok' and command != 'redo']
+    return len(done) - 2 * done.count('undo') + sum(pair == ('redo', 'ok') for pair in zip(commands, replies))
+
+
+def taken_back(program, commands, n, replies):
+    """What is wrong with undos and redos behind the command that is answered `memory`, as allocation n is refused, or nothing."""
+    k = replies.index('memory')
+    held = program.run(commands[:k] + ['list'])[0][-1]
+    back = depth(commands[:k], replies)
+    found = program.lines(commands[:k + 1] + ['list'] + ['undo'] * back + ['list'] + ['redo'] * back + ['list'], n)
+    wanted = replies[:k + 1] + held + ['ok'] * back + ['empty'] + ['ok'] * back + held
+    return '' if found == wanted else '%d undos and redos behind the refused command: %r' % (back, found[k + 1:])
 
 
 def taken(program, commands):
@@ -133,14 +154,16 @@ def copies_nothing(program):
 
 
 def refusals(program, commands):
-    """For each allocation of a script what is wrong where it is refused, or nothing."""
+    """For each allocation of a script what is wrong where it is refused, or nothing; and of undos and redos behind the refusal."""
     whole = program.run(commands)
     runs = [program.run(commands, n) for n in range(1, program.allocations() + 1)]
     if whole[1] not in (0, 1) or whole[2] or not any('memory' in replies for replies, _, _ in runs):
         yield 'no allocation of a command was refused: %r' % (whole,)
     for n, done in enumerate(runs, 1):
-        why = complaint(program, commands, n, whole, done)
-        yield 'allocation %d: %s' % (n, why) if why else ''
+        whys = [complaint(program, commands, n, whole, done)]
+        if 'memory' in done[0]:
+            whys.append(taken_back(program, commands, n, done[0]))
+        yield from ('allocation %d: %s' % (n, why) if why else '' for why in whys)
 
 
 def findings(program):
