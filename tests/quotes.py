@@ -28,7 +28,7 @@ def head_of(lines: List[str], name: str) -> List[str]:
     for at, line in enumerate(lines):
         if re.match(rf'\s*(pub )?(extern "C" )?fn {name}\b', line):
             margin = line[:len(line) - len(line.lstrip())]
-            ends = next(to for to in range(at, len(lines)) if lines[to] == margin + '{')
+            ends = next(to for to in range(at, len(lines)) if lines[to] in (margin + '{', margin + '{}'))
             return [text[len(margin):] for text in lines[at:ends]]
     raise Missing(f'no function {name}')
 

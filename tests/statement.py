@@ -1,0 +1,241 @@
+#!/usr/bin/env python3
+"""One page for each theorem, docs/statements/*.md: its public contract, and all definitions that it leads to.
+
+    tests/statement.py [--write]
+
+Compares the pages with what the sources say; --write first makes them anew. A page has the function's head with its contract, then each definition
+where it is first used, with its comment, then the types of the code that they name; the words of the standard library are listed. Prints the
+number of lines of each page, and how many of them define something. The last line counts the pages.
+"""
+import re
+import sys
+import textwrap
+from dataclasses import dataclass
+from itertools import groupby
+from pathlib import Path
+from typing import Dict, FrozenSet, Iterator, List, Optional, Tuple
+
+from counts import TOP, told
+from definitions import CRATES, Definition, Module, Outside, RustType, Thing, named, uses
+from quotes import head_of
+
+PAGES = TOP / 'docs' / 'statements'
+LAWS = 'script_laws/src/lib.rt'
+# What a law over bytes speaks of by its name alone: its page says what it is for, and doesn't look into it.
+BY_NAME = frozenset({'Rattle.script_laws.specs.Scripts.answers', 'Rattle.script_running.specs.Outs.Outs', 'Rattle.undo_journal.specs.Machine.start',
+                     'Rattle.script_running.specs.Output.output_of', 'Rattle.script_running.specs.Output.summary_of'})
+WIDTH = 150
+
+
+@dataclass(frozen=True)
+class Theorem:
+    """A public function, whose contract is the theorem, or one clause of it, where that is a law; and what its page takes by name."""
+
+    file: str
+    function: str
+    law: str = ''
+    by_name: FrozenSet[str] = frozenset()
+
+    @property
+    def title(self) -> str:
+        """The path by which code names it, and the law."""
+        return f'{self.file.split("/")[0]}::{self.function}' + (f': {self.law}' if self.law else '')
+
+    @property
+    def page(self) -> Path:
+        """Its page."""
+        return PAGES / f'{re.sub(r"(?<=[a-z])(?=[A-Z])", "_", self.law).lower() or self.function}.md'
+
+    def head(self, lines: List[str]) -> List[str]:
+        """The function's head with the contract, of which only the law's clause is told where there is one."""
+        return [line for line in head_of(lines, self.function) if not self.law or 'ensures' not in line or f'{{ {self.law} }}' in line]
+
+
+def theorems() -> List[Theorem]:
+    """A list of calls, a script's run, and each law over bytes."""
+    found = [Theorem('call_lists/src/making.rt', 'make_all'), Theorem('script_running/src/running.rt', 'run')]
+    lines = (CRATES / LAWS).read_text().splitlines()
+    for function in re.findall(r'^pub fn (\w+)', '\n'.join(lines), re.MULTILINE):
+        laws = re.findall(r'ensures (?:\w+ )?\{ ([A-Z]\w+) \}', '\n'.join(head_of(lines, function)))
+        found += [Theorem(LAWS, function, law, BY_NAME) for law in laws or ['']]
+    return found
+
+
+def doc_above(lines: List[str], at: int) -> List[str]:
+    """The documentation above a line of code."""
+    while at and lines[at - 1].strip().startswith('#['):
+        at -= 1
+    first = at
+    while first and lines[first - 1].strip().startswith('///'):
+        first -= 1
+    return [line.strip() for line in lines[first:at]]
+
+
+def scope_of(lines: List[str]) -> Module:
+    """What the names of definitions stand for in code."""
+    scope = Module('')
+    for line in lines:
+        if line.strip().startswith('ghost use '):
+            scope.take_import(line.strip()[len('ghost '):].rstrip(';'))
+    return scope
+
+
+def source_of(crate: str, pattern: str) -> Optional[Tuple[List[str], int]]:
+    """The lines of the first source of a crate in which a line has this pattern, and its place."""
+    for path in sorted((CRATES / crate / 'src').rglob('*.rt')):
+        lines = path.read_text().splitlines()
+        for at, line in enumerate(lines):
+            if re.match(pattern, line):
+                return lines, at
+    return None
+
+
+def home(kind: RustType) -> Optional[RustType]:
+    """The type under the name of the crate that declares it; None where it is none of the project's."""
+    if source_of(kind.crate, rf'\s*pub (?:enum|struct) {kind.name}\b'):
+        return kind
+    text = '\n'.join(path.read_text() for path in sorted((CRATES / kind.crate / 'src').rglob('*.rt')))
+    passed = re.search(rf'^pub use (\w+)::[^;]*\b{kind.name}\b', text, re.MULTILINE)
+    return home(RustType(passed.group(1), kind.name)) if passed and (CRATES / passed.group(1)).is_dir() else None
+
+
+def declaration(kind: RustType) -> List[str]:
+    """The declaration of a type in the crate that declares it, with its documentation, without attributes and private fields."""
+    found = source_of(kind.crate, rf'\s*pub (?:enum|struct) {kind.name}\b')
+    assert found
+    lines, at = found
+    ends = next((to for to in range(at, len(lines)) if lines[to] == '}'), at) if lines[at].endswith('{') else at
+    hidden = re.compile(r'\s*#\[' if 'enum' in lines[at] else r'\s*(?:#\[|pub\(crate\)|\w+: )')
+    return [*doc_above(lines, at), lines[at], *(line for line in lines[at + 1:ends + 1] if not hidden.match(line))]
+
+
+def crate_of(lines: List[str], crate: str, name: str) -> str:
+    """The crate from which a file of code has a name."""
+    found = re.search(rf'^use (\w+)::[^;]*\b{name}\b', '\n'.join(lines), re.MULTILINE)
+    return found.group(1) if found and (CRATES / found.group(1)).is_dir() else crate
+
+
+def model_of(kind: RustType) -> List[Thing]:
+    """The definition that stands for a type of the code in contracts, where it has one of its own."""
+    found = source_of(kind.crate, rf'impl Model for {kind.name}\b')
+    if not found:
+        return []
+    lines, at = found
+    block = lines[at:lines.index('}', at)]
+    value = re.search(r'ghost Value = \{ (\w+) \}', '\n'.join(block))
+    thing = named(scope_of(block), value.group(1)) if value else None
+    return [thing] if thing else []
+
+
+def begun(theorem: Theorem, lines: List[str], head: List[str]) -> List[Thing]:
+    """What the words of the contract stand for, in their order."""
+    scope, crate = scope_of(lines), theorem.file.split('/')[0]
+    found: List[Thing] = []
+    for word in re.findall(r'[^\s(){}\[\],;&<>]+', '\n'.join(head)):
+        thing = named(scope, word)
+        kind = home(RustType(crate_of(lines, crate, word), word)) if thing is None and re.fullmatch(r'[A-Z]\w+', word) else None
+        found += [thing] if thing else [kind, *model_of(kind)] if kind else []
+    return list(dict.fromkeys(found))
+
+
+def led_to(first: List[Thing], by_name: FrozenSet[str]) -> List[Thing]:
+    """All that these lead to, each where it is first used."""
+    found = dict.fromkeys(first)
+    for thing in (waiting := list(first)):
+        if isinstance(thing, Definition) and f'{thing.module}.{thing.name}' not in by_name:
+            new = [it for it in uses(thing) if it not in found]
+            found.update(dict.fromkeys(new))
+            waiting += new
+    return list(found)
+
+
+def shown(definition: Definition, by_name: FrozenSet[str]) -> List[str]:
+    """The lines of a definition on a page."""
+    lines = [*definition.comment, *definition.lines]
+    if f'{definition.module}.{definition.name}' in by_name:
+        lines = [*definition.comment, definition.lines[0].split(' where')[0], '-- (by its name: nothing looks into it here)']
+    return lines
+
+
+def source(definition: Definition) -> str:
+    """The file of a definition, and the parameters of the block in which it stands there."""
+    crate, _, *path = definition.module.split('.')[1:]
+    return f'-- {crate}/specs/{"/".join(path)}.antt' + (f', {definition.block}' if definition.block else '')
+
+
+def code(kind: str, lines: List[str]) -> List[str]:
+    """A block of code."""
+    return ['', f'```{kind}', *lines, '```'] if lines else []
+
+
+def outside(things: List[Thing]) -> List[str]:
+    """The words that no crate of the project defines."""
+    words: Dict[str, List[str]] = {}
+    for thing in things:
+        if isinstance(thing, Outside):
+            words.setdefault(thing.module.replace('Rattle.', '').replace('.specs', ''), []).append(thing.name)
+    listed = '; '.join(f'{module}: {" ".join(f"`{name}`" for name in sorted(names))}' for module, names in sorted(words.items()))
+    return ['', *textwrap.wrap(f'Words of the standard library: {listed}.', WIDTH, break_on_hyphens=False)] if words else []
+
+
+def definitions_of(things: List[Thing], by_name: FrozenSet[str]) -> List[str]:
+    """The definitions, those of one file that follow each other under its name."""
+    found: List[str] = []
+    for file, group in groupby((thing for thing in things if isinstance(thing, Definition)), source):
+        found += ['', file]
+        for definition in group:
+            found += ['', *shown(definition, by_name)] if definition.comment else shown(definition, by_name)
+    return found[1:]
+
+
+def types_of(things: List[Thing]) -> List[RustType]:
+    """The types of the code among them that the project declares, and those that these have, each once."""
+    found = dict.fromkeys(filter(None, (home(thing) for thing in things if isinstance(thing, RustType))))
+    for kind in (waiting := list(found)):
+        words = re.findall(r'[(,:&<] ?([A-Z]\w+)', '\n'.join(line for line in declaration(kind) if '///' not in line))
+        new = [it for it in (home(RustType(kind.crate, word)) for word in words) if it and it not in found]
+        found.update(dict.fromkeys(new))
+        waiting += new
+    return list(found)
+
+
+def page_of(theorem: Theorem) -> str:
+    """The page of a theorem."""
+    lines = (CRATES / theorem.file).read_text().splitlines()
+    at = next(at for at, line in enumerate(lines) if re.match(rf'pub fn {theorem.function}\b', line))
+    head = theorem.head(lines)
+    things = led_to(begun(theorem, lines, head), theorem.by_name)
+    types = [line for kind in types_of(things) for line in ['', *declaration(kind)]]
+    text = [f'# {theorem.title}', '', *(line[len('/// '):] for line in doc_above(lines, at)), *code('rust', head),
+            *code('antt', definitions_of(things, theorem.by_name)), *code('rust', types[1:]), *outside(things),
+            '', 'Made by `tests/statement.py --write` from the sources; edit nothing here.']
+    return '\n'.join(text) + '\n'
+
+
+def defining(text: str) -> int:
+    """How many lines of a page define something."""
+    block = re.search(r'^```antt\n(.*?)^```$', text, re.MULTILINE | re.DOTALL)
+    return sum(bool(line.strip()) and not line.strip().startswith('--') for line in block.group(1).split('\n')) if block else 0
+
+
+def findings(pages: Dict[Theorem, str]) -> Iterator[str]:
+    """For each page what is wrong with it, or nothing; and what stands beside the pages. Prints the size of each."""
+    for theorem, text in pages.items():
+        print(f'{theorem.page.relative_to(TOP)}: {len(text.splitlines())} lines, {defining(text)} of them in definitions')
+        same = theorem.page.exists() and theorem.page.read_text() == text
+        yield '' if same else f'{theorem.page.relative_to(TOP)} is not the one that --write makes'
+    for path in sorted(set(PAGES.glob('*')) - {theorem.page for theorem in pages}):
+        yield f'{path.relative_to(TOP)} is the page of no theorem'
+
+
+def main() -> int:
+    pages = {theorem: page_of(theorem) for theorem in theorems()}
+    if '--write' in sys.argv[1:]:
+        PAGES.mkdir(exist_ok=True)
+        for theorem, text in pages.items():
+            theorem.page.write_text(text)
+    return told(findings(pages))
+
+
+if __name__ == '__main__':
+    sys.exit(main())
