@@ -98,7 +98,8 @@ def stubs(folder: Path, case: Case) -> None:
     stub(folder / '.ci' / 'needs', ':')
     stub(folder / '.ci' / 'archive', 'mkdir -p crates/gwb_c/out && touch crates/gwb_c/out/libgwb_c.a')
     made = ''.join(f'mkdir -p {os.path.dirname(name)}; cp .ci/needs {name}; ' for name in case.files)
-    stub(folder / 'bin' / 'rt', f'ls -d crates/*/out/rlib; {made}\necho "{PASSED}"')
+    taken = 'mkdir -p crates/taken/out/rlib/taken.rlib; touch -d 2000-01-01 crates/taken/out/rlib/taken.rlib'
+    stub(folder / 'bin' / 'rt', f'ls -d crates/*/out/rlib; {made}\n{taken}\necho "{PASSED}"')
     for name in ('built_by_ci/out/rlib/built_by_ci.rlib/format', 'built_by_hand/out/rlib/stamp'):
         path = folder / 'crates' / name
         path.parent.mkdir(parents=True)
@@ -111,6 +112,7 @@ def gate(case: Case) -> str:
         folder = Path(name)
         stubs(folder, case)
         done = run([str(folder / '.ci' / 'run')], folder, PATH=f'{folder / "bin"}:{os.environ["PATH"]}')
+        is_new = (folder / 'crates/taken/out/rlib/taken.rlib').stat().st_mtime > (folder / 'bin/rt').stat().st_mtime
     *lines, last = done.stdout.splitlines() or ['']
     count = sum(line.startswith('== ') for line in lines) - sum(line in ('== .ci/needs', '== crates/gwb_c/out/libgwb_c.a') for line in lines)
     numbers = {'all': count, 'alone': count, 'others': count + (2 if 'compared' in str(case.prints) else 4), 'fewer': count - 1}
@@ -121,6 +123,8 @@ def gate(case: Case) -> str:
         why.append(f'no line {case.said!r}')
     if [line for line in lines if line.endswith('/out/rlib')] != ['crates/built_by_hand/out/rlib']:
         why.append('rt ci finds libraries of an earlier run, or those of other commands are gone')
+    if not is_new:
+        why.append('a library that rt ci took from an earlier run is older than the sources')
     return f'the gate where {case.name}: {"; ".join(why)}' if why else ''
 
 
