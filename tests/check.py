@@ -1,5 +1,5 @@
 #!/usr/bin/env python3
-"""Tries .ci/check on a small crate, over the libraries that `rt ci` left below it: as it is, with a wrong body, and after a library below has changed.
+"""Tries .ci/check on a small crate, over the libraries that `rt ci` left below it: as it is, with a wrong body, and after one below has changed.
 
     tests/check.py
 
@@ -42,7 +42,8 @@ def copied(folder: Path) -> None:
 
 def complaint(folder: Path, run: Run) -> str:
     """What is wrong with a call, or nothing."""
-    done = subprocess.run([folder / '.ci' / 'check', *run.words.split()], stdout=subprocess.PIPE, stderr=subprocess.STDOUT, text=True, timeout=600, check=False)
+    words = [str(folder / '.ci' / 'check'), *run.words.split()]
+    done = subprocess.run(words, stdout=subprocess.PIPE, stderr=subprocess.STDOUT, text=True, timeout=600, check=False)
     if done.returncode == run.status and run.says in done.stdout and run.says_not not in done.stdout:
         return ''
     return f'.ci/check {run.words}, {run.name}: status {done.returncode}, wanted {run.status} and {run.says!r}: {done.stdout[-600:]}'

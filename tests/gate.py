@@ -19,9 +19,10 @@ from counts import TOP, told
 
 NOWHERE = '/nowhere'
 # Each test on a file that isn't there; what stands in the place of the other files is one that is.
-MISSING = [['tests/scripts.py', NOWHERE], ['tests/program.sh', NOWHERE], ['tests/refused_growths.py', NOWHERE], ['tests/documents.py', NOWHERE],
-           ['tests/laws.py', NOWHERE], ['tests/direct_calls.py', NOWHERE], ['tests/direct_calls.py', '/bin/sh', NOWHERE],
-           ['companions/tests/run.py', NOWHERE], ['tests/library.sh', NOWHERE], ['tests/library.sh', '/bin/sh', NOWHERE],
+MISSING = [['tests/scripts.py', NOWHERE], ['tests/laws.py', NOWHERE], ['tests/program.sh', NOWHERE], ['tests/program.sh', '/bin/sh'],
+           ['tests/refused_growths.py', NOWHERE], ['tests/documents.py', NOWHERE], ['companions/tests/run.py', NOWHERE],
+           ['tests/direct_calls.py', NOWHERE], ['tests/direct_calls.py', '/bin/sh', NOWHERE],
+           ['tests/library.sh', NOWHERE], ['tests/library.sh', '/bin/sh', NOWHERE],
            ['tests/library_lines.py', NOWHERE, '/bin/sh'], ['tests/library_lines.py', '/bin/sh', NOWHERE],
            ['tests/library_readers.py', NOWHERE], ['tests/library_refusals.py', NOWHERE],
            ['env', f'GWB={NOWHERE}', 'tests/library_companions.py'], ['env', '-u', 'GWB', 'tests/library_companions.py']]

@@ -3,7 +3,7 @@
 import os
 import sys
 import unittest
-from counts import TOP, there
+from counts import TOP, closing, there
 
 TESTS = TOP / 'companions' / 'tests'
 sys.path.insert(0, str(TESTS))
@@ -12,7 +12,10 @@ from counting import tried  # noqa: E402
 
 
 def main():
-    there(os.environ.get('GWB', 'GWB, which is to name a library'), 'library')
+    if not os.environ.get('GWB'):
+        print('GWB names no library', closing(0, 1), sep='\n')
+        return 1
+    there(os.environ['GWB'], 'library')
     names = sorted(path.stem for path in TESTS.glob('test_session*.py'))
     return tried(unittest.defaultTestLoader.loadTestsFromNames(names))
 

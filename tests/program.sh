@@ -9,6 +9,10 @@ if [ ! -x "$program" ]; then
     printf 'there is no program %s\n0 passed, 1 failed\n' "$program"
     exit 1
 fi
+if [ "$(echo list | timeout 60 "$program" 2> /dev/null)" != empty ]; then
+    printf '%s does not answer a list of nothing as gwb does\n0 passed, 1 failed\n' "$program"
+    exit 1
+fi
 dir=$(mktemp -d)
 trap 'rm -rf "$dir"' EXIT
 count=0

@@ -25,6 +25,10 @@ LAWS = 'script_laws/src/lib.rt'
 BY_NAME = frozenset({'Rattle.script_laws.specs.Scripts.answers', 'Rattle.script_running.specs.Outs.Outs', 'Rattle.undo_journal.specs.Machine.start',
                      'Rattle.script_running.specs.Output.output_of', 'Rattle.script_running.specs.Output.summary_of'})
 WIDTH = 150
+INDEX = ['# Statements', '',
+         'What is proved, each on a page of its own: the contract of a function, all definitions that it leads to, each where it is first used, and',
+         'the types of the code. Only words of the standard library are taken as known. [PROOFS.md](../PROOFS.md) explains the signs.']
+MADE = 'Made by `tests/statement.py --write` from the sources; edit nothing here.'
 
 
 @dataclass(frozen=True)
@@ -208,7 +212,7 @@ def page_of(theorem: Theorem) -> str:
     types = [line for kind in types_of(things) for line in ['', *declaration(kind)]]
     text = [f'# {theorem.title}', '', *(line[len('/// '):] for line in doc_above(lines, at)), *code('rust', head),
             *code('antt', definitions_of(things, theorem.by_name)), *code('rust', types[1:]), *outside(things),
-            '', 'Made by `tests/statement.py --write` from the sources; edit nothing here.']
+            '', MADE]
     return '\n'.join(text) + '\n'
 
 
@@ -218,22 +222,40 @@ def defining(text: str) -> int:
     return sum(bool(line.strip()) and not line.strip().startswith('--') for line in block.group(1).split('\n')) if block else 0
 
 
-def findings(pages: Dict[Theorem, str]) -> Iterator[str]:
+def findings(pages: Dict[Path, str]) -> Iterator[str]:
     """For each page what is wrong with it, or nothing; and what stands beside the pages. Prints the size of each."""
-    for theorem, text in pages.items():
-        print(f'{theorem.page.relative_to(TOP)}: {len(text.splitlines())} lines, {defining(text)} of them in definitions')
-        same = theorem.page.exists() and theorem.page.read_text() == text
-        yield '' if same else f'{theorem.page.relative_to(TOP)} is not the one that --write makes'
-    for path in sorted(set(PAGES.glob('*')) - {theorem.page for theorem in pages}):
+    for path, text in pages.items():
+        print(f'{path.relative_to(TOP)}: {len(text.splitlines())} lines, {defining(text)} of them in definitions')
+        yield '' if path.exists() and path.read_text() == text else f'{path.relative_to(TOP)} is not the one that --write makes'
+    for path in sorted(set(PAGES.glob('*')) - set(pages)):
         yield f'{path.relative_to(TOP)} is the page of no theorem'
 
 
+def sentence(theorem: Theorem) -> str:
+    """What a theorem says: the comment of the law, or the function's documentation, of which one sentence where that is no law."""
+    lines = (CRATES / theorem.file).read_text().splitlines()
+    law = named(scope_of(lines), theorem.law)
+    if isinstance(law, Definition) and law.comment:
+        told = ' '.join(line.lstrip('- ') for line in law.comment)
+        return told[:1].upper() + told[1:] + '.'
+    at = next(at for at, line in enumerate(lines) if re.match(rf'pub fn {theorem.function}\b', line))
+    told = ' '.join(line[len('/// '):] for line in doc_above(lines, at))
+    return told if theorem.law else told.partition('. ')[0] + '.'
+
+
+def index() -> str:
+    """The list of the pages."""
+    rows = [f'- [{theorem.page.stem}]({theorem.page.name}): {sentence(theorem)}' for theorem in theorems()]
+    return '\n'.join([*INDEX, '', *rows, '', MADE]) + '\n'
+
+
 def main() -> int:
-    pages = {theorem: page_of(theorem) for theorem in theorems()}
+    pages = {theorem.page: page_of(theorem) for theorem in theorems()}
+    pages[PAGES / 'README.md'] = index()
     if '--write' in sys.argv[1:]:
         PAGES.mkdir(exist_ok=True)
-        for theorem, text in pages.items():
-            theorem.page.write_text(text)
+        for path, text in pages.items():
+            path.write_text(text)
     return told(findings(pages))
 
 
