@@ -37,7 +37,7 @@ def clauses_of(lines: List[str], name: str) -> List[str]:
     """The clauses of the definition of this name."""
     found: List[str] = []
     goes_on = False
-    for line in lines:
+    for line in (line for line in lines if not line.startswith('--')):
         goes_on = line.startswith((f'{name} ', f'pub record {name} ')) or (goes_on and line.startswith(' '))
         if goes_on:
             found.append(line)
