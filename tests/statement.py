@@ -188,7 +188,7 @@ def definitions_of(things: List[Thing], by_name: FrozenSet[str]) -> List[str]:
     for file, group in groupby((thing for thing in things if isinstance(thing, Definition)), source):
         found += ['', file]
         for definition in group:
-            found += ['', *shown(definition, by_name)] if definition.comment else shown(definition, by_name)
+            found += ['', *shown(definition, by_name)]
     return found[1:]
 
 
