@@ -70,7 +70,7 @@ class Case(NamedTuple):
 
 
 PASSED = '1 passed, 0 failed'
-# The tests that the gate runs but for those of a second program: `rt ci`, and one test each.
+# In the last line wanted {all} is the number of parts that are run, {fewer} one fewer, and {others} has scripts.py with 5 or 3 in place of 1.
 CASES = [
     Case('all pass', {}, '{all} passed, 0 failed, 1 skipped', 'skipped: rt ci left no crates/gwb/out/gwb.by-rattle'),
     Case('a test fails', {'tests/scripts.py': '5 passed, 2 failed'}, '{others} passed, 2 failed, 1 skipped'),
@@ -80,7 +80,7 @@ CASES = [
     Case('a test ends in an error', {'tests/quotes.py': 'Traceback'}, '{fewer} passed, 1 failed, 1 skipped', 'tests/quotes.py: status 0 after'),
     Case('a test counts below zero', {'tests/quotes.py': '-6 passed, 0 failed'}, '{fewer} passed, 1 failed, 1 skipped'),
     Case('a test tries nothing', {'tests/quotes.py': '0 passed, 0 failed'}, '{fewer} passed, 1 failed, 1 skipped'),
-    Case('no program is left', {}, '{alone} passed, 1 failed, 1 skipped', 'rt ci left no crates/gwb/out/gwb or', ())]
+    Case('no program is left', {}, '{all} passed, 1 failed, 1 skipped', 'rt ci left no crates/gwb/out/gwb or', ())]
 
 
 def stub(path: Path, text: str) -> None:
@@ -116,7 +116,7 @@ def gate(case: Case) -> str:
         is_new = (folder / 'crates/taken/out/rlib/taken.rlib').stat().st_mtime > (folder / 'bin/rt').stat().st_mtime
     *lines, last = done.stdout.splitlines() or ['']
     count = sum(line.startswith('== ') for line in lines) - sum(line in ('== .ci/needs', '== crates/gwb_c/out/libgwb_c.a') for line in lines)
-    numbers = {'all': count, 'alone': count, 'others': count + (2 if 'compared' in str(case.prints) else 4), 'fewer': count - 1}
+    numbers = {'all': count, 'others': count + (2 if 'compared' in str(case.prints) else 4), 'fewer': count - 1}
     why: List[str] = []
     if last != case.wanted.format(**numbers) or done.returncode != (' 0 failed' not in last):
         why.append(f'status {done.returncode}, last line {last!r}')
