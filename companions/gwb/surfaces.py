@@ -1,165 +1,183 @@
-"""Closed surfaces of polygons as models: vertices joined, faces of one plane joined, edges paired."""
+"""Closed surfaces of polygons as models: faces of one plane joined, edges paired, vertices numbered."""
 
-from typing import Dict, List, NamedTuple, Sequence, Tuple
+from typing import Dict, Hashable, List, NamedTuple, Sequence, Tuple
 
 from .errors import Unfit
+from .free_numbers import LARGEST, from_least, sorted_model
 from .joined_sets import JoinedSets
 from .measures import area_vector
 from .model import Face, Loop, Model
 from .moved import require_in_range
-from .free_numbers import LARGEST, from_least, sorted_model
-from .vectors import Vector, ZERO, dot, reduced, subtract
-
-Side = Tuple[int, int]
-Cycles = List[List[int]]
+from .sides import Sides
+from .soup import Cycles, Soup, direction
+from .vectors import Vector, ZERO, dot, subtract
 
 
 class Surface(NamedTuple):
-    """Faces of cycles of vertices, the outer one first, over points."""
+    """Faces of cycles of sides, the outline first; for each the place of a polygon that it comes from. And for each side its vertex."""
 
-    points: List[Vector]
+    sides: Sides
     faces: List[Cycles]
+    origins: List[int]
+    vertex: List[int]
+
+    def cycle_points(self, cycle: Sequence[int]) -> List[Vector]:
+        """The points along a cycle of sides."""
+        return [self.sides.points[self.sides.start[side]] for side in cycle]
 
 
-def surface_of(polygons: Sequence[List[List[Vector]]]) -> Surface:
-    """The polygons with vertices at one point joined; sides and polygons that come to nothing go."""
-    places: Dict[Vector, int] = {}
-    faces = []
-    for polygon in polygons:
-        cycles = [[places.setdefault(point, len(places)) for point in loop] for loop in polygon]
-        cycles = [[vertex for i, vertex in enumerate(cycle) if vertex != cycle[i - 1]] for cycle in cycles]
-        if len(cycles[0]) > 2:
-            faces.append([cycle for cycle in cycles if len(cycle) > 2])
-    return Surface(list(places), faces)
+def surface_of(soup: Soup) -> Surface:
+    """The soup as a closed surface. Raises Unfit, with the place, where it isn't closed."""
+    sides = Sides(soup)
+    faces: List[Cycles] = []
+    first = 0
+    for face in soup.faces:
+        cycles: Cycles = []
+        for cycle in face:
+            cycles.append(list(range(first, first + len(cycle))))
+            first += len(cycle)
+        faces.append(cycles)
+    return Surface(sides, faces, list(soup.origins), sides.vertices())
 
 
-def require_closed(surface: Surface) -> None:
-    """Raises Unfit, with the place, where the faces aren't a closed surface: where an edge hasn't two faces that run against each
-    other there, or a vertex has more than one fan of faces."""
-    times: Dict[Side, int] = {}
-    for start, end in _sides(surface):
-        times[start, end] = times.get((start, end), 0) + 1
-    for (start, end), count in times.items():
-        back = times.get((end, start), 0)
-        where = f'the edge from {_told(surface.points[start])} to {_told(surface.points[end])}'
-        if count + back == 1:
-            raise Unfit(f'open edge: {where} has one face')
-        if count + back > 2:
-            raise Unfit(f'edge of {count + back} faces: {where}')
-        if back == 0:
-            raise Unfit(f'face that turns: at {where} both faces run the same way')
-    _require_one_fan(surface)
+def with_joined_faces(surface: Surface, tags: Sequence[Hashable], drop_arealess: bool = False) -> Surface:
+    """Faces beside each other in one plane, of polygons with one tag, are one face. A joined face without one outer loop stays as it was.
 
-
-def _require_one_fan(surface: Surface) -> None:
-    fans = JoinedSets()
-    number = {side: place for place, side in enumerate(_sides(surface))}
-    for before, here, after in _corners(surface):
-        fans.join(number[here, after], number[here, before])
-    first: Dict[int, int] = {}
-    for (start, _), place in number.items():
-        if fans.name(first.setdefault(start, place)) != fans.name(place):
-            raise Unfit(f'vertex where two shells touch: {_told(surface.points[start])}')
-
-
-def _sides(surface: Surface) -> List[Side]:
-    return [(cycle[i - 1], cycle[i]) for face in surface.faces for cycle in face for i in range(len(cycle))]
-
-
-def _corners(surface: Surface) -> List[Tuple[int, int, int]]:
-    return [(cycle[i - 2], cycle[i - 1], cycle[i]) for face in surface.faces for cycle in face for i in range(len(cycle))]
-
-
-def _told(point: Vector) -> str:
-    return '({} {} {})'.format(*point)
-
-
-def with_joined_faces(surface: Surface) -> Surface:
-    """Faces beside each other in one plane are one face. A joined face without one outer loop stays as it was."""
-    directions = [_direction(surface, face) for face in surface.faces]
-    owner = {(cycle[i - 1], cycle[i]): place for place, face in enumerate(surface.faces) for cycle in face for i in range(len(cycle))}
-    regions = JoinedSets()
-    for (start, end), place in owner.items():
-        beside = owner[end, start]
-        if directions[place] != ZERO and directions[place] == directions[beside]:
-            regions.join(place, beside)
+    Where faces without an area are to be dropped, each is joined to the face across its longest side.
+    """
+    directions = [direction([surface.cycle_points(cycle) for cycle in face]) for face in surface.faces]
+    regions = _regions(surface, directions, tags)
+    if drop_arealess:
+        _join_arealess(surface, regions)
     members: Dict[int, List[int]] = {}
     for place in range(len(surface.faces)):
         members.setdefault(regions.name(place), []).append(place)
-    return Surface(surface.points, [face for held in members.values() for face in _joined(surface, held, directions[held[0]])])
+    found = surface._replace(faces=[], origins=[])
+    for held in members.values():
+        looks = next((directions[place] for place in held if directions[place] != ZERO), ZERO)
+        faces = _joined(surface, held, looks, regions) if len(held) > 1 else []
+        found.faces.extend(faces or [surface.faces[place] for place in held])
+        found.origins.extend(surface.origins[place] for place in (held[:1] if faces else held))
+    return found
 
 
-def _direction(surface: Surface, face: Cycles) -> Vector:
-    """The way that a flat face looks, zero for another."""
-    points = [[surface.points[vertex] for vertex in cycle] for cycle in face]
-    areas = [area_vector(loop) for loop in points]
-    across = (sum(a[0] for a in areas), sum(a[1] for a in areas), sum(a[2] for a in areas))
-    if any(dot(across, subtract(point, points[0][0])) for loop in points for point in loop):
-        return ZERO
-    return across if across == ZERO else reduced(across)
+def _regions(surface: Surface, directions: Sequence[Vector], tags: Sequence[Hashable]) -> JoinedSets:
+    """The faces in sets of those that are to be one."""
+    regions = JoinedSets()
+    face, origins = surface.sides.face, surface.origins
+    for side, mate in enumerate(surface.sides.mate):
+        one, other = face[side], face[mate]
+        if (side < mate and directions[one] == directions[other] and directions[one] != ZERO
+                and tags[origins[one]] == tags[origins[other]]):
+            regions.join(one, other)
+    return regions
 
 
-def _joined(surface: Surface, held: List[int], across: Vector) -> List[Cycles]:
-    faces = [surface.faces[place] for place in held]
-    if len(faces) == 1:
-        return faces
-    cycles = _outlines(faces)
-    areas = [dot(across, area_vector([surface.points[vertex] for vertex in cycle])) for cycle in cycles]
-    if sum(area > 0 for area in areas) != 1:
-        return faces
-    return [sorted(cycles, key=lambda cycle: areas[cycles.index(cycle)] <= 0)]
+def _join_arealess(surface: Surface, regions: JoinedSets) -> None:
+    """Faces without an area go to the sets of the faces across their longest sides."""
+    sides = surface.sides
+    for place in arealess(surface):
+        beside = [(_square_length(sides, side), sides.face[sides.mate[side]]) for cycle in surface.faces[place] for side in cycle]
+        others = [held for held in beside if regions.name(held[1]) != regions.name(place)]
+        if others:
+            regions.join(max(others)[1], place)
 
 
-def _outlines(faces: List[Cycles]) -> Cycles:
+def arealess(surface: Surface) -> List[int]:
+    """The faces all of whose corners lie on a line, but for rings."""
+    return [place for place, face in enumerate(surface.faces) if len(face) == 1 and _on_a_line(surface.cycle_points(face[0]))]
+
+
+def _on_a_line(points: Sequence[Vector]) -> bool:
+    return all(area_vector((points[0], points[1], point)) == ZERO for point in points[2:])
+
+
+def _square_length(sides: Sides, side: int) -> int:
+    along = subtract(sides.points[sides.end(side)], sides.points[sides.start[side]])
+    return dot(along, along)
+
+
+def _joined(surface: Surface, held: Sequence[int], across: Vector, regions: JoinedSets) -> List[Cycles]:
+    """The one face that some are together; none where they have no outline or several."""
+    cycles = _outlines(surface, held, regions)
+    areas = [dot(across, area_vector(surface.cycle_points(cycle))) for cycle in cycles]
+    outer = [place for place, area in enumerate(areas) if area > 0]
+    if len(outer) != 1:
+        return []
+    return [[cycles[outer[0]], *cycles[:outer[0]], *cycles[outer[0] + 1:]]]
+
+
+def _outlines(surface: Surface, held: Sequence[int], regions: JoinedSets) -> Cycles:
     """The cycles of the sides that have no other of the faces beside them."""
-    following = {(cycle[i - 2], cycle[i - 1]): (cycle[i - 1], cycle[i]) for face in faces for cycle in face for i in range(len(cycle))}
-    left = dict.fromkeys(side for side in following if side[::-1] not in following)
-    cycles = []
+    mate, face, after = surface.sides.mate, surface.sides.face, surface.sides.after
+    name = regions.name(held[0])
+    left = {side: None for place in held for cycle in surface.faces[place] for side in cycle if regions.name(face[mate[side]]) != name}
+    cycles: Cycles = []
     while left:
-        side, cycle = next(iter(left)), []
+        side = next(iter(left))
+        cycle: List[int] = []
         while side in left:
             del left[side]
-            cycle.append(side[0])
-            side = following[side]
-            while side[::-1] in following:
-                side = following[side[::-1]]
+            cycle.append(side)
+            side = after[side]
+            while regions.name(face[mate[side]]) == name:
+                side = after[mate[side]]
         cycles.append(cycle)
     return cycles
 
 
 def model_of_surfaces(surfaces: Sequence[Surface]) -> Model:
     """A model with a solid for each surface, numbered as they come."""
-    faces: Dict[int, Face] = {}
-    loops: Dict[int, Loop] = {}
-    edges: Dict[int, Side] = {}
-    vertices: Dict[int, Vector] = {}
+    builder = _Builder()
     for solid, surface in enumerate(surfaces, 1):
-        used = dict.fromkeys(vertex for face in surface.faces for cycle in face for vertex in cycle)
-        name = {vertex: len(vertices) + place for place, vertex in enumerate(used, 1)}
-        vertices.update((name[vertex], surface.points[vertex]) for vertex in used)
-        halves: Dict[Side, int] = {}
+        builder.add(solid, surface)
+    return builder.model(len(surfaces))
+
+
+class _Builder:
+    """A model as it grows."""
+
+    def __init__(self) -> None:
+        self._faces: Dict[int, Face] = {}
+        self._loops: Dict[int, Loop] = {}
+        self._edges: Dict[int, Tuple[int, int]] = {}
+        self._vertices: Dict[int, Vector] = {}
+
+    def add(self, solid: int, surface: Surface) -> None:
+        """One more solid."""
+        sides, vertex = surface.sides, surface.vertex
+        names = self._named(surface)
+        half: Dict[int, int] = {}
         for face in surface.faces:
-            first = len(loops) + 1
-            faces[len(faces) + 1] = Face(solid, first, tuple(range(first + 1, first + len(face))))
+            first = len(self._loops) + 1
+            self._faces[len(self._faces) + 1] = Face(solid, first, tuple(range(first + 1, first + len(face))))
             for cycle in face:
-                loops[len(loops) + 1] = Loop(_halves([name[vertex] for vertex in cycle], halves, edges))
-    _require_ranges(vertices, len(edges))
-    return sorted_model(range(1, len(surfaces) + 1), faces, loops, edges, vertices)
+                ends = [names[vertex[side]] for side in cycle]
+                self._loops[len(self._loops) + 1] = Loop(self._halves(cycle, ends, half, sides))
 
+    def _named(self, surface: Surface) -> Dict[int, int]:
+        """The numbers of the surface's vertices that are used, in order of their use."""
+        names: Dict[int, int] = {}
+        used = (side for face in surface.faces for cycle in face for side in cycle)
+        for side in used:
+            if surface.vertex[side] not in names:
+                names[surface.vertex[side]] = len(self._vertices) + 1
+                self._vertices[len(self._vertices) + 1] = surface.sides.points[surface.sides.start[side]]
+        return names
 
-def _halves(cycle: List[int], halves: Dict[Side, int], edges: Dict[int, Side]) -> Tuple[int, ...]:
-    found = []
-    for start, end in zip(cycle, cycle[1:] + cycle[:1]):
-        if (start, end) not in halves:
-            edge = len(edges) + 1
-            edges[edge] = (start, end)
-            halves[start, end], halves[end, start] = edge, -edge
-        found.append(halves[start, end])
-    return from_least(found)
+    def _halves(self, cycle: Sequence[int], ends: Sequence[int], half: Dict[int, int], sides: Sides) -> Tuple[int, ...]:
+        """The half-edges along a cycle; an edge is begun by the first of its sides."""
+        for place, side in enumerate(cycle):
+            if side not in half:
+                edge = len(self._edges) + 1
+                self._edges[edge] = (ends[place], ends[(place + 1) % len(ends)])
+                half[side], half[sides.mate[side]] = edge, -edge
+        return from_least(half[side] for side in cycle)
 
-
-def _require_ranges(vertices: Dict[int, Vector], edges: int) -> None:
-    if edges > LARGEST:
-        raise Unfit(f'there are {edges} edges, and 1,000,000 numbers')
-    for vertex, point in vertices.items():
-        require_in_range(vertex, point)
+    def model(self, solids: int) -> Model:
+        """The model. Raises Unfit where it has more edges than there are numbers, or a point is out of range."""
+        if len(self._edges) > LARGEST:
+            raise Unfit(f'there are {len(self._edges):,} edges, and {LARGEST:,} numbers')
+        for vertex, point in self._vertices.items():
+            require_in_range(vertex, point)
+        return sorted_model(range(1, solids + 1), self._faces, self._loops, self._edges, self._vertices)

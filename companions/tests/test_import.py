@@ -18,7 +18,8 @@ from gwb.inversion import script_of
 from gwb.listing import read_model
 from gwb.measures import six_volume
 from gwb.mesh import FORMS, mesh_of
-from gwb.polygon_files import Part, read_parts
+from gwb.parts import Part
+from gwb.polygon_files import read_parts
 from gwb.step import step_text
 
 SHAPES = {'cone': None, 'cross': 6 * (3 * 81 - 2 * 27), 'gear': None, 'holed_plate': 6 * 3 * (41 * 41 - 25 * 16), 'l_profile': 6 * 5 * 32, 'letter': None,
@@ -210,6 +211,50 @@ class Forms(InFiles):
         self.assertEqual(volumes(self.read(text)), [216, 216])
 
 
+class Touching(InFiles):
+    """Shells that touch at a vertex, along an edge or with a face: each is one, whatever the form says of solids."""
+
+    def blocks(self, *corners):
+        points, faces = [], []
+        for low, high in corners:
+            more, others = box(low, high, len(points))
+            points += more
+            faces += [face[0] for face in others]
+        return off(points, faces)
+
+    def both(self, data, *sizes):
+        for text in (data, FORMS['stl'](mesh_of(self.read(data)))):
+            back = self.read(text)
+            self.assertEqual(volumes(back), sorted(6 * size for size in sizes))
+            self.accepted(back)
+            self.assertEqual(check(back).findings, [])
+
+    def test_at_a_vertex(self):
+        other = [(-x, -y, -z) for x, y, z in TETRAHEDRON]
+        sides = [(a + 4, c + 4, b + 4) for a, b, c in SIDES]
+        self.both(off(TETRAHEDRON + other, SIDES + sides), 36, 36)
+
+    def test_along_an_edge(self):
+        self.both(self.blocks(((0, 0, 0), (2, 2, 2)), ((2, 2, 0), (5, 5, 2))), 8, 18)
+
+    def test_with_a_face(self):
+        self.both(self.blocks(((0, 0, 0), (2, 2, 2)), ((2, 0, 0), (5, 2, 2))), 8, 12)
+
+    def test_four_around_an_edge(self):
+        self.both(self.blocks(((0, 0, 0), (2, 2, 2)), ((2, 0, 0), (4, 2, 2)), ((0, 2, 0), (2, 4, 2)), ((2, 2, 0), (4, 4, 2))), 8, 8, 8, 8)
+
+    def test_a_solid_that_touches_itself(self):
+        """Five cubes that go round an edge, which two of them have in common: one solid, with two edges there."""
+        walls = [box((x, y, z), (x + 2, y + 2, z + 2)) for x, y, z in ((0, 0, 0), (0, 0, 2), (2, 0, 2), (2, 2, 2), (2, 2, 0))]
+        quads = [tuple(points[vertex - 1] for vertex in face[0]) for points, faces in walls for face in faces]
+        outside = [quad for quad in quads if sum(set(other) == set(quad) for other in quads) == 1]
+        points = sorted({point for quad in outside for point in quad})
+        back = self.read(off(points, [[points.index(point) for point in quad] for quad in outside]))
+        self.assertEqual(volumes(back), [6 * 5 * 8])
+        self.assertEqual(sum({back.vertices[end] for end in ends} == {(2, 2, 0), (2, 2, 2)} for ends in back.edges.values()), 2)
+        self.accepted(back)
+
+
 class Refused(InFiles):
     """What is no closed surface, and damaged files."""
 
@@ -217,9 +262,19 @@ class Refused(InFiles):
         self.refuse('open edge: the edge from (', off(TETRAHEDRON, SIDES[:3]))
         self.refuse('edge of 3 faces', off(TETRAHEDRON, SIDES + [SIDES[0]]))
         self.refuse('face that turns', off(TETRAHEDRON, SIDES[:3] + [SIDES[3][::-1]]))
-        other = [(-x, -y, -z) for x, y, z in TETRAHEDRON]
-        sides = [(a + 4, c + 4, b + 4) for a, b, c in SIDES]
-        self.refuse('vertex where two shells touch: (0 0 0)', off(TETRAHEDRON + other, SIDES + sides))
+
+    def test_where_and_how_many(self):
+        self.refuse('open edge: the edge from (0 0 0) to (0 6 0) has one face, and 2 more, round 1 hole', off(TETRAHEDRON, SIDES[:3]))
+        points, faces = box((0, 0, 0), (4, 4, 4))
+        open_box = [[vertex - 1 for vertex in face[0]] for face in faces][2:]
+        self.refuse('and 7 more, round 2 holes', off(points, open_box))
+        self.refuse('face that turns: at the edge from (6 0 0) to (0 6 0) both faces run the same way, and 2 more, --repair turns them',
+                    off(TETRAHEDRON, [SIDES[0][::-1], *SIDES[1:]]))
+        both = off(TETRAHEDRON, [SIDES[0], SIDES[1], SIDES[2][::-1]])
+        self.refuse('has one face, and 2 more; ', both)
+        self.refuse('; face that turns: ', both)
+        named = 'o lid\n' + obj(TETRAHEDRON, SIDES) + 'o pan\n' + obj([], SIDES[1:])
+        self.refuse('part 2 (pan): open edge', named)
 
     def damaged(self, form, good):
         middle = len(good) // 2
@@ -255,7 +310,7 @@ class Refused(InFiles):
         self.assertEqual((outcome.status, outcome.out), (3, ''))
 
     def test_parts_without_faces(self):
-        self.assertEqual(model_of_parts([Part([])], Fraction(1), False, False).model.faces, {})
+        self.assertEqual(model_of_parts([Part([], [])], Fraction(1), False, False).model.faces, {})
 
 
 if __name__ == '__main__':

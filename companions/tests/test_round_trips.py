@@ -18,6 +18,7 @@ from gwb.measures import six_volume
 from gwb.mesh import FORMS, mesh_of
 from gwb.nesting import nests
 from gwb.polygon_files import read_parts
+from gwb.soup import soup_of
 from gwb.step import step_text
 from gwb.surfaces import surface_of, with_joined_faces
 
@@ -35,9 +36,11 @@ def cyclic(points):
 
 def faces_of(model, faces, joined):
     """The faces as outlines and rings of points; in one plane beside each other as one where they are to be joined."""
-    surface = surface_of([[model.loop_points(loop) for loop in model.faces[face].loops] for face in faces])
-    held = with_joined_faces(surface) if joined else surface
-    cycles = [[cyclic([held.points[vertex] for vertex in cycle]) for cycle in face] for face in held.faces]
+    places = {vertex: place for place, vertex in enumerate(model.vertices)}
+    polygons = [[[places[vertex] for vertex in model.loop_vertices(loop)] for loop in model.faces[face].loops] for face in faces]
+    surface = surface_of(soup_of(list(model.vertices.values()), polygons))
+    held = with_joined_faces(surface, [None] * len(polygons)) if joined else surface
+    cycles = [[cyclic(held.cycle_points(cycle)) for cycle in face] for face in held.faces]
     return frozenset(Counter((outer, tuple(sorted(rings))) for outer, *rings in cycles).items())
 
 

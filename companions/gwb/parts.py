@@ -1,0 +1,69 @@
+"""What a file of polygons holds: its parts, with names and colours."""
+
+from typing import Dict, List, NamedTuple, Optional, Sequence, Tuple
+
+from .appearance import Appearance, Colour
+from .errors import CompanionError
+from .flat_face import ExactVector
+from .plane_figures import Exact
+
+# An outline and then rings, as places of points.
+Polygon = List[List[int]]
+
+MOST_POLYGONS = 1_000_000
+
+
+class NotAMesh(CompanionError):
+    """The bytes aren't a file of the form, are cut short, or hold more than a model can."""
+
+
+class Part(NamedTuple):
+    """The polygons of an object, over its points.
+
+    Where `parted` holds the file doesn't say which shells are a solid, and where `whole` does its polygons are faces that aren't to be
+    joined. Parts of one `solid`, where it has a name, are one solid. Points may lie beside whole places by `accuracy`, as the file says.
+    `notes` are for the reader: what was made of the file's units, say.
+    """
+
+    points: List[ExactVector]
+    polygons: List[Polygon]
+    parted: bool = False
+    whole: bool = False
+    solid: str = ''
+    look: Appearance = Appearance()
+    face_looks: Dict[int, Appearance] = {}
+    accuracy: Exact = 0
+    notes: Tuple[str, ...] = ()
+
+    @property
+    def called(self) -> str:
+        """The name in brackets, for messages."""
+        return f' ({self.look.name})' if self.look.name else ''
+
+
+class Gathered:
+    """Polygons as they are read: those of colours of their own are kept apart."""
+
+    def __init__(self, points: List[ExactVector]) -> None:
+        self.points = points
+        self.polygons: List[Polygon] = []
+        self.looks: Dict[int, Appearance] = {}
+
+    def add(self, corners: Sequence[int], colour: Optional[Colour] = None) -> None:
+        """One more polygon, by places of points. Raises NotAMesh where a place isn't there, or there are fewer than three corners."""
+        count = len(self.points)
+        if len(corners) < 3:
+            raise NotAMesh(f'face {len(self.polygons) + 1} has {len(corners)} corners')
+        if min(corners) < 0 or max(corners) >= count:
+            raise NotAMesh(f'face {len(self.polygons) + 1} has vertex {next(c for c in corners if not 0 <= c < count)}, '
+                           f'and there are {count}')
+        require_few(len(self.polygons) + 1)
+        if colour is not None:
+            self.looks[len(self.polygons)] = Appearance(colour=colour)
+        self.polygons.append([list(corners)])
+
+
+def require_few(polygons: int) -> None:
+    """Raises NotAMesh where there are more polygons than a model can have faces."""
+    if polygons > MOST_POLYGONS:
+        raise NotAMesh(f'it has more than {MOST_POLYGONS:,} faces, and a model can have no more')

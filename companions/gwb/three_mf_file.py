@@ -1,0 +1,169 @@
+"""Reads 3MF (core specification 1.3, and the colours of the materials extension): objects, components, units and placements."""
+
+import io
+import zipfile
+from typing import Dict, Iterator, List, NamedTuple, Optional, Tuple
+
+from .appearance import Appearance, Colour, colour_of
+from .exact_numbers import Numbers
+from .flat_face import ExactVector
+from .parts import Gathered, NotAMesh, Part, require_few
+from .placement import IN_PLACE, Placement
+from .units import millimetres_of, unit_notes
+from .xml_parts import Attributes, XmlReader
+
+_MOST_BYTES = 400_000_000
+_MOST_ITEMS = 100_000
+_ROOT_TYPE = '/3dmodel'
+
+
+class _Use(NamedTuple):
+    """An object that is put somewhere."""
+
+    object: str
+    placement: Placement
+
+
+class _Object:
+    """An object as it is read: a mesh, or uses of others."""
+
+    def __init__(self, look: Appearance, material: Optional[str]) -> None:
+        self.look, self.material = look, material
+        self.mesh = Gathered([])
+        self.uses: List[_Use] = []
+
+
+class _Reader:
+    """Takes the elements of a model part."""
+
+    def __init__(self) -> None:
+        self.unit = 'millimeter'
+        self.objects: Dict[str, _Object] = {}
+        self.items: List[_Use] = []
+        self._numbers = Numbers()
+        self._colours: Dict[str, List[Colour]] = {}
+        self._group: List[Colour] = []
+        self._object = _Object(Appearance(), None)
+
+    def begin(self, name: str, words: Attributes) -> None:
+        """An element begins."""
+        take = getattr(self, f'_begin_{name}', None)
+        if take is not None:
+            take(words)
+
+    def end(self, name: str, text: str) -> None:
+        """An element ends; nothing is to be done."""
+
+    def _begin_model(self, words: Attributes) -> None:
+        self.unit = words.get('unit', 'millimeter')
+
+    def _begin_basematerials(self, words: Attributes) -> None:
+        self._group = self._colours.setdefault(words['id'], [])
+
+    _begin_colorgroup = _begin_basematerials
+
+    def _begin_base(self, words: Attributes) -> None:
+        self._group.append(colour_of(words['displaycolor']))
+
+    def _begin_color(self, words: Attributes) -> None:
+        self._group.append(colour_of(words['color']))
+
+    def _begin_object(self, words: Attributes) -> None:
+        colour = self._colour(words.get('pid'), words.get('pindex', '0'))
+        self._object = self.objects[words['id']] = _Object(Appearance(words.get('name', ''), colour), words.get('pid'))
+
+    def _begin_vertex(self, words: Attributes) -> None:
+        self._object.mesh.points.append(self._numbers.point([words['x'], words['y'], words['z']]))
+
+    def _begin_triangle(self, words: Attributes) -> None:
+        colour = self._colour(words.get('pid', self._object.material), words['p1']) if 'p1' in words else None
+        self._object.mesh.add([int(words['v1']), int(words['v2']), int(words['v3'])], colour)
+
+    def _begin_component(self, words: Attributes) -> None:
+        self._object.uses.append(self._use(words))
+
+    def _begin_item(self, words: Attributes) -> None:
+        if len(self.items) >= _MOST_ITEMS:
+            raise NotAMesh(f'it has more than {_MOST_ITEMS:,} items')
+        self.items.append(self._use(words))
+
+    def _use(self, words: Attributes) -> _Use:
+        if any(name.endswith(' path') for name in words):
+            raise NotAMesh('it has objects in further files, which are not read')
+        return _Use(words['objectid'], self._placement(words.get('transform')))
+
+    def _placement(self, text: Optional[str]) -> Placement:
+        if text is None:
+            return IN_PLACE
+        words = text.split()
+        if len(words) != 12:
+            raise NotAMesh(f'a transform has {len(words)} numbers, not 12')
+        x, y, z, origin = (self._numbers.point(words[place:place + 3]) for place in (0, 3, 6, 9))
+        return Placement(x, y, z, origin)
+
+    def _colour(self, group: Optional[str], place: str) -> Optional[Colour]:
+        colours = self._colours.get(group or '', [])
+        return colours[int(place)] if 0 <= int(place) < len(colours) else None
+
+
+def three_mf_parts(data: bytes) -> Iterator[Part]:
+    """The objects that a file builds, where they stand, in millimetres. Raises NotAMesh where it can't be read."""
+    with zipfile.ZipFile(io.BytesIO(data)) as package:
+        reader = _Reader()
+        _read(package, _model_name(package), reader)
+    factor = millimetres_of(reader.unit)
+    scaled = Placement((factor, 0, 0), (0, factor, 0), (0, 0, factor), (0, 0, 0))
+    polygons = 0
+    for use in _expanded(reader):
+        held = reader.objects[use.object]
+        polygons += len(held.mesh.polygons)
+        require_few(polygons)
+        yield _part(held, scaled.after(use.placement))._replace(notes=unit_notes(reader.unit))
+
+
+def _read(package: zipfile.ZipFile, name: str, reader: _Reader) -> None:
+    if package.getinfo(name).file_size > _MOST_BYTES:
+        raise NotAMesh(f'{name} in it has more than {_MOST_BYTES:,} bytes')
+    with package.open(name) as file:
+        XmlReader(reader.begin, reader.end, _MOST_BYTES).read(file)
+
+
+def _model_name(package: zipfile.ZipFile) -> str:
+    """The part that the package's relations name as its model, else the first model in it."""
+    names = [name for name in package.namelist() if name.lower().endswith('.model')]
+    found: List[str] = []
+
+    def begin(name: str, words: Attributes) -> None:
+        if name == 'Relationship' and words.get('Type', '').endswith(_ROOT_TYPE):
+            found.append(words.get('Target', '').lstrip('/'))
+
+    if '_rels/.rels' in package.namelist():
+        with package.open('_rels/.rels') as file:
+            XmlReader(begin, lambda name, text: None, _MOST_BYTES // 100).read(file)
+    wanted = [name for name in found if name in names] or names
+    if not wanted:
+        raise NotAMesh('there is no model in the package')
+    return wanted[0]
+
+
+def _expanded(reader: _Reader) -> Iterator[_Use]:
+    """The objects with meshes that the items and the components below them use, in order. Components that go round are refused."""
+    waiting: List[Tuple[_Use, int]] = [(use, 0) for use in reversed(reader.items)]
+    steps = 0
+    while waiting:
+        use, depth = waiting.pop()
+        steps += 1
+        if use.object not in reader.objects:
+            raise NotAMesh(f'object {use.object[:20]} is used, and is not there')
+        if depth > len(reader.objects) or steps > 10 * _MOST_ITEMS:
+            raise NotAMesh(f'the components of object {use.object[:20]} go round, or are more than {10 * _MOST_ITEMS:,}')
+        held = reader.objects[use.object]
+        if held.mesh.polygons:
+            yield use
+        waiting += [(_Use(part.object, use.placement.after(part.placement)), depth + 1) for part in reversed(held.uses)]
+
+
+def _part(held: _Object, placement: Placement) -> Part:
+    points = held.mesh.points
+    placed: List[ExactVector] = points if placement == IN_PLACE else [placement.of(point) for point in points]
+    return Part(placed, held.mesh.polygons, look=held.look, face_looks=held.mesh.looks)

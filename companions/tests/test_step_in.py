@@ -1,0 +1,258 @@
+"""STEP as it is read: units, placements, names, colours, and what isn't understood."""
+
+import tempfile
+import unittest
+from pathlib import Path
+
+from support import STORED, box, listing, model_in, run
+
+from gwb.appearance import Appearance
+from gwb.errors import CompanionError
+from gwb.importing import read_file
+from gwb.measures import six_volume
+from gwb.step import step_text
+
+MILLIMETRE = '(LENGTH_UNIT()NAMED_UNIT(*)SI_UNIT(.MILLI.,.METRE.))'
+INCH = """(CONVERSION_BASED_UNIT('INCH',#901)LENGTH_UNIT()NAMED_UNIT(#903));
+#901=LENGTH_MEASURE_WITH_UNIT(LENGTH_MEASURE(25.4),#902);
+#902=(LENGTH_UNIT()NAMED_UNIT(*)SI_UNIT(.MILLI.,.METRE.));
+#903=DIMENSIONAL_EXPONENTS(1.,0.,0.,0.,0.,0.,0.)"""
+SHAPE = 'ADVANCED_BREP_SHAPE_REPRESENTATION'
+
+
+def block(high=(4, 5, 6)):
+    """The text of a block as another program might write it, without names."""
+    text = step_text(model_in(listing(*box((0, 0, 0), high))))
+    return text.replace("'gwb-step'", "'other'").replace("'solid 1'", "''").replace("PRODUCT('gwb','gwb'", "PRODUCT('','Lid'")
+
+
+def entity(text, kind):
+    """The reference of the first entity of a kind."""
+    line = next(line for line in text.splitlines() if f'={kind}(' in line)
+    return line.split('=')[0]
+
+
+def with_lines(text, *lines):
+    """The text with more entities."""
+    return text.replace('ENDSEC;\nEND-ISO', ''.join(f'{line};\n' for line in lines) + 'ENDSEC;\nEND-ISO')
+
+
+def axes(first, origin, axis=(0, 0, 1), beside=(1, 0, 0)):
+    """The lines of an axis system, of four numbers from the first on."""
+    numbers = [','.join(map(str, vector)) for vector in (origin, axis, beside)]
+    return [f"#{first}=AXIS2_PLACEMENT_3D('',#{first + 1},#{first + 2},#{first + 3})", f"#{first + 1}=CARTESIAN_POINT('',({numbers[0]}))",
+            f"#{first + 2}=DIRECTION('',({numbers[1]}))", f"#{first + 3}=DIRECTION('',({numbers[2]}))"]
+
+
+def assembled(*places, text=None):
+    """A block as often as places are given, in an assembly; a place is the words of axes."""
+    text = text or block()
+    shape, context = entity(text, SHAPE), text.split(f'{SHAPE}(')[1].split(';')[0].split(',')[-1].rstrip(')')
+    held = ','.join(f'#{2000 + 10 * number}' for number in range(len(places)))
+    lines = [*axes(1000, (0, 0, 0)), f"#1100=SHAPE_REPRESENTATION('',(#1000,{held}),{context})"]
+    for number, place in enumerate(places):
+        lines += axes(2000 + 10 * number, *place)
+        lines += [f"#{3000 + 10 * number}=(REPRESENTATION_RELATIONSHIP('','',{shape},#1100)"
+                  f'REPRESENTATION_RELATIONSHIP_WITH_TRANSFORMATION(#{3001 + 10 * number})SHAPE_REPRESENTATION_RELATIONSHIP())',
+                  f"#{3001 + 10 * number}=ITEM_DEFINED_TRANSFORMATION('','',#1000,#{2000 + 10 * number})"]
+    return with_lines(text, *lines)
+
+
+class Reads(unittest.TestCase):
+    """What the tests share."""
+
+    def setUp(self):
+        self.folder = tempfile.TemporaryDirectory()
+        self.addCleanup(self.folder.cleanup)
+
+    def read(self, text, **words):
+        path = Path(self.folder.name, 'part.step')
+        path.write_text(text)
+        return read_file(str(path), **words)
+
+    def boxes(self, text, **words):
+        """The box of each solid."""
+        model = self.read(text, **words).model
+        found = []
+        for solid in model.solids:
+            self.assertGreater(six_volume(model, model.faces_of(solid)), 0)
+            points = {point for face in model.faces_of(solid) for point in model.face_points(face)}
+            found.append((tuple(map(min, zip(*points))), tuple(map(max, zip(*points)))))
+        return found
+
+    def refuse(self, part, text, **words):
+        with self.assertRaises(CompanionError) as caught:
+            self.read(text, **words)
+        self.assertIn(part, str(caught.exception))
+
+
+class Placements(Reads):
+    """Assemblies."""
+
+    def test_several_instances_moved_and_turned(self):
+        text = assembled([(0, 0, 0)], [(10, 20, 30)], [(0, 0, 0), (1, 0, 0), (0, 1, 0)])
+        self.assertEqual(self.boxes(text), [((0, 0, 0), (4, 5, 6)), ((10, 20, 30), (14, 25, 36)), ((0, 0, 0), (6, 4, 5))])
+
+    def test_a_quarter_that_is_exact_but_for_noise(self):
+        text = assembled([(0, 0, 0), ('6.1E-17', 0, 1), (0, 1, '-2.E-16')])
+        found = self.read(text)
+        self.assertEqual(self.boxes(text), [((-5, 0, 0), (0, 4, 6))])
+        self.assertGreater(found.square_moved, 0)
+        self.assertLess(found.square_moved, 1e-20)
+
+    def test_a_placement_that_leaves_whole_places(self):
+        text = assembled([(0, 0, 0), (0, 0, 1), ('0.8660254037844387', '0.5', 0)])
+        self.refuse('is not whole', text)
+        exact = assembled([(0, 0, 0), (0, 0, 1), (3, 4, 0)], text=block((5, 5, 5)))
+        self.assertEqual(self.boxes(exact), [((-4, 0, 0), (3, 7, 5))])
+
+    def test_assemblies_of_assemblies(self):
+        text = assembled([(10, 0, 0)], [(20, 0, 0)])
+        context = text.split("#1100=SHAPE_REPRESENTATION('',(#1000,#2000,#2010),")[1].split(')')[0]
+        outer = with_lines(text, *axes(4000, (0, 100, 0)), *axes(4010, (0, 200, 0)), f"#4100=SHAPE_REPRESENTATION('',(#1000,#4000,#4010),{context})",
+                           *(f"#{5000 + i}=(REPRESENTATION_RELATIONSHIP('','',#1100,#4100)REPRESENTATION_RELATIONSHIP_WITH_TRANSFORMATION("
+                             f"#{5002 + i})SHAPE_REPRESENTATION_RELATIONSHIP())" for i in (0, 1)),
+                           *(f"#{5002 + i}=ITEM_DEFINED_TRANSFORMATION('','',#1000,#{4000 + 10 * i})" for i in (0, 1)))
+        self.assertEqual([low for low, _ in self.boxes(outer)], [(10, 100, 0), (20, 100, 0), (10, 200, 0), (20, 200, 0)])
+
+    def test_the_assembly_may_be_named_first(self):
+        text = assembled([(10, 20, 30)])
+        shape = entity(text, SHAPE)
+        turned = text.replace(f"REPRESENTATION_RELATIONSHIP('','',{shape},#1100)", f"REPRESENTATION_RELATIONSHIP('','',#1100,{shape})")
+        turned = turned.replace("ITEM_DEFINED_TRANSFORMATION('','',#1000,#2000)", "ITEM_DEFINED_TRANSFORMATION('','',#2000,#1000)")
+        definition = entity(text, 'PRODUCT_DEFINITION')
+        said = with_lines(turned, f"#4000=PRODUCT_DEFINITION('','',{entity(text, 'PRODUCT_DEFINITION_FORMATION')},$)",
+                          "#4001=PRODUCT_DEFINITION_SHAPE('','',#4000)", '#4002=SHAPE_DEFINITION_REPRESENTATION(#4001,#1100)',
+                          f"#4003=NEXT_ASSEMBLY_USAGE_OCCURRENCE('1','','',#4000,{definition},$)",
+                          "#4004=PRODUCT_DEFINITION_SHAPE('','',#4003)", '#4005=CONTEXT_DEPENDENT_SHAPE_REPRESENTATION(#3000,#4004)')
+        self.assertEqual(self.boxes(said), [((10, 20, 30), (14, 25, 36))])
+
+    def test_mapped_items(self):
+        text = block()
+        shape, context = entity(text, SHAPE), text.split(f'{SHAPE}(')[1].split(';')[0].split(',')[-1].rstrip(')')
+        mapped = with_lines(text, *axes(1000, (0, 0, 0)), *axes(1010, (7, 0, 0)), f'#1100=REPRESENTATION_MAP(#1000,{shape})',
+                            "#1101=MAPPED_ITEM('',#1100,#1000)", "#1102=MAPPED_ITEM('',#1100,#1010)",
+                            f"#1103=SHAPE_REPRESENTATION('',(#1101,#1102),{context})")
+        self.assertEqual([low for low, _ in self.boxes(mapped)], [(0, 0, 0), (7, 0, 0)])
+
+    def test_representations_of_one_shape(self):
+        text = block()
+        shape, context = entity(text, SHAPE), text.split(f'{SHAPE}(')[1].split(';')[0].split(',')[-1].rstrip(')')
+        apart = with_lines(text, f"#1000=SHAPE_REPRESENTATION('',(),{context})", f"#1001=SHAPE_REPRESENTATION_RELATIONSHIP('','',#1000,{shape})")
+        self.assertEqual(len(self.boxes(apart)), 1)
+
+    def test_placements_that_go_round(self):
+        text = assembled([(10, 20, 30)])
+        shape = entity(text, SHAPE)
+        self.refuse('go round in a circle', text.replace(f"'',{shape},#1100)", f"'',{shape},{shape})"))
+
+    def test_placements_that_double_at_each_level(self):
+        lines, context = [], '$'
+        text = block()
+        context = text.split(f'{SHAPE}(')[1].split(';')[0].split(',')[-1].rstrip(')')
+        child = entity(text, SHAPE)
+        for level in range(30):
+            first = 1000 + 100 * level
+            lines += [*axes(first, (level, 0, 0)), f"#{first + 10}=REPRESENTATION_MAP(#{first},{child})",
+                      f"#{first + 11}=MAPPED_ITEM('',#{first + 10},#{first})", f"#{first + 12}=MAPPED_ITEM('',#{first + 10},#{first})",
+                      f"#{first + 13}=SHAPE_REPRESENTATION('',(#{first + 11},#{first + 12}),{context})"]
+            child = f'#{first + 13}'
+        self.refuse('there are more than 200,000 solids and placements', with_lines(text, *lines))
+
+
+class Units(Reads):
+    """Lengths."""
+
+    def test_inches(self):
+        text = block((10, 20, 30)).replace(MILLIMETRE, INCH)
+        found = self.read(text)
+        self.assertEqual(found.said, ['lengths in INCH were multiplied by 25.4, to millimetres'])
+        self.assertEqual(max(found.model.vertices.values()), (254, 508, 762))
+        self.refuse('the point 101.6 127 0 is not whole', block((4, 5, 6)).replace(MILLIMETRE, INCH))
+
+    def test_metres(self):
+        found = self.read(block().replace(MILLIMETRE, MILLIMETRE.replace('.MILLI.', '$')))
+        self.assertEqual(found.said, ['lengths in METRE were multiplied by 1000, to millimetres'])
+        self.assertEqual(max(found.model.vertices.values()), (4000, 5000, 6000))
+
+    def test_unknown_units(self):
+        self.refuse('is not understood', block().replace(MILLIMETRE, MILLIMETRE.replace('.METRE.', '.GRAM.')))
+        text = block().replace(MILLIMETRE, INCH).replace('LENGTH_MEASURE(25.4),#902', f"LENGTH_MEASURE(25.4),{self.unit()}")
+        self.refuse('is said by itself', text)
+
+    @staticmethod
+    def unit():
+        """The reference of the unit of length."""
+        return next(line for line in block().splitlines() if MILLIMETRE in line).split('=')[0]
+
+
+class Looks(Reads):
+    """Names and colours."""
+
+    def styled(self, item, text):
+        return with_lines(text, f"#800=STYLED_ITEM('',(#801),{item})", '#801=PRESENTATION_STYLE_ASSIGNMENT((#810,#802))',
+                          '#802=SURFACE_STYLE_USAGE(.BOTH.,#803)', "#803=SURFACE_SIDE_STYLE('',(#804))", '#804=SURFACE_STYLE_FILL_AREA(#805)',
+                          "#805=FILL_AREA_STYLE('',(#806))", "#806=FILL_AREA_STYLE_COLOUR('',#807)", "#807=COLOUR_RGB('',1.,0.5,0.)",
+                          "#810=CURVE_STYLE('',#811,#811,#812)", "#812=COLOUR_RGB('',0.,0.,1.)", "#811=DRAUGHTING_PRE_DEFINED_CURVE_FONT('x')")
+
+    def test_products_and_solids(self):
+        text = block()
+        self.assertEqual(self.read(text).looks, {('solid', 1): Appearance('Lid')})
+        self.assertEqual(self.read(text.replace("BREP(''", "BREP('D\\X2\\00FC\\X0\\se ''4'''")).looks, {('solid', 1): Appearance("D\u00fcse '4'")})
+
+    def test_colours(self):
+        text = block()
+        self.assertEqual(self.read(self.styled(entity(text, 'MANIFOLD_SOLID_BREP'), text)).looks, {('solid', 1): Appearance('Lid', (255, 128, 0))})
+        found = self.read(self.styled(entity(text, 'ADVANCED_FACE'), text)).looks
+        self.assertEqual(found, {('solid', 1): Appearance('Lid'), ('face', 1): Appearance('', (255, 128, 0))})
+
+    def test_they_are_comments_of_the_script(self):
+        path = Path(self.folder.name, 'part.step')
+        path.write_text(self.styled(entity(block(), 'MANIFOLD_SOLID_BREP'), block()))
+        outcome = run('import', str(path))
+        self.assertEqual((outcome.status, outcome.out.splitlines()[0]), (0, '# solid 1 name "Lid" colour #FF8000'))
+
+
+class Refused(Reads):
+    """What is curved or isn't understood: nothing of it is left out."""
+
+    def test_all_that_is_curved(self):
+        text = block().replace('=PLANE(', '=CONICAL_SURFACE(')
+        faces = [line.split('=')[0] for line in text.splitlines() if '=ADVANCED_FACE(' in line]
+        self.refuse('6 faces are curved: ' + ', '.join(f'{face} CONICAL_SURFACE' for face in faces), text)
+        self.refuse('12 edges are curved: ', block().replace('=LINE(', '=CIRCLE('))
+
+    def test_lines_on_surfaces(self):
+        for kind in ('SURFACE_CURVE', 'SEAM_CURVE', 'INTERSECTION_CURVE'):
+            text = block()
+            line = entity(text, 'LINE')
+            text = with_lines(text.replace(f',{line},.T.)', ',#900,.T.)'), f"#900={kind}('',{line},(),.PCURVE_S1.)")
+            self.assertEqual(len(self.boxes(text)), 1, kind)
+            self.refuse('1 edge is curved: ', text.replace(f"{kind}('',{line}", f"{kind}('',#900"))
+
+    def test_shapes_that_bound_no_solid(self):
+        text = block()
+        inside = text.replace(f"{SHAPE}('',(", f"{SHAPE}('',(#900,")
+        self.refuse('the shape has what is not understood: 1 SHELL_BASED_SURFACE_MODEL (#900)', with_lines(inside, "#900=SHELL_BASED_SURFACE_MODEL('',())"))
+        self.refuse('there is no solid in the STEP file', text.replace('MANIFOLD_SOLID_BREP(', 'SHELL_BASED_SURFACE_MODEL(').replace(SHAPE, 'X'))
+        self.refuse('no closed shell but OPEN_SHELL', text.replace('=CLOSED_SHELL', '=OPEN_SHELL'))
+
+    def test_placements_that_are_not_understood(self):
+        text = assembled([(1, 2, 3)])
+        self.refuse('not understood: OTHER', text.replace('ITEM_DEFINED_TRANSFORMATION', 'OTHER'))
+        self.refuse('lie on a line', text.replace("#2003=DIRECTION('',(1,0,0))", "#2003=DIRECTION('',(0,0,2))"))
+
+    def test_what_is_named_and_is_not_there(self):
+        self.refuse('has no #9999', block().replace('=PLANE(', '=PLANE($,#9999);#7777=PLANE(').replace("VERTEX_POINT('vertex 1',", "VERTEX_POINT('',#9999,"))
+
+
+class Stored(unittest.TestCase):
+    """Files as other programs write them; test_programs has what they hold."""
+
+    def test_names_of_an_assembly(self):
+        found = read_file(str(STORED / 'programs' / 'freecad_assembly.step'))
+        self.assertEqual(found.looks, {('solid', 1): Appearance('A'), ('solid', 2): Appearance('B')})
+
+
+if __name__ == '__main__':
+    unittest.main()
