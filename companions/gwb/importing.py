@@ -1,9 +1,10 @@
 """Reads a mesh, polygons or flat STEP and writes the script that makes its solids."""
 
 import argparse
+import os
 import sys
 from fractions import Fraction
-from typing import Callable, Dict, Hashable, Iterator, List, NamedTuple, Optional, Sequence, Set, Tuple
+from typing import BinaryIO, Callable, Dict, Hashable, Iterator, List, NamedTuple, Optional, Sequence, Set, Tuple
 
 from .appearance import Appearance, Thing, comments
 from .command_line import FOUND, OK, add_version, run
@@ -25,7 +26,7 @@ from .soup import soup_of
 from .surfaces import Surface, arealess, model_of_surfaces, surface_of, with_joined_faces
 
 PROGRAM = 'gwb-import'
-MOST_BYTES = 400_000_000
+MOST_BYTES = 300_000_000
 
 Stage = Callable[[str], None]
 
@@ -61,15 +62,24 @@ def read_file(path: Optional[str], *, form: Optional[str] = None, scale: Exact =
 
 
 def _read_bytes(path: Optional[str]) -> bytes:
-    """The bytes of a file. Raises NotAMesh where it is larger than any that a model can be made of."""
+    """The bytes of a file. Raises NotAMesh where it is larger than any that a model is made of."""
     if path is None or path == '-':
-        data = sys.stdin.buffer.read(MOST_BYTES + 1)
-    else:
-        with open(path, 'rb') as file:
-            data = file.read(MOST_BYTES + 1)
+        return _bounded(sys.stdin.buffer)
+    with open(path, 'rb') as file:
+        if os.fstat(file.fileno()).st_size > MOST_BYTES:
+            raise _too_large()
+        return _bounded(file)
+
+
+def _bounded(file: BinaryIO) -> bytes:
+    data = file.read(MOST_BYTES + 1)
     if len(data) > MOST_BYTES:
-        raise NotAMesh(f'the file has more than {MOST_BYTES:,} bytes')
+        raise _too_large()
     return data
+
+
+def _too_large() -> NotAMesh:
+    return NotAMesh(f'the file has more than {MOST_BYTES:,} bytes')
 
 
 def model_of_parts(parts: Sequence[Part], scale: Exact, rounded: bool, keep_triangles: bool, repair: bool = False,

@@ -11,6 +11,7 @@ from .joined_sets import JoinedSets
 from .linked_halves import LinkedHalves
 from .model import Model
 from .free_numbers import FreeNumbers, numbers_of
+from .solids_apart import solids_apart
 from .spanning_tree import Tree, spanning_trees
 
 
@@ -22,7 +23,7 @@ def script_of(model: Model, beside: Sequence[Model] = ()) -> List[str]:
     """
     free = {kind: FreeNumbers(kind, (number for held in (model, *beside) for number in numbers_of(held)[kind]))
             for kind in ('face', 'loop', 'edge')}
-    return [line for solid in model.solids for line in solid_script(model.only(solid), free)]
+    return [line for alone in solids_apart(model) for line in solid_script(alone, free)]
 
 
 def solid_script(model: Model, free: Dict[str, FreeNumbers]) -> List[str]:

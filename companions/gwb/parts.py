@@ -10,7 +10,8 @@ from .plane_figures import Exact
 # An outline and then rings, as places of points.
 Polygon = List[List[int]]
 
-MOST_POLYGONS = 1_000_000
+# 1,000,000 edges, the most that a model has, are those of 666,666 triangles.
+MOST_POLYGONS = 700_000
 
 
 class NotAMesh(CompanionError):
@@ -64,6 +65,6 @@ class Gathered:
 
 
 def require_few(polygons: int) -> None:
-    """Raises NotAMesh where there are more polygons than a model can have faces."""
+    """Raises NotAMesh where there are more polygons than a model has room for."""
     if polygons > MOST_POLYGONS:
-        raise NotAMesh(f'it has more than {MOST_POLYGONS:,} faces, and a model can have no more')
+        raise NotAMesh(f'it has more than {MOST_POLYGONS:,} faces, and a model has room for 1,000,000 edges')

@@ -5,12 +5,18 @@ from typing import Iterator, List, Tuple
 
 from .parts import NotAMesh
 
+_LONGEST, _MOST = 10_000_000, 6_000_000
+_MOST_TEXT = 100_000_000
+
 
 def text_lines(data: bytes) -> Iterator[str]:
     """The lines of a file in UTF-8. Raises NotAMesh at a byte that is no text."""
     lines = io.TextIOWrapper(io.BytesIO(data), encoding='utf-8-sig')
     try:
-        yield from lines
+        for number, line in enumerate(iter(lambda: lines.readline(_LONGEST), '')):
+            if len(line) == _LONGEST or number == _MOST:
+                raise NotAMesh(f'it has more than {_MOST:,} lines, or one of {_LONGEST:,} bytes or more')
+            yield line
     except UnicodeDecodeError:
         raise NotAMesh('it has bytes that are no text') from None
 
@@ -21,7 +27,9 @@ def words_of_lines(data: bytes) -> Iterator[List[str]]:
 
 
 def whole_text(data: bytes) -> str:
-    """The text of a file in UTF-8. Raises NotAMesh, with the place, where it is none."""
+    """The text of a file in UTF-8. Raises NotAMesh, with the place, where it is none, and where it has more than 100,000,000 bytes."""
+    if len(data) > _MOST_TEXT:
+        raise NotAMesh(f'it has more than {_MOST_TEXT:,} bytes')
     try:
         return data.decode('utf-8-sig')
     except UnicodeDecodeError as error:

@@ -2,7 +2,8 @@
 
 import io
 import zipfile
-from typing import Dict, Iterator, List, NamedTuple, Optional, Tuple
+from graphlib import CycleError, TopologicalSorter
+from typing import Callable, Dict, Iterator, List, NamedTuple, Optional
 
 from .appearance import Appearance, Colour, colour_of
 from .exact_numbers import Numbers
@@ -13,7 +14,7 @@ from .units import millimetres_of, unit_notes
 from .xml_parts import Attributes, XmlReader
 
 _MOST_BYTES = 400_000_000
-_MOST_ITEMS = 100_000
+_MOST_ITEMS = 200_000
 _ROOT_TYPE = '/3dmodel'
 
 
@@ -44,45 +45,43 @@ class _Reader:
         self._colours: Dict[str, List[Colour]] = {}
         self._group: List[Colour] = []
         self._object = _Object(Appearance(), None)
+        self._takes: Dict[str, Callable[[Attributes], None]] = {
+            'vertex': self._vertex, 'triangle': self._triangle, 'model': self._model, 'object': self._begin_object, 'item': self._item,
+            'component': self._component, 'basematerials': self._colours_begin, 'colorgroup': self._colours_begin, 'base': self._base,
+            'color': self._color}
 
     def begin(self, name: str, words: Attributes) -> None:
         """An element begins."""
-        take = getattr(self, f'_begin_{name}', None)
-        if take is not None:
-            take(words)
+        if name in self._takes:
+            self._takes[name](words)
 
-    def end(self, name: str, text: str) -> None:
-        """An element ends; nothing is to be done."""
-
-    def _begin_model(self, words: Attributes) -> None:
+    def _model(self, words: Attributes) -> None:
         self.unit = words.get('unit', 'millimeter')
 
-    def _begin_basematerials(self, words: Attributes) -> None:
+    def _colours_begin(self, words: Attributes) -> None:
         self._group = self._colours.setdefault(words['id'], [])
 
-    _begin_colorgroup = _begin_basematerials
-
-    def _begin_base(self, words: Attributes) -> None:
+    def _base(self, words: Attributes) -> None:
         self._group.append(colour_of(words['displaycolor']))
 
-    def _begin_color(self, words: Attributes) -> None:
+    def _color(self, words: Attributes) -> None:
         self._group.append(colour_of(words['color']))
 
     def _begin_object(self, words: Attributes) -> None:
         colour = self._colour(words.get('pid'), words.get('pindex', '0'))
         self._object = self.objects[words['id']] = _Object(Appearance(words.get('name', ''), colour), words.get('pid'))
 
-    def _begin_vertex(self, words: Attributes) -> None:
+    def _vertex(self, words: Attributes) -> None:
         self._object.mesh.points.append(self._numbers.point([words['x'], words['y'], words['z']]))
 
-    def _begin_triangle(self, words: Attributes) -> None:
+    def _triangle(self, words: Attributes) -> None:
         colour = self._colour(words.get('pid', self._object.material), words['p1']) if 'p1' in words else None
         self._object.mesh.add([int(words['v1']), int(words['v2']), int(words['v3'])], colour)
 
-    def _begin_component(self, words: Attributes) -> None:
+    def _component(self, words: Attributes) -> None:
         self._object.uses.append(self._use(words))
 
-    def _begin_item(self, words: Attributes) -> None:
+    def _item(self, words: Attributes) -> None:
         if len(self.items) >= _MOST_ITEMS:
             raise NotAMesh(f'it has more than {_MOST_ITEMS:,} items')
         self.items.append(self._use(words))
@@ -113,19 +112,16 @@ def three_mf_parts(data: bytes) -> Iterator[Part]:
         _read(package, _model_name(package), reader)
     factor = millimetres_of(reader.unit)
     scaled = Placement((factor, 0, 0), (0, factor, 0), (0, 0, factor), (0, 0, 0))
-    polygons = 0
+    _require_few_uses(reader)
     for use in _expanded(reader):
-        held = reader.objects[use.object]
-        polygons += len(held.mesh.polygons)
-        require_few(polygons)
-        yield _part(held, scaled.after(use.placement))._replace(notes=unit_notes(reader.unit))
+        yield _part(reader.objects[use.object], scaled.after(use.placement))._replace(notes=unit_notes(reader.unit))
 
 
 def _read(package: zipfile.ZipFile, name: str, reader: _Reader) -> None:
     if package.getinfo(name).file_size > _MOST_BYTES:
         raise NotAMesh(f'{name} in it has more than {_MOST_BYTES:,} bytes')
     with package.open(name) as file:
-        XmlReader(reader.begin, reader.end, _MOST_BYTES).read(file)
+        XmlReader(reader.begin, None, _MOST_BYTES).read(file)
 
 
 def _model_name(package: zipfile.ZipFile) -> str:
@@ -139,28 +135,42 @@ def _model_name(package: zipfile.ZipFile) -> str:
 
     if '_rels/.rels' in package.namelist():
         with package.open('_rels/.rels') as file:
-            XmlReader(begin, lambda name, text: None, _MOST_BYTES // 100).read(file)
+            XmlReader(begin, None, _MOST_BYTES // 100).read(file)
     wanted = [name for name in found if name in names] or names
     if not wanted:
         raise NotAMesh('there is no model in the package')
     return wanted[0]
 
 
+def _require_few_uses(reader: _Reader) -> None:
+    """Raises NotAMesh where an object that is used isn't there, components go round, or polygons or uses are too many, all uses counted."""
+    within = {number: [use.object for use in held.uses] for number, held in reader.objects.items()}
+    within[''] = [use.object for use in reader.items]
+    uses: Dict[str, int] = {}
+    polygons: Dict[str, int] = {}
+    try:
+        for number in TopologicalSorter(within).static_order():
+            if number not in within:
+                raise NotAMesh(f'object {number[:20]} is used, and is not there')
+            own = len(reader.objects[number].mesh.polygons) if number else 0
+            uses[number] = 1 + sum(uses[other] for other in within[number])
+            polygons[number] = own + sum(polygons[other] for other in within[number])
+    except CycleError as error:
+        raise NotAMesh(f'the components of object {error.args[1][0][:20]} go round in a circle') from None
+    require_few(polygons[''])
+    if uses[''] > _MOST_ITEMS:
+        raise NotAMesh(f'objects are used more than {_MOST_ITEMS:,} times')
+
+
 def _expanded(reader: _Reader) -> Iterator[_Use]:
-    """The objects with meshes that the items and the components below them use, in order. Components that go round are refused."""
-    waiting: List[Tuple[_Use, int]] = [(use, 0) for use in reversed(reader.items)]
-    steps = 0
+    """The objects with meshes that the items and the components below them use, in order."""
+    waiting = list(reversed(reader.items))
     while waiting:
-        use, depth = waiting.pop()
-        steps += 1
-        if use.object not in reader.objects:
-            raise NotAMesh(f'object {use.object[:20]} is used, and is not there')
-        if depth > len(reader.objects) or steps > 10 * _MOST_ITEMS:
-            raise NotAMesh(f'the components of object {use.object[:20]} go round, or are more than {10 * _MOST_ITEMS:,}')
+        use = waiting.pop()
         held = reader.objects[use.object]
         if held.mesh.polygons:
             yield use
-        waiting += [(_Use(part.object, use.placement.after(part.placement)), depth + 1) for part in reversed(held.uses)]
+        waiting += [_Use(part.object, use.placement.after(part.placement)) for part in reversed(held.uses)]
 
 
 def _part(held: _Object, placement: Placement) -> Part:

@@ -255,6 +255,46 @@ class Touching(InFiles):
         self.accepted(back)
 
 
+class Nothing(InFiles):
+    """Parts and faces of which nothing is left: said, and the status is 1."""
+
+    def said(self, status, *lines, data, words=()):
+        outcome = run('import', *words, self.file(data))
+        self.assertEqual((outcome.status, outcome.err.splitlines()), (status, [f'gwb-import: {line}' for line in lines]))
+        return outcome.out
+
+    def test_a_part_that_rounding_takes_away(self):
+        small = [(x / 100, y / 100, z / 100) for x, y, z in TETRAHEDRON]
+        said = ['points were moved by 0.06 at most', '4 polygons of fewer than three different corners left out']
+        gone = 'warning: part {} comes to nothing and is left out: no face of it keeps three corners'
+        self.assertEqual(self.said(1, *said, gone.format(1), data=off(small, SIDES), words=['--round']), '')
+        both = 'o pan\n' + obj(TETRAHEDRON, SIDES) + 'o lid\n' + obj(small, [(a + 4, b + 4, c + 4) for a, b, c in SIDES])
+        out = self.said(1, *said, gone.format('2 (lid)'), data=both, words=['--round'])
+        self.assertIn('# solid 1 name "pan"', out)
+        self.assertNotIn('"lid"', out)
+
+    def test_a_part_that_rounding_flattens(self):
+        self.said(1, 'points were moved by 0.4 at most', '2 polygons of fewer than three different corners left out', 'warning: solid 1 has no volume',
+                  data=off([(0, 0, 0), (6, 0, 0), (0, 6, 0), ('0', 0, '0.4')], SIDES), words=['--round'])
+
+    def test_a_transform_of_zeros(self):
+        item = '<item objectid="1"/><item objectid="1" transform="0 0 0 0 0 0 0 0 0 0 0 0"/>'
+        self.said(1, '4 polygons of fewer than three different corners left out',
+                  'warning: part 2 comes to nothing and is left out: no face of it keeps three corners', data=three_mf(TETRAHEDRON, SIDES, item))
+
+    def test_faces_on_a_line(self):
+        line = [(0, 0, 0), (1, 0, 0), (2, 0, 0)]
+        self.refuse('open edge', off(line, [(0, 1, 2)]))
+        self.said(1, 'warning: 2 faces have no area: face 1 has no area (--repair mends what can be mended)', 'warning: solid 1 has no volume',
+                  data=off(line, [(0, 1, 2), (2, 1, 0)]))
+
+    def test_bent_faces(self):
+        points, faces = box((0, 0, 0), (4, 4, 4), 0)
+        points[6] = (4, 4, 5)
+        self.said(1, "warning: face 2 isn't flat: vertex 6 lies off its plane (--repair mends what can be mended)",
+                  data=off(points, [face[0] for face in faces]))
+
+
 class Refused(InFiles):
     """What is no closed surface, and damaged files."""
 
