@@ -3,6 +3,7 @@
 from typing import Callable, Dict, Iterator, List, NamedTuple, Optional, Tuple
 
 from .appearance import Appearance, Colour, colour_of_parts
+from .errors import CompanionError
 from .exact_numbers import Numbers, shortened
 from .flat_face import ExactVector
 from .parts import Gathered, NotAMesh, Part
@@ -30,6 +31,8 @@ def obj_parts(data: bytes, beside: Beside) -> Iterator[Part]:
             reader.read(words)
         except ValueError:
             raise NotAMesh(f'line {number} can\'t be read: {shortened(" ".join(words))}') from None
+        except CompanionError as error:
+            raise NotAMesh(f'line {number}: {error}') from None
     for held in reader.objects:
         colour = reader.one_colour(held.gathered)
         looks = {} if colour else held.gathered.looks
@@ -43,7 +46,7 @@ def _joined(lines: Iterator[Tuple[int, List[str]]]) -> Iterator[Tuple[int, List[
     for number, words in lines:
         begun += words
         if begun[-1].endswith('\\'):
-            begun[-1] = begun[-1][:-1]
+            begun[-1:] = [begun[-1][:-1]] if len(begun[-1]) > 1 else []
         else:
             yield number, begun
             begun = []

@@ -9,8 +9,7 @@ from .triangulation import triangulate
 from .vectors import ZERO, flat_axes
 
 Repairs = Dict[str, int]
-TRIANGULATED, DROPPED, TURNED, DOUBLED = ('that were not flat cut into triangles', 'without an area dropped', 'turned',
-                                          'that were there twice left out')
+TRIANGULATED, DROPPED, TURNED, DOUBLED = 'bent, cut into triangles', 'without an area, dropped', 'turned', 'there twice, left out once'
 
 
 def repaired(soup: Soup, repairs: Repairs) -> Soup:
