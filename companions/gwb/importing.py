@@ -13,7 +13,7 @@ from .exact_numbers import NotANumber, exact_or_ratio, told
 from .free_numbers import from_least, sorted_model
 from .grid import Grid
 from .inversion import script_of
-from .measures import six_volume, why_unfit
+from .measures import anchor, normal, why_unfit
 from .model import Face, Loop, Model
 from .nesting import Enclosures, Shell, nests
 from .parts import NotAMesh, Part
@@ -24,6 +24,7 @@ from .repair import DROPPED, Repairs, count, repaired
 from .shells import shells_of
 from .soup import soup_of
 from .surfaces import Surface, arealess, model_of_surfaces, surface_of, with_joined_faces
+from .vectors import ZERO, dot
 
 PROGRAM = 'gwb-import'
 MOST_BYTES = 300_000_000
@@ -91,11 +92,11 @@ def model_of_parts(parts: Sequence[Part], scale: Exact, rounded: bool, keep_tria
             if surface is not None]
     model = model_of_surfaces([surface for _, surface in held])
     stage('looking for shells')
-    shells, unfit = shells_of(model), _unfit(model)
-    work.name_unfit(unfit)
-    model = _turned_right(model, shells, unfit)
-    groups = list(_solids(model, [part for part, _ in held], shells, unfit))
-    work.name_empty(model, groups)
+    shells, measured = shells_of(model), _Measured(model)
+    work.name_unfit(measured.unfit)
+    model = _turned_right(model, shells, measured)
+    groups = list(_solids(model, [part for part, _ in held], shells, measured))
+    work.name_empty(groups, measured)
     looks = _looks(held, groups, model)
     said = [*dict.fromkeys(note for part in parts for note in part.notes), *work.said()]
     return Imported(_with_solids(model, groups), work.grid.square_moved, looks, said, work.wrong)
@@ -144,9 +145,9 @@ class _Work:
                 hint = '' if self._repair else ' (--repair mends what can be mended)'
                 self.wrong.append(f'{len(held)} faces {what}: {held[0]}{hint}' if len(held) > 1 else held[0] + hint)
 
-    def name_empty(self, model: Model, groups: 'Sequence[_Solid]') -> None:
+    def name_empty(self, groups: 'Sequence[_Solid]', measured: '_Measured') -> None:
         """Says which solids have no volume."""
-        held = [solid for solid, group in enumerate(groups, 1) if six_volume(model, group.faces) == 0]
+        held = [solid for solid, group in enumerate(groups, 1) if measured.volume(group.faces) == 0]
         if held:
             self.wrong.append(f'solid {held[0]} has no volume' + (f', and {len(held) - 1} more have none' if held[1:] else ''))
 
@@ -158,32 +159,49 @@ class _Work:
         return lines
 
 
-def _unfit(model: Model) -> Dict[int, str]:
-    """Why faces aren't plain flat ones, of those that aren't."""
-    found = ((face, why_unfit(model, face)) for face in model.faces)
-    return {face: why for face, why in found if why is not None}
+class _Measured:
+    """What is reckoned of each face once: why it isn't plain and flat, of those that aren't, and its share of six times the volume."""
+
+    def __init__(self, model: Model) -> None:
+        self.unfit: Dict[int, str] = {}
+        self._volumes: Dict[int, int] = {}
+        for face, row in model.faces.items():
+            across = normal(model, face)
+            self._volumes[face] = dot(across, anchor(model, face))
+            is_triangle = not row.rings and len(model.loops[row.outer].halves) == 3
+            why = None if is_triangle and across != ZERO else why_unfit(model, face)
+            if why is not None:
+                self.unfit[face] = why
+
+    def volume(self, faces: Sequence[int]) -> int:
+        """Six times the volume that faces enclose."""
+        return sum(self._volumes[face] for face in faces)
+
+    def are_fit(self, faces: Sequence[int]) -> bool:
+        """Whether all of the faces are plain flat ones."""
+        return not self.unfit or self.unfit.keys().isdisjoint(faces)
 
 
-def _turned_right(model: Model, shells: Dict[int, List[Shell]], unfit: Dict[int, str]) -> Model:
+def _turned_right(model: Model, shells: Dict[int, List[Shell]], measured: _Measured) -> Model:
     """Each outermost shell that is inside out is turned, with all shells within it."""
     turned: Set[int] = set()
     for held in shells.values():
-        turned.update(_wrong_way(model, held, unfit))
+        turned.update(_wrong_way(model, held, measured))
     return _with_turned(model, turned) if turned else model
 
 
-def _wrong_way(model: Model, shells: Sequence[Shell], unfit: Dict[int, str]) -> Iterator[int]:
+def _wrong_way(model: Model, shells: Sequence[Shell], measured: _Measured) -> Iterator[int]:
     """The faces of the shells of one solid that are to be turned."""
-    around = _around(model, shells, unfit)
-    wrong = {place for place, outer in enumerate(around) if not outer and six_volume(model, shells[place]) < 0}
+    around = _around(model, shells, measured)
+    wrong = {place for place, outer in enumerate(around) if not outer and measured.volume(shells[place]) < 0}
     for place, outer in enumerate(around):
         if place in wrong or wrong.intersection(outer):
             yield from shells[place]
 
 
-def _around(model: Model, shells: Sequence[Shell], unfit: Dict[int, str]) -> List[List[int]]:
+def _around(model: Model, shells: Sequence[Shell], measured: _Measured) -> List[List[int]]:
     """For each shell those in which it lies; a shell with a face that isn't plain and flat has none in it that is known of."""
-    flat = [place for place, shell in enumerate(shells) if unfit.keys().isdisjoint(shell)] if len(shells) > 1 else []
+    flat = [place for place, shell in enumerate(shells) if measured.are_fit(shell)] if len(shells) > 1 else []
     enclosures = Enclosures(model, [shells[place] for place in flat])
     around: List[List[int]] = [[] for _ in shells]
     for inner, place in enumerate(flat):
@@ -205,19 +223,20 @@ class _Solid(NamedTuple):
     faces: List[int]
 
 
-def _solids(model: Model, parts: Sequence[Part], shells: Dict[int, List[Shell]], unfit: Dict[int, str]) -> Iterator[_Solid]:
+def _solids(model: Model, parts: Sequence[Part], shells: Dict[int, List[Shell]],
+            measured: _Measured) -> Iterator[_Solid]:
     """The solids that the file means. Where it doesn't say them, each shell that holds material is one, with the hollows in it."""
     groups: Dict[Hashable, _Solid] = {}
     for place, (part, number) in enumerate(zip(parts, model.solids)):
         held = shells[number]
-        found = _groups(model, number, held, unfit) if part.parted and len(held) > 1 else [[face for shell in held for face in shell]]
+        found = _groups(model, number, held, measured) if part.parted and len(held) > 1 else [[face for shell in held for face in shell]]
         for group, faces in enumerate(found):
             groups.setdefault(part.solid or (place, group), _Solid(place, [])).faces.extend(faces)
     return iter(groups.values())
 
 
-def _groups(model: Model, solid: int, shells: Sequence[Shell], unfit: Dict[int, str]) -> Iterator[List[int]]:
-    if any(not unfit.keys().isdisjoint(shell) for shell in shells):
+def _groups(model: Model, solid: int, shells: Sequence[Shell], measured: _Measured) -> Iterator[List[int]]:
+    if not all(map(measured.are_fit, shells)):
         return iter(shells)
     return ([face for shell in (nest.outer, *nest.voids) for face in shell] for nest in nests(model, solid, shells))
 

@@ -12,7 +12,7 @@ TouchedEdges = Dict[int, List[int]]
 def touched_edges(model: Model) -> TouchedEdges:
     """The edges amid which other vertices of a face of theirs lie, each with one vertex for each such point, on its way."""
     touching: Dict[int, Dict[Vector, int]] = {}
-    for face in model.faces:
+    for face in (face for face, row in model.faces.items() if row.rings or len(model.loops[row.outer].halves) > 3):
         vertices = BoxIndex({vertex: box_of([model.vertices[vertex]]) for vertex in model.face_vertices(face)})
         for half in model.face_halves(face):
             start, end = model.point(half), model.point(-half)

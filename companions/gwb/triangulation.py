@@ -25,6 +25,10 @@ def face_triangles(model: Model, face: int, touched: TouchedEdges) -> List[Trian
     The edges of the face are given a corner where they are touched. At a point that several vertices of the face have,
     triangles may take either.
     """
+    halves = model.loops[model.faces[face].outer].halves
+    if len(halves) == 3 and not model.faces[face].rings and not any(abs(half) in touched for half in halves):
+        a, b, c = map(model.tail, halves)
+        return [(c, a, b)]
     outline, *rings = _flat_loops(model, face, touched)
     try:
         return triangulate(outline, rings)
