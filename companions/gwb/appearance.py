@@ -5,6 +5,7 @@ A comment is `# solid 3 name "Lid" colour #FF8000`, with either of the two or bo
 
 import json
 import re
+from collections import Counter
 from typing import Dict, Iterable, Iterator, Mapping, NamedTuple, Optional, Tuple
 
 Colour = Tuple[int, int, int]
@@ -66,6 +67,14 @@ def comments(appearances: Appearances) -> Iterator[str]:
         if look != _PLAIN:
             name = f' name {json.dumps(look.name[:_LONGEST])}' if look.name else ''
             yield f'# {kind} {number}{name}' + (f' colour {hexadecimal(look.colour)}' if look.colour else '')
+
+
+def unique_names(numbers: Iterable[int], appearances: Appearances, plain: str) -> Dict[int, str]:
+    """A name for each solid: its own, with its number behind it where others have it too, or the plain one with its number."""
+    names = {number: look_of(appearances, 'solid', number).name for number in numbers}
+    times = Counter(names.values())
+    return {number: f'{plain}{number}' if not name else f'{name} (solid {number})' if times[name] > 1 or _NUMBERED.fullmatch(name) else name
+            for number, name in names.items()}
 
 
 def appearances_in(lines: Iterable[str]) -> Dict[Thing, Appearance]:

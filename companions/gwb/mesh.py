@@ -1,21 +1,32 @@
 """Writes a listing as a mesh of triangles: OFF, OBJ, STL or 3MF."""
 
+import argparse
+import os
+import sys
+from dataclasses import dataclass
+from functools import cached_property
 from math import sqrt
-from typing import Callable, Dict, Iterator, List, NamedTuple, Optional, Sequence, Tuple
+from typing import Callable, Dict, Iterator, List, Optional, Sequence, Tuple
 
+from .appearance import NO_APPEARANCES, Appearances, Colour, hexadecimal, look_of, unique_names
 from .command_line import OK, filled_model, listing_parser, run, write_bytes
 from .inside_out import warn_of_inside_out
 from .measures import require_fit
 from .model import Model
-from .three_mf import three_mf_bytes
+from .names_of_script import add_names, names_of
+from .three_mf import PLAIN, three_mf_bytes
 from .touched_edges import touched_edges
+from .touching_solids import touching_solids
 from .triangulation import Triangle, face_triangles
 from .vectors import Vector, cross, subtract
 
 PROGRAM = 'gwb-mesh'
+# Forms that don't say which triangles are a solid.
+_WITHOUT_SOLIDS = ('off', 'stl')
 
 
-class Mesh(NamedTuple):
+@dataclass(frozen=True)
+class Mesh:
     """The triangles of each face, over vertices of the model.
 
     Vertices of one solid at one point count as one, so that the mesh is closed where the solid touches itself too.
@@ -24,6 +35,17 @@ class Mesh(NamedTuple):
     model: Model
     faces: Dict[int, List[Triangle]]
 
+    @cached_property
+    def _by_solid(self) -> Dict[int, List[int]]:
+        held: Dict[int, List[int]] = {solid: [] for solid in self.model.solids}
+        for face, row in self.model.faces.items():
+            held[row.solid].append(face)
+        return held
+
+    def faces_of(self, solid: int) -> List[int]:
+        """The faces of one solid, rising."""
+        return self._by_solid[solid]
+
     @property
     def triangles(self) -> List[Triangle]:
         """All triangles, by face."""
@@ -31,7 +53,7 @@ class Mesh(NamedTuple):
 
     def triangles_of(self, solid: int) -> List[Triangle]:
         """The triangles of one solid, by face."""
-        return [triangle for face in self.model.faces_of(solid) for triangle in self.faces[face]]
+        return [triangle for face in self.faces_of(solid) for triangle in self.faces[face]]
 
     @property
     def vertices(self) -> List[int]:
@@ -67,21 +89,39 @@ def _off_lines(mesh: Mesh) -> Iterator[str]:
         yield f'3 {places[a]} {places[b]} {places[c]}'
 
 
-def obj_text(mesh: Mesh) -> str:
-    """The mesh as Wavefront OBJ, with an object for each solid and a group for each face."""
-    return '\n'.join(_obj_lines(mesh)) + '\n'
+def obj_text(mesh: Mesh, looks: Appearances = NO_APPEARANCES, materials: Optional[str] = None) -> str:
+    """The mesh as Wavefront OBJ, with an object for each solid and a group for each face, and the names of solids that are given.
+
+    With the name of a file of materials, whose text is mtl_text, solids and faces have their colours too.
+    """
+    return '\n'.join(_obj_lines(mesh, looks, materials)) + '\n'
 
 
-def _obj_lines(mesh: Mesh) -> Iterator[str]:
+def mtl_text(looks: Appearances) -> str:
+    """The materials of all colours, for obj_text."""
+    colours = dict.fromkeys(look.colour for look in looks.values() if look.colour is not None)
+    blocks = ['newmtl {}\nKd {:.4f} {:.4f} {:.4f}\n'.format(_material(colour), *(part / 255 for part in colour)) for colour in colours]
+    return ''.join([f'newmtl {PLAIN}\nKd 0.8 0.8 0.8\n', *blocks])
+
+
+def _material(colour: Optional[Colour]) -> str:
+    return PLAIN if colour is None else f'colour_{hexadecimal(colour)[1:]}'
+
+
+def _obj_lines(mesh: Mesh, looks: Appearances, materials: Optional[str]) -> Iterator[str]:
+    if materials is not None:
+        yield f'mtllib {materials}'
     places = {vertex: place for place, vertex in enumerate(mesh.vertices, 1)}
     for vertex in mesh.vertices:
         yield 'v {} {} {}'.format(*mesh.model.vertices[vertex])
+    names = unique_names(mesh.model.solids, looks, 'solid_')
     for solid in mesh.model.solids:
-        yield f'o solid_{solid}'
-        for face in mesh.model.faces_of(solid):
+        yield 'o ' + ' '.join(names[solid].split())
+        for face in mesh.faces_of(solid):
             yield f'g face_{face}'
-            for a, b, c in mesh.faces[face]:
-                yield f'f {places[a]} {places[b]} {places[c]}'
+            if materials is not None:
+                yield f"usemtl {_material(look_of(looks, 'face', face).colour or look_of(looks, 'solid', solid).colour)}"
+            yield from ('f {} {} {}'.format(*(places[vertex] for vertex in triangle)) for triangle in mesh.faces[face])
 
 
 def stl_text(mesh: Mesh) -> str:
@@ -111,7 +151,7 @@ def _stl_facet(points: Sequence[Vector]) -> Iterator[str]:
 
 FORMS: Dict[str, Callable[[Mesh], bytes]] = {
     'off': lambda mesh: off_text(mesh).encode('ascii'),
-    'obj': lambda mesh: obj_text(mesh).encode('ascii'),
+    'obj': lambda mesh: obj_text(mesh).encode('utf-8'),
     'stl': lambda mesh: stl_text(mesh).encode('ascii'),
     '3mf': three_mf_bytes,
 }
@@ -121,11 +161,38 @@ def work(words: Optional[Sequence[str]]) -> int:
     """Reads a listing and writes its mesh."""
     parser = listing_parser(PROGRAM, 'Writes a listing of gwb as a mesh of triangles, triangulated exactly.')
     parser.add_argument('--form', choices=FORMS, default='off', help='the form of the mesh (default: off)')
+    parser.add_argument('--materials', metavar='FILE', help='with --form obj: write the colours to this file, which the mesh names')
+    add_names(parser)
     options = parser.parse_args(words)
+    if options.materials is not None and options.form != 'obj':
+        parser.error('argument --materials: it goes with --form obj')
+    looks = names_of(options)
     mesh = mesh_of(filled_model(options))
-    write_bytes(FORMS[options.form](mesh))
+    write_bytes(_written(mesh, options, looks))
     warn_of_inside_out(PROGRAM, mesh.model)
+    if options.form in _WITHOUT_SOLIDS:
+        warn_of_touching(mesh.model, options.form)
     return OK
+
+
+def _written(mesh: Mesh, options: argparse.Namespace, looks: Appearances) -> bytes:
+    """The mesh in the form that the words want; the file of materials is written on the way."""
+    if options.form == '3mf':
+        return three_mf_bytes(mesh, looks)
+    if options.form != 'obj':
+        return FORMS[options.form](mesh)
+    if options.materials is not None:
+        with open(options.materials, 'w', encoding='utf-8') as file:
+            file.write(mtl_text(looks))
+    return obj_text(mesh, looks, options.materials and os.path.basename(options.materials)).encode('utf-8')
+
+
+def warn_of_touching(model: Model, form: str) -> None:
+    """One line on standard error where two solids touch, in a form that doesn't keep solids apart."""
+    pair = next(touching_solids(model), None)
+    if pair is not None:
+        print('{}: warning: solids {} and {} touch or overlap, and {} does not keep solids apart: many programs will read one wrong body. '
+              '--solid writes each alone, --form 3mf keeps them apart'.format(PROGRAM, *pair, form.upper()), file=sys.stderr)
 
 
 def main(words: Optional[Sequence[str]] = None) -> int:

@@ -1,16 +1,21 @@
 """Writes a listing as STEP AP214 with advanced boundary representations.
 
 Each shell that holds material is a solid; one that bounds a hollow is a void of the solid around it. Rings are further bounds
-of their faces. Solids, faces, edges and vertices have gwb's numbers as names.
+of their faces. Solids and faces have the names that are known of them, else gwb's numbers, as edges and vertices have.
 """
 
+from functools import partial
 from typing import Callable, Dict, Hashable, List, Optional, Sequence
 
-from .command_line import OK, listing_parser, run, filled_model
+from .appearance import NO_APPEARANCES, Appearances, Colour, look_of, unique_names
+from .command_line import OK, filled_model, listing_parser, run
 from .inside_out import warn_of_inside_out
 from .measures import normal, require_fit
 from .model import Model
+from .names_of_script import add_names, names_of
 from .nesting import Nest, nests
+from .shells import shells_of
+from .step_file import quoted
 from .vectors import Vector, negative, reduced, subtract
 
 PROGRAM = 'gwb-step'
@@ -57,9 +62,11 @@ def _references(items: Sequence[str]) -> str:
 class _Shapes:
     """The geometry and topology of a model as entities."""
 
-    def __init__(self, model: Model, entities: _Entities) -> None:
-        self._model = model
+    def __init__(self, model: Model, entities: _Entities, looks: Appearances) -> None:
+        self._model, self._looks = model, looks
+        self._names = unique_names(model.solids, looks, 'solid ')
         self._put, self._once = entities.put, entities.once
+        self.styled: List[str] = []
 
     def direction(self, vector: Vector) -> str:
         """A unit vector, given by a whole one."""
@@ -95,7 +102,26 @@ class _Shapes:
         sense = 'F' if turned else 'T'
         bounds = [self._put(f"FACE_OUTER_BOUND('',{self._loop(outer)},.{sense}.)")]
         bounds += [self._put(f"FACE_BOUND('',{self._loop(ring)},.{sense}.)") for ring in rings]
-        return self._put(f"ADVANCED_FACE('face {face}',{_references(bounds)},{plane},.T.)")
+        look = look_of(self._looks, 'face', face)
+        made = self._put(f'ADVANCED_FACE({quoted(look.name or f"face {face}")},{_references(bounds)},{plane},.T.)')
+        self._paint(made, look.colour)
+        return made
+
+    def _paint(self, item: str, colour: Optional[Colour]) -> None:
+        """Gives a solid or a face its colour, where it has one."""
+        if colour is not None:
+            style = self._once(('style', colour), partial(self._style, colour))
+            self.styled.append(self._put(f"STYLED_ITEM('',({style}),{item})"))
+
+    def _style(self, colour: Colour) -> str:
+        red, green, blue = map(_real, colour)
+        shade = self._put(f"COLOUR_RGB('',{red},{green},{blue})")
+        fill = self._put(f"FILL_AREA_STYLE_COLOUR('',{shade})")
+        area = self._put(f"FILL_AREA_STYLE('',({fill}))")
+        surface = self._put(f'SURFACE_STYLE_FILL_AREA({area})')
+        side = self._put(f"SURFACE_SIDE_STYLE('',({surface}))")
+        usage = self._put(f'SURFACE_STYLE_USAGE(.BOTH.,{side})')
+        return self._put(f'PRESENTATION_STYLE_ASSIGNMENT(({usage}))')
 
     def _plane(self, face: int, turned: bool) -> str:
         first = self._model.loops[self._model.faces[face].outer].halves[0]
@@ -110,20 +136,28 @@ class _Shapes:
 
     def solid(self, number: int, nest: Nest) -> str:
         """A shell with material within, less its voids."""
-        outside = self._shell(nest.outer)
-        if not nest.voids:
-            return self._put(f"MANIFOLD_SOLID_BREP('solid {number}',{outside})")
-        voids = [self._put(f"ORIENTED_CLOSED_SHELL('',*,{self._shell(void, turned=True)},.F.)") for void in nest.voids]
-        return self._put(f"BREP_WITH_VOIDS('solid {number}',{outside},{_references(voids)})")
+        outside, name = self._shell(nest.outer), quoted(self._names[number])
+        if nest.voids:
+            voids = [self._put(f"ORIENTED_CLOSED_SHELL('',*,{self._shell(void, turned=True)},.F.)") for void in nest.voids]
+            made = self._put(f'BREP_WITH_VOIDS({name},{outside},{_references(voids)})')
+        else:
+            made = self._put(f'MANIFOLD_SOLID_BREP({name},{outside})')
+        self._paint(made, look_of(self._looks, 'solid', number).colour)
+        return made
 
 
-def _put_product(entities: _Entities, representation: str) -> None:
+def _real(part: int) -> str:
+    """A part of a colour from 0 to 255 as one of 1; three digits tell all 256 apart."""
+    return f'{part / 255:.4f}'
+
+
+def _put_product(entities: _Entities, representation: str, name: str) -> None:
     """What says that the shape is that of a part."""
     put = entities.put
     application = put("APPLICATION_CONTEXT('core data for automotive mechanical design processes')")
     put(f"APPLICATION_PROTOCOL_DEFINITION('international standard','automotive_design',2000,{application})")
     context = put(f"PRODUCT_CONTEXT('',{application},'mechanical')")
-    product = put(f"PRODUCT('gwb','gwb','',({context}))")
+    product = put(f"PRODUCT({quoted(name)},{quoted(name)},'',({context}))")
     put(f"PRODUCT_RELATED_PRODUCT_CATEGORY('part','',({product}))")
     formation = put(f"PRODUCT_DEFINITION_FORMATION('','',{product})")
     stage = put(f"PRODUCT_DEFINITION_CONTEXT('part definition',{application},'design')")
@@ -132,36 +166,48 @@ def _put_product(entities: _Entities, representation: str) -> None:
     put(f'SHAPE_DEFINITION_REPRESENTATION({shape},{representation})')
 
 
-def _put_context(entities: _Entities) -> str:
+def _accuracy(model: Model) -> str:
+    """How exact lengths are in the arithmetic of other programs, which has 16 digits: a millionth, or more for coordinates past 10**8."""
+    farthest = max(abs(part) for point in model.vertices.values() for part in point)
+    return f'1.E-{min(6, 14 - len(str(max(farthest - 1, 1)))):02}'
+
+
+def _put_context(entities: _Entities, accuracy: str) -> str:
     """The units, millimetres and radians, and how exact lengths are."""
     put = entities.put
     length = put('(LENGTH_UNIT()NAMED_UNIT(*)SI_UNIT(.MILLI.,.METRE.))')
     angle = put('(NAMED_UNIT(*)PLANE_ANGLE_UNIT()SI_UNIT($,.RADIAN.))')
     solid_angle = put('(NAMED_UNIT(*)SI_UNIT($,.STERADIAN.)SOLID_ANGLE_UNIT())')
-    exact = put(f"UNCERTAINTY_MEASURE_WITH_UNIT(LENGTH_MEASURE(1.E-06),{length},'distance_accuracy_value','')")
+    exact = put(f"UNCERTAINTY_MEASURE_WITH_UNIT(LENGTH_MEASURE({accuracy}),{length},'distance_accuracy_value','')")
     return put(f'(GEOMETRIC_REPRESENTATION_CONTEXT(3)GLOBAL_UNCERTAINTY_ASSIGNED_CONTEXT(({exact}))'
                f"GLOBAL_UNIT_ASSIGNED_CONTEXT(({length},{angle},{solid_angle}))REPRESENTATION_CONTEXT('',''))")
 
 
-def step_text(model: Model) -> str:
-    """The whole file; raises Unfit where a face isn't a plain flat one, or a shell no boundary of a solid."""
+def step_text(model: Model, looks: Appearances = NO_APPEARANCES) -> str:
+    """The whole file, with the names and colours of solids and faces that are given; raises Unfit where a face isn't a plain flat one, or
+    a shell no boundary of a solid."""
     require_fit(model)
     entities = _Entities()
-    shapes = _Shapes(model, entities)
-    items = [shapes.solid(solid, nest) for solid in model.solids for nest in nests(model, solid)]
+    shapes = _Shapes(model, entities, looks)
+    items = [shapes.solid(solid, nest) for solid, shells in shells_of(model).items() for nest in nests(model, solid, shells)]
     origin = entities.put("CARTESIAN_POINT('',(0.,0.,0.))")
     axes = f'{shapes.direction((0, 0, 1))},{shapes.direction((1, 0, 0))}'
     items.append(entities.put(f"AXIS2_PLACEMENT_3D('',{origin},{axes})"))
-    context = _put_context(entities)
-    _put_product(entities, entities.put(f"ADVANCED_BREP_SHAPE_REPRESENTATION('',{_references(items)},{context})"))
+    context = _put_context(entities, _accuracy(model))
+    shape = entities.put(f"ADVANCED_BREP_SHAPE_REPRESENTATION('',{_references(items)},{context})")
+    _put_product(entities, shape, (look_of(looks, 'solid', model.solids[0]).name if len(model.solids) == 1 else '') or 'gwb')
+    if shapes.styled:
+        entities.put(f"MECHANICAL_DESIGN_GEOMETRIC_PRESENTATION_REPRESENTATION('',{_references(shapes.styled)},{context})")
     return '\n'.join([_HEAD, *entities.lines, _FOOT])
 
 
 def work(words: Optional[Sequence[str]]) -> int:
     """Reads a listing and writes it as STEP."""
     parser = listing_parser(PROGRAM, 'Writes a listing of gwb as STEP AP214 (advanced boundary representation, in millimetres).')
-    model = filled_model(parser.parse_args(words))
-    print(step_text(model), end='')
+    add_names(parser)
+    options = parser.parse_args(words)
+    model = filled_model(options)
+    print(step_text(model, names_of(options)), end='')
     warn_of_inside_out(PROGRAM, model)
     return OK
 

@@ -196,4 +196,16 @@ def text_of(word: Any) -> str:
         return ''
     text = word[1:-1].replace("''", "'")
     text = re.sub(r'\\X2\\((?:[0-9A-F]{4})*)\\X0\\', lambda code: bytes.fromhex(code[1]).decode('utf-16-be', 'replace'), text)
-    return re.sub(r'\\X\\([0-9A-F]{2})', lambda code: chr(int(code[1], 16)), text).strip()
+    text = re.sub(r'\\X\\([0-9A-F]{2})', lambda code: chr(int(code[1], 16)), text)
+    return text.replace('\\\\', '\\').strip()
+
+
+def quoted(text: str) -> str:
+    r"""The text as a string in quotes, other letters than those of ASCII as `\X2\00FC\X0\`."""
+    plain = ''.join(letter if ' ' <= letter <= '~' else _coded(letter) for letter in text.replace('\\', '\\\\').replace("'", "''"))
+    return f"'{plain}'"
+
+
+def _coded(letter: str) -> str:
+    data = letter.encode('utf-16-be', 'replace')
+    return ' ' if letter < ' ' else f'\\X2\\{data.hex().upper()}\\X0\\'

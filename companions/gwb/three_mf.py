@@ -1,16 +1,21 @@
 """Writes a mesh as 3MF, a zip of XML (core specification 1.3): one object for each solid, in millimetres.
 
-The bytes are a function of the mesh alone: parts are stored as they are, in a fixed order and with a fixed date.
+The bytes are a function of the mesh, its names and its colours alone: parts are stored as they are, in a fixed order and with a fixed date.
 """
 
 from io import BytesIO
-from typing import TYPE_CHECKING, Iterator, List
+from typing import TYPE_CHECKING, Dict, Iterator, List
+from xml.sax.saxutils import quoteattr
 from zipfile import ZIP_STORED, ZipFile, ZipInfo
+
+from .appearance import NO_APPEARANCES, Appearances, Colour, hexadecimal, look_of
 
 if TYPE_CHECKING:
     from .mesh import Mesh
 
 MODEL_PART = '3D/3dmodel.model'
+# The material of solids that have no colour.
+PLAIN = 'plain'
 
 _HEAD = '<?xml version="1.0" encoding="UTF-8"?>'
 _TYPES = f"""{_HEAD}
@@ -27,26 +32,29 @@ _RELATIONS = f"""{_HEAD}
 _DATE = (1980, 1, 1, 0, 0, 0)
 
 
-def three_mf_bytes(mesh: 'Mesh') -> bytes:
-    """The mesh as a 3MF file."""
+def three_mf_bytes(mesh: 'Mesh', looks: Appearances = NO_APPEARANCES) -> bytes:
+    """The mesh as a 3MF file, with the names of solids and the colours of solids and faces that are given."""
     held = BytesIO()
     with ZipFile(held, 'w', ZIP_STORED) as package:
         for name, text in (('[Content_Types].xml', _TYPES), ('_rels/.rels', _RELATIONS),
-                           (MODEL_PART, '\n'.join(_model_lines(mesh)) + '\n')):
+                           (MODEL_PART, '\n'.join(_model_lines(mesh, looks)) + '\n')):
             part = ZipInfo(name, _DATE)
             part.create_system = 3
-            package.writestr(part, text.encode('ascii'))
+            package.writestr(part, text.encode('utf-8'))
     return held.getvalue()
 
 
-def _model_lines(mesh: 'Mesh') -> Iterator[str]:
+def _model_lines(mesh: 'Mesh', looks: Appearances) -> Iterator[str]:
     """The part that holds the objects, and the list of those to be built."""
     yield _HEAD
     yield '<model unit="millimeter" xml:lang="en-US" xmlns="http://schemas.microsoft.com/3dmanufacturing/core/2015/02">'
     yield '<resources>'
+    materials = _Materials(mesh, looks)
+    yield from materials.lines()
     for place, solid in enumerate(mesh.model.solids, 1):
-        yield f'<object id="{place}" type="model" name="solid {solid}"><mesh>'
-        yield from _mesh_lines(mesh, solid)
+        name = quoteattr(''.join(letter for letter in look_of(looks, 'solid', solid).name if letter >= ' ') or f'solid {solid}')
+        yield f'<object id="{place}" type="model" name={name}{materials.of_solid(solid)}><mesh>'
+        yield from _mesh_lines(mesh, solid, materials)
         yield '</mesh></object>'
     yield '</resources>'
     yield '<build>'
@@ -56,11 +64,43 @@ def _model_lines(mesh: 'Mesh') -> Iterator[str]:
     yield '</model>'
 
 
-def _mesh_lines(mesh: 'Mesh', solid: int) -> List[str]:
+class _Materials:
+    """The colours of a model as a group of materials; the last one is for solids without a colour some of whose faces have one."""
+
+    def __init__(self, mesh: 'Mesh', looks: Appearances) -> None:
+        self._mesh, self._looks = mesh, looks
+        held = (look_of(looks, kind, number).colour for kind, numbers in (('solid', mesh.model.solids), ('face', mesh.model.faces)) for number in numbers)
+        self._places: Dict[Colour, int] = {colour: place for place, colour in enumerate(dict.fromkeys(filter(None, held)))}
+        self._group = len(mesh.model.solids) + 1
+
+    def lines(self) -> Iterator[str]:
+        """The group, where there is a colour."""
+        if self._places:
+            yield f'<basematerials id="{self._group}">'
+            for colour in self._places:
+                yield f'<base name="{hexadecimal(colour)}" displaycolor="{hexadecimal(colour)}"/>'
+            yield f'<base name="{PLAIN}" displaycolor="#C0C0C0"/>'
+            yield '</basematerials>'
+
+    def of_solid(self, solid: int) -> str:
+        """The words of an object that give it its colour."""
+        colour = look_of(self._looks, 'solid', solid).colour
+        if colour is None and not any(look_of(self._looks, 'face', face).colour for face in self._mesh.faces_of(solid)):
+            return ''
+        return f' pid="{self._group}" pindex="{len(self._places) if colour is None else self._places[colour]}"'
+
+    def of_face(self, face: int) -> str:
+        """The words of a triangle that give it its colour."""
+        colour = look_of(self._looks, 'face', face).colour
+        return '' if colour is None else f' pid="{self._group}" p1="{self._places[colour]}"'
+
+
+def _mesh_lines(mesh: 'Mesh', solid: int, materials: _Materials) -> List[str]:
     """The vertices and triangles of one solid."""
-    triangles = mesh.triangles_of(solid)
-    used = sorted({vertex for triangle in triangles for vertex in triangle})
+    triangles = [(triangle, face) for face in mesh.faces_of(solid) for triangle in mesh.faces[face]]
+    used = sorted({vertex for triangle, _ in triangles for vertex in triangle})
     places = {vertex: place for place, vertex in enumerate(used)}
     corners = ('<vertex x="{}" y="{}" z="{}"/>'.format(*mesh.model.vertices[vertex]) for vertex in used)
-    sides = ('<triangle v1="{}" v2="{}" v3="{}"/>'.format(*(places[vertex] for vertex in triangle)) for triangle in triangles)
+    sides = ('<triangle v1="{}" v2="{}" v3="{}"{}/>'.format(*(places[vertex] for vertex in triangle), materials.of_face(face))
+             for triangle, face in triangles)
     return ['<vertices>', *corners, '</vertices>', '<triangles>', *sides, '</triangles>']

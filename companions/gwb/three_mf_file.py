@@ -10,6 +10,7 @@ from .exact_numbers import Numbers
 from .flat_face import ExactVector
 from .parts import Gathered, NotAMesh, Part, require_few
 from .placement import IN_PLACE, Placement
+from .three_mf import PLAIN
 from .units import millimetres_of, unit_notes
 from .xml_parts import Attributes, XmlReader
 
@@ -42,8 +43,8 @@ class _Reader:
         self.objects: Dict[str, _Object] = {}
         self.items: List[_Use] = []
         self._numbers = Numbers()
-        self._colours: Dict[str, List[Colour]] = {}
-        self._group: List[Colour] = []
+        self._colours: Dict[str, List[Optional[Colour]]] = {}
+        self._group: List[Optional[Colour]] = []
         self._object = _Object(Appearance(), None)
         self._takes: Dict[str, Callable[[Attributes], None]] = {
             'vertex': self._vertex, 'triangle': self._triangle, 'model': self._model, 'object': self._begin_object, 'item': self._item,
@@ -62,7 +63,7 @@ class _Reader:
         self._group = self._colours.setdefault(words['id'], [])
 
     def _base(self, words: Attributes) -> None:
-        self._group.append(colour_of(words['displaycolor']))
+        self._group.append(None if words.get('name') == PLAIN else colour_of(words['displaycolor']))
 
     def _color(self, words: Attributes) -> None:
         self._group.append(colour_of(words['color']))
