@@ -5,7 +5,7 @@ of their faces. Solids and faces have the names that are known of them, else gwb
 """
 
 from functools import partial
-from typing import Callable, Dict, Hashable, List, Optional, Sequence
+from typing import Callable, Dict, Hashable, List, Mapping, NamedTuple, Optional, Sequence
 
 from .appearance import NO_APPEARANCES, Appearances, Colour, look_of, unique_names
 from .command_line import OK, filled_model, listing_parser, run
@@ -59,12 +59,20 @@ def _references(items: Sequence[str]) -> str:
     return '(' + ','.join(items) + ')'
 
 
+class _Placed(NamedTuple):
+    """A part: its definition, the representation of its shape, and the axes in which it stands."""
+
+    definition: str
+    representation: str
+    axes: str
+
+
 class _Shapes:
     """The geometry and topology of a model as entities."""
 
     def __init__(self, model: Model, entities: _Entities, looks: Appearances) -> None:
         self._model, self._looks = model, looks
-        self._names = unique_names(model.solids, looks, 'solid ')
+        self.names = unique_names(model.solids, looks, 'solid ')
         self._put, self._once = entities.put, entities.once
         self.styled: List[str] = []
 
@@ -72,6 +80,11 @@ class _Shapes:
         """A unit vector, given by a whole one."""
         short = reduced(vector)
         return self._once(('direction', short), lambda: self._put(f"DIRECTION('',{_triple(short)})"))
+
+    def axes(self) -> str:
+        """The axes of the whole, at the origin."""
+        origin = self._put("CARTESIAN_POINT('',(0.,0.,0.))")
+        return self._put(f"AXIS2_PLACEMENT_3D('',{origin},{self.direction((0, 0, 1))},{self.direction((1, 0, 0))})")
 
     def _point(self, vertex: int) -> str:
         point = self._model.vertices[vertex]
@@ -136,7 +149,7 @@ class _Shapes:
 
     def solid(self, number: int, nest: Nest) -> str:
         """A shell with material within, less its voids."""
-        outside, name = self._shell(nest.outer), quoted(self._names[number])
+        outside, name = self._shell(nest.outer), quoted(self.names[number])
         if nest.voids:
             voids = [self._put(f"ORIENTED_CLOSED_SHELL('',*,{self._shell(void, turned=True)},.F.)") for void in nest.voids]
             made = self._put(f'BREP_WITH_VOIDS({name},{outside},{_references(voids)})')
@@ -151,19 +164,34 @@ def _real(part: int) -> str:
     return f'{part / 255:.4f}'
 
 
-def _put_product(entities: _Entities, representation: str, name: str) -> None:
-    """What says that the shape is that of a part."""
-    put = entities.put
-    application = put("APPLICATION_CONTEXT('core data for automotive mechanical design processes')")
-    put(f"APPLICATION_PROTOCOL_DEFINITION('international standard','automotive_design',2000,{application})")
-    context = put(f"PRODUCT_CONTEXT('',{application},'mechanical')")
-    product = put(f"PRODUCT({quoted(name)},{quoted(name)},'',({context}))")
-    put(f"PRODUCT_RELATED_PRODUCT_CATEGORY('part','',({product}))")
-    formation = put(f"PRODUCT_DEFINITION_FORMATION('','',{product})")
-    stage = put(f"PRODUCT_DEFINITION_CONTEXT('part definition',{application},'design')")
-    definition = put(f"PRODUCT_DEFINITION('design','',{formation},{stage})")
-    shape = put(f"PRODUCT_DEFINITION_SHAPE('','',{definition})")
-    put(f'SHAPE_DEFINITION_REPRESENTATION({shape},{representation})')
+class _Products:
+    """The parts whose shapes the file holds, and the assembly that they stand in."""
+
+    def __init__(self, entities: _Entities) -> None:
+        self._put = entities.put
+        self._application = self._put("APPLICATION_CONTEXT('core data for automotive mechanical design processes')")
+        self._put(f"APPLICATION_PROTOCOL_DEFINITION('international standard','automotive_design',2000,{self._application})")
+        self._context = self._put(f"PRODUCT_CONTEXT('',{self._application},'mechanical')")
+
+    def product(self, name: str, representation: str) -> str:
+        """A part with its shape: its definition."""
+        product = self._put(f"PRODUCT({quoted(name)},{quoted(name)},'',({self._context}))")
+        self._put(f"PRODUCT_RELATED_PRODUCT_CATEGORY('part','',({product}))")
+        formation = self._put(f"PRODUCT_DEFINITION_FORMATION('','',{product})")
+        stage = self._put(f"PRODUCT_DEFINITION_CONTEXT('part definition',{self._application},'design')")
+        definition = self._put(f"PRODUCT_DEFINITION('design','',{formation},{stage})")
+        shape = self._put(f"PRODUCT_DEFINITION_SHAPE('','',{definition})")
+        self._put(f'SHAPE_DEFINITION_REPRESENTATION({shape},{representation})')
+        return definition
+
+    def put_in(self, whole: _Placed, part: _Placed, name: str) -> None:
+        """Puts a part in an assembly, in which it stands as it is."""
+        move = self._put(f"ITEM_DEFINED_TRANSFORMATION('','',{part.axes},{whole.axes})")
+        relation = self._put(f"(REPRESENTATION_RELATIONSHIP('','',{part.representation},{whole.representation})"
+                             f'REPRESENTATION_RELATIONSHIP_WITH_TRANSFORMATION({move})SHAPE_REPRESENTATION_RELATIONSHIP())')
+        usage = self._put(f"NEXT_ASSEMBLY_USAGE_OCCURRENCE({quoted(name)},{quoted(name)},'',{whole.definition},{part.definition},$)")
+        shape = self._put(f"PRODUCT_DEFINITION_SHAPE('','',{usage})")
+        self._put(f'CONTEXT_DEPENDENT_SHAPE_REPRESENTATION({relation},{shape})')
 
 
 def _accuracy(model: Model) -> str:
@@ -185,20 +213,37 @@ def _put_context(entities: _Entities, accuracy: str) -> str:
 
 def step_text(model: Model, looks: Appearances = NO_APPEARANCES) -> str:
     """The whole file, with the names and colours of solids and faces that are given; raises Unfit where a face isn't a plain flat one, or
-    a shell no boundary of a solid."""
+    a shell no boundary of a solid. Several solids of which one has a name are an assembly of parts with their names."""
     require_fit(model)
     entities = _Entities()
     shapes = _Shapes(model, entities, looks)
-    items = [shapes.solid(solid, nest) for solid, shells in shells_of(model).items() for nest in nests(model, solid, shells)]
-    origin = entities.put("CARTESIAN_POINT('',(0.,0.,0.))")
-    axes = f'{shapes.direction((0, 0, 1))},{shapes.direction((1, 0, 0))}'
-    items.append(entities.put(f"AXIS2_PLACEMENT_3D('',{origin},{axes})"))
+    solids = {solid: [shapes.solid(solid, nest) for nest in nests(model, solid, shells)] for solid, shells in shells_of(model).items()}
+    axes = shapes.axes()
     context = _put_context(entities, _accuracy(model))
-    shape = entities.put(f"ADVANCED_BREP_SHAPE_REPRESENTATION('',{_references(items)},{context})")
-    _put_product(entities, shape, (look_of(looks, 'solid', model.solids[0]).name if len(model.solids) == 1 else '') or 'gwb')
+    names = [look_of(looks, 'solid', solid).name for solid in solids]
+    if len(solids) > 1 and any(names):
+        _put_assembly(entities, solids, shapes, axes, context)
+    else:
+        shape = _put_shape(entities, [item for held in solids.values() for item in held], axes, context)
+        _Products(entities).product(names[0] if len(solids) == 1 and names[0] else 'gwb', shape)
     if shapes.styled:
         entities.put(f"MECHANICAL_DESIGN_GEOMETRIC_PRESENTATION_REPRESENTATION('',{_references(shapes.styled)},{context})")
     return '\n'.join([_HEAD, *entities.lines, _FOOT])
+
+
+def _put_shape(entities: _Entities, items: Sequence[str], axes: str, context: str) -> str:
+    return entities.put(f"ADVANCED_BREP_SHAPE_REPRESENTATION('',{_references([*items, axes])},{context})")
+
+
+def _put_assembly(entities: _Entities, solids: Mapping[int, Sequence[str]], shapes: _Shapes, axes: str, context: str) -> None:
+    """A part for each solid, in an assembly."""
+    products = _Products(entities)
+    shape = entities.put(f"SHAPE_REPRESENTATION('',({axes}),{context})")
+    whole = _Placed(products.product('gwb', shape), shape, axes)
+    for solid, items in solids.items():
+        own = shapes.axes()
+        shape = _put_shape(entities, items, own, context)
+        products.put_in(whole, _Placed(products.product(shapes.names[solid], shape), shape, own), shapes.names[solid])
 
 
 def work(words: Optional[Sequence[str]]) -> int:

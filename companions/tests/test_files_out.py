@@ -62,6 +62,14 @@ class Looks(InFolder):
         self.assertEqual(self.looks_back('part.step', step_text(model_in(TWO))), {})
         self.assertNotIn('STYLED_ITEM', step_text(model_in(TWO)))
 
+    def test_step_has_a_part_for_each_named_solid(self):
+        text = step_text(model_in(TWO), LOOKS)
+        self.assertEqual(re.findall(r"=PRODUCT\('([^']*)'", text.replace("''", '"')), ['gwb', 'D\\X2\\00FC\\X0\\se <4> ""&\\\\', 'solid 2'])
+        self.assertEqual((text.count('=NEXT_ASSEMBLY_USAGE_OCCURRENCE('), text.count('=ADVANCED_BREP_SHAPE_REPRESENTATION(')), (2, 2))
+        made = re.findall(r'^(#\d+)=', text, re.M)
+        self.assertEqual(made, [f'#{i + 1}' for i in range(len(made))])
+        self.assertLessEqual(set(re.findall(r'#\d+', text)), set(made))
+
     def test_3mf(self):
         data = three_mf_bytes(mesh_of(model_in(TWO)), LOOKS)
         self.assertEqual(self.looks_back('part.3mf', data), LOOKS)
