@@ -2,16 +2,16 @@
 
 import io
 import zipfile
-from typing import BinaryIO, Dict, Iterator, List, Optional
+from typing import IO, Dict, Iterator, List, Optional
 
 from .appearance import Appearance, Colour, colour_of_parts
 from .exact_numbers import Numbers
 from .flat_face import ExactVector
+from .packages import MOST_BYTES, opened
 from .parts import Gathered, NotAMesh, Part
 from .units import millimetres_of, unit_notes
 from .xml_parts import Attributes, XmlReader
 
-_MOST_BYTES = 400_000_000
 # What changes the shape, and isn't read.
 _CURVED = ('edge', 'normal', 'nx', 'ny', 'nz')
 _ANGLES = ('rx', 'ry', 'rz')
@@ -104,7 +104,8 @@ class _Reader:
 def amf_parts(data: bytes) -> Iterator[Part]:
     """The volumes of a file's objects, each a part, where constellations put them. Raises NotAMesh where it can't be read."""
     reader = _Reader()
-    XmlReader(reader.begin, reader.end, _MOST_BYTES).read(_unzipped(data))
+    with _unzipped(data) as file:
+        XmlReader(reader.begin, reader.end, MOST_BYTES).read(file)
     factor = millimetres_of(reader.unit)
     for number, held in reader.objects.items():
         for x, y, z in reader.moves.get(number, [(0, 0, 0)] if not reader.moves else []):
@@ -114,11 +115,8 @@ def amf_parts(data: bytes) -> Iterator[Part]:
                            notes=unit_notes(reader.unit))
 
 
-def _unzipped(data: bytes) -> BinaryIO:
+def _unzipped(data: bytes) -> IO[bytes]:
     if not data.startswith(b'PK'):
         return io.BytesIO(data)
     package = zipfile.ZipFile(io.BytesIO(data))
-    info = package.infolist()[0]
-    if info.file_size > _MOST_BYTES:
-        raise NotAMesh(f'{info.filename[:60]} in it has more than {_MOST_BYTES:,} bytes')
-    return io.BytesIO(package.read(info))
+    return opened(package, package.namelist()[0])

@@ -2,6 +2,7 @@
 
 import struct
 import zipfile
+import zlib
 from pathlib import Path
 from typing import Callable, Dict, Iterator, List, Optional
 
@@ -30,7 +31,7 @@ def read_parts(data: bytes, form: str, beside: Optional[Beside] = None) -> List[
         'obj': lambda held: obj_parts(held, beside or (lambda name: None)), 'step': lambda held: step_parts(whole_text(held))}
     try:
         parts = [part for part in readers[form](data) if part.polygons]
-    except (ValueError, IndexError, KeyError, struct.error, zipfile.BadZipFile, zipfile.LargeZipFile, NotImplementedError,
+    except (ValueError, IndexError, KeyError, struct.error, zipfile.BadZipFile, zlib.error, NotImplementedError,
             RuntimeError, StopIteration, EOFError, TypeError, OverflowError, AttributeError) as error:
         raise NotAMesh(f'this is no {form.upper()} file, or it is cut short: {type(error).__name__}') from None
     if not parts:

@@ -8,13 +8,14 @@ from typing import Callable, Dict, Iterator, List, NamedTuple, Optional
 from .appearance import Appearance, Colour, colour_of
 from .exact_numbers import Numbers
 from .flat_face import ExactVector
+from .packages import MOST_BYTES, opened
 from .parts import Gathered, NotAMesh, Part, require_few
 from .placement import IN_PLACE, Placement
 from .three_mf import PLAIN
 from .units import millimetres_of, unit_notes
 from .xml_parts import Attributes, XmlReader
 
-_MOST_BYTES = 400_000_000
+_MOST_RELATIONS = 4_000_000
 _MOST_ITEMS = 200_000
 _ROOT_TYPE = '/3dmodel'
 
@@ -119,10 +120,8 @@ def three_mf_parts(data: bytes) -> Iterator[Part]:
 
 
 def _read(package: zipfile.ZipFile, name: str, reader: _Reader) -> None:
-    if package.getinfo(name).file_size > _MOST_BYTES:
-        raise NotAMesh(f'{name} in it has more than {_MOST_BYTES:,} bytes')
-    with package.open(name) as file:
-        XmlReader(reader.begin, None, _MOST_BYTES).read(file)
+    with opened(package, name) as file:
+        XmlReader(reader.begin, None, MOST_BYTES).read(file)
 
 
 def _model_name(package: zipfile.ZipFile) -> str:
@@ -135,8 +134,8 @@ def _model_name(package: zipfile.ZipFile) -> str:
             found.append(words.get('Target', '').lstrip('/'))
 
     if '_rels/.rels' in package.namelist():
-        with package.open('_rels/.rels') as file:
-            XmlReader(begin, None, _MOST_BYTES // 100).read(file)
+        with opened(package, '_rels/.rels', _MOST_RELATIONS) as file:
+            XmlReader(begin, None, _MOST_RELATIONS).read(file)
     wanted = [name for name in found if name in names] or names
     if not wanted:
         raise NotAMesh('there is no model in the package')
