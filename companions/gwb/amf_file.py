@@ -9,7 +9,7 @@ from .exact_numbers import Numbers
 from .flat_face import ExactVector
 from .packages import MOST_BYTES, opened
 from .parts import Gathered, NotAMesh, Part
-from .units import millimetres_of, unit_notes
+from .units import millimetres_of, told_scaled
 from .xml_parts import Attributes, XmlReader
 
 # What changes the shape, and isn't read.
@@ -112,7 +112,7 @@ def amf_parts(data: bytes) -> Iterator[Part]:
             points: List[ExactVector] = [((a + x) * factor, (b + y) * factor, (c + z) * factor) for a, b, c in held.points]
             for volume in held.volumes:
                 yield Part(points, volume.mesh.polygons, look=Appearance(held.name, volume.colour or held.colour),
-                           notes=unit_notes(reader.unit))
+                           scaled=told_scaled(reader.unit, factor))
 
 
 def _unzipped(data: bytes) -> IO[bytes]:

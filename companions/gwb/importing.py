@@ -22,7 +22,7 @@ from .polygon_files import FORMS, files_beside, form_of, read_parts
 from .progress import Progress
 from .repair import DROPPED, Repairs, count, repaired
 from .shells import shells_of
-from .soup import soup_of
+from .soup import Soup, soup_of
 from .surfaces import Surface, arealess, model_of_surfaces, surface_of, with_joined_faces
 from .vectors import ZERO, dot
 
@@ -98,7 +98,7 @@ def model_of_parts(parts: Sequence[Part], scale: Exact, rounded: bool, keep_tria
     groups = list(_solids(model, [part for part, _ in held], shells, measured))
     work.name_empty(groups, measured)
     looks = _looks(held, groups, model)
-    said = [*dict.fromkeys(note for part in parts for note in part.notes), *work.said()]
+    said = [*dict.fromkeys(note for part in parts for note in (part.scaled, *part.missing) if note), *work.said()]
     return Imported(_with_solids(model, groups), work.grid.square_moved, looks, said, work.wrong)
 
 
@@ -114,17 +114,21 @@ class _Work:
 
     def surface(self, number: int, part: Part) -> Optional[Surface]:
         """The closed surface of a part, None where nothing is left of it. Raises Unfit where it isn't closed."""
-        soup = soup_of(self.grid.whole(part.points, part.accuracy), part.polygons)
-        self._collapsed += len(part.polygons) - len(soup.faces)
         try:
-            soup = repaired(soup, self._repairs) if self._repair else soup
-            surface = self._joined(surface_of(soup), part)
+            surface = self._joined(surface_of(self._soup(part)), part)
         except Unfit as error:
-            raise Unfit(f'part {number}{part.called}: {error}' if number > 1 or part.look.name else str(error)) from None
+            where = f'part {number}{part.called}: ' if number > 1 or part.look.name else ''
+            raise Unfit(f'{where}{error}' + (f' ({part.scaled})' if part.scaled else '')) from None
         if len(part.polygons) and not surface.faces:
             self.wrong.append(f'part {number}{part.called} comes to nothing and is left out: no face of it keeps three corners')
             return None
         return surface
+
+    def _soup(self, part: Part) -> Soup:
+        """The polygons of a part on whole points, mended where that is wanted."""
+        soup = soup_of(self.grid.whole(part.points, part.accuracy), part.polygons)
+        self._collapsed += len(part.polygons) - len(soup.faces)
+        return repaired(soup, self._repairs) if self._repair else soup
 
     def _joined(self, surface: Surface, part: Part) -> Surface:
         tags: List[Hashable] = list(range(len(part.polygons)))

@@ -37,7 +37,7 @@ def obj_parts(data: bytes, beside: Beside) -> Iterator[Part]:
         colour = reader.one_colour(held.gathered)
         looks = {} if colour else held.gathered.looks
         yield Part(held.gathered.points, held.gathered.polygons, parted=not held.begun, look=Appearance(held.name, colour),
-                   face_looks=looks, notes=tuple(reader.notes))
+                   face_looks=looks, missing=tuple(reader.missing))
 
 
 def _joined(lines: Iterator[Tuple[int, List[str]]]) -> Iterator[Tuple[int, List[str]]]:
@@ -63,7 +63,7 @@ class _Reader:
         self._points: List[ExactVector] = []
         self._materials: Dict[str, Colour] = {}
         self._colour: Optional[Colour] = None
-        self.notes: Dict[str, None] = {}
+        self.missing: Dict[str, None] = {}
         self.objects = [_Object('', False, Gathered(self._points))]
 
     def read(self, words: List[str]) -> None:
@@ -92,7 +92,7 @@ class _Reader:
     def _read_materials(self, name: str) -> None:
         data = self._beside(name)
         if data is None:
-            self.notes[f'the material file {shortened(name)} is not beside it: its colours are missing'] = None
+            self.missing[f'the material file {shortened(name)} is not beside it: its colours are missing'] = None
             return
         material = ''
         for _, words in numbered_words(data):

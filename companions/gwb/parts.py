@@ -23,7 +23,7 @@ class Part(NamedTuple):
 
     Where `parted` holds the file doesn't say which shells are a solid, and where `whole` does its polygons are faces that aren't to be
     joined. Parts of one `solid`, where it has a name, are one solid. Points may lie beside whole places by `accuracy`, as the file says.
-    `notes` are for the reader: what was made of the file's units, say.
+    `scaled` says what was made of lengths in other units than millimetres, and `missing` what the file names and isn't there.
     """
 
     points: List[ExactVector]
@@ -34,7 +34,8 @@ class Part(NamedTuple):
     look: Appearance = Appearance()
     face_looks: Dict[int, Appearance] = {}
     accuracy: Exact = 0
-    notes: Tuple[str, ...] = ()
+    scaled: str = ''
+    missing: Tuple[str, ...] = ()
 
     @property
     def called(self) -> str:

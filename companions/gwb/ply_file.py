@@ -6,7 +6,7 @@ from fractions import Fraction
 from typing import Any, BinaryIO, Dict, Iterator, List, NamedTuple, Optional, Protocol, Sequence, Tuple
 
 from .appearance import Colour
-from .exact_numbers import Numbers
+from .exact_numbers import Numbers, shortened
 from .flat_face import ExactVector
 from .parts import Gathered, NotAMesh, Part
 from .plane_figures import Exact
@@ -42,16 +42,14 @@ def ply_parts(data: bytes) -> Iterator[Part]:
     rows = _rows(file, order)
     points: List[ExactVector] = []
     gathered = Gathered(points)
-    for element in elements:
-        for _ in range(element.times):
-            values = rows.row(element.properties)
-            if element.name == 'vertex':
-                points.append((values['x'], values['y'], values['z']))
-            elif element.name == 'face':
-                corners = next(values[name] for name in _CORNERS if name in values)
-                gathered.add([int(corner) for corner in corners], _colour(values))
-            elif element.name == 'tristrips':
-                raise NotAMesh('it has strips of triangles, which are not read')
+    for element, values in ((element, rows.row(element.properties)) for element in elements for _ in range(element.times)):
+        if element.name == 'vertex':
+            points.append((values['x'], values['y'], values['z']))
+        elif element.name == 'face':
+            corners: Sequence[float] = next((values[name] for name in _CORNERS if name in values), ())
+            gathered.add([int(corner) for corner in corners], _colour(values))
+        elif element.name == 'tristrips':
+            raise NotAMesh('it has strips of triangles, which are not read')
     yield Part(points, gathered.polygons, parted=True, face_looks=gathered.looks)
 
 
@@ -73,17 +71,24 @@ def _head(file: BinaryIO) -> Tuple[str, List[_Element]]:
     order: Optional[str] = None
     elements: List[_Element] = []
     for words in iter(lambda: _line(file), ['end_header']):
-        if words[:1] == ['format']:
-            order = _ORDERS[words[1]]
-        elif words[:1] == ['element']:
-            elements.append(_Element(words[1], int(words[2]), []))
-        elif words[:2] == ['property', 'list']:
-            elements[-1].properties.append(_Property(words[4], _TYPES[words[3]], _TYPES[words[2]]))
-        elif words[:1] == ['property']:
-            elements[-1].properties.append(_Property(words[2], _TYPES[words[1]], ''))
+        try:
+            if words[:1] == ['format']:
+                order = _ORDERS[words[1]]
+            elif words[:1] == ['element']:
+                elements.append(_Element(words[1], int(words[2]), []))
+            elif words[:1] == ['property']:
+                elements[-1].properties.append(_property(words))
+        except (LookupError, ValueError):
+            raise NotAMesh(f'a line of its head is not understood: {shortened(" ".join(words))}') from None
     if order is None or any(element.times < 0 or not element.properties for element in elements):
         raise NotAMesh('its head does not say what it holds')
     return order, elements
+
+
+def _property(words: Sequence[str]) -> _Property:
+    if words[1] == 'list':
+        return _Property(words[4], _TYPES[words[3]], _TYPES[words[2]])
+    return _Property(words[2], _TYPES[words[1]], '')
 
 
 def _line(file: BinaryIO) -> List[str]:

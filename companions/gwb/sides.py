@@ -8,6 +8,9 @@ from .soup import Soup, across
 from .vectors import Vector, ZERO, cross, dot, negative, subtract
 
 
+_HINTS = {'face that turns': ': --repair turns faces', 'edge of 3 faces': ': --repair leaves faces out that are there twice'}
+
+
 class Sides:
     """The sides of a soup by numbers: the place of the point at which each starts, the side after it, its face, and its mate, which is the
     side of another face, or of the same, along which the surface goes on."""
@@ -155,14 +158,15 @@ def _told_kind(kind: str, held: Sequence[_Wrong], points: Sequence[Vector]) -> s
         what = f'{kind}: at {where} both faces run the same way'
     else:
         what = f'{kind}: {where}'
-    return what if len(held) == 1 else f'{what}, and {len(held) - 1} more' + _holes(kind, held)
+    more = f', and {len(held) - 1} more' if len(held) > 1 else ''
+    return what + more + (_holes(held) if kind == 'open edge' else _HINTS.get(kind, ''))
 
 
-def _holes(kind: str, held: Sequence[_Wrong]) -> str:
+def _holes(held: Sequence[_Wrong]) -> str:
     """How many holes the open edges go round, where each is a cycle of its own."""
     following = {edge.end: edge.start for edge in held}
-    if kind != 'open edge' or set(following) != set(following.values()) or len(following) != len(held):
-        return ', --repair turns them' if kind == 'face that turns' else ''
+    if set(following) != set(following.values()) or len(following) != len(held):
+        return ''
     count, left = 0, dict(following)
     while left:
         here = next(iter(left))

@@ -8,8 +8,8 @@ from typing import Any, Dict, Iterator, List, NamedTuple, Sequence
 from .parts import NotAMesh
 
 _MARK = re.compile(r"[;']|/\*")
-# A statement without strings and comments, which most are.
-_PLAIN = re.compile(r"\s*#([0-9]{1,15})\s*=\s*(\w*)[^;'/]*;")
+# A statement without comments, as most are.
+_PLAIN = re.compile(r"\s*#([0-9]{1,15})\s*=\s*(\w*)[^;'/]*(?:'[^']*'[^;'/]*)*;")
 _HEAD = re.compile(r'\s*#([0-9]{1,15})\s*=\s*(\w*)')
 _TOKEN = re.compile(r"'(?:[^']|'')*'|[(),]|[^\s(),']+")
 _REFERENCE = re.compile(r'#[0-9]{1,15}')

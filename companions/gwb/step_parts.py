@@ -1,15 +1,15 @@
 """Reads the solids of a STEP file with flat faces: as they stand in the whole, in millimetres, with names and colours."""
 
 import re
-from typing import Dict, Iterator, List, Sequence, Tuple
+from typing import Dict, Iterator
 
 from .appearance import Appearance
-from .exact_numbers import told
 from .parts import NotAMesh, Part
 from .step_assembly import Instance, StepAssembly, in_millimetres
 from .step_file import StepFile, text_of
 from .step_looks import StepLooks
 from .step_shapes import Brep, StepShapes
+from .units import told_scaled
 
 _OURS = re.compile(r"'gwb-step'")
 
@@ -25,9 +25,9 @@ def step_parts(text: str) -> Iterator[Part]:
     if not instances:
         raise NotAMesh('there is no solid in the STEP file')
     looks = StepLooks(file, assembly.group)
-    notes, is_ours = _notes(instances), _OURS.search(file.header) is not None
+    is_ours = _OURS.search(file.header) is not None
     for instance in instances:
-        yield _part(file, instance, breps[instance.solid], looks, is_ours)._replace(notes=notes)
+        yield _part(file, instance, breps[instance.solid], looks, is_ours)
 
 
 def _part(file: StepFile, instance: Instance, brep: Brep, looks: StepLooks, is_ours: bool) -> Part:
@@ -35,16 +35,9 @@ def _part(file: StepFile, instance: Instance, brep: Brep, looks: StepLooks, is_o
     return Part(in_millimetres(instance, brep.points), brep.polygons, whole=True,
                 solid=text_of(file.at(instance.solid).items[0]) if is_ours else '',
                 look=look, face_looks=_face_looks(brep, looks),
-                accuracy=instance.unit.accuracy)
+                accuracy=instance.unit.accuracy, scaled=told_scaled(instance.unit.name, instance.unit.millimetres))
 
 
 def _face_looks(brep: Brep, looks: StepLooks) -> Dict[int, Appearance]:
     held = ((place, looks.of_face(face)) for place, face in enumerate(brep.faces))
     return {place: look for place, look in held if look != Appearance()}
-
-
-def _notes(instances: Sequence[Instance]) -> Tuple[str, ...]:
-    """What is to be said of units other than millimetres."""
-    units = dict.fromkeys(instance.unit for instance in instances if instance.unit.millimetres != 1)
-    found: List[str] = [f'lengths in {unit.name} were multiplied by {told(unit.millimetres)}, to millimetres' for unit in units]
-    return tuple(dict.fromkeys(found))

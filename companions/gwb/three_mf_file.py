@@ -12,7 +12,7 @@ from .packages import MOST_BYTES, opened
 from .parts import Gathered, NotAMesh, Part, require_few
 from .placement import IN_PLACE, Placement
 from .three_mf import PLAIN
-from .units import millimetres_of, unit_notes
+from .units import millimetres_of, told_scaled
 from .xml_parts import Attributes, XmlReader
 
 _MOST_RELATIONS = 4_000_000
@@ -116,7 +116,7 @@ def three_mf_parts(data: bytes) -> Iterator[Part]:
     scaled = Placement((factor, 0, 0), (0, factor, 0), (0, 0, factor), (0, 0, 0))
     _require_few_uses(reader)
     for use in _expanded(reader):
-        yield _part(reader.objects[use.object], scaled.after(use.placement))._replace(notes=unit_notes(reader.unit))
+        yield _part(reader.objects[use.object], scaled.after(use.placement))._replace(scaled=told_scaled(reader.unit, factor))
 
 
 def _read(package: zipfile.ZipFile, name: str, reader: _Reader) -> None:

@@ -1,7 +1,7 @@
-"""The units of length of 3MF and AMF in millimetres."""
+"""Units of length in millimetres: those of 3MF and AMF by name, and what is said of any."""
 
 from fractions import Fraction
-from typing import Dict, Tuple
+from typing import Dict
 
 from .exact_numbers import told
 from .parts import NotAMesh
@@ -18,7 +18,6 @@ def millimetres_of(unit: str) -> Exact:
     return _MILLIMETRES[unit]
 
 
-def unit_notes(unit: str) -> Tuple[str, ...]:
-    """What is to be said of lengths in this unit."""
-    factor = millimetres_of(unit)
-    return () if factor == 1 else (f'lengths in {unit} were multiplied by {told(factor)}, to millimetres',)
+def told_scaled(unit: str, millimetres: Exact) -> str:
+    """What is to be said of lengths in a unit: nothing of millimetres."""
+    return '' if millimetres == 1 else f'lengths in {unit} were multiplied by {told(millimetres)}, to millimetres'

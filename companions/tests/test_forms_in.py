@@ -95,7 +95,7 @@ class Ply(InFiles):
         whole = ply(TETRAHEDRON, SIDES, 'ascii')
         for data, part in ((whole[:-20], 'a line has no vertex_indices'), (whole.replace(b'format', b'formal'), 'does not say what it holds'),
                            (whole.replace(b'end_header', b''), 'its head has no end'), (whole.replace(b'3 0 2 1', b'3 0 2 9'), 'has vertex 9, and there are 4'),
-                           (whole.replace(b'float x', b'word x'), 'KeyError'), (ply([(float('nan'), 0, 0)] * 4, SIDES, 'binary_little_endian'), 'no number'),
+                           (whole.replace(b'float x', b'word x'), 'a line of its head is not understood: property word x'), (ply([(float('nan'), 0, 0)] * 4, SIDES, 'binary_little_endian'), 'no number'),
                            (whole.replace(b'element face', b'element tristrips'), 'strips of triangles')):
             self.refuse(part, data)
 

@@ -308,7 +308,7 @@ class Refused(InFiles):
         points, faces = box((0, 0, 0), (4, 4, 4))
         open_box = [[vertex - 1 for vertex in face[0]] for face in faces][2:]
         self.refuse('and 7 more, round 2 holes', off(points, open_box))
-        self.refuse('face that turns: at the edge from (6 0 0) to (0 6 0) both faces run the same way, and 2 more, --repair turns them',
+        self.refuse('face that turns: at the edge from (6 0 0) to (0 6 0) both faces run the same way, and 2 more: --repair turns faces',
                     off(TETRAHEDRON, [SIDES[0][::-1], *SIDES[1:]]))
         both = off(TETRAHEDRON, [SIDES[0], SIDES[1], SIDES[2][::-1]])
         self.refuse('has one face, and 2 more; ', both)
