@@ -61,6 +61,7 @@ FILES = {
     'gmsh_cylinder.step': [refused('1 face is curved: #17 CYLINDRICAL_SURFACE')],
     'gmsh_fragments.step': [holds(1000, 1000, box=((0, 0, 0), (20, 10, 10)))],
     'gmsh_hole.step': [holds(8840, box=((0, 0, 0), (30, 30, 10)))],
+    'opencascade_assembly.step': [holds(6000, 6000, 6000, 6000, 125, box=((-5, -55, 0), (100, 100, 520)))],
     'openscad_hole.off': [holds(8480, box=((0, 0, 0), (30, 30, 10)))],
     'openscad_many.off': [holds(*[216] * 100, box=((0, 0, 0), (96, 96, 6)))],
     'openscad_step.3mf': [holds(3000, box=((0, 0, 0), (20, 20, 10)))],

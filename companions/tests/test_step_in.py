@@ -254,6 +254,16 @@ class Stored(unittest.TestCase):
         found = read_file(str(STORED / 'programs' / 'freecad_assembly.step'))
         self.assertEqual(found.looks, {('solid', 1): Appearance('A'), ('solid', 2): Appearance('B')})
 
+    def test_a_nested_assembly_with_turns_and_colours(self):
+        found = read_file(str(STORED / 'programs' / 'opencascade_assembly.step'))
+        boxes = [tuple(tuple(map(end, zip(*(point for face in found.model.faces_of(solid) for point in found.model.face_points(face)))))
+                       for end in (min, max)) for solid in found.model.solids]
+        self.assertEqual(boxes, [((0, 0, 0), (10, 20, 30)), ((80, 0, 0), (100, 10, 30)), ((0, 0, 500), (30, 10, 520)),
+                                 ((0, 80, 500), (30, 100, 510)), ((-5, -55, 2), (0, -50, 7))])
+        self.assertLess(found.square_moved, 1e-24)
+        self.assertEqual(found.looks, {**{('solid', solid): Appearance('Plate', (255, 188, 0)) for solid in (1, 2, 3, 4)},
+                                       ('solid', 5): Appearance('Cube', (0, 0, 255)), ('face', 25): Appearance('', (0, 255, 0))})
+
 
 if __name__ == '__main__':
     unittest.main()
