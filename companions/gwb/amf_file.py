@@ -9,6 +9,7 @@ from .exact_numbers import Numbers
 from .flat_face import ExactVector
 from .packages import MOST_BYTES, opened
 from .parts import Gathered, NotAMesh, Part
+from .plane_figures import Exact
 from .units import millimetres_of, told_scaled
 from .xml_parts import Attributes, XmlReader
 
@@ -107,12 +108,16 @@ def amf_parts(data: bytes) -> Iterator[Part]:
     with _unzipped(data) as file:
         XmlReader(reader.begin, reader.end, MOST_BYTES).read(file)
     factor = millimetres_of(reader.unit)
-    for number, held in reader.objects.items():
-        for x, y, z in reader.moves.get(number, [(0, 0, 0)] if not reader.moves else []):
-            points: List[ExactVector] = [((a + x) * factor, (b + y) * factor, (c + z) * factor) for a, b, c in held.points]
-            for volume in held.volumes:
-                yield Part(points, volume.mesh.polygons, look=Appearance(held.name, volume.colour or held.colour),
-                           scaled=told_scaled(reader.unit, factor))
+    whole: List[ExactVector] = [] if reader.moves else [(0, 0, 0)]
+    for held, move in ((held, move) for number, held in reader.objects.items() for move in reader.moves.get(number, whole)):
+        points = _placed(held.points, move, factor)
+        yield from (Part(points, volume.mesh.polygons, look=Appearance(held.name, volume.colour or held.colour),
+                         scaled=told_scaled(reader.unit, factor)) for volume in held.volumes)
+
+
+def _placed(points: List[ExactVector], move: ExactVector, factor: Exact) -> List[ExactVector]:
+    x, y, z = move
+    return [((a + x) * factor, (b + y) * factor, (c + z) * factor) for a, b, c in points]
 
 
 def _unzipped(data: bytes) -> IO[bytes]:

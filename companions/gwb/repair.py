@@ -86,9 +86,9 @@ def _turned_alike(soup: Soup, repairs: Repairs) -> Soup:
 def _neighbours(soup: Soup) -> List[List[Tuple[int, bool]]]:
     """For each face those beside it, along edges of two faces, and whether both run the same way there."""
     held: Dict[Tuple[int, int], List[Tuple[int, bool]]] = {}
-    for place, face in enumerate(soup.faces):
-        for start, end in ((cycle[i - 1], cycle[i]) for cycle in face for i in range(len(cycle))):
-            held.setdefault((min(start, end), max(start, end)), []).append((place, start < end))
+    sides = ((place, cycle[i - 1], cycle[i]) for place, face in enumerate(soup.faces) for cycle in face for i in range(len(cycle)))
+    for place, start, end in sides:
+        held.setdefault((min(start, end), max(start, end)), []).append((place, start < end))
     beside: List[List[Tuple[int, bool]]] = [[] for _ in soup.faces]
     for one, other in (pair for pair in held.values() if len(pair) == 2):
         beside[one[0]].append((other[0], one[1] == other[1]))

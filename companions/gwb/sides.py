@@ -125,11 +125,17 @@ def _into(along: Vector, normal: Vector, is_forth: bool) -> Vector:
 
 def _compare(first: Vector, along: Vector, a: Vector, b: Vector) -> int:
     """Negative where a comes before b, turning about `along` from `first`."""
-    halves = [(turned < 0 or turned == 0 and dot(first, way) < 0) for turned, way in ((dot(cross(first, a), along), a), (dot(cross(first, b), along), b))]
+    halves = [_is_past_half(first, along, way) for way in (a, b)]
     if halves[0] != halves[1]:
         return 1 if halves[0] else -1
     turned = dot(cross(a, b), along)
     return -1 if turned > 0 else int(turned < 0)
+
+
+def _is_past_half(first: Vector, along: Vector, way: Vector) -> bool:
+    """Whether a way comes half a turn behind the first one, or later."""
+    turned = dot(cross(first, way), along)
+    return turned < 0 or turned == 0 and dot(first, way) < 0
 
 
 def _told(wrong: Sequence[_Wrong], points: Sequence[Vector]) -> str:

@@ -61,9 +61,7 @@ class StepAssembly:
         self._require_few(members)
         yield from self._standing(members)
         held = {item for items in self._items.values() for item in items}
-        for solid in self._file.of_kinds(*SOLIDS):
-            if solid not in held:
-                yield Instance(solid, '', IN_PLACE, MILLIMETRE)
+        yield from (Instance(solid, '', IN_PLACE, MILLIMETRE) for solid in self._file.of_kinds(*SOLIDS) if solid not in held)
 
     def _require_few(self, members: Dict[str, List[str]]) -> None:
         """Raises Unfit where placements go round, or solids and placements are too many, each counted as often as it stands."""
@@ -89,11 +87,10 @@ class StepAssembly:
     def _refuse_strangers(self) -> None:
         """Raises Unfit where a shape has what is neither a flat solid nor a placement: it isn't left out."""
         strange: Dict[str, List[str]] = {}
-        for items in self._items.values():
-            for item in items:
-                kind = self._file.kind(item)
-                if kind not in SOLIDS and kind not in _SILENT and kind != 'MAPPED_ITEM':
-                    strange.setdefault(kind or 'what is several things at once', []).append(item)
+        for item in (item for items in self._items.values() for item in items):
+            kind = self._file.kind(item)
+            if kind not in SOLIDS and kind not in _SILENT and kind != 'MAPPED_ITEM':
+                strange.setdefault(kind or 'what is several things at once', []).append(item)
         if strange:
             named = '; '.join(f'{len(held)} {kind} ({held[0]})' for kind, held in strange.items())
             raise Unfit(f'the shape has what is not understood: {named}')
@@ -117,10 +114,8 @@ class StepAssembly:
             waiting += [(self.group(use.child), placement.after(use.placement)) for use in reversed(self._uses.get(group, []))]
 
     def _solids_of(self, representations: Sequence[str], placement: Placement) -> Iterator[Instance]:
-        for representation in representations:
-            for item in self._items[representation]:
-                if self._file.kind(item) in SOLIDS:
-                    yield Instance(item, representation, placement, self._unit[representation])
+        return (Instance(item, representation, placement, self._unit[representation])
+                for representation in representations for item in self._items[representation] if self._file.kind(item) in SOLIDS)
 
     def _relations(self) -> Iterator[Use]:
         """Parts of assemblies: a relationship places its first representation in its second, or the other way round where the assembly
@@ -157,14 +152,13 @@ class StepAssembly:
 
     def _mapped(self) -> Iterator[Use]:
         """Representations that stand in others as mapped items."""
-        for holder, items in self._items.items():
-            for item in items:
-                if self._file.kind(item) == 'MAPPED_ITEM':
-                    source, target = self._file.at(item).items[1:3]
-                    origin, mapped = self._file.at(source).items[:2]
-                    if mapped not in self._items:
-                        raise Unfit(f'{item} stands for {mapped}, which is no shape that is understood')
-                    yield Use(mapped, holder, self._between(origin, mapped, target, holder))
+        held = ((holder, item) for holder, items in self._items.items() for item in items if self._file.kind(item) == 'MAPPED_ITEM')
+        for holder, item in held:
+            source, target = self._file.at(item).items[1:3]
+            origin, mapped = self._file.at(source).items[:2]
+            if mapped not in self._items:
+                raise Unfit(f'{item} stands for {mapped}, which is no shape that is understood')
+            yield Use(mapped, holder, self._between(origin, mapped, target, holder))
 
     def _between(self, there: str, child: str, here: str, parent: str) -> Placement:
         """What takes an axis system of the child to one of its parent."""

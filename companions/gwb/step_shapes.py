@@ -39,12 +39,12 @@ class StepShapes:
         """One solid. What is curved in it has no polygon; require_flat names it."""
         places: Dict[ExactVector, int] = {}
         found = Brep([], [], [])
-        for shell, turned in self._shells(reference):
-            for face in self._file.at(shell).items[1]:
-                loops = self._face(face, turned)
-                require_few(len(found.polygons) + 1)
-                found.polygons.append([[places.setdefault(point, len(places)) for point in loop] for loop in loops])
-                found.faces.append(face)
+        faces = ((face, turned) for shell, turned in self._shells(reference) for face in self._file.at(shell).items[1])
+        for face, turned in faces:
+            loops = self._face(face, turned)
+            require_few(len(found.polygons) + 1)
+            found.polygons.append([[places.setdefault(point, len(places)) for point in loop] for loop in loops])
+            found.faces.append(face)
         return found._replace(points=list(places))
 
     def require_flat(self) -> None:

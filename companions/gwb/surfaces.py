@@ -1,5 +1,6 @@
 """Closed surfaces of polygons as models: faces of one plane joined, edges paired, vertices numbered."""
 
+from itertools import count, islice
 from typing import Dict, Hashable, List, NamedTuple, Sequence, Tuple
 
 from .errors import Unfit
@@ -29,14 +30,8 @@ class Surface(NamedTuple):
 def surface_of(soup: Soup) -> Surface:
     """The soup as a closed surface. Raises Unfit, with the place, where it isn't closed."""
     sides = Sides(soup)
-    faces: List[Cycles] = []
-    first = 0
-    for face in soup.faces:
-        cycles: Cycles = []
-        for cycle in face:
-            cycles.append(list(range(first, first + len(cycle))))
-            first += len(cycle)
-        faces.append(cycles)
+    numbers = count()
+    faces = [[list(islice(numbers, len(cycle))) for cycle in face] for face in soup.faces]
     return Surface(sides, faces, list(soup.origins), sides.vertices())
 
 

@@ -69,8 +69,9 @@ class _Materials:
 
     def __init__(self, mesh: 'Mesh', looks: Appearances) -> None:
         self._mesh, self._looks = mesh, looks
-        held = (look_of(looks, kind, number).colour for kind, numbers in (('solid', mesh.model.solids), ('face', mesh.model.faces)) for number in numbers)
-        self._places: Dict[Colour, int] = {colour: place for place, colour in enumerate(dict.fromkeys(filter(None, held)))}
+        things = (*(('solid', solid) for solid in mesh.model.solids), *(('face', face) for face in mesh.model.faces))
+        colours = dict.fromkeys(filter(None, (look_of(looks, kind, number).colour for kind, number in things)))
+        self._places: Dict[Colour, int] = {colour: place for place, colour in enumerate(colours)}
         self._group = len(mesh.model.solids) + 1
 
     def lines(self) -> Iterator[str]:

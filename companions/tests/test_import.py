@@ -13,11 +13,12 @@ from support import STORED, box, examples, listing, model_in, program, run, turn
 
 from gwb.check import check
 from gwb.errors import CompanionError, Unfit
-from gwb.importing import imported, model_of_parts
+from gwb.importing import imported
 from gwb.inversion import script_of
 from gwb.listing import read_model
 from gwb.measures import six_volume
 from gwb.mesh import FORMS, mesh_of
+from gwb.models_of_parts import model_of_parts
 from gwb.parts import Part
 from gwb.polygon_files import read_parts
 from gwb.step import step_text

@@ -13,9 +13,9 @@ from support import box, listing, model_in, program, turned
 
 from gwb import Refused, Workbench
 from gwb.errors import Unfit
-from gwb.importing import model_of_parts
 from gwb.measures import six_volume
 from gwb.mesh import FORMS, mesh_of
+from gwb.models_of_parts import model_of_parts
 from gwb.nesting import nests
 from gwb.polygon_files import read_parts
 from gwb.soup import soup_of
