@@ -47,6 +47,8 @@ class _Reader:
         self._open: List[str] = []
         self._held: Dict[str, str] = {}
         self._metadata, self._instance = '', ''
+        self._paint_parts: Dict[str, str] = {}
+        self._face_colour: Optional[Colour] = None
         self._object = _Object()
 
     def begin(self, name: str, words: Attributes) -> None:
@@ -64,8 +66,10 @@ class _Reader:
             self._instance = words['objectid']
         elif name in _CURVED:
             raise NotAMesh('it has curved triangles, which are not read')
-        if name in ('instance', 'vertex', 'triangle', 'color'):
-            self._held = {}
+        if name in ('instance', 'vertex', 'triangle'):
+            self._held, self._face_colour = {}, None
+        elif name == 'color':
+            self._paint_parts = {}
 
     def end(self, name: str, text: str) -> None:
         """An element ends: values are gathered by their names, and used where the element around them ends."""
@@ -74,13 +78,16 @@ class _Reader:
         if name == 'vertex':
             self._object.points.append(self._numbers.point([self._held.get(axis, '') for axis in 'xyz']))
         elif name == 'triangle':
-            self._object.volumes[-1].mesh.add([int(self._held[corner]) for corner in ('v1', 'v2', 'v3')])
+            corners = [int(self._held[corner]) for corner in ('v1', 'v2', 'v3')]
+            self._object.volumes[-1].mesh.add(corners, self._face_colour)
         elif name == 'instance':
             self._place()
         elif name == 'color':
             self._paint(around)
         elif name == 'metadata' and self._metadata == 'name' and around == 'object':
             self._object.name = text.strip()
+        elif around == 'color':
+            self._paint_parts[name] = text.strip()
         else:
             self._held[name] = text.strip()
 
@@ -91,7 +98,7 @@ class _Reader:
         self.moves.setdefault(self._instance, []).append(move)
 
     def _paint(self, around: str) -> None:
-        parts = [self._held.get(part, '') for part in 'rgb']
+        parts = [self._paint_parts.get(part, '') for part in 'rgb']
         try:
             colour = colour_of_parts(*map(float, parts))
         except ValueError:
@@ -100,6 +107,8 @@ class _Reader:
             self._object.colour = colour
         elif around == 'volume':
             self._object.volumes[-1].colour = colour
+        elif around == 'triangle':
+            self._face_colour = colour
 
 
 def amf_parts(data: bytes) -> Iterator[Part]:
@@ -112,7 +121,7 @@ def amf_parts(data: bytes) -> Iterator[Part]:
     for held, move in ((held, move) for number, held in reader.objects.items() for move in reader.moves.get(number, whole)):
         points = _placed(held.points, move, factor)
         yield from (Part(points, volume.mesh.polygons, look=Appearance(held.name, volume.colour or held.colour),
-                         scaled=told_scaled(reader.unit, factor)) for volume in held.volumes)
+                         face_looks=volume.mesh.looks, scaled=told_scaled(reader.unit, factor)) for volume in held.volumes)
 
 
 def _placed(points: List[ExactVector], move: ExactVector, factor: Exact) -> List[ExactVector]:

@@ -14,7 +14,7 @@ TRIANGULATED, DROPPED, TURNED, DOUBLED = 'bent, cut into triangles', 'without an
 
 def repaired(soup: Soup, repairs: Repairs) -> Soup:
     """The soup without doubled and bent faces, and with its faces turned alike wherever they can be; what was done is added to the counts."""
-    return _turned_alike(_without_bent(_without_doubled(soup, repairs), repairs), repairs)
+    return _turned_alike(_without_bent(_without_folded(_without_doubled(soup, repairs), repairs), repairs), repairs)
 
 
 def count(repairs: Repairs, what: str, times: int) -> None:
@@ -35,6 +35,17 @@ def _without_doubled(soup: Soup, repairs: Repairs) -> Soup:
 def _from_least(cycle: List[int]) -> Tuple[int, ...]:
     least = cycle.index(min(cycle))
     return tuple(cycle[least:] + cycle[:least])
+
+
+def _without_folded(soup: Soup, repairs: Repairs) -> Soup:
+    """The soup without pairs of faces without an area that lie on each other and look against each other."""
+    flat = [place for place in range(len(soup.faces)) if across(soup.loops(place)) == ZERO]
+    places = {tuple(map(_from_least, soup.faces[place])): place for place in flat}
+    back = ((place, tuple(_from_least(cycle[::-1]) for cycle in soup.faces[place])) for place in flat)
+    folded = {place for place, key in back if places.get(key, place) != place}
+    count(repairs, DROPPED, len(folded))
+    left = [place for place in range(len(soup.faces)) if place not in folded]
+    return Soup(soup.points, [soup.faces[place] for place in left], [soup.origins[place] for place in left])
 
 
 def _without_bent(soup: Soup, repairs: Repairs) -> Soup:

@@ -5,7 +5,7 @@ from fractions import Fraction
 from typing import Dict, Iterator, List, NamedTuple, Optional, Sequence, Tuple
 
 from .appearance import Appearance
-from .exact_numbers import Numbers, shortened
+from .exact_numbers import NotANumber, Numbers, shortened
 from .flat_face import ExactVector
 from .parts import Gathered, NotAMesh, Part, require_few
 from .plane_figures import Exact
@@ -28,13 +28,21 @@ def stl_parts(data: bytes) -> Iterator[Part]:
     for number, words in numbered_words(data):
         if words[0].lower() == 'solid':
             blocks.append(_Block(' '.join(words[1:])))
-        elif not blocks or not blocks[-1].read(words):
+        elif not blocks or not _takes(blocks[-1], number, words):
             raise NotAMesh(f'line {number} is none of an STL file: {shortened(" ".join(words))}')
     if not blocks or not blocks[-1].is_ended:
         raise NotAMesh('it does not begin with `solid` and end with `endsolid`')
     for block in blocks:
         gathered = block.gathered
         yield Part(gathered.points, gathered.polygons, parted=len(blocks) == 1, look=Appearance(block.name))
+
+
+def _takes(block: '_Block', number: int, words: List[str]) -> bool:
+    """Whether a line may stand in a block. Raises NotAMesh, with the line, where it can't be read."""
+    try:
+        return block.read(words)
+    except NotANumber as error:
+        raise NotAMesh(f'line {number}: {error}') from None
 
 
 class _Places:

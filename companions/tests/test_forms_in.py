@@ -115,6 +115,10 @@ class Amf(InFiles):
             self.assertEqual(volumes(found.model), [216, 216])
             self.assertEqual(found.looks, {('solid', 1): Appearance('Pair'), ('solid', 2): Appearance('Pair', RED)})
 
+    def test_colours_of_triangles(self):
+        text = amf(amf_object(1, (SIDES, ''))).replace('</v3></triangle>', '</v3><color><r>1</r><g>0</g><b>0</b></color></triangle>', 1)
+        self.assertEqual(read_file(self.file(text)).looks, {('face', 1): Appearance('', RED)})
+
     def test_units_and_constellations(self):
         body = amf_object(1, (SIDES, '')) + ''.join(
             f'<constellation id="{n}"><instance objectid="1"><deltax>{n}</deltax><deltay>0</deltay><deltaz>0</deltaz></instance></constellation>'
@@ -180,6 +184,9 @@ class Stl(InFiles):
     def test_names(self):
         data = ascii_stl(TETRAHEDRON, SIDES).replace('solid x', 'solid the lid')
         self.assertEqual(read_file(self.file(data)).looks, {('solid', 1): Appearance('the lid')})
+
+    def test_what_is_no_number(self):
+        self.refuse('line 4: no number: blah', ascii_stl([('blah', 0, 0), *TETRAHEDRON[1:]], [SIDES[0]]))
 
     def test_what_is_no_triangle(self):
         text = ascii_stl(TETRAHEDRON, SIDES)

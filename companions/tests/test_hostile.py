@@ -1,6 +1,6 @@
 """Files that are made to take time or memory without end: each is refused in one line, in little of both.
 
-How long each takes isn't asserted: a process that is still there after a minute has no end. Memory is that of the process at its largest.
+How long each takes isn't asserted: a process that has taken a minute of processor has no end. Memory is that of the process at its largest.
 """
 
 import io
@@ -96,11 +96,12 @@ class Ended(NamedTuple):
 
 
 def ended(folder, *words):
-    """Runs gwb-import in a process of its own, which is stopped after a minute."""
+    """Runs gwb-import in a process of its own, which is stopped after a minute of processor."""
     with open(Path(folder, 'out'), 'w+') as out, open(Path(folder, 'err'), 'w+') as err:
-        code = ('import resource, sys; from gwb.importing import main; status = main(sys.argv[1:]); '
+        code = (f'import resource, sys; resource.setrlimit(resource.RLIMIT_CPU, ({ENDLESS}, {ENDLESS})); '
+                'from gwb.importing import main; status = main(sys.argv[1:]); '
                 'print(resource.getrusage(resource.RUSAGE_SELF).ru_maxrss, file=open("kilobytes", "w")); sys.exit(status)')
-        done = subprocess.run([sys.executable, '-c', code, *words], stdout=out, stderr=err, cwd=folder, timeout=ENDLESS, check=False,
+        done = subprocess.run([sys.executable, '-c', code, *words], stdout=out, stderr=err, cwd=folder, check=False,
                               env={**os.environ, 'PYTHONPATH': str(COMPANIONS)})
         out.seek(0)
         err.seek(0)

@@ -47,6 +47,13 @@ class Repairs(InFiles):
         model = self.mended(data, '1 face without an area, dropped', volume=[36])
         self.assertEqual(len(model.faces), 4)
 
+    def test_faces_without_an_area_that_lie_on_each_other(self):
+        """Two triangles on one line, between the points of an edge and one amid it."""
+        points = [*TETRAHEDRON, (3, 0, 0)]
+        data = off(points, [*SIDES, (0, 1, 4), (1, 0, 4)])
+        self.refuse('edge of 4 faces', data)
+        self.mended(data, '2 faces without an area, dropped', volume=[36])
+
     def test_faces_that_are_turned(self):
         for turned in range(4):
             sides = [side[::-1] if place == turned else side for place, side in enumerate(SIDES)]
