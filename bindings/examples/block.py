@@ -17,13 +17,13 @@ def main():
         print(block)
         parts = bench.split(block.solid, (0, 0, 1, -2))
         print(parts)
-        print(bench.volume(block.solid), bench.volume(parts.solid))
+        print(bench.six_volume(block.solid), bench.six_volume(parts.solid))
         try:
             bench.kvfs(parts.solid)
         except Refused as refused:
             print(refused.name, refused.value)
         bench.undo()
-        print(bench.volume(block.solid), bench.count(block.solid))
+        print(bench.six_volume(block.solid), bench.count(block.solid))
         print(len(bench.listing().faces), 'faces')
         print(bench.half_edges(bench.listing().faces[block.top].outer))
         with bench.draft():

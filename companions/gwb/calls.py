@@ -1,6 +1,7 @@
 """A command as a value: its word and what goes with it, written as a line of the language and read from one."""
 
-from typing import NamedTuple, Tuple, Union
+from operator import index
+from typing import List, NamedTuple, Tuple, Union
 
 from .results import Lone
 
@@ -34,13 +35,18 @@ class Call(NamedTuple):
         """The number at a place of the values: of a corner that of its edge or loop."""
         value = self.values[place]
         if isinstance(value, Lone):
-            return value.loop
+            return index(value.loop)
         return 0 if isinstance(value, str) else abs(value)
+
+
+def words_in(line: str) -> List[str]:
+    """The words of a line, which spaces, tabs and carriage returns separate, and nothing else."""
+    return [word for word in line.replace('\t', ' ').replace('\r', ' ').split(' ') if word]
 
 
 def call_in(line: str) -> Call:
     """The command that a line gives, which was accepted."""
-    word, *words = line.split()
+    word, *words = words_in(line)
     return Call(word, tuple(map(_value, words)))
 
 

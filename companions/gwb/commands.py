@@ -1,17 +1,17 @@
 """The commands of the script language as methods."""
 
-from typing import Optional, Sequence, Tuple
+from fractions import Fraction
+from typing import Optional
 
 from . import arguments
 from .results import Block, Corner, Count, Lamina, NewEdge, NewFace, NewSolid, Numbers, Plane, Split, Sweep
 from .steps import Steps
-from .vectors import Vector
 
 
 class Commands(Steps):
     """A running gwb. Each command is a method; one that isn't accepted raises Refused, Faulted or MemoryRefused."""
 
-    def mvfs(self, point: Vector, *, solid: Optional[int] = None, face: Optional[int] = None,
+    def mvfs(self, point: arguments.Point, *, solid: Optional[int] = None, face: Optional[int] = None,
              loop: Optional[int] = None, vertex: Optional[int] = None) -> NewSolid:
         """A new solid of one face, whose outer loop is one vertex at the point."""
         place = arguments.point('point', point)
@@ -20,70 +20,70 @@ class Commands(Steps):
         self._do('mvfs', *made, *place)
         return made
 
-    def kvfs(self, solid: int) -> None:
+    def kvfs(self, solid: arguments.Solid) -> None:
         """The solid goes, with its one face, loop and vertex."""
-        self._do('kvfs', arguments.number('solid', solid))
+        self._do('kvfs', self._number('solid', solid))
 
-    def mev(self, first: Corner, second: Corner, point: Vector, *,
+    def mev(self, first: Corner, second: Corner, point: arguments.Point, *,
             edge: Optional[int] = None, vertex: Optional[int] = None) -> NewEdge:
         """A new edge from the vertex of both corners to a new one at the point."""
-        corners = arguments.corner('first', first), arguments.corner('second', second)
+        corners = arguments.corner('first', first, self), arguments.corner('second', second, self)
         place = arguments.point('point', point)
         made = NewEdge(self._new('edge', edge), self._new('vertex', vertex))
         self._do('mev', *corners, *made, *place)
         return made
 
-    def kev(self, half: int) -> None:
+    def kev(self, half: arguments.Edge) -> None:
         """The edge goes, and the vertex at which the half-edge ends."""
-        self._do('kev', arguments.half_edge('half', half))
+        self._do('kev', arguments.half_edge('half', half, self))
 
-    def mef(self, first: int, second: int, *, edge: Optional[int] = None,
+    def mef(self, first: arguments.Edge, second: arguments.Edge, *, edge: Optional[int] = None,
             face: Optional[int] = None, loop: Optional[int] = None) -> NewFace:
         """A new edge across a face; the part of its loop from the first half-edge to before the second is of the new face."""
-        halves = arguments.half_edge('first', first), arguments.half_edge('second', second)
+        halves = arguments.half_edge('first', first, self), arguments.half_edge('second', second, self)
         made = NewFace(self._new('edge', edge), self._new('face', face), self._new('loop', loop))
         self._do('mef', *halves, *made)
         return made
 
-    def kef(self, half: int) -> None:
+    def kef(self, half: arguments.Edge) -> None:
         """The edge goes, and the face on the other side of the half-edge."""
-        self._do('kef', arguments.half_edge('half', half))
+        self._do('kef', arguments.half_edge('half', half, self))
 
-    def kemr(self, half: int, *, loop: Optional[int] = None) -> int:
+    def kemr(self, half: arguments.Edge, *, loop: Optional[int] = None) -> int:
         """The edge goes, and the part of its loop after the half-edge is a new ring: its number."""
-        word, made = arguments.half_edge('half', half), self._new('loop', loop)
+        word, made = arguments.half_edge('half', half, self), self._new('loop', loop)
         self._do('kemr', word, made)
         return made
 
     def mekr(self, first: Corner, second: Corner, *, edge: Optional[int] = None) -> int:
         """A new edge from the first corner to one in a ring of the same face, which becomes part of the first one's loop."""
-        corners, made = (arguments.corner('first', first), arguments.corner('second', second)), self._new('edge', edge)
+        corners, made = (arguments.corner('first', first, self), arguments.corner('second', second, self)), self._new('edge', edge)
         self._do('mekr', *corners, made)
         return made
 
-    def kfmrh(self, face: int, other: int) -> None:
+    def kfmrh(self, face: arguments.Face, other: arguments.Face) -> None:
         """The other face goes, and its loop becomes a ring of the face."""
-        self._do('kfmrh', arguments.number('face', face), arguments.number('other', other))
+        self._do('kfmrh', self._number('face', face), self._number('other', other, 'face'))
 
-    def mfkrh(self, ring: int, *, face: Optional[int] = None) -> int:
+    def mfkrh(self, ring: arguments.LoopNumber, *, face: Optional[int] = None) -> int:
         """The ring becomes the outer loop of a new face: its number."""
-        loop, made = arguments.number('ring', ring), self._new('face', face)
+        loop, made = self._number('ring', ring, 'loop'), self._new('face', face)
         self._do('mfkrh', loop, made)
         return made
 
-    def ringmv(self, ring: int, face: int, way: str) -> None:
+    def ringmv(self, ring: arguments.LoopNumber, face: arguments.Face, way: str) -> None:
         """The ring becomes a ring of the face (way `in`), or its outer loop (way `out`)."""
-        self._do('ringmv', arguments.number('ring', ring), arguments.number('face', face), arguments.way('way', way))
+        self._do('ringmv', self._number('ring', ring, 'loop'), self._number('face', face), arguments.way('way', way))
 
-    def lamina(self, points: Sequence[Vector], *, solid: Optional[int] = None) -> Lamina:
+    def lamina(self, points: arguments.Points, *, solid: Optional[int] = None) -> Lamina:
         """A new solid of two faces, back to back, through up to 64 points. The front is seen with the points counterclockwise."""
-        places = arguments.points('points', points)
+        places = arguments.points('points', points, arguments.MOST_LAMINA_POINTS)
         number = self._new('solid', solid)
         fresh = self._do('lamina', number, *(part for place in places for part in place))
         front, back = fresh['face']
         return Lamina(number, front, back, tuple(fresh['edge']), tuple(fresh['vertex']))
 
-    def block(self, point: Vector, sizes: Vector, *, solid: Optional[int] = None) -> Block:
+    def block(self, point: arguments.Point, sizes: arguments.Point, *, solid: Optional[int] = None) -> Block:
         """A new solid: the block from the point on with edges along the axes, so long as the sizes say."""
         place, lengths = arguments.point('point', point), arguments.point('sizes', sizes)
         number = self._new('solid', solid)
@@ -91,11 +91,11 @@ class Commands(Steps):
         top, bottom, *sides = fresh['face']
         return Block(number, top, bottom, tuple(sides), tuple(fresh['edge']), tuple(fresh['vertex']))
 
-    def sweep(self, face: int, vector: Vector) -> Sweep:
+    def sweep(self, face: arguments.Face, vector: arguments.Point) -> Sweep:
         """The face moves by the vector and leaves a side behind each of its half-edges.
 
         A lamina's front is swept along its normal, its back along the opposite one: the other way the solid is inside out."""
-        number, way = arguments.number('face', face), arguments.point('vector', vector)
+        number, way = self._number('face', face), arguments.point('vector', vector)
         fresh = self._do('sweep', number, *way)
         rising: Numbers = ()
         far: Numbers = ()
@@ -106,19 +106,19 @@ class Commands(Steps):
             far += (*round_loop[2::2], round_loop[-1])
         return Sweep(number, tuple(fresh['face']), rising, far, tuple(fresh['vertex']))
 
-    def glue(self, face: int, other: int) -> int:
+    def glue(self, face: arguments.Face, other: arguments.Face) -> int:
         """The solids of the two faces become one along them: its number."""
-        faces = arguments.number('face', face), arguments.number('other', other)
+        faces = self._number('face', face), self._number('other', other, 'face')
         kept = self._reader().face(faces[0])
         self._do('glue', *faces)
         assert kept is not None, 'glue is refused where there is no such face'
         return kept.solid
 
-    def split(self, solid: int, plane: Tuple[int, int, int, int], *, above: Optional[int] = None) -> Split:
-        """The solid is cut by the plane a x + b y + c z + d = 0; what lies above it becomes a new solid.
+    def split(self, solid: arguments.Solid, plane: arguments.Point, *, above: Optional[int] = None) -> Split:
+        """The solid is cut by the plane a x + b y + c z + d = 0, four numbers or what `plane` returns; what lies above it becomes a new solid.
 
         Over the pipe the listing is read after it."""
-        cut, coefficients = arguments.number('solid', solid), arguments.plane('plane', plane)
+        cut, coefficients = self._number('solid', solid), arguments.plane('plane', plane)
         number = self._new('solid', above, 'above')
         fresh = self._do('split', cut, *coefficients, number)
         reader = self._reader()
@@ -128,30 +128,31 @@ class Commands(Steps):
         return Split(number, lower, upper, made['face'], made['edge'], made['vertex'])
 
     def undo(self, *, command: bool = False) -> None:
-        """The last step is taken back: a command, or all those of a feature; with `command=True` one command of it. A draft is one command."""
+        """The last step is taken back: a command, or all those of a feature or a group; with `command=True` one command of it. A draft is one
+        command. Refused: NothingToUndo. In a draft InDraft, in a group InGroup."""
         one = arguments.flag('command', command)
-        self._refuse_in_draft('undo')
-        for _ in range(1 if one else self._journal.step_back()):
-            self._go('undo')
+        self._step_through('undo', 1 if one else self._journal.step_back())
 
     def redo(self, *, command: bool = False) -> None:
-        """The step that was taken back last is done again; with `command=True` one command of it."""
+        """The step that was taken back last is done again; with `command=True` one command of it. Refused: NothingToRedo."""
         one = arguments.flag('command', command)
-        self._refuse_in_draft('redo')
-        for _ in range(1 if one else self._journal.step_ahead()):
-            self._go('redo')
+        self._step_through('redo', 1 if one else self._journal.step_ahead())
 
-    def plane(self, face: int) -> Plane:
-        """The plane of the face."""
-        number = arguments.number('face', face)
+    def plane(self, face: arguments.Face) -> Plane:
+        """The plane of the face, which `split` and `faces` take."""
+        number = self._number('face', face)
         return self._lines.plane(number)
 
-    def volume(self, solid: int) -> int:
-        """Six times the volume of the solid."""
-        number = arguments.number('solid', solid)
+    def volume(self, solid: arguments.Solid) -> Fraction:
+        """The volume of the solid, exactly: in cubes of the unit, a fraction whose denominator is 1, 2, 3 or 6."""
+        return Fraction(self.six_volume(solid), 6)
+
+    def six_volume(self, solid: arguments.Solid) -> int:
+        """Six times the volume of the solid, which is whole: what the command `volume` says."""
+        number = self._number('solid', solid)
         return self._lines.volume(number)
 
-    def count(self, solid: int) -> Count:
+    def count(self, solid: arguments.Solid) -> Count:
         """How many things of each kind the solid has."""
-        number = arguments.number('solid', solid)
+        number = self._number('solid', solid)
         return self._lines.count(number)

@@ -1,12 +1,17 @@
-"""What a workbench knows while it gives commands: those that were accepted, which are one step, and the numbers in use."""
+"""What a workbench knows while it gives commands: those that were accepted, which are one step, and the numbers in use.
 
-from typing import Dict, Optional, Sequence, Union
+The journal is what is held: a call that an exception leaves half-way isn't in it. Program and journal may then disagree, so the next call begins
+with the program started anew and given all that the journal has.
+"""
+
+from contextlib import contextmanager
+from typing import Callable, Dict, Iterator, NoReturn, Optional, Sequence, Union
 
 from . import arguments
-from .calls import Call, Value, call_in
+from .calls import Call, Value, call_in, words_in
 from .complaints import complaint
-from .errors import InDraft
-from .journal import KINDS, Journal
+from .errors import CompanionError, InDraft, InGroup, OutOfStep
+from .journal import KINDS, Done, Journal
 from .library import Library
 from .model import Model
 from .numbering import COUNTED_KINDS, GROWING, LARGER, NOT_IN_DRAFTS, Seeker, changes, fresh_counts
@@ -14,44 +19,53 @@ from .pipe import Pipe, find_program
 from .reading import FacePart, ListingReader, Reader
 from .replies import Reply
 from .results import Numbers
+from .turns import TakingTurns, in_turn
 from .vectors import dot
 
 Fresh = Dict[str, range]
 _NOTHING_TO_REDO = Reply(('refused 26 0',))
 
 
-class Conversation:
+class Conversation(TakingTurns):
     """A running gwb, and what follows from the commands that it accepted."""
 
-    def __init__(self, program: Optional[str] = None) -> None:
+    def __init__(self, program: Optional[arguments.Path] = None) -> None:
         """Starts the program at the path, or the one that the environment variable GWB, the repository or the path has.
 
         Where that is a shared object, `libgwb.so`, it is loaded in place of it.
         """
-        path = find_program() if program is None else arguments.text('program', program)
+        super().__init__()
+        path = find_program() if program is None else arguments.path('program', program)
         self._lines: Union[Library, Pipe] = Library(path) if path.endswith('.so') else Pipe(path)
         self._journal = Journal()
         self._seeker = Seeker(self._in_use, self._greatest_read)
         self._ever = dict.fromkeys(KINDS, 0)
         self._sizes: Dict[int, Numbers] = {}
         self._held: Optional[Model] = None
-        self._grouped: Optional[bool] = None
+        self._group_from: Optional[int] = None
+        self._agrees = True
+
+    def __reduce__(self) -> NoReturn:
+        raise TypeError('a workbench holds a running session, so it is neither copied nor pickled: save() writes its script')
 
     def close(self) -> int:
         """Ends the program; its status."""
+        self._changed()
         return self._lines.close()
 
     def ask(self, line: str) -> Reply:
         """The reply to one line of the script language, whatever it is. What it makes, undoes or redoes is taken account of; of a draft
         all is undone or redone."""
-        words = arguments.text('line', line).split()
+        words = words_in(arguments.line('line', line))
         self._refuse_in_draft(line)
         if words in (['undo'], ['redo']):
+            self._refuse_in_group(line)
             return self._stepped(words[0])
-        corners = self._prepared(words[0], int(words[1]) if words[1:] and words[1].isdecimal() else 0) if words else 0
-        reply = self._lines.ask(line)
-        if reply.word == 'ok':
-            self._account(call_in(line), corners)
+        corners = self._prepared(words[0], _number_in(words[1:])) if words else 0
+        with self._disagreeing():
+            reply = self._lines.ask(line)
+            if reply.word == 'ok':
+                self._account(call_in(line), corners)
         return reply
 
     def listing(self) -> Model:
@@ -62,15 +76,83 @@ class Conversation:
 
     def half_edges(self, loop: int) -> Numbers:
         """The half-edges of a loop, from the least on: none of a lone loop, or of one that is not there. The library reads no listing for it."""
-        number = arguments.number('loop', loop)
+        number = self._number('loop', loop)
         found = self._reader().loop(number)
         return found.halves if found else ()
 
+    @in_turn
     def _reader(self) -> Reader:
         """Who answers questions about the model: the library, or over the pipe the listing."""
         if isinstance(self._lines, Library):
             return self._lines
         return ListingReader(self.listing())
+
+    # Agreement of program and journal
+
+    def _begin_turn(self) -> None:
+        """Where an exception left an earlier call half-way, the program is started anew and given what the journal has."""
+        if self._agrees and self._lines.in_step:
+            return
+        self._changed()
+        try:
+            self._lines.restart()
+            self._replay()
+        except CompanionError as reason:
+            self._lines.end(f'after a call that was left half-way the commands could not be given anew: {reason}')
+        self._agrees = True
+
+    def _replay(self) -> None:
+        """Gives all commands of the journal, and undoes those that are undone there."""
+        ahead = self._journal.ahead
+        for done in (*self._journal.held, *ahead):
+            self._lines.give(done.calls)
+        self._unmake(ahead)
+        if self._journal.is_drafting:
+            self._lines.open_draft()
+            for call in self._journal.draft:
+                self._lines.do(call)
+        self._journal.replayed()
+
+    def _unmake(self, made: Sequence[Done]) -> None:
+        """Undoes the last commands, which are these. A complaint is raised."""
+        for done in reversed(made):
+            reply = self._lines.step('undo', len(done.calls))
+            if reply.is_complaint:
+                raise complaint('undo', reply)
+
+    def _require_agreement(self) -> None:
+        if not self._agrees:
+            raise OutOfStep('another call is under way')
+
+    @contextmanager
+    def _disagreeing(self) -> Iterator[None]:
+        """While a command is given and accounted for, program and journal may disagree; where it isn't accepted they agree again."""
+        self._require_agreement()
+        was_inside, self._is_inside, self._agrees = self._is_inside, True, False
+        try:
+            yield
+        except CompanionError:
+            self._agrees = True
+            raise
+        else:
+            self._agrees = True
+        finally:
+            self._is_inside = was_inside
+
+    def _follow(self, way_back: Callable[[], None]) -> None:
+        """The journal is as it was before some commands: the program goes the way back, or is brought into step by the next call."""
+        agreed = self._agrees and self._lines.in_step
+        self._agrees = False
+        self._changed()
+        if agreed:
+            was_inside, self._is_inside = self._is_inside, True
+            try:
+                way_back()
+                self._agrees = True
+            except CompanionError:
+                pass
+            finally:
+                self._is_inside = was_inside
 
     # Commands
 
@@ -80,8 +162,16 @@ class Conversation:
             self._refuse_in_draft(word)
         call = Call(word, values)
         corners = self._prepared(word, call.number(0) if word == 'sweep' else 0)
-        self._lines.do(call)
-        return self._account(call, corners)
+        self._require_agreement()
+        self._agrees = False
+        try:
+            self._lines.do(call)
+        except CompanionError:
+            self._agrees = True
+            raise
+        fresh = self._account(call, corners)
+        self._agrees = True
+        return fresh
 
     def _prepared(self, word: str, first: int) -> int:
         """Makes sure of what a larger command counts on from, where nobody says it later; how many corners the face of a sweep has."""
@@ -91,7 +181,7 @@ class Conversation:
         return sum(self._face_sizes(first)) if word == 'sweep' else 0
 
     def _account(self, call: Call, corners: int) -> Fresh:
-        """An accepted command changes what is known: the fresh numbers of a larger one."""
+        """An accepted command changes what is known: the fresh numbers of a larger one. The journal comes last."""
         self._held = None
         fresh = self._fresh(call, corners) if call.word in LARGER else {}
         self._resize(call, fresh)
@@ -101,10 +191,12 @@ class Conversation:
         for kind, bound in zip(KINDS, greatest.bounds):
             if bound > self._ever[kind]:
                 self._ever[kind] = bound
-        self._journal.add(call, self._grouped is not True, greatest)
-        if self._grouped is False:
-            self._grouped = True
+        self._journal.add(call, self._begins_step(), greatest)
         return fresh
+
+    def _begins_step(self) -> bool:
+        """Whether a step to undo begins with the next command: always but in a group that has one already."""
+        return self._group_from is None or self._journal.at <= self._group_from
 
     def _go(self, word: str) -> None:
         """Undoes or redoes one command, the word says which. A complaint is raised."""
@@ -116,10 +208,11 @@ class Conversation:
         """The reply where one command is undone or redone, the word says which."""
         if word == 'redo' and self._journal.has_given_up:
             return _NOTHING_TO_REDO
-        reply = self._lines.step(word, self._journal.calls_of(word))
-        if not reply.is_complaint:
-            self._journal.at += 1 if word == 'redo' else -1
-            self._changed()
+        with self._disagreeing():
+            reply = self._lines.step(word, self._journal.calls_of(word))
+            if not reply.is_complaint:
+                self._changed()
+                self._journal.stepped(word)
         return reply
 
     def _changed(self) -> None:
@@ -129,8 +222,13 @@ class Conversation:
 
     def _refuse_in_draft(self, words: str) -> None:
         """A draft takes operators alone."""
-        if self._journal.draft is not None:
+        if self._journal.is_drafting:
             raise InDraft(f'{words}: a draft is open, which takes operators alone')
+
+    def _refuse_in_group(self, words: str) -> None:
+        """A group is undone when it is whole."""
+        if self._group_from is not None:
+            raise InGroup(f'{words}: a group is open, which is undone when it has ended')
 
     def _fresh(self, call: Call, corners: int) -> Fresh:
         """For each kind the fresh numbers of an accepted larger command, up to the greatest in use; those of a split have gaps."""
@@ -158,6 +256,10 @@ class Conversation:
 
     # Numbers
 
+    def _number(self, name: str, value: object, kind: str = '') -> int:
+        """The number of a thing of the kind, by default the one that the argument is named after: a thing of this workbench, or a number."""
+        return arguments.number(name, value, kind or name, self)
+
     def _in_use(self, kind: str, number: int) -> bool:
         """Whether the number of the kind is in use."""
         free = {kind: bound + 1 for kind, bound in zip(KINDS, self._journal.greatest.bounds)}
@@ -174,7 +276,7 @@ class Conversation:
 
     def _new(self, kind: str, given: Optional[int], name: str = '') -> int:
         """The number that was given, by the argument of the kind's name or another, or one above all that are in use or were."""
-        return self._ever[kind] + 1 if given is None else arguments.number(name or kind, given)
+        return self._ever[kind] + 1 if given is None else arguments.number(name or kind, given, kind, self)
 
     def _solid_of(self, face: int) -> int:
         row = self._reader().face(face)
@@ -182,3 +284,8 @@ class Conversation:
 
     def _lies_on(self, face: int, plane: Sequence[int]) -> bool:
         return all(dot((plane[0], plane[1], plane[2]), point) + plane[3] == 0 for point in FacePart(self, face).points)
+
+
+def _number_in(words: Sequence[str]) -> int:
+    """The number that the first word is; 0 where it is none, or a great one."""
+    return int(words[0]) if words and words[0].isascii() and words[0].isdecimal() and len(words[0]) < 20 else 0

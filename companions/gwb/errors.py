@@ -29,6 +29,14 @@ class InDraft(CompanionError, RuntimeError):
     """A draft is open, which takes operators alone; nothing has changed."""
 
 
+class InGroup(CompanionError, RuntimeError):
+    """A group is open, which is undone when it has ended; nothing has changed."""
+
+
+class OutOfStep(CompanionError, RuntimeError):
+    """A call is under way, as where a handler of signals gives another one; nothing was sent."""
+
+
 class NoDraft(CompanionError, RuntimeError):
     """The draft has ended before its block did: a feature in it wasn't made whole."""
 

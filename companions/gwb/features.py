@@ -6,7 +6,7 @@ feature adds against the solid as `gwb-check` would look at it. So a refusal (Im
 
 from fractions import Fraction
 from math import cos, pi, sin
-from typing import List, Optional, Sequence, Tuple
+from typing import Dict, List, NamedTuple, Optional, Sequence, Tuple
 
 from . import arguments
 from .check import check
@@ -15,54 +15,84 @@ from .measures import why_unfit
 from .model import Face, Loop, Model
 from .outlines import Impossible, clockwise_in, simple_normal, steps_along
 from .plane_figures import Place
-from .results import Hole, Lone, NewEdge, Numbers, Pocket, Profile, Ring
+from .results import Hole, Lone, Numbers, Pocket, Profile, Ring, Sweep
 from .selection import Selecting
 from .vectors import Vector, ZERO, add, cross, dot, negative, reduced
+
+_MOST_SIDES = 1_000_000
+
+
+class _Outline(NamedTuple):
+    """The points of an outline as they were given, and as they run round a ring: from the same point on."""
+
+    points: List[Vector]
+    path: List[Vector]
+
+    def by_points(self, along: Sequence[int]) -> Numbers:
+        """What belongs to the segments of the path from its points on, in the order of the segments from the given points on."""
+        return tuple(along) if self.points == self.path else tuple(reversed(along))
 
 
 class Features(Selecting):
     """Larger things than commands, made of commands."""
 
-    def profile(self, points: Sequence[Vector], *, along: Vector, solid: Optional[int] = None) -> Profile:
+    def profile(self, points: arguments.Points, *, along: arguments.Point, solid: Optional[int] = None) -> Profile:
         """A new solid: the outline through the points, moved along the vector. It is never inside out, whichever way the points run.
 
-        Refused: FewPoints, RepeatedPoint, NoArea, NotInPlane, OutlineCrossed; AlongPlane: the vector lies in the plane of the points."""
+        Refused: FewPoints, RepeatedPoint; NoArea: the outline has no area; NotInPlane: a point lies off the plane of the others;
+        OutlineCrossed: the outline crosses or touches itself; AlongPlane: the vector lies in the plane of the points."""
         outline, way = arguments.points('points', points), arguments.point('along', along)
         number = self._new('solid', solid)
         self._refuse_in_draft('profile')
         side = dot(simple_normal(outline), way)
         if side == 0:
             raise Impossible('AlongPlane', 0, f'the vector {way} lies in the plane of the points')
+        path = outline if side > 0 else [outline[0], *reversed(outline[1:])]
         with self._step():
-            made = self.lamina(outline if side > 0 else [outline[0], *reversed(outline[1:])], solid=number)
-            swept = self.sweep(made.front, way)
-        return Profile(number, made.front, made.back, swept.sides if side > 0 else tuple(reversed(swept.sides)))
+            front, back, edges = self._flat_solid(path, number)
+            swept = self.sweep(front, way)
+        return Profile(number, front, back, _Outline(outline, path).by_points(_along(edges, edges, swept)))
 
-    def ring(self, face: int, points: Sequence[Vector]) -> Ring:
+    def ring(self, face: arguments.Face, points: arguments.Points) -> Ring:
         """A face inside the face, with the outline through the points, and a ring around it.
 
-        Refused: NoFace; NotFlat: the face isn't flat; NotInPlane, OutlineCrossed, OutlineOutside, OutlineAroundRing and what profile
-        says of points."""
-        number, outline = arguments.number('face', face), arguments.points('points', points)
-        path = clockwise_in(self._flat(number), number, outline)
+        Refused: NoFace; NotFlat: the face isn't flat; FewPoints, RepeatedPoint; NoArea: the outline has no area; NotInPlane: a point lies off
+        the plane of the face; OutlineCrossed: the outline crosses or touches itself; OutlineOutside: it crosses or touches the boundary of the
+        face, or doesn't lie inside; OutlineAroundRing: a ring of the face lies inside the outline."""
+        number, outline = self._outline_in(face, points)
         with self._step(operators_alone=True):
-            return self._draw(number, path)
+            made = self._draw(number, outline.path)
+        vertices = made.vertices if outline.points == outline.path else (made.vertices[0], *reversed(made.vertices[1:]))
+        return made._replace(edges=outline.by_points(made.edges), vertices=vertices)
 
-    def pocket(self, face: int, points: Sequence[Vector], depth: int) -> Pocket:
-        """A pocket so deep behind the outline in the face. Refused as ring is; OffLattice: no whole vector along the normal is so long;
-        Meets: the pocket would come through, or meet or touch something of the solid."""
+    def pocket(self, face: arguments.Face, points: arguments.Points, depth: int) -> Pocket:
+        """A pocket so deep behind the outline in the face.
+
+        Refused: NoFace; NotFlat: the face isn't flat; FewPoints, RepeatedPoint; NoArea: the outline has no area; NotInPlane: a point lies off
+        the plane of the face; OutlineCrossed: the outline crosses or touches itself; OutlineOutside: it crosses or touches the boundary of the
+        face, or doesn't lie inside; OutlineAroundRing: a ring of the face lies inside the outline; OffLattice: no whole vector along the
+        normal is so long; Meets: the pocket would come through, or meet or touch something of the solid."""
         return self._raised(face, points, -arguments.positive('depth', depth))
 
-    def boss(self, face: int, points: Sequence[Vector], height: int) -> Pocket:
-        """A boss so high on the outline in the face. Refused as pocket is."""
+    def boss(self, face: arguments.Face, points: arguments.Points, height: int) -> Pocket:
+        """A boss so high on the outline in the face.
+
+        Refused: NoFace; NotFlat: the face isn't flat; FewPoints, RepeatedPoint; NoArea: the outline has no area; NotInPlane: a point lies off
+        the plane of the face; OutlineCrossed: the outline crosses or touches itself; OutlineOutside: it crosses or touches the boundary of the
+        face, or doesn't lie inside; OutlineAroundRing: a ring of the face lies inside the outline; OffLattice: no whole vector along the
+        normal is so long; Meets: the boss would meet or touch something of the solid."""
         return self._raised(face, points, arguments.positive('height', height))
 
-    def hole(self, face: int, points: Sequence[Vector]) -> Hole:
-        """A hole from the outline in the face through to the opposite face. Refused as pocket is; NoOpposite: there is nothing behind
-        the outline; NotParallel: the face behind it isn't parallel; OutlineOutside: the outline isn't inside that one."""
-        number, outline = arguments.number('face', face), arguments.points('points', points)
-        self._refuse_in_draft('hole')
-        path = clockwise_in(self._flat(number), number, outline)
+    def hole(self, face: arguments.Face, points: arguments.Points) -> Hole:
+        """A hole from the outline in the face through to the opposite face.
+
+        Refused: NoFace; NotFlat: the face isn't flat; FewPoints, RepeatedPoint; NoArea: the outline has no area; NotInPlane: a point lies off
+        the plane of the face; OutlineCrossed: the outline crosses or touches itself; OutlineOutside: it crosses or touches the boundary of the
+        face or of the opposite one, or doesn't lie inside; OutlineAroundRing: a ring of either face lies inside the outline; NoOpposite: there
+        is nothing behind the outline; NotParallel: the face behind it isn't parallel; OffLattice: its plane lies off the lattice behind the
+        face; Meets: the hole would meet or touch something else of the solid."""
+        number, outline = self._outline_in(face, points, 'hole')
+        path = outline.path
         model = self._model_of(self._faces_beside(number))
         other, way = _opposite(model, number, path[0])
         clockwise_in(FlatFace(model, other), other, [add(point, way) for point in path])
@@ -71,15 +101,21 @@ class Features(Selecting):
             ring = self._draw(number, path)
             swept = self.sweep(ring.face, way)
             self.kfmrh(other, ring.face)
-        return Hole(other, ring.loop, swept.sides, tuple(path))
+        return Hole(other, ring.loop, outline.by_points(_along(_inside(ring.edges), ring.edges, swept)), tuple(outline.points))
 
-    def drill(self, face: int, center: Vector, radius: int, sides: int, *, depth: Optional[int] = None) -> Hole:
+    def drill(self, face: arguments.Face, center: arguments.Point, radius: int, sides: int, *, depth: Optional[int] = None) -> Hole:
         """A hole with a polygon of so many sides around the center, on whole numbers nearest to the circle of the radius: through, or so
-        deep. The face lies across an axis, else NotAcross; otherwise refused as hole and pocket are."""
-        number, middle = arguments.number('face', face), arguments.point('center', center)
+        deep.
+
+        Refused: NoFace; NotFlat: the face isn't flat; NotAcross: it doesn't lie across an axis; RepeatedPoint: two corners of the polygon fall
+        on one point; NotInPlane: the center lies off the plane of the face; OutlineOutside: the polygon crosses or touches the boundary of the
+        face or of the opposite one, or doesn't lie inside; OutlineAroundRing: a ring of either face lies inside the polygon; NoOpposite: there
+        is nothing behind it; NotParallel: the face behind it isn't parallel; Meets: the hole would meet or touch something else of the solid,
+        or with a depth come through it."""
+        number, middle = self._number('face', face), arguments.point('center', center)
         reach, count = arguments.positive('radius', radius), arguments.positive('sides', sides)
-        if not 3 <= count <= arguments.MOST_POINTS:
-            raise ValueError(f'sides: {count} is outside 3 to {arguments.MOST_POINTS}')
+        if not 3 <= count <= _MOST_SIDES:
+            raise ValueError(f'sides: {count} is outside 3 to {_MOST_SIDES}')
         deep = None if depth is None else arguments.positive('depth', depth)
         self._refuse_in_draft('drill')
         across = self._flat(number).across
@@ -91,12 +127,12 @@ class Features(Selecting):
         made = self.pocket(number, outline, deep)
         return Hole(made.face, made.loop, made.sides, tuple(outline))
 
-    def glue_all(self, solids: Sequence[int]) -> int:
+    def glue_all(self, solids: Sequence[arguments.Solid]) -> int:
         """The solids become one along the faces that match: its number, the first one's.
 
         Refused: NoMatch: no chain of matching faces joins a solid with the first; GluedTwice: two of them match along more than the one face that a
         gluing takes, so that the rest would touch."""
-        numbers = arguments.numbers('solids', solids)
+        numbers = arguments.numbers('solids', solids, 'solid', self)
         if not numbers or len(set(numbers)) < len(numbers):
             raise ValueError('solids: different numbers are wanted, at least one')
         self._refuse_in_draft('glue_all')
@@ -108,20 +144,42 @@ class Features(Selecting):
                 self.glue(face, other)
         return numbers[0]
 
-    def _raised(self, face: int, points: Sequence[Vector], length: int) -> Pocket:
+    def _raised(self, face: arguments.Face, points: arguments.Points, length: int) -> Pocket:
         """The outline moved along the face's normal by the length, which is negative for a pocket."""
-        number, outline = arguments.number('face', face), arguments.points('points', points)
-        self._refuse_in_draft('boss' if length > 0 else 'pocket')
-        shape = self._flat(number)
-        path = clockwise_in(shape, number, outline)
-        way = steps_along(reduced(shape.across), length)
+        number, outline = self._outline_in(face, points, 'boss' if length > 0 else 'pocket')
+        way = steps_along(reduced(self._flat(number).across), length)
         if way is None:
             raise Impossible('OffLattice', number, f'no whole vector along the normal of face {number} is {abs(length)} long')
-        _require_room(self._model_of(self._faces_beside(number)), number, path, way, None)
+        _require_room(self._model_of(self._faces_beside(number)), number, outline.path, way, None)
         with self._step():
-            ring = self._draw(number, path)
+            ring = self._draw(number, outline.path)
             swept = self.sweep(ring.face, way)
-        return Pocket(ring.face, ring.loop, swept.sides)
+        return Pocket(ring.face, ring.loop, outline.by_points(_along(_inside(ring.edges), ring.edges, swept)))
+
+    def _outline_in(self, face: arguments.Face, points: arguments.Points, feature: str = '') -> Tuple[int, _Outline]:
+        """The face, and an outline strictly inside it; a larger feature is named, since no draft takes it."""
+        number, given = self._number('face', face), arguments.points('points', points)
+        if feature:
+            self._refuse_in_draft(feature)
+        return number, _Outline(given, clockwise_in(self._flat(number), number, given))
+
+    def _flat_solid(self, path: Sequence[Vector], solid: int) -> Tuple[int, int, Numbers]:
+        """A solid of two faces back to back through the points: the front, the back, and the edges from the points on."""
+        if len(path) <= arguments.MOST_LAMINA_POINTS:
+            made = self.lamina(path, solid=solid)
+            return made.front, made.back, made.edges
+        start = self.mvfs(path[0], solid=solid)
+        back, edges, _ = self._close_path(start.loop, path[1:])
+        return start.face, back, edges
+
+    def _close_path(self, loop: int, points: Sequence[Vector]) -> Tuple[int, Numbers, Numbers]:
+        """A path of edges from a lone loop through the points and back: the face inside, where the points run clockwise, the edges in their
+        order, and the vertices."""
+        made = [self.mev(Lone(loop), Lone(loop), points[0])]
+        for point in points[1:]:
+            made.append(self.mev(-made[-1].edge, -made[-1].edge, point))
+        closing = self.mef(-made[-1].edge, made[0].edge)
+        return closing.face, (*(edge.edge for edge in made), closing.edge), tuple(edge.vertex for edge in made)
 
     def _faces_beside(self, face: int) -> List[int]:
         """The faces of the face's solid."""
@@ -137,16 +195,24 @@ class Features(Selecting):
         return FlatFace(model, face)
 
     def _draw(self, face: int, path: Sequence[Vector]) -> Ring:
-        """The ring through points that run as a ring does, and the face inside it."""
+        """The ring through points that run as a ring does, and the face inside it: edges and vertices from the first point on."""
         start = self.face(face).outer.half_edges[0]
         spur = self.mev(start, start, path[0])
         ring = self.kemr(spur.edge)
-        edges: List[NewEdge] = [self.mev(Lone(ring), Lone(ring), path[1])]
-        for point in path[2:]:
-            edges.append(self.mev(-edges[-1].edge, -edges[-1].edge, point))
-        inside = self.mef(-edges[-1].edge, edges[0].edge)
-        return Ring(inside.face, ring, (*(edge.edge for edge in edges), inside.edge),
-                    (spur.vertex, *(edge.vertex for edge in edges)))
+        inside, edges, vertices = self._close_path(ring, path[1:])
+        return Ring(inside, ring, edges, (spur.vertex, *vertices))
+
+
+def _inside(edges: Numbers) -> Numbers:
+    """The half-edges of the face inside a ring of these edges, in their order."""
+    return tuple(-edge for edge in reversed(edges))
+
+
+def _along(halves: Numbers, edges: Numbers, swept: Sweep) -> Numbers:
+    """The sides over edges, in the edges' order, of a face that was swept and had one loop of these half-edges."""
+    least = min(range(len(halves)), key=lambda place: abs(halves[place]))
+    over: Dict[int, int] = dict(zip((abs(half) for half in halves[least:] + halves[:least]), swept.sides))
+    return tuple(over[edge] for edge in edges)
 
 
 def _polygon(center: Vector, across: Vector, radius: int, sides: int) -> List[Vector]:

@@ -1,6 +1,7 @@
 """The kernel in this process, the library `libgwb.so`: a command is a call of its own there, and the model is read without text."""
 
 import ctypes
+from operator import index
 from typing import Any, Callable, Dict, Iterator, List, Optional, Sequence, Tuple, Type
 
 from .arguments import GREATEST_NUMBER
@@ -19,9 +20,10 @@ _ROOM = 4096
 _FEW = 64
 _OK, _MEMORY, _CLOSED, _IN_DRAFT, _NO_DRAFT = 1, 4, 9, 11, 12
 _TOLD = (5, 6, 7)
+_CLOSED_TEXT = 'the session is closed'
 # What is raised where there is no answer, and what it says.
 _NO_ANSWERS: Dict[int, Tuple[Type[CompanionError], str]] = {
-    _CLOSED: (Ended, 'the session is closed'), _IN_DRAFT: (InDraft, 'a draft is open, which takes operators alone'),
+    _CLOSED: (Ended, _CLOSED_TEXT), _IN_DRAFT: (InDraft, 'a draft is open, which takes operators alone'),
     _NO_DRAFT: (NoDraft, 'there is no draft')}
 _FOUND = 1
 _ACCEPTED = Reply(('ok',))
@@ -139,7 +141,7 @@ def load(path: str) -> ctypes.PyDLL:
 def _code(corner: Value) -> int:
     """The code of a half-edge or a corner."""
     if isinstance(corner, Lone):
-        return _LONE | corner.loop
+        return _LONE | index(corner.loop)
     assert isinstance(corner, int), 'the commands begin with corners and half-edges'
     return 2 * corner if corner > 0 else 1 - 2 * corner
 
@@ -152,24 +154,41 @@ def _way(values: Tuple[Value, ...]) -> Tuple[Value, ...]:
 class Library:
     """A session of the library, and what it says."""
 
+    # A call is one of this process, so none is left half-way.
+    in_step = True
+
     def __init__(self, path: str) -> None:
         self._handle = Handle()
         try:
             self._library = load(path)
         except OSError as error:
             raise ProgramMissing(str(error)) from None
-        if not self._library.gwb_open(self._handle):
-            raise MemoryError('no session was opened')
+        self._open()
         self._commands = {name: getattr(self._library, f'gwb_{name}') for name in (*_COMMANDS, *_DRAFTS)}
 
     def __del__(self) -> None:
+        self.close()
+
+    def _open(self) -> None:
+        if not self._library.gwb_open(self._handle):
+            raise MemoryError('no session was opened')
+
+    def restart(self) -> None:
+        """Opens the session anew, with nothing held. One that was closed stays so: Ended."""
+        if not self._handle.is_open:
+            raise Ended(_CLOSED_TEXT)
+        self._library.gwb_close(self._handle)
+        self._open()
+
+    def end(self, _: str) -> None:
+        """The session is over, if it isn't already."""
         self.close()
 
     def ask(self, line: str) -> Reply:
         """The reply to one line that is a command, or a fault."""
         data = command_bytes(line)
         if not self._handle.is_open:
-            raise Ended('the session is closed')
+            raise Ended(_CLOSED_TEXT)
         said = self._library.gwb_line(self._handle, data, len(data))
         if said in (_OK, _IN_DRAFT):
             return self._reply(said)
@@ -254,7 +273,8 @@ class Library:
 
     def _lamina(self, solid: Value, *coordinates: Value) -> int:
         """The kind of the answer to a lamina."""
-        points = (Point * (len(coordinates) // 3))(*zip(*[iter(coordinates)] * 3))
+        parts = iter(coordinates)
+        points = (Point * (len(coordinates) // 3))(*(Point(*xyz) for xyz in zip(parts, parts, parts)))
         return int(self._library.gwb_lamina(self._handle, solid, points, len(points)))
 
     @staticmethod
@@ -290,7 +310,7 @@ class Library:
             codes = (ctypes.c_uint32 * room)()
             count = self._library.gwb_half_edges(self._handle, loop, codes, room)
             if not self._handle.is_open:
-                raise Ended('the session is closed')
+                raise Ended(_CLOSED_TEXT)
             if count <= room:
                 return tuple(-(code // 2) if code % 2 else code // 2 for code in _from_least(codes[:count]))
             room = count
@@ -356,7 +376,7 @@ class Library:
     @staticmethod
     def _answer(said: int) -> bool:
         if said == _CLOSED:
-            raise Ended('the session is closed')
+            raise Ended(_CLOSED_TEXT)
         return said == _FOUND
 
     def close(self) -> int:

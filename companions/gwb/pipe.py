@@ -6,9 +6,9 @@ import subprocess
 from pathlib import Path
 from typing import Dict, Iterator, List, Sequence
 
-from .calls import Call
+from .calls import Call, words_in
 from .complaints import Complaint, complaint
-from .errors import Ended, ProgramMissing
+from .errors import Ended, OutOfStep, ProgramMissing
 from .language import command_bytes
 from .listing import model_of
 from .model import Model
@@ -34,7 +34,8 @@ def find_program() -> str:
     else that on the path."""
     program = os.environ.get('GWB') or next((str(path) for path in _places() if path.is_file()), None) or shutil.which('gwb')
     if program is None:
-        raise ProgramMissing("gwb isn't built in this repository, which .ci/run does, nor on the path; the environment variable GWB may name it")
+        raise ProgramMissing('the program gwb was not found: the environment variable GWB may name it, or it lies on the path; '
+                             'in a copy of the sources .ci/run builds it')
     return program
 
 
@@ -50,21 +51,44 @@ class Pipe:
     """The program, started, and what it says."""
 
     def __init__(self, program: str) -> None:
+        self._program = program
+        self._over = ''
+        self._start()
+
+    def _start(self) -> None:
+        """The program stands in a session of its own, so what a terminal sends to this process doesn't end it."""
         try:
-            self._process = subprocess.Popen([program], stdin=subprocess.PIPE,
-                                             stdout=subprocess.PIPE, stderr=subprocess.PIPE)
+            self._process = subprocess.Popen([self._program], stdin=subprocess.PIPE, stdout=subprocess.PIPE, stderr=subprocess.PIPE,
+                                             start_new_session=True)
         except OSError as error:
             raise ProgramMissing(f'{error.filename}: {error.strerror}') from None
         assert self._process.stdin and self._process.stdout, 'both are pipes'
         self._to, self._from = self._process.stdin, self._process.stdout
+        self.in_step = True
+
+    def restart(self) -> None:
+        """Starts the program anew, with nothing held. One that has ended by itself, or was closed, stays so: Ended."""
+        if self._over:
+            raise Ended(self._over)
+        self._kill()
+        self._start()
 
     def ask(self, line: str) -> Reply:
-        """The reply to one line that is a command, or a fault."""
-        self._send(command_bytes(line))
-        if line.split() == ['list']:
-            return self._listing()
-        answer = self._receive()
-        return ACCEPTED if answer == 'ok' else only_reply([answer])
+        """The reply to one line that is a command, or a fault. Where an exception leaves it, replies are no longer in step."""
+        data = command_bytes(line)
+        if self._over:
+            raise Ended(self._over)
+        if not self.in_step:
+            raise OutOfStep(f'{line}: another call is under way, whose reply is awaited')
+        self.in_step = False
+        self._send(data)
+        if words_in(line) == ['list']:
+            reply = self._listing()
+        else:
+            answer = self._receive()
+            reply = ACCEPTED if answer == 'ok' else only_reply([answer])
+        self.in_step = True
+        return reply
 
     def do(self, call: Call) -> None:
         """Gives a command. A complaint is raised."""
@@ -93,8 +117,8 @@ class Pipe:
 
     def commit(self) -> None:
         """Ends the draft."""
-        if self._to.closed:
-            raise self._ended()
+        if self._over:
+            raise Ended(self._over)
 
     def abandon(self, steps: int) -> bool:
         """Takes the steps of the draft back; whether what could be redone before still can."""
@@ -126,9 +150,22 @@ class Pipe:
 
     def close(self) -> int:
         """Ends the program; its status."""
-        if not self._to.closed:
+        if not self.in_step:
+            self._kill()
+        elif not self._to.closed:
             self._process.communicate()
+        self._over = self._over or 'the session is closed'
         return self._process.returncode
+
+    def end(self, why: str) -> None:
+        """The session is over, for the reason, if it isn't already."""
+        self._over = self._over or why
+        self._kill()
+
+    def _kill(self) -> None:
+        if self._process.returncode is None:
+            self._process.kill()
+            self._process.communicate()
 
     def _repeat(self, word: str, times: int) -> None:
         for _ in range(times):
@@ -146,14 +183,11 @@ class Pipe:
         try:
             self._to.write(data + b'\n')
             self._to.flush()
-        except (BrokenPipeError, ValueError):
+        except BrokenPipeError:
             raise self._ended() from None
 
     def _receive(self) -> str:
-        try:
-            line = self._from.readline()
-        except ValueError:
-            raise self._ended() from None
+        line = self._from.readline()
         if not line.endswith(b'\n'):
             raise self._ended()
         return line[:-1].decode('ascii', 'backslashreplace')
@@ -167,8 +201,8 @@ class Pipe:
         return only_reply(lines[:-1])
 
     def _ended(self) -> Ended:
-        """The error that says how the program ended."""
-        if self._to.closed:
-            return Ended('the session is closed')
+        """The error that says how the program ended; no reply is due any more."""
         complaint = self._process.communicate()[1].decode('utf-8', 'replace').strip()
-        return Ended(complaint or f'the program ended with status {self._process.returncode}')
+        self._over = complaint or f'the program ended with status {self._process.returncode}'
+        self.in_step = True
+        return Ended(self._over)

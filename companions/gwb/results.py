@@ -2,16 +2,18 @@
 
 from typing import NamedTuple, Tuple, Union
 
+from .reading import EdgePart, LoopPart
+
 Numbers = Tuple[int, ...]
 
 
 class Lone(NamedTuple):
     """The corner of a lone loop, `@L` in scripts."""
 
-    loop: int
+    loop: Union[int, LoopPart]
 
 
-Corner = Union[int, Lone]
+Corner = Union[int, EdgePart, Lone]
 
 
 class NewSolid(NamedTuple):
@@ -111,7 +113,7 @@ class Profile(NamedTuple):
 
 
 class Ring(NamedTuple):
-    """What ring makes: the face inside the outline, the ring around it, its edges and its vertices in the order in which they run."""
+    """What ring makes: the face inside the outline, the ring around it, and for each point the edge from it to the next, and the vertex there."""
 
     face: int
     loop: int
@@ -120,7 +122,7 @@ class Ring(NamedTuple):
 
 
 class Pocket(NamedTuple):
-    """What pocket and boss make: the floor or top, the ring in the face, and the sides over the ring's edges."""
+    """What pocket and boss make: the floor or top, the ring in the face, and for each point the side from it to the next."""
 
     face: int
     loop: int
@@ -128,7 +130,8 @@ class Pocket(NamedTuple):
 
 
 class Hole(NamedTuple):
-    """What hole and drill make: the face it ends in, the ring at its start, and the walls; `points` is the outline."""
+    """What hole and drill make: the face it ends in, the ring at its start, the points of the outline, and for each the side from it to the
+    next."""
 
     other: int
     loop: int

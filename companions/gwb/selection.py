@@ -29,9 +29,11 @@ class Selection(Sequence[Found], Generic[Found]):
     def __getitem__(self, place: int) -> Found: ...
 
     @overload
-    def __getitem__(self, place: slice) -> Sequence[Found]: ...
+    def __getitem__(self, place: slice) -> 'Selection[Found]': ...
 
-    def __getitem__(self, place: Union[int, slice]) -> Union[Found, Sequence[Found]]:
+    def __getitem__(self, place: Union[int, slice]) -> 'Union[Found, Selection[Found]]':
+        if isinstance(place, slice):
+            return Selection(self._kind, self._wanted, self._parts[place])
         return self._parts[place]
 
     def __iter__(self) -> Iterator[Found]:
@@ -53,7 +55,7 @@ class Selection(Sequence[Found], Generic[Found]):
         raise NotOne(f'one {self._kind}{self._wanted} was wanted; '
                      + (f'{len(self._parts)} were found: {found}' if found else 'none was found'))
 
-    def farthest(self, direction: Vector) -> 'Selection[Found]':
+    def farthest(self, direction: arguments.Point) -> 'Selection[Found]':
         """Those whose nearest point lies farthest along the direction; more than one where they are level."""
         way = arguments.point('direction', direction)
         if way == ZERO:
@@ -77,34 +79,34 @@ class Selection(Sequence[Found], Generic[Found]):
 class Selecting(Commands):
     """Parts of the model by their numbers, and by where they lie."""
 
-    def solid(self, solid: int) -> SolidPart:
+    def solid(self, solid: arguments.Solid) -> SolidPart:
         """The solid of this number. Where there is none, what is asked of it raises Refused; so do the next ones."""
-        return SolidPart(self, arguments.number('solid', solid))
+        return SolidPart(self, self._number('solid', solid))
 
-    def face(self, face: int) -> FacePart:
+    def face(self, face: arguments.Face) -> FacePart:
         """The face of this number."""
-        return FacePart(self, arguments.number('face', face))
+        return FacePart(self, self._number('face', face))
 
-    def loop(self, loop: int) -> LoopPart:
+    def loop(self, loop: arguments.LoopNumber) -> LoopPart:
         """The loop of this number."""
-        return LoopPart(self, arguments.number('loop', loop))
+        return LoopPart(self, self._number('loop', loop))
 
-    def edge(self, edge: int) -> EdgePart:
+    def edge(self, edge: arguments.Edge) -> EdgePart:
         """The edge of this number."""
-        return EdgePart(self, arguments.number('edge', edge))
+        return EdgePart(self, self._number('edge', edge))
 
-    def vertex(self, vertex: int) -> VertexPart:
+    def vertex(self, vertex: arguments.Vertex) -> VertexPart:
         """The vertex of this number."""
-        return VertexPart(self, arguments.number('vertex', vertex))
+        return VertexPart(self, self._number('vertex', vertex))
 
     def solids(self) -> 'Selection[SolidPart]':
         """All solids."""
         return Selection('solid', '', [SolidPart(self, number) for number in self._reader().numbers('solid')])
 
-    def faces(self, *, solid: Optional[int] = None, plane: Optional[Tuple[int, int, int, int]] = None,
-              normal: Optional[Vector] = None, containing: Optional[Vector] = None) -> 'Selection[FacePart]':
-        """The faces that fit: of the solid; wholly in the plane a x + b y + c z + d = 0, whichever way they look; flat, and looking the way of
-        the normal; flat, with the point inside or on the outline."""
+    def faces(self, *, solid: Optional[arguments.Solid] = None, plane: Optional[arguments.Point] = None,
+              normal: Optional[arguments.Point] = None, containing: Optional[arguments.Point] = None) -> 'Selection[FacePart]':
+        """The faces that fit: of the solid; wholly in the plane a x + b y + c z + d = 0, four numbers or what `plane` returns, whichever way
+        they look; flat, and looking the way of the normal; flat, with the point inside or on the outline."""
         tests: List[Callable[[FacePart], bool]] = []
         if plane is not None:
             level = arguments.plane('plane', plane)
@@ -122,10 +124,10 @@ class Selecting(Commands):
         wanted = _wanted(solid=solid, plane=plane, normal=normal, containing=containing)
         return Selection('face', wanted, [face for face in self._faces_in(solid) if all(test(face) for test in tests)])
 
-    def edges(self, *, solid: Optional[int] = None, between: Optional[Tuple[int, int]] = None) -> 'Selection[EdgePart]':
+    def edges(self, *, solid: Optional[arguments.Solid] = None, between: Optional[Tuple[arguments.Face, arguments.Face]] = None) -> 'Selection[EdgePart]':
         """The edges of the solid, those between two faces, or all."""
         if between is not None:
-            one, other = arguments.pair('between', between)
+            one, other = arguments.pair('between', between, 'face', self)
             first, second = ({half for loop in FacePart(self, face).loops for half in loop.half_edges} for face in (one, other))
             found = {abs(half) for half in first if -half in second}
         elif solid is not None:
@@ -136,14 +138,14 @@ class Selecting(Commands):
             found &= {edge.number for edge in self.solid(solid).edges}
         return Selection('edge', _wanted(solid=solid, between=between), [EdgePart(self, number) for number in sorted(found)])
 
-    def vertices(self, *, solid: Optional[int] = None, at: Optional[Vector] = None) -> 'Selection[VertexPart]':
+    def vertices(self, *, solid: Optional[arguments.Solid] = None, at: Optional[arguments.Point] = None) -> 'Selection[VertexPart]':
         """The vertices of the solid, or all; `at` a point."""
         place = None if at is None else arguments.point('at', at)
         parts = ([VertexPart(self, number) for number in self._reader().numbers('vertex')] if solid is None
                  else list(self.solid(solid).vertices))
         return Selection('vertex', _wanted(solid=solid, at=at), [part for part in parts if place is None or part.point == place])
 
-    def _faces_in(self, solid: Optional[int]) -> Sequence[FacePart]:
+    def _faces_in(self, solid: Optional[arguments.Solid]) -> Sequence[FacePart]:
         if solid is None:
             return [FacePart(self, number) for number in self._reader().numbers('face')]
         return self.solid(solid).faces

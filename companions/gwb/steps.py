@@ -1,12 +1,12 @@
 """Steps to undo: single commands, groups of them, and drafts, which are one command."""
 
 from contextlib import contextmanager
-from typing import Iterator, List
+from typing import Iterator, Sequence
 
 from .complaints import MemoryRefused
 from .conversation import Conversation
 from .errors import NoDraft
-from .journal import Done
+from .journal import Done, State
 
 
 class Steps(Conversation):
@@ -16,95 +16,126 @@ class Steps(Conversation):
     def draft(self) -> Iterator[None]:
         """The operators given in it are one command. By an exception it is abandoned: all is as before, what can be redone included.
 
-        It takes operators and `ring` alone, and what reads the model, which is the draft's; everything else raises InDraft."""
-        self._refuse_in_draft('draft')
-        self._lines.open_draft()
-        self._journal.open_draft()
-        try:
-            yield
-        except BaseException:
-            self._abandon()
-            raise
-        self._commit()
+        It takes operators and `ring` alone, and what reads the model, which is the draft's; everything else raises InDraft. Calls of other
+        threads wait for its end."""
+        with self._turn:
+            self._begin_block('draft')
+            try:
+                with self._disagreeing():
+                    self._lines.open_draft()
+                    self._journal.open_draft()
+                yield
+                self._commit()
+            except BaseException:
+                self._abandon()
+                raise
+
+    @contextmanager
+    def group(self) -> Iterator[None]:
+        """The calls given in it are one step to undo. By an exception all of them are taken back, what could be redone before included.
+
+        It takes all but `undo` and `redo`, which raise InGroup; groups and drafts may stand in it. Calls of other threads wait for its end."""
+        with self._turn:
+            self._begin_block('group')
+            before, outer = self._journal.state, self._group_from
+            try:
+                if outer is None:
+                    self._group_from = before.at
+                yield
+            except BaseException:
+                self._undo_to(before)
+                raise
+            finally:
+                self._group_from = outer
+
+    def _begin_block(self, word: str) -> None:
+        """A draft or a group begins, which a draft doesn't take."""
+        if not self._is_inside:
+            self._begin_turn()
+        self._refuse_in_draft(word)
 
     @contextmanager
     def _step(self, *, operators_alone: bool = False) -> Iterator[None]:
         """The commands given in it are one step to undo; operators alone one command. Where one isn't accepted, all is as before."""
-        if self._grouped is not None:
-            yield
-        elif operators_alone and self._journal.draft is not None:
+        if not operators_alone:
+            with self.group():
+                yield
+        elif self._journal.is_drafting:
             with self._part_of_draft():
                 yield
-        elif operators_alone:
-            with self.draft():
-                yield
         else:
-            with self._group():
+            with self.draft():
                 yield
 
     @contextmanager
     def _part_of_draft(self) -> Iterator[None]:
         """The steps given in it are given whole, or the draft ends here."""
-        given = self._steps_given()
+        given = len(self._journal.draft)
         try:
             yield
         except BaseException:
-            if self._steps_given() > given:
+            if len(self._journal.draft) > given:
                 self._abandon()
             raise
 
-    @contextmanager
-    def _group(self) -> Iterator[None]:
-        """The commands given in it are one step. Where one isn't accepted those before it are undone."""
-        at, ahead, self._grouped = self._journal.at, self._journal.ahead, False
+    def _step_through(self, word: str, commands: int) -> None:
+        """Undoes or redoes so many commands, the word says which: all of them or none."""
+        self._refuse_in_draft(word)
+        self._refuse_in_group(word)
+        before = self._journal.state
         try:
-            yield
-        except Exception:
-            self._grouped = None
-            self._undo_to(at, ahead)
+            for _ in range(commands):
+                self._go(word)
+        except BaseException:
+            if self._journal.state is not before:
+                self._journal.restore(before)
+                self._agrees = False
             raise
-        finally:
-            self._grouped = None
-
-    def _steps_given(self) -> int:
-        return len(self._journal.draft or ())
 
     def _commit(self) -> None:
         """The draft ends: its steps are one command. One without steps leaves everything as it was."""
-        if self._journal.draft is None:
+        if not self._journal.is_drafting:
             raise NoDraft('the draft was given up, since a feature in it was not made whole')
         if not self._journal.draft:
             self._abandon()
             return
-        self._lines.commit()
-        self._journal.commit()
+        with self._disagreeing():
+            self._lines.commit()
+            self._journal.commit(self._begins_step())
 
     def _abandon(self) -> None:
         """The draft ends, if it is still open: its steps are taken back."""
-        if self._journal.draft is None:
+        if not self._journal.is_drafting:
             return
-        steps = len(self._journal.end_draft())
-        self._changed()
+        steps = self._journal.end_draft()
+        self._follow(lambda: self._take_back_draft(steps))
+
+    def _take_back_draft(self, steps: int) -> None:
         if not self._lines.abandon(steps):
-            self._redoable_again(self._journal.ahead, steps)
+            self._journal.restore(self._journal.state, steps)
+            self._make_redoable(self._journal.ahead)
 
-    def _undo_to(self, at: int, ahead: List[Done]) -> None:
-        """Undoes the commands from a place on, so that what was ahead of it then can be redone."""
-        undone = self._journal.at - at
-        while self._journal.at > at:
-            self._go('undo')
-        if undone > 0:
-            self._redoable_again(ahead, undone)
+    def _undo_to(self, before: State) -> None:
+        """All is as in a state from before: the commands since then are undone, so that what was ahead of it then can be redone."""
+        if self._journal.state is before:
+            return
+        self._abandon()
+        made = self._journal.held[before.at:]
+        self._journal.restore(before, len(made))
+        self._follow(lambda: self._take_back(made, self._journal.ahead))
 
-    def _redoable_again(self, ahead: List[Done], undone: int) -> None:
+    def _take_back(self, made: Sequence[Done], ahead: Sequence[Done]) -> None:
+        self._unmake(made)
+        if made:
+            self._make_redoable(ahead)
+
+    def _make_redoable(self, ahead: Sequence[Done]) -> None:
         """Gives commands anew that could be redone before others were given and undone, and undoes them."""
-        given: List[Done] = []
+        given = 0
         try:
-            for done in ahead:
+            for given, done in enumerate(ahead):
                 self._lines.give(done.calls)
-                given.append(done)
+            given = len(ahead)
         except MemoryRefused:
-            pass
-        for done in reversed(given):
-            self._lines.step('undo', len(done.calls))
-        self._journal.give_up(undone, given)
+            self._journal.drop_ahead(given)
+        self._unmake(ahead[:given])

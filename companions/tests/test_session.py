@@ -36,6 +36,7 @@ def call(bench, command, words):
         'sweep': lambda f, *vector: bench.sweep(f, vector),
         'split': lambda s, a, b, c, d, t: bench.split(s, (a, b, c, d), above=t),
         'list': bench.listing,
+        'volume': bench.six_volume,
     }
     return calls.get(command, getattr(bench, {'list': 'listing'}.get(command, command)))(*numbers)
 
@@ -92,7 +93,7 @@ class Session(unittest.TestCase):
         bench.sweep(inside.face, (0, 0, -6))
         bench.kfmrh(block.bottom, inside.face)
         self.assertEqual(bench.count(block.solid), (16, 24, 10, 2, 0))
-        self.assertEqual(bench.volume(block.solid), 1152)
+        self.assertEqual(bench.six_volume(block.solid), 1152)
 
     def test_fresh_numbers_are_those_of_the_model(self):
         bench = self.bench
@@ -183,7 +184,7 @@ class Session(unittest.TestCase):
         self.assertEqual(bench.listing().solids, ())
         bench.redo()
         self.assertEqual(bench.listing(), held)
-        self.assertEqual(bench.volume(block.solid), 36)
+        self.assertEqual(bench.volume(block.solid), 6)
         with self.assertRaises(Refused) as caught:
             bench.redo()
         self.assertEqual(caught.exception.name, 'NothingToRedo')

@@ -8,13 +8,24 @@ from gwb import Lone, Workbench
 
 P, Q, R = (0, 0, 0), (4, 0, 0), (0, 4, 0)
 TRIANGLE = [P, Q, R]
-NUMBER = (True, 1.0, '1', None, [1], 2 ** 32 + 1)
+
+
+class Flag:
+    """As numpy.bool_ is: no bool, and no whole number, though it has an index."""
+
+    def __index__(self):
+        return 1
+
+
+NUMBER = (True, 1.0, '1', None, [1], 2 ** 32 + 1, Flag())
 GIVEN = (True, 1.0, '1', [1], 2 ** 32, -1)
 HALF = (True, 1.5, '+1', None, (1,), 2 ** 32, -2 ** 32)
 CORNER = (*HALF, Lone(True), Lone('1'), Lone(-1), Lone(2 ** 32))
-POINT = (True, 1, 'abc', None, (0, 0), (0, 0, 0, 0), (0, 0, 1.0), (0, True, 0), ('0', 0, 0), (0, 0, 2 ** 63), {0, 1, 2}, (0, None, 0))
+POINT = (True, 1, 'abc', None, (0, 0), (0, 0, 0, 0), (0, 0, 1.0), (0, True, 0), ('0', 0, 0), (0, 0, 2 ** 63), {0, 1, 2}, (0, None, 0),
+         bytearray(3), memoryview(b'abc'))
 PLANE = (1, 'abcd', None, (1, 0, 0), (1, 0, 0, 1.0), (1, 0, 0, True), (1, 0, 0, -2 ** 63 - 1))
-POINTS = (None, 7, 'abc', [(0, 0), (40, 0), (40, 5), (5, 5), (5, 40), (0, 40)], [0, 0, 0], [P, Q, (0, 4, 0.5)], [P, Q, '400'], [P] * 65)
+POINTS = (None, 7, 'abc', [(0, 0), (40, 0), (40, 5), (5, 5), (5, 40), (0, 40)], [0, 0, 0], [P, Q, (0, 4, 0.5)], [P, Q, '400'],
+          bytearray(b'abc'), [P, Q, b'abc'], [P, Q, bytearray(b'abc')])
 LENGTH = (True, 1.0, '1', None, 0, -1, 2 ** 63)
 FLAG = (1, 0, 'yes', None)
 
@@ -31,7 +42,7 @@ CASES = {
     'kfmrh': ({'face': 1, 'other': 2}, {'face': NUMBER, 'other': NUMBER}),
     'mfkrh': ({'ring': 1}, {'ring': NUMBER, 'face': GIVEN}),
     'ringmv': ({'ring': 1, 'face': 1, 'way': 'in'}, {'ring': NUMBER, 'face': NUMBER, 'way': (1, None, True, 'inn', b'in')}),
-    'lamina': ({'points': TRIANGLE}, {'points': POINTS, 'solid': GIVEN}),
+    'lamina': ({'points': TRIANGLE}, {'points': (*POINTS, [P] * 65), 'solid': GIVEN}),
     'block': ({'point': P, 'sizes': (1, 1, 1)}, {'point': POINT, 'sizes': POINT, 'solid': GIVEN}),
     'sweep': ({'face': 1, 'vector': Q}, {'face': NUMBER, 'vector': POINT}),
     'glue': ({'face': 1, 'other': 2}, {'face': NUMBER, 'other': NUMBER}),
@@ -40,6 +51,7 @@ CASES = {
     'redo': ({}, {'command': FLAG}),
     'plane': ({'face': 1}, {'face': NUMBER}),
     'volume': ({'solid': 1}, {'solid': NUMBER}),
+    'six_volume': ({'solid': 1}, {'solid': NUMBER}),
     'count': ({'solid': 1}, {'solid': NUMBER}),
     'half_edges': ({'loop': 1}, {'loop': NUMBER}),
     'ask': ({'line': 'list'}, {'line': (1, None, b'list', True)}),
@@ -58,14 +70,16 @@ CASES = {
     'boss': ({'face': 1, 'points': TRIANGLE, 'height': 1}, {'face': NUMBER, 'points': POINTS, 'height': LENGTH}),
     'hole': ({'face': 1, 'points': TRIANGLE}, {'face': NUMBER, 'points': POINTS}),
     'drill': ({'face': 1, 'center': P, 'radius': 1, 'sides': 4},
-              {'face': NUMBER, 'center': POINT, 'radius': LENGTH, 'sides': (*LENGTH, 2, 65), 'depth': LENGTH[:3] + LENGTH[4:]}),
+              {'face': NUMBER, 'center': POINT, 'radius': LENGTH, 'sides': (*LENGTH, 2, 10 ** 6 + 1), 'depth': LENGTH[:3] + LENGTH[4:]}),
     'glue_all': ({'solids': [1]}, {'solids': (None, 1, '12', [], [1, 1], [1, '2'], [1, 2.0])}),
 }
-WITHOUT_ARGUMENTS = {'close', 'draft', 'listing', 'page', 'script', 'show', 'solids', 'save', 'load'}
+WITHOUT_ARGUMENTS = {'close', 'draft', 'group', 'listing', 'page', 'script', 'show', 'solids', 'save', 'load'}
 
 
 class Silent:
     """Lines that may not be sent."""
+
+    in_step = True
 
     def __getattr__(self, name):
         raise AssertionError(f'{name}: something was sent')
@@ -91,6 +105,79 @@ class Arguments(unittest.TestCase):
                     with self.subTest(method=method, name=name, value=value), self.assertRaises((TypeError, ValueError)) as caught:
                         getattr(self.bench, method)(**{**right, name: value})
                     self.assertRegex(str(caught.exception), rf'^{name}\b')
+
+
+class Things(unittest.TestCase):
+    """Things of the model in the place of numbers: of the right kind they are taken, of another they are refused, and of another bench."""
+
+    # For each argument that takes a thing its kind.
+    KINDS = {'kvfs': {'solid': 'solid'}, 'kfmrh': {'face': 'face', 'other': 'face'}, 'mfkrh': {'ring': 'loop'}, 'ringmv': {'ring': 'loop', 'face': 'face'},
+             'mev': {'first': 'edge', 'second': 'edge'}, 'kev': {'half': 'edge'}, 'mef': {'first': 'edge', 'second': 'edge'}, 'kef': {'half': 'edge'},
+             'kemr': {'half': 'edge'}, 'mekr': {'first': 'edge', 'second': 'edge'}, 'sweep': {'face': 'face'},
+             'glue': {'face': 'face', 'other': 'face'}, 'split': {'solid': 'solid'}, 'plane': {'face': 'face'}, 'volume': {'solid': 'solid'},
+             'six_volume': {'solid': 'solid'}, 'count': {'solid': 'solid'}, 'half_edges': {'loop': 'loop'}, 'solid': {'solid': 'solid'},
+             'face': {'face': 'face'}, 'loop': {'loop': 'loop'}, 'edge': {'edge': 'edge'}, 'vertex': {'vertex': 'vertex'},
+             'faces': {'solid': 'solid'}, 'edges': {'solid': 'solid'}, 'vertices': {'solid': 'solid'}, 'ring': {'face': 'face'},
+             'pocket': {'face': 'face'}, 'boss': {'face': 'face'}, 'hole': {'face': 'face'}, 'drill': {'face': 'face'}}
+    ALL = ('solid', 'face', 'loop', 'edge', 'vertex')
+
+    def setUp(self):
+        self.bench, self.other = Workbench(program()), Workbench(program())
+        self.addCleanup(self.bench.close)
+        self.addCleanup(self.other.close)
+        for bench in (self.bench, self.other):
+            bench.block((0, 0, 0), (20, 20, 20))
+
+    def refused(self, error, words, method, name, value):
+        before = self.bench.ask('list').lines
+        with self.subTest(method=method, name=name, value=value), self.assertRaises(error) as caught:
+            getattr(self.bench, method)(**{**CASES[method][0], name: value})
+        self.assertRegex(str(caught.exception), words)
+        self.assertEqual(self.bench.ask('list').lines, before)
+
+    def test_things_of_another_kind(self):
+        for method, names in self.KINDS.items():
+            for name, kind in names.items():
+                for other in self.ALL:
+                    if other != kind:
+                        wanted = 'half-edge' if kind == 'edge' and method not in ('edge',) else kind
+                        self.refused(TypeError, rf'^{name}: an? {wanted} is wanted, not the {other} 1$', method, name, getattr(self.bench, other)(1))
+
+    def test_things_of_another_bench(self):
+        for method, names in self.KINDS.items():
+            for name, kind in names.items():
+                self.refused(ValueError, rf'^{name}: the {kind} 1 is of another workbench$', method, name, getattr(self.other, kind)(1))
+
+    def test_things_in_lists_and_as_coordinates(self):
+        bench, other = self.bench, self.other
+        self.refused(TypeError, r'^solids\[0\]: a solid is wanted, not the face 1$', 'glue_all', 'solids', [bench.face(1)])
+        self.refused(ValueError, r'^solids\[0\]: the solid 1 is of another workbench$', 'glue_all', 'solids', [other.solid(1)])
+        self.refused(TypeError, r'^between\[1\]: a face is wanted, not the edge 1$', 'edges', 'between', (bench.face(1), bench.edge(1)))
+        self.refused(TypeError, r'^point\[0\]: a whole number is wanted, not the face 1$', 'block', 'point', (bench.face(1), 0, 0))
+        self.refused(TypeError, r'^first.loop: a loop is wanted, not the face 1$', 'mev', 'first', Lone(bench.face(1)))
+
+    def test_things_of_the_right_kind(self):
+        bench = self.bench
+        self.assertEqual(bench.volume(bench.solid(1)), bench.volume(1))
+        lone = bench.mvfs([30, 0, 0])
+        spur = bench.mev(Lone(bench.loop(lone.loop)), Lone(bench.loop(lone.loop)), [31, 0, 0])
+        bench.kev(bench.edge(spur.edge))
+        bench.kvfs(bench.solid(lone.solid))
+        self.assertEqual(bench.edges(between=[bench.face(1), 3]).one().points, ((0, 0, 20), (20, 0, 20)))
+
+    def test_what_a_command_returned_in_the_place_of_its_solid(self):
+        bench = self.bench
+        block = bench.block((40, 0, 0), [2, 2, 2])
+        self.assertEqual((bench.volume(block), bench.count(block).faces, len(bench.faces(solid=block))), (8, 6, 6))
+        self.assertEqual(bench.glue_all([block, bench.profile([(42, 0, 0), (44, 0, 0), (44, 2, 0), (42, 2, 0)], along=(0, 0, 2))]), block.solid)
+
+    def test_a_plane_as_it_is_returned(self):
+        bench = self.bench
+        far = bench.block((10 ** 9 - 4, 10 ** 9 - 4, 10 ** 9 - 4), (4, 4, 4))
+        self.assertEqual(bench.faces(plane=bench.plane(far.top)).one().number, far.top)
+        small = bench.profile([(0, 0, 50), (9, 0, 50), (0, 9, 50)], along=(0, 0, 9))
+        cut = bench.block((0, 0, 55), (9, 9, 9))
+        self.assertEqual([bench.volume(part) for part in (cut, bench.split(cut, bench.plane(small.far)).solid)], [324, 405])
 
 
 if __name__ == '__main__':

@@ -74,7 +74,7 @@ class Drafts(unittest.TestCase):
             self.assertEqual(bench.script().count('\n'), 3)
             self.assertEqual(bench.listing().faces[self.block.top].rings, (ring,))
             self.assertTrue(bench.plane(self.block.top).flat)
-            self.assertEqual(bench.volume(1), 6 * 729)
+            self.assertEqual(bench.volume(1), 729)
         self.assertEqual(bench.script().count('\n'), 3)
 
     def test_an_exception_leaves_no_trace(self):

@@ -3,6 +3,7 @@
 import os
 import tempfile
 import unittest
+from fractions import Fraction
 from importlib import util
 from pathlib import Path
 from random import Random
@@ -37,7 +38,7 @@ class Parts(unittest.TestCase):
 
     def try_part(self, bench, module):
         solid = module.make(bench)
-        self.assertEqual(bench.volume(solid), 6 * module.VOLUME)
+        self.assertEqual(bench.volume(solid), module.VOLUME)
         model = bench.listing()
         self.assertEqual(check(model).findings, [])
         for _ in range(module.STEPS):
@@ -86,7 +87,7 @@ class RandomFeatures(unittest.TestCase):
         area = max(map(abs, area_vector(points)))
         if hasattr(made, 'other'):
             depth = next(abs(sum(b) - sum(a)) for a, b in [bench.edge(self.rising(bench, made)).points])
-        self.assertEqual(bench.volume(1), volume - 3 * area * depth)
+        self.assertEqual(bench.volume(1), volume - Fraction(area * depth, 2))
         return True
 
     def rising(self, bench, made):
@@ -148,7 +149,7 @@ class Refusals(unittest.TestCase):
         far = bench.block((50, 0, 0), (10, 10, 10)).solid
         self.refused('NoMatch', lambda: bench.glue_all([self.block.solid, far]))
         self.assertEqual(bench.glue_all([self.block.solid, *others]), self.block.solid)
-        self.assertEqual(bench.volume(self.block.solid), 18000)
+        self.assertEqual(bench.volume(self.block.solid), 3000)
         bench.undo()
         self.assertEqual(len(bench.solids()), 4)
 
@@ -186,7 +187,7 @@ class Refusals(unittest.TestCase):
         for outline in (points, points[::-1]):
             for height in (3, -3):
                 made = bench.profile(outline, along=(0, 0, height))
-                self.assertEqual(bench.volume(made.solid), 6 * 3 * 375)
+                self.assertEqual(bench.volume(made.solid), 3 * 375)
                 for i, side in enumerate(made.sides):
                     self.assertLessEqual({outline[i], outline[(i + 1) % 6]}, set(bench.face(side).points))
 

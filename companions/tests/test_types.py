@@ -6,7 +6,7 @@ import subprocess
 import tempfile
 import unittest
 from importlib import import_module
-from inspect import isclass, isfunction, signature
+from inspect import isclass, isfunction, signature, unwrap
 from typing import get_type_hints
 
 from support import COMPANIONS
@@ -23,7 +23,7 @@ def functions_in(module):
     for thing in vars(module).values():
         if getattr(thing, '__module__', None) == module.__name__:
             found = vars(thing).values() if isclass(thing) else [thing]
-            plain = (getattr(one, '__func__', getattr(one, 'fget', one)) for one in found)
+            plain = (unwrap(getattr(one, '__func__', getattr(one, 'fget', None)) or one) for one in found if callable(one) or hasattr(one, '__get__'))
             yield from (one for one in plain if isfunction(one) and one.__code__.co_filename == module.__file__)
 
 

@@ -1,0 +1,43 @@
+"""Turns: while a call of a workbench is under way, calls of other threads wait."""
+
+from functools import wraps
+from inspect import isfunction
+from threading import RLock
+from typing import Any, Callable, TypeVar, cast
+
+Method = TypeVar('Method', bound=Callable[..., Any])
+
+
+class TakingTurns:
+    """What is shared by threads: each public method of the classes below is a turn, and a turn begins with `_begin_turn`."""
+
+    def __init__(self) -> None:
+        self._turn = RLock()
+        self._is_inside = False
+
+    def __init_subclass__(cls) -> None:
+        super().__init_subclass__()
+        for name, method in list(vars(cls).items()):
+            if isfunction(method) and not name.startswith('_'):
+                setattr(cls, name, in_turn(method))
+
+    def _begin_turn(self) -> None:
+        """Called where a method isn't called by another one."""
+
+
+def in_turn(method: Method) -> Method:
+    """The method as a turn of its own, where it isn't called in one."""
+
+    @wraps(method)
+    def taken(self: TakingTurns, *values: Any, **named: Any) -> Any:
+        with self._turn:
+            if self._is_inside:
+                return method(self, *values, **named)
+            self._is_inside = True
+            try:
+                self._begin_turn()
+                return method(self, *values, **named)
+            finally:
+                self._is_inside = False
+
+    return cast(Method, taken)

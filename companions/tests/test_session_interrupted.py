@@ -1,0 +1,388 @@
+"""A call that an exception leaves, at whatever place, is whole or has left nothing; threads wait for each other; a program may die."""
+
+import inspect
+import linecache
+import os
+import signal
+import sys
+import threading
+import unittest
+from pathlib import Path
+
+from support import program
+
+import gwb
+from gwb import Complaint, InDraft, InGroup, OutOfStep, Workbench
+from gwb.errors import Ended
+
+FOLDER = str(Path(gwb.__file__).parent)
+# The modules in which an exception may come at each line.
+TRACED = {f'{FOLDER}/{name}.py' for name in ('conversation', 'pipe', 'library', 'journal', 'steps', 'turns', 'commands', 'features')}
+# Python looks for signals where a call begins or returns: not between a line and the `try:` after it, nor between a block and its `finally`.
+NOT_BEFORE = ('try:', 'self._is_inside =', 'self._group_from = outer')
+SQUARE = [(5, 5, 20), (15, 5, 20), (15, 15, 20), (5, 15, 20)]
+
+
+class Left(BaseException):
+    """What leaves a call, as KeyboardInterrupt does."""
+
+
+class Interrupter:
+    """Raises Left at the line of this number, counted from the start on, of the modules that are traced."""
+
+    def __init__(self, line):
+        self.left, self.has_come = line, False
+
+    def __enter__(self):
+        sys.settrace(self.frame)
+
+    def __exit__(self, *_):
+        sys.settrace(None)
+
+    def frame(self, frame, event, _):
+        return self.line if frame.f_code.co_filename in TRACED else None
+
+    def line(self, frame, event, _):
+        if event == 'line' and not self.has_come:
+            self.left -= 1
+            text = linecache.getline(frame.f_code.co_filename, frame.f_lineno)
+            if self.left <= 0 and not any(word in text for word in NOT_BEFORE):
+                self.has_come = True
+                raise Left
+        return self.line
+
+
+def drafted(bench):
+    with bench.draft():
+        start = bench.face(3).outer.half_edges[0]
+        bench.kemr(bench.mev(start, start, (2, 0, 2)).edge)
+
+
+def grouped(bench):
+    with bench.group():
+        bench.block((90, 0, 0), (1, 1, 1))
+        bench.ring(1, SQUARE)
+
+
+CALLS = {
+    'block': lambda bench: bench.block((50, 0, 0), (2, 2, 2)), 'mvfs': lambda bench: bench.mvfs((1, 2, 3)),
+    'pocket': lambda bench: bench.pocket(1, SQUARE, 3), 'ring': lambda bench: bench.ring(1, SQUARE),
+    'hole': lambda bench: bench.hole(1, SQUARE), 'split': lambda bench: bench.split(1, (0, 0, 1, -3)), 'draft': drafted, 'group': grouped,
+    'undo': lambda bench: bench.undo(), 'redo': lambda bench: bench.redo(), 'volume': lambda bench: bench.volume(1),
+    'ask': lambda bench: bench.ask('mvfs 77 77 77 77 1 2 3'), 'a line undo': lambda bench: bench.ask('undo'),
+    'listing': lambda bench: bench.listing(), 'a refusal': lambda bench: bench.sweep(1, (0, 0, 0))}
+
+
+def prepared():
+    """A bench with a pocket and a draft, which two undos take back, and two steps that can be redone."""
+    bench = Workbench(program())
+    bench.block((0, 0, 0), (20, 20, 20))
+    drafted(bench)
+    bench.pocket(1, [(3, 16, 20), (4, 16, 20), (4, 18, 20)], 3)
+    bench.block((70, 0, 0), (1, 1, 1))
+    drafted(bench)
+    bench.undo()
+    bench.undo()
+    return bench
+
+
+def tried(call, bench):
+    """Gives the call; a refusal is an answer too."""
+    try:
+        call(bench)
+    except Complaint:
+        pass
+
+
+def what_follows(bench):
+    """The script, the model, and all models that undo and redo lead to."""
+    seen = [bench.script(), bench.listing()]
+    for word in (bench.redo, bench.undo):
+        steps = 0
+        while steps < 20:
+            try:
+                word()
+            except Complaint:
+                break
+            steps += 1
+            seen.append((bench.script(), bench.listing()))
+        seen.append(steps)
+    return seen
+
+
+class Interrupted(unittest.TestCase):
+    """INTERRUPTED of the environment may name the share of lines that are tried: 1 for all of them."""
+
+    def test_a_call_left_at_any_line_is_whole_or_leaves_nothing(self):
+        share = int(os.environ.get('INTERRUPTED', 40))
+        for name, call in CALLS.items():
+            with prepared() as bench:
+                before = what_follows(bench)
+            with prepared() as bench:
+                tried(call, bench)
+                after = what_follows(bench)
+            places, line = 0, 1
+            while self.leave(name, call, line, (before, after)):
+                places, line = places + 1, line + share
+            self.assertGreater(places, 0, name)
+
+    def leave(self, name, call, line, allowed):
+        """Whether the call came to the line."""
+        with prepared() as bench:
+            interrupter = Interrupter(line)
+            try:
+                with interrupter:
+                    tried(call, bench)
+            except Left:
+                pass
+            self.assertIn(what_follows(bench), allowed, (name, line))
+            return interrupter.has_come
+
+    def test_a_call_left_and_caught_in_a_draft_or_a_group(self):
+        for block in ('draft', 'group'):
+            with self.subTest(block), Workbench(program()) as bench:
+                bench.block((0, 0, 0), (20, 20, 20))
+                held = bench.listing()
+                with getattr(bench, block)():
+                    bench.mvfs((1, 1, 1))
+                    with self.assertRaises(Left), Interrupter(20):
+                        bench.mvfs((2, 2, 2))
+                    bench.mvfs((3, 3, 3))
+                self.assertEqual(len(bench.solids()), 3)
+                bench.undo()
+                self.assertEqual(bench.listing(), held)
+
+    def test_a_handler_that_gives_a_call_in_a_call(self):
+        with Workbench(program()) as bench:
+            bench.block((0, 0, 0), (2, 2, 2))
+            do = bench._lines.do
+
+            def within(call):
+                with self.assertRaises(OutOfStep):
+                    bench.block((5, 5, 5), (1, 1, 1))
+                return do(call)
+
+            bench._lines.do = within
+            bench.block((9, 0, 0), (1, 1, 1))
+            bench._lines.do = do
+            self.assertEqual([bench.volume(solid) for solid in (1, 2)], [8, 1])
+
+
+class OverThePipe(unittest.TestCase):
+    """What can happen to a program in a process of its own."""
+
+    def setUp(self):
+        if program().endswith('.so'):
+            self.skipTest('the library has no process of its own')
+        self.bench = Workbench(program())
+        self.addCleanup(self.bench.close)
+        self.bench.block((0, 0, 0), (20, 20, 20))
+        self.bench.block((50, 0, 0), (1, 1, 1))
+
+    def interrupted(self, call):
+        """The call waits for the program, which stands still, and a handler raises."""
+        def stop(*_):
+            raise KeyboardInterrupt
+
+        process = self.bench._lines._process.pid
+        os.kill(process, signal.SIGSTOP)
+        before = signal.signal(signal.SIGALRM, stop)
+        try:
+            signal.setitimer(signal.ITIMER_REAL, 0.05)
+            with self.assertRaises(KeyboardInterrupt):
+                call()
+        finally:
+            signal.signal(signal.SIGALRM, before)
+            os.kill(process, signal.SIGCONT)
+
+    def test_a_query_that_is_interrupted(self):
+        bench = self.bench
+        self.interrupted(lambda: bench.volume(1))
+        self.assertEqual((bench.volume(2), bench.volume(1), bench.count(1).faces, len(bench.listing().solids)), (1, 8000, 6, 2))
+
+    def test_a_command_that_is_interrupted_is_not_held(self):
+        bench = self.bench
+        script = bench.script()
+        self.interrupted(lambda: bench.block((60, 0, 0), (2, 2, 2)))
+        self.assertEqual((bench.script(), len(bench.solids())), (script, 2))
+        self.assertEqual(bench.volume(bench.block((60, 0, 0), (2, 2, 2))), 8)
+
+    def test_it_stands_in_a_process_group_of_its_own(self):
+        self.assertNotEqual(os.getpgid(self.bench._lines._process.pid), os.getpgrp())
+
+    def test_a_session_that_is_closed_after_an_interrupt(self):
+        self.interrupted(lambda: self.bench.volume(1))
+        self.bench.close()
+        with self.assertRaises(Ended):
+            self.bench.volume(1)
+
+    def test_a_program_that_dies_in_a_feature(self):
+        bench, script, given = self.bench, self.bench.script(), []
+        do = bench._lines.do
+
+        def dying(call):
+            given.append(call)
+            if len(given) == 4:
+                bench._lines._process.kill()
+            return do(call)
+
+        bench._lines.do = dying
+        with self.assertRaisesRegex(Ended, 'ended with status -9'):
+            bench.pocket(1, SQUARE, 3)
+        self.assertEqual((len(given), bench.script()), (4, script))
+        with self.assertRaisesRegex(Ended, 'ended with status -9'):
+            bench.volume(1)
+
+    def test_a_program_that_is_gone_when_a_call_was_interrupted(self):
+        path, bench = program(), self.bench
+        self.interrupted(lambda: bench.volume(1))
+        bench._lines._program = '/nowhere/gwb'
+        with self.assertRaisesRegex(Ended, 'could not be given anew.*nowhere'):
+            bench.volume(1)
+        self.assertEqual(bench.script().count('\n'), 2)
+        bench._lines._program = path
+
+
+class Features(unittest.TestCase):
+    """A feature or a group that an exception leaves."""
+
+    def setUp(self):
+        self.bench = Workbench(program())
+        self.addCleanup(self.bench.close)
+        self.bench.block((0, 0, 0), (20, 20, 20))
+        self.bench.block((50, 0, 0), (1, 1, 1))
+        self.both = self.bench.listing()
+        self.bench.undo()
+        self.held, self.script = self.bench.listing(), self.bench.script()
+
+    def nothing_has_changed(self):
+        self.assertEqual((self.bench.listing(), self.bench.script()), (self.held, self.script))
+        self.bench.redo()
+        self.assertEqual(self.bench.listing(), self.both)
+        with self.assertRaises(Complaint):
+            self.bench.redo()
+
+    def test_a_pocket_that_is_left_by_a_keyboard_interrupt(self):
+        do, given = self.bench._lines.do, []
+
+        def leaving(call):
+            given.append(call)
+            if len(given) == 5:
+                raise KeyboardInterrupt
+            return do(call)
+
+        self.bench._lines.do = leaving
+        with self.assertRaises(KeyboardInterrupt):
+            self.bench.pocket(1, SQUARE, 3)
+        self.bench._lines.do = do
+        self.nothing_has_changed()
+
+    def test_a_group_is_one_step(self):
+        bench = self.bench
+        with bench.group():
+            block = bench.block((30, 0, 0), (9, 9, 9))
+            with bench.group():
+                bench.pocket(block.top, [(31, 1, 9), (33, 1, 9), (33, 3, 9)], 2)
+                drafted(bench)
+            bench.ask('mvfs 77 77 77 77 1 2 3')
+        made = bench.listing()
+        bench.undo()
+        self.assertEqual((bench.listing(), bench.script()), (self.held, self.script))
+        bench.redo()
+        self.assertEqual(bench.listing(), made)
+
+    def test_a_group_that_an_error_leaves(self):
+        with self.assertRaises(ZeroDivisionError), self.bench.group():
+            self.bench.block((30, 0, 0), (9, 9, 9))
+            with self.bench.group():
+                self.bench.pocket(1, SQUARE, 2)
+            1 / 0
+        self.nothing_has_changed()
+
+    def test_an_inner_group_that_an_error_leaves(self):
+        bench = self.bench
+        with bench.group():
+            bench.block((30, 0, 0), (9, 9, 9))
+            made = bench.listing()
+            with self.assertRaises(ZeroDivisionError), bench.group():
+                bench.pocket(1, SQUARE, 2)
+                1 / 0
+            self.assertEqual(bench.listing(), made)
+            bench.block((60, 0, 0), (9, 9, 9))
+        bench.undo()
+        self.assertEqual((bench.listing(), bench.script()), (self.held, self.script))
+
+    def test_an_empty_group(self):
+        with self.bench.group():
+            pass
+        self.nothing_has_changed()
+
+    def test_what_a_group_does_not_take(self):
+        with self.bench.group():
+            self.bench.block((30, 0, 0), (9, 9, 9))
+            for call in (self.bench.undo, self.bench.redo, lambda: self.bench.undo(command=True), lambda: self.bench.ask('undo')):
+                with self.assertRaises(InGroup):
+                    call()
+            with self.bench.draft(), self.assertRaises(InDraft), self.bench.group():
+                pass
+        self.assertEqual(len(self.bench.solids()), 2)
+
+
+class Threads(unittest.TestCase):
+    """Calls of several threads."""
+
+    def setUp(self):
+        interval = sys.getswitchinterval()
+        self.addCleanup(sys.setswitchinterval, interval)
+        sys.setswitchinterval(1e-5)
+        self.bench = Workbench(program())
+        self.addCleanup(self.bench.close)
+        self.failed = []
+
+    def run_all(self, work, count=4):
+        def guarded(number):
+            try:
+                work(number)
+            except BaseException as error:
+                self.failed.append(repr(error))
+
+        threads = [threading.Thread(target=guarded, args=(number,), daemon=True) for number in range(1, count + 1)]
+        for thread in threads:
+            thread.start()
+        for thread in threads:
+            thread.join(60)
+        self.assertEqual((self.failed, [thread.is_alive() for thread in threads]), ([], [False] * count))
+
+    def test_queries(self):
+        for size in range(1, 5):
+            self.bench.block((50 * size, 0, 0), (size, size, size))
+        wrong = []
+
+        def ask(solid):
+            wrong.extend(1 for _ in range(300) if self.bench.volume(solid) != solid ** 3)
+
+        self.run_all(ask)
+        self.assertEqual(wrong, [])
+
+    def test_features_and_groups(self):
+        def make(number):
+            for i in range(5):
+                with self.bench.group():
+                    block = self.bench.block((100 * number, 100 * i, 0), (20, 20, 20))
+                    self.bench.pocket(block.top, [(x + 100 * number, y + 100 * i, z) for x, y, z in SQUARE], 5)
+                    assert self.bench.volume(block) == 7500
+
+        self.run_all(make)
+        self.assertEqual([self.bench.volume(solid) for solid in self.bench.solids()], [7500] * 20)
+        for _ in range(20):
+            self.bench.undo()
+        self.assertEqual(self.bench.script(), '')
+
+    def test_each_public_method_is_a_turn(self):
+        for name, method in inspect.getmembers(Workbench, inspect.isfunction):
+            if not name.startswith('_'):
+                self.assertEqual(method.__code__.co_name, 'taken', name)
+
+
+if __name__ == '__main__':
+    unittest.main()
