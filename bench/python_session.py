@@ -1,5 +1,6 @@
 #!/usr/bin/env python3
-"""Times loops of the Python session over a program or a library: 10,000 blocks and 1,000 laminas swept, in tenths, so that growth is seen.
+"""Times loops of the Python session over a program or a library, in tenths, so that growth is seen: 10,000 blocks, 1,000 laminas swept, 200 pockets
+in one face, and a pocket in each of 1,000 blocks.
 
     bench/python_session.py [PROGRAM ..]
 """
@@ -20,6 +21,22 @@ def swept(bench, i):
     bench.sweep(made.front, (0, 0, 1))
 
 
+def pocket(bench, i):
+    """A pocket in the top of one plate."""
+    if i == 0:
+        bench.block((0, 0, 0), (200, 200, 20))
+    x, y = 10 * (i % 20), 10 * (i // 20)
+    bench.pocket(1, [(x + 2, y + 2, 20), (x + 8, y + 2, 20), (x + 8, y + 8, 20), (x + 2, y + 8, 20)], 5)
+
+
+def pocket_in_a_block(bench, i):
+    """A pocket in one of 1,000 blocks, each a solid."""
+    if i == 0:
+        for number in range(1000):
+            bench.block((10 * number, 0, 0), (9, 9, 9))
+    bench.pocket(6 * i + 1, [(10 * i + 2, 2, 9), (10 * i + 7, 2, 9), (10 * i + 7, 7, 9)], 3)
+
+
 def tenths(bench, make, count):
     """The seconds that each tenth of the loop takes."""
     times = [perf_counter()]
@@ -32,7 +49,8 @@ def tenths(bench, make, count):
 
 def main():
     for program in sys.argv[1:] or [None]:
-        for name, make, count in (('blocks', block, 10_000), ('laminas swept', swept, 1_000)):
+        for name, make, count in (('blocks', block, 10_000), ('laminas swept', swept, 1_000), ('pockets in one face', pocket, 200),
+                                  ('pockets in 1,000 blocks', pocket_in_a_block, 1_000)):
             with Workbench(program) as bench:
                 times = tenths(bench, make, count)
             print(f'{program or "gwb"}: {count} {name}: {sum(times):.2f} s; first tenth {times[0]:.3f} s, last {times[-1]:.3f} s')

@@ -1,11 +1,17 @@
 """The commands of the script language as methods."""
 
 from fractions import Fraction
-from typing import Optional
+from typing import Optional, Sequence
 
 from . import arguments
+from .free_numbers import numbers_of
+from .library import Library
+from .model import Model
+from .part_models import model_of_faces
+from .reading import ListingReader, Reader
 from .results import Block, Corner, Count, Lamina, NewEdge, NewFace, NewSolid, Numbers, Plane, Split, Sweep
 from .steps import Steps
+from .vectors import Vector, dot
 
 
 class Commands(Steps):
@@ -100,7 +106,7 @@ class Commands(Steps):
         rising: Numbers = ()
         far: Numbers = ()
         edges = fresh['edge']
-        for size in self._sizes[number]:
+        for size in self._face_sizes(number):
             round_loop, edges = edges[:2 * size], edges[2 * size:]
             rising += (round_loop[0], *round_loop[1:-1:2])
             far += (*round_loop[2::2], round_loop[-1])
@@ -120,12 +126,22 @@ class Commands(Steps):
         Over the pipe the listing is read after it."""
         cut, coefficients = self._number('solid', solid), arguments.plane('plane', plane)
         number = self._new('solid', above, 'above')
+        self._mirror()
         fresh = self._do('split', cut, *coefficients, number)
-        reader = self._reader()
-        made = {kind: tuple(found for found in reader.numbers(kind) if found in numbers) for kind, numbers in fresh.items()}
-        caps = [face for face in made['face'] if self._lies_on(face, coefficients)]
-        lower, upper = (tuple(face for face in caps if self._solid_of(face) == side) for side in (cut, number))
+        model = self._solids_as_read((cut, number))
+        self._following.tell((cut,), model)
+        numbers = numbers_of(model)
+        made = {kind: tuple(found for found in numbers[kind] if found in new) for kind, new in fresh.items()}
+        caps = [face for face in made['face'] if all(_height(coefficients, point) == 0 for point in model.face_points(face))]
+        lower, upper = (tuple(face for face in caps if model.faces[face].solid == side) for side in (cut, number))
         return Split(number, lower, upper, made['face'], made['edge'], made['vertex'])
+
+    def _solids_as_read(self, solids: Sequence[int]) -> Model:
+        """Some solids as the library or the listing has them."""
+        def model(reader: Reader) -> Model:
+            return model_of_faces(reader, [face for solid in solids for face in reader.faces_of(solid)])
+
+        return model(self._lines) if isinstance(self._lines, Library) else model(ListingReader(self.listing()))
 
     def undo(self, *, command: bool = False) -> None:
         """The last step is taken back: a command, or all those of a feature or a group; with `command=True` one command of it. A draft is one
@@ -156,3 +172,8 @@ class Commands(Steps):
         """How many things of each kind the solid has."""
         number = self._number('solid', solid)
         return self._lines.count(number)
+
+
+def _height(plane: Sequence[int], point: Vector) -> int:
+    a, b, c, d = plane
+    return dot((a, b, c), point) + d

@@ -11,16 +11,18 @@ from . import arguments
 from .calls import Call, Value, call_in, words_in
 from .complaints import complaint
 from .errors import CompanionError, InDraft, InGroup, OutOfStep
+from .following import Following
+from .free_numbers import greatest_of
 from .journal import KINDS, Done, Journal
 from .library import Library
+from .mirror import Mirror
 from .model import Model
 from .numbering import COUNTED_KINDS, GROWING, LARGER, NOT_IN_DRAFTS, Seeker, changes, fresh_counts
 from .pipe import Pipe, find_program
-from .reading import FacePart, ListingReader, Reader
+from .reading import Reader
 from .replies import Reply
 from .results import Numbers
 from .turns import TakingTurns, in_turn
-from .vectors import dot
 
 Fresh = Dict[str, range]
 _NOTHING_TO_REDO = Reply(('refused 26 0',))
@@ -38,9 +40,10 @@ class Conversation(TakingTurns):
         path = find_program() if program is None else arguments.path('program', program)
         self._lines: Union[Library, Pipe] = Library(path) if path.endswith('.so') else Pipe(path)
         self._journal = Journal()
+        self._following = Following(self._journal, self.listing)
         self._seeker = Seeker(self._in_use, self._greatest_read)
         self._ever = dict.fromkeys(KINDS, 0)
-        self._sizes: Dict[int, Numbers] = {}
+        self._gaps: Dict[str, int] = {}
         self._held: Optional[Model] = None
         self._group_from: Optional[int] = None
         self._agrees = True
@@ -70,22 +73,29 @@ class Conversation(TakingTurns):
 
     def listing(self) -> Model:
         """The model held."""
+        self._lines.require_open()
         if self._held is None:
             self._held = self._lines.model()
         return self._held
 
     def half_edges(self, loop: int) -> Numbers:
-        """The half-edges of a loop, from the least on: none of a lone loop, or of one that is not there. The library reads no listing for it."""
+        """The half-edges of a loop, from the least on: none of a lone loop, or of one that is not there."""
         number = self._number('loop', loop)
         found = self._reader().loop(number)
         return found.halves if found else ()
 
     @in_turn
     def _reader(self) -> Reader:
-        """Who answers questions about the model: the library, or over the pipe the listing."""
+        """Who answers questions about the model: the library, or over the pipe its mirror."""
         if isinstance(self._lines, Library):
             return self._lines
-        return ListingReader(self.listing())
+        return self._mirror()
+
+    @in_turn
+    def _mirror(self) -> Mirror:
+        """The model held as it follows from the commands."""
+        self._lines.require_open()
+        return self._following.now()
 
     # Agreement of program and journal
 
@@ -175,16 +185,16 @@ class Conversation(TakingTurns):
 
     def _prepared(self, word: str, first: int) -> int:
         """Makes sure of what a larger command counts on from, where nobody says it later; how many corners the face of a sweep has."""
-        if isinstance(self._lines, Pipe) and word in LARGER:
-            for kind in COUNTED_KINDS:
-                self._greatest(kind)
+        if isinstance(self._lines, Library) or word not in LARGER:
+            return 0
+        for kind in COUNTED_KINDS:
+            self._greatest(kind)
         return sum(self._face_sizes(first)) if word == 'sweep' else 0
 
     def _account(self, call: Call, corners: int) -> Fresh:
         """An accepted command changes what is known: the fresh numbers of a larger one. The journal comes last."""
         self._held = None
         fresh = self._fresh(call, corners) if call.word in LARGER else {}
-        self._resize(call, fresh)
         made, killed = changes(call)
         greatest = self._journal.greatest.after(made, killed)
         greatest.settle({kind: numbers[-1] for kind, numbers in fresh.items()})
@@ -216,9 +226,8 @@ class Conversation(TakingTurns):
         return reply
 
     def _changed(self) -> None:
-        """What was read or reckoned of the model no longer holds."""
+        """What was read of the model no longer holds."""
         self._held = None
-        self._sizes.clear()
 
     def _refuse_in_draft(self, words: str) -> None:
         """A draft takes operators alone."""
@@ -237,22 +246,14 @@ class Conversation(TakingTurns):
         before = self._journal.greatest.of
         if call.word in GROWING:
             return {kind: range(before(kind) + 1, before(kind) + count + 1) for kind, count in fresh_counts(call, corners).items()}
-        return {kind: range(before(kind) + 1, self._greatest_read(kind) + 1) for kind in COUNTED_KINDS}
-
-    def _resize(self, call: Call, fresh: Fresh) -> None:
-        """How many corners the loops of faces have, as far as it follows from the commands."""
-        if call.word in GROWING:
-            self._sizes.update(dict.fromkeys(fresh['face'], (len(call.values) // 3,) if call.word == 'lamina' else (4,)))
-        elif call.word != 'mvfs':
-            self._sizes.clear()
+        greatest = greatest_of(self.listing())
+        return {kind: range(before(kind) + 1, greatest[kind] + 1) for kind in COUNTED_KINDS}
 
     def _face_sizes(self, face: int) -> Numbers:
         """How many half-edges each loop of a face has: the outer one, then the rings."""
-        if face not in self._sizes and face <= arguments.GREATEST_NUMBER:
-            found = self._reader().face(face)
-            if found:
-                self._sizes[face] = tuple(len(self.half_edges(loop)) for loop in found.loops)
-        return self._sizes.get(face, ())
+        reader = self._reader()
+        found = reader.face(face)
+        return tuple(len(content.halves) for loop in (found.loops if found else ()) for content in [reader.loop(loop)] if content)
 
     # Numbers
 
@@ -262,10 +263,9 @@ class Conversation(TakingTurns):
 
     def _in_use(self, kind: str, number: int) -> bool:
         """Whether the number of the kind is in use."""
-        free = {kind: bound + 1 for kind, bound in zip(KINDS, self._journal.greatest.bounds)}
-        if max(free.values()) > arguments.GREATEST_NUMBER:
-            return number in self._reader().numbers(kind)
-        return self._lines.in_use(kind, number, free)
+        if isinstance(self._lines, Library):
+            return self._lines.in_use(kind, number)
+        return self._mirror().in_use(kind, number)
 
     def _greatest(self, kind: str) -> int:
         """The greatest number of the kind in use."""
@@ -275,15 +275,19 @@ class Conversation(TakingTurns):
         return max(self._reader().numbers(kind), default=0)
 
     def _new(self, kind: str, given: Optional[int], name: str = '') -> int:
-        """The number that was given, by the argument of the kind's name or another, or one above all that are in use or were."""
-        return self._ever[kind] + 1 if given is None else arguments.number(name or kind, given, kind, self)
+        """The number that was given, by the argument of the kind's name or another, or one above all that are in use or were; where the
+        greatest there is was used, the least after the last one so given that isn't in use."""
+        if given is not None:
+            return arguments.number(name or kind, given, kind, self)
+        above = self._ever[kind] + 1
+        return above if above <= arguments.GREATEST_NUMBER else self._in_gap(kind)
 
-    def _solid_of(self, face: int) -> int:
-        row = self._reader().face(face)
-        return row.solid if row else 0
-
-    def _lies_on(self, face: int, plane: Sequence[int]) -> bool:
-        return all(dot((plane[0], plane[1], plane[2]), point) + plane[3] == 0 for point in FacePart(self, face).points)
+    def _in_gap(self, kind: str) -> int:
+        """A number that isn't in use; one past the greatest where none is left, which the kernel refuses."""
+        numbers = range(self._gaps.get(kind, 0) + 1, arguments.GREATEST_NUMBER + 1)
+        found = next((number for number in numbers if not self._in_use(kind, number)), arguments.GREATEST_NUMBER + 1)
+        self._gaps[kind] = found
+        return found
 
 
 def _number_in(words: Sequence[str]) -> int:

@@ -1,7 +1,7 @@
 """Features: profiles, pockets, bosses and holes, each one step to undo.
 
 They send nothing but commands of the language. Whether one is possible is found out first, exactly: outlines against faces, and what the
-feature adds against the solid as `gwb-check` would look at it. So a refusal (Impossible, which is Refused) leaves everything as it was.
+feature adds against what lies near it. So a refusal (Impossible, which is Refused) leaves everything as it was.
 """
 
 from fractions import Fraction
@@ -9,15 +9,16 @@ from math import cos, pi, sin
 from typing import Dict, List, NamedTuple, Optional, Sequence, Tuple
 
 from . import arguments
-from .check import check
-from .flat_face import FlatFace
+from .box_index import Box, box_of
 from .measures import why_unfit
-from .model import Face, Loop, Model
-from .outlines import Impossible, clockwise_in, simple_normal, steps_along
+from .outlines import Impossible, simple_normal, steps_along
 from .plane_figures import Place
+from .regions import Region
 from .results import Hole, Lone, Numbers, Pocket, Profile, Ring, Sweep
+from .room import Prism, has_room
 from .selection import Selecting
-from .vectors import Vector, ZERO, add, cross, dot, negative, reduced
+from .surroundings import Surroundings
+from .vectors import Vector, ZERO, add, cross, dot, negative
 
 _MOST_SIDES = 1_000_000
 
@@ -35,6 +36,8 @@ class _Outline(NamedTuple):
 
 class Features(Selecting):
     """Larger things than commands, made of commands."""
+
+    _surroundings: Optional[Surroundings] = None
 
     def profile(self, points: arguments.Points, *, along: arguments.Point, solid: Optional[int] = None) -> Profile:
         """A new solid: the outline through the points, moved along the vector. It is never inside out, whichever way the points run.
@@ -93,10 +96,9 @@ class Features(Selecting):
         face; Meets: the hole would meet or touch something else of the solid."""
         number, outline = self._outline_in(face, points, 'hole')
         path = outline.path
-        model = self._model_of(self._faces_beside(number))
-        other, way = _opposite(model, number, path[0])
-        clockwise_in(FlatFace(model, other), other, [add(point, way) for point in path])
-        _require_room(model, number, path, way, other)
+        other, way = self._opposite(number, path[0])
+        self._flat(other).ring_path(other, [add(point, way) for point in path])
+        self._require_room(number, path, way, other)
         with self._step():
             ring = self._draw(number, path)
             swept = self.sweep(ring.face, way)
@@ -147,10 +149,10 @@ class Features(Selecting):
     def _raised(self, face: arguments.Face, points: arguments.Points, length: int) -> Pocket:
         """The outline moved along the face's normal by the length, which is negative for a pocket."""
         number, outline = self._outline_in(face, points, 'boss' if length > 0 else 'pocket')
-        way = steps_along(reduced(self._flat(number).across), length)
+        way = steps_along(self._flat(number).across, length)
         if way is None:
             raise Impossible('OffLattice', number, f'no whole vector along the normal of face {number} is {abs(length)} long')
-        _require_room(self._model_of(self._faces_beside(number)), number, outline.path, way, None)
+        self._require_room(number, outline.path, way)
         with self._step():
             ring = self._draw(number, outline.path)
             swept = self.sweep(ring.face, way)
@@ -161,7 +163,7 @@ class Features(Selecting):
         number, given = self._number('face', face), arguments.points('points', points)
         if feature:
             self._refuse_in_draft(feature)
-        return number, _Outline(given, clockwise_in(self._flat(number), number, given))
+        return number, _Outline(given, self._flat(number).ring_path(number, given))
 
     def _flat_solid(self, path: Sequence[Vector], solid: int) -> Tuple[int, int, Numbers]:
         """A solid of two faces back to back through the points: the front, the back, and the edges from the points on."""
@@ -181,22 +183,57 @@ class Features(Selecting):
         closing = self.mef(-made[-1].edge, made[0].edge)
         return closing.face, (*(edge.edge for edge in made), closing.edge), tuple(edge.vertex for edge in made)
 
-    def _faces_beside(self, face: int) -> List[int]:
-        """The faces of the face's solid."""
-        return [part.number for part in self.face(face).solid.faces]
+    def _near(self) -> Surroundings:
+        """The faces of the model held as regions, and what lies near a place."""
+        mirror, near = self._mirror(), self._surroundings
+        if near is None or near.mirror is not mirror or not near.is_whole:
+            near = self._surroundings = Surroundings(mirror)
+        return near
 
-    def _flat(self, face: int) -> FlatFace:
+    def _flat(self, face: int) -> Region:
         """The face as a region of its plane."""
-        self.face(face).loops
-        model = self._model_of([face])
-        why = why_unfit(model, face)
-        if why is not None:
-            raise Impossible('NotFlat', face, why)
-        return FlatFace(model, face)
+        region = self._near().region(face)
+        if region is None:
+            self.face(face).loops
+            raise Impossible('NotFlat', face, why_unfit(self._model_of([face]), face) or '')
+        return region
+
+    def _require_room(self, face: int, path: Sequence[Vector], way: Vector, *others: int) -> None:
+        """Refuses a feature that would meet or touch the solid elsewhere than in the face, or in the other one where it ends there."""
+        near = self._near()
+        prism = Prism(self._flat(face).across, path, way, bool(others))
+        if not has_room(near, self._solid_of(face), prism, (face, *others)):
+            raise Impossible('Meets', face, f'moved by {way}, the outline in face {face} would meet or touch the solid, or come through it')
+
+    def _solid_of(self, face: int) -> int:
+        return self.face(face).solid.number
+
+    def _opposite(self, face: int, start: Vector) -> Tuple[int, Vector]:
+        """The face that a ray from a point of the face goes out through, and the way to its plane, which is parallel."""
+        near, solid = self._near(), self._solid_of(face)
+        back = negative(self._flat(face).across)
+        box = box_of((start, _beyond(near.box_around(solid), start, back)))
+        hits = []
+        for other in near.faces_near(solid, box):
+            region = near.region(other) if other != face else None
+            reach = region and _reach(region, start, back)
+            if region and reach:
+                hits.append((reach, other, region))
+        if not hits:
+            raise Impossible('NoOpposite', face, f'there is no face behind the outline in face {face}')
+        reach, other, region = min(hits, key=lambda hit: hit[:2])
+        if cross(region.across, back) != ZERO:
+            raise Impossible('NotParallel', other, f"face {other}, behind the outline, isn't parallel to face {face}")
+        way = [reach * part for part in back]
+        if any(part.denominator != 1 for part in way):
+            raise Impossible('OffLattice', other, f'face {other} lies off the lattice behind face {face}')
+        return other, (int(way[0]), int(way[1]), int(way[2]))
 
     def _draw(self, face: int, path: Sequence[Vector]) -> Ring:
         """The ring through points that run as a ring does, and the face inside it: edges and vertices from the first point on."""
-        start = self.face(face).outer.half_edges[0]
+        row = self._reader().face(face)
+        assert row is not None, 'the outline was found to lie in the face'
+        start = self.half_edges(row.outer)[0]
         spur = self.mev(start, start, path[0])
         ring = self.kemr(spur.edge)
         inside, edges, vertices = self._close_path(ring, path[1:])
@@ -228,70 +265,20 @@ def _polygon(center: Vector, across: Vector, radius: int, sides: int) -> List[Ve
     return points
 
 
-def _opposite(model: Model, face: int, start: Vector) -> Tuple[int, Vector]:
-    """The face that a ray from a point of the face goes out through, and the way to its plane, which is parallel."""
-    back = negative(reduced(FlatFace(model, face).across))
-    hits = []
-    for other in model.faces:
-        reach = None if other == face or why_unfit(model, other) else _reach(FlatFace(model, other), start, back)
-        if reach is not None:
-            hits.append((reach, other))
-    if not hits:
-        raise Impossible('NoOpposite', face, f'there is no face behind the outline in face {face}')
-    reach, other = min(hits)
-    if cross(FlatFace(model, other).across, back) != ZERO:
-        raise Impossible('NotParallel', other, f"face {other}, behind the outline, isn't parallel to face {face}")
-    way = [reach * part for part in back]
-    if any(part.denominator != 1 for part in way):
-        raise Impossible('OffLattice', other, f'face {other} lies off the lattice behind face {face}')
-    return other, (int(way[0]), int(way[1]), int(way[2]))
+def _beyond(box: Box, start: Vector, way: Vector) -> Vector:
+    """A point on the way that lies past the box."""
+    reach = max(int(high - low) for low, high in box) + max(abs(part - int(low)) for part, (low, _) in zip(start, box)) + 1
+    return add(start, (reach * way[0], reach * way[1], reach * way[2]))
 
 
-def _reach(shape: FlatFace, start: Vector, way: Vector) -> Optional[Fraction]:
+def _reach(region: Region, start: Vector, way: Vector) -> Optional[Fraction]:
     """How far along the way the face lies; None where it doesn't."""
-    slope, height = dot(shape.across, way), shape.height(start)
+    slope, height = dot(region.across, way), region.height(start)
     if slope == 0 or (height > 0) == (slope > 0) or height == 0:
         return None
     reach = Fraction(-height, slope)
-    x, y, z = (part + reach * step for part, step in zip(start, way))
-    return None if shape.locate((x, y, z)) is Place.OUTSIDE else reach
-
-
-def _require_room(model: Model, face: int, path: Sequence[Vector], way: Vector, other: Optional[int]) -> None:
-    """Refuses a feature after which the solid would meet or touch itself where it didn't."""
-    after = check(_with_feature(model, face, path, way, other)).findings
-    if after:
-        before = set(check(model).findings)
-        if any(finding not in before for finding in after):
-            raise Impossible('Meets', face, f'moved by {way}, the outline in face {face} would meet or touch the solid, or come through it')
-
-
-def _with_feature(model: Model, face: int, path: Sequence[Vector], way: Vector, other: Optional[int]) -> Model:
-    """The model as it would be: the outline moved, with a floor of its own, or with a ring in the other face."""
-    count = len(path)
-    low, far = (_numbers(max(model.vertices) + 1 + part * count, count) for part in range(2))
-    ring, rising, top = (_numbers(max(model.edges) + 1 + part * count, count) for part in range(3))
-    loop, new = max(model.loops) + 1, max(model.faces) + 1
-    solid = model.faces[face].solid
-    after = [(i + 1) % count for i in range(count)]
-    loops = {**model.loops, loop: Loop(ring), loop + 1: Loop(tuple(-edge for edge in reversed(top)))}
-    faces = dict(model.faces)
-    faces[face] = faces[face]._replace(rings=(*faces[face].rings, loop))
-    if other is None:
-        faces[new] = Face(solid, loop + 1)
-    else:
-        faces[other] = faces[other]._replace(rings=(*faces[other].rings, loop + 1))
-    edges = dict(model.edges)
-    for i in range(count):
-        edges.update({ring[i]: (low[i], low[after[i]]), rising[i]: (low[i], far[i]), top[i]: (far[i], far[after[i]])})
-        loops[loop + 2 + i] = Loop((-ring[i], rising[i], top[i], -rising[after[i]]))
-        faces[new + 1 + i] = Face(solid, loop + 2 + i)
-    vertices = {**model.vertices, **dict(zip(low, path)), **dict(zip(far, (add(point, way) for point in path)))}
-    return Model(model.solids, faces, loops, edges, vertices)
-
-
-def _numbers(first: int, count: int) -> Numbers:
-    return tuple(range(first, first + count))
+    spot = [part + reach * step for part, step in zip(start, way)]
+    return None if region.locate(region.flatten(spot)) is Place.OUTSIDE else reach
 
 
 Pair = Tuple[int, int, int, int]

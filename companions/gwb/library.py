@@ -173,10 +173,14 @@ class Library:
         if not self._library.gwb_open(self._handle):
             raise MemoryError('no session was opened')
 
-    def restart(self) -> None:
-        """Opens the session anew, with nothing held. One that was closed stays so: Ended."""
+    def require_open(self) -> None:
+        """Raises Ended where the session is closed."""
         if not self._handle.is_open:
             raise Ended(_CLOSED_TEXT)
+
+    def restart(self) -> None:
+        """Opens the session anew, with nothing held. One that was closed stays so: Ended."""
+        self.require_open()
         self._library.gwb_close(self._handle)
         self._open()
 
@@ -187,8 +191,7 @@ class Library:
     def ask(self, line: str) -> Reply:
         """The reply to one line that is a command, or a fault."""
         data = command_bytes(line)
-        if not self._handle.is_open:
-            raise Ended(_CLOSED_TEXT)
+        self.require_open()
         said = self._library.gwb_line(self._handle, data, len(data))
         if said in (_OK, _IN_DRAFT):
             return self._reply(said)
@@ -309,13 +312,12 @@ class Library:
         while True:
             codes = (ctypes.c_uint32 * room)()
             count = self._library.gwb_half_edges(self._handle, loop, codes, room)
-            if not self._handle.is_open:
-                raise Ended(_CLOSED_TEXT)
+            self.require_open()
             if count <= room:
                 return tuple(-(code // 2) if code % 2 else code // 2 for code in _from_least(codes[:count]))
             room = count
 
-    def in_use(self, kind: str, number: int, _: Dict[str, int]) -> bool:
+    def in_use(self, kind: str, number: int) -> bool:
         """Whether the number of the kind is in use."""
         return number > 0 and self._next('gwb_number_after', KINDS.index(kind), number - 1) == number
 

@@ -4,7 +4,7 @@ import os
 import shutil
 import subprocess
 from pathlib import Path
-from typing import Dict, Iterator, List, Sequence
+from typing import Iterator, List, Sequence
 
 from .calls import Call, words_in
 from .complaints import Complaint, complaint
@@ -17,16 +17,6 @@ from .results import Count, Plane
 
 _AFTER_LISTING = 'count 1'
 ACCEPTED = Reply(('ok',))
-# Lines that change nothing: questions, and commands that are refused for the number, or else for the point or the edge.
-_PROBES = {
-    'solid': 'count {}',
-    'face': 'plane {}',
-    'loop': 'mvfs {solid} {face} {} 1 1000000001 0 0',
-    'edge': 'mev +{0} +{0} {0} 1 0 0 0',
-    'vertex': 'mvfs {solid} {face} {loop} {} 1000000001 0 0',
-}
-# The refusals that say that the number is in use.
-_TAKEN = {'loop': 8, 'edge': 9, 'vertex': 10}
 
 
 def find_program() -> str:
@@ -66,18 +56,21 @@ class Pipe:
         self._to, self._from = self._process.stdin, self._process.stdout
         self.in_step = True
 
-    def restart(self) -> None:
-        """Starts the program anew, with nothing held. One that has ended by itself, or was closed, stays so: Ended."""
+    def require_open(self) -> None:
+        """Raises Ended where the session has ended."""
         if self._over:
             raise Ended(self._over)
+
+    def restart(self) -> None:
+        """Starts the program anew, with nothing held. One that has ended by itself, or was closed, stays so: Ended."""
+        self.require_open()
         self._kill()
         self._start()
 
     def ask(self, line: str) -> Reply:
         """The reply to one line that is a command, or a fault. Where an exception leaves it, replies are no longer in step."""
         data = command_bytes(line)
-        if self._over:
-            raise Ended(self._over)
+        self.require_open()
         if not self.in_step:
             raise OutOfStep(f'{line}: another call is under way, whose reply is awaited')
         self.in_step = False
@@ -117,8 +110,7 @@ class Pipe:
 
     def commit(self) -> None:
         """Ends the draft."""
-        if self._over:
-            raise Ended(self._over)
+        self.require_open()
 
     def abandon(self, steps: int) -> bool:
         """Takes the steps of the draft back; whether what could be redone before still can."""
@@ -142,11 +134,6 @@ class Pipe:
     def model(self) -> Model:
         """The model held, from its listing."""
         return model_of(self._asked(Call('list')))
-
-    def in_use(self, kind: str, number: int, free: Dict[str, int]) -> bool:
-        """Whether the number of the kind is in use, by a line that is refused or asks: nothing changes. `free` are numbers that aren't in use."""
-        reply = self.ask(_PROBES[kind].format(number, **free))
-        return not reply.is_complaint or reply.numbers[0] == _TAKEN.get(kind)
 
     def close(self) -> int:
         """Ends the program; its status."""

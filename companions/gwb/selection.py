@@ -8,6 +8,7 @@ from .errors import NotOne
 from .flat_face import FlatFace
 from .measures import why_unfit
 from .model import Model
+from .part_models import model_of_faces
 from .plane_figures import Place
 from .reading import EdgePart, FacePart, LoopPart, Part, SolidPart, VertexPart
 from .vectors import Vector, ZERO, dot, same_direction
@@ -163,16 +164,8 @@ class Selecting(Commands):
         return shape.height(point) == 0 and shape.locate(point) is not Place.OUTSIDE
 
     def _model_of(self, faces: Sequence[int]) -> Model:
-        """The model of these faces alone, which are there: read part by part, without the rest."""
-        reader = self._reader()
-        rows = {face: row for face in faces for row in [reader.face(face)] if row is not None}
-        loops = {loop: content for row in rows.values() for loop in row.loops for content in [reader.loop(loop)] if content is not None}
-        edges = {abs(half): ends for loop in loops.values() for half in loop.halves
-                 for ends in [reader.edge(abs(half))] if ends is not None}
-        used = {vertex for ends in edges.values() for vertex in ends} | {loop.vertex for loop in loops.values() if loop.vertex is not None}
-        vertices = {vertex: point for vertex in sorted(used) for point in [reader.vertex(vertex)] if point is not None}
-        solids = tuple(sorted({row.solid for row in rows.values()}))
-        return Model(solids, dict(sorted(rows.items())), dict(sorted(loops.items())), dict(sorted(edges.items())), vertices)
+        """The model of these faces alone, which are there."""
+        return model_of_faces(self._reader(), faces)
 
 
 def _wanted(**criteria: object) -> str:

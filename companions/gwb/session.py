@@ -12,19 +12,26 @@ Methods are in four parts: commands (commands.py), selection (selection.py), fea
 """
 
 from html import escape
-from os import PathLike, fspath
 from pathlib import Path
 from tempfile import NamedTemporaryFile
-from typing import Optional, Union
+from typing import Any, Iterator, Optional, Tuple
 from webbrowser import open as open_in_browser
 
-from .complaints import complaint
+from . import arguments
+from .calls import call_in
+from .complaints import Complaint, complaint
+from .errors import CompanionError, InDraft
 from .features import Features
 from .inversion import script_of
 from .language import is_answered
 from .listing import read_model
 from .page import page_of
-from .replies import is_listed
+from .replies import Reply, is_listed
+from .saved_steps import mark_in, marked_lines
+
+# The endings and the first words of files that gwb-import reads.
+_IMPORTED = ('.obj', '.off', '.stl', '.3mf', '.step', '.stp')
+_FIRST_WORDS = ('v', 'vn', 'vt', 'f', 'o', 'g', 'mtllib', 'OFF', 'solid', 'ISO-10303-21;')
 
 
 class Workbench(Features):
@@ -43,32 +50,57 @@ class Workbench(Features):
         """The script of what is held: the accepted commands, a line each; undone ones are left out."""
         return ''.join(f'{line}\n' for line in self._journal.lines)
 
-    def save(self, path: 'Union[str, PathLike[str]]') -> None:
-        """Writes the script to a file."""
-        Path(fspath(path)).write_text(self.script(), encoding='ascii')
+    def save(self, path: arguments.Path) -> None:
+        """Writes the script to a file. Comments in it say which commands are one step, so that `load` knows the steps again."""
+        file = Path(arguments.path('path', path))
+        lines = [*marked_lines(self._journal.held), *map(str, self._journal.draft)]
+        file.write_text(''.join(f'{line}\n' for line in lines), encoding='ascii')
 
     @classmethod
-    def load(cls, path: 'Union[str, PathLike[str]]', program: Optional[str] = None) -> 'Workbench':
-        """A workbench that holds what the file says: a script, each of whose lines has to be accepted, or a listing."""
-        data = Path(fspath(path)).read_bytes()
-        first = next((line for line in data.split(b'\n') if line.strip()), b'').decode('ascii', 'replace')
-        script = '\n'.join(script_of(read_model(data))).encode() if is_listed(first) else data
+    def load(cls, path: arguments.Path, program: Optional[arguments.Path] = None) -> 'Workbench':
+        """A workbench that holds what the file says: a script, each of whose lines has to be accepted, or a listing. The steps of a script that
+        `save` wrote are those that were saved; of another script each command is one.
+
+        A line that isn't accepted raises Refused, Faulted or MemoryRefused, with the file and the line."""
+        file = Path(arguments.path('path', path))
+        data = file.read_bytes()
+        script = _script_in(file, data)
         bench = cls(program)
         try:
-            bench._take(script)
+            bench._take(file, enumerate(script.split(b'\n'), 1))
         except BaseException:
             bench.close()
             raise
         return bench
 
-    def _take(self, script: bytes) -> None:
-        """Gives the lines of a script; a complaint is raised."""
-        for line in script.split(b'\n'):
-            if is_answered(line):
-                words = line.decode('utf-8', 'surrogateescape')
-                reply = self.ask(words)
-                if reply.is_complaint:
-                    raise complaint(words, reply)
+    def _take(self, file: Path, lines: Iterator[Tuple[int, bytes]], commands: Optional[int] = None) -> None:
+        """Gives the lines of a script, up to so many commands; a complaint is raised."""
+        taken = 0
+        while taken != commands:
+            number, line = next(lines, (0, b''))
+            if number == 0:
+                return
+            mark = mark_in(line)
+            if mark:
+                taken += mark.commands
+                with self.group() if mark.kind == 'step' else self.draft():
+                    self._take(file, lines, mark.commands)
+            elif is_answered(line):
+                taken += 1
+                self._take_line(file, number, line.decode('utf-8', 'surrogateescape'))
+
+    def _take_line(self, file: Path, number: int, line: str) -> None:
+        """Gives a line of a script; a complaint names the file and the line."""
+        try:
+            if self._journal.is_drafting:
+                self._do(*_parts_of(line))
+                return
+            reply = self.ask(line)
+            if reply.is_complaint:
+                raise complaint(line, reply)
+        except (Complaint, InDraft) as error:
+            error.args = (f'{file}, line {number}: {error}{_hint(file, line)}',)
+            raise
 
     def page(self) -> str:
         """A page in HTML to turn the model and to pick from it, as `gwb-view` makes it."""
@@ -90,3 +122,32 @@ class Workbench(Features):
         """A notebook draws the model."""
         return self.listing()._repr_svg_()
 
+
+
+def _script_in(file: Path, data: bytes) -> bytes:
+    """The script that the bytes of a file are, or that makes the listing in them."""
+    first = next((line for line in data.split(b'\n') if line.strip()), b'').decode('ascii', 'replace')
+    if not is_listed(first):
+        return data
+    try:
+        return '\n'.join(script_of(read_model(data))).encode()
+    except CompanionError as error:
+        error.args = (f'{file}: {error}',)
+        raise
+
+
+def _parts_of(line: str) -> Tuple[Any, ...]:
+    """The word and the values of a line of a draft; Faulted where it is no command."""
+    try:
+        call = call_in(line)
+    except ValueError:
+        raise complaint(line, Reply(('fault 2',))) from None
+    return (call.word, *call.values)
+
+
+def _hint(file: Path, line: str) -> str:
+    """Where to turn with a file of another form."""
+    word = line.split(' ', 1)[0]
+    if file.suffix.lower() in _IMPORTED or word in _FIRST_WORDS:
+        return ' (it looks like a file of polygons: gwb-import makes a listing of one, which can be loaded)'
+    return ''

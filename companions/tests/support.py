@@ -132,3 +132,11 @@ def _halves(cycle: Cycle, edges: Dict[Tuple[int, int], int]) -> str:
 def model_in(text: str):
     """The model of a listing."""
     return import_module('gwb').read_model(text.encode())
+
+
+def in_mirror(bench):
+    """The model that the session's mirror has."""
+    mirror = bench._mirror()
+    rows = [{number: read(number) for number in mirror.numbers(kind)}
+            for kind, read in (('face', mirror.face), ('loop', mirror.loop), ('edge', mirror.edge), ('vertex', mirror.vertex))]
+    return import_module('gwb').Model(mirror.numbers('solid'), *rows)

@@ -1,5 +1,7 @@
 """The Python session gives what the scripts do: on every worked script, and on its own."""
 
+import copy
+import pickle
 import tempfile
 import unittest
 from pathlib import Path
@@ -197,15 +199,63 @@ class Session(unittest.TestCase):
         self.assertEqual(bench.mvfs((1, 1, 1)), (7, 8, 9, 10))
 
     def test_lines_that_are_no_command(self):
-        for line in ('', '# note', 'undo\nundo'):
+        for line in ('', '# note', 'undo\nundo', '\ud800'):
             with self.assertRaises(ValueError):
                 self.bench.ask(line)
         self.assertEqual(self.bench.ask('nonsense').lines, ('fault 1',))
 
+    def test_words_are_separated_as_the_program_separates_them(self):
+        bench = self.bench
+        bench.block((0, 0, 0), (1, 1, 1))
+        for line, fault in (('undo\x0b', 1), ('\u2003undo', 5), ('undo\x1c', 1), ('sweep ' + '9' * 5000 + ' 0 0 1', 2), ('sweep \u0663 0 0 1', 5),
+                            ('volume\x0c1', 1)):
+            self.assertEqual(bench.ask(line).lines, (f'fault {fault}',), line[:20])
+        self.assertEqual(bench.script(), 'block 1 0 0 0 1 1 1\n')
+        self.assertEqual(bench.ask('\t undo \r').lines, ('ok',))
+        self.assertEqual(bench.script(), '')
+
+    def test_numbers_after_the_greatest_there_is(self):
+        bench = self.bench
+        block = bench.block((0, 0, 0), (9, 9, 9))
+        start = bench.face(block.top).outer.half_edges[0]
+        bench.mev(start, start, (2, 2, 9), edge=1_000_000, vertex=1_000_000)
+        bench.undo()
+        made = [bench.mev(start, start, (2, 2, 9)) for _ in range(2)]
+        self.assertEqual(made, [(13, 9), (14, 10)])
+        bench.pocket(block.bottom, [(1, 1, 0), (1, 4, 0), (4, 1, 0)], 2)
+        self.assertEqual(bench.volume(block), 729 - 9)
+        bench.mvfs((20, 0, 0), solid=1_000_000)
+        self.assertEqual([bench.mvfs((30, 0, 0)).solid, bench.block((40, 0, 0), (1, 1, 1)).solid], [2, 3])
+
     def test_a_closed_session(self):
-        self.assertEqual(self.bench.close(), 0)
-        with self.assertRaises(Ended):
-            self.bench.undo()
+        bench = self.bench
+        block = bench.block((0, 0, 0), (9, 9, 9))
+        bench.listing()
+        top = bench.face(block.top)
+        self.assertEqual((bench.close(), bench.close()), (0, 0))
+        for call in (bench.undo, bench.listing, bench.faces, bench.page, bench.solids, lambda: top.normal, lambda: bench.volume(1),
+                     lambda: bench.ask('list'), lambda: bench.pocket(block.top, [(1, 1, 9), (2, 1, 9), (1, 2, 9)], 1), lambda: bench.half_edges(1)):
+            with self.assertRaises(Ended):
+                call()
+        self.assertEqual((bench.script(), repr(bench)), ('block 1 0 0 0 9 9 9\n', '<Workbench, 1 command held>'))
+
+    def test_paths(self):
+        with Workbench(Path(program())) as bench, tempfile.TemporaryDirectory() as folder:
+            bench.block((0, 0, 0), (1, 1, 1))
+            bench.save(Path(folder) / 'part.gwb')
+            with Workbench.load(Path(folder) / 'part.gwb', Path(program())) as again:
+                self.assertEqual(again.script(), bench.script())
+        for call in (bench.save, Workbench.load):
+            for path in (None, 1, b'part'):
+                with self.assertRaisesRegex(TypeError, '^path: a path is wanted'):
+                    call(path)
+        with self.assertRaisesRegex(TypeError, '^program: a path is wanted'):
+            Workbench(3)
+
+    def test_it_is_not_copied(self):
+        for call in (copy.copy, copy.deepcopy, pickle.dumps):
+            with self.assertRaisesRegex(TypeError, 'save'):
+                call(self.bench)
 
 
 class WithoutAProgram(unittest.TestCase):

@@ -81,6 +81,9 @@ class Silent:
 
     in_step = True
 
+    def require_open(self):
+        """The session goes on."""
+
     def __getattr__(self, name):
         raise AssertionError(f'{name}: something was sent')
 

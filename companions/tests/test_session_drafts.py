@@ -7,7 +7,7 @@ from random import Random
 
 from support import program
 
-from gwb import Complaint, InDraft, Lone, NoDraft, Refused, Workbench
+from gwb import Complaint, InDraft, Lone, MemoryRefused, NoDraft, Refused, Workbench
 from gwb.errors import Ended
 
 TRIANGLE = [(1, 1, 9), (4, 1, 9), (1, 4, 9)]
@@ -156,15 +156,24 @@ class Drafts(unittest.TestCase):
         self.bench.undo()
         self.assertEqual(self.bench.listing(), self.held)
 
-    def run_out_of_edges(self):
-        """Leaves numbers for two more edges, and a vertex without an edge that can be redone."""
-        bench = self.bench
-        start = bench.face(self.block.top).outer.half_edges[0]
-        bench.mev(start, start, (8, 8, 9), edge=999_998)
-        self.held, self.script = bench.listing(), bench.script()
-        bench.mvfs((30, 0, 0))
-        self.both = bench.listing()
-        bench.undo()
+    def forget_a_vertex(self):
+        """Leaves a vertex without an edge that can be redone."""
+        self.script = self.bench.script()
+        self.bench.mvfs((30, 0, 0))
+        self.both = self.bench.listing()
+        self.bench.undo()
+
+    def refuse_memory(self, after):
+        """Memory for the call after so many is refused."""
+        do, given = self.bench._lines.do, []
+
+        def refusing(call):
+            given.append(call)
+            if len(given) == after + 1:
+                raise MemoryRefused('memory was refused')
+            return do(call)
+
+        self.bench._lines.do = refusing
 
     def half_has_left_no_trace(self):
         self.assertEqual((self.bench.listing(), self.bench.script()), (self.held, self.script))
@@ -172,24 +181,30 @@ class Drafts(unittest.TestCase):
         self.assertEqual(self.bench.listing(), self.both)
 
     def test_a_ring_that_is_refused_half_way_leaves_no_trace(self):
-        self.run_out_of_edges()
-        with self.assertRaises(Refused) as caught:
+        self.forget_a_vertex()
+        self.refuse_memory(3)
+        with self.assertRaises(MemoryRefused):
             self.bench.ring(self.block.bottom, [(1, 1, 0), (1, 4, 0), (4, 1, 0)])
-        self.assertEqual(caught.exception.name, 'NumberRange')
         self.half_has_left_no_trace()
 
     def test_a_ring_that_is_refused_half_way_ends_its_draft(self):
-        self.run_out_of_edges()
+        self.forget_a_vertex()
+        self.refuse_memory(4)
         with self.assertRaises(NoDraft), self.bench.draft():
-            self.bench.kev(999_998)
-            with self.assertRaises(Refused):
+            cut(self.bench)
+            with self.assertRaises(MemoryRefused):
                 self.bench.ring(self.block.bottom, [(1, 1, 0), (1, 4, 0), (4, 1, 0)])
         self.half_has_left_no_trace()
 
     def test_a_feature_of_larger_commands_that_is_refused_half_way_leaves_no_trace(self):
-        self.run_out_of_edges()
-        with self.assertRaises(Refused):
+        bench = self.bench
+        start = bench.face(self.block.top).outer.half_edges[0]
+        bench.mev(start, start, (8, 8, 9), edge=999_998)
+        self.held = bench.listing()
+        self.forget_a_vertex()
+        with self.assertRaises(Refused) as caught:
             self.bench.pocket(self.block.bottom, [(1, 1, 0), (1, 4, 0), (4, 1, 0)], 2)
+        self.assertEqual(caught.exception.name, 'NumbersSpent')
         self.half_has_left_no_trace()
 
 

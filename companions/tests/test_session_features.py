@@ -5,13 +5,14 @@ import tempfile
 import unittest
 from fractions import Fraction
 from importlib import util
+from math import cos, pi, sin
 from pathlib import Path
 from random import Random
 from unittest import mock
 
 from support import TESTS, program
 
-from gwb import Impossible, NotOne, Refused, Workbench
+from gwb import CompanionError, Impossible, NotOne, Refused, Workbench
 from gwb.check import check
 from gwb.measures import area_vector
 from gwb.vectors import add
@@ -192,8 +193,90 @@ class Refusals(unittest.TestCase):
                     self.assertLessEqual({outline[i], outline[(i + 1) % 6]}, set(bench.face(side).points))
 
 
+    def test_sides_follow_the_points(self):
+        bench, top = self.bench, self.block.top
+        ways = (lambda points: bench.pocket(top, points, 2), lambda points: bench.boss(top, points, 2), lambda points: bench.hole(top, points))
+        points = [(1, 1, 10), (5, 1, 10), (6, 4, 10), (3, 8, 10)]
+        for outline in (points, points[::-1], points[2:] + points[:2]):
+            for make in ways:
+                made = make(outline)
+                for i, side in enumerate(made.sides):
+                    self.assertLessEqual({outline[i], outline[(i + 1) % 4]}, set(bench.face(side).points))
+                bench.undo()
+            ring = bench.ring(top, outline)
+            self.assertEqual([bench.vertex(vertex).point for vertex in ring.vertices], outline)
+            for i, edge in enumerate(ring.edges):
+                self.assertEqual({outline[i], outline[(i + 1) % 4]}, set(bench.edge(edge).points))
+            bench.undo()
+        drilled = bench.drill(top, (5, 5, 10), 3, 8)
+        for i, side in enumerate(drilled.sides):
+            self.assertLessEqual({drilled.points[i], drilled.points[(i + 1) % 8]}, set(bench.face(side).points))
+
+    def test_an_outline_of_many_points(self):
+        """A wheel of 20 teeth and 80 points, as a solid, a ring, a pocket and a hole; and a round one."""
+        bench, points = self.bench, []
+        for place in range(80):
+            reach, angle = (200, 220)[place % 4 in (1, 2)], 2 * pi * place / 80
+            points.append((round(300 + reach * cos(angle)), round(300 + reach * sin(angle)), 0))
+        area = abs(area_vector(points)[2])
+        for outline in (points, points[::-1]):
+            for height in (5, -5):
+                wheel = bench.profile(outline, along=(0, 0, height))
+                self.assertEqual(bench.volume(wheel), Fraction(5 * area, 2))
+                for i, side in enumerate(wheel.sides):
+                    self.assertLessEqual({outline[i], outline[(i + 1) % 80]}, set(bench.face(side).points))
+                bench.undo()
+            plate = bench.block((0, 0, -30), (600, 600, 30))
+            self.assertEqual(len(bench.face(bench.ring(plate.top, outline).face).edges), 80)
+            bench.undo()
+            bench.pocket(plate.top, outline, 5)
+            self.assertEqual(bench.volume(plate), 600 * 600 * 30 - Fraction(5 * area, 2))
+            bench.undo()
+            bench.hole(plate.top, outline)
+            bench.undo()
+            bench.drill(plate.top, (300, 300, 0), 250, 96, depth=3)
+            self.assertEqual(check(bench.listing()).findings, [])
+            bench.undo()
+            bench.undo()
+        self.assertEqual(bench.script().count('\n'), 1)
+
+    def test_slices_of_selections(self):
+        bench = self.bench
+        self.assertEqual(bench.faces()[1:4].numbers, (2, 3, 4))
+        self.assertEqual(bench.faces()[:3].top().one().number, self.block.top)
+
+
 class Scripts(unittest.TestCase):
     """Scripts written and taken up again."""
+
+    def test_steps_are_saved_and_loaded(self):
+        with Workbench(program()) as bench, tempfile.TemporaryDirectory() as folder:
+            block = bench.block((0, 0, 0), (9, 9, 9))
+            bench.pocket(block.top, [(1, 1, 9), (4, 1, 9), (1, 4, 9)], 2)
+            with bench.group():
+                bench.block((20, 0, 0), (1, 1, 1))
+                bench.ring(block.bottom, [(1, 1, 0), (1, 4, 0), (4, 1, 0)])
+            bench.ring(block.sides[0], [(1, 0, 1), (4, 0, 1), (1, 0, 4)])
+            bench.save(f'{folder}/part.gwb')
+            with Workbench.load(f'{folder}/part.gwb', program()) as again:
+                for _ in range(4):
+                    self.assertEqual((again.script(), again.listing()), (bench.script(), bench.listing()))
+                    again.undo()
+                    bench.undo()
+                self.assertEqual((again.script(), bench.script()), ('', ''))
+
+    def test_what_is_wrong_in_a_file_is_named_with_its_line(self):
+        with tempfile.TemporaryDirectory() as folder:
+            for name, text, words in (
+                    ('part.gwb', 'block 1 0 0 0 1 1 1\n\n# note\nkvfs 1\n', r'part.gwb, line 4: kvfs 1: refused 12 1: NotBare: .*edge$'),
+                    ('cube.obj', '# a cube\nv 0 0 0\n', r'cube.obj, line 2: v 0 0 0: fault 1: .*gwb-import'),
+                    ('cube', 'OFF\n8 6 12\n', r'cube, line 1: OFF: fault 1: .*gwb-import'),
+                    ('part.gwb', '# draft of 2 commands\nmvfs 1 1 1 1 0 0 0\nkvfs x\n', r'part.gwb, line 3: kvfs x: fault 2'),
+                    ('part.gwb', '# draft of 1 commands\nblock 1 0 0 0 1 1 1\n', r'part.gwb, line 2: block: a draft is open'),
+                    ('replies', 'solid 1\nface 1 1 1\n', r'replies: ')):
+                Path(folder, name).write_text(text)
+                with self.subTest(text), self.assertRaisesRegex(CompanionError, words):
+                    Workbench.load(f'{folder}/{name}', program())
 
     def test_save_and_load(self):
         with Workbench(program()) as bench, tempfile.TemporaryDirectory() as folder:

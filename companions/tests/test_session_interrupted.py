@@ -9,7 +9,7 @@ import threading
 import unittest
 from pathlib import Path
 
-from support import program
+from support import in_mirror, program
 
 import gwb
 from gwb import Complaint, InDraft, InGroup, OutOfStep, Workbench
@@ -17,7 +17,8 @@ from gwb.errors import Ended
 
 FOLDER = str(Path(gwb.__file__).parent)
 # The modules in which an exception may come at each line.
-TRACED = {f'{FOLDER}/{name}.py' for name in ('conversation', 'pipe', 'library', 'journal', 'steps', 'turns', 'commands', 'features')}
+TRACED = {f'{FOLDER}/{name}.py' for name in (
+    'conversation', 'pipe', 'library', 'journal', 'steps', 'turns', 'commands', 'features', 'following', 'mirror', 'surroundings', 'selection')}
 # Python looks for signals where a call begins or returns: not between a line and the `try:` after it, nor between a block and its `finally`.
 NOT_BEFORE = ('try:', 'self._is_inside =', 'self._group_from = outer')
 SQUARE = [(5, 5, 20), (15, 5, 20), (15, 15, 20), (5, 15, 20)]
@@ -114,7 +115,7 @@ class Interrupted(unittest.TestCase):
     """INTERRUPTED of the environment may name the share of lines that are tried: 1 for all of them."""
 
     def test_a_call_left_at_any_line_is_whole_or_leaves_nothing(self):
-        share = int(os.environ.get('INTERRUPTED', 40))
+        share = int(os.environ.get('INTERRUPTED', 60))
         for name, call in CALLS.items():
             with prepared() as bench:
                 before = what_follows(bench)
@@ -135,6 +136,8 @@ class Interrupted(unittest.TestCase):
                     tried(call, bench)
             except Left:
                 pass
+            bench.faces()
+            self.assertEqual(in_mirror(bench), bench.listing(), (name, line))
             self.assertIn(what_follows(bench), allowed, (name, line))
             return interrupter.has_come
 

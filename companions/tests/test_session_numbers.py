@@ -4,7 +4,7 @@ import os
 import unittest
 from random import Random
 
-from support import program
+from support import in_mirror, program
 
 from gwb import Complaint, Lone, Workbench
 from gwb.journal import KINDS
@@ -128,6 +128,7 @@ class Numbers(unittest.TestCase):
             after = bench.listing()
             self.compare(name, result, before, after, seed)
             self.assertEqual(tuple(bench._greatest(kind) for kind in KINDS), greatest_of(after), (seed, name))
+            self.assertEqual(in_mirror(bench), after, (seed, name))
             before = after
         return count
 
