@@ -5,9 +5,13 @@ from .errors import CompanionError, Ended, InDraft, InGroup, NoDraft, NotOne, Ou
 from .listing import read_model
 from .model import Face, Loop, Model
 from .outlines import Impossible
-from .results import Lone
+from .reading import EdgePart, FacePart, LoopPart, Part, SolidPart, VertexPart
+from .results import Block, Count, Hole, Lamina, Lone, NewEdge, NewFace, NewSolid, Plane, Pocket, Profile, Ring, Split, Sweep
+from .selection import Selection
 from .session import Workbench
 from .version import VERSION as __version__
 
-__all__ = ['CompanionError', 'Complaint', 'Ended', 'Face', 'Faulted', 'Impossible', 'InDraft', 'InGroup', 'Lone', 'Loop', 'MemoryRefused', 'Model',
-           'NoDraft', 'NotOne', 'OutOfStep', 'ProgramMissing', 'Refused', 'Workbench', '__version__', 'read_model']
+__all__ = ['Block', 'CompanionError', 'Complaint', 'Count', 'EdgePart', 'Ended', 'Face', 'FacePart', 'Faulted', 'Hole', 'Impossible', 'InDraft',
+           'InGroup', 'Lamina', 'Lone', 'Loop', 'LoopPart', 'MemoryRefused', 'Model', 'NewEdge', 'NewFace', 'NewSolid', 'NoDraft', 'NotOne',
+           'OutOfStep', 'Part', 'Plane', 'Pocket', 'Profile', 'ProgramMissing', 'Refused', 'Ring', 'Selection', 'SolidPart', 'Split', 'Sweep',
+           'VertexPart', 'Workbench', '__version__', 'read_model']

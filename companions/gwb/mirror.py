@@ -3,6 +3,7 @@
 The operators, lamina, sweep and glue are those of docs/MODEL.md and docs/SCRIPT.md. A split isn't followed: what it makes is read.
 """
 
+from functools import lru_cache
 from typing import Any, Callable, Dict, List, NamedTuple, Optional, Sequence, Set, Tuple
 
 from .calls import Call
@@ -10,7 +11,9 @@ from .model import Face, Loop, Model
 from .results import Lone, Numbers
 from .vectors import Vector, add
 
+# What stands for the value before of what wasn't there: of one key, and of all those that stand in its place.
 _ABSENT: Any = object()
+_FILLED: Any = object()
 
 
 class Changes(NamedTuple):
@@ -34,7 +37,7 @@ class Mirror:
         self._face_of: Dict[int, int] = {}
         self._tables: Dict[str, Dict[int, Any]] = {
             'solid': self._solids, 'face': self._faces, 'loop': self._loops, 'edge': self._edges, 'vertex': self._vertices}
-        self._before: List[Tuple[Dict[int, Any], int, Any]] = []
+        self._before: List[Tuple[Dict[int, Any], Any, Any]] = []
         self._marks: List[int] = []
         self._changes = Changes(set(), set(), set())
 
@@ -139,12 +142,20 @@ class Mirror:
         mark = self._marks.pop()
         while len(self._before) > mark:
             table, key, value = self._before.pop()
-            self._note(table, key)
-            if value is _ABSENT:
-                del table[key]
-            else:
-                table[key] = value
-                self._note(table, key)
+            for one in key if value is _FILLED else (key,):
+                self._note(table, one)
+                if value is _ABSENT or value is _FILLED:
+                    del table[one]
+                else:
+                    table[one] = value
+                    self._note(table, one)
+
+    def _fill(self, table: Dict[int, Any], rows: Dict[int, Any], changes: Optional[Set[int]] = None) -> None:
+        """Puts rows in of which none is there; they are noted among the changes."""
+        self._before.append((table, tuple(rows), _FILLED))
+        table.update(rows)
+        if changes is not None:
+            changes.update(rows)
 
     def _put(self, table: Dict[int, Any], key: int, value: Any) -> None:
         self._before.append((table, key, table.get(key, _ABSENT)))
@@ -368,12 +379,18 @@ class Mirror:
         self._new_face(face + 1, Face(values[0], loop + 1))
 
     def _block(self, values: Sequence[Any], last: Callable[[str], int]) -> None:
-        """The lamina of the base, swept up."""
+        """The lamina of the base, swept up: the things of the unit block, with other numbers."""
         solid, x, y, z, width, depth, height = values
-        corners = (x, y, z, x + width, y, z, x + width, y + depth, z, x, y + depth, z)
-        base = {'face': last('face') - 4, 'loop': last('loop') - 4, 'edge': last('edge') - 8, 'vertex': last('vertex') - 4}
-        self._lamina((solid, *corners), base.__getitem__)
-        self._sweep((base['face'] - 1, 0, 0, height), last)
+        unit = _unit_block()
+        face, loop, edge, vertex = (last(kind) - len(unit._tables[kind]) for kind in ('face', 'loop', 'edge', 'vertex'))
+        self._fill(self._vertices, {vertex + n: (x + width * i, y + depth * j, z + height * k) for n, (i, j, k) in unit._vertices.items()})
+        self._fill(self._edges, {edge + n: (vertex + start, vertex + end) for n, (start, end) in unit._edges.items()}, self._changes.edges)
+        self._fill(self._loops, {loop + n: Loop(tuple([half + edge if half > 0 else half - edge for half in content.halves]))
+                                 for n, content in unit._loops.items()}, self._changes.loops)
+        self._fill(self._loop_of, {half + edge if half > 0 else half - edge: loop + n for half, n in unit._loop_of.items()})
+        self._fill(self._face_of, {loop + n: face + of for n, of in unit._face_of.items()})
+        self._fill(self._faces, {face + n: Face(solid, loop + row.outer) for n, row in unit._faces.items()}, self._changes.faces)
+        self._put(self._solids, solid, {face + n: None for n in unit._faces})
 
     def _sweep(self, values: Sequence[Any], last: Callable[[str], int]) -> None:
         face, *vector = values
@@ -445,6 +462,16 @@ class Mirror:
 
     def _point(self, half: int) -> Vector:
         return self._vertices[self.tail(half)]
+
+
+@lru_cache(maxsize=None)
+def _unit_block() -> Mirror:
+    """The block of size 1 at the origin, made as a lamina swept up; its numbers begin with 1."""
+    mirror = Mirror()
+    base, whole = ({'face': 2, 'loop': 2, 'edge': 4, 'vertex': 4}, {'face': 6, 'loop': 6, 'edge': 12, 'vertex': 8})
+    mirror._lamina((1, 0, 0, 0, 1, 0, 0, 1, 1, 0, 0, 1, 0), base.__getitem__)
+    mirror._sweep((1, 0, 0, 1), whole.__getitem__)
+    return mirror
 
 
 def _from_least(halves: Tuple[int, ...]) -> Tuple[int, ...]:
