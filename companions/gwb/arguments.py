@@ -6,6 +6,7 @@ from numbers import Integral
 from os import PathLike, fspath
 from typing import Iterable, List, Optional, Sequence, Tuple, Union
 
+from .free_numbers import KINDS, LARGEST
 from .reading import EdgePart, FacePart, LoopPart, Part, SolidPart, VertexPart
 from .results import Block, Lamina, Lone, NewSolid, Plane, Profile
 from .vectors import Vector
@@ -21,10 +22,9 @@ Points = Iterable[Sequence[int]]
 Path = Union[str, PathLike[str]]
 
 GREATEST_WORD = 4_294_967_295
-GREATEST_NUMBER = 1_000_000
+GREATEST_NUMBER = LARGEST
 MOST_LAMINA_POINTS = 64
 _LEAST, _GREATEST = -2 ** 63, 2 ** 63 - 1
-_KINDS = ('solid', 'face', 'loop', 'edge', 'vertex')
 _WITH_A_SOLID = (NewSolid, Lamina, Block, Profile)
 
 
@@ -40,7 +40,7 @@ def number(name: str, value: object, kind: str = '', bench: object = None) -> in
 
     Of the kind, which is what the argument is named after where none is given, and of the bench a thing may be given too, and for a solid what
     a command that makes one returned."""
-    wanted = kind or (name if name in _KINDS else '')
+    wanted = kind or (name if name in KINDS else '')
     if isinstance(value, Part):
         return _part(name, value, wanted, bench).number
     if wanted == 'solid' and isinstance(value, _WITH_A_SOLID):

@@ -32,12 +32,17 @@ class MemoryRefused(Complaint):
 def complaint(line: str, reply: Reply) -> Complaint:
     """The error for a complaint about a line."""
     if reply.word == 'memory':
-        return MemoryRefused(f'{line}: memory was refused')
+        return memory_refused(line)
     if reply.word == 'fault':
         number = reply.numbers[0]
         return Faulted(FAULTS[number].name, number, f'{line}: fault {number}: {FAULTS[number]}')
     number, value = reply.numbers
     return refused(line, number, value)
+
+
+def memory_refused(line: str) -> MemoryRefused:
+    """The error for a line for which memory was refused."""
+    return MemoryRefused(f'{line}: memory was refused')
 
 
 def refused(line: str, number: int, value: int) -> Refused:

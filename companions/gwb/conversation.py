@@ -12,8 +12,8 @@ from .calls import Call, Value, call_in, words_in
 from .complaints import complaint
 from .errors import CompanionError, InDraft, InGroup, OutOfStep
 from .following import Following
-from .free_numbers import greatest_of
-from .journal import KINDS, Done, Journal
+from .free_numbers import KINDS, greatest_of
+from .journal import Done, Journal
 from .library import Library
 from .mirror import Mirror
 from .model import Model

@@ -76,8 +76,9 @@ def _renumbered_loop(loop: Loop, edge: Dict[int, int], vertex: Dict[int, int]) -
 def from_least(halves: Iterable[int]) -> Tuple[int, ...]:
     """The cycle from its least half-edge on, by edge, `+` before `-`."""
     cycle = tuple(halves)
-    least = cycle.index(min(cycle, key=lambda half: (abs(half), half < 0)))
-    return cycle[least:] + cycle[:least]
+    least = min([abs(half) for half in cycle])
+    place = cycle.index(least if least in cycle else -least)
+    return cycle[place:] + cycle[:place]
 
 
 def sorted_model(solids: Iterable[int], faces: Mapping[int, Face], loops: Mapping[int, Loop], edges: Mapping[int, Tuple[int, int]],

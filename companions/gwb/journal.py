@@ -3,8 +3,7 @@
 from typing import Dict, List, NamedTuple, Optional, Tuple
 
 from .calls import Call
-
-KINDS = ('solid', 'face', 'loop', 'edge', 'vertex')
+from .free_numbers import KINDS
 
 
 class Greatest:

@@ -6,9 +6,9 @@ from typing import Any, Callable, Dict, Iterator, List, Optional, Sequence, Tupl
 
 from .arguments import GREATEST_NUMBER
 from .calls import Call, Value
-from .complaints import Complaint, Refused, complaint, refused
+from .complaints import Complaint, Refused, memory_refused, refused
 from .errors import CompanionError, Ended, InDraft, NoDraft, ProgramMissing
-from .journal import KINDS
+from .free_numbers import KINDS, from_least
 from .language import command_bytes
 from .model import Face, Loop, Model
 from .replies import Reply, only_reply
@@ -28,12 +28,6 @@ _NO_ANSWERS: Dict[int, Tuple[Type[CompanionError], str]] = {
 _FOUND = 1
 _ACCEPTED = Reply(('ok',))
 _WORD = ctypes.c_uint32
-
-
-def _from_least(ring: List[int]) -> List[int]:
-    """The items of a ring in their order, from the least on."""
-    least = ring.index(min(ring)) if ring else 0
-    return ring[least:] + ring[:least]
 
 
 class Handle(ctypes.Structure):
@@ -207,7 +201,7 @@ class Library:
         else:
             said = self._commands[call.word](self._handle, *map(_code, corners), *(_way(call.plain) if call.word == 'ringmv' else call.plain))
         if said != _OK:
-            raise complaint(str(call), self._reply(said))
+            raise self._complaint(call, said)
 
     def give(self, calls: Sequence[Call]) -> None:
         """Gives the calls that are one command. A complaint is raised, and nothing has changed."""
@@ -291,20 +285,36 @@ class Library:
         """Asks a query, whose answer is written. A complaint is raised."""
         said = function(self._handle, number, row)
         if said not in _TOLD:
-            raise complaint(str(Call(word, (number,))), self._reply(said))
+            raise self._complaint(Call(word, (number,)), said)
 
     def _reply(self, said: int) -> Reply:
         """The reply to a command, whose answer is of this kind."""
-        if said in _NO_ANSWERS:
-            error, why = _NO_ANSWERS[said]
-            raise error(why)
+        self._require_answer(said)
         if said == _OK:
             return _ACCEPTED
         if said == _MEMORY:
             return Reply(('memory',))
+        refusal = self._refusal()
+        return Reply((f'refused {refusal.number} {refusal.value}',))
+
+    def _complaint(self, call: Call, said: int) -> Complaint:
+        """The error for a command that wasn't accepted, whose answer is of this kind."""
+        self._require_answer(said)
+        if said == _MEMORY:
+            return memory_refused(str(call))
+        refusal = self._refusal()
+        return refused(str(call), refusal.number, refusal.value)
+
+    def _require_answer(self, said: int) -> None:
+        if said in _NO_ANSWERS:
+            error, why = _NO_ANSWERS[said]
+            raise error(why)
+
+    def _refusal(self) -> Refusal:
+        """The last refusal."""
         refusal = Refusal()
         self._library.gwb_last_refusal(self._handle, refusal)
-        return Reply((f'refused {refusal.number} {refusal.value}',))
+        return refusal
 
     def half_edges(self, loop: int) -> Tuple[int, ...]:
         """The half-edges of a loop, from the least on: none of a lone loop, or of one that is not there."""
@@ -314,7 +324,8 @@ class Library:
             count = self._library.gwb_half_edges(self._handle, loop, codes, room)
             self.require_open()
             if count <= room:
-                return tuple(-(code // 2) if code % 2 else code // 2 for code in _from_least(codes[:count]))
+                halves = [-(code // 2) if code % 2 else code // 2 for code in codes[:count]]
+                return from_least(halves) if halves else ()
             room = count
 
     def in_use(self, kind: str, number: int) -> bool:

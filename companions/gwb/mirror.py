@@ -7,6 +7,7 @@ from functools import lru_cache
 from typing import Any, Callable, Dict, List, NamedTuple, Optional, Sequence, Set, Tuple
 
 from .calls import Call
+from .free_numbers import from_least
 from .model import Face, Loop, Model
 from .results import Lone, Numbers
 from .vectors import Vector, add
@@ -184,7 +185,7 @@ class Mirror:
 
     def _put_cycle(self, loop: int, halves: Sequence[int], alone: int = 0) -> None:
         """The content of a loop: half-edges, or where there are none the vertex."""
-        self._put_loop(loop, Loop(_from_least(tuple(halves))) if halves else Loop((), alone))
+        self._put_loop(loop, Loop(from_least(halves)) if halves else Loop((), alone))
 
     def _put_edge(self, edge: int, ends: Tuple[int, int]) -> None:
         self._put(self._edges, edge, ends)
@@ -472,13 +473,6 @@ def _unit_block() -> Mirror:
     mirror._lamina((1, 0, 0, 0, 1, 0, 0, 1, 1, 0, 0, 1, 0), base.__getitem__)
     mirror._sweep((1, 0, 0, 1), whole.__getitem__)
     return mirror
-
-
-def _from_least(halves: Tuple[int, ...]) -> Tuple[int, ...]:
-    """The cycle from its least half-edge on, by edge, `+` before `-`."""
-    least = min([abs(half) for half in halves])
-    place = halves.index(least if least in halves else -least)
-    return halves[place:] + halves[:place]
 
 
 _EFFECTS: Dict[str, Callable[[Mirror, Sequence[Any], Callable[[str], int]], None]] = {

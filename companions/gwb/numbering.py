@@ -3,7 +3,8 @@
 from typing import Callable, Dict, Tuple
 
 from .calls import Call
-from .journal import KINDS, Greatest
+from .free_numbers import KINDS
+from .journal import Greatest
 
 COUNTED_KINDS = KINDS[1:]
 # The commands that take fresh numbers, and those of them that kill none.

@@ -115,7 +115,7 @@ class Interrupted(unittest.TestCase):
     """INTERRUPTED of the environment may name the share of lines that are tried: 1 for all of them."""
 
     def test_a_call_left_at_any_line_is_whole_or_leaves_nothing(self):
-        share = int(os.environ.get('INTERRUPTED', 60))
+        share = int(os.environ.get('INTERRUPTED', 100))
         for name, call in CALLS.items():
             with prepared() as bench:
                 before = what_follows(bench)
