@@ -136,15 +136,11 @@ class Conversation(TakingTurns):
 
     @contextmanager
     def _disagreeing(self) -> Iterator[None]:
-        """While a command is given and accounted for, program and journal may disagree; where it isn't accepted they agree again."""
+        """While a command is given and accounted for, program and journal may disagree; by an exception they do until the next call."""
         self._require_agreement()
         was_inside, self._is_inside, self._agrees = self._is_inside, True, False
         try:
             yield
-        except CompanionError:
-            self._agrees = True
-            raise
-        else:
             self._agrees = True
         finally:
             self._is_inside = was_inside
@@ -174,14 +170,18 @@ class Conversation(TakingTurns):
         corners = self._prepared(word, call.number(0) if word == 'sweep' else 0)
         self._require_agreement()
         self._agrees = False
-        try:
-            self._lines.do(call)
-        except CompanionError:
-            self._agrees = True
-            raise
+        self._unless_refused(lambda: self._lines.do(call))
         fresh = self._account(call, corners)
         self._agrees = True
         return fresh
+
+    def _unless_refused(self, give: Callable[[], None]) -> None:
+        """Gives what changes nothing where it is refused: program and journal then agree."""
+        try:
+            give()
+        except CompanionError:
+            self._agrees = True
+            raise
 
     def _prepared(self, word: str, first: int) -> int:
         """Makes sure of what a larger command counts on from, where nobody says it later; how many corners the face of a sweep has."""

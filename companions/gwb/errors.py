@@ -34,7 +34,8 @@ class InGroup(CompanionError, RuntimeError):
 
 
 class OutOfStep(CompanionError, RuntimeError):
-    """A call is under way, as where a handler of signals gives another one; nothing was sent."""
+    """A call is under way, as where a handler of signals gives another one, or the session is of the process from which this one was forked;
+    nothing was sent."""
 
 
 class NoDraft(CompanionError, RuntimeError):

@@ -41,7 +41,7 @@ class Pipe:
     """The program, started, and what it says."""
 
     def __init__(self, program: str) -> None:
-        self._program = program
+        self._program, self._owner = program, os.getpid()
         self._over = ''
         self._start()
 
@@ -71,6 +71,8 @@ class Pipe:
         """The reply to one line that is a command, or a fault. Where an exception leaves it, replies are no longer in step."""
         data = command_bytes(line)
         self.require_open()
+        if self._owner != os.getpid():
+            raise OutOfStep(f'{line}: the session is of another process, from which this one was forked')
         if not self.in_step:
             raise OutOfStep(f'{line}: another call is under way, whose reply is awaited')
         self.in_step = False
@@ -136,7 +138,9 @@ class Pipe:
         return model_of(self._asked(Call('list')))
 
     def close(self) -> int:
-        """Ends the program; its status."""
+        """Ends the program; its status. In a process that was forked nothing is done."""
+        if self._owner != os.getpid():
+            return 0
         if not self.in_step:
             self._kill()
         elif not self._to.closed:

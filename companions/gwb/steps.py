@@ -22,7 +22,7 @@ class Steps(Conversation):
             self._begin_block('draft')
             try:
                 with self._disagreeing():
-                    self._lines.open_draft()
+                    self._unless_refused(self._lines.open_draft)
                     self._journal.open_draft()
                 yield
                 self._commit()

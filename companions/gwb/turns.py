@@ -9,7 +9,10 @@ Method = TypeVar('Method', bound=Callable[..., Any])
 
 
 class TakingTurns:
-    """What is shared by threads: each public method of the classes below is a turn, and a turn begins with `_begin_turn`."""
+    """What is shared by threads: each public method of the classes below is a turn, and a turn begins with `_begin_turn` but of those that need
+    nothing to be put right."""
+
+    _as_it_is = ('close', 'save', 'script')
 
     def __init__(self) -> None:
         self._turn = RLock()
@@ -35,7 +38,8 @@ def in_turn(method: Method) -> Method:
                 return method(self, *values, **named)
             self._is_inside = True
             try:
-                self._begin_turn()
+                if method.__name__ not in self._as_it_is:
+                    self._begin_turn()
                 return method(self, *values, **named)
             finally:
                 self._is_inside = False

@@ -219,6 +219,23 @@ class OverThePipe(unittest.TestCase):
         with self.assertRaises(Ended):
             self.bench.volume(1)
 
+    def test_it_is_closed_after_an_interrupt_without_being_started_anew(self):
+        bench, started = self.bench, self.bench._lines._process.pid
+        self.interrupted(lambda: bench.volume(1))
+        self.assertEqual(bench.script().count('\n'), 2)
+        self.assertEqual((bench.close(), bench._lines._process.pid), (-signal.SIGKILL, started))
+
+    def test_a_process_that_was_forked_has_no_session(self):
+        process = os.fork()
+        if process == 0:
+            try:
+                self.bench.volume(1)
+            except OutOfStep:
+                os._exit(0)
+            os._exit(1)
+        self.assertEqual(os.waitpid(process, 0)[1], 0)
+        self.assertEqual((self.bench.volume(2), self.bench.volume(1)), (1, 8000))
+
     def test_a_program_that_dies_in_a_feature(self):
         bench, script, given = self.bench, self.bench.script(), []
         do = bench._lines.do
