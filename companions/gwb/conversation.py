@@ -89,7 +89,8 @@ class Conversation(TakingTurns):
         """Who answers questions about the model: the library, or over the pipe its mirror."""
         if isinstance(self._lines, Library):
             return self._lines
-        return self._mirror()
+        self._lines.require_open()
+        return self._following.now()
 
     @in_turn
     def _mirror(self) -> Mirror:

@@ -1,6 +1,6 @@
 """A mirror of the model that follows the journal: it is brought up to it where it is asked for, so what isn't asked costs nothing."""
 
-from typing import Callable, List, Optional, Sequence, Union
+from typing import Callable, List, Optional, Sequence, Tuple, Union
 
 from .calls import Call
 from .journal import Done, DraftStep, Journal, State
@@ -17,18 +17,23 @@ class Following:
         self._journal, self._read = journal, read
         # False while the mirror changes, and after an exception that left it half-way: then it is made anew.
         self._is_whole = True
+        # The state that was looked at last, and how many steps its draft had then.
+        self._seen: Tuple[Optional[State], int] = (None, 0)
         self._start(Mirror(), 0, None)
 
     def now(self) -> Mirror:
         """The mirror of the model held now. It follows the next commands too, so it is asked for anew after each."""
+        state = self._journal.state
+        seen = (state, len(state.draft or ()))
+        if self._is_whole and self._seen[0] is state and self._seen[1] == seen[1]:
+            return self._mirror
         if not self._is_whole:
             self._start(Mirror(), 0, None)
         self._is_whole = False
-        state = self._journal.state
         self._take_back(state)
         if not self._stands_on(state) or not self._follow(state):
             self._start(Mirror.of(self._read()), state.at if state.draft is None else -1, state.done[state.at - 1])
-        self._is_whole = True
+        self._is_whole, self._seen = True, seen
         return self._mirror
 
     def tell(self, solids: Sequence[int], model: Model) -> None:

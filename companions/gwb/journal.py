@@ -139,9 +139,9 @@ class Journal:
         """One command was undone or redone, the word says which."""
         self.state = self.state._replace(at=self.state.at + (1 if word == 'redo' else -1))
 
-    def restore(self, state: State, given_up: int = 0) -> None:
-        """All is as in a state from before, but that so many calls were undone for good."""
-        self.state = state._replace(given_up=given_up or state.given_up)
+    def restore(self, state: State, undone: int = 0) -> None:
+        """All is as in a state from before; so many commands were undone for good since then, or those that were now."""
+        self.state = state._replace(given_up=undone or self.state.given_up)
 
     def drop_ahead(self, kept: int) -> None:
         """Of the commands that are undone only so many can be redone."""

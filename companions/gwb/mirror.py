@@ -103,6 +103,11 @@ class Mirror:
             return (self._vertices[content.vertex],)
         return tuple([self._vertices[self.tail(half)] for half in content.halves])
 
+    @property
+    def has_changed(self) -> bool:
+        """Whether something has changed since `take_changes` was asked last."""
+        return any(self._changes)
+
     def take_changes(self) -> Changes:
         """What has changed since this was asked last."""
         changes, self._changes = self._changes, Changes(set(), set(), set())

@@ -90,10 +90,11 @@ class Surroundings:
 
     def _catch_up(self) -> None:
         """What the mirror says has changed is worked out anew."""
+        if not self.mirror.has_changed:
+            return
         self.is_whole = False
         changes = self.mirror.take_changes()
-        if any(changes):
-            self._regions.clear()
+        self._regions.clear()
         for loop in changes.loops:
             self._shapes.pop(loop, None)
         if self._solids:

@@ -5,7 +5,7 @@ import tempfile
 import unittest
 from random import Random
 
-from support import program
+from support import in_mirror, program
 
 from gwb import Complaint, InDraft, Lone, MemoryRefused, NoDraft, Refused, Workbench
 from gwb.errors import Ended
@@ -209,7 +209,7 @@ class Drafts(unittest.TestCase):
 
 
 class RandomDrafts(unittest.TestCase):
-    """Random commands, drafts, undos and redos, beside a list of all models. RANDOM_DRAFTS of the environment may name how many."""
+    """Random commands, drafts, groups, undos and redos, beside a list of all models. RANDOM_DRAFTS of the environment may name how many."""
 
     def test_random_drafts(self):
         for seed in range(int(os.environ.get('RANDOM_DRAFTS', 400)) // 40):
@@ -221,7 +221,7 @@ class RandomDrafts(unittest.TestCase):
         bench.mvfs((0, 0, 0))
         past, at = [bench.listing()], 0
         for turn in range(40):
-            call = random.choice((self.command, self.drafted, self.drafted, self.given_up, self.undo, self.undo, self.redo))
+            call = random.choice((self.command, self.drafted, self.drafted, self.given_up, self.grouped, self.undo, self.undo, self.redo))
             moved = call(bench, random, at, len(past))
             if moved is None:
                 continue
@@ -230,6 +230,7 @@ class RandomDrafts(unittest.TestCase):
                 past.append(bench.listing())
             at += moved or 1
             self.assertEqual(bench.listing(), past[at], (seed, turn, call.__name__))
+            self.assertEqual(in_mirror(bench), past[at], (seed, turn, call.__name__))
 
     def operator(self, bench, random):
         """One operator, or a ring: whether it was accepted."""
@@ -252,12 +253,31 @@ class RandomDrafts(unittest.TestCase):
             accepted = [self.operator(bench, random) for _ in range(random.randrange(4))]
         return 0 if any(accepted) else None
 
+    def grouped(self, bench, random, *_):
+        """A group of commands and drafts, and of a group that is given up."""
+        accepted = []
+        with bench.group():
+            for _ in range(random.randrange(4)):
+                call = random.choice((self.command, self.drafted, self.grouped, self.group_given_up))
+                accepted.append(call(bench, random) == 0)
+        return 0 if any(accepted) else None
+
+    def group_given_up(self, bench, random):
+        before = bench.listing()
+        with self.assertRaises(GivenUp), bench.group():
+            self.grouped(bench, random)
+            raise GivenUp
+        self.assertEqual(bench.listing(), before)
+
     def given_up(self, bench, random, at, count):
         before = bench.listing()
-        with self.assertRaises(GivenUp), bench.draft():
-            for _ in range(random.randrange(4)):
-                self.operator(bench, random)
-            raise GivenUp
+        if random.random() < 0.5:
+            self.group_given_up(bench, random)
+        else:
+            with self.assertRaises(GivenUp), bench.draft():
+                for _ in range(random.randrange(4)):
+                    self.operator(bench, random)
+                raise GivenUp
         self.assertEqual(bench.listing(), before)
         self.redo(bench, random, at, count)
         if at + 1 < count:
