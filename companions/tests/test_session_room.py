@@ -85,16 +85,16 @@ class Room(unittest.TestCase):
     """RANDOM_ROOM of the environment may name how many features are tried."""
 
     def test_random_features(self):
-        left, made, met, seed = int(os.environ.get('RANDOM_ROOM', 100)), 0, 0, 0
-        while left > 0:
+        wanted, made, met, seed = int(os.environ.get('RANDOM_ROOM', 100)), 0, 0, 0
+        while made + met < wanted:
             seed += 1
             with Workbench(program()) as bench:
                 parts = Parts(bench, Random(seed))
                 parts.make()
                 for _ in range(60):
                     outcome = self.try_one(bench, parts, seed)
-                    made, met, left = made + (outcome is True), met + (outcome is False), left - (outcome is not None)
-        self.assertGreater(min(made, met), 10)
+                    made, met = made + (outcome is True), met + (outcome is False)
+        self.assertGreater(min(made, met), wanted // 20)
 
     def try_one(self, bench, parts, seed):
         """True where a feature was made, False where it would have met something, None where its outline was refused."""
