@@ -55,6 +55,7 @@ class Surroundings:
         self.mirror = mirror
         # False while changes are worked in, and after an exception that left it half-way: then this is of no more use.
         self.is_whole = True
+        mirror.take_changes()
         self._shapes: Dict[int, LoopShape] = {}
         self._regions: Dict[int, Optional[Region]] = {}
         self._solids: Dict[int, _OfSolid] = {}
