@@ -193,7 +193,7 @@ class Conversation(TakingTurns):
         return sum(self._face_sizes(first)) if word == 'sweep' else 0
 
     def _account(self, call: Call, corners: int) -> Fresh:
-        """An accepted command changes what is known: the fresh numbers of a larger one. The journal comes last."""
+        """An accepted command changes what is known: the fresh numbers of a larger one. The journal comes last, but for the mirror."""
         self._held = None
         fresh = self._fresh(call, corners) if call.word in LARGER else {}
         made, killed = changes(call)
@@ -203,6 +203,8 @@ class Conversation(TakingTurns):
             if bound > self._ever[kind]:
                 self._ever[kind] = bound
         self._journal.add(call, self._begins_step(), greatest)
+        if call.word == 'block':
+            self._following.keep_up()
         return fresh
 
     def _begins_step(self) -> bool:

@@ -25,6 +25,7 @@ class Following:
         """The mirror of the model held now. It follows the next commands too, so it is asked for anew after each."""
         state = self._journal.state
         seen = (state, len(state.draft or ()))
+        self._is_whole = self._is_whole and self._mirror.is_whole
         if self._is_whole and self._seen[0] is state and self._seen[1] == seen[1]:
             return self._mirror
         if not self._is_whole:
@@ -36,10 +37,15 @@ class Following:
         self._is_whole, self._seen = True, seen
         return self._mirror
 
+    def keep_up(self) -> None:
+        """Follows the last command, if all before it was followed: for those that cost next to nothing."""
+        if self._has_all_but_the_last(self._journal.state):
+            self.now()
+
     def tell(self, solids: Sequence[int], model: Model) -> None:
         """What the last command made of some solids, where all before it was followed: then these go, and those of the model come."""
         state = self._journal.state
-        if self._is_whole and self._stands_on(state) and len(self._taken) == state.at - 1 - self._base and state.draft is None:
+        if self._has_all_but_the_last(state):
             self._is_whole = False
             self._mirror.replace(solids, model)
             self._taken.append(state.done[state.at - 1])
@@ -49,6 +55,12 @@ class Following:
         """The mirror is that of the first `base` commands, the last of which is `below`; -1 where it is of no such place."""
         self._mirror, self._base, self._below = mirror, base, below
         self._taken: List[_Entry] = []
+
+    def _has_all_but_the_last(self, state: State) -> bool:
+        taken = len(self._taken)
+        if not self._is_whole or state.draft is not None or not self._stands_on(state) or taken != state.at - 1 - self._base:
+            return False
+        return taken == 0 or self._entry(state, taken - 1) is self._taken[-1]
 
     def _stands_on(self, state: State) -> bool:
         if self._base == 0:

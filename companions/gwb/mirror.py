@@ -1,10 +1,12 @@
 """The model held, as it follows from the accepted commands: each takes so long as what it changes, and can be taken back.
 
-The operators, lamina, sweep and glue are those of docs/MODEL.md and docs/SCRIPT.md. A split isn't followed: what it makes is read.
+The operators, lamina, sweep and glue are those of docs/MODEL.md and docs/SCRIPT.md. A split isn't followed: what it makes is read. A block stays
+folded, which costs next to nothing, until something of it is asked for.
 """
 
+from bisect import bisect_right
 from functools import lru_cache
-from typing import Any, Callable, Dict, List, NamedTuple, Optional, Sequence, Set, Tuple
+from typing import Any, Callable, Dict, Iterator, List, NamedTuple, Optional, Sequence, Set, Tuple, TypeVar, Union
 
 from .calls import Call
 from .free_numbers import from_least
@@ -15,6 +17,9 @@ from .vectors import Vector, add
 # What stands for the value before of what wasn't there: of one key, and of all those that stand in its place.
 _ABSENT: Any = object()
 _FILLED: Any = object()
+# How many things of each kind a block has.
+_BLOCK = {'face': 6, 'loop': 6, 'edge': 12, 'vertex': 8}
+Row = TypeVar('Row')
 
 
 class Changes(NamedTuple):
@@ -25,21 +30,47 @@ class Changes(NamedTuple):
     edges: Set[int]
 
 
+class _Table(Dict[int, Any]):
+    """Rows by numbers. One that is missing may be of a folded block, which `unfold` then unfolds: whether it did."""
+
+    def __init__(self, unfold: Callable[[int], bool]) -> None:
+        super().__init__()
+        self._unfold = unfold
+
+    def __missing__(self, number: int) -> Any:
+        if self._unfold(number):
+            return self[number]
+        raise KeyError(number)
+
+
+class _Fold:
+    """A block that was followed: its values, and the numbers before its first ones."""
+
+    def __init__(self, values: Sequence[Any], before: Dict[str, int]) -> None:
+        self.values, self.before, self.is_open = values, before, False
+
+
 class Mirror:
     """Solids, faces, loops, edges and vertices by their numbers; it answers as a listing does."""
 
     def __init__(self) -> None:
-        self._solids: Dict[int, Dict[int, None]] = {}
-        self._faces: Dict[int, Face] = {}
-        self._loops: Dict[int, Loop] = {}
-        self._edges: Dict[int, Tuple[int, int]] = {}
-        self._vertices: Dict[int, Vector] = {}
-        self._loop_of: Dict[int, int] = {}
-        self._face_of: Dict[int, int] = {}
+        self._solids: Dict[int, Dict[int, None]] = _Table(lambda solid: self._unfold_solid(solid))
+        self._faces: Dict[int, Face] = _Table(lambda face: self._unfold_with('face', face))
+        self._loops: Dict[int, Loop] = _Table(lambda loop: self._unfold_with('loop', loop))
+        self._edges: Dict[int, Tuple[int, int]] = _Table(lambda edge: self._unfold_with('edge', edge))
+        self._vertices: Dict[int, Vector] = _Table(lambda vertex: self._unfold_with('vertex', vertex))
+        self._loop_of: Dict[int, int] = _Table(lambda half: self._unfold_with('edge', abs(half)))
+        self._face_of: Dict[int, int] = _Table(lambda loop: self._unfold_with('loop', loop))
         self._tables: Dict[str, Dict[int, Any]] = {
             'solid': self._solids, 'face': self._faces, 'loop': self._loops, 'edge': self._edges, 'vertex': self._vertices}
         self._before: List[Tuple[Dict[int, Any], Any, Any]] = []
-        self._marks: List[int] = []
+        self._marks: List[Union[int, _Fold]] = []
+        # The blocks that were followed folded, with the numbers before their first ones, which rise; and those still folded, by solid.
+        self._folds: List[_Fold] = []
+        self._starts: Dict[str, List[int]] = {kind: [] for kind in _BLOCK}
+        self._folded: Dict[int, _Fold] = {}
+        # False while a block is unfolded, and after an exception that left it half-way: then the mirror is of no more use.
+        self.is_whole = True
         self._changes = Changes(set(), set(), set())
 
     @classmethod
@@ -54,19 +85,22 @@ class Mirror:
 
     def numbers(self, kind: str) -> Numbers:
         """All numbers of a kind in use, rising."""
-        return tuple(sorted(self._tables[kind]))
+        if kind == 'solid':
+            return tuple(sorted([*self._solids, *self._folded]))
+        folded = [number for fold in self._folded.values() for number in _numbers_of(fold, kind)]
+        return tuple(sorted([*self._tables[kind], *folded]))
 
     def faces_of(self, solid: int) -> Numbers:
         """The faces of a solid, rising."""
-        return tuple(sorted(self._solids.get(solid, ())))
+        return tuple(sorted(_found(self._solids, solid) or ()))
 
     def face(self, face: int) -> Optional[Face]:
         """A face; None where it is not there."""
-        return self._faces.get(face)
+        return _found(self._faces, face)
 
     def loop(self, loop: int) -> Optional[Loop]:
         """A loop; None where it is not there."""
-        return self._loops.get(loop)
+        return _found(self._loops, loop)
 
     def face_of_loop(self, loop: int) -> int:
         """The face of a loop that is there."""
@@ -74,15 +108,15 @@ class Mirror:
 
     def edge(self, edge: int) -> Optional[Tuple[int, int]]:
         """The vertices of an edge; None where it is not there."""
-        return self._edges.get(edge)
+        return _found(self._edges, edge)
 
     def vertex(self, vertex: int) -> Optional[Vector]:
         """The point of a vertex; None where it is not there."""
-        return self._vertices.get(vertex)
+        return _found(self._vertices, vertex)
 
     def in_use(self, kind: str, number: int) -> bool:
         """Whether the number of the kind is in use."""
-        return number in self._tables[kind]
+        return _found(self._tables[kind], number) is not None
 
     def point(self, vertex: int) -> Vector:
         """The point of a vertex that is there."""
@@ -120,6 +154,8 @@ class Mirror:
         follow: nothing has changed then."""
         if any(call.word not in _EFFECTS for call in calls):
             return False
+        if len(calls) == 1 and calls[0].word == 'block' and self._fold(calls[0].values, last):
+            return True
         self._marks.append(len(self._before))
         for call in calls:
             _EFFECTS[call.word](self, call.values, last)
@@ -146,6 +182,9 @@ class Mirror:
     def take_back(self) -> None:
         """The last command is taken back."""
         mark = self._marks.pop()
+        if isinstance(mark, _Fold):
+            self._take_back_fold(mark)
+            return
         while len(self._before) > mark:
             table, key, value = self._before.pop()
             for one in key if value is _FILLED else (key,):
@@ -156,12 +195,12 @@ class Mirror:
                     table[one] = value
                     self._note(table, one)
 
-    def _fill(self, table: Dict[int, Any], rows: Dict[int, Any], changes: Optional[Set[int]] = None) -> None:
-        """Puts rows in of which none is there; they are noted among the changes."""
+    def _fill(self, table: Dict[int, Any], rows: Dict[int, Any]) -> None:
+        """Puts rows in of which none is there."""
         self._before.append((table, tuple(rows), _FILLED))
         table.update(rows)
-        if changes is not None:
-            changes.update(rows)
+        for key in rows:
+            self._note(table, key)
 
     def _put(self, table: Dict[int, Any], key: int, value: Any) -> None:
         self._before.append((table, key, table.get(key, _ABSENT)))
@@ -233,7 +272,7 @@ class Mirror:
 
     def _remove(self, solid: int) -> None:
         """A solid goes, with all of its things."""
-        faces = self._solids.get(solid)
+        faces = _found(self._solids, solid)
         if faces is None:
             return
         loops = [loop for face in faces for loop in self._faces[face].loops]
@@ -385,18 +424,73 @@ class Mirror:
         self._new_face(face + 1, Face(values[0], loop + 1))
 
     def _block(self, values: Sequence[Any], last: Callable[[str], int]) -> None:
-        """The lamina of the base, swept up: the things of the unit block, with other numbers."""
+        """The lamina of the base, swept up."""
+        before = {kind: last(kind) - count for kind, count in _BLOCK.items()}
+        for table, rows in self._rows_of_block(values, before):
+            self._fill(table, rows)
+
+    def _rows_of_block(self, values: Sequence[Any], before: Dict[str, int]) -> Iterator[Tuple[Dict[int, Any], Dict[int, Any]]]:
+        """The rows of each table for a block: those of the unit block, with other numbers."""
         solid, x, y, z, width, depth, height = values
+        face, loop, edge, vertex = (before[kind] for kind in _BLOCK)
         unit = _unit_block()
-        face, loop, edge, vertex = (last(kind) - len(unit._tables[kind]) for kind in ('face', 'loop', 'edge', 'vertex'))
-        self._fill(self._vertices, {vertex + n: (x + width * i, y + depth * j, z + height * k) for n, (i, j, k) in unit._vertices.items()})
-        self._fill(self._edges, {edge + n: (vertex + start, vertex + end) for n, (start, end) in unit._edges.items()}, self._changes.edges)
-        self._fill(self._loops, {loop + n: Loop(tuple([half + edge if half > 0 else half - edge for half in content.halves]))
-                                 for n, content in unit._loops.items()}, self._changes.loops)
-        self._fill(self._loop_of, {half + edge if half > 0 else half - edge: loop + n for half, n in unit._loop_of.items()})
-        self._fill(self._face_of, {loop + n: face + of for n, of in unit._face_of.items()})
-        self._fill(self._faces, {face + n: Face(solid, loop + row.outer) for n, row in unit._faces.items()}, self._changes.faces)
-        self._put(self._solids, solid, {face + n: None for n in unit._faces})
+        yield self._vertices, {vertex + n: (x + width * i, y + depth * j, z + height * k) for n, (i, j, k) in unit._vertices.items()}
+        yield self._edges, {edge + n: (vertex + start, vertex + end) for n, (start, end) in unit._edges.items()}
+        yield self._loops, {loop + n: Loop(tuple([half + edge if half > 0 else half - edge for half in content.halves]))
+                            for n, content in unit._loops.items()}
+        yield self._loop_of, {half + edge if half > 0 else half - edge: loop + n for half, n in unit._loop_of.items()}
+        yield self._face_of, {loop + n: face + of for n, of in unit._face_of.items()}
+        yield self._faces, {face + n: Face(solid, loop + row.outer) for n, row in unit._faces.items()}
+        yield self._solids, {solid: {face + n: None for n in unit._faces}}
+
+    # Folded blocks
+
+    def _fold(self, values: Sequence[Any], last: Callable[[str], int]) -> bool:
+        """Follows a block folded; False where its numbers don't lie above those of the ones before."""
+        before = {kind: last(kind) - count for kind, count in _BLOCK.items()}
+        if self._folds and any(self._folds[-1].before[kind] + count > before[kind] for kind, count in _BLOCK.items()):
+            return False
+        fold = _Fold(values, before)
+        self._marks.append(fold)
+        self._folds.append(fold)
+        self._folded[values[0]] = fold
+        for kind, starts in self._starts.items():
+            starts.append(before[kind])
+        return True
+
+    def _take_back_fold(self, fold: _Fold) -> None:
+        """The block goes, and is as it was made."""
+        self._folds.pop()
+        for starts in self._starts.values():
+            starts.pop()
+        if not fold.is_open:
+            del self._folded[fold.values[0]]
+            return
+        for table, rows in self._rows_of_block(fold.values, fold.before):
+            for key in rows:
+                self._note(table, key)
+                del table[key]
+
+    def _unfold_with(self, kind: str, number: int) -> bool:
+        """Unfolds the block that has the number of the kind; whether there was one."""
+        place = bisect_right(self._starts[kind], number - 1) - 1
+        fold = self._folds[place] if place >= 0 else None
+        return fold is not None and number in _numbers_of(fold, kind) and self._unfold(fold)
+
+    def _unfold_solid(self, solid: int) -> bool:
+        return solid in self._folded and self._unfold(self._folded[solid])
+
+    def _unfold(self, fold: _Fold) -> bool:
+        """The rows of a block are put in, if they weren't before; whether they were."""
+        if fold.is_open:
+            return False
+        self.is_whole = False
+        for table, rows in self._rows_of_block(fold.values, fold.before):
+            table.update(rows)
+        fold.is_open = True
+        del self._folded[fold.values[0]]
+        self.is_whole = True
+        return True
 
     def _sweep(self, values: Sequence[Any], last: Callable[[str], int]) -> None:
         face, *vector = values
@@ -468,6 +562,19 @@ class Mirror:
 
     def _point(self, half: int) -> Vector:
         return self._vertices[self.tail(half)]
+
+
+def _found(table: Dict[int, Row], number: int) -> Optional[Row]:
+    """The row of the number; None where there is none."""
+    try:
+        return table[number]
+    except KeyError:
+        return None
+
+
+def _numbers_of(fold: _Fold, kind: str) -> range:
+    """The numbers of a kind that a block was given."""
+    return range(fold.before[kind] + 1, fold.before[kind] + _BLOCK[kind] + 1)
 
 
 @lru_cache(maxsize=None)

@@ -128,7 +128,8 @@ class Numbers(unittest.TestCase):
             after = bench.listing()
             self.compare(name, result, before, after, seed)
             self.assertEqual(tuple(bench._greatest(kind) for kind in KINDS), greatest_of(after), (seed, name))
-            self.assertEqual(in_mirror(bench), after, (seed, name))
+            if play.random.random() < 0.2:  # else what the mirror has not been asked for stays as it is
+                self.assertEqual(in_mirror(bench), after, (seed, name))
             before = after
         return count
 
