@@ -6,6 +6,7 @@ from .complaints import Refused
 from .language import refusal
 from .measures import area_vector
 from .model import Face, Loop, Model
+from .turns import PartOfTurns
 from .vectors import Vector, total
 
 
@@ -64,11 +65,12 @@ class Holder(Protocol):
     def _reader(self) -> Reader: ...
 
 
-class Part:
+class Part(PartOfTurns):
     """One thing of the model held, by its number. What it says is read anew each time, so it follows the commands."""
 
     kind = ''
     _missing = 0
+    _bench: Holder
 
     def __init__(self, bench: Holder, number: int) -> None:
         self._bench, self.number = bench, number

@@ -45,3 +45,25 @@ def in_turn(method: Method) -> Method:
                 self._is_inside = False
 
     return cast(Method, taken)
+
+
+class PartOfTurns:
+    """What belongs to something that takes turns, its `_bench`: each public property of the classes below is whole, as a turn is."""
+
+    _bench: Any
+
+    def __init_subclass__(cls) -> None:
+        super().__init_subclass__()
+        for name, found in list(vars(cls).items()):
+            if isinstance(found, property) and found.fget and not name.startswith('_'):
+                setattr(cls, name, property(_whole(found.fget), doc=found.__doc__))
+
+
+def _whole(getter: Method) -> Method:
+
+    @wraps(getter)
+    def taken(self: PartOfTurns) -> Any:
+        with self._bench._turn:
+            return getter(self)
+
+    return cast(Method, taken)

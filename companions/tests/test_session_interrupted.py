@@ -398,6 +398,28 @@ class Threads(unittest.TestCase):
             self.bench.undo()
         self.assertEqual(self.bench.script(), '')
 
+    def test_what_things_say_is_whole(self):
+        block = self.bench.block((0, 0, 0), (4, 4, 4))
+        low = set(self.bench.solid(1).points)
+        self.bench.sweep(block.top, (0, 0, 9))
+        allowed, seen, is_over = (low, set(self.bench.solid(1).points)), [], threading.Event()
+        self.bench.undo()
+
+        def work(number):
+            if number == 1:
+                for _ in range(150):
+                    self.bench.sweep(block.top, (0, 0, 9))
+                    self.bench.undo()
+                    self.bench.block((50, 0, 0), (1, 1, 1))
+                is_over.set()
+            while not is_over.is_set():
+                seen.append(set(self.bench.solid(1).points))
+                self.bench.vertices()
+
+        self.run_all(work, 3)
+        self.assertGreater(len(seen), 0)
+        self.assertEqual([points for points in seen if points not in allowed], [])
+
     def test_each_public_method_is_a_turn(self):
         for name, method in inspect.getmembers(Workbench, inspect.isfunction):
             if not name.startswith('_'):
