@@ -1,12 +1,12 @@
 """Outlines on flat faces, tested exactly before anything is made of them."""
 
 from math import isqrt
-from typing import List, Optional, Sequence
+from typing import Optional, Sequence
 
+from .box_index import BoxIndex, box_of
 from .complaints import Refused
-from .flat_face import FlatFace
 from .measures import area_vector
-from .plane_figures import Flat, Place, Segment, crossing, locate, on_segment, segments, twice_area
+from .plane_figures import Flat, Segment, crossing, on_segment
 from .vectors import Vector, ZERO, dot, flat_axes, subtract
 
 
@@ -38,9 +38,10 @@ def simple_normal(points: Sequence[Vector]) -> Vector:
 def require_simple(path: Sequence[Flat]) -> None:
     """Refuses an outline that crosses or touches itself."""
     sides = [(path[i], path[(i + 1) % len(path)]) for i in range(len(path))]
+    boxes = BoxIndex({i: box_of(side) for i, side in enumerate(sides)})
     for i, side in enumerate(sides):
-        for j in range(i + 1, len(sides)):
-            if _clash(side, sides[j], j - i in (1, len(sides) - 1)):
+        for j in sorted(boxes.meeting(box_of(side))):
+            if j > i and _clash(side, sides[j], j - i in (1, len(sides) - 1)):
                 raise Impossible('OutlineCrossed', i + 1, f'sides {i + 1} and {j + 1} of the outline cross or touch')
 
 
@@ -58,32 +59,6 @@ def meet(one: Segment, other: Segment) -> bool:
     if any(on_segment(*side, end) for side, end in ((one, c), (one, d), (other, a), (other, b))):
         return True
     return crossing(a, b, c, d)
-
-
-def clockwise_in(shape: FlatFace, face: int, points: Sequence[Vector]) -> List[Vector]:
-    """The points of an outline strictly inside the face, turned so that they run as a ring does; the first stays the first."""
-    for place, point in enumerate(points, 1):
-        if shape.height(point) != 0:
-            raise Impossible('NotInPlane', place, f'point {place} lies off the plane of face {face}')
-    simple_normal(points)
-    path = [shape.flatten(point) for point in points]
-    _require_inside(shape, face, path)
-    return list(points) if twice_area(path) < 0 else [points[0], *reversed(points[1:])]
-
-
-def _require_inside(shape: FlatFace, face: int, path: Sequence[Flat]) -> None:
-    own = segments(path)
-    if any(meet(side, other) for side in own for other in shape.sides):
-        raise Impossible('OutlineOutside', face, f'the outline crosses or touches the boundary of face {face}')
-    if shape_place(shape, path[0]) is not Place.INSIDE:
-        raise Impossible('OutlineOutside', face, f"the outline doesn't lie inside face {face}")
-    if any(locate(own, start) is Place.INSIDE for start, _ in shape.sides):
-        raise Impossible('OutlineAroundRing', face, f'a ring of face {face} lies inside the outline')
-
-
-def shape_place(shape: FlatFace, spot: Flat) -> Place:
-    """Where a point of the face's plane lies, as seen from its front."""
-    return locate(shape.sides, spot)
 
 
 def steps_along(across: Vector, length: int) -> Optional[Vector]:
