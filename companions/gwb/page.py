@@ -1,10 +1,14 @@
 """Makes a page to look at a model and to pick from it: one HTML file that stands alone."""
 
 import argparse
+import base64
+import hashlib
 import html
 import json
+import re
+from dataclasses import dataclass, field
 from pathlib import Path
-from typing import Dict, Hashable, Iterable, Iterator, List, NamedTuple, Optional, Sequence
+from typing import Dict, Hashable, Iterable, Iterator, List, Mapping, NamedTuple, Optional, Sequence, Tuple
 
 from .command_line import OK, add_version, read_bytes, run
 from .errors import CompanionError, NotReplies, Unfit
@@ -13,17 +17,18 @@ from .inside_out import warn_of_inside_out
 from .language import first_word, is_answered
 from .listing import model_of, read_model
 from .measures import anchor, normal, off_plane
-from .model import Model
+from .model import Face, Model
 from .pipe import Pipe, find_program
 from .plane_figures import turn
 from .replies import Reply, is_listed, shortened
-from .touched_edges import TouchedEdges, touched_edges
+from .touched_edges import touched_edges
 from .triangulation import face_triangles
 from .vectors import ZERO, dot, flat_axes
 
 PROGRAM = 'gwb-view'
 _FILES = Path(__file__).resolve().parent / 'page'
 _EMPTY = Model((), {}, {}, {}, {})
+_SCRIPTS = ('picture.js', 'section.js', 'measure.js', 'painter.js', 'flat.js', 'panels.js', 'page.js')
 _CHANGES = frozenset(
     'mvfs kvfs mev kev mevv kevv mef kef kemr mekr mfkrh kfmrh ringmv lamina block sweep glue split undo redo'.split())
 
@@ -39,12 +44,39 @@ class Step(NamedTuple):
     model: Model
 
 
-def page_of(model: Model, title: str = 'gwb') -> str:
-    """A page that shows the model."""
-    return _page({'frames': [{'change': _Rows().of(model)}]}, title)
+@dataclass(frozen=True)
+class Looks:
+    """Names and colours of solids and faces, by kind (`solid` or `face`) and number; colours are written `#rrggbb`."""
+
+    names: Mapping[Tuple[str, int], str] = field(default_factory=dict)
+    colours: Mapping[Tuple[str, int], str] = field(default_factory=dict)
+
+    def __post_init__(self) -> None:
+        """Raises ValueError for another kind, or a colour that isn't written so."""
+        for kind, _ in (*self.names, *self.colours):
+            if kind not in _LETTERS:
+                raise ValueError(f'{kind!r} is neither solid nor face')
+        for colour in self.colours.values():
+            if not re.fullmatch('#[0-9a-fA-F]{6}', colour):
+                raise ValueError(f'the colour {colour!r} is not written #rrggbb')
+
+    def data(self) -> Dict[str, Dict[str, str]]:
+        """Both as the page reads them, by `s1` for a solid and `f3` for a face; what is empty is left out."""
+        found = {name: {f'{_LETTERS[kind]}{number}': value for (kind, number), value in given.items()}
+                 for name, given in (('names', self.names), ('colours', self.colours))}
+        return {name: values for name, values in found.items() if values}
 
 
-def page_of_steps(steps: Iterable[Step], title: str = 'gwb') -> str:
+_LETTERS = {'solid': 's', 'face': 'f'}
+_PLAIN = Looks()
+
+
+def page_of(model: Model, title: str = 'gwb', looks: Looks = _PLAIN) -> str:
+    """A page that shows the model, its solids and faces with the names and colours that are given."""
+    return _page({'frames': [{'change': _Rows().of(model)}], **looks.data()}, title)
+
+
+def page_of_steps(steps: Iterable[Step], title: str = 'gwb', looks: Looks = _PLAIN) -> str:
     """A page that plays a script: the empty workbench, and the model after each command, stored as differences."""
     rows = _Rows()
     model, before = _EMPTY, rows.of(_EMPTY)
@@ -53,20 +85,30 @@ def page_of_steps(steps: Iterable[Step], title: str = 'gwb') -> str:
         after = before if step.model is model else rows.of(step.model)
         frames.append({'line': step.line, 'reply': step.reply, 'bad': step.is_complaint, 'change': _changes(before, after)})
         model, before = step.model, after
-    return _page({'steps': True, 'frames': frames}, title)
+    return _page({'steps': True, 'frames': frames, **looks.data()}, title)
 
 
 def _page(data: Dict[str, object], title: str) -> str:
     text = json.dumps(data, separators=(',', ':')).replace('<', '\\u003c')
     name = html.escape(title).encode('ascii', 'xmlcharrefreplace').decode()
-    parts = {'title': name, 'style': _file('page.css'), 'picture': _file('picture.js'), 'painter': _file('painter.js'),
-             'page': _file('page.js'), 'data': text}
-    before, *rest = _file('page.html').split('{')
+    style, script = _lean('page.css'), '\n'.join(_lean(file) for file in _SCRIPTS)
+    parts = {'title': name, 'style': style, 'script': script, 'data': text, 'policy': _policy(style, script)}
+    before, *rest = (_FILES / 'page.html').read_text(encoding='utf-8').split('{')
     return before + ''.join(parts[name] + after for name, after in (piece.split('}', 1) for piece in rest))
 
 
-def _file(name: str) -> str:
-    return (_FILES / name).read_text(encoding='utf-8')
+def _policy(style: str, script: str) -> str:
+    """What the page may do: run its own style and script, known by their hashes, and make pictures; nothing is loaded."""
+    style_hash, script_hash = (base64.b64encode(hashlib.sha256(text.encode()).digest()).decode() for text in (style, script))
+    return (f"default-src 'none'; script-src 'sha256-{script_hash}'; style-src 'sha256-{style_hash}'; "
+            "img-src blob: data:; base-uri 'none'; form-action 'none'")
+
+
+def _lean(name: str) -> str:
+    """A file of the page in ASCII, without the spaces at the beginnings of its lines and without lines that are a comment."""
+    lines = (line.strip() for line in (_FILES / name).read_text(encoding='utf-8').splitlines())
+    text = '\n'.join(line for line in lines if line and not line.startswith('//'))
+    return ''.join(letter if letter.isascii() else f'\\u{ord(letter):04x}' for letter in text)
 
 
 class _Rows:
@@ -98,16 +140,28 @@ def _face_row(model: Model, face: int) -> List[object]:
 
 
 def _corners(model: Model, face: int) -> List[int]:
-    """The corners of the face's triangles. One that can't be cut exactly is a fan about its first corner."""
-    first, *others = model.loop_vertices(model.faces[face].outer)
-    fan = [vertex for pair in zip(others, others[1:]) for vertex in (first, *pair)]
-    has_lone = any(model.loops[loop].is_lone for loop in model.faces[face].loops)
-    if normal(model, face) == ZERO or has_lone or _is_plain(model, face):
+    """The corners of the face's triangles; a wire has none. One that can't be cut exactly is a fan about its first corner."""
+    corners = [model.tail(half) for half in _without_spurs(model.loops[model.faces[face].outer].halves)]
+    fan = [vertex for pair in zip(corners[1:], corners[2:]) for vertex in (corners[0], *pair)]
+    if not fan or normal(model, face) == ZERO or _is_plain(model, face):
         return fan
+    bare = _without_lone_rings(model, face)
     try:
-        return [vertex for triangle in face_triangles(model, face, _touched_edges(model, face)) for vertex in triangle]
+        return [vertex for triangle in face_triangles(bare, face, touched_edges(bare)) for vertex in triangle]
     except Unfit:
         return fan
+
+
+def _without_spurs(halves: Sequence[int]) -> List[int]:
+    """A loop's half-edges without those that it runs there and at once back."""
+    kept: List[int] = []
+    for half in halves:
+        if kept and kept[-1] == -half:
+            kept.pop()
+        else:
+            kept.append(half)
+    ends = next((i for i in range(len(kept) // 2) if kept[i] != -kept[-1 - i]), len(kept) // 2)
+    return kept[ends:len(kept) - ends]
 
 
 def _is_plain(model: Model, face: int) -> bool:
@@ -119,10 +173,11 @@ def _is_plain(model: Model, face: int) -> bool:
     return all(turn(start, a, b) > 0 for a, b in [*zip(others, others[1:]), (others[0], others[-1])])
 
 
-def _touched_edges(model: Model, face: int) -> TouchedEdges:
-    """The edges of the face that other vertices of it touch."""
-    loops = {loop: model.loops[loop] for loop in model.faces[face].loops}
-    return touched_edges(Model((), {face: model.faces[face]}, loops, model.edges, model.vertices))
+def _without_lone_rings(model: Model, face: int) -> Model:
+    """The face alone, without its rings that are one vertex."""
+    solid, outer, rings = model.faces[face]
+    bare = Face(solid, outer, tuple(ring for ring in rings if not model.loops[ring].is_lone))
+    return Model((), {face: bare}, {loop: model.loops[loop] for loop in bare.loops}, model.edges, model.vertices)
 
 
 def _changes(before: Dict[str, Rows], after: Dict[str, Rows]) -> Dict[str, Rows]:

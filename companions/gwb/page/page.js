@@ -1,16 +1,25 @@
 'use strict';
-// What the page shows: the canvases, the panels, the pointer and the keys.
+// What the page does: its state, its frames, the pointer, the keys and the address.
 const View = (() => {
-  const at = id => document.getElementById(id);
+  const {at, element, say} = Panels;
   const PALETTE = [[.45, .65, .86], [.93, .72, .42], [.55, .77, .53], [.83, .56, .62], [.66, .6, .82], [.5, .76, .76], [.8, .75, .5], [.68, .68, .7]];
-  const LIT = [1, .55, .15], CSS = {f: '#11603a', e: '#0a4fa0', v: '#a01818'};
-  const data = JSON.parse(at('data').textContent);
-  const front = at('solid'), over = at('labels'), pen = over.getContext('2d');
-  const state = {step: 0, off: new Set(), hidden: false, numbers: 0, picked: null, wanted: '', lit: new Set(), pointer: null};
-  const view = {turn: Math.atan2(-3, 2), lift: .507, zoom: 1, right: 0, down: 0, width: 1, height: 1};
+  const LIT = [1, .55, .15], CORNER = {turn: Math.atan2(-3, 2), lift: .507};
+  const degrees = angle => Math.cos(angle * Math.PI / 180) + 1e-6;
+  // Which edges are drawn: by the least angle of the faces beside them, as its cosine.
+  const EDGES = [{name: 'auto', cosine: null}, {name: 'all', cosine: 2}, {name: 'from 5°', cosine: degrees(5)}, {name: 'from 15°', cosine: degrees(15)},
+                 {name: 'from 30°', cosine: degrees(30)}, {name: 'none', cosine: -2}];
+  const MANY_SHALLOW = 500, SHALLOW = 3;
+  const data = JSON.parse(at('data').textContent), over = at('labels'), pen = over.getContext('2d');
+  const isCalm = matchMedia('(prefers-reduced-motion: reduce)'), isDark = matchMedia('(prefers-color-scheme: dark)');
+  const state = {step: 0, off: new Set(), isHidden: false, isXray: false, isPerspective: false, numbers: 0, edges: 0, cut: null, picked: null,
+                 measured: null, wanted: '', lit: new Set(), pointer: null, copied: '', labels: []};
+  const view = {...CORNER, zoom: 1, right: 0, down: 0, width: 1, height: 1, perspective: false};
   const models = new Map([[0, Picture.changed({}, data.frames[0].change)]]);
   const fingers = new Map();
-  let moved = 0, model = models.get(0), scene = null, screen = null, gl = null, ball = null, points = [], asked = false, timer = null, drawn = '';
+  const fitted = {zoom: 1, is: true, glide: 0};
+  let front = at('solid'), moved = 0, whole = null, screen = null, gl = null, isLost = false, ball = null, spots = null, asked = false, timer = null;
+  const drawnEdges = {cosine: 2, room: Infinity};
+  let drawn = '', placed = '', look = null, isCutStale = false;
 
   // The model after a step; one in 32 is kept to start from.
   function modelAt(step) {
@@ -24,71 +33,98 @@ const View = (() => {
     return found;
   }
 
-  const colour = solid => PALETTE[(solid - 1) % PALETTE.length];
+  // --- how things look
+  const theme = name => getComputedStyle(document.documentElement).getPropertyValue(name).trim();
   const css = rgb => `rgb(${rgb.map(x => Math.round(255 * Math.min(1, x))).join(',')})`;
-  const isLit = (kind, number, solid) => (state.lit.size && (state.lit.has(kind + number) || state.lit.has('s' + solid)))
-    || (state.picked && state.picked.kind === kind && state.picked.number === number);
+  const parts = hex => [1, 3, 5].map(i => parseInt(hex.slice(i, i + 2), 16));
+  const given = {f: new Map(), s: new Map()};
+  for (const [key, colour] of Object.entries(data.colours || {})) given[key[0]].set(+key.slice(1), parts(colour).map(x => x / 255));
+
+  // The colour of a face; of one below zero that of the solid with its number.
+  function colourOf(face) {
+    const solid = face < 0 ? -face : app.model.faces[face][0];
+    return given.f.get(face) || given.s.get(solid) || PALETTE[(solid - 1) % PALETTE.length];
+  }
+
+  const chosen = () => [...state.lit, ...[state.picked, ...(state.measured || [])].filter(Boolean).map(it => it.kind + it.number)];
+
+  // The least angle of faces whose edge is drawn: by choice, or, where edges of shallow angles are many, such as are none.
+  function cosineOf({cosines}) {
+    if (EDGES[state.edges].cosine !== null) return EDGES[state.edges].cosine;
+    return cosines.filter(cosine => cosine > EDGES[SHALLOW].cosine).length > MANY_SHALLOW ? EDGES[SHALLOW].cosine : EDGES[1].cosine;
+  }
+
+  // How much room the faces have for each length of the edges that are drawn, in radii; endless where there are none.
+  function roomOf({spots: all, triangles: {corners}, areNone, edges: {starts, ends, lefts, cosines}}, cosine) {
+    const [point, bare] = [i => Picture.pointOf({spots: all}, i), new Set(areNone)];
+    let length = 0, area = 0;
+    for (let i = 0; i < starts.length; i++) if (cosines[i] <= cosine && !bare.has(lefts[i])) length += Picture.distance(point(starts[i]), point(ends[i]));
+    for (let i = 0; i < corners.length; i += 3) area += Picture.areaOf(point(corners[i]), point(corners[i + 1]), point(corners[i + 2]));
+    return area / length || Infinity;
+  }
+
+  // Which edges are drawn, and how much room the faces leave them: reckoned where the whole scene, or the choice, is another.
+  function chooseEdges() {
+    drawnEdges.cosine = cosineOf(whole.edges);
+    drawnEdges.room = roomOf(whole, drawnEdges.cosine);
+  }
+
+  // What is lit, by kinds.
+  function litNow() {
+    const lit = {f: new Set(), e: new Set(), s: new Set(), v: new Set()};
+    for (const key of chosen()) lit[key[0]].add(+key.slice(1));
+    return lit;
+  }
 
   // Colours what is drawn anew.
   function recolour() {
-    if (gl) gl.colour(colour, isLit);
+    const lit = litNow(), {scene} = app, {numbers, lefts} = scene.edges, isAny = lit.e.size + lit.s.size > 0;
+    look = {cosine: drawnEdges.cosine, css, ink: parts(theme('--edge')),
+            fill: face => lit.f.has(face) || lit.s.has(scene.solidOf(face)) ? LIT : colourOf(face),
+            isEdgeLit: i => isAny && (lit.e.has(numbers[i]) || lit.s.has(scene.solidOf(lefts[i])))};
+    if (gl) gl.dress(look);
     drawn = '';
   }
 
-  // --- without WebGL: faces from the farthest to the nearest, each with its edges
-  function drawFlat(flat) {
-    flat.setTransform(front.width / view.width, 0, 0, front.height / view.height, 0, 0);
-    flat.clearRect(0, 0, view.width, view.height);
-    const many = scene.edges.length > 2000, {on} = screen, depths = new Float64Array(scene.triangles.length), fronts = new Set();
-    for (const i of screen.front) {
-      for (const corner of scene.triangles[i].corners) depths[i] += on[3 * corner + 2];
-      fronts.add(scene.triangles[i].face);
-    }
-    for (const i of Int32Array.from(screen.front).sort((a, b) => depths[a] - depths[b])) {
-      const t = scene.triangles[i], light = t.normal.reduce((sum, x, k) => sum + x * screen.basis.stand[k], 0);
-      flat.fillStyle = flat.strokeStyle = css((isLit('f', t.face, t.solid) ? LIT : colour(t.solid)).map(x => x * (.6 + .4 * light)));
-      flat.lineWidth = .7;
-      flat.beginPath();
-      for (const c of t.corners) flat.lineTo(on[3 * c], on[3 * c + 1]);
-      flat.closePath();
-      flat.fill();
-      if (!many) flat.stroke();
-    }
-    const paths = {};
-    for (const e of scene.edges) {
-      const seen = many ? fronts.has(scene.sides[e.edge].face) || fronts.has(scene.sides[-e.edge].face)
-        : Picture.isSeen(scene, screen, screen.spot(e.middle));
-      const kind = isLit('e', e.edge, e.solid) ? 'lit' : seen ? 'seen' : 'hidden', path = paths[kind] = paths[kind] || new Path2D();
-      path.moveTo(on[3 * e.a], on[3 * e.a + 1]);
-      path.lineTo(on[3 * e.b], on[3 * e.b + 1]);
-    }
-    for (const [kind, ink, wide] of [['hidden', '#1a263340', 1.5], ['seen', '#1a2633', many ? .7 : 1.5], ['lit', '#e04000', 3.5]]) {
-      if (!paths[kind] || (kind === 'hidden' && !state.hidden)) continue;
-      flat.strokeStyle = ink;
-      flat.lineWidth = wide;
-      flat.stroke(paths[kind]);
-    }
+  // Half the width of an edge and how dense its ink is: edges that are many, or far away, are thin and pale, so that a quarter of the
+  // faces is covered at most: half of the edges is seen, and half of the half of the faces' area that looks to the viewer.
+  function penOf() {
+    const wide = Math.min(99, .25 * view.zoom * drawnEdges.room), most = Math.max(.75, 1.5 / (devicePixelRatio || 1));
+    return {half: Math.max(.4, Math.min(most, wide / 2)), alpha: Math.max(.06, Math.min(1, wide / .8))};
   }
 
   // --- numbers
-  const chosen = () => state.picked ? [...state.lit, state.picked.kind + state.picked.number] : [...state.lit];
-
   function wanted() {
-    const near = state.pointer && !fingers.size ? 80 : 0;
+    const near = state.pointer && !fingers.size ? 80 : 0, {scene} = app;
     return Picture.named(scene, screen, chosen(), state.pointer || [view.width / 2, view.height / 2],
                          [near, fingers.size && scene.things.length > 5000 ? 0 : Infinity, 0][state.numbers]);
   }
 
   // The vertices that are lit, or all where there is no edge.
   function drawVertices() {
-    const lit = new Set(chosen().filter(key => key[0] === 'v').map(key => +key.slice(1)));
-    const shown = scene.edges.length ? [...lit].filter(number => number in scene.place) : Object.keys(scene.place).map(Number);
+    const {scene} = app, lit = new Set(chosen().filter(key => key[0] === 'v').map(key => +key.slice(1)));
+    const shown = scene.edges.numbers.length ? [...lit].filter(number => number in scene.at.v) : Object.keys(scene.at.v).map(Number);
     for (const number of shown) {
-      const spot = screen.spot(scene.place[number]);
-      pen.fillStyle = lit.has(number) ? '#e04000' : '#1a2633';
+      const spot = screen.spot(scene.at.v[number]);
+      pen.fillStyle = lit.has(number) ? '#e04000' : theme('--edge');
       pen.beginPath();
       pen.arc(spot[0], spot[1], lit.has(number) ? 6 : 4, 0, 7);
       pen.fill();
+    }
+    return shown.length;
+  }
+
+  // The edges that are lit, where edges are drawn too thin to show it.
+  function drawLitEdges() {
+    const {scene} = app, shown = penOf().half < 1.2 ? chosen().filter(key => key[0] === 'e' && scene.at.e[key.slice(1)] >= 0) : [];
+    const spots = scene.at.v, ends = shown.map(key => app.model.edges[key.slice(1)].map(vertex => screen.spot(spots[vertex])));
+    pen.strokeStyle = '#e04000';
+    pen.lineWidth = 3;
+    for (const [a, b] of ends) {
+      pen.beginPath();
+      pen.moveTo(a[0], a[1]);
+      pen.lineTo(b[0], b[1]);
+      pen.stroke();
     }
     return shown.length;
   }
@@ -98,22 +134,23 @@ const View = (() => {
     if (state.written) pen.clearRect(0, 0, view.width, view.height);
     pen.textAlign = 'center';
     pen.textBaseline = 'middle';
-    const vertices = drawVertices();
+    const marks = drawVertices() + drawLitEdges(), colours = {f: theme('--face'), e: theme('--side'), v: theme('--point')}, names = data.names || {};
     const font = kind => `${kind === 'f' ? 'bold 15' : '13'}px system-ui, sans-serif`;
     const labels = wanted().map(it => {
       pen.font = font(it.kind);
-      return {...it, x: it.spot[0], y: it.spot[1], wide: pen.measureText(it.number).width, high: 14};
+      const text = [it.number, names[it.kind + it.number]].filter(Boolean).join(' ');
+      return {...it, text, x: it.spot[0], y: it.spot[1], wide: pen.measureText(text).width, high: 14};
     });
     state.labels = Picture.placeLabels(labels, view.width, view.height);
     for (const label of state.labels) {
       pen.font = font(label.kind);
       pen.lineWidth = 3.5;
-      pen.strokeStyle = '#fffffff0';
-      pen.fillStyle = CSS[label.kind];
-      pen.strokeText(label.number, label.x, label.y);
-      pen.fillText(label.number, label.x, label.y);
+      pen.strokeStyle = theme('--halo');
+      pen.fillStyle = colours[label.kind];
+      pen.strokeText(label.text, label.x, label.y);
+      pen.fillText(label.text, label.x, label.y);
     }
-    state.written = vertices + state.labels.length;
+    state.written = marks + state.labels.length;
     over.style.opacity = state.written ? 1 : 0;
   }
 
@@ -160,16 +197,24 @@ const View = (() => {
 
   function draw(time) {
     asked = false;
+    if (isCutStale) recut();
     if (pace.timer) restLater();
     if (time && pace.timer) keepPace(time);
     measureSize();
-    const now = [view.turn, view.lift, view.zoom, view.right, view.down, front.width, front.height, state.hidden].join();
-    if (now !== drawn) {
-      screen = Picture.screenOf(scene, view);
-      if (gl) gl.draw(view, screen, state.hidden, pace.timer ? pace.level : 0); else drawFlat(front.getContext('2d'));
-    }
+    const place = [view.turn, view.lift, view.zoom, view.right, view.down, view.perspective, view.width, view.height].join();
+    const now = [place, front.width, front.height, state.isHidden, state.isXray].join();
+    if (now !== drawn) paint(place);
     drawn = now;
     drawLabels();
+  }
+
+  function paint(place) {
+    if (place !== placed || screen.scene !== app.scene) screen = Picture.screenOf(app.scene, view);
+    placed = place;
+    Panels.showTriad(screen.basis);
+    const how = {isHidden: state.isHidden, isXray: state.isXray, pen: penOf()};
+    if (gl && !isLost) gl.draw(view, screen, how, pace.timer ? pace.level : 0);
+    if (!gl) Flat.draw(front, view, app.scene, screen, {...look, ...how, ink: theme('--edge'), isLit: look.isEdgeLit});
   }
 
   function ask() {
@@ -177,104 +222,169 @@ const View = (() => {
     asked = true;
   }
 
-  // --- panels
-  function element(name, text, parent, made = {}) {
-    const it = Object.assign(document.createElement(name), made);
-    it.textContent = text;
-    parent.append(it);
-    return it;
+  // A lost context of WebGL comes back; where it doesn't for some seconds, the model is drawn without it.
+  function watchContext() {
+    let waiting = null;
+    front.addEventListener('webglcontextlost', event => {
+      event.preventDefault();
+      isLost = true;
+      waiting = setTimeout(withoutWebGL, 3000);
+    });
+    front.addEventListener('webglcontextrestored', () => {
+      clearTimeout(waiting);
+      isLost = false;
+      gl = Painter.on(front);
+      if (gl) gl.take(app.scene); else withoutWebGL();
+      recolour();
+      ask();
+    });
   }
 
-  function copy(text) {
-    const aside = () => {
-      const area = element('textarea', text, document.body);
-      area.select();
-      document.execCommand('copy');
-      area.remove();
-    };
-    state.copied = text;
-    if (navigator.clipboard && isSecureContext) navigator.clipboard.writeText(text).catch(aside); else aside();
+  function withoutWebGL() {
+    const next = front.cloneNode();
+    front.replaceWith(next);
+    [front, gl, isLost, drawn] = [next, null, false, ''];
+    ask();
   }
 
-  function sideOf(half) {
-    const {face, loop} = scene.sides[half], sign = half > 0 ? '+' : '';
-    const [from, to] = half > 0 ? model.edges[half] : [...model.edges[-half]].reverse();
-    return [sign + half, `from vertex ${from} to ${to}, in loop ${loop} of face ${face}`];
-  }
-
-  // Lines about the thing that is picked: a word to copy or nothing, and a text.
-  function about({kind, number}) {
-    if (kind === 'v') {
-      const meets = ([, halves, lone]) => lone === number || halves.some(half => model.edges[Math.abs(half)].includes(number));
-      const [solid] = Object.values(model.faces).find(([, loops]) => loops.some(meets));
-      return [[String(number), `vertex of solid ${solid} at ${model.vertices[number].join(' ')}`]];
-    }
-    if (kind === 'e') {
-      const [a, b] = model.edges[number].map(v => model.vertices[v].join(' '));
-      return [sideOf(number), sideOf(-number), ['', `edge ${number} of solid ${scene.sides[number].solid}, from ${a} to ${b}`]];
-    }
-    const [solid, loops, plane, flat] = model.faces[number];
-    return [[String(number), `face of solid ${solid}`],
-            ...loops.map(([loop, halves, vertex], i) => [vertex ? '@' + loop : '', `${i ? 'ring' : 'outer loop'} ${loop}: `
-              + (vertex ? `vertex ${vertex}` : halves.map(h => (h > 0 ? '+' : '') + h).join(' '))]),
-            ['', `plane ${plane.join(' ')}${flat ? '' : ', bent'}`]];
-  }
-
-  function showInfo() {
-    const panel = at('info');
-    panel.replaceChildren();
-    panel.hidden = !state.picked;
-    if (!state.picked) return;
-    for (const [word, text] of about(state.picked)) {
-      const row = element('div', '', panel);
-      if (word) element('button', word, row, {title: 'copy', onclick: () => copy(word)});
-      row.append(text);
-    }
-  }
-
+  // --- what is shown
   function choose(picked) {
-    state.picked = picked;
-    if (picked) copy((picked.kind === 'e' ? '+' : '') + picked.number);
-    showInfo();
+    if (state.measured) {
+      if (picked && picked.kind !== 's') state.measured = [...(state.measured.length < 2 ? state.measured : []), picked];
+      if (picked) say(`${Panels.title(app, picked)} measured`);
+    } else {
+      state.picked = picked;
+      if (picked) Panels.copy(app, (picked.kind === 'e' ? '+' : '') + picked.number, `${Panels.title(app, picked)} picked, `); else say('nothing picked');
+    }
+    Panels.showInfo(app);
     recolour();
     ask();
   }
 
-  function showSolids() {
-    const panel = at('solids');
-    panel.replaceChildren();
-    for (const solid of scene.solids) {
-      const label = element('label', '', panel);
-      label.append(Object.assign(document.createElement('input'), {type: 'checkbox', checked: !state.off.has(solid), onchange: event => {
-        if (event.target.checked) state.off.delete(solid); else state.off.add(solid);
-        show();
-      }}));
-      element('span', '', label, {className: 'swatch'}).style.background = css(colour(solid));
-      label.append(`solid ${solid}`);
-    }
+  function unpick() {
+    if (state.measured) toggleMeasure(); else choose(null);
   }
+
+  function toggleMeasure() {
+    state.measured = state.measured ? null : state.picked && state.picked.kind !== 's' ? [state.picked] : [];
+    state.picked = null;
+    Panels.showInfo(app);
+    recolour();
+  }
+
+  const isThere = ({kind, number}) => kind === 's' ? app.solids.includes(number)
+    : {f: app.model.faces, e: app.model.edges, v: app.model.vertices}[kind][number] && (kind !== 'e' || whole.sides.of(number));
 
   function show() {
-    model = modelAt(state.step);
-    scene = Picture.sceneOf(model, ball, state.off);
-    const has = {f: model.faces, e: model.edges, v: model.vertices};
-    if (state.picked && (!has[state.picked.kind][state.picked.number]
-        || (state.picked.kind === 'e' && !scene.sides[state.picked.number]))) state.picked = null;
-    state.lit = Picture.wantedIn(state.wanted, model);
-    showSolids();
-    showInfo();
-    if (gl) gl.take(scene);
-    recolour();
+    app.model = modelAt(state.step);
+    app.solids = [...new Set(Object.values(app.model.faces).map(row => row[0]))].sort((a, b) => a - b);
+    whole = Picture.sceneOf(app.model, ball, state.off);
+    if (state.picked && !isThere(state.picked)) state.picked = null;
+    if (state.measured) state.measured = state.measured.filter(isThere);
+    state.lit = Picture.wantedIn(state.wanted, app.model);
+    chooseEdges();
+    recut();
+    Panels.showList(app);
+    Panels.showInfo(app);
     ask();
+  }
+
+  // The scene as it is cut.
+  function recut() {
+    isCutStale = false;
+    const plane = state.cut && cutPlane();
+    app.scene = plane ? Section.cut(whole, plane) : whole;
+    if (gl) gl.take(app.scene);
+    recolour();
+  }
+
+  function turnOff(solids, isOff) {
+    for (const solid of solids) if (isOff) state.off.add(solid); else state.off.delete(solid);
+    show();
+  }
+
+  // One solid alone; where it is that already, all.
+  function isolate(solid) {
+    const isAlone = !state.off.has(solid) && state.off.size === app.solids.length - 1;
+    state.off = new Set(isAlone ? [] : app.solids.filter(other => other !== solid));
+    show();
+  }
+
+  // --- the section
+  // Its normal and the place at which it begins, or null where its face has gone.
+  function cutAxis() {
+    const {axis, face} = state.cut;
+    if (axis !== 'f') return {normal: [0, 1, 2].map(k => k === axis ? 1 : 0), base: 0};
+    const row = app.model.faces[face];
+    if (!row) return null;
+    const across = row[2].slice(0, 3).map(Number), long = Math.hypot(...across), normal = across.map(x => x / long);
+    return {normal, base: -Number(row[2][3]) / long};
+  }
+
+  // The plane in the unit ball, beyond which all is left out.
+  function cutPlane() {
+    const found = cutAxis();
+    if (!found) return null;
+    const {normal, base} = found, middle = normal.reduce((sum, x, k) => sum + x * ball.middle[k], 0), sign = state.cut.isTurned ? -1 : 1;
+    return {normal: normal.map(x => sign * x), offset: sign * (base + state.cut.place - middle) / ball.radius};
+  }
+
+  // Where the slider begins and ends, in lengths of the model, and its step.
+  function cutRange({normal, base}) {
+    let [low, high] = [Infinity, -Infinity];
+    for (let i = 0; i < spots.length; i += 3) {
+      const place = normal.reduce((sum, x, k) => sum + x * (spots[i + k] * ball.radius + ball.middle[k]), -base);
+      [low, high] = [Math.min(low, place), Math.max(high, place)];
+    }
+    return {low, high, step: 10 ** Math.floor(Math.log10((high - low || 1) / 100))};
+  }
+
+  // Cuts along x, y or z, or along a face, in the middle, with what is cut off on the viewer's side.
+  function cutAlong(axis, face = null) {
+    state.cut = {axis, face, place: 0, isTurned: false};
+    const found = cutAxis(), {low, high, step} = cutRange(found), {stand} = Picture.axes(view);
+    state.cut.isTurned = found.normal.reduce((sum, x, k) => sum + x * stand[k], 0) < 0;
+    const [start, end] = [Math.floor(low / step) * step, Math.ceil(high / step) * step];
+    Object.assign(at('cut-at'), {min: start, max: end, step});
+    at('cut-axis').value = axis;
+    cutAt(Math.round((start + end) / 2 / step) * step);
+  }
+
+  function cutAt(place) {
+    state.cut.place = place;
+    at('cut-at').value = place;
+    const told = String(+place.toFixed(6)), name = state.cut.axis === 'f' ? null : 'xyz'[state.cut.axis];
+    at('cut-told').textContent = name ? `${name} = ${told}` : `${told} from face ${state.cut.face}`;
+    at('cut-at').setAttribute('aria-valuetext', at('cut-told').textContent);
+    isCutStale = true;
+    ask();
+  }
+
+  function toggleCut() {
+    at('cut').hidden = Boolean(state.cut);
+    if (state.cut) state.cut = null; else cutAlong(0);
+    isCutStale = true;
+    refit();
+  }
+
+  function startCut() {
+    at('cut-at').oninput = event => cutAt(+event.target.value);
+    at('cut-turn').onclick = () => { state.cut.isTurned = !state.cut.isTurned; cutAt(state.cut.place); };
+    at('cut-axis').onchange = event => {
+      const face = state.picked && state.picked.kind === 'f' && app.model.faces[state.picked.number][3] ? state.picked.number : null;
+      if (event.target.value !== 'f') return cutAlong(+event.target.value);
+      if (face) return cutAlong('f', face);
+      say('pick a flat face first');
+      event.target.value = state.cut.axis;
+    };
   }
 
   // --- steps
   function go(step) {
     state.step = Math.max(0, Math.min(data.frames.length - 1, step));
-    at('slider').value = state.step;
-    [...at('steps').children].forEach((row, i) => { row.className = i === state.step ? 'now' : i > state.step ? 'past' : ''; });
-    if (at('steps').children[state.step]) at('steps').children[state.step].scrollIntoView({block: 'nearest'});
+    Panels.showStep(app);
     show();
+    if (data.steps) say(`step ${state.step} of ${data.frames.length - 1}: ${data.frames[state.step].line || 'the empty workbench'}`);
   }
 
   function play() {
@@ -288,46 +398,81 @@ const View = (() => {
     at('play').textContent = timer ? 'stop' : 'play';
   }
 
-  function startSteps() {
-    if (!data.steps) return;
-    at('player').hidden = at('steps').hidden = false;
-    at('slider').max = data.frames.length - 1;
-    at('slider').oninput = event => go(+event.target.value);
-    at('back').onclick = () => go(state.step - 1);
-    at('forth').onclick = () => go(state.step + 1);
-    at('play').onclick = play;
-    data.frames.forEach((frame, i) => {
-      const row = element('div', frame.line ? frame.line + '\n' : 'the empty workbench', at('steps'), {onclick: () => go(i)});
-      if (frame.line) element('small', frame.reply, row, {className: frame.bad ? 'bad' : ''});
+  // --- where the viewer stands
+  // How the model fits into the room beside the panels, seen from somewhere.
+  function fitFrom(looking) {
+    const isNarrow = view.width <= 760, list = isNarrow ? 0 : Math.max(...['list', 'steps'].map(name => at(name).hidden ? 0 : at(name).offsetWidth + 14));
+    const top = document.querySelector('header').offsetHeight + 8, cut = at('cut').offsetHeight;
+    const bottom = document.querySelector('footer').offsetHeight + 12 + (cut ? cut + 30 : 0);
+    const [wide, high] = Picture.extent(spots, {...view, ...looking});
+    const zoom = .5 * Math.max(20, Math.min((view.width - list - 60) / wide, (view.height - top - bottom - 50) / high));
+    return {...looking, zoom, right: list / 2, down: (top - bottom) / 2};
+  }
+
+  // Goes to a view, by and by where motion is wished for.
+  function aim(looking) {
+    const to = fitFrom(looking), from = {...view}, begun = performance.now(), glide = ++fitted.glide;
+    [fitted.zoom, fitted.is] = [to.zoom, true];
+    if (isCalm.matches) {
+      Object.assign(view, to);
+      return move();
+    }
+    to.turn -= 2 * Math.PI * Math.round((to.turn - from.turn) / (2 * Math.PI));
+    requestAnimationFrame(function step(now) {
+      if (glide !== fitted.glide) return;
+      const way = Math.max(0, Math.min(1, (now - begun) / 250)), eased = way * (2 - way);
+      for (const name of Object.keys(to)) view[name] = from[name] + eased * (to[name] - from[name]);
+      move();
+      if (way < 1) requestAnimationFrame(step);
     });
   }
 
-  // --- pointer, keys, size
-  function fit() {
-    const taken = data.steps && view.width > 640 ? at('steps').offsetWidth + 14 : 0;
-    const [wide, high] = Picture.extent(points, ball, view);
-    view.zoom = .5 * Math.min((view.width - taken - 90) / wide, (view.height - 130) / high);
-    view.right = taken / 2;
-    view.down = 0;
-  }
+  const fit = () => aim({turn: view.turn, lift: view.lift});
 
-  function resize() {
-    const ratio = devicePixelRatio || 1;
-    view.width = innerWidth || 1;
-    view.height = innerHeight || 1;
-    over.width = view.width * ratio;
-    over.height = view.height * ratio;
+  // Fits at once, where nothing was moved by hand; else keeps what is seen in its size to the window.
+  function refit() {
+    const to = fitFrom({turn: view.turn, lift: view.lift}), kept = to.zoom / fitted.zoom;
+    fitted.zoom = to.zoom;
+    if (fitted.is) Object.assign(view, to); else Object.assign(view, {zoom: view.zoom * kept, right: view.right * kept, down: view.down * kept});
     drawn = '';
     ask();
   }
 
-  function zoomBy(factor, x, y) {
-    view.right = (view.right - x + view.width / 2) * factor + x - view.width / 2;
-    view.down = (view.down - y + view.height / 2) * factor + y - view.height / 2;
-    view.zoom *= factor;
+  function resize() {
+    const ratio = devicePixelRatio || 1;
+    view.width = Math.max(1, innerWidth);
+    view.height = Math.max(1, innerHeight);
+    over.width = view.width * ratio;
+    over.height = view.height * ratio;
+    refit();
+  }
+
+  const within = (x, bound) => Math.max(-bound, Math.min(bound, x));
+
+  // Moves the model on the screen, never quite out of it.
+  function pan(right, down) {
+    fitted.is = false;
+    view.right = within(view.right + right, view.zoom + view.width / 2 - 20);
+    view.down = within(view.down + down, view.zoom + view.height / 2 - 20);
     move();
   }
 
+  // Comes nearer, about a place of the screen: from an eighth of the fitting size to twenty thousand times it.
+  function zoomBy(factor, x, y) {
+    fitted.glide++;
+    const zoom = Math.max(fitted.zoom / 8, Math.min(fitted.zoom * 2e4, view.zoom * factor)), by = zoom / view.zoom;
+    view.zoom = zoom;
+    pan((view.right - x + view.width / 2) * by + x - view.width / 2 - view.right, (view.down - y + view.height / 2) * by + y - view.height / 2 - view.down);
+  }
+
+  function turnBy(turn, lift) {
+    fitted.glide++;
+    view.turn += turn;
+    view.lift = within(view.lift + lift, Math.PI / 2);
+    move();
+  }
+
+  // --- the pointer
   function movePointer(event) {
     state.pointer = [event.clientX, event.clientY];
     const before = fingers.get(event.pointerId);
@@ -338,30 +483,26 @@ const View = (() => {
       const other = [...fingers].find(([id]) => id !== event.pointerId)[1];
       const span = p => Math.hypot(p[0] - other[0], p[1] - other[1]) || 1;
       zoomBy(span(state.pointer) / span(before), other[0], other[1]);
-      view.right += dx / 2;
-      view.down += dy / 2;
-    } else if (event.buttons & 2 || event.shiftKey) {
-      view.right += dx;
-      view.down += dy;
-    } else {
-      view.turn -= dx * .01;
-      view.lift = Math.max(-Math.PI / 2, Math.min(Math.PI / 2, view.lift + dy * .01));
-    }
+      pan(dx / 2, dy / 2);
+    } else if (event.buttons & 2 || event.shiftKey) pan(dx, dy);
+    else if (moved > 3) turnBy(-dx * .01, dy * .01);
     fingers.set(event.pointerId, state.pointer);
-    move();
   }
 
   function startPointer() {
     over.onpointerdown = event => {
       if (!fingers.size) moved = 0;
+      if (!at('help').hidden) KEYS['?']();
+      Panels.showTools(app);
       fingers.set(event.pointerId, [event.clientX, event.clientY]);
-      if (event.isTrusted) over.setPointerCapture(event.pointerId);
+      over.setPointerCapture(event.pointerId);
     };
     over.onpointermove = movePointer;
     over.onpointerup = event => {
       const alone = fingers.size === 1;
       fingers.delete(event.pointerId);
-      if (alone && moved < 5 && event.button === 0) choose(Picture.pick(scene, screen, event.clientX, event.clientY));
+      if (event.pointerType === 'touch') state.pointer = null;
+      if (alone && moved < 5 && event.button === 0) choose(Picture.pick(app.scene, screen, event.clientX, event.clientY));
     };
     over.onpointercancel = event => fingers.delete(event.pointerId);
     over.onpointerleave = () => { state.pointer = null; ask(); };
@@ -372,60 +513,140 @@ const View = (() => {
     }, {passive: false});
   }
 
-  const look = (turn, lift) => () => { view.turn = turn; view.lift = lift; fit(); };
+  // --- the keys
+  const STEPS = {ArrowLeft: () => go(state.step - 1), ArrowRight: () => go(state.step + 1)};
+  const TURNS = {ArrowLeft: [.1, 0], ArrowRight: [-.1, 0], ArrowUp: [0, -.1], ArrowDown: [0, .1]};
+  const middle = factor => () => zoomBy(factor, view.width / 2 + view.right, view.height / 2 + view.down);
   const KEYS = {
-    h: () => { state.hidden = !state.hidden; },
-    n: () => { state.numbers = (state.numbers + 1) % 3; },
-    '0': look(Math.atan2(-3, 2), .507), '1': look(-Math.PI / 2, Math.PI / 2), '2': look(-Math.PI / 2, 0), '3': look(0, 0),
-    '+': () => zoomBy(1.2, view.width / 2, view.height / 2), '-': () => zoomBy(1 / 1.2, view.width / 2, view.height / 2),
-    ArrowLeft: () => go(state.step - 1), ArrowRight: () => go(state.step + 1), ' ': () => data.steps && play(),
+    f: fit, h: () => { state.isHidden = !state.isHidden; }, n: () => { state.numbers = (state.numbers + 1) % 3; },
+    x: () => { state.isXray = !state.isXray; }, p: () => { state.isPerspective = view.perspective = !view.perspective; },
+    e: () => { state.edges = (state.edges + 1) % EDGES.length; chooseEdges(); recolour(); }, c: toggleCut, m: toggleMeasure, i: () => picture(), l: () => at('list-button').click(),
+    '0': () => aim(CORNER), '1': () => aim({turn: -Math.PI / 2, lift: Math.PI / 2}), '2': () => aim({turn: -Math.PI / 2, lift: 0}), '3': () => aim({turn: 0, lift: 0}),
+    '+': middle(1.2), '-': middle(1 / 1.2), ',': STEPS.ArrowLeft, '.': STEPS.ArrowRight, ' ': () => data.steps && play(),
     '/': () => at('wanted').focus(), '?': () => { at('help').hidden = !at('help').hidden; },
-    Escape: () => { at('help').hidden = true; choose(null); },
+    Escape: () => { if (at('help').hidden) unpick(); at('help').hidden = true; },
   };
+
+  // What a key does: with the arrows the model turns, moves with shift, and steps where the model hasn't the focus.
+  function doesOf({key, shiftKey, target}) {
+    if (!TURNS[key]) return KEYS[key];
+    if (data.steps && target !== over && STEPS[key]) return STEPS[key];
+    const [turn, lift] = TURNS[key];
+    return shiftKey ? () => pan(-200 * turn, 200 * lift) : () => turnBy(turn, lift);
+  }
+
+  function onKey(event) {
+    const {target, key} = event, does = doesOf(event);
+    if (event.ctrlKey || event.metaKey || event.altKey) return;
+    if (key === 'Escape' && target.matches('input, select')) return over.focus();
+    if (key === 'Enter' && target === at('wanted')) return pickWanted();
+    if (target.matches('input:not([type=checkbox]):not([type=range]), select')) return;
+    if (target.matches('input, .scroll') && /^Arrow|^Page|^Home|^End/.test(key)) return;
+    if (!does || ((key === ' ' || key === 'Enter') && target.matches('button, input'))) return;
+    event.preventDefault();
+    does();
+    Panels.showTools(app);
+    ask();
+  }
 
   function light(text) {
     state.wanted = text;
-    state.lit = Picture.wantedIn(text, model);
+    state.lit = Picture.wantedIn(text, app.model);
     recolour();
     ask();
   }
 
-  function startKeys() {
-    onkeydown = event => {
-      if (event.target.tagName === 'INPUT' && event.target.type !== 'checkbox') {
-        if (event.key === 'Escape') event.target.blur();
-        return;
-      }
-      if (event.ctrlKey || event.metaKey || event.altKey || !KEYS[event.key]) return;
-      event.preventDefault();
-      KEYS[event.key]();
-      ask();
-    };
-    at('wanted').oninput = event => light(event.target.value);
-    at('keys').onclick = KEYS['?'];
+  // Picks the first thing that the field names and the model has.
+  function pickWanted() {
+    const found = [...state.lit].map(key => ({kind: key[0], number: +key.slice(1)})).find(isThere);
+    if (found) choose(found); else say(`there is no ${state.wanted || 'number'} in the model`);
   }
 
-  // The words after # in the address: numbers=all, hidden, lit=f1,e7, step=3, turn=, lift=, flat (no WebGL).
+  // --- a picture of what is shown, as a file
+  function picture() {
+    drawn = '';
+    draw();
+    const canvas = Object.assign(document.createElement('canvas'), {width: front.width, height: front.height}), flat = canvas.getContext('2d');
+    const ground = flat.createLinearGradient(0, 0, 0, canvas.height);
+    ground.addColorStop(0, theme('--sky'));
+    ground.addColorStop(1, theme('--ground'));
+    flat.fillStyle = ground;
+    flat.fillRect(0, 0, canvas.width, canvas.height);
+    for (const layer of [front, over]) flat.drawImage(layer, 0, 0, canvas.width, canvas.height);
+    canvas.toBlob(blob => {
+      const link = element('a', '', document.body, {href: URL.createObjectURL(blob), download: `${document.title}.png`});
+      link.click();
+      link.remove();
+      setTimeout(() => URL.revokeObjectURL(link.href), 10000);
+      say(`saved ${document.title}.png`);
+    });
+  }
+
+  // --- the address: words after # in it. What isn't understood is said.
+  const ANGLES = ['turn', 'lift'], FLAGS = {hidden: 'isHidden', xray: 'isXray', perspective: 'isPerspective'};
+  const OTHERS = ['numbers', 'lit', 'step', 'flat', 'section', 'edges'];
+
+  function readAddress() {
+    const words = new URLSearchParams(location.hash.slice(1)), wrong = [], last = data.frames.length - 1;
+    const number = (name, isRight) => {
+      const text = words.get(name), value = text === null || text.trim() === '' ? NaN : Number(text);
+      if (text !== null && !isRight(value)) wrong.push(`${name}=${text}`);
+      return isRight(value) ? value : null;
+    };
+    for (const [name, flag] of Object.entries(FLAGS)) state[flag] = words.has(name);
+    view.perspective = state.isPerspective;
+    for (const name of ANGLES) view[name] = number(name, Number.isFinite) ?? CORNER[name];
+    state.numbers = Math.max(0, ['near', 'all', 'none'].indexOf(words.get('numbers')));
+    if (words.has('numbers') && !['near', 'all', 'none'].includes(words.get('numbers'))) wrong.push(`numbers=${words.get('numbers')}`);
+    const step = number('step', value => Number.isInteger(value) && value >= 0 && value <= last);
+    for (const name of words.keys()) if (![...ANGLES, ...Object.keys(FLAGS), ...OTHERS].includes(name)) wrong.push(name);
+    refit();
+    go(step ?? last);
+    light(words.get('lit') || '');
+    if (words.has('section')) cutByAddress(words.get('section'), wrong);
+    Panels.showTools(app);
+    if (wrong.length) say(`in the address, ${wrong.join(' and ')} isn't understood${words.has('step') && step === null ? `: steps are 0 to ${last}` : ''}`);
+  }
+
+  // A cut that the address asks for: an axis, and perhaps a place on it.
+  function cutByAddress(text, wrong) {
+    const [, axis, place] = /^([xyz])(-?\d+(?:\.\d+)?)?$/.exec(text) || [];
+    if (!axis) return wrong.push(`section=${text}`);
+    at('cut').hidden = false;
+    cutAlong('xyz'.indexOf(axis));
+    if (place) cutAt(+place);
+  }
+
+  const app = {data, state, view, EDGES, css, colourOf, choose, unpick, turnOff, isolate, go, play, refit, aim, ask, draw, light,
+               model: models.get(0), scene: null, solids: [], listed: null,
+               place: point => [...Picture.placed(Picture.inBall(point, ball), Picture.axes(view), Picture.middleOf(view))]};
+
   function start() {
-    const words = new URLSearchParams(location.hash.slice(1));
-    gl = words.has('flat') ? null : Painter.on(front);
-    const all = data.frames.flatMap(frame => Object.values(frame.change.vertices).filter(point => point));
-    points = [...new Map(all.map(point => [point.join(), point])).values()];
-    ball = Picture.bounds(points);
-    resize();
-    startSteps();
+    gl = new URLSearchParams(location.hash.slice(1)).has('flat') ? null : Painter.on(front);
+    const points = new Map(data.frames.flatMap(frame => Object.values(frame.change.vertices || {})).filter(Boolean).map(point => [point.join(), point]));
+    ball = Picture.bounds(points.values());
+    spots = Float64Array.from([...points.values()].flatMap(point => Picture.inBall(point, ball)));
+    if (data.steps) Panels.startSteps(app);
+    Panels.startList(app);
+    Panels.startInfo(app);
+    Panels.startTriad(app);
+    Panels.startTools(app, KEYS);
+    startCut();
     startPointer();
-    startKeys();
+    watchContext();
+    onkeydown = onKey;
+    at('wanted').oninput = event => light(event.target.value);
+    show();
+    const isWide = innerWidth > 760 && innerHeight > 420;
+    if (data.steps) Panels.fold(app, 'steps', isWide);
+    Panels.fold(app, 'list', isWide && app.solids.length > 1);
     onresize = resize;
-    if (words.get('numbers') === 'all') state.numbers = 1;
-    state.hidden = words.has('hidden');
-    for (const name of ['turn', 'lift']) if (words.has(name)) view[name] = +words.get(name);
-    fit();
-    go(words.has('step') ? +words.get('step') : data.frames.length - 1);
-    if (words.has('lit')) light(words.get('lit'));
+    onhashchange = readAddress;
+    isDark.onchange = () => { recolour(); ask(); };
+    resize();
+    readAddress();
   }
 
   start();
-  return {state, view, draw, go, choose, light,
-          place: point => Picture.project(view, Picture.axes(view), point.map((x, i) => (x - ball.middle[i]) / ball.radius))};
+  return app;
 })();

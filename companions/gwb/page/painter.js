@@ -1,170 +1,234 @@
 'use strict';
-// Draws a scene by WebGL. What doesn't change by turning is uploaded once; of each frame only the indices of what faces the viewer are.
+// Draws a scene by WebGL. All of it is uploaded once, also which way the faces beside an edge look; of a frame only where the viewer stands is.
 const Painter = (() => {
-  const LIT = [255, 140, 38], LIT_EDGE = [230, 64, 0, 153], EDGE = [26, 38, 51, 64], THIN_EDGES = 4000;
-  const PLACE = 'uniform vec3 R, U, S, L; uniform vec4 V; uniform vec2 M; varying vec3 k;\n';
-  const FILL = `attribute vec3 p, n; attribute vec4 c; ${PLACE}void main() {
-k = c.rgb * (.58 + .24 * max(0., dot(n, S)) + .3 * max(0., dot(n, L)));
-gl_Position = vec4(2. * (V.z * dot(R, p) + M.x) / V.x, 2. * (V.z * dot(U, p) - M.y) / V.y, -.7 * dot(S, p), 1.); }`;
-  // An edge has four corners; c.a is its width in fours. Thin ones are lines between the first two corners.
-  const LINE = `attribute vec3 p, q; attribute vec2 e; attribute vec4 c; ${PLACE}
-vec2 s(vec3 x) { return vec2(V.z * dot(R, x) + M.x, V.z * dot(U, x) - M.y); }
-void main() { k = c.rgb; vec2 a = s(p), b = s(q), t = b - a; float l = length(t); t = l > 0. ? t / l : vec2(1, 0);
-vec2 x = mix(a, b, e.x) + vec2(-t.y, t.x) * e.y * c.a * 4. * V.w + t * (e.x * 2. - 1.) * V.w * .5;
-gl_Position = vec4(2. * x / V.xy, -.7 * dot(S, mix(p, q, e.x)) - 1.5 * V.w / V.z, 1.); }`;
-  const THIN = `attribute vec3 p, q; attribute vec2 e; attribute vec4 c; ${PLACE}void main() { k = c.rgb; vec3 x = e.x > .5 ? q : p;
-gl_Position = vec4(2. * (V.z * dot(R, x) + M.x) / V.x, 2. * (V.z * dot(U, x) - M.y) / V.y, -.7 * dot(S, x) - 1.5 * V.w / V.z, 1.); }`;
-  const COLOUR = 'precision mediump float; varying vec3 k; uniform float A; void main() { gl_FragColor = vec4(k, A); }';
-  const FILL_PARTS = [['p', 3, 0], ['n', 3, 12]], LINE_PARTS = [['p', 3, 0], ['q', 3, 12], ['e', 2, 24]];
+  const LIT_EDGE = [230, 64, 0], THIN_EDGES = 4000, CAP = 0, WIDE = 255, NARROW = 120;
+  const PLACE = `uniform vec3 right, up, stand, light, size; uniform vec2 middle; uniform float inverse, halfWidth; varying vec4 ink;
+vec3 spot(vec3 point) { float depth = dot(stand, point), scale = 1. / (1. - inverse * depth);
+return vec3(size.z * scale * vec2(dot(right, point), dot(up, point)) + middle * vec2(1, -1), depth * scale); }
+vec4 shown(vec3 spot, float nearer) { return vec4(2. * spot.xy / size.xy, -.7 * spot.z - nearer * halfWidth / size.z, 1.); }
+`;
+  const FILL = `attribute vec3 point, normal; attribute vec4 colour; ${PLACE}void main() {
+ink = vec4(colour.rgb * (.58 + .24 * max(0., dot(normal, stand)) + .3 * max(0., dot(normal, light))), colour.a);
+gl_Position = shown(spot(point), 0.); }`;
+  // An edge is drawn where a face beside it looks to the viewer; a face without a normal does always.
+  const SIDES = `attribute vec3 left, beside; attribute vec4 colour; uniform float all; ${PLACE}
+float facing(vec3 normal, vec3 point) { return dot(normal, stand) - inverse * dot(normal, point); }
+bool seen(vec3 point) { return all > 0. || max(facing(left, point), facing(beside, point)) > -.0002; }
+`;
+  // An edge has four corners; the colour's last part is its width.
+  const LINE = `attribute vec3 point, end; attribute vec2 corner; ${SIDES}void main() { ink = colour;
+vec3 a = spot(point), b = spot(end); vec2 along = b.xy - a.xy; float far = length(along); along = far > 0. ? along / far : vec2(1, 0);
+vec3 at = mix(a, b, corner.x); float wide = halfWidth * colour.a * 2.;
+at.xy += vec2(-along.y, along.x) * corner.y * wide + along * (corner.x * 2. - 1.) * halfWidth * .5;
+gl_Position = seen(point) ? shown(at, 1.5) : vec4(2, 2, 2, 1); }`;
+  const THIN = `attribute vec3 point; ${SIDES}void main() { ink = colour; gl_Position = seen(point) ? shown(spot(point), 1.5) : vec4(2, 2, 2, 1); }`;
+  // Caps are hatched.
+  const INK = `precision mediump float; varying vec4 ink; uniform float alpha, hatch;
+void main() { float dark = ink.a < .1 && mod(gl_FragCoord.x + gl_FragCoord.y, hatch * 7.) < hatch * 1.4 ? .72 : 1.; gl_FragColor = vec4(ink.rgb * dark, alpha); }`;
   const CORNERS = [[0, -1], [1, -1], [0, 1], [1, 1]], QUAD = [0, 1, 2, 2, 1, 3];
+  const UNIFORMS = ['right', 'up', 'stand', 'light', 'size', 'middle', 'inverse', 'halfWidth', 'alpha', 'hatch', 'all'];
 
-  // A program and the places of its words.
-  function program(gl, vertex, parts) {
-    const made = gl.createProgram(), at = {};
-    for (const [type, text] of [[gl.VERTEX_SHADER, vertex], [gl.FRAGMENT_SHADER, COLOUR]]) {
+  // Four bytes as one number, in the order that the machine has.
+  const packed = rgba => new Uint32Array(Uint8Array.from(rgba).buffer)[0];
+
+  // A program, and the places of its words.
+  function program(gl, vertex) {
+    const made = gl.createProgram(), at = {}, places = {};
+    for (const [type, text] of [[gl.VERTEX_SHADER, vertex], [gl.FRAGMENT_SHADER, INK]]) {
       const shader = gl.createShader(type);
       gl.shaderSource(shader, text);
       gl.compileShader(shader);
       gl.attachShader(made, shader);
     }
     gl.linkProgram(made);
-    for (const name of 'RUSLVMA') at[name] = gl.getUniformLocation(made, name);
-    return {made, at, colour: gl.getAttribLocation(made, 'c'), parts: parts.map(([name, size, offset]) => [gl.getAttribLocation(made, name), size, offset])};
+    for (const name of UNIFORMS) at[name] = gl.getUniformLocation(made, name);
+    for (const [, name] of vertex.matchAll(/attribute (?:vec\d) ([^;]+)/g)) {
+      for (const one of name.split(', ')) places[one] = gl.getAttribLocation(made, one);
+    }
+    return {made, at, places};
   }
 
   // The corners of the triangles: those of a flat face are shared among its triangles.
-  function cornersOf(scene) {
-    const numbers = [], owners = [], indices = new Uint32Array(scene.corners.length);
-    let face = -1, normal = [], known = new Map();
-    scene.triangles.forEach((triangle, i) => {
-      if (triangle.face !== face || triangle.normal.some((x, k) => Math.abs(x - normal[k]) > 1e-6)) {
-        [face, normal, known] = [triangle.face, triangle.normal, new Map()];
-      }
-      triangle.corners.forEach((corner, k) => {
-        if (!known.has(corner)) {
-          known.set(corner, owners.push(triangle) - 1);
-          numbers.push(...scene.point(corner), ...normal);
+  function cornersOf({spots, triangles}) {
+    const {corners, normals, faces} = triangles, count = faces.length, indices = new Uint32Array(3 * count);
+    const known = new Int32Array(spots.length / 3), since = new Int32Array(spots.length / 3).fill(-1), numbers = new Float32Array(18 * count), owners = new Int32Array(3 * count);
+    let begun = 0, made = 0;
+    for (let i = 0; i < count; i++) {
+      if (faces[i] !== faces[begun] || [0, 1, 2].some(k => Math.abs(normals[3 * i + k] - normals[3 * begun + k]) > 1e-6)) begun = i;
+      for (let k = 3 * i; k < 3 * i + 3; k++) {
+        const corner = corners[k];
+        if (since[corner] !== begun) {
+          [since[corner], known[corner], owners[made]] = [begun, made, faces[i]];
+          for (let m = 0; m < 3; m++) [numbers[6 * made + m], numbers[6 * made + 3 + m]] = [spots[3 * corner + m], normals[3 * begun + m]];
+          made++;
         }
-        indices[3 * i + k] = known.get(corner);
-      });
-    });
-    return {numbers: Float32Array.from(numbers), owners, indices};
+        indices[k] = known[corner];
+      }
+    }
+    return {numbers: numbers.subarray(0, 6 * made), owners: owners.subarray(0, made), indices};
   }
 
-  function linesOf(scene) {
-    const numbers = new Float32Array(32 * scene.edges.length);
-    scene.edges.forEach((edge, i) => CORNERS.forEach((corner, k) => {
-      numbers.set([...scene.point(edge.a), ...scene.point(edge.b), ...corner], 32 * i + 8 * k);
-    }));
+  // For each edge its corners: two where it is thin, else four, each with both ends and where it stands about them.
+  function linesOf({spots, edges: {starts, ends}}, isThin) {
+    const each = isThin ? 6 : 32, numbers = new Float32Array(each * starts.length);
+    for (let i = 0; i < starts.length; i++) {
+      const a = spots.subarray(3 * starts[i], 3 * starts[i] + 3), b = spots.subarray(3 * ends[i], 3 * ends[i] + 3);
+      if (isThin) {
+        numbers.set(a, 6 * i);
+        numbers.set(b, 6 * i + 3);
+      } else CORNERS.forEach((corner, k) => {
+        numbers.set(a, 32 * i + 8 * k);
+        numbers.set(b, 32 * i + 8 * k + 3);
+        numbers.set(corner, 32 * i + 8 * k + 6);
+      });
+    }
     return numbers;
+  }
+
+  // The normals of the faces beside each edge, for each of its corners.
+  function sidesOf({edges: {lefts, rights, normals}}, corners) {
+    const sides = new Int16Array(8 * corners * lefts.length);
+    for (let i = 0; i < lefts.length; i++) {
+      [lefts[i], rights[i]].forEach((face, side) => (normals[face] || []).forEach((x, k) => { sides[8 * corners * i + 4 * side + k] = 32767 * x; }));
+      for (let k = 1; k < corners; k++) sides.copyWithin(8 * (corners * i + k), 8 * corners * i, 8 * corners * i + 8);
+    }
+    return sides;
   }
 
   // A painter on a canvas, or null where there is no WebGL with long indices.
   function on(canvas) {
     const gl = canvas.getContext('webgl', {antialias: false});
-    if (!gl || !gl.getExtension('OES_element_index_uint')) return null;
-    const fill = program(gl, FILL, FILL_PARTS), line = program(gl, LINE, LINE_PARTS), thin = program(gl, THIN, LINE_PARTS);
-    const [corners, cornerColours, lines, lineColours, index] = [1, 2, 3, 4, 5].map(() => gl.createBuffer());
-    let scene = null, held = null, room = null;
+    if (!gl || gl.isContextLost() || !gl.getExtension('OES_element_index_uint')) return null;
+    const fill = program(gl, FILL), line = program(gl, LINE), thin = program(gl, THIN);
+    const [corners, cornerColours, lines, lineSides, lineColours, faceIndex, lineIndex] = Array.from({length: 7}, () => gl.createBuffer());
+    let scene = null, held = null, isThin = false, edgeCount = 0;
 
-    function put(kind, buffer, numbers, use) {
+    function put(kind, buffer, numbers) {
       gl.bindBuffer(kind, buffer);
-      gl.bufferData(kind, numbers, use);
+      gl.bufferData(kind, numbers, gl.STATIC_DRAW);
     }
 
     // Takes a scene, which is drawn from then on.
     function take(next) {
       scene = next;
+      isThin = scene.edges.numbers.length > THIN_EDGES;
       held = cornersOf(scene);
-      room = new Uint32Array(Math.max(scene.corners.length, 6 * scene.edges.length));
-      put(gl.ARRAY_BUFFER, corners, held.numbers, gl.STATIC_DRAW);
-      put(gl.ARRAY_BUFFER, lines, linesOf(scene), gl.STATIC_DRAW);
+      put(gl.ARRAY_BUFFER, corners, held.numbers);
+      put(gl.ELEMENT_ARRAY_BUFFER, faceIndex, held.indices);
+      put(gl.ARRAY_BUFFER, lines, linesOf(scene, isThin));
+      put(gl.ARRAY_BUFFER, lineSides, sidesOf(scene, isThin ? 2 : 4));
     }
 
-    // Colours what is taken: by solids, and what is lit.
-    function colour(colourOf, isLit) {
-      const fills = new Uint8Array(4 * held.owners.length), edges = new Uint32Array(4 * scene.edges.length);
-      let face = -1, rgb = null;
-      held.owners.forEach((triangle, i) => {
-        if (triangle.face !== face) rgb = isLit('f', triangle.face, triangle.solid) ? LIT : colourOf(triangle.solid).map(x => 255 * x);
-        face = triangle.face;
-        for (let k = 0; k < 3; k++) fills[4 * i + k] = rgb[k];
-      });
-      const [lit, dark] = [LIT_EDGE, EDGE].map(rgba => new Uint32Array(Uint8Array.from(rgba).buffer)[0]);
-      scene.edges.forEach((edge, i) => edges.fill(isLit('e', edge.edge, edge.solid) ? lit : dark, 4 * i, 4 * i + 4));
-      put(gl.ARRAY_BUFFER, cornerColours, fills, gl.STATIC_DRAW);
-      put(gl.ARRAY_BUFFER, lineColours, edges, gl.STATIC_DRAW);
-    }
-
-    function use(what, view, screen, shape, colours, each) {
-      const {right, up, stand} = screen.basis, light = up.map((x, i) => x * .8 + stand[i] * .4 - right[i] * .5), {at} = what;
-      gl.useProgram(what.made);
-      gl.bindBuffer(gl.ARRAY_BUFFER, shape);
-      for (const [place, size, offset] of what.parts) {
-        gl.enableVertexAttribArray(place);
-        gl.vertexAttribPointer(place, size, gl.FLOAT, false, each, offset);
+    // Dresses what is taken: the colours of faces, and the edges that are drawn, in ink or lit.
+    function dress(look) {
+      dressFaces(look);
+      const shape = isThin ? [0, 1] : QUAD, each = isThin ? 2 : 4, {cosines} = scene.edges;
+      const index = new Uint32Array(shape.length * cosines.length), colours = new Uint32Array(each * cosines.length);
+      const lit = packed([...LIT_EDGE, WIDE]), dark = packed([...look.ink, NARROW]);
+      edgeCount = 0;
+      for (let i = 0; i < cosines.length; i++) {
+        const isLit = look.isEdgeLit(i);
+        colours.fill(isLit ? lit : dark, each * i, each * i + each);
+        if (isLit || cosines[i] <= look.cosine) for (const k of shape) index[edgeCount++] = each * i + k;
       }
-      gl.bindBuffer(gl.ARRAY_BUFFER, colours);
-      gl.enableVertexAttribArray(what.colour);
-      gl.vertexAttribPointer(what.colour, 4, gl.UNSIGNED_BYTE, true, 4, 0);
-      gl.uniform3fv(at.R, right);
-      gl.uniform3fv(at.U, up);
-      gl.uniform3fv(at.S, stand);
-      gl.uniform3fv(at.L, light.map(x => x / Math.sqrt(1.05)));
-      gl.uniform4f(at.V, view.width, view.height, view.zoom, Math.max(.75, 1.5 / (devicePixelRatio || 1)));
-      gl.uniform2f(at.M, view.right, view.down);
-      gl.uniform1f(at.A, 1);
+      put(gl.ARRAY_BUFFER, lineColours, colours);
+      put(gl.ELEMENT_ARRAY_BUFFER, lineIndex, index.subarray(0, edgeCount));
     }
 
-    function drawFaces(screen) {
-      let count = 0;
-      for (const i of screen.front) for (let k = 3 * i; k < 3 * i + 3; k++) room[count++] = held.indices[k];
-      put(gl.ELEMENT_ARRAY_BUFFER, index, room.subarray(0, count), gl.STREAM_DRAW);
-      gl.drawElements(gl.TRIANGLES, count, gl.UNSIGNED_INT, 0);
+    function dressFaces(look) {
+      const fills = new Uint32Array(held.owners.length);
+      const known = [CAP, 255].map(() => new Map()), packedOnce = (rgb, isFace) => {
+        if (!known[isFace].has(rgb)) known[isFace].set(rgb, packed([...rgb.map(x => 255 * x), isFace ? 255 : CAP]));
+        return known[isFace].get(rgb);
+      };
+      for (let i = 0; i < fills.length; i++) {
+        const owner = held.owners[i];
+        fills[i] = i && held.owners[i - 1] === owner ? fills[i - 1] : packedOnce(look.fill(owner), owner < 0 ? 0 : 1);
+      }
+      put(gl.ARRAY_BUFFER, cornerColours, fills);
     }
 
-    // The edges with a face that looks to the viewer, or all.
-    function indexEdges(screen, all, shape) {
-      const seen = all ? null : screen.seenFaces;
-      let count = 0;
-      scene.edges.forEach((edge, i) => {
-        if (all || seen[edge.left] || seen[edge.right]) for (const k of shape) room[count++] = 4 * i + k;
-      });
-      put(gl.ELEMENT_ARRAY_BUFFER, index, room.subarray(0, count), gl.STREAM_DRAW);
-      return count;
+    function attribute(what, name, buffer, size, type, each, offset) {
+      const place = what.places[name];
+      gl.bindBuffer(gl.ARRAY_BUFFER, buffer);
+      gl.enableVertexAttribArray(place);
+      gl.vertexAttribPointer(place, size, type, type !== gl.FLOAT, each, offset);
     }
 
-    function drawEdges(view, screen, hidden, haste) {
-      const isThin = haste || scene.edges.length > THIN_EDGES, what = isThin ? thin : line, kind = isThin ? gl.LINES : gl.TRIANGLES;
-      use(what, view, screen, lines, lineColours, 32);
-      const count = indexEdges(screen, hidden, isThin ? [0, 1] : QUAD);
+    function use(what, view, {basis}, halfWidth) {
+      const {right, up, stand, inverse} = basis, light = up.map((x, i) => x * .8 + stand[i] * .4 - right[i] * .5), {at} = what;
+      for (let place = 0; place < 8; place++) gl.disableVertexAttribArray(place);
+      gl.useProgram(what.made);
+      gl.uniform3fv(at.right, right);
+      gl.uniform3fv(at.up, up);
+      gl.uniform3fv(at.stand, stand);
+      gl.uniform3fv(at.light, light.map(x => x / Math.sqrt(1.05)));
+      gl.uniform3f(at.size, view.width, view.height, view.zoom);
+      gl.uniform2f(at.middle, view.right, view.down);
+      gl.uniform1f(at.inverse, inverse);
+      gl.uniform1f(at.halfWidth, halfWidth);
+      gl.uniform1f(at.hatch, canvas.width / view.width);
+    }
+
+    function drawFaces(view, screen, isXray) {
+      use(fill, view, screen, 1);
+      attribute(fill, 'point', corners, 3, gl.FLOAT, 24, 0);
+      attribute(fill, 'normal', corners, 3, gl.FLOAT, 24, 12);
+      attribute(fill, 'colour', cornerColours, 4, gl.UNSIGNED_BYTE, 4, 0);
+      gl.uniform1f(fill.at.alpha, isXray ? .22 : 1);
+      gl[isXray ? 'disable' : 'enable'](gl.CULL_FACE);
+      gl[isXray ? 'enable' : 'disable'](gl.BLEND);
+      gl.depthMask(!isXray);
+      gl.bindBuffer(gl.ELEMENT_ARRAY_BUFFER, faceIndex);
+      gl.drawElements(gl.TRIANGLES, held.indices.length, gl.UNSIGNED_INT, 0);
+    }
+
+    function useEdges(view, screen, pen, all) {
+      const what = isThin ? thin : line, each = isThin ? 12 : 32;
+      use(what, view, screen, pen.half);
+      attribute(what, 'point', lines, 3, gl.FLOAT, each, 0);
+      if (!isThin) {
+        attribute(what, 'end', lines, 3, gl.FLOAT, each, 12);
+        attribute(what, 'corner', lines, 2, gl.FLOAT, each, 24);
+      }
+      attribute(what, 'left', lineSides, 3, gl.SHORT, 16, 0);
+      attribute(what, 'beside', lineSides, 3, gl.SHORT, 16, 8);
+      attribute(what, 'colour', lineColours, 4, gl.UNSIGNED_BYTE, 4, 0);
+      gl.uniform1f(what.at.all, all ? 1 : 0);
+      return what;
+    }
+
+    function drawEdges(view, screen, pen, isHidden, isXray) {
+      const what = useEdges(view, screen, pen, isHidden || isXray), kind = isThin ? gl.LINES : gl.TRIANGLES;
+      gl.disable(gl.CULL_FACE);
+      gl.enable(gl.BLEND);
       gl.depthMask(false);
-      if (hidden) {
+      gl.bindBuffer(gl.ELEMENT_ARRAY_BUFFER, lineIndex);
+      if (isHidden && !isXray) {
         gl.depthFunc(gl.GREATER);
-        gl.uniform1f(what.at.A, .28);
-        gl.drawElements(kind, count, gl.UNSIGNED_INT, 0);
-        gl.uniform1f(what.at.A, 1);
+        gl.uniform1f(what.at.alpha, .28 * pen.alpha);
+        gl.drawElements(kind, edgeCount, gl.UNSIGNED_INT, 0);
         gl.depthFunc(gl.LEQUAL);
       }
-      gl.drawElements(kind, count, gl.UNSIGNED_INT, 0);
+      gl.uniform1f(what.at.alpha, pen.alpha);
+      gl.drawElements(kind, edgeCount, gl.UNSIGNED_INT, 0);
       gl.depthMask(true);
     }
 
-    // Draws what was taken: where there is haste with thin edges, and where there is most without, if they are many.
-    function draw(view, screen, hidden, haste) {
+    // Draws what was taken: without edges in the greatest haste, if they are many. The pen has half a line's width and how dense it is.
+    function draw(view, screen, {isHidden, isXray, pen}, haste) {
       gl.viewport(0, 0, canvas.width, canvas.height);
       gl.clearColor(0, 0, 0, 0);
+      gl.depthMask(true);
       gl.clear(gl.COLOR_BUFFER_BIT | gl.DEPTH_BUFFER_BIT);
       gl.enable(gl.DEPTH_TEST);
-      gl[hidden ? 'enable' : 'disable'](gl.BLEND);
-      gl.blendFuncSeparate(gl.SRC_ALPHA, gl.ONE_MINUS_SRC_ALPHA, gl.ONE, gl.ONE_MINUS_SRC_ALPHA);
       gl.depthFunc(gl.LEQUAL);
-      use(fill, view, screen, corners, cornerColours, 24);
-      drawFaces(screen);
-      if (haste < 4 || scene.edges.length < THIN_EDGES) drawEdges(view, screen, hidden, haste > 1);
+      gl.blendFuncSeparate(gl.SRC_ALPHA, gl.ONE_MINUS_SRC_ALPHA, gl.ONE, gl.ONE_MINUS_SRC_ALPHA);
+      drawFaces(view, screen, isXray);
+      if (haste < 4 || !isThin) drawEdges(view, screen, pen, isHidden, isXray);
     }
 
-    return {take, colour, draw};
+    return {take, dress, draw};
   }
 
   return {on};
