@@ -17,7 +17,8 @@ from gwb.hidden_lines import Scene
 from gwb.listing import read_model
 from gwb.measures import normal, six_volume
 from gwb.model import Model
-from gwb.page import Looks, page_of, page_of_steps, played
+from gwb.page import Looks, page_of, page_of_steps
+from gwb.playing import played
 from gwb.svg import _middle
 from gwb.touched_edges import touched_edges
 from gwb.vectors import cross, dot, subtract
@@ -633,7 +634,7 @@ class Lists(PageCase):
     def test_steps(self):
         script = (REPOSITORY / 'examples' / 'block_with_hole.gwb').read_bytes()
         program()
-        page = page_of_steps(played(script))
+        page = page_of_steps(played(script).steps)
         tab = self.opened(page)
         now = lambda: self.text(tab, '#steps .now')
         told = [f'{line}\n{reply}' for line, reply in (('list', 'a listing of 63 lines'), ('volume 1', 'volume 1152'), ('count 1', 'count 16 24 10 2 0'))]
@@ -667,7 +668,7 @@ class Phones(PageCase):
     def test_nothing_covers_the_model_and_nothing_runs_off(self):
         program()
         script = (REPOSITORY / 'examples' / 'split_block.gwb').read_bytes()
-        for page in (page_of(stored('split_block')), page_of_steps(played(script))):
+        for page in (page_of(stored('split_block')), page_of_steps(played(script).steps)):
             tab = self.opened(page, PHONE, touch=True)
             for panel in ('#list', '#steps', '#info', '#help', '#tools'):
                 self.assertFalse(self.shown(tab, panel), panel)
@@ -715,7 +716,7 @@ class Keyboard(PageCase):
     def test_every_control_is_reached_and_has_a_name(self):
         program()
         script = (REPOSITORY / 'examples' / 'split_block.gwb').read_bytes()
-        tab = self.opened(page_of_steps(played(script)))
+        tab = self.opened(page_of_steps(played(script).steps))
         tab.value('View.choose({kind: "f", number: 3})')
         tab.press('c')
         tab.value('document.activeElement.blur()')

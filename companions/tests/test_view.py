@@ -9,9 +9,12 @@ from pathlib import Path
 from support import box, examples, lamina, listing, model_in, plate, program, run, scripts, turned
 
 from gwb.errors import CompanionError
+from gwb.language import is_answered
 from gwb.listing import read_model
 from gwb.measures import normal, off_plane
-from gwb.page import page_of, page_of_steps, played
+from gwb.page import page_of, page_of_steps
+from gwb.pipe import Pipe
+from gwb.playing import played
 from gwb.vectors import ZERO, cross, dot, subtract, total
 
 BLOCK = listing(*box((0, 0, 0), (4, 4, 4)))
@@ -125,18 +128,19 @@ class Steps(unittest.TestCase):
         program()
 
     def test_the_changes_lead_to_each_model(self):
-        for script in examples():
-            steps = list(played(script.read_bytes()))
-            held = {'faces': {}, 'edges': {}, 'vertices': {}}
-            for frame, step in zip(data_of(page_of_steps(steps))['frames'][1:], steps):
+        for script in scripts():
+            steps, held = played(script.read_bytes()).steps, {'faces': {}, 'edges': {}, 'vertices': {}}
+            pipe = Pipe(program())
+            self.addCleanup(pipe.close)
+            for frame, line in zip(data_of(page_of_steps(steps))['frames'][1:], filter(is_answered, script.read_bytes().split(b'\n'))):
+                pipe.ask(line.decode('utf-8', 'surrogateescape'))
                 for kind, rows in frame['change'].items():
                     held[kind].update(rows)
                     held[kind] = {number: row for number, row in held[kind].items() if row is not None}
-                wanted = data_of(page_of(step.model))['frames'][0]['change']
-                self.assertEqual(held, wanted, f'{script.stem}: {step.line}')
+                self.assertEqual(held, data_of(page_of(pipe.model()))['frames'][0]['change'], f'{script.stem}: {line}')
 
     def test_refusals_are_in_words(self):
-        steps = list(played(b'# a block\nblock 1 0 0 0 4 4 4\nblock 1 0 0 0 4 4 4\r\nhello\n\nlist\n'))
+        steps = played(b'# a block\nblock 1 0 0 0 4 4 4\nblock 1 0 0 0 4 4 4\r\nhello\n\nlist\n').steps
         self.assertEqual([(step.line, step.reply) for step in steps], [
             ('block 1 0 0 0 4 4 4', 'ok'),
             ('block 1 0 0 0 4 4 4', 'refused 6 1: SolidTaken: solid 1 is in use'),
