@@ -5,10 +5,8 @@ import base64
 import hashlib
 import html
 import json
-import re
-from dataclasses import dataclass, field
 from pathlib import Path
-from typing import Dict, Iterable, List, Mapping, Optional, Sequence, Tuple
+from typing import Dict, Iterable, List, Mapping, Optional, Protocol, Sequence, Tuple
 
 from .command_line import OK, add_version, read_bytes, run
 from .errors import CompanionError, NotReplies
@@ -28,43 +26,54 @@ _CHANGES = frozenset(
     'mvfs kvfs mev kev mevv kevv mef kef kemr mekr mfkrh kfmrh ringmv lamina block sweep glue split undo redo'.split())
 
 
-@dataclass(frozen=True)
-class Looks:
-    """Names and colours of solids and faces, by kind (`solid` or `face`) and number; colours are written `#rrggbb`."""
+class Look(Protocol):
+    """The name of a solid or a face, empty where it has none, and its colour: red, green and blue from 0 to 255, or None."""
 
-    names: Mapping[Tuple[str, int], str] = field(default_factory=dict)
-    colours: Mapping[Tuple[str, int], str] = field(default_factory=dict)
+    @property
+    def name(self) -> str:
+        """The name."""
 
-    def __post_init__(self) -> None:
-        """Raises ValueError for another kind, or a colour that isn't written so."""
-        for kind, _ in (*self.names, *self.colours):
-            if kind not in _LETTERS:
-                raise ValueError(f'{kind!r} is neither solid nor face')
-        for colour in self.colours.values():
-            if not re.fullmatch('#[0-9a-fA-F]{6}', colour):
-                raise ValueError(f'the colour {colour!r} is not written #rrggbb')
-
-    def data(self) -> Dict[str, Dict[str, str]]:
-        """Both as the page reads them, by `s1` for a solid and `f3` for a face; what is empty is left out."""
-        found = {name: {f'{_LETTERS[kind]}{number}': value for (kind, number), value in given.items()}
-                 for name, given in (('names', self.names), ('colours', self.colours))}
-        return {name: values for name, values in found.items() if values}
+    @property
+    def colour(self) -> Optional[Tuple[int, int, int]]:
+        """The colour."""
 
 
+# By kind, solid or face, and number.
+Looks = Mapping[Tuple[str, int], Look]
+_PLAIN: Looks = {}
 _LETTERS = {'solid': 's', 'face': 'f'}
-_PLAIN = Looks()
+
+
+def _looks_data(looks: Looks) -> Dict[str, Dict[str, str]]:
+    """Names and colours as the page reads them, by `s1` for a solid and `f3` for a face. Raises ValueError for another kind or colour."""
+    names, colours = {}, {}
+    for (kind, number), look in looks.items():
+        if kind not in _LETTERS:
+            raise ValueError(f'{kind!r} is neither solid nor face')
+        key = f'{_LETTERS[kind]}{number}'
+        if look.name:
+            names[key] = look.name
+        if look.colour is not None:
+            colours[key] = _hexadecimal(look.colour)
+    return {'names': names, 'colours': colours}
+
+
+def _hexadecimal(colour: Tuple[int, int, int]) -> str:
+    if len(colour) != 3 or not all(0 <= part <= 255 for part in colour):
+        raise ValueError(f'{colour!r} is no colour of three parts from 0 to 255')
+    return '#{:02x}{:02x}{:02x}'.format(*colour)
 
 
 def page_of(model: Model, title: str = 'gwb', looks: Looks = _PLAIN) -> str:
     """A page that shows the model, its solids and faces with the names and colours that are given."""
-    return _page({'frames': [{'change': PageRows().of(model)}], **looks.data()}, title)
+    return _page({'frames': [{'change': PageRows().of(model)}], **_looks_data(looks)}, title)
 
 
 def page_of_steps(steps: Iterable[Step], title: str = 'gwb', looks: Looks = _PLAIN) -> str:
     """A page that plays a script: the empty workbench, and what each command changes."""
     frames: List[Dict[str, object]] = [{'change': PageRows().of(_EMPTY)}]
     frames += ({'line': step.line, 'reply': step.reply, 'bad': step.is_complaint, 'change': step.change} for step in steps)
-    return _page({'steps': True, 'frames': frames, **looks.data()}, title)
+    return _page({'steps': True, 'frames': frames, **_looks_data(looks)}, title)
 
 
 def _page(data: Dict[str, object], title: str) -> str:

@@ -8,6 +8,7 @@ import time
 import unittest
 from fractions import Fraction
 from pathlib import Path
+from typing import NamedTuple, Optional, Tuple
 
 from chromium import Chromium, Image
 from page_speed import blocks, times_of
@@ -17,7 +18,7 @@ from gwb.hidden_lines import Scene
 from gwb.listing import read_model
 from gwb.measures import normal, six_volume
 from gwb.model import Model
-from gwb.page import Looks, page_of, page_of_steps
+from gwb.page import page_of, page_of_steps
 from gwb.playing import played
 from gwb.svg import _middle
 from gwb.touched_edges import touched_edges
@@ -96,6 +97,13 @@ def away(a, b, p):
     long = d[0] ** 2 + d[1] ** 2
     way = max(0, min(1, ((p[0] - a[0]) * d[0] + (p[1] - a[1]) * d[1]) / long)) if long else 0
     return math.hypot(a[0] + way * d[0] - p[0], a[1] + way * d[1] - p[1])
+
+
+class Look(NamedTuple):
+    """How a thing looks."""
+
+    name: str
+    colour: Optional[Tuple[int, int, int]] = None
 
 
 class PageCase(unittest.TestCase):
@@ -211,7 +219,7 @@ class Picking(PageCase):
         self.assertRegex(self.text(tab, '#facts'), rf'^volume {Fraction(six_volume(model, model.faces), 6)}area .*box 0 0 0 to 6 6 6size 6 × 6 × 6counts 16 vertices')
 
     def test_names_and_colours_are_shown(self):
-        looks = Looks({('solid', 1): 'bracket <b>', ('face', 3): 'seat'}, {('solid', 1): '#00ff00', ('face', 3): '#ff00ff'})
+        looks = {('solid', 1): Look('bracket <b>', (0, 255, 0)), ('face', 3): Look('seat', (255, 0, 255)), ('face', 4): Look('', None)}
         model = stored('block_with_hole')
         tab = self.opened(page_of(model, 'part', looks), words='lit=f3')
         self.assertIn('3 seat', tab.value('View.state.labels.map(label => label.text)'))
@@ -224,10 +232,9 @@ class Picking(PageCase):
             self.assertEqual([part > 60 for part in seen], [bool(part) for part in (red, green, blue)], seen)
         tab.click(*self.place(tab, (3, 0, 3)))
         self.assertEqual(self.text(tab, '#what'), 'face 3 seat')
-        with self.assertRaisesRegex(ValueError, 'red'):
-            Looks({}, {('face', 3): 'red'})
-        with self.assertRaisesRegex(ValueError, 'edge'):
-            Looks({('edge', 3): 'rim'})
+        for wrong, told in (({('face', 3): Look('', (0, 0, 256))}, '256'), ({('edge', 3): Look('rim')}, 'edge')):
+            with self.assertRaisesRegex(ValueError, told):
+                page_of(model, 'part', wrong)
 
 
 class Failing(PageCase):
@@ -585,7 +592,7 @@ class Lists(PageCase):
         self.assertTrue(all(self.place(tab, (x, 1, 1))[0] > high for x in (0, 5_183)))
 
     def test_search_all_none_and_only(self):
-        looks = Looks({('solid', 3): 'bracket', ('solid', 20): 'left bracket'})
+        looks = {('solid', 3): Look('bracket'), ('solid', 20): Look('left bracket')}
         tab = self.opened(page_of(row_of_blocks(30), 'part', looks), MIDDLE)
         for words, wanted in (('bracket', [3, 20]), ('left br', [20]), ('2', [2, *range(20, 30)]), ('solid 12', [12]), ('', list(range(1, 31)))):
             tab.value(f'(field => {{ field.value = {json.dumps(words)}; field.dispatchEvent(new Event("input")); }})(document.getElementById("search"))')
