@@ -31,7 +31,7 @@ MEASURE = """(async () => {
   const slider = document.getElementById('cut-at');
   const steps = {
     turning: i => move('pointermove', around(i)), pointing: i => move('pointermove', around(i)),
-    picking: i => { for (const kind of ['pointerdown', 'pointerup']) move(kind, around(i)); },
+    picking: i => { for (const kind of ['pointerdown', 'pointerup', 'click']) move(kind, around(i)); },
     cutting: i => { slider.value = +slider.min + (slider.max - slider.min) * (.5 + .3 * Math.sin(i / 9)); slider.dispatchEvent(new Event('input')); }};
   over.setPointerCapture = () => 0;
   if (NAME === 'turning') move('pointerdown', around(0));

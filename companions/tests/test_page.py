@@ -1,5 +1,6 @@
 """The page in Chromium: real clicks at computed places, real keys, small windows, dark ones, and a browser that loses what it drew."""
 
+import html
 import json
 import math
 import random
@@ -29,8 +30,8 @@ STAND = (2, -3, 2)
 LIFT = math.atan2(2, math.sqrt(13))
 NAMES = ('block_with_hole', 'glued_blocks', 'u_profile', 'block_cut_diagonally', 'blocks_glued', 'cut_along_drawn_edges',
          'face_cut_at_four_places', 'split_block', 'split_through_a_hole', 'two_blocks_one_cut')
-# Only the first pages are drawn by WebGL, which costs a software renderer much; the others are drawn as where there is none.
-WITH_WEBGL = 2
+# How the pages of these models are drawn: the first one by WebGL, which costs a software renderer much, some in perspective.
+DRAWN = ('numbers=none', 'flat&perspective', 'flat', 'flat&perspective', *['flat'] * 6)
 DESK, MIDDLE, SMALL, PHONE = (1280, 800), (800, 600), (620, 470), (360, 640)
 
 
@@ -165,21 +166,20 @@ class Picking(PageCase):
             if clear[kind](spot):
                 tab.click(*spot)
                 found.append((kind, number, tab.value('View.state.copied'), self.text(tab, '#facts')))
-        return tab, found
+        return found
 
     def test_a_click_gives_the_right_number(self):
-        for place, name in enumerate(NAMES):
+        for name, words in zip(NAMES, DRAWN):
             model = stored(name)
-            for words in ['numbers=none', 'numbers=none&perspective'] if place < WITH_WEBGL else ['flat']:
-                with self.subTest(name, words=words):
-                    _, found = self.tried(model, page_of(model), words)
-                    self.assertGreaterEqual(len(found), 8)
-                    self.assertLessEqual({'e', 'v', 'f'}, {kind for kind, *_ in found})
-                    for kind, number, copied, text in found:
-                        self.assertEqual(copied, f'+{number}' if kind == 'e' else str(number))
-                        self.assertIn({'f': 'face of solid', 'e': f'edge {number} of', 'v': 'vertex of solid'}[kind], text)
-                        if kind == 'e':
-                            self.assertRegex(text, rf'\+{number}from vertex .*-{number}from vertex ')
+            with self.subTest(name, words=words):
+                found = self.tried(model, page_of(model), words)
+                self.assertGreaterEqual(len(found), 8)
+                self.assertLessEqual({'e', 'v', 'f'}, {kind for kind, *_ in found})
+                for kind, number, copied, text in found:
+                    self.assertEqual(copied, f'+{number}' if kind == 'e' else str(number))
+                    self.assertIn({'f': 'face of solid', 'e': f'edge {number} of', 'v': 'vertex of solid'}[kind], text)
+                    if kind == 'e':
+                        self.assertRegex(text, rf'\+{number}from vertex .*-{number}from vertex ')
 
     def test_a_pick_says_what_it_is_and_that_it_copied(self):
         tab = self.opened(page_of(stored('block_with_hole')))
@@ -215,7 +215,7 @@ class Picking(PageCase):
         model = stored('block_with_hole')
         tab = self.opened(page_of(model))
         tab.click(700, 500)
-        tab.click_on('#facts > div:last-child > button')
+        tab.click_on('#info-solid')
         self.assertRegex(self.text(tab, '#facts'), rf'^volume {Fraction(six_volume(model, model.faces), 6)}area .*box 0 0 0 to 6 6 6size 6 × 6 × 6counts 16 vertices')
 
     def test_names_and_colours_are_shown(self):
@@ -664,9 +664,24 @@ class Lists(PageCase):
         phone = self.opened(page, PHONE, touch=True)
         self.assertFalse(self.shown(phone, '#steps'))
         phone.tap(*phone.middle('#steps-button'))
-        self.assertTrue(self.shown(phone, '#steps'))
+        self.assertTrue(phone.until('document.getElementById("steps").offsetWidth > 0'))
+        inside = phone.until('(([row, list]) => row.top >= list.top && row.bottom <= list.bottom + 1)'
+                             '(["#steps .now", "#steps"].map(one => document.querySelector(one).getBoundingClientRect()))')
+        self.assertTrue(inside)
         phone.tap(*phone.middle('#steps-button'))
-        self.assertFalse(self.shown(phone, '#steps'))
+        self.assertTrue(phone.until('!document.getElementById("steps").offsetWidth'))
+
+
+class Windows(PageCase):
+    """Windows of other sizes."""
+
+    def test_the_tools_cover_no_panel(self):
+        for size in (DESK, MIDDLE, (1000, 500), SMALL, (640, 360), PHONE):
+            tab = self.opened(page_of(stored('split_block')), size)
+            tab.press('l') if not self.shown(tab, '#list') else None
+            tab.value('View.choose({kind: "f", number: 3})')
+            header, *panels = tab.value('["header", "#list", "#info"].map(one => (b => [b.top, b.bottom])(document.querySelector(one).getBoundingClientRect()))')
+            self.assertTrue(all(top >= header[1] and bottom <= size[1] and bottom - top > 40 for top, bottom in panels), (size, header, panels))
 
 
 class Phones(PageCase):
@@ -688,25 +703,27 @@ class Phones(PageCase):
     def test_every_tool_is_touched(self):
         tab = self.opened(page_of(stored('split_block')), PHONE, touch=True)
         tab.tap(*tab.middle('#tools-button'))
+        tab.until('document.getElementById("tools").offsetWidth')
         sizes = tab.value('[...document.querySelectorAll("#tools button")].map(it => it.getBoundingClientRect()).map(b => [b.height, b.left, b.right])')
         self.assertEqual(len(sizes), 11)
         self.assertTrue(all(high >= 40 and left >= 0 and right <= 360 for high, left, right in sizes), sizes)
         tab.tap(*tab.middle('[data-key=h]'))
-        self.assertTrue(tab.value('View.state.isHidden'))
+        self.assertTrue(tab.until('View.state.isHidden'))
         tab.tap(*tab.middle('[data-key=c]'))
-        self.assertTrue(self.shown(tab, '#cut'))
+        self.assertTrue(tab.until('document.getElementById("cut").offsetWidth > 0'))
         tab.tap(*tab.middle('#tools-button'))
-        self.assertFalse(self.shown(tab, '#tools'))
+        self.assertTrue(tab.until('!document.getElementById("tools").offsetWidth'))
 
     def test_a_tap_picks_and_the_panel_folds(self):
         tab = self.opened(page_of(stored('block_with_hole')), PHONE, touch=True)
         tab.tap(*self.place(tab, (6, 3, 2)))
         self.require_said(tab, 'face 4 picked, copied 4')
-        self.assertLess(tab.value('document.getElementById("info").offsetHeight'), 240)
+        tab.settle()
+        self.assertTrue(100 < tab.value('document.getElementById("info").offsetHeight') < 240)
         tab.tap(*tab.middle('#info-fold'))
-        self.assertLess(tab.value('document.getElementById("info").offsetHeight'), 80)
+        self.assertTrue(tab.until('document.getElementById("info").offsetHeight < 80'))
         tab.tap(*tab.middle('#info-close'))
-        self.assertFalse(self.shown(tab, '#info'))
+        self.assertTrue(tab.until('!document.getElementById("info").offsetWidth'))
 
     def test_two_fingers_zoom(self):
         tab = self.opened(page_of(stored('block_with_hole')), PHONE, touch=True)
@@ -775,6 +792,21 @@ class Keyboard(PageCase):
         tab.value('document.getElementById("search").focus()')
         tab.press('h', 'x', ' ', '1')
         self.assertEqual(tab.value('[document.getElementById("search").value, View.state.isHidden, View.state.isXray]'), ['hx 1', False, False])
+
+
+class Frames(PageCase):
+    """The page within another one, as a notebook shows it."""
+
+    def test_it_works_in_a_frame(self):
+        page = f'<!DOCTYPE html><iframe srcdoc="{html.escape(page_of(stored("block_with_hole")))}" width="580" height="440"></iframe>'
+        tab = self.opened(page, SMALL)
+        inner = 'document.querySelector("iframe").contentDocument'
+        tab.until(f'{inner}.querySelector("[data-key=h]")')
+        left, top = tab.value('(b => [b.left, b.top])(document.querySelector("iframe").getBoundingClientRect())')
+        tab.click(left + 290, top + 300)
+        self.assertTrue(tab.until(f'!{inner}.getElementById("info").hidden'))
+        tab.press('h')
+        self.assertEqual(tab.value(f'{inner}.querySelector("[data-key=h]").ariaPressed'), 'true')
 
 
 class Wishes(PageCase):

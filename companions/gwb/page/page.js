@@ -431,6 +431,7 @@ const View = (() => {
 
   // Fits at once, where nothing was moved by hand; else keeps what is seen in its size to the window.
   function refit() {
+    document.documentElement.style.setProperty('--top', `${document.querySelector('header').offsetHeight + 16}px`);
     const to = fitFrom({turn: view.turn, lift: view.lift}), kept = to.zoom / fitted.zoom;
     fitted.zoom = to.zoom;
     if (fitted.is) Object.assign(view, to); else Object.assign(view, {zoom: view.zoom * kept, right: view.right * kept, down: view.down * kept});
@@ -499,11 +500,11 @@ const View = (() => {
     };
     over.onpointermove = movePointer;
     over.onpointerup = event => {
-      const alone = fingers.size === 1;
       fingers.delete(event.pointerId);
       if (event.pointerType === 'touch') state.pointer = null;
-      if (alone && moved < 5 && event.button === 0) choose(Picture.pick(app.scene, screen, event.clientX, event.clientY));
     };
+    // Not when the finger goes up: the click that follows would fall on the panel that a pick shows.
+    over.onclick = event => { if (moved < 5) choose(Picture.pick(app.scene, screen, event.clientX, event.clientY)); };
     over.onpointercancel = event => fingers.delete(event.pointerId);
     over.onpointerleave = () => { state.pointer = null; ask(); };
     over.oncontextmenu = event => event.preventDefault();
@@ -615,6 +616,7 @@ const View = (() => {
     at('cut').hidden = false;
     cutAlong('xyz'.indexOf(axis));
     if (place) cutAt(+place);
+    refit();
   }
 
   const app = {data, state, view, EDGES, css, colourOf, choose, unpick, turnOff, isolate, go, play, refit, aim, ask, draw, light,

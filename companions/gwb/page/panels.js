@@ -101,6 +101,7 @@ const Panels = (() => {
   function fold(app, name, isShown = at(name).hidden) {
     at(name).hidden = !isShown;
     at(name + '-button').setAttribute('aria-expanded', isShown);
+    if (isShown && name === 'steps') showStep(app);
     app.refit();
   }
 
@@ -131,10 +132,10 @@ const Panels = (() => {
               ...measured(Measure.own(model, {kind, number}))];
     }
     const [solid, loops, plane, isFlat] = model.faces[number];
-    return [[String(number), `face of solid ${solid}${nameOf(app, 's' + solid)}`],
-            ...loops.map(([loop, halves, vertex], i) => [vertex ? '@' + loop : '', `${i ? 'ring' : 'outer loop'} ${loop}: `
-              + (vertex ? `vertex ${vertex}` : halves.map(h => (h > 0 ? '+' : '') + h).join(' '))]),
-            ['', `plane ${plane.join(' ')}${isFlat ? '' : ', bent'}`], ...(isFlat ? measured(Measure.own(model, {kind, number})) : [])];
+    const rows = loops.map(([loop, halves, vertex], i) => [vertex ? '@' + loop : '', `${i ? 'ring' : 'outer loop'} ${loop}: `
+      + (vertex ? `vertex ${vertex}` : halves.map(h => (h > 0 ? '+' : '') + h).join(' '))]);
+    return [[String(number), `face of solid ${solid}${nameOf(app, 's' + solid)}`], ['', `plane ${plane.join(' ')}${isFlat ? '' : ', bent'}`],
+            ...(isFlat ? measured(Measure.own(model, {kind, number})) : []), ...rows];
   }
 
   // Lines about what is measured: one thing, or what lies between two.
@@ -161,7 +162,7 @@ const Panels = (() => {
       row.append(text);
     }
     const solid = things ? null : solidOf(app, picked);
-    if (solid) element('button', `solid ${solid}: volume, box`, element('div', '', at('facts')), {onclick: () => app.choose({kind: 's', number: solid})});
+    Object.assign(at('info-solid'), {hidden: !solid, textContent: `solid ${solid}`, onclick: () => app.choose({kind: 's', number: solid})});
   }
 
   function startInfo(app) {
