@@ -195,8 +195,8 @@ class Tab:
 
     def click(self, x: float, y: float) -> None:
         """Clicks at a place."""
-        for kind, count in (('mouseMoved', 0), ('mousePressed', 1), ('mouseReleased', 1)):
-            self._mouse(kind, x, y, button='left' if count else 'none', clickCount=count)
+        for kind in ('mousePressed', 'mouseReleased'):
+            self._mouse(kind, x, y, button='left', clickCount=1)
 
     def drag(self, places: Sequence[Tuple[float, float]]) -> None:
         """Drags the pointer through places, its left button down."""

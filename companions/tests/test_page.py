@@ -140,9 +140,13 @@ class PageCase(unittest.TestCase):
         """Whether an element takes room on the screen."""
         return tab.value(f'document.querySelector({json.dumps(selector)}).offsetWidth > 0')
 
+    def places(self, tab, points):
+        """Where points of the model lie on the screen."""
+        return [(x, y) for x, y, _ in tab.value(f'{json.dumps([list(map(float, point)) for point in points])}.map(View.place)')]
+
     def place(self, tab, point):
         """Where a point of the model lies on the screen."""
-        return tab.value(f'View.place({list(point)})')[:2]
+        return self.places(tab, [point])[0]
 
 
 class Picking(PageCase):
@@ -151,21 +155,19 @@ class Picking(PageCase):
     def tried(self, model, page, words):
         """The clicks at places where nothing else is near: kind, number, what was copied, and the panel's text."""
         tab = self.opened(page, SMALL, words)
-        tab.value(f'View.view.lift = {LIFT}, View.ask()')
+        tab.value(f'View.view.lift = {LIFT}, document.getElementById("info").style.visibility = "hidden", View.ask()')
         tab.settle()
-        points = [self.place(tab, point) for point in model.vertices.values()]
+        points = self.places(tab, list(model.vertices.values()))
         places = dict(zip(model.vertices, points))
         lines = [[places[end] for end in ends] for ends in model.edges.values()]
         clear = {'f': lambda spot: all(away(*line, spot) > 7 for line in lines),
                  'v': lambda spot: sum(away(point, point, spot) < 16 for point in points) == 1,
                  'e': lambda spot: all(away(point, point, spot) > 14 for point in points) and sum(away(*line, spot) < 12 for line in lines) == 1}
-        found = []
-        for kind, number, point in clicks(model):
-            spot = self.place(tab, point)
-            tab.press('Escape')
+        wanted, found = clicks(model), []
+        for (kind, number, _), spot in zip(wanted, self.places(tab, [point for *_, point in wanted])):
             if clear[kind](spot):
                 tab.click(*spot)
-                found.append((kind, number, tab.value('View.state.copied'), self.text(tab, '#facts')))
+                found.append((kind, number, *tab.value('[View.state.copied, document.getElementById("facts").textContent]')))
         return found
 
     def test_a_click_gives_the_right_number(self):
@@ -281,7 +283,7 @@ class Failing(PageCase):
             tab.settle()
             self.assertGreater(tab.value('View.view.zoom'), 0)
             if size != (80, 80):
-                spots = [self.place(tab, point) for point in stored('block_with_hole').vertices.values()]
+                spots = self.places(tab, stored('block_with_hole').vertices.values())
                 self.assertTrue(all(0 < x < size[0] and 0 < y < size[1] for x, y in spots), (size, spots))
         tab.wheel(640, 400, -600)
         tab.settle()
@@ -696,7 +698,7 @@ class Phones(PageCase):
                 self.assertFalse(self.shown(tab, panel), panel)
             wide = tab.value('[...document.querySelectorAll("button, input, h1")].map(it => it.getBoundingClientRect()).filter(b => b.width).map(b => [b.left, b.right, b.height])')
             self.assertTrue(all(left >= 0 and right <= 360 for left, right, _ in wide), wide)
-            spots = [self.place(tab, point) for point in stored('split_block').vertices.values()]
+            spots = self.places(tab, stored('split_block').vertices.values())
             top, bottom = tab.value('[document.querySelector("header").getBoundingClientRect().bottom, document.querySelector("footer").getBoundingClientRect().top]')
             self.assertTrue(all(0 < x < 360 and top < y < bottom for x, y in spots), spots)
 

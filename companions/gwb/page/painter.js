@@ -70,27 +70,27 @@ void main() { float dark = ink.a < .1 && mod(gl_FragCoord.x + gl_FragCoord.y, ha
 
   // For each edge its corners: two where it is thin, else four, each with both ends and where it stands about them.
   function linesOf({spots, edges: {starts, ends}}, isThin) {
-    const each = isThin ? 6 : 32, numbers = new Float32Array(each * starts.length);
-    for (let i = 0; i < starts.length; i++) {
-      const a = spots.subarray(3 * starts[i], 3 * starts[i] + 3), b = spots.subarray(3 * ends[i], 3 * ends[i] + 3);
-      if (isThin) {
-        numbers.set(a, 6 * i);
-        numbers.set(b, 6 * i + 3);
-      } else CORNERS.forEach((corner, k) => {
-        numbers.set(a, 32 * i + 8 * k);
-        numbers.set(b, 32 * i + 8 * k + 3);
-        numbers.set(corner, 32 * i + 8 * k + 6);
-      });
+    const each = isThin ? 3 : 8, corners = isThin ? 2 : 4, numbers = new Float32Array(each * corners * starts.length);
+    for (let i = 0, to = 0; i < starts.length; i++) for (let corner = 0; corner < corners; corner++, to += each) {
+      const from = 3 * (isThin && corner ? ends[i] : starts[i]);
+      for (let k = 0; k < 3; k++) numbers[to + k] = spots[from + k];
+      if (isThin) continue;
+      for (let k = 0; k < 3; k++) numbers[to + 3 + k] = spots[3 * ends[i] + k];
+      numbers[to + 6] = CORNERS[corner][0];
+      numbers[to + 7] = CORNERS[corner][1];
     }
     return numbers;
   }
 
   // The normals of the faces beside each edge, for each of its corners.
   function sidesOf({edges: {lefts, rights, normals}}, corners) {
-    const sides = new Int16Array(8 * corners * lefts.length);
-    for (let i = 0; i < lefts.length; i++) {
-      [lefts[i], rights[i]].forEach((face, side) => (normals[face] || []).forEach((x, k) => { sides[8 * corners * i + 4 * side + k] = 32767 * x; }));
-      for (let k = 1; k < corners; k++) sides.copyWithin(8 * (corners * i + k), 8 * corners * i, 8 * corners * i + 8);
+    const sides = new Int16Array(8 * corners * lefts.length), none = [0, 0, 0];
+    for (let i = 0, to = 0; i < lefts.length; i++) {
+      const left = normals[lefts[i]] || none, right = normals[rights[i]] || none;
+      for (let corner = 0; corner < corners; corner++, to += 8) for (let k = 0; k < 3; k++) {
+        sides[to + k] = 32767 * left[k];
+        sides[to + 4 + k] = 32767 * right[k];
+      }
     }
     return sides;
   }

@@ -5,16 +5,17 @@ const Section = (() => {
 
   // The cut scene. The plane has a normal of length one and lies so far along it, in the unit ball.
   function cut(scene, plane) {
-    const far = heights(scene.spots, plane), work = {scene, heights: far, gone: Uint8Array.from(far, height => height > TOUCHING), count: far.length,
-                                                     added: [], crossings: new Map(), segments: new Map()};
+    const far = heights(scene.spots, plane), gone = new Uint8Array(far.length);
+    for (let i = 0; i < far.length; i++) gone[i] = far[i] > TOUCHING ? 1 : 0;
+    const work = {scene, heights: far, gone, count: far.length, added: [], crossings: new Map(), segments: new Map()};
     const rows = {corners: [], normals: [], offsets: [], faces: []}, edges = keptEdges(work), kept = cutTriangles(work, rows);
     for (const [solid, segments] of work.segments) putCap(work, rows, edges, solid, segments, plane);
-    return {...scene, gone: work.gone, spots: joined(Float64Array, scene.spots, work.added), triangles: keptTriangles(scene.triangles, kept, rows),
+    return {...scene, gone, spots: joined(scene.spots, work.added), triangles: keptTriangles(scene.triangles, kept, rows),
             edges: Picture.edgesOf(edges, scene.edges.normals)};
   }
 
-  function joined(Kind, first, more) {
-    const made = new Kind(first.length + more.length);
+  function joined(first, more) {
+    const made = new Float64Array(first.length + more.length);
     made.set(first);
     made.set(more, first.length);
     return made;
@@ -22,13 +23,13 @@ const Section = (() => {
 
   // The triangles that are kept whole, and more.
   function keptTriangles({corners, normals, offsets, faces}, kept, rows) {
-    const pick = (numbers, each) => {
-      const made = new numbers.constructor(each * kept.length);
-      kept.forEach((i, at) => { for (let k = 0; k < each; k++) made[each * at + k] = numbers[each * i + k]; });
+    const both = (numbers, more, each) => {
+      const made = new numbers.constructor(each * kept.length + more.length);
+      for (let at = 0; at < kept.length; at++) for (let k = 0; k < each; k++) made[each * at + k] = numbers[each * kept[at] + k];
+      made.set(more, each * kept.length);
       return made;
     };
-    return {corners: joined(Int32Array, pick(corners, 3), rows.corners), normals: joined(Float64Array, pick(normals, 3), rows.normals),
-            offsets: joined(Float64Array, pick(offsets, 1), rows.offsets), faces: joined(Int32Array, pick(faces, 1), rows.faces)};
+    return {corners: both(corners, rows.corners, 3), normals: both(normals, rows.normals, 3), offsets: both(offsets, rows.offsets, 1), faces: both(faces, rows.faces, 1)};
   }
 
   // Cuts the triangles that the plane crosses: the numbers of those that are kept whole.
