@@ -259,13 +259,14 @@ class Failing(PageCase):
     def test_a_lost_context_comes_back(self):
         tab = self.opened(page_of(stored('block_with_hole')), SMALL)
         time.sleep(.5)
-        before = tab.screenshot()
+        before = tab.colours(310, 235, 80, 80)
         tab.value('var lost = document.getElementById("solid").getContext("webgl").getExtension("WEBGL_lose_context"); lost.loseContext()')
         tab.settle()
         tab.press('h', 'h')
         tab.value('new Promise(done => { document.getElementById("solid").addEventListener("webglcontextrestored", () => setTimeout(done, 600)); lost.restoreContext(); })')
         tab.settle()
-        self.assertEqual(list(Image(tab.screenshot()).colours()), list(Image(before).colours()))
+        self.assertGreater(len(set(before)), 2)
+        self.assertEqual(tab.colours(310, 235, 80, 80), before)
 
     def test_without_its_context_it_is_drawn_all_the_same(self):
         tab = self.opened(page_of(stored('block_with_hole')), SMALL)
