@@ -312,11 +312,11 @@ class Failing(PageCase):
     def test_an_address_that_is_not_understood_is_said(self):
         page = page_of(stored('block_with_hole'))
         for words, told in (('step=abc', 'step=abc'), ('step=7', 'step=7'), ('step=', 'step='), ('turn=x&lift=.2', 'turn=x'), ('nonsense', 'nonsense'),
-                            ('section=q', 'section=q'), ('numbers=some', 'numbers=some')):
+                            ('section=q', 'section=q'), ('edges=7', 'edges=7'), ('numbers=some', 'numbers=some')):
             tab = self.opened(page, words=words)
             self.assertIn(f'{told} isn', self.said(tab))
             self.assertEqual(tab.value('Object.keys(View.scene.at.f).length'), 10)
-        self.assertEqual(self.said(self.opened(page, words='turn=.5&lift=-.2&lit=f1&numbers=all&hidden&xray&perspective')), '')
+        self.assertEqual(self.said(self.opened(page, words='turn=.5&lift=-.2&lit=f1&numbers=all&edges=15&hidden&xray&perspective')), '')
 
     def test_dense_facets_are_not_black(self):
         for words in ('', 'flat'):
@@ -375,7 +375,7 @@ class Tools(PageCase):
             self.assertTrue(all(abs(a - b) < 1e-9 for a, b in zip(seen, stand)), (name, seen))
 
     def test_x_ray_shows_what_is_behind(self):
-        tab = self.opened(page_of(row_of_blocks(2)), MIDDLE, words='turn=3.14159&lift=0&edges')
+        tab = self.opened(page_of(row_of_blocks(2)), MIDDLE, words='turn=3.14159&lift=0')
         spot = self.place(tab, (0, 1, 1))
         opaque = tab.colours(*spot)
         tab.press('x')

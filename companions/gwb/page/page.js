@@ -585,7 +585,7 @@ const View = (() => {
 
   // --- the address: words after # in it. What isn't understood is said.
   const ANGLES = ['turn', 'lift'], FLAGS = {hidden: 'isHidden', xray: 'isXray', perspective: 'isPerspective'};
-  const OTHERS = ['numbers', 'lit', 'step', 'flat', 'section', 'edges'];
+  const CHOICES = {numbers: ['near', 'all', 'none'], edges: ['auto', 'all', '5', '15', '30', 'none']}, OTHERS = ['lit', 'step', 'flat', 'section'];
 
   function readAddress() {
     const words = new URLSearchParams(location.hash.slice(1)), wrong = [], last = data.frames.length - 1;
@@ -597,10 +597,12 @@ const View = (() => {
     for (const [name, flag] of Object.entries(FLAGS)) state[flag] = words.has(name);
     view.perspective = state.isPerspective;
     for (const name of ANGLES) view[name] = number(name, Number.isFinite) ?? CORNER[name];
-    state.numbers = Math.max(0, ['near', 'all', 'none'].indexOf(words.get('numbers')));
-    if (words.has('numbers') && !['near', 'all', 'none'].includes(words.get('numbers'))) wrong.push(`numbers=${words.get('numbers')}`);
+    for (const [name, choices] of Object.entries(CHOICES)) {
+      state[name] = Math.max(0, choices.indexOf(words.get(name)));
+      if (words.has(name) && !choices.includes(words.get(name))) wrong.push(`${name}=${words.get(name)}`);
+    }
     const step = number('step', value => Number.isInteger(value) && value >= 0 && value <= last);
-    for (const name of words.keys()) if (![...ANGLES, ...Object.keys(FLAGS), ...OTHERS].includes(name)) wrong.push(name);
+    for (const name of words.keys()) if (![...ANGLES, ...Object.keys(FLAGS), ...Object.keys(CHOICES), ...OTHERS].includes(name)) wrong.push(name);
     refit();
     go(step ?? last);
     light(words.get('lit') || '');
