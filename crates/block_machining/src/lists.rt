@@ -12,7 +12,7 @@ use sweeps::{Point, Session};
 
 /// A block, the same once more, the first taken back, and that done again.
 fn calls(alloc: Global) -> Result<Vec<Call<'static>>, AllocError>
-    ensures { IfOk result.entry (λ calls. calls.items ≡ block_twice) }
+    ensures { IfOk result (λ calls. calls.items ≡ block_twice) }
 {
     let corner = Point { x: 0, y: 0, z: 0 };
     Ok(vec![in alloc;
