@@ -1,10 +1,10 @@
-"""A listing turned round: the script of Euler operators that makes a model, with its very numbers, from nothing.
+"""A listing turned round: the script of Euler operators that makes a model, with its very numbers, from nothing, or that takes it away.
 
-Each solid is taken apart by operators whose inverses the script can say; these, the last one first, are the script. Rings become faces;
+Each solid is taken apart by operators whose inverses the script can say; these, the last one first, make it. Rings become faces;
 edges between two faces go until each connected part has one; then handles go, two edges at a time, and the tree that is left.
 """
 
-from typing import Dict, List, Sequence, Set
+from typing import Dict, List, NamedTuple, Sequence, Set
 
 from .handle_pairs import handle_pairs
 from .joined_sets import JoinedSets
@@ -21,31 +21,50 @@ def script_of(model: Model, beside: Sequence[Model] = ()) -> List[str]:
     It may also be run where the models `beside` are, whose numbers it leaves alone. Raises Unfit where a spare number is needed on
     the way and the kind has none free. Cost: n log n for n edges, and for handles the walks of handle_pairs.
     """
-    free = {kind: FreeNumbers(kind, (number for held in (model, *beside) for number in numbers_of(held)[kind]))
-            for kind in ('face', 'loop', 'edge')}
+    free = spare_numbers((model, *beside))
     return [line for alone in solids_apart(model) for line in solid_script(alone, free)]
+
+
+def taking_away(model: Model, beside: Sequence[Model] = ()) -> List[str]:
+    """The lines of a script which, run where the model is, takes its solids away, and leaves the models `beside` as they are.
+
+    Raises Unfit as script_of does. Cost: as script_of."""
+    free = spare_numbers((model, *beside))
+    return [step.takes for alone in solids_apart(model) for step in _TakenApart(alone, free).steps()]
+
+
+def spare_numbers(held: Sequence[Model]) -> Dict[str, FreeNumbers]:
+    """The numbers that are free in the models, of the kinds that scripts need on the way."""
+    return {kind: FreeNumbers(kind, (number for model in held for number in numbers_of(model)[kind])) for kind in ('face', 'loop', 'edge')}
 
 
 def solid_script(model: Model, free: Dict[str, FreeNumbers]) -> List[str]:
     """The script of a model that has one solid."""
-    return _TakenApart(model, free).script()
+    return [step.makes for step in reversed(_TakenApart(model, free).steps())]
+
+
+class _Step(NamedTuple):
+    """An operator that takes something of a model away, and the one that makes it again."""
+
+    takes: str
+    makes: str
 
 
 class _TakenApart:
-    """A solid as it is taken apart, and the lines that put it together again, the last one first."""
+    """A solid as it is taken apart."""
 
     def __init__(self, model: Model, free: Dict[str, FreeNumbers]) -> None:
         self._model = model
         self._free = free
-        self._lines: List[str] = []
+        self._steps: List[_Step] = []
         self._halves = LinkedHalves(model.loops.values())
         self._loop_of = {half: loop for loop, row in model.loops.items() for half in row.halves}
         self._face_of = {row.outer: face for face, row in model.faces.items()}
         self._loops = JoinedSets()
         self._vertices = JoinedSets()
 
-    def script(self) -> List[str]:
-        """The lines, in the order in which they are run."""
+    def steps(self) -> List[_Step]:
+        """The steps, in the order in which they take the solid away."""
         spare_faces = self._rings_out()
         trees = spanning_trees(self._model, self._model.vertices, list(self._model.edges))
         handles = self._merge_faces({abs(half) for tree in trees for half in tree.halves})
@@ -55,7 +74,10 @@ class _TakenApart:
         self._join_parts([tree.root for tree in trees])
         for face in spare_faces:
             self._free['face'].give_back(face)
-        return self._lines[::-1]
+        return self._steps
+
+    def _step(self, takes: str, makes: str) -> None:
+        self._steps.append(_Step(takes, makes))
 
     def _rings_out(self) -> List[int]:
         """Each ring becomes the outer loop of a face of its own: these faces."""
@@ -64,7 +86,7 @@ class _TakenApart:
             for ring in row.rings:
                 spare.append(self._free['face'].take())
                 self._face_of[ring] = spare[-1]
-                self._lines.append(f'kfmrh {face} {spare[-1]}')
+                self._step(f'mfkrh {ring} {spare[-1]}', f'kfmrh {face} {spare[-1]}')
         return spare
 
     def _loop(self, half: int) -> int:
@@ -84,7 +106,7 @@ class _TakenApart:
     def _kef(self, edge: int) -> None:
         """The edge goes, and the face and the loop on its mate's side."""
         after, gone = self._halves.after, self._loop(-edge)
-        self._lines.append(f'mef {after[-edge]:+d} {after[edge]:+d} {edge} {self._face_of[gone]} {gone}')
+        self._step(f'kef +{edge}', f'mef {after[-edge]:+d} {after[edge]:+d} {edge} {self._face_of[gone]} {gone}')
         self._halves.take(edge)
         self._loops.join(self._loop(edge), gone)
 
@@ -111,10 +133,10 @@ class _TakenApart:
         ring, face = self._free['loop'].take(), self._free['face'].take()
         after = self._halves.after
         for edge, across in handle_pairs(cycle):
-            self._lines.append(f'mekr {after[-edge]:+d} {after[edge]:+d} {edge}')
-            self._lines.append(f'kfmrh {self._face_of[loop]} {face}')
+            self._step(f'kemr +{edge} {ring}', f'mekr {after[-edge]:+d} {after[edge]:+d} {edge}')
+            self._step(f'mfkrh {ring} {face}', f'kfmrh {self._face_of[loop]} {face}')
             self._halves.take(edge)
-            self._lines.append(f'mef {after[-across]:+d} {after[across]:+d} {across} {face} {ring}')
+            self._step(f'kef +{across}', f'mef {after[-across]:+d} {after[across]:+d} {across} {face} {ring}')
             self._halves.take(across)
         self._free['loop'].give_back(ring)
         self._free['face'].give_back(face)
@@ -141,7 +163,7 @@ class _TakenApart:
         corners = f'{first:+d} {second:+d}'
         if abs(first) == edge:
             corners = '@{0} @{0}'.format(self._loop(edge))
-        self._lines.append(f'mev {corners} {edge} {gone} {self._point(gone)}')
+        self._step(f'kev +{edge}', f'mev {corners} {edge} {gone} {self._point(gone)}')
         self._halves.contract(edge)
         self._vertices.join(self._model.tail(edge), gone)
 
@@ -155,9 +177,9 @@ class _TakenApart:
             return self._kev(edge)
         leaf = self._vertices.name(self._model.tail(edge))
         spare, face, loop = (self._free[kind].take() for kind in ('edge', 'face', 'loop'))
-        self._lines.append(f'kef +{spare}')
-        self._lines.append(f'mef -{spare} {corner:+d} {edge} {face} {loop}')
-        self._lines.append(f'mev {corner:+d} {corner:+d} {spare} {leaf} {self._point(leaf)}')
+        self._step(f'mef -{edge} +{edge} {spare} {face} {loop}', f'kef +{spare}')
+        self._step(f'kef +{edge}', f'mef -{spare} {corner:+d} {edge} {face} {loop}')
+        self._step(f'kev +{spare}', f'mev {corner:+d} {corner:+d} {spare} {leaf} {self._point(leaf)}')
         self._halves.take(edge)
         for kind, number in zip(('edge', 'face', 'loop'), (spare, face, loop)):
             self._free[kind].give_back(number)
@@ -171,8 +193,9 @@ class _TakenApart:
         (first, vertex), *others = ends
         for loop, grown in others:
             spare = self._free['edge'].take()
-            self._lines.append(f'mfkrh {loop} {self._face_of[loop]}')
-            self._lines.append(f'kemr +{spare} {loop}')
-            self._lines.append(f'mev @{first} @{first} {spare} {grown} {self._point(grown)}')
+            self._step(f'kfmrh {self._face_of[first]} {self._face_of[loop]}', f'mfkrh {loop} {self._face_of[loop]}')
+            self._step(f'mekr @{first} @{loop} {spare}', f'kemr +{spare} {loop}')
+            self._step(f'kev +{spare}', f'mev @{first} @{first} {spare} {grown} {self._point(grown)}')
             self._free['edge'].give_back(spare)
-        self._lines.append(f'mvfs {self._model.solids[0]} {self._face_of[first]} {first} {vertex} {self._point(vertex)}')
+        solid = self._model.solids[0]
+        self._step(f'kvfs {solid}', f'mvfs {solid} {self._face_of[first]} {first} {vertex} {self._point(vertex)}')

@@ -5,12 +5,14 @@ import re
 import sys
 from typing import Any, Callable, Dict, List, Optional, Sequence
 
-from .command_line import OK, listing_parser, read_bytes, run, wanted_model
+from .command_line import OK, listing_parser, read_bytes, run
+from .errors import CompanionError
 from .inside_out import warn_of_inside_out
 from .inversion import script_of
+from .joined_models import without
 from .listing import read_model
 from .model import Model
-from .moved import Change, changed, moving, scaling, turning
+from .moved import Change, changed, mirroring, moving, scaling, turning
 from .free_numbers import renumbered_after
 from .short_script import short_script_of
 
@@ -22,7 +24,8 @@ class _Change(argparse.Action):
 
     def __call__(self, parser: argparse.ArgumentParser, namespace: argparse.Namespace, values: Any,
                  option: Optional[str] = None) -> None:
-        makers: Dict[str, Callable[[Any], Change]] = {'--move': self._move, '--turn': self._turn, '--scale': self._scale}
+        makers: Dict[str, Callable[[Any], Change]] = {'--move': self._move, '--turn': self._turn, '--mirror': self._mirror,
+                                                      '--scale': self._scale}
         make = makers[option or '']
         try:
             namespace.changes = [*(namespace.changes or ()), make(values)]
@@ -41,6 +44,13 @@ class _Change(argparse.Action):
         return turning(axis, *map(int, times))
 
     @staticmethod
+    def _mirror(words: List[int]) -> Change:
+        a, b, c, d = words
+        if (a, b, c) == (0, 0, 0):
+            raise ValueError('A, B and C are all zero')
+        return mirroring((a, b, c, d))
+
+    @staticmethod
     def _scale(factor: int) -> Change:
         if factor < 1:
             raise ValueError(f'{factor} is below 1')
@@ -54,8 +64,13 @@ def _parser() -> argparse.ArgumentParser:
                         help='move it by a vector')
     parser.add_argument('--turn', metavar='AXIS [TIMES]', action=_Change, dest='changes',
                         help='turn it by a quarter, or TIMES quarters, about the axis x, y or z through the origin')
+    parser.add_argument('--mirror', nargs=4, type=int, metavar=('A', 'B', 'C', 'D'), action=_Change, dest='changes',
+                        help='mirror it in the plane A x + B y + C z + D = 0')
     parser.add_argument('--scale', type=int, metavar='K', action=_Change, dest='changes', help='multiply its coordinates')
-    parser.add_argument('--after', metavar='LISTING', help='renumber it, so that the script can be run where this model is')
+    parser.add_argument('--without', type=int, metavar='S', action='append', default=[], help='leave solid S out; may be given again')
+    beside = parser.add_mutually_exclusive_group()
+    beside.add_argument('--after', metavar='LISTING', help='renumber it, so that the script can be run where this model is')
+    beside.add_argument('--copy', action='store_true', help='renumber it, so that the script can be run where the model that was read is')
     parser.add_argument('--short', action='store_true', help='use lamina, block and sweep where they make exactly a solid')
     return parser
 
@@ -71,10 +86,19 @@ def _with_times(words: Sequence[str]) -> List[str]:
     return joined
 
 
-def _script(model: Model, options: argparse.Namespace) -> List[str]:
+def _chosen(held: Model, options: argparse.Namespace) -> Model:
+    """The solids that are wanted of those that were read."""
+    for solid in (*options.without, *([] if options.solid is None else [options.solid])):
+        if solid not in held.solids:
+            raise CompanionError(f'there is no solid {solid} in the listing')
+    model = held if options.solid is None else held.only(options.solid)
+    return without(model, options.without) if options.without else model
+
+
+def _script(held: Model, model: Model, options: argparse.Namespace) -> List[str]:
     for change in options.changes or ():
         model = changed(model, change)
-    beside = [] if options.after is None else [read_model(read_bytes(options.after))]
+    beside = [held] if options.copy else [] if options.after is None else [read_model(read_bytes(options.after))]
     for other in beside:
         model = renumbered_after(model, other)
     return (short_script_of if options.short else script_of)(model, beside)
@@ -83,8 +107,9 @@ def _script(model: Model, options: argparse.Namespace) -> List[str]:
 def work(words: Optional[Sequence[str]]) -> int:
     """Reads a listing and writes its script."""
     options = _parser().parse_args(_with_times(sys.argv[1:] if words is None else words))
-    model = wanted_model(options)
-    lines = _script(model, options)
+    held = read_model(read_bytes(options.listing))
+    model = _chosen(held, options)
+    lines = _script(held, model, options)
     warn_of_inside_out(PROGRAM, model)
     for line in lines:
         print(line)

@@ -1,4 +1,4 @@
-"""Scripts made from listings: run on the empty workbench they list the same, byte for byte."""
+"""Scripts made from listings: run on the empty workbench they list the same, byte for byte, and taken back leave nothing."""
 
 import random
 import subprocess
@@ -10,7 +10,7 @@ from support import REPOSITORY, box, lamina, listing, model_in, plate, program, 
 
 from gwb.errors import Unfit
 from gwb.handle_pairs import handle_pairs
-from gwb.inversion import script_of
+from gwb.inversion import script_of, taking_away
 from gwb.listing import model_of
 from gwb.free_numbers import FreeNumbers
 from gwb.replies import split_replies
@@ -58,8 +58,8 @@ class Scripts(unittest.TestCase):
     """Whole models."""
 
     def same(self, text, make=script_of):
-        lines = make(model_in(text))
-        self.assertEqual(replies_to([*lines, 'list']), 'ok\n' * len(lines) + text)
+        lines, back = make(model_in(text)), taking_away(model_in(text))
+        self.assertEqual(replies_to([*lines, 'list', *back, 'list']), 'ok\n' * len(lines) + text + 'ok\n' * len(back) + 'empty\n')
         return lines
 
     def test_every_listing_that_is_stored(self):
@@ -171,6 +171,26 @@ class Options(unittest.TestCase):
         self.assertEqual(self.points('--turn', 'y', '-3'), self.points('--turn', 'y', '1'))
         self.assertEqual(self.points('--scale', '3', '--move', '1', '0', '0')[0], (4, 6, 9))
 
+    def test_mirrored(self):
+        self.assertEqual(self.points('--mirror', '1', '0', '0', '0'), [(-1, 2, 3), (-5, 2, 3), (-5, 9, 3)])
+        self.assertEqual(self.points('--mirror', '0', '2', '0', '-1'), [(1, -1, 3), (5, -1, 3), (5, -8, 3)])
+        self.assertEqual(self.points('--mirror', '1', '-1', '0', '2'), [(0, 3, 3), (0, 7, 3), (7, 7, 3)])
+        path = self.file(listing(*box((0, 0, 0), (2, 3, 4))))
+        lines = run('script', '--mirror', '0', '3', '-3', '-6', path).out.splitlines()
+        self.assertEqual(replies_to([*lines, 'volume 1', 'count 1']), 'ok\n' * len(lines) + 'volume 144\ncount 8 12 6 0 2\n')
+
+    def test_a_solid_left_out(self):
+        points, faces = box((0, 0, 0), (1, 1, 1))
+        more, others = box((5, 0, 0), (6, 1, 1), 9)
+        path = self.file(listing(points + more, faces, others))
+        self.assertEqual(run('script', '--without', '1', path), run('script', '--solid', '2', path))
+        self.assertEqual(run('script', '--without', '1', '--without', '2', path), ('', '', 0))
+
+    def test_a_copy_beside(self):
+        path = self.file(listing_in(replies_to(['block 1 0 0 0 4 4 4', 'list'])))
+        self.assertEqual(run('script', '--short', '--copy', '--move', '9', '0', '0', path).out, 'block 2 9 0 0 4 4 4\n')
+        self.assertEqual(run('script', '--copy', '--turn', 'z', path), run('script', '--after', path, '--turn', 'z', path))
+
     def test_one_solid(self):
         points, faces = box((0, 0, 0), (1, 1, 1))
         more, others = box((5, 0, 0), (6, 1, 1), 9)
@@ -206,6 +226,10 @@ class Options(unittest.TestCase):
         self.refuse(3, 'past 1,000,000,000', '--move', '999999999', '0', '0', path)
         self.refuse(3, 'past 1,000,000,000', '--scale', '300000000', path)
         self.refuse(3, 'no solid 5', '--solid', '5', path)
+        self.refuse(3, 'no solid 5', '--without', '5', path)
+        self.refuse(3, 'between whole coordinates', '--mirror', '2', '0', '0', '1', '--mirror', '3', '0', '0', '1', path)
+        self.refuse(2, 'all zero', '--mirror', '0', '0', '0', '1', path)
+        self.refuse(2, 'not allowed', '--copy', '--after', path, path)
         self.refuse(3, 'No such file', '--after', path + '.none', path)
         self.refuse(2, '--scale', '--scale', '0', path)
         self.refuse(2, '--move', '--move', '1', 'a', '0', path)
