@@ -51,7 +51,11 @@ class FreeNumbers:
 def renumbered_after(model: Model, other: Model) -> Model:
     """The model with numbers that are free in the other one, in the same order wherever they lie above its greatest."""
     used = numbers_of(other)
-    new = {kind: _renumbering(kind, numbers, used[kind]) for kind, numbers in numbers_of(model).items()}
+    return renumbered(model, {kind: renumbering(FreeNumbers(kind, used[kind]), numbers) for kind, numbers in numbers_of(model).items()})
+
+
+def renumbered(model: Model, new: Mapping[str, Mapping[int, int]]) -> Model:
+    """The model with new numbers, said for each kind and number."""
     solid, face, loop, edge, vertex = (new[kind] for kind in KINDS)
     return sorted_model(
         solids=[solid[number] for number in model.solids],
@@ -62,12 +66,12 @@ def renumbered_after(model: Model, other: Model) -> Model:
         vertices={vertex[number]: point for number, point in model.vertices.items()})
 
 
-def _renumbering(kind: str, numbers: Collection[int], used: Collection[int]) -> Dict[int, int]:
-    free = FreeNumbers(kind, used)
+def renumbering(free: FreeNumbers, numbers: Collection[int]) -> Dict[int, int]:
+    """A free number for each of these, in their order."""
     return {number: free.take() for number in sorted(numbers)}
 
 
-def _renumbered_loop(loop: Loop, edge: Dict[int, int], vertex: Dict[int, int]) -> Loop:
+def _renumbered_loop(loop: Loop, edge: Mapping[int, int], vertex: Mapping[int, int]) -> Loop:
     if loop.vertex is not None:
         return Loop((), vertex[loop.vertex])
     return Loop(from_least(edge[half] if half > 0 else -edge[-half] for half in loop.halves))

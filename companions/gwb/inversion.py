@@ -30,7 +30,7 @@ def taking_away(model: Model, beside: Sequence[Model] = ()) -> List[str]:
 
     Raises Unfit as script_of does. Cost: as script_of."""
     free = spare_numbers((model, *beside))
-    return [step.takes for alone in solids_apart(model) for step in _TakenApart(alone, free).steps()]
+    return [step.takes for alone in solids_apart(model) for step in steps_apart(alone, free)]
 
 
 def spare_numbers(held: Sequence[Model]) -> Dict[str, FreeNumbers]:
@@ -40,14 +40,19 @@ def spare_numbers(held: Sequence[Model]) -> Dict[str, FreeNumbers]:
 
 def solid_script(model: Model, free: Dict[str, FreeNumbers]) -> List[str]:
     """The script of a model that has one solid."""
-    return [step.makes for step in reversed(_TakenApart(model, free).steps())]
+    return [step.makes for step in reversed(steps_apart(model, free))]
 
 
-class _Step(NamedTuple):
+class Step(NamedTuple):
     """An operator that takes something of a model away, and the one that makes it again."""
 
     takes: str
     makes: str
+
+
+def steps_apart(model: Model, free: Dict[str, FreeNumbers]) -> List[Step]:
+    """The steps that take a model of one solid away, in their order. Raises Unfit where a spare number is needed and none is free."""
+    return _TakenApart(model, free).steps()
 
 
 class _TakenApart:
@@ -56,14 +61,14 @@ class _TakenApart:
     def __init__(self, model: Model, free: Dict[str, FreeNumbers]) -> None:
         self._model = model
         self._free = free
-        self._steps: List[_Step] = []
+        self._steps: List[Step] = []
         self._halves = LinkedHalves(model.loops.values())
         self._loop_of = {half: loop for loop, row in model.loops.items() for half in row.halves}
         self._face_of = {row.outer: face for face, row in model.faces.items()}
         self._loops = JoinedSets()
         self._vertices = JoinedSets()
 
-    def steps(self) -> List[_Step]:
+    def steps(self) -> List[Step]:
         """The steps, in the order in which they take the solid away."""
         spare_faces = self._rings_out()
         trees = spanning_trees(self._model, self._model.vertices, list(self._model.edges))
@@ -77,7 +82,7 @@ class _TakenApart:
         return self._steps
 
     def _step(self, takes: str, makes: str) -> None:
-        self._steps.append(_Step(takes, makes))
+        self._steps.append(Step(takes, makes))
 
     def _rings_out(self) -> List[int]:
         """Each ring becomes the outer loop of a face of its own: these faces."""

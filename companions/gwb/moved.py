@@ -1,8 +1,10 @@
 """A model in another place: moved, turned by quarters about an axis, mirrored, or made larger."""
 
-from typing import Callable, Dict, NamedTuple, Tuple
+from fractions import Fraction
+from typing import Callable, NamedTuple, Tuple
 
 from .errors import Unfit
+from .flat_face import ExactVector
 from .free_numbers import from_least
 from .model import Loop, Model
 from .vectors import Vector, ZERO, add, dot, subtract
@@ -12,10 +14,18 @@ FARTHEST = 1_000_000_000
 PlaneNumbers = Tuple[int, int, int, int]
 
 
+class Displaced(Unfit):
+    """A vertex would come where none can lie: off the whole coordinates, or out of their range. `name` says which."""
+
+    def __init__(self, name: str, vertex: int, message: str) -> None:
+        super().__init__(message)
+        self.name, self.vertex = name, vertex
+
+
 class Change(NamedTuple):
     """A change of place: where a point comes to, and whether left and right change sides."""
 
-    place: Callable[[Vector], Vector]
+    place: Callable[[Vector], ExactVector]
     mirrors: bool = False
 
 
@@ -42,28 +52,32 @@ def turning(axis: str, times: int = 1, about: Vector = ZERO) -> Change:
 
 
 def mirroring(plane: PlaneNumbers) -> Change:
-    """Mirrors points in the plane a x + b y + c z + d = 0, where a, b and c are not all zero. Unfit is raised where a point would come
-    between whole coordinates. In planes across an axis or a diagonal of two axes none does where d fits them."""
+    """Mirrors points in the plane a x + b y + c z + d = 0, where a, b and c are not all zero."""
     across = plane[:3]
     square = dot(across, across)
 
-    def mirrored(point: Vector) -> Vector:
-        height = 2 * (dot(across, point) + plane[3])
-        if any(height * part % square for part in across):
-            raise Unfit('{} {} {} would be mirrored to a point between whole coordinates'.format(*point))
-        x, y, z = (along - height * part // square for along, part in zip(point, across))
+    def mirrored(point: Vector) -> ExactVector:
+        way = Fraction(2 * (dot(across, point) + plane[3]), square)
+        x, y, z = (along - way * part for along, part in zip(point, across))
         return (x, y, z)
     return Change(mirrored, mirrors=True)
 
 
 def changed(model: Model, change: Change) -> Model:
-    """The model with its points changed; mirrored, its loops run the other way, so that what was outside is. Raises Unfit where a
-    coordinate leaves the range."""
-    vertices: Dict[int, Vector] = {vertex: change.place(point) for vertex, point in model.vertices.items()}
-    for vertex, point in vertices.items():
-        require_in_range(vertex, point)
+    """The model with its points changed; mirrored, its loops run the other way, so that what was outside is.
+
+    Raises Displaced, `OffLattice` or `PointRange`, where a point wouldn't be whole or would leave the range."""
+    vertices = {vertex: _placed(vertex, change.place(point)) for vertex, point in model.vertices.items()}
     loops = {number: _turned(loop) for number, loop in model.loops.items()} if change.mirrors else model.loops
     return Model(model.solids, model.faces, loops, model.edges, vertices)
+
+
+def _placed(vertex: int, point: ExactVector) -> Vector:
+    if any(part.denominator != 1 for part in point):
+        raise Displaced('OffLattice', vertex, 'vertex {} would lie at {} {} {}, between whole coordinates'.format(vertex, *point))
+    place = (int(point[0]), int(point[1]), int(point[2]))
+    require_in_range(vertex, place)
+    return place
 
 
 def _turned(loop: Loop) -> Loop:
@@ -71,6 +85,6 @@ def _turned(loop: Loop) -> Loop:
 
 
 def require_in_range(vertex: int, point: Vector) -> None:
-    """Raises Unfit where a coordinate is out of range."""
+    """Raises Displaced where a coordinate is out of range."""
     if max(abs(part) for part in point) > FARTHEST:
-        raise Unfit('vertex {} would lie at {} {} {}, past 1,000,000,000'.format(vertex, *point))
+        raise Displaced('PointRange', vertex, 'vertex {} would lie at {} {} {}, past 1,000,000,000'.format(vertex, *point))

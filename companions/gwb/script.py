@@ -41,7 +41,7 @@ class _Change(argparse.Action):
         axis, *times = words.split()
         if axis not in ('x', 'y', 'z') or len(times) > 1:
             raise ValueError('one of x, y and z is needed, and then how many times, if more than once')
-        return turning(axis, *map(int, times))
+        return turning(axis, int(times[0]) if times else 1)
 
     @staticmethod
     def _mirror(words: List[int]) -> Change:

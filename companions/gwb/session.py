@@ -21,20 +21,20 @@ from . import arguments
 from .calls import call_in
 from .complaints import Complaint, complaint
 from .errors import CompanionError, InDraft
-from .features import Features
 from .inversion import script_of
 from .language import is_answered
 from .listing import read_model
 from .page import page_of
 from .replies import Reply, is_listed
 from .saved_steps import mark_in, marked_lines
+from .whole_solids import WholeSolids
 
 # The endings and the first words of files that gwb-import reads.
 _IMPORTED = ('.obj', '.off', '.stl', '.3mf', '.step', '.stp')
 _FIRST_WORDS = ('v', 'vn', 'vt', 'f', 'o', 'g', 'mtllib', 'OFF', 'solid', 'ISO-10303-21;')
 
 
-class Workbench(Features):
+class Workbench(WholeSolids):
     """A running gwb. Each command is a method; one that isn't accepted raises Refused, Faulted or MemoryRefused."""
 
     def __enter__(self) -> 'Workbench':
