@@ -27,14 +27,14 @@ from .listing import read_model
 from .page import page_of
 from .replies import Reply, is_listed
 from .saved_steps import mark_in, marked_lines
-from .whole_solids import WholeSolids
+from .solid_methods import SolidMethods
 
 # The endings and the first words of files that gwb-import reads.
 _IMPORTED = ('.obj', '.off', '.stl', '.3mf', '.step', '.stp')
 _FIRST_WORDS = ('v', 'vn', 'vt', 'f', 'o', 'g', 'mtllib', 'OFF', 'solid', 'ISO-10303-21;')
 
 
-class Workbench(WholeSolids):
+class Workbench(SolidMethods):
     """A running gwb. Each command is a method; one that isn't accepted raises Refused, Faulted or MemoryRefused."""
 
     def __enter__(self) -> 'Workbench':

@@ -1,0 +1,220 @@
+"""Solids cut by planes where `split` takes more than one command, and solids that touch made one.
+
+A cut that split refuses for the corners that the plane touches, or for how it runs through faces and holes, is made of the same parts: each
+face is cut by the plane, and caps close both sides; then the solid is taken apart and the two are made, by operators.
+"""
+
+from enum import Enum
+from fractions import Fraction
+from typing import Dict, Iterator, List, NamedTuple, Optional, Sequence, Tuple
+
+from . import arguments
+from .assembly import Names, Take, assembled
+from .combining import combined, new_findings, sheets_of
+from .complaints import Refused
+from .flat_face import FlatFace
+from .joined_models import joined
+from .measures import why_unfit
+from .model import Model
+from .outlines import Impossible
+from .plane_figures import Place
+from .selection import Selecting
+from .sheets import Sheet, overlaid
+from .solids import Numbers, delete, give, solid_model
+from .traced_cycles import Side, traced
+from .vectors import Vector, cross, dot, negative
+
+Plane = Tuple[int, int, int, int]
+
+# The refusals of split that another way of cutting copes with: TouchedFace, CutOften, CutCrossed, BranchedVertex, SectionHoles.
+_COPED_WITH = range(38, 43)
+
+
+class Keep(Enum):
+    """What is kept of a solid that is cut."""
+
+    BOTH = 'both'
+    BELOW = 'below'
+    ABOVE = 'above'
+
+
+class Cut(NamedTuple):
+    """What a cut leaves: the solids below and above the plane, None for one that was thrown away, and the faces that close them."""
+
+    below: Optional[int]
+    above: Optional[int]
+    lower_caps: Tuple[int, ...]
+    upper_caps: Tuple[int, ...]
+
+
+class Halves(NamedTuple):
+    """The models of a solid's parts below and above a plane, and the faces that close them."""
+
+    lower: Model
+    upper: Model
+    lower_caps: Tuple[int, ...]
+    upper_caps: Tuple[int, ...]
+
+
+def cut(bench: Selecting, solid: int, plane: Plane, above: Optional[int]) -> Cut:
+    """Cuts a solid in two, as one step."""
+    number = bench._new('solid', above, 'above')
+    if bench._journal.draft is None:
+        try:
+            made = bench.split(solid, plane, above=number)
+            return Cut(solid, number, made.lower_caps, made.upper_caps)
+        except Refused as refused:
+            if refused.number not in _COPED_WITH:
+                raise
+    model, numbers = solid_model(bench, solid), Numbers(bench)
+    halves = cut_model(model, plane, number, numbers.take)
+    give(bench, [*numbers.taking_away(model), *numbers.making(joined([halves.lower, halves.upper]))])
+    return Cut(solid, number, halves.lower_caps, halves.upper_caps)
+
+
+def trimmed(bench: Selecting, solid: int, plane: Plane) -> Tuple[int, ...]:
+    """What lies above the plane is cut off and thrown away, as one step: the caps of what is left, which keeps its number."""
+    with bench._step():
+        made = cut(bench, solid, plane, None)
+        assert made.above is not None, 'the cut keeps both parts'
+        delete(bench, made.above)
+    return made.lower_caps
+
+
+def kept(value: object) -> Keep:
+    """What is to be kept: 'both', 'below' or 'above'."""
+    words = [word.value for word in Keep]
+    if value not in words:
+        raise ValueError(f'keep: one of {", ".join(map(repr, words))} is wanted, not {value!r}')
+    return Keep(value)
+
+
+def opposite(plane: Plane) -> Plane:
+    """The same plane, looked at from its other side."""
+    return (*negative(plane[:3]), -plane[3])
+
+
+def cut_model(model: Model, plane: Plane, above: int, take: Take) -> Halves:
+    """The two parts of a model of one solid. `take` gives a new number of a kind.
+
+    Refused: NotFlat: a face isn't flat; PlaneMisses: nothing lies above the plane, or below it; NotLattice: an edge is cut between whole
+    coordinates; Meets: faces would lie on each other at an edge."""
+    for face in model.faces:
+        why = why_unfit(model, face)
+        if why is not None:
+            raise Impossible('NotFlat', face, why)
+    heights = [dot(plane[:3], point) + plane[3] for point in model.vertices.values()]
+    solid = model.solids[0]
+    if max(heights) <= 0 or min(heights) >= 0:
+        raise Impossible('PlaneMisses', solid, f'solid {solid} has nothing {"above" if max(heights) <= 0 else "below"} the plane')
+    names = Names(model, take)
+    lower, lower_caps = _part(model, plane, solid, names)
+    upper, upper_caps = _part(model, opposite(plane), above, names)
+    return Halves(lower, upper, lower_caps, upper_caps)
+
+
+def _part(model: Model, plane: Plane, solid: int, names: Names) -> Tuple[Model, Tuple[int, ...]]:
+    """The part of a model below the plane, closed by caps: these."""
+    left = [part for sheet in sheets_of(model) for part in _below(model, sheet, plane)]
+    caps = [Sheet(0, plane[:3], cycles, place) for place, cycles in enumerate(traced(_open_sides(left, plane), plane[:3]))]
+    regions = list(overlaid(left, caps))
+    made = assembled(solid, regions, names)
+    return made.model, tuple(sorted(face for face, region in zip(made.faces, regions) if region.marks))
+
+
+def _open_sides(sheets: Sequence[Sheet], plane: Plane) -> List[Side]:
+    """The sides in the plane that have no other beside them, turned round."""
+    times: Dict[Tuple[Vector, Vector], int] = {}
+    for side in (side for sheet in sheets for side in sheet.sides):
+        if _height(plane, side.start) == 0 == _height(plane, side.end):
+            times[side.start, side.end] = times.get((side.start, side.end), 0) + 1
+    return [Side(end, start) for (start, end), count in times.items() for _ in range(count - times.get((end, start), 0))]
+
+
+def _height(plane: Plane, point: Vector) -> int:
+    return dot(plane[:3], point) + plane[3]
+
+
+def _below(model: Model, sheet: Sheet, plane: Plane) -> Iterator[Sheet]:
+    """What is left of a face below the plane. A face in the plane is left where it looks upwards."""
+    heights = {_height(plane, side.start) for side in sheet.sides}
+    if min(heights) < 0 < max(heights):
+        sides = [*_sides_below(sheet, plane), *_cuts(model, sheet, plane)]
+        yield from (Sheet(sheet.owner, sheet.across, cycles) for cycles in traced(sides, sheet.across))
+    elif min(heights) < 0 or (heights == {0} and dot(sheet.across, plane[:3]) > 0):
+        yield sheet
+
+
+def _sides_below(sheet: Sheet, plane: Plane) -> Iterator[Side]:
+    """The parts of a face's sides below the plane; those in it where the face beside them lies below."""
+    for side in sheet.sides:
+        start, end = _height(plane, side.start), _height(plane, side.end)
+        if start < 0 < end:
+            yield side._replace(end=_crossing(side, plane))
+        elif end < 0 < start:
+            yield side._replace(start=_crossing(side, plane))
+        elif min(start, end) < 0:
+            yield side
+        elif start == 0 == end and dot(plane[:3], cross(sheet.across, _way(side))) < 0:
+            yield side
+
+
+def _way(side: Side) -> Vector:
+    (x, y, z), (u, v, w) = side.start, side.end
+    return (u - x, v - y, w - z)
+
+
+def _crossing(side: Side, plane: Plane) -> Vector:
+    """Where a side goes through the plane."""
+    start, end = _height(plane, side.start), _height(plane, side.end)
+    point = [here + Fraction(start * part, start - end) for here, part in zip(side.start, _way(side))]
+    if any(part.denominator != 1 for part in point):
+        raise Impossible('NotLattice', abs(side.half), 'the plane cuts edge {} at {} {} {}, between whole coordinates'.format(abs(side.half), *point))
+    return (int(point[0]), int(point[1]), int(point[2]))
+
+
+def _cuts(model: Model, sheet: Sheet, plane: Plane) -> Iterator[Side]:
+    """The sides along which the plane cuts a face, as those of the part below it."""
+    along, shape = cross(sheet.across, plane[:3]), FlatFace(model, sheet.owner)
+    points = {side.start for side in sheet.sides if _height(plane, side.start) == 0}
+    points |= {_crossing(side, plane) for side in sheet.sides if _height(plane, side.start) * _height(plane, side.end) < 0}
+    ordered = sorted(points, key=lambda point: dot(along, point))
+    for start, end in zip(ordered, ordered[1:]):
+        x, y, z = (Fraction(one + other, 2) for one, other in zip(start, end))
+        if shape.locate((x, y, z)) is Place.INSIDE:
+            yield Side(start, end)
+
+
+def united(bench: Selecting, solids: Sequence[int]) -> int:
+    """Makes one solid of several that touch, as one command: the number of the first one.
+
+    Refused: NoSolid; NoContact: a solid touches the others in no face; Overlap: two have room in common; Meets: the union would touch
+    itself; NotFlat, OffLattice."""
+    numbers = Numbers(bench)
+    models = [solid_model(bench, solid) for solid in solids]
+    whole, left = models[0], models[1:]
+    while left:
+        place, whole = _with_one(whole, left, numbers)
+        del left[place]
+    if new_findings(whole, models):
+        raise Impossible('Overlap', solids[0], 'the solids overlap, or their union would touch itself')
+    give(bench, [*(line for model in models for line in numbers.taking_away(model)), *numbers.making(whole)])
+    return solids[0]
+
+
+def _with_one(whole: Model, left: Sequence[Model], numbers: Numbers) -> Tuple[int, Model]:
+    """The first of the solids left that touches the whole in a face, by its place, and the union with it."""
+    solid = whole.solids[0]
+    for place, other in enumerate(left):
+        made = combined(solid, joined([whole, other]), sheets_of(whole), sheets_of(other), numbers.take).model
+        if len(made.shells(solid)) < len(whole.shells(solid)) + len(other.shells(other.solids[0])):
+            return place, made
+    raise Impossible('NoContact', left[0].solids[0], f'solid {left[0].solids[0]} touches the others in no face')
+
+
+def solid_numbers(value: object) -> List[int]:
+    """At least two different numbers of solids."""
+    found = arguments.numbers('solids', value)
+    if len(found) < 2 or len(set(found)) < len(found):
+        raise ValueError('solids: different numbers are wanted, at least two')
+    return found

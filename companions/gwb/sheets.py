@@ -1,0 +1,250 @@
+"""Flat regions in one plane, added with the ways that they look: what looks against each other where it overlaps goes, and what looks one way
+beside each other becomes one.
+
+So the faces of two solids that touch become those of their union, and the faces of a solid with those of a part of it turned round become
+those of what is left.
+"""
+
+from fractions import Fraction
+from typing import Dict, Iterable, Iterator, List, NamedTuple, Optional, Sequence, Set, Tuple
+
+from .joined_sets import JoinedSets
+from .outlines import Impossible
+from .plane_figures import Exact, Flat, Place, crossing, inside_segment, locate, turn
+from .traced_cycles import Cycle, Side, traced
+from .vectors import Vector, dot, flat_axes, negative, reduced
+
+Ends = Tuple[Vector, Vector]
+
+
+class Level(NamedTuple):
+    """A plane, whichever way it is looked at: its reduced normal, the first part of which that isn't zero is positive, and its height."""
+
+    across: Vector
+    height: int
+
+
+class Sheet(NamedTuple):
+    """A flat region: the face that it is, 0 for none yet; its normal; its cycles, the outline first; where it is added to those that are
+    held, its place among the added ones."""
+
+    owner: int
+    across: Vector
+    cycles: Sequence[Cycle]
+    mark: Optional[int] = None
+
+    @property
+    def level(self) -> Level:
+        """The plane in which it lies."""
+        normal = reduced(self.across)
+        across = max(normal, negative(normal))
+        return Level(across, dot(across, self.cycles[0][0].start))
+
+    @property
+    def facing(self) -> int:
+        """1 where it looks the way of its plane's normal, else -1."""
+        return 1 if reduced(self.across) > (0, 0, 0) else -1
+
+    @property
+    def is_added(self) -> bool:
+        """Whether it is added to those that are held."""
+        return self.mark is not None
+
+    @property
+    def sides(self) -> Iterator[Side]:
+        """The sides of all its cycles."""
+        return (side for cycle in self.cycles for side in cycle)
+
+    def lies_in(self, level: Level) -> bool:
+        """Whether all its corners lie in a plane."""
+        return all(dot(level.across, side.start) == level.height for side in self.sides)
+
+
+class Region(NamedTuple):
+    """A flat region that sheets came to: the faces that they were, the places of the added ones among them, its normal and its cycles."""
+
+    owners: Tuple[int, ...]
+    marks: Tuple[int, ...]
+    across: Vector
+    cycles: Sequence[Cycle]
+
+
+class _Piece(NamedTuple):
+    """A part of sides of sheets that none of them cuts: for each such sheet the parts, with the way they run."""
+
+    ends: Ends
+    sides: Dict[int, List[Side]]
+
+
+def overlaid(held: Sequence[Sheet], added: Sequence[Sheet]) -> Iterator[Region]:
+    """What sheets come to where others are added to them; what lies in no plane of an added one stays.
+
+    Refused: Overlap: two that look one way have room in common; OffLattice: two sides cross between whole coordinates."""
+    levels: Dict[Level, List[Sheet]] = {sheet.level: [] for sheet in added}
+    for sheet in held:
+        level = sheet.level
+        if level in levels and sheet.lies_in(level):
+            levels[level].append(sheet)
+        else:
+            yield _unchanged(sheet)
+    for sheet in added:
+        levels[sheet.level].append(sheet)
+    for sheets in levels.values():
+        yield from _Overlay(sheets).regions()
+
+
+def _unchanged(sheet: Sheet) -> Region:
+    return Region((sheet.owner,), () if sheet.mark is None else (sheet.mark,), sheet.across, sheet.cycles)
+
+
+class _Overlay:
+    """The sheets of one plane, cut up."""
+
+    def __init__(self, sheets: Sequence[Sheet]) -> None:
+        self._sheets = sheets
+        self._axes = flat_axes(sheets[0].level.across)
+        self._outlines = [[(self._flat(side.start), self._flat(side.end)) for side in sheet.sides] for sheet in sheets]
+        self._joined = JoinedSets()
+        self._kept: Dict[int, List[Side]] = {place: [] for place in range(len(sheets))}
+
+    def regions(self) -> Iterator[Region]:
+        """The regions, sheet by sheet."""
+        self._emit()
+        members: Dict[int, List[int]] = {}
+        for place in range(len(self._sheets)):
+            members.setdefault(self._joined.name(place), []).append(place)
+        for places in members.values():
+            yield from self._regions_of(places)
+
+    def _regions_of(self, places: List[int]) -> Iterator[Region]:
+        """What became of sheets that are one now."""
+        sheets = [self._sheets[place] for place in places]
+        sides = [side for place in places for side in self._kept[place]]
+        if len(sheets) == 1 and set(sides) == set(sheets[0].sides):
+            yield _unchanged(sheets[0])
+            return
+        owners = tuple(sheet.owner for sheet in sheets)
+        marks = tuple(sheet.mark for sheet in sheets if sheet.mark is not None)
+        for cycles in traced(_without_seams(sides) if len(places) > 2 else sides, sheets[0].across):
+            yield Region(owners, marks, sheets[0].across, cycles)
+
+    def _emit(self) -> None:
+        """Each side, or part of one, goes to the sheets that it bounds afterwards."""
+        pieces = self._pieces()
+        beside = [(piece, self._left(piece, True), self._left(piece, False)) for piece in pieces]
+        for _, left, right in beside:
+            self._join(left, right)
+        for piece, left, right in beside:
+            for place in self._only(left, right):
+                self._keep(place, piece, piece.ends if self._sheets[place].facing > 0 else piece.ends[::-1])
+            for place in self._only(right, left):
+                self._keep(place, piece, piece.ends[::-1] if self._sheets[place].facing > 0 else piece.ends)
+
+    def _only(self, one: Set[int], other: Set[int]) -> List[int]:
+        beyond = {self._joined.name(place) for place in other}
+        return [place for place in sorted(one) if self._joined.name(place) not in beyond]
+
+    def _keep(self, place: int, piece: _Piece, ends: Ends) -> None:
+        """The piece is a side of the sheet: of the old half-edge that it was a part of."""
+        own = [side.half for side in piece.sides.get(place, ()) if (side.start, side.end) == ends]
+        others = [side.half if (side.start, side.end) == ends else -side.half for sides in piece.sides.values() for side in sides if side.half]
+        self._kept[place].append(Side(*ends, next(iter((*own, *others)), 0)))
+
+    def _join(self, left: Set[int], right: Set[int]) -> None:
+        """A held and an added sheet that look one way on both sides of a piece become one."""
+        for one in left:
+            for other in right:
+                first, second = self._sheets[one], self._sheets[other]
+                if first.is_added != second.is_added and first.facing == second.facing:
+                    self._joined.join(min(one, other), max(one, other))
+
+    def _left(self, piece: _Piece, is_left: bool) -> Set[int]:
+        """The sheets that are left on one side of a piece."""
+        found = [place for place in range(len(self._sheets)) if self._covers(place, piece, is_left)]
+        left = set(found)
+        for place in (place for place in found if self._sheets[place].is_added):
+            facing = self._sheets[place].facing
+            others = [other for other in left if other != place and not (self._sheets[other].is_added and self._sheets[other].facing != facing)]
+            if any(self._sheets[other].facing == facing for other in others):
+                raise Impossible('Overlap', max(self._sheets[other].owner for other in (place, *others)), 'two faces overlap that look one way')
+            left -= {place, *others[:1]} if others else set()
+        return left
+
+    def _covers(self, place: int, piece: _Piece, is_left: bool) -> bool:
+        """Whether the sheet lies on this side of the piece."""
+        if place in piece.sides:
+            runs = {side.start == piece.ends[0] for side in piece.sides[place]}
+            return (is_left == (self._sheets[place].facing > 0)) in runs
+        (x, y), (u, v) = map(self._flat, piece.ends)
+        middle = (Fraction(x + u, 2), Fraction(y + v, 2))
+        return locate(self._outlines[place], middle) is Place.INSIDE
+
+    def _pieces(self) -> List[_Piece]:
+        """The parts of sides near added sheets; the other sides are kept as they are."""
+        found: Dict[Ends, Dict[int, List[Side]]] = {}
+        box = _box(side for place, sheet in enumerate(self._sheets) if sheet.is_added for side in self._outlines[place])
+        near: List[Tuple[int, Side]] = []
+        for place, sheet in enumerate(self._sheets):
+            for side in sheet.sides:
+                if _apart(box, _box([(self._flat(side.start), self._flat(side.end))])):
+                    self._kept[place].append(side)
+                else:
+                    near.append((place, side))
+        for place, part in self._parts(near):
+            ends = (min(part.start, part.end), max(part.start, part.end))
+            found.setdefault(ends, {}).setdefault(place, []).append(part)
+        return [_Piece(ends, sides) for ends, sides in found.items()]
+
+    def _parts(self, near: List[Tuple[int, Side]]) -> Iterator[Tuple[int, Side]]:
+        """The sides, each cut where one of the others, held against added, meets it."""
+        for place, side in near:
+            cuts = {side.start, side.end}
+            for other, across in near:
+                if self._sheets[other].is_added != self._sheets[place].is_added:
+                    cuts |= self._meetings(side, across)
+            points = sorted(cuts, reverse=side.start > side.end)
+            for start, end in zip(points, points[1:]):
+                yield place, Side(start, end, side.half)
+
+    def _meetings(self, side: Side, other: Side) -> Set[Vector]:
+        """The points inside a side where another one meets it."""
+        a, b, c, d = map(self._flat, (side.start, side.end, other.start, other.end))
+        found = {point for point, flat in ((other.start, c), (other.end, d)) if inside_segment(a, b, flat)}
+        if crossing(a, b, c, d):
+            found.add(_whole(side, Fraction(turn(c, d, a), turn(c, d, a) - turn(c, d, b))))
+        return found
+
+    def _flat(self, point: Vector) -> Tuple[int, int]:
+        return (point[self._axes[0]], point[self._axes[1]])
+
+
+def _whole(side: Side, way: Fraction) -> Vector:
+    """The point so far along the side; refused where it isn't whole."""
+    x, y, z = (start + way * (end - start) for start, end in zip(side.start, side.end))
+    if any(part.denominator != 1 for part in (x, y, z)):
+        raise Impossible('OffLattice', abs(side.half), f'two edges would cross at {x} {y} {z}, between whole coordinates')
+    return (int(x), int(y), int(z))
+
+
+def _without_seams(sides: List[Side]) -> List[Side]:
+    """The sides without those that are there in both directions."""
+    ways = {(side.start, side.end) for side in sides}
+    return [side for side in sides if (side.end, side.start) not in ways]
+
+
+Box = Tuple[Exact, Exact, Exact, Exact]
+
+
+def _box(segments: Iterable[Tuple[Flat, Flat]]) -> Optional[Box]:
+    corners = [point for segment in segments for point in segment]
+    if not corners:
+        return None
+    across, up = [point[0] for point in corners], [point[1] for point in corners]
+    return (min(across), min(up), max(across), max(up))
+
+
+def _apart(one: Optional[Box], other: Optional[Box]) -> bool:
+    """Whether two boxes have no point in common."""
+    if one is None or other is None:
+        return True
+    return one[2] < other[0] or other[2] < one[0] or one[3] < other[1] or other[3] < one[1]
