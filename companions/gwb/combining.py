@@ -1,10 +1,10 @@
 """Solids of which flat regions are added: unions of solids that touch, and solids with parts cut away or put on."""
 
-from typing import Iterable, List, NamedTuple, Sequence, Tuple
+from typing import Collection, List, NamedTuple, Sequence, Set, Tuple
 
 from .assembly import Names, Take, assembled
 from .check import check
-from .findings import Finding
+from .face_crossings import crossing_faces
 from .measures import normal, why_unfit
 from .model import Model
 from .outlines import Impossible
@@ -18,6 +18,11 @@ class Combined(NamedTuple):
 
     model: Model
     faces: Tuple[Tuple[int, ...], ...]
+
+    @property
+    def changed(self) -> Set[int]:
+        """The faces into which added sheets went."""
+        return {face for faces in self.faces for face in faces}
 
 
 def sheets_of(model: Model) -> List[Sheet]:
@@ -45,10 +50,12 @@ def combined(solid: int, old: Model, held: Sequence[Sheet], added: Sequence[Shee
     return Combined(made.model, tuple(made.marked(regions, place) for place in range(len(added))))
 
 
-def new_findings(after: Model, before: Iterable[Model]) -> List[Finding]:
-    """What gwb-check finds in a model that it doesn't find in those that it comes from."""
+def require_room(after: Model, changed: Collection[int], before: Sequence[Model], why: Impossible) -> None:
+    """Refuses a combined model, in the words that are given, where it meets or touches itself as those that it comes from didn't. The faces
+    that changed are named."""
     found = check(after).findings
     if found:
         known = {finding for model in before for finding in check(model).findings}
         found = [finding for finding in found if finding not in known]
-    return found
+    if found or crossing_faces(after, changed) is not None:
+        raise why

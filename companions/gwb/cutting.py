@@ -10,7 +10,7 @@ from typing import Dict, Iterator, List, NamedTuple, Optional, Sequence, Tuple
 
 from . import arguments
 from .assembly import Names, Take, assembled
-from .combining import combined, new_findings, sheets_of
+from .combining import Combined, combined, require_room, sheets_of
 from .complaints import Refused
 from .flat_face import FlatFace
 from .joined_models import joined
@@ -193,21 +193,21 @@ def united(bench: Selecting, solids: Sequence[int]) -> int:
     numbers = Numbers(bench)
     models = [solid_model(bench, solid) for solid in solids]
     whole, left = models[0], models[1:]
+    overlap = Impossible('Overlap', solids[0], 'the solids overlap, or their union would touch itself')
     while left:
-        place, whole = _with_one(whole, left, numbers)
-        del left[place]
-    if new_findings(whole, models):
-        raise Impossible('Overlap', solids[0], 'the solids overlap, or their union would touch itself')
+        place, made = _with_one(whole, left, numbers)
+        require_room(made.model, made.changed, [whole, left.pop(place)], overlap)
+        whole = made.model
     give(bench, [*(line for model in models for line in numbers.taking_away(model)), *numbers.making(whole)])
     return solids[0]
 
 
-def _with_one(whole: Model, left: Sequence[Model], numbers: Numbers) -> Tuple[int, Model]:
+def _with_one(whole: Model, left: Sequence[Model], numbers: Numbers) -> Tuple[int, Combined]:
     """The first of the solids left that touches the whole in a face, by its place, and the union with it."""
     solid = whole.solids[0]
     for place, other in enumerate(left):
-        made = combined(solid, joined([whole, other]), sheets_of(whole), sheets_of(other), numbers.take).model
-        if len(made.shells(solid)) < len(whole.shells(solid)) + len(other.shells(other.solids[0])):
+        made = combined(solid, joined([whole, other]), sheets_of(whole), sheets_of(other), numbers.take)
+        if len(made.model.shells(solid)) < len(whole.shells(solid)) + len(other.shells(other.solids[0])):
             return place, made
     raise Impossible('NoContact', left[0].solids[0], f'solid {left[0].solids[0]} touches the others in no face')
 

@@ -3,7 +3,7 @@
 from fractions import Fraction
 from typing import List, NamedTuple, Optional, Sequence, Tuple
 
-from .combining import combined, new_findings, sheets_of
+from .combining import combined, require_room, sheets_of
 from .measures import area_vector, normal, why_unfit
 from .model import Model
 from .moved import FARTHEST
@@ -81,12 +81,15 @@ def _changed(bench: Selecting, face: int, tool: Tool, paths: Sequence[Path]) -> 
     for point in (point for path in paths for point in path):
         if max(abs(part) for part in point) > FARTHEST:
             raise Impossible('PointRange', 0, 'a corner would lie at {} {} {}, past 1,000,000,000'.format(*point))
-    made = combined(solid, model, sheets_of(model), [_sheet(path) for path in paths], numbers.take)
+    meets = Impossible('Meets', face, f'the part at face {face} would meet the solid elsewhere, or the solid would touch itself')
+    try:
+        made = combined(solid, model, sheets_of(model), [_sheet(path) for path in paths], numbers.take)
+    except Impossible as error:
+        raise meets if error.name == 'Overlap' else error from None
     lid, *others = made.faces
     if lid:
         raise Impossible('OutlineOutside', face, f'the outline reaches beyond face {face}')
-    if new_findings(made.model, [model]):
-        raise Impossible('Meets', face, f'the part under face {face} reaches out of the solid, or what is left would touch itself')
+    require_room(made.model, made.changed, [model], meets)
     give(bench, [*numbers.taking_away(model), *numbers.making(made.model)])
     floor = () if tool.floor is None else others.pop(0)
     return Notch(floor, tuple(dict.fromkeys(wall for walls in others for wall in walls)))
