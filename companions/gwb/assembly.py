@@ -179,7 +179,8 @@ class _Assembly:
 
     def model(self, solid: int) -> Assembled:
         """The model, with numbers."""
-        vertices, edges = self._named_vertices(), self._named_edges()
+        vertices = self._named_vertices()
+        edges = self._named_edges(vertices)
         faces: Dict[int, Face] = {}
         loops: Dict[int, Loop] = {}
         numbers: List[int] = []
@@ -215,15 +216,16 @@ class _Assembly:
                 found.update(dict.fromkeys(around, number))
         return found
 
-    def _named_edges(self) -> Dict[int, int]:
-        """For each side its half-edge."""
+    def _named_edges(self, vertices: Dict[int, int]) -> Dict[int, int]:
+        """For each side its half-edge. A new edge starts at the vertex of the lesser number."""
         found: Dict[int, int] = {}
         whole = {place: self._sides[place].half for place in self._sides if self._names.is_whole(self._sides[place])}
         for place in (*whole, *self._sides):
             if place not in found:
                 halves = [half for half in self._halves(place) if half]
                 number = self._names.one('edge', map(abs, halves))
-                sign = next((1 if half > 0 else -1 for half in halves if abs(half) == number), 1)
+                rising = 1 if vertices[place] < vertices[self._mates[place]] else -1
+                sign = next((1 if half > 0 else -1 for half in halves if abs(half) == number), rising)
                 found[place], found[self._mates[place]] = sign * number, -sign * number
         return found
 

@@ -52,10 +52,10 @@ class Step(NamedTuple):
 
 def steps_apart(model: Model, free: Dict[str, FreeNumbers]) -> List[Step]:
     """The steps that take a model of one solid away, in their order. Raises Unfit where a spare number is needed and none is free."""
-    return _TakenApart(model, free).steps()
+    return TakenApart(model, free).steps()
 
 
-class _TakenApart:
+class TakenApart:
     """A solid as it is taken apart."""
 
     def __init__(self, model: Model, free: Dict[str, FreeNumbers]) -> None:

@@ -90,7 +90,7 @@ def _changed(bench: Selecting, face: int, tool: Tool, paths: Sequence[Path]) -> 
     if lid:
         raise Impossible('OutlineOutside', face, f'the outline reaches beyond face {face}')
     require_room(made.model, made.changed, [model], meets)
-    give(bench, [*numbers.taking_away(model), *numbers.making(made.model)])
+    give(bench, numbers.changing(model, made.model))
     floor = () if tool.floor is None else others.pop(0)
     return Notch(floor, tuple(dict.fromkeys(wall for walls in others for wall in walls)))
 

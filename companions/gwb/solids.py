@@ -10,6 +10,7 @@ from typing import Callable, Dict, List, Mapping, Sequence, Tuple
 
 from . import arguments
 from .calls import call_in
+from .changing import script_between
 from .commands import Commands
 from .complaints import Refused
 from .errors import Unfit
@@ -84,6 +85,14 @@ class Numbers:
     def making(self, model: Model) -> List[str]:
         """The operators that make the solids of the model."""
         return [step.makes for solid in model.solids for step in reversed(self._steps(model.only(solid)))]
+
+    def changing(self, before: Model, after: Model) -> List[str]:
+        """The operators that turn a solid into one of the same number: those of the faces that differ where that will do, else all."""
+        try:
+            lines = script_between(before, after, self._free)
+        except Unfit as error:
+            raise _spent(error) from None
+        return [*self.taking_away(before), *self.making(after)] if lines is None else lines
 
     def _steps(self, model: Model) -> List[Step]:
         try:
