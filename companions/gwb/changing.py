@@ -1,8 +1,8 @@
 """A model of one solid turned into another that shares faces with it, by operators on the faces that differ.
 
-The faces that differ are taken apart in both models, as inversion.py does it, until each connected part of them is one face; where these faces
-have the same outlines in both, what took the first model apart, and what puts the second one together, is the script. A part that has no
-outline, such as the walls and the floor of a pocket, comes down to one vertex.
+The faces that differ are taken apart in both models, as inversion.py does it, until each part of them that edges join, but for those that both
+models have, is one face; where these faces have the same outlines in both, what took the first model apart, and what puts the second one
+together, is the script. A part that has no outline, such as the walls and the floor of a pocket, comes down to one vertex.
 """
 
 from typing import Dict, Iterator, List, NamedTuple, Optional, Set, Tuple
@@ -31,15 +31,23 @@ def script_between(before: Model, after: Model, free: Free) -> Optional[List[str
     """The lines of a script which turns the first model of a solid into the second one, of the same number; None where the faces that differ
     aren't of the kind. `free` has the numbers that neither has, of all kinds."""
     same = _same_faces(before, after)
-    rings = _Spare(free['face'])
-    try:
-        old, new = _Reduced(before, free, same, rings), _Reduced(after, free, same, rings)
-        renamings = _renamings(before, old.cores, new.cores, free)
-    except _NotSo:
-        return None
-    finally:
-        rings.give_back()
-    return [*(step.takes for step in old.all_steps), *renamings, *(step.makes for step in reversed(new.all_steps))]
+    edges: List[Set[int]] = [_same_edges(before, after), set()]
+    for common in edges:
+        rings = _Spare(free['face'])
+        try:
+            old, new = _Reduced(before, free, same, common, rings), _Reduced(after, free, same, common, rings)
+            renamings = _renamings(before, old.cores, new.cores, free)
+            return [*(step.takes for step in old.all_steps), *renamings, *(step.makes for step in reversed(new.all_steps))]
+        except _NotSo:
+            pass
+        finally:
+            rings.give_back()
+    return None
+
+
+def _same_edges(before: Model, after: Model) -> Set[int]:
+    """The edges that run between the same vertices in both models."""
+    return {edge for edge in before.edges if edge in after.edges and _same_half(before, after, edge) and _same_half(before, after, -edge)}
 
 
 def _same_faces(before: Model, after: Model) -> Set[int]:
@@ -76,12 +84,12 @@ class _Spare:
 class _Reduced(TakenApart):
     """A model whose faces that differ are taken apart: the steps, and what is left of each part, by its outline."""
 
-    def __init__(self, model: Model, free: Free, same: Set[int], spare: _Spare) -> None:
+    def __init__(self, model: Model, free: Free, same: Set[int], common: Set[int], spare: _Spare) -> None:
         super().__init__(model, free)
         self._region = [face for face in model.faces if face not in same]
         self._held = {half for face in self._region for half in model.face_halves(face)}
-        self._inner = [edge for edge in model.edges if edge in self._held and -edge in self._held]
-        self._outer = {vertex for face in same for vertex in model.face_vertices(face)}
+        self._inner = {edge for edge in model.edges if edge in self._held and -edge in self._held and edge not in common}
+        self._outer = {model.tail(half) for edge in model.edges if edge not in self._inner for half in (edge, -edge)}
         self._spare_faces(spare)
         parts = self._connected_loops()
         self.cores: Dict[Outline, _Core] = {}
@@ -119,8 +127,8 @@ class _Reduced(TakenApart):
     def _down(self, loops: List[int]) -> Iterator[int]:
         """One connected part becomes one face: its loop, where that has come down to a vertex."""
         halves = [half for loop in loops for half in self._model.loops[loop].halves]
-        edges = [half for half in halves if half > 0 and -half in self._held]
-        border = [half for half in halves if -half not in self._held]
+        edges = [half for half in halves if half in self._inner]
+        border = [half for half in halves if abs(half) not in self._inner]
         roots = list(dict.fromkeys(self._model.tail(half) for half in border)) or [self._model.tail(halves[0])]
         tree = list(self._tree(roots, edges, {self._model.tail(half) for half in halves}))
         kept = {abs(half) for half in tree}

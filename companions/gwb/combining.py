@@ -1,14 +1,16 @@
 """Solids of which flat regions are added: unions of solids that touch, and solids with parts cut away or put on."""
 
-from typing import Collection, List, NamedTuple, Sequence, Set, Tuple
+from typing import Dict, List, NamedTuple, Sequence, Tuple
 
 from .assembly import Names, Take, assembled
-from .check import check
-from .face_crossings import crossing_faces
+from .box_index import Box, box_of, boxes_meet
+from .face_crossings import crossing_sheets
+from .findings import Finding
 from .measures import normal, why_unfit
-from .model import Model
+from .model import Face, Loop, Model
 from .outlines import Impossible
 from .sheets import Sheet, overlaid
+from .solid_checks import SolidCheck
 from .traced_cycles import Side
 from .vectors import ZERO
 
@@ -18,11 +20,6 @@ class Combined(NamedTuple):
 
     model: Model
     faces: Tuple[Tuple[int, ...], ...]
-
-    @property
-    def changed(self) -> Set[int]:
-        """The faces into which added sheets went."""
-        return {face for faces in self.faces for face in faces}
 
 
 def sheets_of(model: Model) -> List[Sheet]:
@@ -50,12 +47,33 @@ def combined(solid: int, old: Model, held: Sequence[Sheet], added: Sequence[Shee
     return Combined(made.model, tuple(made.marked(regions, place) for place in range(len(added))))
 
 
-def require_room(after: Model, changed: Collection[int], before: Sequence[Model], why: Impossible) -> None:
-    """Refuses a combined model, in the words that are given, where it meets or touches itself as those that it comes from didn't. The faces
-    that changed are named."""
-    found = check(after).findings
+def require_room(held: Sequence[Sheet], added: Sequence[Sheet], before: Sequence[Model], after: Model, why: Impossible) -> None:
+    """Refuses a combined model, in the words that are given, where sheets pass through each other, or where near the added ones it meets or
+    touches itself as the models that it comes from didn't."""
+    box = box_of(side.start for sheet in added for side in sheet.sides)
+    found = findings_near(after, box)
     if found:
-        known = {finding for model in before for finding in check(model).findings}
+        known = {finding for model in before for finding in findings_near(model, box)}
         found = [finding for finding in found if finding not in known]
-    if found or crossing_faces(after, changed) is not None:
+    if found or crossing_sheets(held, added) is not None:
         raise why
+
+
+def findings_near(model: Model, box: Box) -> List[Finding]:
+    """What gwb-check says of the faces of a solid that meet a box, taken together: what meets or touches."""
+    near = {face: row for face, row in model.faces.items() if boxes_meet(box_of(model.face_points(face)), box)}
+    return list(SolidCheck(_closed(model, near), model.solids[0]).findings()) if near else []
+
+
+def _closed(model: Model, faces: Dict[int, Face]) -> Model:
+    """Faces of a model, and one more for the sides of the others at their edges; it has no area, so that nothing is said of it."""
+    loops = {loop: model.loops[loop] for row in faces.values() for loop in row.loops}
+    halves = {half for loop in loops.values() for half in loop.halves}
+    open_halves = [-half for half in halves if -half not in halves]
+    first = max(model.loops) + 1
+    others = {first + place: Loop((half,)) for place, half in enumerate(open_halves)}
+    rest = {max(model.faces) + 1: Face(model.solids[0], first, tuple(others)[1:])} if others else {}
+    edges = {edge: ends for edge, ends in model.edges.items() if edge in halves or -edge in halves}
+    used = {vertex for ends in edges.values() for vertex in ends}
+    vertices = {vertex: point for vertex, point in model.vertices.items() if vertex in used}
+    return Model(model.solids, {**faces, **rest}, {**loops, **others}, edges, vertices)

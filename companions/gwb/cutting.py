@@ -196,7 +196,8 @@ def united(bench: Selecting, solids: Sequence[int]) -> int:
     overlap = Impossible('Overlap', solids[0], 'the solids overlap, or their union would touch itself')
     while left:
         place, made = _with_one(whole, left, numbers)
-        require_room(made.model, made.changed, [whole, left.pop(place)], overlap)
+        other = left.pop(place)
+        require_room(sheets_of(whole), sheets_of(other), [whole, other], made.model, overlap)
         whole = made.model
     give(bench, [*(line for model in models for line in numbers.taking_away(model)), *numbers.making(whole)])
     return solids[0]

@@ -82,14 +82,15 @@ def _changed(bench: Selecting, face: int, tool: Tool, paths: Sequence[Path]) -> 
         if max(abs(part) for part in point) > FARTHEST:
             raise Impossible('PointRange', 0, 'a corner would lie at {} {} {}, past 1,000,000,000'.format(*point))
     meets = Impossible('Meets', face, f'the part at face {face} would meet the solid elsewhere, or the solid would touch itself')
+    held, added = sheets_of(model), [_sheet(path) for path in paths]
     try:
-        made = combined(solid, model, sheets_of(model), [_sheet(path) for path in paths], numbers.take)
+        made = combined(solid, model, held, added, numbers.take)
     except Impossible as error:
         raise meets if error.name == 'Overlap' else error from None
     lid, *others = made.faces
     if lid:
         raise Impossible('OutlineOutside', face, f'the outline reaches beyond face {face}')
-    require_room(made.model, made.changed, [model], meets)
+    require_room(held, added, [model], made.model, meets)
     give(bench, numbers.changing(model, made.model))
     floor = () if tool.floor is None else others.pop(0)
     return Notch(floor, tuple(dict.fromkeys(wall for walls in others for wall in walls)))

@@ -6,11 +6,12 @@ those of what is left.
 """
 
 from fractions import Fraction
-from typing import Dict, Iterable, Iterator, List, NamedTuple, Optional, Sequence, Set, Tuple
+from typing import Dict, Iterator, List, NamedTuple, Optional, Sequence, Set, Tuple
 
+from .box_index import Box, box_of, boxes_meet
 from .joined_sets import JoinedSets
 from .outlines import Impossible
-from .plane_figures import Exact, Flat, Place, crossing, inside_segment, locate, turn
+from .plane_figures import Place, crossing, inside_segment, locate, turn
 from .traced_cycles import Cycle, Side, traced
 from .vectors import Vector, dot, flat_axes, negative, reduced
 
@@ -80,17 +81,18 @@ def overlaid(held: Sequence[Sheet], added: Sequence[Sheet]) -> Iterator[Region]:
     """What sheets come to where others are added to them; what lies in no plane of an added one stays.
 
     Refused: Overlap: two that look one way have room in common; OffLattice: two sides cross between whole coordinates."""
-    levels: Dict[Level, List[Sheet]] = {sheet.level: [] for sheet in added}
+    levels: Dict[Level, List[Sheet]] = {}
+    for sheet in added:
+        levels.setdefault(sheet.level, []).append(sheet)
+    boxes = {level: box_of(side.start for sheet in sheets for side in sheet.sides) for level, sheets in levels.items()}
     for sheet in held:
         level = sheet.level
-        if level in levels and sheet.lies_in(level):
-            levels[level].append(sheet)
+        if level in levels and sheet.lies_in(level) and boxes_meet(box_of(side.start for side in sheet.sides), boxes[level]):
+            levels[level].insert(0, sheet)
         else:
             yield _unchanged(sheet)
-    for sheet in added:
-        levels[sheet.level].append(sheet)
-    for sheets in levels.values():
-        yield from _Overlay(sheets).regions()
+    for level, sheets in levels.items():
+        yield from _Overlay(sheets, boxes[level]).regions()
 
 
 def _unchanged(sheet: Sheet) -> Region:
@@ -100,10 +102,11 @@ def _unchanged(sheet: Sheet) -> Region:
 class _Overlay:
     """The sheets of one plane, cut up."""
 
-    def __init__(self, sheets: Sequence[Sheet]) -> None:
-        self._sheets = sheets
+    def __init__(self, sheets: Sequence[Sheet], box: Box) -> None:
+        """The box is that of the added ones."""
+        self._sheets, self._box = sheets, box
         self._axes = flat_axes(sheets[0].level.across)
-        self._outlines = [[(self._flat(side.start), self._flat(side.end)) for side in sheet.sides] for sheet in sheets]
+        self._doubled = [[(self._twice(side.start), self._twice(side.end)) for side in sheet.sides] for sheet in sheets]
         self._joined = JoinedSets()
         self._kept: Dict[int, List[Side]] = {place: [] for place in range(len(sheets))}
 
@@ -176,20 +179,18 @@ class _Overlay:
             runs = {side.start == piece.ends[0] for side in piece.sides[place]}
             return (is_left == (self._sheets[place].facing > 0)) in runs
         (x, y), (u, v) = map(self._flat, piece.ends)
-        middle = (Fraction(x + u, 2), Fraction(y + v, 2))
-        return locate(self._outlines[place], middle) is Place.INSIDE
+        return locate(self._doubled[place], (x + u, y + v)) is Place.INSIDE
 
     def _pieces(self) -> List[_Piece]:
         """The parts of sides near added sheets; the other sides are kept as they are."""
         found: Dict[Ends, Dict[int, List[Side]]] = {}
-        box = _box(side for place, sheet in enumerate(self._sheets) if sheet.is_added for side in self._outlines[place])
         near: List[Tuple[int, Side]] = []
         for place, sheet in enumerate(self._sheets):
             for side in sheet.sides:
-                if _apart(box, _box([(self._flat(side.start), self._flat(side.end))])):
-                    self._kept[place].append(side)
-                else:
+                if boxes_meet(box_of((side.start, side.end)), self._box):
                     near.append((place, side))
+                else:
+                    self._kept[place].append(side)
         for place, part in self._parts(near):
             ends = (min(part.start, part.end), max(part.start, part.end))
             found.setdefault(ends, {}).setdefault(place, []).append(part)
@@ -217,6 +218,9 @@ class _Overlay:
     def _flat(self, point: Vector) -> Tuple[int, int]:
         return (point[self._axes[0]], point[self._axes[1]])
 
+    def _twice(self, point: Vector) -> Tuple[int, int]:
+        return (2 * point[self._axes[0]], 2 * point[self._axes[1]])
+
 
 def _whole(side: Side, way: Fraction) -> Vector:
     """The point so far along the side; refused where it isn't whole."""
@@ -231,20 +235,3 @@ def _without_seams(sides: List[Side]) -> List[Side]:
     ways = {(side.start, side.end) for side in sides}
     return [side for side in sides if (side.end, side.start) not in ways]
 
-
-Box = Tuple[Exact, Exact, Exact, Exact]
-
-
-def _box(segments: Iterable[Tuple[Flat, Flat]]) -> Optional[Box]:
-    corners = [point for segment in segments for point in segment]
-    if not corners:
-        return None
-    across, up = [point[0] for point in corners], [point[1] for point in corners]
-    return (min(across), min(up), max(across), max(up))
-
-
-def _apart(one: Optional[Box], other: Optional[Box]) -> bool:
-    """Whether two boxes have no point in common."""
-    if one is None or other is None:
-        return True
-    return one[2] < other[0] or other[2] < one[0] or one[3] < other[1] or other[3] < one[1]
