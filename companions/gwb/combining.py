@@ -4,7 +4,7 @@ from typing import Dict, List, NamedTuple, Sequence, Tuple
 
 from .assembly import Names, Take, assembled
 from .box_index import Box, box_of, boxes_meet
-from .face_crossings import crossing_sheets
+from .face_crossings import comes_into
 from .findings import Finding
 from .measures import normal, why_unfit
 from .model import Face, Loop, Model
@@ -55,7 +55,7 @@ def require_room(held: Sequence[Sheet], added: Sequence[Sheet], before: Sequence
     if found:
         known = {finding for model in before for finding in findings_near(model, box)}
         found = [finding for finding in found if finding not in known]
-    if found or crossing_sheets(held, added) is not None:
+    if found or comes_into(held, added):
         raise why
 
 

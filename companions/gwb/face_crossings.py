@@ -1,9 +1,12 @@
-"""Flat regions that pass through each other: found along the line in which their planes meet, whatever lies at its ends."""
+"""Whether the faces of a solid come into a part: by faces that pass through each other, found along the line in which their planes meet,
+whatever lies at its ends, or by a face that lies within the part.
+"""
 
 from fractions import Fraction
-from typing import Iterator, List, Optional, Sequence, Tuple
+from itertools import count
+from typing import Iterator, List, Sequence, Tuple
 
-from .box_index import BoxIndex, box_of
+from .box_index import Box, BoxIndex, box_of
 from .plane_figures import Exact, Flat, Place, Segment, locate
 from .sheets import Sheet
 from .vectors import Vector, ZERO, cross, dot, flat_axes
@@ -12,20 +15,20 @@ Span = Tuple[Exact, Exact]
 ExactPoint = Tuple[Exact, Exact, Exact]
 
 
-def crossing_sheets(held: Sequence[Sheet], added: Sequence[Sheet]) -> Optional[Tuple[Sheet, Sheet]]:
-    """A held and an added sheet that have a line in common which lies within both; None where there are none. Bent ones aren't looked at.
+def comes_into(held: Sequence[Sheet], part: Sequence[Sheet]) -> bool:
+    """Whether a held sheet comes into the room that closed sheets bound, otherwise than through their edges. Bent ones aren't looked at.
 
-    Cost: for each added sheet the sides of the held ones whose boxes meet its box."""
+    Cost: for each sheet of the part the sides of the held ones whose boxes meet its box."""
     flat = {place: _Shape(sheet) for place, sheet in enumerate(held) if sheet.lies_in(sheet.level)}
+    walls = [_Shape(sheet) for sheet in part]
     if not flat:
-        return None
+        return False
     boxes = BoxIndex({place: box_of(shape.points) for place, shape in flat.items()})
-    for sheet in added:
-        shape = _Shape(sheet)
-        for place in boxes.meeting(box_of(shape.points)):
-            if _cross(shape, flat[place]):
-                return held[place], sheet
-    return None
+    if any(_cross(wall, flat[place]) for wall in walls for place in boxes.meeting(box_of(wall.points))):
+        return True
+    around = box_of(point for wall in walls for point in wall.points)
+    within = (flat[place] for place in boxes.meeting(around) if _lies_in(box_of(flat[place].points), around))
+    return any(_bound(walls, shape.inner_point()) for shape in within)
 
 
 class _Shape:
@@ -38,14 +41,37 @@ class _Shape:
         self._axes = flat_axes(sheet.across)
         self._outline: List[Segment] = []
 
-    def height(self, point: Vector) -> int:
+    def height(self, point: ExactPoint) -> Exact:
         """Positive before the plane, negative behind it."""
-        return dot(self.across, point) - dot(self.across, self.points[0])
+        return _far(self.across, point) - _far(self.across, self.points[0])
 
-    def has_inside(self, point: ExactPoint) -> bool:
-        """Whether a point of the plane lies within."""
+    def place_of(self, point: ExactPoint) -> Place:
+        """Where a point of the plane lies."""
+        return locate(self._sides(), self._flat(point))
+
+    def inner_point(self) -> ExactPoint:
+        """A point within: between the first two sides that a line meets which runs between the two lowest corners."""
+        first, second, third = (*self._axes, 3 - sum(self._axes))
+        low, high = sorted({point[second] for point in self.points})[:2]
+        level = Fraction(low + high, 2)
+        places = sorted(a[0] + (level - a[1]) * (b[0] - a[0]) / (b[1] - a[1]) for a, b in self._sides() if (a[1] > level) != (b[1] > level))
+        point: List[Exact] = [0, 0, 0]
+        point[first], point[second] = (places[0] + places[1]) / 2, level
+        rest = self.across[first] * point[first] + self.across[second] * point[second] - dot(self.across, self.points[0])
+        point[third] = Fraction(-rest) / self.across[third]
+        return (point[0], point[1], point[2])
+
+    def hit(self, start: ExactPoint, ray: Vector) -> Place:
+        """Where a ray meets it: inside, on its outline, or outside of it or not at all."""
+        height, slope = self.height(start), dot(self.across, ray)
+        if height == 0 or slope == 0 or (height > 0) == (slope > 0):
+            return Place.OUTSIDE
+        x, y, z = (here - Fraction(height) / slope * step for here, step in zip(start, ray))
+        return self.place_of((x, y, z))
+
+    def _sides(self) -> List[Segment]:
         self._outline = self._outline or [(self._flat(start), self._flat(end)) for start, end in self.ends]
-        return locate(self._outline, self._flat(point)) is Place.INSIDE
+        return self._outline
 
     def _flat(self, point: ExactPoint) -> Flat:
         return (point[self._axes[0]], point[self._axes[1]])
@@ -62,7 +88,7 @@ class _Shape:
             first, last = _far(along, start), _far(along, end)
             if first < last and first < within[1] and within[0] < last:
                 x, y, z = (Fraction(one + other) / 2 for one, other in zip(start, end))
-                if self.has_inside((x, y, z)):
+                if self.place_of((x, y, z)) is Place.INSIDE:
                     yield first, last
 
     def _cuts(self, plane: '_Shape') -> Iterator[ExactPoint]:
@@ -74,6 +100,23 @@ class _Shape:
             elif before < 0 < after or after < 0 < before:
                 x, y, z = (here + Fraction(before * (there - here), before - after) for here, there in zip(start, end))
                 yield (x, y, z)
+
+
+def _bound(walls: Sequence[_Shape], point: ExactPoint) -> bool:
+    """Whether a point lies in the room that walls bound, and on none of them: by the parity of crossings of a ray that meets no edge. Of the
+    rays (1, k, k * k) at most two lie in any plane through the point, so only finitely many meet an edge."""
+    if any(wall.height(point) == 0 and wall.place_of(point) is not Place.OUTSIDE for wall in walls):
+        return False
+    for k in count(3):
+        places = [wall.hit(point, (1, k, k * k)) for wall in walls]
+        if Place.ON not in places:
+            break
+    return places.count(Place.INSIDE) % 2 == 1
+
+
+def _lies_in(one: Box, other: Box) -> bool:
+    """Whether a box lies in another one."""
+    return all(low <= first and last <= high for (first, last), (low, high) in zip(one, other))
 
 
 def _cross(one: _Shape, other: _Shape) -> bool:

@@ -77,7 +77,7 @@ class World:
 
     def __init__(self, bench, random):
         self.bench, self.random = bench, random
-        self.solids, self.unit = {}, 2
+        self.solids, self.unit, self.last_cut = {}, 2, 0
         self.told = Counter()
 
     # What holds
@@ -145,8 +145,9 @@ class World:
 
     def step(self):
         """One random step."""
-        steps = [self.notch] * 6 + [self.slot] * 2 + [self.shoulder] * 3 + [self.pocket] * 2 + [self.boss] * 2 + [self.cut] * 3 + [
-            self.trim, self.copy, self.union, self.union, self.move, self.turn, self.mirror, self.delete, self.pattern, self.scale]
+        steps = [self.notch] * 6 + [self.slot] * 2 + [self.shoulder] * 3 + [self.pocket, self.boss] + [self.part_on_part] * 4 + [
+            self.cut, self.cut, self.cut_and_unite, self.cut_and_unite, self.trim, self.copy, self.union, self.move, self.turn, self.mirror,
+            self.delete, self.pattern, self.scale]
         self.random.choice(steps)()
 
     def a_solid(self):
@@ -284,10 +285,10 @@ class World:
 
     def cut(self):
         """A cut in two."""
-        solid = self.a_solid()
+        solid = self.last_cut = self.a_solid()
         plane, below, above = self.a_cut(solid)
         expected = {solid: below, self.free(): above} if below and above else None
-        self.attempt('cut', lambda: self.bench.cut(solid, plane), expected)
+        return self.attempt('cut', lambda: self.bench.cut(solid, plane), expected)
 
     def trim(self):
         """A cut that keeps one part."""
@@ -300,13 +301,31 @@ class World:
     def union(self):
         """Two solids made one, if they touch."""
         if len(self.solids) > 1:
-            one, other = self.random.sample(sorted(self.solids), 2)
-            first, second = self.solids[one], self.solids[other]
-            both = {one: first | second, other: None}
-            contact = any(_next(cell, axis, sign) in second for cell in first for axis in AXES for sign in (1, -1))
-            known = touches(first) | touches(second)
-            possible = contact and not first & second and not touches(first | second) - known
-            self.attempt('union', lambda: self.bench.union([one, other]), None if not possible else (both,) if known else both)
+            self.unite(*self.random.sample(sorted(self.solids), 2))
+
+    def unite(self, one, other):
+        """Two solids made one: accepted where they touch in faces alone."""
+        first, second = self.solids[one], self.solids[other]
+        both = {one: first | second, other: None}
+        contact = any(_next(cell, axis, sign) in second for cell in first for axis in AXES for sign in (1, -1))
+        known = touches(first) | touches(second)
+        possible = contact and not first & second and not touches(first | second) - known
+        self.attempt('union', lambda: self.bench.union([one, other]), None if not possible else (both,) if known else both)
+
+    def cut_and_unite(self):
+        """A cut in two, and both made one again."""
+        above = self.free()
+        if self.cut():
+            self.unite(*self.random.sample([above, self.last_cut], 2))
+
+    def part_on_part(self):
+        """A block over a rectangle on a face, made one with the solid."""
+        solid, face, axis, way, corner, sizes, inside = self.rectangle()
+        cells, number = self.under(axis, way, corner, sizes, -self.random.randint(1, 3)), self.free()
+        low, high = ([turned(cell[place] for cell in cells) for place in AXES] for turned in (min, max))
+        size = [last - first + 1 for first, last in zip(low, high)]
+        if self.attempt('block', lambda: self.bench.block(self.at(low), self.at(size)), {number: cells}):
+            self.unite(*self.random.sample([solid, number], 2))
 
     def shift(self):
         """A vector of whole cells."""
