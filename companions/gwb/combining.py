@@ -6,20 +6,21 @@ from .assembly import Names, Take, assembled
 from .box_index import Box, box_of, boxes_meet
 from .face_crossings import comes_into
 from .findings import Finding
-from .measures import normal, why_unfit
+from .measures import area_vector, normal, why_unfit
 from .model import Face, Loop, Model
 from .outlines import Impossible
 from .sheets import Sheet, overlaid
 from .solid_checks import SolidCheck
-from .traced_cycles import Side
-from .vectors import ZERO
+from .traced_cycles import Cycle, Side
+from .vectors import ZERO, total
 
 
 class Combined(NamedTuple):
-    """The new model, and for each added sheet the faces that it went into."""
+    """The new model, for each added sheet the faces that it went into, and whether some of them went that lay on held ones."""
 
     model: Model
     faces: Tuple[Tuple[int, ...], ...]
+    is_joined: bool
 
 
 def sheets_of(model: Model) -> List[Sheet]:
@@ -44,7 +45,13 @@ def combined(solid: int, old: Model, held: Sequence[Sheet], added: Sequence[Shee
     if not regions:
         raise Impossible('NothingLeft', solid, f'nothing of solid {solid} would be left')
     made = assembled(solid, regions, Names(old, take))
-    return Combined(made.model, tuple(made.marked(regions, place) for place in range(len(added))))
+    is_joined = sum(_size(region.cycles) for region in regions) < sum(_size(sheet.cycles) for sheet in (*held, *added))
+    return Combined(made.model, tuple(made.marked(regions, place) for place in range(len(added))), is_joined)
+
+
+def _size(cycles: Sequence[Cycle]) -> int:
+    """A measure of a region's area, by which regions of one plane that look one way add up."""
+    return sum(abs(part) for part in total(area_vector([side.start for side in cycle]) for cycle in cycles))
 
 
 def require_room(held: Sequence[Sheet], added: Sequence[Sheet], before: Sequence[Model], after: Model, why: Impossible) -> None:

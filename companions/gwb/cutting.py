@@ -208,7 +208,7 @@ def _with_one(whole: Model, left: Sequence[Model], numbers: Numbers) -> Tuple[in
     solid = whole.solids[0]
     for place, other in enumerate(left):
         made = combined(solid, joined([whole, other]), sheets_of(whole), sheets_of(other), numbers.take)
-        if len(made.model.shells(solid)) < len(whole.shells(solid)) + len(other.shells(other.solids[0])):
+        if made.is_joined:
             return place, made
     raise Impossible('NoContact', left[0].solids[0], f'solid {left[0].solids[0]} touches the others in no face')
 

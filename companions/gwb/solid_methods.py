@@ -136,12 +136,12 @@ class SolidMethods(Features):
         number, wide = arguments.number('edge', edge), arguments.positive('width', width)
         far = wide if other is None else arguments.positive('other', other)
         self.edge(number).vertices
-        face = next(face.number for face in self.faces() if number in (part.number for part in face.edges))
-        model = self._solid_at(face)
-        outwards, tool = shaping.bends_outwards(model, number), shaping.chamfer_tool(model, number, wide, far)
+        model = self._solid_at(self.listing().face_of(number))
+        outwards = shaping.bends_outwards(model, number)
         if outwards is None:
             raise Impossible('FlatEdge', number, f'the faces of edge {number} lie in one plane')
-        made = (shaping.cut_out if outwards else shaping.put_on)(self, model.face_of(number), tool)
+        shape = shaping.cut_out if outwards else shaping.put_on
+        made = shape(self, model.face_of(number), shaping.chamfer_tool(model, number, wide, far))
         return made.floor[0]
 
     def _solid_at(self, face: int) -> Model:

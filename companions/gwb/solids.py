@@ -19,7 +19,7 @@ from .inversion import Step, steps_apart
 from .model import Model
 from .moved import Change, Displaced, changed, moving, turning
 from .outlines import Impossible
-from .selection import Selecting
+from .selection import Found, Selecting
 from .vectors import Vector, ZERO
 
 AXES = ('x', 'y', 'z')
@@ -55,6 +55,11 @@ class Copy:
     def vertex(self, vertex: int) -> int:
         """The copy of the vertex."""
         return self.vertices[arguments.number('vertex', vertex)]
+
+    def of(self, part: Found) -> Found:
+        """The copy of a thing of the original, as a thing of the same kind."""
+        numbers = {'face': self.faces, 'loop': self.loops, 'edge': self.edges, 'vertex': self.vertices}
+        return type(part)(part._bench, self.solid if part.kind == 'solid' else numbers[part.kind][part.number])
 
 
 class Numbers:

@@ -1,0 +1,239 @@
+"""Cuts that split refuses, made all the same, and solids that touch made one; what can't be is refused with nothing changed."""
+
+import os
+import unittest
+from collections import Counter
+from random import Random
+
+from support import program
+from voxel_parts import AXES, World, cells_of, squares_of
+
+from gwb import Refused, Workbench
+from gwb.check import check
+
+U_SHAPE = [(0, 0, 0), (12, 0, 0), (12, 12, 0), (8, 12, 0), (8, 4, 0), (4, 4, 0), (4, 12, 0), (0, 12, 0)]
+
+
+class Stepwise(unittest.TestCase):
+    """A bench, and what each step on it leaves."""
+
+    def setUp(self):
+        self.bench = Workbench(program())
+        self.addCleanup(self.bench.close)
+
+    def one_step(self, act):
+        """Does it, takes it back and does it again: what it returned. Nothing is wrong with what it makes."""
+        before, script = self.bench.listing(), self.bench.script()
+        made = act()
+        after = self.bench.listing()
+        self.assertEqual(check(after).findings, [])
+        self.bench.undo()
+        self.assertEqual((self.bench.listing(), self.bench.script()), (before, script))
+        self.bench.redo()
+        self.assertEqual(self.bench.listing(), after)
+        return made
+
+    def refuse(self, name, act):
+        before, script = self.bench.listing(), self.bench.script()
+        with self.assertRaises(Refused) as caught:
+            act()
+        self.assertEqual(caught.exception.name, name)
+        self.assertEqual((self.bench.listing(), self.bench.script()), (before, script))
+        return caught.exception
+
+    def count(self, solid):
+        """Vertices, edges, faces and rings of a solid."""
+        return tuple(self.bench.count(solid))[:4]
+
+
+class Cuts(Stepwise):
+    """One cut each."""
+
+    def split_refuses(self, name, solid, plane):
+        self.refuse(name, lambda: self.bench.split(solid, plane))
+
+    def test_one_that_split_takes(self):
+        block = self.bench.block((0, 0, 0), (4, 4, 4))
+        made = self.one_step(lambda: self.bench.cut(block.solid, (1, 0, 0, -1), above=9))
+        self.assertEqual(self.bench.script().splitlines()[1:], ['split 1 1 0 0 -1 9'])
+        self.assertEqual((made.below, made.above), (1, 9))
+        self.assertEqual((self.bench.volume(1), self.bench.volume(9)), (6 * 16, 6 * 48))
+        self.assertEqual([self.bench.face(cap).solid.number for cap in (*made.lower_caps, *made.upper_caps)], [1, 9])
+
+    def test_level_with_a_step(self):
+        step = self.bench.profile([(0, 0, 0), (4, 0, 0), (4, 2, 0), (2, 2, 0), (2, 4, 0), (0, 4, 0)], along=(0, 0, 2))
+        flat = self.bench.faces(plane=(0, 1, 0, -2)).one().number
+        self.split_refuses('TouchedFace', step.solid, (0, 1, 0, -2))
+        made = self.one_step(lambda: self.bench.cut(step.solid, (0, 1, 0, -2)))
+        self.assertEqual((self.bench.volume(made.below), self.bench.volume(made.above)), (96, 48))
+        self.assertEqual((self.count(made.below), self.count(made.above)), ((8, 12, 6, 0), (8, 12, 6, 0)))
+        self.assertEqual(made.lower_caps, (flat,))
+
+    def u_with_pocket(self, points, depth):
+        solid = self.bench.profile(U_SHAPE, along=(0, 0, 6)).solid
+        self.bench.pocket(self.bench.faces(solid=solid, containing=points[0]).one(), points, depth)
+        return solid
+
+    def test_past_a_pocket(self):
+        solid = self.u_with_pocket([(2, 1, 6), (10, 1, 6), (10, 3, 6), (2, 3, 6)], 1)
+        self.split_refuses('CutOften', solid, (0, 1, 0, -8))
+        made = self.one_step(lambda: self.bench.cut(solid, (0, 1, 0, -8)))
+        self.assertEqual((self.bench.volume(made.below), self.bench.volume(made.above)), (6 * (80 * 6 - 16), 6 * 32 * 6))
+        self.assertEqual((len(made.lower_caps), self.bench.count(made.above).sum), (2, 4))
+
+    def test_through_a_pocket_in_one_of_two_legs(self):
+        solid = self.u_with_pocket([(11, 12, 2), (11, 12, 4), (9, 12, 4), (9, 12, 2)], 6)
+        self.split_refuses('SectionHoles', solid, (0, 1, 0, -8))
+        made = self.one_step(lambda: self.bench.cut(solid, (0, 1, 0, -8)))
+        self.assertEqual((self.bench.volume(made.below), self.bench.volume(made.above)), (6 * (480 - 8), 6 * (192 - 16)))
+        self.assertEqual(sorted(len(self.bench.face(cap).rings) for cap in made.lower_caps), [0, 1])
+
+    def test_what_is_kept(self):
+        block = self.bench.block((0, 0, 0), (4, 4, 4)).solid
+        made = self.one_step(lambda: self.bench.cut(block, (1, 0, 0, -1), keep='below'))
+        self.assertEqual((made.below, made.above, made.upper_caps, self.bench.volume(block)), (block, None, (), 96))
+        self.bench.undo()
+        made = self.one_step(lambda: self.bench.cut(block, (1, 0, 0, -1), keep='above'))
+        self.assertEqual((made.below, made.above, made.lower_caps, self.bench.volume(block)), (None, block, (), 288))
+        self.bench.undo()
+        caps = self.one_step(lambda: self.bench.trim(block, (1, 1, 1, -6)))
+        self.assertEqual((self.bench.listing().solids, len(caps), self.bench.plane(caps[0]).flat), ((block,), 1, True))
+
+    def test_in_a_draft(self):
+        block = self.bench.block((0, 0, 0), (4, 4, 4)).solid
+        before = self.bench.listing()
+        with self.bench.draft():
+            made = self.bench.cut(block, (1, -1, 0, 0))
+            self.assertEqual(self.count(made.above), (6, 9, 5, 0))
+        self.bench.undo()
+        self.assertEqual(self.bench.listing(), before)
+        with self.bench.draft():
+            self.refuse_in_draft('PlaneMisses', (1, 0, 0, -4))
+            self.refuse_in_draft('PlaneMisses', (1, 0, 0, 0))
+            self.refuse_in_draft('NotLattice', (2, 0, 0, -1))
+
+    def refuse_in_draft(self, name, plane):
+        with self.assertRaises(Refused) as caught:
+            self.bench.cut(1, plane)
+        self.assertEqual(caught.exception.name, name)
+
+    def test_what_no_cut_can_do(self):
+        block = self.bench.block((0, 0, 0), (4, 4, 4)).solid
+        self.refuse('PlaneMisses', lambda: self.bench.cut(block, (1, 0, 0, -4)))
+        self.refuse('NotLattice', lambda: self.bench.cut(block, (2, 0, 0, -1)))
+        self.refuse('PlaneRange', lambda: self.bench.cut(block, (0, 0, 0, 1)))
+        self.refuse('NoSolid', lambda: self.bench.trim(7, (1, 0, 0, -1)))
+        self.refuse('SolidTaken', lambda: self.bench.cut(block, (1, 0, 0, -1), above=block))
+
+
+class Unions(Stepwise):
+    """Solids made one."""
+
+    def blocks(self, *boxes):
+        return [self.bench.block(point, sizes).solid for point, sizes in boxes]
+
+    def test_two_blocks_become_one(self):
+        solids = self.blocks(((0, 0, 0), (4, 4, 4)), ((4, 0, 0), (3, 4, 4)))
+        self.assertEqual(self.one_step(lambda: self.bench.union(solids)), solids[0])
+        self.assertEqual((self.count(1), self.bench.volume(1)), ((8, 12, 6, 0), 6 * 7 * 16))
+        self.assertEqual(self.bench.listing().only(1).faces.keys(), {1, 2, 3, 5, 6, 10})
+
+    def test_an_l_of_two_blocks(self):
+        solids = self.blocks(((0, 0, 0), (10, 4, 4)), ((0, 4, 0), (4, 6, 4)))
+        self.one_step(lambda: self.bench.union(solids))
+        self.assertEqual((self.count(1), self.bench.volume(1)), ((12, 18, 8, 0), 6 * (160 + 96)))
+
+    def test_part_on_part(self):
+        slab, column = self.blocks(((0, 0, 0), (10, 10, 2)), ((3, 3, 2), (4, 4, 8)))
+        self.one_step(lambda: self.bench.union([slab, column]))
+        self.assertEqual(self.count(slab), (16, 24, 11, 1))
+
+    def test_two_pairs_of_faces_close_a_ring(self):
+        one = self.bench.profile([(0, 0, 0), (12, 0, 0), (12, 4, 0), (8, 4, 0), (8, 2, 0), (4, 2, 0), (4, 4, 0), (0, 4, 0)], along=(0, 0, 3)).solid
+        other = self.bench.copy(one, mirror=(0, 1, 0, -4)).solid
+        self.one_step(lambda: self.bench.union([one, other]))
+        self.assertEqual((self.count(one), self.bench.count(one).sum), ((16, 24, 10, 2), 0))
+
+    def test_a_room_is_closed(self):
+        half = self.bench.block((0, 0, 0), (6, 6, 3)).solid
+        self.bench.pocket(self.bench.faces().top().one(), [(2, 2, 3), (4, 2, 3), (4, 4, 3), (2, 4, 3)], 1)
+        other = self.bench.copy(half, mirror=(0, 0, 1, -3)).solid
+        self.one_step(lambda: self.bench.union([half, other]))
+        self.assertEqual((self.count(half), len(self.bench.listing().shells(half)), self.bench.volume(half)), ((16, 24, 12, 0), 2, 6 * 208))
+
+    def test_four_cubes_and_more_in_any_order(self):
+        solids = self.blocks(*(((2 * x, 2 * y, 0), (2, 2, 2)) for x, y in ((0, 0), (1, 1), (1, 0), (0, 1))))
+        self.one_step(lambda: self.bench.union(solids[1::-1] + solids[2:]))
+        self.assertEqual((self.count(2), self.bench.volume(2), self.bench.listing().solids), ((8, 12, 6, 0), 6 * 32, (2,)))
+
+    def test_a_cut_and_a_union_leave_what_was(self):
+        self.bench.block((0, 0, 0), (6, 6, 6))
+        self.bench.hole(1, [(2, 2, 6), (4, 2, 6), (4, 4, 6), (2, 4, 6)])
+        count, volume = self.bench.count(1), self.bench.volume(1)
+        for plane in ((1, 0, 0, -3), (1, -1, 0, 0), (1, 1, 1, -9)):
+            made = self.one_step(lambda: self.bench.cut(1, plane))
+            self.one_step(lambda: self.bench.union([made.below, made.above]))
+            self.assertEqual((self.bench.count(1), self.bench.volume(1)), (count, volume))
+
+    def test_what_can_not_be_one(self):
+        solids = self.blocks(((0, 0, 0), (4, 4, 4)), ((5, 0, 0), (4, 4, 4)), ((2, 2, 2), (4, 4, 4)), ((4, 4, 0), (2, 2, 2)), ((0, 0, 0), (2, 2, 2)))
+        self.refuse('NoContact', lambda: self.bench.union(solids[:2]))
+        self.refuse('Overlap', lambda: self.bench.union([1, 5]))
+        for other in (3, 4):
+            self.assertEqual(self.refuse('NoContact', lambda: self.bench.union([1, other])).value, other)
+        self.refuse('NoSolid', lambda: self.bench.union([1, 9]))
+        bent = self.bench.lamina([(0, 0, 0), (4, 0, 0), (4, 4, 1), (0, 4, 0)]).solid
+        self.refuse('NotFlat', lambda: self.bench.cut(bent, (1, 0, 0, -2)))
+        self.refuse('NoContact', lambda: self.bench.union([bent, 2]))
+
+
+class RandomCuts(unittest.TestCase):
+    """RANDOM_CUTS of the environment may name how many parts are cut."""
+
+    def test_oblique_cuts_are_taken_back_by_unions(self):
+        told = Counter()
+        for seed in range(int(os.environ.get('RANDOM_CUTS', 12))):
+            with self.subTest(seed=seed), Workbench(program()) as bench:
+                self.try_part(World(bench, Random(seed)), told)
+        self.assertGreater(told['made anew'], 0)
+        self.assertGreater(told['split'], 0)
+
+    def try_part(self, world, told):
+        """Six cuts of a part of cells."""
+        world.unit, random = 60, world.random
+        sizes = [random.randint(2, 4) for _ in AXES]
+        world.bench.block((0, 0, 0), tuple(60 * size for size in sizes))
+        world.solids[1] = cells_of((0, 0, 0), sizes)
+        for _ in range(4):
+            random.choice([world.notch, world.shoulder, world.slot])()
+        for _ in range(6):
+            across = random.choice([(1, 0, 0), (0, 1, -1), (1, 1, 0), (1, -1, 1), (1, 2, 0), (2, -1, 1), (-2, 1, 2)])
+            corner = random.choice(world.bench.vertices()).point
+            point = [part + random.choice((0, 0, 30, -30, 60)) for part in corner]
+            self.try_cut(world, (*across, -sum(one * two for one, two in zip(across, point))), told)
+
+    def try_cut(self, world, plane, told):
+        """One cut, and the union of both parts, which is square by square what it was."""
+        bench, before, volume = world.bench, world.bench.listing(), world.bench.volume(1)
+        try:
+            made = bench.cut(1, plane)
+        except Refused as refused:
+            self.assertIn(refused.name, ('PlaneMisses', 'NotLattice'))
+            self.assertEqual(bench.listing(), before)
+            return
+        told['split' if bench.script().splitlines()[-1].startswith('split') else 'made anew'] += 1
+        self.assertEqual(bench.volume(made.below) + bench.volume(made.above), volume)
+        findings = check(bench.listing()).findings
+        self.assertEqual({finding.kind for finding in findings} - {'touching'}, set())
+        for cap, way in [*((cap, 1) for cap in made.lower_caps), *((cap, -1) for cap in made.upper_caps)]:
+            self.assertGreater(way * sum(one * two for one, two in zip(bench.face(cap).normal, plane)), 0)
+        bench.union([made.below, made.above])
+        self.assertEqual(Counter(world.squares(bench.listing(), 1)), Counter(squares_of(world.solids[1])))
+        self.assertEqual(len(bench.listing().faces), len(before.faces))
+        bench.undo()
+        bench.undo()
+        self.assertEqual(bench.listing(), before)
+
+
+if __name__ == '__main__':
+    unittest.main()

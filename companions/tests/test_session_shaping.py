@@ -1,0 +1,170 @@
+"""Features up to the edges of faces: what they leave, in few commands and one step, and what is refused."""
+
+import os
+import unittest
+
+from support import program
+from test_session_cuts import Stepwise
+from voxel_parts import summary, try_parts
+
+
+class Shaped(Stepwise):
+    """Each feature on a block of 40 by 20 by 10."""
+
+    def setUp(self):
+        super().setUp()
+        self.block = self.bench.block((0, 0, 0), (40, 20, 10))
+        self.top = self.block.top
+
+    def missing(self):
+        """How much of the block's volume is missing."""
+        return 8000 - self.bench.volume(1) // 6
+
+    def edge(self, *ends):
+        """The edge between two points."""
+        return next(edge for edge in self.bench.edges() if set(edge.points) == set(ends))
+
+    def test_a_slot(self):
+        made = self.one_step(lambda: self.bench.slot(self.top, (20, 0, 10), (20, 20, 10), 6, 4))
+        self.assertEqual((self.missing(), self.count(1)), (480, (16, 24, 10, 0)))
+        self.assertEqual(self.bench.plane(made.floor[0])[:4], (0, 0, 240, -1440))
+        self.assertEqual({self.bench.face(wall).normal for wall in made.walls}, {(160, 0, 0), (-160, 0, 0)})
+
+    def test_a_slot_askew_that_ends_inside(self):
+        made = self.one_step(lambda: self.bench.slot(self.top, (8, 5, 10), (20, 14, 10), 10, 5))
+        self.assertEqual((self.missing(), len(made.floor), len(made.walls), self.bench.count(1).rings), (750, 1, 4, 1))
+
+    def test_a_groove(self):
+        made = self.one_step(lambda: self.bench.groove(self.top, (20, 0, 10), (20, 20, 10), 6, 4))
+        self.assertEqual((self.missing(), self.count(1), made.floor, len(made.walls)), (240, (14, 21, 9, 0), (), 2))
+
+    def test_a_shoulder(self):
+        made = self.one_step(lambda: self.bench.shoulder(self.top, self.edge((40, 0, 10), (40, 20, 10)), 6, 4))
+        self.assertEqual((self.missing(), self.count(1), len(made.floor), len(made.walls)), (480, (12, 18, 8, 0), 1, 1))
+
+    def test_a_shoulder_follows_the_sides_of_its_face(self):
+        trapeze = self.bench.profile([(60, 0, 0), (90, 0, 0), (84, 6, 0), (66, 6, 0)], along=(0, 0, 9))
+        self.one_step(lambda: self.bench.shoulder(trapeze.far, self.edge((60, 0, 9), (90, 0, 9)), 2, 3))
+        self.assertEqual(self.bench.volume(trapeze.solid), 6 * (144 * 9 - 56 * 3))
+
+    def test_notches(self):
+        for points, walls in (([(0, 0), (5, 0), (5, 5), (0, 5)], 2), ([(10, 0), (10, 5), (15, 5), (15, 0)], 3), ([(10, 5), (15, 5), (15, 9), (10, 9)], 4),
+                              ([(0, 0), (40, 0), (40, 5), (0, 5)], 1), ([(0, 0), (40, 0), (40, 20), (0, 20)], 0), ([(4, 0), (16, 0), (10, 6)], 2)):
+            with self.subTest(points):
+                outline = [(x, y, 10) for x, y in points]
+                area = abs(sum(a[0] * b[1] - a[1] * b[0] for a, b in zip(points, points[1:] + points[:1])))
+                made = self.one_step(lambda: self.bench.notch(self.top, outline, 3))
+                self.assertEqual((2 * self.missing(), len(made.walls), len(made.floor)), (area * 3, walls, 1))
+                self.bench.undo()
+
+    def test_a_notch_right_through(self):
+        made = self.one_step(lambda: self.bench.notch(self.top, [(10, 0, 10), (15, 0, 10), (15, 5, 10), (10, 5, 10)], 10))
+        self.assertEqual((self.missing(), made.floor, len(made.walls)), (250, (), 3))
+        self.one_step(lambda: self.bench.notch(self.top, [(20, 5, 10), (25, 5, 10), (25, 9, 10), (20, 9, 10)], 10))
+        self.assertEqual((self.missing(), self.bench.count(1).sum), (450, 0))
+
+    def test_a_notch_in_two(self):
+        made = self.one_step(lambda: self.bench.notch(self.top, [(10, 0, 10), (15, 0, 10), (15, 20, 10), (10, 20, 10)], 10))
+        self.assertEqual((self.missing(), len(made.walls), len(self.bench.listing().shells(1))), (1000, 2, 2))
+
+    def test_a_notch_into_a_pocket(self):
+        self.bench.pocket(self.top, [(10, 5, 10), (20, 5, 10), (20, 15, 10), (10, 15, 10)], 5)
+        made = self.one_step(lambda: self.bench.notch(self.top, [(13, 0, 10), (17, 0, 10), (17, 5, 10), (13, 5, 10)], 5))
+        self.assertEqual((self.missing(), self.bench.count(1).rings, len(made.walls)), (600, 0, 2))
+        floor = self.bench.faces(containing=(15, 2, 5), normal=(0, 0, 1)).one()
+        self.assertTrue(self.bench.faces(containing=(15, 10, 5), normal=(0, 0, 1)).one() == floor)
+
+    def test_a_chamfer(self):
+        edge = self.edge((40, 0, 10), (40, 20, 10))
+        made = self.one_step(lambda: self.bench.chamfer(edge, 3))
+        self.assertEqual((self.missing(), self.count(1), self.bench.face(made).normal), (90, (10, 15, 7, 0), (120, 0, 120)))
+        self.bench.undo()
+        self.one_step(lambda: self.bench.chamfer(edge, 2, 5))
+        self.assertEqual(self.missing(), 100)
+
+    def test_chamfers_that_meet(self):
+        for edge in ((40, 0, 10), (40, 20, 10)), ((0, 0, 10), (0, 20, 10)), ((0, 0, 0), (0, 20, 0)):
+            self.one_step(lambda: self.bench.chamfer(self.edge(*edge), 2))
+        self.assertEqual((self.missing(), self.count(1)), (120, (14, 21, 9, 0)))
+
+    def test_an_inner_edge_is_filled(self):
+        self.bench.shoulder(self.top, self.edge((40, 0, 10), (40, 20, 10)), 6, 4)
+        made = self.one_step(lambda: self.bench.chamfer(self.edge((34, 0, 6), (34, 20, 6)), 2))
+        self.assertEqual((self.missing(), self.bench.face(made).normal), (440, (80, 0, 80)))
+
+    def test_few_commands_whatever_else_there_is(self):
+        for x in range(2, 38, 4):
+            self.bench.hole(self.top, [(x, 12, 10), (x + 1, 12, 10), (x + 1, 14, 10), (x, 14, 10)])
+        for x in range(2, 38, 4):
+            given = len(self.bench.script().splitlines())
+            self.one_step(lambda: self.bench.notch(self.top, [(x, 0, 10), (x + 2, 0, 10), (x + 2, 3, 10), (x, 3, 10)], 4))
+            self.assertLess(len(self.bench.script().splitlines()), given + 50)
+
+    def test_faces_that_stay_keep_their_numbers(self):
+        before = self.bench.listing()
+        self.bench.slot(self.top, (20, 0, 10), (20, 20, 10), 6, 4)
+        after = self.bench.listing()
+        self.assertEqual([after.faces[face] for face in (2, 4, 6)], [before.faces[face] for face in (2, 4, 6)])
+        self.assertEqual([after.loops[loop] for loop in (2, 4, 6)], [before.loops[loop] for loop in (2, 4, 6)])
+        self.assertTrue(set(before.faces) < set(after.faces) and set(before.edges) < set(after.edges))
+
+    def test_in_a_draft(self):
+        before = self.bench.listing()
+        with self.bench.draft():
+            self.bench.notch(self.top, [(0, 0, 10), (5, 0, 10), (5, 5, 10), (0, 5, 10)], 5)
+            self.bench.chamfer(self.edge((40, 0, 10), (40, 20, 10)), 3)
+        self.assertEqual(self.missing(), 125 + 90)
+        self.bench.undo()
+        self.assertEqual(self.bench.listing(), before)
+
+    def test_outlines_that_can_not_be(self):
+        corner = [(0, 0, 10), (5, 0, 10), (5, 5, 10), (0, 5, 10)]
+        for name, points, depth in (('OutlineOutside', [(-1, 0, 10), *corner[1:3], (-1, 5, 10)], 3), ('NotInPlane', [*corner[:3], (0, 5, 9)], 3),
+                                    ('FewPoints', corner[:2], 3), ('RepeatedPoint', [*corner, corner[0]], 3), ('OutlineCrossed', [
+                                        (0, 0, 10), (5, 0, 10), (0, 5, 10), (6, 5, 10)], 3), ('NoArea', [(0, 0, 10), (5, 0, 10), (9, 0, 10)], 3),
+                                    ('Meets', corner, 11), ('NothingLeft', [(0, 0, 10), (40, 0, 10), (40, 20, 10), (0, 20, 10)], 10)):
+            with self.subTest(name):
+                self.refuse(name, lambda: self.bench.notch(self.top, points, depth))
+        self.refuse('NoFace', lambda: self.bench.notch(77, corner, 3))
+
+    def test_parts_that_meet_something(self):
+        self.bench.hole(self.block.sides[0], [(10, 0, 4), (20, 0, 4), (20, 0, 6), (10, 0, 6)])
+        for depth in (5, 6, 7, 10):
+            self.refuse('Meets', lambda: self.bench.slot(self.top, (0, 10, 10), (40, 10, 10), 4, depth))
+        for depth in (3, 4):
+            self.one_step(lambda: self.bench.slot(self.top, (0, 10, 10), (40, 10, 10), 4, depth))
+            self.assertEqual(self.missing(), 400 + 160 * depth)
+            self.bench.undo()
+
+    def test_what_else_can_not_be(self):
+        edge = self.edge((40, 0, 10), (40, 20, 10))
+        self.refuse('OffLattice', lambda: self.bench.slot(self.top, (20, 0, 10), (20, 20, 10), 5, 4))
+        self.refuse('OffLattice', lambda: self.bench.slot(self.top, (5, 5, 10), (8, 8, 10), 4, 4))
+        self.refuse('RepeatedPoint', lambda: self.bench.groove(self.top, (5, 5, 10), (5, 5, 10), 4, 4))
+        self.refuse('NotInPlane', lambda: self.bench.groove(self.top, (5, 5, 10), (9, 5, 9), 4, 4))
+        self.refuse('NotOfFace', lambda: self.bench.shoulder(self.block.bottom, edge, 4, 4))
+        self.refuse('NoEdge', lambda: self.bench.shoulder(self.top, 99, 4, 4))
+        self.refuse('NoEdge', lambda: self.bench.chamfer(99, 4))
+        self.refuse('OutlineOutside', lambda: self.bench.chamfer(edge, 4, 11))
+        self.refuse('NothingLeft', lambda: self.bench.shoulder(self.top, edge, 40, 10))
+        seam = self.bench.mef(*self.bench.face(self.top).outer.half_edges[::2]).edge
+        self.refuse('FlatEdge', lambda: self.bench.chamfer(seam, 1))
+
+    def test_a_bent_face(self):
+        bent = self.bench.lamina([(0, 0, 50), (4, 0, 50), (4, 4, 51), (0, 4, 50)])
+        self.refuse('NotFlat', lambda: self.bench.notch(bent.front, [(0, 0, 50), (1, 0, 50), (1, 1, 50)], 1))
+
+
+class RandomParts(unittest.TestCase):
+    """RANDOM_PARTS of the environment may name how many parts; voxel_parts.py makes 300."""
+
+    def test_random_parts_of_cells(self):
+        count = int(os.environ.get('RANDOM_PARTS', 20))
+        told = try_parts(program(), count)
+        print(f'\n{summary(count, told)}')
+        for name in ('notch', 'slot', 'shoulder', 'cut', 'union', 'notch Meets'):
+            self.assertGreater(told[name], 0, name)
+
+
+if __name__ == '__main__':
+    unittest.main()

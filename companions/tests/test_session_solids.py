@@ -1,0 +1,209 @@
+"""Solids as things: taken away, copied, moved, turned, mirrored, set in rows and scaled, whatever they have."""
+
+import unittest
+
+from support import program, scripts
+
+from gwb import Lone, Refused, Workbench
+from gwb.check import check
+from gwb.inversion import script_of
+from gwb.listing import model_of
+from gwb.moved import changed, mirroring
+from gwb.replies import split_replies
+from gwb.soundness import require_sound
+
+
+def listings():
+    """All models that are stored."""
+    for script in scripts():
+        for reply in split_replies(script.with_suffix('.expected').read_bytes()):
+            if reply.is_listing:
+                yield script.stem, model_of(reply)
+
+
+def with_hole(bench):
+    """A block with a hole through it: its solid and its top."""
+    block = bench.block((0, 0, 0), (10, 10, 10))
+    bench.hole(block.top, [(2, 2, 10), (4, 2, 10), (4, 4, 10), (2, 4, 10)])
+    return block
+
+
+class Whole(unittest.TestCase):
+    """Each way, and what it leaves."""
+
+    def setUp(self):
+        self.bench = Workbench(program())
+        self.addCleanup(self.bench.close)
+
+    def one_step(self, act):
+        """Does it, takes it back and does it again, each time with the same model: what it returned."""
+        before, script, commands = self.bench.listing(), self.bench.script(), repr(self.bench)
+        made = act()
+        after = self.bench.listing()
+        require_sound(after)
+        self.bench.undo()
+        self.assertEqual((self.bench.listing(), self.bench.script(), repr(self.bench)), (before, script, commands))
+        self.bench.redo()
+        self.assertEqual(self.bench.listing(), after)
+        return made
+
+    def refuse(self, name, value, act):
+        before, script = self.bench.listing(), self.bench.script()
+        with self.assertRaises(Refused) as caught:
+            act()
+        self.assertEqual((caught.exception.name, caught.exception.value), (name, value))
+        self.assertEqual((self.bench.listing(), self.bench.script()), (before, script))
+
+    def test_whatever_a_model_has(self):
+        tried = 0
+        for stem, model in listings():
+            for solid in model.solids:
+                with self.subTest(stem, solid=solid), Workbench(program()) as self.bench:
+                    self.bench._take('\n'.join(script_of(model)).encode())
+                    tried += self.try_ways(model, solid)
+        self.assertGreater(tried, 300)
+
+    def try_ways(self, model, solid):
+        """Six ways with one solid of a model: how many. The others stay as they were."""
+        rest = [model.only(other) for other in model.solids if other != solid]
+        volume = self.bench.volume(solid)
+        for way, arguments in (('move', ((1, -2, 3),)), ('turn', ('y', 3)), ('mirror', ((1, -1, 0, 0),)), ('mirror', ((0, 0, 3, -6),))):
+            self.one_step(lambda: getattr(self.bench, way)(solid, *arguments))
+            after = self.bench.listing()
+            self.assertEqual([after.only(other) for other in model.solids if other != solid], rest)
+            self.assertEqual((after.solids, list(after.faces), list(after.edges)), (model.solids, list(model.faces), list(model.edges)))
+            self.assertEqual(self.bench.volume(solid), volume)
+        made = self.one_step(lambda: self.bench.copy(solid, mirror=(1, 0, 0, 0)))
+        self.assertEqual(self.bench.volume(made.solid), volume)
+        self.assertEqual(self.bench.count(made.solid), self.bench.count(solid))
+        self.one_step(lambda: self.bench.delete(solid))
+        after = self.bench.listing()
+        self.assertEqual([after.only(other) for other in model.solids if other != solid], rest)
+        self.assertEqual(set(after.solids), {*model.solids, made.solid} - {solid})
+        return 6
+
+    def test_points_follow(self):
+        block = with_hole(self.bench)
+        before = self.bench.listing().vertices
+        self.assertEqual(self.one_step(lambda: self.bench.move(block.solid, (5, 0, -1))), block.solid)
+        self.assertEqual(self.bench.listing().vertices, {vertex: (x + 5, y, z - 1) for vertex, (x, y, z) in before.items()})
+        self.bench.undo()
+        self.one_step(lambda: self.bench.turn(block.solid, 'z', about=(10, 0, 7)))
+        self.assertEqual(self.bench.listing().vertices, {vertex: (10 - y, x - 10, z) for vertex, (x, y, z) in before.items()})
+        self.bench.turn(block.solid, 'z', -1, about=(10, 0, 7))
+        self.assertEqual(self.bench.listing().vertices, before)
+        self.one_step(lambda: self.bench.mirror(block.solid, (0, 0, 2, -3)))
+        self.assertEqual(self.bench.listing().vertices, {vertex: (x, y, 3 - z) for vertex, (x, y, z) in before.items()})
+        self.bench.undo()
+        self.one_step(lambda: self.bench.scale(7))
+        self.assertEqual(self.bench.listing().vertices, {vertex: (7 * x, 7 * y, 7 * z) for vertex, (x, y, z) in before.items()})
+        self.assertEqual(check(self.bench.listing()).findings, [])
+
+    def test_a_mirrored_loop_runs_by_the_mates(self):
+        block = self.bench.block((0, 0, 0), (1, 2, 3))
+        loop = self.bench.face(block.top).outer.half_edges
+        self.bench.mirror(block.solid, (1, 0, 0, 0))
+        self.assertEqual(set(self.bench.face(block.top).outer.half_edges), {-half for half in loop})
+        self.assertEqual(self.bench.face(block.top).normal, (0, 0, 4))
+
+    def test_a_copy_says_what_became_of_each_thing(self):
+        block = with_hole(self.bench)
+        made = self.one_step(lambda: self.bench.copy(block.solid, move=(20, 0, 0), mirror=(0, 1, 0, 0)))
+        model = self.bench.listing()
+        for vertex in model.only(block.solid).vertices:
+            x, y, z = model.vertices[vertex]
+            self.assertEqual(model.vertices[made.vertex(vertex)], (x + 20, -y, z))
+        for half in (half for edge in model.only(block.solid).edges for half in (edge, -edge)):
+            self.assertEqual(model.tail(made.half_edge(half)), made.vertex(model.tail(half)))
+            self.assertEqual(model.face_of(-made.half_edge(half)), made.face(model.face_of(half)))
+        top = self.bench.faces(solid=block.solid).top().one()
+        self.assertEqual(made.of(top), self.bench.faces(solid=made.solid).top().one())
+        self.assertEqual(made.of(top.rings[0]).number, made.loop(top.rings[0]))
+        self.assertEqual(made.of(self.bench.solid(block.solid)).number, made.solid)
+        self.assertEqual(made.of(top.edges[0]).number, made.edge(top.edges[0]))
+        self.assertEqual(sorted(model.only(made.solid).loops), sorted(made.loops.values()))
+        with self.assertRaises(KeyError):
+            made.face(made.face(block.top))
+
+    def test_a_row(self):
+        block = with_hole(self.bench)
+        row = self.one_step(lambda: self.bench.pattern(block.solid, 4, (0, 15, 1)))
+        self.assertEqual([made.solid for made in row], [2, 3, 4])
+        for times, made in enumerate(row, 1):
+            self.assertEqual(self.bench.vertices(solid=made.solid, at=(0, 15 * times, times)).one().number, made.vertex(1))
+            self.assertEqual(self.bench.volume(made.solid), self.bench.volume(block.solid))
+
+    def test_numbers_of_a_copy_were_never_in_use(self):
+        gone = self.bench.block((0, 0, 0), (1, 1, 1))
+        self.bench.undo()
+        block = self.bench.block((0, 0, 0), (1, 1, 1), solid=5)
+        made = self.bench.copy(block.solid)
+        self.assertEqual((made.solid, made.face(block.top), made.vertex(block.vertices[0])), (6, gone.top + 6, 9))
+
+    def test_in_a_draft(self):
+        block = with_hole(self.bench)
+        before = self.bench.listing()
+        with self.bench.draft():
+            made = self.bench.copy(block.solid, move=(20, 0, 0))
+            self.bench.delete(block.solid)
+            self.bench.mirror(made.solid, (1, 0, 0, 0))
+        self.assertEqual(self.bench.listing().solids, (made.solid,))
+        self.bench.undo()
+        self.assertEqual(self.bench.listing(), before)
+
+    def test_no_such_solid(self):
+        self.bench.block((0, 0, 0), (1, 1, 1))
+        for act in (self.bench.delete, self.bench.copy, lambda solid: self.bench.move(solid, (1, 0, 0)), lambda solid: self.bench.turn(solid, 'x'),
+                    lambda solid: self.bench.mirror(solid, (1, 0, 0, 0)), lambda solid: self.bench.pattern(solid, 2, (1, 0, 0))):
+            self.refuse('NoSolid', 2, lambda: act(2))
+
+    def test_where_no_point_can_lie(self):
+        block = self.bench.block((0, 0, 0), (1, 2, 3))
+        self.refuse('PointRange', 2, lambda: self.bench.move(block.solid, (1_000_000_000, 0, 0)))
+        self.refuse('PointRange', 3, lambda: self.bench.scale(500_000_001))
+        self.refuse('PointRange', 2, lambda: self.bench.pattern(block.solid, 3, (500_000_000, 0, 0)))
+        self.refuse('OffLattice', 1, lambda: self.bench.mirror(block.solid, (3, 0, 0, -1)))
+        self.refuse('OffLattice', 2, lambda: self.bench.copy(block.solid, mirror=(1, 2, 0, 0)))
+        self.bench.turn(block.solid, 'x', 10 ** 12)
+        self.assertEqual(self.bench.vertices(at=(1, 2, 3)).one().number, 7)
+
+    def test_numbers_in_gaps_where_the_last_one_is_in_use(self):
+        self.bench.mvfs((0, 0, 0), solid=1_000_000)
+        self.bench.mvfs((0, 0, 0), face=1_000_000, solid=1)
+        self.assertEqual(self.bench.copy(1).solid, 2)
+
+    def test_arguments(self):
+        block = self.bench.block((0, 0, 0), (1, 1, 1)).solid
+        for error, part, act in (
+                (TypeError, 'vector', lambda: self.bench.move(block, 1)), (ValueError, 'axis', lambda: self.bench.turn(block, 'w')),
+                (TypeError, 'times', lambda: self.bench.turn(block, 'x', 1.0)), (TypeError, 'about', lambda: self.bench.turn(block, 'x', about=0)),
+                (ValueError, 'plane', lambda: self.bench.mirror(block, (0, 0, 0, 1))), (ValueError, 'mirror', lambda: self.bench.copy(block, mirror=(0, 0, 0, 0))),
+                (ValueError, 'count', lambda: self.bench.pattern(block, 1, (1, 0, 0))), (ValueError, 'step', lambda: self.bench.pattern(block, 2, (0, 0, 0))),
+                (ValueError, 'factor', lambda: self.bench.scale(0)), (TypeError, 'solid', lambda: self.bench.delete('1')),
+                (ValueError, 'keep', lambda: self.bench.cut(block, (1, 0, 0, 0), keep='all')),
+                (ValueError, 'above', lambda: self.bench.cut(block, (1, 0, 0, 0), keep='below', above=2)),
+                (ValueError, 'solids', lambda: self.bench.union([block])), (ValueError, 'solids', lambda: self.bench.union([block, block])),
+                (ValueError, 'depth', lambda: self.bench.notch(1, [(0, 0, 1)], 0)), (ValueError, 'width', lambda: self.bench.chamfer(1, 0)),
+                (ValueError, 'width', lambda: self.bench.slot(1, (0, 0, 1), (1, 0, 1), 0, 1)), (ValueError, 'other', lambda: self.bench.chamfer(1, 1, -1)),
+                (TypeError, 'edge', lambda: self.bench.shoulder(1, None, 1, 1))):
+            before = self.bench.script()
+            with self.subTest(part), self.assertRaisesRegex(error, part):
+                act()
+            self.assertEqual(self.bench.script(), before)
+
+    def test_a_wire_and_a_bare_solid(self):
+        bare = self.bench.mvfs((1, 2, 3))
+        self.bench.mev(Lone(bare.loop), Lone(bare.loop), (4, 5, 6))
+        made = self.bench.copy(bare.solid, move=(0, 0, 1))
+        self.assertEqual(sorted(self.bench.listing().only(made.solid).vertices.values()), [(1, 2, 4), (4, 5, 7)])
+        self.one_step(lambda: self.bench.delete(bare.solid))
+        self.assertEqual(self.bench.listing().solids, (made.solid,))
+
+    def test_mirrored_twice_is_as_before(self):
+        for stem, model in listings():
+            with self.subTest(stem):
+                self.assertEqual(changed(changed(model, mirroring((1, -1, 0, 4))), mirroring((1, -1, 0, 4))), model)
+
+
+if __name__ == '__main__':
+    unittest.main()
