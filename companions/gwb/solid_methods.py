@@ -21,7 +21,7 @@ class SolidMethods(Features):
 
     def delete(self, solid: int) -> None:
         """The solid goes, with all that it has. Refused: NoSolid."""
-        solids.delete(self, solid)
+        solids.delete(self, arguments.number('solid', solid))
 
     def copy(self, solid: int, *, move: Vector = ZERO, mirror: Optional[PlaneNumbers] = None) -> Copy:
         """A copy of the solid, mirrored in a plane where one is given, and then moved by the vector: the numbers of its things by those of
@@ -67,10 +67,11 @@ class SolidMethods(Features):
         faces in the plane are one with the caps beside them. Refused: what split says of the solid, the plane and its points: NoSolid,
         SolidTaken, LoneLoop, NotFlat, PlaneMisses, NotLattice; Meets: a part's faces would lie on each other at an edge."""
         number, level, wanted = arguments.number('solid', solid), arguments.plane('plane', plane), cutting.kept(keep)
+        new = None if above is None else arguments.number('above', above)
         if wanted is Keep.BOTH:
             with self._step():
-                return cutting.cut(self, number, level, above)
-        if above is not None:
+                return cutting.cut(self, number, level, new)
+        if new is not None:
             raise ValueError(f'above: the part above the plane gets no number of its own where {keep!r} alone is kept')
         if wanted is Keep.BELOW:
             return Cut(number, None, cutting.trimmed(self, number, level), ())

@@ -140,7 +140,7 @@ _METHODS: Dict[str, Callable[..., object]] = {
 
 def delete(bench: Selecting, solid: int) -> None:
     """Takes a solid away. Refused: NoSolid."""
-    give(bench, Numbers(bench).taking_away(solid_model(bench, arguments.number('solid', solid))))
+    give(bench, Numbers(bench).taking_away(solid_model(bench, solid)))
 
 
 def copies(bench: Selecting, solid: int, ways: Sequence[Sequence[Change]]) -> Tuple[Copy, ...]:

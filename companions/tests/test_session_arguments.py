@@ -2,6 +2,7 @@
 
 import unittest
 
+from solid_cases import solid_cases
 from support import program
 
 from gwb import Lone, Workbench
@@ -73,6 +74,7 @@ CASES = {
               {'face': NUMBER, 'center': POINT, 'radius': LENGTH, 'sides': (*LENGTH, 2, 10 ** 6 + 1), 'depth': LENGTH[:3] + LENGTH[4:]}),
     'glue_all': ({'solids': [1]}, {'solids': (None, 1, '12', [], [1, 1], [1, '2'], [1, 2.0])}),
 }
+CASES.update(solid_cases(NUMBER, GIVEN, POINT, PLANE, POINTS, LENGTH))
 WITHOUT_ARGUMENTS = {'close', 'draft', 'group', 'listing', 'page', 'script', 'show', 'solids', 'save', 'load'}
 
 
