@@ -12,6 +12,7 @@ from . import arguments
 from .assembly import Names, Take, assembled
 from .combining import Combined, combined, require_room, sheets_of
 from .complaints import Refused
+from .errors import InDraft
 from .flat_face import FlatFace
 from .joined_models import joined
 from .measures import why_unfit
@@ -59,13 +60,14 @@ class Halves(NamedTuple):
 def cut(bench: Selecting, solid: int, plane: Plane, above: Optional[int]) -> Cut:
     """Cuts a solid in two, as one step."""
     number = bench._new('solid', above, 'above')
-    if bench._journal.draft is None:
-        try:
-            made = bench.split(solid, plane, above=number)
-            return Cut(solid, number, made.lower_caps, made.upper_caps)
-        except Refused as refused:
-            if refused.number not in _COPED_WITH:
-                raise
+    try:
+        made = bench.split(solid, plane, above=number)
+        return Cut(solid, number, made.lower_caps, made.upper_caps)
+    except InDraft:
+        pass
+    except Refused as refused:
+        if refused.number not in _COPED_WITH:
+            raise
     model, numbers = solid_model(bench, solid), Numbers(bench)
     halves = cut_model(model, plane, number, numbers.take)
     give(bench, [*numbers.taking_away(model), *numbers.making(joined([halves.lower, halves.upper]))])

@@ -3,6 +3,7 @@
 import os
 import unittest
 from collections import Counter
+from fractions import Fraction
 from random import Random
 
 from support import program
@@ -10,8 +11,15 @@ from voxel_parts import AXES, World, cells_of, squares_of
 
 from gwb import Refused, Workbench
 from gwb.check import check
+from gwb.measures import six_volume
 
 U_SHAPE = [(0, 0, 0), (12, 0, 0), (12, 12, 0), (8, 12, 0), (8, 4, 0), (4, 4, 0), (4, 12, 0), (0, 12, 0)]
+
+
+def volume_of(bench, solid):
+    """The volume of a solid."""
+    model = bench.listing()
+    return Fraction(six_volume(model, model.faces_of(solid)), 6)
 
 
 class Stepwise(unittest.TestCase):
@@ -41,6 +49,10 @@ class Stepwise(unittest.TestCase):
         self.assertEqual((self.bench.listing(), self.bench.script()), (before, script))
         return caught.exception
 
+    def volume(self, solid):
+        """The volume of a solid."""
+        return volume_of(self.bench, solid)
+
     def count(self, solid):
         """Vertices, edges, faces and rings of a solid."""
         return tuple(self.bench.count(solid))[:4]
@@ -57,7 +69,7 @@ class Cuts(Stepwise):
         made = self.one_step(lambda: self.bench.cut(block.solid, (1, 0, 0, -1), above=9))
         self.assertEqual(self.bench.script().splitlines()[1:], ['split 1 1 0 0 -1 9'])
         self.assertEqual((made.below, made.above), (1, 9))
-        self.assertEqual((self.bench.volume(1), self.bench.volume(9)), (6 * 16, 6 * 48))
+        self.assertEqual((self.volume(1), self.volume(9)), (16, 48))
         self.assertEqual([self.bench.face(cap).solid.number for cap in (*made.lower_caps, *made.upper_caps)], [1, 9])
 
     def test_level_with_a_step(self):
@@ -65,7 +77,7 @@ class Cuts(Stepwise):
         flat = self.bench.faces(plane=(0, 1, 0, -2)).one().number
         self.split_refuses('TouchedFace', step.solid, (0, 1, 0, -2))
         made = self.one_step(lambda: self.bench.cut(step.solid, (0, 1, 0, -2)))
-        self.assertEqual((self.bench.volume(made.below), self.bench.volume(made.above)), (96, 48))
+        self.assertEqual((self.volume(made.below), self.volume(made.above)), (16, 8))
         self.assertEqual((self.count(made.below), self.count(made.above)), ((8, 12, 6, 0), (8, 12, 6, 0)))
         self.assertEqual(made.lower_caps, (flat,))
 
@@ -78,23 +90,23 @@ class Cuts(Stepwise):
         solid = self.u_with_pocket([(2, 1, 6), (10, 1, 6), (10, 3, 6), (2, 3, 6)], 1)
         self.split_refuses('CutOften', solid, (0, 1, 0, -8))
         made = self.one_step(lambda: self.bench.cut(solid, (0, 1, 0, -8)))
-        self.assertEqual((self.bench.volume(made.below), self.bench.volume(made.above)), (6 * (80 * 6 - 16), 6 * 32 * 6))
+        self.assertEqual((self.volume(made.below), self.volume(made.above)), (80 * 6 - 16, 32 * 6))
         self.assertEqual((len(made.lower_caps), self.bench.count(made.above).sum), (2, 4))
 
     def test_through_a_pocket_in_one_of_two_legs(self):
         solid = self.u_with_pocket([(11, 12, 2), (11, 12, 4), (9, 12, 4), (9, 12, 2)], 6)
         self.split_refuses('SectionHoles', solid, (0, 1, 0, -8))
         made = self.one_step(lambda: self.bench.cut(solid, (0, 1, 0, -8)))
-        self.assertEqual((self.bench.volume(made.below), self.bench.volume(made.above)), (6 * (480 - 8), 6 * (192 - 16)))
+        self.assertEqual((self.volume(made.below), self.volume(made.above)), (480 - 8, 192 - 16))
         self.assertEqual(sorted(len(self.bench.face(cap).rings) for cap in made.lower_caps), [0, 1])
 
     def test_what_is_kept(self):
         block = self.bench.block((0, 0, 0), (4, 4, 4)).solid
         made = self.one_step(lambda: self.bench.cut(block, (1, 0, 0, -1), keep='below'))
-        self.assertEqual((made.below, made.above, made.upper_caps, self.bench.volume(block)), (block, None, (), 96))
+        self.assertEqual((made.below, made.above, made.upper_caps, self.volume(block)), (block, None, (), 16))
         self.bench.undo()
         made = self.one_step(lambda: self.bench.cut(block, (1, 0, 0, -1), keep='above'))
-        self.assertEqual((made.below, made.above, made.lower_caps, self.bench.volume(block)), (None, block, (), 288))
+        self.assertEqual((made.below, made.above, made.lower_caps, self.volume(block)), (None, block, (), 48))
         self.bench.undo()
         caps = self.one_step(lambda: self.bench.trim(block, (1, 1, 1, -6)))
         self.assertEqual((self.bench.listing().solids, len(caps), self.bench.plane(caps[0]).flat), ((block,), 1, True))
@@ -135,13 +147,13 @@ class Unions(Stepwise):
     def test_two_blocks_become_one(self):
         solids = self.blocks(((0, 0, 0), (4, 4, 4)), ((4, 0, 0), (3, 4, 4)))
         self.assertEqual(self.one_step(lambda: self.bench.union(solids)), solids[0])
-        self.assertEqual((self.count(1), self.bench.volume(1)), ((8, 12, 6, 0), 6 * 7 * 16))
+        self.assertEqual((self.count(1), self.volume(1)), ((8, 12, 6, 0), 7 * 16))
         self.assertEqual(self.bench.listing().only(1).faces.keys(), {1, 2, 3, 5, 6, 10})
 
     def test_an_l_of_two_blocks(self):
         solids = self.blocks(((0, 0, 0), (10, 4, 4)), ((0, 4, 0), (4, 6, 4)))
         self.one_step(lambda: self.bench.union(solids))
-        self.assertEqual((self.count(1), self.bench.volume(1)), ((12, 18, 8, 0), 6 * (160 + 96)))
+        self.assertEqual((self.count(1), self.volume(1)), ((12, 18, 8, 0), 160 + 96))
 
     def test_part_on_part(self):
         slab, column = self.blocks(((0, 0, 0), (10, 10, 2)), ((3, 3, 2), (4, 4, 8)))
@@ -159,21 +171,21 @@ class Unions(Stepwise):
         self.bench.pocket(self.bench.faces().top().one(), [(2, 2, 3), (4, 2, 3), (4, 4, 3), (2, 4, 3)], 1)
         other = self.bench.copy(half, mirror=(0, 0, 1, -3)).solid
         self.one_step(lambda: self.bench.union([half, other]))
-        self.assertEqual((self.count(half), len(self.bench.listing().shells(half)), self.bench.volume(half)), ((16, 24, 12, 0), 2, 6 * 208))
+        self.assertEqual((self.count(half), len(self.bench.listing().shells(half)), self.volume(half)), ((16, 24, 12, 0), 2, 208))
 
     def test_four_cubes_and_more_in_any_order(self):
         solids = self.blocks(*(((2 * x, 2 * y, 0), (2, 2, 2)) for x, y in ((0, 0), (1, 1), (1, 0), (0, 1))))
         self.one_step(lambda: self.bench.union(solids[1::-1] + solids[2:]))
-        self.assertEqual((self.count(2), self.bench.volume(2), self.bench.listing().solids), ((8, 12, 6, 0), 6 * 32, (2,)))
+        self.assertEqual((self.count(2), self.volume(2), self.bench.listing().solids), ((8, 12, 6, 0), 32, (2,)))
 
     def test_a_cut_and_a_union_leave_what_was(self):
         self.bench.block((0, 0, 0), (6, 6, 6))
         self.bench.hole(1, [(2, 2, 6), (4, 2, 6), (4, 4, 6), (2, 4, 6)])
-        count, volume = self.bench.count(1), self.bench.volume(1)
+        count, volume = self.bench.count(1), self.volume(1)
         for plane in ((1, 0, 0, -3), (1, -1, 0, 0), (1, 1, 1, -9)):
             made = self.one_step(lambda: self.bench.cut(1, plane))
             self.one_step(lambda: self.bench.union([made.below, made.above]))
-            self.assertEqual((self.bench.count(1), self.bench.volume(1)), (count, volume))
+            self.assertEqual((self.bench.count(1), self.volume(1)), (count, volume))
 
     def test_what_can_not_be_one(self):
         solids = self.blocks(((0, 0, 0), (4, 4, 4)), ((5, 0, 0), (4, 4, 4)), ((2, 2, 2), (4, 4, 4)), ((4, 4, 0), (2, 2, 2)), ((0, 0, 0), (2, 2, 2)))
@@ -214,7 +226,7 @@ class RandomCuts(unittest.TestCase):
 
     def try_cut(self, world, plane, told):
         """One cut, and the union of both parts, which is square by square what it was."""
-        bench, before, volume = world.bench, world.bench.listing(), world.bench.volume(1)
+        bench, before, volume = world.bench, world.bench.listing(), volume_of(world.bench, 1)
         try:
             made = bench.cut(1, plane)
         except Refused as refused:
@@ -222,7 +234,7 @@ class RandomCuts(unittest.TestCase):
             self.assertEqual(bench.listing(), before)
             return
         told['split' if bench.script().splitlines()[-1].startswith('split') else 'made anew'] += 1
-        self.assertEqual(bench.volume(made.below) + bench.volume(made.above), volume)
+        self.assertEqual(volume_of(bench, made.below) + volume_of(bench, made.above), volume)
         findings = check(bench.listing()).findings
         self.assertEqual({finding.kind for finding in findings} - {'touching'}, set())
         for cap, way in [*((cap, 1) for cap in made.lower_caps), *((cap, -1) for cap in made.upper_caps)]:

@@ -18,7 +18,7 @@ class Shaped(Stepwise):
 
     def missing(self):
         """How much of the block's volume is missing."""
-        return 8000 - self.bench.volume(1) // 6
+        return 8000 - self.volume(1)
 
     def edge(self, *ends):
         """The edge between two points."""
@@ -45,7 +45,7 @@ class Shaped(Stepwise):
     def test_a_shoulder_follows_the_sides_of_its_face(self):
         trapeze = self.bench.profile([(60, 0, 0), (90, 0, 0), (84, 6, 0), (66, 6, 0)], along=(0, 0, 9))
         self.one_step(lambda: self.bench.shoulder(trapeze.far, self.edge((60, 0, 9), (90, 0, 9)), 2, 3))
-        self.assertEqual(self.bench.volume(trapeze.solid), 6 * (144 * 9 - 56 * 3))
+        self.assertEqual(self.volume(trapeze.solid), 144 * 9 - 56 * 3)
 
     def test_notches(self):
         for points, walls in (([(0, 0), (5, 0), (5, 5), (0, 5)], 2), ([(10, 0), (10, 5), (15, 5), (15, 0)], 3), ([(10, 5), (15, 5), (15, 9), (10, 9)], 4),

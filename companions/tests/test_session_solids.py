@@ -3,11 +3,13 @@
 import unittest
 
 from support import program, scripts
+from voxel_parts import loaded
 
 from gwb import Lone, Refused, Workbench
 from gwb.check import check
 from gwb.inversion import script_of
 from gwb.listing import model_of
+from gwb.measures import six_volume
 from gwb.moved import changed, mirroring
 from gwb.replies import split_replies
 from gwb.soundness import require_sound
@@ -35,6 +37,11 @@ class Whole(unittest.TestCase):
         self.bench = Workbench(program())
         self.addCleanup(self.bench.close)
 
+    def six_volume(self, solid):
+        """Six times the volume of a solid."""
+        model = self.bench.listing()
+        return six_volume(model, model.faces_of(solid))
+
     def one_step(self, act):
         """Does it, takes it back and does it again, each time with the same model: what it returned."""
         before, script, commands = self.bench.listing(), self.bench.script(), repr(self.bench)
@@ -58,23 +65,22 @@ class Whole(unittest.TestCase):
         tried = 0
         for stem, model in listings():
             for solid in model.solids:
-                with self.subTest(stem, solid=solid), Workbench(program()) as self.bench:
-                    self.bench._take('\n'.join(script_of(model)).encode())
+                with self.subTest(stem, solid=solid), loaded('\n'.join(script_of(model)), program()) as self.bench:
                     tried += self.try_ways(model, solid)
         self.assertGreater(tried, 300)
 
     def try_ways(self, model, solid):
         """Six ways with one solid of a model: how many. The others stay as they were."""
         rest = [model.only(other) for other in model.solids if other != solid]
-        volume = self.bench.volume(solid)
+        volume = self.six_volume(solid)
         for way, arguments in (('move', ((1, -2, 3),)), ('turn', ('y', 3)), ('mirror', ((1, -1, 0, 0),)), ('mirror', ((0, 0, 3, -6),))):
             self.one_step(lambda: getattr(self.bench, way)(solid, *arguments))
             after = self.bench.listing()
             self.assertEqual([after.only(other) for other in model.solids if other != solid], rest)
             self.assertEqual((after.solids, list(after.faces), list(after.edges)), (model.solids, list(model.faces), list(model.edges)))
-            self.assertEqual(self.bench.volume(solid), volume)
+            self.assertEqual(self.six_volume(solid), volume)
         made = self.one_step(lambda: self.bench.copy(solid, mirror=(1, 0, 0, 0)))
-        self.assertEqual(self.bench.volume(made.solid), volume)
+        self.assertEqual(self.six_volume(made.solid), volume)
         self.assertEqual(self.bench.count(made.solid), self.bench.count(solid))
         self.one_step(lambda: self.bench.delete(solid))
         after = self.bench.listing()
@@ -131,7 +137,7 @@ class Whole(unittest.TestCase):
         self.assertEqual([made.solid for made in row], [2, 3, 4])
         for times, made in enumerate(row, 1):
             self.assertEqual(self.bench.vertices(solid=made.solid, at=(0, 15 * times, times)).one().number, made.vertex(1))
-            self.assertEqual(self.bench.volume(made.solid), self.bench.volume(block.solid))
+            self.assertEqual(self.six_volume(made.solid), self.six_volume(block.solid))
 
     def test_numbers_of_a_copy_were_never_in_use(self):
         gone = self.bench.block((0, 0, 0), (1, 1, 1))

@@ -9,7 +9,9 @@ PROGRAM may be libgwb.so. The last line counts the parts, what was made and what
 import sys
 from collections import Counter
 from itertools import product
+from pathlib import Path
 from random import Random
+from tempfile import TemporaryDirectory
 
 from support import COMPANIONS
 
@@ -18,6 +20,7 @@ sys.path.insert(0, str(COMPANIONS))
 from gwb import Refused, Workbench
 from gwb.check import check
 from gwb.flat_face import FlatFace
+from gwb.measures import six_volume
 from gwb.plane_figures import Place
 
 AXES = range(3)
@@ -77,7 +80,7 @@ class World:
 
     def __init__(self, bench, random):
         self.bench, self.random = bench, random
-        self.solids, self.unit, self.last_cut = {}, 2, 0
+        self.solids, self.unit = {}, 2
         self.told = Counter()
 
     # What holds
@@ -87,7 +90,7 @@ class World:
         model = self.bench.listing()
         assert set(model.solids) == set(self.solids), (model.solids, sorted(self.solids))
         for solid, cells in self.solids.items():
-            assert self.bench.volume(solid) == 6 * len(cells) * self.unit ** 3, solid
+            assert six_volume(model, model.faces_of(solid)) == 6 * len(cells) * self.unit ** 3, solid
             assert Counter(self.squares(model, solid)) == Counter(squares_of(cells)), solid
             findings = [] if touches(cells) else check(model.only(solid)).findings
             assert not findings, findings
@@ -117,31 +120,30 @@ class World:
     # Steps
 
     def attempt(self, name, act, expected):
-        """Does something that is accepted where `expected` is a dict of solids and their cells after it, with None for one that goes; where
-        it is None it is refused, and where it is (dict,) either may be."""
+        """Does something that is accepted where `expected` is a dict of solids and their cells after it, with None for one that goes, or
+        makes one of what is returned; where it is None it is refused, and where it is (dict,) either may be. Returned is what was made, or None."""
         before, script = self.bench.listing(), self.bench.script()
-        steps = self.bench._journal.steps()
         try:
-            act()
+            made = act()
         except Refused as refused:
             assert expected is None or isinstance(expected, tuple), (name, refused)
             assert (self.bench.listing(), self.bench.script()) == (before, script), name
             self.told[f'{name} {refused.name}'] += 1
-            return False
+            return None
         assert expected is not None, name
-        assert self.bench._journal.steps() == steps + 1, name
         after = self.bench.listing()
         self.bench.undo()
         assert self.bench.listing() == before, name
         self.bench.redo()
         assert self.bench.listing() == after, name
-        for solid, cells in (expected[0] if isinstance(expected, tuple) else expected).items():
+        expected = expected[0] if isinstance(expected, tuple) else expected
+        for solid, cells in (expected(made) if callable(expected) else expected).items():
             self.solids.pop(solid, None)
             if cells is not None:
                 self.solids[solid] = cells
         self.told[name] += 1
         self.require_same()
-        return True
+        return made
 
     def step(self):
         """One random step."""
@@ -152,10 +154,6 @@ class World:
 
     def a_solid(self):
         return self.random.choice(sorted(self.solids))
-
-    def free(self):
-        """The number that the next solid gets."""
-        return self.bench._new('solid', None)
 
     def rectangle(self):
         """A face of a solid, and a rectangle of squares in its box: the solid, the face, axis and way, the least cell and the sizes."""
@@ -285,10 +283,10 @@ class World:
 
     def cut(self):
         """A cut in two."""
-        solid = self.last_cut = self.a_solid()
+        solid = self.a_solid()
         plane, below, above = self.a_cut(solid)
-        expected = {solid: below, self.free(): above} if below and above else None
-        return self.attempt('cut', lambda: self.bench.cut(solid, plane), expected)
+        return self.attempt('cut', lambda: self.bench.cut(solid, plane),
+                            (lambda made: {made.below: below, made.above: above}) if below and above else None)
 
     def trim(self):
         """A cut that keeps one part."""
@@ -314,18 +312,18 @@ class World:
 
     def cut_and_unite(self):
         """A cut in two, and both made one again."""
-        above = self.free()
-        if self.cut():
-            self.unite(*self.random.sample([above, self.last_cut], 2))
+        made = self.cut()
+        if made:
+            self.unite(*self.random.sample([made.below, made.above], 2))
 
     def part_on_part(self):
         """A block over a rectangle on a face, made one with the solid."""
         solid, face, axis, way, corner, sizes, inside = self.rectangle()
-        cells, number = self.under(axis, way, corner, sizes, -self.random.randint(1, 3)), self.free()
+        cells = self.under(axis, way, corner, sizes, -self.random.randint(1, 3))
         low, high = ([turned(cell[place] for cell in cells) for place in AXES] for turned in (min, max))
         size = [last - first + 1 for first, last in zip(low, high)]
-        if self.attempt('block', lambda: self.bench.block(self.at(low), self.at(size)), {number: cells}):
-            self.unite(*self.random.sample([solid, number], 2))
+        block = self.attempt('block', lambda: self.bench.block(self.at(low), self.at(size)), lambda made: {made.solid: cells})
+        self.unite(*self.random.sample([solid, block.solid], 2))
 
     def shift(self):
         """A vector of whole cells."""
@@ -333,20 +331,19 @@ class World:
 
     def copy(self):
         """A copy elsewhere, mirrored or not."""
-        solid, number, shift = self.a_solid(), self.free(), self.shift()
+        solid, shift = self.a_solid(), self.shift()
         plane = None if self.random.random() < .5 else (0, 2, 0, -self.unit)
         cells = self.solids[solid] if plane is None else {(x, -y, z) for x, y, z in self.solids[solid]}
         moved = {tuple(part + step for part, step in zip(cell, shift)) for cell in cells}
-        self.attempt('copy', lambda: self.bench.copy(solid, move=self.at(shift), mirror=plane), {number: moved})
+        self.attempt('copy', lambda: self.bench.copy(solid, move=self.at(shift), mirror=plane), lambda made: {made.solid: moved})
 
     def pattern(self):
         """A row."""
-        solid, number, shift = self.a_solid(), self.free(), self.shift()
+        solid, shift = self.a_solid(), self.shift()
         if any(shift) and len(self.solids) < 6:
-            count = self.random.randint(2, 3)
-            rows = {number + times - 1: {tuple(part + times * step for part, step in zip(cell, shift)) for cell in self.solids[solid]}
-                    for times in range(1, count)}
-            self.attempt('pattern', lambda: self.bench.pattern(solid, count, self.at(shift)), rows)
+            count, cells = self.random.randint(2, 3), self.solids[solid]
+            self.attempt('pattern', lambda: self.bench.pattern(solid, count, self.at(shift)), lambda made: {
+                copy.solid: {tuple(part + times * step for part, step in zip(cell, shift)) for cell in cells} for times, copy in enumerate(made, 1)})
 
     def move(self):
         """A move."""
@@ -411,10 +408,17 @@ def try_part(program, seed, steps=10):
         for _ in range(steps):
             world.step()
         listing, script = bench.listing(), bench.script()
-    with Workbench(program) as again:
-        again._take(script.encode())
+    with loaded(script, program) as again:
         assert again.listing() == listing, 'the script makes the same'
     return world.told
+
+
+def loaded(text, program):
+    """A workbench that holds what a script or a listing says."""
+    with TemporaryDirectory() as folder:
+        path = Path(folder, 'part.gwb')
+        path.write_text(text)
+        return Workbench.load(path, program)
 
 
 def try_parts(program, count, first=1):
