@@ -4,6 +4,7 @@ A cut that split refuses for the corners that the plane touches, or for how it r
 face is cut by the plane, and caps close both sides; then the solid is taken apart and the two are made, by operators.
 """
 
+from contextlib import contextmanager
 from enum import Enum
 from fractions import Fraction
 from typing import Dict, Iterator, List, NamedTuple, Optional, Sequence, Tuple
@@ -58,16 +59,11 @@ class Halves(NamedTuple):
 
 
 def cut(bench: Selecting, solid: int, plane: Plane, above: Optional[int]) -> Cut:
-    """Cuts a solid in two, as one step."""
+    """Cuts a solid in two, as one command."""
     number = bench._new('solid', above, 'above')
-    try:
+    with _another_way():
         made = bench.split(solid, plane, above=number)
         return Cut(solid, number, made.lower_caps, made.upper_caps)
-    except InDraft:
-        pass
-    except Refused as refused:
-        if refused.number not in _COPED_WITH:
-            raise
     model, numbers = solid_model(bench, solid), Numbers(bench)
     halves = cut_model(model, plane, number, numbers.take)
     give(bench, [*numbers.taking_away(model), *numbers.making(joined([halves.lower, halves.upper]))])
@@ -76,11 +72,26 @@ def cut(bench: Selecting, solid: int, plane: Plane, above: Optional[int]) -> Cut
 
 def trimmed(bench: Selecting, solid: int, plane: Plane) -> Tuple[int, ...]:
     """What lies above the plane is cut off and thrown away, as one step: the caps of what is left, which keeps its number."""
-    with bench._step():
-        made = cut(bench, solid, plane, None)
-        assert made.above is not None, 'the cut keeps both parts'
-        delete(bench, made.above)
-    return made.lower_caps
+    with _another_way(), bench._step():
+        made = bench.split(solid, plane)
+        delete(bench, made.solid)
+        return made.lower_caps
+    model, numbers = solid_model(bench, solid), Numbers(bench)
+    halves = cut_model(model, plane, numbers.take('solid'), numbers.take)
+    give(bench, [*numbers.taking_away(model), *numbers.making(halves.lower)])
+    return halves.lower_caps
+
+
+@contextmanager
+def _another_way() -> Iterator[None]:
+    """What is given in it may be refused where another way of cutting copes: then it goes on after it."""
+    try:
+        yield
+    except InDraft:
+        pass
+    except Refused as refused:
+        if refused.number not in _COPED_WITH:
+            raise
 
 
 def kept(value: object) -> Keep:

@@ -69,8 +69,7 @@ class SolidMethods(Features):
         number, level, wanted = arguments.number('solid', solid), arguments.plane('plane', plane), cutting.kept(keep)
         new = None if above is None else arguments.number('above', above)
         if wanted is Keep.BOTH:
-            with self._step():
-                return cutting.cut(self, number, level, new)
+            return cutting.cut(self, number, level, new)
         if new is not None:
             raise ValueError(f'above: the part above the plane gets no number of its own where {keep!r} alone is kept')
         if wanted is Keep.BELOW:

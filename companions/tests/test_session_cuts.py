@@ -117,6 +117,8 @@ class Cuts(Stepwise):
         with self.bench.draft():
             made = self.bench.cut(block, (1, -1, 0, 0))
             self.assertEqual(self.count(made.above), (6, 9, 5, 0))
+            self.bench.trim(made.above, (0, 0, 1, -1))
+            self.assertEqual(self.volume(made.above), 8)
         self.bench.undo()
         self.assertEqual(self.bench.listing(), before)
         with self.bench.draft():
