@@ -2,7 +2,7 @@
 
 from typing import Dict, List, NamedTuple, Sequence, Tuple
 
-from .assembly import Names, Take, assembled
+from .assembly import Names, assembled
 from .box_index import Box, box_of, boxes_meet
 from .face_crossings import comes_into
 from .findings import Finding
@@ -36,15 +36,18 @@ def _sheet(model: Model, face: int) -> Sheet:
     return Sheet(face, across, [[Side(model.point(half), model.point(-half), half) for half in loop.halves] for loop in loops])
 
 
-def combined(solid: int, old: Model, held: Sequence[Sheet], added: Sequence[Sheet], take: Take) -> Combined:
-    """A solid of which sheets are held and others are added; the old model has the numbers of both. `take` gives a new number of a kind.
+def combined(solid: int, names: Names, held: Sequence[Sheet], added: Sequence[Sheet], why: Impossible) -> Combined:
+    """A solid of which sheets are held and others are added.
 
-    Refused: OffLattice, Overlap; Meets: the faces don't close again; SectionHoles: a hole lies in no face; NothingLeft."""
+    Refused: OffLattice: edges cross between whole coordinates; NothingLeft; in the words that are given where the sheets make no faces."""
     marked = [sheet._replace(mark=place) for place, sheet in enumerate(added)]
-    regions = list(overlaid(held, marked))
-    if not regions:
-        raise Impossible('NothingLeft', solid, f'nothing of solid {solid} would be left')
-    made = assembled(solid, regions, Names(old, take))
+    try:
+        regions = list(overlaid(held, marked))
+        if not regions:
+            raise Impossible('NothingLeft', solid, f'nothing of solid {solid} would be left')
+        made = assembled(solid, regions, names)
+    except Impossible as error:
+        raise error if error.name in ('OffLattice', 'NothingLeft', 'NumbersSpent') else why from None
     is_joined = sum(_size(region.cycles) for region in regions) < sum(_size(sheet.cycles) for sheet in (*held, *added))
     return Combined(made.model, tuple(made.marked(regions, place) for place in range(len(added))), is_joined)
 

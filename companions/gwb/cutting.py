@@ -208,7 +208,7 @@ def united(bench: Selecting, solids: Sequence[int]) -> int:
     whole, left = models[0], models[1:]
     overlap = Impossible('Overlap', solids[0], 'the solids overlap, or their union would touch itself')
     while left:
-        place, made = _with_one(whole, left, numbers)
+        place, made = _with_one(whole, left, numbers, overlap)
         other = left.pop(place)
         require_room(sheets_of(whole), sheets_of(other), [whole, other], made.model, overlap)
         whole = made.model
@@ -216,11 +216,11 @@ def united(bench: Selecting, solids: Sequence[int]) -> int:
     return solids[0]
 
 
-def _with_one(whole: Model, left: Sequence[Model], numbers: Numbers) -> Tuple[int, Combined]:
+def _with_one(whole: Model, left: Sequence[Model], numbers: Numbers, overlap: Impossible) -> Tuple[int, Combined]:
     """The first of the solids left that touches the whole in a face, by its place, and the union with it."""
-    solid = whole.solids[0]
     for place, other in enumerate(left):
-        made = combined(solid, joined([whole, other]), sheets_of(whole), sheets_of(other), numbers.take)
+        names = Names(joined([whole, other]), numbers.take)
+        made = combined(whole.solids[0], names, sheets_of(whole), sheets_of(other), overlap)
         if made.is_joined:
             return place, made
     raise Impossible('NoContact', left[0].solids[0], f'solid {left[0].solids[0]} touches the others in no face')

@@ -3,6 +3,7 @@
 from fractions import Fraction
 from typing import List, NamedTuple, Optional, Sequence, Tuple
 
+from .assembly import Names
 from .combining import combined, require_room, sheets_of
 from .measures import area_vector, normal, why_unfit
 from .model import Model
@@ -83,10 +84,7 @@ def _changed(bench: Selecting, face: int, tool: Tool, paths: Sequence[Path]) -> 
             raise Impossible('PointRange', 0, 'a corner would lie at {} {} {}, past 1,000,000,000'.format(*point))
     meets = Impossible('Meets', face, f'the part at face {face} would meet the solid elsewhere, or the solid would touch itself')
     held, added = sheets_of(model), [_sheet(path) for path in paths]
-    try:
-        made = combined(solid, model, held, added, numbers.take)
-    except Impossible as error:
-        raise meets if error.name == 'Overlap' else error from None
+    made = combined(solid, Names(model, numbers.take), held, added, meets)
     lid, *others = made.faces
     if lid:
         raise Impossible('OutlineOutside', face, f'the outline reaches beyond face {face}')
