@@ -101,13 +101,15 @@ class _Assembly:
         for place in places:
             lines.setdefault(_line(self._sides[place]), []).append(place)
         for (way, _), held in lines.items():
-            ends = sorted({dot(way, point): point for place in held for point in self._sides[place][:2]}.items())
-            parts: Dict[Tuple[int, int], List[int]] = {}
-            for place in held:
-                for start, end, part in self._cut(place, way, ends):
-                    parts.setdefault((min(start, end), max(start, end)), []).append(part)
-            for found in parts.values():
-                self._pair(found, way)
+            self._pair_on_line(way, held)
+
+    def _pair_on_line(self, way: Vector, held: List[int]) -> None:
+        ends = sorted({dot(way, point): point for place in held for point in self._sides[place][:2]}.items())
+        parts: Dict[Tuple[int, int], List[int]] = {}
+        for start, end, part in [cut for place in held for cut in self._cut(place, way, ends)]:
+            parts.setdefault((min(start, end), max(start, end)), []).append(part)
+        for found in parts.values():
+            self._pair(found, way)
 
     def _cut(self, place: int, way: Vector, ends: List[Tuple[int, Vector]]) -> Iterator[Tuple[int, int, int]]:
         """A side in parts: where each starts and ends along the line, and its place."""

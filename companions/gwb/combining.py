@@ -36,6 +36,13 @@ def _sheet(model: Model, face: int) -> Sheet:
     return Sheet(face, across, [[Side(model.point(half), model.point(-half), half) for half in loop.halves] for loop in loops])
 
 
+def require_flat(model: Model, face: int) -> None:
+    """Refuses a face that isn't a plain flat one: NotFlat."""
+    why = why_unfit(model, face)
+    if why is not None:
+        raise Impossible('NotFlat', face, why)
+
+
 def combined(solid: int, names: Names, held: Sequence[Sheet], added: Sequence[Sheet], why: Impossible) -> Combined:
     """A solid of which sheets are held and others are added.
 

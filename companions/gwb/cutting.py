@@ -11,12 +11,12 @@ from typing import Dict, Iterator, List, NamedTuple, Optional, Sequence, Tuple
 
 from . import arguments
 from .assembly import Names, Take, assembled
-from .combining import Combined, combined, require_room, sheets_of
+from .combining import Combined, combined, require_flat, require_room, sheets_of
 from .complaints import Refused
 from .errors import InDraft
 from .flat_face import FlatFace
+from .free_numbers import LARGEST
 from .joined_models import joined
-from .measures import why_unfit
 from .model import Model
 from .outlines import Impossible
 from .plane_figures import Place
@@ -64,6 +64,7 @@ def cut(bench: Selecting, solid: int, plane: Plane, above: Optional[int]) -> Cut
     with _another_way():
         made = bench.split(solid, plane, above=number)
         return Cut(solid, number, made.lower_caps, made.upper_caps)
+    require_free(bench, number)
     model, numbers = solid_model(bench, solid), Numbers(bench)
     halves = cut_model(model, plane, number, numbers.take)
     give(bench, [*numbers.taking_away(model), *numbers.making(joined([halves.lower, halves.upper]))])
@@ -80,6 +81,14 @@ def trimmed(bench: Selecting, solid: int, plane: Plane) -> Tuple[int, ...]:
     halves = cut_model(model, plane, numbers.take('solid'), numbers.take)
     give(bench, [*numbers.taking_away(model), *numbers.making(halves.lower)])
     return halves.lower_caps
+
+
+def require_free(bench: Selecting, solid: int) -> None:
+    """Refuses the number of a new solid that is in use or out of range, as split does."""
+    if not 1 <= solid <= LARGEST:
+        raise Impossible('NumberRange', solid, f'the number {solid} is outside 1 to 1,000,000')
+    if solid in bench.solids().numbers:
+        raise Impossible('SolidTaken', solid, f'solid {solid} is in use')
 
 
 @contextmanager
@@ -113,9 +122,7 @@ def cut_model(model: Model, plane: Plane, above: int, take: Take) -> Halves:
     Refused: NotFlat: a face isn't flat; PlaneMisses: nothing lies above the plane, or below it; NotLattice: an edge is cut between whole
     coordinates; Meets: faces would lie on each other at an edge."""
     for face in model.faces:
-        why = why_unfit(model, face)
-        if why is not None:
-            raise Impossible('NotFlat', face, why)
+        require_flat(model, face)
     heights = [dot(plane[:3], point) + plane[3] for point in model.vertices.values()]
     solid = model.solids[0]
     if max(heights) <= 0 or min(heights) >= 0:

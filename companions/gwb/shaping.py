@@ -4,8 +4,8 @@ from fractions import Fraction
 from typing import List, NamedTuple, Optional, Sequence, Tuple
 
 from .assembly import Names
-from .combining import combined, require_room, sheets_of
-from .measures import area_vector, normal, why_unfit
+from .combining import combined, require_flat, require_room, sheets_of
+from .measures import area_vector, normal
 from .model import Model
 from .moved import FARTHEST
 from .outlines import Impossible, simple_normal, steps_along
@@ -162,9 +162,7 @@ def wedge(start: Corner, end: Corner) -> Wedge:
 
 def flat_normal(model: Model, face: int) -> Vector:
     """The normal of a face. Refused: NotFlat."""
-    why = why_unfit(model, face)
-    if why is not None:
-        raise Impossible('NotFlat', face, why)
+    require_flat(model, face)
     return reduced(normal(model, face))
 
 

@@ -8,7 +8,7 @@ those of what is left.
 from fractions import Fraction
 from typing import Dict, Iterator, List, NamedTuple, Optional, Sequence, Set, Tuple
 
-from .box_index import Box, box_of, boxes_meet
+from .box_index import Box, BoxIndex, box_of, boxes_meet
 from .joined_sets import JoinedSets
 from .outlines import Impossible
 from .plane_figures import Place, crossing, inside_segment, locate, turn
@@ -85,14 +85,16 @@ def overlaid(held: Sequence[Sheet], added: Sequence[Sheet]) -> Iterator[Region]:
     for sheet in added:
         levels.setdefault(sheet.level, []).append(sheet)
     boxes = {level: box_of(side.start for sheet in sheets for side in sheet.sides) for level, sheets in levels.items()}
-    for sheet in held:
-        level = sheet.level
-        if level in levels and sheet.lies_in(level) and boxes_meet(box_of(side.start for side in sheet.sides), boxes[level]):
-            levels[level].insert(0, sheet)
-        else:
-            yield _unchanged(sheet)
+    near = [sheet.level if _is_near(sheet, boxes) else None for sheet in held]
+    yield from (_unchanged(sheet) for sheet, level in zip(held, near) if level is None)
     for level, sheets in levels.items():
-        yield from _Overlay(sheets, boxes[level]).regions()
+        yield from _Overlay([*(sheet for sheet, own in zip(held, near) if own == level), *sheets], boxes[level]).regions()
+
+
+def _is_near(sheet: Sheet, boxes: Dict[Level, Box]) -> bool:
+    """Whether a sheet lies in one of the planes, and its box meets the box there."""
+    level = sheet.level
+    return level in boxes and sheet.lies_in(level) and boxes_meet(box_of(side.start for side in sheet.sides), boxes[level])
 
 
 def _unchanged(sheet: Sheet) -> Region:
@@ -107,6 +109,7 @@ class _Overlay:
         self._sheets, self._box = sheets, box
         self._axes = flat_axes(sheets[0].level.across)
         self._doubled = [[(self._twice(side.start), self._twice(side.end)) for side in sheet.sides] for sheet in sheets]
+        self._boxes = [box_of(side.start for side in sheet.sides) for sheet in sheets]
         self._joined = JoinedSets()
         self._kept: Dict[int, List[Side]] = {place: [] for place in range(len(sheets))}
 
@@ -134,7 +137,7 @@ class _Overlay:
     def _emit(self) -> None:
         """Each side, or part of one, goes to the sheets that it bounds afterwards."""
         pieces = self._pieces()
-        beside = [(piece, self._left(piece, True), self._left(piece, False)) for piece in pieces]
+        beside = [(piece, self._left_over(piece, True), self._left_over(piece, False)) for piece in pieces]
         for _, left, right in beside:
             self._join(left, right)
         for piece, left, right in beside:
@@ -161,23 +164,24 @@ class _Overlay:
                 if first.is_added != second.is_added and first.facing == second.facing:
                     self._joined.join(min(one, other), max(one, other))
 
-    def _left(self, piece: _Piece, is_left: bool) -> Set[int]:
-        """The sheets that are left on one side of a piece."""
-        found = [place for place in range(len(self._sheets)) if self._covers(place, piece, is_left)]
-        left = set(found)
-        for place in (place for place in found if self._sheets[place].is_added):
+    def _left_over(self, piece: _Piece, on_left: bool) -> Set[int]:
+        """The sheets beside a piece, left of it or right, without those that go: an added one and a held one that look against each other."""
+        found = {place for place in range(len(self._sheets)) if self._covers(place, piece, on_left)}
+        for place in [place for place in found if self._sheets[place].is_added]:
             facing = self._sheets[place].facing
-            others = [other for other in left if other != place and not (self._sheets[other].is_added and self._sheets[other].facing != facing)]
-            if any(self._sheets[other].facing == facing for other in others):
-                raise Impossible('Overlap', max(self._sheets[other].owner for other in (place, *others)), 'two faces overlap that look one way')
-            left -= {place, *others[:1]} if others else set()
-        return left
+            if any(self._sheets[other].facing == facing for other in found - {place}):
+                raise Impossible('Overlap', self._sheets[place].owner, 'two faces overlap that look one way')
+            against = next((other for other in sorted(found) if not self._sheets[other].is_added), None)
+            found -= set() if against is None else {place, against}
+        return found
 
-    def _covers(self, place: int, piece: _Piece, is_left: bool) -> bool:
+    def _covers(self, place: int, piece: _Piece, on_left: bool) -> bool:
         """Whether the sheet lies on this side of the piece."""
         if place in piece.sides:
             runs = {side.start == piece.ends[0] for side in piece.sides[place]}
-            return (is_left == (self._sheets[place].facing > 0)) in runs
+            return (on_left == (self._sheets[place].facing > 0)) in runs
+        if not boxes_meet(box_of(piece.ends), self._boxes[place]):
+            return False
         (x, y), (u, v) = map(self._flat, piece.ends)
         return locate(self._doubled[place], (x + u, y + v)) is Place.INSIDE
 
@@ -198,14 +202,13 @@ class _Overlay:
 
     def _parts(self, near: List[Tuple[int, Side]]) -> Iterator[Tuple[int, Side]]:
         """The sides, each cut where one of the others, held against added, meets it."""
+        index = BoxIndex({key: box_of((side.start, side.end)) for key, (_, side) in enumerate(near)})
         for place, side in near:
-            cuts = {side.start, side.end}
-            for other, across in near:
-                if self._sheets[other].is_added != self._sheets[place].is_added:
-                    cuts |= self._meetings(side, across)
-            points = sorted(cuts, reverse=side.start > side.end)
-            for start, end in zip(points, points[1:]):
-                yield place, Side(start, end, side.half)
+            others = (near[key] for key in index.meeting(box_of((side.start, side.end))))
+            cuts = {point for other, across in others if self._sheets[other].is_added != self._sheets[place].is_added
+                    for point in self._meetings(side, across)}
+            points = sorted({side.start, side.end, *cuts}, reverse=side.start > side.end)
+            yield from ((place, Side(start, end, side.half)) for start, end in zip(points, points[1:]))
 
     def _meetings(self, side: Side, other: Side) -> Set[Vector]:
         """The points inside a side where another one meets it."""

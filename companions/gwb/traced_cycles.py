@@ -23,7 +23,7 @@ Cycle = Sequence[Side]
 def traced(sides: Sequence[Side], across: Vector) -> Iterator[List[Cycle]]:
     """The regions that the sides bound, as seen from where the normal points: the outline of each and then its holes. The largest comes first.
 
-    Where regions touch in a point they stay apart."""
+    Where regions touch in a point they stay apart. Refused: Meets: the sides make no outlines, or a hole lies in none."""
     cycles = list(_cycles(sides, flat_axes(across)))
     areas = {id(cycle): dot(across, area_vector([side.start for side in cycle])) for cycle in cycles}
     outer = sorted((cycle for cycle in cycles if areas[id(cycle)] > 0), key=lambda cycle: (-areas[id(cycle)], min(cycle)))
@@ -31,7 +31,7 @@ def traced(sides: Sequence[Side], across: Vector) -> Iterator[List[Cycle]]:
     for hole in (cycle for cycle in cycles if areas[id(cycle)] <= 0):
         around = [cycle for cycle in outer if _lies_in(hole, cycle, flat_axes(across))]
         if not around:
-            raise Impossible('SectionHoles', 0, 'a hole would lie in no face')
+            raise Impossible('Meets', 0, 'a hole would lie in no face')
         holes[id(around[-1])].append(hole)
     return ([cycle, *holes[id(cycle)]] for cycle in outer)
 
@@ -55,7 +55,7 @@ def _cycles(sides: Sequence[Side], axes: Tuple[int, int]) -> Iterator[Cycle]:
 def _next(side: Side, leaving: List[Side], axes: Tuple[int, int]) -> Side:
     """The first of the sides that leave the end of one, clockwise from the way back."""
     if not leaving:
-        raise Impossible('SectionHoles', abs(side.half), 'the outline of a face would not be closed')
+        raise Impossible('Meets', abs(side.half), 'the outline of a face would not be closed')
     if len(leaving) == 1:
         return leaving[0]
     back = _way(side.end, side.start, axes)

@@ -125,10 +125,13 @@ class Cuts(Stepwise):
             self.refuse_in_draft('PlaneMisses', (1, 0, 0, -4))
             self.refuse_in_draft('PlaneMisses', (1, 0, 0, 0))
             self.refuse_in_draft('NotLattice', (2, 0, 0, -1))
+            self.refuse_in_draft('SolidTaken', (1, 0, 0, -1), above=1)
+            self.refuse_in_draft('NumberRange', (1, 0, 0, -1), above=1_000_001)
+            self.assertEqual(self.bench.listing(), before)
 
-    def refuse_in_draft(self, name, plane):
+    def refuse_in_draft(self, name, plane, **more):
         with self.assertRaises(Refused) as caught:
-            self.bench.cut(1, plane)
+            self.bench.cut(1, plane, **more)
         self.assertEqual(caught.exception.name, name)
 
     def test_what_no_cut_can_do(self):
