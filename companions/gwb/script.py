@@ -1,4 +1,4 @@
-"""Writes the script that makes the model of a listing."""
+"""Writes the script that makes the model of a listing, or that takes it away."""
 
 import argparse
 import re
@@ -8,7 +8,7 @@ from typing import Any, Callable, Dict, List, Optional, Sequence
 from .command_line import OK, listing_parser, read_bytes, run
 from .errors import CompanionError
 from .inside_out import warn_of_inside_out
-from .inversion import script_of
+from .inversion import script_of, taking_away
 from .joined_models import without
 from .listing import read_model
 from .model import Model
@@ -71,6 +71,7 @@ def _parser() -> argparse.ArgumentParser:
     beside = parser.add_mutually_exclusive_group()
     beside.add_argument('--after', metavar='LISTING', help='renumber it, so that the script can be run where this model is')
     beside.add_argument('--copy', action='store_true', help='renumber it, so that the script can be run where the model that was read is')
+    beside.add_argument('--away', action='store_true', help='write the commands that take it away, to be run where the model is')
     parser.add_argument('--short', action='store_true', help='use lamina, block and sweep where they make exactly a solid')
     return parser
 
@@ -96,6 +97,8 @@ def _chosen(held: Model, options: argparse.Namespace) -> Model:
 
 
 def _script(held: Model, model: Model, options: argparse.Namespace) -> List[str]:
+    if options.away:
+        return taking_away(model, [held])
     for change in options.changes or ():
         model = changed(model, change)
     beside = [held] if options.copy else [] if options.after is None else [read_model(read_bytes(options.after))]
@@ -106,7 +109,10 @@ def _script(held: Model, model: Model, options: argparse.Namespace) -> List[str]
 
 def work(words: Optional[Sequence[str]]) -> int:
     """Reads a listing and writes its script."""
-    options = _parser().parse_args(_with_times(sys.argv[1:] if words is None else words))
+    parser = _parser()
+    options = parser.parse_args(_with_times(sys.argv[1:] if words is None else words))
+    if options.away and (options.short or options.changes):
+        parser.error('argument --away: not allowed with --short or a change of place')
     held = read_model(read_bytes(options.listing))
     model = _chosen(held, options)
     lines = _script(held, model, options)

@@ -186,6 +186,13 @@ class Options(unittest.TestCase):
         self.assertEqual(run('script', '--without', '1', path), run('script', '--solid', '2', path))
         self.assertEqual(run('script', '--without', '1', '--without', '2', path), ('', '', 0))
 
+    def test_a_solid_taken_away(self):
+        made = ['block 1 0 0 0 8 6 6', 'split 1 1 0 1 -12 2']
+        path = self.file(listing_in(replies_to([*made, 'list'])))
+        lines = run('script', '--solid', '2', '--away', path).out.splitlines()
+        self.assertEqual(replies_to([*made, *lines, 'volume 1', 'volume 2']), 'ok\n' * (2 + len(lines)) + 'volume 1656\nrefused 2 2\n')
+        self.assertEqual(replies_to([*made, *run('script', '--away', path).out.splitlines(), 'list']).splitlines()[-1], 'empty')
+
     def test_a_copy_beside(self):
         path = self.file(listing_in(replies_to(['block 1 0 0 0 4 4 4', 'list'])))
         self.assertEqual(run('script', '--short', '--copy', '--move', '9', '0', '0', path).out, 'block 2 9 0 0 4 4 4\n')
@@ -230,6 +237,8 @@ class Options(unittest.TestCase):
         self.refuse(3, 'between whole coordinates', '--mirror', '2', '0', '0', '1', '--mirror', '3', '0', '0', '1', path)
         self.refuse(2, 'all zero', '--mirror', '0', '0', '0', '1', path)
         self.refuse(2, 'not allowed', '--copy', '--after', path, path)
+        self.refuse(2, 'not allowed', '--away', '--short', path)
+        self.refuse(2, 'not allowed', '--away', '--turn', 'x', path)
         self.refuse(3, 'No such file', '--after', path + '.none', path)
         self.refuse(2, '--scale', '--scale', '0', path)
         self.refuse(2, '--move', '--move', '1', 'a', '0', path)
