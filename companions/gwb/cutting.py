@@ -14,12 +14,11 @@ from .assembly import Names, Take, assembled
 from .combining import Combined, combined, require_flat, require_room, sheets_of
 from .complaints import Refused
 from .errors import InDraft
-from .flat_face import FlatFace
 from .free_numbers import LARGEST
 from .joined_models import joined
 from .model import Model
 from .outlines import Impossible
-from .plane_figures import Place
+from .plane_figures import Place, locate
 from .selection import Selecting
 from .sheets import Sheet, overlaid
 from .solids import Numbers, delete, give, solid_model
@@ -135,7 +134,7 @@ def cut_model(model: Model, plane: Plane, above: int, take: Take) -> Halves:
 
 def _part(model: Model, plane: Plane, solid: int, names: Names) -> Tuple[Model, Tuple[int, ...]]:
     """The part of a model below the plane, closed by caps: these."""
-    left = [part for sheet in sheets_of(model) for part in _below(model, sheet, plane)]
+    left = [part for sheet in sheets_of(model) for part in _below(sheet, plane)]
     caps = [Sheet(0, plane[:3], cycles, place) for place, cycles in enumerate(traced(_open_sides(left, plane), plane[:3]))]
     regions = list(overlaid(left, caps))
     made = assembled(solid, regions, names)
@@ -155,11 +154,11 @@ def _height(plane: Plane, point: Vector) -> int:
     return dot(plane[:3], point) + plane[3]
 
 
-def _below(model: Model, sheet: Sheet, plane: Plane) -> Iterator[Sheet]:
+def _below(sheet: Sheet, plane: Plane) -> Iterator[Sheet]:
     """What is left of a face below the plane. A face in the plane is left where it looks upwards."""
     heights = {_height(plane, side.start) for side in sheet.sides}
     if min(heights) < 0 < max(heights):
-        sides = [*_sides_below(sheet, plane), *_cuts(model, sheet, plane)]
+        sides = [*_sides_below(sheet, plane), *_cuts(sheet, plane)]
         yield from (Sheet(sheet.owner, sheet.across, cycles) for cycles in traced(sides, sheet.across))
     elif min(heights) < 0 or (heights == {0} and dot(sheet.across, plane[:3]) > 0):
         yield sheet
@@ -193,16 +192,21 @@ def _crossing(side: Side, plane: Plane) -> Vector:
     return (int(point[0]), int(point[1]), int(point[2]))
 
 
-def _cuts(model: Model, sheet: Sheet, plane: Plane) -> Iterator[Side]:
+def _cuts(sheet: Sheet, plane: Plane) -> Iterator[Side]:
     """The sides along which the plane cuts a face, as those of the part below it."""
-    along, shape = cross(sheet.across, plane[:3]), FlatFace(model, sheet.owner)
+    along, spot = cross(sheet.across, plane[:3]), sheet.spot
+    twice = [(_sum(spot(side.start), spot(side.start)), _sum(spot(side.end), spot(side.end))) for side in sheet.sides]
     points = {side.start for side in sheet.sides if _height(plane, side.start) == 0}
     points |= {_crossing(side, plane) for side in sheet.sides if _height(plane, side.start) * _height(plane, side.end) < 0}
     ordered = sorted(points, key=lambda point: dot(along, point))
     for start, end in zip(ordered, ordered[1:]):
-        x, y, z = (Fraction(one + other, 2) for one, other in zip(start, end))
-        if shape.locate((x, y, z)) is Place.INSIDE:
+        if locate(twice, _sum(spot(start), spot(end))) is Place.INSIDE:
             yield Side(start, end)
+
+
+def _sum(one: Tuple[int, int], other: Tuple[int, int]) -> Tuple[int, int]:
+    """Twice the middle of two points: so all stays whole."""
+    return (one[0] + other[0], one[1] + other[1])
 
 
 def united(bench: Selecting, solids: Sequence[int]) -> int:

@@ -4,9 +4,11 @@ whatever lies at its ends, or by a face that lies within the part.
 
 from fractions import Fraction
 from itertools import count
+from math import lcm
 from typing import Iterator, List, Sequence, Tuple
 
-from .box_index import Box, BoxIndex, box_of
+from .box_index import Box, BoxIndex, box_of, boxes_meet
+from .joined_sets import JoinedSets
 from .plane_figures import Exact, Flat, Place, Segment, locate
 from .sheets import Sheet
 from .vectors import Vector, ZERO, cross, dot, flat_axes
@@ -23,12 +25,25 @@ def comes_into(held: Sequence[Sheet], part: Sequence[Sheet]) -> bool:
     walls = [_Shape(sheet) for sheet in part]
     if not flat:
         return False
-    boxes = BoxIndex({place: box_of(shape.points) for place, shape in flat.items()})
-    if any(_cross(wall, flat[place]) for wall in walls for place in boxes.meeting(box_of(wall.points))):
+    boxes = BoxIndex({place: shape.box for place, shape in flat.items()})
+    if any(_cross(wall, flat[place]) for wall in walls for place in boxes.meeting(wall.box)):
         return True
     around = box_of(point for wall in walls for point in wall.points)
-    within = (flat[place] for place in boxes.meeting(around) if _lies_in(box_of(flat[place].points), around))
-    return any(_bound(walls, shape.inner_point()) for shape in within)
+    within = {part.name(place): flat[place] for part in [_parts_beside(held, walls)] for place in boxes.meeting(around)
+              if _lies_in(flat[place].box, around)}
+    return any(_bound(walls, shape.inner_point()) for shape in within.values())
+
+
+def _parts_beside(held: Sequence[Sheet], walls: Sequence['_Shape']) -> JoinedSets:
+    """The held sheets, by their places, in parts that lie on one side of the walls each: joined across sides whose middles touch no wall."""
+    index = BoxIndex({place: wall.box for place, wall in enumerate(walls)})
+    beside = {(side.start, side.end): place for place, sheet in enumerate(held) for side in sheet.sides}
+    joined = JoinedSets()
+    for (start, end), place in beside.items():
+        middle = tuple(Fraction(one + other, 2) for one, other in zip(start, end))
+        if start < end and (end, start) in beside and not any(True for _ in index.meeting(box_of([middle]))):
+            joined.join(place, beside[end, start])
+    return joined
 
 
 class _Shape:
@@ -38,6 +53,7 @@ class _Shape:
         self.across = sheet.across
         self.ends = [(side.start, side.end) for side in sheet.sides]
         self.points = [start for start, _ in self.ends]
+        self.box = box_of(self.points)
         self._axes = flat_axes(sheet.across)
         self._outline: List[Segment] = []
 
@@ -105,13 +121,23 @@ class _Shape:
 def _bound(walls: Sequence[_Shape], point: ExactPoint) -> bool:
     """Whether a point lies in the room that walls bound, and on none of them: by the parity of crossings of a ray that meets no edge. Of the
     rays (1, k, k * k) at most two lie in any plane through the point, so only finitely many meet an edge."""
-    if any(wall.height(point) == 0 and wall.place_of(point) is not Place.OUTSIDE for wall in walls):
+    if any(boxes_meet(wall.box, box_of([point])) and wall.height(point) == 0 and wall.place_of(point) is not Place.OUTSIDE for wall in walls):
         return False
+    scale = lcm(*(Fraction(part).denominator for part in point))
+    whole = (int(scale * point[0]), int(scale * point[1]), int(scale * point[2]))
     for k in count(3):
-        places = [wall.hit(point, (1, k, k * k)) for wall in walls]
+        places = [wall.hit(point, (1, k, k * k)) for wall in walls if _may_meet(wall.box, scale, whole, (1, k, k * k))]
         if Place.ON not in places:
             break
     return places.count(Place.INSIDE) % 2 == 1
+
+
+def _may_meet(box: Box, scale: int, start: Vector, ray: Vector) -> bool:
+    """Whether a ray, all of whose parts are above zero, may meet a box, scaled: no two of its walls keep them apart."""
+    (a, u), (b, v), (c, w) = ((scale * low - part, scale * high - part) for (low, high), part in zip(box, start))
+    x, y, z = ray
+    return (u >= 0 and v >= 0 and w >= 0 and a * y <= v * x and b * x <= u * y
+            and a * z <= w * x and c * x <= u * z and b * z <= w * y and c * y <= v * z)
 
 
 def _lies_in(one: Box, other: Box) -> bool:

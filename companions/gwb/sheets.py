@@ -56,6 +56,11 @@ class Sheet(NamedTuple):
         """The sides of all its cycles."""
         return (side for cycle in self.cycles for side in cycle)
 
+    def spot(self, point: Vector) -> Tuple[int, int]:
+        """A point as seen from the side to which the sheet looks."""
+        first, second = flat_axes(self.across)
+        return (point[first], point[second])
+
     def lies_in(self, level: Level) -> bool:
         """Whether all its corners lie in a plane."""
         return all(dot(level.across, side.start) == level.height for side in self.sides)
