@@ -87,6 +87,11 @@ class Shaped(Stepwise):
             self.one_step(lambda: self.bench.chamfer(self.edge(*edge), 2))
         self.assertEqual((self.missing(), self.count(1)), (120, (14, 21, 9, 0)))
 
+    def test_chamfers_that_meet_at_a_corner(self):
+        for ends in ((40, 0, 10), (40, 20, 10)), ((0, 0, 10), (37, 0, 10)):
+            self.one_step(lambda: self.bench.chamfer(self.edge(*ends), 3))
+        self.assertEqual((self.missing(), self.count(1)), (90 + 180 - 9, (11, 17, 8, 0)))
+
     def test_an_inner_edge_is_filled(self):
         self.bench.shoulder(self.top, self.edge((40, 0, 10), (40, 20, 10)), 6, 4)
         made = self.one_step(lambda: self.bench.chamfer(self.edge((34, 0, 6), (34, 20, 6)), 2))
