@@ -146,20 +146,24 @@ class _Overlay:
         for _, left, right in beside:
             self._join(left, right)
         for piece, left, right in beside:
-            for place in self._only(left, right):
-                self._keep(place, piece, piece.ends if self._sheets[place].facing > 0 else piece.ends[::-1])
-            for place in self._only(right, left):
-                self._keep(place, piece, piece.ends[::-1] if self._sheets[place].facing > 0 else piece.ends)
+            self._keep(self._only(left, right), piece, piece.ends)
+            self._keep(self._only(right, left), piece, piece.ends[::-1])
 
     def _only(self, one: Set[int], other: Set[int]) -> List[int]:
         beyond = {self._joined.name(place) for place in other}
         return [place for place in sorted(one) if self._joined.name(place) not in beyond]
 
-    def _keep(self, place: int, piece: _Piece, ends: Ends) -> None:
-        """The piece is a side of the sheet: of the old half-edge that it was a part of."""
-        own = [side.half for side in piece.sides.get(place, ()) if (side.start, side.end) == ends]
-        others = [side.half if (side.start, side.end) == ends else -side.half for sides in piece.sides.values() for side in sides if side.half]
-        self._kept[place].append(Side(*ends, next(iter((*own, *others)), 0)))
+    def _keep(self, places: List[int], piece: _Piece, ends: Ends) -> None:
+        """The piece is a side of these sheets, which lie left of it as it runs, seen from where the plane's normal points."""
+        for place in places:
+            run = ends if self._sheets[place].facing > 0 else ends[::-1]
+            self._kept[place].append(Side(*run, self._old_half(place, piece, run)))
+
+    def _old_half(self, place: int, piece: _Piece, run: Ends) -> int:
+        """The old half-edge that a piece is a part of, as it runs: that of the sheet, or of another one, or 0."""
+        own = [side.half for side in piece.sides.get(place, ()) if (side.start, side.end) == run]
+        others = [side.half if (side.start, side.end) == run else -side.half for sides in piece.sides.values() for side in sides]
+        return next((half for half in (*own, *others) if half), 0)
 
     def _join(self, left: Set[int], right: Set[int]) -> None:
         """A held and an added sheet that look one way on both sides of a piece become one."""
@@ -194,12 +198,11 @@ class _Overlay:
         """The parts of sides near added sheets; the other sides are kept as they are."""
         found: Dict[Ends, Dict[int, List[Side]]] = {}
         near: List[Tuple[int, Side]] = []
-        for place, sheet in enumerate(self._sheets):
-            for side in sheet.sides:
-                if boxes_meet(box_of((side.start, side.end)), self._box):
-                    near.append((place, side))
-                else:
-                    self._kept[place].append(side)
+        for place, side in ((place, side) for place, sheet in enumerate(self._sheets) for side in sheet.sides):
+            if boxes_meet(box_of((side.start, side.end)), self._box):
+                near.append((place, side))
+            else:
+                self._kept[place].append(side)
         for place, part in self._parts(near):
             ends = (min(part.start, part.end), max(part.start, part.end))
             found.setdefault(ends, {}).setdefault(place, []).append(part)

@@ -183,14 +183,17 @@ class Whole(unittest.TestCase):
         for error, part, act in (
                 (TypeError, 'vector', lambda: self.bench.move(block, 1)), (ValueError, 'axis', lambda: self.bench.turn(block, 'w')),
                 (TypeError, 'times', lambda: self.bench.turn(block, 'x', 1.0)), (TypeError, 'about', lambda: self.bench.turn(block, 'x', about=0)),
-                (ValueError, 'plane', lambda: self.bench.mirror(block, (0, 0, 0, 1))), (ValueError, 'mirror', lambda: self.bench.copy(block, mirror=(0, 0, 0, 0))),
-                (ValueError, 'count', lambda: self.bench.pattern(block, 1, (1, 0, 0))), (ValueError, 'step', lambda: self.bench.pattern(block, 2, (0, 0, 0))),
+                (ValueError, 'plane', lambda: self.bench.mirror(block, (0, 0, 0, 1))),
+                (ValueError, 'mirror', lambda: self.bench.copy(block, mirror=(0, 0, 0, 0))),
+                (ValueError, 'count', lambda: self.bench.pattern(block, 1, (1, 0, 0))),
+                (ValueError, 'step', lambda: self.bench.pattern(block, 2, (0, 0, 0))),
                 (ValueError, 'factor', lambda: self.bench.scale(0)), (TypeError, 'solid', lambda: self.bench.delete('1')),
                 (ValueError, 'keep', lambda: self.bench.cut(block, (1, 0, 0, 0), keep='all')),
                 (ValueError, 'above', lambda: self.bench.cut(block, (1, 0, 0, 0), keep='below', above=2)),
                 (ValueError, 'solids', lambda: self.bench.union([block])), (ValueError, 'solids', lambda: self.bench.union([block, block])),
                 (ValueError, 'depth', lambda: self.bench.notch(1, [(0, 0, 1)], 0)), (ValueError, 'width', lambda: self.bench.chamfer(1, 0)),
-                (ValueError, 'width', lambda: self.bench.slot(1, (0, 0, 1), (1, 0, 1), 0, 1)), (ValueError, 'other', lambda: self.bench.chamfer(1, 1, -1)),
+                (ValueError, 'width', lambda: self.bench.slot(1, (0, 0, 1), (1, 0, 1), 0, 1)),
+                (ValueError, 'other', lambda: self.bench.chamfer(1, 1, -1)),
                 (TypeError, 'edge', lambda: self.bench.shoulder(1, None, 1, 1))):
             before = self.bench.script()
             with self.subTest(part), self.assertRaisesRegex(error, part):
