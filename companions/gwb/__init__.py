@@ -1,6 +1,7 @@
 """Companions of gwb, the Geometric WorkBench: they read what it writes. Nothing of them is proved."""
 
 from .complaints import Complaint, Faulted, MemoryRefused, Refused
+from .cutting import Cut
 from .errors import CompanionError, Ended, InDraft, InGroup, NoDraft, NotOne, OutOfStep, ProgramMissing
 from .listing import read_model
 from .model import Face, Loop, Model
@@ -9,9 +10,11 @@ from .reading import EdgePart, FacePart, LoopPart, Part, SolidPart, VertexPart
 from .results import Block, Count, Hole, Lamina, Lone, NewEdge, NewFace, NewSolid, Plane, Pocket, Profile, Ring, Split, Sweep
 from .selection import Selection
 from .session import Workbench
+from .shaping import Notch
+from .solids import Copy
 from .version import VERSION as __version__
 
-__all__ = ['Block', 'CompanionError', 'Complaint', 'Count', 'EdgePart', 'Ended', 'Face', 'FacePart', 'Faulted', 'Hole', 'Impossible', 'InDraft',
-           'InGroup', 'Lamina', 'Lone', 'Loop', 'LoopPart', 'MemoryRefused', 'Model', 'NewEdge', 'NewFace', 'NewSolid', 'NoDraft', 'NotOne',
-           'OutOfStep', 'Part', 'Plane', 'Pocket', 'Profile', 'ProgramMissing', 'Refused', 'Ring', 'Selection', 'SolidPart', 'Split', 'Sweep',
-           'VertexPart', 'Workbench', '__version__', 'read_model']
+__all__ = ['Block', 'CompanionError', 'Complaint', 'Copy', 'Count', 'Cut', 'EdgePart', 'Ended', 'Face', 'FacePart', 'Faulted', 'Hole',
+           'Impossible', 'InDraft', 'InGroup', 'Lamina', 'Lone', 'Loop', 'LoopPart', 'MemoryRefused', 'Model', 'NewEdge', 'NewFace', 'NewSolid',
+           'NoDraft', 'Notch', 'NotOne', 'OutOfStep', 'Part', 'Plane', 'Pocket', 'Profile', 'ProgramMissing', 'Refused', 'Ring', 'Selection',
+           'SolidPart', 'Split', 'Sweep', 'VertexPart', 'Workbench', '__version__', 'read_model']

@@ -237,9 +237,9 @@ def _with_one(whole: Model, left: Sequence[Model], numbers: Numbers, overlap: Im
     raise Impossible('NoContact', left[0].solids[0], f'solid {left[0].solids[0]} touches the others in no face')
 
 
-def solid_numbers(value: object) -> List[int]:
-    """At least two different numbers of solids."""
-    found = arguments.numbers('solids', value)
+def solid_numbers(bench: Selecting, value: object) -> List[int]:
+    """At least two different numbers of solids of the bench."""
+    found = arguments.numbers('solids', value, 'solid', bench)
     if len(found) < 2 or len(set(found)) < len(found):
         raise ValueError('solids: different numbers are wanted, at least two')
     return found

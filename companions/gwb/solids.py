@@ -35,15 +35,15 @@ class Copy:
     edges: Mapping[int, int]
     vertices: Mapping[int, int]
 
-    def face(self, face: int) -> int:
+    def face(self, face: arguments.Face) -> int:
         """The copy of the face. KeyError, here and below: the original has no such thing."""
         return self.faces[arguments.number('face', face)]
 
-    def loop(self, loop: int) -> int:
+    def loop(self, loop: arguments.LoopNumber) -> int:
         """The copy of the loop."""
         return self.loops[arguments.number('loop', loop)]
 
-    def edge(self, edge: int) -> int:
+    def edge(self, edge: arguments.Edge) -> int:
         """The copy of the edge."""
         return self.edges[arguments.number('edge', edge)]
 
@@ -52,7 +52,7 @@ class Copy:
         edge = arguments.half_edge('half', half)
         return self.edges[edge] if edge > 0 else -self.edges[-edge]
 
-    def vertex(self, vertex: int) -> int:
+    def vertex(self, vertex: arguments.Vertex) -> int:
         """The copy of the vertex."""
         return self.vertices[arguments.number('vertex', vertex)]
 
