@@ -43,9 +43,10 @@ class Outcome:
 
 def trials(program: str, archive: str) -> Iterator[Trial]:
     """The tests, those of documents first."""
-    for name in ('quotes', 'versions', 'refusals', 'pages', 'words'):
+    for name in ('gate', 'quotes', 'statement', 'versions', 'refusals', 'pages', 'words'):
         yield Trial((f'tests/{name}.py',))
     yield Trial(('tests/scripts.py', program))
+    yield Trial(('tests/laws.py', program))
     yield Trial(('tests/program.sh', program))
     yield Trial(('tests/refused_growths.py', program), ('cc',))
     yield Trial(('tests/documents.py', program))
