@@ -1,5 +1,7 @@
 -- How the program ends.
-use Rattle.std.specs.Prelude.{◌≡◌, ℕ, Bool, true, false, List, Option, if◌then◌else◌, Result, Ok, Err}
+use Rattle.std.specs.Prelude.{◌≡◌, ℕ, Bool, true, false, List, Option, Some, None, ⊤, codes, if◌then◌else◌, Result, Ok, Err}
+use Rattle.std.specs.Process.{exit_status}
+use Rattle.std.specs.declared.process.ExitCode.{ExitCode}
 use Rattle.clap.specs.Words.{kind_of}
 use Rattle.clap.specs.declared.error.Error.{Error}
 use Rattle.clap.specs.declared.error.kind.ErrorKind.{ErrorKind}
@@ -50,11 +52,31 @@ abbrev pub trouble_told : Error → Bool → Trouble
 trouble_told e true = trouble.Words e
 trouble_told e false = text_trouble e (kind_of e)
 
--- clap's text was printed already; all other troubles have a line on standard error
-abbrev pub complains : Trouble → Bool
-complains (trouble.Words _) = false
-complains trouble.Open = true
-complains (trouble.Run _) = true
+-- the line on standard error; clap's text says by itself why the program ends
+abbrev pub complaint : Result Summary Trouble → Option (List ℕ)
+complaint (Ok s) = None
+complaint (Err (trouble.Words e)) = None
+complaint (Err trouble.Open) = Some (codes "gwb: cannot open the script")
+complaint (Err (trouble.Run fault.Read)) = Some (codes "gwb: read fault")
+complaint (Err (trouble.Run fault.Write)) = Some (codes "gwb: write fault")
+complaint (Err (trouble.Run fault.TooLong)) = Some (codes "gwb: script too long")
+complaint (Err (trouble.Run fault.Memory)) = Some (codes "gwb: out of memory")
+
+-- clap's text is printed where there is one; prints e b: printing e may answer that all of it was written (b)
+abbrev pub Printed : (Error → Bool → Type 0) → Result Summary Trouble → Result Summary Trouble → Type 0
+Printed prints (Ok s) told = told ≡ Ok s
+Printed prints (Err (trouble.Words e)) told = (b : Bool) × prints e b × (told ≡ Err (trouble_told e b))
+Printed prints (Err trouble.Open) told = told ≡ Err trouble.Open
+Printed prints (Err (trouble.Run f)) told = told ≡ Err (trouble.Run f)
+
+-- the line was told where there is one
+abbrev pub IsTold : (List ℕ → Type 0) → Option (List ℕ) → Type 0
+IsTold tells None = ⊤
+IsTold tells (Some line) = tells line
+
+-- clap's text is printed, standard error is told the complaint, and the process ends with the status of the ending
+abbrev pub Ends : (Error → Bool → Type 0) → (List ℕ → Type 0) → Result Summary Trouble → ExitCode → Type 0
+Ends prints tells ended code = (told : Result Summary Trouble) × Printed prints ended told × IsTold tells (complaint told) × (exit_status code ≡ status told)
 
 -- the program ends as the run did
 abbrev pub ending_of : Result Summary RunFault → Result Summary Trouble

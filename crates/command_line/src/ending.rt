@@ -1,25 +1,24 @@
 //! How the program ends.
-ghost use Rattle.std.specs.Prelude.{◌≡◌, ◌⊎◌};
+ghost use Rattle.std.specs.Prelude.{◌≡◌, ◌⊎◌, option_map};
+ghost use Rattle.std.specs.Fn.{FnOnceReturnsAt};
+ghost use Rattle.std.specs.Process.{exit_status};
 ghost use Rattle.clap.specs.Words.{kind_of};
 ghost use Rattle.clap.specs.declared.error.kind.ErrorKind.TheVariants as kind;
-ghost use Rattle.command_line.specs.Endings.{complains, status, trouble_of, trouble_told};
+ghost use Rattle.command_line.specs.Endings.{complaint, status, trouble_of, trouble_told, Ends, IsTold, Printed};
 
 use crate::words::WordsFault;
 use clap::error::ErrorKind;
 use script_running::{RunFault, Summary};
-use thiserror::Error;
+use std::process::ExitCode;
 
 /// Why the program ends before its script is answered.
-#[derive(Debug, Error, Drop)]
+#[derive(Debug, Drop)]
 pub enum Trouble {
     /// The words of the command line were refused, or ask for help or the version.
-    #[error("{0}")]
     Words(clap::Error),
     /// The script could not be opened.
-    #[error("cannot open the script")]
     Open,
     /// The run broke off, or the memory that it begins with was refused.
-    #[error("{0}")]
     Run(RunFault),
 }
 
@@ -50,15 +49,19 @@ impl Trouble {
             _ => Trouble::Words(error),
         }
     }
+}
 
-    /// Whether the program says on standard error why it ends; clap's text says it by itself.
-    pub fn complains(&self) -> bool
-        ensures { result ≡ complains self.now }
-    {
-        match self {
-            Trouble::Words(_) => false,
-            Trouble::Open | Trouble::Run(_) => true,
-        }
+/// The line on standard error that says why the program ends before its script is answered; clap's text says it by itself.
+pub fn complaint(ended: &Result<Summary, Trouble>) -> Option<&'static str>
+    ensures { option_map (λ line. line.now) result ≡ complaint ended.now }
+{
+    match ended {
+        Ok(_) | Err(Trouble::Words(_)) => None,
+        Err(Trouble::Open) => Some("gwb: cannot open the script"),
+        Err(Trouble::Run(RunFault::Read)) => Some("gwb: read fault"),
+        Err(Trouble::Run(RunFault::Write)) => Some("gwb: write fault"),
+        Err(Trouble::Run(RunFault::TooLong)) => Some("gwb: script too long"),
+        Err(Trouble::Run(RunFault::Memory)) => Some("gwb: out of memory"),
     }
 }
 
@@ -74,4 +77,47 @@ pub fn status_of(ended: &Result<Summary, Trouble>) -> u8
         Err(Trouble::Words(_)) => 0,
         Err(Trouble::Open | Trouble::Run(_)) => 3,
     }
+}
+
+/// Prints clap's text where there is one, and gives the ending that follows.
+fn printed<P: FnOnce(&clap::Error) -> bool>(
+    ended: Result<Summary, Trouble>,
+    print: P,
+) -> Result<Summary, Trouble>
+    requires { P.IsAlwaysCallable print }
+    ensures { Printed (FnOnceReturnsAt P.FnOnce print) ended result }
+{
+    match ended {
+        Err(Trouble::Words(error)) => {
+            let is_printed = print(&error);
+            Err(Trouble::told(error, is_printed))
+        }
+        ended => ended,
+    }
+}
+
+/// Tells the complaint where there is one.
+fn complain<T: FnOnce(&str)>(ended: &Result<Summary, Trouble>, tell: T)
+    requires { T.IsAlwaysCallable tell }
+    ensures { IsTold (λ line. FnOnceReturnsAt T.FnOnce tell line tt) (complaint ended.now) }
+{
+    if let Some(line) = complaint(ended) {
+        tell(line);
+    }
+}
+
+/// Ends the program. `print` prints clap's text and says whether all of it was written; `tell` puts a line on standard error.
+/// Help that could not be written is a write fault.
+pub fn end<P: FnOnce(&clap::Error) -> bool, T: FnOnce(&str)>(
+    ended: Result<Summary, Trouble>,
+    print: P,
+    tell: T,
+) -> ExitCode
+    requires print { P.IsAlwaysCallable print }
+    requires tell { T.IsAlwaysCallable tell }
+    ensures { Ends (FnOnceReturnsAt P.FnOnce print) (λ line. FnOnceReturnsAt T.FnOnce tell line tt) ended result }
+{
+    let ended = printed(ended, print);
+    complain(&ended, tell);
+    ExitCode::from(status_of(&ended))
 }

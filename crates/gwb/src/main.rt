@@ -7,18 +7,16 @@
 //!
 //! # What is proved
 //!
-//! A script is answered as `run` promises (`answer`). The words of the command line and the exit status are `command_line`'s, and
-//! proved there; that the process ends with that status isn't said.
+//! `main` has no contract, and is short to be read: the words of the process, its standard input, its files and its standard
+//! output go to `serve`, and what `serve` returns, clap's way to print and standard error go to `end`. What these two do with them
+//! is `command_line`'s, and proved there.
 
-ghost use Rattle.command_line.specs.Endings.{Answered};
-
-use command_line::not_text;
-pub use command_line::{Choice, Trouble, WordsFault, read_words, status_of};
-pub use script_running::{RunFault, Summary, run};
-use std::alloc::{AllocError, Global};
+pub use command_line::{Trouble, WordsFault, end, not_text, serve};
+pub use script_running::{RunFault, Summary};
+use std::alloc::AllocError;
 use std::env;
 use std::fs::File;
-use std::io::{BufWriter, ErrorKind, Read, Write};
+use std::io::{BufWriter, ErrorKind};
 use std::process::ExitCode;
 
 /// The words of the command line.
@@ -34,54 +32,20 @@ fn given(rt: &HostRuntime) -> Result<Vec<String>, WordsFault> {
     }
 }
 
-/// What the command line asks for.
-fn choice(rt: &HostRuntime) -> Result<Choice, WordsFault> {
+/// Runs the script that the command line chooses.
+fn begin(rt: &HostRuntime) -> Result<Summary, Trouble> {
     let words = given(rt)?;
-    read_words(rt.alloc(), words.as_slice())
-}
-
-/// Prints clap's text.
-fn shown(rt: &HostRuntime, error: clap::Error) -> Trouble {
-    let is_printed = error.print(rt).is_ok();
-    Trouble::told(error, is_printed)
-}
-
-/// Answers a script.
-fn answer<R: Read + Drop, W: Write>(
-    alloc: Global,
-    script: R,
-    writer: &mut W,
-    stop: bool,
-) -> Result<Summary, Trouble>
-    ensures { Answered (R.remaining script) (W.contents writer.old) (W.contents writer.new) stop result }
-{
-    run(alloc, script, writer, stop).map_err(Trouble::Run)
-}
-
-/// Reads the command line, opens the script and answers it on standard output.
-fn serve(rt: &HostRuntime) -> Result<Summary, Trouble> {
-    let choice = choice(rt)?;
-    let mut writer = BufWriter::new(rt.alloc(), rt.stdout()).map_err(|_| Trouble::Run(
-        RunFault::Memory,
-    ))?;
-    match &choice.file {
-        Some(name) => {
-            let script = File::open(rt, name).map_err(|_| Trouble::Open)?;
-            answer(rt.alloc(), script, &mut writer, choice.stop)
-        }
-        None => answer(rt.alloc(), rt.stdin(), &mut writer, choice.stop),
-    }
+    let Ok(mut writer) = BufWriter::new(rt.alloc(), rt.stdout()) else {
+        return Err(Trouble::Run(RunFault::Memory));
+    };
+    let open = |name: &str| File::open(rt, name).ok();
+    serve(rt.alloc(), words.as_slice(), rt.stdin(), open, &mut writer)
 }
 
 fn main(rt: HostRuntime) -> ExitCode {
-    let ended = match serve(&rt) {
-        Err(Trouble::Words(error)) => Err(shown(&rt, error)),
-        ended => ended,
+    let print = |text: &clap::Error| text.print(&rt).is_ok();
+    let tell = |line: &str| {
+        let _ = eprintln!(rt; "{line}");
     };
-    if let Err(trouble) = &ended {
-        if trouble.complains() {
-            let _ = eprintln!(rt; "gwb: {trouble}");
-        }
-    }
-    ExitCode::from(status_of(&ended))
+    end(begin(&rt), print, tell)
 }
