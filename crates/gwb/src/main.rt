@@ -45,7 +45,9 @@ fn begin(rt: &HostRuntime) -> Result<Summary, Trouble> {
 fn main(rt: HostRuntime) -> ExitCode {
     let print = |text: &clap::Error| text.print(&rt).is_ok();
     let tell = |line: &str| {
-        let _ = eprintln!(rt; "{line}");
+        if let Ok(line) = str::from_utf8(line.as_bytes()) {
+            let _ = eprintln!(rt; "{line}");
+        }
     };
     end(begin(&rt), print, tell)
 }
