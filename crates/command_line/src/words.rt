@@ -112,7 +112,7 @@ fn program<'a>(alloc: Global) -> Command<'a>
     ensures { app_of result ≡ program }
 {
     Command::new(alloc, "gwb")
-        .version("1.1.0")
+        .version("2.0.0")
         .about(ABOUT)
         .after_help(MORE)
         .override_usage("gwb [--stop] [FILE]")
