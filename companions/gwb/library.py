@@ -100,6 +100,11 @@ _COMMANDS = {
 _TYPES = {'n': _WORD, 'h': _WORD, 'x': ctypes.c_int64}
 _LONE = 0x80000000
 _DRAFTS = ('draft', 'commit', 'abandon')
+# The readers, which the library exports as gwb_lent_*: they take the handle or a copy of it.
+_READERS = frozenset(
+    'gwb_' + name for name in (
+        'reply', 'depth', 'ahead', 'half_edges', 'number_after', 'face', 'ring_after', 'face_after', 'loop', 'lone_vertex', 'edge', 'vertex',
+        'last_refusal', 'fresh'))
 # The greatest edge or loop of which every half-edge and corner has a code.
 _GREATEST_CODED = 2 ** 30 - 1
 _NUMBER_RANGE = 1
@@ -111,7 +116,7 @@ def load(path: str) -> ctypes.PyDLL:
     handle, text, size, word = ctypes.POINTER(Handle), ctypes.c_char_p, ctypes.c_size_t, ctypes.POINTER(_WORD)
     calls: List[Tuple[str, Any, List[Any]]] = [
         ('gwb_open', ctypes.c_bool, []), ('gwb_close', None, []),
-        ('gwb_line', _WORD, [text, size]), ('gwb_reply', size, [text, size]),
+        ('gwb_line', _WORD, [text, size]), ('gwb_reply', size, [text, size]), ('gwb_depth', size, []), ('gwb_ahead', size, []),
         ('gwb_half_edges', size, [_WORD, word, size]),
         ('gwb_number_after', _WORD, [_WORD, _WORD, word]),
         ('gwb_face', _WORD, [_WORD, ctypes.POINTER(FaceRow)]),
@@ -124,11 +129,13 @@ def load(path: str) -> ctypes.PyDLL:
         ('gwb_lamina', _WORD, [_WORD, ctypes.POINTER(Point), size]), *((f'gwb_{name}', _WORD, []) for name in _DRAFTS),
         *((f'gwb_{name}', _WORD, [_TYPES[kind] for kind in kinds]) for name, kinds in _COMMANDS.items())]
     for name, result, arguments in calls:
+        exported = name.replace('gwb_', 'gwb_lent_') if name in _READERS else name
         try:
-            function = getattr(library, name)
+            function = getattr(library, exported)
         except AttributeError:
-            raise ProgramMissing(f'{path}: this is no library of gwb, or an older one: it has no {name}') from None
+            raise ProgramMissing(f'{path}: this is no library of gwb, or an older one: it has no {exported}') from None
         function.restype, function.argtypes = result, [handle, *arguments]
+        setattr(library, name, function)
     return library
 
 
