@@ -73,11 +73,11 @@ static bool number_after(uint32_t i)
 
 static bool reply(uint32_t i)
 {
-    uint8_t text[256];
+    char text[256];
     return (void)i, gwb_reply(&g, text, sizeof text) > 0;
 }
 
-static bool comment(uint32_t i) { return (void)i, gwb_line(&g, (const uint8_t *)"# nothing", 9) == GWB_SILENT; }
+static bool comment(uint32_t i) { return (void)i, gwb_line(&g, "# nothing", 9) == GWB_SILENT; }
 
 static const struct way reading = {.name = "call", .begin = begin_readers, .restore = count_again};
 

@@ -56,13 +56,13 @@ const struct way typed_way = {
 /* ---- lines */
 
 struct line {
-    uint8_t text[64];
+    char text[64];
     size_t length;
 };
 
 static struct line mev_lines[ITEMS], kev_lines[ITEMS], block_lines[ITEMS], split_lines[ITEMS], mev_refused_lines[ITEMS];
 
-#define WRITE(line, ...) ((line)->length = (size_t)snprintf((char *)(line)->text, sizeof(line)->text, __VA_ARGS__))
+#define WRITE(line, ...) ((line)->length = (size_t)snprintf((line)->text, sizeof(line)->text, __VA_ARGS__))
 
 static bool begin_lines(void)
 {
@@ -77,7 +77,7 @@ static bool begin_lines(void)
 }
 
 static uint32_t give(const struct line *line) { return gwb_line(&g, line->text, line->length); }
-#define GIVE(text) gwb_line(&g, (const uint8_t *)text, sizeof text - 1)
+#define GIVE(text) gwb_line(&g, text, sizeof text - 1)
 
 static bool line_mev(uint32_t i) { return give(&mev_lines[i]) == GWB_OK; }
 static bool line_kev(uint32_t i) { return give(&kev_lines[i]) == GWB_OK; }

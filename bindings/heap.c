@@ -1,8 +1,7 @@
-/* The heap that the archive asks for, over the C library's. Whoever has a heap of their own writes these three over it: one allocator
- * for all three, blocks aligned to each power of two up to 16 that divides their size. Where there is no memory, `ok` is false and `at`
- * points to any byte. */
-#include <stdbool.h>
-#include <stddef.h>
+/* The heap that the archive asks for: that of the C library, or the one that a thread uses. Whoever has a heap for the whole program writes the three
+ * functions rattle_* over it: one allocator for all three, blocks aligned to each power of two up to 16 that divides their size. Where there is
+ * no memory, `ok` is false and `at` points to any byte. */
+#include "gwb.h"
 #include <stdlib.h>
 
 struct tried {
@@ -14,26 +13,59 @@ struct tried rattle_alloc(size_t size, size_t align);
 struct tried rattle_realloc(void *at, size_t kept, size_t size, size_t align);
 void rattle_dealloc(void *at);
 
+/* What lies before each block: the heap that it came from. The block after it is aligned as this is. */
+union head {
+    const gwb_heap *heap;
+    long double aligned;
+    char room[16];
+};
+
+static void *take(void *user, size_t size) { return (void)user, malloc(size); }
+static void *grow(void *user, void *block, size_t size) { return (void)user, realloc(block, size); }
+static void give_back(void *user, void *block) { (void)user, free(block); }
+
+static const gwb_heap c_library = {take, grow, give_back, NULL};
+static _Thread_local const gwb_heap *used = &c_library;
 static char nothing;
 
-static struct tried tried(void *at)
+const gwb_heap *gwb_use_heap(const gwb_heap *heap)
 {
-    return (struct tried){at != NULL, at != NULL ? at : &nothing};
+    const gwb_heap *before = used;
+    used = heap != NULL ? heap : &c_library;
+    return before != &c_library ? before : NULL;
+}
+
+static struct tried tried(union head *head)
+{
+    return (struct tried){head != NULL, head != NULL ? (void *)(head + 1) : &nothing};
+}
+
+/* The size of a block with what lies before it; 0 where it has none. */
+static size_t whole(size_t size)
+{
+    return size <= SIZE_MAX - sizeof(union head) ? size + sizeof(union head) : 0;
 }
 
 struct tried rattle_alloc(size_t size, size_t align)
 {
-    return tried(malloc(size != 0 ? size : align));
+    (void)align;
+    union head *head = whole(size) != 0 ? used->allocate(used->user, whole(size)) : NULL;
+    if (head != NULL)
+        head->heap = used;
+    return tried(head);
 }
 
 /* The block's first `kept` bytes stay as they are. Where it fails, the block is as it was. */
 struct tried rattle_realloc(void *at, size_t kept, size_t size, size_t align)
 {
-    (void)kept;
-    return tried(realloc(at, size != 0 ? size : align));
+    (void)kept, (void)align;
+    union head *head = (union head *)at - 1;
+    const gwb_heap *heap = head->heap;
+    return tried(whole(size) != 0 ? heap->reallocate(heap->user, head, whole(size)) : NULL);
 }
 
 void rattle_dealloc(void *at)
 {
-    free(at);
+    union head *head = (union head *)at - 1;
+    head->heap->release(head->heap->user, head);
 }

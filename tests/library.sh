@@ -1,7 +1,8 @@
 #!/bin/sh
 # Tries the kernel as a library: builds the shared object and the examples in bindings/, compares what they print, looks for leaks, asks the calls
-# over worked scripts, refuses each allocation in turn, compares the answers to random lines with those to the same commands as typed calls, over a million of them, and the
-# answers to 100,000 random lines with the program's. The last line counts.
+# over worked scripts, lets threads read at once and sessions have heaps of their own, refuses each allocation in turn, compares the answers to
+# random lines with those to the same commands as typed calls, over a million of them, and the answers to 100,000 random lines with the program's.
+# The last line counts.
 #
 #   tests/library.sh [ARCHIVE [PROGRAM]]
 #
@@ -116,9 +117,23 @@ tried 'the shared object and the examples in C and C++' make_here
 echo "the shared object and two examples took $(($(date +%s) - began)) seconds"
 prints 'the example in C' bindings/examples/block_c.expected "$dir/built/block_c"
 prints 'the example in C++' bindings/examples/block_cpp.expected "$dir/built/block_cpp"
-tried 'the tests in C++ are built' "${CXX:-c++}" -std=c++17 -Wall -Wextra -Werror -Ibindings/include -o "$dir/built/library_cpp" \
-    tests/library_cpp.cpp "$dir/built/libgwb.a"
-counted 'the tests in C++' "$dir/built/library_cpp"
+# built NAME PROGRAM COMPILER..: builds a program of the tests from its source over the library, where every warning is an error
+built() {
+    name=$1
+    source=$2
+    shift 2
+    tried "$name" "$@" -Wall -Wextra -Werror -Ibindings/include -o "$dir/built/${source%.*}" "tests/$source" "$dir/built/libgwb.a"
+}
+for standard in c++17 c++20; do
+    built "the tests in C++ are built as $standard" library_cpp.cpp "${CXX:-c++}" "-std=$standard" -Wold-style-cast -Wshadow
+    counted "the tests in C++ as $standard" "$dir/built/library_cpp"
+done
+built 'the tests without exceptions are built' library_results.cpp "${CXX:-c++}" -std=c++17 -fno-exceptions -Wold-style-cast -Wshadow
+counted 'the tests without exceptions' "$dir/built/library_results"
+built 'threads are built' library_threads.c "${CC:-cc}" -std=gnu11 -O2 -pthread
+counted 'threads that read at once' "$dir/built/library_threads"
+built 'heaps are built' library_heap.c "${CC:-cc}" -std=gnu11 -O2
+counted 'heaps of sessions' "$dir/built/library_heap"
 prints 'the example in Python' bindings/examples/block_python.expected bindings/examples/block.py "$dir/built/libgwb.so"
 if has rustc 'the crate and the example in Rust are built' 'the example in Rust' 'the tests in Rust'; then
     tried 'the crate and the example in Rust are built' make_here rust
@@ -151,7 +166,7 @@ if has valgrind 'valgrind over typed calls'; then
 fi
 
 tried 'models by readers' python3 tests/library_readers.py "$dir/built/libgwb.so"
-tried 'the library over a heap that refuses' cc -O2 -shared -fPIC -o "$dir/built/counting.so" bindings/heap.c tests/counting_heap.c \
+tried 'the library over a heap that refuses' cc -O2 -shared -fPIC -Ibindings/include -o "$dir/built/counting.so" bindings/heap.c tests/counting_heap.c \
     -Wl,--whole-archive "$archive" -Wl,--no-whole-archive -Wl,--wrap=malloc,--wrap=realloc,--wrap=free
 counted 'each allocation refused' python3 tests/library_refusals.py "$dir/built/counting.so"
 if has "$program" '100,000 random lines' 'the example in Python over the program'; then

@@ -1,12 +1,12 @@
-// Tries gwb.hpp: exceptions by name, ranges, workbenches that move or are closed. The last line counts.
+// Tries gwb.hpp: exceptions by name, numbers as types, ranges, drafts and workbenches that move or are closed. The last line counts.
 #include "gwb.hpp"
 #include <array>
 #include <functional>
 #include <iostream>
 #include <type_traits>
+#include <unordered_set>
 
 using namespace gwb_session;
-using Numbers32 = std::vector<std::uint32_t>;
 
 static int passed = 0, failed = 0;
 
@@ -29,26 +29,119 @@ template <class Thrown> static bool throws(const std::function<void()> &call)
     return false;
 }
 
-static Numbers32 all(Numbers range) { return Numbers32(range.begin(), range.end()); }
+// What a range has, as numbers.
+template <class Range> static std::vector<std::uint32_t> all(const Range &range)
+{
+    std::vector<std::uint32_t> found;
+    for (auto id : range) {
+        if constexpr (std::is_same_v<decltype(id), HalfEdge>)
+            found.push_back(id.code());
+        else
+            found.push_back(id.number());
+    }
+    return found;
+}
+
+using Wanted = std::vector<std::uint32_t>;
 
 static Workbench block()
 {
     Workbench bench;
-    bench.block(1, {0, 0, 0}, {4, 4, 4});
+    bench.block(Solid(1), {0, 0, 0}, {4, 4, 4});
     return bench;
 }
+
+// A spoke of the top of a block, cut loose: an operator that makes edge 13 and vertex 9, and one that makes ring 7.
+static void give_steps(Workbench &bench)
+{
+    bench.mev(plus(Edge(7)), plus(Edge(7)), Edge(13), Vertex(9), {2, 2, 4});
+    bench.kemr(plus(Edge(13)), Loop(7));
+}
+
+// ---- numbers
+
+template <class Call, class... Given> constexpr bool takes = std::is_invocable_v<Call, Given...>;
+
+static void try_types()
+{
+    constexpr auto kev = [](auto at) -> decltype(std::declval<Workbench &>().kev(at)) {};
+    constexpr auto face = [](auto at) -> decltype(std::declval<Workbench &>().face(at)) { return {}; };
+    constexpr auto mev = [](auto at) -> decltype(std::declval<Workbench &>().mev(at, at, Edge(1), Vertex(1), Point{})) {};
+    static_assert(takes<decltype(kev), HalfEdge> && !takes<decltype(kev), int> && !takes<decltype(kev), Edge> && !takes<decltype(kev), Corner>);
+    static_assert(takes<decltype(face), Face> && !takes<decltype(face), Loop> && !takes<decltype(face), Vertex> && !takes<decltype(face), int>);
+    static_assert(takes<decltype(mev), HalfEdge> && takes<decltype(mev), Corner> && !takes<decltype(mev), Loop> && !takes<decltype(mev), int>);
+    static_assert(sizeof(Face) == 4 && sizeof(HalfEdge) == 4 && std::is_trivially_copyable_v<Face>);
+    check(plus(Edge(7)).code() == 14 && minus(Edge(7)).code() == 15 && plus(Edge(7)).twin() == minus(Edge(7)), "half-edges of an edge");
+    check(minus(Edge(7)).edge() == Edge(7) && minus(Edge(7)).is_second() && !plus(Edge(7)).is_second(), "the edge of a half-edge");
+    check(std::unordered_set<Face>{Face(1), Face(2), Face(1)}.size() == 2 && Face(1) < Face(2) && Face() == Face(0), "numbers in a set");
+}
+
+// What is above all codes is no half-edge, and not another one.
+static void try_bounds()
+{
+    const std::uint32_t most = GWB_GREATEST_EDGE;
+    check(plus(Edge(most)).code() == 0x7FFFFFFE && minus(Edge(most)).code() == 0x7FFFFFFF, "the greatest edge");
+    check(plus(Edge(most + 1)) == plus(Edge(most)) && minus(Edge(UINT32_MAX)) == minus(Edge(most)), "edges above it");
+    check(lone(Loop(0x7FFFFFFF)).code() == UINT32_MAX && lone(Loop(0x7FFFFFFE)).code() == UINT32_MAX - 1, "the greatest loop");
+    check(lone(Loop(0x80000000)).code() == UINT32_MAX && lone(Loop(0x80000002)).code() == UINT32_MAX, "loops above it");
+    check(gwb_plus(most) == 0x7FFFFFFE && gwb_plus(most + 1) == 0x7FFFFFFE && gwb_minus(UINT32_MAX) == 0x7FFFFFFF, "the same in C");
+    check(gwb_lone(0x80000002) == UINT32_MAX && GWB_LONE(2) == 0x80000002, "loops in C");
+    Workbench bench;
+    bench.mvfs(Solid(1), Face(1), Loop(2), Vertex(1), {0, 0, 0});
+    check(throws<RefusedBy<GWB_WHY_NUMBER_RANGE>>([&] { bench.mev(plus(Edge(0x40000001)), plus(Edge(0x40000001)), Edge(1), Vertex(2), {1, 0, 0}); }),
+          "an edge that was a lone loop's corner");
+    check(throws<RefusedBy<GWB_WHY_NUMBER_RANGE>>([&] { bench.mev(lone(Loop(0x80000002)), lone(Loop(0x80000002)), Edge(1), Vertex(2), {1, 0, 0}); }),
+          "a loop that was another's");
+    bench.mev(lone(Loop(2)), lone(Loop(2)), Edge(1), Vertex(2), {1, 0, 0});
+    check(throws<RefusedBy<GWB_WHY_NUMBER_RANGE>>([&] { bench.kev(plus(Edge(2147483649u))); }), "an edge that was another one");
+    check(bench.count(Solid(1)).edges == 1, "edge 1 is there");
+}
+
+static void try_free_numbers()
+{
+    Workbench bench;
+    check(bench.greatest<Face>() == Face(0) && bench.next_free<Face>() == Face(1), "an empty model");
+    const Solid first = bench.block({0, 0, 0}, {4, 4, 4}), above = bench.split(first, 0, 0, 1, -2);
+    check(first == Solid(1) && above == Solid(2) && bench.greatest<Edge>() == Edge(24), "numbers that were chosen");
+    bench.block(Solid(999999), {9, 9, 9}, {1, 1, 1});
+    check(bench.lamina({{0, 0, 9}, {3, 0, 9}, {0, 3, 9}}) == Solid(1000000), "the number after the greatest one");
+    check(throws<RefusedBy<GWB_WHY_NUMBER_RANGE>>([&] { bench.block({0, 0, 0}, {1, 1, 1}); }), "no number is left");
+    const NewSolid point = Workbench().mvfs({1, 2, 3});
+    check(point.solid == Solid(1) && point.vertex == Vertex(1), "what mvfs makes");
+}
+
+static void try_chosen_operators()
+{
+    Workbench bench;
+    const NewSolid start = bench.mvfs({0, 0, 0});
+    const NewVertex one = bench.mev(lone(start.loop), lone(start.loop), {3, 0, 0});
+    const NewVertex two = bench.mev(minus(one.edge), minus(one.edge), {0, 3, 0});
+    const NewFace triangle = bench.mef(plus(one.edge), minus(two.edge));
+    check(bench.face(triangle.face).outer_loop == triangle.loop && bench.edge(triangle.edge).from == start.vertex, "a triangle");
+    const NewVertex spoke = bench.mev(plus(one.edge), plus(one.edge), {1, 1, 0});
+    const Loop ring = bench.kemr(plus(spoke.edge));
+    check(bench.lone_vertex(ring) == spoke.vertex, "a ring");
+    const Edge bridge = bench.mekr(plus(one.edge), lone(ring));
+    const Loop again = bench.kemr(plus(bridge));
+    const Face face = bench.mfkrh(again);
+    check(bench.face(face).outer_loop == again && bench.depth() == 9, "a face of a ring");
+}
+
+// ---- commands
 
 static void try_measures()
 {
     Workbench bench = block();
-    check(narrow(bench.six_volumes(1)) == 384, "six times the volume");
-    gwb_counts counts = bench.count(1);
+    const Workbench &seen = bench;
+    check(narrow(seen.six_volumes(Solid(1))) == 384, "six times the volume");
+    gwb_counts counts = seen.count(Solid(1));
     check(counts.vertices == 8 && counts.edges == 12 && counts.faces == 6 && counts.rings == 0 && counts.sum == 2, "counts");
-    gwb_plane top = bench.plane(1);
+    gwb_plane top = seen.plane(Face(1));
     check(top.flat == 1 && narrow(top.c) == 32 && narrow(top.d) == -128, "the plane of the top");
-    bench.lamina(2, {{0, 0, 0}, {2, 0, 0}, {2, 2, 0}, {0, 2, 0}});
-    bench.sweep(bench.fresh(GWB_FACE)->first, {0, 0, -3});
-    check(narrow(bench.six_volumes(2)) == -72, "the volume of a solid inside out");
+    check(seen.listing().find("vertex 8") != std::string::npos, "the listing");
+    bench.lamina(Solid(2), {{0, 0, 0}, {2, 0, 0}, {2, 2, 0}, {0, 2, 0}});
+    bench.sweep(bench.fresh<Face>()->first, {0, 0, -3});
+    check(narrow(bench.six_volumes(Solid(2))) == -72, "the volume of a solid inside out");
     check(narrow({-1, UINT64_MAX}) == -1 && narrow({0, INT64_MAX}) == INT64_MAX && narrow({-1, 1ull << 63}) == INT64_MIN, "narrow numbers");
     check(throws<std::overflow_error>([] { narrow({0, 1ull << 63}); }), "a number above 64 bits");
     check(throws<std::overflow_error>([] { narrow({-1, 0}); }), "a number below 64 bits");
@@ -57,31 +150,29 @@ static void try_measures()
 static void try_refusals()
 {
     Workbench bench = block();
-    bench.run("list");
-    const std::string before = bench.reply();
-    check(throws<RefusedBy<GWB_WHY_NOT_BARE>>([&] { bench.kvfs(1); }), "NotBare");
-    check(throws<RefusedBy<GWB_WHY_NUMBER_RANGE>>([&] { bench.kvfs(0); }), "NumberRange, the first condition");
-    check(!throws<RefusedBy<GWB_WHY_NO_SOLID>>([&] { bench.kvfs(1); }), "another condition than the one that is false");
-    check(throws<Refused>([&] { bench.kev(UINT32_MAX); }), "a half-edge that is none");
-    check(throws<RefusedBy<GWB_WHY_NO_LOOP>>([&] { bench.mev(lone(9), lone(9), 20, 20, {0, 0, 0}); }), "a corner of no loop");
-    check(throws<RefusedBy<GWB_WHY_FEW_POINTS>>([&] { bench.lamina(2, {}); }), "a lamina of no points");
-    check(throws<RefusedBy<GWB_WHY_NO_SOLID>>([&] { bench.six_volumes(9); }), "the volume of no solid");
+    const std::string before = bench.listing();
+    check(throws<RefusedBy<GWB_WHY_NOT_BARE>>([&] { bench.kvfs(Solid(1)); }), "NotBare");
+    check(throws<RefusedBy<GWB_WHY_NUMBER_RANGE>>([&] { bench.kvfs(Solid()); }), "NumberRange, the first condition");
+    check(!throws<RefusedBy<GWB_WHY_NO_SOLID>>([&] { bench.kvfs(Solid(1)); }), "another condition than the one that is false");
+    check(throws<Refused>([&] { bench.kev(HalfEdge(UINT32_MAX)); }), "a half-edge that is none");
+    check(throws<RefusedBy<GWB_WHY_NO_LOOP>>([&] { bench.mev(lone(Loop(9)), lone(Loop(9)), Edge(20), Vertex(20), {0, 0, 0}); }), "a corner of no loop");
+    check(throws<RefusedBy<GWB_WHY_FEW_POINTS>>([&] { bench.lamina(Solid(2), {}); }), "a lamina of no points");
+    check(throws<RefusedBy<GWB_WHY_NO_SOLID>>([&] { (void)bench.six_volumes(Solid(9)); }), "the volume of no solid");
     check(throws<RefusedBy<GWB_WHY_NOTHING_TO_REDO>>([&] { bench.redo(); }), "nothing to redo");
     check(throws<Faulted>([&] { bench.run("blok"); }), "a line that is no command");
     check(throws<RefusedBy<GWB_WHY_SOLID_TAKEN>>([&] { bench.run("block 1 0 0 0 4 4 4"); }), "a line that is refused");
-    bench.run("list");
-    check(bench.reply() == before && bench.depth() == 1 && bench.ahead() == 0, "refusals change nothing");
+    check(bench.listing() == before && bench.depth() == 1 && bench.ahead() == 0, "refusals change nothing");
 }
 
 static void try_what_is_said()
 {
     Workbench bench = block();
     try {
-        bench.kvfs(1);
+        bench.kvfs(Solid(1));
         check(false, "kvfs of a block");
     } catch (const Refused &refused) {
         check(refused.number() == 12 && refused.value() == 1 && std::string("NotBare") == refused.name(), "what a refusal has");
-        check(std::string("kvfs: NotBare 1") == refused.what(), "what a refusal says");
+        check(std::string("kvfs: NotBare 1") == refused.what() && refused.why() == GWB_WHY_NOT_BARE, "what a refusal says");
     }
     try {
         bench.run(std::string(200, 'x'));
@@ -89,114 +180,237 @@ static void try_what_is_said()
     } catch (const Faulted &faulted) {
         check(faulted.number() == 1 && std::string(faulted.what()) == std::string(100, 'x') + ": fault 1", "what a fault says");
     }
+    check(throws<RefusedBy<GWB_WHY_NO_SOLID>>([&] { bench.kvfs(Solid(1000000)); }), "a number of seven digits");
     check(gwb_version() == GWB_VERSION, "the version of the library is that of the header");
     check(bench.run("") == GWB_SILENT && bench.run("count 1") == GWB_COUNT && bench.reply() == "count 8 12 6 0 2\n", "kinds of answers");
+}
+
+// Each refusal that a command of a block has comes in the class of its condition, which the table of them has at its place.
+template <std::size_t... Before> static bool are_by_name(std::index_sequence<Before...>)
+{
+    const auto is_by_name = [](auto why) {
+        constexpr gwb_why number = decltype(why)::value;
+        try {
+            Throwing::failed<int>("all", {Problem::refused, number, 7});
+        } catch (const RefusedBy<number> &refused) {
+            return refused.number() == number && refused.value() == 7;
+        } catch (const std::exception &) {
+        }
+        return false;
+    };
+    return (is_by_name(std::integral_constant<gwb_why, static_cast<gwb_why>(Before + 1)>()) && ...);
+}
+
+static void try_every_refusal()
+{
+    check(are_by_name(std::make_index_sequence<GWB_WHY_BAD_PART>()), "each refusal in the class of its condition");
+    check(throws<Refused>([] { Throwing::failed<int>("none", {Problem::refused, GWB_WHY_BAD_PART + 1, 7}); }), "a refusal of a later version");
+    check(throws<Refused>([] { Throwing::failed<int>("none", {Problem::refused, 0, 7}); }), "refusal 0");
+}
+
+static void try_attempts()
+{
+    Workbench bench = block();
+    Attempts attempt = bench.attempt();
+    Result<void> refused = attempt.kvfs(Solid(1));
+    check(!refused && refused.error().is(GWB_WHY_NOT_BARE) && refused.error().value == 1, "what was refused");
+    check(std::string(refused.error().name()) == "NotBare" && !refused.error().is(GWB_WHY_NO_SOLID), "the name of a refusal");
+    Result<Solid> above = attempt.split(Solid(1), 0, 0, 1, -2);
+    check(above && *above == Solid(2) && bench.depth() == 2, "an attempt is a command of the workbench");
+    check(attempt.run("blok").error().problem == Problem::fault && *attempt.run("undo") == GWB_OK, "lines");
+    check(attempt.face(Face(99)).error().problem == Problem::absent && attempt.face(Face(1))->solid == Solid(1), "readers");
+    check(attempt.lamina(Solid(9), std::vector<Point>(65)).error().problem == Problem::no_call, "no call");
+    {
+        Result<Attempts::Draft> draft = attempt.draft();
+        check(draft && attempt.undo().error().problem == Problem::in_draft, "a draft");
+        check(draft->commit() && draft->commit().error().problem == Problem::no_draft, "one that has ended");
+    }
+    bench = Workbench();
+    check(attempt.depth().error().problem == Problem::closed && attempt.faces(Solid(1)).empty() && !attempt.is_open(), "a closed workbench");
 }
 
 static void try_operators()
 {
     Workbench bench;
-    bench.mvfs(1, 1, 1, 1, {0, 0, 0});
-    check(bench.lone_vertex(1) == 1u && bench.half_edges(1).empty(), "a lone loop");
-    bench.mev(lone(1), lone(1), 1, 2, {3, 0, 0});
-    bench.mev(minus(1), minus(1), 2, 3, {0, 3, 0});
-    bench.mef(plus(1), minus(2), 3, 2, 2);
-    check(!bench.lone_vertex(1) && bench.edge(1).from == 1 && bench.edge(1).to == 2 && bench.vertex(3).y == 3, "a triangle");
-    bench.mev(plus(1), plus(1), 4, 4, {1, 1, 0});
-    bench.kemr(plus(4), 3);
-    check(all(bench.rings(2)) == Numbers32{3} && bench.face_of(3) == 2, "a ring");
-    bench.mfkrh(3, 9);
-    bench.kfmrh(2, 9);
-    bench.ring_in(3, 1);
-    bench.ring_out(3, 1);
-    check(bench.face(1).outer_loop == 3 && all(bench.rings(1)) == Numbers32{1}, "a ring that became the outer loop");
-    bench.outer(1, 1);
-    check(bench.face(1).outer_loop == 1 && all(bench.rings(1)) == Numbers32{3}, "an outer loop that became a ring");
+    bench.mvfs(Solid(1), Face(1), Loop(1), Vertex(1), {0, 0, 0});
+    check(bench.lone_vertex(Loop(1)) == Vertex(1) && bench.half_edges(Loop(1)).empty(), "a lone loop");
+    bench.mev(lone(Loop(1)), lone(Loop(1)), Edge(1), Vertex(2), {3, 0, 0});
+    bench.mev(minus(Edge(1)), minus(Edge(1)), Edge(2), Vertex(3), {0, 3, 0});
+    bench.mef(plus(Edge(1)), minus(Edge(2)), Edge(3), Face(2), Loop(2));
+    const EdgeRow edge = bench.edge(Edge(1));
+    check(!bench.lone_vertex(Loop(1)) && edge.from == Vertex(1) && edge.to == Vertex(2) && bench.vertex(Vertex(3)).y == 3, "a triangle");
+    bench.mev(plus(Edge(1)), plus(Edge(1)), Edge(4), Vertex(4), {1, 1, 0});
+    bench.kemr(plus(Edge(4)), Loop(3));
+    check(all(bench.rings(Face(2))) == Wanted{3} && bench.face_of(Loop(3)) == Face(2), "a ring");
+    bench.mfkrh(Loop(3), Face(9));
+    bench.kfmrh(Face(2), Face(9));
+    bench.ring_in(Loop(3), Face(1));
+    bench.ring_out(Loop(3), Face(1));
+    check(bench.face(Face(1)).outer_loop == Loop(3) && all(bench.rings(Face(1))) == Wanted{1}, "a ring that became the outer loop");
+    bench.outer(Loop(1), Face(1));
+    check(bench.face(Face(1)).outer_loop == Loop(1) && all(bench.rings(Face(1))) == Wanted{3}, "an outer loop that became a ring");
     while (bench.depth() > 0)
         bench.undo();
-    check(all(bench.numbers(GWB_SOLID)).empty() && bench.ahead() == 11, "all is undone");
+    check(all(bench.numbers<Solid>()).empty() && bench.ahead() == 11, "all is undone");
     bench.redo();
-    check(all(bench.numbers(GWB_SOLID)) == Numbers32{1}, "one is redone");
+    check(all(bench.numbers<Solid>()) == Wanted{1}, "one is redone");
 }
 
 static void try_solids()
 {
     Workbench bench = block();
-    bench.block(2, {0, 0, 4}, {4, 4, 4});
-    check(bench.fresh(GWB_FACE)->first == 7 && bench.fresh(GWB_EDGE)->last == 24 && !bench.fresh(GWB_SOLID), "fresh numbers");
-    bench.glue(1, 8);
-    bench.split(1, 0, 0, 1, -2, 3);
-    check(narrow(bench.six_volumes(1)) == 192 && narrow(bench.six_volumes(3)) == 576, "the parts of a solid");
-    bench.merge(1, 3);
-    check(narrow(bench.six_volumes(1)) == 768 && all(bench.faces(3)).empty(), "two solids that are one");
-}
-
-static void try_readers()
-{
-    Workbench bench = block();
-    check(all(bench.faces(1)) == Numbers32{1, 2, 3, 4, 5, 6} && all(bench.faces(9)).empty(), "the faces of a solid");
-    check(bench.half_edges(1) == Numbers32{plus(7), plus(9), plus(11), plus(12)} && bench.next(plus(12)) == plus(7), "a loop");
-    check(throws<std::out_of_range>([&] { bench.face(7); }) && throws<std::out_of_range>([&] { bench.vertex(0); }), "numbers not in use");
-    std::vector<gwb_point> points;
-    for (std::int64_t at = 0; at < 64; at++)
-        points.push_back({at, at * at, 1});
-    bench.lamina(2, points);
-    check(bench.half_edges(bench.face(bench.fresh(GWB_FACE)->first).outer_loop).size() == 64, "a long loop");
+    bench.block(Solid(2), {0, 0, 4}, {4, 4, 4});
+    check(bench.fresh<Face>()->first == Face(7) && bench.fresh<Edge>()->last == Edge(24) && !bench.fresh<Solid>(), "fresh numbers");
+    bench.glue(Face(1), Face(8));
+    bench.split(Solid(1), 0, 0, 1, -2, Solid(3));
+    check(narrow(bench.six_volumes(Solid(1))) == 192 && narrow(bench.six_volumes(Solid(3))) == 576, "the parts of a solid");
+    bench.merge(Solid(1), Solid(3));
+    check(narrow(bench.six_volumes(Solid(1))) == 768 && all(bench.faces(Solid(3))).empty(), "two solids that are one");
 }
 
 static void try_laminas()
 {
     Workbench bench;
-    const gwb_point triangle[] = {{0, 0, 0}, {3, 0, 0}, {0, 3, 0}};
-    bench.lamina(1, triangle);
-    bench.lamina(2, std::array<gwb_point, 3>{{{0, 0, 1}, {3, 0, 1}, {0, 3, 1}}});
-    bench.lamina(3, {{0, 0, 2}, {3, 0, 2}, {0, 3, 2}});
-    check(all(bench.numbers(GWB_SOLID)) == Numbers32{1, 2, 3} && bench.vertex(9).z == 2, "laminas of arrays and of a list");
-    check(bench.half_edges(5) == Numbers32{plus(7), plus(8), plus(9)} && bench.vertex(bench.edge(8).from).x == 3, "points in their order");
-    std::vector<gwb_point> points(65);
-    check(throws<NoCall>([&] { bench.lamina(4, points); }) && bench.depth() == 3, "a lamina of 65 points");
+    const Point triangle[] = {{0, 0, 0}, {3, 0, 0}, {0, 3, 0}};
+    bench.lamina(Solid(1), triangle);
+    bench.lamina(Solid(2), std::array<Point, 3>{{{0, 0, 1}, {3, 0, 1}, {0, 3, 1}}});
+    bench.lamina(Solid(3), {{0, 0, 2}, {3, 0, 2}, {0, 3, 2}});
+    check(all(bench.numbers<Solid>()) == Wanted{1, 2, 3} && bench.vertex(Vertex(9)).z == 2, "laminas of arrays and of a list");
+    const std::vector<HalfEdge> second = {plus(Edge(7)), plus(Edge(8)), plus(Edge(9))};
+    check(bench.half_edges(Loop(5)) == second && bench.vertex(bench.edge(Edge(8)).from).x == 3, "points in their order");
+    std::vector<Point> points(65);
+    check(throws<NoCall>([&] { bench.lamina(Solid(4), points); }) && bench.depth() == 3, "a lamina of 65 points");
     points.resize(2);
-    check(throws<RefusedBy<GWB_WHY_FEW_POINTS>>([&] { bench.lamina(4, points); }), "a lamina of two points");
-    check(throws<RefusedBy<GWB_WHY_FEW_POINTS>>([&] { bench.lamina(4, std::vector<gwb_point>()); }), "a lamina of an empty vector");
+    check(throws<RefusedBy<GWB_WHY_FEW_POINTS>>([&] { bench.lamina(Solid(4), points); }), "a lamina of two points");
+    check(throws<RefusedBy<GWB_WHY_FEW_POINTS>>([&] { bench.lamina(Solid(4), std::vector<Point>()); }), "a lamina of an empty vector");
 }
 
 static void try_parts()
 {
     Workbench bench = block();
-    bench.block(2, {9, 9, 9}, {1, 1, 1});
-    bench.merge(1, 2);
-    check(throws<RefusedBy<GWB_WHY_BAD_PART>>([&] { bench.part({1}, 3); }), "a face that can't be parted from its neighbours");
-    check(throws<RefusedBy<GWB_WHY_BAD_PART>>([&] { bench.part({7, 8, 9, 10, 12, 11}, 3); }), "faces whose numbers don't rise");
-    check(throws<RefusedBy<GWB_WHY_NO_FACE>>([&] { bench.part({99}, 3); }), "a part of a face that is not there");
-    check(throws<NoCall>([&] { bench.part({}, 3); }) && throws<NoCall>([&] { bench.part(Numbers32(), 3); }), "a part of no faces");
-    bench.part(Numbers32{7, 8, 9, 10, 11, 12}, 3);
-    check(narrow(bench.six_volumes(1)) == 384 && narrow(bench.six_volumes(3)) == 6, "two solids that were one");
+    bench.block(Solid(2), {9, 9, 9}, {1, 1, 1});
+    bench.merge(Solid(1), Solid(2));
+    const std::vector<Face> faces = {Face(7), Face(8), Face(9), Face(10), Face(11), Face(12)};
+    check(throws<RefusedBy<GWB_WHY_BAD_PART>>([&] { bench.part({Face(1)}, Solid(3)); }), "a face that can't be parted from its neighbours");
+    check(throws<RefusedBy<GWB_WHY_BAD_PART>>([&] { bench.part({Face(7), Face(8), Face(9), Face(10), Face(12), Face(11)}, Solid(3)); }),
+          "faces whose numbers don't rise");
+    check(throws<RefusedBy<GWB_WHY_NO_FACE>>([&] { bench.part({Face(99)}, Solid(3)); }), "a part of a face that is not there");
+    check(throws<NoCall>([&] { bench.part({}, Solid(3)); }) && throws<NoCall>([&] { bench.part(std::vector<Face>(), Solid(3)); }), "a part of no faces");
+    bench.part(faces, Solid(3));
+    check(narrow(bench.six_volumes(Solid(1))) == 384 && narrow(bench.six_volumes(Solid(3))) == 6, "two solids that were one");
     bench.undo();
-    check(all(bench.numbers(GWB_SOLID)) == Numbers32{1} && bench.depth() == 3, "a part is one command");
+    check(all(bench.numbers<Solid>()) == Wanted{1} && bench.depth() == 3, "a part is one command");
 }
 
-// A spoke of the top of a block, cut loose: an operator that makes vertex 9, and one that makes ring 7.
-static void give_steps(Workbench &bench)
+// ---- readers
+
+static void try_readers()
 {
-    bench.mev(plus(7), plus(7), 13, 9, {2, 2, 4});
-    bench.kemr(plus(13), 7);
+    const Workbench bench = block();
+    check(all(bench.faces(Solid(1))) == Wanted{1, 2, 3, 4, 5, 6} && bench.faces(Solid(9)).empty(), "the faces of a solid");
+    const std::vector<HalfEdge> top = {plus(Edge(7)), plus(Edge(9)), plus(Edge(11)), plus(Edge(12))};
+    check(bench.half_edges(Loop(1)) == top && bench.next(plus(Edge(12))) == plus(Edge(7)), "a loop");
+    check(bench.previous(plus(Edge(7))) == plus(Edge(12)) && bench.loop_of(plus(Edge(7))) == Loop(1), "the neighbours of a half-edge");
+    check(throws<std::out_of_range>([&] { (void)bench.face(Face(7)); }) && throws<std::out_of_range>([&] { (void)bench.vertex(Vertex()); }),
+          "numbers not in use");
+    check(throws<std::out_of_range>([&] { (void)bench.faces_of(Edge(13)); }) && throws<std::out_of_range>([&] { (void)bench.end_of(plus(Edge(13))); }),
+          "the neighbours of what is not in use");
+    Workbench drawn;
+    std::vector<Point> points;
+    for (std::int64_t at = 0; at < 64; at++)
+        points.push_back({at, at * at, 1});
+    drawn.lamina(Solid(2), points);
+    check(drawn.half_edges(drawn.face(drawn.fresh<Face>()->first).outer_loop).size() == 64, "a long loop");
 }
+
+// Both sides of each edge, the edges of each face and those at each vertex, beside the half-edges of all loops.
+static void try_neighbours()
+{
+    Workbench bench = block();
+    give_steps(bench);
+    bench.mekr(plus(Edge(7)), lone(Loop(7)), Edge(13));
+    std::size_t sides = 0, starts = 0, edges = 0;
+    for (Face face : bench.faces(Solid(1)))
+        for (HalfEdge half_edge : bench.half_edges_of(face)) {
+            const auto faces = bench.faces_of(half_edge.edge());
+            sides += faces[half_edge.is_second()] == face && bench.face_of(half_edge) == face;
+            check(bench.next(bench.previous(half_edge)) == half_edge && bench.end_of(half_edge) == bench.start_of(bench.next(half_edge)), "next and previous");
+        }
+    for (Vertex vertex : bench.numbers<Vertex>())
+        for (HalfEdge half_edge : bench.around(vertex))
+            starts += bench.start_of(half_edge) == vertex;
+    for (Face face : bench.faces(Solid(1)))
+        edges += all(bench.edges_of(face)).size();
+    check(sides == 26 && starts == 26, "each half-edge has a side and a start");
+    check(edges == 25, "an edge with one face on both sides is one of its edges");
+    check(all(bench.around(plus(Edge(7)))).size() == 4 && all(bench.around(Loop(1))).size() == 6, "round a vertex and round a loop");
+    bench.kemr(plus(Edge(13)), Loop(7));
+    check(all(bench.loops_of(Face(1))) == Wanted{1, 7} && all(bench.loops_of(Face(99))).empty(), "the loops of a face");
+    check(all(bench.half_edges_of(Face(1))).size() == 4 && bench.around(Vertex(9)).empty(), "loops and vertices without edges");
+}
+
+static void try_rows()
+{
+    Workbench bench = block();
+    const Solid above = bench.split(Solid(1), 0, 0, 1, -2);
+    const std::vector<gwb_half_edge_row> rows = bench.half_edge_rows(), part = bench.half_edge_rows(above);
+    bool are_right = rows.size() == 48 && part.size() == 24 && bench.half_edge_rows(Solid(9)).empty();
+    for (const gwb_half_edge_row &row : rows) {
+        const HalfEdge half_edge(row.half_edge);
+        are_right = are_right && bench.start_of(half_edge) == Vertex(row.start) && bench.next(half_edge) == HalfEdge(row.next)
+            && bench.loop_of(half_edge) == Loop(row.loop) && bench.face_of(half_edge) == Face(row.face);
+    }
+    for (const gwb_half_edge_row &row : part)
+        are_right = are_right && bench.face(Face(row.face)).solid == above;
+    const std::vector<gwb_vertex_row> vertices = bench.vertex_rows();
+    for (const gwb_vertex_row &row : vertices)
+        are_right = are_right && bench.vertex(Vertex(row.vertex)).z == row.point.z;
+    check(are_right && vertices.size() == 16, "all rows at once");
+    gwb_half_edge_row few[3] = {};
+    check(gwb_read_half_edges(bench.handle(), 0, few, 2) == 48 && few[1].half_edge == rows[1].half_edge && few[2].half_edge == 0, "too little room");
+}
+
+static void try_fresh()
+{
+    Workbench bench = block();
+    check(bench.fresh<Face>()->first == Face(1) && bench.fresh<Face>()->last == Face(6), "what a block made");
+    (void)bench.six_volumes(Solid(1)), (void)bench.plane(Face(1)), (void)bench.count(Solid(1)), (void)bench.listing();
+    bench.run("volume 1");
+    check(bench.fresh<Face>()->last == Face(6) && bench.fresh<Edge>()->last == Edge(12), "queries leave it as it is");
+    check(throws<RefusedBy<GWB_WHY_NO_FACE>>([&] { (void)bench.plane(Face(99)); }) && bench.fresh<Face>(), "so does one that is refused");
+    Draft draft = bench.draft();
+    check(!bench.fresh<Edge>(), "a draft made nothing yet");
+    bench.mev(plus(Edge(7)), plus(Edge(7)), Edge(13), Vertex(9), {0, 0, 9});
+    (void)bench.count(Solid(1));
+    bench.mev(minus(Edge(13)), minus(Edge(13)), Edge(20), Vertex(10), {0, 0, 11});
+    draft.commit();
+    check(bench.fresh<Edge>()->first == Edge(13) && bench.fresh<Edge>()->last == Edge(20), "the edges of a draft");
+    check(bench.fresh<Vertex>()->first == Vertex(9) && bench.fresh<Vertex>()->last == Vertex(10) && !bench.fresh<Face>(), "its vertices");
+    check(throws<Refused>([&] { bench.kvfs(Solid(1)); }) && !bench.fresh<Edge>(), "a command that is refused makes nothing");
+    {
+        Draft lost = bench.draft();
+        bench.mev(plus(Edge(7)), plus(Edge(7)), Edge(30), Vertex(30), {0, 0, 9});
+    }
+    check(!bench.fresh<Edge>(), "a draft that was abandoned made nothing");
+}
+
+// ---- drafts
 
 static void try_committed_drafts()
 {
     Workbench bench = block();
     Draft draft = bench.draft();
     give_steps(bench);
-    check(bench.lone_vertex(7) == 9u && bench.count(1).vertices == 9, "readers and queries speak of the draft's model");
+    check(bench.lone_vertex(Loop(7)) == Vertex(9) && bench.count(Solid(1)).vertices == 9, "readers and queries speak of the draft's model");
     check(bench.depth() == 0 && bench.ahead() == 0, "in a draft nothing can be undone");
-    check(throws<RefusedBy<GWB_WHY_LOOP_TAKEN>>([&] { bench.mef(plus(7), plus(9), 20, 20, 1); }), "a step that is refused");
-    check(all(bench.rings(1)) == Numbers32{7}, "it leaves the draft open");
+    check(throws<RefusedBy<GWB_WHY_LOOP_TAKEN>>([&] { bench.mef(plus(Edge(7)), plus(Edge(9)), Edge(20), Face(20), Loop(1)); }), "a step that is refused");
+    check(all(bench.rings(Face(1))) == Wanted{7}, "it leaves the draft open");
     Workbench moved = std::move(bench);
     draft.commit();
-    check(moved.depth() == 2 && all(moved.rings(1)) == Numbers32{7}, "the steps are one command");
+    check(moved.depth() == 2 && all(moved.rings(Face(1))) == Wanted{7}, "the steps are one command");
     check(throws<NoDraft>([&] { draft.commit(); }) && throws<NoDraft>([&] { draft.abandon(); }), "a draft that was committed");
     moved.undo();
-    check(moved.count(1).vertices == 8 && moved.ahead() == 1, "they are undone at once");
+    check(moved.count(Solid(1)).vertices == 8 && moved.ahead() == 1, "they are undone at once");
     moved.draft().commit();
     check(moved.depth() == 2 && moved.ahead() == 0, "a draft of no steps is a command too");
 }
@@ -207,23 +421,60 @@ static void try_abandoned_drafts()
     bench.undo();
     {
         Draft draft = bench.draft();
-        bench.mvfs(1, 1, 1, 1, {0, 0, 0});
+        bench.mvfs(Solid(1), Face(1), Loop(1), Vertex(1), {0, 0, 0});
         Draft other = std::move(draft);
-        check(throws<NoDraft>([&] { draft.commit(); }) && bench.lone_vertex(1) == 1u, "a draft that was moved from");
+        check(throws<NoDraft>([&] { draft.commit(); }) && bench.lone_vertex(Loop(1)) == Vertex(1), "a draft that was moved from");
     }
-    check(all(bench.numbers(GWB_SOLID)).empty() && bench.ahead() == 1, "at the end of its scope a draft is abandoned");
+    check(all(bench.numbers<Solid>()).empty() && bench.ahead() == 1, "at the end of its scope a draft is abandoned");
     bench.redo();
     Draft draft = bench.draft();
     give_steps(bench);
     draft.abandon();
-    check(bench.count(1).vertices == 8 && bench.depth() == 1, "a draft that was abandoned");
+    check(bench.count(Solid(1)).vertices == 8 && bench.depth() == 1, "a draft that was abandoned");
     check(throws<NoDraft>([&] { draft.abandon(); }), "one that was abandoned before");
     auto fails = [&] {
         Draft lost = bench.draft();
         give_steps(bench);
-        bench.kvfs(1);
+        bench.kvfs(Solid(1));
     };
-    check(throws<RefusedBy<GWB_WHY_NOT_BARE>>(fails) && bench.count(1).vertices == 8, "an exception abandons the draft");
+    check(throws<RefusedBy<GWB_WHY_NOT_BARE>>(fails) && bench.count(Solid(1)).vertices == 8, "an exception abandons the draft");
+}
+
+// A draft that was ended behind its back has no part in the next one.
+static void try_stale_drafts()
+{
+    Workbench bench = block();
+    std::optional<Draft> stale(bench.draft());
+    gwb_commit(bench.handle());
+    Draft next = bench.draft();
+    give_steps(bench);
+    check(throws<NoDraft>([&] { stale->commit(); }) && bench.lone_vertex(Loop(7)) == Vertex(9), "it can't be committed");
+    stale.reset();
+    check(bench.lone_vertex(Loop(7)) == Vertex(9), "nor does its end abandon the next one");
+    next.commit();
+    check(bench.depth() == 3 && bench.lone_vertex(Loop(7)) == Vertex(9), "whose steps are there");
+}
+
+// Drafts and ranges of a workbench that is gone, or another one now, are closed.
+static void try_what_outlives()
+{
+    Workbench bench = block();
+    {
+        Draft draft = bench.draft();
+        auto faces = bench.faces(Solid(1));
+        auto top = bench.around(Loop(1));
+        bench = Workbench();
+        check(throws<Closed>([&] { draft.commit(); }), "the draft of a workbench assigned over");
+        check(throws<Closed>([&] { all(faces); }) && throws<Closed>([&] { all(top); }), "its ranges");
+    }
+    bench.block(Solid(2), {0, 0, 0}, {1, 1, 1});
+    std::optional<Workbench> other(block());
+    Draft draft = other->draft();
+    auto faces = other->faces(Solid(1));
+    other.reset();
+    check(throws<Closed>([&] { draft.abandon(); }) && throws<Closed>([&] { all(faces); }), "those of one that is gone");
+    auto of_none = block().faces(Solid(1));
+    check(throws<Closed>([&] { all(of_none); }) && bench.depth() == 1, "the range of one that was never kept");
 }
 
 static void try_what_drafts_refuse()
@@ -232,19 +483,20 @@ static void try_what_drafts_refuse()
     Draft draft = bench.draft();
     give_steps(bench);
     const std::function<void()> calls[] = {
-        [&] { bench.lamina(2, {{0, 0, 0}, {3, 0, 0}, {0, 3, 0}}); },
-        [&] { bench.block(2, {0, 0, 4}, {4, 4, 4}); },
-        [&] { bench.sweep(1, {0, 0, 1}); },
-        [&] { bench.glue(1, 2); },
-        [&] { bench.split(1, 0, 0, 1, -2, 2); },
+        [&] { bench.lamina(Solid(2), {{0, 0, 0}, {3, 0, 0}, {0, 3, 0}}); },
+        [&] { bench.block(Solid(2), {0, 0, 4}, {4, 4, 4}); },
+        [&] { bench.sweep(Face(1), {0, 0, 1}); },
+        [&] { bench.glue(Face(1), Face(2)); },
+        [&] { bench.split(Solid(1), 0, 0, 1, -2, Solid(2)); },
         [&] { bench.undo(); },
         [&] { bench.redo(); },
         [&] { bench.run("list"); },
+        [&] { (void)bench.listing(); },
         [&] { (void)bench.draft(); },
     };
     for (std::size_t at = 0; at < std::size(calls); at++)
         check(throws<InDraft>(calls[at]), ("what a draft does not take, with the place " + std::to_string(at)).c_str());
-    check(all(bench.rings(1)) == Numbers32{7} && bench.count(1).vertices == 9, "nothing has changed");
+    check(all(bench.rings(Face(1))) == Wanted{7} && bench.count(Solid(1)).vertices == 9, "nothing has changed");
     gwb_commit(bench.handle());
     check(throws<NoDraft>([&] { draft.commit(); }) && bench.depth() == 2, "a draft that was committed by the call for C");
     Draft closed = bench.draft();
@@ -252,85 +504,156 @@ static void try_what_drafts_refuse()
     check(throws<Closed>([&] { closed.commit(); }), "the draft of a closed workbench");
 }
 
-template <class Bench, class = void> constexpr bool has_faces = false;
-template <class Bench> constexpr bool has_faces<Bench, std::void_t<decltype(std::declval<Bench>().faces(1))>> = true;
+// ---- ranges and workbenches
+
+static void try_ranges()
+{
+    Workbench bench = block();
+    std::size_t seen = 0;
+    check(throws<Closed>([&] {
+        for (Face face : bench.faces(Solid(1))) {
+            seen += face.number();
+            gwb_close(bench.handle());
+        }
+    }) && seen == 1, "a range whose handle is closed midway");
+    bench = block();
+    check(throws<Changed>([&] {
+        for (HalfEdge half_edge : bench.around(Loop(1)))
+            bench.mev(half_edge, half_edge, {0, 0, 9});
+    }), "a walk round a loop that has changed");
+    seen = 0;
+    for (Solid solid : bench.numbers<Solid>())
+        if (solid.number() < 4)
+            seen += (bench.block(Solid(solid.number() + 1), {9 * solid.number(), 9, 9}, {1, 1, 1}), 1);
+    check(seen == 3, "rising numbers go on into what has changed");
+    auto faces = bench.faces(Solid(1));
+    check(all(faces) == all(faces) && *std::next(faces.begin(), 3) == Face(4), "a range is gone through as often as wanted");
+#if defined(__cpp_lib_ranges)
+    static_assert(std::forward_iterator<decltype(faces)::iterator> && std::ranges::view<decltype(faces)> && std::ranges::borrowed_range<decltype(faces)>);
+    check(*std::ranges::find(bench.faces(Solid(1)), Face(5)) == Face(5), "an iterator of a range that is gone");
+    auto flat = bench.faces(Solid(1)) | std::views::filter([&](Face face) { return narrow(bench.plane(face).c) > 0; });
+    check(std::ranges::distance(flat) == 1, "a range of a range");
+#endif
+}
 
 static void try_moves()
 {
-    static_assert(has_faces<const Workbench &> && !has_faces<Workbench>, "a range of a temporary workbench");
     static_assert(!std::is_copy_constructible_v<Workbench> && !std::is_copy_assignable_v<Workbench>, "two would free one session");
     static_assert(std::is_nothrow_move_constructible_v<Workbench> && std::is_nothrow_move_assignable_v<Workbench>, "it goes into a vector");
     Workbench first = block();
     gwb *handle = first.handle();
-    Numbers faces = first.faces(1);
+    auto faces = first.faces(Solid(1));
     Workbench second = std::move(first);
     check(second.handle() == handle && all(faces).size() == 6, "a moved workbench goes on");
-    check(throws<Closed>([&] { first.depth(); }) && throws<Closed>([&] { first.handle(); }), "the one moved from is closed");
+    check(throws<Closed>([&] { (void)first.depth(); }) && !first.is_open() && !gwb_is_open(first.handle()), "the one moved from is closed");
     first = block();
     second = std::move(first);
     check(second.depth() == 1, "one moved over another");
+    Workbench &same = second;
+    second = std::move(same);
+    check(second.depth() == 1, "one moved over itself");
     std::vector<Workbench> benches(3);
     benches.push_back(std::move(second));
     check(benches.back().depth() == 1 && benches.front().depth() == 0, "workbenches in a vector");
 }
 
 // Every method of a closed workbench throws Closed.
-static void try_closed()
+static void try_closed(Workbench &bench)
 {
-    Workbench bench = block();
-    gwb_close(bench.handle());
     const std::function<void()> calls[] = {
-        [&] { bench.mvfs(1, 1, 1, 1, {0, 0, 0}); },
-        [&] { bench.kvfs(1); },
-        [&] { bench.mev(2, 3, 1, 1, {0, 0, 0}); },
-        [&] { bench.kev(2); },
-        [&] { bench.mef(2, 3, 1, 1, 1); },
-        [&] { bench.kef(2); },
-        [&] { bench.kemr(2, 1); },
-        [&] { bench.mekr(2, 3, 1); },
-        [&] { bench.kfmrh(1, 2); },
-        [&] { bench.mfkrh(1, 2); },
-        [&] { bench.ring_in(1, 2); },
-        [&] { bench.ring_out(1, 2); },
-        [&] { bench.outer(1, 2); },
-        [&] { bench.merge(1, 2); },
-        [&] { bench.part({1}, 2); },
-        [&] { bench.lamina(1, {}); },
+        [&] { bench.mvfs(Solid(1), Face(1), Loop(1), Vertex(1), {0, 0, 0}); },
+        [&] { bench.mvfs({0, 0, 0}); },
+        [&] { bench.kvfs(Solid(1)); },
+        [&] { bench.mev(HalfEdge(2), HalfEdge(3), Edge(1), Vertex(1), {0, 0, 0}); },
+        [&] { bench.mev(HalfEdge(2), HalfEdge(3), {0, 0, 0}); },
+        [&] { bench.kev(HalfEdge(2)); },
+        [&] { bench.mef(HalfEdge(2), HalfEdge(3), Edge(1), Face(1), Loop(1)); },
+        [&] { bench.mef(HalfEdge(2), HalfEdge(3)); },
+        [&] { bench.kef(HalfEdge(2)); },
+        [&] { bench.kemr(HalfEdge(2), Loop(1)); },
+        [&] { bench.kemr(HalfEdge(2)); },
+        [&] { bench.mekr(HalfEdge(2), HalfEdge(3), Edge(1)); },
+        [&] { bench.mekr(HalfEdge(2), HalfEdge(3)); },
+        [&] { bench.kfmrh(Face(1), Face(2)); },
+        [&] { bench.mfkrh(Loop(1), Face(2)); },
+        [&] { bench.mfkrh(Loop(1)); },
+        [&] { bench.ring_in(Loop(1), Face(2)); },
+        [&] { bench.ring_out(Loop(1), Face(2)); },
+        [&] { bench.outer(Loop(1), Face(2)); },
+        [&] { bench.merge(Solid(1), Solid(2)); },
+        [&] { bench.part({Face(1)}, Solid(2)); },
+        [&] { bench.lamina(Solid(1), {}); },
+        [&] { bench.lamina({}); },
         [&] { (void)bench.draft(); },
-        [&] { bench.block(1, {0, 0, 0}, {4, 4, 4}); },
-        [&] { bench.sweep(1, {0, 0, 1}); },
-        [&] { bench.glue(1, 2); },
-        [&] { bench.split(1, 0, 0, 1, -2, 2); },
+        [&] { bench.block(Solid(1), {0, 0, 0}, {4, 4, 4}); },
+        [&] { bench.block({0, 0, 0}, {4, 4, 4}); },
+        [&] { bench.sweep(Face(1), {0, 0, 1}); },
+        [&] { bench.glue(Face(1), Face(2)); },
+        [&] { bench.split(Solid(1), 0, 0, 1, -2, Solid(2)); },
+        [&] { bench.split(Solid(1), 0, 0, 1, -2); },
         [&] { bench.undo(); },
         [&] { bench.redo(); },
-        [&] { bench.depth(); },
-        [&] { bench.ahead(); },
-        [&] { bench.plane(1); },
-        [&] { bench.six_volumes(1); },
-        [&] { bench.count(1); },
-        [&] { bench.fresh(GWB_FACE); },
-        [&] { bench.numbers(GWB_FACE); },
-        [&] { bench.faces(1); },
-        [&] { bench.rings(1); },
-        [&] { bench.half_edges(1); },
-        [&] { bench.face(1); },
-        [&] { bench.edge(1); },
-        [&] { bench.vertex(1); },
-        [&] { bench.face_of(1); },
-        [&] { bench.next(2); },
-        [&] { bench.lone_vertex(1); },
+        [&] { (void)bench.depth(); },
+        [&] { (void)bench.ahead(); },
+        [&] { (void)bench.plane(Face(1)); },
+        [&] { (void)bench.six_volumes(Solid(1)); },
+        [&] { (void)bench.count(Solid(1)); },
+        [&] { (void)bench.listing(); },
+        [&] { (void)bench.fresh<Face>(); },
+        [&] { (void)bench.greatest<Face>(); },
+        [&] { (void)bench.next_free<Face>(); },
+        [&] { (void)bench.numbers<Face>(); },
+        [&] { (void)bench.faces(Solid(1)); },
+        [&] { (void)bench.rings(Face(1)); },
+        [&] { (void)bench.loops_of(Face(1)); },
+        [&] { (void)bench.half_edges_of(Face(1)); },
+        [&] { (void)bench.edges_of(Face(1)); },
+        [&] { (void)bench.around(Loop(1)); },
+        [&] { (void)bench.around(Vertex(1)); },
+        [&] { (void)bench.around(HalfEdge(2)); },
+        [&] { (void)bench.half_edges(Loop(1)); },
+        [&] { (void)bench.face(Face(1)); },
+        [&] { (void)bench.edge(Edge(1)); },
+        [&] { (void)bench.vertex(Vertex(1)); },
+        [&] { (void)bench.face_of(Loop(1)); },
+        [&] { (void)bench.face_of(HalfEdge(2)); },
+        [&] { (void)bench.loop_of(HalfEdge(2)); },
+        [&] { (void)bench.faces_of(Edge(1)); },
+        [&] { (void)bench.next(HalfEdge(2)); },
+        [&] { (void)bench.previous(HalfEdge(2)); },
+        [&] { (void)bench.start_of(HalfEdge(2)); },
+        [&] { (void)bench.end_of(HalfEdge(2)); },
+        [&] { (void)bench.lone_vertex(Loop(1)); },
+        [&] { (void)bench.half_edge_rows(); },
+        [&] { (void)bench.vertex_rows(); },
         [&] { bench.run("undo"); },
-        [&] { bench.reply(); },
+        [&] { (void)bench.reply(); },
     };
     for (std::size_t at = 0; at < std::size(calls); at++)
         check(throws<Closed>(calls[at]), ("the call of a closed workbench with the place " + std::to_string(at)).c_str());
 }
 
+static void try_closed_ones()
+{
+    Workbench bench = block();
+    gwb_close(bench.handle());
+    try_closed(bench);
+    Workbench moved = std::move(bench);
+    try_closed(bench);
+}
+
 int main()
 {
-    for (void (*part)() : {try_measures, try_refusals, try_what_is_said, try_operators, try_solids, try_readers, try_laminas, try_parts,
-                           try_committed_drafts, try_abandoned_drafts, try_what_drafts_refuse, try_moves, try_closed})
-        part();
+    for (void (*part)() : {try_types, try_bounds, try_free_numbers, try_chosen_operators, try_measures, try_refusals, try_what_is_said, try_every_refusal,
+                           try_attempts, try_operators, try_solids, try_laminas, try_parts, try_readers, try_neighbours, try_rows, try_fresh,
+                           try_committed_drafts, try_abandoned_drafts, try_stale_drafts, try_what_outlives, try_what_drafts_refuse, try_ranges, try_moves,
+                           try_closed_ones}) {
+        try {
+            part();
+        } catch (const std::exception &thrown) {
+            check(false, thrown.what());
+        }
+    }
     std::cout << passed << " passed, " << failed << " failed\n";
     return failed == 0 ? 0 : 1;
 }

@@ -56,7 +56,7 @@ def values(session, kind):
     """The values of the last answer by its kind, or None where it has none of this kind."""
     name, row, told = VALUES[kind]
     written = row()
-    found = getattr(session.library, 'gwb_last_' + name)(ctypes.byref(session.handle), ctypes.byref(written))
+    found = getattr(session.library, 'gwb_lent_last_' + name)(ctypes.byref(session.handle), ctypes.byref(written))
     return told(written) if found else None
 
 

@@ -19,7 +19,20 @@ U32, I64 = ctypes.c_uint32, ctypes.c_int64
 NUMBER, PAIR, POINT = U32 * 1, U32 * 2, I64 * 3
 READERS = {
     'number_after': (2, NUMBER), 'face': (1, PAIR), 'ring_after': (2, NUMBER), 'face_after': (2, NUMBER), 'loop': (1, NUMBER),
-    'lone_vertex': (1, NUMBER), 'first_half_edge': (1, NUMBER), 'next_half_edge': (1, NUMBER), 'edge': (1, PAIR), 'vertex': (1, POINT)}
+    'lone_vertex': (1, NUMBER), 'first_half_edge': (1, NUMBER), 'next_half_edge': (1, NUMBER), 'previous_half_edge': (1, NUMBER),
+    'half_edge_loop': (1, NUMBER), 'vertex_half_edge': (1, NUMBER), 'edge': (1, PAIR), 'vertex': (1, POINT)}
+
+
+class HalfEdgeRow(ctypes.Structure):
+    """A half-edge among all, and where it stands."""
+
+    _fields_ = [(name, U32) for name in ('half_edge', 'start', 'next', 'loop', 'face')]
+
+
+class VertexRow(ctypes.Structure):
+    """A vertex among all, and where it lies."""
+
+    _fields_ = [('vertex', U32), ('x', I64), ('y', I64), ('z', I64)]
 
 
 def from_least(ring):
@@ -35,16 +48,23 @@ class Readers:
         self.session = session
         self.functions = {}
         for name, (takes, row) in READERS.items():
-            function = getattr(library, 'gwb_' + name)
+            function = getattr(library, 'gwb_lent_' + name)
             function.restype, function.argtypes = U32, [ctypes.POINTER(Handle)] + [U32] * takes + [ctypes.POINTER(row)]
             self.functions[name] = function, row
-        self.cycle = library.gwb_half_edges
-        self.cycle.restype, self.cycle.argtypes = ctypes.c_size_t, [ctypes.POINTER(Handle), U32, ctypes.c_void_p, ctypes.c_size_t]
+        self.cycle, self.rows, self.points, self.greatest = (
+            getattr(library, 'gwb_' + name) for name in ('lent_half_edges', 'read_half_edges', 'read_vertices', 'greatest_number'))
+        for function, takes in ((self.cycle, [U32]), (self.rows, [U32]), (self.points, [])):
+            function.restype, function.argtypes = ctypes.c_size_t, [ctypes.POINTER(Handle), *takes, ctypes.c_void_p, ctypes.c_size_t]
+        self.greatest.restype, self.greatest.argtypes = ctypes.c_size_t, [ctypes.POINTER(Handle), U32]
+
+    def lent(self):
+        """A copy of the handle, as the header's readers make it."""
+        return Handle.from_buffer_copy(self.session.handle)
 
     def ask(self, name, *numbers):
         function, row = self.functions[name]
         written = row(*[77] * len(row()))
-        found = function(self.session.handle, *numbers, written)
+        found = function(self.lent(), *numbers, written)
         if found != FOUND and (found != ABSENT or set(written) != {77}):
             raise ValueError('%s %r: %d, %r' % (name, numbers, found, list(written)))
         return tuple(written) if found == FOUND else None
@@ -70,7 +90,7 @@ class Readers:
     def written(self, loop, room):
         """What the reader of all half-edges writes where there is room for so many, and the number behind the room."""
         found = (U32 * (room + 1))(*[77] * (room + 1))
-        count = self.cycle(self.session.handle, loop, found, room)
+        count = self.cycle(self.lent(), loop, found, room)
         if count != len(self.stepped(loop)):
             raise ValueError('loop %d: %d half-edges' % (loop, count))
         return list(found)
@@ -116,6 +136,57 @@ class Readers:
                    for solid in self.rising('number_after', SOLID))
 
 
+    def wrong_neighbours(self):
+        """What is wrong with the loops of half-edges, those before them and those that start at vertices, or None."""
+        starts = set()
+        for loop in self.rising('number_after', LOOP):
+            halves = self.half_edges(loop)
+            starts.update(self.ask('edge', half // 2)[half % 2] for half in halves)
+            if any(self.ask('half_edge_loop', half) != (loop,) for half in halves):
+                return 'another loop than %d of %r' % (loop, halves)
+            if [self.ask('previous_half_edge', half) for half in halves] != [(half,) for half in halves[-1:] + halves[:-1]]:
+                return 'others before %r' % halves
+        return self.wrong_starts(starts)
+
+    def wrong_starts(self, starts):
+        """What is wrong with the half-edges that start at vertices, or None."""
+        for vertex in self.rising('number_after', VERTEX):
+            half = self.ask('vertex_half_edge', vertex)
+            if (half is None) != (vertex not in starts) or half is not None and self.ask('edge', half[0] // 2)[half[0] % 2] != vertex:
+                return '%r starts at vertex %d' % (half, vertex)
+        return None
+
+    def wrong_rows(self):
+        """What is wrong with the rows of all half-edges and vertices, and with the greatest numbers, or None."""
+        halves, points = list(self.all_rows(self.rows, HalfEdgeRow, 0)), list(self.all_rows(self.points, VertexRow))
+        told = sorted((row.half_edge, row.start, row.next, row.loop, row.face) for row in halves)
+        if told != sorted(self.half_edge_rows()):
+            return 'rows of half-edges: %r' % told
+        of_solids = [(solid, row.half_edge) for solid in self.rising('number_after', SOLID) for row in self.all_rows(self.rows, HalfEdgeRow, solid)]
+        if sorted(of_solids) != sorted((self.ask('face', row.face)[0], row.half_edge) for row in halves):
+            return 'rows of solids: %r' % of_solids
+        if [(row.vertex, (row.x, row.y, row.z)) for row in points] != [(n, self.ask('vertex', n)) for n in self.rising('number_after', VERTEX)]:
+            return 'rows of vertices'
+        greatest = [max(self.rising('number_after', entity), default=0) for entity in range(5)]
+        found = [self.greatest(self.session.handle, entity) for entity in range(5)]
+        return None if found == greatest else 'greatest numbers %r, not %r' % (found, greatest)
+
+    def all_rows(self, function, kind, *first):
+        """The rows that a function writes; with too little room the first of them, and nothing behind the room."""
+        count = function(self.session.handle, *first, (kind * 1)(), 0)
+        rows = (kind * (count + 1))()
+        assert function(self.session.handle, *first, rows, count // 2) == count and not any(bytes(rows)[count // 2 * ctypes.sizeof(kind):])
+        assert function(self.session.handle, *first, rows, count) == count and not any(bytes(rows)[count * ctypes.sizeof(kind):])
+        return rows[:count]
+
+    def half_edge_rows(self):
+        """The rows of all half-edges, by the readers."""
+        for face in self.rising('number_after', FACE):
+            for loop in [self.ask('face', face)[1], *self.rising('ring_after', face)]:
+                for half in self.half_edges(loop):
+                    yield half, self.ask('edge', half // 2)[half % 2], self.ask('next_half_edge', half)[0], loop, face
+
+
 def complaint(session, readers):
     """What is wrong with the readers of the model held, or None."""
     session.line(b'list')
@@ -125,6 +196,9 @@ def complaint(session, readers):
         return '%r, not %r' % (got[:300], wanted[:300])
     if not readers.faces_of_solids():
         return 'other faces of a solid: %r' % wanted[:300]
+    why = readers.wrong_neighbours() or readers.wrong_rows()
+    if why:
+        return '%s in %r' % (why, wanted[:300])
     absent = [readers.ask('number_after', 5, 0), readers.half_edges(999999)] + [readers.ask(name, *[999999] * takes) for name, (takes, _) in READERS.items()]
     return 'found what is not there: %r' % absent if any(absent) else None
 
@@ -135,11 +209,11 @@ def closed(session, readers):
         function, _ = readers.functions[name]
         written = row(*[77] * len(row()))
         if function(session.handle, *[1] * takes, written) != CLOSED or set(written) != {77}:
-            return 'gwb_%s of a closed handle' % name
+            return 'gwb_lent_%s of a closed handle' % name
     written = NUMBER(77)
-    if readers.cycle(session.handle, 1, written, 1) != NO_TEXT or set(written) != {77}:
-        return 'gwb_half_edges of a closed handle'
-    return None
+    many = [readers.cycle(session.handle, 1, written, 1), readers.rows(session.handle, 0, written, 1), readers.points(session.handle, written, 1),
+            readers.greatest(session.handle, FACE)]
+    return 'all at once of a closed handle: %r' % many if many != [NO_TEXT] * 4 or set(written) != {77} else None
 
 
 def main():

@@ -68,7 +68,7 @@ static uint32_t half(words *w, int i)
 
 static uint32_t corner(words *w, int i)
 {
-    return *w->word[i] == '@' ? GWB_LONE(whole(w, w->word[i] + 1, 0, INT32_MAX)) : half(w, i);
+    return *w->word[i] == '@' ? gwb_lone((uint32_t)whole(w, w->word[i] + 1, 0, INT32_MAX)) : half(w, i);
 }
 
 /* 0 for `in`, 1 for `out`. */
@@ -197,7 +197,7 @@ static uint32_t called(gwb *g, int command, const int64_t *a, int words)
 /* Compares the texts of the last answers. */
 static void same_replies(gwb *a, gwb *b, const char *line)
 {
-    static uint8_t mine[1 << 20], other[1 << 20];
+    static char mine[1 << 20], other[1 << 20];
     size_t n = gwb_reply(a, mine, sizeof mine), m = gwb_reply(b, other, sizeof other);
     if (n != m || n > sizeof mine || memcmp(mine, other, n) != 0) fail("the reply", line);
 }
@@ -218,8 +218,8 @@ static void same_values(gwb *a, gwb *b, const char *line)
 /* Compares the listings of the models. */
 static void same_listings(gwb *a, gwb *b, const char *line)
 {
-    gwb_line(a, (const uint8_t *)"list", 4);
-    gwb_line(b, (const uint8_t *)"list", 4);
+    gwb_line(a, "list", 4);
+    gwb_line(b, "list", 4);
     same_replies(a, b, line);
 }
 
@@ -246,7 +246,7 @@ static command command_in(const char *line, size_t length)
 
 static uint32_t as_line(gwb *g, const command *c)
 {
-    return gwb_line(g, (const uint8_t *)c->line, c->length);
+    return gwb_line(g, c->line, c->length);
 }
 
 static uint32_t as_call(gwb *g, const command *c)

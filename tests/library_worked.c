@@ -47,7 +47,7 @@ static gwb opened(void)
 
 static uint32_t given(gwb *g, const char *line)
 {
-    return gwb_line(g, (const uint8_t *)line, strlen(line));
+    return gwb_line(g, line, strlen(line));
 }
 
 /* The texts of the answers to the lines of a script, each of at most 64 bytes. */
@@ -55,8 +55,8 @@ static void told(gwb *g, const char *script, char *texts)
 {
     for (const char *at = script;; at++) {
         size_t length = strcspn(at, "\n");
-        uint8_t text[64];
-        gwb_line(g, (const uint8_t *)at, length);
+        char text[64];
+        gwb_line(g, at, length);
         size_t size = gwb_reply(g, text, sizeof text);
         HOLDS(size <= sizeof text);
         memcpy(texts, text, size);
@@ -144,7 +144,7 @@ static void too_little_room(void)
     qsort(many, 4, sizeof *many, rising);
     HOLDS(memcmp(many, all, sizeof all) == 0);
     HOLDS(gwb_half_edges(&g, 99, few, 3) == 0);
-    uint8_t text[3] = {'.', '.', '.'};
+    char text[3] = {'.', '.', '.'};
     HOLDS(given(&g, "volume 1") == 6);
     HOLDS(gwb_reply(&g, text, sizeof text) == 11);
     HOLDS(memcmp(text, "vol", 3) == 0);
@@ -154,7 +154,7 @@ static void too_little_room(void)
 /* A line may have 65,536 bytes. */
 static void longest_line(void)
 {
-    static uint8_t comment[65537];
+    static char comment[65537];
     memset(comment, '#', sizeof comment);
     gwb g = opened();
     uint32_t fault = 0;

@@ -6,15 +6,15 @@
 #include <stdlib.h>
 
 /* Prints how a command was answered: by the name of the condition where it was refused. */
-static void say(gwb *g, const char *command, uint32_t kind)
+static void say(const gwb *g, const char *command, enum gwb_kind kind)
 {
     gwb_refusal refusal;
     if (kind == GWB_OK)
         printf("%s: ok\n", command);
-    else if (gwb_last_refusal(g, &refusal) == GWB_FOUND)
+    else if (kind == GWB_REFUSED && gwb_last_refusal(g, &refusal) == GWB_FOUND)
         printf("%s: %s %" PRIu32 "\n", command, gwb_why_name(refusal.number), refusal.value);
     else {
-        fprintf(stderr, "%s: kind %" PRIu32 "\n", command, kind);
+        fprintf(stderr, "%s: %s\n", command, gwb_kind_text(kind));
         exit(1);
     }
 }
@@ -30,7 +30,7 @@ static size_t place_of_least(const uint32_t *numbers, size_t count)
 }
 
 /* Prints the half-edges of a loop, or its one vertex: from the least on, where there is room for all. */
-static void print_loop(gwb *g, uint32_t loop)
+static void print_loop(const gwb *g, uint32_t loop)
 {
     uint32_t vertex, half_edges[64];
     size_t room = sizeof half_edges / sizeof *half_edges, count = gwb_half_edges(g, loop, half_edges, room);
@@ -48,7 +48,7 @@ static void print_loop(gwb *g, uint32_t loop)
 }
 
 /* Prints the faces of a solid with their loops. */
-static void print_faces(gwb *g, uint32_t solid)
+static void print_faces(const gwb *g, uint32_t solid)
 {
     for (uint32_t face = 0; gwb_face_after(g, solid, face, &face) == GWB_FOUND;) {
         gwb_face_row row;
@@ -84,7 +84,7 @@ static void print_plane(gwb *g, uint32_t face)
 }
 
 /* Prints the highest vertex, and how many there are. */
-static void print_vertices(gwb *g)
+static void print_vertices(const gwb *g)
 {
     uint32_t count = 0, highest = 0;
     gwb_point point, top = {0, 0, INT64_MIN};
@@ -97,12 +97,23 @@ static void print_vertices(gwb *g)
            count, highest, top.x, top.y, top.z);
 }
 
+/* Prints the faces on both sides of an edge. */
+static void print_sides(const gwb *g, uint32_t edge)
+{
+    uint32_t sides[2] = {gwb_plus(edge), gwb_minus(edge)}, loop, face;
+    printf("edge %" PRIu32 " is between the faces", edge);
+    for (size_t i = 0; i < 2; i++)
+        if (gwb_half_edge_loop(g, sides[i], &loop) == GWB_FOUND && gwb_loop(g, loop, &face) == GWB_FOUND)
+            printf(" %" PRIu32, face);
+    printf("\n");
+}
+
 /* Two operators as one command: an edge to the middle of face 1, which is cut off again, so that its end is a ring. */
 static void add_ring(gwb *g)
 {
     say(g, "draft", gwb_draft(g));
-    say(g, "mev", gwb_mev(g, 2 * 9, 2 * 9, 14, 10, 2, 2, 4));
-    say(g, "kemr", gwb_kemr(g, 2 * 14, 7));
+    say(g, "mev", gwb_mev(g, gwb_plus(9), gwb_plus(9), 14, 10, 2, 2, 4));
+    say(g, "kemr", gwb_kemr(g, gwb_plus(14), 7));
     print_loop(g, 7);
     say(g, "commit", gwb_commit(g));
 }
@@ -126,8 +137,9 @@ int main(void)
     say(&g, "kvfs", gwb_kvfs(&g, 2));
     say(&g, "undo", gwb_undo(&g));
     printf("depth %zu, ahead %zu\n", gwb_depth(&g), gwb_ahead(&g));
+    print_sides(&g, 7);
     /* an edge stands up from the corner at which the first half-edge of edge 7 starts */
-    say(&g, "mev", gwb_mev(&g, 2 * 7, 2 * 7, 13, 9, 0, 0, 9));
+    say(&g, "mev", gwb_mev(&g, gwb_plus(7), gwb_plus(7), 13, 9, 0, 0, 9));
     print_loop(&g, 1);
     add_ring(&g);
     printf("depth %zu\n", gwb_depth(&g));

@@ -3,29 +3,25 @@
 #include "gwb.hpp"
 #include <iostream>
 
-using gwb_session::Draft;
-using gwb_session::Faulted;
-using gwb_session::Refused;
-using gwb_session::RefusedBy;
-using gwb_session::Workbench;
+using namespace gwb_session;
 
 // Prints what each face of a solid has round it.
-static void print_faces(const Workbench &bench, std::uint32_t solid)
+static void print_faces(const Workbench &bench, Solid solid)
 {
-    for (std::uint32_t face : bench.faces(solid)) {
-        std::cout << "face " << face << " has the half-edges";
-        for (std::uint32_t half_edge : bench.half_edges(bench.face(face).outer_loop))
-            std::cout << ' ' << (half_edge % 2 == 0 ? '+' : '-') << half_edge / 2;
+    for (Face face : bench.faces(solid)) {
+        std::cout << "face " << face.number() << " has the half-edges";
+        for (HalfEdge half_edge : bench.half_edges(bench.face(face).outer_loop))
+            std::cout << ' ' << (half_edge.is_second() ? '-' : '+') << half_edge.edge().number();
         std::cout << '\n';
     }
 }
 
 // Prints the volume of a solid, if it is there.
-static void print_volume(Workbench &bench, std::uint32_t solid)
+static void print_volume(const Workbench &bench, Solid solid)
 {
     try {
-        std::int64_t volume = gwb_session::narrow(bench.six_volumes(solid)) / 6;
-        std::cout << "the volume of solid " << solid << " is " << volume << '\n';
+        const std::int64_t volume = narrow(bench.six_volumes(solid)) / 6;
+        std::cout << "the volume of solid " << solid.number() << " is " << volume << '\n';
     } catch (const RefusedBy<GWB_WHY_NO_SOLID> &refused) {
         std::cout << "there is no solid " << refused.value() << '\n';
     }
@@ -35,7 +31,7 @@ static void print_volume(Workbench &bench, std::uint32_t solid)
 static void print_refusals(Workbench &bench)
 {
     try {
-        bench.kvfs(2);
+        bench.kvfs(Solid(2));
     } catch (const Refused &refused) {
         std::cout << refused.what() << "; its number is " << refused.number() << '\n';
     }
@@ -50,29 +46,36 @@ static void print_refusals(Workbench &bench)
 static void add_ring(Workbench &bench)
 {
     Draft draft = bench.draft();
-    bench.mev(gwb_session::plus(9), gwb_session::plus(9), 14, 10, {2, 2, 4});
-    bench.kemr(gwb_session::plus(14), 7);
+    bench.mev(plus(Edge(9)), plus(Edge(9)), Edge(14), Vertex(10), {2, 2, 4});
+    bench.kemr(plus(Edge(14)), Loop(7));
     draft.commit();
+}
+
+// Prints the faces on both sides of an edge.
+static void print_sides(const Workbench &bench, Edge edge)
+{
+    const auto [first, second] = bench.faces_of(edge);
+    std::cout << "edge " << edge.number() << " is between the faces " << first.number() << " and " << second.number() << '\n';
 }
 
 int main()
 {
     Workbench bench;
-    bench.block(1, {0, 0, 0}, {4, 4, 4});
-    bench.split(1, 0, 0, 1, -2, 2);
-    print_volume(bench, 1);
-    print_volume(bench, 2);
-    print_faces(bench, 2);
+    const Solid block = bench.block({0, 0, 0}, {4, 4, 4});
+    const Solid above = bench.split(block, 0, 0, 1, -2);
+    print_volume(bench, block);
+    print_volume(bench, above);
+    print_faces(bench, above);
     print_refusals(bench);
     bench.undo();
     std::cout << "depth " << bench.depth() << ", ahead " << bench.ahead() << '\n';
-    print_volume(bench, 2);
-    gwb_plane top = bench.plane(1);
-    std::int64_t height = -gwb_session::narrow(top.d) / gwb_session::narrow(top.c);
-    std::cout << "face 1 is " << (top.flat ? "flat" : "bent") << ", at height " << height << '\n';
+    print_volume(bench, above);
+    gwb_plane top = bench.plane(Face(1));
+    std::cout << "face 1 is " << (top.flat ? "flat" : "bent") << ", at height " << -narrow(top.d) / narrow(top.c) << '\n';
+    print_sides(bench, Edge(7));
     // an edge stands up from the corner at which the first half-edge of edge 7 starts
-    bench.mev(gwb_session::plus(7), gwb_session::plus(7), 13, 9, {0, 0, 9});
-    std::cout << "vertex " << bench.edge(13).to << " is at height " << bench.vertex(9).z << '\n';
+    const NewVertex spike = bench.mev(plus(Edge(7)), plus(Edge(7)), {0, 0, 9});
+    std::cout << "vertex " << bench.edge(spike.edge).to.number() << " is at height " << bench.vertex(spike.vertex).z << '\n';
     add_ring(bench);
-    std::cout << "ring 7 is at vertex " << bench.lone_vertex(7).value() << "; depth " << bench.depth() << '\n';
+    std::cout << "ring 7 is at vertex " << bench.lone_vertex(Loop(7))->number() << "; depth " << bench.depth() << '\n';
 }

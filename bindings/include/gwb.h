@@ -1,16 +1,27 @@
-/* The Geometric WorkBench in process: a boundary-representation solid modeller with unlimited undo.
+/** @file gwb.h
+ * The Geometric WorkBench in process: a boundary-representation solid modeller with unlimited undo.
  *
- * Link libgwb_c.a and three functions for the heap (see BUILD.md).
+ * Link libgwb, shared or static. Both take memory by malloc, or from the heap that gwb_use_heap names. For a program without malloc there is the
+ * kernel alone, libgwb_c.a, to be linked with a heap.c of your own; the one here lies in share/gwb where it is installed.
  *
  * What a caller owes, which nothing checks:
  * - A `gwb` begins as {0}. Never read, write or copy its fields: two copies would free one session twice.
- * - One call at a time for each handle, and all calls for one handle from the thread that opened it. Two handles share nothing.
  * - No pointer is null, not even that of a line of no bytes or of a buffer without room, and each is aligned for its type.
  * - What a call writes to does not overlap the handle, nor another argument of that call.
- * - `n` items can be read at `line`, `points` and `faces`, and `room` items be written at `buf`.
+ * - `n` items can be read at `line`, `points` and `faces`, and `room` items be written at `buf` and `rows`.
  * - No call from a signal handler, nor from the forked child of a process with threads.
  *
- * A closed handle is one before `gwb_open` or after `gwb_close`. A call for a closed handle changes nothing and writes nothing. */
+ * Threads:
+ * - Two handles share nothing, so any two threads may work at once, each with its own.
+ * - Calls that take `const gwb *` are readers. They leave the handle alone and work on a copy of its two words, which has a share in the session
+ *   for as long as the call lasts. So many may run at once for one handle, from any threads, as long as no other call for it runs.
+ * - A call that takes `gwb *` needs the handle for itself: it takes the session out of the handle and puts another back. Let a lock, a queue or a
+ *   join order it before and after every other call for that handle. The queries (gwb_face_plane, gwb_volume, gwb_count) are such calls:
+ *   they keep the last answer.
+ * - A handle may go from thread to thread: a session has no lock, no thread-local and no global variable. Only its heap has to be one that all of its
+ *   threads may use, as malloc is.
+ *
+ * A closed handle is one before gwb_open or after gwb_close. A call for a closed handle changes nothing and writes nothing. */
 #ifndef GWB_H
 #define GWB_H
 #include <stdbool.h>
@@ -20,208 +31,490 @@
 extern "C" {
 #endif
 
-/* The version of this header: its first number times 10,000, its second times 100, and its third. */
+/** The version of this header: its first number times 10,000, its second times 100, and its third. */
 #define GWB_VERSION 10100
 
-/* The version of the library that is linked, in the same form. */
+#if (defined(__cplusplus) && __cplusplus >= 201703L) || (defined(__STDC_VERSION__) && __STDC_VERSION__ > 201710L)
+#define GWB_NODISCARD [[nodiscard]]
+#elif defined(__GNUC__)
+#define GWB_NODISCARD __attribute__((warn_unused_result))
+#else
+#define GWB_NODISCARD
+#endif
+
+/** The version of the library that is linked, in the form of GWB_VERSION. Libraries whose first numbers are the same have the same calls, types and
+ * constants as the older of the two; where the first number differs, compile anew. */
 uint32_t gwb_version(void);
 
+/** A handle: a session, or closed. */
 typedef struct gwb {
     bool is_open;
     void *held;
 } gwb;
 
-/* The kind of an answer. */
+/** The kind of an answer. */
 enum gwb_kind {
-    GWB_SILENT = 0,  /* a blank line or a comment */
-    GWB_OK = 1,      /* the command was accepted */
-    GWB_REFUSED = 2, /* a condition is false; the model is as it was */
-    GWB_FAULT = 3,   /* the line is no command; the model is as it was */
-    GWB_MEMORY = 4,  /* memory was refused; the model is as it was */
-    GWB_PLANE = 5,   /* the plane of a face */
-    GWB_VOLUME = 6,  /* six times the volume of a solid */
-    GWB_COUNT = 7,   /* the counts of a solid */
-    GWB_LISTING = 8, /* the listing of the model */
-    GWB_CLOSED = 9,  /* the handle is closed */
+    GWB_SILENT = 0,  /**< a blank line or a comment */
+    GWB_OK = 1,      /**< the command was accepted */
+    GWB_REFUSED = 2, /**< a condition is false; the model is as it was */
+    GWB_FAULT = 3,   /**< the line is no command; the model is as it was */
+    GWB_MEMORY = 4,  /**< memory was refused; the model is as it was */
+    GWB_PLANE = 5,   /**< the plane of a face */
+    GWB_VOLUME = 6,  /**< six times the volume of a solid */
+    GWB_COUNT = 7,   /**< the counts of a solid */
+    GWB_LISTING = 8, /**< the listing of the model */
+    GWB_CLOSED = 9,  /**< the handle is closed */
     /* After these nothing has changed, the last answer included. */
-    GWB_NO_CALL = 10,  /* the arguments make no command */
-    GWB_IN_DRAFT = 11, /* a draft has no such call */
-    GWB_NO_DRAFT = 12  /* only a draft has this call */
+    GWB_NO_CALL = 10,  /**< the arguments make no command */
+    GWB_IN_DRAFT = 11, /**< a draft has no such call */
+    GWB_NO_DRAFT = 12  /**< only a draft has this call */
 };
 
-/* What a reader says: GWB_FOUND and the value is written, or GWB_ABSENT or GWB_CLOSED (9) and nothing is written. */
+/** Whether an answer is one that was asked for: a command that was accepted, or what a query or a line told. */
+static inline bool gwb_succeeded(enum gwb_kind kind)
+{
+    return kind < GWB_REFUSED || (kind > GWB_MEMORY && kind < GWB_CLOSED);
+}
+
+/** A kind in words: "accepted", "memory was refused". "" where there is no such kind. */
+static inline const char *gwb_kind_text(enum gwb_kind kind)
+{
+    switch (kind) {
+    case GWB_SILENT: return "a blank line or a comment";
+    case GWB_OK: return "accepted";
+    case GWB_REFUSED: return "a condition is false";
+    case GWB_FAULT: return "the line is no command";
+    case GWB_MEMORY: return "memory was refused";
+    case GWB_PLANE: return "a plane";
+    case GWB_VOLUME: return "a volume";
+    case GWB_COUNT: return "counts";
+    case GWB_LISTING: return "a listing";
+    case GWB_CLOSED: return "the handle is closed";
+    case GWB_NO_CALL: return "the arguments make no command";
+    case GWB_IN_DRAFT: return "a draft is open, which takes operators alone";
+    case GWB_NO_DRAFT: return "no draft is open";
+    }
+    return "";
+}
+
+/** What a reader says: GWB_FOUND and the value is written, or GWB_ABSENT or GWB_CLOSED (9) and nothing is written. */
 enum gwb_found { GWB_ABSENT = 0, GWB_FOUND = 1 };
 
-/* The kinds of what has a number. */
+/** The kinds of what has a number. Numbers are from 1 to 1,000,000. */
 enum gwb_entity { GWB_SOLID = 0, GWB_FACE = 1, GWB_LOOP = 2, GWB_EDGE = 3, GWB_VERTEX = 4 };
 
-/* Sessions and lines, as text. */
+/* ---- sessions, and lines as text */
 
-/* Opens a session that holds the empty model; its last answer is GWB_SILENT. False where memory is refused, or the handle is open
- * already: then nothing has changed. */
-bool gwb_open(gwb *g);
+/** Opens a session that holds the empty model; its last answer is GWB_SILENT.
+ * @return false where memory is refused, or the handle is open already: then nothing has changed. */
+GWB_NODISCARD bool gwb_open(gwb *g);
 
-/* Frees the session, if there is one: the handle is closed. */
+/** Frees the session, if there is one: the handle is closed. */
 void gwb_close(gwb *g);
 
-/* Answers one line of a script, without its newline, keeps the answer and says its kind. A line of more than 65,536 bytes is a
- * fault. */
-uint32_t gwb_line(gwb *g, const uint8_t *line, size_t n);
+/** Whether a session is open. A reader. */
+static inline bool gwb_is_open(const gwb *g) { return g->is_open; }
 
-/* The text of the last answer, its newline included, as the program writes it: writes as much as there is room for, and returns the
- * whole length. SIZE_MAX where memory is refused, or the handle is closed; then nothing is written. It can be asked again. A listing
- * is that of the model held now. */
-size_t gwb_reply(gwb *g, uint8_t *buf, size_t room);
+/** Answers one line of a script, without its newline, keeps the answer and says its kind. A line of more than 65,536 bytes is a fault. */
+enum gwb_kind gwb_line(gwb *g, const char *line, size_t n);
 
-/* How many commands can be undone, and how many redone: in a draft none. SIZE_MAX where the handle is closed. Undo is possible where the
- * depth is not 0, and redo where something is ahead. */
-size_t gwb_depth(gwb *g);
-size_t gwb_ahead(gwb *g);
+/** @cond the exports of the readers, here and below: each takes a copy of the handle; call the reader of the same name without `lent` */
+size_t gwb_lent_reply(gwb *copy, char *buf, size_t room);
+size_t gwb_lent_depth(gwb *copy);
+size_t gwb_lent_ahead(gwb *copy);
+/** @endcond */
 
-/* The last answer, as values. GWB_ABSENT where the last answer is of another kind. */
+/** The text of the last answer, its newline included, as the program writes it. It can be asked again. A listing is that of the model held
+ * now. A reader.
+ * @param buf where as much is written as there is room for; no zero is put after it
+ * @return the whole length. SIZE_MAX where memory is refused, or the handle is closed; then nothing is written. */
+static inline size_t gwb_reply(const gwb *g, char *buf, size_t room)
+{
+    gwb copy = *g;
+    return gwb_lent_reply(&copy, buf, room);
+}
 
+/** How many commands can be undone: in a draft none. Undo is possible where it is not 0. SIZE_MAX where the handle is closed. A reader. */
+static inline size_t gwb_depth(const gwb *g)
+{
+    gwb copy = *g;
+    return gwb_lent_depth(&copy);
+}
+
+/** How many commands can be redone: in a draft none. SIZE_MAX where the handle is closed. A reader. */
+static inline size_t gwb_ahead(const gwb *g)
+{
+    gwb copy = *g;
+    return gwb_lent_ahead(&copy);
+}
+
+/** A heap: three functions, and what each of them is handed first. It stays as long as a block of it is held. */
+typedef struct gwb_heap {
+    /** A block of `size` bytes, aligned as malloc does it, or NULL. `size` is not 0. */
+    void *(*allocate)(void *user, size_t size);
+    /** The same block with `size` bytes, moved or not, or NULL: then it is as it was. */
+    void *(*reallocate)(void *user, void *block, size_t size);
+    void (*release)(void *user, void *block);
+    void *user;
+} gwb_heap;
+
+/** From here on, new blocks of the calls of this thread come from a heap: NULL is the one of the C library. A block grows in the heap that it came
+ * from, and goes back to it, whatever the thread. So a session lies in a heap of its own where each of its calls is made while that is in use.
+ * Not with libgwb_c.a alone.
+ * @return the heap until now, NULL for the one of the C library */
+const gwb_heap *gwb_use_heap(const gwb_heap *heap);
+
+/* ---- the last answer, as values */
+
+/** Which condition of a command was false. gwb_names.h has the numbers by name. */
 typedef struct gwb_refusal {
-    uint32_t number; /* of the condition that is false */
-    uint32_t value;  /* that goes with it */
+    uint32_t number; /**< of the condition */
+    uint32_t value;  /**< that goes with it */
 } gwb_refusal;
 
+/** high * 2^64 + low */
 typedef struct gwb_wide {
     int64_t high;
     uint64_t low;
-} gwb_wide; /* high * 2^64 + low */
+} gwb_wide;
 
+/** How many parts a solid has. */
 typedef struct gwb_counts {
     int64_t vertices, edges, faces, rings;
-    int64_t sum; /* vertices - edges + faces - rings */
+    int64_t sum; /**< vertices - edges + faces - rings */
 } gwb_counts;
 
+/** On the plane a x + b y + c z + d is 0. (a, b, c) is as long as twice the area of the face, and points out of a solid that isn't inside out. */
 typedef struct gwb_plane {
-    gwb_wide a, b, c, d; /* on the plane a x + b y + c z + d is 0 */
-    uint32_t flat;       /* 1 where the face is flat, 0 where it is bent */
+    gwb_wide a, b, c, d;
+    uint32_t flat; /**< 1 where the face is flat, 0 where it is bent */
 } gwb_plane;
 
-uint32_t gwb_last_refusal(gwb *g, gwb_refusal *refusal);
-uint32_t gwb_last_fault(gwb *g, uint32_t *number);
-uint32_t gwb_last_volume(gwb *g, gwb_wide *six_volumes);
-uint32_t gwb_last_counts(gwb *g, gwb_counts *counts);
-uint32_t gwb_last_plane(gwb *g, gwb_plane *plane);
-
+/** The numbers from the first to the last. */
 typedef struct gwb_range {
     uint32_t first, last;
 } gwb_range;
 
-/* The fresh numbers of a kind: those above all that were in use before the last line, up to the greatest in use now. A larger command
- * takes its faces, loops, edges and vertices there. GWB_ABSENT where there are none, and for solids, whose numbers a line names. */
-uint32_t gwb_fresh(gwb *g, uint32_t entity, gwb_range *range);
+/** @cond the exports of the readers */
+uint32_t gwb_lent_last_refusal(gwb *copy, gwb_refusal *refusal);
+uint32_t gwb_lent_last_fault(gwb *copy, uint32_t *number);
+uint32_t gwb_lent_last_volume(gwb *copy, gwb_wide *six_volumes);
+uint32_t gwb_lent_last_counts(gwb *copy, gwb_counts *counts);
+uint32_t gwb_lent_last_plane(gwb *copy, gwb_plane *plane);
+uint32_t gwb_lent_fresh(gwb *copy, uint32_t entity, gwb_range *range);
+/** @endcond */
 
-/* The model held, in a draft the draft's, read without text. */
+/** What the last answer refused: GWB_ABSENT where it was no refusal. GWB_IN_DRAFT, GWB_NO_DRAFT and GWB_NO_CALL leave the last answer as it was, so
+ * ask only after GWB_REFUSED. A reader. */
+static inline uint32_t gwb_last_refusal(const gwb *g, gwb_refusal *refusal)
+{
+    gwb copy = *g;
+    return gwb_lent_last_refusal(&copy, refusal);
+}
 
-/* The least number of a kind in use above n: from 0 on, all numbers in use, rising. GWB_ABSENT also for an unknown kind. */
-uint32_t gwb_number_after(gwb *g, uint32_t entity, uint32_t n, uint32_t *number);
+/** The number of the last answer's fault (docs/SCRIPT.md). A reader. */
+static inline uint32_t gwb_last_fault(const gwb *g, uint32_t *number)
+{
+    gwb copy = *g;
+    return gwb_lent_last_fault(&copy, number);
+}
 
+/** The volume that the last answer told. A reader. */
+static inline uint32_t gwb_last_volume(const gwb *g, gwb_wide *six_volumes)
+{
+    gwb copy = *g;
+    return gwb_lent_last_volume(&copy, six_volumes);
+}
+
+/** What the last answer counted. A reader. */
+static inline uint32_t gwb_last_counts(const gwb *g, gwb_counts *counts)
+{
+    gwb copy = *g;
+    return gwb_lent_last_counts(&copy, counts);
+}
+
+/** The plane that the last answer told. A reader. */
+static inline uint32_t gwb_last_plane(const gwb *g, gwb_plane *plane)
+{
+    gwb copy = *g;
+    return gwb_lent_last_plane(&copy, plane);
+}
+
+/** The fresh numbers of a kind (enum gwb_entity): those above all that were in use before the last command or query, up to the greatest in use now. A
+ * larger command takes its faces, loops, edges and vertices there. GWB_ABSENT where there are none, and for solids, whose numbers a command
+ * names. A reader. */
+static inline uint32_t gwb_fresh(const gwb *g, uint32_t entity, gwb_range *range)
+{
+    gwb copy = *g;
+    return gwb_lent_fresh(&copy, entity, range);
+}
+
+/* ---- the model held, in a draft the draft's, read without text */
+
+/** A face: its solid and its outer loop. */
 typedef struct gwb_face_row {
     uint32_t solid;
     uint32_t outer_loop;
 } gwb_face_row;
 
-uint32_t gwb_face(gwb *g, uint32_t face, gwb_face_row *row);
-
-/* The least ring of a face above n. GWB_ABSENT also where the face is not there. */
-uint32_t gwb_ring_after(gwb *g, uint32_t face, uint32_t n, uint32_t *ring);
-
-/* The least face of a solid above n. */
-uint32_t gwb_face_after(gwb *g, uint32_t solid, uint32_t n, uint32_t *face);
-
-/* The face of a loop. */
-uint32_t gwb_loop(gwb *g, uint32_t loop, uint32_t *face);
-
-/* The vertex of a loop that has one and no edge. GWB_ABSENT also where the loop has edges. */
-uint32_t gwb_lone_vertex(gwb *g, uint32_t loop, uint32_t *vertex);
-
-/* A half-edge is its edge's number times 2, and 1 more for the edge's second. */
-
-/* A half-edge of a loop. GWB_ABSENT also where the loop has one vertex and no edge. */
-uint32_t gwb_first_half_edge(gwb *g, uint32_t loop, uint32_t *half_edge);
-
-/* Writes the half-edges of a loop in their order round it, from any of them on, as far as there is room for them in `buf`, and returns how
- * many there are: 0 where the loop has one vertex and no edge, or is not there. SIZE_MAX where the handle is closed; then nothing is
- * written. Who wants one list of each loop turns the least to the front, as a listing does. */
-size_t gwb_half_edges(gwb *g, uint32_t loop, uint32_t *buf, size_t room);
-
-/* The half-edge after another in its loop. GWB_ABSENT where its edge is not there. */
-uint32_t gwb_next_half_edge(gwb *g, uint32_t half_edge, uint32_t *next);
-
+/** An edge, by its vertices. */
 typedef struct gwb_edge_row {
-    uint32_t from; /* the vertex at which the first half-edge starts */
-    uint32_t to;   /* the vertex at which the second one starts */
+    uint32_t from; /**< the vertex at which the first half-edge starts */
+    uint32_t to;   /**< the vertex at which the second one starts */
 } gwb_edge_row;
 
-uint32_t gwb_edge(gwb *g, uint32_t edge, gwb_edge_row *row);
-
+/** A point, or a vector. Coordinates of the model are within 1,000,000,000 either way. */
 typedef struct gwb_point {
     int64_t x, y, z;
 } gwb_point;
 
-uint32_t gwb_vertex(gwb *g, uint32_t vertex, gwb_point *point);
+/** @cond the exports of the readers */
+uint32_t gwb_lent_number_after(gwb *copy, uint32_t entity, uint32_t n, uint32_t *number);
+uint32_t gwb_lent_face(gwb *copy, uint32_t face, gwb_face_row *row);
+uint32_t gwb_lent_ring_after(gwb *copy, uint32_t face, uint32_t n, uint32_t *ring);
+uint32_t gwb_lent_face_after(gwb *copy, uint32_t solid, uint32_t n, uint32_t *face);
+uint32_t gwb_lent_loop(gwb *copy, uint32_t loop, uint32_t *face);
+uint32_t gwb_lent_lone_vertex(gwb *copy, uint32_t loop, uint32_t *vertex);
+uint32_t gwb_lent_first_half_edge(gwb *copy, uint32_t loop, uint32_t *half_edge);
+size_t gwb_lent_half_edges(gwb *copy, uint32_t loop, uint32_t *buf, size_t room);
+uint32_t gwb_lent_next_half_edge(gwb *copy, uint32_t half_edge, uint32_t *next);
+uint32_t gwb_lent_previous_half_edge(gwb *copy, uint32_t half_edge, uint32_t *previous);
+uint32_t gwb_lent_half_edge_loop(gwb *copy, uint32_t half_edge, uint32_t *loop);
+uint32_t gwb_lent_vertex_half_edge(gwb *copy, uint32_t vertex, uint32_t *half_edge);
+uint32_t gwb_lent_edge(gwb *copy, uint32_t edge, gwb_edge_row *row);
+uint32_t gwb_lent_vertex(gwb *copy, uint32_t vertex, gwb_point *point);
+/** @endcond */
 
-/* Commands as typed calls, without text: each does what the line does that spells the same command, answers its kind and keeps its answer,
- * so that gwb_last_refusal, gwb_reply and gwb_fresh tell of it. Where the answer is not GWB_OK, the model is as it was. Arguments may be any
- * numbers: what the kernel does not take is refused.
+/** The least number of a kind (enum gwb_entity) in use above n: from 0 on, all numbers in use, rising. GWB_ABSENT also for an unknown kind. A reader. */
+static inline uint32_t gwb_number_after(const gwb *g, uint32_t entity, uint32_t n, uint32_t *number)
+{
+    gwb copy = *g;
+    return gwb_lent_number_after(&copy, entity, n, number);
+}
+
+/** What is held of a face. A reader. */
+static inline uint32_t gwb_face(const gwb *g, uint32_t face, gwb_face_row *row)
+{
+    gwb copy = *g;
+    return gwb_lent_face(&copy, face, row);
+}
+
+/** The least ring of a face above n. GWB_ABSENT also where the face is not there. A reader. */
+static inline uint32_t gwb_ring_after(const gwb *g, uint32_t face, uint32_t n, uint32_t *ring)
+{
+    gwb copy = *g;
+    return gwb_lent_ring_after(&copy, face, n, ring);
+}
+
+/** The least face of a solid above n. A reader. */
+static inline uint32_t gwb_face_after(const gwb *g, uint32_t solid, uint32_t n, uint32_t *face)
+{
+    gwb copy = *g;
+    return gwb_lent_face_after(&copy, solid, n, face);
+}
+
+/** The face of a loop. A reader. */
+static inline uint32_t gwb_loop(const gwb *g, uint32_t loop, uint32_t *face)
+{
+    gwb copy = *g;
+    return gwb_lent_loop(&copy, loop, face);
+}
+
+/** The vertex of a loop that has one and no edge. GWB_ABSENT also where the loop has edges. A reader. */
+static inline uint32_t gwb_lone_vertex(const gwb *g, uint32_t loop, uint32_t *vertex)
+{
+    gwb copy = *g;
+    return gwb_lent_lone_vertex(&copy, loop, vertex);
+}
+
+/* A half-edge is its edge's number times 2, and 1 more for the edge's second. The other half-edge of its edge is half_edge ^ 1. */
+
+/** The greatest edge that has half-edges as numbers; it is far above all that can be in use. */
+#define GWB_GREATEST_EDGE UINT32_C(0x3FFFFFFF)
+
+/** The first half-edge of an edge. Of an edge above GWB_GREATEST_EDGE it is that edge's, which no command takes. */
+static inline uint32_t gwb_plus(uint32_t edge) { return 2 * (edge < GWB_GREATEST_EDGE ? edge : GWB_GREATEST_EDGE); }
+
+/** The second half-edge of an edge, alike. */
+static inline uint32_t gwb_minus(uint32_t edge) { return gwb_plus(edge) + 1; }
+
+/** The one corner of a loop that has a vertex and no edge. Of a loop above 2^31 - 1 it is that of 2^31 - 1, which no command takes. It evaluates its
+ * argument twice, and is a constant where that is. */
+#define GWB_LONE(loop) ((loop) < UINT32_C(0x80000000) ? UINT32_C(0x80000000) + (loop) : UINT32_MAX)
+static inline uint32_t gwb_lone(uint32_t loop) { return GWB_LONE(loop); }
+
+/** A half-edge of a loop. GWB_ABSENT also where the loop has one vertex and no edge. A reader. */
+static inline uint32_t gwb_first_half_edge(const gwb *g, uint32_t loop, uint32_t *half_edge)
+{
+    gwb copy = *g;
+    return gwb_lent_first_half_edge(&copy, loop, half_edge);
+}
+
+/** Writes the half-edges of a loop in their order round it, from any of them on, as far as there is room for them in `buf`. Who wants one list of
+ * each loop turns the least to the front, as a listing does. A reader.
+ * @return how many there are: 0 where the loop has one vertex and no edge, or is not there. SIZE_MAX where the handle is closed; then nothing
+ * is written. */
+static inline size_t gwb_half_edges(const gwb *g, uint32_t loop, uint32_t *buf, size_t room)
+{
+    gwb copy = *g;
+    return gwb_lent_half_edges(&copy, loop, buf, room);
+}
+
+/** The half-edge after another in its loop. GWB_ABSENT where its edge is not there. A reader. */
+static inline uint32_t gwb_next_half_edge(const gwb *g, uint32_t half_edge, uint32_t *next)
+{
+    gwb copy = *g;
+    return gwb_lent_next_half_edge(&copy, half_edge, next);
+}
+
+/** The half-edge before another in its loop. GWB_ABSENT where its edge is not there. A reader. */
+static inline uint32_t gwb_previous_half_edge(const gwb *g, uint32_t half_edge, uint32_t *previous)
+{
+    gwb copy = *g;
+    return gwb_lent_previous_half_edge(&copy, half_edge, previous);
+}
+
+/** The loop in which a half-edge stands; gwb_loop has its face. GWB_ABSENT where its edge is not there. A reader. */
+static inline uint32_t gwb_half_edge_loop(const gwb *g, uint32_t half_edge, uint32_t *loop)
+{
+    gwb copy = *g;
+    return gwb_lent_half_edge_loop(&copy, half_edge, loop);
+}
+
+/** A half-edge that starts at a vertex. It looks at the edges one after another; who needs many reads all edges once. GWB_ABSENT also where the
+ * vertex has no edge. A reader. */
+static inline uint32_t gwb_vertex_half_edge(const gwb *g, uint32_t vertex, uint32_t *half_edge)
+{
+    gwb copy = *g;
+    return gwb_lent_vertex_half_edge(&copy, vertex, half_edge);
+}
+
+/** What is held of an edge. A reader. */
+static inline uint32_t gwb_edge(const gwb *g, uint32_t edge, gwb_edge_row *row)
+{
+    gwb copy = *g;
+    return gwb_lent_edge(&copy, edge, row);
+}
+
+/** Where a vertex lies. A reader. */
+static inline uint32_t gwb_vertex(const gwb *g, uint32_t vertex, gwb_point *point)
+{
+    gwb copy = *g;
+    return gwb_lent_vertex(&copy, vertex, point);
+}
+
+/* ---- commands as typed calls, without text */
+
+/* Each does what the line does that spells the same command, answers its kind and keeps its answer, so that gwb_last_refusal, gwb_reply and
+ * gwb_fresh tell of it. Where the answer is not GWB_OK, the model is as it was. Arguments may be any numbers: what the kernel does not take is
+ * refused. docs/SCRIPT.md has the conditions of each.
  *
- * A half-edge is given as readers give it. A corner is the half-edge that starts there, or GWB_LONE(loop) for the one corner of a loop that
- * has a vertex and no edge. `edge` of gwb_mev, gwb_mef and gwb_mekr is the new edge's number, whose first half-edge starts at the first
- * corner's vertex. */
-#define GWB_LONE(loop) (UINT32_C(0x80000000) | (uint32_t)(loop))
+ * A half-edge is given as readers give it. A corner is the half-edge that starts there, or gwb_lone(loop) for the one corner of a loop that has a
+ * vertex and no edge. `edge` of gwb_mev, gwb_mef and gwb_mekr is the new edge's number, whose first half-edge starts at the first corner's
+ * vertex. */
 
-uint32_t gwb_mvfs(gwb *g, uint32_t solid, uint32_t face, uint32_t loop, uint32_t vertex, int64_t x, int64_t y, int64_t z);
-uint32_t gwb_kvfs(gwb *g, uint32_t solid);
-uint32_t gwb_mev(gwb *g, uint32_t corner, uint32_t other, uint32_t edge, uint32_t vertex, int64_t x, int64_t y, int64_t z);
-uint32_t gwb_kev(gwb *g, uint32_t half_edge);
-uint32_t gwb_mef(gwb *g, uint32_t half_edge, uint32_t other, uint32_t edge, uint32_t face, uint32_t loop);
-uint32_t gwb_kef(gwb *g, uint32_t half_edge);
-uint32_t gwb_kemr(gwb *g, uint32_t half_edge, uint32_t ring);
-uint32_t gwb_mekr(gwb *g, uint32_t corner, uint32_t other, uint32_t edge);
-uint32_t gwb_kfmrh(gwb *g, uint32_t face, uint32_t other);
-uint32_t gwb_mfkrh(gwb *g, uint32_t ring, uint32_t face);
+/** A new solid with one face, whose outer loop stands at one new vertex. */
+enum gwb_kind gwb_mvfs(gwb *g, uint32_t solid, uint32_t face, uint32_t loop, uint32_t vertex, int64_t x, int64_t y, int64_t z);
+/** The solid goes, with its one face, loop and vertex. */
+enum gwb_kind gwb_kvfs(gwb *g, uint32_t solid);
+/** A new edge from the vertex of the corners to a new vertex. With one corner given twice it sticks out there; with two corners at one vertex, the
+ * half-edges from the first round to before the second start at the new vertex. */
+enum gwb_kind gwb_mev(gwb *g, uint32_t corner, uint32_t other, uint32_t edge, uint32_t vertex, int64_t x, int64_t y, int64_t z);
+/** The edge goes, and the vertex at the end of the half-edge; what else starts there starts where the half-edge does. */
+enum gwb_kind gwb_kev(gwb *g, uint32_t half_edge);
+/** A new edge across a face, between the vertices at which two half-edges of one loop start. The part from the first to before the second becomes
+ * the loop of the new face. */
+enum gwb_kind gwb_mef(gwb *g, uint32_t half_edge, uint32_t other, uint32_t edge, uint32_t face, uint32_t loop);
+/** The edge goes, and the face on its other side becomes part of the half-edge's own. */
+enum gwb_kind gwb_kef(gwb *g, uint32_t half_edge);
+/** The edge goes, which has one loop on both sides; the part after the half-edge is a new ring of the face. */
+enum gwb_kind gwb_kemr(gwb *g, uint32_t half_edge, uint32_t ring);
+/** A new edge from the first corner to the second, whose loop is a ring of the same face and becomes part of the first one's. */
+enum gwb_kind gwb_mekr(gwb *g, uint32_t corner, uint32_t other, uint32_t edge);
+/** The second face goes, and its loop becomes a ring of the first. */
+enum gwb_kind gwb_kfmrh(gwb *g, uint32_t face, uint32_t other);
+/** A ring becomes the outer loop of a new face of the same solid. */
+enum gwb_kind gwb_mfkrh(gwb *g, uint32_t ring, uint32_t face);
+/** Moves a ring to a face: as a ring of it where `out` is 0, else as its outer loop, as the words `in` and `out` of a script say. */
+enum gwb_kind gwb_ringmv(gwb *g, uint32_t ring, uint32_t face, uint32_t out);
 
-/* Moves a ring to a face: as a ring of it where `out` is 0, else as its outer loop, as the words `in` and `out` of a script say. */
-uint32_t gwb_ringmv(gwb *g, uint32_t ring, uint32_t face, uint32_t out);
+/* Three operators that no script has. */
 
-/* Two operators that no script has. gwb_outer: a ring becomes the outer loop of its face, whose outer loop until then becomes a ring of
- * `face`. gwb_merge: two solids become the first. */
-uint32_t gwb_outer(gwb *g, uint32_t ring, uint32_t face);
-uint32_t gwb_merge(gwb *g, uint32_t solid, uint32_t other);
+/** A ring becomes the outer loop of its face, whose outer loop until then becomes a ring of `face`. */
+enum gwb_kind gwb_outer(gwb *g, uint32_t ring, uint32_t face);
+/** Two solids become the first. */
+enum gwb_kind gwb_merge(gwb *g, uint32_t solid, uint32_t other);
+/** `n` faces of one solid, their numbers rising, become the new solid `solid`. The solid that they leave is that of the first face. Memory for their
+ * list is taken first, so GWB_MEMORY may come where the operator would be refused. GWB_NO_CALL where `n` is 0. */
+enum gwb_kind gwb_part(gwb *g, const uint32_t *faces, size_t n, uint32_t solid);
 
-/* A third one: `n` faces of one solid, their numbers rising, become the new solid `solid`. The solid that they leave is that of the first face.
- * Memory for their list is taken first, so GWB_MEMORY may come where the operator would be refused. GWB_NO_CALL where `n` is 0. */
-uint32_t gwb_part(gwb *g, const uint32_t *faces, size_t n, uint32_t solid);
+/** A new solid of two faces, whose corners are the `n` points in order. Fewer than 3 are refused; more than 64 are GWB_NO_CALL. */
+enum gwb_kind gwb_lamina(gwb *g, uint32_t solid, const gwb_point *points, size_t n);
+/** A new solid, the block with the lowest corner (x, y, z) and edges along the axes as long as the sizes. */
+enum gwb_kind gwb_block(gwb *g, uint32_t solid, int64_t x, int64_t y, int64_t z, int64_t dx, int64_t dy, int64_t dz);
+/** The face moves by a vector, and a new face rises over each of its half-edges. */
+enum gwb_kind gwb_sweep(gwb *g, uint32_t face, int64_t dx, int64_t dy, int64_t dz);
+/** The two solids of the faces become one along them. The faces go through the same points in opposite directions. */
+enum gwb_kind gwb_glue(gwb *g, uint32_t face, uint32_t other);
+/** The plane a x + b y + c z + d = 0 cuts the solid in two; what lies where the sum is above 0 becomes the solid `above`. */
+enum gwb_kind gwb_split(gwb *g, uint32_t solid, int64_t a, int64_t b, int64_t c, int64_t d, uint32_t above);
 
-/* Makes a lamina: a new solid of two faces, whose corners are the `n` points in order. Fewer than 3 are refused; more than 64 are GWB_NO_CALL. */
-uint32_t gwb_lamina(gwb *g, uint32_t solid, const gwb_point *points, size_t n);
-
-uint32_t gwb_block(gwb *g, uint32_t solid, int64_t x, int64_t y, int64_t z, int64_t dx, int64_t dy, int64_t dz);
-uint32_t gwb_sweep(gwb *g, uint32_t face, int64_t dx, int64_t dy, int64_t dz);
-uint32_t gwb_glue(gwb *g, uint32_t face, uint32_t other);
-uint32_t gwb_split(gwb *g, uint32_t solid, int64_t a, int64_t b, int64_t c, int64_t d, uint32_t above);
-
-uint32_t gwb_undo(gwb *g);
-uint32_t gwb_redo(gwb *g);
+/** Takes the last command back. */
+enum gwb_kind gwb_undo(gwb *g);
+/** Does the command again that was taken back last. */
+enum gwb_kind gwb_redo(gwb *g);
 
 /* A draft of the next command: from gwb_draft on, each operator is a step of it, and readers and queries speak of the model that the steps
- * make. A step that is not GWB_OK changes nothing, and the draft goes on. gwb_commit makes the steps one command, also where there was none;
- * gwb_abandon takes them back: the session is as it was, what could be redone included. Both take no memory. gwb_close gives a draft up.
+ * make. A step that is not GWB_OK changes nothing, and the draft goes on. gwb_close gives a draft up.
  *
  * In a draft a line, a lamina, block, sweep, glue or split, undo, redo and a second gwb_draft are GWB_IN_DRAFT; gwb_commit and gwb_abandon
  * without a draft are GWB_NO_DRAFT. */
-uint32_t gwb_draft(gwb *g);
-uint32_t gwb_commit(gwb *g);
-uint32_t gwb_abandon(gwb *g);
 
-/* Queries: GWB_PLANE, GWB_VOLUME or GWB_COUNT and the value is written, as the last answer has it, or GWB_REFUSED or GWB_CLOSED and nothing
- * is. */
-uint32_t gwb_face_plane(gwb *g, uint32_t face, gwb_plane *plane);
-uint32_t gwb_volume(gwb *g, uint32_t solid, gwb_wide *six_volumes);
-uint32_t gwb_count(gwb *g, uint32_t solid, gwb_counts *counts);
+/** Opens a draft. */
+enum gwb_kind gwb_draft(gwb *g);
+/** Makes the steps one command, also where there was none. It takes no memory. */
+enum gwb_kind gwb_commit(gwb *g);
+/** Takes the steps back: the session is as it was, what could be redone included. It takes no memory. */
+enum gwb_kind gwb_abandon(gwb *g);
+
+/* ---- queries: the kind is theirs and the value is written, as the last answer has it, or it is GWB_REFUSED or GWB_CLOSED and nothing is */
+
+/** The plane of a face: GWB_PLANE. */
+enum gwb_kind gwb_face_plane(gwb *g, uint32_t face, gwb_plane *plane);
+/** Six times the volume of a solid, below 0 where it is inside out: GWB_VOLUME. */
+enum gwb_kind gwb_volume(gwb *g, uint32_t solid, gwb_wide *six_volumes);
+/** How many parts a solid has: GWB_COUNT. */
+enum gwb_kind gwb_count(gwb *g, uint32_t solid, gwb_counts *counts);
+
+/* ---- the model at once, for display and export. Not with libgwb_c.a alone. */
+
+/** A half-edge, and where it stands. */
+typedef struct gwb_half_edge_row {
+    uint32_t half_edge;
+    uint32_t start; /**< the vertex at which it starts */
+    uint32_t next;  /**< the half-edge after it in its loop */
+    uint32_t loop;
+    uint32_t face;
+} gwb_half_edge_row;
+
+/** A vertex, and where it lies. */
+typedef struct gwb_vertex_row {
+    uint32_t vertex;
+    gwb_point point;
+} gwb_vertex_row;
+
+/** Writes the half-edges of a solid, of all for solid 0, as far as there is room in `rows`: those of one loop one after another in their order
+ * round it, the outer loop of each face before its rings, faces and rings rising. Loops without an edge have none. A reader.
+ * @return how many there are: SIZE_MAX where the handle is closed; then nothing is written. */
+size_t gwb_read_half_edges(const gwb *g, uint32_t solid, gwb_half_edge_row *rows, size_t room);
+
+/** Writes all vertices, rising, as far as there is room in `rows`. A reader.
+ * @return how many there are: SIZE_MAX where the handle is closed; then nothing is written. */
+size_t gwb_read_vertices(const gwb *g, gwb_vertex_row *rows, size_t room);
+
+/** The greatest number of a kind (enum gwb_entity) in use, so that the one above it is free: 0 where none is. SIZE_MAX where the handle is closed. A
+ * reader. */
+size_t gwb_greatest_number(const gwb *g, uint32_t entity);
 
 #ifdef __cplusplus
 }

@@ -1,14 +1,16 @@
-// The Geometric WorkBench in process, for C++17: a session as a class, its commands as methods, and refusals as exceptions by name.
-//
-//     gwb_session::Workbench bench;
-//     bench.block(1, {0, 0, 0}, {4, 4, 4});
-//     for (std::uint32_t face : bench.faces(1))
-//         for (std::uint32_t half_edge : bench.half_edges(bench.face(face).outer_loop))
-//             std::cout << half_edge / 2 << '\n'; // the number of an edge
-//
-// Commands, their arguments and their conditions are those of the script language (docs/SCRIPT.md). A half-edge is its edge's number times
-// 2, and 1 more for the edge's second: plus(e), minus(e). A corner is the half-edge that starts there, or lone(l) for the one corner of a
-// loop that has a vertex and no edge. What is to be linked, and that a workbench stays on its thread, is said in gwb.h.
+/// @file gwb.hpp
+/// The Geometric WorkBench in process, for C++17: a session as a class, its commands as methods, numbers as types of their own.
+///
+///     using namespace gwb_session;
+///     Workbench bench;
+///     Solid block = bench.block({0, 0, 0}, {4, 4, 4});
+///     for (Face face : bench.faces(block))
+///         for (Edge edge : bench.edges_of(face))
+///             std::cout << edge.number() << '\n';
+///
+/// Commands, their arguments and their conditions are those of the script language (docs/SCRIPT.md). What isn't accepted is thrown, as an exception
+/// of its condition (RefusedBy<GWB_WHY_NO_FACE>); `bench.attempt()` has the same calls with a Result in place of exceptions, and Session is a
+/// workbench of only those, also for programs without exceptions (-fno-exceptions). What is to be linked, and what a thread may do, is said in gwb.h.
 #ifndef GWB_HPP
 #define GWB_HPP
 #if __cplusplus < 201703L
@@ -17,8 +19,12 @@
 #include "gwb.h"
 #include "gwb_names.h"
 #include <algorithm>
+#include <array>
+#include <charconv>
 #include <cstddef>
 #include <cstdint>
+#include <cstring>
+#include <functional>
 #include <initializer_list>
 #include <iterator>
 #include <memory>
@@ -30,97 +36,100 @@
 #include <type_traits>
 #include <utility>
 #include <vector>
+#if __cplusplus >= 202002L && __has_include(<ranges>)
+#include <ranges>
+#endif
 
 namespace gwb_session {
 
-constexpr std::uint32_t plus(std::uint32_t edge) { return 2 * edge; }
-constexpr std::uint32_t minus(std::uint32_t edge) { return 2 * edge + 1; }
-constexpr std::uint32_t lone(std::uint32_t loop) { return GWB_LONE(loop); }
+// ---- numbers
 
-// A wide number as one of 64 bits. std::overflow_error where it does not fit.
-inline std::int64_t narrow(gwb_wide number)
+/// The number of a solid, a face, a loop, an edge or a vertex. One that nothing was given is 0, which nothing has.
+template <gwb_entity Kind> class Id {
+public:
+    static constexpr gwb_entity kind = Kind;
+    constexpr Id() = default;
+    constexpr explicit Id(std::uint32_t number) : number_(number) {}
+    [[nodiscard]] constexpr std::uint32_t number() const { return number_; }
+    friend constexpr bool operator==(Id a, Id b) { return a.number_ == b.number_; }
+    friend constexpr bool operator!=(Id a, Id b) { return a.number_ != b.number_; }
+    friend constexpr bool operator<(Id a, Id b) { return a.number_ < b.number_; }
+
+private:
+    std::uint32_t number_ = 0;
+};
+
+using Solid = Id<GWB_SOLID>;
+using Face = Id<GWB_FACE>;
+using Loop = Id<GWB_LOOP>;
+using Edge = Id<GWB_EDGE>;
+using Vertex = Id<GWB_VERTEX>;
+using Point = gwb_point;
+
+/// One of the two half-edges of an edge: plus(edge) starts at the vertex that the edge was drawn from, minus(edge) at its other end.
+class HalfEdge {
+public:
+    constexpr HalfEdge() = default;
+    /// As the calls of gwb.h have it: the edge's number times 2, and 1 more for the edge's second.
+    constexpr explicit HalfEdge(std::uint32_t code) : code_(code) {}
+    [[nodiscard]] constexpr std::uint32_t code() const { return code_; }
+    [[nodiscard]] constexpr Edge edge() const { return Edge(code_ / 2); }
+    [[nodiscard]] constexpr bool is_second() const { return code_ % 2 != 0; }
+    /// The other half-edge of its edge.
+    [[nodiscard]] constexpr HalfEdge twin() const { return HalfEdge(code_ ^ 1u); }
+    friend constexpr bool operator==(HalfEdge a, HalfEdge b) { return a.code_ == b.code_; }
+    friend constexpr bool operator!=(HalfEdge a, HalfEdge b) { return a.code_ != b.code_; }
+    friend constexpr bool operator<(HalfEdge a, HalfEdge b) { return a.code_ < b.code_; }
+
+private:
+    std::uint32_t code_ = 0;
+};
+
+/// The first half-edge of an edge. Of an edge above GWB_GREATEST_EDGE it is that edge's, which no command takes.
+constexpr HalfEdge plus(Edge edge) { return HalfEdge(2 * (edge.number() < GWB_GREATEST_EDGE ? edge.number() : GWB_GREATEST_EDGE)); }
+/// The second half-edge of an edge, alike.
+constexpr HalfEdge minus(Edge edge) { return plus(edge).twin(); }
+
+/// Where an edge can be drawn from: the start of a half-edge, or the one corner of a loop that has a vertex and no edge.
+class Corner {
+public:
+    constexpr Corner(HalfEdge half_edge) : code_(half_edge.code()) {}
+    [[nodiscard]] constexpr std::uint32_t code() const { return code_; }
+
+private:
+    friend constexpr Corner lone(Loop loop);
+    constexpr explicit Corner(std::uint32_t code) : code_(code) {}
+    std::uint32_t code_;
+};
+
+/// The one corner of a loop that has a vertex and no edge. Of a loop above 2^31 - 1 it is that of 2^31 - 1, which no command takes.
+constexpr Corner lone(Loop loop) { return Corner(GWB_LONE(loop.number())); }
+
+/// A face: its solid and its outer loop.
+struct FaceRow {
+    Solid solid;
+    Loop outer_loop;
+};
+
+/// An edge, by its vertices: where its first half-edge starts, and where its second one does.
+struct EdgeRow {
+    Vertex from, to;
+};
+
+/// The numbers from the first to the last; not each of them need be in use.
+template <class Kind> struct Fresh {
+    Kind first, last;
+};
+
+/// A wide number as one of 64 bits, where it fits.
+[[nodiscard]] constexpr std::optional<std::int64_t> narrowed(gwb_wide number)
 {
-    std::int64_t low = static_cast<std::int64_t>(number.low);
-    if (number.high != (low < 0 ? -1 : 0))
-        throw std::overflow_error("the number does not fit in 64 bits");
-    return low;
+    const auto low = static_cast<std::int64_t>(number.low);
+    return number.high == (low < 0 ? -1 : 0) ? std::optional(low) : std::nullopt;
 }
 
-// A command that was not accepted; nothing has changed.
-class Complaint : public std::runtime_error {
-public:
-    using std::runtime_error::runtime_error;
-};
-
-// A condition of the command is false: its number, its name and the value that goes with it.
-class Refused : public Complaint {
-public:
-    Refused(std::string_view command, gwb_refusal refusal)
-        : Complaint(std::string(command) + ": " + gwb_why_name(refusal.number) + " " + std::to_string(refusal.value)), refusal_(refusal)
-    {
-    }
-    std::uint32_t number() const { return refusal_.number; }
-    std::uint32_t value() const { return refusal_.value; }
-    const char *name() const { return gwb_why_name(refusal_.number); }
-
-private:
-    gwb_refusal refusal_;
-};
-
-// The same, for one condition: catch (const RefusedBy<GWB_WHY_NO_SOLID> &refused). gwb_names.h has all of them.
-template <gwb_why Why> class RefusedBy : public Refused {
-public:
-    using Refused::Refused;
-};
-
-// The line is no command: the number of the fault.
-class Faulted : public Complaint {
-public:
-    Faulted(std::string_view line, std::uint32_t number)
-        : Complaint(std::string(line.substr(0, 100)) + ": fault " + std::to_string(number)), number_(number)
-    {
-    }
-    std::uint32_t number() const { return number_; }
-
-private:
-    std::uint32_t number_;
-};
-
-// A call that its caller had no right to make; nothing has changed.
-class Misused : public std::logic_error {
-public:
-    using std::logic_error::logic_error;
-};
-
-// The workbench was moved from, or its handle closed.
-class Closed : public Misused {
-public:
-    Closed() : Misused("the workbench is closed") {}
-};
-
-// The arguments make no command: more than 64 points, or a part of no faces.
-class NoCall : public Misused {
-public:
-    explicit NoCall(std::string_view command) : Misused(std::string(command) + ": these arguments make no command") {}
-};
-
-// A draft takes operators alone: no larger command, line, undo, redo or second draft.
-class InDraft : public Misused {
-public:
-    explicit InDraft(std::string_view command)
-        : Misused(std::string(command.substr(0, 100)) + ": a draft is open, which takes operators alone")
-    {
-    }
-};
-
-// The draft has ended.
-class NoDraft : public Misused {
-public:
-    explicit NoDraft(std::string_view command) : Misused(std::string(command) + ": there is no draft") {}
-};
-
-// Items of the caller that lie one after another: a list in braces, a std::vector, a std::array, in C++20 a std::span. It does not own
-// them, so it is for a parameter alone.
+/// Items of the caller that lie one after another: a list in braces, a std::vector, a std::array, in C++20 a std::span. It does not own
+/// them, so it is for a parameter alone.
 template <class Item> class Items {
 public:
     Items(std::initializer_list<Item> items) : Items(items.begin(), items.size()) {}
@@ -131,8 +140,10 @@ public:
     }
     // None is null, not even where there are no items.
     Items(const Item *data, std::size_t size) : data_(data != nullptr ? data : &nothing), size_(size) {}
-    const Item *data() const { return data_; }
-    std::size_t size() const { return size_; }
+    [[nodiscard]] const Item *data() const { return data_; }
+    [[nodiscard]] std::size_t size() const { return size_; }
+    [[nodiscard]] const Item *begin() const { return data_; }
+    [[nodiscard]] const Item *end() const { return data_ + size_; }
 
 private:
     static constexpr Item nothing{};
@@ -140,26 +151,345 @@ private:
     std::size_t size_;
 };
 
-// A range of numbers, rising, for a `for`: each is the least above the one before. Give its workbench no command meanwhile.
-class Numbers {
-public:
-    using After = std::uint32_t (*)(gwb *, std::uint32_t, std::uint32_t, std::uint32_t *);
+// ---- why a call was not accepted
 
+/// Why a call has no value.
+enum class Problem {
+    refused,  ///< a condition of the command is false
+    fault,    ///< the line is no command
+    memory,   ///< memory was refused; the call may be given again
+    closed,   ///< the workbench was moved from, its handle was closed, or it is gone
+    no_call,  ///< the arguments make no command: more than 64 points, or a part of no faces
+    in_draft, ///< a draft is open, which takes operators alone
+    no_draft, ///< the draft has ended
+    absent,   ///< the number is not in use
+    changed,  ///< the model has changed since a walk over it began
+};
+
+/// Why a call has no value, with its numbers. The model is as it was.
+struct Failure {
+    Problem problem = Problem::closed;
+    std::uint32_t number = 0; ///< of the condition (gwb_names.h) or of the fault
+    std::uint32_t value = 0;  ///< that goes with the condition, or the number that is not in use
+
+    /// Whether this condition is false.
+    [[nodiscard]] constexpr bool is(gwb_why why) const { return problem == Problem::refused && number == static_cast<std::uint32_t>(why); }
+    /// The name of the condition; "" where it is none.
+    [[nodiscard]] const char *name() const { return problem == Problem::refused ? gwb_why_name(number) : ""; }
+};
+
+/// What a call gave: a value, or why there is none.
+template <class T> class [[nodiscard]] Result {
+public:
+    Result(T value) : value_(std::move(value)) {}
+    Result(Failure failure) : failure_(failure) {}
+    [[nodiscard]] explicit operator bool() const { return value_.has_value(); }
+    /// The value, where there is one.
+    [[nodiscard]] T &operator*() { return *value_; }
+    [[nodiscard]] const T &operator*() const { return *value_; }
+    [[nodiscard]] T *operator->() { return &*value_; }
+    [[nodiscard]] const T *operator->() const { return &*value_; }
+    /// Why there is none, where there is none.
+    [[nodiscard]] const Failure &error() const { return failure_; }
+
+private:
+    std::optional<T> value_;
+    Failure failure_;
+};
+
+/// What a call gave that has no value: whether it was accepted.
+template <> class [[nodiscard]] Result<void> {
+public:
+    Result() = default;
+    Result(Failure failure) : is_accepted_(false), failure_(failure) {}
+    [[nodiscard]] explicit operator bool() const { return is_accepted_; }
+    [[nodiscard]] const Failure &error() const { return failure_; }
+
+private:
+    bool is_accepted_ = true;
+    Failure failure_;
+};
+
+/// What calls give that throw nothing.
+struct Results {
+    template <class T> using Returned = Result<T>;
+    template <class T> static Result<T> failed(std::string_view, Failure failure) { return failure; }
+    /// A range ends where its workbench is closed or has changed.
+    static void ended(Failure) {}
+};
+
+#if defined(__cpp_exceptions)
+
+/// A wide number as one of 64 bits. std::overflow_error where it does not fit.
+inline std::int64_t narrow(gwb_wide number)
+{
+    if (auto low = narrowed(number))
+        return *low;
+    throw std::overflow_error("the number does not fit in 64 bits");
+}
+
+/// A command that was not accepted; nothing has changed.
+class Complaint : public std::runtime_error {
+public:
+    using std::runtime_error::runtime_error;
+
+protected:
+    /// A text of a command, or of the beginning of a line, of a word and of a number.
+    class Text {
+    public:
+        Text(std::string_view command, std::string_view word, std::uint32_t number)
+        {
+            add(command.substr(0, 100));
+            add(": ");
+            add(word);
+            add(" ");
+            *std::to_chars(end_, text_.data() + text_.size() - 1, number).ptr = '\0';
+        }
+        [[nodiscard]] const char *c_str() const { return text_.data(); }
+
+    private:
+        void add(std::string_view part) { end_ = std::copy(part.begin(), part.end(), end_); }
+        std::array<char, 160> text_;
+        char *end_ = text_.data();
+    };
+};
+
+/// A condition of the command is false: its number, its name and the value that goes with it.
+class Refused : public Complaint {
+public:
+    Refused(std::string_view command, gwb_refusal refusal)
+        : Complaint(Text(command, gwb_why_name(refusal.number), refusal.value).c_str()), refusal_(refusal)
+    {
+    }
+    [[nodiscard]] std::uint32_t number() const { return refusal_.number; }
+    [[nodiscard]] gwb_why why() const { return static_cast<gwb_why>(refusal_.number); }
+    [[nodiscard]] std::uint32_t value() const { return refusal_.value; }
+    [[nodiscard]] const char *name() const { return gwb_why_name(refusal_.number); }
+
+private:
+    gwb_refusal refusal_;
+};
+
+/// The same, for one condition: catch (const RefusedBy<GWB_WHY_NO_SOLID> &refused). gwb_names.h has all of them.
+template <gwb_why Why> class RefusedBy : public Refused {
+public:
+    using Refused::Refused;
+};
+
+/// The line is no command: the number of the fault.
+class Faulted : public Complaint {
+public:
+    Faulted(std::string_view line, std::uint32_t number) : Complaint(Text(line, "fault", number).c_str()), number_(number) {}
+    [[nodiscard]] std::uint32_t number() const { return number_; }
+
+private:
+    std::uint32_t number_;
+};
+
+/// A call that its caller had no right to make; nothing has changed.
+class Misused : public std::logic_error {
+public:
+    using std::logic_error::logic_error;
+};
+
+/// The workbench was moved from, its handle was closed, or it is gone.
+class Closed : public Misused {
+public:
+    Closed() : Misused("the workbench is closed") {}
+};
+
+/// The arguments make no command: more than 64 points, or a part of no faces.
+class NoCall : public Misused {
+public:
+    explicit NoCall(std::string_view command) : Misused(std::string(command) + ": these arguments make no command") {}
+};
+
+/// A draft takes operators alone: no larger command, line, undo, redo or second draft.
+class InDraft : public Misused {
+public:
+    explicit InDraft(std::string_view command)
+        : Misused(std::string(command.substr(0, 100)) + ": a draft is open, which takes operators alone")
+    {
+    }
+};
+
+/// The draft has ended.
+class NoDraft : public Misused {
+public:
+    explicit NoDraft(std::string_view command) : Misused(std::string(command) + ": there is no draft") {}
+};
+
+/// The model has changed since a walk round a loop, a vertex or a face began.
+class Changed : public Misused {
+public:
+    Changed() : Misused("the model has changed since the walk over it began") {}
+};
+
+/// What calls give that throw.
+struct Throwing {
+    template <class T> using Returned = T;
+
+    template <class T> [[noreturn]] static T failed(std::string_view command, Failure failure) { fail(command, failure); }
+
+    static void ended(Failure failure)
+    {
+        if (failure.problem != Problem::absent)
+            fail("a range", failure);
+    }
+
+private:
+    using Thrower = void (*)(std::string_view, gwb_refusal);
+
+    template <gwb_why Why> [[noreturn]] static void refuse_by(std::string_view command, gwb_refusal refusal)
+    {
+        throw RefusedBy<Why>(command, refusal);
+    }
+
+    template <std::size_t... Before> static constexpr std::array<Thrower, sizeof...(Before)> throwers(std::index_sequence<Before...>)
+    {
+        return {refuse_by<static_cast<gwb_why>(Before + 1)>...};
+    }
+
+    /// Throws a refusal in the class of its condition. They are numbered from 1 on.
+    [[noreturn]] static void refuse(std::string_view command, gwb_refusal refusal)
+    {
+        static constexpr auto table = throwers(std::make_index_sequence<GWB_WHY_BAD_PART>());
+        if (1 <= refusal.number && refusal.number <= table.size())
+            table[refusal.number - 1](command, refusal);
+        throw Refused(command, refusal);
+    }
+
+    [[noreturn]] static void fail(std::string_view command, Failure failure)
+    {
+        switch (failure.problem) {
+        case Problem::refused: refuse(command, {failure.number, failure.value});
+        case Problem::fault: throw Faulted(command, failure.number);
+        case Problem::memory: throw std::bad_alloc();
+        case Problem::no_call: throw NoCall(command);
+        case Problem::in_draft: throw InDraft(command);
+        case Problem::no_draft: throw NoDraft(command);
+        case Problem::absent: throw std::out_of_range("there is no " + std::string(command) + " " + std::to_string(failure.value));
+        case Problem::changed: throw Changed();
+        case Problem::closed: break;
+        }
+        throw Closed();
+    }
+};
+
+#endif // __cpp_exceptions
+
+// ---- what workbenches, their drafts and their ranges share
+
+/// A session, shared by its workbench, the drafts and the ranges of it. It is closed as soon as the workbench is gone; what is left of it
+/// says so.
+class State {
+public:
+    gwb handle{};
+    /// How many commands were accepted that may have changed the model.
+    std::uint64_t changes = 0;
+    /// The number of the draft that was opened last.
+    std::uint64_t draft = 0;
+
+    State() = default;
+    State(const State &) = delete;
+    State &operator=(const State &) = delete;
+    ~State() { gwb_close(&handle); }
+
+    /// The fresh numbers of a kind: those that the last command made.
+    [[nodiscard]] std::optional<gwb_range> fresh(gwb_entity kind) const
+    {
+        const gwb_range range = is_kept_ ? kept_[kind] : live(kind);
+        return range.first != 0 ? std::optional(range) : std::nullopt;
+    }
+
+    /// Before a query, which makes the kernel forget what the last command made.
+    void keep_fresh()
+    {
+        if (!is_kept_)
+            kept_ = live();
+        is_kept_ = true;
+    }
+
+    /// After a command with this answer.
+    void follow(gwb_kind kind)
+    {
+        if (kind > GWB_MEMORY)
+            return;
+        is_kept_ = false;
+        if (kind == GWB_OK)
+            changes++;
+        if (kind == GWB_OK && is_drafting_)
+            add(live());
+    }
+
+    /// After a draft was opened: its number.
+    std::uint64_t begin_draft()
+    {
+        is_drafting_ = true;
+        drafted_ = {};
+        return ++draft;
+    }
+
+    /// After a draft has ended; where it was committed it has made what its steps made.
+    void end_draft(bool is_committed)
+    {
+        is_drafting_ = false;
+        changes++;
+        is_kept_ = is_committed;
+        kept_ = drafted_;
+    }
+
+private:
+    /// For each kind the first and the last number, 0 where there is none.
+    using Ranges = std::array<gwb_range, 5>;
+
+    [[nodiscard]] gwb_range live(gwb_entity kind) const
+    {
+        gwb_range range{0, 0};
+        gwb_fresh(&handle, kind, &range);
+        return range;
+    }
+
+    [[nodiscard]] Ranges live() const { return {gwb_range{0, 0}, live(GWB_FACE), live(GWB_LOOP), live(GWB_EDGE), live(GWB_VERTEX)}; }
+
+    void add(const Ranges &step)
+    {
+        for (std::size_t kind = 0; kind < step.size(); kind++) {
+            gwb_range &all = drafted_[kind];
+            if (step[kind].first != 0)
+                all = all.first == 0 ? step[kind] : gwb_range{std::min(all.first, step[kind].first), std::max(all.last, step[kind].last)};
+        }
+    }
+
+    bool is_kept_ = false, is_drafting_ = false;
+    Ranges kept_{}, drafted_{};
+};
+
+// ---- ranges
+
+/// A range of what the readers of gwb.h find one after another, by a rule. It can be gone through as often as wanted. Its iterators stay good as
+/// long as the workbench is there. Where that is closed or gone, a range throws Closed; where the model has changed since a walk round a loop, a
+/// vertex or a face began, Changed. Without exceptions it ends there.
+template <class Policy, class Rule> class Range {
+public:
     class iterator {
     public:
+        using iterator_concept = std::forward_iterator_tag;
         using iterator_category = std::input_iterator_tag;
-        using value_type = std::uint32_t;
+        using value_type = typename Rule::Value;
         using difference_type = std::ptrdiff_t;
-        using pointer = const std::uint32_t *;
-        using reference = std::uint32_t;
+        using pointer = void;
+        using reference = value_type;
 
         iterator() = default;
-        iterator(After after, gwb *handle, std::uint32_t owner) : after_(after), handle_(handle), owner_(owner) { ++*this; }
-        std::uint32_t operator*() const { return number_; }
+        iterator(const State *state, Rule rule) : state_(state), rule_(rule), changes_(state->changes) { settle(rule_.begin(state->handle)); }
+        value_type operator*() const { return rule_.value(); }
         iterator &operator++()
         {
-            if (after_(handle_, owner_, number_, &number_) != GWB_FOUND)
-                *this = iterator();
+            if (Rule::is_walk && state_->changes != changes_)
+                end({Problem::changed});
+            else
+                settle(rule_.advance(state_->handle));
             return *this;
         }
         iterator operator++(int)
@@ -168,316 +498,843 @@ public:
             ++*this;
             return before;
         }
-        bool operator==(const iterator &other) const { return number_ == other.number_; }
-        bool operator!=(const iterator &other) const { return number_ != other.number_; }
+        friend bool operator==(const iterator &a, const iterator &b)
+        {
+            return a.state_ == b.state_ && (a.state_ == nullptr || a.rule_.value() == b.rule_.value());
+        }
+        friend bool operator!=(const iterator &a, const iterator &b) { return !(a == b); }
 
     private:
-        After after_ = nullptr;
-        gwb *handle_ = nullptr;
-        std::uint32_t owner_ = 0, number_ = 0;
+        void settle(std::uint32_t answer)
+        {
+            if (answer != GWB_FOUND)
+                end({answer == GWB_CLOSED ? Problem::closed : Problem::absent});
+        }
+        void end(Failure failure)
+        {
+            state_ = nullptr;
+            Policy::ended(failure);
+        }
+
+        const State *state_ = nullptr; // none: the end
+        Rule rule_{};
+        std::uint64_t changes_ = 0;
     };
 
-    Numbers(After after, gwb *handle, std::uint32_t owner) : after_(after), handle_(handle), owner_(owner) {}
-    iterator begin() const { return iterator(after_, handle_, owner_); }
-    iterator end() const { return iterator(); }
+    Range(std::shared_ptr<const State> state, Rule rule) : state_(std::move(state)), rule_(rule) {}
+    [[nodiscard]] iterator begin() const { return iterator(state_.get(), rule_); }
+    [[nodiscard]] iterator end() const { return {}; }
+    [[nodiscard]] bool empty() const { return begin() == end(); }
 
 private:
-    After after_;
-    gwb *handle_;
-    std::uint32_t owner_;
+    std::shared_ptr<const State> state_;
+    Rule rule_;
 };
 
-class Draft;
-
-// A session, closed at the end of its scope. It can be moved; one that was moved from is closed. Commands and queries throw RefusedBy where
-// a condition is false, and std::bad_alloc where memory is refused; then the model is as it was, and the command may be given again.
-// Readers are const. On a closed workbench every method throws Closed. While a draft is open, operators are its steps, readers and queries
-// speak of its model, and what it does not take throws InDraft.
-class Workbench {
+/// Numbers, rising: each is the least above the one before.
+template <class Kind> class Rising {
 public:
-    Workbench() : handle_(new gwb{})
+    using Value = Kind;
+    using After = std::uint32_t (*)(const gwb *, std::uint32_t, std::uint32_t, std::uint32_t *);
+    static constexpr bool is_walk = false;
+
+    Rising() = default;
+    Rising(After after, std::uint32_t owner) : after_(after), owner_(owner) {}
+    std::uint32_t begin(const gwb &g) { return advance(g); }
+    std::uint32_t advance(const gwb &g) { return after_(&g, owner_, number_, &number_); }
+    Kind value() const { return Kind(number_); }
+
+private:
+    After after_ = nullptr;
+    std::uint32_t owner_ = 0, number_ = 0;
+};
+
+/// The half-edges of a loop in their order round it, from any of them on.
+class RoundLoop {
+public:
+    using Value = HalfEdge;
+    static constexpr bool is_walk = true;
+
+    RoundLoop() = default;
+    explicit RoundLoop(Loop loop) : loop_(loop) {}
+    std::uint32_t begin(const gwb &g)
     {
-        if (!gwb_open(handle_.get()))
-            throw std::bad_alloc();
+        std::uint32_t answer = gwb_first_half_edge(&g, loop_.number(), &first_);
+        at_ = first_;
+        return answer;
     }
+    std::uint32_t advance(const gwb &g)
+    {
+        std::uint32_t answer = gwb_next_half_edge(&g, at_, &at_);
+        return answer == GWB_FOUND && at_ == first_ ? std::uint32_t{GWB_ABSENT} : answer;
+    }
+    HalfEdge value() const { return HalfEdge(at_); }
+
+private:
+    Loop loop_;
+    std::uint32_t first_ = 0, at_ = 0;
+};
+
+/// The half-edges that start at a vertex, in their order round it.
+class RoundVertex {
+public:
+    using Value = HalfEdge;
+    static constexpr bool is_walk = true;
+
+    RoundVertex() = default;
+    /// From this half-edge on.
+    explicit RoundVertex(HalfEdge first) : first_(first.code()) {}
+    explicit RoundVertex(Vertex vertex) : vertex_(vertex) {}
+    std::uint32_t begin(const gwb &g)
+    {
+        std::uint32_t answer = GWB_FOUND, loop = 0;
+        answer = vertex_ == Vertex() ? gwb_half_edge_loop(&g, first_, &loop) : gwb_vertex_half_edge(&g, vertex_.number(), &first_);
+        at_ = first_;
+        return answer;
+    }
+    std::uint32_t advance(const gwb &g)
+    {
+        std::uint32_t answer = gwb_next_half_edge(&g, at_ ^ 1u, &at_);
+        return answer == GWB_FOUND && at_ == first_ ? std::uint32_t{GWB_ABSENT} : answer;
+    }
+    HalfEdge value() const { return HalfEdge(at_); }
+
+private:
+    Vertex vertex_;
+    std::uint32_t first_ = 0, at_ = 0;
+};
+
+/// The loops of a face: its outer loop, and then its rings, rising.
+class LoopsOfFace {
+public:
+    using Value = Loop;
+    static constexpr bool is_walk = true;
+
+    LoopsOfFace() = default;
+    explicit LoopsOfFace(Face face) : face_(face) {}
+    std::uint32_t begin(const gwb &g)
+    {
+        gwb_face_row row{0, 0};
+        std::uint32_t answer = gwb_face(&g, face_.number(), &row);
+        at_ = row.outer_loop;
+        return answer;
+    }
+    std::uint32_t advance(const gwb &g)
+    {
+        std::uint32_t answer = gwb_ring_after(&g, face_.number(), ring_, &ring_);
+        at_ = ring_;
+        return answer;
+    }
+    Loop value() const { return Loop(at_); }
+
+private:
+    Face face_;
+    std::uint32_t ring_ = 0, at_ = 0;
+};
+
+/// The half-edges of all loops of a face, one loop after another.
+class HalfEdgesOfFace {
+public:
+    using Value = HalfEdge;
+    static constexpr bool is_walk = true;
+
+    HalfEdgesOfFace() = default;
+    explicit HalfEdgesOfFace(Face face) : loops_(face) {}
+    std::uint32_t begin(const gwb &g) { return enter(g, loops_.begin(g)); }
+    std::uint32_t advance(const gwb &g)
+    {
+        std::uint32_t answer = round_.advance(g);
+        return answer == GWB_ABSENT ? enter(g, loops_.advance(g)) : answer;
+    }
+    HalfEdge value() const { return round_.value(); }
+
+private:
+    /// Goes into the loop where the loops are now, or the next one that has an edge.
+    std::uint32_t enter(const gwb &g, std::uint32_t answer)
+    {
+        for (; answer == GWB_FOUND; answer = loops_.advance(g)) {
+            round_ = RoundLoop(loops_.value());
+            if (std::uint32_t first = round_.begin(g); first != GWB_ABSENT)
+                return first;
+        }
+        return answer;
+    }
+
+    LoopsOfFace loops_;
+    RoundLoop round_;
+};
+
+/// The edges of a face, each once, also where the face lies on both sides of it.
+class EdgesOfFace {
+public:
+    using Value = Edge;
+    static constexpr bool is_walk = true;
+
+    EdgesOfFace() = default;
+    explicit EdgesOfFace(Face face) : face_(face), half_edges_(face) {}
+    std::uint32_t begin(const gwb &g) { return skip(g, half_edges_.begin(g)); }
+    std::uint32_t advance(const gwb &g) { return skip(g, half_edges_.advance(g)); }
+    Edge value() const { return half_edges_.value().edge(); }
+
+private:
+    /// Passes over second half-edges whose first one is of the face too.
+    std::uint32_t skip(const gwb &g, std::uint32_t answer)
+    {
+        while (answer == GWB_FOUND && half_edges_.value().is_second() && is_here(g, half_edges_.value().twin()))
+            answer = half_edges_.advance(g);
+        return answer;
+    }
+    [[nodiscard]] bool is_here(const gwb &g, HalfEdge half_edge) const
+    {
+        std::uint32_t loop = 0, face = 0;
+        return gwb_half_edge_loop(&g, half_edge.code(), &loop) == GWB_FOUND && gwb_loop(&g, loop, &face) == GWB_FOUND && Face(face) == face_;
+    }
+
+    Face face_;
+    HalfEdgesOfFace half_edges_;
+};
+
+// ---- drafts
+
+template <class Policy> class Commands;
+
+/// A draft of a workbench's next command: the operators given while it is open become one command when it is committed, also where there
+/// were none. At the end of its scope it is abandoned, unless it was committed: then the workbench is as it was before, what can be redone
+/// included. A refused step changes nothing and leaves it open. It may outlive its workbench, which is Closed for it then.
+///
+///     Draft draft = bench.draft();
+///     bench.mev(plus(Edge(7)), plus(Edge(7)), Edge(13), Vertex(9), {2, 2, 4});
+///     bench.kemr(plus(Edge(13)), Loop(7));
+///     draft.commit();
+template <class Policy> class BasicDraft {
+public:
+    BasicDraft(BasicDraft &&other) noexcept : state_(std::exchange(other.state_, nullptr)), number_(other.number_) {}
+    BasicDraft &operator=(BasicDraft &&) = delete;
+    ~BasicDraft()
+    {
+        if (is_newest() && gwb_abandon(&state_->handle) == GWB_OK)
+            state_->end_draft(false);
+    }
+
+    /// Its steps are one command from here on. NoDraft where it has ended.
+    typename Policy::template Returned<void> commit() { return end("commit", gwb_commit, true); }
+    /// Its steps are taken back. NoDraft where it has ended.
+    typename Policy::template Returned<void> abandon() { return end("abandon", gwb_abandon, false); }
+
+private:
+    friend class Commands<Policy>;
+    explicit BasicDraft(std::shared_ptr<State> state) : state_(std::move(state)), number_(state_->begin_draft()) {}
+
+    /// Whether no draft of the workbench was opened after this one, so that a draft that is open is this one.
+    [[nodiscard]] bool is_newest() const { return state_ != nullptr && state_->draft == number_; }
+
+    typename Policy::template Returned<void> end(const char *command, gwb_kind (*call)(gwb *), bool is_committed)
+    {
+        gwb_kind kind = is_newest() ? call(&state_->handle) : GWB_NO_DRAFT;
+        if (kind == GWB_OK)
+            state_->end_draft(is_committed);
+        state_ = nullptr;
+        if (kind != GWB_OK)
+            return Policy::template failed<void>(command, {kind == GWB_CLOSED ? Problem::closed : Problem::no_draft});
+        return typename Policy::template Returned<void>();
+    }
+
+    std::shared_ptr<State> state_;
+    std::uint64_t number_;
+};
+
+// ---- workbenches
+
+/// What is made where mvfs chooses the numbers.
+struct NewSolid {
+    Solid solid;
+    Face face;
+    Loop loop;
+    Vertex vertex;
+};
+
+/// What is made where mev chooses the numbers.
+struct NewVertex {
+    Edge edge;
+    Vertex vertex;
+};
+
+/// What is made where mef chooses the numbers.
+struct NewFace {
+    Edge edge;
+    Face face;
+    Loop loop;
+};
+
+/// The calls of a workbench. Where the Policy is Throwing they give their value, and throw RefusedBy where a condition is false, std::bad_alloc
+/// where memory is refused; where it is Results they give a Result and throw nothing, but for std::bad_alloc of a std::vector or a std::string that
+/// they return. Where a call is not accepted the model is as it was.
+///
+/// A call that makes something takes the numbers of what it makes, or none: then it takes the least that are above all in use, and returns them.
+///
+/// Measures (plane, six_volumes, count, listing) are const and keep the last answer, so they are no readers in the sense of gwb.h: no other call for
+/// the workbench may run at once with them. All other const methods are readers, of which many may run at once.
+///
+/// While a draft is open, operators are its steps, readers and measures speak of its model, and what it does not take is InDraft.
+template <class Policy> class Commands {
+public:
+    template <class T> using Returned = typename Policy::template Returned<T>;
+    template <class Rule> using RangeOf = Range<Policy, Rule>;
+    using Draft = BasicDraft<Policy>;
 
     // Operators, their arguments in the order of a script's words. The new edge's first half-edge starts at the first corner.
-    void mvfs(std::uint32_t solid, std::uint32_t face, std::uint32_t loop, std::uint32_t vertex, gwb_point at)
-    {
-        told("mvfs", gwb_mvfs(held(), solid, face, loop, vertex, at.x, at.y, at.z));
-    }
-    void kvfs(std::uint32_t solid) { told("kvfs", gwb_kvfs(held(), solid)); }
-    void mev(std::uint32_t corner, std::uint32_t other, std::uint32_t edge, std::uint32_t vertex, gwb_point at)
-    {
-        told("mev", gwb_mev(held(), corner, other, edge, vertex, at.x, at.y, at.z));
-    }
-    void kev(std::uint32_t half_edge) { told("kev", gwb_kev(held(), half_edge)); }
-    void mef(std::uint32_t half_edge, std::uint32_t other, std::uint32_t edge, std::uint32_t face, std::uint32_t loop)
-    {
-        told("mef", gwb_mef(held(), half_edge, other, edge, face, loop));
-    }
-    void kef(std::uint32_t half_edge) { told("kef", gwb_kef(held(), half_edge)); }
-    void kemr(std::uint32_t half_edge, std::uint32_t ring) { told("kemr", gwb_kemr(held(), half_edge, ring)); }
-    void mekr(std::uint32_t corner, std::uint32_t other, std::uint32_t edge) { told("mekr", gwb_mekr(held(), corner, other, edge)); }
-    void kfmrh(std::uint32_t face, std::uint32_t other) { told("kfmrh", gwb_kfmrh(held(), face, other)); }
-    void mfkrh(std::uint32_t ring, std::uint32_t face) { told("mfkrh", gwb_mfkrh(held(), ring, face)); }
-    // `ringmv` with the word `in`, and with `out`.
-    void ring_in(std::uint32_t ring, std::uint32_t face) { told("ringmv", gwb_ringmv(held(), ring, face, 0)); }
-    void ring_out(std::uint32_t ring, std::uint32_t face) { told("ringmv", gwb_ringmv(held(), ring, face, 1)); }
 
-    // Three operators that no script has: a ring of a face becomes its outer loop, two solids become the first, and faces of a solid, their
-    // numbers rising, become a new one. NoCall where there are no faces.
-    void outer(std::uint32_t ring, std::uint32_t face) { told("outer", gwb_outer(held(), ring, face)); }
-    void merge(std::uint32_t solid, std::uint32_t other) { told("merge", gwb_merge(held(), solid, other)); }
-    void part(Items<std::uint32_t> faces, std::uint32_t solid) { told("part", gwb_part(held(), faces.data(), faces.size(), solid)); }
-
-    // Larger commands. Their faces, loops, edges and vertices are among fresh(). A lamina has 3 to 64 points: NoCall where there are more.
-    void lamina(std::uint32_t solid, Items<gwb_point> points) { told("lamina", gwb_lamina(held(), solid, points.data(), points.size())); }
-    void block(std::uint32_t solid, gwb_point corner, gwb_point sizes)
+    /// A new solid with one face, whose outer loop stands at one new vertex.
+    Returned<void> mvfs(Solid solid, Face face, Loop loop, Vertex vertex, Point at)
     {
-        told("block", gwb_block(held(), solid, corner.x, corner.y, corner.z, sizes.x, sizes.y, sizes.z));
+        return told("mvfs", gwb_mvfs(held(), solid.number(), face.number(), loop.number(), vertex.number(), at.x, at.y, at.z));
     }
-    void sweep(std::uint32_t face, gwb_point along) { told("sweep", gwb_sweep(held(), face, along.x, along.y, along.z)); }
-    void glue(std::uint32_t face, std::uint32_t other) { told("glue", gwb_glue(held(), face, other)); }
-    // What lies above the plane a x + b y + c z + d = 0, where the sum is greater than 0, becomes solid `above`.
-    void split(std::uint32_t solid, std::int64_t a, std::int64_t b, std::int64_t c, std::int64_t d, std::uint32_t above)
+    Returned<NewSolid> mvfs(Point at)
     {
-        told("split", gwb_split(held(), solid, a, b, c, d, above));
+        const NewSolid made{free<Solid>(), free<Face>(), free<Loop>(), free<Vertex>()};
+        return with(made, "mvfs", gwb_mvfs(held(), made.solid.number(), made.face.number(), made.loop.number(), made.vertex.number(), at.x, at.y, at.z));
+    }
+    /// The solid goes, with its one face, loop and vertex.
+    Returned<void> kvfs(Solid solid) { return told("kvfs", gwb_kvfs(held(), solid.number())); }
+    /// A new edge from the vertex of the corners to a new vertex. With one corner given twice it sticks out there; with two corners at one
+    /// vertex, the half-edges from the first round to before the second start at the new vertex.
+    Returned<void> mev(Corner corner, Corner other, Edge edge, Vertex vertex, Point at)
+    {
+        return told("mev", gwb_mev(held(), corner.code(), other.code(), edge.number(), vertex.number(), at.x, at.y, at.z));
+    }
+    Returned<NewVertex> mev(Corner corner, Corner other, Point at)
+    {
+        const NewVertex made{free<Edge>(), free<Vertex>()};
+        return with(made, "mev", gwb_mev(held(), corner.code(), other.code(), made.edge.number(), made.vertex.number(), at.x, at.y, at.z));
+    }
+    /// The edge goes, and the vertex at the end of the half-edge; what else starts there starts where the half-edge does.
+    Returned<void> kev(HalfEdge half_edge) { return told("kev", gwb_kev(held(), half_edge.code())); }
+    /// A new edge across a face, between the vertices at which two half-edges of one loop start. The part from the first to before the
+    /// second becomes the loop of the new face.
+    Returned<void> mef(HalfEdge half_edge, HalfEdge other, Edge edge, Face face, Loop loop)
+    {
+        return told("mef", gwb_mef(held(), half_edge.code(), other.code(), edge.number(), face.number(), loop.number()));
+    }
+    Returned<NewFace> mef(HalfEdge half_edge, HalfEdge other)
+    {
+        const NewFace made{free<Edge>(), free<Face>(), free<Loop>()};
+        return with(made, "mef", gwb_mef(held(), half_edge.code(), other.code(), made.edge.number(), made.face.number(), made.loop.number()));
+    }
+    /// The edge goes, and the face on its other side becomes part of the half-edge's own.
+    Returned<void> kef(HalfEdge half_edge) { return told("kef", gwb_kef(held(), half_edge.code())); }
+    /// The edge goes, which has one loop on both sides; the part after the half-edge is a new ring of the face.
+    Returned<void> kemr(HalfEdge half_edge, Loop ring) { return told("kemr", gwb_kemr(held(), half_edge.code(), ring.number())); }
+    Returned<Loop> kemr(HalfEdge half_edge)
+    {
+        const Loop ring = free<Loop>();
+        return with(ring, "kemr", gwb_kemr(held(), half_edge.code(), ring.number()));
+    }
+    /// A new edge from the first corner to the second, whose loop is a ring of the same face and becomes part of the first one's.
+    Returned<void> mekr(Corner corner, Corner other, Edge edge) { return told("mekr", gwb_mekr(held(), corner.code(), other.code(), edge.number())); }
+    Returned<Edge> mekr(Corner corner, Corner other)
+    {
+        const Edge edge = free<Edge>();
+        return with(edge, "mekr", gwb_mekr(held(), corner.code(), other.code(), edge.number()));
+    }
+    /// The second face goes, and its loop becomes a ring of the first.
+    Returned<void> kfmrh(Face face, Face other) { return told("kfmrh", gwb_kfmrh(held(), face.number(), other.number())); }
+    /// A ring becomes the outer loop of a new face of the same solid.
+    Returned<void> mfkrh(Loop ring, Face face) { return told("mfkrh", gwb_mfkrh(held(), ring.number(), face.number())); }
+    Returned<Face> mfkrh(Loop ring)
+    {
+        const Face face = free<Face>();
+        return with(face, "mfkrh", gwb_mfkrh(held(), ring.number(), face.number()));
+    }
+    /// A ring becomes a ring of another face: `ringmv` with the word `in`.
+    Returned<void> ring_in(Loop ring, Face face) { return told("ringmv", gwb_ringmv(held(), ring.number(), face.number(), 0)); }
+    /// A ring becomes the outer loop of a face, whose old one becomes a ring of it: `ringmv` with the word `out`.
+    Returned<void> ring_out(Loop ring, Face face) { return told("ringmv", gwb_ringmv(held(), ring.number(), face.number(), 1)); }
+
+    // Three operators that no script has.
+
+    /// A ring becomes the outer loop of its own face, whose old one becomes a ring of the face given.
+    Returned<void> outer(Loop ring, Face face) { return told("outer", gwb_outer(held(), ring.number(), face.number())); }
+    /// Two solids become the first.
+    Returned<void> merge(Solid solid, Solid other) { return told("merge", gwb_merge(held(), solid.number(), other.number())); }
+    /// Faces of a solid, their numbers rising, which share no edge with its others, become a new one. NoCall where there are no faces.
+    Returned<void> part(Items<Face> faces, Solid solid)
+    {
+        std::vector<std::uint32_t> numbers;
+        numbers.reserve(faces.size() + 1); // so that it has an address
+        for (Face face : faces)
+            numbers.push_back(face.number());
+        return told("part", gwb_part(held(), numbers.data(), numbers.size(), solid.number()));
     }
 
-    // Opens a draft of the next command.
-    [[nodiscard]] Draft draft();
+    // Larger commands. Their faces, loops, edges and vertices are among fresh().
 
-    void undo() { told("undo", gwb_undo(held())); }
-    void redo() { told("redo", gwb_redo(held())); }
-    // How many commands can be undone, and how many redone: none while a draft is open.
-    std::size_t depth() const { return opened(gwb_depth(held())); }
-    std::size_t ahead() const { return opened(gwb_ahead(held())); }
+    /// A new solid of two faces through 3 to 64 points, one on either side. NoCall where there are more.
+    Returned<void> lamina(Solid solid, Items<Point> points)
+    {
+        return told("lamina", gwb_lamina(held(), solid.number(), points.data(), points.size()));
+    }
+    Returned<Solid> lamina(Items<Point> points)
+    {
+        const Solid solid = free<Solid>();
+        return with(solid, "lamina", gwb_lamina(held(), solid.number(), points.data(), points.size()));
+    }
+    /// A new solid, the block with this lowest corner and edges along the axes as long as the sizes.
+    Returned<void> block(Solid solid, Point corner, Point sizes)
+    {
+        return told("block", gwb_block(held(), solid.number(), corner.x, corner.y, corner.z, sizes.x, sizes.y, sizes.z));
+    }
+    Returned<Solid> block(Point corner, Point sizes)
+    {
+        const Solid solid = free<Solid>();
+        return with(solid, "block", gwb_block(held(), solid.number(), corner.x, corner.y, corner.z, sizes.x, sizes.y, sizes.z));
+    }
+    /// The face moves by a vector, and a new face rises over each of its half-edges. Sweep a lamina's first face along its normal: against it
+    /// the solid is inside out, and its volume negative.
+    Returned<void> sweep(Face face, Point along) { return told("sweep", gwb_sweep(held(), face.number(), along.x, along.y, along.z)); }
+    /// The two solids of the faces become one along them. The faces go through the same points in opposite directions.
+    Returned<void> glue(Face face, Face other) { return told("glue", gwb_glue(held(), face.number(), other.number())); }
+    /// What lies above the plane a x + b y + c z + d = 0, where the sum is greater than 0, becomes solid `above`.
+    Returned<void> split(Solid solid, std::int64_t a, std::int64_t b, std::int64_t c, std::int64_t d, Solid above)
+    {
+        return told("split", gwb_split(held(), solid.number(), a, b, c, d, above.number()));
+    }
+    Returned<Solid> split(Solid solid, std::int64_t a, std::int64_t b, std::int64_t c, std::int64_t d)
+    {
+        const Solid above = free<Solid>();
+        return with(above, "split", gwb_split(held(), solid.number(), a, b, c, d, above.number()));
+    }
 
-    // The plane of a face, and whether the face is flat.
-    gwb_plane plane(std::uint32_t face)
+    /// Opens a draft of the next command.
+    [[nodiscard]] Returned<Draft> draft()
+    {
+        gwb_kind kind = gwb_draft(held());
+        follow(kind);
+        if (kind != GWB_OK)
+            return Policy::template failed<Draft>("draft", failure(kind));
+        return Draft(state_);
+    }
+
+    Returned<void> undo() { return told("undo", gwb_undo(held())); }
+    Returned<void> redo() { return told("redo", gwb_redo(held())); }
+    /// How many commands can be undone: none while a draft is open.
+    [[nodiscard]] Returned<std::size_t> depth() const { return sized(gwb_depth(seen())); }
+    /// How many commands can be redone: none while a draft is open.
+    [[nodiscard]] Returned<std::size_t> ahead() const { return sized(gwb_ahead(seen())); }
+
+    // Measures.
+
+    /// The plane of a face, and whether the face is flat.
+    [[nodiscard]] Returned<gwb_plane> plane(Face face) const
     {
         gwb_plane plane{};
-        told("plane", gwb_face_plane(held(), face, &plane));
-        return plane;
+        return measured("plane", gwb_face_plane(asked(), face.number(), &plane), plane);
     }
-    // Six times the volume of a solid.
-    gwb_wide six_volumes(std::uint32_t solid)
+    /// Six times the volume of a solid.
+    [[nodiscard]] Returned<gwb_wide> six_volumes(Solid solid) const
     {
         gwb_wide volumes{};
-        told("volume", gwb_volume(held(), solid, &volumes));
-        return volumes;
+        return measured("volume", gwb_volume(asked(), solid.number(), &volumes), volumes);
     }
-    // The vertices, edges, faces and rings of a solid.
-    gwb_counts count(std::uint32_t solid)
+    /// The vertices, edges, faces and rings of a solid.
+    [[nodiscard]] Returned<gwb_counts> count(Solid solid) const
     {
         gwb_counts counts{};
-        told("count", gwb_count(held(), solid, &counts));
-        return counts;
+        return measured("count", gwb_count(asked(), solid.number(), &counts), counts);
+    }
+    /// The listing of the model, as the script language's `list` writes it.
+    [[nodiscard]] Returned<std::string> listing() const
+    {
+        gwb_kind kind = gwb_line(asked(), "list", 4);
+        return kind == GWB_LISTING ? reply() : Policy::template failed<std::string>("list", failure(kind));
     }
 
-    // The numbers of a kind above all that were in use before the last command, up to the greatest in use now; not each of them need be in
-    // use. None where there are none, and for solids, which a command names.
-    std::optional<gwb_range> fresh(gwb_entity kind) const
+    // Numbers.
+
+    /// The numbers of a kind that the last command made above all that were in use before it, up to the greatest in use: of a draft, the first and
+    /// the last that its steps so made. Measures leave them as they are. None where there are none, and for solids, which a command names.
+    template <class Kind> [[nodiscard]] Returned<std::optional<Fresh<Kind>>> fresh() const
     {
-        gwb_range range{};
-        return found(gwb_fresh(held(), kind, &range)) ? std::optional(range) : std::nullopt;
+        using Found = std::optional<Fresh<Kind>>;
+        if (!is_open())
+            return Policy::template failed<Found>("fresh", {Problem::closed});
+        std::optional<gwb_range> range = state_->fresh(Kind::kind);
+        return range ? Found({Kind(range->first), Kind(range->last)}) : Found();
+    }
+    /// The greatest number of a kind in use, 0 where none is.
+    template <class Kind> [[nodiscard]] Returned<Kind> greatest() const
+    {
+        std::size_t number = gwb_greatest_number(seen(), Kind::kind);
+        return number == SIZE_MAX ? Policy::template failed<Kind>("greatest", {Problem::closed}) : Returned<Kind>(Kind(static_cast<std::uint32_t>(number)));
+    }
+    /// The number above all of a kind in use.
+    template <class Kind> [[nodiscard]] Returned<Kind> next_free() const
+    {
+        std::size_t number = gwb_greatest_number(seen(), Kind::kind);
+        return number == SIZE_MAX ? Policy::template failed<Kind>("next_free", {Problem::closed}) : Returned<Kind>(free<Kind>());
     }
 
-    // Ranges: the numbers of a kind in use, the faces of a solid, the rings of a face. Empty where the owner is not there. The workbench
-    // outlives them, so it is no temporary one.
-    Numbers numbers(gwb_entity kind) const & { return Numbers(gwb_number_after, open_handle(), kind); }
-    Numbers faces(std::uint32_t solid) const & { return Numbers(gwb_face_after, open_handle(), solid); }
-    Numbers rings(std::uint32_t face) const & { return Numbers(gwb_ring_after, open_handle(), face); }
-    Numbers numbers(gwb_entity kind) const && = delete;
-    Numbers faces(std::uint32_t solid) const && = delete;
-    Numbers rings(std::uint32_t face) const && = delete;
+    // Ranges: empty where the owner is not there.
 
-    // The half-edges of a loop, from the least on: none where it has one vertex and no edge, or is not there.
-    std::vector<std::uint32_t> half_edges(std::uint32_t loop) const
+    /// The numbers of a kind in use, rising: bench.numbers<Edge>().
+    template <class Kind> [[nodiscard]] RangeOf<Rising<Kind>> numbers() const { return range(Rising<Kind>(gwb_number_after, Kind::kind)); }
+    /// The faces of a solid, rising.
+    [[nodiscard]] RangeOf<Rising<Face>> faces(Solid solid) const { return range(Rising<Face>(gwb_face_after, solid.number())); }
+    /// The rings of a face, rising.
+    [[nodiscard]] RangeOf<Rising<Loop>> rings(Face face) const { return range(Rising<Loop>(gwb_ring_after, face.number())); }
+    /// The outer loop of a face, and then its rings.
+    [[nodiscard]] RangeOf<LoopsOfFace> loops_of(Face face) const { return range(LoopsOfFace(face)); }
+    /// The half-edges of all loops of a face.
+    [[nodiscard]] RangeOf<HalfEdgesOfFace> half_edges_of(Face face) const { return range(HalfEdgesOfFace(face)); }
+    /// The edges of a face, each once.
+    [[nodiscard]] RangeOf<EdgesOfFace> edges_of(Face face) const { return range(EdgesOfFace(face)); }
+    /// The half-edges of a loop in their order round it, from any of them on.
+    [[nodiscard]] RangeOf<RoundLoop> around(Loop loop) const { return range(RoundLoop(loop)); }
+    /// The half-edges that start at a vertex, in their order round it, from any of them on. It looks for the first among all edges; where a half-edge
+    /// is at hand, around(half_edge) needs no search.
+    [[nodiscard]] RangeOf<RoundVertex> around(Vertex vertex) const { return range(RoundVertex(vertex)); }
+    /// The half-edges that start where this one does, in their order round that vertex, from it on.
+    [[nodiscard]] RangeOf<RoundVertex> around(HalfEdge half_edge) const { return range(RoundVertex(half_edge)); }
+
+    /// The half-edges of a loop, from the least on: none where it has one vertex and no edge, or is not there.
+    [[nodiscard]] std::vector<HalfEdge> half_edges(Loop loop) const
     {
-        std::vector<std::uint32_t> found(16);
-        std::size_t count = opened(gwb_half_edges(held(), loop, found.data(), found.size()));
-        if (count > found.size()) {
-            found.resize(count);
-            gwb_half_edges(held(), loop, found.data(), count);
-        }
-        found.resize(count);
-        std::rotate(found.begin(), std::min_element(found.begin(), found.end()), found.end());
+        std::vector<HalfEdge> found;
+        half_edges(loop, found);
         return found;
     }
-
-    // What is held of a number. std::out_of_range where it is not in use.
-    gwb_face_row face(std::uint32_t face) const { return row<gwb_face_row>(gwb_face, face, "face"); }
-    gwb_edge_row edge(std::uint32_t edge) const { return row<gwb_edge_row>(gwb_edge, edge, "edge"); }
-    gwb_point vertex(std::uint32_t vertex) const { return row<gwb_point>(gwb_vertex, vertex, "vertex"); }
-    std::uint32_t face_of(std::uint32_t loop) const { return row<std::uint32_t>(gwb_loop, loop, "loop"); }
-    // The half-edge after another in its loop.
-    std::uint32_t next(std::uint32_t half_edge) const { return row<std::uint32_t>(gwb_next_half_edge, half_edge, "half-edge"); }
-    // The vertex of a loop that has one and no edge.
-    std::optional<std::uint32_t> lone_vertex(std::uint32_t loop) const
+    /// The same into a vector of the caller, whose room is used again.
+    void half_edges(Loop loop, std::vector<HalfEdge> &found) const
     {
-        std::uint32_t vertex = 0;
-        return found(gwb_lone_vertex(held(), loop, &vertex)) ? std::optional(vertex) : std::nullopt;
+        found.clear();
+        for (HalfEdge half_edge : around(loop))
+            found.push_back(half_edge);
+        std::rotate(found.begin(), std::min_element(found.begin(), found.end()), found.end());
     }
 
-    // Gives one line of the script language, without its newline: the kind of the answer. Faulted where the line is no command.
-    gwb_kind run(std::string_view line)
+    // What is held of a number. Where it is not in use: std::out_of_range, or Problem::absent.
+
+    [[nodiscard]] Returned<FaceRow> face(Face face) const
     {
-        static const char nothing = 0;
-        const char *bytes = line.empty() ? &nothing : line.data();
-        std::uint32_t kind = gwb_line(held(), reinterpret_cast<const std::uint8_t *>(bytes), line.size()), fault = 0;
-        if (kind == GWB_FAULT && gwb_last_fault(held(), &fault) == GWB_FOUND)
-            throw Faulted(line, fault);
-        return told(line, kind);
+        gwb_face_row row{};
+        std::uint32_t answer = gwb_face(seen(), face.number(), &row);
+        return found("face", face.number(), answer, FaceRow{Solid(row.solid), Loop(row.outer_loop)});
+    }
+    [[nodiscard]] Returned<EdgeRow> edge(Edge edge) const
+    {
+        gwb_edge_row row{};
+        std::uint32_t answer = gwb_edge(seen(), edge.number(), &row);
+        return found("edge", edge.number(), answer, EdgeRow{Vertex(row.from), Vertex(row.to)});
+    }
+    [[nodiscard]] Returned<Point> vertex(Vertex vertex) const
+    {
+        Point point{};
+        std::uint32_t answer = gwb_vertex(seen(), vertex.number(), &point);
+        return found("vertex", vertex.number(), answer, point);
+    }
+    /// The vertex of a loop that has one and no edge.
+    [[nodiscard]] Returned<std::optional<Vertex>> lone_vertex(Loop loop) const
+    {
+        std::uint32_t vertex = 0, answer = gwb_lone_vertex(seen(), loop.number(), &vertex);
+        return answer == GWB_CLOSED ? Policy::template failed<std::optional<Vertex>>("loop", {Problem::closed})
+                                    : Returned<std::optional<Vertex>>(answer == GWB_FOUND ? std::optional(Vertex(vertex)) : std::nullopt);
     }
 
-    // The text of the last answer, its newline included. After run("list") it is the listing of the model.
-    std::string reply() const
+    // Neighbours, alike.
+
+    /// The half-edge after another in its loop.
+    [[nodiscard]] Returned<HalfEdge> next(HalfEdge half_edge) const { return neighbour<HalfEdge>(gwb_next_half_edge, "half-edge", half_edge.code()); }
+    /// The half-edge before another in its loop.
+    [[nodiscard]] Returned<HalfEdge> previous(HalfEdge half_edge) const
+    {
+        return neighbour<HalfEdge>(gwb_previous_half_edge, "half-edge", half_edge.code());
+    }
+    /// The loop in which a half-edge stands.
+    [[nodiscard]] Returned<Loop> loop_of(HalfEdge half_edge) const { return neighbour<Loop>(gwb_half_edge_loop, "half-edge", half_edge.code()); }
+    /// The face of a loop.
+    [[nodiscard]] Returned<Face> face_of(Loop loop) const { return neighbour<Face>(gwb_loop, "loop", loop.number()); }
+    /// The face on whose side a half-edge stands.
+    [[nodiscard]] Returned<Face> face_of(HalfEdge half_edge) const { return neighbour<Face>(face_at, "half-edge", half_edge.code()); }
+    /// The vertex at which a half-edge starts.
+    [[nodiscard]] Returned<Vertex> start_of(HalfEdge half_edge) const { return neighbour<Vertex>(start_at, "half-edge", half_edge.code()); }
+    /// The vertex at which a half-edge ends.
+    [[nodiscard]] Returned<Vertex> end_of(HalfEdge half_edge) const { return neighbour<Vertex>(start_at, "half-edge", half_edge.twin().code()); }
+    /// The faces on both sides of an edge, that of its first half-edge first; they may be one.
+    [[nodiscard]] Returned<std::array<Face, 2>> faces_of(Edge edge) const
+    {
+        std::uint32_t first = 0, second = 0, answer = face_at(seen(), plus(edge).code(), &first);
+        if (answer == GWB_FOUND)
+            answer = face_at(seen(), minus(edge).code(), &second);
+        return found("edge", edge.number(), answer, std::array<Face, 2>{Face(first), Face(second)});
+    }
+
+    // All at once.
+
+    /// The half-edges of a solid, of all where none is given, with their vertices, neighbours, loops and faces, as gwb_read_half_edges writes them.
+    [[nodiscard]] std::vector<gwb_half_edge_row> half_edge_rows(Solid solid = Solid()) const
+    {
+        return rows<gwb_half_edge_row>([&](gwb_half_edge_row *at, std::size_t room) { return gwb_read_half_edges(seen(), solid.number(), at, room); });
+    }
+    /// All vertices with their points.
+    [[nodiscard]] std::vector<gwb_vertex_row> vertex_rows() const
+    {
+        return rows<gwb_vertex_row>([&](gwb_vertex_row *at, std::size_t room) { return gwb_read_vertices(seen(), at, room); });
+    }
+
+    // Text.
+
+    /// Gives one line of the script language, without its newline: the kind of the answer. Faulted where the line is no command.
+    Returned<gwb_kind> run(std::string_view line)
+    {
+        gwb_kind kind = gwb_line(asked(), line.empty() ? "" : line.data(), line.size());
+        if (kind == GWB_OK || kind == GWB_REFUSED || kind == GWB_MEMORY)
+            follow(kind);
+        return measured(line, kind, kind);
+    }
+
+    /// The text of the last answer, its newline included.
+    [[nodiscard]] Returned<std::string> reply() const
     {
         std::string text(256, '\0');
-        std::size_t length = written(text);
-        if (length > text.size()) {
+        std::size_t length = gwb_reply(seen(), text.data(), text.size());
+        if (length != SIZE_MAX && length > text.size()) {
             text.resize(length);
-            length = written(text);
+            length = gwb_reply(seen(), text.data(), text.size());
         }
+        if (length == SIZE_MAX)
+            return Policy::template failed<std::string>("reply", {gwb_is_open(seen()) ? Problem::memory : Problem::closed});
         text.resize(length);
         return text;
     }
 
-    // For the calls of gwb.h. It stays where it is when the workbench is moved.
-    gwb *handle() { return held(); }
+    /// Whether it was neither moved from nor closed.
+    [[nodiscard]] bool is_open() const { return gwb_is_open(seen()); }
+
+    /// The same workbench, whose calls give a Result and throw nothing: `if (auto cut = bench.attempt().split(..); !cut) ..cut.error()..`. It is Closed
+    /// once the workbench is gone.
+    [[nodiscard]] Commands<Results> attempt() const { return Commands<Results>(state_); }
+
+    /// For the calls of gwb.h; that of a workbench that was moved from is closed. It stays where it is when the workbench is moved. What they do to a
+    /// draft or to the model the ranges and drafts here don't notice.
+    [[nodiscard]] gwb *handle() { return held(); }
+    [[nodiscard]] const gwb *handle() const { return seen(); }
+
+protected:
+    template <class> friend class Commands;
+    Commands() = default;
+    explicit Commands(std::shared_ptr<State> state) : state_(std::move(state)) {}
+
+    /// Opens a session: false where memory is refused.
+    [[nodiscard]] bool open()
+    {
+        state_ = std::make_shared<State>();
+        return gwb_open(&state_->handle);
+    }
+
+    /// Closes the session, if there is one. Its drafts and ranges are Closed from here on.
+    void close()
+    {
+        if (state_ != nullptr)
+            gwb_close(&state_->handle);
+        state_ = nullptr;
+    }
+
+    void take(Commands &&other)
+    {
+        std::shared_ptr<State> taken = std::exchange(other.state_, nullptr);
+        close();
+        state_ = std::move(taken);
+    }
 
 private:
-    struct Close {
-        void operator()(gwb *handle) const
-        {
-            gwb_close(handle);
-            delete handle;
-        }
-    };
+    [[nodiscard]] gwb *held() { return state_ != nullptr ? &state_->handle : &closed_; }
+    [[nodiscard]] const gwb *seen() const { return state_ != nullptr ? &state_->handle : &closed_; }
 
-    gwb *held() const
+    /// The handle for a query, which keeps its answer.
+    [[nodiscard]] gwb *asked() const
     {
-        if (!handle_)
-            throw Closed();
-        return handle_.get();
+        if (state_ == nullptr)
+            return &closed_;
+        state_->keep_fresh();
+        return &state_->handle;
     }
 
-    // What the kind of an answer says to the caller: the kind, or an exception.
-    gwb_kind told(std::string_view command, std::uint32_t kind)
+    void follow(gwb_kind kind)
     {
-        switch (kind) {
-        case GWB_MEMORY: throw std::bad_alloc();
-        case GWB_CLOSED: throw Closed();
-        case GWB_NO_CALL: throw NoCall(command);
-        case GWB_IN_DRAFT: throw InDraft(command);
-        case GWB_NO_DRAFT: throw NoDraft(command);
-        case GWB_REFUSED: refuse(command, std::make_index_sequence<GWB_WHY_BAD_PART>());
-        default: return static_cast<gwb_kind>(kind);
-        }
+        if (state_ != nullptr)
+            state_->follow(kind);
     }
 
-    // Throws the refusal that the last answer names, in the class of its condition. They are numbered from 1 on.
-    template <std::size_t... Before> [[noreturn]] void refuse(std::string_view command, std::index_sequence<Before...>)
+    /// The number above all of a kind in use, which is out of range where no greater one is.
+    template <class Kind> [[nodiscard]] Kind free() const
+    {
+        std::size_t number = gwb_greatest_number(seen(), Kind::kind);
+        return Kind(number == SIZE_MAX ? 0 : static_cast<std::uint32_t>(number) + 1);
+    }
+
+    /// Why an answer of this kind has no value.
+    [[nodiscard]] Failure failure(gwb_kind kind) const
     {
         gwb_refusal refusal{};
-        gwb_last_refusal(held(), &refusal);
-        (throw_if<static_cast<gwb_why>(Before + 1)>(command, refusal), ...);
-        throw Refused(command, refusal);
-    }
-
-    template <gwb_why Why> static void throw_if(std::string_view command, gwb_refusal refusal)
-    {
-        if (refusal.number == Why)
-            throw RefusedBy<Why>(command, refusal);
-    }
-
-    static bool found(std::uint32_t answer)
-    {
-        if (answer == GWB_CLOSED)
-            throw Closed();
-        return answer == GWB_FOUND;
-    }
-
-    template <class Row> Row row(std::uint32_t (*reader)(gwb *, std::uint32_t, Row *), std::uint32_t number, const char *kind) const
-    {
-        Row row{};
-        if (!found(reader(held(), number, &row)))
-            throw std::out_of_range("there is no " + std::string(kind) + " " + std::to_string(number));
-        return row;
-    }
-
-    // A size that a closed handle does not have.
-    static std::size_t opened(std::size_t size)
-    {
-        if (size == SIZE_MAX)
-            throw Closed();
-        return size;
-    }
-
-    gwb *open_handle() const
-    {
-        opened(gwb_depth(held()));
-        return held();
-    }
-
-    std::size_t written(std::string &text) const
-    {
-        std::size_t length = gwb_reply(open_handle(), reinterpret_cast<std::uint8_t *>(text.data()), text.size());
-        if (length == SIZE_MAX)
-            throw std::bad_alloc();
-        return length;
-    }
-
-    std::unique_ptr<gwb, Close> handle_;
-};
-
-// A draft of a workbench's next command: the operators given while it is open become one command when it is committed, also where there
-// were none. At the end of its scope it is abandoned, unless it was committed: then the workbench is as it was before, what can be redone
-// included. A refused step changes nothing and leaves it open. Its workbench outlives it, and may be moved meanwhile.
-//
-//     gwb_session::Draft draft = bench.draft();
-//     bench.mev(plus(7), plus(7), 13, 9, {2, 2, 4});
-//     bench.kemr(plus(13), 7);
-//     draft.commit();
-class Draft {
-public:
-    Draft(Draft &&other) noexcept : handle_(std::exchange(other.handle_, nullptr)) {}
-    Draft &operator=(Draft &&) = delete;
-    ~Draft()
-    {
-        if (handle_ != nullptr)
-            gwb_abandon(handle_);
-    }
-
-    // Its steps are one command from here on. NoDraft where it has ended.
-    void commit() { end("commit", gwb_commit); }
-    // Its steps are taken back. NoDraft where it has ended.
-    void abandon() { end("abandon", gwb_abandon); }
-
-private:
-    friend class Workbench;
-    explicit Draft(gwb *handle) : handle_(handle) {}
-
-    void end(const char *command, std::uint32_t (*call)(gwb *))
-    {
-        if (handle_ == nullptr)
-            throw NoDraft(command);
-        switch (call(std::exchange(handle_, nullptr))) {
-        case GWB_CLOSED: throw Closed();
-        case GWB_NO_DRAFT: throw NoDraft(command);
+        Failure failure;
+        switch (kind) {
+        case GWB_REFUSED: gwb_last_refusal(seen(), &refusal); return {Problem::refused, refusal.number, refusal.value};
+        case GWB_FAULT: failure.problem = Problem::fault; gwb_last_fault(seen(), &failure.number); return failure;
+        case GWB_MEMORY: return {Problem::memory};
+        case GWB_NO_CALL: return {Problem::no_call};
+        case GWB_IN_DRAFT: return {Problem::in_draft};
+        case GWB_NO_DRAFT: return {Problem::no_draft};
+        default: return {Problem::closed};
         }
     }
 
-    gwb *handle_;
+    /// What a command says to the caller.
+    Returned<void> told(std::string_view command, gwb_kind kind)
+    {
+        follow(kind);
+        if (!gwb_succeeded(kind))
+            return Policy::template failed<void>(command, failure(kind));
+        return Returned<void>();
+    }
+
+    /// The same, of one that chose numbers.
+    template <class T> Returned<T> with(const T &made, std::string_view command, gwb_kind kind)
+    {
+        follow(kind);
+        return measured(command, kind, made);
+    }
+
+    /// What a query says to the caller.
+    template <class T> Returned<T> measured(std::string_view command, gwb_kind kind, const T &value) const
+    {
+        return gwb_succeeded(kind) ? Returned<T>(value) : Policy::template failed<T>(command, failure(kind));
+    }
+
+    /// What a reader says to the caller.
+    template <class T> Returned<T> found(const char *kind, std::uint32_t number, std::uint32_t answer, const T &value) const
+    {
+        if (answer == GWB_FOUND)
+            return Returned<T>(value);
+        return Policy::template failed<T>(kind, {answer == GWB_CLOSED ? Problem::closed : Problem::absent, 0, number});
+    }
+
+    template <class T>
+    Returned<T> neighbour(std::uint32_t (*reader)(const gwb *, std::uint32_t, std::uint32_t *), const char *kind, std::uint32_t number) const
+    {
+        std::uint32_t found_number = 0, answer = reader(seen(), number, &found_number);
+        return found(kind, number, answer, T(found_number));
+    }
+
+    static std::uint32_t face_at(const gwb *g, std::uint32_t half_edge, std::uint32_t *face)
+    {
+        std::uint32_t loop = 0, answer = gwb_half_edge_loop(g, half_edge, &loop);
+        return answer == GWB_FOUND ? gwb_loop(g, loop, face) : answer;
+    }
+
+    static std::uint32_t start_at(const gwb *g, std::uint32_t half_edge, std::uint32_t *vertex)
+    {
+        gwb_edge_row row{};
+        std::uint32_t answer = gwb_edge(g, half_edge / 2, &row);
+        *vertex = half_edge % 2 == 0 ? row.from : row.to;
+        return answer;
+    }
+
+    /// A size that a closed handle does not have.
+    Returned<std::size_t> sized(std::size_t size) const
+    {
+        return size != SIZE_MAX ? Returned<std::size_t>(size) : Policy::template failed<std::size_t>("depth", {Problem::closed});
+    }
+
+    template <class Rule> RangeOf<Rule> range(Rule rule) const
+    {
+        static const auto closed = std::make_shared<const State>();
+        if (!is_open())
+            Policy::ended({Problem::closed});
+        return RangeOf<Rule>(state_ != nullptr ? state_ : closed, rule);
+    }
+
+    /// All rows that a call writes, which is given room for them first.
+    template <class Row, class Write> std::vector<Row> rows(Write write) const
+    {
+        Row nothing{};
+        std::size_t count = write(&nothing, 0);
+        if (count == SIZE_MAX) {
+            Policy::ended({Problem::closed});
+            return {};
+        }
+        std::vector<Row> found(count);
+        if (count != 0)
+            write(found.data(), count);
+        return found;
+    }
+
+    std::shared_ptr<State> state_;
+    mutable gwb closed_{};
 };
 
-inline Draft Workbench::draft()
-{
-    told("draft", gwb_draft(held()));
-    return Draft(held());
-}
+/// What has the calls of a workbench that give Results.
+using Attempts = Commands<Results>;
+
+/// A session whose calls give Results, closed at the end of its scope. It can be moved; one that was moved from is closed.
+class Session : public Commands<Results> {
+public:
+    /// Opens a session that holds the empty model: Problem::memory where memory is refused.
+    static Result<Session> opened()
+    {
+        Session session;
+        if (!session.open())
+            return Failure{Problem::memory};
+        return session;
+    }
+    Session(Session &&other) noexcept { take(std::move(other)); }
+    Session &operator=(Session &&other) noexcept
+    {
+        take(std::move(other));
+        return *this;
+    }
+    ~Session() { close(); }
+
+private:
+    Session() = default;
+};
+
+#if defined(__cpp_exceptions)
+
+/// A session whose calls throw, closed at the end of its scope. It can be moved; one that was moved from is closed, and every method of it throws
+/// Closed.
+class Workbench : public Commands<Throwing> {
+public:
+    /// std::bad_alloc where memory is refused.
+    Workbench()
+    {
+        if (!open())
+            throw std::bad_alloc();
+    }
+    Workbench(Workbench &&other) noexcept : Commands<Throwing>() { take(std::move(other)); }
+    Workbench &operator=(Workbench &&other) noexcept
+    {
+        take(std::move(other));
+        return *this;
+    }
+    ~Workbench() { close(); }
+};
+
+using Draft = Workbench::Draft;
+
+#endif // __cpp_exceptions
 
 } // namespace gwb_session
+
+template <gwb_entity Kind> struct std::hash<gwb_session::Id<Kind>> {
+    std::size_t operator()(gwb_session::Id<Kind> id) const noexcept { return std::hash<std::uint32_t>()(id.number()); }
+};
+
+template <> struct std::hash<gwb_session::HalfEdge> {
+    std::size_t operator()(gwb_session::HalfEdge half_edge) const noexcept { return std::hash<std::uint32_t>()(half_edge.code()); }
+};
+
+#if defined(__cpp_lib_ranges)
+template <class Policy, class Rule> inline constexpr bool std::ranges::enable_borrowed_range<gwb_session::Range<Policy, Rule>> = true;
+template <class Policy, class Rule> inline constexpr bool std::ranges::enable_view<gwb_session::Range<Policy, Rule>> = true;
+#endif
+
 #endif

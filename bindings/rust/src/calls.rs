@@ -67,24 +67,24 @@ extern "C" {
     pub fn gwb_open(g: *mut Handle) -> bool;
     pub fn gwb_close(g: *mut Handle);
     pub fn gwb_line(g: *mut Handle, line: *const u8, n: usize) -> u32;
-    pub fn gwb_reply(g: *mut Handle, buf: *mut u8, room: usize) -> usize;
-    pub fn gwb_depth(g: *mut Handle) -> usize;
-    pub fn gwb_ahead(g: *mut Handle) -> usize;
+    pub fn gwb_lent_reply(g: *mut Handle, buf: *mut u8, room: usize) -> usize;
+    pub fn gwb_lent_depth(g: *mut Handle) -> usize;
+    pub fn gwb_lent_ahead(g: *mut Handle) -> usize;
 
-    pub fn gwb_last_refusal(g: *mut Handle, refusal: *mut LastRefusal) -> u32;
-    pub fn gwb_last_fault(g: *mut Handle, number: *mut u32) -> u32;
-    pub fn gwb_fresh(g: *mut Handle, entity: u32, range: *mut Range) -> u32;
+    pub fn gwb_lent_last_refusal(g: *mut Handle, refusal: *mut LastRefusal) -> u32;
+    pub fn gwb_lent_last_fault(g: *mut Handle, number: *mut u32) -> u32;
+    pub fn gwb_lent_fresh(g: *mut Handle, entity: u32, range: *mut Range) -> u32;
 
-    pub fn gwb_number_after(g: *mut Handle, entity: u32, n: u32, number: *mut u32) -> u32;
-    pub fn gwb_face(g: *mut Handle, face: u32, row: *mut Face) -> u32;
-    pub fn gwb_ring_after(g: *mut Handle, face: u32, n: u32, ring: *mut u32) -> u32;
-    pub fn gwb_face_after(g: *mut Handle, solid: u32, n: u32, face: *mut u32) -> u32;
-    pub fn gwb_loop(g: *mut Handle, l: u32, face: *mut u32) -> u32;
-    pub fn gwb_lone_vertex(g: *mut Handle, l: u32, vertex: *mut u32) -> u32;
-    pub fn gwb_half_edges(g: *mut Handle, l: u32, buf: *mut u32, room: usize) -> usize;
-    pub fn gwb_next_half_edge(g: *mut Handle, half_edge: u32, next: *mut u32) -> u32;
-    pub fn gwb_edge(g: *mut Handle, edge: u32, row: *mut Edge) -> u32;
-    pub fn gwb_vertex(g: *mut Handle, vertex: u32, point: *mut Point) -> u32;
+    pub fn gwb_lent_number_after(g: *mut Handle, entity: u32, n: u32, number: *mut u32) -> u32;
+    pub fn gwb_lent_face(g: *mut Handle, face: u32, row: *mut Face) -> u32;
+    pub fn gwb_lent_ring_after(g: *mut Handle, face: u32, n: u32, ring: *mut u32) -> u32;
+    pub fn gwb_lent_face_after(g: *mut Handle, solid: u32, n: u32, face: *mut u32) -> u32;
+    pub fn gwb_lent_loop(g: *mut Handle, l: u32, face: *mut u32) -> u32;
+    pub fn gwb_lent_lone_vertex(g: *mut Handle, l: u32, vertex: *mut u32) -> u32;
+    pub fn gwb_lent_half_edges(g: *mut Handle, l: u32, buf: *mut u32, room: usize) -> usize;
+    pub fn gwb_lent_next_half_edge(g: *mut Handle, half_edge: u32, next: *mut u32) -> u32;
+    pub fn gwb_lent_edge(g: *mut Handle, edge: u32, row: *mut Edge) -> u32;
+    pub fn gwb_lent_vertex(g: *mut Handle, vertex: u32, point: *mut Point) -> u32;
 
     pub fn gwb_mvfs(g: *mut Handle, solid: u32, face: u32, l: u32, vertex: u32, x: i64, y: i64, z: i64) -> u32;
     pub fn gwb_kvfs(g: *mut Handle, solid: u32) -> u32;

@@ -167,13 +167,13 @@ impl Session {
     /// How many commands can be undone: none while a draft is open.
     #[must_use]
     pub fn depth(&self) -> usize {
-        unsafe { calls::gwb_depth(self.handle()) }
+        unsafe { calls::gwb_lent_depth(self.handle()) }
     }
 
     /// How many commands can be redone: none while a draft is open.
     #[must_use]
     pub fn ahead(&self) -> usize {
-        unsafe { calls::gwb_ahead(self.handle()) }
+        unsafe { calls::gwb_lent_ahead(self.handle()) }
     }
 
     /// The plane of a face.
@@ -201,23 +201,23 @@ impl Session {
     /// use. None for solids, which a command names.
     #[must_use]
     pub fn fresh(&self, kind: Entity) -> Option<RangeInclusive<u32>> {
-        let range: Option<Range> = self.found(|g, range| unsafe { calls::gwb_fresh(g, kind as u32, range) });
+        let range: Option<Range> = self.found(|g, range| unsafe { calls::gwb_lent_fresh(g, kind as u32, range) });
         range.map(|range| range.first..=range.last)
     }
 
     /// The numbers of a kind that are in use, rising.
     pub fn numbers(&self, kind: Entity) -> Numbers<'_> {
-        Numbers::new(self, calls::gwb_number_after, kind as u32)
+        Numbers::new(self, calls::gwb_lent_number_after, kind as u32)
     }
 
     /// The faces of a solid, rising; none where it is not there.
     pub fn faces(&self, solid: u32) -> Numbers<'_> {
-        Numbers::new(self, calls::gwb_face_after, solid)
+        Numbers::new(self, calls::gwb_lent_face_after, solid)
     }
 
     /// The rings of a face, rising; none where it is not there.
     pub fn rings(&self, face: u32) -> Numbers<'_> {
-        Numbers::new(self, calls::gwb_ring_after, face)
+        Numbers::new(self, calls::gwb_lent_ring_after, face)
     }
 
     /// The half-edges of a loop in their order round it, from the least on; none where it has one vertex and no edge, or is not there.
@@ -238,37 +238,37 @@ impl Session {
     /// What is held of a face, where it is there.
     #[must_use]
     pub fn face(&self, face: u32) -> Option<Face> {
-        self.found(|g, row| unsafe { calls::gwb_face(g, face, row) })
+        self.found(|g, row| unsafe { calls::gwb_lent_face(g, face, row) })
     }
 
     /// What is held of an edge, where it is there.
     #[must_use]
     pub fn edge(&self, edge: u32) -> Option<Edge> {
-        self.found(|g, row| unsafe { calls::gwb_edge(g, edge, row) })
+        self.found(|g, row| unsafe { calls::gwb_lent_edge(g, edge, row) })
     }
 
     /// Where a vertex lies, if it is there.
     #[must_use]
     pub fn vertex(&self, vertex: u32) -> Option<Point> {
-        self.found(|g, point| unsafe { calls::gwb_vertex(g, vertex, point) })
+        self.found(|g, point| unsafe { calls::gwb_lent_vertex(g, vertex, point) })
     }
 
     /// The face of a loop, where it is there.
     #[must_use]
     pub fn face_of(&self, of_loop: u32) -> Option<u32> {
-        self.found(|g, face| unsafe { calls::gwb_loop(g, of_loop, face) })
+        self.found(|g, face| unsafe { calls::gwb_lent_loop(g, of_loop, face) })
     }
 
     /// The vertex of a loop that has one and no edge.
     #[must_use]
     pub fn lone_vertex(&self, of_loop: u32) -> Option<u32> {
-        self.found(|g, vertex| unsafe { calls::gwb_lone_vertex(g, of_loop, vertex) })
+        self.found(|g, vertex| unsafe { calls::gwb_lent_lone_vertex(g, of_loop, vertex) })
     }
 
     /// The half-edge after another in its loop, where its edge is there.
     #[must_use]
     pub fn next(&self, half_edge: u32) -> Option<u32> {
-        self.found(|g, next| unsafe { calls::gwb_next_half_edge(g, half_edge, next) })
+        self.found(|g, next| unsafe { calls::gwb_lent_next_half_edge(g, half_edge, next) })
     }
 
     /// Gives one line of the script language, without its newline. [`reply`](Self::reply) has the text of its answer.
@@ -302,7 +302,7 @@ impl Session {
     pub(crate) fn told(&self, kind: u32) -> Result<(), Error> {
         match kind {
             calls::REFUSED => Err(self.refusal()),
-            calls::FAULT => Err(Error::Fault(self.found(|g, number| unsafe { calls::gwb_last_fault(g, number) }).unwrap_or_default())),
+            calls::FAULT => Err(Error::Fault(self.found(|g, number| unsafe { calls::gwb_lent_last_fault(g, number) }).unwrap_or_default())),
             calls::MEMORY => Err(Error::Memory),
             calls::NO_CALL => Err(Error::NoCall),
             calls::IN_DRAFT => Err(Error::InDraft),
@@ -313,7 +313,7 @@ impl Session {
     }
 
     fn refusal(&self) -> Error {
-        let LastRefusal { number, value } = self.found(|g, last| unsafe { calls::gwb_last_refusal(g, last) }).unwrap_or_default();
+        let LastRefusal { number, value } = self.found(|g, last| unsafe { calls::gwb_lent_last_refusal(g, last) }).unwrap_or_default();
         Refusal::from_number(number).map_or(Error::Unknown(number), |refusal| Error::Refused { refusal, value })
     }
 
@@ -325,12 +325,12 @@ impl Session {
 
     /// Writes the half-edges of a loop as far as there is room, and returns how many there are.
     fn round(&self, of_loop: u32, room: &mut [u32]) -> usize {
-        unsafe { calls::gwb_half_edges(self.handle(), of_loop, room.as_mut_ptr(), room.len()) }
+        unsafe { calls::gwb_lent_half_edges(self.handle(), of_loop, room.as_mut_ptr(), room.len()) }
     }
 
     /// Writes the last answer as far as there is room, and returns its whole length.
     fn written(&self, room: &mut [u8]) -> Result<usize, Error> {
-        match unsafe { calls::gwb_reply(self.handle(), room.as_mut_ptr(), room.len()) } {
+        match unsafe { calls::gwb_lent_reply(self.handle(), room.as_mut_ptr(), room.len()) } {
             usize::MAX => Err(Error::Memory),
             length => Ok(length),
         }

@@ -1,0 +1,75 @@
+// Tries gwb.hpp in a program without exceptions (-fno-exceptions): a Session, whose calls give Results. The last line counts.
+#include "gwb.hpp"
+#include <cstdio>
+
+#if defined(__cpp_exceptions)
+#error "compile with -fno-exceptions"
+#endif
+
+using namespace gwb_session;
+
+static int passed = 0, failed = 0;
+
+static void check(bool holds, const char *what)
+{
+    (holds ? passed : failed)++;
+    if (!holds)
+        std::printf("%s\n", what);
+}
+
+static void try_commands(Session &session)
+{
+    Result<Solid> block = session.block({0, 0, 0}, {4, 4, 4});
+    check(block && *block == Solid(1) && (*session.fresh<Face>())->last == Face(6), "a block");
+    Result<void> refused = session.kvfs(*block);
+    check(!refused && refused.error().is(GWB_WHY_NOT_BARE) && refused.error().value == 1, "what is refused");
+    Result<gwb_wide> volume = session.six_volumes(*block);
+    check(volume && narrowed(*volume) == 384 && !narrowed({1, 0}), "a volume");
+    check(session.six_volumes(Solid(9)).error().is(GWB_WHY_NO_SOLID), "the volume of no solid");
+    check(session.run("blok").error().problem == Problem::fault && *session.run("volume 1") == GWB_VOLUME, "lines");
+    check(session.reply() && *session.reply() == "volume 384\n", "a reply");
+    check(!*session.fresh<Face>() && *session.greatest<Edge>() == Edge(12) && *session.next_free<Face>() == Face(7), "numbers");
+}
+
+static void try_readers(const Session &session)
+{
+    std::size_t edges = 0;
+    for (Face face : session.faces(Solid(1)))
+        for (Edge edge : session.edges_of(face))
+            edges += (*session.faces_of(edge))[0] == face || (*session.faces_of(edge))[1] == face;
+    check(edges == 24, "the edges of all faces");
+    check(session.face(Face(9)).error().problem == Problem::absent && session.face(Face(9)).error().value == 9, "a face that is not in use");
+    check(session.half_edges(Loop(1)).size() == 4 && session.half_edge_rows().size() == 24 && session.vertex_rows().size() == 8, "all at once");
+}
+
+static void try_drafts(Session &session)
+{
+    Result<Session::Draft> draft = session.draft();
+    check(draft && session.undo().error().problem == Problem::in_draft, "a draft takes operators alone");
+    check(session.mev(plus(Edge(7)), plus(Edge(7)), {0, 0, 9}) && draft->commit(), "a draft that is committed");
+    check(draft->commit().error().problem == Problem::no_draft && *session.depth() == 2, "one that has ended");
+}
+
+static void try_ends(Session session)
+{
+    Session moved = std::move(session);
+    check(*moved.depth() == 2 && session.depth().error().problem == Problem::closed, "a session that was moved from");
+    std::size_t seen = 0;
+    for (Face face : moved.faces(Solid(1))) {
+        seen += face.number();
+        gwb_close(moved.handle());
+    }
+    check(seen == 1 && !moved.is_open() && moved.faces(Solid(1)).empty() && moved.half_edge_rows().empty(), "a range ends where its session is closed");
+}
+
+int main()
+{
+    Result<Session> session = Session::opened();
+    check(static_cast<bool>(session), "a session");
+    try_commands(*session);
+    try_readers(*session);
+    try_drafts(*session);
+    try_ends(std::move(*session));
+    std::printf("%d passed, %d failed\n", passed, failed);
+    return failed == 0 ? 0 : 1;
+}
