@@ -16,8 +16,31 @@ from typing import Iterator, List, Optional, Sequence
 TOP = Path(__file__).resolve().parent.parent
 EXAMPLE = TOP / 'examples' / 'block_with_hole.gwb'
 COMPANIONS = sorted(path.name for path in (TOP / 'companions').glob('gwb-*'))
-LIBRARY = ['include/gwb.h', 'include/gwb.hpp', 'include/gwb_names.h', 'lib/libgwb.a', 'lib/libgwb.so', 'lib/pkgconfig/gwb.pc']
 VERSION = (TOP / 'VERSION').read_text().strip()
+SONAME = 'libgwb.so.' + VERSION.split('.')[0]
+LIBRARY = ['include/gwb.h', 'include/gwb.hpp', 'include/gwb_names.h', 'lib/libgwb.a', 'lib/libgwb_c.a', 'lib/libgwb.so', f'lib/{SONAME}',
+           f'lib/libgwb.so.{VERSION}', 'lib/pkgconfig/gwb.pc', 'lib/pkgconfig/gwb-static.pc', 'lib/cmake/gwb/gwb-config.cmake',
+           'lib/cmake/gwb/gwb-config-version.cmake', 'share/gwb/heap.c']
+PROGRAM = '''#include <gwb.h>
+#include <gwb_names.h>
+int main(void)
+{
+    gwb g = {0};
+    if (gwb_version() != GWB_VERSION || !gwb_open(&g) || gwb_block(&g, 1, 0, 0, 0, 4, 4, 4) != GWB_OK)
+        return 1;
+    gwb_close(&g);
+    return 0;
+}
+'''
+CMAKE = '''cmake_minimum_required(VERSION 3.10)
+project(try C CXX)
+find_package(gwb {version} REQUIRED)
+set(CMAKE_CXX_STANDARD 17)
+add_executable(shared try.c)
+target_link_libraries(shared gwb::gwb)
+add_executable(static try.cpp)
+target_link_libraries(static gwb::static)
+'''
 
 
 class Installation:
@@ -78,16 +101,42 @@ def installed(at: Installation) -> Iterator[str]:
         yield complaint(at.run([at.command(name)], listed), told)
 
 
+def packages(at: Installation) -> Iterator[str]:
+    """A program in C that is compiled and linked as pkg-config says, with the shared library and with the static one."""
+    for package in ('gwb', 'gwb-static'):
+        flags = at.run(['pkg-config', '--cflags', '--libs', package]).stdout.decode().split()
+        yield complaint(at.run(['cc', 'try.c', '-o', package, *flags, f'-Wl,-rpath,{at.prefix}/lib']))
+        yield complaint(at.run([at.prefix.parent / package]))
+        needed = at.run(['objdump', '-p', package]).stdout.decode()
+        yield '' if (SONAME in needed) == (package == 'gwb') else f'{package} needs {needed}'
+
+
+def cmake(at: Installation) -> Iterator[str]:
+    """Programs in C and C++ that CMake builds with the package that it finds; of another first number it finds none."""
+    build = ['cmake', '-S', '.', '-B', 'build', f'-DCMAKE_PREFIX_PATH={at.prefix}']
+    source = at.prefix.parent / 'CMakeLists.txt'
+    source.write_text(CMAKE.replace('{version}', VERSION))
+    yield complaint(at.run(build)) or complaint(at.run(['cmake', '--build', 'build']))
+    for name in ('shared', 'static'):
+        yield complaint(at.run([at.prefix.parent / 'build' / name]))
+    source.write_text(CMAKE.replace('{version}', '99.0'))
+    yield complaint(at.run(['cmake', '-S', '.', '-B', 'other', f'-DCMAKE_PREFIX_PATH={at.prefix}']), b'99.0', status=1)
+
+
 def library(at: Installation) -> Iterator[str]:
-    """A program in C that is compiled and linked as pkg-config says, where that is installed."""
-    source = at.prefix.parent / 'try.c'
-    source.write_text('#include <gwb.h>\n#include <gwb_names.h>\n'
-                      'int main(void) { gwb g = {0}; if (!gwb_open(&g)) return 1; gwb_close(&g); return 0; }\n')
-    flags = f'-I{at.prefix}/include -L{at.prefix}/lib -lgwb'.split()
-    if shutil.which('pkg-config'):
-        flags = at.run(['pkg-config', '--cflags', '--libs', 'gwb']).stdout.decode().split()
-    yield complaint(at.run(['cc', source, '-o', at.prefix.parent / 'try', *flags, f'-Wl,-rpath,{at.prefix}/lib']))
-    yield complaint(at.run([at.prefix.parent / 'try']))
+    """Programs over what is installed: by the compiler's words alone, by pkg-config, by CMake, and with a heap of their own."""
+    (at.prefix.parent / 'try.c').write_text(PROGRAM)
+    (at.prefix.parent / 'try.cpp').write_text('#include <gwb.hpp>\nint main() { gwb_session::Workbench bench; return bench.depth() != 0; }\n')
+    words = f'-I{at.prefix}/include -L{at.prefix}/lib -Wl,-rpath,{at.prefix}/lib'.split()
+    kernel = ['heap.o', f'{at.prefix}/lib/libgwb_c.a']
+    yield complaint(at.run(['cc', 'try.c', '-o', 'plain', *words, '-lgwb'])) or complaint(at.run([at.prefix.parent / 'plain']))
+    yield complaint(at.run(['cc', f'-I{at.prefix}/include', '-c', at.prefix / 'share' / 'gwb' / 'heap.c', '-o', 'heap.o']))
+    yield complaint(at.run(['cc', 'try.c', '-o', 'own_heap', *words, *kernel])) or complaint(at.run([at.prefix.parent / 'own_heap']))
+    for tool, tries in (('pkg-config', packages), ('cmake', cmake)):
+        if shutil.which(tool):
+            yield from tries(at)
+        else:
+            print(f'not tried: {tries.__doc__} There is no {tool}.')
     text = (at.prefix / 'lib' / 'pkgconfig' / 'gwb.pc').read_text()
     yield '' if f'prefix={at.prefix}\n' in text and f'Version: {VERSION}\n' in text else f'gwb.pc says {text!r}'
 
