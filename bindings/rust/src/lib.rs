@@ -7,62 +7,49 @@
 //! use gwb::{Error, Refusal, Session};
 //!
 //! let mut session = Session::new()?;
-//! session.block(1, [0, 0, 0], [4, 4, 4])?;
-//! assert_eq!(session.six_volumes(1)?, 6 * 64);
-//! assert_eq!(session.kvfs(1), Err(Error::Refused { refusal: Refusal::NotBare, value: 1 }));
-//! for face in session.faces(1) {
-//!     println!("face {face} has the half-edges {:?}", session.half_edges(session.face(face).unwrap().outer_loop));
+//! let block = session.block(None, [0, 0, 0], [4, 4, 4])?;
+//! assert_eq!(session.six_volumes(block)?, 6 * 64);
+//! assert_eq!(session.kvfs(block), Err(Error::Refused { refusal: Refusal::NotBare, value: 1 }));
+//! for face in session.faces(block) {
+//!     println!("face {face} has the edges {:?} and the plane {:?}", session.edges_of(face).collect::<Vec<_>>(), session.plane(face)?);
 //! }
 //! session.undo()?;
-//! assert_eq!(session.faces(1).count(), 0);
+//! assert_eq!(session.faces(block).count(), 0);
 //! # Ok::<(), Error>(())
 //! ```
 //!
-//! Numbers are from 1 to 1,000,000, coordinates whole numbers within 1,000,000,000 either way; what is outside is refused. A half-edge is
-//! its edge's number times 2, and 1 more for the edge's second: [`plus`], [`minus`]. A corner is the half-edge that starts there, or
-//! [`lone`] for the one corner of a loop that has a vertex and no edge.
+//! Numbers are types of their own ([`Solid`], [`Face`], [`Loop`], [`Edge`], [`Vertex`]), from 1 to 1,000,000; coordinates are whole numbers within
+//! 1,000,000,000 either way; what is outside is refused. A [`HalfEdge`] is one of the two sides of an edge: [`plus`], [`minus`]. A [`Corner`] is where
+//! one starts, or [`lone`] for the one corner of a loop that has a vertex and no edge.
 //!
-//! The crate links `libgwb.a`, from bindings/out or from the folder that the environment variable `GWB_LIB_DIR` names.
+//! The crate links `libgwb.a`, by `gwb-sys`: from bindings/out, from the folder that the environment variable `GWB_LIB_DIR` names, or from where
+//! pkg-config finds it; with `GWB_DYNAMIC` set it links `libgwb.so`.
 #![deny(unsafe_op_in_unsafe_fn)]
 #![warn(missing_docs)]
+#![allow(clippy::doc_markdown)] // the WorkBench is so called
 
-mod calls;
 mod draft;
 mod error;
-mod numbers;
+mod ids;
+mod operators;
+mod readers;
 mod refusal;
 mod rows;
 mod session;
 
 pub use draft::Draft;
 pub use error::Error;
-pub use numbers::Numbers;
+pub use ids::{lone, minus, plus, Corner, Edge, Face, HalfEdge, Id, Loop, Solid, Vertex};
+pub use operators::Operators;
+pub use readers::{Numbers, Readers, Shared};
 pub use refusal::Refusal;
-pub use rows::{Counts, Edge, Entity, Face, Plane, Point};
+pub use rows::{Counts, EdgeRow, FaceRow, HalfEdgeRow, NewFace, NewSolid, Plane, Point};
 pub use session::Session;
 
 /// The version of the library that is linked: 1.1.0 is `(1, 1, 0)`.
 #[must_use]
 pub fn version() -> (u32, u32, u32) {
     // SAFETY: the call takes nothing and touches nothing.
-    let version = unsafe { calls::gwb_version() };
+    let version = unsafe { gwb_sys::gwb_version() };
     (version / 10_000, version / 100 % 100, version % 100)
-}
-
-/// The first half-edge of an edge, which starts at the vertex from which the edge was drawn.
-#[must_use]
-pub const fn plus(edge: u32) -> u32 {
-    edge << 1
-}
-
-/// The second half-edge of an edge, which starts at its other end.
-#[must_use]
-pub const fn minus(edge: u32) -> u32 {
-    edge << 1 | 1
-}
-
-/// The one corner of a loop that has a vertex and no edge.
-#[must_use]
-pub const fn lone(lone_loop: u32) -> u32 {
-    1 << 31 | lone_loop
 }

@@ -1,9 +1,12 @@
 //! What is held of each number, as values.
-use crate::calls::WidePlane;
+use crate::{Face, HalfEdge, Loop, Solid, Vertex};
+use std::ops::{Add, Neg, Sub};
+
+pub use gwb_sys::Counts;
 
 /// A point, or a vector.
+#[derive(Clone, Copy, Debug, Default, PartialEq, Eq, PartialOrd, Ord, Hash)]
 #[repr(C)]
-#[derive(Clone, Copy, Debug, Default, PartialEq, Eq, Hash)]
 #[allow(missing_docs)]
 pub struct Point {
     pub x: i64,
@@ -17,36 +20,69 @@ impl From<[i64; 3]> for Point {
     }
 }
 
+impl From<Point> for [i64; 3] {
+    fn from(point: Point) -> Self {
+        [point.x, point.y, point.z]
+    }
+}
+
+impl From<gwb_sys::Point> for Point {
+    fn from(gwb_sys::Point { x, y, z }: gwb_sys::Point) -> Self {
+        Self { x, y, z }
+    }
+}
+
+impl Add for Point {
+    type Output = Self;
+
+    fn add(self, by: Self) -> Self {
+        Self { x: self.x + by.x, y: self.y + by.y, z: self.z + by.z }
+    }
+}
+
+impl Neg for Point {
+    type Output = Self;
+
+    fn neg(self) -> Self {
+        Self { x: -self.x, y: -self.y, z: -self.z }
+    }
+}
+
+impl Sub for Point {
+    type Output = Self;
+
+    fn sub(self, by: Self) -> Self {
+        self + -by
+    }
+}
+
 /// A face: its solid and its outer loop.
-#[repr(C)]
 #[derive(Clone, Copy, Debug, Default, PartialEq, Eq, Hash)]
 #[allow(missing_docs)]
-pub struct Face {
-    pub solid: u32,
-    pub outer_loop: u32,
+pub struct FaceRow {
+    pub solid: Solid,
+    pub outer_loop: Loop,
+}
+
+impl From<gwb_sys::FaceRow> for FaceRow {
+    fn from(row: gwb_sys::FaceRow) -> Self {
+        Self { solid: Solid(row.solid), outer_loop: Loop(row.outer_loop) }
+    }
 }
 
 /// An edge, by its vertices.
-#[repr(C)]
 #[derive(Clone, Copy, Debug, Default, PartialEq, Eq, Hash)]
-pub struct Edge {
+pub struct EdgeRow {
     /// Where its first half-edge starts.
-    pub from: u32,
+    pub from: Vertex,
     /// Where its second half-edge starts.
-    pub to: u32,
+    pub to: Vertex,
 }
 
-/// How many parts a solid has.
-#[repr(C)]
-#[derive(Clone, Copy, Debug, Default, PartialEq, Eq, Hash)]
-#[allow(missing_docs)]
-pub struct Counts {
-    pub vertices: i64,
-    pub edges: i64,
-    pub faces: i64,
-    pub rings: i64,
-    /// vertices - edges + faces - rings
-    pub sum: i64,
+impl From<gwb_sys::EdgeRow> for EdgeRow {
+    fn from(row: gwb_sys::EdgeRow) -> Self {
+        Self { from: Vertex(row.from), to: Vertex(row.to) }
+    }
 }
 
 /// The plane of a face: a x + b y + c z + d is 0 on it. (a, b, c) is as long as twice the face's area, and points out of a solid that isn't
@@ -62,20 +98,52 @@ pub struct Plane {
     pub flat: bool,
 }
 
-impl From<WidePlane> for Plane {
-    fn from(wide: WidePlane) -> Self {
+impl From<gwb_sys::Plane> for Plane {
+    fn from(wide: gwb_sys::Plane) -> Self {
         Self { a: wide.a.into(), b: wide.b.into(), c: wide.c.into(), d: wide.d.into(), flat: wide.flat != 0 }
     }
 }
 
-/// The kinds of what has a number.
-#[repr(u32)]
+/// A half-edge, and where it stands.
+#[derive(Clone, Copy, Debug, Default, PartialEq, Eq, Hash)]
+#[allow(missing_docs)]
+pub struct HalfEdgeRow {
+    pub half_edge: HalfEdge,
+    /// The vertex at which it starts.
+    pub start: Vertex,
+    /// The half-edge after it in its loop.
+    pub next: HalfEdge,
+    pub of_loop: Loop,
+    pub face: Face,
+}
+
+impl From<gwb_sys::HalfEdgeRow> for HalfEdgeRow {
+    fn from(row: gwb_sys::HalfEdgeRow) -> Self {
+        Self {
+            half_edge: HalfEdge::from_code(row.half_edge),
+            start: Vertex(row.start),
+            next: HalfEdge::from_code(row.next),
+            of_loop: Loop(row.of_loop),
+            face: Face(row.face),
+        }
+    }
+}
+
+/// What is made by [`mvfs`](crate::Operators::mvfs).
 #[derive(Clone, Copy, Debug, PartialEq, Eq, Hash)]
 #[allow(missing_docs)]
-pub enum Entity {
-    Solid = 0,
-    Face = 1,
-    Loop = 2,
-    Edge = 3,
-    Vertex = 4,
+pub struct NewSolid {
+    pub solid: Solid,
+    pub face: Face,
+    pub of_loop: Loop,
+    pub vertex: Vertex,
+}
+
+/// What is made by [`mef`](crate::Operators::mef).
+#[derive(Clone, Copy, Debug, PartialEq, Eq, Hash)]
+#[allow(missing_docs)]
+pub struct NewFace {
+    pub edge: crate::Edge,
+    pub face: Face,
+    pub of_loop: Loop,
 }

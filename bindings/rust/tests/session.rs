@@ -1,29 +1,30 @@
 //! A session from outside: what commands make, what refuses them, and what readers find.
-use gwb::{lone, minus, plus, version, Draft, Edge, Entity, Error, Face, Point, Refusal, Session};
+use gwb::{lone, minus, plus, version, Draft, Edge, EdgeRow, Error, Face, FaceRow, HalfEdge, Loop, Point, Refusal, Session, Solid, Vertex};
+
+const NO_POINTS: [Point; 0] = [];
 
 fn block() -> Session {
     let mut session = Session::new().unwrap();
-    session.block(1, [0, 0, 0], [4, 4, 4]).unwrap();
+    session.block(Solid(1), [0, 0, 0], [4, 4, 4]).unwrap();
     session
 }
 
-fn refused(refusal: Refusal, value: u32) -> Result<(), Error> {
+fn refused<T>(refusal: Refusal, value: u32) -> Result<T, Error> {
     Err(Error::Refused { refusal, value })
 }
 
 /// What a solid has, as the listing names it.
-fn listing(session: &mut Session) -> String {
-    session.run("list").unwrap();
-    session.reply().unwrap()
+fn listing(session: &Session) -> String {
+    session.listing().unwrap()
 }
 
 #[test]
 fn a_block_is_measured_and_counted() {
-    let mut session = block();
-    assert_eq!(session.six_volumes(1), Ok(384));
-    let counts = session.count(1).unwrap();
+    let session = block();
+    assert_eq!(session.six_volumes(Solid(1)), Ok(384));
+    let counts = session.count(Solid(1)).unwrap();
     assert_eq!((counts.vertices, counts.edges, counts.faces, counts.rings, counts.sum), (8, 12, 6, 0, 2));
-    let top = session.plane(1).unwrap();
+    let top = session.plane(Face(1)).unwrap();
     assert_eq!((top.a, top.b, top.c, top.d, top.flat), (0, 0, 32, -128, true));
 }
 
@@ -31,55 +32,108 @@ fn a_block_is_measured_and_counted() {
 fn an_inside_out_solid_has_a_negative_volume() {
     let mut session = Session::new().unwrap();
     let square = [[0, 0, 0], [2, 0, 0], [2, 2, 0], [0, 2, 0]].map(Point::from);
-    session.lamina(1, &square).unwrap();
-    session.sweep(1, [0, 0, -3]).unwrap();
-    assert_eq!(session.six_volumes(1), Ok(-72));
+    session.lamina(Solid(1), &square).unwrap();
+    session.sweep(Face(1), [0, 0, -3]).unwrap();
+    assert_eq!(session.six_volumes(Solid(1)), Ok(-72));
 }
 
 #[test]
 fn what_a_command_makes_is_known_without_text() {
     let mut session = block();
-    session.split(1, [0, 0, 1, -2], 2).unwrap();
-    assert_eq!(session.fresh(Entity::Face), Some(7..=15));
-    assert_eq!(session.fresh(Entity::Solid), None);
-    session.kvfs(1).unwrap_err();
-    assert_eq!(session.fresh(Entity::Face), None);
+    session.split(Solid(1), [0, 0, 1, -2], Solid(2)).unwrap();
+    assert_eq!(session.fresh::<Face>(), Some(7..=15));
+    assert_eq!(session.fresh::<Solid>(), None);
+    session.six_volumes(Solid(1)).unwrap();
+    session.plane(Face(99)).unwrap_err();
+    session.run("volume 1").unwrap();
+    listing(&session);
+    assert_eq!(session.fresh::<Face>(), Some(7..=15));
+    session.kvfs(Solid(1)).unwrap_err();
+    assert_eq!(session.fresh::<Face>(), None);
+}
+
+#[test]
+fn what_a_draft_makes_is_known_too() {
+    let mut session = block();
+    let mut draft = session.draft().unwrap();
+    assert_eq!(draft.fresh::<Edge>(), None);
+    let (edge, _) = draft.mev(plus(Edge(7)), plus(Edge(7)), None, None, [0, 0, 9]).unwrap();
+    draft.count(Solid(1)).unwrap();
+    draft.mev(minus(edge), minus(edge), Edge(20), None, [0, 0, 11]).unwrap();
+    draft.commit().unwrap();
+    assert_eq!((session.fresh::<Edge>(), session.fresh::<Vertex>(), session.fresh::<Face>()), (Some(13..=20), Some(9..=10), None));
+    session.draft().unwrap().mev(plus(Edge(7)), plus(Edge(7)), Edge(30), None, [0, 0, 9]).unwrap();
+    assert_eq!(session.fresh::<Edge>(), None);
+}
+
+#[test]
+fn what_is_above_all_codes_is_no_other_half_edge() {
+    let most = Edge(gwb_most());
+    assert_eq!((plus(most).code(), minus(most).code()), (0x7FFF_FFFE, 0x7FFF_FFFF));
+    assert_eq!((plus(Edge(most.0 + 1)), minus(Edge(u32::MAX))), (plus(most), minus(most)));
+    assert_eq!((lone(Loop(0x8000_0002)), lone(Loop(0x7FFF_FFFE)) == lone(Loop(0x7FFF_FFFF))), (lone(Loop(0x7FFF_FFFF)), false));
+    let mut session = Session::new().unwrap();
+    session.mvfs(Solid(1), Face(1), Loop(2), Vertex(1), [0, 0, 0]).unwrap();
+    let far = |corner: Result<(Edge, Vertex), Error>| matches!(corner, Err(Error::Refused { refusal: Refusal::NumberRange, .. }));
+    assert!(far(session.mev(plus(Edge(0x4000_0001)), plus(Edge(0x4000_0001)), None, None, [1, 0, 0])));
+    assert!(far(session.mev(lone(Loop(0x8000_0002)), lone(Loop(0x8000_0002)), None, None, [1, 0, 0])));
+    session.mev(lone(Loop(2)), lone(Loop(2)), Edge(1), None, [1, 0, 0]).unwrap();
+    assert!(matches!(session.kev(plus(Edge(2_147_483_649))), Err(Error::Refused { refusal: Refusal::NumberRange, .. })));
+    assert_eq!(session.count(Solid(1)).unwrap().edges, 1);
+}
+
+/// The greatest edge that has half-edges.
+const fn gwb_most() -> u32 {
+    (1 << 30) - 1
+}
+
+#[test]
+fn numbers_are_chosen_where_none_is_given() {
+    let mut session = Session::new().unwrap();
+    assert_eq!((session.greatest::<Face>(), session.next_free::<Face>()), (None, Face(1)));
+    let block = session.block(None, [0, 0, 0], [4, 4, 4]).unwrap();
+    let above = session.split(block, [0, 0, 1, -2], None).unwrap();
+    assert_eq!((block, above, session.greatest::<Edge>()), (Solid(1), Solid(2), Some(Edge(24))));
+    session.block(Solid(1_000_000), [9, 9, 9], [1, 1, 1]).unwrap();
+    assert_eq!(session.block(None, [0, 0, 0], [1, 1, 1]), refused(Refusal::NumberRange, 1_000_001));
+    let point = session.mvfs(Solid(7), None, None, None, [1, 2, 3]).unwrap();
+    assert_eq!((point.solid, session.face(point.face).unwrap().outer_loop, session.lone_vertex(point.of_loop)), (Solid(7), point.of_loop, Some(point.vertex)));
 }
 
 #[test]
 fn refusals_come_by_name_and_change_nothing() {
     let mut session = block();
-    let before = listing(&mut session);
-    assert_eq!(session.kvfs(1), refused(Refusal::NotBare, 1));
-    assert_eq!(session.block(1, [9, 9, 9], [1, 1, 1]), refused(Refusal::SolidTaken, 1));
-    assert_eq!(session.split(1, [0, 0, 1, 1], 2), refused(Refusal::PlaneMisses, 1));
-    assert_eq!(session.mev(lone(7), lone(7), 20, 20, [0, 0, 0]), refused(Refusal::NoLoop, 7));
-    assert_eq!(session.kev(u32::MAX).unwrap_err().to_string(), session.kev(u32::MAX).unwrap_err().to_string());
-    assert_eq!(session.lamina(2, &[]), refused(Refusal::FewPoints, 0));
+    let before = listing(&session);
+    assert_eq!(session.kvfs(Solid(1)), refused(Refusal::NotBare, 1));
+    assert_eq!(session.block(Solid(1), [9, 9, 9], [1, 1, 1]), refused(Refusal::SolidTaken, 1));
+    assert_eq!(session.split(Solid(1), [0, 0, 1, 1], Solid(2)), refused(Refusal::PlaneMisses, 1));
+    assert_eq!(session.mev(lone(Loop(7)), lone(Loop(7)), Edge(20), Vertex(20), [0, 0, 0]), refused(Refusal::NoLoop, 7));
+    assert!(matches!(session.kev(HalfEdge::from_code(u32::MAX)), Err(Error::Refused { refusal: Refusal::NumberRange, .. })));
+    assert_eq!(session.lamina(Solid(2), &NO_POINTS), refused(Refusal::FewPoints, 0));
     assert_eq!(session.redo(), refused(Refusal::NothingToRedo, 0));
-    assert_eq!(session.six_volumes(7), Err(Error::Refused { refusal: Refusal::NoSolid, value: 7 }));
-    assert_eq!(listing(&mut session), before);
+    assert_eq!(session.six_volumes(Solid(7)), Err(Error::Refused { refusal: Refusal::NoSolid, value: 7 }));
+    assert_eq!(listing(&session), before);
     assert_eq!((session.depth(), session.ahead()), (1, 0));
 }
 
 #[test]
 fn operators_make_a_triangle_and_take_it_back() {
     let mut session = Session::new().unwrap();
-    session.mvfs(1, 1, 1, 1, [0, 0, 0]).unwrap();
-    assert_eq!(session.lone_vertex(1), Some(1));
-    assert!(session.half_edges(1).is_empty());
-    session.mev(lone(1), lone(1), 1, 2, [3, 0, 0]).unwrap();
-    session.mev(minus(1), minus(1), 2, 3, [0, 3, 0]).unwrap();
-    session.mef(plus(1), minus(2), 3, 2, 2).unwrap();
-    assert_eq!(session.lone_vertex(1), None);
-    assert_eq!(session.edge(1), Some(Edge { from: 1, to: 2 }));
-    assert_eq!(session.vertex(3), Some(Point { x: 0, y: 3, z: 0 }));
-    session.kef(plus(3)).unwrap();
-    session.kev(minus(2)).unwrap_err();
-    session.kev(plus(2)).unwrap();
-    session.kev(plus(1)).unwrap();
-    session.kvfs(1).unwrap();
-    assert_eq!(session.numbers(Entity::Solid).count(), 0);
+    session.mvfs(Solid(1), Face(1), Loop(1), Vertex(1), [0, 0, 0]).unwrap();
+    assert_eq!(session.lone_vertex(Loop(1)), Some(Vertex(1)));
+    assert!(session.half_edges(Loop(1)).is_empty());
+    session.mev(lone(Loop(1)), lone(Loop(1)), Edge(1), Vertex(2), [3, 0, 0]).unwrap();
+    session.mev(minus(Edge(1)), minus(Edge(1)), Edge(2), Vertex(3), [0, 3, 0]).unwrap();
+    session.mef(plus(Edge(1)), minus(Edge(2)), Edge(3), Face(2), Loop(2)).unwrap();
+    assert_eq!(session.lone_vertex(Loop(1)), None);
+    assert_eq!(session.edge(Edge(1)), Some(EdgeRow { from: Vertex(1), to: Vertex(2) }));
+    assert_eq!(session.vertex(Vertex(3)), Some(Point { x: 0, y: 3, z: 0 }));
+    session.kef(plus(Edge(3))).unwrap();
+    session.kev(minus(Edge(2))).unwrap_err();
+    session.kev(plus(Edge(2))).unwrap();
+    session.kev(plus(Edge(1))).unwrap();
+    session.kvfs(Solid(1)).unwrap();
+    assert_eq!(session.numbers::<Solid>().count(), 0);
     for _ in 0..8 {
         session.undo().unwrap();
     }
@@ -89,61 +143,61 @@ fn operators_make_a_triangle_and_take_it_back() {
 #[test]
 fn rings_move_between_faces() {
     let mut session = block();
-    session.mev(plus(7), plus(7), 20, 20, [1, 1, 4]).unwrap();
-    session.kemr(plus(20), 20).unwrap();
-    assert_eq!(session.rings(1).collect::<Vec<_>>(), [20]);
-    session.mfkrh(20, 20).unwrap();
-    session.kfmrh(1, 20).unwrap();
-    session.ring_in(20, 2).unwrap();
-    assert_eq!((session.face_of(20), session.rings(1).count()), (Some(2), 0));
-    session.ring_out(20, 2).unwrap();
-    assert_eq!(session.face(2).unwrap().outer_loop, 20);
-    session.outer(2, 2).unwrap();
-    assert_eq!(session.face(2).unwrap().outer_loop, 2);
-    session.ring_in(20, 1).unwrap();
-    session.mekr(plus(7), lone(20), 20).unwrap();
-    session.kev(plus(20)).unwrap();
-    assert_eq!(session.count(1).unwrap().vertices, 8);
+    session.mev(plus(Edge(7)), plus(Edge(7)), Edge(20), Vertex(20), [1, 1, 4]).unwrap();
+    session.kemr(plus(Edge(20)), Loop(20)).unwrap();
+    assert_eq!(session.rings(Face(1)).collect::<Vec<_>>(), [Loop(20)]);
+    session.mfkrh(Loop(20), Face(20)).unwrap();
+    session.kfmrh(Face(1), Face(20)).unwrap();
+    session.ring_in(Loop(20), Face(2)).unwrap();
+    assert_eq!((session.face_of_loop(Loop(20)), session.rings(Face(1)).count()), (Some(Face(2)), 0));
+    session.ring_out(Loop(20), Face(2)).unwrap();
+    assert_eq!(session.face(Face(2)).unwrap().outer_loop, Loop(20));
+    session.outer(Loop(2), Face(2)).unwrap();
+    assert_eq!(session.face(Face(2)).unwrap().outer_loop, Loop(2));
+    session.ring_in(Loop(20), Face(1)).unwrap();
+    session.mekr(plus(Edge(7)), lone(Loop(20)), Edge(20)).unwrap();
+    session.kev(plus(Edge(20))).unwrap();
+    assert_eq!(session.count(Solid(1)).unwrap().vertices, 8);
 }
 
 #[test]
 fn solids_are_glued_and_merged() {
     let mut session = block();
-    session.block(2, [0, 0, 4], [4, 4, 4]).unwrap();
-    session.block(3, [9, 9, 9], [1, 1, 1]).unwrap();
-    session.glue(1, 8).unwrap();
-    assert_eq!(session.six_volumes(1), Ok(768));
-    session.merge(1, 3).unwrap();
-    assert_eq!((session.six_volumes(1), session.faces(3).count()), (Ok(774), 0));
+    session.block(Solid(2), [0, 0, 4], [4, 4, 4]).unwrap();
+    session.block(Solid(3), [9, 9, 9], [1, 1, 1]).unwrap();
+    session.glue(Face(1), Face(8)).unwrap();
+    assert_eq!(session.six_volumes(Solid(1)), Ok(768));
+    session.merge(Solid(1), Solid(3)).unwrap();
+    assert_eq!((session.six_volumes(Solid(1)), session.faces(Solid(3)).count()), (Ok(774), 0));
 }
 
 #[test]
 fn a_lamina_has_its_points_in_order() {
     let mut session = Session::new().unwrap();
     let points = [[7, 0, 1], [0, 7, 1], [0, 0, -1]].map(Point::from);
-    session.lamina(3, &points).unwrap();
-    let drawn: Vec<_> = session.half_edges(1).into_iter().map(|at| session.vertex(session.edge(at / 2).unwrap().from).unwrap()).collect();
+    session.lamina(Solid(3), &points).unwrap();
+    let drawn: Vec<_> = session.half_edges(Loop(1)).into_iter().map(|at| session.vertex(session.edge(at.edge()).unwrap().from).unwrap()).collect();
     assert_eq!(drawn, points);
-    assert_eq!(session.lamina(4, &points[..2]), refused(Refusal::FewPoints, 2));
+    assert_eq!(session.lamina(Solid(4), &points[..2]), refused(Refusal::FewPoints, 2));
 }
 
 #[test]
 fn faces_are_parted_from_a_solid() {
     let mut session = block();
-    session.block(2, [9, 9, 9], [1, 1, 1]).unwrap();
-    session.merge(1, 2).unwrap();
-    assert_eq!(session.part(&[], 3), Err(Error::NoCall));
-    assert_eq!(session.part(&[99], 3), refused(Refusal::NoFace, 99));
-    assert_eq!(session.part(&[7], 3), refused(Refusal::BadPart, 1));
-    assert_eq!(session.part(&[7, 8, 9, 10, 12, 11], 3), refused(Refusal::BadPart, 1));
-    session.part(&[7, 8, 9, 10, 11, 12], 3).unwrap();
-    assert_eq!((session.six_volumes(1), session.six_volumes(3)), (Ok(384), Ok(6)));
+    session.block(Solid(2), [9, 9, 9], [1, 1, 1]).unwrap();
+    session.merge(Solid(1), Solid(2)).unwrap();
+    assert_eq!(session.part(&[], None), Err(Error::NoCall));
+    assert_eq!(session.part(&[Face(99)], Solid(3)), refused(Refusal::NoFace, 99));
+    assert_eq!(session.part(&[Face(7)], Solid(3)), refused(Refusal::BadPart, 1));
+    assert_eq!(session.part(&[Face(7), Face(8), Face(9), Face(10), Face(12), Face(11)], Solid(3)), refused(Refusal::BadPart, 1));
+    session.part(&[Face(7), Face(8), Face(9), Face(10), Face(11), Face(12)], Solid(3)).unwrap();
+    assert_eq!((session.six_volumes(Solid(1)), session.six_volumes(Solid(3))), (Ok(384), Ok(6)));
 }
 
 /// A spoke of the top of a block, cut loose: vertex 9 and ring 7.
 fn give_steps(draft: &mut Draft<'_>) {
-    draft.mev(plus(7), plus(7), 13, 9, [2, 2, 4]).unwrap();
-    draft.kemr(plus(13), 7).unwrap();
+    draft.mev(plus(Edge(7)), plus(Edge(7)), Edge(13), Vertex(9), [2, 2, 4]).unwrap();
+    draft.kemr(plus(Edge(13)), Loop(7)).unwrap();
 }
 
 #[test]
@@ -151,14 +205,14 @@ fn a_draft_that_is_committed_is_one_command() {
     let mut session = block();
     let mut draft = session.draft().unwrap();
     give_steps(&mut draft);
-    assert_eq!((draft.lone_vertex(7), draft.count(1).unwrap().vertices), (Some(9), 9));
-    assert_eq!((draft.depth(), draft.ahead(), draft.six_volumes(1), draft.plane(1).unwrap().flat), (0, 0, Ok(384), true));
-    assert_eq!(draft.kvfs(1), refused(Refusal::NotBare, 1));
-    assert_eq!(draft.rings(1).collect::<Vec<_>>(), [7]);
+    assert_eq!((draft.lone_vertex(Loop(7)), draft.count(Solid(1)).unwrap().vertices), (Some(Vertex(9)), 9));
+    assert_eq!((draft.depth(), draft.ahead(), draft.six_volumes(Solid(1)), draft.plane(Face(1)).unwrap().flat), (0, 0, Ok(384), true));
+    assert_eq!(draft.kvfs(Solid(1)), refused(Refusal::NotBare, 1));
+    assert_eq!(draft.rings(Face(1)).collect::<Vec<_>>(), [Loop(7)]);
     draft.commit().unwrap();
-    assert_eq!((session.depth(), session.lone_vertex(7)), (2, Some(9)));
+    assert_eq!((session.depth(), session.lone_vertex(Loop(7))), (2, Some(Vertex(9))));
     session.undo().unwrap();
-    assert_eq!((session.count(1).unwrap().vertices, session.ahead()), (8, 1));
+    assert_eq!((session.count(Solid(1)).unwrap().vertices, session.ahead()), (8, 1));
     session.draft().unwrap().commit().unwrap();
     assert_eq!((session.depth(), session.ahead()), (2, 0));
 }
@@ -166,11 +220,11 @@ fn a_draft_that_is_committed_is_one_command() {
 #[test]
 fn a_draft_that_is_dropped_leaves_no_trace() {
     let mut session = block();
-    session.block(2, [9, 9, 9], [1, 1, 1]).unwrap();
+    session.block(Solid(2), [9, 9, 9], [1, 1, 1]).unwrap();
     session.undo().unwrap();
-    let before = listing(&mut session);
+    let before = listing(&session);
     give_steps(&mut session.draft().unwrap());
-    assert_eq!(listing(&mut session), before);
+    assert_eq!(listing(&session), before);
     assert_eq!((session.depth(), session.ahead()), (1, 1));
     session.redo().unwrap();
 }
@@ -179,25 +233,25 @@ fn a_draft_that_is_dropped_leaves_no_trace() {
 fn every_operator_is_a_step() {
     let mut session = Session::new().unwrap();
     let mut draft = session.draft().unwrap();
-    draft.mvfs(1, 1, 1, 1, [0, 0, 0]).unwrap();
-    draft.mev(lone(1), lone(1), 1, 2, [3, 0, 0]).unwrap();
-    draft.mev(minus(1), minus(1), 2, 3, [0, 3, 0]).unwrap();
-    draft.mef(plus(1), minus(2), 3, 2, 2).unwrap();
-    draft.mev(plus(1), plus(1), 4, 4, [1, 1, 0]).unwrap();
-    draft.kemr(plus(4), 3).unwrap();
-    draft.ring_in(3, 1).unwrap();
-    draft.ring_out(3, 1).unwrap();
-    draft.outer(1, 1).unwrap();
-    draft.mfkrh(3, 9).unwrap();
-    draft.kfmrh(1, 9).unwrap();
-    draft.mekr(plus(3), lone(3), 4).unwrap();
-    draft.kev(plus(4)).unwrap();
-    draft.mvfs(2, 3, 3, 4, [9, 9, 9]).unwrap();
-    draft.merge(1, 2).unwrap();
-    draft.part(&[3], 5).unwrap();
-    draft.kvfs(5).unwrap();
-    draft.kef(plus(3)).unwrap();
-    assert_eq!(draft.count(1).map(|counts| (counts.vertices, counts.edges, counts.faces)), Ok((3, 2, 1)));
+    draft.mvfs(Solid(1), Face(1), Loop(1), Vertex(1), [0, 0, 0]).unwrap();
+    draft.mev(lone(Loop(1)), lone(Loop(1)), Edge(1), Vertex(2), [3, 0, 0]).unwrap();
+    draft.mev(minus(Edge(1)), minus(Edge(1)), Edge(2), Vertex(3), [0, 3, 0]).unwrap();
+    draft.mef(plus(Edge(1)), minus(Edge(2)), Edge(3), Face(2), Loop(2)).unwrap();
+    draft.mev(plus(Edge(1)), plus(Edge(1)), Edge(4), Vertex(4), [1, 1, 0]).unwrap();
+    draft.kemr(plus(Edge(4)), Loop(3)).unwrap();
+    draft.ring_in(Loop(3), Face(1)).unwrap();
+    draft.ring_out(Loop(3), Face(1)).unwrap();
+    draft.outer(Loop(1), Face(1)).unwrap();
+    draft.mfkrh(Loop(3), Face(9)).unwrap();
+    draft.kfmrh(Face(1), Face(9)).unwrap();
+    draft.mekr(plus(Edge(3)), lone(Loop(3)), Edge(4)).unwrap();
+    draft.kev(plus(Edge(4))).unwrap();
+    draft.mvfs(Solid(2), Face(3), Loop(3), Vertex(4), [9, 9, 9]).unwrap();
+    draft.merge(Solid(1), Solid(2)).unwrap();
+    draft.part(&[Face(3)], Solid(5)).unwrap();
+    draft.kvfs(Solid(5)).unwrap();
+    draft.kef(plus(Edge(3))).unwrap();
+    assert_eq!(draft.count(Solid(1)).map(|counts| (counts.vertices, counts.edges, counts.faces)), Ok((3, 2, 1)));
     draft.commit().unwrap();
     assert_eq!(session.depth(), 1);
 }
@@ -206,36 +260,105 @@ fn every_operator_is_a_step() {
 fn a_draft_that_is_forgotten_stays_open() {
     let mut session = block();
     std::mem::forget(session.draft().unwrap());
-    let before = session.numbers(Entity::Face).count();
-    assert_eq!(session.block(2, [9, 9, 9], [1, 1, 1]), Err(Error::InDraft));
-    assert_eq!(session.lamina(2, &[]), Err(Error::InDraft));
+    let before = session.numbers::<Face>().count();
+    assert_eq!(session.block(Solid(2), [9, 9, 9], [1, 1, 1]), Err(Error::InDraft));
+    assert_eq!(session.lamina(Solid(2), &NO_POINTS), Err(Error::InDraft));
     assert_eq!((session.undo(), session.redo(), session.run("list")), (Err(Error::InDraft), Err(Error::InDraft), Err(Error::InDraft)));
     assert!(matches!(session.draft(), Err(Error::InDraft)));
-    assert_eq!((session.numbers(Entity::Face).count(), Error::InDraft.to_string().contains("draft")), (before, true));
+    assert_eq!((session.numbers::<Face>().count(), Error::InDraft.to_string().contains("draft")), (before, true));
+    session.abandon().unwrap();
+    assert_eq!((session.abandon(), session.undo()), (Err(Error::NoDraft), Ok(())));
 }
 
 #[test]
 fn readers_walk_every_face() {
     let session = block();
-    assert_eq!(session.faces(1).collect::<Vec<_>>(), [1, 2, 3, 4, 5, 6]);
-    let half_edges = session.faces(1).flat_map(|face| session.half_edges(session.face(face).unwrap().outer_loop));
+    assert_eq!(session.faces(Solid(1)).collect::<Vec<_>>(), [1, 2, 3, 4, 5, 6].map(Face));
+    let half_edges = session.faces(Solid(1)).flat_map(|face| session.half_edges(session.face(face).unwrap().outer_loop));
     assert_eq!(half_edges.count(), 24);
-    for half_edge in session.numbers(Entity::Edge).flat_map(|edge| [plus(edge), minus(edge)]) {
+    for half_edge in session.numbers::<Edge>().flat_map(|edge| [plus(edge), minus(edge)]) {
         let round = std::iter::successors(Some(half_edge), |&at| session.next(at).filter(|&next| next != half_edge));
         assert_eq!(round.count(), 4);
     }
-    assert_eq!(session.face(1), Some(Face { solid: 1, outer_loop: 1 }));
-    assert_eq!((session.face(7), session.edge(13), session.vertex(9), session.next(plus(13))), (None, None, None, None));
-    assert_eq!(session.faces(9).next(), None);
+    assert_eq!(session.face(Face(1)), Some(FaceRow { solid: Solid(1), outer_loop: Loop(1) }));
+    assert_eq!((session.face(Face(7)), session.edge(Edge(13)), session.vertex(Vertex(9)), session.next(plus(Edge(13)))), (None, None, None, None));
+    assert_eq!(session.faces(Solid(9)).next(), None);
+}
+
+#[test]
+fn neighbours_are_those_of_the_loops() {
+    let mut session = block();
+    let (edge, end) = session.mev(plus(Edge(7)), plus(Edge(7)), None, None, [2, 2, 4]).unwrap();
+    let (mut sides, mut starts) = (0, 0);
+    for face in session.faces(Solid(1)) {
+        for at in session.half_edges_of(face) {
+            assert_eq!((session.face_of(at), session.faces_of(at.edge()).unwrap()[usize::from(at.is_second())]), (Some(face), face));
+            assert_eq!((session.next(session.previous(at).unwrap()), session.end_of(at)), (Some(at), session.start_of(session.next(at).unwrap())));
+            sides += 1;
+        }
+    }
+    for vertex in session.numbers::<Vertex>() {
+        starts += session.around_vertex(vertex).filter(|&at| session.start_of(at) == Some(vertex)).count();
+    }
+    assert_eq!((sides, starts), (26, 26));
+    assert_eq!(session.faces(Solid(1)).map(|face| session.edges_of(face).count()).sum::<usize>(), 25);
+    assert_eq!((session.around_start(minus(edge)).count(), session.around(Loop(1)).count()), (1, 6));
+    let ring = session.kemr(plus(edge), None).unwrap();
+    assert_eq!((session.loops_of(Face(1)).collect::<Vec<_>>(), session.around_vertex(end).count()), (vec![Loop(1), ring], 0));
+    assert_eq!((session.faces_of(Edge(99)), session.loops_of(Face(99)).next(), session.around_start(plus(Edge(99))).next()), (None, None, None));
+}
+
+#[test]
+fn all_rows_come_at_once() {
+    let mut session = block();
+    let above = session.split(Solid(1), [0, 0, 1, -2], None).unwrap();
+    let rows = session.half_edge_rows(None);
+    for row in &rows {
+        let at = row.half_edge;
+        assert_eq!((session.start_of(at), session.next(at), session.loop_of(at), session.face_of(at)), (Some(row.start), Some(row.next), Some(row.of_loop), Some(row.face)));
+    }
+    assert_eq!((rows.len(), session.half_edge_rows(above).len(), session.half_edge_rows(Solid(9)).len()), (48, 24, 0));
+    assert!(session.vertex_rows().iter().all(|&(vertex, point)| session.vertex(vertex) == Some(point)));
+}
+
+#[test]
+fn what_is_left_of_numbers_is_known() {
+    let session = block();
+    let mut faces = session.faces(Solid(1));
+    assert_eq!(faces.size_hint(), (0, Some(1_000_000)));
+    faces.next();
+    assert_eq!((faces.size_hint(), faces.clone().count(), faces.count()), ((0, Some(999_999)), 5, 5));
+    assert_eq!((session.around(Loop(1)).size_hint().0, session.around(Loop(99)).size_hint()), (1, (0, Some(0))));
+}
+
+#[test]
+fn planes_are_asked_for_on_the_way() {
+    let session = block();
+    let up: Result<Vec<_>, Error> = session.faces(Solid(1)).map(|face| session.plane(face)).collect();
+    assert_eq!(up.unwrap().iter().filter(|plane| plane.c > 0).count(), 1);
+}
+
+#[test]
+fn many_threads_read_one_session() {
+    let mut session = block();
+    let shared = session.shared();
+    let count = || (0..1000).map(|_| shared.faces(Solid(1)).flat_map(|face| shared.edges_of(face)).count()).sum::<usize>();
+    let counts = std::thread::scope(|scope| [(); 4].map(|()| scope.spawn(count)).map(|thread| thread.join().unwrap()));
+    assert_eq!(counts, [24_000; 4]);
+    let moved = std::thread::spawn(move || {
+        session.undo().unwrap();
+        session
+    });
+    assert_eq!(moved.join().unwrap().ahead(), 1);
 }
 
 #[test]
 fn a_long_loop_is_read_whole() {
     let mut session = Session::new().unwrap();
     let points: Vec<Point> = (0..64).map(|at| [at, at * at, 0].into()).collect();
-    session.lamina(1, &points).unwrap();
-    assert_eq!(session.half_edges(1), (1..=64).map(plus).collect::<Vec<_>>());
-    assert_eq!(session.lamina(2, &[points, vec![Point::default()]].concat()), Err(Error::NoCall));
+    session.lamina(Solid(1), &points).unwrap();
+    assert_eq!(session.half_edges(Loop(1)), (1..=64).map(|edge| plus(Edge(edge))).collect::<Vec<_>>());
+    assert_eq!(session.lamina(Solid(2), &[points, vec![Point::default()]].concat()), Err(Error::NoCall));
 }
 
 #[test]
@@ -247,12 +370,12 @@ fn lines_are_answered_as_text() {
     assert_eq!(session.run("kvfs 1"), refused(Refusal::NotBare, 1));
     assert_eq!(session.reply().unwrap(), "refused 12 1\n");
     assert_eq!(session.run(""), Ok(()));
-    assert!(listing(&mut session).len() > 256);
+    assert!(listing(&session).len() > 256);
 }
 
 #[test]
 fn errors_say_what_is_wrong() {
-    let error: Box<dyn std::error::Error> = Box::new(block().kvfs(1).unwrap_err());
+    let error: Box<dyn std::error::Error> = Box::new(block().kvfs(Solid(1)).unwrap_err());
     assert_eq!(error.to_string(), "NotBare 1");
     assert_eq!(format!("{:?}", block()), "Session { depth: 1, ahead: 0, .. }");
 }
@@ -266,7 +389,7 @@ fn the_version_is_the_one_that_is_written() {
 #[test]
 fn two_sessions_share_nothing() {
     let (mut one, mut other) = (block(), Session::new().unwrap());
-    assert_eq!(other.kvfs(1), refused(Refusal::NoSolid, 1));
+    assert_eq!(other.kvfs(Solid(1)), refused(Refusal::NoSolid, 1));
     one.undo().unwrap();
     assert_eq!((one.ahead(), other.ahead()), (1, 0));
 }

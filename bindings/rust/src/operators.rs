@@ -1,0 +1,329 @@
+use crate::readers::Readers;
+use crate::{Corner, Counts, Edge, Error, Face, HalfEdge, Id, Loop, NewFace, NewSolid, Plane, Point, Refusal, Solid, Vertex};
+use gwb_sys::{kind, Gwb, Range, Wide};
+use std::cell::Cell;
+use std::ops::{Deref, RangeInclusive};
+use std::ptr::NonNull;
+
+/// What a [`Session`](crate::Session) and a [`Draft`](crate::Draft) both have: the operators, the measures and, by [`Readers`], the readers.
+///
+/// An operator makes what it is given numbers for. In the place of each such number [`None`] may stand: it takes the number above all in use then.
+/// What is made is returned. A command that isn't accepted leaves the model as it was; it returns [`Error::Refused`] with the first of its conditions
+/// that is false (docs/SCRIPT.md has them by commands), or [`Error::Memory`].
+pub struct Operators {
+    readers: Readers,
+    fresh: Fresh,
+}
+
+/// The fresh numbers of the last command, which the kernel forgets where it is asked for a measure, and those of the steps of a draft.
+#[derive(Default)]
+struct Fresh {
+    kept: Cell<Option<Ranges>>,
+    drafted: Cell<Option<Ranges>>,
+}
+
+/// For each kind the first and the last number, or 0 and 0.
+type Ranges = [Range; 5];
+
+/// The range from the first of both to the last of both.
+fn joined(one: Range, other: Range) -> Range {
+    match (one.first, other.first) {
+        (0, _) => other,
+        (_, 0) => one,
+        _ => Range { first: one.first.min(other.first), last: one.last.max(other.last) },
+    }
+}
+
+// SAFETY, for all calls in this file: the handle is open from `new` on until `drop`, nobody else has it, and only one thread has it, since this is
+// not Sync. What a call writes to is a value of its own.
+impl Operators {
+    /// A session that holds the empty model.
+    pub(crate) fn new() -> Result<Self, Error> {
+        let handle = NonNull::from(Box::leak(Box::new(Gwb::CLOSED)));
+        let operators = Self { readers: Readers::new(handle), fresh: Fresh::default() };
+        unsafe { gwb_sys::gwb_open(operators.handle()) }.then_some(operators).ok_or(Error::Memory)
+    }
+
+    /// A new solid with one face, whose outer loop stands at one new vertex.
+    ///
+    /// # Errors
+    /// [`Error::Refused`], [`Error::Memory`].
+    pub fn mvfs(
+        &mut self,
+        solid: impl Into<Option<Solid>>,
+        face: impl Into<Option<Face>>,
+        of_loop: impl Into<Option<Loop>>,
+        vertex: impl Into<Option<Vertex>>,
+        at: impl Into<Point>,
+    ) -> Result<NewSolid, Error> {
+        let made = NewSolid { solid: self.named(solid), face: self.named(face), of_loop: self.named(of_loop), vertex: self.named(vertex) };
+        let at = at.into();
+        self.told(unsafe { gwb_sys::gwb_mvfs(self.handle(), made.solid.0, made.face.0, made.of_loop.0, made.vertex.0, at.x, at.y, at.z) })?;
+        Ok(made)
+    }
+
+    /// The solid goes, with its one face, loop and vertex.
+    ///
+    /// # Errors
+    /// [`Error::Refused`], [`Error::Memory`].
+    pub fn kvfs(&mut self, solid: Solid) -> Result<(), Error> {
+        self.told(unsafe { gwb_sys::gwb_kvfs(self.handle(), solid.0) })
+    }
+
+    /// A new edge from the vertex of the corners to a new vertex. With one corner given twice it sticks out there; with two corners at one
+    /// vertex, the half-edges from the first round to before the second start at the new vertex.
+    ///
+    /// # Errors
+    /// [`Error::Refused`], [`Error::Memory`].
+    pub fn mev(
+        &mut self,
+        corner: impl Into<Corner>,
+        other: impl Into<Corner>,
+        edge: impl Into<Option<Edge>>,
+        vertex: impl Into<Option<Vertex>>,
+        at: impl Into<Point>,
+    ) -> Result<(Edge, Vertex), Error> {
+        let (edge, vertex, at) = (self.named(edge), self.named(vertex), at.into());
+        let (corner, other) = (corner.into().code(), other.into().code());
+        self.told(unsafe { gwb_sys::gwb_mev(self.handle(), corner, other, edge.0, vertex.0, at.x, at.y, at.z) })?;
+        Ok((edge, vertex))
+    }
+
+    /// The edge goes, and the vertex at the end of the half-edge; what else starts there starts where the half-edge does.
+    ///
+    /// # Errors
+    /// [`Error::Refused`], [`Error::Memory`].
+    pub fn kev(&mut self, half_edge: HalfEdge) -> Result<(), Error> {
+        self.told(unsafe { gwb_sys::gwb_kev(self.handle(), half_edge.code()) })
+    }
+
+    /// A new edge across a face, between the vertices at which two half-edges of one loop start. The part from the first to before the
+    /// second becomes the loop of the new face.
+    ///
+    /// # Errors
+    /// [`Error::Refused`], [`Error::Memory`].
+    pub fn mef(
+        &mut self,
+        half_edge: HalfEdge,
+        other: HalfEdge,
+        edge: impl Into<Option<Edge>>,
+        face: impl Into<Option<Face>>,
+        of_loop: impl Into<Option<Loop>>,
+    ) -> Result<NewFace, Error> {
+        let made = NewFace { edge: self.named(edge), face: self.named(face), of_loop: self.named(of_loop) };
+        self.told(unsafe { gwb_sys::gwb_mef(self.handle(), half_edge.code(), other.code(), made.edge.0, made.face.0, made.of_loop.0) })?;
+        Ok(made)
+    }
+
+    /// The edge goes, and the face on its other side becomes part of the half-edge's own.
+    ///
+    /// # Errors
+    /// [`Error::Refused`], [`Error::Memory`].
+    pub fn kef(&mut self, half_edge: HalfEdge) -> Result<(), Error> {
+        self.told(unsafe { gwb_sys::gwb_kef(self.handle(), half_edge.code()) })
+    }
+
+    /// The edge goes, which has one loop on both sides; the part after the half-edge is a new ring of the face.
+    ///
+    /// # Errors
+    /// [`Error::Refused`], [`Error::Memory`].
+    pub fn kemr(&mut self, half_edge: HalfEdge, ring: impl Into<Option<Loop>>) -> Result<Loop, Error> {
+        let ring = self.named(ring);
+        self.told(unsafe { gwb_sys::gwb_kemr(self.handle(), half_edge.code(), ring.0) })?;
+        Ok(ring)
+    }
+
+    /// A new edge from the first corner to the second, whose loop is a ring of the same face and becomes part of the first one's.
+    ///
+    /// # Errors
+    /// [`Error::Refused`], [`Error::Memory`].
+    pub fn mekr(&mut self, corner: impl Into<Corner>, other: impl Into<Corner>, edge: impl Into<Option<Edge>>) -> Result<Edge, Error> {
+        let edge = self.named(edge);
+        self.told(unsafe { gwb_sys::gwb_mekr(self.handle(), corner.into().code(), other.into().code(), edge.0) })?;
+        Ok(edge)
+    }
+
+    /// The second face goes, and its loop becomes a ring of the first.
+    ///
+    /// # Errors
+    /// [`Error::Refused`], [`Error::Memory`].
+    pub fn kfmrh(&mut self, face: Face, other: Face) -> Result<(), Error> {
+        self.told(unsafe { gwb_sys::gwb_kfmrh(self.handle(), face.0, other.0) })
+    }
+
+    /// A ring becomes the outer loop of a new face of the same solid.
+    ///
+    /// # Errors
+    /// [`Error::Refused`], [`Error::Memory`].
+    pub fn mfkrh(&mut self, ring: Loop, face: impl Into<Option<Face>>) -> Result<Face, Error> {
+        let face = self.named(face);
+        self.told(unsafe { gwb_sys::gwb_mfkrh(self.handle(), ring.0, face.0) })?;
+        Ok(face)
+    }
+
+    /// A ring becomes a ring of another face: `ringmv` with the word `in`.
+    ///
+    /// # Errors
+    /// [`Error::Refused`], [`Error::Memory`].
+    pub fn ring_in(&mut self, ring: Loop, face: Face) -> Result<(), Error> {
+        self.told(unsafe { gwb_sys::gwb_ringmv(self.handle(), ring.0, face.0, 0) })
+    }
+
+    /// A ring becomes the outer loop of a face, whose old one becomes a ring of it: `ringmv` with the word `out`.
+    ///
+    /// # Errors
+    /// [`Error::Refused`], [`Error::Memory`].
+    pub fn ring_out(&mut self, ring: Loop, face: Face) -> Result<(), Error> {
+        self.told(unsafe { gwb_sys::gwb_ringmv(self.handle(), ring.0, face.0, 1) })
+    }
+
+    /// A ring becomes the outer loop of its own face, whose old one becomes a ring of the face given. No script has this operator.
+    ///
+    /// # Errors
+    /// [`Error::Refused`], [`Error::Memory`].
+    pub fn outer(&mut self, ring: Loop, face: Face) -> Result<(), Error> {
+        self.told(unsafe { gwb_sys::gwb_outer(self.handle(), ring.0, face.0) })
+    }
+
+    /// All faces of the second solid are of the first, and the second is gone. No script has this operator.
+    ///
+    /// # Errors
+    /// [`Error::Refused`], [`Error::Memory`].
+    pub fn merge(&mut self, solid: Solid, other: Solid) -> Result<(), Error> {
+        self.told(unsafe { gwb_sys::gwb_merge(self.handle(), solid.0, other.0) })
+    }
+
+    /// A new solid of some faces of one, their numbers rising, which share no edge with its others. No script has this operator.
+    ///
+    /// # Errors
+    /// [`Error::Refused`], [`Error::Memory`]; [`Error::NoCall`] where there are no faces.
+    pub fn part(&mut self, faces: &[Face], solid: impl Into<Option<Solid>>) -> Result<Solid, Error> {
+        let solid = self.named(solid);
+        // `Face` is a transparent u32
+        self.told(unsafe { gwb_sys::gwb_part(self.handle(), faces.as_ptr().cast(), faces.len(), solid.0) })?;
+        Ok(solid)
+    }
+
+    /// The plane of a face. It keeps the last answer.
+    ///
+    /// # Errors
+    /// [`Error::Refused`].
+    pub fn plane(&self, face: Face) -> Result<Plane, Error> {
+        self.measured(|g, plane: &mut gwb_sys::Plane| unsafe { gwb_sys::gwb_face_plane(g, face.0, plane) }).map(Plane::from)
+    }
+
+    /// Six times the volume of a solid. It keeps the last answer.
+    ///
+    /// # Errors
+    /// [`Error::Refused`].
+    pub fn six_volumes(&self, solid: Solid) -> Result<i128, Error> {
+        self.measured(|g, volumes: &mut Wide| unsafe { gwb_sys::gwb_volume(g, solid.0, volumes) }).map(i128::from)
+    }
+
+    /// How many vertices, edges, faces and rings a solid has. It keeps the last answer.
+    ///
+    /// # Errors
+    /// [`Error::Refused`].
+    pub fn count(&self, solid: Solid) -> Result<Counts, Error> {
+        self.measured(|g, counts: &mut Counts| unsafe { gwb_sys::gwb_count(g, solid.0, counts) })
+    }
+
+    /// The numbers of a kind that the last command made above all that were in use before it, up to the greatest in use; not each of them need be
+    /// in use. Of a draft they are the first and the last that its steps so made. Measures leave them as they are. None for solids, which a
+    /// command names: `fresh::<Face>()`.
+    #[must_use]
+    pub fn fresh<N: Id>(&self) -> Option<RangeInclusive<u32>> {
+        let range = self.fresh.kept.get().map_or_else(|| self.live(N::KIND), |kept| kept[N::KIND as usize]);
+        (range.first != 0).then_some(range.first..=range.last)
+    }
+
+    pub(crate) fn handle(&self) -> *mut Gwb {
+        self.readers.handle()
+    }
+
+    /// The number that is given, or the one above all in use.
+    pub(crate) fn named<N: Id>(&self, number: impl Into<Option<N>>) -> N {
+        number.into().unwrap_or_else(|| self.next_free())
+    }
+
+    /// What the kind of a command's answer says.
+    pub(crate) fn told(&self, answer: u32) -> Result<(), Error> {
+        if answer <= kind::MEMORY {
+            self.fresh.kept.set(None);
+        }
+        if let (kind::OK, Some(drafted)) = (answer, self.fresh.drafted.get()) {
+            let step = self.all_live();
+            self.fresh.drafted.set(Some(std::array::from_fn(|of| joined(drafted[of], step[of]))));
+        }
+        self.answered(answer)
+    }
+
+    /// After a draft was opened.
+    pub(crate) fn begin_draft(&self) {
+        self.fresh.drafted.set(Some(Ranges::default()));
+    }
+
+    /// After a draft has ended; where it was committed it has made what its steps made.
+    pub(crate) fn end_draft(&self, is_committed: bool) {
+        let drafted = self.fresh.drafted.take();
+        self.fresh.kept.set(drafted.filter(|_| is_committed));
+    }
+
+    /// Before a query, which makes the kernel forget what the last command made.
+    pub(crate) fn keep_fresh(&self) {
+        let kept = self.fresh.kept.get().unwrap_or_else(|| self.all_live());
+        self.fresh.kept.set(Some(kept));
+    }
+
+    /// What the kind of an answer says.
+    pub(crate) fn answered(&self, answer: u32) -> Result<(), Error> {
+        match answer {
+            kind::REFUSED => Err(self.refusal()),
+            kind::FAULT => Err(Error::Fault(self.found(|g, number| unsafe { gwb_sys::gwb_lent_last_fault(g, number) }).unwrap_or_default())),
+            kind::MEMORY => Err(Error::Memory),
+            kind::NO_CALL => Err(Error::NoCall),
+            kind::IN_DRAFT => Err(Error::InDraft),
+            kind::NO_DRAFT => Err(Error::NoDraft),
+            0..=kind::LISTING => Ok(()),
+            _ => Err(Error::Unknown(answer)),
+        }
+    }
+
+    fn refusal(&self) -> Error {
+        let last: gwb_sys::Refusal = self.found(|g, last| unsafe { gwb_sys::gwb_lent_last_refusal(g, last) }).unwrap_or_default();
+        Refusal::from_number(last.number).map_or(Error::Unknown(last.number), |refusal| Error::Refused { refusal, value: last.value })
+    }
+
+    /// What a query writes.
+    fn measured<T: Default>(&self, ask: impl FnOnce(*mut Gwb, &mut T) -> u32) -> Result<T, Error> {
+        self.keep_fresh();
+        let mut value = T::default();
+        self.answered(ask(self.handle(), &mut value)).map(|()| value)
+    }
+
+    fn live(&self, kind: u32) -> Range {
+        self.found(|g, range| unsafe { gwb_sys::gwb_lent_fresh(g, kind, range) }).unwrap_or_default()
+    }
+
+    fn all_live(&self) -> Ranges {
+        [0, 1, 2, 3, 4].map(|kind| self.live(kind))
+    }
+}
+
+impl Deref for Operators {
+    type Target = Readers;
+
+    fn deref(&self) -> &Readers {
+        &self.readers
+    }
+}
+
+impl Drop for Operators {
+    fn drop(&mut self) {
+        // SAFETY: the handle was leaked from a box in `new`, and is given back once.
+        unsafe {
+            gwb_sys::gwb_close(self.handle());
+            drop(Box::from_raw(self.handle()));
+        }
+    }
+}

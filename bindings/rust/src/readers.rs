@@ -1,0 +1,309 @@
+use crate::{minus, plus, Edge, EdgeRow, Error, Face, FaceRow, HalfEdge, HalfEdgeRow, Id, Loop, Point, Solid, Vertex};
+use gwb_sys::{Gwb, FOUND};
+use std::iter;
+use std::ops::Deref;
+use std::ptr::NonNull;
+
+type After = unsafe extern "C" fn(*mut Gwb, u32, u32, *mut u32) -> u32;
+
+/// The readers of a [`Session`](crate::Session), which has them all: they walk the model that it holds, in a draft the draft's.
+///
+/// Numbers, rising, come as an iterator whose `size_hint` says that there are at most so many as are left of 1,000,000. Where what is asked for is
+/// not in use, readers find nothing.
+pub struct Readers {
+    handle: NonNull<Gwb>,
+}
+
+// SAFETY, for all calls in this file: the handle is open for as long as there are readers, and none but readers is called while they are borrowed.
+// Each call works on a copy of the handle of its own, and what it writes to is a value of its own.
+impl Readers {
+    pub(crate) fn new(handle: NonNull<Gwb>) -> Self {
+        Self { handle }
+    }
+
+    pub(crate) fn handle(&self) -> *mut Gwb {
+        self.handle.as_ptr()
+    }
+
+    /// A copy of the handle, for one call.
+    fn lent(&self) -> Gwb {
+        unsafe { self.handle.as_ref() }.lend()
+    }
+
+    /// What a reader writes, where it finds something.
+    pub(crate) fn found<T: Default>(&self, read: impl FnOnce(*mut Gwb, &mut T) -> u32) -> Option<T> {
+        let mut value = T::default();
+        (read(&mut self.lent(), &mut value) == FOUND).then_some(value)
+    }
+
+    /// How many commands can be undone: none while a draft is open.
+    #[must_use]
+    pub fn depth(&self) -> usize {
+        unsafe { gwb_sys::gwb_lent_depth(&mut self.lent()) }
+    }
+
+    /// How many commands can be redone: none while a draft is open.
+    #[must_use]
+    pub fn ahead(&self) -> usize {
+        unsafe { gwb_sys::gwb_lent_ahead(&mut self.lent()) }
+    }
+
+    /// The text of the last answer, its newline included.
+    ///
+    /// # Errors
+    /// [`Error::Memory`].
+    pub fn reply(&self) -> Result<String, Error> {
+        let mut text = vec![0; 256];
+        let mut length = self.written(&mut text)?;
+        if length > text.len() {
+            text.resize(length, 0);
+            length = self.written(&mut text)?;
+        }
+        text.truncate(length);
+        Ok(String::from_utf8_lossy(&text).into_owned())
+    }
+
+    /// Writes the last answer as far as there is room, and returns its whole length.
+    fn written(&self, room: &mut [u8]) -> Result<usize, Error> {
+        match unsafe { gwb_sys::gwb_lent_reply(&mut self.lent(), room.as_mut_ptr(), room.len()) } {
+            usize::MAX => Err(Error::Memory),
+            length => Ok(length),
+        }
+    }
+
+    /// The numbers of a kind in use, rising: `numbers::<Edge>()`.
+    pub fn numbers<N: Id>(&self) -> Numbers<'_, N> {
+        Numbers::new(self, gwb_sys::gwb_lent_number_after, N::KIND)
+    }
+
+    /// The faces of a solid, rising.
+    pub fn faces(&self, solid: Solid) -> Numbers<'_, Face> {
+        Numbers::new(self, gwb_sys::gwb_lent_face_after, solid.0)
+    }
+
+    /// The rings of a face, rising.
+    pub fn rings(&self, face: Face) -> Numbers<'_, Loop> {
+        Numbers::new(self, gwb_sys::gwb_lent_ring_after, face.0)
+    }
+
+    /// The outer loop of a face, and then its rings.
+    pub fn loops_of(&self, face: Face) -> impl Iterator<Item = Loop> + '_ {
+        self.face(face).map(|row| row.outer_loop).into_iter().chain(self.rings(face))
+    }
+
+    /// The half-edges of all loops of a face, one loop after another.
+    pub fn half_edges_of(&self, face: Face) -> impl Iterator<Item = HalfEdge> + '_ {
+        self.loops_of(face).flat_map(move |of_loop| self.around(of_loop))
+    }
+
+    /// The edges of a face, each once, also where the face lies on both sides of it.
+    pub fn edges_of(&self, face: Face) -> impl Iterator<Item = Edge> + '_ {
+        let is_new = move |half_edge: &HalfEdge| !half_edge.is_second() || self.face_of(half_edge.twin()) != Some(face);
+        self.half_edges_of(face).filter(is_new).map(HalfEdge::edge)
+    }
+
+    /// The half-edges of a loop in their order round it, from any of them on.
+    pub fn around(&self, of_loop: Loop) -> impl Iterator<Item = HalfEdge> + '_ {
+        let first = self.half_edge(of_loop.0, gwb_sys::gwb_lent_first_half_edge);
+        iter::successors(first, move |&at| self.next(at).filter(|next| Some(*next) != first))
+    }
+
+    /// The half-edges that start at a vertex, in their order round it, from any of them on. It looks for the first among all edges; where a
+    /// half-edge is at hand, [`around_start`](Self::around_start) needs no search.
+    pub fn around_vertex(&self, vertex: Vertex) -> impl Iterator<Item = HalfEdge> + '_ {
+        self.half_edge(vertex.0, gwb_sys::gwb_lent_vertex_half_edge).into_iter().flat_map(move |first| self.around_start(first))
+    }
+
+    /// The half-edges that start where this one does, in their order round that vertex, from it on.
+    pub fn around_start(&self, first: HalfEdge) -> impl Iterator<Item = HalfEdge> + '_ {
+        let is_there = self.loop_of(first).is_some();
+        iter::successors(is_there.then_some(first), move |&at| self.next(at.twin()).filter(|&next| next != first))
+    }
+
+    /// The half-edges of a loop, from the least on; none where it has one vertex and no edge.
+    #[must_use]
+    pub fn half_edges(&self, of_loop: Loop) -> Vec<HalfEdge> {
+        let mut found: Vec<_> = self.around(of_loop).collect();
+        let least = (0..found.len()).min_by_key(|&at| found[at]).unwrap_or(0);
+        found.rotate_left(least);
+        found
+    }
+
+    /// What is held of a face.
+    #[must_use]
+    pub fn face(&self, face: Face) -> Option<FaceRow> {
+        self.found(|g, row| unsafe { gwb_sys::gwb_lent_face(g, face.0, row) }).map(FaceRow::from)
+    }
+
+    /// What is held of an edge.
+    #[must_use]
+    pub fn edge(&self, edge: Edge) -> Option<EdgeRow> {
+        self.found(|g, row| unsafe { gwb_sys::gwb_lent_edge(g, edge.0, row) }).map(EdgeRow::from)
+    }
+
+    /// Where a vertex lies.
+    #[must_use]
+    pub fn vertex(&self, vertex: Vertex) -> Option<Point> {
+        self.found(|g, point| unsafe { gwb_sys::gwb_lent_vertex(g, vertex.0, point) }).map(Point::from)
+    }
+
+    /// The vertex of a loop that has one and no edge.
+    #[must_use]
+    pub fn lone_vertex(&self, of_loop: Loop) -> Option<Vertex> {
+        self.found(|g, vertex| unsafe { gwb_sys::gwb_lent_lone_vertex(g, of_loop.0, vertex) }).map(Vertex)
+    }
+
+    /// The half-edge after another in its loop.
+    #[must_use]
+    pub fn next(&self, half_edge: HalfEdge) -> Option<HalfEdge> {
+        self.half_edge(half_edge.code(), gwb_sys::gwb_lent_next_half_edge)
+    }
+
+    /// The half-edge before another in its loop.
+    #[must_use]
+    pub fn previous(&self, half_edge: HalfEdge) -> Option<HalfEdge> {
+        self.half_edge(half_edge.code(), gwb_sys::gwb_lent_previous_half_edge)
+    }
+
+    /// The loop in which a half-edge stands.
+    #[must_use]
+    pub fn loop_of(&self, half_edge: HalfEdge) -> Option<Loop> {
+        self.found(|g, of_loop| unsafe { gwb_sys::gwb_lent_half_edge_loop(g, half_edge.code(), of_loop) }).map(Loop)
+    }
+
+    /// The face of a loop.
+    #[must_use]
+    pub fn face_of_loop(&self, of_loop: Loop) -> Option<Face> {
+        self.found(|g, face| unsafe { gwb_sys::gwb_lent_loop(g, of_loop.0, face) }).map(Face)
+    }
+
+    /// The face on whose side a half-edge stands.
+    #[must_use]
+    pub fn face_of(&self, half_edge: HalfEdge) -> Option<Face> {
+        self.face_of_loop(self.loop_of(half_edge)?)
+    }
+
+    /// The vertex at which a half-edge starts.
+    #[must_use]
+    pub fn start_of(&self, half_edge: HalfEdge) -> Option<Vertex> {
+        let ends = self.edge(half_edge.edge())?;
+        Some(if half_edge.is_second() { ends.to } else { ends.from })
+    }
+
+    /// The vertex at which a half-edge ends.
+    #[must_use]
+    pub fn end_of(&self, half_edge: HalfEdge) -> Option<Vertex> {
+        self.start_of(half_edge.twin())
+    }
+
+    /// The faces on both sides of an edge, that of its first half-edge first; they may be one.
+    #[must_use]
+    pub fn faces_of(&self, edge: Edge) -> Option<[Face; 2]> {
+        Some([self.face_of(plus(edge))?, self.face_of(minus(edge))?])
+    }
+
+    /// The half-edges of a solid, of all where none is given, with their vertices, neighbours, loops and faces: those of one loop one after
+    /// another in their order round it, the outer loop of each face before its rings, faces and rings rising.
+    #[must_use]
+    pub fn half_edge_rows(&self, solid: impl Into<Option<Solid>>) -> Vec<HalfEdgeRow> {
+        let solid = solid.into().unwrap_or_default();
+        let rows = rows(|rows: *mut gwb_sys::HalfEdgeRow, room| unsafe { gwb_sys::gwb_read_half_edges(self.handle(), solid.0, rows, room) });
+        rows.into_iter().map(HalfEdgeRow::from).collect()
+    }
+
+    /// All vertices with their points, rising.
+    #[must_use]
+    pub fn vertex_rows(&self) -> Vec<(Vertex, Point)> {
+        let rows = rows(|rows: *mut gwb_sys::VertexRow, room| unsafe { gwb_sys::gwb_read_vertices(self.handle(), rows, room) });
+        rows.into_iter().map(|row| (Vertex(row.vertex), row.point.into())).collect()
+    }
+
+    /// The greatest number of a kind in use, if any is: `greatest::<Edge>()`.
+    #[must_use]
+    pub fn greatest<N: Id>(&self) -> Option<N> {
+        let number = unsafe { gwb_sys::gwb_greatest_number(self.handle(), N::KIND) };
+        u32::try_from(number).ok().filter(|&number| number != 0).map(N::from_number)
+    }
+
+    /// The number above all of a kind in use, which is out of range where no greater one is.
+    #[must_use]
+    pub fn next_free<N: Id>(&self) -> N {
+        N::from_number(self.greatest::<N>().map_or(1, |greatest| greatest.number() + 1))
+    }
+
+    /// What a reader of a half-edge finds.
+    fn half_edge(&self, of: u32, read: unsafe extern "C" fn(*mut Gwb, u32, *mut u32) -> u32) -> Option<HalfEdge> {
+        self.found(|g, found| unsafe { read(g, of, found) }).map(HalfEdge::from_code)
+    }
+}
+
+/// All rows that a call writes, which is given room for them first.
+fn rows<T: Clone + Default>(write: impl Fn(*mut T, usize) -> usize) -> Vec<T> {
+    let mut rows = vec![T::default(); write(&mut T::default(), 0)];
+    write(rows.as_mut_ptr(), rows.len());
+    rows
+}
+
+/// Numbers in use, rising: of a kind, the faces of a solid, or the rings of a face.
+#[derive(Clone)]
+#[must_use = "iterators do nothing unless they are gone through"]
+pub struct Numbers<'session, N> {
+    readers: &'session Readers,
+    after: After,
+    owner: u32,
+    last: u32,
+    kind: std::marker::PhantomData<N>,
+}
+
+const GREATEST_NUMBER: u32 = 1_000_000;
+
+impl<'session, N: Id> Numbers<'session, N> {
+    fn new(readers: &'session Readers, after: After, owner: u32) -> Self {
+        Self { readers, after, owner, last: 0, kind: std::marker::PhantomData }
+    }
+}
+
+impl<N: Id> Iterator for Numbers<'_, N> {
+    type Item = N;
+
+    fn next(&mut self) -> Option<N> {
+        // SAFETY: as above.
+        let found = self.readers.found(|g, number| unsafe { (self.after)(g, self.owner, self.last, number) });
+        if let Some(number) = found {
+            self.last = number;
+        }
+        found.map(N::from_number)
+    }
+
+    fn size_hint(&self) -> (usize, Option<usize>) {
+        (0, usize::try_from(GREATEST_NUMBER.saturating_sub(self.last)).ok())
+    }
+}
+
+impl<N: Id> iter::FusedIterator for Numbers<'_, N> {}
+
+/// The [`Readers`] of a session for many threads at once, as long as it is borrowed: [`Session::shared`](crate::Session::shared).
+#[derive(Clone, Copy)]
+pub struct Shared<'session> {
+    readers: &'session Readers,
+}
+
+// SAFETY: the session is borrowed mutably for 'session, so none of its calls but readers is made, and of those many may run at once (gwb.h): each
+// works on a copy of the handle. What they borrow of `Readers` can't leave the thread, since that is not Sync.
+unsafe impl Send for Shared<'_> {}
+// SAFETY: the same.
+unsafe impl Sync for Shared<'_> {}
+
+impl<'session> Shared<'session> {
+    pub(crate) fn new(readers: &'session Readers) -> Self {
+        Self { readers }
+    }
+}
+
+impl Deref for Shared<'_> {
+    type Target = Readers;
+
+    fn deref(&self) -> &Readers {
+        self.readers
+    }
+}

@@ -1,0 +1,252 @@
+//! The calls of gwb.h, and the types that they take, as C has them. `gwb` has them for Rust.
+//!
+//! What a caller owes stands at the head of `bindings/include/gwb.h`; nothing here checks it. The readers are the exports `gwb_lent_*`, which are
+//! given a copy of the handle: [`Gwb::lend`] makes it.
+#![no_std]
+#![warn(missing_docs)]
+#![allow(clippy::missing_safety_doc)] // all of it is in gwb.h
+
+use core::ffi::c_void;
+
+/// The first number of the version times 10,000, the second times 100, and the third: the version of the library that these calls are of.
+pub const VERSION: u32 = 10_100;
+
+/// A handle: a session, or closed.
+#[repr(C)]
+#[derive(Debug)]
+pub struct Gwb {
+    is_open: bool,
+    held: *mut c_void,
+}
+
+impl Gwb {
+    /// A handle without a session.
+    pub const CLOSED: Self = Self { is_open: false, held: core::ptr::null_mut() };
+
+    /// A copy for a reader. It is to be dropped when the reader has answered, and given to no other call.
+    #[must_use]
+    pub const fn lend(&self) -> Self {
+        Self { is_open: self.is_open, held: self.held }
+    }
+
+    /// Whether there is a session.
+    #[must_use]
+    pub const fn is_open(&self) -> bool {
+        self.is_open
+    }
+}
+
+/// The kinds of answers.
+pub mod kind {
+    /// A blank line or a comment.
+    pub const SILENT: u32 = 0;
+    /// The command was accepted.
+    pub const OK: u32 = 1;
+    /// A condition is false.
+    pub const REFUSED: u32 = 2;
+    /// The line is no command.
+    pub const FAULT: u32 = 3;
+    /// Memory was refused.
+    pub const MEMORY: u32 = 4;
+    /// The plane of a face.
+    pub const PLANE: u32 = 5;
+    /// Six times the volume of a solid.
+    pub const VOLUME: u32 = 6;
+    /// The counts of a solid.
+    pub const COUNT: u32 = 7;
+    /// The listing of the model.
+    pub const LISTING: u32 = 8;
+    /// The handle is closed.
+    pub const CLOSED: u32 = 9;
+    /// The arguments make no command.
+    pub const NO_CALL: u32 = 10;
+    /// A draft has no such call.
+    pub const IN_DRAFT: u32 = 11;
+    /// Only a draft has this call.
+    pub const NO_DRAFT: u32 = 12;
+}
+
+/// What a reader says where it has written its value.
+pub const FOUND: u32 = 1;
+
+/// The greatest edge that has half-edges as numbers; it is far above all that can be in use.
+pub const GREATEST_EDGE: u32 = 0x3FFF_FFFF;
+
+macro_rules! rows {
+    ($($(#[$doc:meta])* $name:ident { $($(#[$field_doc:meta])* $field:ident: $of:ty),+ })+) => {
+        $(
+            $(#[$doc])*
+            #[repr(C)]
+            #[derive(Clone, Copy, Debug, Default, PartialEq, Eq, Hash)]
+            pub struct $name {
+                $($(#[$field_doc])* pub $field: $of),+
+            }
+        )+
+    };
+}
+
+rows! {
+    /// Which condition of a command was false.
+    Refusal {
+        /// Of the condition.
+        number: u32,
+        /// That goes with it.
+        value: u32
+    }
+    /// high * 2^64 + low
+    Wide {
+        /// The upper half, with the sign.
+        high: i64,
+        /// The lower half.
+        low: u64
+    }
+    /// How many parts a solid has.
+    Counts {
+        #[allow(missing_docs)]
+        vertices: i64,
+        #[allow(missing_docs)]
+        edges: i64,
+        #[allow(missing_docs)]
+        faces: i64,
+        #[allow(missing_docs)]
+        rings: i64,
+        /// vertices - edges + faces - rings
+        sum: i64
+    }
+    /// On the plane a x + b y + c z + d is 0.
+    Plane {
+        #[allow(missing_docs)]
+        a: Wide,
+        #[allow(missing_docs)]
+        b: Wide,
+        #[allow(missing_docs)]
+        c: Wide,
+        #[allow(missing_docs)]
+        d: Wide,
+        /// 1 where the face is flat, 0 where it is bent.
+        flat: u32
+    }
+    /// The numbers from the first to the last.
+    Range {
+        #[allow(missing_docs)]
+        first: u32,
+        #[allow(missing_docs)]
+        last: u32
+    }
+    /// A face.
+    FaceRow {
+        #[allow(missing_docs)]
+        solid: u32,
+        #[allow(missing_docs)]
+        outer_loop: u32
+    }
+    /// An edge, by its vertices.
+    EdgeRow {
+        /// Where its first half-edge starts.
+        from: u32,
+        /// Where its second half-edge starts.
+        to: u32
+    }
+    /// A point, or a vector.
+    Point {
+        #[allow(missing_docs)]
+        x: i64,
+        #[allow(missing_docs)]
+        y: i64,
+        #[allow(missing_docs)]
+        z: i64
+    }
+    /// A half-edge, and where it stands.
+    HalfEdgeRow {
+        #[allow(missing_docs)]
+        half_edge: u32,
+        /// The vertex at which it starts.
+        start: u32,
+        /// The half-edge after it in its loop.
+        next: u32,
+        /// Its loop.
+        of_loop: u32,
+        /// Its face.
+        face: u32
+    }
+    /// A vertex, and where it lies.
+    VertexRow {
+        #[allow(missing_docs)]
+        vertex: u32,
+        #[allow(missing_docs)]
+        point: Point
+    }
+}
+
+impl From<Wide> for i128 {
+    fn from(wide: Wide) -> Self {
+        Self::from(wide.high) << 64 | Self::from(wide.low)
+    }
+}
+
+#[allow(missing_docs)] // gwb.h says what each does
+extern "C" {
+    pub fn gwb_version() -> u32;
+
+    pub fn gwb_open(g: *mut Gwb) -> bool;
+    pub fn gwb_close(g: *mut Gwb);
+    pub fn gwb_line(g: *mut Gwb, line: *const u8, n: usize) -> u32;
+    pub fn gwb_lent_reply(copy: *mut Gwb, buf: *mut u8, room: usize) -> usize;
+    pub fn gwb_lent_depth(copy: *mut Gwb) -> usize;
+    pub fn gwb_lent_ahead(copy: *mut Gwb) -> usize;
+
+    pub fn gwb_lent_last_refusal(copy: *mut Gwb, refusal: *mut Refusal) -> u32;
+    pub fn gwb_lent_last_fault(copy: *mut Gwb, number: *mut u32) -> u32;
+    pub fn gwb_lent_last_volume(copy: *mut Gwb, six_volumes: *mut Wide) -> u32;
+    pub fn gwb_lent_last_counts(copy: *mut Gwb, counts: *mut Counts) -> u32;
+    pub fn gwb_lent_last_plane(copy: *mut Gwb, plane: *mut Plane) -> u32;
+    pub fn gwb_lent_fresh(copy: *mut Gwb, entity: u32, range: *mut Range) -> u32;
+
+    pub fn gwb_lent_number_after(copy: *mut Gwb, entity: u32, n: u32, number: *mut u32) -> u32;
+    pub fn gwb_lent_face(copy: *mut Gwb, face: u32, row: *mut FaceRow) -> u32;
+    pub fn gwb_lent_ring_after(copy: *mut Gwb, face: u32, n: u32, ring: *mut u32) -> u32;
+    pub fn gwb_lent_face_after(copy: *mut Gwb, solid: u32, n: u32, face: *mut u32) -> u32;
+    pub fn gwb_lent_loop(copy: *mut Gwb, l: u32, face: *mut u32) -> u32;
+    pub fn gwb_lent_lone_vertex(copy: *mut Gwb, l: u32, vertex: *mut u32) -> u32;
+    pub fn gwb_lent_half_edges(copy: *mut Gwb, l: u32, buf: *mut u32, room: usize) -> usize;
+    pub fn gwb_lent_next_half_edge(copy: *mut Gwb, half_edge: u32, next: *mut u32) -> u32;
+    pub fn gwb_lent_previous_half_edge(copy: *mut Gwb, half_edge: u32, previous: *mut u32) -> u32;
+    pub fn gwb_lent_half_edge_loop(copy: *mut Gwb, half_edge: u32, l: *mut u32) -> u32;
+    pub fn gwb_lent_first_half_edge(copy: *mut Gwb, l: u32, half_edge: *mut u32) -> u32;
+    pub fn gwb_lent_vertex_half_edge(copy: *mut Gwb, vertex: u32, half_edge: *mut u32) -> u32;
+    pub fn gwb_lent_edge(copy: *mut Gwb, edge: u32, row: *mut EdgeRow) -> u32;
+    pub fn gwb_lent_vertex(copy: *mut Gwb, vertex: u32, point: *mut Point) -> u32;
+
+    pub fn gwb_mvfs(g: *mut Gwb, solid: u32, face: u32, l: u32, vertex: u32, x: i64, y: i64, z: i64) -> u32;
+    pub fn gwb_kvfs(g: *mut Gwb, solid: u32) -> u32;
+    pub fn gwb_mev(g: *mut Gwb, corner: u32, other: u32, edge: u32, vertex: u32, x: i64, y: i64, z: i64) -> u32;
+    pub fn gwb_kev(g: *mut Gwb, half_edge: u32) -> u32;
+    pub fn gwb_mef(g: *mut Gwb, half_edge: u32, other: u32, edge: u32, face: u32, l: u32) -> u32;
+    pub fn gwb_kef(g: *mut Gwb, half_edge: u32) -> u32;
+    pub fn gwb_kemr(g: *mut Gwb, half_edge: u32, ring: u32) -> u32;
+    pub fn gwb_mekr(g: *mut Gwb, corner: u32, other: u32, edge: u32) -> u32;
+    pub fn gwb_kfmrh(g: *mut Gwb, face: u32, other: u32) -> u32;
+    pub fn gwb_mfkrh(g: *mut Gwb, ring: u32, face: u32) -> u32;
+    pub fn gwb_ringmv(g: *mut Gwb, ring: u32, face: u32, out: u32) -> u32;
+    pub fn gwb_outer(g: *mut Gwb, ring: u32, face: u32) -> u32;
+    pub fn gwb_merge(g: *mut Gwb, solid: u32, other: u32) -> u32;
+    pub fn gwb_part(g: *mut Gwb, faces: *const u32, n: usize, solid: u32) -> u32;
+    pub fn gwb_lamina(g: *mut Gwb, solid: u32, points: *const Point, n: usize) -> u32;
+    pub fn gwb_block(g: *mut Gwb, solid: u32, x: i64, y: i64, z: i64, dx: i64, dy: i64, dz: i64) -> u32;
+    pub fn gwb_sweep(g: *mut Gwb, face: u32, dx: i64, dy: i64, dz: i64) -> u32;
+    pub fn gwb_glue(g: *mut Gwb, face: u32, other: u32) -> u32;
+    pub fn gwb_split(g: *mut Gwb, solid: u32, a: i64, b: i64, c: i64, d: i64, above: u32) -> u32;
+    pub fn gwb_draft(g: *mut Gwb) -> u32;
+    pub fn gwb_commit(g: *mut Gwb) -> u32;
+    pub fn gwb_abandon(g: *mut Gwb) -> u32;
+    pub fn gwb_undo(g: *mut Gwb) -> u32;
+    pub fn gwb_redo(g: *mut Gwb) -> u32;
+
+    pub fn gwb_face_plane(g: *mut Gwb, face: u32, plane: *mut Plane) -> u32;
+    pub fn gwb_volume(g: *mut Gwb, solid: u32, six_volumes: *mut Wide) -> u32;
+    pub fn gwb_count(g: *mut Gwb, solid: u32, counts: *mut Counts) -> u32;
+
+    pub fn gwb_read_half_edges(g: *const Gwb, solid: u32, rows: *mut HalfEdgeRow, room: usize) -> usize;
+    pub fn gwb_read_vertices(g: *const Gwb, rows: *mut VertexRow, room: usize) -> usize;
+    pub fn gwb_greatest_number(g: *const Gwb, entity: u32) -> usize;
+}
