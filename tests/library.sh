@@ -130,6 +130,8 @@ for standard in c++17 c++20; do
 done
 built 'the tests without exceptions are built' library_results.cpp "${CXX:-c++}" -std=c++17 -fno-exceptions -Wold-style-cast -Wshadow
 counted 'the tests without exceptions' "$dir/built/library_results"
+built 'history is built' library_history.cpp "${CXX:-c++}" -std=c++17 -Wold-style-cast -Wshadow
+counted 'history, and values that follow it' "$dir/built/library_history"
 built 'threads are built' library_threads.c "${CC:-cc}" -std=gnu11 -O2 -pthread
 counted 'threads that read at once' "$dir/built/library_threads"
 built 'heaps are built' library_heap.c "${CC:-cc}" -std=gnu11 -O2

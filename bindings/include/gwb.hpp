@@ -23,7 +23,7 @@
 #include <charconv>
 #include <cstddef>
 #include <cstdint>
-#include <cstring>
+#include <exception>
 #include <functional>
 #include <initializer_list>
 #include <iterator>
@@ -329,20 +329,25 @@ public:
 struct Throwing {
     template <class T> using Returned = T;
 
-    template <class T> [[noreturn]] static T failed(std::string_view command, Failure failure) { fail(command, failure); }
+    /// Throws as few frames above the caller as it can: each of them costs as much as all that it does itself.
+    template <class T> [[noreturn]] static T failed(std::string_view command, Failure failure)
+    {
+        thrower(failure)(command, failure);
+        std::terminate();
+    }
 
     static void ended(Failure failure)
     {
         if (failure.problem != Problem::absent)
-            fail("a range", failure);
+            failed<void>("a range", failure);
     }
 
 private:
-    using Thrower = void (*)(std::string_view, gwb_refusal);
+    using Thrower = void (*)(std::string_view, Failure);
 
-    template <gwb_why Why> [[noreturn]] static void refuse_by(std::string_view command, gwb_refusal refusal)
+    template <gwb_why Why> [[noreturn]] static void refuse_by(std::string_view command, Failure failure)
     {
-        throw RefusedBy<Why>(command, refusal);
+        throw RefusedBy<Why>(command, gwb_refusal{failure.number, failure.value});
     }
 
     template <std::size_t... Before> static constexpr std::array<Thrower, sizeof...(Before)> throwers(std::index_sequence<Before...>)
@@ -350,19 +355,18 @@ private:
         return {refuse_by<static_cast<gwb_why>(Before + 1)>...};
     }
 
-    /// Throws a refusal in the class of its condition. They are numbered from 1 on.
-    [[noreturn]] static void refuse(std::string_view command, gwb_refusal refusal)
+    /// What throws a failure: a refusal in the class of its condition. They are numbered from 1 on.
+    static Thrower thrower(Failure failure)
     {
         static constexpr auto table = throwers(std::make_index_sequence<GWB_WHY_BAD_PART>());
-        if (1 <= refusal.number && refusal.number <= table.size())
-            table[refusal.number - 1](command, refusal);
-        throw Refused(command, refusal);
+        const bool is_known = failure.problem == Problem::refused && failure.number - 1 < table.size();
+        return is_known ? table[failure.number - 1] : fail;
     }
 
     [[noreturn]] static void fail(std::string_view command, Failure failure)
     {
         switch (failure.problem) {
-        case Problem::refused: refuse(command, {failure.number, failure.value});
+        case Problem::refused: throw Refused(command, {failure.number, failure.value}); // of a library that is newer than this
         case Problem::fault: throw Faulted(command, failure.number);
         case Problem::memory: throw std::bad_alloc();
         case Problem::no_call: throw NoCall(command);

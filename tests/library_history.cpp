@@ -1,0 +1,132 @@
+// Tries gwb_history.hpp: what commands made, removed and split, and values on faces and edges that follow it. The last line counts.
+#include "gwb_history.hpp"
+#include <array>
+#include <iostream>
+#include <numeric>
+#include <string>
+
+using namespace gwb_session;
+
+static int passed = 0, failed = 0;
+
+static void check(bool holds, const char *what)
+{
+    (holds ? passed : failed)++;
+    if (!holds)
+        std::cout << what << '\n';
+}
+
+template <class Kind> static std::vector<std::array<std::uint32_t, 2>> told(const std::vector<Change<Kind>> &changes)
+{
+    std::vector<std::array<std::uint32_t, 2>> found;
+    for (const Change<Kind> &change : changes)
+        found.push_back({change.id.number(), change.other.number()});
+    return found;
+}
+
+using Told = std::vector<std::array<std::uint32_t, 2>>;
+
+static void try_operators()
+{
+    Workbench bench;
+    const Solid block = bench.block({0, 0, 0}, {4, 4, 4});
+    Changes changes = follow(bench, [&] { bench.mef(plus(Edge(7)), plus(Edge(11)), Edge(20), Face(20), Loop(20)); });
+    check(told(changes.faces.made) == Told{{20, 1}} && changes.faces.removed.empty(), "a face that is split from another");
+    check(told(changes.edges.made) == Told{{20, 0}} && changes.edges.removed.empty(), "an edge across a face");
+    changes = follow(bench, [&] { bench.kef(plus(Edge(20))); });
+    check(changes.faces.made.empty() && told(changes.edges.removed) == Told{{20, 0}}, "an edge that goes");
+    check(changes.faces.removed.size() == 1 && changes.faces.removed[0].other != Face(), "a face that is joined to another");
+    // edge 7 is divided half way: what starts round its first vertex, but for itself, starts at the new one
+    const Point from = bench.vertex(bench.start_of(plus(Edge(7)))), to = bench.vertex(bench.end_of(plus(Edge(7))));
+    const Point middle = {(from.x + to.x) / 2, (from.y + to.y) / 2, (from.z + to.z) / 2};
+    changes = follow(bench, [&] { bench.mev(plus(Edge(7)), bench.next(minus(Edge(7))), Edge(30), Vertex(30), middle); });
+    check(told(changes.edges.made) == Told{{30, 7}} && changes.faces.made.empty(), "an edge that is divided");
+    changes = follow(bench, [&] { bench.block({9, 9, 9}, {1, 1, 1}); });
+    check(changes.faces.made.size() == 6 && changes.edges.made.size() == 12 && changes.faces.made[0].other == Face(), "what a block makes");
+    check(bench.count(block).faces == 6, "the block is there");
+}
+
+// The plane of a face with its coefficients divided by what they have in common: faces on one plane that look one way have the same.
+static std::array<std::int64_t, 4> plane_of(const Workbench &bench, Face face)
+{
+    const gwb_plane plane = bench.plane(face);
+    std::array<std::int64_t, 4> parts = {narrow(plane.a), narrow(plane.b), narrow(plane.c), narrow(plane.d)};
+    const std::int64_t common = std::gcd(std::gcd(parts[0], parts[1]), std::gcd(parts[2], parts[3]));
+    for (std::int64_t &part : parts)
+        part /= common;
+    return parts;
+}
+
+using Colours = Notes<Face, std::array<std::int64_t, 4>>;
+
+// Each face that has a colour lies on the plane that it was given for; the others lie on one of the planes that cut.
+static bool are_right(const Workbench &bench, const Colours &colours, std::size_t coloured, std::size_t all)
+{
+    std::size_t with = 0, faces = 0;
+    for (Face face : bench.numbers<Face>()) {
+        faces++;
+        if (const auto *colour = colours.find(face))
+            with += *colour == plane_of(bench, face);
+    }
+    return with == coloured && faces == all && colours.all().size() == coloured;
+}
+
+// A block with a pocket, whose faces are coloured by their planes, is cut, and cut again through the pocket and across a corner.
+static void try_splits()
+{
+    Workbench bench;
+    const Solid block = bench.block({0, 0, 0}, {12, 12, 12});
+    Colours colours;
+    Notes<Edge, int> marks;
+    for (Face face : bench.faces(block))
+        colours[face] = plane_of(bench, face);
+    marks[Edge(7)] = 7;
+    follow(bench, [&] { bench.split(block, 0, 0, 1, -6, Solid(2)); }, colours, marks);
+    check(are_right(bench, colours, 10, 12), "four faces of six are cut, and have their colours on both sides");
+    follow(bench, [&] { bench.split(Solid(2), 1, 0, 0, -6, Solid(3)); }, colours, marks);
+    check(are_right(bench, colours, 13, 18), "so they are cut again");
+    check(marks.all().size() == 2 && marks.find(Edge(7)) != nullptr, "an edge that is cut has its mark on both parts");
+    follow(bench, [&] { bench.split(Solid(3), 1, 1, 1, -34, Solid(4)); }, colours, marks);
+    check(are_right(bench, colours, 16, 23), "a corner that is cut off has the colours of its faces");
+    const Colours whole = colours;
+    follow_undo(bench, colours, marks);
+    follow_undo(bench, colours, marks);
+    check(are_right(bench, colours, 10, 12), "undo leaves one side");
+    follow_redo(bench, colours, marks);
+    follow_redo(bench, colours, marks);
+    check(are_right(bench, colours, 16, 23) && colours.all() == whole.all(), "redo gives back what was there");
+}
+
+// Faces that a gluing takes have their colours back when it is undone, and not when their numbers are used again.
+static void try_gone()
+{
+    Workbench bench;
+    bench.block(Solid(1), {0, 0, 0}, {4, 4, 4});
+    bench.block(Solid(2), {0, 0, 4}, {4, 4, 4});
+    Notes<Face, std::string> names;
+    names[Face(1)] = "top", names[Face(8)] = "bottom", names[Face(3)] = "side";
+    const Changes changes = follow(bench, [&] { bench.glue(Face(1), Face(8)); }, names);
+    check(told(changes.faces.removed).size() == 2 && names.all().size() == 1 && changes.edges.removed.size() == 4, "what a gluing removes");
+    follow_undo(bench, names);
+    check(names.all().size() == 3 && *names.find(Face(1)) == "top", "undo gives their names back");
+    follow_redo(bench, names);
+    bench.undo();
+    follow(bench, [&] { bench.undo(); bench.block(Solid(2), {0, 0, 4}, {2, 2, 2}); }, names);
+    check(names.find(Face(8)) == nullptr && *names.find(Face(3)) == "side", "another face of the same number has no name");
+    Draft draft = bench.draft();
+    follow(bench, [&] { bench.mef(plus(Edge(5)), bench.next(bench.next(plus(Edge(5)))), Edge(90), Face(90), Loop(90)); }, names);
+    check(bench.face(Face(90)).solid == Solid(1), "notes follow the steps of a draft");
+}
+
+int main()
+{
+    for (void (*part)() : {try_operators, try_splits, try_gone}) {
+        try {
+            part();
+        } catch (const std::exception &thrown) {
+            check(false, thrown.what());
+        }
+    }
+    std::cout << passed << " passed, " << failed << " failed\n";
+    return failed == 0 ? 0 : 1;
+}
