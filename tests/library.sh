@@ -132,6 +132,8 @@ built 'the tests without exceptions are built' library_results.cpp "${CXX:-c++}"
 counted 'the tests without exceptions' "$dir/built/library_results"
 built 'history is built' library_history.cpp "${CXX:-c++}" -std=c++17 -Wold-style-cast -Wshadow
 counted 'history, and values that follow it' "$dir/built/library_history"
+built 'features are built' library_features.cpp "${CXX:-c++}" -std=c++17 -Wold-style-cast -Wshadow
+counted 'solids killed, copied and moved' "$dir/built/library_features"
 built 'threads are built' library_threads.c "${CC:-cc}" -std=gnu11 -O2 -pthread
 counted 'threads that read at once' "$dir/built/library_threads"
 built 'heaps are built' library_heap.c "${CC:-cc}" -std=gnu11 -O2

@@ -1,5 +1,6 @@
 // Tries gwb.hpp in a program without exceptions (-fno-exceptions): a Session, whose calls give Results. The last line counts.
-#include "gwb.hpp"
+#include "gwb_features.hpp"
+#include "gwb_history.hpp"
 #include <cstdio>
 
 #if defined(__cpp_exceptions)
@@ -50,6 +51,17 @@ static void try_drafts(Session &session)
     check(draft->commit().error().problem == Problem::no_draft && *session.depth() == 2, "one that has ended");
 }
 
+static void try_layers(Session &session)
+{
+    Notes<Face, int> notes;
+    Result<Solid> copy = copy_solid(session, Solid(1), Motion::move({9, 0, 0}));
+    check(copy && *copy == Solid(2) && copy_solid(session, Solid(9)).error().is(GWB_WHY_NO_SOLID), "a copy");
+    notes[*session.greatest<Face>()] = 7;
+    const Changes changes = follow(session, [&] { (void)kill_solid(session, *copy); }, notes);
+    check(changes.faces.removed.size() == 6 && notes.all().empty(), "what was killed");
+    check(session.undo() && session.undo(), "both are commands");
+}
+
 static void try_ends(Session session)
 {
     Session moved = std::move(session);
@@ -69,6 +81,7 @@ int main()
     try_commands(*session);
     try_readers(*session);
     try_drafts(*session);
+    try_layers(*session);
     try_ends(std::move(*session));
     std::printf("%d passed, %d failed\n", passed, failed);
     return failed == 0 ? 0 : 1;
