@@ -13,7 +13,7 @@
 #define CALLGRIND_DUMP_STATS_AT(name)
 #endif
 
-enum { ROUNDS = 300, MANY = 10, ROOM = 80 };
+enum { ROUNDS = 300, MANY = 10, ROOM = 120 };
 
 /* ---- calls that only read, on block 1 */
 
@@ -57,6 +57,32 @@ static bool next_half_edge(uint32_t i)
 {
     static uint32_t half_edge = 2;
     return (void)i, gwb_next_half_edge(&g, half_edge, &half_edge) == GWB_FOUND;
+}
+
+static bool previous_half_edge(uint32_t i)
+{
+    static uint32_t half_edge = 2;
+    return (void)i, gwb_previous_half_edge(&g, half_edge, &half_edge) == GWB_FOUND;
+}
+
+static bool half_edge_loop(uint32_t i)
+{
+    uint32_t loop;
+    return gwb_half_edge_loop(&g, 2 + i % 24, &loop) == GWB_FOUND;
+}
+
+static bool vertex_half_edge(uint32_t i)
+{
+    uint32_t half_edge;
+    return gwb_vertex_half_edge(&g, 1 + i % 8, &half_edge) == GWB_FOUND;
+}
+
+static bool greatest_number(uint32_t i) { return (void)i, gwb_greatest_number(&g, GWB_EDGE) == 12; }
+
+static bool all_half_edges(uint32_t i)
+{
+    gwb_half_edge_row rows[24];
+    return (void)i, gwb_read_half_edges(&g, 0, rows, 24) == 24;
 }
 
 static bool half_edges(uint32_t i)
@@ -128,7 +154,12 @@ static void add_readers(void)
     add("`gwb_vertex`", &reading, vertex_point, MANY);
     add("`gwb_face`", &reading, face_row, MANY);
     add("`gwb_next_half_edge`", &reading, next_half_edge, MANY);
+    add("`gwb_previous_half_edge`", &reading, previous_half_edge, MANY);
+    add("`gwb_half_edge_loop`", &reading, half_edge_loop, MANY);
+    add("`gwb_vertex_half_edge`, among 12 edges", &reading, vertex_half_edge, MANY);
     add("`gwb_half_edges`, of four", &reading, half_edges, MANY);
+    add("`gwb_read_half_edges`, of 24", &reading, all_half_edges, MANY);
+    add("`gwb_greatest_number`, edges", &reading, greatest_number, MANY);
     add("`gwb_number_after`, edges", &reading, number_after, MANY);
     add("`gwb_reply` of a `count`", &reading, reply, MANY);
     add("`gwb_line` of a comment", &reading, comment, MANY);
@@ -187,7 +218,7 @@ static const struct cell *failed_in_round(void)
 
 int main(void)
 {
-    const struct way *const ways[] = {&typed_way, &line_way, &plain_way, &cgal_way};
+    const struct way *const ways[] = {&typed_way, &line_way, &cpp_way, &attempt_way, &plain_way, &cgal_way};
     for (size_t at = 0; at < sizeof ways / sizeof *ways && ways[at]->name; at++) {
         if (!ways[at]->begin())
             return 1;

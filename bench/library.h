@@ -1,5 +1,5 @@
 /* The commands that library.c measures, and the ways to give them: library_calls.c over the library, as typed calls and as lines,
- * library_plain.c by the functions of the plain C program, library_cgal.cpp by CGAL's Euler operators. */
+ * library_cpp.cpp by the class for C++, library_plain.c by the functions of the plain C program, library_cgal.cpp by CGAL's Euler operators. */
 #ifndef LIBRARY_H
 #define LIBRARY_H
 #include <stdbool.h>
@@ -24,7 +24,7 @@ struct way {
 #ifdef __cplusplus
 extern "C" {
 #endif
-extern const struct way typed_way, line_way, plain_way;
+extern const struct way typed_way, line_way, cpp_way, attempt_way, plain_way;
 extern const struct way cgal_way; /* its name is NULL where CGAL's headers aren't there */
 #ifdef __cplusplus
 }
