@@ -164,6 +164,7 @@ enum class Problem {
     no_draft, ///< the draft has ended
     absent,   ///< the number is not in use
     changed,  ///< the model has changed since a walk over it began
+    crossed,  ///< loops of the face cross or touch, so it has no triangles
 };
 
 /// Why a call has no value, with its numbers. The model is as it was.
@@ -286,6 +287,16 @@ private:
     std::uint32_t number_;
 };
 
+/// Loops of a face cross or touch, so it has no triangles (gwb_triangles.hpp): the face.
+class Crossed : public Complaint {
+public:
+    Crossed(std::string_view command, std::uint32_t face) : Complaint(Text(command, "loops cross or touch in face", face).c_str()), face_(face) {}
+    [[nodiscard]] Face face() const { return Face(face_); }
+
+private:
+    std::uint32_t face_;
+};
+
 /// A call that its caller had no right to make; nothing has changed.
 class Misused : public std::logic_error {
 public:
@@ -374,6 +385,7 @@ private:
         case Problem::no_draft: throw NoDraft(command);
         case Problem::absent: throw std::out_of_range("there is no " + std::string(command) + " " + std::to_string(failure.value));
         case Problem::changed: throw Changed();
+        case Problem::crossed: throw Crossed(command, failure.value);
         case Problem::closed: break;
         }
         throw Closed();
