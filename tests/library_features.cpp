@@ -179,6 +179,34 @@ static void try_random_triangles()
     }
 }
 
+static void try_guards()
+{
+    Workbench bench;
+    const Solid block = bench.block({0, 0, 0}, {4, 4, 4});
+    const std::string before = bench.listing();
+    try {
+        Guard guard(bench);
+        bench.split(block, 0, 0, 1, -2);
+        bench.block(Solid(9), {9, 9, 9}, {1, 1, 1});
+        bench.kvfs(block);
+    } catch (const RefusedBy<GWB_WHY_NOT_BARE> &) {
+    }
+    check(bench.listing() == before && bench.depth() == 1, "commands that fall together");
+    bench.redo();
+    check(bench.listing() == before && bench.ahead() == 0, "what they did can't be redone");
+    bench.undo();
+    {
+        Guard guard(bench);
+        bench.block(Solid(9), {9, 9, 9}, {1, 1, 1});
+        guard.keep();
+        bench.block(Solid(8), {20, 9, 9}, {1, 1, 1});
+    }
+    check(bench.faces(Solid(8)).empty() && !bench.faces(Solid(9)).empty() && bench.depth() == 2, "what was kept stays");
+    bench.undo();
+    { Guard guard(bench); }
+    check(bench.ahead() == 2, "where none is given, what can be redone still can");
+}
+
 static void try_no_triangles()
 {
     Workbench bench;
@@ -258,6 +286,7 @@ int main()
         try_triangles("a lone ring", lone_ring);
         try_random_triangles();
         try_no_triangles();
+        try_guards();
     } catch (const std::exception &thrown) {
         check(false, thrown.what());
     }

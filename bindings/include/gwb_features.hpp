@@ -15,6 +15,45 @@
 
 namespace gwb_session {
 
+/// Commands that stand or fall together, the larger ones too: those given since it began are taken back at the end of its scope, unless it was kept. What
+/// they did can't be redone then; in the place of that stands a command that does nothing. Kept, they are as many to undo as they were.
+class Guard {
+public:
+    template <class Policy> explicit Guard(const Commands<Policy> &bench) : bench_(bench.attempt()), depth_(gwb_depth(bench.handle())) {}
+    Guard(const Guard &) = delete;
+    Guard &operator=(const Guard &) = delete;
+    ~Guard() { take_back(); }
+
+    /// The commands given so far stay.
+    void keep() { depth_ = gwb_depth(bench_.handle()); }
+    /// Those given since it began, or was kept, go.
+    void take_back()
+    {
+        const bool are_any = is_above();
+        while (is_above() && bench_.undo()) {
+        }
+        if (are_any && !is_above() && forget())
+            (void)bench_.undo();
+    }
+
+private:
+    [[nodiscard]] bool is_above() const
+    {
+        const std::size_t depth = gwb_depth(bench_.handle());
+        return depth != SIZE_MAX && depth > depth_;
+    }
+
+    /// Makes a command that does nothing, after which nothing can be redone.
+    bool forget()
+    {
+        Result<Attempts::Draft> nothing = bench_.draft();
+        return nothing && nothing->commit();
+    }
+
+    Attempts bench_;
+    std::size_t depth_;
+};
+
 /// Where points go: each axis to an axis, either way round, and then by a vector.
 class Motion {
 public:
