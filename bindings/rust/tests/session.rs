@@ -1,5 +1,7 @@
 //! A session from outside: what commands make, what refuses them, and what readers find.
-use gwb::{lone, minus, plus, version, Draft, Edge, EdgeRow, Error, Face, FaceRow, HalfEdge, Loop, Point, Refusal, Session, Solid, Vertex};
+use gwb::{
+    lone, minus, plus, version, Change, Draft, Edge, EdgeRow, Error, Face, FaceRow, HalfEdge, Loop, Notes, Plane, Point, Refusal, Session, Solid, Vertex,
+};
 
 const NO_POINTS: [Point; 0] = [];
 
@@ -319,6 +321,57 @@ fn all_rows_come_at_once() {
     }
     assert_eq!((rows.len(), session.half_edge_rows(above).len(), session.half_edge_rows(Solid(9)).len()), (48, 24, 0));
     assert!(session.vertex_rows().iter().all(|&(vertex, point)| session.vertex(vertex) == Some(point)));
+}
+
+/// The plane of a face, whose coefficients have nothing in common.
+fn plane_of(session: &Session, face: Face) -> [i128; 4] {
+    let Plane { a, b, c, d, .. } = session.plane(face).unwrap();
+    let common = [a, b, c, d].into_iter().fold(0, |common: i128, part| {
+        let (mut common, mut part) = (common, part.abs());
+        while part != 0 {
+            (common, part) = (part, common % part);
+        }
+        common
+    });
+    [a, b, c, d].map(|part| part / common)
+}
+
+#[test]
+fn colours_follow_splits() {
+    let mut session = Session::new().unwrap();
+    let block = session.block(None, [0, 0, 0], [12, 12, 12]).unwrap();
+    let mut colours = Notes::new();
+    for face in session.faces(block) {
+        colours.insert(face, plane_of(&session, face));
+    }
+    let mut counts = Vec::new();
+    for (solid, plane, above) in [(1, [0, 0, 1, -6], 2), (2, [1, 0, 0, -6], 3), (3, [1, 1, 1, -34], 4)] {
+        let (_, changes) = session.followed(|session| session.split(Solid(solid), plane, Solid(above))).unwrap();
+        colours.follow(&changes);
+        assert!(colours.iter().all(|(face, plane)| *plane == plane_of(&session, face)));
+        counts.push((colours.iter().count(), session.numbers::<Face>().count()));
+    }
+    assert_eq!(counts, [(10, 12), (13, 18), (16, 23)]);
+    let whole = colours.clone();
+    for turn in [Session::undo, Session::undo, Session::redo, Session::redo] {
+        let ((), changes) = session.followed(turn).unwrap();
+        colours.follow_turn(&changes);
+    }
+    assert!(colours.iter().eq(whole.iter()));
+}
+
+#[test]
+fn what_operators_did_is_known() {
+    let mut session = block();
+    let (_, changes) = session.followed(|session| session.mef(plus(Edge(7)), plus(Edge(11)), Edge(20), Face(20), Loop(20))).unwrap();
+    assert_eq!(changes.faces.made, [Change { id: Face(20), other: Some(Face(1)) }]);
+    assert_eq!((changes.edges.made, changes.edges.removed), (vec![Change { id: Edge(20), other: None }], vec![]));
+    assert_eq!(session.followed(|session| session.kvfs(Solid(1))), refused(Refusal::NotBare, 1));
+    let after = session.next(minus(Edge(7))).unwrap();
+    let ends = session.edge(Edge(7)).map(|row| (session.vertex(row.from).unwrap(), session.vertex(row.to).unwrap())).unwrap();
+    let middle = [(ends.0.x + ends.1.x) / 2, (ends.0.y + ends.1.y) / 2, (ends.0.z + ends.1.z) / 2];
+    let (_, changes) = session.followed(|session| session.mev(plus(Edge(7)), after, Edge(30), None, middle)).unwrap();
+    assert_eq!(changes.edges.made, [Change { id: Edge(30), other: Some(Edge(7)) }]);
 }
 
 #[test]
