@@ -1,6 +1,6 @@
-/* The heap that the archive asks for: that of the C library, or the one that a thread uses. Whoever has a heap for the whole program writes the three
- * functions rattle_* over it: one allocator for all three, blocks aligned to each power of two up to 16 that divides their size. Where there is
- * no memory, `ok` is false and `at` points to any byte. */
+/* The heap that the archive asks for: that of the C library, or the one that a thread uses. Whoever has a heap for the whole program writes
+ * the three functions rattle_* over it: one allocator for all three, blocks aligned to each power of two up to 16 that divides their size.
+ * Where there is no memory, `ok` is false and `at` points to any byte. */
 #include "gwb.h"
 #include <stdlib.h>
 

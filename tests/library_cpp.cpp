@@ -88,9 +88,13 @@ static void try_bounds()
     check(gwb_lone(0x80000002) == UINT32_MAX && GWB_LONE(2) == 0x80000002, "loops in C");
     Workbench bench;
     bench.mvfs(Solid(1), Face(1), Loop(2), Vertex(1), {0, 0, 0});
-    check(throws<RefusedBy<GWB_WHY_NUMBER_RANGE>>([&] { bench.mev(plus(Edge(0x40000001)), plus(Edge(0x40000001)), Edge(1), Vertex(2), {1, 0, 0}); }),
+    check(throws<RefusedBy<GWB_WHY_NUMBER_RANGE>>([&] {
+              bench.mev(plus(Edge(0x40000001)), plus(Edge(0x40000001)), Edge(1), Vertex(2), {1, 0, 0});
+          }),
           "an edge that was a lone loop's corner");
-    check(throws<RefusedBy<GWB_WHY_NUMBER_RANGE>>([&] { bench.mev(lone(Loop(0x80000002)), lone(Loop(0x80000002)), Edge(1), Vertex(2), {1, 0, 0}); }),
+    check(throws<RefusedBy<GWB_WHY_NUMBER_RANGE>>([&] {
+              bench.mev(lone(Loop(0x80000002)), lone(Loop(0x80000002)), Edge(1), Vertex(2), {1, 0, 0});
+          }),
           "a loop that was another's");
     bench.mev(lone(Loop(2)), lone(Loop(2)), Edge(1), Vertex(2), {1, 0, 0});
     check(throws<RefusedBy<GWB_WHY_NUMBER_RANGE>>([&] { bench.kev(plus(Edge(2147483649u))); }), "an edge that was another one");
@@ -155,7 +159,10 @@ static void try_refusals()
     check(throws<RefusedBy<GWB_WHY_NUMBER_RANGE>>([&] { bench.kvfs(Solid()); }), "NumberRange, the first condition");
     check(!throws<RefusedBy<GWB_WHY_NO_SOLID>>([&] { bench.kvfs(Solid(1)); }), "another condition than the one that is false");
     check(throws<Refused>([&] { bench.kev(HalfEdge(UINT32_MAX)); }), "a half-edge that is none");
-    check(throws<RefusedBy<GWB_WHY_NO_LOOP>>([&] { bench.mev(lone(Loop(9)), lone(Loop(9)), Edge(20), Vertex(20), {0, 0, 0}); }), "a corner of no loop");
+    check(throws<RefusedBy<GWB_WHY_NO_LOOP>>([&] {
+              bench.mev(lone(Loop(9)), lone(Loop(9)), Edge(20), Vertex(20), {0, 0, 0});
+          }),
+          "a corner of no loop");
     check(throws<RefusedBy<GWB_WHY_FEW_POINTS>>([&] { bench.lamina(Solid(2), {}); }), "a lamina of no points");
     check(throws<RefusedBy<GWB_WHY_NO_SOLID>>([&] { (void)bench.six_volumes(Solid(9)); }), "the volume of no solid");
     check(throws<RefusedBy<GWB_WHY_NOTHING_TO_REDO>>([&] { bench.redo(); }), "nothing to redo");
@@ -295,7 +302,8 @@ static void try_parts()
     check(throws<RefusedBy<GWB_WHY_BAD_PART>>([&] { bench.part({Face(7), Face(8), Face(9), Face(10), Face(12), Face(11)}, Solid(3)); }),
           "faces whose numbers don't rise");
     check(throws<RefusedBy<GWB_WHY_NO_FACE>>([&] { bench.part({Face(99)}, Solid(3)); }), "a part of a face that is not there");
-    check(throws<NoCall>([&] { bench.part({}, Solid(3)); }) && throws<NoCall>([&] { bench.part(std::vector<Face>(), Solid(3)); }), "a part of no faces");
+    check(throws<NoCall>([&] { bench.part({}, Solid(3)); }) && throws<NoCall>([&] { bench.part(std::vector<Face>(), Solid(3)); }),
+          "a part of no faces");
     bench.part(faces, Solid(3));
     check(narrow(bench.six_volumes(Solid(1))) == 384 && narrow(bench.six_volumes(Solid(3))) == 6, "two solids that were one");
     bench.undo();
@@ -313,7 +321,8 @@ static void try_readers()
     check(bench.previous(plus(Edge(7))) == plus(Edge(12)) && bench.loop_of(plus(Edge(7))) == Loop(1), "the neighbours of a half-edge");
     check(throws<std::out_of_range>([&] { (void)bench.face(Face(7)); }) && throws<std::out_of_range>([&] { (void)bench.vertex(Vertex()); }),
           "numbers not in use");
-    check(throws<std::out_of_range>([&] { (void)bench.faces_of(Edge(13)); }) && throws<std::out_of_range>([&] { (void)bench.end_of(plus(Edge(13))); }),
+    check(throws<std::out_of_range>([&] { (void)bench.faces_of(Edge(13)); }) &&
+              throws<std::out_of_range>([&] { (void)bench.end_of(plus(Edge(13))); }),
           "the neighbours of what is not in use");
     Workbench drawn;
     std::vector<Point> points;
@@ -334,7 +343,8 @@ static void try_neighbours()
         for (HalfEdge half_edge : bench.half_edges_of(face)) {
             const auto faces = bench.faces_of(half_edge.edge());
             sides += faces[half_edge.is_second()] == face && bench.face_of(half_edge) == face;
-            check(bench.next(bench.previous(half_edge)) == half_edge && bench.end_of(half_edge) == bench.start_of(bench.next(half_edge)), "next and previous");
+            check(bench.next(bench.previous(half_edge)) == half_edge && bench.end_of(half_edge) == bench.start_of(bench.next(half_edge)),
+                  "next and previous");
         }
     for (Vertex vertex : bench.numbers<Vertex>())
         for (HalfEdge half_edge : bench.around(vertex))
@@ -367,7 +377,8 @@ static void try_rows()
         are_right = are_right && bench.vertex(Vertex(row.vertex)).z == row.point.z;
     check(are_right && vertices.size() == 16, "all rows at once");
     gwb_half_edge_row few[3] = {};
-    check(gwb_read_half_edges(bench.handle(), 0, few, 2) == 48 && few[1].half_edge == rows[1].half_edge && few[2].half_edge == 0, "too little room");
+    check(gwb_read_half_edges(bench.handle(), 0, few, 2) == 48 && few[1].half_edge == rows[1].half_edge && few[2].half_edge == 0,
+          "too little room");
 }
 
 static void try_fresh()
@@ -403,7 +414,8 @@ static void try_committed_drafts()
     give_steps(bench);
     check(bench.lone_vertex(Loop(7)) == Vertex(9) && bench.count(Solid(1)).vertices == 9, "readers and queries speak of the draft's model");
     check(bench.depth() == 0 && bench.ahead() == 0, "in a draft nothing can be undone");
-    check(throws<RefusedBy<GWB_WHY_LOOP_TAKEN>>([&] { bench.mef(plus(Edge(7)), plus(Edge(9)), Edge(20), Face(20), Loop(1)); }), "a step that is refused");
+    check(throws<RefusedBy<GWB_WHY_LOOP_TAKEN>>([&] { bench.mef(plus(Edge(7)), plus(Edge(9)), Edge(20), Face(20), Loop(1)); }),
+          "a step that is refused");
     check(all(bench.rings(Face(1))) == Wanted{7}, "it leaves the draft open");
     Workbench moved = std::move(bench);
     draft.commit();
@@ -529,7 +541,8 @@ static void try_ranges()
     auto faces = bench.faces(Solid(1));
     check(all(faces) == all(faces) && *std::next(faces.begin(), 3) == Face(4), "a range is gone through as often as wanted");
 #if defined(__cpp_lib_ranges)
-    static_assert(std::forward_iterator<decltype(faces)::iterator> && std::ranges::view<decltype(faces)> && std::ranges::borrowed_range<decltype(faces)>);
+    static_assert(std::forward_iterator<decltype(faces)::iterator> && std::ranges::view<decltype(faces)> &&
+                  std::ranges::borrowed_range<decltype(faces)>);
     check(*std::ranges::find(bench.faces(Solid(1)), Face(5)) == Face(5), "an iterator of a range that is gone");
     auto flat = bench.faces(Solid(1)) | std::views::filter([&](Face face) { return narrow(bench.plane(face).c) > 0; });
     check(std::ranges::distance(flat) == 1, "a range of a range");
@@ -644,9 +657,30 @@ static void try_closed_ones()
 
 int main()
 {
-    for (void (*part)() : {try_types, try_bounds, try_free_numbers, try_chosen_operators, try_measures, try_refusals, try_what_is_said, try_every_refusal,
-                           try_attempts, try_operators, try_solids, try_laminas, try_parts, try_readers, try_neighbours, try_rows, try_fresh,
-                           try_committed_drafts, try_abandoned_drafts, try_stale_drafts, try_what_outlives, try_what_drafts_refuse, try_ranges, try_moves,
+    for (void (*part)() : {try_types,
+                           try_bounds,
+                           try_free_numbers,
+                           try_chosen_operators,
+                           try_measures,
+                           try_refusals,
+                           try_what_is_said,
+                           try_every_refusal,
+                           try_attempts,
+                           try_operators,
+                           try_solids,
+                           try_laminas,
+                           try_parts,
+                           try_readers,
+                           try_neighbours,
+                           try_rows,
+                           try_fresh,
+                           try_committed_drafts,
+                           try_abandoned_drafts,
+                           try_stale_drafts,
+                           try_what_outlives,
+                           try_what_drafts_refuse,
+                           try_ranges,
+                           try_moves,
                            try_closed_ones}) {
         try {
             part();

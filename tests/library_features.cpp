@@ -120,8 +120,14 @@ static Solid lone_ring(Workbench &bench)
     return block;
 }
 
-static const Motion motions[] = {Motion(), Motion::move({20, -3, 5}), Motion::quarter_turns(0), Motion::quarter_turns(1, 2), Motion::quarter_turns(2, 3),
-                                 Motion::mirror(0), Motion::mirror(2).then(Motion::move({0, 0, -1})), Motion::quarter_turns(2).then(Motion::mirror(1))};
+static const Motion motions[] = {Motion(),
+                                 Motion::move({20, -3, 5}),
+                                 Motion::quarter_turns(0),
+                                 Motion::quarter_turns(1, 2),
+                                 Motion::quarter_turns(2, 3),
+                                 Motion::mirror(0),
+                                 Motion::mirror(2).then(Motion::move({0, 0, -1})),
+                                 Motion::quarter_turns(2).then(Motion::mirror(1))};
 
 // Whether the triangles of a face have its edges and its area: the normals of all, as long as twice their areas, add up to that of the face.
 static bool are_whole(const Workbench &bench, Face face)
@@ -232,7 +238,8 @@ static void try_solid(const std::string &name, Solid (*make)(Workbench &))
         const Solid copy = copy_solid(bench, solid, motion);
         check(shape(bench, copy) == wanted && bench.depth() == depth + 1, name + " is copied by one command");
         const gwb_counts counts = bench.count(copy), old = bench.count(solid);
-        check(counts.vertices == old.vertices && counts.edges == old.edges && counts.rings == old.rings && counts.sum == old.sum, name + ": as many of all");
+        check(counts.vertices == old.vertices && counts.edges == old.edges && counts.rings == old.rings && counts.sum == old.sum,
+              name + ": as many of all");
         kill_solid(bench, copy);
         check(bench.listing() == before, name + ": a copy that is killed leaves what was there");
         move_solid(bench, solid, motion);
@@ -257,7 +264,10 @@ static void try_refusals()
     };
     check(refused([&] { kill_solid(bench, Solid(9)); }) == GWB_WHY_NO_SOLID, "no solid is killed");
     check(refused([&] { copy_solid(bench, Solid(9)); }) == GWB_WHY_NO_SOLID, "no solid is copied");
-    check(refused([&] { move_solid(bench, block, Motion::move({1000000000, 0, 0})); }) == GWB_WHY_POINT_RANGE, "a solid that would lie out of range");
+    check(refused([&] {
+              move_solid(bench, block, Motion::move({1000000000, 0, 0}));
+          }) == GWB_WHY_POINT_RANGE,
+          "a solid that would lie out of range");
     check(bench.listing() == before && bench.depth() == 1, "refusals change nothing");
     Draft draft = bench.draft();
     try {

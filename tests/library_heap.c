@@ -1,5 +1,6 @@
-/* Heaps of a session's own (gwb_use_heap): a pool for each of two sessions. All blocks of a session lie in its pool and are given back to it, also by
- * calls that use another heap; where a pool is full, memory is refused and the session goes on. The last line is 'N passed, M failed'. */
+/* Heaps of a session's own (gwb_use_heap): a pool for each of two sessions. All blocks of a session lie in its pool and are given back to
+ * it, also by calls that use another heap; where a pool is full, memory is refused and the session goes on. The last line is 'N passed, M
+ * failed'. */
 #include "gwb.h"
 #include <stdio.h>
 #include <stdlib.h>

@@ -199,7 +199,8 @@ def complaint(session, readers):
     why = readers.wrong_neighbours() or readers.wrong_rows()
     if why:
         return '%s in %r' % (why, wanted[:300])
-    absent = [readers.ask('number_after', 5, 0), readers.half_edges(999999)] + [readers.ask(name, *[999999] * takes) for name, (takes, _) in READERS.items()]
+    absent = [readers.ask(name, *[999999] * takes) for name, (takes, _) in READERS.items()]
+    absent += [readers.ask('number_after', 5, 0), readers.half_edges(999999)]
     return 'found what is not there: %r' % absent if any(absent) else None
 
 

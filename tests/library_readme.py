@@ -28,7 +28,8 @@ def complaint(folder: Path, name: str, text: str, library: str) -> str:
     """What is wrong with a program, or nothing."""
     source, program = folder / name, folder / 'program'
     source.write_text(text)
-    words: List[str] = [*COMPILERS[source.suffix], '-Wall', '-Wextra', '-Werror', f'-I{TOP / "bindings" / "include"}', str(source), library, '-o', str(program)]
+    warnings = ['-Wall', '-Wextra', '-Werror', f'-I{TOP / "bindings" / "include"}']
+    words: List[str] = [*COMPILERS[source.suffix], *warnings, str(source), library, '-o', str(program)]
     for command in (words, [str(program)]):
         done = subprocess.run(command, capture_output=True, text=True, timeout=300)
         if done.returncode != 0:

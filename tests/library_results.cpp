@@ -71,7 +71,8 @@ static void try_ends(Session session)
         seen += face.number();
         gwb_close(moved.handle());
     }
-    check(seen == 1 && !moved.is_open() && moved.faces(Solid(1)).empty() && moved.half_edge_rows().empty(), "a range ends where its session is closed");
+    check(seen == 1 && !moved.is_open() && moved.faces(Solid(1)).empty() && moved.half_edge_rows().empty(),
+          "a range ends where its session is closed");
 }
 
 int main()

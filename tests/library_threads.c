@@ -1,5 +1,5 @@
-/* Four threads that read one handle at once, as gwb.h allows it, and four that each go on with a session that another thread began. It finds
- * wrong values by itself, and what two threads write at once under helgrind. The last line is 'N passed, M failed'. */
+/* Four threads that read one handle at once, as gwb.h allows it, and four that each go on with a session that another thread began. It
+ * finds wrong values by itself, and what two threads write at once under helgrind. The last line is 'N passed, M failed'. */
 #include "gwb.h"
 #include <pthread.h>
 #include <stdio.h>
@@ -20,7 +20,8 @@ static long wrong_reads(const gwb *g)
     for (long i = 0; i < rounds; i++) {
         wrong += gwb_vertex(g, 5, &point) != GWB_FOUND || point.z != 4;
         wrong += gwb_face(g, 1, &face) != GWB_FOUND || face.outer_loop != 1;
-        wrong += gwb_next_half_edge(g, gwb_plus(7), &next) != GWB_FOUND || gwb_previous_half_edge(g, next, &back) != GWB_FOUND || back != gwb_plus(7);
+        wrong += gwb_next_half_edge(g, gwb_plus(7), &next) != GWB_FOUND || gwb_previous_half_edge(g, next, &back) != GWB_FOUND ||
+                 back != gwb_plus(7);
         wrong += gwb_half_edge_loop(g, next, &loop) != GWB_FOUND || loop != 1;
         wrong += gwb_half_edges(g, 1, few, 4) != 4 || gwb_depth(g) != 1 || gwb_reply(g, text, sizeof text) != 3;
     }

@@ -1,8 +1,8 @@
 /** @file gwb.h
  * The Geometric WorkBench in process: a boundary-representation solid modeller with unlimited undo.
  *
- * Link libgwb, shared or static. Both take memory by malloc, or from the heap that gwb_use_heap names. For a program without malloc there is the
- * kernel alone, libgwb_c.a, to be linked with a heap.c of your own; the one here lies in share/gwb where it is installed.
+ * Link libgwb, shared or static. Both take memory by malloc, or from the heap that gwb_use_heap names. For a program without malloc there
+ * is the kernel alone, libgwb_c.a, to be linked with a heap.c of your own; the one here lies in share/gwb where it is installed.
  *
  * What a caller owes, which nothing checks:
  * - A `gwb` begins as {0}. Never read, write or copy its fields: two copies would free one session twice.
@@ -13,13 +13,13 @@
  *
  * Threads:
  * - Two handles share nothing, so any two threads may work at once, each with its own.
- * - Calls that take `const gwb *` are readers. They leave the handle alone and work on a copy of its two words, which has a share in the session
- *   for as long as the call lasts. So many may run at once for one handle, from any threads, as long as no other call for it runs.
- * - A call that takes `gwb *` needs the handle for itself: it takes the session out of the handle and puts another back. Let a lock, a queue or a
- *   join order it before and after every other call for that handle. The queries (gwb_face_plane, gwb_volume, gwb_count) are such calls:
- *   they keep the last answer.
- * - A handle may go from thread to thread: a session has no lock, no thread-local and no global variable. Only its heap has to be one that all of its
- *   threads may use, as malloc is.
+ * - Calls that take `const gwb *` are readers. They leave the handle alone and work on a copy of its two words, which has a share in the
+ *   session for as long as the call lasts. So many may run at once for one handle, from any threads, as long as no other call for it runs.
+ * - A call that takes `gwb *` needs the handle for itself: it takes the session out of the handle and puts another back. Let a lock, a queue
+ *   or a join order it before and after every other call for that handle. The queries (gwb_face_plane, gwb_volume, gwb_count) are such
+ *   calls: they keep the last answer.
+ * - A handle may go from thread to thread: a session has no lock, no thread-local and no global variable. Only its heap has to be one that
+ *   all of its threads may use, as malloc is.
  *
  * A closed handle is one before gwb_open or after gwb_close. A call for a closed handle changes nothing and writes nothing. */
 #ifndef GWB_H
@@ -42,8 +42,8 @@ extern "C" {
 #define GWB_NODISCARD
 #endif
 
-/** The version of the library that is linked, in the form of GWB_VERSION. Libraries whose first numbers are the same have the same calls, types and
- * constants as the older of the two; where the first number differs, compile anew. */
+/** The version of the library that is linked, in the form of GWB_VERSION. Libraries whose first numbers are the same have the same calls,
+ * types and constants as the older of the two; where the first number differs, compile anew. */
 uint32_t gwb_version(void);
 
 /** A handle: a session, or closed. */
@@ -158,9 +158,9 @@ typedef struct gwb_heap {
     void *user;
 } gwb_heap;
 
-/** From here on, new blocks of the calls of this thread come from a heap: NULL is the one of the C library. A block grows in the heap that it came
- * from, and goes back to it, whatever the thread. So a session lies in a heap of its own where each of its calls is made while that is in use.
- * Not with libgwb_c.a alone.
+/** From here on, new blocks of the calls of this thread come from a heap: NULL is the one of the C library. A block grows in the heap that
+ * it came from, and goes back to it, whatever the thread. So a session lies in a heap of its own where each of its calls is made while that
+ * is in use. Not with libgwb_c.a alone.
  * @return the heap until now, NULL for the one of the C library */
 const gwb_heap *gwb_use_heap(const gwb_heap *heap);
 
@@ -184,7 +184,8 @@ typedef struct gwb_counts {
     int64_t sum; /**< vertices - edges + faces - rings */
 } gwb_counts;
 
-/** On the plane a x + b y + c z + d is 0. (a, b, c) is as long as twice the area of the face, and points out of a solid that isn't inside out. */
+/** On the plane a x + b y + c z + d is 0. (a, b, c) is as long as twice the area of the face, and points out of a solid that isn't inside
+ * out. */
 typedef struct gwb_plane {
     gwb_wide a, b, c, d;
     uint32_t flat; /**< 1 where the face is flat, 0 where it is bent */
@@ -204,8 +205,8 @@ uint32_t gwb_lent_last_plane(gwb *copy, gwb_plane *plane);
 uint32_t gwb_lent_fresh(gwb *copy, uint32_t entity, gwb_range *range);
 /** @endcond */
 
-/** What the last answer refused: GWB_ABSENT where it was no refusal. GWB_IN_DRAFT, GWB_NO_DRAFT and GWB_NO_CALL leave the last answer as it was, so
- * ask only after GWB_REFUSED. A reader. */
+/** What the last answer refused: GWB_ABSENT where it was no refusal. GWB_IN_DRAFT, GWB_NO_DRAFT and GWB_NO_CALL leave the last answer as it
+ * was, so ask only after GWB_REFUSED. A reader. */
 static inline uint32_t gwb_last_refusal(const gwb *g, gwb_refusal *refusal)
 {
     gwb copy = *g;
@@ -240,9 +241,9 @@ static inline uint32_t gwb_last_plane(const gwb *g, gwb_plane *plane)
     return gwb_lent_last_plane(&copy, plane);
 }
 
-/** The fresh numbers of a kind (enum gwb_entity): those above all that were in use before the last command or query, up to the greatest in use now. A
- * larger command takes its faces, loops, edges and vertices there. GWB_ABSENT where there are none, and for solids, whose numbers a command
- * names. A reader. */
+/** The fresh numbers of a kind (enum gwb_entity): those above all that were in use before the last command or query, up to the greatest in
+ * use now. A larger command takes its faces, loops, edges and vertices there. GWB_ABSENT where there are none, and for solids, whose
+ * numbers a command names. A reader. */
 static inline uint32_t gwb_fresh(const gwb *g, uint32_t entity, gwb_range *range)
 {
     gwb copy = *g;
@@ -285,7 +286,8 @@ uint32_t gwb_lent_edge(gwb *copy, uint32_t edge, gwb_edge_row *row);
 uint32_t gwb_lent_vertex(gwb *copy, uint32_t vertex, gwb_point *point);
 /** @endcond */
 
-/** The least number of a kind (enum gwb_entity) in use above n: from 0 on, all numbers in use, rising. GWB_ABSENT also for an unknown kind. A reader. */
+/** The least number of a kind (enum gwb_entity) in use above n: from 0 on, all numbers in use, rising. GWB_ABSENT also for an unknown kind.
+ * A reader. */
 static inline uint32_t gwb_number_after(const gwb *g, uint32_t entity, uint32_t n, uint32_t *number)
 {
     gwb copy = *g;
@@ -338,8 +340,8 @@ static inline uint32_t gwb_plus(uint32_t edge) { return 2 * (edge < GWB_GREATEST
 /** The second half-edge of an edge, alike. */
 static inline uint32_t gwb_minus(uint32_t edge) { return gwb_plus(edge) + 1; }
 
-/** The one corner of a loop that has a vertex and no edge. Of a loop above 2^31 - 1 it is that of 2^31 - 1, which no command takes. It evaluates its
- * argument twice, and is a constant where that is. */
+/** The one corner of a loop that has a vertex and no edge. Of a loop above 2^31 - 1 it is that of 2^31 - 1, which no command takes. It
+ * evaluates its argument twice, and is a constant where that is. */
 #define GWB_LONE(loop) ((loop) < UINT32_C(0x80000000) ? UINT32_C(0x80000000) + (loop) : UINT32_MAX)
 static inline uint32_t gwb_lone(uint32_t loop) { return GWB_LONE(loop); }
 
@@ -350,10 +352,10 @@ static inline uint32_t gwb_first_half_edge(const gwb *g, uint32_t loop, uint32_t
     return gwb_lent_first_half_edge(&copy, loop, half_edge);
 }
 
-/** Writes the half-edges of a loop in their order round it, from any of them on, as far as there is room for them in `buf`. Who wants one list of
- * each loop turns the least to the front, as a listing does. A reader.
- * @return how many there are: 0 where the loop has one vertex and no edge, or is not there. SIZE_MAX where the handle is closed; then nothing
- * is written. */
+/** Writes the half-edges of a loop in their order round it, from any of them on, as far as there is room for them in `buf`. Who wants one
+ * list of each loop turns the least to the front, as a listing does. A reader.
+ * @return how many there are: 0 where the loop has one vertex and no edge, or is not there. SIZE_MAX where the handle is closed; then
+ * nothing is written. */
 static inline size_t gwb_half_edges(const gwb *g, uint32_t loop, uint32_t *buf, size_t room)
 {
     gwb copy = *g;
@@ -381,8 +383,8 @@ static inline uint32_t gwb_half_edge_loop(const gwb *g, uint32_t half_edge, uint
     return gwb_lent_half_edge_loop(&copy, half_edge, loop);
 }
 
-/** A half-edge that starts at a vertex. It looks at the edges one after another; who needs many reads all edges once. GWB_ABSENT also where the
- * vertex has no edge. A reader. */
+/** A half-edge that starts at a vertex. It looks at the edges one after another; who needs many reads all edges once. GWB_ABSENT also where
+ * the vertex has no edge. A reader. */
 static inline uint32_t gwb_vertex_half_edge(const gwb *g, uint32_t vertex, uint32_t *half_edge)
 {
     gwb copy = *g;
@@ -406,24 +408,24 @@ static inline uint32_t gwb_vertex(const gwb *g, uint32_t vertex, gwb_point *poin
 /* ---- commands as typed calls, without text */
 
 /* Each does what the line does that spells the same command, answers its kind and keeps its answer, so that gwb_last_refusal, gwb_reply and
- * gwb_fresh tell of it. Where the answer is not GWB_OK, the model is as it was. Arguments may be any numbers: what the kernel does not take is
- * refused. docs/SCRIPT.md has the conditions of each.
+ * gwb_fresh tell of it. Where the answer is not GWB_OK, the model is as it was. Arguments may be any numbers: what the kernel does not take
+ * is refused. docs/SCRIPT.md has the conditions of each.
  *
- * A half-edge is given as readers give it. A corner is the half-edge that starts there, or gwb_lone(loop) for the one corner of a loop that has a
- * vertex and no edge. `edge` of gwb_mev, gwb_mef and gwb_mekr is the new edge's number, whose first half-edge starts at the first corner's
- * vertex. */
+ * A half-edge is given as readers give it. A corner is the half-edge that starts there, or gwb_lone(loop) for the one corner of a loop that
+ * has a vertex and no edge. `edge` of gwb_mev, gwb_mef and gwb_mekr is the new edge's number, whose first half-edge starts at the first
+ * corner's vertex. */
 
 /** A new solid with one face, whose outer loop stands at one new vertex. */
 enum gwb_kind gwb_mvfs(gwb *g, uint32_t solid, uint32_t face, uint32_t loop, uint32_t vertex, int64_t x, int64_t y, int64_t z);
 /** The solid goes, with its one face, loop and vertex. */
 enum gwb_kind gwb_kvfs(gwb *g, uint32_t solid);
-/** A new edge from the vertex of the corners to a new vertex. With one corner given twice it sticks out there; with two corners at one vertex, the
- * half-edges from the first round to before the second start at the new vertex. */
+/** A new edge from the vertex of the corners to a new vertex. With one corner given twice it sticks out there; with two corners at one
+ * vertex, the half-edges from the first round to before the second start at the new vertex. */
 enum gwb_kind gwb_mev(gwb *g, uint32_t corner, uint32_t other, uint32_t edge, uint32_t vertex, int64_t x, int64_t y, int64_t z);
 /** The edge goes, and the vertex at the end of the half-edge; what else starts there starts where the half-edge does. */
 enum gwb_kind gwb_kev(gwb *g, uint32_t half_edge);
-/** A new edge across a face, between the vertices at which two half-edges of one loop start. The part from the first to before the second becomes
- * the loop of the new face. */
+/** A new edge across a face, between the vertices at which two half-edges of one loop start. The part from the first to before the second
+ * becomes the loop of the new face. */
 enum gwb_kind gwb_mef(gwb *g, uint32_t half_edge, uint32_t other, uint32_t edge, uint32_t face, uint32_t loop);
 /** The edge goes, and the face on its other side becomes part of the half-edge's own. */
 enum gwb_kind gwb_kef(gwb *g, uint32_t half_edge);
@@ -444,8 +446,8 @@ enum gwb_kind gwb_ringmv(gwb *g, uint32_t ring, uint32_t face, uint32_t out);
 enum gwb_kind gwb_outer(gwb *g, uint32_t ring, uint32_t face);
 /** Two solids become the first. */
 enum gwb_kind gwb_merge(gwb *g, uint32_t solid, uint32_t other);
-/** `n` faces of one solid, their numbers rising, become the new solid `solid`. The solid that they leave is that of the first face. Memory for their
- * list is taken first, so GWB_MEMORY may come where the operator would be refused. GWB_NO_CALL where `n` is 0. */
+/** `n` faces of one solid, their numbers rising, become the new solid `solid`. The solid that they leave is that of the first face. Memory
+ * for their list is taken first, so GWB_MEMORY may come where the operator would be refused. GWB_NO_CALL where `n` is 0. */
 enum gwb_kind gwb_part(gwb *g, const uint32_t *faces, size_t n, uint32_t solid);
 
 /** A new solid of two faces, whose corners are the `n` points in order. Fewer than 3 are refused; more than 64 are GWB_NO_CALL. */
@@ -477,7 +479,8 @@ enum gwb_kind gwb_commit(gwb *g);
 /** Takes the steps back: the session is as it was, what could be redone included. It takes no memory. */
 enum gwb_kind gwb_abandon(gwb *g);
 
-/* ---- queries: the kind is theirs and the value is written, as the last answer has it, or it is GWB_REFUSED or GWB_CLOSED and nothing is */
+/* ---- queries: the kind is theirs and the value is written, as the last answer has it, or it is GWB_REFUSED or GWB_CLOSED and nothing is
+ * */
 
 /** The plane of a face: GWB_PLANE. */
 enum gwb_kind gwb_face_plane(gwb *g, uint32_t face, gwb_plane *plane);
@@ -503,8 +506,8 @@ typedef struct gwb_vertex_row {
     gwb_point point;
 } gwb_vertex_row;
 
-/** Writes the half-edges of a solid, of all for solid 0, as far as there is room in `rows`: those of one loop one after another in their order
- * round it, the outer loop of each face before its rings, faces and rings rising. Loops without an edge have none. A reader.
+/** Writes the half-edges of a solid, of all for solid 0, as far as there is room in `rows`: those of one loop one after another in their
+ * order round it, the outer loop of each face before its rings, faces and rings rising. Loops without an edge have none. A reader.
  * @return how many there are: SIZE_MAX where the handle is closed; then nothing is written. */
 size_t gwb_read_half_edges(const gwb *g, uint32_t solid, gwb_half_edge_row *rows, size_t room);
 
@@ -512,8 +515,8 @@ size_t gwb_read_half_edges(const gwb *g, uint32_t solid, gwb_half_edge_row *rows
  * @return how many there are: SIZE_MAX where the handle is closed; then nothing is written. */
 size_t gwb_read_vertices(const gwb *g, gwb_vertex_row *rows, size_t room);
 
-/** The greatest number of a kind (enum gwb_entity) in use, so that the one above it is free: 0 where none is. SIZE_MAX where the handle is closed. A
- * reader. */
+/** The greatest number of a kind (enum gwb_entity) in use, so that the one above it is free: 0 where none is. SIZE_MAX where the handle is
+ * closed. A reader. */
 size_t gwb_greatest_number(const gwb *g, uint32_t entity);
 
 #ifdef __cplusplus

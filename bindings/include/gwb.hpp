@@ -8,9 +8,10 @@
 ///         for (Edge edge : bench.edges_of(face))
 ///             std::cout << edge.number() << '\n';
 ///
-/// Commands, their arguments and their conditions are those of the script language (docs/SCRIPT.md). What isn't accepted is thrown, as an exception
-/// of its condition (RefusedBy<GWB_WHY_NO_FACE>); `bench.attempt()` has the same calls with a Result in place of exceptions, and Session is a
-/// workbench of only those, also for programs without exceptions (-fno-exceptions). What is to be linked, and what a thread may do, is said in gwb.h.
+/// Commands, their arguments and their conditions are those of the script language (docs/SCRIPT.md). What isn't accepted is thrown, as an
+/// exception of its condition (RefusedBy<GWB_WHY_NO_FACE>); `bench.attempt()` has the same calls with a Result in place of exceptions, and
+/// Session is a workbench of only those, also for programs without exceptions (-fno-exceptions). What is to be linked, and what a thread
+/// may do, is said in gwb.h.
 #ifndef GWB_HPP
 #define GWB_HPP
 #if __cplusplus < 201703L
@@ -290,7 +291,10 @@ private:
 /// Loops of a face cross or touch, so it has no triangles (gwb_triangles.hpp): the face.
 class Crossed : public Complaint {
 public:
-    Crossed(std::string_view command, std::uint32_t face) : Complaint(Text(command, "loops cross or touch in face", face).c_str()), face_(face) {}
+    Crossed(std::string_view command, std::uint32_t face)
+        : Complaint(Text(command, "loops cross or touch in face", face).c_str()), face_(face)
+    {
+    }
     [[nodiscard]] Face face() const { return Face(face_); }
 
 private:
@@ -483,9 +487,9 @@ private:
 
 // ---- ranges
 
-/// A range of what the readers of gwb.h find one after another, by a rule. It can be gone through as often as wanted. Its iterators stay good as
-/// long as the workbench is there. Where that is closed or gone, a range throws Closed; where the model has changed since a walk round a loop, a
-/// vertex or a face began, Changed. Without exceptions it ends there.
+/// A range of what the readers of gwb.h find one after another, by a rule. It can be gone through as often as wanted. Its iterators stay
+/// good as long as the workbench is there. Where that is closed or gone, a range throws Closed; where the model has changed since a walk
+/// round a loop, a vertex or a face began, Changed. Without exceptions it ends there.
 template <class Policy, class Rule> class Range {
 public:
     class iterator {
@@ -782,14 +786,15 @@ struct NewFace {
     Loop loop;
 };
 
-/// The calls of a workbench. Where the Policy is Throwing they give their value, and throw RefusedBy where a condition is false, std::bad_alloc
-/// where memory is refused; where it is Results they give a Result and throw nothing, but for std::bad_alloc of a std::vector or a std::string that
-/// they return. Where a call is not accepted the model is as it was.
+/// The calls of a workbench. Where the Policy is Throwing they give their value, and throw RefusedBy where a condition is false,
+/// std::bad_alloc where memory is refused; where it is Results they give a Result and throw nothing, but for std::bad_alloc of a
+/// std::vector or a std::string that they return. Where a call is not accepted the model is as it was.
 ///
-/// A call that makes something takes the numbers of what it makes, or none: then it takes the least that are above all in use, and returns them.
+/// A call that makes something takes the numbers of what it makes, or none: then it takes the least that are above all in use, and returns
+/// them.
 ///
-/// Measures (plane, six_volumes, count, listing) are const and keep the last answer, so they are no readers in the sense of gwb.h: no other call for
-/// the workbench may run at once with them. All other const methods are readers, of which many may run at once.
+/// Measures (plane, six_volumes, count, listing) are const and keep the last answer, so they are no readers in the sense of gwb.h: no other
+/// call for the workbench may run at once with them. All other const methods are readers, of which many may run at once.
 ///
 /// While a draft is open, operators are its steps, readers and measures speak of its model, and what it does not take is InDraft.
 template <class Policy> class Commands {
@@ -808,7 +813,8 @@ public:
     Returned<NewSolid> mvfs(Point at)
     {
         const NewSolid made{free<Solid>(), free<Face>(), free<Loop>(), free<Vertex>()};
-        return with(made, "mvfs", gwb_mvfs(held(), made.solid.number(), made.face.number(), made.loop.number(), made.vertex.number(), at.x, at.y, at.z));
+        return with(made, "mvfs",
+                    gwb_mvfs(held(), made.solid.number(), made.face.number(), made.loop.number(), made.vertex.number(), at.x, at.y, at.z));
     }
     /// The solid goes, with its one face, loop and vertex.
     Returned<void> kvfs(Solid solid) { return told("kvfs", gwb_kvfs(held(), solid.number())); }
@@ -846,7 +852,10 @@ public:
         return with(ring, "kemr", gwb_kemr(held(), half_edge.code(), ring.number()));
     }
     /// A new edge from the first corner to the second, whose loop is a ring of the same face and becomes part of the first one's.
-    Returned<void> mekr(Corner corner, Corner other, Edge edge) { return told("mekr", gwb_mekr(held(), corner.code(), other.code(), edge.number())); }
+    Returned<void> mekr(Corner corner, Corner other, Edge edge)
+    {
+        return told("mekr", gwb_mekr(held(), corner.code(), other.code(), edge.number()));
+    }
     Returned<Edge> mekr(Corner corner, Corner other)
     {
         const Edge edge = free<Edge>();
@@ -904,8 +913,8 @@ public:
         const Solid solid = free<Solid>();
         return with(solid, "block", gwb_block(held(), solid.number(), corner.x, corner.y, corner.z, sizes.x, sizes.y, sizes.z));
     }
-    /// The face moves by a vector, and a new face rises over each of its half-edges. Sweep a lamina's first face along its normal: against it
-    /// the solid is inside out, and its volume negative.
+    /// The face moves by a vector, and a new face rises over each of its half-edges. Sweep a lamina's first face along its normal: against
+    /// it the solid is inside out, and its volume negative.
     Returned<void> sweep(Face face, Point along) { return told("sweep", gwb_sweep(held(), face.number(), along.x, along.y, along.z)); }
     /// The two solids of the faces become one along them. The faces go through the same points in opposite directions.
     Returned<void> glue(Face face, Face other) { return told("glue", gwb_glue(held(), face.number(), other.number())); }
@@ -966,8 +975,9 @@ public:
 
     // Numbers.
 
-    /// The numbers of a kind that the last command made above all that were in use before it, up to the greatest in use: of a draft, the first and
-    /// the last that its steps so made. Measures leave them as they are. None where there are none, and for solids, which a command names.
+    /// The numbers of a kind that the last command made above all that were in use before it, up to the greatest in use: of a draft, the
+    /// first and the last that its steps so made. Measures leave them as they are. None where there are none, and for solids, which a
+    /// command names.
     template <class Kind> [[nodiscard]] Returned<std::optional<Fresh<Kind>>> fresh() const
     {
         using Found = std::optional<Fresh<Kind>>;
@@ -980,7 +990,8 @@ public:
     template <class Kind> [[nodiscard]] Returned<Kind> greatest() const
     {
         std::size_t number = gwb_greatest_number(seen(), Kind::kind);
-        return number == SIZE_MAX ? Policy::template failed<Kind>("greatest", {Problem::closed}) : Returned<Kind>(Kind(static_cast<std::uint32_t>(number)));
+        return number == SIZE_MAX ? Policy::template failed<Kind>("greatest", {Problem::closed})
+                                  : Returned<Kind>(Kind(static_cast<std::uint32_t>(number)));
     }
     /// The number above all of a kind in use.
     template <class Kind> [[nodiscard]] Returned<Kind> next_free() const
@@ -1005,8 +1016,8 @@ public:
     [[nodiscard]] RangeOf<EdgesOfFace> edges_of(Face face) const { return range(EdgesOfFace(face)); }
     /// The half-edges of a loop in their order round it, from any of them on.
     [[nodiscard]] RangeOf<RoundLoop> around(Loop loop) const { return range(RoundLoop(loop)); }
-    /// The half-edges that start at a vertex, in their order round it, from any of them on. It looks for the first among all edges; where a half-edge
-    /// is at hand, around(half_edge) needs no search.
+    /// The half-edges that start at a vertex, in their order round it, from any of them on. It looks for the first among all edges; where a
+    /// half-edge is at hand, around(half_edge) needs no search.
     [[nodiscard]] RangeOf<RoundVertex> around(Vertex vertex) const { return range(RoundVertex(vertex)); }
     /// The half-edges that start where this one does, in their order round that vertex, from it on.
     [[nodiscard]] RangeOf<RoundVertex> around(HalfEdge half_edge) const { return range(RoundVertex(half_edge)); }
@@ -1058,7 +1069,10 @@ public:
     // Neighbours, alike.
 
     /// The half-edge after another in its loop.
-    [[nodiscard]] Returned<HalfEdge> next(HalfEdge half_edge) const { return neighbour<HalfEdge>(gwb_next_half_edge, "half-edge", half_edge.code()); }
+    [[nodiscard]] Returned<HalfEdge> next(HalfEdge half_edge) const
+    {
+        return neighbour<HalfEdge>(gwb_next_half_edge, "half-edge", half_edge.code());
+    }
     /// The half-edge before another in its loop.
     [[nodiscard]] Returned<HalfEdge> previous(HalfEdge half_edge) const
     {
@@ -1085,10 +1099,12 @@ public:
 
     // All at once.
 
-    /// The half-edges of a solid, of all where none is given, with their vertices, neighbours, loops and faces, as gwb_read_half_edges writes them.
+    /// The half-edges of a solid, of all where none is given, with their vertices, neighbours, loops and faces, as gwb_read_half_edges
+    /// writes them.
     [[nodiscard]] std::vector<gwb_half_edge_row> half_edge_rows(Solid solid = Solid()) const
     {
-        return rows<gwb_half_edge_row>([&](gwb_half_edge_row *at, std::size_t room) { return gwb_read_half_edges(seen(), solid.number(), at, room); });
+        return rows<gwb_half_edge_row>(
+            [&](gwb_half_edge_row *at, std::size_t room) { return gwb_read_half_edges(seen(), solid.number(), at, room); });
     }
     /// All vertices with their points.
     [[nodiscard]] std::vector<gwb_vertex_row> vertex_rows() const
@@ -1125,12 +1141,12 @@ public:
     /// Whether it was neither moved from nor closed.
     [[nodiscard]] bool is_open() const { return gwb_is_open(seen()); }
 
-    /// The same workbench, whose calls give a Result and throw nothing: `if (auto cut = bench.attempt().split(..); !cut) ..cut.error()..`. It is Closed
-    /// once the workbench is gone.
+    /// The same workbench, whose calls give a Result and throw nothing: `if (auto cut = bench.attempt().split(..); !cut) ..cut.error()..`.
+    /// It is Closed once the workbench is gone.
     [[nodiscard]] Commands<Results> attempt() const { return Commands<Results>(state_); }
 
-    /// For the calls of gwb.h; that of a workbench that was moved from is closed. It stays where it is when the workbench is moved. What they do to a
-    /// draft or to the model the ranges and drafts here don't notice.
+    /// For the calls of gwb.h; that of a workbench that was moved from is closed. It stays where it is when the workbench is moved. What
+    /// they do to a draft or to the model the ranges and drafts here don't notice.
     [[nodiscard]] gwb *handle() { return held(); }
     [[nodiscard]] const gwb *handle() const { return seen(); }
 
@@ -1315,8 +1331,8 @@ private:
 
 #if defined(__cpp_exceptions)
 
-/// A session whose calls throw, closed at the end of its scope. It can be moved; one that was moved from is closed, and every method of it throws
-/// Closed.
+/// A session whose calls throw, closed at the end of its scope. It can be moved; one that was moved from is closed, and every method of it
+/// throws Closed.
 class Workbench : public Commands<Throwing> {
 public:
     /// std::bad_alloc where memory is refused.

@@ -6,8 +6,8 @@
 ///     move_solid(bench, other, Motion::quarter_turns(2).then(Motion::move({9, 0, 0})));
 ///     kill_solid(bench, block);
 ///
-/// A solid is taken apart by operators, and what is written down of each is its inverse; these inverses, the last one first, make it again, elsewhere and
-/// with other numbers. All take as many operators as the solid has edges, and a few for each ring, handle and part of it.
+/// A solid is taken apart by operators, and what is written down of each is its inverse; these inverses, the last one first, make it again,
+/// elsewhere and with other numbers. All take as many operators as the solid has edges, and a few for each ring, handle and part of it.
 #ifndef GWB_FEATURES_HPP
 #define GWB_FEATURES_HPP
 #include "gwb.hpp"
@@ -15,8 +15,9 @@
 
 namespace gwb_session {
 
-/// Commands that stand or fall together, the larger ones too: those given since it began are taken back at the end of its scope, unless it was kept. What
-/// they did can't be redone then; in the place of that stands a command that does nothing. Kept, they are as many to undo as they were.
+/// Commands that stand or fall together, the larger ones too: those given since it began are taken back at the end of its scope, unless it
+/// was kept. What they did can't be redone then; in the place of that stands a command that does nothing. Kept, they are as many to undo as
+/// they were.
 class Guard {
 public:
     template <class Policy> explicit Guard(const Commands<Policy> &bench) : bench_(bench.attempt()), depth_(gwb_depth(bench.handle())) {}
@@ -165,7 +166,8 @@ private:
     class Numbering {
     public:
         Numbering(const Attempts &bench, bool is_same)
-            : is_same_(is_same), faces_{above<Face>(bench), {}}, loops_{above<Loop>(bench), {}}, edges_{above<Edge>(bench), {}}, vertices_{above<Vertex>(bench), {}}
+            : is_same_(is_same), faces_{above<Face>(bench), {}}, loops_{above<Loop>(bench), {}}, edges_{above<Edge>(bench), {}},
+              vertices_{above<Vertex>(bench), {}}
         {
         }
         Face operator[](Face face) { return Face(number(faces_, face.number())); }
@@ -363,7 +365,8 @@ private:
         switch (step.makes) {
         case Makes::solid: return done(bench_.mvfs(solid, face, loop, numbers[step.vertex], at));
         case Makes::part:
-            return done(bench_.mev(first, first, edge, numbers[step.vertex], at)) && done(bench_.kemr(plus(edge), loop)) && done(bench_.mfkrh(loop, face));
+            return done(bench_.mev(first, first, edge, numbers[step.vertex], at)) && done(bench_.kemr(plus(edge), loop)) &&
+                   done(bench_.mfkrh(loop, face));
         case Makes::bridge: return done(bench_.mekr(first, second, edge));
         case Makes::spur: return done(bench_.mev(first, first, edge, numbers[step.vertex], at));
         case Makes::face:

@@ -7,8 +7,9 @@
 ///     follow(bench, [&] { bench.split(block, 0, 0, 1, -2); }, colours);
 ///     follow_undo(bench, colours);
 ///
-/// After the split both parts of face 2 are red, and after the undo the whole of it is. All is found by comparing the model before the commands with that after them, so each `follow`
-/// costs as much as reading the model twice (gwb_read_half_edges), whatever the commands are.
+/// After the split both parts of face 2 are red, and after the undo the whole of it is. All is found by comparing the model before the
+/// commands with that after them, so each `follow` costs as much as reading the model twice (gwb_read_half_edges), whatever the commands
+/// are.
 #ifndef GWB_HISTORY_HPP
 #define GWB_HISTORY_HPP
 #include "gwb.hpp"
@@ -65,8 +66,8 @@ public:
 
     /// What happened between two readings.
     ///
-    /// A new face was split from the one that had a half-edge of it, or else an edge along one of its own from the same vertex. A new edge was split from
-    /// the one that ran along it from the same vertex. A face that is gone was joined to the one that has a half-edge of it.
+    /// A new face was split from the one that had a half-edge of it, or else an edge along one of its own from the same vertex. A new edge
+    /// was split from the one that ran along it from the same vertex. A face that is gone was joined to the one that has a half-edge of it.
     friend Changes between(const Reading &before, const Reading &after)
     {
         Changes changes;
@@ -157,8 +158,8 @@ private:
     std::multimap<std::uint32_t, std::uint32_t> borders_, starts_;
 };
 
-/// Values on faces or on edges, which follow what becomes of them: a part that was split off has a copy of the value; what is gone has none, and has it
-/// back where undo or redo makes it again.
+/// Values on faces or on edges, which follow what becomes of them: a part that was split off has a copy of the value; what is gone has
+/// none, and has it back where undo or redo makes it again.
 template <class Kind, class Value> class Notes {
 public:
     /// The value of a number, which is made where it has none.

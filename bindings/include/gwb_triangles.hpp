@@ -5,9 +5,9 @@
 ///         for (auto [a, b, c] : gwb_session::triangles(bench, face))
 ///             draw(bench.vertex(a), bench.vertex(b), bench.vertex(c));
 ///
-/// Rings are joined to the outline by bridges, and then ears are cut off, so that only vertices of the face are corners and faces that share an edge have
-/// triangles that share it. Coordinates lie within 1,000,000,000, so that each test fits in 64 bits. It takes time by the square of
-/// a face's edges.
+/// Rings are joined to the outline by bridges, and then ears are cut off, so that only vertices of the face are corners and faces that
+/// share an edge have triangles that share it. Coordinates lie within 1,000,000,000, so that each test fits in 64 bits. It takes time by
+/// the square of a face's edges.
 #ifndef GWB_TRIANGLES_HPP
 #define GWB_TRIANGLES_HPP
 #include "gwb.hpp"
@@ -209,8 +209,8 @@ inline FlatRegion::Path path_of(const Attempts &bench, Loop loop, const Front &f
     return path;
 }
 
-/// A flat face as triangles. A ring of one vertex leaves nothing out. Refused: NoFace; NotFlat; Problem::crossed, thrown as Crossed, where its loops cross
-/// or touch. It asks for the face's plane, so it is a measure.
+/// A flat face as triangles. A ring of one vertex leaves nothing out. Refused: NoFace; NotFlat; Problem::crossed, thrown as Crossed, where
+/// its loops cross or touch. It asks for the face's plane, so it is a measure.
 template <class Policy> typename Policy::template Returned<std::vector<Triangle>> triangles(const Commands<Policy> &bench, Face face)
 {
     using Found = std::vector<Triangle>;

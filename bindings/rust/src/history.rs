@@ -53,7 +53,7 @@ pub struct Reading {
     points: HashMap<Vertex, Point>,
     sides: HashMap<HalfEdge, HalfEdgeRow>,
     borders: HashMap<Face, Vec<HalfEdge>>,
-    starts: HashMap<Vertex, Vec<HalfEdge>>,
+    leaving: HashMap<Vertex, Vec<HalfEdge>>,
 }
 
 impl Reading {
@@ -61,10 +61,10 @@ impl Reading {
     #[must_use]
     pub fn of(readers: &Readers) -> Self {
         let rows = readers.half_edge_rows(None);
-        let (mut borders, mut starts) = (HashMap::<_, Vec<_>>::new(), HashMap::<_, Vec<_>>::new());
+        let (mut borders, mut leaving) = (HashMap::<_, Vec<_>>::new(), HashMap::<_, Vec<_>>::new());
         for row in &rows {
             borders.entry(row.face).or_default().push(row.half_edge);
-            starts.entry(row.start).or_default().push(row.half_edge);
+            leaving.entry(row.start).or_default().push(row.half_edge);
         }
         Self {
             faces: readers.numbers().collect(),
@@ -72,14 +72,14 @@ impl Reading {
             points: readers.vertex_rows().into_iter().collect(),
             sides: rows.into_iter().map(|row| (row.half_edge, row)).collect(),
             borders,
-            starts,
+            leaving,
         }
     }
 
     /// What happened since an earlier reading.
     ///
-    /// A new face was split from the one that had a half-edge of it, or else an edge along one of its own from the same vertex. A new edge was
-    /// split from the one that ran along it from the same vertex. A face that is gone was joined to the one that has a half-edge of it.
+    /// A new face was split from the one that had a half-edge of it, or else an edge along one of its own from the same vertex. A new edge
+    /// was split from the one that ran along it from the same vertex. A face that is gone was joined to the one that has a half-edge of it.
     #[must_use]
     pub fn since(&self, before: &Self) -> Changes {
         Changes {
@@ -115,8 +115,8 @@ impl Reading {
     /// The half-edge in another reading that starts where one of this one does and goes the same way.
     fn along<'other>(&self, at: HalfEdge, other: &'other Self) -> Option<&'other HalfEdgeRow> {
         let start = self.sides[&at].start;
-        let starts = other.starts.get(&start).filter(|_| self.points.get(&start) == other.points.get(&start))?;
-        starts.iter().find(|&&old| is_one_way(self.way(at), other.way(old))).map(|old| &other.sides[old])
+        let leaving = other.leaving.get(&start).filter(|_| self.points.get(&start) == other.points.get(&start))?;
+        leaving.iter().find(|&&old| is_one_way(self.way(at), other.way(old))).map(|old| &other.sides[old])
     }
 
     /// From where a half-edge starts to where it ends.
@@ -163,8 +163,8 @@ impl Session {
     }
 }
 
-/// Values on faces or on edges, which follow what becomes of them: a part that was split off has a copy of the value; what is gone has none, and
-/// has it back where undo or redo makes it again.
+/// Values on faces or on edges, which follow what becomes of them: a part that was split off has a copy of the value; what is gone has
+/// none, and has it back where undo or redo makes it again.
 #[derive(Clone, Debug, PartialEq, Eq)]
 pub struct Notes<N, V> {
     values: BTreeMap<N, V>,

@@ -18,12 +18,12 @@
 //! # Ok::<(), Error>(())
 //! ```
 //!
-//! Numbers are types of their own ([`Solid`], [`Face`], [`Loop`], [`Edge`], [`Vertex`]), from 1 to 1,000,000; coordinates are whole numbers within
-//! 1,000,000,000 either way; what is outside is refused. A [`HalfEdge`] is one of the two sides of an edge: [`plus`], [`minus`]. A [`Corner`] is where
-//! one starts, or [`lone`] for the one corner of a loop that has a vertex and no edge.
+//! Numbers are types of their own ([`Solid`], [`Face`], [`Loop`], [`Edge`], [`Vertex`]), from 1 to 1,000,000; coordinates are whole numbers
+//! within 1,000,000,000 either way; what is outside is refused. A [`HalfEdge`] is one of the two sides of an edge: [`plus`], [`minus`]. A
+//! [`Corner`] is where one starts, or [`lone`] for the one corner of a loop that has a vertex and no edge.
 //!
-//! The crate links `libgwb.a`, by `gwb-sys`: from bindings/out, from the folder that the environment variable `GWB_LIB_DIR` names, or from where
-//! pkg-config finds it; with `GWB_DYNAMIC` set it links `libgwb.so`.
+//! The crate links `libgwb.a`, by `gwb-sys`: from bindings/out, from the folder that the environment variable `GWB_LIB_DIR` names, or from
+//! where pkg-config finds it; with `GWB_DYNAMIC` set it links `libgwb.so`.
 #![deny(unsafe_op_in_unsafe_fn)]
 #![warn(missing_docs)]
 #![allow(clippy::doc_markdown)] // the WorkBench is so called

@@ -5,11 +5,12 @@ use std::cell::Cell;
 use std::ops::{Deref, RangeInclusive};
 use std::ptr::NonNull;
 
-/// What a [`Session`](crate::Session) and a [`Draft`](crate::Draft) both have: the operators, the measures and, by [`Readers`], the readers.
+/// What a [`Session`](crate::Session) and a [`Draft`](crate::Draft) both have: the operators, the measures and, by [`Readers`], the
+/// readers.
 ///
-/// An operator makes what it is given numbers for. In the place of each such number [`None`] may stand: it takes the number above all in use then.
-/// What is made is returned. A command that isn't accepted leaves the model as it was; it returns [`Error::Refused`] with the first of its conditions
-/// that is false (docs/SCRIPT.md has them by commands), or [`Error::Memory`].
+/// An operator makes what it is given numbers for. In the place of each such number [`None`] may stand: it takes the number above all in
+/// use then. What is made is returned. A command that isn't accepted leaves the model as it was; it returns [`Error::Refused`] with the
+/// first of its conditions that is false (docs/SCRIPT.md has them by commands), or [`Error::Memory`].
 pub struct Operators {
     readers: Readers,
     fresh: Fresh,
@@ -34,8 +35,8 @@ fn joined(one: Range, other: Range) -> Range {
     }
 }
 
-// SAFETY, for all calls in this file: the handle is open from `new` on until `drop`, nobody else has it, and only one thread has it, since this is
-// not Sync. What a call writes to is a value of its own.
+// SAFETY, for all calls in this file: the handle is open from `new` on until `drop`, nobody else has it, and only one thread has it, since
+// this is not Sync. What a call writes to is a value of its own.
 impl Operators {
     /// A session that holds the empty model.
     pub(crate) fn new() -> Result<Self, Error> {
@@ -228,9 +229,9 @@ impl Operators {
         self.measured(|g, counts: &mut Counts| unsafe { gwb_sys::gwb_count(g, solid.0, counts) })
     }
 
-    /// The numbers of a kind that the last command made above all that were in use before it, up to the greatest in use; not each of them need be
-    /// in use. Of a draft they are the first and the last that its steps so made. Measures leave them as they are. None for solids, which a
-    /// command names: `fresh::<Face>()`.
+    /// The numbers of a kind that the last command made above all that were in use before it, up to the greatest in use; not each of them
+    /// need be in use. Of a draft they are the first and the last that its steps so made. Measures leave them as they are. None for solids,
+    /// which a command names: `fresh::<Face>()`.
     #[must_use]
     pub fn fresh<N: Id>(&self) -> Option<RangeInclusive<u32>> {
         let range = self.fresh.kept.get().map_or_else(|| self.live(N::KIND), |kept| kept[N::KIND as usize]);

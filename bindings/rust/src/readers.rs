@@ -8,14 +8,14 @@ type After = unsafe extern "C" fn(*mut Gwb, u32, u32, *mut u32) -> u32;
 
 /// The readers of a [`Session`](crate::Session), which has them all: they walk the model that it holds, in a draft the draft's.
 ///
-/// Numbers, rising, come as an iterator whose `size_hint` says that there are at most so many as are left of 1,000,000. Where what is asked for is
-/// not in use, readers find nothing.
+/// Numbers, rising, come as an iterator whose `size_hint` says that there are at most so many as are left of 1,000,000. Where what is asked
+/// for is not in use, readers find nothing.
 pub struct Readers {
     handle: NonNull<Gwb>,
 }
 
-// SAFETY, for all calls in this file: the handle is open for as long as there are readers, and none but readers is called while they are borrowed.
-// Each call works on a copy of the handle of its own, and what it writes to is a value of its own.
+// SAFETY, for all calls in this file: the handle is open for as long as there are readers, and none but readers is called while they are
+// borrowed. Each call works on a copy of the handle of its own, and what it writes to is a value of its own.
 impl Readers {
     pub(crate) fn new(handle: NonNull<Gwb>) -> Self {
         Self { handle }
@@ -288,8 +288,8 @@ pub struct Shared<'session> {
     readers: &'session Readers,
 }
 
-// SAFETY: the session is borrowed mutably for 'session, so none of its calls but readers is made, and of those many may run at once (gwb.h): each
-// works on a copy of the handle. What they borrow of `Readers` can't leave the thread, since that is not Sync.
+// SAFETY: the session is borrowed mutably for 'session, so none of its calls but readers is made, and of those many may run at once
+// (gwb.h): each works on a copy of the handle. What they borrow of `Readers` can't leave the thread, since that is not Sync.
 unsafe impl Send for Shared<'_> {}
 // SAFETY: the same.
 unsafe impl Sync for Shared<'_> {}

@@ -9,8 +9,8 @@ use std::ops::{Deref, DerefMut};
 ///
 /// Its operators and measures are those of [`Operators`], its readers those of [`Readers`](crate::Readers).
 ///
-/// A session may go to another thread; nothing in it is of a thread. It isn't [`Sync`], since a measure keeps the last answer: for readers in many
-/// threads at once there is [`shared`](Self::shared).
+/// A session may go to another thread; nothing in it is of a thread. It isn't [`Sync`], since a measure keeps the last answer: for readers
+/// in many threads at once there is [`shared`](Self::shared).
 ///
 /// ```
 /// let mut session = gwb::Session::new()?;
@@ -35,8 +35,8 @@ pub struct Session {
     operators: Operators,
 }
 
-// SAFETY: nobody else has the handle; the session behind it is memory of the heap, which all threads may use, and a call of the library reads and
-// writes that alone. It has no lock, no thread-local and no global variable.
+// SAFETY: nobody else has the handle; the session behind it is memory of the heap, which all threads may use, and a call of the library
+// reads and writes that alone. It has no lock, no thread-local and no global variable.
 unsafe impl Send for Session {}
 
 // SAFETY, for all calls in this file: as in operators.rs.

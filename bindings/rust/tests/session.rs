@@ -1,6 +1,7 @@
 //! A session from outside: what commands make, what refuses them, and what readers find.
 use gwb::{
-    lone, minus, plus, version, Change, Draft, Edge, EdgeRow, Error, Face, FaceRow, HalfEdge, Loop, Notes, Plane, Point, Refusal, Session, Solid, Vertex,
+    lone, minus, plus, version, Change, Draft, Edge, EdgeRow, Error, Face, FaceRow, HalfEdge, Loop, Notes, Plane, Point, Refusal, Session,
+    Solid, Vertex,
 };
 
 const NO_POINTS: [Point; 0] = [];
@@ -99,7 +100,8 @@ fn numbers_are_chosen_where_none_is_given() {
     session.block(Solid(1_000_000), [9, 9, 9], [1, 1, 1]).unwrap();
     assert_eq!(session.block(None, [0, 0, 0], [1, 1, 1]), refused(Refusal::NumberRange, 1_000_001));
     let point = session.mvfs(Solid(7), None, None, None, [1, 2, 3]).unwrap();
-    assert_eq!((point.solid, session.face(point.face).unwrap().outer_loop, session.lone_vertex(point.of_loop)), (Solid(7), point.of_loop, Some(point.vertex)));
+    assert_eq!((point.solid, session.face(point.face).unwrap().outer_loop), (Solid(7), point.of_loop));
+    assert_eq!(session.lone_vertex(point.of_loop), Some(point.vertex));
 }
 
 #[test]
@@ -317,7 +319,8 @@ fn all_rows_come_at_once() {
     let rows = session.half_edge_rows(None);
     for row in &rows {
         let at = row.half_edge;
-        assert_eq!((session.start_of(at), session.next(at), session.loop_of(at), session.face_of(at)), (Some(row.start), Some(row.next), Some(row.of_loop), Some(row.face)));
+        assert_eq!((session.start_of(at), session.next(at)), (Some(row.start), Some(row.next)));
+        assert_eq!((session.loop_of(at), session.face_of(at)), (Some(row.of_loop), Some(row.face)));
     }
     assert_eq!((rows.len(), session.half_edge_rows(above).len(), session.half_edge_rows(Solid(9)).len()), (48, 24, 0));
     assert!(session.vertex_rows().iter().all(|&(vertex, point)| session.vertex(vertex) == Some(point)));

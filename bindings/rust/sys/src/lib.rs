@@ -1,7 +1,7 @@
 //! The calls of gwb.h, and the types that they take, as C has them. `gwb` has them for Rust.
 //!
-//! What a caller owes stands at the head of `bindings/include/gwb.h`; nothing here checks it. The readers are the exports `gwb_lent_*`, which are
-//! given a copy of the handle: [`Gwb::lend`] makes it.
+//! What a caller owes stands at the head of `bindings/include/gwb.h`; nothing here checks it. The readers are the exports `gwb_lent_*`,
+//! which are given a copy of the handle: [`Gwb::lend`] makes it.
 #![no_std]
 #![warn(missing_docs)]
 #![allow(clippy::missing_safety_doc)] // all of it is in gwb.h
