@@ -3,6 +3,7 @@
 #include <array>
 #include <functional>
 #include <iostream>
+#include <sstream>
 #include <type_traits>
 #include <unordered_set>
 
@@ -73,6 +74,9 @@ static void try_types()
     static_assert(sizeof(Face) == 4 && sizeof(HalfEdge) == 4 && std::is_trivially_copyable_v<Face>);
     check(plus(Edge(7)).code() == 14 && minus(Edge(7)).code() == 15 && plus(Edge(7)).twin() == minus(Edge(7)), "half-edges of an edge");
     check(minus(Edge(7)).edge() == Edge(7) && minus(Edge(7)).is_second() && !plus(Edge(7)).is_second(), "the edge of a half-edge");
+    std::ostringstream text;
+    text << Face(3) << ' ' << plus(Edge(7)) << ' ' << minus(Edge(8));
+    check(text.str() == "3 +7 -8" && Face(2) > Face(1) && Face(2) >= Face(2) && Face(1) <= Face(2), "numbers as text, and in their order");
     check(std::unordered_set<Face>{Face(1), Face(2), Face(1)}.size() == 2 && Face(1) < Face(2) && Face() == Face(0), "numbers in a set");
 }
 
@@ -540,7 +544,7 @@ static void try_ranges()
     check(seen == 3, "rising numbers go on into what has changed");
     auto faces = bench.faces(Solid(1));
     check(all(faces) == all(faces) && *std::next(faces.begin(), 3) == Face(4), "a range is gone through as often as wanted");
-#if defined(__cpp_lib_ranges)
+#if defined(__cpp_lib_ranges) && !(defined(__clang__) && __clang_major__ < 16) // which can't compile the views of libstdc++
     static_assert(std::forward_iterator<decltype(faces)::iterator> && std::ranges::view<decltype(faces)> &&
                   std::ranges::borrowed_range<decltype(faces)>);
     check(*std::ranges::find(bench.faces(Solid(1)), Face(5)) == Face(5), "an iterator of a range that is gone");

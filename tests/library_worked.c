@@ -308,8 +308,58 @@ static void drafts_of_a_wire(void)
     HOLDS(gwb_draft(&g) == 9);
 }
 
+/* Half-edges and corners as numbers, on both sides of the bounds above which there are none. */
+static void codes(void)
+{
+    HOLDS(gwb_plus(7) == 14 && gwb_minus(7) == 15 && gwb_lone(3) == 0x80000003 && GWB_LONE(3) == gwb_lone(3));
+    HOLDS(gwb_plus(GWB_GREATEST_EDGE) == 0x7FFFFFFE && gwb_minus(GWB_GREATEST_EDGE) == 0x7FFFFFFF);
+    HOLDS(gwb_plus(GWB_GREATEST_EDGE + 1) == 0x7FFFFFFE && gwb_minus(UINT32_MAX) == 0x7FFFFFFF);
+    HOLDS(gwb_lone(0x7FFFFFFE) == 0xFFFFFFFE && gwb_lone(0x7FFFFFFF) == UINT32_MAX && gwb_lone(0x80000002) == UINT32_MAX);
+    gwb g = opened();
+    uint32_t kinds[] = {gwb_mvfs(&g, 1, 1, 2, 1, 0, 0, 0), gwb_mev(&g, gwb_plus(0x40000001), gwb_plus(0x40000001), 1, 2, 1, 0, 0),
+                        gwb_mev(&g, gwb_lone(0x80000002), gwb_lone(0x80000002), 1, 2, 1, 0, 0),
+                        gwb_mev(&g, gwb_lone(2), gwb_lone(2), 1, 2, 1, 0, 0), gwb_kev(&g, gwb_plus(2147483649u))};
+    gwb_refusal refusal = {0, 0};
+    KINDS(kinds, 1, 2, 2, 1, 2);
+    HOLDS(gwb_last_refusal(&g, &refusal) == 1 && refusal.number == 1 && refusal.value == GWB_GREATEST_EDGE);
+    gwb_close(&g);
+}
+
+/* The neighbours of the half-edges of a block, and what readers leave as it is. */
+static void neighbours(void)
+{
+    gwb g = opened();
+    HOLDS(gwb_block(&g, 1, 0, 0, 0, 4, 4, 4) == 1);
+    const gwb before = g;
+    uint32_t next, back, loop, face, half_edge, found = 0;
+    gwb_edge_row ends;
+    for (uint32_t at = 2; at < 26; at++) {
+        HOLDS(gwb_next_half_edge(&g, at, &next) == 1 && gwb_previous_half_edge(&g, next, &back) == 1 && back == at);
+        HOLDS(gwb_half_edge_loop(&g, at, &loop) == 1 && gwb_half_edge_loop(&g, next, &back) == 1 && back == loop);
+        HOLDS(gwb_loop(&g, loop, &face) == 1);
+    }
+    for (uint32_t vertex = 1; vertex <= 8; vertex++)
+        found += gwb_vertex_half_edge(&g, vertex, &half_edge) == 1 && gwb_edge(&g, half_edge / 2, &ends) == 1
+            && (half_edge % 2 == 0 ? ends.from : ends.to) == vertex;
+    HOLDS(found == 8 && gwb_vertex_half_edge(&g, 9, &half_edge) == 0 && gwb_half_edge_loop(&g, 26, &loop) == 0);
+    HOLDS(memcmp(&before, &g, sizeof g) == 0);
+    gwb_close(&g);
+    HOLDS(gwb_previous_half_edge(&g, 2, &back) == 9 && gwb_half_edge_loop(&g, 2, &loop) == 9 && gwb_vertex_half_edge(&g, 1, &half_edge) == 9);
+}
+
+/* Which kinds are answers that were asked for, and that each has a text. */
+static void kinds_of_answers(void)
+{
+    const bool wanted[] = {true, true, false, false, false, true, true, true, true, false, false, false, false, false};
+    for (unsigned kind = 0; kind < COUNT(wanted); kind++) {
+        HOLDS(gwb_succeeded((enum gwb_kind)kind) == wanted[kind]);
+        HOLDS((*gwb_kind_text((enum gwb_kind)kind) != '\0') == (kind <= GWB_NO_DRAFT));
+    }
+}
+
 static void (*const TESTS[])(void) = {split_through_a_hole, answers_as_values, too_little_room, longest_line, closed_handle, typed_calls,
-                                      typed_query, typed_rings, typed_laminas, typed_parts, drafts_of_a_wire};
+                                      typed_query, typed_rings, typed_laminas, typed_parts, drafts_of_a_wire, codes, neighbours,
+                                      kinds_of_answers};
 
 int main(void) {
     unsigned failed = 0;

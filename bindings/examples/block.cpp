@@ -9,9 +9,9 @@ using namespace gwb_session;
 static void print_faces(const Workbench &bench, Solid solid)
 {
     for (Face face : bench.faces(solid)) {
-        std::cout << "face " << face.number() << " has the half-edges";
+        std::cout << "face " << face << " has the half-edges";
         for (HalfEdge half_edge : bench.half_edges(bench.face(face).outer_loop))
-            std::cout << ' ' << (half_edge.is_second() ? '-' : '+') << half_edge.edge().number();
+            std::cout << ' ' << half_edge;
         std::cout << '\n';
     }
 }
@@ -21,7 +21,7 @@ static void print_volume(const Workbench &bench, Solid solid)
 {
     try {
         const std::int64_t volume = narrow(bench.six_volumes(solid)) / 6;
-        std::cout << "the volume of solid " << solid.number() << " is " << volume << '\n';
+        std::cout << "the volume of solid " << solid << " is " << volume << '\n';
     } catch (const RefusedBy<GWB_WHY_NO_SOLID> &refused) {
         std::cout << "there is no solid " << refused.value() << '\n';
     }
@@ -55,7 +55,7 @@ static void add_ring(Workbench &bench)
 static void print_sides(const Workbench &bench, Edge edge)
 {
     const auto [first, second] = bench.faces_of(edge);
-    std::cout << "edge " << edge.number() << " is between the faces " << first.number() << " and " << second.number() << '\n';
+    std::cout << "edge " << edge << " is between the faces " << first << " and " << second << '\n';
 }
 
 int main()
@@ -75,7 +75,7 @@ int main()
     print_sides(bench, Edge(7));
     // an edge stands up from the corner at which the first half-edge of edge 7 starts
     const NewVertex spike = bench.mev(plus(Edge(7)), plus(Edge(7)), {0, 0, 9});
-    std::cout << "vertex " << bench.edge(spike.edge).to.number() << " is at height " << bench.vertex(spike.vertex).z << '\n';
+    std::cout << "vertex " << bench.edge(spike.edge).to << " is at height " << bench.vertex(spike.vertex).z << '\n';
     add_ring(bench);
-    std::cout << "ring 7 is at vertex " << bench.lone_vertex(Loop(7))->number() << "; depth " << bench.depth() << '\n';
+    std::cout << "ring 7 is at vertex " << bench.lone_vertex(Loop(7)).value() << "; depth " << bench.depth() << '\n';
 }

@@ -6,7 +6,7 @@
 ///     Solid block = bench.block({0, 0, 0}, {4, 4, 4});
 ///     for (Face face : bench.faces(block))
 ///         for (Edge edge : bench.edges_of(face))
-///             std::cout << edge.number() << '\n';
+///             std::cout << edge << '\n';
 ///
 /// Commands, their arguments and their conditions are those of the script language (docs/SCRIPT.md). What isn't accepted is thrown, as an
 /// exception of its condition (RefusedBy<GWB_WHY_NO_FACE>); `bench.attempt()` has the same calls with a Result in place of exceptions, and
@@ -55,6 +55,14 @@ public:
     friend constexpr bool operator==(Id a, Id b) { return a.number_ == b.number_; }
     friend constexpr bool operator!=(Id a, Id b) { return a.number_ != b.number_; }
     friend constexpr bool operator<(Id a, Id b) { return a.number_ < b.number_; }
+    friend constexpr bool operator>(Id a, Id b) { return a.number_ > b.number_; }
+    friend constexpr bool operator<=(Id a, Id b) { return a.number_ <= b.number_; }
+    friend constexpr bool operator>=(Id a, Id b) { return a.number_ >= b.number_; }
+    /// Writes the number to a std::ostream.
+    template <class Stream> friend auto operator<<(Stream &stream, Id id) -> decltype(stream << std::uint32_t())
+    {
+        return stream << id.number_;
+    }
 
 private:
     std::uint32_t number_ = 0;
@@ -81,6 +89,11 @@ public:
     friend constexpr bool operator==(HalfEdge a, HalfEdge b) { return a.code_ == b.code_; }
     friend constexpr bool operator!=(HalfEdge a, HalfEdge b) { return a.code_ != b.code_; }
     friend constexpr bool operator<(HalfEdge a, HalfEdge b) { return a.code_ < b.code_; }
+    /// Writes it as a script does, +7 or -7, to a std::ostream.
+    template <class Stream> friend auto operator<<(Stream &stream, HalfEdge half_edge) -> decltype(stream << 'c')
+    {
+        return stream << (half_edge.is_second() ? '-' : '+') << half_edge.edge().number();
+    }
 
 private:
     std::uint32_t code_ = 0;
