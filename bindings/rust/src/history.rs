@@ -115,8 +115,8 @@ impl Reading {
     /// The half-edge in another reading that starts where one of this one does and goes the same way.
     fn along<'other>(&self, at: HalfEdge, other: &'other Self) -> Option<&'other HalfEdgeRow> {
         let start = self.sides[&at].start;
-        let leaving = other.leaving.get(&start).filter(|_| self.points.get(&start) == other.points.get(&start))?;
-        leaving.iter().find(|&&old| is_one_way(self.way(at), other.way(old))).map(|old| &other.sides[old])
+        let all = other.leaving.get(&start).filter(|_| self.points.get(&start) == other.points.get(&start))?;
+        all.iter().find(|&&old| is_one_way(self.way(at), other.way(old))).map(|old| &other.sides[old])
     }
 
     /// From where a half-edge starts to where it ends.

@@ -30,6 +30,7 @@
 
 mod draft;
 mod error;
+mod features;
 mod history;
 mod ids;
 mod operators;
@@ -40,6 +41,7 @@ mod session;
 
 pub use draft::Draft;
 pub use error::Error;
+pub use features::Motion;
 pub use history::{Change, Changes, ChangesOf, Noted, Notes, Reading};
 pub use ids::{lone, minus, plus, Corner, Edge, Face, HalfEdge, Id, Loop, Solid, Vertex};
 pub use operators::Operators;

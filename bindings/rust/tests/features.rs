@@ -1,0 +1,119 @@
+//! Solids from outside: killed, copied, moved, turned and mirrored.
+use gwb::{lone, minus, plus, Error, Face, Motion, Point, Refusal, Session, Solid};
+
+type Corners = Vec<Point>;
+
+/// A solid as its faces, each as its loops from their least points on, where each point lies after a motion.
+fn shape(session: &Session, solid: Solid, motion: Motion) -> Vec<Vec<Corners>> {
+    let mut faces: Vec<_> = session.faces(solid).map(|face| loops_at(session, face, motion)).collect();
+    faces.sort();
+    faces
+}
+
+fn loops_at(session: &Session, face: Face, motion: Motion) -> Vec<Corners> {
+    let mut loops = Vec::new();
+    for of_loop in session.loops_of(face) {
+        let starts = session.around(of_loop).map(|at| session.start_of(at).unwrap());
+        let mut corners: Corners = starts.chain(session.lone_vertex(of_loop)).map(|at| motion.moved(session.vertex(at).unwrap())).collect();
+        if motion.is_mirror() {
+            corners.reverse();
+        }
+        let least = (0..corners.len()).min_by_key(|&at| corners[at]).unwrap();
+        corners.rotate_left(least);
+        loops.push(corners);
+    }
+    loops.sort();
+    loops
+}
+
+/// A block with a pocket in its top, or with a hole.
+fn pocket(session: &mut Session, is_through: bool) -> Solid {
+    let block = session.block(None, [0, 0, 0], [8, 8, 8]).unwrap();
+    let sheet = session.lamina(None, &[[2, 2, 8], [6, 2, 8], [6, 6, 8], [2, 6, 8]]).unwrap();
+    let fresh = session.fresh::<Face>().unwrap();
+    let (front, back) = (Face(*fresh.start()), Face(*fresh.end()));
+    session.merge(block, sheet).unwrap();
+    session.kfmrh(Face(1), back).unwrap();
+    session.sweep(front, [0, 0, if is_through { -8 } else { -3 }]).unwrap();
+    if is_through {
+        session.kfmrh(Face(2), front).unwrap();
+    }
+    block
+}
+
+/// Two of them side by side, glued together.
+fn two_holes(session: &mut Session) -> Solid {
+    let first = pocket(session, true);
+    let second = session.copy_solid(first, Motion::by([8, 0, 0])).unwrap();
+    let at_eight = |solid, sign: i128| {
+        session.faces(solid).find(|&face| session.plane(face).map(|plane| plane.a * sign > 0 && plane.d == -8 * plane.a).unwrap()).unwrap()
+    };
+    let (one, other) = (at_eight(first, 1), at_eight(second, -1));
+    session.glue(one, other).unwrap();
+    first
+}
+
+fn wire(session: &mut Session) -> Solid {
+    let start = session.mvfs(None, None, None, None, [1, 2, 3]).unwrap();
+    let (edge, _) = session.mev(lone(start.of_loop), lone(start.of_loop), None, None, [5, 2, 3]).unwrap();
+    session.mev(plus(edge), plus(edge), None, None, [1, 7, 3]).unwrap();
+    session.mev(minus(edge), minus(edge), None, None, [5, 9, 4]).unwrap();
+    start.solid
+}
+
+/// Two blocks that are one solid, one of them with a lone ring.
+fn parts(session: &mut Session) -> Solid {
+    let one = session.block(None, [0, 0, 0], [2, 2, 2]).unwrap();
+    let (edge, _) = session.mev(plus(gwb::Edge(7)), plus(gwb::Edge(7)), None, None, [1, 1, 2]).unwrap();
+    session.kemr(plus(edge), None).unwrap();
+    let other = session.block(None, [5, 5, 5], [2, 2, 2]).unwrap();
+    session.merge(one, other).unwrap();
+    one
+}
+
+fn motions() -> [Motion; 6] {
+    let turned = Motion::quarter_turns(2, 1);
+    [Motion::default(), Motion::by([20, -3, 5]), Motion::quarter_turns(1, 2), turned, Motion::mirror(0), turned.then(Motion::mirror(1))]
+}
+
+fn try_solid(make: impl Fn(&mut Session) -> Solid) {
+    for motion in motions() {
+        let mut session = Session::new().unwrap();
+        let solid = make(&mut session);
+        let (depth, before, wanted) = (session.depth(), session.listing().unwrap(), shape(&session, solid, motion));
+        let copy = session.copy_solid(solid, motion).unwrap();
+        assert_eq!((shape(&session, copy, Motion::default()), session.depth()), (wanted.clone(), depth + 1));
+        assert_eq!(session.count(copy), session.count(solid));
+        session.kill_solid(copy).unwrap();
+        assert_eq!(session.listing().unwrap(), before);
+        session.move_solid(solid, motion).unwrap();
+        assert_eq!((shape(&session, solid, Motion::default()), session.depth()), (wanted, depth + 3));
+        session.undo().unwrap();
+        assert_eq!(session.listing().unwrap(), before);
+    }
+}
+
+#[test]
+fn pockets_and_holes_are_copied_and_moved() {
+    try_solid(|session| pocket(session, false));
+    try_solid(|session| pocket(session, true));
+    try_solid(two_holes);
+}
+
+#[test]
+fn wires_and_parts_are_copied_and_moved() {
+    try_solid(wire);
+    try_solid(parts);
+}
+
+#[test]
+fn what_is_refused_changes_nothing() {
+    let mut session = Session::new().unwrap();
+    let block = session.block(None, [0, 0, 0], [4, 4, 4]).unwrap();
+    let before = session.listing().unwrap();
+    let none = Err(Error::Refused { refusal: Refusal::NoSolid, value: 9 });
+    assert_eq!((session.kill_solid(Solid(9)), session.copy_solid(Solid(9), Motion::default()).map(drop)), (none, none));
+    let far = session.move_solid(block, Motion::by([1_000_000_000, 0, 0]));
+    assert!(matches!(far, Err(Error::Refused { refusal: Refusal::PointRange, .. })));
+    assert_eq!((session.listing().unwrap(), session.depth()), (before, 1));
+}
