@@ -126,8 +126,8 @@ impl Reading {
 }
 
 /// The numbers that others have not, each with what it was found from.
-fn missing<N: Id>(these: &BTreeSet<N>, those: &BTreeSet<N>, from: impl Fn(N) -> Option<N>) -> Vec<Change<N>> {
-    these.difference(those).map(|&id| Change { id, other: from(id) }).collect()
+fn missing<N: Id>(ids: &BTreeSet<N>, others: &BTreeSet<N>, from: impl Fn(N) -> Option<N>) -> Vec<Change<N>> {
+    ids.difference(others).map(|&id| Change { id, other: from(id) }).collect()
 }
 
 /// Whether two vectors have one direction. Each part is within 2,000,000,000 either way, so what is compared fits in 64 bits.
