@@ -801,7 +801,7 @@ struct NewFace {
 
 /// The calls of a workbench. Where the Policy is Throwing they give their value, and throw RefusedBy where a condition is false,
 /// std::bad_alloc where memory is refused; where it is Results they give a Result and throw nothing, but for std::bad_alloc of a
-/// std::vector or a std::string that they return. Where a call is not accepted the model is as it was.
+/// std::vector or a std::string that they make. Where a call is not accepted the model is as it was.
 ///
 /// A call that makes something takes the numbers of what it makes, or none: then it takes the least that are above all in use, and returns
 /// them.
