@@ -21,6 +21,10 @@ static void write_half_edge(struct writing *w, uint32_t half_edge, uint32_t next
 static void write_loop(struct writing *w, uint32_t loop, uint32_t face)
 {
     uint32_t first, at, next;
+    if (w->count >= w->room) {
+        w->count += gwb_half_edges(w->g, loop, &first, 0);
+        return;
+    }
     if (gwb_first_half_edge(w->g, loop, &first) != GWB_FOUND)
         return;
     at = first;
