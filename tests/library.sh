@@ -137,6 +137,8 @@ built 'features are built' library_features.cpp "${CXX:-c++}" -std=c++17 -Wold-s
 counted 'solids killed, copied and moved' "$dir/built/library_features"
 built 'threads are built' library_threads.c "${CC:-cc}" -std=gnu11 -O2 -pthread
 counted 'threads that read at once' "$dir/built/library_threads"
+built 'threads in C++ are built' library_sharing.cpp "${CXX:-c++}" -std=c++17 -pthread -Wold-style-cast -Wshadow
+counted 'threads that walk at once' "$dir/built/library_sharing"
 built 'heaps are built' library_heap.c "${CC:-cc}" -std=gnu11 -O2
 counted 'heaps of sessions' "$dir/built/library_heap"
 prints 'the example in Python' bindings/examples/block_python.expected bindings/examples/block.py "$dir/built/libgwb.so"
