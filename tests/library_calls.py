@@ -30,14 +30,19 @@ def way(word):
     return ctypes.c_uint32(('in', 'out').index(word))
 
 
-WORDS = {'n': number, 'w': whole, 'h': half, 'c': corner, 'o': way}
+def mark(word):
+    """How many steps of a draft stay."""
+    return ctypes.c_size_t(int(word))
+
+
+WORDS = {'m': mark, 'n': number, 'w': whole, 'h': half, 'c': corner, 'o': way}
 
 # by command: the kinds of words that it takes, in their order
 TAKES = {
     'mvfs': 'nnnnwww', 'kvfs': 'n', 'mev': 'ccnnwww', 'kev': 'h', 'mef': 'hhnnn', 'kef': 'h', 'kemr': 'hn', 'mekr': 'ccn', 'kfmrh': 'nn',
     'mfkrh': 'nn', 'ringmv': 'nno', 'block': 'nwwwwww', 'sweep': 'nwww', 'glue': 'nn', 'split': 'nwwwwn', 'undo': '', 'redo': '',
     # no script has these
-    'outer': 'nn', 'merge': 'nn', 'draft': '', 'commit': '', 'abandon': ''}
+    'outer': 'nn', 'merge': 'nn', 'draft': '', 'commit': '', 'abandon': '', 'back': 'm'}
 
 
 def lamina(solid, *coordinates):

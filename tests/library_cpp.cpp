@@ -493,17 +493,40 @@ static void try_what_outlives()
     check(throws<Closed>([&] { all(of_none); }) && bench.depth() == 1, "the range of one that was never kept");
 }
 
+// Larger commands are steps of a draft too, and a mark takes back what was given since.
+static void try_marks()
+{
+    Workbench bench = block();
+    Draft draft = bench.draft();
+    const Solid second = bench.block({0, 0, 4}, {4, 4, 4});
+    const Mark mark = bench.mark();
+    check(mark.steps() > 1 && bench.fresh<Face>()->first == Face(7), "a block in a draft");
+    bench.glue(Face(1), Face(8));
+    bench.split(Solid(1), 0, 0, 1, -6, Solid(5));
+    bench.lamina({{0, 0, 9}, {3, 0, 9}, {0, 3, 9}});
+    bench.sweep(bench.fresh<Face>()->first, {0, 0, 2});
+    check(throws<RefusedBy<GWB_WHY_SAME_FACE>>([&] { bench.kfmrh(Face(2), Face(2)); }), "a step that is refused");
+    bench.back(mark);
+    check(all(bench.numbers<Solid>()) == Wanted{1, 2} && narrow(bench.six_volumes(second)) == 384, "what was given since a mark is gone");
+    bench.back(mark);
+    check(bench.mark().steps() == mark.steps(), "going back where nothing was given changes nothing");
+    draft.commit();
+    check(bench.depth() == 2 && bench.fresh<Face>()->first == Face(7) && bench.fresh<Face>()->last == Face(12), "one command, and what it made");
+    check(throws<NoDraft>([&] { bench.back(mark); }) && bench.mark().steps() == 0, "a mark without a draft");
+    bench.undo();
+    check(all(bench.numbers<Solid>()) == Wanted{1}, "it is undone at once");
+    Draft other = bench.draft();
+    bench.kvfs(bench.mvfs({9, 9, 9}).solid);
+    bench.back(Mark());
+    check(bench.mark().steps() == 0 && all(bench.numbers<Solid>()) == Wanted{1}, "back to the beginning of a draft");
+}
+
 static void try_what_drafts_refuse()
 {
     Workbench bench = block();
     Draft draft = bench.draft();
     give_steps(bench);
     const std::function<void()> calls[] = {
-        [&] { bench.lamina(Solid(2), {{0, 0, 0}, {3, 0, 0}, {0, 3, 0}}); },
-        [&] { bench.block(Solid(2), {0, 0, 4}, {4, 4, 4}); },
-        [&] { bench.sweep(Face(1), {0, 0, 1}); },
-        [&] { bench.glue(Face(1), Face(2)); },
-        [&] { bench.split(Solid(1), 0, 0, 1, -2, Solid(2)); },
         [&] { bench.undo(); },
         [&] { bench.redo(); },
         [&] { bench.run("list"); },
@@ -602,6 +625,8 @@ static void try_closed(Workbench &bench)
         [&] { bench.lamina(Solid(1), {}); },
         [&] { bench.lamina({}); },
         [&] { (void)bench.draft(); },
+        [&] { (void)bench.mark(); },
+        [&] { bench.back(Mark()); },
         [&] { bench.block(Solid(1), {0, 0, 0}, {4, 4, 4}); },
         [&] { bench.block({0, 0, 0}, {4, 4, 4}); },
         [&] { bench.sweep(Face(1), {0, 0, 1}); },
@@ -682,6 +707,7 @@ int main()
                            try_abandoned_drafts,
                            try_stale_drafts,
                            try_what_outlives,
+                           try_marks,
                            try_what_drafts_refuse,
                            try_ranges,
                            try_moves,

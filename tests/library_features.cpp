@@ -185,32 +185,30 @@ static void try_random_triangles()
     }
 }
 
-static void try_guards()
+// In a draft they are steps of it, which a mark and the draft's end take back.
+static void try_drafts()
 {
     Workbench bench;
     const Solid block = bench.block({0, 0, 0}, {4, 4, 4});
     const std::string before = bench.listing();
+    Draft draft = bench.draft();
+    const Solid copy = copy_solid(bench, block, Motion::move({9, 0, 0}));
+    const Mark mark = bench.mark();
+    move_solid(bench, copy, Motion::mirror(1));
+    kill_solid(bench, block);
+    check(bench.faces(block).empty() && narrow(bench.six_volumes(copy)) == 384, "a copy in a draft, moved, and its model killed");
+    bench.back(mark);
+    check(shape(bench, copy) == shape(bench, block, Motion::move({9, 0, 0})), "a mark takes both back");
     try {
-        Guard guard(bench);
-        bench.split(block, 0, 0, 1, -2);
-        bench.block(Solid(9), {9, 9, 9}, {1, 1, 1});
-        bench.kvfs(block);
-    } catch (const RefusedBy<GWB_WHY_NOT_BARE> &) {
+        move_solid(bench, copy, Motion::move({1000000000, 0, 0}));
+        check(false, "a solid that would lie out of range");
+    } catch (const RefusedBy<GWB_WHY_POINT_RANGE> &) {
     }
-    check(bench.listing() == before && bench.depth() == 1, "commands that fall together");
-    bench.redo();
-    check(bench.listing() == before && bench.ahead() == 0, "what they did can't be redone");
+    check(shape(bench, copy) == shape(bench, block, Motion::move({9, 0, 0})), "what is refused leaves the draft as it was");
+    draft.commit();
+    check(bench.depth() == 2 && narrow(bench.six_volumes(copy)) == 384, "all is one command");
     bench.undo();
-    {
-        Guard guard(bench);
-        bench.block(Solid(9), {9, 9, 9}, {1, 1, 1});
-        guard.keep();
-        bench.block(Solid(8), {20, 9, 9}, {1, 1, 1});
-    }
-    check(bench.faces(Solid(8)).empty() && !bench.faces(Solid(9)).empty() && bench.depth() == 2, "what was kept stays");
-    bench.undo();
-    { Guard guard(bench); }
-    check(bench.ahead() == 2, "where none is given, what can be redone still can");
+    check(bench.listing() == before, "which is undone at once");
 }
 
 static void try_no_triangles()
@@ -269,13 +267,6 @@ static void try_refusals()
           }) == GWB_WHY_POINT_RANGE,
           "a solid that would lie out of range");
     check(bench.listing() == before && bench.depth() == 1, "refusals change nothing");
-    Draft draft = bench.draft();
-    try {
-        kill_solid(bench, block);
-        check(false, "kill_solid in a draft");
-    } catch (const InDraft &) {
-    }
-    draft.abandon();
     Attempts attempt = bench.attempt();
     check(copy_solid(attempt, Solid(9)).error().is(GWB_WHY_NO_SOLID) && *copy_solid(attempt, block) == Solid(2), "by attempts");
 }
@@ -296,7 +287,7 @@ int main()
         try_triangles("a lone ring", lone_ring);
         try_random_triangles();
         try_no_triangles();
-        try_guards();
+        try_drafts();
     } catch (const std::exception &thrown) {
         check(false, thrown.what());
     }

@@ -4,8 +4,8 @@
     tests/library_refusals.py LIBRARY       a shared object that was linked over counting_heap.c
 
 Each script of refused_growths.py is run in a session as often as it asks for memory, each time with another request refused: once with
-all its commands as lines, and once with those that have one as typed calls; and so are parts and drafts, which only typed calls make. After `memory` depths are as before, and the command given
-again has its answer; a text that was refused is given when it is asked for again; a session that could not be opened opens when it is
+all its commands as lines, and once with those that have one as typed calls; and so are parts and drafts, which only typed calls make. After
+`memory` depths are as before, and the command given again has its answer; a text that was refused is given when it is asked for again; a session that could not be opened opens when it is
 tried again; and when it is closed no block is held.
 """
 import ctypes
@@ -24,6 +24,9 @@ TYPED = {
     'part in a draft': POINTS + 'draft;part 2 2;part 3 3;commit;list;undo;list',
     'draft committed': 'mvfs 1 1 1 1 0 0 0;draft;mev @1 @1 1 2 3 0 0;mev -1 -1 2 3 0 3 0;mef -2 +1 3 2 2;kev +9;commit;list;undo;list;redo;list',
     'draft abandoned': 'mvfs 1 1 1 1 0 0 0;mev @1 @1 1 2 5 0 0;undo;draft;mev @1 @1 1 2 3 0 0;mev -1 -1 2 3 0 3 0;abandon;redo;list',
+    'larger commands in a draft': 'block 1 0 0 0 4 4 4;draft;block 2 0 0 4 4 4 4;glue 1 8;split 1 0 0 1 -6 3;commit;list;undo;list;redo;list',
+    'draft taken back to a mark': 'block 1 0 0 0 4 4 4;draft;mev +7 +7 13 9 2 2 4;block 2 0 0 4 4 4 4;lamina 3 0 0 9 3 0 9 0 3 9;sweep 13 0 0 2;back 1;'
+                                  'kemr +13 7;commit;list;undo;list',
     'draft given up': 'block 1 0 0 0 4 4 4;draft;mev +7 +7 13 9 2 2 4;kemr +13 7',
 }
 

@@ -1,7 +1,7 @@
 /* Compares typed calls with lines: reads lines of a script, gives each to one handle as a line and to another as a typed call, where one
  * spells it, and compares kinds, refusals, fresh numbers, depths, texts, and from time to time the listings; and the version with the header's.
- * From time to time operators are made steps of a draft of the second handle: one that is committed is compared with the same steps as
- * commands of their own, and one that is abandoned with the model before it.
+ * From time to time operators and larger commands are made steps of a draft of the second handle, some of them taken back to a mark and given
+ * again: one that is committed is compared with the same steps as commands of their own, and one that is abandoned with the model before it.
  *
  *   tests/random_lines.py LINES | library_typed
  *
@@ -86,8 +86,8 @@ static const struct {
     {"mekr", "ccn"}, {"kfmrh", "nn"}, {"mfkrh", "nn"}, {"ringmv", "nno"}, {"block", "nwwwwww"}, {"sweep", "nwww"}, {"glue", "nn"},
     {"split", "nwwwwn"}, {"undo", ""}, {"redo", ""}, {"plane", "n"}, {"volume", "n"}, {"count", "n"}};
 
-/* A command of as many words as it has points; where the operators end in COMMANDS, and where the queries begin. */
-enum { LAMINA = 100, OPERATORS = 11, QUERIES = 17 };
+/* A command of as many words as it has points; where in COMMANDS the operators end and the larger commands, and where the queries begin. */
+enum { LAMINA = 100, OPERATORS = 11, CHANGES = 15, QUERIES = 17 };
 
 static int64_t argument(words *w, char takes, int i)
 {
@@ -289,7 +289,7 @@ static void refuse_in_draft(gwb *g, const command *c)
 {
     gwb_refusal before = {0, 0}, after = {0, 0};
     uint32_t found = gwb_last_refusal(g, &before);
-    uint32_t told[] = {as_line(g, c), gwb_undo(g), gwb_redo(g), gwb_block(g, 99, 0, 0, 0, 1, 1, 1), gwb_draft(g)};
+    uint32_t told[] = {as_line(g, c), gwb_undo(g), gwb_redo(g), gwb_draft(g)};
     for (size_t i = 0; i < sizeof told / sizeof *told; i++) {
         if (told[i] != GWB_IN_DRAFT) fail("a call in a draft", c->line);
     }
@@ -305,13 +305,26 @@ static void open_draft(pair *p)
     p->count = p->taken = 0;
     p->drafts += 1;
     if (gwb_commit(&p->typed) != GWB_NO_DRAFT || gwb_abandon(&p->typed) != GWB_NO_DRAFT) fail("a call of a draft", "none is open");
+    if (gwb_back(&p->typed, 0) != GWB_NO_DRAFT || gwb_mark(&p->typed) != 0) fail("a mark", "none is open");
     if (gwb_draft(&p->typed) != GWB_OK) fail("the kind", "a draft");
 }
 
-/* A step of the draft, and, where it is not alone, the same operator as a line of the other handle. */
+/* A step of the draft, taken back and given again where it is the third of three. */
+static uint32_t stepped(gwb *g, size_t count, const command *c)
+{
+    size_t mark = gwb_mark(g);
+    uint32_t kind = as_call(g, c);
+    if ((gwb_mark(g) > mark) != (kind == GWB_OK)) fail("the steps", c->line);
+    if (count % 3 != 2) return kind;
+    if (gwb_back(g, mark) != GWB_OK || gwb_mark(g) != mark) fail("a mark", c->line);
+    if (as_call(g, c) != kind) fail("the kind of a step given again", c->line);
+    return kind;
+}
+
+/* A step of the draft, and, where it is not alone, the same command as a line of the other handle. */
 static void step(pair *p, const command *c)
 {
-    uint32_t kind = as_call(&p->typed, c);
+    uint32_t kind = stepped(&p->typed, p->count, c);
     if (!p->is_alone && as_line(&p->lines, c) != kind) fail("the kind of a step", c->line);
     p->taken += kind == GWB_OK;
     p->steps[p->count] = *c;
@@ -360,6 +373,12 @@ static bool is_operator(const command *c)
     return c->place >= 0 && c->place < OPERATORS;
 }
 
+/* Whether it is an operator or a larger command. */
+static bool is_change(const command *c)
+{
+    return (c->place >= 0 && c->place < CHANGES) || c->place == LAMINA;
+}
+
 static bool is_query(const command *c)
 {
     return c->place >= QUERIES && c->place < LAMINA;
@@ -377,7 +396,7 @@ static void hear(pair *p, const command *c)
     if (!p->is_open && is_operator(c) && p->calls + p->others >= p->next_draft) open_draft(p);
     if (!p->is_open) {
         give(p, c);
-    } else if (is_operator(c)) {
+    } else if (is_change(c)) {
         step(p, c);
     } else if (is_query(c) && !p->is_alone) {
         ask(p, c);

@@ -271,11 +271,11 @@ static void typed_parts(void)
     gwb_close(&g);
 }
 
-/* A wire in a draft: its steps, one of them refused, and what a draft has not. */
+/* A wire in a draft: its steps, one of them refused, one taken back to a mark, and what a draft has not. */
 static void drafts_a_wire(gwb *g)
 {
     uint32_t lone = GWB_LONE(1);
-    uint32_t kinds[10];
+    uint32_t kinds[12];
     kinds[0] = gwb_commit(g);
     kinds[1] = gwb_draft(g);
     kinds[2] = gwb_mvfs(g, 1, 1, 1, 1, 0, 0, 0);
@@ -284,9 +284,15 @@ static void drafts_a_wire(gwb *g)
     kinds[5] = gwb_draft(g);
     kinds[6] = gwb_undo(g);
     kinds[7] = given(g, "list");
+    size_t mark = gwb_mark(g);
     kinds[8] = gwb_lamina(g, 2, CORNERS, 3);
-    kinds[9] = gwb_commit(g);
-    KINDS(kinds, 12, 1, 1, 1, 2, 11, 11, 11, 11, 1);
+    HOLDS(mark == 2 && gwb_mark(g) > mark);
+    kinds[9] = gwb_back(g, mark);
+    HOLDS(gwb_mark(g) == mark);
+    kinds[10] = gwb_commit(g);
+    kinds[11] = gwb_back(g, mark);
+    HOLDS(gwb_mark(g) == 0);
+    KINDS(kinds, 12, 1, 1, 1, 2, 11, 11, 11, 1, 1, 1, 12);
 }
 
 /* A draft that is committed is one command, one that is abandoned leaves what can be redone, and one that is open can be closed. */
@@ -305,7 +311,7 @@ static void drafts_of_a_wire(void)
     kinds[7] = gwb_kev(&g, 2);
     KINDS(kinds, 1, 1, 1, 1, 12, 1, 1, 1);
     gwb_close(&g);
-    HOLDS(gwb_draft(&g) == 9);
+    HOLDS(gwb_draft(&g) == 9 && gwb_back(&g, 0) == 9 && gwb_mark(&g) == SIZE_MAX);
 }
 
 /* Half-edges and corners as numbers, on both sides of the bounds above which there are none. */

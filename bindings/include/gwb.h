@@ -91,7 +91,7 @@ static inline const char *gwb_kind_text(enum gwb_kind kind)
     case GWB_LISTING: return "a listing";
     case GWB_CLOSED: return "the handle is closed";
     case GWB_NO_CALL: return "the arguments make no command";
-    case GWB_IN_DRAFT: return "a draft is open, which takes operators alone";
+    case GWB_IN_DRAFT: return "a draft is open, which has no such call";
     case GWB_NO_DRAFT: return "no draft is open";
     }
     return "";
@@ -241,8 +241,8 @@ static inline uint32_t gwb_last_plane(const gwb *g, gwb_plane *plane)
     return gwb_lent_last_plane(&copy, plane);
 }
 
-/** The fresh numbers of a kind (enum gwb_entity): those above all that were in use before the last command or query, up to the greatest in
- * use now. A larger command takes its faces, loops, edges and vertices there. GWB_ABSENT where there are none, and for solids, whose
+/** The fresh numbers of a kind (enum gwb_entity): those above all that were in use before the last command or line, up to the greatest in
+ * use now. A query by a typed call leaves them as they are. A larger command takes its faces, loops, edges and vertices there. GWB_ABSENT where there are none, and for solids, whose
  * numbers a command names. A reader. */
 static inline uint32_t gwb_fresh(const gwb *g, uint32_t entity, gwb_range *range)
 {
@@ -466,11 +466,11 @@ enum gwb_kind gwb_undo(gwb *g);
 /** Does the command again that was taken back last. */
 enum gwb_kind gwb_redo(gwb *g);
 
-/* A draft of the next command: from gwb_draft on, each operator is a step of it, and readers and queries speak of the model that the steps
- * make. A step that is not GWB_OK changes nothing, and the draft goes on. gwb_close gives a draft up.
+/* A draft of the next command: from gwb_draft on, each operator and each larger command is a step of it, or several, and readers and queries
+ * speak of the model that the steps make. A call that is not GWB_OK changes nothing, and the draft goes on. gwb_close gives a draft up.
  *
- * In a draft a line, a lamina, block, sweep, glue or split, undo, redo and a second gwb_draft are GWB_IN_DRAFT; gwb_commit and gwb_abandon
- * without a draft are GWB_NO_DRAFT. */
+ * In a draft a line, undo, redo and a second gwb_draft are GWB_IN_DRAFT; gwb_commit, gwb_abandon and gwb_back without a draft are
+ * GWB_NO_DRAFT. */
 
 /** Opens a draft. */
 enum gwb_kind gwb_draft(gwb *g);
@@ -478,6 +478,21 @@ enum gwb_kind gwb_draft(gwb *g);
 enum gwb_kind gwb_commit(gwb *g);
 /** Takes the steps back: the session is as it was, what could be redone included. It takes no memory. */
 enum gwb_kind gwb_abandon(gwb *g);
+/** Takes the steps since a mark back, and leaves the draft open; where there are no more steps than that, nothing changes. It takes no
+ * memory. */
+enum gwb_kind gwb_back(gwb *g, size_t mark);
+
+/** @cond the export of the reader */
+size_t gwb_lent_mark(gwb *copy);
+/** @endcond */
+
+/** How many steps the draft has, as a mark for gwb_back: each operator is one, a larger command has as many as it has operators. 0 where no draft is
+ * open, SIZE_MAX where the handle is closed. A reader. */
+static inline size_t gwb_mark(const gwb *g)
+{
+    gwb copy = *g;
+    return gwb_lent_mark(&copy);
+}
 
 /* ---- queries: the kind is theirs and the value is written, as the last answer has it, or it is GWB_REFUSED or GWB_CLOSED and nothing is
  * */

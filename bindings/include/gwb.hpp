@@ -174,7 +174,7 @@ enum class Problem {
     memory,   ///< memory was refused; the call may be given again
     closed,   ///< the workbench was moved from, its handle was closed, or it is gone
     no_call,  ///< the arguments make no command: more than 64 points, or a part of no faces
-    in_draft, ///< a draft is open, which takes operators alone
+    in_draft, ///< a draft is open, which has no line, undo, redo or second draft
     no_draft, ///< the draft has ended
     absent,   ///< the number is not in use
     changed,  ///< the model has changed since a walk over it began
@@ -332,11 +332,11 @@ public:
     explicit NoCall(std::string_view command) : Misused(std::string(command) + ": these arguments make no command") {}
 };
 
-/// A draft takes operators alone: no larger command, line, undo, redo or second draft.
+/// A draft has no line, undo, redo or second draft.
 class InDraft : public Misused {
 public:
     explicit InDraft(std::string_view command)
-        : Misused(std::string(command.substr(0, 100)) + ": a draft is open, which takes operators alone")
+        : Misused(std::string(command.substr(0, 100)) + ": a draft is open, which has no such call")
     {
     }
 };
@@ -413,6 +413,23 @@ private:
 
 // ---- what workbenches, their drafts and their ranges share
 
+/// How far a draft had come: Commands::mark(), Commands::back().
+class Mark {
+public:
+    /// Where it begins.
+    Mark() = default;
+    /// How many steps it had.
+    [[nodiscard]] std::size_t steps() const { return steps_; }
+
+private:
+    friend class State;
+    /// For each kind the first and the last number, 0 where there is none.
+    using Ranges = std::array<gwb_range, 5>;
+
+    std::size_t steps_ = 0;
+    Ranges made_{}; ///< by the steps until then
+};
+
 /// A session, shared by its workbench, the drafts and the ranges of it. It is closed as soon as the workbench is gone; what is left of it
 /// says so.
 class State {
@@ -463,6 +480,23 @@ public:
         return ++draft;
     }
 
+    /// How far the draft that is open has come.
+    [[nodiscard]] Mark mark(std::size_t steps) const
+    {
+        Mark mark;
+        mark.steps_ = steps;
+        mark.made_ = drafted_;
+        return mark;
+    }
+
+    /// After the steps since a mark were taken back.
+    void go_back(const Mark &mark)
+    {
+        changes++;
+        is_kept_ = false;
+        drafted_ = mark.made_;
+    }
+
     /// After a draft has ended; where it was committed it has made what its steps made.
     void end_draft(bool is_committed)
     {
@@ -473,8 +507,7 @@ public:
     }
 
 private:
-    /// For each kind the first and the last number, 0 where there is none.
-    using Ranges = std::array<gwb_range, 5>;
+    using Ranges = Mark::Ranges;
 
     [[nodiscard]] gwb_range live(gwb_entity kind) const
     {
@@ -731,13 +764,15 @@ private:
 
 template <class Policy> class Commands;
 
-/// A draft of a workbench's next command: the operators given while it is open become one command when it is committed, also where there
-/// were none. At the end of its scope it is abandoned, unless it was committed: then the workbench is as it was before, what can be redone
-/// included. A refused step changes nothing and leaves it open. It may outlive its workbench, which is Closed for it then.
+/// A draft of a workbench's next command: the operators and larger commands given while it is open become one command when it is committed,
+/// also where there were none. At the end of its scope it is abandoned, unless it was committed: then the workbench is as it was before, what
+/// can be redone included. What is refused changes nothing and leaves it open. It may outlive its workbench, which is Closed for it then.
 ///
 ///     Draft draft = bench.draft();
-///     bench.mev(plus(Edge(7)), plus(Edge(7)), Edge(13), Vertex(9), {2, 2, 4});
-///     bench.kemr(plus(Edge(13)), Loop(7));
+///     const Solid first = bench.block({0, 0, 0}, {4, 4, 4});
+///     const Mark mark = bench.mark();
+///     bench.split(first, 0, 0, 1, -2);
+///     bench.back(mark); // without the split
 ///     draft.commit();
 template <class Policy> class BasicDraft {
 public:
@@ -809,7 +844,8 @@ struct NewFace {
 /// Measures (plane, six_volumes, count, listing) are const and keep the last answer, so they are no readers in the sense of gwb.h: no other
 /// call for the workbench may run at once with them. All other const methods are readers, of which many may run at once.
 ///
-/// While a draft is open, operators are its steps, readers and measures speak of its model, and what it does not take is InDraft.
+/// While a draft is open, operators and larger commands are its steps, readers and measures speak of its model, and lines, undo, redo and a
+/// second draft are InDraft.
 template <class Policy> class Commands {
 public:
     template <class T> using Returned = typename Policy::template Returned<T>;
@@ -950,6 +986,22 @@ public:
         if (kind != GWB_OK)
             return Policy::template failed<Draft>("draft", failure(kind));
         return Draft(state_);
+    }
+
+    /// How far the draft that is open has come, for back().
+    [[nodiscard]] Returned<Mark> mark() const
+    {
+        const std::size_t steps = gwb_mark(seen());
+        return steps != SIZE_MAX ? Returned<Mark>(state_->mark(steps)) : Policy::template failed<Mark>("mark", {Problem::closed});
+    }
+    /// Takes the draft's steps since a mark back, and leaves it open. NoDraft where none is open.
+    Returned<void> back(const Mark &mark)
+    {
+        const gwb_kind kind = gwb_back(held(), mark.steps());
+        if (kind != GWB_OK)
+            return Policy::template failed<void>("back", failure(kind));
+        state_->go_back(mark);
+        return Returned<void>();
     }
 
     Returned<void> undo() { return told("undo", gwb_undo(held())); }

@@ -1,5 +1,6 @@
 /// @file gwb_features.hpp
-/// Whole solids killed, copied and moved, for C++17: each by operators in a draft, and so one command.
+/// Whole solids killed, copied and moved, for C++17: each by operators in a draft, and so one command; where a draft is open, they are steps of
+/// it.
 ///
 ///     using namespace gwb_session;
 ///     Solid other = copy_solid(bench, block, Motion::mirror(0));        // x becomes -x
@@ -14,46 +15,6 @@
 #include <unordered_map>
 
 namespace gwb_session {
-
-/// Commands that stand or fall together, the larger ones too: those given since it began are taken back at the end of its scope, unless it
-/// was kept. What they did can't be redone then; in the place of that stands a command that does nothing. Kept, they are as many to undo as
-/// they were.
-class Guard {
-public:
-    template <class Policy> explicit Guard(const Commands<Policy> &bench) : bench_(bench.attempt()), depth_(gwb_depth(bench.handle())) {}
-    Guard(const Guard &) = delete;
-    Guard &operator=(const Guard &) = delete;
-    ~Guard() { take_back(); }
-
-    /// The commands given so far stay.
-    void keep() { depth_ = gwb_depth(bench_.handle()); }
-    /// Those given since it began, or was kept, go.
-    void take_back()
-    {
-        const bool are_any = is_above();
-        while (is_above() && bench_.undo()) {
-        }
-        if (are_any && !is_above() && forget())
-            (void)bench_.undo();
-    }
-
-private:
-    [[nodiscard]] bool is_above() const
-    {
-        const std::size_t depth = gwb_depth(bench_.handle());
-        return depth != SIZE_MAX && depth > depth_;
-    }
-
-    /// Makes a command that does nothing, after which nothing can be redone.
-    bool forget()
-    {
-        Result<Attempts::Draft> nothing = bench_.draft();
-        return nothing && nothing->commit();
-    }
-
-    Attempts bench_;
-    std::size_t depth_;
-};
 
 /// Where points go: each axis to an axis, either way round, and then by a vector.
 class Motion {
@@ -396,50 +357,84 @@ template <class Policy, class T> typename Policy::template Returned<T> returned(
         return *result;
 }
 
+/// Commands that are one: in a draft of their own, or as steps of the draft that is open. Unless they are kept they are taken back. For the
+/// functions below.
+class Together {
+public:
+    explicit Together(const Attempts &bench) : bench_(bench), draft_(bench_.draft())
+    {
+        if (is_within())
+            mark_ = *bench_.mark();
+    }
+    Together(const Together &) = delete;
+    Together &operator=(const Together &) = delete;
+    ~Together()
+    {
+        if (!is_kept_ && is_within())
+            (void)bench_.back(mark_);
+    }
+
+    /// Whether commands can be given: not where the workbench is closed or memory is refused.
+    [[nodiscard]] Result<void> begun() const { return draft_ || is_within() ? Result<void>() : Result<void>(draft_.error()); }
+    /// Takes all that was given so far back.
+    void take_back() { (void)bench_.back(mark_); }
+    Result<void> keep()
+    {
+        is_kept_ = true;
+        return draft_ ? draft_->commit() : Result<void>();
+    }
+
+private:
+    [[nodiscard]] bool is_within() const { return !draft_ && draft_.error().problem == Problem::in_draft; }
+
+    Attempts bench_;
+    Result<Attempts::Draft> draft_;
+    Mark mark_;
+    bool is_kept_ = false;
+};
+
 /// A solid goes, with all its parts. Refused: NoSolid.
 template <class Policy> typename Policy::template Returned<void> kill_solid(Commands<Policy> &bench, Solid solid)
 {
-    Result<Attempts::Draft> draft = bench.attempt().draft();
-    if (!draft)
-        return returned<Policy>("kill_solid", Result<void>(draft.error()));
-    Result<void> taken = TakenApart(bench.attempt()).take(solid);
-    return returned<Policy>("kill_solid", taken ? draft->commit() : taken);
+    Together commands(bench.attempt());
+    Result<void> done = commands.begun();
+    if (done)
+        done = TakenApart(bench.attempt()).take(solid);
+    if (done)
+        done = commands.keep();
+    return returned<Policy>("kill_solid", done);
 }
 
 /// A new solid, that is another moved; its numbers are above all in use. Refused: NoSolid; PointRange: a vertex would lie out of range;
 /// NumberRange: too few numbers are left.
 template <class Policy> typename Policy::template Returned<Solid> copy_solid(Commands<Policy> &bench, Solid solid, const Motion &motion = {})
 {
+    Together commands(bench.attempt());
     TakenApart parts(bench.attempt());
-    {
-        Result<Attempts::Draft> draft = bench.attempt().draft();
-        if (!draft)
-            return returned<Policy>("copy_solid", Result<Solid>(draft.error()));
-        if (Result<void> taken = parts.take(solid); !taken)
-            return returned<Policy>("copy_solid", Result<Solid>(taken.error()));
-    }
-    Result<Attempts::Draft> draft = bench.attempt().draft();
-    if (!draft)
-        return returned<Policy>("copy_solid", Result<Solid>(draft.error()));
+    Result<void> done = commands.begun();
+    if (done)
+        done = parts.take(solid);
+    if (!done)
+        return returned<Policy>("copy_solid", Result<Solid>(done.error()));
+    commands.take_back();
     Result<Solid> made = parts.make(motion, false);
     if (made)
-        if (Result<void> committed = draft->commit(); !committed)
-            made = committed.error();
-    return returned<Policy>("copy_solid", made);
+        done = commands.keep();
+    return returned<Policy>("copy_solid", done ? made : Result<Solid>(done.error()));
 }
 
 /// A solid lies elsewhere, with the numbers that it has; some of its edges may run the other way. Refused as copy_solid is.
 template <class Policy> typename Policy::template Returned<void> move_solid(Commands<Policy> &bench, Solid solid, const Motion &motion)
 {
+    Together commands(bench.attempt());
     TakenApart parts(bench.attempt());
-    Result<Attempts::Draft> draft = bench.attempt().draft();
-    if (!draft)
-        return returned<Policy>("move_solid", Result<void>(draft.error()));
-    Result<void> taken = parts.take(solid);
-    if (!taken)
-        return returned<Policy>("move_solid", taken);
-    Result<Solid> made = parts.make(motion, true);
-    return returned<Policy>("move_solid", made ? draft->commit() : Result<void>(made.error()));
+    Result<void> done = commands.begun();
+    if (done)
+        done = parts.take(solid);
+    if (!done)
+        return returned<Policy>("move_solid", done);
+    const Result<Solid> made = parts.make(motion, true);
+    return returned<Policy>("move_solid", made ? commands.keep() : Result<void>(made.error()));
 }
 
 } // namespace gwb_session
