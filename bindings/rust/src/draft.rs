@@ -1,8 +1,10 @@
+use crate::operators::Ranges;
 use crate::{Error, Operators, Session};
 use std::mem::ManuallyDrop;
 use std::ops::{Deref, DerefMut};
 
-/// A draft of the next command of a session, which it borrows: its operators are steps, and readers and measures speak of its model.
+/// A draft of the next command of a session, which it borrows: its operators and larger commands are steps, and readers and measures speak of
+/// its model.
 ///
 /// [`commit`](Self::commit) makes the steps one command. Where it is dropped, they are taken back: the session is as it was before, what
 /// can be redone included. A step that is refused changes nothing and leaves the draft open.
@@ -21,12 +23,27 @@ use std::ops::{Deref, DerefMut};
 /// # Ok::<(), Error>(())
 /// ```
 ///
-/// It has operators alone, so there is no larger command, line, undo or redo in it:
+/// What was given since a mark can be taken back alone:
+///
+/// ```
+/// # use gwb::{Error, Session, Solid};
+/// # let mut session = Session::new()?;
+/// let mut draft = session.draft()?;
+/// let block = draft.block(None, [0, 0, 0], [4, 4, 4])?;
+/// let mark = draft.mark();
+/// draft.split(block, [0, 0, 1, -2], None)?;
+/// draft.back(mark)?;
+/// draft.commit()?;
+/// assert_eq!((session.six_volumes(block)?, session.depth()), (384, 1));
+/// # Ok::<(), Error>(())
+/// ```
+///
+/// It has no line, undo or redo:
 ///
 /// ```compile_fail,E0599
 /// # let mut session = gwb::Session::new().unwrap();
 /// let mut draft = session.draft().unwrap();
-/// draft.block(None, [0, 0, 0], [4, 4, 4]);
+/// draft.undo();
 /// ```
 #[derive(Debug)]
 #[must_use = "a draft is abandoned where it is dropped"]
@@ -34,9 +51,33 @@ pub struct Draft<'session> {
     session: &'session mut Session,
 }
 
+/// How far a draft had come.
+#[derive(Clone, Copy, Debug)]
+pub struct Mark {
+    steps: usize,
+    made: Option<Ranges>,
+}
+
 impl<'session> Draft<'session> {
     pub(crate) fn new(session: &'session mut Session) -> Self {
         Self { session }
+    }
+
+    /// How far the draft has come, for [`back`](Self::back).
+    #[must_use]
+    pub fn mark(&self) -> Mark {
+        Mark { steps: self.steps(), made: self.drafted() }
+    }
+
+    /// Takes the steps since a mark back; where there are none, nothing changes. It takes no memory.
+    ///
+    /// # Errors
+    /// [`Error::NoDraft`] as of [`commit`](Self::commit).
+    pub fn back(&mut self, mark: Mark) -> Result<(), Error> {
+        // SAFETY: the session is borrowed, so its handle is open.
+        self.answered(unsafe { gwb_sys::gwb_back(self.handle(), mark.steps) })?;
+        self.go_back(mark.made);
+        Ok(())
     }
 
     /// The steps are one command from here on, also where there are none. It takes no memory.

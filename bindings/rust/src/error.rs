@@ -18,7 +18,7 @@ pub enum Error {
     Memory,
     /// The arguments make no command: more than 64 points, or a part of no faces.
     NoCall,
-    /// A draft is open, which takes operators alone. A [`Draft`](crate::Draft) borrows its session, so this comes only after one was
+    /// A draft is open, which has no line, undo, redo or second draft. A [`Draft`](crate::Draft) borrows its session, so this comes only after one was
     /// forgotten (`std::mem::forget`).
     InDraft,
     /// No draft is open that could be committed. A [`Draft`](crate::Draft) is open as long as it is there, so this doesn't come from one.
@@ -34,7 +34,7 @@ impl fmt::Display for Error {
             Self::Fault(number) => write!(f, "fault {number}"),
             Self::Memory => f.write_str("memory was refused"),
             Self::NoCall => f.write_str("the arguments make no command"),
-            Self::InDraft => f.write_str("a draft is open, which takes operators alone"),
+            Self::InDraft => f.write_str("a draft is open, which has no such call"),
             Self::NoDraft => f.write_str("there is no draft"),
             Self::Unknown(number) => write!(f, "the library answers {number}, which this version does not know"),
         }

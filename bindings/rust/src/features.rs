@@ -1,5 +1,5 @@
-//! Whole solids killed, copied and moved: each by operators in a draft, and so one command.
-use crate::{lone, minus, plus, Corner, Draft, Edge, Error, Face, HalfEdge, Id, Loop, Operators, Point, Session, Solid, Vertex};
+//! Whole solids killed, copied and moved, by operators in a draft.
+use crate::{lone, minus, plus, Corner, Draft, Edge, Error, Face, HalfEdge, Id, Loop, Mark, Operators, Point, Session, Solid, Vertex};
 use std::collections::HashMap;
 
 /// Where points go: each axis to an axis, either way round, and then by a vector.
@@ -64,18 +64,53 @@ impl Motion {
     }
 }
 
-impl Session {
+impl Draft<'_> {
     /// A solid goes, with all its parts. It takes as many operators as the solid has edges, and a few for each ring, handle and part of it.
     ///
     /// # Errors
-    /// [`Error::Refused`] where it is not there; [`Error::Memory`].
+    /// [`Error::Refused`] where it is not there; [`Error::Memory`]. Then the draft is as it was.
     pub fn kill_solid(&mut self, solid: Solid) -> Result<(), Error> {
-        let mut draft = self.draft()?;
-        TakenApart::take(&mut draft, solid)?;
-        draft.commit()
+        self.together(|draft, _| TakenApart::take(draft, solid).map(drop))
     }
 
     /// A new solid, that is another moved; its numbers are above all in use.
+    ///
+    /// # Errors
+    /// [`Error::Refused`] where the solid is not there, a vertex would lie out of range, or too few numbers are left; [`Error::Memory`]. Then the
+    /// draft is as it was.
+    pub fn copy_solid(&mut self, solid: Solid, motion: Motion) -> Result<Solid, Error> {
+        self.together(|draft, mark| {
+            let parts = TakenApart::take(draft, solid)?;
+            draft.back(mark)?;
+            parts.make(draft, motion, None)
+        })
+    }
+
+    /// A solid lies elsewhere, with the numbers that it has; some of its edges may run the other way.
+    ///
+    /// # Errors
+    /// As those of [`copy_solid`](Self::copy_solid).
+    pub fn move_solid(&mut self, solid: Solid, motion: Motion) -> Result<(), Error> {
+        self.together(|draft, _| TakenApart::take(draft, solid)?.make(draft, motion, Some(solid)).map(drop))
+    }
+
+    /// Gives commands that stand or fall together.
+    fn together<T>(&mut self, give: impl FnOnce(&mut Self, Mark) -> Result<T, Error>) -> Result<T, Error> {
+        let mark = self.mark();
+        give(self, mark).or_else(|error| self.back(mark).and(Err(error)))
+    }
+}
+
+impl Session {
+    /// As [`Draft::kill_solid`], as one command.
+    ///
+    /// # Errors
+    /// As those of [`Draft::kill_solid`].
+    pub fn kill_solid(&mut self, solid: Solid) -> Result<(), Error> {
+        self.drafted_alone(|draft| draft.kill_solid(solid))
+    }
+
+    /// As [`Draft::copy_solid`], as one command.
     ///
     /// ```
     /// # use gwb::{Error, Motion, Session};
@@ -87,24 +122,25 @@ impl Session {
     /// ```
     ///
     /// # Errors
-    /// [`Error::Refused`] where the solid is not there, a vertex would lie out of range, or too few numbers are left; [`Error::Memory`].
+    /// As those of [`Draft::copy_solid`].
     pub fn copy_solid(&mut self, solid: Solid, motion: Motion) -> Result<Solid, Error> {
-        let parts = TakenApart::take(&mut *self.draft()?, solid)?;
-        let mut draft = self.draft()?;
-        let made = parts.make(&mut draft, motion, None)?;
-        draft.commit()?;
-        Ok(made)
+        self.drafted_alone(|draft| draft.copy_solid(solid, motion))
     }
 
-    /// A solid lies elsewhere, with the numbers that it has; some of its edges may run the other way.
+    /// As [`Draft::move_solid`], as one command.
     ///
     /// # Errors
-    /// As those of [`copy_solid`](Self::copy_solid).
+    /// As those of [`Draft::move_solid`].
     pub fn move_solid(&mut self, solid: Solid, motion: Motion) -> Result<(), Error> {
-        let mut draft: Draft<'_> = self.draft()?;
-        let parts = TakenApart::take(&mut draft, solid)?;
-        parts.make(&mut draft, motion, Some(solid))?;
-        draft.commit()
+        self.drafted_alone(|draft| draft.move_solid(solid, motion))
+    }
+
+    /// Gives commands in a draft of their own.
+    fn drafted_alone<T>(&mut self, give: impl FnOnce(&mut Draft<'_>) -> Result<T, Error>) -> Result<T, Error> {
+        let mut draft = self.draft()?;
+        let value = give(&mut draft)?;
+        draft.commit()?;
+        Ok(value)
     }
 }
 

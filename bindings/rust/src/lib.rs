@@ -39,7 +39,7 @@ mod refusal;
 mod rows;
 mod session;
 
-pub use draft::Draft;
+pub use draft::{Draft, Mark};
 pub use error::Error;
 pub use features::Motion;
 pub use history::{Change, Changes, ChangesOf, Noted, Notes, Reading};

@@ -24,7 +24,7 @@ struct Fresh {
 }
 
 /// For each kind the first and the last number, or 0 and 0.
-type Ranges = [Range; 5];
+pub(crate) type Ranges = [Range; 5];
 
 /// The range from the first of both to the last of both.
 fn joined(one: Range, other: Range) -> Range {
@@ -205,6 +205,55 @@ impl Operators {
         Ok(solid)
     }
 
+    /// A new solid of two faces through 3 to 64 points, one on either side.
+    ///
+    /// # Errors
+    /// [`Error::Refused`], [`Error::Memory`]; [`Error::NoCall`] where there are more points.
+    pub fn lamina<P: Copy + Into<Point>>(&mut self, solid: impl Into<Option<Solid>>, points: &[P]) -> Result<Solid, Error> {
+        let solid = self.named(solid);
+        let points: Vec<gwb_sys::Point> = points.iter().map(|&point| point.into()).map(|Point { x, y, z }| gwb_sys::Point { x, y, z }).collect();
+        self.told(unsafe { gwb_sys::gwb_lamina(self.handle(), solid.0, points.as_ptr(), points.len()) })?;
+        Ok(solid)
+    }
+
+    /// A new solid, the block that has the point as its lowest corner and edges along the axes, so long as the sizes say.
+    ///
+    /// # Errors
+    /// [`Error::Refused`], [`Error::Memory`].
+    pub fn block(&mut self, solid: impl Into<Option<Solid>>, corner: impl Into<Point>, sizes: impl Into<Point>) -> Result<Solid, Error> {
+        let (solid, at, by) = (self.named(solid), corner.into(), sizes.into());
+        self.told(unsafe { gwb_sys::gwb_block(self.handle(), solid.0, at.x, at.y, at.z, by.x, by.y, by.z) })?;
+        Ok(solid)
+    }
+
+    /// The face moves by a vector, and a new face rises over each of its half-edges. Sweep a lamina's first face along its normal: against
+    /// it the solid is inside out, and its volume negative.
+    ///
+    /// # Errors
+    /// [`Error::Refused`], [`Error::Memory`].
+    pub fn sweep(&mut self, face: Face, along: impl Into<Point>) -> Result<(), Error> {
+        let by = along.into();
+        self.told(unsafe { gwb_sys::gwb_sweep(self.handle(), face.0, by.x, by.y, by.z) })
+    }
+
+    /// The two solids of the faces become one along them. The faces go through the same points in opposite directions.
+    ///
+    /// # Errors
+    /// [`Error::Refused`], [`Error::Memory`].
+    pub fn glue(&mut self, face: Face, other: Face) -> Result<(), Error> {
+        self.told(unsafe { gwb_sys::gwb_glue(self.handle(), face.0, other.0) })
+    }
+
+    /// The solid is cut in two by the plane a x + b y + c z + d = 0; what lies where the sum is positive becomes the solid `above`.
+    ///
+    /// # Errors
+    /// [`Error::Refused`], [`Error::Memory`].
+    pub fn split(&mut self, solid: Solid, [a, b, c, d]: [i64; 4], above: impl Into<Option<Solid>>) -> Result<Solid, Error> {
+        let above = self.named(above);
+        self.told(unsafe { gwb_sys::gwb_split(self.handle(), solid.0, a, b, c, d, above.0) })?;
+        Ok(above)
+    }
+
     /// The plane of a face. It keeps the last answer.
     ///
     /// # Errors
@@ -262,6 +311,17 @@ impl Operators {
     /// After a draft was opened.
     pub(crate) fn begin_draft(&self) {
         self.fresh.drafted.set(Some(Ranges::default()));
+    }
+
+    /// What the steps of the draft that is open have made.
+    pub(crate) fn drafted(&self) -> Option<Ranges> {
+        self.fresh.drafted.get()
+    }
+
+    /// After the steps of the draft were taken back to where they had made this.
+    pub(crate) fn go_back(&self, drafted: Option<Ranges>) {
+        self.fresh.kept.set(None);
+        self.fresh.drafted.set(drafted);
     }
 
     /// After a draft has ended; where it was committed it has made what its steps made.

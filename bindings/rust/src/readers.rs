@@ -48,6 +48,12 @@ impl Readers {
         unsafe { gwb_sys::gwb_lent_ahead(&mut self.lent()) }
     }
 
+    /// How many steps the draft that is open has: 0 where there is none.
+    #[must_use]
+    pub fn steps(&self) -> usize {
+        unsafe { gwb_sys::gwb_lent_mark(&mut self.lent()) }
+    }
+
     /// The text of the last answer, its newline included.
     ///
     /// # Errors

@@ -1,13 +1,13 @@
 use crate::operators::Operators;
 use crate::readers::Shared;
-use crate::{Draft, Error, Face, Point, Solid};
+use crate::{Draft, Error};
 use gwb_sys::kind;
 use std::fmt;
 use std::ops::{Deref, DerefMut};
 
 /// A session of the kernel: one model, and all commands that can be undone. It is closed when it is dropped.
 ///
-/// Its operators and measures are those of [`Operators`], its readers those of [`Readers`](crate::Readers).
+/// Its operators, larger commands and measures are those of [`Operators`], its readers those of [`Readers`](crate::Readers).
 ///
 /// A session may go to another thread; nothing in it is of a thread. It isn't [`Sync`], since a measure keeps the last answer: for readers
 /// in many threads at once there is [`shared`](Self::shared).
@@ -47,55 +47,6 @@ impl Session {
     /// [`Error::Memory`].
     pub fn new() -> Result<Self, Error> {
         Operators::new().map(|operators| Self { operators })
-    }
-
-    /// A new solid of two faces through 3 to 64 points, one on either side.
-    ///
-    /// # Errors
-    /// [`Error::Refused`], [`Error::Memory`]; [`Error::NoCall`] where there are more points.
-    pub fn lamina<P: Copy + Into<Point>>(&mut self, solid: impl Into<Option<Solid>>, points: &[P]) -> Result<Solid, Error> {
-        let solid = self.named(solid);
-        let points: Vec<gwb_sys::Point> = points.iter().map(|&point| point.into()).map(|Point { x, y, z }| gwb_sys::Point { x, y, z }).collect();
-        self.told(unsafe { gwb_sys::gwb_lamina(self.handle(), solid.0, points.as_ptr(), points.len()) })?;
-        Ok(solid)
-    }
-
-    /// A new solid, the block that has the point as its lowest corner and edges along the axes, so long as the sizes say.
-    ///
-    /// # Errors
-    /// [`Error::Refused`], [`Error::Memory`].
-    pub fn block(&mut self, solid: impl Into<Option<Solid>>, corner: impl Into<Point>, sizes: impl Into<Point>) -> Result<Solid, Error> {
-        let (solid, at, by) = (self.named(solid), corner.into(), sizes.into());
-        self.told(unsafe { gwb_sys::gwb_block(self.handle(), solid.0, at.x, at.y, at.z, by.x, by.y, by.z) })?;
-        Ok(solid)
-    }
-
-    /// The face moves by a vector, and a new face rises over each of its half-edges. Sweep a lamina's first face along its normal: against
-    /// it the solid is inside out, and its volume negative.
-    ///
-    /// # Errors
-    /// [`Error::Refused`], [`Error::Memory`].
-    pub fn sweep(&mut self, face: Face, along: impl Into<Point>) -> Result<(), Error> {
-        let by = along.into();
-        self.told(unsafe { gwb_sys::gwb_sweep(self.handle(), face.0, by.x, by.y, by.z) })
-    }
-
-    /// The two solids of the faces become one along them. The faces go through the same points in opposite directions.
-    ///
-    /// # Errors
-    /// [`Error::Refused`], [`Error::Memory`].
-    pub fn glue(&mut self, face: Face, other: Face) -> Result<(), Error> {
-        self.told(unsafe { gwb_sys::gwb_glue(self.handle(), face.0, other.0) })
-    }
-
-    /// The solid is cut in two by the plane a x + b y + c z + d = 0; what lies where the sum is positive becomes the solid `above`.
-    ///
-    /// # Errors
-    /// [`Error::Refused`], [`Error::Memory`].
-    pub fn split(&mut self, solid: Solid, [a, b, c, d]: [i64; 4], above: impl Into<Option<Solid>>) -> Result<Solid, Error> {
-        let above = self.named(above);
-        self.told(unsafe { gwb_sys::gwb_split(self.handle(), solid.0, a, b, c, d, above.0) })?;
-        Ok(above)
     }
 
     /// Opens a draft of the next command.

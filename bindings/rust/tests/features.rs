@@ -107,6 +107,24 @@ fn wires_and_parts_are_copied_and_moved() {
 }
 
 #[test]
+fn in_a_draft_they_are_steps() {
+    let mut session = Session::new().unwrap();
+    let block = session.block(None, [0, 0, 0], [4, 4, 4]).unwrap();
+    let mut draft = session.draft().unwrap();
+    let copy = draft.copy_solid(block, Motion::by([9, 0, 0])).unwrap();
+    let mark = draft.mark();
+    draft.move_solid(copy, Motion::mirror(1)).unwrap();
+    draft.kill_solid(block).unwrap();
+    draft.back(mark).unwrap();
+    let steps = draft.steps();
+    assert!(draft.move_solid(copy, Motion::by([1_000_000_000, 0, 0])).is_err());
+    assert_eq!((draft.steps(), draft.faces(block).count()), (steps, 6));
+    draft.commit().unwrap();
+    let moved = shape(&session, block, Motion::by([9, 0, 0]));
+    assert_eq!((session.depth(), shape(&session, copy, Motion::default())), (2, moved));
+}
+
+#[test]
 fn what_is_refused_changes_nothing() {
     let mut session = Session::new().unwrap();
     let block = session.block(None, [0, 0, 0], [4, 4, 4]).unwrap();

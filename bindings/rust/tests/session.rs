@@ -222,6 +222,27 @@ fn a_draft_that_is_committed_is_one_command() {
 }
 
 #[test]
+fn larger_commands_are_steps_that_a_mark_takes_back() {
+    let mut session = block();
+    let mut draft = session.draft().unwrap();
+    let second = draft.block(None, [0, 0, 4], [4, 4, 4]).unwrap();
+    let mark = draft.mark();
+    draft.glue(Face(1), Face(8)).unwrap();
+    draft.split(Solid(1), [0, 0, 1, -6], Solid(5)).unwrap();
+    draft.lamina(None, &[[0, 0, 9], [3, 0, 9], [0, 3, 9]]).unwrap();
+    let front = Face(*draft.fresh::<Face>().unwrap().start());
+    draft.sweep(front, [0, 0, 2]).unwrap();
+    assert_eq!(draft.kfmrh(Face(2), Face(2)), refused(Refusal::SameFace, 2));
+    draft.back(mark).unwrap();
+    draft.back(mark).unwrap();
+    assert_eq!((draft.numbers::<Solid>().collect::<Vec<_>>(), draft.six_volumes(second)), (vec![Solid(1), Solid(2)], Ok(384)));
+    draft.commit().unwrap();
+    assert_eq!((session.depth(), session.fresh::<Face>(), session.steps()), (2, Some(7..=12), 0));
+    session.undo().unwrap();
+    assert_eq!(session.numbers::<Solid>().count(), 1);
+}
+
+#[test]
 fn a_draft_that_is_dropped_leaves_no_trace() {
     let mut session = block();
     session.block(Solid(2), [9, 9, 9], [1, 1, 1]).unwrap();
@@ -265,8 +286,6 @@ fn a_draft_that_is_forgotten_stays_open() {
     let mut session = block();
     std::mem::forget(session.draft().unwrap());
     let before = session.numbers::<Face>().count();
-    assert_eq!(session.block(Solid(2), [9, 9, 9], [1, 1, 1]), Err(Error::InDraft));
-    assert_eq!(session.lamina(Solid(2), &NO_POINTS), Err(Error::InDraft));
     assert_eq!((session.undo(), session.redo(), session.run("list")), (Err(Error::InDraft), Err(Error::InDraft), Err(Error::InDraft)));
     assert!(matches!(session.draft(), Err(Error::InDraft)));
     assert_eq!((session.numbers::<Face>().count(), Error::InDraft.to_string().contains("draft")), (before, true));

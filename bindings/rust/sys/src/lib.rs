@@ -194,6 +194,7 @@ extern "C" {
     pub fn gwb_lent_reply(copy: *mut Gwb, buf: *mut u8, room: usize) -> usize;
     pub fn gwb_lent_depth(copy: *mut Gwb) -> usize;
     pub fn gwb_lent_ahead(copy: *mut Gwb) -> usize;
+    pub fn gwb_lent_mark(copy: *mut Gwb) -> usize;
 
     pub fn gwb_lent_last_refusal(copy: *mut Gwb, refusal: *mut Refusal) -> u32;
     pub fn gwb_lent_last_fault(copy: *mut Gwb, number: *mut u32) -> u32;
@@ -239,6 +240,7 @@ extern "C" {
     pub fn gwb_draft(g: *mut Gwb) -> u32;
     pub fn gwb_commit(g: *mut Gwb) -> u32;
     pub fn gwb_abandon(g: *mut Gwb) -> u32;
+    pub fn gwb_back(g: *mut Gwb, mark: usize) -> u32;
     pub fn gwb_undo(g: *mut Gwb) -> u32;
     pub fn gwb_redo(g: *mut Gwb) -> u32;
 
