@@ -15,7 +15,8 @@
  * - Two handles share nothing, so any two threads may work at once, each with its own.
  * - Calls that take `const gwb *` are readers. They leave the handle alone and work on a copy of its two words, which has a share in the
  *   session for as long as the call lasts. So many may run at once for one handle, from any threads, as long as no other call for it runs.
- * - A call that takes `gwb *` needs the handle for itself: it takes the session out of the handle and puts another back. Let a lock, a queue
+ * - A call that takes `gwb *` needs the handle for itself: it takes the session out of the handle and puts another back. Let a lock, a
+ *   queue
  *   or a join order it before and after every other call for that handle. The queries (gwb_face_plane, gwb_volume, gwb_count) are such
  *   calls: they keep the last answer.
  * - A handle may go from thread to thread: a session has no lock, no thread-local and no global variable. Only its heap has to be one that
@@ -242,8 +243,8 @@ static inline uint32_t gwb_last_plane(const gwb *g, gwb_plane *plane)
 }
 
 /** The fresh numbers of a kind (enum gwb_entity): those above all that were in use before the last command or line, up to the greatest in
- * use now. A query by a typed call leaves them as they are. A larger command takes its faces, loops, edges and vertices there. GWB_ABSENT where there are none, and for solids, whose
- * numbers a command names. A reader. */
+ * use now. A query by a typed call leaves them as they are. A larger command takes its faces, loops, edges and vertices there. GWB_ABSENT
+ * where there are none, and for solids, whose numbers a command names. A reader. */
 static inline uint32_t gwb_fresh(const gwb *g, uint32_t entity, gwb_range *range)
 {
     gwb copy = *g;
@@ -466,8 +467,9 @@ enum gwb_kind gwb_undo(gwb *g);
 /** Does the command again that was taken back last. */
 enum gwb_kind gwb_redo(gwb *g);
 
-/* A draft of the next command: from gwb_draft on, each operator and each larger command is a step of it, or several, and readers and queries
- * speak of the model that the steps make. A call that is not GWB_OK changes nothing, and the draft goes on. gwb_close gives a draft up.
+/* A draft of the next command: from gwb_draft on, each operator and each larger command is a step of it, or several, and readers and
+ * queries speak of the model that the steps make. A call that is not GWB_OK changes nothing, and the draft goes on. gwb_close gives a draft
+ * up.
  *
  * In a draft a line, undo, redo and a second gwb_draft are GWB_IN_DRAFT; gwb_commit, gwb_abandon and gwb_back without a draft are
  * GWB_NO_DRAFT. */
@@ -486,8 +488,8 @@ enum gwb_kind gwb_back(gwb *g, size_t mark);
 size_t gwb_lent_mark(gwb *copy);
 /** @endcond */
 
-/** How many steps the draft has, as a mark for gwb_back: each operator is one, a larger command has as many as it has operators. 0 where no draft is
- * open, SIZE_MAX where the handle is closed. A reader. */
+/** How many steps the draft has, as a mark for gwb_back: each operator is one, a larger command has as many as it has operators. 0 where no
+ * draft is open, SIZE_MAX where the handle is closed. A reader. */
 static inline size_t gwb_mark(const gwb *g)
 {
     gwb copy = *g;

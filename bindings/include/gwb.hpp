@@ -765,8 +765,9 @@ private:
 template <class Policy> class Commands;
 
 /// A draft of a workbench's next command: the operators and larger commands given while it is open become one command when it is committed,
-/// also where there were none. At the end of its scope it is abandoned, unless it was committed: then the workbench is as it was before, what
-/// can be redone included. What is refused changes nothing and leaves it open. It may outlive its workbench, which is Closed for it then.
+/// also where there were none. At the end of its scope it is abandoned, unless it was committed: then the workbench is as it was before,
+/// what can be redone included. What is refused changes nothing and leaves it open. It may outlive its workbench, which is Closed for it
+/// then.
 ///
 ///     Draft draft = bench.draft();
 ///     const Solid first = bench.block({0, 0, 0}, {4, 4, 4});

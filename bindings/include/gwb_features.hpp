@@ -1,6 +1,5 @@
-/// @file gwb_features.hpp
-/// Whole solids killed, copied and moved, for C++17: each by operators in a draft, and so one command; where a draft is open, they are steps of
-/// it.
+/// @file gwb_features.hpp Whole solids killed, copied and moved, for C++17: each by operators in a draft, and so one command; where a draft
+/// is open, they are steps of it.
 ///
 ///     using namespace gwb_session;
 ///     Solid other = copy_solid(bench, block, Motion::mirror(0));        // x becomes -x

@@ -3,8 +3,8 @@ use crate::{Error, Operators, Session};
 use std::mem::ManuallyDrop;
 use std::ops::{Deref, DerefMut};
 
-/// A draft of the next command of a session, which it borrows: its operators and larger commands are steps, and readers and measures speak of
-/// its model.
+/// A draft of the next command of a session, which it borrows: its operators and larger commands are steps, and readers and measures speak
+/// of its model.
 ///
 /// [`commit`](Self::commit) makes the steps one command. Where it is dropped, they are taken back: the session is as it was before, what
 /// can be redone included. A step that is refused changes nothing and leaves the draft open.

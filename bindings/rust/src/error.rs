@@ -18,8 +18,8 @@ pub enum Error {
     Memory,
     /// The arguments make no command: more than 64 points, or a part of no faces.
     NoCall,
-    /// A draft is open, which has no line, undo, redo or second draft. A [`Draft`](crate::Draft) borrows its session, so this comes only after one was
-    /// forgotten (`std::mem::forget`).
+    /// A draft is open, which has no line, undo, redo or second draft. A [`Draft`](crate::Draft) borrows its session, so this comes only
+    /// after one was forgotten (`std::mem::forget`).
     InDraft,
     /// No draft is open that could be committed. A [`Draft`](crate::Draft) is open as long as it is there, so this doesn't come from one.
     NoDraft,

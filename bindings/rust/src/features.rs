@@ -75,9 +75,8 @@ impl Draft<'_> {
 
     /// A new solid, that is another moved; its numbers are above all in use.
     ///
-    /// # Errors
-    /// [`Error::Refused`] where the solid is not there, a vertex would lie out of range, or too few numbers are left; [`Error::Memory`]. Then the
-    /// draft is as it was.
+    /// # Errors [`Error::Refused`] where the solid is not there, a vertex would lie out of range, or too few numbers are left;
+    /// [`Error::Memory`]. Then the draft is as it was.
     pub fn copy_solid(&mut self, solid: Solid, motion: Motion) -> Result<Solid, Error> {
         self.together(|draft, mark| {
             let parts = TakenApart::take(draft, solid)?;
@@ -340,8 +339,8 @@ impl Numbering {
         }))
     }
 
-    /// The half-edge that runs as an old one does. An edge that was alone in both its loops has none yet where it is asked for: then it is one
-    /// that is refused.
+    /// The half-edge that runs as an old one does. An edge that was alone in both its loops has none yet where it is asked for: then it is
+    /// one that is refused.
     fn half_edge(&self, old: HalfEdge) -> HalfEdge {
         let first = self.firsts.get(&old.edge()).copied().unwrap_or_default();
         if old.is_second() { first.twin() } else { first }
