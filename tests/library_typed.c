@@ -202,13 +202,25 @@ static void same_replies(gwb *a, gwb *b, const char *line)
     if (n != m || n > sizeof mine || memcmp(mine, other, n) != 0) fail("the reply", line);
 }
 
-static void same_values(gwb *a, gwb *b, const char *line)
+/* The fresh numbers of each kind. */
+typedef struct fresh {
+    gwb_range of[5];
+} fresh;
+
+static fresh fresh_of(const gwb *g)
 {
-    for (uint32_t entity = GWB_FACE; entity <= GWB_VERTEX; entity++) {
-        gwb_range mine = {0, 0}, other = {0, 0};
-        uint32_t found = gwb_fresh(a, entity, &mine);
-        if (found != gwb_fresh(b, entity, &other) || mine.first != other.first || mine.last != other.last) fail("a fresh number", line);
-    }
+    fresh found = {{{0, 0}}};
+    for (uint32_t entity = GWB_FACE; entity <= GWB_VERTEX; entity++) gwb_fresh(g, entity, &found.of[entity]);
+    return found;
+}
+
+static void same_fresh(fresh a, fresh b, const char *line)
+{
+    if (memcmp(&a, &b, sizeof a) != 0) fail("a fresh number", line);
+}
+
+static void same_values(const gwb *a, const gwb *b, const char *line)
+{
     gwb_refusal mine = {0, 0}, other = {0, 0};
     uint32_t found = gwb_last_refusal(a, &mine);
     if (found != gwb_last_refusal(b, &other) || mine.number != other.number || mine.value != other.value) fail("the refusal", line);
@@ -265,12 +277,19 @@ typedef struct pair {
     command steps[MOST_STEPS];
 } pair;
 
-/* One command for both. */
+static bool is_query(const command *c)
+{
+    return c->place >= QUERIES && c->place < LAMINA;
+}
+
+/* One command for both. A query by a typed call leaves the fresh numbers as they are, and by a line there are none. */
 static void give(pair *p, const command *c)
 {
     uint32_t wanted = as_line(&p->lines, c);
+    fresh before = fresh_of(&p->typed);
     if (as_call(&p->typed, c) != wanted) fail("the kind", c->line);
     *(c->place < 0 ? &p->others : &p->calls) += 1;
+    same_fresh(fresh_of(&p->typed), is_query(c) ? before : fresh_of(&p->lines), c->line);
     same_values(&p->typed, &p->lines, c->line);
     same_replies(&p->typed, &p->lines, c->line);
     if ((p->calls + p->others) % LISTED_EVERY == 0) same_listings(&p->typed, &p->lines, c->line);
@@ -377,11 +396,6 @@ static bool is_operator(const command *c)
 static bool is_change(const command *c)
 {
     return (c->place >= 0 && c->place < CHANGES) || c->place == LAMINA;
-}
-
-static bool is_query(const command *c)
-{
-    return c->place >= QUERIES && c->place < LAMINA;
 }
 
 /* A query in a draft, whose model the other handle has too. */
