@@ -1,7 +1,7 @@
 /* The model at once, by the readers. */
 #include "gwb.h"
 
-enum { GREATEST_NUMBER = 1000000 };
+enum { GREATEST_NUMBER = 1000000, FEW = 64 };
 
 /* What is written, and where: how many rows there are, as many of them written as there is room for. */
 struct writing {
@@ -18,22 +18,35 @@ static void write_half_edge(struct writing *w, uint32_t half_edge, uint32_t next
     w->count++;
 }
 
-static void write_loop(struct writing *w, uint32_t loop, uint32_t face)
+/* The half-edges of a loop, which are all at hand. */
+static void write_list(struct writing *w, const uint32_t *half_edges, size_t count, uint32_t loop, uint32_t face)
 {
-    uint32_t first, at, next;
-    if (w->count >= w->room) {
-        w->count += gwb_half_edges(w->g, loop, &first, 0);
-        return;
-    }
-    if (gwb_first_half_edge(w->g, loop, &first) != GWB_FOUND)
-        return;
-    at = first;
+    for (size_t i = 0; i < count; i++)
+        write_half_edge(w, half_edges[i], half_edges[i + 1 < count ? i + 1 : 0], loop, face);
+}
+
+/* Those of a loop from one of them on, each asked for after the one before it. */
+static void write_from(struct writing *w, uint32_t first, uint32_t loop, uint32_t face)
+{
+    uint32_t at = first, next;
     while (gwb_next_half_edge(w->g, at, &next) == GWB_FOUND) {
         write_half_edge(w, at, next, loop, face);
         if (next == first)
             return;
         at = next;
     }
+}
+
+static void write_loop(struct writing *w, uint32_t loop, uint32_t face)
+{
+    uint32_t few[FEW];
+    size_t count = gwb_half_edges(w->g, loop, few, FEW);
+    if (w->count >= w->room)
+        w->count += count;
+    else if (count <= FEW)
+        write_list(w, few, count, loop, face);
+    else
+        write_from(w, few[0], loop, face);
 }
 
 static void write_face(struct writing *w, uint32_t face)
