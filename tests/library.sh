@@ -142,14 +142,33 @@ counted 'threads that walk at once' "$dir/built/library_sharing"
 built 'heaps are built' library_heap.c "${CC:-cc}" -std=gnu11 -O2
 counted 'heaps of sessions' "$dir/built/library_heap"
 prints 'the example in Python' bindings/examples/block_python.expected bindings/examples/block.py "$dir/built/libgwb.so"
-if has rustc 'the crate and the example in Rust are built' 'the example in Rust' 'the tests in Rust'; then
+if has rustc 'the crate and the example in Rust are built' 'the example in Rust' 'the tests in Rust, session' 'the tests in Rust, features'; then
     tried 'the crate and the example in Rust are built' make_here rust
     prints 'the example in Rust' bindings/examples/block_rust.expected "$dir/built/block_rust"
-    tried 'the tests in Rust' "$dir/built/session_rust"
+    for name in session features; do
+        tried "the tests in Rust, $name" "$dir/built/${name}_rust"
+    done
 fi
-if has valgrind 'valgrind over the example in C' 'valgrind over the tests in C++'; then
+without_archive() {
+    (cd bindings/rust && env "CARGO_TARGET_DIR=$dir/target" "GWB_LIB_DIR=$dir/none" cargo "$@" --offline)
+}
+if has cargo 'cargo check where there is no archive' 'cargo doc where there is no archive' 'the tests and the documentation in Rust by cargo'; then
+    tried 'cargo check where there is no archive' without_archive check --all-targets
+    tried 'cargo doc where there is no archive' without_archive doc --no-deps
+    tried 'the tests and the documentation in Rust by cargo' env "CARGO_TARGET_DIR=$dir/target" "GWB_LIB_DIR=$dir/built" cargo test --offline \
+        --manifest-path bindings/rust/Cargo.toml
+fi
+# (each is a program that was built above)
+in_cpp='library_cpp library_results library_history library_features library_heap'
+threads='library_threads library_sharing'
+if has valgrind 'valgrind over the example in C' $in_cpp $threads; then
     tried 'valgrind over the example in C' valgrind -q --error-exitcode=9 --leak-check=full --show-leak-kinds=all "$dir/built/block_c"
-    tried 'valgrind over the tests in C++' valgrind -q --error-exitcode=9 --leak-check=full --show-leak-kinds=all "$dir/built/library_cpp"
+    for name in $in_cpp; do
+        tried "valgrind over $name" valgrind -q --error-exitcode=9 --leak-check=full --show-leak-kinds=all "$dir/built/$name"
+    done
+    for name in $threads; do
+        tried "helgrind over $name" valgrind -q --tool=helgrind --error-exitcode=9 "$dir/built/$name" 100
+    done
 fi
 
 tried 'worked scripts are built' cc -O2 -std=gnu11 -Wall -Wextra -Werror -Ibindings/include -o "$dir/built/worked" tests/library_worked.c \
