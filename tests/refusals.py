@@ -49,6 +49,7 @@ def c_text(names: Names) -> str:
     """bindings/include/gwb_names.h."""
     rows = ''.join(f'    /* {condition_text(number)} */\n    GWB_WHY_{capitals(name)} = {number},\n' for number, name in names.items())
     cases = ''.join(f'    case GWB_WHY_{capitals(name)}: return "{name}";\n' for name in names.values())
+    texts = ''.join(f'    case GWB_WHY_{capitals(name)}: return "{condition_text(number)}";\n' for number, name in names.items())
     return f"""/* The names of refusals. {MADE} */
 #ifndef GWB_NAMES_H
 #define GWB_NAMES_H
@@ -68,6 +69,14 @@ static inline const char *gwb_why_name(uint32_t number)
     }}
 }}
 
+/* What the condition with a number says, in which X stands for the value that goes with it, or "" where there is none. */
+static inline const char *gwb_why_text(uint32_t number)
+{{
+    switch (number) {{
+{texts}    default: return "";
+    }}
+}}
+
 #endif
 """
 
@@ -77,6 +86,7 @@ def rust_text(names: Names) -> str:
     rows = ''.join(f'    /// {condition_text(number)}\n    {name} = {number},\n' for number, name in names.items())
     from_number = ''.join(f'            {number} => Some(Self::{name}),\n' for number, name in names.items())
     name_of = ''.join(f'            Self::{name} => "{name}",\n' for name in names.values())
+    text_of_each = ''.join(f'            Self::{name} => "{condition_text(number)}",\n' for number, name in names.items())
     return f"""//! The names of refusals. {MADE}
 
 /// Which condition of a command is false. In the texts X is the value that goes with it; some commands give it a meaning of their own.
@@ -88,6 +98,7 @@ pub enum Refusal {{
 
 impl Refusal {{
     /// The refusal with a number, or `None` where there is none.
+    #[must_use]
     pub const fn from_number(number: u32) -> Option<Self> {{
         match number {{
 {from_number}            _ => None,
@@ -95,14 +106,23 @@ impl Refusal {{
     }}
 
     /// Its number.
+    #[must_use]
     pub const fn number(self) -> u32 {{
         self as u32
     }}
 
     /// Its name, as the documents have it.
+    #[must_use]
     pub const fn name(self) -> &'static str {{
         match self {{
 {name_of}        }}
+    }}
+
+    /// What it says; X stands for the value that goes with it.
+    #[must_use]
+    pub const fn text(self) -> &'static str {{
+        match self {{
+{text_of_each}        }}
     }}
 }}
 

@@ -191,6 +191,8 @@ struct Failure {
     [[nodiscard]] constexpr bool is(gwb_why why) const { return problem == Problem::refused && number == static_cast<std::uint32_t>(why); }
     /// The name of the condition; "" where it is none.
     [[nodiscard]] const char *name() const { return problem == Problem::refused ? gwb_why_name(number) : ""; }
+    /// What the condition says, in which X stands for the value; "" where it is none.
+    [[nodiscard]] const char *text() const { return problem == Problem::refused ? gwb_why_text(number) : ""; }
 };
 
 /// What a call gave: a value, or why there is none.
@@ -280,6 +282,8 @@ public:
     [[nodiscard]] gwb_why why() const { return static_cast<gwb_why>(refusal_.number); }
     [[nodiscard]] std::uint32_t value() const { return refusal_.value; }
     [[nodiscard]] const char *name() const { return gwb_why_name(refusal_.number); }
+    /// What the condition says, in which X stands for the value.
+    [[nodiscard]] const char *text() const { return gwb_why_text(refusal_.number); }
 
 private:
     gwb_refusal refusal_;

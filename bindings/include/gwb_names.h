@@ -148,4 +148,56 @@ static inline const char *gwb_why_name(uint32_t number)
     }
 }
 
+/* What the condition with a number says, in which X stands for the value that goes with it, or "" where there is none. */
+static inline const char *gwb_why_text(uint32_t number)
+{
+    switch (number) {
+    case GWB_WHY_NUMBER_RANGE: return "the number X is outside 1 to 1,000,000";
+    case GWB_WHY_NO_SOLID: return "there is no solid X";
+    case GWB_WHY_NO_FACE: return "there is no face X";
+    case GWB_WHY_NO_LOOP: return "there is no loop X";
+    case GWB_WHY_NO_EDGE: return "there is no edge X";
+    case GWB_WHY_SOLID_TAKEN: return "solid X is in use";
+    case GWB_WHY_FACE_TAKEN: return "face X is in use";
+    case GWB_WHY_LOOP_TAKEN: return "loop X is in use";
+    case GWB_WHY_EDGE_TAKEN: return "edge X is in use";
+    case GWB_WHY_VERTEX_TAKEN: return "vertex X is in use";
+    case GWB_WHY_POINT_RANGE: return "vertex X would lie past 1,000,000,000";
+    case GWB_WHY_NOT_BARE: return "solid X has more than one face, a ring or an edge";
+    case GWB_WHY_NOT_LONE: return "loop X has edges, so a corner in it is named by a half-edge";
+    case GWB_WHY_DIFFERENT_TAILS: return "the second corner is at vertex X, the first one at another";
+    case GWB_WHY_PARALLEL_EDGE: return "edge X has the same two ends";
+    case GWB_WHY_KEPT_END_BARE: return "only this edge leaves vertex X, which is kept, and others leave the one that goes";
+    case GWB_WHY_DIFFERENT_LOOPS: return "the second half-edge stands in loop X, the first one in another";
+    case GWB_WHY_SAME_TAIL: return "both corners are at vertex X";
+    case GWB_WHY_SAME_FACE: return "both are face X";
+    case GWB_WHY_HAS_RINGS: return "face X has rings";
+    case GWB_WHY_SAME_LOOP: return "both corners are in loop X";
+    case GWB_WHY_DIFFERENT_FACES: return "the second corner is in face X, the first one in another";
+    case GWB_WHY_NOT_RING: return "loop X is an outer loop";
+    case GWB_WHY_DIFFERENT_SOLIDS: return "the second one is of solid X, the first one of another";
+    case GWB_WHY_NOTHING_TO_UNDO: return "there is nothing to undo";
+    case GWB_WHY_NOTHING_TO_REDO: return "there is nothing to redo";
+    case GWB_WHY_NUMBERS_SPENT: return "too few fresh numbers are left (kind X: 2 faces, 3 loops, 4 edges, 5 vertices)";
+    case GWB_WHY_FEW_POINTS: return "there are X points, and 3 are needed";
+    case GWB_WHY_ZERO_SWEEP: return "face X would move by nothing";
+    case GWB_WHY_LONE_LOOP: return "loop X is a vertex without an edge";
+    case GWB_WHY_SAME_SOLID: return "both faces are of solid X";
+    case GWB_WHY_NOT_FLAT: return "face X isn't flat";
+    case GWB_WHY_REPEATED_POINT: return "two corners of face X lie at one point";
+    case GWB_WHY_NO_MATCH: return "the points of face X, read backwards, aren't those of the first face";
+    case GWB_WHY_PLANE_RANGE: return "coefficient X is out of range";
+    case GWB_WHY_PLANE_MISSES: return "solid X has no vertex above the plane, or none below";
+    case GWB_WHY_NOT_LATTICE: return "the plane cuts edge X between whole coordinates";
+    case GWB_WHY_TOUCHED_FACE: return "the plane cuts face X and also touches it at a corner or along an edge";
+    case GWB_WHY_CUT_OFTEN: return "the plane cuts face X but not its outer loop, or not one of its rings where there are more than two cuts";
+    case GWB_WHY_CUT_CROSSED: return "the cuts of face X don't pair up, or can't be drawn one after another";
+    case GWB_WHY_BRANCHED_VERTEX: return "more than two edges of the cut meet at vertex X";
+    case GWB_WHY_SECTION_HOLES: return "the cut of solid X has a hole, and not exactly one outline around it";
+    case GWB_WHY_SIZE_RANGE: return "size X is below 1";
+    case GWB_WHY_BAD_PART: return "the faces can't be parted from solid X";
+    default: return "";
+    }
+}
+
 #endif

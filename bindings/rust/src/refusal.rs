@@ -97,6 +97,7 @@ pub enum Refusal {
 
 impl Refusal {
     /// The refusal with a number, or `None` where there is none.
+    #[must_use]
     pub const fn from_number(number: u32) -> Option<Self> {
         match number {
             1 => Some(Self::NumberRange),
@@ -148,11 +149,13 @@ impl Refusal {
     }
 
     /// Its number.
+    #[must_use]
     pub const fn number(self) -> u32 {
         self as u32
     }
 
     /// Its name, as the documents have it.
+    #[must_use]
     pub const fn name(self) -> &'static str {
         match self {
             Self::NumberRange => "NumberRange",
@@ -199,6 +202,57 @@ impl Refusal {
             Self::SectionHoles => "SectionHoles",
             Self::SizeRange => "SizeRange",
             Self::BadPart => "BadPart",
+        }
+    }
+
+    /// What it says; X stands for the value that goes with it.
+    #[must_use]
+    pub const fn text(self) -> &'static str {
+        match self {
+            Self::NumberRange => "the number X is outside 1 to 1,000,000",
+            Self::NoSolid => "there is no solid X",
+            Self::NoFace => "there is no face X",
+            Self::NoLoop => "there is no loop X",
+            Self::NoEdge => "there is no edge X",
+            Self::SolidTaken => "solid X is in use",
+            Self::FaceTaken => "face X is in use",
+            Self::LoopTaken => "loop X is in use",
+            Self::EdgeTaken => "edge X is in use",
+            Self::VertexTaken => "vertex X is in use",
+            Self::PointRange => "vertex X would lie past 1,000,000,000",
+            Self::NotBare => "solid X has more than one face, a ring or an edge",
+            Self::NotLone => "loop X has edges, so a corner in it is named by a half-edge",
+            Self::DifferentTails => "the second corner is at vertex X, the first one at another",
+            Self::ParallelEdge => "edge X has the same two ends",
+            Self::KeptEndBare => "only this edge leaves vertex X, which is kept, and others leave the one that goes",
+            Self::DifferentLoops => "the second half-edge stands in loop X, the first one in another",
+            Self::SameTail => "both corners are at vertex X",
+            Self::SameFace => "both are face X",
+            Self::HasRings => "face X has rings",
+            Self::SameLoop => "both corners are in loop X",
+            Self::DifferentFaces => "the second corner is in face X, the first one in another",
+            Self::NotRing => "loop X is an outer loop",
+            Self::DifferentSolids => "the second one is of solid X, the first one of another",
+            Self::NothingToUndo => "there is nothing to undo",
+            Self::NothingToRedo => "there is nothing to redo",
+            Self::NumbersSpent => "too few fresh numbers are left (kind X: 2 faces, 3 loops, 4 edges, 5 vertices)",
+            Self::FewPoints => "there are X points, and 3 are needed",
+            Self::ZeroSweep => "face X would move by nothing",
+            Self::LoneLoop => "loop X is a vertex without an edge",
+            Self::SameSolid => "both faces are of solid X",
+            Self::NotFlat => "face X isn't flat",
+            Self::RepeatedPoint => "two corners of face X lie at one point",
+            Self::NoMatch => "the points of face X, read backwards, aren't those of the first face",
+            Self::PlaneRange => "coefficient X is out of range",
+            Self::PlaneMisses => "solid X has no vertex above the plane, or none below",
+            Self::NotLattice => "the plane cuts edge X between whole coordinates",
+            Self::TouchedFace => "the plane cuts face X and also touches it at a corner or along an edge",
+            Self::CutOften => "the plane cuts face X but not its outer loop, or not one of its rings where there are more than two cuts",
+            Self::CutCrossed => "the cuts of face X don't pair up, or can't be drawn one after another",
+            Self::BranchedVertex => "more than two edges of the cut meet at vertex X",
+            Self::SectionHoles => "the cut of solid X has a hole, and not exactly one outline around it",
+            Self::SizeRange => "size X is below 1",
+            Self::BadPart => "the faces can't be parted from solid X",
         }
     }
 }
