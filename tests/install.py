@@ -13,14 +13,15 @@ import tempfile
 from pathlib import Path
 from typing import Iterator, List, Optional, Sequence
 
+from counts import there
+
 TOP = Path(__file__).resolve().parent.parent
 EXAMPLE = TOP / 'examples' / 'block_with_hole.gwb'
 COMPANIONS = sorted(path.name for path in (TOP / 'companions').glob('gwb-*'))
 VERSION = (TOP / 'VERSION').read_text().strip()
 SONAME = 'libgwb.so.' + VERSION.split('.')[0]
-LIBRARY = ['include/gwb.h', 'include/gwb.hpp', 'include/gwb_history.hpp',
-           'include/gwb_features.hpp', 'include/gwb_triangles.hpp', 'include/gwb_names.h', 'lib/libgwb.a', 'lib/libgwb_c.a', 'lib/libgwb.so', f'lib/{SONAME}',
-           f'lib/libgwb.so.{VERSION}', 'lib/pkgconfig/gwb.pc', 'lib/pkgconfig/gwb-static.pc', 'lib/cmake/gwb/gwb-config.cmake',
+LIBRARY = ['include/gwb.h', 'include/gwb.hpp', 'include/gwb_history.hpp', 'include/gwb_features.hpp', 'include/gwb_triangles.hpp',
+           'include/gwb_names.h', 'lib/libgwb.a', 'lib/libgwb_c.a', 'lib/libgwb.so', f'lib/{SONAME}', f'lib/libgwb.so.{VERSION}', 'lib/pkgconfig/gwb.pc', 'lib/pkgconfig/gwb-static.pc', 'lib/cmake/gwb/gwb-config.cmake',
            'lib/cmake/gwb/gwb-config-version.cmake', 'share/gwb/heap.c']
 PROGRAM = '''#include <gwb.h>
 #include <gwb_names.h>
@@ -172,7 +173,7 @@ def findings(program: Path, archive: Optional[Path]) -> Iterator[str]:
 
 
 def main() -> int:
-    paths = [Path(word).resolve() for word in sys.argv[1:3]]
+    paths = [there(word) for word in sys.argv[1:3]]
     program = paths[0] if paths else TOP / 'crates' / 'gwb' / 'out' / 'gwb'
     found = list(findings(program, paths[1] if len(paths) > 1 else None))
     wrong = [why for why in found if why]

@@ -26,14 +26,17 @@ class Place(NamedTuple):
 def places(version: str) -> Iterator[Place]:
     """Where the version stands; what isn't needed is compared where it is there."""
     major, minor, patch = map(int, version.split('.'))
+    number = major * 10_000 + minor * 100 + patch
     yield Place('crates/command_line/src/words.rt', r'\.version\("(.*)"\)', version)
     yield Place('companions/gwb/version.py', r"^VERSION = '(.*)'$", version)
     yield Place('companions/pyproject.toml', r'^version = \{ attr = "(.*)" \}$', 'gwb.version.VERSION')
     yield Place('bindings/gwb.pc.in', r'^Version: (.*)$', version)
     yield Place('docs/gwb.1', r'^\.TH GWB 1 "[^"]*" "gwb (.*?)"', version)
     yield Place('bindings/rust/Cargo.toml', r'^version = "(.*)"$', version)
+    yield Place('bindings/rust/sys/Cargo.toml', r'^version = "(.*)"$', version)
+    yield Place('bindings/rust/sys/src/lib.rs', r'^pub const VERSION: u32 = (.*);$', f'{number:_}')
     yield Place('CHANGELOG.md', r'^## (.*)$', version)
-    yield Place('bindings/include/gwb.h', r'^#define GWB_VERSION (\d+)$', str(major * 10_000 + minor * 100 + patch), needed=False)
+    yield Place('bindings/include/gwb.h', r'^#define GWB_VERSION (\d+)$', str(number), needed=False)
 
 
 def complaint(place: Place) -> str:
