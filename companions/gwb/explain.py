@@ -1,16 +1,21 @@
 """Joins a script and its replies: each complaint with its line, its command and its meaning in words."""
 
 import argparse
+from functools import lru_cache
 from typing import Iterable, Iterator, List, NamedTuple, Optional, Sequence
 
 from .command_line import FOUND, OK, add_version, read_bytes, run
 from .errors import CompanionError, NotAListing, NotReplies
 from .inside_out import warn_of_inside_out
 from .language import FAULTS, first_word, is_answered, refusal
+from .lattice_cuts import off_lattice_cut
 from .listing import model_of
+from .model import Model
+from .refusals import NAMES
 from .replies import Reply, shortened, split_replies
 
 PROGRAM = 'gwb-explain'
+NOT_LATTICE = next(number for number, name in NAMES.items() if name == 'NotLattice')
 _WIDTH = 48
 
 
@@ -69,47 +74,81 @@ def meaning(word: str, reply: Reply) -> str:
 
 
 def complaints(name: str, joined: Iterable[Answered]) -> Iterator[str]:
-    """A line for each complaint, and one with their number."""
-    count = 0
-    for answered in joined:
+    """A line for each complaint, those that say what would do, indented, and one with the number of complaints."""
+    count, lines = 0, list(joined)
+    for answered, listing in zip(lines, _listings_at(lines)):
         reply = answered.reply
         if reply is not None and reply.is_complaint:
             count += 1
             yield (f'{name}:{answered.number}: {shortened(answered.text)}: {reply.lines[0]}: '
                    + meaning(first_word(answered.line), reply))
+            yield from (f'    {line}' for line in _advice(answered, listing))
     yield f'{count} complaint' + ('' if count == 1 else 's')
+
+
+def _listings_at(joined: Sequence[Answered]) -> List[Optional[Reply]]:
+    """For each line a listing of the model as it stood there; None where the replies have none."""
+    before, after = list(_carried(joined)), list(_carried(joined[::-1]))[::-1]
+    return [earlier or later for earlier, later in zip(before, after)]
+
+
+def _carried(joined: Iterable[Answered]) -> Iterator[Optional[Reply]]:
+    """For each line the listing that came last, where no command was accepted since."""
+    listing: Optional[Reply] = None
+    for answered in joined:
+        reply = answered.reply
+        if reply is not None and (reply.is_listing or reply.word == 'ok'):
+            listing = reply if reply.is_listing else None
+        yield listing
+
+
+def _advice(answered: Answered, listing: Optional[Reply]) -> List[str]:
+    """Where a split that was refused NotLattice cuts, and what would do, as lines of a script; nothing for other complaints."""
+    reply = answered.reply
+    if reply is None or reply.word != 'refused' or reply.numbers[0] != NOT_LATTICE:
+        return []
+    if listing is None:
+        return ['# with a `list` on the line before, it is told here where the plane cuts, and what would do']
+    solid, a, b, c, d, above = map(int, answered.text.split()[1:])
+    if solid not in (model := _model(listing)).solids:
+        raise NotReplies(f'line {answered.number} of the script splits solid {solid}, which the listing beside it has not')
+    return off_lattice_cut(model, solid, (a, b, c, d)).advice(above)
+
+
+@lru_cache(maxsize=1)
+def _model(listing: Reply) -> Model:
+    """The model of a listing. Raises NotReplies where it is none."""
+    try:
+        return model_of(listing)
+    except NotAListing as error:
+        raise NotReplies(f'a listing is no model: {error}') from None
 
 
 def annotated(joined: Sequence[Answered]) -> Iterator[str]:
     """The script with each reply beside its line, a listing below one another."""
     width = max((len(answered.text) for answered in joined
                  if answered.reply is not None and len(answered.text) <= _WIDTH), default=0)
-    for answered in joined:
-        beside = _beside(answered)
+    for answered, listing in zip(joined, _listings_at(joined)):
+        beside = _beside(answered, listing)
         for place, reply in enumerate(beside or ['']):
             text = answered.text if place == 0 else ''
             yield f'{text:<{width}}   {reply}'.rstrip()
 
 
-def _beside(answered: Answered) -> List[str]:
+def _beside(answered: Answered, listing: Optional[Reply]) -> List[str]:
     reply = answered.reply
     if reply is None:
         return []
     if reply.is_complaint:
-        return [f'{reply.lines[0]}: {meaning(first_word(answered.line), reply)}']
+        return [f'{reply.lines[0]}: {meaning(first_word(answered.line), reply)}', *_advice(answered, listing)]
     return list(reply.lines)
 
 
 def _warn_of_inside_out(joined: Sequence[Answered]) -> None:
     """Names the solids that are inside out in the last listing, where there is one."""
     listing = next((answered.reply for answered in reversed(joined) if answered.reply is not None and answered.reply.is_listing), None)
-    if listing is None:
-        return
-    try:
-        model = model_of(listing)
-    except NotAListing as error:
-        raise NotReplies(f'the last listing is no model: {error}') from None
-    warn_of_inside_out(PROGRAM, model)
+    if listing is not None:
+        warn_of_inside_out(PROGRAM, _model(listing))
 
 
 def _parser() -> argparse.ArgumentParser:

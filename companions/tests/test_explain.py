@@ -6,11 +6,13 @@ import subprocess
 import tempfile
 import unittest
 
-from support import REPOSITORY, program, run, scripts
+from support import REPOSITORY, box, listing, program, run, scripts
 
 from gwb.errors import NotReplies
 from gwb.explain import annotated, complaints, join
 from gwb.language import FAULTS, TEXTS, first_word, is_answered, refusal
+from gwb.lattice_cuts import off_lattice_cut
+from gwb.listing import read_model
 from gwb.refusals import NAMES
 from gwb.replies import split_replies
 
@@ -57,6 +59,50 @@ class Complaints(unittest.TestCase):
 
     def test_a_run_that_stopped(self):
         self.assertEqual(len(explained(b'undo\nlist\n', b'refused 25 0\n')), 2)
+
+
+BLOCK = b'block 1 0 0 0 3 3 3\n'
+SPLIT = b'split 1 2 0 0 -3 2\n'
+REFUSED = b'refused 37 1\n'
+
+
+class CutsOffTheLattice(unittest.TestCase):
+    """What is said of a split whose points aren't whole."""
+
+    LISTED = listing(*box((0, 0, 0), (3, 3, 3))).encode()
+
+    def advice(self, script, replies):
+        """The lines below the complaint of one refused split."""
+        lines = explained(script, replies)
+        start = next(place for place, line in enumerate(lines) if line.startswith('s:'))
+        self.assertEqual(lines[-1], '1 complaint')
+        return lines[start + 1:-1]
+
+    def test_with_a_listing_before_or_after_it(self):
+        for script, replies in ((BLOCK + b'list\n' + SPLIT, b'ok\n' + self.LISTED + REFUSED),
+                                (BLOCK + SPLIT + b'# then\nlist\n', b'ok\n' + REFUSED + self.LISTED),
+                                (BLOCK + b'list\nvolume 1\n' + SPLIT + b'kvfs 9\n', b'ok\n' + self.LISTED + b'volume 162\n' + REFUSED + b'ok\n')):
+            with self.subTest(script):
+                told = self.advice(script, replies)
+                self.assertEqual(told, [f'    {line}' for line in off_lattice_cut(read_model(self.LISTED), 1, (2, 0, 0, -3)).advice(2)])
+                self.assertEqual(sum(' is cut at 3/2 ' in line for line in told), 4)
+                self.assertIn('    split 1 2 0 0 -6 2', told)
+
+    def test_beside_the_line(self):
+        lines = list(annotated(join(BLOCK + b'list\n' + SPLIT, split_replies(b'ok\n' + self.LISTED + REFUSED))))
+        place = next(place for place, line in enumerate(lines) if ' refused 37 1: NotLattice: ' in line)
+        told = off_lattice_cut(read_model(self.LISTED), 1, (2, 0, 0, -3)).advice(2)
+        self.assertTrue(lines[place].startswith('split 1 2 0 0 -3 2 '))
+        self.assertEqual([line.strip() for line in lines[place + 1:]], told)
+
+    def test_a_listing_of_another_model(self):
+        with self.assertRaises(NotReplies):
+            explained(BLOCK + b'list\nsplit 5 2 0 0 -3 2\n', b'ok\n' + self.LISTED + REFUSED)
+
+    def test_without_a_listing_of_that_model(self):
+        hint = ['    # with a `list` on the line before, it is told here where the plane cuts, and what would do']
+        self.assertEqual(self.advice(BLOCK + SPLIT, b'ok\n' + REFUSED), hint)
+        self.assertEqual(self.advice(BLOCK + b'list\nblock 2 9 9 9 1 1 1\n' + SPLIT, b'ok\n' + self.LISTED + b'ok\n' + REFUSED), hint)
 
 
 class Refusing(unittest.TestCase):
@@ -140,7 +186,7 @@ class Scripts(unittest.TestCase):
                 complaining = [line for line in replies.split(b'\n') if line.startswith((b'refused', b'fault', b'memory'))]
                 self.assertEqual(outcome.err, '')
                 self.assertEqual(outcome.status, 1 if complaining else 0)
-                lines = outcome.out.splitlines()
+                lines = [line for line in outcome.out.splitlines() if not line.startswith('    ')]
                 self.assertEqual(len(lines), len(complaining) + 1)
                 self.assertTrue(lines[-1].startswith(f'{len(complaining)} complaint'))
                 for line, complaint in zip(lines, complaining):

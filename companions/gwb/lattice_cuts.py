@@ -1,0 +1,82 @@
+"""What is to be said of a split that is refused because its points aren't whole (NotLattice): where they lie, and what would do.
+
+    >>> cut = off_lattice_cut(model, 1, (2, 0, 0, -3))
+    >>> cut.factor
+    2
+    >>> print(*cut.advice(above=2), sep='\\n')
+"""
+
+from dataclasses import dataclass
+from math import lcm
+from typing import Iterator, List, Optional, Tuple
+
+from .crossings import Crossing, Plane, crossings
+from .model import Model
+from .moved import FARTHEST
+from .near_planes import FARTHEST_OFFSET, NearPlane, NearPlanes
+
+
+@dataclass(frozen=True)
+class OffLatticeCut:
+    """A cut of a solid by a plane, of which some points may not be whole."""
+
+    solid: int
+    plane: Plane
+    crossings: Tuple[Crossing, ...]
+    factor: int
+    """The least by which the model must be multiplied for all cut points to be whole; 1 where they are."""
+    fits: bool
+    """Whether the model times the factor stays within 1,000,000,000, and the plane's offset in its range."""
+    parallel: Optional[NearPlane]
+    """The nearest plane with the same normal that cuts at whole points, where there is one."""
+    tilted: Tuple[NearPlane, ...]
+    """Other planes that cut at whole points, the nearest first."""
+
+    @property
+    def off_lattice(self) -> Tuple[Crossing, ...]:
+        """The cut edges whose points aren't whole, rising."""
+        return tuple(crossing for crossing in self.crossings if not crossing.is_whole)
+
+    @property
+    def scaled_plane(self) -> Plane:
+        """The plane in the model times the factor."""
+        a, b, c, d = self.plane
+        return (a, b, c, d * self.factor)
+
+    def advice(self, above: int) -> List[str]:
+        """Lines of the script language: comments, and the splits that would do; `above` is the number for the solid above the plane."""
+        return [*self._places(), *self._scaled(above), *self._near(above)]
+
+    def _places(self) -> Iterator[str]:
+        for crossing in self.off_lattice:
+            yield f'# edge {crossing.edge} is cut at {" ".join(map(str, crossing.point))}'
+
+    def _scaled(self, above: int) -> Iterator[str]:
+        if not self.fits:
+            yield f'# times {self.factor} all points are whole, but the model would lie past 1,000,000,000'
+        elif self.factor > 1:
+            yield f'# times {self.factor} (gwb-script --scale {self.factor}) all points are whole:'
+            yield self._split(self.scaled_plane, above)
+
+    def _near(self, above: int) -> Iterator[str]:
+        for near in (*(() if self.parallel is None else (self.parallel,)), *self.tilted):
+            way, hundredths = 'parallel' if near.is_parallel else 'tilted', near.hundredths_moved
+            yield f'# {way}, the cut moves by at most {hundredths // 100}.{hundredths % 100:02} along an edge:'
+            yield self._split(near.plane, above)
+
+    def _split(self, plane: Plane, above: int) -> str:
+        return ' '.join(map(str, ('split', self.solid, *plane, above)))
+
+
+def off_lattice_cut(model: Model, solid: int, plane: Plane, most: int = 3) -> OffLatticeCut:
+    """What is to be said of the cut, with at most so many tilted planes; none where all points are whole.
+
+    Raises NoPart where the model has no such solid, ValueError where a, b and c are all zero.
+    """
+    found = tuple(crossings(model, solid, plane))
+    factor = lcm(*(part.denominator for crossing in found for part in crossing.point))
+    reach = max((abs(part) for point in model.vertices.values() for part in point), default=0)
+    fits = reach * factor <= FARTHEST and abs(plane[3]) * factor <= FARTHEST_OFFSET
+    near = NearPlanes(model, solid, plane) if factor > 1 else None
+    return OffLatticeCut(solid, plane, found, factor, fits,
+                         parallel=None if near is None else near.parallel(), tilted=() if near is None else tuple(near.tilted(most)))
