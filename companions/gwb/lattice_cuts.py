@@ -3,7 +3,8 @@
     >>> cut = off_lattice_cut(model, 1, (2, 0, 0, -3))
     >>> cut.factor
     2
-    >>> print(*cut.advice(above=2), sep='\\n')
+    >>> cut.advice(above=2)[-1]
+    'split 1 3 1 0 -6 2'
 """
 
 from dataclasses import dataclass
@@ -59,7 +60,9 @@ class OffLatticeCut:
             yield self._split(self.scaled_plane, above)
 
     def _near(self, above: int) -> Iterator[str]:
-        for near in (*(() if self.parallel is None else (self.parallel,)), *self.tilted):
+        if self.parallel is None and self.factor > 1:
+            yield '# no parallel plane cuts at whole points'
+        for near in (*([] if self.parallel is None else [self.parallel]), *self.tilted):
             way, hundredths = 'parallel' if near.is_parallel else 'tilted', near.hundredths_moved
             yield f'# {way}, the cut moves by at most {hundredths // 100}.{hundredths % 100:02} along an edge:'
             yield self._split(near.plane, above)

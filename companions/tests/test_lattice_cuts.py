@@ -85,6 +85,13 @@ class Places(unittest.TestCase):
         cut = off_lattice_cut(CUBE, 1, (1, 0, 0, -1))
         self.assertEqual((cut.factor, cut.off_lattice, cut.parallel, cut.tilted, cut.advice(2)), (1, (), None, (), []))
 
+    def test_no_parallel_plane(self):
+        cut = off_lattice_cut(model_in(listing([(0, 0, 0), (1, 0, 0), (0, 1, 0), (0, 0, 1)], [[(1, 3, 2)], [(1, 2, 4)], [(2, 3, 4)], [(1, 4, 3)]])),
+                              1, (2, 2, 2, -1))
+        self.assertEqual((cut.factor, cut.parallel, cut.tilted), (2, None, ()))
+        self.assertEqual(cut.advice(7)[3:], ['# times 2 (gwb-script --scale 2) all points are whole:', 'split 1 2 2 2 -2 7',
+                                             '# no parallel plane cuts at whole points'])
+
     def test_a_plane_that_misses(self):
         self.assertEqual(off_lattice_cut(CUBE, 1, (2, 0, 0, -7)).crossings, ())
         self.assertIsNone(NearPlanes(CUBE, 1, (2, 0, 0, -7)).parallel())

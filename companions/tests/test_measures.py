@@ -1,14 +1,17 @@
 """Exact measures and sections, against formulas of blocks, prisms and tetrahedra and against sums over triangulated boundaries."""
 
+import subprocess
 import unittest
 from fractions import Fraction
 from math import sqrt
 
-from support import box, lamina, listing, model_in, plate, turned
+from support import box, examples, lamina, listing, model_in, plate, program, turned
 
 from gwb.crossings import NoPart
 from gwb.errors import Unfit
-from gwb.measures import area_vector
+from gwb.listing import read_model
+from gwb.measures import area_vector, normal
+from gwb.replies import split_replies
 from gwb.sections import section
 from gwb.solid_measures import (NotParallel, NoVolume, area, bounding_box, centroid, distance, inertia, length, square_area, square_distance,
                                 square_length, surface_area, volume)
@@ -180,6 +183,32 @@ class Sections(unittest.TestCase):
     def area_at(model, height, quarters):
         """The area of the section of a solid so high, and so many quarters."""
         return Fraction(sum(area_vector(outline)[2] for outline in section(model, 1, (0, 0, 4, -4 * height - quarters)))) / 2
+
+    def test_the_caps_that_gwb_makes_have_its_area(self):
+        compared = 0
+        for script in examples():
+            text = script.read_text() + '\nlist\n'
+            model = read_model(self.replies(text))
+            for solid, axis in ((solid, axis) for solid in model.solids for axis in range(3)):
+                found, way = bounding_box(model, solid), [int(axis == other) for other in range(3)]
+                plane = (*way, -(found.low[axis] + found.high[axis]) // 2)
+                replied = self.replies(text + 'split {} {} {} {} {} 900000\nlist\n'.format(solid, *plane))
+                if split_replies(replied)[-2].lines == ('ok',):
+                    compared += 1
+                    self.assertEqual(sum(area_vector(outline)[axis] for outline in section(model, solid, plane)),
+                                     self.cap(read_model(replied), solid, axis, -plane[3]))
+        self.assertGreater(compared, 6)
+
+    @staticmethod
+    def cap(model, solid, axis, place):
+        """Twice the area of the faces of a solid that lie so far along an axis and look along it."""
+        return sum(max(0, normal(model, face)[axis]) for face in model.faces_of(solid)
+                   if all(point[axis] == place for point in model.face_points(face)))
+
+    @staticmethod
+    def replies(script):
+        """What gwb answers to a script."""
+        return subprocess.run([program()], input=script.encode(), stdout=subprocess.PIPE, check=False).stdout
 
     def test_refusals(self):
         self.assertRaises(NoPart, section, BLOCK, 2, (0, 0, 1, -4))
