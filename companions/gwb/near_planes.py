@@ -147,7 +147,7 @@ def _nearest_in(band: _Band, offset: Fraction, asked: Set[Congruence]) -> Option
     common = in_all(asked)
     if common is None:
         return None
-    below = common.at_most(min(band.high, max(band.low - 1, offset.numerator // offset.denominator)))
+    below = common.at_most(min(band.high, max(band.low - 1, floor(offset))))
     beside = [found for found in (below, below + common.modulus) if band.low <= found <= band.high]
     return min(beside, key=lambda found: abs(found - offset)) if beside else None
 

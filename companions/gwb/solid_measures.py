@@ -14,12 +14,12 @@ from .box_index import box_of
 from .crossings import NoPart
 from .errors import Unfit
 from .flat_face import ExactVector
-from .measures import anchor, normal, why_unfit
+from .measures import anchor, normal, six_volume, why_unfit
 from .model import Model
 from .vectors import Vector, ZERO, cross, dot, subtract
 
 ExactPoint = Tuple[Fraction, Fraction, Fraction]
-Tetrahedron = Tuple[Vector, Vector, Vector]
+_Triangle = Tuple[Vector, Vector, Vector]
 
 
 class NoVolume(Unfit):
@@ -31,7 +31,7 @@ class NotParallel(Unfit):
 
 
 @dataclass(frozen=True)
-class Box:
+class BoundingBox:
     """The least box with sides along the axes around a solid."""
 
     low: Vector
@@ -60,15 +60,18 @@ class Inertia:
         return ((x, xy, xz), (xy, y, yz), (xz, yz, z))
 
 
-def bounding_box(model: Model, solid: int) -> Box:
+def bounding_box(model: Model, solid: int) -> BoundingBox:
     """The least box around the solid. Raises NoPart."""
     (x, u), (y, v), (z, w) = box_of({point for face in _faces(model, solid) for point in model.face_points(face)})
-    return Box((int(x), int(y), int(z)), (int(u), int(v), int(w)))
+    return BoundingBox((int(x), int(y), int(z)), (int(u), int(v), int(w)))
 
 
 def volume(model: Model, solid: int) -> Fraction:
     """The volume; negative where the solid is inside out. Raises NoPart; Unfit where a face isn't plain and flat."""
-    return Fraction(sum(_six_volume(corners) for corners in _tetrahedra(model, solid)), 6)
+    faces = _faces(model, solid)
+    for face in faces:
+        _require_plain(model, face)
+    return Fraction(six_volume(model, faces), 6)
 
 
 def centroid(model: Model, solid: int) -> ExactPoint:
@@ -164,8 +167,8 @@ def _require_plain(model: Model, face: int) -> None:
         raise Unfit(why)
 
 
-def _tetrahedra(model: Model, solid: int) -> Iterator[Tetrahedron]:
-    """The faces of tetrahedra with the origin whose signed sum is the solid."""
+def _triangles(model: Model, solid: int) -> Iterator[_Triangle]:
+    """Triangles that make tetrahedra with the origin whose signed sum is the solid."""
     for face in _faces(model, solid):
         _require_plain(model, face)
         top = anchor(model, face)
@@ -173,16 +176,12 @@ def _tetrahedra(model: Model, solid: int) -> Iterator[Tetrahedron]:
             yield (top, model.point(half), model.point(-half))
 
 
-def _six_volume(corners: Tetrahedron) -> int:
-    return dot(corners[0], cross(corners[1], corners[2]))
-
-
 def _sums(model: Model, solid: int) -> Tuple[int, List[int], Dict[Tuple[int, int], int]]:
     """6 times the volume, 24 times the integrals of x, y, z, and 120 times those of their products, over the solid."""
     six, first = 0, [0, 0, 0]
     second = {(i, j): 0 for i in range(3) for j in range(i, 3)}
-    for corners in _tetrahedra(model, solid):
-        weight = _six_volume(corners)
+    for corners in _triangles(model, solid):
+        weight = dot(corners[0], cross(corners[1], corners[2]))
         sums = [corners[0][axis] + corners[1][axis] + corners[2][axis] for axis in range(3)]
         six += weight
         first = [part + weight * own for part, own in zip(first, sums)]
