@@ -2,9 +2,10 @@
 
 import argparse
 from functools import lru_cache
-from typing import Iterable, Iterator, List, NamedTuple, Optional, Sequence
+from typing import Iterable, Iterator, List, NamedTuple, Optional, Sequence, Tuple
 
 from .command_line import FOUND, OK, add_version, read_bytes, run
+from .crossings import Plane
 from .errors import CompanionError, NotAListing, NotReplies
 from .inside_out import warn_of_inside_out
 from .language import FAULTS, first_word, is_answered, refusal
@@ -107,12 +108,24 @@ def _advice(answered: Answered, listing: Optional[Reply]) -> List[str]:
     reply = answered.reply
     if reply is None or reply.word != 'refused' or reply.numbers[0] != NOT_LATTICE:
         return []
+    solid, plane, above = _split_words(answered)
     if listing is None:
         return ['# with a `list` on the line before, it is told here where the plane cuts, and what would do']
-    solid, a, b, c, d, above = map(int, answered.text.split()[1:])
     if solid not in (model := _model(listing)).solids:
         raise NotReplies(f'line {answered.number} of the script splits solid {solid}, which the listing beside it has not')
-    return off_lattice_cut(model, solid, (a, b, c, d)).advice(above)
+    return off_lattice_cut(model, solid, plane).advice(above)
+
+
+def _split_words(answered: Answered) -> Tuple[int, Plane, int]:
+    """The numbers of a split: the solid, the plane, the solid above it. Raises NotReplies where the line is no such command."""
+    try:
+        solid, a, b, c, d, above = map(int, answered.text.split()[1:])
+    except ValueError:
+        a = b = c = 0
+    if first_word(answered.line) != 'split' or (a, b, c) == (0, 0, 0):
+        raise NotReplies(f'line {answered.number} of the script is `{shortened(answered.text)}`, which gwb never refuses NotLattice: '
+                         'the replies are of another script')
+    return solid, (a, b, c, d), above
 
 
 @lru_cache(maxsize=1)

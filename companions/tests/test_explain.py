@@ -95,6 +95,11 @@ class CutsOffTheLattice(unittest.TestCase):
         self.assertTrue(lines[place].startswith('split 1 2 0 0 -3 2 '))
         self.assertEqual([line.strip() for line in lines[place + 1:]], told)
 
+    def test_lines_that_are_never_refused_so(self):
+        for line in (b'volume 1\n', b'split 1 2 0 0\n', b'split 1 0 0 0 1 2\n', b'split 1 a 0 0 1 2\n'):
+            with self.subTest(line), self.assertRaisesRegex(NotReplies, 'never refuses NotLattice'):
+                explained(line, REFUSED)
+
     def test_a_listing_of_another_model(self):
         with self.assertRaises(NotReplies):
             explained(BLOCK + b'list\nsplit 5 2 0 0 -3 2\n', b'ok\n' + self.LISTED + REFUSED)
