@@ -234,7 +234,8 @@ class Tab:
         return box[0], box[1]
 
     def click_on(self, selector: str) -> None:
-        """Clicks in the middle of an element."""
+        """Clicks in the middle of an element, once it is drawn where it stands."""
+        self.settle()
         self.click(*self.middle(selector))
 
     def screenshot(self, clip: Optional[Tuple[float, float, float, float]] = None) -> bytes:
