@@ -8,7 +8,7 @@ ghost use Rattle.session_slots.specs.Slots.{answer_after, Slot_makes, Slot_does,
 
 use crate::counted_stage::CountedStage;
 use crate::slot::{Slot, counted_in};
-use commands::{Call, Question, Told};
+use commands::{Call, Command, Question, Told};
 use euler_operators::{Op, Refusal};
 use script_running::Answer;
 use solid_listing::Reply;
@@ -62,7 +62,26 @@ pub(crate) fn keep_outcome(ended: Result<(), Failure>, answer: &mut Answer)
     }
 }
 
-fn make_in(alloc: Global, slot: &mut Slot, wanted: Call<'_>)
+fn undo_in(slot: &mut Slot)
+    ensures { Slot_makes slot.old (call.Give command.Undo) slot.new }
+{
+    if let Some(stage) = &mut slot.stage {
+        let told = stage.undo();
+        keep(told, &mut slot.answer);
+    }
+}
+
+fn redo_in(slot: &mut Slot)
+    ensures { Slot_makes slot.old (call.Give command.Redo) slot.new }
+{
+    if let Some(stage) = &mut slot.stage {
+        let told = stage.redo();
+        keep(told, &mut slot.answer);
+    }
+}
+
+/// A call for which the session or draft is moved.
+fn move_in(alloc: Global, slot: &mut Slot, wanted: Call<'_>)
     ensures { Slot_makes slot.old wanted.entry slot.new }
 {
     let Some(counted) = slot.stage.take() else {
@@ -71,6 +90,25 @@ fn make_in(alloc: Global, slot: &mut Slot, wanted: Call<'_>)
     let (stage, told) = commands::make(alloc, counted.into_stage(), wanted);
     slot.stage = Some(CountedStage::of(stage));
     keep(told, &mut slot.answer);
+}
+
+fn give_in(alloc: Global, slot: &mut Slot, command: Command<'_>)
+    ensures { Slot_makes slot.old (call.Give command.entry) slot.new }
+{
+    match command {
+        Command::Undo => undo_in(slot),
+        Command::Redo => redo_in(slot),
+        command => move_in(alloc, slot, Call::Give(command)),
+    }
+}
+
+fn make_in(alloc: Global, slot: &mut Slot, wanted: Call<'_>)
+    ensures { Slot_makes slot.old wanted.entry slot.new }
+{
+    match wanted {
+        Call::Give(command) => give_in(alloc, slot, command),
+        wanted => move_in(alloc, slot, wanted),
+    }
 }
 
 /// Makes a call, and keeps its answer and the greatest numbers in use before it.

@@ -6,18 +6,18 @@ ghost use Rattle.solid_walks.specs.Counters.{taken_of};
 ghost use Rattle.commands.specs.declared.command.Change.TheVariants as change;
 ghost use Rattle.commands.specs.declared.command.Command.TheVariants as command;
 ghost use Rattle.commands.specs.declared.command.Call.TheVariants as call;
-ghost use Rattle.commands.specs.Telling.{shown, Tells, told_of};
+ghost use Rattle.commands.specs.Telling.{shown, Tells, TellsSession, told_of, told_of_move};
 ghost use Rattle.session_slots.specs.Stages.{is_done};
 ghost use Rattle.session_slots.specs.Slots.{Decides_on};
 
-use commands::Stage;
+use commands::{Stage, Told};
 use euler_conditions::Arena;
-use euler_operators::Op;
+use euler_operators::{Op, Refusal};
 use script_running::{Answer, Larger, judge};
 use solid_listing::Reply;
 use solid_walks::{Counters, counters_of};
 use std::marker::Model;
-use undo_journal::Failure;
+use undo_journal::{Failure, Session};
 
 /// A session or a draft, and the greatest numbers in use in the model that it shows.
 #[derive(Drop)]
@@ -78,6 +78,46 @@ fn judge_on<'a>(stage: &mut Stage, line: &'a [u8], answer: &mut Answer) -> Optio
     }
 }
 
+/// What undo or redo is told that ended so.
+fn moved(ended: Result<(), Refusal>) -> Told
+    ensures { result ≡ told_of_move ended }
+{
+    match ended {
+        Ok(()) => Told::Done,
+        Err(refusal) => Told::Refused(refusal),
+    }
+}
+
+fn undo_session(session: &mut Session) -> Told
+    ensures { TellsSession session.old command.Undo result session.new }
+{
+    moved(session.undo())
+}
+
+fn undo_on(stage: &mut Stage) -> Told
+    ensures { Tells stage.old (call.Give command.Undo) result stage.new }
+{
+    match stage {
+        Stage::Session(session) => undo_session(session),
+        Stage::Drafting(_) => Told::InDraft,
+    }
+}
+
+fn redo_session(session: &mut Session) -> Told
+    ensures { TellsSession session.old command.Redo result session.new }
+{
+    moved(session.redo())
+}
+
+fn redo_on(stage: &mut Stage) -> Told
+    ensures { Tells stage.old (call.Give command.Redo) result stage.new }
+{
+    match stage {
+        Stage::Session(session) => redo_session(session),
+        Stage::Drafting(_) => Told::InDraft,
+    }
+}
+
 impl CountedStage {
     /// Reads the greatest numbers.
     pub(crate) fn of(stage: Stage) -> CountedStage
@@ -123,6 +163,24 @@ impl CountedStage {
         let ended = commands::act(&mut self.stage, op);
         self.greatest = greatest_after(ended.is_ok(), &self.stage, self.greatest);
         ended
+    }
+
+    /// Undoes where the session lies: moved through a call it would cost as much again.
+    pub(crate) fn undo(&mut self) -> Told
+        ensures { Tells self.old (call.Give command.Undo) result self.new }
+    {
+        let told = undo_on(&mut self.stage);
+        self.greatest = counters_of(self.stage.arena());
+        told
+    }
+
+    /// Redoes where the session lies.
+    pub(crate) fn redo(&mut self) -> Told
+        ensures { Tells self.old (call.Give command.Redo) result self.new }
+    {
+        let told = redo_on(&mut self.stage);
+        self.greatest = counters_of(self.stage.arena());
+        told
     }
 
     /// Answers a line, or gives back the larger command that it spells. A draft hears no line.

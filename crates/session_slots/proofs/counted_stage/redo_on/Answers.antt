@@ -1,0 +1,16 @@
+use Rattle.std.proofs.Common.{refl, sym, subst}
+use Rattle.commands.specs.declared.command.Command.TheVariants as command
+use Rattle.commands.specs.declared.command.Call.TheVariants as call
+use Rattle.commands.specs.declared.command.Told.TheVariants as told
+use Rattle.commands.specs.declared.stage.Stage.{Stage}
+use Rattle.commands.specs.declared.stage.Stage.TheVariants.{Session, Drafting}
+use Rattle.commands.specs.Telling.{Tells}
+use Rattle.session_slots.proofs.counted_stage.redo_on.Goals as goal
+
+pub returns-in-Session : goal.returns-in-Session
+returns-in-Session c =
+    let t = c.redo_session.new.session in
+    subst (λ (g : Stage). Tells g (call.Give command.Redo) c.redo_session.result (Session t)) (sym c.in-Session.is) (t, refl, c.redo_session.ensures)
+
+pub returns-in-Drafting : goal.returns-in-Drafting
+returns-in-Drafting c = subst (λ (g : Stage). Tells g (call.Give command.Redo) told.InDraft g) (sym c.in-Drafting.is) (c.in-Drafting.field-0, refl, (refl, refl))
