@@ -5,10 +5,11 @@
     ...     block = bench.block((0, 0, 0), (4, 4, 4))
     ...     top = bench.sweep(block.top, (0, 0, 2))
     ...     bench.volume(block.solid)
-    576
+    Fraction(96, 1)
 
 Numbers of new things may be given, by name, as the script language does; where one isn't, the workbench takes a free one.
-Methods are in four parts: commands (commands.py), selection (selection.py), features (features.py), and scripts and drawings here.
+Methods are in parts: commands (commands.py), selection (selection.py), features (features.py), solids as things (solid_methods.py),
+measures (measuring.py), and scripts and drawings here.
 """
 
 from html import escape
@@ -24,17 +25,17 @@ from .errors import CompanionError, InDraft
 from .inversion import script_of
 from .language import is_answered
 from .listing import read_model
+from .measuring import Measuring
 from .page import page_of
 from .replies import Reply, is_listed
 from .saved_steps import mark_in, marked_lines
-from .solid_methods import SolidMethods
 
 # The endings and the first words of files that gwb-import reads.
-_IMPORTED = ('.obj', '.off', '.stl', '.3mf', '.step', '.stp')
-_FIRST_WORDS = ('v', 'vn', 'vt', 'f', 'o', 'g', 'mtllib', 'OFF', 'solid', 'ISO-10303-21;')
+_IMPORTED = ('.obj', '.off', '.stl', '.3mf', '.amf', '.ply', '.step', '.stp')
+_FIRST_WORDS = ('v', 'vn', 'vt', 'f', 'o', 'g', 'mtllib', 'OFF', 'ply', 'solid', 'ISO-10303-21;')
 
 
-class Workbench(SolidMethods):
+class Workbench(Measuring):
     """A running gwb. Each command is a method; one that isn't accepted raises Refused, Faulted or MemoryRefused."""
 
     def __enter__(self) -> 'Workbench':
