@@ -9,7 +9,7 @@
 
 Numbers of new things may be given, by name, as the script language does; where one isn't, the workbench takes a free one.
 Methods are in parts: commands (commands.py), selection (selection.py), features (features.py), solids as things (solid_methods.py),
-measures (measuring.py), and scripts and drawings here.
+measures (measuring.py), labels and files (exporting.py), and scripts and drawings here.
 """
 
 from html import escape
@@ -19,14 +19,14 @@ from typing import Any, Iterator, Optional, Tuple
 from webbrowser import open as open_in_browser
 
 from . import arguments
+from .appearance import appearances_in, comments
 from .calls import call_in
 from .complaints import Complaint, complaint
 from .errors import CompanionError, InDraft
+from .exporting import Exporting
 from .inversion import script_of
 from .language import is_answered
 from .listing import read_model
-from .measuring import Measuring
-from .page import page_of
 from .replies import Reply, is_listed
 from .saved_steps import mark_in, marked_lines
 
@@ -35,7 +35,7 @@ _IMPORTED = ('.obj', '.off', '.stl', '.3mf', '.amf', '.ply', '.step', '.stp')
 _FIRST_WORDS = ('v', 'vn', 'vt', 'f', 'o', 'g', 'mtllib', 'OFF', 'ply', 'solid', 'ISO-10303-21;')
 
 
-class Workbench(Measuring):
+class Workbench(Exporting):
     """A running gwb. Each command is a method; one that isn't accepted raises Refused, Faulted or MemoryRefused."""
 
     def __enter__(self) -> 'Workbench':
@@ -52,9 +52,9 @@ class Workbench(Measuring):
         return ''.join(f'{line}\n' for line in self._journal.lines)
 
     def save(self, path: arguments.Path) -> None:
-        """Writes the script to a file. Comments in it say which commands are one step, so that `load` knows the steps again."""
+        """Writes the script to a file. Comments in it say which commands are one step, and the labels, so that `load` knows them again."""
         file = Path(arguments.path('path', path))
-        lines = [*marked_lines(self._journal.held), *map(str, self._journal.draft)]
+        lines = [*marked_lines(self._journal.held), *map(str, self._journal.draft), *comments(self._labels)]
         file.write_text(''.join(f'{line}\n' for line in lines), encoding='ascii')
 
     @classmethod
@@ -69,6 +69,7 @@ class Workbench(Measuring):
         bench = cls(program)
         try:
             bench._take(file, enumerate(script.split(b'\n'), 1))
+            bench._labels.update(appearances_in(data.decode('utf-8', 'replace').splitlines()))
         except BaseException:
             bench.close()
             raise
@@ -102,10 +103,6 @@ class Workbench(Measuring):
         except (Complaint, InDraft) as error:
             error.args = (f'{file}, line {number}: {error}{_hint(file, line)}',)
             raise
-
-    def page(self) -> str:
-        """A page in HTML to turn the model and to pick from it, as `gwb-view` makes it."""
-        return page_of(self.listing())
 
     def show(self) -> Path:
         """Writes the page to a file of its own and opens it in the browser, where there is one: the file's path."""

@@ -1,0 +1,111 @@
+"""Labels of a session, and the files that it writes, read again by gwb-import."""
+
+import subprocess
+import sys
+import tempfile
+import unittest
+import warnings
+from fractions import Fraction
+from pathlib import Path
+
+from support import COMPANIONS, program
+
+from gwb import Refused, Workbench
+from gwb.appearance import Appearance, appearances_in
+
+FORMS = ('.step', '.stp', '.3mf', '.obj', '.off', '.stl', '.STL')
+
+
+class Exports(unittest.TestCase):
+    """A block named Base with a red top, and a block beside it."""
+
+    def setUp(self):
+        self.bench = Workbench(program())
+        self.addCleanup(self.bench.close)
+        folder = tempfile.TemporaryDirectory()
+        self.addCleanup(folder.cleanup)
+        self.folder = Path(folder.name)
+        self.base = self.bench.block((0, 0, 0), (4, 5, 6))
+        self.bench.block((10, 0, 0), (1, 2, 3))
+        self.bench.label(self.bench.solid(self.base.solid), 'Base "é"', '#00FF00')
+        self.bench.label(self.bench.face(self.base.top), colour='#FF0000')
+
+    def imported(self, file):
+        """The script that gwb-import makes of a file."""
+        run = subprocess.run([sys.executable, COMPANIONS / 'gwb-import', file], stdout=subprocess.PIPE, check=True)
+        return run.stdout.decode()
+
+    def volumes(self, script):
+        """The volumes of the solids that the script makes, rising."""
+        path = self.folder / 'imported.gwb'
+        path.write_text(script, encoding='utf-8')
+        with Workbench.load(path, program()) as bench:
+            return sorted(bench.volume(solid) for solid in bench.solids())
+
+    def test_each_form_is_read_again(self):
+        for ending in FORMS:
+            with self.subTest(ending):
+                file = self.folder / f'part{ending}'
+                self.bench.export(file)
+                self.assertEqual(self.volumes(self.imported(file)), [Fraction(6), Fraction(120)])
+
+    def test_names_and_colours_go_with_it(self):
+        for ending in ('.step', '.3mf', '.obj'):
+            with self.subTest(ending):
+                file = self.folder / f'part{ending}'
+                self.bench.export(file)
+                looks = appearances_in(self.imported(file).splitlines()).values()
+                self.assertIn(((255, 0, 0)), [look.colour for look in looks])
+                self.assertIn((0, 255, 0), [look.colour for look in looks])
+                self.assertTrue(any('Base' in look.name for look in looks), looks)
+
+    def test_a_page(self):
+        self.bench.export(self.folder / 'part.html')
+        text = (self.folder / 'part.html').read_text(encoding='utf-8')
+        self.assertEqual(text, self.bench.page())
+        self.assertIn('#ff0000', text)
+
+    def test_labels_are_no_commands(self):
+        script = self.bench.script()
+        self.assertEqual(self.bench.labels['solid', self.base.solid], Appearance('Base "é"', (0, 255, 0)))
+        self.bench.label(self.bench.face(self.base.top))
+        self.assertEqual(list(self.bench.labels), [('solid', self.base.solid)])
+        self.assertEqual(self.bench.script(), script)
+        self.bench.undo()
+        self.assertEqual(list(self.bench.labels), [('solid', self.base.solid)])
+
+    def test_they_are_saved_and_loaded(self):
+        path = self.folder / 'part.gwb'
+        self.bench.save(path)
+        with Workbench.load(path, program()) as bench:
+            self.assertEqual(bench.labels, self.bench.labels)
+            self.assertEqual(bench.listing(), self.bench.listing())
+
+    def test_what_cannot_be_labelled(self):
+        with self.assertRaises(TypeError):
+            self.bench.label(1, 'Base')
+        with self.assertRaises(ValueError):
+            self.bench.label(self.bench.solid(1), colour='red')
+        with self.assertRaises(Refused):
+            self.bench.label(self.bench.solid(99), 'Lid')
+        with Workbench(program()) as second:
+            second.block((0, 0, 0), (1, 1, 1))
+            with self.assertRaises(ValueError):
+                self.bench.label(second.solid(1), 'Lid')
+
+    def test_an_unknown_ending(self):
+        with self.assertRaisesRegex(ValueError, 'the endings are .step'):
+            self.bench.export(self.folder / 'part.dxf')
+        self.assertEqual(list(self.folder.iterdir()), [])
+
+    def test_touching_solids_are_told_of(self):
+        self.bench.block((4, 0, 0), (2, 5, 6))
+        with self.assertWarnsRegex(UserWarning, 'touch or overlap'):
+            self.bench.export(self.folder / 'part.stl')
+        with warnings.catch_warnings():
+            warnings.simplefilter('error')
+            self.bench.export(self.folder / 'part.3mf')
+
+
+if __name__ == '__main__':
+    unittest.main()
