@@ -1,8 +1,9 @@
 """What the methods of a workbench take: each argument is tested before anything is sent, and an error names it."""
 
 from collections.abc import Iterable as Items
+from fractions import Fraction
 from math import gcd
-from numbers import Integral
+from numbers import Integral, Rational
 from os import PathLike, fspath
 from typing import Iterable, List, Optional, Sequence, Tuple, Union
 
@@ -85,6 +86,16 @@ def coordinate(name: str, value: object) -> int:
 def point(name: str, value: object) -> Vector:
     """Three coordinates."""
     x, y, z = _coordinates(name, value, 3)
+    return (x, y, z)
+
+
+def exact_point(name: str, value: object) -> Tuple[Fraction, Fraction, Fraction]:
+    """Three whole numbers or fractions."""
+    given = list(value) if isinstance(value, (tuple, list)) else []
+    parts = [part for part in given if isinstance(part, Rational) and not isinstance(part, bool)]
+    if len(given) != 3 or len(parts) != 3:
+        raise TypeError(f'{name}: three whole numbers or fractions are wanted, not {_kind_of(value)}')
+    x, y, z = (Fraction(int(part.numerator), int(part.denominator)) for part in parts)
     return (x, y, z)
 
 

@@ -6,7 +6,7 @@ from types import MappingProxyType
 from typing import Callable, Dict, Optional, Tuple, Union
 
 from . import arguments
-from .appearance import Appearance, Appearances, Thing, colour_of
+from .appearance import Appearance, Appearances, Colour, Thing, colour_of
 from .measuring import Measuring
 from .mesh import mesh_of, mtl_text, obj_text, off_text, stl_text
 from .model import Model
@@ -32,10 +32,10 @@ class Exporting(Measuring):
     def label(self, thing: Union[SolidPart, FacePart], name: str = '', colour: str = '') -> None:
         """Gives a solid or a face a name, and a colour such as '#FF8000'; with neither what it had is taken away. Raises ValueError where the
         colour is none, or the thing is of another workbench. Refused: NoSolid, NoFace."""
+        look = Appearance(arguments.text('name', name), _colour(arguments.text('colour', colour)))
         if not isinstance(thing, (SolidPart, FacePart)):
             raise TypeError(f'thing: a solid or a face is wanted, not {thing!r}')
         number = self._number('thing', thing, thing.kind)
-        look = Appearance(arguments.text('name', name), colour_of(arguments.text('colour', colour)) if colour else None)
         _there = thing.faces if isinstance(thing, SolidPart) else thing.solid
         if look == Appearance():
             self._labels.pop((thing.kind, number), None)
@@ -59,6 +59,14 @@ class Exporting(Measuring):
             _warn_of_touching(model, file.suffix)
         data = write(model, self._labels, file)
         file.write_bytes(data)
+
+
+def _colour(text: str) -> Optional[Colour]:
+    """The colour of a text, none of an empty one."""
+    try:
+        return colour_of(text) if text else None
+    except ValueError as error:
+        raise ValueError(f'colour: {error}') from None
 
 
 def _obj(model: Model, labels: Appearances, file: Path) -> bytes:

@@ -24,7 +24,8 @@ class Measuring(SolidMethods):
     def inertia(self, solid: arguments.Solid, about: Optional[ExactVector] = None) -> solid_measures.Inertia:
         """The moments of inertia of the solid, of density one, about a point or else its centroid. Refused: NoSolid. Raises NoVolume where it
         encloses none and no point is given."""
-        return solid_measures.inertia(*self._solid_read(solid), about)
+        place = None if about is None else arguments.exact_point('about', about)
+        return solid_measures.inertia(*self._solid_read(solid), place)
 
     def surface_area(self, solid: arguments.Solid) -> float:
         """The area of all faces of the solid, rounded. Refused: NoSolid."""

@@ -75,7 +75,15 @@ CASES = {
     'glue_all': ({'solids': [1]}, {'solids': (None, 1, '12', [], [1, 1], [1, '2'], [1, 2.0])}),
 }
 CASES.update(solid_cases(NUMBER, GIVEN, POINT, PLANE, POINTS, LENGTH))
-WITHOUT_ARGUMENTS = {'close', 'draft', 'group', 'listing', 'page', 'script', 'show', 'solids', 'save', 'load'}
+CASES.update(dict.fromkeys(('bounding_box', 'centroid', 'surface_area'), ({'solid': 1}, {'solid': NUMBER})))
+CASES.update(dict.fromkeys(('area', 'square_area'), ({'face': 1}, {'face': NUMBER})))
+CASES.update(dict.fromkeys(('length', 'square_length'), ({'edge': 1}, {'edge': HALF})))
+CASES.update(dict.fromkeys(('distance', 'square_distance'), ({'face': 1, 'other': 2}, {'face': NUMBER, 'other': NUMBER})))
+CASES.update(dict.fromkeys(('section', 'off_lattice'), ({'solid': 1, 'plane': (1, 0, 0, 0)}, {'solid': NUMBER, 'plane': PLANE})))
+CASES['inertia'] = ({'solid': 1}, {'solid': NUMBER, 'about': (True, 1, 'abc', (0, 0), (0, 0, 1.0), (0, True, 0), (0, 0, None))})
+CASES['label'] = ({'thing': 1}, {'thing': (*NUMBER, 1), 'name': (1, None, b'Lid'), 'colour': (1, None, b'#FF8000', 'red', '#FF80')})
+CASES['export'] = ({'path': 'part.step'}, {'path': (1, None, 1.0, b'part.step')})
+WITHOUT_ARGUMENTS = {'close', 'draft', 'group', 'listing', 'page', 'script', 'show', 'solids', 'save', 'load', 'labels'}
 
 
 class Silent:
@@ -123,7 +131,10 @@ class Things(unittest.TestCase):
              'six_volume': {'solid': 'solid'}, 'count': {'solid': 'solid'}, 'half_edges': {'loop': 'loop'}, 'solid': {'solid': 'solid'},
              'face': {'face': 'face'}, 'loop': {'loop': 'loop'}, 'edge': {'edge': 'edge'}, 'vertex': {'vertex': 'vertex'},
              'faces': {'solid': 'solid'}, 'edges': {'solid': 'solid'}, 'vertices': {'solid': 'solid'}, 'ring': {'face': 'face'},
-             'pocket': {'face': 'face'}, 'boss': {'face': 'face'}, 'hole': {'face': 'face'}, 'drill': {'face': 'face'}}
+             'pocket': {'face': 'face'}, 'boss': {'face': 'face'}, 'hole': {'face': 'face'}, 'drill': {'face': 'face'},
+             **dict.fromkeys(('bounding_box', 'centroid', 'surface_area', 'inertia', 'section', 'off_lattice'), {'solid': 'solid'}),
+             **dict.fromkeys(('area', 'square_area'), {'face': 'face'}), **dict.fromkeys(('length', 'square_length'), {'edge': 'edge'}),
+             **dict.fromkeys(('distance', 'square_distance'), {'face': 'face', 'other': 'face'})}
     ALL = ('solid', 'face', 'loop', 'edge', 'vertex')
 
     def setUp(self):
