@@ -7,6 +7,7 @@ use session_slots::{Call, Gwb, is_drafting, make, put, status, take};
 use std::alloc::Global;
 
 /// Makes a call that a session has and a draft has.
+#[inline(always)]
 pub(crate) fn call(alloc: Global, gwb: &mut Gwb, wanted: Call<'_>) -> u32
     ensures { Does gwb.old.kept.value wanted.entry gwb.new.kept.value result }
 {
@@ -21,6 +22,7 @@ pub(crate) fn call(alloc: Global, gwb: &mut Gwb, wanted: Call<'_>) -> u32
 }
 
 /// Makes a call that a draft has not.
+#[inline(always)]
 pub(crate) fn call_of_session(alloc: Global, gwb: &mut Gwb, wanted: Call<'_>) -> u32
     ensures { DoesInSession gwb.old.kept.value wanted.entry gwb.new.kept.value result }
 {
@@ -39,6 +41,7 @@ pub(crate) fn call_of_session(alloc: Global, gwb: &mut Gwb, wanted: Call<'_>) ->
 }
 
 /// Makes a call that only a draft has.
+#[inline(always)]
 pub(crate) fn call_of_draft(alloc: Global, gwb: &mut Gwb, wanted: Call<'_>) -> u32
     ensures { DoesInDraft gwb.old.kept.value wanted.entry gwb.new.kept.value result }
 {

@@ -62,6 +62,7 @@ pub(crate) fn keep_outcome(ended: Result<(), Failure>, answer: &mut Answer)
     }
 }
 
+#[inline(always)]
 fn undo_in(slot: &mut Slot)
     ensures { Slot_makes slot.old (call.Give command.Undo) slot.new }
 {
@@ -71,6 +72,7 @@ fn undo_in(slot: &mut Slot)
     }
 }
 
+#[inline(always)]
 fn redo_in(slot: &mut Slot)
     ensures { Slot_makes slot.old (call.Give command.Redo) slot.new }
 {
@@ -92,6 +94,7 @@ fn move_in(alloc: Global, slot: &mut Slot, wanted: Call<'_>)
     keep(told, &mut slot.answer);
 }
 
+#[inline(always)]
 fn give_in(alloc: Global, slot: &mut Slot, command: Command<'_>)
     ensures { Slot_makes slot.old (call.Give command.entry) slot.new }
 {
@@ -102,6 +105,7 @@ fn give_in(alloc: Global, slot: &mut Slot, command: Command<'_>)
     }
 }
 
+#[inline(always)]
 fn make_in(alloc: Global, slot: &mut Slot, wanted: Call<'_>)
     ensures { Slot_makes slot.old wanted.entry slot.new }
 {
@@ -112,6 +116,7 @@ fn make_in(alloc: Global, slot: &mut Slot, wanted: Call<'_>)
 }
 
 /// Makes a call, and keeps its answer and the greatest numbers in use before it.
+#[inline(always)]
 pub fn make(alloc: Global, slot: &mut Slot, wanted: Call<'_>)
     ensures { Slot_does slot.old wanted.entry slot.new }
 {
