@@ -19,11 +19,11 @@ from counts import GWB, TOP, there, told
 
 sys.path.insert(0, str(TOP / 'companions'))
 
+from gwb.drawing.svg import svg_text
 from gwb.errors import CompanionError
-from gwb.language import COMMANDS
-from gwb.listing import model_of
-from gwb.replies import Reply, split_replies
-from gwb.svg import svg_text
+from gwb.protocol.language import COMMANDS
+from gwb.protocol.listing import model_of
+from gwb.protocol.replies import Reply, split_replies
 
 PICTURES = TOP / 'docs' / 'pictures'
 STAND = (2, -3, 2)

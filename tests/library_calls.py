@@ -3,7 +3,7 @@ import ctypes
 
 from library_session import Session
 
-from gwb.library import Point  # which library_session has made known
+from gwb.session.library import Point  # which library_session has made known
 
 LONE = 1 << 31
 

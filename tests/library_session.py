@@ -4,7 +4,7 @@ import sys
 from pathlib import Path
 
 sys.path.insert(0, str(Path(__file__).resolve().parent.parent / 'companions'))
-from gwb.library import Handle, Refusal, load  # noqa: E402, F401
+from gwb.session.library import Handle, Refusal, load  # noqa: E402, F401
 
 MEMORY = 4
 NO_TEXT = ctypes.c_size_t(-1).value

@@ -4,8 +4,8 @@
     tests/refusals.py [--write]
 
 Compares with them what is made from them, and what says them by hand: the help text of gwb, the last one in gwb.hpp, and the table of
-docs/SCRIPT.md. --write first makes anew companions/gwb/refusals.py, bindings/include/gwb_names.h and bindings/rust/src/refusal.rs. The texts
-are those of companions/gwb/language.py. The last line counts.
+docs/SCRIPT.md. --write first makes anew companions/gwb/protocol/refusals.py, bindings/include/gwb_names.h and
+bindings/rust/src/refusal.rs. The texts are those of companions/gwb/protocol/language.py. The last line counts.
 """
 import re
 import sys
@@ -16,7 +16,7 @@ from counts import TOP, told
 
 sys.path.insert(0, str(TOP / 'companions'))
 
-from gwb.language import FAULTS, condition_text
+from gwb.protocol.language import FAULTS, condition_text
 
 Names = Dict[int, str]
 MADE = 'Made by tests/refusals.py --write from the names of the kernel; edit nothing here.'
@@ -40,7 +40,7 @@ def capitals(name: str) -> str:
 
 
 def python_text(names: Names) -> str:
-    """companions/gwb/refusals.py."""
+    """companions/gwb/protocol/refusals.py."""
     rows = ''.join(f'    {number}: {name!r},\n' for number, name in names.items())
     return f'"""The names of refusals by their numbers. {MADE}"""\n\nfrom typing import Dict\n\nNAMES: Dict[int, str] = {{\n{rows}}}\n'
 
@@ -135,7 +135,7 @@ impl std::fmt::Display for Refusal {{
 
 
 MAKERS = {
-    'companions/gwb/refusals.py': python_text,
+    'companions/gwb/protocol/refusals.py': python_text,
     'bindings/include/gwb_names.h': c_text,
     'bindings/rust/src/refusal.rs': rust_text,
 }
@@ -174,7 +174,7 @@ def findings(names: Names) -> Iterator[str]:
     last = [capitals(name) for name in list(names.values())[-1:]]
     yield '' if header_names() == last else 'bindings/include/gwb.hpp: its last condition is another'
     faults = {number: meaning.name for number, meaning in FAULTS.items()}
-    yield '' if help_names('Faults') == faults else 'crates/command_line/src/words.rt: its faults are not those of companions/gwb/language.py'
+    yield '' if help_names('Faults') == faults else 'crates/command_line/src/words.rt: its faults are not those of companions/gwb/protocol/language.py'
 
 
 def main() -> int:

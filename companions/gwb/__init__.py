@@ -1,20 +1,20 @@
 """Companions of gwb, the Geometric WorkBench: they read what it writes. Nothing of them is proved."""
 
-from .complaints import Complaint, Faulted, MemoryRefused, Refused
-from .crossings import NoPart
-from .cutting import Cut
 from .errors import CompanionError, Ended, InDraft, InGroup, NoDraft, NotOne, OutOfStep, ProgramMissing, Unfit
-from .lattice_cuts import OffLatticeCut
-from .listing import read_model
-from .model import Face, Loop, Model
-from .outlines import Impossible
-from .reading import EdgePart, FacePart, LoopPart, Part, SolidPart, VertexPart
-from .results import Block, Count, Hole, Lamina, Lone, NewEdge, NewFace, NewSolid, Plane, Pocket, Profile, Ring, Split, Sweep
-from .selection import Selection
-from .session import Workbench
-from .shaping import Notch
-from .solid_measures import BoundingBox, Inertia, NotParallel, NoVolume
-from .solids import Copy
+from .geometry.crossings import NoPart
+from .geometry.lattice_cuts import OffLatticeCut
+from .geometry.model import Face, Loop, Model
+from .geometry.outlines import Impossible
+from .geometry.solid_measures import BoundingBox, Inertia, NotParallel, NoVolume
+from .protocol.complaints import Complaint, Faulted, MemoryRefused, Refused
+from .protocol.listing import read_model
+from .session.cutting import Cut
+from .session.reading import EdgePart, FacePart, LoopPart, Part, SolidPart, VertexPart
+from .session.results import Block, Count, Hole, Lamina, Lone, NewEdge, NewFace, NewSolid, Plane, Pocket, Profile, Ring, Split, Sweep
+from .session.selection import Selection
+from .session.shaping import Notch
+from .session.solids import Copy
+from .session.workbench import Workbench
 from .version import VERSION as __version__
 
 __all__ = ['Block', 'BoundingBox', 'CompanionError', 'Complaint', 'Copy', 'Count', 'Cut', 'EdgePart', 'Ended', 'Face', 'FacePart',

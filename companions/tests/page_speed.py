@@ -20,8 +20,8 @@ from typing import Any, Dict, List, Tuple
 from chromium import SOFTWARE, Chromium, Tab
 from support import Point, box, listing, model_in
 
-from gwb.model import Model
-from gwb.page import page_of
+from gwb.drawing.page import page_of
+from gwb.geometry.model import Model
 
 # What the page is made to do for so many frames; its answer is the times from frame to frame, and those of its own reckoning.
 MEASURE = """(async () => {

@@ -27,7 +27,8 @@ class Outcome(NamedTuple):
     status: int
 
 
-MODULES = {'view': 'page', 'import': 'importing'}
+MODULES = {'check': 'checks.check', 'explain': 'programs.explain', 'import': 'formats.importing', 'mesh': 'formats.mesh', 'script': 'programs.script',
+           'shell': 'programs.shell', 'step': 'formats.step', 'svg': 'drawing.svg', 'view': 'drawing.page'}
 
 
 def run(companion: str, *words: str) -> Outcome:
@@ -36,7 +37,7 @@ def run(companion: str, *words: str) -> Outcome:
     out = io.TextIOWrapper(written, encoding='utf-8', newline='')
     with redirect_stdout(out), redirect_stderr(err):
         try:
-            status = import_module(f'gwb.{MODULES.get(companion, companion)}').main(list(words))
+            status = import_module(f'gwb.{MODULES[companion]}').main(list(words))
         except SystemExit as end:
             status = end.code
     out.flush()

@@ -4,8 +4,8 @@ import unittest
 
 from support import box, examples, lamina, listing, model_in, turned
 
-from gwb.check import check
-from gwb.listing import read_model
+from gwb.checks.check import check
+from gwb.protocol.listing import read_model
 
 SQUARE = [(0, 0), (12, 0), (12, 12), (0, 12)]
 

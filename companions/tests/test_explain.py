@@ -9,12 +9,12 @@ import unittest
 from support import REPOSITORY, box, listing, program, run, scripts
 
 from gwb.errors import NotReplies
-from gwb.explain import annotated, complaints, join
-from gwb.language import FAULTS, TEXTS, first_word, is_answered, refusal
-from gwb.lattice_cuts import off_lattice_cut
-from gwb.listing import read_model
-from gwb.refusals import NAMES
-from gwb.replies import split_replies
+from gwb.geometry.lattice_cuts import off_lattice_cut
+from gwb.programs.explain import annotated, complaints, join
+from gwb.protocol.language import FAULTS, TEXTS, first_word, is_answered, refusal
+from gwb.protocol.listing import read_model
+from gwb.protocol.refusals import NAMES
+from gwb.protocol.replies import split_replies
 
 
 def explained(script, replies):

@@ -10,12 +10,12 @@ from xml.etree import ElementTree
 
 from support import box, listing, model_in, run, turned
 
-from gwb.appearance import Appearance, appearances_in, comments
-from gwb.importing import read_file
-from gwb.mesh import mesh_of, mtl_text, obj_text
-from gwb.step import step_text
-from gwb.three_mf import MODEL_PART, three_mf_bytes
-from gwb.touching_solids import touching_solids
+from gwb.formats.appearance import Appearance, appearances_in, comments
+from gwb.formats.importing import read_file
+from gwb.formats.mesh import mesh_of, mtl_text, obj_text
+from gwb.formats.step import step_text
+from gwb.formats.three_mf import MODEL_PART, three_mf_bytes
+from gwb.geometry.touching_solids import touching_solids
 
 RED, BLUE, GREY = (255, 0, 0), (0, 0, 255), (128, 128, 128)
 LOOKS = {('solid', 1): Appearance('D\u00fcse <4> "\'&\\', RED), ('face', 2): Appearance('', BLUE), ('face', 8): Appearance('', GREY)}

@@ -7,10 +7,10 @@ from unittest import mock
 
 from support import program
 
-from gwb import followed
-from gwb.followed import Followed
-from gwb.pipe import Pipe
-from gwb.playing import played
+from gwb.programs.playing import played
+from gwb.scripts import followed
+from gwb.scripts.followed import Followed
+from gwb.session.pipe import Pipe
 
 WORDS = ('mvfs', 'kvfs', 'mev', 'kev', 'mef', 'kef', 'kemr', 'mekr', 'kfmrh', 'mfkrh', 'ringmv', 'lamina', 'block', 'sweep', 'glue', 'split',
          'undo', 'redo')

@@ -10,10 +10,10 @@ from pathlib import Path
 from support import run
 from test_import import SIDES, TETRAHEDRON, InFiles, ascii_stl, obj, off, volumes
 
-from gwb.appearance import Appearance
-from gwb.exact_numbers import told
-from gwb.importing import read_file
-from gwb.polygon_files import form_of
+from gwb.formats.appearance import Appearance
+from gwb.formats.exact_numbers import told
+from gwb.formats.importing import read_file
+from gwb.formats.polygon_files import form_of
 
 RED, BLUE = (255, 0, 0), (0, 0, 255)
 

@@ -99,7 +99,7 @@ def ended(folder, *words):
     """Runs gwb-import in a process of its own, which is stopped after a minute of processor."""
     with open(Path(folder, 'out'), 'w+') as out, open(Path(folder, 'err'), 'w+') as err:
         code = (f'import resource, sys; resource.setrlimit(resource.RLIMIT_CPU, ({ENDLESS}, {ENDLESS})); '
-                'from gwb.importing import main; status = main(sys.argv[1:]); '
+                'from gwb.formats.importing import main; status = main(sys.argv[1:]); '
                 'print(resource.getrusage(resource.RUSAGE_SELF).ru_maxrss, file=open("kilobytes", "w")); sys.exit(status)')
         done = subprocess.run([sys.executable, '-c', code, *words], stdout=out, stderr=err, cwd=folder, check=False,
                               env={**os.environ, 'PYTHONPATH': str(COMPANIONS)})

@@ -11,17 +11,17 @@ from pathlib import Path
 
 from support import STORED, box, examples, listing, model_in, program, run, turned
 
-from gwb.check import check
+from gwb.checks.check import check
 from gwb.errors import CompanionError, Unfit
-from gwb.importing import imported
-from gwb.inversion import script_of
-from gwb.listing import read_model
-from gwb.measures import six_volume
-from gwb.mesh import FORMS, mesh_of
-from gwb.models_of_parts import model_of_parts
-from gwb.parts import Part
-from gwb.polygon_files import read_parts
-from gwb.step import step_text
+from gwb.formats.importing import imported
+from gwb.formats.mesh import FORMS, mesh_of
+from gwb.formats.models_of_parts import model_of_parts
+from gwb.formats.parts import Part
+from gwb.formats.polygon_files import read_parts
+from gwb.formats.step import step_text
+from gwb.geometry.measures import six_volume
+from gwb.protocol.listing import read_model
+from gwb.scripts.inversion import script_of
 
 SHAPES = {'cone': None, 'cross': 6 * (3 * 81 - 2 * 27), 'gear': None, 'holed_plate': 6 * 3 * (41 * 41 - 25 * 16), 'l_profile': 6 * 5 * 32, 'letter': None,
           'menger_sponge': 6 * 400, 'nested_boxes': 6 * (1000 - 512 + 64), 'nut': None, 'ring': None, 'stairs': 6 * 24 * 42,

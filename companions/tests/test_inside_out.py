@@ -6,7 +6,7 @@ from pathlib import Path
 
 from support import box, listing, model_in, run, turned
 
-from gwb.inside_out import inside_out
+from gwb.programs.inside_out import inside_out
 
 POINTS, FACES = box((0, 0, 0), (2, 2, 2))
 MORE, OTHERS = box((5, 0, 0), (6, 1, 1), 9)

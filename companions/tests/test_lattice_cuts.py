@@ -8,11 +8,11 @@ from itertools import count
 
 from support import box, listing, model_in, program
 
-from gwb.congruences import Congruence, in_all
-from gwb.crossings import NoPart, crossings, height
-from gwb.lattice_cuts import off_lattice_cut
-from gwb.moved import changed, scaling
-from gwb.near_planes import NearPlane, NearPlanes
+from gwb.geometry.congruences import Congruence, in_all
+from gwb.geometry.crossings import NoPart, crossings, height
+from gwb.geometry.lattice_cuts import off_lattice_cut
+from gwb.geometry.moved import changed, scaling
+from gwb.geometry.near_planes import NearPlane, NearPlanes
 
 CUBE = model_in(listing(box((0, 0, 0), (3, 3, 3))[0], box((0, 0, 0), (3, 3, 3))[1]))
 

@@ -5,7 +5,7 @@ import unittest
 from support import box, examples, listing, model_in
 
 from gwb.errors import CompanionError, NotAListing, NotReplies
-from gwb.listing import read_model
+from gwb.protocol.listing import read_model
 
 WIRE = 'solid 1\nface 1 1 1\nloop 1 +1 -1\nedge 1 1 2\nvertex 1 0 0 0\nvertex 2 5 0 0\n'
 SQUARE = listing([(0, 0, 0), (4, 0, 0), (4, 4, 0), (0, 4, 0)], [[(1, 2, 3, 4)], [(4, 3, 2, 1)]])

@@ -7,17 +7,17 @@ from math import sqrt
 
 from support import box, examples, lamina, listing, model_in, plate, program, turned
 
-from gwb.crossings import NoPart
 from gwb.errors import Unfit
-from gwb.listing import read_model
-from gwb.measures import area_vector, normal
-from gwb.replies import split_replies
-from gwb.sections import section
-from gwb.solid_measures import (NotParallel, NoVolume, area, bounding_box, centroid, distance, inertia, length, square_area, square_distance,
-                                square_length, surface_area, volume)
-from gwb.touched_edges import touched_edges
-from gwb.triangulation import face_triangles
-from gwb.vectors import cross, dot
+from gwb.geometry.crossings import NoPart
+from gwb.geometry.measures import area_vector, normal
+from gwb.geometry.sections import section
+from gwb.geometry.solid_measures import (NotParallel, NoVolume, area, bounding_box, centroid, distance, inertia, length, square_area,
+                                         square_distance, square_length, surface_area, volume)
+from gwb.geometry.touched_edges import touched_edges
+from gwb.geometry.triangulation import face_triangles
+from gwb.geometry.vectors import cross, dot
+from gwb.protocol.listing import read_model
+from gwb.protocol.replies import split_replies
 
 
 def block(low, high):

@@ -16,11 +16,11 @@ from xml.etree import ElementTree
 from support import COMPANIONS, box, examples, lamina, listing, model_in, plate, run
 
 from gwb.errors import Unfit
-from gwb.listing import read_model
-from gwb.measures import six_volume
-from gwb.mesh import mesh_of, stl_text
-from gwb.three_mf import MODEL_PART, three_mf_bytes
-from gwb.vectors import cross, dot, subtract
+from gwb.formats.mesh import mesh_of, stl_text
+from gwb.formats.three_mf import MODEL_PART, three_mf_bytes
+from gwb.geometry.measures import six_volume
+from gwb.geometry.vectors import cross, dot, subtract
+from gwb.protocol.listing import read_model
 
 
 def two_boxes():

@@ -15,16 +15,16 @@ from chromium import Chromium, Image
 from page_speed import blocks, times_of
 from support import REPOSITORY, box, listing, model_in, plate, program
 
-from gwb.hidden_lines import Scene
-from gwb.listing import read_model
-from gwb.measures import normal, six_volume
-from gwb.model import Model
-from gwb.page import page_of, page_of_steps
-from gwb.playing import played
-from gwb.svg import _middle
-from gwb.touched_edges import touched_edges
-from gwb.vectors import cross, dot, subtract
-from gwb.view import View
+from gwb.drawing.hidden_lines import Scene
+from gwb.drawing.page import page_of, page_of_steps
+from gwb.drawing.svg import _middle
+from gwb.drawing.view import View
+from gwb.geometry.measures import normal, six_volume
+from gwb.geometry.model import Model
+from gwb.geometry.touched_edges import touched_edges
+from gwb.geometry.vectors import cross, dot, subtract
+from gwb.programs.playing import played
+from gwb.protocol.listing import read_model
 
 STAND = (2, -3, 2)
 LIFT = math.atan2(2, math.sqrt(13))

@@ -7,10 +7,10 @@ from typing import NamedTuple, Optional, Sequence, Tuple
 
 from support import STORED, program, run
 
-from gwb.importing import read_file
-from gwb.inversion import script_of
-from gwb.listing import read_model
-from gwb.measures import six_volume
+from gwb.formats.importing import read_file
+from gwb.geometry.measures import six_volume
+from gwb.protocol.listing import read_model
+from gwb.scripts.inversion import script_of
 
 PROGRAMS = STORED / 'programs'
 

@@ -6,7 +6,7 @@ import unittest
 
 import support  # noqa: F401 (puts the package on the path)
 
-from gwb.progress import Progress
+from gwb.programs.progress import Progress
 
 
 class Terminal(io.StringIO):

@@ -9,8 +9,8 @@ from unittest import mock
 
 from support import COMPANIONS, program, scripts
 
-from gwb.explain import complaints, join
-from gwb.replies import split_replies
+from gwb.programs.explain import complaints, join
+from gwb.protocol.replies import split_replies
 
 README = (COMPANIONS / 'README.md').read_text()
 

@@ -6,9 +6,9 @@ from fractions import Fraction
 from support import box
 from test_import import SIDES, TETRAHEDRON, InFiles, off, volumes
 
-from gwb.importing import read_file
-from gwb.inversion import script_of
-from gwb.mesh import mesh_of
+from gwb.formats.importing import read_file
+from gwb.formats.mesh import mesh_of
+from gwb.scripts.inversion import script_of
 
 QUADS = [face[0] for face in box((0, 0, 0), (4, 4, 4), 0)[1]]
 

@@ -13,14 +13,14 @@ from support import box, listing, model_in, program, turned
 
 from gwb import Refused, Workbench
 from gwb.errors import Unfit
-from gwb.measures import six_volume
-from gwb.mesh import FORMS, mesh_of
-from gwb.models_of_parts import model_of_parts
-from gwb.nesting import nests
-from gwb.polygon_files import read_parts
-from gwb.soup import soup_of
-from gwb.step import step_text
-from gwb.surfaces import surface_of, with_joined_faces
+from gwb.formats.mesh import FORMS, mesh_of
+from gwb.formats.models_of_parts import model_of_parts
+from gwb.formats.polygon_files import read_parts
+from gwb.formats.step import step_text
+from gwb.geometry.measures import six_volume
+from gwb.geometry.nesting import nests
+from gwb.joining.soup import soup_of
+from gwb.joining.surfaces import surface_of, with_joined_faces
 
 OUTLINES = (((0, 0), (2, 0), (2, 2), (0, 2)), ((0, 0), (4, 1), (1, 3)), ((0, 0), (5, 0), (5, 1), (1, 1), (1, 5), (0, 5)),
             ((1, 0), (3, 0), (4, 2), (3, 4), (1, 4), (0, 2)))

@@ -9,12 +9,12 @@ from pathlib import Path
 from support import REPOSITORY, box, lamina, listing, model_in, plate, program, run, scripts, turned
 
 from gwb.errors import Unfit
-from gwb.handle_pairs import handle_pairs
-from gwb.inversion import script_of, taking_away
-from gwb.listing import model_of
-from gwb.free_numbers import FreeNumbers
-from gwb.replies import split_replies
-from gwb.short_script import short_script_of
+from gwb.geometry.free_numbers import FreeNumbers
+from gwb.protocol.listing import model_of
+from gwb.protocol.replies import split_replies
+from gwb.scripts.handle_pairs import handle_pairs
+from gwb.scripts.inversion import script_of, taking_away
+from gwb.scripts.short_script import short_script_of
 
 TORUS = [[(1, 2, 5, 4)], [(2, 3, 6, 5)], [(3, 1, 4, 6)], [(4, 5, 8, 7)], [(5, 6, 9, 8)], [(6, 4, 7, 9)],
          [(7, 8, 2, 1)], [(8, 9, 3, 2)], [(9, 7, 1, 3)]]

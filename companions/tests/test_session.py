@@ -9,12 +9,12 @@ from pathlib import Path
 from support import program, scripts
 
 from gwb import Complaint, Faulted, Lone, Refused, Workbench
-from gwb.complaints import complaint
 from gwb.errors import CompanionError
-from gwb.explain import join
-from gwb.listing import model_of
-from gwb.pipe import Ended, ProgramMissing
-from gwb.replies import Reply, split_replies
+from gwb.programs.explain import join
+from gwb.protocol.complaints import complaint
+from gwb.protocol.listing import model_of
+from gwb.protocol.replies import Reply, split_replies
+from gwb.session.pipe import Ended, ProgramMissing
 
 
 def corner(word):

@@ -10,8 +10,8 @@ from support import program
 from voxel_parts import AXES, World, cells_of, squares_of
 
 from gwb import Refused, Workbench
-from gwb.check import check
-from gwb.measures import six_volume
+from gwb.checks.check import check
+from gwb.geometry.measures import six_volume
 
 U_SHAPE = [(0, 0, 0), (12, 0, 0), (12, 12, 0), (8, 12, 0), (8, 4, 0), (4, 4, 0), (4, 12, 0), (0, 12, 0)]
 

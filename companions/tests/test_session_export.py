@@ -11,7 +11,7 @@ from pathlib import Path
 from support import COMPANIONS, program
 
 from gwb import Refused, Workbench
-from gwb.appearance import Appearance, appearances_in
+from gwb.formats.appearance import Appearance, appearances_in
 
 FORMS = ('.step', '.stp', '.3mf', '.obj', '.off', '.stl', '.STL')
 

@@ -13,9 +13,9 @@ from unittest import mock
 from support import TESTS, program
 
 from gwb import CompanionError, Impossible, NotOne, Refused, Workbench
-from gwb.check import check
-from gwb.measures import area_vector
-from gwb.vectors import add
+from gwb.checks.check import check
+from gwb.geometry.measures import area_vector
+from gwb.geometry.vectors import add
 
 PARTS = sorted((TESTS / 'parts').glob('*.py'))
 
@@ -301,7 +301,7 @@ class Scripts(unittest.TestCase):
     def test_it_is_shown(self):
         with Workbench(program()) as bench:
             bench.block((0, 0, 0), (1, 1, 1))
-            with mock.patch('gwb.session.open_in_browser') as opened:
+            with mock.patch('gwb.session.workbench.open_in_browser') as opened:
                 path = bench.show()
             self.addCleanup(path.unlink)
             opened.assert_called_once_with(path.as_uri())

@@ -15,7 +15,7 @@ import gwb
 from gwb import Complaint, InDraft, InGroup, OutOfStep, Workbench
 from gwb.errors import Ended
 
-FOLDER = str(Path(gwb.__file__).parent)
+FOLDER = str(Path(gwb.__file__).parent / 'session')
 # The modules in which an exception may come at each line.
 TRACED = {f'{FOLDER}/{name}.py' for name in (
     'conversation', 'pipe', 'library', 'journal', 'steps', 'turns', 'commands', 'features', 'following', 'mirror', 'surroundings', 'selection')}

@@ -7,7 +7,7 @@ from random import Random
 from support import in_mirror, program
 
 from gwb import Complaint, Lone, Workbench
-from gwb.free_numbers import KINDS
+from gwb.geometry.free_numbers import KINDS
 
 
 def greatest_of(model):

@@ -7,8 +7,8 @@ from random import Random
 from support import program
 
 from gwb import Face, Impossible, Loop, Model, Refused, Workbench
-from gwb.check import check
-from gwb.vectors import add
+from gwb.checks.check import check
+from gwb.geometry.vectors import add
 
 
 def with_feature(model, face, path, way, other=None):

@@ -6,13 +6,13 @@ from support import program, scripts
 from voxel_parts import loaded
 
 from gwb import Lone, Refused, Workbench
-from gwb.check import check
-from gwb.inversion import script_of
-from gwb.listing import model_of
-from gwb.measures import six_volume
-from gwb.moved import changed, mirroring
-from gwb.replies import split_replies
-from gwb.soundness import require_sound
+from gwb.checks.check import check
+from gwb.geometry.measures import six_volume
+from gwb.geometry.moved import changed, mirroring
+from gwb.protocol.listing import model_of
+from gwb.protocol.replies import split_replies
+from gwb.protocol.soundness import require_sound
+from gwb.scripts.inversion import script_of
 
 
 def listings():

@@ -8,7 +8,7 @@ from random import Random
 from support import program
 
 from gwb import Impossible, Workbench
-from gwb.check import check
+from gwb.checks.check import check
 
 LOW, SIZES = (6, 6, 6), (9, 8, 7)
 

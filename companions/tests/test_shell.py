@@ -16,8 +16,8 @@ from unittest import mock
 
 from support import COMPANIONS, box, listing, model_in, program, run
 
-from gwb.language import COMMANDS
-from gwb.shell import Shell, choices, program_help
+from gwb.programs.shell import Shell, choices, program_help
+from gwb.protocol.language import COMMANDS
 
 BLOCK = model_in(listing(*box((0, 0, 0), (4, 4, 4))))
 TIME = 10

@@ -6,8 +6,8 @@ import unittest
 from support import box, examples, listing, model_in, turned
 
 from gwb.errors import Unfit
-from gwb.listing import read_model
-from gwb.step import step_text
+from gwb.formats.step import step_text
+from gwb.protocol.listing import read_model
 
 
 def shells(*corners, inside_out=()):

@@ -7,11 +7,11 @@ from pathlib import Path
 
 from support import STORED, box, listing, model_in, run
 
-from gwb.appearance import Appearance
 from gwb.errors import CompanionError
-from gwb.importing import read_file
-from gwb.measures import six_volume
-from gwb.step import step_text
+from gwb.formats.appearance import Appearance
+from gwb.formats.importing import read_file
+from gwb.formats.step import step_text
+from gwb.geometry.measures import six_volume
 
 MILLIMETRE = '(LENGTH_UNIT()NAMED_UNIT(*)SI_UNIT(.MILLI.,.METRE.))'
 INCH = """(CONVERSION_BASED_UNIT('INCH',#901)LENGTH_UNIT()NAMED_UNIT(#903));

@@ -7,10 +7,10 @@ from itertools import combinations
 
 from support import box, examples, lamina, listing, model_in, plate, run
 
-from gwb.hidden_lines import Scene
-from gwb.labels import Label, place
-from gwb.svg import picture, svg_text
-from gwb.view import View
+from gwb.drawing.hidden_lines import Scene
+from gwb.drawing.labels import Label, place
+from gwb.drawing.svg import picture, svg_text
+from gwb.drawing.view import View
 
 BLOCK = listing(*box((0, 0, 0), (4, 4, 4)))
 STAND = (2, -3, 2)

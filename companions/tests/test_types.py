@@ -15,7 +15,7 @@ from typing import get_type_hints
 from support import COMPANIONS, REPOSITORY
 
 import gwb
-from gwb.mesh import Mesh
+from gwb.formats.mesh import Mesh
 
 # What modules import for their hints alone.
 ONLY_FOR_TYPES = {'Mesh': Mesh}
@@ -98,8 +98,8 @@ class Types(unittest.TestCase):
             self.assertEqual(told.count(': error: '), NOT_TAKEN.count('#'), told)
 
     def test_each_hint_names_what_there_is(self):
-        for found in pkgutil.iter_modules(gwb.__path__):
-            module = import_module(f'gwb.{found.name}')
+        for found in pkgutil.walk_packages(gwb.__path__, 'gwb.'):
+            module = import_module(found.name)
             for function in functions_in(module):
                 with self.subTest(module=found.name, function=function.__qualname__):
                     hints = get_type_hints(function, vars(module), ONLY_FOR_TYPES)

@@ -8,14 +8,14 @@ from pathlib import Path
 
 from support import box, examples, lamina, listing, model_in, plate, program, run, scripts, turned
 
+from gwb.drawing.page import page_of, page_of_steps
 from gwb.errors import CompanionError
-from gwb.language import is_answered
-from gwb.listing import read_model
-from gwb.measures import normal, off_plane
-from gwb.page import page_of, page_of_steps
-from gwb.pipe import Pipe
-from gwb.playing import played
-from gwb.vectors import ZERO, cross, dot, subtract, total
+from gwb.geometry.measures import normal, off_plane
+from gwb.geometry.vectors import ZERO, cross, dot, subtract, total
+from gwb.programs.playing import played
+from gwb.protocol.language import is_answered
+from gwb.protocol.listing import read_model
+from gwb.session.pipe import Pipe
 
 BLOCK = listing(*box((0, 0, 0), (4, 4, 4)))
 

@@ -18,10 +18,10 @@ from support import COMPANIONS
 sys.path.insert(0, str(COMPANIONS))
 
 from gwb import Refused, Workbench
-from gwb.check import check
-from gwb.flat_face import FlatFace
-from gwb.measures import six_volume
-from gwb.plane_figures import Place
+from gwb.checks.check import check
+from gwb.geometry.flat_face import FlatFace
+from gwb.geometry.measures import six_volume
+from gwb.geometry.plane_figures import Place
 
 AXES = range(3)
 

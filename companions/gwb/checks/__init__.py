@@ -1,0 +1,1 @@
+"""Slips that gwb accepts, found exactly."""

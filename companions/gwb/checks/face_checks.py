@@ -1,0 +1,67 @@
+"""Slips within one face: bent faces, and rings that run the wrong way, lie outside, or lie in each other."""
+
+from typing import Iterator, Optional
+
+from ..geometry.box_index import BoxIndex, box_of
+from ..geometry.measures import loop_normal, normal, off_plane
+from ..geometry.model import Model
+from ..geometry.plane_figures import Place, locate, segments
+from ..geometry.vectors import Vector, ZERO, dot, flat_axes
+from .findings import BENT, OUTSIDE, WRONG_WAY, Finding
+
+
+def is_flat(model: Model, face: int) -> bool:
+    """Whether the face has an area, and all its vertices lie on its plane."""
+    across = normal(model, face)
+    return across != ZERO and off_plane(model, face, across) is None
+
+
+def face_findings(model: Model, face: int) -> Iterator[Finding]:
+    """The slips of a face that has an area."""
+    vertex = off_plane(model, face, normal(model, face))
+    if vertex is not None:
+        yield Finding(BENT, f'vertex {vertex} lies off the plane of face {face}')
+        return
+    yield from _directions(model, face)
+    yield from _places(model, face)
+
+
+def _directions(model: Model, face: int) -> Iterator[Finding]:
+    """Rings that run as the outer loop does."""
+    outer, *rings = model.faces[face].loops
+    across = loop_normal(model, outer)
+    for ring in rings:
+        if dot(loop_normal(model, ring), across) > 0:
+            yield Finding(WRONG_WAY, f'ring {ring} of face {face} runs the same way round as its outer loop {outer}')
+
+
+def _places(model: Model, face: int) -> Iterator[Finding]:
+    """Rings outside the outer loop, or in other rings."""
+    across = normal(model, face)
+    outer, *rings = (_FlatLoop(model, loop, across) for loop in model.faces[face].loops)
+    boxes = BoxIndex({ring: ring.box for ring in rings})
+    for ring in rings:
+        vertex = ring.first_at(Place.OUTSIDE, outer)
+        if vertex is not None:
+            yield Finding(OUTSIDE, f'ring {ring.number} of face {face} lies outside its outer loop {outer.number}, at vertex {vertex}')
+        for other in boxes.meeting(ring.box):
+            vertex = ring.first_at(Place.INSIDE, other) if other is not ring else None
+            if vertex is not None:
+                yield Finding(OUTSIDE, f'ring {ring.number} of face {face} lies inside ring {other.number}, at vertex {vertex}')
+
+
+class _FlatLoop:
+    """A loop as seen from the front of its face."""
+
+    def __init__(self, model: Model, number: int, across: Vector) -> None:
+        self.number = number
+        first, second = flat_axes(across)
+        self._corners = [(vertex, (model.vertices[vertex][first], model.vertices[vertex][second]))
+                         for vertex in model.loop_vertices(number)]
+        points = [point for _, point in self._corners]
+        self.box = box_of(points)
+        self._sides = segments(points)
+
+    def first_at(self, place: Place, around: '_FlatLoop') -> Optional[int]:
+        """The first vertex of the loop that lies at this place against another one, or None."""
+        return next((vertex for vertex, point in self._corners if locate(around._sides, point) is place), None)

@@ -1,0 +1,209 @@
+"""Slips of a whole solid: faces that meet, and places where it touches itself.
+
+A flat shell, such as a lamina, has faces back to back: what looks one way may lie on what looks the other way.
+"""
+
+from fractions import Fraction
+from itertools import combinations
+from typing import AbstractSet, Dict, FrozenSet, Iterator, List, Optional, Set, Tuple
+
+from ..errors import Unfit
+from ..geometry.box_index import BoxIndex, box_of
+from ..geometry.flat_face import ExactVector, FlatFace
+from ..geometry.measures import normal
+from ..geometry.model import Model
+from ..geometry.plane_figures import Place, turn
+from ..geometry.touched_edges import touched_edges
+from ..geometry.triangulation import face_triangles
+from ..geometry.vectors import Vector, ZERO, cross, dot, lies_between, reduced, subtract
+from .face_checks import is_flat
+from .findings import CROSSING, MEETING, TOUCHING, Finding
+from .shell_checks import shell_findings
+
+
+class SolidCheck:
+    """One solid of a model, made ready for its parts to be compared."""
+
+    def __init__(self, model: Model, solid: int) -> None:
+        self._model = model.only(solid)
+        self._solid = solid
+        self._normals = {face: normal(self._model, face) for face in self._model.faces}
+        self._flat_shells = self._find_flat_shells()
+        self._shapes = {face: FlatFace(self._model, face) for face in self._model.faces if is_flat(self._model, face)}
+        self._touched = touched_edges(self._model)
+        self._around = self._faces_around_vertices()
+        self._edges = BoxIndex({edge: box_of(self._ends(edge)) for edge in self._model.edges})
+        self._vertices = BoxIndex({vertex: box_of([point]) for vertex, point in self._model.vertices.items()})
+
+    def findings(self) -> Iterator[Finding]:
+        """All slips, each with the numbers concerned."""
+        yield from self._equal_points()
+        yield from self._equal_edges()
+        yield from self._vertices_on_edges()
+        yield from self._crossing_edges()
+        for face in self._shapes:
+            yield from self._vertices_on_face(face)
+            yield from self._edges_at_face(face)
+        yield from self._faces_on_faces()
+        if len(self._shapes) == len(self._model.faces):
+            yield from shell_findings(self._model, self._solid)
+
+    # What stands ready
+
+    def _ends(self, edge: int) -> Tuple[Vector, Vector]:
+        start, end = self._model.edges[edge]
+        return (self._model.vertices[start], self._model.vertices[end])
+
+    def _faces_beside(self, edge: int) -> FrozenSet[int]:
+        return frozenset((self._model.face_of(edge), self._model.face_of(-edge)))
+
+    def _faces_around_vertices(self) -> Dict[int, Set[int]]:
+        around: Dict[int, Set[int]] = {vertex: set() for vertex in self._model.vertices}
+        for face in self._model.faces:
+            for vertex in self._model.face_vertices(face):
+                around[vertex].add(face)
+        return around
+
+    def _find_flat_shells(self) -> Dict[int, int]:
+        """The faces of shells that lie in one plane, each with the least face of its shell."""
+        flat: Dict[int, int] = {}
+        for shell in self._model.shells(self._solid):
+            normals = {reduced(self._normals[face]) for face in shell if self._normals[face] != ZERO}
+            if len(normals) <= 2 and all(cross(a, b) == ZERO for a, b in combinations(normals, 2)):
+                flat.update(dict.fromkeys(shell, shell[0]))
+        return flat
+
+    def _are_back_to_back(self, some: AbstractSet[int], others: AbstractSet[int]) -> bool:
+        """Whether both are faces of one flat shell, and none of the first looks as one of the others does."""
+        homes = {self._flat_shells.get(face) for face in some | others}
+        if len(homes) != 1 or None in homes:
+            return False
+        return not any(self._look_alike(face, other) for face in some for other in others)
+
+    def _look_alike(self, face: int, other: int) -> bool:
+        return dot(self._normals[face], self._normals[other]) > 0
+
+    # Vertices and edges
+
+    def _equal_points(self) -> Iterator[Finding]:
+        first: Dict[Vector, int] = {}
+        for vertex, point in self._model.vertices.items():
+            if point in first:
+                yield Finding(TOUCHING, f'vertices {first[point]} and {vertex} of solid {self._solid} lie at one point')
+            first.setdefault(point, vertex)
+
+    def _equal_edges(self) -> Iterator[Finding]:
+        first: Dict[FrozenSet[Vector], int] = {}
+        for edge in self._model.edges:
+            ends = frozenset(self._ends(edge))
+            if ends in first and not self._are_back_to_back(
+                    self._faces_beside(edge), self._faces_beside(first[ends])):
+                yield Finding(TOUCHING, f'edges {first[ends]} and {edge} of solid {self._solid} lie on each other')
+            first.setdefault(ends, edge)
+
+    def _vertices_on_edges(self) -> Iterator[Finding]:
+        for edge in self._model.edges:
+            start, end = self._ends(edge)
+            for vertex in sorted(self._vertices.meeting(box_of((start, end)))):
+                if (lies_between(start, end, self._model.vertices[vertex]) and not self._are_back_to_back(
+                        self._around[vertex], self._faces_beside(edge))):
+                    yield Finding(TOUCHING, f'vertex {vertex} lies on edge {edge}')
+
+    def _crossing_edges(self) -> Iterator[Finding]:
+        for edge in self._model.edges:
+            for other in sorted(self._edges.meeting(box_of(self._ends(edge)))):
+                if other > edge and _cross_between(*self._ends(edge), *self._ends(other)):
+                    yield from self._crossing(edge, other)
+
+    def _crossing(self, edge: int, other: int) -> Iterator[Finding]:
+        beside, beyond = self._faces_beside(edge), self._faces_beside(other)
+        if beside & beyond:
+            yield Finding(CROSSING, f'edges {edge} and {other} of face {min(beside & beyond)} cross')
+        elif not self._are_back_to_back(beside, beyond):
+            yield Finding(MEETING, f'edges {edge} and {other} cross')
+
+    # Faces
+
+    def _vertices_on_face(self, face: int) -> Iterator[Finding]:
+        shape = self._shapes[face]
+        for vertex in sorted(self._vertices.meeting(box_of(self._model.face_points(face)))):
+            point = self._model.vertices[vertex]
+            if (face not in self._around[vertex] and shape.height(point) == 0 and shape.locate(point) is Place.INSIDE
+                    and not self._are_back_to_back(self._around[vertex], {face})):
+                yield Finding(TOUCHING, f'vertex {vertex} lies on face {face}')
+
+    def _edges_at_face(self, face: int) -> Iterator[Finding]:
+        shape = self._shapes[face]
+        for edge in sorted(self._edges.meeting(box_of(self._model.face_points(face)))):
+            if face in self._faces_beside(edge):
+                continue
+            start, end = self._ends(edge)
+            before, after = shape.height(start), shape.height(end)
+            if before < 0 < after or after < 0 < before:
+                if shape.locate(_on_way(start, end, Fraction(before, before - after))) is Place.INSIDE:
+                    yield Finding(MEETING, f'edge {edge} passes through face {face}')
+            elif (before == after == 0 and _runs_within(shape, start, end)
+                    and not self._are_back_to_back(self._faces_beside(edge), {face})):
+                yield Finding(TOUCHING, f'edge {edge} runs along face {face}')
+
+    def _faces_on_faces(self) -> Iterator[Finding]:
+        """Faces of one plane where one has a point within the other; edges that cross or run along faces are found by then."""
+        for faces in self._faces_by_planes():
+            inner = {face: self._inner_point(face) for face in faces}
+            boxes = {face: box_of(self._model.face_points(face)) for face in faces}
+            index = BoxIndex(boxes)
+            for face in faces:
+                for other in sorted(index.meeting(boxes[face])):
+                    if other > face and self._overlap(face, other, inner):
+                        yield from self._overlapping(face, other)
+
+    def _overlap(self, face: int, other: int, inner: Dict[int, Optional[ExactVector]]) -> bool:
+        return any(point is not None and self._shapes[around].locate(point) is Place.INSIDE
+                   for point, around in ((inner[face], other), (inner[other], face)))
+
+    def _overlapping(self, face: int, other: int) -> Iterator[Finding]:
+        if not self._are_back_to_back({face}, {other}):
+            yield Finding(MEETING if self._look_alike(face, other) else TOUCHING, f'faces {face} and {other} lie on each other')
+
+    def _faces_by_planes(self) -> List[List[int]]:
+        planes: Dict[Tuple[Vector, int], List[int]] = {}
+        for face, shape in self._shapes.items():
+            across = reduced(shape.across)
+            across = max(across, (-across[0], -across[1], -across[2]))
+            planes.setdefault((across, dot(across, shape.origin)), []).append(face)
+        return [faces for faces in planes.values() if len(faces) > 1]
+
+    def _inner_point(self, face: int) -> Optional[ExactVector]:
+        try:
+            corners = [self._model.vertices[vertex] for vertex in face_triangles(self._model, face, self._touched)[0]]
+        except Unfit:
+            return None
+        x, y, z = (Fraction(sum(axis), 3) for axis in zip(*corners))
+        return (x, y, z)
+
+
+def _on_way(start: Vector, end: Vector, way: Fraction) -> ExactVector:
+    x, y, z = (a + way * (b - a) for a, b in zip(start, end))
+    return (x, y, z)
+
+
+def _cross_between(a: Vector, b: Vector, c: Vector, d: Vector) -> bool:
+    """Whether the segments a b and c d have one point in common that is an end of neither."""
+    along, beyond, way = subtract(b, a), subtract(d, c), subtract(c, a)
+    across = cross(along, beyond)
+    if across == ZERO or dot(across, way) != 0:
+        return False
+    whole = dot(across, across)
+    return 0 < dot(cross(way, beyond), across) < whole and 0 < dot(cross(way, along), across) < whole
+
+
+def _runs_within(shape: FlatFace, start: Vector, end: Vector) -> bool:
+    """Whether a part of a segment in the face's plane lies within the face."""
+    a, b = shape.flatten(start), shape.flatten(end)
+    cuts = {Fraction(0), Fraction(1)}
+    for c, d in shape.sides:
+        before, after = turn(c, d, a), turn(c, d, b)
+        if before != after:
+            cuts.add(min(max(Fraction(before, before - after), Fraction(0)), Fraction(1)))
+    ways = sorted(cuts)
+    return any(shape.locate(_on_way(start, end, (one + other) / 2)) is Place.INSIDE for one, other in zip(ways, ways[1:]))

@@ -1,0 +1,103 @@
+"""Reads Wavefront OBJ with flat polygons, and the colours of the material files that it names."""
+
+from typing import Callable, Dict, Iterator, List, NamedTuple, Optional, Tuple
+
+from ..errors import CompanionError
+from ..geometry.flat_face import ExactVector
+from .appearance import Appearance, Colour, colour_of_parts
+from .exact_numbers import Numbers, shortened
+from .parts import Gathered, NotAMesh, Part
+from .text_lines import numbered_words
+
+# Reads a file that lies beside the one that is read; None where it isn't there.
+Beside = Callable[[str], Optional[bytes]]
+# Words of curved surfaces, which aren't read.
+_CURVED = ('cstype', 'curv', 'surf', 'deg')
+
+
+class _Object(NamedTuple):
+    """An object as it is read; one that no word begins is nameless."""
+
+    name: str
+    begun: bool
+    gathered: Gathered
+
+
+def obj_parts(data: bytes, beside: Beside) -> Iterator[Part]:
+    """The objects of a file, each a part. Raises NotAMesh where a line can't be read."""
+    reader = _Reader(beside)
+    for number, words in _joined(numbered_words(data)):
+        try:
+            reader.read(words)
+        except ValueError:
+            raise NotAMesh(f'line {number} can\'t be read: {shortened(" ".join(words))}') from None
+        except CompanionError as error:
+            raise NotAMesh(f'line {number}: {error}') from None
+    for held in reader.objects:
+        colour = reader.one_colour(held.gathered)
+        looks = {} if colour else held.gathered.looks
+        yield Part(held.gathered.points, held.gathered.polygons, parted=not held.begun, look=Appearance(held.name, colour),
+                   face_looks=looks, missing=tuple(reader.missing))
+
+
+def _joined(lines: Iterator[Tuple[int, List[str]]]) -> Iterator[Tuple[int, List[str]]]:
+    """The lines, those that end with a backslash joined to the next."""
+    begun: List[str] = []
+    for number, words in lines:
+        begun += words
+        if begun[-1].endswith('\\'):
+            begun[-1:] = [begun[-1][:-1]] if len(begun[-1]) > 1 else []
+        else:
+            yield number, begun
+            begun = []
+    if begun:
+        yield number, begun
+
+
+class _Reader:
+    """Takes the lines of a file in turn. All objects have the points of the file in common."""
+
+    def __init__(self, beside: Beside) -> None:
+        self._beside = beside
+        self._numbers = Numbers()
+        self._points: List[ExactVector] = []
+        self._materials: Dict[str, Colour] = {}
+        self._colour: Optional[Colour] = None
+        self.missing: Dict[str, None] = {}
+        self.objects = [_Object('', False, Gathered(self._points))]
+
+    def read(self, words: List[str]) -> None:
+        """One line. Raises ValueError, NotANumber or NotAMesh where it can't be read."""
+        word, rest = words[0], words[1:]
+        if word == 'v':
+            self._points.append(self._numbers.point(rest[:3]))
+        elif word == 'f':
+            count = len(self._points)
+            corners = [int(corner.partition('/')[0]) for corner in rest]
+            self.objects[-1].gathered.add([corner - 1 if corner > 0 else count + corner if corner else -1 for corner in corners], self._colour)
+        elif word == 'o':
+            self.objects.append(_Object(' '.join(rest), True, Gathered(self._points)))
+        elif word == 'usemtl':
+            self._colour = self._materials.get(' '.join(rest))
+        elif word == 'mtllib':
+            self._read_materials(' '.join(rest))
+        elif word in _CURVED:
+            raise NotAMesh('it has curved surfaces: only polygons are read')
+
+    def one_colour(self, gathered: Gathered) -> Optional[Colour]:
+        """The colour of all polygons of an object, None where they have several or some have none."""
+        colours = {look.colour for look in gathered.looks.values()}
+        return colours.pop() if len(colours) == 1 and len(gathered.looks) == len(gathered.polygons) else None
+
+    def _read_materials(self, name: str) -> None:
+        data = self._beside(name)
+        if data is None:
+            self.missing[f'the material file {shortened(name)} is not beside it: its colours are missing'] = None
+            return
+        material = ''
+        for _, words in numbered_words(data):
+            if words[0] == 'newmtl':
+                material = ' '.join(words[1:])
+            elif words[0] == 'Kd' and len(words) >= 4:
+                red, green, blue = map(float, words[1:4])
+                self._materials[material] = colour_of_parts(red, green, blue)

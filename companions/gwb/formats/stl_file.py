@@ -1,0 +1,130 @@
+"""Reads STL, as text in letters of either case, or binary."""
+
+import struct
+from fractions import Fraction
+from typing import Dict, Iterator, List, NamedTuple, Optional, Sequence, Tuple
+
+from ..geometry.flat_face import ExactVector
+from ..geometry.plane_figures import Exact
+from .appearance import Appearance
+from .exact_numbers import NotANumber, Numbers, shortened
+from .parts import Gathered, NotAMesh, Part, require_few
+from .text_lines import numbered_words
+
+_HEAD, _FACET = 84, 50
+
+
+def is_binary(data: bytes) -> bool:
+    """Whether the bytes have the length that a binary file with their count of facets has."""
+    return len(data) >= _HEAD and len(data) == _HEAD + _FACET * struct.unpack('<I', data[80:84])[0]
+
+
+def stl_parts(data: bytes) -> Iterator[Part]:
+    """The parts of a file: each `solid` block of a text, or all facets of a binary one. Raises NotAMesh where it can't be read."""
+    if is_binary(data):
+        yield _binary(data)
+        return
+    blocks: List[_Block] = []
+    for number, words in numbered_words(data):
+        if words[0].lower() == 'solid':
+            blocks.append(_Block(' '.join(words[1:])))
+        elif not blocks or not _takes(blocks[-1], number, words):
+            raise NotAMesh(f'line {number} is none of an STL file: {shortened(" ".join(words))}')
+    if not blocks or not blocks[-1].is_ended:
+        raise NotAMesh('it does not begin with `solid` and end with `endsolid`')
+    for block in blocks:
+        gathered = block.gathered
+        yield Part(gathered.points, gathered.polygons, parted=len(blocks) == 1, look=Appearance(block.name))
+
+
+def _takes(block: '_Block', number: int, words: List[str]) -> bool:
+    """Whether a line may stand in a block. Raises NotAMesh, with the line, where it can't be read."""
+    try:
+        return block.read(words)
+    except NotANumber as error:
+        raise NotAMesh(f'line {number}: {error}') from None
+
+
+class _Places:
+    """Points by their words, or their numbers: each is held once."""
+
+    def __init__(self) -> None:
+        self.points: List[ExactVector] = []
+        self._places: Dict[Tuple[object, ...], int] = {}
+
+    def known(self, key: Tuple[object, ...]) -> Optional[int]:
+        """The place of a point that was put in before."""
+        return self._places.get(key)
+
+    def put(self, key: Tuple[object, ...], point: ExactVector) -> int:
+        """The place of a new point."""
+        self._places[key] = len(self.points)
+        self.points.append(point)
+        return self._places[key]
+
+
+class _Block:
+    """A `solid` block as it is read."""
+
+    def __init__(self, name: str) -> None:
+        self.name, self.is_ended = name, False
+        self._places, self._numbers = _Places(), Numbers()
+        self._corners: List[int] = []
+        self.gathered = Gathered(self._places.points)
+
+    def read(self, words: List[str]) -> bool:
+        """One line of the block: whether it may stand there."""
+        word = words[0].lower()
+        if self.is_ended:
+            return False
+        if word == 'vertex':
+            self._corners.append(self._corner(words[1:]))
+        elif word == 'endloop':
+            if len(self._corners) != 3:
+                raise NotAMesh(f'facet {len(self.gathered.polygons) + 1} is no triangle: it has {len(self._corners)} corners')
+            self.gathered.add(self._corners)
+            self._corners = []
+        elif word == 'endsolid':
+            self.is_ended = not self._corners
+            return self.is_ended
+        return word in ('vertex', 'endloop', 'facet', 'outer', 'endfacet')
+
+    def _corner(self, words: List[str]) -> int:
+        key = tuple(words)
+        place = self._places.known(key)
+        return self._places.put(key, self._numbers.point(words)) if place is None else place
+
+
+class _Floats(NamedTuple):
+    """Twelve numbers of a facet: its normal, and three points."""
+
+    parts: Sequence[float]
+
+    def corner(self, number: int) -> Tuple[float, ...]:
+        """The corner 0, 1 or 2."""
+        return tuple(self.parts[3 * number + 3:3 * number + 6])
+
+
+def _binary(data: bytes) -> Part:
+    require_few((len(data) - _HEAD) // _FACET)
+    places = _Places()
+    gathered = Gathered(places.points)
+    for parts in struct.iter_unpack('<12fH', data[_HEAD:]):
+        facet = _Floats(parts)
+        gathered.add([_float_corner(facet.corner(number), places) for number in range(3)])
+    return Part(gathered.points, gathered.polygons, parted=True)
+
+
+def _float_corner(corner: Tuple[float, ...], places: _Places) -> int:
+    place = places.known(corner)
+    if place is not None:
+        return place
+    try:
+        x, y, z = (_exactly(part) for part in corner)
+    except (ValueError, OverflowError):
+        raise NotAMesh('a facet has a corner that is no number, or endless') from None
+    return places.put(corner, (x, y, z))
+
+
+def _exactly(part: float) -> Exact:
+    return int(part) if part == int(part) else Fraction(part)

@@ -1,0 +1,1 @@
+"""Exact geometry of boundary models: points, planes, polygons, faces and solids."""

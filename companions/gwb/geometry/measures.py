@@ -1,0 +1,66 @@
+"""Normals, flatness and volumes, by the definitions of docs/MODEL.md."""
+
+from typing import Iterable, Optional, Sequence
+
+from ..errors import Unfit
+from .model import Model
+from .vectors import Vector, ZERO, cross, dot, subtract, total
+
+
+def area_vector(points: Sequence[Vector]) -> Vector:
+    """Twice the area that the closed path through the points goes round, as a vector."""
+    return total(cross(points[i - 1], points[i]) for i in range(len(points)))
+
+
+def loop_normal(model: Model, loop: int) -> Vector:
+    """The area vector of one loop."""
+    return area_vector(model.loop_points(loop))
+
+
+def normal(model: Model, face: int) -> Vector:
+    """The face's normal: the sum over its loops."""
+    return total(loop_normal(model, loop) for loop in model.faces[face].loops)
+
+
+def anchor(model: Model, face: int) -> Vector:
+    """The first corner of the face's outer loop."""
+    return model.loop_points(model.faces[face].outer)[0]
+
+
+def off_plane(model: Model, face: int, across: Vector) -> Optional[int]:
+    """A vertex of the face off the plane through its anchor with this normal, or None."""
+    origin = anchor(model, face)
+    for vertex in model.face_vertices(face):
+        if dot(across, subtract(model.vertices[vertex], origin)) != 0:
+            return vertex
+    return None
+
+
+def six_volume(model: Model, faces: Iterable[int]) -> int:
+    """Six times the volume that the faces enclose."""
+    return sum(dot(normal(model, face), anchor(model, face)) for face in faces)
+
+
+def why_unfit(model: Model, face: int) -> Optional[str]:
+    """Why the face isn't a plain flat one, or None where it is."""
+    for loop in model.faces[face].loops:
+        if model.loops[loop].is_lone:
+            return f'face {face} has the lone loop {loop}'
+    across = normal(model, face)
+    if across == ZERO:
+        return f'face {face} has no area'
+    vertex = off_plane(model, face, across)
+    if vertex is not None:
+        return f"face {face} isn't flat: vertex {vertex} lies off its plane"
+    for half in model.face_halves(face):
+        if model.point(half) == model.point(-half):
+            return f'edge {abs(half)} of face {face} has no length'
+    return None
+
+
+def require_fit(model: Model) -> None:
+    """Raises Unfit at the first face that isn't a plain flat one."""
+    for face in model.faces:
+        why = why_unfit(model, face)
+        if why is not None:
+            raise Unfit(why)

@@ -1,0 +1,126 @@
+"""The boundary model that a listing describes: solids, faces, loops, half-edges and vertices by their numbers."""
+
+from dataclasses import dataclass, field
+from typing import Dict, Iterator, List, NamedTuple, Optional, Tuple
+
+from .vectors import Vector
+
+
+class Loop(NamedTuple):
+    """A cycle of half-edges (`+e` is e, `-e` is -e), or, where it is lone, one vertex without an edge."""
+
+    halves: Tuple[int, ...]
+    vertex: Optional[int] = None
+
+    @property
+    def is_lone(self) -> bool:
+        """Whether the loop is one vertex."""
+        return self.vertex is not None
+
+
+class Face(NamedTuple):
+    """A face of a solid, with its outer loop and its rings."""
+
+    solid: int
+    outer: int
+    rings: Tuple[int, ...] = ()
+
+    @property
+    def loops(self) -> Tuple[int, ...]:
+        """The outer loop and then the rings."""
+        return (self.outer, *self.rings)
+
+
+@dataclass(frozen=True)
+class Model:
+    """All things of a listing by their numbers, each kind in rising order."""
+
+    solids: Tuple[int, ...]
+    faces: Dict[int, Face]
+    loops: Dict[int, Loop]
+    edges: Dict[int, Tuple[int, int]]
+    vertices: Dict[int, Vector]
+    _sides: Dict[int, int] = field(init=False, repr=False, compare=False)
+
+    def __post_init__(self) -> None:
+        sides = {half: number for number, face in self.faces.items()
+                 for loop in face.loops if loop in self.loops
+                 for half in self.loops[loop].halves}
+        object.__setattr__(self, '_sides', sides)
+
+    def _repr_svg_(self) -> Optional[str]:
+        """A notebook draws the model, where there is something of it."""
+        from ..drawing.svg import svg_text
+        return svg_text(self, (2, -3, 2)) if self.vertices else None
+
+    def tail(self, half: int) -> int:
+        """The vertex at which the half-edge starts."""
+        return self.edges[half][0] if half > 0 else self.edges[-half][1]
+
+    def face_of(self, half: int) -> int:
+        """The face in whose loops the half-edge stands."""
+        return self._sides[half]
+
+    def point(self, half: int) -> Vector:
+        """The point at which the half-edge starts."""
+        return self.vertices[self.tail(half)]
+
+    def loop_vertices(self, loop: int) -> List[int]:
+        """The vertices of the loop in its order."""
+        content = self.loops[loop]
+        if content.vertex is not None:
+            return [content.vertex]
+        return [self.tail(half) for half in content.halves]
+
+    def loop_points(self, loop: int) -> List[Vector]:
+        """The points of the loop in its order."""
+        return [self.vertices[vertex] for vertex in self.loop_vertices(loop)]
+
+    def face_halves(self, face: int) -> Iterator[int]:
+        """The half-edges of all loops of the face."""
+        for loop in self.faces[face].loops:
+            yield from self.loops[loop].halves
+
+    def face_vertices(self, face: int) -> List[int]:
+        """The vertices of all loops of the face, the outer loop first; one may come more than once."""
+        return [vertex for loop in self.faces[face].loops for vertex in self.loop_vertices(loop)]
+
+    def face_points(self, face: int) -> List[Vector]:
+        """The points of all loops of the face."""
+        return [self.vertices[vertex] for vertex in self.face_vertices(face)]
+
+    def faces_of(self, solid: int) -> List[int]:
+        """The faces of the solid, rising."""
+        return [number for number, face in self.faces.items() if face.solid == solid]
+
+    def shells(self, solid: int) -> List[List[int]]:
+        """The faces of the solid in connected parts, by their least faces."""
+        left = dict.fromkeys(self.faces_of(solid))
+        found = []
+        while left:
+            shell = self._reached_from(next(iter(left)))
+            for face in shell:
+                del left[face]
+            found.append(sorted(shell))
+        return found
+
+    def _reached_from(self, start: int) -> Dict[int, None]:
+        """The faces that one comes to from a face across edges."""
+        reached, waiting = {start: None}, [start]
+        while waiting:
+            for half in self.face_halves(waiting.pop()):
+                beyond = self.face_of(-half)
+                if beyond not in reached:
+                    reached[beyond] = None
+                    waiting.append(beyond)
+        return reached
+
+    def only(self, solid: int) -> 'Model':
+        """The model of one of its solids alone."""
+        faces = {number: face for number, face in self.faces.items() if face.solid == solid}
+        loops = {loop: self.loops[loop] for face in faces.values() for loop in face.loops}
+        halves = {half for loop in loops.values() for half in loop.halves}
+        edges = {edge: ends for edge, ends in self.edges.items() if edge in halves}
+        used = {vertex for loop in loops for vertex in self.loop_vertices(loop)}
+        vertices = {vertex: point for vertex, point in self.vertices.items() if vertex in used}
+        return Model((solid,), faces, dict(sorted(loops.items())), edges, vertices)

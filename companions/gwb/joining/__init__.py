@@ -1,0 +1,1 @@
+"""Polygons and regions joined to the faces and surfaces of solids."""

@@ -1,0 +1,1 @@
+"""The programs beside gwb: their command lines, and what they say."""

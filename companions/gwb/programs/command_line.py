@@ -1,0 +1,89 @@
+"""What the programs share: reading input, writing output, errors of one line and statuses."""
+
+import argparse
+import os
+import sys
+from typing import Callable, Optional, Sequence
+
+from ..errors import CompanionError
+from ..geometry.model import Model
+from ..protocol.listing import read_model
+from ..version import VERSION
+
+OK, FOUND, REFUSED, INTERRUPTED = 0, 1, 3, 130
+
+
+def run(program: str, work: Callable[[Optional[Sequence[str]]], int], words: Optional[Sequence[str]] = None) -> int:
+    """The status of a program, whose errors become one line on standard error."""
+    try:
+        status = work(words)
+        sys.stdout.flush()
+        return status
+    except BrokenPipeError:
+        os.dup2(os.open(os.devnull, os.O_WRONLY), sys.stdout.fileno())
+        return REFUSED
+    except CompanionError as error:
+        print(f'{program}: {error}', file=sys.stderr)
+        return REFUSED
+    except OSError as error:
+        print(f'{program}: {_told(error)}', file=sys.stderr)
+        return REFUSED
+    except MemoryError:
+        print(f'{program}: out of memory', file=sys.stderr)
+        return REFUSED
+    except KeyboardInterrupt:
+        return INTERRUPTED
+
+
+def _told(error: OSError) -> str:
+    where = f'{error.filename}: ' if error.filename else ''
+    return where + (error.strerror or str(error))
+
+
+def read_bytes(path: Optional[str]) -> bytes:
+    """The bytes of the file, or of standard input where no path, or `-`, is given."""
+    if path is None or path == '-':
+        return sys.stdin.buffer.read()
+    with open(path, 'rb') as file:
+        return file.read()
+
+
+def write_bytes(data: bytes) -> None:
+    """Writes bytes to standard output, with no change of line ends."""
+    sys.stdout.flush()
+    sys.stdout.buffer.write(data)
+
+
+def add_version(parser: argparse.ArgumentParser) -> None:
+    """Adds the word that every program takes."""
+    parser.add_argument('--version', action='version', version=f'%(prog)s {VERSION}', help='print the version and end')
+
+
+def listing_parser(program: str, description: str) -> argparse.ArgumentParser:
+    """A parser of the words that all programs which read a listing take."""
+    parser = argparse.ArgumentParser(
+        prog=program, description=description,
+        epilog='The input is what gwb writes; its last listing is taken. '
+               'Status 0: done; 2: the command line is refused; 3: the input is refused, or reading or writing failed.')
+    parser.add_argument('listing', nargs='?', metavar='FILE', help='replies of gwb with a listing (default: standard input)')
+    parser.add_argument('--solid', type=int, metavar='S', help='take solid S alone')
+    add_version(parser)
+    return parser
+
+
+def filled_model(options: argparse.Namespace) -> Model:
+    """As wanted_model, but an empty model is refused."""
+    model = wanted_model(options)
+    if not model.solids:
+        raise CompanionError('the model is empty')
+    return model
+
+
+def wanted_model(options: argparse.Namespace) -> Model:
+    """The model that the words of listing_parser name."""
+    model = read_model(read_bytes(options.listing))
+    if options.solid is None:
+        return model
+    if options.solid not in model.solids:
+        raise CompanionError(f'there is no solid {options.solid} in the listing')
+    return model.only(options.solid)

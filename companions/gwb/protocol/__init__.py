@@ -1,0 +1,1 @@
+"""What gwb reads and writes: commands, replies, refusals and listings."""

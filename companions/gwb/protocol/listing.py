@@ -1,0 +1,69 @@
+"""Reads the listing of a model: the one module that knows how listings are written."""
+
+from typing import Dict, List, Sequence, Tuple
+
+from ..errors import NotAListing
+from ..geometry.model import Face, Loop, Model
+from ..geometry.vectors import Vector
+from .replies import Reply, split_replies
+from .soundness import require_sound
+
+_KINDS = ('solid', 'face', 'loop', 'edge', 'vertex')
+
+
+def read_model(data: bytes) -> Model:
+    """The model of the last listing among the replies that the bytes hold."""
+    listings = [reply for reply in split_replies(data) if reply.is_listing]
+    if not listings:
+        raise NotAListing('there is no listing in it: the script needs the command `list`')
+    return model_of(listings[-1])
+
+
+def model_of(reply: Reply) -> Model:
+    """The model that a listing describes, whose parts are found to fit together."""
+    rows = _rows(reply.lines)
+    model = Model(
+        solids=tuple(rows['solid']),
+        faces={number: _face(words) for number, words in rows['face'].items()},
+        loops={number: _loop(words) for number, words in rows['loop'].items()},
+        edges={number: _edge(words) for number, words in rows['edge'].items()},
+        vertices={number: _point(words) for number, words in rows['vertex'].items()})
+    require_sound(model)
+    return model
+
+
+def _rows(lines: Sequence[str]) -> Dict[str, Dict[int, List[str]]]:
+    """For each kind the words after the number, by numbers; kinds and numbers come in order."""
+    rows: Dict[str, Dict[int, List[str]]] = {kind: {} for kind in _KINDS}
+    if lines == ('empty',):
+        return rows
+    last: Tuple[int, int] = (0, 0)
+    for line in lines:
+        kind, number, *words = line.split(' ')
+        place = (_KINDS.index(kind), int(number))
+        if place <= last:
+            raise NotAListing(f'`{kind} {number}` is out of order')
+        last = place
+        rows[kind][place[1]] = words
+    return rows
+
+
+def _face(words: List[str]) -> Face:
+    solid, outer, *rings = map(int, words)
+    return Face(solid, outer, tuple(rings))
+
+
+def _loop(words: List[str]) -> Loop:
+    if words[0] == 'at':
+        return Loop((), int(words[1]))
+    return Loop(tuple(map(int, words)))
+
+
+def _edge(words: List[str]) -> Tuple[int, int]:
+    start, end = map(int, words)
+    return (start, end)
+
+
+def _point(words: List[str]) -> Vector:
+    x, y, z = map(int, words)
+    return (x, y, z)

@@ -1,0 +1,1 @@
+"""A running gwb as a workbench whose commands are methods."""

@@ -1,0 +1,287 @@
+"""The model held, part by part: solids, faces, loops, edges and vertices that are read when they are asked for."""
+
+from typing import Optional, Protocol, Tuple
+
+from ..geometry.measures import area_vector
+from ..geometry.model import Face, Loop, Model
+from ..geometry.vectors import Vector, total
+from ..protocol.complaints import Refused
+from ..protocol.language import refusal
+from .turns import PartOfTurns
+
+
+class Reader(Protocol):
+    """Who knows the model: the library, or a listing."""
+
+    def numbers(self, kind: str) -> Tuple[int, ...]: ...
+    def faces_of(self, solid: int) -> Tuple[int, ...]: ...
+    def face(self, face: int) -> Optional[Face]: ...
+    def loop(self, loop: int) -> Optional[Loop]: ...
+    def face_of_loop(self, loop: int) -> int: ...
+    def edge(self, edge: int) -> Optional[Tuple[int, int]]: ...
+    def vertex(self, vertex: int) -> Optional[Vector]: ...
+
+
+class ListingReader:
+    """Answers from a listing as the library does."""
+
+    def __init__(self, model: Model) -> None:
+        self._model = model
+
+    def numbers(self, kind: str) -> Tuple[int, ...]:
+        """All numbers of a kind in use, rising."""
+        model = self._model
+        return tuple({'solid': model.solids, 'face': model.faces, 'loop': model.loops,
+                      'edge': model.edges, 'vertex': model.vertices}[kind])
+
+    def faces_of(self, solid: int) -> Tuple[int, ...]:
+        """The faces of a solid, rising."""
+        return tuple(self._model.faces_of(solid))
+
+    def face(self, face: int) -> Optional[Face]:
+        """A face; None where it is not there."""
+        return self._model.faces.get(face)
+
+    def loop(self, loop: int) -> Optional[Loop]:
+        """A loop; None where it is not there."""
+        return self._model.loops.get(loop)
+
+    def face_of_loop(self, loop: int) -> int:
+        """The face of a loop that is there."""
+        return next(number for number, face in self._model.faces.items() if loop in face.loops)
+
+    def edge(self, edge: int) -> Optional[Tuple[int, int]]:
+        """The vertices of an edge; None where it is not there."""
+        return self._model.edges.get(edge)
+
+    def vertex(self, vertex: int) -> Optional[Vector]:
+        """The point of a vertex; None where it is not there."""
+        return self._model.vertices.get(vertex)
+
+
+class Holder(Protocol):
+    """Who holds the model and lends its reader."""
+
+    def _reader(self) -> Reader: ...
+
+
+class Part(PartOfTurns):
+    """One thing of the model held, by its number. What it says is read anew each time, so it follows the commands."""
+
+    kind = ''
+    _missing = 0
+    _bench: Holder
+
+    def __init__(self, bench: Holder, number: int) -> None:
+        self._bench, self.number = bench, number
+
+    def __index__(self) -> int:
+        return self.number
+
+    def __eq__(self, other: object) -> bool:
+        return isinstance(other, Part) and (self._bench, self.kind, self.number) == (other._bench, other.kind, other.number)
+
+    def __hash__(self) -> int:
+        return hash((self.kind, self.number))
+
+    def __repr__(self) -> str:
+        return f'<{self.kind} {self.number}>'
+
+    @property
+    def points(self) -> Tuple[Vector, ...]:
+        """Its points."""
+        raise NotImplementedError
+
+    def _read(self) -> Reader:
+        return self._bench._reader()
+
+    def _none(self) -> Refused:
+        meaning = refusal(self._missing, self.number)
+        return Refused(meaning.name, self.number, self._missing, f'there is no {self.kind} {self.number}')
+
+
+class VertexPart(Part):
+    """A vertex."""
+
+    kind = 'vertex'
+
+    @property
+    def point(self) -> Vector:
+        """Where it lies."""
+        found = self._read().vertex(self.number)
+        if found is None:
+            raise NotThere(self)
+        return found
+
+    @property
+    def points(self) -> Tuple[Vector, ...]:
+        """Its one point."""
+        return (self.point,)
+
+
+class NotThere(LookupError, Refused):
+    """There is no such vertex: no command is refused for one, so the refusal has no number of its own."""
+
+    def __init__(self, part: Part) -> None:
+        Refused.__init__(self, f'No{part.kind.capitalize()}', part.number, 0, f'there is no {part.kind} {part.number}')
+
+
+class EdgePart(Part):
+    """An edge."""
+
+    kind = 'edge'
+    _missing = 5
+
+    @property
+    def vertices(self) -> Tuple[VertexPart, VertexPart]:
+        """The vertices at which `+e` and `-e` start."""
+        found = self._read().edge(self.number)
+        if found is None:
+            raise self._none()
+        return (VertexPart(self._bench, found[0]), VertexPart(self._bench, found[1]))
+
+    @property
+    def points(self) -> Tuple[Vector, ...]:
+        """Its two ends."""
+        start, end = self.vertices
+        return (start.point, end.point)
+
+
+class LoopPart(Part):
+    """A loop: a cycle of half-edges, or one vertex."""
+
+    kind = 'loop'
+    _missing = 4
+
+    @property
+    def half_edges(self) -> Tuple[int, ...]:
+        """Its half-edges in their order, from the least on."""
+        return self._content().halves
+
+    @property
+    def edges(self) -> Tuple[EdgePart, ...]:
+        """The edges of its half-edges, in their order."""
+        return tuple(EdgePart(self._bench, abs(half)) for half in self.half_edges)
+
+    @property
+    def vertices(self) -> Tuple[VertexPart, ...]:
+        """The vertices at which its half-edges start, in their order, or its one vertex."""
+        content, reader = self._content(), self._read()
+        if content.vertex is not None:
+            return (VertexPart(self._bench, content.vertex),)
+        return tuple(VertexPart(self._bench, _tail(reader, half)) for half in content.halves)
+
+    @property
+    def points(self) -> Tuple[Vector, ...]:
+        """The points of its vertices, in their order."""
+        return tuple(vertex.point for vertex in self.vertices)
+
+    @property
+    def face(self) -> 'FacePart':
+        """The face it is of."""
+        self._content()
+        return FacePart(self._bench, self._read().face_of_loop(self.number))
+
+    def _content(self) -> Loop:
+        found = self._read().loop(self.number)
+        if found is None:
+            raise self._none()
+        return found
+
+
+class FacePart(Part):
+    """A face."""
+
+    kind = 'face'
+    _missing = 3
+
+    @property
+    def solid(self) -> 'SolidPart':
+        """The solid it is of."""
+        return SolidPart(self._bench, self._row().solid)
+
+    @property
+    def loops(self) -> Tuple[LoopPart, ...]:
+        """Its outer loop and then its rings, rising."""
+        return tuple(LoopPart(self._bench, loop) for loop in self._row().loops)
+
+    @property
+    def outer(self) -> LoopPart:
+        """Its outer loop."""
+        return self.loops[0]
+
+    @property
+    def rings(self) -> Tuple[LoopPart, ...]:
+        """Its rings, rising."""
+        return self.loops[1:]
+
+    @property
+    def edges(self) -> Tuple[EdgePart, ...]:
+        """The edges of its loops, each once, as they come."""
+        return tuple(dict.fromkeys(edge for loop in self.loops for edge in loop.edges))
+
+    @property
+    def vertices(self) -> Tuple[VertexPart, ...]:
+        """The vertices of its loops, each once, as they come."""
+        return tuple(dict.fromkeys(vertex for loop in self.loops for vertex in loop.vertices))
+
+    @property
+    def points(self) -> Tuple[Vector, ...]:
+        """The points of its vertices."""
+        return tuple(vertex.point for vertex in self.vertices)
+
+    @property
+    def normal(self) -> Vector:
+        """Its normal, twice its area long: the first three numbers of its plane."""
+        return total(area_vector(loop.points) for loop in self.loops)
+
+    def _row(self) -> Face:
+        found = self._read().face(self.number)
+        if found is None:
+            raise self._none()
+        return found
+
+
+class SolidPart(Part):
+    """A solid."""
+
+    kind = 'solid'
+    _missing = 2
+
+    @property
+    def faces(self) -> Tuple[FacePart, ...]:
+        """Its faces, rising."""
+        found = self._read().faces_of(self.number)
+        if not found:
+            raise self._none()
+        return tuple(FacePart(self._bench, face) for face in found)
+
+    @property
+    def loops(self) -> Tuple[LoopPart, ...]:
+        """The loops of its faces, rising."""
+        return tuple(sorted((loop for face in self.faces for loop in face.loops), key=_number))
+
+    @property
+    def edges(self) -> Tuple[EdgePart, ...]:
+        """Its edges, rising."""
+        return tuple(sorted({edge for loop in self.loops for edge in loop.edges}, key=_number))
+
+    @property
+    def vertices(self) -> Tuple[VertexPart, ...]:
+        """Its vertices, rising."""
+        return tuple(sorted({vertex for loop in self.loops for vertex in loop.vertices}, key=_number))
+
+    @property
+    def points(self) -> Tuple[Vector, ...]:
+        """The points of its vertices."""
+        return tuple(vertex.point for vertex in self.vertices)
+
+
+def _tail(reader: Reader, half: int) -> int:
+    ends = reader.edge(abs(half))
+    assert ends is not None, 'an edge of a loop is there'
+    return ends[0] if half > 0 else ends[1]
+
+
+def _number(part: Part) -> int:
+    return part.number

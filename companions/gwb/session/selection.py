@@ -1,0 +1,173 @@
+"""Finding things of the model by where they lie, exactly."""
+
+from typing import Callable, Generic, Iterator, List, Optional, Sequence, Tuple, TypeVar, Union, overload
+
+from ..errors import NotOne
+from ..geometry.flat_face import FlatFace
+from ..geometry.measures import why_unfit
+from ..geometry.model import Model
+from ..geometry.plane_figures import Place
+from ..geometry.vectors import Vector, ZERO, dot, same_direction
+from . import arguments
+from .commands import Commands
+from .part_models import model_of_faces
+from .reading import EdgePart, FacePart, LoopPart, Part, SolidPart, VertexPart
+
+Found = TypeVar('Found', bound=Part)
+_PLURALS = {'vertex': 'vertices'}
+
+
+class Selection(Sequence[Found], Generic[Found]):
+    """Things that were found, rising by their numbers."""
+
+    def __init__(self, kind: str, wanted: str, parts: Sequence[Found]) -> None:
+        self._kind, self._wanted, self._parts = kind, wanted, tuple(parts)
+
+    def __len__(self) -> int:
+        return len(self._parts)
+
+    @overload
+    def __getitem__(self, place: int) -> Found: ...
+
+    @overload
+    def __getitem__(self, place: slice) -> 'Selection[Found]': ...
+
+    def __getitem__(self, place: Union[int, slice]) -> 'Union[Found, Selection[Found]]':
+        if isinstance(place, slice):
+            return Selection(self._kind, self._wanted, self._parts[place])
+        return self._parts[place]
+
+    def __iter__(self) -> Iterator[Found]:
+        return iter(self._parts)
+
+    def __repr__(self) -> str:
+        return f'<{_PLURALS.get(self._kind, self._kind + "s")} {", ".join(str(part.number) for part in self._parts) or "none"}>'
+
+    @property
+    def numbers(self) -> Tuple[int, ...]:
+        """Their numbers."""
+        return tuple(part.number for part in self._parts)
+
+    def one(self) -> Found:
+        """The only one; NotOne says what was found where there isn't exactly one."""
+        if len(self._parts) == 1:
+            return self._parts[0]
+        found = ', '.join(f'{part.number}' for part in self._parts)
+        raise NotOne(f'one {self._kind}{self._wanted} was wanted; '
+                     + (f'{len(self._parts)} were found: {found}' if found else 'none was found'))
+
+    def farthest(self, direction: arguments.Point) -> 'Selection[Found]':
+        """Those whose nearest point lies farthest along the direction; more than one where they are level."""
+        way = arguments.point('direction', direction)
+        if way == ZERO:
+            raise ValueError('direction: it is zero')
+        return self._best(lambda part: min(dot(way, point) for point in part.points), f', farthest along {way}')
+
+    def top(self) -> 'Selection[Found]':
+        """Those that lie highest, along z."""
+        return self.farthest((0, 0, 1))
+
+    def bottom(self) -> 'Selection[Found]':
+        """Those that lie lowest, along z."""
+        return self.farthest((0, 0, -1))
+
+    def _best(self, reach: Callable[[Part], int], word: str) -> 'Selection[Found]':
+        reaches = [reach(part) for part in self._parts]
+        most = max(reaches, default=0)
+        return Selection(self._kind, self._wanted + word, [part for part, own in zip(self._parts, reaches) if own == most])
+
+
+class Selecting(Commands):
+    """Parts of the model by their numbers, and by where they lie."""
+
+    def solid(self, solid: arguments.Solid) -> SolidPart:
+        """The solid of this number. Where there is none, what is asked of it raises Refused; so do the next ones."""
+        return SolidPart(self, self._number('solid', solid))
+
+    def face(self, face: arguments.Face) -> FacePart:
+        """The face of this number."""
+        return FacePart(self, self._number('face', face))
+
+    def loop(self, loop: arguments.LoopNumber) -> LoopPart:
+        """The loop of this number."""
+        return LoopPart(self, self._number('loop', loop))
+
+    def edge(self, edge: arguments.Edge) -> EdgePart:
+        """The edge of this number."""
+        return EdgePart(self, self._number('edge', edge))
+
+    def vertex(self, vertex: arguments.Vertex) -> VertexPart:
+        """The vertex of this number."""
+        return VertexPart(self, self._number('vertex', vertex))
+
+    def solids(self) -> 'Selection[SolidPart]':
+        """All solids."""
+        return Selection('solid', '', [SolidPart(self, number) for number in self._reader().numbers('solid')])
+
+    def faces(self, *, solid: Optional[arguments.Solid] = None, plane: Optional[arguments.Point] = None,
+              normal: Optional[arguments.Point] = None, containing: Optional[arguments.Point] = None) -> 'Selection[FacePart]':
+        """The faces that fit: of the solid; wholly in the plane a x + b y + c z + d = 0, four numbers or what `plane` returns, whichever way
+        they look; flat, and looking the way of the normal; flat, with the point inside or on the outline."""
+        tests: List[Callable[[FacePart], bool]] = []
+        if plane is not None:
+            level = arguments.plane('plane', plane)
+            if level[:3] == ZERO:
+                raise ValueError('plane: a, b and c are all zero')
+            tests.append(lambda face: all(dot(level[:3], point) + level[3] == 0 for point in face.points))
+        if normal is not None:
+            way = arguments.point('normal', normal)
+            if way == ZERO:
+                raise ValueError('normal: it is zero')
+            tests.append(lambda face: face.normal != ZERO and same_direction(face.normal, way) and self._is_flat(face))
+        if containing is not None:
+            place = arguments.point('containing', containing)
+            tests.append(lambda face: self._contains(face, place))
+        wanted = _wanted(solid=solid, plane=plane, normal=normal, containing=containing)
+        return Selection('face', wanted, [face for face in self._faces_in(solid) if all(test(face) for test in tests)])
+
+    def edges(self, *, solid: Optional[arguments.Solid] = None, between: Optional[Tuple[arguments.Face, arguments.Face]] = None) -> 'Selection[EdgePart]':
+        """The edges of the solid, those between two faces, or all."""
+        if between is not None:
+            one, other = arguments.pair('between', between, 'face', self)
+            first, second = ({half for loop in FacePart(self, face).loops for half in loop.half_edges} for face in (one, other))
+            found = {abs(half) for half in first if -half in second}
+        elif solid is not None:
+            found = {edge.number for edge in self.solid(solid).edges}
+        else:
+            found = set(self._reader().numbers('edge'))
+        if between is not None and solid is not None:
+            found &= {edge.number for edge in self.solid(solid).edges}
+        return Selection('edge', _wanted(solid=solid, between=between), [EdgePart(self, number) for number in sorted(found)])
+
+    def vertices(self, *, solid: Optional[arguments.Solid] = None, at: Optional[arguments.Point] = None) -> 'Selection[VertexPart]':
+        """The vertices of the solid, or all; `at` a point."""
+        place = None if at is None else arguments.point('at', at)
+        parts = ([VertexPart(self, number) for number in self._reader().numbers('vertex')] if solid is None
+                 else list(self.solid(solid).vertices))
+        return Selection('vertex', _wanted(solid=solid, at=at), [part for part in parts if place is None or part.point == place])
+
+    def _faces_in(self, solid: Optional[arguments.Solid]) -> Sequence[FacePart]:
+        if solid is None:
+            return [FacePart(self, number) for number in self._reader().numbers('face')]
+        return self.solid(solid).faces
+
+    def _is_flat(self, face: FacePart) -> bool:
+        origin, across = face.outer.points[0], face.normal
+        level = dot(across, origin)
+        return all(dot(across, point) == level for point in face.points)
+
+    def _contains(self, face: FacePart, point: Vector) -> bool:
+        model = self._model_of([face.number])
+        if why_unfit(model, face.number) is not None:
+            return False
+        shape = FlatFace(model, face.number)
+        return shape.height(point) == 0 and shape.locate(point) is not Place.OUTSIDE
+
+    def _model_of(self, faces: Sequence[int]) -> Model:
+        """The model of these faces alone, which are there."""
+        return model_of_faces(self._reader(), faces)
+
+
+def _wanted(**criteria: object) -> str:
+    words = [f'{name}={value!r}' for name, value in criteria.items() if value is not None]
+    return f' with {", ".join(words)}' if words else ''

@@ -1,0 +1,152 @@
+"""The methods of a workbench that take solids as wholes (solids.py), cut and unite them (cutting.py), and shape them up to the edges of
+their faces (shaping.py)."""
+
+from typing import Optional, Sequence, Tuple
+
+from ..geometry.model import Model
+from ..geometry.moved import Change, mirroring, moving, scaling
+from ..geometry.outlines import Impossible
+from ..geometry.vectors import ZERO
+from . import arguments, cutting, shaping, solids
+from .cutting import Cut, Keep
+from .features import Features
+from .shaping import Notch
+from .solids import Copy
+
+
+class SolidMethods(Features):
+    """Solids as things. Each method is one step to undo; one that is refused leaves everything as it was."""
+
+    def delete(self, solid: arguments.Solid) -> None:
+        """The solid goes, with all that it has. Refused: NoSolid."""
+        solids.delete(self, self._number('solid', solid))
+
+    def copy(self, solid: arguments.Solid, *, move: arguments.Point = ZERO, mirror: Optional[arguments.Point] = None) -> Copy:
+        """A copy of the solid, mirrored in a plane where one is given, and then moved by the vector: the numbers of its things by those of
+        the original.
+
+        Refused: NoSolid; PointRange: a point would leave the range; OffLattice: one would be mirrored between whole coordinates;
+        NumbersSpent: there are no free numbers."""
+        changes = [] if mirror is None else [mirroring(solids.mirror_plane('mirror', mirror))]
+        changes.append(moving(arguments.point('move', move)))
+        return solids.copies(self, self._number('solid', solid), [changes])[0]
+
+    def pattern(self, solid: arguments.Solid, count: int, step: arguments.Point) -> Tuple[Copy, ...]:
+        """Copies of the solid, each a step farther than the one before, so that there are `count` of it with itself. Refused as copy is."""
+        return solids.copies(self, self._number('solid', solid), solids.in_a_row(count, step))
+
+    def move(self, solid: arguments.Solid, vector: arguments.Point) -> int:
+        """The solid moves by the vector: its number, which stays, as all of its numbers do. Refused: NoSolid; PointRange: a point would
+        leave the range."""
+        return self._placed(solid, moving(arguments.point('vector', vector)))
+
+    def turn(self, solid: arguments.Solid, axis: str, times: int = 1, *, about: arguments.Point = ZERO) -> int:
+        """The solid turns by quarters about the axis 'x', 'y' or 'z' through a point, counterclockwise as seen from where the axis points:
+        its number. Refused as move is."""
+        return self._placed(solid, solids.quarter_turns(axis, times, about))
+
+    def mirror(self, solid: arguments.Solid, plane: arguments.Point) -> int:
+        """The solid becomes its image in the plane a x + b y + c z + d = 0: its number. Each loop runs the other way, by the mates of its
+        half-edges. Refused as move is; OffLattice: a point would come between whole coordinates, as none does in planes across an axis or a
+        diagonal of two axes that lie well."""
+        return self._placed(solid, mirroring(solids.mirror_plane('plane', plane)))
+
+    def scale(self, factor: int) -> None:
+        """All coordinates of all solids are multiplied by a whole number from 1 on. Refused: PointRange."""
+        times = arguments.positive('factor', factor)
+        solids.place(self, self.solids().numbers, scaling(times))
+
+    def cut(self, solid: arguments.Solid, plane: arguments.Point, *, keep: str = 'both', above: Optional[int] = None) -> Cut:
+        """The solid is cut by the plane a x + b y + c z + d = 0. What lies below it stays the solid, and what lies above it becomes a new one,
+        of the number `above` where one is given. With keep='below' or 'above' the other part is thrown away, and the part that is kept keeps
+        the number of the solid.
+
+        Where split refuses the plane for what it touches or how it runs through faces and holes, both parts are made anew, by operators, and
+        faces in the plane are one with the caps beside them. Refused: what split says of the solid, the plane and its points: NoSolid,
+        SolidTaken, LoneLoop, NotFlat, PlaneMisses, NotLattice; Meets: a part's faces would lie on each other at an edge."""
+        number, level, wanted = self._number('solid', solid), arguments.plane('plane', plane), cutting.kept(keep)
+        new = None if above is None else arguments.number('above', above)
+        if wanted is Keep.BOTH:
+            return cutting.cut(self, number, level, new)
+        if new is not None:
+            raise ValueError(f'above: the part above the plane gets no number of its own where {keep!r} alone is kept')
+        if wanted is Keep.BELOW:
+            return Cut(number, None, cutting.trimmed(self, number, level), ())
+        return Cut(None, number, (), cutting.trimmed(self, number, cutting.opposite(level)))
+
+    def trim(self, solid: arguments.Solid, plane: arguments.Point) -> Tuple[int, ...]:
+        """What lies above the plane is cut off and thrown away: the faces that close what is left. Refused as cut is."""
+        return self.cut(solid, plane, keep=Keep.BELOW.value).lower_caps
+
+    def union(self, solids: Sequence[arguments.Solid]) -> int:
+        """The solids, which touch in faces and have no room in common, become one: the number of the first of them. Faces of one plane
+        beside each other become one, and so do the edges that go on straight.
+
+        Refused: NoSolid, NotFlat; NoContact: a solid touches the others in no face; Overlap: two have room in common, or the union
+        would touch itself; OffLattice: edges of two solids cross between whole coordinates."""
+        return cutting.united(self, cutting.solid_numbers(self, solids))
+
+    def notch(self, face: arguments.Face, points: arguments.Points, depth: int) -> Notch:
+        """A pocket so deep behind the face whose outline may reach the edges of the face; there it is open, and where it is as deep as the
+        solid it goes through.
+
+        Refused: NoFace; NotFlat: the face isn't flat, or a face of the solid has no area; NotInPlane, FewPoints, RepeatedPoint, NoArea and
+        OutlineCrossed for the points; OutlineOutside: the outline reaches beyond the face; OffLattice: no whole vector along the normal is
+        so long, or edges would cross between whole coordinates; Meets: what is cut out reaches out of the solid elsewhere, or the solid
+        would touch itself."""
+        number, outline = self._number('face', face), arguments.points('points', points)
+        deep = arguments.positive('depth', depth)
+        model = self._solid_at(number)
+        return shaping.cut_out(self, number, shaping.notch_tool(model, number, outline, deep))
+
+    def slot(self, face: arguments.Face, start: arguments.Point, end: arguments.Point, width: int, depth: int) -> Notch:
+        """A slot with a flat floor, so wide and deep, whose middle line runs in the face from one point to another. Refused as notch is;
+        OffLattice: half of the width isn't whole across the line."""
+        number, ends = self._number('face', face), (arguments.point('start', start), arguments.point('end', end))
+        wide, deep = arguments.positive('width', width), arguments.positive('depth', depth)
+        return shaping.cut_out(self, number, shaping.slot_tool(self._solid_at(number), number, ends, wide, deep))
+
+    def groove(self, face: arguments.Face, start: arguments.Point, end: arguments.Point, width: int, depth: int) -> Notch:
+        """A groove like a V, so wide at the face and so deep under its middle line, which runs from one point to another; it has no floor.
+        Refused as slot is."""
+        number, ends = self._number('face', face), (arguments.point('start', start), arguments.point('end', end))
+        wide, deep = arguments.positive('width', width), arguments.positive('depth', depth)
+        return shaping.cut_out(self, number, shaping.groove_tool(self._solid_at(number), number, ends, wide, deep))
+
+    def shoulder(self, face: arguments.Face, edge: arguments.Edge, width: int, depth: int) -> Notch:
+        """A step along an edge of the face: so wide in the face, from the edge on, and so deep behind it. Refused as notch is; NoEdge,
+        NotOfFace: the edge isn't one of the face."""
+        number, along = self._number('face', face), self._number('edge', edge)
+        wide, deep = arguments.positive('width', width), arguments.positive('depth', depth)
+        model = self._solid_at(number)
+        self.edge(along).vertices
+        half = next((side for side in model.face_halves(number) if abs(side) == along), None)
+        if half is None:
+            raise Impossible('NotOfFace', along, f'edge {along} is none of face {number}')
+        return shaping.cut_out(self, number, shaping.shoulder_tool(model, half, wide, deep))
+
+    def chamfer(self, edge: arguments.Edge, width: int, other: Optional[int] = None) -> int:
+        """The edge becomes a sloping face, which begins so far from it in the face of its half-edge `+e`, and in the other one as far, or so
+        far as `other` says: the number of the face. At an edge that bends inwards the room is filled.
+
+        Refused: NoEdge; NotFlat: a face of the edge isn't flat, or the slope wouldn't be; FlatEdge: both lie in one plane; OffLattice: a
+        corner wouldn't be whole; OutlineOutside, Meets: there is no room for it."""
+        number, wide = self._number('edge', edge), arguments.positive('width', width)
+        far = wide if other is None else arguments.positive('other', other)
+        self.edge(number).vertices
+        model = self._solid_at(self.listing().face_of(number))
+        outwards = shaping.bends_outwards(model, number)
+        if outwards is None:
+            raise Impossible('FlatEdge', number, f'the faces of edge {number} lie in one plane')
+        shape = shaping.cut_out if outwards else shaping.put_on
+        made = shape(self, model.face_of(number), shaping.chamfer_tool(model, number, wide, far))
+        return made.floor[0]
+
+    def _solid_at(self, face: int) -> Model:
+        """The model of a face's solid."""
+        return solids.solid_model(self, self.face(face).solid.number)
+
+    def _placed(self, solid: arguments.Solid, change: Change) -> int:
+        number = self._number('solid', solid)
+        solids.place(self, [number], change)
+        return number

@@ -1,0 +1,192 @@
+"""Solids as things: taken away, copied, moved, turned, mirrored, set in rows and scaled, each by operators and one command to undo.
+
+A solid is taken apart and made anew, as a script of its listing would make it (inversion.py): some 2.5 operators for each of its edges. So
+whatever a sound solid has, rings, handles, wires, laminae and several shells, it keeps, and the faces need not be flat.
+"""
+
+from dataclasses import dataclass
+from functools import reduce
+from typing import Callable, Dict, List, Mapping, Sequence, Tuple
+
+from ..errors import Unfit
+from ..geometry.free_numbers import KINDS, LARGEST, FreeNumbers, numbers_of, renumbered, renumbering
+from ..geometry.model import Model
+from ..geometry.moved import Change, Displaced, changed, moving, turning
+from ..geometry.outlines import Impossible
+from ..geometry.vectors import Vector, ZERO
+from ..protocol.complaints import Refused
+from ..scripts.changing import script_between
+from ..scripts.inversion import Step, steps_apart
+from . import arguments
+from .calls import call_in
+from .commands import Commands
+from .selection import Found, Selecting
+
+AXES = ('x', 'y', 'z')
+
+
+@dataclass(frozen=True)
+class Copy:
+    """A copy of a solid: its number, and for each face, loop, edge and vertex of the original, by its number, that of the copy."""
+
+    solid: int
+    faces: Mapping[int, int]
+    loops: Mapping[int, int]
+    edges: Mapping[int, int]
+    vertices: Mapping[int, int]
+
+    def face(self, face: arguments.Face) -> int:
+        """The copy of the face. KeyError, here and below: the original has no such thing."""
+        return self.faces[arguments.number('face', face)]
+
+    def loop(self, loop: arguments.LoopNumber) -> int:
+        """The copy of the loop."""
+        return self.loops[arguments.number('loop', loop)]
+
+    def edge(self, edge: arguments.Edge) -> int:
+        """The copy of the edge."""
+        return self.edges[arguments.number('edge', edge)]
+
+    def half_edge(self, half: int) -> int:
+        """The copy of the half-edge: it starts at the copy of its vertex. In a mirrored copy the loop of its mate has it."""
+        edge = arguments.half_edge('half', half)
+        return self.edges[edge] if edge > 0 else -self.edges[-edge]
+
+    def vertex(self, vertex: arguments.Vertex) -> int:
+        """The copy of the vertex."""
+        return self.vertices[arguments.number('vertex', vertex)]
+
+    def of(self, part: Found) -> Found:
+        """The copy of a thing of the original, as a thing of the same kind."""
+        numbers = {'face': self.faces, 'loop': self.loops, 'edge': self.edges, 'vertex': self.vertices}
+        return type(part)(part._bench, self.solid if part.kind == 'solid' else numbers[part.kind][part.number])
+
+
+class Numbers:
+    """The numbers that a bench has free: for what is made, and spare ones on the way there."""
+
+    def __init__(self, bench: Selecting) -> None:
+        reader = bench._reader()
+        self._free = {kind: FreeNumbers(kind, (*reader.numbers(kind), min(bench._new(kind, None) - 1, LARGEST))) for kind in KINDS}
+
+    def take(self, kind: str) -> int:
+        """A number that was never in use, where there is one, else one that is free. NumbersSpent is raised where none is."""
+        try:
+            return self._free[kind].take()
+        except Unfit as error:
+            raise _spent(error) from None
+
+    def instead_of(self, model: Model) -> Dict[str, Dict[int, int]]:
+        """A new number for each of the model's."""
+        try:
+            return {kind: renumbering(self._free[kind], numbers) for kind, numbers in numbers_of(model).items()}
+        except Unfit as error:
+            raise _spent(error) from None
+
+    def taking_away(self, model: Model) -> List[str]:
+        """The operators that take the solids of the model away."""
+        return [step.takes for solid in model.solids for step in self._steps(model.only(solid))]
+
+    def making(self, model: Model) -> List[str]:
+        """The operators that make the solids of the model."""
+        return [step.makes for solid in model.solids for step in reversed(self._steps(model.only(solid)))]
+
+    def changing(self, before: Model, after: Model) -> List[str]:
+        """The operators that turn a solid into one of the same number: those of the faces that differ where that will do, else all."""
+        try:
+            lines = script_between(before, after, self._free)
+        except Unfit as error:
+            raise _spent(error) from None
+        return [*self.taking_away(before), *self.making(after)] if lines is None else lines
+
+    def _steps(self, model: Model) -> List[Step]:
+        try:
+            return steps_apart(model, self._free)
+        except Unfit as error:
+            raise _spent(error) from None
+
+
+def _spent(error: Unfit) -> Refused:
+    return Impossible('NumbersSpent', 0, str(error))
+
+
+def solid_model(bench: Selecting, solid: int) -> Model:
+    """The model of one solid. Refused: NoSolid."""
+    return bench._model_of([face.number for face in bench.solid(solid).faces])
+
+
+def give(bench: Commands, lines: Sequence[str]) -> None:
+    """Gives operators as one command, or as steps of the draft that is open; where one isn't accepted, all is as before."""
+    with bench._step(operators_alone=True):
+        for line in lines:
+            _give(bench, line)
+
+
+def _give(bench: Commands, line: str) -> None:
+    call = call_in(line)
+    _METHODS[call.word](bench, *call.values)
+
+
+_METHODS: Dict[str, Callable[..., object]] = {
+    'mvfs': lambda bench, solid, face, loop, vertex, *point: bench.mvfs(point, solid=solid, face=face, loop=loop, vertex=vertex),
+    'mev': lambda bench, first, second, edge, vertex, *point: bench.mev(first, second, point, edge=edge, vertex=vertex),
+    'mef': lambda bench, first, second, edge, face, loop: bench.mef(first, second, edge=edge, face=face, loop=loop),
+    'kemr': lambda bench, half, loop: bench.kemr(half, loop=loop),
+    'mekr': lambda bench, first, second, edge: bench.mekr(first, second, edge=edge),
+    'mfkrh': lambda bench, ring, face: bench.mfkrh(ring, face=face),
+    'kvfs': Commands.kvfs, 'kev': Commands.kev, 'kef': Commands.kef, 'kfmrh': Commands.kfmrh,
+}
+
+
+def delete(bench: Selecting, solid: int) -> None:
+    """Takes a solid away. Refused: NoSolid."""
+    give(bench, Numbers(bench).taking_away(solid_model(bench, solid)))
+
+
+def copies(bench: Selecting, solid: int, ways: Sequence[Sequence[Change]]) -> Tuple[Copy, ...]:
+    """A copy of the solid for each sequence of changes of place. Refused: NoSolid, PointRange, OffLattice, NumbersSpent."""
+    model, numbers = solid_model(bench, solid), Numbers(bench)
+    renumberings = [numbers.instead_of(model) for _ in ways]
+    made = [renumbered(reduce(placed, way, model), new) for way, new in zip(ways, renumberings)]
+    give(bench, [line for copied in made for line in numbers.making(copied)])
+    return tuple(Copy(new['solid'][solid], *(new[kind] for kind in KINDS[1:])) for new in renumberings)
+
+
+def place(bench: Selecting, solids: Sequence[int], change: Change) -> None:
+    """Solids come to another place, and all their numbers stay. Refused: NoSolid, PointRange, OffLattice."""
+    models = [solid_model(bench, solid) for solid in solids]
+    after, numbers = [placed(model, change) for model in models], Numbers(bench)
+    give(bench, [line for old, new in zip(models, after) for line in (*numbers.taking_away(old), *numbers.making(new))])
+
+
+def placed(model: Model, change: Change) -> Model:
+    """The model in another place. Refused: PointRange, OffLattice, with the vertex."""
+    try:
+        return changed(model, change)
+    except Displaced as error:
+        raise Impossible(error.name, error.vertex, str(error)) from None
+
+
+def mirror_plane(name: str, value: object) -> Tuple[int, int, int, int]:
+    """The numbers of a plane to mirror in. A ValueError says where the first three are all zero."""
+    found = arguments.plane(name, value)
+    if found[:3] == ZERO:
+        raise ValueError(f'{name}: a, b and c are all zero')
+    return found
+
+
+def quarter_turns(axis: object, times: object, about: object) -> Change:
+    """A turn by quarters about an axis through a point."""
+    if axis not in AXES:
+        raise ValueError(f"axis: 'x', 'y' or 'z' is wanted, not {axis!r}")
+    return turning(str(axis), arguments.coordinate('times', times), arguments.point('about', about))
+
+
+def in_a_row(count: object, step: object) -> List[Sequence[Change]]:
+    """The moves that make a row of so many with the first one."""
+    number, way = arguments.positive('count', count), arguments.point('step', step)
+    if number < 2:
+        raise ValueError(f'count: {number} is below 2')
+    if way == ZERO:
+        raise ValueError('step: it is zero')
+    return [[moving((way[0] * times, way[1] * times, way[2] * times))] for times in range(1, number)]

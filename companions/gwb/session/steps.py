@@ -1,0 +1,141 @@
+"""Steps to undo: single commands, groups of them, and drafts, which are one command."""
+
+from contextlib import contextmanager
+from typing import Iterator, Sequence
+
+from ..errors import NoDraft
+from ..protocol.complaints import MemoryRefused
+from .conversation import Conversation
+from .journal import Done, State
+
+
+class Steps(Conversation):
+    """A conversation whose commands may be given together: what isn't made whole leaves nothing behind."""
+
+    @contextmanager
+    def draft(self) -> Iterator[None]:
+        """The operators given in it are one command. By an exception it is abandoned: all is as before, what can be redone included.
+
+        It takes operators and `ring` alone, and what reads the model, which is the draft's; everything else raises InDraft. Calls of other
+        threads wait for its end."""
+        with self._turn:
+            self._begin_block('draft')
+            try:
+                with self._disagreeing():
+                    self._unless_refused(self._lines.open_draft)
+                    self._journal.open_draft()
+                yield
+                self._commit()
+            except BaseException:
+                self._abandon()
+                raise
+
+    @contextmanager
+    def group(self) -> Iterator[None]:
+        """The calls given in it are one step to undo. By an exception all of them are taken back, what could be redone before included.
+
+        It takes all but `undo` and `redo`, which raise InGroup; groups and drafts may stand in it. Calls of other threads wait for its end."""
+        with self._turn:
+            self._begin_block('group')
+            before, outer = self._journal.state, self._group_from
+            try:
+                if outer is None:
+                    self._group_from = before.at
+                yield
+            except BaseException:
+                self._undo_to(before)
+                raise
+            finally:
+                self._group_from = outer
+
+    def _begin_block(self, word: str) -> None:
+        """A draft or a group begins, which a draft doesn't take."""
+        if not self._is_inside:
+            self._begin_turn()
+        self._refuse_in_draft(word)
+
+    @contextmanager
+    def _step(self, *, operators_alone: bool = False) -> Iterator[None]:
+        """The commands given in it are one step to undo; operators alone one command. Where one isn't accepted, all is as before."""
+        if not operators_alone:
+            with self.group():
+                yield
+        elif self._journal.is_drafting:
+            with self._part_of_draft():
+                yield
+        else:
+            with self.draft():
+                yield
+
+    @contextmanager
+    def _part_of_draft(self) -> Iterator[None]:
+        """The steps given in it are given whole, or the draft ends here."""
+        given = len(self._journal.draft)
+        try:
+            yield
+        except BaseException:
+            if len(self._journal.draft) > given:
+                self._abandon()
+            raise
+
+    def _step_through(self, word: str, commands: int) -> None:
+        """Undoes or redoes so many commands, the word says which: all of them or none."""
+        self._refuse_in_draft(word)
+        self._refuse_in_group(word)
+        before = self._journal.state
+        try:
+            for _ in range(commands):
+                self._go(word)
+        except BaseException:
+            if self._journal.state is not before:
+                self._journal.restore(before)
+                self._agrees = False
+            raise
+
+    def _commit(self) -> None:
+        """The draft ends: its steps are one command. One without steps leaves everything as it was."""
+        if not self._journal.is_drafting:
+            raise NoDraft('the draft was given up, since a feature in it was not made whole')
+        if not self._journal.draft:
+            self._abandon()
+            return
+        with self._disagreeing():
+            self._lines.commit()
+            self._journal.commit(self._begins_step())
+
+    def _abandon(self) -> None:
+        """The draft ends, if it is still open: its steps are taken back."""
+        if not self._journal.is_drafting:
+            return
+        steps = self._journal.end_draft()
+        self._follow(lambda: self._take_back_draft(steps))
+
+    def _take_back_draft(self, steps: int) -> None:
+        if not self._lines.abandon(steps):
+            self._journal.restore(self._journal.state, steps)
+            self._make_redoable(self._journal.ahead)
+
+    def _undo_to(self, before: State) -> None:
+        """All is as in a state from before: the commands since then are undone, so that what was ahead of it then can be redone."""
+        if self._journal.state is before:
+            return
+        self._abandon()
+        made = self._journal.held[before.at:]
+        self._journal.restore(before, len(made))
+        self._follow(lambda: self._take_back(made, self._journal.ahead))
+
+    def _take_back(self, made: Sequence[Done], ahead: Sequence[Done]) -> None:
+        self._unmake(made)
+        if made:
+            self._make_redoable(ahead)
+
+    def _make_redoable(self, ahead: Sequence[Done]) -> None:
+        """Gives commands anew that could be redone before others were given and undone, and undoes them."""
+        given = 0
+        try:
+            for given, done in enumerate(ahead):
+                self._lines.give(done.calls)
+            given = len(ahead)
+        except MemoryRefused:
+            self._journal.drop_ahead(given)
+        self._unmake(ahead[:given])

@@ -1,0 +1,164 @@
+"""What lies near a place: the faces and edges of a solid by boxes, kept while commands change some of them."""
+
+from typing import Dict, Iterable, List, Optional, Set, Tuple
+
+from ..geometry.box_index import Box, BoxIndex, box_of
+from ..geometry.regions import LoopShape, Region, region_of
+from ..geometry.vectors import Vector
+from .mirror import Changes, Mirror
+
+
+class _Boxes:
+    """Boxes by numbers, of which more may come, and which may change. Some may be of what is gone."""
+
+    def __init__(self, boxes: Dict[int, Box]) -> None:
+        self._boxes = boxes
+        self._sort()
+
+    def put(self, number: int, box: Box) -> None:
+        """Puts a box in, or changes it."""
+        self._boxes[number] = box
+        self._index.add(number, box)
+        if len(self._boxes) > 2 * self._sorted:
+            self._sort()
+
+    def meeting(self, box: Box) -> Iterable[int]:
+        """The numbers of those that have a point in common with the box."""
+        return self._index.meeting(box)
+
+    def _sort(self) -> None:
+        """Makes the index anew, for so many boxes as there are now."""
+        self._index, self._sorted = BoxIndex(self._boxes), len(self._boxes)
+
+
+class _OfSolid:
+    """The faces and edges of a solid by their boxes; a lone loop stands among the edges, by its number below zero."""
+
+    def __init__(self, faces: Dict[int, Box], edges: Dict[int, Box]) -> None:
+        self.faces, self.edges = _Boxes(faces), _Boxes(edges)
+        self.around = _around(faces.values())
+
+    def put_face(self, face: int, box: Box) -> None:
+        """Puts the box of a face in, or changes it."""
+        self.faces.put(face, box)
+        self.around = _around((self.around, box))
+
+
+def _around(boxes: Iterable[Box]) -> Box:
+    return box_of(corner for box in boxes for corner in zip(*box))
+
+
+class Surroundings:
+    """The faces of a mirror as regions, and what lies near a place. What was worked out is kept until it changes."""
+
+    def __init__(self, mirror: Mirror) -> None:
+        self.mirror = mirror
+        # False while changes are worked in, and after an exception that left it half-way: then this is of no more use.
+        self.is_whole = True
+        mirror.take_changes()
+        self._shapes: Dict[int, LoopShape] = {}
+        self._regions: Dict[int, Optional[Region]] = {}
+        self._solids: Dict[int, _OfSolid] = {}
+
+    def region(self, face: int) -> Optional[Region]:
+        """The face as a region of its plane; None where it isn't a plain flat one."""
+        self._catch_up()
+        if face not in self._regions:
+            row = self.mirror.face(face)
+            self._regions[face] = region_of([self._shape(loop) for loop in row.loops]) if row else None
+        return self._regions[face]
+
+    def faces_near(self, solid: int, box: Box) -> List[int]:
+        """The faces of the solid whose boxes meet a box, rising."""
+        found = self._of(solid).faces.meeting(box)
+        return sorted(face for face in found for row in [self.mirror.face(face)] if row and row.solid == solid)
+
+    def edges_near(self, solid: int, box: Box) -> List[Tuple[Vector, Vector]]:
+        """The ends of the edges of the solid whose boxes meet a box; a lone vertex stands for both ends."""
+        return [ends for key in self._of(solid).edges.meeting(box) for ends in [self._ends(key)] if ends and self._solid_of(key) == solid]
+
+    def box_around(self, solid: int) -> Box:
+        """A box in which all of the solid lies."""
+        return self._of(solid).around
+
+    def _of(self, solid: int) -> _OfSolid:
+        self._catch_up()
+        if solid not in self._solids:
+            faces = {face: self._box(face) for face in self.mirror.faces_of(solid)}
+            keys = {key for face in faces for key in self._keys(face)}
+            self._solids[solid] = _OfSolid(faces, {key: box_of(ends) for key in keys for ends in [self._ends(key)] if ends})
+        return self._solids[solid]
+
+    def _catch_up(self) -> None:
+        """What the mirror says has changed is worked out anew."""
+        if not self.mirror.has_changed:
+            return
+        self.is_whole = False
+        changes = self.mirror.take_changes()
+        self._regions.clear()
+        for loop in changes.loops:
+            self._shapes.pop(loop, None)
+        if self._solids:
+            self._put_changed(changes)
+        self.is_whole = True
+
+    def _put_changed(self, changes: Changes) -> None:
+        """Puts the boxes of what has changed in."""
+        faces = {face for face in changes.faces if self.mirror.face(face)}
+        faces.update(face for loop in changes.loops for face in [self._face_with_outer(loop)] if face)
+        for face in faces:
+            self._put_face(face)
+        keys = {key for face in faces & changes.faces for key in self._keys(face)}
+        self._put_edges(keys | changes.edges | {-loop for loop in changes.loops})
+
+    def _put_face(self, face: int) -> None:
+        row = self.mirror.face(face)
+        if row and row.solid in self._solids:
+            self._solids[row.solid].put_face(face, self._box(face))
+
+    def _put_edges(self, keys: Set[int]) -> None:
+        for key in keys:
+            ends = self._ends(key)
+            if ends and self._solid_of(key) in self._solids:
+                self._solids[self._solid_of(key)].edges.put(key, box_of(ends))
+
+    def _face_with_outer(self, loop: int) -> int:
+        """The face of which the loop is the outer one; 0 where it is none."""
+        if self.mirror.loop(loop) is None:
+            return 0
+        face = self.mirror.face_of_loop(loop)
+        row = self.mirror.face(face)
+        return face if row and row.outer == loop else 0
+
+    def _keys(self, face: int) -> Iterable[int]:
+        """The edges of a face that is there, and its lone loops."""
+        row = self.mirror.face(face)
+        for loop in row.loops if row else ():
+            content = self.mirror.loop(loop)
+            yield from (-loop,) if content is None or content.is_lone else (abs(half) for half in content.halves)
+
+    def _ends(self, key: int) -> Optional[Tuple[Vector, Vector]]:
+        """The ends of an edge, or the vertex of a lone loop twice; None where it isn't there."""
+        if key > 0:
+            ends = self.mirror.edge(key)
+            return None if ends is None else (self.mirror.point(ends[0]), self.mirror.point(ends[1]))
+        content = self.mirror.loop(-key)
+        if content is None or content.vertex is None:
+            return None
+        return (self.mirror.point(content.vertex),) * 2
+
+    def _solid_of(self, key: int) -> int:
+        row = self.mirror.face(self.mirror.face_of_loop(self.mirror.loop_of(key) if key > 0 else -key))
+        return row.solid if row else 0
+
+    def _box(self, face: int) -> Box:
+        row = self.mirror.face(face)
+        assert row is not None, 'the face is there'
+        return self._shape(row.outer).box
+
+    def _shape(self, loop: int) -> LoopShape:
+        """What is known of a loop that is there."""
+        if loop not in self._shapes:
+            content = self.mirror.loop(loop)
+            self._shapes[loop] = LoopShape(self.mirror.points_of(loop), content is None or content.is_lone)
+        return self._shapes[loop]
