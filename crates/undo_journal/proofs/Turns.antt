@@ -1,7 +1,7 @@
 -- Operators replayed in turn.
-use Rattle.std.specs.Prelude.{◌≡◌, ℕ, zero, suc, ◌+◌, ◌<◌, List, [], ◌∷◌, take, get_or, length, None}
+use Rattle.std.specs.Prelude.{◌≡◌, ℕ, zero, suc, ◌+◌, ◌-◌, ◌<◌, ◌≤◌, List, [], ◌∷◌, ◌++◌, take, get_or, length, reverse, None}
 use Rattle.std.proofs.Common.{sym, ap, subst, ◌∙◌, arith}
-use Rattle.std.proofs.lemmas.List.{take_more}
+use Rattle.std.proofs.lemmas.List.{take_more, take_all, reverse-append}
 use Rattle.euler_operators.specs.Model.{Model}
 use Rattle.low_euler.specs.Store.{Store}
 use Rattle.euler_operators.specs.declared.Op.{Op}
@@ -11,7 +11,7 @@ use Rattle.euler_laws.specs.Laws.{effects, AreAccepted}
 use Rattle.euler_laws.proofs.Runs.{effects-append}
 use Rattle.low_euler.specs.Ready.{IsReady, HasRoomFor, Accepts, after}
 use Rattle.undo_journal.specs.Sessions.{AllHaveRoom, all_after}
-use Rattle.undo_journal.proofs.Rooms.{op_kept, keeps_all_after}
+use Rattle.undo_journal.proofs.Rooms.{op_kept, ops_kept, keeps_all_after}
 
 goes_at : (M : Model) (ops : List Op) (i : ℕ) (o : Op) → i < length ops → o ≡ get_or ops i o → AreAccepted M ops → first_false (effects M (take i ops)) o ≡ None
 goes_at M [] i o h e a = absurd (omega arith)
@@ -39,3 +39,30 @@ after_next s t ops i o h e is =
     (ap (effect (effects s.model (take i ops))) e
     ∙ sym (effects-append s.model (take i ops) (get_or ops i o ∷ []))
     ∙ ap (effects s.model) (sym (take_more ops i o h)))
+
+-- some operators from the last to the first
+pub reverse_last : (ops : List Op) (o : Op) → 1 ≤ length ops → o ≡ get_or ops (length ops - 1) o → reverse ops ≡ o ∷ reverse (take (length ops - 1) ops)
+reverse_last ops o some is =
+    let whole : take (length ops - 1) ops ++ o ∷ [] ≡ ops =
+    ap (λ (p : Op). take (length ops - 1) ops ++ p ∷ []) is ∙ sym (take_more ops (length ops - 1) o (omega (arith, some)))
+    ∙ take_all (length ops - 1 + 1) ops (omega (arith, some)) in
+    ap reverse (sym whole) ∙ reverse-append (take (length ops - 1) ops) (o ∷ [])
+
+-- the last one is accepted now, and then the others
+pub accepts_last : (s : Store) (ops : List Op) (o : Op) → 1 ≤ length ops → o ≡ get_or ops (length ops - 1) o → AreAccepted s.model (reverse ops) → AllHaveRoom s (reverse ops) → IsReady s → Accepts s o
+accepts_last s ops o some is accepted room ready =
+    let turned = reverse_last ops o some is in record {
+      ready = ready;
+      holds = (subst (AreAccepted s.model) turned accepted).0;
+      room = (subst (AllHaveRoom s) turned room).0;
+    }
+
+module _ (s : Store) (ops : List Op) (o : Op) (some : 1 ≤ length ops) (is : o ≡ get_or ops (length ops - 1) o) where
+  pub others_accepted : AreAccepted s.model (reverse ops) → AreAccepted (after s o).model (reverse (take (length ops - 1) ops))
+  others_accepted accepted = (subst (AreAccepted s.model) (reverse_last ops o some is) accepted).1
+
+  pub others_room : AllHaveRoom s (reverse ops) → AllHaveRoom (after s o) (reverse (take (length ops - 1) ops))
+  others_room room = ops_kept s (after s o) (reverse (take (length ops - 1) ops)) (keeps_all_after s (o ∷ [])) (subst (AllHaveRoom s) (reverse_last ops o some is) room).1
+
+  pub others_after : all_after (after s o) (reverse (take (length ops - 1) ops)) ≡ all_after s (reverse ops)
+  others_after = ap (all_after s) (sym (reverse_last ops o some is))

@@ -1,9 +1,10 @@
--- The operators of a list, which holds one in itself or several behind a pointer.
-use Rattle.std.specs.Prelude.{List, [], ◌∷◌}
+-- The operators of a list, which holds one in itself or several behind a pointer, the first of them first or last.
+use Rattle.std.specs.Prelude.{List, [], ◌∷◌, reverse}
 use Rattle.euler_operators.specs.declared.Op.{Op}
 use Rattle.undo_journal.specs.declared.record.Ops.{Ops}
-use Rattle.undo_journal.specs.declared.record.Ops.TheVariants.{One, Many}
+use Rattle.undo_journal.specs.declared.record.Ops.TheVariants.{One, Many, Turned}
 
 abbrev pub listed : Ops → List Op
 listed (One op) = op ∷ []
 listed (Many ops) = ops.items
+listed (Turned ops) = reverse ops.items

@@ -11,7 +11,7 @@ ghost use Rattle.euler_operators.specs.declared.Refusal.{Refusal};
 
 use crate::record::{OpList, PLACES, Record};
 use crate::session::{Failure, Session};
-use crate::steps::{place_for_one, replay_all, step, take_back};
+use crate::steps::{place_for_one, replay_back, step, take_back};
 use euler_operators::Op;
 use low_euler::{Arena, check};
 use std::alloc::{AllocError, Global};
@@ -103,6 +103,7 @@ impl Draft {
 
     /// One operator that is accepted, as a step: its conditions aren't tested. All memory for it and for its inverse is taken before
     /// the change. Where memory is refused nothing has changed, and the draft goes on.
+    #[inline(always)]
     pub fn step_accepted(&mut self, op: Op) -> Result<(), AllocError>
         requires { first_false self.old.model op ≡ None }
         ensures ok { OnOk result (self.new ≡ after_step self.old op) }
@@ -161,13 +162,12 @@ impl Draft {
             mut records,
             place,
             forward,
-            mut back,
+            back,
         } = self;
         records.truncate(place);
-        back.reverse();
         let record = Record {
             forward: OpList::many(forward),
-            back: OpList::many(back),
+            back: OpList::turned(back),
         };
         records.push_reserved(record);
         Session {
@@ -188,10 +188,9 @@ impl Draft {
             records,
             place,
             forward,
-            mut back,
+            back,
         } = self;
-        back.reverse();
-        replay_all(&mut *arena, back.as_slice());
+        replay_back(&mut *arena, back.as_slice());
         Session {
             alloc,
             arena,

@@ -1,9 +1,13 @@
 //! The record of a command: lists of operators.
-ghost use Rattle.std.specs.Prelude.{◌≡◌, ◌<◌, [], ◌∷◌, length, slice_index_or};
+ghost use Rattle.std.specs.Prelude.{◌≡◌, ◌<◌, [], ◌∷◌, length, reverse, slice_index_or};
+ghost use Rattle.euler_laws.specs.Laws.{AreAccepted};
+ghost use Rattle.low_euler.specs.Ready.{IsReady};
+ghost use Rattle.undo_journal.specs.Sessions.{AllHaveRoom, all_after};
 
+use crate::steps::{replay_all, replay_back};
 use euler_operators::Op;
+use low_euler::{Arena, replay};
 use std::marker::Model;
-use std::slice;
 
 /// How many records get their places at a time. A list of more than a few hundred is a block of its own to the system, which makes it
 /// longer without a copy and gives its pages as they are touched.
@@ -19,6 +23,8 @@ pub struct OpList {
 enum Ops {
     One(Op),
     Many(Vec<Op>),
+    /// The first operator of the list stands last.
+    Turned(Vec<Op>),
 }
 
 impl Model for OpList {
@@ -48,12 +54,27 @@ impl OpList {
         }
     }
 
-    pub(crate) fn as_slice(&self) -> &[Op]
-        ensures { result.now ≡ self.now }
+    /// The list of some operators from the last to the first. None is moved.
+    pub(crate) fn turned(ops: Vec<Op>) -> Self
+        ensures { result ≡ reverse ops.items }
+    {
+        OpList {
+            ops: Ops::Turned(ops),
+        }
+    }
+
+    /// Applies the operators in turn, each of which is accepted then and has its room. It takes no memory.
+    pub(crate) fn replay(&self, arena: &mut Arena)
+        requires ready { IsReady arena.old }
+        requires accepted { AreAccepted arena.old.model self.now }
+        requires room { AllHaveRoom arena.old self.now }
+        ensures effects { arena.new ≡ all_after arena.old self.now }
+        ensures ready { IsReady arena.new }
     {
         match &self.ops {
-            Ops::One(op) => slice::from_ref(op),
-            Ops::Many(ops) => ops.as_slice(),
+            Ops::One(op) => replay(arena, op),
+            Ops::Many(ops) => replay_all(arena, ops.as_slice()),
+            Ops::Turned(ops) => replay_back(arena, ops.as_slice()),
         }
     }
 
@@ -61,7 +82,11 @@ impl OpList {
     pub fn len(&self) -> usize
         ensures { result ≡ length self.now }
     {
-        self.as_slice().len()
+        match &self.ops {
+            Ops::One(_) => 1,
+            Ops::Many(ops) => ops.len(),
+            Ops::Turned(ops) => ops.len(),
+        }
     }
 
     /// The operator of this index, counted from 0.
@@ -69,7 +94,11 @@ impl OpList {
         requires { index < length self.now }
         ensures { result.now ≡ slice_index_or self.now index result.now }
     {
-        &self.as_slice()[index]
+        match &self.ops {
+            Ops::One(op) => op,
+            Ops::Many(ops) => &ops[index],
+            Ops::Turned(ops) => &ops[ops.len() - 1 - index],
+        }
     }
 }
 

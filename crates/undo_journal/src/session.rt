@@ -12,7 +12,7 @@ ghost use Rattle.euler_operators.specs.Conditions.{verdict};
 ghost use Rattle.euler_operators.specs.declared.Refusal.{Refusal};
 
 use crate::record::{OpList, PLACES, Record};
-use crate::steps::{place_for_one, replay_all};
+use crate::steps::place_for_one;
 use euler_operators::{Op, Refusal, Why};
 use low_euler::{Arena, advance, check};
 use std::alloc::{AllocError, Global};
@@ -167,7 +167,7 @@ impl Session {
         }
         self.place -= 1;
         let record = &self.records[self.place];
-        replay_all(&mut *self.arena, record.back.as_slice());
+        record.back.replay(&mut *self.arena);
         Ok(())
     }
 
@@ -184,7 +184,7 @@ impl Session {
             });
         }
         let record = &self.records[self.place];
-        replay_all(&mut *self.arena, record.forward.as_slice());
+        record.forward.replay(&mut *self.arena);
         self.place += 1;
         Ok(())
     }

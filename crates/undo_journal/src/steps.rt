@@ -26,6 +26,21 @@ pub(crate) fn replay_all(arena: &mut Arena, ops: &[Op])
     }
 }
 
+/// Applies operators in turn from the last to the first, each of which is accepted then and has its room. It takes no memory.
+pub(crate) fn replay_back(arena: &mut Arena, ops: &[Op])
+    requires ready { IsReady arena.old }
+    requires accepted { AreAccepted arena.old.model (reverse ops.now) }
+    requires room { AllHaveRoom arena.old (reverse ops.now) }
+    ensures effects { arena.new ≡ all_after arena.old (reverse ops.now) }
+    ensures ready { IsReady arena.new }
+{
+    let mut rest = ops;
+    'ops: while let [others @ .., op] = rest {
+        replay(arena, op);
+        rest = others;
+    }
+}
+
 /// Takes the operators of a list from a place on, the last first: it applies them, and drops them. It takes no memory.
 pub(crate) fn take_back(arena: &mut Arena, back: &mut Vec<Op>, place: usize)
     requires ready { IsReady arena.old }
@@ -38,9 +53,18 @@ pub(crate) fn take_back(arena: &mut Arena, back: &mut Vec<Op>, place: usize)
     if back.len() <= place {
         return;
     }
-    back[place..].reverse();
-    replay_all(arena, &back[place..]);
+    replay_back(arena, &back[place..]);
     back.truncate(place);
+}
+
+/// Makes places for so many more in a list. It stands apart, so that the test whether there is one is made in place.
+#[inline(never)]
+fn more_places<T>(list: &mut Vec<T>, more: usize) -> Result<(), AllocError>
+    requires more { 0 < more }
+    ensures items { list.new.items ≡ list.old.items }
+    ensures place { OnOk result (vec_len list.new < vec_capacity list.new) }
+{
+    list.reserve(more)
 }
 
 /// Makes a place for one more in a list: where there is none, places for so many more. Where there is one, this is one test.
@@ -53,11 +77,12 @@ pub(crate) fn place_for_one<T>(list: &mut Vec<T>, more: usize) -> Result<(), All
     if list.len() < list.capacity() {
         return Ok(());
     }
-    list.reserve(more)
+    more_places(list, more)
 }
 
 /// Applies an operator that is accepted, and appends it and its inverse to two lists. All memory is taken before the change:
 /// on `AllocError` the model and the lists are as they were.
+#[inline(always)]
 pub(crate) fn step(
     alloc: Global,
     arena: &mut Arena,

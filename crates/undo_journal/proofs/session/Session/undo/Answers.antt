@@ -14,26 +14,25 @@ use Rattle.undo_journal.proofs.Kept.{kept_undo}
 use Rattle.undo_journal.proofs.Seen.{depth_seen, undo_seen}
 use Rattle.undo_journal.proofs.session.Session.undo.Goals as goal
 
-pub replay_all-requires-clause-accepted : goal.replay_all-requires-clause-accepted
-replay_all-requires-clause-accepted c =
+pub replay-requires-clause-accepted : goal.replay-requires-clause-accepted
+replay-requires-clause-accepted c =
     let before : 0 < c.self.inside.place = omega (arith, c.if-self-eq0.false) in
-    subst (λ (s : Store). AreAccepted s.model c.as_slice.result.now) (sym c.deref_mut.ensures.value)
-    (subst (AreAccepted c.self.inside.arena.value.model) (sym c.as_slice.ensures) (goes_back _ _ _ before c.self.invariant.journal _ c.index-record.ensures))
+    subst (λ (s : Store). AreAccepted s.model c.index-record.result.now.back) (sym c.deref_mut.ensures.value)
+    (goes_back _ _ _ before c.self.invariant.journal _ c.index-record.ensures)
 
-pub replay_all-requires-clause-room : goal.replay_all-requires-clause-room
-replay_all-requires-clause-room c =
+pub replay-requires-clause-room : goal.replay-requires-clause-room
+replay-requires-clause-room c =
     let within = c.self.invariant.journal.placed in
-    subst (λ (s : Store). AllHaveRoom s c.as_slice.result.now) (sym c.deref_mut.ensures.value)
-    (subst (AllHaveRoom c.self.inside.arena.value) (sym c.as_slice.ensures)
-    (record_room c.self.inside.arena.value _ _ _ (omega (arith, c.if-self-eq0.false, within)) c.index-record.ensures c.self.invariant.room).1)
+    subst (λ (s : Store). AllHaveRoom s c.index-record.result.now.back) (sym c.deref_mut.ensures.value)
+    (record_room c.self.inside.arena.value _ _ _ (omega (arith, c.if-self-eq0.false, within)) c.index-record.ensures c.self.invariant.room).1
 
-abbrev arena : (c : goal.After-self-2-1) → c.replay_all.new.arena ≡ all_after c.self.inside.arena.value c.index-record.result.now.back
-arena c = c.replay_all.ensures.effects ∙ ap (λ (s : Store). all_after s c.as_slice.result.now) c.deref_mut.ensures.value ∙ ap (all_after c.self.inside.arena.value) c.as_slice.ensures
+abbrev arena : (c : goal.After-self-2-1) → c.replay.new.arena ≡ all_after c.self.inside.arena.value c.index-record.result.now.back
+arena c = c.replay.ensures.effects ∙ ap (λ (s : Store). all_after s c.index-record.result.now.back) c.deref_mut.ensures.value
 
 kept : (c : goal.After-self-2-1) → IsKept (all_after c.self.inside.arena.value c.index-record.result.now.back) c.self.inside.records.items (c.self.inside.place - 1)
 kept c =
     let before : 0 < c.self.inside.place = omega (arith, c.if-self-eq0.false) in
-    kept_undo _ _ _ _ before c.index-record.ensures c.self.invariant (subst IsReady (arena c) c.replay_all.ensures.ready)
+    kept_undo _ _ _ _ before c.index-record.ensures c.self.invariant (subst IsReady (arena c) c.replay.ensures.ready)
 
 pub invariant_of-self : goal.invariant_of-self
 invariant_of-self c = subst (λ (s : Store). IsKept s c.self.inside.records.items (c.self.inside.place - 1)) (sym (arena c)) (kept c)

@@ -1,0 +1,17 @@
+use Rattle.std.specs.Prelude.{◌≡◌, ◌≤◌, length, reverse}
+use Rattle.euler_laws.specs.Laws.{AreAccepted}
+use Rattle.low_euler.specs.Ready.{IsReady}
+use Rattle.undo_journal.specs.Sessions.{AllHaveRoom, all_after}
+use Rattle.undo_journal.proofs.steps.replay_back.Given as goal
+
+abbrev pub invariant-ops : goal.invariant-ops
+invariant-ops l = record {
+  accepted : AreAccepted l.arena.model (reverse l.rest);
+  room : AllHaveRoom l.arena (reverse l.rest);
+  effects : all_after l.arena (reverse l.rest) ≡ all_after l.fn.arena (reverse l.ops);
+  ready : IsReady l.arena;
+  within : length l.rest ≤ length l.ops;
+}
+
+abbrev pub decreases-ops : goal.decreases-ops
+decreases-ops l = length l.rest
