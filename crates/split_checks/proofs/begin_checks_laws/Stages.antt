@@ -1,7 +1,7 @@
 -- The conditions with which a split begins, part by part.
 use Rattle.std.specs.Prelude.{min}
 use Rattle.std.specs.List.{list_any}
-use Rattle.std.proofs.Common.{◌≡◌, ℕ, ◌+◌, true, false, cond, ◌&&◌, nat_le, List, [], ◌∷◌, ◌++◌, length, Option, Some, None, Result, Ok, Err, IfOk, IfErr, refl, sym, ap, subst, ◌∙◌, arith}
+use Rattle.std.proofs.Common.{◌≡◌, ℕ, ◌+◌, true, false, cond, ◌&&◌, nat_le, List, [], ◌∷◌, ◌++◌, length, Option, Some, None, Result, Ok, Err, IfOk, IfErr, OnErr, refl, sym, ap, subst, ◌∙◌, arith}
 use Rattle.std.proofs.lemmas.Bool.Decides.{nat_tests}
 use Rattle.euler_operators.specs.declared.Plane.{Plane}
 use Rattle.euler_operators.specs.Ranges.{IsCutPlane}
@@ -16,7 +16,7 @@ use Rattle.shapes.specs.Fresh.{Taken, taken_in, numbers_left, no_such, first_suc
 use Rattle.shapes.specs.split.Places.{is_touched, is_cut_often, is_crossed, pair_count}
 use Rattle.shapes.specs.split.Sides.{reaches_above, reaches_below, straddling_faces, crossing_edges}
 use Rattle.shapes.specs.split.Split.{plane_in_range, cut_conditions, first_conditions}
-use Rattle.split_checks.specs.begin_checks.Conditions.{number_conditions, solid_conditions, face_conditions, sectioning_conditions}
+use Rattle.split_checks.specs.begin_checks.Conditions.{number_conditions, solid_conditions, early_conditions, early_refusal, face_conditions, sectioning_conditions}
 use Rattle.split_checks.specs.cut_places.Crossings.{is_off}
 
 -- what holds of the value of a result, and of its error
@@ -25,6 +25,11 @@ at_ok r x P e h = subst (λ y. IfOk y P) e h
 
 pub at_err : {X E : Type 0} (r : Result X E) (x : E) (P : E → Type 0) → r ≡ Err x → IfErr r P → P x
 at_err r x P e h = subst (λ y. IfErr y P) e h
+
+-- what is so whatever the result
+pub on_any : {X E P : Type 0} (r : Result X E) → P → OnErr r P
+on_any (Ok x) h = tt
+on_any (Err e) h = h
 
 -- ---- faces
 
@@ -105,6 +110,14 @@ module _ (M : Model) (s : ℕ) (p : Plane) (t : ℕ) where
   unfolding first_conditions
   all_is = refl
 
+  -- where no condition is false that is tested before anything is changed, none is that is tested before memory is asked for
+  pub none_early : first_refusal (first_conditions M s p t) ≡ None → early_refusal M s p t ≡ None
+  unfolding first_conditions early_conditions
+  none_early begun = go (early_refusal M s p t) refl where
+    go : (o : Option Refusal) → early_refusal M s p t ≡ o → o ≡ None
+    go None is = refl
+    go (Some r) is = sym (first_refusal-refused (early_conditions M s p t) (sectioning_conditions M s p) r is) ∙ begun
+
   pub cut_plane : (u : Unit {0}) → Ok u ≡ verdict (first_refusal (plane_in_range p)) → IsCutPlane p
   cut_plane u e = let h = all_hold (plane_in_range p) (verdict_passed _ u e) in ((coordinate_within p.a h.0, coordinate_within p.b h.1.0, coordinate_within p.c h.1.1.0), offset_within p.d h.1.1.1.0)
 
@@ -124,6 +137,12 @@ module _ (M : Model) (s : ℕ) (p : Plane) (t : ℕ) where
 
       pub solid_refused : (r : Refusal) → Err r ≡ verdict (first_refusal (solid_conditions M s)) → first_refusal (first_conditions M s p t) ≡ Some r
       solid_refused r e = sym after_range ∙ first_refusal-refused (solid_conditions M s) (sectioning_conditions M s p) r (verdict_failed _ r e)
+
+      pub early_passed : (w : Unit {0}) → Ok w ≡ verdict (first_refusal (solid_conditions M s)) → early_refusal M s p t ≡ None
+      unfolding early_conditions
+      early_passed w solid =
+          first_refusal-append (number_conditions M s t) (plane_in_range p ++ solid_conditions M s) (verdict_passed _ u known)
+          ∙ first_refusal-append (plane_in_range p) (solid_conditions M s) (verdict_passed _ v range) ∙ verdict_passed _ w solid
 
       pub section_decides : (w : Unit {0}) → Ok w ≡ verdict (first_refusal (solid_conditions M s)) → first_refusal (sectioning_conditions M s p) ≡ first_refusal (first_conditions M s p t)
       section_decides w solid = sym (first_refusal-append (solid_conditions M s) (sectioning_conditions M s p) (verdict_passed _ w solid)) ∙ after_range

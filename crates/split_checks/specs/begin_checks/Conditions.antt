@@ -1,17 +1,18 @@
 -- The conditions with which a split begins, by what their tests look at.
-use Rattle.std.specs.Prelude.{ℕ, not, ◌&&◌, List, [], ◌∷◌, ◌++◌}
+use Rattle.std.specs.Prelude.{ℕ, not, ◌&&◌, List, [], ◌∷◌, ◌++◌, Option}
 use Rattle.std.specs.List.{list_any}
 use Rattle.euler_operators.specs.declared.Plane.{Plane}
 use Rattle.euler_operators.specs.Table as table
 use Rattle.euler_operators.specs.Model.{Model, faces_of}
-use Rattle.euler_operators.specs.Conditions.{Condition, need, never, numbers_in_range}
+use Rattle.euler_operators.specs.Conditions.{Condition, need, never, first_refusal, numbers_in_range}
+use Rattle.euler_operators.specs.declared.Refusal.{Refusal}
 use Rattle.euler_operators.specs.declared.Why.TheVariants.{NoSolid, SolidTaken, LoneLoop, NotFlat, PlaneMisses, NotLattice, TouchedFace, CutOften, CutCrossed}
 use Rattle.shapes.specs.Faces.{least_lone}
 use Rattle.shapes.specs.Fresh.{no_such, first_such}
 use Rattle.solid_measure.specs.Measure.{is_flat}
 use Rattle.shapes.specs.split.Sides.{reaches_above, reaches_below}
 use Rattle.shapes.specs.split.Places.{is_touched, is_cut_often, is_crossed}
-use Rattle.shapes.specs.split.Split.{cut_conditions}
+use Rattle.shapes.specs.split.Split.{plane_in_range, cut_conditions}
 use Rattle.shapes.specs.split.Sides.{crossing_edges, straddling_faces}
 use Rattle.split_checks.specs.cut_places.Crossings.{is_off}
 
@@ -29,6 +30,13 @@ solid_conditions M s =
     no_such (least_lone M (faces_of M s)) LoneLoop
     ∷ no_such (first_such (λ f. not (is_flat M f)) (faces_of M s)) NotFlat
     ∷ []
+
+-- those that are tested before memory is asked for, and the refusal of the first of them that is false, if one is
+unfoldable pub early_conditions : Model → ℕ → Plane → ℕ → List Condition
+early_conditions M s p t = number_conditions M s t ++ (plane_in_range p ++ solid_conditions M s)
+
+abbrev pub early_refusal : Model → ℕ → Plane → ℕ → Option Refusal
+early_refusal M s p t = first_refusal (early_conditions M s p t)
 
 -- the solid has vertices on both sides of the plane
 abbrev pub side_conditions : Model → ℕ → Plane → List Condition

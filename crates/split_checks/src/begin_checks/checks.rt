@@ -1,11 +1,11 @@
 //! The conditions with which a split begins, in the order in which they are tested.
-ghost use Rattle.std.specs.Prelude.{◌≡◌, ◌&&◌, map, None, Some, IfErr, IfOk};
+ghost use Rattle.std.specs.Prelude.{◌≡◌, ◌&&◌, map, None, Some, IfErr, IfOk, OnErr};
 ghost use Rattle.euler_operators.specs.HalfEdge.{code};
 ghost use Rattle.euler_conditions.specs.Ready.{IsReady};
 ghost use Rattle.euler_operators.specs.Conditions.{first_refusal, verdict};
 ghost use Rattle.euler_operators.specs.Ranges.{IsCutPlane};
 ghost use Rattle.split_checks.specs.Cuts.{AreCuts, all_pairs, codes, paired_face};
-ghost use Rattle.split_checks.specs.begin_checks.Conditions.{face_conditions, number_conditions, sectioning_conditions, solid_conditions};
+ghost use Rattle.split_checks.specs.begin_checks.Conditions.{early_refusal, face_conditions, number_conditions, sectioning_conditions, solid_conditions};
 ghost use Rattle.split_checks.specs.cut_places.Meetings.{AreTold, IsSolidMet, faces_in};
 ghost use Rattle.split_checks.specs.cut_places.Noted.{AreSides};
 ghost use Rattle.split_checks.specs.cut_places.Places.{AreFacesAlong};
@@ -189,7 +189,7 @@ fn check_section(
 ///
 /// It looks at the faces of s alone, at each a few times. On which side of the plane a corner lies it computes where that isn't noted in
 /// `sides`, and notes it then. It takes n log n steps for n edges that cross, and for n cut places of a face. `AllocError` where memory is
-/// refused.
+/// refused: none is asked for before the conditions up to NotFlat hold.
 pub fn check_begin(
     alloc: Global,
     arena: &Arena,
@@ -203,6 +203,7 @@ pub fn check_begin(
     ensures begins { IfOk result (λ checked. IfOk checked (λ _. first_refusal (first_conditions arena.now.model s plane.now upper) ≡ None)) }
     ensures cuts { IfOk result (λ checked. IfOk checked (λ cuts. AreCuts arena.now.model plane.now s cuts)) }
     ensures refused { IfOk result (λ checked. IfErr checked (λ refusal. first_refusal (first_conditions arena.now.model s plane.now upper) ≡ Some refusal)) }
+    ensures memory { OnErr result (early_refusal arena.now.model s plane.now upper ≡ None) }
     ensures sides { AreSides arena.now.model plane.now sides.new }
 {
     if let Err(refusal) = check_numbers(arena, s, upper) {

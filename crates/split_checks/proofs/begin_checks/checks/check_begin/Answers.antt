@@ -1,5 +1,5 @@
 use Rattle.std.proofs.Common.{◌≡◌, Some, None, IfOk, IfErr, subst}
-use Rattle.split_checks.proofs.begin_checks_laws.Stages.{cut_plane, numbers_refused, range_refused, solid_refused, section_decides}
+use Rattle.split_checks.proofs.begin_checks_laws.Stages.{cut_plane, numbers_refused, range_refused, solid_refused, early_passed, section_decides, on_any}
 use Rattle.split_checks.proofs.begin_checks.checks.check_begin.Goals as goal
 
 pub returns-in-Err-clause-refused : goal.returns-in-Err-clause-refused
@@ -23,3 +23,7 @@ returns-clause-begins c = subst (λ o. IfOk c.check_section.result (λ checked. 
 pub returns-clause-refused : goal.returns-clause-refused
 returns-clause-refused c = subst (λ o. IfOk c.check_section.result (λ checked. IfErr checked (λ refusal. o ≡ Some refusal)))
     (section_decides c.args.arena.now.model c.args.s c.args.plane.now c.args.upper c.in_default.field-0 c.in_default.ensures c.in_default-check_plane.field-0 c.in_default-check_plane.ensures c.in_default-check_solid.field-0 c.in_default-check_solid.ensures) c.check_section.ensures.refused
+
+pub returns-clause-memory : goal.returns-clause-memory
+returns-clause-memory c = on_any c.check_section.result
+    (early_passed c.args.arena.now.model c.args.s c.args.plane.now c.args.upper c.in_default.field-0 c.in_default.ensures c.in_default-check_plane.field-0 c.in_default-check_plane.ensures c.in_default-check_solid.field-0 c.in_default-check_solid.ensures)
