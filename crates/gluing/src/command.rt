@@ -1,10 +1,13 @@
 //! The glue of two faces, as one command.
 ghost use Rattle.std.specs.Prelude.{◌≡◌, None, Some, Err, OnOk, OnErr};
+ghost use Rattle.std.specs.declared.alloc.AllocError.{AllocError};
 ghost use Rattle.euler_operators.specs.declared.Refusal.{Refusal};
 ghost use Rattle.euler_conditions.specs.Ready.{IsReady};
 ghost use Rattle.shapes.specs.glue.Glue as spec;
 ghost use Rattle.shapes.specs.glue.Glue.{glue_model};
 ghost use Rattle.undo_journal.specs.Journal.{IsRecorded, IsFurther};
+ghost use Rattle.undo_journal.specs.Machine.{held};
+ghost use Rattle.gluing.specs.glue_checks.Conditions.{early_refusal};
 ghost use Rattle.gluing.specs.Machine.{glue, glue_refusal};
 
 use crate::glue_checks::check_glue;
@@ -18,6 +21,7 @@ fn admit(alloc: Global, arena: &Arena, f: u32, other: u32) -> Result<(), Failure
     requires { IsReady arena.now }
     ensures ok { OnOk result (spec.glue_refusal arena.now.model f other ≡ None) }
     ensures refused { (refusal : Refusal) → (result ≡ Err (Failure.Refused refusal)) → (spec.glue_refusal arena.now.model f other ≡ Some refusal) }
+    ensures memory { (error : AllocError) → (result ≡ Err (Failure.Memory error)) → (early_refusal arena.now.model f other ≡ None) }
 {
     match check_glue(alloc, arena, f, other) {
         Ok(Ok(())) => Ok(()),
@@ -31,6 +35,7 @@ fn admit(alloc: Global, arena: &Arena, f: u32, other: u32) -> Result<(), Failure
 pub fn glue_in(alloc: Global, draft: &mut Draft, f: u32, other: u32) -> Result<(), Failure>
     ensures ok { OnOk result ((spec.glue_refusal draft.old.model f other ≡ None) × (draft.new.model ≡ glue_model draft.old.model f other)) }
     ensures refused { (refusal : Refusal) → (result ≡ Err (Failure.Refused refusal)) → (spec.glue_refusal draft.old.model f other ≡ Some refusal) }
+    ensures memory { (error : AllocError) → (result ≡ Err (Failure.Memory error)) → (early_refusal draft.old.model f other ≡ None) }
     ensures further { IsFurther draft.old draft.new }
     ensures err { OnErr result (draft.new ≡ draft.old) }
 {
@@ -50,8 +55,8 @@ pub fn glue_in(alloc: Global, draft: &mut Draft, f: u32, other: u32) -> Result<(
 /// Refused, in this order: NumberRange; NoFace with f, then the other; SameSolid with the solid; HasRings with f, then the other;
 /// LoneLoop with the least lone loop of the two solids; NotFlat with their least face that isn't flat; RepeatedPoint with the face, f
 /// before the other, of which two corners have equal points; NoMatch with the other where its points, read backwards, are no rotation of
-/// those of f; NumbersSpent with 4 where no number is left for an edge. The tests take memory, and so do the steps: where it is refused
-/// `Memory` is answered, also in place of a refusal. On any failure the session is as it was. An accepted glue leaves one record.
+/// those of f; NumbersSpent with 4 where no number is left for an edge. The tests from RepeatedPoint on take memory, and so do the steps:
+/// where it is refused `Memory` is answered, also in place of a refusal from RepeatedPoint on. On any failure the session is as it was. An accepted glue leaves one record.
 ///
 /// The operators are those of M. Mäntylä, *An Introduction to Solid Modeling* (1988): the solids are merged, the outer loop of the other
 /// becomes a ring of f and one loop with that of f, and then each item of f is closed with the item of the other that goes back along
@@ -60,6 +65,7 @@ pub fn glue(alloc: Global, session: Session, f: u32, other: u32) -> (Session, Re
     ensures ok { OnOk result.1 ((glue_refusal session.machine f other ≡ None) × (result.0.machine ≡ glue session.machine f other)) }
     ensures recorded { OnOk result.1 (IsRecorded session result.0) }
     ensures refused { (refusal : Refusal) → (result.1 ≡ Err (Failure.Refused refusal)) → (glue_refusal session.machine f other ≡ Some refusal) }
+    ensures memory { (error : AllocError) → (result.1 ≡ Err (Failure.Memory error)) → (early_refusal (held session.machine) f other ≡ None) }
     ensures err { OnErr result.1 (result.0 ≡ session) }
 {
     if let Err(failure) = admit(alloc, session.arena(), f, other) {

@@ -17,7 +17,7 @@ use Rattle.solid_measure.proofs.solid_checks_laws.FaceWalks.{lists_member, membe
 use Rattle.std.specs.Prelude.{reverse}
 use Rattle.euler_operators.specs.declared.Why.TheVariants.{RepeatedPoint, NoMatch}
 use Rattle.shapes.specs.glue.Glue.{glue_conditions, has_repeats, is_rotation, outline}
-use Rattle.gluing.specs.glue_checks.Conditions.{face_conditions, solid_conditions, outline_conditions}
+use Rattle.gluing.specs.glue_checks.Conditions.{face_conditions, solid_conditions, early_conditions, early_refusal, outline_conditions}
 use Rattle.solid_walks.proofs.face_walks_laws.Above.{member}
 
 -- a list of conditions in two parts
@@ -90,6 +90,14 @@ module _ (M : Model) (f g : ℕ) where
   unfolding glue_conditions
   grouped = refl
 
+  -- where nothing refuses a glue, no condition is false that is tested before memory is asked for
+  pub none_early : first_refusal (glue_conditions M f g) ≡ None → early_refusal M f g ≡ None
+  unfolding glue_conditions early_conditions
+  none_early accepted = go (early_refusal M f g) refl where
+    go : (o : Option Refusal) → early_refusal M f g ≡ o → o ≡ None
+    go None is = refl
+    go (Some r) is = sym (refusal_first (early_conditions M f g) later r is) ∙ accepted
+
   pub faces_failed : (v : Result (Unit {0}) Refusal) → v ≡ verdict (first_refusal (face_conditions M f g)) → is_err v ≡ true → v ≡ verdict (first_refusal (glue_conditions M f g))
   faces_failed v is e = first_failed (face_conditions M f g) (solid_conditions M (solid_of M f) (solid_of M g) ++ later) v is e ∙ ap (λ cs. verdict (first_refusal cs)) (sym grouped)
 
@@ -107,6 +115,10 @@ module _ (M : Model) (f g : ℕ) where
     solids_failed v is e = first_failed (solid_conditions M (solid_of M f) (solid_of M g)) later v is e ∙ ap verdict after_faces
 
     module _ (solids : first_refusal (solid_conditions M (solid_of M f) (solid_of M g)) ≡ None) where
+      pub early_passed : early_refusal M f g ≡ None
+      unfolding early_conditions
+      early_passed = refusal_parts (face_conditions M f g) (solid_conditions M (solid_of M f) (solid_of M g)) faces ∙ solids
+
       after_solids : first_refusal later ≡ first_refusal (glue_conditions M f g)
       after_solids = sym (refusal_parts (solid_conditions M (solid_of M f) (solid_of M g)) later solids) ∙ after_faces
 

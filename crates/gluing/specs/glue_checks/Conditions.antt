@@ -1,8 +1,9 @@
 -- The conditions of a glue, by what their tests look at.
-use Rattle.std.specs.Prelude.{ℕ, not, nat_eq, List, [], ◌∷◌, ◌++◌, reverse}
+use Rattle.std.specs.Prelude.{ℕ, not, nat_eq, List, [], ◌∷◌, ◌++◌, reverse, Option}
 use Rattle.euler_operators.specs.Table as table
 use Rattle.euler_operators.specs.Model.{Model, solid_of}
-use Rattle.euler_operators.specs.Conditions.{Condition, need, never, numbers_in_range, has_rings}
+use Rattle.euler_operators.specs.Conditions.{Condition, need, never, first_refusal, numbers_in_range, has_rings}
+use Rattle.euler_operators.specs.declared.Refusal.{Refusal}
 use Rattle.euler_operators.specs.declared.Why.TheVariants.{NoFace, SameSolid, HasRings, LoneLoop, NotFlat, RepeatedPoint, NoMatch}
 use Rattle.shapes.specs.Faces.{least_lone, faces_of_both}
 use Rattle.shapes.specs.Fresh.{no_such, first_such}
@@ -26,6 +27,13 @@ solid_conditions M s t =
     no_such (least_lone M (faces_of_both M s t)) LoneLoop
     ∷ no_such (first_such (λ k. not (is_flat M k)) (faces_of_both M s t)) NotFlat
     ∷ []
+
+-- those that are tested before memory is asked for, and the refusal of the first of them that is false, if one is
+unfoldable pub early_conditions : Model → ℕ → ℕ → List Condition
+early_conditions M f g = face_conditions M f g ++ solid_conditions M (solid_of M f) (solid_of M g)
+
+abbrev pub early_refusal : Model → ℕ → ℕ → Option Refusal
+early_refusal M f g = first_refusal (early_conditions M f g)
 
 -- the faces' outlines have no point twice, and lie on one another
 abbrev pub outline_conditions : Model → ℕ → ℕ → List Condition

@@ -1,11 +1,11 @@
 //! The conditions of a glue, in the order in which they are tested.
-ghost use Rattle.std.specs.Prelude.{◌≡◌, true, false, IfOk};
+ghost use Rattle.std.specs.Prelude.{◌≡◌, true, false, None, IfOk, OnErr};
 ghost use Rattle.euler_operators.specs.Model.{content, outer};
 ghost use Rattle.euler_conditions.specs.Ready.{IsReady};
 ghost use Rattle.euler_operators.specs.Conditions.{first_refusal, has_rings, is_lone, verdict};
 ghost use Rattle.euler_conditions.specs.Store.{has_number};
 ghost use Rattle.shapes.specs.glue.Glue.{glue_refusal};
-ghost use Rattle.gluing.specs.glue_checks.Conditions.{face_conditions, outline_conditions, solid_conditions};
+ghost use Rattle.gluing.specs.glue_checks.Conditions.{early_refusal, face_conditions, outline_conditions, solid_conditions};
 
 use crate::glue_checks::outlines::{backwards, has_repeats, is_rotation};
 use crate::rims::outline;
@@ -104,7 +104,7 @@ fn check_outlines(
 /// no number is left for an edge.
 ///
 /// It looks once at each face of the two solids, and takes n log n steps for n corners of the two faces. `AllocError` where memory is
-/// refused.
+/// refused: none is asked for before the conditions up to NotFlat hold.
 pub(crate) fn check_glue(
     alloc: Global,
     arena: &Arena,
@@ -112,7 +112,8 @@ pub(crate) fn check_glue(
     other: u32,
 ) -> Result<Result<(), Refusal>, AllocError>
     requires { IsReady arena.now }
-    ensures { IfOk result (λ checked. checked ≡ verdict (glue_refusal arena.now.model f other)) }
+    ensures checked { IfOk result (λ checked. checked ≡ verdict (glue_refusal arena.now.model f other)) }
+    ensures memory { OnErr result (early_refusal arena.now.model f other ≡ None) }
 {
     let faces = check_faces(arena, f, other);
     if faces.is_err() {

@@ -3,6 +3,8 @@ use Rattle.shapes.specs.glue.Glue as shapes
 use Rattle.shapes.specs.glue.Glue.{glue_model}
 use Rattle.undo_journal.specs.Journal.{Journal, DraftJournal}
 use Rattle.undo_journal.specs.Machine.{accepted}
+use Rattle.gluing.specs.glue_checks.Conditions.{early_refusal}
+use Rattle.gluing.proofs.glue_checks_laws.Conditions.{none_early}
 use Rattle.gluing.proofs.command.glue.Goals as goal
 
 pub returns-in-Err-clause-refused : goal.returns-in-Err-clause-refused
@@ -27,3 +29,11 @@ returns-in-Err-try_join-clause-recorded c = tt
 
 pub returns-in-Err-try_join-clause-err : goal.returns-in-Err-try_join-clause-err
 returns-in-Err-try_join-clause-err c = search rules
+
+pub returns-in-Err-open-clause-memory : goal.returns-in-Err-open-clause-memory
+returns-in-Err-open-clause-memory c = λ error is.
+    sym (ap (λ M. early_refusal M c.args.f c.args.other) c.arena.ensures.model) ∙ none_early c.arena.result.now.model c.args.f c.args.other c.in_default.ensures.ok
+
+pub returns-in-Err-try_join-clause-memory : goal.returns-in-Err-try_join-clause-memory
+returns-in-Err-try_join-clause-memory c = λ error is.
+    sym (ap (λ M. early_refusal M c.args.f c.args.other) c.arena.ensures.model) ∙ none_early c.arena.result.now.model c.args.f c.args.other c.in_default.ensures.ok
