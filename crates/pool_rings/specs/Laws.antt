@@ -1,9 +1,21 @@
--- What a splice makes of the rings of a pool.
-use Rattle.std.specs.Prelude.{◌≡◌, ◌≢◌, ℕ, Some, List, ◌++◌}
-use Rattle.raw_ring.specs.Rings.{RingMap, next_of, Exchanged, IsPermutation}
+-- The rings of a pool, and what a splice makes of them.
+use Rattle.std.specs.Prelude.{◌≡◌, ◌≢◌, ℕ, ◌⊎◌, Some, List, ◌++◌}
+use Rattle.raw_ring.specs.Rings.{RingMap, next_of, Exchanged, IsLive, IsPermutation}
 use Rattle.cyclic_list.specs.Items.{count, IsIn, IsApart}
-use Rattle.cyclic_list.specs.Rings.{cut_left, cut_right, joined}
-use Rattle.pool_rings.specs.Pools.{IsRingOf}
+use Rattle.cyclic_list.specs.Rings.{IsRotation, cut_left, cut_right, joined}
+use Rattle.pool_rings.specs.Pools.{IsRingOf, StandsIn, ShareRing, HaveTwoRings}
+
+-- each live code stands in a ring
+abbrev pub EachCodeHasItsRing : Type 0
+EachCodeHasItsRing = (m : RingMap) (c : ℕ) → IsPermutation m → IsLive m c → (xs : List ℕ) × StandsIn m c xs
+
+-- and in one alone: two rings that share a code are one ring, read from two codes on
+abbrev pub RingsAreRotations : Type 0
+RingsAreRotations = (m : RingMap) (c : ℕ) (xs ys : List ℕ) → StandsIn m c xs → StandsIn m c ys → IsRotation xs ys
+
+-- so two live codes share a ring, which a splice cuts, or have two, which it joins
+abbrev pub CodesShareOrHaveTwo : Type 0
+CodesShareOrHaveTwo = (m : RingMap) (a b : ℕ) → IsPermutation m → IsLive m a → IsLive m b → ShareRing m a b ⊎ HaveTwoRings m a b
 
 -- one ring with both codes in it becomes two
 abbrev pub SplicedPoolsCut : Type 0

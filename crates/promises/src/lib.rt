@@ -24,8 +24,8 @@
 //! the session's model, and becomes one command or leaves no trace (`every_draft_is_opened`, `drafts_become_one_command`,
 //! `drafts_leave_no_trace`); records lead forth and back, and volumes are exact (`records_lead_forth_and_back`,
 //! `volumes_are_answered`). An operator keeps a sound model sound, and its inverse takes it back (`operators_keep_models_sound`,
-//! `inverses_take_operators_back`, `inverses_take_runs_back`); a splice cuts a ring or joins two (`splices_cut_and_join`); a
-//! session is copies and a place, undo goes back and redo forth, and every history is consistent
+//! `inverses_take_operators_back`, `inverses_take_runs_back`); a splice cuts a ring or joins two (`splices_cut_and_join`,
+//! `codes_of_pools_have_one_ring`); a session is copies and a place, undo goes back and redo forth, and every history is consistent
 //! (`sessions_are_copies_and_a_place`, `undo_goes_back_and_redo_forth`, `every_history_is_consistent`,
 //! `larger_commands_are_one_call`); laminas, blocks and sweeps are made as written down, and measure what is said of them
 //! (`laminas_are_made`, `blocks_are_made`, `sweeps_are_made`, `new_solids_measure`, `sweeps_add_their_prism`); so are glues,
@@ -47,7 +47,7 @@ ghost use Rattle.call_lists.specs.Measure.{answer, six_volume, solid_refusal};
 ghost use Rattle.call_lists.specs.PlainMachine.{held, depth, ahead, act_refusal, undo_refusal, redo_refusal};
 ghost use Rattle.call_lists.specs.Recorded.{model_at};
 ghost use Rattle.call_lists.specs.Telling.{Tells, IsWhole};
-ghost use Rattle.pool_rings.specs.Laws.{SplicedPoolsCut, SplicedPoolsJoin, SplicedPoolsKeepOthers, SplicedPoolsStay, PoolsLeadBack};
+ghost use Rattle.pool_rings.specs.Laws.{EachCodeHasItsRing, RingsAreRotations, CodesShareOrHaveTwo, SplicedPoolsCut, SplicedPoolsJoin, SplicedPoolsKeepOthers, SplicedPoolsStay, PoolsLeadBack};
 ghost use Rattle.promises.specs.Splices.{SplicesCut, SplicesJoin, SplicesKeepOthers};
 ghost use Rattle.script_laws.specs.Laws.{RunsTell, BrokenRunsTell, FailedRunsTell, AnsweredSo, AnswersStay, OthersCanBeLeftOut, UndoAndRedoCanBeLeftOut, UndoneLinesCanBeLeftOut, UndosLeadBack, SomeUndosLeadBack, EqualListingsGoOnAlike, BlocksMeasure, PartsShareVolumes, RepliesTell, RefusalsTell, FaultsTell};
 ghost use Rattle.script_laws.specs.Scripts.{Answered};
@@ -75,7 +75,7 @@ use call_lists::{
     Call, Draft, Failure, Op, Record, Refusal, Session, Stage, Told, lists_are_histories,
     lists_have_one_answer, make, make_all, six_volume, undos_and_redos_lead_to_the_ends,
 };
-use pool_rings::splices_of_pools;
+use pool_rings::{codes_have_one_ring, splices_of_pools};
 use script_laws::{
     answer_script, answered_so, answers_stay, blocks_measure, equal_listings_go_on_alike,
     others_can_be_left_out, parts_share_volumes, replies_tell, runs_tell,
@@ -283,6 +283,15 @@ pub fn splices_cut_and_join()
     ensures join { SplicesJoin }
     ensures others { SplicesKeepOthers }
 {}
+
+/// Each code of a pool of nodes stands in one ring, so two share a ring or have two.
+pub fn codes_of_pools_have_one_ring()
+    ensures there { EachCodeHasItsRing }
+    ensures one { RingsAreRotations }
+    ensures two { CodesShareOrHaveTwo }
+{
+    codes_have_one_ring();
+}
 
 /// So it is with the rings of a pool of nodes after a splice; where the two codes are one, nothing changes. One code alone leads to
 /// another, so `prev` is the inverse of `next`.
