@@ -3,6 +3,7 @@ ghost use Rattle.std.specs.Prelude.{◌≡◌, None, Some, Err, OnOk, OnErr};
 ghost use Rattle.std.specs.declared.alloc.AllocError.{AllocError};
 ghost use Rattle.euler_operators.specs.declared.Refusal.{Refusal};
 ghost use Rattle.euler_conditions.specs.Ready.{IsReady};
+ghost use Rattle.euler_operators.specs.Sound.{Sound};
 ghost use Rattle.shapes.specs.glue.Glue as spec;
 ghost use Rattle.shapes.specs.glue.Glue.{glue_model};
 ghost use Rattle.undo_journal.specs.Journal.{IsRecorded, IsFurther};
@@ -56,12 +57,15 @@ pub fn glue_in(alloc: Global, draft: &mut Draft, f: u32, other: u32) -> Result<(
 /// LoneLoop with the least lone loop of the two solids; NotFlat with their least face that isn't flat; RepeatedPoint with the face, f
 /// before the other, of which two corners have equal points; NoMatch with the other where its points, read backwards, are no rotation of
 /// those of f; NumbersSpent with 4 where no number is left for an edge. The tests from RepeatedPoint on take memory, and so do the steps:
-/// where it is refused `Memory` is answered, also in place of a refusal from RepeatedPoint on. On any failure the session is as it was. An accepted glue leaves one record.
+/// where it is refused `Memory` is answered, also in place of a refusal from RepeatedPoint on. On any failure the session is as it was. An
+/// accepted glue leaves one record. The models held before and after are sound.
 ///
 /// The operators are those of M. Mäntylä, *An Introduction to Solid Modeling* (1988): the solids are merged, the outer loop of the other
 /// becomes a ring of f and one loop with that of f, and then each item of f is closed with the item of the other that goes back along
 /// it. For n items they are 3 n + 2. Cost: the tests', those of the merge, and for each item the cost of its three operators.
 pub fn glue(alloc: Global, session: Session, f: u32, other: u32) -> (Session, Result<(), Failure>)
+    ensures sound { Sound (held session.machine) }
+    ensures stays_sound { Sound (held result.0.machine) }
     ensures ok { OnOk result.1 ((glue_refusal session.machine f other ≡ None) × (result.0.machine ≡ glue session.machine f other)) }
     ensures recorded { OnOk result.1 (IsRecorded session result.0) }
     ensures refused { (refusal : Refusal) → (result.1 ≡ Err (Failure.Refused refusal)) → (glue_refusal session.machine f other ≡ Some refusal) }

@@ -6,11 +6,13 @@ ghost use Rattle.euler_operators.specs.HalfEdge.{code, plus};
 ghost use Rattle.euler_operators.specs.Conditions.{verdict};
 ghost use Rattle.euler_operators.specs.declared.Refusal.{Refusal};
 ghost use Rattle.euler_conditions.specs.Ready.{IsReady};
+ghost use Rattle.euler_operators.specs.Sound.{Sound};
 ghost use Rattle.shapes.specs.Block.{vector, base_of, block_model};
 ghost use Rattle.shapes.specs.Block as spec;
 ghost use Rattle.shapes.specs.Fresh.{numbers_after, taken_in};
 ghost use Rattle.solid_walks.specs.Counters.{AreWithin, taken_of};
 ghost use Rattle.undo_journal.specs.Journal.{IsRecorded, IsFurther};
+ghost use Rattle.undo_journal.specs.Machine.{held};
 ghost use Rattle.sweeps.specs.Machine.{block, block_refusal};
 ghost use Rattle.sweeps.specs.Raising.{with_lamina};
 
@@ -238,6 +240,8 @@ fn block_of(
     corner: Point,
     size: Point,
 ) -> (Session, Result<(), Failure>)
+    ensures sound { Sound (held session.machine) }
+    ensures stays_sound { Sound (held result.0.machine) }
     ensures ok { OnOk result.1 ((block_refusal session.machine solid corner size.x size.y size.z ≡ None) × (result.0.machine ≡ block session.machine solid corner size.x size.y size.z)) }
     ensures recorded { OnOk result.1 (IsRecorded session result.0) }
     ensures refused { (refusal : Refusal) → ((result.1 ≡ Err (Failure.Refused refusal)) ↔ (block_refusal session.machine solid corner size.x size.y size.z ≡ Some refusal)) }
@@ -263,7 +267,8 @@ fn block_of(
 ///
 /// Refused, in this order: NumberRange; SolidTaken; SizeRange with 1, 2 or 3 for the first size below 1; PointRange with 1 for
 /// the corner, 2 for the opposite one; NumbersSpent with 2 for faces, 3 for loops, 4 for edges, 5 for vertices. Where memory is
-/// refused `Memory` is answered. On any failure the session is as it was. An accepted block leaves one record.
+/// refused `Memory` is answered. On any failure the session is as it was. An accepted block leaves one record. The models held before
+/// and after are sound.
 pub fn block(
     alloc: Global,
     session: Session,
@@ -273,6 +278,8 @@ pub fn block(
     dy: i64,
     dz: i64,
 ) -> (Session, Result<(), Failure>)
+    ensures sound { Sound (held session.machine) }
+    ensures stays_sound { Sound (held result.0.machine) }
     ensures ok { OnOk result.1 ((block_refusal session.machine solid corner dx dy dz ≡ None) × (result.0.machine ≡ block session.machine solid corner dx dy dz)) }
     ensures recorded { OnOk result.1 (IsRecorded session result.0) }
     ensures refused { (refusal : Refusal) → ((result.1 ≡ Err (Failure.Refused refusal)) ↔ (block_refusal session.machine solid corner dx dy dz ≡ Some refusal)) }

@@ -5,12 +5,14 @@ ghost use Rattle.euler_operators.specs.Vectors.{same_point};
 ghost use Rattle.euler_operators.specs.Model.{no_point};
 ghost use Rattle.euler_operators.specs.Conditions.{verdict};
 ghost use Rattle.euler_conditions.specs.Ready.{IsReady};
+ghost use Rattle.euler_operators.specs.Sound.{Sound};
 ghost use Rattle.euler_operators.specs.declared.Refusal.{Refusal};
 ghost use Rattle.shapes.specs.Fresh.{taken_in};
 ghost use Rattle.shapes.specs.Lamina.{lamina_model};
 ghost use Rattle.shapes.specs.Lamina as spec;
 ghost use Rattle.solid_walks.specs.Counters.{AreWithin, taken_of};
 ghost use Rattle.undo_journal.specs.Journal.{IsRecorded, IsFurther};
+ghost use Rattle.undo_journal.specs.Machine.{held};
 ghost use Rattle.sweeps.specs.Machine.{lamina, lamina_refusal};
 
 use arrayvec::ArrayVec;
@@ -204,13 +206,16 @@ pub fn lamina_in(draft: &mut Draft, solid: u32, points: &ArrayVec<Point, 64>) ->
 ///
 /// Refused, in this order: NumberRange; SolidTaken; FewPoints with how many there are; PointRange and RepeatedPoint with the
 /// place, from 1, of the first such point; NumbersSpent with 2 for faces, 3 for loops, 4 for edges, 5 for vertices. Where memory
-/// is refused `Memory` is answered. On any failure the session is as it was. An accepted lamina leaves one record.
+/// is refused `Memory` is answered. On any failure the session is as it was. An accepted lamina leaves one record. The models held
+/// before and after are sound.
 pub fn lamina(
     alloc: Global,
     session: Session,
     solid: u32,
     points: &ArrayVec<Point, 64>,
 ) -> (Session, Result<(), Failure>)
+    ensures sound { Sound (held session.machine) }
+    ensures stays_sound { Sound (held result.0.machine) }
     ensures ok { OnOk result.1 ((lamina_refusal session.machine solid points.now.items ≡ None) × (result.0.machine ≡ lamina session.machine solid points.now.items)) }
     ensures recorded { OnOk result.1 (IsRecorded session result.0) }
     ensures refused { (refusal : Refusal) → ((result.1 ≡ Err (Failure.Refused refusal)) ↔ (lamina_refusal session.machine solid points.now.items ≡ Some refusal)) }

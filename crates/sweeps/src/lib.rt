@@ -6,8 +6,9 @@
 //!
 //! `lamina`, `block` and `sweep`: Ok only where all conditions hold, and then one command of the machine with exactly the written
 //! model, and one record; refused exactly where a condition is false, with the first such and its value; on any failure the
-//! session is as it was, the models ahead included. No operator inside is ever refused. `sweep_measures`, `block_measures`,
-//! `lamina_measures`: what the six volumes of each solid of the session are after a command, from what they were before.
+//! session is as it was, the models ahead included. The models held before and after are sound. No operator inside is ever
+//! refused. `sweep_measures`, `block_measures`, `lamina_measures`: what the six volumes of each solid of the session are after a
+//! command, from what they were before.
 
 mod blocks;
 mod corners;

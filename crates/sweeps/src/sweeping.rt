@@ -4,10 +4,12 @@ ghost use Rattle.euler_operators.specs.Vectors.{origin, same_point};
 ghost use Rattle.euler_operators.specs.Conditions.{verdict};
 ghost use Rattle.euler_operators.specs.declared.Refusal.{Refusal};
 ghost use Rattle.euler_conditions.specs.Ready.{IsReady};
+ghost use Rattle.euler_operators.specs.Sound.{Sound};
 ghost use Rattle.shapes.specs.Fresh.{taken_in};
 ghost use Rattle.shapes.specs.Prism.{prism_refusal, prism_model};
 ghost use Rattle.solid_walks.specs.Counters.{taken_of};
 ghost use Rattle.undo_journal.specs.Journal.{IsRecorded, IsFurther};
+ghost use Rattle.undo_journal.specs.Machine.{held};
 ghost use Rattle.sweeps.specs.Machine.{sweep, sweep_refusal};
 
 use crate::corners::face_tally;
@@ -106,13 +108,15 @@ pub fn sweep_in(alloc: Global, draft: &mut Draft, f: u32, shift: Point) -> Resul
 /// Refused, in this order: NumberRange; NoFace; ZeroSweep with the face; LoneLoop with the least lone loop of the face; PointRange
 /// with the vertex of the first corner whose moved point is out of range, in the order of the outer loop and then the rings,
 /// rising; NumbersSpent with 2 for faces, 3 for loops, 4 for edges, 5 for vertices. Where memory is refused `Memory` is answered.
-/// On any failure the session is as it was. An accepted sweep leaves one record.
+/// On any failure the session is as it was. An accepted sweep leaves one record. The models held before and after are sound.
 pub fn sweep(
     alloc: Global,
     session: Session,
     f: u32,
     shift: Point,
 ) -> (Session, Result<(), Failure>)
+    ensures sound { Sound (held session.machine) }
+    ensures stays_sound { Sound (held result.0.machine) }
     ensures ok { OnOk result.1 ((sweep_refusal session.machine f shift ≡ None) × (result.0.machine ≡ sweep session.machine f shift)) }
     ensures recorded { OnOk result.1 (IsRecorded session result.0) }
     ensures refused { (refusal : Refusal) → ((result.1 ≡ Err (Failure.Refused refusal)) ↔ (sweep_refusal session.machine f shift ≡ Some refusal)) }
