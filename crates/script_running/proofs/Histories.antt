@@ -1,6 +1,6 @@
 -- A line is a call of a history, and a run tells one.
-use Rattle.std.proofs.Common.{◌≡◌, inl, inr, ℕ, Bool, List, [], ◌∷◌, ◌++◌, Option, Some, None, Ok, Err, refl, sym, ap, subst, ◌∙◌}
-use Rattle.std.specs.Prelude.{Result}
+use Rattle.std.proofs.Common.{◌≡◌, inl, inr, ℕ, zero, suc, ◌+◌, Bool, List, [], ◌∷◌, ◌++◌, length, Option, Some, None, Ok, Err, refl, sym, ap, subst, ◌∙◌}
+use Rattle.std.specs.Prelude.{Result, IfOk}
 use Rattle.std.proofs.lemmas.List.{append-nil}
 use Rattle.euler_operators.specs.Sound.{Sound}
 use Rattle.euler_operators.specs.declared.Refusal.{Refusal}
@@ -19,7 +19,7 @@ use Rattle.script_reader.specs.declared.command.Command.TheVariants as command
 use Rattle.script_reader.specs.declared.command.Fault.{Fault}
 use Rattle.script_reader.specs.Grammar.{command_of}
 use Rattle.script_reader.specs.Lines.{lines_of, within_limit}
-use Rattle.script_running.specs.script_judging.Judging.{Moves, Acts, Tries, Obeys, Answers, Judges, given_plane, answer_text}
+use Rattle.script_running.specs.script_judging.Judging.{Moves, Acts, Tries, Obeys, Answers, Judges, given_plane, answer_text, one_line}
 use Rattle.script_running.specs.Outs.{Outs}
 use Rattle.script_running.specs.Runs.{BreaksOff, Served, WriteFails, Runs}
 use Rattle.script_running.specs.Runs as runs
@@ -28,6 +28,7 @@ use Rattle.script_running.specs.declared.script_judging.judging.Answer.{Answer}
 use Rattle.script_running.specs.declared.script_judging.judging.Summary.{Summary}
 use Rattle.script_running.specs.declared.running.RunFault.{RunFault}
 use Rattle.script_running.specs.declared.running.RunFault.TheVariants as fault
+use Rattle.script_running.proofs.Counting.{one_more}
 
 -- the larger commands are calls, and every history is consistent
 pub record LawsBelow : Type 0 where
@@ -93,11 +94,12 @@ goes_on s t h c = record {
 pub lines_lead_on : LawsBelow → LinesLeadOn
 lines_lead_on l s t line a h judged = goes_on s t h (lines_are_calls l s t line a (histories_make_consistent l s h).held_sound judged)
 
--- the turns that some lines take, whose texts are what was written
-record Takes (s : Machine) (lines : List (List ℕ)) (out : List ℕ) : Type 0 where
+-- so many turns that some lines take, whose texts are what was written
+record Takes (s : Machine) (lines : List (List ℕ)) (out : List ℕ) (n : ℕ) : Type 0 where
   turns : List Turn
   taken : TakeTurns s lines turns
   text : texts s turns ≡ out
+  count : length turns ≡ n
 
 -- a turn is taken on the machine to which its call leads
 module _ (l : LawsBelow) (s t : Machine) (line : List ℕ) (a : Answer) (h : HasHistory s) (judged : Judges s line a t) where
@@ -110,29 +112,35 @@ module _ (l : LawsBelow) (s t : Machine) (line : List ℕ) (a : Answer) (h : Has
   call = lines_are_calls l s t line a (histories_make_consistent l s h).held_sound judged
 
   -- one turn, and those of the lines after it
-  takes : (lines : List (List ℕ)) (rest : List ℕ) → Takes t lines rest → Takes s (line ∷ lines) (answer_text t a ++ rest)
-  takes lines rest later = record {
+  takes : (lines : List (List ℕ)) (rest : List ℕ) (n : ℕ) → Takes t lines rest n → Takes s (line ∷ lines) (answer_text t a ++ rest) (suc n)
+  takes lines rest n later = record {
     turns = record { call = call.call; answer = a } ∷ later.turns;
     taken = (
       subst (IsTurn s line a) (sym call.leads) (is_turn (goes_on s t h call)),
       subst (λ (m : Machine). TakeTurns m lines later.turns) (sym call.leads) later.taken,
     );
     text = ap (λ (m : Machine). answer_text m a ++ texts m later.turns) call.leads ∙ ap (λ (text : List ℕ). answer_text t a ++ text) later.text;
+    count = ap suc later.count;
   }
 
-no_turns : (s : Machine) (lines : List (List ℕ)) → Takes s lines []
-no_turns s lines = record { turns = []; taken = tt; text = refl }
+no_turns : (s : Machine) (lines : List (List ℕ)) → Takes s lines [] 0
+no_turns s lines = record { turns = []; taken = tt; text = refl; count = refl }
 
-outs_take : LawsBelow → (stop : Bool) (s : Machine) (lines : List (List ℕ)) (out : List ℕ) (n : Summary) → HasHistory s → Outs stop s lines out n → Takes s lines out
-outs_take l stop s [] out n h o = subst (Takes s []) (sym o.0) (no_turns s [])
+takes_so : (s : Machine) (lines : List (List ℕ)) (out text : List ℕ) (n m : ℕ) → out ≡ text → n ≡ m → Takes s lines text m → Takes s lines out n
+takes_so s lines out text n m e f h = rw (e, f) h
+
+outs_take : LawsBelow → (stop : Bool) (s : Machine) (lines : List (List ℕ)) (out : List ℕ) (n : Summary) → HasHistory s → Outs stop s lines out n → Takes s lines out n.lines
+outs_take l stop s [] out n h o = takes_so s [] out [] n.lines 0 o.0 (ap (λ (m : Summary). m.lines) o.1) (no_turns s [])
 outs_take l stop s (line ∷ lines) out n h (a, t, judged, inl last) =
-    subst (Takes s (line ∷ lines)) (append-nil (answer_text t a) ∙ sym last.1) (takes l s t line a h judged lines [] (no_turns t lines))
+    takes_so s (line ∷ lines) out (answer_text t a ++ []) n.lines 1 (last.1 ∙ sym (append-nil (answer_text t a))) (ap (λ (m : Summary). m.lines) last.2 ∙ one_more a)
+    (takes l s t line a h judged lines [] 0 (no_turns t lines))
 outs_take l stop s (line ∷ lines) out n h (a, t, judged, inr (calm, (rest, k, text, counts, later))) =
     let next = lines_lead_on l s t line a h judged in
-    subst (Takes s (line ∷ lines)) (sym text) (takes l s t line a h judged lines rest (outs_take l stop t lines rest k next later))
+    takes_so s (line ∷ lines) out (answer_text t a ++ rest) n.lines (suc k.lines) text (ap (λ (m : Summary). m.lines) counts ∙ ap (λ (one : ℕ). one + k.lines) (one_more a))
+    (takes l s t line a h judged lines rest k.lines (outs_take l stop t lines rest k next later))
 
 -- a new session has a history: no call
-outs_tell : LawsBelow → (stop : Bool) (lines : List (List ℕ)) (out : List ℕ) (n : Summary) → Outs stop start lines out n → Takes start lines out
+outs_tell : LawsBelow → (stop : Bool) (lines : List (List ℕ)) (out : List ℕ) (n : Summary) → Outs stop start lines out n → Takes start lines out n.lines
 outs_tell l stop lines out n o = outs_take l stop start lines out n (record { calls = []; lead = refl }) o
 
 -- turns of the first lines, whatever lines come after
@@ -141,41 +149,45 @@ take_more s lines more [] h = tt
 take_more s [] more (turn ∷ turns) h = absurd h
 take_more s (line ∷ lines) more (turn ∷ turns) h = (h.0, take_more (after_call s turn.call) lines more turns h.1)
 
-takes_more : (s : Machine) (lines more all : List (List ℕ)) (out : List ℕ) → all ≡ lines ++ more → Takes s lines out → Takes s all out
-takes_more s lines more all out e h = subst (λ (ls : List (List ℕ)). Takes s ls out) (sym e) (record { turns = h.turns; taken = take_more s lines more h.turns h.taken; text = h.text })
+takes_more : (s : Machine) (lines more all : List (List ℕ)) (out : List ℕ) (n : ℕ) → all ≡ lines ++ more → Takes s lines out n → Takes s all out n
+takes_more s lines more all out n e h =
+    subst (λ (ls : List (List ℕ)). Takes s ls out n) (sym e) (record { turns = h.turns; taken = take_more s lines more h.turns h.taken; text = h.text; count = h.count })
 
 -- all that was told is written
-all_written : (reader old new : Option (List ℕ)) (moved : runs.Moves reader new old) (result : Result Summary RunFault) → Takes start (lines_of (within_limit 0 moved.given)) moved.out → TellsHistory reader old new moved result
-all_written reader old new moved result h = record { turns = h.turns; taken = h.taken; unwritten = []; text = h.text ∙ sym (append-nil moved.out); whole = λ other. refl }
+all_written : (reader old new : Option (List ℕ)) (moved : runs.Moves reader new old) (result : Result Summary RunFault) (n : ℕ) → IfOk result (λ summary. n ≡ summary.lines)
+    → Takes start (lines_of (within_limit 0 moved.given)) moved.out n → TellsHistory reader old new moved result
+all_written reader old new moved (Ok summary) n same h =
+    record { turns = h.turns; taken = h.taken; unwritten = []; text = h.text ∙ sym (append-nil moved.out); whole = λ other. refl; each = h.count ∙ same }
+all_written reader old new moved (Err f) n same h = record { turns = h.turns; taken = h.taken; unwritten = []; text = h.text ∙ sym (append-nil moved.out); whole = λ other. refl; each = tt }
 
 -- where no more is to come
 no_more : (given : List ℕ) → lines_of (within_limit 0 given) ≡ lines_of (within_limit 0 given ++ [])
 no_more given = ap lines_of (sym (append-nil (within_limit 0 given)))
 
-broken_off : LawsBelow → (reader old new : Option (List ℕ)) (stop : Bool) (result : Result Summary RunFault) (b : BreaksOff reader old new stop) → TellsHistory reader old new b.moves result
-broken_off l reader old new stop result b = all_written reader old new b.moves result
-    (takes_more start b.judged (lines_of b.unfinished) (lines_of (within_limit 0 b.moves.given)) b.moves.out b.lines (outs_tell l stop b.judged b.moves.out b.counts b.outs))
+broken_off : LawsBelow → (reader old new : Option (List ℕ)) (stop : Bool) (f : RunFault) (b : BreaksOff reader old new stop) → TellsHistory reader old new b.moves (Err f)
+broken_off l reader old new stop f b = all_written reader old new b.moves (Err f) b.counts.lines tt
+    (takes_more start b.judged (lines_of b.unfinished) (lines_of (within_limit 0 b.moves.given)) b.moves.out b.counts.lines b.lines (outs_tell l stop b.judged b.moves.out b.counts b.outs))
 
 served : LawsBelow → (reader old new : Option (List ℕ)) (stop : Bool) (summary : Summary) (s : Served reader old new stop summary) → TellsHistory reader old new s.moves (Ok summary)
 served l reader old new stop summary s =
     let given = s.moves.given in
-    all_written reader old new s.moves (Ok summary) (subst (λ (ls : List (List ℕ)). Takes start ls s.moves.out) (sym (no_more given))
+    all_written reader old new s.moves (Ok summary) summary.lines refl (subst (λ (ls : List (List ℕ)). Takes start ls s.moves.out summary.lines) (sym (no_more given))
     (outs_tell l stop (lines_of (within_limit 0 given ++ [])) s.moves.out summary (s.outs [] (λ e. refl))))
 
 write_failed : LawsBelow → (reader old new : Option (List ℕ)) (stop : Bool) (w : WriteFails reader old new stop) → TellsHistory reader old new w.moves (Err fault.Write)
 write_failed l reader old new stop w =
     let given = w.moves.given in
     let begun = w.begun [] (λ e. refl) in
-    let told = subst (λ (ls : List (List ℕ)). Takes start ls (w.moves.out ++ begun.0)) (sym (no_more given))
+    let told = subst (λ (ls : List (List ℕ)). Takes start ls (w.moves.out ++ begun.0) begun.1.lines) (sym (no_more given))
     (outs_tell l stop (lines_of (within_limit 0 given ++ [])) (w.moves.out ++ begun.0) begun.1 begun.2) in
-    record { turns = told.turns; taken = told.taken; unwritten = begun.0; text = told.text; whole = λ other. absurd (other refl) }
+    record { turns = told.turns; taken = told.taken; unwritten = begun.0; text = told.text; whole = λ other. absurd (other refl); each = tt }
 
 nothing_begun : (reader old new : Option (List ℕ)) (moved : runs.Moves reader new old) → moved.out ≡ [] → TellsHistory reader old new moved (Err fault.Memory)
-nothing_begun reader old new moved none = record { turns = []; taken = tt; unwritten = []; text = sym none ∙ sym (append-nil moved.out); whole = λ other. refl }
+nothing_begun reader old new moved none = record { turns = []; taken = tt; unwritten = []; text = sym none ∙ sym (append-nil moved.out); whole = λ other. refl; each = tt }
 
 pub runs_tell_histories : LawsBelow → RunsTellHistories
 runs_tell_histories l reader old new stop (Ok summary) run = served l reader old new stop summary run
-runs_tell_histories l reader old new stop (Err fault.Read) run = broken_off l reader old new stop (Err fault.Read) run
-runs_tell_histories l reader old new stop (Err fault.TooLong) run = broken_off l reader old new stop (Err fault.TooLong) run.0
+runs_tell_histories l reader old new stop (Err fault.Read) run = broken_off l reader old new stop fault.Read run
+runs_tell_histories l reader old new stop (Err fault.TooLong) run = broken_off l reader old new stop fault.TooLong run.0
 runs_tell_histories l reader old new stop (Err fault.Write) run = write_failed l reader old new stop run
 runs_tell_histories l reader old new stop (Err fault.Memory) run = nothing_begun reader old new run.0 run.2

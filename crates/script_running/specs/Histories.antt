@@ -1,5 +1,5 @@
 -- The history that a run tells: each line is one call of it.
-use Rattle.std.specs.Prelude.{◌≡◌, ◌≢◌, ℕ, Bool, List, [], ◌∷◌, ◌++◌, Option, Result, Ok, Err}
+use Rattle.std.specs.Prelude.{◌≡◌, ◌≢◌, ℕ, Bool, List, [], ◌∷◌, ◌++◌, length, Option, Result, Ok, Err, IfOk}
 use Rattle.euler_operators.specs.Model.{Model}
 use Rattle.euler_operators.specs.Sound.{Sound}
 use Rattle.undo_journal.specs.Machine.{Machine, start, held}
@@ -72,12 +72,14 @@ moves_of reader old new stop (Err fault.Write) run = run.moves
 moves_of reader old new stop (Err fault.Memory) run = run.0
 
 -- The text written is the answers to the first lines read, each in its turn from the empty model on, or a prefix of them where a write failed.
+-- Where the run ended well, each line that it counts took its turn.
 pub record TellsHistory (reader old new : Option (List ℕ)) (moved : Moves reader new old) (result : Result Summary RunFault) : Type 0 where
   pub turns : List Turn
   pub taken : TakeTurns start (lines_of (within_limit 0 moved.given)) turns
   pub unwritten : List ℕ
   pub text : texts start turns ≡ moved.out ++ unwritten
   pub whole : result ≢ Err fault.Write → unwritten ≡ []
+  pub each : IfOk result (λ summary. length turns ≡ summary.lines)
 
 -- whatever it returns, a run tells a history
 abbrev pub RunsTellHistories : Type 0
