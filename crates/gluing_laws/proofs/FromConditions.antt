@@ -14,7 +14,7 @@ use Rattle.gluing_laws.proofs.glue.Ending.{glued_all, glued_along_is}
 use Rattle.gluing_laws.proofs.Seams.{Seamed, Glued}
 use Rattle.gluing_laws.proofs.Measures.{solids_add, others_stay}
 
-seamed : (M : Model) (f g : ℕ) → Sound M → glue_refusal M f g ≡ None → Seamed M f g (partner M (rim M g)) (rim M f) (rim M g)
+pub seamed : (M : Model) (f g : ℕ) → Sound M → glue_refusal M f g ≡ None → Seamed M f g (partner M (rim M g)) (rim M f) (rim M g)
 seamed M f g sound e = let w = facing M f g sound e in record {
   sound = sound;
   f_there = w.f_there;
@@ -35,7 +35,7 @@ module _ (M : Model) (f g : ℕ) where
   unfolding glue_model
   glue_is = sym (glued_along_is M f g (rim M g) (rim M f))
 
-  glued : Glued M (glue_model M f g) f g (partner M (rim M g)) (rim M f)
+  pub glued : Glued M (glue_model M f g) f g (partner M (rim M g)) (rim M f)
   glued = record { faces = ap (λ X. X.faces) glue_is; loops = ap (λ X. X.loops) glue_is; edges = ap (λ X. X.edges) glue_is; vertices = ap (λ X. X.vertices) glue_is }
 
 -- the glued solid has the six volumes of both

@@ -1,5 +1,5 @@
 pub mod glue
 pub mod Listed
-mod Seams
+pub mod Seams
 pub mod Measures
 pub mod FromConditions

@@ -110,7 +110,7 @@ module _ {M N : Model} {f g : ℕ} {partner_of : ℕ → ℕ} {hs gs : List ℕ}
   content_area (lone v) e = refl
   content_area (cycle cs) e = area_same N (canonical (map swap cs)) (map swap cs) (λ x. count-canonical x (map swap cs)) ∙ area_renamed M N swap cs e
 
-  each_swapped : (l : ℕ) → l ≢ outer M g → (y : ℕ) → IsIn y (items_of (content M l)) → StaysHere (swap y) y
+  pub each_swapped : (l : ℕ) → l ≢ outer M g → (y : ℕ) → IsIn y (items_of (content M l)) → StaysHere (swap y) y
   each_swapped l b y i =
       let s : StandsIn M y l = in-holds y (content M l) i in
       seams.swapped w n y (w.sound.only_edges y l s) (λ e. b (sym (w.sound.one_loop y l s) ∙ e))
@@ -168,7 +168,7 @@ module _ {M N : Model} {f g : ℕ} {partner_of : ℕ → ℕ} {hs gs : List ℕ}
     loop_gone : (l : ℕ) → table.get kept l ≡ None → face_of M l ≢ k → passed ring_after l (table.get N.loops l) ≡ passed ring_before l (table.get M.loops l)
     loop_gone l e ne = ap (passed ring_after l) (row_in l ∙ ap (option_map (rewritten_row (map swap) l)) e) ∙ sym (none_passes l ne)
 
-    rings_are : rings_of N k ≡ rings_of M k
+    pub rings_are : rings_of N k ≡ rings_of M k
     rings_are = same_search ring_after ring_before N.loops M.loops (λ l. elim (eqb_tells l (outer M f)) [
       | inl e ↦ loop_gone l (grind (arith, nat_tests, tables)) (λ s. not_f (sym s ∙ ap (face_of M) e.1 ∙ seams.face_f w))
       | inr a ↦ elim (eqb_tells l (outer M g)) [
