@@ -1,7 +1,7 @@
 """Arguments of the methods that take solids as things: for each method those that are right, and for each name the wrong ones."""
 
 
-def solid_cases(number, given, point, plane, points, length):
+def solid_cases(number, given, point, plane, points, length, flag):
     """The cases, from the wrong values of each kind."""
     outline, mirror = [(0, 0, 0), (4, 0, 0), (0, 4, 0)], (*(wrong for wrong in plane if wrong is not None), (0, 0, 0, 1))
     line = {'face': 1, 'start': (0, 0, 0), 'end': (4, 0, 0), 'width': 2, 'depth': 1}
@@ -16,8 +16,9 @@ def solid_cases(number, given, point, plane, points, length):
                                              'about': point}),
         'mirror': ({'solid': 1, 'plane': (1, 0, 0, 0)}, {'solid': number, 'plane': (*mirror, None)}),
         'scale': ({'factor': 2}, {'factor': length}),
-        'cut': ({'solid': 1, 'plane': (1, 0, 0, 0)}, {'solid': number, 'plane': plane, 'keep': (1, None, 'none', b'both'), 'above': given}),
-        'trim': ({'solid': 1, 'plane': (1, 0, 0, 0)}, {'solid': number, 'plane': plane}),
+        'cut': ({'solid': 1, 'plane': (1, 0, 0, 0)}, {'solid': number, 'plane': plane, 'keep': (1, None, 'none', b'both'), 'above': given,
+                                                       'scale': flag}),
+        'trim': ({'solid': 1, 'plane': (1, 0, 0, 0)}, {'solid': number, 'plane': plane, 'scale': flag}),
         'union': ({'solids': [1, 2]}, {'solids': (None, 1, '12', [], [1], [1, 1], [1, '2'], [1, 2.0])}),
         'notch': ({'face': 1, 'points': outline, 'depth': 1}, {'face': number, 'points': points, 'depth': length}),
         'slot': (line, wrong_line),

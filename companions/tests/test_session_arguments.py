@@ -47,7 +47,7 @@ CASES = {
     'block': ({'point': P, 'sizes': (1, 1, 1)}, {'point': POINT, 'sizes': POINT, 'solid': GIVEN}),
     'sweep': ({'face': 1, 'vector': Q}, {'face': NUMBER, 'vector': POINT}),
     'glue': ({'face': 1, 'other': 2}, {'face': NUMBER, 'other': NUMBER}),
-    'split': ({'solid': 1, 'plane': (1, 0, 0, 0)}, {'solid': NUMBER, 'plane': PLANE, 'above': GIVEN}),
+    'split': ({'solid': 1, 'plane': (1, 0, 0, 0)}, {'solid': NUMBER, 'plane': PLANE, 'above': GIVEN, 'scale': FLAG}),
     'undo': ({}, {'command': FLAG}),
     'redo': ({}, {'command': FLAG}),
     'plane': ({'face': 1}, {'face': NUMBER}),
@@ -74,7 +74,7 @@ CASES = {
               {'face': NUMBER, 'center': POINT, 'radius': LENGTH, 'sides': (*LENGTH, 2, 10 ** 6 + 1), 'depth': LENGTH[:3] + LENGTH[4:]}),
     'glue_all': ({'solids': [1]}, {'solids': (None, 1, '12', [], [1, 1], [1, '2'], [1, 2.0])}),
 }
-CASES.update(solid_cases(NUMBER, GIVEN, POINT, PLANE, POINTS, LENGTH))
+CASES.update(solid_cases(NUMBER, GIVEN, POINT, PLANE, POINTS, LENGTH, FLAG))
 CASES.update(dict.fromkeys(('bounding_box', 'centroid', 'surface_area'), ({'solid': 1}, {'solid': NUMBER})))
 CASES.update(dict.fromkeys(('area', 'square_area'), ({'face': 1}, {'face': NUMBER})))
 CASES.update(dict.fromkeys(('length', 'square_length'), ({'edge': 1}, {'edge': HALF})))
@@ -83,7 +83,7 @@ CASES.update(dict.fromkeys(('section', 'off_lattice'), ({'solid': 1, 'plane': (1
 CASES['inertia'] = ({'solid': 1}, {'solid': NUMBER, 'about': (True, 1, 'abc', (0, 0), (0, 0, 1.0), (0, True, 0), (0, 0, None))})
 CASES['label'] = ({'thing': 1}, {'thing': (*NUMBER, 1), 'name': (1, None, b'Lid'), 'colour': (1, None, b'#FF8000', 'red', '#FF80')})
 CASES['export'] = ({'path': 'part.step'}, {'path': (1, None, 1.0, b'part.step')})
-WITHOUT_ARGUMENTS = {'close', 'draft', 'group', 'listing', 'page', 'script', 'show', 'solids', 'save', 'load', 'labels'}
+WITHOUT_ARGUMENTS = {'close', 'draft', 'group', 'listing', 'page', 'script', 'show', 'solids', 'save', 'load', 'labels', 'unit'}
 
 
 class Silent:

@@ -4,6 +4,7 @@ import argparse
 import os
 import sys
 from dataclasses import dataclass
+from fractions import Fraction
 from functools import cached_property
 from math import sqrt
 from typing import Callable, Dict, Iterator, List, Optional, Sequence, Tuple
@@ -74,14 +75,19 @@ def mesh_of(model: Model) -> Mesh:
     return Mesh(model, faces)
 
 
-def off_text(mesh: Mesh) -> str:
-    """The mesh in the Object File Format."""
-    return '\n'.join(_off_lines(mesh)) + '\n'
+def off_text(mesh: Mesh, unit: Fraction = Fraction(1)) -> str:
+    """The mesh in the Object File Format. Another unit than one is said in a comment, here and in obj_text."""
+    return '\n'.join(_off_lines(mesh, unit)) + '\n'
 
 
-def _off_lines(mesh: Mesh) -> Iterator[str]:
+def _unit_lines(unit: Fraction) -> List[str]:
+    return [] if unit == 1 else [f'# unit {unit}']
+
+
+def _off_lines(mesh: Mesh, unit: Fraction) -> Iterator[str]:
     places = {vertex: place for place, vertex in enumerate(mesh.vertices)}
     yield 'OFF'
+    yield from _unit_lines(unit)
     yield f'{len(places)} {len(mesh.triangles)} 0'
     for vertex in mesh.vertices:
         yield '{} {} {}'.format(*mesh.model.vertices[vertex])
@@ -89,12 +95,12 @@ def _off_lines(mesh: Mesh) -> Iterator[str]:
         yield f'3 {places[a]} {places[b]} {places[c]}'
 
 
-def obj_text(mesh: Mesh, looks: Appearances = NO_APPEARANCES, materials: Optional[str] = None) -> str:
+def obj_text(mesh: Mesh, looks: Appearances = NO_APPEARANCES, materials: Optional[str] = None, unit: Fraction = Fraction(1)) -> str:
     """The mesh as Wavefront OBJ, with an object for each solid and a group for each face, and the names of solids that are given.
 
     With the name of a file of materials, whose text is mtl_text, solids and faces have their colours too.
     """
-    return '\n'.join(_obj_lines(mesh, looks, materials)) + '\n'
+    return '\n'.join([*_unit_lines(unit), *_obj_lines(mesh, looks, materials)]) + '\n'
 
 
 def mtl_text(looks: Appearances) -> str:
@@ -124,15 +130,16 @@ def _obj_lines(mesh: Mesh, looks: Appearances, materials: Optional[str]) -> Iter
             yield from ('f {} {} {}'.format(*(places[vertex] for vertex in triangle)) for triangle in mesh.faces[face])
 
 
-def stl_text(mesh: Mesh) -> str:
-    """The mesh as STL in its text form: one block, named after its solid or, where there are several, `gwb`."""
-    return '\n'.join(_stl_lines(mesh)) + '\n'
+def stl_text(mesh: Mesh, unit: Fraction = Fraction(1)) -> str:
+    """The mesh as STL in its text form: one block, named after its solid or, where there are several, `gwb`. Another unit than one stands behind
+    the name, as a comment of its own."""
+    return '\n'.join(_stl_lines(mesh, unit)) + '\n'
 
 
-def _stl_lines(mesh: Mesh) -> Iterator[str]:
+def _stl_lines(mesh: Mesh, unit: Fraction) -> Iterator[str]:
     solids = mesh.model.solids
     name = f'solid_{solids[0]}' if len(solids) == 1 else 'gwb'
-    yield f'solid {name}'
+    yield f'solid {name}' + ('' if unit == 1 else f' # unit {unit}')
     for triangle in (triangle for solid in solids for triangle in mesh.triangles_of(solid)):
         yield from _stl_facet([mesh.model.vertices[vertex] for vertex in triangle])
     yield f'endsolid {name}'

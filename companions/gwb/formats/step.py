@@ -4,6 +4,7 @@ Each shell that holds material is a solid; one that bounds a hollow is a void of
 of their faces. Solids and faces have the names that are known of them, else gwb's numbers, as edges and vertices have.
 """
 
+from fractions import Fraction
 from functools import partial
 from typing import Callable, Dict, Hashable, List, Mapping, NamedTuple, Optional, Sequence
 
@@ -200,10 +201,26 @@ def _accuracy(model: Model) -> str:
     return f'1.E-{min(6, 14 - len(str(max(farthest - 1, 1)))):02}'
 
 
-def _put_context(entities: _Entities, accuracy: str) -> str:
-    """The units, millimetres and radians, and how exact lengths are."""
+def _put_length_unit(entities: _Entities, unit: Fraction) -> str:
+    """The unit of lengths, of which one has so many millimetres."""
+    millimetre = entities.put('(LENGTH_UNIT()NAMED_UNIT(*)SI_UNIT(.MILLI.,.METRE.))')
+    if unit == 1:
+        return millimetre
+    exponents = entities.put('DIMENSIONAL_EXPONENTS(1.,0.,0.,0.,0.,0.,0.)')
+    measure = entities.put(f'LENGTH_MEASURE_WITH_UNIT(LENGTH_MEASURE({_decimal(unit)}),{millimetre})')
+    return entities.put(f"(CONVERSION_BASED_UNIT('{unit} MILLIMETRE',{measure})LENGTH_UNIT()NAMED_UNIT({exponents}))")
+
+
+def _decimal(unit: Fraction) -> str:
+    """A fraction as a real of STEP, to 17 digits."""
+    mantissa, exponent = f'{float(unit):.16E}'.split('E')
+    return f'{mantissa}E{int(exponent)}'
+
+
+def _put_context(entities: _Entities, accuracy: str, unit: Fraction) -> str:
+    """The units, millimetres or what one of them is divided into, and radians, and how exact lengths are."""
     put = entities.put
-    length = put('(LENGTH_UNIT()NAMED_UNIT(*)SI_UNIT(.MILLI.,.METRE.))')
+    length = _put_length_unit(entities, unit)
     angle = put('(NAMED_UNIT(*)PLANE_ANGLE_UNIT()SI_UNIT($,.RADIAN.))')
     solid_angle = put('(NAMED_UNIT(*)SI_UNIT($,.STERADIAN.)SOLID_ANGLE_UNIT())')
     exact = put(f"UNCERTAINTY_MEASURE_WITH_UNIT(LENGTH_MEASURE({accuracy}),{length},'distance_accuracy_value','')")
@@ -211,15 +228,16 @@ def _put_context(entities: _Entities, accuracy: str) -> str:
                f"GLOBAL_UNIT_ASSIGNED_CONTEXT(({length},{angle},{solid_angle}))REPRESENTATION_CONTEXT('',''))")
 
 
-def step_text(model: Model, looks: Appearances = NO_APPEARANCES) -> str:
-    """The whole file, with the names and colours of solids and faces that are given; raises Unfit where a face isn't a plain flat one, or
-    a shell no boundary of a solid. Several solids of which one has a name are an assembly of parts with their names."""
+def step_text(model: Model, looks: Appearances = NO_APPEARANCES, unit: Fraction = Fraction(1)) -> str:
+    """The whole file, with the names and colours of solids and faces that are given, its coordinates in a unit of so many millimetres; raises
+    Unfit where a face isn't a plain flat one, or a shell no boundary of a solid. Several solids of which one has a name are an assembly of
+    parts with their names."""
     require_fit(model)
     entities = _Entities()
     shapes = _Shapes(model, entities, looks)
     solids = {solid: [shapes.solid(solid, nest) for nest in nests(model, solid, shells)] for solid, shells in shells_of(model).items()}
     axes = shapes.axes()
-    context = _put_context(entities, _accuracy(model))
+    context = _put_context(entities, _accuracy(model), unit)
     names = [look_of(looks, 'solid', solid).name for solid in solids]
     if len(solids) > 1 and any(names):
         _put_assembly(entities, solids, shapes, axes, context)

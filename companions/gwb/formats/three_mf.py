@@ -3,6 +3,7 @@
 The bytes are a function of the mesh, its names and its colours alone: parts are stored as they are, in a fixed order and with a fixed date.
 """
 
+from fractions import Fraction
 from io import BytesIO
 from typing import TYPE_CHECKING, Dict, Iterator, List
 from xml.sax.saxutils import quoteattr
@@ -32,19 +33,20 @@ _RELATIONS = f"""{_HEAD}
 _DATE = (1980, 1, 1, 0, 0, 0)
 
 
-def three_mf_bytes(mesh: 'Mesh', looks: Appearances = NO_APPEARANCES) -> bytes:
-    """The mesh as a 3MF file, with the names of solids and the colours of solids and faces that are given."""
+def three_mf_bytes(mesh: 'Mesh', looks: Appearances = NO_APPEARANCES, unit: Fraction = Fraction(1)) -> bytes:
+    """The mesh as a 3MF file, with the names of solids and the colours of solids and faces that are given; a coordinate has so many
+    millimetres."""
     held = BytesIO()
     with ZipFile(held, 'w', ZIP_STORED) as package:
         for name, text in (('[Content_Types].xml', _TYPES), ('_rels/.rels', _RELATIONS),
-                           (MODEL_PART, '\n'.join(_model_lines(mesh, looks)) + '\n')):
+                           (MODEL_PART, '\n'.join(_model_lines(mesh, looks, unit)) + '\n')):
             part = ZipInfo(name, _DATE)
             part.create_system = 3
             package.writestr(part, text.encode('utf-8'))
     return held.getvalue()
 
 
-def _model_lines(mesh: 'Mesh', looks: Appearances) -> Iterator[str]:
+def _model_lines(mesh: 'Mesh', looks: Appearances, unit: Fraction) -> Iterator[str]:
     """The part that holds the objects, and the list of those to be built."""
     yield _HEAD
     yield '<model unit="millimeter" xml:lang="en-US" xmlns="http://schemas.microsoft.com/3dmanufacturing/core/2015/02">'
@@ -59,9 +61,15 @@ def _model_lines(mesh: 'Mesh', looks: Appearances) -> Iterator[str]:
     yield '</resources>'
     yield '<build>'
     for place in range(1, len(mesh.model.solids) + 1):
-        yield f'<item objectid="{place}"/>'
+        yield f'<item objectid="{place}"{_scaling(unit)}/>'
     yield '</build>'
     yield '</model>'
+
+
+def _scaling(unit: Fraction) -> str:
+    """The words of an item whose coordinates have so many millimetres each: 3MF knows no unit but a few."""
+    size = repr(float(unit))
+    return '' if unit == 1 else f' transform="{size} 0 0 0 {size} 0 0 0 {size} 0 0 0"'
 
 
 class _Materials:

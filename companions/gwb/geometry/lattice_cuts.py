@@ -9,7 +9,7 @@
 
 from dataclasses import dataclass
 from math import lcm
-from typing import Iterator, List, Optional, Tuple
+from typing import Iterable, Iterator, List, Optional, Tuple
 
 from .crossings import Crossing, Plane, crossings
 from .model import Model
@@ -71,13 +71,18 @@ class OffLatticeCut:
         return ' '.join(map(str, ('split', self.solid, *plane, above)))
 
 
+def whole_factor(found: Iterable[Crossing]) -> int:
+    """The least factor by which the model must be multiplied for all cut points to be whole."""
+    return lcm(*(part.denominator for crossing in found for part in crossing.point))
+
+
 def off_lattice_cut(model: Model, solid: int, plane: Plane, most: int = 3) -> OffLatticeCut:
     """What is to be said of the cut, with at most so many tilted planes; none where all points are whole.
 
     Raises NoPart where the model has no such solid, ValueError where a, b and c are all zero.
     """
     found = tuple(crossings(model, solid, plane))
-    factor = lcm(*(part.denominator for crossing in found for part in crossing.point))
+    factor = whole_factor(found)
     reach = max((abs(part) for point in model.vertices.values() for part in point), default=0)
     fits = reach * factor <= FARTHEST and abs(plane[3]) * factor <= FARTHEST_OFFSET
     near = NearPlanes(model, solid, plane) if factor > 1 else None

@@ -86,7 +86,7 @@ def require_free(bench: Selecting, solid: int) -> None:
     """Refuses the number of a new solid that is in use or out of range, as split does."""
     if not 1 <= solid <= LARGEST:
         raise Impossible('NumberRange', solid, f'the number {solid} is outside 1 to 1,000,000')
-    if solid in bench.solids().numbers:
+    if bench._in_use('solid', solid):
         raise Impossible('SolidTaken', solid, f'solid {solid} is in use')
 
 

@@ -1,9 +1,10 @@
-"""Names and colours of solids and faces in a session, and the files that are made of what it holds."""
+"""Names and colours of solids and faces in a session, its unit, and the files that are made of what it holds."""
 
 import warnings
+from fractions import Fraction
 from pathlib import Path
 from types import MappingProxyType
-from typing import Callable, Dict, Optional, Tuple, Union
+from typing import Callable, Dict, NamedTuple, Optional, Tuple, Union
 
 from ..drawing.page import page_of
 from ..formats.appearance import Appearance, Appearances, Colour, Thing, colour_of
@@ -15,6 +16,14 @@ from ..geometry.touching_solids import touching_solids
 from . import arguments
 from .measuring import Measuring
 from .reading import FacePart, SolidPart
+
+
+class _Held(NamedTuple):
+    """What a file is made of: the model, the labels, and the size of a coordinate."""
+
+    model: Model
+    labels: Appearances
+    unit: Fraction
 
 
 class Exporting(Measuring):
@@ -42,14 +51,20 @@ class Exporting(Measuring):
         else:
             self._labels[thing.kind, number] = look
 
+    @property
+    def unit(self) -> Fraction:
+        """The size of a coordinate, in the unit that the session began with: 1, but where coordinates were multiplied for a finer one."""
+        return self._journal.unit
+
     def page(self) -> str:
         """A page in HTML to turn the model and to pick from it, as `gwb-view` makes it, with the labels."""
-        return page_of(self.listing(), looks=self._labels)
+        return _page(self.listing(), self._labels, self.unit)
 
     def export(self, path: arguments.Path) -> None:
         """Writes what is held to a file, by the ending of its name: .step or .stp, .3mf, .obj (colours in a .mtl beside it), .off, .stl,
-        .html. Names and colours go where the form has them. Raises ValueError for another ending, Unfit where a face isn't flat and plain,
-        OSError where the file can't be written. Warns where solids touch and the form doesn't keep them apart."""
+        .html. Names and colours go where the form has them. The unit that the session began with is a millimetre in STEP and 3MF, so a finer
+        one keeps the size; the other forms say the unit in a comment. Raises ValueError for another ending, Unfit where a face isn't flat and
+        plain, OSError where the file can't be written. Warns where solids touch and the form doesn't keep them apart."""
         file = Path(arguments.path('path', path))
         write = _WRITERS.get(file.suffix.lower())
         if write is None:
@@ -57,7 +72,7 @@ class Exporting(Measuring):
         model = self.listing()
         if file.suffix.lower() in ('.off', '.stl'):
             _warn_of_touching(model, file.suffix)
-        data = write(model, self._labels, file)
+        data = write(_Held(model, self._labels, self.unit), file)
         file.write_bytes(data)
 
 
@@ -69,22 +84,26 @@ def _colour(text: str) -> Optional[Colour]:
         raise ValueError(f'colour: {error}') from None
 
 
-def _obj(model: Model, labels: Appearances, file: Path) -> bytes:
+def _page(model: Model, labels: Appearances, unit: Fraction) -> str:
+    return page_of(model, 'gwb' if unit == 1 else f'gwb, unit {unit}', looks=labels)
+
+
+def _obj(held: _Held, file: Path) -> bytes:
     materials = file.with_suffix('.mtl')
-    if any(look.colour for look in labels.values()):
-        materials.write_text(mtl_text(labels), encoding='utf-8')
-        return obj_text(mesh_of(model), labels, materials.name).encode()
-    return obj_text(mesh_of(model), labels).encode()
+    if any(look.colour for look in held.labels.values()):
+        materials.write_text(mtl_text(held.labels), encoding='utf-8')
+        return obj_text(mesh_of(held.model), held.labels, materials.name, unit=held.unit).encode()
+    return obj_text(mesh_of(held.model), held.labels, unit=held.unit).encode()
 
 
-_Writer = Callable[[Model, Appearances, Path], bytes]
+_Writer = Callable[[_Held, Path], bytes]
 _WRITERS: Dict[str, _Writer] = {
-    **dict.fromkeys(('.step', '.stp'), lambda model, labels, _: step_text(model, labels).encode()),
-    '.3mf': lambda model, labels, _: three_mf_bytes(mesh_of(model), labels),
+    **dict.fromkeys(('.step', '.stp'), lambda held, _: step_text(*held).encode()),
+    '.3mf': lambda held, _: three_mf_bytes(mesh_of(held.model), held.labels, held.unit),
     '.obj': _obj,
-    '.off': lambda model, *_: off_text(mesh_of(model)).encode(),
-    '.stl': lambda model, *_: stl_text(mesh_of(model)).encode(),
-    '.html': lambda model, labels, _: page_of(model, looks=labels).encode(),
+    '.off': lambda held, _: off_text(mesh_of(held.model), held.unit).encode(),
+    '.stl': lambda held, _: stl_text(mesh_of(held.model), held.unit).encode(),
+    '.html': lambda held, _: _page(*held).encode(),
 }
 
 
@@ -92,4 +111,4 @@ def _warn_of_touching(model: Model, ending: str) -> None:
     pair: Optional[Tuple[int, int]] = next(touching_solids(model), None)
     if pair is not None:
         warnings.warn('solids {} and {} touch or overlap, and {} does not keep solids apart: many programs will read one wrong body; .3mf and '
-                      '.step keep them apart'.format(*pair, ending), stacklevel=3)
+                      '.step keep them apart'.format(*pair, ending), stacklevel=4)

@@ -1,5 +1,6 @@
-"""What a session has done: its commands in order, which of them are one step to undo, and the greatest numbers then in use."""
+"""What a session has done: its commands in order, which of them are one step to undo, the greatest numbers then in use, and the unit."""
 
+from fractions import Fraction
 from typing import Dict, List, NamedTuple, Optional, Tuple
 
 from ..geometry.free_numbers import KINDS
@@ -37,11 +38,13 @@ class Greatest:
 
 
 class Done(NamedTuple):
-    """An accepted command: its call, or those of its draft; whether a step to undo begins with it, and the greatest numbers after it."""
+    """An accepted command: its call, or those of its draft; whether a step to undo begins with it, and the greatest numbers and the unit after
+    it."""
 
     calls: Tuple[Call, ...]
     begins: bool
     greatest: Greatest
+    unit: Fraction
 
 
 class DraftStep(NamedTuple):
@@ -53,13 +56,15 @@ class DraftStep(NamedTuple):
 
 class State(NamedTuple):
     """What a journal says: of the commands in the list the first `end`, of which those from `at` on are undone. So many more are undone for
-    good, and the steps of the draft are there while one is open. A state stays what it is while further commands are accepted."""
+    good, and the steps of the draft are there while one is open, and the unit where they changed it. A state stays what it is while further
+    commands are accepted."""
 
     done: List[Done]
     at: int = 0
     end: int = 0
     given_up: int = 0
     draft: Optional[List[DraftStep]] = None
+    unit: Optional[Fraction] = None
 
 
 class Journal:
@@ -70,6 +75,7 @@ class Journal:
     def __init__(self) -> None:
         self.state = State([])
         self._start = Greatest()
+        self.first_unit = Fraction(1)
 
     @property
     def at(self) -> int:
@@ -93,6 +99,14 @@ class Journal:
         if state.draft:
             return state.draft[-1].greatest
         return state.done[state.at - 1].greatest if state.at else self._start
+
+    @property
+    def unit(self) -> Fraction:
+        """The size of a coordinate, in the unit that the session began with."""
+        state = self.state
+        if state.unit is not None:
+            return state.unit
+        return state.done[state.at - 1].unit if state.at else self.first_unit
 
     @property
     def held(self) -> List[Done]:
@@ -119,7 +133,7 @@ class Journal:
         if self.state.draft is not None:
             self.state.draft.append(DraftStep(call, greatest))
         else:
-            self._append(Done((call,), begins, greatest))
+            self._append(Done((call,), begins, greatest, self.unit))
 
     def open_draft(self) -> None:
         """The calls from here on are steps of a draft."""
@@ -127,13 +141,23 @@ class Journal:
 
     def commit(self, begins: bool) -> None:
         """The steps of the draft, of which there are some, become one command."""
-        self._append(Done(self.draft, begins, self.greatest))
+        self._append(Done(self.draft, begins, self.greatest, self.unit))
 
     def end_draft(self) -> int:
         """The draft is left out: how many steps it had."""
         steps = len(self.draft)
-        self.state = self.state._replace(draft=None)
+        self.state = self.state._replace(draft=None, unit=None)
         return steps
+
+    def set_unit(self, unit: Fraction) -> None:
+        """The size of a coordinate after what is held; the open draft sets it where one is open."""
+        state = self.state
+        if state.draft is not None:
+            self.state = state._replace(unit=unit)
+        elif state.at:
+            state.done[state.at - 1] = state.done[state.at - 1]._replace(unit=unit)
+        else:
+            self.first_unit = unit
 
     def stepped(self, word: str) -> None:
         """One command was undone or redone, the word says which."""

@@ -1,11 +1,16 @@
-"""How a saved script says which commands are one step to undo: by comments, which gwb reads in silence."""
+"""How a saved script says which commands are one step to undo, and the unit: by comments, which gwb reads in silence.
+
+`# unit 1/6` says how large a coordinate is after what stands before it, in the unit that the session began with.
+"""
 
 import re
+from fractions import Fraction
 from typing import Iterator, List, NamedTuple, Optional, Sequence
 
-from .journal import Done
+from .journal import Done, Journal
 
 _MARK = re.compile(rb'# (step|draft) of ([1-9][0-9]{0,8}) commands')
+_UNIT = re.compile(rb'# unit ([1-9][0-9]{0,99}(?:/[1-9][0-9]{0,99})?)')
 
 
 class Mark(NamedTuple):
@@ -24,16 +29,37 @@ def mark_in(line: bytes) -> Optional[Mark]:
     return Mark(found[1].decode(), int(found[2])) if found else None
 
 
-def marked_lines(held: Sequence[Done]) -> Iterator[str]:
-    """The lines of commands, and before those that are one step, or one draft, a mark."""
-    for step in _steps(held):
-        commands = sum(len(done.calls) for done in step)
+def unit_in(line: bytes) -> Optional[Fraction]:
+    """The unit that a line says; None where it says none."""
+    found = _UNIT.fullmatch(line.rstrip(b'\r'))
+    return Fraction(found[1].decode()) if found else None
+
+
+def saved_lines(journal: Journal) -> Iterator[str]:
+    """The lines of what a journal holds, the steps of its draft too. Before those that are one step, or one draft, stands a mark, and the unit
+    where it changes."""
+    unit = journal.first_unit
+    yield from _unit_lines(Fraction(1), unit)
+    for step in _steps(journal.held):
         if len(step) > 1:
-            yield str(Mark('step', commands))
+            yield str(Mark('step', sum(len(done.calls) for done in step)))
         for done in step:
-            if len(done.calls) > 1:
-                yield str(Mark('draft', len(done.calls)))
-            yield from map(str, done.calls)
+            yield from _lines_of(done)
+            yield from _unit_lines(unit, done.unit)
+            unit = done.unit
+    yield from map(str, journal.draft)
+    yield from _unit_lines(unit, journal.unit)
+
+
+def _lines_of(done: Done) -> Iterator[str]:
+    if len(done.calls) > 1:
+        yield str(Mark('draft', len(done.calls)))
+    yield from map(str, done.calls)
+
+
+def _unit_lines(before: Fraction, after: Fraction) -> Iterator[str]:
+    if before != after:
+        yield f'# unit {after}'
 
 
 def _steps(held: Sequence[Done]) -> Iterator[List[Done]]:

@@ -7,9 +7,10 @@ from ..geometry.model import Model
 from ..geometry.moved import Change, mirroring, moving, scaling
 from ..geometry.outlines import Impossible
 from ..geometry.vectors import ZERO
-from . import arguments, cutting, shaping, solids
-from .cutting import Cut, Keep
+from . import arguments, cutting, refining, shaping, solids
+from .cutting import Cut, Keep, Plane
 from .features import Features
+from .results import Split
 from .shaping import Notch
 from .solids import Copy
 
@@ -56,27 +57,47 @@ class SolidMethods(Features):
         times = arguments.positive('factor', factor)
         solids.place(self, self.solids().numbers, scaling(times))
 
-    def cut(self, solid: arguments.Solid, plane: arguments.Point, *, keep: str = 'both', above: Optional[int] = None) -> Cut:
+    def split(self, solid: arguments.Solid, plane: arguments.Point, *, above: Optional[int] = None, scale: bool = False) -> Split:
+        """The solid is cut by the plane a x + b y + c z + d = 0, four numbers or what `plane` returns; what lies above it becomes a new solid.
+
+        With scale=True a cut that is refused NotLattice is made in a finer unit: all coordinates of the bench are multiplied by the least whole
+        number that makes the points of the cut whole, and `unit` is divided by it, as one step with the cut. Refused besides: PointRange: a
+        point would then lie past 1,000,000,000.
+
+        Over the pipe the listing is read after it."""
+        number, level = self._number('solid', solid), arguments.plane('plane', plane)
+        new = None if above is None else arguments.number('above', above)
+        if not arguments.flag('scale', scale):
+            return super().split(number, level, above=new)
+        return refining.with_finer_unit(self, number, level, lambda plane: super(SolidMethods, self).split(number, plane, above=new))
+
+    def cut(self, solid: arguments.Solid, plane: arguments.Point, *, keep: str = 'both', above: Optional[int] = None, scale: bool = False) -> Cut:
         """The solid is cut by the plane a x + b y + c z + d = 0. What lies below it stays the solid, and what lies above it becomes a new one,
         of the number `above` where one is given. With keep='below' or 'above' the other part is thrown away, and the part that is kept keeps
-        the number of the solid.
+        the number of the solid. With scale=True it is cut in a finer unit where its points ask for one, as `split` does.
 
         Where split refuses the plane for what it touches or how it runs through faces and holes, both parts are made anew, by operators, and
         faces in the plane are one with the caps beside them. Refused: what split says of the solid, the plane and its points: NoSolid,
         SolidTaken, LoneLoop, NotFlat, PlaneMisses, NotLattice; Meets: a part's faces would lie on each other at an edge."""
         number, level, wanted = self._number('solid', solid), arguments.plane('plane', plane), cutting.kept(keep)
         new = None if above is None else arguments.number('above', above)
-        if wanted is Keep.BOTH:
-            return cutting.cut(self, number, level, new)
-        if new is not None:
+        if new is not None and wanted is not Keep.BOTH:
             raise ValueError(f'above: the part above the plane gets no number of its own where {keep!r} alone is kept')
-        if wanted is Keep.BELOW:
-            return Cut(number, None, cutting.trimmed(self, number, level), ())
-        return Cut(None, number, (), cutting.trimmed(self, number, cutting.opposite(level)))
+        if not arguments.flag('scale', scale):
+            return self._cut(number, level, wanted, new)
+        return refining.with_finer_unit(self, number, level, lambda plane: self._cut(number, plane, wanted, new))
 
-    def trim(self, solid: arguments.Solid, plane: arguments.Point) -> Tuple[int, ...]:
-        """What lies above the plane is cut off and thrown away: the faces that close what is left. Refused as cut is."""
-        return self.cut(solid, plane, keep=Keep.BELOW.value).lower_caps
+    def _cut(self, solid: int, plane: Plane, wanted: Keep, above: Optional[int]) -> Cut:
+        if wanted is Keep.BOTH:
+            return cutting.cut(self, solid, plane, above)
+        if wanted is Keep.BELOW:
+            return Cut(solid, None, cutting.trimmed(self, solid, plane), ())
+        return Cut(None, solid, (), cutting.trimmed(self, solid, cutting.opposite(plane)))
+
+    def trim(self, solid: arguments.Solid, plane: arguments.Point, *, scale: bool = False) -> Tuple[int, ...]:
+        """What lies above the plane is cut off and thrown away: the faces that close what is left. With scale=True it is cut in a finer unit
+        where its points ask for one. Refused as cut is."""
+        return self.cut(solid, plane, keep=Keep.BELOW.value, scale=scale).lower_caps
 
     def union(self, solids: Sequence[arguments.Solid]) -> int:
         """The solids, which touch in faces and have no room in common, become one: the number of the first of them. Faces of one plane

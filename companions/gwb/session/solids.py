@@ -6,13 +6,14 @@ whatever a sound solid has, rings, handles, wires, laminae and several shells, i
 
 from dataclasses import dataclass
 from functools import reduce
-from typing import Callable, Dict, List, Mapping, Sequence, Tuple
+from typing import Callable, Dict, Iterator, List, Mapping, Sequence, Tuple
 
 from ..errors import Unfit
 from ..geometry.free_numbers import KINDS, LARGEST, FreeNumbers, numbers_of, renumbered, renumbering
 from ..geometry.model import Model
 from ..geometry.moved import Change, Displaced, changed, moving, turning
 from ..geometry.outlines import Impossible
+from ..geometry.solids_apart import solids_apart
 from ..geometry.vectors import Vector, ZERO
 from ..protocol.complaints import Refused
 from ..scripts.changing import script_between
@@ -62,12 +63,24 @@ class Copy:
         return type(part)(part._bench, self.solid if part.kind == 'solid' else numbers[part.kind][part.number])
 
 
+class _Unused(FreeNumbers):
+    """The numbers of a kind that a bench never had in use, then those in gaps: nothing of the model is read before these."""
+
+    def __init__(self, bench: Selecting, kind: str) -> None:
+        super().__init__(kind, ())
+        self._bench = bench
+
+    def _rising(self) -> Iterator[int]:
+        ever = min(self._bench._ever[self._kind], LARGEST)
+        yield from range(ever + 1, LARGEST + 1)
+        yield from (number for number in range(1, ever + 1) if not self._bench._in_use(self._kind, number))
+
+
 class Numbers:
     """The numbers that a bench has free: for what is made, and spare ones on the way there."""
 
     def __init__(self, bench: Selecting) -> None:
-        reader = bench._reader()
-        self._free = {kind: FreeNumbers(kind, (*reader.numbers(kind), min(bench._new(kind, None) - 1, LARGEST))) for kind in KINDS}
+        self._free: Dict[str, FreeNumbers] = {kind: _Unused(bench, kind) for kind in KINDS}
 
     def take(self, kind: str) -> int:
         """A number that was never in use, where there is one, else one that is free. NumbersSpent is raised where none is."""
@@ -85,11 +98,11 @@ class Numbers:
 
     def taking_away(self, model: Model) -> List[str]:
         """The operators that take the solids of the model away."""
-        return [step.takes for solid in model.solids for step in self._steps(model.only(solid))]
+        return [step.takes for alone in solids_apart(model) for step in self._steps(alone)]
 
     def making(self, model: Model) -> List[str]:
         """The operators that make the solids of the model."""
-        return [step.makes for solid in model.solids for step in reversed(self._steps(model.only(solid)))]
+        return [step.makes for alone in solids_apart(model) for step in reversed(self._steps(alone))]
 
     def changing(self, before: Model, after: Model) -> List[str]:
         """The operators that turn a solid into one of the same number: those of the faces that differ where that will do, else all."""

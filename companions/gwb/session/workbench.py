@@ -28,7 +28,7 @@ from ..scripts.inversion import script_of
 from . import arguments
 from .calls import call_in
 from .exporting import Exporting
-from .saved_steps import mark_in, marked_lines
+from .saved_steps import mark_in, saved_lines, unit_in
 
 # The endings and the first words of files that gwb-import reads.
 _IMPORTED = ('.obj', '.off', '.stl', '.3mf', '.amf', '.ply', '.step', '.stp')
@@ -52,9 +52,10 @@ class Workbench(Exporting):
         return ''.join(f'{line}\n' for line in self._journal.lines)
 
     def save(self, path: arguments.Path) -> None:
-        """Writes the script to a file. Comments in it say which commands are one step, and the labels, so that `load` knows them again."""
+        """Writes the script to a file. Comments in it say which commands are one step, the unit, and the labels, so that `load` knows them
+        again."""
         file = Path(arguments.path('path', path))
-        lines = [*marked_lines(self._journal.held), *map(str, self._journal.draft), *comments(self._labels)]
+        lines = [*saved_lines(self._journal), *comments(self._labels)]
         file.write_text(''.join(f'{line}\n' for line in lines), encoding='ascii')
 
     @classmethod
@@ -82,8 +83,10 @@ class Workbench(Exporting):
             number, line = next(lines, (0, b''))
             if number == 0:
                 return
-            mark = mark_in(line)
-            if mark:
+            mark, unit = mark_in(line), unit_in(line)
+            if unit is not None:
+                self._journal.set_unit(unit)
+            elif mark:
                 taken += mark.commands
                 with self.group() if mark.kind == 'step' else self.draft():
                     self._take(file, lines, mark.commands)

@@ -1,0 +1,49 @@
+"""A finer unit: all coordinates are multiplied, and the size of one is divided, so that what is held keeps its size.
+
+So a plane whose cut has points between whole coordinates can cut after all.
+"""
+
+from typing import Callable, TypeVar
+
+from ..geometry.crossings import Plane, crossings, without_common_factor
+from ..geometry.lattice_cuts import whole_factor
+from ..geometry.moved import Displaced, changed, scaling
+from ..geometry.outlines import Impossible
+from ..geometry.solids_apart import solids_apart
+from ..protocol.complaints import Refused
+from .selection import Selecting
+from .solids import Numbers, give, solid_model
+
+Made = TypeVar('Made')
+
+
+def with_finer_unit(bench: Selecting, solid: int, plane: Plane, cut: Callable[[Plane], Made]) -> Made:
+    """Cuts a solid by a plane, and where points of the cut aren't whole, once the unit is the least finer one in which they are; both as one
+    step.
+
+    Refused: what the cut is refused for, with all as before; PointRange: in the finer unit a point would leave the range."""
+    try:
+        return cut(plane)
+    except Refused as refused:
+        if refused.name != 'NotLattice':
+            raise
+    factor = whole_factor(crossings(solid_model(bench, solid), solid, plane))
+    with bench._step(operators_alone=bench._journal.is_drafting):
+        refine(bench, factor)
+        # (its offset stays in range, since it meets edges whose ends do)
+        return cut(without_common_factor((*plane[:3], plane[3] * factor)))
+
+
+def refine(bench: Selecting, factor: int) -> None:
+    """The unit becomes so many times finer, as one command, or as steps of the draft that is open: all coordinates are multiplied, and the size
+    of one is divided. Refused: PointRange."""
+    held = bench.listing()
+    try:
+        finer = changed(held, scaling(factor))
+    except Displaced as error:
+        raise Impossible(error.name, error.vertex, f'times {factor} all points of the cut are whole, but {error}') from None
+    numbers = Numbers(bench)
+    with bench._step(operators_alone=True):
+        for before, after in zip(solids_apart(held), solids_apart(finer)):
+            give(bench, [*numbers.taking_away(before), *numbers.making(after)])
+        bench._journal.set_unit(bench._journal.unit / factor)

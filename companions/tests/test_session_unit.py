@@ -1,0 +1,190 @@
+"""Cuts in a finer unit: what is multiplied, what `unit` says then, and what undo, scripts and files make of it."""
+
+import tempfile
+import unittest
+import warnings
+import zipfile
+from fractions import Fraction
+from pathlib import Path
+
+from support import program
+
+from gwb import Refused, Workbench
+from gwb.checks.check import check
+
+PLANE = (2, 3, 0, -11)
+
+
+class Unit(unittest.TestCase):
+    """A block of 7 by 5 by 3, which the plane cuts between whole coordinates, and a cube beside it."""
+
+    def setUp(self):
+        self.bench = Workbench(program())
+        self.addCleanup(self.bench.close)
+        folder = tempfile.TemporaryDirectory()
+        self.addCleanup(folder.cleanup)
+        self.folder = Path(folder.name)
+        self.block = self.bench.block((0, 0, 0), (7, 5, 3))
+        self.cube = self.bench.block((20, 0, 0), (2, 2, 2))
+
+    def true_volume(self, solid):
+        """The volume in cubes of the unit that the session began with."""
+        return self.bench.volume(solid) * self.bench.unit ** 3
+
+    def exported(self, name):
+        """The path of a file that is written, of solids that touch."""
+        with warnings.catch_warnings():
+            warnings.simplefilter('ignore')
+            self.bench.export(self.folder / name)
+        return self.folder / name
+
+    def refused(self, name, call):
+        before = self.bench.listing(), self.bench.script(), self.bench.unit
+        with self.assertRaises(Refused) as caught:
+            call()
+        self.assertEqual(caught.exception.name, name)
+        self.assertEqual((self.bench.listing(), self.bench.script(), self.bench.unit), before)
+
+    def test_the_least_factor_that_makes_all_points_whole(self):
+        self.assertEqual(self.bench.unit, 1)
+        self.refused('NotLattice', lambda: self.bench.split(self.block, PLANE))
+        made = self.bench.split(self.block, PLANE, scale=True)
+        self.assertEqual(self.bench.unit, Fraction(1, 6))
+        self.assertEqual(self.true_volume(self.block.solid), Fraction(3 * 11 * 11, 12))
+        self.assertEqual(self.true_volume(made.solid), 105 - Fraction(3 * 11 * 11, 12))
+        self.assertEqual(self.true_volume(self.cube.solid), 8)
+        self.assertEqual(self.bench.bounding_box(self.cube).low, (120, 0, 0))
+        self.assertTrue(all(2 * x + 3 * y == 66 for face in made.lower_caps for x, y, _ in self.bench.face(face).points))
+        self.assertEqual(check(self.bench.listing()).findings, [])
+
+    def test_a_cut_that_needs_none_changes_nothing_else(self):
+        self.bench.split(self.block, (2, 0, 0, -4), scale=True)
+        self.assertEqual((self.bench.unit, self.bench.bounding_box(self.cube).low), (1, (20, 0, 0)))
+
+    def test_one_step_to_undo_which_takes_the_unit_along(self):
+        before = self.bench.listing()
+        self.bench.split(self.block, PLANE, scale=True, above=9)
+        after = self.bench.listing()
+        self.bench.undo()
+        self.assertEqual((self.bench.listing(), self.bench.unit), (before, 1))
+        self.bench.redo()
+        self.assertEqual((self.bench.listing(), self.bench.unit), (after, Fraction(1, 6)))
+        self.bench.undo(command=True)
+        self.assertEqual((self.bench.unit, self.bench.volume(self.block.solid)), (Fraction(1, 6), 105 * 216))
+        self.bench.undo(command=True)
+        self.assertEqual((self.bench.listing(), self.bench.unit), (before, 1))
+
+    def test_numbers_stay(self):
+        before = self.bench.listing()
+        self.bench.split(self.block, PLANE, scale=True)
+        self.bench.undo(command=True)
+        model = self.bench.listing()
+        self.assertEqual((model.faces, model.loops, model.edges), (before.faces, before.loops, before.edges))
+
+    def test_units_multiply(self):
+        self.bench.split(self.block, PLANE, scale=True)
+        self.bench.cut(self.cube, (7, 0, 0, -7 * 120 - 5), scale=True)
+        self.assertEqual(self.bench.unit, Fraction(1, 42))
+        self.assertEqual(self.true_volume(self.block.solid), Fraction(3 * 11 * 11, 12))
+
+    def test_cut_and_trim(self):
+        made = self.bench.cut(self.block, PLANE, scale=True)
+        self.assertEqual((made.below, self.bench.unit), (self.block.solid, Fraction(1, 6)))
+        self.bench.undo()
+        self.assertEqual(self.bench.unit, 1)
+        self.bench.trim(self.block, PLANE, scale=True)
+        self.assertEqual((self.bench.solids().numbers, self.bench.unit), ((1, 2), Fraction(1, 6)))
+        self.assertEqual(self.true_volume(self.block.solid), Fraction(3 * 11 * 11, 12))
+
+    def test_a_cut_that_split_refuses_for_more_than_its_points(self):
+        step = self.bench.profile([(0, 10, 0), (4, 10, 0), (4, 12, 0), (2, 12, 0), (2, 14, 0), (0, 14, 0)], along=(0, 0, 3))
+        self.refused('TouchedFace', lambda: self.bench.split(step.solid, (0, 3, 2, -36), scale=True))
+        self.bench.cut(step.solid, (0, 3, 2, -38), scale=True)
+        self.assertEqual(self.bench.unit, Fraction(1, 3))
+
+    def test_in_a_draft_it_is_a_part_of_it(self):
+        before = self.bench.listing()
+        with self.bench.draft():
+            self.bench.cut(self.block, PLANE, scale=True)
+            self.assertEqual(self.bench.unit, Fraction(1, 6))
+        self.assertEqual(self.bench.unit, Fraction(1, 6))
+        self.bench.undo()
+        self.assertEqual((self.bench.listing(), self.bench.unit), (before, 1))
+        with self.assertRaises(KeyError), self.bench.draft():
+            self.bench.cut(self.block, PLANE, scale=True)
+            raise KeyError
+        self.assertEqual((self.bench.listing(), self.bench.unit), (before, 1))
+
+    def test_a_group_that_fails_takes_the_unit_back(self):
+        with self.assertRaises(KeyError), self.bench.group():
+            self.bench.cut(self.block, PLANE, scale=True)
+            raise KeyError
+        self.assertEqual(self.bench.unit, 1)
+
+    def test_refused_with_nothing_changed(self):
+        self.refused('NoSolid', lambda: self.bench.split(7, PLANE, scale=True))
+        self.refused('PlaneMisses', lambda: self.bench.split(self.block, (2, 3, 0, 11), scale=True))
+        self.refused('SolidTaken', lambda: self.bench.split(self.block, PLANE, above=2, scale=True))
+        far = self.bench.block((500_000_000, 0, 0), (1, 1, 1))
+        self.refused('PointRange', lambda: self.bench.split(self.block, PLANE, scale=True))
+        self.bench.delete(far)
+        self.bench.block((0, 0, 300), (900_000_000, 2, 1))
+        self.refused('PointRange', lambda: self.bench.cut(4, (3, 1, 0, -4), scale=True))
+
+    def test_saved_and_loaded(self):
+        for drafted in (False, True):
+            with self.subTest(drafted=drafted):
+                if drafted:
+                    with self.bench.draft():
+                        self.bench.cut(self.block, PLANE, scale=True)
+                        self.bench.mvfs((0, 0, 0))
+                else:
+                    self.bench.split(self.block, PLANE, scale=True)
+                path = self.folder / 'part.gwb'
+                self.bench.save(path)
+                with Workbench.load(path, program()) as again:
+                    self.assertEqual((again.unit, again.listing()), (Fraction(1, 6), self.bench.listing()))
+                    again.save(self.folder / 'again.gwb')
+                    self.assertEqual((self.folder / 'again.gwb').read_text(), path.read_text())
+                    again.undo()
+                    self.assertEqual(again.unit, 1)
+                self.bench.undo()
+
+    def test_saved_while_a_draft_is_open(self):
+        with self.bench.draft():
+            self.bench.cut(self.block, PLANE, scale=True)
+            self.bench.save(self.folder / 'part.gwb')
+        with Workbench.load(self.folder / 'part.gwb', program()) as again:
+            self.assertEqual(again.unit, Fraction(1, 6))
+
+    def test_a_script_may_begin_with_its_unit(self):
+        path = self.folder / 'part.gwb'
+        path.write_text('# unit 1/60\nblock 1 0 0 0 60 60 60\n')
+        with Workbench.load(path, program()) as bench:
+            self.assertEqual(bench.unit, Fraction(1, 60))
+            bench.undo()
+            self.assertEqual(bench.unit, Fraction(1, 60))
+            bench.save(path)
+        self.assertEqual(path.read_text(), '# unit 1/60\n')
+
+    def test_what_the_files_say(self):
+        self.bench.split(self.block, PLANE, scale=True)
+        texts = {}
+        for ending in ('.step', '.obj', '.off', '.stl', '.html', '.3mf'):
+            texts[ending] = self.exported(f'part{ending}').read_bytes()
+        self.assertIn(b'LENGTH_MEASURE(1.6666666666666666E-1)', texts['.step'])
+        self.assertIn(b"CONVERSION_BASED_UNIT('1/6 MILLIMETRE',", texts['.step'])
+        self.assertTrue(texts['.obj'].startswith(b'# unit 1/6\n'))
+        self.assertTrue(texts['.off'].startswith(b'OFF\n# unit 1/6\n'))
+        self.assertTrue(texts['.stl'].startswith(b'solid gwb # unit 1/6\n'))
+        self.assertIn(b'gwb, unit 1/6', texts['.html'])
+        with zipfile.ZipFile(self.folder / 'part.3mf') as package:
+            self.assertIn(b'transform="0.16666666666666666 0 0 0 0.16666666666666666 0 0 0 0.16666666666666666 0 0 0"',
+                          package.read('3D/3dmodel.model'))
+        self.bench.undo()
+        for ending in ('.step', '.obj', '.off', '.stl'):
+            self.assertNotIn(b'unit 1/6', self.exported(f'part{ending}').read_bytes())
+
+
+if __name__ == '__main__':
+    unittest.main()
