@@ -1,6 +1,7 @@
 """Each method refuses each wrong kind of each argument by name, and sends nothing."""
 
 import unittest
+from fractions import Fraction
 
 from solid_cases import solid_cases
 from support import program
@@ -82,6 +83,9 @@ CASES.update(dict.fromkeys(('distance', 'square_distance'), ({'face': 1, 'other'
 CASES.update(dict.fromkeys(('section', 'off_lattice'), ({'solid': 1, 'plane': (1, 0, 0, 0)}, {'solid': NUMBER, 'plane': PLANE})))
 CASES['inertia'] = ({'solid': 1}, {'solid': NUMBER, 'about': (True, 1, 'abc', (0, 0), (0, 0, 1.0), (0, True, 0), (0, 0, None))})
 CASES['label'] = ({'thing': 1}, {'thing': (*NUMBER, 1), 'name': (1, None, b'Lid'), 'colour': (1, None, b'#FF8000', 'red', '#FF80')})
+CASES['import_file'] = ({'path': 'part.step'}, {
+    'path': (1, None, 1.0, b'part.step'), 'form': (1, None, b'stl', 'dxf'), 'scale': (True, 1.0, '1', None, 0, -1, Fraction(-1, 2)),
+    'rounded': FLAG, 'keep_triangles': FLAG, 'repair': FLAG})
 CASES['export'] = ({'path': 'part.step'}, {'path': (1, None, 1.0, b'part.step')})
 WITHOUT_ARGUMENTS = {'close', 'draft', 'group', 'listing', 'page', 'script', 'show', 'solids', 'save', 'load', 'labels', 'unit'}
 

@@ -167,6 +167,19 @@ class Unit(unittest.TestCase):
             bench.save(path)
         self.assertEqual(path.read_text(), '# unit 1/60\n')
 
+    def test_files_keep_the_size(self):
+        self.bench.split(self.block, PLANE, scale=True)
+        for ending, options in (('.step', {}), ('.3mf', {'rounded': True})):
+            with self.subTest(ending):
+                path = self.exported(f'part{ending}')
+                with Workbench(program()) as again:
+                    made = again.import_file(path, scale=6, **options)
+                    self.assertEqual(sorted(map(again.volume, made)), sorted(self.bench.volume(solid) for solid in self.bench.solids()))
+                taken = self.bench.import_file(path, **options)
+                self.assertEqual([self.bench.bounding_box(solid) for solid in taken],
+                                 [self.bench.bounding_box(solid) for solid in self.bench.solids() if solid not in taken])
+                self.bench.undo()
+
     def test_what_the_files_say(self):
         self.bench.split(self.block, PLANE, scale=True)
         texts = {}
@@ -184,6 +197,14 @@ class Unit(unittest.TestCase):
         self.bench.undo()
         for ending in ('.step', '.obj', '.off', '.stl'):
             self.assertNotIn(b'unit 1/6', self.exported(f'part{ending}').read_bytes())
+
+    def test_other_forms_are_read_again(self):
+        self.bench.split(self.block, PLANE, scale=True)
+        for ending in ('.obj', '.off', '.stl'):
+            with self.subTest(ending), Workbench(program()) as again:
+                made = again.import_file(self.exported(f'part{ending}'))
+                self.assertEqual(sum(map(again.volume, made)), 216 * (105 + 8))
+                self.assertEqual(again.labels, {})
 
 
 if __name__ == '__main__':

@@ -132,6 +132,16 @@ def positive(name: str, value: object) -> int:
     return found
 
 
+def factor(name: str, value: object) -> Fraction:
+    """A whole number or a fraction above zero."""
+    if isinstance(value, bool) or not isinstance(value, Rational):
+        raise TypeError(f'{name}: a whole number or a fraction is wanted, not {_kind_of(value)}')
+    found = Fraction(int(value.numerator), int(value.denominator))
+    if found <= 0:
+        raise ValueError(f'{name}: {found} is not above zero')
+    return found
+
+
 def way(name: str, value: object) -> str:
     """The word `in` or `out`."""
     if not isinstance(value, str):

@@ -1,4 +1,4 @@
-"""Names and colours of solids and faces in a session, its unit, and the files that are made of what it holds."""
+"""Names and colours of solids and faces in a session, its unit, and the files that are made of what it holds, or taken in."""
 
 import warnings
 from fractions import Fraction
@@ -12,10 +12,12 @@ from ..formats.mesh import mesh_of, mtl_text, obj_text, off_text, stl_text
 from ..formats.step import step_text
 from ..formats.three_mf import three_mf_bytes
 from ..geometry.model import Model
+from ..geometry.plane_figures import Exact
 from ..geometry.touching_solids import touching_solids
-from . import arguments
+from . import arguments, files_in
 from .measuring import Measuring
 from .reading import FacePart, SolidPart
+from .selection import Selection
 
 
 class _Held(NamedTuple):
@@ -74,6 +76,23 @@ class Exporting(Measuring):
             _warn_of_touching(model, file.suffix)
         data = write(_Held(model, self._labels, self.unit), file)
         file.write_bytes(data)
+
+    def import_file(self, path: arguments.Path, *, form: str = '', scale: Exact = 1, rounded: bool = False, keep_triangles: bool = False,
+                    repair: bool = False) -> 'Selection[SolidPart]':
+        """The solids of a file, as `gwb-import` reads it, beside what is held, with numbers that are free: these, with the names and colours that
+        the file has as labels.
+
+        `form` is 'step', 'stl', 'obj', 'off', 'ply', 'amf' or '3mf' where the file doesn't look like it. Coordinates in the unit that the
+        session began with, millimetres where the file says a unit, are multiplied by `scale`, a whole number or a fraction, and must then be
+        whole in `unit`; `rounded` rounds them. Faces of one plane become one but with `keep_triangles`; `repair` mends what can be. Warns of
+        what is wrong with the solids. Raises OSError; NotAMesh where it is no such file; Unfit where its surfaces aren't closed, or a point
+        isn't whole or past the range. Refused: NumbersSpent."""
+        options = files_in.Options(
+            files_in.known_form(arguments.text('form', form)), arguments.factor('scale', scale), arguments.flag('rounded', rounded),
+            arguments.flag('keep_triangles', keep_triangles), arguments.flag('repair', repair))
+        taken = files_in.take_in(self, arguments.path('path', path), options)
+        self._labels.update(taken.looks)
+        return Selection('solid', '', [SolidPart(self, solid) for solid in taken.solids])
 
 
 def _colour(text: str) -> Optional[Colour]:

@@ -1,0 +1,55 @@
+"""Files of other programs taken into a session, beside what it holds."""
+
+import os
+import warnings
+from fractions import Fraction
+from typing import Dict, List, NamedTuple
+
+from ..formats.appearance import Appearance, Thing
+from ..formats.importing import read_file
+from ..formats.polygon_files import FORMS
+from ..geometry.free_numbers import renumbered
+from ..geometry.plane_figures import Exact
+from .selection import Selecting
+from .solids import Numbers, give
+
+
+class Options(NamedTuple):
+    """How a file is read: its form, '' for what it looks like; by what coordinates are multiplied; whether points are rounded, triangles kept as
+    they are, and faults mended."""
+
+    form: str
+    scale: Exact
+    rounded: bool
+    keep_triangles: bool
+    repair: bool
+
+
+class TakenIn(NamedTuple):
+    """The solids that came of a file, and the names and colours of these and of their faces."""
+
+    solids: List[int]
+    looks: Dict[Thing, Appearance]
+
+
+def known_form(form: str) -> str:
+    """A form of files, or '' where it is to be found out. Raises ValueError."""
+    if form and form not in FORMS:
+        raise ValueError(f'form: one of {", ".join(map(repr, FORMS))} is wanted, not {form!r}')
+    return form
+
+
+def take_in(bench: Selecting, path: str, options: Options) -> TakenIn:
+    """Makes the solids of a file, with numbers that are free, as one command, and warns of what is wrong with them.
+
+    Raises OSError, NotAMesh or Unfit, with the place, where the file can't be read or has no closed surfaces. Refused: NumbersSpent."""
+    scale = Fraction(options.scale) / bench._journal.unit
+    found = read_file(os.path.abspath(path), form=options.form or None, scale=scale.numerator if scale.denominator == 1 else scale,
+                      rounded=options.rounded, keep_triangles=options.keep_triangles, repair=options.repair)
+    for wrong in found.wrong:
+        warnings.warn(f'{path}: {wrong}', stacklevel=4)
+    numbers = Numbers(bench)
+    new = numbers.instead_of(found.model)
+    give(bench, numbers.making(renumbered(found.model, new)))
+    return TakenIn([new['solid'][solid] for solid in found.model.solids],
+                   {(kind, new[kind][number]): look for (kind, number), look in found.looks.items()})
