@@ -20,6 +20,7 @@ from gwb.formats.parts import Part
 from gwb.formats.polygon_files import read_parts
 from gwb.formats.step import step_text
 from gwb.geometry.measures import six_volume
+from gwb.programs.names_of_script import Said
 from gwb.protocol.listing import read_model
 from gwb.scripts.inversion import script_of
 
@@ -137,7 +138,7 @@ class RoundTrips(InFiles):
             return
         for form in ('off', 'obj', 'stl', '3mf'):
             if form in ('obj', '3mf') or len(model.solids) == 1:
-                yield form, FORMS[form](mesh)
+                yield form, FORMS[form](mesh, Said())
 
     def test_voids(self):
         points, faces = box((0, 0, 0), (9, 9, 9))
@@ -198,7 +199,7 @@ class Forms(InFiles):
 
     def test_triangles_are_kept(self):
         points, faces = box((0, 0, 0), (4, 4, 4))
-        data = FORMS['off'](mesh_of(model_in(listing(points, faces))))
+        data = FORMS['off'](mesh_of(model_in(listing(points, faces))), Said())
         self.assertEqual((len(self.read(data).faces), len(self.read(data, keep_triangles=True).faces)), (6, 12))
 
     def test_inside_out(self):
@@ -224,7 +225,7 @@ class Touching(InFiles):
         return off(points, faces)
 
     def both(self, data, *sizes):
-        for text in (data, FORMS['stl'](mesh_of(self.read(data)))):
+        for text in (data, FORMS['stl'](mesh_of(self.read(data)), Said())):
             back = self.read(text)
             self.assertEqual(volumes(back), sorted(6 * size for size in sizes))
             self.accepted(back)

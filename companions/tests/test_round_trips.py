@@ -21,6 +21,7 @@ from gwb.geometry.measures import six_volume
 from gwb.geometry.nesting import nests
 from gwb.joining.soup import soup_of
 from gwb.joining.surfaces import surface_of, with_joined_faces
+from gwb.programs.names_of_script import Said
 
 OUTLINES = (((0, 0), (2, 0), (2, 2), (0, 2)), ((0, 0), (4, 1), (1, 3)), ((0, 0), (5, 0), (5, 1), (1, 1), (1, 5), (0, 5)),
             ((1, 0), (3, 0), (4, 2), (3, 4), (1, 4), (0, 2)))
@@ -65,7 +66,7 @@ def files(model):
     yield 'step', model, step_text(model)
     for form, write in FORMS.items():
         for part in [model.only(solid) for solid in model.solids] if form in ('off', 'stl') else [model]:
-            yield form, part, write(mesh_of(part))
+            yield form, part, write(mesh_of(part), Said())
 
 
 def comb(teeth, width, height):

@@ -7,7 +7,7 @@ import zipfile
 from fractions import Fraction
 from pathlib import Path
 
-from support import program
+from support import program, run
 
 from gwb import Refused, Workbench
 from gwb.checks.check import check
@@ -197,6 +197,18 @@ class Unit(unittest.TestCase):
         self.bench.undo()
         for ending in ('.step', '.obj', '.off', '.stl'):
             self.assertNotIn(b'unit 1/6', self.exported(f'part{ending}').read_bytes())
+
+    def test_programs_take_the_unit_of_a_script(self):
+        self.bench.split(self.block, PLANE, scale=True)
+        self.bench.save(self.folder / 'part.gwb')
+        (self.folder / 'part.listing').write_text(''.join(f'{line}\n' for line in self.bench.ask('list').lines))
+        for companion, *words, ending in (('step', '.step'), ('mesh', '--form', '3mf', '.3mf'), ('mesh', '--form', 'obj', '.obj'),
+                                          ('mesh', '--form', 'stl', '.stl'), ('mesh', '.off')):
+            with self.subTest(companion=companion, ending=ending):
+                outcome = run(companion, *words, '--names', str(self.folder / 'part.gwb'), str(self.folder / 'part.listing'))
+                self.assertEqual(outcome.status, 0, outcome.err)
+                written = self.exported(f'part{ending}').read_bytes().decode('utf-8', 'surrogateescape')
+                self.assertEqual(outcome.out, written)
 
     def test_other_forms_are_read_again(self):
         self.bench.split(self.block, PLANE, scale=True)

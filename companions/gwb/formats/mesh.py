@@ -17,7 +17,8 @@ from ..geometry.triangulation import Triangle, face_triangles
 from ..geometry.vectors import Vector, cross, subtract
 from ..programs.command_line import OK, filled_model, listing_parser, run, write_bytes
 from ..programs.inside_out import warn_of_inside_out
-from ..programs.names_of_script import add_names, names_of
+from ..programs.names_of_script import Said, add_names, said_by
+from ..scripts.unit_comments import unit_line
 from .appearance import NO_APPEARANCES, Appearances, Colour, hexadecimal, look_of, unique_names
 from .three_mf import PLAIN, three_mf_bytes
 
@@ -81,7 +82,7 @@ def off_text(mesh: Mesh, unit: Fraction = Fraction(1)) -> str:
 
 
 def _unit_lines(unit: Fraction) -> List[str]:
-    return [] if unit == 1 else [f'# unit {unit}']
+    return [] if unit == 1 else [unit_line(unit)]
 
 
 def _off_lines(mesh: Mesh, unit: Fraction) -> Iterator[str]:
@@ -139,7 +140,7 @@ def stl_text(mesh: Mesh, unit: Fraction = Fraction(1)) -> str:
 def _stl_lines(mesh: Mesh, unit: Fraction) -> Iterator[str]:
     solids = mesh.model.solids
     name = f'solid_{solids[0]}' if len(solids) == 1 else 'gwb'
-    yield f'solid {name}' + ('' if unit == 1 else f' # unit {unit}')
+    yield f'solid {name}' + ('' if unit == 1 else f' {unit_line(unit)}')
     for triangle in (triangle for solid in solids for triangle in mesh.triangles_of(solid)):
         yield from _stl_facet([mesh.model.vertices[vertex] for vertex in triangle])
     yield f'endsolid {name}'
@@ -156,11 +157,11 @@ def _stl_facet(points: Sequence[Vector]) -> Iterator[str]:
     yield 'endfacet'
 
 
-FORMS: Dict[str, Callable[[Mesh], bytes]] = {
-    'off': lambda mesh: off_text(mesh).encode('ascii'),
-    'obj': lambda mesh: obj_text(mesh).encode('utf-8'),
-    'stl': lambda mesh: stl_text(mesh).encode('ascii'),
-    '3mf': three_mf_bytes,
+FORMS: Dict[str, Callable[[Mesh, Said], bytes]] = {
+    'off': lambda mesh, said: off_text(mesh, said.unit).encode('ascii'),
+    'obj': lambda mesh, said: obj_text(mesh, said.looks, unit=said.unit).encode('utf-8'),
+    'stl': lambda mesh, said: stl_text(mesh, said.unit).encode('ascii'),
+    '3mf': lambda mesh, said: three_mf_bytes(mesh, *said),
 }
 
 
@@ -173,25 +174,22 @@ def work(words: Optional[Sequence[str]]) -> int:
     options = parser.parse_args(words)
     if options.materials is not None and options.form != 'obj':
         parser.error('argument --materials: it goes with --form obj')
-    looks = names_of(options)
+    said = said_by(options)
     mesh = mesh_of(filled_model(options))
-    write_bytes(_written(mesh, options, looks))
+    write_bytes(_written(mesh, options, said))
     warn_of_inside_out(PROGRAM, mesh.model)
     if options.form in _WITHOUT_SOLIDS:
         warn_of_touching(mesh.model, options.form)
     return OK
 
 
-def _written(mesh: Mesh, options: argparse.Namespace, looks: Appearances) -> bytes:
+def _written(mesh: Mesh, options: argparse.Namespace, said: Said) -> bytes:
     """The mesh in the form that the words want; the file of materials is written on the way."""
-    if options.form == '3mf':
-        return three_mf_bytes(mesh, looks)
-    if options.form != 'obj':
-        return FORMS[options.form](mesh)
-    if options.materials is not None:
-        with open(options.materials, 'w', encoding='utf-8') as file:
-            file.write(mtl_text(looks))
-    return obj_text(mesh, looks, options.materials and os.path.basename(options.materials)).encode('utf-8')
+    if options.form != 'obj' or options.materials is None:
+        return FORMS[options.form](mesh, said)
+    with open(options.materials, 'w', encoding='utf-8') as file:
+        file.write(mtl_text(said.looks))
+    return obj_text(mesh, said.looks, os.path.basename(options.materials), said.unit).encode('utf-8')
 
 
 def warn_of_touching(model: Model, form: str) -> None:

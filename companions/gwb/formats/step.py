@@ -15,7 +15,7 @@ from ..geometry.shells import shells_of
 from ..geometry.vectors import Vector, negative, reduced, subtract
 from ..programs.command_line import OK, filled_model, listing_parser, run
 from ..programs.inside_out import warn_of_inside_out
-from ..programs.names_of_script import add_names, names_of
+from ..programs.names_of_script import add_names, said_by
 from .appearance import NO_APPEARANCES, Appearances, Colour, look_of, unique_names
 from .step_file import quoted
 
@@ -270,7 +270,7 @@ def work(words: Optional[Sequence[str]]) -> int:
     add_names(parser)
     options = parser.parse_args(words)
     model = filled_model(options)
-    print(step_text(model, names_of(options)), end='')
+    print(step_text(model, *said_by(options)), end='')
     warn_of_inside_out(PROGRAM, model)
     return OK
 

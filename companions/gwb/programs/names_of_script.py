@@ -1,18 +1,31 @@
-"""The word `--names` of programs that write files: a script whose comments say names and colours."""
+"""The word `--names` of programs that write files: a script whose comments say names, colours and the unit."""
 
 import argparse
+from fractions import Fraction
+from typing import NamedTuple
 
 from ..formats.appearance import NO_APPEARANCES, Appearances, appearances_in
+from ..scripts.unit_comments import unit_in
 from .command_line import read_bytes
+
+
+class Said(NamedTuple):
+    """What comments say: the names and colours of solids and faces, and how large a coordinate is."""
+
+    looks: Appearances = NO_APPEARANCES
+    unit: Fraction = Fraction(1)
 
 
 def add_names(parser: argparse.ArgumentParser) -> None:
     """Adds the word."""
-    parser.add_argument('--names', metavar='SCRIPT', help='take names and colours from the comments of a script, as gwb-import writes them')
+    parser.add_argument('--names', metavar='SCRIPT',
+                        help='take names, colours and the unit from the comments of a script, as gwb-import and sessions of Python write them')
 
 
-def names_of(options: argparse.Namespace) -> Appearances:
-    """The names and colours of solids and faces that the script says; none where no script is named."""
+def said_by(options: argparse.Namespace) -> Said:
+    """What the script says; nothing where no script is named. The last unit counts."""
     if options.names is None:
-        return NO_APPEARANCES
-    return appearances_in(read_bytes(options.names).decode('utf-8', 'replace').splitlines())
+        return Said()
+    data = read_bytes(options.names)
+    units = [unit for unit in map(unit_in, data.split(b'\n')) if unit is not None]
+    return Said(appearances_in(data.decode('utf-8', 'replace').splitlines()), units[-1] if units else Fraction(1))

@@ -12,7 +12,8 @@ from .solid_methods import SolidMethods
 
 
 class Measuring(SolidMethods):
-    """Exact measures, each of the part that it names. Where a face of that isn't flat they raise Unfit."""
+    """Exact measures, each of the part that it names, in coordinates as they are: a length times `unit`, an area times its square and a volume times
+    its cube is in the unit that the session began with. Where a face isn't flat they raise Unfit."""
 
     def bounding_box(self, solid: arguments.Solid) -> solid_measures.BoundingBox:
         """The least box with sides along the axes around the solid. Refused: NoSolid."""

@@ -1,16 +1,13 @@
-"""How a saved script says which commands are one step to undo, and the unit: by comments, which gwb reads in silence.
-
-`# unit 1/6` says how large a coordinate is after what stands before it, in the unit that the session began with.
-"""
+"""How a saved script says which commands are one step to undo, and the unit: by comments, which gwb reads in silence."""
 
 import re
 from fractions import Fraction
 from typing import Iterator, List, NamedTuple, Optional, Sequence
 
+from ..scripts.unit_comments import unit_line
 from .journal import Done, Journal
 
 _MARK = re.compile(rb'# (step|draft) of ([1-9][0-9]{0,8}) commands')
-_UNIT = re.compile(rb'# unit ([1-9][0-9]{0,99}(?:/[1-9][0-9]{0,99})?)')
 
 
 class Mark(NamedTuple):
@@ -27,12 +24,6 @@ def mark_in(line: bytes) -> Optional[Mark]:
     """The mark that a line is; None where it is none."""
     found = _MARK.fullmatch(line.rstrip(b'\r'))
     return Mark(found[1].decode(), int(found[2])) if found else None
-
-
-def unit_in(line: bytes) -> Optional[Fraction]:
-    """The unit that a line says; None where it says none."""
-    found = _UNIT.fullmatch(line.rstrip(b'\r'))
-    return Fraction(found[1].decode()) if found else None
 
 
 def saved_lines(journal: Journal) -> Iterator[str]:
@@ -59,7 +50,7 @@ def _lines_of(done: Done) -> Iterator[str]:
 
 def _unit_lines(before: Fraction, after: Fraction) -> Iterator[str]:
     if before != after:
-        yield f'# unit {after}'
+        yield unit_line(after)
 
 
 def _steps(held: Sequence[Done]) -> Iterator[List[Done]]:

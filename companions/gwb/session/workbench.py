@@ -25,10 +25,11 @@ from ..protocol.language import is_answered
 from ..protocol.listing import read_model
 from ..protocol.replies import Reply, is_listed
 from ..scripts.inversion import script_of
+from ..scripts.unit_comments import unit_in
 from . import arguments
 from .calls import call_in
 from .exporting import Exporting
-from .saved_steps import mark_in, saved_lines, unit_in
+from .saved_steps import mark_in, saved_lines
 
 # The endings and the first words of files that gwb-import reads.
 _IMPORTED = ('.obj', '.off', '.stl', '.3mf', '.amf', '.ply', '.step', '.stp')
