@@ -192,9 +192,9 @@ class Forms(InFiles):
         data = off([(0, 0, 0), (0.5, 0, 0), (0, 0.5, 0), (0, 0, '5e-1')], SIDES)
         self.refuse('not whole', data)
         self.assertEqual(volumes(self.read(data, scale=Fraction(2))), [1])
-        outcome = run('importing', '--scale', '3', '--round', self.file(data))
+        outcome = run('import', '--scale', '3', '--round', self.file(data))
         self.assertEqual((outcome.status, outcome.err), (0, 'gwb-import: points were moved by 0.5 at most\n'))
-        self.assertEqual(run('importing', '--scale', '0', self.file(data)).status, 2)
+        self.assertEqual(run('import', '--scale', '0', self.file(data)).status, 2)
         self.refuse('past 1,000,000,000', data, scale=Fraction(10 ** 10))
 
     def test_triangles_are_kept(self):
@@ -338,17 +338,17 @@ class Refused(InFiles):
             self.assertEqual(len(set(kinds)), 14, form)
             for place, data in enumerate(kinds):
                 with self.subTest(f'{form} {place}'):
-                    outcome = run('importing', '--form', form.split()[-1], self.file(data))
+                    outcome = run('import', '--form', form.split()[-1], self.file(data))
                     self.assertEqual((outcome.status, outcome.out, outcome.err.count('\n')), (3, '', 1), outcome.err)
                     self.assertTrue(outcome.err.startswith('gwb-import: ') and 'Traceback' not in outcome.err)
 
     def test_numbers_past_those_of_floats(self):
         for places in ((0.5, '1e999', 0), ('1e999', 0, 0)):
-            outcome = run('importing', '--form', 'off', self.file(off([places, *TETRAHEDRON[1:]], SIDES)))
+            outcome = run('import', '--form', 'off', self.file(off([places, *TETRAHEDRON[1:]], SIDES)))
             self.assertEqual((outcome.status, outcome.out, outcome.err.count('\n')), (3, '', 1), outcome.err)
 
     def test_files_that_are_not_there(self):
-        outcome = run('importing', '/nowhere/part.off')
+        outcome = run('import', '/nowhere/part.off')
         self.assertEqual((outcome.status, outcome.out), (3, ''))
 
     def test_parts_without_faces(self):
