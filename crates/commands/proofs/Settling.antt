@@ -1,6 +1,7 @@
 -- How a command that was settled ended.
 use Rattle.std.proofs.Common.{◌≡◌, inl, inr, Option, Some, None, Ok, Err, refl, sym, ap, ◌∙◌, OnOk, OnErr}
 use Rattle.std.specs.Prelude.{◌≢◌, ◌⊎◌, ◌↔◌, Result, Bool, true, false}
+use Rattle.std.specs.declared.alloc.AllocError.{AllocError}
 use Rattle.euler_operators.specs.declared.Refusal.{Refusal}
 use Rattle.undo_journal.specs.declared.session.Failure.{Failure}
 use Rattle.undo_journal.specs.declared.session.Failure.TheVariants as failure
@@ -27,6 +28,9 @@ ended o L S G (told.Steps n) h = absurd h
 pub not_done : (r : Refusal) → Refused r ≢ Done
 not_done r e = cc
 
+not_memory : (r : Refusal) → Refused r ≢ Memory
+not_memory r e = cc
+
 pub memory_not_done : Memory ≢ Done
 memory_not_done e = cc
 
@@ -49,13 +53,16 @@ settled o L S G (Ok _) ok named lacks err = ok
 settled o L S G (Err (failure.Refused q)) ok named lacks err = (named q refl, err)
 settled o L S G (Err (failure.Memory e)) ok named lacks err = (lacks refl, err)
 
+-- a command that ends for want of memory only where no condition is false is told so only there
+pub lacks_where_ended : (o : Option Refusal) (r : Result (Unit {0}) Failure) → ((e : AllocError) → r ≡ Err (failure.Memory e) → o ≡ None) → told_of r ≡ Memory → o ≡ None
+lacks_where_ended o (Ok _) early is = absurd (memory_not_done (sym is))
+lacks_where_ended o (Err (failure.Refused q)) early is = absurd (not_memory q is)
+lacks_where_ended o (Err (failure.Memory e)) early is = early e refl
+
 -- a command that is refused exactly where a condition is false lacks memory only where none is
 pub lacks_where_accepted : (o : Option Refusal) (r : Result (Unit {0}) Failure) → ((q : Refusal) → (r ≡ Err (failure.Refused q)) ↔ (o ≡ Some q)) → told_of r ≡ Memory → o ≡ None
 lacks_where_accepted None r iff is = refl
 lacks_where_accepted (Some q) r iff is = absurd (not_memory q (sym (ap told_of ((iff q).1 refl)) ∙ is))
-  where
-    not_memory : (q : Refusal) → Refused q ≢ Memory
-    not_memory q e = cc
 
 -- and its refusal names that condition
 pub named : (o : Option Refusal) (r : Result (Unit {0}) Failure) → ((q : Refusal) → (r ≡ Err (failure.Refused q)) ↔ (o ≡ Some q)) → (q : Refusal) → r ≡ Err (failure.Refused q) → o ≡ Some q

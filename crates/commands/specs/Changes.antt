@@ -9,6 +9,8 @@ use Rattle.shapes.specs.Block.{block_refusal, block_model}
 use Rattle.shapes.specs.Prism.{prism_refusal, prism_model}
 use Rattle.shapes.specs.glue.Glue.{glue_refusal, glue_model}
 use Rattle.shapes.specs.split.Split.{split_refusal, split_model}
+use Rattle.gluing.specs.glue_checks.Conditions as gluing
+use Rattle.split_checks.specs.begin_checks.Conditions as splitting
 use Rattle.plane_split.specs.Machine.{plane_with}
 use Rattle.commands.specs.declared.command.Change.{Change}
 use Rattle.commands.specs.declared.command.Change.TheVariants as change
@@ -31,8 +33,12 @@ made M (change.Sweep f d) = prism_model M f d
 made M (change.Glue f g) = glue_model M f g
 made M (change.Split n x y z w m) = split_model M n (plane_with x y z w) m
 
--- memory may be refused to it: to a change whose conditions are tested without memory only where they hold
+-- the first that is false of those that are tested before memory is asked for: of a glue and a split these are the first ones, else all
+abbrev pub early_refusal_of : Model → Change → Option Refusal
+early_refusal_of M (change.Glue f g) = gluing.early_refusal M f g
+early_refusal_of M (change.Split n x y z w m) = splitting.early_refusal M n (plane_with x y z w) m
+early_refusal_of M c = refusal_of M c
+
+-- so memory may be refused to it where none of them is
 abbrev pub MayLack : Model → Change → Type 0
-MayLack M (change.Glue f g) = Unit {0}
-MayLack M (change.Split n x y z w m) = Unit {0}
-MayLack M c = refusal_of M c ≡ None
+MayLack M c = early_refusal_of M c ≡ None

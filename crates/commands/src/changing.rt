@@ -61,6 +61,7 @@ fn make_split(
     ensures ok { OnOk result.1 ((refusal_of (held session.machine) (change.Split solid a b c d above) ≡ None) × (result.0.machine ≡ accepted session.machine (made (held session.machine) (change.Split solid a b c d above)))) }
     ensures recorded { OnOk result.1 (IsRecorded session result.0) }
     ensures refused { (refusal : Refusal) → (result.1 ≡ Err (Failure.Refused refusal)) → (refusal_of (held session.machine) (change.Split solid a b c d above) ≡ Some refusal) }
+    ensures memory { (told_of result.1 ≡ Told.Memory) → MayLack (held session.machine) (change.Split solid a b c d above) }
     ensures err { OnErr result.1 (result.0 ≡ session) }
 {
     split(alloc, session, solid, a, b, c, d, above)

@@ -45,6 +45,7 @@ fn make_split(
 ) -> Result<(), Failure>
     ensures ok { OnOk result ((refusal_of draft.old.model (change.Split solid a b c d above) ≡ None) × (draft.new.model ≡ made draft.old.model (change.Split solid a b c d above))) }
     ensures refused { (refusal : Refusal) → (result ≡ Err (Failure.Refused refusal)) → (refusal_of draft.old.model (change.Split solid a b c d above) ≡ Some refusal) }
+    ensures memory { (told_of result ≡ Told.Memory) → MayLack draft.old.model (change.Split solid a b c d above) }
     ensures further { IsFurther draft.old draft.new }
     ensures err { OnErr result (draft.new ≡ draft.old) }
 {

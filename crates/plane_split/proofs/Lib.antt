@@ -1,7 +1,7 @@
 mod Conditions
 mod SplitModels
 mod Parted
-mod Planes
+pub mod Planes
 pub use Rattle.split_laws.proofs.Openings
 pub use Rattle.split_laws.proofs.Whole
 pub use Rattle.split_laws.proofs.drawn.Drawn

@@ -1,5 +1,6 @@
 //! The split of a solid by a plane, as one command.
 ghost use Rattle.std.specs.Prelude.{◌≡◌, None, Some, Err, IfOk, OnOk, OnErr};
+ghost use Rattle.std.specs.declared.alloc.AllocError.{AllocError};
 ghost use Rattle.euler_operators.specs.declared.Refusal.{Refusal};
 ghost use Rattle.euler_conditions.specs.Ready.{IsReady};
 ghost use Rattle.euler_operators.specs.Sound.{Sound};
@@ -8,6 +9,7 @@ ghost use Rattle.undo_journal.specs.Journal.{IsRecorded, IsFurther};
 ghost use Rattle.shapes.specs.split.Split as spec;
 ghost use Rattle.shapes.specs.split.Split.{split_model};
 ghost use Rattle.plane_split.specs.Machine.{plane_with, split, split_refusal};
+ghost use Rattle.split_checks.specs.begin_checks.Conditions.{early_refusal};
 ghost use Rattle.split_drawing.specs.Cuts.{AreCuts};
 ghost use Rattle.split_drawing.specs.Noted.{AreSides};
 ghost use Rattle.split_drawing_laws.specs.crossings.Laws.{CanBegin};
@@ -46,6 +48,7 @@ fn admit(
     ensures cuts { IfOk result (λ cuts. AreCuts arena.now.model plane.now s cuts) }
     ensures sides { AreSides arena.now.model plane.now sides.new }
     ensures refused { (refusal : Refusal) → (result ≡ Err (Failure.Refused refusal)) → (spec.split_refusal arena.now.model s plane.now upper ≡ Some refusal) }
+    ensures memory { (error : AllocError) → (result ≡ Err (Failure.Memory error)) → (early_refusal arena.now.model s plane.now upper ≡ None) }
 {
     match check_begin(alloc, arena, s, plane, upper, sides) {
         Ok(Ok(cuts)) => Ok(cuts),
@@ -68,6 +71,7 @@ pub fn split_in(
 ) -> Result<(), Failure>
     ensures ok { OnOk result ((spec.split_refusal draft.old.model s (plane_with a b c d) upper ≡ None) × (draft.new.model ≡ split_model draft.old.model s (plane_with a b c d) upper)) }
     ensures refused { (refusal : Refusal) → (result ≡ Err (Failure.Refused refusal)) → (spec.split_refusal draft.old.model s (plane_with a b c d) upper ≡ Some refusal) }
+    ensures memory { (error : AllocError) → (result ≡ Err (Failure.Memory error)) → (early_refusal draft.old.model s (plane_with a b c d) upper ≡ None) }
     ensures further { IsFurther draft.old draft.new }
     ensures err { OnErr result (draft.new ≡ draft.old) }
 {
@@ -95,9 +99,9 @@ pub fn split_in(
 /// 4 or 5 where no numbers are left for the faces, loops, edges or vertices that cutting the edges and the faces takes. And once that is
 /// done: CutCrossed with the first face between whose cut places edges can't be drawn; BranchedVertex with the least vertex at which
 /// more than two edges of the section meet; SectionHoles with s where one of its cycles is a hole and not exactly one is outer;
-/// NumbersSpent with 2, 3, 4 or 5 where no numbers are left for closing the two. The tests take memory, and so do the steps: where it is
-/// refused `Memory` is answered, also in place of a refusal. On any failure the session is as it was. An accepted split leaves one
-/// record. What holds after Ok of volumes and sides is said by `splits_are_held`.
+/// NumbersSpent with 2, 3, 4 or 5 where no numbers are left for closing the two. The tests from PlaneMisses on take memory, and so do the
+/// steps: where it is refused `Memory` is answered, also in place of a refusal from PlaneMisses on. On any failure the session is as it
+/// was. An accepted split leaves one record. What holds after Ok of volumes and sides is said by `splits_are_held`.
 ///
 /// The operators are those of M. Mäntylä, *An Introduction to Solid Modeling* (1988): one for each edge that crosses the plane, one for
 /// each pair of cut places of a face and one for each ring that goes with a new face; 3 n + 1 for each cycle of n edges, which cut
@@ -117,6 +121,7 @@ pub fn split(
     ensures ok { OnOk result.1 ((split_refusal session.machine s (plane_with a b c d) upper ≡ None) × (result.0.machine ≡ split session.machine s (plane_with a b c d) upper)) }
     ensures recorded { OnOk result.1 (IsRecorded session result.0) }
     ensures refused { (refusal : Refusal) → (result.1 ≡ Err (Failure.Refused refusal)) → (split_refusal session.machine s (plane_with a b c d) upper ≡ Some refusal) }
+    ensures memory { (error : AllocError) → (result.1 ≡ Err (Failure.Memory error)) → (early_refusal (held session.machine) s (plane_with a b c d) upper ≡ None) }
     ensures err { OnErr result.1 (result.0 ≡ session) }
 {
     let plane = plane_of(a, b, c, d);

@@ -1,7 +1,7 @@
 use Rattle.std.proofs.Common.{sym, ap, ◌∙◌}
 use Rattle.shapes.specs.Lamina.{lamina_refusal}
 use Rattle.undo_journal.specs.Machine.{held}
-use Rattle.commands.proofs.Settling.{named, lacks_where_accepted}
+use Rattle.commands.proofs.Settling.{named, lacks_where_accepted, lacks_where_ended}
 use Rattle.commands.proofs.changing.change.Goals as goal
 
 pub returns-in-Lamina-clause-refused : goal.returns-in-Lamina-clause-refused
@@ -17,3 +17,6 @@ returns-in-Sweep-clause-refused c = rw c.in-Sweep.is (named _ _ c.sweep.ensures.
 
 pub returns-in-Sweep-clause-memory : goal.returns-in-Sweep-clause-memory
 returns-in-Sweep-clause-memory c = rw c.in-Sweep.is (lacks_where_accepted _ _ c.sweep.ensures.refused)
+
+pub returns-in-Glue-clause-memory : goal.returns-in-Glue-clause-memory
+returns-in-Glue-clause-memory c = rw c.in-Glue.is (lacks_where_ended _ _ c.glue.ensures.memory)

@@ -1,6 +1,6 @@
 use Rattle.std.proofs.Common.{sym, ap, ◌∙◌}
 use Rattle.shapes.specs.Lamina.{lamina_refusal}
-use Rattle.commands.proofs.Settling.{named, lacks_where_accepted}
+use Rattle.commands.proofs.Settling.{named, lacks_where_accepted, lacks_where_ended}
 use Rattle.commands.proofs.drafting.change_in.Goals as goal
 
 pub returns-in-Act-clause-refused : goal.returns-in-Act-clause-refused
@@ -22,3 +22,6 @@ returns-in-Sweep-clause-refused c = rw c.in-Sweep.is (named _ _ c.sweep_in.ensur
 
 pub returns-in-Sweep-clause-memory : goal.returns-in-Sweep-clause-memory
 returns-in-Sweep-clause-memory c = rw c.in-Sweep.is (lacks_where_accepted _ _ c.sweep_in.ensures.refused)
+
+pub returns-in-Glue-clause-memory : goal.returns-in-Glue-clause-memory
+returns-in-Glue-clause-memory c = rw c.in-Glue.is (lacks_where_ended _ _ c.glue_in.ensures.memory)

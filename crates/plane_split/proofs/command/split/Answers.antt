@@ -3,6 +3,8 @@ use Rattle.undo_journal.specs.declared.session.Failure.TheVariants as failure
 use Rattle.undo_journal.specs.Machine.{accepted}
 use Rattle.undo_journal.specs.Journal.{Journal, DraftJournal}
 use Rattle.shapes.specs.split.Split.{split_refusal, split_model}
+use Rattle.split_checks.specs.begin_checks.Conditions.{early_refusal}
+use Rattle.split_checks.proofs.begin_checks_laws.Stages.{none_early}
 use Rattle.plane_split.proofs.Conditions.{same_failure}
 use Rattle.plane_split.proofs.Planes.{plane_is}
 use Rattle.plane_split.proofs.command.split.Goals as goal
@@ -33,3 +35,15 @@ returns-clause-refused c = λ refusal is.
     c.plane_of-plane.ensures ∙ plane_is c.args.a c.args.b c.args.c c.args.d c.ranges.a c.ranges.b c.ranges.c c.ranges.d in
     sym (λ i. split_refusal (c.in-Ok-open.ensures.ok i).model c.args.s (plane i) c.args.upper)
     ∙ c.in-Err-try_split.ensures.refused refusal (same_failure c.in-Err-try_split.failure (failure.Refused refusal) is)
+
+pub returns-in-Err-open-clause-memory : goal.returns-in-Err-open-clause-memory
+returns-in-Err-open-clause-memory c = λ error is.
+    let plane : c.plane_of-plane.result ≡ record { a = c.args.a; b = c.args.b; c = c.args.c; d = c.args.d } =
+    c.plane_of-plane.ensures ∙ plane_is c.args.a c.args.b c.args.c c.args.d c.ranges.a c.ranges.b c.ranges.c c.ranges.d in
+    sym (λ i. early_refusal (c.arena.ensures.model i) c.args.s (plane i) c.args.upper) ∙ none_early c.arena.result.now.model c.args.s c.plane_of-plane.result c.args.upper c.in-Ok.ensures.ok
+
+pub returns-clause-memory : goal.returns-clause-memory
+returns-clause-memory c = λ error is.
+    let plane : c.plane_of-plane.result ≡ record { a = c.args.a; b = c.args.b; c = c.args.c; d = c.args.d } =
+    c.plane_of-plane.ensures ∙ plane_is c.args.a c.args.b c.args.c c.args.d c.ranges.a c.ranges.b c.ranges.c c.ranges.d in
+    sym (λ i. early_refusal (c.arena.ensures.model i) c.args.s (plane i) c.args.upper) ∙ none_early c.arena.result.now.model c.args.s c.plane_of-plane.result c.args.upper c.in-Ok.ensures.ok
