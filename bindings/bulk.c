@@ -1,7 +1,7 @@
 /* The model at once, by the readers. */
-#include "gwb.h"
+#include "walks.h"
 
-enum { GREATEST_NUMBER = 1000000, FEW = 64 };
+enum { FEW = 64 };
 
 /* What is written, and where: how many rows there are, as many of them written as there is room for. */
 struct writing {
@@ -12,9 +12,8 @@ struct writing {
 
 static void write_half_edge(struct writing *w, uint32_t half_edge, uint32_t next, uint32_t loop, uint32_t face)
 {
-    gwb_edge_row ends = {0, 0};
-    if (w->count < w->room && gwb_edge(w->g, half_edge / 2, &ends) == GWB_FOUND)
-        w->rows[w->count] = (gwb_half_edge_row){half_edge, half_edge % 2 == 0 ? ends.from : ends.to, next, loop, face};
+    if (w->count < w->room)
+        w->rows[w->count] = (gwb_half_edge_row){half_edge, start_of(w->g, half_edge), next, loop, face};
     w->count++;
 }
 
@@ -57,11 +56,6 @@ static void write_face(struct writing *w, uint32_t face)
     write_loop(w, row.outer_loop, face);
     for (uint32_t ring = 0; gwb_ring_after(w->g, face, ring, &ring) == GWB_FOUND;)
         write_loop(w, ring, face);
-}
-
-static uint32_t next_face(const gwb *g, uint32_t solid, uint32_t face, uint32_t *next)
-{
-    return solid == 0 ? gwb_number_after(g, GWB_FACE, face, next) : gwb_face_after(g, solid, face, next);
 }
 
 size_t gwb_read_half_edges(const gwb *g, uint32_t solid, gwb_half_edge_row *rows, size_t room)

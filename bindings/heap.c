@@ -1,17 +1,9 @@
 /* The heap that the archive asks for: that of the C library, or the one that a thread uses. Whoever has a heap for the whole program writes
  * the three functions rattle_* over it: one allocator for all three, blocks aligned to each power of two up to 16 that divides their size.
- * Where there is no memory, `ok` is false and `at` points to any byte. */
+ * */
+#include "heap.h"
 #include "gwb.h"
 #include <stdlib.h>
-
-struct tried {
-    bool ok;
-    void *at;
-};
-
-struct tried rattle_alloc(size_t size, size_t align);
-struct tried rattle_realloc(void *at, size_t kept, size_t size, size_t align);
-void rattle_dealloc(void *at);
 
 /* What lies before each block: the heap that it came from. The block after it is aligned as this is. */
 union head {

@@ -141,6 +141,8 @@ built 'threads in C++ are built' library_sharing.cpp "${CXX:-c++}" -std=c++17 -p
 counted 'threads that walk at once' "$dir/built/library_sharing"
 built 'heaps are built' library_heap.c "${CC:-cc}" -std=gnu11 -O2
 counted 'heaps of sessions' "$dir/built/library_heap"
+built 'loading is built' library_load.c "${CC:-cc}" -std=gnu11 -O2
+counted 'models loaded of their listings' "$dir/built/library_load"
 prints 'the example in Python' bindings/examples/block_python.expected bindings/examples/block.py "$dir/built/libgwb.so"
 if has rustc 'the crate and the example in Rust are built' 'the example in Rust' 'the tests in Rust, session' 'the tests in Rust, features'; then
     tried 'the crate and the example in Rust are built' make_here rust

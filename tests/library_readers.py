@@ -1,5 +1,6 @@
 #!/usr/bin/env python3
-"""Writes models out by the readers of the library alone, and compares that with their listings.
+"""Writes models out by the readers of the library alone, and compares that with their listings; cuts their faces into triangles; and makes
+them of their listings.
 
     tests/library_readers.py LIBRARY [LINES]       LINES is 20000 where it isn't given
 
@@ -9,10 +10,11 @@ import ctypes
 import sys
 
 from counts import there
-from library_session import NO_TEXT, Handle, Session, loaded
+from library_session import NO_TEXT, Handle, Refusal, Session, loaded
 from random_lines import Lines
 
 ABSENT, FOUND, CLOSED = 0, 1, 9
+OK, REFUSED = 1, 2
 SOLID, FACE, LOOP, EDGE, VERTEX = range(5)
 SEED = 21
 U32, I64 = ctypes.c_uint32, ctypes.c_int64
@@ -33,6 +35,12 @@ class VertexRow(ctypes.Structure):
     """A vertex among all, and where it lies."""
 
     _fields_ = [('vertex', U32), ('x', I64), ('y', I64), ('z', I64)]
+
+
+class TriangleRow(ctypes.Structure):
+    """A triangle of a face, by its vertices."""
+
+    _fields_ = [('face', U32), ('corners', U32 * 3)]
 
 
 def from_least(ring):
@@ -56,6 +64,9 @@ class Readers:
         for function, takes in ((self.cycle, [U32]), (self.rows, [U32]), (self.points, [])):
             function.restype, function.argtypes = ctypes.c_size_t, [ctypes.POINTER(Handle), *takes, ctypes.c_void_p, ctypes.c_size_t]
         self.greatest.restype, self.greatest.argtypes = ctypes.c_size_t, [ctypes.POINTER(Handle), U32]
+        self.triangles, self.of_face = library.gwb_read_triangles, library.gwb_face_triangles
+        for function in (self.triangles, self.of_face):
+            function.restype, function.argtypes = ctypes.c_size_t, [ctypes.POINTER(Handle), U32, ctypes.c_void_p, ctypes.c_size_t]
 
     def lent(self):
         """A copy of the handle, as the header's readers make it."""
@@ -171,6 +182,32 @@ class Readers:
         found = [self.greatest(self.session.handle, entity) for entity in range(5)]
         return None if found == greatest else 'greatest numbers %r, not %r' % (found, greatest)
 
+    def wrong_triangles(self):
+        """What is wrong with the triangles of the faces, or None: those of a face are as many as it has corners, but 2, and 2 more for each
+        ring, and what they go round is what the face does."""
+        told = []
+        for face in self.rising('number_after', FACE):
+            rows = list(self.all_rows(self.of_face, TriangleRow, face))
+            told += rows
+            loops = [loop for loop in (self.half_edges(loop) for loop in [self.ask('face', face)[1], *self.rising('ring_after', face)]) if loop]
+            around = [sum(column) for column in zip(*(self.across(row.corners) for row in rows))]
+            if rows and (len(rows) != sum(map(len, loops)) + 2 * len(loops) - 4 or around != self.plane(face)):
+                return 'triangles of face %d: %r' % (face, [tuple(row.corners) for row in rows])
+        found = [(row.face, *row.corners) for row in self.all_rows(self.triangles, TriangleRow, 0)]
+        return None if found == [(row.face, *row.corners) for row in told] else 'triangles: %r' % found
+
+    def across(self, corners):
+        """The vector across a triangle, as long as twice its area."""
+        p, q, r = (self.ask('vertex', corner) for corner in corners)
+        u, v = [b - a for a, b in zip(p, q)], [b - a for a, b in zip(p, r)]
+        return [u[1] * v[2] - u[2] * v[1], u[2] * v[0] - u[0] * v[2], u[0] * v[1] - u[1] * v[0]]
+
+    def plane(self, face):
+        """The vector across a face, where it is flat."""
+        self.session.line(b'plane %d' % face)
+        *numbers, flat = self.session.text().split()[1:]
+        return [int(number) for number in numbers[:3]] if flat == b'flat' else None
+
     def all_rows(self, function, kind, *first):
         """The rows that a function writes; with too little room the first of them, and nothing behind the room."""
         count = function(self.session.handle, *first, (kind * 1)(), 0)
@@ -187,6 +224,22 @@ class Readers:
                     yield half, self.ask('edge', half // 2)[half % 2], self.ask('next_half_edge', half)[0], loop, face
 
 
+def wrong_loading(session, listing):
+    """What is wrong with a model that is made of a listing, or None: it has that listing, as one command; beside itself it is refused."""
+    library, refusal = session.library, Refusal()
+    other = Session(library)
+    assert other.open()
+    library.gwb_load.argtypes = [ctypes.POINTER(Handle), ctypes.c_char_p, ctypes.c_size_t, ctypes.POINTER(Refusal)]
+    kind = library.gwb_load(other.handle, listing, len(listing), refusal)
+    other.line(b'list')
+    text, depths = other.text(), other.depths()
+    again = library.gwb_load(other.handle, listing, len(listing), refusal)
+    is_well = kind == OK and text == listing and depths == (1, 0)
+    is_well = is_well and (again, other.depths()) == ((OK, (2, 0)) if listing == b'empty\n' else (REFUSED, (1, 0)))
+    other.close()
+    return None if is_well else 'loaded: %d, %r, %r, then %d' % (kind, text[:300], depths, again)
+
+
 def complaint(session, readers):
     """What is wrong with the readers of the model held, or None."""
     session.line(b'list')
@@ -196,7 +249,7 @@ def complaint(session, readers):
         return '%r, not %r' % (got[:300], wanted[:300])
     if not readers.faces_of_solids():
         return 'other faces of a solid: %r' % wanted[:300]
-    why = readers.wrong_neighbours() or readers.wrong_rows()
+    why = readers.wrong_neighbours() or readers.wrong_rows() or readers.wrong_triangles() or wrong_loading(session, wanted)
     if why:
         return '%s in %r' % (why, wanted[:300])
     absent = [readers.ask(name, *[999999] * takes) for name, (takes, _) in READERS.items()]
@@ -213,8 +266,8 @@ def closed(session, readers):
             return 'gwb_lent_%s of a closed handle' % name
     written = NUMBER(77)
     many = [readers.cycle(session.handle, 1, written, 1), readers.rows(session.handle, 0, written, 1), readers.points(session.handle, written, 1),
-            readers.greatest(session.handle, FACE)]
-    return 'all at once of a closed handle: %r' % many if many != [NO_TEXT] * 4 or set(written) != {77} else None
+            readers.greatest(session.handle, FACE), readers.triangles(session.handle, 0, written, 1), readers.of_face(session.handle, 1, written, 1)]
+    return 'all at once of a closed handle: %r' % many if many != [NO_TEXT] * 6 or set(written) != {77} else None
 
 
 def main():

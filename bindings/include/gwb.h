@@ -532,6 +532,32 @@ size_t gwb_read_half_edges(const gwb *g, uint32_t solid, gwb_half_edge_row *rows
  * @return how many there are: SIZE_MAX where the handle is closed; then nothing is written. */
 size_t gwb_read_vertices(const gwb *g, gwb_vertex_row *rows, size_t room);
 
+/** A triangle of a face. */
+typedef struct gwb_triangle_row {
+    uint32_t face;
+    uint32_t corners[3]; /**< vertices, counterclockwise as seen from outside */
+} gwb_triangle_row;
+
+/** Cuts the faces of a solid, of all for solid 0, into triangles, by exact tests, and writes these as far as there is room in `rows`, faces
+ * rising. Their corners are vertices of the face alone, so faces that share an edge have triangles that share it. A face that is bent, or
+ * whose loops cross or touch, has none. It takes time by the square of a face's edges. A reader.
+ * @return how many there are, which is below the half-edges and twice the rings: SIZE_MAX where memory is refused or the handle is closed */
+size_t gwb_read_triangles(const gwb *g, uint32_t solid, gwb_triangle_row *rows, size_t room);
+
+/** The same of one face: 0 also where it is not there. */
+size_t gwb_face_triangles(const gwb *g, uint32_t face, gwb_triangle_row *rows, size_t room);
+
+/** Makes the model of a listing (docs/SCRIPT.md, as `list` writes it) beside what is held, with its numbers: one command, or steps of the
+ * draft that is open. It needs some numbers more on the way.
+ * @return GWB_OK; GWB_REFUSED, where a number is in use or none is free: the refusal is written; GWB_MEMORY; GWB_NO_CALL, where it is no
+ * listing of a sound model; GWB_CLOSED. But for GWB_OK nothing has changed except for the last answer. */
+enum gwb_kind gwb_load(gwb *g, const char *listing, size_t n, gwb_refusal *refusal);
+
+/** Gives the lines of a script one after another, up to the first whose answer is none that was asked for (gwb_succeeded).
+ * @param line how many lines were given
+ * @return the kind of the last one's answer: GWB_SILENT where there was none */
+enum gwb_kind gwb_lines(gwb *g, const char *script, size_t n, size_t *line);
+
 /** The greatest number of a kind (enum gwb_entity) in use, so that the one above it is free: 0 where none is. SIZE_MAX where the handle is
  * closed. A reader. */
 size_t gwb_greatest_number(const gwb *g, uint32_t entity);

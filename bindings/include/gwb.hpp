@@ -476,6 +476,31 @@ public:
             add(live());
     }
 
+    /// The greatest numbers in use, by kinds.
+    using Greatest = std::array<std::uint32_t, 5>;
+    [[nodiscard]] Greatest greatest() const
+    {
+        Greatest numbers{};
+        for (std::uint32_t kind = 0; kind < numbers.size(); kind++)
+            numbers[kind] = static_cast<std::uint32_t>(gwb_greatest_number(&handle, kind));
+        return numbers;
+    }
+
+    /// After many commands that were one, or steps of the draft that is open, where these were the greatest numbers before.
+    void follow_all(const Greatest &before)
+    {
+        const Greatest now = greatest();
+        Ranges made{};
+        for (std::uint32_t kind = GWB_FACE; kind < made.size(); kind++)
+            if (gwb_number_after(&handle, kind, before[kind], &made[kind].first) == GWB_FOUND)
+                made[kind].last = now[kind];
+        changes++;
+        kept_ = made;
+        is_kept_ = true;
+        if (is_drafting_)
+            add(made);
+    }
+
     /// After a draft was opened: its number.
     std::uint64_t begin_draft()
     {
@@ -1182,7 +1207,49 @@ public:
         return rows<gwb_vertex_row>([&](gwb_vertex_row *at, std::size_t room) { return gwb_read_vertices(seen(), at, room); });
     }
 
+    /// The triangles of a solid, of all where none is given, as gwb_read_triangles writes them: a face that is bent, or whose loops cross or
+    /// touch, has none.
+    [[nodiscard]] Returned<std::vector<gwb_triangle_row>> triangle_rows(Solid solid = Solid()) const
+    {
+        return triangles([&](gwb_triangle_row *at, std::size_t room) { return gwb_read_triangles(seen(), solid.number(), at, room); });
+    }
+    /// Those of one face.
+    [[nodiscard]] Returned<std::vector<gwb_triangle_row>> triangle_rows(Face face) const
+    {
+        return triangles([&](gwb_triangle_row *at, std::size_t room) { return gwb_face_triangles(seen(), face.number(), at, room); });
+    }
+
     // Text.
+
+    /// Makes the model of a listing beside what is held, with its numbers: as one command, or as steps of the draft that is open. NoCall where
+    /// it is no listing of a sound model.
+    Returned<void> load(std::string_view listing)
+    {
+        if (state_ == nullptr)
+            return Policy::template failed<void>("load", {Problem::closed});
+        gwb_refusal refusal{};
+        const State::Greatest before = state_->greatest();
+        const gwb_kind kind = gwb_load(held(), listing.empty() ? "" : listing.data(), listing.size(), &refusal);
+        if (kind == GWB_OK) {
+            state_->follow_all(before);
+            return Returned<void>();
+        }
+        const Failure refused{Problem::refused, refusal.number, refusal.value};
+        return Policy::template failed<void>("load", kind == GWB_REFUSED ? refused : failure(kind));
+    }
+
+    /// Gives the lines of a script one after another, up to the first that is not accepted: how many were given.
+    Returned<std::size_t> run_lines(std::string_view script)
+    {
+        std::size_t given = 0;
+        for (; !script.empty(); given++) {
+            const std::size_t end = std::min(script.find('\n'), script.size());
+            if (Result<gwb_kind> answer = attempt().run(script.substr(0, end)); !answer)
+                return Policy::template failed<std::size_t>(script.substr(0, end), answer.error());
+            script.remove_prefix(std::min(end + 1, script.size()));
+        }
+        return given;
+    }
 
     /// Gives one line of the script language, without its newline: the kind of the answer. Faulted where the line is no command.
     Returned<gwb_kind> run(std::string_view line)
@@ -1352,6 +1419,22 @@ private:
         if (!is_open())
             Policy::ended({Problem::closed});
         return RangeOf<Rule>(state_ != nullptr ? state_ : closed, rule);
+    }
+
+    /// All triangles that a call writes, which is given more room where there are more.
+    template <class Write> Returned<std::vector<gwb_triangle_row>> triangles(Write write) const
+    {
+        using Found = std::vector<gwb_triangle_row>;
+        Found found(64);
+        std::size_t count = write(found.data(), found.size());
+        if (count != SIZE_MAX && count > found.size()) {
+            found.resize(count);
+            count = write(found.data(), count);
+        }
+        if (count == SIZE_MAX)
+            return Policy::template failed<Found>("triangles", {is_open() ? Problem::memory : Problem::closed});
+        found.resize(count);
+        return found;
     }
 
     /// All rows that a call writes, which is given room for them first.

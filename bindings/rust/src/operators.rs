@@ -278,6 +278,32 @@ impl Operators {
         self.measured(|g, counts: &mut Counts| unsafe { gwb_sys::gwb_count(g, solid.0, counts) })
     }
 
+    /// Makes the model of a listing beside what is held, with its numbers: as one command, or as steps of the draft that is open.
+    ///
+    /// ```
+    /// # use gwb::{Error, Session};
+    /// # let mut session = Session::new()?;
+    /// session.block(None, [0, 0, 0], [4, 4, 4])?;
+    /// let mut other = Session::new()?;
+    /// other.load(&session.listing()?)?;
+    /// assert_eq!((other.listing()?, other.depth()), (session.listing()?, 1));
+    /// # Ok::<(), Error>(())
+    /// ```
+    ///
+    /// # Errors
+    /// [`Error::Refused`] where a number is in use, or none is free; [`Error::Memory`]; [`Error::NoCall`] where it is no listing of a sound
+    /// model.
+    pub fn load(&mut self, listing: &str) -> Result<(), Error> {
+        let before = self.all_greatest();
+        let mut refusal = gwb_sys::Refusal::default();
+        match unsafe { gwb_sys::gwb_load(self.handle(), listing.as_ptr(), listing.len(), &mut refusal) } {
+            kind::OK => self.told_all(before),
+            kind::REFUSED => return Err(named(refusal)),
+            other => return self.answered(other),
+        }
+        Ok(())
+    }
+
     /// The numbers of a kind that the last command made above all that were in use before it, up to the greatest in use; not each of them
     /// need be in use. Of a draft they are the first and the last that its steps so made. Measures leave them as they are. None for solids,
     /// which a command names: `fresh::<Face>()`.
@@ -306,6 +332,24 @@ impl Operators {
             self.fresh.drafted.set(Some(std::array::from_fn(|of| joined(drafted[of], step[of]))));
         }
         self.answered(answer)
+    }
+
+    /// The greatest numbers in use, by kinds.
+    fn all_greatest(&self) -> [u32; 5] {
+        [0, 1, 2, 3, 4].map(|kind| self.greatest_of(kind))
+    }
+
+    /// After many commands that were one, or steps of the draft that is open, where these were the greatest numbers before.
+    fn told_all(&self, before: [u32; 5]) {
+        let mut made = Ranges::default();
+        for kind in [1, 2, 3, 4] {
+            let first = self.found(|g, number| unsafe { gwb_sys::gwb_lent_number_after(g, kind, before[kind as usize], number) });
+            made[kind as usize] = first.map_or_else(Range::default, |first| Range { first, last: self.greatest_of(kind) });
+        }
+        self.fresh.kept.set(Some(made));
+        if let Some(drafted) = self.fresh.drafted.get() {
+            self.fresh.drafted.set(Some(std::array::from_fn(|of| joined(drafted[of], made[of]))));
+        }
     }
 
     /// After a draft was opened.
@@ -351,8 +395,7 @@ impl Operators {
     }
 
     fn refusal(&self) -> Error {
-        let last: gwb_sys::Refusal = self.found(|g, last| unsafe { gwb_sys::gwb_lent_last_refusal(g, last) }).unwrap_or_default();
-        Refusal::from_number(last.number).map_or(Error::Unknown(last.number), |refusal| Error::Refused { refusal, value: last.value })
+        named(self.found(|g, last| unsafe { gwb_sys::gwb_lent_last_refusal(g, last) }).unwrap_or_default())
     }
 
     /// What a query writes.
@@ -369,6 +412,12 @@ impl Operators {
     fn all_live(&self) -> Ranges {
         [0, 1, 2, 3, 4].map(|kind| self.live(kind))
     }
+}
+
+/// A refusal by its name.
+fn named(refusal: gwb_sys::Refusal) -> Error {
+    let gwb_sys::Refusal { number, value } = refusal;
+    Refusal::from_number(number).map_or(Error::Unknown(number), |refusal| Error::Refused { refusal, value })
 }
 
 impl Deref for Operators {

@@ -224,11 +224,34 @@ impl Readers {
         rows.into_iter().map(|row| (Vertex(row.vertex), row.point.into())).collect()
     }
 
+    /// The triangles of a flat face, by exact tests: their corners run counterclockwise as seen from outside. None where the face isn't there
+    /// or is bent, or where its loops cross or touch. It takes time by the square of the face's edges.
+    ///
+    /// # Errors
+    /// [`Error::Memory`].
+    pub fn triangles(&self, face: Face) -> Result<Vec<[Vertex; 3]>, Error> {
+        let rows = triangle_rows(|rows, room| unsafe { gwb_sys::gwb_face_triangles(self.handle(), face.0, rows, room) })?;
+        Ok(rows.into_iter().map(|(_, corners)| corners).collect())
+    }
+
+    /// The [`triangles`](Self::triangles) of the faces of a solid, of all where none is given, faces rising.
+    ///
+    /// # Errors
+    /// [`Error::Memory`].
+    pub fn triangle_rows(&self, solid: impl Into<Option<Solid>>) -> Result<Vec<(Face, [Vertex; 3])>, Error> {
+        let solid = solid.into().unwrap_or_default();
+        triangle_rows(|rows, room| unsafe { gwb_sys::gwb_read_triangles(self.handle(), solid.0, rows, room) })
+    }
+
     /// The greatest number of a kind in use, if any is: `greatest::<Edge>()`.
     #[must_use]
     pub fn greatest<N: Id>(&self) -> Option<N> {
-        let number = unsafe { gwb_sys::gwb_greatest_number(self.handle(), N::KIND) };
-        u32::try_from(number).ok().filter(|&number| number != 0).map(N::from_number)
+        Some(self.greatest_of(N::KIND)).filter(|&number| number != 0).map(N::from_number)
+    }
+
+    /// The greatest number in use of a kind of gwb.h: 0 where none is.
+    pub(crate) fn greatest_of(&self, kind: u32) -> u32 {
+        u32::try_from(unsafe { gwb_sys::gwb_greatest_number(self.handle(), kind) }).unwrap_or_default()
     }
 
     /// The number above all of a kind in use, which is out of range where no greater one is.
@@ -241,6 +264,21 @@ impl Readers {
     fn half_edge(&self, of: u32, read: unsafe extern "C" fn(*mut Gwb, u32, *mut u32) -> u32) -> Option<HalfEdge> {
         self.found(|g, found| unsafe { read(g, of, found) }).map(HalfEdge::from_code)
     }
+}
+
+/// All triangles that a call writes, which is given more room where there are more.
+fn triangle_rows(write: impl Fn(*mut gwb_sys::TriangleRow, usize) -> usize) -> Result<Vec<(Face, [Vertex; 3])>, Error> {
+    let mut rows = vec![gwb_sys::TriangleRow::default(); 64];
+    let mut count = write(rows.as_mut_ptr(), rows.len());
+    if count != usize::MAX && count > rows.len() {
+        rows.resize(count, gwb_sys::TriangleRow::default());
+        count = write(rows.as_mut_ptr(), count);
+    }
+    if count == usize::MAX {
+        return Err(Error::Memory);
+    }
+    rows.truncate(count);
+    Ok(rows.into_iter().map(|row| (Face(row.face), row.corners.map(Vertex))).collect())
 }
 
 /// All rows that a call writes, which is given room for them first.

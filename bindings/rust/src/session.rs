@@ -97,6 +97,14 @@ impl Session {
         }
     }
 
+    /// Gives the lines of a script one after another, up to the first that is not accepted.
+    ///
+    /// # Errors
+    /// How many lines were accepted before it, and the error of [`run`](Self::run).
+    pub fn run_lines(&mut self, script: &str) -> Result<(), (usize, Error)> {
+        script.split_terminator('\n').enumerate().try_for_each(|(at, line)| self.run(line).map_err(|error| (at, error)))
+    }
+
     /// The listing of the model. It keeps the last answer.
     ///
     /// # Errors

@@ -176,6 +176,13 @@ rows! {
         #[allow(missing_docs)]
         point: Point
     }
+    /// A triangle of a face.
+    TriangleRow {
+        #[allow(missing_docs)]
+        face: u32,
+        /// Vertices, counterclockwise as seen from outside.
+        corners: [u32; 3]
+    }
 }
 
 impl From<Wide> for i128 {
@@ -250,5 +257,9 @@ extern "C" {
 
     pub fn gwb_read_half_edges(g: *const Gwb, solid: u32, rows: *mut HalfEdgeRow, room: usize) -> usize;
     pub fn gwb_read_vertices(g: *const Gwb, rows: *mut VertexRow, room: usize) -> usize;
+    pub fn gwb_read_triangles(g: *const Gwb, solid: u32, rows: *mut TriangleRow, room: usize) -> usize;
+    pub fn gwb_face_triangles(g: *const Gwb, face: u32, rows: *mut TriangleRow, room: usize) -> usize;
+    pub fn gwb_load(g: *mut Gwb, listing: *const u8, n: usize, refusal: *mut Refusal) -> u32;
+    pub fn gwb_lines(g: *mut Gwb, script: *const u8, n: usize, line: *mut usize) -> u32;
     pub fn gwb_greatest_number(g: *const Gwb, entity: u32) -> usize;
 }

@@ -1,0 +1,160 @@
+/* Loads listings (gwb_load) with one thing or another changed in them: what is accepted has just this listing, and what isn't leaves the
+ * session as it was. Then each request for memory is refused in turn. The last line is 'N passed, M failed'. */
+#include "gwb.h"
+#include <stdio.h>
+#include <stdlib.h>
+#include <string.h>
+
+enum { ROOM = 1 << 16 };
+
+static int passed, failed;
+static long changes = 4000;
+
+static void check(bool holds, const char *what)
+{
+    holds ? passed++ : failed++;
+    if (!holds)
+        printf("%s\n", what);
+}
+
+static uint32_t random_below(uint32_t most)
+{
+    static uint64_t state = 12345;
+    state = state * UINT64_C(6364136223846793005) + 1442695040888963407;
+    return (uint32_t)(state >> 33) % most;
+}
+
+/* The scripts of models: a wire, a triangle, a block beside one with a hole, a face with a lone ring, and four solids. */
+static const char *const scripts[] = {
+    "mvfs 1 1 1 1 0 0 0\nmev @1 @1 3 2 5 0 0\nmev -3 -3 2 3 5 5 0\nmev +3 +3 7 9 1 1 1\n",
+    "mvfs 1 1 1 1 0 0 0\nmev @1 @1 1 2 3 0 0\nmev -1 -1 2 3 0 3 0\nmef -2 +1 3 2 2\nmev +1 -3 4 4 1 1 0\nkev -4\n",
+    "block 1 0 0 0 8 8 8\nlamina 2 2 2 8 6 2 8 6 6 8 2 6 8\nsweep 7 0 0 2\n",
+    "block 1 0 0 0 8 8 8\nmev +7 +7 40 40 2 2 8\nkemr +40 50\n",
+    "block 9 0 0 0 2 2 2\nblock 3 5 0 0 2 2 2\nsplit 9 0 0 1 -1 4\nsplit 3 1 0 0 -6 7\n",
+};
+
+static size_t listing_of(gwb *g, char *text)
+{
+    size_t length = gwb_line(g, "list", 4) == GWB_LISTING ? gwb_reply(g, text, ROOM) : SIZE_MAX;
+    return length <= ROOM ? length : 0;
+}
+
+/* A block with a hole through it, which takes a command that no script has. */
+static void add_hole(gwb *g)
+{
+    static const gwb_point corners[] = {{2, 2, 8}, {6, 2, 8}, {6, 6, 8}, {2, 6, 8}};
+    gwb_range fresh;
+    bool is_well = gwb_block(g, 21, 0, 0, 0, 8, 8, 8) == GWB_OK && gwb_fresh(g, GWB_FACE, &fresh) == GWB_FOUND;
+    uint32_t top = fresh.first, bottom = fresh.first + 1;
+    is_well = is_well && gwb_lamina(g, 22, corners, 4) == GWB_OK && gwb_fresh(g, GWB_FACE, &fresh) == GWB_FOUND;
+    is_well = is_well && gwb_merge(g, 21, 22) == GWB_OK && gwb_kfmrh(g, top, fresh.last) == GWB_OK;
+    is_well = is_well && gwb_sweep(g, fresh.first, 0, 0, -8) == GWB_OK && gwb_kfmrh(g, bottom, fresh.first) == GWB_OK;
+    check(is_well, "a block with a hole");
+}
+
+/* Changes a byte, a word, or a line of a text. */
+static size_t change(char *text, size_t length)
+{
+    static const char bytes[] = "0123456789 +-\nabcdefghijklmnopqrstuvwxyz";
+    size_t at = random_below((uint32_t)length), end = at;
+    switch (random_below(4)) {
+    case 0: text[at] = bytes[random_below(sizeof bytes - 1)]; return length;
+    case 1: text[at] = (char)('0' + random_below(10)); return length;
+    case 2:
+        while (end < length && text[end] != '\n')
+            end++;
+        memmove(text + at, text + end, length - end);
+        return length - (end - at);
+    default: memmove(text + at + 1, text + at, length - at); return length + 1;
+    }
+}
+
+static void try_changed(const char *listing, size_t length)
+{
+    static char text[ROOM + 1], found[ROOM];
+    gwb g = {0};
+    gwb_refusal refusal = {0, 0};
+    memcpy(text, listing, length);
+    length = change(text, length);
+    bool is_open = gwb_open(&g);
+    enum gwb_kind kind = gwb_load(&g, text, length, &refusal);
+    size_t held = listing_of(&g, found);
+    bool is_same = held == length && memcmp(found, text, length) == 0, is_empty = held == 6 && memcmp(found, "empty\n", 6) == 0;
+    bool is_well = kind == GWB_OK ? is_same && gwb_depth(&g) == 1 : is_empty && gwb_depth(&g) == 0 && gwb_ahead(&g) == 0;
+    gwb_close(&g);
+    if (!is_open || !is_well || (kind != GWB_OK && kind != GWB_NO_CALL && kind != GWB_REFUSED)) {
+        if (failed++ < 3)
+            printf("kind %d after loading\n%.*s\n", kind, (int)length, text);
+    }
+}
+
+/* A heap over that of the C library that refuses from some request on. */
+static void *allocate(void *left, size_t size) { return (*(long *)left)-- > 0 ? malloc(size) : NULL; }
+static void *reallocate(void *left, void *block, size_t size) { return (*(long *)left)-- > 0 ? realloc(block, size) : NULL; }
+static void release(void *left, void *block) { (void)left, free(block); }
+
+/* Loads a listing, and cuts its faces into triangles, where memory is refused from each request on in turn. */
+static void try_refused(const char *listing, size_t length)
+{
+    bool is_well = true, is_done = false;
+    for (long most = 0; is_well && !is_done; most++) {
+        long left = most;
+        gwb_heap heap = {allocate, reallocate, release, &left};
+        gwb g = {0};
+        gwb_refusal refusal;
+        gwb_triangle_row row;
+        is_well = is_well && gwb_open(&g) && gwb_mvfs(&g, 999, 999999, 999999, 999999, 0, 0, 0) == GWB_OK && gwb_undo(&g) == GWB_OK;
+        gwb_use_heap(&heap);
+        enum gwb_kind kind = gwb_load(&g, listing, length, &refusal);
+        is_done = kind == GWB_OK && gwb_read_triangles(&g, 0, &row, 1) != SIZE_MAX;
+        gwb_use_heap(NULL);
+        is_well = is_well && (kind == GWB_OK ? gwb_depth(&g) == 1 : kind == GWB_MEMORY && gwb_depth(&g) == 0 && gwb_ahead(&g) == 1);
+        gwb_close(&g);
+    }
+    check(is_well, "memory refused");
+}
+
+static void try_model(size_t model)
+{
+    static char listing[ROOM];
+    gwb g = {0};
+    size_t line = 0;
+    check(gwb_open(&g) && gwb_succeeded(gwb_lines(&g, scripts[model], strlen(scripts[model]), &line)), "a script");
+    if (model == 2)
+        add_hole(&g);
+    size_t length = listing_of(&g, listing);
+    check(length != 0, "a listing");
+    int before = failed;
+    for (long i = 0; i < changes; i++)
+        try_changed(listing, length);
+    check(failed == before, "a listing with something changed in it");
+    try_refused(listing, length);
+    gwb_close(&g);
+}
+
+static void try_lines(void)
+{
+    static const char script[] = "# a comment\nblock 1 0 0 0 4 4 4\n\nkvfs 1\nundo\n";
+    gwb g = {0};
+    size_t line = 9;
+    gwb_refusal refusal;
+    check(gwb_lines(&g, script, sizeof script - 1, &line) == GWB_CLOSED && line == 0, "a closed handle");
+    check(gwb_open(&g) && gwb_lines(&g, script, sizeof script - 1, &line) == GWB_REFUSED && line == 4 && gwb_depth(&g) == 1, "a script up to its line 4");
+    check(gwb_load(&g, "solid 1\n", 8, &refusal) == GWB_NO_CALL && gwb_depth(&g) == 1, "a solid without a face");
+    check(gwb_draft(&g) == GWB_OK && gwb_load(&g, "solid 2\nface 9 2 9\nloop 9 at 9\nvertex 9 1 2 3\n", 46, &refusal) == GWB_OK, "a vertex in a draft");
+    check(gwb_mark(&g) == 1 && gwb_load(&g, "solid 1\nface 8 1 8\nloop 8 at 8\nvertex 8 1 2 3\n", 46, &refusal) == GWB_REFUSED && refusal.value == 1 &&
+              gwb_mark(&g) == 1,
+          "a number that is in use");
+    check(gwb_commit(&g) == GWB_OK && gwb_depth(&g) == 2, "one command");
+    gwb_close(&g);
+}
+
+int main(int count, char **words)
+{
+    changes = count > 1 ? atol(words[1]) : changes;
+    try_lines();
+    for (size_t model = 0; model < sizeof scripts / sizeof *scripts; model++)
+        try_model(model);
+    printf("%d passed, %d failed\n", passed, failed);
+    return failed != 0;
+}
