@@ -1,29 +1,20 @@
 /* The heap that the archive asks for: that of the C library, or the one that a thread uses. Whoever has a heap for the whole program writes
- * the three functions rattle_* over it: one allocator for all three, blocks aligned to each power of two up to 16 that divides their size.
- * */
+ * the three functions rattle_* over it: one allocator for all three, blocks aligned to each power of two up to 16 that divides their size. */
 #include "heap.h"
-#include "gwb.h"
 #include <stdlib.h>
-
-/* What lies before each block: the heap that it came from. The block after it is aligned as this is. */
-union head {
-    const gwb_heap *heap;
-    long double aligned;
-    char room[16];
-};
 
 static void *take(void *user, size_t size) { return (void)user, malloc(size); }
 static void *grow(void *user, void *block, size_t size) { return (void)user, realloc(block, size); }
 static void give_back(void *user, void *block) { (void)user, free(block); }
 
 static const gwb_heap c_library = {take, grow, give_back, NULL};
-static _Thread_local const gwb_heap *used = &c_library;
+_Thread_local const gwb_heap *gwb_used_heap = &c_library;
 static char nothing;
 
 const gwb_heap *gwb_use_heap(const gwb_heap *heap)
 {
-    const gwb_heap *before = used;
-    used = heap != NULL ? heap : &c_library;
+    const gwb_heap *before = gwb_used_heap;
+    gwb_used_heap = heap != NULL ? heap : &c_library;
     return before != &c_library ? before : NULL;
 }
 
@@ -41,9 +32,9 @@ static size_t whole(size_t size)
 struct tried rattle_alloc(size_t size, size_t align)
 {
     (void)align;
-    union head *head = whole(size) != 0 ? used->allocate(used->user, whole(size)) : NULL;
+    union head *head = whole(size) != 0 ? gwb_used_heap->allocate(gwb_used_heap->user, whole(size)) : NULL;
     if (head != NULL)
-        head->heap = used;
+        head->heap = gwb_used_heap;
     return tried(head);
 }
 

@@ -139,7 +139,7 @@ built 'threads are built' library_threads.c "${CC:-cc}" -std=gnu11 -O2 -pthread
 counted 'threads that read at once' "$dir/built/library_threads"
 built 'threads in C++ are built' library_sharing.cpp "${CXX:-c++}" -std=c++17 -pthread -Wold-style-cast -Wshadow
 counted 'threads that walk at once' "$dir/built/library_sharing"
-built 'heaps are built' library_heap.c "${CC:-cc}" -std=gnu11 -O2
+built 'heaps are built' library_heap.c "${CC:-cc}" -std=gnu11 -O2 -pthread
 counted 'heaps of sessions' "$dir/built/library_heap"
 built 'loading is built' library_load.c "${CC:-cc}" -std=gnu11 -O2
 counted 'models loaded of their listings' "$dir/built/library_load"

@@ -1,6 +1,7 @@
 // Tries gwb.hpp: exceptions by name, numbers as types, ranges, drafts and workbenches that move or are closed. The last line counts.
 #include "gwb.hpp"
 #include <array>
+#include <cstdlib>
 #include <functional>
 #include <iostream>
 #include <sstream>
@@ -598,6 +599,26 @@ static void try_moves()
     check(benches.back().depth() == 1 && benches.front().depth() == 0, "workbenches in a vector");
 }
 
+// A workbench in a heap of its own, which is full at last.
+static void try_heaps()
+{
+    static long held = 0, left = 1000000;
+    const auto allocate = [](void *, std::size_t size) -> void * { return left-- > 0 ? (held++, std::malloc(size)) : nullptr; };
+    const auto reallocate = [](void *, void *block, std::size_t size) -> void * { return left-- > 0 ? std::realloc(block, size) : nullptr; };
+    const auto release = [](void *, void *block) { held--, std::free(block); };
+    const gwb_heap heap{allocate, reallocate, release, nullptr};
+    {
+        Workbench bench(heap);
+        const long before = held;
+        bench.block({0, 0, 0}, {4, 4, 4});
+        check(before > 0 && held > before, "its blocks are of the heap");
+        left = 0;
+        check(throws<std::bad_alloc>([&] { bench.block({9, 9, 9}, {4, 4, 4}); }) && bench.depth() == 1, "memory is refused");
+        check(throws<std::bad_alloc>([&] { Workbench other(heap); }) && !Session::opened(heap), "so no other one is opened");
+    }
+    check(held == 0, "all is given back");
+}
+
 // Every method of a closed workbench throws Closed.
 static void try_closed(Workbench &bench)
 {
@@ -669,6 +690,10 @@ static void try_closed(Workbench &bench)
         [&] { (void)bench.lone_vertex(Loop(1)); },
         [&] { (void)bench.half_edge_rows(); },
         [&] { (void)bench.vertex_rows(); },
+        [&] { (void)bench.triangle_rows(); },
+        [&] { (void)bench.triangle_rows(Face(1)); },
+        [&] { bench.load("empty\n"); },
+        [&] { bench.run_lines("undo"); },
         [&] { bench.run("undo"); },
         [&] { (void)bench.reply(); },
     };
@@ -712,6 +737,7 @@ int main()
                            try_what_drafts_refuse,
                            try_ranges,
                            try_moves,
+                           try_heaps,
                            try_closed_ones}) {
         try {
             part();

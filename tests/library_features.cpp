@@ -1,4 +1,5 @@
-// Tries gwb_features.hpp: solids that are killed, copied, moved, turned and mirrored; and gwb_triangles.hpp. The last line counts.
+// Tries gwb_features.hpp: solids that are killed, copied, moved, turned and mirrored; gwb_triangles.hpp; and listings and scripts that are
+// loaded. The last line counts.
 #include "gwb_features.hpp"
 #include "gwb_triangles.hpp"
 #include <iostream>
@@ -211,6 +212,52 @@ static void try_drafts()
     check(bench.listing() == before, "which is undone at once");
 }
 
+// Those of all faces at once are those of each.
+static void try_all_triangles()
+{
+    Workbench bench;
+    const Solid solid = two_holes(bench), other = bench.block({50, 0, 0}, {1, 2, 3});
+    std::vector<std::array<std::uint32_t, 4>> wanted, found;
+    for (Face face : bench.numbers<Face>())
+        for (auto [a, b, c] : triangles(bench, face))
+            wanted.push_back({face.number(), a.number(), b.number(), c.number()});
+    for (const gwb_triangle_row &row : bench.triangle_rows())
+        found.push_back({row.face, row.corners[0], row.corners[1], row.corners[2]});
+    check(found == wanted && found.size() > 64, "the triangles of all faces");
+    check(bench.triangle_rows(other).size() == 12 && bench.triangle_rows(solid).size() == found.size() - 12, "those of a solid");
+    check(bench.triangle_rows(Face(999)).empty() && bench.triangle_rows(Solid(999)).empty(), "those of what is not there");
+}
+
+static void try_loading(const std::string &name, Solid (*make)(Workbench &))
+{
+    Workbench bench, other;
+    make(bench);
+    const std::string listing = bench.listing();
+    other.load(listing);
+    check(other.listing() == listing && other.depth() == 1, name + " is loaded as one command");
+    check(other.fresh<Face>()->first == Face(1) && other.fresh<Face>()->last == bench.greatest<Face>(), name + ": its faces are fresh");
+    check(other.attempt().load(listing).error().is(GWB_WHY_SOLID_TAKEN), name + " is not loaded twice");
+    check(other.attempt().load(listing + listing).error().problem == Problem::no_call && other.depth() == 1, name + ": no listing");
+    other.undo();
+    Draft draft = other.draft();
+    other.load(listing);
+    draft.commit();
+    check(other.listing() == listing && other.depth() == 1 && other.fresh<Face>()->first == Face(1), name + " is loaded in a draft");
+}
+
+static void try_scripts()
+{
+    Workbench bench;
+    check(bench.run_lines("block 1 0 0 0 4 4 4\n\n# a comment\ncount 1") == 4 && bench.depth() == 1, "a script");
+    try {
+        bench.run_lines("undo\nredo\nkvfs 1\nundo\n");
+        check(false, "a script with a line that is refused");
+    } catch (const RefusedBy<GWB_WHY_NOT_BARE> &refused) {
+        check(std::string(refused.what()) == "kvfs 1: NotBare 1" && bench.depth() == 1, "it is given up to that line");
+    }
+    check(bench.run_lines("") == 0 && bench.attempt().run_lines("blok\n").error().problem == Problem::fault, "scripts of no line, and of none");
+}
+
 static void try_no_triangles()
 {
     Workbench bench;
@@ -286,6 +333,14 @@ int main()
         try_triangles("two holes", two_holes);
         try_triangles("a lone ring", lone_ring);
         try_random_triangles();
+        try_all_triangles();
+        try_loading("a pocket", pocket);
+        try_loading("a hole", hole);
+        try_loading("two holes", two_holes);
+        try_loading("a wire", wire);
+        try_loading("two parts", parts);
+        try_loading("a lone ring", lone_ring);
+        try_scripts();
         try_no_triangles();
         try_drafts();
     } catch (const std::exception &thrown) {

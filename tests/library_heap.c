@@ -1,9 +1,11 @@
-/* Heaps of a session's own (gwb_use_heap): a pool for each of two sessions. All blocks of a session lie in its pool and are given back to
- * it, also by calls that use another heap; where a pool is full, memory is refused and the session goes on. The last line is 'N passed, M
- * failed'. */
+/* Heaps of a session's own (gwb_use_heap, gwb_open_in): a pool for each of two sessions. All blocks of a session lie in its pool and are
+ * given back to it, also by calls that come while another heap is used, or from another thread; where a pool is full, memory is refused and
+ * the session goes on. The last line is 'N passed, M failed'. */
 #include "gwb.h"
+#include <pthread.h>
 #include <stdio.h>
 #include <stdlib.h>
+#include <string.h>
 
 static int passed, failed;
 
@@ -54,6 +56,45 @@ static void try_two(void)
     check(first.held == 0 && second.held == 0, "each block went back to where it came from");
 }
 
+/* Every call that takes memory, one after another. */
+static bool give_all(gwb *g)
+{
+    static const gwb_point corners[] = {{2, 2, 4}, {3, 2, 4}, {3, 3, 4}};
+    static const char *const lines[] = {"lamina 5 0 0 9 3 0 9 0 3 9", "sweep 7 0 0 1", "count 5", "list", "undo", "redo"};
+    char text[4096];
+    gwb_plane plane;
+    gwb_wide volume;
+    gwb_counts counts;
+    bool is_well = gwb_block(g, 1, 0, 0, 0, 4, 4, 4) == GWB_OK;
+    for (size_t i = 0; i < sizeof lines / sizeof *lines; i++)
+        is_well = is_well && gwb_succeeded(gwb_line(g, lines[i], strlen(lines[i]))) && gwb_reply(g, text, sizeof text) <= sizeof text;
+    is_well = is_well && gwb_draft(g) == GWB_OK && gwb_lamina(g, 6, corners, 3) == GWB_OK && gwb_merge(g, 1, 6) == GWB_OK;
+    is_well = is_well && gwb_mev(g, gwb_plus(1), gwb_plus(1), 90, 90, 9, 9, 9) == GWB_OK && gwb_kemr(g, gwb_plus(90), 90) == GWB_OK;
+    is_well = is_well && gwb_mfkrh(g, 90, 90) == GWB_OK && gwb_kfmrh(g, 1, 90) == GWB_OK && gwb_ringmv(g, 90, 2, 0) == GWB_OK;
+    is_well = is_well && gwb_ringmv(g, 90, 1, 0) == GWB_OK && gwb_mekr(g, gwb_plus(9), gwb_lone(90), 91) == GWB_OK && gwb_kev(g, gwb_plus(91)) == GWB_OK && gwb_commit(g) == GWB_OK;
+    is_well = is_well && gwb_block(g, 8, 20, 0, 0, 4, 4, 4) == GWB_OK && gwb_split(g, 8, 0, 0, 1, -2, 9) == GWB_OK;
+    is_well = is_well && gwb_face_plane(g, 1, &plane) == GWB_PLANE && gwb_volume(g, 8, &volume) == GWB_VOLUME && gwb_count(g, 8, &counts) == GWB_COUNT;
+    return is_well && gwb_mvfs(g, 70, 70, 70, 70, 1, 1, 1) == GWB_OK && gwb_kvfs(g, 70) == GWB_OK;
+}
+
+static void *give_in_thread(void *g) { return give_all(g) ? g : NULL; }
+
+/* All that a session takes is of the heap in which it was opened, which another thread uses no more. */
+static void try_own(void)
+{
+    struct pool own = {.most = 1000000}, other = {.most = 0};
+    gwb_heap heap = heap_of(&own), full = heap_of(&other);
+    gwb g = {0}, h = {0};
+    pthread_t thread;
+    void *given = NULL;
+    check(gwb_open_in(&g, &heap) && gwb_open_in(&h, &heap) && gwb_use_heap(&full) == NULL, "two sessions in a heap");
+    check(give_all(&g), "calls while another heap is used, which is full");
+    check(pthread_create(&thread, NULL, give_in_thread, &h) == 0 && pthread_join(thread, &given) == 0 && given == &h, "and from another thread");
+    check(other.requests == 0 && gwb_use_heap(NULL) == &full, "nothing was asked of it");
+    gwb_close(&g), gwb_close(&h);
+    check(own.held == 0, "each block went back");
+}
+
 /* Refuses each request of a session in its turn. */
 static void try_full(void)
 {
@@ -79,6 +120,7 @@ static void try_full(void)
 int main(void)
 {
     try_two();
+    try_own();
     try_full();
     printf("%d passed, %d failed\n", passed, failed);
     return failed != 0;

@@ -159,11 +159,20 @@ typedef struct gwb_heap {
     void *user;
 } gwb_heap;
 
-/** From here on, new blocks of the calls of this thread come from a heap: NULL is the one of the C library. A block grows in the heap that
- * it came from, and goes back to it, whatever the thread. So a session lies in a heap of its own where each of its calls is made while that
- * is in use. Not with libgwb_c.a alone.
+/** From here on, sessions that this thread opens lie in a heap: NULL is the one of the C library. Whatever calls and threads come later, a
+ * session lies in the heap in which it was opened. What gwb_load and the calls for triangles take for as long as they last is of the heap
+ * that their thread uses. Not with libgwb_c.a alone.
  * @return the heap until now, NULL for the one of the C library */
 const gwb_heap *gwb_use_heap(const gwb_heap *heap);
+
+/** Opens a session in a heap of its own, as gwb_open does. */
+GWB_NODISCARD static inline bool gwb_open_in(gwb *g, const gwb_heap *heap)
+{
+    const gwb_heap *before = gwb_use_heap(heap);
+    bool is_open = gwb_open(g);
+    gwb_use_heap(before);
+    return is_open;
+}
 
 /* ---- the last answer, as values */
 

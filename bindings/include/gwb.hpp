@@ -1292,11 +1292,11 @@ protected:
     Commands() = default;
     explicit Commands(std::shared_ptr<State> state) : state_(std::move(state)) {}
 
-    /// Opens a session: false where memory is refused.
-    [[nodiscard]] bool open()
+    /// Opens a session, in a heap of its own where one is given: false where memory is refused.
+    [[nodiscard]] bool open(const gwb_heap *heap = nullptr)
     {
         state_ = std::make_shared<State>();
-        return gwb_open(&state_->handle);
+        return heap != nullptr ? gwb_open_in(&state_->handle, heap) : gwb_open(&state_->handle);
     }
 
     /// Closes the session, if there is one. Its drafts and ranges are Closed from here on.
@@ -1463,13 +1463,9 @@ using Attempts = Commands<Results>;
 class Session : public Commands<Results> {
 public:
     /// Opens a session that holds the empty model: Problem::memory where memory is refused.
-    static Result<Session> opened()
-    {
-        Session session;
-        if (!session.open())
-            return Failure{Problem::memory};
-        return session;
-    }
+    static Result<Session> opened() { return opened_in(nullptr); }
+    /// The same in a heap of its own, which is there for as long as the session.
+    static Result<Session> opened(const gwb_heap &heap) { return opened_in(&heap); }
     Session(Session &&other) noexcept { take(std::move(other)); }
     Session &operator=(Session &&other) noexcept
     {
@@ -1480,6 +1476,13 @@ public:
 
 private:
     Session() = default;
+    static Result<Session> opened_in(const gwb_heap *heap)
+    {
+        Session session;
+        if (!session.open(heap))
+            return Failure{Problem::memory};
+        return session;
+    }
 };
 
 #if defined(__cpp_exceptions)
@@ -1492,6 +1495,12 @@ public:
     Workbench()
     {
         if (!open())
+            throw std::bad_alloc();
+    }
+    /// The same in a heap of its own, which is there for as long as the workbench. What is kept of it beside the kernel is not of that heap.
+    explicit Workbench(const gwb_heap &heap)
+    {
+        if (!open(&heap))
             throw std::bad_alloc();
     }
     Workbench(Workbench &&other) noexcept : Commands<Throwing>() { take(std::move(other)); }

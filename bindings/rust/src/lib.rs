@@ -42,6 +42,7 @@ mod session;
 pub use draft::{Draft, Mark};
 pub use error::Error;
 pub use features::Motion;
+pub use gwb_sys::Heap;
 pub use history::{Change, Changes, ChangesOf, Noted, Notes, Reading};
 pub use ids::{lone, minus, plus, Corner, Edge, Face, HalfEdge, Id, Loop, Solid, Vertex};
 pub use operators::Operators;

@@ -1,7 +1,7 @@
 use crate::operators::Operators;
 use crate::readers::Shared;
 use crate::{Draft, Error};
-use gwb_sys::kind;
+use gwb_sys::{kind, Heap};
 use std::fmt;
 use std::ops::{Deref, DerefMut};
 
@@ -47,6 +47,20 @@ impl Session {
     /// [`Error::Memory`].
     pub fn new() -> Result<Self, Error> {
         Operators::new().map(|operators| Self { operators })
+    }
+
+    /// Opens a session that lies in a heap of its own, whichever threads it goes to.
+    ///
+    /// # Errors
+    /// [`Error::Memory`].
+    ///
+    /// # Safety
+    /// The functions of the heap do what gwb.h says, from any thread, until the session has been dropped.
+    pub unsafe fn new_in(heap: &Heap) -> Result<Self, Error> {
+        let before = unsafe { gwb_sys::gwb_use_heap(heap) };
+        let session = Self::new();
+        unsafe { gwb_sys::gwb_use_heap(before) };
+        session
     }
 
     /// Opens a draft of the next command.

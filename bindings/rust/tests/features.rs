@@ -135,3 +135,62 @@ fn what_is_refused_changes_nothing() {
     assert!(matches!(far, Err(Error::Refused { refusal: Refusal::PointRange, .. })));
     assert_eq!((session.listing().unwrap(), session.depth()), (before, 1));
 }
+
+/// Models are made of their listings, beside others, as one command.
+#[test]
+fn loaded() {
+    for make in [|session: &mut Session| pocket(session, false), |session: &mut Session| pocket(session, true), two_holes, wire] {
+        let mut session = Session::new().unwrap();
+        make(&mut session);
+        let listing = session.listing().unwrap();
+        let mut other = Session::new().unwrap();
+        other.load(&listing).unwrap();
+        assert_eq!((other.listing().unwrap(), other.depth()), (listing.clone(), 1));
+        assert_eq!(other.fresh::<Face>(), session.greatest::<Face>().map(|last| 1..=last.0));
+        assert_eq!(other.load(&listing), Err(Error::Refused { refusal: Refusal::SolidTaken, value: 1 }));
+        assert_eq!((other.load("solid 1\n"), other.depth()), (Err(Error::NoCall), 1));
+    }
+}
+
+#[test]
+fn loaded_in_a_draft() {
+    let mut session = Session::new().unwrap();
+    let mut draft = session.draft().unwrap();
+    draft.load("solid 2\nface 2 2 2\nloop 2 at 2\nvertex 2 1 2 3\n").unwrap();
+    let mark = draft.mark();
+    draft.load("solid 3\nface 3 3 3\nloop 3 at 3\nvertex 3 1 2 3\n").unwrap();
+    draft.back(mark).unwrap();
+    draft.commit().unwrap();
+    assert_eq!((session.depth(), session.numbers::<Solid>().collect::<Vec<_>>()), (1, vec![Solid(2)]));
+    assert_eq!(session.fresh::<Face>(), Some(2..=2));
+}
+
+#[test]
+fn scripts() {
+    let mut session = Session::new().unwrap();
+    assert_eq!(session.run_lines("block 1 0 0 0 4 4 4\n\n# a comment\ncount 1"), Ok(()));
+    let refused = Error::Refused { refusal: Refusal::NotBare, value: 1 };
+    assert_eq!(session.run_lines("undo\nredo\nkvfs 1\nundo\n"), Err((2, refused)));
+    assert_eq!(session.depth(), 1);
+}
+
+/// The triangles of a face go round what it does: their vectors, as long as twice their areas, add up to that of its plane.
+#[test]
+fn triangles() {
+    let mut session = Session::new().unwrap();
+    let solid = two_holes(&mut session);
+    for face in session.faces(solid) {
+        let mut sum = [0; 3];
+        for corners in session.triangles(face).unwrap() {
+            let [p, q, r] = corners.map(|corner| session.vertex(corner).unwrap());
+            let (u, v) = (q - p, r - p);
+            sum = [sum[0] + u.y * v.z - u.z * v.y, sum[1] + u.z * v.x - u.x * v.z, sum[2] + u.x * v.y - u.y * v.x];
+        }
+        let plane = session.plane(face).unwrap();
+        assert_eq!(sum.map(i128::from), [plane.a, plane.b, plane.c]);
+    }
+    let all: Vec<_> = session.faces(solid).flat_map(|face| session.triangles(face).unwrap().into_iter().map(move |corners| (face, corners))).collect();
+    assert_eq!(session.triangle_rows(solid), Ok(all.clone()));
+    assert_eq!(session.triangle_rows(None), Ok(all));
+    assert_eq!(session.triangles(Face(999)), Ok(Vec::new()));
+}

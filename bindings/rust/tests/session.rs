@@ -1,8 +1,11 @@
 //! A session from outside: what commands make, what refuses them, and what readers find.
 use gwb::{
-    lone, minus, plus, version, Change, Draft, Edge, EdgeRow, Error, Face, FaceRow, HalfEdge, Loop, Notes, Plane, Point, Refusal, Session,
-    Solid, Vertex,
+    lone, minus, plus, version, Change, Draft, Edge, EdgeRow, Error, Face, FaceRow, HalfEdge, Heap, Loop, Notes, Plane, Point, Refusal,
+    Session, Solid, Vertex,
 };
+use std::cell::Cell;
+use std::ffi::c_void;
+use std::ptr::NonNull;
 
 const NO_POINTS: [Point; 0] = [];
 
@@ -468,4 +471,74 @@ fn two_sessions_share_nothing() {
     assert_eq!(other.kvfs(Solid(1)), refused(Refusal::NoSolid, 1));
     one.undo().unwrap();
     assert_eq!((one.ahead(), other.ahead()), (1, 0));
+}
+
+// ---- heaps
+
+/// How many blocks a heap over that of C has given out, and how many more it gives.
+struct Pool {
+    held: Cell<i64>,
+    left: Cell<i64>,
+}
+
+extern "C" {
+    fn malloc(size: usize) -> *mut c_void;
+    fn realloc(block: *mut c_void, size: usize) -> *mut c_void;
+    fn free(block: *mut c_void);
+}
+
+impl Pool {
+    fn new(left: i64) -> Self {
+        Self { held: Cell::new(0), left: Cell::new(left) }
+    }
+
+    fn heap(&self) -> Heap {
+        Heap { allocate, reallocate, release, user: NonNull::from(self).as_ptr().cast() }
+    }
+
+    fn gives(&self) -> bool {
+        self.left.set(self.left.get() - 1);
+        self.left.get() >= 0
+    }
+}
+
+unsafe extern "C" fn allocate(user: *mut c_void, size: usize) -> *mut c_void {
+    let pool = unsafe { &*user.cast::<Pool>() };
+    if !pool.gives() {
+        return std::ptr::null_mut();
+    }
+    pool.held.set(pool.held.get() + 1);
+    unsafe { malloc(size) }
+}
+
+unsafe extern "C" fn reallocate(user: *mut c_void, block: *mut c_void, size: usize) -> *mut c_void {
+    let pool = unsafe { &*user.cast::<Pool>() };
+    if pool.gives() {
+        unsafe { realloc(block, size) }
+    } else {
+        std::ptr::null_mut()
+    }
+}
+
+unsafe extern "C" fn release(user: *mut c_void, block: *mut c_void) {
+    let pool = unsafe { &*user.cast::<Pool>() };
+    pool.held.set(pool.held.get() - 1);
+    unsafe { free(block) }
+}
+
+#[test]
+fn heaps_of_sessions() {
+    let pool = Pool::new(1_000_000);
+    let heap = pool.heap();
+    let mut session = unsafe { Session::new_in(&heap) }.unwrap();
+    let mut plain = block();
+    let before = pool.held.get();
+    plain.split(Solid(1), [0, 0, 1, -2], None).unwrap();
+    assert_eq!(pool.held.get(), before);
+    session.block(None, [0, 0, 0], [4, 4, 4]).unwrap();
+    assert!(pool.held.get() > before);
+    drop(session);
+    assert_eq!(pool.held.get(), 0);
+    let full = Pool::new(0);
+    assert!(matches!(unsafe { Session::new_in(&full.heap()) }, Err(Error::Memory)));
 }

@@ -66,6 +66,17 @@ pub mod kind {
     pub const NO_DRAFT: u32 = 12;
 }
 
+/// A heap: three functions, and what each of them is handed first. gwb.h says what each does.
+#[repr(C)]
+#[derive(Clone, Copy, Debug)]
+#[allow(missing_docs)]
+pub struct Heap {
+    pub allocate: unsafe extern "C" fn(user: *mut c_void, size: usize) -> *mut c_void,
+    pub reallocate: unsafe extern "C" fn(user: *mut c_void, block: *mut c_void, size: usize) -> *mut c_void,
+    pub release: unsafe extern "C" fn(user: *mut c_void, block: *mut c_void),
+    pub user: *mut c_void,
+}
+
 /// What a reader says where it has written its value.
 pub const FOUND: u32 = 1;
 
@@ -195,6 +206,7 @@ impl From<Wide> for i128 {
 extern "C" {
     pub fn gwb_version() -> u32;
 
+    pub fn gwb_use_heap(heap: *const Heap) -> *const Heap;
     pub fn gwb_open(g: *mut Gwb) -> bool;
     pub fn gwb_close(g: *mut Gwb);
     pub fn gwb_line(g: *mut Gwb, line: *const u8, n: usize) -> u32;

@@ -1,0 +1,54 @@
+/* The calls that take memory, each in the heap of its session: that in which the session's first block lies. Of the kernel they are
+ * kernel_gwb_* here, which the Makefile makes of the names in the lines CALL. */
+#include "heap.h"
+
+/* Uses the heap of a session: what was used before. */
+static inline const gwb_heap *enter(const gwb *g)
+{
+    const gwb_heap *before = gwb_used_heap;
+    if (g->is_open)
+        gwb_used_heap = ((const union head *)g->held - 1)->heap;
+    return before;
+}
+
+#define CALL(name, result, parameters, arguments)                                                                                          \
+    result kernel_gwb_##name parameters;                                                                                                       \
+    result gwb_##name parameters                                                                                                           \
+    {                                                                                                                                      \
+        const gwb_heap *before = enter(g);                                                                                                 \
+        result answer = kernel_gwb_##name arguments;                                                                                           \
+        gwb_used_heap = before;                                                                                                            \
+        return answer;                                                                                                                     \
+    }
+
+typedef enum gwb_kind kind;
+
+CALL(line, kind, (gwb *g, const char *line, size_t n), (g, line, n))
+CALL(lent_reply, size_t, (gwb *g, char *buf, size_t room), (g, buf, room))
+CALL(mvfs, kind, (gwb *g, uint32_t solid, uint32_t face, uint32_t loop, uint32_t vertex, int64_t x, int64_t y, int64_t z),
+     (g, solid, face, loop, vertex, x, y, z))
+CALL(kvfs, kind, (gwb *g, uint32_t solid), (g, solid))
+CALL(mev, kind, (gwb *g, uint32_t corner, uint32_t other, uint32_t edge, uint32_t vertex, int64_t x, int64_t y, int64_t z),
+     (g, corner, other, edge, vertex, x, y, z))
+CALL(kev, kind, (gwb *g, uint32_t half_edge), (g, half_edge))
+CALL(mef, kind, (gwb *g, uint32_t half_edge, uint32_t other, uint32_t edge, uint32_t face, uint32_t loop), (g, half_edge, other, edge, face, loop))
+CALL(kef, kind, (gwb *g, uint32_t half_edge), (g, half_edge))
+CALL(kemr, kind, (gwb *g, uint32_t half_edge, uint32_t ring), (g, half_edge, ring))
+CALL(mekr, kind, (gwb *g, uint32_t corner, uint32_t other, uint32_t edge), (g, corner, other, edge))
+CALL(kfmrh, kind, (gwb *g, uint32_t face, uint32_t other), (g, face, other))
+CALL(mfkrh, kind, (gwb *g, uint32_t ring, uint32_t face), (g, ring, face))
+CALL(ringmv, kind, (gwb *g, uint32_t ring, uint32_t face, uint32_t out), (g, ring, face, out))
+CALL(outer, kind, (gwb *g, uint32_t ring, uint32_t face), (g, ring, face))
+CALL(merge, kind, (gwb *g, uint32_t solid, uint32_t other), (g, solid, other))
+CALL(part, kind, (gwb *g, const uint32_t *faces, size_t n, uint32_t solid), (g, faces, n, solid))
+CALL(lamina, kind, (gwb *g, uint32_t solid, const gwb_point *points, size_t n), (g, solid, points, n))
+CALL(block, kind, (gwb *g, uint32_t solid, int64_t x, int64_t y, int64_t z, int64_t dx, int64_t dy, int64_t dz),
+     (g, solid, x, y, z, dx, dy, dz))
+CALL(sweep, kind, (gwb *g, uint32_t face, int64_t dx, int64_t dy, int64_t dz), (g, face, dx, dy, dz))
+CALL(glue, kind, (gwb *g, uint32_t face, uint32_t other), (g, face, other))
+CALL(split, kind, (gwb *g, uint32_t solid, int64_t a, int64_t b, int64_t c, int64_t d, uint32_t above), (g, solid, a, b, c, d, above))
+CALL(redo, kind, (gwb *g), (g))
+CALL(draft, kind, (gwb *g), (g))
+CALL(face_plane, kind, (gwb *g, uint32_t face, gwb_plane *plane), (g, face, plane))
+CALL(volume, kind, (gwb *g, uint32_t solid, gwb_wide *six_volumes), (g, solid, six_volumes))
+CALL(count, kind, (gwb *g, uint32_t solid, gwb_counts *counts), (g, solid, counts))
