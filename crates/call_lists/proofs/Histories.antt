@@ -1,6 +1,5 @@
 -- A list of calls is a history.
-use Rattle.std.proofs.Common.{◌≡◌, ℕ, suc, inl, inr, Option, None, List, [], ◌∷◌, length, refl, sym, ap, subst, ◌∙◌}
-use Rattle.euler_operators.specs.Model.{Model}
+use Rattle.std.proofs.Common.{◌≡◌, suc, inl, inr, Option, None, List, [], ◌∷◌, refl, sym, ap, subst, ◌∙◌}
 use Rattle.euler_operators.specs.Sound.{Sound}
 use Rattle.euler_operators.specs.declared.Op.{Op}
 use Rattle.euler_operators.specs.declared.Refusal.{Refusal}
@@ -20,7 +19,6 @@ use Rattle.commands.specs.declared.command.Command.TheVariants as command
 use Rattle.commands.specs.declared.command.Call.{Call}
 use Rattle.commands.specs.declared.command.Call.TheVariants as call
 use Rattle.commands.specs.declared.command.Told.{Told}
-use Rattle.commands.specs.declared.stage.OpenDraft.{OpenDraft}
 use Rattle.commands.specs.declared.stage.Stage.{Stage}
 use Rattle.commands.specs.declared.stage.Stage.TheVariants.{Session, Drafting}
 use Rattle.commands.specs.Changes.{refusal_of, made, MayLack}

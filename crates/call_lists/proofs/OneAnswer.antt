@@ -3,9 +3,8 @@ use Rattle.std.proofs.Common.{◌≡◌, inl, inr, Bool, true, false, Option, So
 use Rattle.std.specs.Prelude.{◌≢◌, ◌⊎◌, cond}
 use Rattle.euler_operators.specs.Model.{Model}
 use Rattle.euler_operators.specs.declared.Refusal.{Refusal}
-use Rattle.undo_journal.specs.Machine.{Machine, held, accepted, undo, undo_refusal, redo, redo_refusal, commit}
-use Rattle.undo_journal.specs.Journal.{Journal, DraftJournal, after_undo, after_redo, plain, IsRecorded, IsFurther}
-use Rattle.commands.specs.declared.command.Change.{Change}
+use Rattle.undo_journal.specs.Machine.{Machine, held, accepted, undo, undo_refusal, redo, redo_refusal}
+use Rattle.undo_journal.specs.Journal.{Journal, DraftJournal}
 use Rattle.commands.specs.declared.command.Command.{Command}
 use Rattle.commands.specs.declared.command.Command.TheVariants as command
 use Rattle.commands.specs.declared.command.Call.{Call}
@@ -13,15 +12,14 @@ use Rattle.commands.specs.declared.command.Call.TheVariants as call
 use Rattle.commands.specs.declared.command.Told.{Told}
 use Rattle.commands.specs.declared.command.Told.TheVariants as told
 use Rattle.commands.specs.declared.command.Told.TheVariants.{Done, Refused, Memory, InDraft, NoDraft}
-use Rattle.commands.specs.declared.stage.OpenDraft.{OpenDraft}
 use Rattle.commands.specs.declared.stage.Stage.{Stage}
 use Rattle.commands.specs.declared.stage.Stage.TheVariants.{Session, Drafting}
-use Rattle.commands.specs.Changes.{refusal_of, made, MayLack}
+use Rattle.commands.specs.Changes.{refusal_of, made}
 use Rattle.commands.specs.Telling.{Settled, Tells, TellsSession, TellsDraft, asked, IsWhole}
 use Rattle.commands.proofs.Settling.{ended}
 use Rattle.commands.proofs.Kept as kept
 use Rattle.call_lists.specs.Making.{MakesAll}
-use Rattle.call_lists.specs.Laws.{OnlyDoneChanges, AreNotDone, IdleListsStay, is_memory, heard, told_else, MemoryCanBeLeftOut, View, view_of, IsUnmarked, ListsHaveOneAnswer}
+use Rattle.call_lists.specs.Laws.{OnlyDoneChanges, IdleListsStay, is_memory, heard, told_else, MemoryCanBeLeftOut, View, view_of, IsUnmarked, ListsHaveOneAnswer}
 use Rattle.call_lists.proofs.Histories.{session_stays}
 
 -- ---- what isn't done changes nothing

@@ -1,10 +1,10 @@
 -- How many commands can be undone, and redone, after a list of calls.
-use Rattle.std.proofs.Common.{◌≡◌, ℕ, suc, ◌+◌, ◌-◌, Bool, true, false, inl, inr, Option, Some, None, List, [], ◌∷◌, length, is_some, refl, sym, ap, subst, ◌∙◌, arith, true≢false}
+use Rattle.std.proofs.Common.{◌≡◌, ℕ, suc, ◌+◌, ◌-◌, Bool, true, false, inl, inr, None, List, [], ◌∷◌, length, is_some, refl, sym, ap, subst, ◌∙◌, arith, true≢false}
 use Rattle.std.specs.Prelude.{◌≢◌}
 use Rattle.euler_operators.specs.Model.{Model}
 use Rattle.euler_operators.specs.declared.Refusal.{Refusal}
-use Rattle.undo_journal.specs.Machine.{Machine, depth, ahead, held, accepted, undo, undo_refusal, redo, redo_refusal}
-use Rattle.undo_journal.specs.Journal.{Journal, DraftJournal, after_undo, after_redo, IsRecorded}
+use Rattle.undo_journal.specs.Machine.{depth, ahead, held, accepted, undo, undo_refusal, redo, redo_refusal}
+use Rattle.undo_journal.specs.Journal.{Journal, after_undo, after_redo, IsRecorded}
 use Rattle.undo_journal.specs.Histories.{undos, redos, IsConsistent}
 use Rattle.undo_journal.proofs.Copies.{redone_to_last}
 use Rattle.commands.specs.declared.command.Command.{Command}

@@ -1,11 +1,12 @@
 -- The laws of lists of calls.
-use Rattle.std.specs.Prelude.{◌≡◌, ◌≢◌, ℕ, ◌+◌, ◌-◌, Bool, true, false, cond, List, [], ◌∷◌, ◌++◌, length}
+use Rattle.std.specs.Prelude.{◌≡◌, ◌≢◌, ℕ, ◌+◌, ◌-◌, Bool, true, false, cond, List, [], ◌∷◌, ◌++◌, length, take, replicate}
 use Rattle.euler_operators.specs.Model.{Model, empty_model}
 use Rattle.undo_journal.specs.Machine.{Machine, held, depth, ahead}
 use Rattle.undo_journal.specs.Recorded.{model_at}
+use Rattle.undo_journal.specs.Journal.{Journal}
+use Rattle.undo_journal.specs.declared.record.Record.{Record}
 use Rattle.undo_journal.specs.Histories as histories
 use Rattle.undo_journal.specs.Histories.{after_calls, undos, redos}
-use Rattle.commands.specs.declared.command.Change.{Change}
 use Rattle.commands.specs.declared.command.Command.{Command}
 use Rattle.commands.specs.declared.command.Command.TheVariants as command
 use Rattle.commands.specs.declared.command.Call.{Call}
@@ -103,6 +104,33 @@ UndosLeadToTheFirst = (g h : Stage) (calls : List Call) (answers : List Told) �
 abbrev pub RedosLeadToTheLast : Type 0
 RedosLeadToTheLast = (g h : Stage) (calls : List Call) (answers : List Told) → MakesAll g calls answers h
     → held (redos (place_after_all (place_of g) calls answers).ahead (machine_of h)) ≡ model_at (machine_of h) (depth (machine_of h) + ahead (machine_of h))
+
+-- a call that is neither undo nor redo
+abbrev pub IsOnward : Call → Type 0
+IsOnward (call.Give command.Undo) = ⊥
+IsOnward (call.Give command.Redo) = ⊥
+IsOnward c = Unit {0}
+
+abbrev pub AreOnward : List Call → Type 0
+AreOnward [] = Unit {0}
+AreOnward (c ∷ calls) = IsOnward c × AreOnward calls
+
+-- n undos from t, told so, are all done: they lead back to the model of s, with the models behind it and the records of its commands as they
+-- were; and whatever n redos from there are told, they are all done, and lead to t, its records too
+pub record IsTakenBack (s t : Journal) (n : ℕ) (answers : List Told) (g : Stage) : Type 0 where
+  pub done : answers ≡ replicate n Done
+  pub back : Journal
+  pub leads : g ≡ Session back
+  pub model : held back.machine ≡ held s.machine
+  pub behind : back.machine.past ≡ s.machine.past
+  pub later : List Record
+  pub records : back.records ≡ take (depth s.machine) s.records ++ later
+  pub redone : (others : List Told) (h : Stage) → MakesAll g (replicate n (call.Give command.Redo)) others h → (others ≡ replicate n Done) × (h ≡ Session t)
+
+-- a list without undo and redo from s to t, after which n commands more can be undone, is taken back by n undos
+abbrev pub CommandsAreTakenBack : Type 0
+CommandsAreTakenBack = (s t : Journal) (calls : List Call) (answers : List Told) (n : ℕ) → AreOnward calls → MakesAll (Session s) calls answers (Session t) → depth t.machine ≡ depth s.machine + n
+    → (others : List Told) (g : Stage) → MakesAll (Session t) (replicate n (call.Give command.Undo)) others g → IsTakenBack s t n others g
 
 -- a call that isn't told `Done` leaves the session or draft as it was, its records and steps too
 abbrev pub OnlyDoneChanges : Type 0

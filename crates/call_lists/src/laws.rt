@@ -1,5 +1,5 @@
 //! The laws of lists of calls. Each function does nothing: its contract is what is proved, over every session or draft and every list.
-ghost use Rattle.call_lists.specs.Laws.{ListsAreHistories, ListsKeepWhole, EachIsWhole, PlacesAreCounted, UndosLeadToTheFirst, RedosLeadToTheLast, ListsHaveOneAnswer, OnlyDoneChanges, IdleListsStay, MemoryCanBeLeftOut};
+ghost use Rattle.call_lists.specs.Laws.{ListsAreHistories, ListsKeepWhole, EachIsWhole, PlacesAreCounted, UndosLeadToTheFirst, RedosLeadToTheLast, CommandsAreTakenBack, ListsHaveOneAnswer, OnlyDoneChanges, IdleListsStay, MemoryCanBeLeftOut};
 
 use gluing::glues_are_calls;
 use plane_split::splits_are_calls;
@@ -23,6 +23,12 @@ pub fn undos_and_redos_lead_to_the_ends()
     ensures counted { PlacesAreCounted }
     ensures undos { UndosLeadToTheFirst }
     ensures redos { RedosLeadToTheLast }
+{}
+
+/// Where a list without undo and redo did n commands, n undos are all done, and lead to the model before it, with the models behind that and
+/// the records of earlier commands as they were; then n redos are all done, and lead to the session after the list, its records too.
+pub fn commands_are_taken_back()
+    ensures { CommandsAreTakenBack }
 {}
 
 /// A call that isn't told `Done` changes nothing, nor does a list of such calls; a call that is told `Memory` can be left out. Where no

@@ -9,7 +9,8 @@
 //! `make_all`: what each call of a list is told in its turn, and the session or draft after them, are what `commands` says of one call; the room
 //! for the answers is made first. `lists_are_histories`: such a list is a history of as many calls of the plain machine, and each model
 //! on the way is sound. `undos_and_redos_lead_to_the_ends`: how many commands can be undone and redone is counted from the calls and
-//! answers, and so many undos and redos lead to the empty model and to the last one. `lists_have_one_answer`: a call that isn't told `Done` changes
+//! answers, and so many undos and redos lead to the empty model and to the last one. `commands_are_taken_back`: n commands are taken back by n
+//! undos, and made again by n redos. `lists_have_one_answer`: a call that isn't told `Done` changes
 //! nothing, one told `Memory` can be left out, and where no answer is `Memory` there is one list of answers, and one machine and model after it.
 
 mod laws;
@@ -18,6 +19,9 @@ mod making;
 pub use commands::{Call, Change, Command, Points, Question, Stage, Told, make};
 pub use euler_operators::{Op, Refusal};
 pub use gluing::six_volume;
-pub use laws::{lists_are_histories, lists_have_one_answer, undos_and_redos_lead_to_the_ends};
+pub use laws::{
+    commands_are_taken_back, lists_are_histories, lists_have_one_answer,
+    undos_and_redos_lead_to_the_ends,
+};
 pub use making::make_all;
 pub use undo_journal::{Draft, Failure, Record, Session};

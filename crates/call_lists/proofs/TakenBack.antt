@@ -1,0 +1,249 @@
+-- Commands that are taken back, and made again.
+use Rattle.std.proofs.Common.{◌≡◌, ℕ, zero, suc, ◌+◌, ◌≤◌, inl, inr, Bool, false, Option, None, List, [], ◌∷◌, ◌++◌, length, reverse, take, drop, replicate, is_some, nat_eq, refl, sym, ap, subst, ◌∙◌, append_assoc, take-append-drop, length-take, arith, true≢false}
+use Rattle.std.specs.Prelude.{◌⊎◌}
+use Rattle.std.proofs.lemmas.Bool.Decides.{nat_tests}
+use Rattle.euler_operators.specs.Model.{Model}
+use Rattle.euler_operators.specs.declared.Refusal.{Refusal}
+use Rattle.euler_operators.specs.declared.Why.{Why}
+use Rattle.euler_operators.specs.declared.Why.TheVariants.{NothingToUndo, NothingToRedo}
+use Rattle.euler_operators.specs.Conditions.{first_refusal, never}
+use Rattle.undo_journal.specs.Machine.{Machine, held, depth, ahead, accepted, back_to, undo, undo_refusal, redo, redo_refusal}
+use Rattle.undo_journal.specs.Journal.{Journal, after_undo, after_redo, IsRecorded}
+use Rattle.undo_journal.specs.declared.record.Record.{Record}
+use Rattle.commands.specs.declared.command.Command.{Command}
+use Rattle.commands.specs.declared.command.Command.TheVariants as command
+use Rattle.commands.specs.declared.command.Call.{Call}
+use Rattle.commands.specs.declared.command.Call.TheVariants as call
+use Rattle.commands.specs.declared.command.Told.{Told}
+use Rattle.commands.specs.declared.command.Told.TheVariants as told
+use Rattle.commands.specs.declared.command.Told.TheVariants.{Done, Refused, Memory, InDraft, NoDraft}
+use Rattle.commands.specs.declared.stage.Stage.{Stage}
+use Rattle.commands.specs.declared.stage.Stage.TheVariants.{Session, Drafting}
+use Rattle.commands.specs.Changes.{refusal_of, made, MayLack}
+use Rattle.commands.specs.Telling.{Settled, Tells, TellsSession}
+use Rattle.commands.proofs.Settling.{ended}
+use Rattle.call_lists.specs.Making.{MakesAll}
+use Rattle.call_lists.specs.Laws.{IsOnward, AreOnward, IsTakenBack, CommandsAreTakenBack}
+use Rattle.call_lists.proofs.Histories.{session_stays}
+
+-- ---- a list without undo and redo appends commands
+
+abbrev journal_of : Stage → Journal
+journal_of (Session s) = s
+journal_of (Drafting d) = d.draft.session
+
+-- no command, or one
+abbrev AddsOne : Journal → Journal → Type 0
+AddsOne s t = (t ≡ s) ⊎ ((N : Model) × (t.machine ≡ accepted s.machine N) × IsRecorded s t)
+
+seen : (s : Journal) (h g : Stage) → h ≡ g → AddsOne s (journal_of g) → AddsOne s (journal_of h)
+seen s h g is x = subst (λ (k : Stage). AddsOne s (journal_of k)) (sym is) x
+
+adds : (g h : Stage) (c : Call) (a : Told) → IsOnward c → Tells g c a h → AddsOne (journal_of g) (journal_of h)
+adds (Session s) h (call.Give (command.Change c)) a on x = seen s h (Session x.0) x.1 (elim (ended (refusal_of (held s.machine) c) (MayLack (held s.machine) c) (x.0 ≡ s) ((x.0.machine ≡ accepted s.machine (made (held s.machine) c)) × IsRecorded s x.0) a x.2) [
+  | inl d ↦ inr (made (held s.machine) c, d.2.0, d.2.1)
+  | inr (inl r) ↦ inl r.3
+  | inr (inr m) ↦ inl m.1
+])
+adds (Session s) h (call.Give (command.Ask q)) a on x = seen s h (Session x.0) x.1 (inl x.2.1)
+adds (Session s) h (call.Give command.Undo) a on x = absurd on
+adds (Session s) h (call.Give command.Redo) a on x = absurd on
+adds (Session s) h call.Open a on (inl x) = seen s h _ x.1 (inl refl)
+adds (Session s) h call.Open a on (inr x) = seen s h _ x.1 (inl refl)
+adds (Session s) h call.Mark a on x = seen s h _ x.1 (inl refl)
+adds (Session s) h (call.Back n) a on x = seen s h _ x.1 (inl refl)
+adds (Session s) h call.Commit a on x = seen s h _ x.1 (inl refl)
+adds (Session s) h call.Abandon a on x = seen s h _ x.1 (inl refl)
+adds (Drafting d) h (call.Give c) a on x = seen d.draft.session h (Drafting x.0) x.1 (inl (session_stays d.draft x.0.draft c a x.2))
+adds (Drafting d) h call.Open a on x = seen d.draft.session h _ x.1 (inl refl)
+adds (Drafting d) h call.Mark a on x = seen d.draft.session h _ x.3 (inl refl)
+adds (Drafting d) h (call.Back n) a on x = seen d.draft.session h _ x.1 (inl refl)
+adds (Drafting d) h call.Commit a on x = seen d.draft.session h _ x.1 (inr (d.draft.model, refl, record { command = record { forward = d.draft.forward; back = reverse d.draft.back }; appended = refl }))
+adds (Drafting d) h call.Abandon a on x = seen d.draft.session h _ x.1 (inl refl)
+
+-- n commands lead from s to t
+abbrev Grows : Journal → ℕ → Journal → Type 0
+Grows s zero t = t ≡ s
+Grows s (suc n) t = (r : Journal) × (N : Model) × Grows s n r × (t.machine ≡ accepted r.machine N) × IsRecorded r t
+
+one_more : (s r t : Journal) (n : ℕ) → Grows s n r → AddsOne r t → (m : ℕ) × Grows s m t
+one_more s r t n x (inl is) = (n, subst (Grows s n) (sym is) x)
+one_more s r t n x (inr one) = (suc n, (r, one.0, x, one.1, one.2))
+
+all_grow : (s : Journal) (g h : Stage) (calls : List Call) (answers : List Told) (n : ℕ) → Grows s n (journal_of g) → AreOnward calls → MakesAll g calls answers h → (m : ℕ) × Grows s m (journal_of h)
+all_grow s g h [] [] n x on is = (n, subst (λ (k : Stage). Grows s n (journal_of k)) (sym is) x)
+all_grow s g h [] (a ∷ answers) n x on y = absurd y
+all_grow s g h (c ∷ calls) [] n x on y = absurd y
+all_grow s g h (c ∷ calls) (a ∷ answers) n x on y =
+    let one = one_more s (journal_of g) (journal_of y.0) n x (adds g y.0 c a on.0 y.1) in all_grow s y.0 h calls answers one.0 one.1 on.1 y.3
+
+grown_depth : (s : Journal) (n : ℕ) (t : Journal) → Grows s n t → depth t.machine ≡ depth s.machine + n
+grown_depth s zero t is = let same : depth t.machine ≡ depth s.machine = ap (λ (j : Journal). depth j.machine) is in omega (arith, same)
+grown_depth s (suc n) t x =
+    let before = grown_depth s n x.0 x.2 in
+    let more : depth t.machine ≡ suc (depth x.0.machine) = ap depth x.3 in
+    omega (arith, before, more)
+
+-- ---- their records stand behind those of the commands before
+
+taken : {X : Type 0} (xs ys : List X) (n : ℕ) → length xs ≤ n → (zs : List X) × (take n (xs ++ ys) ≡ xs ++ zs)
+taken [] ys n le = (take n ys, refl)
+taken (x ∷ xs) ys zero le = absurd (omega (arith, le))
+taken (x ∷ xs) ys (suc n) le = let rest = taken xs ys n (omega (arith, le)) in (rest.0, ap (λ zs. x ∷ zs) rest.1)
+
+abbrev Begins : Journal → Journal → Type 0
+Begins s t = (later : List Record) × (t.records ≡ take (depth s.machine) s.records ++ later)
+
+begins : (s : Journal) (n : ℕ) (t : Journal) → Grows s n t → Begins s t
+begins s zero t is = (drop (depth s.machine) s.records, ap (λ (j : Journal). j.records) is ∙ sym (take-append-drop (depth s.machine) s.records))
+begins s (suc n) t x =
+    let front = take (depth s.machine) s.records in
+    let before = begins s n x.0 x.2 in
+    let deep = grown_depth s n x.0 x.2 in
+    let short = length-take (depth s.machine) s.records in
+    let kept = taken front before.0 (depth x.0.machine) (omega (arith, deep, short)) in
+    (kept.0 ++ x.4.command ∷ [], x.4.appended ∙ ap (λ (rs : List Record). take (depth x.0.machine) rs ++ x.4.command ∷ []) before.1 ∙ ap (λ (rs : List Record). rs ++ x.4.command ∷ []) kept.1 ∙ append_assoc front kept.0 (x.4.command ∷ []))
+
+-- ---- several undos, and several redos
+
+-- a move, several times
+abbrev times : ℕ → (Machine → Machine) → Machine → Machine
+times zero move s = s
+times (suc n) move s = times n move (move s)
+
+last_first : (n : ℕ) (move : Machine → Machine) (s : Machine) → times n move (move s) ≡ move (times n move s)
+last_first zero move s = refl
+last_first (suc n) move s = last_first n move (move s)
+
+-- so many undos lead back to the models that were behind
+back_behind : (s : Journal) (n : ℕ) (t : Journal) (m : Machine) → Grows s n t → m.past ≡ t.machine.past → m.present ≡ t.machine.present
+    → ((times n undo m).past ≡ s.machine.past) × ((times n undo m).present ≡ s.machine.present)
+back_behind s zero t m is past present = (past ∙ ap (λ (j : Journal). j.machine.past) is, present ∙ ap (λ (j : Journal). j.machine.present) is)
+back_behind s (suc n) t m x past present =
+    let behind : m.past ≡ x.0.machine.present ∷ x.0.machine.past = past ∙ ap (λ (k : Machine). k.past) x.3 in
+    back_behind s n x.0 (undo m) x.2 (ap (λ (Ms : List Model). (back_to Ms m).past) behind) (ap (λ (Ms : List Model). (back_to Ms m).present) behind)
+
+less_behind : (past : List Model) (M : Model) (future : List Model) (n : ℕ) → suc n ≤ length past → n ≤ depth (undo (record { past = past; present = M; future = future }))
+less_behind [] M future n le = absurd (omega (arith, le))
+less_behind (P ∷ Ps) M future n le = omega (arith, le)
+
+less_ahead : (past : List Model) (M : Model) (future : List Model) (n : ℕ) → suc n ≤ length future → n ≤ ahead (redo (record { past = past; present = M; future = future }))
+less_ahead past M [] n le = absurd (omega (arith, le))
+less_ahead past M (N ∷ future) n le = omega (arith, le)
+
+more_ahead : (past : List Model) (M : Model) (future : List Model) (n : ℕ) → suc n ≤ length past → ahead (undo (record { past = past; present = M; future = future })) ≡ suc (length future)
+more_ahead [] M future n le = absurd (omega (arith, le))
+more_ahead (P ∷ Ps) M future n le = refl
+
+redone : (past : List Model) (M : Model) (future : List Model) (n : ℕ) → suc n ≤ length past → redo (undo (record { past = past; present = M; future = future })) ≡ record { past = past; present = M; future = future }
+redone [] M future n le = absurd (omega (arith, le))
+redone (P ∷ Ps) M future n le = refl
+
+-- and so many are ahead then
+all_ahead : (n : ℕ) (m : Machine) → n ≤ depth m → n ≤ ahead (times n undo m)
+all_ahead n m le = let many = counted n m le in omega (arith, many)
+  where
+    counted : (k : ℕ) (s : Machine) → k ≤ depth s → ahead (times k undo s) ≡ ahead s + k
+    counted zero s le = omega arith
+    counted (suc k) s le =
+        let rest = counted k (undo s) (less_behind s.past s.present s.future k le) in
+        let one = more_ahead s.past s.present s.future k le in
+        omega (arith, rest, one)
+
+-- which so many redos make again
+all_redone : (n : ℕ) (m : Machine) → n ≤ depth m → times n redo (times n undo m) ≡ m
+all_redone zero m le = refl
+all_redone (suc n) m le =
+    last_first n redo (times n undo (undo m)) ∙ ap redo (all_redone n (undo m) (less_behind m.past m.present m.future n le)) ∙ redone m.past m.present m.future n le
+
+-- ---- they are all done
+
+free : (n : ℕ) (why : Why) → first_refusal (never (nat_eq (suc n) 0) why 0 ∷ []) ≡ None
+free n why = let some : nat_eq (suc n) 0 ≡ false = grind (arith, nat_tests) in ap (λ (b : Bool). first_refusal (never b why 0 ∷ [])) some
+
+undo_free : (past : List Model) (M : Model) (future : List Model) (n : ℕ) → suc n ≤ length past → undo_refusal (record { past = past; present = M; future = future }) ≡ None
+undo_free [] M future n le = absurd (omega (arith, le))
+undo_free (P ∷ Ps) M future n le = free (length Ps) NothingToUndo
+
+redo_free : (past : List Model) (M : Model) (future : List Model) (n : ℕ) → suc n ≤ length future → redo_refusal (record { past = past; present = M; future = future }) ≡ None
+redo_free past M [] n le = absurd (omega (arith, le))
+redo_free past M (N ∷ future) n le = free (length future) NothingToRedo
+
+-- what isn't refused, and takes no memory, is done
+goes : (o : Option Refusal) (S G : Type 0) (a : Told) → o ≡ None → Settled o ⊥ S G a → (a ≡ Done) × G
+goes o S G Done is h = (refl, h.1)
+goes o S G (Refused r) is h = absurd (true≢false (sym (ap is_some h.0) ∙ ap is_some is))
+goes o S G Memory is h = absurd h.0
+goes o S G InDraft is h = absurd h
+goes o S G NoDraft is h = absurd h
+goes o S G (told.Plane p flat) is h = absurd h
+goes o S G (told.Volume n) is h = absurd h
+goes o S G (told.Counts n) is h = absurd h
+goes o S G (told.Steps n) is h = absurd h
+
+abbrev moved : Journal → Machine → Journal
+moved t m = record { machine = m; records = t.records }
+
+-- a command that is done as long as there is room for it, and moves the machine
+module _ (c : Command) (move : Machine → Machine) (room : Machine → ℕ) (less : (m : Machine) (n : ℕ) → suc n ≤ room m → n ≤ room (move m))
+    (one : (t u : Journal) (a : Told) (n : ℕ) → suc n ≤ room t.machine → TellsSession t c a u → (a ≡ Done) × (u ≡ moved t (move t.machine))) where
+  all_done : (n : ℕ) (t : Journal) (answers : List Told) (g : Stage) → n ≤ room t.machine → MakesAll (Session t) (replicate n (call.Give c)) answers g
+      → (answers ≡ replicate n Done) × (g ≡ Session (moved t (times n move t.machine)))
+  all_done zero t [] g le x = (refl, x)
+  all_done zero t (a ∷ answers) g le x = absurd x
+  all_done (suc n) t [] g le x = absurd x
+  all_done (suc n) t (a ∷ answers) g le x =
+      let first = one t x.1.0 a n le x.1.2 in
+      let rest = subst (λ (k : Stage). MakesAll k (replicate n (call.Give c)) answers g) (x.1.1 ∙ ap Session first.1) x.3 in
+      let later = all_done n (moved t (move t.machine)) answers g (less t.machine n le) rest in (
+        λ i. first.0 i ∷ later.0 i,
+        later.1,
+      )
+
+undos_done : (n : ℕ) (t : Journal) (answers : List Told) (g : Stage) → n ≤ depth t.machine → MakesAll (Session t) (replicate n (call.Give command.Undo)) answers g
+    → (answers ≡ replicate n Done) × (g ≡ Session (moved t (times n undo t.machine)))
+undos_done = all_done command.Undo undo depth (λ m. less_behind m.past m.present m.future)
+    (λ t u a n le x. goes (undo_refusal t.machine) (u ≡ t) (u ≡ after_undo t) a (undo_free t.machine.past t.machine.present t.machine.future n le) x)
+
+redos_done : (n : ℕ) (t : Journal) (answers : List Told) (g : Stage) → n ≤ ahead t.machine → MakesAll (Session t) (replicate n (call.Give command.Redo)) answers g
+    → (answers ≡ replicate n Done) × (g ≡ Session (moved t (times n redo t.machine)))
+redos_done = all_done command.Redo redo ahead (λ m. less_ahead m.past m.present m.future)
+    (λ t u a n le x. goes (redo_refusal t.machine) (u ≡ t) (u ≡ after_redo t) a (redo_free t.machine.past t.machine.present t.machine.future n le) x)
+
+-- ---- the whole
+
+module _ (s t : Journal) (n : ℕ) (grown : Grows s n t) (answers : List Told) (g : Stage) (x : MakesAll (Session t) (replicate n (call.Give command.Undo)) answers g) where
+  deep : n ≤ depth t.machine
+  deep = let d = grown_depth s n t grown in omega (arith, d)
+
+  abbrev back : Journal
+  back = moved t (times n undo t.machine)
+
+  again : (others : List Told) (h : Stage) → MakesAll g (replicate n (call.Give command.Redo)) others h → (others ≡ replicate n Done) × (h ≡ Session t)
+  again others h y =
+      let redos = redos_done n back others h (all_ahead n t.machine deep) (subst (λ (k : Stage). MakesAll k (replicate n (call.Give command.Redo)) others h) (undos_done n t answers g deep x).1 y) in (
+        redos.0,
+        redos.1 ∙ ap (λ (m : Machine). Session (moved t m)) (all_redone n t.machine deep),
+      )
+
+  taken_back : IsTakenBack s t n answers g
+  taken_back =
+      let undos = undos_done n t answers g deep x in
+      let behind = back_behind s n t t.machine grown refl refl in
+      let records = begins s n t grown in record {
+        done = undos.0;
+        back = back;
+        leads = undos.1;
+        model = behind.1;
+        behind = behind.0;
+        later = records.0;
+        records = records.1;
+        redone = again;
+      }
+
+pub commands_are_taken_back : CommandsAreTakenBack
+commands_are_taken_back s t calls answers n on x deeper others g y =
+    let all = all_grow s (Session s) (Session t) calls answers 0 refl on x in
+    let d = grown_depth s all.0 t all.1 in
+    let many : all.0 ≡ n = omega (arith, d, deeper) in
+    taken_back s t n (subst (λ (k : ℕ). Grows s k t) many all.1) others g y
