@@ -41,7 +41,7 @@ ghost use Rattle.std.specs.Prelude.{◌≡◌, ◌↔◌, ◌+◌, ◌<◌, OnOk
 ghost use Rattle.call_lists.specs.Conditions.{first_false, verdict};
 ghost use Rattle.call_lists.specs.Histories.{IsConsistent};
 ghost use Rattle.call_lists.specs.Journal.{new_journal, after_act, after_undo, after_redo, new_draft, after_step, after_commit};
-ghost use Rattle.call_lists.specs.Laws.{ListsAreHistories, ListsKeepWhole, EachIsWhole, PlacesAreCounted, UndosLeadToTheFirst, RedosLeadToTheLast, ListsHaveOneAnswer, OnlyDoneChanges, IdleListsStay, MemoryCanBeLeftOut};
+ghost use Rattle.call_lists.specs.Laws.{ListsAreHistories, ListsKeepWhole, EachIsWhole, PlacesAreCounted, UndosLeadToTheFirst, RedosLeadToTheLast, CommandsAreTakenBack, ListsHaveOneAnswer, OnlyDoneChanges, IdleListsStay, MemoryCanBeLeftOut};
 ghost use Rattle.call_lists.specs.Making.{AreTold};
 ghost use Rattle.call_lists.specs.Measure.{answer, six_volume, solid_refusal};
 ghost use Rattle.call_lists.specs.PlainMachine.{held, depth, ahead, act_refusal, undo_refusal, redo_refusal};
@@ -72,8 +72,9 @@ ghost use Rattle.script_running.specs.laws_below.SweepMeasures.{SweptSolid, Othe
 ghost use Rattle.script_running.specs.laws_below.Telling.{ListingTells};
 
 use call_lists::{
-    Call, Draft, Failure, Op, Record, Refusal, Session, Stage, Told, lists_are_histories,
-    lists_have_one_answer, make, make_all, six_volume, undos_and_redos_lead_to_the_ends,
+    Call, Draft, Failure, Op, Record, Refusal, Session, Stage, Told, commands_are_taken_back,
+    lists_are_histories, lists_have_one_answer, make, make_all, six_volume,
+    undos_and_redos_lead_to_the_ends,
 };
 use pool_rings::{codes_have_one_ring, splices_of_pools};
 use script_laws::{
@@ -108,16 +109,20 @@ pub fn every_list_of_calls_is_answered(
 
 /// After any such list as many commands can be undone as were done and not taken back, and as many redone as were taken back since the
 /// last one: both are counted from the calls and their answers alone. So many undos give the empty model, and so many redos the last one.
+/// Where a list without undo and redo did n commands, n undos are all done, and lead to the model before it, with the models behind that and
+/// the records of earlier commands as they were; and then n redos are all done, and lead to the session after the list, its records too.
 /// The list is a history of as many calls, and every model that was held on the way is sound, also one that a later command dropped.
 pub fn lists_of_calls_are_taken_back()
     ensures counted { PlacesAreCounted }
     ensures undos { UndosLeadToTheFirst }
     ensures redos { RedosLeadToTheLast }
+    ensures back { CommandsAreTakenBack }
     ensures histories { ListsAreHistories }
     ensures whole { ListsKeepWhole }
     ensures each { EachIsWhole }
 {
     undos_and_redos_lead_to_the_ends();
+    commands_are_taken_back();
     lists_are_histories();
 }
 
@@ -134,7 +139,8 @@ pub fn lists_of_calls_have_one_answer()
 
 /// So it is of one call: a change, as an operator, a lamina, a block, a sweep, a glue or a split, in a session one command and in a draft
 /// steps; a question; undo or redo; a draft opened, marked, taken back to a mark, committed or abandoned. It is refused by its first
-/// condition that is false alone; a glue and a split may be told `Memory` in place of that refusal.
+/// condition that is false alone; a glue and a split may be told `Memory` in place of that refusal where it is none of the conditions that
+/// are tested before memory is asked for (`early_refusal`).
 pub fn every_call_is_answered(alloc: Global, stage: Stage, call: Call<'_>) -> (Stage, Told)
     ensures told { Tells stage call.entry result.1 result.0 }
     ensures whole { IsWhole result.0 }
