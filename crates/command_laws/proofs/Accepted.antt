@@ -26,7 +26,7 @@ use Rattle.gluing.proofs.glue_checks_laws.Points.{same_turned}
 use Rattle.command_laws.specs.NewFaces.{IsFaceOf, all_moved}
 use Rattle.command_laws.specs.Accepted.{BlocksFit, LaminasFit, SweepsFit}
 
-within : (k n : ℕ) → k ≤ n → nat_le k n ≡ true
+pub within : (k n : ℕ) → k ≤ n → nat_le k n ≡ true
 within k n l = grind (arith, nat_tests)
 
 pub blocks_fit : BlocksFit
@@ -71,7 +71,7 @@ laminas_fit m s ps number free many near apart left = grind (arith, none_refuses
 
 -- ---- a sweep of a face without rings
 
-none_far : (M : Model) (d : Point) (vs : List ℕ) → list_all is_in_range (all_moved d (map (point_of M) vs)) ≡ true → first_such (λ v. not (is_in_range (moved (point_of M v) d))) vs ≡ None
+pub none_far : (M : Model) (d : Point) (vs : List ℕ) → list_all is_in_range (all_moved d (map (point_of M) vs)) ≡ true → first_such (λ v. not (is_in_range (moved (point_of M v) d))) vs ≡ None
 none_far M d [] e = refl
 none_far M d (v ∷ vs) e = let w = and_parts (is_in_range (moved (point_of M v) d)) (list_all is_in_range (all_moved d (map (point_of M) vs))) e in
     ap (λ b. cond (not b) (Some v) (first_such (λ u. not (is_in_range (moved (point_of M u) d))) vs)) w.0 ∙ none_far M d vs w.1
@@ -84,7 +84,7 @@ module _ {M : Model} {f s : ℕ} {ps : List Point} (face : IsFaceOf M f s ps) wh
   unfolding corners loops_of
   corners_on = ap (λ rs. vertices_in M (outer M f ∷ rs)) face.plain
 
-  outer_cycles : 2 ≤ length ps → is_lone (content M (outer M f)) ≡ false
+  pub outer_cycles : 2 ≤ length ps → is_lone (content M (outer M f)) ≡ false
   outer_cycles l = grind (arith, many, corners_on)
 
   pub none_lone : 2 ≤ length ps → least_lone M (f ∷ []) ≡ None

@@ -22,3 +22,8 @@ mod SweptCounts
 mod NewCounts
 mod GluedCounts
 pub mod Standing
+mod TakenOver
+mod LyingFlat
+mod BlockFlat
+mod AcceptedMore
+mod GluedFlat

@@ -1,17 +1,20 @@
--- When a block, a lamina and a sweep are accepted.
-use Rattle.std.specs.Prelude.{◌≡◌, ◌≤◌, ℕ, ◌+◌, ◌*◌, ℤ, pos, int_le, true, false, List, length, None}
+-- When a block, a lamina, a sweep and a glue are accepted.
+use Rattle.std.specs.Prelude.{◌≡◌, ◌≢◌, ◌≤◌, ℕ, ◌+◌, ◌*◌, ℤ, pos, int_le, true, false, List, length, reverse, None}
 use Rattle.std.specs.List.{list_all}
 use Rattle.euler_operators.specs.declared.Point.{Point}
 use Rattle.euler_operators.specs.Points.{is_in_range}
 use Rattle.euler_operators.specs.Vectors.{origin, moved, same_point}
 use Rattle.euler_operators.specs.Table as table
-use Rattle.euler_operators.specs.Model.{is_number}
-use Rattle.euler_operators.specs.Sound.{Sound}
+use Rattle.euler_operators.specs.Model.{is_number, content, face_of}
+use Rattle.euler_operators.specs.Sound.{Sound, Has}
+use Rattle.euler_operators.specs.Conditions.{is_lone}
 use Rattle.shapes.specs.Block.{vector}
-use Rattle.shapes.specs.glue.Glue.{has_repeats}
+use Rattle.shapes.specs.glue.Glue.{has_repeats, is_rotation}
+use Rattle.gluing.specs.Machine.{glue_refusal}
 use Rattle.sweeps.specs.Machine.{block_refusal, lamina_refusal, sweep_refusal}
 use Rattle.undo_journal.specs.Machine.{Machine, held}
-use Rattle.command_laws.specs.NewFaces.{IsFaceOf, all_moved}
+use Rattle.command_laws.specs.Flat.{IsClosedFlat}
+use Rattle.command_laws.specs.NewFaces.{IsFaceOf, all_moved, corner_points}
 
 -- so many numbers of each kind are left
 pub record AreLeft (m : Machine) (faces loops edges vertices : ℕ) : Type 0 where
@@ -35,3 +38,14 @@ LaminasFit = (m : Machine) (s : ℕ) (ps : List Point) → is_number s ≡ true 
 abbrev pub SweepsFit : Type 0
 SweepsFit = (m : Machine) (f s : ℕ) (ps : List Point) (d : Point) → Sound (held m) → IsFaceOf (held m) f s ps → 2 ≤ length ps →
     same_point d origin ≡ false → list_all is_in_range (all_moved d ps) ≡ true → let n = length ps in AreLeft m n n (2 * n) n → sweep_refusal m f d ≡ None
+
+-- a face, with rings or without, of which no loop is a lone vertex; the rest as before
+abbrev pub RingedSweepsFit : Type 0
+RingedSweepsFit = (m : Machine) (f : ℕ) (d : Point) → Sound (held m) → Has (held m).faces f → ((l : ℕ) → Has (held m).loops l → face_of (held m) l ≡ f → is_lone (content (held m) l) ≡ false) →
+    let ps = corner_points (held m) f in same_point d origin ≡ false → list_all is_in_range (all_moved d ps) ≡ true → let k = length ps in AreLeft m k k (2 * k) k → sweep_refusal m f d ≡ None
+
+-- faces without rings of two solids that are closed and flat, neither with two corners alike, of which one has the corners of the other the other way round,
+-- and an edge that is left
+abbrev pub GluesFit : Type 0
+GluesFit = (m : Machine) (f g s t : ℕ) (ps qs : List Point) → Sound (held m) → IsFaceOf (held m) f s ps → IsFaceOf (held m) g t qs → s ≢ t →
+    IsClosedFlat (held m) s → IsClosedFlat (held m) t → has_repeats ps ≡ false → has_repeats qs ≡ false → is_rotation ps (reverse qs) ≡ true → AreLeft m 0 0 1 0 → glue_refusal m f g ≡ None

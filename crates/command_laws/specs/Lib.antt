@@ -8,3 +8,5 @@ pub mod LeftAlone
 pub mod Framed
 pub mod RingedFaces
 pub mod Counted
+pub mod TakenOver
+pub mod Flat

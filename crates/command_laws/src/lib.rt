@@ -8,25 +8,30 @@
 //! its number, solid, corner points and plane; the sides of a sweep of a face with rings likewise, loop by loop, and that the
 //! face keeps its number and its loops and is the far one, its corners and its plane moved; that the solid is there; that each
 //! face there before a lamina, block or sweep keeps its solid and outer loop; after a glue that the first face's solid is there
-//! and the other gone, and that each other face not of the solid that goes keeps its row; the model after n undos; and when a
-//! block, a lamina, and a sweep of a face without rings are accepted. After a lamina, a block and a sweep, with rings too, each
-//! loop there before has its face and its content, each edge its ends, each vertex its point, and so each face its solid, rings,
-//! corner points and plane, but for the face that was swept and its loops; after a glue so it is with the faces that weren't of
-//! the solid that goes, but for the first face and its loop. What `counts` answers of the solid after a lamina, a block, a sweep of
+//! and the other gone, that each other face not of the solid that goes keeps its row, and that each other face of that one is the
+//! first's, with its loops, its corner points, round from another on, and its plane; the model after n undos; and when a block, a
+//! lamina, a sweep and a glue are accepted. Which faces are flat: those whose corners are, the sides of a sweep, a swept face as
+//! it was, and all of a new block and of a glued solid. After a lamina, a block and a sweep, with rings too, each loop there
+//! before has its face and its content, each edge its ends, each vertex its point, and so each face its solid, rings, corner
+//! points and plane, but for the face that was swept and its loops; after a glue so it is with the faces that weren't of the
+//! solid that goes, but for the first face and its loop. What `counts` answers of the solid after a lamina, a block, a sweep of
 //! any face, and a glue, told from what it answered before, and that it answers of every other solid what it did. What a split
 //! leaves as it was is proved in `split_frames`; what its caps are, and what `counts` answers after it, in `split_caps`.
 
 mod counted;
+mod flat;
 mod frames;
 mod ringed;
 
 ghost use Rattle.command_laws.specs.NewFaces.{LaminaHasTwoFaces, LaminaTakesTwoFaces, BlockHasTopAndBottom, BlockHasFourSides, BlockTakesSixFaces, SweptFaceIsFar, SidesStand};
-ghost use Rattle.command_laws.specs.Accepted.{BlocksFit, LaminasFit, SweepsFit};
+ghost use Rattle.command_laws.specs.Accepted.{BlocksFit, LaminasFit, SweepsFit, RingedSweepsFit, GluesFit};
 ghost use Rattle.command_laws.specs.Kept.{LaminaKeepsFaces, BlockKeepsFaces, SweepKeepsFaces, GlueKeepsFaces, StartHasNoFace};
 ghost use Rattle.command_laws.specs.Places.{UndosGoBack};
+ghost use Rattle.command_laws.specs.TakenOver.{GlueTakesFaces};
 ghost use Rattle.command_laws.specs.Solids.{BlocksAreThere, LaminasAreThere, SweptAreThere, SweepsKeepSolids, GluesJoinSolids};
 
 pub use counted::{glues_join_counts, others_keep_counts, shapes_are_counted, sweeps_add_counts};
+pub use flat::faces_lie_flat;
 pub use frames::{
     blocks_leave_alone, faces_stand, glues_leave_alone, laminas_leave_alone, sweeps_leave_alone,
 };
@@ -85,9 +90,16 @@ pub fn laminas_fit()
 {}
 
 /// A sweep of a face without rings is accepted where it has two corners or more, the vector isn't 0, the corners stay in range, and
-/// numbers are left.
+/// numbers are left; one of a face with rings where none of its loops is a lone vertex.
 pub fn sweeps_fit()
-    ensures { SweepsFit }
+    ensures plain { SweepsFit }
+    ensures ringed { RingedSweepsFit }
+{}
+
+/// A glue is accepted where both faces have no ring, all faces of the two solids are flat and none of their loops a lone vertex, the one
+/// has the corners of the other the other way round, no two alike, and an edge is left.
+pub fn glues_fit()
+    ensures { GluesFit }
 {}
 
 /// After a glue the solid of the first face is there, so that its measures are answered, and that of the second is gone. Each face but
@@ -95,4 +107,10 @@ pub fn sweeps_fit()
 pub fn glues_keep_and_join()
     ensures solids { GluesJoinSolids }
     ensures faces { GlueKeepsFaces }
+{}
+
+/// After a glue each face of the second solid, but the one that was glued, is of the first: it has the loops and the plane that it had and is
+/// flat, and its loops have the corner points that they had, maybe from another on. So a third solid can be glued on there.
+pub fn glues_take_faces_over()
+    ensures { GlueTakesFaces }
 {}

@@ -1,0 +1,117 @@
+-- When a sweep of a face with rings and a glue are accepted.
+use Rattle.std.specs.Prelude.{nat_eq, map, reverse}
+use Rattle.std.proofs.Common.{◌≡◌, ℕ, ◌+◌, ◌*◌, ◌≤◌, ◌⊎◌, inl, inr, Bool, true, false, not, cond, ◌&&◌, ◌||◌, List, [], ◌∷◌, Some, None, is_some, unwrap_or, refl, sym, ap, subst, ◌∙◌, true≢false}
+use Rattle.std.proofs.lemmas.Bool.{ne_eqb, or_cases, eqb-true}
+use Rattle.std.proofs.lemmas.List.{length-map}
+use Rattle.euler_operators.specs.declared.Point.{Point}
+use Rattle.euler_operators.specs.Items.{IsIn}
+use Rattle.euler_operators.specs.Table as table
+use Rattle.euler_operators.specs.Model.{Model, LoopContent, LoopRow, no_face, lone, cycle, items_of, content, face_of, outer, point_of, solid_of}
+use Rattle.euler_operators.specs.Sound.{Sound, Has}
+use Rattle.euler_operators.specs.Conditions.{is_empty, is_lone, lists, has_rings}
+use Rattle.euler_operators.proofs.Models.{content_row, face_row}
+use Rattle.euler_operators.proofs.Tables.{first_where_zero}
+use Rattle.euler_operators.proofs.Rotations.{IsIn_head}
+use Rattle.euler_operators.proofs.Members.{IsIn_rest}
+use Rattle.euler_laws.proofs.shared.Goes.{◌also◌, none_refuses}
+use Rattle.euler_laws.proofs.shared.Listed.{listed_passes, listed-from_in}
+use Rattle.shapes.specs.Faces.{start, corners, least_lone, faces_of_both}
+use Rattle.shapes.specs.Fresh.{taken_in, first_such, found}
+use Rattle.shapes.specs.Measure.{is_flat}
+use Rattle.shapes.specs.Prism.{prism_conditions}
+use Rattle.shapes.specs.glue.Glue.{glue_conditions, outline, has_repeats, is_rotation}
+use Rattle.undo_journal.specs.Machine.{held}
+use Rattle.command_laws.specs.NewFaces.{IsFaceOf}
+use Rattle.command_laws.specs.Accepted.{RingedSweepsFit, GluesFit}
+use Rattle.command_laws.specs.Flat.{IsClosedFlat}
+use Rattle.command_laws.proofs.Accepted.{within, none_far}
+use Rattle.command_laws.proofs.Outlines.{points_are}
+
+-- ---- lone loops
+
+not_lone : (b c : Bool) → (c ≡ true → b ≡ false) → (b && c) ≡ false
+not_lone true true h = h refl
+not_lone true false h = refl
+not_lone false c h = refl
+
+-- where no loop of some faces is lone, the search finds none
+module _ (M : Model) (fs : List ℕ) (closed : (l : ℕ) → Has M.loops l → lists fs (face_of M l) ≡ true → is_lone (content M l) ≡ false) where
+  none_passes : (q : ℕ) (row : LoopRow) → table.get M.loops q ≡ Some row → (is_lone row.content && lists fs row.face) ≡ false
+  none_passes q row at = not_lone (is_lone row.content) (lists fs row.face)
+      (λ e. ap is_lone (sym (content_row M q row at)) ∙ closed q (ap is_some at) (ap (lists fs) (face_row M q row at) ∙ e))
+
+  no_lone : least_lone M fs ≡ None
+  no_lone = ap found (first_where_zero (λ _ row. is_lone row.content && lists fs row.face) M.loops none_passes)
+
+one_face : (f k : ℕ) → lists (f ∷ []) k ≡ true → k ≡ f
+one_face f k e = elim (or_cases (nat_eq f k) false e) [ inl h ↦ sym (eqb-true f k h) | inr h ↦ absurd (true≢false (sym h)) ]
+
+pub ringed_sweeps_fit : RingedSweepsFit
+unfolding prism_conditions taken_in
+ringed_sweeps_fit m f d sound there closed apart near left =
+    let M = held m in
+    let n = length-map (corners M f) (point_of M) in
+    none_refuses (prism_conditions M f d) (sound.faces_fit f there also there also ap not apart
+    also ap (λ o. not (is_some o)) (no_lone M (f ∷ []) (λ l has on. closed l has (one_face f (face_of M l) on)))
+    also ap (λ o. not (is_some o)) (none_far M d (corners M f) near)
+    also within _ 1000000 (subst (λ k. table.greatest M.faces + k ≤ 1000000) n left.of_faces)
+    also within _ 1000000 (subst (λ k. table.greatest M.loops + k ≤ 1000000) n left.of_loops)
+    also within _ 1000000 (subst (λ k. table.greatest M.edges + 2 * k ≤ 1000000) n left.of_edges)
+    also within _ 1000000 (subst (λ k. table.greatest M.vertices + k ≤ 1000000) n left.of_vertices) also tt)
+
+-- ---- a glue
+
+none_such : (p : ℕ → Bool) (ks : List ℕ) → ((k : ℕ) → IsIn k ks → p k ≡ false) → first_such p ks ≡ None
+none_such p [] e = refl
+none_such p (k ∷ ks) e = ap (λ b. cond b (Some k) (first_such p ks)) (e k (IsIn_head k ks)) ∙ none_such p ks (λ j i. e j (IsIn_rest j k ks i))
+
+module _ (M : Model) (sound : Sound M) (s t : ℕ) (first : IsClosedFlat M s) (second : IsClosedFlat M t) where
+  abbrev fs : List ℕ
+  fs = faces_of_both M s t
+
+  of_both : (k : ℕ) → lists fs k ≡ true → Has M.faces k × ((solid_of M k ≡ s) ⊎ (solid_of M k ≡ t))
+  unfolding solid_of
+  of_both k l =
+      let p = listed_passes (λ _ row. nat_eq row.solid s || nat_eq row.solid t) M.faces k l in (
+        ap is_some p.1,
+        elim (or_cases (nat_eq p.0.solid s) (nat_eq p.0.solid t) p.2) [
+          | inl e ↦ inl (ap (λ o. (unwrap_or o no_face).solid) p.1 ∙ eqb-true p.0.solid s e)
+          | inr e ↦ inr (ap (λ o. (unwrap_or o no_face).solid) p.1 ∙ eqb-true p.0.solid t e)
+        ],
+      )
+
+  none_is_lone : least_lone M fs ≡ None
+  none_is_lone = no_lone M fs (λ l has on. elim (of_both (face_of M l) on).1 [ inl e ↦ first.closed l has e | inr e ↦ second.closed l has e ])
+
+  none_is_bent : first_such (λ k. not (is_flat M k)) fs ≡ None
+  none_is_bent = none_such (λ k. not (is_flat M k)) fs (λ k i.
+      let w = of_both k (listed-from_in k fs i) in ap not (elim w.1 [ inl e ↦ first.flat k w.0 e | inr e ↦ second.flat k w.0 e ]))
+
+module _ (M : Model) (sound : Sound M) (f s : ℕ) (ps : List Point) (face : IsFaceOf M f s ps) (flat : IsClosedFlat M s) where
+  outline_is : outline M f ≡ ps
+  outline_is = go (content M (outer M f)) refl where
+    own : Has M.loops (outer M f) × (face_of M (outer M f) ≡ f)
+    own = sound.outers_there f face.there
+
+    go : (c : LoopContent) → content M (outer M f) ≡ c → outline M f ≡ ps
+    go (lone v) e = absurd (true≢false (ap is_lone (sym e) ∙ flat.closed (outer M f) own.0 (ap (solid_of M) own.1 ∙ face.solid)))
+    go (cycle hs) e = ap (λ c. map (start M) (items_of c)) e ∙ sym (points_are M f (outer M f) hs face.plain refl e) ∙ face.points
+
+  ringless : not (has_rings M f) ≡ true
+  unfolding has_rings
+  ringless = ap (λ rs. not (not (is_empty rs))) face.plain
+
+pub glues_fit : GluesFit
+unfolding glue_conditions taken_in
+glues_fit m f g s t ps qs sound first second apart flat_s flat_t once_f once_g turned left =
+    let M = held m in
+    let out_f = outline_is M sound f s ps first flat_s in
+    let out_g = outline_is M sound g t qs second flat_t in
+    none_refuses (glue_conditions M f g) (sound.faces_fit f first.there also sound.faces_fit g second.there also first.there also second.there
+    also ap not ((λ i. nat_eq (first.solid i) (second.solid i)) ∙ ne_eqb s t apart)
+    also ringless M sound f s ps first flat_s also ringless M sound g t qs second flat_t
+    also ap (λ o. not (is_some o)) ((λ i. least_lone M (faces_of_both M (first.solid i) (second.solid i))) ∙ none_is_lone M sound s t flat_s flat_t)
+    also ap (λ o. not (is_some o)) ((λ i. first_such (λ k. not (is_flat M k)) (faces_of_both M (first.solid i) (second.solid i))) ∙ none_is_bent M sound s t flat_s flat_t)
+    also ap not (ap has_repeats out_f ∙ once_f) also ap not (ap has_repeats out_g ∙ once_g)
+    also ((λ i. is_rotation (out_f i) (reverse (out_g i))) ∙ turned)
+    also within _ 1000000 left.of_faces also within _ 1000000 left.of_loops also within _ 1000000 left.of_edges also within _ 1000000 left.of_vertices also tt)

@@ -1,0 +1,5 @@
+use Rattle.command_laws.proofs.AcceptedMore.{glues_fit}
+use Rattle.command_laws.proofs.glues_fit.Goals as goal
+
+pub returns : goal.returns
+returns c = glues_fit

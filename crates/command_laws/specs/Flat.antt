@@ -1,0 +1,42 @@
+-- Faces that lie flat, told by the points of their corners.
+use Rattle.std.specs.Prelude.{◌≡◌, ◌≢◌, ℕ, ℤ, Bool, true, false, not, ◌&&◌, List}
+use Rattle.std.specs.List.{list_all}
+use Rattle.euler_operators.specs.declared.Point.{Point}
+use Rattle.euler_operators.specs.Vectors.{origin, cross, same_point, is_on, direction}
+use Rattle.euler_operators.specs.Model.{Model, content, face_of, solid_of}
+use Rattle.euler_operators.specs.Sound.{Sound, Has}
+use Rattle.euler_operators.specs.Conditions.{is_lone}
+use Rattle.shapes.specs.Vectors.{towards}
+use Rattle.shapes.specs.Measure.{is_flat}
+use Rattle.undo_journal.specs.Machine.{Machine, held}
+use Rattle.command_laws.specs.Commands.{IsBlock, IsSweep, IsGlue}
+use Rattle.command_laws.specs.NewFaces.{IsFaceOf, plane_round, side_over}
+
+-- the plane round some points has a direction, and all of them lie on it
+abbrev pub lie_flat : List Point → Bool
+lie_flat ps = let plane = plane_round ps in not (same_point (direction plane) origin) && list_all (is_on plane) ps
+
+-- a face without rings is flat where its corners lie flat
+abbrev pub FacesLieFlat : Type 0
+FacesLieFlat = (M : Model) (f s : ℕ) (ps : List Point) → IsFaceOf M f s ps → is_flat M f ≡ lie_flat ps
+
+-- a side of a sweep does, unless its edge leads along the vector
+abbrev pub SidesLieFlat : Type 0
+SidesLieFlat = (d a b : Point) → cross (towards a b) d ≢ origin → lie_flat (side_over d a b) ≡ true
+
+-- a face that was swept, with rings or without, is as flat as it was
+abbrev pub FarFacesLieFlat : Type 0
+FarFacesLieFlat = (before after : Machine) (f : ℕ) (d : Point) → Sound (held before) → IsSweep before after f d → is_flat (held after) f ≡ is_flat (held before) f
+
+-- all faces of solid s are flat, and none of their loops is a lone vertex
+pub record IsClosedFlat (M : Model) (s : ℕ) : Type 0 where
+  pub flat : (k : ℕ) → Has M.faces k → solid_of M k ≡ s → is_flat M k ≡ true
+  pub closed : (l : ℕ) → Has M.loops l → solid_of M (face_of M l) ≡ s → is_lone (content M l) ≡ false
+
+-- a new block is
+abbrev pub BlocksLieFlat : Type 0
+BlocksLieFlat = (before after : Machine) (s : ℕ) (p : Point) (dx dy dz : ℤ) → Sound (held before) → IsBlock before after s p dx dy dz → IsClosedFlat (held after) s
+
+-- and so is a solid that came of a glue
+abbrev pub GluedLieFlat : Type 0
+GluedLieFlat = (before after : Machine) (f g : ℕ) → Sound (held before) → IsGlue before after f g → IsClosedFlat (held after) (solid_of (held before) f)

@@ -1,0 +1,32 @@
+-- The faces of the solid that a glue takes over.
+use Rattle.std.specs.Prelude.{◌≡◌, ◌≢◌, ℕ, true, List, ◌++◌}
+use Rattle.euler_operators.specs.declared.Point.{Point}
+use Rattle.euler_operators.specs.Items.{IsIn}
+use Rattle.euler_operators.specs.Model.{Model, solid_of}
+use Rattle.euler_operators.specs.Sound.{Sound, Has}
+use Rattle.shapes.specs.Faces.{loops_of}
+use Rattle.shapes.specs.Measure.{plane_of, is_flat}
+use Rattle.undo_journal.specs.Machine.{Machine, held}
+use Rattle.command_laws.specs.Commands.{IsGlue}
+use Rattle.command_laws.specs.RingedFaces.{loop_points}
+
+-- qs is ps, round from another point on
+pub record AreTurned (ps qs : List Point) : Type 0 where
+  pub front : List Point
+  pub back : List Point
+  pub here : ps ≡ front ++ back
+  pub there : qs ≡ back ++ front
+
+-- face k of M is in N, of solid s: it has its loops, each with the corner points that it had, maybe from another on, lies in its plane, and is flat
+pub record IsTakenOver (M N : Model) (k s : ℕ) : Type 0 where
+  pub there : Has N.faces k
+  pub solid : solid_of N k ≡ s
+  pub loops : loops_of N k ≡ loops_of M k
+  pub points : (l : ℕ) → IsIn l (loops_of M k) → AreTurned (loop_points M l) (loop_points N l)
+  pub plane : plane_of N k ≡ plane_of M k
+  pub flat : is_flat N k ≡ true
+
+-- after a glue each face of the solid that goes, but the one that was glued, is the first solid's
+abbrev pub GlueTakesFaces : Type 0
+GlueTakesFaces = (before after : Machine) (f g k : ℕ) → Sound (held before) → IsGlue before after f g → Has (held before).faces k →
+    solid_of (held before) k ≡ solid_of (held before) g → k ≢ g → IsTakenOver (held before) (held after) k (solid_of (held before) f)
