@@ -1,5 +1,5 @@
--- An accepted command can be taken back.
-use Rattle.std.proofs.Common.{◌≡◌, None, refl, sym, subst, rules}
+-- An accepted command isn't refused, and can be taken back.
+use Rattle.std.proofs.Common.{◌≡◌, Option, None, Some, is_some, true≢false, refl, ap, ◌∙◌, sym, subst, rules}
 use Rattle.sweeps.specs.Model.{Model}
 use Rattle.sweeps.specs.PlainMachine.{Machine, accepted, undo_refusal}
 use Rattle.block_machining.specs.Undoing.{IsOneCommand}
@@ -9,3 +9,7 @@ not_refused before N = search rules
 
 pub accepted_undone : (before after : Machine) (N : Model) → after ≡ accepted before N → IsOneCommand before after
 accepted_undone before after N made = subst (IsOneCommand before) (sym made) (refl, not_refused before N, refl, refl, refl)
+
+-- what isn't refused is refused for no reason
+pub for_no_reason : {R : Type 0} (o : Option R) (r : R) → o ≡ None → o ≡ Some r → ⊥
+for_no_reason o r none some = true≢false (sym (ap is_some some) ∙ ap is_some none)

@@ -21,3 +21,7 @@ AreCapped M N d s t = let plane = plane_with (pos 1) (pos 0) (pos 0) d in (i : �
 abbrev pub ShareSums : Model → Model → ℤ → ℕ → ℕ → Type 0
 ShareSums M N d s t = let plane = plane_with (pos 1) (pos 0) (pos 0) d in
     (counts N s).sum +ℤ (counts N t).sum ≡ (counts M s).sum +ℤ pos (2 * length (cycles_of M s plane)) -ℤ pos (4 * length (filter (λ k. k.hole) (caps_of M s plane)))
+
+-- face f of solid s is its cap on the plane x + d = 0
+abbrev pub IsCapAt : Model → ℤ → ℕ → ℕ → Type 0
+IsCapAt M d s f = IsCapOf M (plane_with (pos 1) (pos 0) (pos 0) d) s f

@@ -2,3 +2,4 @@ pub mod Cutting
 pub mod Undoing
 pub mod Listed
 pub mod Meeting
+pub mod Machines

@@ -10,3 +10,7 @@ near_side = at (pos 0) (pos 0) ∷ at (pos 3) (pos 0) ∷ at (pos 3) (pos 2) ∷
 
 abbrev pub far_side : List Point
 far_side = at (pos 3) (pos 0) ∷ at (pos 0) (pos 0) ∷ at (pos 0) (pos 2) ∷ at (pos 3) (pos 2) ∷ []
+
+-- the top of the first
+abbrev pub top : List Point
+top = record { x = pos 0; y = pos 0; z = pos 2 } ∷ at (pos 0) (pos 2) ∷ at (pos 3) (pos 2) ∷ record { x = pos 0; y = pos 3; z = pos 2 } ∷ []

@@ -2,32 +2,35 @@
 ghost use Rattle.std.specs.Prelude.{◌≡◌, pos, neg_ℤ, ◌+ℤ◌, IfOk};
 ghost use Rattle.command_laws.specs.Counted.{counts};
 ghost use Rattle.command_laws.specs.NewFaces.{last_face, IsFaceOf};
-ghost use Rattle.block_machining.specs.Cutting.{LieOnEitherSide};
-ghost use Rattle.block_machining.specs.Meeting.{near_side, far_side};
+ghost use Rattle.block_machining.specs.Cutting.{IsCapAt, LieOnEitherSide};
+ghost use Rattle.block_machining.specs.Machines.{blank, paired, lengthened};
+ghost use Rattle.block_machining.specs.Meeting.{top, near_side, far_side};
 ghost use Rattle.sweeps.specs.PlainMachine.{depth, ahead, held};
 ghost use Rattle.sweeps.specs.Measure.{six_volume};
 ghost use Rattle.sweeps.specs.Model.{empty_model};
 ghost use Rattle.sweeps.specs.Sound.{Has};
 
-use crate::machining::{cut, joined, raised, tried};
+use crate::machining::{but_for_memory, cut, joined, raised, tried};
 use command_laws::{
-    blocks_leave_alone, blocks_make_faces, faces_are_kept, faces_stand, shapes_are_counted,
-    solids_are_there, undos_go_back,
+    blocks_fit, blocks_leave_alone, blocks_make_faces, faces_are_kept, faces_stand,
+    shapes_are_counted, solids_are_there, sweeps_fit, undos_go_back,
 };
-use std::alloc::Global;
-use sweeps::{Failure, Op, Point, Session, block, block_measures};
+use std::alloc::{AllocError, Global};
+use sweeps::{Op, Point, Session, block, block_measures};
 
 /// A session that holds a block of 4 by 3 by 2 as solid 1. Its faces have the numbers 1 to 6; the side at the greatest x is face 4.
-fn blank(alloc: Global) -> Result<Session, Failure>
+fn blank(alloc: Global) -> Result<Session, AllocError>
     ensures there { IfOk result (λ session. Has (held session.machine).solids 1) }
     ensures side { IfOk result (λ session. IsFaceOf (held session.machine) 4 1 near_side) }
     ensures last { IfOk result (λ session. last_face session.machine ≡ 6) }
     ensures counts { IfOk result (λ session. counts (held session.machine) 1 ≡ record { v = 8; e = 12; f = 6; r = 0; sum = pos 2 }) }
     ensures volume { IfOk result (λ session. six_volume (held session.machine) 1 ≡ pos 144) }
     ensures depth { IfOk result (λ session. depth session.machine ≡ 1) }
+    ensures made { IfOk result (λ session. session.machine ≡ blank) }
+    ensures top { IfOk result (λ session. IsFaceOf (held session.machine) 1 1 top) }
 {
-    let session = Session::new(alloc).map_err(Failure::Memory)?;
-    session.stays_consistent();
+    let session = Session::new(alloc)?;
+    blocks_fit();
     block_measures();
     blocks_make_faces();
     faces_are_kept();
@@ -35,72 +38,80 @@ fn blank(alloc: Global) -> Result<Session, Failure>
     solids_are_there();
     let corner = Point { x: 0, y: 0, z: 0 };
     let (session, made) = block(alloc, session, 1, corner, 4, 3, 2);
-    made?;
+    but_for_memory(made)?;
     Ok(session)
 }
 
 /// The block, after its first face was raised and lowered again and an operator was tried in vain: it has its volume as before, and
 /// the sweep can be made again.
-pub fn machined(alloc: Global) -> Result<Session, Failure>
+pub fn machined(alloc: Global) -> Result<Session, AllocError>
     ensures volume { IfOk result (λ session. six_volume (held session.machine) 1 ≡ pos 144) }
     ensures there { IfOk result (λ session. Has (held session.machine).solids 1) }
     ensures left { IfOk result (λ session. (depth session.machine ≡ 1) × (ahead session.machine ≡ 1)) }
 {
     let session = blank(alloc)?;
+    sweeps_fit();
     let up = Point { x: 0, y: 0, z: 1 };
     let (mut session, swept) = raised(alloc, session, 1, up);
-    swept?;
+    but_for_memory(swept)?;
     session.undo().unwrap();
     Ok(tried(session, Op::Kvfs(1)))
 }
 
 /// The block, and at its end one of 1 by 3 by 2 as solid 2. Its faces have the numbers 7 to 12; the side at the least x is face 12. The
 /// side of the first block still has the corners that it had: the two meet, one going round the other way.
-fn paired(alloc: Global) -> Result<Session, Failure>
+fn paired(alloc: Global) -> Result<Session, AllocError>
     ensures first { IfOk result (λ session. six_volume (held session.machine) 1 ≡ pos 144) }
     ensures second { IfOk result (λ session. six_volume (held session.machine) 2 ≡ pos 36) }
     ensures near { IfOk result (λ session. IsFaceOf (held session.machine) 4 1 near_side) }
     ensures far { IfOk result (λ session. IsFaceOf (held session.machine) 12 2 far_side) }
     ensures depth { IfOk result (λ session. depth session.machine ≡ 2) }
+    ensures made { IfOk result (λ session. session.machine ≡ paired) }
 {
     let session = blank(alloc)?;
-    session.stays_consistent();
+    blocks_fit();
     block_measures();
     blocks_make_faces();
     blocks_leave_alone();
     faces_stand();
     let corner = Point { x: 4, y: 0, z: 0 };
     let (session, made) = block(alloc, session, 2, corner, 1, 3, 2);
-    made?;
+    but_for_memory(made)?;
     Ok(session)
 }
 
 /// The two glued to one block of 5 by 3 by 2, at the sides that meet.
-fn lengthened(alloc: Global) -> Result<Session, Failure>
+fn lengthened(alloc: Global) -> Result<Session, AllocError>
     ensures volume { IfOk result (λ session. six_volume (held session.machine) 1 ≡ pos 180) }
     ensures depth { IfOk result (λ session. depth session.machine ≡ 3) }
+    ensures made { IfOk result (λ session. session.machine ≡ lengthened) }
 {
     let session = paired(alloc)?;
     let (session, glued) = joined(alloc, session, 4, 12);
-    glued?;
+    but_for_memory(glued)?;
     Ok(session)
 }
 
-/// That block cut at x = 2: what lies past it is solid 2.
-pub fn parted(alloc: Global) -> Result<Session, Failure>
+/// That block cut at x = 2: what lies past it is solid 2. The parts are closed by the faces 16 and 20.
+pub fn parted(alloc: Global) -> Result<Session, AllocError>
     ensures volume { IfOk result (λ session. six_volume (held session.machine) 1 +ℤ six_volume (held session.machine) 2 ≡ pos 180) }
     ensures sides { IfOk result (λ session. LieOnEitherSide (held session.machine) (neg_ℤ (pos 2)) 1 2) }
     ensures there { IfOk result (λ session. Has (held session.machine).solids 1 × Has (held session.machine).solids 2) }
     ensures depth { IfOk result (λ session. depth session.machine ≡ 4) }
+    ensures near { IfOk result (λ session. six_volume (held session.machine) 1 ≡ pos 72) }
+    ensures far { IfOk result (λ session. six_volume (held session.machine) 2 ≡ pos 108) }
+    ensures near_counts { IfOk result (λ session. counts (held session.machine) 1 ≡ record { v = 8; e = 12; f = 6; r = 0; sum = pos 2 }) }
+    ensures far_counts { IfOk result (λ session. counts (held session.machine) 2 ≡ record { v = 12; e = 20; f = 10; r = 0; sum = pos 2 }) }
+    ensures caps { IfOk result (λ session. IsCapAt (held session.machine) (neg_ℤ (pos 2)) 1 16 × IsCapAt (held session.machine) (neg_ℤ (pos 2)) 2 20) }
 {
     let session = lengthened(alloc)?;
     let (session, done) = cut(alloc, session, 1, -2, 2);
-    done?;
+    but_for_memory(done)?;
     Ok(session)
 }
 
 /// The two blocks taken back, the second first: the model is the empty one again.
-pub fn taken_back(alloc: Global) -> Result<Session, Failure>
+pub fn taken_back(alloc: Global) -> Result<Session, AllocError>
     ensures empty { IfOk result (λ session. held session.machine ≡ empty_model) }
     ensures depth { IfOk result (λ session. depth session.machine ≡ 0) }
 {

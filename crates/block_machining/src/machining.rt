@@ -1,25 +1,29 @@
 //! Commands of the workbench, each with what this program wants of it.
-ghost use Rattle.std.specs.Prelude.{◌≡◌, pos, ◌+ℤ◌, ◌-ℤ◌, ◌*ℤ◌, OnOk, OnErr};
+ghost use Rattle.std.specs.Prelude.{◌≡◌, ◌≢◌, pos, ◌+ℤ◌, ◌-ℤ◌, ◌*ℤ◌, Ok, Err, Some, OnOk, OnErr};
 ghost use Rattle.command_laws.specs.Counted.{counts};
 ghost use Rattle.command_laws.specs.LeftAlone.{KeepsEdges, KeepsLoops, Each, OfOthers, OfOthersBut};
 ghost use Rattle.command_laws.specs.RingedFaces.{IsFarFace};
 ghost use Rattle.block_machining.specs.Cutting.{AreCapped, LieOnEitherSide, ShareSums};
 ghost use Rattle.block_machining.specs.Undoing.{IsOneCommand};
+ghost use Rattle.gluing.specs.Machine.{glue, glue_refusal};
+ghost use Rattle.plane_split.specs.Machine.{plane_with, split, split_refusal};
+ghost use Rattle.sweeps.specs.Machine.{sweep_refusal};
 ghost use Rattle.sweeps.specs.PlainMachine.{held};
 ghost use Rattle.sweeps.specs.Measure.{normal, six_volume};
 ghost use Rattle.sweeps.specs.Model.{solid_of};
-ghost use Rattle.sweeps.specs.Sound.{Has};
+ghost use Rattle.sweeps.specs.Sound.{Sound, Has};
 ghost use Rattle.sweeps.specs.Vectors.{dot};
 
+use call_lists::Refusal;
 use command_laws::{
-    glues_join_counts, glues_leave_alone, ringed_sweeps_make_faces, sweeps_add_counts,
-    sweeps_leave_alone,
+    glues_join_counts, glues_leave_alone, ringed_sweeps_make_faces, solids_are_there,
+    sweeps_add_counts, sweeps_leave_alone,
 };
 use gluing::{glue, glue_measures, six_volume};
 use plane_split::{split, splits_are_held};
 use split_caps::{caps_close_the_parts, splits_share_counts};
 use split_frames::splits_leave_alone;
-use std::alloc::Global;
+use std::alloc::{AllocError, Global};
 use sweeps::{Draft, Failure, Op, Point, Session, sweep, sweep_measures};
 
 /// A face swept along a vector. Its solid grows by three times the face's normal before, along the vector. The face, with rings or without,
@@ -31,14 +35,17 @@ pub fn raised(
     face: u32,
     by: Point,
 ) -> (Session, Result<(), Failure>)
+    ensures sound { Sound (held session.machine) }
+    ensures refused { (refusal : Refusal) → (result.1 ≡ Err (Failure.Refused refusal)) → (sweep_refusal session.machine face by ≡ Some refusal) }
     ensures volume { OnOk result.1 (six_volume (held result.0.machine) (solid_of (held session.machine) face) ≡ six_volume (held session.machine) (solid_of (held session.machine) face) +ℤ pos 3 *ℤ dot (normal (held session.machine) face) by) }
     ensures far { OnOk result.1 (IsFarFace (held session.machine) (held result.0.machine) face by) }
     ensures sum { OnOk result.1 ((counts (held result.0.machine) (solid_of (held session.machine) face)).sum ≡ (counts (held session.machine) (solid_of (held session.machine) face)).sum) }
     ensures kept { OnOk result.1 (KeepsEdges Each (held session.machine) (held result.0.machine)) }
+    ensures there { OnOk result.1 (Has (held result.0.machine).solids (solid_of (held session.machine) face)) }
     ensures undone { OnOk result.1 (IsOneCommand session.machine result.0.machine) }
     ensures err { OnErr result.1 (result.0 ≡ session) }
 {
-    session.stays_consistent();
+    solids_are_there();
     sweep_measures();
     ringed_sweeps_make_faces();
     sweeps_add_counts();
@@ -48,13 +55,14 @@ pub fn raised(
 
 /// A face glued to a face of another solid. The solid of the first has the six volumes of both then. Undo gives the model before.
 pub fn joined(alloc: Global, session: Session, f: u32, other: u32) -> (Session, Result<(), Failure>)
+    ensures made { OnOk result.1 (result.0.machine ≡ glue session.machine f other) }
+    ensures refused { (refusal : Refusal) → (result.1 ≡ Err (Failure.Refused refusal)) → (glue_refusal session.machine f other ≡ Some refusal) }
     ensures volume { OnOk result.1 (six_volume (held result.0.machine) (solid_of (held session.machine) f) ≡ six_volume (held session.machine) (solid_of (held session.machine) f) +ℤ six_volume (held session.machine) (solid_of (held session.machine) other)) }
     ensures sum { OnOk result.1 ((counts (held result.0.machine) (solid_of (held session.machine) f)).sum ≡ (counts (held session.machine) (solid_of (held session.machine) f)).sum +ℤ (counts (held session.machine) (solid_of (held session.machine) other)).sum -ℤ pos 2) }
     ensures kept { OnOk result.1 (KeepsLoops (OfOthersBut (held session.machine) (solid_of (held session.machine) other) f) (held session.machine) (held result.0.machine)) }
     ensures undone { OnOk result.1 (IsOneCommand session.machine result.0.machine) }
     ensures err { OnErr result.1 (result.0 ≡ session) }
 {
-    session.stays_consistent();
     glue_measures();
     glues_join_counts();
     glues_leave_alone();
@@ -71,6 +79,8 @@ pub fn cut(
     d: i64,
     upper: u32,
 ) -> (Session, Result<(), Failure>)
+    ensures made { OnOk result.1 (result.0.machine ≡ split session.machine s (plane_with (pos 1) (pos 0) (pos 0) d) upper) }
+    ensures refused { (refusal : Refusal) → (result.1 ≡ Err (Failure.Refused refusal)) → (split_refusal session.machine s (plane_with (pos 1) (pos 0) (pos 0) d) upper ≡ Some refusal) }
     ensures volume { OnOk result.1 (six_volume (held session.machine) s ≡ six_volume (held result.0.machine) s +ℤ six_volume (held result.0.machine) upper) }
     ensures parts { OnOk result.1 (Has (held result.0.machine).solids s × Has (held result.0.machine).solids upper) }
     ensures sides { OnOk result.1 (LieOnEitherSide (held result.0.machine) d s upper) }
@@ -85,6 +95,18 @@ pub fn cut(
     splits_share_counts();
     splits_leave_alone();
     split(alloc, session, s, 1, 0, 0, d, upper)
+}
+
+/// A command that isn't refused: only memory can stop it.
+pub(crate) fn but_for_memory(done: Result<(), Failure>) -> Result<(), AllocError>
+    requires { (refusal : Refusal) → done ≢ Err (Failure.Refused refusal) }
+    ensures { OnOk result (done ≡ Ok tt) }
+{
+    match done {
+        Ok(()) => Ok(()),
+        Err(Failure::Memory(error)) => Err(error),
+        Err(Failure::Refused(_)) => unreachable!(),
+    }
 }
 
 /// An operator tried in a draft that is given up, whether it was accepted, refused or stopped by memory: the session is as it was.

@@ -1,14 +1,14 @@
 #![tactic(auto)]
 //! Machines blocks and says what they measure. What is said of volumes and commands is proved before it is written: each function has it from
-//! `block_machining`, which makes the blocks.
+//! `block_machining`, which makes the blocks. No command in it is refused: the only error is that memory is.
 
-use block_machining::{known, machined, made, parted, taken_back};
+use block_machining::{known, machined, made, parted, taken_back, wedge};
 use call_lists::Told;
+use std::alloc::AllocError;
 use std::process::ExitCode;
-use sweeps::Failure;
 
 /// Says how large the machined block is, and how many commands it has.
-fn tell_block(rt: &HostRuntime) -> Result<(), Failure> {
+fn tell_block(rt: &HostRuntime) -> Result<(), AllocError> {
     let session = machined(rt.alloc())?;
     let volume = known(&session, 1) / 6;
     let (behind, ahead) = (session.depth(), session.ahead());
@@ -17,13 +17,22 @@ fn tell_block(rt: &HostRuntime) -> Result<(), Failure> {
     Ok(())
 }
 
+/// Says how large a wedge is.
+fn tell_wedge(rt: &HostRuntime) -> Result<(), AllocError> {
+    let session = wedge(rt.alloc())?;
+    let volume = known(&session, 1) / 6;
+    prove!(volume == 12);
+    let _ = println!(rt; "a wedge of volume {volume}");
+    Ok(())
+}
+
 /// Says what the parts of the longer block measure.
-fn tell_parts(rt: &HostRuntime) -> Result<(), Failure> {
+fn tell_parts(rt: &HostRuntime) -> Result<(), AllocError> {
     let session = parted(rt.alloc())?;
     let (near, far) = (known(&session, 1), known(&session, 2));
     let whole = near + far;
     let commands = session.depth();
-    prove!(whole == 180 && commands == 4);
+    prove!(near == 72 && far == 108 && commands == 4);
     let _ = println!(rt;
         "glued and cut: six volumes of {near} and {far}, together {whole}, {commands} commands to undo"
     );
@@ -31,9 +40,9 @@ fn tell_parts(rt: &HostRuntime) -> Result<(), Failure> {
 }
 
 /// Says what a list of calls was told, one answer a call.
-fn tell_list(rt: &HostRuntime) -> Result<(), Failure> {
+fn tell_list(rt: &HostRuntime) -> Result<(), AllocError> {
     let mut told = Vec::new(rt.alloc());
-    let stage = made(rt.alloc(), &mut told).map_err(Failure::Memory)?;
+    let stage = made(rt.alloc(), &mut told)?;
     let accepted = told.iter().filter(|answer| **answer == Told::Done).count();
     let (calls, commands) = (told.len(), stage.depth());
     let _ = println!(rt; "{calls} calls in one: {accepted} accepted, {commands} command to undo");
@@ -41,7 +50,7 @@ fn tell_list(rt: &HostRuntime) -> Result<(), Failure> {
 }
 
 /// Says that nothing is left to undo.
-fn tell_none(rt: &HostRuntime) -> Result<(), Failure> {
+fn tell_none(rt: &HostRuntime) -> Result<(), AllocError> {
     let session = taken_back(rt.alloc())?;
     let commands = session.depth();
     prove!(commands == 0);
@@ -51,6 +60,7 @@ fn tell_none(rt: &HostRuntime) -> Result<(), Failure> {
 
 fn main(rt: HostRuntime) -> ExitCode {
     let told = tell_block(&rt)
+        .and_then(|()| tell_wedge(&rt))
         .and_then(|()| tell_parts(&rt))
         .and_then(|()| tell_none(&rt))
         .and_then(|()| tell_list(&rt));

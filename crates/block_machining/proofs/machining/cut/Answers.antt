@@ -1,6 +1,7 @@
-use Rattle.std.proofs.Common.{w64, subst}
+use Rattle.std.proofs.Common.{◌≡◌, pos, Some, w64, subst}
 use Rattle.std.proofs.lemmas.Int.{to_z-of_z}
 use Rattle.std.proofs.lemmas.Result.{on_ok_weaker}
+use Rattle.plane_split.specs.Machine.{plane_with, split, split_refusal}
 use Rattle.sweeps.specs.PlainMachine.{held}
 use Rattle.block_machining.specs.Cutting.{AreCapped, LieOnEitherSide, ShareSums}
 use Rattle.block_machining.proofs.Accepted.{accepted_undone}
@@ -32,3 +33,11 @@ returns-clause-sum c = on_ok_weaker c.split.result.1 (λ made.
 
 pub returns-clause-kept : goal.returns-clause-kept
 returns-clause-kept c = on_ok_weaker c.split.result.1 (λ made. c.splits_leave_alone.ensures.loops c.args.session.machine c.split.result.0.machine c.args.s _ c.args.upper c.split.ensures.sound made) c.split.ensures.ok
+
+pub returns-clause-made : goal.returns-clause-made
+returns-clause-made c = on_ok_weaker c.split.result.1 (λ made.
+    subst (λ d. c.split.result.0.machine ≡ split c.args.session.machine c.args.s (plane_with (pos 1) (pos 0) (pos 0) d) c.args.upper) (to_z-of_z w64 c.args.d c.ranges.d) made.1) c.split.ensures.ok
+
+pub returns-clause-refused : goal.returns-clause-refused
+returns-clause-refused c = λ refusal is.
+    subst (λ d. split_refusal c.args.session.machine c.args.s (plane_with (pos 1) (pos 0) (pos 0) d) c.args.upper ≡ Some refusal) (to_z-of_z w64 c.args.d c.ranges.d) (c.split.ensures.refused refusal is)

@@ -4,13 +4,19 @@ use Rattle.block_machining.proofs.Accepted.{accepted_undone}
 use Rattle.block_machining.proofs.machining.joined.Goals as goal
 
 pub returns-clause-volume : goal.returns-clause-volume
-returns-clause-volume c = on_ok_weaker c.glue.result.1 (λ made. c.glue_measures.ensures.solid c.args.session.machine c.glue.result.0.machine c.args.f c.args.other c.stays_consistent.ensures.held_sound made.0 made.1) c.glue.ensures.ok
+returns-clause-volume c = on_ok_weaker c.glue.result.1 (λ made. c.glue_measures.ensures.solid c.args.session.machine c.glue.result.0.machine c.args.f c.args.other c.glue.ensures.sound made.0 made.1) c.glue.ensures.ok
 
 pub returns-clause-undone : goal.returns-clause-undone
 returns-clause-undone c = on_ok_weaker c.glue.result.1 (λ made. accepted_undone c.args.session.machine c.glue.result.0.machine _ made.1) c.glue.ensures.ok
 
 pub returns-clause-sum : goal.returns-clause-sum
-returns-clause-sum c = on_ok_weaker c.glue.result.1 (λ made. ap (λ t. t.sum) (c.glues_join_counts.ensures c.args.session.machine c.glue.result.0.machine c.args.f c.args.other c.stays_consistent.ensures.held_sound made)) c.glue.ensures.ok
+returns-clause-sum c = on_ok_weaker c.glue.result.1 (λ made. ap (λ t. t.sum) (c.glues_join_counts.ensures c.args.session.machine c.glue.result.0.machine c.args.f c.args.other c.glue.ensures.sound made)) c.glue.ensures.ok
 
 pub returns-clause-kept : goal.returns-clause-kept
-returns-clause-kept c = on_ok_weaker c.glue.result.1 (λ made. c.glues_leave_alone.ensures.loops c.args.session.machine c.glue.result.0.machine c.args.f c.args.other c.stays_consistent.ensures.held_sound made) c.glue.ensures.ok
+returns-clause-kept c = on_ok_weaker c.glue.result.1 (λ made. c.glues_leave_alone.ensures.loops c.args.session.machine c.glue.result.0.machine c.args.f c.args.other c.glue.ensures.sound made) c.glue.ensures.ok
+
+pub returns-clause-made : goal.returns-clause-made
+returns-clause-made c = on_ok_weaker c.glue.result.1 (λ made. made.1) c.glue.ensures.ok
+
+pub returns-clause-refused : goal.returns-clause-refused
+returns-clause-refused c = λ refusal is. c.glue.ensures.refused refusal is

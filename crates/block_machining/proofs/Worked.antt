@@ -1,0 +1,102 @@
+-- The machines of this program computed: what they have taken, that the glue and the split are accepted, and what the parts measure.
+use Rattle.std.specs.Prelude.{◌≡◌, ◌≤◌, ℕ, ◌+◌, pos, neg_ℤ, None, false, refl, [], ◌∷◌}
+use Rattle.std.proofs.Common.{sym, subst, arith}
+use Rattle.sweeps.specs.Measure.{six_volume}
+use Rattle.sweeps.specs.PlainMachine.{Machine, start, held}
+use Rattle.gluing.specs.Machine.{glue_refusal}
+use Rattle.plane_split.specs.Machine.{plane_with, split_refusal}
+use Rattle.command_laws.specs.Accepted.{AreLeft}
+use Rattle.solid_measure.specs.solid_counts.Counts.{counts}
+use Rattle.split_caps.specs.Capped.{caps_of}
+use Rattle.shapes.specs.Lamina.{lamina_face}
+use Rattle.shapes.specs.glue.Glue.{glue_conditions, glue_model}
+use Rattle.shapes.proofs.split.WorkedSplits.{computed}
+use Rattle.euler_operators.specs.Table as table
+use Rattle.block_machining.specs.Machines.{blank, paired, lengthened, parted, triangular}
+
+-- so many numbers of each kind are taken
+record HasTaken (m : Machine) (faces loops edges vertices : ℕ) : Type 0 where
+  of_faces : table.greatest (held m).faces ≡ faces
+  of_loops : table.greatest (held m).loops ≡ loops
+  of_edges : table.greatest (held m).edges ≡ edges
+  of_vertices : table.greatest (held m).vertices ≡ vertices
+
+left : (m : Machine) (f l e v i j k n : ℕ) → HasTaken m f l e v → f + i ≤ 1000000 → l + j ≤ 1000000 → e + k ≤ 1000000 → v + n ≤ 1000000 → AreLeft m i j k n
+left m f l e v i j k n taken a b c d = record {
+  of_faces = subst (λ x. x + i ≤ 1000000) (sym taken.of_faces) a;
+  of_loops = subst (λ x. x + j ≤ 1000000) (sym taken.of_loops) b;
+  of_edges = subst (λ x. x + k ≤ 1000000) (sym taken.of_edges) c;
+  of_vertices = subst (λ x. x + n ≤ 1000000) (sym taken.of_vertices) d;
+}
+
+start_taken : HasTaken start 0 0 0 0
+unfolding computed
+start_taken = record { of_faces = refl; of_loops = refl; of_edges = refl; of_vertices = refl }
+
+blank_taken : HasTaken blank 6 6 12 8
+unfolding computed blank
+blank_taken = record { of_faces = refl; of_loops = refl; of_edges = refl; of_vertices = refl }
+
+pub start_free : table.has (held start).solids 1 ≡ false
+unfolding computed
+start_free = refl
+
+pub blank_free : table.has (held blank).solids 2 ≡ false
+unfolding computed blank
+blank_free = refl
+
+pub start_left : AreLeft start 6 6 12 8
+start_left = left start 0 0 0 0 6 6 12 8 start_taken (omega arith) (omega arith) (omega arith) (omega arith)
+
+pub lamina_left : AreLeft start 2 2 3 3
+lamina_left = left start 0 0 0 0 2 2 3 3 start_taken (omega arith) (omega arith) (omega arith) (omega arith)
+
+pub blank_left : AreLeft blank 6 6 12 8
+blank_left = left blank 6 6 12 8 6 6 12 8 blank_taken (omega arith) (omega arith) (omega arith) (omega arith)
+
+pub sweep_left : AreLeft blank 4 4 8 4
+sweep_left = left blank 6 6 12 8 4 4 8 4 blank_taken (omega arith) (omega arith) (omega arith) (omega arith)
+
+pub glue_accepted : glue_refusal paired 4 12 ≡ None
+unfolding computed glue_conditions glue_model blank paired
+glue_accepted = refl
+
+pub split_accepted : split_refusal lengthened 1 (plane_with (pos 1) (pos 0) (pos 0) (neg_ℤ (pos 2))) 2 ≡ None
+unfolding computed glue_conditions glue_model blank paired lengthened
+split_accepted = refl
+
+pub near_is : six_volume (held parted) 1 ≡ pos 72
+unfolding computed glue_conditions glue_model blank paired lengthened parted
+near_is = refl
+
+pub far_is : six_volume (held parted) 2 ≡ pos 108
+unfolding computed glue_conditions glue_model blank paired lengthened parted
+far_is = refl
+
+-- ---- the parts alone
+
+pub near_counts : counts (held parted) 1 ≡ record { v = 8; e = 12; f = 6; r = 0; sum = pos 2 }
+unfolding computed glue_conditions glue_model blank paired lengthened parted counts
+near_counts = refl
+
+pub far_counts : counts (held parted) 2 ≡ record { v = 12; e = 20; f = 10; r = 0; sum = pos 2 }
+unfolding computed glue_conditions glue_model blank paired lengthened parted counts
+far_counts = refl
+
+-- the section is one cycle, and no hole
+pub one_cap : caps_of (held lengthened) 1 (plane_with (pos 1) (pos 0) (pos 0) (neg_ℤ (pos 2))) ≡ record { lower = 16; upper = 20; hole = false } ∷ []
+unfolding computed glue_conditions glue_model blank paired lengthened
+one_cap = refl
+
+-- ---- the triangle
+
+triangular_taken : HasTaken triangular 2 2 3 3
+unfolding computed triangular
+triangular_taken = record { of_faces = refl; of_loops = refl; of_edges = refl; of_vertices = refl }
+
+pub wedge_left : AreLeft triangular 3 3 6 3
+wedge_left = left triangular 2 2 3 3 3 3 6 3 triangular_taken (omega arith) (omega arith) (omega arith) (omega arith)
+
+pub first_face : lamina_face (held start) ≡ 1
+unfolding computed
+first_face = refl

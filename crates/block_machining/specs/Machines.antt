@@ -1,0 +1,33 @@
+-- The machines through which the blocks go: what the commands of the plain machine make, one after the other.
+use Rattle.std.specs.Prelude.{pos, neg_ℤ, List, [], ◌∷◌}
+use Rattle.sweeps.specs.declared.Point.{Point}
+use Rattle.sweeps.specs.Vectors.{origin}
+use Rattle.sweeps.specs.PlainMachine.{Machine, start}
+use Rattle.sweeps.specs.Machine.{block, lamina}
+use Rattle.gluing.specs.Machine.{glue}
+use Rattle.plane_split.specs.Machine.{split, plane_with}
+use Rattle.block_machining.specs.Meeting.{at}
+
+-- a block of 4 by 3 by 2 as solid 1
+unfoldable pub blank : Machine
+blank = block start 1 origin (pos 4) (pos 3) (pos 2)
+
+-- and at its end one of 1 by 3 by 2 as solid 2
+unfoldable pub paired : Machine
+paired = block blank 2 (at (pos 0) (pos 0)) (pos 1) (pos 3) (pos 2)
+
+-- the two glued at the sides that meet
+unfoldable pub lengthened : Machine
+lengthened = glue paired 4 12
+
+-- that cut at x = 2, what lies past it being solid 2
+unfoldable pub parted : Machine
+parted = split lengthened 1 (plane_with (pos 1) (pos 0) (pos 0) (neg_ℤ (pos 2))) 2
+
+-- the corners of a triangle, 4 along x and 3 along y
+abbrev pub triangle : List Point
+triangle = origin ∷ record { x = pos 4; y = pos 0; z = pos 0 } ∷ record { x = pos 4; y = pos 3; z = pos 0 } ∷ []
+
+-- its lamina as solid 1
+unfoldable pub triangular : Machine
+triangular = lamina start 1 triangle

@@ -1,0 +1,54 @@
+//! A wedge: a triangle swept up.
+ghost use Rattle.std.specs.Prelude.{◌≡◌, pos, IfOk};
+ghost use Rattle.command_laws.specs.NewFaces.{IsFaceOf};
+ghost use Rattle.block_machining.specs.Machines.{triangle, triangular};
+ghost use Rattle.sweeps.specs.PlainMachine.{held};
+ghost use Rattle.sweeps.specs.Measure.{six_volume};
+ghost use Rattle.sweeps.specs.Sound.{Has};
+
+use crate::machining::{but_for_memory, raised};
+use arrayvec::ArrayVec;
+use command_laws::{faces_are_kept, faces_lie_flat, laminas_fit, laminas_make_faces, sweeps_fit};
+use std::alloc::{AllocError, Global};
+use sweeps::{Point, Session, lamina, lamina_measures};
+
+/// The corners of a triangle, 4 along x and 3 along y.
+fn corners() -> ArrayVec<Point, 64>
+    ensures { result.items ≡ triangle }
+{
+    let mut points = ArrayVec::new();
+    points.push(Point { x: 0, y: 0, z: 0 });
+    points.push(Point { x: 4, y: 0, z: 0 });
+    points.push(Point { x: 4, y: 3, z: 0 });
+    points
+}
+
+/// A session that holds the lamina of this triangle as solid 1, with face 1 round its corners. It has no volume.
+fn flat(alloc: Global) -> Result<Session, AllocError>
+    ensures face { IfOk result (λ session. IsFaceOf (held session.machine) 1 1 triangle) }
+    ensures volume { IfOk result (λ session. six_volume (held session.machine) 1 ≡ pos 0) }
+    ensures made { IfOk result (λ session. session.machine ≡ triangular) }
+{
+    let session = Session::new(alloc)?;
+    laminas_fit();
+    lamina_measures();
+    laminas_make_faces();
+    faces_are_kept();
+    faces_lie_flat();
+    let (session, made) = lamina(alloc, session, 1, &corners());
+    but_for_memory(made)?;
+    Ok(session)
+}
+
+/// The triangle swept up by 2.
+pub fn wedge(alloc: Global) -> Result<Session, AllocError>
+    ensures volume { IfOk result (λ session. six_volume (held session.machine) 1 ≡ pos 72) }
+    ensures there { IfOk result (λ session. Has (held session.machine).solids 1) }
+{
+    let session = flat(alloc)?;
+    sweeps_fit();
+    let up = Point { x: 0, y: 0, z: 2 };
+    let (session, swept) = raised(alloc, session, 1, up);
+    but_for_memory(swept)?;
+    Ok(session)
+}
