@@ -1,4 +1,20 @@
-"""The page in Chromium: real clicks at computed places, real keys, small windows, dark ones, and a browser that loses what it drew."""
+"""The page in Chromium: real clicks at computed places, real keys, small windows, dark ones, and a browser that loses what it drew.
+
+    picks by computed places, numbers, names and colours        Picking
+    wires, facets, small blocks, lost contexts, resizing,
+    bounds of zoom, addresses that aren't understood            Failing
+    buttons, triad, x-ray, saved pictures, measuring            Tools
+    distances, angles, lengths, areas and volumes, exactly      Measures
+    sections along axes and faces, caps, sliders                Sections
+    the list of solids, the panel, the steps                    Lists
+    no panel under the tools, at six sizes                      Windows
+    a touched window of 360 by 640                              Phones
+    tabulator, Space, Enter, arrows, focus, names of controls   Keyboard
+    the page within another one                                 Frames
+    darkness, no motion                                         Wishes
+    no requests, nothing run that isn't the page's own          Policy
+    no upload and no reckoning of spots while a model turns     Speed
+"""
 
 import html
 import json
@@ -328,6 +344,13 @@ class Failing(PageCase):
                 rim = [sum(colour) for colour in tab.colours(*self.place(tab, (9_000 * math.cos(angle), 9_000 * math.sin(angle), 9_000)), 1, 9)]
                 self.assertLess(min(rim), .8 * min(side))
 
+    def test_small_blocks_keep_their_colours(self):
+        for words in ('numbers=none', 'numbers=none&flat'):
+            tab = self.opened(page_of(blocks(12)), MIDDLE, words)
+            seen = tab.colours(*self.place(tab, (17, 17, 17)), 120, 120)
+            self.assertLess(sum(sum(colour) < 200 for colour in seen), len(seen) / 3)
+            self.assertGreater(len({tuple(part // 32 for part in colour) for colour in seen}), 12)
+
     def test_edges_are_drawn_by_choice(self):
         tab = self.opened(page_of(prism(64)), SMALL)
         self.assertEqual(self.text(tab, '[data-key=e]'), 'edges: auto')
@@ -444,6 +467,20 @@ class Measures(PageCase):
             way = subtract(self.model.vertices[1], self.model.vertices[vertex])
             self.assertEqual(told_number(self.between(('v', 1), ('v', vertex))['distance']), dot(way, way))
 
+    def own(self, kind, number):
+        """The measures of one thing, by their names."""
+        return dict(self.tab.value(f'Measure.own(View.model, {{kind: "{kind}", number: {number}}})'))
+
+    def test_lengths_and_areas(self):
+        for edge, (start, end) in self.model.edges.items():
+            along = subtract(self.model.vertices[end], self.model.vertices[start])
+            self.assertEqual(told_number(self.own('e', edge)['length']), dot(along, along))
+        for face in self.model.faces:
+            across = normal(self.model, face)
+            self.assertEqual(told_number(self.own('f', face)['area']), Fraction(dot(across, across), 4))
+        told = dict(self.tab.value('Measure.solid(View.model, 1)'))
+        self.assertEqual(Fraction(told['volume'].split(' ')[0]), Fraction(six_volume(self.model, self.model.faces), 6))
+
     def test_vertices_and_edges(self):
         for vertex in self.model.vertices:
             for edge, (start, end) in self.model.edges.items():
@@ -555,6 +592,18 @@ class Sections(PageCase):
             kept = {('v', vertex) for vertex, point in stored('block_with_hole').vertices.items() if point[0] <= 3}
             self.assertLessEqual({(kind, number) for kind, number in tab.value('View.state.labels.map(l => [l.kind, l.number])') if kind == 'v'}, kept)
 
+    def test_caps_are_filled(self):
+        for words, shades in (('section=x3&numbers=none', 2), ('section=x3&numbers=none&flat', 1)):
+            tab = self.opened(page_of(stored('block_with_hole')), MIDDLE, words)
+            cap = {tuple(part // 16 for part in colour) for colour in tab.colours(*self.place(tab, (3, 1, 3)), 9, 9)}
+            self.assertTrue(all(blue > red for red, _, blue in cap), cap)
+            self.assertGreaterEqual(len(cap), shades)
+            tab.value('document.getElementById("cut-axis").focus()')
+            hole = tab.colours(*self.place(tab, (3, 3, 3)), 3, 3)
+            tab.press('c')
+            tab.settle()
+            self.assertNotEqual(tab.colours(*self.place(tab, (3, 1, 3)), 9, 9), hole)
+
     def test_the_other_side_and_off(self):
         tab = self.opened(page_of(row_of_blocks(3)), MIDDLE, 'section=x1')
         counts = [tab.value('View.scene.triangles.faces.filter(face => face > 0).length')]
@@ -629,7 +678,7 @@ class Lists(PageCase):
                 self.assertIsNone(tab.value('View.state.picked'))
 
     def test_the_panel_scrolls(self):
-        tab = self.opened(page_of(prism(3_000)))
+        tab = self.opened(page_of(prism(9_998)))
         tab.value('View.choose({kind: "f", number: 2})')
         box_, body = tab.value('(b => [b.y, b.y + b.height])(document.getElementById("info").getBoundingClientRect())'), '#facts'
         self.assertTrue(0 < box_[0] and box_[1] < 650, box_)
@@ -727,6 +776,19 @@ class Phones(PageCase):
         self.assertTrue(tab.until('document.getElementById("info").offsetHeight < 80'))
         tab.tap(*tab.middle('#info-close'))
         self.assertTrue(tab.until('!document.getElementById("info").offsetWidth'))
+
+    def test_the_list_folds(self):
+        tab = self.opened(page_of(row_of_blocks(30)), PHONE, touch=True)
+        tab.tap(*tab.middle('#list-button'))
+        self.assertTrue(tab.until('document.getElementById("list").offsetWidth > 0'))
+        tab.settle()
+        left, top, right, bottom = tab.value('(b => [b.left, b.top, b.right, b.bottom])(document.getElementById("list").getBoundingClientRect())')
+        self.assertTrue(left >= 0 and top > 40 and right <= 360 and bottom < 560, (left, top, right, bottom))
+        self.assertGreaterEqual(tab.value('document.querySelector("#solids li").offsetHeight'), 44)
+        tab.tap(*tab.middle('#solids li:nth-child(2) input'))
+        self.assertEqual(tab.until('[...View.state.off].join()'), '2')
+        tab.tap(*tab.middle('#list-button'))
+        self.assertTrue(tab.until('!document.getElementById("list").offsetWidth'))
 
     def test_two_fingers_zoom(self):
         tab = self.opened(page_of(stored('block_with_hole')), PHONE, touch=True)

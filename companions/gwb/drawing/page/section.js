@@ -118,7 +118,7 @@ const Section = (() => {
   const rightOf = ({low, high}, level) => low[0] + (level - low[1]) / (high[1] - low[1]) * (high[0] - low[0]);
 
   // The region that closed outlines bound, each place inside an odd number of them, as trapezoids with level sides: their corners, to the left.
-  // The lines from each corner to the right and left cut it into them (de Berg et al., Computational Geometry, trapezoidal maps).
+  // The lines from each corner to the right and left cut it into them.
   function trapezoids(segments) {
     const sides = segments.filter(([p, q]) => p[1] !== q[1]).map(([p, q]) => p[1] < q[1] ? {low: p, high: q} : {low: q, high: p});
     const levels = [...new Set(sides.flatMap(({low, high}) => [low[1], high[1]]))].sort((a, b) => a - b), found = [];
