@@ -13,9 +13,8 @@ import tempfile
 from pathlib import Path
 from typing import Iterator, List, Optional, Sequence
 
-from counts import there
+from counts import GWB, TOP, needs, there, told, without
 
-TOP = Path(__file__).resolve().parent.parent
 EXAMPLE = TOP / 'examples' / 'block_with_hole.gwb'
 COMPANIONS = sorted(path.name for path in (TOP / 'companions').glob('gwb-*'))
 VERSION = (TOP / 'VERSION').read_text().strip()
@@ -125,6 +124,10 @@ def cmake(at: Installation) -> Iterator[str]:
     yield complaint(at.run(['cmake', '-S', '.', '-B', 'other', f'-DCMAKE_PREFIX_PATH={at.prefix}']), b'99.0', status=1)
 
 
+# What finds the installed library, and how that is tried.
+PACKAGES = {'pkg-config': packages, 'cmake': cmake}
+
+
 def library(at: Installation) -> Iterator[str]:
     """Programs over what is installed: by the compiler's words alone, by pkg-config, by CMake, and with a heap of their own."""
     (at.prefix.parent / 'try.c').write_text(PROGRAM)
@@ -134,11 +137,9 @@ def library(at: Installation) -> Iterator[str]:
     yield complaint(at.run(['cc', 'try.c', '-o', 'plain', *words, '-lgwb'])) or complaint(at.run([at.prefix.parent / 'plain']))
     yield complaint(at.run(['cc', f'-I{at.prefix}/include', '-c', at.prefix / 'share' / 'gwb' / 'heap.c', '-o', 'heap.o']))
     yield complaint(at.run(['cc', 'try.c', '-o', 'own_heap', *words, *kernel])) or complaint(at.run([at.prefix.parent / 'own_heap']))
-    for tool, tries in (('pkg-config', packages), ('cmake', cmake)):
+    for tool, tries in PACKAGES.items():
         if shutil.which(tool):
             yield from tries(at)
-        else:
-            print(f'not tried: {tries.__doc__} There is no {tool}.')
     text = (at.prefix / 'lib' / 'pkgconfig' / 'gwb.pc').read_text()
     yield '' if f'prefix={at.prefix}\n' in text and f'Version: {VERSION}\n' in text else f'gwb.pc says {text!r}'
 
@@ -173,12 +174,11 @@ def findings(program: Path, archive: Optional[Path]) -> Iterator[str]:
 
 
 def main() -> int:
-    paths = [there(word) for word in sys.argv[1:3]]
-    program = paths[0] if paths else TOP / 'crates' / 'gwb' / 'out' / 'gwb'
-    found = list(findings(program, paths[1] if len(paths) > 1 else None))
-    wrong = [why for why in found if why]
-    print(*wrong, f'{len(found) - len(wrong)} passed, {len(wrong)} failed', sep='\n')
-    return 1 if wrong else 0
+    program = there(sys.argv[1] if len(sys.argv) > 1 else GWB)
+    archive = there(sys.argv[2], 'archive') if len(sys.argv) > 2 else None
+    needs('make', *(['cc', 'objdump'] if archive else []))
+    skipped = [without(tool, 'what finds the installed library') for tool in PACKAGES if archive and shutil.which(tool) is None]
+    return told(findings(program, archive), skipped)
 
 
 if __name__ == '__main__':
