@@ -4,16 +4,17 @@ A flat shell, such as a lamina, has faces back to back: what looks one way may l
 """
 
 from fractions import Fraction
+from functools import cached_property
 from itertools import combinations
 from typing import AbstractSet, Dict, FrozenSet, Iterator, List, Optional, Set, Tuple
 
 from ..errors import Unfit
-from ..geometry.box_index import BoxIndex, box_of
+from ..geometry.box_index import Box, BoxIndex, box_of, boxes_meet
 from ..geometry.flat_face import ExactVector, FlatFace
 from ..geometry.measures import normal
 from ..geometry.model import Model
 from ..geometry.plane_figures import Place, turn
-from ..geometry.touched_edges import touched_edges
+from ..geometry.touched_edges import TouchedEdges, touched_edges
 from ..geometry.triangulation import face_triangles
 from ..geometry.vectors import Vector, ZERO, cross, dot, lies_between, reduced, subtract
 from .face_checks import is_flat
@@ -22,18 +23,19 @@ from .shell_checks import shell_findings
 
 
 class SolidCheck:
-    """One solid of a model, made ready for its parts to be compared."""
+    """One solid of a model, made ready for its parts to be compared; where a box is given, only those that meet it."""
 
-    def __init__(self, model: Model, solid: int) -> None:
+    def __init__(self, model: Model, solid: int, box: Optional[Box] = None) -> None:
         self._model = model.only(solid)
         self._solid = solid
         self._normals = {face: normal(self._model, face) for face in self._model.faces}
         self._flat_shells = self._find_flat_shells()
         self._shapes = {face: FlatFace(self._model, face) for face in self._model.faces if is_flat(self._model, face)}
-        self._touched = touched_edges(self._model)
         self._around = self._faces_around_vertices()
-        self._edges = BoxIndex({edge: box_of(self._ends(edge)) for edge in self._model.edges})
-        self._vertices = BoxIndex({vertex: box_of([point]) for vertex, point in self._model.vertices.items()})
+        self._near_edges = [edge for edge in self._model.edges if box is None or boxes_meet(box_of(self._ends(edge)), box)]
+        self._near_vertices = [vertex for vertex, point in self._model.vertices.items() if box is None or boxes_meet(box_of([point]), box)]
+        self._edges = BoxIndex({edge: box_of(self._ends(edge)) for edge in self._near_edges})
+        self._vertices = BoxIndex({vertex: box_of([self._model.vertices[vertex]]) for vertex in self._near_vertices})
 
     def findings(self) -> Iterator[Finding]:
         """All slips, each with the numbers concerned."""
@@ -49,6 +51,10 @@ class SolidCheck:
             yield from shell_findings(self._model, self._solid)
 
     # What stands ready
+
+    @cached_property
+    def _touched(self) -> TouchedEdges:
+        return touched_edges(self._model)
 
     def _ends(self, edge: int) -> Tuple[Vector, Vector]:
         start, end = self._model.edges[edge]
@@ -87,14 +93,15 @@ class SolidCheck:
 
     def _equal_points(self) -> Iterator[Finding]:
         first: Dict[Vector, int] = {}
-        for vertex, point in self._model.vertices.items():
+        for vertex in self._near_vertices:
+            point = self._model.vertices[vertex]
             if point in first:
                 yield Finding(TOUCHING, f'vertices {first[point]} and {vertex} of solid {self._solid} lie at one point')
             first.setdefault(point, vertex)
 
     def _equal_edges(self) -> Iterator[Finding]:
         first: Dict[FrozenSet[Vector], int] = {}
-        for edge in self._model.edges:
+        for edge in self._near_edges:
             ends = frozenset(self._ends(edge))
             if ends in first and not self._are_back_to_back(
                     self._faces_beside(edge), self._faces_beside(first[ends])):
@@ -102,7 +109,7 @@ class SolidCheck:
             first.setdefault(ends, edge)
 
     def _vertices_on_edges(self) -> Iterator[Finding]:
-        for edge in self._model.edges:
+        for edge in self._near_edges:
             start, end = self._ends(edge)
             for vertex in sorted(self._vertices.meeting(box_of((start, end)))):
                 if (lies_between(start, end, self._model.vertices[vertex]) and not self._are_back_to_back(
@@ -110,7 +117,7 @@ class SolidCheck:
                     yield Finding(TOUCHING, f'vertex {vertex} lies on edge {edge}')
 
     def _crossing_edges(self) -> Iterator[Finding]:
-        for edge in self._model.edges:
+        for edge in self._near_edges:
             for other in sorted(self._edges.meeting(box_of(self._ends(edge)))):
                 if other > edge and _cross_between(*self._ends(edge), *self._ends(other)):
                     yield from self._crossing(edge, other)

@@ -9,7 +9,7 @@ from ..geometry.face_crossings import comes_into
 from ..geometry.measures import area_vector, normal, why_unfit
 from ..geometry.model import Face, Loop, Model
 from ..geometry.outlines import Impossible
-from ..geometry.sheets import Sheet, overlaid
+from ..geometry.sheets import Region, Sheet, overlaid
 from ..geometry.traced_cycles import Cycle, Side
 from ..geometry.vectors import ZERO, total
 from .assembly import Names, assembled
@@ -43,8 +43,8 @@ def require_flat(model: Model, face: int) -> None:
         raise Impossible('NotFlat', face, why)
 
 
-def combined(solid: int, names: Names, held: Sequence[Sheet], added: Sequence[Sheet], why: Impossible) -> Combined:
-    """A solid of which sheets are held and others are added.
+def combined(solid: int, names: Names, held: Sequence[Sheet], added: Sequence[Sheet], why: Impossible, kept: Sequence[Region] = ()) -> Combined:
+    """A solid of which sheets are held and others are added, and regions are kept as they are.
 
     Refused: OffLattice: edges cross between whole coordinates; NothingLeft; in the words that are given where the sheets make no faces."""
     marked = [sheet._replace(mark=place) for place, sheet in enumerate(added)]
@@ -52,7 +52,7 @@ def combined(solid: int, names: Names, held: Sequence[Sheet], added: Sequence[Sh
         regions = list(overlaid(held, marked))
         if not regions:
             raise Impossible('NothingLeft', solid, f'nothing of solid {solid} would be left')
-        made = assembled(solid, regions, names)
+        made = assembled(solid, [*regions, *kept], names)
     except Impossible as error:
         raise error if error.name in ('OffLattice', 'NothingLeft', 'NumbersSpent') else why from None
     is_joined = sum(_size(region.cycles) for region in regions) < sum(_size(sheet.cycles) for sheet in (*held, *added))
@@ -78,8 +78,13 @@ def require_room(held: Sequence[Sheet], added: Sequence[Sheet], before: Sequence
 
 def findings_near(model: Model, box: Box) -> List[Finding]:
     """What gwb-check says of the faces of a solid that meet a box, taken together: what meets or touches."""
-    near = {face: row for face, row in model.faces.items() if boxes_meet(box_of(model.face_points(face)), box)}
-    return list(SolidCheck(_closed(model, near), model.solids[0]).findings()) if near else []
+    near = {face: _without_far_rings(model, row, box) for face, row in model.faces.items() if boxes_meet(box_of(model.face_points(face)), box)}
+    return list(SolidCheck(_closed(model, near), model.solids[0], box).findings()) if near else []
+
+
+def _without_far_rings(model: Model, face: Face, box: Box) -> Face:
+    """A face without the rings whose boxes don't meet a box."""
+    return face._replace(rings=tuple(ring for ring in face.rings if boxes_meet(box_of(model.loop_points(ring)), box)))
 
 
 def _closed(model: Model, faces: Dict[int, Face]) -> Model:

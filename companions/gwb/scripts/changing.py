@@ -34,8 +34,10 @@ def script_between(before: Model, after: Model, free: Free) -> Optional[List[str
     edges: List[Set[int]] = [_same_edges(before, after), set()]
     for common in edges:
         rings = _Spare(free['face'])
+        regions = _Region(before, same, common), _Region(after, same, common)
+        left = _left_rings(*regions)
         try:
-            old, new = _Reduced(before, free, same, common, rings), _Reduced(after, free, same, common, rings)
+            old, new = (_Reduced(region, free, left, rings) for region in regions)
             renamings = _renamings(before, old.cores, new.cores, free)
             return [*(step.takes for step in old.all_steps), *renamings, *(step.makes for step in reversed(new.all_steps))]
         except _NotSo:
@@ -62,6 +64,33 @@ def _same_half(before: Model, after: Model, half: int) -> bool:
     return before.edges[abs(half)] == after.edges[abs(half)] and before.vertices[vertex] == after.vertices[vertex]
 
 
+class _Region:
+    """The faces of a model that differ, and the edges between them but for those that both models have."""
+
+    def __init__(self, model: Model, same: Set[int], common: Set[int]) -> None:
+        self.model = model
+        self.faces = [face for face in model.faces if face not in same]
+        held = {half for face in self.faces for half in model.face_halves(face)}
+        self.inner = {edge for edge in model.edges if edge in held and -edge in held and edge not in common}
+
+    def is_left(self, loop: int) -> bool:
+        """Whether the loop runs along none of the edges."""
+        return not any(abs(half) in self.inner for half in self.model.loops[loop].halves)
+
+
+def _left_rings(before: _Region, after: _Region) -> Set[int]:
+    """The rings that both models have, in one face, which keeps its outline: they stay where they are."""
+    old, new = before.model, after.model
+
+    def stays(loop: int) -> bool:
+        content = old.loops[loop]
+        return (content == new.loops[loop] and before.is_left(loop) and after.is_left(loop)
+                and all(_same_half(old, new, half) for half in content.halves))
+    return {ring for face in before.faces for row, other in [(old.faces[face], new.faces.get(face))]
+            if other and other.outer == row.outer and stays(row.outer)
+            for ring in set(row.rings) & set(other.rings) if stays(ring)}
+
+
 class _Spare:
     """A spare face for each ring, the same one in both models."""
 
@@ -84,11 +113,11 @@ class _Spare:
 class _Reduced(TakenApart):
     """A model whose faces that differ are taken apart: the steps, and what is left of each part, by its outline."""
 
-    def __init__(self, model: Model, free: Free, same: Set[int], common: Set[int], spare: _Spare) -> None:
+    def __init__(self, region: _Region, free: Free, left: Set[int], spare: _Spare) -> None:
+        """The rings that are left stay where they are."""
+        model = region.model
         super().__init__(model, free)
-        self._region = [face for face in model.faces if face not in same]
-        self._held = {half for face in self._region for half in model.face_halves(face)}
-        self._inner = {edge for edge in model.edges if edge in self._held and -edge in self._held and edge not in common}
+        self._region, self._inner, self._left = region.faces, region.inner, left
         self._outer = {model.tail(half) for edge in model.edges if edge not in self._inner for half in (edge, -edge)}
         self._spare_faces(spare)
         parts = self._connected_loops()
@@ -106,9 +135,9 @@ class _Reduced(TakenApart):
         return self._steps
 
     def _spare_faces(self, spare: _Spare) -> None:
-        """Each ring becomes the outer loop of a face of its own."""
+        """Each ring that isn't left becomes the outer loop of a face of its own."""
         for face in self._region:
-            for ring in self._model.faces[face].rings:
+            for ring in (ring for ring in self._model.faces[face].rings if ring not in self._left):
                 self._face_of[ring] = spare.of(ring)
                 self._step(f'mfkrh {ring} {self._face_of[ring]}', f'kfmrh {face} {self._face_of[ring]}')
 
@@ -118,7 +147,7 @@ class _Reduced(TakenApart):
         for edge in self._inner:
             joined.join(self._loop_of[edge], self._loop_of[-edge])
         parts: Dict[int, List[int]] = {}
-        for loop in (loop for face in self._region for loop in self._model.faces[face].loops):
+        for loop in (loop for face in self._region for loop in self._model.faces[face].loops if loop not in self._left):
             if self._model.loops[loop].is_lone:
                 raise _NotSo
             parts.setdefault(joined.name(loop), []).append(loop)

@@ -1,4 +1,4 @@
-"""Solids cut by planes where `split` takes more than one command, and solids that touch made one.
+"""Solids cut by planes where `split` takes more than one command.
 
 A cut that split refuses for the corners that the plane touches, or for how it runs through faces and holes, is made of the same parts: each
 face is cut by the plane, and caps close both sides; then the solid is taken apart and the two are made, by operators.
@@ -19,9 +19,8 @@ from ..geometry.sheets import Sheet, overlaid
 from ..geometry.traced_cycles import Side, traced
 from ..geometry.vectors import Vector, cross, dot, negative
 from ..joining.assembly import Names, Take, assembled
-from ..joining.combining import Combined, combined, require_flat, require_room, sheets_of
+from ..joining.combining import require_flat, sheets_of
 from ..protocol.complaints import Refused
-from . import arguments
 from .selection import Selecting
 from .solids import Numbers, delete, give, solid_model
 
@@ -207,39 +206,3 @@ def _cuts(sheet: Sheet, plane: Plane) -> Iterator[Side]:
 def _sum(one: Tuple[int, int], other: Tuple[int, int]) -> Tuple[int, int]:
     """Twice the middle of two points: so all stays whole."""
     return (one[0] + other[0], one[1] + other[1])
-
-
-def united(bench: Selecting, solids: Sequence[int]) -> int:
-    """Makes one solid of several that touch, as one command: the number of the first one.
-
-    Refused: NoSolid; NoContact: a solid touches the others in no face; Overlap: two have room in common; Meets: the union would touch
-    itself; NotFlat, OffLattice."""
-    numbers = Numbers(bench)
-    models = [solid_model(bench, solid) for solid in solids]
-    whole, left = models[0], models[1:]
-    overlap = Impossible('Overlap', solids[0], 'the solids overlap, or their union would touch itself')
-    while left:
-        place, made = _with_one(whole, left, numbers, overlap)
-        other = left.pop(place)
-        require_room(sheets_of(whole), sheets_of(other), [whole, other], made.model, overlap)
-        whole = made.model
-    give(bench, [*(line for model in models for line in numbers.taking_away(model)), *numbers.making(whole)])
-    return solids[0]
-
-
-def _with_one(whole: Model, left: Sequence[Model], numbers: Numbers, overlap: Impossible) -> Tuple[int, Combined]:
-    """The first of the solids left that touches the whole in a face, by its place, and the union with it."""
-    for place, other in enumerate(left):
-        names = Names(joined([whole, other]), numbers.take)
-        made = combined(whole.solids[0], names, sheets_of(whole), sheets_of(other), overlap)
-        if made.is_joined:
-            return place, made
-    raise Impossible('NoContact', left[0].solids[0], f'solid {left[0].solids[0]} touches the others in no face')
-
-
-def solid_numbers(bench: Selecting, value: object) -> List[int]:
-    """At least two different numbers of solids of the bench."""
-    found = arguments.numbers('solids', value, 'solid', bench)
-    if len(found) < 2 or len(set(found)) < len(found):
-        raise ValueError('solids: different numbers are wanted, at least two')
-    return found

@@ -297,7 +297,8 @@ class Mirror:
         place = halves.index(half)
         return halves[place:] + halves[:place]
 
-    def _after(self, half: int) -> int:
+    def after(self, half: int) -> int:
+        """The half-edge that follows one that is there, in its loop."""
         halves = self._loops[self._loop_of[half]].halves
         return halves[(halves.index(half) + 1) % len(halves)]
 
@@ -306,7 +307,7 @@ class Mirror:
         found = []
         while first != second:
             found.append(first)
-            first = self._after(-first)
+            first = self.after(-first)
         return found
 
     def _corner(self, corner: Any) -> Tuple[int, int, Tuple[int, ...]]:
@@ -344,7 +345,7 @@ class Mirror:
     def _kev(self, values: Sequence[Any], _: object) -> None:
         half = values[0]
         kept, killed = self.tail(half), self.tail(-half)
-        moved = [] if self._after(half) == -half else self._arc(self._after(half), -half)
+        moved = [] if self.after(half) == -half else self._arc(self.after(half), -half)
         for one in (half, -half):
             self._put_cycle(self._loop_of[one], self._from(one)[1:], kept)
         for other in moved:
@@ -554,10 +555,10 @@ class Mirror:
     def _leaving(self, half: int) -> List[int]:
         """The half-edges that leave the vertex at which one starts."""
         found = [half]
-        following = self._after(-half)
+        following = self.after(-half)
         while following != half:
             found.append(following)
-            following = self._after(-following)
+            following = self.after(-following)
         return found
 
     def _point(self, half: int) -> Vector:

@@ -10,10 +10,10 @@ from ..geometry.outlines import Impossible, simple_normal, steps_along
 from ..geometry.sheets import Sheet
 from ..geometry.traced_cycles import Side
 from ..geometry.vectors import Vector, ZERO, add, cross, dot, negative, reduced, subtract
-from ..joining.assembly import Names
-from ..joining.combining import combined, require_flat, require_room, sheets_of
-from .selection import Selecting
-from .solids import Numbers, give, solid_model
+from ..joining.combining import require_flat
+from .adding import add_sheets, addition
+from .features import Features
+from .solids import Numbers
 
 Path = Sequence[Vector]
 
@@ -63,7 +63,7 @@ def prism(outline: Path, way: Vector) -> Tool:
     return Tool(path, far[::-1], walls)
 
 
-def cut_out(bench: Selecting, face: int, tool: Tool) -> Notch:
+def cut_out(bench: Features, face: int, tool: Tool) -> Notch:
     """Cuts a part out of the solid of a face, in which its lid lies, as one command.
 
     Refused: OutlineOutside: the lid reaches beyond the face; Meets: the part reaches out of the solid, or what is left would touch itself;
@@ -71,25 +71,22 @@ def cut_out(bench: Selecting, face: int, tool: Tool) -> Notch:
     return _changed(bench, face, tool, [[*reversed(path)] for path in tool.paths])
 
 
-def put_on(bench: Selecting, face: int, tool: Tool) -> Notch:
+def put_on(bench: Features, face: int, tool: Tool) -> Notch:
     """Puts a part on the solid of a face, on which its lid lies, as one command. Refused as cut_out is."""
     return _changed(bench, face, tool, tool.paths)
 
 
-def _changed(bench: Selecting, face: int, tool: Tool, paths: Sequence[Path]) -> Notch:
-    solid = bench.face(face).solid.number
-    model, numbers = solid_model(bench, solid), Numbers(bench)
+def _changed(bench: Features, face: int, tool: Tool, paths: Sequence[Path]) -> Notch:
     for point in (point for path in paths for point in path):
         if max(abs(part) for part in point) > FARTHEST:
             raise Impossible('PointRange', 0, 'a corner would lie at {} {} {}, past 1,000,000,000'.format(*point))
     meets = Impossible('Meets', face, f'the part at face {face} would meet the solid elsewhere, or the solid would touch itself')
-    held, added = sheets_of(model), [_sheet(path) for path in paths]
-    made = combined(solid, Names(model, numbers.take), held, added, meets)
-    lid, *others = made.faces
+    numbers = Numbers(bench)
+    held = addition(bench, bench.face(face).solid.number, [_sheet(path) for path in paths], numbers, meets, faces=[face])
+    lid, *others = held.made.faces
     if lid:
         raise Impossible('OutlineOutside', face, f'the outline reaches beyond face {face}')
-    require_room(held, added, [model], made.model, meets)
-    give(bench, numbers.changing(model, made.model))
+    add_sheets(bench, held, numbers, meets)
     floor = () if tool.floor is None else others.pop(0)
     return Notch(floor, tuple(dict.fromkeys(wall for walls in others for wall in walls)))
 

@@ -1,4 +1,4 @@
-"""The methods of a workbench that take solids as wholes (solids.py), cut and unite them (cutting.py), and shape them up to the edges of
+"""The methods of a workbench that take solids as wholes (solids.py), cut (cutting.py) and unite them (uniting.py), and shape them up to the edges of
 their faces (shaping.py)."""
 
 from typing import Optional, Sequence, Tuple
@@ -7,7 +7,7 @@ from ..geometry.model import Model
 from ..geometry.moved import Change, mirroring, moving, scaling
 from ..geometry.outlines import Impossible
 from ..geometry.vectors import ZERO
-from . import arguments, cutting, refining, shaping, solids
+from . import arguments, cutting, refining, shaping, solids, uniting
 from .cutting import Cut, Keep, Plane
 from .features import Features
 from .results import Split
@@ -105,7 +105,7 @@ class SolidMethods(Features):
 
         Refused: NoSolid, NotFlat; NoContact: a solid touches the others in no face; Overlap: two have room in common, or the union
         would touch itself; OffLattice: edges of two solids cross between whole coordinates."""
-        return cutting.united(self, cutting.solid_numbers(self, solids))
+        return uniting.united(self, uniting.solid_numbers(self, solids))
 
     def notch(self, face: arguments.Face, points: arguments.Points, depth: int) -> Notch:
         """A pocket so deep behind the face whose outline may reach the edges of the face; there it is open, and where it is as deep as the
@@ -117,7 +117,7 @@ class SolidMethods(Features):
         would touch itself."""
         number, outline = self._number('face', face), arguments.points('points', points)
         deep = arguments.positive('depth', depth)
-        model = self._solid_at(number)
+        model = self._face_alone(number)
         return shaping.cut_out(self, number, shaping.notch_tool(model, number, outline, deep))
 
     def slot(self, face: arguments.Face, start: arguments.Point, end: arguments.Point, width: int, depth: int) -> Notch:
@@ -125,21 +125,21 @@ class SolidMethods(Features):
         OffLattice: half of the width isn't whole across the line."""
         number, ends = self._number('face', face), (arguments.point('start', start), arguments.point('end', end))
         wide, deep = arguments.positive('width', width), arguments.positive('depth', depth)
-        return shaping.cut_out(self, number, shaping.slot_tool(self._solid_at(number), number, ends, wide, deep))
+        return shaping.cut_out(self, number, shaping.slot_tool(self._face_alone(number), number, ends, wide, deep))
 
     def groove(self, face: arguments.Face, start: arguments.Point, end: arguments.Point, width: int, depth: int) -> Notch:
         """A groove like a V, so wide at the face and so deep under its middle line, which runs from one point to another; it has no floor.
         Refused as slot is."""
         number, ends = self._number('face', face), (arguments.point('start', start), arguments.point('end', end))
         wide, deep = arguments.positive('width', width), arguments.positive('depth', depth)
-        return shaping.cut_out(self, number, shaping.groove_tool(self._solid_at(number), number, ends, wide, deep))
+        return shaping.cut_out(self, number, shaping.groove_tool(self._face_alone(number), number, ends, wide, deep))
 
     def shoulder(self, face: arguments.Face, edge: arguments.Edge, width: int, depth: int) -> Notch:
         """A step along an edge of the face: so wide in the face, from the edge on, and so deep behind it. Refused as notch is; NoEdge,
         NotOfFace: the edge isn't one of the face."""
         number, along = self._number('face', face), self._number('edge', edge)
         wide, deep = arguments.positive('width', width), arguments.positive('depth', depth)
-        model = self._solid_at(number)
+        model = self._face_alone(number)
         self.edge(along).vertices
         half = next((side for side in model.face_halves(number) if abs(side) == along), None)
         if half is None:
@@ -155,7 +155,8 @@ class SolidMethods(Features):
         number, wide = self._number('edge', edge), arguments.positive('width', width)
         far = wide if other is None else arguments.positive('other', other)
         self.edge(number).vertices
-        model = self._solid_at(self.listing().face_of(number))
+        mirror = self._mirror()
+        model = self._model_of(sorted({mirror.face_of_loop(mirror.loop_of(half)) for half in (number, -number)}))
         outwards = shaping.bends_outwards(model, number)
         if outwards is None:
             raise Impossible('FlatEdge', number, f'the faces of edge {number} lie in one plane')
@@ -163,9 +164,10 @@ class SolidMethods(Features):
         made = shape(self, model.face_of(number), shaping.chamfer_tool(model, number, wide, far))
         return made.floor[0]
 
-    def _solid_at(self, face: int) -> Model:
-        """The model of a face's solid."""
-        return solids.solid_model(self, self.face(face).solid.number)
+    def _face_alone(self, face: int) -> Model:
+        """The model of a face alone. Refused: NoFace."""
+        self.face(face).loops
+        return self._model_of([face])
 
     def _placed(self, solid: arguments.Solid, change: Change) -> int:
         number = self._number('solid', solid)

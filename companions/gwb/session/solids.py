@@ -6,7 +6,7 @@ whatever a sound solid has, rings, handles, wires, laminae and several shells, i
 
 from dataclasses import dataclass
 from functools import reduce
-from typing import Callable, Dict, Iterator, List, Mapping, Sequence, Tuple
+from typing import Callable, Dict, Iterator, List, Mapping, Optional, Sequence, Tuple
 
 from ..errors import Unfit
 from ..geometry.free_numbers import KINDS, LARGEST, FreeNumbers, numbers_of, renumbered, renumbering
@@ -14,7 +14,7 @@ from ..geometry.model import Model
 from ..geometry.moved import Change, Displaced, changed, moving, turning
 from ..geometry.outlines import Impossible
 from ..geometry.solids_apart import solids_apart
-from ..geometry.vectors import Vector, ZERO
+from ..geometry.vectors import ZERO
 from ..protocol.complaints import Refused
 from ..scripts.changing import script_between
 from ..scripts.inversion import Step, steps_apart
@@ -104,13 +104,12 @@ class Numbers:
         """The operators that make the solids of the model."""
         return [step.makes for alone in solids_apart(model) for step in reversed(self._steps(alone))]
 
-    def changing(self, before: Model, after: Model) -> List[str]:
-        """The operators that turn a solid into one of the same number: those of the faces that differ where that will do, else all."""
+    def changing(self, before: Model, after: Model) -> Optional[List[str]]:
+        """The operators that turn a solid into one of the same number by the faces that differ; None where these aren't of the kind."""
         try:
-            lines = script_between(before, after, self._free)
+            return script_between(before, after, self._free)
         except Unfit as error:
             raise _spent(error) from None
-        return [*self.taking_away(before), *self.making(after)] if lines is None else lines
 
     def _steps(self, model: Model) -> List[Step]:
         try:
