@@ -1,8 +1,8 @@
 #!/bin/sh
 # Tries the kernel as a library: builds the shared object and the examples in bindings/, compares what they print, looks for leaks, asks the calls
-# over worked scripts, lets threads read at once and sessions have heaps of their own, refuses each allocation in turn, compares the answers to
-# random lines with those to the same commands as typed calls, over a million of them, and the answers to 100,000 random lines with the program's.
-# The last line counts.
+# over worked scripts, lets threads read at once and sessions have heaps of their own, loads listings, refuses each allocation in turn, looks for
+# what sanitizers find, compares the answers to random lines with those to the same commands as typed calls, over a million of them, and the
+# answers to 100,000 random lines with the program's. The last line counts.
 #
 #   tests/library.sh [ARCHIVE [PROGRAM]]
 #
@@ -161,16 +161,48 @@ if has cargo 'cargo check where there is no archive' 'cargo doc where there is n
         --manifest-path bindings/rust/Cargo.toml
 fi
 # (each is a program that was built above)
-in_cpp='library_cpp library_results library_history library_features library_heap'
+in_cpp='library_cpp library_results library_history library_features library_heap library_load'
 threads='library_threads library_sharing'
 if has valgrind 'valgrind over the example in C' $in_cpp $threads; then
     tried 'valgrind over the example in C' valgrind -q --error-exitcode=9 --leak-check=full --show-leak-kinds=all "$dir/built/block_c"
     for name in $in_cpp; do
-        tried "valgrind over $name" valgrind -q --error-exitcode=9 --leak-check=full --show-leak-kinds=all "$dir/built/$name"
+        tried "valgrind over $name" valgrind -q --error-exitcode=9 --leak-check=full --show-leak-kinds=all "$dir/built/$name" 20
     done
     for name in $threads; do
         tried "helgrind over $name" valgrind -q --tool=helgrind --error-exitcode=9 "$dir/built/$name" 100
     done
+fi
+
+# What is in C and C++ is built once more with sanitizers, over the archive as it is, whose requests for memory they see too. The compiler takes
+# the most of it, so all are built side by side.
+sanitizers='-g1 -O0 -fsanitize=address,undefined -fno-sanitize-recover=all'
+# sanitized PROGRAM COMPILER..: builds a program of the tests with them
+sanitized() {
+    source=$1
+    shift
+    "$@" $sanitizers -Ibindings/include -pthread -o "$dir/sanitized/${source%.*}" "tests/$source" "$dir/sanitized/libgwb.a" \
+        > "$dir/sanitized/${source%.*}.log" 2>&1 &
+}
+echo 'int main(void) { return 0; }' > "$dir/empty.c"
+if "${CC:-cc}" $sanitizers -o "$dir/empty" "$dir/empty.c" 2> "$dir/err" && "$dir/empty"; then
+    began=$(date +%s)
+    tried 'the library is built with sanitizers' make -C bindings "ARCHIVE=$archive" "OUT=$dir/sanitized" "CFLAGS=$sanitizers" "$dir/sanitized/libgwb.a"
+    for name in library_heap library_load library_threads library_worked; do
+        sanitized "$name.c" "${CC:-cc}" -std=gnu11
+    done
+    for name in library_cpp library_history library_features library_sharing; do
+        sanitized "$name.cpp" "${CXX:-c++}" -std=c++17
+    done
+    sanitized library_results.cpp "${CXX:-c++}" -std=c++17 -fno-exceptions
+    wait
+    for name in $in_cpp $threads library_worked; do
+        cat "$dir/sanitized/$name.log"
+        counted "$name with sanitizers" "$dir/sanitized/$name" 20
+    done
+    echo "sanitizers took $(($(date +%s) - began)) seconds"
+else
+    echo 'skipped: sanitizers over the programs in C and C++: the compiler has none'
+    skipped=$((skipped + 1))
 fi
 
 tried 'worked scripts are built' cc -O2 -std=gnu11 -Wall -Wextra -Werror -Ibindings/include -o "$dir/built/worked" tests/library_worked.c \
