@@ -130,7 +130,6 @@ for standard in c++17 c++20; do
 done
 built 'the tests without exceptions are built' library_results.cpp "${CXX:-c++}" -std=c++17 -fno-exceptions -Wold-style-cast -Wshadow
 counted 'the tests without exceptions' "$dir/built/library_results"
-counted 'the programs of the page' tests/library_readme.py "$dir/built/libgwb.a"
 built 'history is built' library_history.cpp "${CXX:-c++}" -std=c++17 -Wold-style-cast -Wshadow
 counted 'history, and values that follow it' "$dir/built/library_history"
 built 'features are built' library_features.cpp "${CXX:-c++}" -std=c++17 -Wold-style-cast -Wshadow
@@ -151,6 +150,7 @@ if has rustc 'the crate and the example in Rust are built' 'the example in Rust'
         tried "the tests in Rust, $name" "$dir/built/${name}_rust"
     done
 fi
+counted 'the programs of the page' tests/library_readme.py "$dir/built/libgwb.a"
 without_archive() {
     (cd bindings/rust && env "CARGO_TARGET_DIR=$dir/target" "GWB_LIB_DIR=$dir/none" cargo "$@" --offline)
 }

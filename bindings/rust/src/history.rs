@@ -143,8 +143,7 @@ impl Session {
     /// # use gwb::{Error, Face, Notes, Session};
     /// # let mut session = Session::new()?;
     /// let block = session.block(None, [0, 0, 0], [4, 4, 4])?;
-    /// let mut colours = Notes::new();
-    /// colours.insert(Face(3), "red");
+    /// let mut colours = Notes::from([(Face(3), "red")]);
     /// let (_, changes) = session.followed(|session| session.split(block, [0, 0, 1, -2], None))?;
     /// colours.follow(&changes);
     /// assert_eq!(colours.iter().count(), 2); // face 3, and the part of it that is above
@@ -218,6 +217,12 @@ impl<N: Noted, V: Clone> Notes<N, V> {
             self.gone.extend(self.values.remove(&removed.id).map(|value| (removed.id, value)));
         }
         self.values.extend(parts);
+    }
+}
+
+impl<N: Noted, V, const COUNT: usize> From<[(N, V); COUNT]> for Notes<N, V> {
+    fn from(values: [(N, V); COUNT]) -> Self {
+        Self { values: BTreeMap::from(values), gone: BTreeMap::new() }
     }
 }
 
