@@ -75,8 +75,9 @@ impl Draft<'_> {
 
     /// A new solid, that is another moved; its numbers are above all in use.
     ///
-    /// # Errors [`Error::Refused`] where the solid is not there, a vertex would lie out of range, or too few numbers are left;
-    /// [`Error::Memory`]. Then the draft is as it was.
+    /// # Errors
+    /// [`Error::Refused`] where the solid is not there, a vertex would lie out of range, or too few numbers are left; [`Error::Memory`].
+    /// Then the draft is as it was.
     pub fn copy_solid(&mut self, solid: Solid, motion: Motion) -> Result<Solid, Error> {
         self.together(|draft, mark| {
             let parts = TakenApart::take(draft, solid)?;
