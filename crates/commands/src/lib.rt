@@ -23,6 +23,6 @@ pub use asking::ask;
 pub use changing::change;
 pub use command::{Call, Change, Command, Question, Told, outcome};
 pub use drafting::change_in;
-pub use making::{act, give, give_in, make};
+pub use making::{act, give, give_in, make, moved};
 pub use points::Points;
 pub use stage::{OpenDraft, Stage};

@@ -18,7 +18,7 @@ use std::alloc::Global;
 use undo_journal::{Draft, Failure, Session};
 
 /// What undo or redo is told that ended so.
-fn moved(ended: Result<(), Refusal>) -> Told
+pub fn moved(ended: Result<(), Refusal>) -> Told
     ensures { result ≡ told_of_move ended }
 {
     match ended {
