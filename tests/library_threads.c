@@ -16,7 +16,11 @@ static long wrong_reads(const gwb *g)
     gwb_point point;
     gwb_face_row face;
     uint32_t next, back, loop, few[4];
-    char text[64];
+    char text[64], listing[2048];
+    gwb_plane plane;
+    gwb_wide volume;
+    gwb_counts counts;
+    gwb_refusal refusal;
     for (long i = 0; i < rounds; i++) {
         wrong += gwb_vertex(g, 5, &point) != GWB_FOUND || point.z != 4;
         wrong += gwb_face(g, 1, &face) != GWB_FOUND || face.outer_loop != 1;
@@ -24,6 +28,11 @@ static long wrong_reads(const gwb *g)
                  back != gwb_plus(7);
         wrong += gwb_half_edge_loop(g, next, &loop) != GWB_FOUND || loop != 1;
         wrong += gwb_half_edges(g, 1, few, 4) != 4 || gwb_depth(g) != 1 || gwb_reply(g, text, sizeof text) != 3;
+        wrong += gwb_read_plane(g, 1, &plane, &refusal) != GWB_PLANE || plane.flat != 1;
+        wrong += gwb_read_volume(g, 1, &volume, &refusal) != GWB_VOLUME || volume.low != 384;
+        wrong += gwb_read_counts(g, 1, &counts, &refusal) != GWB_COUNT || counts.edges != 12;
+        wrong += gwb_read_volume(g, 9, &volume, &refusal) != GWB_REFUSED || refusal.value != 9;
+        wrong += i % 64 == 0 && gwb_read_listing(g, listing, sizeof listing) >= sizeof listing;
     }
     return wrong;
 }

@@ -1,7 +1,7 @@
 /* Compares typed calls with lines: reads lines of a script, gives each to one handle as a line and to another as a typed call, where one
  * spells it, and compares kinds, refusals, fresh numbers, depths, texts, and from time to time the listings; and the version with the header's.
- * From time to time operators and larger commands are made steps of a draft of the second handle, some of them taken back to a mark and given
- * again: one that is committed is compared with the same steps as commands of their own, and one that is abandoned with the model before it.
+ * From time to time operators and larger commands are made steps of a draft of the second handle, as calls and as lines, some of them taken
+ * back to a mark and given again: one that is committed is compared with the same steps as commands of their own, and one that is abandoned with the model before it.
  *
  *   tests/random_lines.py LINES | library_typed
  *
@@ -126,32 +126,50 @@ static bool same_wide(gwb_wide a, gwb_wide b)
     return a.high == b.high && a.low == b.low;
 }
 
-/* Queries: what they write is what the reader of the last answer writes. */
+static bool same_plane(gwb_plane a, gwb_plane b)
+{
+    return same_wide(a.a, b.a) && same_wide(a.b, b.b) && same_wide(a.c, b.c) && same_wide(a.d, b.d) && a.flat == b.flat;
+}
+
+/* A reader that measures tells what the query did: its kind, and what was refused. */
+static void same_measure(gwb *g, uint32_t read, uint32_t kind, gwb_refusal refusal, const char *line)
+{
+    gwb_refusal last = {7, 7};
+    gwb_last_refusal(g, &last);
+    if (read != kind || refusal.number != last.number || refusal.value != last.value) fail("the kind read", line);
+}
+
+/* Queries: what they write is what the reader of the last answer writes, and the one that measures. */
 static uint32_t face_plane(gwb *g, uint32_t face)
 {
-    gwb_plane told = {.flat = 7}, last = {.flat = 7};
+    gwb_plane told = {.flat = 7}, last = {.flat = 7}, read = {.flat = 7};
+    gwb_refusal refusal = {7, 7};
     uint32_t kind = gwb_face_plane(g, face, &told);
     gwb_last_plane(g, &last);
-    bool same = same_wide(told.a, last.a) && same_wide(told.b, last.b) && same_wide(told.c, last.c) && same_wide(told.d, last.d);
-    if (!same || told.flat != last.flat) fail("the plane written", "plane");
+    same_measure(g, gwb_read_plane(g, face, &read, &refusal), kind, refusal, "plane");
+    if (!same_plane(told, last) || !same_plane(told, read)) fail("the plane written", "plane");
     return kind;
 }
 
 static uint32_t volume(gwb *g, uint32_t solid)
 {
-    gwb_wide told = {7, 7}, last = {7, 7};
+    gwb_wide told = {7, 7}, last = {7, 7}, read = {7, 7};
+    gwb_refusal refusal = {7, 7};
     uint32_t kind = gwb_volume(g, solid, &told);
     gwb_last_volume(g, &last);
-    if (!same_wide(told, last)) fail("the volume written", "volume");
+    same_measure(g, gwb_read_volume(g, solid, &read, &refusal), kind, refusal, "volume");
+    if (!same_wide(told, last) || !same_wide(told, read)) fail("the volume written", "volume");
     return kind;
 }
 
 static uint32_t count(gwb *g, uint32_t solid)
 {
-    gwb_counts told = {7, 7, 7, 7, 7}, last = {7, 7, 7, 7, 7};
+    gwb_counts told = {7, 7, 7, 7, 7}, last = {7, 7, 7, 7, 7}, read = {7, 7, 7, 7, 7};
+    gwb_refusal refusal = {7, 7};
     uint32_t kind = gwb_count(g, solid, &told);
     gwb_last_counts(g, &last);
-    if (memcmp(&told, &last, sizeof told) != 0) fail("the counts written", "count");
+    same_measure(g, gwb_read_counts(g, solid, &read, &refusal), kind, refusal, "count");
+    if (memcmp(&told, &last, sizeof told) != 0 || memcmp(&told, &read, sizeof told) != 0) fail("the counts written", "count");
     return kind;
 }
 
@@ -227,12 +245,15 @@ static void same_values(const gwb *a, const gwb *b, const char *line)
     if (gwb_depth(a) != gwb_depth(b) || gwb_ahead(a) != gwb_ahead(b)) fail("a depth", line);
 }
 
-/* Compares the listings of the models. */
+/* Compares the listings of the models, and what a reader of the first one writes. */
 static void same_listings(gwb *a, gwb *b, const char *line)
 {
+    static char read[1 << 20], reply[1 << 20];
+    size_t length = gwb_read_listing(a, read, sizeof read);
     gwb_line(a, "list", 4);
     gwb_line(b, "list", 4);
     same_replies(a, b, line);
+    if (gwb_reply(a, reply, sizeof reply) != length || memcmp(read, reply, length) != 0) fail("the listing read", line);
 }
 
 /* A line that was read. */
@@ -328,15 +349,21 @@ static void open_draft(pair *p)
     if (gwb_draft(&p->typed) != GWB_OK) fail("the kind", "a draft");
 }
 
+/* A step of the draft, by turns a call and a line. */
+static uint32_t as_step(gwb *g, size_t count, const command *c)
+{
+    return count % 2 == 0 ? as_call(g, c) : as_line(g, c);
+}
+
 /* A step of the draft, taken back and given again where it is the third of three. */
 static uint32_t stepped(gwb *g, size_t count, const command *c)
 {
     size_t mark = gwb_mark(g);
-    uint32_t kind = as_call(g, c);
+    uint32_t kind = as_step(g, count, c);
     if ((gwb_mark(g) > mark) != (kind == GWB_OK)) fail("the steps", c->line);
     if (count % 3 != 2) return kind;
     if (gwb_back(g, mark) != GWB_OK || gwb_mark(g) != mark) fail("a mark", c->line);
-    if (as_call(g, c) != kind) fail("the kind of a step given again", c->line);
+    if (as_step(g, count + 1, c) != kind) fail("the kind of a step given again", c->line);
     return kind;
 }
 
@@ -398,11 +425,20 @@ static bool is_change(const command *c)
     return (c->place >= 0 && c->place < CHANGES) || c->place == LAMINA;
 }
 
-/* A query in a draft, whose model the other handle has too. */
+/* A query in a draft, by turns a call and a line, or a line that no call spells. The other handle has the same model, unless the draft is
+ * alone. */
 static void ask(pair *p, const command *c)
 {
-    if (as_call(&p->typed, c) != as_line(&p->lines, c)) fail("the kind in a draft", c->line);
+    uint32_t kind = as_step(&p->typed, p->count, c);
+    if (kind == GWB_OK || kind == GWB_IN_DRAFT) fail("the kind in a draft", c->line);
+    if (p->is_alone) return;
+    if (kind != as_line(&p->lines, c)) fail("the kind in a draft", c->line);
     same_replies(&p->typed, &p->lines, c->line);
+}
+
+static bool is_move(const command *c)
+{
+    return c->place >= CHANGES && c->place < QUERIES;
 }
 
 static void hear(pair *p, const command *c)
@@ -412,10 +448,10 @@ static void hear(pair *p, const command *c)
         give(p, c);
     } else if (is_change(c)) {
         step(p, c);
-    } else if (is_query(c) && !p->is_alone) {
-        ask(p, c);
-    } else {
+    } else if (is_move(c)) {
         refuse_in_draft(&p->typed, c);
+    } else {
+        ask(p, c);
     }
     if (p->is_open && p->count == MOST_STEPS) end_draft(p);
 }

@@ -283,7 +283,7 @@ static void drafts_a_wire(gwb *g)
     kinds[4] = gwb_kev(g, 99);
     kinds[5] = gwb_draft(g);
     kinds[6] = gwb_undo(g);
-    kinds[7] = given(g, "list");
+    kinds[7] = given(g, "undo");
     size_t mark = gwb_mark(g);
     kinds[8] = gwb_lamina(g, 2, CORNERS, 3);
     HOLDS(mark == 2 && gwb_mark(g) > mark);
@@ -293,6 +293,39 @@ static void drafts_a_wire(gwb *g)
     kinds[11] = gwb_back(g, mark);
     HOLDS(gwb_mark(g) == 0);
     KINDS(kinds, 12, 1, 1, 1, 2, 11, 11, 11, 1, 1, 1, 12);
+}
+
+/* Lines in a draft: operators and larger commands are its steps, questions and the listing are of its model, and it has no undo and no redo,
+ * which leave the last answer. */
+static void lines_in_a_draft(void)
+{
+    gwb g = opened();
+    uint32_t kinds[13];
+    gwb_refusal refusal = {0, 0};
+    gwb_wide volume = {0, 0};
+    char text[64];
+    kinds[0] = given(&g, "mvfs 1 1 1 1 0 0 0");
+    kinds[1] = gwb_draft(&g);
+    kinds[2] = given(&g, "block 2 0 0 0 4 4 4");
+    kinds[3] = given(&g, "mev @1 @1 20 20 9 9 9");
+    HOLDS(gwb_mark(&g) > 10);
+    kinds[4] = given(&g, "kvfs 2");
+    HOLDS(gwb_last_refusal(&g, &refusal) == 1 && refusal.value == 2);
+    kinds[5] = given(&g, "count 2");
+    HOLDS(gwb_reply(&g, text, sizeof text) == 17 && memcmp(text, "count 8 12 6 0 2\n", 17) == 0);
+    kinds[6] = given(&g, "volume 2");
+    kinds[7] = given(&g, "undo");
+    kinds[8] = given(&g, "redo");
+    HOLDS(gwb_last_volume(&g, &volume) == 1 && volume.low == 384);
+    kinds[9] = given(&g, "plane 99");
+    kinds[10] = given(&g, "no word");
+    kinds[11] = given(&g, " # nothing");
+    kinds[12] = given(&g, "list");
+    KINDS(kinds, 1, 1, 1, 1, 2, 7, 6, 11, 11, 2, 3, 0, 8);
+    size_t listed = gwb_reply(&g, text, sizeof text);
+    HOLDS(gwb_commit(&g) == 1 && gwb_depth(&g) == 2 && given(&g, "list") == 8 && gwb_reply(&g, text, sizeof text) == listed);
+    HOLDS(gwb_undo(&g) == 1 && given(&g, "count 2") == 2 && given(&g, "kvfs 1") == 1);
+    gwb_close(&g);
 }
 
 /* A draft that is committed is one command, one that is abandoned leaves what can be redone, and one that is open can be closed. */
@@ -353,6 +386,34 @@ static void neighbours(void)
     HOLDS(gwb_previous_half_edge(&g, 2, &back) == 9 && gwb_half_edge_loop(&g, 2, &loop) == 9 && gwb_vertex_half_edge(&g, 1, &half_edge) == 9);
 }
 
+/* Measures by readers: they tell what the queries tell, and leave the handle and the last answer. */
+static void measures(void)
+{
+    gwb g = opened();
+    HOLDS(gwb_block(&g, 1, 0, 0, 0, 4, 4, 4) == 1 && gwb_kvfs(&g, 1) == 2);
+    const gwb before = g;
+    gwb_plane plane = {.flat = 7}, asked = {.flat = 7};
+    gwb_wide volume = {7, 7};
+    gwb_counts counts = {0, 0, 0, 0, 0};
+    gwb_refusal refusal = {7, 7}, last = {0, 0};
+    char text[16], listing[2048], listed[2048];
+    HOLDS(gwb_read_plane(&g, 1, &plane, &refusal) == 5 && gwb_read_volume(&g, 1, &volume, &refusal) == 6);
+    HOLDS(gwb_read_counts(&g, 1, &counts, &refusal) == 7 && refusal.number == 7 && refusal.value == 7);
+    HOLDS(volume.high == 0 && volume.low == 384 && plane.flat == 1 && counts.vertices == 8 && counts.edges == 12 && counts.sum == 2);
+    HOLDS(gwb_read_volume(&g, 9, &volume, &refusal) == 2 && volume.low == 384 && refusal.value == 9);
+    HOLDS(gwb_read_plane(&g, 99, &plane, &refusal) == 2 && plane.flat == 1 && refusal.value == 99);
+    HOLDS(gwb_read_counts(&g, 3, &counts, &refusal) == 2 && counts.faces == 6 && refusal.value == 3);
+    size_t length = gwb_read_listing(&g, listing, sizeof listing);
+    HOLDS(memcmp(&before, &g, sizeof g) == 0 && gwb_last_refusal(&g, &last) == 1 && last.value == 1);
+    HOLDS(gwb_reply(&g, text, sizeof text) < sizeof text && length > 0 && length < sizeof listing);
+    HOLDS(given(&g, "list") == 8 && gwb_reply(&g, listed, sizeof listed) == length && memcmp(listing, listed, length) == 0);
+    HOLDS(gwb_face_plane(&g, 1, &asked) == 5 && memcmp(&asked.a, &plane.a, 4 * sizeof plane.a) == 0);
+    gwb_close(&g);
+    HOLDS(gwb_read_plane(&g, 1, &plane, &refusal) == 9 && gwb_read_volume(&g, 1, &volume, &refusal) == 9);
+    HOLDS(gwb_read_counts(&g, 1, &counts, &refusal) == 9 && gwb_read_listing(&g, listing, sizeof listing) == SIZE_MAX);
+    HOLDS(counts.faces == 6 && volume.low == 384 && refusal.value == 3);
+}
+
 /* Which kinds are answers that were asked for, and that each has a text. */
 static void kinds_of_answers(void)
 {
@@ -364,8 +425,8 @@ static void kinds_of_answers(void)
 }
 
 static void (*const TESTS[])(void) = {split_through_a_hole, answers_as_values, too_little_room, longest_line, closed_handle, typed_calls,
-                                      typed_query, typed_rings, typed_laminas, typed_parts, drafts_of_a_wire, codes, neighbours,
-                                      kinds_of_answers};
+                                      typed_query, typed_rings, typed_laminas, typed_parts, drafts_of_a_wire, lines_in_a_draft, codes, neighbours,
+                                      measures, kinds_of_answers};
 
 int main(void) {
     unsigned failed = 0;

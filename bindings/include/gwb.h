@@ -16,9 +16,8 @@
  * - Calls that take `const gwb *` are readers. They leave the handle alone and work on a copy of its two words, which has a share in the
  *   session for as long as the call lasts. So many may run at once for one handle, from any threads, as long as no other call for it runs.
  * - A call that takes `gwb *` needs the handle for itself: it takes the session out of the handle and puts another back. Let a lock, a
- *   queue
- *   or a join order it before and after every other call for that handle. The queries (gwb_face_plane, gwb_volume, gwb_count) are such
- *   calls: they keep the last answer.
+ *   queue or a join order it before and after every other call for that handle. The queries gwb_face_plane, gwb_volume and gwb_count are
+ *   such calls, since they keep the last answer; gwb_read_plane, gwb_read_volume and gwb_read_counts keep none.
  * - A handle may go from thread to thread: a session has no lock, no thread-local and no global variable. Only its heap has to be one that
  *   all of its threads may use, as malloc is.
  *
@@ -476,12 +475,12 @@ enum gwb_kind gwb_undo(gwb *g);
 /** Does the command again that was taken back last. */
 enum gwb_kind gwb_redo(gwb *g);
 
-/* A draft of the next command: from gwb_draft on, each operator and each larger command is a step of it, or several, and readers and
- * queries speak of the model that the steps make. A call that is not GWB_OK changes nothing, and the draft goes on. gwb_close gives a draft
- * up.
+/* A draft of the next command: from gwb_draft on, each operator and each larger command, by a call or a line, is a step of it, or several,
+ * and readers and queries speak of the model that the steps make. A call that is not GWB_OK changes nothing, and the draft goes on.
+ * gwb_close gives a draft up.
  *
- * In a draft a line, undo, redo and a second gwb_draft are GWB_IN_DRAFT; gwb_commit, gwb_abandon and gwb_back without a draft are
- * GWB_NO_DRAFT. */
+ * In a draft undo and redo, by a call or a line, and a second gwb_draft are GWB_IN_DRAFT; gwb_commit, gwb_abandon and gwb_back without a
+ * draft are GWB_NO_DRAFT. */
 
 /** Opens a draft. */
 enum gwb_kind gwb_draft(gwb *g);
@@ -514,6 +513,42 @@ enum gwb_kind gwb_face_plane(gwb *g, uint32_t face, gwb_plane *plane);
 enum gwb_kind gwb_volume(gwb *g, uint32_t solid, gwb_wide *six_volumes);
 /** How many parts a solid has: GWB_COUNT. */
 enum gwb_kind gwb_count(gwb *g, uint32_t solid, gwb_counts *counts);
+
+/** @cond the exports of the readers */
+enum gwb_kind gwb_lent_plane(gwb *copy, uint32_t face, gwb_plane *plane, gwb_refusal *refusal);
+enum gwb_kind gwb_lent_volume(gwb *copy, uint32_t solid, gwb_wide *six_volumes, gwb_refusal *refusal);
+enum gwb_kind gwb_lent_counts(gwb *copy, uint32_t solid, gwb_counts *counts, gwb_refusal *refusal);
+size_t gwb_lent_listing(gwb *copy, char *buf, size_t room);
+/** @endcond */
+
+/** The same as readers, which keep no answer: the plane of a face. GWB_PLANE and the plane is written, GWB_REFUSED and the refusal is, or
+ * GWB_CLOSED and nothing is. */
+static inline enum gwb_kind gwb_read_plane(const gwb *g, uint32_t face, gwb_plane *plane, gwb_refusal *refusal)
+{
+    gwb copy = *g;
+    return gwb_lent_plane(&copy, face, plane, refusal);
+}
+
+/** Six times the volume of a solid, alike: GWB_VOLUME. A reader. */
+static inline enum gwb_kind gwb_read_volume(const gwb *g, uint32_t solid, gwb_wide *six_volumes, gwb_refusal *refusal)
+{
+    gwb copy = *g;
+    return gwb_lent_volume(&copy, solid, six_volumes, refusal);
+}
+
+/** How many parts a solid has, alike: GWB_COUNT. A reader. */
+static inline enum gwb_kind gwb_read_counts(const gwb *g, uint32_t solid, gwb_counts *counts, gwb_refusal *refusal)
+{
+    gwb copy = *g;
+    return gwb_lent_counts(&copy, solid, counts, refusal);
+}
+
+/** The listing of the model, as the line `list` answers it, into a buffer, as gwb_reply writes it. A reader. */
+static inline size_t gwb_read_listing(const gwb *g, char *buf, size_t room)
+{
+    gwb copy = *g;
+    return gwb_lent_listing(&copy, buf, room);
+}
 
 /* ---- the model at once, for display and export. Not with libgwb_c.a alone. */
 

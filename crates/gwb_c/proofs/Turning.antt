@@ -1,28 +1,26 @@
 -- What a call does to a handle, from what it does to the slot behind it.
-use Rattle.std.proofs.Common.{◌≡◌, ◌∙◌, ℕ, Bool, true, false, Option, Some, refl, sym, subst}
-use Rattle.std.specs.Prelude.{not}
-use Rattle.gwb_c.specs.Handle.{Unless, Calls, CallsOfSession, CallsOfDraft}
+use Rattle.std.proofs.Common.{◌≡◌, ◌∙◌, ℕ, Bool, true, false, Option, Some, sym, ap, subst}
+use Rattle.std.specs.Prelude.{cond}
+use Rattle.gwb_c.specs.Handle.{Unless, Calls, lacking}
 use Rattle.session_slots.specs.Answered.{status_of}
 use Rattle.session_slots.specs.Stages.{is_draft}
+use Rattle.session_slots.specs.Lines.{Unless_lacking}
+use Rattle.commands.specs.declared.stage.Stage.{Stage}
 use Rattle.session_slots.specs.declared.slot.Slot.{Slot}
 
-module _ (R : Slot → Slot → Type 0) (o : Option Slot) (x : Slot) (is : o ≡ Some x) (new : Option Slot) where
-  pub turned_away : is_draft x.stage ≡ true → new ≡ Some x → CallsOfSession R o new 11
-  turned_away drafting kept = subst (λ p. CallsOfSession R p new 11) (sym is) (subst (λ b. Unless b 11 R x new 11) (sym drafting) (kept, refl))
+module _ (without : Option Stage → Bool) (R : Slot → Slot → Type 0) (o : Option Slot) (x : Slot) (is : o ≡ Some x) (new : Option Slot) (kind : ℕ) where
+  pub turned_away : without x.stage ≡ true → new ≡ Some x → kind ≡ lacking x.stage → Calls without R o new kind
+  turned_away hasnt kept told = subst (λ p. Calls without R p new kind) (sym is) (subst (λ b. Unless b (lacking x.stage) R x new kind) (sym hasnt) (kept, told))
 
-  pub no_draft_here : is_draft x.stage ≡ false → new ≡ Some x → CallsOfDraft R o new 12
-  no_draft_here none kept = subst (λ p. CallsOfDraft R p new 12) (sym is) (subst (λ b. Unless (not b) 12 R x new 12) (sym none) (kept, refl))
+  pub goes_on : without x.stage ≡ false → (y : Slot) → new ≡ Some y → kind ≡ status_of y.answer → R x y → Calls without R o new kind
+  goes_on has y after told holds = subst (λ p. Calls without R p new kind) (sym is) (subst (λ b. Unless b (lacking x.stage) R x new kind) (sym has) (y, after, told, holds))
 
-  module _ (y : Slot) (after : new ≡ Some y) (kind : ℕ) (told : kind ≡ status_of y.answer) (holds : R x y) where
-    pub goes_on : Calls R o new kind
-    goes_on = subst (λ p. Calls R p new kind) (sym is) (y, after, told, holds)
+  pub goes_so : Unless (without x.stage) (lacking x.stage) R x new kind → Calls without R o new kind
+  goes_so h = subst (λ p. Calls without R p new kind) (sym is) h
 
-    pub goes_on_in_session : is_draft x.stage ≡ false → CallsOfSession R o new kind
-    goes_on_in_session none = subst (λ p. CallsOfSession R p new kind) (sym is) (subst (λ b. Unless b 11 R x new kind) (sym none) (y, after, told, holds))
-
-    pub goes_on_in_draft : is_draft x.stage ≡ true → CallsOfDraft R o new kind
-    goes_on_in_draft drafting = subst (λ p. CallsOfDraft R p new kind) (sym is) (subst (λ b. Unless (not b) 12 R x new kind) (sym drafting) (y, after, told, holds))
-
--- what the test for a draft tells
-pub is_so : (x y : Slot) (b w : Bool) → b ≡ is_draft y.stage → y ≡ x → b ≡ w → is_draft x.stage ≡ w
-is_so x y b w told same is = subst (λ (z : Slot). is_draft z.stage ≡ w) same (sym told ∙ is)
+-- a line that was heard or not
+pub hears : (b : Bool) (R : Slot → Slot → Type 0) (x y : Slot) (heard : Bool) (new : Option Slot) (kind : ℕ) → Unless_lacking b R x y heard → new ≡ Some y
+    → kind ≡ cond heard (status_of y.answer) (lacking y.stage) → Unless b (lacking x.stage) R x new kind
+hears true R x y heard new kind h after told =
+    (after ∙ ap (λ (z : Slot). Some z) h.1, told ∙ ap (λ (w : Bool). cond w (status_of y.answer) (lacking y.stage)) h.0 ∙ ap (λ (z : Slot). lacking z.stage) h.1)
+hears false R x y heard new kind h after told = (y, after, told ∙ ap (λ (w : Bool). cond w (status_of y.answer) (lacking y.stage)) h.0, h.1)

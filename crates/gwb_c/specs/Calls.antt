@@ -8,20 +8,15 @@ use Rattle.commands.specs.declared.command.Command.TheVariants as command
 use Rattle.commands.specs.declared.command.Call.{Call}
 use Rattle.commands.specs.declared.command.Call.TheVariants as call
 use Rattle.script_running.specs.declared.script_judging.judging.Answer.{Answer}
+use Rattle.session_slots.specs.Stages.{lacks}
 use Rattle.session_slots.specs.Slots.{Slot_does, Slot_asks}
 use Rattle.session_slots.specs.Parting.{Slot_makes_part}
 use Rattle.session_slots.specs.declared.slot.Slot.{Slot}
-use Rattle.gwb_c.specs.Handle.{Calls, CallsOfSession, CallsOfDraft, Recalls, RecallsBy}
+use Rattle.gwb_c.specs.Handle.{Calls, none, Recalls, RecallsBy}
 
--- a call that a session has and a draft has, one that a draft has not, and one that only a draft has
+-- a call, but where the session or the draft hasn't it
 abbrev pub Does : Option Slot → Call → Option Slot → ℕ → Type 0
-Does old c new kind = Calls (λ x y. Slot_does x c y) old new kind
-
-abbrev pub DoesInSession : Option Slot → Call → Option Slot → ℕ → Type 0
-DoesInSession old c new kind = CallsOfSession (λ x y. Slot_does x c y) old new kind
-
-abbrev pub DoesInDraft : Option Slot → Call → Option Slot → ℕ → Type 0
-DoesInDraft old c new kind = CallsOfDraft (λ x y. Slot_does x c y) old new kind
+Does old c new kind = Calls (lacks c) (λ x y. Slot_does x c y) old new kind
 
 -- a call that is a change of the model: in a session a command, in a draft steps
 abbrev pub Changes : Option Slot → Change → Option Slot → ℕ → Type 0
@@ -33,11 +28,11 @@ Acts old op new kind = Changes old (change.Act op) new kind
 
 -- a call that is a query
 abbrev pub Asks : Option Slot → Question → Option Slot → ℕ → Type 0
-Asks old q new kind = Calls (λ x y. Slot_asks x q y) old new kind
+Asks old q new kind = Calls none (λ x y. Slot_asks x q y) old new kind
 
 -- a call that makes faces of a solid one of their own
 abbrev pub Parts : Option Slot → List ℕ → ℕ → Option Slot → ℕ → Type 0
-Parts old fs t new kind = Calls (λ x y. Slot_makes_part x fs t y) old new kind
+Parts old fs t new kind = Calls none (λ x y. Slot_makes_part x fs t y) old new kind
 
 -- C is told a kind alone, and nothing has changed; a closed handle tells that it is closed
 abbrev pub Leaves : Option Slot → ℕ → Option Slot → ℕ → Type 0

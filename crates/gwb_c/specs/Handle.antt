@@ -1,13 +1,18 @@
 -- What C's calls do to the session behind a handle.
-use Rattle.std.specs.Prelude.{◌≡◌, ◌⊎◌, ◌-◌, ◌^◌, ℕ, Bool, true, false, not, List, length, Option, Some, None}
+use Rattle.std.specs.Prelude.{◌≡◌, ◌⊎◌, ◌-◌, ◌^◌, ℕ, Bool, true, false, cond, List, length, Option, Some, None}
 use Rattle.euler_operators.specs.Model.{Model}
 use Rattle.script_running.specs.declared.script_judging.judging.Answer.{Answer}
 use Rattle.shapes.specs.Fresh.{taken_in}
 use Rattle.solid_walks.specs.Counters.{taken_of}
 use Rattle.gwb_c.specs.FreshNumbers.{fresh_in}
-use Rattle.session_slots.specs.Answered.{status_of}
+use Rattle.script_running.specs.declared.script_judging.judging.Answer.TheVariants.{Silent, Listing}
+use Rattle.commands.specs.declared.command.Question.{Question}
+use Rattle.commands.specs.Telling.{asked}
+use Rattle.session_slots.specs.Answered.{status_of, refusal_in}
+use Rattle.session_slots.specs.Slots.{answer_after}
+use Rattle.session_slots.specs.declared.answers.Refused.{Refused}
 use Rattle.session_slots.specs.Stages.{shown, is_draft, text_in}
-use Rattle.session_slots.specs.Slots.{Slot_notes}
+use Rattle.session_slots.specs.Lines.{spoken, lacks_said, Slot_notes}
 use Rattle.session_slots.specs.Written.{laid_over, WritesOne}
 use Rattle.gwb_c.specs.declared.fresh.Range.{Range}
 use Rattle.commands.specs.declared.stage.Stage.{Stage}
@@ -18,24 +23,22 @@ abbrev pub Unless : Bool → ℕ → (Slot → Slot → Type 0) → Slot → Opt
 Unless true n R x new kind = (new ≡ Some x) × (kind ≡ n)
 Unless false n R x new kind = (y : Slot) × (new ≡ Some y) × (kind ≡ status_of y.answer) × R x y
 
--- a call that a session has and a draft has; a closed handle stays as it is
-abbrev pub Calls : (Slot → Slot → Type 0) → Option Slot → Option Slot → ℕ → Type 0
-Calls R None new kind = (new ≡ None) × (kind ≡ 9)
-Calls R (Some x) new kind = Unless false 0 R x new kind
+-- what C is told of a call that a session or a draft hasn't
+abbrev pub lacking : Option Stage → ℕ
+lacking o = cond (is_draft o) 11 12
 
--- a call that a draft has not
-abbrev pub CallsOfSession : (Slot → Slot → Type 0) → Option Slot → Option Slot → ℕ → Type 0
-CallsOfSession R None new kind = (new ≡ None) × (kind ≡ 9)
-CallsOfSession R (Some x) new kind = Unless (is_draft x.stage) 11 R x new kind
+-- a call, but where the session or the draft hasn't it; a closed handle stays as it is
+abbrev pub Calls : (Option Stage → Bool) → (Slot → Slot → Type 0) → Option Slot → Option Slot → ℕ → Type 0
+Calls without R None new kind = (new ≡ None) × (kind ≡ 9)
+Calls without R (Some x) new kind = Unless (without x.stage) (lacking x.stage) R x new kind
 
--- a call that only a draft has
-abbrev pub CallsOfDraft : (Slot → Slot → Type 0) → Option Slot → Option Slot → ℕ → Type 0
-CallsOfDraft R None new kind = (new ≡ None) × (kind ≡ 9)
-CallsOfDraft R (Some x) new kind = Unless (not (is_draft x.stage)) 12 R x new kind
+-- each session and each draft has it
+abbrev pub none : Option Stage → Bool
+none o = false
 
--- the line is answered
+-- the line is answered, but undo and redo in a draft
 abbrev pub Hears : Option Slot → List ℕ → Option Slot → ℕ → Type 0
-Hears old line new kind = CallsOfSession (λ x y. Slot_notes x line y) old new kind
+Hears old line new kind = Calls (lacks_said (spoken line)) (λ x y. Slot_notes x line y) old new kind
 
 -- a number that the session or the draft tells; a closed handle tells the greatest 64-bit number
 abbrev pub Numbers : (Stage → ℕ) → Option Slot → ℕ → Type 0
@@ -46,10 +49,17 @@ Numbers f (Some x) n = (g : Stage) → x.stage ≡ Some g → n ≡ f g
 abbrev pub Writes : List ℕ → List ℕ → List ℕ → ℕ → Type 0
 Writes text old new n = ((n ≡ length text) × (new ≡ laid_over text old)) ⊎ ((n ≡ 2 ^ 64 - 1) × (new ≡ old))
 
--- the text of the last answer; a closed handle has none
+-- the text of an answer; a closed handle has none
+abbrev pub Says : (Slot → Answer) → Option Slot → List ℕ → List ℕ → ℕ → Type 0
+Says f None old new n = (n ≡ 2 ^ 64 - 1) × (new ≡ old)
+Says f (Some x) old new n = (g : Stage) → x.stage ≡ Some g → Writes (text_in (shown g) (f x)) old new n
+
+-- that of the last answer, and the listing of the model shown
 abbrev pub Replies : Option Slot → List ℕ → List ℕ → ℕ → Type 0
-Replies None old new n = (n ≡ 2 ^ 64 - 1) × (new ≡ old)
-Replies (Some x) old new n = (g : Stage) → x.stage ≡ Some g → Writes (text_in (shown g) x.answer) old new n
+Replies o old new n = Says (λ x. x.answer) o old new n
+
+abbrev pub Lists_model : Option Slot → List ℕ → List ℕ → ℕ → Type 0
+Lists_model o old new n = Says (λ x. Listing) o old new n
 
 -- a value that is there is written; else nothing is
 abbrev pub Gives : {X : Type 0} → Option X → X → X → ℕ → Type 0
@@ -89,3 +99,12 @@ GivesFresh k (Some y) old new told = (g : Stage) → y.stage ≡ Some g → Give
 abbrev pub Lists : (Model → List ℕ → Type 0) → Option Slot → List ℕ → List ℕ → ℕ → Type 0
 Lists R None old new n = (n ≡ 2 ^ 64 - 1) × (new ≡ old)
 Lists R (Some y) old new n = (g : Stage) → y.stage ≡ Some g → WritesOne (R (shown g)) old new n
+
+-- an answer in numbers: its kind, its value in another form, and what it refuses; what it hasn't is not written
+abbrev pub Reports : {X Y : Type 0} → (Y → X) → (Answer → Option X) → Answer → Y → Y → Refused → Refused → ℕ → Type 0
+Reports g f a old new was is kind = (kind ≡ status_of a) × (told : ℕ) × GivesBy g (f a) old new told × (refused : ℕ) × Gives (refusal_in a) was is refused
+
+-- what a question is answered of the model shown; a closed handle has no answer
+abbrev pub Measures : {X Y : Type 0} → (Y → X) → (Answer → Option X) → Question → Option Slot → Y → Y → Refused → Refused → ℕ → Type 0
+Measures g f q None old new was is kind = (kind ≡ 9) × (new ≡ old) × (is ≡ was)
+Measures g f q (Some x) old new was is kind = (h : Stage) → x.stage ≡ Some h → Reports g f (answer_after Silent (asked (shown h) q)) old new was is kind

@@ -3,43 +3,43 @@ ghost use Rattle.std.specs.Prelude.{◌≡◌, Some};
 ghost use Rattle.commands.specs.declared.command.Call.TheVariants as call;
 ghost use Rattle.session_slots.specs.Stages.{steps_in};
 ghost use Rattle.session_slots.specs.Owned.{slot_in};
-ghost use Rattle.gwb_c.specs.Calls.{DoesInSession, DoesInDraft};
+ghost use Rattle.gwb_c.specs.Calls.{Does};
 ghost use Rattle.gwb_c.specs.Handle.{Numbers};
 
-use crate::calling::{call_of_draft, call_of_session};
+use crate::calling::call;
 use session_slots::{Call, Gwb, GwbLent, Slot, hide, show};
 use std::alloc::Global;
 
 /// Opens a draft of the next command: from then on operators and larger commands are its steps.
 #[unsafe(no_mangle)]
 pub extern "C" fn gwb_draft(alloc: Global, gwb: &mut Gwb) -> u32
-    ensures { DoesInSession gwb.old.kept.value call.Open gwb.new.kept.value result }
+    ensures { Does gwb.old.kept.value call.Open gwb.new.kept.value result }
 {
-    call_of_session(alloc, gwb, Call::Open)
+    call(alloc, gwb, Call::Open)
 }
 
 /// Makes the steps of the draft one command, also where there was none. It takes no memory.
 #[unsafe(no_mangle)]
 pub extern "C" fn gwb_commit(alloc: Global, gwb: &mut Gwb) -> u32
-    ensures { DoesInDraft gwb.old.kept.value call.Commit gwb.new.kept.value result }
+    ensures { Does gwb.old.kept.value call.Commit gwb.new.kept.value result }
 {
-    call_of_draft(alloc, gwb, Call::Commit)
+    call(alloc, gwb, Call::Commit)
 }
 
 /// Takes the steps of the draft back, and leaves no trace of it. It takes no memory.
 #[unsafe(no_mangle)]
 pub extern "C" fn gwb_abandon(alloc: Global, gwb: &mut Gwb) -> u32
-    ensures { DoesInDraft gwb.old.kept.value call.Abandon gwb.new.kept.value result }
+    ensures { Does gwb.old.kept.value call.Abandon gwb.new.kept.value result }
 {
-    call_of_draft(alloc, gwb, Call::Abandon)
+    call(alloc, gwb, Call::Abandon)
 }
 
 /// Takes the steps of the draft since a mark back; where there are no more than that, nothing changes. It takes no memory.
 #[unsafe(no_mangle)]
 pub extern "C" fn gwb_back(alloc: Global, gwb: &mut Gwb, mark: usize) -> u32
-    ensures { DoesInDraft gwb.old.kept.value (call.Back mark) gwb.new.kept.value result }
+    ensures { Does gwb.old.kept.value (call.Back mark) gwb.new.kept.value result }
 {
-    call_of_draft(alloc, gwb, Call::Back(mark))
+    call(alloc, gwb, Call::Back(mark))
 }
 
 fn steps_of(slot: &Slot) -> usize

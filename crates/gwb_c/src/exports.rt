@@ -3,13 +3,11 @@ ghost use Rattle.std.specs.Prelude.{◌≡◌, Some, None};
 ghost use Rattle.session_slots.specs.Stages.{undos, redos};
 ghost use Rattle.session_slots.specs.Opening.{Opened};
 ghost use Rattle.session_slots.specs.Owned.{slot_in};
-ghost use Rattle.gwb_c.specs.Handle.{Hears, Numbers, Replies};
+ghost use Rattle.gwb_c.specs.Handle.{Hears, Numbers, Says, Replies, Lists_model};
 
-use crate::told::{CLOSED, IN_DRAFT};
-use session_slots::{
-    Gwb, GwbLent, Slot, begin, copy_front, hear, hide, is_drafting, put, show, status, take,
-    text_of,
-};
+use crate::told::{CLOSED, told_of_line};
+use script_running::Answer;
+use session_slots::{Gwb, GwbLent, Slot, begin, copy_front, hear, hide, put, show, take, text_of};
 use std::alloc::Global;
 
 /// Opens a session that holds the empty model. False where memory is refused, or there is a session; then nothing has changed.
@@ -31,7 +29,7 @@ pub extern "C" fn gwb_close(alloc: Global, gwb: &mut Gwb)
 }
 
 /// Answers a line, without its newline, and keeps the answer. Says what kind of answer it is: 0 silent, 1 `ok`, 2 `refused`,
-/// 3 `fault`, 4 `memory`, 5 `plane`, 6 `volume`, 7 `count`, 8 a listing; 9 where there is no session, 11 in a draft.
+/// 3 `fault`, 4 `memory`, 5 `plane`, 6 `volume`, 7 `count`, 8 a listing; 9 where there is no session, 11 of undo and redo in a draft.
 #[unsafe(no_mangle)]
 pub extern "C" fn gwb_line(alloc: Global, gwb: &mut Gwb, line: &[u8]) -> u32
     ensures { Hears gwb.old.kept.value line.now gwb.new.kept.value result }
@@ -39,15 +37,23 @@ pub extern "C" fn gwb_line(alloc: Global, gwb: &mut Gwb, line: &[u8]) -> u32
     let Some(slot) = take(alloc, gwb) else {
         return CLOSED;
     };
-    if is_drafting(slot.slot()) {
-        put(gwb, slot);
-        return IN_DRAFT;
-    }
     let mut slot = slot;
-    hear(alloc, slot.slot_mut(), line);
-    let kind = status(&slot.slot().answer);
+    let heard = hear(alloc, slot.slot_mut(), line);
+    let kind = told_of_line(slot.slot(), heard);
     put(gwb, slot);
     kind
+}
+
+fn write_text(alloc: Global, slot: &Slot, answer: &Answer, buf: &mut [u8]) -> usize
+    ensures { Says (λ _. answer.now) (Some slot.now) buf.old buf.new result }
+{
+    let Some(stage) = &slot.stage else {
+        return usize::MAX;
+    };
+    match text_of(alloc, stage.arena(), answer) {
+        Some(text) => copy_front(&text, buf),
+        None => usize::MAX,
+    }
 }
 
 /// Writes the text of the last answer, as far as there is room, and says how long it is: `SIZE_MAX` where memory is refused, or
@@ -60,12 +66,22 @@ pub extern "C" fn gwb_lent_reply(alloc: Global, gwb: &mut GwbLent, buf: &mut [u8
     let Some(shown) = show(gwb) else {
         return usize::MAX;
     };
-    let mut length = usize::MAX;
-    if let Some(stage) = &shown.slot().stage {
-        if let Some(text) = text_of(alloc, stage.arena(), &shown.slot().answer) {
-            length = copy_front(&text, buf);
-        }
-    }
+    let length = write_text(alloc, shown.slot(), &shown.slot().answer, buf);
+    hide(gwb, shown);
+    length
+}
+
+/// Writes the listing of the model shown, as far as there is room, and says how long it is: `SIZE_MAX` where memory is refused, or there is
+/// no session.
+#[unsafe(no_mangle)]
+pub extern "C" fn gwb_lent_listing(alloc: Global, gwb: &mut GwbLent, buf: &mut [u8]) -> usize
+    ensures state { gwb.new.lent.loan ≡ gwb.old.lent.loan }
+    ensures text { Lists_model (slot_in gwb.old.lent.loan) buf.old buf.new result }
+{
+    let Some(shown) = show(gwb) else {
+        return usize::MAX;
+    };
+    let length = write_text(alloc, shown.slot(), &Answer::Listing, buf);
     hide(gwb, shown);
     length
 }

@@ -3,9 +3,9 @@ ghost use Rattle.std.specs.Prelude.{◌≡◌};
 ghost use Rattle.commands.specs.declared.command.Change.TheVariants as change;
 ghost use Rattle.commands.specs.declared.command.Command.TheVariants as command;
 ghost use Rattle.commands.specs.declared.command.Call.TheVariants as call;
-ghost use Rattle.gwb_c.specs.Calls.{Changes, DoesInSession};
+ghost use Rattle.gwb_c.specs.Calls.{Changes, Does};
 
-use crate::calling::{call, call_of_session};
+use crate::calling::call;
 use euler_operators::Point;
 use session_slots::{Call, Change, Command, Gwb};
 use std::alloc::Global;
@@ -93,15 +93,15 @@ pub extern "C" fn gwb_split(
 /// Takes the last command back. A draft hasn't this call.
 #[unsafe(no_mangle)]
 pub extern "C" fn gwb_undo(alloc: Global, gwb: &mut Gwb) -> u32
-    ensures { DoesInSession gwb.old.kept.value (call.Give command.Undo) gwb.new.kept.value result }
+    ensures { Does gwb.old.kept.value (call.Give command.Undo) gwb.new.kept.value result }
 {
-    call_of_session(alloc, gwb, Call::Give(Command::Undo))
+    call(alloc, gwb, Call::Give(Command::Undo))
 }
 
 /// Does the next command again. A draft hasn't this call.
 #[unsafe(no_mangle)]
 pub extern "C" fn gwb_redo(alloc: Global, gwb: &mut Gwb) -> u32
-    ensures { DoesInSession gwb.old.kept.value (call.Give command.Redo) gwb.new.kept.value result }
+    ensures { Does gwb.old.kept.value (call.Give command.Redo) gwb.new.kept.value result }
 {
-    call_of_session(alloc, gwb, Call::Give(Command::Redo))
+    call(alloc, gwb, Call::Give(Command::Redo))
 }

@@ -2,21 +2,22 @@
 //! The workbench as a static library for C: a session or a draft behind a handle, lines that are answered, and readers of the model shown.
 //!
 //! `exports` has the calls that take and give text, `operators`, `larger`, `laminas`, `parts` and `queries` those that are a command each,
-//! `drafts` those that make operators one command, `recalls` those that give the last answer as values, `reads` those that read the model
-//! shown; the contract of each says what the handle stands for before and after it. What is done to that stands in `session_slots`, and `told`
+//! `drafts` those that make operators one command, `recalls` those that give the last answer as values, `reads` and `measures` those that
+//! read the model shown; the contract of each says what the handle stands for before and after it. What is done to that stands in `session_slots`, and `told`
 //! has the numbers by which C is told. `bindings/include/gwb.h` declares the calls for C.
 //!
 //! # What is proved
 //!
 //! Every call of the library for C, in words of the plain machine: which machine or draft a handle stands for before and after, what
-//! comes back, and that for a closed handle nothing happens but the answer that says so. `gwb_line` answers a line as the plain
-//! machine may; `gwb_lent_reply` gives the text of that answer as far as there is room, and its length; the values of the last answer and
-//! the readers of the model shown are exact, but for where a loop's list of half-edges begins, with a word for what isn't there. A reader
-//! (`gwb_lent_*`) takes a copy of the handle and a share of the time for which its slot is lent, and gives both back, so readers may run at once. A
-//! typed call does what the line does that spells the same command (`Does`); an operator is a command of a session and a step of a
-//! draft (`Carries`, and `Parts` where its faces are listed); a query tells what the model shown gives (`Asks`), and writes what the
-//! reader of its answer writes (`Tells`). A draft that is committed is one command, and one that is abandoned leaves no trace
-//! (`Slot_ends`); what a draft or a session has not changes nothing (`CallsOfSession`, `CallsOfDraft`).
+//! comes back, and that for a closed handle nothing happens but the answer that says so. A typed call is told what `commands` says that it
+//! may be told (`Does`): an operator or a larger command is a command of a session and steps of a draft (`Changes`, and `Parts` where an
+//! operator's faces are listed), a draft that is committed is one command, and one that is abandoned leaves no trace. `gwb_line` does what
+//! the typed call does that is the same command (`Hears`); `gwb_lent_reply` gives the text of its answer as far as there is room, and its
+//! length. What a session or a draft hasn't changes nothing (`Calls`). A query tells what the model shown gives (`Asks`), and writes what the
+//! reader of its answer writes (`Tells`). The values of the last answer and the readers of the model shown are exact, but for where a loop's
+//! list of half-edges begins, with a word for what isn't there; a measure tells what the query is told, and keeps nothing (`Measures`). A
+//! reader (`gwb_lent_*`) takes a copy of the handle and a share of the time for which its slot is lent, and gives both back, so readers may
+//! run at once.
 
 mod calling;
 mod drafts;
@@ -24,6 +25,7 @@ mod exports;
 mod fresh;
 mod laminas;
 mod larger;
+mod measures;
 mod operators;
 mod parts;
 mod queries;

@@ -1,19 +1,41 @@
 //! What C is told: why there was no call, and of a value whether it is there.
-ghost use Rattle.std.specs.Prelude.{◌≡◌};
-ghost use Rattle.session_slots.specs.Answered.{joined, joined_plane};
-ghost use Rattle.gwb_c.specs.Handle.{Gives, GivesBy};
+ghost use Rattle.std.specs.Prelude.{◌≡◌, cond};
+ghost use Rattle.session_slots.specs.Answered.{joined, joined_plane, status_of};
+ghost use Rattle.gwb_c.specs.Handle.{lacking, Gives, GivesBy};
 
 use euler_operators::Plane;
-use session_slots::{PlaneRow, Wide, halves, plane_row};
+use session_slots::{PlaneRow, Slot, Wide, halves, is_drafting, plane_row, status};
 
 /// What a call says of a closed handle, of arguments that make no command, of a call that no draft has, and of one that only a draft has.
 pub(crate) const CLOSED: u32 = 9;
 
 pub(crate) const NO_CALL: u32 = 10;
 
-pub(crate) const IN_DRAFT: u32 = 11;
+const IN_DRAFT: u32 = 11;
 
-pub(crate) const NO_DRAFT: u32 = 12;
+const NO_DRAFT: u32 = 12;
+
+/// What a call says that the session or draft hasn't.
+pub(crate) fn lacking(slot: &Slot) -> u32
+    ensures { result ≡ lacking slot.now.stage }
+{
+    if is_drafting(slot) {
+        IN_DRAFT
+    } else {
+        NO_DRAFT
+    }
+}
+
+/// What a call says of a line: the kind of its answer, or, where it wasn't heard, that the draft hasn't it.
+pub(crate) fn told_of_line(slot: &Slot, heard: bool) -> u32
+    ensures { result ≡ cond heard (status_of slot.now.answer) (lacking slot.now.stage) }
+{
+    if heard {
+        status(&slot.answer)
+    } else {
+        lacking(slot)
+    }
+}
 
 /// What a call says of a value that is there or not.
 pub(crate) const FOUND: u32 = 1;

@@ -1,24 +1,32 @@
 -- What a line that was heard comes to.
-use Rattle.std.proofs.Common.{◌≡◌, ℕ, List, Option, Some, None, sym, ap, subst}
-use Rattle.undo_journal.specs.Machine.{Machine}
-use Rattle.undo_journal.specs.Journal.{Journal}
-use Rattle.script_running.specs.script_judging.Judging.{Obeys, Answers, Judges}
-use Rattle.script_running.specs.script_judging.Settling.{spelled}
-use Rattle.script_running.specs.declared.script_judging.larger.Larger.{Larger}
-use Rattle.script_running.specs.declared.script_judging.judging.Answer.{Answer}
-use Rattle.session_slots.specs.Slots.{Decides_on}
-use Rattle.commands.specs.declared.stage.Stage.{Stage}
-use Rattle.commands.specs.declared.stage.Stage.TheVariants.{Session}
+use Rattle.std.proofs.Common.{◌≡◌, ◌∙◌, inl, inr, ℕ, Bool, true, false, true≢false, List, length, Ok, refl, sym, ap}
+use Rattle.std.specs.Prelude.{nat_lt}
+use Rattle.std.proofs.lemmas.Bool.{cases_Bool}
+use Rattle.script_reader.specs.Words.{words}
+use Rattle.script_reader.specs.Grammar.{is_ascii, command_of_words}
+use Rattle.script_reader.specs.declared.command.Command.{Command}
+use Rattle.script_reader.specs.declared.command.Command.TheVariants.{Nothing}
+use Rattle.script_reader.proofs.AsciiWords.{words_tell}
+use Rattle.solid_walks.specs.declared.numbers.Counters.{Counters}
+use Rattle.session_slots.specs.Slots.{Counts_in}
+use Rattle.session_slots.specs.Lines.{Spoken, gives, tells, read, spoken, said_of, Slot_says, Slot_hears, Slot_notes, Unless_lacking}
+use Rattle.session_slots.specs.declared.slot.Slot.{Slot}
 
--- a session goes on as it is answered
-pub heard : (s : Journal) (line : List ℕ) (a : Answer) (h : Stage) → Decides_on (Session s) line None a h → (t : Journal) × (Some h ≡ Some (Session t)) × Judges s.machine line a t.machine
-heard s line a h d = (d.0, ap (λ (g : Stage). Some g) d.1, d.2)
+-- a line that is read once, and looked at again only where its words ask for nothing
+pub spoken_is : (line : List ℕ) (c : Command) → nat_lt 65536 (length line) ≡ false → command_of_words (words line) ≡ Ok c → spoken line ≡ said_of line c
+spoken_is line Nothing short e = elim (cases_Bool (is_ascii line)) [
+  | inl ascii ↦ rw (short, ascii, e) refl
+  | inr other ↦ rw (short, other) refl
+]
+spoken_is line c short e = ap read (words_tell line c short e (λ same. absurd (cc same)))
 
--- and so where the larger command that the line spells is obeyed then
-pub finished : (s : Journal) (line : List ℕ) (l : Larger) (x : Answer) (h : Stage) (new : Option Stage) (a : Answer) → Decides_on (Session s) line (Some l) x h
-    → ((u : Journal) → Some h ≡ Some (Session u) → (t : Journal) × (new ≡ Some (Session t)) × Obeys u.machine (spelled l) a t.machine)
-    → (t : Journal) × (new ≡ Some (Session t)) × Judges s.machine line a t.machine
-finished s line l x h new a d carries =
-    let f = carries d.0 (ap (λ (g : Stage). Some g) d.1) in
-    let obeyed : Obeys s.machine (spelled l) a f.0.machine = subst (λ (m : Machine). Obeys m (spelled l) a f.0.machine) d.2.1 f.2 in
-    (f.0, f.1, subst (λ r. Answers s.machine r a f.0.machine) (sym d.2.0) obeyed)
+-- the numbers before it are no part of it
+said_still : (x y : Slot) (n : Counters) (s : Spoken) → Slot_says x s y → Slot_says x s (record y { before = n })
+unfolding Slot_says
+said_still x y n (gives c) h = h
+said_still x y n (tells a) h = h
+
+pub noted : (b : Bool) (line : List ℕ) (x y : Slot) (heard : Bool) (n : Counters) → Unless_lacking b (λ u v. Slot_hears u line v) x y heard → heard ≡ true → Counts_in x n
+    → Unless_lacking b (λ u v. Slot_notes u line v) x (record y { before = n }) true
+noted true line x y heard n h was counts = absurd (true≢false (sym was ∙ h.0))
+noted false line x y heard n h was counts = (refl, (said_still x y n (spoken line) h.1, counts))

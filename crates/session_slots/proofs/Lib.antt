@@ -7,5 +7,5 @@ mod Spoken
 mod KeptSteps
 pub mod Acting
 mod Queried
-mod Hearing
 mod Unchanged
+mod Hearing

@@ -1,6 +1,7 @@
 pub mod Spokes
 pub mod Stages
 pub mod Slots
+pub mod Lines
 pub mod Written
 pub mod Answered
 pub mod Reading

@@ -1,11 +1,7 @@
 -- What a call does to a slot: a session, or a draft of its next command, with the answer to the last command.
-use Rattle.std.specs.Prelude.{◌≡◌, ℕ, List, Option, Some, None}
-use Rattle.undo_journal.specs.Journal.{Journal}
-use Rattle.script_reader.specs.declared.command.Command as lines
+use Rattle.std.specs.Prelude.{◌≡◌, Some}
 use Rattle.solid_listing.specs.declared.reply.Reply.TheVariants as reply
-use Rattle.script_running.specs.script_judging.Judging.{Judges, Obeys, done, refused, tally_words}
-use Rattle.script_running.specs.script_judging.Settling.{Decides}
-use Rattle.script_running.specs.declared.script_judging.larger.Larger.{Larger}
+use Rattle.script_running.specs.script_judging.Judging.{done, refused, tally_words}
 use Rattle.script_running.specs.declared.script_judging.judging.Answer.{Answer}
 use Rattle.script_running.specs.declared.script_judging.judging.Answer.TheVariants.{Silent, Reply}
 use Rattle.shapes.specs.Fresh.{taken_in}
@@ -18,31 +14,13 @@ use Rattle.commands.specs.declared.command.Call.TheVariants as call
 use Rattle.commands.specs.declared.command.Told.{Told}
 use Rattle.commands.specs.declared.command.Told.TheVariants as told
 use Rattle.commands.specs.declared.stage.Stage.{Stage}
-use Rattle.commands.specs.declared.stage.Stage.TheVariants.{Session, Drafting}
-use Rattle.commands.specs.Telling.{Tells}
+use Rattle.commands.specs.Telling.{Tells, asked}
 use Rattle.session_slots.specs.Stages.{shown}
 use Rattle.session_slots.specs.declared.slot.Slot.{Slot}
 
 -- the greatest numbers in use in the model shown
 abbrev pub Counts_in : Slot → Counters → Type 0
 Counts_in x n = (g : Stage) → x.stage ≡ Some g → taken_of n ≡ taken_in (shown g)
-
--- a session answers the line, or gives back the larger command that it spells; a draft hears none
-abbrev pub Decides_on : Stage → List ℕ → Option Larger → Answer → Stage → Type 0
-Decides_on (Session s) line l a g = (t : Journal) × (g ≡ Session t) × Decides s.machine line l a t.machine
-Decides_on (Drafting d) line l a g = (l ≡ None) × (a ≡ Silent) × (g ≡ Drafting d)
-
--- a session goes on as the line is answered, and the answer is kept
-abbrev pub Slot_hears : Slot → List ℕ → Slot → Type 0
-Slot_hears old line new = (s : Journal) → old.stage ≡ Some (Session s) → (t : Journal) × (new.stage ≡ Some (Session t)) × Judges s.machine line new.answer t.machine
-
--- and the greatest numbers in use before the line are kept
-abbrev pub Slot_notes : Slot → List ℕ → Slot → Type 0
-Slot_notes old line new = Slot_hears old line new × Counts_in old new.before
-
--- a session goes on as the command is obeyed, and the answer is kept
-abbrev pub Slot_obeys : Slot → lines.Command → Slot → Type 0
-Slot_obeys old c new = (s : Journal) → old.stage ≡ Some (Session s) → (t : Journal) × (new.stage ≡ Some (Session t)) × Obeys s.machine c new.answer t.machine
 
 -- the last answer after a call that was told so; a call that the session or draft hasn't, and one that concerns a mark, leave it
 abbrev pub answer_after : Answer → Told → Answer
@@ -67,3 +45,7 @@ Slot_does old c new = Slot_makes old c new × Counts_in old new.before
 -- a question is no command: it leaves the numbers before the last one
 abbrev pub Slot_asks : Slot → Question → Slot → Type 0
 Slot_asks old q new = Slot_makes old (call.Give (command.Ask q)) new × (new.before ≡ old.before)
+
+-- a question is answered of the model shown, and nothing is kept
+abbrev pub Slot_measures : Slot → Question → Answer → Type 0
+Slot_measures x q a = (g : Stage) → x.stage ≡ Some g → a ≡ answer_after Silent (asked (shown g) q)

@@ -4,7 +4,7 @@ ghost use Rattle.commands.specs.declared.command.Change.TheVariants as change;
 ghost use Rattle.commands.specs.declared.command.Command.TheVariants as command;
 ghost use Rattle.commands.specs.declared.command.Call.TheVariants as call;
 ghost use Rattle.commands.specs.Telling.{told_of};
-ghost use Rattle.session_slots.specs.Slots.{answer_after, Slot_makes, Slot_does, Slot_asks};
+ghost use Rattle.session_slots.specs.Slots.{answer_after, Slot_makes, Slot_does, Slot_asks, Slot_measures};
 
 use crate::counted_stage::CountedStage;
 use crate::slot::{Slot, counted_in};
@@ -22,8 +22,8 @@ fn refused(refusal: Refusal) -> Answer
     Answer::Reply(Reply::Refused(refusal.why.code(), refusal.number))
 }
 
-fn counted(tally: Tally) -> Answer
-    ensures { result ≡ answer_after Answer.Silent (Told.Counts tally) }
+fn counted(tally: &Tally) -> Answer
+    ensures { result ≡ answer_after Answer.Silent (Told.Counts tally.now) }
 {
     Answer::Reply(Reply::Count([
         tally.v as i64,
@@ -35,17 +35,18 @@ fn counted(tally: Tally) -> Answer
 }
 
 /// Keeps the answer to a call that was told so. One that the session or draft hasn't, or that concerns a mark, leaves the last answer.
-fn keep(told: Told, answer: &mut Answer)
-    ensures { answer.new ≡ answer_after answer.old told }
+#[inline(always)]
+fn keep(told: &Told, answer: &mut Answer)
+    ensures { answer.new ≡ answer_after answer.old told.now }
 {
     match told {
         Told::Done => *answer = Answer::Reply(Reply::Done),
-        Told::Refused(refusal) => *answer = refused(refusal),
+        Told::Refused(refusal) => *answer = refused(*refusal),
         Told::Memory => *answer = Answer::Reply(Reply::Memory),
         Told::InDraft => {}
         Told::NoDraft => {}
-        Told::Plane(plane, flat) => *answer = Answer::Reply(Reply::Plane(plane, flat)),
-        Told::Volume(n) => *answer = Answer::Reply(Reply::Volume(n)),
+        Told::Plane(plane, flat) => *answer = Answer::Reply(Reply::Plane(*plane, *flat)),
+        Told::Volume(n) => *answer = Answer::Reply(Reply::Volume(*n)),
         Told::Counts(tally) => *answer = counted(tally),
         Told::Steps(_) => {}
     }
@@ -63,27 +64,27 @@ pub(crate) fn keep_outcome(ended: Result<(), Failure>, answer: &mut Answer)
 }
 
 #[inline(always)]
-fn undo_in(slot: &mut Slot)
+pub(crate) fn undo_in(slot: &mut Slot)
     ensures { Slot_makes slot.old (call.Give command.Undo) slot.new }
 {
     if let Some(stage) = &mut slot.stage {
         let told = stage.undo();
-        keep(told, &mut slot.answer);
+        keep(&told, &mut slot.answer);
     }
 }
 
 #[inline(always)]
-fn redo_in(slot: &mut Slot)
+pub(crate) fn redo_in(slot: &mut Slot)
     ensures { Slot_makes slot.old (call.Give command.Redo) slot.new }
 {
     if let Some(stage) = &mut slot.stage {
         let told = stage.redo();
-        keep(told, &mut slot.answer);
+        keep(&told, &mut slot.answer);
     }
 }
 
 /// A call for which the session or draft is moved.
-fn move_in(alloc: Global, slot: &mut Slot, wanted: Call<'_>)
+pub(crate) fn move_in(alloc: Global, slot: &mut Slot, wanted: Call<'_>)
     ensures { Slot_makes slot.old wanted.entry slot.new }
 {
     let Some(counted) = slot.stage.take() else {
@@ -91,7 +92,7 @@ fn move_in(alloc: Global, slot: &mut Slot, wanted: Call<'_>)
     };
     let (stage, told) = commands::make(alloc, counted.into_stage(), wanted);
     slot.stage = Some(CountedStage::of(stage));
-    keep(told, &mut slot.answer);
+    keep(&told, &mut slot.answer);
 }
 
 #[inline(always)]
@@ -126,7 +127,7 @@ pub fn make(alloc: Global, slot: &mut Slot, wanted: Call<'_>)
 }
 
 #[inline(always)]
-fn act_in(slot: &mut Slot, op: Op)
+pub(crate) fn act_in(slot: &mut Slot, op: Op)
     ensures { Slot_makes slot.old (call.Give (command.Change (change.Act op))) slot.new }
 {
     if let Some(stage) = &mut slot.stage {
@@ -145,12 +146,26 @@ pub fn act(slot: &mut Slot, op: Op)
     slot.before = before;
 }
 
-/// Answers a question about the model shown. It is no command: the numbers before the last one are kept.
+/// Answers a question about the model shown, and keeps the answer. It is no command: the numbers before the last one are kept.
+#[inline(always)]
 pub fn ask(slot: &mut Slot, question: Question)
     ensures { Slot_asks slot.old question slot.new }
 {
     if let Some(stage) = &slot.stage {
         let told = commands::ask(stage.arena(), question);
-        keep(told, &mut slot.answer);
+        keep(&told, &mut slot.answer);
     }
+}
+
+/// Answers a question about the model shown, and keeps nothing.
+#[inline(always)]
+pub fn measure(slot: &Slot, question: Question) -> Answer
+    ensures { Slot_measures slot.now question result }
+{
+    let mut answer = Answer::Silent;
+    if let Some(stage) = &slot.stage {
+        let told = commands::ask(stage.arena(), question);
+        keep(&told, &mut answer);
+    }
+    answer
 }

@@ -6,15 +6,11 @@ ghost use Rattle.solid_walks.specs.Counters.{taken_of};
 ghost use Rattle.commands.specs.declared.command.Change.TheVariants as change;
 ghost use Rattle.commands.specs.declared.command.Command.TheVariants as command;
 ghost use Rattle.commands.specs.declared.command.Call.TheVariants as call;
-ghost use Rattle.commands.specs.Telling.{shown, Tells, TellsSession, told_of, told_of_move};
-ghost use Rattle.session_slots.specs.Stages.{is_done};
-ghost use Rattle.session_slots.specs.Slots.{Decides_on};
+ghost use Rattle.commands.specs.Telling.{shown, Tells, TellsSession, told_of};
 
-use commands::{Stage, Told};
+use commands::{Stage, Told, moved};
 use euler_conditions::Arena;
-use euler_operators::{Op, Refusal};
-use script_running::{Answer, Larger, judge};
-use solid_listing::Reply;
+use euler_operators::Op;
 use solid_walks::{Counters, counters_of};
 use std::marker::Model;
 use undo_journal::{Failure, Session};
@@ -44,13 +40,6 @@ impl Model for CountedStage {
     ghost invariant = { λ c. taken_of c.greatest ≡ taken_in (shown c.stage) };
 }
 
-/// Whether a command was done.
-fn is_done(answer: &Answer) -> bool
-    ensures { result ≡ is_done answer.now }
-{
-    matches!(answer, Answer::Reply(Reply::Done))
-}
-
 /// The greatest numbers after a command, from those before it.
 #[inline(always)]
 fn greatest_after(done: bool, stage: &Stage, greatest: Counters) -> Counters
@@ -61,30 +50,6 @@ fn greatest_after(done: bool, stage: &Stage, greatest: Counters) -> Counters
         counters_of(stage.arena())
     } else {
         greatest
-    }
-}
-
-/// Answers a line, or gives back the larger command that it spells. A draft hears no line.
-fn judge_on<'a>(stage: &mut Stage, line: &'a [u8], answer: &mut Answer) -> Option<Larger<'a>>
-    ensures answered { Decides_on stage.old line.now result answer.new stage.new }
-    ensures kept { is_done answer.new ≡ false → shown stage.new ≡ shown stage.old }
-{
-    match stage {
-        Stage::Session(session) => judge(session, line, answer),
-        Stage::Drafting(_) => {
-            *answer = Answer::Silent;
-            None
-        }
-    }
-}
-
-/// What undo or redo is told that ended so.
-fn moved(ended: Result<(), Refusal>) -> Told
-    ensures { result ≡ told_of_move ended }
-{
-    match ended {
-        Ok(()) => Told::Done,
-        Err(refusal) => Told::Refused(refusal),
     }
 }
 
@@ -181,14 +146,5 @@ impl CountedStage {
         let told = redo_on(&mut self.stage);
         self.greatest = counters_of(self.stage.arena());
         told
-    }
-
-    /// Answers a line, or gives back the larger command that it spells. A draft hears no line.
-    pub(crate) fn judge<'a>(&mut self, line: &'a [u8], answer: &mut Answer) -> Option<Larger<'a>>
-        ensures { Decides_on self.old line.now result answer.new self.new }
-    {
-        let larger = judge_on(&mut self.stage, line, answer);
-        self.greatest = greatest_after(is_done(answer), &self.stage, self.greatest);
-        larger
     }
 }

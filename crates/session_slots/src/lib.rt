@@ -2,17 +2,17 @@
 //! Sessions and drafts in slots: a session or a draft of its next command, beside the answer to the last command and the greatest numbers
 //! in use before it.
 //!
-//! `counted_stage` has a session or a draft with the greatest numbers in use, `slot` what a line does to a slot, and `calls` what a call does
-//! that is given as a value; `parts` makes some faces a solid of their own. `answers` gives the
+//! `counted_stage` has a session or a draft with the greatest numbers in use, `calls` what a call does to a slot that is given as a value,
+//! and `lines` what a line does; `parts` makes some faces a solid of their own. `answers` gives the
 //! last answer as values, `readers`, `cycles` and `spokes` read the model shown. `handle` has a slot that lies with C, by a pointer (`kept`,
 //! `loose`), and is taken out of it for a call (`held`); `lent` has a copy of a handle whose slot is lent to readers, of which any number may
 //! run at once. `arguments` has what C gives to a call, as the kernel takes it.
 //!
 //! # What is proved
 //!
-//! Each call on a slot, in words of the plain machine: `hear` answers a line as the machine may (`Slot_notes`). `make` makes a call of any kind
-//! on a session or a draft, and `act` an operator, as `commands` says that they may be told (`Slot_does`); `ask` tells what the model shown
-//! gives, and changes no more (`Slot_asks`); `part` does what the operator does (`Slot_makes_part`). The greatest numbers in use are
+//! `make` makes a call of any kind on a session or a draft, and `act` an operator, as `commands` says that they may be told (`Slot_does`).
+//! `hear` makes the call that a line spells, or answers the line by itself (`Slot_notes`), but leaves all as it is where a draft hasn't the
+//! call. `ask` tells what the model shown gives, and changes no more (`Slot_asks`), and `measure` not even the last answer; `part` does what the operator does (`Slot_makes_part`). The greatest numbers in use are
 //! those of the model shown, whatever was done. What the last answer told, and what a reader tells, are equations, but for where a loop's
 //! list of half-edges begins.
 
@@ -25,6 +25,7 @@ mod handle;
 mod held;
 mod kept;
 mod lent;
+mod lines;
 mod loose;
 mod parts;
 mod readers;
@@ -36,7 +37,7 @@ pub use answers::{
     status, volume_of,
 };
 pub use arguments::{corner, kev, plus, polygon, ringmv};
-pub use calls::{act, ask, make};
+pub use calls::{act, ask, make, measure};
 pub use commands::{Call, Change, Command, OpenDraft, Points, Question, Stage};
 pub use counted_stage::CountedStage;
 pub use cycles::half_edges;
@@ -44,10 +45,11 @@ pub use handle::{Gwb, begin, put, take};
 pub use held::Held;
 pub use kept::Kept;
 pub use lent::{GwbLent, Lent, Shown, hide, show};
+pub use lines::hear;
 pub use parts::part;
 pub use readers::{
     EdgeRow, FaceRow, Place, edge, face, face_after, face_of_loop, first_half_edge, half_edge_loop,
     lone_vertex, next_half_edge, number_after, previous_half_edge, ring_after, vertex,
 };
-pub use slot::{Slot, copy_front, hear, is_drafting, text_of};
+pub use slot::{Slot, copy_front, is_drafting, lacks, text_of};
 pub use spokes::vertex_half_edge;

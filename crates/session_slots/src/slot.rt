@@ -1,17 +1,16 @@
-//! A session or a draft in a slot with its last answer, and what a line does to it.
+//! A session or a draft in a slot with its last answer.
 ghost use Rattle.std.specs.Prelude.{◌≡◌, IfSome, Some, length};
 ghost use Rattle.euler_conditions.specs.Ready.{IsReady};
-ghost use Rattle.undo_journal.specs.Journal.{Journal, new_journal};
-ghost use Rattle.script_running.specs.script_judging.Settling.{spelled};
+ghost use Rattle.undo_journal.specs.Journal.{new_journal};
 ghost use Rattle.commands.specs.declared.stage.Stage.TheVariants as stages;
-ghost use Rattle.session_slots.specs.Stages.{is_draft, text_in};
-ghost use Rattle.session_slots.specs.Slots.{Counts_in, Slot_obeys, Slot_hears, Slot_notes};
+ghost use Rattle.session_slots.specs.Stages.{is_draft, lacks, text_in};
+ghost use Rattle.session_slots.specs.Slots.{Counts_in};
 ghost use Rattle.session_slots.specs.Written.{laid_over};
 
 use crate::counted_stage::CountedStage;
-use commands::Stage;
+use commands::{Call, Command, Stage};
 use euler_conditions::Arena;
-use script_running::{Answer, Larger, carry_out};
+use script_running::Answer;
 use solid_listing::{Reply, write_listing, write_reply};
 use solid_walks::Counters;
 use std::alloc::Global;
@@ -49,46 +48,6 @@ pub(crate) fn made(alloc: Global) -> Option<Box<Slot, Global>>
     .ok()
 }
 
-/// Takes the session out of the slot. Where there is a draft nothing changes.
-pub(crate) fn taken(slot: &mut Slot) -> Option<Session>
-    ensures { (s : Journal) → slot.old.stage ≡ Some (stages.Session s) → result ≡ Some s }
-{
-    let Some(stage) = slot.stage.take() else {
-        return None;
-    };
-    match stage.into_stage() {
-        Stage::Session(session) => Some(session),
-        Stage::Drafting(open) => {
-            slot.stage = Some(CountedStage::of(Stage::Drafting(open)));
-            None
-        }
-    }
-}
-
-/// Carries a larger command out on the session.
-pub(crate) fn carry_in(alloc: Global, slot: &mut Slot, larger: Larger<'_>)
-    ensures { Slot_obeys slot.old (spelled larger.entry) slot.new }
-{
-    let Some(session) = taken(slot) else {
-        return;
-    };
-    let (session, answer) = carry_out(alloc, session, larger);
-    slot.stage = Some(CountedStage::of(Stage::Session(session)));
-    slot.answer = answer;
-}
-
-/// Answers a line, and keeps the answer.
-fn answer_line(alloc: Global, slot: &mut Slot, line: &[u8])
-    ensures { Slot_hears slot.old line.now slot.new }
-{
-    let Some(stage) = &mut slot.stage else {
-        return;
-    };
-    if let Some(larger) = stage.judge(line, &mut slot.answer) {
-        carry_in(alloc, slot, larger);
-    }
-}
-
 /// The greatest numbers in use.
 pub(crate) fn counted_in(slot: &Slot) -> Counters
     ensures { Counts_in slot.now result }
@@ -99,15 +58,6 @@ pub(crate) fn counted_in(slot: &Slot) -> Counters
     }
 }
 
-/// Answers a line, and keeps the answer and the greatest numbers in use before it.
-pub fn hear(alloc: Global, slot: &mut Slot, line: &[u8])
-    ensures { Slot_notes slot.old line.now slot.new }
-{
-    let before = counted_in(slot);
-    answer_line(alloc, slot, line);
-    slot.before = before;
-}
-
 /// Whether there is a draft.
 pub fn is_drafting(slot: &Slot) -> bool
     ensures { result ≡ is_draft slot.now.stage }
@@ -115,6 +65,20 @@ pub fn is_drafting(slot: &Slot) -> bool
     match &slot.stage {
         Some(stage) => matches!(stage.stage(), Stage::Drafting(_)),
         None => false,
+    }
+}
+
+/// Whether the session or draft hasn't the call.
+#[inline(always)]
+pub fn lacks(slot: &Slot, wanted: &Call<'_>) -> bool
+    ensures { result ≡ lacks wanted.now slot.now.stage }
+{
+    match wanted {
+        Call::Give(Command::Undo) => is_drafting(slot),
+        Call::Give(Command::Redo) => is_drafting(slot),
+        Call::Give(_) => false,
+        Call::Open => is_drafting(slot),
+        _ => !is_drafting(slot),
     }
 }
 

@@ -1,19 +1,22 @@
-use Rattle.std.proofs.Common.{◌∙◌, true, false, ap, subst}
+use Rattle.std.proofs.Common.{◌∙◌, Bool, cond, ap, subst}
 use Rattle.session_slots.specs.declared.slot.Slot.{Slot}
 use Rattle.session_slots.specs.Answered.{status_of}
-use Rattle.session_slots.specs.Slots.{Slot_notes}
-use Rattle.gwb_c.proofs.Turning.{turned_away, goes_on_in_session, is_so}
+use Rattle.session_slots.specs.Lines.{spoken, lacks_said, Slot_notes, Unless_lacking}
+use Rattle.gwb_c.specs.Handle.{lacking}
+use Rattle.gwb_c.proofs.Staying.{stays_heard}
+use Rattle.gwb_c.proofs.Turning.{goes_so, hears}
 use Rattle.gwb_c.proofs.exports.gwb_line.Goals as goal
-
-pub returns-then-is_drafting : goal.returns-then-is_drafting
-returns-then-is_drafting c =
-    let x = c.in-Some.slot in
-    turned_away (λ x y. Slot_notes x c.args.line.now y) c.args.gwb.now.kept.value x c.in-Some.ensures.slot c.put.new.gwb.kept.value
-    (is_so x c.slot.result.now c.is_drafting.result true c.is_drafting.ensures c.slot.ensures c.if-is_drafting.true) c.put.ensures
 
 pub returns : goal.returns
 returns c =
-    let x = c.in-Some.slot in let after = c.hear.new.slot in
-    goes_on_in_session (λ x y. Slot_notes x c.args.line.now y) c.args.gwb.now.kept.value x c.in-Some.ensures.slot c.put-2.new.gwb.kept.value after c.put-2.ensures
-    c.status-kind.result (c.status-kind.ensures ∙ ap (λ (x : Slot). status_of x.answer) c.slot-2.ensures) (subst (λ x. Slot_notes x c.args.line.now after) c.slot_mut.ensures.value c.hear.ensures)
-    (is_so x c.slot.result.now c.is_drafting.result false c.is_drafting.ensures c.slot.ensures c.if-is_drafting.false)
+    let bytes = c.args.line.now in let x = c.in-Some.slot in let y = c.hear-heard.new.slot in let heard = c.hear-heard.result in let new = c.put.new.gwb.kept.value in let kind = c.told_of_line-kind.result in
+    goes_so (lacks_said (spoken bytes)) (λ u v. Slot_notes u bytes v) c.args.gwb.now.kept.value x c.in-Some.ensures.slot new kind
+    (hears (lacks_said (spoken bytes) x.stage) (λ u v. Slot_notes u bytes v) x y heard new kind
+    (subst (λ (z : Slot). Unless_lacking (lacks_said (spoken bytes) z.stage) (λ u v. Slot_notes u bytes v) z y heard) c.slot_mut.ensures.value c.hear-heard.ensures) c.put.ensures
+    (c.told_of_line-kind.ensures ∙ ap (λ (z : Slot). cond heard (status_of z.answer) (lacking z.stage)) c.slot.ensures))
+
+pub put-requires-clause-staged : goal.put-requires-clause-staged
+put-requires-clause-staged c =
+    let bytes = c.args.line.now in let x = c.in-Some.slot in let y = c.hear-heard.new.slot in let heard = c.hear-heard.result in
+    stays_heard x y (spoken bytes) (lacks_said (spoken bytes) x.stage) heard (λ u v. Slot_notes u bytes v) c.in-Some.ensures.staged (λ h. h.0)
+    (subst (λ (z : Slot). Unless_lacking (lacks_said (spoken bytes) z.stage) (λ u v. Slot_notes u bytes v) z y heard) c.slot_mut.ensures.value c.hear-heard.ensures)

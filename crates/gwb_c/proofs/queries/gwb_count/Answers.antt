@@ -2,7 +2,7 @@ use Rattle.std.proofs.Common.{◌∙◌, refl, sym, ap, subst}
 use Rattle.commands.specs.declared.command.Question.TheVariants as question
 use Rattle.session_slots.specs.declared.slot.Slot.{Slot}
 use Rattle.session_slots.specs.Answered.{counts_in, status_of}
-use Rattle.gwb_c.specs.Handle.{Recalls, Gives}
+use Rattle.gwb_c.specs.Handle.{none, Recalls, Gives}
 use Rattle.session_slots.specs.Slots.{Slot_asks}
 use Rattle.gwb_c.proofs.Turning.{goes_on}
 use Rattle.session_slots.specs.Opening.{is_staged}
@@ -15,8 +15,8 @@ returns-in_default-clause-value c = (9, subst (λ o. Recalls counts_in o c.args.
 pub returns-clause-state : goal.returns-clause-state
 returns-clause-state c =
     let after = c.ask.new.slot in
-    goes_on (λ x y. Slot_asks x (question.Count c.args.solid) y) c.args.gwb.now.kept.value c.in-Some.slot c.in-Some.ensures.slot c.put.new.gwb.kept.value after c.put.ensures
-    c.status-kind.result (c.status-kind.ensures ∙ ap (λ (x : Slot). status_of x.answer) c.slot.ensures) (subst (λ x. Slot_asks x (question.Count c.args.solid) after) c.slot_mut.ensures.value c.ask.ensures)
+    goes_on none (λ x y. Slot_asks x (question.Count c.args.solid) y) c.args.gwb.now.kept.value c.in-Some.slot c.in-Some.ensures.slot c.put.new.gwb.kept.value c.status-kind.result refl after c.put.ensures
+    (c.status-kind.ensures ∙ ap (λ (x : Slot). status_of x.answer) c.slot.ensures) (subst (λ x. Slot_asks x (question.Count c.args.solid) after) c.slot_mut.ensures.value c.ask.ensures)
 
 pub returns-clause-value : goal.returns-clause-value
 returns-clause-value c =

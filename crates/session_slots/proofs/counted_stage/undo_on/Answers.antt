@@ -3,7 +3,7 @@ use Rattle.commands.specs.declared.command.Command.TheVariants as command
 use Rattle.commands.specs.declared.command.Call.TheVariants as call
 use Rattle.commands.specs.declared.command.Told.TheVariants as told
 use Rattle.commands.specs.declared.stage.Stage.{Stage}
-use Rattle.commands.specs.declared.stage.Stage.TheVariants.{Session, Drafting}
+use Rattle.commands.specs.declared.stage.Stage.TheVariants.{Session}
 use Rattle.commands.specs.Telling.{Tells}
 use Rattle.session_slots.proofs.counted_stage.undo_on.Goals as goal
 

@@ -1,0 +1,208 @@
+//! Lines: each is a call that it spells, or is answered by itself.
+ghost use Rattle.std.specs.Prelude.{◌≡◌, cond};
+ghost use Rattle.script_reader.specs.Grammar.{is_ascii};
+ghost use Rattle.script_running.specs.script_judging.Judging.{faulty, split_by};
+ghost use Rattle.commands.specs.declared.command.Change.TheVariants as change;
+ghost use Rattle.commands.specs.declared.command.Command.TheVariants as command;
+ghost use Rattle.session_slots.specs.Stages.{is_draft};
+ghost use Rattle.session_slots.specs.Lines.{gives, tells, changes, said_of, spoken, lacks_said, Unless_lacking, Slot_says, Slot_hears, Slot_notes};
+
+use crate::calls::{act_in, ask, move_in, redo_in, undo_in};
+use crate::slot::{Slot, counted_in, is_drafting};
+use commands::{Call, Change, Points, Question};
+use euler_operators::{Op, Point};
+use script_reader::{Command, Fault, Polygon, is_ascii, is_long, read_words};
+use script_running::Answer;
+use solid_listing::Reply;
+use std::alloc::Global;
+
+/// Answers a line with this fault. The rooms for answers are here and in the next ones, so that no other line pays for them.
+#[inline(never)]
+#[tactic(auto, unfolding(crate::specs::Lines::Slot_says))]
+fn tell_fault(slot: &mut Slot, fault: Fault)
+    ensures { Slot_says slot.old (tells (faulty fault)) slot.new }
+{
+    slot.answer = Answer::Reply(Reply::Fault(fault.code()));
+}
+
+/// Answers a line within the limit of whose words this is the first fault: it is told, or that the line isn't ASCII.
+#[inline(never)]
+fn tell_first_fault(slot: &mut Slot, line: &[u8], fault: Fault)
+    ensures { Slot_says slot.old (tells (cond (is_ascii line.now) (faulty fault) (faulty Fault.NotAscii))) slot.new }
+{
+    if is_ascii(line) {
+        tell_fault(slot, fault);
+    } else {
+        tell_fault(slot, Fault::NotAscii);
+    }
+}
+
+/// Keeps an answer that has no value.
+#[tactic(auto, unfolding(crate::specs::Lines::Slot_says))]
+fn tell(slot: &mut Slot, answer: Answer)
+    ensures { Slot_says slot.old (tells answer) slot.new }
+{
+    slot.answer = answer;
+}
+
+/// Answers a line within the limit whose words ask for nothing: it has no reply, or is told that it isn't ASCII.
+#[inline(never)]
+fn tell_nothing(slot: &mut Slot, line: &[u8])
+    ensures { Slot_says slot.old (tells (cond (is_ascii line.now) Answer.Silent (faulty Fault.NotAscii))) slot.new }
+{
+    if is_ascii(line) {
+        tell(slot, Answer::Silent);
+    } else {
+        tell_fault(slot, Fault::NotAscii);
+    }
+}
+
+/// Answers a question, and keeps the answer.
+#[inline(never)]
+#[tactic(auto, unfolding(crate::specs::Lines::Slot_says))]
+fn ask_of_line(slot: &mut Slot, question: Question)
+    ensures { Slot_says slot.old (gives (command.Ask question)) slot.new }
+{
+    ask(slot, question)
+}
+
+/// One operator.
+#[inline(always)]
+#[tactic(auto, unfolding(crate::specs::Lines::Slot_says))]
+fn act(slot: &mut Slot, op: Op)
+    ensures { Slot_says slot.old (changes (change.Act op)) slot.new }
+{
+    act_in(slot, op)
+}
+
+/// Makes a larger command.
+#[inline(never)]
+#[tactic(auto, unfolding(crate::specs::Lines::Slot_says))]
+fn carry(alloc: Global, slot: &mut Slot, wanted: Change<'_>)
+    ensures { Slot_says slot.old (changes wanted.entry) slot.new }
+{
+    move_in(alloc, slot, Call::Give(commands::Command::Change(wanted)))
+}
+
+/// Makes a lamina of the points that its line has.
+#[inline(never)]
+fn carry_lamina(alloc: Global, slot: &mut Slot, solid: u32, polygon: &Polygon<'_>)
+    ensures { Slot_says slot.old (changes (change.Lamina solid polygon.now)) slot.new }
+{
+    let corners = polygon.corners();
+    carry(
+        alloc,
+        slot,
+        Change::Lamina(solid, Points::of(corners.points())),
+    )
+}
+
+/// Makes a block, by its sizes.
+fn carry_block(alloc: Global, slot: &mut Slot, solid: u32, corner: Point, dx: i64, dy: i64, dz: i64)
+    ensures { Slot_says slot.old (changes (change.Block solid corner dx dy dz)) slot.new }
+{
+    carry(alloc, slot, Change::Block(solid, corner, dx, dy, dz))
+}
+
+fn carry_split(
+    alloc: Global,
+    slot: &mut Slot,
+    solid: u32,
+    a: i64,
+    b: i64,
+    c: i64,
+    d: i64,
+    above: u32,
+)
+    ensures { Slot_says slot.old (changes (change.Split solid a b c d above)) slot.new }
+{
+    carry(alloc, slot, Change::Split(solid, a, b, c, d, above))
+}
+
+/// Splits by the plane of four coefficients.
+fn split_by(alloc: Global, slot: &mut Slot, solid: u32, plane: [i64; 4], above: u32)
+    ensures { Slot_says slot.old (changes (split_by solid plane above)) slot.new }
+{
+    let [a, b, c, d] = plane;
+    carry_split(alloc, slot, solid, a, b, c, d, above)
+}
+
+/// Undoes, but not in a draft: whether it is none.
+#[tactic(auto, unfolding(crate::specs::Lines::Slot_says))]
+fn undo_session(slot: &mut Slot) -> bool
+    ensures { Unless_lacking (is_draft slot.old.stage) (λ x y. Slot_says x (gives command.Undo) y) slot.old slot.new result }
+{
+    if is_drafting(slot) {
+        return false;
+    }
+    undo_in(slot);
+    true
+}
+
+/// Redoes, but not in a draft: whether it is none.
+#[tactic(auto, unfolding(crate::specs::Lines::Slot_says))]
+fn redo_session(slot: &mut Slot) -> bool
+    ensures { Unless_lacking (is_draft slot.old.stage) (λ x y. Slot_says x (gives command.Redo) y) slot.old slot.new result }
+{
+    if is_drafting(slot) {
+        return false;
+    }
+    redo_in(slot);
+    true
+}
+
+/// Does what a line within the limit asks for whose words spell this command. False where a draft hasn't the call; then nothing has changed.
+fn obey(alloc: Global, slot: &mut Slot, line: &[u8], command: Command<'_>) -> bool
+    ensures { Unless_lacking (lacks_said (said_of line.now command.entry) slot.old.stage) (λ x y. Slot_says x (said_of line.now command.entry) y) slot.old slot.new result }
+{
+    match command {
+        Command::Nothing => tell_nothing(slot, line),
+        Command::Act(op) => act(slot, op),
+        Command::Plane(face) => ask_of_line(slot, Question::Plane(face)),
+        Command::Volume(solid) => ask_of_line(slot, Question::Volume(solid)),
+        Command::Count(solid) => ask_of_line(slot, Question::Count(solid)),
+        Command::Undo => return undo_session(slot),
+        Command::Redo => return redo_session(slot),
+        Command::List => tell(slot, Answer::Listing),
+        Command::Lamina(solid, polygon) => carry_lamina(alloc, slot, solid, &polygon),
+        Command::Block(solid, corner, dx, dy, dz) => {
+            carry_block(alloc, slot, solid, corner, dx, dy, dz)
+        }
+        Command::Sweep(face, way) => carry(alloc, slot, Change::Sweep(face, way)),
+        Command::Glue(face, other) => carry(alloc, slot, Change::Glue(face, other)),
+        Command::Split(solid, plane, above) => split_by(alloc, slot, solid, plane, above),
+    }
+    true
+}
+
+/// Answers a line, and keeps the answer. False where a draft hasn't the call that it spells; then nothing has changed.
+///
+/// A line that spells a command is read once. Only one that spells none is looked at again, for a byte that isn't ASCII.
+fn answer_line(alloc: Global, slot: &mut Slot, line: &[u8]) -> bool
+    ensures { Unless_lacking (lacks_said (spoken line.now) slot.old.stage) (λ x y. Slot_hears x line.now y) slot.old slot.new result }
+{
+    if is_long(line) {
+        tell_fault(slot, Fault::LongLine);
+        return true;
+    }
+    match read_words(line) {
+        Ok(command) => obey(alloc, slot, line, command),
+        Err(fault) => {
+            tell_first_fault(slot, line, fault);
+            true
+        }
+    }
+}
+
+/// Answers a line, and keeps the answer and the greatest numbers in use before it. False where a draft hasn't the call that the line spells,
+/// undo or redo; then nothing has changed.
+pub fn hear(alloc: Global, slot: &mut Slot, line: &[u8]) -> bool
+    ensures { Unless_lacking (lacks_said (spoken line.now) slot.old.stage) (λ x y. Slot_notes x line.now y) slot.old slot.new result }
+{
+    let before = counted_in(slot);
+    if !answer_line(alloc, slot, line) {
+        return false;
+    }
+    slot.before = before;
+    true
+}
