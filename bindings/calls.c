@@ -25,6 +25,7 @@ typedef enum gwb_kind kind;
 
 CALL(line, kind, (gwb *g, const char *line, size_t n), (g, line, n))
 CALL(lent_reply, size_t, (gwb *g, char *buf, size_t room), (g, buf, room))
+CALL(lent_listing, size_t, (gwb *g, char *buf, size_t room), (g, buf, room))
 CALL(mvfs, kind, (gwb *g, uint32_t solid, uint32_t face, uint32_t loop, uint32_t vertex, int64_t x, int64_t y, int64_t z),
      (g, solid, face, loop, vertex, x, y, z))
 CALL(kvfs, kind, (gwb *g, uint32_t solid), (g, solid))

@@ -531,13 +531,18 @@ static void try_what_drafts_refuse()
     const std::function<void()> calls[] = {
         [&] { bench.undo(); },
         [&] { bench.redo(); },
-        [&] { bench.run("list"); },
-        [&] { (void)bench.listing(); },
+        [&] { bench.run("undo"); },
         [&] { (void)bench.draft(); },
     };
     for (std::size_t at = 0; at < std::size(calls); at++)
         check(throws<InDraft>(calls[at]), ("what a draft does not take, with the place " + std::to_string(at)).c_str());
     check(all(bench.rings(Face(1))) == Wanted{7} && bench.count(Solid(1)).vertices == 9, "nothing has changed");
+    const std::string listing = bench.listing();
+    check(bench.run("list") == GWB_LISTING && bench.reply() == listing, "the listing of a draft");
+    const Mark mark = bench.mark();
+    check(bench.run("block 9 40 40 40 1 1 1") == GWB_OK && bench.six_volumes(Solid(9)).low == 6, "a line is a step of a draft");
+    bench.back(mark);
+    check(bench.listing() == listing, "a line that was taken back");
     gwb_commit(bench.handle());
     check(throws<NoDraft>([&] { draft.commit(); }) && bench.depth() == 2, "a draft that was committed by the call for C");
     Draft closed = bench.draft();

@@ -174,7 +174,7 @@ enum class Problem {
     memory,   ///< memory was refused; the call may be given again
     closed,   ///< the workbench was moved from, its handle was closed, or it is gone
     no_call,  ///< the arguments make no command: more than 64 points, or a part of no faces
-    in_draft, ///< a draft is open, which has no line, undo, redo or second draft
+    in_draft, ///< a draft is open, which has no undo, redo or second draft
     no_draft, ///< the draft has ended
     absent,   ///< the number is not in use
     changed,  ///< the model has changed since a walk over it began
@@ -871,11 +871,11 @@ struct NewFace {
 /// A call that makes something takes the numbers of what it makes, or none: then it takes the least that are above all in use, and returns
 /// them.
 ///
-/// Measures (plane, six_volumes, count, listing) are const and keep the last answer, so they are no readers in the sense of gwb.h: no other
-/// call for the workbench may run at once with them. All other const methods are readers, of which many may run at once.
+/// All const methods, measures (plane, six_volumes, count, listing) among them, are readers in the sense of gwb.h, of which many may run at
+/// once; they leave the last answer as it is.
 ///
-/// While a draft is open, operators and larger commands are its steps, readers and measures speak of its model, and lines, undo, redo and a
-/// second draft are InDraft.
+/// While a draft is open, operators and larger commands, also as lines, are its steps, readers and measures speak of its model, and undo,
+/// redo and a second draft are InDraft.
 template <class Policy> class Commands {
 public:
     template <class T> using Returned = typename Policy::template Returned<T>;
@@ -1047,25 +1047,27 @@ public:
     [[nodiscard]] Returned<gwb_plane> plane(Face face) const
     {
         gwb_plane plane{};
-        return measured("plane", gwb_face_plane(asked(), face.number(), &plane), plane);
+        gwb_refusal refusal{};
+        return weighed("plane", gwb_read_plane(seen(), face.number(), &plane, &refusal), plane, refusal);
     }
     /// Six times the volume of a solid.
     [[nodiscard]] Returned<gwb_wide> six_volumes(Solid solid) const
     {
         gwb_wide volumes{};
-        return measured("volume", gwb_volume(asked(), solid.number(), &volumes), volumes);
+        gwb_refusal refusal{};
+        return weighed("volume", gwb_read_volume(seen(), solid.number(), &volumes, &refusal), volumes, refusal);
     }
     /// The vertices, edges, faces and rings of a solid.
     [[nodiscard]] Returned<gwb_counts> count(Solid solid) const
     {
         gwb_counts counts{};
-        return measured("count", gwb_count(asked(), solid.number(), &counts), counts);
+        gwb_refusal refusal{};
+        return weighed("count", gwb_read_counts(seen(), solid.number(), &counts, &refusal), counts, refusal);
     }
     /// The listing of the model, as the script language's `list` writes it.
     [[nodiscard]] Returned<std::string> listing() const
     {
-        gwb_kind kind = gwb_line(asked(), "list", 4);
-        return kind == GWB_LISTING ? reply() : Policy::template failed<std::string>("list", failure(kind));
+        return text("list", gwb_read_listing);
     }
 
     // Numbers.
@@ -1261,19 +1263,7 @@ public:
     }
 
     /// The text of the last answer, its newline included.
-    [[nodiscard]] Returned<std::string> reply() const
-    {
-        std::string text(256, '\0');
-        std::size_t length = gwb_reply(seen(), text.data(), text.size());
-        if (length != SIZE_MAX && length > text.size()) {
-            text.resize(length);
-            length = gwb_reply(seen(), text.data(), text.size());
-        }
-        if (length == SIZE_MAX)
-            return Policy::template failed<std::string>("reply", {gwb_is_open(seen()) ? Problem::memory : Problem::closed});
-        text.resize(length);
-        return text;
-    }
+    [[nodiscard]] Returned<std::string> reply() const { return text("reply", gwb_reply); }
 
     /// Whether it was neither moved from nor closed.
     [[nodiscard]] bool is_open() const { return gwb_is_open(seen()); }
@@ -1376,6 +1366,29 @@ private:
     template <class T> Returned<T> measured(std::string_view command, gwb_kind kind, const T &value) const
     {
         return gwb_succeeded(kind) ? Returned<T>(value) : Policy::template failed<T>(command, failure(kind));
+    }
+
+    /// What a measure says to the caller.
+    template <class T>
+    Returned<T> weighed(std::string_view command, gwb_kind kind, const T &value, const gwb_refusal &refusal) const
+    {
+        const Failure refused{Problem::refused, refusal.number, refusal.value};
+        return kind == GWB_REFUSED ? Policy::template failed<T>(command, refused) : measured(command, kind, value);
+    }
+
+    /// The text that a reader writes.
+    Returned<std::string> text(std::string_view command, std::size_t (*write)(const gwb *, char *, std::size_t)) const
+    {
+        std::string text(256, '\0');
+        std::size_t length = write(seen(), text.data(), text.size());
+        if (length != SIZE_MAX && length > text.size()) {
+            text.resize(length);
+            length = write(seen(), text.data(), text.size());
+        }
+        if (length == SIZE_MAX)
+            return Policy::template failed<std::string>(command, {gwb_is_open(seen()) ? Problem::memory : Problem::closed});
+        text.resize(length);
+        return text;
     }
 
     /// What a reader says to the caller.

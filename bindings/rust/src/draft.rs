@@ -85,7 +85,7 @@ impl<'session> Draft<'session> {
     /// # Errors
     /// [`Error::NoDraft`] where the draft is not open, which only the calls of `gwb_sys` can bring about.
     pub fn commit(self) -> Result<(), Error> {
-        let draft = ManuallyDrop::new(self);
+        let mut draft = ManuallyDrop::new(self);
         // SAFETY: the session is borrowed, so its handle is open.
         let answer = unsafe { gwb_sys::gwb_commit(draft.session.handle()) };
         draft.session.end_draft(answer == gwb_sys::kind::OK);

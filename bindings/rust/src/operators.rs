@@ -1,12 +1,10 @@
 use crate::readers::Readers;
-use crate::{Corner, Counts, Edge, Error, Face, HalfEdge, Id, Loop, NewFace, NewSolid, Plane, Point, Refusal, Solid, Vertex};
-use gwb_sys::{kind, Gwb, Range, Wide};
-use std::cell::Cell;
+use crate::{Corner, Edge, Error, Face, HalfEdge, Id, Loop, NewFace, NewSolid, Point, Refusal, Solid, Vertex};
+use gwb_sys::{kind, Gwb, Range};
 use std::ops::{Deref, RangeInclusive};
 use std::ptr::NonNull;
 
-/// What a [`Session`](crate::Session) and a [`Draft`](crate::Draft) both have: the operators, the measures and, by [`Readers`], the
-/// readers.
+/// What a [`Session`](crate::Session) and a [`Draft`](crate::Draft) both have: the operators and, by [`Readers`], the readers.
 ///
 /// An operator makes what it is given numbers for. In the place of each such number [`None`] may stand: it takes the number above all in
 /// use then. What is made is returned. A command that isn't accepted leaves the model as it was; it returns [`Error::Refused`] with the
@@ -16,11 +14,11 @@ pub struct Operators {
     fresh: Fresh,
 }
 
-/// The fresh numbers of the last command, which the kernel forgets where it is asked for a measure, and those of the steps of a draft.
+/// The fresh numbers of the last command, where a line was given after it or it was a draft, and those of the steps of a draft.
 #[derive(Default)]
 struct Fresh {
-    kept: Cell<Option<Ranges>>,
-    drafted: Cell<Option<Ranges>>,
+    kept: Option<Ranges>,
+    drafted: Option<Ranges>,
 }
 
 /// For each kind the first and the last number, or 0 and 0.
@@ -35,8 +33,8 @@ fn joined(one: Range, other: Range) -> Range {
     }
 }
 
-// SAFETY, for all calls in this file: the handle is open from `new` on until `drop`, nobody else has it, and only one thread has it, since
-// this is not Sync. What a call writes to is a value of its own.
+// SAFETY, for all calls in this file: the handle is open from `new` on until `drop`, and nobody else has it. What isn't a reader borrows
+// this mutably, so no other call runs. What a call writes to is a value of its own.
 impl Operators {
     /// A session that holds the empty model.
     pub(crate) fn new() -> Result<Self, Error> {
@@ -254,30 +252,6 @@ impl Operators {
         Ok(above)
     }
 
-    /// The plane of a face. It keeps the last answer.
-    ///
-    /// # Errors
-    /// [`Error::Refused`].
-    pub fn plane(&self, face: Face) -> Result<Plane, Error> {
-        self.measured(|g, plane: &mut gwb_sys::Plane| unsafe { gwb_sys::gwb_face_plane(g, face.0, plane) }).map(Plane::from)
-    }
-
-    /// Six times the volume of a solid. It keeps the last answer.
-    ///
-    /// # Errors
-    /// [`Error::Refused`].
-    pub fn six_volumes(&self, solid: Solid) -> Result<i128, Error> {
-        self.measured(|g, volumes: &mut Wide| unsafe { gwb_sys::gwb_volume(g, solid.0, volumes) }).map(i128::from)
-    }
-
-    /// How many vertices, edges, faces and rings a solid has. It keeps the last answer.
-    ///
-    /// # Errors
-    /// [`Error::Refused`].
-    pub fn count(&self, solid: Solid) -> Result<Counts, Error> {
-        self.measured(|g, counts: &mut Counts| unsafe { gwb_sys::gwb_count(g, solid.0, counts) })
-    }
-
     /// Makes the model of a listing beside what is held, with its numbers: as one command, or as steps of the draft that is open.
     ///
     /// ```
@@ -309,7 +283,7 @@ impl Operators {
     /// which a command names: `fresh::<Face>()`.
     #[must_use]
     pub fn fresh<N: Id>(&self) -> Option<RangeInclusive<u32>> {
-        let range = self.fresh.kept.get().map_or_else(|| self.live(N::KIND), |kept| kept[N::KIND as usize]);
+        let range = self.fresh.kept.map_or_else(|| self.live(N::KIND), |kept| kept[N::KIND as usize]);
         (range.first != 0).then_some(range.first..=range.last)
     }
 
@@ -323,13 +297,13 @@ impl Operators {
     }
 
     /// What the kind of a command's answer says.
-    pub(crate) fn told(&self, answer: u32) -> Result<(), Error> {
+    pub(crate) fn told(&mut self, answer: u32) -> Result<(), Error> {
         if answer <= kind::MEMORY {
-            self.fresh.kept.set(None);
+            self.fresh.kept = None;
         }
-        if let (kind::OK, Some(drafted)) = (answer, self.fresh.drafted.get()) {
+        if let (kind::OK, Some(drafted)) = (answer, self.fresh.drafted) {
             let step = self.all_live();
-            self.fresh.drafted.set(Some(std::array::from_fn(|of| joined(drafted[of], step[of]))));
+            self.fresh.drafted = Some(std::array::from_fn(|of| joined(drafted[of], step[of])));
         }
         self.answered(answer)
     }
@@ -340,44 +314,44 @@ impl Operators {
     }
 
     /// After many commands that were one, or steps of the draft that is open, where these were the greatest numbers before.
-    fn told_all(&self, before: [u32; 5]) {
+    fn told_all(&mut self, before: [u32; 5]) {
         let mut made = Ranges::default();
         for kind in [1, 2, 3, 4] {
             let first = self.found(|g, number| unsafe { gwb_sys::gwb_lent_number_after(g, kind, before[kind as usize], number) });
             made[kind as usize] = first.map_or_else(Range::default, |first| Range { first, last: self.greatest_of(kind) });
         }
-        self.fresh.kept.set(Some(made));
-        if let Some(drafted) = self.fresh.drafted.get() {
-            self.fresh.drafted.set(Some(std::array::from_fn(|of| joined(drafted[of], made[of]))));
+        self.fresh.kept = Some(made);
+        if let Some(drafted) = self.fresh.drafted {
+            self.fresh.drafted = Some(std::array::from_fn(|of| joined(drafted[of], made[of])));
         }
     }
 
     /// After a draft was opened.
-    pub(crate) fn begin_draft(&self) {
-        self.fresh.drafted.set(Some(Ranges::default()));
+    pub(crate) fn begin_draft(&mut self) {
+        self.fresh.drafted = Some(Ranges::default());
     }
 
     /// What the steps of the draft that is open have made.
     pub(crate) fn drafted(&self) -> Option<Ranges> {
-        self.fresh.drafted.get()
+        self.fresh.drafted
     }
 
     /// After the steps of the draft were taken back to where they had made this.
-    pub(crate) fn go_back(&self, drafted: Option<Ranges>) {
-        self.fresh.kept.set(None);
-        self.fresh.drafted.set(drafted);
+    pub(crate) fn go_back(&mut self, drafted: Option<Ranges>) {
+        self.fresh.kept = None;
+        self.fresh.drafted = drafted;
     }
 
     /// After a draft has ended; where it was committed it has made what its steps made.
-    pub(crate) fn end_draft(&self, is_committed: bool) {
+    pub(crate) fn end_draft(&mut self, is_committed: bool) {
         let drafted = self.fresh.drafted.take();
-        self.fresh.kept.set(drafted.filter(|_| is_committed));
+        self.fresh.kept = drafted.filter(|_| is_committed);
     }
 
-    /// Before a query, which makes the kernel forget what the last command made.
-    pub(crate) fn keep_fresh(&self) {
-        let kept = self.fresh.kept.get().unwrap_or_else(|| self.all_live());
-        self.fresh.kept.set(Some(kept));
+    /// Before a line, which may make the kernel forget what the last command made.
+    pub(crate) fn keep_fresh(&mut self) {
+        let kept = self.fresh.kept.unwrap_or_else(|| self.all_live());
+        self.fresh.kept = Some(kept);
     }
 
     /// What the kind of an answer says.
@@ -398,13 +372,6 @@ impl Operators {
         named(self.found(|g, last| unsafe { gwb_sys::gwb_lent_last_refusal(g, last) }).unwrap_or_default())
     }
 
-    /// What a query writes.
-    fn measured<T: Default>(&self, ask: impl FnOnce(*mut Gwb, &mut T) -> u32) -> Result<T, Error> {
-        self.keep_fresh();
-        let mut value = T::default();
-        self.answered(ask(self.handle(), &mut value)).map(|()| value)
-    }
-
     fn live(&self, kind: u32) -> Range {
         self.found(|g, range| unsafe { gwb_sys::gwb_lent_fresh(g, kind, range) }).unwrap_or_default()
     }
@@ -415,7 +382,7 @@ impl Operators {
 }
 
 /// A refusal by its name.
-fn named(refusal: gwb_sys::Refusal) -> Error {
+pub(crate) fn named(refusal: gwb_sys::Refusal) -> Error {
     let gwb_sys::Refusal { number, value } = refusal;
     Refusal::from_number(number).map_or(Error::Unknown(number), |refusal| Error::Refused { refusal, value })
 }

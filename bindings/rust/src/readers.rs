@@ -1,10 +1,12 @@
-use crate::{minus, plus, Edge, EdgeRow, Error, Face, FaceRow, HalfEdge, HalfEdgeRow, Id, Loop, Point, Solid, Vertex};
-use gwb_sys::{Gwb, FOUND};
+use crate::operators::named;
+use crate::{minus, plus, Counts, Edge, EdgeRow, Error, Face, FaceRow, HalfEdge, HalfEdgeRow, Id, Loop, Plane, Point, Solid, Vertex};
+use gwb_sys::{kind, Gwb, Wide, FOUND};
 use std::iter;
 use std::ops::Deref;
 use std::ptr::NonNull;
 
 type After = unsafe extern "C" fn(*mut Gwb, u32, u32, *mut u32) -> u32;
+type Write = unsafe extern "C" fn(*mut Gwb, *mut u8, usize) -> usize;
 
 /// The readers of a [`Session`](crate::Session), which has them all: they walk the model that it holds, in a draft the draft's.
 ///
@@ -13,6 +15,12 @@ type After = unsafe extern "C" fn(*mut Gwb, u32, u32, *mut u32) -> u32;
 pub struct Readers {
     handle: NonNull<Gwb>,
 }
+
+// SAFETY: the session behind the handle is memory of the heap, which all threads may use, and a call of the library reads and writes that
+// alone: it has no lock, no thread-local and no global variable. Whoever has the readers alone calls what is no reader.
+unsafe impl Send for Readers {}
+// SAFETY: while they are shared none but readers is called, of which many may run at once (gwb.h): each works on a copy of the handle.
+unsafe impl Sync for Readers {}
 
 // SAFETY, for all calls in this file: the handle is open for as long as there are readers, and none but readers is called while they are
 // borrowed. Each call works on a copy of the handle of its own, and what it writes to is a value of its own.
@@ -54,24 +62,72 @@ impl Readers {
         unsafe { gwb_sys::gwb_lent_mark(&mut self.lent()) }
     }
 
+    /// The plane of a face.
+    ///
+    /// # Errors
+    /// [`Error::Refused`].
+    pub fn plane(&self, face: Face) -> Result<Plane, Error> {
+        self.measured(|g, plane: &mut gwb_sys::Plane, refusal| unsafe { gwb_sys::gwb_lent_plane(g, face.0, plane, refusal) })
+            .map(Plane::from)
+    }
+
+    /// Six times the volume of a solid.
+    ///
+    /// # Errors
+    /// [`Error::Refused`].
+    pub fn six_volumes(&self, solid: Solid) -> Result<i128, Error> {
+        self.measured(|g, volumes: &mut Wide, refusal| unsafe { gwb_sys::gwb_lent_volume(g, solid.0, volumes, refusal) }).map(i128::from)
+    }
+
+    /// How many vertices, edges, faces and rings a solid has.
+    ///
+    /// # Errors
+    /// [`Error::Refused`].
+    pub fn count(&self, solid: Solid) -> Result<Counts, Error> {
+        self.measured(|g, counts: &mut Counts, refusal| unsafe { gwb_sys::gwb_lent_counts(g, solid.0, counts, refusal) })
+    }
+
+    /// What a measure writes.
+    fn measured<T: Default>(&self, read: impl FnOnce(*mut Gwb, &mut T, &mut gwb_sys::Refusal) -> u32) -> Result<T, Error> {
+        let (mut value, mut refusal) = (T::default(), gwb_sys::Refusal::default());
+        match read(&mut self.lent(), &mut value, &mut refusal) {
+            kind::REFUSED => Err(named(refusal)),
+            kind::PLANE..=kind::COUNT => Ok(value),
+            other => Err(Error::Unknown(other)),
+        }
+    }
+
+    /// The listing of the model.
+    ///
+    /// # Errors
+    /// [`Error::Memory`].
+    pub fn listing(&self) -> Result<String, Error> {
+        self.text(gwb_sys::gwb_lent_listing)
+    }
+
     /// The text of the last answer, its newline included.
     ///
     /// # Errors
     /// [`Error::Memory`].
     pub fn reply(&self) -> Result<String, Error> {
+        self.text(gwb_sys::gwb_lent_reply)
+    }
+
+    /// The whole text that a reader writes.
+    fn text(&self, write: Write) -> Result<String, Error> {
         let mut text = vec![0; 256];
-        let mut length = self.written(&mut text)?;
+        let mut length = self.written(write, &mut text)?;
         if length > text.len() {
             text.resize(length, 0);
-            length = self.written(&mut text)?;
+            length = self.written(write, &mut text)?;
         }
         text.truncate(length);
         Ok(String::from_utf8_lossy(&text).into_owned())
     }
 
-    /// Writes the last answer as far as there is room, and returns its whole length.
-    fn written(&self, room: &mut [u8]) -> Result<usize, Error> {
-        match unsafe { gwb_sys::gwb_lent_reply(&mut self.lent(), room.as_mut_ptr(), room.len()) } {
+    /// Writes a text as far as there is room, and returns its whole length.
+    fn written(&self, write: Write, room: &mut [u8]) -> Result<usize, Error> {
+        match unsafe { write(&mut self.lent(), room.as_mut_ptr(), room.len()) } {
             usize::MAX => Err(Error::Memory),
             length => Ok(length),
         }
@@ -331,12 +387,6 @@ impl<N: Id> iter::FusedIterator for Numbers<'_, N> {}
 pub struct Shared<'session> {
     readers: &'session Readers,
 }
-
-// SAFETY: the session is borrowed mutably for 'session, so none of its calls but readers is made, and of those many may run at once
-// (gwb.h): each works on a copy of the handle. What they borrow of `Readers` can't leave the thread, since that is not Sync.
-unsafe impl Send for Shared<'_> {}
-// SAFETY: the same.
-unsafe impl Sync for Shared<'_> {}
 
 impl<'session> Shared<'session> {
     pub(crate) fn new(readers: &'session Readers) -> Self {

@@ -7,37 +7,26 @@ use std::ops::{Deref, DerefMut};
 
 /// A session of the kernel: one model, and all commands that can be undone. It is closed when it is dropped.
 ///
-/// Its operators, larger commands and measures are those of [`Operators`], its readers those of [`Readers`](crate::Readers).
+/// Its operators and larger commands are those of [`Operators`], its readers and measures those of [`Readers`](crate::Readers).
 ///
-/// A session may go to another thread; nothing in it is of a thread. It isn't [`Sync`], since a measure keeps the last answer: for readers
-/// in many threads at once there is [`shared`](Self::shared).
+/// A session may go to another thread; nothing in it is of a thread. Many threads may read and measure one at once: what changes it, or its
+/// last answer, borrows it mutably.
 ///
 /// ```
 /// let mut session = gwb::Session::new()?;
 /// session.block(None, [0, 0, 0], [4, 4, 4])?;
-/// let shared = session.shared();
 /// std::thread::scope(|scope| {
-///     for face in shared.faces(gwb::Solid(1)) {
-///         scope.spawn(move || assert_eq!(shared.edges_of(face).count(), 4));
+///     for face in session.faces(gwb::Solid(1)) {
+///         let session = &session;
+///         scope.spawn(move || assert_eq!(session.plane(face).map(|plane| plane.flat), Ok(true)));
 ///     }
 /// });
 /// std::thread::spawn(move || session.undo()).join().unwrap()?;
 /// # Ok::<(), gwb::Error>(())
 /// ```
-///
-/// ```compile_fail,E0277
-/// let session = gwb::Session::new().unwrap();
-/// std::thread::scope(|scope| {
-///     scope.spawn(|| session.depth());
-/// });
-/// ```
 pub struct Session {
     operators: Operators,
 }
-
-// SAFETY: nobody else has the handle; the session behind it is memory of the heap, which all threads may use, and a call of the library
-// reads and writes that alone. It has no lock, no thread-local and no global variable.
-unsafe impl Send for Session {}
 
 // SAFETY, for all calls in this file: as in operators.rs.
 impl Session {
@@ -68,7 +57,8 @@ impl Session {
     /// # Errors
     /// [`Error::Memory`]; [`Error::InDraft`] where a draft was forgotten.
     pub fn draft(&mut self) -> Result<Draft<'_>, Error> {
-        self.told(unsafe { gwb_sys::gwb_draft(self.handle()) })?;
+        let answer = unsafe { gwb_sys::gwb_draft(self.handle()) };
+        self.told(answer)?;
         self.begin_draft();
         Ok(Draft::new(self))
     }
@@ -78,7 +68,8 @@ impl Session {
     /// # Errors
     /// [`Error::NoDraft`] where none is open.
     pub fn abandon(&mut self) -> Result<(), Error> {
-        self.told(unsafe { gwb_sys::gwb_abandon(self.handle()) })?;
+        let answer = unsafe { gwb_sys::gwb_abandon(self.handle()) };
+        self.told(answer)?;
         self.end_draft(false);
         Ok(())
     }
@@ -88,7 +79,8 @@ impl Session {
     /// # Errors
     /// [`Error::Refused`].
     pub fn undo(&mut self) -> Result<(), Error> {
-        self.told(unsafe { gwb_sys::gwb_undo(self.handle()) })
+        let answer = unsafe { gwb_sys::gwb_undo(self.handle()) };
+        self.told(answer)
     }
 
     /// Does the command again that was taken back last.
@@ -96,7 +88,8 @@ impl Session {
     /// # Errors
     /// [`Error::Refused`], [`Error::Memory`].
     pub fn redo(&mut self) -> Result<(), Error> {
-        self.told(unsafe { gwb_sys::gwb_redo(self.handle()) })
+        let answer = unsafe { gwb_sys::gwb_redo(self.handle()) };
+        self.told(answer)
     }
 
     /// Gives one line of the script language, without its newline. [`reply`](crate::Readers::reply) has the text of its answer.
@@ -117,16 +110,6 @@ impl Session {
     /// How many lines were accepted before it, and the error of [`run`](Self::run).
     pub fn run_lines(&mut self, script: &str) -> Result<(), (usize, Error)> {
         script.split_terminator('\n').enumerate().try_for_each(|(at, line)| self.run(line).map_err(|error| (at, error)))
-    }
-
-    /// The listing of the model. It keeps the last answer.
-    ///
-    /// # Errors
-    /// [`Error::Memory`].
-    pub fn listing(&self) -> Result<String, Error> {
-        self.keep_fresh();
-        self.answered(unsafe { gwb_sys::gwb_line(self.handle(), b"list".as_ptr(), 4) })?;
-        self.reply()
     }
 
     /// The readers, for many threads at once. While they are borrowed nothing else is called.

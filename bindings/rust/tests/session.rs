@@ -289,9 +289,12 @@ fn a_draft_that_is_forgotten_stays_open() {
     let mut session = block();
     std::mem::forget(session.draft().unwrap());
     let before = session.numbers::<Face>().count();
-    assert_eq!((session.undo(), session.redo(), session.run("list")), (Err(Error::InDraft), Err(Error::InDraft), Err(Error::InDraft)));
+    assert_eq!((session.undo(), session.redo(), session.run("undo")), (Err(Error::InDraft), Err(Error::InDraft), Err(Error::InDraft)));
+    let mark = session.steps();
+    assert_eq!((session.run("block 9 40 40 40 1 1 1"), session.six_volumes(Solid(9)), session.run("list")), (Ok(()), Ok(6), Ok(())));
+    assert_eq!((session.reply(), session.steps() > mark), (session.listing(), true));
     assert!(matches!(session.draft(), Err(Error::InDraft)));
-    assert_eq!((session.numbers::<Face>().count(), Error::InDraft.to_string().contains("draft")), (before, true));
+    assert_eq!((session.numbers::<Face>().count(), Error::InDraft.to_string().contains("draft")), (before + 6, true));
     session.abandon().unwrap();
     assert_eq!((session.abandon(), session.undo()), (Err(Error::NoDraft), Ok(())));
 }

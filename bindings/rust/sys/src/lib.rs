@@ -266,6 +266,10 @@ extern "C" {
     pub fn gwb_face_plane(g: *mut Gwb, face: u32, plane: *mut Plane) -> u32;
     pub fn gwb_volume(g: *mut Gwb, solid: u32, six_volumes: *mut Wide) -> u32;
     pub fn gwb_count(g: *mut Gwb, solid: u32, counts: *mut Counts) -> u32;
+    pub fn gwb_lent_plane(copy: *mut Gwb, face: u32, plane: *mut Plane, refusal: *mut Refusal) -> u32;
+    pub fn gwb_lent_volume(copy: *mut Gwb, solid: u32, six_volumes: *mut Wide, refusal: *mut Refusal) -> u32;
+    pub fn gwb_lent_counts(copy: *mut Gwb, solid: u32, counts: *mut Counts, refusal: *mut Refusal) -> u32;
+    pub fn gwb_lent_listing(copy: *mut Gwb, buf: *mut u8, room: usize) -> usize;
 
     pub fn gwb_read_half_edges(g: *const Gwb, solid: u32, rows: *mut HalfEdgeRow, room: usize) -> usize;
     pub fn gwb_read_vertices(g: *const Gwb, rows: *mut VertexRow, room: usize) -> usize;
