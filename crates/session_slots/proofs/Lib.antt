@@ -9,3 +9,4 @@ pub mod Acting
 mod Queried
 mod Unchanged
 mod Hearing
+mod Judged

@@ -9,3 +9,4 @@ pub mod Parting
 pub mod Owned
 pub mod Opening
 pub mod Arguments
+pub mod Laws
