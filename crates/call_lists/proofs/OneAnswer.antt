@@ -10,8 +10,7 @@ use Rattle.commands.specs.declared.command.Command.TheVariants as command
 use Rattle.commands.specs.declared.command.Call.{Call}
 use Rattle.commands.specs.declared.command.Call.TheVariants as call
 use Rattle.commands.specs.declared.command.Told.{Told}
-use Rattle.commands.specs.declared.command.Told.TheVariants as told
-use Rattle.commands.specs.declared.command.Told.TheVariants.{Done, Refused, Memory, InDraft, NoDraft}
+use Rattle.commands.specs.declared.command.Told.TheVariants.{Done, Refused, Memory}
 use Rattle.commands.specs.declared.stage.Stage.{Stage}
 use Rattle.commands.specs.declared.stage.Stage.TheVariants.{Session, Drafting}
 use Rattle.commands.specs.Changes.{refusal_of, made}
@@ -36,15 +35,7 @@ idle_lists_stay g h (c ∷ calls) (a ∷ answers) other x = idle_lists_stay x.0 
 -- ---- calls that are told `Memory` can be left out
 
 told_memory : (a : Told) → is_memory a ≡ true → a ≢ Done
-told_memory Done is e = true≢false (sym is)
-told_memory (Refused r) is e = true≢false (sym is)
-told_memory Memory is e = cc
-told_memory InDraft is e = true≢false (sym is)
-told_memory NoDraft is e = true≢false (sym is)
-told_memory (told.Plane p flat) is e = true≢false (sym is)
-told_memory (told.Volume n) is e = true≢false (sym is)
-told_memory (told.Counts n) is e = true≢false (sym is)
-told_memory (told.Steps n) is e = true≢false (sym is)
+told_memory a is e = true≢false (sym is ∙ ap is_memory e)
 
 -- the first call is left out, or it isn't
 module _ (g k h : Stage) (c : Call) (a : Told) (calls : List Call) (answers : List Told) (first : Tells g c a k) (whole : IsWhole k) (rest : MakesAll k (heard calls answers) (told_else answers) h) where

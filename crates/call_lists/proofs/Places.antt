@@ -80,12 +80,12 @@ accepted_place : (s t : Journal) (N : Model) → t.machine ≡ accepted s.machin
 accepted_place s t N is = place_is (depth t.machine) (ahead t.machine) (depth s.machine + 1) 0 false (ap depth is ∙ one_more (depth s.machine)) (ap ahead is)
 
 -- undo where a command is behind, and redo where one is ahead
-undone_place : (past : List Model) (M : Model) (future : List Model) → undo_refusal (record { past = past; present = M; future = future }) ≡ None
+pub undone_place : (past : List Model) (M : Model) (future : List Model) → undo_refusal (record { past = past; present = M; future = future }) ≡ None
     → (depth (undo (record { past = past; present = M; future = future })) ≡ length past - 1) × (ahead (undo (record { past = past; present = M; future = future })) ≡ length future + 1)
 undone_place [] M future goes = absurd (true≢false (ap is_some goes))
 undone_place (P ∷ past) M future goes = (omega arith, one_more (length future))
 
-redone_place : (past : List Model) (M : Model) (future : List Model) → redo_refusal (record { past = past; present = M; future = future }) ≡ None
+pub redone_place : (past : List Model) (M : Model) (future : List Model) → redo_refusal (record { past = past; present = M; future = future }) ≡ None
     → (depth (redo (record { past = past; present = M; future = future })) ≡ length past + 1) × (ahead (redo (record { past = past; present = M; future = future })) ≡ length future - 1)
 redone_place past M [] goes = absurd (true≢false (ap is_some goes))
 redone_place past M (N ∷ future) goes = (one_more (length past), omega arith)

@@ -1,9 +1,8 @@
 -- Commands that are taken back, and made again.
-use Rattle.std.proofs.Common.{◌≡◌, ℕ, zero, suc, ◌+◌, ◌≤◌, inl, inr, Bool, false, Option, None, List, [], ◌∷◌, ◌++◌, length, reverse, take, drop, replicate, is_some, nat_eq, refl, sym, ap, subst, ◌∙◌, append_assoc, take-append-drop, length-take, arith, true≢false}
+use Rattle.std.proofs.Common.{◌≡◌, ℕ, zero, suc, ◌+◌, ◌≤◌, inl, inr, Bool, false, None, List, [], ◌∷◌, ◌++◌, length, reverse, take, drop, replicate, nat_eq, refl, sym, ap, subst, ◌∙◌, append_assoc, take-append-drop, length-take, arith}
 use Rattle.std.specs.Prelude.{◌⊎◌}
 use Rattle.std.proofs.lemmas.Bool.Decides.{nat_tests}
 use Rattle.euler_operators.specs.Model.{Model}
-use Rattle.euler_operators.specs.declared.Refusal.{Refusal}
 use Rattle.euler_operators.specs.declared.Why.{Why}
 use Rattle.euler_operators.specs.declared.Why.TheVariants.{NothingToUndo, NothingToRedo}
 use Rattle.euler_operators.specs.Conditions.{first_refusal, never}
@@ -15,16 +14,16 @@ use Rattle.commands.specs.declared.command.Command.TheVariants as command
 use Rattle.commands.specs.declared.command.Call.{Call}
 use Rattle.commands.specs.declared.command.Call.TheVariants as call
 use Rattle.commands.specs.declared.command.Told.{Told}
-use Rattle.commands.specs.declared.command.Told.TheVariants as told
-use Rattle.commands.specs.declared.command.Told.TheVariants.{Done, Refused, Memory, InDraft, NoDraft}
+use Rattle.commands.specs.declared.command.Told.TheVariants.{Done}
 use Rattle.commands.specs.declared.stage.Stage.{Stage}
 use Rattle.commands.specs.declared.stage.Stage.TheVariants.{Session, Drafting}
 use Rattle.commands.specs.Changes.{refusal_of, made, MayLack}
-use Rattle.commands.specs.Telling.{Settled, Tells, TellsSession}
-use Rattle.commands.proofs.Settling.{ended}
+use Rattle.commands.specs.Telling.{Tells, TellsSession}
+use Rattle.commands.proofs.Settling.{ended, goes}
 use Rattle.call_lists.specs.Making.{MakesAll}
 use Rattle.call_lists.specs.Laws.{IsOnward, AreOnward, IsTakenBack, CommandsAreTakenBack}
 use Rattle.call_lists.proofs.Histories.{session_stays}
+use Rattle.call_lists.proofs.Places.{undone_place, redone_place}
 
 -- ---- a list without undo and redo appends commands
 
@@ -123,17 +122,22 @@ back_behind s (suc n) t m x past present =
     let behind : m.past ≡ x.0.machine.present ∷ x.0.machine.past = past ∙ ap (λ (k : Machine). k.past) x.3 in
     back_behind s n x.0 (undo m) x.2 (ap (λ (Ms : List Model). (back_to Ms m).past) behind) (ap (λ (Ms : List Model). (back_to Ms m).present) behind)
 
-less_behind : (past : List Model) (M : Model) (future : List Model) (n : ℕ) → suc n ≤ length past → n ≤ depth (undo (record { past = past; present = M; future = future }))
-less_behind [] M future n le = absurd (omega (arith, le))
-less_behind (P ∷ Ps) M future n le = omega (arith, le)
+free : (n : ℕ) (why : Why) → first_refusal (never (nat_eq (suc n) 0) why 0 ∷ []) ≡ None
+free n why = let some : nat_eq (suc n) 0 ≡ false = grind (arith, nat_tests) in ap (λ (b : Bool). first_refusal (never b why 0 ∷ [])) some
 
-less_ahead : (past : List Model) (M : Model) (future : List Model) (n : ℕ) → suc n ≤ length future → n ≤ ahead (redo (record { past = past; present = M; future = future }))
-less_ahead past M [] n le = absurd (omega (arith, le))
-less_ahead past M (N ∷ future) n le = omega (arith, le)
+undo_free : (past : List Model) (M : Model) (future : List Model) (n : ℕ) → suc n ≤ length past → undo_refusal (record { past = past; present = M; future = future }) ≡ None
+undo_free [] M future n le = absurd (omega (arith, le))
+undo_free (P ∷ Ps) M future n le = free (length Ps) NothingToUndo
 
-more_ahead : (past : List Model) (M : Model) (future : List Model) (n : ℕ) → suc n ≤ length past → ahead (undo (record { past = past; present = M; future = future })) ≡ suc (length future)
-more_ahead [] M future n le = absurd (omega (arith, le))
-more_ahead (P ∷ Ps) M future n le = refl
+redo_free : (past : List Model) (M : Model) (future : List Model) (n : ℕ) → suc n ≤ length future → redo_refusal (record { past = past; present = M; future = future }) ≡ None
+redo_free past M [] n le = absurd (omega (arith, le))
+redo_free past M (N ∷ future) n le = free (length future) NothingToRedo
+
+less_behind : (m : Machine) (n : ℕ) → suc n ≤ depth m → n ≤ depth (undo m)
+less_behind m n le = let place = undone_place m.past m.present m.future (undo_free m.past m.present m.future n le) in omega (arith, place.0, le)
+
+less_ahead : (m : Machine) (n : ℕ) → suc n ≤ ahead m → n ≤ ahead (redo m)
+less_ahead m n le = let place = redone_place m.past m.present m.future (redo_free m.past m.present m.future n le) in omega (arith, place.1, le)
 
 redone : (past : List Model) (M : Model) (future : List Model) (n : ℕ) → suc n ≤ length past → redo (undo (record { past = past; present = M; future = future })) ≡ record { past = past; present = M; future = future }
 redone [] M future n le = absurd (omega (arith, le))
@@ -146,40 +150,17 @@ all_ahead n m le = let many = counted n m le in omega (arith, many)
     counted : (k : ℕ) (s : Machine) → k ≤ depth s → ahead (times k undo s) ≡ ahead s + k
     counted zero s le = omega arith
     counted (suc k) s le =
-        let rest = counted k (undo s) (less_behind s.past s.present s.future k le) in
-        let one = more_ahead s.past s.present s.future k le in
-        omega (arith, rest, one)
+        let rest = counted k (undo s) (less_behind s k le) in
+        let place = undone_place s.past s.present s.future (undo_free s.past s.present s.future k le) in
+        omega (arith, rest, place.1)
 
 -- which so many redos make again
 all_redone : (n : ℕ) (m : Machine) → n ≤ depth m → times n redo (times n undo m) ≡ m
 all_redone zero m le = refl
 all_redone (suc n) m le =
-    last_first n redo (times n undo (undo m)) ∙ ap redo (all_redone n (undo m) (less_behind m.past m.present m.future n le)) ∙ redone m.past m.present m.future n le
+    last_first n redo (times n undo (undo m)) ∙ ap redo (all_redone n (undo m) (less_behind m n le)) ∙ redone m.past m.present m.future n le
 
 -- ---- they are all done
-
-free : (n : ℕ) (why : Why) → first_refusal (never (nat_eq (suc n) 0) why 0 ∷ []) ≡ None
-free n why = let some : nat_eq (suc n) 0 ≡ false = grind (arith, nat_tests) in ap (λ (b : Bool). first_refusal (never b why 0 ∷ [])) some
-
-undo_free : (past : List Model) (M : Model) (future : List Model) (n : ℕ) → suc n ≤ length past → undo_refusal (record { past = past; present = M; future = future }) ≡ None
-undo_free [] M future n le = absurd (omega (arith, le))
-undo_free (P ∷ Ps) M future n le = free (length Ps) NothingToUndo
-
-redo_free : (past : List Model) (M : Model) (future : List Model) (n : ℕ) → suc n ≤ length future → redo_refusal (record { past = past; present = M; future = future }) ≡ None
-redo_free past M [] n le = absurd (omega (arith, le))
-redo_free past M (N ∷ future) n le = free (length future) NothingToRedo
-
--- what isn't refused, and takes no memory, is done
-goes : (o : Option Refusal) (S G : Type 0) (a : Told) → o ≡ None → Settled o ⊥ S G a → (a ≡ Done) × G
-goes o S G Done is h = (refl, h.1)
-goes o S G (Refused r) is h = absurd (true≢false (sym (ap is_some h.0) ∙ ap is_some is))
-goes o S G Memory is h = absurd h.0
-goes o S G InDraft is h = absurd h
-goes o S G NoDraft is h = absurd h
-goes o S G (told.Plane p flat) is h = absurd h
-goes o S G (told.Volume n) is h = absurd h
-goes o S G (told.Counts n) is h = absurd h
-goes o S G (told.Steps n) is h = absurd h
 
 abbrev moved : Journal → Machine → Journal
 moved t m = record { machine = m; records = t.records }
@@ -202,12 +183,12 @@ module _ (c : Command) (move : Machine → Machine) (room : Machine → ℕ) (le
 
 undos_done : (n : ℕ) (t : Journal) (answers : List Told) (g : Stage) → n ≤ depth t.machine → MakesAll (Session t) (replicate n (call.Give command.Undo)) answers g
     → (answers ≡ replicate n Done) × (g ≡ Session (moved t (times n undo t.machine)))
-undos_done = all_done command.Undo undo depth (λ m. less_behind m.past m.present m.future)
+undos_done = all_done command.Undo undo depth less_behind
     (λ t u a n le x. goes (undo_refusal t.machine) (u ≡ t) (u ≡ after_undo t) a (undo_free t.machine.past t.machine.present t.machine.future n le) x)
 
 redos_done : (n : ℕ) (t : Journal) (answers : List Told) (g : Stage) → n ≤ ahead t.machine → MakesAll (Session t) (replicate n (call.Give command.Redo)) answers g
     → (answers ≡ replicate n Done) × (g ≡ Session (moved t (times n redo t.machine)))
-redos_done = all_done command.Redo redo ahead (λ m. less_ahead m.past m.present m.future)
+redos_done = all_done command.Redo redo ahead less_ahead
     (λ t u a n le x. goes (redo_refusal t.machine) (u ≡ t) (u ≡ after_redo t) a (redo_free t.machine.past t.machine.present t.machine.future n le) x)
 
 -- ---- the whole

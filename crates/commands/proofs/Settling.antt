@@ -1,6 +1,6 @@
 -- How a command that was settled ended.
-use Rattle.std.proofs.Common.{◌≡◌, inl, inr, Option, Some, None, Ok, Err, refl, sym, ap, ◌∙◌, OnOk, OnErr}
-use Rattle.std.specs.Prelude.{◌≢◌, ◌⊎◌, ◌↔◌, Result, Bool, true, false}
+use Rattle.std.proofs.Common.{◌≡◌, inl, inr, Option, Some, None, Ok, Err, refl, sym, ap, subst, ◌∙◌, OnOk, OnErr}
+use Rattle.std.specs.Prelude.{◌≢◌, ◌⊎◌, ◌↔◌, Result}
 use Rattle.std.specs.declared.alloc.AllocError.{AllocError}
 use Rattle.euler_operators.specs.declared.Refusal.{Refusal}
 use Rattle.undo_journal.specs.declared.session.Failure.{Failure}
@@ -8,7 +8,7 @@ use Rattle.undo_journal.specs.declared.session.Failure.TheVariants as failure
 use Rattle.commands.specs.declared.command.Told.{Told}
 use Rattle.commands.specs.declared.command.Told.TheVariants as told
 use Rattle.commands.specs.declared.command.Told.TheVariants.{Done, Refused, Memory, InDraft, NoDraft}
-use Rattle.commands.specs.Telling.{Settled, told_of, told_of_move}
+use Rattle.commands.specs.Telling.{Settled, told_of}
 
 -- done, or refused, or memory was refused
 abbrev pub Ended : Option Refusal → (Stays Goes : Type 0) → Told → Type 0
@@ -36,15 +36,22 @@ memory_not_done e = cc
 
 -- what isn't done stays
 pub stays : (o : Option Refusal) (L S G : Type 0) (a : Told) → a ≢ Done → Settled o L S G a → S
-stays o L S G Done other h = absurd (other refl)
-stays o L S G (Refused r) other h = h.1
-stays o L S G Memory other h = h.1
-stays o L S G InDraft other h = absurd h
-stays o L S G NoDraft other h = absurd h
-stays o L S G (told.Plane p flat) other h = absurd h
-stays o L S G (told.Volume n) other h = absurd h
-stays o L S G (told.Counts n) other h = absurd h
-stays o L S G (told.Steps n) other h = absurd h
+stays o L S G a other h = elim (ended o L S G a h) [
+  | inl d ↦ absurd (other d.0)
+  | inr (inl r) ↦ r.3
+  | inr (inr m) ↦ m.1
+]
+
+-- what isn't refused, and takes no memory, is done
+pub goes : (o : Option Refusal) (S G : Type 0) (a : Told) → o ≡ None → Settled o ⊥ S G a → (a ≡ Done) × G
+goes o S G a is h = elim (ended o ⊥ S G a h) [
+  | inl d ↦ (d.0, d.2)
+  | inr (inl r) ↦ absurd (some_not_none r.0 (sym r.2 ∙ is))
+  | inr (inr m) ↦ absurd (subst (Settled o ⊥ S G) m.0 h).0
+]
+  where
+    some_not_none : (r : Refusal) → Some r ≢ None
+    some_not_none r e = cc
 
 -- a change that ended so is settled
 pub settled : (o : Option Refusal) (L S G : Type 0) (r : Result (Unit {0}) Failure) → OnOk r ((o ≡ None) × G) → ((q : Refusal) → r ≡ Err (failure.Refused q) → o ≡ Some q)
