@@ -21,7 +21,7 @@ use Rattle.commands.specs.Changes.{refusal_of, made, MayLack}
 use Rattle.commands.specs.Telling.{Tells, TellsSession}
 use Rattle.commands.proofs.Settling.{ended, goes}
 use Rattle.call_lists.specs.Making.{MakesAll}
-use Rattle.call_lists.specs.Laws.{IsOnward, AreOnward, IsTakenBack, CommandsAreTakenBack}
+use Rattle.call_lists.specs.Laws.{Each, IsOnward, IsTakenBack, CommandsAreTakenBack}
 use Rattle.call_lists.proofs.Histories.{session_stays}
 use Rattle.call_lists.proofs.Places.{undone_place, redone_place}
 
@@ -69,7 +69,7 @@ one_more : (s r t : Journal) (n : ℕ) → Grows s n r → AddsOne r t → (m : 
 one_more s r t n x (inl is) = (n, subst (Grows s n) (sym is) x)
 one_more s r t n x (inr one) = (suc n, (r, one.0, x, one.1, one.2))
 
-all_grow : (s : Journal) (g h : Stage) (calls : List Call) (answers : List Told) (n : ℕ) → Grows s n (journal_of g) → AreOnward calls → MakesAll g calls answers h → (m : ℕ) × Grows s m (journal_of h)
+all_grow : (s : Journal) (g h : Stage) (calls : List Call) (answers : List Told) (n : ℕ) → Grows s n (journal_of g) → Each IsOnward calls → MakesAll g calls answers h → (m : ℕ) × Grows s m (journal_of h)
 all_grow s g h [] [] n x on is = (n, subst (λ (k : Stage). Grows s n (journal_of k)) (sym is) x)
 all_grow s g h [] (a ∷ answers) n x on y = absurd y
 all_grow s g h (c ∷ calls) [] n x on y = absurd y

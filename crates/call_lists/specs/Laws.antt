@@ -105,15 +105,16 @@ abbrev pub RedosLeadToTheLast : Type 0
 RedosLeadToTheLast = (g h : Stage) (calls : List Call) (answers : List Told) → MakesAll g calls answers h
     → held (redos (place_after_all (place_of g) calls answers).ahead (machine_of h)) ≡ model_at (machine_of h) (depth (machine_of h) + ahead (machine_of h))
 
+-- each element is such
+abbrev pub Each : {X : Type 0} → (X → Type 0) → List X → Type 0
+Each P [] = Unit {0}
+Each P (x ∷ xs) = P x × Each P xs
+
 -- a call that is neither undo nor redo
 abbrev pub IsOnward : Call → Type 0
 IsOnward (call.Give command.Undo) = ⊥
 IsOnward (call.Give command.Redo) = ⊥
 IsOnward c = Unit {0}
-
-abbrev pub AreOnward : List Call → Type 0
-AreOnward [] = Unit {0}
-AreOnward (c ∷ calls) = IsOnward c × AreOnward calls
 
 -- n undos from t, told so, are all done: they lead back to the model of s, with the models behind it and the records of its commands as they
 -- were; and whatever n redos from there are told, they are all done, and lead to t, its records too
@@ -129,21 +130,16 @@ pub record IsTakenBack (s t : Journal) (n : ℕ) (answers : List Told) (g : Stag
 
 -- a list without undo and redo from s to t, after which n commands more can be undone, is taken back by n undos
 abbrev pub CommandsAreTakenBack : Type 0
-CommandsAreTakenBack = (s t : Journal) (calls : List Call) (answers : List Told) (n : ℕ) → AreOnward calls → MakesAll (Session s) calls answers (Session t) → depth t.machine ≡ depth s.machine + n
+CommandsAreTakenBack = (s t : Journal) (calls : List Call) (answers : List Told) (n : ℕ) → Each IsOnward calls → MakesAll (Session s) calls answers (Session t) → depth t.machine ≡ depth s.machine + n
     → (others : List Told) (g : Stage) → MakesAll (Session t) (replicate n (call.Give command.Undo)) others g → IsTakenBack s t n others g
 
 -- a call that isn't told `Done` leaves the session or draft as it was, its records and steps too
 abbrev pub OnlyDoneChanges : Type 0
 OnlyDoneChanges = (g h : Stage) (c : Call) (a : Told) → a ≢ Done → Tells g c a h → h ≡ g
 
--- none is told `Done`
-abbrev pub AreNotDone : List Told → Type 0
-AreNotDone [] = Unit {0}
-AreNotDone (a ∷ answers) = (a ≢ Done) × AreNotDone answers
-
 -- and so a list of calls of which none is done
 abbrev pub IdleListsStay : Type 0
-IdleListsStay = (g h : Stage) (calls : List Call) (answers : List Told) → AreNotDone answers → MakesAll g calls answers h → h ≡ g
+IdleListsStay = (g h : Stage) (calls : List Call) (answers : List Told) → Each (λ a. a ≢ Done) answers → MakesAll g calls answers h → h ≡ g
 
 -- whether a call was told that memory was refused
 abbrev pub is_memory : Told → Bool
@@ -164,20 +160,11 @@ told_else (a ∷ answers) = cond (is_memory a) (told_else answers) (a ∷ told_e
 abbrev pub MemoryCanBeLeftOut : Type 0
 MemoryCanBeLeftOut = (g h : Stage) (calls : List Call) (answers : List Told) → MakesAll g calls answers h → MakesAll g (heard calls answers) (told_else answers) h
 
--- no answer is `Memory`
-abbrev pub HaveNoMemory : List Told → Type 0
-HaveNoMemory [] = Unit {0}
-HaveNoMemory (a ∷ answers) = (a ≢ Memory) × HaveNoMemory answers
-
 -- no call has to do with a mark: how many steps a larger command takes is left open
 abbrev pub IsUnmarked : Call → Type 0
 IsUnmarked call.Mark = ⊥
 IsUnmarked (call.Back n) = ⊥
 IsUnmarked c = Unit {0}
-
-abbrev pub AreUnmarked : List Call → Type 0
-AreUnmarked [] = Unit {0}
-AreUnmarked (c ∷ calls) = IsUnmarked c × AreUnmarked calls
 
 -- what a stage is but for its records and steps
 pub record View : Type 0 where
@@ -188,7 +175,7 @@ pub record View : Type 0 where
 abbrev pub view_of : Stage → View
 view_of g = record { machine = machine_of g; model = shown g; drafting = is_draft g }
 
--- then the calls have one list of answers, and lead to one machine and one model
+-- where no answer is `Memory` the calls have one list of answers, and lead to one machine and one model
 abbrev pub ListsHaveOneAnswer : Type 0
-ListsHaveOneAnswer = (g k h j : Stage) (calls : List Call) (answers others : List Told) → AreUnmarked calls → HaveNoMemory answers → HaveNoMemory others
+ListsHaveOneAnswer = (g k h j : Stage) (calls : List Call) (answers others : List Told) → Each IsUnmarked calls → Each (λ a. a ≢ Memory) answers → Each (λ b. b ≢ Memory) others
     → view_of k ≡ view_of g → MakesAll g calls answers h → MakesAll k calls others j → (others ≡ answers) × (view_of j ≡ view_of h)
