@@ -4,8 +4,8 @@ use Rattle.euler_operators.specs.Sound.{Sound}
 use Rattle.euler_operators.specs.declared.Op.{Op}
 use Rattle.euler_operators.specs.declared.Refusal.{Refusal}
 use Rattle.euler_laws.specs.Laws.{AreAccepted, effects}
-use Rattle.undo_journal.specs.Machine.{Machine, DraftState, held, accepted, act, undo_refusal, redo_refusal, open_draft, draft_step, commit}
-use Rattle.undo_journal.specs.Journal.{Journal, DraftJournal, after_undo, after_redo, plain, IsRecorded, IsFurther}
+use Rattle.undo_journal.specs.Machine.{Machine, DraftState, held, accepted, act, open_draft, draft_step, commit}
+use Rattle.undo_journal.specs.Journal.{Journal, DraftJournal, plain, IsFurther}
 use Rattle.undo_journal.specs.Histories as histories
 use Rattle.undo_journal.specs.Histories.{unless, tried, after_call, after_calls, IsConsistent}
 use Rattle.sweeps.specs.Calls.{LaminasAreCalls, BlocksAreCalls, SweepsAreCalls}
@@ -19,12 +19,14 @@ use Rattle.commands.specs.declared.command.Command.TheVariants as command
 use Rattle.commands.specs.declared.command.Call.{Call}
 use Rattle.commands.specs.declared.command.Call.TheVariants as call
 use Rattle.commands.specs.declared.command.Told.{Told}
+use Rattle.commands.specs.declared.command.Told.TheVariants.{Done}
 use Rattle.commands.specs.declared.stage.Stage.{Stage}
 use Rattle.commands.specs.declared.stage.Stage.TheVariants.{Session, Drafting}
 use Rattle.commands.specs.Changes.{refusal_of, made, MayLack}
 use Rattle.commands.specs.Telling.{Tells, TellsSession, TellsDraft, IsWhole}
 use Rattle.commands.proofs.Settling.{ended}
 use Rattle.call_lists.specs.Laws.{machine_of, ListsAreHistories}
+use Rattle.call_lists.proofs.Lists.{done_or_idle}
 
 -- the larger commands are calls
 pub record LargerAreCalls : Type 0 where
@@ -51,23 +53,12 @@ called l s (change.Sweep f d) sound goes = record { call = histories.made _; lea
 called l s (change.Glue f g) sound goes = record { call = histories.made _; leads = l.glue s f g sound goes }
 called l s (change.Split n x y z w m) sound goes = record { call = histories.made _; leads = l.split s n (plane_with x y z w) m sound goes }
 
-session_call : LargerAreCalls → (s t : Journal) (c : Command) (a : Told) → IsConsistent s.machine → TellsSession s c a t → IsCall s.machine t.machine
-session_call l s t (command.Change c) a whole h = elim (ended (refusal_of (held s.machine) c) (MayLack (held s.machine) c) (t ≡ s) ((t.machine ≡ accepted s.machine (made (held s.machine) c)) × IsRecorded s t) a h) [
-  | inl d ↦ subst (IsCall s.machine) (sym d.2.0) (called l s.machine c whole.held_sound d.1)
-  | inr (inl r) ↦ idle s.machine t.machine (ap (λ (j : Journal). j.machine) r.3)
-  | inr (inr m) ↦ idle s.machine t.machine (ap (λ (j : Journal). j.machine) m.1)
-]
-session_call l s t (command.Ask q) a whole h = idle s.machine t.machine (ap (λ (j : Journal). j.machine) h.1)
-session_call l s t command.Undo a whole h = elim (ended (undo_refusal s.machine) ⊥ (t ≡ s) (t ≡ after_undo s) a h) [
-  | inl d ↦ record { call = histories.undone; leads = sym (ap (λ (j : Journal). j.machine) d.2) }
-  | inr (inl r) ↦ idle s.machine t.machine (ap (λ (j : Journal). j.machine) r.3)
-  | inr (inr m) ↦ idle s.machine t.machine (ap (λ (j : Journal). j.machine) m.1)
-]
-session_call l s t command.Redo a whole h = elim (ended (redo_refusal s.machine) ⊥ (t ≡ s) (t ≡ after_redo s) a h) [
-  | inl d ↦ record { call = histories.redone; leads = sym (ap (λ (j : Journal). j.machine) d.2) }
-  | inr (inl r) ↦ idle s.machine t.machine (ap (λ (j : Journal). j.machine) r.3)
-  | inr (inr m) ↦ idle s.machine t.machine (ap (λ (j : Journal). j.machine) m.1)
-]
+-- a command that is done
+session_call : LargerAreCalls → (s t : Journal) (c : Command) → IsConsistent s.machine → TellsSession s c Done t → IsCall s.machine t.machine
+session_call l s t (command.Change c) whole x = subst (IsCall s.machine) (sym x.1.0) (called l s.machine c whole.held_sound x.0)
+session_call l s t (command.Ask q) whole x = idle s.machine t.machine (ap (λ (j : Journal). j.machine) x.1)
+session_call l s t command.Undo whole x = record { call = histories.undone; leads = sym (ap (λ (j : Journal). j.machine) x.1) }
+session_call l s t command.Redo whole x = record { call = histories.redone; leads = sym (ap (λ (j : Journal). j.machine) x.1) }
 
 -- whatever a draft is told, its session stays
 pub session_stays : (d e : DraftJournal) (c : Command) (a : Told) → TellsDraft d c a e → e.session ≡ d.session
@@ -94,21 +85,27 @@ committed d ops goes make = record {
 led : (m : Machine) (g h : Stage) → h ≡ g → IsCall m (machine_of g) → IsCall m (machine_of h)
 led m g h is call = subst (λ (k : Stage). IsCall m (machine_of k)) (sym is) call
 
-pub stage_call : LargerAreCalls → (g h : Stage) (c : Call) (a : Told) → IsWhole g → Tells g c a h → IsCall (machine_of g) (machine_of h)
-stage_call l (Session s) h (call.Give c) a whole x = led s.machine (Session x.0) h x.1 (session_call l s x.0 c a whole x.2)
-stage_call l (Session s) h call.Open a whole (inl x) = led s.machine _ h x.1 (idle s.machine s.machine refl)
-stage_call l (Session s) h call.Open a whole (inr x) = led s.machine _ h x.1 (idle s.machine s.machine refl)
-stage_call l (Session s) h call.Mark a whole x = led s.machine _ h x.1 (idle s.machine s.machine refl)
-stage_call l (Session s) h (call.Back n) a whole x = led s.machine _ h x.1 (idle s.machine s.machine refl)
-stage_call l (Session s) h call.Commit a whole x = led s.machine _ h x.1 (idle s.machine s.machine refl)
-stage_call l (Session s) h call.Abandon a whole x = led s.machine _ h x.1 (idle s.machine s.machine refl)
-stage_call l (Drafting d) h (call.Give c) a whole x =
-    led d.draft.session.machine (Drafting x.0) h x.1 (idle d.draft.session.machine x.0.draft.session.machine (ap (λ (j : Journal). j.machine) (session_stays d.draft x.0.draft c a x.2)))
-stage_call l (Drafting d) h call.Open a whole x = led d.draft.session.machine _ h x.1 (idle d.draft.session.machine d.draft.session.machine refl)
-stage_call l (Drafting d) h call.Mark a whole x = led d.draft.session.machine _ h x.3 (idle d.draft.session.machine d.draft.session.machine refl)
-stage_call l (Drafting d) h (call.Back n) a whole x = led d.draft.session.machine _ h x.1 (idle d.draft.session.machine d.draft.session.machine refl)
-stage_call l (Drafting d) h call.Commit a whole x = led d.draft.session.machine _ h x.1 (committed d.draft whole.2.operators whole.2.are_accepted whole.2.make)
-stage_call l (Drafting d) h call.Abandon a whole x = led d.draft.session.machine _ h x.1 (idle d.draft.session.machine d.draft.session.machine refl)
+done_call : LargerAreCalls → (g h : Stage) (c : Call) → IsWhole g → Tells g c Done h → IsCall (machine_of g) (machine_of h)
+done_call l (Session s) h (call.Give c) whole x = led s.machine (Session x.0) h x.1 (session_call l s x.0 c whole x.2)
+done_call l (Session s) h call.Open whole (inl x) = idle s.machine _ (ap machine_of x.1)
+done_call l (Session s) h call.Open whole (inr x) = idle s.machine _ (ap machine_of x.1)
+done_call l (Session s) h call.Mark whole x = idle s.machine _ (ap machine_of x.1)
+done_call l (Session s) h (call.Back n) whole x = idle s.machine _ (ap machine_of x.1)
+done_call l (Session s) h call.Commit whole x = idle s.machine _ (ap machine_of x.1)
+done_call l (Session s) h call.Abandon whole x = idle s.machine _ (ap machine_of x.1)
+done_call l (Drafting d) h (call.Give c) whole x =
+    idle d.draft.session.machine _ (ap machine_of x.1 ∙ ap (λ (j : Journal). j.machine) (session_stays d.draft x.0.draft c Done x.2))
+done_call l (Drafting d) h call.Open whole x = idle d.draft.session.machine _ (ap machine_of x.1)
+done_call l (Drafting d) h call.Mark whole x = idle d.draft.session.machine _ (ap machine_of x.3)
+done_call l (Drafting d) h (call.Back n) whole x = idle d.draft.session.machine _ (ap machine_of x.1)
+done_call l (Drafting d) h call.Commit whole x = led d.draft.session.machine _ h x.1 (committed d.draft whole.2.operators whole.2.are_accepted whole.2.make)
+done_call l (Drafting d) h call.Abandon whole x = idle d.draft.session.machine _ (ap machine_of x.1)
+
+stage_call : LargerAreCalls → (g h : Stage) (c : Call) (a : Told) → IsWhole g → Tells g c a h → IsCall (machine_of g) (machine_of h)
+stage_call l g h c a whole x = elim (done_or_idle g h c a x) [
+  | inl d ↦ done_call l g h c whole d.1
+  | inr i ↦ idle (machine_of g) (machine_of h) (ap machine_of i.1)
+]
 
 pub lists_are_histories : LargerAreCalls → ListsAreHistories
 lists_are_histories l g h [] [] whole x = record { history = []; as_many = refl; leads = sym (ap machine_of x) }

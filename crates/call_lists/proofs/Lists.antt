@@ -1,11 +1,34 @@
 -- Lists of calls, one more at a time, and cut in two.
-use Rattle.std.proofs.Common.{◌≡◌, List, [], ◌∷◌, ◌++◌, length, refl, sym, ap, subst, ◌∙◌, append_assoc, arith}
+use Rattle.std.proofs.Common.{◌≡◌, inl, inr, Bool, true, false, List, [], ◌∷◌, ◌++◌, length, refl, sym, ap, subst, ◌∙◌, append_assoc, arith, true≢false}
+use Rattle.std.specs.Prelude.{◌⊎◌}
 use Rattle.commands.specs.declared.command.Call.{Call}
 use Rattle.commands.specs.declared.command.Told.{Told}
+use Rattle.commands.specs.declared.command.Told.TheVariants as told
+use Rattle.commands.specs.declared.command.Told.TheVariants.{Done, Refused, Memory, InDraft, NoDraft}
 use Rattle.commands.specs.declared.stage.Stage.{Stage}
 use Rattle.commands.specs.Telling.{Tells, IsWhole}
+use Rattle.commands.proofs.Kept.{only_done_changes}
 use Rattle.call_lists.specs.Making.{MakesAll, AreTold}
-use Rattle.call_lists.specs.Laws.{ListsKeepWhole, EachIsWhole}
+use Rattle.call_lists.specs.Laws.{is_done, ListsKeepWhole, EachIsWhole}
+
+done_is : (a : Told) → is_done a ≡ true → a ≡ Done
+done_is Done is = refl
+done_is (Refused r) is = absurd (true≢false (sym is))
+done_is Memory is = absurd (true≢false (sym is))
+done_is InDraft is = absurd (true≢false (sym is))
+done_is NoDraft is = absurd (true≢false (sym is))
+done_is (told.Plane p flat) is = absurd (true≢false (sym is))
+done_is (told.Volume n) is = absurd (true≢false (sym is))
+done_is (told.Counts n) is = absurd (true≢false (sym is))
+done_is (told.Steps n) is = absurd (true≢false (sym is))
+
+-- a call is told `Done`, or changes nothing
+pub done_or_idle : (g h : Stage) (c : Call) (a : Told) → Tells g c a h → ((a ≡ Done) × Tells g c Done h) ⊎ ((is_done a ≡ false) × (h ≡ g))
+done_or_idle g h c a x = decide (is_done a) refl
+  where
+    decide : (b : Bool) → is_done a ≡ b → ((a ≡ Done) × Tells g c Done h) ⊎ ((is_done a ≡ false) × (h ≡ g))
+    decide true is = inl (done_is a is, subst (λ (b : Told). Tells g c b h) (done_is a is) x)
+    decide false is = inr (is, only_done_changes g h c a (λ e. true≢false (sym (ap is_done e) ∙ is)) x)
 
 -- one call more
 pub one_more : (g k h : Stage) (calls : List Call) (answers : List Told) (c : Call) (a : Told) → MakesAll g calls answers k → Tells k c a h → IsWhole h → MakesAll g (calls ++ c ∷ []) (answers ++ a ∷ []) h

@@ -1,10 +1,9 @@
 -- How many commands can be undone, and redone, after a list of calls.
-use Rattle.std.proofs.Common.{◌≡◌, ℕ, suc, ◌+◌, ◌-◌, Bool, true, false, inl, inr, None, List, [], ◌∷◌, length, is_some, refl, sym, ap, subst, ◌∙◌, arith, true≢false}
-use Rattle.std.specs.Prelude.{◌≢◌}
+use Rattle.std.proofs.Common.{◌≡◌, ℕ, suc, ◌+◌, ◌-◌, Bool, true, false, inl, inr, None, List, [], ◌∷◌, length, is_some, refl, sym, ap, ◌∙◌, arith, true≢false}
+use Rattle.std.specs.Prelude.{◌≢◌, cond}
 use Rattle.euler_operators.specs.Model.{Model}
-use Rattle.euler_operators.specs.declared.Refusal.{Refusal}
-use Rattle.undo_journal.specs.Machine.{depth, ahead, held, accepted, undo, undo_refusal, redo, redo_refusal}
-use Rattle.undo_journal.specs.Journal.{Journal, after_undo, after_redo, IsRecorded}
+use Rattle.undo_journal.specs.Machine.{depth, ahead, held, undo, undo_refusal, redo, redo_refusal}
+use Rattle.undo_journal.specs.Journal.{Journal}
 use Rattle.undo_journal.specs.Histories.{undos, redos, IsConsistent}
 use Rattle.undo_journal.proofs.Copies.{redone_to_last}
 use Rattle.commands.specs.declared.command.Command.{Command}
@@ -12,16 +11,14 @@ use Rattle.commands.specs.declared.command.Command.TheVariants as command
 use Rattle.commands.specs.declared.command.Call.{Call}
 use Rattle.commands.specs.declared.command.Call.TheVariants as call
 use Rattle.commands.specs.declared.command.Told.{Told}
-use Rattle.commands.specs.declared.command.Told.TheVariants as told
-use Rattle.commands.specs.declared.command.Told.TheVariants.{Done, Refused, Memory, InDraft, NoDraft}
+use Rattle.commands.specs.declared.command.Told.TheVariants.{Done, NoDraft}
 use Rattle.commands.specs.declared.stage.Stage.{Stage}
 use Rattle.commands.specs.declared.stage.Stage.TheVariants.{Session, Drafting}
-use Rattle.commands.specs.Changes.{refusal_of, made, MayLack}
 use Rattle.commands.specs.Telling.{Tells, TellsSession, IsWhole}
-use Rattle.commands.proofs.Settling.{ended, not_done, memory_not_done}
-use Rattle.call_lists.specs.Laws.{Place, machine_of, place_of, after_done, place_after, place_after_all, PlacesAreCounted, UndosLeadToTheFirst, RedosLeadToTheLast}
+use Rattle.commands.proofs.Settling.{memory_not_done}
+use Rattle.call_lists.specs.Laws.{Place, machine_of, place_of, after_command, after_done, place_after, place_after_all, PlacesAreCounted, UndosLeadToTheFirst, RedosLeadToTheLast}
 use Rattle.call_lists.proofs.Histories.{session_stays}
-use Rattle.call_lists.proofs.Lists.{lists_keep_whole}
+use Rattle.call_lists.proofs.Lists.{done_or_idle, lists_keep_whole}
 
 abbrev placed : ℕ → ℕ → Bool → Place
 placed a b drafting = record { behind = a; ahead = b; drafting = drafting }
@@ -29,55 +26,8 @@ placed a b drafting = record { behind = a; ahead = b; drafting = drafting }
 place_is : (a b x y : ℕ) (drafting : Bool) → a ≡ x → b ≡ y → placed a b drafting ≡ placed x y drafting
 place_is a b x y drafting p q = λ i. record { behind = p i; ahead = q i; drafting = drafting }
 
--- what isn't told `Done` keeps the place
-kept_place : (p : Place) (c : Call) (a : Told) → a ≢ Done → place_after p c a ≡ p
-kept_place p c Done other = absurd (other refl)
-kept_place p c (Refused r) other = refl
-kept_place p c Memory other = refl
-kept_place p c InDraft other = refl
-kept_place p c NoDraft other = refl
-kept_place p c (told.Plane q flat) other = refl
-kept_place p c (told.Volume n) other = refl
-kept_place p c (told.Counts n) other = refl
-kept_place p c (told.Steps n) other = refl
-
--- and so does a call after which the place would be the same
-idle_place : (p : Place) (c : Call) (a : Told) → after_done p c ≡ p → place_after p c a ≡ p
-idle_place p c Done same = same
-idle_place p c (Refused r) same = refl
-idle_place p c Memory same = refl
-idle_place p c InDraft same = refl
-idle_place p c NoDraft same = refl
-idle_place p c (told.Plane q flat) same = refl
-idle_place p c (told.Volume n) same = refl
-idle_place p c (told.Counts n) same = refl
-idle_place p c (told.Steps n) same = refl
-
-not_memory : (a : Told) → a ≡ Memory → a ≢ Done
-not_memory a is e = memory_not_done (sym is ∙ e)
-
-not_refused : (a : Told) (r : Refusal) → a ≡ Refused r → a ≢ Done
-not_refused a r is e = not_done r (sym is ∙ e)
-
-no_draft_is_not_done : NoDraft ≢ Done
-no_draft_is_not_done e = cc
-
-in_draft_is_not_done : InDraft ≢ Done
-in_draft_is_not_done e = cc
-
--- a call that has changed nothing, and one that was done
-stayed : (g h : Stage) (c : Call) (a : Told) → a ≢ Done → h ≡ g → place_of h ≡ place_after (place_of g) c a
-stayed g h c a other is = ap place_of is ∙ sym (kept_place (place_of g) c a other)
-
-went : (g h : Stage) (c : Call) (a : Told) → a ≡ Done → place_of h ≡ after_done (place_of g) c → place_of h ≡ place_after (place_of g) c a
-went g h c a is moved = subst (λ (b : Told). place_of h ≡ place_after (place_of g) c b) (sym is) moved
-
 one_more : (n : ℕ) → suc n ≡ n + 1
 one_more n = omega arith
-
--- an accepted command
-accepted_place : (s t : Journal) (N : Model) → t.machine ≡ accepted s.machine N → place_of (Session t) ≡ placed (depth s.machine + 1) 0 false
-accepted_place s t N is = place_is (depth t.machine) (ahead t.machine) (depth s.machine + 1) 0 false (ap depth is ∙ one_more (depth s.machine)) (ap ahead is)
 
 -- undo where a command is behind, and redo where one is ahead
 pub undone_place : (past : List Model) (M : Model) (future : List Model) → undo_refusal (record { past = past; present = M; future = future }) ≡ None
@@ -90,43 +40,40 @@ pub redone_place : (past : List Model) (M : Model) (future : List Model) → red
 redone_place past M [] goes = absurd (true≢false (ap is_some goes))
 redone_place past M (N ∷ future) goes = (one_more (length past), omega arith)
 
-session_place : (s t : Journal) (c : Command) (a : Told) → TellsSession s c a t → place_of (Session t) ≡ place_after (place_of (Session s)) (call.Give c) a
-session_place s t (command.Change c) a h = elim (ended (refusal_of (held s.machine) c) (MayLack (held s.machine) c) (t ≡ s) ((t.machine ≡ accepted s.machine (made (held s.machine) c)) × IsRecorded s t) a h) [
-  | inl d ↦ went (Session s) (Session t) (call.Give (command.Change c)) a d.0 (accepted_place s t (made (held s.machine) c) d.2.0)
-  | inr (inl r) ↦ stayed (Session s) (Session t) (call.Give (command.Change c)) a (not_refused a r.0 r.1) (ap Session r.3)
-  | inr (inr m) ↦ stayed (Session s) (Session t) (call.Give (command.Change c)) a (not_memory a m.0) (ap Session m.1)
-]
-session_place s t (command.Ask q) a h = ap (λ (j : Journal). place_of (Session j)) h.1 ∙ sym (idle_place (place_of (Session s)) (call.Give (command.Ask q)) a refl)
-session_place s t command.Undo a h = elim (ended (undo_refusal s.machine) ⊥ (t ≡ s) (t ≡ after_undo s) a h) [
-  | inl d ↦
-      let moved = undone_place s.machine.past s.machine.present s.machine.future d.1 in
-      went (Session s) (Session t) (call.Give command.Undo) a d.0 (place_is _ _ _ _ false (ap (λ (j : Journal). depth j.machine) d.2 ∙ moved.0) (ap (λ (j : Journal). ahead j.machine) d.2 ∙ moved.1))
-  | inr (inl r) ↦ stayed (Session s) (Session t) (call.Give command.Undo) a (not_refused a r.0 r.1) (ap Session r.3)
-  | inr (inr m) ↦ stayed (Session s) (Session t) (call.Give command.Undo) a (not_memory a m.0) (ap Session m.1)
-]
-session_place s t command.Redo a h = elim (ended (redo_refusal s.machine) ⊥ (t ≡ s) (t ≡ after_redo s) a h) [
-  | inl d ↦
-      let moved = redone_place s.machine.past s.machine.present s.machine.future d.1 in
-      went (Session s) (Session t) (call.Give command.Redo) a d.0 (place_is _ _ _ _ false (ap (λ (j : Journal). depth j.machine) d.2 ∙ moved.0) (ap (λ (j : Journal). ahead j.machine) d.2 ∙ moved.1))
-  | inr (inl r) ↦ stayed (Session s) (Session t) (call.Give command.Redo) a (not_refused a r.0 r.1) (ap Session r.3)
-  | inr (inr m) ↦ stayed (Session s) (Session t) (call.Give command.Redo) a (not_memory a m.0) (ap Session m.1)
-]
+no_draft_is_not_done : NoDraft ≢ Done
+no_draft_is_not_done e = cc
+
+-- a command that is done, and a call
+session_place : (s t : Journal) (c : Command) → TellsSession s c Done t → place_of (Session t) ≡ after_command (place_of (Session s)) c
+session_place s t (command.Change c) x = place_is _ _ _ _ false (ap depth x.1.0 ∙ one_more (depth s.machine)) (ap ahead x.1.0)
+session_place s t (command.Ask q) x = ap (λ (j : Journal). place_of (Session j)) x.1
+session_place s t command.Undo x =
+    let moved = undone_place s.machine.past s.machine.present s.machine.future x.0 in
+    place_is _ _ _ _ false (ap (λ (j : Journal). depth j.machine) x.1 ∙ moved.0) (ap (λ (j : Journal). ahead j.machine) x.1 ∙ moved.1)
+session_place s t command.Redo x =
+    let moved = redone_place s.machine.past s.machine.present s.machine.future x.0 in
+    place_is _ _ _ _ false (ap (λ (j : Journal). depth j.machine) x.1 ∙ moved.0) (ap (λ (j : Journal). ahead j.machine) x.1 ∙ moved.1)
+
+done_place : (g h : Stage) (c : Call) → Tells g c Done h → place_of h ≡ after_done (place_of g) c
+done_place (Session s) h (call.Give c) x = ap place_of x.1 ∙ session_place s x.0 c x.2
+done_place (Session s) h call.Open (inl x) = ap place_of x.1
+done_place (Session s) h call.Open (inr x) = absurd (memory_not_done (sym x.0))
+done_place (Session s) h call.Mark x = ap place_of x.1
+done_place (Session s) h (call.Back n) x = ap place_of x.1
+done_place (Session s) h call.Commit x = absurd (no_draft_is_not_done (sym x.0))
+done_place (Session s) h call.Abandon x = ap place_of x.1
+done_place (Drafting d) h (call.Give c) x = ap place_of x.1 ∙ ap (λ (j : Journal). placed (depth j.machine) (ahead j.machine) true) (session_stays d.draft x.0.draft c Done x.2)
+done_place (Drafting d) h call.Open x = ap place_of x.1
+done_place (Drafting d) h call.Mark x = ap place_of x.3
+done_place (Drafting d) h (call.Back n) x = ap place_of x.1
+done_place (Drafting d) h call.Commit x = ap place_of x.1 ∙ place_is _ _ _ _ false (one_more (depth d.draft.session.machine)) refl
+done_place (Drafting d) h call.Abandon x = ap place_of x.1
 
 one_place : (g h : Stage) (c : Call) (a : Told) → Tells g c a h → place_of h ≡ place_after (place_of g) c a
-one_place (Session s) h (call.Give c) a x = ap place_of x.1 ∙ session_place s x.0 c a x.2
-one_place (Session s) h call.Open a (inl x) = went (Session s) h call.Open a x.0 (ap place_of x.1)
-one_place (Session s) h call.Open a (inr x) = stayed (Session s) h call.Open a (not_memory a x.0) x.1
-one_place (Session s) h call.Mark a x = stayed (Session s) h call.Mark a (λ e. no_draft_is_not_done (sym x.0 ∙ e)) x.1
-one_place (Session s) h (call.Back n) a x = stayed (Session s) h (call.Back n) a (λ e. no_draft_is_not_done (sym x.0 ∙ e)) x.1
-one_place (Session s) h call.Commit a x = stayed (Session s) h call.Commit a (λ e. no_draft_is_not_done (sym x.0 ∙ e)) x.1
-one_place (Session s) h call.Abandon a x = stayed (Session s) h call.Abandon a (λ e. no_draft_is_not_done (sym x.0 ∙ e)) x.1
-one_place (Drafting d) h (call.Give c) a x =
-    ap place_of x.1 ∙ ap (λ (j : Journal). placed (depth j.machine) (ahead j.machine) true) (session_stays d.draft x.0.draft c a x.2) ∙ sym (idle_place (place_of (Drafting d)) (call.Give c) a refl)
-one_place (Drafting d) h call.Open a x = stayed (Drafting d) h call.Open a (λ e. in_draft_is_not_done (sym x.0 ∙ e)) x.1
-one_place (Drafting d) h call.Mark a x = ap place_of x.3 ∙ sym (idle_place (place_of (Drafting d)) call.Mark a refl)
-one_place (Drafting d) h (call.Back n) a x = went (Drafting d) h (call.Back n) a x.0 (ap place_of x.1)
-one_place (Drafting d) h call.Commit a x = went (Drafting d) h call.Commit a x.0 (ap place_of x.1 ∙ place_is _ _ _ _ false (one_more (depth d.draft.session.machine)) refl)
-one_place (Drafting d) h call.Abandon a x = went (Drafting d) h call.Abandon a x.0 (ap place_of x.1)
+one_place g h c a x = elim (done_or_idle g h c a x) [
+  | inl d ↦ done_place g h c d.1 ∙ sym (ap (place_after (place_of g) c) d.0)
+  | inr i ↦ ap place_of i.1 ∙ sym (ap (λ (b : Bool). cond b (after_done (place_of g) c) (place_of g)) i.0)
+]
 
 pub places_are_counted : PlacesAreCounted
 places_are_counted g h [] [] x = ap place_of x

@@ -17,12 +17,13 @@ use Rattle.commands.specs.declared.command.Told.{Told}
 use Rattle.commands.specs.declared.command.Told.TheVariants.{Done}
 use Rattle.commands.specs.declared.stage.Stage.{Stage}
 use Rattle.commands.specs.declared.stage.Stage.TheVariants.{Session, Drafting}
-use Rattle.commands.specs.Changes.{refusal_of, made, MayLack}
+use Rattle.commands.specs.Changes.{made}
 use Rattle.commands.specs.Telling.{Tells, TellsSession}
-use Rattle.commands.proofs.Settling.{ended, goes}
+use Rattle.commands.proofs.Settling.{goes}
 use Rattle.call_lists.specs.Making.{MakesAll}
 use Rattle.call_lists.specs.Laws.{Each, IsOnward, IsTakenBack, CommandsAreTakenBack}
 use Rattle.call_lists.proofs.Histories.{session_stays}
+use Rattle.call_lists.proofs.Lists.{done_or_idle}
 use Rattle.call_lists.proofs.Places.{undone_place, redone_place}
 
 -- ---- a list without undo and redo appends commands
@@ -35,30 +36,33 @@ journal_of (Drafting d) = d.draft.session
 abbrev AddsOne : Journal → Journal → Type 0
 AddsOne s t = (t ≡ s) ⊎ ((N : Model) × (t.machine ≡ accepted s.machine N) × IsRecorded s t)
 
-seen : (s : Journal) (h g : Stage) → h ≡ g → AddsOne s (journal_of g) → AddsOne s (journal_of h)
-seen s h g is x = subst (λ (k : Stage). AddsOne s (journal_of k)) (sym is) x
+same : (s : Journal) (h g : Stage) → h ≡ g → journal_of g ≡ s → AddsOne s (journal_of h)
+same s h g is x = inl (ap journal_of is ∙ x)
+
+done_adds : (g h : Stage) (c : Call) → IsOnward c → Tells g c Done h → AddsOne (journal_of g) (journal_of h)
+done_adds (Session s) h (call.Give (command.Change c)) on x = subst (λ (k : Stage). AddsOne s (journal_of k)) (sym x.1) (inr (made (held s.machine) c, x.2.1.0, x.2.1.1))
+done_adds (Session s) h (call.Give (command.Ask q)) on x = same s h (Session x.0) x.1 x.2.1
+done_adds (Session s) h (call.Give command.Undo) on x = absurd on
+done_adds (Session s) h (call.Give command.Redo) on x = absurd on
+done_adds (Session s) h call.Open on (inl x) = same s h _ x.1 refl
+done_adds (Session s) h call.Open on (inr x) = same s h _ x.1 refl
+done_adds (Session s) h call.Mark on x = same s h _ x.1 refl
+done_adds (Session s) h (call.Back n) on x = same s h _ x.1 refl
+done_adds (Session s) h call.Commit on x = same s h _ x.1 refl
+done_adds (Session s) h call.Abandon on x = same s h _ x.1 refl
+done_adds (Drafting d) h (call.Give c) on x = same d.draft.session h (Drafting x.0) x.1 (session_stays d.draft x.0.draft c Done x.2)
+done_adds (Drafting d) h call.Open on x = same d.draft.session h _ x.1 refl
+done_adds (Drafting d) h call.Mark on x = same d.draft.session h _ x.3 refl
+done_adds (Drafting d) h (call.Back n) on x = same d.draft.session h _ x.1 refl
+done_adds (Drafting d) h call.Commit on x = subst (λ (k : Stage). AddsOne d.draft.session (journal_of k)) (sym x.1)
+    (inr (d.draft.model, refl, record { command = record { forward = d.draft.forward; back = reverse d.draft.back }; appended = refl }))
+done_adds (Drafting d) h call.Abandon on x = same d.draft.session h _ x.1 refl
 
 adds : (g h : Stage) (c : Call) (a : Told) → IsOnward c → Tells g c a h → AddsOne (journal_of g) (journal_of h)
-adds (Session s) h (call.Give (command.Change c)) a on x = seen s h (Session x.0) x.1 (elim (ended (refusal_of (held s.machine) c) (MayLack (held s.machine) c) (x.0 ≡ s) ((x.0.machine ≡ accepted s.machine (made (held s.machine) c)) × IsRecorded s x.0) a x.2) [
-  | inl d ↦ inr (made (held s.machine) c, d.2.0, d.2.1)
-  | inr (inl r) ↦ inl r.3
-  | inr (inr m) ↦ inl m.1
-])
-adds (Session s) h (call.Give (command.Ask q)) a on x = seen s h (Session x.0) x.1 (inl x.2.1)
-adds (Session s) h (call.Give command.Undo) a on x = absurd on
-adds (Session s) h (call.Give command.Redo) a on x = absurd on
-adds (Session s) h call.Open a on (inl x) = seen s h _ x.1 (inl refl)
-adds (Session s) h call.Open a on (inr x) = seen s h _ x.1 (inl refl)
-adds (Session s) h call.Mark a on x = seen s h _ x.1 (inl refl)
-adds (Session s) h (call.Back n) a on x = seen s h _ x.1 (inl refl)
-adds (Session s) h call.Commit a on x = seen s h _ x.1 (inl refl)
-adds (Session s) h call.Abandon a on x = seen s h _ x.1 (inl refl)
-adds (Drafting d) h (call.Give c) a on x = seen d.draft.session h (Drafting x.0) x.1 (inl (session_stays d.draft x.0.draft c a x.2))
-adds (Drafting d) h call.Open a on x = seen d.draft.session h _ x.1 (inl refl)
-adds (Drafting d) h call.Mark a on x = seen d.draft.session h _ x.3 (inl refl)
-adds (Drafting d) h (call.Back n) a on x = seen d.draft.session h _ x.1 (inl refl)
-adds (Drafting d) h call.Commit a on x = seen d.draft.session h _ x.1 (inr (d.draft.model, refl, record { command = record { forward = d.draft.forward; back = reverse d.draft.back }; appended = refl }))
-adds (Drafting d) h call.Abandon a on x = seen d.draft.session h _ x.1 (inl refl)
+adds g h c a on x = elim (done_or_idle g h c a x) [
+  | inl d ↦ done_adds g h c on d.1
+  | inr i ↦ inl (ap journal_of i.1)
+]
 
 -- n commands lead from s to t
 abbrev Grows : Journal → ℕ → Journal → Type 0

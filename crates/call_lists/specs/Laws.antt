@@ -81,10 +81,13 @@ after_done p (call.Back n) = p
 after_done p call.Commit = record { behind = p.behind + 1; ahead = 0; drafting = false }
 after_done p call.Abandon = record { behind = p.behind; ahead = p.ahead; drafting = false }
 
+abbrev pub is_done : Told → Bool
+is_done Done = true
+is_done a = false
+
 -- what isn't told `Done` changes nothing
 abbrev pub place_after : Place → Call → Told → Place
-place_after p c Done = after_done p c
-place_after p c a = p
+place_after p c a = cond (is_done a) (after_done p c) p
 
 abbrev pub place_after_all : Place → List Call → List Told → Place
 place_after_all p [] answers = p
