@@ -33,12 +33,12 @@ made M (change.Sweep f d) = prism_model M f d
 made M (change.Glue f g) = glue_model M f g
 made M (change.Split n x y z w m) = split_model M n (plane_with x y z w) m
 
--- the first that is false of those that are tested before memory is asked for: of a glue and a split these are the first ones, else all
+-- the first that is false of those that are tested before memory is asked for: of a glue and a split those up to NotFlat, else all
 abbrev pub early_refusal_of : Model → Change → Option Refusal
 early_refusal_of M (change.Glue f g) = gluing.early_refusal M f g
 early_refusal_of M (change.Split n x y z w m) = splitting.early_refusal M n (plane_with x y z w) m
 early_refusal_of M c = refusal_of M c
 
--- so memory may be refused to it where none of them is
+-- memory may be refused to it only where none of them is
 abbrev pub MayLack : Model → Change → Type 0
 MayLack M c = early_refusal_of M c ≡ None

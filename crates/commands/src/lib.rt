@@ -7,9 +7,10 @@
 //! # What is proved
 //!
 //! A change, an operator or a larger command, has one first false condition and one model that it makes (`refusal_of`, `made`), whether it is a
-//! command of a session or steps of a draft. `change` and `change_in`: it is done where nothing refuses it, and makes that model; else its
-//! first false condition is named, or memory was refused; and then session and draft are as they were, records and steps too. `make`: what a call
-//! is told on a session or a draft, and the session or draft to which it leads, are one relation, `Tells`; each on the way is whole.
+//! command of a session or steps of a draft. `change` and `change_in`: it is done where nothing refuses it, and makes that model; else its first
+//! false condition is named, or memory was refused, which is told only where the conditions hold that are tested before memory is asked for
+//! (`MayLack`); and then session and draft are as they were, records and steps too. `make`: what a call is told on a session or a draft, and the
+//! session or draft to which it leads, are one relation, `Tells`; each on the way is whole.
 
 mod asking;
 mod changing;

@@ -8,9 +8,10 @@
 //!
 //! `check_glue`: the first false condition of a glue, with its value, or none, or `AllocError`. `glue`: Ok only where all
 //! conditions hold, and then one command of the machine with exactly the written model, and one record; refused only with the
-//! first false condition and its value; else `Memory`, which may come in place of a refusal; on any failure the session is as it
-//! was, the models ahead included. The models held before and after are sound. No operator inside is ever refused.
-//! `glue_measures`: what the six volumes of each solid of the session are after it.
+//! first false condition and its value; else `Memory`, which may come in place of a refusal, but of none that is tested before
+//! memory is asked for (`early_refusal`); on any failure the session is as it was, the models ahead included. The models held
+//! before and after are sound. No operator inside is ever refused. `glue_measures`: what the six volumes of each solid of the
+//! session are after it.
 
 mod command;
 mod glue_checks;

@@ -7,16 +7,17 @@
 //!
 //! # What is proved
 //!
-//! `open_section`: from a draft in whose model a solid can be opened along the cycles of a section in turn, and which of these
-//! are holes is given, Ok only with exactly the third rewriting along all of them, and their caps, else `AllocError`.
-//! `part_upper`: where the operators that close the holes and part what is above are accepted in turn, Ok only with exactly their
-//! effects. The session that the draft came from stands either way, and no operator inside is ever refused. `split`: Ok only
-//! where all conditions hold, those before anything is changed and those once the faces are drawn, and then one command of the
-//! machine with exactly the written model, and one record; refused only with the first false condition and its value; else
-//! `Memory`, which may come in place of a refusal; on any failure the session is as it was, the models ahead included, also where
-//! it is refused once the faces are drawn. No operator inside is ever refused. `splits_are_held`: whoever called `split` and was
-//! answered Ok holds a sound model in which both parts are solids, which share the six volumes of the one, every other solid
-//! keeping its own, and in which no vertex of the part that keeps the number lies above the plane, none of the other below it.
+//! `open_section`: from a draft in whose model a solid can be opened along the cycles of a section in turn, and which of these are
+//! holes is given, Ok only with exactly the third rewriting along all of them, and their caps, else `AllocError`. `part_upper`:
+//! where the operators that close the holes and part what is above are accepted in turn, Ok only with exactly their effects. The
+//! session that the draft came from stands either way, and no operator inside is ever refused. `split`: Ok only where all
+//! conditions hold, those before anything is changed and those once the faces are drawn, and then one command of the machine with
+//! exactly the written model, and one record; refused only with the first false condition and its value; else `Memory`, which may
+//! come in place of a refusal, but of none that is tested before memory is asked for (`early_refusal`); on any failure the session
+//! is as it was, the models ahead included, also where it is refused once the faces are drawn. No operator inside is ever refused.
+//! `splits_are_held`: whoever called `split` and was answered Ok holds a sound model in which both parts are solids, which share
+//! the six volumes of the one, every other solid keeping its own, and in which no vertex of the part that keeps the number lies
+//! above the plane, none of the other below it.
 
 mod command;
 mod laws;
