@@ -1,5 +1,5 @@
 -- The conditions of a glue, part by part.
-use Rattle.std.proofs.Common.{◌≡◌, ℕ, Bool, true, false, cond, not, ◌&&◌, ◌||◌, nat_eq, List, [], ◌∷◌, ◌++◌, Option, Some, None, Result, Ok, Err, is_err, is_some, unwrap_or, refl, sym, ap, ◌∙◌, arith, true≢false}
+use Rattle.std.proofs.Common.{◌≡◌, ℕ, Bool, true, false, cond, not, ◌&&◌, ◌||◌, nat_eq, List, ◌++◌, Option, Some, None, Result, Ok, Err, is_err, unwrap_or, refl, sym, ap, ◌∙◌, arith, true≢false}
 use Rattle.std.proofs.lemmas.Bool.Decides.{nat_tests}
 use Rattle.euler_operators.specs.Table.{get}
 use Rattle.euler_operators.specs.Model.{Model, LoopRow, no_loop, content, face_of, solid_of, outer, faces_of}
@@ -10,7 +10,7 @@ use Rattle.euler_operators.proofs.Models.{loop_number}
 use Rattle.euler_operators.specs.Conditions.{Condition, first_refusal, verdict, is_lone, lists}
 use Rattle.euler_operators.specs.declared.Refusal.{Refusal}
 use Rattle.euler_laws.proofs.shared.Goes.{all_hold, verdict_passed, verdict_failed}
-use Rattle.shapes.proofs.fresh.Tests.{none_found, none_is_lone}
+use Rattle.shapes.proofs.fresh.Tests.{first_refusal-append, first_refusal-refused, none_found, none_is_lone}
 use Rattle.shapes.specs.Faces.{faces_of_both, least_lone}
 use Rattle.shapes.specs.Fresh.{taken_in, numbers_left}
 use Rattle.solid_measure.proofs.solid_checks_laws.FaceWalks.{lists_member, member_faces, member_both}
@@ -20,25 +20,10 @@ use Rattle.shapes.specs.glue.Glue.{glue_conditions, has_repeats, is_rotation, ou
 use Rattle.gluing.specs.glue_checks.Conditions.{face_conditions, solid_conditions, early_conditions, early_refusal, outline_conditions}
 use Rattle.solid_walks.proofs.face_walks_laws.Above.{member}
 
--- a list of conditions in two parts
-pub refusal_parts : (xs ys : List Condition) → first_refusal xs ≡ None → first_refusal (xs ++ ys) ≡ first_refusal ys
-refusal_parts [] ys e = refl
-refusal_parts (x ∷ xs) ys e = elim x.holds as (λ b. cond b (first_refusal xs) (Some x.refusal) ≡ None → cond b (first_refusal (xs ++ ys)) (Some x.refusal) ≡ first_refusal ys) [
-  | true ↦ λ t. refusal_parts xs ys t
-  | false ↦ λ t. absurd (true≢false (ap is_some t))
-] e
-
-pub refusal_first : (xs ys : List Condition) (r : Refusal) → first_refusal xs ≡ Some r → first_refusal (xs ++ ys) ≡ Some r
-refusal_first [] ys r e = absurd (true≢false (sym (ap is_some e)))
-refusal_first (x ∷ xs) ys r e = elim x.holds as (λ b. cond b (first_refusal xs) (Some x.refusal) ≡ Some r → cond b (first_refusal (xs ++ ys)) (Some x.refusal) ≡ Some r) [
-  | true ↦ λ t. refusal_first xs ys r t
-  | false ↦ λ t. t
-] e
-
 -- a verdict that is an error is the whole verdict
 pub first_failed : (xs ys : List Condition) (v : Result (Unit {0}) Refusal) → v ≡ verdict (first_refusal xs) → is_err v ≡ true → v ≡ verdict (first_refusal (xs ++ ys))
 first_failed xs ys (Ok u) is e = absurd (true≢false (sym e))
-first_failed xs ys (Err r) is e = ap verdict (sym (refusal_first xs ys r (verdict_failed (first_refusal xs) r is)))
+first_failed xs ys (Err r) is e = ap verdict (sym (first_refusal-refused xs ys r (verdict_failed (first_refusal xs) r is)))
 
 -- and one that isn't leaves the rest
 pub all_passed : (xs : List Condition) (v : Result (Unit {0}) Refusal) → v ≡ verdict (first_refusal xs) → is_err v ≡ false → first_refusal xs ≡ None
@@ -96,7 +81,7 @@ module _ (M : Model) (f g : ℕ) where
   none_early accepted = go (early_refusal M f g) refl where
     go : (o : Option Refusal) → early_refusal M f g ≡ o → o ≡ None
     go None is = refl
-    go (Some r) is = sym (refusal_first (early_conditions M f g) later r is) ∙ accepted
+    go (Some r) is = sym (first_refusal-refused (early_conditions M f g) later r is) ∙ accepted
 
   pub faces_failed : (v : Result (Unit {0}) Refusal) → v ≡ verdict (first_refusal (face_conditions M f g)) → is_err v ≡ true → v ≡ verdict (first_refusal (glue_conditions M f g))
   faces_failed v is e = first_failed (face_conditions M f g) (solid_conditions M (solid_of M f) (solid_of M g) ++ later) v is e ∙ ap (λ cs. verdict (first_refusal cs)) (sym grouped)
@@ -109,7 +94,7 @@ module _ (M : Model) (f g : ℕ) where
     second_there = (all_hold (face_conditions M f g) faces).1.1.1.0
 
     after_faces : first_refusal (solid_conditions M (solid_of M f) (solid_of M g) ++ later) ≡ first_refusal (glue_conditions M f g)
-    after_faces = sym (refusal_parts (face_conditions M f g) (solid_conditions M (solid_of M f) (solid_of M g) ++ later) faces) ∙ ap first_refusal (sym grouped)
+    after_faces = sym (first_refusal-append (face_conditions M f g) (solid_conditions M (solid_of M f) (solid_of M g) ++ later) faces) ∙ ap first_refusal (sym grouped)
 
     pub solids_failed : (v : Result (Unit {0}) Refusal) → v ≡ verdict (first_refusal (solid_conditions M (solid_of M f) (solid_of M g))) → is_err v ≡ true → v ≡ verdict (first_refusal (glue_conditions M f g))
     solids_failed v is e = first_failed (solid_conditions M (solid_of M f) (solid_of M g)) later v is e ∙ ap verdict after_faces
@@ -117,16 +102,16 @@ module _ (M : Model) (f g : ℕ) where
     module _ (solids : first_refusal (solid_conditions M (solid_of M f) (solid_of M g)) ≡ None) where
       pub early_passed : early_refusal M f g ≡ None
       unfolding early_conditions
-      early_passed = refusal_parts (face_conditions M f g) (solid_conditions M (solid_of M f) (solid_of M g)) faces ∙ solids
+      early_passed = first_refusal-append (face_conditions M f g) (solid_conditions M (solid_of M f) (solid_of M g)) faces ∙ solids
 
       after_solids : first_refusal later ≡ first_refusal (glue_conditions M f g)
-      after_solids = sym (refusal_parts (solid_conditions M (solid_of M f) (solid_of M g)) later solids) ∙ after_faces
+      after_solids = sym (first_refusal-append (solid_conditions M (solid_of M f) (solid_of M g)) later solids) ∙ after_faces
 
       pub outlines_failed : (v : Result (Unit {0}) Refusal) → v ≡ verdict (first_refusal (outline_conditions M f g)) → is_err v ≡ true → v ≡ verdict (first_refusal (glue_conditions M f g))
       outlines_failed v is e = first_failed (outline_conditions M f g) numbers v is e ∙ ap verdict after_solids
 
       pub numbers_decide : first_refusal (outline_conditions M f g) ≡ None → first_refusal numbers ≡ first_refusal (glue_conditions M f g)
-      numbers_decide outlines = sym (refusal_parts (outline_conditions M f g) numbers outlines) ∙ after_solids
+      numbers_decide outlines = sym (first_refusal-append (outline_conditions M f g) numbers outlines) ∙ after_solids
 
       none_lone : least_lone M (faces_of_both M (solid_of M f) (solid_of M g)) ≡ None
       none_lone = none_found (least_lone M (faces_of_both M (solid_of M f) (solid_of M g))) (all_hold (solid_conditions M (solid_of M f) (solid_of M g)) solids).0
