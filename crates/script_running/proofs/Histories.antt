@@ -1,12 +1,12 @@
 -- A line is a call of a history, and a run tells one.
-use Rattle.std.proofs.Common.{◌≡◌, inl, inr, ℕ, zero, suc, ◌+◌, Bool, List, [], ◌∷◌, ◌++◌, length, Option, Some, None, Ok, Err, refl, sym, ap, subst, ◌∙◌}
+use Rattle.std.proofs.Common.{◌≡◌, inl, inr, ℕ, suc, Bool, List, [], ◌∷◌, ◌++◌, length, Option, Some, None, Ok, Err, refl, sym, ap, subst, ◌∙◌, arith}
 use Rattle.std.specs.Prelude.{Result, IfOk}
 use Rattle.std.proofs.lemmas.List.{append-nil}
 use Rattle.euler_operators.specs.Sound.{Sound}
 use Rattle.euler_operators.specs.declared.Refusal.{Refusal}
 use Rattle.undo_journal.specs.Machine.{Machine, start, held, act, act_refusal, undo, undo_refusal, redo, redo_refusal}
 use Rattle.undo_journal.specs.Histories as histories
-use Rattle.undo_journal.specs.Histories.{Call, unless, after_call, after_calls, reached, IsConsistent}
+use Rattle.undo_journal.specs.Histories.{Call, unless, after_call, after_calls, IsConsistent}
 use Rattle.undo_journal.specs.Laws.{HistoriesAreConsistent}
 use Rattle.sweeps.specs.Machine.{lamina, lamina_refusal, block, block_refusal, sweep, sweep_refusal}
 use Rattle.sweeps.specs.Calls.{LaminasAreCalls, BlocksAreCalls, SweepsAreCalls}
@@ -19,9 +19,9 @@ use Rattle.script_reader.specs.declared.command.Command.TheVariants as command
 use Rattle.script_reader.specs.declared.command.Fault.{Fault}
 use Rattle.script_reader.specs.Grammar.{command_of}
 use Rattle.script_reader.specs.Lines.{lines_of, within_limit}
-use Rattle.script_running.specs.script_judging.Judging.{Moves, Acts, Tries, Obeys, Answers, Judges, given_plane, answer_text, one_line}
+use Rattle.script_running.specs.script_judging.Judging.{Moves, Acts, Tries, Obeys, Answers, Judges, given_plane, answer_text}
 use Rattle.script_running.specs.Outs.{Outs}
-use Rattle.script_running.specs.Runs.{BreaksOff, Served, WriteFails, Runs}
+use Rattle.script_running.specs.Runs.{BreaksOff, Served, WriteFails}
 use Rattle.script_running.specs.Runs as runs
 use Rattle.script_running.specs.Histories.{IsCall, HasHistory, LinesAreCalls, LinesLeadOn, HistoriesMakeConsistent, Turn, IsTurn, TakeTurns, texts, TellsHistory, RunsTellHistories}
 use Rattle.script_running.specs.declared.script_judging.judging.Answer.{Answer}
@@ -136,7 +136,7 @@ outs_take l stop s (line ∷ lines) out n h (a, t, judged, inl last) =
     (takes l s t line a h judged lines [] 0 (no_turns t lines))
 outs_take l stop s (line ∷ lines) out n h (a, t, judged, inr (calm, (rest, k, text, counts, later))) =
     let next = lines_lead_on l s t line a h judged in
-    takes_so s (line ∷ lines) out (answer_text t a ++ rest) n.lines (suc k.lines) text (ap (λ (m : Summary). m.lines) counts ∙ ap (λ (one : ℕ). one + k.lines) (one_more a))
+    takes_so s (line ∷ lines) out (answer_text t a ++ rest) n.lines (suc k.lines) text (omega (arith, ap (λ (m : Summary). m.lines) counts, one_more a))
     (takes l s t line a h judged lines rest k.lines (outs_take l stop t lines rest k next later))
 
 -- a new session has a history: no call

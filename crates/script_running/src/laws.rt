@@ -27,7 +27,7 @@ pub fn lines_are_calls()
 
 /// What `run` says of a whole script: the lines take their turns on machines that a history leads through, so that every model which is
 /// held, listed or measured is that of a consistent machine, hence sound. What is written is the texts of these turns, where a write failed a
-/// prefix of them.
+/// prefix of them; where the run ended well, each line that it counts takes its turn.
 pub fn runs_tell_histories()
     ensures { RunsTellHistories }
 {
