@@ -14,7 +14,7 @@ use Rattle.commands.specs.declared.stage.Stage.TheVariants.{Session, Drafting}
 use Rattle.commands.specs.Telling.{Tells, TellsSession, TellsDraft}
 use Rattle.commands.proofs.Settling.{stays}
 
-session_kept : (s t : Journal) (c : Command) (a : Told) → a ≢ Done → TellsSession s c a t → t ≡ s
+pub session_kept : (s t : Journal) (c : Command) (a : Told) → a ≢ Done → TellsSession s c a t → t ≡ s
 session_kept s t (command.Change c) a other h = stays _ _ _ _ a other h
 session_kept s t (command.Ask q) a other h = h.1
 session_kept s t command.Undo a other h = stays _ _ _ _ a other h

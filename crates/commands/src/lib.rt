@@ -24,6 +24,6 @@ pub use asking::ask;
 pub use changing::change;
 pub use command::{Call, Change, Command, Question, Told, outcome};
 pub use drafting::change_in;
-pub use making::{act, give, give_in, make, moved};
+pub use making::{act, act_on_session, give, give_in, make, moved};
 pub use points::Points;
 pub use stage::{OpenDraft, Stage};

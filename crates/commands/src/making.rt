@@ -84,7 +84,9 @@ pub fn give_in(alloc: Global, draft: &mut Draft, command: Command<'_>) -> Told
     }
 }
 
-fn act_on_session(session: &mut Session, op: Op) -> Result<(), Failure>
+/// Gives a session an operator, where it lies. It does what `give` does.
+#[inline(always)]
+pub fn act_on_session(session: &mut Session, op: Op) -> Result<(), Failure>
     ensures { TellsSession session.old (command.Change (change.Act op)) (told_of result) session.new }
 {
     session.act(op)
