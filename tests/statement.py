@@ -22,7 +22,7 @@ from quotes import head_of
 PAGES = TOP / 'docs' / 'statements'
 LAWS = 'script_laws/src/lib.rt'
 # What a law over bytes speaks of by its name alone: its page says what it is for, and doesn't look into it.
-BY_NAME = frozenset({'Rattle.script_laws.specs.Scripts.answers', 'Rattle.script_running.specs.Outs.Outs', 'Rattle.undo_journal.specs.Machine.start',
+BY_NAME = frozenset({'Rattle.script_laws.specs.Scripts.answers', 'Rattle.script_running.specs.Outs.Outs', 'Rattle.undo_journal.specs.Journal.new_journal',
                      'Rattle.script_running.specs.Output.output_of', 'Rattle.script_running.specs.Output.summary_of'})
 WIDTH = 150
 INDEX = ['# Statements', '',

@@ -33,7 +33,7 @@
 //! their sides of the plane (`splits_are_made`, `parts_share_the_volume`, `parts_lie_on_their_sides`); glues and splits are calls
 //! of a history too, and what a session holds after one is said in words of the machine (`glued_solids_are_held`,
 //! `split_solids_are_held`); listings tell models (`listings_tell_models`), and a script has one output
-//! (`scripts_have_one_output`). `every_line_is_answered` runs a script with the contract of `run`; `every_script_is_answered` does
+//! (`scripts_have_one_output`), each of whose lines is told as its call (`every_line_is_told_as_its_call`). `every_line_is_answered` runs a script with the contract of `run`; `every_script_is_answered` does
 //! so in words of bytes alone, as do the laws of answers behind it (`broken_scripts_are_answered`, `answers_are_told_of_bytes`,
 //! `volumes_are_told_of_bytes`, `replies_are_told_apart`). What else single calls answer is said by their own crates, which the head of the file names.
 
@@ -52,7 +52,7 @@ ghost use Rattle.promises.specs.Splices.{SplicesCut, SplicesJoin, SplicesKeepOth
 ghost use Rattle.script_laws.specs.Laws.{RunsTell, BrokenRunsTell, FailedRunsTell, AnsweredSo, AnswersStay, OthersCanBeLeftOut, UndoAndRedoCanBeLeftOut, UndoneLinesCanBeLeftOut, UndosLeadBack, SomeUndosLeadBack, EqualListingsGoOnAlike, BlocksMeasure, PartsShareVolumes, RepliesTell, RefusalsTell, FaultsTell};
 ghost use Rattle.script_laws.specs.Scripts.{Answered};
 ghost use Rattle.script_running.specs.Histories.{LinesAreCalls, LinesLeadOn, HistoriesMakeConsistent, RunsTellHistories};
-ghost use Rattle.script_running.specs.Laws.{OneOutput, HasNoMemory};
+ghost use Rattle.script_running.specs.Laws.{LinesAreTold, OneOutput, HasNoMemory};
 ghost use Rattle.script_running.specs.Runs.{Runs};
 ghost use Rattle.script_running.specs.laws_below.BlockLaws.{BlocksAreAccepted, OperatorsMakeBlocks, BlocksAreSound};
 ghost use Rattle.script_running.specs.laws_below.GlueCalls.{GluesAreCalls};
@@ -83,7 +83,8 @@ use script_laws::{
     undo_and_redo_can_be_left_out, undone_lines_can_be_left_out, undos_lead_back,
 };
 use script_running::{
-    RunFault, Summary, laws_below, lines_are_calls, one_output, run, runs_tell_histories,
+    RunFault, Summary, laws_below, lines_are_calls, lines_are_told, one_output, run,
+    runs_tell_histories,
 };
 use std::alloc::{AllocError, Global};
 use std::io::{Read, Write};
@@ -490,6 +491,14 @@ pub fn every_line_is_a_call()
     ensures consistent { HistoriesMakeConsistent }
 {
     lines_are_calls();
+}
+
+/// A line that spells a command is answered what the call to give that command to the session is told, and leads on to the same session. So
+/// scripts and lists of calls speak of one thing.
+pub fn every_line_is_told_as_its_call()
+    ensures { LinesAreTold }
+{
+    lines_are_told();
 }
 
 /// So it is of a whole script, from what `run` says of it, whatever it returns: the lines take their turns from the empty model on, each one

@@ -3,13 +3,14 @@ use Rattle.std.proofs.Common.{◌≡◌, ◌≢◌, inr, ℕ, Bool, true, false,
 use Rattle.std.proofs.lemmas.Bool.{true≢false}
 use Rattle.euler_operators.specs.declared.Refusal.{Refusal}
 use Rattle.euler_operators.specs.Model.{Model}
-use Rattle.undo_journal.specs.Machine.{Machine, undo_refusal, undo}
+use Rattle.undo_journal.specs.Machine.{Machine, held, undo_refusal, undo}
 use Rattle.script_reader.specs.Grammar.{command_of}
 use Rattle.script_reader.specs.Lines.{lines_of}
 use Rattle.script_reader.specs.Newline as newline
 use Rattle.script_reader.specs.Words.{words}
-use Rattle.script_reader.specs.declared.command.Command.{Command}
-use Rattle.script_reader.specs.declared.command.Command.TheVariants as command
+use Rattle.commands.specs.declared.command.Command.TheVariants as command
+use Rattle.script_reader.specs.declared.command.Request.{Request}
+use Rattle.script_reader.specs.declared.command.Request.TheVariants as request
 use Rattle.script_reader.specs.declared.command.Fault.{Fault}
 use Rattle.solid_listing.specs.declared.reply.Reply.TheVariants as reply
 use Rattle.solid_listing.specs.Listing.{listing}
@@ -21,9 +22,9 @@ use Rattle.script_laws.specs.Scripts.{EndsLine, ended, oks, Adds}
 use Rattle.script_laws.specs.Laws.{UndoAndRedoCanBeLeftOut, UndoneLinesCanBeLeftOut}
 use Rattle.script_laws.proofs.Behind.{after, reached, reached_append, adds_from, from_adds, alike, lines_append, ends_append, ends_line}
 use Rattle.script_laws.proofs.Kept.{done_text, one_line, one_answer}
-use Rattle.script_laws.proofs.Spelled.{no_undo, no_redo}
+use Rattle.script_laws.proofs.Spelled.{undoing, redoing, no_undo, no_redo}
 use Rattle.script_laws.proofs.Texts.{is_ok, answer_oks}
-use Rattle.script_laws.proofs.Undone.{machine, undo_done, redo_done, answer_is, undo_spelled, told_other, Without}
+use Rattle.script_laws.proofs.Undone.{machine, undo_done, redo_done, answer_is, undo_spelled, asked_other, Without}
 
 -- they hold one model, and where undo may come, the same models stand behind it
 pub record Alike (back : Bool) (s t : Machine) : Type 0 where
@@ -42,11 +43,11 @@ undo_goes_alike : (p : List Model) (M : Model) (f g : List Model) → Alike true
 undo_goes_alike [] M f g = record { present = refl; behind = λ _. refl }
 undo_goes_alike (N ∷ p) M f g = record { present = refl; behind = λ _. refl }
 
-undo_alike : (p : List Model) (M : Model) (f g : List Model) → SameTurn true (obeyed (machine p M f) command.Undo) (obeyed (machine p M g) command.Undo)
+undo_alike : (p : List Model) (M : Model) (f g : List Model) → SameTurn true (obeyed (machine p M f) undoing) (obeyed (machine p M g) undoing)
 undo_alike p M f g = moved_alike true (undo_refusal (machine p M f)) (machine p M f) (machine p M g) (undo (machine p M f)) (undo (machine p M g)) (record { present = refl; behind = λ _. refl }) (undo_goes_alike p M f g)
 
-undo_either : (back : Bool) (M : Model) (p f q g : List Model) → (back ≡ true → p ≡ q) → (back ≡ false → ⊥) → SameTurn back (obeyed (machine p M f) command.Undo) (obeyed (machine q M g) command.Undo)
-undo_either true M p f q g h no_undo = subst (λ (r : List Model). SameTurn true (obeyed (machine p M f) command.Undo) (obeyed (machine r M g) command.Undo)) (h refl) (undo_alike p M f g)
+undo_either : (back : Bool) (M : Model) (p f q g : List Model) → (back ≡ true → p ≡ q) → (back ≡ false → ⊥) → SameTurn back (obeyed (machine p M f) undoing) (obeyed (machine q M g) undoing)
+undo_either true M p f q g h no_undo = subst (λ (r : List Model). SameTurn true (obeyed (machine p M f) undoing) (obeyed (machine r M g) undoing)) (h refl) (undo_alike p M f g)
 undo_either false M p f q g h no_undo = absurd (no_undo refl)
 
 module _ (back : Bool) (M : Model) (p f q g : List Model) (h : back ≡ true → p ≡ q) where
@@ -59,26 +60,20 @@ module _ (back : Bool) (M : Model) (p f q g : List Model) (h : back ≡ true →
   acted : (o : Option Refusal) (N : Model) → SameTurn back (moved o (machine p M f) (machine (M ∷ p) N [])) (moved o (machine q M g) (machine (M ∷ q) N []))
   acted o N = moved_alike back o _ _ _ _ same (record { present = refl; behind = λ b. ap (λ (ms : List Model). M ∷ ms) (h b) })
 
-  obeyed_alike : (c : Command) → c ≢ command.Redo → (back ≡ false → c ≢ command.Undo) → SameTurn back (obeyed (machine p M f) c) (obeyed (machine q M g) c)
-  obeyed_alike command.Nothing r u = stay _
-  obeyed_alike (command.Act op) r u = acted _ _
-  obeyed_alike (command.Lamina n ps) r u = acted _ _
-  obeyed_alike (command.Block n c dx dy dz) r u = acted _ _
-  obeyed_alike (command.Sweep k d) r u = acted _ _
-  obeyed_alike (command.Glue k l) r u = acted _ _
-  obeyed_alike (command.Split n cs m) r u = acted _ _
-  obeyed_alike (command.Plane k) r u = stay _
-  obeyed_alike (command.Volume n) r u = stay _
-  obeyed_alike (command.Count n) r u = stay _
-  obeyed_alike command.Undo r u = undo_either back M p f q g h (λ b. u b refl)
-  obeyed_alike command.Redo r u = absurd (r refl)
-  obeyed_alike command.List r u = stay _
+  obeyed_alike : (r : Request) → r ≢ redoing → (back ≡ false → r ≢ undoing) → SameTurn back (obeyed (machine p M f) r) (obeyed (machine q M g) r)
+  obeyed_alike request.Nothing r u = stay _
+  obeyed_alike request.List r u = stay _
+  obeyed_alike (request.Lamina n ps) r u = acted _ _
+  obeyed_alike (request.Give (command.Change c)) r u = acted _ _
+  obeyed_alike (request.Give (command.Ask a)) r u = stay _
+  obeyed_alike (request.Give command.Undo) r u = undo_either back M p f q g h (λ b. u b refl)
+  obeyed_alike (request.Give command.Redo) r u = absurd (r refl)
 
-  answered_alike : (r : Result Command Fault) → r ≢ Ok command.Redo → (back ≡ false → r ≢ Ok command.Undo) → SameTurn back (answered (machine p M f) r) (answered (machine q M g) r)
-  answered_alike (Ok c) r u = obeyed_alike c (λ e. r (ap (λ (d : Command). Ok d) e)) (λ b e. u b (ap (λ (d : Command). Ok d) e))
+  answered_alike : (r : Result Request Fault) → r ≢ Ok redoing → (back ≡ false → r ≢ Ok undoing) → SameTurn back (answered (machine p M f) r) (answered (machine q M g) r)
+  answered_alike (Ok c) r u = obeyed_alike c (λ e. r (ap (λ (d : Request). Ok d) e)) (λ b e. u b (ap (λ (d : Request). Ok d) e))
   answered_alike (Err k) r u = stay _
 
-all_alike : (back : Bool) (s t : Machine) (r : Result Command Fault) → Alike back s t → r ≢ Ok command.Redo → (back ≡ false → r ≢ Ok command.Undo) → SameTurn back (answered s r) (answered t r)
+all_alike : (back : Bool) (s t : Machine) (r : Result Request Fault) → Alike back s t → r ≢ Ok redoing → (back ≡ false → r ≢ Ok undoing) → SameTurn back (answered s r) (answered t r)
 all_alike back s t r h k u = subst (λ (M : Model). SameTurn back (answered s r) (answered (machine t.past M t.future) r)) h.present
     (answered_alike back s.present s.past s.future t.past t.future h.behind r k u)
 
@@ -137,27 +132,21 @@ moved_forward (Some r) s next e = record { step = λ x. absurd (cc x) }
 other_forward : (s : Machine) (a : Answer) → is_ok a ≡ false → Forward s (a, s)
 other_forward s a e = record { step = λ x. absurd (true≢false (sym (ap is_ok x) ∙ e)) }
 
-redo_forward : (p : List Model) (M : Model) (f : List Model) → Forward (machine p M f) (obeyed (machine p M f) command.Redo)
+redo_forward : (p : List Model) (M : Model) (f : List Model) → Forward (machine p M f) (obeyed (machine p M f) redoing)
 redo_forward p M [] = record { step = λ x. absurd (cc x) }
 redo_forward p M (N ∷ f) = moved_forward _ _ _ refl
 
-obeyed_forward : (s : Machine) (c : Command) → c ≢ command.Undo → Forward s (obeyed s c)
-obeyed_forward s command.Nothing u = other_forward s _ refl
-obeyed_forward s (command.Act op) u = moved_forward _ s _ refl
-obeyed_forward s (command.Lamina n ps) u = moved_forward _ s _ refl
-obeyed_forward s (command.Block n c dx dy dz) u = moved_forward _ s _ refl
-obeyed_forward s (command.Sweep k d) u = moved_forward _ s _ refl
-obeyed_forward s (command.Glue k l) u = moved_forward _ s _ refl
-obeyed_forward s (command.Split n cs m) u = moved_forward _ s _ refl
-obeyed_forward s (command.Plane k) u = other_forward s _ (told_other _ _ refl)
-obeyed_forward s (command.Volume n) u = other_forward s _ (told_other _ _ refl)
-obeyed_forward s (command.Count n) u = other_forward s _ (told_other _ _ refl)
-obeyed_forward s command.Undo u = absurd (u refl)
-obeyed_forward s command.Redo u = redo_forward s.past s.present s.future
-obeyed_forward s command.List u = other_forward s _ refl
+obeyed_forward : (s : Machine) (r : Request) → r ≢ undoing → Forward s (obeyed s r)
+obeyed_forward s request.Nothing u = other_forward s _ refl
+obeyed_forward s request.List u = other_forward s _ refl
+obeyed_forward s (request.Lamina n ps) u = moved_forward _ s _ refl
+obeyed_forward s (request.Give (command.Change c)) u = moved_forward _ s _ refl
+obeyed_forward s (request.Give (command.Ask q)) u = other_forward s _ (asked_other (held s) q)
+obeyed_forward s (request.Give command.Undo) u = absurd (u refl)
+obeyed_forward s (request.Give command.Redo) u = redo_forward s.past s.present s.future
 
-answered_forward : (s : Machine) (r : Result Command Fault) → r ≢ Ok command.Undo → Forward s (answered s r)
-answered_forward s (Ok c) u = obeyed_forward s c (λ e. u (ap (λ (d : Command). Ok d) e))
+answered_forward : (s : Machine) (r : Result Request Fault) → r ≢ Ok undoing → Forward s (answered s r)
+answered_forward s (Ok c) u = obeyed_forward s c (λ e. u (ap (λ (d : Request). Ok d) e))
 answered_forward s (Err k) u = other_forward s _ refl
 
 line_forward : (s : Machine) (line : List ℕ) → words line ≢ codes "undo" ∷ [] → answer_of s line ≡ done → (machine_after s line).past ≡ s.present ∷ s.past
@@ -191,7 +180,7 @@ undone_lines_can_be_left_out script line h k other added =
 
 undo_redo : (p : List Model) (M : Model) (f : List Model) → answer_of (machine p M f) (codes "undo") ≡ done
     → (output_from false (machine p M f) (lines_of (codes "undo\nredo\n")) ≡ codes "ok\nok\n") × (after (machine p M f) (lines_of (codes "undo\nredo\n")) ≡ machine p M f)
-undo_redo [] M f e = absurd (cc (sym (answer_is (machine [] M f) (codes "undo") command.Undo undo_spelled) ∙ e))
+undo_redo [] M f e = absurd (cc (sym (answer_is (machine [] M f) (codes "undo") undoing undo_spelled) ∙ e))
 undo_redo (N ∷ p) M f e =
     let s = machine (N ∷ p) M f in
     let u = undo_done N p M f in

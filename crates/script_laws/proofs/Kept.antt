@@ -6,14 +6,16 @@ use Rattle.undo_journal.specs.Machine.{Machine}
 use Rattle.script_reader.specs.Grammar.{command_of}
 use Rattle.script_reader.specs.Lines.{lines_of}
 use Rattle.script_reader.specs.Newline as newline
-use Rattle.script_reader.specs.declared.command.Command.{Command}
-use Rattle.script_reader.specs.declared.command.Command.TheVariants as command
+use Rattle.commands.specs.declared.command.Command.{Command}
+use Rattle.commands.specs.declared.command.Command.TheVariants as command
+use Rattle.script_reader.specs.declared.command.Request.{Request}
+use Rattle.script_reader.specs.declared.command.Request.TheVariants as request
 use Rattle.script_reader.specs.declared.command.Fault.{Fault}
 use Rattle.script_reader.proofs.LinesOf.{first_line}
 use Rattle.solid_listing.specs.declared.reply.Reply.TheVariants as reply
 use Rattle.solid_listing.specs.Replies.{reply_text}
 use Rattle.script_running.specs.script_judging.Judging.{done, answer_text}
-use Rattle.script_running.specs.Output.{moved, obeyed, answered, answer_of, machine_after, output_from}
+use Rattle.script_running.specs.Output.{moved, given, obeyed, answered, answer_of, machine_after, output_from}
 use Rattle.script_running.specs.declared.script_judging.judging.Answer.{Answer}
 use Rattle.script_laws.specs.Scripts.{EndsLine, ended}
 use Rattle.script_laws.specs.Laws.{AnswersStay, OthersCanBeLeftOut}
@@ -26,23 +28,20 @@ moved_stays : (o : Option Refusal) (s next : Machine) → Stays s (moved o s nex
 moved_stays None s next = inl refl
 moved_stays (Some r) s next = inr refl
 
-obeyed_stays : (s : Machine) (c : Command) → Stays s (obeyed s c)
-obeyed_stays s command.Nothing = inr refl
-obeyed_stays s (command.Act op) = moved_stays _ s _
-obeyed_stays s (command.Lamina n ps) = moved_stays _ s _
-obeyed_stays s (command.Block n r dx dy dz) = moved_stays _ s _
-obeyed_stays s (command.Sweep f d) = moved_stays _ s _
-obeyed_stays s (command.Glue f g) = moved_stays _ s _
-obeyed_stays s (command.Split n cs m) = moved_stays _ s _
-obeyed_stays s (command.Plane f) = inr refl
-obeyed_stays s (command.Volume n) = inr refl
-obeyed_stays s (command.Count n) = inr refl
-obeyed_stays s command.Undo = moved_stays _ s _
-obeyed_stays s command.Redo = moved_stays _ s _
-obeyed_stays s command.List = inr refl
+given_stays : (s : Machine) (c : Command) → Stays s (given s c)
+given_stays s (command.Change c) = moved_stays _ s _
+given_stays s (command.Ask q) = inr refl
+given_stays s command.Undo = moved_stays _ s _
+given_stays s command.Redo = moved_stays _ s _
 
-answered_stays : (s : Machine) (r : Result Command Fault) → Stays s (answered s r)
-answered_stays s (Ok c) = obeyed_stays s c
+obeyed_stays : (s : Machine) (r : Request) → Stays s (obeyed s r)
+obeyed_stays s request.Nothing = inr refl
+obeyed_stays s request.List = inr refl
+obeyed_stays s (request.Lamina n ps) = moved_stays _ s _
+obeyed_stays s (request.Give c) = given_stays s c
+
+answered_stays : (s : Machine) (r : Result Request Fault) → Stays s (answered s r)
+answered_stays s (Ok r) = obeyed_stays s r
 answered_stays s (Err f) = inr refl
 
 line_stays : (s : Machine) (line : List ℕ) → (answer_of s line ≡ done) ⊎ (machine_after s line ≡ s)

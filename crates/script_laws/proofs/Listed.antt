@@ -1,12 +1,13 @@
 -- Scripts that come to equal listings.
-use Rattle.std.proofs.Common.{◌≡◌, ℕ, false, List, [], ◌∷◌, codes, refl, sym, ◌∙◌}
+use Rattle.std.proofs.Common.{◌≡◌, ℕ, false, List, [], ◌∷◌, codes, refl, sym, subst, ◌∙◌}
 use Rattle.std.proofs.lemmas.Bool.{false≢true}
 use Rattle.euler_operators.specs.Sound.{Sound}
-use Rattle.undo_journal.specs.Machine.{Machine, start, held}
+use Rattle.undo_journal.specs.Machine.{Machine, held}
+use Rattle.undo_journal.specs.Journal.{Journal, new_journal}
 use Rattle.script_reader.specs.Lines.{lines_of}
 use Rattle.solid_listing.specs.Listing.{listing}
 use Rattle.solid_listing.specs.Telling.{ListingTells}
-use Rattle.script_running.specs.Output.{answer_of, machine_after}
+use Rattle.script_running.specs.Output.{answer_of}
 use Rattle.script_running.specs.Histories.{HasHistory, LinesLeadOn, HistoriesMakeConsistent}
 use Rattle.script_running.proofs.Outputs.{judges_to}
 use Rattle.script_laws.specs.Laws.{EqualListingsGoOnAlike}
@@ -14,12 +15,14 @@ use Rattle.script_laws.proofs.Behind.{after, reached, from_adds, alike}
 use Rattle.script_laws.proofs.Undone.{list_text}
 use Rattle.script_laws.proofs.Alike.{lines_alike}
 
-has_history : LinesLeadOn → (s : Machine) (lines : List (List ℕ)) → HasHistory s → HasHistory (after s lines)
+has_history : LinesLeadOn → (s : Journal) (lines : List (List ℕ)) → HasHistory s.machine → HasHistory (after s.machine lines)
 has_history lead s [] h = h
-has_history lead s (line ∷ lines) h = has_history lead (machine_after s line) lines (lead s (machine_after s line) line (answer_of s line) h (judges_to s line))
+has_history lead s (line ∷ lines) h =
+    let (t, judged, is) = judges_to s line in
+    subst (λ (m : Machine). HasHistory (after m lines)) is (has_history lead t lines (lead s t line (answer_of s.machine line) h judged))
 
 pub holds_sound : LinesLeadOn → HistoriesMakeConsistent → (script : List ℕ) → Sound (held (reached script))
-holds_sound lead consistent script = (consistent (reached script) (has_history lead start (lines_of script) (record { calls = []; lead = refl }))).held_sound
+holds_sound lead consistent script = (consistent (reached script) (has_history lead new_journal (lines_of script) (record { calls = []; lead = refl }))).held_sound
 
 pub equal_listings : LinesLeadOn → HistoriesMakeConsistent → ListingTells → EqualListingsGoOnAlike
 equal_listings lead consistent tells one other text h k a b more reply lacks =

@@ -15,15 +15,20 @@ use Rattle.command_laws.specs.Solids.{BlocksAreThere}
 use Rattle.solid_measure.specs.Measure.{answer, solid_refusal, six_volume}
 use Rattle.script_reader.specs.Grammar.{command_of}
 use Rattle.script_reader.specs.Newline as newline
-use Rattle.script_reader.specs.declared.command.Command.{Command}
-use Rattle.script_reader.specs.declared.command.Command.TheVariants as command
+use Rattle.commands.specs.declared.command.Change.TheVariants as change
+use Rattle.commands.specs.declared.command.Question.TheVariants as question
+use Rattle.commands.specs.declared.command.Command.TheVariants as command
+use Rattle.commands.specs.declared.command.Told.TheVariants as told
+use Rattle.commands.specs.Telling.{value_or_refusal}
+use Rattle.script_reader.specs.declared.command.Request.{Request}
+use Rattle.script_reader.specs.declared.command.Request.TheVariants as request
 use Rattle.solid_listing.specs.Lines.{spaced}
 use Rattle.solid_listing.specs.Replies.{reply_text}
 use Rattle.solid_listing.specs.declared.reply.Reply.TheVariants as reply
 use Rattle.script_running.specs.Histories.{LinesLeadOn, HistoriesMakeConsistent}
-use Rattle.script_running.specs.script_judging.Judging.{done, refused, told, answer_text}
+use Rattle.script_running.specs.script_judging.Judging.{done, refused, answer_when, answer_text}
 use Rattle.script_running.specs.Output.{moved, obeyed, answer_of, machine_after}
-use Rattle.script_running.specs.declared.script_judging.judging.Answer.TheVariants.{Reply as Told}
+use Rattle.script_running.specs.declared.script_judging.judging.Answer.TheVariants.{Reply as Says}
 use Rattle.script_running.specs.declared.script_judging.judging.Answer.{Answer}
 use Rattle.script_laws.specs.Scripts.{EndsLine, ended, Adds}
 use Rattle.script_laws.specs.Laws.{volume_line, volume_answer, BlocksMeasure, PartsShareVolumes}
@@ -41,8 +46,8 @@ not_refused (Some r) s next e = absurd (cc e)
 solid_told : (M : Model) (n : ℕ) → Sound M → Has M.solids n → solid_refusal M n ≡ None
 solid_told M n sound there = rw (sound.solids_fit n there, there) refl
 
-volume_told : (s : Machine) (n : ℕ) → solid_refusal (held s) n ≡ None → told (answer (solid_refusal (held s) n) (reply.Volume (six_volume (held s) n))) ≡ Told (reply.Volume (six_volume (held s) n))
-volume_told s n e = ap (λ (o : Option Refusal). told (answer o (reply.Volume (six_volume (held s) n)))) e
+volume_told : (s : Machine) (n : ℕ) → solid_refusal (held s) n ≡ None → answer_when (value_or_refusal (answer (solid_refusal (held s) n) (told.Volume (six_volume (held s) n)))) ≡ Says (reply.Volume (six_volume (held s) n))
+volume_told s n e = ap (λ (o : Option Refusal). answer_when (value_or_refusal (answer o (told.Volume (six_volume (held s) n))))) e
 
 volume_text : (z : ℤ) → reply_text (reply.Volume z) ≡ ended (codes "volume" ++ spaced (signed_decimal z ∷ []))
 unfolding reply_text
@@ -57,7 +62,7 @@ unfolding reply_text head
 refused_head s r z e = absurd (omega (arith, ap head e))
 
 -- where a volume was answered, the solid is there
-was_told : (s : Machine) (o : Option Refusal) (w z : ℤ) → answer_text s (told (answer o (reply.Volume w))) ≡ volume_answer z → o ≡ None
+was_told : (s : Machine) (o : Option Refusal) (w z : ℤ) → answer_text s (answer_when (value_or_refusal (answer o (told.Volume w)))) ≡ volume_answer z → o ≡ None
 was_told s None w z e = refl
 was_told s (Some r) w z e = absurd (refused_head s r z e)
 
@@ -66,11 +71,11 @@ volume_adds : (script : List ℕ) (n : ℕ) (z : ℤ) → EndsLine script → n 
 volume_adds script n z h small there is =
     let s = reached script in
     let ask = codes "volume" ++ spaced (decimal n ∷ []) in
-    let said : answer_of s ask ≡ Told (reply.Volume z) = answer_is s ask (command.Volume n) (volume_spelled n small) ∙ volume_told s n there ∙ ap (λ (v : ℤ). Told (reply.Volume v)) is in
+    let said : answer_of s ask ≡ Says (reply.Volume z) = answer_is s ask (request.Give (command.Ask (question.Volume n))) (volume_spelled n small) ∙ volume_told s n there ∙ ap (λ (v : ℤ). Says (reply.Volume v)) is in
     adds_from script (volume_line n) (volume_answer z) h (one_answer s ask (volume_lacks n small) ∙ ap (answer_text (machine_after s ask)) said ∙ volume_text z)
 
 -- the machine behind a line that was answered `ok`, whose command is known
-module _ (script line : List ℕ) (c : Command) (o : Option Refusal) (next : Machine) (h : EndsLine script) (lacks : newline.Lacks line) (spelled : command_of line ≡ Ok c)
+module _ (script line : List ℕ) (c : Request) (o : Option Refusal) (next : Machine) (h : EndsLine script) (lacks : newline.Lacks line) (spelled : command_of line ≡ Ok c)
     (is : obeyed (reached script) c ≡ moved o (reached script) next) (added : Adds script (ended line) (codes "ok\n")) where
   none_refused : o ≡ None
   none_refused = not_refused o (reached script) next (ap (λ (x : Answer × Machine). x.0) (sym is) ∙ sym (answer_is (reached script) line c spelled) ∙ answered_ok script line h lacks added)
@@ -83,7 +88,7 @@ module _ (lead : LinesLeadOn) (consistent : HistoriesMakeConsistent) where
   blocks_measure measure there script n x y z dx dy dz h small fit added =
       let line = codes "block" ++ spaced (decimal n ∷ map signed_decimal (x ∷ y ∷ z ∷ dx ∷ dy ∷ dz ∷ [])) in
       let p : Point = record { x = x; y = y; z = z } in
-      let c = command.Block n p dx dy dz in
+      let c = request.Give (command.Change (change.Block n p dx dy dz)) in
       let lacks = block_lacks n x y z dx dy dz small fit in
       let spelled = block_spelled n x y z dx dy dz small fit in
       let s = reached script in
@@ -98,7 +103,7 @@ module _ (lead : LinesLeadOn) (consistent : HistoriesMakeConsistent) where
   parts_share_volumes there share script n m a b c d z h small small_too fit before added =
       let line = codes "split" ++ spaced (decimal n ∷ signed_decimal a ∷ signed_decimal b ∷ signed_decimal c ∷ signed_decimal d ∷ decimal m ∷ []) in
       let p : Plane = plane_with a b c d in
-      let cmd = command.Split n (a ∷ b ∷ c ∷ d ∷ []) m in
+      let cmd = request.Give (command.Change (change.Split n a b c d m)) in
       let lacks = split_lacks n m a b c d small small_too fit in
       let spelled = split_spelled n m a b c d small small_too fit in
       let s = reached script in
@@ -112,8 +117,8 @@ module _ (lead : LinesLeadOn) (consistent : HistoriesMakeConsistent) where
       let ask = codes "volume" ++ spaced (decimal n ∷ []) in
       let u = six_volume (held t) n in
       let v = six_volume (held t) m in
-      let text : answer_text (machine_after s ask) (told (answer (solid_refusal (held s) n) (reply.Volume (six_volume (held s) n)))) ≡ volume_answer z =
-      ap (answer_text (machine_after s ask)) (sym (answer_is s ask (command.Volume n) (volume_spelled n small))) ∙ sym (one_answer s ask (volume_lacks n small)) ∙ from_adds script (volume_line n) (volume_answer z) h before in (
+      let text : answer_text (machine_after s ask) (answer_when (value_or_refusal (answer (solid_refusal (held s) n) (told.Volume (six_volume (held s) n))))) ≡ volume_answer z =
+      ap (answer_text (machine_after s ask)) (sym (answer_is s ask (request.Give (command.Ask (question.Volume n))) (volume_spelled n small))) ∙ sym (one_answer s ask (volume_lacks n small)) ∙ from_adds script (volume_line n) (volume_answer z) h before in (
         u,
         v,
         volume_adds script n (u +ℤ v) h small (was_told (machine_after s ask) (solid_refusal (held s) n) (six_volume (held s) n) z text) (share s t n p m sound (none, made)),

@@ -4,15 +4,24 @@ use Rattle.script_reader.specs.Places.{Word}
 use Rattle.script_reader.specs.Words.{words}
 use Rattle.script_reader.specs.Grammar.{kinds_of, build, word_of, command_of}
 use Rattle.script_reader.specs.Spelling.{Spells, WordsSpell}
-use Rattle.script_reader.specs.declared.command.Command.TheVariants.{Undo, Redo}
+use Rattle.commands.specs.declared.command.Command.TheVariants as command
+use Rattle.script_reader.specs.declared.command.Request.{Request}
+use Rattle.script_reader.specs.declared.command.Request.TheVariants.{Give}
 use Rattle.script_reader.specs.declared.name.Name.{Name}
 use Rattle.script_reader.specs.declared.name.Name.TheVariants as name
 use Rattle.script_reader.proofs.LineLaws.{line_ok}
 
+-- the lines that ask for undo and redo
+abbrev pub undoing : Request
+undoing = Give command.Undo
+
+abbrev pub redoing : Request
+redoing = Give command.Redo
+
 alone : (w v : Word) (ws : List Word) → w ≡ v → ws ≡ [] → w ∷ ws ≡ v ∷ []
 alone w v ws e none = ap (λ (u : Word). u ∷ ws) e ∙ ap (λ (us : List Word). v ∷ us) none
 
-undo_named : (n : Name) (w : Word) (ws : List Word) → w ≡ word_of n → Spells (kinds_of n) (build n) ws Undo → w ∷ ws ≡ codes "undo" ∷ []
+undo_named : (n : Name) (w : Word) (ws : List Word) → w ≡ word_of n → Spells (kinds_of n) (build n) ws undoing → w ∷ ws ≡ codes "undo" ∷ []
 undo_named name.Mvfs w ws e s = absurd (cc s.3.3.3.3.3.1)
 undo_named name.Kvfs w ws e s = absurd (cc s.3.1)
 undo_named name.Mev w ws e s = absurd (cc s.3.3.3.3.3.1)
@@ -36,16 +45,16 @@ undo_named name.Undo w ws e s = alone w (codes "undo") ws e s.0
 undo_named name.Redo w ws e s = absurd (cc s.1)
 undo_named name.List w ws e s = absurd (cc s.1)
 
-undo_words : (ws : List Word) → WordsSpell ws Undo → ws ≡ codes "undo" ∷ []
+undo_words : (ws : List Word) → WordsSpell ws undoing → ws ≡ codes "undo" ∷ []
 undo_words [] e = absurd (cc e)
 undo_words (w ∷ ws) (inl h) = absurd (cc h.1)
 undo_words (w ∷ ws) (inr (n, e, s)) = undo_named n w ws e s
 
 -- a line that isn't this word alone doesn't spell it
-pub no_undo : (line : List ℕ) → words line ≢ codes "undo" ∷ [] → command_of line ≢ Ok Undo
-no_undo line other e = other (undo_words (words line) (line_ok line Undo e).2)
+pub no_undo : (line : List ℕ) → words line ≢ codes "undo" ∷ [] → command_of line ≢ Ok undoing
+no_undo line other e = other (undo_words (words line) (line_ok line undoing e).2)
 
-redo_named : (n : Name) (w : Word) (ws : List Word) → w ≡ word_of n → Spells (kinds_of n) (build n) ws Redo → w ∷ ws ≡ codes "redo" ∷ []
+redo_named : (n : Name) (w : Word) (ws : List Word) → w ≡ word_of n → Spells (kinds_of n) (build n) ws redoing → w ∷ ws ≡ codes "redo" ∷ []
 redo_named name.Mvfs w ws e s = absurd (cc s.3.3.3.3.3.1)
 redo_named name.Kvfs w ws e s = absurd (cc s.3.1)
 redo_named name.Mev w ws e s = absurd (cc s.3.3.3.3.3.1)
@@ -69,11 +78,11 @@ redo_named name.Undo w ws e s = absurd (cc s.1)
 redo_named name.Redo w ws e s = alone w (codes "redo") ws e s.0
 redo_named name.List w ws e s = absurd (cc s.1)
 
-redo_words : (ws : List Word) → WordsSpell ws Redo → ws ≡ codes "redo" ∷ []
+redo_words : (ws : List Word) → WordsSpell ws redoing → ws ≡ codes "redo" ∷ []
 redo_words [] e = absurd (cc e)
 redo_words (w ∷ ws) (inl h) = absurd (cc h.1)
 redo_words (w ∷ ws) (inr (n, e, s)) = redo_named n w ws e s
 
 -- a line that isn't this word alone doesn't spell it
-pub no_redo : (line : List ℕ) → words line ≢ codes "redo" ∷ [] → command_of line ≢ Ok Redo
-no_redo line other e = other (redo_words (words line) (line_ok line Redo e).2)
+pub no_redo : (line : List ℕ) → words line ≢ codes "redo" ∷ [] → command_of line ≢ Ok redoing
+no_redo line other e = other (redo_words (words line) (line_ok line redoing e).2)

@@ -6,48 +6,52 @@ use Rattle.std.specs.List.{AllByRecursion}
 use Rattle.euler_operators.specs.declared.Refusal.{Refusal}
 use Rattle.euler_operators.specs.Model.{Model}
 use Rattle.undo_journal.specs.Machine.{Machine, start, held, undo, undo_refusal, redo, redo_refusal}
-use Rattle.solid_measure.specs.Measure.{answer}
+use Rattle.solid_measure.specs.Measure.{answer, face_refusal, solid_refusal, plane_of, is_flat, six_volume, counts}
 use Rattle.script_reader.specs.Grammar.{arguments, command_of}
 use Rattle.script_reader.specs.Lines.{lines_of}
 use Rattle.script_reader.specs.Words.{words}
-use Rattle.script_reader.specs.declared.command.Command.{Command}
-use Rattle.script_reader.specs.declared.command.Command.TheVariants as command
+use Rattle.commands.specs.declared.command.Question.{Question}
+use Rattle.commands.specs.declared.command.Question.TheVariants as question
+use Rattle.commands.specs.declared.command.Command.TheVariants as command
+use Rattle.commands.specs.declared.command.Told.{Told}
+use Rattle.commands.specs.declared.command.Told.TheVariants as told
+use Rattle.commands.specs.Telling.{asked, value_or_refusal}
+use Rattle.script_reader.specs.declared.command.Request.{Request}
+use Rattle.script_reader.specs.declared.command.Request.TheVariants as request
 use Rattle.script_reader.specs.declared.command.Fault.{Fault}
-use Rattle.solid_listing.specs.declared.reply.Reply.{Reply}
 use Rattle.solid_listing.specs.Listing.{listing}
 use Rattle.solid_listing.proofs.WorkedTexts.{empty-listing}
-use Rattle.script_running.specs.script_judging.Judging.{done, told, answer_text}
+use Rattle.script_running.specs.script_judging.Judging.{done, answer_when, answer_text}
 use Rattle.script_running.specs.Output.{moved, obeyed, answered, answer_of, machine_after, output_from}
 use Rattle.script_running.specs.declared.script_judging.judging.Answer.{Answer}
-use Rattle.script_running.specs.declared.script_judging.judging.Answer.TheVariants.{Reply as Told}
 use Rattle.script_laws.specs.Scripts.{answers, EndsLine, times, HasNo, oks, Adds}
 use Rattle.script_laws.proofs.Behind.{after, reached, adds_from}
 use Rattle.script_laws.proofs.Kept.{done_text}
-use Rattle.script_laws.proofs.Spelled.{no_undo, no_redo}
+use Rattle.script_laws.proofs.Spelled.{undoing, redoing, no_undo, no_redo}
 use Rattle.script_laws.proofs.Texts.{is_ok, answer_oks, answer_ends, oks_append}
 
 -- ---- what the words spell
 
-pub undo_spelled : command_of (codes "undo") ≡ Ok command.Undo
+pub undo_spelled : command_of (codes "undo") ≡ Ok undoing
 unfolding arguments
 undo_spelled = refl
 
-pub redo_spelled : command_of (codes "redo") ≡ Ok command.Redo
+pub redo_spelled : command_of (codes "redo") ≡ Ok redoing
 unfolding arguments
 redo_spelled = refl
 
-pub list_spelled : command_of (codes "list") ≡ Ok command.List
+pub list_spelled : command_of (codes "list") ≡ Ok request.List
 unfolding arguments
 list_spelled = refl
 
 -- what a line is answered whose command is known
-pub answer_is : (s : Machine) (line : List ℕ) (c : Command) → command_of line ≡ Ok c → answer_of s line ≡ (obeyed s c).0
+pub answer_is : (s : Machine) (line : List ℕ) (c : Request) → command_of line ≡ Ok c → answer_of s line ≡ (obeyed s c).0
 unfolding answer_of
-answer_is s line c e = ap (λ (r : Result Command Fault). (answered s r).0) e
+answer_is s line c e = ap (λ (r : Result Request Fault). (answered s r).0) e
 
-pub machine_is : (s : Machine) (line : List ℕ) (c : Command) → command_of line ≡ Ok c → machine_after s line ≡ (obeyed s c).1
+pub machine_is : (s : Machine) (line : List ℕ) (c : Request) → command_of line ≡ Ok c → machine_after s line ≡ (obeyed s c).1
 unfolding machine_after
-machine_is s line c e = ap (λ (r : Result Command Fault). (answered s r).1) e
+machine_is s line c e = ap (λ (r : Result Request Fault). (answered s r).1) e
 
 -- ---- a machine with a model behind
 
@@ -75,19 +79,19 @@ pub undo_done : (N : Model) (p : List Model) (M : Model) (f : List Model)
 undo_done N p M f =
     let s = machine (N ∷ p) M f in
     let g = goes (undo_refusal s) s (undo s) (undo_goes N p M f) in
-    (answer_is s (codes "undo") command.Undo undo_spelled ∙ g.0, machine_is s (codes "undo") command.Undo undo_spelled ∙ g.1)
+    (answer_is s (codes "undo") undoing undo_spelled ∙ g.0, machine_is s (codes "undo") undoing undo_spelled ∙ g.1)
 
 pub redo_done : (p : List Model) (M N : Model) (f : List Model)
     → (answer_of (machine p M (N ∷ f)) (codes "redo") ≡ done) × (machine_after (machine p M (N ∷ f)) (codes "redo") ≡ machine (M ∷ p) N f)
 redo_done p M N f =
     let s = machine p M (N ∷ f) in
     let g = goes (redo_refusal s) s (redo s) (redo_goes p M N f) in
-    (answer_is s (codes "redo") command.Redo redo_spelled ∙ g.0, machine_is s (codes "redo") command.Redo redo_spelled ∙ g.1)
+    (answer_is s (codes "redo") redoing redo_spelled ∙ g.0, machine_is s (codes "redo") redoing redo_spelled ∙ g.1)
 
 pub list_text : (s : Machine) → output_from false s (lines_of (codes "list\n")) ≡ listing (held s)
 list_text s =
-    ap (λ (a : Answer). answer_text (machine_after s (codes "list")) a ++ []) (answer_is s (codes "list") command.List list_spelled)
-    ∙ ap (λ (t : Machine). listing (held t) ++ []) (machine_is s (codes "list") command.List list_spelled)
+    ap (λ (a : Answer). answer_text (machine_after s (codes "list")) a ++ []) (answer_is s (codes "list") request.List list_spelled)
+    ∙ ap (λ (t : Machine). listing (held t) ++ []) (machine_is s (codes "list") request.List list_spelled)
     ∙ append-nil (listing (held s))
 
 -- ---- the first model
@@ -115,22 +119,16 @@ moved_first : (o : Option Refusal) (s next : Machine) → first next ≡ first s
 moved_first None s next e = record { same = e }
 moved_first (Some r) s next e = record { same = refl }
 
-obeyed_first : (s : Machine) (c : Command) → KeepsFirst s (obeyed s c)
-obeyed_first s command.Nothing = record { same = refl }
-obeyed_first s (command.Act op) = moved_first _ s _ refl
-obeyed_first s (command.Lamina n ps) = moved_first _ s _ refl
-obeyed_first s (command.Block n r dx dy dz) = moved_first _ s _ refl
-obeyed_first s (command.Sweep f d) = moved_first _ s _ refl
-obeyed_first s (command.Glue f g) = moved_first _ s _ refl
-obeyed_first s (command.Split n cs m) = moved_first _ s _ refl
-obeyed_first s (command.Plane f) = record { same = refl }
-obeyed_first s (command.Volume n) = record { same = refl }
-obeyed_first s (command.Count n) = record { same = refl }
-obeyed_first s command.Undo = moved_first _ s _ (undo_first s.past s.present s.future)
-obeyed_first s command.Redo = moved_first _ s _ (redo_first s.past s.present s.future)
-obeyed_first s command.List = record { same = refl }
+obeyed_first : (s : Machine) (r : Request) → KeepsFirst s (obeyed s r)
+obeyed_first s request.Nothing = record { same = refl }
+obeyed_first s request.List = record { same = refl }
+obeyed_first s (request.Lamina n ps) = moved_first _ s _ refl
+obeyed_first s (request.Give (command.Change c)) = moved_first _ s _ refl
+obeyed_first s (request.Give (command.Ask q)) = record { same = refl }
+obeyed_first s (request.Give command.Undo) = moved_first _ s _ (undo_first s.past s.present s.future)
+obeyed_first s (request.Give command.Redo) = moved_first _ s _ (redo_first s.past s.present s.future)
 
-answered_first : (s : Machine) (r : Result Command Fault) → KeepsFirst s (answered s r)
+answered_first : (s : Machine) (r : Result Request Fault) → KeepsFirst s (answered s r)
 answered_first s (Ok c) = obeyed_first s c
 answered_first s (Err f) = record { same = refl }
 
@@ -156,27 +154,26 @@ moved_grows : (o : Option Refusal) (s next : Machine) → length next.past ≡ l
 moved_grows None s next e = e
 moved_grows (Some r) s next e = omega arith
 
-pub told_other : (o : Option Refusal) (r : Reply) → is_ok (Told r) ≡ false → is_ok (told (answer o r)) ≡ false
-told_other None r e = e
-told_other (Some f) r e = refl
+value_other : (o : Option Refusal) (b : Told) → is_ok (answer_when b) ≡ false → is_ok (answer_when (value_or_refusal (answer o b))) ≡ false
+value_other None b e = e
+value_other (Some r) b e = refl
 
-obeyed_grows : (s : Machine) (c : Command) → c ≢ command.Undo → c ≢ command.Redo → Grows s (obeyed s c)
-obeyed_grows s command.Nothing h k = omega arith
-obeyed_grows s (command.Act op) h k = moved_grows _ s _ (omega arith)
-obeyed_grows s (command.Lamina n ps) h k = moved_grows _ s _ (omega arith)
-obeyed_grows s (command.Block n r dx dy dz) h k = moved_grows _ s _ (omega arith)
-obeyed_grows s (command.Sweep f d) h k = moved_grows _ s _ (omega arith)
-obeyed_grows s (command.Glue f g) h k = moved_grows _ s _ (omega arith)
-obeyed_grows s (command.Split n cs m) h k = moved_grows _ s _ (omega arith)
-obeyed_grows s (command.Plane f) h k = stays_so (length s.past) _ _ refl (told_other _ _ refl)
-obeyed_grows s (command.Volume n) h k = stays_so (length s.past) _ _ refl (told_other _ _ refl)
-obeyed_grows s (command.Count n) h k = stays_so (length s.past) _ _ refl (told_other _ _ refl)
-obeyed_grows s command.Undo h k = absurd (h refl)
-obeyed_grows s command.Redo h k = absurd (k refl)
-obeyed_grows s command.List h k = omega arith
+pub asked_other : (M : Model) (q : Question) → is_ok (answer_when (asked M q)) ≡ false
+asked_other M (question.Plane f) = value_other (face_refusal M f) (told.Plane (plane_of M f) (is_flat M f)) refl
+asked_other M (question.Volume n) = value_other (solid_refusal M n) (told.Volume (six_volume M n)) refl
+asked_other M (question.Count n) = value_other (solid_refusal M n) (told.Counts (counts M n)) refl
 
-answered_grows : (s : Machine) (r : Result Command Fault) → r ≢ Ok command.Undo → r ≢ Ok command.Redo → Grows s (answered s r)
-answered_grows s (Ok c) h k = obeyed_grows s c (λ e. h (ap (λ (d : Command). Ok d) e)) (λ e. k (ap (λ (d : Command). Ok d) e))
+obeyed_grows : (s : Machine) (r : Request) → r ≢ undoing → r ≢ redoing → Grows s (obeyed s r)
+obeyed_grows s request.Nothing h k = omega arith
+obeyed_grows s request.List h k = omega arith
+obeyed_grows s (request.Lamina n ps) h k = moved_grows _ s _ (omega arith)
+obeyed_grows s (request.Give (command.Change c)) h k = moved_grows _ s _ (omega arith)
+obeyed_grows s (request.Give (command.Ask q)) h k = stays_so (length s.past) _ _ refl (asked_other (held s) q)
+obeyed_grows s (request.Give command.Undo) h k = absurd (h refl)
+obeyed_grows s (request.Give command.Redo) h k = absurd (k refl)
+
+answered_grows : (s : Machine) (r : Result Request Fault) → r ≢ Ok undoing → r ≢ Ok redoing → Grows s (answered s r)
+answered_grows s (Ok r) h k = obeyed_grows s r (λ e. h (ap (λ (d : Request). Ok d) e)) (λ e. k (ap (λ (d : Request). Ok d) e))
 answered_grows s (Err f) h k = omega arith
 
 line_grows : (s : Machine) (line : List ℕ) → words line ≢ codes "undo" ∷ [] → words line ≢ codes "redo" ∷ [] → length (machine_after s line).past ≡ length s.past + cond (is_ok (answer_of s line)) 1 0

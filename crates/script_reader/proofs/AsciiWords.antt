@@ -14,8 +14,8 @@ use Rattle.euler_operators.specs.declared.Corner.TheVariants.{At, Lone}
 use Rattle.script_reader.specs.Words.{is_space, joined, words}
 use Rattle.script_reader.specs.Places.{Word, Kind, Number, Integer, Half, AnyCorner, Place, Places, InOrOut, Meaning}
 use Rattle.script_reader.specs.Grammar.{Builder, names, word_of, kinds_of, build, is_ascii, command_of_words, command_of}
-use Rattle.script_reader.specs.declared.command.Command.{Command}
-use Rattle.script_reader.specs.declared.command.Command.TheVariants.{Nothing}
+use Rattle.script_reader.specs.declared.command.Request.{Request}
+use Rattle.script_reader.specs.declared.command.Request.TheVariants.{Nothing}
 use Rattle.script_reader.specs.declared.name.Name.{Name}
 use Rattle.script_reader.specs.declared.places.Way.{Way}
 use Rattle.script_reader.specs.declared.places.Way.TheVariants.{In, Out}
@@ -83,7 +83,7 @@ means_ascii InOrOut ws x rest m more = begins_ascii SaysWay way_ascii ws x rest 
 
 -- ---- all words
 
-spelled_ascii : (ks : List Kind) (make : Builder ks) (ws : List Word) (d : Command) → Spells ks make ws d → AreAscii ws
+spelled_ascii : (ks : List Kind) (make : Builder ks) (ws : List Word) (d : Request) → Spells ks make ws d → AreAscii ws
 spelled_ascii [] c ws d s = rw s.0 tt
 spelled_ascii (k ∷ ks) make ws d s = means_ascii k ws s.0 s.1 s.2 (spelled_ascii ks (make s.0) s.1 d s.3)
 
@@ -99,7 +99,7 @@ found_passes test passes (y ∷ ys) x e all =
 name_ascii : (n : Name) → IsAscii (word_of n)
 name_ascii n = ascii_told (word_of n) (found_passes (λ m. bytes_eq (word_of n) (word_of m)) (λ m. is_ascii (word_of m)) names n (spelled_name n) refl)
 
-command_ascii : (ws : List Word) (d : Command) → WordsSpell ws d → d ≢ Nothing → AreAscii ws
+command_ascii : (ws : List Word) (d : Request) → WordsSpell ws d → d ≢ Nothing → AreAscii ws
 command_ascii [] d s some = absurd (some s)
 command_ascii (w ∷ ws) d s some = elim s [
   | inl note ↦ absurd (some note.1)
@@ -130,7 +130,7 @@ line_ascii (b ∷ line) h = elim (cases_Bool (is_space b)) [
 ]
 
 -- a line within the limit whose words spell a command that does something spells that command
-pub words_tell : (line : List ℕ) (d : Command) → nat_lt 65536 (length line) ≡ false → command_of_words (words line) ≡ Ok d → d ≢ Nothing → command_of line ≡ Ok d
+pub words_tell : (line : List ℕ) (d : Request) → nat_lt 65536 (length line) ≡ false → command_of_words (words line) ≡ Ok d → d ≢ Nothing → command_of line ≡ Ok d
 words_tell line d short e some =
     let ascii = told_ascii line (line_ascii line (command_ascii (words line) d (words_ok (words line) d e) some)) in
     rw (short, ascii, e) refl

@@ -9,8 +9,8 @@ use Rattle.std.proofs.lemmas.Slice.Eq.{bytes_eq-Decides}
 use Rattle.script_reader.specs.Words.{words}
 use Rattle.script_reader.specs.Places.{Word, Kind, read}
 use Rattle.script_reader.specs.Grammar.{Builder, names, word_of, kinds_of, build, read_all, name_of, arguments, is_comment, command_of_words, is_ascii, command_of}
-use Rattle.script_reader.specs.declared.command.Command.{Command}
-use Rattle.script_reader.specs.declared.command.Command.TheVariants.{Nothing}
+use Rattle.script_reader.specs.declared.command.Request.{Request}
+use Rattle.script_reader.specs.declared.command.Request.TheVariants.{Nothing}
 use Rattle.script_reader.specs.declared.command.Fault.{Fault}
 use Rattle.script_reader.specs.declared.name.Name.{Name}
 use Rattle.script_reader.specs.declared.name.Name.TheVariants as name
@@ -20,14 +20,14 @@ use Rattle.script_reader.proofs.PlaceLaws.{read_ok, ok_read, read_err, err_read}
 
 -- ---- all places
 
-all_ok : (ks : List Kind) (make : Builder ks) (ws : List Word) (d : Command) → read_all ks make ws ≡ Ok d → Spells ks make ws d
+all_ok : (ks : List Kind) (make : Builder ks) (ws : List Word) (d : Request) → read_all ks make ws ≡ Ok d → Spells ks make ws d
 all_ok [] c [] d e = (refl, cc e)
 all_ok [] c (w ∷ ws) d e = absurd (cc e)
 all_ok (k ∷ ks) make ws d e =
     let a = bind_ok (read k ws) (λ x. read_all ks (make x.0) x.1) d e in
     (a.0.0, a.0.1, read_ok k ws a.0 a.1, all_ok ks (make a.0.0) a.0.1 d a.2)
 
-ok_all : (ks : List Kind) (make : Builder ks) (ws : List Word) (d : Command) → Spells ks make ws d → read_all ks make ws ≡ Ok d
+ok_all : (ks : List Kind) (make : Builder ks) (ws : List Word) (d : Request) → Spells ks make ws d → read_all ks make ws ≡ Ok d
 ok_all [] c [] d s = rw s.1 refl
 ok_all [] c (w ∷ ws) d s = absurd (cc s.0)
 ok_all (k ∷ ks) make ws d s = rw (ok_read k ws s.0 s.1 s.2) (ok_all ks (make s.0) s.1 d s.3)
@@ -115,11 +115,11 @@ comment_told (c ∷ cs) e = let same : c ≡ 35 = grind (arith, nat_tests, e) in
 told_comment : (w : Word) → IsComment w → is_comment w ≡ true
 told_comment w h = rw h.1 refl
 
-arguments_ok : (n : Name) (ws : List Word) (d : Command) → arguments n ws ≡ Ok d → Spells (kinds_of n) (build n) ws d
+arguments_ok : (n : Name) (ws : List Word) (d : Request) → arguments n ws ≡ Ok d → Spells (kinds_of n) (build n) ws d
 unfolding arguments
 arguments_ok n ws d e = all_ok (kinds_of n) (build n) ws d e
 
-ok_arguments : (n : Name) (ws : List Word) (d : Command) → Spells (kinds_of n) (build n) ws d → arguments n ws ≡ Ok d
+ok_arguments : (n : Name) (ws : List Word) (d : Request) → Spells (kinds_of n) (build n) ws d → arguments n ws ≡ Ok d
 unfolding arguments
 ok_arguments n ws d s = ok_all (kinds_of n) (build n) ws d s
 
@@ -133,7 +133,7 @@ err_arguments n ws f h = err_all (kinds_of n) (build n) ws f h
 
 -- ---- the words of a line
 
-pub words_ok : (ws : List Word) (d : Command) → command_of_words ws ≡ Ok d → WordsSpell ws d
+pub words_ok : (ws : List Word) (d : Request) → command_of_words ws ≡ Ok d → WordsSpell ws d
 words_ok [] d e = cc e
 words_ok (w ∷ ws) d e = elim (cases_Bool (is_comment w)) [
   | inl is ↦ let same : d ≡ Nothing = cc (rw is at e) in inl (comment_told w is, same)
@@ -147,7 +147,7 @@ words_ok (w ∷ ws) d e = elim (cases_Bool (is_comment w)) [
 named : (w : Word) (n : Name) → w ≡ word_of n → (is_comment w ≡ false) × (name_of w ≡ Some n)
 named w n e = (rw e (no_comment n), rw e (spelled_name n))
 
-ok_words : (ws : List Word) (d : Command) → WordsSpell ws d → command_of_words ws ≡ Ok d
+ok_words : (ws : List Word) (d : Request) → WordsSpell ws d → command_of_words ws ≡ Ok d
 ok_words [] d s = rw s refl
 ok_words (w ∷ ws) d s = elim s [
   | inl note ↦ rw (told_comment w note.0, note.1) refl
@@ -209,7 +209,7 @@ long_is n h = grind (arith, nat_tests, h)
 short_is : (n : ℕ) → n ≤ 65536 → nat_lt 65536 n ≡ false
 short_is n h = grind (arith, nat_tests, h)
 
-pub line_ok : (line : List ℕ) (d : Command) → command_of line ≡ Ok d → LineSpells line d
+pub line_ok : (line : List ℕ) (d : Request) → command_of line ≡ Ok d → LineSpells line d
 line_ok line d e = elim (cases_Bool (nat_lt 65536 (length line))) [
   | inl long ↦ absurd (cc (rw long at e))
   | inr short ↦ elim (cases_Bool (is_ascii line)) [
@@ -218,7 +218,7 @@ line_ok line d e = elim (cases_Bool (nat_lt 65536 (length line))) [
   ]
 ]
 
-pub ok_line : (line : List ℕ) (d : Command) → LineSpells line d → command_of line ≡ Ok d
+pub ok_line : (line : List ℕ) (d : Request) → LineSpells line d → command_of line ≡ Ok d
 ok_line line d s = rw (short_is (length line) s.0, told_ascii line s.1) (ok_words (words line) d s.2)
 
 pub line_err : (line : List ℕ) (f : Fault) → command_of line ≡ Err f → LineMisspells line f

@@ -7,8 +7,11 @@ use Rattle.euler_operators.specs.declared.Op.{Op}
 use Rattle.euler_operators.specs.declared.Op.TheVariants as op
 use Rattle.script_reader.specs.Words.{words}
 use Rattle.script_reader.specs.Places.{Word, Kind, Number, Integer, Half, AnyCorner, Place, Places, InOrOut, Meaning, ◌>>=◌, read}
-use Rattle.script_reader.specs.declared.command.Command.{Command}
-use Rattle.script_reader.specs.declared.command.Command.TheVariants as command
+use Rattle.commands.specs.declared.command.Change.TheVariants as change
+use Rattle.commands.specs.declared.command.Question.TheVariants as question
+use Rattle.commands.specs.declared.command.Command.TheVariants as command
+use Rattle.script_reader.specs.declared.command.Request.{Request}
+use Rattle.script_reader.specs.declared.command.Request.TheVariants as request
 use Rattle.script_reader.specs.declared.command.Fault.{Fault}
 use Rattle.script_reader.specs.declared.command.Fault.TheVariants.{BadWord, ExtraWord, NotAscii, LongLine}
 use Rattle.script_reader.specs.declared.name.Name.{Name}
@@ -69,9 +72,9 @@ kinds_of name.Undo = []
 kinds_of name.Redo = []
 kinds_of name.List = []
 
--- what makes a command of the values at these places
+-- what makes a request of the values at these places
 abbrev pub Builder : List Kind → Type 0
-Builder [] = Command
+Builder [] = Request
 Builder (k ∷ ks) = Meaning k → Builder ks
 
 -- the half-edge `+e` of a new edge, which a script gives by its number
@@ -83,50 +86,54 @@ abbrev pub ring_move : Way → ℕ → ℕ → Op
 ring_move way.In l f = op.RingIn l f
 ring_move way.Out l f = op.RingOut l f
 
+-- a line asks for one operator
+abbrev pub operator : Op → Request
+operator o = request.Give (command.Change (change.Act o))
+
 abbrev pub build : (n : Name) → Builder (kinds_of n)
-build name.Mvfs = λ s f l v p. command.Act (op.Mvfs s f l v p)
-build name.Kvfs = λ s. command.Act (op.Kvfs s)
-build name.Mev = λ c d e v p. command.Act (op.Mev c d (plus e) v p)
-build name.Kev = λ h. command.Act (op.Kev h)
-build name.Mef = λ g h e f l. command.Act (op.Mef g h (plus e) f l)
-build name.Kef = λ h. command.Act (op.Kef h)
-build name.Kemr = λ h l. command.Act (op.Kemr h l)
-build name.Mekr = λ c d e. command.Act (op.Mekr c d (plus e))
-build name.Kfmrh = λ f g. command.Act (op.Kfmrh f g)
-build name.Mfkrh = λ l f. command.Act (op.Mfkrh l f)
-build name.Ringmv = λ l f w. command.Act (ring_move w l f)
-build name.Lamina = λ s ps. command.Lamina s ps
-build name.Block = λ s p dx dy dz. command.Block s p dx dy dz
-build name.Sweep = λ f d. command.Sweep f d
-build name.Glue = λ f g. command.Glue f g
-build name.Split = λ s a b c d t. command.Split s (a ∷ b ∷ c ∷ d ∷ []) t
-build name.Plane = λ f. command.Plane f
-build name.Volume = λ s. command.Volume s
-build name.Count = λ s. command.Count s
-build name.Undo = command.Undo
-build name.Redo = command.Redo
-build name.List = command.List
+build name.Mvfs = λ s f l v p. operator (op.Mvfs s f l v p)
+build name.Kvfs = λ s. operator (op.Kvfs s)
+build name.Mev = λ c d e v p. operator (op.Mev c d (plus e) v p)
+build name.Kev = λ h. operator (op.Kev h)
+build name.Mef = λ g h e f l. operator (op.Mef g h (plus e) f l)
+build name.Kef = λ h. operator (op.Kef h)
+build name.Kemr = λ h l. operator (op.Kemr h l)
+build name.Mekr = λ c d e. operator (op.Mekr c d (plus e))
+build name.Kfmrh = λ f g. operator (op.Kfmrh f g)
+build name.Mfkrh = λ l f. operator (op.Mfkrh l f)
+build name.Ringmv = λ l f w. operator (ring_move w l f)
+build name.Lamina = λ s ps. request.Lamina s ps
+build name.Block = λ s p dx dy dz. request.Give (command.Change (change.Block s p dx dy dz))
+build name.Sweep = λ f d. request.Give (command.Change (change.Sweep f d))
+build name.Glue = λ f g. request.Give (command.Change (change.Glue f g))
+build name.Split = λ s a b c d t. request.Give (command.Change (change.Split s a b c d t))
+build name.Plane = λ f. request.Give (command.Ask (question.Plane f))
+build name.Volume = λ s. request.Give (command.Ask (question.Volume s))
+build name.Count = λ s. request.Give (command.Ask (question.Count s))
+build name.Undo = request.Give command.Undo
+build name.Redo = request.Give command.Redo
+build name.List = request.List
 
 -- ---- a line
 
 -- the places are read from the left, and then no word may be left
-abbrev pub read_all : (ks : List Kind) → Builder ks → List Word → Result Command Fault
+abbrev pub read_all : (ks : List Kind) → Builder ks → List Word → Result Request Fault
 read_all [] c [] = Ok c
 read_all [] c (w ∷ ws) = Err ExtraWord
 read_all (k ∷ ks) make ws = read k ws >>= λ x. read_all ks (make x.0) x.1
 
--- no word is left; or one is, and whatever the command is, that is the line's fault
+-- no word is left; or one is, and whatever the line asks for, that is its fault
 abbrev pub Ends : List Word → Result (Unit {0}) Fault → Type 0
 Ends ws (Ok x) = ws ≡ []
-Ends ws (Err e) = (c : Command) → read_all [] c ws ≡ Err e
+Ends ws (Err e) = (c : Request) → read_all [] c ws ≡ Err e
 
 abbrev pub name_of : Word → Option Name
 name_of word = find (λ n. bytes_eq word (word_of n)) names
 
-unfoldable pub arguments : Name → List Word → Result Command Fault
+unfoldable pub arguments : Name → List Word → Result Request Fault
 arguments n ws = read_all (kinds_of n) (build n) ws
 
-abbrev pub arguments_of : Option Name → List Word → Result Command Fault
+abbrev pub arguments_of : Option Name → List Word → Result Request Fault
 arguments_of None ws = Err BadWord
 arguments_of (Some n) ws = arguments n ws
 
@@ -135,14 +142,14 @@ abbrev pub is_comment : Word → Bool
 is_comment [] = false
 is_comment (c ∷ cs) = c == 35
 
-abbrev pub command_of_words : List Word → Result Command Fault
-command_of_words [] = Ok command.Nothing
-command_of_words (word ∷ ws) = if is_comment word then Ok command.Nothing else arguments_of (name_of word) ws
+abbrev pub command_of_words : List Word → Result Request Fault
+command_of_words [] = Ok request.Nothing
+command_of_words (word ∷ ws) = if is_comment word then Ok request.Nothing else arguments_of (name_of word) ws
 
 abbrev pub is_ascii : List ℕ → Bool
 is_ascii [] = true
 is_ascii (b ∷ line) = nat_lt b 128 && is_ascii line
 
--- the command of a line without its newline, or its first fault
-abbrev pub command_of : List ℕ → Result Command Fault
+-- what a line asks for, which is given without its newline, or its first fault
+abbrev pub command_of : List ℕ → Result Request Fault
 command_of line = if nat_lt 65536 (length line) then Err LongLine else (if is_ascii line then command_of_words (words line) else Err NotAscii)

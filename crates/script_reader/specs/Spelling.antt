@@ -8,8 +8,8 @@ use Rattle.euler_operators.specs.declared.Corner.TheVariants.{At, Lone}
 use Rattle.script_reader.specs.Words.{words}
 use Rattle.script_reader.specs.Places.{Word, Kind, Number, Integer, Half, AnyCorner, Place, Places, InOrOut, Meaning}
 use Rattle.script_reader.specs.Grammar.{Builder, kinds_of, build, word_of}
-use Rattle.script_reader.specs.declared.command.Command.{Command}
-use Rattle.script_reader.specs.declared.command.Command.TheVariants.{Nothing}
+use Rattle.script_reader.specs.declared.command.Request.{Request}
+use Rattle.script_reader.specs.declared.command.Request.TheVariants.{Nothing}
 use Rattle.script_reader.specs.declared.command.Fault.{Fault}
 use Rattle.script_reader.specs.declared.command.Fault.TheVariants.{BadWord, BadNumber, MissingWord, ExtraWord, NotAscii, LongLine}
 use Rattle.script_reader.specs.declared.name.Name.{Name}
@@ -123,7 +123,7 @@ Fails InOrOut ws fault = FailsWord BadWord SaysWay ws fault
 
 -- ---- all places
 
-abbrev pub Spells : (ks : List Kind) → Builder ks → List Word → Command → Type 0
+abbrev pub Spells : (ks : List Kind) → Builder ks → List Word → Request → Type 0
 Spells [] c ws d = (ws ≡ []) × (d ≡ c)
 Spells (k ∷ ks) make ws d = (x : Meaning k) × (rest : List Word) × Means k ws x rest × Spells ks (make x) rest d
 
@@ -139,7 +139,7 @@ Misspells (k ∷ ks) ws fault = Fails k ws fault ⊎ ((x : Meaning k) × (rest :
 abbrev pub IsComment : Word → Type 0
 IsComment w = (rest : Word) × (w ≡ 35 ∷ rest)
 
-abbrev pub WordsSpell : List Word → Command → Type 0
+abbrev pub WordsSpell : List Word → Request → Type 0
 WordsSpell [] c = c ≡ Nothing
 WordsSpell (w ∷ ws) c = (IsComment w × (c ≡ Nothing)) ⊎ ((n : Name) × (w ≡ word_of n) × Spells (kinds_of n) (build n) ws c)
 
@@ -152,7 +152,7 @@ IsAscii [] = Unit {0}
 IsAscii (b ∷ line) = (b ≤ 127) × IsAscii line
 
 -- the line spells the command
-abbrev pub LineSpells : List ℕ → Command → Type 0
+abbrev pub LineSpells : List ℕ → Request → Type 0
 LineSpells line c = (length line ≤ 65536) × IsAscii line × WordsSpell (words line) c
 
 -- the line is too long, or has a byte above 127, or its words are wrong from some word on

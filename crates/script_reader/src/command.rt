@@ -1,36 +1,21 @@
-//! The commands of a script, and the faults of a line.
+//! What a line of a script asks for, and the faults of a line.
 ghost use Rattle.std.specs.Prelude.{◌≡◌};
 ghost use Rattle.script_reader.specs.Fault.{code_of};
 
 use super::polygon::Polygon;
-use euler_operators::{Op, Point};
+use commands::Command;
 
 /// What a line of a script asks for. Numbers may be outside their ranges; who carries the command out tests them.
 #[derive(Drop)]
-pub enum Command<'a> {
-    /// A blank line or a comment.
+pub enum Request<'a> {
+    /// A blank line or a comment asks for nothing.
     Nothing,
-    /// One Euler operator.
-    Act(Op),
-    /// The new solid, and the points of its polygon.
-    Lamina(u32, Polygon<'a>),
-    /// The new solid, a corner, and the sizes along x, y and z.
-    Block(u32, Point, i64, i64, i64),
-    /// The face, and the vector by which it moves.
-    Sweep(u32, Point),
-    /// Two faces of two solids.
-    Glue(u32, u32),
-    /// The solid, the coefficients of the plane, and the new solid above it.
-    Split(u32, [i64; 4], u32),
-    /// The plane of a face.
-    Plane(u32),
-    /// The volume of a solid.
-    Volume(u32),
-    /// The vertices, edges, faces and rings of a solid.
-    Count(u32),
-    Undo,
-    Redo,
+    /// The listing of the model held.
     List,
+    /// The new solid of a lamina, and its polygon, whose points stay words of the line till it is made.
+    Lamina(u32, Polygon<'a>),
+    /// Any other command.
+    Give(Command<'a>),
 }
 
 /// Why a line is no command.

@@ -4,7 +4,7 @@ ghost use Rattle.std.specs.Prelude.{◌≡◌, ◌<◌, ◌≤◌, ℕ, List, []
 ghost use Rattle.script_reader.specs.Grammar.{command_of};
 ghost use Rattle.script_reader.specs.Lines.{lines_of};
 ghost use Rattle.script_reader.specs.Words.{words};
-ghost use Rattle.script_reader.specs.declared.command.Command.{Command};
+ghost use Rattle.script_reader.specs.declared.command.Request.{Request};
 ghost use Rattle.script_reader.specs.declared.command.Fault.{Fault};
 ghost use Rattle.script_reader.specs.Next.{Went};
 ghost use Rattle.script_reader.specs.State.{reader_of, line_of, IsFresh, IsStill};
@@ -58,6 +58,6 @@ pub fn the_end_stays<R: Read>()
 
 /// What is read is spelled so, and what is spelled so is read. A fault has its cause, the first from the left.
 pub fn reading_is_spelling()
-    ensures command { (line : List ℕ) (c : Command) → (command_of line ≡ Ok c) ↔ LineSpells line c }
+    ensures command { (line : List ℕ) (c : Request) → (command_of line ≡ Ok c) ↔ LineSpells line c }
     ensures fault { (line : List ℕ) (f : Fault) → (command_of line ≡ Err f) ↔ LineMisspells line f }
 {}

@@ -1,5 +1,5 @@
 #![tactic(auto)]
-//! Reads a script: its bytes as lines, and a line as a command or a fault.
+//! Reads a script: its bytes as lines, and a line as what it asks for, mostly a command, or as a fault.
 //!
 //! Each function of `laws` does nothing: its contract is a law of the lines or of the grammar.
 //!
@@ -11,7 +11,6 @@
 
 mod buffer;
 mod command;
-mod commands;
 mod laws;
 mod line;
 mod lines;
@@ -20,9 +19,10 @@ mod numbers;
 mod operators;
 mod places;
 mod polygon;
+mod reading;
 mod words;
 
-pub use command::{Command, Fault};
+pub use command::{Fault, Request};
 pub use laws::{
     lines_and_words_are_parts, lines_come_in_order, reading_is_spelling, the_end_stays,
 };

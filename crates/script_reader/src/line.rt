@@ -4,9 +4,9 @@ ghost use Rattle.script_reader.specs.Words.{words};
 ghost use Rattle.script_reader.specs.Grammar.{is_ascii, is_comment, command_of_words, command_of};
 
 use super::buffer::LINE_LIMIT;
-use super::command::{Command, Fault};
-use super::commands::arguments;
+use super::command::{Fault, Request};
 use super::name::name_of;
+use super::reading::arguments;
 use super::words::next_word;
 
 fn is_comment(word: &[u8]) -> bool
@@ -15,16 +15,16 @@ fn is_comment(word: &[u8]) -> bool
     matches!(word, [b'#', ..])
 }
 
-/// What the words of a line say, whatever its length and its other bytes. A command that does something is what `read_line` says of a line within
+/// What the words of a line say, whatever its length and its other bytes. A request for something is what `read_line` says of a line within
 /// the limit, since each of its bytes belongs to a word that was read, or separates two.
-pub fn read_words(line: &[u8]) -> Result<Command<'_>, Fault>
+pub fn read_words(line: &[u8]) -> Result<Request<'_>, Fault>
     ensures { result ≡ command_of_words (words line.now) }
 {
     let Some((word, rest)) = next_word(line) else {
-        return Ok(Command::Nothing);
+        return Ok(Request::Nothing);
     };
     if is_comment(word) {
-        return Ok(Command::Nothing);
+        return Ok(Request::Nothing);
     }
     let name = name_of(word).ok_or(Fault::BadWord)?;
     arguments(name, rest)
@@ -46,8 +46,8 @@ pub fn is_ascii(line: &[u8]) -> bool
     line.is_ascii()
 }
 
-/// The command of a line, which is given without its newline, or the line's first fault. It takes no memory.
-pub fn read_line(line: &[u8]) -> Result<Command<'_>, Fault>
+/// What a line asks for, which is given without its newline, or the line's first fault. It takes no memory.
+pub fn read_line(line: &[u8]) -> Result<Request<'_>, Fault>
     ensures { result ≡ command_of line.now }
 {
     if is_long(line) {

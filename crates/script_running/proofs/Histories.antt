@@ -1,25 +1,33 @@
 -- A line is a call of a history, and a run tells one.
-use Rattle.std.proofs.Common.{◌≡◌, inl, inr, ℕ, suc, Bool, List, [], ◌∷◌, ◌++◌, length, Option, Some, None, Ok, Err, refl, sym, ap, subst, ◌∙◌, arith}
+use Rattle.std.proofs.Common.{◌≡◌, inl, inr, ℕ, suc, Bool, List, [], ◌∷◌, ◌++◌, length, Option, None, Ok, Err, refl, sym, ap, subst, ◌∙◌, arith}
 use Rattle.std.specs.Prelude.{Result, IfOk}
 use Rattle.std.proofs.lemmas.List.{append-nil}
 use Rattle.euler_operators.specs.Sound.{Sound}
 use Rattle.euler_operators.specs.declared.Refusal.{Refusal}
-use Rattle.undo_journal.specs.Machine.{Machine, start, held, act, act_refusal, undo, undo_refusal, redo, redo_refusal}
+use Rattle.undo_journal.specs.Machine.{Machine, start, held, accepted, act}
+use Rattle.undo_journal.specs.Journal.{Journal, new_journal}
 use Rattle.undo_journal.specs.Histories as histories
 use Rattle.undo_journal.specs.Histories.{Call, unless, after_call, after_calls, IsConsistent}
 use Rattle.undo_journal.specs.Laws.{HistoriesAreConsistent}
-use Rattle.sweeps.specs.Machine.{lamina, lamina_refusal, block, block_refusal, sweep, sweep_refusal}
+use Rattle.undo_journal.proofs.Journals.{same_machine}
 use Rattle.sweeps.specs.Calls.{LaminasAreCalls, BlocksAreCalls, SweepsAreCalls}
-use Rattle.gluing.specs.Machine.{glue, glue_refusal}
 use Rattle.gluing.specs.Calls.{GluesAreCalls}
-use Rattle.plane_split.specs.Machine.{split, split_refusal}
+use Rattle.plane_split.specs.Machine.{plane_with}
 use Rattle.plane_split.specs.Calls.{SplitsAreCalls}
-use Rattle.script_reader.specs.declared.command.Command.{Command}
-use Rattle.script_reader.specs.declared.command.Command.TheVariants as command
+use Rattle.commands.specs.declared.command.Change.{Change}
+use Rattle.commands.specs.declared.command.Change.TheVariants as change
+use Rattle.commands.specs.declared.command.Command.{Command}
+use Rattle.commands.specs.declared.command.Command.TheVariants as command
+use Rattle.commands.specs.declared.command.Told.{Told}
+use Rattle.commands.specs.Changes.{refusal_of, made}
+use Rattle.commands.specs.Telling.{Settled, TellsSession}
+use Rattle.commands.proofs.Settling.{ended}
+use Rattle.script_reader.specs.declared.command.Request.{Request}
+use Rattle.script_reader.specs.declared.command.Request.TheVariants as request
 use Rattle.script_reader.specs.declared.command.Fault.{Fault}
 use Rattle.script_reader.specs.Grammar.{command_of}
 use Rattle.script_reader.specs.Lines.{lines_of, within_limit}
-use Rattle.script_running.specs.script_judging.Judging.{Moves, Acts, Tries, Obeys, Answers, Judges, given_plane, answer_text}
+use Rattle.script_running.specs.script_judging.Judging.{Obeys, Answers, Judges, answer_text}
 use Rattle.script_running.specs.Outs.{Outs}
 use Rattle.script_running.specs.Runs.{BreaksOff, Served, WriteFails}
 use Rattle.script_running.specs.Runs as runs
@@ -39,39 +47,38 @@ pub record LawsBelow : Type 0 where
   pub split : SplitsAreCalls
   pub consistent : HistoriesAreConsistent
 
-stays : (s t : Machine) → t ≡ s → IsCall s t
-stays s t e = record { call = histories.stopped; leads = sym e }
+stays : (s t : Journal) → t ≡ s → IsCall s.machine t.machine
+stays s t e = record { call = histories.stopped; leads = sym (same_machine e) }
 
-acts : (o : Option Refusal) (s next t : Machine) (a : Answer) → (o ≡ None → IsCall s next) → Acts o s next a t → IsCall s t
-acts None s next t a goes (inl h) = subst (IsCall s) (sym h.1) (goes refl)
-acts None s next t a goes (inr h) = stays s t h.1
-acts (Some r) s next t a goes h = stays s t h.1
+settles : (o : Option Refusal) (L G : Type 0) (s t : Journal) (b : Told) → (o ≡ None → G → IsCall s.machine t.machine) → Settled o L (t ≡ s) G b → IsCall s.machine t.machine
+settles o L G s t b goes h = elim (ended o L (t ≡ s) G b h) [
+  | inl done ↦ goes done.1 done.2
+  | inr (inl refused) ↦ stays s t refused.3
+  | inr (inr memory) ↦ stays s t memory.1
+]
 
-tries : (o : Option Refusal) (s next t : Machine) (a : Answer) → (o ≡ None → IsCall s next) → Tries o s next a t → IsCall s t
-tries o s next t a goes (inl h) = acts o s next t a goes h
-tries o s next t a goes (inr h) = stays s t h.1
+changes : LawsBelow → (s : Machine) (c : Change) → Sound (held s) → refusal_of (held s) c ≡ None → IsCall s (accepted s (made (held s) c))
+changes l s (change.Act op) k goes = record { call = histories.acted op; leads = ap (λ (o : Option Refusal). unless o (act s op) s) goes }
+changes l s (change.Lamina n ps) k goes = record { call = histories.made _; leads = l.lamina s n ps k goes }
+changes l s (change.Block n p dx dy dz) k goes = record { call = histories.made _; leads = l.block s n p dx dy dz k goes }
+changes l s (change.Sweep f d) k goes = record { call = histories.made _; leads = l.sweep s f d k goes }
+changes l s (change.Glue f g) k goes = record { call = histories.made _; leads = l.glue s f g k goes }
+changes l s (change.Split n x y z w m) k goes = record { call = histories.made _; leads = l.split s n (plane_with x y z w) m k goes }
 
-moves : (o : Option Refusal) (s next t : Machine) (a : Answer) → IsCall s next → Moves o s next a t → IsCall s t
-moves None s next t a goes h = subst (IsCall s) (sym h.1) goes
-moves (Some r) s next t a goes h = stays s t h.1
+tells : LawsBelow → (s t : Journal) (c : Command) (b : Told) → Sound (held s.machine) → TellsSession s c b t → IsCall s.machine t.machine
+tells l s t (command.Change c) b k h = settles _ _ _ s t b (λ none goes. subst (IsCall s.machine) (sym goes.0) (changes l s.machine c k none)) h
+tells l s t (command.Ask q) b k h = stays s t h.1
+tells l s t command.Undo b k h = settles _ _ _ s t b (λ none goes. subst (IsCall s.machine) (sym (same_machine goes)) (record { call = histories.undone; leads = refl })) h
+tells l s t command.Redo b k h = settles _ _ _ s t b (λ none goes. subst (IsCall s.machine) (sym (same_machine goes)) (record { call = histories.redone; leads = refl })) h
 
-obeys : LawsBelow → (s t : Machine) (c : Command) (a : Answer) → Sound (held s) → Obeys s c a t → IsCall s t
-obeys l s t command.Nothing a k h = stays s t h.1
-obeys l s t (command.Act op) a k h = acts (act_refusal s op) s (act s op) t a (λ goes. record { call = histories.acted op; leads = ap (λ (o : Option Refusal). unless o (act s op) s) goes }) h
-obeys l s t (command.Lamina n ps) a k h = acts (lamina_refusal s n ps) s (lamina s n ps) t a (λ goes. record { call = histories.made _; leads = l.lamina s n ps k goes }) h
-obeys l s t (command.Block n p dx dy dz) a k h = acts (block_refusal s n p dx dy dz) s (block s n p dx dy dz) t a (λ goes. record { call = histories.made _; leads = l.block s n p dx dy dz k goes }) h
-obeys l s t (command.Sweep f d) a k h = acts (sweep_refusal s f d) s (sweep s f d) t a (λ goes. record { call = histories.made _; leads = l.sweep s f d k goes }) h
-obeys l s t (command.Glue f g) a k h = tries (glue_refusal s f g) s (glue s f g) t a (λ goes. record { call = histories.made _; leads = l.glue s f g k goes }) h
-obeys l s t (command.Split n cs m) a k h = tries (split_refusal s n (given_plane cs) m) s (split s n (given_plane cs) m) t a (λ goes. record { call = histories.made _; leads = l.split s n (given_plane cs) m k goes }) h
-obeys l s t (command.Plane f) a k h = stays s t h.1
-obeys l s t (command.Volume n) a k h = stays s t h.1
-obeys l s t (command.Count n) a k h = stays s t h.1
-obeys l s t command.Undo a k h = moves (undo_refusal s) s (undo s) t a (record { call = histories.undone; leads = refl }) h
-obeys l s t command.Redo a k h = moves (redo_refusal s) s (redo s) t a (record { call = histories.redone; leads = refl }) h
-obeys l s t command.List a k h = stays s t h.1
+obeys : LawsBelow → (s t : Journal) (r : Request) (a : Answer) → Sound (held s.machine) → Obeys s r a t → IsCall s.machine t.machine
+obeys l s t request.Nothing a k h = stays s t h.1
+obeys l s t request.List a k h = stays s t h.1
+obeys l s t (request.Lamina n ps) a k h = tells l s t (command.Change (change.Lamina n ps)) h.0 k h.2
+obeys l s t (request.Give c) a k h = tells l s t c h.0 k h.2
 
-answers : LawsBelow → (s t : Machine) (c : Result Command Fault) (a : Answer) → Sound (held s) → Answers s c a t → IsCall s t
-answers l s t (Ok c) a k h = obeys l s t c a k h
+answers : LawsBelow → (s t : Journal) (r : Result Request Fault) (a : Answer) → Sound (held s.machine) → Answers s r a t → IsCall s.machine t.machine
+answers l s t (Ok r) a k h = obeys l s t r a k h
 answers l s t (Err f) a k h = stays s t h.1
 
 pub lines_are_calls : LawsBelow → LinesAreCalls
@@ -92,70 +99,72 @@ goes_on s t h c = record {
 }
 
 pub lines_lead_on : LawsBelow → LinesLeadOn
-lines_lead_on l s t line a h judged = goes_on s t h (lines_are_calls l s t line a (histories_make_consistent l s h).held_sound judged)
+lines_lead_on l s t line a h judged = goes_on s.machine t.machine h (lines_are_calls l s t line a (histories_make_consistent l s.machine h).held_sound judged)
 
 -- so many turns that some lines take, whose texts are what was written
-record Takes (s : Machine) (lines : List (List ℕ)) (out : List ℕ) (n : ℕ) : Type 0 where
+record Takes (s : Journal) (lines : List (List ℕ)) (out : List ℕ) (n : ℕ) : Type 0 where
   turns : List Turn
   taken : TakeTurns s lines turns
-  text : texts s turns ≡ out
+  text : texts turns ≡ out
   count : length turns ≡ n
 
--- a turn is taken on the machine to which its call leads
-module _ (l : LawsBelow) (s t : Machine) (line : List ℕ) (a : Answer) (h : HasHistory s) (judged : Judges s line a t) where
-  is_turn : HasHistory t → IsTurn s line a t
-  is_turn g =
-      let later = histories_make_consistent l t g in
-      record { judged = judged; before = histories_make_consistent l s h; after = later; listed = λ e. (held t, later.held_sound, ap (answer_text t) e) }
+-- a turn is taken in a session to which a list of calls leads
+module _ (l : LawsBelow) (s t : Journal) (line : List ℕ) (a : Answer) (h : HasHistory s.machine) (judged : Judges s line a t) where
+  call : IsCall s.machine t.machine
+  call = lines_are_calls l s t line a (histories_make_consistent l s.machine h).held_sound judged
 
-  call : IsCall s t
-  call = lines_are_calls l s t line a (histories_make_consistent l s h).held_sound judged
+  one_turn : Turn
+  one_turn = record { call = call.call; answer = a; next = t }
+
+  is_turn : IsTurn s line one_turn
+  unfolding one_turn
+  is_turn =
+      let later = histories_make_consistent l t.machine (goes_on s.machine t.machine h call) in
+      record { judged = judged; called = call.leads; before = histories_make_consistent l s.machine h; after = later; listed = λ e. (held t.machine, later.held_sound, ap (answer_text t.machine) e) }
 
   -- one turn, and those of the lines after it
-  takes : (lines : List (List ℕ)) (rest : List ℕ) (n : ℕ) → Takes t lines rest n → Takes s (line ∷ lines) (answer_text t a ++ rest) (suc n)
+  takes : (lines : List (List ℕ)) (rest : List ℕ) (n : ℕ) → Takes t lines rest n → Takes s (line ∷ lines) (answer_text t.machine a ++ rest) (suc n)
+  unfolding one_turn
   takes lines rest n later = record {
-    turns = record { call = call.call; answer = a } ∷ later.turns;
-    taken = (
-      subst (IsTurn s line a) (sym call.leads) (is_turn (goes_on s t h call)),
-      subst (λ (m : Machine). TakeTurns m lines later.turns) (sym call.leads) later.taken,
-    );
-    text = ap (λ (m : Machine). answer_text m a ++ texts m later.turns) call.leads ∙ ap (λ (text : List ℕ). answer_text t a ++ text) later.text;
+    turns = one_turn ∷ later.turns;
+    taken = (is_turn, later.taken);
+    text = ap (λ (text : List ℕ). answer_text t.machine a ++ text) later.text;
     count = ap suc later.count;
   }
 
-no_turns : (s : Machine) (lines : List (List ℕ)) → Takes s lines [] 0
+no_turns : (s : Journal) (lines : List (List ℕ)) → Takes s lines [] 0
 no_turns s lines = record { turns = []; taken = tt; text = refl; count = refl }
 
-takes_so : (s : Machine) (lines : List (List ℕ)) (out text : List ℕ) (n m : ℕ) → out ≡ text → n ≡ m → Takes s lines text m → Takes s lines out n
+takes_so : (s : Journal) (lines : List (List ℕ)) (out text : List ℕ) (n m : ℕ) → out ≡ text → n ≡ m → Takes s lines text m → Takes s lines out n
 takes_so s lines out text n m e f h = rw (e, f) h
 
-outs_take : LawsBelow → (stop : Bool) (s : Machine) (lines : List (List ℕ)) (out : List ℕ) (n : Summary) → HasHistory s → Outs stop s lines out n → Takes s lines out n.lines
+outs_take : LawsBelow → (stop : Bool) (s : Journal) (lines : List (List ℕ)) (out : List ℕ) (n : Summary) → HasHistory s.machine → Outs stop s lines out n → Takes s lines out n.lines
 outs_take l stop s [] out n h o = takes_so s [] out [] n.lines 0 o.0 (ap (λ (m : Summary). m.lines) o.1) (no_turns s [])
 outs_take l stop s (line ∷ lines) out n h (a, t, judged, inl last) =
-    takes_so s (line ∷ lines) out (answer_text t a ++ []) n.lines 1 (last.1 ∙ sym (append-nil (answer_text t a))) (ap (λ (m : Summary). m.lines) last.2 ∙ one_more a)
+    takes_so s (line ∷ lines) out (answer_text t.machine a ++ []) n.lines 1 (last.1 ∙ sym (append-nil (answer_text t.machine a))) (ap (λ (m : Summary). m.lines) last.2 ∙ one_more a)
     (takes l s t line a h judged lines [] 0 (no_turns t lines))
 outs_take l stop s (line ∷ lines) out n h (a, t, judged, inr (calm, (rest, k, text, counts, later))) =
     let next = lines_lead_on l s t line a h judged in
-    takes_so s (line ∷ lines) out (answer_text t a ++ rest) n.lines (suc k.lines) text (omega (arith, ap (λ (m : Summary). m.lines) counts, one_more a))
+    takes_so s (line ∷ lines) out (answer_text t.machine a ++ rest) n.lines (suc k.lines) text (omega (arith, ap (λ (m : Summary). m.lines) counts, one_more a))
     (takes l s t line a h judged lines rest k.lines (outs_take l stop t lines rest k next later))
 
 -- a new session has a history: no call
-outs_tell : LawsBelow → (stop : Bool) (lines : List (List ℕ)) (out : List ℕ) (n : Summary) → Outs stop start lines out n → Takes start lines out n.lines
-outs_tell l stop lines out n o = outs_take l stop start lines out n (record { calls = []; lead = refl }) o
+outs_tell : LawsBelow → (stop : Bool) (lines : List (List ℕ)) (out : List ℕ) (n : Summary) → Outs stop new_journal lines out n → Takes new_journal lines out n.lines
+outs_tell l stop lines out n o = outs_take l stop new_journal lines out n (record { calls = []; lead = refl }) o
 
 -- turns of the first lines, whatever lines come after
-take_more : (s : Machine) (lines more : List (List ℕ)) (turns : List Turn) → TakeTurns s lines turns → TakeTurns s (lines ++ more) turns
+take_more : (s : Journal) (lines more : List (List ℕ)) (turns : List Turn) → TakeTurns s lines turns → TakeTurns s (lines ++ more) turns
 take_more s lines more [] h = tt
 take_more s [] more (turn ∷ turns) h = absurd h
-take_more s (line ∷ lines) more (turn ∷ turns) h = (h.0, take_more (after_call s turn.call) lines more turns h.1)
+take_more s (line ∷ lines) more (turn ∷ turns) h = (h.0, take_more turn.next lines more turns h.1)
 
-takes_more : (s : Machine) (lines more all : List (List ℕ)) (out : List ℕ) (n : ℕ) → all ≡ lines ++ more → Takes s lines out n → Takes s all out n
+takes_more : (s : Journal) (lines more all : List (List ℕ)) (out : List ℕ) (n : ℕ) → all ≡ lines ++ more → Takes s lines out n → Takes s all out n
 takes_more s lines more all out n e h =
     subst (λ (ls : List (List ℕ)). Takes s ls out n) (sym e) (record { turns = h.turns; taken = take_more s lines more h.turns h.taken; text = h.text; count = h.count })
 
 -- all that was told is written
 all_written : (reader old new : Option (List ℕ)) (moved : runs.Moves reader new old) (result : Result Summary RunFault) (n : ℕ) → IfOk result (λ summary. n ≡ summary.lines)
-    → Takes start (lines_of (within_limit 0 moved.given)) moved.out n → TellsHistory reader old new moved result
+    → Takes new_journal (lines_of (within_limit 0 moved.given)) moved.out n → TellsHistory reader old new moved result
 all_written reader old new moved (Ok summary) n same h =
     record { turns = h.turns; taken = h.taken; unwritten = []; text = h.text ∙ sym (append-nil moved.out); whole = λ other. refl; each = h.count ∙ same }
 all_written reader old new moved (Err f) n same h = record { turns = h.turns; taken = h.taken; unwritten = []; text = h.text ∙ sym (append-nil moved.out); whole = λ other. refl; each = tt }
@@ -166,19 +175,19 @@ no_more given = ap lines_of (sym (append-nil (within_limit 0 given)))
 
 broken_off : LawsBelow → (reader old new : Option (List ℕ)) (stop : Bool) (f : RunFault) (b : BreaksOff reader old new stop) → TellsHistory reader old new b.moves (Err f)
 broken_off l reader old new stop f b = all_written reader old new b.moves (Err f) b.counts.lines tt
-    (takes_more start b.judged (lines_of b.unfinished) (lines_of (within_limit 0 b.moves.given)) b.moves.out b.counts.lines b.lines (outs_tell l stop b.judged b.moves.out b.counts b.outs))
+    (takes_more new_journal b.judged (lines_of b.unfinished) (lines_of (within_limit 0 b.moves.given)) b.moves.out b.counts.lines b.lines (outs_tell l stop b.judged b.moves.out b.counts b.outs))
 
 served : LawsBelow → (reader old new : Option (List ℕ)) (stop : Bool) (summary : Summary) (s : Served reader old new stop summary) → TellsHistory reader old new s.moves (Ok summary)
 served l reader old new stop summary s =
     let given = s.moves.given in
-    all_written reader old new s.moves (Ok summary) summary.lines refl (subst (λ (ls : List (List ℕ)). Takes start ls s.moves.out summary.lines) (sym (no_more given))
+    all_written reader old new s.moves (Ok summary) summary.lines refl (subst (λ (ls : List (List ℕ)). Takes new_journal ls s.moves.out summary.lines) (sym (no_more given))
     (outs_tell l stop (lines_of (within_limit 0 given ++ [])) s.moves.out summary (s.outs [] (λ e. refl))))
 
 write_failed : LawsBelow → (reader old new : Option (List ℕ)) (stop : Bool) (w : WriteFails reader old new stop) → TellsHistory reader old new w.moves (Err fault.Write)
 write_failed l reader old new stop w =
     let given = w.moves.given in
     let begun = w.begun [] (λ e. refl) in
-    let told = subst (λ (ls : List (List ℕ)). Takes start ls (w.moves.out ++ begun.0) begun.1.lines) (sym (no_more given))
+    let told = subst (λ (ls : List (List ℕ)). Takes new_journal ls (w.moves.out ++ begun.0) begun.1.lines) (sym (no_more given))
     (outs_tell l stop (lines_of (within_limit 0 given ++ [])) (w.moves.out ++ begun.0) begun.1 begun.2) in
     record { turns = told.turns; taken = told.taken; unwritten = begun.0; text = told.text; whole = λ other. absurd (other refl); each = tt }
 

@@ -4,19 +4,31 @@ use Rattle.std.specs.Prelude.{◌⊎◌, Result, if◌then◌else◌}
 use Rattle.std.proofs.lemmas.List.{append-nil}
 use Rattle.std.proofs.lemmas.Bool.{false≢true}
 use Rattle.euler_operators.specs.declared.Refusal.{Refusal}
-use Rattle.undo_journal.specs.Machine.{Machine}
-use Rattle.script_reader.specs.declared.command.Command.{Command}
-use Rattle.script_reader.specs.declared.command.Command.TheVariants as command
+use Rattle.euler_operators.specs.Model.{Model}
+use Rattle.undo_journal.specs.Machine.{Machine, held, accepted}
+use Rattle.undo_journal.specs.Journal.{Journal, IsRecorded, recorded, after_undo, after_redo}
+use Rattle.undo_journal.specs.declared.record.Record.{Record}
+use Rattle.undo_journal.proofs.Journals.{same_machine}
+use Rattle.commands.specs.declared.command.Question.{Question}
+use Rattle.commands.specs.declared.command.Question.TheVariants as question
+use Rattle.commands.specs.declared.command.Change.TheVariants as change
+use Rattle.commands.specs.declared.command.Command.{Command}
+use Rattle.commands.specs.declared.command.Command.TheVariants as command
+use Rattle.commands.specs.declared.command.Told.{Told}
+use Rattle.commands.specs.declared.command.Told.TheVariants as told
+use Rattle.commands.specs.Changes.{made}
+use Rattle.commands.specs.Telling.{Settled, TellsSession, asked, value_or_refusal}
+use Rattle.script_reader.specs.declared.command.Request.{Request}
+use Rattle.script_reader.specs.declared.command.Request.TheVariants as request
 use Rattle.script_reader.specs.declared.command.Fault.{Fault}
 use Rattle.script_reader.specs.Grammar.{command_of}
-use Rattle.solid_listing.specs.declared.reply.Reply.{Reply}
 use Rattle.solid_listing.specs.declared.reply.Reply.TheVariants as reply
-use Rattle.solid_measure.specs.Measure.{answer}
-use Rattle.script_running.specs.script_judging.Judging.{Moves, Acts, Tries, Obeys, Answers, Judges, told, answer_text, one_line, counted}
+use Rattle.solid_measure.specs.Measure.{answer, face_refusal, solid_refusal, plane_of, is_flat, six_volume, counts}
+use Rattle.script_running.specs.script_judging.Judging.{done, answer_when, Gives, Obeys, Answers, Judges, answer_text, one_line, counted}
 use Rattle.script_running.specs.Outs.{stops, Outs}
-use Rattle.script_running.specs.Output.{moved, obeyed, answered, answer_of, machine_after, output_from, summary_from}
+use Rattle.script_running.specs.Output.{moved, given, obeyed, answered, answer_of, machine_after, output_from, summary_from}
 use Rattle.script_running.specs.declared.script_judging.judging.Answer.{Answer}
-use Rattle.script_running.specs.declared.script_judging.judging.Answer.TheVariants.{Reply as Told}
+use Rattle.script_running.specs.declared.script_judging.judging.Answer.TheVariants.{Reply as Says}
 use Rattle.script_running.specs.declared.script_judging.judging.Summary.{Summary}
 
 -- memory isn't told
@@ -24,80 +36,82 @@ abbrev IsQuiet : Answer → Type 0
 IsQuiet a = (one_line a).memory ≡ 0
 
 -- the answer and the machine after it are those of the function
-abbrev IsTurn : Answer → Machine → Answer × Machine → Type 0
-IsTurn a t turn = (a ≡ turn.0) × (t ≡ turn.1)
+abbrev IsTurn : Answer → Journal → Answer × Machine → Type 0
+IsTurn a t turn = (a ≡ turn.0) × (t.machine ≡ turn.1)
 
-not_told : (a : Answer) → a ≡ Told reply.Memory → IsQuiet a → ⊥
+not_told : (a : Answer) → a ≡ Says reply.Memory → IsQuiet a → ⊥
 not_told a e quiet = omega (arith, subst (λ (b : Answer). (one_line b).memory ≡ 0) e quiet)
 
 -- ---- what may be answered without `memory` is the function's
 
-moves_so : (o : Option Refusal) (s next : Machine) (a : Answer) (t : Machine) → Moves o s next a t → IsTurn a t (moved o s next)
-moves_so None s next a t p = p
-moves_so (Some r) s next a t p = p
+settled_so : (o : Option Refusal) (L G : Type 0) (s t : Journal) (next : Machine) (b : Told) → (G → t.machine ≡ next) → Settled o L (t ≡ s) G b → IsQuiet (answer_when b) → IsTurn (answer_when b) t (moved o s.machine next)
+settled_so o L G s t next told.Done goes h x = subst (λ (q : Option Refusal). IsTurn done t (moved q s.machine next)) (sym h.0) (refl, goes h.1)
+settled_so o L G s t next (told.Refused r) goes h x = subst (λ (q : Option Refusal). IsTurn (answer_when (told.Refused r)) t (moved q s.machine next)) (sym h.0) (refl, same_machine h.1)
+settled_so o L G s t next told.Memory goes h x = absurd (not_told (Says reply.Memory) refl x)
+settled_so o L G s t next told.InDraft goes h x = absurd h
+settled_so o L G s t next told.NoDraft goes h x = absurd h
+settled_so o L G s t next (told.Plane p flat) goes h x = absurd h
+settled_so o L G s t next (told.Volume n) goes h x = absurd h
+settled_so o L G s t next (told.Counts n) goes h x = absurd h
+settled_so o L G s t next (told.Steps n) goes h x = absurd h
 
-acts_so : (o : Option Refusal) (s next : Machine) (a : Answer) (t : Machine) → Acts o s next a t → IsQuiet a → IsTurn a t (moved o s next)
-acts_so None s next a t (inl p) x = p
-acts_so None s next a t (inr p) x = absurd (not_told a p.0 x)
-acts_so (Some r) s next a t p x = p
+tells_so : (s t : Journal) (c : Command) (b : Told) → TellsSession s c b t → IsQuiet (answer_when b) → IsTurn (answer_when b) t (given s.machine c)
+tells_so s t (command.Change c) b h x = settled_so _ _ _ s t _ b (λ g. g.0) h x
+tells_so s t (command.Ask q) b h x = (ap answer_when h.0, same_machine h.1)
+tells_so s t command.Undo b h x = settled_so _ _ _ s t _ b same_machine h x
+tells_so s t command.Redo b h x = settled_so _ _ _ s t _ b same_machine h x
 
-tries_so : (o : Option Refusal) (s next : Machine) (a : Answer) (t : Machine) → Tries o s next a t → IsQuiet a → IsTurn a t (moved o s next)
-tries_so o s next a t (inl p) x = acts_so o s next a t p x
-tries_so o s next a t (inr p) x = absurd (not_told a p.0 x)
+gives_so : (s t : Journal) (c : Command) (a : Answer) → Gives s c a t → IsQuiet a → IsTurn a t (given s.machine c)
+gives_so s t c a (b, is, h) x = subst (λ (z : Answer). IsTurn z t (given s.machine c)) (sym is) (tells_so s t c b h (subst (λ (z : Answer). IsQuiet z) is x))
 
-obeys_so : (s : Machine) (c : Command) (a : Answer) (t : Machine) → Obeys s c a t → IsQuiet a → IsTurn a t (obeyed s c)
-obeys_so s command.Nothing a t p x = p
-obeys_so s (command.Act op) a t p x = acts_so _ s _ a t p x
-obeys_so s (command.Lamina n ps) a t p x = acts_so _ s _ a t p x
-obeys_so s (command.Block n r dx dy dz) a t p x = acts_so _ s _ a t p x
-obeys_so s (command.Sweep f d) a t p x = acts_so _ s _ a t p x
-obeys_so s (command.Glue f g) a t p x = tries_so _ s _ a t p x
-obeys_so s (command.Split n cs m) a t p x = tries_so _ s _ a t p x
-obeys_so s (command.Plane f) a t p x = p
-obeys_so s (command.Volume n) a t p x = p
-obeys_so s (command.Count n) a t p x = p
-obeys_so s command.Undo a t p x = moves_so _ s _ a t p
-obeys_so s command.Redo a t p x = moves_so _ s _ a t p
-obeys_so s command.List a t p x = p
+obeys_so : (s t : Journal) (r : Request) (a : Answer) → Obeys s r a t → IsQuiet a → IsTurn a t (obeyed s.machine r)
+obeys_so s t request.Nothing a h x = (h.0, same_machine h.1)
+obeys_so s t request.List a h x = (h.0, same_machine h.1)
+obeys_so s t (request.Lamina n ps) a h x = gives_so s t (command.Change (change.Lamina n ps)) a h x
+obeys_so s t (request.Give c) a h x = gives_so s t c a h x
 
-answers_so : (s : Machine) (r : Result Command Fault) (a : Answer) (t : Machine) → Answers s r a t → IsQuiet a → IsTurn a t (answered s r)
-answers_so s (Ok c) a t p x = obeys_so s c a t p x
-answers_so s (Err f) a t p x = p
+answers_so : (s t : Journal) (r : Result Request Fault) (a : Answer) → Answers s r a t → IsQuiet a → IsTurn a t (answered s.machine r)
+answers_so s t (Ok r) a h x = obeys_so s t r a h x
+answers_so s t (Err f) a h x = (h.0, same_machine h.1)
 
-pub judges_so : (s : Machine) (line : List ℕ) (a : Answer) (t : Machine) → Judges s line a t → IsQuiet a → (a ≡ answer_of s line) × (t ≡ machine_after s line)
+pub judges_so : (s t : Journal) (line : List ℕ) (a : Answer) → Judges s line a t → IsQuiet a → (a ≡ answer_of s.machine line) × (t.machine ≡ machine_after s.machine line)
 unfolding answer_of machine_after
-judges_so s line a t p x = answers_so s (command_of line) a t p x
+judges_so s t line a h x = answers_so s t (command_of line) a h x
 
 -- ---- what the function gives may be answered, and isn't `memory`
 
-moves_to : (o : Option Refusal) (s next : Machine) → Moves o s next (moved o s next).0 (moved o s next).1
-moves_to None s next = (refl, refl)
-moves_to (Some r) s next = (refl, refl)
+-- a session that may be gone on to with this answer, on this machine
+abbrev Leads : (Answer → Journal → Type 0) → Answer × Machine → Type 0
+Leads R turn = (t : Journal) × R turn.0 t × (t.machine ≡ turn.1)
 
-acts_to : (o : Option Refusal) (s next : Machine) → Acts o s next (moved o s next).0 (moved o s next).1
-acts_to None s next = inl (refl, refl)
-acts_to (Some r) s next = (refl, refl)
+settled_to : (o : Option Refusal) (L : Type 0) (s u : Journal) (G : Journal → Type 0) → G u
+    → Leads (λ a t. (b : Told) × (a ≡ answer_when b) × Settled o L (t ≡ s) (G t) b) (moved o s.machine u.machine)
+settled_to None L s u G g = (u, (told.Done, refl, (refl, g)), refl)
+settled_to (Some r) L s u G g = (s, (told.Refused r, refl, (refl, refl)), refl)
 
-obeys_to : (s : Machine) (c : Command) → Obeys s c (obeyed s c).0 (obeyed s c).1
-obeys_to s command.Nothing = (refl, refl)
-obeys_to s (command.Act op) = acts_to _ s _
-obeys_to s (command.Lamina n ps) = acts_to _ s _
-obeys_to s (command.Block n r dx dy dz) = acts_to _ s _
-obeys_to s (command.Sweep f d) = acts_to _ s _
-obeys_to s (command.Glue f g) = inl (acts_to _ s _)
-obeys_to s (command.Split n cs m) = inl (acts_to _ s _)
-obeys_to s (command.Plane f) = (refl, refl)
-obeys_to s (command.Volume n) = (refl, refl)
-obeys_to s (command.Count n) = (refl, refl)
-obeys_to s command.Undo = moves_to _ s _
-obeys_to s command.Redo = moves_to _ s _
-obeys_to s command.List = (refl, refl)
+-- a record of no steps
+no_steps : Record
+no_steps = record { forward = []; back = [] }
 
-answers_to : (s : Machine) (r : Result Command Fault) → Answers s r (answered s r).0 (answered s r).1
-answers_to s (Ok c) = obeys_to s c
-answers_to s (Err f) = (refl, refl)
+gives_to : (s : Journal) (c : Command) → Leads (Gives s c) (given s.machine c)
+gives_to s (command.Change c) =
+    let next = accepted s.machine (made (held s.machine) c) in
+    settled_to _ _ s (record { machine = next; records = recorded s no_steps }) (λ (t : Journal). (t.machine ≡ next) × IsRecorded s t) (refl, record { command = no_steps; appended = refl })
+gives_to s (command.Ask q) = (s, (asked (held s.machine) q, refl, (refl, refl)), refl)
+gives_to s command.Undo = settled_to _ _ s (after_undo s) (λ (t : Journal). t ≡ after_undo s) refl
+gives_to s command.Redo = settled_to _ _ s (after_redo s) (λ (t : Journal). t ≡ after_redo s) refl
 
-pub judges_to : (s : Machine) (line : List ℕ) → Judges s line (answer_of s line) (machine_after s line)
+obeys_to : (s : Journal) (r : Request) → Leads (Obeys s r) (obeyed s.machine r)
+obeys_to s request.Nothing = (s, (refl, refl), refl)
+obeys_to s request.List = (s, (refl, refl), refl)
+obeys_to s (request.Lamina n ps) = gives_to s (command.Change (change.Lamina n ps))
+obeys_to s (request.Give c) = gives_to s c
+
+answers_to : (s : Journal) (r : Result Request Fault) → Leads (Answers s r) (answered s.machine r)
+answers_to s (Ok r) = obeys_to s r
+answers_to s (Err f) = (s, (refl, refl), refl)
+
+pub judges_to : (s : Journal) (line : List ℕ) → (t : Journal) × Judges s line (answer_of s.machine line) t × (t.machine ≡ machine_after s.machine line)
 unfolding answer_of machine_after
 judges_to s line = answers_to s (command_of line)
 
@@ -105,27 +119,29 @@ moved_quiet : (o : Option Refusal) (s next : Machine) → IsQuiet (moved o s nex
 moved_quiet None s next = refl
 moved_quiet (Some r) s next = refl
 
-told_quiet : (o : Option Refusal) (r : Reply) → IsQuiet (Told r) → IsQuiet (told (answer o r))
-told_quiet None r x = x
-told_quiet (Some f) r x = refl
+value_quiet : (o : Option Refusal) (b : Told) → IsQuiet (answer_when b) → IsQuiet (answer_when (value_or_refusal (answer o b)))
+value_quiet None b x = x
+value_quiet (Some r) b x = refl
 
-obeyed_quiet : (s : Machine) (c : Command) → IsQuiet (obeyed s c).0
-obeyed_quiet s command.Nothing = refl
-obeyed_quiet s (command.Act op) = moved_quiet _ s _
-obeyed_quiet s (command.Lamina n ps) = moved_quiet _ s _
-obeyed_quiet s (command.Block n r dx dy dz) = moved_quiet _ s _
-obeyed_quiet s (command.Sweep f d) = moved_quiet _ s _
-obeyed_quiet s (command.Glue f g) = moved_quiet _ s _
-obeyed_quiet s (command.Split n cs m) = moved_quiet _ s _
-obeyed_quiet s (command.Plane f) = told_quiet _ _ refl
-obeyed_quiet s (command.Volume n) = told_quiet _ _ refl
-obeyed_quiet s (command.Count n) = told_quiet _ _ refl
-obeyed_quiet s command.Undo = moved_quiet _ s _
-obeyed_quiet s command.Redo = moved_quiet _ s _
-obeyed_quiet s command.List = refl
+asked_quiet : (M : Model) (q : Question) → IsQuiet (answer_when (asked M q))
+asked_quiet M (question.Plane f) = value_quiet (face_refusal M f) (told.Plane (plane_of M f) (is_flat M f)) refl
+asked_quiet M (question.Volume n) = value_quiet (solid_refusal M n) (told.Volume (six_volume M n)) refl
+asked_quiet M (question.Count n) = value_quiet (solid_refusal M n) (told.Counts (counts M n)) refl
 
-answered_quiet : (s : Machine) (r : Result Command Fault) → IsQuiet (answered s r).0
-answered_quiet s (Ok c) = obeyed_quiet s c
+given_quiet : (s : Machine) (c : Command) → IsQuiet (given s c).0
+given_quiet s (command.Change c) = moved_quiet _ s _
+given_quiet s (command.Ask q) = asked_quiet (held s) q
+given_quiet s command.Undo = moved_quiet _ s _
+given_quiet s command.Redo = moved_quiet _ s _
+
+obeyed_quiet : (s : Machine) (r : Request) → IsQuiet (obeyed s r).0
+obeyed_quiet s request.Nothing = refl
+obeyed_quiet s request.List = refl
+obeyed_quiet s (request.Lamina n ps) = moved_quiet _ s _
+obeyed_quiet s (request.Give c) = given_quiet s c
+
+answered_quiet : (s : Machine) (r : Result Request Fault) → IsQuiet (answered s r).0
+answered_quiet s (Ok r) = obeyed_quiet s r
 answered_quiet s (Err f) = refl
 
 answer_quiet : (s : Machine) (line : List ℕ) → IsQuiet (answer_of s line)
@@ -135,12 +151,12 @@ answer_quiet s line = answered_quiet s (command_of line)
 -- ---- over all lines
 
 -- what is written and counted from an answer on
-abbrev pub After : Bool → List (List ℕ) → Answer → Machine → List ℕ → Summary → Type 0
-After stop lines a t out n = ((stops stop a ≡ true) × (out ≡ answer_text t a) × (n ≡ one_line a))
-    ⊎ ((stops stop a ≡ false) × ((rest : List ℕ) × (k : Summary) × (out ≡ answer_text t a ++ rest) × (n ≡ counted (one_line a) k) × Outs stop t lines rest k))
+abbrev pub After : Bool → List (List ℕ) → Answer → Journal → List ℕ → Summary → Type 0
+After stop lines a t out n = ((stops stop a ≡ true) × (out ≡ answer_text t.machine a) × (n ≡ one_line a))
+    ⊎ ((stops stop a ≡ false) × ((rest : List ℕ) × (k : Summary) × (out ≡ answer_text t.machine a ++ rest) × (n ≡ counted (one_line a) k) × Outs stop t lines rest k))
 
 -- the answer tells no memory where none is counted
-quiet : (stop : Bool) (lines : List (List ℕ)) (a : Answer) (t : Machine) (out : List ℕ) (n : Summary) → After stop lines a t out n → n.memory ≡ 0 → IsQuiet a
+quiet : (stop : Bool) (lines : List (List ℕ)) (a : Answer) (t : Journal) (out : List ℕ) (n : Summary) → After stop lines a t out n → n.memory ≡ 0 → IsQuiet a
 quiet stop lines a t out n (inl (go, eo, en)) none = subst (λ (m : Summary). m.memory ≡ 0) en none
 quiet stop lines a t out n (inr (go, (rest, k, eo, en, p))) none = omega (arith, subst (λ (m : Summary). m.memory ≡ 0) en none)
 
@@ -160,44 +176,46 @@ goes_so true a t rest k e = absurd (false≢true (sym e))
 goes_so false a t rest k e = (refl, refl)
 
 -- from one answer on the text is the function's, where it is from the lines after it
-after_so : (stop : Bool) (lines : List (List ℕ)) (a : Answer) (t : Machine) (out : List ℕ) (n : Summary)
-    → ((rest : List ℕ) (k : Summary) → Outs stop t lines rest k → k.memory ≡ 0 → (rest ≡ output_from stop t lines) × (k ≡ summary_from stop t lines))
+after_so : (stop : Bool) (lines : List (List ℕ)) (a : Answer) (t : Journal) (out : List ℕ) (n : Summary)
+    → ((rest : List ℕ) (k : Summary) → Outs stop t lines rest k → k.memory ≡ 0 → (rest ≡ output_from stop t.machine lines) × (k ≡ summary_from stop t.machine lines))
     → After stop lines a t out n → n.memory ≡ 0
-    → (out ≡ text_at (stops stop a) a t (output_from stop t lines)) × (n ≡ counts_at (stops stop a) a (summary_from stop t lines))
+    → (out ≡ text_at (stops stop a) a t.machine (output_from stop t.machine lines)) × (n ≡ counts_at (stops stop a) a (summary_from stop t.machine lines))
 after_so stop lines a t out n next (inl (go, eo, en)) x =
-    let so = stops_so (stops stop a) a t (output_from stop t lines) (summary_from stop t lines) go in
+    let so = stops_so (stops stop a) a t.machine (output_from stop t.machine lines) (summary_from stop t.machine lines) go in
     (eo ∙ so.0, en ∙ so.1)
 after_so stop lines a t out n next (inr (go, (rest, k, eo, en, p))) x =
     let none : k.memory ≡ 0 = omega (arith, subst (λ (m : Summary). m.memory ≡ 0) en x) in
     let one = next rest k p none in
-    let so = goes_so (stops stop a) a t (output_from stop t lines) (summary_from stop t lines) go in
-    (eo ∙ ap (λ r. answer_text t a ++ r) one.0 ∙ so.0, en ∙ ap (counted (one_line a)) one.1 ∙ so.1)
+    let so = goes_so (stops stop a) a t.machine (output_from stop t.machine lines) (summary_from stop t.machine lines) go in
+    (eo ∙ ap (λ r. answer_text t.machine a ++ r) one.0 ∙ so.0, en ∙ ap (counted (one_line a)) one.1 ∙ so.1)
 
 -- what the lines may be answered without `memory` is their output
-pub outs_so : (stop : Bool) (s : Machine) (lines : List (List ℕ)) (out : List ℕ) (n : Summary) → Outs stop s lines out n → n.memory ≡ 0
-    → (out ≡ output_from stop s lines) × (n ≡ summary_from stop s lines)
+pub outs_so : (stop : Bool) (s : Journal) (lines : List (List ℕ)) (out : List ℕ) (n : Summary) → Outs stop s lines out n → n.memory ≡ 0
+    → (out ≡ output_from stop s.machine lines) × (n ≡ summary_from stop s.machine lines)
 outs_so stop s [] out n p x = p
 outs_so stop s (line ∷ lines) out n (a, t, p, after) x =
-    let same = judges_so s line a t p (quiet stop lines a t out n after x) in
-    subst (λ (u : Machine). (out ≡ text_at (stops stop (answer_of s line)) (answer_of s line) u (output_from stop u lines)) × (n ≡ counts_at (stops stop (answer_of s line)) (answer_of s line) (summary_from stop u lines))) same.1
-    (subst (λ (b : Answer). (out ≡ text_at (stops stop b) b t (output_from stop t lines)) × (n ≡ counts_at (stops stop b) b (summary_from stop t lines))) same.0
+    let M = s.machine in
+    let same = judges_so s t line a p (quiet stop lines a t out n after x) in
+    subst (λ (u : Machine). (out ≡ text_at (stops stop (answer_of M line)) (answer_of M line) u (output_from stop u lines)) × (n ≡ counts_at (stops stop (answer_of M line)) (answer_of M line) (summary_from stop u lines))) same.1
+    (subst (λ (b : Answer). (out ≡ text_at (stops stop b) b t.machine (output_from stop t.machine lines)) × (n ≡ counts_at (stops stop b) b (summary_from stop t.machine lines))) same.0
     (after_so stop lines a t out n (outs_so stop t lines) after x))
 
-pub after_to : (stop : Bool) (lines : List (List ℕ)) (a : Answer) (t : Machine) (rest : List ℕ) (k : Summary) → Outs stop t lines rest k → (b : Bool) → stops stop a ≡ b
-    → After stop lines a t (text_at b a t rest) (counts_at b a k)
-after_to stop lines a t rest k o true e = inl (e, append-nil (answer_text t a), refl)
+pub after_to : (stop : Bool) (lines : List (List ℕ)) (a : Answer) (t : Journal) (rest : List ℕ) (k : Summary) → Outs stop t lines rest k → (b : Bool) → stops stop a ≡ b
+    → After stop lines a t (text_at b a t.machine rest) (counts_at b a k)
+after_to stop lines a t rest k o true e = inl (e, append-nil (answer_text t.machine a), refl)
 after_to stop lines a t rest k o false e = inr (e, (rest, k, refl, refl, o))
 
 -- the output is one with which the lines may be answered
-pub outs_to : (stop : Bool) (s : Machine) (lines : List (List ℕ)) → Outs stop s lines (output_from stop s lines) (summary_from stop s lines)
+pub outs_to : (stop : Bool) (s : Journal) (lines : List (List ℕ)) → Outs stop s lines (output_from stop s.machine lines) (summary_from stop s.machine lines)
 outs_to stop s [] = (refl, refl)
-outs_to stop s (line ∷ lines) = (
-  answer_of s line,
-  machine_after s line,
-  judges_to s line,
-  after_to stop lines (answer_of s line) (machine_after s line) (output_from stop (machine_after s line) lines) (summary_from stop (machine_after s line) lines)
-      (outs_to stop (machine_after s line) lines) (stops stop (answer_of s line)) refl,
-)
+outs_to stop s (line ∷ lines) =
+    let a = answer_of s.machine line in let judged = judges_to s line in let t = judged.0 in (
+      a,
+      t,
+      judged.1,
+      subst (λ (u : Machine). After stop lines a t (text_at (stops stop a) a u (output_from stop u lines)) (counts_at (stops stop a) a (summary_from stop u lines))) judged.2
+          (after_to stop lines a t (output_from stop t.machine lines) (summary_from stop t.machine lines) (outs_to stop t lines) (stops stop a) refl),
+    )
 
 counts_quiet : (b : Bool) (a : Answer) (k : Summary) → IsQuiet a → k.memory ≡ 0 → (counts_at b a k).memory ≡ 0
 counts_quiet true a k x y = x

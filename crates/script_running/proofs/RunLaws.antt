@@ -12,7 +12,7 @@ use Rattle.script_reader.specs.Next.{Went}
 use Rattle.script_reader.specs.Script.{HasRead, BreaksOff as EndsEarly, to_come}
 use Rattle.script_reader.specs.Grammar.{is_ascii, command_of_words, command_of}
 use Rattle.script_reader.specs.Words.{words}
-use Rattle.script_reader.specs.declared.command.Command.{Command}
+use Rattle.script_reader.specs.declared.command.Request.{Request}
 use Rattle.script_reader.specs.declared.command.Fault.{Fault}
 use Rattle.script_reader.specs.declared.command.Fault.TheVariants.{LongLine, NotAscii}
 use Rattle.script_reader.specs.declared.lines.Lines.{Lines}
@@ -22,27 +22,25 @@ use Rattle.script_reader.proofs.ScriptLaws.{has_begun, has_line_more, has_long_m
 use Rattle.solid_listing.specs.Writing.{Stops, Puts, Outgoing, outgoing, Gathers}
 use Rattle.solid_listing.proofs.TellingLaws.{Breaks, Gathers-nil, Gathers-trans, Breaks-after, all_out, went_out}
 use Rattle.solid_listing.specs.declared.reply.Reply.TheVariants as reply
-use Rattle.undo_journal.specs.Machine.{Machine, start}
+use Rattle.undo_journal.specs.Journal.{Journal, new_journal}
 use Rattle.script_running.specs.script_judging.Judging.{Obeys, Judges, Answers, answer_text, no_lines, one_line, counted}
-use Rattle.script_running.specs.script_judging.Settling.{spelled}
 use Rattle.script_running.specs.Outs.{stops, was_stopped, Outs}
 use Rattle.script_running.specs.Output.{output_of, output_from, summary_of, summary_from}
 use Rattle.script_running.specs.Runs.{Moves, Served, BreaksOff, WriteFails, IsTooLong, Runs}
 use Rattle.script_running.specs.declared.script_judging.judging.Answer.{Answer}
-use Rattle.script_running.specs.declared.script_judging.judging.Answer.TheVariants.{Reply as Told}
+use Rattle.script_running.specs.declared.script_judging.judging.Answer.TheVariants.{Reply as Says}
 use Rattle.script_running.specs.declared.script_judging.judging.Summary.{Summary}
-use Rattle.script_running.specs.declared.script_judging.larger.Larger.{Larger}
 use Rattle.script_running.specs.declared.running.RunFault.{RunFault}
 use Rattle.script_running.specs.declared.running.RunFault.TheVariants as faults
 use Rattle.script_running.proofs.Counting.{counted_assoc, counted_none, none_counted, stop_counted, calm_counted, none_calm}
 use Rattle.script_running.proofs.Outputs.{text_at, counts_at, after_to, outs_so, outs_to}
 
 -- what some lines are answered goes before what the lines after them are answered
-abbrev pub Continues : Bool → List (List ℕ) → List ℕ → Machine → Summary → Type 0
-Continues stop heard out s n = (lines : List (List ℕ)) (rest : List ℕ) (k : Summary) → Outs stop s lines rest k → Outs stop start (heard ++ lines) (out ++ rest) (counted n k)
+abbrev pub Continues : Bool → List (List ℕ) → List ℕ → Journal → Summary → Type 0
+Continues stop heard out s n = (lines : List (List ℕ)) (rest : List ℕ) (k : Summary) → Outs stop s lines rest k → Outs stop new_journal (heard ++ lines) (out ++ rest) (counted n k)
 
 -- a run so far: what was heard and told, that the answers go on as the machine's, and that none stopped it
-pub record Progress {R : Type 0} (remaining : R → Option (List ℕ)) (first : Option (List ℕ)) (lines : Lines R) (old : Option (List ℕ)) (new : Outgoing) (stop : Bool) (s : Machine) (n : Summary) : Type 0 where
+pub record Progress {R : Type 0} (remaining : R → Option (List ℕ)) (first : Option (List ℕ)) (lines : Lines R) (old : Option (List ℕ)) (new : Outgoing) (stop : Bool) (s : Journal) (n : Summary) : Type 0 where
   pub heard : List (List ℕ)
   pub read : HasRead remaining first lines heard
   pub out : List ℕ
@@ -51,7 +49,7 @@ pub record Progress {R : Type 0} (remaining : R → Option (List ℕ)) (first : 
   pub unstopped : was_stopped stop n ≡ false
 
 -- the next line was read, and judged
-pub record Turn {R : Type 0} (remaining : R → Option (List ℕ)) (first : Option (List ℕ)) (lines : Lines R) (old : Option (List ℕ)) (new : Outgoing) (stop : Bool) (s : Machine) (n : Summary) (a : Answer) (t : Machine) : Type 0 where
+pub record Turn {R : Type 0} (remaining : R → Option (List ℕ)) (first : Option (List ℕ)) (lines : Lines R) (old : Option (List ℕ)) (new : Outgoing) (stop : Bool) (s : Journal) (n : Summary) (a : Answer) (t : Journal) : Type 0 where
   pub heard : List (List ℕ)
   pub line : List ℕ
   pub read : HasRead remaining first lines (heard ++ line ∷ [])
@@ -61,19 +59,19 @@ pub record Turn {R : Type 0} (remaining : R → Option (List ℕ)) (first : Opti
   pub unstopped : was_stopped stop n ≡ false
   pub judges : Judges s line a t
 
-pub begins : {R : Type 0} (remaining : R → Option (List ℕ)) (given : R) (lines : Lines R) (old : Option (List ℕ)) (pending : List ℕ) (stop : Bool) (s : Machine) → IsFresh given lines → s ≡ start → pending ≡ []
+pub begins : {R : Type 0} (remaining : R → Option (List ℕ)) (given : R) (lines : Lines R) (old : Option (List ℕ)) (pending : List ℕ) (stop : Bool) (s : Journal) → IsFresh given lines → s ≡ new_journal → pending ≡ []
     → Progress remaining (remaining given) lines old (outgoing old pending) stop s no_lines
 begins remaining given lines old pending stop s fresh at_start none = record {
   heard = [];
   read = has_begun remaining given lines fresh;
   out = [];
   gathered = subst (λ (t : List ℕ). Gathers (outgoing old []) (outgoing old t) []) (sym none) (Gathers-nil (outgoing old []));
-  runs = λ ls rest k h. subst (λ (j : Summary). Outs stop start ls rest j) (sym (none_counted k)) (subst (λ (q : Machine). Outs stop q ls rest k) at_start h);
+  runs = λ ls rest k h. subst (λ (j : Summary). Outs stop new_journal ls rest j) (sym (none_counted k)) (subst (λ (q : Journal). Outs stop q ls rest k) at_start h);
   unstopped = none_calm stop;
 }
 
 -- what is pending may go out
-pub flushed : {R : Type 0} (remaining : R → Option (List ℕ)) (first : Option (List ℕ)) (lines : Lines R) (old : Option (List ℕ)) (mid new : Outgoing) (stop : Bool) (s : Machine) (n : Summary)
+pub flushed : {R : Type 0} (remaining : R → Option (List ℕ)) (first : Option (List ℕ)) (lines : Lines R) (old : Option (List ℕ)) (mid new : Outgoing) (stop : Bool) (s : Journal) (n : Summary)
     → Progress remaining first lines old mid stop s n → Gathers mid new [] → Progress remaining first lines old new stop s n
 flushed remaining first lines old mid new stop s n p k = record {
   heard = p.heard;
@@ -89,91 +87,90 @@ long_told line h = let e : nat_lt 65536 (length line) ≡ true = grind (arith, n
     ap (λ (b : Bool). if b then Err LongLine else (if is_ascii line then command_of_words (words line) else Err NotAscii)) e
 
 -- the next line was read and judged, or skipped as too long and told so
-abbrev pub Hears : {R : Type 0} → (R → Option (List ℕ)) → Lines R → Lines R → Machine → Answer → Machine → Type 0
-Hears remaining old new s a t = (Went remaining old new found.Line × Judges s (line_of new) a t) ⊎ (Went remaining old new found.Long × (a ≡ Told (reply.Fault 6)) × (t ≡ s))
+abbrev pub Hears : {R : Type 0} → (R → Option (List ℕ)) → Lines R → Lines R → Journal → Answer → Journal → Type 0
+Hears remaining old new s a t = (Went remaining old new found.Line × Judges s (line_of new) a t) ⊎ (Went remaining old new found.Long × (a ≡ Says (reply.Fault 6)) × (t ≡ s))
 
-module _ {R : Type 0} (remaining : R → Option (List ℕ)) (lines next : Lines R) (s : Machine) where
-  heard_as : (t u : Machine) (a b : Answer) → Hears remaining lines next s a t → b ≡ a → u ≡ t → Hears remaining lines next s b u
+module _ {R : Type 0} (remaining : R → Option (List ℕ)) (lines next : Lines R) (s : Journal) where
+  heard_as : (t u : Journal) (a b : Answer) → Hears remaining lines next s a t → b ≡ a → u ≡ t → Hears remaining lines next s b u
   heard_as t u a b h ea et = rw (ea, et) h
 
   -- a line that is answered at once
-  pub heard_line : (line : List ℕ) (t u : Machine) (a b : Answer) → Went remaining lines next found.Line → line ≡ line_of next → Judges s line a t → b ≡ a → u ≡ t → Hears remaining lines next s b u
+  pub heard_line : (line : List ℕ) (t u : Journal) (a b : Answer) → Went remaining lines next found.Line → line ≡ line_of next → Judges s line a t → b ≡ a → u ≡ t → Hears remaining lines next s b u
   heard_line line t u a b went is judged = heard_as t u a b (inl (went, subst (λ (l : List ℕ). Judges s l a t) is judged))
 
-  -- a line whose larger command is carried out
-  pub heard_larger : (line : List ℕ) (m t u : Machine) (l : Larger) (a b : Answer) → Went remaining lines next found.Line → line ≡ line_of next → (command_of line ≡ Ok (spelled l)) × (m ≡ s) → Obeys m (spelled l) a t → b ≡ a → u ≡ t
-      → Hears remaining lines next s b u
-  heard_larger line m t u l a b went is decided obeys =
-      let judged : Judges s line a t = subst (λ (r : Result Command Fault). Answers s r a t) (sym decided.0) (subst (λ (q : Machine). Obeys q (spelled l) a t) decided.1 obeys) in
+  -- a line of which what it asks for is carried out
+  pub heard_larger : (line : List ℕ) (m t u : Journal) (r : Request) (a b : Answer) → Went remaining lines next found.Line → line ≡ line_of next → (command_of line ≡ Ok r) × (m ≡ s) → Obeys m r a t → b ≡ a → u ≡ t → Hears remaining lines next s b u
+  heard_larger line m t u r a b went is decided obeys =
+      let judged : Judges s line a t = subst (λ (x : Result Request Fault). Answers s x a t) (sym decided.0) (subst (λ (q : Journal). Obeys q r a t) decided.1 obeys) in
       heard_line line t u a b went is judged
 
   -- a line that is too long
-  pub heard_long : (n : ℕ) (b : Answer) (u : Machine) → Went remaining lines next found.Long → n ≡ 6 → b ≡ Told (reply.Fault n) → u ≡ s → Hears remaining lines next s b u
-  heard_long n b u went six told same = inr (went, told ∙ ap (λ (k : ℕ). Told (reply.Fault k)) six, same)
+  pub heard_long : (n : ℕ) (b : Answer) (u : Journal) → Went remaining lines next found.Long → n ≡ 6 → b ≡ Says (reply.Fault n) → u ≡ s → Hears remaining lines next s b u
+  heard_long n b u went six told same = inr (went, told ∙ ap (λ (k : ℕ). Says (reply.Fault k)) six, same)
 
-pub turn_of : {R : Type 0} (remaining : R → Option (List ℕ)) (first : Option (List ℕ)) (lines next : Lines R) (old : Option (List ℕ)) (new : Outgoing) (stop : Bool) (s : Machine) (n : Summary) (a : Answer) (t : Machine)
+pub turn_of : {R : Type 0} (remaining : R → Option (List ℕ)) (first : Option (List ℕ)) (lines next : Lines R) (old : Option (List ℕ)) (new : Outgoing) (stop : Bool) (s : Journal) (n : Summary) (a : Answer) (t : Journal)
     → Progress remaining first lines old new stop s n → Hears remaining lines next s a t → Turn remaining first next old new stop s n a t
 turn_of remaining first lines next old new stop s n a t p h = elim h [
   | inl short ↦ record { heard = p.heard; line = line_of next; read = (has_line_more remaining first lines next p.heard p.read short.0).0; out = p.out; gathered = p.gathered; runs = p.runs; unstopped = p.unstopped; judges = short.1 }
   | inr long ↦
       let m = has_long_more remaining first lines next p.heard p.read long.0 in
-      record { heard = p.heard; line = m.0; read = m.1; out = p.out; gathered = p.gathered; runs = p.runs; unstopped = p.unstopped; judges = subst (λ (r : Result Command Fault). Answers s r a t) (sym (long_told m.0 m.2)) (long.1, long.2) }
+      record { heard = p.heard; line = m.0; read = m.1; out = p.out; gathered = p.gathered; runs = p.runs; unstopped = p.unstopped; judges = subst (λ (r : Result Request Fault). Answers s r a t) (sym (long_told m.0 m.2)) (long.1, long.2) }
 ]
 
 -- the run goes on
-pub goes_on : {R : Type 0} (remaining : R → Option (List ℕ)) (first : Option (List ℕ)) (lines : Lines R) (old : Option (List ℕ)) (mid new : Outgoing) (stop : Bool) (s : Machine) (n : Summary) (a : Answer) (t : Machine)
-    → Turn remaining first lines old mid stop s n a t → stops stop a ≡ false → Gathers mid new (answer_text t a) → Progress remaining first lines old new stop t (counted n (one_line a))
+pub goes_on : {R : Type 0} (remaining : R → Option (List ℕ)) (first : Option (List ℕ)) (lines : Lines R) (old : Option (List ℕ)) (mid new : Outgoing) (stop : Bool) (s : Journal) (n : Summary) (a : Answer) (t : Journal)
+    → Turn remaining first lines old mid stop s n a t → stops stop a ≡ false → Gathers mid new (answer_text t.machine a) → Progress remaining first lines old new stop t (counted n (one_line a))
 goes_on remaining first lines old mid new stop s n a t w calm h = record {
   heard = w.heard ++ w.line ∷ [];
   read = w.read;
-  out = w.out ++ answer_text t a;
-  gathered = Gathers-trans (outgoing old []) mid new w.out (answer_text t a) w.gathered h;
+  out = w.out ++ answer_text t.machine a;
+  gathered = Gathers-trans (outgoing old []) mid new w.out (answer_text t.machine a) w.gathered h;
   runs = λ ls rest k o.
-      let one = w.runs (w.line ∷ ls) (answer_text t a ++ rest) (counted (one_line a) k) (a, t, w.judges, inr (calm, (rest, k, refl, refl, o))) in
+      let one = w.runs (w.line ∷ ls) (answer_text t.machine a ++ rest) (counted (one_line a) k) (a, t, w.judges, inr (calm, (rest, k, refl, refl, o))) in
       let e1 : w.heard ++ w.line ∷ ls ≡ (w.heard ++ w.line ∷ []) ++ ls = sym (append_assoc w.heard (w.line ∷ []) ls) in
-      let e2 : w.out ++ (answer_text t a ++ rest) ≡ (w.out ++ answer_text t a) ++ rest = sym (append_assoc w.out (answer_text t a) rest) in
+      let e2 : w.out ++ (answer_text t.machine a ++ rest) ≡ (w.out ++ answer_text t.machine a) ++ rest = sym (append_assoc w.out (answer_text t.machine a) rest) in
       let e3 : counted n (counted (one_line a) k) ≡ counted (counted n (one_line a)) k = counted_assoc n (one_line a) k in
       rw (← e1, ← e2, ← e3) one;
   unstopped = calm_counted stop n a w.unstopped calm;
 }
 
-outs_same : (stop : Bool) (s : Machine) (ls ms : List (List ℕ)) (x y : List ℕ) (n m : Summary) → ls ≡ ms → x ≡ y → n ≡ m → Outs stop s ls x n → Outs stop s ms y m
+outs_same : (stop : Bool) (s : Journal) (ls ms : List (List ℕ)) (x y : List ℕ) (n m : Summary) → ls ≡ ms → x ≡ y → n ≡ m → Outs stop s ls x n → Outs stop s ms y m
 outs_same stop s ls ms x y n m e f g o = rw (← e, ← f, ← g) o
 
 -- what the lines are answered, and no other text where no answer is `memory`
-is_output : (stop : Bool) (given out : List ℕ) (n : Summary) → Outs stop start (lines_of (within_limit 0 given ++ [])) out n → n.memory ≡ 0
+is_output : (stop : Bool) (given out : List ℕ) (n : Summary) → Outs stop new_journal (lines_of (within_limit 0 given ++ [])) out n → n.memory ≡ 0
     → (out ≡ output_of stop (lines_of (within_limit 0 given))) × (n ≡ summary_of stop (lines_of (within_limit 0 given)))
-is_output stop given out n o none = outs_so stop start (lines_of (within_limit 0 given)) out n
-    (outs_same stop start (lines_of (within_limit 0 given ++ [])) (lines_of (within_limit 0 given)) out out n n (ap lines_of (append-nil (within_limit 0 given))) refl refl o) none
+is_output stop given out n o none = outs_so stop new_journal (lines_of (within_limit 0 given)) out n
+    (outs_same stop new_journal (lines_of (within_limit 0 given ++ [])) (lines_of (within_limit 0 given)) out out n n (ap lines_of (append-nil (within_limit 0 given))) refl refl o) none
 
 -- the answer stops the run
-stopped : {R : Type 0} (remaining : R → Option (List ℕ)) (first : Option (List ℕ)) (lines : Lines R) (old : Option (List ℕ)) (mid : Outgoing) (new : Option (List ℕ)) (stop : Bool) (s : Machine) (n m : Summary) (a : Answer) (t : Machine)
-    → (w : Turn remaining first lines old mid stop s n a t) → stops stop a ≡ true → Appends old new (w.out ++ answer_text t a) → m ≡ counted n (one_line a) → Served first old new stop m
+stopped : {R : Type 0} (remaining : R → Option (List ℕ)) (first : Option (List ℕ)) (lines : Lines R) (old : Option (List ℕ)) (mid : Outgoing) (new : Option (List ℕ)) (stop : Bool) (s : Journal) (n m : Summary) (a : Answer) (t : Journal)
+    → (w : Turn remaining first lines old mid stop s n a t) → stops stop a ≡ true → Appends old new (w.out ++ answer_text t.machine a) → m ≡ counted n (one_line a) → Served first old new stop m
 stopped remaining first lines old mid new stop s n m a t w bad h count =
-    let outs : (more : List ℕ) → (IsAtEnd (remaining (reader_of lines)) → more ≡ []) → Outs stop start (lines_of (within_limit 0 w.read.given ++ more)) (w.out ++ answer_text t a) m = λ more guard.
+    let outs : (more : List ℕ) → (IsAtEnd (remaining (reader_of lines)) → more ≡ []) → Outs stop new_journal (lines_of (within_limit 0 w.read.given ++ more)) (w.out ++ answer_text t.machine a) m = λ more guard.
     let behind = lines_of (unread_of lines ++ more) in
-    let one = w.runs (w.line ∷ behind) (answer_text t a) (one_line a) (a, t, w.judges, inl (bad, refl, refl)) in
+    let one = w.runs (w.line ∷ behind) (answer_text t.machine a) (one_line a) (a, t, w.judges, inl (bad, refl, refl)) in
     let all : lines_of (within_limit 0 w.read.given ++ more) ≡ w.heard ++ w.line ∷ behind = w.read.text more (λ e. guard (w.read.at_end e)) ∙ append_assoc w.heard (w.line ∷ []) behind in
-    outs_same stop start (w.heard ++ w.line ∷ behind) (lines_of (within_limit 0 w.read.given ++ more)) (w.out ++ answer_text t a) (w.out ++ answer_text t a) (counted n (one_line a)) m (sym all) refl (sym count) one in
+    outs_same stop new_journal (w.heard ++ w.line ∷ behind) (lines_of (within_limit 0 w.read.given ++ more)) (w.out ++ answer_text t.machine a) (w.out ++ answer_text t.machine a) (counted n (one_line a)) m (sym all) refl (sym count) one in
     record {
-      moves = record { given = w.read.given; left = remaining (reader_of lines); out = w.out ++ answer_text t a; consumed = w.read.consumed; appended = h };
+      moves = record { given = w.read.given; left = remaining (reader_of lines); out = w.out ++ answer_text t.machine a; consumed = w.read.consumed; appended = h };
       outs = outs;
       finished = λ e. absurd (false≢true (sym e ∙ ap (was_stopped stop) count ∙ stop_counted stop n a bad));
-      output = is_output stop w.read.given (w.out ++ answer_text t a) m (outs [] (λ _. refl));
+      output = is_output stop w.read.given (w.out ++ answer_text t.machine a) m (outs [] (λ _. refl));
     }
 
 -- what was heard was answered
-answered : (stop : Bool) (heard : List (List ℕ)) (out : List ℕ) (s : Machine) (n : Summary) → Continues stop heard out s n → Outs stop start heard out n
-answered stop heard out s n runs = outs_same stop start (heard ++ []) heard (out ++ []) out (counted n no_lines) n (append-nil heard) (append-nil out) (counted_none n) (runs [] [] no_lines (refl, refl))
+answered : (stop : Bool) (heard : List (List ℕ)) (out : List ℕ) (s : Journal) (n : Summary) → Continues stop heard out s n → Outs stop new_journal heard out n
+answered stop heard out s n runs = outs_same stop new_journal (heard ++ []) heard (out ++ []) out (counted n no_lines) n (append-nil heard) (append-nil out) (counted_none n) (runs [] [] no_lines (refl, refl))
 
 -- the end of the script
-pub ends : {R : Type 0} (remaining : R → Option (List ℕ)) (first : Option (List ℕ)) (lines next : Lines R) (old : Option (List ℕ)) (new : Outgoing) (stop : Bool) (s : Machine) (n : Summary)
+pub ends : {R : Type 0} (remaining : R → Option (List ℕ)) (first : Option (List ℕ)) (lines next : Lines R) (old : Option (List ℕ)) (new : Outgoing) (stop : Bool) (s : Journal) (n : Summary)
     → Progress remaining first lines old new stop s n → Went remaining lines next found.End → new.pending ≡ [] → Served first old new.contents stop n
 ends remaining first lines next old new stop s n p went none =
     let r = is_read_out remaining first lines next p.heard p.read went in
-    let outs : (more : List ℕ) → (IsAtEnd (remaining (reader_of next)) → more ≡ []) → Outs stop start (lines_of (within_limit 0 r.given ++ more)) p.out n = λ more guard.
+    let outs : (more : List ℕ) → (IsAtEnd (remaining (reader_of next)) → more ≡ []) → Outs stop new_journal (lines_of (within_limit 0 r.given ++ more)) p.out n = λ more guard.
     let all : lines_of (within_limit 0 r.given ++ more) ≡ p.heard = ap (λ (xs : List ℕ). lines_of (within_limit 0 r.given ++ xs)) (guard r.end) ∙ ap lines_of (append-nil (within_limit 0 r.given)) ∙ r.lines in
-    outs_same stop start p.heard (lines_of (within_limit 0 r.given ++ more)) p.out p.out n n (sym all) refl refl (answered stop p.heard p.out s n p.runs) in
+    outs_same stop new_journal p.heard (lines_of (within_limit 0 r.given ++ more)) p.out p.out n n (sym all) refl refl (answered stop p.heard p.out s n p.runs) in
     record {
       moves = record { given = r.given; left = remaining (reader_of next); out = p.out; consumed = r.consumed; appended = went_out old new p.out p.gathered none };
       outs = outs;
@@ -195,11 +192,11 @@ finished first old mid new stop n (Ok m) h k same no_fault = subst (λ (s : Summ
 })
 finished first old mid new stop n (Err f) h k same is_write = is_write_fault first old new stop f is_write (record {
   moves = record { given = h.moves.given; left = h.moves.left; out = h.moves.out; consumed = h.moves.consumed; appended = Appends-kept old mid new h.moves.out h.moves.appended k };
-  begun = λ more guard. ([], n, subst (λ (text : List ℕ). Outs stop start (lines_of (within_limit 0 h.moves.given ++ more)) text n) (sym (append-nil h.moves.out)) (h.outs more guard));
+  begun = λ more guard. ([], n, subst (λ (text : List ℕ). Outs stop new_journal (lines_of (within_limit 0 h.moves.given ++ more)) text n) (sym (append-nil h.moves.out)) (h.outs more guard));
 })
 
 -- a read failed, or the script is too long
-breaks_off : (first last old new : Option (List ℕ)) (stop : Bool) (s : Machine) (n : Summary) (heard : List (List ℕ)) (out : List ℕ) (answer : Found) → (b : EndsEarly first last heard answer) → Appends old new out → Continues stop heard out s n
+breaks_off : (first last old new : Option (List ℕ)) (stop : Bool) (s : Journal) (n : Summary) (heard : List (List ℕ)) (out : List ℕ) (answer : Found) → (b : EndsEarly first last heard answer) → Appends old new out → Continues stop heard out s n
     → was_stopped stop n ≡ false → BreaksOff first old new stop
 breaks_off first last old new stop s n heard out answer b appended runs unstopped = record {
   moves = record { given = b.given; left = last; out = out; consumed = b.consumed; appended = appended };
@@ -213,12 +210,12 @@ breaks_off first last old new stop s n heard out answer b appended runs unstoppe
   unstopped = unstopped;
 }
 
-pub read_fails : {R : Type 0} (remaining : R → Option (List ℕ)) (first : Option (List ℕ)) (lines next : Lines R) (old : Option (List ℕ)) (new : Outgoing) (stop : Bool) (s : Machine) (n : Summary)
+pub read_fails : {R : Type 0} (remaining : R → Option (List ℕ)) (first : Option (List ℕ)) (lines next : Lines R) (old : Option (List ℕ)) (new : Outgoing) (stop : Bool) (s : Journal) (n : Summary)
     → Progress remaining first lines old new stop s n → Went remaining lines next found.Read → new.pending ≡ [] → BreaksOff first old new.contents stop
 read_fails remaining first lines next old new stop s n p went none =
     breaks_off first (remaining (reader_of next)) old new.contents stop s n p.heard p.out found.Read (breaks_at_fault remaining first lines next p.heard p.read went) (went_out old new p.out p.gathered none) p.runs p.unstopped
 
-pub too_long : {R : Type 0} (remaining : R → Option (List ℕ)) (first : Option (List ℕ)) (lines next : Lines R) (old : Option (List ℕ)) (new : Outgoing) (stop : Bool) (s : Machine) (n : Summary)
+pub too_long : {R : Type 0} (remaining : R → Option (List ℕ)) (first : Option (List ℕ)) (lines next : Lines R) (old : Option (List ℕ)) (new : Outgoing) (stop : Bool) (s : Journal) (n : Summary)
     → Progress remaining first lines old new stop s n → Went remaining lines next found.TooLong → new.pending ≡ [] → (b : BreaksOff first old new.contents stop) × IsTooLong b.moves.given
 unfolding breaks_off
 too_long remaining first lines next old new stop s n p went none =
@@ -226,47 +223,47 @@ too_long remaining first lines next old new stop s n p went none =
     (breaks_off first (remaining (reader_of next)) old new.contents stop s n p.heard p.out found.TooLong e (went_out old new p.out p.gathered none) p.runs p.unstopped, e.too_long refl)
 
 -- a write failed, where the answer was told or before
-pub write_fails : {R : Type 0} (remaining : R → Option (List ℕ)) (first : Option (List ℕ)) (lines : Lines R) (old : Option (List ℕ)) (mid : Outgoing) (new : Option (List ℕ)) (stop : Bool) (s : Machine) (n : Summary) (a : Answer) (t : Machine) (f : RunFault)
-    → (w : Turn remaining first lines old mid stop s n a t) → Stops old new (w.out ++ answer_text t a) → f ≡ faults.Write → Runs first old new stop (Err f)
+pub write_fails : {R : Type 0} (remaining : R → Option (List ℕ)) (first : Option (List ℕ)) (lines : Lines R) (old : Option (List ℕ)) (mid : Outgoing) (new : Option (List ℕ)) (stop : Bool) (s : Journal) (n : Summary) (a : Answer) (t : Journal) (f : RunFault)
+    → (w : Turn remaining first lines old mid stop s n a t) → Stops old new (w.out ++ answer_text t.machine a) → f ≡ faults.Write → Runs first old new stop (Err f)
 write_fails remaining first lines old mid new stop s n a t f w h is_write = is_write_fault first old new stop f is_write (record {
   moves = record { given = w.read.given; left = remaining (reader_of lines); out = h.front; consumed = w.read.consumed; appended = h.appended };
   begun = λ more guard.
       let behind = lines_of (unread_of lines ++ more) in
       let all : lines_of (within_limit 0 w.read.given ++ more) ≡ w.heard ++ w.line ∷ behind = w.read.text more (λ e. guard (w.read.at_end e)) ∙ append_assoc w.heard (w.line ∷ []) behind in
-      let next = after_to stop behind a t (output_from stop t behind) (summary_from stop t behind) (outs_to stop t behind) (stops stop a) refl in
-      let text = text_at (stops stop a) a t (output_from stop t behind) in
-      let counts = counts_at (stops stop a) a (summary_from stop t behind) in
-      let rest = if stops stop a then [] else output_from stop t behind in
+      let next = after_to stop behind a t (output_from stop t.machine behind) (summary_from stop t.machine behind) (outs_to stop t behind) (stops stop a) refl in
+      let text = text_at (stops stop a) a t.machine (output_from stop t.machine behind) in
+      let counts = counts_at (stops stop a) a (summary_from stop t.machine behind) in
+      let rest = if stops stop a then [] else output_from stop t.machine behind in
       let parts : w.out ++ text ≡ h.front ++ (h.rest ++ rest) =
-      sym (append_assoc w.out (answer_text t a) rest) ∙ ap (λ (xs : List ℕ). xs ++ rest) h.parts ∙ append_assoc h.front h.rest rest in (
+      sym (append_assoc w.out (answer_text t.machine a) rest) ∙ ap (λ (xs : List ℕ). xs ++ rest) h.parts ∙ append_assoc h.front h.rest rest in (
         h.rest ++ rest,
         counted n counts,
-        outs_same stop start (w.heard ++ w.line ∷ behind) (lines_of (within_limit 0 w.read.given ++ more)) (w.out ++ text) (h.front ++ (h.rest ++ rest)) (counted n counts) (counted n counts) (sym all) parts refl
+        outs_same stop new_journal (w.heard ++ w.line ∷ behind) (lines_of (within_limit 0 w.read.given ++ more)) (w.out ++ text) (h.front ++ (h.rest ++ rest)) (counted n counts) (counted n counts) (sym all) parts refl
             (w.runs (w.line ∷ behind) text counts (a, t, w.judges, next)),
       );
 })
 
 -- an answer could not be told
-pub telling_fails : {R : Type 0} (remaining : R → Option (List ℕ)) (first : Option (List ℕ)) (lines : Lines R) (old : Option (List ℕ)) (mid new : Outgoing) (stop : Bool) (s : Machine) (n : Summary) (a : Answer) (t : Machine) (f : RunFault)
-    → Turn remaining first lines old mid stop s n a t → Breaks mid new (answer_text t a) → f ≡ faults.Write → Runs first old new.contents stop (Err f)
+pub telling_fails : {R : Type 0} (remaining : R → Option (List ℕ)) (first : Option (List ℕ)) (lines : Lines R) (old : Option (List ℕ)) (mid new : Outgoing) (stop : Bool) (s : Journal) (n : Summary) (a : Answer) (t : Journal) (f : RunFault)
+    → Turn remaining first lines old mid stop s n a t → Breaks mid new (answer_text t.machine a) → f ≡ faults.Write → Runs first old new.contents stop (Err f)
 telling_fails remaining first lines old mid new stop s n a t f w h is_write =
-    write_fails remaining first lines old mid new.contents stop s n a t f w (Breaks-after (outgoing old []) mid new w.out (answer_text t a) w.gathered h) is_write
+    write_fails remaining first lines old mid new.contents stop s n a t f w (Breaks-after (outgoing old []) mid new w.out (answer_text t.machine a) w.gathered h) is_write
 
 -- the answer stops the run, and what is pending goes out
-pub stops_there : {R : Type 0} (remaining : R → Option (List ℕ)) (first : Option (List ℕ)) (lines : Lines R) (old : Option (List ℕ)) (mid new : Outgoing) (last : Option (List ℕ)) (stop : Bool) (s : Machine) (n m : Summary) (a : Answer) (t : Machine) (r : Result Summary RunFault)
-    → Turn remaining first lines old mid stop s n a t → stops stop a ≡ true → Gathers mid new (answer_text t a) → m ≡ counted n (one_line a)
+pub stops_there : {R : Type 0} (remaining : R → Option (List ℕ)) (first : Option (List ℕ)) (lines : Lines R) (old : Option (List ℕ)) (mid new : Outgoing) (last : Option (List ℕ)) (stop : Bool) (s : Journal) (n m : Summary) (a : Answer) (t : Journal) (r : Result Summary RunFault)
+    → Turn remaining first lines old mid stop s n a t → stops stop a ≡ true → Gathers mid new (answer_text t.machine a) → m ≡ counted n (one_line a)
     → Puts new.contents last new.pending r → IfOk r (λ k. k ≡ m) → IfErr r (λ e. e ≡ faults.Write) → Runs first old last stop r
 stops_there remaining first lines old mid new last stop s n m a t (Ok k) w bad h count puts same no_fault =
-    let all = Gathers-trans (outgoing old []) mid new w.out (answer_text t a) w.gathered h in
-    let out = all_out {A = Summary} {E = RunFault} old new last [] (w.out ++ answer_text t a) (Ok k) refl all puts in
+    let all = Gathers-trans (outgoing old []) mid new w.out (answer_text t.machine a) w.gathered h in
+    let out = all_out {A = Summary} {E = RunFault} old new last [] (w.out ++ answer_text t.machine a) (Ok k) refl all puts in
     subst (λ (j : Summary). Served first old last stop j) (sym same) (stopped remaining first lines old mid last stop s n m a t w bad out count)
 stops_there remaining first lines old mid new last stop s n m a t (Err f) w bad h count puts same is_write =
-    let all = Gathers-trans (outgoing old []) mid new w.out (answer_text t a) w.gathered h in
-    let out = all_out {A = Summary} {E = RunFault} old new last [] (w.out ++ answer_text t a) (Err f) refl all puts in
+    let all = Gathers-trans (outgoing old []) mid new w.out (answer_text t.machine a) w.gathered h in
+    let out = all_out {A = Summary} {E = RunFault} old new last [] (w.out ++ answer_text t.machine a) (Err f) refl all puts in
     write_fails remaining first lines old mid last stop s n a t f w out is_write
 
 -- what was pending could not go out
-pub flush_fails : {R : Type 0} (remaining : R → Option (List ℕ)) (first : Option (List ℕ)) (lines : Lines R) (old : Option (List ℕ)) (mid new : Outgoing) (stop : Bool) (s : Machine) (n : Summary) (f : RunFault)
+pub flush_fails : {R : Type 0} (remaining : R → Option (List ℕ)) (first : Option (List ℕ)) (lines : Lines R) (old : Option (List ℕ)) (mid new : Outgoing) (stop : Bool) (s : Journal) (n : Summary) (f : RunFault)
     → Progress remaining first lines old mid stop s n → Breaks mid new [] → f ≡ faults.Write → Runs first old new.contents stop (Err f)
 flush_fails remaining first lines old mid new stop s n f p broken is_write =
     let h = subst (Stops old new.contents) (append-nil p.out) (Breaks-after (outgoing old []) mid new p.out [] p.gathered broken) in
@@ -274,11 +271,11 @@ flush_fails remaining first lines old mid new stop s n f p broken is_write =
       moves = record { given = p.read.given; left = remaining (reader_of lines); out = h.front; consumed = p.read.consumed; appended = h.appended };
       begun = λ more guard.
           let behind = lines_of (unread_of lines ++ more) in
-          let text = output_from stop s behind in
-          let counts = summary_from stop s behind in (
+          let text = output_from stop s.machine behind in
+          let counts = summary_from stop s.machine behind in (
             h.rest ++ text,
             counted n counts,
-            outs_same stop start (p.heard ++ behind) (lines_of (within_limit 0 p.read.given ++ more)) (p.out ++ text) (h.front ++ (h.rest ++ text)) (counted n counts) (counted n counts) (sym (p.read.text more (λ e. guard (p.read.at_end e))))
+            outs_same stop new_journal (p.heard ++ behind) (lines_of (within_limit 0 p.read.given ++ more)) (p.out ++ text) (h.front ++ (h.rest ++ text)) (counted n counts) (counted n counts) (sym (p.read.text more (λ e. guard (p.read.at_end e))))
                 (ap (λ (xs : List ℕ). xs ++ text) h.parts ∙ append_assoc h.front h.rest text) refl
                 (p.runs behind text counts (outs_to stop s behind)),
           );
@@ -298,6 +295,6 @@ pub nothing_begins : (first last old : Option (List ℕ)) → Consumes first las
 nothing_begins first last old none = (record { given = []; left = last; out = []; consumed = none; appended = Appends-nil old }, refl, refl)
 
 -- a line takes its bytes from what is to come
-pub falls : {R : Type 0} (remaining : R → Option (List ℕ)) (lines next : Lines R) (s : Machine) (a : Answer) (t : Machine) → Hears remaining lines next s a t
+pub falls : {R : Type 0} (remaining : R → Option (List ℕ)) (lines next : Lines R) (s : Journal) (a : Answer) (t : Journal) → Hears remaining lines next s a t
     → to_come (taken_of next) (unread_of next) < to_come (taken_of lines) (unread_of lines)
 falls remaining lines next s a t h = elim h [ inl short ↦ falls_by_line remaining lines next short.0 | inr long ↦ falls_by_long remaining lines next long.0 ]

@@ -2,7 +2,8 @@
 use Rattle.std.specs.Prelude.{◌≡◌, ◌≢◌, ℕ, Bool, List, [], ◌∷◌, ◌++◌, length, Option, Result, Ok, Err, IfOk}
 use Rattle.euler_operators.specs.Model.{Model}
 use Rattle.euler_operators.specs.Sound.{Sound}
-use Rattle.undo_journal.specs.Machine.{Machine, start, held}
+use Rattle.undo_journal.specs.Machine.{Machine, held}
+use Rattle.undo_journal.specs.Journal.{Journal, new_journal}
 use Rattle.undo_journal.specs.Histories.{Call, after_call, reached, IsConsistent}
 use Rattle.script_reader.specs.Lines.{lines_of, within_limit}
 use Rattle.solid_listing.specs.Listing.{listing}
@@ -26,42 +27,44 @@ pub record HasHistory (s : Machine) : Type 0 where
 
 -- whatever a line is answered, it is a call, where the model held is sound
 abbrev pub LinesAreCalls : Type 0
-LinesAreCalls = (s t : Machine) (line : List ℕ) (a : Answer) → Sound (held s) → Judges s line a t → IsCall s t
+LinesAreCalls = (s t : Journal) (line : List ℕ) (a : Answer) → Sound (held s.machine) → Judges s line a t → IsCall s.machine t.machine
 
 -- so a line leads from a machine that has a history to one that has a history
 abbrev pub LinesLeadOn : Type 0
-LinesLeadOn = (s t : Machine) (line : List ℕ) (a : Answer) → HasHistory s → Judges s line a t → HasHistory t
+LinesLeadOn = (s t : Journal) (line : List ℕ) (a : Answer) → HasHistory s.machine → Judges s line a t → HasHistory t.machine
 
 -- and such a machine is consistent
 abbrev pub HistoriesMakeConsistent : Type 0
 HistoriesMakeConsistent = (s : Machine) → HasHistory s → IsConsistent s
 
--- what a line comes to: a call, and what it is answered
+-- what a line comes to: a call, what it is answered, and the session after it
 pub record Turn : Type 0 where
   pub call : Call
   pub answer : Answer
+  pub next : Journal
 
 -- the text lists a sound model
 abbrev pub ListsSound : List ℕ → Type 0
 ListsSound text = (M : Model) × Sound M × (text ≡ listing M)
 
--- a line is judged on one machine and leads to another, both consistent; what it lists is a sound model
-pub record IsTurn (s : Machine) (line : List ℕ) (a : Answer) (t : Machine) : Type 0 where
-  pub judged : Judges s line a t
-  pub before : IsConsistent s
-  pub after : IsConsistent t
-  pub listed : a ≡ Listing → ListsSound (answer_text t a)
+-- a line is judged in one session and leads to another, both consistent; what it lists is a sound model
+pub record IsTurn (s : Journal) (line : List ℕ) (turn : Turn) : Type 0 where
+  pub judged : Judges s line turn.answer turn.next
+  pub called : after_call s.machine turn.call ≡ turn.next.machine
+  pub before : IsConsistent s.machine
+  pub after : IsConsistent turn.next.machine
+  pub listed : turn.answer ≡ Listing → ListsSound (answer_text turn.next.machine turn.answer)
 
--- the first lines take these turns, each on the machine to which the call before it leads
-abbrev pub TakeTurns : Machine → List (List ℕ) → List Turn → Type 0
+-- the first lines take these turns, each in the session to which the one before it leads
+abbrev pub TakeTurns : Journal → List (List ℕ) → List Turn → Type 0
 TakeTurns s lines [] = Unit {0}
 TakeTurns s [] (turn ∷ turns) = ⊥
-TakeTurns s (line ∷ lines) (turn ∷ turns) = IsTurn s line turn.answer (after_call s turn.call) × TakeTurns (after_call s turn.call) lines turns
+TakeTurns s (line ∷ lines) (turn ∷ turns) = IsTurn s line turn × TakeTurns turn.next lines turns
 
 -- the texts of their answers
-abbrev pub texts : Machine → List Turn → List ℕ
-texts s [] = []
-texts s (turn ∷ turns) = answer_text (after_call s turn.call) turn.answer ++ texts (after_call s turn.call) turns
+abbrev pub texts : List Turn → List ℕ
+texts [] = []
+texts (turn ∷ turns) = answer_text turn.next.machine turn.answer ++ texts turns
 
 -- what a run read and wrote
 abbrev pub moves_of : (reader old new : Option (List ℕ)) (stop : Bool) (result : Result Summary RunFault) → Runs reader old new stop result → Moves reader new old
@@ -75,9 +78,9 @@ moves_of reader old new stop (Err fault.Memory) run = run.0
 -- Where the run ended well, each line that it counts took its turn.
 pub record TellsHistory (reader old new : Option (List ℕ)) (moved : Moves reader new old) (result : Result Summary RunFault) : Type 0 where
   pub turns : List Turn
-  pub taken : TakeTurns start (lines_of (within_limit 0 moved.given)) turns
+  pub taken : TakeTurns new_journal (lines_of (within_limit 0 moved.given)) turns
   pub unwritten : List ℕ
-  pub text : texts start turns ≡ moved.out ++ unwritten
+  pub text : texts turns ≡ moved.out ++ unwritten
   pub whole : result ≢ Err fault.Write → unwritten ≡ []
   pub each : IfOk result (λ summary. length turns ≡ summary.lines)
 

@@ -1,20 +1,20 @@
 -- The output of a script, as a function of its lines: what they are answered where no memory is refused.
 use Rattle.std.specs.Prelude.{ℕ, Bool, List, [], ◌∷◌, ◌++◌, Option, Some, None, Result, Ok, Err, if◌then◌else◌}
 use Rattle.euler_operators.specs.declared.Refusal.{Refusal}
-use Rattle.sweeps.specs.Machine.{lamina, lamina_refusal, block, block_refusal, sweep, sweep_refusal}
-use Rattle.gluing.specs.Machine.{glue, glue_refusal}
-use Rattle.plane_split.specs.Machine.{split, split_refusal}
-use Rattle.undo_journal.specs.Machine.{Machine, start, held, act, act_refusal, undo, undo_refusal, redo, redo_refusal}
-use Rattle.script_reader.specs.declared.command.Command.{Command}
-use Rattle.script_reader.specs.declared.command.Command.TheVariants as command
+use Rattle.undo_journal.specs.Machine.{Machine, start, held, accepted, undo, undo_refusal, redo, redo_refusal}
+use Rattle.commands.specs.declared.command.Change.TheVariants as change
+use Rattle.commands.specs.declared.command.Command.{Command}
+use Rattle.commands.specs.declared.command.Command.TheVariants as command
+use Rattle.commands.specs.Changes.{refusal_of, made}
+use Rattle.commands.specs.Telling.{asked}
+use Rattle.script_reader.specs.declared.command.Request.{Request}
+use Rattle.script_reader.specs.declared.command.Request.TheVariants as request
 use Rattle.script_reader.specs.declared.command.Fault.{Fault}
-use Rattle.script_reader.specs.Fault as fault
 use Rattle.script_reader.specs.Grammar.{command_of}
-use Rattle.solid_listing.specs.declared.reply.Reply.TheVariants as reply
-use Rattle.script_running.specs.script_judging.Judging.{done, refused, told, given_plane, plane_reply, volume_reply, count_reply, answer_text, no_lines, one_line, counted}
+use Rattle.script_running.specs.script_judging.Judging.{done, refused, faulty, answer_when, answer_text, no_lines, one_line, counted}
 use Rattle.script_running.specs.Outs.{stops}
 use Rattle.script_running.specs.declared.script_judging.judging.Answer.{Answer}
-use Rattle.script_running.specs.declared.script_judging.judging.Answer.TheVariants.{Silent, Reply as Told, Listing}
+use Rattle.script_running.specs.declared.script_judging.judging.Answer.TheVariants.{Silent, Listing}
 use Rattle.script_running.specs.declared.script_judging.judging.Summary.{Summary}
 
 -- a command goes on to a state, or is refused
@@ -23,25 +23,23 @@ moved None s next = (done, next)
 moved (Some r) s next = (refused r, s)
 
 -- what a command is answered from s, and the machine after it
-abbrev pub obeyed : Machine → Command → Answer × Machine
-obeyed s command.Nothing = (Silent, s)
-obeyed s (command.Act op) = moved (act_refusal s op) s (act s op)
-obeyed s (command.Lamina n ps) = moved (lamina_refusal s n ps) s (lamina s n ps)
-obeyed s (command.Block n p dx dy dz) = moved (block_refusal s n p dx dy dz) s (block s n p dx dy dz)
-obeyed s (command.Sweep f d) = moved (sweep_refusal s f d) s (sweep s f d)
-obeyed s (command.Glue f g) = moved (glue_refusal s f g) s (glue s f g)
-obeyed s (command.Split n cs m) = moved (split_refusal s n (given_plane cs) m) s (split s n (given_plane cs) m)
-obeyed s (command.Plane f) = (told (plane_reply (held s) f), s)
-obeyed s (command.Volume n) = (told (volume_reply (held s) n), s)
-obeyed s (command.Count n) = (told (count_reply (held s) n), s)
-obeyed s command.Undo = moved (undo_refusal s) s (undo s)
-obeyed s command.Redo = moved (redo_refusal s) s (redo s)
-obeyed s command.List = (Listing, s)
+abbrev pub given : Machine → Command → Answer × Machine
+given s (command.Change c) = moved (refusal_of (held s) c) s (accepted s (made (held s) c))
+given s (command.Ask q) = (answer_when (asked (held s) q), s)
+given s command.Undo = moved (undo_refusal s) s (undo s)
+given s command.Redo = moved (redo_refusal s) s (redo s)
 
--- the command that a line spells is obeyed, and a line with a fault is told it
-abbrev pub answered : Machine → Result Command Fault → Answer × Machine
-answered s (Ok c) = obeyed s c
-answered s (Err f) = (Told (reply.Fault (fault.code_of f)), s)
+-- and what a line asks for
+abbrev pub obeyed : Machine → Request → Answer × Machine
+obeyed s request.Nothing = (Silent, s)
+obeyed s request.List = (Listing, s)
+obeyed s (request.Lamina n ps) = given s (command.Change (change.Lamina n ps))
+obeyed s (request.Give c) = given s c
+
+-- what a line asks for is obeyed, and a line with a fault is told it
+abbrev pub answered : Machine → Result Request Fault → Answer × Machine
+answered s (Ok r) = obeyed s r
+answered s (Err f) = (faulty f, s)
 
 -- what a line is answered from s, and the machine after it
 unfoldable pub answer_of : Machine → List ℕ → Answer

@@ -1,6 +1,6 @@
 -- What lines may be answered, one after the other.
 use Rattle.std.specs.Prelude.{◌≡◌, ◌⊎◌, ℕ, ◌==◌, Bool, true, false, not, ◌&&◌, List, [], ◌∷◌, ◌++◌}
-use Rattle.undo_journal.specs.Machine.{Machine}
+use Rattle.undo_journal.specs.Journal.{Journal}
 use Rattle.script_running.specs.script_judging.Judging.{Judges, answer_text, complains, no_lines, one_line, counted}
 use Rattle.script_running.specs.declared.script_judging.judging.Answer.{Answer}
 use Rattle.script_running.specs.declared.script_judging.judging.Summary.{Summary}
@@ -18,8 +18,8 @@ abbrev pub was_stopped : Bool → Summary → Bool
 was_stopped stop n = stop && not (is_clean n)
 
 -- From s the lines may be answered by this text, with these counts: all of them, or those up to the answer that stops the run.
-abbrev pub Outs : Bool → Machine → List (List ℕ) → List ℕ → Summary → Type 0
+abbrev pub Outs : Bool → Journal → List (List ℕ) → List ℕ → Summary → Type 0
 Outs stop s [] out n = (out ≡ []) × (n ≡ no_lines)
-Outs stop s (line ∷ lines) out n = (a : Answer) × (t : Machine) × Judges s line a t
-    × (((stops stop a ≡ true) × (out ≡ answer_text t a) × (n ≡ one_line a))
-    ⊎ ((stops stop a ≡ false) × ((rest : List ℕ) × (k : Summary) × (out ≡ answer_text t a ++ rest) × (n ≡ counted (one_line a) k) × Outs stop t lines rest k)))
+Outs stop s (line ∷ lines) out n = (a : Answer) × (t : Journal) × Judges s line a t
+    × (((stops stop a ≡ true) × (out ≡ answer_text t.machine a) × (n ≡ one_line a))
+    ⊎ ((stops stop a ≡ false) × ((rest : List ℕ) × (k : Summary) × (out ≡ answer_text t.machine a ++ rest) × (n ≡ counted (one_line a) k) × Outs stop t lines rest k)))

@@ -3,7 +3,7 @@ use Rattle.std.specs.Prelude.{◌≡◌, ℕ, ◌≤◌, Bool, false, List, [], 
 use Rattle.std.specs.Io.KnownBytes.{Consumes, Appends, IsAtEnd}
 use Rattle.script_reader.specs.Newline.{Lacks}
 use Rattle.script_reader.specs.Lines.{lines_of, with_newlines, within_limit}
-use Rattle.undo_journal.specs.Machine.{start}
+use Rattle.undo_journal.specs.Journal.{new_journal}
 use Rattle.script_running.specs.Outs.{Outs, was_stopped}
 use Rattle.script_running.specs.Output.{output_of, summary_of}
 use Rattle.script_running.specs.declared.script_judging.judging.Summary.{Summary}
@@ -22,7 +22,7 @@ pub record Moves (reader writer old : Option (List ℕ)) : Type 0 where
 -- Where no answer stopped the run, the reader gave its end. Where none was `memory`, the answers are the output of the lines.
 pub record Served (reader old new : Option (List ℕ)) (stop : Bool) (summary : Summary) : Type 0 where
   pub moves : Moves reader new old
-  pub outs : (more : List ℕ) → (IsAtEnd moves.left → more ≡ []) → Outs stop start (lines_of (within_limit 0 moves.given ++ more)) moves.out summary
+  pub outs : (more : List ℕ) → (IsAtEnd moves.left → more ≡ []) → Outs stop new_journal (lines_of (within_limit 0 moves.given ++ more)) moves.out summary
   pub finished : was_stopped stop summary ≡ false → IsAtEnd moves.left × (length moves.given ≤ 67108864)
   pub output : summary.memory ≡ 0 → (moves.out ≡ output_of stop (lines_of (within_limit 0 moves.given))) × (summary ≡ summary_of stop (lines_of (within_limit 0 moves.given)))
 
@@ -35,14 +35,14 @@ pub record BreaksOff (reader old new : Option (List ℕ)) (stop : Bool) : Type 0
   pub lacks : Lacks unfinished
   pub lines : lines_of (within_limit 0 moves.given) ≡ judged ++ lines_of unfinished
   pub counts : Summary
-  pub outs : Outs stop start judged moves.out counts
+  pub outs : Outs stop new_journal judged moves.out counts
   pub unstopped : was_stopped stop counts ≡ false
 
 -- a write failed: a prefix of the answers to the lines went out, whatever comes after the bytes that were read
 pub record WriteFails (reader old new : Option (List ℕ)) (stop : Bool) : Type 0 where
   pub moves : Moves reader new old
   pub begun : (more : List ℕ) → (IsAtEnd moves.left → more ≡ [])
-      → (rest : List ℕ) × (counts : Summary) × Outs stop start (lines_of (within_limit 0 moves.given ++ more)) (moves.out ++ rest) counts
+      → (rest : List ℕ) × (counts : Summary) × Outs stop new_journal (lines_of (within_limit 0 moves.given ++ more)) (moves.out ++ rest) counts
 
 -- the bytes that the reader gave end with the one past the limit
 abbrev pub IsTooLong : List ℕ → Type 0

@@ -1,10 +1,15 @@
 //! Laws of what a run does and writes. Each function does nothing: its contract is what is proved.
 ghost use Rattle.script_running.specs.Histories.{LinesAreCalls, LinesLeadOn, HistoriesMakeConsistent, RunsTellHistories};
-ghost use Rattle.script_running.specs.Laws.{OneOutput, HasNoMemory};
+ghost use Rattle.script_running.specs.Laws.{LinesAreTold, OneOutput, HasNoMemory};
 
 use gluing::glues_are_calls;
 use plane_split::splits_are_calls;
 use sweeps::{histories_are_consistent, larger_commands_are_calls};
+
+/// A line that spells a command is answered what the call to give that command to the session is told, and leads on to the same session.
+pub fn lines_are_told()
+    ensures { LinesAreTold }
+{}
 
 /// Where no reply is `memory`, the lines of a script have one output, and one summary.
 pub fn one_output()

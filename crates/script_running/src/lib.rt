@@ -7,9 +7,9 @@
 //!
 //! # What is proved
 //!
-//! `judge` answers a line as the plain machine may, with the session moved likewise, or gives back the lamina, block, sweep, glue
-//! or split that the line spells, and nothing has changed; `carry_out` answers such a command as the machine may, with the
-//! session moved likewise. Where either answers something other than `ok`, the session is as it was, its records too. `complains`
+//! `judge` answers a line as a session may be told what the line asks for (`Judges`), or gives back a request for which the session has to be
+//! moved, and nothing has changed; `carry_out` answers such a request likewise (`Obeys`). A command is answered what the call to give it is told
+//! (`answer_when`; `lines_are_told`). Where the answer is something other than `ok`, the session is as it was, its records too. `complains`
 //! is true exactly of the answers that begin with `refused`, `fault` or `memory`; `Summary` counts lines and answers (`count`),
 //! and is clean (`is_clean`) exactly where it has none of these. `run` writes replies that the plain machine may give to the
 //! lines of the bytes read, in order, and its `Summary` counts them, whatever comes after these bytes: all lines, or those up to
@@ -26,9 +26,6 @@ mod script_judging;
 #[cfg(test)]
 mod tests;
 
-pub use laws::{lines_are_calls, one_output, runs_tell_histories};
+pub use laws::{lines_are_calls, lines_are_told, one_output, runs_tell_histories};
 pub use running::{RunFault, run};
-pub use script_judging::{
-    Answer, Larger, Summary, answer_count, answer_plane, answer_volume, carry_out, judge,
-    tell_outcome,
-};
+pub use script_judging::{Answer, Summary, answer_when, carry_out, judge};

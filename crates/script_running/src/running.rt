@@ -4,7 +4,7 @@ ghost use Rattle.std.specs.Io.KnownBytes.{Keeps};
 ghost use Rattle.solid_listing.specs.Writing.{Puts, Tells, outgoing};
 ghost use Rattle.script_reader.specs.Newline.{has_newline};
 ghost use Rattle.script_reader.specs.State.{reader_of, unread_of, IsFresh};
-ghost use Rattle.undo_journal.specs.Machine.{Machine, start};
+ghost use Rattle.undo_journal.specs.Journal.{new_journal};
 ghost use Rattle.script_running.specs.script_judging.Judging.{answer_text};
 ghost use Rattle.script_running.specs.Outs.{stops};
 ghost use Rattle.script_running.specs.Runs.{Runs};
@@ -127,7 +127,7 @@ fn run_lines<R: Read, W: Write>(
     stop: bool,
 ) -> Result<Summary, RunFault>
     requires fresh { IsFresh (reader_of lines.old) lines.old }
-    requires start { session.machine ≡ start }
+    requires start { session ≡ new_journal }
     ensures { Runs (R.remaining (reader_of lines.old)) (W.contents writer.old) (W.contents writer.new) stop result }
 {
     let mut text = Text::new();
@@ -139,8 +139,8 @@ fn run_lines<R: Read, W: Write>(
         }
         match lines.advance() {
             Found::Line => {
-                if let Some(larger) = judge(&mut session, lines.line(), &mut answer) {
-                    let (next, told) = carry_out(alloc, session, larger);
+                if let Some(request) = judge(&mut session, lines.line(), &mut answer) {
+                    let (next, told) = carry_out(alloc, session, request);
                     session = next;
                     answer = told;
                 }

@@ -1,10 +1,8 @@
-//! Judging: the answer to a line of a script, and what its command does to the session.
+//! Judging: the answer to a line of a script, and what it does to the session.
 
+mod carrying;
 mod judging;
-mod larger;
 
+pub use carrying::carry_out;
 pub(crate) use judging::complains;
-pub use judging::{
-    Answer, Summary, answer_count, answer_plane, answer_volume, judge, tell_outcome,
-};
-pub use larger::{Larger, carry_out};
+pub use judging::{Answer, Summary, answer_when, judge};

@@ -1,18 +1,18 @@
 //! What a line is answered.
-ghost use Rattle.std.specs.Prelude.{◌≡◌, ◌<◌, ◌≤◌, cond, Some};
-ghost use Rattle.euler_conditions.specs.Ready.{IsReady};
-ghost use Rattle.script_running.specs.script_judging.Judging.{refused, faulty, outcome, told, plane_reply, volume_reply, count_reply, StaysUnlessDone, Moves, Acts, complains, one_line, counted};
-ghost use Rattle.script_running.specs.script_judging.Settling.{SettlesLine, Decides, StaysTillDone};
+ghost use Rattle.std.specs.Prelude.{◌≡◌, ◌<◌, ◌≤◌, cond};
+ghost use Rattle.commands.specs.declared.command.Change.TheVariants as change;
+ghost use Rattle.commands.specs.declared.command.Command.TheVariants as command;
+ghost use Rattle.commands.specs.Telling.{TellsSession, told_of, told_of_move};
+ghost use Rattle.script_running.specs.script_judging.Judging.{faulty, answer_when, Gives, complains, one_line, counted};
+ghost use Rattle.script_running.specs.script_judging.Settling.{SettlesLine, Decides};
 ghost use Rattle.script_reader.specs.Grammar.{is_ascii};
 ghost use Rattle.script_running.specs.Outs.{is_clean};
-ghost use Rattle.undo_journal.specs.Machine as machine;
 
-use crate::script_judging::larger::Larger;
-use euler_conditions::Arena;
+use commands::{Change, Command, Question, Told, act_on_session, ask};
 use euler_operators::{Op, Refusal};
-use script_reader::{Command, Fault, is_ascii, is_long, read_words};
-use solid_listing::{Reply, WriteFault};
-use solid_measure::{counts, is_flat, plane, six_volume};
+use script_reader::{Fault, Request, is_ascii, is_long, read_words};
+use solid_listing::Reply;
+use solid_measure::Tally;
 use undo_journal::{Failure, Session};
 
 /// What a line is answered.
@@ -75,95 +75,16 @@ pub(crate) fn complains(answer: &Answer) -> bool
     )
 }
 
-/// The answer to a command that is refused.
 fn refused(refusal: Refusal) -> Answer
-    ensures { result ≡ refused refusal }
+    ensures { result ≡ answer_when (Told.Refused refusal) }
 {
     Answer::Reply(Reply::Refused(refusal.why.code(), refusal.number))
 }
 
-/// Answers a command that ended so.
-pub fn tell_outcome(ended: Result<(), Failure>, answer: &mut Answer)
-    ensures { answer.new ≡ outcome ended }
+fn counted(tally: Tally) -> Answer
+    ensures { result ≡ answer_when (Told.Counts tally) }
 {
-    match ended {
-        Ok(()) => *answer = Answer::Reply(Reply::Done),
-        Err(Failure::Refused(refusal)) => *answer = refused(refusal),
-        Err(Failure::Memory(_)) => *answer = Answer::Reply(Reply::Memory),
-    }
-}
-
-/// The answer to a command that ended so.
-pub(crate) fn outcome(ended: Result<(), Failure>) -> Answer
-    ensures { result ≡ outcome ended }
-{
-    let mut answer = Answer::Silent;
-    tell_outcome(ended, &mut answer);
-    answer
-}
-
-#[tactic(auto, using(crate::proofs::script_judging_laws::Acted::acts_on, crate::proofs::script_judging_laws::Acted::stays))]
-fn act(session: &mut Session, op: Op, answer: &mut Answer)
-    ensures answered { Acts (machine.act_refusal session.old.machine op) session.old.machine (machine.act session.old.machine op) answer.new session.new.machine }
-    ensures kept { StaysUnlessDone answer.new session.old session.new }
-{
-    tell_outcome(session.act(op), answer);
-}
-
-fn undo(session: &mut Session, answer: &mut Answer)
-    ensures answered { Moves (machine.undo_refusal session.old.machine) session.old.machine (machine.undo session.old.machine) answer.new session.new.machine }
-    ensures kept { StaysUnlessDone answer.new session.old session.new }
-{
-    match session.undo() {
-        Ok(()) => *answer = Answer::Reply(Reply::Done),
-        Err(refusal) => *answer = refused(refusal),
-    }
-}
-
-fn redo(session: &mut Session, answer: &mut Answer)
-    ensures answered { Moves (machine.redo_refusal session.old.machine) session.old.machine (machine.redo session.old.machine) answer.new session.new.machine }
-    ensures kept { StaysUnlessDone answer.new session.old session.new }
-{
-    match session.redo() {
-        Ok(()) => *answer = Answer::Reply(Reply::Done),
-        Err(refusal) => *answer = refused(refusal),
-    }
-}
-
-/// What a query gives.
-fn told(given: Result<Reply, Refusal>) -> Answer
-    ensures { result ≡ told given }
-{
-    match given {
-        Ok(reply) => Answer::Reply(reply),
-        Err(refusal) => refused(refusal),
-    }
-}
-
-/// The plane of a face, and whether the face is flat.
-fn plane_reply(arena: &Arena, face: u32) -> Result<Reply, Refusal>
-    requires { IsReady arena.now }
-    ensures { result ≡ plane_reply arena.now.model face }
-{
-    let plane = plane(arena, face)?;
-    Ok(Reply::Plane(plane, is_flat(arena, face)?))
-}
-
-/// Six times the volume of a solid.
-fn volume_reply(arena: &Arena, solid: u32) -> Result<Reply, Refusal>
-    requires { IsReady arena.now }
-    ensures { result ≡ volume_reply arena.now.model solid }
-{
-    Ok(Reply::Volume(six_volume(arena, solid)?))
-}
-
-/// How many vertices, edges, faces and rings a solid has, and `v - e + f - r`.
-fn count_reply(arena: &Arena, solid: u32) -> Result<Reply, Refusal>
-    requires { IsReady arena.now }
-    ensures { result ≡ count_reply arena.now.model solid }
-{
-    let tally = counts(arena, solid)?;
-    Ok(Reply::Count([
+    Answer::Reply(Reply::Count([
         tally.v as i64,
         tally.e as i64,
         tally.f as i64,
@@ -172,31 +93,84 @@ fn count_reply(arena: &Arena, solid: u32) -> Result<Reply, Refusal>
     ]))
 }
 
-/// Answers a query of a face's plane. The rooms for what a query gives are here and in the next ones, so that no other line pays for them.
-#[inline(never)]
-pub fn answer_plane(arena: &Arena, face: u32, answer: &mut Answer)
-    requires { IsReady arena.now }
-    ensures { answer.new ≡ told (plane_reply arena.now.model face) }
+/// The answer to a command that is told so. What only a draft is told has none.
+pub fn answer_when(told: Told) -> Answer
+    ensures { result ≡ answer_when told }
 {
-    *answer = told(plane_reply(arena, face));
+    match told {
+        Told::Done => Answer::Reply(Reply::Done),
+        Told::Refused(refusal) => refused(refusal),
+        Told::Memory => Answer::Reply(Reply::Memory),
+        Told::Plane(plane, flat) => Answer::Reply(Reply::Plane(plane, flat)),
+        Told::Volume(n) => Answer::Reply(Reply::Volume(n)),
+        Told::Counts(tally) => counted(tally),
+        Told::InDraft => Answer::Silent,
+        Told::NoDraft => Answer::Silent,
+        Told::Steps(_) => Answer::Silent,
+    }
 }
 
-/// Answers a query of a solid's volume.
-#[inline(never)]
-pub fn answer_volume(arena: &Arena, solid: u32, answer: &mut Answer)
-    requires { IsReady arena.now }
-    ensures { answer.new ≡ told (volume_reply arena.now.model solid) }
+/// Answers a change that ended so.
+fn tell_outcome(ended: Result<(), Failure>, answer: &mut Answer)
+    ensures { answer.new ≡ answer_when (told_of ended) }
 {
-    *answer = told(volume_reply(arena, solid));
+    match ended {
+        Ok(()) => *answer = Answer::Reply(Reply::Done),
+        Err(Failure::Refused(refusal)) => *answer = refused(refusal),
+        Err(Failure::Memory(_)) => *answer = Answer::Reply(Reply::Memory),
+    }
 }
 
-/// Answers a query of a solid's counts.
-#[inline(never)]
-pub fn answer_count(arena: &Arena, solid: u32, answer: &mut Answer)
-    requires { IsReady arena.now }
-    ensures { answer.new ≡ told (count_reply arena.now.model solid) }
+/// Answers undo or redo that ended so.
+fn tell_move(ended: Result<(), Refusal>, answer: &mut Answer)
+    ensures { answer.new ≡ answer_when (told_of_move ended) }
 {
-    *answer = told(count_reply(arena, solid));
+    match ended {
+        Ok(()) => *answer = Answer::Reply(Reply::Done),
+        Err(refusal) => *answer = refused(refusal),
+    }
+}
+
+fn act(session: &mut Session, op: Op, answer: &mut Answer)
+    ensures { Gives session.old (command.Change (change.Act op)) answer.new session.new }
+{
+    let ended = act_on_session(session, op);
+    tell_outcome(ended, answer);
+}
+
+fn moved_back(session: &mut Session) -> Result<(), Refusal>
+    ensures { TellsSession session.old command.Undo (told_of_move result) session.new }
+{
+    session.undo()
+}
+
+fn moved_on(session: &mut Session) -> Result<(), Refusal>
+    ensures { TellsSession session.old command.Redo (told_of_move result) session.new }
+{
+    session.redo()
+}
+
+fn undo(session: &mut Session, answer: &mut Answer)
+    ensures { Gives session.old command.Undo answer.new session.new }
+{
+    let ended = moved_back(session);
+    tell_move(ended, answer);
+}
+
+fn redo(session: &mut Session, answer: &mut Answer)
+    ensures { Gives session.old command.Redo answer.new session.new }
+{
+    let ended = moved_on(session);
+    tell_move(ended, answer);
+}
+
+/// Answers a question. The room for what it is told is here, so that no other line pays for it.
+#[inline(never)]
+fn tell_question(session: &Session, question: Question, answer: &mut Answer)
+    ensures { Gives session.now (command.Ask question) answer.new session.now }
+{
+    let told = ask(session.arena(), question);
+    *answer = answer_when(told);
 }
 
 /// Answers a line with this fault. The rooms for answers are here and in the next ones, so that no other line pays for them.
@@ -231,51 +205,41 @@ fn tell_nothing(line: &[u8], answer: &mut Answer)
     }
 }
 
-/// Answers a line within the limit whose words spell this command, or gives back the larger one that it is.
+/// Answers a line within the limit whose words ask for this, or gives back a request for which the session has to be moved.
 fn obey<'a>(
     session: &mut Session,
     line: &'a [u8],
-    command: Command<'a>,
+    request: Request<'a>,
     answer: &mut Answer,
-) -> Option<Larger<'a>>
-    ensures settled { SettlesLine session.old.machine line.now command.entry result answer.new session.new.machine }
-    ensures kept { StaysTillDone result answer.new session.old session.new }
+) -> Option<Request<'a>>
+    ensures { SettlesLine session.old line.now request.entry result answer.new session.new }
 {
-    match command {
-        Command::Nothing => tell_nothing(line, answer),
-        Command::Act(op) => act(session, op, answer),
-        Command::Plane(face) => answer_plane(session.arena(), face, answer),
-        Command::Volume(solid) => answer_volume(session.arena(), solid, answer),
-        Command::Count(solid) => answer_count(session.arena(), solid, answer),
-        Command::Undo => undo(session, answer),
-        Command::Redo => redo(session, answer),
-        Command::List => *answer = Answer::Listing,
-        Command::Lamina(solid, polygon) => return Some(Larger::Lamina(solid, polygon)),
-        Command::Block(solid, corner, dx, dy, dz) => {
-            return Some(Larger::Block(solid, corner, dx, dy, dz));
-        }
-        Command::Sweep(face, way) => return Some(Larger::Sweep(face, way)),
-        Command::Glue(face, other) => return Some(Larger::Glue(face, other)),
-        Command::Split(solid, plane, above) => return Some(Larger::Split(solid, plane, above)),
+    match request {
+        Request::Nothing => tell_nothing(line, answer),
+        Request::List => *answer = Answer::Listing,
+        Request::Give(Command::Change(Change::Act(op))) => act(session, op, answer),
+        Request::Give(Command::Ask(question)) => tell_question(session, question, answer),
+        Request::Give(Command::Undo) => undo(session, answer),
+        Request::Give(Command::Redo) => redo(session, answer),
+        larger => return Some(larger),
     }
     None
 }
 
-/// Judges a line: its answer is put where it is kept, since it has the size of a plane; a larger command that the line spells is given back.
-/// Where the answer is not `ok`, or there is none yet, the session is as it was.
+/// Judges a line: its answer is put where it is kept, since it has the size of a plane; a request for which the session has to be moved is given
+/// back, for `carry_out`.
 ///
-/// A line that spells a command is read once. Only one that spells none is looked at again, for a byte that isn't ASCII.
+/// A line that asks for something is read once. Only one that asks for nothing is looked at again, for a byte that isn't ASCII.
 #[tactic(auto, using(crate::proofs::script_judging_laws::Decided::decides))]
-pub fn judge<'a>(session: &mut Session, line: &'a [u8], answer: &mut Answer) -> Option<Larger<'a>>
-    ensures answered { Decides session.old.machine line.now result answer.new session.new.machine }
-    ensures kept { StaysTillDone result answer.new session.old session.new }
+pub fn judge<'a>(session: &mut Session, line: &'a [u8], answer: &mut Answer) -> Option<Request<'a>>
+    ensures { Decides session.old line.now result answer.new session.new }
 {
     if is_long(line) {
         tell_fault(Fault::LongLine, answer);
         return None;
     }
     match read_words(line) {
-        Ok(command) => obey(session, line, command, answer),
+        Ok(request) => obey(session, line, request, answer),
         Err(fault) => {
             tell_first_fault(line, fault, answer);
             None

@@ -2,7 +2,6 @@ use Rattle.std.proofs.Common.{◌≡◌, ◌+◌, ℕ, sym, ap, subst, ◌∙◌
 use Rattle.script_reader.specs.State.{reader_of}
 use Rattle.script_running.specs.declared.script_judging.judging.Summary.{Summary}
 use Rattle.script_running.specs.script_judging.Judging.{no_lines}
-use Rattle.undo_journal.proofs.Journals.{same_machine}
 use Rattle.script_running.proofs.Counting.{IsWithin, same_counts, counted_within, one_more}
 use Rattle.script_running.proofs.RunLaws.{Progress, Hears, begins, flushed, turn_of, goes_on, heard_line, heard_larger, heard_long, ends, read_fails, too_long, same_run, telling_fails, stops_there, flush_fails, falls}
 use Rattle.script_running.proofs.running.run_lines.Goals.{in-Line+in-Some, in-Line+in_default-judge, in-Long, in-Err, in_default+in-End, in_default+in-Read, in_default+in-TooLong, in_default+in-Err-say, in_default+in_default-say+then-stops}
@@ -17,8 +16,8 @@ script-init g c =
     let zero = same_counts c.default-summary.result no_lines e.0 e.1.0 e.1.1.0 e.1.1.1 in
     let fresh = c.requires.fresh in
     record {
-      progress = subst (λ (n : Summary). Progress g.R.Read.remaining (g.R.Read.remaining (reader_of c.args.lines.now)) c.args.lines.now (g.W.Write.contents c.args.writer.now) (outgoing (g.W.Write.contents c.args.writer.now) c.new-text.result) c.args.stop c.args.session.machine n) (sym zero)
-          (begins g.R.Read.remaining _ c.args.lines.now (g.W.Write.contents c.args.writer.now) c.new-text.result c.args.stop c.args.session.machine fresh c.requires.start c.new-text.ensures);
+      progress = subst (λ (n : Summary). Progress g.R.Read.remaining (g.R.Read.remaining (reader_of c.args.lines.now)) c.args.lines.now (g.W.Write.contents c.args.writer.now) (outgoing (g.W.Write.contents c.args.writer.now) c.new-text.result) c.args.stop c.args.session n) (sym zero)
+          (begins g.R.Read.remaining _ c.args.lines.now (g.W.Write.contents c.args.writer.now) c.new-text.result c.args.stop c.args.session fresh c.requires.start c.new-text.ensures);
       within = subst IsWithin (sym zero) (record { refused = omega arith; faults = omega arith; memory = omega arith });
       bound = rw (zero, fresh.taken, fresh.unread) (omega arith);
     }
@@ -42,60 +41,60 @@ returns g c =
           same_run _ _ _ _ _ _ _ (ap g.W.Write.contents w.writer-is) w.result-is (too_long g.R.Read.remaining _ c.script.lines w.advance.new.self _ (outgoing (g.W.Write.contents c.flush.new.writer) c.flush.new.text) _ _ _ at w.in-TooLong.ensures none)
       | in_default+in-Err-say w ↦
           let at = flushed g.R.Read.remaining _ c.script.lines _ (outgoing (g.W.Write.contents c.script.writer) c.script.text) (outgoing (g.W.Write.contents c.flush.new.writer) c.flush.new.text) _ _ _ c.script.invariant.progress w.in_default.ensures.tells in
-          let told : Hears g.R.Read.remaining c.script.lines w.advance.new.self c.script.session.machine w.match-advance.answer w.match-advance.session.machine = elim w.match-advance.branch [
-            | in-Line+in-Some v ↦ heard_larger g.R.Read.remaining _ _ _ _ _ _ _ _ _ _ v.in-Line.ensures v.line.ensures v.in-Some.ensures.answered v.carry_out-next.ensures.answered v.answer-is (same_machine v.session-is)
-            | in-Line+in_default-judge v ↦ heard_line g.R.Read.remaining _ _ _ v.line.result.now v.judge.new.session.machine _ v.judge.new.answer _ v.in-Line.ensures v.line.ensures v.in_default-judge.ensures.answered v.answer-is (same_machine v.session-is)
-            | in-Long v ↦ heard_long g.R.Read.remaining _ _ _ _ _ _ v.in-Long.ensures v.code.ensures v.answer-is (same_machine v.session-is)
+          let told : Hears g.R.Read.remaining c.script.lines w.advance.new.self c.script.session w.match-advance.answer w.match-advance.session = elim w.match-advance.branch [
+            | in-Line+in-Some v ↦ heard_larger g.R.Read.remaining _ _ _ _ _ _ _ _ _ _ v.in-Line.ensures v.line.ensures v.in-Some.ensures v.carry_out-next.ensures v.answer-is v.session-is
+            | in-Line+in_default-judge v ↦ heard_line g.R.Read.remaining _ _ _ v.line.result.now v.judge.new.session _ v.judge.new.answer _ v.in-Line.ensures v.line.ensures v.in_default-judge.ensures v.answer-is v.session-is
+            | in-Long v ↦ heard_long g.R.Read.remaining _ _ _ _ _ _ v.in-Long.ensures v.code.ensures v.answer-is v.session-is
           ] in
-          let turn = turn_of g.R.Read.remaining _ c.script.lines w.advance.new.self _ _ _ _ _ w.match-advance.answer w.match-advance.session.machine at told in
-          same_run _ _ _ _ _ _ _ (ap g.W.Write.contents w.writer-is) w.result-is (telling_fails g.R.Read.remaining _ w.advance.new.self _ (outgoing (g.W.Write.contents c.flush.new.writer) c.flush.new.text) (outgoing (g.W.Write.contents w.say.new.writer) w.say.new.text) _ _ _ w.match-advance.answer w.match-advance.session.machine w.in-Err-say.fault turn w.in-Err-say.ensures.tells w.in-Err-say.ensures.fault)
+          let turn = turn_of g.R.Read.remaining _ c.script.lines w.advance.new.self _ _ _ _ _ w.match-advance.answer w.match-advance.session at told in
+          same_run _ _ _ _ _ _ _ (ap g.W.Write.contents w.writer-is) w.result-is (telling_fails g.R.Read.remaining _ w.advance.new.self _ (outgoing (g.W.Write.contents c.flush.new.writer) c.flush.new.text) (outgoing (g.W.Write.contents w.say.new.writer) w.say.new.text) _ _ _ w.match-advance.answer w.match-advance.session w.in-Err-say.fault turn w.in-Err-say.ensures.tells w.in-Err-say.ensures.fault)
       | in_default+in_default-say+then-stops w ↦
           let at = flushed g.R.Read.remaining _ c.script.lines _ (outgoing (g.W.Write.contents c.script.writer) c.script.text) (outgoing (g.W.Write.contents c.flush.new.writer) c.flush.new.text) _ _ _ c.script.invariant.progress w.in_default.ensures.tells in
-          let told : Hears g.R.Read.remaining c.script.lines w.advance.new.self c.script.session.machine w.match-advance.answer w.match-advance.session.machine = elim w.match-advance.branch [
-            | in-Line+in-Some v ↦ heard_larger g.R.Read.remaining _ _ _ _ _ _ _ _ _ _ v.in-Line.ensures v.line.ensures v.in-Some.ensures.answered v.carry_out-next.ensures.answered v.answer-is (same_machine v.session-is)
-            | in-Line+in_default-judge v ↦ heard_line g.R.Read.remaining _ _ _ v.line.result.now v.judge.new.session.machine _ v.judge.new.answer _ v.in-Line.ensures v.line.ensures v.in_default-judge.ensures.answered v.answer-is (same_machine v.session-is)
-            | in-Long v ↦ heard_long g.R.Read.remaining _ _ _ _ _ _ v.in-Long.ensures v.code.ensures v.answer-is (same_machine v.session-is)
+          let told : Hears g.R.Read.remaining c.script.lines w.advance.new.self c.script.session w.match-advance.answer w.match-advance.session = elim w.match-advance.branch [
+            | in-Line+in-Some v ↦ heard_larger g.R.Read.remaining _ _ _ _ _ _ _ _ _ _ v.in-Line.ensures v.line.ensures v.in-Some.ensures v.carry_out-next.ensures v.answer-is v.session-is
+            | in-Line+in_default-judge v ↦ heard_line g.R.Read.remaining _ _ _ v.line.result.now v.judge.new.session _ v.judge.new.answer _ v.in-Line.ensures v.line.ensures v.in_default-judge.ensures v.answer-is v.session-is
+            | in-Long v ↦ heard_long g.R.Read.remaining _ _ _ _ _ _ v.in-Long.ensures v.code.ensures v.answer-is v.session-is
           ] in
-          let turn = turn_of g.R.Read.remaining _ c.script.lines w.advance.new.self _ _ _ _ _ w.match-advance.answer w.match-advance.session.machine at told in
+          let turn = turn_of g.R.Read.remaining _ c.script.lines w.advance.new.self _ _ _ _ _ w.match-advance.answer w.match-advance.session at told in
           let bad = sym w.stops.ensures ∙ w.if-stops.true in
-          same_run _ _ _ _ _ _ _ (ap g.W.Write.contents w.writer-is) w.result-is (stops_there g.R.Read.remaining _ w.advance.new.self _ (outgoing (g.W.Write.contents c.flush.new.writer) c.flush.new.text) (outgoing (g.W.Write.contents w.say.new.writer) w.say.new.text) (g.W.Write.contents w.leave.new.writer) _ _ _ _ w.match-advance.answer w.match-advance.session.machine w.leave.result
+          same_run _ _ _ _ _ _ _ (ap g.W.Write.contents w.writer-is) w.result-is (stops_there g.R.Read.remaining _ w.advance.new.self _ (outgoing (g.W.Write.contents c.flush.new.writer) c.flush.new.text) (outgoing (g.W.Write.contents w.say.new.writer) w.say.new.text) (g.W.Write.contents w.leave.new.writer) _ _ _ _ w.match-advance.answer w.match-advance.session w.leave.result
           turn bad w.in_default-say.ensures.tells w.count.ensures w.leave.ensures.puts w.leave.ensures.ok w.leave.ensures.fault)
     ]
 
 pub count-requires-clause-lines : goal.count-requires-clause-lines
 count-requires-clause-lines g c =
-    let told : Hears g.R.Read.remaining c.script.lines c.advance.new.self c.script.session.machine c.match-advance.answer c.match-advance.session.machine = elim c.match-advance.branch [
-      | in-Line+in-Some w ↦ heard_larger g.R.Read.remaining _ _ _ _ _ _ _ _ _ _ w.in-Line.ensures w.line.ensures w.in-Some.ensures.answered w.carry_out-next.ensures.answered w.answer-is (same_machine w.session-is)
-      | in-Line+in_default-judge w ↦ heard_line g.R.Read.remaining _ _ _ w.line.result.now w.judge.new.session.machine _ w.judge.new.answer _ w.in-Line.ensures w.line.ensures w.in_default-judge.ensures.answered w.answer-is (same_machine w.session-is)
-      | in-Long w ↦ heard_long g.R.Read.remaining _ _ _ _ _ _ w.in-Long.ensures w.code.ensures w.answer-is (same_machine w.session-is)
+    let told : Hears g.R.Read.remaining c.script.lines c.advance.new.self c.script.session c.match-advance.answer c.match-advance.session = elim c.match-advance.branch [
+      | in-Line+in-Some w ↦ heard_larger g.R.Read.remaining _ _ _ _ _ _ _ _ _ _ w.in-Line.ensures w.line.ensures w.in-Some.ensures w.carry_out-next.ensures w.answer-is w.session-is
+      | in-Line+in_default-judge w ↦ heard_line g.R.Read.remaining _ _ _ w.line.result.now w.judge.new.session _ w.judge.new.answer _ w.in-Line.ensures w.line.ensures w.in_default-judge.ensures w.answer-is w.session-is
+      | in-Long w ↦ heard_long g.R.Read.remaining _ _ _ _ _ _ w.in-Long.ensures w.code.ensures w.answer-is w.session-is
     ] in
-    let less = falls g.R.Read.remaining c.script.lines c.advance.new.self c.script.session.machine c.match-advance.answer c.match-advance.session.machine told in
+    let less = falls g.R.Read.remaining c.script.lines c.advance.new.self c.script.session c.match-advance.answer c.match-advance.session told in
     omega (arith, less, c.script.invariant.bound)
 
 pub script-smaller : goal.script-smaller
 script-smaller g c =
-    let told : Hears g.R.Read.remaining c.script.lines c.advance.new.self c.script.session.machine c.match-advance.answer c.match-advance.session.machine = elim c.match-advance.branch [
-      | in-Line+in-Some w ↦ heard_larger g.R.Read.remaining _ _ _ _ _ _ _ _ _ _ w.in-Line.ensures w.line.ensures w.in-Some.ensures.answered w.carry_out-next.ensures.answered w.answer-is (same_machine w.session-is)
-      | in-Line+in_default-judge w ↦ heard_line g.R.Read.remaining _ _ _ w.line.result.now w.judge.new.session.machine _ w.judge.new.answer _ w.in-Line.ensures w.line.ensures w.in_default-judge.ensures.answered w.answer-is (same_machine w.session-is)
-      | in-Long w ↦ heard_long g.R.Read.remaining _ _ _ _ _ _ w.in-Long.ensures w.code.ensures w.answer-is (same_machine w.session-is)
+    let told : Hears g.R.Read.remaining c.script.lines c.advance.new.self c.script.session c.match-advance.answer c.match-advance.session = elim c.match-advance.branch [
+      | in-Line+in-Some w ↦ heard_larger g.R.Read.remaining _ _ _ _ _ _ _ _ _ _ w.in-Line.ensures w.line.ensures w.in-Some.ensures w.carry_out-next.ensures w.answer-is w.session-is
+      | in-Line+in_default-judge w ↦ heard_line g.R.Read.remaining _ _ _ w.line.result.now w.judge.new.session _ w.judge.new.answer _ w.in-Line.ensures w.line.ensures w.in_default-judge.ensures w.answer-is w.session-is
+      | in-Long w ↦ heard_long g.R.Read.remaining _ _ _ _ _ _ w.in-Long.ensures w.code.ensures w.answer-is w.session-is
     ] in
-    falls g.R.Read.remaining c.script.lines c.advance.new.self c.script.session.machine c.match-advance.answer c.match-advance.session.machine told
+    falls g.R.Read.remaining c.script.lines c.advance.new.self c.script.session c.match-advance.answer c.match-advance.session told
 
 pub script-preserved : goal.script-preserved
 script-preserved g c =
-    let told : Hears g.R.Read.remaining c.script.lines c.advance.new.self c.script.session.machine c.match-advance.answer c.match-advance.session.machine = elim c.match-advance.branch [
-      | in-Line+in-Some w ↦ heard_larger g.R.Read.remaining _ _ _ _ _ _ _ _ _ _ w.in-Line.ensures w.line.ensures w.in-Some.ensures.answered w.carry_out-next.ensures.answered w.answer-is (same_machine w.session-is)
-      | in-Line+in_default-judge w ↦ heard_line g.R.Read.remaining _ _ _ w.line.result.now w.judge.new.session.machine _ w.judge.new.answer _ w.in-Line.ensures w.line.ensures w.in_default-judge.ensures.answered w.answer-is (same_machine w.session-is)
-      | in-Long w ↦ heard_long g.R.Read.remaining _ _ _ _ _ _ w.in-Long.ensures w.code.ensures w.answer-is (same_machine w.session-is)
+    let told : Hears g.R.Read.remaining c.script.lines c.advance.new.self c.script.session c.match-advance.answer c.match-advance.session = elim c.match-advance.branch [
+      | in-Line+in-Some w ↦ heard_larger g.R.Read.remaining _ _ _ _ _ _ _ _ _ _ w.in-Line.ensures w.line.ensures w.in-Some.ensures w.carry_out-next.ensures w.answer-is w.session-is
+      | in-Line+in_default-judge w ↦ heard_line g.R.Read.remaining _ _ _ w.line.result.now w.judge.new.session _ w.judge.new.answer _ w.in-Line.ensures w.line.ensures w.in_default-judge.ensures w.answer-is w.session-is
+      | in-Long w ↦ heard_long g.R.Read.remaining _ _ _ _ _ _ w.in-Long.ensures w.code.ensures w.answer-is w.session-is
     ] in
     let at = flushed g.R.Read.remaining _ c.script.lines _ (outgoing (g.W.Write.contents c.script.writer) c.script.text) (outgoing (g.W.Write.contents c.flush.new.writer) c.flush.new.text) _ _ _ c.script.invariant.progress c.in_default.ensures.tells in
-    let turn = turn_of g.R.Read.remaining _ c.script.lines c.advance.new.self _ _ _ _ _ c.match-advance.answer c.match-advance.session.machine at told in
+    let turn = turn_of g.R.Read.remaining _ c.script.lines c.advance.new.self _ _ _ _ _ c.match-advance.answer c.match-advance.session at told in
     let calm = sym c.stops.ensures ∙ c.if-stops.false in
-    let less = falls g.R.Read.remaining c.script.lines c.advance.new.self c.script.session.machine c.match-advance.answer c.match-advance.session.machine told in
+    let less = falls g.R.Read.remaining c.script.lines c.advance.new.self c.script.session c.match-advance.answer c.match-advance.session told in
     let one : c.count.new.self.lines ≡ c.script.summary.lines + 1 = ap (λ (n : Summary). n.lines) c.count.ensures ∙ ap (λ (k : ℕ). c.script.summary.lines + k) (one_more c.match-advance.answer) in
     record {
-      progress = subst (λ (n : Summary). Progress g.R.Read.remaining (g.R.Read.remaining (reader_of c.args.lines.now)) c.advance.new.self (g.W.Write.contents c.args.writer.now) (outgoing (g.W.Write.contents c.say.new.writer) c.say.new.text) c.args.stop c.match-advance.session.machine n) (sym c.count.ensures)
-          (goes_on g.R.Read.remaining _ c.advance.new.self _ (outgoing (g.W.Write.contents c.flush.new.writer) c.flush.new.text) (outgoing (g.W.Write.contents c.say.new.writer) c.say.new.text) _ _ _ c.match-advance.answer c.match-advance.session.machine turn calm c.in_default-say.ensures.tells);
+      progress = subst (λ (n : Summary). Progress g.R.Read.remaining (g.R.Read.remaining (reader_of c.args.lines.now)) c.advance.new.self (g.W.Write.contents c.args.writer.now) (outgoing (g.W.Write.contents c.say.new.writer) c.say.new.text) c.args.stop c.match-advance.session n) (sym c.count.ensures)
+          (goes_on g.R.Read.remaining _ c.advance.new.self _ (outgoing (g.W.Write.contents c.flush.new.writer) c.flush.new.text) (outgoing (g.W.Write.contents c.say.new.writer) c.say.new.text) _ _ _ c.match-advance.answer c.match-advance.session turn calm c.in_default-say.ensures.tells);
       within = subst IsWithin (sym c.count.ensures) (counted_within c.script.summary c.match-advance.answer c.script.invariant.within);
       bound = omega (arith, less, one, c.script.invariant.bound);
     }

@@ -1,5 +1,5 @@
-use Rattle.std.proofs.Common.{rules}
+use Rattle.commands.specs.Telling.{told_of_move}
 use Rattle.script_running.proofs.script_judging.judging.redo.Goals as goal
 
-pub returns-in-Ok-clause-answered : goal.returns-in-Ok-clause-answered
-returns-in-Ok-clause-answered c = search rules
+pub returns : goal.returns
+returns c = (told_of_move c.moved_on-ended.result, c.tell_move.ensures, c.moved_on-ended.ensures)

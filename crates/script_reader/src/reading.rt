@@ -4,23 +4,24 @@ ghost use Rattle.script_reader.specs.Words.{words};
 ghost use Rattle.script_reader.specs.Grammar.{arguments};
 ghost use Rattle.script_reader.specs.declared.name.Name.TheVariants as name;
 
-use super::command::{Command, Fault};
+use super::command::{Fault, Request};
 use super::name::Name;
 use super::operators::{kef, kemr, kev, kfmrh, kvfs, mef, mekr, mev, mfkrh, mvfs, ringmv};
 use super::places::Words;
 use super::polygon::Polygon;
+use commands::{Change, Command, Question};
 
 #[tactic(auto, unfolding(crate::specs::Grammar::arguments))]
-fn lamina<'a>(words: &mut Words<'a>) -> Result<Command<'a>, Fault>
+fn lamina<'a>(words: &mut Words<'a>) -> Result<Request<'a>, Fault>
     ensures { result ≡ arguments name.Lamina words.old }
 {
     let solid = words.number()?;
     let polygon = Polygon::read(words.rest())?;
-    Ok(Command::Lamina(solid, polygon))
+    Ok(Request::Lamina(solid, polygon))
 }
 
 #[tactic(auto, unfolding(crate::specs::Grammar::arguments))]
-fn block<'a>(words: &mut Words<'a>) -> Result<Command<'a>, Fault>
+fn block<'a>(words: &mut Words<'a>) -> Result<Request<'a>, Fault>
     ensures { result ≡ arguments name.Block words.old }
 {
     let solid = words.number()?;
@@ -29,31 +30,31 @@ fn block<'a>(words: &mut Words<'a>) -> Result<Command<'a>, Fault>
     let dy = words.integer()?;
     let dz = words.integer()?;
     words.finish()?;
-    Ok(Command::Block(solid, place, dx, dy, dz))
+    Ok(Request::Give(Command::Change(Change::Block(solid, place, dx, dy, dz))))
 }
 
 #[tactic(auto, unfolding(crate::specs::Grammar::arguments))]
-fn sweep<'a>(words: &mut Words<'a>) -> Result<Command<'a>, Fault>
+fn sweep<'a>(words: &mut Words<'a>) -> Result<Request<'a>, Fault>
     ensures { result ≡ arguments name.Sweep words.old }
 {
     let face = words.number()?;
     let vector = words.point()?;
     words.finish()?;
-    Ok(Command::Sweep(face, vector))
+    Ok(Request::Give(Command::Change(Change::Sweep(face, vector))))
 }
 
 #[tactic(auto, unfolding(crate::specs::Grammar::arguments))]
-fn glue<'a>(words: &mut Words<'a>) -> Result<Command<'a>, Fault>
+fn glue<'a>(words: &mut Words<'a>) -> Result<Request<'a>, Fault>
     ensures { result ≡ arguments name.Glue words.old }
 {
     let kept = words.number()?;
     let killed = words.number()?;
     words.finish()?;
-    Ok(Command::Glue(kept, killed))
+    Ok(Request::Give(Command::Change(Change::Glue(kept, killed))))
 }
 
 #[tactic(auto, unfolding(crate::specs::Grammar::arguments))]
-fn split<'a>(words: &mut Words<'a>) -> Result<Command<'a>, Fault>
+fn split<'a>(words: &mut Words<'a>) -> Result<Request<'a>, Fault>
     ensures { result ≡ arguments name.Split words.old }
 {
     let solid = words.number()?;
@@ -63,62 +64,62 @@ fn split<'a>(words: &mut Words<'a>) -> Result<Command<'a>, Fault>
     let d = words.integer()?;
     let above = words.number()?;
     words.finish()?;
-    Ok(Command::Split(solid, [a, b, c, d], above))
+    Ok(Request::Give(Command::Change(Change::Split(solid, a, b, c, d, above))))
 }
 
 #[tactic(auto, unfolding(crate::specs::Grammar::arguments))]
-fn plane<'a>(words: &mut Words<'a>) -> Result<Command<'a>, Fault>
+fn plane<'a>(words: &mut Words<'a>) -> Result<Request<'a>, Fault>
     ensures { result ≡ arguments name.Plane words.old }
 {
     let face = words.number()?;
     words.finish()?;
-    Ok(Command::Plane(face))
+    Ok(Request::Give(Command::Ask(Question::Plane(face))))
 }
 
 #[tactic(auto, unfolding(crate::specs::Grammar::arguments))]
-fn volume<'a>(words: &mut Words<'a>) -> Result<Command<'a>, Fault>
+fn volume<'a>(words: &mut Words<'a>) -> Result<Request<'a>, Fault>
     ensures { result ≡ arguments name.Volume words.old }
 {
     let solid = words.number()?;
     words.finish()?;
-    Ok(Command::Volume(solid))
+    Ok(Request::Give(Command::Ask(Question::Volume(solid))))
 }
 
 #[tactic(auto, unfolding(crate::specs::Grammar::arguments))]
-fn count<'a>(words: &mut Words<'a>) -> Result<Command<'a>, Fault>
+fn count<'a>(words: &mut Words<'a>) -> Result<Request<'a>, Fault>
     ensures { result ≡ arguments name.Count words.old }
 {
     let solid = words.number()?;
     words.finish()?;
-    Ok(Command::Count(solid))
+    Ok(Request::Give(Command::Ask(Question::Count(solid))))
 }
 
 #[tactic(auto, unfolding(crate::specs::Grammar::arguments))]
-fn undo<'a>(words: &mut Words<'a>) -> Result<Command<'a>, Fault>
+fn undo<'a>(words: &mut Words<'a>) -> Result<Request<'a>, Fault>
     ensures { result ≡ arguments name.Undo words.old }
 {
     words.finish()?;
-    Ok(Command::Undo)
+    Ok(Request::Give(Command::Undo))
 }
 
 #[tactic(auto, unfolding(crate::specs::Grammar::arguments))]
-fn redo<'a>(words: &mut Words<'a>) -> Result<Command<'a>, Fault>
+fn redo<'a>(words: &mut Words<'a>) -> Result<Request<'a>, Fault>
     ensures { result ≡ arguments name.Redo words.old }
 {
     words.finish()?;
-    Ok(Command::Redo)
+    Ok(Request::Give(Command::Redo))
 }
 
 #[tactic(auto, unfolding(crate::specs::Grammar::arguments))]
-fn list<'a>(words: &mut Words<'a>) -> Result<Command<'a>, Fault>
+fn list<'a>(words: &mut Words<'a>) -> Result<Request<'a>, Fault>
     ensures { result ≡ arguments name.List words.old }
 {
     words.finish()?;
-    Ok(Command::List)
+    Ok(Request::List)
 }
 
 /// The command of this name, with the words in the rest of its line.
-pub fn arguments(name: Name, rest: &[u8]) -> Result<Command<'_>, Fault>
+pub fn arguments(name: Name, rest: &[u8]) -> Result<Request<'_>, Fault>
     ensures { result ≡ arguments name (words rest.now) }
 {
     let mut words = Words::of(rest);

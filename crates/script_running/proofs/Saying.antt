@@ -1,0 +1,37 @@
+-- A line that spells a command is answered what the call to give it is told.
+use Rattle.std.proofs.Common.{◌≡◌, Some, refl, sym, ap, subst, ◌∙◌}
+use Rattle.std.specs.Prelude.{Result}
+use Rattle.undo_journal.specs.Journal.{Journal}
+use Rattle.commands.specs.declared.command.Change.TheVariants as change
+use Rattle.commands.specs.declared.command.Command.{Command}
+use Rattle.commands.specs.declared.command.Command.TheVariants as command
+use Rattle.commands.specs.declared.command.Call.TheVariants as call
+use Rattle.commands.specs.declared.stage.Stage.{Stage}
+use Rattle.commands.specs.declared.stage.Stage.TheVariants.{Session, Drafting}
+use Rattle.commands.specs.Telling.{TellsSession}
+use Rattle.script_reader.specs.declared.command.Request.{Request}
+use Rattle.script_reader.specs.declared.command.Request.TheVariants as request
+use Rattle.script_reader.specs.declared.command.Fault.{Fault}
+use Rattle.script_running.specs.script_judging.Judging.{Gives, Obeys, Answers, Judges}
+use Rattle.script_running.specs.Laws.{asked_for, LinesAreTold}
+use Rattle.script_running.specs.declared.script_judging.judging.Answer.{Answer}
+
+-- what asks for a command is obeyed as that command
+gives_is : (s t : Journal) (r : Request) (c : Command) (a : Answer) → asked_for r ≡ Some c → Obeys s r a t ≡ Gives s c a t
+gives_is s t request.Nothing c a e = absurd (cc e)
+gives_is s t request.List c a e = absurd (cc e)
+gives_is s t (request.Lamina n ps) c a e = let same : command.Change (change.Lamina n ps) ≡ c = cc e in ap (λ (x : Command). Gives s x a t) same
+gives_is s t (request.Give d) c a e = let same : d ≡ c = cc e in ap (λ (x : Command). Gives s x a t) same
+
+-- the session in a stage
+abbrev session_in : Journal → Stage → Journal
+session_in s (Session t) = t
+session_in s (Drafting d) = s
+
+pub lines_are_told : LinesAreTold
+lines_are_told s t line c a (r, spelled, asked) =
+    let same : Judges s line a t ≡ Gives s c a t = ap (λ (x : Result Request Fault). Answers s x a t) spelled ∙ gives_is s t r c a asked in (
+      λ judged. let (b, is, h) = subst (λ (P : Type 0). P) same judged in (b, is, (t, refl, h)),
+      λ told. subst (λ (P : Type 0). P) (sym same)
+          (told.0, told.1, subst (λ (u : Journal). TellsSession s c told.0 u) (sym (ap (session_in s) told.2.1)) told.2.2),
+    )

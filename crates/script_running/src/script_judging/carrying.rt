@@ -1,0 +1,46 @@
+//! Requests for which the session is moved: it is taken, and given back with the answer.
+ghost use Rattle.commands.specs.declared.command.Change.TheVariants as change;
+ghost use Rattle.commands.specs.declared.command.Command.TheVariants as command;
+ghost use Rattle.script_running.specs.script_judging.Judging.{Gives, Obeys};
+
+use crate::script_judging::judging::{Answer, answer_when};
+use commands::{Change, Command, Points, give};
+use script_reader::{Polygon, Request};
+use std::alloc::Global;
+use undo_journal::Session;
+
+fn carry(alloc: Global, session: Session, wanted: Command<'_>) -> (Session, Answer)
+    ensures { Gives session wanted.entry result.1 result.0 }
+{
+    let (session, told) = give(alloc, session, wanted);
+    (session, answer_when(told))
+}
+
+fn carry_lamina(
+    alloc: Global,
+    session: Session,
+    solid: u32,
+    polygon: &Polygon<'_>,
+) -> (Session, Answer)
+    ensures { Gives session (command.Change (change.Lamina solid polygon.now)) result.1 result.0 }
+{
+    let corners = polygon.corners();
+    let points = Points::of(corners.points());
+    carry(
+        alloc,
+        session,
+        Command::Change(Change::Lamina(solid, points)),
+    )
+}
+
+/// Does what a line asks for, and gives the session back with the answer. What isn't answered `ok` leaves it as it was, its records too.
+pub fn carry_out(alloc: Global, session: Session, request: Request<'_>) -> (Session, Answer)
+    ensures { Obeys session request.entry result.1 result.0 }
+{
+    match request {
+        Request::Nothing => (session, Answer::Silent),
+        Request::List => (session, Answer::Listing),
+        Request::Lamina(solid, polygon) => carry_lamina(alloc, session, solid, &polygon),
+        Request::Give(wanted) => carry(alloc, session, wanted),
+    }
+}
