@@ -1,13 +1,15 @@
 -- What a line is answered whose words ask for something.
-use Rattle.std.proofs.Common.{◌≡◌, inl, inr, ℕ, false, List, length, Option, Some, None, Ok, ap, ◌∙◌}
+use Rattle.std.proofs.Common.{◌≡◌, inl, inr, ℕ, false, List, codes, length, Option, Some, None, Ok, sym, ap, subst, ◌∙◌}
 use Rattle.std.specs.Prelude.{nat_lt}
 use Rattle.std.proofs.lemmas.Bool.{cases_Bool}
 use Rattle.undo_journal.specs.Journal.{Journal}
+use Rattle.commands.specs.declared.command.Command.TheVariants as command
 use Rattle.script_reader.specs.Words.{words}
-use Rattle.script_reader.specs.Grammar.{is_ascii, command_of_words, command_of}
+use Rattle.script_reader.specs.Grammar.{is_ascii, arguments, command_of_words, command_of}
 use Rattle.script_reader.specs.declared.command.Request.{Request}
 use Rattle.script_reader.specs.declared.command.Request.TheVariants.{Nothing}
 use Rattle.script_reader.proofs.AsciiWords.{words_tell}
+use Rattle.script_running.specs.script_judging.Judging.{Gives, Judges}
 use Rattle.script_running.specs.script_judging.Settling.{Settles, SettlesLine, Decides}
 use Rattle.script_running.specs.declared.script_judging.judging.Answer.{Answer}
 
@@ -22,3 +24,12 @@ decides s line Nothing None a t short e h = elim (cases_Bool (is_ascii line)) [
   | inr other ↦ rw (short, other) (rw other at h.1, h.2)
 ]
 decides s line r q a t short e h = decided s line r q a t (words_tell line r short e (λ same. absurd (cc same))) h
+
+-- the lines that are known by their letters
+pub undo_judged : (s : Journal) (line : List ℕ) (a : Answer) (t : Journal) → line ≡ codes "undo" → Gives s command.Undo a t → Judges s line a t
+unfolding arguments
+undo_judged s line a t is h = subst (λ (l : List ℕ). Judges s l a t) (sym is) h
+
+pub redo_judged : (s : Journal) (line : List ℕ) (a : Answer) (t : Journal) → line ≡ codes "redo" → Gives s command.Redo a t → Judges s line a t
+unfolding arguments
+redo_judged s line a t is h = subst (λ (l : List ℕ). Judges s l a t) (sym is) h

@@ -150,6 +150,7 @@ fn moved_on(session: &mut Session) -> Result<(), Refusal>
     session.redo()
 }
 
+#[inline(never)]
 fn undo(session: &mut Session, answer: &mut Answer)
     ensures { Gives session.old command.Undo answer.new session.new }
 {
@@ -157,6 +158,7 @@ fn undo(session: &mut Session, answer: &mut Answer)
     tell_move(ended, answer);
 }
 
+#[inline(never)]
 fn redo(session: &mut Session, answer: &mut Answer)
     ensures { Gives session.old command.Redo answer.new session.new }
 {
@@ -226,12 +228,12 @@ fn obey<'a>(
     None
 }
 
-/// Judges a line: its answer is put where it is kept, since it has the size of a plane; a request for which the session has to be moved is given
-/// back, for `carry_out`.
+/// Judges any line.
 ///
 /// A line that asks for something is read once. Only one that asks for nothing is looked at again, for a byte that isn't ASCII.
+#[inline(never)]
 #[tactic(auto, using(crate::proofs::script_judging_laws::Decided::decides))]
-pub fn judge<'a>(session: &mut Session, line: &'a [u8], answer: &mut Answer) -> Option<Request<'a>>
+fn judge_line<'a>(session: &mut Session, line: &'a [u8], answer: &mut Answer) -> Option<Request<'a>>
     ensures { Decides session.old line.now result answer.new session.new }
 {
     if is_long(line) {
@@ -244,5 +246,24 @@ pub fn judge<'a>(session: &mut Session, line: &'a [u8], answer: &mut Answer) -> 
             tell_first_fault(line, fault, answer);
             None
         }
+    }
+}
+
+/// Judges a line: its answer is put where it is kept, since it has the size of a plane; a request for which the session has to be moved is given
+/// back, for `carry_out`. The lines that are given most often, `undo` and `redo` alone, are known by their letters.
+#[inline(always)]
+pub fn judge<'a>(session: &mut Session, line: &'a [u8], answer: &mut Answer) -> Option<Request<'a>>
+    ensures { Decides session.old line.now result answer.new session.new }
+{
+    match line {
+        [b'u', b'n', b'd', b'o'] => {
+            undo(session, answer);
+            None
+        }
+        [b'r', b'e', b'd', b'o'] => {
+            redo(session, answer);
+            None
+        }
+        _ => judge_line(session, line, answer),
     }
 }
