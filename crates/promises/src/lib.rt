@@ -503,7 +503,7 @@ pub fn every_line_is_told_as_its_call()
 
 /// So it is of a whole script, from what `run` says of it, whatever it returns: the lines take their turns from the empty model on, each one
 /// call from a consistent machine to a consistent one, and what is written is the texts of their answers, where a write failed a prefix of
-/// them. Each listing is that of a sound model.
+/// them. Each listing is that of a sound model. Where the run ended well, each line that it counts takes its turn.
 pub fn every_run_tells_a_history()
     ensures { RunsTellHistories }
 {
