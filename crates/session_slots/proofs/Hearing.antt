@@ -4,8 +4,8 @@ use Rattle.std.specs.Prelude.{nat_lt}
 use Rattle.std.proofs.lemmas.Bool.{cases_Bool}
 use Rattle.script_reader.specs.Words.{words}
 use Rattle.script_reader.specs.Grammar.{is_ascii, command_of_words}
-use Rattle.script_reader.specs.declared.command.Command.{Command}
-use Rattle.script_reader.specs.declared.command.Command.TheVariants.{Nothing}
+use Rattle.script_reader.specs.declared.command.Request.{Request}
+use Rattle.script_reader.specs.declared.command.Request.TheVariants.{Nothing}
 use Rattle.script_reader.proofs.AsciiWords.{words_tell}
 use Rattle.solid_walks.specs.declared.numbers.Counters.{Counters}
 use Rattle.session_slots.specs.Slots.{Counts_in}
@@ -13,7 +13,7 @@ use Rattle.session_slots.specs.Lines.{Spoken, gives, tells, read, spoken, said_o
 use Rattle.session_slots.specs.declared.slot.Slot.{Slot}
 
 -- a line that is read once, and looked at again only where its words ask for nothing
-pub spoken_is : (line : List ℕ) (c : Command) → nat_lt 65536 (length line) ≡ false → command_of_words (words line) ≡ Ok c → spoken line ≡ said_of line c
+pub spoken_is : (line : List ℕ) (c : Request) → nat_lt 65536 (length line) ≡ false → command_of_words (words line) ≡ Ok c → spoken line ≡ said_of line c
 spoken_is line Nothing short e = elim (cases_Bool (is_ascii line)) [
   | inl ascii ↦ rw (short, ascii, e) refl
   | inr other ↦ rw (short, other) refl

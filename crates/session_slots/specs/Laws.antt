@@ -9,4 +9,4 @@ use Rattle.session_slots.specs.declared.slot.Slot.{Slot}
 -- a session that hears a line goes on, and is answered, as the plain machine may that is given the line in a script
 abbrev pub LinesAreJudged : Type 0
 LinesAreJudged = (old new : Slot) (line : List ℕ) (s : Journal) → old.stage ≡ Some (Session s) → Slot_hears old line new
-    → (t : Journal) × (new.stage ≡ Some (Session t)) × Judges s.machine line new.answer t.machine
+    → (t : Journal) × (new.stage ≡ Some (Session t)) × Judges s line new.answer t

@@ -1,16 +1,15 @@
 -- What a line does to a slot: it is a call, or is answered by itself.
 use Rattle.std.specs.Prelude.{◌≡◌, ℕ, Bool, true, false, cond, List, Option, Result, Ok, Err}
-use Rattle.script_reader.specs.declared.command.Command as lines
-use Rattle.script_reader.specs.declared.command.Command.TheVariants as line
+use Rattle.script_reader.specs.declared.command.Request.{Request}
+use Rattle.script_reader.specs.declared.command.Request.TheVariants as request
 use Rattle.script_reader.specs.declared.command.Fault.{Fault}
 use Rattle.script_reader.specs.declared.command.Fault.TheVariants.{NotAscii}
 use Rattle.script_reader.specs.Grammar.{is_ascii, command_of}
-use Rattle.script_running.specs.script_judging.Judging.{faulty, split_by}
+use Rattle.script_running.specs.script_judging.Judging.{faulty}
 use Rattle.script_running.specs.declared.script_judging.judging.Answer.{Answer}
 use Rattle.script_running.specs.declared.script_judging.judging.Answer.TheVariants.{Silent, Listing}
 use Rattle.commands.specs.declared.command.Change.{Change}
 use Rattle.commands.specs.declared.command.Change.TheVariants as change
-use Rattle.commands.specs.declared.command.Question.TheVariants as question
 use Rattle.commands.specs.declared.command.Command.{Command}
 use Rattle.commands.specs.declared.command.Command.TheVariants as command
 use Rattle.commands.specs.declared.command.Call.TheVariants as call
@@ -27,30 +26,21 @@ pub data Spoken : Type 0 where
 abbrev pub changes : Change → Spoken
 changes c = gives (command.Change c)
 
--- the call that a line's command is, or its own answer
-abbrev pub said : lines.Command → Spoken
-said line.Nothing = tells Silent
-said (line.Act op) = changes (change.Act op)
-said (line.Lamina n ps) = changes (change.Lamina n ps)
-said (line.Block n p dx dy dz) = changes (change.Block n p dx dy dz)
-said (line.Sweep f d) = changes (change.Sweep f d)
-said (line.Glue f g) = changes (change.Glue f g)
-said (line.Split n cs m) = changes (split_by n cs m)
-said (line.Plane f) = gives (command.Ask (question.Plane f))
-said (line.Volume n) = gives (command.Ask (question.Volume n))
-said (line.Count n) = gives (command.Ask (question.Count n))
-said line.Undo = gives command.Undo
-said line.Redo = gives command.Redo
-said line.List = tells Listing
+-- the call that a line asks for, or its own answer
+abbrev pub said : Request → Spoken
+said request.Nothing = tells Silent
+said request.List = tells Listing
+said (request.Lamina n ps) = changes (change.Lamina n ps)
+said (request.Give c) = gives c
 
--- the same of a line within the limit whose words spell it: where they ask for nothing, it may not be ASCII
-abbrev pub said_of : List ℕ → lines.Command → Spoken
-said_of bytes line.Nothing = tells (cond (is_ascii bytes) Silent (faulty NotAscii))
-said_of bytes c = said c
+-- the same of a line within the limit: where its words ask for nothing, it may not be ASCII
+abbrev pub said_of : List ℕ → Request → Spoken
+said_of bytes request.Nothing = tells (cond (is_ascii bytes) Silent (faulty NotAscii))
+said_of bytes r = said r
 
 -- a line with a fault is told it
-abbrev pub read : Result lines.Command Fault → Spoken
-read (Ok c) = said c
+abbrev pub read : Result Request Fault → Spoken
+read (Ok r) = said r
 read (Err f) = tells (faulty f)
 
 abbrev pub spoken : List ℕ → Spoken

@@ -1,9 +1,8 @@
 -- What a call does to a slot: a session, or a draft of its next command, with the answer to the last command.
 use Rattle.std.specs.Prelude.{◌≡◌, Some}
-use Rattle.solid_listing.specs.declared.reply.Reply.TheVariants as reply
-use Rattle.script_running.specs.script_judging.Judging.{done, refused, tally_words}
+use Rattle.script_running.specs.script_judging.Judging.{answer_when}
 use Rattle.script_running.specs.declared.script_judging.judging.Answer.{Answer}
-use Rattle.script_running.specs.declared.script_judging.judging.Answer.TheVariants.{Silent, Reply}
+use Rattle.script_running.specs.declared.script_judging.judging.Answer.TheVariants.{Silent}
 use Rattle.shapes.specs.Fresh.{taken_in}
 use Rattle.solid_walks.specs.Counters.{taken_of}
 use Rattle.solid_walks.specs.declared.numbers.Counters.{Counters}
@@ -24,15 +23,10 @@ Counts_in x n = (g : Stage) → x.stage ≡ Some g → taken_of n ≡ taken_in (
 
 -- the last answer after a call that was told so; a call that the session or draft hasn't, and one that concerns a mark, leave it
 abbrev pub answer_after : Answer → Told → Answer
-answer_after b told.Done = done
-answer_after b (told.Refused r) = refused r
-answer_after b told.Memory = Reply reply.Memory
 answer_after b told.InDraft = b
 answer_after b told.NoDraft = b
-answer_after b (told.Plane p flat) = Reply (reply.Plane p flat)
-answer_after b (told.Volume n) = Reply (reply.Volume n)
-answer_after b (told.Counts n) = Reply (reply.Count (tally_words n))
 answer_after b (told.Steps n) = b
+answer_after b a = answer_when a
 
 -- a session or a draft goes on as the call is told, and the answer is kept
 abbrev pub Slot_makes : Slot → Call → Slot → Type 0

@@ -1,7 +1,7 @@
 //! Lines: each is a call that it spells, or is answered by itself.
 ghost use Rattle.std.specs.Prelude.{◌≡◌, cond};
 ghost use Rattle.script_reader.specs.Grammar.{is_ascii};
-ghost use Rattle.script_running.specs.script_judging.Judging.{faulty, split_by};
+ghost use Rattle.script_running.specs.script_judging.Judging.{faulty};
 ghost use Rattle.commands.specs.declared.command.Change.TheVariants as change;
 ghost use Rattle.commands.specs.declared.command.Command.TheVariants as command;
 ghost use Rattle.session_slots.specs.Stages.{is_draft};
@@ -9,9 +9,9 @@ ghost use Rattle.session_slots.specs.Lines.{gives, tells, changes, said_of, spok
 
 use crate::calls::{act_in, ask, move_in, redo_in, undo_in};
 use crate::slot::{Slot, counted_in, is_drafting};
-use commands::{Call, Change, Points, Question};
-use euler_operators::{Op, Point};
-use script_reader::{Command, Fault, Polygon, is_ascii, is_long, read_words};
+use commands::{Call, Change, Command, Points, Question};
+use euler_operators::Op;
+use script_reader::{Fault, Polygon, Request, is_ascii, is_long, read_words};
 use script_running::Answer;
 use solid_listing::Reply;
 use std::alloc::Global;
@@ -81,7 +81,7 @@ fn act(slot: &mut Slot, op: Op)
 fn carry(alloc: Global, slot: &mut Slot, wanted: Change<'_>)
     ensures { Slot_says slot.old (changes wanted.entry) slot.new }
 {
-    move_in(alloc, slot, Call::Give(commands::Command::Change(wanted)))
+    move_in(alloc, slot, Call::Give(Command::Change(wanted)))
 }
 
 /// Makes a lamina of the points that its line has.
@@ -95,36 +95,6 @@ fn carry_lamina(alloc: Global, slot: &mut Slot, solid: u32, polygon: &Polygon<'_
         slot,
         Change::Lamina(solid, Points::of(corners.points())),
     )
-}
-
-/// Makes a block, by its sizes.
-fn carry_block(alloc: Global, slot: &mut Slot, solid: u32, corner: Point, dx: i64, dy: i64, dz: i64)
-    ensures { Slot_says slot.old (changes (change.Block solid corner dx dy dz)) slot.new }
-{
-    carry(alloc, slot, Change::Block(solid, corner, dx, dy, dz))
-}
-
-fn carry_split(
-    alloc: Global,
-    slot: &mut Slot,
-    solid: u32,
-    a: i64,
-    b: i64,
-    c: i64,
-    d: i64,
-    above: u32,
-)
-    ensures { Slot_says slot.old (changes (change.Split solid a b c d above)) slot.new }
-{
-    carry(alloc, slot, Change::Split(solid, a, b, c, d, above))
-}
-
-/// Splits by the plane of four coefficients.
-fn split_by(alloc: Global, slot: &mut Slot, solid: u32, plane: [i64; 4], above: u32)
-    ensures { Slot_says slot.old (changes (split_by solid plane above)) slot.new }
-{
-    let [a, b, c, d] = plane;
-    carry_split(alloc, slot, solid, a, b, c, d, above)
 }
 
 /// Undoes, but not in a draft: whether it is none.
@@ -151,26 +121,29 @@ fn redo_session(slot: &mut Slot) -> bool
     true
 }
 
-/// Does what a line within the limit asks for whose words spell this command. False where a draft hasn't the call; then nothing has changed.
-fn obey(alloc: Global, slot: &mut Slot, line: &[u8], command: Command<'_>) -> bool
-    ensures { Unless_lacking (lacks_said (said_of line.now command.entry) slot.old.stage) (λ x y. Slot_says x (said_of line.now command.entry) y) slot.old slot.new result }
+/// Gives a command. False where a draft hasn't it; then nothing has changed.
+fn give(alloc: Global, slot: &mut Slot, command: Command<'_>) -> bool
+    ensures { Unless_lacking (lacks_said (gives command.entry) slot.old.stage) (λ x y. Slot_says x (gives command.entry) y) slot.old slot.new result }
 {
     match command {
-        Command::Nothing => tell_nothing(slot, line),
-        Command::Act(op) => act(slot, op),
-        Command::Plane(face) => ask_of_line(slot, Question::Plane(face)),
-        Command::Volume(solid) => ask_of_line(slot, Question::Volume(solid)),
-        Command::Count(solid) => ask_of_line(slot, Question::Count(solid)),
+        Command::Change(Change::Act(op)) => act(slot, op),
+        Command::Change(wanted) => carry(alloc, slot, wanted),
+        Command::Ask(question) => ask_of_line(slot, question),
         Command::Undo => return undo_session(slot),
         Command::Redo => return redo_session(slot),
-        Command::List => tell(slot, Answer::Listing),
-        Command::Lamina(solid, polygon) => carry_lamina(alloc, slot, solid, &polygon),
-        Command::Block(solid, corner, dx, dy, dz) => {
-            carry_block(alloc, slot, solid, corner, dx, dy, dz)
-        }
-        Command::Sweep(face, way) => carry(alloc, slot, Change::Sweep(face, way)),
-        Command::Glue(face, other) => carry(alloc, slot, Change::Glue(face, other)),
-        Command::Split(solid, plane, above) => split_by(alloc, slot, solid, plane, above),
+    }
+    true
+}
+
+/// Does what the words of a line within the limit ask for. False where a draft hasn't the call; then nothing has changed.
+fn obey(alloc: Global, slot: &mut Slot, line: &[u8], request: Request<'_>) -> bool
+    ensures { Unless_lacking (lacks_said (said_of line.now request.entry) slot.old.stage) (λ x y. Slot_says x (said_of line.now request.entry) y) slot.old slot.new result }
+{
+    match request {
+        Request::Nothing => tell_nothing(slot, line),
+        Request::List => tell(slot, Answer::Listing),
+        Request::Lamina(solid, polygon) => carry_lamina(alloc, slot, solid, &polygon),
+        Request::Give(command) => return give(alloc, slot, command),
     }
     true
 }
@@ -186,7 +159,7 @@ fn answer_line(alloc: Global, slot: &mut Slot, line: &[u8]) -> bool
         return true;
     }
     match read_words(line) {
-        Ok(command) => obey(alloc, slot, line, command),
+        Ok(request) => obey(alloc, slot, line, request),
         Err(fault) => {
             tell_first_fault(slot, line, fault);
             true
