@@ -3,8 +3,9 @@
 import io
 import os
 import re
+import tempfile
 import unittest
-from contextlib import redirect_stdout
+from contextlib import contextmanager, redirect_stdout
 from unittest import mock
 
 from support import REPOSITORY, program
@@ -18,11 +19,23 @@ class Page(unittest.TestCase):
     """Its blocks of code, and its words."""
 
     def test_the_code(self):
+        found = os.path.abspath(program())
         for block in re.findall(r'```python\n(.*?)```', PAGE, re.S):
             printed = io.StringIO()
-            with mock.patch.dict(os.environ, GWB=program()), redirect_stdout(printed):
+            with self.in_a_folder(), mock.patch.dict(os.environ, GWB=found), redirect_stdout(printed):
                 exec(compile(block, 'PYTHON.md', 'exec'), {})
             self.assertEqual(printed.getvalue().splitlines(), re.findall(r'print\(.*# (.*)', block))
+
+    @contextmanager
+    def in_a_folder(self):
+        """The files that the code writes go to a folder of their own."""
+        before = os.getcwd()
+        with tempfile.TemporaryDirectory() as folder:
+            os.chdir(folder)
+            try:
+                yield
+            finally:
+                os.chdir(before)
 
     def test_every_method_is_named_and_has_a_docstring(self):
         for name in dir(Workbench):
