@@ -18,7 +18,8 @@ from gwb.errors import Ended
 FOLDER = str(Path(gwb.__file__).parent / 'session')
 # The modules in which an exception may come at each line.
 TRACED = {f'{FOLDER}/{name}.py' for name in (
-    'conversation', 'pipe', 'library', 'journal', 'steps', 'turns', 'commands', 'features', 'following', 'mirror', 'surroundings', 'selection')}
+    'conversation', 'pipe', 'library', 'journal', 'steps', 'turns', 'commands', 'features', 'following', 'mirror', 'surroundings', 'selection', 'refining',
+    'solids')}
 # Python looks for signals where a call begins or returns: not between a line and the `try:` after it, nor between a block and its `finally`.
 NOT_BEFORE = ('try:', 'self._is_inside =', 'self._group_from = outer')
 SQUARE = [(5, 5, 20), (15, 5, 20), (15, 15, 20), (5, 15, 20)]
@@ -65,13 +66,22 @@ def grouped(bench):
         bench.ring(1, SQUARE)
 
 
+def finer(bench):
+    with bench.group():
+        block = bench.block((50, 0, 0), (7, 5, 3))
+        bench.split(block, (2, 3, 0, -111), scale=True)
+
+
 CALLS = {
     'block': lambda bench: bench.block((50, 0, 0), (2, 2, 2)), 'mvfs': lambda bench: bench.mvfs((1, 2, 3)),
     'pocket': lambda bench: bench.pocket(1, SQUARE, 3), 'ring': lambda bench: bench.ring(1, SQUARE),
     'hole': lambda bench: bench.hole(1, SQUARE), 'split': lambda bench: bench.split(1, (0, 0, 1, -3)), 'draft': drafted, 'group': grouped,
     'undo': lambda bench: bench.undo(), 'redo': lambda bench: bench.redo(), 'volume': lambda bench: bench.volume(1),
     'ask': lambda bench: bench.ask('mvfs 77 77 77 77 1 2 3'), 'a line undo': lambda bench: bench.ask('undo'),
-    'listing': lambda bench: bench.listing(), 'a refusal': lambda bench: bench.sweep(1, (0, 0, 0))}
+    'listing': lambda bench: bench.listing(), 'a refusal': lambda bench: bench.sweep(1, (0, 0, 0)),
+    'a finer cut': finer}
+# Of calls of many commands fewer lines are tried.
+LONG = {'a finer cut': 23}
 
 
 def prepared():
@@ -96,8 +106,8 @@ def tried(call, bench):
 
 
 def what_follows(bench):
-    """The script, the model, and all models that undo and redo lead to."""
-    seen = [bench.script(), bench.listing()]
+    """The script, the model and the unit, and all that undo and redo lead to."""
+    seen = [bench.script(), bench.listing(), bench.unit]
     for word in (bench.redo, bench.undo):
         steps = 0
         while steps < 20:
@@ -106,7 +116,7 @@ def what_follows(bench):
             except Complaint:
                 break
             steps += 1
-            seen.append((bench.script(), bench.listing()))
+            seen.append((bench.script(), bench.listing(), bench.unit))
         seen.append(steps)
     return seen
 
@@ -124,7 +134,7 @@ class Interrupted(unittest.TestCase):
                 after = what_follows(bench)
             places, line = 0, 1
             while self.leave(name, call, line, (before, after)):
-                places, line = places + 1, line + share
+                places, line = places + 1, line + share * LONG.get(name, 1)
             self.assertGreater(places, 0, name)
 
     def leave(self, name, call, line, allowed):

@@ -43,6 +43,11 @@ class Page(unittest.TestCase):
                 self.assertRegex(PAGE, rf'`(Workbench\.)?{name}\b', name)
                 self.assertTrue(getattr(Workbench, name).__doc__, name)
 
+    def test_a_docstring_sends_to_another_at_most_once(self):
+        for name in dir(Workbench):
+            for other in re.findall(r'[Rr]efused as `?([a-z_]+)`? is', getattr(Workbench, name).__doc__ or ''):
+                self.assertNotRegex(getattr(Workbench, other).__doc__, r'[Rr]efused as', name)
+
 
 if __name__ == '__main__':
     unittest.main()

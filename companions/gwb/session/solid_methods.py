@@ -129,7 +129,7 @@ class SolidMethods(Features):
 
     def groove(self, face: arguments.Face, start: arguments.Point, end: arguments.Point, width: int, depth: int) -> Notch:
         """A groove like a V, so wide at the face and so deep under its middle line, which runs from one point to another; it has no floor.
-        Refused as slot is."""
+        Refused as notch is; OffLattice: half of the width isn't whole across the line."""
         number, ends = self._number('face', face), (arguments.point('start', start), arguments.point('end', end))
         wide, deep = arguments.positive('width', width), arguments.positive('depth', depth)
         return shaping.cut_out(self, number, shaping.groove_tool(self._face_alone(number), number, ends, wide, deep))

@@ -151,5 +151,5 @@ def _hint(file: Path, line: str) -> str:
     """Where to turn with a file of another form."""
     word = line.split(' ', 1)[0]
     if file.suffix.lower() in _IMPORTED or word in _FIRST_WORDS:
-        return ' (it looks like a file of polygons: gwb-import makes a listing of one, which can be loaded)'
+        return ' (it looks like a file of polygons, which import_file and gwb-import read)'
     return ''
