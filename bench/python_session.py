@@ -1,6 +1,6 @@
 #!/usr/bin/env python3
 """Times loops of the Python session over a program or a library, in tenths, so that growth is seen: 10,000 blocks, 1,000 laminas swept, 200 pockets
-in one face, and a pocket in each of 1,000 blocks.
+and 200 notches in one face, and a pocket, a slot, a copy, a union and the end of each of 1,000 blocks.
 
     bench/python_session.py [PROGRAM ..]
 """
@@ -29,12 +29,50 @@ def pocket(bench, i):
     bench.pocket(1, [(x + 2, y + 2, 20), (x + 8, y + 2, 20), (x + 8, y + 8, 20), (x + 2, y + 8, 20)], 5)
 
 
-def pocket_in_a_block(bench, i):
-    """A pocket in one of 1,000 blocks, each a solid."""
+def notch(bench, i):
+    """A notch within the top of one plate."""
+    if i == 0:
+        bench.block((0, 0, 0), (200, 200, 20))
+    x, y = 10 * (i % 20), 10 * (i // 20)
+    bench.notch(1, [(x + 2, y + 2, 20), (x + 8, y + 2, 20), (x + 8, y + 8, 20), (x + 2, y + 8, 20)], 5)
+
+
+def blocks_first(bench, i):
+    """Before the first turn 1,000 blocks are made, each a solid."""
     if i == 0:
         for number in range(1000):
             bench.block((10 * number, 0, 0), (9, 9, 9))
+
+
+def pocket_in_a_block(bench, i):
+    blocks_first(bench, i)
     bench.pocket(6 * i + 1, [(10 * i + 2, 2, 9), (10 * i + 7, 2, 9), (10 * i + 7, 7, 9)], 3)
+
+
+def slot_in_a_block(bench, i):
+    blocks_first(bench, i)
+    bench.slot(6 * i + 1, (10 * i + 4, 0, 9), (10 * i + 4, 9, 9), 2, 3)
+
+
+def copy_of_a_block(bench, i):
+    blocks_first(bench, i)
+    bench.copy(i + 1, move=(0, 20, 0))
+
+
+def union_with_a_block(bench, i):
+    blocks_first(bench, i)
+    bench.union([i + 1, bench.block((10 * i + 2, 2, 9), (3, 3, 3))])
+
+
+def block_deleted(bench, i):
+    blocks_first(bench, i)
+    bench.delete(i + 1)
+
+
+LOOPS = (('blocks', block, 10_000), ('laminas swept', swept, 1_000), ('pockets in one face', pocket, 200), ('notches in one face', notch, 200),
+         ('pockets in 1,000 blocks', pocket_in_a_block, 1_000), ('slots in 1,000 blocks', slot_in_a_block, 1_000),
+         ('copies of 1,000 blocks', copy_of_a_block, 1_000), ('unions with 1,000 blocks', union_with_a_block, 1_000),
+         ('of 1,000 blocks deleted', block_deleted, 1_000))
 
 
 def tenths(bench, make, count):
@@ -49,8 +87,7 @@ def tenths(bench, make, count):
 
 def main():
     for program in sys.argv[1:] or [None]:
-        for name, make, count in (('blocks', block, 10_000), ('laminas swept', swept, 1_000), ('pockets in one face', pocket, 200),
-                                  ('pockets in 1,000 blocks', pocket_in_a_block, 1_000)):
+        for name, make, count in LOOPS:
             with Workbench(program) as bench:
                 times = tenths(bench, make, count)
             print(f'{program or "gwb"}: {count} {name}: {sum(times):.2f} s; first tenth {times[0]:.3f} s, last {times[-1]:.3f} s')
