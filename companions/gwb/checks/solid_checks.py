@@ -31,6 +31,7 @@ class SolidCheck:
         self._normals = {face: normal(self._model, face) for face in self._model.faces}
         self._flat_shells = self._find_flat_shells()
         self._shapes = {face: FlatFace(self._model, face) for face in self._model.faces if is_flat(self._model, face)}
+        self._inner: Dict[int, Optional[ExactVector]] = {}
         self._around = self._faces_around_vertices()
         self._near_edges = [edge for edge in self._model.edges if box is None or boxes_meet(box_of(self._ends(edge)), box)]
         self._near_vertices = [vertex for vertex, point in self._model.vertices.items() if box is None or boxes_meet(box_of([point]), box)]
@@ -156,17 +157,16 @@ class SolidCheck:
     def _faces_on_faces(self) -> Iterator[Finding]:
         """Faces of one plane where one has a point within the other; edges that cross or run along faces are found by then."""
         for faces in self._faces_by_planes():
-            inner = {face: self._inner_point(face) for face in faces}
             boxes = {face: box_of(self._model.face_points(face)) for face in faces}
             index = BoxIndex(boxes)
             for face in faces:
                 for other in sorted(index.meeting(boxes[face])):
-                    if other > face and self._overlap(face, other, inner):
+                    if other > face and self._overlap(face, other):
                         yield from self._overlapping(face, other)
 
-    def _overlap(self, face: int, other: int, inner: Dict[int, Optional[ExactVector]]) -> bool:
+    def _overlap(self, face: int, other: int) -> bool:
         return any(point is not None and self._shapes[around].locate(point) is Place.INSIDE
-                   for point, around in ((inner[face], other), (inner[other], face)))
+                   for point, around in ((self._inner_point(face), other), (self._inner_point(other), face)))
 
     def _overlapping(self, face: int, other: int) -> Iterator[Finding]:
         if not self._are_back_to_back({face}, {other}):
@@ -181,6 +181,12 @@ class SolidCheck:
         return [faces for faces in planes.values() if len(faces) > 1]
 
     def _inner_point(self, face: int) -> Optional[ExactVector]:
+        """A point within a face, looked for once; None where there is none."""
+        if face not in self._inner:
+            self._inner[face] = self._new_inner_point(face)
+        return self._inner[face]
+
+    def _new_inner_point(self, face: int) -> Optional[ExactVector]:
         try:
             corners = [self._model.vertices[vertex] for vertex in face_triangles(self._model, face, self._touched)[0]]
         except Unfit:
