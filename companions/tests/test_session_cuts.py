@@ -9,7 +9,7 @@ from random import Random
 from support import program
 from voxel_parts import AXES, World, cells_of, squares_of
 
-from gwb import Refused, Workbench
+from gwb import NoDraft, Refused, Workbench
 from gwb.checks.check import check
 from gwb.geometry.measures import six_volume
 
@@ -202,6 +202,25 @@ class Unions(Stepwise):
         bent = self.bench.lamina([(0, 0, 0), (4, 0, 0), (4, 4, 1), (0, 4, 0)]).solid
         self.refuse('NotFlat', lambda: self.bench.cut(bent, (1, 0, 0, -2)))
         self.refuse('NoContact', lambda: self.bench.union([bent, 2]))
+
+    def test_a_union_that_is_refused_half_way(self):
+        self.blocks(((0, 0, 0), (4, 4, 4)), ((4, 0, 0), (4, 4, 4)), ((9, 0, 0), (4, 4, 4)))
+        self.refuse('NoContact', lambda: self.bench.union([1, 2, 3]))
+        before = self.bench.listing()
+        with self.assertRaises(NoDraft), self.bench.draft():
+            with self.assertRaises(Refused):
+                self.bench.union([1, 2, 3])
+        self.assertEqual(self.bench.listing(), before)
+        with self.bench.draft():
+            with self.assertRaises(Refused):
+                self.bench.union([1, 3])
+            self.bench.union([1, 2])
+        self.assertEqual(self.bench.solids().numbers, (1, 3))
+
+    def test_solids_in_any_order(self):
+        self.blocks(*(((4 * place, 0, 0), (4, 4, 4)) for place in range(6)))
+        self.assertEqual(self.one_step(lambda: self.bench.union([3, 6, 1, 5, 2, 4])), 3)
+        self.assertEqual((self.count(3), self.volume(3)), ((8, 12, 6, 0), 24 * 16))
 
 
 class RandomCuts(unittest.TestCase):

@@ -7,6 +7,8 @@ from support import program
 from test_session_cuts import Stepwise
 from voxel_parts import summary, try_parts
 
+from gwb.checks.check import check
+
 
 class Shaped(Stepwise):
     """Each feature on a block of 40 by 20 by 10."""
@@ -67,6 +69,17 @@ class Shaped(Stepwise):
     def test_a_notch_in_two(self):
         made = self.one_step(lambda: self.bench.notch(self.top, [(10, 0, 10), (15, 0, 10), (15, 20, 10), (10, 20, 10)], 10))
         self.assertEqual((self.missing(), len(made.walls), len(self.bench.listing().shells(1))), (1000, 2, 2))
+
+    def test_a_notch_that_takes_one_of_two_pieces(self):
+        made = self.bench.profile([(0, 0, 0), (12, 0, 0), (12, 12, 0), (8, 12, 0), (8, 4, 0), (4, 4, 0), (4, 12, 0), (0, 12, 0)], along=(0, 0, 3))
+        legs = self.bench.cut(made.solid, (0, 1, 0, -4)).above
+        top = next(face for face in self.bench.solid(legs).faces if face.normal[2] > 0 and (0, 4, 3) in face.points)
+        before = self.bench.listing()
+        self.bench.notch(top, [(0, 4, 3), (4, 4, 3), (4, 12, 3), (0, 12, 3)], 3)
+        self.assertEqual((self.bench.volume(legs), len(self.bench.solid(legs).faces)), (4 * 8 * 3, 6))
+        self.assertEqual(check(self.bench.listing()).findings, [])
+        self.bench.undo()
+        self.assertEqual(self.bench.listing(), before)
 
     def test_a_notch_into_a_pocket(self):
         self.bench.pocket(self.top, [(10, 5, 10), (20, 5, 10), (20, 15, 10), (10, 15, 10)], 5)
