@@ -14,7 +14,7 @@ import zipfile
 from pathlib import Path
 from typing import NamedTuple
 
-from support import COMPANIONS, run
+from support import COMPANIONS, REPOSITORY, run
 
 HEAD = '<model unit="millimeter" xmlns="http://schemas.microsoft.com/3dmanufacturing/core/2015/02"><resources>'
 MESH = ('<mesh><vertices><vertex x="0" y="0" z="0"/><vertex x="6" y="0" z="0"/><vertex x="0" y="6" z="0"/><vertex x="0" y="0" z="6"/></vertices>'
@@ -95,11 +95,11 @@ class Ended(NamedTuple):
     kilobytes: int
 
 
-def ended(folder, *words):
-    """Runs gwb-import in a process of its own, which is stopped after a minute of processor."""
+def ended(folder, *words, module='formats.importing'):
+    """Runs a companion in a process of its own, which is stopped after a minute of processor."""
     with open(Path(folder, 'out'), 'w+') as out, open(Path(folder, 'err'), 'w+') as err:
         code = (f'import resource, sys; resource.setrlimit(resource.RLIMIT_CPU, ({ENDLESS}, {ENDLESS})); '
-                'from gwb.formats.importing import main; status = main(sys.argv[1:]); '
+                f'from gwb.{module} import main; status = main(sys.argv[1:]); '
                 'print(resource.getrusage(resource.RUSAGE_SELF).ru_maxrss, file=open("kilobytes", "w")); sys.exit(status)')
         done = subprocess.run([sys.executable, '-c', code, *words], stdout=out, stderr=err, cwd=folder, check=False,
                               env={**os.environ, 'PYTHONPATH': str(COMPANIONS)})
@@ -119,6 +119,15 @@ class Hostile(unittest.TestCase):
                 done = ended(folder, name)
                 self.assertEqual((done.status, done.out, done.err.count('\n')), (3, '', 1), done.err)
                 self.assertTrue(done.err.startswith('gwb-import: ') and part in done.err and len(done.err) < 400, done.err)
+                self.assertTrue(0 < done.kilobytes < MOST_KILOBYTES, done.kilobytes)
+
+    def test_replies_without_end(self):
+        listed = (REPOSITORY / 'examples' / 'wire.expected').read_bytes()
+        for replies, status in ((b'ok\n' * 20_000_000 + listed, 0), (listed + b'volume 6\n' * 5_000_000 + b'ok', 3), (b'ok\n' * 20_000_000, 3)):
+            with tempfile.TemporaryDirectory() as folder:
+                Path(folder, 'replies').write_bytes(replies)
+                done = ended(folder, 'replies', module='drawing.svg')
+                self.assertEqual((done.status, done.err.count('\n')), (status, status // 3), done.err)
                 self.assertTrue(0 < done.kilobytes < MOST_KILOBYTES, done.kilobytes)
 
     def test_factors_without_end(self):

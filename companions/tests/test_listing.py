@@ -1,11 +1,15 @@
 """Listings are read, and what is none, or is cut short, is refused with one line."""
 
+import random
+import re
 import unittest
+from unittest import mock
 
 from support import box, examples, listing, model_in
 
 from gwb.errors import CompanionError, NotAListing, NotReplies
 from gwb.protocol.listing import read_model
+from gwb.protocol.replies import last_listing, split_replies
 
 WIRE = 'solid 1\nface 1 1 1\nloop 1 +1 -1\nedge 1 1 2\nvertex 1 0 0 0\nvertex 2 5 0 0\n'
 SQUARE = listing([(0, 0, 0), (4, 0, 0), (4, 4, 0), (0, 4, 0)], [[(1, 2, 3, 4)], [(4, 3, 2, 1)]])
@@ -30,6 +34,23 @@ class Reading(unittest.TestCase):
     def test_the_last_listing_of_a_run_is_taken(self):
         self.assertEqual(model_in('ok\n' + SQUARE + WIRE), model_in(WIRE))
         self.assertEqual(model_in(WIRE + 'volume 0\nempty\nok\n').solids, ())
+
+    def test_the_last_of_any_replies_is_found(self):
+        chance, lines = random.Random(1), ('ok', 'empty', 'solid 1', 'solid 2', 'face 1 1 1', 'vertex 1 0 0 0', 'volume 6', 'x')
+        outcomes = set()
+        for _ in range(2_000):
+            data = ''.join(chance.choice(lines[:7 + (chance.random() < .1)]) + '\n' for _ in range(chance.randrange(9))).encode()
+            with self.subTest(data), mock.patch('gwb.protocol.replies._BLOCK', chance.choice((1, 20, 1_000_000))):
+                try:
+                    listings = [reply for reply in split_replies(data) if reply.is_listing]
+                except NotReplies as error:
+                    with self.assertRaisesRegex(NotReplies, re.escape(str(error))):
+                        last_listing(data)
+                    outcomes.add('refused')
+                else:
+                    self.assertEqual(last_listing(data), listings[-1] if listings else None)
+                    outcomes.add(len(listings))
+        self.assertLessEqual({'refused', 0, 1, 2}, outcomes)
 
     def test_one_solid_of_a_model(self):
         points, faces = box((0, 0, 0), (1, 1, 1))

@@ -5,7 +5,7 @@ from typing import Dict, List, Sequence, Tuple
 from ..errors import NotAListing
 from ..geometry.model import Face, Loop, Model
 from ..geometry.vectors import Vector
-from .replies import Reply, split_replies
+from .replies import Reply, last_listing
 from .soundness import require_sound
 
 _KINDS = ('solid', 'face', 'loop', 'edge', 'vertex')
@@ -13,10 +13,10 @@ _KINDS = ('solid', 'face', 'loop', 'edge', 'vertex')
 
 def read_model(data: bytes) -> Model:
     """The model of the last listing among the replies that the bytes hold."""
-    listings = [reply for reply in split_replies(data) if reply.is_listing]
-    if not listings:
+    listing = last_listing(data)
+    if listing is None:
         raise NotAListing('there is no listing in it: the script needs the command `list`')
-    return model_of(listings[-1])
+    return model_of(listing)
 
 
 def model_of(reply: Reply) -> Model:

@@ -1,12 +1,13 @@
 """Cuts what gwb writes into replies, and refuses what gwb can't have written."""
 
 import re
-from typing import List, NamedTuple, Tuple
+from typing import Dict, Iterable, Iterator, List, NamedTuple, Optional, Tuple
 
 from ..errors import NotReplies
 from .language import COMMANDS
 
 _COMPLAINTS = ('refused', 'fault', 'memory')
+_BLOCK = 1_000_000
 _NUMBER, _WHOLE = r'(?:0|[1-9][0-9]{0,9})', r'(?:0|-?[1-9][0-9]{0,39})'
 _ONE_LINE = re.compile(
     rf'ok|empty|memory|refused {_NUMBER} {_NUMBER}|fault [1-6]|volume {_WHOLE}'
@@ -51,33 +52,108 @@ def is_listed(line: str) -> bool:
 
 def split_replies(data: bytes) -> List[Reply]:
     """The replies that the bytes hold, in order. A line may end as on Windows, by a carriage return and a newline."""
+    return group_lines(line for block in _blocks(_text(data)) for line in block)
+
+
+def group_lines(lines: Iterable[str]) -> List[Reply]:
+    """The replies in lines without their newlines; those of one line that are equal are one."""
+    replies: List[Reply] = []
+    known: Dict[str, Reply] = {}
+    cutting = _Cutting()
+    for line in lines:
+        begins, was_listing = cutting.take(line)
+        if was_listing:
+            replies.append(Reply(tuple(cutting.ended)))
+        if begins and not cutting.listing:
+            replies.append(known.setdefault(line, Reply((line,))))
+    return replies + ([Reply(tuple(cutting.listing))] if cutting.listing else [])
+
+
+def last_listing(data: bytes) -> Optional[Reply]:
+    """The last listing among the replies that the bytes hold, or None. No other reply is kept, so many of them take little memory and time."""
+    cutting = _Cutting()
+    last: List[str] = []
+    for block in _blocks(_text(data)):
+        last = _last_in(cutting, block, last)
+    last = cutting.listing or last
+    return Reply(tuple(last)) if last else None
+
+
+def _last_in(cutting: '_Cutting', block: List[str], last: List[str]) -> List[str]:
+    """The last listing that ended in a block of lines, or the one that ended before it."""
+    if _are_plain(block):
+        last = cutting.listing or last
+        cutting.pass_over(len(block))
+        return last
+    for line in block:
+        begins, was_listing = cutting.take(line)
+        if was_listing:
+            last = cutting.ended
+        if begins and line == 'empty':
+            last = [line]
+    return last
+
+
+def _are_plain(block: List[str]) -> bool:
+    """Whether all lines are replies of one line, and none is a listing."""
+    different = set(block)
+    return 'empty' not in different and all(map(_ONE_LINE.fullmatch, different))
+
+
+def _text(data: bytes) -> str:
+    """The bytes as text, whose lines end with newlines alone."""
     try:
         text = data.decode('ascii')
     except UnicodeDecodeError as error:
         raise NotReplies(f'byte {error.start + 1} is above 127: these are no replies of gwb') from None
     if text and not text.endswith('\n'):
         raise NotReplies('the last line has no newline: the replies are cut short')
-    return group_lines(text.replace('\r\n', '\n').split('\n')[:-1])
+    return text.replace('\r\n', '\n')
 
 
-def group_lines(lines: List[str]) -> List[Reply]:
-    """The replies in lines without their newlines."""
-    replies: List[List[str]] = []
-    in_listing = False
-    for number, line in enumerate(lines, 1):
+def _blocks(text: str) -> Iterator[List[str]]:
+    """The lines without their newlines, in blocks of about so many letters."""
+    start = 0
+    while start < len(text):
+        end = text.index('\n', min(start + _BLOCK, len(text) - 1)) + 1
+        yield text[start:end - 1].split('\n')
+        start = end
+
+
+class _Cutting:
+    """Lines that are cut into replies as they come."""
+
+    def __init__(self) -> None:
+        self._number = 0
+        # The lines of the listing to which the last line belongs, or none; and the listing before, once another reply begins.
+        self.listing: List[str] = []
+        self.ended: List[str] = []
+
+    def take(self, line: str) -> Tuple[bool, bool]:
+        """Whether a reply begins with the line, and whether a listing ends before it."""
+        self._number += 1
+        is_solid = line.startswith('solid')
         if is_listed(line):
-            if line.startswith('solid') and not (in_listing and replies[-1][-1].startswith('solid')):
-                replies.append([])
-            elif not in_listing:
-                raise NotReplies(f'line {number} is of a listing, but none begins there: {shortened(line)}')
-            replies[-1].append(line)
-            in_listing = True
-        elif _ONE_LINE.fullmatch(line):
-            replies.append([line])
-            in_listing = False
-        else:
-            raise NotReplies(f'line {number} is no reply of gwb: {shortened(line)}{_hint(line)}')
-    return [Reply(tuple(reply)) for reply in replies]
+            begins = is_solid and not (self.listing and self.listing[-1].startswith('solid'))
+            if not is_solid and not self.listing:
+                raise NotReplies(f'line {self._number} is of a listing, but none begins there: {shortened(line)}')
+            return begins, self._goes_on(begins, [line])
+        if _ONE_LINE.fullmatch(line):
+            return True, self._goes_on(True, [])
+        raise NotReplies(f'line {self._number} is no reply of gwb: {shortened(line)}{_hint(line)}')
+
+    def _goes_on(self, begins: bool, lines: List[str]) -> bool:
+        """Goes on with lines of a listing, of a new one where a reply begins; whether one ended."""
+        if not begins:
+            self.listing += lines
+            return False
+        self.ended, self.listing = self.listing, lines
+        return bool(self.ended)
+
+    def pass_over(self, count: int) -> None:
+        """Leaves out so many lines, each of them a reply, and none a listing."""
+        self._number += count
+        self.listing = []
 
 
 def _hint(line: str) -> str:
