@@ -3,18 +3,19 @@
 //! in use before it.
 //!
 //! `counted_stage` has a session or a draft with the greatest numbers in use, `calls` what a call does to a slot that is given as a value,
-//! and `lines` what a line does; `parts` makes some faces a solid of their own. `answers` gives the
-//! last answer as values, `readers`, `cycles` and `spokes` read the model shown. `handle` has a slot that lies with C, by a pointer (`kept`,
-//! `loose`), and is taken out of it for a call (`held`); `lent` has a copy of a handle whose slot is lent to readers, of which any number may
-//! run at once. `arguments` has what C gives to a call, as the kernel takes it.
+//! and `lines` what a line does; `parts` makes some faces a solid of their own. `answers` gives the last answer as values, `readers`, `cycles`
+//! and `spokes` read the model shown. `handle` has a slot that lies with C, by a pointer (`kept`, `loose`), and is taken out of it for a call
+//! (`held`); `lent` has a copy of a handle whose slot is lent to readers, of which any number may run at once. `arguments` has what C gives
+//! to a call, as the kernel takes it. `laws` has what lines have to do with a script.
 //!
 //! # What is proved
 //!
 //! `make` makes a call of any kind on a session or a draft, and `act` an operator, as `commands` says that they may be told (`Slot_does`).
 //! `hear` makes the call that a line spells, or answers the line by itself (`Slot_notes`), but leaves all as it is where a draft hasn't the
-//! call. `ask` tells what the model shown gives, and changes no more (`Slot_asks`), and `measure` not even the last answer; `part` does what the operator does (`Slot_makes_part`). The greatest numbers in use are
-//! those of the model shown, whatever was done. What the last answer told, and what a reader tells, are equations, but for where a loop's
-//! list of half-edges begins.
+//! call; so a session answers it as the plain machine may in a script (`lines_are_judged`). `ask` tells what the model shown gives, and
+//! changes no more (`Slot_asks`), and `measure` not even the last answer; `part` does what the operator does (`Slot_makes_part`). The greatest
+//! numbers in use are those of the model shown, whatever was done. What the last answer told, and what a reader tells, are equations, but for
+//! where a loop's list of half-edges begins.
 
 mod answers;
 mod arguments;
