@@ -1,6 +1,6 @@
 """Files that are made to take time or memory without end: each is refused in one line, in little of both.
 
-How long each takes isn't asserted: a process that has taken a minute of processor has no end. Memory is that of the process at its largest.
+How long each takes isn't asserted: a process that has taken 20 seconds of processor has no end. Memory is that of the process at its largest.
 """
 
 import io
@@ -22,7 +22,7 @@ MESH = ('<mesh><vertices><vertex x="0" y="0" z="0"/><vertex x="6" y="0" z="0"/><
         '<triangle v1="0" v2="3" v3="2"/></triangles></mesh>')
 FLAT = 'OFF\n4 4 0\n0 0 0\n{} 0 0\n0 1 0\n0 0 1\n3 0 2 1\n3 0 1 3\n3 0 3 2\n3 1 2 3\n'
 MOST_KILOBYTES = 500_000
-ENDLESS = 60
+ENDLESS = 20
 
 
 def step(data):
@@ -96,7 +96,7 @@ class Ended(NamedTuple):
 
 
 def ended(folder, *words, module='formats.importing'):
-    """Runs a companion in a process of its own, which is stopped after a minute of processor."""
+    """Runs a companion in a process of its own, which is stopped after 20 seconds of processor."""
     with open(Path(folder, 'out'), 'w+') as out, open(Path(folder, 'err'), 'w+') as err:
         code = (f'import resource, sys; resource.setrlimit(resource.RLIMIT_CPU, ({ENDLESS}, {ENDLESS})); '
                 f'from gwb.{module} import main; status = main(sys.argv[1:]); '

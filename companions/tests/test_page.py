@@ -11,6 +11,7 @@
     a touched window of 360 by 640                              Phones
     tabulator, Space, Enter, arrows, focus, names of controls   Keyboard
     the page within another one                                 Frames
+    clicks, keys, drags and the wheel in any order              Anything
     darkness, no motion                                         Wishes
     no requests, nothing run that isn't the page's own          Policy
     no upload and no reckoning of spots while a model turns     Speed
@@ -872,6 +873,35 @@ class Frames(PageCase):
         self.assertTrue(tab.until(f'!{inner}.getElementById("info").hidden'))
         tab.press('h')
         self.assertEqual(tab.value(f'{inner}.querySelector("[data-key=h]").ariaPressed'), 'true')
+
+
+class Anything(PageCase):
+    """Whatever is done, the browser has nothing to complain of."""
+
+    KEYS = ('f', '0', '1', '2', '3', 'h', 'n', 'e', 'x', 'p', 'c', 'm', 'l', '+', '-', ',', '.', '/', '?', 'Escape', 'Enter', 'Tab', ' ', 'ArrowLeft', 'ArrowUp', 'Home')
+
+    def act(self, tab, chance, size):
+        """Does one thing."""
+        anywhere = [(chance.randrange(size[0]), chance.randrange(size[1])) for _ in range(3)]
+        kind = chance.randrange(5)
+        if kind < 2:
+            tab.press(chance.choice(self.KEYS))
+        elif kind == 2:
+            tab.click(*anywhere[0])
+        elif kind == 3:
+            tab.drag(anywhere)
+        else:
+            tab.wheel(*anywhere[0], chance.choice((-900, 900)))
+
+    def test_in_any_order(self):
+        program()
+        page, chance = page_of_steps(played((REPOSITORY / 'examples' / 'split_block.gwb').read_bytes()).steps), random.Random(2)
+        for size, words in ((MIDDLE, ''), (PHONE, 'flat&section=x3')):
+            tab = self.opened(page, size, words)
+            for _ in range(80):
+                self.act(tab, chance, size)
+            tab.settle()
+            self.assertTrue(tab.value('0 < View.view.zoom && View.view.zoom < Infinity && View.state.step >= 0 && View.scene !== null'))
 
 
 class Wishes(PageCase):
