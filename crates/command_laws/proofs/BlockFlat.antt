@@ -7,12 +7,18 @@ use Rattle.euler_operators.specs.declared.Point.{Point}
 use Rattle.euler_operators.specs.Vectors.{origin, moved, cross}
 use Rattle.euler_operators.proofs.Vectors.{same_vector}
 use Rattle.euler_operators.specs.Table as table
-use Rattle.euler_operators.specs.Model.{content, face_of, solid_of}
+use Rattle.euler_operators.specs.Model.{content, face_of, outer, rings_of, solid_of}
 use Rattle.euler_operators.specs.Sound.{Sound, Has}
-use Rattle.euler_operators.proofs.Models.{same_solid}
-use Rattle.euler_operators.specs.Conditions.{is_empty, is_lone, has_rings}
+use Rattle.euler_operators.specs.Items.{IsIn}
+use Rattle.euler_operators.proofs.Models.{same_content, same_solid}
+use Rattle.euler_operators.specs.Conditions.{is_empty, is_lone, lists, has_rings}
 use Rattle.euler_laws.proofs.shared.Goes.{all_hold}
 use Rattle.euler_laws.proofs.shared.Rows.{no_rings_means}
+use Rattle.euler_laws.proofs.shared.Listed.{IsIn-from_listed, listed-from_in, first_listed, rest_listed}
+use Rattle.euler_laws.proofs.shared.FaceRings.{outer_or_ring}
+use Rattle.shapes.specs.Faces.{loops_of}
+use Rattle.shapes.proofs.walks.SolidFaces.{face_of_loop}
+use Rattle.shapes.proofs.walks.FaceLoops.{ring_listed}
 use Rattle.shapes.specs.Vectors.{towards}
 use Rattle.shapes.specs.Prism.{next_place}
 use Rattle.shapes.specs.Block.{vector, base_of, block_conditions}
@@ -23,11 +29,13 @@ use Rattle.sweeps_laws.proofs.BlockOps.{blocks_are_sound}
 use Rattle.undo_journal.specs.Machine.{Machine, held}
 use Rattle.command_laws.specs.Commands.{IsBlock}
 use Rattle.command_laws.specs.NewFaces.{IsFaceOf, all_moved, last_face, nth, side_over, turned_back, up_by}
-use Rattle.command_laws.specs.Flat.{lie_flat, IsClosedFlat, BlocksLieFlat}
+use Rattle.command_laws.specs.Flat.{lie_flat, IsClosedFlat, BlocksLieFlat, BlockKeepsFlat}
+use Rattle.command_laws.specs.LeftAlone.{StandsAsBefore}
 use Rattle.command_laws.proofs.BlockFaces.{block_has_top_and_bottom, block_has_four_sides, block_takes_six_faces}
 use Rattle.command_laws.proofs.Kept.{block_keeps_faces}
 use Rattle.command_laws.proofs.Accepted.{outer_cycles}
-use Rattle.command_laws.proofs.LyingFlat.{faces_lie_flat, sides_lie_flat, parallelogram}
+use Rattle.command_laws.proofs.LyingFlat.{faces_lie_flat, sides_lie_flat, parallelogram, stands_flat}
+use Rattle.command_laws.proofs.DrawnAlone.{block_keeps_loops, block_keeps_shapes}
 
 -- ---- numbers that aren't 0
 
@@ -236,6 +244,60 @@ module _ (before after : Machine) (s : ℕ) (p : Point) (dx dy dz : ℤ) (sound 
     flat = λ k there of. (plain_all k there of).0;
     closed = λ l has of. (plain_all (face_of (held after) l) (sound_after.loops_of_faces l has) of).1 l has refl;
   }
+
+  -- ---- other solids
+
+  -- a loop is one of the loops of its face
+  loop_in : (l : ℕ) → Has (held after).loops l → IsIn l (loops_of (held after) (face_of (held after) l))
+  unfolding loops_of
+  loop_in l has = let k = face_of (held after) l in
+      IsIn-from_listed l (outer (held after) k ∷ rings_of (held after) k) (elim (outer_or_ring (held after) k l has refl) [
+        | inl o ↦ ap (λ q. lists (q ∷ rings_of (held after) k) l) o ∙ first_listed l (rings_of (held after) k)
+        | inr r ↦ rest_listed (outer (held after) k) l (rings_of (held after) k) (ring_listed (held after) sound_after k l r)
+      ])
+
+  of_block : (k : ℕ) → IsOneOf (last_face before) k → solid_of (held after) k ≡ s
+  of_block k (inl e) = ap (solid_of (held after)) e ∙ (block_has_top_and_bottom before after s p dx dy dz sound made).0.solid
+  of_block k (inr (inl e)) = ap (solid_of (held after)) e ∙ (block_has_top_and_bottom before after s p dx dy dz sound made).1.solid
+  of_block k (inr (inr (i, l, e))) = ap (solid_of (held after)) e ∙ (block_has_four_sides before after s p dx dy dz i sound made l).solid
+
+  module _ (u : ℕ) (other : u ≢ s) (was : IsClosedFlat (held before) u) (k : ℕ) (there : Has (held after).faces k) (of : solid_of (held after) k ≡ u) where
+    older : k ≤ last_face before
+    older = elim (cases_lt (last_face before) k) [
+      | inr m ↦ m
+      | inl m ↦ absurd (other (sym of ∙ of_block k (one_of (last_face before) k m (subst (λ n. k ≤ n) (block_takes_six_faces before after s p dx dy dz sound made) (at_most_greatest (held after).faces k there)))))
+    ]
+
+    row : table.get (held after).faces k ≡ table.get (held before).faces k
+    row = block_keeps_faces before after s p dx dy dz made k older
+
+    had : Has (held before).faces k
+    had = sym (ap is_some row) ∙ there
+
+    of_before : solid_of (held before) k ≡ u
+    of_before = sym (same_solid (held before) (held after) k row) ∙ of
+
+    same : StandsAsBefore (held before) (held after) k
+    same = block_keeps_shapes before after s p dx dy dz sound made k had tt
+
+    still_flat : is_flat (held after) k ≡ true
+    still_flat = stands_flat (held before) (held after) k same ∙ was.flat k had of_before
+
+    same_loops : loops_of (held after) k ≡ loops_of (held before) k
+    unfolding loops_of
+    same_loops = λ t. same.outer t ∷ same.rings t
+
+    still_closed : (l : ℕ) → Has (held after).loops l → face_of (held after) l ≡ k → is_lone (content (held after) l) ≡ false
+    still_closed l has on =
+        let inside = subst (λ ls. IsIn l ls) (ap (loops_of (held after)) on ∙ same_loops) (loop_in l has) in
+        let old = face_of_loop (held before) sound k l had (listed-from_in l (loops_of (held before) k) inside) in
+        ap is_lone (same_content (held before) (held after) l (block_keeps_loops before after s p dx dy dz sound made l old.0 tt)) ∙ was.closed l old.0 (ap (solid_of (held before)) old.1 ∙ of_before)
+
+pub block_keeps_flat : BlockKeepsFlat
+block_keeps_flat before after s p dx dy dz u sound made other was = record {
+  flat = λ k there of. still_flat before after s p dx dy dz sound made u other was k there of;
+  closed = λ l has of. still_closed before after s p dx dy dz sound made u other was (face_of (held after) l) ((sound_after before after s p dx dy dz sound made).loops_of_faces l has) of l has refl;
+}
 
 pub blocks_lie_flat : BlocksLieFlat
 blocks_lie_flat = closed_flat

@@ -1,11 +1,9 @@
 -- A solid that came of a glue is flat, as both were, and none of its loops is a lone vertex.
 use Rattle.std.specs.Prelude.{nat_eq, unwrap_or, map}
 use Rattle.std.specs.Option.{option_map}
-use Rattle.std.specs.List.{list_all}
-use Rattle.std.proofs.Common.{◌≡◌, ◌≢◌, ℕ, ◌⊎◌, inl, inr, Bool, true, false, not, cond, ◌&&◌, ◌||◌, List, Option, Some, None, is_some, refl, sym, ap, subst, ◌∙◌, arith, true≢false}
+use Rattle.std.proofs.Common.{◌≡◌, ◌≢◌, ℕ, ◌⊎◌, inl, inr, Bool, true, false, cond, ◌&&◌, ◌||◌, List, Option, Some, None, is_some, refl, sym, ap, subst, ◌∙◌, arith, true≢false}
 use Rattle.std.proofs.lemmas.Bool.{cases_eq, eq-eqb, ne_eqb}
 use Rattle.std.proofs.lemmas.Bool.Decides.{eqb_tells}
-use Rattle.euler_operators.specs.Vectors.{origin, same_point, is_on, direction}
 use Rattle.euler_operators.specs.Table as table
 use Rattle.euler_operators.specs.Table.{Table}
 use Rattle.euler_operators.specs.Model.{Model, LoopContent, LoopRow, no_face, lone, cycle, content, face_of, outer, solid_of}
@@ -28,16 +26,11 @@ use Rattle.gluing_laws.proofs.FromConditions.{seamed, glued}
 use Rattle.gluing_laws.proofs.Seams.{Seamed, Glued}
 use Rattle.undo_journal.specs.Machine.{Machine, held}
 use Rattle.command_laws.specs.Commands.{IsGlue}
-use Rattle.command_laws.specs.LeftAlone.{StandsAsBefore}
 use Rattle.command_laws.specs.Flat.{IsClosedFlat, GluedLieFlat}
 use Rattle.command_laws.proofs.GluedAlone.{glue_keeps_shapes}
 use Rattle.command_laws.proofs.GluedRows.{still_there}
-use Rattle.command_laws.proofs.LyingFlat.{flat_is}
+use Rattle.command_laws.proofs.LyingFlat.{stands_flat}
 use Rattle.command_laws.proofs.TakenOver.{glue_takes_faces}
-
--- a face that stands as it did is as flat as it was
-pub stands_flat : (M N : Model) (k : ℕ) → StandsAsBefore M N k → is_flat N k ≡ is_flat M k
-stands_flat M N k same = flat_is N k ∙ (λ i. not (same_point (direction (same.plane i)) origin) && list_all (is_on (same.plane i)) (same.points i)) ∙ sym (flat_is M k)
 
 lone_still : (new : List ℕ → List ℕ) (c : LoopContent) → is_lone (rewritten new c) ≡ is_lone c
 lone_still new (lone v) = refl

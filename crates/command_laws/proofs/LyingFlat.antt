@@ -15,6 +15,7 @@ use Rattle.shapes.specs.Measure.{normal, anchor, plane_through, plane_of, is_pla
 use Rattle.shapes.proofs.glue.Points.{same_is}
 use Rattle.undo_journal.specs.Machine.{held}
 use Rattle.command_laws.specs.NewFaces.{all_moved, area_to, corner_points, plane_round}
+use Rattle.command_laws.specs.LeftAlone.{StandsAsBefore}
 use Rattle.command_laws.specs.RingedFaces.{IsFarFace}
 use Rattle.command_laws.specs.Flat.{lie_flat, FacesLieFlat, SidesLieFlat, FarFacesLieFlat}
 use Rattle.command_laws.proofs.SweptRings.{ringed_face_is_far}
@@ -122,6 +123,10 @@ all_moved_on n r d (p ∷ ps) = λ i. on_moved n r d p i && all_moved_on n r d p
 pub flat_is : (M : Model) (f : ℕ) → is_flat M f ≡ (not (same_point (direction (plane_of M f)) origin) && list_all (is_on (plane_of M f)) (corner_points M f))
 unfolding is_flat
 flat_is M f = ap (λ b. not (same_point (direction (plane_of M f)) origin) && b) (sym (list_all-map (is_on (plane_of M f)) (point_of M) (corners M f)))
+
+-- a face that stands as it did is as flat as it was
+pub stands_flat : (M N : Model) (k : ℕ) → StandsAsBefore M N k → is_flat N k ≡ is_flat M k
+stands_flat M N k same = flat_is N k ∙ (λ i. not (same_point (direction (same.plane i)) origin) && list_all (is_on (same.plane i)) (same.points i)) ∙ sym (flat_is M k)
 
 far_flat : (M N : Model) (f : ℕ) (d : Point) → IsFarFace M N f d → is_flat N f ≡ is_flat M f
 unfolding plane_of

@@ -40,3 +40,8 @@ BlocksLieFlat = (before after : Machine) (s : ℕ) (p : Point) (dx dy dz : ℤ) 
 -- and so is a solid that came of a glue
 abbrev pub GluedLieFlat : Type 0
 GluedLieFlat = (before after : Machine) (f g : ℕ) → Sound (held before) → IsGlue before after f g → IsClosedFlat (held after) (solid_of (held before) f)
+
+-- every other solid that was so before a block still is
+abbrev pub BlockKeepsFlat : Type 0
+BlockKeepsFlat = (before after : Machine) (s : ℕ) (p : Point) (dx dy dz : ℤ) (u : ℕ) → Sound (held before) → IsBlock before after s p dx dy dz → u ≢ s →
+    IsClosedFlat (held before) u → IsClosedFlat (held after) u
