@@ -3,3 +3,4 @@ mod Whole
 mod SplitCounts
 mod OpenedCaps
 mod Sizes
+mod Sectioned

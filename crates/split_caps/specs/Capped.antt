@@ -19,6 +19,10 @@ use Rattle.shapes.specs.split.Split.{opened_at}
 abbrev pub cycles_of : Model → ℕ → Plane → List (List ℕ)
 cycles_of M s p = let D = (with_drawings M s p).model in section_cycles D (below_halves D (faces_above D p s) s)
 
+-- the half-edges of the section, once its faces are drawn: there a face that isn't above meets one that is
+abbrev pub section_of : Model → ℕ → Plane → List ℕ
+section_of M s p = let D = (with_drawings M s p).model in below_halves D (faces_above D p s) s
+
 -- the caps, in the order of the cycles, and those of cycle i
 abbrev pub caps_of : Model → ℕ → Plane → List Caps
 caps_of M s p = let d = with_drawings M s p in (opened_at d (faces_above d.model p s) s p).caps

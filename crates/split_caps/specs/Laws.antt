@@ -2,6 +2,7 @@
 use Rattle.std.specs.Prelude.{◌≡◌, ℕ, ◌<◌, pos, int_lt, true, false, [], map, filter, length, get_or}
 use Rattle.euler_operators.specs.declared.Plane.{Plane}
 use Rattle.euler_operators.specs.Vectors.{moved, dot, direction}
+use Rattle.euler_operators.specs.Items.{IsIn}
 use Rattle.euler_operators.specs.Table as table
 use Rattle.euler_operators.specs.Sound.{Sound}
 use Rattle.shapes.specs.Vectors.{negated}
@@ -10,7 +11,7 @@ use Rattle.shapes.specs.split.Drawing.{with_drawings}
 use Rattle.shapes.specs.split.Section.{is_hole, holes_in}
 use Rattle.undo_journal.specs.Machine.{Machine, held}
 use Rattle.plane_split.specs.SplitModels.{IsSplit}
-use Rattle.split_caps.specs.Capped.{cycles_of, caps_of, cap, lower_numbers, upper_numbers, IsCapOf, area_below, sum_of}
+use Rattle.split_caps.specs.Capped.{section_of, cycles_of, caps_of, cap, lower_numbers, upper_numbers, IsCapOf, area_below, sum_of}
 
 -- each cycle has two caps, numbered on from the last face that was drawn, and they are a hole's where the cycle is one
 abbrev pub CapsAreNumbered : Type 0
@@ -42,3 +43,8 @@ CapsFaceApart = (before after : Machine) (s : ℕ) (p : Plane) (t i : ℕ) → S
     filter (λ k. k.hole) (caps_of (held before) s p) ≡ [] →
     let k = cap (held before) s p i in let N = held after in
     (int_lt (dot (normal N k.lower) (direction p)) (pos 0) ≡ false) × (normal N k.upper ≡ negated (normal N k.lower))
+
+-- each half-edge of the section stands in a cycle, which has its caps; so there are caps where the section has an edge
+abbrev pub SectionsAreCapped : Type 0
+SectionsAreCapped = (before after : Machine) (s : ℕ) (p : Plane) (t h : ℕ) → Sound (held before) → IsSplit before after s p t → IsIn h (section_of (held before) s p) →
+    (i : ℕ) × (i < length (caps_of (held before) s p)) × IsIn h (get_or (cycles_of (held before) s p) i [])

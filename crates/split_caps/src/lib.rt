@@ -4,23 +4,25 @@
 //!
 //! # What is proved
 //!
-//! Of a session after a split answered Ok: the numbers of the two caps of each cycle of the section, and which are those of holes; the
-//! caps of each outer cycle are faces of the part below and of the part above, all their corners, those of their rings too, lie on
-//! the plane, and their normals lie along its direction; those of holes are no faces any more. The normal of the cap below is the area
-//! round its cycle, which doesn't point against the plane's direction, and those round the holes, which do; the cap above has the
-//! opposite normal. What `counts` answers of the two parts together, told from what it answered of the solid and from how many
-//! vertices, edges, faces and rings the session holds more. How many vertices and edges that is, and how many faces more than rings, by
-//! the edges that are cut, the edges drawn between cut places and the half-edges round the section; `v - e + f - r`, by the cycles of the
-//! section and its holes alone. Of every other solid `counts` answers what it did. Not proved: that the holes of a section have less
-//! area than its outer cycle, so that the cap below points along the direction then too; what each part counts alone; the faces and
-//! the rings apart from each other by the section.
+//! Of a session after a split answered Ok: the numbers of the two caps of each cycle of the section, in which each half-edge of it
+//! stands, and which are those of holes; the caps of each outer cycle are faces of the part below and of the part above, all their
+//! corners, those of their rings too, lie on the plane, and their normals lie along its direction; those of holes are no faces any
+//! more. The normal of the cap below is the area round its cycle, which doesn't point against the plane's direction, and those
+//! round the holes, which do; the cap above has the opposite normal. What `counts` answers of the two parts together, told from
+//! what it answered of the solid and from how many vertices, edges, faces and rings the session holds more. How many vertices and
+//! edges that is, and how many faces more than rings, by the edges that are cut, the edges drawn between cut places and the half-
+//! edges round the section; `v - e + f - r`, by the cycles of the section and its holes alone. Of every other solid `counts`
+//! answers what it did. Not proved: that the holes of a section have less area than its outer cycle, so that the cap below points
+//! along the direction then too; what each part counts alone; the faces and the rings apart from each other by the section.
 
 ghost use Rattle.split_caps.specs.Counted.{SplitSharesCounts, SplitSharesSums, SplitMakesCounts, SplitKeepsCounts};
-ghost use Rattle.split_caps.specs.Laws.{CapsAreNumbered, CapsStand, HolesAreClosed, CapsHaveNormals, CapsFaceApart};
+ghost use Rattle.split_caps.specs.Laws.{SectionsAreCapped, CapsAreNumbered, CapsStand, HolesAreClosed, CapsHaveNormals, CapsFaceApart};
 
-/// Each cycle of the section has two caps, numbered on from the last face that was drawn.
+/// Each cycle of the section has two caps, numbered on from the last face that was drawn, and each half-edge of the section stands in a
+/// cycle. So there are caps where a face above meets one that isn't, once the faces are drawn.
 pub fn caps_are_numbered()
-    ensures { CapsAreNumbered }
+    ensures numbers { CapsAreNumbered }
+    ensures there { SectionsAreCapped }
 {}
 
 /// The caps of an outer cycle close the two parts: they lie on the plane, and so do their rings, which closed the holes.
