@@ -63,9 +63,12 @@ class Installation:
         return self.run(['make', '-s', '-C', str(TOP), goal, *words])
 
     def run(self, words: Sequence[object], data: bytes = b'') -> subprocess.CompletedProcess:
-        """Runs a command with the installed ones before others on the path."""
-        return subprocess.run(list(map(str, words)), input=data, capture_output=True, timeout=120, env=self._environment,
-                              cwd=self.prefix.parent)
+        """Runs a command with the installed ones before others on the path; the status is 127 where it isn't there, as a shell has it."""
+        all_words = list(map(str, words))
+        try:
+            return subprocess.run(all_words, input=data, capture_output=True, timeout=120, env=self._environment, cwd=self.prefix.parent)
+        except FileNotFoundError as error:
+            return subprocess.CompletedProcess(all_words, 127, b'', str(error).encode())
 
     def command(self, name: str) -> Path:
         """Where a command is installed."""
@@ -140,7 +143,8 @@ def library(at: Installation) -> Iterator[str]:
     for tool, tries in PACKAGES.items():
         if shutil.which(tool):
             yield from tries(at)
-    text = (at.prefix / 'lib' / 'pkgconfig' / 'gwb.pc').read_text()
+    package = at.prefix / 'lib' / 'pkgconfig' / 'gwb.pc'
+    text = package.read_text() if package.exists() else ''
     yield '' if f'prefix={at.prefix}\n' in text and f'Version: {VERSION}\n' in text else f'gwb.pc says {text!r}'
 
 
