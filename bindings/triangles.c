@@ -4,8 +4,6 @@
 #include "walks.h"
 #include <stdlib.h>
 
-__extension__ typedef __int128 wide;
-
 /* A corner of a face in the plane that the face is seen in. */
 struct corner {
     uint32_t vertex;
@@ -33,7 +31,7 @@ struct cutting {
     struct list rings, walls;
     struct list places; /* as the face is read: those of its outer loop first */
     struct list ends;   /* where in `places` each of its loops ends */
-    wide across[3];     /* what the face goes round, as long as twice its area */
+    int x, y;           /* the coordinates that are its x and y as it is seen from its front */
     gwb_triangle_row *rows;
     size_t room, count;
     uint32_t face;
@@ -228,31 +226,16 @@ static bool add_places(struct cutting *c, uint32_t loop)
     return true;
 }
 
-/* Adds what a loop goes round: its places are the last ones from `first` on. */
-static void add_across(struct cutting *c, size_t first)
-{
-    const struct place *places = c->places.items;
-    for (size_t i = first; i < c->places.count; i++) {
-        const int64_t *a = places[i].at, *b = places[i + 1 < c->places.count ? i + 1 : first].at;
-        for (int axis = 0; axis < 3; axis++)
-            c->across[axis] += (wide)a[(axis + 1) % 3] * b[(axis + 2) % 3] - (wide)a[(axis + 2) % 3] * b[(axis + 1) % 3];
-    }
-}
-
 static bool read_loop(struct cutting *c, uint32_t loop)
 {
     size_t first = c->places.count;
-    if (!add_places(c, loop))
-        return false;
-    add_across(c, first);
-    return c->places.count == first || list_add(&c->ends, &c->places.count);
+    return add_places(c, loop) && (c->places.count == first || list_add(&c->ends, &c->places.count));
 }
 
 static bool read_face(struct cutting *c)
 {
     gwb_face_row row = {0, 0};
     c->places.count = c->ends.count = 0;
-    memset(c->across, 0, sizeof c->across);
     gwb_face(c->g, c->face, &row);
     bool is_read = read_loop(c, row.outer_loop);
     for (uint32_t ring = 0; is_read && gwb_ring_after(c->g, c->face, ring, &ring) == GWB_FOUND;)
@@ -260,38 +243,38 @@ static bool read_face(struct cutting *c)
     return is_read;
 }
 
-static wide height(const struct cutting *c, const int64_t at[3]) { return c->across[0] * at[0] + c->across[1] * at[1] + c->across[2] * at[2]; }
-
-static bool is_flat(const struct cutting *c)
+/* The upper half of a number without its sign, and its lower half. */
+static gwb_wide size_of(gwb_wide number)
 {
-    const struct place *places = c->places.items;
-    for (size_t i = 1; i < c->places.count; i++)
-        if (height(c, places[i].at) != height(c, places[0].at))
-            return false;
-    return c->places.count != 0;
+    if (number.high >= 0)
+        return number;
+    return (gwb_wide){(int64_t)(~(uint64_t)number.high + (number.low == 0)), ~number.low + 1};
 }
 
-/* Which coordinates are x and y as the face is seen from its front. */
-static void find_front(const struct cutting *c, int *x, int *y)
+static bool is_less(gwb_wide a, gwb_wide b) { return a.high != b.high ? a.high < b.high : a.low < b.low; }
+
+/* Whether the face is there and flat; then how it is seen from its front is known. */
+static bool find_front(struct cutting *c)
 {
+    gwb_plane plane;
+    gwb_refusal refusal;
+    if (gwb_read_plane(c->g, c->face, &plane, &refusal) != GWB_PLANE || plane.flat == 0)
+        return false;
+    const gwb_wide across[] = {plane.a, plane.b, plane.c};
     int most = 0;
-    wide size[3];
-    for (int axis = 0; axis < 3; axis++) {
-        size[axis] = c->across[axis] < 0 ? -c->across[axis] : c->across[axis];
-        most = size[axis] > size[most] ? axis : most;
-    }
-    *x = (most + (c->across[most] >= 0 ? 1 : 2)) % 3;
-    *y = (most + (c->across[most] >= 0 ? 2 : 1)) % 3;
+    for (int axis = 1; axis < 3; axis++)
+        most = is_less(size_of(across[most]), size_of(across[axis])) ? axis : most;
+    c->x = (most + (across[most].high >= 0 ? 1 : 2)) % 3;
+    c->y = (most + (across[most].high >= 0 ? 2 : 1)) % 3;
+    return true;
 }
 
 /* Adds the corners of a loop, whose places lie from `first` to before `end`, to a list. */
 static bool add_corners(const struct cutting *c, size_t first, size_t end, struct list *corners)
 {
     const struct place *places = c->places.items;
-    int x, y;
-    find_front(c, &x, &y);
     for (size_t i = first; i < end; i++)
-        if (!list_add(corners, &(struct corner){places[i].vertex, places[i].at[x], places[i].at[y]}))
+        if (!list_add(corners, &(struct corner){places[i].vertex, places[i].at[c->x], places[i].at[c->y]}))
             return false;
     return true;
 }
@@ -324,9 +307,11 @@ static bool lay_out(struct cutting *c)
 static enum outcome cut_face(struct cutting *c)
 {
     size_t before = c->count;
+    if (!find_front(c))
+        return UNCUT;
     if (!read_face(c))
         return NO_MEMORY;
-    if (!is_flat(c))
+    if (c->places.count == 0)
         return UNCUT;
     if (!lay_out(c))
         return NO_MEMORY;

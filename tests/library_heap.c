@@ -74,6 +74,7 @@ static bool give_all(gwb *g)
     is_well = is_well && gwb_ringmv(g, 90, 1, 0) == GWB_OK && gwb_mekr(g, gwb_plus(9), gwb_lone(90), 91) == GWB_OK && gwb_kev(g, gwb_plus(91)) == GWB_OK && gwb_commit(g) == GWB_OK;
     is_well = is_well && gwb_block(g, 8, 20, 0, 0, 4, 4, 4) == GWB_OK && gwb_split(g, 8, 0, 0, 1, -2, 9) == GWB_OK;
     is_well = is_well && gwb_face_plane(g, 1, &plane) == GWB_PLANE && gwb_volume(g, 8, &volume) == GWB_VOLUME && gwb_count(g, 8, &counts) == GWB_COUNT;
+    is_well = is_well && gwb_read_listing(g, text, sizeof text) <= sizeof text;
     return is_well && gwb_mvfs(g, 70, 70, 70, 70, 1, 1, 1) == GWB_OK && gwb_kvfs(g, 70) == GWB_OK;
 }
 

@@ -245,37 +245,28 @@ inline std::int64_t narrow(gwb_wide number)
     throw std::overflow_error("the number does not fit in 64 bits");
 }
 
-/// A command that was not accepted; nothing has changed.
+/// A command that was not accepted; nothing has changed. To throw one takes no memory but that of the exception.
 class Complaint : public std::runtime_error {
 public:
-    using std::runtime_error::runtime_error;
+    /// What it says is a command, or the beginning of a line, a word and a number.
+    Complaint(std::string_view command, std::string_view word, std::uint32_t number) : std::runtime_error("")
+    {
+        char *end = text_.data();
+        for (std::string_view part : {command.substr(0, 100), std::string_view(": "), word, std::string_view(" ")})
+            end = std::copy(part.begin(), part.end(), end);
+        *std::to_chars(end, text_.data() + text_.size() - 1, number).ptr = '\0';
+    }
+    [[nodiscard]] const char *what() const noexcept override { return text_.data(); }
 
-protected:
-    /// A text of a command, or of the beginning of a line, of a word and of a number.
-    class Text {
-    public:
-        Text(std::string_view command, std::string_view word, std::uint32_t number)
-        {
-            add(command.substr(0, 100));
-            add(": ");
-            add(word);
-            add(" ");
-            *std::to_chars(end_, text_.data() + text_.size() - 1, number).ptr = '\0';
-        }
-        [[nodiscard]] const char *c_str() const { return text_.data(); }
-
-    private:
-        void add(std::string_view part) { end_ = std::copy(part.begin(), part.end(), end_); }
-        std::array<char, 160> text_;
-        char *end_ = text_.data();
-    };
+private:
+    std::array<char, 160> text_;
 };
 
 /// A condition of the command is false: its number, its name and the value that goes with it.
 class Refused : public Complaint {
 public:
     Refused(std::string_view command, gwb_refusal refusal)
-        : Complaint(Text(command, gwb_why_name(refusal.number), refusal.value).c_str()), refusal_(refusal)
+        : Complaint(command, gwb_why_name(refusal.number), refusal.value), refusal_(refusal)
     {
     }
     [[nodiscard]] std::uint32_t number() const { return refusal_.number; }
@@ -298,7 +289,7 @@ public:
 /// The line is no command: the number of the fault.
 class Faulted : public Complaint {
 public:
-    Faulted(std::string_view line, std::uint32_t number) : Complaint(Text(line, "fault", number).c_str()), number_(number) {}
+    Faulted(std::string_view line, std::uint32_t number) : Complaint(line, "fault", number), number_(number) {}
     [[nodiscard]] std::uint32_t number() const { return number_; }
 
 private:
@@ -309,7 +300,7 @@ private:
 class Crossed : public Complaint {
 public:
     Crossed(std::string_view command, std::uint32_t face)
-        : Complaint(Text(command, "loops cross or touch in face", face).c_str()), face_(face)
+        : Complaint(command, "loops cross or touch in face", face), face_(face)
     {
     }
     [[nodiscard]] Face face() const { return Face(face_); }
