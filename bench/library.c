@@ -204,10 +204,14 @@ static bool measure(struct cell *cell)
     return well;
 }
 
-/* The first cell that failed, or NULL; where another way begins, the one before it is restored. */
-static const struct cell *failed_in_round(void)
+/* Where the ways begin among the cells: each round begins with another one, so that none always comes after the same. */
+static size_t begins[8], begin_count;
+
+/* The first cell that failed from a place on and round, or NULL; where another way begins, the one before it is restored. */
+static const struct cell *failed_in_round(size_t first)
 {
-    for (size_t at = 0; at < cell_count; at++) {
+    for (size_t i = 0; i < cell_count; i++) {
+        const size_t at = (first + i) % cell_count;
         if (!measure(&cells[at]))
             return &cells[at];
         if (at + 1 == cell_count || cells[at + 1].way != cells[at].way)
@@ -222,13 +226,14 @@ int main(void)
     for (size_t at = 0; at < sizeof ways / sizeof *ways && ways[at]->name; at++) {
         if (!ways[at]->begin())
             return 1;
+        begins[begin_count++] = cell_count;
         add_commands(ways[at]);
     }
     if (!begin_readers())
         return 1;
     add_readers();
     for (int round = 0; round < (RUNNING_ON_VALGRIND ? 2 : ROUNDS); round++) {
-        const struct cell *failed = failed_in_round();
+        const struct cell *failed = failed_in_round(begins[(size_t)round % begin_count]);
         if (failed) {
             fprintf(stderr, "%s as %s didn't do what it should\n", failed->row, failed->way->name);
             return 1;

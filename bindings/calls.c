@@ -2,24 +2,21 @@
  * kernel_gwb_* here, which the Makefile makes of the names in the lines CALL. */
 #include "heap.h"
 
-/* Uses the heap of a session: what was used before. */
-static inline const gwb_heap *enter(const gwb *g)
-{
-    const gwb_heap *before = gwb_used_heap;
-    if (g->is_open)
-        gwb_used_heap = ((const union head *)g->held - 1)->heap;
-    return before;
-}
+/* The heap of a session: for a closed handle that of the thread. */
+static inline const gwb_heap *own(const gwb *g) { return g->is_open ? ((const union head *)g->held - 1)->heap : gwb_used_heap; }
 
+/* Where that is the one in use already, as mostly, the call goes on to the kernel as it is. */
 #define CALL(name, result, parameters, arguments)                                                                                          \
-    result kernel_gwb_##name parameters;                                                                                                       \
-    result gwb_##name parameters                                                                                                           \
+    result kernel_gwb_##name parameters;                                                                                                   \
+    __attribute__((noinline)) static result in_own_##name parameters                                                                       \
     {                                                                                                                                      \
-        const gwb_heap *before = enter(g);                                                                                                 \
-        result answer = kernel_gwb_##name arguments;                                                                                           \
+        const gwb_heap *before = gwb_used_heap;                                                                                            \
+        gwb_used_heap = own(g);                                                                                                            \
+        result answer = kernel_gwb_##name arguments;                                                                                       \
         gwb_used_heap = before;                                                                                                            \
         return answer;                                                                                                                     \
-    }
+    }                                                                                                                                      \
+    result gwb_##name parameters { return own(g) == gwb_used_heap ? kernel_gwb_##name arguments : in_own_##name arguments; }
 
 typedef enum gwb_kind kind;
 
