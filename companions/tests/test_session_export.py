@@ -74,6 +74,14 @@ class Exports(unittest.TestCase):
         self.bench.undo()
         self.assertEqual(list(self.bench.labels), [('solid', self.base.solid)])
 
+    def test_copies_and_parts_have_those_of_what_they_were(self):
+        base, top = (self.bench.labels[thing] for thing in (('solid', self.base.solid), ('face', self.base.top)))
+        for made in (self.bench.copy(self.base, move=(0, 50, 0)), *self.bench.pattern(self.base, 3, (50, 0, 0))):
+            self.assertEqual((self.bench.labels['solid', made.solid], self.bench.labels['face', made.face(self.base.top)]), (base, top))
+        self.assertEqual(self.bench.labels['solid', self.bench.split(self.base, (1, 0, 0, -2)).solid], base)
+        self.assertEqual(self.bench.labels['solid', self.bench.cut(self.base, (0, 2, 0, -5), scale=True).above], base)
+        self.assertEqual(len(self.bench.labels), 2 + 3 * 2 + 2)
+
     def test_they_are_saved_and_loaded(self):
         path = self.folder / 'part.gwb'
         self.bench.save(path)

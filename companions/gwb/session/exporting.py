@@ -4,7 +4,7 @@ import warnings
 from fractions import Fraction
 from pathlib import Path
 from types import MappingProxyType
-from typing import Callable, Dict, NamedTuple, Optional, Tuple, Union
+from typing import Callable, Dict, Mapping, NamedTuple, Optional, Tuple, Union
 
 from ..drawing.page import page_of
 from ..formats.appearance import Appearance, Appearances, Colour, Thing, colour_of
@@ -29,7 +29,8 @@ class _Held(NamedTuple):
 
 
 class Exporting(Measuring):
-    """Labels go by number and are no commands: undo leaves them, and what isn't there has none in a file."""
+    """Labels go by number and are no commands: undo leaves them, and what isn't there has none in a file. Copies and parts above a cut get
+    those of what they were."""
 
     def __init__(self, program: Optional[arguments.Path] = None) -> None:
         self._labels: Dict[Thing, Appearance] = {}
@@ -57,6 +58,10 @@ class Exporting(Measuring):
     def unit(self) -> Fraction:
         """The size of a coordinate, in the unit that the session began with: 1, but where coordinates were multiplied for a finer one."""
         return self._journal.unit
+
+    def _label_alike(self, others: Mapping[Thing, int]) -> None:
+        looks = {thing: self._labels[thing] for thing in others if thing in self._labels}
+        self._labels.update({(thing[0], others[thing]): look for thing, look in looks.items()})
 
     def page(self) -> str:
         """A page in HTML to turn the model and to pick from it, as `gwb-view` makes it, with the labels."""

@@ -1,7 +1,7 @@
 """The methods of a workbench that take solids as wholes (solids.py), cut (cutting.py) and unite them (uniting.py), and shape them up to the edges of
 their faces (shaping.py)."""
 
-from typing import Optional, Sequence, Tuple
+from typing import Mapping, Optional, Sequence, Tuple
 
 from ..geometry.model import Model
 from ..geometry.moved import Change, mirroring, moving, scaling
@@ -30,11 +30,21 @@ class SolidMethods(Features):
         NumbersSpent: there are no free numbers."""
         changes = [] if mirror is None else [mirroring(solids.mirror_plane('mirror', mirror))]
         changes.append(moving(arguments.point('move', move)))
-        return solids.copies(self, self._number('solid', solid), [changes])[0]
+        return self._copied(solid, [changes])[0]
 
     def pattern(self, solid: arguments.Solid, count: int, step: arguments.Point) -> Tuple[Copy, ...]:
         """Copies of the solid, each a step farther than the one before, so that there are `count` of it with itself. Refused as copy is."""
-        return solids.copies(self, self._number('solid', solid), solids.in_a_row(count, step))
+        return self._copied(solid, solids.in_a_row(count, step))
+
+    def _copied(self, solid: arguments.Solid, ways: Sequence[Sequence[Change]]) -> Tuple[Copy, ...]:
+        number = self._number('solid', solid)
+        made = solids.copies(self, number, ways)
+        for copy in made:
+            self._label_alike({('solid', number): copy.solid, **{('face', face): other for face, other in copy.faces.items()}})
+        return made
+
+    def _label_alike(self, others: Mapping[Tuple[str, int], int]) -> None:
+        """For solids and faces, by kind and number, others of the kind get the names and colours that they have. Here nothing has any."""
 
     def move(self, solid: arguments.Solid, vector: arguments.Point) -> int:
         """The solid moves by the vector: its number, which stays, as all of its numbers do. Refused: NoSolid; PointRange: a point would
@@ -68,8 +78,11 @@ class SolidMethods(Features):
         number, level = self._number('solid', solid), arguments.plane('plane', plane)
         new = None if above is None else arguments.number('above', above)
         if not arguments.flag('scale', scale):
-            return super().split(number, level, above=new)
-        return refining.with_finer_unit(self, number, level, lambda plane: super(SolidMethods, self).split(number, plane, above=new))
+            made = super().split(number, level, above=new)
+        else:
+            made = refining.with_finer_unit(self, number, level, lambda plane: super(SolidMethods, self).split(number, plane, above=new))
+        self._label_alike({('solid', number): made.solid})
+        return made
 
     def cut(self, solid: arguments.Solid, plane: arguments.Point, *, keep: str = 'both', above: Optional[int] = None, scale: bool = False) -> Cut:
         """The solid is cut by the plane a x + b y + c z + d = 0. What lies below it stays the solid, and what lies above it becomes a new one,
@@ -89,7 +102,9 @@ class SolidMethods(Features):
 
     def _cut(self, solid: int, plane: Plane, wanted: Keep, above: Optional[int]) -> Cut:
         if wanted is Keep.BOTH:
-            return cutting.cut(self, solid, plane, above)
+            made = cutting.cut(self, solid, plane, above)
+            self._label_alike({('solid', solid): made.above} if made.above else {})
+            return made
         if wanted is Keep.BELOW:
             return Cut(solid, None, cutting.trimmed(self, solid, plane), ())
         return Cut(None, solid, (), cutting.trimmed(self, solid, cutting.opposite(plane)))
