@@ -46,7 +46,7 @@ class Pages(unittest.TestCase):
 
     def test_it_stands_alone_and_is_small(self):
         for script in (script for script in examples() if script.stem in stored_models()):
-            outcome = run('page', str(script.with_suffix('.expected')))
+            outcome = run('view', str(script.with_suffix('.expected')))
             self.assertEqual((outcome.status, outcome.err), (0, ''))
             self.assertLess(len(outcome.out) - len(json.dumps(data_of(outcome.out))), 90_000)
             self.assertNotRegex(outcome.out, r'https?:|src=|@import|fetch\(|<link')
@@ -108,17 +108,17 @@ class Pages(unittest.TestCase):
         with tempfile.TemporaryDirectory() as folder:
             path = Path(folder, 'part')
             path.write_text(listing(points, turned(faces)))
-            self.assertIn('solid 1 is inside out', run('page', str(path)).err)
+            self.assertIn('solid 1 is inside out', run('view', str(path)).err)
             path.write_text(BLOCK)
-            self.assertEqual(run('page', str(path)).err, '')
+            self.assertEqual(run('view', str(path)).err, '')
 
     def test_carriage_returns_are_read(self):
         with tempfile.TemporaryDirectory() as folder:
             path = Path(folder, 'part')
             path.write_bytes(BLOCK.encode())
-            plain = run('page', str(path)).out
+            plain = run('view', str(path)).out
             path.write_bytes(BLOCK.replace('\n', '\r\n').encode())
-            self.assertEqual(run('page', str(path)).out, plain)
+            self.assertEqual(run('view', str(path)).out, plain)
 
 
 class Steps(unittest.TestCase):
@@ -149,7 +149,7 @@ class Steps(unittest.TestCase):
         self.assertEqual([step.is_complaint for step in steps], [False, True, True, False])
 
     def test_the_program(self):
-        outcome = run('page', '--steps', str(examples()[0]))
+        outcome = run('view', '--steps', str(examples()[0]))
         self.assertEqual((outcome.status, outcome.err), (0, ''))
         self.assertIn('"steps":true', outcome.out)
 
@@ -161,7 +161,7 @@ class Damaged(unittest.TestCase):
         with tempfile.TemporaryDirectory() as folder:
             path = Path(folder, 'input')
             path.write_bytes(data)
-            outcome = run('page', *words, str(path))
+            outcome = run('view', *words, str(path))
         self.assertEqual((outcome.status, outcome.out, outcome.err.count('\n')), (3, '', 1), outcome.err)
         self.assertTrue(outcome.err.startswith('gwb-view: '))
         return outcome.err
@@ -192,8 +192,8 @@ class Damaged(unittest.TestCase):
 
     def test_words(self):
         for words in (['--solid', 'x'], ['--nonsense'], ['--steps', '--solid', '1']):
-            self.assertEqual(run('page', *words).status, 2)
-        self.assertEqual(run('page', '/nowhere/at/all').status, 3)
+            self.assertEqual(run('view', *words).status, 2)
+        self.assertEqual(run('view', '/nowhere/at/all').status, 3)
 
 
 if __name__ == '__main__':
