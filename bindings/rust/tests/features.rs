@@ -182,8 +182,8 @@ fn triangles() {
     for face in session.faces(solid) {
         let mut sum = [0; 3];
         for corners in session.triangles(face).unwrap() {
-            let [p, q, r] = corners.map(|corner| session.vertex(corner).unwrap());
-            let (u, v) = (q - p, r - p);
+            let [start, one, other] = corners.map(|corner| session.vertex(corner).unwrap());
+            let (u, v) = (one - start, other - start);
             sum = [sum[0] + u.y * v.z - u.z * v.y, sum[1] + u.z * v.x - u.x * v.z, sum[2] + u.x * v.y - u.y * v.x];
         }
         let plane = session.plane(face).unwrap();
