@@ -3,7 +3,6 @@ use Rattle.std.proofs.Common.{◌≡◌, ◌∙◌, ℕ, Bool, true, false, Opti
 use Rattle.std.specs.Prelude.{cond}
 use Rattle.gwb_c.specs.Handle.{Unless, Calls, lacking}
 use Rattle.session_slots.specs.Answered.{status_of}
-use Rattle.session_slots.specs.Stages.{is_draft}
 use Rattle.session_slots.specs.Lines.{Unless_lacking}
 use Rattle.commands.specs.declared.stage.Stage.{Stage}
 use Rattle.session_slots.specs.declared.slot.Slot.{Slot}

@@ -1,4 +1,4 @@
-use Rattle.std.proofs.Common.{◌∙◌, Bool, cond, ap, subst}
+use Rattle.std.proofs.Common.{◌∙◌, cond, ap, subst}
 use Rattle.session_slots.specs.declared.slot.Slot.{Slot}
 use Rattle.session_slots.specs.Answered.{status_of}
 use Rattle.session_slots.specs.Lines.{spoken, lacks_said, Slot_notes, Unless_lacking}
