@@ -1,12 +1,12 @@
 """Companions of gwb, the Geometric WorkBench: they read what it writes. Nothing of them is proved."""
 
-from .errors import CompanionError, Ended, InDraft, InGroup, NoDraft, NotOne, OutOfStep, ProgramMissing, Unfit
+from .errors import (CompanionError, Complaint, Ended, Faulted, InDraft, InGroup, MemoryRefused, NoDraft, NotOne, OutOfStep, ProgramMissing,
+                     Refused, Unfit)
 from .geometry.crossings import NoPart
 from .geometry.lattice_cuts import OffLatticeCut
 from .geometry.model import Face, Loop, Model
 from .geometry.outlines import Impossible
 from .geometry.solid_measures import BoundingBox, Inertia, NotParallel, NoVolume
-from .protocol.complaints import Complaint, Faulted, MemoryRefused, Refused
 from .protocol.listing import read_model
 from .session.cutting import Cut
 from .session.reading import EdgePart, FacePart, LoopPart, Part, SolidPart, VertexPart

@@ -27,8 +27,7 @@ class Outcome(NamedTuple):
     status: int
 
 
-MODULES = {'check': 'checks.check', 'explain': 'programs.explain', 'import': 'formats.importing', 'mesh': 'formats.mesh', 'script': 'programs.script',
-           'shell': 'programs.shell', 'step': 'formats.step', 'svg': 'drawing.svg', 'view': 'drawing.page'}
+MODULES = {'import': 'importing'}
 
 
 def run(companion: str, *words: str) -> Outcome:
@@ -37,7 +36,7 @@ def run(companion: str, *words: str) -> Outcome:
     out = io.TextIOWrapper(written, encoding='utf-8', newline='')
     with redirect_stdout(out), redirect_stderr(err):
         try:
-            status = import_module(f'gwb.{MODULES[companion]}').main(list(words))
+            status = import_module(f'gwb.programs.{MODULES.get(companion, companion)}').main(list(words))
         except SystemExit as end:
             status = end.code
     out.flush()

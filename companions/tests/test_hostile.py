@@ -95,11 +95,11 @@ class Ended(NamedTuple):
     kilobytes: int
 
 
-def ended(folder, *words, module='formats.importing'):
+def ended(folder, *words, module='importing'):
     """Runs a companion in a process of its own, which is stopped after 20 seconds of processor."""
     with open(Path(folder, 'out'), 'w+') as out, open(Path(folder, 'err'), 'w+') as err:
         code = (f'import resource, sys; resource.setrlimit(resource.RLIMIT_CPU, ({ENDLESS}, {ENDLESS})); '
-                f'from gwb.{module} import main; status = main(sys.argv[1:]); '
+                f'from gwb.programs.{module} import main; status = main(sys.argv[1:]); '
                 'print(resource.getrusage(resource.RUSAGE_SELF).ru_maxrss, file=open("kilobytes", "w")); sys.exit(status)')
         done = subprocess.run([sys.executable, '-c', code, *words], stdout=out, stderr=err, cwd=folder, check=False,
                               env={**os.environ, 'PYTHONPATH': str(COMPANIONS)})
@@ -126,7 +126,7 @@ class Hostile(unittest.TestCase):
         for replies, status in ((b'ok\n' * 20_000_000 + listed, 0), (listed + b'volume 6\n' * 5_000_000 + b'ok', 3), (b'ok\n' * 20_000_000, 3)):
             with tempfile.TemporaryDirectory() as folder:
                 Path(folder, 'replies').write_bytes(replies)
-                done = ended(folder, 'replies', module='drawing.svg')
+                done = ended(folder, 'replies', module='svg')
                 self.assertEqual((done.status, done.err.count('\n')), (status, status // 3), done.err)
                 self.assertTrue(0 < done.kilobytes < MOST_KILOBYTES, done.kilobytes)
 

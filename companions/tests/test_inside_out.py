@@ -30,14 +30,14 @@ class InsideOut(unittest.TestCase):
     def test_what_is_said(self):
         with tempfile.TemporaryDirectory() as folder:
             path = Path(folder, 'replies')
-            for name, module in (('svg', 'svg'), ('mesh', 'mesh'), ('script', 'script'), ('view', 'page')):
+            for name in ('svg', 'mesh', 'script', 'view'):
                 path.write_text(SECOND_TURNED)
-                outcome = run(module, str(path))
+                outcome = run(name, str(path))
                 self.assertEqual((outcome.status, outcome.err), (0, f'gwb-{name}: {WARNING}'))
                 self.assertTrue(outcome.out)
-                self.assertEqual(run(module, '--solid', '1', str(path)).err, '')
+                self.assertEqual(run(name, '--solid', '1', str(path)).err, '')
                 path.write_text(BOTH_WELL)
-                self.assertEqual(run(module, str(path)).err, '')
+                self.assertEqual(run(name, str(path)).err, '')
 
     def test_where_a_script_lists_it(self):
         with tempfile.TemporaryDirectory() as folder:

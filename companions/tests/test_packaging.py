@@ -1,5 +1,6 @@
-"""The package is built as `pip install` does it, and nothing is left in the folder."""
+"""The package is built as `pip install` does it, and nothing is left in the folder; its folders stand one on the other."""
 
+import re
 import shutil
 import subprocess
 import sys
@@ -33,6 +34,18 @@ class Packaging(unittest.TestCase):
             held = ZipFile(Path(folder) / built.stdout.splitlines()[-1]).namelist()
         package = [str(path.relative_to(COMPANIONS)) for path in (COMPANIONS / 'gwb').rglob('*') if path.is_file() and path.parent.name != '__pycache__']
         self.assertEqual(sorted(name for name in held if name.startswith('gwb/')), sorted(package))
+
+
+class Folders(unittest.TestCase):
+    """The folders of the package, in the order of the README."""
+
+    ORDER = ('geometry', 'protocol', 'checks', 'scripts', 'joining', 'formats', 'drawing', 'session', 'programs')
+
+    def test_each_uses_those_before_it_alone(self):
+        for path in (COMPANIONS / 'gwb').glob('*/*.py'):
+            used = set(re.findall(r'^from \.\.([a-z]+)[. ]', path.read_text(), re.M)) - {'errors', 'version'}
+            with self.subTest(path=path):
+                self.assertLessEqual(used, set(self.ORDER[:self.ORDER.index(path.parent.name)]))
 
 
 if __name__ == '__main__':

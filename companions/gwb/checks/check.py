@@ -1,16 +1,13 @@
 """Looks for slips that gwb doesn't: where the geometry of a sound model isn't that of solids."""
 
-from typing import Iterator, List, NamedTuple, Optional, Sequence
+from typing import Iterator, List, NamedTuple
 
 from ..geometry.measures import normal
 from ..geometry.model import Model
 from ..geometry.vectors import ZERO
-from ..programs.command_line import FOUND, OK, listing_parser, run, wanted_model
 from .face_checks import face_findings
 from .findings import Finding
 from .solid_checks import SolidCheck
-
-PROGRAM = 'gwb-check'
 
 
 class Report(NamedTuple):
@@ -34,20 +31,3 @@ def check(model: Model) -> Report:
     findings = [finding for face in model.faces if face not in without_area for finding in face_findings(model, face)]
     findings += [finding for solid in model.solids for finding in SolidCheck(model, solid).findings()]
     return Report(findings, without_area)
-
-
-def work(words: Optional[Sequence[str]]) -> int:
-    """Reads a listing and says what is wrong with it."""
-    parser = listing_parser(PROGRAM, 'Looks in a listing of gwb for rings that run the wrong way or lie outside their face, '
-                                     'loops that cross, faces that meet or are bent, solids that are inside out or touch '
-                                     'themselves. Solids are looked at one by one. All arithmetic is exact.')
-    parser.epilog = (parser.epilog or '') + ' 1: something was found.'
-    report = check(wanted_model(parser.parse_args(words)))
-    for line in report.lines():
-        print(line)
-    return FOUND if report.findings else OK
-
-
-def main(words: Optional[Sequence[str]] = None) -> int:
-    """The program: its status."""
-    return run(PROGRAM, work, words)

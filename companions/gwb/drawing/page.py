@@ -1,29 +1,18 @@
-"""Makes a page to look at a model and to pick from it: one HTML file that stands alone."""
+"""A page to look at a model and to pick from it: one HTML file that stands alone."""
 
-import argparse
 import base64
 import hashlib
 import html
 import json
 from pathlib import Path
-from typing import Dict, Iterable, List, Mapping, Optional, Protocol, Sequence, Tuple
+from typing import Dict, Iterable, List, Mapping, NamedTuple, Optional, Protocol, Tuple
 
-from ..errors import CompanionError, NotReplies
 from ..geometry.model import Model
-from ..programs.command_line import OK, add_version, read_bytes, run
-from ..programs.inside_out import warn_of_inside_out
-from ..programs.playing import Step, played
-from ..protocol.language import is_answered
-from ..protocol.listing import read_model
-from ..protocol.replies import is_listed
-from .page_rows import PageRows
+from .page_rows import PageRows, Rows
 
-PROGRAM = 'gwb-view'
 _FILES = Path(__file__).resolve().parent / 'page'
 _EMPTY = Model((), {}, {}, {}, {})
 _SCRIPTS = ('picture.js', 'section.js', 'measure.js', 'painter.js', 'flat.js', 'panels.js', 'page.js')
-_CHANGES = frozenset(
-    'mvfs kvfs mev kev mevv kevv mef kef kemr mekr mfkrh kfmrh ringmv lamina block sweep glue split undo redo'.split())
 
 
 class Look(Protocol):
@@ -42,6 +31,15 @@ class Look(Protocol):
 Looks = Mapping[Tuple[str, int], Look]
 _PLAIN: Looks = {}
 _LETTERS = {'solid': 's', 'face': 'f'}
+
+
+class Step(NamedTuple):
+    """A command of a script, what was replied to it, and what it changed: rows of the page by kind and number, None for what has gone."""
+
+    line: str
+    reply: str
+    is_complaint: bool
+    change: Dict[str, Rows]
 
 
 def _looks_data(looks: Looks) -> Dict[str, Dict[str, str]]:
@@ -97,72 +95,3 @@ def _lean(name: str) -> str:
     lines = (line.strip() for line in (_FILES / name).read_text(encoding='utf-8').splitlines())
     text = '\n'.join(line for line in lines if line and not line.startswith('//'))
     return ''.join(letter if letter.isascii() else f'\\u{ord(letter):04x}' for letter in text)
-
-
-def _words(data: bytes) -> List[str]:
-    """The words of the first line that isn't blank or a comment."""
-    line = next(filter(is_answered, data.split(b'\n')), b'')
-    return line.decode('ascii', 'replace').split()
-
-
-def _model_in(data: bytes, solid: Optional[int]) -> Model:
-    """The model of the last listing, or of one of its solids."""
-    try:
-        model = read_model(data)
-    except CompanionError:
-        if _words(data)[:1] and _words(data)[0] in _CHANGES:
-            raise NotReplies('this is a script: give what gwb replies to it, or --steps before it') from None
-        raise
-    if not model.solids:
-        raise CompanionError('the model is empty')
-    if solid is not None and solid not in model.solids:
-        raise CompanionError(f'there is no solid {solid} in the listing')
-    return model if solid is None else model.only(solid)
-
-
-def _require_script(data: bytes) -> None:
-    """Refuses what has no command, or is what gwb replied."""
-    words = _words(data)
-    if not words:
-        raise CompanionError('there is no command in the script')
-    if is_listed(' '.join(words)) or words[0] in ('ok', 'empty', 'refused', 'fault', 'memory'):
-        raise CompanionError('these are replies of gwb, and --steps takes the script: leave it out to see their last listing')
-
-
-def _parser() -> argparse.ArgumentParser:
-    parser = argparse.ArgumentParser(
-        prog=PROGRAM, description='Makes a page to look at a model and to pick from it, which stands alone: '
-                                  'gwb part.gwb | gwb-view > part.html, or gwb-view --steps part.gwb > part.html',
-        epilog='Status 0: done; 2: the command line is refused; 3: the input is refused, or reading or writing failed.')
-    parser.add_argument('file', nargs='?', metavar='FILE',
-                        help='replies of gwb with a listing, or with --steps a script (default: standard input)')
-    parser.add_argument('--steps', action='store_true', help='run the script and show the model after each command')
-    parser.add_argument('--solid', type=int, metavar='S', help='take solid S alone')
-    add_version(parser)
-    return parser
-
-
-def work(words: Optional[Sequence[str]]) -> int:
-    """Reads a listing, or plays a script, and writes the page."""
-    parser = _parser()
-    options = parser.parse_args(words)
-    if options.steps and options.solid is not None:
-        parser.error('--solid is for a listing, not for --steps')
-    data = read_bytes(options.file).replace(b'\r\n', b'\n')
-    title = Path(options.file or '-').stem.encode('utf-8', 'backslashreplace').decode('utf-8')
-    title = 'gwb' if title == '-' else title
-    if options.steps:
-        _require_script(data)
-        run_script = played(data)
-        warn_of_inside_out(PROGRAM, run_script.model)
-        print(page_of_steps(run_script.steps, title), end='')
-    else:
-        model = _model_in(data, options.solid)
-        warn_of_inside_out(PROGRAM, model)
-        print(page_of(model, title), end='')
-    return OK
-
-
-def main(words: Optional[Sequence[str]] = None) -> int:
-    """The program: its status."""
-    return run(PROGRAM, work, words)

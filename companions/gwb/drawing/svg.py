@@ -1,9 +1,7 @@
-"""Draws a listing: visible edges black, or each solid of several in its colour; hidden ones thin and dashed, seams within a plane grey."""
+"""Draws a model: visible edges black, or each solid of several in its colour; hidden ones thin and dashed, seams within a plane grey."""
 
-import sys
-from argparse import ArgumentTypeError
 from itertools import cycle
-from typing import Dict, Iterable, Iterator, List, NamedTuple, Optional, Sequence, Tuple
+from typing import Dict, Iterable, Iterator, List, NamedTuple, Sequence, Tuple
 
 from ..errors import Unfit
 from ..geometry.measures import normal, why_unfit
@@ -12,14 +10,11 @@ from ..geometry.plane_figures import Exact, turn
 from ..geometry.touched_edges import TouchedEdges, touched_edges
 from ..geometry.triangulation import face_triangles
 from ..geometry.vectors import Vector, ZERO, dot, flat_axes, same_direction, total
-from ..programs.command_line import OK, listing_parser, run, filled_model
-from ..programs.inside_out import warn_of_inside_out
 from .hidden_lines import Piece, Scene
 from .labels import Label, Placed, place
 from .view import View
 
-PROGRAM = 'gwb-svg'
-SIZE, SIZES = 600, range(100, 10_001)
+SIZE = 600
 _MARGIN = 30
 _KINDS = ('face', 'vertex', 'edge')
 # The colours of several solids, in turn: blue, orange, green, red, violet, teal, ochre, grey.
@@ -206,47 +201,3 @@ def picture(model: Model, stand: Vector, names: bool = False, hidden: bool = Tru
 def svg_text(model: Model, stand: Vector, names: bool = False, hidden: bool = True) -> str:
     """The text of the drawing, as picture makes it."""
     return picture(model, stand, names, hidden).text
-
-
-def _view_step(word: str) -> int:
-    try:
-        step = int(word)
-    except ValueError:
-        raise ArgumentTypeError(f'{word!r} is no whole number; three are wanted, as in --view 2 -3 2') from None
-    if abs(step) > 1_000_000:
-        raise ArgumentTypeError('past 1,000,000')
-    return step
-
-
-def _size(word: str) -> int:
-    if not word.isdecimal() or int(word[:9]) not in SIZES:
-        raise ArgumentTypeError(f'{word!r} is no whole number from {SIZES[0]} to {SIZES[-1]}')
-    return int(word)
-
-
-def work(words: Optional[Sequence[str]]) -> int:
-    """Reads a listing and draws it."""
-    parser = listing_parser(PROGRAM, 'Draws a listing of gwb as SVG: visible edges black, or each solid of several in its colour; '
-                                     'hidden ones thin and dashed (found exactly), seams between faces of one plane grey.')
-    parser.add_argument('--view', nargs=3, type=_view_step, default=(2, -3, 2), metavar=('X', 'Y', 'Z'),
-                        help='the viewer stands in this direction, z is up (default: 2 -3 2)')
-    parser.add_argument('--names', action='store_true',
-                        help='with the numbers of faces (green), edges (blue) and vertices (red); pale where they are hidden')
-    parser.add_argument('--no-hidden', dest='hidden', action='store_false', help='leave hidden lines out')
-    parser.add_argument('--size', type=_size, default=SIZE, metavar='N', help=f'the longest side in pixels (default: {SIZE})')
-    options = parser.parse_args(words)
-    if not any(options.view):
-        parser.error('argument --view: the viewer stands in no direction')
-    model = filled_model(options)
-    x, y, z = options.view
-    drawn = picture(model, (x, y, z), options.names, options.hidden, options.size)
-    print(drawn.text, end='')
-    if drawn.left_out:
-        print(f'{PROGRAM}: {drawn.left_out} numbers had no room and are left out (try --size or --solid)', file=sys.stderr)
-    warn_of_inside_out(PROGRAM, model)
-    return OK
-
-
-def main(words: Optional[Sequence[str]] = None) -> int:
-    """The program: its status."""
-    return run(PROGRAM, work, words)

@@ -6,6 +6,7 @@ A comment is `# solid 3 name "Lid" colour #FF8000`, with either of the two or bo
 import json
 import re
 from collections import Counter
+from fractions import Fraction
 from typing import Dict, Iterable, Iterator, Mapping, NamedTuple, Optional, Tuple
 
 Colour = Tuple[int, int, int]
@@ -35,6 +36,13 @@ class Appearance(NamedTuple):
 Appearances = Mapping[Thing, Appearance]
 NO_APPEARANCES: Appearances = {}
 _PLAIN = Appearance()
+
+
+class Said(NamedTuple):
+    """What comments say: the names and colours of solids and faces, and how large a coordinate is."""
+
+    looks: Appearances = NO_APPEARANCES
+    unit: Fraction = Fraction(1)
 
 
 def look_of(appearances: Appearances, kind: str, number: int) -> Appearance:

@@ -1,23 +1,15 @@
-"""Reads a mesh, polygons or flat STEP and writes the script that makes its solids."""
+"""Reads a mesh, polygons or flat STEP as a model."""
 
-import argparse
 import os
 import sys
-from fractions import Fraction
-from typing import BinaryIO, Optional, Sequence
+from typing import BinaryIO, Optional
 
 from ..geometry.model import Model
 from ..geometry.plane_figures import Exact
-from ..programs.command_line import FOUND, OK, add_version, run
-from ..programs.progress import Progress
-from ..scripts.inversion import script_of
-from .appearance import comments
-from .exact_numbers import NotANumber, exact_or_ratio, told
 from .models_of_parts import Imported, Stage, model_of_parts
 from .parts import NotAMesh
-from .polygon_files import FORMS, files_beside, form_of, read_parts
+from .polygon_files import files_beside, form_of, read_parts
 
-PROGRAM = 'gwb-import'
 MOST_BYTES = 300_000_000
 
 
@@ -55,61 +47,3 @@ def _bounded(file: BinaryIO) -> bytes:
 
 def _too_large() -> NotAMesh:
     return NotAMesh(f'the file has more than {MOST_BYTES:,} bytes')
-
-
-def _scale(word: str) -> Exact:
-    try:
-        scale = exact_or_ratio(word)
-    except NotANumber as error:
-        raise argparse.ArgumentTypeError(str(error)) from None
-    if scale <= 0:
-        raise argparse.ArgumentTypeError(f'{word} is not above zero')
-    return scale
-
-
-def _parser() -> argparse.ArgumentParser:
-    parser = argparse.ArgumentParser(
-        prog=PROGRAM, description='Writes the script that makes the solids of a file of polygons.',
-        epilog='Status 0: done; 1: done, and something was left out or a face is not flat; 2: the command line is refused; '
-               '3: the input is refused, or reading or writing failed.')
-    parser.add_argument('file', nargs='?', metavar='FILE',
-                        help='OFF, OBJ, STL, 3MF, PLY, AMF, or STEP with flat faces (default: standard input)')
-    parser.add_argument('--form', choices=FORMS, help='the form of the file (default: what it looks like)')
-    parser.add_argument('--scale', type=_scale, default=1, metavar='K', help='multiply coordinates, by 1000 or 1/2 say')
-    parser.add_argument('--round', action='store_true', help='round coordinates, and say how far a point was moved at most')
-    parser.add_argument('--keep-triangles', action='store_true', help="don't join faces of one plane")
-    parser.add_argument('--repair', action='store_true',
-                        help='cut bent faces into triangles, drop faces without an area and doubled ones, turn those that run the wrong way')
-    add_version(parser)
-    return parser
-
-
-def work(words: Optional[Sequence[str]]) -> int:
-    """Reads a file and writes its script."""
-    options = _parser().parse_args(words)
-    with Progress(PROGRAM) as progress:
-        found = read_file(options.file, form=options.form, scale=options.scale, rounded=options.round,
-                          keep_triangles=options.keep_triangles, repair=options.repair, stage=progress.stage)
-        progress.stage('writing')
-        lines = [*comments(found.looks), *script_of(found.model)]
-    _say(found, options.round)
-    for line in lines:
-        print(line)
-    return FOUND if found.wrong else OK
-
-
-def _say(found: Imported, rounded: bool) -> None:
-    """What is to be said, on standard error."""
-    moved = [f'points were moved by {_distance(found.square_moved)} at most'] if rounded or found.square_moved else []
-    for line in (*moved, *found.said, *(f'warning: {wrong}' for wrong in found.wrong)):
-        print(f'{PROGRAM}: {line}', file=sys.stderr)
-
-
-def _distance(square: Exact) -> str:
-    """The root of a square in a few digits."""
-    return told(Fraction(f'{float(square) ** 0.5:.3g}'))
-
-
-def main(words: Optional[Sequence[str]] = None) -> int:
-    """The program: its status."""
-    return run(PROGRAM, work, words)

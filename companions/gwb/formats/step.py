@@ -1,4 +1,4 @@
-"""Writes a listing as STEP AP214 with advanced boundary representations.
+"""A model as STEP AP214 with advanced boundary representations.
 
 Each shell that holds material is a solid; one that bounds a hollow is a void of the solid around it. Rings are further bounds
 of their faces. Solids and faces have the names that are known of them, else gwb's numbers, as edges and vertices have.
@@ -13,13 +13,8 @@ from ..geometry.model import Model
 from ..geometry.nesting import Nest, nests
 from ..geometry.shells import shells_of
 from ..geometry.vectors import Vector, negative, reduced, subtract
-from ..programs.command_line import OK, filled_model, listing_parser, run
-from ..programs.inside_out import warn_of_inside_out
-from ..programs.names_of_script import add_names, said_by
 from .appearance import NO_APPEARANCES, Appearances, Colour, look_of, unique_names
 from .step_file import quoted
-
-PROGRAM = 'gwb-step'
 
 _HEAD = """ISO-10303-21;
 HEADER;
@@ -262,19 +257,3 @@ def _put_assembly(entities: _Entities, solids: Mapping[int, Sequence[str]], shap
         own = shapes.axes()
         shape = _put_shape(entities, items, own, context)
         products.put_in(whole, _Placed(products.product(shapes.names[solid], shape), shape, own), shapes.names[solid])
-
-
-def work(words: Optional[Sequence[str]]) -> int:
-    """Reads a listing and writes it as STEP."""
-    parser = listing_parser(PROGRAM, 'Writes a listing of gwb as STEP AP214 (advanced boundary representation, in millimetres).')
-    add_names(parser)
-    options = parser.parse_args(words)
-    model = filled_model(options)
-    print(step_text(model, *said_by(options)), end='')
-    warn_of_inside_out(PROGRAM, model)
-    return OK
-
-
-def main(words: Optional[Sequence[str]] = None) -> int:
-    """The program: its status."""
-    return run(PROGRAM, work, words)

@@ -3,7 +3,7 @@
 from math import isqrt
 from typing import Optional, Sequence
 
-from ..protocol.complaints import Refused
+from ..errors import Refused
 from .box_index import BoxIndex, box_of
 from .measures import area_vector
 from .plane_figures import Flat, Segment, crossing, on_segment

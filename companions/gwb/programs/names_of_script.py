@@ -2,18 +2,10 @@
 
 import argparse
 from fractions import Fraction
-from typing import NamedTuple
 
-from ..formats.appearance import NO_APPEARANCES, Appearances, appearances_in
+from ..formats.appearance import Said, appearances_in
 from ..scripts.unit_comments import unit_in
 from .command_line import read_bytes
-
-
-class Said(NamedTuple):
-    """What comments say: the names and colours of solids and faces, and how large a coordinate is."""
-
-    looks: Appearances = NO_APPEARANCES
-    unit: Fraction = Fraction(1)
 
 
 def add_names(parser: argparse.ArgumentParser) -> None:

@@ -1,23 +1,15 @@
 """Runs a script through the program, command by command, for the page that plays it."""
 
-from typing import Dict, List, NamedTuple, Tuple
+from typing import List, NamedTuple, Tuple
 
-from ..drawing.page_rows import PageRows, Rows
+from ..drawing.page import Step
+from ..drawing.page_rows import PageRows
 from ..geometry.model import Model
 from ..protocol.language import first_word, is_answered
 from ..protocol.replies import Reply, shortened
 from ..scripts.followed import Followed, no_changes
 from ..session.pipe import Pipe, find_program
 from .explain import meaning
-
-
-class Step(NamedTuple):
-    """A command of a script, what was replied to it, and what it changed: rows of the page by kind and number, None for what has gone."""
-
-    line: str
-    reply: str
-    is_complaint: bool
-    change: Dict[str, Rows]
 
 
 class Played(NamedTuple):

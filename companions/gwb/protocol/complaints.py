@@ -1,32 +1,8 @@
-"""What a workbench raises where a command isn't accepted."""
+"""The errors for commands that aren't accepted."""
 
-from ..errors import CompanionError
+from ..errors import Complaint, Faulted, MemoryRefused, Refused
 from .language import FAULTS, first_word, refusal
 from .replies import Reply
-
-
-class Complaint(CompanionError):
-    """A command that wasn't accepted; nothing has changed."""
-
-
-class Refused(Complaint):
-    """A condition of the command is false: its name, its number and the value that goes with it."""
-
-    def __init__(self, name: str, value: int, number: int = 0, message: str = '') -> None:
-        super().__init__(message or f'{name} {value}')
-        self.name, self.value, self.number = name, value, number
-
-
-class Faulted(Complaint):
-    """The line is no command, such as one with a coordinate past 64 bits: the fault's name and number."""
-
-    def __init__(self, name: str, number: int, message: str) -> None:
-        super().__init__(message)
-        self.name, self.number = name, number
-
-
-class MemoryRefused(Complaint):
-    """Memory was refused; the same command may be given again."""
 
 
 def complaint(line: str, reply: Reply) -> Complaint:

@@ -9,7 +9,7 @@ from enum import Enum
 from fractions import Fraction
 from typing import Dict, Iterator, List, NamedTuple, Optional, Sequence, Tuple
 
-from ..errors import InDraft
+from ..errors import InDraft, Refused
 from ..geometry.free_numbers import LARGEST
 from ..geometry.joined_models import joined
 from ..geometry.model import Model
@@ -20,7 +20,6 @@ from ..geometry.traced_cycles import Side, traced
 from ..geometry.vectors import Vector, cross, dot, negative
 from ..joining.assembly import Names, Take, assembled
 from ..joining.combining import require_flat, sheets_of
-from ..protocol.complaints import Refused
 from .selection import Selecting
 from .solids import Numbers, delete, give, solid_model
 

@@ -4,11 +4,11 @@ import ctypes
 from operator import index
 from typing import Any, Callable, Dict, Iterator, List, Optional, Sequence, Tuple, Type
 
-from ..errors import CompanionError, Ended, InDraft, NoDraft, ProgramMissing
+from ..errors import CompanionError, Complaint, Ended, InDraft, NoDraft, ProgramMissing, Refused
 from ..geometry.free_numbers import KINDS, from_least
 from ..geometry.model import Face, Loop, Model
 from ..geometry.vectors import Vector
-from ..protocol.complaints import Complaint, Refused, memory_refused, refused
+from ..protocol.complaints import memory_refused, refused
 from ..protocol.language import command_bytes
 from ..protocol.replies import Reply, only_reply
 from .arguments import GREATEST_NUMBER

@@ -6,9 +6,9 @@ import subprocess
 from pathlib import Path
 from typing import Iterator, List, Sequence
 
-from ..errors import Ended, OutOfStep, ProgramMissing
+from ..errors import Complaint, Ended, OutOfStep, ProgramMissing
 from ..geometry.model import Model
-from ..protocol.complaints import Complaint, complaint
+from ..protocol.complaints import complaint
 from ..protocol.language import command_bytes
 from ..protocol.listing import model_of
 from ..protocol.replies import Reply, is_listed, only_reply

@@ -2,10 +2,10 @@
 
 from typing import Optional, Protocol, Tuple
 
+from ..errors import Refused
 from ..geometry.measures import area_vector
 from ..geometry.model import Face, Loop, Model
 from ..geometry.vectors import Vector, total
-from ..protocol.complaints import Refused
 from ..protocol.language import refusal
 from .turns import PartOfTurns
 

@@ -5,12 +5,12 @@ So a plane whose cut has points between whole coordinates can cut after all.
 
 from typing import Callable, TypeVar
 
+from ..errors import Refused
 from ..geometry.crossings import Plane, crossings, without_common_factor
 from ..geometry.lattice_cuts import whole_factor
 from ..geometry.moved import Displaced, changed, scaling
 from ..geometry.outlines import Impossible
 from ..geometry.solids_apart import solids_apart
-from ..protocol.complaints import Refused
 from .selection import Selecting
 from .solids import Numbers, give, solid_model
 

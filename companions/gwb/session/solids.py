@@ -8,14 +8,13 @@ from dataclasses import dataclass
 from functools import reduce
 from typing import Callable, Dict, Iterator, List, Mapping, Optional, Sequence, Tuple
 
-from ..errors import Unfit
+from ..errors import Refused, Unfit
 from ..geometry.free_numbers import KINDS, LARGEST, FreeNumbers, numbers_of, renumbered, renumbering
 from ..geometry.model import Model
 from ..geometry.moved import Change, Displaced, changed, moving, turning
 from ..geometry.outlines import Impossible
 from ..geometry.solids_apart import solids_apart
 from ..geometry.vectors import ZERO
-from ..protocol.complaints import Refused
 from ..scripts.changing import script_between
 from ..scripts.inversion import Step, steps_apart
 from . import arguments

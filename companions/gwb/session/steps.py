@@ -3,8 +3,7 @@
 from contextlib import contextmanager
 from typing import Iterator, Sequence
 
-from ..errors import NoDraft
-from ..protocol.complaints import MemoryRefused
+from ..errors import MemoryRefused, NoDraft
 from .conversation import Conversation
 from .journal import Done, State
 

@@ -18,9 +18,9 @@ from tempfile import NamedTemporaryFile
 from typing import Any, Iterator, Optional, Tuple
 from webbrowser import open as open_in_browser
 
-from ..errors import CompanionError, InDraft
+from ..errors import CompanionError, Complaint, InDraft
 from ..formats.appearance import appearances_in, comments
-from ..protocol.complaints import Complaint, complaint
+from ..protocol.complaints import complaint
 from ..protocol.language import is_answered
 from ..protocol.listing import read_model
 from ..protocol.replies import Reply, is_listed
