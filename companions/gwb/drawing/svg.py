@@ -16,7 +16,7 @@ from .view import View
 
 SIZE = 600
 _MARGIN = 30
-_KINDS = ('face', 'vertex', 'edge')
+_BY_WORTH = ('face', 'vertex', 'edge')
 # The colours of several solids, in turn: blue, orange, green, red, violet, teal, ochre, grey.
 _COLOURS = ('#1b5fa8', '#c4690a', '#2f8a2c', '#b0304a', '#6a4fb0', '#1d8787', '#8a7a12', '#606060')
 _STYLE = """<style>
@@ -131,7 +131,7 @@ class _Drawing:
 
     def names(self) -> Placed:
         """The numbers that have room: those that the viewer sees before the others, faces before vertices and edges."""
-        return place(sorted(self._names(), key=lambda label: (label.kind.endswith(' away'), _KINDS.index(label.kind.split(' ')[0]))))
+        return place(sorted(self._names(), key=lambda label: (label.kind.endswith(' away'), _BY_WORTH.index(label.kind.split(' ')[0]))))
 
     def _names(self) -> Iterator[Label]:
         seen = {vertex for edge, pieces in self._pieces.items() for vertex in self._seen_ends(edge, pieces)}

@@ -3,6 +3,7 @@
 from typing import Dict, Hashable, List, Optional, Sequence, Tuple
 
 from ..errors import Unfit
+from ..geometry.free_numbers import from_least
 from ..geometry.plane_figures import Corner
 from ..geometry.triangulation import triangulate
 from ..geometry.vectors import ZERO, flat_axes
@@ -27,21 +28,16 @@ def _without_doubled(soup: Soup, repairs: Repairs) -> Soup:
     """One face of those that have the same corners in the same order."""
     kept: Dict[Hashable, int] = {}
     for place, face in enumerate(soup.faces):
-        kept.setdefault(tuple(map(_from_least, face)), place)
+        kept.setdefault(tuple(map(from_least, face)), place)
     count(repairs, DOUBLED, len(soup.faces) - len(kept))
     return Soup(soup.points, [soup.faces[place] for place in kept.values()], [soup.origins[place] for place in kept.values()])
-
-
-def _from_least(cycle: List[int]) -> Tuple[int, ...]:
-    least = cycle.index(min(cycle))
-    return tuple(cycle[least:] + cycle[:least])
 
 
 def _without_folded(soup: Soup, repairs: Repairs) -> Soup:
     """The soup without pairs of faces without an area that lie on each other and look against each other."""
     flat = [place for place in range(len(soup.faces)) if across(soup.loops(place)) == ZERO]
-    places = {tuple(map(_from_least, soup.faces[place])): place for place in flat}
-    back = ((place, tuple(_from_least(cycle[::-1]) for cycle in soup.faces[place])) for place in flat)
+    places = {tuple(map(from_least, soup.faces[place])): place for place in flat}
+    back = ((place, tuple(from_least(cycle[::-1]) for cycle in soup.faces[place])) for place in flat)
     folded = {place for place, key in back if places.get(key, place) != place}
     count(repairs, DROPPED, len(folded))
     left = [place for place in range(len(soup.faces)) if place not in folded]

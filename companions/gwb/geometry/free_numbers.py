@@ -1,6 +1,6 @@
 """Numbers of things: the kinds, those in use, and those that are free."""
 
-from typing import Collection, Dict, Iterable, Iterator, List, Mapping, Tuple
+from typing import Collection, Dict, Iterable, Iterator, List, Mapping, Tuple, TypeVar
 
 from ..errors import Unfit
 from .model import Face, Loop, Model
@@ -8,6 +8,7 @@ from .vectors import Vector
 
 KINDS = ('solid', 'face', 'loop', 'edge', 'vertex')
 LARGEST = 1_000_000
+Item = TypeVar('Item')
 
 
 def numbers_of(model: Model) -> Dict[str, Collection[int]]:
@@ -81,7 +82,12 @@ def from_least(halves: Iterable[int]) -> Tuple[int, ...]:
     """The cycle from its least half-edge on, by edge, `+` before `-`."""
     cycle = tuple(halves)
     least = min([abs(half) for half in cycle])
-    place = cycle.index(least if least in cycle else -least)
+    return begun_at(cycle, least if least in cycle else -least)
+
+
+def begun_at(cycle: Tuple[Item, ...], first: Item) -> Tuple[Item, ...]:
+    """The cycle from one of its items on."""
+    place = cycle.index(first)
     return cycle[place:] + cycle[:place]
 
 

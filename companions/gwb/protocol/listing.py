@@ -3,12 +3,11 @@
 from typing import Dict, List, Sequence, Tuple
 
 from ..errors import NotAListing
+from ..geometry.free_numbers import KINDS
 from ..geometry.model import Face, Loop, Model
 from ..geometry.vectors import Vector
 from .replies import Reply, last_listing
 from .soundness import require_sound
-
-_KINDS = ('solid', 'face', 'loop', 'edge', 'vertex')
 
 
 def read_model(data: bytes) -> Model:
@@ -34,13 +33,13 @@ def model_of(reply: Reply) -> Model:
 
 def _rows(lines: Sequence[str]) -> Dict[str, Dict[int, List[str]]]:
     """For each kind the words after the number, by numbers; kinds and numbers come in order."""
-    rows: Dict[str, Dict[int, List[str]]] = {kind: {} for kind in _KINDS}
+    rows: Dict[str, Dict[int, List[str]]] = {kind: {} for kind in KINDS}
     if lines == ('empty',):
         return rows
     last: Tuple[int, int] = (0, 0)
     for line in lines:
         kind, number, *words = line.split(' ')
-        place = (_KINDS.index(kind), int(number))
+        place = (KINDS.index(kind), int(number))
         if place <= last:
             raise NotAListing(f'`{kind} {number}` is out of order')
         last = place

@@ -45,6 +45,9 @@ class Reply(NamedTuple):
         return [int(word) for word in self.lines[0].split(' ')[1:] if word not in ('flat', 'bent')]
 
 
+ACCEPTED = Reply(('ok',))
+
+
 def is_listed(line: str) -> bool:
     """Whether the line is one of a listing that isn't empty."""
     return _LISTED.fullmatch(line) is not None

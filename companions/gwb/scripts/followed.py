@@ -5,6 +5,7 @@ docs/SCRIPT.md says what each command does. `glue` and `split` aren't followed: 
 
 from typing import Callable, Dict, Iterable, List, Mapping, NamedTuple, Optional, Sequence, Tuple, TypeVar
 
+from ..geometry.free_numbers import begun_at, from_least
 from ..geometry.model import Face, Loop, Model
 from ..geometry.vectors import Vector, total
 
@@ -160,17 +161,11 @@ class Followed:
 
     def _cycle(self, number: int, halves: Sequence[int], alone: int) -> None:
         """The loop becomes the half-edges, from the least on; where there are none, one vertex."""
-        if not halves:
-            self._put_loop(number, Loop((), alone))
-            return
-        least = halves.index(min(halves, key=lambda half: (abs(half), half < 0)))
-        self._put_loop(number, Loop((*halves[least:], *halves[:least])))
+        self._put_loop(number, Loop(from_least(halves)) if halves else Loop((), alone))
 
     def _from(self, half: int) -> List[int]:
         """The half-edges of its loop, from this one on."""
-        halves = self.loops[self._loop_of[half]].halves
-        place = halves.index(half)
-        return [*halves[place:], *halves[:place]]
+        return list(begun_at(self.loops[self._loop_of[half]].halves, half))
 
     def _tail(self, half: int) -> int:
         return self.edges[half][0] if half > 0 else self.edges[-half][1]

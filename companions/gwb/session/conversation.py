@@ -7,11 +7,11 @@ with the program started anew and given all that the journal has.
 from contextlib import contextmanager
 from typing import Callable, Dict, Iterator, NoReturn, Optional, Sequence, Union
 
-from ..errors import CompanionError, InDraft, InGroup, OutOfStep
+from ..errors import CompanionError, Complaint, InDraft, InGroup, OutOfStep
 from ..geometry.free_numbers import KINDS, greatest_of
 from ..geometry.model import Model
-from ..protocol.complaints import complaint
-from ..protocol.replies import Reply
+from ..protocol.complaints import refused, reply_to
+from ..protocol.replies import ACCEPTED, Reply
 from . import arguments
 from .calls import Call, Value, call_in, words_in
 from .following import Following
@@ -25,7 +25,7 @@ from .results import Numbers
 from .turns import TakingTurns, in_turn
 
 Fresh = Dict[str, range]
-_NOTHING_TO_REDO = Reply(('refused 26 0',))
+_NOTHING_TO_REDO = 26
 
 
 class Conversation(TakingTurns):
@@ -63,7 +63,7 @@ class Conversation(TakingTurns):
         self._refuse_in_draft(line)
         if words in (['undo'], ['redo']):
             self._refuse_in_group(line)
-            return self._stepped(words[0])
+            return self._reply_to_step(words[0])
         corners = self._prepared(words[0], _number_in(words[1:])) if words else 0
         with self._disagreeing():
             reply = self._lines.ask(line)
@@ -127,9 +127,7 @@ class Conversation(TakingTurns):
     def _unmake(self, made: Sequence[Done]) -> None:
         """Undoes the last commands, which are these. A complaint is raised."""
         for done in reversed(made):
-            reply = self._lines.step('undo', len(done.calls))
-            if reply.is_complaint:
-                raise complaint('undo', reply)
+            self._lines.step('undo', len(done.calls))
 
     def _require_agreement(self) -> None:
         if not self._agrees:
@@ -212,21 +210,25 @@ class Conversation(TakingTurns):
         return self._group_from is None or self._journal.at <= self._group_from
 
     def _go(self, word: str) -> None:
-        """Undoes or redoes one command, the word says which. A complaint is raised."""
-        reply = self._stepped(word)
-        if reply.is_complaint:
-            raise complaint(word, reply)
-
-    def _stepped(self, word: str) -> Reply:
-        """The reply where one command is undone or redone, the word says which."""
+        """Undoes or redoes one command, the word says which. A complaint is raised, and nothing has changed."""
         if word == 'redo' and self._journal.has_given_up:
-            return _NOTHING_TO_REDO
+            raise refused(word, _NOTHING_TO_REDO, 0)
         with self._disagreeing():
-            reply = self._lines.step(word, self._journal.calls_of(word))
-            if not reply.is_complaint:
-                self._changed()
-                self._journal.stepped(word)
-        return reply
+            try:
+                self._lines.step(word, self._journal.calls_of(word))
+            except Complaint:
+                self._agrees = True
+                raise
+            self._changed()
+            self._journal.stepped(word)
+
+    def _reply_to_step(self, word: str) -> Reply:
+        """The reply where one command is undone or redone, the word says which."""
+        try:
+            self._go(word)
+        except Complaint as error:
+            return reply_to(error)
+        return ACCEPTED
 
     def _changed(self) -> None:
         """What was read of the model no longer holds."""

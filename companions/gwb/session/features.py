@@ -9,6 +9,7 @@ from math import cos, pi, sin
 from typing import Dict, List, NamedTuple, Optional, Sequence, Tuple
 
 from ..geometry.box_index import Box, box_of
+from ..geometry.free_numbers import begun_at
 from ..geometry.measures import why_unfit
 from ..geometry.outlines import Impossible, simple_normal, steps_along
 from ..geometry.plane_figures import Place
@@ -289,16 +290,11 @@ def _matches(faces: Sequence[Tuple[int, int, Tuple[Vector, ...]]]) -> List[Pair]
     seen = {}  # type: ignore[var-annotated]
     pairs: List[Pair] = []
     for solid, face, points in faces:
-        for other, beyond in seen.get(_from_least(points[::-1]), ()):
+        for other, beyond in seen.get(begun_at(points[::-1], min(points)), ()):
             if other != solid:
                 pairs.append((other, beyond, solid, face))
-        seen.setdefault(_from_least(points), []).append((solid, face))
+        seen.setdefault(begun_at(points, min(points)), []).append((solid, face))
     return pairs
-
-
-def _from_least(points: Tuple[Vector, ...]) -> Tuple[Vector, ...]:
-    place = points.index(min(points))
-    return points[place:] + points[:place]
 
 
 def _chain(solids: Sequence[int], pairs: Sequence[Pair]) -> List[Tuple[int, int]]:

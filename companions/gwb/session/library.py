@@ -10,7 +10,7 @@ from ..geometry.model import Face, Loop, Model
 from ..geometry.vectors import Vector
 from ..protocol.complaints import memory_refused, refused
 from ..protocol.language import command_bytes
-from ..protocol.replies import Reply, only_reply
+from ..protocol.replies import ACCEPTED, Reply, only_reply
 from .arguments import GREATEST_NUMBER
 from .calls import Call, Value
 from .results import Count, Lone, Plane
@@ -26,7 +26,6 @@ _NO_ANSWERS: Dict[int, Tuple[Type[CompanionError], str]] = {
     _CLOSED: (Ended, _CLOSED_TEXT), _IN_DRAFT: (InDraft, 'a draft is open, which takes operators alone'),
     _NO_DRAFT: (NoDraft, 'there is no draft')}
 _FOUND = 1
-_ACCEPTED = Reply(('ok',))
 _WORD = ctypes.c_uint32
 
 
@@ -194,9 +193,8 @@ class Library:
         data = command_bytes(line)
         self.require_open()
         said = self._library.gwb_line(self._handle, data, len(data))
-        if said in (_OK, _IN_DRAFT):
-            return self._reply(said)
-        return only_reply(self._text().decode('ascii').split('\n')[:-1])
+        self._require_answer(said)
+        return ACCEPTED if said == _OK else only_reply(self._text().decode('ascii').split('\n')[:-1])
 
     def do(self, call: Call) -> None:
         """Gives a command by the call of its own. A complaint is raised."""
@@ -224,9 +222,11 @@ class Library:
             raise
         self.commit()
 
-    def step(self, word: str, calls: int) -> Reply:
-        """Undoes or redoes a command, the word says which: the reply. A draft is one command, whatever calls it has."""
-        return self._reply(self._commands[word](self._handle))
+    def step(self, word: str, calls: int) -> None:
+        """Undoes or redoes a command, the word says which. A complaint is raised. A draft is one command, whatever calls it has."""
+        said = self._commands[word](self._handle)
+        if said != _OK:
+            raise self._complaint(Call(word), said)
 
     def open_draft(self) -> None:
         """Opens a draft. A complaint is raised."""
@@ -293,16 +293,6 @@ class Library:
         said = function(self._handle, number, row)
         if said not in _TOLD:
             raise self._complaint(Call(word, (number,)), said)
-
-    def _reply(self, said: int) -> Reply:
-        """The reply to a command, whose answer is of this kind."""
-        self._require_answer(said)
-        if said == _OK:
-            return _ACCEPTED
-        if said == _MEMORY:
-            return Reply(('memory',))
-        refusal = self._refusal()
-        return Reply((f'refused {refusal.number} {refusal.value}',))
 
     def _complaint(self, call: Call, said: int) -> Complaint:
         """The error for a command that wasn't accepted, whose answer is of this kind."""

@@ -8,7 +8,7 @@ from bisect import bisect_right
 from functools import lru_cache
 from typing import Any, Callable, Dict, Iterator, List, NamedTuple, Optional, Sequence, Set, Tuple, TypeVar, Union
 
-from ..geometry.free_numbers import from_least
+from ..geometry.free_numbers import begun_at, from_least
 from ..geometry.model import Face, Loop, Model
 from ..geometry.vectors import Vector, add
 from .calls import Call
@@ -293,9 +293,7 @@ class Mirror:
 
     def _from(self, half: int) -> Tuple[int, ...]:
         """The loop of a half-edge, from it on."""
-        halves = self._loops[self._loop_of[half]].halves
-        place = halves.index(half)
-        return halves[place:] + halves[:place]
+        return begun_at(self._loops[self._loop_of[half]].halves, half)
 
     def after(self, half: int) -> int:
         """The half-edge that follows one that is there, in its loop."""

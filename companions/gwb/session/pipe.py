@@ -11,12 +11,11 @@ from ..geometry.model import Model
 from ..protocol.complaints import complaint
 from ..protocol.language import command_bytes
 from ..protocol.listing import model_of
-from ..protocol.replies import Reply, is_listed, only_reply
+from ..protocol.replies import ACCEPTED, Reply, is_listed, only_reply
 from .calls import Call, words_in
 from .results import Count, Plane
 
 _AFTER_LISTING = 'count 1'
-ACCEPTED = Reply(('ok',))
 
 
 def find_program() -> str:
@@ -98,14 +97,14 @@ class Pipe:
                 self.abandon(given)
                 raise
 
-    def step(self, word: str, calls: int) -> Reply:
-        """Undoes or redoes a command of so many calls, the word says which: the reply. Where it is a complaint, nothing has changed."""
+    def step(self, word: str, calls: int) -> None:
+        """Undoes or redoes a command of so many calls, the word says which. A complaint is raised, and nothing has changed."""
         for taken in range(calls):
-            reply = self.ask(word)
-            if reply.is_complaint:
+            try:
+                self._asked(Call(word))
+            except Complaint:
                 self._repeat({'undo': 'redo', 'redo': 'undo'}[word], taken)
-                return reply
-        return ACCEPTED
+                raise
 
     def open_draft(self) -> None:
         """Begins a draft, which the program has none of: its steps are commands."""

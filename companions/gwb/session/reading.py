@@ -3,6 +3,7 @@
 from typing import Optional, Protocol, Tuple
 
 from ..errors import Refused
+from ..geometry.free_numbers import numbers_of
 from ..geometry.measures import area_vector
 from ..geometry.model import Face, Loop, Model
 from ..geometry.vectors import Vector, total
@@ -30,9 +31,7 @@ class ListingReader:
 
     def numbers(self, kind: str) -> Tuple[int, ...]:
         """All numbers of a kind in use, rising."""
-        model = self._model
-        return tuple({'solid': model.solids, 'face': model.faces, 'loop': model.loops,
-                      'edge': model.edges, 'vertex': model.vertices}[kind])
+        return tuple(numbers_of(self._model)[kind])
 
     def faces_of(self, solid: int) -> Tuple[int, ...]:
         """The faces of a solid, rising."""
