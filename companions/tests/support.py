@@ -136,7 +136,7 @@ def model_in(text: str):
 
 def in_mirror(bench):
     """The model that the session's mirror has."""
-    mirror = bench._mirror()
+    mirror = bench._bench.kernel.mirror()
     rows = [{number: read(number) for number in mirror.numbers(kind)}
             for kind, read in (('face', mirror.face), ('loop', mirror.loop), ('edge', mirror.edge), ('vertex', mirror.vertex))]
     return import_module('gwb').Model(mirror.numbers('solid'), *rows)

@@ -107,9 +107,9 @@ class Arguments(unittest.TestCase):
 
     def setUp(self):
         self.bench = Workbench(program())
-        self.lines = self.bench._lines
+        self.lines = self.bench._bench.kernel.lines
         self.addCleanup(self.lines.close)
-        self.bench._lines = Silent()
+        self.bench._bench.kernel.lines = Silent()
 
     def test_every_method_is_tried(self):
         methods = {name for name in dir(Workbench) if not name.startswith('_')}

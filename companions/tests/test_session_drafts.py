@@ -165,7 +165,7 @@ class Drafts(unittest.TestCase):
 
     def refuse_memory(self, after):
         """Memory for the call after so many is refused."""
-        do, given = self.bench._lines.do, []
+        do, given = self.bench._bench.kernel.lines.do, []
 
         def refusing(call):
             given.append(call)
@@ -173,7 +173,7 @@ class Drafts(unittest.TestCase):
                 raise MemoryRefused('memory was refused')
             return do(call)
 
-        self.bench._lines.do = refusing
+        self.bench._bench.kernel.lines.do = refusing
 
     def half_has_left_no_trace(self):
         self.assertEqual((self.bench.listing(), self.bench.script()), (self.held, self.script))

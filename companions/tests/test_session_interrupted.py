@@ -18,10 +18,10 @@ from gwb.errors import Ended
 FOLDER = str(Path(gwb.__file__).parent / 'session')
 # The modules in which an exception may come at each line.
 TRACED = {f'{FOLDER}/{name}.py' for name in (
-    'conversation', 'pipe', 'library', 'journal', 'steps', 'turns', 'commands', 'features', 'following', 'mirror', 'surroundings', 'selection', 'refining',
-    'solids')}
+    'workbench', 'bench', 'kernel', 'conversation', 'new_numbers', 'pipe', 'library', 'journal', 'steps', 'turns', 'commands', 'feature_methods',
+    'features', 'following', 'mirror', 'surroundings', 'selection', 'refining', 'solids', 'solid_methods')}
 # Python looks for signals where a call begins or returns: not between a line and the `try:` after it, nor between a block and its `finally`.
-NOT_BEFORE = ('try:', 'self._is_inside =', 'self._group_from = outer')
+NOT_BEFORE = ('try:', 'self.is_inside =', 'group_from = outer')
 SQUARE = [(5, 5, 20), (15, 5, 20), (15, 15, 20), (5, 15, 20)]
 
 
@@ -168,16 +168,16 @@ class Interrupted(unittest.TestCase):
     def test_a_handler_that_gives_a_call_in_a_call(self):
         with Workbench(program()) as bench:
             bench.block((0, 0, 0), (2, 2, 2))
-            do = bench._lines.do
+            do = bench._bench.kernel.lines.do
 
             def within(call):
                 with self.assertRaises(OutOfStep):
                     bench.block((5, 5, 5), (1, 1, 1))
                 return do(call)
 
-            bench._lines.do = within
+            bench._bench.kernel.lines.do = within
             bench.block((9, 0, 0), (1, 1, 1))
-            bench._lines.do = do
+            bench._bench.kernel.lines.do = do
             self.assertEqual([bench.volume(solid) for solid in (1, 2)], [8, 1])
 
 
@@ -197,7 +197,7 @@ class OverThePipe(unittest.TestCase):
         def stop(*_):
             raise KeyboardInterrupt
 
-        process = self.bench._lines._process.pid
+        process = self.bench._bench.kernel.lines._process.pid
         os.kill(process, signal.SIGSTOP)
         before = signal.signal(signal.SIGALRM, stop)
         try:
@@ -221,7 +221,7 @@ class OverThePipe(unittest.TestCase):
         self.assertEqual(bench.volume(bench.block((60, 0, 0), (2, 2, 2))), 8)
 
     def test_it_stands_in_a_process_group_of_its_own(self):
-        self.assertNotEqual(os.getpgid(self.bench._lines._process.pid), os.getpgrp())
+        self.assertNotEqual(os.getpgid(self.bench._bench.kernel.lines._process.pid), os.getpgrp())
 
     def test_a_session_that_is_closed_after_an_interrupt(self):
         self.interrupted(lambda: self.bench.volume(1))
@@ -230,10 +230,10 @@ class OverThePipe(unittest.TestCase):
             self.bench.volume(1)
 
     def test_it_is_closed_after_an_interrupt_without_being_started_anew(self):
-        bench, started = self.bench, self.bench._lines._process.pid
+        bench, started = self.bench, self.bench._bench.kernel.lines._process.pid
         self.interrupted(lambda: bench.volume(1))
         self.assertEqual(bench.script().count('\n'), 2)
-        self.assertEqual((bench.close(), bench._lines._process.pid), (-signal.SIGKILL, started))
+        self.assertEqual((bench.close(), bench._bench.kernel.lines._process.pid), (-signal.SIGKILL, started))
 
     def test_a_process_that_was_forked_has_no_session(self):
         process = os.fork()
@@ -248,15 +248,15 @@ class OverThePipe(unittest.TestCase):
 
     def test_a_program_that_dies_in_a_feature(self):
         bench, script, given = self.bench, self.bench.script(), []
-        do = bench._lines.do
+        do = bench._bench.kernel.lines.do
 
         def dying(call):
             given.append(call)
             if len(given) == 4:
-                bench._lines._process.kill()
+                bench._bench.kernel.lines._process.kill()
             return do(call)
 
-        bench._lines.do = dying
+        bench._bench.kernel.lines.do = dying
         with self.assertRaisesRegex(Ended, 'ended with status -9'):
             bench.pocket(1, SQUARE, 3)
         self.assertEqual((len(given), bench.script()), (4, script))
@@ -266,11 +266,11 @@ class OverThePipe(unittest.TestCase):
     def test_a_program_that_is_gone_when_a_call_was_interrupted(self):
         path, bench = program(), self.bench
         self.interrupted(lambda: bench.volume(1))
-        bench._lines._program = '/nowhere/gwb'
+        bench._bench.kernel.lines._program = '/nowhere/gwb'
         with self.assertRaisesRegex(Ended, 'could not be given anew.*nowhere'):
             bench.volume(1)
         self.assertEqual(bench.script().count('\n'), 2)
-        bench._lines._program = path
+        bench._bench.kernel.lines._program = path
 
 
 class Features(unittest.TestCase):
@@ -293,7 +293,7 @@ class Features(unittest.TestCase):
             self.bench.redo()
 
     def test_a_pocket_that_is_left_by_a_keyboard_interrupt(self):
-        do, given = self.bench._lines.do, []
+        do, given = self.bench._bench.kernel.lines.do, []
 
         def leaving(call):
             given.append(call)
@@ -301,10 +301,10 @@ class Features(unittest.TestCase):
                 raise KeyboardInterrupt
             return do(call)
 
-        self.bench._lines.do = leaving
+        self.bench._bench.kernel.lines.do = leaving
         with self.assertRaises(KeyboardInterrupt):
             self.bench.pocket(1, SQUARE, 3)
-        self.bench._lines.do = do
+        self.bench._bench.kernel.lines.do = do
         self.nothing_has_changed()
 
     def test_a_group_is_one_step(self):

@@ -127,7 +127,7 @@ class Numbers(unittest.TestCase):
                 continue
             after = bench.listing()
             self.compare(name, result, before, after, seed)
-            self.assertEqual(tuple(bench._greatest(kind) for kind in KINDS), greatest_of(after), (seed, name))
+            self.assertEqual(tuple(bench._bench.numbers.greatest(kind) for kind in KINDS), greatest_of(after), (seed, name))
             if play.random.random() < 0.2:  # else what the mirror has not been asked for stays as it is
                 self.assertEqual(in_mirror(bench), after, (seed, name))
             before = after

@@ -9,6 +9,7 @@ from support import program
 from gwb import Face, Impossible, Loop, Model, Refused, Workbench
 from gwb.checks.check import check
 from gwb.geometry.vectors import add
+from gwb.session.features import opposite, region
 
 
 def with_feature(model, face, path, way, other=None):
@@ -121,14 +122,14 @@ class Room(unittest.TestCase):
         return int(sum(part * part for part in vectors[0]) ** 0.5)
 
     def refused_rightly(self, bench, before, kind, face, points, length, seed):
-        region = bench._flat(face)
-        path = region.ring_path(face, points)
+        held = region(bench._bench, face)
+        path = held.ring_path(face, points)
         if kind == 'hole':
-            other, way = bench._opposite(face, path[0])
+            other, way = opposite(bench._bench, face, path[0])
         else:
-            square = sum(part * part for part in region.across)
+            square = sum(part * part for part in held.across)
             factor = length * (1 if kind == 'boss' else -1)
-            other, way = None, tuple(factor * part // int(square ** 0.5) for part in region.across)
+            other, way = None, tuple(factor * part // int(square ** 0.5) for part in held.across)
         self.assertFalse(is_clean(before, with_feature(before, face, path, way, other)), (seed, kind, face, points, length))
 
 

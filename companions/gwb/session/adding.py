@@ -9,9 +9,9 @@ from ..geometry.outlines import Impossible
 from ..geometry.sheets import Sheet
 from ..joining.assembly import Names
 from ..joining.combining import Combined, combined, require_room, sheets_of
-from .features import Features
+from .bench import Bench
 from .near_parts import NearPart, near_part, without_rest
-from .solids import Numbers, give, solid_model
+from .solids import Numbers, give
 
 
 class Addition(NamedTuple):
@@ -23,7 +23,7 @@ class Addition(NamedTuple):
     made: Combined
 
 
-def addition(bench: Features, solid: int, added: Sequence[Sheet], numbers: Numbers, why: Impossible, *, faces: Sequence[int] = (),
+def addition(bench: Bench, solid: int, added: Sequence[Sheet], numbers: Numbers, why: Impossible, *, faces: Sequence[int] = (),
              other: Sequence[Model] = ()) -> Addition:
     """What comes of sheets that are added to a solid: these faces of it are looked at besides those near. Names are taken from other models too,
     whose sheets they are.
@@ -35,14 +35,14 @@ def addition(bench: Features, solid: int, added: Sequence[Sheet], numbers: Numbe
     return Addition(solid, added, part, combined(solid, names, sheets_of(part.near), added, why, part.kept))
 
 
-def add_sheets(bench: Features, held: Addition, numbers: Numbers, why: Impossible, other: Sequence[Model] = ()) -> None:
+def add_sheets(bench: Bench, held: Addition, numbers: Numbers, why: Impossible, other: Sequence[Model] = ()) -> None:
     """Adds the sheets, as one command; the other models, whose sheets they are, go. Refused in the words that are given where sheets pass through
     each other, or the solid would meet or touch itself."""
     part, made = held.part, held.made.model
     require_room(sheets_of(part.near), held.added, [part.near, *other], without_rest(made), why)
     lines = numbers.changing(part.model, made)
     if lines is None:
-        lines = _anew(solid_model(bench, held.solid), part, made, numbers)
+        lines = _anew(bench.solid_model(held.solid), part, made, numbers)
     give(bench, [*(line for model in other for line in numbers.taking_away(model)), *lines])
 
 

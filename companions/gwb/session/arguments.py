@@ -36,40 +36,40 @@ def whole(name: str, value: object) -> int:
     return int(value)
 
 
-def number(name: str, value: object, kind: str = '', bench: object = None) -> int:
+def number(name: str, value: object, kind: str = '', kernel: object = None) -> int:
     """The number of a thing, as the language reads it: 0 to 4,294,967,295. Those past 1,000,000 are for the kernel to refuse.
 
     Of the kind, which is what the argument is named after where none is given, and of the bench a thing may be given too, and for a solid what
     a command that makes one returned."""
     wanted = kind or (name if name in KINDS else '')
     if isinstance(value, Part):
-        return _part(name, value, wanted, bench).number
+        return _part(name, value, wanted, kernel).number
     if wanted == 'solid' and isinstance(value, _WITH_A_SOLID):
         return value.solid
     return _within(name, whole(name, value), 0, GREATEST_WORD)
 
 
-def half_edge(name: str, value: object, bench: object = None) -> int:
+def half_edge(name: str, value: object, kernel: object = None) -> int:
     """A half-edge, `+e` or `-e`: an edge's number with a sign, or an edge, which stands for `+e`."""
     if isinstance(value, EdgePart):
-        return _part(name, value, 'edge', bench).number
+        return _part(name, value, 'edge', kernel).number
     if isinstance(value, Part):
         raise TypeError(f'{name}: a half-edge is wanted, not the {value.kind} {value.number}')
     return _within(name, whole(name, value), -GREATEST_WORD, GREATEST_WORD)
 
 
-def corner(name: str, value: object, bench: object = None) -> Union[int, Lone]:
+def corner(name: str, value: object, kernel: object = None) -> Union[int, Lone]:
     """A half-edge, or the corner `Lone(loop)` of a lone loop."""
     if isinstance(value, Lone):
-        return Lone(number(f'{name}.loop', value.loop, 'loop', bench))
-    return half_edge(name, value, bench)
+        return Lone(number(f'{name}.loop', value.loop, 'loop', kernel))
+    return half_edge(name, value, kernel)
 
 
-def _part(name: str, part: Part, kind: str, bench: object) -> Part:
+def _part(name: str, part: Part, kind: str, kernel: object) -> Part:
     """The thing, if it is of the kind and of the bench, where these are named."""
     if kind and part.kind != kind:
         raise TypeError(f'{name}: {_one(kind)} is wanted, not the {part.kind} {part.number}')
-    if bench is not None and part._bench is not bench:
+    if kernel is not None and part._kernel is not kernel:
         raise ValueError(f'{name}: the {part.kind} {part.number} is of another workbench')
     return part
 
@@ -119,9 +119,9 @@ def points(name: str, value: object, most: Optional[int] = None) -> List[Vector]
     return found
 
 
-def numbers(name: str, value: object, kind: str = '', bench: object = None) -> List[int]:
+def numbers(name: str, value: object, kind: str = '', kernel: object = None) -> List[int]:
     """The numbers of things."""
-    return [number(f'{name}[{place}]', item, kind, bench) for place, item in enumerate(_items(name, value))]
+    return [number(f'{name}[{place}]', item, kind, kernel) for place, item in enumerate(_items(name, value))]
 
 
 def positive(name: str, value: object) -> int:
@@ -211,9 +211,9 @@ def flag(name: str, value: object) -> bool:
     return value
 
 
-def pair(name: str, value: object, kind: str = '', bench: object = None) -> Tuple[int, int]:
+def pair(name: str, value: object, kind: str = '', kernel: object = None) -> Tuple[int, int]:
     """The numbers of two things."""
-    found = numbers(name, value, kind, bench)
+    found = numbers(name, value, kind, kernel)
     if len(found) != 2:
         raise ValueError(f'{name}: two numbers are wanted, not {len(found)}')
     return (found[0], found[1])

@@ -20,8 +20,9 @@ from ..geometry.traced_cycles import Side, traced
 from ..geometry.vectors import Vector, cross, dot, negative
 from ..joining.assembly import Names, Take, assembled
 from ..joining.combining import require_flat, sheets_of
-from .selection import Selecting
-from .solids import Numbers, delete, give, solid_model
+from .bench import Bench
+from .commands import Commands
+from .solids import Numbers, delete, give
 
 Plane = Tuple[int, int, int, int]
 
@@ -55,36 +56,36 @@ class Halves(NamedTuple):
     upper_caps: Tuple[int, ...]
 
 
-def cut(bench: Selecting, solid: int, plane: Plane, above: Optional[int]) -> Cut:
+def cut(bench: Bench, solid: int, plane: Plane, above: Optional[int]) -> Cut:
     """Cuts a solid in two, as one command."""
-    number = bench._new('solid', above, 'above')
+    number = bench.new('solid', above, 'above')
     with _another_way():
-        made = bench.split(solid, plane, above=number)
+        made = Commands(bench).split(solid, plane, above=number)
         return Cut(solid, number, made.lower_caps, made.upper_caps)
     require_free(bench, number)
-    model, numbers = solid_model(bench, solid), Numbers(bench)
+    model, numbers = bench.solid_model(solid), Numbers(bench)
     halves = cut_model(model, plane, number, numbers.take)
     give(bench, [*numbers.taking_away(model), *numbers.making(joined([halves.lower, halves.upper]))])
     return Cut(solid, number, halves.lower_caps, halves.upper_caps)
 
 
-def trimmed(bench: Selecting, solid: int, plane: Plane) -> Tuple[int, ...]:
+def trimmed(bench: Bench, solid: int, plane: Plane) -> Tuple[int, ...]:
     """What lies above the plane is cut off and thrown away, as one step: the caps of what is left, which keeps its number."""
-    with _another_way(), bench._step():
-        made = bench.split(solid, plane)
+    with _another_way(), bench.step():
+        made = Commands(bench).split(solid, plane)
         delete(bench, made.solid)
         return made.lower_caps
-    model, numbers = solid_model(bench, solid), Numbers(bench)
+    model, numbers = bench.solid_model(solid), Numbers(bench)
     halves = cut_model(model, plane, numbers.take('solid'), numbers.take)
     give(bench, [*numbers.taking_away(model), *numbers.making(halves.lower)])
     return halves.lower_caps
 
 
-def require_free(bench: Selecting, solid: int) -> None:
+def require_free(bench: Bench, solid: int) -> None:
     """Refuses the number of a new solid that is in use or out of range, as split does."""
     if not 1 <= solid <= LARGEST:
         raise Impossible('NumberRange', solid, f'the number {solid} is outside 1 to 1,000,000')
-    if bench._in_use('solid', solid):
+    if bench.numbers.in_use('solid', solid):
         raise Impossible('SolidTaken', solid, f'solid {solid} is in use')
 
 

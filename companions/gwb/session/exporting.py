@@ -4,10 +4,10 @@ import warnings
 from fractions import Fraction
 from pathlib import Path
 from types import MappingProxyType
-from typing import Callable, Dict, Mapping, NamedTuple, Optional, Tuple, Union
+from typing import Callable, Dict, NamedTuple, Optional, Tuple, Union
 
 from ..drawing.page import page_of
-from ..formats.appearance import Appearance, Appearances, Colour, Thing, colour_of
+from ..formats.appearance import Appearance, Appearances, Colour, colour_of
 from ..formats.mesh import mesh_of, mtl_text, obj_text, off_text, stl_text
 from ..formats.step import step_text
 from ..formats.three_mf import three_mf_bytes
@@ -15,7 +15,7 @@ from ..geometry.model import Model
 from ..geometry.plane_figures import Exact
 from ..geometry.touching_solids import touching_solids
 from . import arguments, files_in
-from .measuring import Measuring
+from .bench import Methods
 from .reading import FacePart, SolidPart
 from .selection import Selection
 
@@ -28,18 +28,14 @@ class _Held(NamedTuple):
     unit: Fraction
 
 
-class Exporting(Measuring):
+class Exporting(Methods):
     """Labels go by number and are no commands: undo leaves them, and what isn't there has none in a file. Copies and parts above a cut get
     those of what they were."""
-
-    def __init__(self, program: Optional[arguments.Path] = None) -> None:
-        self._labels: Dict[Thing, Appearance] = {}
-        super().__init__(program)
 
     @property
     def labels(self) -> Appearances:
         """The names and colours that were given, by kind and number."""
-        return MappingProxyType(self._labels)
+        return MappingProxyType(self._bench.labels)
 
     def label(self, thing: Union[SolidPart, FacePart], name: str = '', colour: str = '') -> None:
         """Gives a solid or a face a name, and a colour such as '#FF8000'; with neither what it had is taken away. Raises ValueError where the
@@ -47,25 +43,21 @@ class Exporting(Measuring):
         look = Appearance(arguments.text('name', name), _colour(arguments.text('colour', colour)))
         if not isinstance(thing, (SolidPart, FacePart)):
             raise TypeError(f'thing: a solid or a face is wanted, not {thing!r}')
-        number = self._number('thing', thing, thing.kind)
+        number = self._bench.number('thing', thing, thing.kind)
         _there = thing.faces if isinstance(thing, SolidPart) else thing.solid
         if look == Appearance():
-            self._labels.pop((thing.kind, number), None)
+            self._bench.labels.pop((thing.kind, number), None)
         else:
-            self._labels[thing.kind, number] = look
+            self._bench.labels[thing.kind, number] = look
 
     @property
     def unit(self) -> Fraction:
         """The size of a coordinate, in the unit that the session began with: 1, but where coordinates were multiplied for a finer one."""
-        return self._journal.unit
-
-    def _label_alike(self, others: Mapping[Thing, int]) -> None:
-        looks = {thing: self._labels[thing] for thing in others if thing in self._labels}
-        self._labels.update({(thing[0], others[thing]): look for thing, look in looks.items()})
+        return self._bench.kernel.journal.unit
 
     def page(self) -> str:
         """A page in HTML to turn the model and to pick from it, as `gwb-view` makes it, with the labels."""
-        return _page(self.listing(), self._labels, self.unit)
+        return _page(self._bench.kernel.listing(), self._bench.labels, self.unit)
 
     def export(self, path: arguments.Path) -> None:
         """Writes what is held to a file, by the ending of its name: .step or .stp, .3mf, .obj (colours in a .mtl beside it), .off, .stl,
@@ -76,10 +68,10 @@ class Exporting(Measuring):
         write = _WRITERS.get(file.suffix.lower())
         if write is None:
             raise ValueError(f'{file.name}: the endings are {" ".join(_WRITERS)}')
-        model = self.listing()
+        model = self._bench.kernel.listing()
         if file.suffix.lower() in ('.off', '.stl'):
             _warn_of_touching(model, file.suffix)
-        data = write(_Held(model, self._labels, self.unit), file)
+        data = write(_Held(model, self._bench.labels, self.unit), file)
         file.write_bytes(data)
 
     def import_file(self, path: arguments.Path, *, form: str = '', scale: Exact = 1, rounded: bool = False, keep_triangles: bool = False,
@@ -95,9 +87,9 @@ class Exporting(Measuring):
         options = files_in.Options(
             files_in.known_form(arguments.text('form', form)), arguments.factor('scale', scale), arguments.flag('rounded', rounded),
             arguments.flag('keep_triangles', keep_triangles), arguments.flag('repair', repair))
-        taken = files_in.take_in(self, arguments.path('path', path), options)
-        self._labels.update(taken.looks)
-        return Selection('solid', '', [SolidPart(self, solid) for solid in taken.solids])
+        taken = files_in.take_in(self._bench, arguments.path('path', path), options)
+        self._bench.labels.update(taken.looks)
+        return Selection('solid', '', [SolidPart(self._bench.kernel, solid) for solid in taken.solids])
 
 
 def _colour(text: str) -> Optional[Colour]:

@@ -1,7 +1,8 @@
 """Features: profiles, pockets, bosses and holes, each one step to undo.
 
 They send nothing but commands of the language. Whether one is possible is found out first, exactly: outlines against faces, and what the
-feature adds against what lies near it. So a refusal (Impossible, which is Refused) leaves everything as it was.
+feature adds against what lies near it. So a refusal (Impossible, which is Refused) leaves everything as it was. What is refused
+feature_methods.py says.
 """
 
 from fractions import Fraction
@@ -9,19 +10,18 @@ from math import cos, pi, sin
 from typing import Dict, List, NamedTuple, Optional, Sequence, Tuple
 
 from ..geometry.box_index import Box, box_of
-from ..geometry.free_numbers import begun_at
+from ..geometry.free_numbers import begun_at, from_least
 from ..geometry.measures import why_unfit
 from ..geometry.outlines import Impossible, simple_normal, steps_along
 from ..geometry.plane_figures import Place
 from ..geometry.regions import Region
 from ..geometry.vectors import Vector, ZERO, add, cross, dot, negative
-from . import arguments
+from .arguments import MOST_LAMINA_POINTS
+from .bench import Bench
+from .commands import Commands
+from .reading import FacePart, SolidPart
 from .results import Hole, Lone, Numbers, Pocket, Profile, Ring, Sweep
 from .room import Prism, has_room
-from .selection import Selecting
-from .surroundings import Surroundings
-
-_MOST_SIDES = 1_000_000
 
 
 class _Outline(NamedTuple):
@@ -35,210 +35,153 @@ class _Outline(NamedTuple):
         return tuple(along) if self.points == self.path else tuple(reversed(along))
 
 
-class Features(Selecting):
-    """Larger things than commands, made of commands."""
+def profile(bench: Bench, points: List[Vector], way: Vector, solid: int) -> Profile:
+    """The outline through the points, moved along the vector, as a solid of this number."""
+    bench.refuse_in_draft('profile')
+    side = dot(simple_normal(points), way)
+    if side == 0:
+        raise Impossible('AlongPlane', 0, f'the vector {way} lies in the plane of the points')
+    path = points if side > 0 else [points[0], *reversed(points[1:])]
+    with bench.step():
+        front, back, edges = _flat_solid(bench, path, solid)
+        swept = Commands(bench).sweep(front, way)
+    return Profile(solid, front, back, _Outline(points, path).by_points(_along(edges, edges, swept)))
 
-    _surroundings: Optional[Surroundings] = None
 
-    def profile(self, points: arguments.Points, *, along: arguments.Point, solid: Optional[int] = None) -> Profile:
-        """A new solid: the outline through the points, moved along the vector. It is never inside out, whichever way the points run.
+def ring(bench: Bench, face: int, points: List[Vector]) -> Ring:
+    """The outline through the points as a ring of the face, and the face inside it."""
+    outline = _outline_in(bench, face, points)
+    with bench.step(operators_alone=True):
+        made = _draw(bench, face, outline.path)
+    vertices = made.vertices if outline.points == outline.path else (made.vertices[0], *reversed(made.vertices[1:]))
+    return made._replace(edges=outline.by_points(made.edges), vertices=vertices)
 
-        Refused: FewPoints, RepeatedPoint; NoArea: the outline has no area; NotInPlane: a point lies off the plane of the others;
-        OutlineCrossed: the outline crosses or touches itself; AlongPlane: the vector lies in the plane of the points."""
-        outline, way = arguments.points('points', points), arguments.point('along', along)
-        number = self._new('solid', solid)
-        self._refuse_in_draft('profile')
-        side = dot(simple_normal(outline), way)
-        if side == 0:
-            raise Impossible('AlongPlane', 0, f'the vector {way} lies in the plane of the points')
-        path = outline if side > 0 else [outline[0], *reversed(outline[1:])]
-        with self._step():
-            front, back, edges = self._flat_solid(path, number)
-            swept = self.sweep(front, way)
-        return Profile(number, front, back, _Outline(outline, path).by_points(_along(edges, edges, swept)))
 
-    def ring(self, face: arguments.Face, points: arguments.Points) -> Ring:
-        """A face inside the face, with the outline through the points, and a ring around it.
+def raised(bench: Bench, face: int, points: List[Vector], length: int) -> Pocket:
+    """The outline in the face moved along the face's normal by the length, which is negative for a pocket."""
+    bench.refuse_in_draft('boss' if length > 0 else 'pocket')
+    outline = _outline_in(bench, face, points)
+    way = steps_along(region(bench, face).across, length)
+    if way is None:
+        raise Impossible('OffLattice', face, f'no whole vector along the normal of face {face} is {abs(length)} long')
+    _require_room(bench, face, outline.path, way)
+    with bench.step():
+        drawn = _draw(bench, face, outline.path)
+        swept = Commands(bench).sweep(drawn.face, way)
+    return Pocket(drawn.face, drawn.loop, outline.by_points(_along(_inside(drawn.edges), drawn.edges, swept)))
 
-        Refused: NoFace; NotFlat: the face isn't flat; FewPoints, RepeatedPoint; NoArea: the outline has no area; NotInPlane: a point lies off
-        the plane of the face; OutlineCrossed: the outline crosses or touches itself; OutlineOutside: it crosses or touches the boundary of the
-        face, or doesn't lie inside; OutlineAroundRing: a ring of the face lies inside the outline."""
-        number, outline = self._outline_in(face, points)
-        with self._step(operators_alone=True):
-            made = self._draw(number, outline.path)
-        vertices = made.vertices if outline.points == outline.path else (made.vertices[0], *reversed(made.vertices[1:]))
-        return made._replace(edges=outline.by_points(made.edges), vertices=vertices)
 
-    def pocket(self, face: arguments.Face, points: arguments.Points, depth: int) -> Pocket:
-        """A pocket so deep behind the outline in the face.
+def hole(bench: Bench, face: int, points: List[Vector]) -> Hole:
+    """The outline in the face moved through to the face opposite to it."""
+    bench.refuse_in_draft('hole')
+    outline = _outline_in(bench, face, points)
+    path = outline.path
+    other, way = opposite(bench, face, path[0])
+    region(bench, other).ring_path(other, [add(point, way) for point in path])
+    _require_room(bench, face, path, way, other)
+    commands = Commands(bench)
+    with bench.step():
+        drawn = _draw(bench, face, path)
+        swept = commands.sweep(drawn.face, way)
+        commands.kfmrh(other, drawn.face)
+    return Hole(other, drawn.loop, outline.by_points(_along(_inside(drawn.edges), drawn.edges, swept)), tuple(outline.points))
 
-        Refused: NoFace; NotFlat: the face isn't flat; FewPoints, RepeatedPoint; NoArea: the outline has no area; NotInPlane: a point lies off
-        the plane of the face; OutlineCrossed: the outline crosses or touches itself; OutlineOutside: it crosses or touches the boundary of the
-        face, or doesn't lie inside; OutlineAroundRing: a ring of the face lies inside the outline; OffLattice: no whole vector along the
-        normal is so long; Meets: the pocket would come through, or meet or touch something of the solid."""
-        return self._raised(face, points, -arguments.positive('depth', depth))
 
-    def boss(self, face: arguments.Face, points: arguments.Points, height: int) -> Pocket:
-        """A boss so high on the outline in the face.
+def polygon_in(bench: Bench, face: int, center: Vector, radius: int, sides: int) -> List[Vector]:
+    """A polygon around the center, its corners on whole numbers, in a face across an axis. Refused: NoFace, NotFlat, NotAcross."""
+    bench.refuse_in_draft('drill')
+    across = region(bench, face).across
+    if across.count(0) != 2:
+        raise Impossible('NotAcross', face, f"face {face} doesn't lie across an axis")
+    return _polygon(center, across, radius, sides)
 
-        Refused: NoFace; NotFlat: the face isn't flat; FewPoints, RepeatedPoint; NoArea: the outline has no area; NotInPlane: a point lies off
-        the plane of the face; OutlineCrossed: the outline crosses or touches itself; OutlineOutside: it crosses or touches the boundary of the
-        face, or doesn't lie inside; OutlineAroundRing: a ring of the face lies inside the outline; OffLattice: no whole vector along the
-        normal is so long; Meets: the boss would meet or touch something of the solid."""
-        return self._raised(face, points, arguments.positive('height', height))
 
-    def hole(self, face: arguments.Face, points: arguments.Points) -> Hole:
-        """A hole from the outline in the face through to the opposite face.
+def glued(bench: Bench, solids: Sequence[int]) -> int:
+    """Glues the solids along the faces that match: the first one's number."""
+    bench.refuse_in_draft('glue_all')
+    pairs = _matches([(solid, face.number, face.outer.points) for solid in solids
+                      for face in SolidPart(bench.kernel, solid).faces if not face.rings])
+    chain = _chain(solids, pairs)
+    commands = Commands(bench)
+    with bench.step():
+        for face, other in chain:
+            commands.glue(face, other)
+    return solids[0]
 
-        Refused: NoFace; NotFlat: the face isn't flat; FewPoints, RepeatedPoint; NoArea: the outline has no area; NotInPlane: a point lies off
-        the plane of the face; OutlineCrossed: the outline crosses or touches itself; OutlineOutside: it crosses or touches the boundary of the
-        face or of the opposite one, or doesn't lie inside; OutlineAroundRing: a ring of either face lies inside the outline; NoOpposite: there
-        is nothing behind the outline; NotParallel: the face behind it isn't parallel; OffLattice: its plane lies off the lattice behind the
-        face; Meets: the hole would meet or touch something else of the solid."""
-        number, outline = self._outline_in(face, points, 'hole')
-        path = outline.path
-        other, way = self._opposite(number, path[0])
-        self._flat(other).ring_path(other, [add(point, way) for point in path])
-        self._require_room(number, path, way, other)
-        with self._step():
-            ring = self._draw(number, path)
-            swept = self.sweep(ring.face, way)
-            self.kfmrh(other, ring.face)
-        return Hole(other, ring.loop, outline.by_points(_along(_inside(ring.edges), ring.edges, swept)), tuple(outline.points))
 
-    def drill(self, face: arguments.Face, center: arguments.Point, radius: int, sides: int, *, depth: Optional[int] = None) -> Hole:
-        """A hole with a polygon of so many sides around the center, on whole numbers nearest to the circle of the radius: through, or so
-        deep.
+def _outline_in(bench: Bench, face: int, points: List[Vector]) -> _Outline:
+    """An outline strictly inside the face."""
+    return _Outline(points, region(bench, face).ring_path(face, points))
 
-        Refused: NoFace; NotFlat: the face isn't flat; NotAcross: it doesn't lie across an axis; RepeatedPoint: two corners of the polygon fall
-        on one point; NotInPlane: the center lies off the plane of the face; OutlineOutside: the polygon crosses or touches the boundary of the
-        face or of the opposite one, or doesn't lie inside; OutlineAroundRing: a ring of either face lies inside the polygon; NoOpposite: there
-        is nothing behind it; NotParallel: the face behind it isn't parallel; Meets: the hole would meet or touch something else of the solid,
-        or with a depth come through it."""
-        number, middle = self._number('face', face), arguments.point('center', center)
-        reach, count = arguments.positive('radius', radius), arguments.positive('sides', sides)
-        if not 3 <= count <= _MOST_SIDES:
-            raise ValueError(f'sides: {count} is outside 3 to {_MOST_SIDES}')
-        deep = None if depth is None else arguments.positive('depth', depth)
-        self._refuse_in_draft('drill')
-        across = self._flat(number).across
-        if across.count(0) != 2:
-            raise Impossible('NotAcross', number, f"face {number} doesn't lie across an axis")
-        outline = _polygon(middle, across, reach, count)
-        if deep is None:
-            return self.hole(number, outline)
-        made = self.pocket(number, outline, deep)
-        return Hole(made.face, made.loop, made.sides, tuple(outline))
 
-    def glue_all(self, solids: Sequence[arguments.Solid]) -> int:
-        """The solids become one along the faces that match: its number, the first one's.
+def _flat_solid(bench: Bench, path: Sequence[Vector], solid: int) -> Tuple[int, int, Numbers]:
+    """A solid of two faces back to back through the points: the front, the back, and the edges from the points on."""
+    commands = Commands(bench)
+    if len(path) <= MOST_LAMINA_POINTS:
+        made = commands.lamina(path, solid=solid)
+        return made.front, made.back, made.edges
+    start = commands.mvfs(path[0], solid=solid)
+    back, edges, _ = _close_path(commands, start.loop, path[1:])
+    return start.face, back, edges
 
-        Refused: NoMatch: no chain of matching faces joins a solid with the first; GluedTwice: two of them match along more than the one face that a
-        gluing takes, so that the rest would touch."""
-        numbers = arguments.numbers('solids', solids, 'solid', self)
-        if not numbers or len(set(numbers)) < len(numbers):
-            raise ValueError('solids: different numbers are wanted, at least one')
-        self._refuse_in_draft('glue_all')
-        pairs = _matches([(solid, face.number, face.outer.points) for solid in numbers
-                          for face in self.solid(solid).faces if not face.rings])
-        chain = _chain(numbers, pairs)
-        with self._step():
-            for face, other in chain:
-                self.glue(face, other)
-        return numbers[0]
 
-    def _raised(self, face: arguments.Face, points: arguments.Points, length: int) -> Pocket:
-        """The outline moved along the face's normal by the length, which is negative for a pocket."""
-        number, outline = self._outline_in(face, points, 'boss' if length > 0 else 'pocket')
-        way = steps_along(self._flat(number).across, length)
-        if way is None:
-            raise Impossible('OffLattice', number, f'no whole vector along the normal of face {number} is {abs(length)} long')
-        self._require_room(number, outline.path, way)
-        with self._step():
-            ring = self._draw(number, outline.path)
-            swept = self.sweep(ring.face, way)
-        return Pocket(ring.face, ring.loop, outline.by_points(_along(_inside(ring.edges), ring.edges, swept)))
+def _close_path(commands: Commands, loop: int, points: Sequence[Vector]) -> Tuple[int, Numbers, Numbers]:
+    """A path of edges from a lone loop through the points and back: the face inside, where the points run clockwise, the edges in their
+    order, and the vertices."""
+    made = [commands.mev(Lone(loop), Lone(loop), points[0])]
+    for point in points[1:]:
+        made.append(commands.mev(-made[-1].edge, -made[-1].edge, point))
+    closing = commands.mef(-made[-1].edge, made[0].edge)
+    return closing.face, (*(edge.edge for edge in made), closing.edge), tuple(edge.vertex for edge in made)
 
-    def _outline_in(self, face: arguments.Face, points: arguments.Points, feature: str = '') -> Tuple[int, _Outline]:
-        """The face, and an outline strictly inside it; a larger feature is named, since no draft takes it."""
-        number, given = self._number('face', face), arguments.points('points', points)
-        if feature:
-            self._refuse_in_draft(feature)
-        return number, _Outline(given, self._flat(number).ring_path(number, given))
 
-    def _flat_solid(self, path: Sequence[Vector], solid: int) -> Tuple[int, int, Numbers]:
-        """A solid of two faces back to back through the points: the front, the back, and the edges from the points on."""
-        if len(path) <= arguments.MOST_LAMINA_POINTS:
-            made = self.lamina(path, solid=solid)
-            return made.front, made.back, made.edges
-        start = self.mvfs(path[0], solid=solid)
-        back, edges, _ = self._close_path(start.loop, path[1:])
-        return start.face, back, edges
+def region(bench: Bench, face: int) -> Region:
+    """The face as a region of its plane. Refused: NoFace, NotFlat."""
+    found = bench.near().region(face)
+    if found is None:
+        FacePart(bench.kernel, face).loops
+        raise Impossible('NotFlat', face, why_unfit(bench.model_of([face]), face) or '')
+    return found
 
-    def _close_path(self, loop: int, points: Sequence[Vector]) -> Tuple[int, Numbers, Numbers]:
-        """A path of edges from a lone loop through the points and back: the face inside, where the points run clockwise, the edges in their
-        order, and the vertices."""
-        made = [self.mev(Lone(loop), Lone(loop), points[0])]
-        for point in points[1:]:
-            made.append(self.mev(-made[-1].edge, -made[-1].edge, point))
-        closing = self.mef(-made[-1].edge, made[0].edge)
-        return closing.face, (*(edge.edge for edge in made), closing.edge), tuple(edge.vertex for edge in made)
 
-    def _near(self) -> Surroundings:
-        """The faces of the model held as regions, and what lies near a place."""
-        mirror, near = self._mirror(), self._surroundings
-        if near is None or near.mirror is not mirror or not near.is_whole:
-            near = self._surroundings = Surroundings(mirror)
-        return near
+def _require_room(bench: Bench, face: int, path: Sequence[Vector], way: Vector, *others: int) -> None:
+    """Refuses a feature that would meet or touch the solid elsewhere than in the face, or in the other one where it ends there."""
+    near = bench.near()
+    prism = Prism(region(bench, face).across, path, way, bool(others))
+    if not has_room(near, bench.solid_of(face), prism, (face, *others)):
+        raise Impossible('Meets', face, f'moved by {way}, the outline in face {face} would meet or touch the solid, or come through it')
 
-    def _flat(self, face: int) -> Region:
-        """The face as a region of its plane."""
-        region = self._near().region(face)
-        if region is None:
-            self.face(face).loops
-            raise Impossible('NotFlat', face, why_unfit(self._model_of([face]), face) or '')
-        return region
 
-    def _require_room(self, face: int, path: Sequence[Vector], way: Vector, *others: int) -> None:
-        """Refuses a feature that would meet or touch the solid elsewhere than in the face, or in the other one where it ends there."""
-        near = self._near()
-        prism = Prism(self._flat(face).across, path, way, bool(others))
-        if not has_room(near, self._solid_of(face), prism, (face, *others)):
-            raise Impossible('Meets', face, f'moved by {way}, the outline in face {face} would meet or touch the solid, or come through it')
+def opposite(bench: Bench, face: int, start: Vector) -> Tuple[int, Vector]:
+    """The face that a ray from a point of the face goes out through, and the way to its plane, which is parallel."""
+    near, solid = bench.near(), bench.solid_of(face)
+    back = negative(region(bench, face).across)
+    box = box_of((start, _beyond(near.box_around(solid), start, back)))
+    hits = []
+    for other in near.faces_near(solid, box):
+        behind = near.region(other) if other != face else None
+        reach = behind and _reach(behind, start, back)
+        if behind and reach:
+            hits.append((reach, other, behind))
+    if not hits:
+        raise Impossible('NoOpposite', face, f'there is no face behind the outline in face {face}')
+    reach, other, behind = min(hits, key=lambda hit: hit[:2])
+    if cross(behind.across, back) != ZERO:
+        raise Impossible('NotParallel', other, f"face {other}, behind the outline, isn't parallel to face {face}")
+    way = [reach * part for part in back]
+    if any(part.denominator != 1 for part in way):
+        raise Impossible('OffLattice', other, f'face {other} lies off the lattice behind face {face}')
+    return other, (int(way[0]), int(way[1]), int(way[2]))
 
-    def _solid_of(self, face: int) -> int:
-        return self.face(face).solid.number
 
-    def _opposite(self, face: int, start: Vector) -> Tuple[int, Vector]:
-        """The face that a ray from a point of the face goes out through, and the way to its plane, which is parallel."""
-        near, solid = self._near(), self._solid_of(face)
-        back = negative(self._flat(face).across)
-        box = box_of((start, _beyond(near.box_around(solid), start, back)))
-        hits = []
-        for other in near.faces_near(solid, box):
-            region = near.region(other) if other != face else None
-            reach = region and _reach(region, start, back)
-            if region and reach:
-                hits.append((reach, other, region))
-        if not hits:
-            raise Impossible('NoOpposite', face, f'there is no face behind the outline in face {face}')
-        reach, other, region = min(hits, key=lambda hit: hit[:2])
-        if cross(region.across, back) != ZERO:
-            raise Impossible('NotParallel', other, f"face {other}, behind the outline, isn't parallel to face {face}")
-        way = [reach * part for part in back]
-        if any(part.denominator != 1 for part in way):
-            raise Impossible('OffLattice', other, f'face {other} lies off the lattice behind face {face}')
-        return other, (int(way[0]), int(way[1]), int(way[2]))
-
-    def _draw(self, face: int, path: Sequence[Vector]) -> Ring:
-        """The ring through points that run as a ring does, and the face inside it: edges and vertices from the first point on."""
-        row = self._reader().face(face)
-        assert row is not None, 'the outline was found to lie in the face'
-        start = self.half_edges(row.outer)[0]
-        spur = self.mev(start, start, path[0])
-        ring = self.kemr(spur.edge)
-        inside, edges, vertices = self._close_path(ring, path[1:])
-        return Ring(inside, ring, edges, (spur.vertex, *vertices))
+def _draw(bench: Bench, face: int, path: Sequence[Vector]) -> Ring:
+    """The ring through points that run as a ring does, and the face inside it: edges and vertices from the first point on."""
+    commands = Commands(bench)
+    start = FacePart(bench.kernel, face).outer.half_edges[0]
+    spur = commands.mev(start, start, path[0])
+    loop = commands.kemr(spur.edge)
+    inside, edges, vertices = _close_path(commands, loop, path[1:])
+    return Ring(inside, loop, edges, (spur.vertex, *vertices))
 
 
 def _inside(edges: Numbers) -> Numbers:
@@ -248,8 +191,7 @@ def _inside(edges: Numbers) -> Numbers:
 
 def _along(halves: Numbers, edges: Numbers, swept: Sweep) -> Numbers:
     """The sides over edges, in the edges' order, of a face that was swept and had one loop of these half-edges."""
-    least = min(range(len(halves)), key=lambda place: abs(halves[place]))
-    over: Dict[int, int] = dict(zip((abs(half) for half in halves[least:] + halves[:least]), swept.sides))
+    over: Dict[int, int] = dict(zip((abs(half) for half in from_least(halves)), swept.sides))
     return tuple(over[edge] for edge in edges)
 
 

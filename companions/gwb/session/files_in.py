@@ -10,7 +10,7 @@ from ..formats.importing import read_file
 from ..formats.polygon_files import FORMS
 from ..geometry.free_numbers import renumbered
 from ..geometry.plane_figures import Exact
-from .selection import Selecting
+from .bench import Bench
 from .solids import Numbers, give
 
 
@@ -39,11 +39,11 @@ def known_form(form: str) -> str:
     return form
 
 
-def take_in(bench: Selecting, path: str, options: Options) -> TakenIn:
+def take_in(bench: Bench, path: str, options: Options) -> TakenIn:
     """Makes the solids of a file, with numbers that are free, as one command, and warns of what is wrong with them.
 
     Raises OSError, NotAMesh or Unfit, with the place, where the file can't be read or has no closed surfaces. Refused: NumbersSpent."""
-    scale = Fraction(options.scale) / bench._journal.unit
+    scale = Fraction(options.scale) / bench.kernel.journal.unit
     found = read_file(os.path.abspath(path), form=options.form or None, scale=scale.numerator if scale.denominator == 1 else scale,
                       rounded=options.rounded, keep_triangles=options.keep_triangles, repair=options.repair)
     for wrong in found.wrong:

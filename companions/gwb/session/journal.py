@@ -3,6 +3,7 @@
 from fractions import Fraction
 from typing import Dict, List, NamedTuple, Optional, Tuple
 
+from ..errors import InDraft, InGroup
 from ..geometry.free_numbers import KINDS
 from .calls import Call
 
@@ -74,6 +75,8 @@ class Journal:
 
     def __init__(self) -> None:
         self.state = State([])
+        # In a group how many commands were held before it.
+        self.group_from: Optional[int] = None
         self._start = Greatest()
         self.first_unit = Fraction(1)
 
@@ -128,20 +131,34 @@ class Journal:
         """Whether the program could redo only what was given up."""
         return self.state.given_up > 0 and self.state.at == self.state.end
 
-    def add(self, call: Call, begins: bool, greatest: Greatest) -> None:
+    def refuse_in_draft(self, words: str) -> None:
+        """A draft takes operators alone."""
+        if self.is_drafting:
+            raise InDraft(f'{words}: a draft is open, which takes operators alone')
+
+    def refuse_in_group(self, words: str) -> None:
+        """A group is undone when it is whole."""
+        if self.group_from is not None:
+            raise InGroup(f'{words}: a group is open, which is undone when it has ended')
+
+    def _begins_step(self) -> bool:
+        """Whether a step to undo begins with the next command: always but in a group that has one already."""
+        return self.group_from is None or self.at <= self.group_from
+
+    def add(self, call: Call, greatest: Greatest) -> None:
         """A command was accepted, or a step of the draft."""
         if self.state.draft is not None:
             self.state.draft.append(DraftStep(call, greatest))
         else:
-            self._append(Done((call,), begins, greatest, self.unit))
+            self._append(Done((call,), self._begins_step(), greatest, self.unit))
 
     def open_draft(self) -> None:
         """The calls from here on are steps of a draft."""
         self.state = self.state._replace(draft=[])
 
-    def commit(self, begins: bool) -> None:
+    def commit(self) -> None:
         """The steps of the draft, of which there are some, become one command."""
-        self._append(Done(self.draft, begins, self.greatest, self.unit))
+        self._append(Done(self.draft, self._begins_step(), self.greatest, self.unit))
 
     def end_draft(self) -> int:
         """The draft is left out: how many steps it had."""

@@ -7,86 +7,91 @@ from ..geometry import lattice_cuts, sections, solid_measures
 from ..geometry.flat_face import ExactVector
 from ..geometry.model import Model
 from . import arguments
+from .bench import Bench, Methods
 from .reading import EdgePart, FacePart, SolidPart
-from .solid_methods import SolidMethods
 
 
-class Measuring(SolidMethods):
+class Measuring(Methods):
     """Exact measures, each of the part that it names, in coordinates as they are: a length times `unit`, an area times its square and a volume times
     its cube is in the unit that the session began with. Where a face isn't flat they raise Unfit."""
 
     def bounding_box(self, solid: arguments.Solid) -> solid_measures.BoundingBox:
         """The least box with sides along the axes around the solid. Refused: NoSolid."""
-        return solid_measures.bounding_box(*self._solid_read(solid))
+        return solid_measures.bounding_box(*_solid_read(self._bench, solid))
 
     def centroid(self, solid: arguments.Solid) -> solid_measures.ExactPoint:
         """The centre of mass of the solid, of even density. Refused: NoSolid. Raises NoVolume where it encloses none."""
-        return solid_measures.centroid(*self._solid_read(solid))
+        return solid_measures.centroid(*_solid_read(self._bench, solid))
 
     def inertia(self, solid: arguments.Solid, about: Optional[ExactVector] = None) -> solid_measures.Inertia:
         """The moments of inertia of the solid, of density one, about a point or else its centroid. Refused: NoSolid. Raises NoVolume where it
         encloses none and no point is given."""
         place = None if about is None else arguments.exact_point('about', about)
-        return solid_measures.inertia(*self._solid_read(solid), place)
+        return solid_measures.inertia(*_solid_read(self._bench, solid), place)
 
     def surface_area(self, solid: arguments.Solid) -> float:
         """The area of all faces of the solid, rounded. Refused: NoSolid."""
-        return solid_measures.surface_area(*self._solid_read(solid))
+        return solid_measures.surface_area(*_solid_read(self._bench, solid))
 
     def area(self, face: arguments.Face) -> float:
         """The area of the face, rounded: the root of square_area. Refused: NoFace."""
-        return solid_measures.area(*self._face_read(face))
+        return solid_measures.area(*_face_read(self._bench, face))
 
     def square_area(self, face: arguments.Face) -> Fraction:
         """The square of the area of the face. Refused: NoFace."""
-        return solid_measures.square_area(*self._face_read(face))
+        return solid_measures.square_area(*_face_read(self._bench, face))
 
     def length(self, edge: arguments.Edge) -> float:
         """The length of the edge, rounded: the root of square_length. Refused: NoEdge."""
-        return solid_measures.length(*self._edge_read(edge))
+        return solid_measures.length(*_edge_read(self._bench, edge))
 
     def square_length(self, edge: arguments.Edge) -> int:
         """The square of the length of the edge. Refused: NoEdge."""
-        return solid_measures.square_length(*self._edge_read(edge))
+        return solid_measures.square_length(*_edge_read(self._bench, edge))
 
     def distance(self, face: arguments.Face, other: arguments.Face) -> float:
         """The distance of the planes of two parallel faces, rounded: the root of square_distance. Refused: NoFace. Raises NotParallel."""
-        return solid_measures.distance(*self._faces_read(face, other))
+        return solid_measures.distance(*_faces_read(self._bench, face, other))
 
     def square_distance(self, face: arguments.Face, other: arguments.Face) -> Fraction:
         """The square of the distance of the planes of two parallel faces. Refused: NoFace. Raises NotParallel."""
-        return solid_measures.square_distance(*self._faces_read(face, other))
+        return solid_measures.square_distance(*_faces_read(self._bench, face, other))
 
     def section(self, solid: arguments.Solid, plane: arguments.Point) -> List[sections.Polygon]:
         """The polygons in which the plane a x + b y + c z + d = 0 cuts the solid, seen from above the plane: outlines run counterclockwise,
         holes clockwise; none where it misses the solid. Refused: NoSolid. Raises ValueError where a, b and c are zero."""
         coefficients = arguments.plane('plane', plane)
-        return sections.section(*self._solid_read(solid), coefficients)
+        return sections.section(*_solid_read(self._bench, solid), coefficients)
 
     def off_lattice(self, solid: arguments.Solid, plane: arguments.Point) -> lattice_cuts.OffLatticeCut:
         """Where the plane cuts the edges of the solid, by which factor all of these points would be whole, and planes nearby that `split`
         takes. Refused: NoSolid. Raises ValueError where a, b and c are zero."""
         coefficients = arguments.plane('plane', plane)
-        return lattice_cuts.off_lattice_cut(*self._solid_read(solid), coefficients)
+        return lattice_cuts.off_lattice_cut(*_solid_read(self._bench, solid), coefficients)
 
-    def _solid_read(self, solid: arguments.Solid) -> Tuple[Model, int]:
-        """The solid alone, and its number."""
-        number = self._number('solid', solid)
-        return self._model_with(SolidPart(self, number)), number
 
-    def _face_read(self, face: arguments.Face) -> Tuple[Model, int]:
-        number = self._number('face', face)
-        return self._model_with(FacePart(self, number).solid), number
+def _solid_read(bench: Bench, solid: arguments.Solid) -> Tuple[Model, int]:
+    """The solid alone, and its number."""
+    number = bench.number('solid', solid)
+    return _model_with(bench, SolidPart(bench.kernel, number)), number
 
-    def _faces_read(self, face: arguments.Face, other: arguments.Face) -> Tuple[Model, int, int]:
-        numbers = self._number('face', face), self._number('other', other, 'face')
-        return (self._model_with(*(FacePart(self, number).solid for number in numbers)), *numbers)
 
-    def _edge_read(self, edge: arguments.Edge) -> Tuple[Model, int]:
-        number = abs(arguments.half_edge('edge', edge, self))
-        ends = EdgePart(self, number).vertices
-        return Model((), {}, {}, {number: (ends[0].number, ends[1].number)}, {end.number: end.point for end in ends}), number
+def _face_read(bench: Bench, face: arguments.Face) -> Tuple[Model, int]:
+    number = bench.number('face', face)
+    return _model_with(bench, FacePart(bench.kernel, number).solid), number
 
-    def _model_with(self, *solids: SolidPart) -> Model:
-        """The solids as they are read, each of which is there."""
-        return self._solids_as_read(sorted({solid.number for solid in solids if solid.faces}))
+
+def _faces_read(bench: Bench, face: arguments.Face, other: arguments.Face) -> Tuple[Model, int, int]:
+    numbers = bench.number('face', face), bench.number('other', other, 'face')
+    return (_model_with(bench, *(FacePart(bench.kernel, number).solid for number in numbers)), *numbers)
+
+
+def _edge_read(bench: Bench, edge: arguments.Edge) -> Tuple[Model, int]:
+    number = abs(bench.half_edge('edge', edge))
+    ends = EdgePart(bench.kernel, number).vertices
+    return Model((), {}, {}, {number: (ends[0].number, ends[1].number)}, {end.number: end.point for end in ends}), number
+
+
+def _model_with(bench: Bench, *solids: SolidPart) -> Model:
+    """The solids as they are read, each of which is there."""
+    return bench.solids_as_read(sorted({solid.number for solid in solids if solid.faces}))

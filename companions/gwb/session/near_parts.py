@@ -11,10 +11,9 @@ from ..geometry.model import Face, Loop, Model
 from ..geometry.sheets import Region
 from ..geometry.traced_cycles import Side
 from ..geometry.vectors import ZERO
-from .features import Features
+from .bench import Bench
 from .mirror import Mirror
 from .part_models import model_of_faces
-from .solids import solid_model
 
 _REST = LARGEST + 1
 Row = TypeVar('Row')
@@ -55,14 +54,14 @@ def without_rest(model: Model) -> Model:
     return Model(model.solids, faces, loops, model.edges, model.vertices)
 
 
-def near_part(bench: Features, solid: int, box: Box, faces: Sequence[int] = ()) -> NearPart:
+def near_part(bench: Bench, solid: int, box: Box, faces: Sequence[int] = ()) -> NearPart:
     """The faces of the solid whose boxes meet a box, and these faces of it."""
-    mirror = bench._mirror()
-    model = model_of_faces(mirror, sorted({*bench._near().faces_near(solid, box), *faces}))
+    mirror = bench.kernel.mirror()
+    model = model_of_faces(mirror, sorted({*bench.near().faces_near(solid, box), *faces}))
     halves = {half for loop in model.loops.values() for half in loop.halves}
     rest = {_REST + place: Loop(from_least(cycle)) for place, cycle in enumerate(_rest_cycles(mirror, halves))}
     if not rest:
-        return NearPart(model if len(model.faces) == len(mirror.faces_of(solid)) else solid_model(bench, solid))
+        return NearPart(model if len(model.faces) == len(mirror.faces_of(solid)) else bench.solid_model(solid))
     row = Face(solid, _REST, tuple(rest)[1:])
     return NearPart(Model(model.solids, {**model.faces, _REST: row}, {**model.loops, **rest}, model.edges, model.vertices))
 

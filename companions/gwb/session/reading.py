@@ -61,7 +61,7 @@ class ListingReader:
 class Holder(Protocol):
     """Who holds the model and lends its reader."""
 
-    def _reader(self) -> Reader: ...
+    def reader(self) -> Reader: ...
 
 
 class Part(PartOfTurns):
@@ -69,16 +69,16 @@ class Part(PartOfTurns):
 
     kind = ''
     _missing = 0
-    _bench: Holder
+    _kernel: Holder
 
-    def __init__(self, bench: Holder, number: int) -> None:
-        self._bench, self.number = bench, number
+    def __init__(self, kernel: Holder, number: int) -> None:
+        self._kernel, self.number = kernel, number
 
     def __index__(self) -> int:
         return self.number
 
     def __eq__(self, other: object) -> bool:
-        return isinstance(other, Part) and (self._bench, self.kind, self.number) == (other._bench, other.kind, other.number)
+        return isinstance(other, Part) and (self._kernel, self.kind, self.number) == (other._kernel, other.kind, other.number)
 
     def __hash__(self) -> int:
         return hash((self.kind, self.number))
@@ -92,7 +92,7 @@ class Part(PartOfTurns):
         raise NotImplementedError
 
     def _read(self) -> Reader:
-        return self._bench._reader()
+        return self._kernel.reader()
 
     def _none(self) -> Refused:
         meaning = refusal(self._missing, self.number)
@@ -137,7 +137,7 @@ class EdgePart(Part):
         found = self._read().edge(self.number)
         if found is None:
             raise self._none()
-        return (VertexPart(self._bench, found[0]), VertexPart(self._bench, found[1]))
+        return (VertexPart(self._kernel, found[0]), VertexPart(self._kernel, found[1]))
 
     @property
     def points(self) -> Tuple[Vector, ...]:
@@ -160,15 +160,15 @@ class LoopPart(Part):
     @property
     def edges(self) -> Tuple[EdgePart, ...]:
         """The edges of its half-edges, in their order."""
-        return tuple(EdgePart(self._bench, abs(half)) for half in self.half_edges)
+        return tuple(EdgePart(self._kernel, abs(half)) for half in self.half_edges)
 
     @property
     def vertices(self) -> Tuple[VertexPart, ...]:
         """The vertices at which its half-edges start, in their order, or its one vertex."""
         content, reader = self._content(), self._read()
         if content.vertex is not None:
-            return (VertexPart(self._bench, content.vertex),)
-        return tuple(VertexPart(self._bench, _tail(reader, half)) for half in content.halves)
+            return (VertexPart(self._kernel, content.vertex),)
+        return tuple(VertexPart(self._kernel, _tail(reader, half)) for half in content.halves)
 
     @property
     def points(self) -> Tuple[Vector, ...]:
@@ -179,7 +179,7 @@ class LoopPart(Part):
     def face(self) -> 'FacePart':
         """The face it is of."""
         self._content()
-        return FacePart(self._bench, self._read().face_of_loop(self.number))
+        return FacePart(self._kernel, self._read().face_of_loop(self.number))
 
     def _content(self) -> Loop:
         found = self._read().loop(self.number)
@@ -197,12 +197,12 @@ class FacePart(Part):
     @property
     def solid(self) -> 'SolidPart':
         """The solid it is of."""
-        return SolidPart(self._bench, self._row().solid)
+        return SolidPart(self._kernel, self._row().solid)
 
     @property
     def loops(self) -> Tuple[LoopPart, ...]:
         """Its outer loop and then its rings, rising."""
-        return tuple(LoopPart(self._bench, loop) for loop in self._row().loops)
+        return tuple(LoopPart(self._kernel, loop) for loop in self._row().loops)
 
     @property
     def outer(self) -> LoopPart:
@@ -253,7 +253,7 @@ class SolidPart(Part):
         found = self._read().faces_of(self.number)
         if not found:
             raise self._none()
-        return tuple(FacePart(self._bench, face) for face in found)
+        return tuple(FacePart(self._kernel, face) for face in found)
 
     @property
     def loops(self) -> Tuple[LoopPart, ...]:

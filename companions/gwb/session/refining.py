@@ -11,13 +11,13 @@ from ..geometry.lattice_cuts import whole_factor
 from ..geometry.moved import Displaced, changed, scaling
 from ..geometry.outlines import Impossible
 from ..geometry.solids_apart import solids_apart
-from .selection import Selecting
-from .solids import Numbers, give, solid_model
+from .bench import Bench
+from .solids import Numbers, give
 
 Made = TypeVar('Made')
 
 
-def with_finer_unit(bench: Selecting, solid: int, plane: Plane, cut: Callable[[Plane], Made]) -> Made:
+def with_finer_unit(bench: Bench, solid: int, plane: Plane, cut: Callable[[Plane], Made]) -> Made:
     """Cuts a solid by a plane, and where points of the cut aren't whole, once the unit is the least finer one in which they are; both as one
     step.
 
@@ -27,23 +27,23 @@ def with_finer_unit(bench: Selecting, solid: int, plane: Plane, cut: Callable[[P
     except Refused as refused:
         if refused.name != 'NotLattice':
             raise
-    factor = whole_factor(crossings(solid_model(bench, solid), solid, plane))
-    with bench._step(operators_alone=bench._journal.is_drafting):
+    factor = whole_factor(crossings(bench.solid_model(solid), solid, plane))
+    with bench.step(operators_alone=bench.kernel.journal.is_drafting):
         refine(bench, factor)
         # (its offset stays in range, since it meets edges whose ends do)
         return cut(without_common_factor((*plane[:3], plane[3] * factor)))
 
 
-def refine(bench: Selecting, factor: int) -> None:
+def refine(bench: Bench, factor: int) -> None:
     """The unit becomes so many times finer, as one command, or as steps of the draft that is open: all coordinates are multiplied, and the size
     of one is divided. Refused: PointRange."""
-    held = bench.listing()
+    held = bench.kernel.listing()
     try:
         finer = changed(held, scaling(factor))
     except Displaced as error:
         raise Impossible(error.name, error.vertex, f'times {factor} all points of the cut are whole, but {error}') from None
     numbers = Numbers(bench)
-    with bench._step(operators_alone=True):
+    with bench.step(operators_alone=True):
         for before, after in zip(solids_apart(held), solids_apart(finer)):
             give(bench, [*numbers.taking_away(before), *numbers.making(after)])
-        bench._journal.set_unit(bench._journal.unit / factor)
+        bench.kernel.journal.set_unit(bench.kernel.journal.unit / factor)

@@ -5,12 +5,10 @@ from typing import Callable, Generic, Iterator, List, Optional, Sequence, Tuple,
 from ..errors import NotOne
 from ..geometry.flat_face import FlatFace
 from ..geometry.measures import why_unfit
-from ..geometry.model import Model
 from ..geometry.plane_figures import Place
 from ..geometry.vectors import Vector, ZERO, dot, same_direction
 from . import arguments
-from .commands import Commands
-from .part_models import model_of_faces
+from .bench import Bench, Methods
 from .reading import EdgePart, FacePart, LoopPart, Part, SolidPart, VertexPart
 
 Found = TypeVar('Found', bound=Part)
@@ -77,32 +75,32 @@ class Selection(Sequence[Found], Generic[Found]):
         return Selection(self._kind, self._wanted + word, [part for part, own in zip(self._parts, reaches) if own == most])
 
 
-class Selecting(Commands):
+class Selecting(Methods):
     """Parts of the model by their numbers, and by where they lie."""
 
     def solid(self, solid: arguments.Solid) -> SolidPart:
         """The solid of this number. Where there is none, what is asked of it raises Refused; so do the next ones."""
-        return SolidPart(self, self._number('solid', solid))
+        return SolidPart(self._bench.kernel, self._bench.number('solid', solid))
 
     def face(self, face: arguments.Face) -> FacePart:
         """The face of this number."""
-        return FacePart(self, self._number('face', face))
+        return FacePart(self._bench.kernel, self._bench.number('face', face))
 
     def loop(self, loop: arguments.LoopNumber) -> LoopPart:
         """The loop of this number."""
-        return LoopPart(self, self._number('loop', loop))
+        return LoopPart(self._bench.kernel, self._bench.number('loop', loop))
 
     def edge(self, edge: arguments.Edge) -> EdgePart:
         """The edge of this number."""
-        return EdgePart(self, self._number('edge', edge))
+        return EdgePart(self._bench.kernel, self._bench.number('edge', edge))
 
     def vertex(self, vertex: arguments.Vertex) -> VertexPart:
         """The vertex of this number."""
-        return VertexPart(self, self._number('vertex', vertex))
+        return VertexPart(self._bench.kernel, self._bench.number('vertex', vertex))
 
     def solids(self) -> 'Selection[SolidPart]':
         """All solids."""
-        return Selection('solid', '', [SolidPart(self, number) for number in self._reader().numbers('solid')])
+        return Selection('solid', '', [SolidPart(self._bench.kernel, number) for number in self._bench.kernel.reader().numbers('solid')])
 
     def faces(self, *, solid: Optional[arguments.Solid] = None, plane: Optional[arguments.Point] = None,
               normal: Optional[arguments.Point] = None, containing: Optional[arguments.Point] = None) -> 'Selection[FacePart]':
@@ -118,54 +116,55 @@ class Selecting(Commands):
             way = arguments.point('normal', normal)
             if way == ZERO:
                 raise ValueError('normal: it is zero')
-            tests.append(lambda face: face.normal != ZERO and same_direction(face.normal, way) and self._is_flat(face))
+            tests.append(lambda face: face.normal != ZERO and same_direction(face.normal, way) and _is_flat(face))
         if containing is not None:
             place = arguments.point('containing', containing)
-            tests.append(lambda face: self._contains(face, place))
+            tests.append(lambda face: _contains(self._bench, face, place))
         wanted = _wanted(solid=solid, plane=plane, normal=normal, containing=containing)
-        return Selection('face', wanted, [face for face in self._faces_in(solid) if all(test(face) for test in tests)])
+        return Selection('face', wanted, [face for face in _faces_in(self._bench, solid) if all(test(face) for test in tests)])
 
     def edges(self, *, solid: Optional[arguments.Solid] = None, between: Optional[Tuple[arguments.Face, arguments.Face]] = None) -> 'Selection[EdgePart]':
         """The edges of the solid, those between two faces, or all."""
         if between is not None:
-            one, other = arguments.pair('between', between, 'face', self)
-            first, second = ({half for loop in FacePart(self, face).loops for half in loop.half_edges} for face in (one, other))
+            one, other = self._bench.pair('between', between, 'face')
+            first, second = ({half for loop in FacePart(self._bench.kernel, face).loops for half in loop.half_edges} for face in (one, other))
             found = {abs(half) for half in first if -half in second}
         elif solid is not None:
             found = {edge.number for edge in self.solid(solid).edges}
         else:
-            found = set(self._reader().numbers('edge'))
+            found = set(self._bench.kernel.reader().numbers('edge'))
         if between is not None and solid is not None:
             found &= {edge.number for edge in self.solid(solid).edges}
-        return Selection('edge', _wanted(solid=solid, between=between), [EdgePart(self, number) for number in sorted(found)])
+        return Selection('edge', _wanted(solid=solid, between=between), [EdgePart(self._bench.kernel, number) for number in sorted(found)])
 
     def vertices(self, *, solid: Optional[arguments.Solid] = None, at: Optional[arguments.Point] = None) -> 'Selection[VertexPart]':
         """The vertices of the solid, or all; `at` a point."""
         place = None if at is None else arguments.point('at', at)
-        parts = ([VertexPart(self, number) for number in self._reader().numbers('vertex')] if solid is None
+        parts = ([VertexPart(self._bench.kernel, number) for number in self._bench.kernel.reader().numbers('vertex')] if solid is None
                  else list(self.solid(solid).vertices))
         return Selection('vertex', _wanted(solid=solid, at=at), [part for part in parts if place is None or part.point == place])
 
-    def _faces_in(self, solid: Optional[arguments.Solid]) -> Sequence[FacePart]:
-        if solid is None:
-            return [FacePart(self, number) for number in self._reader().numbers('face')]
-        return self.solid(solid).faces
 
-    def _is_flat(self, face: FacePart) -> bool:
-        origin, across = face.outer.points[0], face.normal
-        level = dot(across, origin)
-        return all(dot(across, point) == level for point in face.points)
+def _faces_in(bench: Bench, solid: Optional[arguments.Solid]) -> Sequence[FacePart]:
+    """The faces of the solid, or all."""
+    if solid is None:
+        return [FacePart(bench.kernel, number) for number in bench.kernel.reader().numbers('face')]
+    return SolidPart(bench.kernel, bench.number('solid', solid)).faces
 
-    def _contains(self, face: FacePart, point: Vector) -> bool:
-        model = self._model_of([face.number])
-        if why_unfit(model, face.number) is not None:
-            return False
-        shape = FlatFace(model, face.number)
-        return shape.height(point) == 0 and shape.locate(point) is not Place.OUTSIDE
 
-    def _model_of(self, faces: Sequence[int]) -> Model:
-        """The model of these faces alone, which are there."""
-        return model_of_faces(self._reader(), faces)
+def _is_flat(face: FacePart) -> bool:
+    origin, across = face.outer.points[0], face.normal
+    level = dot(across, origin)
+    return all(dot(across, point) == level for point in face.points)
+
+
+def _contains(bench: Bench, face: FacePart, point: Vector) -> bool:
+    """Whether a face is flat and plain, and the point lies inside or on its outline."""
+    model = bench.model_of([face.number])
+    if why_unfit(model, face.number) is not None:
+        return False
+    shape = FlatFace(model, face.number)
+    return shape.height(point) == 0 and shape.locate(point) is not Place.OUTSIDE
 
 
 def _wanted(**criteria: object) -> str:

@@ -12,7 +12,7 @@ from ..geometry.traced_cycles import Side
 from ..geometry.vectors import Vector, ZERO, add, cross, dot, negative, reduced, subtract
 from ..joining.combining import require_flat
 from .adding import add_sheets, addition
-from .features import Features
+from .bench import Bench
 from .solids import Numbers
 
 Path = Sequence[Vector]
@@ -63,7 +63,7 @@ def prism(outline: Path, way: Vector) -> Tool:
     return Tool(path, far[::-1], walls)
 
 
-def cut_out(bench: Features, face: int, tool: Tool) -> Notch:
+def cut_out(bench: Bench, face: int, tool: Tool) -> Notch:
     """Cuts a part out of the solid of a face, in which its lid lies, as one command.
 
     Refused: OutlineOutside: the lid reaches beyond the face; Meets: the part reaches out of the solid, or what is left would touch itself;
@@ -71,18 +71,18 @@ def cut_out(bench: Features, face: int, tool: Tool) -> Notch:
     return _changed(bench, face, tool, [[*reversed(path)] for path in tool.paths])
 
 
-def put_on(bench: Features, face: int, tool: Tool) -> Notch:
+def put_on(bench: Bench, face: int, tool: Tool) -> Notch:
     """Puts a part on the solid of a face, on which its lid lies, as one command. Refused as cut_out is."""
     return _changed(bench, face, tool, tool.paths)
 
 
-def _changed(bench: Features, face: int, tool: Tool, paths: Sequence[Path]) -> Notch:
+def _changed(bench: Bench, face: int, tool: Tool, paths: Sequence[Path]) -> Notch:
     for point in (point for path in paths for point in path):
         if max(abs(part) for part in point) > FARTHEST:
             raise Impossible('PointRange', 0, 'a corner would lie at {} {} {}, past 1,000,000,000'.format(*point))
     meets = Impossible('Meets', face, f'the part at face {face} would meet the solid elsewhere, or the solid would touch itself')
     numbers = Numbers(bench)
-    held = addition(bench, bench.face(face).solid.number, [_sheet(path) for path in paths], numbers, meets, faces=[face])
+    held = addition(bench, bench.solid_of(face), [_sheet(path) for path in paths], numbers, meets, faces=[face])
     lid, *others = held.made.faces
     if lid:
         raise Impossible('OutlineOutside', face, f'the outline reaches beyond face {face}')

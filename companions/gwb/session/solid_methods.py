@@ -1,26 +1,28 @@
 """The methods of a workbench that take solids as wholes (solids.py), cut (cutting.py) and unite them (uniting.py), and shape them up to the edges of
 their faces (shaping.py)."""
 
-from typing import Mapping, Optional, Sequence, Tuple
+from typing import Optional, Sequence, Tuple
 
 from ..geometry.model import Model
 from ..geometry.moved import Change, mirroring, moving, scaling
 from ..geometry.outlines import Impossible
 from ..geometry.vectors import ZERO
 from . import arguments, cutting, refining, shaping, solids, uniting
+from .bench import Bench, Methods
+from .commands import Commands
 from .cutting import Cut, Keep, Plane
-from .features import Features
+from .reading import EdgePart, FacePart
 from .results import Split
 from .shaping import Notch
 from .solids import Copy
 
 
-class SolidMethods(Features):
+class SolidMethods(Methods):
     """Solids as things. Each method is one step to undo; one that is refused leaves everything as it was."""
 
     def delete(self, solid: arguments.Solid) -> None:
         """The solid goes, with all that it has. Refused: NoSolid."""
-        solids.delete(self, self._number('solid', solid))
+        solids.delete(self._bench, self._bench.number('solid', solid))
 
     def copy(self, solid: arguments.Solid, *, move: arguments.Point = ZERO, mirror: Optional[arguments.Point] = None) -> Copy:
         """A copy of the solid, mirrored in a plane where one is given, and then moved by the vector: the numbers of its things by those of
@@ -30,42 +32,32 @@ class SolidMethods(Features):
         NumbersSpent: there are no free numbers."""
         changes = [] if mirror is None else [mirroring(solids.mirror_plane('mirror', mirror))]
         changes.append(moving(arguments.point('move', move)))
-        return self._copied(solid, [changes])[0]
+        return _copied(self._bench, solid, [changes])[0]
 
     def pattern(self, solid: arguments.Solid, count: int, step: arguments.Point) -> Tuple[Copy, ...]:
         """Copies of the solid, each a step farther than the one before, so that there are `count` of it with itself. Refused as copy is."""
-        return self._copied(solid, solids.in_a_row(count, step))
-
-    def _copied(self, solid: arguments.Solid, ways: Sequence[Sequence[Change]]) -> Tuple[Copy, ...]:
-        number = self._number('solid', solid)
-        made = solids.copies(self, number, ways)
-        for copy in made:
-            self._label_alike({('solid', number): copy.solid, **{('face', face): other for face, other in copy.faces.items()}})
-        return made
-
-    def _label_alike(self, others: Mapping[Tuple[str, int], int]) -> None:
-        """For solids and faces, by kind and number, others of the kind get the names and colours that they have. Here nothing has any."""
+        return _copied(self._bench, solid, solids.in_a_row(count, step))
 
     def move(self, solid: arguments.Solid, vector: arguments.Point) -> int:
         """The solid moves by the vector: its number, which stays, as all of its numbers do. Refused: NoSolid; PointRange: a point would
         leave the range."""
-        return self._placed(solid, moving(arguments.point('vector', vector)))
+        return _placed(self._bench, solid, moving(arguments.point('vector', vector)))
 
     def turn(self, solid: arguments.Solid, axis: str, times: int = 1, *, about: arguments.Point = ZERO) -> int:
         """The solid turns by quarters about the axis 'x', 'y' or 'z' through a point, counterclockwise as seen from where the axis points:
         its number. Refused as move is."""
-        return self._placed(solid, solids.quarter_turns(axis, times, about))
+        return _placed(self._bench, solid, solids.quarter_turns(axis, times, about))
 
     def mirror(self, solid: arguments.Solid, plane: arguments.Point) -> int:
         """The solid becomes its image in the plane a x + b y + c z + d = 0: its number. Each loop runs the other way, by the mates of its
         half-edges. Refused as move is; OffLattice: a point would come between whole coordinates, as none does in planes across an axis or a
         diagonal of two axes that lie well."""
-        return self._placed(solid, mirroring(solids.mirror_plane('plane', plane)))
+        return _placed(self._bench, solid, mirroring(solids.mirror_plane('plane', plane)))
 
     def scale(self, factor: int) -> None:
         """All coordinates of all solids are multiplied by a whole number from 1 on. Refused: PointRange."""
         times = arguments.positive('factor', factor)
-        solids.place(self, self.solids().numbers, scaling(times))
+        solids.place(self._bench, self._bench.kernel.reader().numbers('solid'), scaling(times))
 
     def split(self, solid: arguments.Solid, plane: arguments.Point, *, above: Optional[int] = None, scale: bool = False) -> Split:
         """The solid is cut by the plane a x + b y + c z + d = 0, four numbers or what `plane` returns; what lies above it becomes a new solid.
@@ -75,13 +67,13 @@ class SolidMethods(Features):
         point would then lie past 1,000,000,000.
 
         Over the pipe the listing is read after it."""
-        number, level = self._number('solid', solid), arguments.plane('plane', plane)
+        number, level = self._bench.number('solid', solid), arguments.plane('plane', plane)
         new = None if above is None else arguments.number('above', above)
         if not arguments.flag('scale', scale):
-            made = super().split(number, level, above=new)
+            made = Commands(self._bench).split(number, level, above=new)
         else:
-            made = refining.with_finer_unit(self, number, level, lambda plane: super(SolidMethods, self).split(number, plane, above=new))
-        self._label_alike({('solid', number): made.solid})
+            made = refining.with_finer_unit(self._bench, number, level, lambda plane: Commands(self._bench).split(number, plane, above=new))
+        self._bench.label_alike({('solid', number): made.solid})
         return made
 
     def cut(self, solid: arguments.Solid, plane: arguments.Point, *, keep: str = 'both', above: Optional[int] = None, scale: bool = False) -> Cut:
@@ -92,22 +84,13 @@ class SolidMethods(Features):
         Where split refuses the plane for what it touches or how it runs through faces and holes, both parts are made anew, by operators, and
         faces in the plane are one with the caps beside them. Refused: what split says of the solid, the plane and its points: NoSolid,
         SolidTaken, LoneLoop, NotFlat, PlaneMisses, NotLattice; Meets: a part's faces would lie on each other at an edge."""
-        number, level, wanted = self._number('solid', solid), arguments.plane('plane', plane), cutting.kept(keep)
+        number, level, wanted = self._bench.number('solid', solid), arguments.plane('plane', plane), cutting.kept(keep)
         new = None if above is None else arguments.number('above', above)
         if new is not None and wanted is not Keep.BOTH:
             raise ValueError(f'above: the part above the plane gets no number of its own where {keep!r} alone is kept')
         if not arguments.flag('scale', scale):
-            return self._cut(number, level, wanted, new)
-        return refining.with_finer_unit(self, number, level, lambda plane: self._cut(number, plane, wanted, new))
-
-    def _cut(self, solid: int, plane: Plane, wanted: Keep, above: Optional[int]) -> Cut:
-        if wanted is Keep.BOTH:
-            made = cutting.cut(self, solid, plane, above)
-            self._label_alike({('solid', solid): made.above} if made.above else {})
-            return made
-        if wanted is Keep.BELOW:
-            return Cut(solid, None, cutting.trimmed(self, solid, plane), ())
-        return Cut(None, solid, (), cutting.trimmed(self, solid, cutting.opposite(plane)))
+            return _cut(self._bench, number, level, wanted, new)
+        return refining.with_finer_unit(self._bench, number, level, lambda plane: _cut(self._bench, number, plane, wanted, new))
 
     def trim(self, solid: arguments.Solid, plane: arguments.Point, *, scale: bool = False) -> Tuple[int, ...]:
         """What lies above the plane is cut off and thrown away: the faces that close what is left. With scale=True it is cut in a finer unit
@@ -120,7 +103,7 @@ class SolidMethods(Features):
 
         Refused: NoSolid, NotFlat; NoContact: a solid touches the others in no face; Overlap: two have room in common, or the union
         would touch itself; OffLattice: edges of two solids cross between whole coordinates."""
-        return uniting.united(self, uniting.solid_numbers(self, solids))
+        return uniting.united(self._bench, uniting.solid_numbers(self._bench, solids))
 
     def notch(self, face: arguments.Face, points: arguments.Points, depth: int) -> Notch:
         """A pocket so deep behind the face whose outline may reach the edges of the face; there it is open, and where it is as deep as the
@@ -130,36 +113,36 @@ class SolidMethods(Features):
         OutlineCrossed for the points; OutlineOutside: the outline reaches beyond the face; OffLattice: no whole vector along the normal is
         so long, or edges would cross between whole coordinates; Meets: what is cut out reaches out of the solid elsewhere, or the solid
         would touch itself."""
-        number, outline = self._number('face', face), arguments.points('points', points)
+        number, outline = self._bench.number('face', face), arguments.points('points', points)
         deep = arguments.positive('depth', depth)
-        model = self._face_alone(number)
-        return shaping.cut_out(self, number, shaping.notch_tool(model, number, outline, deep))
+        model = _face_alone(self._bench, number)
+        return shaping.cut_out(self._bench, number, shaping.notch_tool(model, number, outline, deep))
 
     def slot(self, face: arguments.Face, start: arguments.Point, end: arguments.Point, width: int, depth: int) -> Notch:
         """A slot with a flat floor, so wide and deep, whose middle line runs in the face from one point to another. Refused as notch is;
         OffLattice: half of the width isn't whole across the line."""
-        number, ends = self._number('face', face), (arguments.point('start', start), arguments.point('end', end))
+        number, ends = self._bench.number('face', face), (arguments.point('start', start), arguments.point('end', end))
         wide, deep = arguments.positive('width', width), arguments.positive('depth', depth)
-        return shaping.cut_out(self, number, shaping.slot_tool(self._face_alone(number), number, ends, wide, deep))
+        return shaping.cut_out(self._bench, number, shaping.slot_tool(_face_alone(self._bench, number), number, ends, wide, deep))
 
     def groove(self, face: arguments.Face, start: arguments.Point, end: arguments.Point, width: int, depth: int) -> Notch:
         """A groove like a V, so wide at the face and so deep under its middle line, which runs from one point to another; it has no floor.
         Refused as notch is; OffLattice: half of the width isn't whole across the line."""
-        number, ends = self._number('face', face), (arguments.point('start', start), arguments.point('end', end))
+        number, ends = self._bench.number('face', face), (arguments.point('start', start), arguments.point('end', end))
         wide, deep = arguments.positive('width', width), arguments.positive('depth', depth)
-        return shaping.cut_out(self, number, shaping.groove_tool(self._face_alone(number), number, ends, wide, deep))
+        return shaping.cut_out(self._bench, number, shaping.groove_tool(_face_alone(self._bench, number), number, ends, wide, deep))
 
     def shoulder(self, face: arguments.Face, edge: arguments.Edge, width: int, depth: int) -> Notch:
         """A step along an edge of the face: so wide in the face, from the edge on, and so deep behind it. Refused as notch is; NoEdge,
         NotOfFace: the edge isn't one of the face."""
-        number, along = self._number('face', face), self._number('edge', edge)
+        number, along = self._bench.number('face', face), self._bench.number('edge', edge)
         wide, deep = arguments.positive('width', width), arguments.positive('depth', depth)
-        model = self._face_alone(number)
-        self.edge(along).vertices
+        model = _face_alone(self._bench, number)
+        EdgePart(self._bench.kernel, along).vertices
         half = next((side for side in model.face_halves(number) if abs(side) == along), None)
         if half is None:
             raise Impossible('NotOfFace', along, f'edge {along} is none of face {number}')
-        return shaping.cut_out(self, number, shaping.shoulder_tool(model, half, wide, deep))
+        return shaping.cut_out(self._bench, number, shaping.shoulder_tool(model, half, wide, deep))
 
     def chamfer(self, edge: arguments.Edge, width: int, other: Optional[int] = None) -> int:
         """The edge becomes a sloping face, which begins so far from it in the face of its half-edge `+e`, and in the other one as far, or so
@@ -167,24 +150,45 @@ class SolidMethods(Features):
 
         Refused: NoEdge; NotFlat: a face of the edge isn't flat, or the slope wouldn't be; FlatEdge: both lie in one plane; OffLattice: a
         corner wouldn't be whole; OutlineOutside, Meets: there is no room for it."""
-        number, wide = self._number('edge', edge), arguments.positive('width', width)
+        number, wide = self._bench.number('edge', edge), arguments.positive('width', width)
         far = wide if other is None else arguments.positive('other', other)
-        self.edge(number).vertices
-        mirror = self._mirror()
-        model = self._model_of(sorted({mirror.face_of_loop(mirror.loop_of(half)) for half in (number, -number)}))
+        EdgePart(self._bench.kernel, number).vertices
+        mirror = self._bench.kernel.mirror()
+        model = self._bench.model_of(sorted({mirror.face_of_loop(mirror.loop_of(half)) for half in (number, -number)}))
         outwards = shaping.bends_outwards(model, number)
         if outwards is None:
             raise Impossible('FlatEdge', number, f'the faces of edge {number} lie in one plane')
         shape = shaping.cut_out if outwards else shaping.put_on
-        made = shape(self, model.face_of(number), shaping.chamfer_tool(model, number, wide, far))
+        made = shape(self._bench, model.face_of(number), shaping.chamfer_tool(model, number, wide, far))
         return made.floor[0]
 
-    def _face_alone(self, face: int) -> Model:
-        """The model of a face alone. Refused: NoFace."""
-        self.face(face).loops
-        return self._model_of([face])
 
-    def _placed(self, solid: arguments.Solid, change: Change) -> int:
-        number = self._number('solid', solid)
-        solids.place(self, [number], change)
-        return number
+def _copied(bench: Bench, solid: arguments.Solid, ways: Sequence[Sequence[Change]]) -> Tuple[Copy, ...]:
+    """Copies of a solid, one for each way to place it, with the labels that the solid and its faces have."""
+    number = bench.number('solid', solid)
+    made = solids.copies(bench, number, ways)
+    for copy in made:
+        bench.label_alike({('solid', number): copy.solid, **{('face', face): other for face, other in copy.faces.items()}})
+    return made
+
+
+def _cut(bench: Bench, solid: int, plane: Plane, wanted: Keep, above: Optional[int]) -> Cut:
+    if wanted is Keep.BOTH:
+        made = cutting.cut(bench, solid, plane, above)
+        bench.label_alike({('solid', solid): made.above} if made.above else {})
+        return made
+    if wanted is Keep.BELOW:
+        return Cut(solid, None, cutting.trimmed(bench, solid, plane), ())
+    return Cut(None, solid, (), cutting.trimmed(bench, solid, cutting.opposite(plane)))
+
+
+def _face_alone(bench: Bench, face: int) -> Model:
+    """The model of a face alone. Refused: NoFace."""
+    FacePart(bench.kernel, face).loops
+    return bench.model_of([face])
+
+
+def _placed(bench: Bench, solid: arguments.Solid, change: Change) -> int:
+    number = bench.number('solid', solid)
+    solids.place(bench, [number], change)
+    return number

@@ -6,7 +6,7 @@ whatever a sound solid has, rings, handles, wires, laminae and several shells, i
 
 from dataclasses import dataclass
 from functools import reduce
-from typing import Callable, Dict, Iterator, List, Mapping, Optional, Sequence, Tuple
+from typing import Dict, Iterator, List, Mapping, Optional, Sequence, Tuple
 
 from ..errors import Refused, Unfit
 from ..geometry.free_numbers import KINDS, LARGEST, FreeNumbers, numbers_of, renumbered, renumbering
@@ -18,9 +18,9 @@ from ..geometry.vectors import ZERO
 from ..scripts.changing import script_between
 from ..scripts.inversion import Step, steps_apart
 from . import arguments
+from .bench import Bench
 from .calls import call_in
-from .commands import Commands
-from .selection import Found, Selecting
+from .selection import Found
 
 AXES = ('x', 'y', 'z')
 
@@ -59,26 +59,26 @@ class Copy:
     def of(self, part: Found) -> Found:
         """The copy of a thing of the original, as a thing of the same kind."""
         numbers = {'face': self.faces, 'loop': self.loops, 'edge': self.edges, 'vertex': self.vertices}
-        return type(part)(part._bench, self.solid if part.kind == 'solid' else numbers[part.kind][part.number])
+        return type(part)(part._kernel, self.solid if part.kind == 'solid' else numbers[part.kind][part.number])
 
 
 class _Unused(FreeNumbers):
     """The numbers of a kind that a bench never had in use, then those in gaps: nothing of the model is read before these."""
 
-    def __init__(self, bench: Selecting, kind: str) -> None:
+    def __init__(self, bench: Bench, kind: str) -> None:
         super().__init__(kind, ())
         self._bench = bench
 
     def _rising(self) -> Iterator[int]:
-        ever = min(self._bench._ever[self._kind], LARGEST)
+        ever = self._bench.numbers.ever(self._kind)
         yield from range(ever + 1, LARGEST + 1)
-        yield from (number for number in range(1, ever + 1) if not self._bench._in_use(self._kind, number))
+        yield from (number for number in range(1, ever + 1) if not self._bench.numbers.in_use(self._kind, number))
 
 
 class Numbers:
     """The numbers that a bench has free: for what is made, and spare ones on the way there."""
 
-    def __init__(self, bench: Selecting) -> None:
+    def __init__(self, bench: Bench) -> None:
         self._free: Dict[str, FreeNumbers] = {kind: _Unused(bench, kind) for kind in KINDS}
 
     def take(self, kind: str) -> int:
@@ -121,51 +121,31 @@ def _spent(error: Unfit) -> Refused:
     return Impossible('NumbersSpent', 0, str(error))
 
 
-def solid_model(bench: Selecting, solid: int) -> Model:
-    """The model of one solid. Refused: NoSolid."""
-    return bench._model_of([face.number for face in bench.solid(solid).faces])
-
-
-def give(bench: Commands, lines: Sequence[str]) -> None:
+def give(bench: Bench, lines: Sequence[str]) -> None:
     """Gives operators as one command, or as steps of the draft that is open; where one isn't accepted, all is as before."""
-    with bench._step(operators_alone=True):
+    with bench.step(operators_alone=True):
         for line in lines:
-            _give(bench, line)
+            call = call_in(line)
+            bench.conversation.do(call.word, *call.values)
 
 
-def _give(bench: Commands, line: str) -> None:
-    call = call_in(line)
-    _METHODS[call.word](bench, *call.values)
-
-
-_METHODS: Dict[str, Callable[..., object]] = {
-    'mvfs': lambda bench, solid, face, loop, vertex, *point: bench.mvfs(point, solid=solid, face=face, loop=loop, vertex=vertex),
-    'mev': lambda bench, first, second, edge, vertex, *point: bench.mev(first, second, point, edge=edge, vertex=vertex),
-    'mef': lambda bench, first, second, edge, face, loop: bench.mef(first, second, edge=edge, face=face, loop=loop),
-    'kemr': lambda bench, half, loop: bench.kemr(half, loop=loop),
-    'mekr': lambda bench, first, second, edge: bench.mekr(first, second, edge=edge),
-    'mfkrh': lambda bench, ring, face: bench.mfkrh(ring, face=face),
-    'kvfs': Commands.kvfs, 'kev': Commands.kev, 'kef': Commands.kef, 'kfmrh': Commands.kfmrh,
-}
-
-
-def delete(bench: Selecting, solid: int) -> None:
+def delete(bench: Bench, solid: int) -> None:
     """Takes a solid away. Refused: NoSolid."""
-    give(bench, Numbers(bench).taking_away(solid_model(bench, solid)))
+    give(bench, Numbers(bench).taking_away(bench.solid_model(solid)))
 
 
-def copies(bench: Selecting, solid: int, ways: Sequence[Sequence[Change]]) -> Tuple[Copy, ...]:
+def copies(bench: Bench, solid: int, ways: Sequence[Sequence[Change]]) -> Tuple[Copy, ...]:
     """A copy of the solid for each sequence of changes of place. Refused: NoSolid, PointRange, OffLattice, NumbersSpent."""
-    model, numbers = solid_model(bench, solid), Numbers(bench)
+    model, numbers = bench.solid_model(solid), Numbers(bench)
     renumberings = [numbers.instead_of(model) for _ in ways]
     made = [renumbered(reduce(placed, way, model), new) for way, new in zip(ways, renumberings)]
     give(bench, [line for copied in made for line in numbers.making(copied)])
     return tuple(Copy(new['solid'][solid], *(new[kind] for kind in KINDS[1:])) for new in renumberings)
 
 
-def place(bench: Selecting, solids: Sequence[int], change: Change) -> None:
+def place(bench: Bench, solids: Sequence[int], change: Change) -> None:
     """Solids come to another place, and all their numbers stay. Refused: NoSolid, PointRange, OffLattice."""
-    models = [solid_model(bench, solid) for solid in solids]
+    models = [bench.solid_model(solid) for solid in solids]
     after, numbers = [placed(model, change) for model in models], Numbers(bench)
     give(bench, [line for old, new in zip(models, after) for line in (*numbers.taking_away(old), *numbers.making(new))])
 

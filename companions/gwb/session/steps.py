@@ -1,27 +1,28 @@
 """Steps to undo: single commands, groups of them, and drafts, which are one command."""
 
 from contextlib import contextmanager
-from typing import Iterator, Sequence
+from typing import ContextManager, Iterator, Sequence
 
 from ..errors import MemoryRefused, NoDraft
 from .conversation import Conversation
 from .journal import Done, State
+from .kernel import Kernel
 
 
-class Steps(Conversation):
-    """A conversation whose commands may be given together: what isn't made whole leaves nothing behind."""
+class Steps:
+    """Commands of a conversation given together: what isn't made whole leaves nothing behind."""
+
+    def __init__(self, kernel: Kernel, conversation: Conversation) -> None:
+        self._kernel, self._journal, self._conversation = kernel, kernel.journal, conversation
 
     @contextmanager
     def draft(self) -> Iterator[None]:
-        """The operators given in it are one command. By an exception it is abandoned: all is as before, what can be redone included.
-
-        It takes operators and `ring` alone, and what reads the model, which is the draft's; everything else raises InDraft. Calls of other
-        threads wait for its end."""
-        with self._turn:
+        """The operators given in it are one command. By an exception it is abandoned."""
+        with self._kernel.lock:
             self._begin_block('draft')
             try:
-                with self._disagreeing():
-                    self._unless_refused(self._lines.open_draft)
+                with self._kernel.disagreeing():
+                    self._kernel.unless_refused(self._kernel.lines.open_draft)
                     self._journal.open_draft()
                 yield
                 self._commit()
@@ -31,40 +32,31 @@ class Steps(Conversation):
 
     @contextmanager
     def group(self) -> Iterator[None]:
-        """The calls given in it are one step to undo. By an exception all of them are taken back, what could be redone before included.
-
-        It takes all but `undo` and `redo`, which raise InGroup; groups and drafts may stand in it. Calls of other threads wait for its end."""
-        with self._turn:
+        """The calls given in it are one step to undo. By an exception all of them are taken back."""
+        with self._kernel.lock:
             self._begin_block('group')
-            before, outer = self._journal.state, self._group_from
+            before, outer = self._journal.state, self._journal.group_from
             try:
                 if outer is None:
-                    self._group_from = before.at
+                    self._journal.group_from = before.at
                 yield
             except BaseException:
                 self._undo_to(before)
                 raise
             finally:
-                self._group_from = outer
+                self._journal.group_from = outer
 
     def _begin_block(self, word: str) -> None:
         """A draft or a group begins, which a draft doesn't take."""
-        if not self._is_inside:
-            self._begin_turn()
-        self._refuse_in_draft(word)
+        if not self._kernel.is_inside:
+            self._kernel.begin_turn()
+        self._journal.refuse_in_draft(word)
 
-    @contextmanager
-    def _step(self, *, operators_alone: bool = False) -> Iterator[None]:
+    def one(self, *, operators_alone: bool = False) -> ContextManager[None]:
         """The commands given in it are one step to undo; operators alone one command. Where one isn't accepted, all is as before."""
         if not operators_alone:
-            with self.group():
-                yield
-        elif self._journal.is_drafting:
-            with self._part_of_draft():
-                yield
-        else:
-            with self.draft():
-                yield
+            return self.group()
+        return self._part_of_draft() if self._journal.is_drafting else self.draft()
 
     @contextmanager
     def _part_of_draft(self) -> Iterator[None]:
@@ -77,18 +69,26 @@ class Steps(Conversation):
                 self._abandon()
             raise
 
-    def _step_through(self, word: str, commands: int) -> None:
+    def undo(self, one_command: bool) -> None:
+        """Takes the last step back, or one command of it."""
+        self._through('undo', 1 if one_command else self._journal.step_back())
+
+    def redo(self, one_command: bool) -> None:
+        """Does the step that was taken back last again, or one command of it."""
+        self._through('redo', 1 if one_command else self._journal.step_ahead())
+
+    def _through(self, word: str, commands: int) -> None:
         """Undoes or redoes so many commands, the word says which: all of them or none."""
-        self._refuse_in_draft(word)
-        self._refuse_in_group(word)
+        self._journal.refuse_in_draft(word)
+        self._journal.refuse_in_group(word)
         before = self._journal.state
         try:
             for _ in range(commands):
-                self._go(word)
+                self._conversation.step(word)
         except BaseException:
             if self._journal.state is not before:
                 self._journal.restore(before)
-                self._agrees = False
+                self._kernel.agrees = False
             raise
 
     def _commit(self) -> None:
@@ -98,19 +98,19 @@ class Steps(Conversation):
         if not self._journal.draft:
             self._abandon()
             return
-        with self._disagreeing():
-            self._lines.commit()
-            self._journal.commit(self._begins_step())
+        with self._kernel.disagreeing():
+            self._kernel.lines.commit()
+            self._journal.commit()
 
     def _abandon(self) -> None:
         """The draft ends, if it is still open: its steps are taken back."""
         if not self._journal.is_drafting:
             return
         steps = self._journal.end_draft()
-        self._follow(lambda: self._take_back_draft(steps))
+        self._kernel.follow(lambda: self._take_back_draft(steps))
 
     def _take_back_draft(self, steps: int) -> None:
-        if not self._lines.abandon(steps):
+        if not self._kernel.lines.abandon(steps):
             self._journal.restore(self._journal.state, steps)
             self._make_redoable(self._journal.ahead)
 
@@ -121,10 +121,10 @@ class Steps(Conversation):
         self._abandon()
         made = self._journal.held[before.at:]
         self._journal.restore(before, len(made))
-        self._follow(lambda: self._take_back(made, self._journal.ahead))
+        self._kernel.follow(lambda: self._take_back(made, self._journal.ahead))
 
     def _take_back(self, made: Sequence[Done], ahead: Sequence[Done]) -> None:
-        self._unmake(made)
+        self._kernel.unmake(made)
         if made:
             self._make_redoable(ahead)
 
@@ -133,8 +133,8 @@ class Steps(Conversation):
         given = 0
         try:
             for given, done in enumerate(ahead):
-                self._lines.give(done.calls)
+                self._kernel.lines.give(done.calls)
             given = len(ahead)
         except MemoryRefused:
             self._journal.drop_ahead(given)
-        self._unmake(ahead[:given])
+        self._kernel.unmake(ahead[:given])

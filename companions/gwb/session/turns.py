@@ -3,54 +3,76 @@
 from functools import wraps
 from inspect import isfunction
 from threading import RLock
-from typing import Any, Callable, TypeVar, cast
+from typing import Any, Callable, Protocol, Type, TypeVar, cast
 
 Method = TypeVar('Method', bound=Callable[..., Any])
+Taker = TypeVar('Taker')
 
 
-class TakingTurns:
-    """What is shared by threads: each public method of the classes below is a turn, and a turn begins with `_begin_turn` but of those that need
-    nothing to be put right."""
-
-    _as_it_is = ('close', 'save', 'script')
+class Turns:
+    """What is shared by threads: one of them has the turn."""
 
     def __init__(self) -> None:
-        self._turn = RLock()
-        self._is_inside = False
+        self.lock = RLock()
+        self.is_inside = False
 
-    def __init_subclass__(cls) -> None:
-        super().__init_subclass__()
-        for name, method in list(vars(cls).items()):
-            if isfunction(method) and not name.startswith('_'):
-                setattr(cls, name, in_turn(method))
+    def begin_turn(self) -> None:
+        """Called where a call isn't given within another one."""
 
-    def _begin_turn(self) -> None:
-        """Called where a method isn't called by another one."""
+    def take(self, call: Callable[[], Any], *, as_it_is: bool = False) -> Any:
+        """What a call gives, as a turn of its own where it isn't given in one, which begins with `begin_turn` unless all may stay as it is."""
+        with self.lock:
+            if self.is_inside:
+                return call()
+            self.is_inside = True
+            try:
+                if not as_it_is:
+                    self.begin_turn()
+                return call()
+            finally:
+                self.is_inside = False
 
 
 def in_turn(method: Method) -> Method:
-    """The method as a turn of its own, where it isn't called in one."""
+    """The method of what has turns, as a turn."""
 
     @wraps(method)
-    def taken(self: TakingTurns, *values: Any, **named: Any) -> Any:
-        with self._turn:
-            if self._is_inside:
-                return method(self, *values, **named)
-            self._is_inside = True
-            try:
-                if method.__name__ not in self._as_it_is:
-                    self._begin_turn()
-                return method(self, *values, **named)
-            finally:
-                self._is_inside = False
+    def taken(self: Turns, *values: Any, **named: Any) -> Any:
+        return self.take(lambda: method(self, *values, **named))
+
+    return cast(Method, taken)
+
+
+def taking_turns(*as_it_is: str) -> Callable[[Type[Taker]], Type[Taker]]:
+    """Each public method of a class, those of its bases included, is a turn of its `_turns`; those of these names need nothing to be put right."""
+
+    def taking(cls: Type[Taker]) -> Type[Taker]:
+        for name in dir(cls):
+            method = getattr(cls, name)
+            if isfunction(method) and not name.startswith('_'):
+                setattr(cls, name, _turn_of_another(method, name in as_it_is))
+        return cls
+
+    return taking
+
+
+class _Taking(Protocol):
+    _turns: Turns
+
+
+def _turn_of_another(method: Method, as_it_is: bool) -> Method:
+
+    @wraps(method)
+    def taken(self: _Taking, *values: Any, **named: Any) -> Any:
+        return self._turns.take(lambda: method(self, *values, **named), as_it_is=as_it_is)
 
     return cast(Method, taken)
 
 
 class PartOfTurns:
-    """What belongs to something that takes turns, its `_bench`: each public property of the classes below is whole, as a turn is."""
+    """What belongs to something that has turns, its `_kernel`: each public property of the classes below is whole, as a turn is."""
 
-    _bench: Any
+    _kernel: Any
 
     def __init_subclass__(cls) -> None:
         super().__init_subclass__()
@@ -63,7 +85,7 @@ def _whole(getter: Method) -> Method:
 
     @wraps(getter)
     def taken(self: PartOfTurns) -> Any:
-        with self._bench._turn:
+        with self._kernel.lock:
             return getter(self)
 
     return cast(Method, taken)

@@ -6,20 +6,19 @@ from ..geometry.box_index import box_of
 from ..geometry.model import Model
 from ..geometry.outlines import Impossible
 from ..joining.combining import sheets_of
-from . import arguments
 from .adding import Addition, add_sheets, addition
-from .features import Features
-from .solids import Numbers, solid_model
+from .bench import Bench
+from .solids import Numbers
 
 
-def united(bench: Features, solids: Sequence[int]) -> int:
+def united(bench: Bench, solids: Sequence[int]) -> int:
     """Makes one solid of several that touch, as one command: the number of the first one.
 
     Refused: NoSolid; NoContact: a solid touches the others in no face; Overlap: two have room in common; Meets: the union would touch
     itself; NotFlat, OffLattice."""
-    first, left = solids[0], [solid_model(bench, solid) for solid in solids][1:]
+    first, left = solids[0], [bench.solid_model(solid) for solid in solids][1:]
     overlap = Impossible('Overlap', first, 'the solids overlap, or their union would touch itself')
-    with bench._step(operators_alone=True):
+    with bench.step(operators_alone=True):
         while left:
             numbers = Numbers(bench)
             held, other = _first_joined(bench, first, left, numbers, overlap)
@@ -28,20 +27,20 @@ def united(bench: Features, solids: Sequence[int]) -> int:
     return first
 
 
-def _first_joined(bench: Features, first: int, left: Sequence[Model], numbers: Numbers, overlap: Impossible) -> Tuple[Addition, Model]:
+def _first_joined(bench: Bench, first: int, left: Sequence[Model], numbers: Numbers, overlap: Impossible) -> Tuple[Addition, Model]:
     """The first of the solids left that touches the first one in a face, and what comes of both."""
     for other in left:
         sheets = sheets_of(other)
-        near = bench._near().faces_near(first, box_of(side.start for sheet in sheets for side in sheet.sides))
+        near = bench.near().faces_near(first, box_of(side.start for sheet in sheets for side in sheet.sides))
         held = addition(bench, first, sheets, numbers, overlap, other=[other]) if near else None
         if held is not None and held.made.is_joined:
             return held, other
     raise Impossible('NoContact', left[0].solids[0], f'solid {left[0].solids[0]} touches the others in no face')
 
 
-def solid_numbers(bench: Features, value: object) -> List[int]:
+def solid_numbers(bench: Bench, value: object) -> List[int]:
     """At least two different numbers of solids of the bench."""
-    found = arguments.numbers('solids', value, 'solid', bench)
+    found = bench.several('solids', value, 'solid')
     if len(found) < 2 or len(set(found)) < len(found):
         raise ValueError('solids: different numbers are wanted, at least two')
     return found

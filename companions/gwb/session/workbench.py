@@ -8,18 +8,19 @@
     Fraction(96, 1)
 
 Numbers of new things may be given, by name, as the script language does; where one isn't, the workbench takes a free one.
-Methods are in parts: commands (commands.py), selection (selection.py), features (features.py), solids as things (solid_methods.py),
-measures (measuring.py), labels and files (exporting.py), and scripts and drawings here.
+Methods are in parts over one bench (bench.py): commands (commands.py), selection (selection.py), features (feature_methods.py), solids as
+things (solid_methods.py), measures (measuring.py), labels and files (exporting.py), and the session itself, scripts and drawings here.
 """
 
 from html import escape
 from pathlib import Path
 from tempfile import NamedTemporaryFile
-from typing import Any, Iterator, Optional, Tuple
+from typing import Any, ContextManager, Iterator, NoReturn, Optional, Tuple
 from webbrowser import open as open_in_browser
 
 from ..errors import CompanionError, Complaint, InDraft
 from ..formats.appearance import appearances_in, comments
+from ..geometry.model import Model
 from ..protocol.complaints import complaint
 from ..protocol.language import is_answered
 from ..protocol.listing import read_model
@@ -27,17 +28,37 @@ from ..protocol.replies import Reply, is_listed
 from ..scripts.inversion import script_of
 from ..scripts.unit_comments import unit_in
 from . import arguments
+from .bench import Bench
 from .calls import call_in
+from .commands import Commands
 from .exporting import Exporting
+from .feature_methods import FeatureMethods
+from .measuring import Measuring
+from .results import Numbers
 from .saved_steps import mark_in, saved_lines
+from .selection import Selecting
+from .solid_methods import SolidMethods
+from .turns import Turns, taking_turns
 
 # The endings and the first words of files that gwb-import reads.
 _IMPORTED = ('.obj', '.off', '.stl', '.3mf', '.amf', '.ply', '.step', '.stp')
 _FIRST_WORDS = ('v', 'vn', 'vt', 'f', 'o', 'g', 'mtllib', 'OFF', 'ply', 'solid', 'ISO-10303-21;')
 
 
-class Workbench(Exporting):
+@taking_turns('close', 'save', 'script')
+class Workbench(SolidMethods, FeatureMethods, Commands, Selecting, Measuring, Exporting):
     """A running gwb. Each command is a method; one that isn't accepted raises Refused, Faulted or MemoryRefused."""
+
+    def __init__(self, program: Optional[arguments.Path] = None) -> None:
+        """Starts the program at the path, or the one that the environment variable GWB, the repository or the path has.
+
+        Where that is a shared object, `libgwb.so`, it is loaded in place of it.
+        """
+        super().__init__(Bench(program))
+        self._turns: Turns = self._bench.kernel
+
+    def __reduce__(self) -> NoReturn:
+        raise TypeError('a workbench holds a running session, so it is neither copied nor pickled: save() writes its script')
 
     def __enter__(self) -> 'Workbench':
         return self
@@ -45,18 +66,49 @@ class Workbench(Exporting):
     def __exit__(self, *_: object) -> None:
         self.close()
 
+    def close(self) -> int:
+        """Ends the program; its status."""
+        return self._bench.kernel.close()
+
+    def ask(self, line: str) -> Reply:
+        """The reply to one line of the script language, whatever it is. What it makes, undoes or redoes is taken account of; of a draft
+        all is undone or redone."""
+        return self._bench.conversation.ask(arguments.line('line', line))
+
+    def draft(self) -> ContextManager[None]:
+        """The operators given in it are one command. By an exception it is abandoned: all is as before, what can be redone included.
+
+        It takes operators and `ring` alone, and what reads the model, which is the draft's; everything else raises InDraft. Calls of other
+        threads wait for its end."""
+        return self._bench.steps.draft()
+
+    def group(self) -> ContextManager[None]:
+        """The calls given in it are one step to undo. By an exception all of them are taken back, what could be redone before included.
+
+        It takes all but `undo` and `redo`, which raise InGroup; groups and drafts may stand in it. Calls of other threads wait for its end."""
+        return self._bench.steps.group()
+
+    def listing(self) -> Model:
+        """The model held."""
+        return self._bench.kernel.listing()
+
+    def half_edges(self, loop: arguments.LoopNumber) -> Numbers:
+        """The half-edges of a loop, from the least on: none of a lone loop, or of one that is not there."""
+        found = self._bench.kernel.reader().loop(self._bench.number('loop', loop))
+        return found.halves if found else ()
+
     def __repr__(self) -> str:
-        return f'<Workbench, {self._journal.at} command{"" if self._journal.at == 1 else "s"} held>'
+        return f'<Workbench, {self._bench.kernel.journal.at} command{"" if self._bench.kernel.journal.at == 1 else "s"} held>'
 
     def script(self) -> str:
         """The script of what is held: the accepted commands, a line each; undone ones are left out."""
-        return ''.join(f'{line}\n' for line in self._journal.lines)
+        return ''.join(f'{line}\n' for line in self._bench.kernel.journal.lines)
 
     def save(self, path: arguments.Path) -> None:
         """Writes the script to a file. Comments in it say which commands are one step, the unit, and the labels, so that `load` knows them
         again."""
         file = Path(arguments.path('path', path))
-        lines = [*saved_lines(self._journal), *comments(self._labels)]
+        lines = [*saved_lines(self._bench.kernel.journal), *comments(self._bench.labels)]
         file.write_text(''.join(f'{line}\n' for line in lines), encoding='ascii')
 
     @classmethod
@@ -71,7 +123,7 @@ class Workbench(Exporting):
         bench = cls(program)
         try:
             bench._take(file, enumerate(script.split(b'\n'), 1))
-            bench._labels.update(appearances_in(data.decode('utf-8', 'replace').splitlines()))
+            bench._bench.labels.update(appearances_in(data.decode('utf-8', 'replace').splitlines()))
         except BaseException:
             bench.close()
             raise
@@ -86,7 +138,7 @@ class Workbench(Exporting):
                 return
             mark, unit = mark_in(line), unit_in(line)
             if unit is not None:
-                self._journal.set_unit(unit)
+                self._bench.kernel.journal.set_unit(unit)
             elif mark:
                 taken += mark.commands
                 with self.group() if mark.kind == 'step' else self.draft():
@@ -98,8 +150,8 @@ class Workbench(Exporting):
     def _take_line(self, file: Path, number: int, line: str) -> None:
         """Gives a line of a script; a complaint names the file and the line."""
         try:
-            if self._journal.is_drafting:
-                self._do(*_parts_of(line))
+            if self._bench.kernel.journal.is_drafting:
+                self._bench.conversation.do(*_parts_of(line))
                 return
             reply = self.ask(line)
             if reply.is_complaint:

@@ -1,0 +1,89 @@
+"""The methods of a workbench that make features of outlines (features.py)."""
+
+from typing import Optional, Sequence
+
+from . import arguments, features
+from .bench import Methods
+from .results import Hole, Pocket, Profile, Ring
+
+_MOST_SIDES = 1_000_000
+
+
+class FeatureMethods(Methods):
+    """Larger things than commands, made of commands. Each method is one step to undo."""
+
+    def profile(self, points: arguments.Points, *, along: arguments.Point, solid: Optional[int] = None) -> Profile:
+        """A new solid: the outline through the points, moved along the vector. It is never inside out, whichever way the points run.
+
+        Refused: FewPoints, RepeatedPoint; NoArea: the outline has no area; NotInPlane: a point lies off the plane of the others;
+        OutlineCrossed: the outline crosses or touches itself; AlongPlane: the vector lies in the plane of the points."""
+        outline, way = arguments.points('points', points), arguments.point('along', along)
+        return features.profile(self._bench, outline, way, self._bench.new('solid', solid))
+
+    def ring(self, face: arguments.Face, points: arguments.Points) -> Ring:
+        """A face inside the face, with the outline through the points, and a ring around it.
+
+        Refused: NoFace; NotFlat: the face isn't flat; FewPoints, RepeatedPoint; NoArea: the outline has no area; NotInPlane: a point lies off
+        the plane of the face; OutlineCrossed: the outline crosses or touches itself; OutlineOutside: it crosses or touches the boundary of the
+        face, or doesn't lie inside; OutlineAroundRing: a ring of the face lies inside the outline."""
+        return features.ring(self._bench, self._bench.number('face', face), arguments.points('points', points))
+
+    def pocket(self, face: arguments.Face, points: arguments.Points, depth: int) -> Pocket:
+        """A pocket so deep behind the outline in the face.
+
+        Refused: NoFace; NotFlat: the face isn't flat; FewPoints, RepeatedPoint; NoArea: the outline has no area; NotInPlane: a point lies off
+        the plane of the face; OutlineCrossed: the outline crosses or touches itself; OutlineOutside: it crosses or touches the boundary of the
+        face, or doesn't lie inside; OutlineAroundRing: a ring of the face lies inside the outline; OffLattice: no whole vector along the
+        normal is so long; Meets: the pocket would come through, or meet or touch something of the solid."""
+        length = -arguments.positive('depth', depth)
+        return features.raised(self._bench, self._bench.number('face', face), arguments.points('points', points), length)
+
+    def boss(self, face: arguments.Face, points: arguments.Points, height: int) -> Pocket:
+        """A boss so high on the outline in the face.
+
+        Refused: NoFace; NotFlat: the face isn't flat; FewPoints, RepeatedPoint; NoArea: the outline has no area; NotInPlane: a point lies off
+        the plane of the face; OutlineCrossed: the outline crosses or touches itself; OutlineOutside: it crosses or touches the boundary of the
+        face, or doesn't lie inside; OutlineAroundRing: a ring of the face lies inside the outline; OffLattice: no whole vector along the
+        normal is so long; Meets: the boss would meet or touch something of the solid."""
+        length = arguments.positive('height', height)
+        return features.raised(self._bench, self._bench.number('face', face), arguments.points('points', points), length)
+
+    def hole(self, face: arguments.Face, points: arguments.Points) -> Hole:
+        """A hole from the outline in the face through to the opposite face.
+
+        Refused: NoFace; NotFlat: the face isn't flat; FewPoints, RepeatedPoint; NoArea: the outline has no area; NotInPlane: a point lies off
+        the plane of the face; OutlineCrossed: the outline crosses or touches itself; OutlineOutside: it crosses or touches the boundary of the
+        face or of the opposite one, or doesn't lie inside; OutlineAroundRing: a ring of either face lies inside the outline; NoOpposite: there
+        is nothing behind the outline; NotParallel: the face behind it isn't parallel; OffLattice: its plane lies off the lattice behind the
+        face; Meets: the hole would meet or touch something else of the solid."""
+        return features.hole(self._bench, self._bench.number('face', face), arguments.points('points', points))
+
+    def drill(self, face: arguments.Face, center: arguments.Point, radius: int, sides: int, *, depth: Optional[int] = None) -> Hole:
+        """A hole with a polygon of so many sides around the center, on whole numbers nearest to the circle of the radius: through, or so
+        deep.
+
+        Refused: NoFace; NotFlat: the face isn't flat; NotAcross: it doesn't lie across an axis; RepeatedPoint: two corners of the polygon fall
+        on one point; NotInPlane: the center lies off the plane of the face; OutlineOutside: the polygon crosses or touches the boundary of the
+        face or of the opposite one, or doesn't lie inside; OutlineAroundRing: a ring of either face lies inside the polygon; NoOpposite: there
+        is nothing behind it; NotParallel: the face behind it isn't parallel; Meets: the hole would meet or touch something else of the solid,
+        or with a depth come through it."""
+        number, middle = self._bench.number('face', face), arguments.point('center', center)
+        reach, count = arguments.positive('radius', radius), arguments.positive('sides', sides)
+        if not 3 <= count <= _MOST_SIDES:
+            raise ValueError(f'sides: {count} is outside 3 to {_MOST_SIDES}')
+        deep = None if depth is None else arguments.positive('depth', depth)
+        outline = features.polygon_in(self._bench, number, middle, reach, count)
+        if deep is None:
+            return features.hole(self._bench, number, outline)
+        made = features.raised(self._bench, number, outline, -deep)
+        return Hole(made.face, made.loop, made.sides, tuple(outline))
+
+    def glue_all(self, solids: Sequence[arguments.Solid]) -> int:
+        """The solids become one along the faces that match: its number, the first one's.
+
+        Refused: NoMatch: no chain of matching faces joins a solid with the first; GluedTwice: two of them match along more than the one face that a
+        gluing takes, so that the rest would touch."""
+        numbers = self._bench.several('solids', solids, 'solid')
+        if not numbers or len(set(numbers)) < len(numbers):
+            raise ValueError('solids: different numbers are wanted, at least one')
+        return features.glued(self._bench, numbers)
