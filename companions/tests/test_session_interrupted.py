@@ -21,7 +21,7 @@ TRACED = {f'{FOLDER}/{name}.py' for name in (
     'workbench', 'bench', 'kernel', 'conversation', 'new_numbers', 'pipe', 'library', 'journal', 'steps', 'turns', 'commands', 'feature_methods',
     'features', 'following', 'mirror', 'surroundings', 'selection', 'refining', 'solids', 'solid_methods')}
 # Python looks for signals where a call begins or returns: not between a line and the `try:` after it, nor between a block and its `finally`.
-NOT_BEFORE = ('try:', 'self.is_inside =', 'group_from = outer')
+NOT_BEFORE = ('try:', '.is_inside =', 'group_from = outer')
 SQUARE = [(5, 5, 20), (15, 5, 20), (15, 15, 20), (5, 15, 20)]
 
 

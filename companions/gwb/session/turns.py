@@ -2,8 +2,9 @@
 
 from functools import wraps
 from inspect import isfunction
+from operator import attrgetter
 from threading import RLock
-from typing import Any, Callable, Protocol, Type, TypeVar, cast
+from typing import Any, Callable, Type, TypeVar, cast
 
 Method = TypeVar('Method', bound=Callable[..., Any])
 Taker = TypeVar('Taker')
@@ -19,28 +20,10 @@ class Turns:
     def begin_turn(self) -> None:
         """Called where a call isn't given within another one."""
 
-    def take(self, call: Callable[[], Any], *, as_it_is: bool = False) -> Any:
-        """What a call gives, as a turn of its own where it isn't given in one, which begins with `begin_turn` unless all may stay as it is."""
-        with self.lock:
-            if self.is_inside:
-                return call()
-            self.is_inside = True
-            try:
-                if not as_it_is:
-                    self.begin_turn()
-                return call()
-            finally:
-                self.is_inside = False
-
 
 def in_turn(method: Method) -> Method:
     """The method of what has turns, as a turn."""
-
-    @wraps(method)
-    def taken(self: Turns, *values: Any, **named: Any) -> Any:
-        return self.take(lambda: method(self, *values, **named))
-
-    return cast(Method, taken)
+    return _taken(method, lambda turns: turns, False)
 
 
 def taking_turns(*as_it_is: str) -> Callable[[Type[Taker]], Type[Taker]]:
@@ -50,21 +33,28 @@ def taking_turns(*as_it_is: str) -> Callable[[Type[Taker]], Type[Taker]]:
         for name in dir(cls):
             method = getattr(cls, name)
             if isfunction(method) and not name.startswith('_'):
-                setattr(cls, name, _turn_of_another(method, name in as_it_is))
+                setattr(cls, name, _taken(method, attrgetter('_turns'), name in as_it_is))
         return cls
 
     return taking
 
 
-class _Taking(Protocol):
-    _turns: Turns
-
-
-def _turn_of_another(method: Method, as_it_is: bool) -> Method:
+def _taken(method: Method, turns_of: Callable[[Any], Turns], as_it_is: bool) -> Method:
+    """The method as a turn of its own where it isn't called in one, which begins with `begin_turn` unless all may stay as it is."""
 
     @wraps(method)
-    def taken(self: _Taking, *values: Any, **named: Any) -> Any:
-        return self._turns.take(lambda: method(self, *values, **named), as_it_is=as_it_is)
+    def taken(self: Any, *values: Any, **named: Any) -> Any:
+        turns = turns_of(self)
+        with turns.lock:
+            if turns.is_inside:
+                return method(self, *values, **named)
+            turns.is_inside = True
+            try:
+                if not as_it_is:
+                    turns.begin_turn()
+                return method(self, *values, **named)
+            finally:
+                turns.is_inside = False
 
     return cast(Method, taken)
 
