@@ -23,7 +23,10 @@ class Turns:
 
 def in_turn(method: Method) -> Method:
     """The method of what has turns, as a turn."""
-    return _taken(method, lambda turns: turns, False)
+    def itself(turns: Turns) -> Turns:
+        return turns
+
+    return _taken(method, itself, False)
 
 
 def taking_turns(*as_it_is: str) -> Callable[[Type[Taker]], Type[Taker]]:
