@@ -82,6 +82,7 @@ impl Arena {
     /// Cuts b out of its loop, where a stands before it: `cut` with 0 and a part of one. b is loose then, alone in its ring.
     ///
     /// It walks over nothing.
+    #[inline(always)]
     pub fn cut_alone(&mut self, a: HalfEdge, b: HalfEdge)
         requires a_there { has_half self.old.model (code a) ≡ true }
         requires b_there { has_half self.old.model (code b) ≡ true }
@@ -96,12 +97,12 @@ impl Arena {
         let goes = b.code();
         let kept = self.rings.label(stays);
         let face = self.loops.known(kept).face;
-        self.rings.cut_alone(stays, goes, 0);
         let cell = LoopCell {
             face,
             stored: StoredContent::At(stays),
         };
         self.loops.set(kept, cell);
+        self.rings.cut_alone(stays, goes, 0);
     }
 
     /// Joins to a's loop a half-edge that is loose, alone in its ring: `join` with a ring of one. It stands after a then.

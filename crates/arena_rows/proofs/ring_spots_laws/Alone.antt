@@ -13,7 +13,7 @@ use Rattle.arena_rows.proofs.ring_spots_laws.SpotLaws.{ring_is, ring_same, ring_
 use Rattle.arena_rows.proofs.ring_spots_laws.Relabelling.{known_step}
 use Rattle.arena_rows.proofs.ring_spots_laws.LoopSpots.{blank-labelled, loops-labelled, loops-spliced, ring-loops}
 use Rattle.arena_rows.proofs.ring_spots_laws.RingViews.{seen_label}
-use Rattle.arena_rows.proofs.ring_spots_laws.LabelLaws.{loops-put, share-cut, share-one, share_turned, labelled-join_to, labelled-apart}
+use Rattle.arena_rows.proofs.ring_spots_laws.LabelLaws.{loops-put, share-cut, share-cut_to, share-one, share_turned, labelled-join_to, labelled-apart}
 
 -- the ring of a code that leads to itself
 pub ring_alone : (sp : Spots) → AreRings sp → (c : ℕ) → live sp c ≡ true → next sp c ≡ c → ring sp c ≡ c ∷ []
@@ -133,7 +133,7 @@ labelled_again sp rows rows' f l hs loops = λ i q. go (is_in q hs) (sp q) i whe
   go false o = ap (λ (g : ℕ → ℕ). map_spot (λ s. record s { label = g s.label }) o) loops
 
 -- the code that was cut off has a label that stands for loop l
-module _ (sp cutted : Spots) (known : ℕ → Bool) (rows rows' : List (Option Label)) (b free : ℕ) (R : AreRings cutted) (b_there : live cutted b ≡ true) (whole : AreLabelled (labelled cutted free (ring cutted b)) known rows') where
+module _ (cutted : Spots) (known : ℕ → Bool) (rows rows' : List (Option Label)) (b free : ℕ) (R : AreRings cutted) (b_there : live cutted b ≡ true) (whole : AreLabelled (labelled cutted free (ring cutted b)) known rows') where
   pub label_free : label (labelled cutted free (ring cutted b)) b ≡ free
   label_free = label-labelled_in cutted free (ring cutted b) b (R.rings b b_there).item b_there
 
@@ -143,16 +143,21 @@ module _ (sp cutted : Spots) (known : ℕ → Bool) (rows rows' : List (Option L
   pub free_there : has_label rows' free ≡ true
   free_there = subst (λ n. has_label rows' n ≡ true) label_free (whole.table.labels_there b live_free)
 
-  pub seen-cut_alone : (a l : ℕ) (new : Spots) (rows2 : List (Option Label)) → cutted ≡ spliced_at sp a b → new ≡ labelled cutted free (ring cutted b) → loop_at rows' ≡ loop_at rows → ((q : ℕ) → loop_at rows2 q ≡ cond (nat_eq q free) l (loop_at rows' q)) →
-      in_loops rows2 new ≡ labelled (spliced_at (in_loops rows sp) a b) l (ring (spliced_at (in_loops rows sp) a b) b)
-  seen-cut_alone a l new rows2 cut is loops stand =
+  pub seen-apart : (l : ℕ) (new : Spots) (rows2 : List (Option Label)) → new ≡ labelled cutted free (ring cutted b) → loop_at rows' ≡ loop_at rows → ((q : ℕ) → loop_at rows2 q ≡ cond (nat_eq q free) l (loop_at rows' q)) →
+      in_loops rows2 new ≡ labelled (in_loops rows cutted) l (ring (in_loops rows cutted) b)
+  seen-apart l new rows2 is loops stand =
       ap (in_loops rows2) is
       ∙ loops-put (labelled cutted free (ring cutted b)) known rows' whole rows2 b l live_free (subst (λ n. (q : ℕ) → loop_at rows2 q ≡ cond (nat_eq q n) l (loop_at rows' q)) (sym label_free) stand)
       ∙ ap (labelled (in_loops rows' (labelled cutted free (ring cutted b))) l) (ring-labelled cutted R b free b_there b)
       ∙ labelled_again cutted rows rows' free l (ring cutted b) loops
       ∙ ap (labelled (in_loops rows cutted) l) (sym (ring-loops rows cutted b))
-      ∙ ap (λ (s : Spots). labelled (in_loops rows s) l (ring (in_loops rows s) b)) cut
-      ∙ ap (λ (s : Spots). labelled s l (ring s b)) (loops-spliced rows sp a b)
+
+-- the same, told of what was before the cut
+pub seen-cut_alone : (sp cutted seen : Spots) (rows : List (Option Label)) (a b l : ℕ) → cutted ≡ spliced_at sp a b → seen ≡ labelled (in_loops rows cutted) l (ring (in_loops rows cutted) b) →
+    seen ≡ labelled (spliced_at (in_loops rows sp) a b) l (ring (spliced_at (in_loops rows sp) a b) b)
+seen-cut_alone sp cutted seen rows a b l cut is = is
+    ∙ ap (λ (s : Spots). labelled (in_loops rows s) l (ring (in_loops rows s) b)) cut
+    ∙ ap (λ (s : Spots). labelled s l (ring s b)) (loops-spliced rows sp a b)
 
 -- a code that was alone has got the label of a's ring, and stands there
 module _ (sp : Spots) (known : ℕ → Bool) (rows : List (Option Label)) (A : AreLabelled sp known rows) (a b : ℕ) (a_there : live sp a ≡ true) (b_there : live sp b ≡ true) (other : label sp b ≢ label sp a) (new : Spots) (is : new ≡ spliced_at (labelled sp (label sp a) (ring sp b)) a b) where
@@ -186,3 +191,10 @@ cut_off sp known rows A a b h e ne =
     let k : live sp b ≡ true = (A.table.rings.rings a h).awake b together in
     let S = share-cut sp known rows A a b h together ne in
     record { b_there = k; together = together; rings = S.table.rings; live_cut = S.b_there; alone = ring_alone (spliced_at sp a b) S.table.rings b S.b_there (next_cut sp a b k e ne) }
+
+-- b takes the label that it owns, where that isn't the one of the ring that it was in
+pub labelled_off : (sp : Spots) (known : ℕ → Bool) (rows : List (Option Label)) (A : AreLabelled sp known rows) (a b : ℕ) (there : live sp a ≡ true) (e : next sp a ≡ b) (ne : a ≢ b) (now : Spots) (known' : ℕ → Bool) → now ≡ spliced_at sp a b → known' ≡ known →
+    (l : ℕ) → l ≡ own rows b → l ≢ label now b → has_label rows b ≡ true → AreLabelled (labelled now l (ring now b)) known' rows
+labelled_off sp known rows A a b there e ne now known' cut same l is other b_known =
+    let g = cut_off sp known rows A a b there e ne in
+    labelled_own now known' rows a b (share-cut_to sp known rows A a b there g.together ne now known' cut same) (ap (λ (s : Spots). ring s b) cut ∙ g.alone) (λ q. other (is ∙ q)) l is b_known

@@ -1,12 +1,12 @@
 -- Rings of live codes, and what becomes of them.
 --     ring_is, ring_same      the ring of a code, by any list that `next` leads round;  one for all its items
 --     AreRings-..       the rings stay rings
-use Rattle.std.proofs.Common.{◌≡◌, ◌≢◌, ℕ, ◌+◌, ◌≤◌, ◌<◌, Bool, true, false, cond, nat_eq, List, [], ◌∷◌, ◌++◌, length, Option, Some, None, is_some, refl, sym, ap, subst, ◌∙◌, arith, true≢false, inl, inr}
+use Rattle.std.proofs.Common.{◌≡◌, ◌≢◌, ℕ, ◌+◌, ◌<◌, Bool, true, false, cond, nat_eq, List, ◌∷◌, ◌++◌, Option, Some, None, is_some, refl, sym, ap, subst, ◌∙◌, arith, true≢false, inl, inr}
 use Rattle.std.proofs.lemmas.Bool.Decides.{nat_tests}
 use Rattle.raw_ring.specs.Rings.{Spot, or_zero, of_spot}
 use Rattle.boundary_model.specs.Items.{count, IsIn, IsApart, head_or}
 use Rattle.boundary_model.specs.Rings.{canonical, orbit, IsRing, splice, cut_left, cut_right, joined, rest, between, beyond}
-use Rattle.boundary_model.proofs.Lists.{count-append, IsIn_or_not, tick_same}
+use Rattle.boundary_model.proofs.Lists.{count-append, IsIn_or_not}
 use Rattle.boundary_model.proofs.Members.{length_below}
 use Rattle.boundary_model.proofs.Rotations.{count-canonical, canonical-canonical}
 use Rattle.boundary_model.proofs.Rings.{IsPath-agree, canonical-orbit, next_is_successor, IsIn_successor}

@@ -3,9 +3,9 @@ ghost use Rattle.std.specs.Prelude.{◌≡◌, ◌≢◌, true, Some, [], ◌∷
 ghost use Rattle.std.specs.FinMap.{contains_key};
 ghost use Rattle.raw_ring.specs.Rings.{spot, next_of};
 ghost use Rattle.arena_rows.specs.ring_spots.Spots.{live, label, ring, labelled, spliced_at};
-ghost use Rattle.arena_rows.specs.ring_spots.Labels.{loop_at, in_loops, AreLabelled, ShareLabel};
+ghost use Rattle.arena_rows.specs.ring_spots.Labels.{in_loops, AreLabelled, ShareLabel};
 
-use crate::ring_spots::labels::{Label, hand_over, own, stand_for};
+use crate::ring_spots::labels::{Label, hand_over, own, row_of, stand_for, stand_for_own};
 use crate::ring_spots::links;
 use raw_cells::Rows;
 use raw_ring::Rings;
@@ -32,25 +32,29 @@ pub(crate) fn cut_alone(rings: &mut Rings, labels: &mut Rows<Label>, a: u32, b: 
     ensures known { contains_key rings.new ≡ contains_key rings.old }
 {
     links::exchange(rings, a, b);
-    let free = free_label(rings, labels, b, a);
-    relabel_one(rings, b, free);
-    stand_for(labels, free, l);
+    let row = row_of(labels, b);
+    if row.own == rings.label(b) {
+        give_up_label(rings, labels, a, b, l);
+    } else {
+        relabel_one(rings, b, row.own);
+        stand_for_own(labels, b, row, l);
+    }
 }
 
-/// A label for `part`, which is alone. The one that it shares with the ring of `rest` is owned in that ring then.
-fn free_label(rings: &Rings, labels: &mut Rows<Label>, part: u32, rest: u32) -> u32
-    requires shared { ShareLabel (spot rings.now) (contains_key rings.now) labels.old rest part }
-    requires alone { ring (spot rings.now) part ≡ part ∷ [] }
-    ensures whole { AreLabelled (labelled (spot rings.now) result (ring (spot rings.now) part)) (contains_key rings.now) labels.new }
-    ensures loops { loop_at labels.new ≡ loop_at labels.old }
+/// Gives b, which is alone and owns the label of the ring that it was in, another one, which stands for loop l. The label stays with the
+/// ring, and a owns it.
+#[inline(never)]
+fn give_up_label(rings: &mut Rings, labels: &mut Rows<Label>, a: u32, b: u32, l: u32)
+    requires shared { ShareLabel (spot rings.old) (contains_key rings.old) labels.old a b }
+    requires alone { ring (spot rings.old) b ≡ b ∷ [] }
+    ensures whole { AreLabelled (spot rings.new) (contains_key rings.new) labels.new }
+    ensures spots { in_loops labels.new (spot rings.new) ≡ labelled (in_loops labels.old (spot rings.old)) l (ring (in_loops labels.old (spot rings.old)) b) }
+    ensures known { contains_key rings.new ≡ contains_key rings.old }
 {
-    let shared = rings.label(part);
-    let other = own(labels, part);
-    if other != shared {
-        return other;
-    }
-    hand_over(labels, rest, shared);
-    own(labels, part)
+    hand_over(labels, a, rings.label(b));
+    let free = own(labels, b);
+    relabel_one(rings, b, free);
+    stand_for(labels, free, l);
 }
 
 /// Gives a code, which is alone in its ring, the label l.

@@ -20,7 +20,7 @@ pub struct Label {
 }
 
 /// What stands at the number, whether its row is written or not.
-fn row_of(labels: &Rows<Label>, number: u32) -> Label
+pub(crate) fn row_of(labels: &Rows<Label>, number: u32) -> Label
     ensures { result ≡ row_of labels.now number }
 {
     match labels.find(number) {
@@ -82,6 +82,21 @@ pub(crate) fn stand_for(labels: &mut Rows<Label>, label: u32, l: u32)
     }
     row.loop_number = l;
     write(labels, label, row);
+}
+
+/// Makes the label that a code owns stand for a loop, or for none where l is 0. It is given the code's row, so that another one is read only
+/// where the code owns the label of another number.
+pub(crate) fn stand_for_own(labels: &mut Rows<Label>, code: u32, row: Label, l: u32)
+    requires row { row ≡ row_of labels.old code }
+    requires label { has_label labels.old row.own ≡ true }
+    ensures loops { (q : ℕ) → loop_at labels.new q ≡ cond (nat_eq q row.own) l (loop_at labels.old q) }
+    ensures own { own labels.new ≡ own labels.old }
+    ensures holder { holder labels.new ≡ holder labels.old }
+    ensures there { has_label labels.new ≡ has_label labels.old }
+{
+    if row.own != code || row.loop_number != l {
+        stand_for(labels, row.own, l);
+    }
 }
 
 /// Makes a code the owner of a label. The code that owned it gets the other one's label.

@@ -1,23 +1,30 @@
-use Rattle.std.proofs.Common.{ap, sym, subst, ◌∙◌}
+use Rattle.std.proofs.Common.{refl, ap, sym, subst, ◌∙◌}
 use Rattle.std.specs.FinMap.{contains_key}
 use Rattle.raw_ring.specs.Rings.{or_zero, spot}
 use Rattle.raw_ring.proofs.Mapping.{IsLive-next}
+use Rattle.arena_rows.specs.declared.ring_spots.labels.Label.{Label}
 use Rattle.arena_rows.specs.ring_spots.Spots.{Spots, live, ring, AreRings}
-use Rattle.arena_rows.specs.ring_spots.Labels.{AreLabelled}
+use Rattle.arena_rows.specs.ring_spots.Labels.{AreLabelled, has_label}
+use Rattle.arena_rows.proofs.ring_spots_laws.RingMaps.{live_known}
 use Rattle.arena_rows.proofs.ring_spots_laws.LabelLaws.{labelled_alike, share-cut_to}
-use Rattle.arena_rows.proofs.ring_spots_laws.Alone.{cut_off, seen-cut_alone, free_there}
+use Rattle.arena_rows.proofs.ring_spots_laws.Alone.{cut_off, seen-apart, seen-cut_alone, labelled_off}
 use Rattle.arena_rows.proofs.ring_spots.alone.cut_alone.Goals as goal
 
 pub exchange-requires-clause-b : goal.exchange-requires-clause-b
 exchange-requires-clause-b c = (cut_off _ _ _ c.requires.whole c.args.a c.args.b (IsLive-next _ _ _ c.requires.follows) (ap or_zero c.requires.follows) c.requires.apart).b_there
 
-pub free_label-free-requires-clause-shared : goal.free_label-free-requires-clause-shared
-free_label-free-requires-clause-shared c =
+pub label-requires : goal.label-requires
+label-requires c =
+    let g = cut_off _ _ _ c.requires.whole c.args.a c.args.b (IsLive-next _ _ _ c.requires.follows) (ap or_zero c.requires.follows) c.requires.apart in
+    ap (λ (s : Spots). live s c.args.b) c.exchange.ensures.spots ∙ g.live_cut
+
+pub give_up_label-requires-clause-shared : goal.give_up_label-requires-clause-shared
+give_up_label-requires-clause-shared c =
     let g = cut_off _ _ _ c.requires.whole c.args.a c.args.b (IsLive-next _ _ _ c.requires.follows) (ap or_zero c.requires.follows) c.requires.apart in
     share-cut_to _ _ _ c.requires.whole c.args.a c.args.b (IsLive-next _ _ _ c.requires.follows) g.together c.requires.apart _ _ c.exchange.ensures.spots c.exchange.ensures.known
 
-pub free_label-free-requires-clause-alone : goal.free_label-free-requires-clause-alone
-free_label-free-requires-clause-alone c =
+pub give_up_label-requires-clause-alone : goal.give_up_label-requires-clause-alone
+give_up_label-requires-clause-alone c =
     let g = cut_off _ _ _ c.requires.whole c.args.a c.args.b (IsLive-next _ _ _ c.requires.follows) (ap or_zero c.requires.follows) c.requires.apart in
     ap (λ (s : Spots). ring s c.args.b) c.exchange.ensures.spots ∙ g.alone
 
@@ -31,19 +38,37 @@ relabel_one-requires-clause-alone c =
     let g = cut_off _ _ _ c.requires.whole c.args.a c.args.b (IsLive-next _ _ _ c.requires.follows) (ap or_zero c.requires.follows) c.requires.apart in
     ap (λ (s : Spots). ring s c.args.b) c.exchange.ensures.spots ∙ g.alone
 
-pub stand_for-requires : goal.stand_for-requires
-stand_for-requires c =
-    let g = cut_off _ _ _ c.requires.whole c.args.a c.args.b (IsLive-next _ _ _ c.requires.follows) (ap or_zero c.requires.follows) c.requires.apart in
-    free_there (spot c.args.rings.now) (spot c.exchange.new.rings) _ c.args.labels.now _ c.args.b _ (subst AreRings (sym c.exchange.ensures.spots) g.rings) (ap (λ (s : Spots). live s c.args.b) c.exchange.ensures.spots ∙ g.live_cut) c.free_label-free.ensures.whole
+pub stand_for_own-requires-clause-row : goal.stand_for_own-requires-clause-row
+stand_for_own-requires-clause-row c = c.row_of-row.ensures
 
-pub returns-clause-whole : goal.returns-clause-whole
-returns-clause-whole c =
-    labelled_alike _ _ _ _ (subst (λ k. AreLabelled (spot c.relabel_one.new.rings) k c.free_label-free.new.labels) (sym c.relabel_one.ensures.known)
-    (subst (λ s. AreLabelled s (contains_key c.exchange.new.rings) c.free_label-free.new.labels) (sym c.relabel_one.ensures.spots) c.free_label-free.ensures.whole))
-    c.stand_for.ensures.own c.stand_for.ensures.holder c.stand_for.ensures.there
-
-pub returns-clause-spots : goal.returns-clause-spots
-returns-clause-spots c =
+pub stand_for_own-requires-clause-label : goal.stand_for_own-requires-clause-label
+stand_for_own-requires-clause-label c =
     let g = cut_off _ _ _ c.requires.whole c.args.a c.args.b (IsLive-next _ _ _ c.requires.follows) (ap or_zero c.requires.follows) c.requires.apart in
-    seen-cut_alone (spot c.args.rings.now) (spot c.exchange.new.rings) _ c.args.labels.now _ c.args.b _ (subst AreRings (sym c.exchange.ensures.spots) g.rings) (ap (λ (s : Spots). live s c.args.b) c.exchange.ensures.spots ∙ g.live_cut) c.free_label-free.ensures.whole
-    c.args.a c.args.l _ _ c.exchange.ensures.spots c.relabel_one.ensures.spots c.free_label-free.ensures.loops c.stand_for.ensures.loops
+    ap (λ (r : Label). has_label c.args.labels.now r.own) c.row_of-row.ensures ∙ c.requires.whole.table.owners.own_there _ (c.requires.whole.table.codes_there _ (live_known _ _ g.b_there))
+
+pub returns-then-row-label-clause-spots : goal.returns-then-row-label-clause-spots
+returns-then-row-label-clause-spots c = seen-cut_alone _ _ _ _ _ _ _ c.exchange.ensures.spots c.give_up_label.ensures.spots
+
+pub returns-then-row-label-clause-known : goal.returns-then-row-label-clause-known
+returns-then-row-label-clause-known c = c.give_up_label.ensures.known ∙ c.exchange.ensures.known
+
+pub returns-else-row-label-clause-whole : goal.returns-else-row-label-clause-whole
+returns-else-row-label-clause-whole c =
+    let g = cut_off _ _ _ c.requires.whole c.args.a c.args.b (IsLive-next _ _ _ c.requires.follows) (ap or_zero c.requires.follows) c.requires.apart in
+    let whole = labelled_off _ _ _ c.requires.whole c.args.a c.args.b (IsLive-next _ _ _ c.requires.follows) (ap or_zero c.requires.follows) c.requires.apart _ _ c.exchange.ensures.spots c.exchange.ensures.known _ (ap (λ (r : Label). r.own) c.row_of-row.ensures)
+    (λ e. c.if-row-label.false (e ∙ ap or_zero c.label.ensures)) (c.requires.whole.table.codes_there _ (live_known _ _ g.b_there)) in
+    labelled_alike _ _ _ _ (subst (λ k. AreLabelled (spot c.relabel_one.new.rings) k c.args.labels.now) (sym c.relabel_one.ensures.known)
+    (subst (λ s. AreLabelled s (contains_key c.exchange.new.rings) c.args.labels.now) (sym c.relabel_one.ensures.spots) whole))
+    c.stand_for_own.ensures.own c.stand_for_own.ensures.holder c.stand_for_own.ensures.there
+
+pub returns-else-row-label-clause-spots : goal.returns-else-row-label-clause-spots
+returns-else-row-label-clause-spots c =
+    let g = cut_off _ _ _ c.requires.whole c.args.a c.args.b (IsLive-next _ _ _ c.requires.follows) (ap or_zero c.requires.follows) c.requires.apart in
+    let whole = labelled_off _ _ _ c.requires.whole c.args.a c.args.b (IsLive-next _ _ _ c.requires.follows) (ap or_zero c.requires.follows) c.requires.apart _ _ c.exchange.ensures.spots c.exchange.ensures.known _ (ap (λ (r : Label). r.own) c.row_of-row.ensures)
+    (λ e. c.if-row-label.false (e ∙ ap or_zero c.label.ensures)) (c.requires.whole.table.codes_there _ (live_known _ _ g.b_there)) in
+    seen-cut_alone _ _ _ _ _ _ _ c.exchange.ensures.spots
+    (seen-apart (spot c.exchange.new.rings) _ c.args.labels.now c.args.labels.now c.args.b _ (subst AreRings (sym c.exchange.ensures.spots) g.rings) (ap (λ (s : Spots). live s c.args.b) c.exchange.ensures.spots ∙ g.live_cut) whole
+    c.args.l _ _ c.relabel_one.ensures.spots refl c.stand_for_own.ensures.loops)
+
+pub returns-else-row-label-clause-known : goal.returns-else-row-label-clause-known
+returns-else-row-label-clause-known c = c.relabel_one.ensures.known ∙ c.exchange.ensures.known
