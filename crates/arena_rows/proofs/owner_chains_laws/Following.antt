@@ -1,5 +1,5 @@
 -- What follows an item, and what comes before it.
-use Rattle.std.proofs.Common.{◌≡◌, ◌≢◌, ℕ, ◌≤◌, ◌<◌, Bool, true, cond, List, Option, Some, None, is_some, sym, ap, subst, ◌∙◌, arith, true≢false, eq-eqb, inl, inr}
+use Rattle.std.proofs.Common.{◌≡◌, ◌≢◌, ℕ, ◌≤◌, ◌<◌, Bool, true, cond, List, Option, Some, None, is_some, sym, ap, subst, ◌∙◌, arith, true≢false, eq-eqb, ne_eqb, inl, inr}
 use Rattle.std.proofs.lemmas.Bool.Decides.{eqb_tells}
 use Rattle.arena_rows.specs.declared.owner_chains.rows.Head.{Head}
 use Rattle.arena_rows.specs.declared.owner_chains.rows.Link.{Link}
@@ -45,6 +45,10 @@ module _ (heads : List (Option Head)) (links : List (Option Link)) (are : AreCha
         let is : follower heads links o n ≡ row.link.next = ap (λ b. cond b (head_at heads o).first (next_in (link_at links n))) e.0 ∙ ap next_in row.here in
         subst (IsAbove (items links o) n) (sym is) (next_above n row.link row.here row.owner)
   ]
+
+  -- an item that leads to none is the last one
+  pub last_above : (n : ℕ) → n ≢ 0 → (n ≢ 0 → items links o n ≡ true) → next_in (link_at links n) ≡ 0 → IsAbove (items links o) n 0
+  last_above n some there end = subst (IsAbove (items links o) n) (ap (λ b. cond b (head_at heads o).first (next_in (link_at links n))) (ne_eqb n 0 some) ∙ end) (follower_above n there)
 
 -- the walk up ends below n
 pub ends_below : (item : ℕ → Bool) (n m next : ℕ) → m < n → (m ≢ 0 → item m ≡ true) → IsAbove item m next → (next ≢ 0 → n ≤ next) → IsBelow item n m

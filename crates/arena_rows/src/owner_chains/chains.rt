@@ -1,9 +1,10 @@
 //! Items by owner.
 ghost use Rattle.std.specs.Prelude.{◌≡◌, ◌≢◌, ◌<◌, ◌≤◌, true, length, None, IfOk, OnOk, IsOk};
 ghost use Rattle.boundary_model.specs.Table.{get, has};
+ghost use Rattle.arena_rows.specs.owner_chains.Chains.{AreChained, IsAbove, IsBelow, head_at, items, link_at, view_of};
 ghost use Rattle.arena_rows.specs.owner_chains.Owners.{no_owners, put, take, owned, IsNextItem, OwnersHaveGrown};
 
-use crate::owner_chains::places::{above, place_of};
+use crate::owner_chains::places::{above, comes_last, place_of};
 use crate::owner_chains::rows::{Head, Link, gain, head_of, link_in, link_out, lose};
 use raw_cells::Rows;
 use std::alloc::{AllocError, Global};
@@ -75,14 +76,23 @@ impl Chains {
         ensures { self.new ≡ put self.old item owner }
     {
         let head = head_of(&self.heads, owner);
-        let place = place_of(&self.heads, &self.links, owner, head, item);
-        let new = Link {
-            owner,
-            previous: place.previous,
-            next: place.next,
-        };
-        link_in(&mut self.links, item, new);
-        gain(&mut self.heads, item, new, head);
+        if head.count == 0 {
+            let first = Link {
+                owner,
+                previous: 0,
+                next: 0,
+            };
+            chain_in(&mut self.heads, &mut self.links, item, first, head);
+        } else if comes_last(&self.links, head.finger, item) {
+            let last = Link {
+                owner,
+                previous: head.finger,
+                next: 0,
+            };
+            chain_in(&mut self.heads, &mut self.links, item, last, head);
+        } else {
+            insert_within(&mut self.heads, &mut self.links, owner, item, head);
+        }
     }
 
     /// An item goes, which is there. The finger moves to a neighbour. It walks over nothing.
@@ -126,4 +136,43 @@ impl Chains {
             links: self.links.copy(alloc)?,
         })
     }
+}
+
+/// Puts a number at a place among an owner's items, where all before it and behind it are known.
+#[inline(always)]
+fn chain_in(heads: &mut Rows<Head>, links: &mut Rows<Link>, item: u32, new: Link, head: Head)
+    requires chained { AreChained heads.old links.old }
+    requires head { head ≡ head_at heads.old new.owner }
+    requires owner_room { new.owner < length heads.old }
+    requires room { item < length links.old }
+    requires some { item ≢ 0 }
+    requires free { link_at links.old item ≡ None }
+    requires below { IsBelow (items links.old new.owner) item new.previous }
+    requires next { IsAbove (items links.old new.owner) new.previous new.next }
+    ensures chained { AreChained heads.new links.new }
+    ensures put { view_of heads.new links.new ≡ put (view_of heads.old links.old) item new.owner }
+{
+    link_in(links, item, new);
+    gain(heads, item, new, head);
+}
+
+/// Puts a number among an owner's items, wherever its place is. That is looked for.
+#[inline(never)]
+fn insert_within(heads: &mut Rows<Head>, links: &mut Rows<Link>, owner: u32, item: u32, head: Head)
+    requires chained { AreChained heads.old links.old }
+    requires head { head ≡ head_at heads.old owner }
+    requires owner_room { owner < length heads.old }
+    requires room { item < length links.old }
+    requires some { item ≢ 0 }
+    requires free { link_at links.old item ≡ None }
+    ensures chained { AreChained heads.new links.new }
+    ensures put { view_of heads.new links.new ≡ put (view_of heads.old links.old) item owner }
+{
+    let place = place_of(heads, links, owner, head, item);
+    let new = Link {
+        owner,
+        previous: place.previous,
+        next: place.next,
+    };
+    chain_in(heads, links, item, new, head);
 }

@@ -1,6 +1,6 @@
 //! The place of a number among an owner's items.
-ghost use Rattle.std.specs.Prelude.{◌≡◌, ◌≢◌, ◌<◌, true, false, length};
-ghost use Rattle.arena_rows.specs.owner_chains.Chains.{AreChained, IsAbove, IsBelow, IsClear, LeadBack, TellsPlace, head_at, items};
+ghost use Rattle.std.specs.Prelude.{◌≡◌, ◌≢◌, ◌<◌, true, false, length, IsSome};
+ghost use Rattle.arena_rows.specs.owner_chains.Chains.{AreChained, IsAbove, IsBelow, IsClear, LeadBack, TellsPlace, head_at, items, link_at, next_in};
 
 use crate::owner_chains::rows::{Head, Link, follower, head_of};
 use raw_cells::Rows;
@@ -87,8 +87,17 @@ pub(crate) fn below(heads: &Rows<Head>, links: &Rows<Link>, owner: u32, number: 
     0
 }
 
-/// The place of the number among an owner's items; it is none of them. One step where the owner has none, or where it comes right after
-/// the finger, else the search from three sides.
+/// Whether the number comes after the finger, which is the last item of its owner. Where it doesn't say so, nothing is known.
+#[inline(always)]
+pub(crate) fn comes_last(links: &Rows<Link>, finger: u32, number: u32) -> bool
+    requires { finger ≢ 0 → IsSome (link_at links.now finger) }
+    ensures { result ≡ true → (finger ≢ 0) × (finger < number) × (next_in (link_at links.now finger) ≡ 0) }
+{
+    finger != 0 && finger < number && links.known(finger).next == 0
+}
+
+/// The place of the number among an owner's items; it is none of them. One step where it comes right after the finger, else the search
+/// from three sides.
 pub(crate) fn place_of(
     heads: &Rows<Head>,
     links: &Rows<Link>,
@@ -104,12 +113,6 @@ pub(crate) fn place_of(
     ensures below { IsBelow (items links.now owner) number result.previous }
     ensures next { IsAbove (items links.now owner) result.previous result.next }
 {
-    if head.count == 0 {
-        return Place {
-            previous: 0,
-            next: 0,
-        };
-    }
     if head.finger == 0 || head.finger > number {
         return search(heads, links, owner, number);
     }

@@ -1,38 +1,53 @@
-use Rattle.std.proofs.Common.{arith, ap}
-use Rattle.arena_rows.specs.owner_chains.Chains.{is_of}
-use Rattle.arena_rows.proofs.owner_chains_laws.Tables.{row_free, few_owned}
-use Rattle.arena_rows.proofs.owner_chains_laws.Following.{item_there}
-use Rattle.arena_rows.proofs.owner_chains_laws.Coming.{Comes, comes, put_is}
+use Rattle.std.proofs.Common.{◌≡◌, ◌≢◌, true, refl, sym, ap, subst, ◌∙◌}
+use Rattle.arena_rows.specs.declared.owner_chains.rows.Head.{Head}
+use Rattle.arena_rows.specs.owner_chains.Chains.{items, head_at}
+use Rattle.arena_rows.proofs.owner_chains_laws.Tables.{row_free}
+use Rattle.arena_rows.proofs.owner_chains_laws.Following.{item_there, last_above, ends_below}
+use Rattle.arena_rows.proofs.owner_chains_laws.Going.{no_items}
 use Rattle.arena_rows.proofs.owner_chains.chains.Chains.insert.Goals as goal
 
-pub place_of-place-requires-clause-free : goal.place_of-place-requires-clause-free
-place_of-place-requires-clause-free c = ap (is_of c.args.owner) (row_free c.self.inside.links c.args.item (rw (← c.self.view_is) at c.requires.free))
+pub chain_in-requires-clause-free : goal.chain_in-requires-clause-free
+chain_in-requires-clause-free c = row_free _ _ (rw (← c.self.view_is) at c.requires.free)
 
-pub link_in-requires-clause-previous : goal.link_in-requires-clause-previous
-link_in-requires-clause-previous c = λ some. item_there c.self.inside.links c.args.owner _ (c.place_of-place.ensures.below.found some).1
+pub chain_in-requires-clause-below : goal.chain_in-requires-clause-below
+chain_in-requires-clause-below c =
+    let none : (head_at c.self.inside.heads c.args.owner).count ≡ 0 = ap (λ (h : Head). h.count) (sym c.head_of-head.ensures) ∙ c.if-head-eq0.true in
+    record { found = λ some. absurd (some refl); greatest = λ k low there. absurd (no_items _ _ c.self.invariant c.args.owner none k there) }
 
-pub link_in-requires-clause-next : goal.link_in-requires-clause-next
-link_in-requires-clause-next c = λ some. item_there c.self.inside.links c.args.owner _ (c.place_of-place.ensures.next.found some).1
+pub chain_in-requires-clause-next : goal.chain_in-requires-clause-next
+chain_in-requires-clause-next c =
+    let none : (head_at c.self.inside.heads c.args.owner).count ≡ 0 = ap (λ (h : Head). h.count) (sym c.head_of-head.ensures) ∙ c.if-head-eq0.true in
+    record { found = λ some. absurd (some refl); least = λ k up there. absurd (no_items _ _ c.self.invariant c.args.owner none k there) }
 
-pub gain-requires-clause-limit : goal.gain-requires-clause-limit
-gain-requires-clause-limit c = omega (arith, c.self.invariant.counts c.args.owner, few_owned c.self.inside.links c.args.owner, c.self.invariant.within)
+pub comes_last-requires : goal.comes_last-requires
+comes_last-requires c = λ some. item_there c.self.inside.links c.args.owner _
+    (subst (λ (h : Head). h.finger ≢ 0 → items c.self.inside.links c.args.owner h.finger ≡ true) (sym c.head_of-head.ensures) (c.self.invariant.fingers c.args.owner) some)
 
-step : (c : goal.After-gain) → Comes c.self.inside.heads c.gain.new.heads c.self.inside.links c.link_in.new.links c.args.item (record { owner = c.args.owner; previous = c.place_of-place.result.previous; next = c.place_of-place.result.next })
-step c = record {
-  are = c.self.invariant;
-  some = c.requires.some;
-  free = row_free _ _ (rw (← c.self.view_is) at c.requires.free);
-  reached = rw (← c.self.view_is) at c.requires.owner_room;
-  below = c.place_of-place.ensures.below;
-  next = c.place_of-place.ensures.next;
-  rows = c.link_in.ensures.rows;
-  len = c.link_in.ensures.len;
-  head_rows = c.gain.ensures.rows;
-  head_len = c.gain.ensures.len;
-}
+pub chain_in-requires-then-comes_last-clause-free : goal.chain_in-requires-then-comes_last-clause-free
+chain_in-requires-then-comes_last-clause-free c = row_free _ _ (rw (← c.self.view_is) at c.requires.free)
 
-pub invariant_of-self : goal.invariant_of-self
-invariant_of-self c = comes _ _ _ _ _ _ (step c)
+pub chain_in-requires-then-comes_last-clause-below : goal.chain_in-requires-then-comes_last-clause-below
+chain_in-requires-then-comes_last-clause-below c =
+    let there : c.head_of-head.result.finger ≢ 0 → items c.self.inside.links c.args.owner c.head_of-head.result.finger ≡ true =
+    subst (λ (h : Head). h.finger ≢ 0 → items c.self.inside.links c.args.owner h.finger ≡ true) (sym c.head_of-head.ensures) (c.self.invariant.fingers c.args.owner) in
+    let last = c.comes_last.ensures c.if-comes_last.true in
+    ends_below _ _ _ _ last.1 there (last_above _ _ c.self.invariant c.args.owner _ last.0 there last.2) (λ some. absurd (some refl))
 
-pub returns : goal.returns
-returns c = rw (← c.self.view_is) (put_is _ _ _ _ _ _ (step c))
+pub chain_in-requires-then-comes_last-clause-next : goal.chain_in-requires-then-comes_last-clause-next
+chain_in-requires-then-comes_last-clause-next c =
+    let there : c.head_of-head.result.finger ≢ 0 → items c.self.inside.links c.args.owner c.head_of-head.result.finger ≡ true =
+    subst (λ (h : Head). h.finger ≢ 0 → items c.self.inside.links c.args.owner h.finger ≡ true) (sym c.head_of-head.ensures) (c.self.invariant.fingers c.args.owner) in
+    let last = c.comes_last.ensures c.if-comes_last.true in
+    last_above _ _ c.self.invariant c.args.owner _ last.0 there last.2
+
+pub insert_within-requires-clause-free : goal.insert_within-requires-clause-free
+insert_within-requires-clause-free c = row_free _ _ (rw (← c.self.view_is) at c.requires.free)
+
+pub returns-then-head-eq0 : goal.returns-then-head-eq0
+returns-then-head-eq0 c = rw (← c.self.view_is) c.chain_in.ensures.put
+
+pub returns-then-comes_last : goal.returns-then-comes_last
+returns-then-comes_last c = rw (← c.self.view_is) c.chain_in-then-comes_last.ensures.put
+
+pub returns-else-comes_last : goal.returns-else-comes_last
+returns-else-comes_last c = rw (← c.self.view_is) c.insert_within.ensures.put
