@@ -63,6 +63,15 @@ impl Numbers {
         contains(&self.words, number)
     }
 
+    /// Whether the number is in use, which has its room. It doesn't ask how far the room reaches.
+    #[inline(always)]
+    pub fn contains_within(&self, number: u32) -> bool
+        requires { number / 64 < length self.now }
+        ensures { result ≡ uses self.now number }
+    {
+        contains_within(&self.words, number)
+    }
+
     /// The number comes into use, which has its room. It writes one word, and a summary where the word was 0.
     pub fn put(&mut self, number: u32)
         requires { number / 64 < length self.old }
@@ -160,6 +169,15 @@ fn contains(words: &[u64], number: u32) -> bool
         Some(word) => is_set(*word, number % WORD),
         None => false,
     }
+}
+
+/// Whether the number is in use, which has its word.
+#[inline(always)]
+fn contains_within(words: &[u64], number: u32) -> bool
+    requires { number / 64 < length words.now }
+    ensures { result ≡ uses words.now number }
+{
+    is_set(words[(number / WORD) as usize], number % WORD)
 }
 
 /// Sets the bit of the number.

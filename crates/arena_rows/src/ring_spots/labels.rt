@@ -19,11 +19,12 @@ pub struct Label {
     pub loop_number: u32,
 }
 
-/// What stands at the number, whether its row is written or not.
+/// What stands at the number, which has its room, whether its row is written or not.
 pub(crate) fn row_of(labels: &Rows<Label>, number: u32) -> Label
+    requires { has_label labels.now number ≡ true }
     ensures { result ≡ row_of labels.now number }
 {
-    match labels.find(number) {
+    match labels.find_within(number) {
         Some(row) => row,
         None => Label {
             own: number,
@@ -40,7 +41,7 @@ fn write(labels: &mut Rows<Label>, number: u32, row: Label)
     ensures rows { (q : ℕ) → row_at labels.new q ≡ cond (nat_eq q number) (Some row) (row_at labels.old q) }
     ensures len { length labels.new ≡ length labels.old }
 {
-    if labels.has(number) {
+    if labels.has_within(number) {
         labels.set(number, row);
     } else {
         labels.put(number, row);
@@ -49,6 +50,7 @@ fn write(labels: &mut Rows<Label>, number: u32, row: Label)
 
 /// The label that a code owns.
 pub(crate) fn own(labels: &Rows<Label>, code: u32) -> u32
+    requires { has_label labels.now code ≡ true }
     ensures { result ≡ own labels.now code }
 {
     row_of(labels, code).own
@@ -56,6 +58,7 @@ pub(crate) fn own(labels: &Rows<Label>, code: u32) -> u32
 
 /// The code that owns a label.
 pub(crate) fn holder(labels: &Rows<Label>, label: u32) -> u32
+    requires { has_label labels.now label ≡ true }
     ensures { result ≡ holder labels.now label }
 {
     row_of(labels, label).holder
@@ -63,6 +66,7 @@ pub(crate) fn holder(labels: &Rows<Label>, label: u32) -> u32
 
 /// The loop for which a label stands, or 0.
 pub(crate) fn loop_at(labels: &Rows<Label>, label: u32) -> u32
+    requires { has_label labels.now label ≡ true }
     ensures { result ≡ loop_at labels.now label }
 {
     row_of(labels, label).loop_number

@@ -4,7 +4,7 @@ ghost use Rattle.std.specs.FinMap.{contains_key};
 ghost use Rattle.raw_ring.specs.Rings.{spot};
 ghost use Rattle.boundary_model.specs.Items.{IsIn};
 ghost use Rattle.arena_rows.specs.ring_spots.Spots.{live, label, ring, labelled, spliced_at, AreRings};
-ghost use Rattle.arena_rows.specs.ring_spots.Labels.{loop_at, in_loops, AreLabelled, ShareLabel, IsRelabelled, HaveOneLabel};
+ghost use Rattle.arena_rows.specs.ring_spots.Labels.{has_label, loop_at, in_loops, AreLabelled, ShareLabel, IsRelabelled, HaveOneLabel};
 
 use crate::ring_spots::labels::{Label, hand_over, holder, loop_at, own, stand_for};
 use crate::ring_spots::links;
@@ -51,7 +51,8 @@ pub(crate) fn join(rings: &mut Rings, labels: &mut Rows<Label>, a: u32, b: u32)
 
 /// The loop in which a live code stands, or 0.
 pub(crate) fn loop_of(rings: &Rings, labels: &Rows<Label>, code: u32) -> u32
-    requires { live (spot rings.now) code ≡ true }
+    requires there { live (spot rings.now) code ≡ true }
+    requires label { has_label labels.now (label (spot rings.now) code) ≡ true }
     ensures { result ≡ loop_at labels.now (label (spot rings.now) code) }
 {
     loop_at(labels, rings.label(code))

@@ -13,6 +13,11 @@ use Rattle.arena_rows.proofs.ring_spots.alone.cut_alone.Goals as goal
 pub exchange-requires-clause-b : goal.exchange-requires-clause-b
 exchange-requires-clause-b c = (cut_off _ _ _ c.requires.whole c.args.a c.args.b (IsLive-next _ _ _ c.requires.follows) (ap or_zero c.requires.follows) c.requires.apart).b_there
 
+pub row_of-row-requires : goal.row_of-row-requires
+row_of-row-requires c =
+    let g = cut_off _ _ _ c.requires.whole c.args.a c.args.b (IsLive-next _ _ _ c.requires.follows) (ap or_zero c.requires.follows) c.requires.apart in
+    c.requires.whole.table.codes_there _ (live_known _ _ g.b_there)
+
 pub label-requires : goal.label-requires
 label-requires c =
     let g = cut_off _ _ _ c.requires.whole c.args.a c.args.b (IsLive-next _ _ _ c.requires.follows) (ap or_zero c.requires.follows) c.requires.apart in

@@ -1,4 +1,4 @@
-use Rattle.std.proofs.Common.{◌≡◌, true, ap, sym, subst}
+use Rattle.std.proofs.Common.{◌≡◌, ℕ, Bool, true, ap, sym, subst, ◌∙◌}
 use Rattle.std.specs.FinMap.{contains_key}
 use Rattle.raw_ring.specs.Rings.{or_zero, spot}
 use Rattle.arena_rows.specs.ring_spots.Labels.{has_label, AreLabelled}
@@ -18,6 +18,9 @@ hand_over-requires-clause-holder c = c.requires.shared.table.owners.holder_there
 
 pub hand_over-requires-clause-own : goal.hand_over-requires-clause-own
 hand_over-requires-clause-own c = c.requires.shared.table.owners.own_there _ (c.requires.shared.table.codes_there _ (live_known _ _ c.requires.shared.a_there))
+
+pub own-free-requires : goal.own-free-requires
+own-free-requires c = ap (λ (t : ℕ → Bool). t c.args.b) c.hand_over.ensures.there ∙ c.requires.shared.table.codes_there _ (live_known _ _ c.requires.shared.b_there)
 
 pub stand_for-requires : goal.stand_for-requires
 stand_for-requires c =

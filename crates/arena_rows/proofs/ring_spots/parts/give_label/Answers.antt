@@ -1,4 +1,4 @@
-use Rattle.std.proofs.Common.{◌≡◌, ◌≢◌, sym, ap, subst, ◌∙◌}
+use Rattle.std.proofs.Common.{◌≡◌, ◌≢◌, ℕ, Bool, sym, ap, subst, ◌∙◌}
 use Rattle.raw_ring.specs.Rings.{or_zero, spot}
 use Rattle.boundary_model.specs.Items.{count}
 use Rattle.arena_rows.specs.ring_spots.Spots.{labelled, label, ring}
@@ -7,6 +7,9 @@ use Rattle.arena_rows.proofs.ring_spots_laws.RingMaps.{live_known}
 use Rattle.arena_rows.proofs.ring_spots_laws.LabelLaws.{labelled-apart, relabelled_part, own_kept}
 use Rattle.arena_rows.proofs.ring_spots_laws.Alone.{labelled_beside}
 use Rattle.arena_rows.proofs.ring_spots.parts.give_label.Goals as goal
+
+pub own-requires : goal.own-requires
+own-requires c = ap (λ (t : ℕ → Bool). t c.args.part) c.hand_over.ensures.there ∙ c.requires.table.codes_there c.args.part (live_known _ _ c.requires.a_there)
 
 pub returns-then-other-shared-clause-whole : goal.returns-then-other-shared-clause-whole
 returns-then-other-shared-clause-whole c =
