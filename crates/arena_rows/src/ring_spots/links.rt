@@ -7,7 +7,7 @@ ghost use Rattle.boundary_model.specs.Items.{count};
 ghost use Rattle.arena_rows.specs.ring_spots.Spots.{live, ring, labelled, woken, woken_as, asleep, spliced_at, retailed, AreRings};
 ghost use Rattle.arena_rows.specs.ring_spots.Labels.{has_label, own, holder, loop_at, in_loops, AreLabelled};
 
-use crate::ring_spots::labels::{Label, own, reach, stand_for};
+use crate::ring_spots::labels::{Label, reach, row_of, stand_for_own};
 use boundary_model::{HALF_EDGE_CODES, NUMBER_LIMIT};
 use raw_cells::Rows;
 use raw_ring::Rings;
@@ -46,9 +46,9 @@ fn wake(rings: &mut Rings, labels: &mut Rows<Label>, code: u32, tail: u32)
     ensures holder { holder labels.new ≡ holder labels.old }
     ensures there { has_label labels.new ≡ has_label labels.old }
 {
-    let label = own(labels, code);
-    rings.wake_as(code, tail, label);
-    stand_for(labels, label, 0);
+    let row = row_of(labels, code);
+    rings.wake_as(code, tail, row.own);
+    stand_for_own(labels, code, row, 0);
 }
 
 /// Puts both half-edges of an edge to sleep, each of which is a ring of one.
