@@ -195,9 +195,6 @@ impl EdgeRings {
         ensures ok { OnOk result ((contains_key self.new (plus e) ≡ true) × (contains_key self.new (minus e) ≡ true)) }
         ensures known { nat_lt 0 e && (contains_key self.old (plus e) && contains_key self.old (minus e)) ≡ true → IsOk result }
     {
-        if self.has_edge_room(e) {
-            return Ok(());
-        }
         self.edges.reach(e)?;
         links::room_edge(&mut self.rings, &mut self.labels, e)
     }

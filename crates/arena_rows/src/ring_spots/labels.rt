@@ -1,10 +1,14 @@
 //! The table of labels: which code owns each, and for which loop it stands.
-ghost use Rattle.std.specs.Prelude.{◌≡◌, ℕ, ◌≤◌, true, cond, nat_eq, length, Some, OnOk};
+ghost use Rattle.std.specs.Prelude.{◌≡◌, ℕ, ◌≤◌, true, cond, nat_eq, length, Some, OnOk, IsOk};
 ghost use Rattle.raw_cells.specs.Rows.{row_at};
 ghost use Rattle.arena_rows.specs.ring_spots.Labels.{row_of, has_label, own, holder, loop_at, HaveNewLabels};
 
+use boundary_model::HALF_EDGE_CODES;
 use raw_cells::Rows;
 use std::alloc::AllocError;
+
+/// How many codes get their labels' room at a time, so that it is asked for seldom.
+const STEP: u32 = 64;
 
 /// What stands at number n: of the code n, and of the label n.
 ///
@@ -159,11 +163,25 @@ fn set_holder(labels: &mut Rows<Label>, label: u32, code: u32)
     write(labels, label, row);
 }
 
-/// Makes the labels reach to a code. A new code owns the label of its own number.
+/// Makes the labels reach to a code, and on to the end of its step. A new code owns the label of its own number. Where they reach there,
+/// this is one test, and no `Err` comes.
 pub(crate) fn reach(labels: &mut Rows<Label>, code: u32) -> Result<(), AllocError>
     requires { code ≤ 2000001 }
     ensures grown { HaveNewLabels labels.old labels.new }
     ensures ok { OnOk result (has_label labels.new code ≡ true) }
+    ensures known { has_label labels.old code ≡ true → IsOk result }
 {
-    labels.reach(code)
+    if code < labels.len() {
+        return Ok(());
+    }
+    labels.reach(last_of_step(code))
+}
+
+/// The last code of the step in which a code stands.
+fn last_of_step(code: u32) -> u32
+    requires { code ≤ 2000001 }
+    ensures from { code ≤ result }
+    ensures limit { result ≤ 2000001 }
+{
+    (code / STEP * STEP + (STEP - 1)).min(HALF_EDGE_CODES - 1)
 }

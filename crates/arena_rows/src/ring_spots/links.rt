@@ -1,5 +1,5 @@
 //! Edges as pairs of nodes.
-ghost use Rattle.std.specs.Prelude.{◌≡◌, ◌≢◌, ◌≤◌, ◌&&◌, ◌*◌, ◌+◌, nat_eq, nat_lt, nat_le, true, false, cond, Some, OnOk, ℕ};
+ghost use Rattle.std.specs.Prelude.{◌≡◌, ◌≢◌, ◌≤◌, ◌&&◌, ◌*◌, ◌+◌, nat_eq, nat_lt, nat_le, true, false, cond, Some, OnOk, IsOk, ℕ};
 ghost use Rattle.std.specs.FinMap.{contains_key};
 ghost use Rattle.raw_ring.specs.Rings.{spot, next_of, IsAsleep};
 ghost use Rattle.boundary_model.specs.HalfEdge.{plus, minus};
@@ -114,7 +114,7 @@ pub(crate) fn retail(rings: &mut Rings, h: u32, v: u32)
     rings.set_tail(h, v);
 }
 
-/// Gives both half-edges of an edge their nodes, and their labels.
+/// Gives both half-edges of an edge their nodes, and their labels. Where they have them, no `Err` comes.
 pub(crate) fn room_edge(
     rings: &mut Rings,
     labels: &mut Rows<Label>,
@@ -127,6 +127,7 @@ pub(crate) fn room_edge(
     ensures kept { (c : ℕ) → contains_key rings.old c ≡ true → contains_key rings.new c ≡ true }
     ensures only { (q : ℕ) → q ≢ plus e → q ≢ minus e → contains_key rings.new q ≡ contains_key rings.old q }
     ensures ok { OnOk result ((contains_key rings.new (plus e) ≡ true) × (contains_key rings.new (minus e) ≡ true)) }
+    ensures known { contains_key rings.old (plus e) ≡ true → contains_key rings.old (minus e) ≡ true → IsOk result }
 {
     reach(labels, 2 * e + 1)?;
     room_code(rings, labels, 2 * e)?;
@@ -144,6 +145,7 @@ fn room_code(rings: &mut Rings, labels: &Rows<Label>, code: u32) -> Result<(), A
     ensures kept { (q : ℕ) → contains_key rings.old q ≡ true → contains_key rings.new q ≡ true }
     ensures only { (q : ℕ) → q ≢ code → contains_key rings.new q ≡ contains_key rings.old q }
     ensures ok { OnOk result (contains_key rings.new code ≡ true) }
+    ensures known { contains_key rings.old code ≡ true → IsOk result }
 {
     rings.room(code)
 }

@@ -14,4 +14,5 @@ returns c =
       kept = room_kept _ _ _ _ c.room.ensures.ok c.room.ensures.err;
       only = only;
       ok = room_ok _ _ _ _ c.room.ensures.ok;
+      known = c.room.ensures.known;
     }

@@ -1,4 +1,5 @@
 use Rattle.std.proofs.Common.{◌≡◌, Bool, true, Result, Ok, Err, OnOk, refl, ◌∙◌, arith}
+use Rattle.std.proofs.lemmas.Bool.{false≢true}
 use Rattle.arena_rows.proofs.ring_spots_laws.LabelTables.{label_below}
 use Rattle.arena_rows.proofs.ring_spots_laws.LabelEdges.{labelled-room, loops-room}
 use Rattle.arena_rows.proofs.ring_spots.links.room_edge.Goals as goal
@@ -21,6 +22,12 @@ returns-in_err-room_code-clause-spots c = loops-room _ _ _ _ c.requires.whole c.
 pub returns-in_err-room_code-clause-only : goal.returns-in_err-room_code-clause-only
 returns-in_err-room_code-clause-only c q n m = c.room_code.ensures.only q n
 
+pub returns-in_err-reach-clause-known : goal.returns-in_err-reach-clause-known
+returns-in_err-reach-clause-known c = λ first second. absurd (false≢true (c.in_err-reach.ensures.known (c.requires.whole.table.codes_there _ second)))
+
+pub returns-in_err-room_code-clause-known : goal.returns-in_err-room_code-clause-known
+returns-in_err-room_code-clause-known c = λ first second. absurd (false≢true (c.in_err-room_code.ensures.known first))
+
 both_known : {X E : Type 0} (p m : Bool) (r : Result X E) → p ≡ true → OnOk r (m ≡ true) → OnOk r ((p ≡ true) × (m ≡ true))
 both_known p m (Ok x) first second = (first, second)
 both_known p m (Err e) first second = tt
@@ -32,4 +39,5 @@ returns c = record {
   kept = λ q k. c.room_code-2.ensures.kept q (c.room_code.ensures.kept q k);
   only = λ q n m. c.room_code-2.ensures.only q m ∙ c.room_code.ensures.only q n;
   ok = both_known _ _ c.room_code-2.result (c.room_code-2.ensures.kept _ c.in_ok-room_code.ensures.ok) c.room_code-2.ensures.ok;
+  known = λ first second. c.room_code-2.ensures.known (c.room_code.ensures.kept _ second);
 }

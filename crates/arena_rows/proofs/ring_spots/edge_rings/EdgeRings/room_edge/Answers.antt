@@ -1,6 +1,5 @@
-use Rattle.std.proofs.Common.{◌≡◌, true, nat_lt, nat_le, ◌&&◌, sym, ◌∙◌, arith, true≢false}
-use Rattle.std.proofs.lemmas.Bool.{and_from}
-use Rattle.std.proofs.lemmas.Bool.Decides.{nat_tests}
+use Rattle.std.proofs.Common.{◌≡◌, ℕ, true, nat_lt, ◌&&◌, sym, ◌∙◌}
+use Rattle.std.proofs.lemmas.Bool.{false≢true}
 use Rattle.std.specs.FinMap.{contains_key}
 use Rattle.boundary_model.specs.HalfEdge.{plus, minus}
 use Rattle.boundary_model.proofs.Tests.{and_first, and_second}
@@ -25,11 +24,16 @@ returns-clause-kept c = rw (← c.self.view_is) (λ q k. seen_known c.room_edge.
 pub returns-clause-ok : goal.returns-clause-ok
 returns-clause-ok c = seen_ok c.room_edge.new.labels c.room_edge.new.rings c.args.e c.room_edge.result c.room_edge.ensures.ok
 
-pub returns-then-has_edge_room-clause-ok : goal.returns-then-has_edge_room-clause-ok
-returns-then-has_edge_room-clause-ok c =
+pub returns-in_err-reach-clause-known : goal.returns-in_err-reach-clause-known
+returns-in_err-reach-clause-known c = λ there.
     let m = c.args.self.now in
-    let keys : contains_key m (plus c.args.e) && contains_key m (minus c.args.e) ≡ true = and_second (nat_lt 0 c.args.e) _ (and_second (nat_le c.args.e 1000000) _ (sym c.has_edge_room.ensures ∙ c.if-has_edge_room.true)) in
-    (and_first _ _ keys, and_second _ _ keys)
+    let keys : contains_key m (plus c.args.e) && contains_key m (minus c.args.e) ≡ true = and_second (nat_lt 0 c.args.e) _ there in
+    let first : contains_key m (plus c.args.e) ≡ true = and_first _ _ keys in
+    absurd (false≢true (c.in_err-reach.ensures.known (c.self.invariant.edges.room c.args.e c.requires (rw (← c.self.view_is) at first))))
 
 pub returns-clause-known : goal.returns-clause-known
-returns-clause-known c = λ h. let within : nat_le c.args.e 1000000 ≡ true = (let l = c.requires in grind (arith, nat_tests)) in absurd (true≢false (sym (and_from _ _ within h) ∙ sym c.has_edge_room.ensures ∙ c.if-has_edge_room.false))
+returns-clause-known c = λ there.
+    let m = c.args.self.now in
+    let keys : contains_key m (plus c.args.e) && contains_key m (minus c.args.e) ≡ true = and_second (nat_lt 0 c.args.e) _ there in
+    let known : (q : ℕ) → contains_key m q ≡ true → contains_key c.self.inside.rings q ≡ true = λ q k. sym (seen_known c.self.inside.labels c.self.inside.rings q) ∙ (rw (← c.self.view_is) at k) in
+    c.room_edge.ensures.known (known _ (and_first _ _ keys)) (known _ (and_second _ _ keys))
