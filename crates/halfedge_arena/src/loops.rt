@@ -27,7 +27,7 @@ impl Arena {
         let second = b.code();
         let kept = self.rings.label(first);
         let face = self.loops.known(kept).face;
-        self.rings.cut(first, second, l);
+        self.rings.cut(first, second, l, kept);
         let cell = LoopCell {
             face,
             stored: StoredContent::At(first),
@@ -61,7 +61,7 @@ impl Arena {
         let kept = self.rings.label(first);
         let gone = self.rings.label(second);
         let face = self.loops.known(kept).face;
-        self.rings.join(first, second);
+        self.rings.join(first, second, kept);
         let cell = LoopCell {
             face,
             stored: StoredContent::At(first),

@@ -127,30 +127,34 @@ impl EdgeRings {
         parts::put_in_loop(&self.rings, &mut self.labels, from, l);
     }
 
-    /// Cuts the ring of a and b in two, one with a and one with b. That of b stands in loop l then, or in none where l is 0.
+    /// Cuts the ring of a and b in two, one with a and one with b. That of b stands in loop l then, or in none where l is 0. It is told
+    /// in which loop the ring stands, or 0; a's stays there.
     ///
     /// It walks round the shorter one.
-    pub fn cut(&mut self, a: u32, b: u32, l: u32)
+    pub fn cut(&mut self, a: u32, b: u32, l: u32, kept: u32)
         requires a { live (spot self.old) a ≡ true }
         requires together { IsIn b (ring (spot self.old) a) }
         requires apart { a ≢ b }
+        requires kept { label (spot self.old) a ≡ kept }
         ensures spots { spot self.new ≡ labelled (spliced_at (spot self.old) a b) l (ring (spliced_at (spot self.old) a b) b) }
         ensures known { contains_key self.new ≡ contains_key self.old }
     {
-        parts::cut(&mut self.rings, &mut self.labels, a, b, l);
+        parts::cut(&mut self.rings, &mut self.labels, a, b, l, kept);
     }
 
-    /// Joins the rings of a and b, which stand in different loops, or one of them in none. The joint ring stands in a's loop.
+    /// Joins the rings of a and b, which stand in different loops, or one of them in none. It is told a's loop, or 0, in which the joint
+    /// ring stands.
     ///
     /// It walks round the shorter one.
-    pub fn join(&mut self, a: u32, b: u32)
+    pub fn join(&mut self, a: u32, b: u32, kept: u32)
         requires a { live (spot self.old) a ≡ true }
         requires b { live (spot self.old) b ≡ true }
         requires apart { label (spot self.old) b ≢ label (spot self.old) a }
+        requires kept { label (spot self.old) a ≡ kept }
         ensures spots { spot self.new ≡ spliced_at (labelled (spot self.old) (label (spot self.old) a) (ring (spot self.old) b)) a b }
         ensures known { contains_key self.new ≡ contains_key self.old }
     {
-        parts::join(&mut self.rings, &mut self.labels, a, b);
+        parts::join(&mut self.rings, &mut self.labels, a, b, kept);
     }
 
     /// Cuts b, which follows a, out of their ring. It stands in loop l then, alone, or in none where l is 0.

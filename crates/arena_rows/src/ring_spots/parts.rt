@@ -1,10 +1,10 @@
 //! Rings that are cut and joined, where the labels of the shorter part alone are written.
-ghost use Rattle.std.specs.Prelude.{◌≡◌, ◌≢◌, ◌≤◌, true, false, length};
+ghost use Rattle.std.specs.Prelude.{◌≡◌, ◌≢◌, ◌≤◌, ℕ, true, false, cond, nat_eq, length};
 ghost use Rattle.std.specs.FinMap.{contains_key};
 ghost use Rattle.raw_ring.specs.Rings.{spot};
 ghost use Rattle.boundary_model.specs.Items.{IsIn};
 ghost use Rattle.arena_rows.specs.ring_spots.Spots.{live, label, ring, labelled, spliced_at, AreRings};
-ghost use Rattle.arena_rows.specs.ring_spots.Labels.{has_label, loop_at, in_loops, AreLabelled, ShareLabel, IsRelabelled, HaveOneLabel};
+ghost use Rattle.arena_rows.specs.ring_spots.Labels.{has_label, own, holder, loop_at, in_loops, AreLabelled, ShareLabel, IsRelabelled, HaveOneLabel};
 
 use crate::ring_spots::labels::{Label, hand_over, holder, loop_at, own, stand_for};
 use crate::ring_spots::links;
@@ -12,41 +12,40 @@ use boundary_model::HALF_EDGE_CODES;
 use raw_cells::Rows;
 use raw_ring::Rings;
 
-/// Cuts the ring of a and b in two, of which b's stands in loop l then, or is loose where l is 0.
+/// Cuts the ring of a and b in two, of which b's stands in loop l then, or is loose where l is 0. The ring stood in loop `kept`, in which
+/// a's stays.
 ///
 /// It walks round the shorter one twice.
-pub(crate) fn cut(rings: &mut Rings, labels: &mut Rows<Label>, a: u32, b: u32, l: u32)
+pub(crate) fn cut(rings: &mut Rings, labels: &mut Rows<Label>, a: u32, b: u32, l: u32, kept: u32)
     requires whole { AreLabelled (spot rings.old) (contains_key rings.old) labels.old }
     requires a { live (spot rings.old) a ≡ true }
     requires together { IsIn b (ring (spot rings.old) a) }
     requires apart { a ≢ b }
+    requires kept { kept ≡ loop_at labels.old (label (spot rings.old) a) }
     ensures whole { AreLabelled (spot rings.new) (contains_key rings.new) labels.new }
     ensures spots { in_loops labels.new (spot rings.new) ≡ labelled (spliced_at (in_loops labels.old (spot rings.old)) a b) l (ring (spliced_at (in_loops labels.old (spot rings.old)) a b) b) }
     ensures known { contains_key rings.new ≡ contains_key rings.old }
 {
-    let kept = loop_of(rings, labels, a);
     links::exchange(rings, a, b);
-    set_apart(rings, labels, a, b);
-    put_in_loop(rings, labels, a, kept);
+    set_apart(rings, labels, a, b, kept);
     put_in_loop(rings, labels, b, l);
 }
 
-/// Joins the rings of a and b, which stand in different loops, or one of them in none. The joint ring stands in a's loop.
+/// Joins the rings of a and b, which stand in different loops, or one of them in none. The joint ring stands in a's loop, which is `kept`.
 ///
 /// It walks round the shorter one twice.
-pub(crate) fn join(rings: &mut Rings, labels: &mut Rows<Label>, a: u32, b: u32)
+pub(crate) fn join(rings: &mut Rings, labels: &mut Rows<Label>, a: u32, b: u32, kept: u32)
     requires whole { AreLabelled (spot rings.old) (contains_key rings.old) labels.old }
     requires a { live (spot rings.old) a ≡ true }
     requires b { live (spot rings.old) b ≡ true }
     requires apart { loop_at labels.old (label (spot rings.old) b) ≢ loop_at labels.old (label (spot rings.old) a) }
+    requires kept { kept ≡ loop_at labels.old (label (spot rings.old) a) }
     ensures whole { AreLabelled (spot rings.new) (contains_key rings.new) labels.new }
     ensures spots { in_loops labels.new (spot rings.new) ≡ spliced_at (labelled (in_loops labels.old (spot rings.old)) (loop_at labels.old (label (spot rings.old) a)) (ring (spot rings.old) b)) a b }
     ensures known { contains_key rings.new ≡ contains_key rings.old }
 {
-    let kept = loop_of(rings, labels, a);
-    share_label(rings, a, b);
+    share_label(rings, labels, a, b, kept);
     links::exchange(rings, a, b);
-    put_in_loop(rings, labels, a, kept);
 }
 
 /// The loop in which a live code stands, or 0.
@@ -68,16 +67,19 @@ pub(crate) fn put_in_loop(rings: &Rings, labels: &mut Rows<Label>, from: u32, l:
     stand_for(labels, rings.label(from), l);
 }
 
-/// Gives the rings of a and b, which share a label, one each: the shorter one gets another.
-fn set_apart(rings: &mut Rings, labels: &mut Rows<Label>, a: u32, b: u32)
-    requires { ShareLabel (spot rings.old) (contains_key rings.old) labels.old a b }
+/// Gives the rings of a and b, which share a label, one each: the shorter one gets another. The label stands for loop `kept`, and that of
+/// a's ring does so still.
+fn set_apart(rings: &mut Rings, labels: &mut Rows<Label>, a: u32, b: u32, kept: u32)
+    requires shared { ShareLabel (spot rings.old) (contains_key rings.old) labels.old a b }
+    requires kept { kept ≡ loop_at labels.old (label (spot rings.old) a) }
     ensures whole { AreLabelled (spot rings.new) (contains_key rings.new) labels.new }
     ensures spots { IsRelabelled (spot rings.old) (spot rings.new) a b }
-    ensures loops { loop_at labels.new ≡ loop_at labels.old }
+    ensures loops { in_loops labels.new (spot rings.new) ≡ labelled (in_loops labels.old (spot rings.new)) kept (ring (spot rings.new) a) }
     ensures known { contains_key rings.new ≡ contains_key rings.old }
 {
     if is_shorter(rings, a, b) {
         give_label(rings, labels, a, b);
+        put_in_loop(rings, labels, a, kept);
     } else {
         give_label(rings, labels, b, a);
     }
@@ -85,10 +87,12 @@ fn set_apart(rings: &mut Rings, labels: &mut Rows<Label>, a: u32, b: u32)
 
 /// Gives the ring of `part` the label that this code owns. The one that it shared stays with the ring of `rest`, and is handed over to
 /// `rest` where a code of `part`'s ring owns it.
+#[inline(always)]
 fn give_label(rings: &mut Rings, labels: &mut Rows<Label>, part: u32, rest: u32)
     requires { ShareLabel (spot rings.old) (contains_key rings.old) labels.old part rest }
     ensures whole { AreLabelled (spot rings.new) (contains_key rings.new) labels.new }
     ensures spots { IsRelabelled (spot rings.old) (spot rings.new) part rest }
+    ensures rest { label (spot rings.new) rest ≡ label (spot rings.old) rest }
     ensures loops { loop_at labels.new ≡ loop_at labels.old }
     ensures known { contains_key rings.new ≡ contains_key rings.old }
 {
@@ -102,16 +106,23 @@ fn give_label(rings: &mut Rings, labels: &mut Rows<Label>, part: u32, rest: u32)
     }
 }
 
-/// Gives the rings of a and b one label: the shorter one gets that of the other.
-fn share_label(rings: &mut Rings, a: u32, b: u32)
-    requires rings { AreRings (spot rings.old) }
+/// Gives the rings of a and b one label: the shorter one gets that of the other. It stands for loop `kept` then, as that of a's ring did.
+fn share_label(rings: &mut Rings, labels: &mut Rows<Label>, a: u32, b: u32, kept: u32)
+    requires whole { AreLabelled (spot rings.old) (contains_key rings.old) labels.old }
     requires a { live (spot rings.old) a ≡ true }
     requires b { live (spot rings.old) b ≡ true }
+    requires kept { kept ≡ loop_at labels.old (label (spot rings.old) a) }
     ensures spots { HaveOneLabel (spot rings.old) (spot rings.new) a b }
     ensures known { contains_key rings.new ≡ contains_key rings.old }
+    ensures loops { (q : ℕ) → loop_at labels.new q ≡ cond (nat_eq q (label (spot rings.new) a)) kept (loop_at labels.old q) }
+    ensures own { own labels.new ≡ own labels.old }
+    ensures holder { holder labels.new ≡ holder labels.old }
+    ensures there { has_label labels.new ≡ has_label labels.old }
 {
     if is_shorter(rings, a, b) {
-        links::relabel(rings, a, rings.label(b));
+        let shared = rings.label(b);
+        links::relabel(rings, a, shared);
+        stand_for(labels, shared, kept);
     } else {
         links::relabel(rings, b, rings.label(a));
     }

@@ -1,9 +1,10 @@
 use Rattle.std.proofs.Common.{◌≡◌, ◌≢◌, ℕ, Bool, sym, ap, subst, ◌∙◌}
 use Rattle.raw_ring.specs.Rings.{or_zero, spot}
 use Rattle.boundary_model.specs.Items.{count}
-use Rattle.arena_rows.specs.ring_spots.Spots.{labelled, label, ring}
+use Rattle.arena_rows.specs.ring_spots.Spots.{Spots, labelled, label, ring}
 use Rattle.arena_rows.specs.ring_spots.Labels.{own, holder}
 use Rattle.arena_rows.proofs.ring_spots_laws.RingMaps.{live_known}
+use Rattle.arena_rows.proofs.ring_spots_laws.SpotLaws.{label-labelled_out}
 use Rattle.arena_rows.proofs.ring_spots_laws.LabelLaws.{labelled-apart, relabelled_part, own_kept}
 use Rattle.arena_rows.proofs.ring_spots_laws.Alone.{labelled_beside}
 use Rattle.arena_rows.proofs.ring_spots.parts.give_label.Goals as goal
@@ -19,6 +20,9 @@ returns-then-other-shared-clause-whole c =
     let is = c.relabel.ensures.spots ∙ ap (λ n. labelled (spot c.args.rings.now) n (ring (spot c.args.rings.now) c.args.part)) (c.own.ensures) in
     labelled-apart _ _ _ _ _ c.requires _ _ known_b known_a c.hand_over.ensures.there (rw (e) c.hand_over.ensures.own) (rw (e) c.hand_over.ensures.holder) is _ c.relabel.ensures.known
 
+pub returns-then-other-shared-clause-rest : goal.returns-then-other-shared-clause-rest
+returns-then-other-shared-clause-rest c = ap (λ (s : Spots). label s c.args.rest) c.relabel.ensures.spots ∙ label-labelled_out (spot c.args.rings.now) _ (ring (spot c.args.rings.now) c.args.part) c.args.rest c.requires.apart
+
 pub returns-then-other-shared-clause-spots : goal.returns-then-other-shared-clause-spots
 returns-then-other-shared-clause-spots c = relabelled_part _ _ _ _ _ c.requires _ _ c.relabel.ensures.spots
 
@@ -33,6 +37,9 @@ returns-then-relabel_seeking-clause-whole c =
     let is = c.relabel_seeking.ensures.spots ∙ ap (λ n. labelled (spot c.args.rings.now) n (ring (spot c.args.rings.now) c.args.part)) (c.own-other.ensures ∙ sym kept) in
     labelled-apart _ _ _ _ _ c.requires _ _ known_b known_a given.there (rw (e) given.own) (rw (e) given.holder) is _ c.relabel_seeking.ensures.known
 
+pub returns-then-relabel_seeking-clause-rest : goal.returns-then-relabel_seeking-clause-rest
+returns-then-relabel_seeking-clause-rest c = ap (λ (s : Spots). label s c.args.rest) c.relabel_seeking.ensures.spots ∙ label-labelled_out (spot c.args.rings.now) _ (ring (spot c.args.rings.now) c.args.part) c.args.rest c.requires.apart
+
 pub returns-then-relabel_seeking-clause-spots : goal.returns-then-relabel_seeking-clause-spots
 returns-then-relabel_seeking-clause-spots c = relabelled_part _ _ _ _ _ c.requires _ _ c.relabel_seeking.ensures.spots
 
@@ -43,6 +50,9 @@ returns-else-relabel_seeking-clause-whole c =
     let missed : count (holder c.args.labels.now (label (spot c.args.rings.now) c.args.rest)) (ring (spot c.args.rings.now) c.args.part) ≡ 0 =
     subst (λ h. count h (ring (spot c.args.rings.now) c.args.part) ≡ 0) (c.holder.ensures ∙ ap (holder c.args.labels.now) (sym e)) (c.relabel_seeking.ensures.missed c.if-relabel_seeking.false) in
     labelled_beside _ _ _ _ _ c.requires _ _ _ c.relabel_seeking.ensures.spots c.relabel_seeking.ensures.known c.own-other.ensures known_a missed
+
+pub returns-else-relabel_seeking-clause-rest : goal.returns-else-relabel_seeking-clause-rest
+returns-else-relabel_seeking-clause-rest c = ap (λ (s : Spots). label s c.args.rest) c.relabel_seeking.ensures.spots ∙ label-labelled_out (spot c.args.rings.now) _ (ring (spot c.args.rings.now) c.args.part) c.args.rest c.requires.apart
 
 pub returns-else-relabel_seeking-clause-spots : goal.returns-else-relabel_seeking-clause-spots
 returns-else-relabel_seeking-clause-spots c = relabelled_part _ _ _ _ _ c.requires _ _ c.relabel_seeking.ensures.spots

@@ -1,9 +1,9 @@
-use Rattle.std.proofs.Common.{◌≡◌, ap, ◌∙◌}
+use Rattle.std.proofs.Common.{◌≡◌, cond, nat_eq, sym, ap, ◌∙◌}
 use Rattle.raw_ring.specs.Rings.{spot}
 use Rattle.arena_rows.specs.ring_spots.Spots.{Spots, live, label, ring, labelled}
 use Rattle.arena_rows.specs.ring_spots.Labels.{loop_at, in_loops}
-use Rattle.arena_rows.proofs.ring_spots_laws.SpotLaws.{live-spliced}
-use Rattle.arena_rows.proofs.ring_spots_laws.LabelLaws.{share-one, relabelled-one, labelled-join_to}
+use Rattle.arena_rows.proofs.ring_spots_laws.SpotLaws.{live-spliced, label-spliced}
+use Rattle.arena_rows.proofs.ring_spots_laws.LabelLaws.{share-one, relabelled-one, labelled-join_to, labelled_alike, loops-put}
 use Rattle.arena_rows.proofs.ring_spots_laws.LoopViews.{seen-join}
 use Rattle.arena_rows.proofs.ring_spots.parts.join.Goals as goal
 
@@ -13,20 +13,18 @@ exchange-requires-clause-a c = (share-one _ _ _ c.requires.whole c.args.a c.args
 pub exchange-requires-clause-b : goal.exchange-requires-clause-b
 exchange-requires-clause-b c = (share-one _ _ _ c.requires.whole c.args.a c.args.b c.requires.a c.requires.b (λ e. c.requires.apart (ap (loop_at c.args.labels.now) e)) _ _ c.share_label.ensures.spots c.share_label.ensures.known).b_there
 
-pub put_in_loop-requires-clause-whole : goal.put_in_loop-requires-clause-whole
-put_in_loop-requires-clause-whole c =
+pub returns-clause-whole : goal.returns-clause-whole
+returns-clause-whole c =
     let S = share-one _ _ _ c.requires.whole c.args.a c.args.b c.requires.a c.requires.b (λ e. c.requires.apart (ap (loop_at c.args.labels.now) e)) _ _ c.share_label.ensures.spots c.share_label.ensures.known in
-    labelled-join_to _ _ _ _ _ S _ _ c.exchange.ensures.spots c.exchange.ensures.known
-
-pub put_in_loop-requires-clause-there : goal.put_in_loop-requires-clause-there
-put_in_loop-requires-clause-there c =
-    let S = share-one _ _ _ c.requires.whole c.args.a c.args.b c.requires.a c.requires.b (λ e. c.requires.apart (ap (loop_at c.args.labels.now) e)) _ _ c.share_label.ensures.spots c.share_label.ensures.known in
-    ap (λ (s : Spots). live s c.args.a) c.exchange.ensures.spots ∙ live-spliced (spot c.share_label.new.rings) c.args.a c.args.b c.args.a ∙ S.a_there
+    labelled_alike _ _ _ _ (labelled-join_to _ _ _ _ _ S _ _ c.exchange.ensures.spots c.exchange.ensures.known) c.share_label.ensures.own c.share_label.ensures.holder c.share_label.ensures.there
 
 pub returns-clause-spots : goal.returns-clause-spots
 returns-clause-spots c =
-    let kept : c.loop_of-kept.result ≡ loop_at c.args.labels.now (label (spot c.args.rings.now) c.args.a) = c.loop_of-kept.ensures in
     let S = share-one _ _ _ c.requires.whole c.args.a c.args.b c.requires.a c.requires.b (λ e. c.requires.apart (ap (loop_at c.args.labels.now) e)) _ _ c.share_label.ensures.spots c.share_label.ensures.known in
     let r = relabelled-one _ _ _ c.requires.whole c.args.a c.args.b c.requires.a c.requires.b (λ e. c.requires.apart (ap (loop_at c.args.labels.now) e)) _ c.share_label.ensures.spots in
-    c.put_in_loop.ensures.spots ∙ ap (λ n. labelled (in_loops c.args.labels.now (spot c.exchange.new.rings)) n (ring (spot c.exchange.new.rings) c.args.a)) kept
+    let there = ap (λ (s : Spots). live s c.args.a) c.exchange.ensures.spots ∙ live-spliced (spot c.share_label.new.rings) c.args.a c.args.b c.args.a ∙ S.a_there in
+    let label_is : label (spot c.exchange.new.rings) c.args.a ≡ label (spot c.share_label.new.rings) c.args.a = ap (λ (s : Spots). label s c.args.a) c.exchange.ensures.spots ∙ label-spliced (spot c.share_label.new.rings) c.args.a c.args.b c.args.a in
+    loops-put _ _ _ (labelled-join_to _ _ _ _ _ S _ _ c.exchange.ensures.spots c.exchange.ensures.known) c.share_label.new.labels c.args.a c.args.kept there
+    (λ q. c.share_label.ensures.loops q ∙ ap (λ n. cond (nat_eq q n) c.args.kept (loop_at c.args.labels.now q)) (sym label_is))
+    ∙ ap (λ n. labelled (in_loops c.args.labels.now (spot c.exchange.new.rings)) n (ring (spot c.exchange.new.rings) c.args.a)) c.requires.kept
     ∙ seen-join _ _ _ c.requires.whole c.args.a c.args.b c.requires.a _ _ S r _ c.exchange.ensures.spots

@@ -1,7 +1,9 @@
-use Rattle.std.proofs.Common.{sym, ◌∙◌, subst}
+use Rattle.std.proofs.Common.{◌≡◌, sym, ◌∙◌, subst}
+use Rattle.raw_ring.specs.Rings.{spot}
 use Rattle.boundary_model.specs.Items.{IsIn}
-use Rattle.arena_rows.specs.ring_spots.Spots.{Spots, ring, labelled, spliced_at}
-use Rattle.arena_rows.proofs.ring_spots_laws.RingViews.{seen_live, seen_ring, seen_as, known_as}
+use Rattle.arena_rows.specs.ring_spots.Spots.{Spots, label, ring, labelled, spliced_at}
+use Rattle.arena_rows.specs.ring_spots.Labels.{map_in_loops}
+use Rattle.arena_rows.proofs.ring_spots_laws.RingViews.{seen_live, seen_label, seen_ring, seen_as, known_as}
 use Rattle.arena_rows.proofs.ring_spots_laws.LiveEdges.{edges_cut}
 use Rattle.arena_rows.proofs.ring_spots.edge_rings.EdgeRings.cut.Goals as goal
 
@@ -10,6 +12,12 @@ cut-requires-clause-a c = sym (seen_live c.self.inside.labels c.self.inside.ring
 
 pub cut-requires-clause-together : goal.cut-requires-clause-together
 cut-requires-clause-together c = subst (IsIn c.args.b) (seen_ring c.self.inside.labels c.self.inside.rings c.args.a) (rw (← c.self.view_is) at c.requires.together)
+
+pub cut-requires-clause-kept : goal.cut-requires-clause-kept
+cut-requires-clause-kept c =
+    let there = sym (seen_live c.self.inside.labels c.self.inside.rings c.args.a) ∙ (rw (← c.self.view_is) at c.requires.a) in
+    let kept : label (spot (map_in_loops c.self.inside.labels c.self.inside.rings)) c.args.a ≡ c.args.kept = rw (← c.self.view_is) at c.requires.kept in
+    sym kept ∙ seen_label c.self.inside.labels c.self.inside.rings c.args.a there
 
 pub invariant_of-self : goal.invariant_of-self
 invariant_of-self c =

@@ -1,4 +1,4 @@
-use Rattle.std.proofs.Common.{◌≢◌, sym, ◌∙◌}
+use Rattle.std.proofs.Common.{◌≡◌, ◌≢◌, sym, ◌∙◌}
 use Rattle.raw_ring.specs.Rings.{spot}
 use Rattle.arena_rows.specs.ring_spots.Spots.{label}
 use Rattle.arena_rows.specs.ring_spots.Labels.{map_in_loops}
@@ -18,6 +18,12 @@ join-requires-clause-apart c e =
     let b = sym (seen_live c.self.inside.labels c.self.inside.rings c.args.b) ∙ (rw (← c.self.view_is) at c.requires.b) in
     let other : label (spot (map_in_loops c.self.inside.labels c.self.inside.rings)) c.args.b ≢ label (spot (map_in_loops c.self.inside.labels c.self.inside.rings)) c.args.a = rw (← c.self.view_is) at c.requires.apart in
     other (seen_label c.self.inside.labels c.self.inside.rings c.args.b b ∙ e ∙ sym (seen_label c.self.inside.labels c.self.inside.rings c.args.a a))
+
+pub join-requires-clause-kept : goal.join-requires-clause-kept
+join-requires-clause-kept c =
+    let there = sym (seen_live c.self.inside.labels c.self.inside.rings c.args.a) ∙ (rw (← c.self.view_is) at c.requires.a) in
+    let kept : label (spot (map_in_loops c.self.inside.labels c.self.inside.rings)) c.args.a ≡ c.args.kept = rw (← c.self.view_is) at c.requires.kept in
+    sym kept ∙ seen_label c.self.inside.labels c.self.inside.rings c.args.a there
 
 pub invariant_of-self : goal.invariant_of-self
 invariant_of-self c =
