@@ -1,5 +1,5 @@
 -- What a sound model has: the things that its half-edges name.
-use Rattle.std.proofs.Common.{◌≡◌, ◌≢◌, ℕ, true, false, cond, not, nat_eq, ◌&&◌, [], refl, sym, ap, ◌∙◌, arith}
+use Rattle.std.proofs.Common.{◌≡◌, ◌≢◌, ℕ, ◌/◌, Bool, true, false, cond, not, nat_eq, ◌&&◌, [], refl, sym, ap, ◌∙◌, arith}
 use mathlib.Core.Bool.{beq}
 use Rattle.std.proofs.lemmas.Bool.Decides.{nat_tests}
 use Rattle.euler_operators.specs.declared.HalfEdge.{HalfEdge}
@@ -24,13 +24,16 @@ pub same_test : (h m : HalfEdge) → (nat_eq h.edge m.edge && beq h.first m.firs
 unfolding code
 same_test h m = grind (arith, h.edge, m.edge, h.first, m.first, nat_tests)
 
--- whether g is of another edge and leads to the far end
-pub leads_far : (M : Model) (h g : HalfEdge) (far t : ℕ) → nat_eq g.edge h.edge ≡ false → t ≡ tail M (mate (code g)) → nat_eq t far ≡ leads_to M (code h) far (code g)
-leads_far M h g far t other e = grind (arith, edge_of-code g, edge_of-code h)
+and_true : (b : Bool) → b && true ≡ b
+and_true true = refl
+and_true false = refl
 
-pub leads_not : (M : Model) (h g : HalfEdge) (far : ℕ) → nat_eq g.edge h.edge ≡ true → not (nat_eq g.edge h.edge) ≡ leads_to M (code h) far (code g)
-leads_not M h g far same = grind (arith, edge_of-code g, edge_of-code h)
+-- whether g, which leads to the far end, does it by another edge
+pub leads_far : (M : Model) (h g far t : ℕ) → t ≡ tail M (mate g) → t ≡ far → not (nat_eq (g / 2) (h / 2)) ≡ leads_to M h far g
+unfolding edge_of
+leads_far M h g far t at end = grind (arith, nat_tests, and_true (not (nat_eq (g / 2) (h / 2))))
 
 -- the least edge that was found, where g leads to the far end
-pub found_then : (M : Model) (h far : ℕ) (g : HalfEdge) (old least : ℕ) → leads_to M h far (code g) ≡ true → least ≡ lesser old g.edge → least ≡ cond (leads_to M h far (code g)) (lesser old (edge_of (code g))) old
-found_then M h far g old least t e = e ∙ ap (lesser old) (sym (edge_of-code g)) ∙ sym (ap (λ b. cond b (lesser old (edge_of (code g))) old) t)
+pub found_then : (M : Model) (h far g old least : ℕ) → leads_to M h far g ≡ true → least ≡ lesser old (g / 2) → least ≡ cond (leads_to M h far g) (lesser old (edge_of g)) old
+unfolding edge_of
+found_then M h far g old least t e = e ∙ sym (ap (λ b. cond b (lesser old (g / 2)) old) t)

@@ -1,4 +1,5 @@
 pub mod Known
+pub mod Coded
 pub mod Orders
 pub mod Tests
 pub mod Parallel

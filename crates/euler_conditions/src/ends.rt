@@ -1,12 +1,13 @@
 //! The tests of kev: the least parallel edge of an edge, and whether its kept end is bare.
 ghost use Rattle.std.specs.Prelude.{◌≡◌, true, cond};
 ghost use Rattle.euler_operators.specs.HalfEdge.{code, edge_of};
-ghost use Rattle.euler_operators.specs.Model.{round, tail};
+ghost use Rattle.euler_operators.specs.Model.{has_half};
 ghost use Rattle.halfedge_arena.specs.Store.{has_number};
 ghost use Rattle.euler_operators.specs.Conditions.{kept_end_bare, parallel};
 ghost use Rattle.euler_conditions.specs.Ready.{IsReady};
 ghost use Rattle.euler_conditions.specs.Ends.{leads_to, lesser};
 
+use crate::codes::{mate_code, round_code, tail_of_code};
 use crate::halves;
 use euler_operators::{HALF_EDGE_CODES, HalfEdge, Kind};
 use halfedge_arena::Arena;
@@ -21,22 +22,13 @@ pub(crate) fn kept_end_bare(arena: &Arena, h: HalfEdge) -> bool
     halves::same(halves::next(arena, mate), h) && !halves::same(halves::next(arena, h), mate)
 }
 
-/// The next half-edge that leaves the same vertex.
-fn round(arena: &Arena, h: HalfEdge) -> HalfEdge
-    requires ready { IsReady arena.now }
-    requires there { has_number arena.now Kind.Edge h.edge ≡ true }
-    ensures round { code result ≡ round arena.now.model (code h) }
-    ensures there { has_number arena.now Kind.Edge result.edge ≡ true }
+/// Whether the half-edge of the code `other` leads to the vertex `far`, by another edge than that of `code`. Few lead there, so the edge is
+/// asked for last.
+fn leads_to(arena: &Arena, code: u32, far: u32, other: u32) -> bool
+    requires { has_half arena.now.model other ≡ true }
+    ensures { result ≡ leads_to arena.now.model code far other }
 {
-    halves::next(arena, halves::mate(h))
-}
-
-/// Whether the edge of the other half-edge is another than that of h and leads to the vertex `far`.
-fn leads_to(arena: &Arena, h: HalfEdge, far: u32, other: HalfEdge) -> bool
-    requires { has_number arena.now Kind.Edge other.edge ≡ true }
-    ensures { result ≡ leads_to arena.now.model (code h) far (code other) }
-{
-    other.edge != h.edge && halves::tail(arena, halves::mate(other)) == far
+    tail_of_code(arena, mate_code(other)) == far && other / 2 != code / 2
 }
 
 /// The lesser of two edges, where 0 is none.
@@ -46,13 +38,13 @@ fn lesser(least: u32, edge: u32) -> u32
     if least == 0 { edge } else { least.min(edge) }
 }
 
-/// The lesser of `least` and the edge of the other half-edge, where that leads to `far` by another edge than h, and else `least`.
-fn seen(arena: &Arena, h: HalfEdge, far: u32, least: u32, other: HalfEdge) -> u32
-    requires { has_number arena.now Kind.Edge other.edge ≡ true }
-    ensures { result ≡ cond (leads_to arena.now.model (code h) far (code other)) (lesser least (edge_of (code other))) least }
+/// The lesser of `least` and the edge of the half-edge of `other`, where that leads to `far` by another edge than `code`, and else `least`.
+fn seen(arena: &Arena, code: u32, far: u32, least: u32, other: u32) -> u32
+    requires { has_half arena.now.model other ≡ true }
+    ensures { result ≡ cond (leads_to arena.now.model code far other) (lesser least (edge_of other)) least }
 {
-    if leads_to(arena, h, far, other) {
-        lesser(least, other.edge)
+    if leads_to(arena, code, far, other) {
+        lesser(least, other / 2)
     } else {
         least
     }
@@ -65,20 +57,21 @@ pub(crate) fn parallel(arena: &Arena, h: HalfEdge) -> u32
     requires there { has_number arena.now Kind.Edge h.edge ≡ true }
     ensures { result ≡ parallel arena.now.model (code h) }
 {
-    let mate = halves::mate(h);
-    let far = halves::tail(arena, mate);
-    let near = halves::tail(arena, h);
-    let (mut g, mut least) = (h, 0);
+    let code = h.code();
+    let mate = mate_code(code);
+    let far = tail_of_code(arena, mate);
+    let near = tail_of_code(arena, code);
+    let (mut g, mut least) = (code, 0);
     let (mut opposite, mut opposite_least) = (mate, 0);
     'round: for _ in 0..HALF_EDGE_CODES {
-        least = seen(arena, h, far, least, g);
-        g = round(arena, g);
-        if halves::same(g, h) {
+        least = seen(arena, code, far, least, g);
+        g = round_code(arena, g);
+        if g == code {
             return least;
         }
         opposite_least = seen(arena, mate, near, opposite_least, opposite);
-        opposite = round(arena, opposite);
-        if halves::same(opposite, mate) {
+        opposite = round_code(arena, opposite);
+        if opposite == mate {
             return opposite_least;
         }
     }

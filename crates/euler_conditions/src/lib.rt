@@ -5,6 +5,7 @@
 //!
 //! `check` is Ok exactly where all conditions hold, else it names the first false one, with its value, for every operator.
 
+mod codes;
 mod corners;
 mod ends;
 mod every;
@@ -17,6 +18,7 @@ mod parts;
 mod single;
 mod torn;
 
+pub use codes::{mate_code, next_code, round_code};
 pub use corners::{corner_loop, is_lone};
 pub use euler_operators::{FaceList, Op, Refusal, Why};
 pub use every::check;

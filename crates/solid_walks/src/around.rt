@@ -4,8 +4,8 @@ ghost use Rattle.euler_operators.specs.Model.{before, has_half};
 ghost use Rattle.euler_conditions.specs.Ready.{IsReady};
 ghost use Rattle.shapes.specs.Walks.{leads};
 
-use crate::codes::{back, mate_code, round};
-use euler_conditions::Arena;
+use crate::codes::back;
+use euler_conditions::{Arena, mate_code, round_code};
 use euler_operators::HALF_EDGE_CODES;
 
 /// Whether the half-edge of a code is of the least edge at its vertex; `previous` is the code of the item before it in its loop, whose
@@ -30,7 +30,7 @@ pub fn leads(arena: &Arena, previous: u32, code: u32) -> bool
         if behind == ahead {
             return true;
         }
-        let next = round(arena, ahead);
+        let next = round_code(arena, ahead);
         if next / 2 < edge {
             return false;
         }

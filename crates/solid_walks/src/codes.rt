@@ -1,24 +1,14 @@
 //! Half-edges by their codes, for walks that look at many: a code is one number to carry and to compare.
-ghost use Rattle.std.specs.Prelude.{◌≡◌, ◌≤◌, true};
+ghost use Rattle.std.specs.Prelude.{◌≡◌, true};
 ghost use Rattle.euler_operators.specs.Points.{IsInRange};
 ghost use Rattle.euler_operators.specs.HalfEdge.{mate};
-ghost use Rattle.euler_operators.specs.Model.{after, before, has_half, round};
+ghost use Rattle.euler_operators.specs.Model.{before, has_half};
 ghost use Rattle.euler_conditions.specs.Ready.{IsReady};
 ghost use Rattle.shapes.specs.Faces.{start};
 
 use crate::halves::{previous, start};
-use euler_conditions::{Arena, mate, next};
+use euler_conditions::{Arena, mate_code};
 use euler_operators::{HalfEdge, Point};
-
-/// The code of the item after a half-edge in its loop.
-pub fn next_code(arena: &Arena, code: u32) -> u32
-    requires ready { IsReady arena.now }
-    requires there { has_half arena.now.model code ≡ true }
-    ensures next { result ≡ after arena.now.model code }
-    ensures there { has_half arena.now.model result ≡ true }
-{
-    next(arena, HalfEdge::of_code(code)).code()
-}
 
 /// The code of the item before a half-edge in its loop.
 pub fn previous_code(arena: &Arena, code: u32) -> u32
@@ -38,23 +28,6 @@ pub fn start_of_code(arena: &Arena, code: u32) -> Point
     ensures range { IsInRange result }
 {
     start(arena, HalfEdge::of_code(code))
-}
-
-/// The code of the same edge in the opposite direction.
-pub(crate) fn mate_code(code: u32) -> u32
-    requires { code ≤ 2000001 }
-    ensures { result ≡ mate code }
-{
-    mate(HalfEdge::of_code(code)).code()
-}
-
-/// The code of the next half-edge that leaves the same vertex.
-pub(crate) fn round(arena: &Arena, code: u32) -> u32
-    requires ready { IsReady arena.now }
-    requires there { has_half arena.now.model code ≡ true }
-    ensures { result ≡ round arena.now.model code }
-{
-    next_code(arena, mate_code(code))
 }
 
 /// The code of the half-edge that leaves the same vertex, and that this one is the next of.

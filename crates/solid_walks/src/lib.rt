@@ -22,8 +22,8 @@ mod lone;
 mod numbers;
 
 pub use around::leads;
-pub use codes::{next_code, previous_code, start_of_code};
-pub use euler_conditions::{Arena, next, same};
+pub use codes::{previous_code, start_of_code};
+pub use euler_conditions::{Arena, next, next_code, same};
 pub use face_walks::{
     Faces, Items, Loops, faces_of, items_from, items_of, items_round, least_item, loops_of,
     rings_of, some_item,

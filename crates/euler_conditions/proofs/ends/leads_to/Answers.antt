@@ -1,13 +1,13 @@
 use Rattle.std.proofs.Common.{ap, ◌∙◌}
-use Rattle.std.proofs.lemmas.Bool.{ne_eqb, eq-eqb}
-use Rattle.euler_operators.specs.Model.{tail}
-use Rattle.euler_conditions.proofs.Known.{leads_far, leads_not}
+use Rattle.euler_operators.specs.Model.{has_half, tail}
+use Rattle.euler_operators.proofs.Models.{mate_there}
+use Rattle.euler_conditions.proofs.Known.{leads_far}
 use Rattle.euler_conditions.proofs.ends.leads_to.Goals as goal
 
-pub returns-then-other-h : goal.returns-then-other-h
-returns-then-other-h c =
-    let M = c.args.arena.now.model in
-    leads_far M c.args.h c.args.other c.args.far c.tail.result (ne_eqb c.args.other.edge c.args.h.edge c.if-other-h.true) (c.tail.ensures ∙ ap (tail M) c.mate.ensures.mate)
+pub tail_of_code-requires : goal.tail_of_code-requires
+tail_of_code-requires c = let M = c.args.arena.now.model in ap (has_half M) c.mate_code.ensures ∙ mate_there M c.args.other c.requires
 
-pub returns-else-other-h : goal.returns-else-other-h
-returns-else-other-h c = leads_not c.args.arena.now.model c.args.h c.args.other c.args.far (eq-eqb c.args.other.edge c.args.h.edge c.if-other-h.false)
+pub returns-then-tail_of_code-far : goal.returns-then-tail_of_code-far
+returns-then-tail_of_code-far c =
+    let M = c.args.arena.now.model in
+    leads_far M c.args.code c.args.other c.args.far c.tail_of_code.result (c.tail_of_code.ensures ∙ ap (tail M) c.mate_code.ensures) c.if-tail_of_code-far.true

@@ -1,14 +1,9 @@
 use Rattle.std.proofs.Common.{ℕ, ◌+◌, ◌-◌, ◌≤◌, ◌<◌, sym, ap, subst, ◌∙◌, arith}
 use Rattle.euler_operators.specs.HalfEdge.{edge_of, mate}
 use Rattle.euler_operators.specs.Model.{round}
-use Rattle.euler_laws.proofs.shared.Bounds.{steps, steps_are, half_below}
-use Rattle.solid_walks.proofs.TwoWays.{Unseen, before_there, unseen_start, unseen_ended, faced_there, met_back, lesser_back, step_back, met_ahead, lesser_ahead, step_ahead, not_less, less}
+use Rattle.euler_laws.proofs.shared.Bounds.{steps, steps_are}
+use Rattle.solid_walks.proofs.TwoWays.{Unseen, unseen_start, unseen_ended, faced_there, met_back, lesser_back, step_back, met_ahead, lesser_ahead, step_ahead, not_less, less}
 use Rattle.solid_walks.proofs.around.leads.Goals as goal
-
-pub mate_code-behind-requires : goal.mate_code-behind-requires
-mate_code-behind-requires c =
-    let M = c.args.arena.now.model in let s = c.requires.ready.sound in
-    let b = half_below M s _ (before_there M s c.args.code c.requires.there) in omega (arith, b, steps_are, c.requires.previous)
 
 pub round-init : goal.round-init
 round-init c =
@@ -31,7 +26,7 @@ returns-then-next-behind c =
     let M = c.args.arena.now.model in let s = c.requires.ready.sound in let h : ℕ = c.args.code in let n : ℕ = steps - c.round.counter in
     let back : Unseen M h c.round.ahead c.round.behind n =
     step_back M s h c.requires.there c.round.ahead c.round.behind n c.round.invariant c.if-behind-ahead.false (not_less c.round.behind h c.if-behind-edge.false) in
-    sym (met_ahead M s h c.requires.there c.round.ahead c.round.behind n back (sym c.round-next.ensures ∙ c.if-next-behind.true))
+    sym (met_ahead M s h c.requires.there c.round.ahead c.round.behind n back (sym c.round_code-next.ensures.round ∙ c.if-next-behind.true))
 
 pub returns-then-next-edge : goal.returns-then-next-edge
 returns-then-next-edge c =
@@ -39,10 +34,10 @@ returns-then-next-edge c =
     let back : Unseen M h c.round.ahead c.round.behind n =
     step_back M s h c.requires.there c.round.ahead c.round.behind n c.round.invariant c.if-behind-ahead.false (not_less c.round.behind h c.if-behind-edge.false) in
     sym (lesser_ahead M s h c.requires.there c.round.ahead c.round.behind n back
-    (subst (λ x. edge_of x < edge_of h) c.round-next.ensures (less c.round-next.result h c.if-next-edge.true)))
+    (subst (λ x. edge_of x < edge_of h) c.round_code-next.ensures.round (less c.round_code-next.result h c.if-next-edge.true)))
 
-pub round-next-requires-clause-there : goal.round-next-requires-clause-there
-round-next-requires-clause-there c = c.round.invariant.walk.ahead_there
+pub round_code-next-requires-clause-there : goal.round_code-next-requires-clause-there
+round_code-next-requires-clause-there c = c.round.invariant.walk.ahead_there
 
 pub back-behind-requires-clause-there : goal.back-behind-requires-clause-there
 back-behind-requires-clause-there c =
@@ -54,11 +49,11 @@ round-preserved c =
     let back : Unseen M h c.round.ahead c.round.behind n =
     step_back M s h c.requires.there c.round.ahead c.round.behind n c.round.invariant c.if-behind-ahead.false (not_less c.round.behind h c.if-behind-edge.false) in
     let both : Unseen M h (round M c.round.ahead) c.round.behind (steps - (c.round.counter + 1)) =
-    step_ahead M s h c.requires.there c.round.ahead c.round.behind n back (steps - (c.round.counter + 1)) (omega (arith, steps_are)) (λ e. c.if-next-behind.false (c.round-next.ensures ∙ e))
-    (subst (λ x. edge_of h ≤ edge_of x) c.round-next.ensures (not_less c.round-next.result h c.if-next-edge.false)) in
+    step_ahead M s h c.requires.there c.round.ahead c.round.behind n back (steps - (c.round.counter + 1)) (omega (arith, steps_are)) (λ e. c.if-next-behind.false (c.round_code-next.ensures.round ∙ e))
+    (subst (λ x. edge_of h ≤ edge_of x) c.round_code-next.ensures.round (not_less c.round_code-next.result h c.if-next-edge.false)) in
     record {
       last = c.round.behind;
-      walk = subst (λ x. Unseen M h x c.round.behind (steps - (c.round.counter + 1))) (sym c.round-next.ensures) both;
+      walk = subst (λ x. Unseen M h x c.round.behind (steps - (c.round.counter + 1))) (sym c.round_code-next.ensures.round) both;
       comes = c.back-behind.ensures;
     }
 

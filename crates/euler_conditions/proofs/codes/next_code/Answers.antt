@@ -1,8 +1,8 @@
 use Rattle.std.proofs.Common.{ap, ◌∙◌}
 use Rattle.euler_operators.specs.Model.{after, has_half}
 use Rattle.euler_laws.proofs.shared.Rows.{half_of}
-use Rattle.solid_walks.proofs.face_walks_laws.HalfCodes.{coded, coded_there, edge_fits}
-use Rattle.solid_walks.proofs.codes.next_code.Goals as goal
+use Rattle.euler_conditions.proofs.Coded.{coded, coded_there, edge_fits}
+use Rattle.euler_conditions.proofs.codes.next_code.Goals as goal
 
 pub next-requires-clause-there : goal.next-requires-clause-there
 next-requires-clause-there c = coded_there c.args.arena.now.model c.of_code.result c.args.code c.of_code.ensures c.requires.there
