@@ -1,26 +1,27 @@
 -- Half-edges of codes, and the code of a mate.
-use Rattle.std.proofs.Common.{◌≡◌, ℕ, ◌+◌, ◌*◌, ◌/◌, ◌%◌, ◌^◌, ◌≤◌, true, ap, sym, ◌∙◌, arith, inl, inr}
+use Rattle.std.proofs.Common.{◌≡◌, ◌≢◌, ℕ, ◌+◌, ◌*◌, ◌/◌, ◌%◌, ◌^◌, ◌≤◌, ap, sym, ◌∙◌, arith, inl, inr}
 use Rattle.std.specs.Prelude.{bit_xor}
+use Rattle.std.proofs.lemmas.Bool.Decides.{nat_tests}
 use Rattle.std.proofs.lemmas.Nat.{xor_block, xor_comm}
 use Rattle.euler_operators.specs.declared.HalfEdge.{HalfEdge}
 use Rattle.euler_operators.specs.HalfEdge.{code, half, edge_of, mate}
-use Rattle.euler_operators.specs.Table.{has}
-use Rattle.euler_operators.specs.Model.{Model, has_half, is_number}
+use Rattle.euler_operators.specs.Model.{Model, is_number}
 use Rattle.euler_operators.specs.Sound.{Sound, HasHalf}
 use Rattle.euler_operators.proofs.Halves.{edge_of-code, code-half, mate_cases}
 use Rattle.euler_operators.proofs.Models.{number_fits}
-use Rattle.euler_laws.proofs.shared.Rows.{of_half}
 
 -- an edge that is there has a number in range
 pub edge_fits : (M : Model) → Sound M → (h : HalfEdge) → HasHalf M (code h) → h.edge ≤ 1000000
 edge_fits M sound h there = number_fits h.edge (ap is_number (sym (edge_of-code h)) ∙ sound.edges_fit (edge_of (code h)) there)
 
+-- no code that is there is 0
+pub code_real : (M : Model) → Sound M → (k : ℕ) → HasHalf M k → k ≢ 0
+unfolding edge_of
+code_real M sound k there z = grind (arith, sound.edges_fit (k / 2) there, nat_tests)
+
 -- the half-edge of a code
 pub coded : (h : HalfEdge) (k : ℕ) → h ≡ half k → code h ≡ k
 coded h k e = ap code e ∙ code-half k
-
-pub coded_there : (M : Model) (h : HalfEdge) (k : ℕ) → h ≡ half k → HasHalf M k → has M.edges h.edge ≡ true
-coded_there M h k e there = of_half M h (ap (λ x. has_half M x) (coded h k e) ∙ there)
 
 -- a mate's code differs in the lowest bit
 split : (n : ℕ) → bit_xor n 1 ≡ n / 2 * 2 + bit_xor (n % 2) 1

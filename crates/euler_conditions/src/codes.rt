@@ -2,9 +2,8 @@
 ghost use Rattle.std.specs.Prelude.{◌≡◌, true};
 ghost use Rattle.euler_operators.specs.HalfEdge.{mate};
 ghost use Rattle.euler_operators.specs.Model.{after, has_half, round, tail};
-ghost use Rattle.euler_conditions.specs.Ready.{IsReady};
+ghost use Rattle.euler_operators.specs.Sound.{Sound};
 
-use crate::halves::next;
 use euler_operators::HalfEdge;
 use halfedge_arena::Arena;
 
@@ -18,12 +17,12 @@ pub(crate) fn tail_of_code(arena: &Arena, code: u32) -> u32
 
 /// The code of the item after a half-edge in its loop.
 pub fn next_code(arena: &Arena, code: u32) -> u32
-    requires ready { IsReady arena.now }
+    requires sound { Sound arena.now.model }
     requires there { has_half arena.now.model code ≡ true }
     ensures next { result ≡ after arena.now.model code }
     ensures there { has_half arena.now.model result ≡ true }
 {
-    next(arena, HalfEdge::of_code(code)).code()
+    arena.next(HalfEdge::of_code(code)).code()
 }
 
 /// The code of the same edge in the opposite direction: the two differ in the lowest bit.
@@ -35,7 +34,7 @@ pub fn mate_code(code: u32) -> u32
 
 /// The code of the next half-edge that leaves the same vertex.
 pub fn round_code(arena: &Arena, code: u32) -> u32
-    requires ready { IsReady arena.now }
+    requires sound { Sound arena.now.model }
     requires there { has_half arena.now.model code ≡ true }
     ensures round { result ≡ round arena.now.model code }
     ensures there { has_half arena.now.model result ≡ true }

@@ -1,9 +1,7 @@
 -- What of a walk is still to come.
-use Rattle.std.specs.Prelude.{ℕ, Bool, true, false, nat_lt, List, [], ◌∷◌, filter, Option, Some, None, IfSome}
+use Rattle.std.specs.Prelude.{◌≢◌, ℕ, Bool, true, false, cond, nat_eq, nat_lt, List, [], ◌∷◌, filter}
 use Rattle.euler_operators.specs.Items.{after, IsIn}
 use Rattle.euler_operators.specs.Rings.{rotate_to}
-use Rattle.euler_operators.specs.declared.HalfEdge.{HalfEdge}
-use Rattle.euler_operators.specs.HalfEdge.{code}
 use Rattle.euler_operators.specs.Model.{Model, cycle_of, outer, rings_of}
 use Rattle.euler_operators.specs.Sound.{Sound, HasHalf}
 
@@ -20,13 +18,12 @@ loops_left M f false n = above n (rings_of M f)
 abbrev pub to_come : ℕ → List ℕ → ℕ → List ℕ
 to_come h xs x = after x (rotate_to h xs)
 
--- of the half-edges round the loop of h, from h on: the next one, if there is one, and those after it
-abbrev pub items_left : Model → ℕ → Option HalfEdge → List ℕ
-items_left M h None = []
-items_left M h (Some next) = code next ∷ to_come h (cycle_of M h) (code next)
+-- of the half-edges round the loop of h, from h on: the next one, unless that is 0, and those after it
+abbrev pub items_left : Model → ℕ → ℕ → List ℕ
+items_left M h next = cond (nat_eq next 0) [] (next ∷ to_come h (cycle_of M h) next)
 
 -- the next half-edge of a walk round the loop of h is one of that loop
-pub record IsRound (M : Model) (h : ℕ) (next : Option HalfEdge) : Type 0 where
+pub record IsRound (M : Model) (h next : ℕ) : Type 0 where
   pub sound : Sound M
   pub there : HasHalf M h
-  pub inside : IfSome next (λ g. IsIn (code g) (cycle_of M h))
+  pub inside : next ≢ 0 → IsIn next (cycle_of M h)

@@ -1,5 +1,6 @@
 -- A walk round a ring, from an item on until it is met again.
-use Rattle.std.proofs.Common.{◌≡◌, ◌≢◌, ℕ, ◌≤◌, List, [], ◌∷◌, ◌++◌, refl, sym, ap, ◌∙◌, arith, append_assoc, is_some}
+use Rattle.std.proofs.Common.{◌≡◌, ◌≢◌, ℕ, ◌≤◌, min, List, [], ◌∷◌, ◌++◌, refl, sym, ap, subst, ◌∙◌, arith, append_assoc, is_some, inl, inr}
+use Rattle.std.proofs.lemmas.Bool.{cases_lt, ne_eqb}
 use Rattle.euler_operators.specs.Items.{count, IsIn, IsApart, before, after, head_or, least}
 use Rattle.euler_operators.specs.Rings.{rotate_to, canonical, successor, rest}
 use Rattle.euler_operators.proofs.Lists.{count-append, tick_same, split_at, count-before, before_of, after_of, least_le, least_in}
@@ -9,6 +10,8 @@ use Rattle.euler_operators.specs.Model.{Model, content, loop_of, cycle_of}
 use Rattle.euler_operators.specs.Model as model
 use Rattle.euler_operators.specs.Sound.{Sound, HasHalf, StandsIn}
 use Rattle.euler_operators.proofs.Models.{in-holds, held_row, cycle_there, cycle_sound, number_real}
+use Rattle.euler_conditions.proofs.Coded.{code_real}
+use Rattle.solid_walks.specs.Left.{items_left}
 pub use Rattle.solid_walks.specs.Left.{to_come}
 
 -- the items of a walk from h that has come to x, x among them
@@ -127,3 +130,14 @@ module _ (M : Model) (sound : Sound M) (h : ℕ) (there : HasHalf M h) where
   comes_back g r i n same =
       let back = sym (next_item g r i n) ∙ same in
       (walk_ends h (cycle_of M h) cycle_apart item_in g i back, all_seen h (cycle_of M h) cycle_apart item_in g i back)
+
+-- the next one of a walk, where there is one
+pub items_left_is : (M : Model) → Sound M → (h next : ℕ) → HasHalf M next → items_left M h next ≡ next ∷ to_come h (cycle_of M h) next
+items_left_is M sound h next there = rw (ne_eqb next 0 (code_real M sound next there)) refl
+
+-- the lesser of two items is one
+pub lesser_in : (xs : List ℕ) (a b c : ℕ) → c ≡ min a b → IsIn a xs → IsIn b xs → IsIn c xs
+lesser_in xs a b c e i j = elim (cases_lt a b) [
+  | inl l ↦ let s : a ≡ c = omega (arith, e) in subst (λ k. IsIn k xs) s i
+  | inr l ↦ let s : b ≡ c = omega (arith, e) in subst (λ k. IsIn k xs) s j
+]

@@ -11,17 +11,17 @@ ghost use Rattle.euler_conditions.specs.Store.{has_number};
 ghost use Rattle.euler_conditions.specs.Ready.{IsReady};
 ghost use Rattle.solid_walks.specs.Left.{IsRound, items_left, to_come};
 
-use euler_conditions::Arena;
+use euler_conditions::{Arena, next_code};
 use euler_operators::{Content, HalfEdge, Kind};
 use std::alloc::{AllocError, Global};
 use std::marker::Model;
 
-/// The half-edges that a walk once round a loop still meets, seen as the list of their codes.
+/// The half-edges that a walk once round a loop still meets, seen as the list of their codes. `next` is the code of the next one, or 0.
 #[derive(Drop)]
 pub struct Items<'a> {
     arena: &'a Arena,
-    first: HalfEdge,
-    next: Option<HalfEdge>,
+    first: u32,
+    next: u32,
 }
 
 impl<'a> Model for Items<'a> {
@@ -29,12 +29,11 @@ impl<'a> Model for Items<'a> {
 
     ghost Value = { List ℕ };
 
-    ghost use Rattle.euler_operators.specs.HalfEdge.{code};
     ghost use Rattle.solid_walks.specs.Left.{items_left, IsRound};
 
-    ghost view = { λ w. items_left w.arena.now.model (code w.first) w.next };
+    ghost view = { λ w. items_left w.arena.now.model w.first w.next };
 
-    ghost invariant = { λ w. IsRound w.arena.now.model (code w.first) w.next };
+    ghost invariant = { λ w. IsRound w.arena.now.model w.first w.next };
 }
 
 /// The half-edges of the loop in which h stands, once round from h on.
@@ -43,24 +42,25 @@ pub fn items_round(arena: &Arena, h: HalfEdge) -> Items<'_>
     requires there { has_half arena.now.model (code h) ≡ true }
     ensures { result ≡ rotate_to (code h) (cycle_of arena.now.model (code h)) }
 {
+    let first = h.code();
     Items {
         arena,
-        first: h,
-        next: Some(h),
+        first,
+        next: first,
     }
 }
 
-/// The half-edge after `item` in their loop, unless that is `first`, with which the walk began.
+/// The code of the half-edge after `item` in their loop, unless that is `first`, with which the walk began, and else 0.
 #[inline]
-fn item_after(arena: &Arena, first: HalfEdge, item: HalfEdge) -> Option<HalfEdge>
+fn item_after(arena: &Arena, first: u32, item: u32) -> u32
     requires sound { Sound arena.now.model }
-    requires there { has_half arena.now.model (code first) ≡ true }
-    requires inside { IsIn (code item) (cycle_of arena.now.model (code first)) }
-    ensures left { items_left arena.now.model (code first) result ≡ to_come (code first) (cycle_of arena.now.model (code first)) (code item) }
-    ensures round { IsRound arena.now.model (code first) result }
+    requires there { has_half arena.now.model first ≡ true }
+    requires inside { IsIn item (cycle_of arena.now.model first) }
+    ensures left { items_left arena.now.model first result ≡ to_come first (cycle_of arena.now.model first) item }
+    ensures round { IsRound arena.now.model first result }
 {
-    let after = arena.next(item);
-    if after == first { None } else { Some(after) }
+    let after = next_code(arena, item);
+    if after == first { 0 } else { after }
 }
 
 impl<'a> Iterator for Items<'a> {
@@ -72,11 +72,12 @@ impl<'a> Iterator for Items<'a> {
 
     #[inline]
     fn next(&mut self) -> Option<HalfEdge> {
-        let Some(item) = self.next else {
+        let item = self.next;
+        if item == 0 {
             return None;
-        };
+        }
         self.next = item_after(self.arena, self.first, item);
-        Some(item)
+        Some(HalfEdge::of_code(item))
     }
 }
 
@@ -102,16 +103,15 @@ pub fn least_item(arena: &Arena, h: HalfEdge) -> HalfEdge
     ensures same_loop { cycle_of arena.now.model (code result) ≡ cycle_of arena.now.model (code h) }
     ensures least { code result ≡ least (cycle_of arena.now.model (code h)) }
 {
-    let mut least = h;
-    let mut at = h;
+    let first = h.code();
+    let mut least = first;
+    let mut at = first;
     'round: loop {
-        at = arena.next(at);
-        if at == h {
-            return least;
+        at = next_code(arena, at);
+        if at == first {
+            return HalfEdge::of_code(least);
         }
-        if at.code() < least.code() {
-            least = at;
-        }
+        least = least.min(at);
     }
 }
 

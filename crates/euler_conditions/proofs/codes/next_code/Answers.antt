@@ -1,17 +1,29 @@
-use Rattle.std.proofs.Common.{ap, ◌∙◌}
+use Rattle.std.proofs.Common.{◌≡◌, ap, sym, subst, ◌∙◌}
+use Rattle.euler_operators.specs.HalfEdge.{code}
 use Rattle.euler_operators.specs.Model.{after, has_half}
-use Rattle.euler_laws.proofs.shared.Rows.{half_of}
-use Rattle.euler_conditions.proofs.Coded.{coded, coded_there, edge_fits}
+use Rattle.euler_operators.specs.Sound.{HasHalf}
+use Rattle.euler_laws.proofs.shared.Fans.{half_after}
+use Rattle.euler_conditions.proofs.Known.{in_a_loop}
+use Rattle.euler_conditions.proofs.Coded.{coded, edge_fits}
 use Rattle.euler_conditions.proofs.codes.next_code.Goals as goal
 
-pub next-requires-clause-there : goal.next-requires-clause-there
-next-requires-clause-there c = coded_there c.args.arena.now.model c.of_code.result c.args.code c.of_code.ensures c.requires.there
+pub next-requires : goal.next-requires
+next-requires c = ap (has_half c.args.arena.now.model) (coded c.of_code.result c.args.code c.of_code.ensures) ∙ c.requires.there
+
+-- what the arena tells is the next item, and it is there
+leads : (c : goal.After-next) → code c.next.result ≡ after c.args.arena.now.model c.args.code
+leads c =
+    let M = c.args.arena.now.model in let is = coded c.of_code.result c.args.code c.of_code.ensures in
+    c.next.ensures.in_loop (in_a_loop M c.requires.sound (code c.of_code.result) (ap (has_half M) is ∙ c.requires.there)) ∙ ap (after M) is
+
+goes : (c : goal.After-next) → HasHalf c.args.arena.now.model (code c.next.result)
+goes c = let M = c.args.arena.now.model in subst (HasHalf M) (sym (leads c)) (half_after M c.requires.sound c.args.code c.requires.there)
 
 pub code-requires : goal.code-requires
-code-requires c = let M = c.args.arena.now.model in edge_fits M c.requires.ready.sound c.next.result (half_of M c.next.result c.next.ensures.there)
+code-requires c = edge_fits c.args.arena.now.model c.requires.sound c.next.result (goes c)
 
 pub returns-clause-next : goal.returns-clause-next
-returns-clause-next c = let M = c.args.arena.now.model in c.code.ensures ∙ c.next.ensures.next ∙ ap (after M) (coded c.of_code.result c.args.code c.of_code.ensures)
+returns-clause-next c = c.code.ensures ∙ leads c.before
 
 pub returns-clause-there : goal.returns-clause-there
-returns-clause-there c = let M = c.args.arena.now.model in ap (has_half M) c.code.ensures ∙ half_of M c.next.result c.next.ensures.there
+returns-clause-there c = ap (has_half c.args.arena.now.model) c.code.ensures ∙ goes c.before

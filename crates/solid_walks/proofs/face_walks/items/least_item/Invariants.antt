@@ -1,16 +1,15 @@
 use Rattle.std.proofs.Common.{◌≤◌, ℕ, length}
 use Rattle.euler_operators.specs.Items.{IsIn}
-use Rattle.euler_operators.specs.HalfEdge.{code}
 use Rattle.euler_operators.specs.Model.{cycle_of}
 use Rattle.solid_walks.proofs.face_walks_laws.CycleWalks.{seen, to_come}
 use Rattle.solid_walks.proofs.face_walks.items.least_item.Given as goal
 
 abbrev pub invariant-round : goal.invariant-round
 invariant-round l = record {
-  at_in : IsIn (code l.at) (cycle_of l.arena.model (code l.h));
-  least_in : IsIn (code l.least) (cycle_of l.arena.model (code l.h));
-  below : (x : ℕ) → IsIn x (seen (code l.h) (cycle_of l.arena.model (code l.h)) (code l.at)) → code l.least ≤ x;
+  at_in : IsIn l.at (cycle_of l.arena.model l.first);
+  least_in : IsIn l.least (cycle_of l.arena.model l.first);
+  below : (x : ℕ) → IsIn x (seen l.first (cycle_of l.arena.model l.first) l.at) → l.least ≤ x;
 }
 
 abbrev pub decreases-round : goal.decreases-round
-decreases-round l = length (to_come (code l.h) (cycle_of l.arena.model (code l.h)) (code l.at))
+decreases-round l = length (to_come l.first (cycle_of l.arena.model l.first) l.at)
