@@ -1,7 +1,9 @@
 pub mod solid_checks_laws
 pub mod solid_counts_laws
+pub mod ShortNumbers
 pub mod Areas
 pub mod AreaRounds
+pub mod SweptRounds
 pub mod LeastRounds
 pub mod FlatFaces
 pub mod Boundaries

@@ -12,6 +12,7 @@ ghost use Rattle.solid_measure.specs.Measure.{anchor, area, area_limit, is_flat,
 
 use crate::Vector;
 use crate::loops::{loop_added, loop_lies_on, walk_round};
+use crate::short::short_plane;
 use euler_operators::{Content, Kind, Plane, Point, dot};
 use solid_walks::{Arena, loops_of, start_of_code};
 
@@ -106,7 +107,8 @@ fn face_lies_on(arena: &Arena, plane: Plane, f: u32) -> bool
     requires plane { IsPlane plane }
     ensures { result ≡ list_all (λ v. is_on plane (point_of arena.now.model v)) (corners arena.now.model f) }
 {
-    loops_of(arena, f).all(|l| loop_lies_on(arena, plane, l))
+    let short = short_plane(plane);
+    loops_of(arena, f).all(|l| loop_lies_on(arena, plane, short, l))
 }
 
 /// Whether one of the plane's first three numbers isn't zero.

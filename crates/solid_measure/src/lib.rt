@@ -15,6 +15,7 @@
 mod faces;
 mod loops;
 mod measures;
+mod short;
 mod solid_checks;
 mod solid_counts;
 

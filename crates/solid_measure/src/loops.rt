@@ -11,8 +11,10 @@ ghost use Rattle.solid_walks.specs.Store.{has_number};
 ghost use Rattle.solid_walks.specs.Ready.{IsReady};
 ghost use Rattle.shapes.specs.Faces.{start, finish, vertices_on};
 ghost use Rattle.solid_measure.specs.Measure.{area, area_limit, read};
+ghost use Rattle.solid_measure.specs.Short.{IsShortOf};
 
 use crate::Vector;
+use crate::short::{NOTHING, ShortPlane, Swept, carried, short_crossed, short_height, widened};
 use euler_operators::{
     Content, HALF_EDGE_CODES, HalfEdge, Kind, Plane, Point, Sign, cross_add, side,
 };
@@ -59,22 +61,36 @@ pub(crate) fn walk_round(arena: &Arena, vector: Vector, l: u32, first: HalfEdge)
     ensures there { has_half arena.now.model result.least ≡ true }
 {
     let begin = first.code();
-    let mut sum = vector;
+    let mut swept = Swept {
+        whole: vector,
+        last: NOTHING,
+    };
     let mut least = begin;
     let mut code = begin;
     let mut from = start_of_code(arena, begin);
-    'round: for _ in 0..HALF_EDGE_CODES {
+    'round: for count in 0..HALF_EDGE_CODES {
         let next = next_code(arena, code);
         let to = start_of_code(arena, next);
-        sum = crossed(sum, from, to);
+        let last = short_crossed(swept.last, from, to);
+        let more = Swept {
+            whole: swept.whole,
+            last,
+        };
         least = least.min(code);
         if next == begin {
-            return Round { sum, least };
+            return Round {
+                sum: widened(more),
+                least,
+            };
         }
+        swept = carried(more, count);
         code = next;
         from = to;
     }
-    Round { sum, least }
+    Round {
+        sum: widened(swept),
+        least,
+    }
 }
 
 /// The vector plus the cross products over the half-edges of the loop.
@@ -91,7 +107,7 @@ pub(crate) fn loop_added(arena: &Arena, vector: Vector, l: u32) -> Vector
 }
 
 /// Whether the point lies on the plane.
-fn lies_on(plane: Plane, p: Point) -> bool
+fn is_on(plane: Plane, p: Point) -> bool
     requires plane { IsPlane plane }
     requires p { IsInRange p }
     ensures { result ≡ is_on plane p }
@@ -102,25 +118,40 @@ fn lies_on(plane: Plane, p: Point) -> bool
     }
 }
 
+/// Whether the point lies on the plane. `short` is the same plane in 64 bits, where that serves.
+fn lies_on(plane: Plane, short: Option<ShortPlane>, p: Point) -> bool
+    requires plane { IsPlane plane }
+    requires short { IsShortOf plane short }
+    requires p { IsInRange p }
+    ensures { result ≡ is_on plane p }
+{
+    match short {
+        Some(short) => short_height(short, p) == 0,
+        None => is_on(plane, p),
+    }
+}
+
 /// Whether each half-edge of the loop in which `first` stands starts on the plane.
-fn ring_lies_on(arena: &Arena, plane: Plane, first: HalfEdge) -> bool
+fn ring_lies_on(arena: &Arena, plane: Plane, short: Option<ShortPlane>, first: HalfEdge) -> bool
     requires ready { IsReady arena.now }
     requires plane { IsPlane plane }
+    requires short { IsShortOf plane short }
     requires there { has_half arena.now.model (code first) ≡ true }
     ensures { result ≡ list_all (λ v. is_on plane (point_of arena.now.model v)) (map (tail arena.now.model) (cycle_of arena.now.model (code first))) }
 {
-    items_round(arena, first).all(|h| lies_on(plane, start(arena, h)))
+    items_round(arena, first).all(|h| lies_on(plane, short, start(arena, h)))
 }
 
 /// Whether each vertex on the loop lies on the plane.
-pub(crate) fn loop_lies_on(arena: &Arena, plane: Plane, l: u32) -> bool
+pub(crate) fn loop_lies_on(arena: &Arena, plane: Plane, short: Option<ShortPlane>, l: u32) -> bool
     requires ready { IsReady arena.now }
     requires there { has_number arena.now Kind.Loop l ≡ true }
     requires plane { IsPlane plane }
+    requires short { IsShortOf plane short }
     ensures { result ≡ list_all (λ v. is_on plane (point_of arena.now.model v)) (vertices_on arena.now.model (content arena.now.model l)) }
 {
     match arena.content(l) {
-        Content::Lone(v) => lies_on(plane, arena.point(v)),
-        Content::Ring(first) => ring_lies_on(arena, plane, first),
+        Content::Lone(v) => lies_on(plane, short, arena.point(v)),
+        Content::Ring(first) => ring_lies_on(arena, plane, short, first),
     }
 }
