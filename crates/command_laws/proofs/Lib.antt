@@ -22,6 +22,7 @@ mod SweptCounts
 mod NewCounts
 mod GluedCounts
 pub mod Standing
+pub mod Turned
 mod TakenOver
 mod LyingFlat
 mod BlockFlat

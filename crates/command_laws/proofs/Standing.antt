@@ -1,6 +1,6 @@
 -- A face whose loops, edges and vertices are left alone stands as it did.
 use Rattle.std.specs.Prelude.{map}
-use Rattle.std.proofs.Common.{◌≡◌, ◌≢◌, ℕ, Bool, cond, not, nat_eq, ◌&&◌, List, [], ◌∷◌, ◌++◌, Option, Some, None, refl, sym, ap, subst, ◌∙◌, arith}
+use Rattle.std.proofs.Common.{◌≡◌, ◌≢◌, ℕ, Bool, cond, not, nat_eq, ◌&&◌, List, [], ◌∷◌, ◌++◌, Option, Some, None, is_some, refl, sym, ap, subst, ◌∙◌, arith}
 use Rattle.std.proofs.lemmas.List.{map-append}
 use Rattle.std.proofs.lemmas.Bool.{ne_eqb}
 use Rattle.euler_operators.specs.Vectors.{moved, cross}
@@ -25,6 +25,7 @@ use Rattle.gluing_laws.proofs.Listed.{passed, same_search}
 use Rattle.command_laws.specs.NewFaces.{corner_points}
 use Rattle.command_laws.specs.Framed.{FacesStand}
 use Rattle.command_laws.specs.LeftAlone.{KeepsLoops, KeepsEdges, KeepsPoints, StandsAsBefore}
+use Rattle.command_laws.proofs.Turned.{IsTurned, not_turned}
 use Rattle.euler_laws.proofs.shared.Same.{same_tail, same_point}
 
 -- ---- rings
@@ -160,6 +161,9 @@ module _ (M N : Model) (Alone : ℕ → Type 0) (sound : Sound M) (loops : Keeps
   plane_kept : plane_of N k ≡ plane_of M k
   unfolding plane_of
   plane_kept = λ t. plane_through (normal_kept t) (anchor_kept t)
+
+  pub stands_turned : IsTurned M N k
+  stands_turned = record { there = ap is_some row ∙ there; loops = loops_kept; points = λ l i. not_turned _ _ (loop_points_kept l i); normal = normal_kept }
 
   pub stands : StandsAsBefore M N k
   stands = grind (arith, same_solid, outer_kept, corners_kept, plane_kept)
