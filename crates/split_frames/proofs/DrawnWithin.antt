@@ -55,7 +55,7 @@ IsWritten (lone v) = Unit {0}
 IsWritten (cycle hs) = canonical hs ≡ hs
 
 -- no half of the edge stands in it
-abbrev IsClear : ℕ → LoopContent → Type 0
+abbrev pub IsClear : ℕ → LoopContent → Type 0
 IsClear e c = (count (plus e) (items_of c) ≡ 0) × (count (minus e) (items_of c) ≡ 0)
 
 clear_stays : (e k : ℕ) (c : LoopContent) → IsWritten c → IsClear e c → rewritten (flat_map (doubled e k)) c ≡ c
@@ -89,18 +89,28 @@ module _ (M : Model) (s : ℕ) (p : Plane) (t : ℕ) (sound : Sound M) (begins :
   uncut : (e : ℕ) → solid_of_edge M e ≢ s → lists (crossing_edges M p s) e ≡ false
   uncut e ne = false_from_ne_true (lists (crossing_edges M p s) e) (λ at. ne (cut_edge e (IsIn-from_listed e (crossing_edges M p s) at)).1)
 
-  edge_left : (h : ℕ) → HasHalf M h → solid_of_half M h ≢ s → table.get C.edges (edge_of h) ≡ table.get M.edges (edge_of h)
-  edge_left h there ne =
+  -- an edge that isn't cut keeps its row
+  pub uncut_edge : (h : ℕ) → HasHalf M h → lists (crossing_edges M p s) (edge_of h) ≡ false → table.get C.edges (edge_of h) ≡ table.get M.edges (edge_of h)
+  uncut_edge h there clear =
       let e = edge_of h in
       let was = plus_there M e there in
       let tails = tails_stay M s p t sound begins e there in
       let same : table.get C.edges (edge_of (plus e)) ≡ table.get M.edges (edge_of (plus e)) =
       edge_there C (plus e) (kept.halves (plus e) was)
-      ∙ (λ i. Some (edge_row (plus e) (tails.1 (uncut e (λ o. ne (sym (own_edge M sound h there) ∙ o))) i) ((ap (tail C) (mate_plus e) ∙ tails.0 ∙ ap (tail M) (sym (mate_plus e))) i)))
+      ∙ (λ i. Some (edge_row (plus e) (tails.1 clear i) ((ap (tail C) (mate_plus e) ∙ tails.0 ∙ ap (tail M) (sym (mate_plus e))) i)))
       ∙ sym (edge_there M (plus e) was) in
       sym (ap (table.get C.edges) (plus_row e).0) ∙ same ∙ ap (table.get M.edges) (plus_row e).0
 
-  module _ (l : ℕ) (there : Has M.loops l) (ne : solid_of_loop M l ≢ s) where
+  written : (l : ℕ) → Has M.loops l → (c : LoopContent) → content M l ≡ c → IsWritten c
+  written l there (lone v) is = tt
+  written l there (cycle hs) is = (sound.cycles l hs there is).from_least
+
+  -- a loop in which no half of an edge stands that is cut keeps its row
+  pub uncut_loop : (l : ℕ) → Has M.loops l → ((e : ℕ) → IsIn e (crossing_edges M p s) → IsClear e (content M l)) → table.get C.loops l ≡ table.get M.loops l
+  unfolding with_crossings
+  uncut_loop l there clear = let row = loop_row M l there in cuts_leave p l _ (written l there (content M l) refl) (crossing_edges M p s) (growing M) clear row ∙ sym row
+
+  module _ (l : ℕ) (ne : solid_of_loop M l ≢ s) where
     no_item : (h : ℕ) → solid_of_half M h ≡ s → count h (items_of (content M l)) ≡ 0
     no_item h of = elim (IsIn_or_not h (items_of (content M l))) [
       | inl i ↦ absurd (ne (ap (solid_of_loop M) (sym (sound.one_loop h l (in-holds h (content M l) i))) ∙ of))
@@ -113,14 +123,6 @@ module _ (M : Model) (s : ℕ) (p : Plane) (t : ℕ) (sound : Sound M) (begins :
       no_item (minus e) (ap (solid_of_half M) (sym (mate_plus e)) ∙ sym (sound.one_solid (plus e) (plus_there M e w.0)) ∙ w.1),
     )
 
-    written : (c : LoopContent) → content M l ≡ c → IsWritten c
-    written (lone v) is = tt
-    written (cycle hs) is = (sound.cycles l hs there is).from_least
-
-    loop_left : table.get C.loops l ≡ table.get M.loops l
-    unfolding with_crossings
-    loop_left = let row = loop_row M l there in cuts_leave p l _ (written (content M l) refl) (crossing_edges M p s) (growing M) clear row ∙ sym row
-
   same_owner : (l : ℕ) → solid_of_loop C l ≡ solid_of_loop M l
   same_owner l = ap (solid_of C) (kept.face l) ∙ same_solid M C (face_of M l) (ap (λ u. table.get u (face_of M l)) kept.faces)
 
@@ -130,9 +132,9 @@ module _ (M : Model) (s : ℕ) (p : Plane) (t : ℕ) (sound : Sound M) (begins :
     after = crossings_sound M s p t sound begins;
     faces = λ k there out. (ap (λ u. table.get u k) kept.faces, out);
     faces_back = λ k there out. (ap (λ u. table.get u k) kept.faces, out);
-    loops = λ l there out. loop_left l there (eqb-false (solid_of_loop M l) s out);
-    loops_back = λ l there out. loop_left l (sym (kept.loops l) ∙ there) (λ e. eqb-false (solid_of_loop C l) s out (same_owner l ∙ e));
-    edges = λ h there out. edge_left h there (eqb-false (solid_of_half M h) s out);
+    loops = λ l there out. uncut_loop l there (clear l (eqb-false (solid_of_loop M l) s out));
+    loops_back = λ l there out. uncut_loop l (sym (kept.loops l) ∙ there) (clear l (λ e. eqb-false (solid_of_loop C l) s out (same_owner l ∙ e)));
+    edges = λ h there out. uncut_edge h there (uncut (edge_of h) (λ o. eqb-false (solid_of_half M h) s out (sym (own_edge M sound h there) ∙ o)));
   }
 
 -- ---- one face drawn, and one after the other

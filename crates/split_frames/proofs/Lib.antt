@@ -2,3 +2,5 @@ pub mod Steps
 pub mod DrawnWithin
 pub mod PartedWithin
 pub mod Whole
+mod Uncut
+mod PartFaces

@@ -201,7 +201,7 @@ holes_within M s ks sound plain go = let hs = filter (λ k. k.hole) ks in elim (
 
 -- ---- no vertex moves, once the solid is opened
 
-kill_keeps : (M : Model) (f g : ℕ) → ((kfmrh M f g).vertices ≡ M.vertices) × ((kfmrh M f g).edges ≡ M.edges)
+pub kill_keeps : (M : Model) (f g : ℕ) → ((kfmrh M f g).vertices ≡ M.vertices) × ((kfmrh M f g).edges ≡ M.edges)
 unfolding kfmrh
 kill_keeps M f g = (refl, refl)
 

@@ -103,11 +103,19 @@ module _ (N : Model) (c d e s : ℕ) (can : CanJoin N c d e) (of : solid_of_half
 -- ---- a ring given to another face
 
 -- another loop keeps its row
-loop_else : (t : Table LoopRow) (l k q : ℕ) → q ≢ l → table.get (table.map_rows (loop_to_face l k) t) q ≡ table.get t q
+pub loop_else : (t : Table LoopRow) (l k q : ℕ) → q ≢ l → table.get (table.map_rows (loop_to_face l k) t) q ≡ table.get t q
 loop_else t l k q ne = table.get-map_rows (loop_to_face l k) t q ∙ go (table.get t q) where
   go : (o : Option LoopRow) → option_map (loop_to_face l k q) o ≡ o
   go None = refl
   go (Some row) = ap (λ b. Some (cond b (record row { face = k }) row)) (ne_eqb q l ne)
+
+-- the ring's face is the other then
+pub ring_face : (N : Model) (l k : ℕ) → Has N.loops l → face_of (ring_in N l k) l ≡ k
+unfolding ring_in
+ring_face N l k there = face_row (ring_in N l k) l _ (table.get-map_rows (loop_to_face l k) N.loops l ∙ ap (option_map (loop_to_face l k l)) (loop_row N l there)) ∙ face_either (nat_eq l l) (eq-eqb l l refl) where
+  face_either : (b : Bool) → b ≡ true → (cond {A = LoopRow} b (record { face = k; content = content N l }) (record { face = face_of N l; content = content N l })).face ≡ k
+  face_either true e = refl
+  face_either false e = absurd (true≢false (sym e))
 
 module _ (N : Model) (l k s : ℕ) (sound : Sound N) (after : Sound (ring_in N l k)) (there : Has N.loops l) (of : solid_of_loop N l ≡ s) (to : solid_of N k ≡ s) where
   abbrev R : Model
@@ -115,10 +123,7 @@ module _ (N : Model) (l k s : ℕ) (sound : Sound N) (after : Sound (ring_in N l
 
   ring_now : solid_of_loop R l ≡ s
   unfolding ring_in
-  ring_now = ap (solid_of R) (face_row R l _ (table.get-map_rows (loop_to_face l k) N.loops l ∙ ap (option_map (loop_to_face l k l)) (loop_row N l there)) ∙ face_either (nat_eq l l) (eq-eqb l l refl)) ∙ same_solid N R k refl ∙ to where
-    face_either : (b : Bool) → b ≡ true → (cond {A = LoopRow} b (record { face = k; content = content N l }) (record { face = face_of N l; content = content N l })).face ≡ k
-    face_either true e = refl
-    face_either false e = absurd (true≢false (sym e))
+  ring_now = ap (solid_of R) (ring_face N l k there) ∙ same_solid N R k refl ∙ to
 
   pub ring_within : Within s N (ring_in N l k)
   unfolding ring_in

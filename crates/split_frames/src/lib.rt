@@ -1,14 +1,15 @@
 #![tactic(auto)]
-//! What a split leaves as it was, told from what the call says of it alone. The function does nothing: its contract is what is proved, over
+//! What a split leaves as it was, told from what the call says of it alone. The functions do nothing: their contracts are what is proved, over
 //! every machine.
 //!
 //! # What is proved
 //!
 //! Of a session after a split answered Ok: each face of another solid than the one that was split is of the solid, and has the outer
 //! loop, the rings, the corner points and the plane, that it had; each of its loops has its face and its content, each edge its
-//! ends, and each vertex its point.
+//! ends, and each vertex its point. Each face of that solid that the plane doesn't straddle is of the part on its side, with its loops,
+//! their corner points, round from another on, and its plane.
 
-ghost use Rattle.split_frames.specs.Laws.{SplitKeepsRows, SplitKeepsOwners, SplitKeepsLoops, SplitKeepsEdges, SplitKeepsPoints, SplitKeepsShapes};
+ghost use Rattle.split_frames.specs.Laws.{SplitKeepsRows, SplitKeepsOwners, SplitKeepsLoops, SplitKeepsEdges, SplitKeepsPoints, SplitKeepsShapes, SplitSharesFaces};
 
 /// After a split the faces of other solids, their loops, edges and vertices are as they were.
 pub fn splits_leave_alone()
@@ -18,4 +19,10 @@ pub fn splits_leave_alone()
     ensures edges { SplitKeepsEdges }
     ensures points { SplitKeepsPoints }
     ensures shapes { SplitKeepsShapes }
+{}
+
+/// After a split each face of the solid that the plane doesn't straddle is of the upper part where it lay above, else of the lower one. It
+/// has the loops and the plane that it had and is flat, and its loops have the corner points that they had, maybe from another on.
+pub fn splits_share_faces()
+    ensures { SplitSharesFaces }
 {}

@@ -1,0 +1,274 @@
+-- The faces of a solid that was split: those that the plane doesn't straddle are of the part on their side.
+use Rattle.std.specs.Prelude.{filter, map}
+use Rattle.std.specs.List.{list_any}
+use Rattle.std.specs.Option.{option_map}
+use Rattle.std.proofs.Common.{◌≡◌, ◌≢◌, ℕ, ◌+◌, ◌≤◌, Bool, true, false, cond, not, ◌&&◌, ◌||◌, List, [], ◌∷◌, length, nat_eq, None, Some, is_some, pos, int_lt, refl, sym, ap, subst, ◌∙◌, arith, true≢false}
+use Rattle.std.proofs.lemmas.Bool.{false_from_ne_true}
+use Rattle.std.proofs.lemmas.Grind.{flat_map-append}
+use Rattle.euler_operators.specs.declared.Plane.{Plane}
+use Rattle.euler_operators.specs.declared.Point.{Point}
+use Rattle.euler_operators.specs.Vectors.{direction, dot, is_above, is_below}
+use Rattle.euler_operators.specs.Items.{count}
+use Rattle.euler_operators.specs.HalfEdge.{edge_of}
+use Rattle.euler_operators.specs.Table as table
+use Rattle.euler_operators.specs.Model.{Model, FaceRow, LoopContent, content, cycle, faces_of, lone, outer, point_of, rings_of, solid_of, tail}
+use Rattle.euler_operators.specs.Sound.{Sound, Has}
+use Rattle.euler_operators.specs.Conditions.{lists}
+use Rattle.euler_operators.specs.Effect.{kfmrh, part}
+use Rattle.euler_operators.proofs.Lists.{count-append, tick_other, tick_same}
+use Rattle.euler_operators.proofs.Members.{IsIn-filter, filter_passes}
+use Rattle.euler_operators.proofs.Models.{item_there, number_real, outer_row, solid_row}
+use Rattle.euler_operators.proofs.Tables.{in_use_within}
+use Rattle.euler_laws.proofs.shared.Listed.{IsIn-from_listed, listed-from_in}
+use Rattle.euler_laws.proofs.shared.Rows.{face_there, solid_either}
+use Rattle.euler_laws.proofs.shared.Same.{same_point, same_tail}
+use Rattle.shapes.specs.Faces.{corners, loops_of, vertices_on}
+use Rattle.shapes.specs.Measure.{is_flat, normal}
+use Rattle.shapes.specs.split.Sides.{face_is_above, faces_above, straddles}
+use Rattle.shapes.specs.split.Drawing.{Drawing, with_drawings}
+use Rattle.shapes.specs.split.Section.{below_halves, section_cycles}
+use Rattle.shapes.specs.split.Opening.{Caps, Opening, holes_closed, opened_along, outer_caps}
+use Rattle.shapes.specs.split.Split.{opened_at, split_refusal}
+use Rattle.shapes.proofs.walks.SolidFaces.{face_of_loop}
+use Rattle.split_drawing_laws.proofs.crossings.Premises.{in_solid}
+use Rattle.split_drawing_laws.proofs.cut_volumes.CutWhole.{all_flat}
+use Rattle.split_opening_laws.specs.sections.Capped.{cap_faces}
+use Rattle.split_opening_laws.specs.sections.InTurn.{upper_faces, CanBeOpenedInTurn}
+use Rattle.split_opening_laws.proofs.sections.InTurn.{can_open, new_caps, opened_next, openings_carry}
+use Rattle.split_laws.specs.volumes.Laws.{CanBeSplit}
+use Rattle.split_laws.proofs.Holes.{holes_counted}
+use Rattle.split_laws.proofs.drawn.Drawn.{begins}
+use Rattle.split_laws.proofs.measures.Splittable.{can_be_split}
+use Rattle.split_laws.proofs.opened.InTurn.{is_rewritten}
+use Rattle.split_laws.proofs.opened.Kept as kept
+use Rattle.split_laws.proofs.opened.Kept.{Rewritten}
+use Rattle.split_laws.proofs.opened.Starts.{swap}
+use Rattle.split_laws.proofs.volumes.Closed.{closing, closing_leads}
+use Rattle.split_laws.proofs.volumes.Split as split
+use Rattle.split_laws.proofs.volumes.Taken as taken
+use Rattle.split_laws.proofs.volumes.Taken.{CanTake}
+use Rattle.undo_journal.specs.Machine.{held}
+use Rattle.command_laws.specs.LeftAlone.{StandsAsBefore}
+use Rattle.command_laws.specs.RingedFaces.{loop_points}
+use Rattle.command_laws.specs.TakenOver.{AreTurned, IsTakenOver}
+use Rattle.command_laws.proofs.Turned.{IsTurned, not_turned, rewritten_turned, turned_on, turned_over}
+use Rattle.split_frames.specs.Laws.{SplitSharesFaces}
+use Rattle.split_frames.proofs.PartedWithin.{kill_keeps, part_keeps}
+use Rattle.split_frames.proofs.Uncut.{uncut_stands, uncut_turned}
+use Rattle.split_frames.proofs.Whole.{after_is, after_sound}
+
+-- ---- where edges, points and a loop stay, so do the points of its corners
+
+module _ (M N : Model) (l : ℕ) (points : N.vertices ≡ M.vertices) (edges : N.edges ≡ M.edges) (same : content N l ≡ content M l) where
+  point : (v : ℕ) → point_of N v ≡ point_of M v
+  point v = same_point M N v (ap (λ t. table.get t v) points)
+
+  starts : (hs : List ℕ) → map (point_of N) (map (tail N) hs) ≡ map (point_of M) (map (tail M) hs)
+  starts [] = refl
+  starts (h ∷ hs) = λ i. (ap (point_of N) (same_tail M N h (ap (λ t. table.get t (edge_of h)) edges)) ∙ point (tail M h)) i ∷ starts hs i
+
+  on : (c : LoopContent) → map (point_of N) (vertices_on N c) ≡ map (point_of M) (vertices_on M c)
+  on (lone v) = λ i. point v i ∷ []
+  on (cycle hs) = starts hs
+
+  same_points : loop_points N l ≡ loop_points M l
+  same_points = ap (λ c. map (point_of N) (vertices_on N c)) same ∙ on (content M l)
+
+-- ---- the solid opened along its section
+
+module _ (M N : Model) (swap : ℕ → ℕ) (w : Rewritten M N swap) (k : ℕ) (there : Has M.faces k) where
+  opened_turned : IsTurned M N k
+  unfolding loops_of
+  opened_turned = record {
+    there = ap is_some (w.faces k there) ∙ there;
+    loops = λ i. kept.outer_is M N swap w k there i ∷ kept.rings_are M N swap w k there i;
+    points = λ l i. let has = (face_of_loop M w.sound k l there (listed-from_in l (loops_of M k) i)).0 in
+        subst (λ c. AreTurned (loop_points M l) (map (point_of N) (vertices_on N c))) (sym (kept.content_is M N swap w l has))
+        (rewritten_turned M N swap (content M l) (λ y j. (w.stays y (item_there M w.sound l y j)).0) (λ v e. w.points v (w.sound.lone_at_vertex l v e)));
+    normal = kept.normal_is M N swap w k there;
+  }
+
+-- face k of D is in o's model, still of solid s, and no cap
+record IsLeft (D : Model) (s k : ℕ) (o : Opening) : Type 0 where
+  turned : IsTurned D o.model k
+  of : solid_of o.model k ≡ s
+  no_cap : count k (cap_faces o.caps) ≡ 0
+
+opened_left : (D : Model) (above : List ℕ) (s k : ℕ) (p : Plane) (o : Opening) (bs : List ℕ) (cs : List (List ℕ)) → CanBeOpenedInTurn above s o (bs ∷ cs) → IsLeft D s k o → IsLeft D s k (opened_next p above s o bs)
+opened_left D above s k p o bs cs w a =
+    let can = can_open above s o bs cs w in
+    let N = opened_along o.model above s o.taken bs in
+    let r = is_rewritten o.model above s o.taken bs can in
+    let low : k ≤ o.taken.face = in_use_within o.model.faces o.taken.face w.free.faces k a.turned.there in
+    record {
+      turned = turned_on D o.model N k a.turned (opened_turned o.model N (swap o.model above s o.taken bs can) r k a.turned.there);
+      of = kept.solid_is o.model N (swap o.model above s o.taken bs can) r k a.turned.there ∙ a.of;
+      no_cap = omega (
+        arith,
+        a.no_cap,
+        ap (count k) (flat_map-append (λ (c : Caps). c.lower ∷ c.upper ∷ []) o.caps (new_caps p o bs ∷ [])),
+        count-append k (cap_faces o.caps) ((o.taken.face + 1) ∷ (o.taken.face + length bs + 1) ∷ []),
+        tick_other k (o.taken.face + 1) (λ e. absurd (omega (arith, low, e))),
+        tick_other k (o.taken.face + length bs + 1) (λ e. absurd (omega (arith, low, e))),
+      );
+    }
+
+-- ---- its holes closed
+
+module _ (A : Model) (p : Plane) (f g : ℕ) (w : CanTake A p f g) (k : ℕ) (there : Has A.faces k) (not_f : k ≢ f) (not_g : k ≢ g) where
+  closed_turned : IsTurned A (kfmrh A f g) k
+  unfolding loops_of
+  closed_turned = record {
+    there = taken.there_still A p f g w k not_g there;
+    loops = λ i. taken.outer_same A p f g w k not_g i ∷ taken.rings_same A p f g w k not_f not_g i;
+    points = λ l i. let keeps = kill_keeps A f g in not_turned _ _ (same_points A (kfmrh A f g) l keeps.0 keeps.1 (taken.content_same A p f g w l));
+    normal = taken.normal_same A p f g w k not_f not_g;
+  }
+
+-- k is none of some pairs
+abbrev IsOther : ℕ → List (ℕ × ℕ) → Type 0
+IsOther k [] = Unit {0}
+IsOther k (q ∷ qs) = (k ≢ q.0) × (k ≢ q.1) × IsOther k qs
+
+not_in : (k x : ℕ) (xs : List ℕ) → count k (x ∷ xs) ≡ 0 → k ≢ x
+not_in k x xs z e = absurd (omega (arith, z, ap (λ y. count k (y ∷ xs)) (sym e), tick_same k))
+
+outer_other : (k : ℕ) (ks : List Caps) → k ≢ 0 → count k (cap_faces ks) ≡ 0 → (k ≢ (outer_caps ks).lower) × (k ≢ (outer_caps ks).upper)
+outer_other k [] ne z = (ne, ne)
+outer_other k (c ∷ cs) ne z = go c.hole (outer_other k cs ne (omega (arith, z))) where
+  go : (b : Bool) → (k ≢ (outer_caps cs).lower) × (k ≢ (outer_caps cs).upper) → (k ≢ (cond b (outer_caps cs) c).lower) × (k ≢ (cond b (outer_caps cs) c).upper)
+  go true r = r
+  go false r = (not_in k c.lower (c.upper ∷ cap_faces cs) z, not_in k c.upper (cap_faces cs) (omega (arith, z)))
+
+closing_other : (k : ℕ) (o : Caps) (hs : List Caps) → k ≢ o.lower → k ≢ o.upper → count k (cap_faces hs) ≡ 0 → IsOther k (closing o hs)
+closing_other k o [] low up z = tt
+closing_other k o (h ∷ hs) low up z = (low, not_in k h.lower (h.upper ∷ cap_faces hs) z, (up, not_in k h.upper (cap_faces hs) (omega (arith, z)), closing_other k o hs low up (omega (arith, z))))
+
+-- ---- the upper faces parted
+
+outer_either : (b : Bool) (row : FaceRow) (t : ℕ) → (cond b (record row { solid = t }) row).outer ≡ row.outer
+outer_either true row t = refl
+outer_either false row t = refl
+
+module _ (K : Model) (s t : ℕ) (us : List ℕ) (k : ℕ) (there : Has K.faces k) where
+  abbrev P : Model
+  P = part K s t us
+
+  row : table.get P.faces k ≡ Some (cond (lists us k) (record { solid = t; outer = outer K k }) (record { solid = solid_of K k; outer = outer K k }))
+  row = split.row_is K s t us k ∙ ap (option_map (split.go K s t us k)) (face_there K k there)
+
+  parted_solid : solid_of P k ≡ cond (lists us k) t (solid_of K k)
+  parted_solid = solid_row P k _ row ∙ solid_either (lists us k) (record { solid = solid_of K k; outer = outer K k }) t
+
+  outer_kept : outer P k ≡ outer K k
+  outer_kept = outer_row P k _ row ∙ outer_either (lists us k) (record { solid = solid_of K k; outer = outer K k }) t
+
+  rings_kept : rings_of P k ≡ rings_of K k
+  unfolding part
+  rings_kept = ap (λ o. table.all_where (λ l row. nat_eq row.face k && not (nat_eq o l)) K.loops) outer_kept
+
+  parted_turned : IsTurned K P k
+  unfolding loops_of
+  parted_turned = record {
+    there = ap is_some row;
+    loops = λ i. outer_kept i ∷ rings_kept i;
+    points = λ l i. let keeps = part_keeps K s t us in not_turned _ _ (same_points K P l keeps.0 keeps.1 (split.content_same K s t us l));
+    normal = split.normal_same K s t us k;
+  }
+
+uppers_counted : (k : ℕ) (ks : List Caps) → count k (map (λ c. c.upper) ks) ≤ count k (cap_faces ks)
+uppers_counted k [] = omega arith
+uppers_counted k (c ∷ cs) = omega (arith, uppers_counted k cs)
+
+-- ---- the side of a face
+
+any_point : (test : Point → Bool) (point : ℕ → Point) (vs : List ℕ) → list_any (λ v. test (point v)) vs ≡ list_any test (map point vs)
+any_point test point [] = refl
+any_point test point (v ∷ vs) = ap (λ b. test (point v) || b) (any_point test point vs)
+
+module _ (M D : Model) (p : Plane) (k : ℕ) (w : StandsAsBefore M D k) (same : normal D k ≡ normal M k) where
+  any_same : (test : Point → Bool) → list_any (λ v. test (point_of D v)) (corners D k) ≡ list_any (λ v. test (point_of M v)) (corners M k)
+  any_same test = any_point test (point_of D) (corners D k) ∙ ap (list_any test) w.points ∙ sym (any_point test (point_of M) (corners M k))
+
+  same_side : face_is_above D p k ≡ face_is_above M p k
+  unfolding face_is_above
+  same_side = λ i. any_same (is_above p) i || (not (any_same (is_below p) i) && not (int_lt (pos 0) (dot (same i) (direction p))))
+
+-- ---- a split that isn't refused
+
+module _ (M : Model) (s : ℕ) (p : Plane) (t : ℕ) (sound : Sound M) (accepted : split_refusal M s p t ≡ None) (k : ℕ) (there : Has M.faces k) (of : solid_of M k ≡ s) (whole : straddles M p k ≡ false) where
+  abbrev d : Drawing
+  d = with_drawings M s p
+
+  abbrev above : List ℕ
+  above = faces_above d.model p s
+
+  abbrev X : Opening
+  X = opened_at d above s p
+
+  abbrev K : Model
+  K = holes_closed X.model X.caps
+
+  abbrev us : List ℕ
+  us = upper_faces above X.caps
+
+  can : CanBeSplit d above s p t
+  can = can_be_split M s p t sound accepted
+
+  now : IsTurned M d.model k
+  now = uncut_turned M s p t sound accepted k there whole
+
+  stands : StandsAsBefore M d.model k
+  stands = uncut_stands M s p t sound accepted k there whole
+
+  now_of : solid_of d.model k ≡ s
+  now_of = stands.solid ∙ of
+
+  opened : IsLeft d.model s k X
+  opened = openings_carry above s p (λ x ds. IsLeft d.model s k x) (λ x bs ds w a. opened_left d.model above s k p x bs ds w a) (record { model = d.model; taken = d.taken; caps = [] })
+      (section_cycles d.model (below_halves d.model above s)) can.opens (record { turned = record { there = now.there; loops = refl; points = λ l i. not_turned _ _ refl; normal = refl }; of = now_of; no_cap = refl })
+
+  real : k ≢ 0
+  real = number_real k (sound.faces_fit k there)
+
+  abbrev Stays : List (ℕ × ℕ) → Model → Type 0
+  Stays qs A = IsOther k qs × IsTurned d.model A k × (solid_of A k ≡ s)
+
+  closed : Stays [] K
+  closed =
+      let other = outer_other k X.caps real opened.no_cap in
+      closing_leads X.model s p X.caps Stays
+      (λ A q rs w clear a. (a.0.2, turned_on d.model A (kfmrh A q.0 q.1) k a.1 (closed_turned A p q.0 q.1 w k a.1.there a.0.0 a.0.1), taken.solid_same A p q.0 q.1 w k a.0.1 ∙ a.2))
+      (split.closes d above s p t can)
+      (closing_other k (outer_caps X.caps) (filter (λ c. c.hole) X.caps) other.0 other.1 (omega (arith, holes_counted k X.caps, opened.no_cap)), opened.turned, opened.of)
+
+  -- it is one of the upper faces where it is above
+  side : lists us k ≡ face_is_above M p k
+  side = go (face_is_above M p k) refl where
+    inside : face_is_above d.model p k ≡ face_is_above M p k
+    inside = same_side M d.model p k stands now.normal
+
+    go : (b : Bool) → face_is_above M p k ≡ b → lists us k ≡ b
+    go true e = listed-from_in k us (omega (
+      arith,
+      count-append k above (map (λ c. c.upper) X.caps),
+      IsIn-filter (face_is_above d.model p) k (faces_of d.model s) (in_solid d.model k s now.there now_of) (inside ∙ e),
+    ))
+    go false e = false_from_ne_true (lists us k) (λ l. true≢false (sym (filter_passes (face_is_above d.model p) k (faces_of d.model s)
+        (omega (arith, IsIn-from_listed k us l, count-append k above (map (λ c. c.upper) X.caps), uppers_counted k X.caps, opened.no_cap))) ∙ inside ∙ e))
+
+  pub shared_turned : IsTurned M (part K s t us) k
+  shared_turned = turned_on M d.model (part K s t us) k now (turned_on d.model K (part K s t us) k closed.1 (parted_turned K s t us k closed.1.there))
+
+  pub shared_of : solid_of (part K s t us) k ≡ cond (face_is_above M p k) t s
+  shared_of = parted_solid K s t us k closed.1.there ∙ (λ i. cond (side i) t (closed.2 i))
+
+  pub was_flat : is_flat M k ≡ true
+  was_flat = all_flat M s p t sound (begins M s p t sound accepted) k there of
+
+pub split_shares_faces : SplitSharesFaces
+split_shares_faces before after s p t k sound made there of whole =
+    let M = held before in
+    subst (λ N. IsTakenOver M N k (cond (face_is_above M p k) t s)) (sym (after_is before after s p t sound made))
+    (turned_over M _ k (cond (face_is_above M p k) t s) (after_sound before after s p t sound made) (was_flat M s p t sound made.0 k there of whole)
+    (shared_of M s p t sound made.0 k there of whole) (shared_turned M s p t sound made.0 k there of whole))
