@@ -28,3 +28,5 @@ mod LyingFlat
 mod BlockFlat
 mod AcceptedMore
 mod GluedFlat
+mod Inner
+mod InnerCounts

@@ -9,4 +9,5 @@ pub mod Framed
 pub mod RingedFaces
 pub mod Counted
 pub mod TakenOver
+pub mod Operators
 pub mod Flat

@@ -1,0 +1,349 @@
+-- An operator that makes or kills something within one solid leaves all that isn't of it.
+use Rattle.std.proofs.Common.{◌≡◌, ◌≢◌, ℕ, true, List, Some, None, is_some, refl, sym, ap, subst, ◌∙◌, true≢false, inl, inr}
+use Rattle.std.proofs.lemmas.Bool.{eqb-false}
+use Rattle.std.proofs.lemmas.Bool.Decides.{eqb_tells}
+use Rattle.euler_operators.specs.declared.Corner.{Corner}
+use Rattle.euler_operators.specs.declared.Corner.TheVariants.{At, Lone}
+use Rattle.euler_operators.specs.declared.HalfEdge.{HalfEdge}
+use Rattle.euler_operators.specs.declared.Point.{Point}
+use Rattle.euler_operators.specs.HalfEdge.{code, edge_of, mate}
+use Rattle.euler_operators.specs.Table as table
+use Rattle.euler_operators.specs.Model.{Model, content, face_of, loop_of, solid_of, tail}
+use Rattle.euler_operators.specs.Sound.{Sound, Has, HasHalf}
+use Rattle.euler_operators.specs.Conditions.{corner_loop, face_at, first_false}
+use Rattle.euler_operators.specs.Effect.{edge_row, effect, inverse, kemr, mef, mev_at, mev_lone, mfkrh}
+use Rattle.euler_operators.specs.declared.Op.{Op}
+use Rattle.euler_operators.specs.declared.Op.TheVariants.{Mev, Kev, Mef, Kef, Kemr, Mekr, Kfmrh, Mfkrh}
+use Rattle.euler_operators.proofs.Halves.{same_edge}
+use Rattle.euler_operators.proofs.Models.{face_row, loop_there, mate_there, same_solid, solid_row}
+use Rattle.euler_operators.proofs.Tables.{get-put_here, get-put_other, get-remove_other, row_elsewhere}
+use Rattle.euler_laws.proofs.Cases.{effect_keeps_sound, inverse_goes, inverse_undoes}
+use Rattle.euler_laws.proofs.faces.Kfmrh.{MakeGoes, kfmrh_goes, mfkrh_goes}
+use Rattle.euler_laws.proofs.kemr.Kemr.{kemr_goes}
+use Rattle.euler_laws.proofs.kev.Kev.{kev_goes}
+use Rattle.euler_laws.proofs.mef.Kef.{kef_goes}
+use Rattle.euler_laws.proofs.kemr.KemrSound as parted
+use Rattle.euler_laws.proofs.kemr.KemrSound.{KemrGoes}
+use Rattle.euler_laws.proofs.mef.Mef.{mef_goes}
+use Rattle.euler_laws.proofs.mef.MefSound as drawn
+use Rattle.euler_laws.proofs.mef.MefSound.{MefGoes}
+use Rattle.euler_laws.proofs.mekr.Mekr.{mekr_is}
+use Rattle.euler_laws.proofs.mekr.MekrSound as joins
+use Rattle.euler_laws.proofs.mekr.MekrSound.{join_loops}
+use Rattle.euler_laws.proofs.mekr.MekrSpots.{JoinGoes, join_goes}
+use Rattle.euler_laws.proofs.mev.Mev.{lone_goes, mev_goes, mixed_first, mixed_second}
+use Rattle.euler_laws.proofs.mev.MevLoneSound.{LoneGoes}
+use Rattle.euler_laws.proofs.mev.MevSound as grown
+use Rattle.euler_laws.proofs.mev.MevSound.{MevGoes}
+use Rattle.euler_laws.proofs.shared.EdgeMore.{half_old}
+use Rattle.euler_laws.proofs.shared.Faces.{LoopMoves, face_kept, face_moved, walks_same}
+use Rattle.euler_laws.proofs.shared.Loops.{none_else, put_before, put_none}
+use Rattle.euler_laws.proofs.shared.Rows.{edge_there, loop_row}
+use Rattle.euler_laws.proofs.shared.Same.{one_solid_round}
+use Rattle.euler_laws.proofs.shared.TwoRows.{face_same, row_else, row_second}
+use Rattle.command_laws.specs.Operators.{is_inner, solid_in}
+use Rattle.command_laws.proofs.Owners.{Agree, half_kept, is_of, solid_of_half, solid_of_loop, turned}
+
+-- two models that agree but for one solid
+abbrev pub Within : ℕ → Model → Model → Type 0
+Within s M N = Agree M N (is_of s) (is_of s)
+
+-- a loop with its face and its content has its row
+same_row : (M N : Model) (q : ℕ) → Has M.loops q → table.has N.loops q ≡ table.has M.loops q → face_of N q ≡ face_of M q → content N q ≡ content M q → table.get N.loops q ≡ table.get M.loops q
+same_row M N q there has face same = loop_row N q (has ∙ there) ∙ (λ i. Some (record { face = face i; content = same i })) ∙ sym (loop_row M q there)
+
+-- an edge with its tails has its row
+same_ends : (M N : Model) (h : ℕ) → HasHalf M h → HasHalf N h → tail N h ≡ tail M h → tail N (mate h) ≡ tail M (mate h) → table.get N.edges (edge_of h) ≡ table.get M.edges (edge_of h)
+same_ends M N h was now one two = edge_there N h now ∙ (λ i. Some (edge_row h (one i) (two i))) ∙ sym (edge_there M h was)
+
+-- what is new is of the solid
+module _ (M N : Model) (s : ℕ) (w : Within s M N) where
+  pub new_half : (h : ℕ) → HasHalf N h → table.get M.edges (edge_of h) ≡ None → solid_of_half N h ≡ s
+  new_half h there free = elim (eqb_tells (solid_of_half N h) s) [
+    | inl e ↦ e.1
+    | inr e ↦ absurd (true≢false (sym (half_kept N M (is_of s) (is_of s) (turned M N (is_of s) (is_of s) w) h there e.0).0 ∙ ap is_some free))
+  ]
+
+  pub new_face : (k : ℕ) → Has N.faces k → table.get M.faces k ≡ None → solid_of N k ≡ s
+  new_face k there free = elim (eqb_tells (solid_of N k) s) [
+    | inl e ↦ e.1
+    | inr e ↦ absurd (true≢false (sym there ∙ ap is_some ((w.faces_back k there e.0).0 ∙ free)))
+  ]
+
+-- ---- an edge to a new vertex
+
+module _ (M : Model) (sound : Sound M) (g k h v : ℕ) (p : Point) (goes : MevGoes M g k h v p) (after : Sound (mev_at M g k h v p)) where
+  abbrev G : Model
+  G = mev_at M g k h v p
+
+  abbrev sg : ℕ
+  sg = solid_of M (face_at M g)
+
+  one_solid : solid_of_half M k ≡ sg
+  one_solid = one_solid_round M sound g k goes.g_there goes.k_there (sym goes.one_tail)
+
+  grown_loop : (q : ℕ) → Has M.loops q → solid_of_loop M q ≢ sg → table.get G.loops q ≡ table.get M.loops q
+  grown_loop q there ne =
+      let same = grown.same M sound g k h v p goes in
+      let not_g = none_else M sound g q (λ e. ne (ap (solid_of_loop M) e)) in
+      let not_k = none_else M sound k q (λ e. ne (ap (solid_of_loop M) e ∙ one_solid)) in
+      same_row M G q there (same.loop q) (same.face q)
+      (grown.content-N M sound g k h v p goes q ∙ ap (put_before k (mate h)) (put_none g h (content M q) not_g) ∙ put_none k (mate h) (content M q) not_k)
+
+  grown_edge : (x : ℕ) → HasHalf M x → solid_of_half M x ≢ sg → table.get G.edges (edge_of x) ≡ table.get M.edges (edge_of x)
+  grown_edge x there ne =
+      let kept : (y : ℕ) → HasHalf M y → solid_of_half M y ≢ sg → tail G y ≡ tail M y = λ y has off. grown.tail_kept M sound g k h v p goes y has
+      (grown.not_moved M sound g k h v p goes y (λ e. off (one_solid_round M sound g y goes.g_there has (sym e)))) in
+      same_ends M G x there (half_old (grown.new_edge M sound g k h v p goes) x there) (kept x there ne) (kept (mate x) (mate_there M x there) (λ e. ne (sound.one_solid x there ∙ e)))
+
+  grown_within : Within (solid_of M (face_at M g)) M (mev_at M g k h v p)
+  grown_within =
+      let same = grown.same M sound g k h v p goes in
+      let row : (q : ℕ) → table.get G.faces q ≡ table.get M.faces q = λ q. ap (λ t. table.get t q) same.faces in
+      record {
+        before = sound;
+        after = after;
+        faces = λ q there out. (row q, out);
+        faces_back = λ q there out. (row q, out);
+        loops = λ q there out. grown_loop q there (eqb-false (solid_of_loop M q) sg out);
+        loops_back = λ q there out. grown_loop q (sym (same.loop q) ∙ there) (λ e. eqb-false (solid_of_loop G q) sg out (ap (solid_of G) (same.face q) ∙ same_solid M G (face_of M q) (row (face_of M q)) ∙ e));
+        edges = λ x there out. grown_edge x there (eqb-false (solid_of_half M x) sg out);
+      }
+
+module _ (M : Model) (sound : Sound M) (l h v u : ℕ) (p : Point) (goes : LoneGoes M l h v u p) (after : Sound (mev_lone M l h v p)) where
+  abbrev L : Model
+  L = mev_lone M l h v p
+
+  abbrev sl : ℕ
+  sl = solid_of_loop M l
+
+  lone_loop : (q : ℕ) → q ≢ l → table.get L.loops q ≡ table.get M.loops q
+  unfolding mev_lone
+  lone_loop q ne = get-put_other M.loops l _ q ne
+
+  lone_face : face_of L l ≡ face_of M l
+  unfolding mev_lone
+  lone_face = face_row (mev_lone M l h v p) l _ (get-put_here M.loops l _)
+
+  lone_rows : (q : ℕ) → table.get L.faces q ≡ table.get M.faces q
+  unfolding mev_lone
+  lone_rows q = refl
+
+  lone_edge : (x : ℕ) → HasHalf M x → table.get L.edges (edge_of x) ≡ table.get M.edges (edge_of x)
+  unfolding mev_lone
+  lone_edge x there = get-put_other M.edges (edge_of h) _ (edge_of x) (row_elsewhere M.edges (edge_of x) (edge_of h) there goes.edge_free)
+
+  lone_within : Within (solid_of_loop M l) M (mev_lone M l h v p)
+  lone_within = record {
+    before = sound;
+    after = after;
+    faces = λ q there out. (lone_rows q, out);
+    faces_back = λ q there out. (lone_rows q, out);
+    loops = λ q there out. lone_loop q (λ e. eqb-false (solid_of_loop M q) sl out (ap (solid_of_loop M) e));
+    loops_back = λ q there out. lone_loop q (λ e. eqb-false (solid_of_loop L q) sl out (ap (solid_of L) (ap (face_of L) e ∙ lone_face) ∙ same_solid M L (face_of M l) (lone_rows (face_of M l))));
+    edges = λ x there out. lone_edge x there;
+  }
+
+-- ---- an edge between two corners of a loop, and a new face
+
+module _ (M : Model) (sound : Sound M) (g k h f l : ℕ) (goes : MefGoes M g k h f l) where
+  abbrev D : Model
+  D = mef M g k h f l
+
+  abbrev sd : ℕ
+  sd = solid_of M (face_at M g)
+
+  drawn_face : (q : ℕ) → q ≢ f → table.get D.faces q ≡ table.get M.faces q
+  unfolding mef
+  drawn_face q ne = get-put_other M.faces f _ q ne
+
+  drawn_new : solid_of D f ≡ sd
+  unfolding mef
+  drawn_new = solid_row (mef M g k h f l) f _ (get-put_here M.faces f _)
+
+  drawn_old : solid_of D (face_at M g) ≡ sd
+  drawn_old = same_solid M D (face_at M g) (drawn_face (face_at M g) (row_elsewhere M.faces (face_at M g) f (sound.loops_of_faces (loop_of M g) (loop_there M sound g goes.g_there)) goes.face_free))
+
+  drawn_edge : (x : ℕ) → HasHalf M x → table.get D.edges (edge_of x) ≡ table.get M.edges (edge_of x)
+  unfolding mef
+  drawn_edge x there = get-put_other M.edges (edge_of h) _ (edge_of x) (row_elsewhere M.edges (edge_of x) (edge_of h) there goes.edge_free)
+
+  drawn_within : Within (solid_of M (face_at M g)) M (mef M g k h f l)
+  drawn_within =
+      let set = drawn.set sound goes in
+      let new = drawn.not_l sound goes in
+      record {
+        before = sound;
+        after = drawn.sound-mef sound goes;
+        faces = λ q there out. (drawn_face q (row_elsewhere M.faces q f there goes.face_free), out);
+        faces_back = λ q there out. let row = drawn_face q (λ e. eqb-false (solid_of D q) sd out (ap (solid_of D) e ∙ drawn_new)) in (row, out);
+        loops = λ q there out. row_else set q (λ e. eqb-false (solid_of_loop M q) sd out (ap (solid_of_loop M) e)) (new q there);
+        loops_back = λ q there out. row_else set q
+            (λ e. eqb-false (solid_of_loop D q) sd out (ap (solid_of D) (ap (face_of D) e ∙ face_same set (loop_of M g) set.apart) ∙ drawn_old))
+            (λ e. eqb-false (solid_of_loop D q) sd out (ap (solid_of D) (ap (face_of D) e ∙ drawn.face_l sound goes) ∙ drawn_new));
+        edges = λ x there out. drawn_edge x there;
+      }
+
+-- ---- an edge that goes, and a new ring
+
+module _ (M : Model) (sound : Sound M) (h l : ℕ) (goes : KemrGoes M h l) where
+  abbrev P : Model
+  P = kemr M h l
+
+  abbrev sp : ℕ
+  sp = solid_of M (face_at M h)
+
+  parted_rows : (q : ℕ) → table.get P.faces q ≡ table.get M.faces q
+  unfolding kemr
+  parted_rows q = refl
+
+  parted_edge : (x : ℕ) → HasHalf M x → solid_of_half M x ≢ sp → table.get P.edges (edge_of x) ≡ table.get M.edges (edge_of x)
+  unfolding kemr
+  parted_edge x there ne = get-remove_other M.edges (edge_of h) (edge_of x) (λ e. elim (same_edge x h e) [
+    | inl z ↦ ne (ap (solid_of_half M) z)
+    | inr z ↦ ne (ap (solid_of_half M) z ∙ sym (sound.one_solid h goes.h_there))
+  ])
+
+  parted_within : Within (solid_of M (face_at M h)) M (kemr M h l)
+  parted_within =
+      let set = parted.set M sound h l goes in
+      let of : solid_of P (face_at M h) ≡ sp = same_solid M P (face_at M h) (parted_rows (face_at M h)) in
+      record {
+        before = sound;
+        after = parted.sound-kemr M sound h l goes;
+        faces = λ q there out. (parted_rows q, out);
+        faces_back = λ q there out. (parted_rows q, out);
+        loops = λ q there out. row_else set q (λ e. eqb-false (solid_of_loop M q) sp out (ap (solid_of_loop M) e)) (row_elsewhere M.loops q l there goes.loop_free);
+        loops_back = λ q there out. row_else set q
+            (λ e. eqb-false (solid_of_loop P q) sp out (ap (solid_of P) (ap (face_of P) e ∙ face_same set (loop_of M h) set.apart) ∙ of))
+            (λ e. eqb-false (solid_of_loop P q) sp out (ap (solid_of P) (ap (face_of P) e ∙ face_row P l _ (row_second set)) ∙ of));
+        edges = λ x there out. parted_edge x there (eqb-false (solid_of_half M x) sp out);
+      }
+
+-- ---- a ring that becomes a new face
+
+module _ (M : Model) (sound : Sound M) (l f : ℕ) (goes : MakeGoes M l f) (after : Sound (mfkrh M l f)) where
+  abbrev R : Model
+  R = mfkrh M l f
+
+  abbrev sr : ℕ
+  sr = solid_of M (face_of M l)
+
+  moves : LoopMoves M R l f
+  unfolding mfkrh
+  moves = record { there = goes.l_there; loops = refl; solids = refl; edges = refl; vertices = refl }
+
+  ring_face : (q : ℕ) → q ≢ f → table.get R.faces q ≡ table.get M.faces q
+  unfolding mfkrh
+  ring_face q ne = get-put_other M.faces f _ q ne
+
+  ring_new : solid_of R f ≡ sr
+  unfolding mfkrh
+  ring_new = solid_row (mfkrh M l f) f _ (get-put_here M.faces f _)
+
+  ring_loop : (q : ℕ) → Has M.loops q → q ≢ l → table.get R.loops q ≡ table.get M.loops q
+  ring_loop q there ne = let same = walks_same moves in same_row M R q there (same.loops q) (face_kept moves q ne) (same.contents q)
+
+  ring_within : Within (solid_of M (face_of M l)) M (mfkrh M l f)
+  ring_within = record {
+    before = sound;
+    after = after;
+    faces = λ q there out. (ring_face q (row_elsewhere M.faces q f there goes.face_free), out);
+    faces_back = λ q there out. let row = ring_face q (λ e. eqb-false (solid_of R q) sr out (ap (solid_of R) e ∙ ring_new)) in (row, out);
+    loops = λ q there out. ring_loop q there (λ e. eqb-false (solid_of_loop M q) sr out (ap (solid_of_loop M) e));
+    loops_back = λ q there out. ring_loop q (sym ((walks_same moves).loops q) ∙ there) (λ e. eqb-false (solid_of_loop R q) sr out (ap (solid_of R) (ap (face_of R) e ∙ face_moved moves) ∙ ring_new));
+    edges = λ x there out. ap (λ t. table.get t (edge_of x)) (walks_same moves).edges;
+  }
+
+-- ---- each operator
+
+module _ (M : Model) (op : Op) (sound : Sound M) (e : first_false M op ≡ None) where
+  abbrev then : Model
+  then = effect M op
+
+  -- what its inverse works in, it works in
+  taken_within : (u : ℕ) → Within u (effect M op) (effect (effect M op) (inverse M op)) → Within u M (effect M op)
+  taken_within u w = turned then M (is_of u) (is_of u) (subst (Within u then) (inverse_undoes M op sound e) w)
+
+mev_within : (c d : Corner) (h : HalfEdge) (v : ℕ) (p : Point) (M : Model) → Sound M → first_false M (Mev c d h v p) ≡ None → Within (solid_in M (Mev c d h v p)) M (effect M (Mev c d h v p)) × (table.get M.edges (edge_of (code h)) ≡ None)
+unfolding effect
+mev_within (At g) (At k) h v p M sound e = let goes = mev_goes M g k h v p e in (grown_within M sound (code g) (code k) (code h) v p goes (effect_keeps_sound M (Mev (At g) (At k) h v p) sound e), goes.edge_free)
+mev_within (At g) (Lone l) h v p M sound e = absurd (mixed_first M g l h v p sound e)
+mev_within (Lone l) (At k) h v p M sound e = absurd (mixed_second M l k h v p sound e)
+mev_within (Lone l) (Lone d) h v p M sound e = let goes = lone_goes M l d h v p e in (lone_within M sound l (code h) v _ p goes (effect_keeps_sound M (Mev (Lone l) (Lone d) h v p) sound e), goes.edge_free)
+
+mef_within : (g k h : HalfEdge) (f l : ℕ) (M : Model) → Sound M → first_false M (Mef g k h f l) ≡ None → Within (solid_in M (Mef g k h f l)) M (effect M (Mef g k h f l))
+unfolding effect
+mef_within g k h f l M sound e = drawn_within M sound (code g) (code k) (code h) f l (mef_goes M g k h f l e)
+
+kemr_within : (h : HalfEdge) (l : ℕ) (M : Model) → Sound M → first_false M (Kemr h l) ≡ None → Within (solid_in M (Kemr h l)) M (effect M (Kemr h l))
+unfolding effect
+kemr_within h l M sound e = parted_within M sound (code h) l (kemr_goes M h l e)
+
+mfkrh_within : (l f : ℕ) (M : Model) → Sound M → first_false M (Mfkrh l f) ≡ None → Within (solid_in M (Mfkrh l f)) M (effect M (Mfkrh l f))
+unfolding effect
+mfkrh_within l f M sound e = ring_within M sound l f (mfkrh_goes M l f e) (effect_keeps_sound M (Mfkrh l f) sound e)
+
+-- the half-edge that mekr makes is of the solid of its first corner
+module _ (M : Model) (h q l u w : ℕ) (ys xs : List ℕ) (sound : Sound M) (goes : JoinGoes M h q l u w ys xs) where
+  abbrev J : Model
+  J = join_loops M h q l u w ys xs
+
+  joined_rows : (k : ℕ) → table.get J.faces k ≡ table.get M.faces k
+  unfolding join_loops
+  joined_rows k = refl
+
+  joined_half : solid_of_half (join_loops M h q l u w ys xs) h ≡ solid_of_loop M q
+  joined_half = let set = joins.set sound goes in
+      ap (solid_of_loop J) (joins.loop_new sound goes h (inl refl)) ∙ ap (solid_of J) (face_same set q set.apart) ∙ same_solid M J (face_of M q) (joined_rows (face_of M q))
+
+mekr_half : (M : Model) (c d : Corner) (h : HalfEdge) → Sound M → first_false M (Mekr c d h) ≡ None → solid_of_half (effect M (Mekr c d h)) (code h) ≡ solid_of_loop M (corner_loop M c)
+unfolding effect
+mekr_half M c d h sound e = subst (λ N. solid_of_half N (code h) ≡ solid_of_loop M (corner_loop M c)) (sym (mekr_is M c d (code h))) (joined_half M (code h) _ _ _ _ _ _ sound (join_goes M c d h sound e))
+
+module _ (M : Model) (sound : Sound M) where
+  kev_within : (h : HalfEdge) → first_false M (Kev h) ≡ None → Within (solid_in M (Kev h)) M (effect M (Kev h))
+  unfolding inverse
+  kev_within h e =
+      let op = Kev h in
+      let N = effect M op in
+      let w = mev_within _ _ h _ _ N (effect_keeps_sound M op sound e) (inverse_goes M op sound e) in
+      let back = taken_within M op sound e _ w.0 in
+      subst (λ u. Within u M N) (sym (new_half N M _ (turned M N (is_of _) (is_of _) back) (code h) (kev_goes M h sound e).h_there w.1)) back
+
+  kef_within : (h : HalfEdge) → first_false M (Kef h) ≡ None → Within (solid_in M (Kef h)) M (effect M (Kef h))
+  unfolding inverse
+  kef_within h e =
+      let op = Kef h in
+      let N = effect M op in
+      let goes = inverse_goes M op sound e in
+      let back = taken_within M op sound e _ (mef_within _ _ h _ _ N (effect_keeps_sound M op sound e) goes) in
+      subst (λ u. Within u M N) (sym (new_half N M _ (turned M N (is_of _) (is_of _) back) (code h) (kef_goes M h e).h_there (mef_goes N _ _ h _ _ goes).edge_free)) back
+
+  mekr_within : (c d : Corner) (h : HalfEdge) → first_false M (Mekr c d h) ≡ None → Within (solid_in M (Mekr c d h)) M (effect M (Mekr c d h))
+  unfolding inverse
+  mekr_within c d h e =
+      let op = Mekr c d h in
+      let N = effect M op in
+      subst (λ u. Within u M N) (mekr_half M c d h sound e) (taken_within M op sound e _ (kemr_within h _ N (effect_keeps_sound M op sound e) (inverse_goes M op sound e)))
+
+  kfmrh_within : (f g : ℕ) → first_false M (Kfmrh f g) ≡ None → Within (solid_in M (Kfmrh f g)) M (effect M (Kfmrh f g))
+  unfolding inverse
+  kfmrh_within f g e =
+      let op = Kfmrh f g in
+      let N = effect M op in
+      let was = kfmrh_goes M f g e in
+      let goes = inverse_goes M op sound e in
+      let back = taken_within M op sound e _ (mfkrh_within _ g N (effect_keeps_sound M op sound e) goes) in
+      subst (λ u. Within u M N) (sym (was.one_solid ∙ new_face N M _ (turned M N (is_of _) (is_of _) back) g was.g_there (mfkrh_goes N _ g goes).face_free)) back
+
+pub inner_within : (op : Op) (M : Model) → Sound M → first_false M op ≡ None → is_inner op ≡ true → Within (solid_in M op) M (effect M op)
+inner_within (Mev c d h v p) M sound e i = (mev_within c d h v p M sound e).0
+inner_within (Kev h) M sound e i = kev_within M sound h e
+inner_within (Mef g k h f l) M sound e i = mef_within g k h f l M sound e
+inner_within (Kef h) M sound e i = kef_within M sound h e
+inner_within (Kemr h l) M sound e i = kemr_within h l M sound e
+inner_within (Mekr c d h) M sound e i = mekr_within M sound c d h e
+inner_within (Kfmrh f g) M sound e i = kfmrh_within M sound f g e
+inner_within (Mfkrh l f) M sound e i = mfkrh_within l f M sound e
+inner_within op M sound e i = absurd (true≢false (sym i))

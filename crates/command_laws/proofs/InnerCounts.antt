@@ -1,0 +1,179 @@
+-- What an operator makes of the counts of the solid in which it works.
+use Rattle.std.proofs.Common.{◌≡◌, ℕ, ◌+◌, ℤ, pos, ◌-ℤ◌, true, length, None, refl, sym, ap, subst, ◌∙◌, arith, true≢false, ne_eqb}
+use Rattle.std.proofs.lemmas.Int.{ints}
+use Rattle.euler_operators.specs.declared.Corner.{Corner}
+use Rattle.euler_operators.specs.declared.Corner.TheVariants.{At, Lone}
+use Rattle.euler_operators.specs.declared.HalfEdge.{HalfEdge}
+use Rattle.euler_operators.specs.declared.Point.{Point}
+use Rattle.euler_operators.specs.HalfEdge.{code, edge_of}
+use Rattle.euler_operators.specs.Table as table
+use Rattle.euler_operators.specs.Model.{Model, faces_of}
+use Rattle.euler_operators.specs.Sound.{Sound}
+use Rattle.euler_operators.specs.Conditions.{first_false}
+use Rattle.euler_operators.specs.Effect.{effect, inverse, kemr, mef, mev_at, mev_lone, mfkrh}
+use Rattle.euler_operators.specs.declared.Op.{Op}
+use Rattle.euler_operators.specs.declared.Op.TheVariants.{Mev, Kev, Mef, Kef, Kemr, Mekr, Kfmrh, Mfkrh}
+use Rattle.euler_operators.proofs.Tables.{row_some}
+use Rattle.euler_laws.specs.Laws.{size}
+use Rattle.euler_laws.proofs.Cases.{effect_keeps_sound, inverse_goes, inverse_undoes}
+use Rattle.euler_laws.proofs.Sizes.{mapped_none, size-map_rows, size-put_new, size-put_old, size-remove}
+use Rattle.euler_laws.proofs.faces.Kfmrh.{mfkrh_goes}
+use Rattle.euler_laws.proofs.kemr.Kemr.{kemr_goes}
+use Rattle.euler_laws.proofs.mef.Mef.{mef_goes}
+use Rattle.euler_laws.proofs.mev.Mev.{lone_goes, mev_goes, mixed_first, mixed_second}
+use Rattle.shapes.specs.Faces.{edges_of, vertices_of}
+use Rattle.solid_measure.specs.solid_counts.Counts.{counts, rings_in, tally_of}
+use Rattle.command_laws.specs.Operators.{OperatorsCount, OperatorsKeepCounts, counted_on, is_inner, solid_in}
+use Rattle.command_laws.proofs.Owners.{faces_many, is_of, loops_many, more_edges, more_faces, more_loops, more_vertices, others_kept, vertices_many}
+use Rattle.command_laws.proofs.Inner.{Within, inner_within}
+
+-- ---- as many more as the model has
+
+abbrev Shares : Model → Model → ℕ → Type 0
+Shares M N s = let a = counts M s in let b = counts N s in
+    (b.v + size M.vertices ≡ a.v + size N.vertices) × (b.e + size M.edges ≡ a.e + size N.edges) × (b.f + size M.faces ≡ a.f + size N.faces) × (b.r + b.f + size M.loops ≡ a.r + a.f + size N.loops)
+
+shared : (M N : Model) (s : ℕ) → Within s M N → Shares M N s
+unfolding counts
+shared M N s w = (vertices, edges, faces, loops) where
+  vertices : length (vertices_of N s) + size M.vertices ≡ length (vertices_of M s) + size N.vertices
+  vertices = omega (arith, vertices_many M w.before s, vertices_many N w.after s, more_vertices M N (is_of s) (is_of s) w)
+
+  edges : length (edges_of N s) + size M.edges ≡ length (edges_of M s) + size N.edges
+  edges = omega (arith, more_edges M N (is_of s) (is_of s) w)
+
+  faces : length (faces_of N s) + size M.faces ≡ length (faces_of M s) + size N.faces
+  faces = omega (arith, faces_many M w.before s, faces_many N w.after s, more_faces M N (is_of s) (is_of s) w)
+
+  loops : length (rings_in N (faces_of N s)) + length (faces_of N s) + size M.loops ≡ length (rings_in M (faces_of M s)) + length (faces_of M s) + size N.loops
+  loops = omega (arith, loops_many M w.before s, loops_many N w.after s, more_loops M N (is_of s) (is_of s) w)
+
+-- ---- how many rows the makers make
+
+abbrev Grown : Model → Model → ℕ → ℕ → ℕ → ℕ → Type 0
+Grown M N v e f l = (size N.vertices ≡ size M.vertices + v) × (size N.edges ≡ size M.edges + e) × (size N.faces ≡ size M.faces + f) × (size N.loops ≡ size M.loops + l)
+
+mev_grows : (c d : Corner) (h : HalfEdge) (v : ℕ) (p : Point) (M : Model) → Sound M → first_false M (Mev c d h v p) ≡ None → Grown M (effect M (Mev c d h v p)) 1 1 0 0
+unfolding effect mev_at mev_lone
+mev_grows (At g) (At k) h v p M sound e = grind (arith, mev_goes, size-put_new, mapped_none, size-map_rows)
+mev_grows (At g) (Lone l) h v p M sound e = absurd (mixed_first M g l h v p sound e)
+mev_grows (Lone l) (At k) h v p M sound e = absurd (mixed_second M l k h v p sound e)
+mev_grows (Lone l) (Lone d) h v p M sound e =
+    let goes = lone_goes M l d h v p e in
+    let N : Model = mev_lone M l (code h) v p in
+    let w = row_some (table.get M.loops l) goes.loop_there in
+    let a : size N.vertices ≡ size M.vertices + 1 = size-put_new M.vertices v p goes.vertex_free in
+    let b : size N.edges ≡ size M.edges + 1 = size-put_new M.edges (edge_of (code h)) _ goes.edge_free in
+    let c : size N.loops ≡ size M.loops = size-put_old M.loops l _ w.0 w.1 in
+    (a, b, omega arith, omega (arith, c))
+
+mef_grows : (g k h : HalfEdge) (f l : ℕ) (M : Model) → first_false M (Mef g k h f l) ≡ None → Grown M (effect M (Mef g k h f l)) 0 1 1 1
+unfolding effect mef
+mef_grows g k h f l M e = grind (arith, mef_goes, size-put_new, mapped_none, size-map_rows)
+
+-- an edge goes, and a loop comes
+abbrev Parted : Model → Model → Type 0
+Parted M N = (size N.vertices ≡ size M.vertices) × (size N.edges + 1 ≡ size M.edges) × (size N.faces ≡ size M.faces) × (size N.loops ≡ size M.loops + 1)
+
+kemr_grows : (h : HalfEdge) (l : ℕ) (M : Model) → first_false M (Kemr h l) ≡ None → Parted M (effect M (Kemr h l))
+unfolding effect kemr
+kemr_grows h l M e =
+    let goes = kemr_goes M h l e in
+    let w = row_some (table.get M.edges (edge_of (code h))) goes.h_there in
+    let a = size-remove M.edges (edge_of (code h)) w.0 w.1 in
+    grind (arith, a, size-put_new, mapped_none, goes.loop_free, size-map_rows)
+
+mfkrh_grows : (l f : ℕ) (M : Model) → first_false M (Mfkrh l f) ≡ None → Grown M (effect M (Mfkrh l f)) 0 0 1 0
+unfolding effect mfkrh
+mfkrh_grows l f M e = grind (arith, mfkrh_goes, size-put_new, size-map_rows)
+
+-- ---- so the counts of the solid
+
+abbrev Counted : Op → Type 0
+Counted op = (M : Model) → Sound M → first_false M op ≡ None → let s = solid_in M op in counts (effect M op) s ≡ counted_on op (counts M s)
+
+tally : (v e f r v' e' f' r' : ℕ) (z : ℤ) → v' ≡ v → e' ≡ e → f' ≡ f → r' ≡ r → pos (v' + f') -ℤ pos (e' + r') ≡ z → tally_of v' e' f' r' ≡ record { v = v; e = e; f = f; r = r; sum = z }
+tally v e f r v' e' f' r' z a b c d sum = λ i. record { v = a i; e = b i; f = c i; r = d i; sum = sum i }
+
+module _ (op : Op) (M : Model) (sound : Sound M) (e : first_false M op ≡ None) where
+  shares : is_inner op ≡ true → Shares M (effect M op) (solid_in M op)
+  shares i = shared M (effect M op) (solid_in M op) (inner_within op M sound e i)
+
+  -- what is said of the inverse, of the operator
+  back : (P : Model → Model → Type 0) → ((N : Model) (e : first_false N (inverse M op) ≡ None) → Sound N → P N (effect N (inverse M op))) → P (effect M op) M
+  back P told = subst (P (effect M op)) (inverse_undoes M op sound e) (told (effect M op) (inverse_goes M op sound e) (effect_keeps_sound M op sound e))
+
+mev_counted : (c d : Corner) (h : HalfEdge) (v : ℕ) (p : Point) → Counted (Mev c d h v p)
+unfolding counts
+mev_counted c d h v p M sound e =
+    let q = shares (Mev c d h v p) M sound e refl in
+    let w = mev_grows c d h v p M sound e in
+    tally _ _ _ _ _ _ _ _ _ (omega (arith, q.0, w.0)) (omega (arith, q.1, w.1)) (omega (arith, q.2, w.2)) (omega (arith, q.2, q.3, w.2, w.3)) (omega (arith, ints, q.0, q.1, q.2, q.3, w.0, w.1, w.2, w.3))
+
+kev_counted : (h : HalfEdge) → Counted (Kev h)
+unfolding counts inverse
+kev_counted h M sound e =
+    let q = shares (Kev h) M sound e refl in
+    let w = back (Kev h) M sound e (λ X Y. Grown X Y 1 1 0 0) (λ N go has. mev_grows _ _ h _ _ N has go) in
+    tally _ _ _ _ _ _ _ _ _ (omega (arith, q.0, w.0)) (omega (arith, q.1, w.1)) (omega (arith, q.2, w.2)) (omega (arith, q.2, q.3, w.2, w.3)) (omega (arith, ints, q.0, q.1, q.2, q.3, w.0, w.1, w.2, w.3))
+
+mef_counted : (g k h : HalfEdge) (f l : ℕ) → Counted (Mef g k h f l)
+unfolding counts
+mef_counted g k h f l M sound e =
+    let q = shares (Mef g k h f l) M sound e refl in
+    let w = mef_grows g k h f l M e in
+    tally _ _ _ _ _ _ _ _ _ (omega (arith, q.0, w.0)) (omega (arith, q.1, w.1)) (omega (arith, q.2, w.2)) (omega (arith, q.2, q.3, w.2, w.3)) (omega (arith, ints, q.0, q.1, q.2, q.3, w.0, w.1, w.2, w.3))
+
+kef_counted : (h : HalfEdge) → Counted (Kef h)
+unfolding counts inverse
+kef_counted h M sound e =
+    let q = shares (Kef h) M sound e refl in
+    let w = back (Kef h) M sound e (λ X Y. Grown X Y 0 1 1 1) (λ N go has. mef_grows _ _ h _ _ N go) in
+    tally _ _ _ _ _ _ _ _ _ (omega (arith, q.0, w.0)) (omega (arith, q.1, w.1)) (omega (arith, q.2, w.2)) (omega (arith, q.2, q.3, w.2, w.3)) (omega (arith, ints, q.0, q.1, q.2, q.3, w.0, w.1, w.2, w.3))
+
+kemr_counted : (h : HalfEdge) (l : ℕ) → Counted (Kemr h l)
+unfolding counts
+kemr_counted h l M sound e =
+    let q = shares (Kemr h l) M sound e refl in
+    let w = kemr_grows h l M e in
+    tally _ _ _ _ _ _ _ _ _ (omega (arith, q.0, w.0)) (omega (arith, q.1, w.1)) (omega (arith, q.2, w.2)) (omega (arith, q.2, q.3, w.2, w.3)) (omega (arith, ints, q.0, q.1, q.2, q.3, w.0, w.1, w.2, w.3))
+
+mekr_counted : (c d : Corner) (h : HalfEdge) → Counted (Mekr c d h)
+unfolding counts inverse
+mekr_counted c d h M sound e =
+    let q = shares (Mekr c d h) M sound e refl in
+    let w = back (Mekr c d h) M sound e Parted (λ N go has. kemr_grows h _ N go) in
+    tally _ _ _ _ _ _ _ _ _ (omega (arith, q.0, w.0)) (omega (arith, q.1, w.1)) (omega (arith, q.2, w.2)) (omega (arith, q.2, q.3, w.2, w.3)) (omega (arith, ints, q.0, q.1, q.2, q.3, w.0, w.1, w.2, w.3))
+
+mfkrh_counted : (l f : ℕ) → Counted (Mfkrh l f)
+unfolding counts
+mfkrh_counted l f M sound e =
+    let q = shares (Mfkrh l f) M sound e refl in
+    let w = mfkrh_grows l f M e in
+    tally _ _ _ _ _ _ _ _ _ (omega (arith, q.0, w.0)) (omega (arith, q.1, w.1)) (omega (arith, q.2, w.2)) (omega (arith, q.2, q.3, w.2, w.3)) (omega (arith, ints, q.0, q.1, q.2, q.3, w.0, w.1, w.2, w.3))
+
+kfmrh_counted : (f g : ℕ) → Counted (Kfmrh f g)
+unfolding counts inverse
+kfmrh_counted f g M sound e =
+    let q = shares (Kfmrh f g) M sound e refl in
+    let w = back (Kfmrh f g) M sound e (λ X Y. Grown X Y 0 0 1 0) (λ N go has. mfkrh_grows _ g N go) in
+    tally _ _ _ _ _ _ _ _ _ (omega (arith, q.0, w.0)) (omega (arith, q.1, w.1)) (omega (arith, q.2, w.2)) (omega (arith, q.2, q.3, w.2, w.3)) (omega (arith, ints, q.0, q.1, q.2, q.3, w.0, w.1, w.2, w.3))
+
+each_counted : (op : Op) → is_inner op ≡ true → Counted op
+each_counted (Mev c d h v p) i = mev_counted c d h v p
+each_counted (Kev h) i = kev_counted h
+each_counted (Mef g k h f l) i = mef_counted g k h f l
+each_counted (Kef h) i = kef_counted h
+each_counted (Kemr h l) i = kemr_counted h l
+each_counted (Mekr c d h) i = mekr_counted c d h
+each_counted (Kfmrh f g) i = kfmrh_counted f g
+each_counted (Mfkrh l f) i = mfkrh_counted l f
+each_counted op i = absurd (true≢false (sym i))
+
+pub operators_count : OperatorsCount
+operators_count M N op sound step i = ap (λ X. counts X (solid_in M op)) step.1 ∙ each_counted op i M sound step.0
+
+pub operators_keep_counts : OperatorsKeepCounts
+operators_keep_counts M N op u sound step i ne =
+    let s = solid_in M op in
+    ap (λ X. counts X u) step.1 ∙ others_kept M (effect M op) (is_of s) (is_of s) (inner_within op M sound step.0 i) u (ne_eqb u s ne) (ne_eqb u s ne)

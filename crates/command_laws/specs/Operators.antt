@@ -1,0 +1,58 @@
+-- What `counts` answers after one operator, an `act` of a session or a `step` of a draft.
+use Rattle.std.specs.Prelude.{◌≡◌, ◌≢◌, ℕ, ◌+◌, ◌-◌, pos, ◌+ℤ◌, ◌-ℤ◌, Bool, true, false, None}
+use Rattle.euler_operators.specs.HalfEdge.{code}
+use Rattle.euler_operators.specs.Model.{Model, face_of, solid_of}
+use Rattle.euler_operators.specs.Sound.{Sound}
+use Rattle.euler_operators.specs.declared.Op.{Op}
+use Rattle.euler_operators.specs.declared.Op.TheVariants.{Mev, Kev, Mef, Kef, Kemr, Mekr, Kfmrh, Mfkrh}
+use Rattle.euler_operators.specs.Conditions.{corner_loop, face_at, first_false}
+use Rattle.euler_operators.specs.Effect.{effect}
+use Rattle.solid_measure.specs.declared.solid_counts.Tally.{Tally}
+use Rattle.solid_measure.specs.solid_counts.Counts.{counts}
+
+-- an operator that isn't refused leads from model M to model N
+abbrev pub IsStep : Model → Op → Model → Type 0
+IsStep M op N = (first_false M op ≡ None) × (N ≡ effect M op)
+
+-- the operators that make or kill an edge, a face or a ring within one solid
+abbrev pub is_inner : Op → Bool
+is_inner (Mev c d h v p) = true
+is_inner (Kev h) = true
+is_inner (Mef g k h f l) = true
+is_inner (Kef h) = true
+is_inner (Kemr h l) = true
+is_inner (Mekr c d h) = true
+is_inner (Kfmrh f g) = true
+is_inner (Mfkrh l f) = true
+is_inner op = false
+
+-- that solid
+abbrev pub solid_in : Model → Op → ℕ
+solid_in M (Mev c d h v p) = solid_of M (face_of M (corner_loop M c))
+solid_in M (Kev h) = solid_of M (face_at M (code h))
+solid_in M (Mef g k h f l) = solid_of M (face_at M (code g))
+solid_in M (Kef h) = solid_of M (face_at M (code h))
+solid_in M (Kemr h l) = solid_of M (face_at M (code h))
+solid_in M (Mekr c d h) = solid_of M (face_of M (corner_loop M c))
+solid_in M (Kfmrh f g) = solid_of M f
+solid_in M (Mfkrh l f) = solid_of M (face_of M l)
+solid_in M op = 0
+
+-- what becomes of its counts
+abbrev pub counted_on : Op → Tally → Tally
+counted_on (Mev c d h v p) t = record t { v = t.v + 1; e = t.e + 1 }
+counted_on (Kev h) t = record t { v = t.v - 1; e = t.e - 1 }
+counted_on (Mef g k h f l) t = record t { e = t.e + 1; f = t.f + 1 }
+counted_on (Kef h) t = record t { e = t.e - 1; f = t.f - 1 }
+counted_on (Kemr h l) t = record t { e = t.e - 1; r = t.r + 1 }
+counted_on (Mekr c d h) t = record t { e = t.e + 1; r = t.r - 1 }
+counted_on (Kfmrh f g) t = record t { f = t.f - 1; r = t.r + 1; sum = t.sum -ℤ pos 2 }
+counted_on (Mfkrh l f) t = record t { f = t.f + 1; r = t.r - 1; sum = t.sum +ℤ pos 2 }
+counted_on op t = t
+
+abbrev pub OperatorsCount : Type 0
+OperatorsCount = (M N : Model) (op : Op) → Sound M → IsStep M op N → is_inner op ≡ true → let s = solid_in M op in counts N s ≡ counted_on op (counts M s)
+
+-- and every other solid counts as it did
+abbrev pub OperatorsKeepCounts : Type 0
+OperatorsKeepCounts = (M N : Model) (op : Op) (u : ℕ) → Sound M → IsStep M op N → is_inner op ≡ true → u ≢ solid_in M op → counts N u ≡ counts M u

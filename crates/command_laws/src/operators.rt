@@ -1,0 +1,10 @@
+//! What one operator makes of the counts, in a session or a draft.
+ghost use Rattle.command_laws.specs.Operators.{OperatorsCount, OperatorsKeepCounts};
+
+/// An operator that makes or kills an edge, a face or a ring within a solid changes what `counts` answers of it: mev makes a vertex and an
+/// edge, mef an edge and a face, kemr a ring of an edge, and mfkrh a face of a ring; kev, kef, mekr and kfmrh take that back. Every other
+/// solid counts as it did. So it is after `act` of a session, and after `step` of a draft.
+pub fn operators_count()
+    ensures inner { OperatorsCount }
+    ensures others { OperatorsKeepCounts }
+{}
