@@ -4,3 +4,4 @@ mod SplitCounts
 mod OpenedCaps
 mod Sizes
 mod Sectioned
+mod Crossed

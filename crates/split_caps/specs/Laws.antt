@@ -7,6 +7,7 @@ use Rattle.euler_operators.specs.Table as table
 use Rattle.euler_operators.specs.Sound.{Sound}
 use Rattle.shapes.specs.Vectors.{negated}
 use Rattle.shapes.specs.Measure.{normal}
+use Rattle.shapes.specs.split.Sides.{crossing_edges}
 use Rattle.shapes.specs.split.Drawing.{with_drawings}
 use Rattle.shapes.specs.split.Section.{is_hole, holes_in}
 use Rattle.undo_journal.specs.Machine.{Machine, held}
@@ -48,3 +49,8 @@ CapsFaceApart = (before after : Machine) (s : ℕ) (p : Plane) (t i : ℕ) → S
 abbrev pub SectionsAreCapped : Type 0
 SectionsAreCapped = (before after : Machine) (s : ℕ) (p : Plane) (t h : ℕ) → Sound (held before) → IsSplit before after s p t → IsIn h (section_of (held before) s p) →
     (i : ℕ) × (i < length (caps_of (held before) s p)) × IsIn h (get_or (cycles_of (held before) s p) i [])
+
+-- where an edge of the solid crosses the plane, some cycle is an outer one
+abbrev pub CrossedAreCapped : Type 0
+CrossedAreCapped = (before after : Machine) (s : ℕ) (p : Plane) (t e : ℕ) → Sound (held before) → IsSplit before after s p t → IsIn e (crossing_edges (held before) p s) →
+    (i : ℕ) × (i < length (caps_of (held before) s p)) × ((cap (held before) s p i).hole ≡ false)

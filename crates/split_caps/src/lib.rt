@@ -16,13 +16,15 @@
 //! along the direction then too; what each part counts alone; the faces and the rings apart from each other by the section.
 
 ghost use Rattle.split_caps.specs.Counted.{SplitSharesCounts, SplitSharesSums, SplitMakesCounts, SplitKeepsCounts};
-ghost use Rattle.split_caps.specs.Laws.{SectionsAreCapped, CapsAreNumbered, CapsStand, HolesAreClosed, CapsHaveNormals, CapsFaceApart};
+ghost use Rattle.split_caps.specs.Laws.{CrossedAreCapped, SectionsAreCapped, CapsAreNumbered, CapsStand, HolesAreClosed, CapsHaveNormals, CapsFaceApart};
 
 /// Each cycle of the section has two caps, numbered on from the last face that was drawn, and each half-edge of the section stands in a
-/// cycle. So there are caps where a face above meets one that isn't, once the faces are drawn.
+/// cycle. So there are caps where a face above meets one that isn't, once the faces are drawn; and those of an outer cycle where an edge
+/// of the solid crosses the plane.
 pub fn caps_are_numbered()
     ensures numbers { CapsAreNumbered }
     ensures there { SectionsAreCapped }
+    ensures crossed { CrossedAreCapped }
 {}
 
 /// The caps of an outer cycle close the two parts: they lie on the plane, and so do their rings, which closed the holes.
