@@ -3,7 +3,6 @@ use Rattle.std.specs.Prelude.{◌≡◌, ◌≤◌, ℕ, ◌+◌, pos, neg_ℤ, 
 use Rattle.std.proofs.Common.{sym, subst, arith}
 use Rattle.sweeps.specs.Measure.{six_volume}
 use Rattle.sweeps.specs.PlainMachine.{Machine, start, held}
-use Rattle.gluing.specs.Machine.{glue_refusal}
 use Rattle.plane_split.specs.Machine.{plane_with, split_refusal}
 use Rattle.command_laws.specs.Accepted.{AreLeft}
 use Rattle.solid_measure.specs.solid_counts.Counts.{counts}
@@ -57,9 +56,12 @@ blank_left = left blank 6 6 12 8 6 6 12 8 blank_taken (omega arith) (omega arith
 pub sweep_left : AreLeft blank 4 4 8 4
 sweep_left = left blank 6 6 12 8 4 4 8 4 blank_taken (omega arith) (omega arith) (omega arith) (omega arith)
 
-pub glue_accepted : glue_refusal paired 4 12 ≡ None
-unfolding computed glue_conditions glue_model blank paired
-glue_accepted = refl
+paired_taken : HasTaken paired 12 12 24 16
+unfolding computed blank paired
+paired_taken = record { of_faces = refl; of_loops = refl; of_edges = refl; of_vertices = refl }
+
+pub glue_left : AreLeft paired 0 0 1 0
+glue_left = left paired 12 12 24 16 0 0 1 0 paired_taken (omega arith) (omega arith) (omega arith) (omega arith)
 
 pub split_accepted : split_refusal lengthened 1 (plane_with (pos 1) (pos 0) (pos 0) (neg_ℤ (pos 2))) 2 ≡ None
 unfolding computed glue_conditions glue_model blank paired lengthened

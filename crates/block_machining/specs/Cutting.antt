@@ -1,10 +1,14 @@
 -- The two parts of a solid that was cut across the x axis.
-use Rattle.std.specs.Prelude.{◌≡◌, ◌<◌, ℕ, ◌*◌, ℤ, pos, ◌+ℤ◌, ◌-ℤ◌, false, filter, length}
+use Rattle.std.specs.Prelude.{◌≡◌, ◌<◌, ℕ, ◌*◌, ℤ, pos, ◌+ℤ◌, ◌-ℤ◌, false, cond, filter, length}
 use Rattle.plane_split.specs.Faces.{vertices_of}
 use Rattle.plane_split.specs.Machine.{plane_with}
 use Rattle.plane_split.specs.Sides.{some_above, some_below}
-use Rattle.sweeps.specs.Model.{Model}
+use Rattle.shapes.specs.split.Sides.{crossing_edges, face_is_above, straddles}
+use Rattle.euler_operators.specs.Items.{IsIn}
+use Rattle.sweeps.specs.Model.{Model, solid_of}
+use Rattle.sweeps.specs.Sound.{Has}
 use Rattle.command_laws.specs.Counted.{counts}
+use Rattle.command_laws.specs.TakenOver.{IsTakenOver}
 use Rattle.split_caps.specs.Capped.{IsCapOf, cap, caps_of, cycles_of}
 
 -- no vertex of solid s lies above the plane x + d = 0, and none of solid t below it
@@ -21,6 +25,15 @@ AreCapped M N d s t = let plane = plane_with (pos 1) (pos 0) (pos 0) d in (i : �
 abbrev pub ShareSums : Model → Model → ℤ → ℕ → ℕ → Type 0
 ShareSums M N d s t = let plane = plane_with (pos 1) (pos 0) (pos 0) d in
     (counts N s).sum +ℤ (counts N t).sum ≡ (counts M s).sum +ℤ pos (2 * length (cycles_of M s plane)) -ℤ pos (4 * length (filter (λ k. k.hole) (caps_of M s plane)))
+
+-- each face that the plane doesn't straddle is of the part on its side, with its loops, their corner points and its plane
+abbrev pub ShareFaces : Model → Model → ℤ → ℕ → ℕ → Type 0
+ShareFaces M N d s t = let plane = plane_with (pos 1) (pos 0) (pos 0) d in (k : ℕ) → Has M.faces k → solid_of M k ≡ s → straddles M plane k ≡ false →
+    IsTakenOver M N k (cond (face_is_above M plane k) t s)
+
+-- where an edge crosses the plane some cycle of the section is no hole
+abbrev pub HasOuterCap : Model → ℤ → ℕ → Type 0
+HasOuterCap M d s = let plane = plane_with (pos 1) (pos 0) (pos 0) d in (e : ℕ) → IsIn e (crossing_edges M plane s) → (i : ℕ) × (i < length (caps_of M s plane)) × ((cap M s plane i).hole ≡ false)
 
 -- face f of solid s is its cap on the plane x + d = 0
 abbrev pub IsCapAt : Model → ℤ → ℕ → ℕ → Type 0

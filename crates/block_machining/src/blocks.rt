@@ -1,6 +1,7 @@
 //! Blocks, machined and taken back.
 ghost use Rattle.std.specs.Prelude.{◌≡◌, pos, neg_ℤ, ◌+ℤ◌, IfOk};
 ghost use Rattle.command_laws.specs.Counted.{counts};
+ghost use Rattle.command_laws.specs.Flat.{IsClosedFlat};
 ghost use Rattle.command_laws.specs.NewFaces.{last_face, IsFaceOf};
 ghost use Rattle.block_machining.specs.Cutting.{IsCapAt, LieOnEitherSide};
 ghost use Rattle.block_machining.specs.Machines.{blank, paired, lengthened};
@@ -12,8 +13,8 @@ ghost use Rattle.sweeps.specs.Sound.{Has};
 
 use crate::machining::{but_for_memory, cut, joined, raised, tried};
 use command_laws::{
-    blocks_fit, blocks_leave_alone, blocks_make_faces, faces_are_kept, faces_stand,
-    shapes_are_counted, solids_are_there, sweeps_fit, undos_go_back,
+    blocks_fit, blocks_leave_alone, blocks_make_faces, faces_are_kept, faces_lie_flat, faces_stand,
+    glues_fit, shapes_are_counted, solids_are_there, sweeps_fit, undos_go_back,
 };
 use std::alloc::{AllocError, Global};
 use sweeps::{Op, Point, Session, block, block_measures};
@@ -28,12 +29,14 @@ fn blank(alloc: Global) -> Result<Session, AllocError>
     ensures depth { IfOk result (λ session. depth session.machine ≡ 1) }
     ensures made { IfOk result (λ session. session.machine ≡ blank) }
     ensures top { IfOk result (λ session. IsFaceOf (held session.machine) 1 1 top) }
+    ensures flat { IfOk result (λ session. IsClosedFlat (held session.machine) 1) }
 {
     let session = Session::new(alloc)?;
     blocks_fit();
     block_measures();
     blocks_make_faces();
     faces_are_kept();
+    faces_lie_flat();
     shapes_are_counted();
     solids_are_there();
     let corner = Point { x: 0, y: 0, z: 0 };
@@ -67,12 +70,14 @@ fn paired(alloc: Global) -> Result<Session, AllocError>
     ensures far { IfOk result (λ session. IsFaceOf (held session.machine) 12 2 far_side) }
     ensures depth { IfOk result (λ session. depth session.machine ≡ 2) }
     ensures made { IfOk result (λ session. session.machine ≡ paired) }
+    ensures flat { IfOk result (λ session. IsClosedFlat (held session.machine) 1 × IsClosedFlat (held session.machine) 2) }
 {
     let session = blank(alloc)?;
     blocks_fit();
     block_measures();
     blocks_make_faces();
     blocks_leave_alone();
+    faces_lie_flat();
     faces_stand();
     let corner = Point { x: 4, y: 0, z: 0 };
     let (session, made) = block(alloc, session, 2, corner, 1, 3, 2);
@@ -87,6 +92,7 @@ fn lengthened(alloc: Global) -> Result<Session, AllocError>
     ensures made { IfOk result (λ session. session.machine ≡ lengthened) }
 {
     let session = paired(alloc)?;
+    glues_fit();
     let (session, glued) = joined(alloc, session, 4, 12);
     but_for_memory(glued)?;
     Ok(session)

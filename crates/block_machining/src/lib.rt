@@ -10,11 +10,12 @@
 //! # What is proved
 //!
 //! Of functions that call the kernel as a stranger would, from contracts and laws: none of its commands is refused, so that the
-//! only error is that memory is. A block, a lamina and a sweep are accepted by the laws of `command_laws`, the glue and the cut
-//! by the conditions of the plain machine, computed. The block that it makes has 144 as its six volumes, and eight vertices,
+//! only error is that memory is. A block, a lamina, a sweep and a glue are accepted by the laws of `command_laws`, the cut by the
+//! conditions of the plain machine, computed. The block that it makes has 144 as its six volumes, and eight vertices,
 //! twelve edges and six faces; a swept face, with rings or without, adds three times its normal along the vector, and keeps its
 //! loops with their corners moved; the solid that comes of two glued faces has the six volumes of both; the parts of a solid cut
-//! by a plane x + d = 0 are there, share its six volumes, lie on either side of it and are closed by caps on it. What becomes of
+//! by a plane x + d = 0 are there, share its six volumes, lie on either side of it and are closed by caps on it, and each face
+//! that the plane leaves whole is of the part on its side. What becomes of
 //! `v - e + f - r` is told of each of these, and which edges or loops stay as they were. After each undo isn't refused and gives
 //! the model before. Whatever operator is tried in a draft that is given up, the session is as it was; so at the end the block
 //! has its volume as before, with one command to undo and one to redo. Once a second block is made, the side of the first at

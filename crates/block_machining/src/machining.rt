@@ -3,7 +3,7 @@ ghost use Rattle.std.specs.Prelude.{◌≡◌, ◌≢◌, pos, ◌+ℤ◌, ◌-�
 ghost use Rattle.command_laws.specs.Counted.{counts};
 ghost use Rattle.command_laws.specs.LeftAlone.{KeepsEdges, KeepsLoops, Each, OfOthers, OfOthersBut};
 ghost use Rattle.command_laws.specs.RingedFaces.{IsFarFace};
-ghost use Rattle.block_machining.specs.Cutting.{AreCapped, LieOnEitherSide, ShareSums};
+ghost use Rattle.block_machining.specs.Cutting.{AreCapped, HasOuterCap, LieOnEitherSide, ShareFaces, ShareSums};
 ghost use Rattle.block_machining.specs.Undoing.{IsOneCommand};
 ghost use Rattle.gluing.specs.Machine.{glue, glue_refusal};
 ghost use Rattle.plane_split.specs.Machine.{plane_with, split, split_refusal};
@@ -21,8 +21,8 @@ use command_laws::{
 };
 use gluing::{glue, glue_measures, six_volume};
 use plane_split::{split, splits_are_held};
-use split_caps::{caps_close_the_parts, splits_share_counts};
-use split_frames::splits_leave_alone;
+use split_caps::{caps_are_numbered, caps_close_the_parts, splits_share_counts};
+use split_frames::{splits_leave_alone, splits_share_faces};
 use std::alloc::{AllocError, Global};
 use sweeps::{Draft, Failure, Op, Point, Session, sweep, sweep_measures};
 
@@ -55,6 +55,7 @@ pub fn raised(
 
 /// A face glued to a face of another solid. The solid of the first has the six volumes of both then. Undo gives the model before.
 pub fn joined(alloc: Global, session: Session, f: u32, other: u32) -> (Session, Result<(), Failure>)
+    ensures sound { Sound (held session.machine) }
     ensures made { OnOk result.1 (result.0.machine ≡ glue session.machine f other) }
     ensures refused { (refusal : Refusal) → (result.1 ≡ Err (Failure.Refused refusal)) → (glue_refusal session.machine f other ≡ Some refusal) }
     ensures volume { OnOk result.1 (six_volume (held result.0.machine) (solid_of (held session.machine) f) ≡ six_volume (held session.machine) (solid_of (held session.machine) f) +ℤ six_volume (held session.machine) (solid_of (held session.machine) other)) }
@@ -70,8 +71,8 @@ pub fn joined(alloc: Global, session: Session, f: u32, other: u32) -> (Session, 
 }
 
 /// A solid cut by the plane x + d = 0: what lies above it, where that sum is positive, becomes the solid `upper`. Both parts are there
-/// then. They share the six volumes of the one, lie on either side, and have caps on the plane. The loops of other solids are as they
-/// were. Undo gives the model before.
+/// then. They share the six volumes of the one, lie on either side, and have caps on the plane, an outer one where an edge crosses it. Each
+/// face that the plane leaves whole is of the part on its side. The loops of other solids are as they were. Undo gives the model before.
 pub fn cut(
     alloc: Global,
     session: Session,
@@ -86,13 +87,17 @@ pub fn cut(
     ensures sides { OnOk result.1 (LieOnEitherSide (held result.0.machine) d s upper) }
     ensures caps { OnOk result.1 (AreCapped (held session.machine) (held result.0.machine) d s upper) }
     ensures sum { OnOk result.1 (ShareSums (held session.machine) (held result.0.machine) d s upper) }
+    ensures whole { OnOk result.1 (ShareFaces (held session.machine) (held result.0.machine) d s upper) }
+    ensures crossed { OnOk result.1 (HasOuterCap (held session.machine) d s) }
     ensures kept { OnOk result.1 (KeepsLoops (OfOthers (held session.machine) s) (held session.machine) (held result.0.machine)) }
     ensures undone { OnOk result.1 (IsOneCommand session.machine result.0.machine) }
     ensures err { OnErr result.1 (result.0 ≡ session) }
 {
     splits_are_held();
+    caps_are_numbered();
     caps_close_the_parts();
     splits_share_counts();
+    splits_share_faces();
     splits_leave_alone();
     split(alloc, session, s, 1, 0, 0, d, upper)
 }

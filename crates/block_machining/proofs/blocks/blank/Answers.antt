@@ -55,3 +55,6 @@ unfolding blank
 returns-clause-made c =
     let made = rw c.in_ok-but_for_memory.ensures at c.block-session.ensures.ok in
     made.1 ∙ ap (λ m. block m 1 origin (pos 4) (pos 3) (pos 2)) (begins c.in_ok-session.session c.in_ok-session.ensures)
+
+pub returns-clause-flat : goal.returns-clause-flat
+returns-clause-flat c = c.faces_lie_flat.ensures.block c.in_ok-session.session.machine c.block-session.result.0.machine 1 _ _ _ _ c.block-session.ensures.sound (rw c.in_ok-but_for_memory.ensures at c.block-session.ensures.ok)

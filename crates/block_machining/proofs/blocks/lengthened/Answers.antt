@@ -1,11 +1,13 @@
-use Rattle.std.proofs.Common.{◌≡◌, ℕ, ℤ, pos, ◌+ℤ◌, sym, ap, ◌∙◌}
+use Rattle.std.proofs.Common.{◌≡◌, ℕ, ℤ, pos, ◌+ℤ◌, refl, sym, ap, subst, ◌∙◌, arith}
 use Rattle.sweeps.specs.Measure.{six_volume}
 use Rattle.sweeps.specs.Model.{Model, solid_of}
 use Rattle.sweeps.specs.PlainMachine.{held}
 use Rattle.gluing.specs.Machine.{glue, glue_refusal}
+use Rattle.command_laws.specs.Accepted.{AreLeft}
 use Rattle.block_machining.specs.Machines.{lengthened}
+use Rattle.block_machining.specs.Meeting.{near_side, far_side}
 use Rattle.block_machining.proofs.Accepted.{for_no_reason}
-use Rattle.block_machining.proofs.Worked.{glue_accepted}
+use Rattle.block_machining.proofs.Worked.{glue_left}
 use Rattle.block_machining.proofs.blocks.lengthened.Goals as goal
 
 -- a sum in which both solids are known
@@ -23,7 +25,12 @@ returns-clause-volume c =
 
 pub but_for_memory-requires : goal.but_for_memory-requires
 but_for_memory-requires c refusal is =
-    for_no_reason (glue_refusal c.in_ok-session.session.machine 4 12) refusal (ap (λ m. glue_refusal m 4 12) c.in_ok-session.ensures.made ∙ glue_accepted) (c.joined-session.ensures.refused refusal is)
+    let m = c.in_ok-session.session.machine in
+    let flat = c.in_ok-session.ensures.flat in
+    for_no_reason (glue_refusal m 4 12) refusal
+    (c.glues_fit.ensures m 4 12 1 2 near_side far_side c.joined-session.ensures.sound c.in_ok-session.ensures.near c.in_ok-session.ensures.far (λ e. absurd (omega (arith, e))) flat.0 flat.1 refl refl refl
+    (subst (λ n. AreLeft n 0 0 1 0) (sym c.in_ok-session.ensures.made) glue_left))
+    (c.joined-session.ensures.refused refusal is)
 
 pub returns-clause-made : goal.returns-clause-made
 unfolding lengthened

@@ -48,3 +48,12 @@ unfolding paired
 returns-clause-made c =
     let made = rw c.in_ok-but_for_memory.ensures at c.block-session.ensures.ok in
     made.1 ∙ ap (λ m. block m 2 (at (pos 0) (pos 0)) (pos 1) (pos 3) (pos 2)) c.in_ok-session.ensures.made
+
+pub returns-clause-flat : goal.returns-clause-flat
+returns-clause-flat c =
+    let before = c.in_ok-session.session.machine in
+    let after = c.block-session.result.0.machine in
+    let made = rw c.in_ok-but_for_memory.ensures at c.block-session.ensures.ok in (
+      c.faces_lie_flat.ensures.kept before after 2 _ _ _ _ 1 c.block-session.ensures.sound made (λ e. omega (arith, e)) c.in_ok-session.ensures.flat,
+      c.faces_lie_flat.ensures.block before after 2 _ _ _ _ c.block-session.ensures.sound made,
+    )

@@ -3,7 +3,7 @@ use Rattle.std.proofs.lemmas.Int.{to_z-of_z}
 use Rattle.std.proofs.lemmas.Result.{on_ok_weaker}
 use Rattle.plane_split.specs.Machine.{plane_with, split, split_refusal}
 use Rattle.sweeps.specs.PlainMachine.{held}
-use Rattle.block_machining.specs.Cutting.{AreCapped, LieOnEitherSide, ShareSums}
+use Rattle.block_machining.specs.Cutting.{AreCapped, HasOuterCap, LieOnEitherSide, ShareFaces, ShareSums}
 use Rattle.block_machining.proofs.Accepted.{accepted_undone}
 use Rattle.block_machining.proofs.machining.cut.Goals as goal
 
@@ -30,6 +30,16 @@ pub returns-clause-sum : goal.returns-clause-sum
 returns-clause-sum c = on_ok_weaker c.split.result.1 (λ made.
     subst (λ d. ShareSums (held c.args.session.machine) (held c.split.result.0.machine) d c.args.s c.args.upper) (to_z-of_z w64 c.args.d c.ranges.d)
     (c.splits_share_counts.ensures.sums c.args.session.machine c.split.result.0.machine c.args.s _ c.args.upper c.split.ensures.sound made)) c.split.ensures.ok
+
+pub returns-clause-whole : goal.returns-clause-whole
+returns-clause-whole c = on_ok_weaker c.split.result.1 (λ made.
+    subst (λ d. ShareFaces (held c.args.session.machine) (held c.split.result.0.machine) d c.args.s c.args.upper) (to_z-of_z w64 c.args.d c.ranges.d)
+    (λ k. c.splits_share_faces.ensures c.args.session.machine c.split.result.0.machine c.args.s _ c.args.upper k c.split.ensures.sound made)) c.split.ensures.ok
+
+pub returns-clause-crossed : goal.returns-clause-crossed
+returns-clause-crossed c = on_ok_weaker c.split.result.1 (λ made.
+    subst (λ d. HasOuterCap (held c.args.session.machine) d c.args.s) (to_z-of_z w64 c.args.d c.ranges.d)
+    (λ e. c.caps_are_numbered.ensures.crossed c.args.session.machine c.split.result.0.machine c.args.s _ c.args.upper e c.split.ensures.sound made)) c.split.ensures.ok
 
 pub returns-clause-kept : goal.returns-clause-kept
 returns-clause-kept c = on_ok_weaker c.split.result.1 (λ made. c.splits_leave_alone.ensures.loops c.args.session.machine c.split.result.0.machine c.args.s _ c.args.upper c.split.ensures.sound made) c.split.ensures.ok
