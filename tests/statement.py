@@ -4,8 +4,9 @@
     tests/statement.py [--write]
 
 Compares the pages with what the sources say; --write first makes them anew. A page has the function's head with its contract, then each definition
-where it is first used, with its comment, then the types of the code that they name; the words of the standard library are listed. Prints the
-number of lines of each page, and how many of them define something. The last line counts the pages.
+where it is first used, with its comment, then the types of the code that they name; the words of the standard library are listed. What lists of
+calls and scripts say of the larger commands stands on a page of its own, which both take by name. Prints the number of lines of each page, and how
+many of them define something. The last line counts the pages.
 """
 import re
 import sys
@@ -16,7 +17,7 @@ from pathlib import Path
 from typing import Dict, FrozenSet, Iterator, List, Optional, Tuple
 
 from counts import TOP, told
-from definitions import CRATES, Definition, Module, Outside, RustType, Thing, named, uses
+from definitions import CRATES, Definition, Module, Outside, RustType, Thing, named, resolve, uses
 from quotes import head_of
 
 PAGES = TOP / 'docs' / 'statements'
@@ -24,6 +25,16 @@ LAWS = 'script_laws/src/lib.rt'
 # What a law over bytes speaks of by its name alone: its page says what it is for, and doesn't look into it.
 BY_NAME = frozenset({'Rattle.script_laws.specs.Scripts.answers', 'Rattle.script_running.specs.Outs.Outs', 'Rattle.undo_journal.specs.Journal.new_journal',
                      'Rattle.script_running.specs.Output.output_of', 'Rattle.script_running.specs.Output.summary_of'})
+# When a larger command is refused, and what it makes: the same for lists of calls and for scripts.
+LARGER = ('shapes.specs.Lamina.lamina_conditions', 'shapes.specs.Lamina.lamina_model', 'shapes.specs.Block.block_conditions', 'shapes.specs.Block.block_model',
+          'shapes.specs.Prism.prism_conditions', 'shapes.specs.Prism.prism_model', 'gluing.specs.glue_checks.Conditions.early_conditions',
+          'shapes.specs.glue.Glue.glue_conditions', 'shapes.specs.glue.Glue.glue_model', 'split_checks.specs.begin_checks.Conditions.early_conditions',
+          'shapes.specs.split.Split.split_conditions', 'shapes.specs.split.Split.split_model')
+SHARED = frozenset(f'Rattle.{name}' for name in LARGER)
+SHARED_PAGE = PAGES / 'larger_commands.md'
+SHARED_HEAD = ['# Larger commands', '',
+               'When a lamina, a block, a sweep, a glue and a split are refused, by which of these conditions before memory is asked for, and what models they make:',
+               'the definitions that the pages [make_all](make_all.md) and [run](run.md) take by name, and what these lead to that doesn\'t stand on both.']
 WIDTH = 150
 INDEX = ['# Statements', '',
          'What is proved, each on a page of its own: the contract of a function, all definitions that it leads to, each where it is first used, and',
@@ -57,7 +68,7 @@ class Theorem:
 
 def theorems() -> List[Theorem]:
     """A list of calls, a script's run, and each law over bytes."""
-    found = [Theorem('call_lists/src/making.rt', 'make_all'), Theorem('script_running/src/running.rt', 'run')]
+    found = [Theorem('call_lists/src/making.rt', 'make_all', by_name=SHARED), Theorem('script_running/src/running.rt', 'run', by_name=SHARED)]
     lines = (CRATES / LAWS).read_text().splitlines()
     for function in re.findall(r'^pub fn (\w+)', '\n'.join(lines), re.MULTILINE):
         laws = re.findall(r'ensures (?:\w+ )?\{ ([A-Z]\w+) \}', '\n'.join(head_of(lines, function)))
@@ -156,8 +167,10 @@ def led_to(first: List[Thing], by_name: FrozenSet[str]) -> List[Thing]:
 def shown(definition: Definition, by_name: FrozenSet[str]) -> List[str]:
     """The lines of a definition on a page."""
     lines = [*definition.comment, *definition.lines]
-    if f'{definition.module}.{definition.name}' in by_name:
-        lines = [*definition.comment, definition.lines[0].split(' where')[0], '-- (by its name: nothing looks into it here)']
+    name = f'{definition.module}.{definition.name}'
+    if name in by_name:
+        why = f'it stands on {SHARED_PAGE.name}' if name in SHARED else 'nothing looks into it here'
+        lines = [*definition.comment, definition.lines[0].split(' where')[0], f'-- (by its name: {why})']
     return lines
 
 
@@ -203,12 +216,26 @@ def types_of(things: List[Thing]) -> List[RustType]:
     return list(found)
 
 
+def things_of(theorem: Theorem) -> List[Thing]:
+    """All that the page of a theorem has."""
+    lines = (CRATES / theorem.file).read_text().splitlines()
+    return led_to(begun(theorem, lines, theorem.head(lines)), theorem.by_name)
+
+
+def shared_page() -> str:
+    """The page of the larger commands."""
+    first = [resolve(base, name) for base, _, name in (f'Rattle.{path}'.rpartition('.') for path in LARGER)]
+    known = set.intersection(*(set(things_of(theorem)) for theorem in theorems() if theorem.by_name is SHARED)) - set(first)
+    things = [thing for thing in led_to(first, frozenset()) if thing not in known]
+    return '\n'.join([*SHARED_HEAD, *code('antt', definitions_of(things, frozenset())), *outside(things), '', MADE]) + '\n'
+
+
 def page_of(theorem: Theorem) -> str:
     """The page of a theorem."""
     lines = (CRATES / theorem.file).read_text().splitlines()
     at = next(at for at, line in enumerate(lines) if re.match(rf'pub fn {theorem.function}\b', line))
     head = theorem.head(lines)
-    things = led_to(begun(theorem, lines, head), theorem.by_name)
+    things = things_of(theorem)
     types = [line for kind in types_of(things) for line in ['', *declaration(kind)]]
     text = [f'# {theorem.title}', '', *(line[len('/// '):] for line in doc_above(lines, at)), *code('rust', head),
             *code('antt', definitions_of(things, theorem.by_name)), *code('rust', types[1:]), *outside(things),
@@ -246,11 +273,13 @@ def sentence(theorem: Theorem) -> str:
 def index() -> str:
     """The list of the pages."""
     rows = [f'- [{theorem.page.stem}]({theorem.page.name}): {sentence(theorem)}' for theorem in theorems()]
+    rows.insert(2, f'- [{SHARED_PAGE.stem}]({SHARED_PAGE.name}): When a larger command is refused, and what it makes, for these two.')
     return '\n'.join([*INDEX, '', *rows, '', MADE]) + '\n'
 
 
 def main() -> int:
     pages = {theorem.page: page_of(theorem) for theorem in theorems()}
+    pages[SHARED_PAGE] = shared_page()
     pages[PAGES / 'README.md'] = index()
     if '--write' in sys.argv[1:]:
         PAGES.mkdir(exist_ok=True)
