@@ -26,7 +26,7 @@ class Ended(CompanionError):
 
 
 class InDraft(CompanionError, RuntimeError):
-    """A draft is open, which takes operators alone; nothing has changed."""
+    """A draft is open, in which nothing is undone or redone; nothing has changed."""
 
 
 class InGroup(CompanionError, RuntimeError):
@@ -39,7 +39,7 @@ class OutOfStep(CompanionError, RuntimeError):
 
 
 class NoDraft(CompanionError, RuntimeError):
-    """The draft has ended before its block did: a feature in it wasn't made whole."""
+    """The draft has ended before its block did, as where an outer block was left before an inner one."""
 
 
 class NotOne(CompanionError, LookupError):

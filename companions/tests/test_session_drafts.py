@@ -7,7 +7,7 @@ from random import Random
 
 from support import in_mirror, program
 
-from gwb import Complaint, InDraft, Lone, MemoryRefused, NoDraft, Refused, Workbench
+from gwb import Complaint, InDraft, Lone, MemoryRefused, NoDraft, Refused, Unfit, Workbench
 from gwb.errors import Ended
 
 TRIANGLE = [(1, 1, 9), (4, 1, 9), (1, 4, 9)]
@@ -104,15 +104,9 @@ class Drafts(unittest.TestCase):
         self.nothing_has_changed()
 
     def test_what_it_does_not_take(self):
-        bench, top = self.bench, self.block.top
-        calls = {
-            'lamina': lambda: bench.lamina(TRIANGLE), 'block': lambda: bench.block((0, 0, 0), (1, 1, 1)),
-            'sweep': lambda: bench.sweep(top, (0, 0, 1)), 'glue': lambda: bench.glue(1, 2), 'split': lambda: bench.split(1, (0, 0, 1, -2)),
-            'undo': bench.undo, 'redo': bench.redo, 'one undo': lambda: bench.undo(command=True), 'ask': lambda: bench.ask('count 1'),
-            'a line undo': lambda: bench.ask('undo'), 'draft': lambda: bench.draft().__enter__(),
-            'profile': lambda: bench.profile(TRIANGLE, along=(0, 0, 1)), 'pocket': lambda: bench.pocket(top, TRIANGLE, 1),
-            'boss': lambda: bench.boss(top, TRIANGLE, 1), 'hole': lambda: bench.hole(top, TRIANGLE),
-            'drill': lambda: bench.drill(top, (4, 4, 9), 2, 4), 'glue_all': lambda: bench.glue_all([1])}
+        bench = self.bench
+        calls = {'undo': bench.undo, 'redo': bench.redo, 'one undo': lambda: bench.undo(command=True), 'a line undo': lambda: bench.ask('undo'),
+                 'a line redo': lambda: bench.ask(' redo ')}
         with bench.draft():
             cut(bench)
             made = bench.listing()
@@ -121,6 +115,92 @@ class Drafts(unittest.TestCase):
                     given()
                 self.assertEqual(bench.listing(), made)
         self.assertEqual(bench.listing(), made)
+
+    def test_what_it_takes(self):
+        bench, top = self.bench, self.block.top
+        calls = {
+            'lamina': lambda: bench.lamina(TRIANGLE), 'block': lambda: bench.block((0, 0, 40), (1, 1, 1)),
+            'sweep': lambda: bench.sweep(top, (0, 0, 1)), 'split': lambda: bench.split(1, (0, 0, 1, -2)),
+            'glue': lambda: bench.glue(top, bench.block((0, 0, 9), (9, 9, 1)).bottom),
+            'profile': lambda: bench.profile(TRIANGLE, along=(0, 0, 1)), 'pocket': lambda: bench.pocket(top, TRIANGLE, 1),
+            'boss': lambda: bench.boss(top, TRIANGLE, 1), 'hole': lambda: bench.hole(top, TRIANGLE),
+            'drill': lambda: bench.drill(top, (4, 4, 9), 2, 4), 'glue_all': lambda: bench.glue_all([1, bench.block((9, 0, 0), (4, 9, 9))]),
+            'finer': lambda: bench.split(1, (2, 0, 0, -7), scale=True), 'trim': lambda: bench.trim(1, (1, 0, 0, -4)),
+            'cut': lambda: bench.cut(1, (1, -1, 0, 0), keep='above'), 'notch': lambda: bench.notch(top, [(0, 0, 9), (2, 0, 9), (2, 2, 9)], 1),
+            'copy': lambda: bench.copy(1, move=(0, 0, 20)), 'delete': lambda: bench.delete(1), 'scale': lambda: bench.scale(2),
+            'a line': lambda: bench.ask('block 7 0 0 40 1 1 1'), 'a listing': lambda: bench.ask('list'), 'a fault': lambda: bench.ask('block'),
+            'a refusal': lambda: bench.ask('sweep 99 0 0 1')}
+        for name, given in calls.items():
+            with self.subTest(name):
+                with bench.group():
+                    given()
+                made, script = bench.listing(), bench.script()
+                if made != self.held:
+                    bench.undo()
+                with self.assertRaises(GivenUp), bench.draft():
+                    given()
+                    raise GivenUp
+                self.assertEqual((bench.listing(), bench.script()), (self.held, 'block 1 0 0 0 9 9 9\n'))
+                with bench.draft():
+                    given()
+                    self.assertEqual((len(bench.listing().faces), in_mirror(bench)), (len(made.faces), bench.listing()))
+                self.assertEqual((len(bench.listing().faces), bench.script().count('\n')), (len(made.faces), script.count('\n')))
+                if made != self.held:
+                    bench.undo(command=True)
+                self.assertEqual(bench.listing(), self.held)
+
+    def test_a_feature_that_is_refused_in_it(self):
+        bench = self.bench
+        with bench.draft():
+            cut(bench)
+            made, script = bench.listing(), bench.script()
+            for call in (lambda: bench.union([1, bench.block((50, 0, 0), (1, 1, 1))]), lambda: bench.pocket(self.block.bottom, TRIANGLE, 1),
+                         lambda: bench.glue_all([1, bench.block((50, 0, 0), (1, 1, 1))])):
+                with self.assertRaises(Refused), bench.draft():
+                    call()
+                self.assertEqual((bench.listing(), bench.script()), (made, script))
+        self.assertEqual(bench.listing(), made)
+
+    def test_one_within_another(self):
+        bench = self.bench
+        with bench.draft():
+            bench.ring(self.block.top, TRIANGLE)
+            held = bench.listing()
+            with bench.draft():
+                bench.block((30, 0, 0), (1, 1, 1))
+                with self.assertRaises(GivenUp), bench.group():
+                    bench.block((40, 0, 0), (1, 1, 1))
+                    bench.split(1, (0, 0, 1, -2))
+                    raise GivenUp
+                kept = bench.listing()
+                self.assertEqual(len(kept.solids), 2)
+            with self.assertRaises(GivenUp), bench.draft(), bench.draft():
+                bench.delete(1)
+                raise GivenUp
+            self.assertEqual((bench.listing(), in_mirror(bench)), (kept, kept))
+            self.assertNotEqual(kept, held)
+        bench.undo()
+        self.assertEqual(bench.listing(), self.held)
+        bench.redo()
+        self.assertEqual(bench.listing(), kept)
+        self.assertEqual(bench.ask('redo').lines, ('refused 26 0',))
+
+    def test_one_of_which_all_within_was_given_up_leaves_no_trace(self):
+        with self.bench.draft(), self.assertRaises(GivenUp), self.bench.draft():
+            self.bench.block((30, 0, 0), (1, 1, 1))
+            raise GivenUp
+        self.nothing_has_changed()
+
+    def test_one_that_ends_before_those_within_it(self):
+        outer, inner = self.bench.draft(), self.bench.draft()
+        outer.__enter__()
+        inner.__enter__()
+        cut(self.bench)
+        outer.__exit__(None, None, None)
+        made = self.bench.listing()
+        with self.assertRaises(NoDraft):
+            inner.__exit__(None, None, None)
+        self.assertEqual(self.bench.listing(), made)
 
     def test_numbers_after_one_that_was_given_up(self):
         with self.assertRaises(GivenUp), self.bench.draft():
@@ -187,14 +267,17 @@ class Drafts(unittest.TestCase):
             self.bench.ring(self.block.bottom, [(1, 1, 0), (1, 4, 0), (4, 1, 0)])
         self.half_has_left_no_trace()
 
-    def test_a_ring_that_is_refused_half_way_ends_its_draft(self):
-        self.forget_a_vertex()
-        self.refuse_memory(4)
-        with self.assertRaises(NoDraft), self.bench.draft():
-            cut(self.bench)
+    def test_a_ring_that_is_refused_half_way_leaves_its_draft_open(self):
+        bench = self.bench
+        with bench.draft():
+            cut(bench)
+            made = bench.listing()
+            self.refuse_memory(3)
             with self.assertRaises(MemoryRefused):
-                self.bench.ring(self.block.bottom, [(1, 1, 0), (1, 4, 0), (4, 1, 0)])
-        self.half_has_left_no_trace()
+                bench.ring(self.block.bottom, [(1, 1, 0), (1, 4, 0), (4, 1, 0)])
+            self.assertEqual(bench.listing(), made)
+            cut(bench)
+        self.assertEqual(len(bench.face(self.block.top).rings), 2)
 
     def test_a_feature_of_larger_commands_that_is_refused_half_way_leaves_no_trace(self):
         bench = self.bench
@@ -206,6 +289,146 @@ class Drafts(unittest.TestCase):
             self.bench.pocket(self.block.bottom, [(1, 1, 0), (1, 4, 0), (4, 1, 0)], 2)
         self.assertEqual(caught.exception.name, 'NumbersSpent')
         self.half_has_left_no_trace()
+
+
+class TwelveCommands(unittest.TestCase):
+    """A hole through a block, which gets longer by a block that is cut and glued on: twelve commands, with numbers of their own, in a draft."""
+
+    def setUp(self):
+        self.bench = bench = Workbench(program())
+        self.addCleanup(bench.close)
+        bench.block((0, 0, 0), (9, 9, 9))
+        bench.block((0, 20, 0), (1, 1, 1))
+        self.both = bench.listing()
+        bench.undo()
+        self.held = bench.listing()
+        self.commands = [
+            lambda: bench.mev(7, 7, (2, 2, 9), edge=20, vertex=20), lambda: bench.kemr(20, loop=20),
+            lambda: bench.mev(Lone(20), Lone(20), (2, 5, 9), edge=21, vertex=21), lambda: bench.mev(-21, -21, (5, 5, 9), edge=22, vertex=22),
+            lambda: bench.mev(-22, -22, (5, 2, 9), edge=23, vertex=23), lambda: bench.mef(-23, 21, edge=24, face=20, loop=21),
+            lambda: bench.sweep(20, (0, 0, -9)), lambda: bench.kfmrh(2, 20), lambda: bench.block((9, 0, 0), (6, 9, 9), solid=2),
+            lambda: bench.split(2, (1, 0, 0, -12), above=3), lambda: bench.glue(4, self.face(2, 9)), lambda: bench.glue(self.face(1, 12), self.face(3, 12))]
+        self.models = [self.held]
+        for command in self.commands:
+            command()
+            self.models.append(bench.listing())
+        self.script = bench.script()
+        for _ in self.commands:
+            bench.undo()
+        self.assertEqual(bench.listing(), self.held)
+        bench.block((0, 20, 0), (1, 1, 1), solid=2)
+        bench.undo()
+
+    def face(self, solid, x):
+        """The face of a solid across the x axis at a place."""
+        return next(face for face in self.bench.faces(solid=solid) if all(point[0] == x for point in face.points))
+
+    def give(self, start=0, end=12):
+        for command in self.commands[start:end]:
+            command()
+
+    def require_made(self):
+        """All twelve are one command."""
+        self.assertEqual((self.bench.listing(), self.bench.script(), in_mirror(self.bench)), (self.models[12], self.script, self.models[12]))
+        self.bench.undo(command=True)
+        self.assertEqual((self.bench.listing(), in_mirror(self.bench)), (self.held, self.held))
+        with self.assertRaises(Refused):
+            self.bench.redo(), self.bench.redo()
+        self.assertEqual(self.bench.listing(), self.models[12])
+        self.bench.undo()
+
+    def require_nothing(self):
+        """There is no trace, and what could be redone still can."""
+        self.assertEqual((self.bench.listing(), self.bench.script()), (self.held, 'block 1 0 0 0 9 9 9\n'))
+        self.bench.redo()
+        self.assertEqual(self.bench.listing(), self.both)
+        self.bench.undo()
+
+    def test_in_a_draft(self):
+        with self.bench.draft():
+            for place, command in enumerate(self.commands, 1):
+                command()
+                self.assertEqual((self.bench.listing(), in_mirror(self.bench)), (self.models[place],) * 2)
+        self.require_made()
+
+    def test_saved_and_loaded(self):
+        with self.bench.draft():
+            self.give()
+        with tempfile.TemporaryDirectory() as folder:
+            self.bench.save(f'{folder}/part.gwb')
+            with Workbench.load(f'{folder}/part.gwb', program()) as self.bench:
+                self.require_made()
+
+    def test_refused_at_each_step(self):
+        for place in range(13):
+            with self.bench.draft():
+                self.give(end=place)
+                for line in ('sweep 99 0 0 1', 'glue 1 1', 'split 1 0 0 1 5 9', 'block 1 0 0 0 1 1 1', 'lamina 4 0 0 0', 'kvfs 1'):
+                    self.assertTrue(self.bench.ask(line).is_complaint, line)
+                self.assertEqual(self.bench.listing(), self.models[place])
+                self.give(start=place)
+            self.require_made()
+            with self.assertRaises(Refused), self.bench.draft():
+                self.give(end=place)
+                self.bench.glue(1, 1)
+            self.assertEqual(self.bench.listing(), self.held)
+
+    def test_out_of_memory_at_each_step(self):
+        for place in range(12):
+            for is_caught in (True, False):
+                with self.subTest(place=place, is_caught=is_caught):
+                    self.out_of_memory(place, is_caught)
+
+    def out_of_memory(self, place, is_caught):
+        lines = self.bench._bench.kernel.lines
+        do, refused = lines.do, MemoryRefused('memory was refused')
+
+        def refusing(call):
+            lines.do = do
+            raise refused
+
+        try:
+            with self.bench.draft():
+                self.give(end=place)
+                lines.do = refusing
+                try:
+                    self.commands[place]()
+                except MemoryRefused:
+                    if not is_caught:
+                        raise
+                self.assertEqual(self.bench.listing(), self.models[place])
+                self.give(start=place)
+        except MemoryRefused:
+            self.require_nothing()
+        else:
+            self.require_made()
+        self.bench.redo() if is_caught else None
+        self.bench.undo() if is_caught else None
+        self.bench.block((0, 20, 0), (1, 1, 1), solid=2)
+        self.bench.undo()
+
+    def test_marks_within_it(self):
+        for place in range(12):
+            for later in range(place, 12):
+                with self.bench.draft():
+                    self.give(end=place)
+                    with self.assertRaises(GivenUp), self.bench.draft():
+                        self.give(place, later)
+                        with self.bench.draft():
+                            self.give(start=later)
+                        self.assertEqual(self.bench.listing(), self.models[12])
+                        raise GivenUp
+                    self.assertEqual((self.bench.listing(), in_mirror(self.bench)), (self.models[place],) * 2)
+                    self.give(start=place)
+                self.require_made()
+
+    def test_given_up_after_each_step(self):
+        for place in range(13):
+            with self.assertRaises(GivenUp), self.bench.draft():
+                with self.bench.draft():
+                    self.give(end=place)
+                raise GivenUp
+            self.require_nothing()
 
 
 class RandomDrafts(unittest.TestCase):
@@ -298,6 +521,106 @@ class RandomDrafts(unittest.TestCase):
             return None
         bench.redo()
         return 1
+
+
+class RandomLargerDrafts(unittest.TestCase):
+    """Random operators, larger commands and features in drafts within drafts, some of them given up: what is given up leaves no trace, what is
+    left is what the same lines make one by one, and one command. RANDOM_DRAFTS of the environment may name how many drafts."""
+
+    def test_random_drafts_with_larger_commands(self):
+        for seed in range(int(os.environ.get('RANDOM_DRAFTS', 400)) // 20):
+            with Workbench(program()) as self.bench:
+                self.random, self.seed = Random(seed), seed
+                self.bench.block((0, 0, 0), (8, 8, 8))
+                for _ in range(5):
+                    self.one_command()
+                self.replayed()
+
+    def one_command(self):
+        bench, before = self.bench, self.bench.listing()
+        with bench.draft():
+            self.steps(0)
+        made = bench.listing()
+        if made != before:
+            bench.undo(command=True)
+            self.require(before)
+            bench.redo()
+        self.require(made)
+        with self.assertRaises(Refused):
+            bench.redo()
+        self.require(made)
+
+    def steps(self, depth):
+        """Some steps of a draft."""
+        calls = [self.operator, self.larger, self.feature] + [self.within, self.given_up] * (depth < 3)
+        for _ in range(self.random.randrange(5)):
+            if not self.bench.solids():
+                self.bench.block((0, 0, 0), (8, 8, 8))
+            before = self.bench.listing()
+            try:
+                with self.bench.draft():
+                    self.random.choice(calls)(depth)
+            except (Complaint, Unfit):
+                self.require(before)
+
+    def require(self, model):
+        self.assertEqual((self.bench.listing(), in_mirror(self.bench)), (model, model), self.seed)
+
+    def within(self, depth):
+        with self.random.choice((self.bench.draft, self.bench.group))():
+            self.steps(depth + 1)
+
+    def given_up(self, depth):
+        before, script = self.bench.listing(), self.bench.script()
+        with self.assertRaises(GivenUp), self.random.choice((self.bench.draft, self.bench.group))():
+            self.steps(depth + 1)
+            raise GivenUp
+        self.require(before)
+        self.assertEqual(self.bench.script(), script)
+
+    def operator(self, _):
+        bench, random = self.bench, self.random
+        face = random.choice(bench.faces())
+        if random.random() < .5:
+            bench.mvfs((random.randrange(9), 50, 0))
+        elif face.outer.half_edges:
+            half = random.choice(face.outer.half_edges)
+            bench.kemr(bench.mev(half, half, face.points[0]).edge)
+
+    def larger(self, _):
+        bench, random = self.bench, self.random
+        x, y, size = (random.choice((0, 8, 16)), random.choice((0, 8)), random.choice((4, 8)))
+        face, solid = random.choice(bench.faces()), random.choice(bench.solids())
+        random.choice((
+            lambda: bench.block((x, y, 20), (size, 8, 8)), lambda: bench.lamina([(x, y, 0), (x + size, y, 0), (x, y + size, 0)]),
+            lambda: bench.sweep(face, [2 * (part > 0) - 2 * (part < 0) for part in face.normal]),
+            lambda: bench.glue(face, random.choice(bench.faces())), lambda: bench.split(solid, (1, 0, 0, -x - 2)),
+            lambda: bench.split(solid, (1, -1, 0, 0)), lambda: bench.split(solid, (0, 2, 3, -17), scale=True),
+            lambda: bench.ask(f'split {solid.number} 0 0 1 -{size} {random.randrange(50, 99)}'), lambda: bench.ask(f'sweep {face.number} 0 0 {x}')))()
+
+    def feature(self, _):
+        bench, random = self.bench, self.random
+        face, solid, other = random.choice(bench.faces()), random.choice(bench.solids()), bench.block((0, 0, 60), (8, 8, 8)).solid
+        face = face if len(face.points) > 2 else bench.faces(solid=other).top().one()
+        first, *_, last = points = face.points
+        low = random.randrange(3)
+        random.choice((
+            lambda: bench.pocket(face, [tuple((part + 3 * other) // 4 for part, other in zip(point, points[low - 3])) for point in points], 1),
+            lambda: bench.hole(face, [tuple((part + other) // 2 for part, other in zip(point, last)) for point in points]),
+            lambda: bench.notch(face, [first, points[1], last], 1), lambda: bench.delete(solid), lambda: bench.copy(solid, move=(0, 0, 30)),
+            lambda: bench.mirror(solid, (1, 0, 0, 0)), lambda: bench.trim(solid, (1, 1, 0, -8)), lambda: bench.cut(solid, (0, 1, 0, -4)),
+            lambda: bench.union([solid, other]), lambda: bench.ring(face, [points[0], points[1], last])))()
+
+    def replayed(self):
+        """The lines one by one, and what was saved, make the same."""
+        made, script = self.bench.listing(), self.bench.script()
+        with Workbench(program()) as other, tempfile.TemporaryDirectory() as folder:
+            for line in script.splitlines():
+                self.assertEqual(other.ask(line).lines, ('ok',), (self.seed, line))
+            self.assertEqual(other.listing(), made, self.seed)
+            self.bench.save(f'{folder}/part.gwb')
+            with Workbench.load(f'{folder}/part.gwb', program()) as again:
+                self.assertEqual((again.listing(), again.script()), (made, script), self.seed)
 
 
 if __name__ == '__main__':

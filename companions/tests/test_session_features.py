@@ -272,7 +272,8 @@ class Scripts(unittest.TestCase):
                     ('cube.obj', '# a cube\nv 0 0 0\n', r'cube.obj, line 2: v 0 0 0: fault 1: .*gwb-import'),
                     ('cube', 'OFF\n8 6 12\n', r'cube, line 1: OFF: fault 1: .*gwb-import'),
                     ('part.gwb', '# draft of 2 commands\nmvfs 1 1 1 1 0 0 0\nkvfs x\n', r'part.gwb, line 3: kvfs x: fault 2'),
-                    ('part.gwb', '# draft of 1 commands\nblock 1 0 0 0 1 1 1\n', r'part.gwb, line 2: block: a draft is open'),
+                    ('part.gwb', '# draft of 2 commands\nblock 1 0 0 0 1 1 1\nsweep 9 0 0 1\n', r'part.gwb, line 3: sweep .*: refused 3 9'),
+                    ('part.gwb', '# draft of 1 commands\nundo\n', r'part.gwb, line 2: undo: a draft is open'),
                     ('replies', 'solid 1\nface 1 1 1\n', r'replies: ')):
                 Path(folder, name).write_text(text)
                 with self.subTest(text), self.assertRaisesRegex(CompanionError, words):

@@ -60,6 +60,19 @@ def drafted(bench):
         bench.kemr(bench.mev(start, start, (2, 0, 2)).edge)
 
 
+def drafted_within(bench):
+    """A draft with larger commands, of which one within it is given up."""
+    with bench.draft():
+        made = bench.block((90, 0, 0), (4, 4, 4))
+        try:
+            with bench.draft():
+                bench.split(made, (0, 0, 1, -2))
+                bench.sweep(made.top, (0, 0, 0))
+        except Complaint:
+            pass
+        bench.sweep(made.top, (0, 0, 1))
+
+
 def grouped(bench):
     with bench.group():
         bench.block((90, 0, 0), (1, 1, 1))
@@ -75,7 +88,8 @@ def finer(bench):
 CALLS = {
     'block': lambda bench: bench.block((50, 0, 0), (2, 2, 2)), 'mvfs': lambda bench: bench.mvfs((1, 2, 3)),
     'pocket': lambda bench: bench.pocket(1, SQUARE, 3), 'ring': lambda bench: bench.ring(1, SQUARE),
-    'hole': lambda bench: bench.hole(1, SQUARE), 'split': lambda bench: bench.split(1, (0, 0, 1, -3)), 'draft': drafted, 'group': grouped,
+    'hole': lambda bench: bench.hole(1, SQUARE), 'split': lambda bench: bench.split(1, (0, 0, 1, -3)), 'draft': drafted,
+    'a draft within': drafted_within, 'group': grouped,
     'undo': lambda bench: bench.undo(), 'redo': lambda bench: bench.redo(), 'volume': lambda bench: bench.volume(1),
     'ask': lambda bench: bench.ask('mvfs 77 77 77 77 1 2 3'), 'a line undo': lambda bench: bench.ask('undo'),
     'listing': lambda bench: bench.listing(), 'a refusal': lambda bench: bench.sweep(1, (0, 0, 0)),
@@ -353,8 +367,8 @@ class Features(unittest.TestCase):
             for call in (self.bench.undo, self.bench.redo, lambda: self.bench.undo(command=True), lambda: self.bench.ask('undo')):
                 with self.assertRaises(InGroup):
                     call()
-            with self.bench.draft(), self.assertRaises(InDraft), self.bench.group():
-                pass
+            with self.bench.draft(), self.bench.group(), self.assertRaises(InDraft):
+                self.bench.undo()
         self.assertEqual(len(self.bench.solids()), 2)
 
 

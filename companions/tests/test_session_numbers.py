@@ -171,7 +171,21 @@ class Steps(unittest.TestCase):
         bench.redo()
         self.assertEqual((bench.listing(), bench.script()), (made, script))
         bench.undo(command=True)
-        self.assertNotIn(bench.listing(), (held, made))
+        self.assertEqual(bench.listing(), held)
+        bench.redo(command=True)
+        self.assertEqual(bench.listing(), made)
+
+    def test_a_group_is_one_step_of_commands(self):
+        bench = self.bench
+        block = bench.block((0, 0, 0), (9, 9, 9))
+        held = bench.listing()
+        with bench.group():
+            bench.pocket(block.top, [(1, 1, 9), (4, 1, 9), (1, 4, 9)], 2)
+            pocketed = bench.listing()
+            bench.block((20, 0, 0), (9, 9, 9))
+        made = bench.listing()
+        bench.undo(command=True)
+        self.assertEqual(bench.listing(), pocketed)
         bench.redo()
         self.assertEqual(bench.listing(), made)
         bench.undo(command=True)

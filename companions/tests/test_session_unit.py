@@ -70,16 +70,31 @@ class Unit(unittest.TestCase):
         self.bench.redo()
         self.assertEqual((self.bench.listing(), self.bench.unit), (after, Fraction(1, 6)))
         self.bench.undo(command=True)
-        self.assertEqual((self.bench.unit, self.bench.volume(self.block.solid)), (Fraction(1, 6), 105 * 216))
-        self.bench.undo(command=True)
         self.assertEqual((self.bench.listing(), self.bench.unit), (before, 1))
+
+    def test_a_draft_takes_the_unit_back(self):
+        before, other = self.bench.listing(), self.bench.block((90, 0, 0), (5, 5, 5))
+        with self.bench.draft():
+            self.bench.split(other, (3, 0, 0, -281), scale=True)
+            finer = self.bench.listing()
+            with self.assertRaises(ZeroDivisionError), self.bench.draft():
+                self.bench.split(self.block, (2, 3, 0, -33), scale=True)
+                self.assertEqual(self.bench.unit, Fraction(1, 6))
+                raise ZeroDivisionError
+            self.assertEqual((self.bench.listing(), self.bench.unit), (finer, Fraction(1, 3)))
+        self.assertEqual((self.bench.listing(), self.bench.unit), (finer, Fraction(1, 3)))
+        self.bench.undo()
+        self.assertEqual(self.bench.unit, 1)
+        self.bench.undo()
+        self.assertEqual(self.bench.listing(), before)
 
     def test_numbers_stay(self):
         before = self.bench.listing()
-        self.bench.split(self.block, PLANE, scale=True)
-        self.bench.undo(command=True)
+        self.bench.split(self.cube, (7, 0, 0, -7 * 20 - 5), scale=True)
         model = self.bench.listing()
-        self.assertEqual((model.faces, model.loops, model.edges), (before.faces, before.loops, before.edges))
+        for kind in ('faces', 'loops', 'edges'):
+            held = getattr(before.only(self.block.solid), kind)
+            self.assertEqual({number: getattr(model, kind)[number] for number in held}, held)
 
     def test_units_multiply(self):
         self.bench.split(self.block, PLANE, scale=True)

@@ -64,13 +64,9 @@ class Bench:
 
     # Steps
 
-    def step(self, *, operators_alone: bool = False) -> ContextManager[None]:
-        """The commands given in it are one step to undo; operators alone one command. Where one isn't accepted, all is as before."""
-        return self.steps.one(operators_alone=operators_alone)
-
-    def refuse_in_draft(self, word: str) -> None:
-        """A draft takes operators alone."""
-        self.kernel.journal.refuse_in_draft(word)
+    def step(self) -> ContextManager[None]:
+        """The commands given in it are one command, or in a draft part of it. Where one isn't accepted, all is as before."""
+        return self.steps.draft()
 
     # What is held
 

@@ -117,15 +117,12 @@ class Commands(Methods):
         return kept.solid
 
     def split(self, solid: arguments.Solid, plane: arguments.Point, *, above: Optional[int] = None) -> Split:
-        """The solid is cut by the plane a x + b y + c z + d = 0, four numbers or what `plane` returns; what lies above it becomes a new solid.
-
-        Over the pipe the listing is read after it."""
+        """The solid is cut by the plane a x + b y + c z + d = 0, four numbers or what `plane` returns; what lies above it becomes a new solid."""
         cut, coefficients = self._bench.number('solid', solid), arguments.plane('plane', plane)
         number = self._bench.new('solid', above, 'above')
-        self._bench.kernel.mirror()
         fresh = self._bench.conversation.do('split', cut, *coefficients, number)
-        model = self._bench.solids_as_read((cut, number))
-        self._bench.kernel.following.tell((cut,), model)
+        reader = self._bench.kernel.reader()
+        model = self._bench.model_of([face for side in (cut, number) for face in reader.faces_of(side)])
         numbers = numbers_of(model)
         made = {kind: tuple(found for found in numbers[kind] if found in new) for kind, new in fresh.items()}
         caps = [face for face in made['face'] if all(_height(coefficients, point) == 0 for point in model.face_points(face))]

@@ -3,14 +3,15 @@
 from typing import Dict, Sequence
 
 from ..errors import Complaint
-from ..geometry.free_numbers import greatest_of
+from ..geometry.free_numbers import numbers_of
 from ..protocol.complaints import refused, reply_to
 from ..protocol.replies import ACCEPTED, Reply
 from .calls import Call, Value, call_in, words_in
+from .journal import Firsts, Given
 from .kernel import Kernel
 from .library import Library
 from .new_numbers import NewNumbers
-from .numbering import COUNTED_KINDS, GROWING, LARGER, NOT_IN_DRAFTS, changes, fresh_counts
+from .numbering import COUNTED_KINDS, LARGER, changes, fresh_counts
 from .results import Numbers
 
 Fresh = Dict[str, range]
@@ -27,8 +28,8 @@ class Conversation:
         """The reply to one line of the script language, whatever it is. What it makes, undoes or redoes is taken account of; of a draft
         all is undone or redone."""
         words = words_in(line)
-        self._kernel.journal.refuse_in_draft(line)
         if words in (['undo'], ['redo']):
+            self._kernel.journal.refuse_in_draft(line)
             self._kernel.journal.refuse_in_group(line)
             return self._reply_to_step(words[0])
         corners = self._prepared(words[0], _number_in(words[1:])) if words else 0
@@ -41,8 +42,6 @@ class Conversation:
     def do(self, word: str, *values: Value) -> Fresh:
         """Gives a command: the fresh numbers of a larger one. A complaint is raised."""
         kernel = self._kernel
-        if word in NOT_IN_DRAFTS:
-            kernel.journal.refuse_in_draft(word)
         call = Call(word, values)
         corners = self._prepared(word, call.number(0) if word == 'sweep' else 0)
         kernel.require_agreement()
@@ -55,16 +54,21 @@ class Conversation:
     def step(self, word: str) -> None:
         """Undoes or redoes one command, the word says which. A complaint is raised, and nothing has changed."""
         kernel = self._kernel
-        if word == 'redo' and kernel.journal.has_given_up:
-            raise refused(word, _NOTHING_TO_REDO, 0)
         with kernel.disagreeing():
             try:
+                self._require_undone(word)
                 kernel.lines.step(word, kernel.journal.calls_of(word))
             except Complaint:
                 kernel.agrees = True
                 raise
             kernel.has_changed()
             kernel.journal.stepped(word)
+
+    def _require_undone(self, word: str) -> None:
+        """Where the journal has nothing to redo, the program over the pipe might: what was given up."""
+        if word == 'redo' and not self._kernel.journal.has_undone:
+            self._kernel.lines.require_open()
+            raise refused(word, _NOTHING_TO_REDO, 0)
 
     def _reply_to_step(self, word: str) -> Reply:
         """The reply where one command is undone or redone, the word says which."""
@@ -91,7 +95,7 @@ class Conversation:
         greatest = kernel.journal.greatest.after(made, killed)
         greatest.settle({kind: numbers[-1] for kind, numbers in fresh.items()})
         self._numbers.were_used(greatest)
-        kernel.journal.add(call, greatest)
+        kernel.journal.add(Given(call, greatest, Firsts(*[fresh[kind][0] for kind in COUNTED_KINDS]) if fresh else None))
         if call.word == 'block':
             kernel.following.keep_up()
         return fresh
@@ -100,11 +104,12 @@ class Conversation:
         """For each kind the fresh numbers of an accepted larger command, up to the greatest in use; those of a split have gaps."""
         if isinstance(self._kernel.lines, Library):
             return self._kernel.lines.fresh()
-        before = self._kernel.journal.greatest.of
-        if call.word in GROWING:
-            return {kind: range(before(kind) + 1, before(kind) + count + 1) for kind, count in fresh_counts(call, corners).items()}
-        greatest = greatest_of(self._kernel.listing())
-        return {kind: range(before(kind) + 1, greatest[kind] + 1) for kind in COUNTED_KINDS}
+        firsts = Firsts(*[self._kernel.journal.greatest.of(kind) + 1 for kind in COUNTED_KINDS])
+        if call.word == 'split':
+            made = numbers_of(self._kernel.following.now().parted(call.values, firsts))
+            return {kind: range(first, max(made[kind]) + 1) for kind, first in zip(COUNTED_KINDS, firsts)}
+        counts = fresh_counts(call, corners)
+        return {kind: range(first, first + counts[kind]) for kind, first in zip(COUNTED_KINDS, firsts)}
 
     def face_sizes(self, face: int) -> Numbers:
         """How many half-edges each loop of a face has: the outer one, then the rings."""

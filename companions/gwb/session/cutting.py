@@ -9,7 +9,7 @@ from enum import Enum
 from fractions import Fraction
 from typing import Dict, Iterator, List, NamedTuple, Optional, Sequence, Tuple
 
-from ..errors import InDraft, Refused
+from ..errors import Refused
 from ..geometry.free_numbers import LARGEST
 from ..geometry.joined_models import joined
 from ..geometry.model import Model
@@ -70,7 +70,7 @@ def cut(bench: Bench, solid: int, plane: Plane, above: Optional[int]) -> Cut:
 
 
 def trimmed(bench: Bench, solid: int, plane: Plane) -> Tuple[int, ...]:
-    """What lies above the plane is cut off and thrown away, as one step: the caps of what is left, which keeps its number."""
+    """What lies above the plane is cut off and thrown away, as one command: the caps of what is left, which keeps its number."""
     with _another_way(), bench.step():
         made = Commands(bench).split(solid, plane)
         delete(bench, made.solid)
@@ -94,8 +94,6 @@ def _another_way() -> Iterator[None]:
     """What is given in it may be refused where another way of cutting copes: then it goes on after it."""
     try:
         yield
-    except InDraft:
-        pass
     except Refused as refused:
         if refused.number not in _COPED_WITH:
             raise

@@ -10,7 +10,7 @@ _MOST_SIDES = 1_000_000
 
 
 class FeatureMethods(Methods):
-    """Larger things than commands, made of commands. Each method is one step to undo."""
+    """Larger things than commands, made of commands. Each method is one command, as a draft is, or in a draft part of it."""
 
     def profile(self, points: arguments.Points, *, along: arguments.Point, solid: Optional[int] = None) -> Profile:
         """A new solid: the outline through the points, moved along the vector. It is never inside out, whichever way the points run.

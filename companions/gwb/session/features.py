@@ -1,4 +1,4 @@
-"""Features: profiles, pockets, bosses and holes, each one step to undo.
+"""Features: profiles, pockets, bosses and holes, each one command.
 
 They send nothing but commands of the language. Whether one is possible is found out first, exactly: outlines against faces, and what the
 feature adds against what lies near it. So a refusal (Impossible, which is Refused) leaves everything as it was. What is refused
@@ -37,7 +37,6 @@ class _Outline(NamedTuple):
 
 def profile(bench: Bench, points: List[Vector], way: Vector, solid: int) -> Profile:
     """The outline through the points, moved along the vector, as a solid of this number."""
-    bench.refuse_in_draft('profile')
     side = dot(simple_normal(points), way)
     if side == 0:
         raise Impossible('AlongPlane', 0, f'the vector {way} lies in the plane of the points')
@@ -51,7 +50,7 @@ def profile(bench: Bench, points: List[Vector], way: Vector, solid: int) -> Prof
 def ring(bench: Bench, face: int, points: List[Vector]) -> Ring:
     """The outline through the points as a ring of the face, and the face inside it."""
     outline = _outline_in(bench, face, points)
-    with bench.step(operators_alone=True):
+    with bench.step():
         made = _draw(bench, face, outline.path)
     vertices = made.vertices if outline.points == outline.path else (made.vertices[0], *reversed(made.vertices[1:]))
     return made._replace(edges=outline.by_points(made.edges), vertices=vertices)
@@ -59,7 +58,6 @@ def ring(bench: Bench, face: int, points: List[Vector]) -> Ring:
 
 def raised(bench: Bench, face: int, points: List[Vector], length: int) -> Pocket:
     """The outline in the face moved along the face's normal by the length, which is negative for a pocket."""
-    bench.refuse_in_draft('boss' if length > 0 else 'pocket')
     outline = _outline_in(bench, face, points)
     way = steps_along(region(bench, face).across, length)
     if way is None:
@@ -73,7 +71,6 @@ def raised(bench: Bench, face: int, points: List[Vector], length: int) -> Pocket
 
 def hole(bench: Bench, face: int, points: List[Vector]) -> Hole:
     """The outline in the face moved through to the face opposite to it."""
-    bench.refuse_in_draft('hole')
     outline = _outline_in(bench, face, points)
     path = outline.path
     other, way = opposite(bench, face, path[0])
@@ -89,7 +86,6 @@ def hole(bench: Bench, face: int, points: List[Vector]) -> Hole:
 
 def polygon_in(bench: Bench, face: int, center: Vector, radius: int, sides: int) -> List[Vector]:
     """A polygon around the center, its corners on whole numbers, in a face across an axis. Refused: NoFace, NotFlat, NotAcross."""
-    bench.refuse_in_draft('drill')
     across = region(bench, face).across
     if across.count(0) != 2:
         raise Impossible('NotAcross', face, f"face {face} doesn't lie across an axis")
@@ -98,7 +94,6 @@ def polygon_in(bench: Bench, face: int, center: Vector, radius: int, sides: int)
 
 def glued(bench: Bench, solids: Sequence[int]) -> int:
     """Glues the solids along the faces that match: the first one's number."""
-    bench.refuse_in_draft('glue_all')
     pairs = _matches([(solid, face.number, face.outer.points) for solid in solids
                       for face in SolidPart(bench.kernel, solid).faces if not face.rings])
     chain = _chain(solids, pairs)

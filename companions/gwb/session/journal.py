@@ -1,7 +1,7 @@
 """What a session has done: its commands in order, which of them are one step to undo, the greatest numbers then in use, and the unit."""
 
 from fractions import Fraction
-from typing import Dict, List, NamedTuple, Optional, Tuple
+from typing import Dict, Iterator, List, NamedTuple, Optional, Sequence, Tuple
 
 from ..errors import InDraft, InGroup
 from ..geometry.free_numbers import KINDS
@@ -38,34 +38,94 @@ class Greatest:
         return Greatest(tuple(bounds), tuple(sure))
 
 
-class Done(NamedTuple):
-    """An accepted command: its call, or those of its draft; whether a step to undo begins with it, and the greatest numbers and the unit after
-    it."""
+class Firsts(NamedTuple):
+    """The first fresh numbers of a larger command that takes some."""
 
-    calls: Tuple[Call, ...]
-    begins: bool
-    greatest: Greatest
-    unit: Fraction
+    face: int
+    loop: int
+    edge: int
+    vertex: int
 
 
-class DraftStep(NamedTuple):
-    """A step of the open draft, and the greatest numbers after it."""
+class Given(NamedTuple):
+    """A call that was accepted, the greatest numbers after it, and of a larger command that takes fresh numbers the first ones."""
 
     call: Call
     greatest: Greatest
+    firsts: Optional[Firsts] = None
+
+
+class Done(NamedTuple):
+    """An accepted command: what was given, several calls where it was a draft; how many calls were held before it, whether a step to undo
+    begins with it, and the unit after it."""
+
+    given: Tuple[Given, ...]
+    before: int
+    begins: bool
+    unit: Fraction
+
+    @property
+    def calls(self) -> Tuple[Call, ...]:
+        """Its calls."""
+        return tuple([given.call for given in self.given])
+
+    @property
+    def after(self) -> int:
+        """How many calls are held with it."""
+        return self.before + len(self.given)
+
+
+class Mark(NamedTuple):
+    """A place in the draft: how many steps there were, and the unit where the draft had changed it."""
+
+    steps: int
+    unit: Optional[Fraction]
 
 
 class State(NamedTuple):
-    """What a journal says: of the commands in the list the first `end`, of which those from `at` on are undone. So many more are undone for
-    good, and the steps of the draft are there while one is open, and the unit where they changed it. A state stays what it is while further
-    commands are accepted."""
+    """What a journal says: of the commands in the list the first `end`, of which those from `at` on are undone. While a draft is open its steps
+    are there, the unit where they changed it, and whether some were taken back. A state stays what it is while further commands are accepted."""
 
     done: List[Done]
     at: int = 0
     end: int = 0
-    given_up: int = 0
-    draft: Optional[List[DraftStep]] = None
+    draft: Optional[List[Given]] = None
     unit: Optional[Fraction] = None
+    has_gone_back: bool = False
+
+    @property
+    def calls_held(self) -> int:
+        """How many calls are held, those of the draft among them."""
+        return self._of_commands + len(self.draft or ())
+
+    @property
+    def _of_commands(self) -> int:
+        return self.done[self.at - 1].after if self.at else 0
+
+    def given(self, place: int) -> Optional[Given]:
+        """The call at a place of all that are held, from 0 on; None past the last one."""
+        return next(self.given_from(place), None)
+
+    def given_from(self, place: int) -> Iterator[Given]:
+        """The calls from a place on."""
+        if place < self._of_commands:
+            command = self._command_at(place)
+            yield from _from(place - self.done[command].before, self.done[command].given)
+            for later in range(command + 1, self.at):
+                yield from self.done[later].given
+        yield from _from(max(place - self._of_commands, 0), self.draft or ())
+
+    def _command_at(self, place: int) -> int:
+        """The command that the call at a place is one of."""
+        low, high = 0, self.at - 1
+        while low < high:
+            middle = (low + high + 1) // 2
+            low, high = (middle, high) if self.done[middle].before <= place else (low, middle - 1)
+        return low
+
+
+def _from(place: int, given: Sequence[Given]) -> Iterator[Given]:
+    return (given[at] for at in range(place, len(given)))
 
 
 class Journal:
@@ -93,7 +153,7 @@ class Journal:
     @property
     def draft(self) -> Tuple[Call, ...]:
         """The steps of the draft: none where none is open."""
-        return tuple(step.call for step in self.state.draft or ())
+        return tuple([given.call for given in self.state.draft or ()])
 
     @property
     def greatest(self) -> Greatest:
@@ -101,7 +161,7 @@ class Journal:
         state = self.state
         if state.draft:
             return state.draft[-1].greatest
-        return state.done[state.at - 1].greatest if state.at else self._start
+        return state.done[state.at - 1].given[-1].greatest if state.at else self._start
 
     @property
     def unit(self) -> Fraction:
@@ -127,14 +187,14 @@ class Journal:
         return [str(call) for done in self.held for call in done.calls] + [str(call) for call in self.draft]
 
     @property
-    def has_given_up(self) -> bool:
-        """Whether the program could redo only what was given up."""
-        return self.state.given_up > 0 and self.state.at == self.state.end
+    def has_undone(self) -> bool:
+        """Whether there is something to redo."""
+        return self.state.at < self.state.end
 
     def refuse_in_draft(self, words: str) -> None:
-        """A draft takes operators alone."""
+        """A draft has no undo and no redo."""
         if self.is_drafting:
-            raise InDraft(f'{words}: a draft is open, which takes operators alone')
+            raise InDraft(f'{words}: a draft is open, in which nothing is undone or redone')
 
     def refuse_in_group(self, words: str) -> None:
         """A group is undone when it is whole."""
@@ -145,26 +205,34 @@ class Journal:
         """Whether a step to undo begins with the next command: always but in a group that has one already."""
         return self.group_from is None or self.at <= self.group_from
 
-    def add(self, call: Call, greatest: Greatest) -> None:
+    def add(self, given: Given) -> None:
         """A command was accepted, or a step of the draft."""
         if self.state.draft is not None:
-            self.state.draft.append(DraftStep(call, greatest))
+            self.state.draft.append(given)
         else:
-            self._append(Done((call,), self._begins_step(), greatest, self.unit))
+            self._append((given,))
 
     def open_draft(self) -> None:
         """The calls from here on are steps of a draft."""
         self.state = self.state._replace(draft=[])
 
+    def mark(self) -> Mark:
+        """Where the draft is now."""
+        return Mark(len(self.state.draft or ()), self.state.unit)
+
+    def go_back(self, mark: Mark) -> None:
+        """The draft is as it was at a mark."""
+        drafted = self.state.draft or []
+        if len(drafted) > mark.steps:
+            self.state = self.state._replace(draft=drafted[:mark.steps], unit=mark.unit, has_gone_back=True)
+
     def commit(self) -> None:
         """The steps of the draft, of which there are some, become one command."""
-        self._append(Done(self.draft, self._begins_step(), self.greatest, self.unit))
+        self._append(tuple(self.state.draft or ()))
 
-    def end_draft(self) -> int:
-        """The draft is left out: how many steps it had."""
-        steps = len(self.draft)
-        self.state = self.state._replace(draft=None, unit=None)
-        return steps
+    def end_draft(self) -> None:
+        """The draft is left out."""
+        self.state = self.state._replace(draft=None, unit=None, has_gone_back=False)
 
     def set_unit(self, unit: Fraction) -> None:
         """The size of a coordinate after what is held; the open draft sets it where one is open."""
@@ -180,30 +248,27 @@ class Journal:
         """One command was undone or redone, the word says which."""
         self.state = self.state._replace(at=self.state.at + (1 if word == 'redo' else -1))
 
-    def restore(self, state: State, undone: int = 0) -> None:
-        """All is as in a state from before; so many commands were undone for good since then, or those that were now."""
-        self.state = state._replace(given_up=undone or self.state.given_up)
+    def restore(self, state: State) -> None:
+        """All is as in a state from before."""
+        self.state = state
 
     def drop_ahead(self, kept: int) -> None:
         """Of the commands that are undone only so many can be redone."""
         self.state = self.state._replace(end=self.state.at + kept)
 
-    def replayed(self) -> None:
-        """The program was given all of it anew, so it could redo nothing else."""
-        self.state = self.state._replace(given_up=0)
-
-    def _append(self, done: Done) -> None:
+    def _append(self, given: Tuple[Given, ...]) -> None:
         """What could be redone is dropped, and so is what lies behind it in the list. A list that other states need is left as it is."""
         held, at, end = self.state.done, self.state.at, self.state.end
         if at < end:
             held = held[:at]
-        held[at:] = [done]
+        before = held[at - 1].after if at else 0
+        held[at:] = [Done(given, before, self._begins_step(), self.unit)]
         self.state = State(held, at + 1, at + 1)
 
     def calls_of(self, word: str) -> int:
         """How many calls the command has that `undo` or `redo` would take: 1 where there is none."""
         place = self.at - 1 if word == 'undo' else self.at
-        return len(self.state.done[place].calls) if 0 <= place < self.state.end else 1
+        return len(self.state.done[place].given) if 0 <= place < self.state.end else 1
 
     def step_back(self) -> int:
         """How many commands the last step has, of those that are held: 1 where there is none."""

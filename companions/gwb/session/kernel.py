@@ -5,17 +5,24 @@ with the program started anew and given all that the journal has.
 """
 
 from contextlib import contextmanager
-from typing import Callable, Iterator, Optional, Sequence, Union
+from typing import Callable, Iterator, List, Optional, Sequence, Union
 
 from ..errors import CompanionError, OutOfStep
 from ..geometry.model import Model
 from .following import Following
-from .journal import Done, Journal
+from .journal import Done, Journal, Mark
 from .library import Library
 from .mirror import Mirror
 from .pipe import Pipe
 from .reading import Reader
 from .turns import Turns, in_turn
+
+
+class OpenMark:
+    """A mark in the draft that may be gone back to: by the journal, and by the library, which says so anew where the draft is given anew."""
+
+    def __init__(self, at: Mark, place: int) -> None:
+        self.at, self.place = at, place
 
 
 class Kernel(Turns):
@@ -26,7 +33,8 @@ class Kernel(Turns):
         super().__init__()
         self.lines: Union[Library, Pipe] = Library(path) if path.endswith('.so') else Pipe(path)
         self.journal = Journal()
-        self.following = Following(self.journal, self.listing)
+        self.marks: List[OpenMark] = []
+        self.following = Following(self.journal)
         self.agrees = True
         self._listing: Optional[Model] = None
 
@@ -84,14 +92,39 @@ class Kernel(Turns):
         self.unmake(ahead)
         if self.journal.is_drafting:
             self.lines.open_draft()
-            for call in self.journal.draft:
+            for steps, call in enumerate(self.journal.draft):
+                self._mark_again(steps)
                 self.lines.do(call)
-        self.journal.replayed()
+            self._mark_again(len(self.journal.draft))
+
+    def _mark_again(self, steps: int) -> None:
+        """The marks after so many steps of the draft are taken anew."""
+        for mark in self.marks:
+            if mark.at.steps == steps:
+                mark.place = self.lines.mark()
 
     def unmake(self, made: Sequence[Done]) -> None:
         """Undoes the last commands, which are these. A complaint is raised."""
         for done in reversed(made):
             self.lines.step('undo', len(done.calls))
+
+    # Marks in the draft
+
+    def open_mark(self) -> OpenMark:
+        """A mark where the draft is now, which is open until it is closed."""
+        mark = OpenMark(self.journal.mark(), self.lines.mark())
+        self.marks.append(mark)
+        return mark
+
+    def close_mark(self, mark: OpenMark) -> None:
+        """The mark, and those after it, are no longer needed."""
+        if mark in self.marks:
+            del self.marks[self.marks.index(mark):]
+
+    def go_back(self, mark: OpenMark) -> None:
+        """The steps of the draft since the mark are taken back."""
+        steps = len(self.journal.draft) - mark.at.steps
+        self.follow(lambda: self.journal.go_back(mark.at), lambda: self.lines.back(mark.place, steps))
 
     def require_agreement(self) -> None:
         """Raises OutOfStep in a call that is under way, as for a handler of signals."""
@@ -117,17 +150,21 @@ class Kernel(Turns):
             self.agrees = True
             raise
 
-    def follow(self, way_back: Callable[[], None]) -> None:
-        """The journal is as it was before some commands: the program goes the way back, or is brought into step by the next turn."""
-        agreed = self.agrees and self.lines.in_step
+    def follow(self, change: Callable[[], None], way_back: Callable[[], None]) -> None:
+        """The journal changes to what it was before some calls, whatever exception comes, and the program goes the way back, or is brought into
+        step by the next turn."""
+        agreed, was_inside, has_changed = self.agrees and self.lines.in_step, self.is_inside, False
         self.agrees = False
-        self.has_changed()
-        if agreed:
-            was_inside, self.is_inside = self.is_inside, True
-            try:
+        try:
+            self.has_changed()
+            change()
+            has_changed, self.is_inside = True, True
+            if agreed:
                 way_back()
                 self.agrees = True
-            except CompanionError:
-                pass
-            finally:
-                self.is_inside = was_inside
+        except CompanionError:
+            pass
+        finally:
+            if not has_changed:
+                change()
+            self.is_inside = was_inside

@@ -23,7 +23,7 @@ _TOLD = (5, 6, 7)
 _CLOSED_TEXT = 'the session is closed'
 # What is raised where there is no answer, and what it says.
 _NO_ANSWERS: Dict[int, Tuple[Type[CompanionError], str]] = {
-    _CLOSED: (Ended, _CLOSED_TEXT), _IN_DRAFT: (InDraft, 'a draft is open, which takes operators alone'),
+    _CLOSED: (Ended, _CLOSED_TEXT), _IN_DRAFT: (InDraft, 'a draft is open, in which nothing is undone or redone'),
     _NO_DRAFT: (NoDraft, 'there is no draft')}
 _FOUND = 1
 _WORD = ctypes.c_uint32
@@ -103,7 +103,7 @@ _DRAFTS = ('draft', 'commit', 'abandon')
 _READERS = frozenset(
     'gwb_' + name for name in (
         'reply', 'depth', 'ahead', 'half_edges', 'number_after', 'face', 'ring_after', 'face_after', 'loop', 'lone_vertex', 'edge', 'vertex',
-        'last_refusal', 'fresh'))
+        'last_refusal', 'fresh', 'mark'))
 # The greatest edge or loop of which every half-edge and corner has a code.
 _GREATEST_CODED = 2 ** 30 - 1
 _NUMBER_RANGE = 1
@@ -125,7 +125,8 @@ def load(path: str) -> ctypes.PyDLL:
         ('gwb_last_refusal', _WORD, [ctypes.POINTER(Refusal)]), ('gwb_fresh', _WORD, [_WORD, ctypes.POINTER(Range)]),
         ('gwb_face_plane', _WORD, [_WORD, ctypes.POINTER(PlaneRow)]), ('gwb_volume', _WORD, [_WORD, ctypes.POINTER(Wide)]),
         ('gwb_count', _WORD, [_WORD, ctypes.POINTER(Counts)]),
-        ('gwb_lamina', _WORD, [_WORD, ctypes.POINTER(Point), size]), *((f'gwb_{name}', _WORD, []) for name in _DRAFTS),
+        ('gwb_lamina', _WORD, [_WORD, ctypes.POINTER(Point), size]), ('gwb_mark', size, []), ('gwb_back', _WORD, [size]),
+        *((f'gwb_{name}', _WORD, []) for name in _DRAFTS),
         *((f'gwb_{name}', _WORD, [_TYPES[kind] for kind in kinds]) for name, kinds in _COMMANDS.items())]
     for name, result, arguments in calls:
         exported = name.replace('gwb_', 'gwb_lent_') if name in _READERS else name
@@ -156,6 +157,8 @@ class Library:
 
     # A call is one of this process, so none is left half-way.
     in_step = True
+    # What could be redone before a draft still can when it was given up.
+    keeps_ahead = True
 
     def __init__(self, path: str) -> None:
         self._handle = Handle()
@@ -236,10 +239,18 @@ class Library:
         """The steps of the draft are one command."""
         self.do(Call('commit'))
 
-    def abandon(self, steps: int) -> bool:
-        """Takes the steps of the draft back; whether what could be redone before still can. A closed session has no steps."""
+    def abandon(self, steps: int) -> None:
+        """Takes the steps of the draft back. A closed session has no steps."""
         self._library.gwb_abandon(self._handle)
-        return True
+
+    def mark(self) -> int:
+        """Where the draft is, for `back`."""
+        place: int = self._library.gwb_mark(self._handle)
+        return place
+
+    def back(self, place: int, steps: int) -> None:
+        """Takes the steps of the draft since a mark back."""
+        self._require_answer(self._library.gwb_back(self._handle, place))
 
     def fresh(self) -> Dict[str, range]:
         """For each kind the fresh numbers of the last command that was accepted, where there are any."""

@@ -1,7 +1,7 @@
 """The model held, as it follows from the accepted commands: each takes so long as what it changes, and can be taken back.
 
-The operators, lamina, sweep and glue are those of docs/MODEL.md and docs/SCRIPT.md. A split isn't followed: what it makes is read. A block stays
-folded, which costs next to nothing, until something of it is asked for.
+The operators and larger commands are those of docs/MODEL.md and docs/SCRIPT.md. A block stays folded, which costs next to nothing, until something
+of it is asked for.
 """
 
 from bisect import bisect_right
@@ -10,8 +10,10 @@ from typing import Any, Callable, Dict, Iterator, List, NamedTuple, Optional, Se
 
 from ..geometry.free_numbers import begun_at, from_least
 from ..geometry.model import Face, Loop, Model
+from ..geometry.split_model import parted
 from ..geometry.vectors import Vector, add
-from .calls import Call
+from .journal import Firsts, Given
+from .part_models import model_of_faces
 from .results import Lone, Numbers
 
 # What stands for the value before of what wasn't there: of one key, and of all those that stand in its place.
@@ -44,10 +46,15 @@ class _Table(Dict[int, Any]):
 
 
 class _Fold:
-    """A block that was followed: its values, and the numbers before its first ones."""
+    """A block that was followed: its values, and its first numbers."""
 
-    def __init__(self, values: Sequence[Any], before: Dict[str, int]) -> None:
-        self.values, self.before, self.is_open = values, before, False
+    def __init__(self, values: Sequence[Any], firsts: Firsts) -> None:
+        self.values, self.firsts, self.is_open = values, firsts, False
+
+    def numbers(self, kind: str) -> range:
+        """The numbers of a kind that it was given."""
+        first: int = getattr(self.firsts, kind)
+        return range(first, first + _BLOCK[kind])
 
 
 class Mirror:
@@ -65,21 +72,15 @@ class Mirror:
             'solid': self._solids, 'face': self._faces, 'loop': self._loops, 'edge': self._edges, 'vertex': self._vertices}
         self._before: List[Tuple[Dict[int, Any], Any, Any]] = []
         self._marks: List[Union[int, _Fold]] = []
-        # The blocks that were followed folded, with the numbers before their first ones, which rise; and those still folded, by solid.
+        # The blocks that were followed folded, with their first numbers, which rise; and those still folded, by solid.
         self._folds: List[_Fold] = []
         self._starts: Dict[str, List[int]] = {kind: [] for kind in _BLOCK}
         self._folded: Dict[int, _Fold] = {}
+        # The split that was looked at last, by its values, and what it makes.
+        self._parted: Optional[Tuple[Sequence[Any], Model]] = None
         # False while a block is unfolded, and after an exception that left it half-way: then the mirror is of no more use.
         self.is_whole = True
         self._changes = Changes(set(), set(), set())
-
-    @classmethod
-    def of(cls, model: Model) -> 'Mirror':
-        """What holds a model, and can't be taken back to one before."""
-        mirror = cls()
-        mirror.put_in(model)
-        mirror._before.clear()
-        return mirror
 
     # Reading
 
@@ -87,7 +88,7 @@ class Mirror:
         """All numbers of a kind in use, rising."""
         if kind == 'solid':
             return tuple(sorted([*self._solids, *self._folded]))
-        folded = [number for fold in self._folded.values() for number in _numbers_of(fold, kind)]
+        folded = [number for fold in self._folded.values() for number in fold.numbers(kind)]
         return tuple(sorted([*self._tables[kind], *folded]))
 
     def faces_of(self, solid: int) -> Numbers:
@@ -149,38 +150,23 @@ class Mirror:
 
     # Following commands
 
-    def follow(self, calls: Sequence[Call], last: Callable[[str], int]) -> bool:
-        """The calls of one command, which was accepted; `last` says the greatest number of a kind after it. False where what it makes doesn't
-        follow: nothing has changed then."""
-        if any(call.word not in _EFFECTS for call in calls):
-            return False
-        if len(calls) == 1 and calls[0].word == 'block' and self._fold(calls[0].values, last):
-            return True
+    def follow(self, given: Given) -> None:
+        """Follows a call that was accepted."""
+        word, values, firsts = given.call.word, given.call.values, given.firsts
+        if word == 'block' and firsts and self._fold(values, firsts):
+            return
         self._marks.append(len(self._before))
-        for call in calls:
-            _EFFECTS[call.word](self, call.values, last)
-        return True
+        _EFFECTS[word](self, values, firsts)
 
-    def replace(self, solids: Sequence[int], model: Model) -> None:
-        """As a command that can be taken back: these solids go, as far as they are there, and those of the model come."""
-        self._marks.append(len(self._before))
-        for solid in solids:
-            self._remove(solid)
-        self.put_in(model)
-
-    def put_in(self, model: Model) -> None:
-        """The things of a model, none of which is there."""
-        for vertex, point in model.vertices.items():
-            self._put(self._vertices, vertex, point)
-        for edge, ends in model.edges.items():
-            self._put_edge(edge, ends)
-        for loop, content in model.loops.items():
-            self._put_loop(loop, content)
-        for face, row in model.faces.items():
-            self._new_face(face, row)
+    def parted(self, values: Sequence[Any], firsts: Firsts) -> Model:
+        """The two solids that a split makes of one, by the command's values."""
+        if self._parted is None or self._parted[0] is not values:
+            solid, a, b, c, d, above = values
+            self._parted = (values, parted(model_of_faces(self, self.faces_of(solid)), (a, b, c, d), above, firsts))
+        return self._parted[1]
 
     def take_back(self) -> None:
-        """The last command is taken back."""
+        """The last call is taken back."""
         mark = self._marks.pop()
         if isinstance(mark, _Fold):
             self._take_back_fold(mark)
@@ -411,9 +397,9 @@ class Mirror:
 
     # Larger commands
 
-    def _lamina(self, values: Sequence[Any], last: Callable[[str], int]) -> None:
+    def _lamina(self, values: Sequence[Any], firsts: Firsts) -> None:
         count = len(values) // 3
-        face, loop, edge, vertex = last('face') - 1, last('loop') - 1, last('edge') - count + 1, last('vertex') - count + 1
+        face, loop, edge, vertex = firsts
         for place in range(count):
             self._put(self._vertices, vertex + place, tuple(values[3 * place + 1:3 * place + 4]))
             self._put_edge(edge + place, (vertex + place, vertex + (place + 1) % count))
@@ -422,16 +408,15 @@ class Mirror:
         self._new_face(face, Face(values[0], loop))
         self._new_face(face + 1, Face(values[0], loop + 1))
 
-    def _block(self, values: Sequence[Any], last: Callable[[str], int]) -> None:
+    def _block(self, values: Sequence[Any], firsts: Firsts) -> None:
         """The lamina of the base, swept up."""
-        before = {kind: last(kind) - count for kind, count in _BLOCK.items()}
-        for table, rows in self._rows_of_block(values, before):
+        for table, rows in self._rows_of_block(values, firsts):
             self._fill(table, rows)
 
-    def _rows_of_block(self, values: Sequence[Any], before: Dict[str, int]) -> Iterator[Tuple[Dict[int, Any], Dict[int, Any]]]:
+    def _rows_of_block(self, values: Sequence[Any], firsts: Firsts) -> Iterator[Tuple[Dict[int, Any], Dict[int, Any]]]:
         """The rows of each table for a block: those of the unit block, with other numbers."""
         solid, x, y, z, width, depth, height = values
-        face, loop, edge, vertex = (before[kind] for kind in _BLOCK)
+        face, loop, edge, vertex = (first - 1 for first in firsts)
         unit = _unit_block()
         yield self._vertices, {vertex + n: (x + width * i, y + depth * j, z + height * k) for n, (i, j, k) in unit._vertices.items()}
         yield self._edges, {edge + n: (vertex + start, vertex + end) for n, (start, end) in unit._edges.items()}
@@ -444,17 +429,16 @@ class Mirror:
 
     # Folded blocks
 
-    def _fold(self, values: Sequence[Any], last: Callable[[str], int]) -> bool:
+    def _fold(self, values: Sequence[Any], firsts: Firsts) -> bool:
         """Follows a block folded; False where its numbers don't lie above those of the ones before."""
-        before = {kind: last(kind) - count for kind, count in _BLOCK.items()}
-        if self._folds and any(self._folds[-1].before[kind] + count > before[kind] for kind, count in _BLOCK.items()):
+        fold = _Fold(values, firsts)
+        if self._folds and any(self._folds[-1].numbers(kind).stop > fold.numbers(kind).start for kind in _BLOCK):
             return False
-        fold = _Fold(values, before)
         self._marks.append(fold)
         self._folds.append(fold)
         self._folded[values[0]] = fold
         for kind, starts in self._starts.items():
-            starts.append(before[kind])
+            starts.append(fold.numbers(kind).start)
         return True
 
     def _take_back_fold(self, fold: _Fold) -> None:
@@ -465,16 +449,16 @@ class Mirror:
         if not fold.is_open:
             del self._folded[fold.values[0]]
             return
-        for table, rows in self._rows_of_block(fold.values, fold.before):
+        for table, rows in self._rows_of_block(fold.values, fold.firsts):
             for key in rows:
                 self._note(table, key)
                 del table[key]
 
     def _unfold_with(self, kind: str, number: int) -> bool:
         """Unfolds the block that has the number of the kind; whether there was one."""
-        place = bisect_right(self._starts[kind], number - 1) - 1
+        place = bisect_right(self._starts[kind], number) - 1
         fold = self._folds[place] if place >= 0 else None
-        return fold is not None and number in _numbers_of(fold, kind) and self._unfold(fold)
+        return fold is not None and number in fold.numbers(kind) and self._unfold(fold)
 
     def _unfold_solid(self, solid: int) -> bool:
         return solid in self._folded and self._unfold(self._folded[solid])
@@ -484,28 +468,26 @@ class Mirror:
         if fold.is_open:
             return False
         self.is_whole = False
-        for table, rows in self._rows_of_block(fold.values, fold.before):
+        for table, rows in self._rows_of_block(fold.values, fold.firsts):
             table.update(rows)
         fold.is_open = True
         del self._folded[fold.values[0]]
         self.is_whole = True
         return True
 
-    def _sweep(self, values: Sequence[Any], last: Callable[[str], int]) -> None:
+    def _sweep(self, values: Sequence[Any], firsts: Firsts) -> None:
         face, *vector = values
         way = (vector[0], vector[1], vector[2])
         row = self._faces[face]
-        count = sum(len(self._loops[loop].halves) for loop in row.loops)
-        side, edge, vertex = last('face') - count + 1, last('edge') - 2 * count + 1, last('vertex') - count + 1
-        loop = last('loop') - count + 1
+        side, loop, edge, vertex = firsts
         for old in row.loops:
             size = len(self._loops[old].halves)
-            self._sweep_loop(row.solid, old, way, (side, loop, edge, vertex))
+            self._sweep_loop(row.solid, old, way, Firsts(side, loop, edge, vertex))
             side, loop, edge, vertex = side + size, loop + size, edge + 2 * size, vertex + size
 
-    def _sweep_loop(self, solid: int, old: int, way: Vector, first: Tuple[int, int, int, int]) -> None:
+    def _sweep_loop(self, solid: int, old: int, way: Vector, firsts: Firsts) -> None:
         """A loop of the face moves; the first numbers are those of the sides, their loops, the edges and the vertices."""
-        halves, (side, loop, edge, vertex) = self._loops[old].halves, first
+        halves, (side, loop, edge, vertex) = self._loops[old].halves, firsts
         count = len(halves)
         rising = (edge, *range(edge + 1, edge + 2 * count - 2, 2))
         far = (*range(edge + 2, edge + 2 * count - 1, 2), edge + 2 * count - 1)
@@ -518,6 +500,22 @@ class Mirror:
         for place, half in enumerate(halves):
             self._put_cycle(loop + place, (half, rising[(place + 1) % count], -far[place], -rising[place]))
             self._new_face(side + place, Face(solid, loop + place))
+
+    def _split(self, values: Sequence[Any], firsts: Firsts) -> None:
+        made = self.parted(values, firsts)
+        self._remove(values[0])
+        self._put_in(made)
+
+    def _put_in(self, model: Model) -> None:
+        """The things of a model, none of which is there."""
+        for vertex, point in model.vertices.items():
+            self._put(self._vertices, vertex, point)
+        for edge, ends in model.edges.items():
+            self._put_edge(edge, ends)
+        for loop, content in model.loops.items():
+            self._put_loop(loop, content)
+        for face, row in model.faces.items():
+            self._new_face(face, row)
 
     def _glue(self, values: Sequence[Any], _: object) -> None:
         """What has edges and vertices of the second face gets those of the first that lie there."""
@@ -571,22 +569,16 @@ def _found(table: Dict[int, Row], number: int) -> Optional[Row]:
         return None
 
 
-def _numbers_of(fold: _Fold, kind: str) -> range:
-    """The numbers of a kind that a block was given."""
-    return range(fold.before[kind] + 1, fold.before[kind] + _BLOCK[kind] + 1)
-
-
 @lru_cache(maxsize=None)
 def _unit_block() -> Mirror:
     """The block of size 1 at the origin, made as a lamina swept up; its numbers begin with 1."""
     mirror = Mirror()
-    base, whole = ({'face': 2, 'loop': 2, 'edge': 4, 'vertex': 4}, {'face': 6, 'loop': 6, 'edge': 12, 'vertex': 8})
-    mirror._lamina((1, 0, 0, 0, 1, 0, 0, 1, 1, 0, 0, 1, 0), base.__getitem__)
-    mirror._sweep((1, 0, 0, 1), whole.__getitem__)
+    mirror._lamina((1, 0, 0, 0, 1, 0, 0, 1, 1, 0, 0, 1, 0), Firsts(1, 1, 1, 1))
+    mirror._sweep((1, 0, 0, 1), Firsts(3, 3, 5, 5))
     return mirror
 
 
-_EFFECTS: Dict[str, Callable[[Mirror, Sequence[Any], Callable[[str], int]], None]] = {
+_EFFECTS: Dict[str, Callable[[Mirror, Sequence[Any], Any], None]] = {
     'mvfs': Mirror._mvfs, 'kvfs': Mirror._kvfs, 'mev': Mirror._mev, 'kev': Mirror._kev, 'mef': Mirror._mef, 'kef': Mirror._kef,
     'kemr': Mirror._kemr, 'mekr': Mirror._mekr, 'kfmrh': Mirror._kfmrh, 'mfkrh': Mirror._mfkrh, 'ringmv': Mirror._ringmv,
-    'lamina': Mirror._lamina, 'block': Mirror._block, 'sweep': Mirror._sweep, 'glue': Mirror._glue}
+    'lamina': Mirror._lamina, 'block': Mirror._block, 'sweep': Mirror._sweep, 'glue': Mirror._glue, 'split': Mirror._split}

@@ -7,11 +7,8 @@ from .calls import Call
 from .journal import Greatest
 
 COUNTED_KINDS = KINDS[1:]
-# The commands that take fresh numbers, and those of them that kill none.
+# The commands that take fresh numbers.
 LARGER = ('lamina', 'block', 'sweep', 'split')
-GROWING = LARGER[:3]
-# The commands that a draft doesn't take.
-NOT_IN_DRAFTS = (*LARGER, 'glue')
 
 # For each operator the kinds of the numbers that it makes, by the place of the value, and the kinds of which it kills one: the place of the
 # value that names it, or none where no value does.

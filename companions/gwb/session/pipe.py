@@ -39,6 +39,9 @@ def _places() -> Iterator[Path]:
 class Pipe:
     """The program, started, and what it says."""
 
+    # The steps of a draft are commands, so with the first one it forgets what could be redone.
+    keeps_ahead = False
+
     def __init__(self, program: str) -> None:
         self._program, self._owner = program, os.getpid()
         self._over = ''
@@ -113,10 +116,17 @@ class Pipe:
         """Ends the draft."""
         self.require_open()
 
-    def abandon(self, steps: int) -> bool:
-        """Takes the steps of the draft back; whether what could be redone before still can."""
+    def abandon(self, steps: int) -> None:
+        """Takes the steps of the draft back."""
         self._repeat('undo', steps)
-        return steps == 0
+
+    def mark(self) -> int:
+        """Where the draft is, for `back`, which needs to know no more than the steps since then."""
+        return 0
+
+    def back(self, place: int, steps: int) -> None:
+        """Takes the steps of the draft since a mark back."""
+        self._repeat('undo', steps)
 
     def plane(self, face: int) -> Plane:
         """The plane of a face."""

@@ -19,7 +19,7 @@ Made = TypeVar('Made')
 
 def with_finer_unit(bench: Bench, solid: int, plane: Plane, cut: Callable[[Plane], Made]) -> Made:
     """Cuts a solid by a plane, and where points of the cut aren't whole, once the unit is the least finer one in which they are; both as one
-    step.
+    command.
 
     Refused: what the cut is refused for, with all as before; PointRange: in the finer unit a point would leave the range."""
     try:
@@ -28,7 +28,7 @@ def with_finer_unit(bench: Bench, solid: int, plane: Plane, cut: Callable[[Plane
         if refused.name != 'NotLattice':
             raise
     factor = whole_factor(crossings(bench.solid_model(solid), solid, plane))
-    with bench.step(operators_alone=bench.kernel.journal.is_drafting):
+    with bench.step():
         refine(bench, factor)
         # (its offset stays in range, since it meets edges whose ends do)
         return cut(without_common_factor((*plane[:3], plane[3] * factor)))
@@ -43,7 +43,7 @@ def refine(bench: Bench, factor: int) -> None:
     except Displaced as error:
         raise Impossible(error.name, error.vertex, f'times {factor} all points of the cut are whole, but {error}') from None
     numbers = Numbers(bench)
-    with bench.step(operators_alone=True):
+    with bench.step():
         for before, after in zip(solids_apart(held), solids_apart(finer)):
             give(bench, [*numbers.taking_away(before), *numbers.making(after)])
         bench.kernel.journal.set_unit(bench.kernel.journal.unit / factor)

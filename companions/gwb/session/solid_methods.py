@@ -18,7 +18,7 @@ from .solids import Copy
 
 
 class SolidMethods(Methods):
-    """Solids as things. Each method is one step to undo; one that is refused leaves everything as it was."""
+    """Solids as things. Each method is one command; one that is refused leaves everything as it was."""
 
     def delete(self, solid: arguments.Solid) -> None:
         """The solid goes, with all that it has. Refused: NoSolid."""
@@ -63,10 +63,8 @@ class SolidMethods(Methods):
         """The solid is cut by the plane a x + b y + c z + d = 0, four numbers or what `plane` returns; what lies above it becomes a new solid.
 
         With scale=True a cut that is refused NotLattice is made in a finer unit: all coordinates of the bench are multiplied by the least whole
-        number that makes the points of the cut whole, and `unit` is divided by it, as one step with the cut. Refused besides: PointRange: a
-        point would then lie past 1,000,000,000.
-
-        Over the pipe the listing is read after it."""
+        number that makes the points of the cut whole, and `unit` is divided by it, as one command with the cut. Refused besides: PointRange: a
+        point would then lie past 1,000,000,000."""
         number, level = self._bench.number('solid', solid), arguments.plane('plane', plane)
         new = None if above is None else arguments.number('above', above)
         if not arguments.flag('scale', scale):

@@ -123,7 +123,7 @@ def _spent(error: Unfit) -> Refused:
 
 def give(bench: Bench, lines: Sequence[str]) -> None:
     """Gives operators as one command, or as steps of the draft that is open; where one isn't accepted, all is as before."""
-    with bench.step(operators_alone=True):
+    with bench.step():
         for line in lines:
             call = call_in(line)
             bench.conversation.do(call.word, *call.values)

@@ -1,12 +1,14 @@
 """Steps to undo: single commands, groups of them, and drafts, which are one command."""
 
 from contextlib import contextmanager
-from typing import ContextManager, Iterator, Sequence
+from typing import Iterator, Sequence
 
 from ..errors import MemoryRefused, NoDraft
 from .conversation import Conversation
 from .journal import Done, State
 from .kernel import Kernel
+
+_ENDED_TEXT = 'the draft has ended before its block did'
 
 
 class Steps:
@@ -17,57 +19,63 @@ class Steps:
 
     @contextmanager
     def draft(self) -> Iterator[None]:
-        """The operators given in it are one command. By an exception it is abandoned."""
+        """The calls given in it are one command, or within another draft part of it. By an exception they are taken back."""
         with self._kernel.lock:
-            self._begin_block('draft')
-            try:
-                with self._kernel.disagreeing():
-                    self._kernel.unless_refused(self._kernel.lines.open_draft)
-                    self._journal.open_draft()
+            self._begin_turn()
+            with self._within_draft() if self._journal.is_drafting else self._new_draft():
                 yield
-                self._commit()
-            except BaseException:
-                self._abandon()
-                raise
+
+    @contextmanager
+    def _new_draft(self) -> Iterator[None]:
+        try:
+            with self._kernel.disagreeing():
+                self._kernel.unless_refused(self._kernel.lines.open_draft)
+                self._journal.open_draft()
+            yield
+            self._commit()
+        except BaseException:
+            self._abandon()
+            raise
+
+    @contextmanager
+    def _within_draft(self) -> Iterator[None]:
+        """Steps of the draft that is open, up to a mark that is gone back to by an exception."""
+        mark = self._kernel.open_mark()
+        try:
+            yield
+            if mark not in self._kernel.marks:
+                raise NoDraft(_ENDED_TEXT)
+        except BaseException:
+            if mark in self._kernel.marks:
+                self._kernel.go_back(mark)
+            raise
+        finally:
+            self._kernel.close_mark(mark)
 
     @contextmanager
     def group(self) -> Iterator[None]:
-        """The calls given in it are one step to undo. By an exception all of them are taken back."""
+        """The calls given in it are one step to undo, or in a draft part of it. By an exception all of them are taken back."""
         with self._kernel.lock:
-            self._begin_block('group')
-            before, outer = self._journal.state, self._journal.group_from
-            try:
-                if outer is None:
-                    self._journal.group_from = before.at
+            self._begin_turn()
+            with self._within_draft() if self._journal.is_drafting else self._new_group():
                 yield
-            except BaseException:
-                self._undo_to(before)
-                raise
-            finally:
-                self._journal.group_from = outer
-
-    def _begin_block(self, word: str) -> None:
-        """A draft or a group begins, which a draft doesn't take."""
-        if not self._kernel.is_inside:
-            self._kernel.begin_turn()
-        self._journal.refuse_in_draft(word)
-
-    def one(self, *, operators_alone: bool = False) -> ContextManager[None]:
-        """The commands given in it are one step to undo; operators alone one command. Where one isn't accepted, all is as before."""
-        if not operators_alone:
-            return self.group()
-        return self._part_of_draft() if self._journal.is_drafting else self.draft()
 
     @contextmanager
-    def _part_of_draft(self) -> Iterator[None]:
-        """The steps given in it are given whole, or the draft ends here."""
-        given = len(self._journal.draft)
+    def _new_group(self) -> Iterator[None]:
+        before, outer = self._journal.state, self._journal.group_from
         try:
+            if outer is None:
+                self._journal.group_from = before.at
             yield
         except BaseException:
-            if len(self._journal.draft) > given:
-                self._abandon()
+            self._undo_to(before)
             raise
+        finally:
+            self._journal.group_from = outer
+
+    def _begin_turn(self) -> None:
+        if not self._kernel.is_inside:
+            self._kernel.begin_turn()
 
     def undo(self, one_command: bool) -> None:
         """Takes the last step back, or one command of it."""
@@ -94,10 +102,11 @@ class Steps:
     def _commit(self) -> None:
         """The draft ends: its steps are one command. One without steps leaves everything as it was."""
         if not self._journal.is_drafting:
-            raise NoDraft('the draft was given up, since a feature in it was not made whole')
+            raise NoDraft(_ENDED_TEXT)
         if not self._journal.draft:
             self._abandon()
             return
+        self._kernel.marks.clear()
         with self._kernel.disagreeing():
             self._kernel.lines.commit()
             self._journal.commit()
@@ -106,12 +115,14 @@ class Steps:
         """The draft ends, if it is still open: its steps are taken back."""
         if not self._journal.is_drafting:
             return
-        steps = self._journal.end_draft()
-        self._kernel.follow(lambda: self._take_back_draft(steps))
+        self._kernel.marks.clear()
+        steps, has_gone_back = len(self._journal.draft), self._journal.state.has_gone_back
+        self._kernel.follow(self._journal.end_draft, lambda: self._take_back_draft(steps, has_gone_back))
 
-    def _take_back_draft(self, steps: int) -> None:
-        if not self._kernel.lines.abandon(steps):
-            self._journal.restore(self._journal.state, steps)
+    def _take_back_draft(self, steps: int, has_gone_back: bool) -> None:
+        """Steps of the draft are taken back, some perhaps were before."""
+        self._kernel.lines.abandon(steps)
+        if (steps or has_gone_back) and not self._kernel.lines.keeps_ahead:
             self._make_redoable(self._journal.ahead)
 
     def _undo_to(self, before: State) -> None:
@@ -120,8 +131,7 @@ class Steps:
             return
         self._abandon()
         made = self._journal.held[before.at:]
-        self._journal.restore(before, len(made))
-        self._kernel.follow(lambda: self._take_back(made, self._journal.ahead))
+        self._kernel.follow(lambda: self._journal.restore(before), lambda: self._take_back(made, self._journal.ahead))
 
     def _take_back(self, made: Sequence[Done], ahead: Sequence[Done]) -> None:
         self._kernel.unmake(made)

@@ -18,7 +18,7 @@ def united(bench: Bench, solids: Sequence[int]) -> int:
     itself; NotFlat, OffLattice."""
     first, left = solids[0], [bench.solid_model(solid) for solid in solids][1:]
     overlap = Impossible('Overlap', first, 'the solids overlap, or their union would touch itself')
-    with bench.step(operators_alone=True):
+    with bench.step():
         while left:
             numbers = Numbers(bench)
             held, other = _first_joined(bench, first, left, numbers, overlap)

@@ -15,7 +15,7 @@ things (solid_methods.py), measures (measuring.py), labels and files (exporting.
 from html import escape
 from pathlib import Path
 from tempfile import NamedTemporaryFile
-from typing import Any, ContextManager, Iterator, NoReturn, Optional, Tuple
+from typing import ContextManager, Iterator, NoReturn, Optional, Tuple
 from webbrowser import open as open_in_browser
 
 from ..errors import CompanionError, Complaint, InDraft
@@ -29,7 +29,6 @@ from ..scripts.inversion import script_of
 from ..scripts.unit_comments import unit_in
 from . import arguments
 from .bench import Bench
-from .calls import call_in
 from .commands import Commands
 from .exporting import Exporting
 from .feature_methods import FeatureMethods
@@ -76,14 +75,15 @@ class Workbench(SolidMethods, FeatureMethods, Commands, Selecting, Measuring, Ex
         return self._bench.conversation.ask(arguments.line('line', line))
 
     def draft(self) -> ContextManager[None]:
-        """The operators given in it are one command. By an exception it is abandoned: all is as before, what can be redone included.
+        """The calls given in it are one command. By an exception it is abandoned: all is as before, what can be redone included. Within another
+        draft they are part of that, and an exception takes these alone back.
 
-        It takes operators and `ring` alone, and what reads the model, which is the draft's; everything else raises InDraft. Calls of other
-        threads wait for its end."""
+        What is read in it is its model. It takes all but `undo` and `redo`, which raise InDraft. Calls of other threads wait for its end."""
         return self._bench.steps.draft()
 
     def group(self) -> ContextManager[None]:
-        """The calls given in it are one step to undo. By an exception all of them are taken back, what could be redone before included.
+        """The calls given in it are one step to undo, in a draft part of it. By an exception all of them are taken back, what could be redone
+        before included.
 
         It takes all but `undo` and `redo`, which raise InGroup; groups and drafts may stand in it. Calls of other threads wait for its end."""
         return self._bench.steps.group()
@@ -150,9 +150,6 @@ class Workbench(SolidMethods, FeatureMethods, Commands, Selecting, Measuring, Ex
     def _take_line(self, file: Path, number: int, line: str) -> None:
         """Gives a line of a script; a complaint names the file and the line."""
         try:
-            if self._bench.kernel.journal.is_drafting:
-                self._bench.conversation.do(*_parts_of(line))
-                return
             reply = self.ask(line)
             if reply.is_complaint:
                 raise complaint(line, reply)
@@ -188,15 +185,6 @@ def _script_in(file: Path, data: bytes) -> bytes:
     except CompanionError as error:
         error.args = (f'{file}: {error}',)
         raise
-
-
-def _parts_of(line: str) -> Tuple[Any, ...]:
-    """The word and the values of a line of a draft; Faulted where it is no command."""
-    try:
-        call = call_in(line)
-    except ValueError:
-        raise complaint(line, Reply(('fault 2',))) from None
-    return (call.word, *call.values)
 
 
 def _hint(file: Path, line: str) -> str:
