@@ -93,6 +93,17 @@ class OnOneSolid(unittest.TestCase):
         few, many = (self.calls(others, self.pocket, self.pocket) for others in (5, 80))
         self.assertLess(many, 2 * few)
 
+    def test_notches_in_one_face(self):
+        """Within it and at its edge, where its outline changes; as many commands too."""
+        for name, act in (
+                ('within', lambda bench, plate, number: bench.notch(plate.top, square(number % 20, number // 20), 3)),
+                ('at its edge', lambda bench, plate, number: bench.notch(plate.top, [
+                    (number, 0, 9), (number + 1, 0, 9), (number + 1, 2, 9), (number, 2, 9)][::-1], 3)),
+                ('a chamfer', lambda bench, plate, number: bench.chamfer(plate.edges[10 if number % 5 == 0 else 8], 1))):
+            with self.subTest(name):
+                few, many = (self.calls(others, self.pocket, act) for others in (5, 80))
+                self.assertLess(many, 1.5 * few)
+
     @staticmethod
     def notch(bench, plate, number):
         """A notch in the face below, at its edge."""

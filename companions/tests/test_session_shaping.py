@@ -2,12 +2,16 @@
 
 import os
 import unittest
+from collections import Counter
+from unittest import mock
 
 from support import program
 from test_session_cuts import Stepwise
 from voxel_parts import summary, try_parts
 
 from gwb.checks.check import check
+from gwb.geometry.free_numbers import begun_at
+from gwb.session.surroundings import Surroundings
 
 
 class Shaped(Stepwise):
@@ -172,6 +176,73 @@ class Shaped(Stepwise):
     def test_a_bent_face(self):
         bent = self.bench.lamina([(0, 0, 50), (4, 0, 50), (4, 4, 51), (0, 4, 50)])
         self.refuse('NotFlat', lambda: self.bench.notch(bent.front, [(0, 0, 50), (1, 0, 50), (1, 1, 50)], 1))
+
+
+class ManyRings(Stepwise):
+    """Each feature on a plate with fifteen pockets in its top, of which most lie elsewhere."""
+
+    ACTS = {
+        'notch': lambda bench, top: bench.notch(top, [(40, 0, 10), (44, 0, 10), (44, 1, 10), (40, 1, 10)], 4),
+        'notch right through': lambda bench, top: bench.notch(top, [(40, 0, 10), (44, 0, 10), (44, 1, 10), (40, 1, 10)], 10),
+        'notch within': lambda bench, top: bench.notch(top, [(18, 18, 10), (20, 18, 10), (20, 20, 10)], 3),
+        'slot': lambda bench, top: bench.slot(top, (0, 20, 10), (100, 20, 10), 2, 4),
+        'slot right through': lambda bench, top: bench.slot(top, (40, 0, 10), (40, 60, 10), 2, 10),
+        'slot into a pocket': lambda bench, top: bench.slot(top, (48, 0, 10), (48, 6, 10), 2, 3),
+        'shoulder': lambda bench, top: bench.shoulder(top, 7, 2, 3),
+        'chamfer': lambda bench, top: bench.chamfer(9, 1),
+        'union': lambda bench, top: bench.union([1, bench.block((58, -3, 10), (2, 6, 5))]),
+        'union that fills a pocket': lambda bench, top: bench.union([1, bench.block((46, 6, 6), (5, 5, 8))])}
+
+    def setUp(self):
+        super().setUp()
+        self.top = self.bench.block((0, 0, 0), (100, 60, 10)).top
+
+    def pockets(self):
+        for x in range(6, 100, 20):
+            for y in range(6, 60, 20):
+                self.bench.pocket(self.top, [(x, y, 10), (x + 5, y, 10), (x + 5, y + 5, 10), (x, y + 5, 10)], 4)
+
+    def faces(self):
+        """The faces of the model by the points of their loops."""
+        model = self.bench.listing()
+
+        def cycle(loop):
+            points = tuple(model.loop_points(loop))
+            return begun_at(points, min(points))
+        return Counter((cycle(face.outer), frozenset(map(cycle, face.rings))) for face in model.faces.values())
+
+    def lines(self, act):
+        """How many commands it takes; it is taken back."""
+        before = self.bench.script().count('\n')
+        self.one_step(lambda: self.one_command(act))
+        after = self.bench.script().count('\n')
+        self.bench.undo()
+        return after - before
+
+    def one_command(self, act):
+        with self.bench.draft():
+            act(self.bench, self.top)
+
+    def test_they_stay_where_they_are(self):
+        alone = {name: self.lines(act) for name, act in self.ACTS.items() if 'pocket' not in name and name != 'slot right through'}
+        self.pockets()
+        for name, act in self.ACTS.items():
+            with self.subTest(name):
+                if name in alone:
+                    self.assertLessEqual(self.lines(act), alone[name] + 8)
+                self.one_step(lambda: self.one_command(act))
+                made = self.faces(), self.volume(1)
+                self.bench.undo()
+                with mock.patch.object(Surroundings, 'rings_but', lambda *_: ()):
+                    self.one_step(lambda: self.one_command(act))
+                self.assertEqual((self.faces(), self.volume(1)), made)
+                self.bench.undo()
+
+    def test_all_in_turn(self):
+        self.pockets()
+        for name in ('notch', 'slot into a pocket', 'slot', 'union', 'union that fills a pocket'):
+            with self.subTest(name):
+                self.one_step(lambda: self.one_command(self.ACTS[name]))
 
 
 class RandomParts(unittest.TestCase):

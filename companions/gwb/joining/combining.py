@@ -16,10 +16,12 @@ from .assembly import Names, assembled
 
 
 class Combined(NamedTuple):
-    """The new model, for each added sheet the faces that it went into, and whether some of them went that lay on held ones."""
+    """The new model, for each added sheet the faces that it went into, for each held face those that it did, and whether some of the added ones
+    went that lay on held ones."""
 
     model: Model
     faces: Tuple[Tuple[int, ...], ...]
+    into: Dict[int, List[int]]
     is_joined: bool
 
 
@@ -56,7 +58,11 @@ def combined(solid: int, names: Names, held: Sequence[Sheet], added: Sequence[Sh
     except Impossible as error:
         raise error if error.name in ('OffLattice', 'NothingLeft', 'NumbersSpent') else why from None
     is_joined = sum(_size(region.cycles) for region in regions) < sum(_size(sheet.cycles) for sheet in (*held, *added))
-    return Combined(made.model, tuple(made.marked(regions, place) for place in range(len(added))), is_joined)
+    into: Dict[int, List[int]] = {}
+    for face, region in zip(made.faces, regions):
+        for owner in region.owners:
+            into.setdefault(owner, []).append(face)
+    return Combined(made.model, tuple(made.marked(regions, place) for place in range(len(added))), into, is_joined)
 
 
 def _size(cycles: Sequence[Cycle]) -> int:

@@ -5,7 +5,7 @@ models have, is one face; where these faces have the same outlines in both, what
 together, is the script. A part that has no outline, such as the walls and the floor of a pocket, comes down to one vertex.
 """
 
-from typing import Dict, Iterator, List, NamedTuple, Optional, Set, Tuple
+from typing import Container, Dict, Iterator, List, NamedTuple, Optional, Set, Tuple
 
 from ..geometry.free_numbers import FreeNumbers, from_least
 from ..geometry.joined_sets import JoinedSets
@@ -27,9 +27,9 @@ class _NotSo(Exception):
     """The faces that differ can't be taken apart in this way."""
 
 
-def script_between(before: Model, after: Model, free: Free) -> Optional[List[str]]:
+def script_between(before: Model, after: Model, free: Free, fast: Container[int] = ()) -> Optional[List[str]]:
     """The lines of a script which turns the first model of a solid into the second one, of the same number; None where the faces that differ
-    aren't of the kind. `free` has the numbers that neither has, of all kinds."""
+    aren't of the kind. `free` has the numbers that neither has, of all kinds. Both have the fast faces, which don't go on the way either."""
     same = _same_faces(before, after)
     edges: List[Set[int]] = [_same_edges(before, after), set()]
     for common in edges:
@@ -37,8 +37,8 @@ def script_between(before: Model, after: Model, free: Free) -> Optional[List[str
         regions = _Region(before, same, common), _Region(after, same, common)
         left = _left_rings(*regions)
         try:
-            old, new = (_Reduced(region, free, left, rings) for region in regions)
-            renamings = _renamings(before, old.cores, new.cores, free)
+            old, new = (_Reduced(region, free, left, rings, fast) for region in regions)
+            renamings = _renamings(before, old.cores, new.cores, free, fast)
             return [*(step.takes for step in old.all_steps), *renamings, *(step.makes for step in reversed(new.all_steps))]
         except _NotSo:
             pass
@@ -113,11 +113,11 @@ class _Spare:
 class _Reduced(TakenApart):
     """A model whose faces that differ are taken apart: the steps, and what is left of each part, by its outline."""
 
-    def __init__(self, region: _Region, free: Free, left: Set[int], spare: _Spare) -> None:
-        """The rings that are left stay where they are."""
+    def __init__(self, region: _Region, free: Free, left: Set[int], spare: _Spare, fast: Container[int]) -> None:
+        """The rings that are left stay where they are, and the fast faces don't go."""
         model = region.model
         super().__init__(model, free)
-        self._region, self._inner, self._left = region.faces, region.inner, left
+        self._region, self._inner, self._left, self._fast = region.faces, region.inner, left, fast
         self._outer = {model.tail(half) for edge in model.edges if edge not in self._inner for half in (edge, -edge)}
         self._spare_faces(spare)
         parts = self._connected_loops()
@@ -174,6 +174,27 @@ class _Reduced(TakenApart):
             self._roots[loop] = roots[0]
             yield loop
 
+    def _kef(self, edge: int) -> None:
+        """The edge goes, and the face and the loop on its mate's side; where that face is fast, those on its own side."""
+        if self._face_of[self._loop(-edge)] not in self._fast:
+            super()._kef(edge)
+        elif self._face_of[self._loop(edge)] not in self._fast:
+            self._kef_back(edge)
+        else:
+            raise _NotSo
+
+    def _kef_back(self, edge: int) -> None:
+        """The edge goes, and the face and the loop on its own side: a spare edge takes its place, of which that side is the mate's."""
+        gone, onward, back = self._loop(edge), self._halves.after[edge], self._halves.after[-edge]
+        spare, face, loop = (self._free[kind].take() for kind in ('edge', 'face', 'loop'))
+        self._step(f'mef -{edge} {back:+d} {spare} {face} {loop}', f'kef +{spare}')
+        self._step(f'kef +{edge}', f'mef -{spare} {onward:+d} {edge} {face} {loop}')
+        self._step(f'kef +{spare}', f'mef {onward:+d} {back:+d} {spare} {self._face_of[gone]} {gone}')
+        self._halves.take(edge)
+        self._loops.join(self._loop(-edge), gone)
+        for kind, number in zip(('edge', 'face', 'loop'), (spare, face, loop)):
+            self._free[kind].give_back(number)
+
     def _tree(self, roots: List[int], edges: List[int], vertices: Set[int]) -> Iterator[int]:
         """Half-edges that lead from the roots to all inner vertices, each after the one that leads to its tail."""
         ways: Dict[int, List[int]] = {vertex: [] for vertex in vertices}
@@ -210,6 +231,8 @@ class _Reduced(TakenApart):
     def _grow_in(self, loop: int) -> None:
         """A face of one vertex goes: it grew from the first part by an edge that was cut again."""
         outline, core = next(iter(self.cores.items()))
+        if self._face_of[loop] in self._fast:
+            raise _NotSo
         face, corner, spare = self._face_of[loop], outline[0], self._free['edge'].take()
         vertex = self._vertices.name(self._roots[loop])
         self._step(f'kfmrh {core.face} {face}', f'mfkrh {loop} {face}')
@@ -218,11 +241,13 @@ class _Reduced(TakenApart):
         self._free['edge'].give_back(spare)
 
 
-def _renamings(before: Model, old: Dict[Outline, _Core], new: Dict[Outline, _Core], free: Free) -> List[str]:
+def _renamings(before: Model, old: Dict[Outline, _Core], new: Dict[Outline, _Core], free: Free, fast: Container[int]) -> List[str]:
     """The lines that give the faces of the outlines the numbers that they have in the second model."""
     if set(old) != set(new):
         raise _NotSo
     changed = [(outline, old[outline], new[outline]) for outline in old if old[outline] != new[outline]]
+    if any(core.face in fast for cores in changed for core in cores[1:]):
+        raise _NotSo
     in_use = set(old.values())
     if any(core.face in {other.face for other in in_use} or core.loop in {other.loop for other in in_use} for _, _, core in changed):
         raise _NotSo

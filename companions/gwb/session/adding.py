@@ -1,11 +1,13 @@
 """Sheets added to a solid: what the faces near them become, and the operators that make it."""
 
-from typing import List, NamedTuple, Sequence
+from typing import Iterator, List, NamedTuple, Optional, Sequence
 
 from ..geometry.box_index import box_of
 from ..geometry.joined_models import joined
 from ..geometry.model import Model
 from ..geometry.outlines import Impossible
+from ..geometry.plane_figures import Place
+from ..geometry.regions import LoopShape, Region, region_of
 from ..geometry.sheets import Sheet
 from ..joining.assembly import Names
 from ..joining.combining import Combined, combined, require_room, sheets_of
@@ -14,38 +16,76 @@ from .near_parts import NearPart, near_part, without_rest
 from .solids import Numbers, give
 
 
-class Addition(NamedTuple):
-    """Sheets that are to be added to a solid, the faces near them, and what comes of both. Nothing is given yet."""
+class Wanted(NamedTuple):
+    """Sheets that are to be added to a solid, of which these faces are looked at besides those near; those of other models, which go, are among
+    them. In the words of `why` is refused what can't be."""
 
     solid: int
     added: Sequence[Sheet]
+    why: Impossible
+    faces: Sequence[int] = ()
+    other: Sequence[Model] = ()
+
+
+class Addition(NamedTuple):
+    """What is wanted, the faces near it, and what comes of both. Nothing is given yet."""
+
+    wanted: Wanted
     part: NearPart
+    numbers: Numbers
     made: Combined
 
 
-def addition(bench: Bench, solid: int, added: Sequence[Sheet], numbers: Numbers, why: Impossible, *, faces: Sequence[int] = (),
-             other: Sequence[Model] = ()) -> Addition:
-    """What comes of sheets that are added to a solid: these faces of it are looked at besides those near. Names are taken from other models too,
-    whose sheets they are.
+def addition(bench: Bench, wanted: Wanted, *, all_rings: bool = False) -> Addition:
+    """What comes of sheets that are added to a solid, by the rings near them, or by all rings of the faces near them.
 
-    Refused: NotFlat: a face near has no area or a lone loop; OffLattice, NothingLeft, NumbersSpent; in the words that are given where the
+    Refused: NotFlat: a face near has no area or a lone loop; OffLattice, NothingLeft, NumbersSpent; in the words that are wanted where the
     sheets make no faces."""
-    part = near_part(bench, solid, box_of(side.start for sheet in added for side in sheet.sides), faces)
-    names = Names(joined([part.model, *other]), numbers.take)
-    return Addition(solid, added, part, combined(solid, names, sheets_of(part.near), added, why, part.kept))
+    box = box_of(side.start for sheet in wanted.added for side in sheet.sides)
+    part, numbers = near_part(bench, wanted.solid, box, wanted.faces, all_rings=all_rings), Numbers(bench)
+    names = Names(joined([part.model, *wanted.other]), numbers.take)
+    return Addition(wanted, part, numbers, combined(wanted.solid, names, sheets_of(part.near), wanted.added, wanted.why, part.kept))
 
 
-def add_sheets(bench: Bench, held: Addition, numbers: Numbers, why: Impossible, other: Sequence[Model] = ()) -> None:
-    """Adds the sheets, as one command; the other models, whose sheets they are, go. Refused in the words that are given where sheets pass through
-    each other, or the solid would meet or touch itself."""
-    part, made = held.part, held.made.model
-    require_room(sheets_of(part.near), held.added, [part.near, *other], without_rest(made), why)
-    lines = numbers.changing(part.model, made)
+def add_sheets(bench: Bench, held: Addition) -> Combined:
+    """Adds the sheets, as one command: what came of it. Refused in the words that are wanted where sheets pass through each other, or the solid
+    would meet or touch itself."""
+    wanted, part = held.wanted, held.part
+    require_room(sheets_of(part.near), wanted.added, [part.near, *wanted.other], without_rest(held.made.model), wanted.why)
+    lines = _changing(bench, held)
     if lines is None:
-        lines = _anew(bench.solid_model(held.solid), part, made, numbers)
-    give(bench, [*(line for model in other for line in numbers.taking_away(model)), *lines])
+        return add_sheets(bench, addition(bench, wanted, all_rings=True))
+    give(bench, [*(line for model in wanted.other for line in held.numbers.taking_away(model)), *lines])
+    return held.made
+
+
+def _changing(bench: Bench, held: Addition) -> Optional[List[str]]:
+    """The operators that turn the solid into what it becomes; None where the rings that weren't looked at are in their way."""
+    part, made = held.part, held.made
+    if any(face not in made.into.get(face, ()) for face in part.elsewhere):
+        return None
+    lines = held.numbers.changing(part.model, made.model, part.elsewhere)
+    if lines is None:
+        return None if part.elsewhere else _anew(bench.solid_model(held.wanted.solid), part, made.model, held.numbers)
+    moves = [_move(bench, ring, face, made) for face, rings in part.elsewhere.items() if len(made.into[face]) > 1 for ring in rings]
+    return None if None in moves else [*lines, *filter(None, moves)]
 
 
 def _anew(whole: Model, part: NearPart, made: Model, numbers: Numbers) -> List[str]:
     """The operators that take the whole solid away and make what it becomes."""
     return [*numbers.taking_away(whole), *numbers.making(part.put_into(whole, made))]
+
+
+def _move(bench: Bench, ring: int, face: int, made: Combined) -> Optional[str]:
+    """The operator that moves a ring to the one of the faces, which its face went into, in which it lies, empty where that is its own; None where
+    all its corners lie on outlines."""
+    regions = {other: _region(made.model, other) for other in made.into[face]}
+    for point in bench.near().mirror.points_of(ring):
+        for other, region in regions.items():
+            if region and region.locate(region.flatten(point)) is Place.INSIDE:
+                return '' if other == face else f'ringmv {ring} {other} in'
+    return None
+
+
+def _region(model: Model, face: int) -> Optional[Region]:
+    return region_of([LoopShape(tuple(model.loop_points(loop)), False) for loop in model.faces[face].loops])

@@ -3,7 +3,7 @@
 What is done to faces near a place leaves that face as it is, so the operators that turn one such model into another do so in the solid.
 """
 
-from typing import Dict, Iterable, Iterator, List, NamedTuple, Sequence, Set, TypeVar
+from typing import Dict, Iterable, Iterator, List, Mapping, NamedTuple, Sequence, Set, TypeVar
 
 from ..geometry.box_index import Box
 from ..geometry.free_numbers import LARGEST, from_least, sorted_model
@@ -20,9 +20,10 @@ Row = TypeVar('Row')
 
 
 class NearPart(NamedTuple):
-    """Some faces of a solid, with the face that stands for the rest where they aren't all."""
+    """Some faces of a solid, with the face that stands for the rest where they aren't all, and the rings of these faces that aren't in it."""
 
     model: Model
+    elsewhere: Mapping[int, Sequence[int]]
 
     @property
     def near(self) -> Model:
@@ -54,16 +55,22 @@ def without_rest(model: Model) -> Model:
     return Model(model.solids, faces, loops, model.edges, model.vertices)
 
 
-def near_part(bench: Bench, solid: int, box: Box, faces: Sequence[int] = ()) -> NearPart:
-    """The faces of the solid whose boxes meet a box, and these faces of it."""
-    mirror = bench.kernel.mirror()
-    model = model_of_faces(mirror, sorted({*bench.near().faces_near(solid, box), *faces}))
+def near_part(bench: Bench, solid: int, box: Box, faces: Sequence[int] = (), *, all_rings: bool = False) -> NearPart:
+    """The faces of the solid whose boxes meet a box, and these faces of it, without those of their rings whose boxes don't, but where all rings
+    are wanted."""
+    mirror, near = bench.kernel.mirror(), bench.near()
+    held = sorted({*near.faces_near(solid, box), *faces})
+    loops = near.loops_near(solid, box)
+    elsewhere = {} if all_rings else {face: rings for face in held for rings in [near.rings_but(face, loops)] if rings}
+    model = model_of_faces(mirror, held, {ring for rings in elsewhere.values() for ring in rings})
     halves = {half for loop in model.loops.values() for half in loop.halves}
     rest = {_REST + place: Loop(from_least(cycle)) for place, cycle in enumerate(_rest_cycles(mirror, halves))}
+    if not rest and elsewhere:
+        return near_part(bench, solid, box, faces, all_rings=True)
     if not rest:
-        return NearPart(model if len(model.faces) == len(mirror.faces_of(solid)) else bench.solid_model(solid))
+        return NearPart(model if len(model.faces) == len(mirror.faces_of(solid)) else bench.solid_model(solid), {})
     row = Face(solid, _REST, tuple(rest)[1:])
-    return NearPart(Model(model.solids, {**model.faces, _REST: row}, {**model.loops, **rest}, model.edges, model.vertices))
+    return NearPart(Model(model.solids, {**model.faces, _REST: row}, {**model.loops, **rest}, model.edges, model.vertices), elsewhere)
 
 
 def _rest_cycles(mirror: Mirror, near: Set[int]) -> Iterator[List[int]]:

@@ -11,9 +11,8 @@ from ..geometry.sheets import Sheet
 from ..geometry.traced_cycles import Side
 from ..geometry.vectors import Vector, ZERO, add, cross, dot, negative, reduced, subtract
 from ..joining.combining import require_flat
-from .adding import add_sheets, addition
+from .adding import Wanted, add_sheets, addition
 from .bench import Bench
-from .solids import Numbers
 
 Path = Sequence[Vector]
 
@@ -81,12 +80,10 @@ def _changed(bench: Bench, face: int, tool: Tool, paths: Sequence[Path]) -> Notc
         if max(abs(part) for part in point) > FARTHEST:
             raise Impossible('PointRange', 0, 'a corner would lie at {} {} {}, past 1,000,000,000'.format(*point))
     meets = Impossible('Meets', face, f'the part at face {face} would meet the solid elsewhere, or the solid would touch itself')
-    numbers = Numbers(bench)
-    held = addition(bench, bench.solid_of(face), [_sheet(path) for path in paths], numbers, meets, faces=[face])
-    lid, *others = held.made.faces
-    if lid:
+    held = addition(bench, Wanted(bench.solid_of(face), [_sheet(path) for path in paths], meets, [face]))
+    if held.made.faces[0]:
         raise Impossible('OutlineOutside', face, f'the outline reaches beyond face {face}')
-    add_sheets(bench, held, numbers, meets)
+    _, *others = add_sheets(bench, held).faces
     floor = () if tool.floor is None else others.pop(0)
     return Notch(floor, tuple(dict.fromkeys(wall for walls in others for wall in walls)))
 

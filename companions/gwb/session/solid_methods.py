@@ -11,6 +11,7 @@ from . import arguments, cutting, refining, shaping, solids, uniting
 from .bench import Bench, Methods
 from .commands import Commands
 from .cutting import Cut, Keep, Plane
+from .part_models import model_of_faces
 from .reading import EdgePart, FacePart
 from .results import Split
 from .shaping import Notch
@@ -135,8 +136,9 @@ class SolidMethods(Methods):
         NotOfFace: the edge isn't one of the face."""
         number, along = self._bench.number('face', face), self._bench.number('edge', edge)
         wide, deep = arguments.positive('width', width), arguments.positive('depth', depth)
-        model = _face_alone(self._bench, number)
+        FacePart(self._bench.kernel, number).loops
         EdgePart(self._bench.kernel, along).vertices
+        model = _outlines(self._bench, [number], along)
         half = next((side for side in model.face_halves(number) if abs(side) == along), None)
         if half is None:
             raise Impossible('NotOfFace', along, f'edge {along} is none of face {number}')
@@ -152,7 +154,7 @@ class SolidMethods(Methods):
         far = wide if other is None else arguments.positive('other', other)
         EdgePart(self._bench.kernel, number).vertices
         mirror = self._bench.kernel.mirror()
-        model = self._bench.model_of(sorted({mirror.face_of_loop(mirror.loop_of(half)) for half in (number, -number)}))
+        model = _outlines(self._bench, sorted({mirror.face_of_loop(mirror.loop_of(half)) for half in (number, -number)}), number)
         outwards = shaping.bends_outwards(model, number)
         if outwards is None:
             raise Impossible('FlatEdge', number, f'the faces of edge {number} lie in one plane')
@@ -181,9 +183,16 @@ def _cut(bench: Bench, solid: int, plane: Plane, wanted: Keep, above: Optional[i
 
 
 def _face_alone(bench: Bench, face: int) -> Model:
-    """The model of a face alone. Refused: NoFace."""
+    """The model of a face alone, as `_outlines` has it. Refused: NoFace."""
     FacePart(bench.kernel, face).loops
-    return bench.model_of([face])
+    return _outlines(bench, [face])
+
+
+def _outlines(bench: Bench, faces: Sequence[int], *edges: int) -> Model:
+    """The model of faces alone; of flat ones without the rings along which none of these edges runs."""
+    mirror, near = bench.kernel.mirror(), bench.near()
+    wanted = {mirror.loop_of(half) for edge in edges for half in (edge, -edge)}
+    return model_of_faces(mirror, faces, {ring for face in faces for ring in near.rings_but(face, wanted)})
 
 
 def _placed(bench: Bench, solid: arguments.Solid, change: Change) -> int:

@@ -6,7 +6,7 @@ whatever a sound solid has, rings, handles, wires, laminae and several shells, i
 
 from dataclasses import dataclass
 from functools import reduce
-from typing import Dict, Iterator, List, Mapping, Optional, Sequence, Tuple
+from typing import Container, Dict, Iterator, List, Mapping, Optional, Sequence, Tuple
 
 from ..errors import Refused, Unfit
 from ..geometry.free_numbers import KINDS, LARGEST, FreeNumbers, numbers_of, renumbered, renumbering
@@ -103,10 +103,11 @@ class Numbers:
         """The operators that make the solids of the model."""
         return [step.makes for alone in solids_apart(model) for step in reversed(self._steps(alone))]
 
-    def changing(self, before: Model, after: Model) -> Optional[List[str]]:
-        """The operators that turn a solid into one of the same number by the faces that differ; None where these aren't of the kind."""
+    def changing(self, before: Model, after: Model, fast: Container[int] = ()) -> Optional[List[str]]:
+        """The operators that turn a solid into one of the same number by the faces that differ, of which the fast ones never go; None where
+        these aren't of the kind."""
         try:
-            return script_between(before, after, self._free)
+            return script_between(before, after, self._free, fast)
         except Unfit as error:
             raise _spent(error) from None
 

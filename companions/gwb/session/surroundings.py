@@ -1,10 +1,10 @@
-"""What lies near a place: the faces and edges of a solid by boxes, kept while commands change some of them."""
+"""What lies near a place: the loops and edges of a solid by boxes, kept while commands change some of them."""
 
-from typing import Dict, Iterable, List, Optional, Set, Tuple
+from typing import Container, Dict, Iterable, List, Optional, Set, Tuple
 
 from ..geometry.box_index import Box, BoxIndex, box_of
 from ..geometry.regions import LoopShape, Region, region_of
-from ..geometry.vectors import Vector
+from ..geometry.vectors import Vector, dot
 from .mirror import Changes, Mirror
 
 
@@ -32,15 +32,15 @@ class _Boxes:
 
 
 class _OfSolid:
-    """The faces and edges of a solid by their boxes; a lone loop stands among the edges, by its number below zero."""
+    """The loops and edges of a solid by their boxes; a lone loop stands among the edges too, by its number below zero."""
 
-    def __init__(self, faces: Dict[int, Box], edges: Dict[int, Box]) -> None:
-        self.faces, self.edges = _Boxes(faces), _Boxes(edges)
-        self.around = _around(faces.values())
+    def __init__(self, loops: Dict[int, Box], edges: Dict[int, Box]) -> None:
+        self.loops, self.edges = _Boxes(loops), _Boxes(edges)
+        self.around = _around(loops.values())
 
-    def put_face(self, face: int, box: Box) -> None:
-        """Puts the box of a face in, or changes it."""
-        self.faces.put(face, box)
+    def put_loop(self, loop: int, box: Box) -> None:
+        """Puts the box of a loop in, or changes it."""
+        self.loops.put(loop, box)
         self.around = _around((self.around, box))
 
 
@@ -70,8 +70,19 @@ class Surroundings:
 
     def faces_near(self, solid: int, box: Box) -> List[int]:
         """The faces of the solid whose boxes meet a box, rising."""
-        found = self._of(solid).faces.meeting(box)
+        found = [self._face_with_outer(loop) for loop in self._of(solid).loops.meeting(box)]
         return sorted(face for face in found for row in [self.mirror.face(face)] if row and row.solid == solid)
+
+    def loops_near(self, solid: int, box: Box) -> Set[int]:
+        """The loops of the solid whose boxes meet a box, and perhaps others."""
+        return set(self._of(solid).loops.meeting(box))
+
+    def rings_but(self, face: int, loops: Container[int]) -> Tuple[int, ...]:
+        """The rings of a face but these, where it is flat and looks the same way without them; otherwise none."""
+        row = self.mirror.face(face)
+        rings = tuple([ring for ring in row.rings if ring not in loops]) if row else ()
+        region = self.region(face) if rings else None
+        return rings if row and region and dot(region.across, self._shape(row.outer).area) > 0 else ()
 
     def edges_near(self, solid: int, box: Box) -> List[Tuple[Vector, Vector]]:
         """The ends of the edges of the solid whose boxes meet a box; a lone vertex stands for both ends."""
@@ -84,9 +95,10 @@ class Surroundings:
     def _of(self, solid: int) -> _OfSolid:
         self._catch_up()
         if solid not in self._solids:
-            faces = {face: self._box(face) for face in self.mirror.faces_of(solid)}
+            faces = self.mirror.faces_of(solid)
+            loops = {loop: self._shape(loop).box for face in faces for loop in self._loops(face)}
             keys = {key for face in faces for key in self._keys(face)}
-            self._solids[solid] = _OfSolid(faces, {key: box_of(ends) for key in keys for ends in [self._ends(key)] if ends})
+            self._solids[solid] = _OfSolid(loops, {key: box_of(ends) for key in keys for ends in [self._ends(key)] if ends})
         return self._solids[solid]
 
     def _catch_up(self) -> None:
@@ -104,17 +116,14 @@ class Surroundings:
 
     def _put_changed(self, changes: Changes) -> None:
         """Puts the boxes of what has changed in."""
-        faces = {face for face in changes.faces if self.mirror.face(face)}
-        faces.update(face for loop in changes.loops for face in [self._face_with_outer(loop)] if face)
-        for face in faces:
-            self._put_face(face)
-        keys = {key for face in faces & changes.faces for key in self._keys(face)}
+        loops = {loop for loop in changes.loops if self.mirror.loop(loop)}
+        loops.update(loop for face in changes.faces for loop in self._loops(face))
+        for loop in loops:
+            solid = self._solid_of(-loop)
+            if solid in self._solids:
+                self._solids[solid].put_loop(loop, self._shape(loop).box)
+        keys = {key for face in changes.faces for key in self._keys(face)}
         self._put_edges(keys | changes.edges | {-loop for loop in changes.loops})
-
-    def _put_face(self, face: int) -> None:
-        row = self.mirror.face(face)
-        if row and row.solid in self._solids:
-            self._solids[row.solid].put_face(face, self._box(face))
 
     def _put_edges(self, keys: Set[int]) -> None:
         for key in keys:
@@ -130,10 +139,14 @@ class Surroundings:
         row = self.mirror.face(face)
         return face if row and row.outer == loop else 0
 
-    def _keys(self, face: int) -> Iterable[int]:
-        """The edges of a face that is there, and its lone loops."""
+    def _loops(self, face: int) -> Tuple[int, ...]:
+        """The loops of a face; none where it isn't there."""
         row = self.mirror.face(face)
-        for loop in row.loops if row else ():
+        return row.loops if row else ()
+
+    def _keys(self, face: int) -> Iterable[int]:
+        """The edges of a face, and its lone loops."""
+        for loop in self._loops(face):
             content = self.mirror.loop(loop)
             yield from (-loop,) if content is None or content.is_lone else (abs(half) for half in content.halves)
 
@@ -150,11 +163,6 @@ class Surroundings:
     def _solid_of(self, key: int) -> int:
         row = self.mirror.face(self.mirror.face_of_loop(self.mirror.loop_of(key) if key > 0 else -key))
         return row.solid if row else 0
-
-    def _box(self, face: int) -> Box:
-        row = self.mirror.face(face)
-        assert row is not None, 'the face is there'
-        return self._shape(row.outer).box
 
     def _shape(self, loop: int) -> LoopShape:
         """What is known of a loop that is there."""

@@ -1,14 +1,13 @@
 """Solids that touch in faces made one: the faces of each further one are added to those of the first."""
 
-from typing import List, Sequence, Tuple
+from typing import List, Sequence
 
 from ..geometry.box_index import box_of
 from ..geometry.model import Model
 from ..geometry.outlines import Impossible
 from ..joining.combining import sheets_of
-from .adding import Addition, add_sheets, addition
+from .adding import Addition, Wanted, add_sheets, addition
 from .bench import Bench
-from .solids import Numbers
 
 
 def united(bench: Bench, solids: Sequence[int]) -> int:
@@ -20,21 +19,20 @@ def united(bench: Bench, solids: Sequence[int]) -> int:
     overlap = Impossible('Overlap', first, 'the solids overlap, or their union would touch itself')
     with bench.step():
         while left:
-            numbers = Numbers(bench)
-            held, other = _first_joined(bench, first, left, numbers, overlap)
-            left.remove(other)
-            add_sheets(bench, held, numbers, overlap, [other])
+            held = _first_joined(bench, first, left, overlap)
+            left.remove(held.wanted.other[0])
+            add_sheets(bench, held)
     return first
 
 
-def _first_joined(bench: Bench, first: int, left: Sequence[Model], numbers: Numbers, overlap: Impossible) -> Tuple[Addition, Model]:
-    """The first of the solids left that touches the first one in a face, and what comes of both."""
+def _first_joined(bench: Bench, first: int, left: Sequence[Model], overlap: Impossible) -> Addition:
+    """What comes of the first solid and the first of those left that touches it in a face."""
     for other in left:
         sheets = sheets_of(other)
         near = bench.near().faces_near(first, box_of(side.start for sheet in sheets for side in sheet.sides))
-        held = addition(bench, first, sheets, numbers, overlap, other=[other]) if near else None
+        held = addition(bench, Wanted(first, sheets, overlap, other=[other])) if near else None
         if held is not None and held.made.is_joined:
-            return held, other
+            return held
     raise Impossible('NoContact', left[0].solids[0], f'solid {left[0].solids[0]} touches the others in no face')
 
 
