@@ -245,6 +245,13 @@ class Refusals(unittest.TestCase):
         self.assertEqual(bench.faces()[1:4].numbers, (2, 3, 4))
         self.assertEqual(bench.faces()[:3].top().one().number, self.block.top)
 
+    def test_the_parts_of_a_solid_are_a_selection(self):
+        solid = self.bench.solid(1)
+        self.assertEqual((solid.faces.top().one().number, solid.vertices.top().numbers), (self.block.top, (5, 6, 7, 8)))
+        self.assertEqual((solid.edges.bottom().numbers, solid.loops[2:4].numbers), ((1, 2, 3, 4), (3, 4)))
+        with self.assertRaisesRegex(NotOne, r'^one face of solid 1 was wanted; 6 were found: 1, 2, 3, 4, 5, 6$'):
+            solid.faces.one()
+
 
 class Scripts(unittest.TestCase):
     """Scripts written and taken up again."""

@@ -16,8 +16,7 @@ from ..geometry.plane_figures import Exact
 from ..geometry.touching_solids import touching_solids
 from . import arguments, files_in
 from .bench import Methods
-from .reading import FacePart, SolidPart
-from .selection import Selection
+from .reading import FacePart, Selection, SolidPart
 
 
 class _Held(NamedTuple):

@@ -1,14 +1,18 @@
 """The model held, part by part: solids, faces, loops, edges and vertices that are read when they are asked for."""
 
-from typing import Optional, Protocol, Tuple
+from typing import Callable, Generic, Iterable, Iterator, Optional, Protocol, Sequence, Tuple, TypeVar, Union, overload
 
-from ..errors import Refused
+from ..errors import NotOne, Refused
 from ..geometry.free_numbers import numbers_of
 from ..geometry.measures import area_vector
 from ..geometry.model import Face, Loop, Model
-from ..geometry.vectors import Vector, total
+from ..geometry.vectors import Vector, ZERO, dot, total
 from ..protocol.language import refusal
 from .turns import PartOfTurns
+
+
+Found = TypeVar('Found', bound='Part')
+_PLURALS = {'vertex': 'vertices'}
 
 
 class Reader(Protocol):
@@ -97,6 +101,67 @@ class Part(PartOfTurns):
     def _none(self) -> Refused:
         meaning = refusal(self._missing, self.number)
         return Refused(meaning.name, self.number, self._missing, f'there is no {self.kind} {self.number}')
+
+
+class Selection(Sequence[Found], Generic[Found]):
+    """Things that were found, rising by their numbers."""
+
+    def __init__(self, kind: str, wanted: str, parts: Sequence[Found]) -> None:
+        self._kind, self._wanted, self._parts = kind, wanted, tuple(parts)
+
+    def __len__(self) -> int:
+        return len(self._parts)
+
+    @overload
+    def __getitem__(self, place: int) -> Found: ...
+
+    @overload
+    def __getitem__(self, place: slice) -> 'Selection[Found]': ...
+
+    def __getitem__(self, place: Union[int, slice]) -> 'Union[Found, Selection[Found]]':
+        if isinstance(place, slice):
+            return Selection(self._kind, self._wanted, self._parts[place])
+        return self._parts[place]
+
+    def __iter__(self) -> Iterator[Found]:
+        return iter(self._parts)
+
+    def __repr__(self) -> str:
+        return f'<{_PLURALS.get(self._kind, self._kind + "s")} {", ".join(str(part.number) for part in self._parts) or "none"}>'
+
+    @property
+    def numbers(self) -> Tuple[int, ...]:
+        """Their numbers."""
+        return tuple(part.number for part in self._parts)
+
+    def one(self) -> Found:
+        """The only one; NotOne says what was found where there isn't exactly one."""
+        if len(self._parts) == 1:
+            return self._parts[0]
+        found = ', '.join(f'{part.number}' for part in self._parts)
+        raise NotOne(f'one {self._kind}{self._wanted} was wanted; '
+                     + (f'{len(self._parts)} were found: {found}' if found else 'none was found'))
+
+    def farthest(self, direction: Sequence[int]) -> 'Selection[Found]':
+        """Those whose nearest point lies farthest along the direction; more than one where they are level."""
+        from .arguments import point    # (which takes parts, so it stands above them)
+        way = point('direction', direction)
+        if way == ZERO:
+            raise ValueError('direction: it is zero')
+        return self._best(lambda part: min(dot(way, point) for point in part.points), f', farthest along {way}')
+
+    def top(self) -> 'Selection[Found]':
+        """Those that lie highest, along z."""
+        return self.farthest((0, 0, 1))
+
+    def bottom(self) -> 'Selection[Found]':
+        """Those that lie lowest, along z."""
+        return self.farthest((0, 0, -1))
+
+    def _best(self, reach: Callable[[Part], int], word: str) -> 'Selection[Found]':
+        reaches = [reach(part) for part in self._parts]
+        most = max(reaches, default=0)
+        return Selection(self._kind, self._wanted + word, [part for part, own in zip(self._parts, reaches) if own == most])
 
 
 class VertexPart(Part):
@@ -248,32 +313,35 @@ class SolidPart(Part):
     _missing = 2
 
     @property
-    def faces(self) -> Tuple[FacePart, ...]:
+    def faces(self) -> Selection[FacePart]:
         """Its faces, rising."""
         found = self._read().faces_of(self.number)
         if not found:
             raise self._none()
-        return tuple(FacePart(self._kernel, face) for face in found)
+        return self._selected('face', [FacePart(self._kernel, face) for face in found])
 
     @property
-    def loops(self) -> Tuple[LoopPart, ...]:
+    def loops(self) -> Selection[LoopPart]:
         """The loops of its faces, rising."""
-        return tuple(sorted((loop for face in self.faces for loop in face.loops), key=_number))
+        return self._selected('loop', [loop for face in self.faces for loop in face.loops])
 
     @property
-    def edges(self) -> Tuple[EdgePart, ...]:
+    def edges(self) -> Selection[EdgePart]:
         """Its edges, rising."""
-        return tuple(sorted({edge for loop in self.loops for edge in loop.edges}, key=_number))
+        return self._selected('edge', {edge for loop in self.loops for edge in loop.edges})
 
     @property
-    def vertices(self) -> Tuple[VertexPart, ...]:
+    def vertices(self) -> Selection[VertexPart]:
         """Its vertices, rising."""
-        return tuple(sorted({vertex for loop in self.loops for vertex in loop.vertices}, key=_number))
+        return self._selected('vertex', {vertex for loop in self.loops for vertex in loop.vertices})
 
     @property
     def points(self) -> Tuple[Vector, ...]:
         """The points of its vertices."""
         return tuple(vertex.point for vertex in self.vertices)
+
+    def _selected(self, kind: str, parts: Iterable[Found]) -> Selection[Found]:
+        return Selection(kind, f' of solid {self.number}', sorted(parts, key=_number))
 
 
 def _tail(reader: Reader, half: int) -> int:

@@ -1,78 +1,14 @@
 """Finding things of the model by where they lie, exactly."""
 
-from typing import Callable, Generic, Iterator, List, Optional, Sequence, Tuple, TypeVar, Union, overload
+from typing import Callable, List, Optional, Sequence, Tuple
 
-from ..errors import NotOne
 from ..geometry.flat_face import FlatFace
 from ..geometry.measures import why_unfit
 from ..geometry.plane_figures import Place
 from ..geometry.vectors import Vector, ZERO, dot, same_direction
 from . import arguments
 from .bench import Bench, Methods
-from .reading import EdgePart, FacePart, LoopPart, Part, SolidPart, VertexPart
-
-Found = TypeVar('Found', bound=Part)
-_PLURALS = {'vertex': 'vertices'}
-
-
-class Selection(Sequence[Found], Generic[Found]):
-    """Things that were found, rising by their numbers."""
-
-    def __init__(self, kind: str, wanted: str, parts: Sequence[Found]) -> None:
-        self._kind, self._wanted, self._parts = kind, wanted, tuple(parts)
-
-    def __len__(self) -> int:
-        return len(self._parts)
-
-    @overload
-    def __getitem__(self, place: int) -> Found: ...
-
-    @overload
-    def __getitem__(self, place: slice) -> 'Selection[Found]': ...
-
-    def __getitem__(self, place: Union[int, slice]) -> 'Union[Found, Selection[Found]]':
-        if isinstance(place, slice):
-            return Selection(self._kind, self._wanted, self._parts[place])
-        return self._parts[place]
-
-    def __iter__(self) -> Iterator[Found]:
-        return iter(self._parts)
-
-    def __repr__(self) -> str:
-        return f'<{_PLURALS.get(self._kind, self._kind + "s")} {", ".join(str(part.number) for part in self._parts) or "none"}>'
-
-    @property
-    def numbers(self) -> Tuple[int, ...]:
-        """Their numbers."""
-        return tuple(part.number for part in self._parts)
-
-    def one(self) -> Found:
-        """The only one; NotOne says what was found where there isn't exactly one."""
-        if len(self._parts) == 1:
-            return self._parts[0]
-        found = ', '.join(f'{part.number}' for part in self._parts)
-        raise NotOne(f'one {self._kind}{self._wanted} was wanted; '
-                     + (f'{len(self._parts)} were found: {found}' if found else 'none was found'))
-
-    def farthest(self, direction: arguments.Point) -> 'Selection[Found]':
-        """Those whose nearest point lies farthest along the direction; more than one where they are level."""
-        way = arguments.point('direction', direction)
-        if way == ZERO:
-            raise ValueError('direction: it is zero')
-        return self._best(lambda part: min(dot(way, point) for point in part.points), f', farthest along {way}')
-
-    def top(self) -> 'Selection[Found]':
-        """Those that lie highest, along z."""
-        return self.farthest((0, 0, 1))
-
-    def bottom(self) -> 'Selection[Found]':
-        """Those that lie lowest, along z."""
-        return self.farthest((0, 0, -1))
-
-    def _best(self, reach: Callable[[Part], int], word: str) -> 'Selection[Found]':
-        reaches = [reach(part) for part in self._parts]
-        most = max(reaches, default=0)
-        return Selection(self._kind, self._wanted + word, [part for part, own in zip(self._parts, reaches) if own == most])
+from .reading import EdgePart, FacePart, LoopPart, Part, Selection, SolidPart, VertexPart
 
 
 class Selecting(Methods):

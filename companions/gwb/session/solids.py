@@ -20,7 +20,7 @@ from ..scripts.inversion import Step, steps_apart
 from . import arguments
 from .bench import Bench
 from .calls import call_in
-from .selection import Found
+from .reading import Found
 
 AXES = ('x', 'y', 'z')
 
