@@ -45,6 +45,7 @@ impl Arena {
     /// The least ring of face f above the number, or none; face f is there. Where the face has no ring, or the number is 0 or a loop of
     /// the face, this is one step or two; else its place is looked for as `put_loop` does. `ring_count` tells how many there are to ask
     /// for.
+    #[inline(always)]
     pub fn ring_after(&self, f: u32, number: u32) -> Option<u32>
         requires { has_number self.now Kind.Face f ≡ true }
         ensures { IsNextRing self.now.model f number result }
@@ -52,6 +53,15 @@ impl Arena {
         if self.ring_count(f) == 0 {
             return None;
         }
+        self.next_ring(f, number)
+    }
+
+    /// The least ring of face f above the number, or none. It stands apart, so that the test of a face with no ring is made in place.
+    #[inline(never)]
+    fn next_ring(&self, f: u32, number: u32) -> Option<u32>
+        requires { has_number self.now Kind.Face f ≡ true }
+        ensures { IsNextRing self.now.model f number result }
+    {
         let outer = self.outer(f);
         let next = self.face_loops.after(f, number);
         if next == Some(outer) {
