@@ -10,9 +10,9 @@ ghost use Rattle.shapes.specs.Faces.{vertices_on};
 ghost use Rattle.split_checks.specs.cut_places.Noted.{AreSides};
 ghost use Rattle.split_checks.specs.cut_places.Sides.{reaches, side_reached, some_lie, some_start};
 
-use crate::cut_places::noted::{Sides, start_side, vertex_side};
+use crate::cut_places::noted::{Sides, side_of_code, vertex_side};
 use crate::cut_places::planes::same;
-use euler_conditions::Arena;
+use euler_conditions::{Arena, next_code};
 use euler_operators::{Content, HalfEdge, Kind, Plane, Sign};
 
 /// What is reached where no corner lies above the plane.
@@ -32,15 +32,16 @@ fn ring_side(arena: &Arena, plane: Plane, sides: &mut Sides, h: HalfEdge) -> Sig
     ensures sides { AreSides arena.now.model plane sides.new }
 {
     let mut below = false;
-    let mut at = h;
+    let first = h.code();
+    let mut at = first;
     'round: loop {
-        let side = start_side(arena, plane, sides, at);
+        let side = side_of_code(arena, plane, sides, at);
         if same(side, Sign::Above) {
             return side;
         }
         below |= same(side, Sign::Below);
-        at = arena.next(at);
-        if at == h {
+        at = next_code(arena, at);
+        if at == first {
             return none_above(below);
         }
     }

@@ -13,9 +13,9 @@ ghost use Rattle.split_checks.specs.cut_places.Noted.{AreSides};
 
 use crate::cut_places::found::Looked;
 use crate::cut_places::halves::passes;
-use crate::cut_places::noted::{Sides, start_side, vertex_side};
+use crate::cut_places::noted::{Sides, side_of_code, vertex_side};
 use crate::cut_places::planes::{opposite, same};
-use euler_conditions::Arena;
+use euler_conditions::{Arena, next_code};
 use euler_operators::{Content, HalfEdge, Kind, Plane, Sign};
 use solid_measure::least_item;
 use std::alloc::AllocError;
@@ -34,7 +34,7 @@ fn mark_side(looked: &mut Looked, side: Sign)
 /// The half-edge, which starts and ends on these sides of the plane, is looked at.
 fn look_at(
     arena: &Arena,
-    plane: Plane,
+    plane: &Plane,
     sides: &mut Sides,
     h: HalfEdge,
     from: Sign,
@@ -43,12 +43,12 @@ fn look_at(
 ) -> Result<(), AllocError>
     requires ready { IsReady arena.now }
     requires there { has_half arena.now.model (code h) ≡ true }
-    requires plane { IsCutPlane plane }
-    requires sides { AreSides arena.now.model plane sides.old }
-    requires from { from ≡ sign_of (height plane (start arena.now.model (code h))) }
-    requires to { to ≡ sign_of (height plane (finish arena.now.model (code h))) }
-    ensures sides { AreSides arena.now.model plane sides.new }
-    ensures met { OnOk result (IsMet arena.now.model plane looked.old looked.new (code h ∷ []) (tail arena.now.model (code h) ∷ [])) }
+    requires plane { IsCutPlane plane.now }
+    requires sides { AreSides arena.now.model plane.now sides.old }
+    requires from { from ≡ sign_of (height plane.now (start arena.now.model (code h))) }
+    requires to { to ≡ sign_of (height plane.now (finish arena.now.model (code h))) }
+    ensures sides { AreSides arena.now.model plane.now sides.new }
+    ensures met { OnOk result (IsMet arena.now.model plane.now looked.old looked.new (code h ∷ []) (tail arena.now.model (code h) ∷ [])) }
 {
     mark_side(looked, from);
     if opposite(from, to) {
@@ -57,7 +57,7 @@ fn look_at(
         }
         looked.places.push(h)?;
     } else if same(from, Sign::On) {
-        if passes(arena, plane, sides, h, to) {
+        if passes(arena, *plane, sides, h, to) {
             looked.places.push(h)?;
         } else {
             looked.touched = true;
@@ -69,25 +69,26 @@ fn look_at(
 /// The half-edges of the loop in which h stands are looked at, from the least on.
 fn look_round(
     arena: &Arena,
-    plane: Plane,
+    plane: &Plane,
     sides: &mut Sides,
     h: HalfEdge,
     looked: &mut Looked,
 ) -> Result<(), AllocError>
     requires ready { IsReady arena.now }
     requires there { has_half arena.now.model (code h) ≡ true }
-    requires plane { IsCutPlane plane }
-    requires sides { AreSides arena.now.model plane sides.old }
-    ensures sides { AreSides arena.now.model plane sides.new }
-    ensures met { OnOk result (IsRound arena.now.model plane looked.old looked.new (cycle_of arena.now.model (code h))) }
+    requires plane { IsCutPlane plane.now }
+    requires sides { AreSides arena.now.model plane.now sides.old }
+    ensures sides { AreSides arena.now.model plane.now sides.new }
+    ensures met { OnOk result (IsRound arena.now.model plane.now looked.old looked.new (cycle_of arena.now.model (code h))) }
 {
-    let first = least_item(arena, h);
+    let least = least_item(arena, h);
+    let first = least.code();
     let mut at = first;
-    let mut from = start_side(arena, plane, sides, first);
+    let mut from = side_of_code(arena, *plane, sides, first);
     'round: loop {
-        let next = arena.next(at);
-        let to = start_side(arena, plane, sides, next);
-        look_at(arena, plane, sides, at, from, to, looked)?;
+        let next = next_code(arena, at);
+        let to = side_of_code(arena, *plane, sides, next);
+        look_at(arena, plane, sides, HalfEdge::of_code(at), from, to, looked)?;
         if next == first {
             return Ok(());
         }
@@ -99,21 +100,21 @@ fn look_round(
 /// The corners of loop l are looked at.
 fn look_along(
     arena: &Arena,
-    plane: Plane,
+    plane: &Plane,
     sides: &mut Sides,
     l: u32,
     looked: &mut Looked,
 ) -> Result<(), AllocError>
     requires ready { IsReady arena.now }
     requires there { has_number arena.now Kind.Loop l ≡ true }
-    requires plane { IsCutPlane plane }
-    requires sides { AreSides arena.now.model plane sides.old }
-    ensures sides { AreSides arena.now.model plane sides.new }
-    ensures met { OnOk result (IsMet arena.now.model plane looked.old looked.new (items_of (content arena.now.model l)) (vertices_on arena.now.model (content arena.now.model l))) }
+    requires plane { IsCutPlane plane.now }
+    requires sides { AreSides arena.now.model plane.now sides.old }
+    ensures sides { AreSides arena.now.model plane.now sides.new }
+    ensures met { OnOk result (IsMet arena.now.model plane.now looked.old looked.new (items_of (content arena.now.model l)) (vertices_on arena.now.model (content arena.now.model l))) }
 {
     match arena.content(l) {
         Content::Lone(v) => {
-            mark_side(looked, vertex_side(arena, plane, sides, v));
+            mark_side(looked, vertex_side(arena, *plane, sides, v));
             Ok(())
         }
         Content::Ring(h) => look_round(arena, plane, sides, h, looked),
@@ -123,18 +124,18 @@ fn look_along(
 /// The corners of loop l are looked at. It tells whether the loop has a cut place.
 pub(crate) fn look_at_loop(
     arena: &Arena,
-    plane: Plane,
+    plane: &Plane,
     sides: &mut Sides,
     l: u32,
     looked: &mut Looked,
 ) -> Result<bool, AllocError>
     requires ready { IsReady arena.now }
     requires there { has_number arena.now Kind.Loop l ≡ true }
-    requires plane { IsCutPlane plane }
-    requires sides { AreSides arena.now.model plane sides.old }
-    ensures sides { AreSides arena.now.model plane sides.new }
-    ensures met { OnOk result (IsMet arena.now.model plane looked.old looked.new (items_of (content arena.now.model l)) (vertices_on arena.now.model (content arena.now.model l))) }
-    ensures cut { IfOk result (λ cut. cut ≡ loop_is_cut arena.now.model plane l) }
+    requires plane { IsCutPlane plane.now }
+    requires sides { AreSides arena.now.model plane.now sides.old }
+    ensures sides { AreSides arena.now.model plane.now sides.new }
+    ensures met { OnOk result (IsMet arena.now.model plane.now looked.old looked.new (items_of (content arena.now.model l)) (vertices_on arena.now.model (content arena.now.model l))) }
+    ensures cut { IfOk result (λ cut. cut ≡ loop_is_cut arena.now.model plane.now l) }
 {
     let before = looked.places.len();
     look_along(arena, plane, sides, l, looked)?;

@@ -20,18 +20,18 @@ use std::alloc::{AllocError, Global};
 /// The corners of the rings of face f are looked at. It tells whether each ring has a cut place.
 fn look_at_rings(
     arena: &Arena,
-    plane: Plane,
+    plane: &Plane,
     sides: &mut Sides,
     f: u32,
     looked: &mut Looked,
 ) -> Result<bool, AllocError>
     requires ready { IsReady arena.now }
     requires there { has_number arena.now Kind.Face f ≡ true }
-    requires plane { IsCutPlane plane }
-    requires sides { AreSides arena.now.model plane sides.old }
-    ensures sides { AreSides arena.now.model plane sides.new }
-    ensures met { OnOk result (IsMet arena.now.model plane looked.old looked.new (items_in arena.now.model (rings_of arena.now.model f)) (vertices_in arena.now.model (rings_of arena.now.model f))) }
-    ensures cut { IfOk result (λ cut. cut ≡ list_all (loop_is_cut arena.now.model plane) (rings_of arena.now.model f)) }
+    requires plane { IsCutPlane plane.now }
+    requires sides { AreSides arena.now.model plane.now sides.old }
+    ensures sides { AreSides arena.now.model plane.now sides.new }
+    ensures met { OnOk result (IsMet arena.now.model plane.now looked.old looked.new (items_in arena.now.model (rings_of arena.now.model f)) (vertices_in arena.now.model (rings_of arena.now.model f))) }
+    ensures cut { IfOk result (λ cut. cut ≡ list_all (loop_is_cut arena.now.model plane.now) (rings_of arena.now.model f)) }
 {
     let mut all = true;
     let mut last = 0;
@@ -53,18 +53,18 @@ fn is_often(outer_cut: bool, rings_cut: bool, places: usize) -> bool
 /// exactly two.
 fn look_at_loops(
     arena: &Arena,
-    plane: Plane,
+    plane: &Plane,
     sides: &mut Sides,
     f: u32,
     looked: &mut Looked,
 ) -> Result<bool, AllocError>
     requires ready { IsReady arena.now }
     requires there { has_number arena.now Kind.Face f ≡ true }
-    requires plane { IsCutPlane plane }
-    requires sides { AreSides arena.now.model plane sides.old }
-    ensures sides { AreSides arena.now.model plane sides.new }
-    ensures met { OnOk result (IsMet arena.now.model plane looked.old looked.new (boundary arena.now.model f) (corners arena.now.model f)) }
-    ensures often { IfOk result (λ often. often ≡ is_cut_often arena.now.model plane f) }
+    requires plane { IsCutPlane plane.now }
+    requires sides { AreSides arena.now.model plane.now sides.old }
+    ensures sides { AreSides arena.now.model plane.now sides.new }
+    ensures met { OnOk result (IsMet arena.now.model plane.now looked.old looked.new (boundary arena.now.model f) (corners arena.now.model f)) }
+    ensures often { IfOk result (λ often. often ≡ is_cut_often arena.now.model plane.now f) }
 {
     let before = looked.places.len();
     let outer_cut = look_at_loop(arena, plane, sides, arena.outer(f), looked)?;
@@ -92,17 +92,17 @@ fn straddles(looked: &Looked) -> bool
 /// Adds what the plane meets of face f.
 fn look_at_face(
     arena: &Arena,
-    plane: Plane,
+    plane: &Plane,
     sides: &mut Sides,
     f: u32,
     met: &mut Met,
 ) -> Result<(), AllocError>
     requires ready { IsReady arena.now }
     requires there { has_number arena.now Kind.Face f ≡ true }
-    requires plane { IsCutPlane plane }
-    requires sides { AreSides arena.now.model plane sides.old }
-    ensures sides { AreSides arena.now.model plane sides.new }
-    ensures met { OnOk result (IsFaceMet arena.now.model plane met.old met.new f) }
+    requires plane { IsCutPlane plane.now }
+    requires sides { AreSides arena.now.model plane.now sides.old }
+    ensures sides { AreSides arena.now.model plane.now sides.new }
+    ensures met { OnOk result (IsFaceMet arena.now.model plane.now met.old met.new f) }
 {
     let before = met.looked.places.len();
     unmark(&mut met.looked);
@@ -161,7 +161,7 @@ pub(crate) fn meeting(
     let mut met = nothing_met(alloc);
     let mut last = 0;
     'faces: while let Some(f) = arena.face_after(s, last) {
-        look_at_face(arena, plane, sides, f, &mut met)?;
+        look_at_face(arena, &plane, sides, f, &mut met)?;
         last = f;
     }
     met.looked.edges.sort()?;

@@ -74,3 +74,16 @@ pub fn start_side(arena: &Arena, plane: Plane, sides: &mut Sides, h: HalfEdge) -
 {
     vertex_side(arena, plane, sides, arena.tail(h))
 }
+
+/// The same of the half-edge of a code.
+#[inline(always)]
+pub(crate) fn side_of_code(arena: &Arena, plane: Plane, sides: &mut Sides, code: u32) -> Sign
+    requires ready { IsReady arena.now }
+    requires there { has_half arena.now.model code ≡ true }
+    requires plane { IsCutPlane plane }
+    requires sides { AreSides arena.now.model plane sides.old }
+    ensures is { result ≡ sign_of (height plane (start arena.now.model code)) }
+    ensures sides { AreSides arena.now.model plane sides.new }
+{
+    start_side(arena, plane, sides, HalfEdge::of_code(code))
+}

@@ -1,10 +1,9 @@
 use Rattle.std.proofs.Common.{◌≡◌, ◌∙◌, ◌||◌, true, ap, sym, length, arith}
-use Rattle.euler_operators.specs.HalfEdge.{code}
 use Rattle.euler_operators.specs.declared.Sign.{Sign}
 use Rattle.euler_operators.specs.declared.Sign.TheVariants.{Above, Below}
-use Rattle.euler_operators.specs.Model.{cycle_of}
+use Rattle.euler_operators.specs.Model.{cycle_of, has_half}
 use Rattle.shapes.specs.Faces.{start}
-use Rattle.solid_measure.proofs.face_walks_laws.HalfCodes.{codes_same, codes_differ}
+use Rattle.euler_conditions.proofs.Coded.{edge_fits}
 use Rattle.solid_measure.proofs.face_walks_laws.CycleWalks.{item_there, item_in, goes_on}
 use Rattle.split_checks.specs.cut_places.Sides.{lies, same_sign, side_reached, some_start}
 use Rattle.split_checks.proofs.cut_places_laws.NotedSides.{is_up}
@@ -12,53 +11,59 @@ use Rattle.split_checks.proofs.cut_places_laws.RingTests.{left, walk_begins, wal
 use Rattle.split_checks.proofs.cut_places_laws.Signs.{sign_lies}
 use Rattle.split_checks.proofs.cut_places.face_sides.ring_side.Goals as goal
 
+pub code-first-requires : goal.code-first-requires
+code-first-requires c =
+    let M = c.args.arena.now.model in
+    edge_fits M c.requires.ready.sound c.args.h c.requires.there
+
 pub round-init : goal.round-init
 round-init c =
-    let M = c.args.arena.now.model in let sound = c.requires.ready.sound in let h = code c.args.h in
+    let M = c.args.arena.now.model in let sound = c.requires.ready.sound in let h = c.code-first.result in let there = ap (has_half M) c.code-first.ensures ∙ c.requires.there in
     record {
-      at_in = item_in M sound h c.requires.there;
+      at_in = item_in M sound h there;
       sides = c.requires.sides;
-      up = walk_begins M sound h c.requires.there (λ k. lies Above c.args.plane (start M k));
-      down = walk_begins M sound h c.requires.there (λ k. lies Below c.args.plane (start M k));
+      up = walk_begins M sound h there (λ k. lies Above c.args.plane (start M k));
+      down = walk_begins M sound h there (λ k. lies Below c.args.plane (start M k));
     }
 
-pub start_side-side-requires-clause-there : goal.start_side-side-requires-clause-there
-start_side-side-requires-clause-there c = item_there c.args.arena.now.model c.requires.ready.sound (code c.args.h) c.requires.there (code c.round.at) c.round.invariant.at_in
+pub side_of_code-side-requires-clause-there : goal.side_of_code-side-requires-clause-there
+side_of_code-side-requires-clause-there c = item_there c.args.arena.now.model c.requires.ready.sound c.code-first.result (ap (has_half c.args.arena.now.model) c.code-first.ensures ∙ c.requires.there) c.round.at c.round.invariant.at_in
 
 pub returns-then-same-clause-is : goal.returns-then-same-clause-is
 returns-then-same-clause-is c =
-    let M = c.args.arena.now.model in let p = c.args.plane in let side = c.start_side-side.result in
+    let M = c.args.arena.now.model in let p = c.args.plane in let side = c.side_of_code-side.result in
     let up : same_sign side Above ≡ true = sym c.same.ensures ∙ c.if-same.true in
-    let lies_up = sym (ap (λ s. same_sign s Above) c.start_side-side.ensures.is ∙ sign_lies Above p (start M (code c.round.at))) ∙ up in
-    is_up side up ∙ ap (λ b. side_reached b (some_start Below M p (cycle_of M (code c.args.h))))
-    (sym (walk_finds M c.requires.ready.sound (code c.args.h) c.requires.there (λ k. lies Above p (start M k)) (code c.round.at) lies_up) ∙ c.round.invariant.up)
+    let lies_up = sym (ap (λ s. same_sign s Above) c.side_of_code-side.ensures.is ∙ sign_lies Above p (start M c.round.at)) ∙ up in
+    is_up side up ∙ ap (λ b. side_reached b (some_start Below M p (cycle_of M c.code-first.result)))
+    (sym (walk_finds M c.requires.ready.sound c.code-first.result (ap (has_half c.args.arena.now.model) c.code-first.ensures ∙ c.requires.there) (λ k. lies Above p (start M k)) c.round.at lies_up) ∙ c.round.invariant.up)
+    ∙ ap (λ x. side_reached (some_start Above M p (cycle_of M x)) (some_start Below M p (cycle_of M x))) c.code-first.ensures
 
-pub next-at-requires : goal.next-at-requires
-next-at-requires c = item_there c.args.arena.now.model c.requires.ready.sound (code c.args.h) c.requires.there (code c.round.at) c.round.invariant.at_in
+pub next_code-at-requires-clause-there : goal.next_code-at-requires-clause-there
+next_code-at-requires-clause-there c = item_there c.args.arena.now.model c.requires.ready.sound c.code-first.result (ap (has_half c.args.arena.now.model) c.code-first.ensures ∙ c.requires.there) c.round.at c.round.invariant.at_in
 
-pub returns-then-eq-clause-is : goal.returns-then-eq-clause-is
-returns-then-eq-clause-is c =
-    let M = c.args.arena.now.model in let sound = c.requires.ready.sound in let p = c.args.plane in let h = code c.args.h in let x = code c.round.at in let r = code c.next-at.result in
-    let told : (side : Sign) → same_sign c.start_side-side.result side ≡ lies side p (start M x) = λ side. ap (λ s. same_sign s side) c.start_side-side.ensures.is ∙ sign_lies side p (start M x) in
-    let back = codes_same c.next-at.result c.args.h (sym c.eq.ensures ∙ c.if-eq.true) in
-    let up = sym (walk_ended M sound h c.requires.there (λ k. lies Above p (start M k)) x r c.round.invariant.at_in c.next-at.ensures.in_loop back (sym (told Above) ∙ sym c.same.ensures ∙ c.if-same.false)) ∙ c.round.invariant.up in
-    let down = ap (λ b. c.round.below || b) (c.same-below.ensures ∙ told Below) ∙ walk_told M sound h c.requires.there (λ k. lies Below p (start M k)) c.round.below x r c.round.invariant.at_in c.next-at.ensures.in_loop back ∙ c.round.invariant.down in
-    c.none_above.ensures ∙ (λ i. side_reached (up i) (down i))
+pub returns-then-at-first-clause-is : goal.returns-then-at-first-clause-is
+returns-then-at-first-clause-is c =
+    let M = c.args.arena.now.model in let sound = c.requires.ready.sound in let p = c.args.plane in let h = c.code-first.result in let there = ap (has_half M) c.code-first.ensures ∙ c.requires.there in let x = c.round.at in let r = c.next_code-at.result in
+    let told : (side : Sign) → same_sign c.side_of_code-side.result side ≡ lies side p (start M x) = λ side. ap (λ s. same_sign s side) c.side_of_code-side.ensures.is ∙ sign_lies side p (start M x) in
+    let back = c.if-at-first.true in
+    let up = sym (walk_ended M sound h there (λ k. lies Above p (start M k)) x r c.round.invariant.at_in (λ _. c.next_code-at.ensures.next) back (sym (told Above) ∙ sym c.same.ensures ∙ c.if-same.false)) ∙ c.round.invariant.up in
+    let down = ap (λ b. c.round.below || b) (c.same-below.ensures ∙ told Below) ∙ walk_told M sound h there (λ k. lies Below p (start M k)) c.round.below x r c.round.invariant.at_in (λ _. c.next_code-at.ensures.next) back ∙ c.round.invariant.down in
+    c.none_above.ensures ∙ (λ i. side_reached (up i) (down i)) ∙ ap (λ x. side_reached (some_start Above M p (cycle_of M x)) (some_start Below M p (cycle_of M x))) c.code-first.ensures
 
 pub round-smaller : goal.round-smaller
 round-smaller c =
-    let on = goes_on c.args.arena.now.model c.requires.ready.sound (code c.args.h) c.requires.there (code c.round.at) (code c.next-at.result) c.round.invariant.at_in c.next-at.ensures.in_loop (codes_differ c.next-at.result c.args.h (sym c.eq.ensures ∙ c.if-eq.false)) in
+    let on = goes_on c.args.arena.now.model c.requires.ready.sound c.code-first.result (ap (has_half c.args.arena.now.model) c.code-first.ensures ∙ c.requires.there) c.round.at c.next_code-at.result c.round.invariant.at_in (λ _. c.next_code-at.ensures.next) (c.if-at-first.false) in
     omega (arith, ap length on.1)
 
 pub round-preserved : goal.round-preserved
 round-preserved c =
-    let M = c.args.arena.now.model in let sound = c.requires.ready.sound in let p = c.args.plane in let h = code c.args.h in let x = code c.round.at in let r = code c.next-at.result in
-    let told : (side : Sign) → same_sign c.start_side-side.result side ≡ lies side p (start M x) = λ side. ap (λ s. same_sign s side) c.start_side-side.ensures.is ∙ sign_lies side p (start M x) in
-    let other = codes_differ c.next-at.result c.args.h (sym c.eq.ensures ∙ c.if-eq.false) in
+    let M = c.args.arena.now.model in let sound = c.requires.ready.sound in let p = c.args.plane in let h = c.code-first.result in let there = ap (has_half M) c.code-first.ensures ∙ c.requires.there in let x = c.round.at in let r = c.next_code-at.result in
+    let told : (side : Sign) → same_sign c.side_of_code-side.result side ≡ lies side p (start M x) = λ side. ap (λ s. same_sign s side) c.side_of_code-side.ensures.is ∙ sign_lies side p (start M x) in
+    let other = c.if-at-first.false in
     record {
-      at_in = (goes_on M sound h c.requires.there x r c.round.invariant.at_in c.next-at.ensures.in_loop other).0;
-      sides = c.start_side-side.ensures.sides;
-      up = walk_left M sound h c.requires.there (λ k. lies Above p (start M k)) x r c.round.invariant.at_in c.next-at.ensures.in_loop other (sym (told Above) ∙ sym c.same.ensures ∙ c.if-same.false) ∙ c.round.invariant.up;
-      down = ap (λ b. (c.round.below || b) || left M sound h c.requires.there (λ k. lies Below p (start M k)) r) (c.same-below.ensures ∙ told Below)
-          ∙ walk_adds M sound h c.requires.there (λ k. lies Below p (start M k)) c.round.below x r c.round.invariant.at_in c.next-at.ensures.in_loop other ∙ c.round.invariant.down;
+      at_in = (goes_on M sound h there x r c.round.invariant.at_in (λ _. c.next_code-at.ensures.next) other).0;
+      sides = c.side_of_code-side.ensures.sides;
+      up = walk_left M sound h there (λ k. lies Above p (start M k)) x r c.round.invariant.at_in (λ _. c.next_code-at.ensures.next) other (sym (told Above) ∙ sym c.same.ensures ∙ c.if-same.false) ∙ c.round.invariant.up;
+      down = ap (λ b. (c.round.below || b) || left M sound h there (λ k. lies Below p (start M k)) r) (c.same-below.ensures ∙ told Below)
+          ∙ walk_adds M sound h there (λ k. lies Below p (start M k)) c.round.below x r c.round.invariant.at_in (λ _. c.next_code-at.ensures.next) other ∙ c.round.invariant.down;
     }

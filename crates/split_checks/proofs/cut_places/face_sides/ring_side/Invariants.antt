@@ -1,6 +1,5 @@
 use Rattle.std.proofs.Common.{◌≡◌, ◌||◌, ◌∷◌, length}
 use Rattle.euler_operators.specs.Items.{IsIn}
-use Rattle.euler_operators.specs.HalfEdge.{code}
 use Rattle.euler_operators.specs.Model.{cycle_of}
 use Rattle.euler_operators.specs.declared.Sign.TheVariants.{Above, Below}
 use Rattle.solid_measure.proofs.face_walks_laws.CycleWalks.{to_come}
@@ -10,11 +9,11 @@ use Rattle.split_checks.proofs.cut_places.face_sides.ring_side.Given as goal
 
 abbrev pub invariant-round : goal.invariant-round
 invariant-round l = record {
-  at_in : IsIn (code l.at) (cycle_of l.arena.model (code l.h));
+  at_in : IsIn l.at (cycle_of l.arena.model l.first);
   sides : AreSides l.arena.model l.plane l.sides;
-  up : some_start Above l.arena.model l.plane (code l.at ∷ to_come (code l.h) (cycle_of l.arena.model (code l.h)) (code l.at)) ≡ some_start Above l.arena.model l.plane (cycle_of l.arena.model (code l.h));
-  down : l.below || some_start Below l.arena.model l.plane (code l.at ∷ to_come (code l.h) (cycle_of l.arena.model (code l.h)) (code l.at)) ≡ some_start Below l.arena.model l.plane (cycle_of l.arena.model (code l.h));
+  up : some_start Above l.arena.model l.plane (l.at ∷ to_come l.first (cycle_of l.arena.model l.first) l.at) ≡ some_start Above l.arena.model l.plane (cycle_of l.arena.model l.first);
+  down : l.below || some_start Below l.arena.model l.plane (l.at ∷ to_come l.first (cycle_of l.arena.model l.first) l.at) ≡ some_start Below l.arena.model l.plane (cycle_of l.arena.model l.first);
 }
 
 abbrev pub decreases-round : goal.decreases-round
-decreases-round l = length (to_come (code l.h) (cycle_of l.arena.model (code l.h)) (code l.at))
+decreases-round l = length (to_come l.first (cycle_of l.arena.model l.first) l.at)

@@ -8,7 +8,7 @@ use Rattle.split_checks.proofs.cut_places.looking.look_at.Goals as goal
 
 pub returns-in_ok-push-2-clause-met : goal.returns-in_ok-push-2-clause-met
 returns-in_ok-push-2-clause-met c =
-    let M = c.args.arena.now.model in let p = c.args.plane in let h = c.args.h in let from = c.args.from in let to = c.args.to in let old = c.args.looked.now in
+    let M = c.args.arena.now.model in let p = c.args.plane.now in let h = c.args.h in let from = c.args.from in let to = c.args.to in let old = c.args.looked.now in
     let marked = c.mark_side.ensures in
     let crossing = sym c.opposite.ensures ∙ c.if-opposite.true in
     let place = place_across M p h from to c.requires.from c.requires.to crossing in
@@ -29,7 +29,7 @@ returns-in_ok-push-2-clause-met c =
 
 pub returns-in_ok-push-3-clause-met : goal.returns-in_ok-push-3-clause-met
 returns-in_ok-push-3-clause-met c =
-    let M = c.args.arena.now.model in let p = c.args.plane in let h = c.args.h in let from = c.args.from in let to = c.args.to in let old = c.args.looked.now in
+    let M = c.args.arena.now.model in let p = c.args.plane.now in let h = c.args.h in let from = c.args.from in let to = c.args.to in let old = c.args.looked.now in
     let marked = c.mark_side.ensures in
     let crossing = sym c.opposite.ensures ∙ c.if-opposite.false in let on = sym c.same.ensures ∙ c.if-same.true in
     let place = place_on M p h from to c.requires.from c.requires.to crossing on true (sym c.if-passes.true ∙ c.passes.ensures.is) in
@@ -41,7 +41,7 @@ returns-in_ok-push-3-clause-met c =
 
 pub returns-else-passes-clause-met : goal.returns-else-passes-clause-met
 returns-else-passes-clause-met c =
-    let M = c.args.arena.now.model in let p = c.args.plane in let h = c.args.h in let from = c.args.from in let to = c.args.to in let old = c.args.looked.now in
+    let M = c.args.arena.now.model in let p = c.args.plane.now in let h = c.args.h in let from = c.args.from in let to = c.args.to in let old = c.args.looked.now in
     let marked = c.mark_side.ensures in
     let crossing = sym c.opposite.ensures ∙ c.if-opposite.false in let on = sym c.same.ensures ∙ c.if-same.true in
     let place = place_on M p h from to c.requires.from c.requires.to crossing on false (sym c.if-passes.false ∙ c.passes.ensures.is) in
@@ -53,7 +53,7 @@ returns-else-passes-clause-met c =
 
 pub returns-else-same-clause-met : goal.returns-else-same-clause-met
 returns-else-same-clause-met c =
-    let M = c.args.arena.now.model in let p = c.args.plane in let h = c.args.h in let from = c.args.from in let to = c.args.to in let old = c.args.looked.now in
+    let M = c.args.arena.now.model in let p = c.args.plane.now in let h = c.args.h in let from = c.args.from in let to = c.args.to in let old = c.args.looked.now in
     let marked = c.mark_side.ensures in
     let crossing = sym c.opposite.ensures ∙ c.if-opposite.false in let on = sym c.same.ensures ∙ c.if-same.false in
     one_met M p h from c.requires.from old _ false false false

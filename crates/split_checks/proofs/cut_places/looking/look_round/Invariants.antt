@@ -1,6 +1,5 @@
 use Rattle.std.proofs.Common.{◌≡◌, ◌∷◌, length}
 use Rattle.euler_operators.specs.Items.{IsIn}
-use Rattle.euler_operators.specs.HalfEdge.{code}
 use Rattle.euler_operators.specs.Vectors.{height, sign_of}
 use Rattle.euler_operators.specs.Model.{cycle_of}
 use Rattle.shapes.specs.Faces.{start}
@@ -11,11 +10,11 @@ use Rattle.split_checks.proofs.cut_places.looking.look_round.Given as goal
 
 abbrev pub invariant-round : goal.invariant-round
 invariant-round l = record {
-  at_in : IsIn (code l.at) (cycle_of l.arena.model (code l.first));
-  side : l.from ≡ sign_of (height l.plane (start l.arena.model (code l.at)));
+  at_in : IsIn l.at (cycle_of l.arena.model l.first);
+  side : l.from ≡ sign_of (height l.plane (start l.arena.model l.at));
   sides : AreSides l.arena.model l.plane l.sides;
-  walked : Walked l.arena.model l.plane l.fn.looked l.looked (code l.at ∷ to_come (code l.first) (cycle_of l.arena.model (code l.first)) (code l.at)) (cycle_of l.arena.model (code l.first));
+  walked : Walked l.arena.model l.plane l.fn.looked l.looked (l.at ∷ to_come l.first (cycle_of l.arena.model l.first) l.at) (cycle_of l.arena.model l.first);
 }
 
 abbrev pub decreases-round : goal.decreases-round
-decreases-round l = length (to_come (code l.first) (cycle_of l.arena.model (code l.first)) (code l.at))
+decreases-round l = length (to_come l.first (cycle_of l.arena.model l.first) l.at)

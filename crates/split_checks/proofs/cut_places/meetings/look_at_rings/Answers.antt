@@ -9,7 +9,7 @@ use Rattle.split_checks.proofs.cut_places.meetings.look_at_rings.Goals as goal
 
 pub rings-init : goal.rings-init
 rings-init c =
-    let M = c.args.arena.now.model in let f = c.args.f in let p = c.args.plane in let from = rings_from_zero M f c.requires.ready.sound in
+    let M = c.args.arena.now.model in let f = c.args.f in let p = c.args.plane.now in let from = rings_from_zero M f c.requires.ready.sound in
     record {
       cut = ap (list_all (loop_is_cut M p)) from;
       sides = c.requires.sides;
@@ -21,7 +21,7 @@ rings-smaller c = let next = next_ring c.args.arena.now.model c.args.f c.rings.l
 
 pub rings-preserved : goal.rings-preserved
 rings-preserved c =
-    let M = c.args.arena.now.model in let f = c.args.f in let p = c.args.plane in let l = c.in-Some.l in let test = loop_is_cut M p in
+    let M = c.args.arena.now.model in let f = c.args.f in let p = c.args.plane.now in let l = c.in-Some.l in let test = loop_is_cut M p in
     let rest = above l (rings_of M f) in let next = next_ring M f c.rings.last l c.in-Some.ensures in
     record {
       cut = and_joined c.rings.all _ (list_all test rest) ∙ (λ i. c.rings.all && (c.in_ok-all.ensures.cut i && list_all test rest)) ∙ ap (λ (ls : List ℕ). c.rings.all && list_all test ls) (sym next) ∙ c.rings.invariant.cut;
@@ -33,9 +33,9 @@ rings-preserved c =
 pub returns-clause-met : goal.returns-clause-met
 returns-clause-met c =
     let M = c.args.arena.now.model in let f = c.args.f in
-    loops_end M c.args.plane c.args.looked.now c.rings.looked (above c.rings.last (rings_of M f)) (rings_of M f) c.rings.invariant.walked (no_ring M f c.rings.last c.in_default.ensures)
+    loops_end M c.args.plane.now c.args.looked.now c.rings.looked (above c.rings.last (rings_of M f)) (rings_of M f) c.rings.invariant.walked (no_ring M f c.rings.last c.in_default.ensures)
 
 pub returns-clause-cut : goal.returns-clause-cut
 returns-clause-cut c =
-    let M = c.args.arena.now.model in let f = c.args.f in let test = loop_is_cut M c.args.plane in
+    let M = c.args.arena.now.model in let f = c.args.f in let test = loop_is_cut M c.args.plane.now in
     and_true c.rings.all ∙ ap (λ (ls : List ℕ). c.rings.all && list_all test ls) (sym (no_ring M f c.rings.last c.in_default.ensures)) ∙ c.rings.invariant.cut

@@ -1,0 +1,12 @@
+use Rattle.std.proofs.Common.{◌∙◌, ap}
+use Rattle.euler_operators.specs.Vectors.{height, sign_of}
+use Rattle.euler_operators.specs.Model.{has_half}
+use Rattle.shapes.specs.Faces.{start}
+use Rattle.euler_conditions.proofs.Coded.{coded}
+use Rattle.split_checks.proofs.cut_places.noted.side_of_code.Goals as goal
+
+pub start_side-requires-clause-there : goal.start_side-requires-clause-there
+start_side-requires-clause-there c = ap (has_half c.args.arena.now.model) (coded c.of_code.result c.args.code c.of_code.ensures) ∙ c.requires.there
+
+pub returns-clause-is : goal.returns-clause-is
+returns-clause-is c = c.start_side.ensures.is ∙ ap (λ k. sign_of (height c.args.plane (start c.args.arena.now.model k))) (coded c.of_code.result c.args.code c.of_code.ensures)
