@@ -5,13 +5,15 @@ use Rattle.sweeps.specs.Measure.{six_volume}
 use Rattle.sweeps.specs.PlainMachine.{Machine, start, held}
 use Rattle.plane_split.specs.Machine.{plane_with, split_refusal}
 use Rattle.command_laws.specs.Accepted.{AreLeft}
+use Rattle.command_laws.specs.Operators.{solid_in}
+use Rattle.euler_operators.specs.Conditions.{first_false}
 use Rattle.solid_measure.specs.solid_counts.Counts.{counts}
 use Rattle.split_caps.specs.Capped.{caps_of}
 use Rattle.shapes.specs.Lamina.{lamina_face}
 use Rattle.shapes.specs.glue.Glue.{glue_conditions, glue_model}
 use Rattle.shapes.proofs.split.WorkedSplits.{computed}
 use Rattle.euler_operators.specs.Table as table
-use Rattle.block_machining.specs.Machines.{blank, paired, lengthened, parted, triangular}
+use Rattle.block_machining.specs.Machines.{blank, spur, paired, lengthened, parted, triangular}
 
 -- so many numbers of each kind are taken
 record HasTaken (m : Machine) (faces loops edges vertices : ℕ) : Type 0 where
@@ -62,6 +64,15 @@ paired_taken = record { of_faces = refl; of_loops = refl; of_edges = refl; of_ve
 
 pub glue_left : AreLeft paired 0 0 1 0
 glue_left = left paired 12 12 24 16 0 0 1 0 paired_taken (omega arith) (omega arith) (omega arith) (omega arith)
+
+-- the spur is accepted, and works in the block
+pub spur_accepted : first_false (held blank) spur ≡ None
+unfolding computed blank
+spur_accepted = refl
+
+pub spur_in : solid_in (held blank) spur ≡ 1
+unfolding computed blank
+spur_in = refl
 
 pub split_accepted : split_refusal lengthened 1 (plane_with (pos 1) (pos 0) (pos 0) (neg_ℤ (pos 2))) 2 ≡ None
 unfolding computed glue_conditions glue_model blank paired lengthened

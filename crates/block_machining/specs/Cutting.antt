@@ -1,10 +1,13 @@
 -- The two parts of a solid that was cut across the x axis.
-use Rattle.std.specs.Prelude.{◌≡◌, ◌<◌, ℕ, ◌*◌, ℤ, pos, ◌+ℤ◌, ◌-ℤ◌, false, cond, filter, length}
+use Rattle.std.specs.Prelude.{◌≡◌, ◌<◌, ℕ, ◌*◌, ℤ, pos, ◌+ℤ◌, ◌-ℤ◌, int_lt, false, cond, [], filter, length}
 use Rattle.plane_split.specs.Faces.{vertices_of}
 use Rattle.plane_split.specs.Machine.{plane_with}
 use Rattle.plane_split.specs.Sides.{some_above, some_below}
 use Rattle.shapes.specs.split.Sides.{crossing_edges, face_is_above, straddles}
 use Rattle.euler_operators.specs.Items.{IsIn}
+use Rattle.shapes.specs.Vectors.{negated}
+use Rattle.sweeps.specs.Measure.{normal}
+use Rattle.sweeps.specs.Vectors.{direction, dot}
 use Rattle.sweeps.specs.Model.{Model, solid_of}
 use Rattle.sweeps.specs.Sound.{Has}
 use Rattle.command_laws.specs.Counted.{counts}
@@ -30,6 +33,11 @@ ShareSums M N d s t = let plane = plane_with (pos 1) (pos 0) (pos 0) d in
 abbrev pub ShareFaces : Model → Model → ℤ → ℕ → ℕ → Type 0
 ShareFaces M N d s t = let plane = plane_with (pos 1) (pos 0) (pos 0) d in (k : ℕ) → Has M.faces k → solid_of M k ≡ s → straddles M plane k ≡ false →
     IsTakenOver M N k (cond (face_is_above M plane k) t s)
+
+-- in a section without holes no cap below points against the plane's direction, and the cap above is its opposite
+abbrev pub FaceApart : Model → Model → ℤ → ℕ → Type 0
+FaceApart M N d s = let plane = plane_with (pos 1) (pos 0) (pos 0) d in (i : ℕ) → i < length (caps_of M s plane) → filter (λ k. k.hole) (caps_of M s plane) ≡ [] →
+    let k = cap M s plane i in (int_lt (dot (normal N k.lower) (direction plane)) (pos 0) ≡ false) × (normal N k.upper ≡ negated (normal N k.lower))
 
 -- where an edge crosses the plane some cycle of the section is no hole
 abbrev pub HasOuterCap : Model → ℤ → ℕ → Type 0

@@ -1,4 +1,5 @@
 pub mod Cutting
+pub mod Joining
 pub mod Undoing
 pub mod Listed
 pub mod Meeting

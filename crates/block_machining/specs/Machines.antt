@@ -1,5 +1,8 @@
 -- The machines through which the blocks go: what the commands of the plain machine make, one after the other.
-use Rattle.std.specs.Prelude.{pos, neg_ℤ, List, [], ◌∷◌}
+use Rattle.std.specs.Prelude.{pos, neg_ℤ, true, List, [], ◌∷◌}
+use Rattle.euler_operators.specs.declared.Corner.TheVariants.{At}
+use Rattle.euler_operators.specs.declared.Op.{Op}
+use Rattle.euler_operators.specs.declared.Op.TheVariants.{Mev}
 use Rattle.sweeps.specs.declared.Point.{Point}
 use Rattle.sweeps.specs.Vectors.{origin}
 use Rattle.sweeps.specs.PlainMachine.{Machine, start}
@@ -11,6 +14,10 @@ use Rattle.block_machining.specs.Meeting.{at}
 -- a block of 4 by 3 by 2 as solid 1
 unfoldable pub blank : Machine
 blank = block start 1 origin (pos 4) (pos 3) (pos 2)
+
+-- an edge from one of its corners to a point inside
+abbrev pub spur : Op
+spur = let corner = At (record { edge = 1; first = true }) in Mev corner corner (record { edge = 13; first = true }) 9 (record { x = pos 1; y = pos 1; z = pos 1 })
 
 -- and at its end one of 1 by 3 by 2 as solid 2
 unfoldable pub paired : Machine

@@ -11,11 +11,12 @@ ghost use Rattle.sweeps.specs.Measure.{six_volume};
 ghost use Rattle.sweeps.specs.Model.{empty_model};
 ghost use Rattle.sweeps.specs.Sound.{Has};
 
-use crate::machining::{but_for_memory, cut, joined, raised, tried};
+use crate::machining::{acted, but_for_memory, cut, joined, raised, tried};
 use command_laws::{
     blocks_fit, blocks_leave_alone, blocks_make_faces, faces_are_kept, faces_lie_flat, faces_stand,
     glues_fit, shapes_are_counted, solids_are_there, sweeps_fit, undos_go_back,
 };
+use euler_operators::{Corner, HalfEdge};
 use std::alloc::{AllocError, Global};
 use sweeps::{Op, Point, Session, block, block_measures};
 
@@ -59,6 +60,26 @@ pub fn machined(alloc: Global) -> Result<Session, AllocError>
     but_for_memory(swept)?;
     session.undo().unwrap();
     Ok(tried(session, Op::Kvfs(1)))
+}
+
+/// The block with a spur: an edge from one of its corners to a point inside. So it has a vertex and an edge more.
+pub fn spurred(alloc: Global) -> Result<Session, AllocError>
+    ensures counts { IfOk result (λ session. counts (held session.machine) 1 ≡ record { v = 9; e = 13; f = 6; r = 0; sum = pos 2 }) }
+    ensures depth { IfOk result (λ session. depth session.machine ≡ 2) }
+{
+    let session = blank(alloc)?;
+    let corner = Corner::At(HalfEdge {
+        edge: 1,
+        first: true,
+    });
+    let inside = Point { x: 1, y: 1, z: 1 };
+    let edge = HalfEdge {
+        edge: 13,
+        first: true,
+    };
+    let (session, done) = acted(session, Op::Mev(corner, corner, edge, 9, inside));
+    but_for_memory(done)?;
+    Ok(session)
 }
 
 /// The block, and at its end one of 1 by 3 by 2 as solid 2. Its faces have the numbers 7 to 12; the side at the least x is face 12. The

@@ -12,7 +12,7 @@
 //! Of functions that call the kernel as a stranger would, from contracts and laws: none of its commands is refused, so that the
 //! only error is that memory is. A block, a lamina, a sweep and a glue are accepted by the laws of `command_laws`, the cut by the
 //! conditions of the plain machine, computed. The block that it makes has 144 as its six volumes, and eight vertices,
-//! twelve edges and six faces; a swept face, with rings or without, adds three times its normal along the vector, and keeps its
+//! twelve edges and six faces, with a spur one vertex and one edge more; a swept face, with rings or without, adds three times its normal along the vector, and keeps its
 //! loops with their corners moved; the solid that comes of two glued faces has the six volumes of both; the parts of a solid cut
 //! by a plane x + d = 0 are there, share its six volumes, lie on either side of it and are closed by caps on it, and each face
 //! that the plane leaves whole is of the part on its side. What becomes of
@@ -29,7 +29,7 @@ mod lists;
 mod machining;
 mod wedges;
 
-pub use blocks::{machined, parted, taken_back};
+pub use blocks::{machined, parted, spurred, taken_back};
 pub use lists::made;
 pub use machining::known;
 pub use wedges::wedge;

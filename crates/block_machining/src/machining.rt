@@ -3,12 +3,13 @@ ghost use Rattle.std.specs.Prelude.{◌≡◌, ◌≢◌, pos, ◌+ℤ◌, ◌-�
 ghost use Rattle.command_laws.specs.Counted.{counts};
 ghost use Rattle.command_laws.specs.LeftAlone.{KeepsEdges, KeepsLoops, Each, OfOthers, OfOthersBut};
 ghost use Rattle.command_laws.specs.RingedFaces.{IsFarFace};
-ghost use Rattle.block_machining.specs.Cutting.{AreCapped, HasOuterCap, LieOnEitherSide, ShareFaces, ShareSums};
-ghost use Rattle.block_machining.specs.Undoing.{IsOneCommand};
+ghost use Rattle.block_machining.specs.Cutting.{AreCapped, FaceApart, HasOuterCap, LieOnEitherSide, ShareFaces, ShareSums};
+ghost use Rattle.block_machining.specs.Joining.{TakesOver};
+ghost use Rattle.block_machining.specs.Undoing.{AreCounted, IsOneCommand};
 ghost use Rattle.gluing.specs.Machine.{glue, glue_refusal};
 ghost use Rattle.plane_split.specs.Machine.{plane_with, split, split_refusal};
 ghost use Rattle.sweeps.specs.Machine.{sweep_refusal};
-ghost use Rattle.sweeps.specs.PlainMachine.{held};
+ghost use Rattle.sweeps.specs.PlainMachine.{act, act_refusal, held};
 ghost use Rattle.sweeps.specs.Measure.{normal, six_volume};
 ghost use Rattle.sweeps.specs.Model.{solid_of};
 ghost use Rattle.sweeps.specs.Sound.{Sound, Has};
@@ -16,12 +17,13 @@ ghost use Rattle.sweeps.specs.Vectors.{dot};
 
 use call_lists::Refusal;
 use command_laws::{
-    glues_join_counts, glues_leave_alone, ringed_sweeps_make_faces, solids_are_there,
-    sweeps_add_counts, sweeps_leave_alone,
+    glues_join_counts, glues_keep_and_join, glues_leave_alone, glues_take_faces_over,
+    operators_count, ringed_sweeps_make_faces, solids_are_there, sweeps_add_counts,
+    sweeps_leave_alone,
 };
 use gluing::{glue, glue_measures, six_volume};
 use plane_split::{split, splits_are_held};
-use split_caps::{caps_are_numbered, caps_close_the_parts, splits_share_counts};
+use split_caps::{caps_are_numbered, caps_close_the_parts, caps_face_apart, splits_share_counts};
 use split_frames::{splits_leave_alone, splits_share_faces};
 use std::alloc::{AllocError, Global};
 use sweeps::{Draft, Failure, Op, Point, Session, sweep, sweep_measures};
@@ -53,20 +55,25 @@ pub fn raised(
     sweep(alloc, session, face, by)
 }
 
-/// A face glued to a face of another solid. The solid of the first has the six volumes of both then. Undo gives the model before.
+/// A face glued to a face of another solid. The solid of the first has the six volumes of both then, and the other faces of the other
+/// solid. Undo gives the model before.
 pub fn joined(alloc: Global, session: Session, f: u32, other: u32) -> (Session, Result<(), Failure>)
     ensures sound { Sound (held session.machine) }
     ensures made { OnOk result.1 (result.0.machine ≡ glue session.machine f other) }
     ensures refused { (refusal : Refusal) → (result.1 ≡ Err (Failure.Refused refusal)) → (glue_refusal session.machine f other ≡ Some refusal) }
     ensures volume { OnOk result.1 (six_volume (held result.0.machine) (solid_of (held session.machine) f) ≡ six_volume (held session.machine) (solid_of (held session.machine) f) +ℤ six_volume (held session.machine) (solid_of (held session.machine) other)) }
     ensures sum { OnOk result.1 ((counts (held result.0.machine) (solid_of (held session.machine) f)).sum ≡ (counts (held session.machine) (solid_of (held session.machine) f)).sum +ℤ (counts (held session.machine) (solid_of (held session.machine) other)).sum -ℤ pos 2) }
+    ensures there { OnOk result.1 (Has (held result.0.machine).solids (solid_of (held session.machine) f)) }
+    ensures taken { OnOk result.1 (TakesOver (held session.machine) (held result.0.machine) f other) }
     ensures kept { OnOk result.1 (KeepsLoops (OfOthersBut (held session.machine) (solid_of (held session.machine) other) f) (held session.machine) (held result.0.machine)) }
     ensures undone { OnOk result.1 (IsOneCommand session.machine result.0.machine) }
     ensures err { OnErr result.1 (result.0 ≡ session) }
 {
     glue_measures();
     glues_join_counts();
+    glues_keep_and_join();
     glues_leave_alone();
+    glues_take_faces_over();
     glue(alloc, session, f, other)
 }
 
@@ -88,6 +95,7 @@ pub fn cut(
     ensures caps { OnOk result.1 (AreCapped (held session.machine) (held result.0.machine) d s upper) }
     ensures sum { OnOk result.1 (ShareSums (held session.machine) (held result.0.machine) d s upper) }
     ensures whole { OnOk result.1 (ShareFaces (held session.machine) (held result.0.machine) d s upper) }
+    ensures apart { OnOk result.1 (FaceApart (held session.machine) (held result.0.machine) d s) }
     ensures crossed { OnOk result.1 (HasOuterCap (held session.machine) d s) }
     ensures kept { OnOk result.1 (KeepsLoops (OfOthers (held session.machine) s) (held session.machine) (held result.0.machine)) }
     ensures undone { OnOk result.1 (IsOneCommand session.machine result.0.machine) }
@@ -96,6 +104,7 @@ pub fn cut(
     splits_are_held();
     caps_are_numbered();
     caps_close_the_parts();
+    caps_face_apart();
     splits_share_counts();
     splits_share_faces();
     splits_leave_alone();
@@ -112,6 +121,21 @@ pub(crate) fn but_for_memory(done: Result<(), Failure>) -> Result<(), AllocError
         Err(Failure::Memory(error)) => Err(error),
         Err(Failure::Refused(_)) => unreachable!(),
     }
+}
+
+/// An operator as a command. Where it makes or kills an edge, a face or a ring, what the solids count then is told from what they did. Undo
+/// gives the model before.
+pub fn acted(mut session: Session, op: Op) -> (Session, Result<(), Failure>)
+    ensures made { OnOk result.1 (result.0.machine ≡ act session.machine op) }
+    ensures refused { (refusal : Refusal) → (result.1 ≡ Err (Failure.Refused refusal)) → (act_refusal session.machine op ≡ Some refusal) }
+    ensures counted { OnOk result.1 (AreCounted (held session.machine) (held result.0.machine) op) }
+    ensures undone { OnOk result.1 (IsOneCommand session.machine result.0.machine) }
+    ensures err { OnErr result.1 (result.0 ≡ session) }
+{
+    session.stays_consistent();
+    operators_count();
+    let done = session.act(op);
+    (session, done)
 }
 
 /// An operator tried in a draft that is given up, whether it was accepted, refused or stopped by memory: the session is as it was.

@@ -2,7 +2,7 @@
 //! Machines blocks and says what they measure. What is said of volumes and commands is proved before it is written: each function has it from
 //! `block_machining`, which makes the blocks. No command in it is refused: the only error is that memory is.
 
-use block_machining::{known, machined, made, parted, taken_back, wedge};
+use block_machining::{known, machined, made, parted, spurred, taken_back, wedge};
 use call_lists::Told;
 use std::alloc::AllocError;
 use std::process::ExitCode;
@@ -14,6 +14,15 @@ fn tell_block(rt: &HostRuntime) -> Result<(), AllocError> {
     let (behind, ahead) = (session.depth(), session.ahead());
     prove!(volume == 24 && behind == 1 && ahead == 1);
     let _ = println!(rt; "a block of volume {volume}: {behind} command to undo, {ahead} to redo");
+    Ok(())
+}
+
+/// Says how many commands a block with a spur has.
+fn tell_spur(rt: &HostRuntime) -> Result<(), AllocError> {
+    let session = spurred(rt.alloc())?;
+    let commands = session.depth();
+    prove!(commands == 2);
+    let _ = println!(rt; "with a spur: {commands} commands to undo");
     Ok(())
 }
 
@@ -60,6 +69,7 @@ fn tell_none(rt: &HostRuntime) -> Result<(), AllocError> {
 
 fn main(rt: HostRuntime) -> ExitCode {
     let told = tell_block(&rt)
+        .and_then(|()| tell_spur(&rt))
         .and_then(|()| tell_wedge(&rt))
         .and_then(|()| tell_parts(&rt))
         .and_then(|()| tell_none(&rt))

@@ -3,7 +3,7 @@ use Rattle.std.proofs.lemmas.Int.{to_z-of_z}
 use Rattle.std.proofs.lemmas.Result.{on_ok_weaker}
 use Rattle.plane_split.specs.Machine.{plane_with, split, split_refusal}
 use Rattle.sweeps.specs.PlainMachine.{held}
-use Rattle.block_machining.specs.Cutting.{AreCapped, HasOuterCap, LieOnEitherSide, ShareFaces, ShareSums}
+use Rattle.block_machining.specs.Cutting.{AreCapped, FaceApart, HasOuterCap, LieOnEitherSide, ShareFaces, ShareSums}
 use Rattle.block_machining.proofs.Accepted.{accepted_undone}
 use Rattle.block_machining.proofs.machining.cut.Goals as goal
 
@@ -51,3 +51,8 @@ returns-clause-made c = on_ok_weaker c.split.result.1 (λ made.
 pub returns-clause-refused : goal.returns-clause-refused
 returns-clause-refused c = λ refusal is.
     subst (λ d. split_refusal c.args.session.machine c.args.s (plane_with (pos 1) (pos 0) (pos 0) d) c.args.upper ≡ Some refusal) (to_z-of_z w64 c.args.d c.ranges.d) (c.split.ensures.refused refusal is)
+
+pub returns-clause-apart : goal.returns-clause-apart
+returns-clause-apart c = on_ok_weaker c.split.result.1 (λ made.
+    subst (λ d. FaceApart (held c.args.session.machine) (held c.split.result.0.machine) d c.args.s) (to_z-of_z w64 c.args.d c.ranges.d)
+    (λ i. c.caps_face_apart.ensures.plain c.args.session.machine c.split.result.0.machine c.args.s _ c.args.upper i c.split.ensures.sound made)) c.split.ensures.ok

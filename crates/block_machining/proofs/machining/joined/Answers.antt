@@ -20,3 +20,9 @@ returns-clause-made c = on_ok_weaker c.glue.result.1 (λ made. made.1) c.glue.en
 
 pub returns-clause-refused : goal.returns-clause-refused
 returns-clause-refused c = λ refusal is. c.glue.ensures.refused refusal is
+
+pub returns-clause-there : goal.returns-clause-there
+returns-clause-there c = on_ok_weaker c.glue.result.1 (λ made. (c.glues_keep_and_join.ensures.solids c.args.session.machine c.glue.result.0.machine c.args.f c.args.other c.glue.ensures.sound made).0) c.glue.ensures.ok
+
+pub returns-clause-taken : goal.returns-clause-taken
+returns-clause-taken c = on_ok_weaker c.glue.result.1 (λ made k. c.glues_take_faces_over.ensures c.args.session.machine c.glue.result.0.machine c.args.f c.args.other k c.glue.ensures.sound made) c.glue.ensures.ok

@@ -1,0 +1,24 @@
+use Rattle.std.proofs.Common.{◌≡◌, suc, refl, sym, ap, ◌∙◌}
+use Rattle.sweeps.specs.Model.{Model}
+use Rattle.sweeps.specs.PlainMachine.{act_refusal, held}
+use Rattle.command_laws.specs.Counted.{counts}
+use Rattle.command_laws.specs.Operators.{counted_on, solid_in}
+use Rattle.block_machining.specs.Machines.{spur}
+use Rattle.block_machining.proofs.Accepted.{for_no_reason}
+use Rattle.block_machining.proofs.Worked.{spur_accepted, spur_in}
+use Rattle.block_machining.proofs.blocks.spurred.Goals as goal
+
+pub but_for_memory-requires : goal.but_for_memory-requires
+but_for_memory-requires c refusal is =
+    for_no_reason (act_refusal c.in_ok-session.session.machine spur) refusal (ap (λ m. act_refusal m spur) c.in_ok-session.ensures.made ∙ spur_accepted) (c.acted-session.ensures.refused refusal is)
+
+pub returns-clause-counts : goal.returns-clause-counts
+returns-clause-counts c =
+    let M : Model = held c.in_ok-session.session.machine in
+    let N : Model = held c.acted-session.result.0.machine in
+    let at : solid_in M spur ≡ 1 = ap (λ m. solid_in (held m) spur) c.in_ok-session.ensures.made ∙ spur_in in
+    let counted = rw c.in_ok-but_for_memory.ensures at c.acted-session.ensures.counted in
+    ap (counts N) (sym at) ∙ counted.inner refl ∙ ap (λ s. counted_on spur (counts M s)) at ∙ ap (counted_on spur) c.in_ok-session.ensures.counts
+
+pub returns-clause-depth : goal.returns-clause-depth
+returns-clause-depth c = (rw c.in_ok-but_for_memory.ensures at c.acted-session.ensures.undone).0 ∙ ap suc c.in_ok-session.ensures.depth
