@@ -49,7 +49,7 @@ abbrev pub Within : ℕ → Model → Model → Type 0
 Within s M N = Agree M N (is_of s) (is_of s)
 
 -- a loop with its face and its content has its row
-same_row : (M N : Model) (q : ℕ) → Has M.loops q → table.has N.loops q ≡ table.has M.loops q → face_of N q ≡ face_of M q → content N q ≡ content M q → table.get N.loops q ≡ table.get M.loops q
+pub same_row : (M N : Model) (q : ℕ) → Has M.loops q → table.has N.loops q ≡ table.has M.loops q → face_of N q ≡ face_of M q → content N q ≡ content M q → table.get N.loops q ≡ table.get M.loops q
 same_row M N q there has face same = loop_row N q (has ∙ there) ∙ (λ i. Some (record { face = face i; content = same i })) ∙ sym (loop_row M q there)
 
 -- an edge with its tails has its row

@@ -30,3 +30,4 @@ mod AcceptedMore
 mod GluedFlat
 mod Inner
 mod InnerCounts
+mod InnerFaces

@@ -1,14 +1,15 @@
--- What `counts` answers after one operator, an `act` of a session or a `step` of a draft.
-use Rattle.std.specs.Prelude.{◌≡◌, ◌≢◌, ℕ, ◌+◌, ◌-◌, pos, ◌+ℤ◌, ◌-ℤ◌, Bool, true, false, None}
-use Rattle.euler_operators.specs.HalfEdge.{code}
+-- What `counts` answers after one operator, an `act` of a session or a `step` of a draft, and which faces stand.
+use Rattle.std.specs.Prelude.{◌≡◌, ◌≢◌, ℕ, ◌+◌, ◌-◌, pos, ◌+ℤ◌, ◌-ℤ◌, Bool, true, false, List, [], ◌∷◌, None}
+use Rattle.euler_operators.specs.HalfEdge.{code, mate}
 use Rattle.euler_operators.specs.Model.{Model, face_of, solid_of}
-use Rattle.euler_operators.specs.Sound.{Sound}
+use Rattle.euler_operators.specs.Sound.{Sound, Has}
 use Rattle.euler_operators.specs.declared.Op.{Op}
 use Rattle.euler_operators.specs.declared.Op.TheVariants.{Mev, Kev, Mef, Kef, Kemr, Mekr, Kfmrh, Mfkrh}
-use Rattle.euler_operators.specs.Conditions.{corner_loop, face_at, first_false}
+use Rattle.euler_operators.specs.Conditions.{corner_loop, face_at, first_false, lists}
 use Rattle.euler_operators.specs.Effect.{effect}
 use Rattle.solid_measure.specs.declared.solid_counts.Tally.{Tally}
 use Rattle.solid_measure.specs.solid_counts.Counts.{counts}
+use Rattle.command_laws.specs.LeftAlone.{StandsAsBefore}
 
 -- an operator that isn't refused leads from model M to model N
 abbrev pub IsStep : Model → Op → Model → Type 0
@@ -56,3 +57,26 @@ OperatorsCount = (M N : Model) (op : Op) → Sound M → IsStep M op N → is_in
 -- and every other solid counts as it did
 abbrev pub OperatorsKeepCounts : Type 0
 OperatorsKeepCounts = (M N : Model) (op : Op) (u : ℕ) → Sound M → IsStep M op N → is_inner op ≡ true → u ≢ solid_in M op → counts N u ≡ counts M u
+
+-- the operators that leave all vertices, and the faces that they change, make or kill
+abbrev pub leaves_vertices : Op → Bool
+leaves_vertices (Mef g k h f l) = true
+leaves_vertices (Kef h) = true
+leaves_vertices (Kemr h l) = true
+leaves_vertices (Mekr c d h) = true
+leaves_vertices (Kfmrh f g) = true
+leaves_vertices (Mfkrh l f) = true
+leaves_vertices op = false
+
+abbrev pub faces_met : Model → Op → List ℕ
+faces_met M (Mef g k h f l) = face_at M (code g) ∷ f ∷ []
+faces_met M (Kef h) = face_at M (code h) ∷ face_at M (mate (code h)) ∷ []
+faces_met M (Kemr h l) = face_at M (code h) ∷ []
+faces_met M (Mekr c d h) = face_of M (corner_loop M c) ∷ []
+faces_met M (Kfmrh f g) = f ∷ g ∷ []
+faces_met M (Mfkrh l f) = face_of M l ∷ f ∷ []
+faces_met M op = []
+
+-- every other face stands as it did
+abbrev pub OperatorsKeepShapes : Type 0
+OperatorsKeepShapes = (M N : Model) (op : Op) (k : ℕ) → Sound M → IsStep M op N → leaves_vertices op ≡ true → Has M.faces k → lists (faces_met M op) k ≡ false → StandsAsBefore M N k

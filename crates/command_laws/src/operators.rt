@@ -1,5 +1,5 @@
-//! What one operator makes of the counts, in a session or a draft.
-ghost use Rattle.command_laws.specs.Operators.{OperatorsCount, OperatorsKeepCounts};
+//! What one operator makes of the counts, in a session or a draft, and which faces it leaves.
+ghost use Rattle.command_laws.specs.Operators.{OperatorsCount, OperatorsKeepCounts, OperatorsKeepShapes};
 
 /// An operator that makes or kills an edge, a face or a ring within a solid changes what `counts` answers of it: mev makes a vertex and an
 /// edge, mef an edge and a face, kemr a ring of an edge, and mfkrh a face of a ring; kev, kef, mekr and kfmrh take that back. Every other
@@ -7,4 +7,9 @@ ghost use Rattle.command_laws.specs.Operators.{OperatorsCount, OperatorsKeepCoun
 pub fn operators_count()
     ensures inner { OperatorsCount }
     ensures others { OperatorsKeepCounts }
+{}
+
+/// After mef, kef, kemr, mekr, kfmrh and mfkrh each face that the operator doesn't change, make or kill stands as it did.
+pub fn operators_leave_faces()
+    ensures { OperatorsKeepShapes }
 {}
