@@ -594,9 +594,16 @@ class RandomLargerDrafts(unittest.TestCase):
         random.choice((
             lambda: bench.block((x, y, 20), (size, 8, 8)), lambda: bench.lamina([(x, y, 0), (x + size, y, 0), (x, y + size, 0)]),
             lambda: bench.sweep(face, [2 * (part > 0) - 2 * (part < 0) for part in face.normal]),
-            lambda: bench.glue(face, random.choice(bench.faces())), lambda: bench.split(solid, (1, 0, 0, -x - 2)),
+            lambda: bench.glue(face, random.choice(bench.faces())), self.glued, lambda: bench.split(solid, (1, 0, 0, -x - 2)),
             lambda: bench.split(solid, (1, -1, 0, 0)), lambda: bench.split(solid, (0, 2, 3, -17), scale=True),
             lambda: bench.ask(f'split {solid.number} 0 0 1 -{size} {random.randrange(50, 99)}'), lambda: bench.ask(f'sweep {face.number} 0 0 {x}')))()
+
+    def glued(self):
+        """Two blocks are glued, cut in two, and glued again."""
+        lower, upper = (self.bench.block((0, 0, z), (8, 8, 4)) for z in (80, 84))
+        self.bench.glue(lower.top, upper.bottom)
+        made = self.bench.split(lower, (1, 1, 0, -self.random.randrange(4, 12)))
+        self.bench.glue(made.lower_caps[0], made.upper_caps[0])
 
     def feature(self, _):
         bench, random = self.bench, self.random
