@@ -1,5 +1,6 @@
 """Drafts: their steps are one command, or leave no trace; over the program as over the library."""
 
+import ctypes
 import os
 import tempfile
 import unittest
@@ -291,8 +292,8 @@ class Drafts(unittest.TestCase):
         self.half_has_left_no_trace()
 
 
-class TwelveCommands(unittest.TestCase):
-    """A hole through a block, which gets longer by a block that is cut and glued on: twelve commands, with numbers of their own, in a draft."""
+class Twelve(unittest.TestCase):
+    """A hole through a block, which gets longer by a block that is cut and glued on: twelve commands, with numbers of their own."""
 
     def setUp(self):
         self.bench = bench = Workbench(program())
@@ -307,7 +308,8 @@ class TwelveCommands(unittest.TestCase):
             lambda: bench.mev(Lone(20), Lone(20), (2, 5, 9), edge=21, vertex=21), lambda: bench.mev(-21, -21, (5, 5, 9), edge=22, vertex=22),
             lambda: bench.mev(-22, -22, (5, 2, 9), edge=23, vertex=23), lambda: bench.mef(-23, 21, edge=24, face=20, loop=21),
             lambda: bench.sweep(20, (0, 0, -9)), lambda: bench.kfmrh(2, 20), lambda: bench.block((9, 0, 0), (6, 9, 9), solid=2),
-            lambda: bench.split(2, (1, 0, 0, -12), above=3), lambda: bench.glue(4, self.face(2, 9)), lambda: bench.glue(self.face(1, 12), self.face(3, 12))]
+            lambda: bench.split(2, (1, 0, 0, -12), above=3), lambda: bench.glue(4, self.face(2, 9)),
+            lambda: bench.glue(self.face(1, 12), self.face(3, 12))]
         self.models = [self.held]
         for command in self.commands:
             command()
@@ -316,8 +318,12 @@ class TwelveCommands(unittest.TestCase):
         for _ in self.commands:
             bench.undo()
         self.assertEqual(bench.listing(), self.held)
-        bench.block((0, 20, 0), (1, 1, 1), solid=2)
-        bench.undo()
+        self.leave_a_block()
+
+    def leave_a_block(self):
+        """A block can be redone."""
+        self.bench.block((0, 20, 0), (1, 1, 1), solid=2)
+        self.bench.undo()
 
     def face(self, solid, x):
         """The face of a solid across the x axis at a place."""
@@ -343,6 +349,10 @@ class TwelveCommands(unittest.TestCase):
         self.bench.redo()
         self.assertEqual(self.bench.listing(), self.both)
         self.bench.undo()
+
+
+class TwelveCommands(Twelve):
+    """All of them in a draft."""
 
     def test_in_a_draft(self):
         with self.bench.draft():
@@ -402,10 +412,7 @@ class TwelveCommands(unittest.TestCase):
             self.require_nothing()
         else:
             self.require_made()
-        self.bench.redo() if is_caught else None
-        self.bench.undo() if is_caught else None
-        self.bench.block((0, 20, 0), (1, 1, 1), solid=2)
-        self.bench.undo()
+        self.leave_a_block()
 
     def test_marks_within_it(self):
         for place in range(12):
@@ -429,6 +436,92 @@ class TwelveCommands(unittest.TestCase):
                     self.give(end=place)
                 raise GivenUp
             self.require_nothing()
+
+
+class Heap(ctypes.Structure):
+    """A heap of libgwb.so: that of the C library, of which one request is refused."""
+
+    TAKEN = ctypes.PYFUNCTYPE(ctypes.c_void_p, ctypes.c_void_p, ctypes.c_size_t)
+    CHANGED = ctypes.PYFUNCTYPE(ctypes.c_void_p, ctypes.c_void_p, ctypes.c_void_p, ctypes.c_size_t)
+    RELEASED = ctypes.PYFUNCTYPE(None, ctypes.c_void_p, ctypes.c_void_p)
+    _fields_ = [('allocate', TAKEN), ('reallocate', CHANGED), ('release', RELEASED), ('user', ctypes.c_void_p)]
+
+    def __init__(self):
+        system = ctypes.CDLL(None)
+        for name, words in (('malloc', [ctypes.c_size_t]), ('realloc', [ctypes.c_void_p, ctypes.c_size_t]), ('free', [ctypes.c_void_p])):
+            getattr(system, name).argtypes, getattr(system, name).restype = words, None if name == 'free' else ctypes.c_void_p
+        self.requests, self.refused = 0, None
+        super().__init__(self.TAKEN(lambda _, size: self.taken(system.malloc, size)),
+                         self.CHANGED(lambda _, block, size: self.taken(system.realloc, block, size)),
+                         self.RELEASED(lambda _, block: system.free(block)), None)
+
+    def taken(self, take, *words):
+        self.requests += 1
+        return None if self.requests - 1 == self.refused else take(*words)
+
+    def refuse(self, request):
+        """Refuses a request, counted from 0 on, and no other one."""
+        self.requests, self.refused = 0, request
+
+
+class OutOfMemory(Twelve):
+    """Over the library each request for memory in the draft is refused in turn."""
+
+    def setUp(self):
+        if not program().endswith('.so'):
+            self.skipTest('the program takes its memory in a process of its own')
+        library, self.heap = ctypes.PyDLL(program()), Heap()
+        library.gwb_use_heap.argtypes, library.gwb_use_heap.restype = [ctypes.c_void_p], ctypes.c_void_p
+        before = library.gwb_use_heap(ctypes.addressof(self.heap))
+        self.addCleanup(library.gwb_use_heap, before)
+        super().setUp()
+
+    def test_each_request_is_refused_in_turn(self):
+        self.caught(None)
+        requests = self.requests
+        told = sum(self.caught(request) for request in range(requests))
+        self.assertGreater(told, 30)
+        for request in range(requests):
+            self.not_caught(request)
+
+    def caught(self, request):
+        """The command for which memory is refused is given again; whether there was one."""
+        refusals = 0
+        self.heap.refuse(request)
+        try:
+            with self.bench.draft():
+                for place, command in enumerate(self.commands):
+                    try:
+                        command()
+                    except MemoryRefused:
+                        refusals += 1
+                        self.assertEqual((self.bench.listing(), in_mirror(self.bench)), (self.models[place],) * 2)
+                        command()
+        except MemoryRefused:
+            self.heap.refuse(None)
+            self.require_nothing()
+            return True
+        self.assertLess(refusals, 2)
+        self.requests = self.heap.requests
+        self.heap.refuse(None)
+        self.require_made()
+        self.leave_a_block()
+        return refusals > 0
+
+    def not_caught(self, request):
+        """The draft is given up by it."""
+        self.heap.refuse(request)
+        try:
+            with self.bench.draft():
+                self.give()
+        except MemoryRefused:
+            self.heap.refuse(None)
+            self.require_nothing()
+        else:
+            self.heap.refuse(None)
+            self.require_made()
+            self.leave_a_block()
+        self.assertEqual(self.bench.listing(), self.held)
 
 
 class RandomDrafts(unittest.TestCase):

@@ -179,6 +179,27 @@ class Interrupted(unittest.TestCase):
                 bench.undo()
                 self.assertEqual(bench.listing(), held)
 
+    def test_a_call_left_and_caught_in_a_draft_within_another_that_is_given_up(self):
+        for line in range(3, 300, 11):
+            with self.subTest(line), Workbench(program()) as bench:
+                block = bench.block((0, 0, 0), (20, 20, 20))
+                held = bench.listing()
+                with bench.draft():
+                    bench.hole(block.top, SQUARE)
+                    made = bench.listing()
+                    with self.assertRaises(ZeroDivisionError), bench.draft():
+                        bench.block((50, 0, 0), (2, 2, 2))
+                        with self.assertRaises(Left), Interrupter(line):
+                            bench.split(1, (0, 0, 1, -3))
+                            bench.volume(1), bench.pocket(block.top, [(16, 16, 20), (17, 16, 20), (17, 17, 20)], 3)
+                        bench.mvfs((3, 3, 3))
+                        1 / 0
+                    self.assertEqual((bench.listing(), in_mirror(bench)), (made, made))
+                    bench.mvfs((3, 3, 3))
+                self.assertEqual(len(bench.solids()), 2)
+                bench.undo()
+                self.assertEqual(bench.listing(), held)
+
     def test_a_handler_that_gives_a_call_in_a_call(self):
         with Workbench(program()) as bench:
             bench.block((0, 0, 0), (2, 2, 2))
