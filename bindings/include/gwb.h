@@ -392,8 +392,8 @@ static inline uint32_t gwb_half_edge_loop(const gwb *g, uint32_t half_edge, uint
     return gwb_lent_half_edge_loop(&copy, half_edge, loop);
 }
 
-/** A half-edge that starts at a vertex. It looks at the edges one after another; who needs many reads all edges once. GWB_ABSENT also where
- * the vertex has no edge. A reader. */
+/** A half-edge that starts at a vertex. It looks first where an edge of it is likely, by the numbers, and then at all others; who needs many
+ * reads all edges once. GWB_ABSENT also where the vertex has no edge: then it looks at all edges. A reader. */
 static inline uint32_t gwb_vertex_half_edge(const gwb *g, uint32_t vertex, uint32_t *half_edge)
 {
     gwb copy = *g;

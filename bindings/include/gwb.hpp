@@ -1104,8 +1104,8 @@ public:
     [[nodiscard]] RangeOf<EdgesOfFace> edges_of(Face face) const { return range(EdgesOfFace(face)); }
     /// The half-edges of a loop in their order round it, from any of them on.
     [[nodiscard]] RangeOf<RoundLoop> around(Loop loop) const { return range(RoundLoop(loop)); }
-    /// The half-edges that start at a vertex, in their order round it, from any of them on. It looks for the first among all edges; where a
-    /// half-edge is at hand, around(half_edge) needs no search.
+    /// The half-edges that start at a vertex, in their order round it, from any of them on. It looks for the first as gwb_vertex_half_edge
+    /// does; where a half-edge is at hand, around(half_edge) needs no search.
     [[nodiscard]] RangeOf<RoundVertex> around(Vertex vertex) const { return range(RoundVertex(vertex)); }
     /// The half-edges that start where this one does, in their order round that vertex, from it on.
     [[nodiscard]] RangeOf<RoundVertex> around(HalfEdge half_edge) const { return range(RoundVertex(half_edge)); }

@@ -170,8 +170,8 @@ impl Readers {
         iter::successors(first, move |&at| self.next(at).filter(|next| Some(*next) != first))
     }
 
-    /// The half-edges that start at a vertex, in their order round it, from any of them on. It looks for the first among all edges; where a
-    /// half-edge is at hand, [`around_start`](Self::around_start) needs no search.
+    /// The half-edges that start at a vertex, in their order round it, from any of them on. It looks for the first where it is
+    /// likely, and then among all; where a half-edge is at hand, [`around_start`](Self::around_start) needs no search.
     pub fn around_vertex(&self, vertex: Vertex) -> impl Iterator<Item = HalfEdge> + '_ {
         self.half_edge(vertex.0, gwb_sys::gwb_lent_vertex_half_edge).into_iter().flat_map(move |first| self.around_start(first))
     }

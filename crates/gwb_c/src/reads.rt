@@ -188,7 +188,7 @@ fn find_vertex_half_edge(slot: &Slot, vertex: u32, item: &mut u32) -> u32
     let Some(stage) = &slot.stage else {
         return ABSENT;
     };
-    match session_slots::vertex_half_edge(stage.arena(), vertex) {
+    match session_slots::vertex_half_edge(stage.arena(), stage.greatest(), vertex) {
         Some(found) => {
             *item = found;
             FOUND
@@ -197,7 +197,7 @@ fn find_vertex_half_edge(slot: &Slot, vertex: u32, item: &mut u32) -> u32
     }
 }
 
-/// A half-edge that starts at a vertex. It looks at each edge up to the first that has one.
+/// A half-edge that starts at a vertex. It looks first where one is likely, and at all edges where there is none.
 #[unsafe(no_mangle)]
 pub extern "C" fn gwb_lent_vertex_half_edge(gwb: &mut GwbLent, vertex: u32, item: &mut u32) -> u32
     ensures state { gwb.new.lent.loan ≡ gwb.old.lent.loan }

@@ -1,10 +1,12 @@
 -- The two half-edges of an edge, and what starts at a vertex.
-use Rattle.std.proofs.Common.{◌≡◌, ◌≢◌, ◌⊎◌, inl, inr, ℕ, ◌+◌, ◌*◌, ◌<◌, ◌≤◌, true, false, ap, sym, ◌∙◌, arith, true≢false, None}
+use Rattle.std.proofs.Common.{◌≡◌, ◌≢◌, ◌⊎◌, inl, inr, ℕ, ◌+◌, ◌*◌, ◌<◌, ◌≤◌, true, false, ap, sym, ◌∙◌, arith, true≢false, Option, Some, None}
 use Rattle.std.proofs.lemmas.Bool.{cases_eq}
 use Rattle.euler_operators.specs.Table as table
 use Rattle.euler_operators.specs.HalfEdge.{edge_of}
 use Rattle.euler_operators.specs.Model.{Model, has_half, tail}
-use Rattle.session_slots.specs.Spokes.{IsStart, IsStartOf}
+use Rattle.euler_operators.specs.Sound.{Sound}
+use Rattle.euler_operators.proofs.Models.{number_fits, number_real}
+use Rattle.session_slots.specs.Spokes.{IsStart, IsStartOf, IsStartWithin}
 
 pub first : (e : ℕ) → edge_of (2 * e) ≡ e
 unfolding edge_of
@@ -28,20 +30,31 @@ pub neither : (M : Model) (e v a b : ℕ) → a ≡ tail M (2 * e) → b ≡ tai
 neither M e v a b one two na nb = λ h of at.
     elim (either h e of) [ inl s ↦ na (one ∙ ap (tail M) (sym s) ∙ at) | inr s ↦ nb (two ∙ ap (tail M) (sym s) ∙ at) ]
 
--- no half-edge of an edge up to n starts at v
-abbrev pub NoneUpTo : Model → ℕ → ℕ → Type 0
-NoneUpTo M v n = (h : ℕ) → edge_of h ≤ n → has_half M h ≡ true → tail M h ≢ v
+-- none between a number and itself
+pub none_yet : (M : Model) (v n : ℕ) → IsStartWithin v n n M None
+none_yet M v n = λ h there above within. absurd (omega (arith, above, within))
 
-pub none_at_all : (M : Model) (v n : ℕ) → NoneUpTo M v n → ((k : ℕ) → n < k → table.has M.edges k ≡ false) → IsStart v M None
-none_at_all M v n up beyond = λ h there at.
-    elim (lt_or_le n (edge_of h)) [ inl above ↦ true≢false (sym there ∙ beyond (edge_of h) above) | inr below ↦ up h below there at ]
+-- none up to n, and no edge between n and k
+none_above : (M : Model) (v m n k : ℕ) → IsStartWithin v m n M None → ((e : ℕ) → n < e → e < k → table.has M.edges e ≡ false) → (h : ℕ) → has_half M h ≡ true → m < edge_of h → edge_of h < k → tail M h ≢ v
+none_above M v m n k up between = λ h there above below at.
+    elim (lt_or_le n (edge_of h)) [ inl past ↦ true≢false (sym there ∙ between (edge_of h) past below) | inr within ↦ up h there above within at ]
 
-pub one_more : (M : Model) (v n e : ℕ) → NoneUpTo M v n → IsStartOf M e v None → ((k : ℕ) → n < k → k < e → table.has M.edges k ≡ false) → NoneUpTo M v e
-one_more M v n e up here between = λ h within there at.
+pub none_left : (M : Model) (v m n k : ℕ) → IsStartWithin v m n M None → ((e : ℕ) → n < e → table.has M.edges e ≡ false) → IsStartWithin v m k M None
+none_left M v m n k up beyond = λ h there above within. none_above M v m n (k + 1) up (λ e past below. beyond e past) h there above (omega (arith, within))
+
+pub none_up_to : (M : Model) (v m n k e : ℕ) → IsStartWithin v m n M None → ((x : ℕ) → n < x → x < e → table.has M.edges x ≡ false) → k < e → IsStartWithin v m k M None
+none_up_to M v m n k e up between past = λ h there above within. none_above M v m n e up between h there above (omega (arith, within, past))
+
+pub one_more : (M : Model) (v m n e : ℕ) → IsStartWithin v m n M None → IsStartOf M e v None → ((k : ℕ) → n < k → k < e → table.has M.edges k ≡ false) → IsStartWithin v m e M None
+one_more M v m n e up here between = λ h there above within at.
+    elim (cases_eq (edge_of h) e) [ inl is ↦ here h is at | inr ne ↦ none_above M v m n e up between h there above (omega (arith, within, ne)) at ]
+
+-- none of an edge above n, and what there is of those up to n
+pub start_at_all : (M : Model) → Sound M → (v n m : ℕ) → 1000000 ≤ m → IsStartWithin v n m M None → (o : Option ℕ) → IsStartWithin v 0 n M o → IsStart v M o
+start_at_all M sound v n m limit over (Some h) found = found
+start_at_all M sound v n m limit over None under = λ h there at.
+    let number = sound.edges_fit (edge_of h) there in
     elim (lt_or_le n (edge_of h)) [
-      | inl above ↦ elim (cases_eq (edge_of h) e) [
-        | inl is ↦ here h is at
-        | inr ne ↦ true≢false (sym there ∙ between (edge_of h) above (omega (arith, within, ne)))
-      ]
-      | inr below ↦ up h below there at
+      | inl above ↦ over h there above (omega (arith, limit, number_fits (edge_of h) number)) at
+      | inr below ↦ under h there (omega (arith, number_real (edge_of h) number)) below at
     ]

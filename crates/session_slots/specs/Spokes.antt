@@ -1,5 +1,5 @@
 -- Half-edges that start at a vertex.
-use Rattle.std.specs.Prelude.{◌≡◌, ◌≢◌, ℕ, true, Option, Some, None}
+use Rattle.std.specs.Prelude.{◌≡◌, ◌≢◌, ◌<◌, ◌≤◌, ℕ, true, Option, Some, None}
 use Rattle.euler_operators.specs.HalfEdge.{edge_of}
 use Rattle.euler_operators.specs.Model.{Model, has_half, tail}
 
@@ -7,6 +7,11 @@ use Rattle.euler_operators.specs.Model.{Model, has_half, tail}
 abbrev pub IsStartOf : Model → ℕ → ℕ → Option ℕ → Type 0
 IsStartOf M e v None = (h : ℕ) → edge_of h ≡ e → tail M h ≢ v
 IsStartOf M e v (Some h) = (edge_of h ≡ e) × (tail M h ≡ v)
+
+-- a half-edge that starts at v; none where none of an edge above n and up to m does
+abbrev pub IsStartWithin : ℕ → ℕ → ℕ → Model → Option ℕ → Type 0
+IsStartWithin v n m M None = (h : ℕ) → has_half M h ≡ true → n < edge_of h → edge_of h ≤ m → tail M h ≢ v
+IsStartWithin v n m M (Some h) = (has_half M h ≡ true) × (tail M h ≡ v)
 
 -- a half-edge that starts at v; none where none does
 abbrev pub IsStart : ℕ → Model → Option ℕ → Type 0

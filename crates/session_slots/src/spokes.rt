@@ -1,12 +1,19 @@
 //! A half-edge that starts at a vertex.
-ghost use Rattle.std.specs.Prelude.{◌≡◌, true};
+ghost use Rattle.std.specs.Prelude.{◌≡◌, ◌≤◌, true};
 ghost use Rattle.euler_conditions.specs.Store.{has_number};
 ghost use Rattle.euler_conditions.specs.Ready.{IsReady};
-ghost use Rattle.session_slots.specs.Spokes.{IsStart, IsStartOf};
+ghost use Rattle.session_slots.specs.Spokes.{IsStart, IsStartOf, IsStartWithin};
 
 use crate::readers::ends;
 use euler_conditions::Arena;
 use euler_operators::Kind;
+use solid_walks::Counters;
+
+/// So many numbers on each side of the likely one are looked at first.
+const NEAR: u32 = 3;
+
+/// No more than so many numbers aren't halved any more.
+const FEW: u32 = 4;
 
 /// The half-edge of an edge that starts at the vertex, if one does.
 fn start_of(arena: &Arena, e: u32, v: u32) -> Option<u32>
@@ -24,19 +31,78 @@ fn start_of(arena: &Arena, e: u32, v: u32) -> Option<u32>
     None
 }
 
-/// A half-edge that starts at a vertex. It looks at each edge up to the first that has one.
-pub fn vertex_half_edge(arena: &Arena, v: u32) -> Option<u32>
+/// A half-edge that starts at a vertex, of the edges above one number and up to another. It looks at them one after another.
+fn start_within(arena: &Arena, v: u32, above: u32, last: u32) -> Option<u32>
+    requires { IsReady arena.now }
+    ensures { IsStartWithin v above last arena.now.model result }
+{
+    let mut at = above;
+    'edges: loop {
+        let Some(e) = arena.after_number(Kind::Edge, at) else {
+            return None;
+        };
+        if e > last {
+            return None;
+        }
+        match start_of(arena, e, v) {
+            Some(half) => return Some(half),
+            None => at = e,
+        }
+    }
+}
+
+/// Where the edges of a vertex lie if as many edges come with each vertex.
+fn even_place(greatest: Counters, v: u32) -> u32
+    ensures { result ≤ greatest.edges }
+{
+    let place = u64::from(v) * u64::from(greatest.edges) / u64::from(greatest.vertices.max(1));
+    place.min(u64::from(greatest.edges)) as u32
+}
+
+/// Whether both vertices of an edge are below this one.
+fn is_below(arena: &Arena, e: u32, v: u32) -> bool
+    requires { has_number arena.now Kind.Edge e ≡ true }
+{
+    let row = ends(arena, e);
+    row.from < v && row.to < v
+}
+
+/// Somewhat below the edge that came with a vertex, where edges and vertices came in the order of their numbers.
+fn rising_place(arena: &Arena, v: u32, greatest: u32) -> u32
+    ensures { result ≤ greatest }
+{
+    let mut low = 0;
+    let mut high = greatest;
+    'halves: while high - low > FEW {
+        let middle = low + (high - low) / 2;
+        match arena.after_number(Kind::Edge, middle) {
+            Some(e) if e < high && is_below(arena, e, v) => low = e,
+            _ => high = middle,
+        }
+    }
+    low
+}
+
+/// A half-edge that starts at a vertex, where no greater numbers are in use than these.
+///
+/// Any is right, so it looks first where one is likely: about where an edge of the vertex lies if edges and vertices rise evenly, then
+/// by halving for the edge that came with the vertex, and at each edge from there on. Where neither finds one, it looks at all others.
+pub fn vertex_half_edge(arena: &Arena, greatest: Counters, v: u32) -> Option<u32>
     requires { IsReady arena.now }
     ensures { IsStart v arena.now.model result }
 {
-    let mut last = 0;
-    'edges: loop {
-        let Some(e) = arena.after_number(Kind::Edge, last) else {
-            return None;
-        };
-        match start_of(arena, e, v) {
-            Some(half) => return Some(half),
-            None => last = e,
-        }
+    let place = even_place(greatest, v);
+    if let Some(half) = start_within(
+        arena,
+        v,
+        place.saturating_sub(NEAR),
+        place.saturating_add(NEAR),
+    ) {
+        return Some(half);
     }
+    let low = rising_place(arena, v, greatest.edges);
+    if let Some(half) = start_within(arena, v, low, u32::MAX) {
+        return Some(half);
+    }
+    start_within(arena, v, 0, low)
 }

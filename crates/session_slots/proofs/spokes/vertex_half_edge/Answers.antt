@@ -1,8 +1,6 @@
-use Rattle.session_slots.proofs.Spoken.{none_at_all, one_more}
+use Rattle.std.proofs.Common.{arith}
+use Rattle.session_slots.proofs.Spoken.{start_at_all}
 use Rattle.session_slots.proofs.spokes.vertex_half_edge.Goals as goal
 
-pub returns-in_default : goal.returns-in_default
-returns-in_default c = none_at_all c.args.arena.now.model c.args.v c.edges.last c.edges.invariant c.in_default.ensures
-
-pub edges-preserved : goal.edges-preserved
-edges-preserved c = one_more c.args.arena.now.model c.args.v c.edges.last c.in-Some.e c.edges.invariant c.in-None.ensures (λ k above below. c.in-Some.ensures.2 k above below)
+pub returns : goal.returns
+returns c = start_at_all c.args.arena.now.model c.requires.sound c.args.v c.rising_place-low.result _ (omega arith) c.in_default-start_within.ensures _ c.start_within-3.ensures
