@@ -1,8 +1,6 @@
 /* The model at once, by the readers. */
 #include "walks.h"
 
-enum { FEW = 64 };
-
 /* What is written, and where: how many rows there are, as many of them written as there is room for. */
 struct writing {
     const gwb *g;
@@ -10,42 +8,10 @@ struct writing {
     size_t room, count;
 };
 
-static void write_half_edge(struct writing *w, uint32_t half_edge, uint32_t next, uint32_t loop, uint32_t face)
+static void write_loop(struct writing *w, uint32_t loop)
 {
-    if (w->count < w->room)
-        w->rows[w->count] = (gwb_half_edge_row){half_edge, start_of(w->g, half_edge), next, loop, face};
-    w->count++;
-}
-
-/* The half-edges of a loop, which are all at hand. */
-static void write_list(struct writing *w, const uint32_t *half_edges, size_t count, uint32_t loop, uint32_t face)
-{
-    for (size_t i = 0; i < count; i++)
-        write_half_edge(w, half_edges[i], half_edges[i + 1 < count ? i + 1 : 0], loop, face);
-}
-
-/* Those of a loop from one of them on, each asked for after the one before it. */
-static void write_from(struct writing *w, uint32_t first, uint32_t loop, uint32_t face)
-{
-    uint32_t at = first, next;
-    while (gwb_next_half_edge(w->g, at, &next) == GWB_FOUND) {
-        write_half_edge(w, at, next, loop, face);
-        if (next == first)
-            return;
-        at = next;
-    }
-}
-
-static void write_loop(struct writing *w, uint32_t loop, uint32_t face)
-{
-    uint32_t few[FEW];
-    size_t count = gwb_half_edges(w->g, loop, few, FEW);
-    if (w->count >= w->room)
-        w->count += count;
-    else if (count <= FEW)
-        write_list(w, few, count, loop, face);
-    else
-        write_from(w, few[0], loop, face);
+    size_t written = w->count < w->room ? w->count : w->room;
+    w->count += gwb_half_edge_rows(w->g, loop, w->rows + written, w->room - written);
 }
 
 static void write_face(struct writing *w, uint32_t face)
@@ -53,9 +19,9 @@ static void write_face(struct writing *w, uint32_t face)
     gwb_face_row row;
     if (gwb_face(w->g, face, &row) != GWB_FOUND)
         return;
-    write_loop(w, row.outer_loop, face);
+    write_loop(w, row.outer_loop);
     for (uint32_t ring = 0; gwb_ring_after(w->g, face, ring, &ring) == GWB_FOUND;)
-        write_loop(w, ring, face);
+        write_loop(w, ring);
 }
 
 size_t gwb_read_half_edges(const gwb *g, uint32_t solid, gwb_half_edge_row *rows, size_t room)

@@ -144,6 +144,13 @@ static void too_little_room(void)
     qsort(many, 4, sizeof *many, rising);
     HOLDS(memcmp(many, all, sizeof all) == 0);
     HOLDS(gwb_half_edges(&g, 99, few, 3) == 0);
+    gwb_half_edge_row one[2] = {{7, 7, 7, 7, 7}, {7, 7, 7, 7, 7}};
+    HOLDS(gwb_half_edge_rows(&g, row.outer_loop, one, 1) == 4);
+    HOLDS(one[0].half_edge == few[0] && one[0].next == few[1] && one[0].loop == 15 && one[0].face == 15 && one[1].half_edge == 7);
+    gwb_edge_row ends = {0, 0};
+    HOLDS(gwb_edge(&g, few[0] / 2, &ends) == 1);
+    HOLDS(one[0].start == (few[0] % 2 == 0 ? ends.from : ends.to));
+    HOLDS(gwb_half_edge_rows(&g, 99, one, 1) == 0);
     char text[3] = {'.', '.', '.'};
     HOLDS(given(&g, "volume 1") == 6);
     HOLDS(gwb_reply(&g, text, sizeof text) == 11);
@@ -177,6 +184,9 @@ static void closed_handle(void)
     HOLDS(number == 7);
     HOLDS(gwb_half_edges(&g, 1, &number, 1) == SIZE_MAX);
     HOLDS(number == 7);
+    gwb_half_edge_row row = {7, 7, 7, 7, 7};
+    HOLDS(gwb_half_edge_rows(&g, 1, &row, 1) == SIZE_MAX);
+    HOLDS(row.half_edge == 7);
     HOLDS(gwb_depth(&g) == SIZE_MAX);
     gwb_close(&g);
 }

@@ -273,6 +273,15 @@ typedef struct gwb_edge_row {
     uint32_t to;   /**< the vertex at which the second one starts */
 } gwb_edge_row;
 
+/** A half-edge, and where it stands. */
+typedef struct gwb_half_edge_row {
+    uint32_t half_edge;
+    uint32_t start; /**< the vertex at which it starts */
+    uint32_t next;  /**< the half-edge after it in its loop */
+    uint32_t loop;
+    uint32_t face;
+} gwb_half_edge_row;
+
 /** A point, or a vector. Coordinates of the model are within 1,000,000,000 either way. */
 typedef struct gwb_point {
     int64_t x, y, z;
@@ -287,6 +296,7 @@ uint32_t gwb_lent_loop(gwb *copy, uint32_t loop, uint32_t *face);
 uint32_t gwb_lent_lone_vertex(gwb *copy, uint32_t loop, uint32_t *vertex);
 uint32_t gwb_lent_first_half_edge(gwb *copy, uint32_t loop, uint32_t *half_edge);
 size_t gwb_lent_half_edges(gwb *copy, uint32_t loop, uint32_t *buf, size_t room);
+size_t gwb_lent_half_edge_rows(gwb *copy, uint32_t loop, gwb_half_edge_row *rows, size_t room);
 uint32_t gwb_lent_next_half_edge(gwb *copy, uint32_t half_edge, uint32_t *next);
 uint32_t gwb_lent_previous_half_edge(gwb *copy, uint32_t half_edge, uint32_t *previous);
 uint32_t gwb_lent_half_edge_loop(gwb *copy, uint32_t half_edge, uint32_t *loop);
@@ -369,6 +379,13 @@ static inline size_t gwb_half_edges(const gwb *g, uint32_t loop, uint32_t *buf, 
 {
     gwb copy = *g;
     return gwb_lent_half_edges(&copy, loop, buf, room);
+}
+
+/** The same with a row of each half-edge: all that is known of it, in one walk round the loop. A reader. */
+static inline size_t gwb_half_edge_rows(const gwb *g, uint32_t loop, gwb_half_edge_row *rows, size_t room)
+{
+    gwb copy = *g;
+    return gwb_lent_half_edge_rows(&copy, loop, rows, room);
 }
 
 /** The half-edge after another in its loop. GWB_ABSENT where its edge is not there. A reader. */
@@ -551,15 +568,6 @@ static inline size_t gwb_read_listing(const gwb *g, char *buf, size_t room)
 }
 
 /* ---- the model at once, for display and export. Not with libgwb_c.a alone. */
-
-/** A half-edge, and where it stands. */
-typedef struct gwb_half_edge_row {
-    uint32_t half_edge;
-    uint32_t start; /**< the vertex at which it starts */
-    uint32_t next;  /**< the half-edge after it in its loop */
-    uint32_t loop;
-    uint32_t face;
-} gwb_half_edge_row;
 
 /** A vertex, and where it lies. */
 typedef struct gwb_vertex_row {

@@ -273,6 +273,15 @@ impl Readers {
         rows.into_iter().map(HalfEdgeRow::from).collect()
     }
 
+    /// Those of a loop, in their order round it from any of them on.
+    #[must_use]
+    pub fn loop_rows(&self, of_loop: Loop) -> Vec<HalfEdgeRow> {
+        let rows = rows(|rows: *mut gwb_sys::HalfEdgeRow, room| unsafe {
+            gwb_sys::gwb_lent_half_edge_rows(&mut self.lent(), of_loop.0, rows, room)
+        });
+        rows.into_iter().map(HalfEdgeRow::from).collect()
+    }
+
     /// All vertices with their points, rising.
     #[must_use]
     pub fn vertex_rows(&self) -> Vec<(Vertex, Point)> {

@@ -96,7 +96,7 @@ GivesFresh k None old new told = (told ≡ 9) × (new ≡ old)
 GivesFresh k (Some y) old new told = (g : Stage) → y.stage ≡ Some g → Gives (fresh_in (taken_of y.before) (taken_in (shown g)) k) old new told
 
 -- a list that a relation to the model shown allows; a closed handle has none
-abbrev pub Lists : (Model → List ℕ → Type 0) → Option Slot → List ℕ → List ℕ → ℕ → Type 0
+abbrev pub Lists : {X : Type 0} → (Model → List X → Type 0) → Option Slot → List X → List X → ℕ → Type 0
 Lists R None old new n = (n ≡ 2 ^ 64 - 1) × (new ≡ old)
 Lists R (Some y) old new n = (g : Stage) → y.stage ≡ Some g → WritesOne (R (shown g)) old new n
 

@@ -35,4 +35,6 @@ mod told;
 mod version;
 
 pub use fresh::Range;
-pub use session_slots::{Counts, EdgeRow, FaceRow, Gwb, GwbLent, Place, PlaneRow, Refused, Wide};
+pub use session_slots::{
+    Counts, EdgeRow, FaceRow, Gwb, GwbLent, HalfEdgeRow, Place, PlaneRow, Refused, Wide,
+};

@@ -1,14 +1,14 @@
 //! Calls of C: the model held, read without text. Each says 1 where the value is there, and writes it; 0 where it is not there, and 9
 //! where there is no session: then nothing is written.
 ghost use Rattle.std.specs.Prelude.{◌≡◌, Some};
-ghost use Rattle.session_slots.specs.Reading.{face_in, face_of_loop_in, edge_in, point_in, lone_in, after_in, before_in, loop_in, IsRingAfter, IsFaceAfter, AreHalfEdges, IsFirst, kind_of, IsNumberAfter};
+ghost use Rattle.session_slots.specs.Reading.{face_in, face_of_loop_in, edge_in, point_in, lone_in, after_in, before_in, loop_in, row_of, IsRingAfter, IsFaceAfter, AreHalfEdges, AreTold, IsFirst, kind_of, IsNumberAfter};
 ghost use Rattle.session_slots.specs.Owned.{slot_in};
 ghost use Rattle.session_slots.specs.Spokes.{IsStart};
 ghost use Rattle.gwb_c.specs.Handle.{Reads, Finds, Lists, GivesFresh};
 
 use crate::fresh::{Range, fresh_of};
 use crate::told::{ABSENT, CLOSED, FOUND, give};
-use session_slots::{EdgeRow, FaceRow, GwbLent, Place, Slot, hide, show};
+use session_slots::{EdgeRow, FaceRow, GwbLent, HalfEdgeRow, Place, Slot, hide, show};
 
 /// The solid and the outer loop of a face.
 #[unsafe(no_mangle)]
@@ -231,6 +231,33 @@ pub extern "C" fn gwb_lent_half_edges(gwb: &mut GwbLent, l: u32, buf: &mut [u32]
         return usize::MAX;
     };
     let count = list_half_edges(shown.slot(), l, buf);
+    hide(gwb, shown);
+    count
+}
+
+fn list_half_edge_rows(slot: &Slot, l: u32, rows: &mut [HalfEdgeRow]) -> usize
+    ensures { Lists (AreTold row_of l) (Some slot.now) rows.old rows.new result }
+{
+    match &slot.stage {
+        Some(stage) => session_slots::half_edge_rows(stage.arena(), l, rows),
+        None => 0,
+    }
+}
+
+/// The same with a row of each half-edge: where it starts, the one after it, its loop and its face.
+#[unsafe(no_mangle)]
+pub extern "C" fn gwb_lent_half_edge_rows(
+    gwb: &mut GwbLent,
+    l: u32,
+    rows: &mut [HalfEdgeRow],
+) -> usize
+    ensures state { gwb.new.lent.loan ≡ gwb.old.lent.loan }
+    ensures items { Lists (AreTold row_of l) (slot_in gwb.old.lent.loan) rows.old rows.new result }
+{
+    let Some(shown) = show(gwb) else {
+        return usize::MAX;
+    };
+    let count = list_half_edge_rows(shown.slot(), l, rows);
     hide(gwb, shown);
     count
 }

@@ -3,7 +3,7 @@ use Rattle.std.proofs.Common.{◌≡◌, ℕ, false, [], Option, Some, None, is_
 use Rattle.euler_operators.specs.Items.{IsIn}
 use Rattle.euler_operators.specs.HalfEdge.{code}
 use Rattle.euler_operators.specs.Table.{has}
-use Rattle.euler_operators.specs.Model.{Model, LoopContent, LoopRow, no_loop, lone, cycle, items_of, content, cycle_of}
+use Rattle.euler_operators.specs.Model.{Model, LoopContent, LoopRow, no_loop, lone, cycle, items_of, content, loop_of, cycle_of}
 use Rattle.euler_operators.specs.declared.HalfEdge.{HalfEdge}
 use Rattle.euler_operators.specs.declared.Content.TheVariants as told
 use Rattle.euler_operators.specs.declared.Kind.{Kind}
@@ -36,9 +36,12 @@ in_ring : (c : LoopContent) (h : HalfEdge) → Tells c (told.Ring h) → IsIn (c
 in_ring (lone v) h e = absurd e
 in_ring (cycle hs) h e = e
 
--- the cycle of the half-edge that is told is the loop's
+-- the half-edge that is told stands in the loop, and its cycle is the loop's
+pub told_loop : (M : Model) → Sound M → (l : ℕ) (h : HalfEdge) → Tells (content M l) (told.Ring h) → loop_of M (code h) ≡ l
+told_loop M sound l h t = sound.one_loop (code h) l (in-holds (code h) (content M l) (in_ring (content M l) h t))
+
 pub told_cycle : (M : Model) → Sound M → (l : ℕ) (h : HalfEdge) → Tells (content M l) (told.Ring h) → cycle_of M (code h) ≡ items_of (content M l)
-told_cycle M sound l h t = ap (λ k. items_of (content M k)) (sound.one_loop (code h) l (in-holds (code h) (content M l) (in_ring (content M l) h t)))
+told_cycle M sound l h t = ap (λ k. items_of (content M k)) (told_loop M sound l h t)
 
 -- a lone loop has no half-edge
 pub lone_items : (c : LoopContent) (v : ℕ) → Tells c (told.Lone v) → items_of c ≡ []

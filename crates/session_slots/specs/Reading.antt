@@ -1,5 +1,5 @@
 -- What readers tell of a model.
-use Rattle.std.specs.Prelude.{◌≡◌, ℕ, true, false, cond, nat_eq, List, Option, Some, None}
+use Rattle.std.specs.Prelude.{◌≡◌, ℕ, true, false, cond, nat_eq, List, map, Option, Some, None}
 use Rattle.euler_operators.specs.Items.{IsIn}
 use Rattle.euler_operators.specs.Rings.{IsRotation}
 use Rattle.euler_operators.specs.Table as table
@@ -11,6 +11,7 @@ use Rattle.euler_conditions.specs.Store.{Store, empty_store, IsNextNumber, IsNex
 use Rattle.session_slots.specs.declared.readers.FaceRow.{FaceRow}
 use Rattle.session_slots.specs.declared.readers.EdgeRow.{EdgeRow}
 use Rattle.session_slots.specs.declared.readers.Place.{Place}
+use Rattle.session_slots.specs.declared.cycles.HalfEdgeRow.{HalfEdgeRow}
 
 -- the solid and the outer loop of face f, if it is there
 abbrev pub face_in : ℕ → Model → Option FaceRow
@@ -49,6 +50,14 @@ IsFirst l M o = (table.has M.loops l ≡ true → IsItemOf (content M l) o) × (
 -- the half-edges of loop l in their order round it, from any of them on; none where the loop is lone or not there
 abbrev pub AreHalfEdges : ℕ → Model → List ℕ → Type 0
 AreHalfEdges l M hs = IsRotation (items_of (content M l)) hs
+
+-- what f tells of each of them
+abbrev pub AreTold : {X : Type 0} → (Model → ℕ → X) → ℕ → Model → List X → Type 0
+AreTold f l M xs = (hs : List ℕ) × AreHalfEdges l M hs × (xs ≡ map (f M) hs)
+
+-- half-edge h, the vertex at which it starts, the one after it, and the loop and the face in which it stands
+abbrev pub row_of : Model → ℕ → HalfEdgeRow
+row_of M h = record { half_edge = h; start = tail M h; next = after M h; of_loop = loop_of M h; face = face_of M (loop_of M h) }
 
 -- the item after half-edge h in its loop, if h's edge is there
 abbrev pub after_in : ℕ → Model → Option ℕ

@@ -1,64 +1,137 @@
-//! The half-edges of a loop, written into a buffer of the caller's.
-ghost use Rattle.std.specs.Prelude.{◌≡◌, true, length, slice_set};
+//! The half-edges of a loop, written into a buffer of the caller's: their codes, or a row of each.
+ghost use Rattle.std.specs.Prelude.{◌≡◌, ℕ, true, length, map, slice_set};
 ghost use Rattle.euler_operators.specs.Rings.{rotate_to};
-ghost use Rattle.euler_operators.specs.HalfEdge.{code};
-ghost use Rattle.euler_operators.specs.Model.{has_half, cycle_of};
-ghost use Rattle.euler_operators.specs.Sound.{Sound};
+ghost use Rattle.euler_operators.specs.Model.{Model, has_half, cycle_of, loop_of, face_of, after};
 ghost use Rattle.euler_conditions.specs.Store.{has_number};
+ghost use Rattle.euler_conditions.specs.Ready.{IsReady};
 ghost use Rattle.session_slots.specs.Written.{laid_over, WritesOne};
-ghost use Rattle.session_slots.specs.Reading.{AreHalfEdges};
+ghost use Rattle.session_slots.specs.Reading.{AreHalfEdges, AreTold, row_of};
 
 use euler_conditions::Arena;
 use euler_operators::{Content, HalfEdge, Kind};
+use solid_walks::next_code;
 
-/// Writes a number at its place, where there is room for it.
-fn put_at(buf: &mut [u32], at: usize, number: u32)
-    ensures { buf.new ≡ slice_set buf.old at number }
-{
-    if at < buf.len() {
-        buf[at] = number;
+/// A half-edge, the vertex at which it starts, the one after it in its loop, and the loop and the face in which it stands.
+#[repr(C)]
+#[derive(Clone, Copy)]
+pub struct HalfEdgeRow {
+    pub half_edge: u32,
+    pub start: u32,
+    pub next: u32,
+    pub of_loop: u32,
+    pub face: u32,
+}
+
+/// What is written of a half-edge.
+trait Written: Copy {
+    ghost told: { Model → ℕ → Self };
+
+    /// What is written of a half-edge, of which the next one, the loop and the face are known.
+    fn of(arena: &Arena, half_edge: u32, next: u32, of_loop: u32, face: u32) -> Self
+        requires there { has_half arena.now.model half_edge ≡ true }
+        requires next { next ≡ after arena.now.model half_edge }
+        requires of_loop { of_loop ≡ loop_of arena.now.model half_edge }
+        requires face { face ≡ face_of arena.now.model (loop_of arena.now.model half_edge) }
+        ensures { result ≡ told arena.now.model half_edge };
+}
+
+impl Written for u32 {
+    ghost told = { λ M h. h };
+
+    #[inline(always)]
+    fn of(_arena: &Arena, half_edge: u32, _next: u32, _of_loop: u32, _face: u32) -> u32 {
+        half_edge
     }
 }
 
-/// Writes the half-edges of a loop from the given one on, as far as there is room, and says how many there are. It walks round the
-/// loop once.
-fn write_from(arena: &Arena, first: HalfEdge, buf: &mut [u32]) -> usize
-    requires sound { Sound arena.now.model }
-    requires there { has_half arena.now.model (code first) ≡ true }
-    ensures count { result ≡ length (cycle_of arena.now.model (code first)) }
-    ensures items { buf.new ≡ laid_over (rotate_to (code first) (cycle_of arena.now.model (code first))) buf.old }
-{
-    let mut at = first;
-    let mut count = 0;
-    'round: loop {
-        put_at(buf, count, at.code());
-        count += 1;
-        at = arena.next(at);
-        if at == first {
-            return count;
+impl Written for HalfEdgeRow {
+    ghost told = { row_of };
+
+    #[inline(always)]
+    fn of(arena: &Arena, half_edge: u32, next: u32, of_loop: u32, face: u32) -> HalfEdgeRow {
+        HalfEdgeRow {
+            half_edge,
+            start: arena.tail(HalfEdge::of_code(half_edge)),
+            next,
+            of_loop,
+            face,
         }
     }
 }
 
-/// The same for a loop that is there, from any half-edge on; one with a vertex alone has none.
-fn write_loop(arena: &Arena, l: u32, buf: &mut [u32]) -> usize
-    requires sound { Sound arena.now.model }
-    requires there { has_number arena.now Kind.Loop l ≡ true }
-    ensures { WritesOne (AreHalfEdges l arena.now.model) buf.old buf.new result }
+/// Writes an item at its place, where there is room for it.
+fn put_at<T: Copy>(buf: &mut [T], at: usize, item: T)
+    ensures { buf.new ≡ slice_set buf.old at item }
 {
-    match arena.content(l) {
-        Content::Lone(_) => 0,
-        Content::Ring(half) => write_from(arena, half, buf),
+    if at < buf.len() {
+        buf[at] = item;
     }
 }
 
-/// Writes the half-edges of a loop in their order round it, as far as there is room, and says how many there are.
-pub fn half_edges(arena: &Arena, l: u32, buf: &mut [u32]) -> usize
-    requires { Sound arena.now.model }
-    ensures { WritesOne (AreHalfEdges l arena.now.model) buf.old buf.new result }
+/// Writes what there is of the half-edges of a loop from the given one on, as far as there is room, and says how many there are. It
+/// walks round the loop once.
+fn write_from<T: Written>(
+    arena: &Arena,
+    first: u32,
+    of_loop: u32,
+    face: u32,
+    buf: &mut [T],
+) -> usize
+    requires ready { IsReady arena.now }
+    requires there { has_half arena.now.model first ≡ true }
+    requires of_loop { of_loop ≡ loop_of arena.now.model first }
+    requires face { face ≡ face_of arena.now.model of_loop }
+    ensures count { result ≡ length (cycle_of arena.now.model first) }
+    ensures items { buf.new ≡ laid_over (map (T.told arena.now.model) (rotate_to first (cycle_of arena.now.model first))) buf.old }
+{
+    let mut at = first;
+    let mut count = 0;
+    'round: loop {
+        let next = next_code(arena, at);
+        put_at(buf, count, T::of(arena, at, next, of_loop, face));
+        count += 1;
+        if next == first {
+            return count;
+        }
+        at = next;
+    }
+}
+
+/// The same for a loop that is there, from any half-edge on; one with a vertex alone has none.
+fn write_loop<T: Written>(arena: &Arena, l: u32, buf: &mut [T]) -> usize
+    requires ready { IsReady arena.now }
+    requires there { has_number arena.now Kind.Loop l ≡ true }
+    ensures { WritesOne (AreTold T.told l arena.now.model) buf.old buf.new result }
+{
+    match arena.content(l) {
+        Content::Lone(_) => 0,
+        Content::Ring(half) => write_from(arena, half.code(), l, arena.face_of(l), buf),
+    }
+}
+
+/// The same for any loop.
+fn write<T: Written>(arena: &Arena, l: u32, buf: &mut [T]) -> usize
+    requires { IsReady arena.now }
+    ensures { WritesOne (AreTold T.told l arena.now.model) buf.old buf.new result }
 {
     if !arena.has(Kind::Loop, l) {
         return 0;
     }
     write_loop(arena, l, buf)
+}
+
+/// Writes the half-edges of a loop in their order round it, as far as there is room, and says how many there are.
+pub fn half_edges(arena: &Arena, l: u32, buf: &mut [u32]) -> usize
+    requires { IsReady arena.now }
+    ensures { WritesOne (AreHalfEdges l arena.now.model) buf.old buf.new result }
+{
+    write(arena, l, buf)
+}
+
+/// Writes the rows of the half-edges of a loop in their order round it, as far as there is room, and says how many there are.
+pub fn half_edge_rows(arena: &Arena, l: u32, buf: &mut [HalfEdgeRow]) -> usize
+    requires { IsReady arena.now }
+    ensures { WritesOne (AreTold row_of l arena.now.model) buf.old buf.new result }
+{
+    write(arena, l, buf)
 }

@@ -42,7 +42,7 @@ pub use arguments::{corner, kev, plus, polygon, ringmv};
 pub use calls::{act, ask, make, measure};
 pub use commands::{Call, Change, Command, OpenDraft, Points, Question, Stage};
 pub use counted_stage::CountedStage;
-pub use cycles::half_edges;
+pub use cycles::{HalfEdgeRow, half_edge_rows, half_edges};
 pub use handle::{Gwb, begin, put, take};
 pub use held::Held;
 pub use kept::Kept;

@@ -1,44 +1,58 @@
-use Rattle.std.proofs.Common.{◌∙◌, sym, ap, subst, ℕ, ◌+◌, List, slice_set, arith}
-use Rattle.euler_operators.specs.HalfEdge.{code}
-use Rattle.solid_walks.proofs.face_walks_laws.HalfCodes.{codes_same, codes_differ, edge_fits}
-use Rattle.session_slots.proofs.CycleRounds.{CycleRound, round_start, at_there, count_short, round_shorter, round_more, count_is, cycle_laid}
+use Rattle.std.proofs.Common.{◌∙◌, sym, ap, subst, ◌+◌, slice_set, arith}
+use Rattle.euler_operators.specs.Model.{face_of}
+use Rattle.session_slots.proofs.CycleRounds.{CycleRound, round_start, at_there, at_loop, count_short, round_shorter, round_more, count_is, cycle_laid}
 use Rattle.session_slots.proofs.cycles.write_from.Goals as goal
 
 pub round-init : goal.round-init
-round-init c = round_start c.args.arena.now.model c.requires.sound (code c.args.first) c.requires.there c.args.buf.now
+round-init g c = let M = c.args.arena.now.model in round_start (g.T.Written.told M) M c.requires.ready.sound c.args.first c.requires.there c.args.buf.now
 
-pub code-requires : goal.code-requires
-code-requires c =
+pub next_code-next-requires-clause-there : goal.next_code-next-requires-clause-there
+next_code-next-requires-clause-there g c =
+    let M = c.args.arena.now.model in at_there (g.T.Written.told M) M c.requires.ready.sound c.args.first c.requires.there c.args.buf.now c.round.at c.round.buf c.round.count c.round.invariant
+
+pub of-requires-clause-there : goal.of-requires-clause-there
+of-requires-clause-there g c =
+    let M = c.args.arena.now.model in at_there (g.T.Written.told M) M c.requires.ready.sound c.args.first c.requires.there c.args.buf.now c.round.at c.round.buf c.round.count c.round.invariant
+
+pub of-requires-clause-of_loop : goal.of-requires-clause-of_loop
+of-requires-clause-of_loop g c =
     let M = c.args.arena.now.model in
-    edge_fits M c.requires.sound c.round.at (at_there M c.requires.sound (code c.args.first) c.requires.there c.args.buf.now (code c.round.at) c.round.buf c.round.count c.round.invariant)
+    c.requires.of_loop ∙ sym (at_loop (g.T.Written.told M) M c.requires.ready.sound c.args.first c.requires.there c.args.buf.now c.round.at c.round.buf c.round.count c.round.invariant)
+
+pub of-requires-clause-face : goal.of-requires-clause-face
+of-requires-clause-face g c =
+    let M = c.args.arena.now.model in
+    c.requires.face ∙ ap (face_of M) (c.requires.of_loop ∙ sym (at_loop (g.T.Written.told M) M c.requires.ready.sound c.args.first c.requires.there c.args.buf.now c.round.at c.round.buf c.round.count c.round.invariant))
 
 pub overflow_add-count : goal.overflow_add-count
-overflow_add-count c = omega (arith, count_short c.args.arena.now.model c.requires.sound (code c.args.first) c.requires.there c.args.buf.now (code c.round.at) c.round.buf c.round.count c.round.invariant)
+overflow_add-count g c =
+    let M = c.args.arena.now.model in
+    omega (arith, count_short (g.T.Written.told M) M c.requires.ready.sound c.args.first c.requires.there c.args.buf.now c.round.at c.round.buf c.round.count c.round.invariant)
 
-pub next-at-requires : goal.next-at-requires
-next-at-requires c = at_there c.args.arena.now.model c.requires.sound (code c.args.first) c.requires.there c.args.buf.now (code c.round.at) c.round.buf c.round.count c.round.invariant
+pub returns-then-next-first-clause-count : goal.returns-then-next-first-clause-count
+returns-then-next-first-clause-count g c =
+    let M = c.args.arena.now.model in
+    count_is (g.T.Written.told M) M c.requires.ready.sound c.args.first c.requires.there c.args.buf.now c.round.at c.round.buf c.round.count c.round.invariant
+    c.next_code-next.result c.next_code-next.ensures.next c.if-next-first.true
 
-pub returns-then-eq-clause-count : goal.returns-then-eq-clause-count
-returns-then-eq-clause-count c =
-    count_is c.args.arena.now.model c.requires.sound (code c.args.first) c.requires.there c.args.buf.now (code c.round.at) c.round.buf c.round.count c.round.invariant
-    (code c.next-at.result) c.next-at.ensures.in_loop (codes_same c.next-at.result c.args.first (sym c.eq.ensures ∙ c.if-eq.true))
-
-pub returns-then-eq-clause-items : goal.returns-then-eq-clause-items
-returns-then-eq-clause-items c =
-    c.put_at.ensures ∙ ap (slice_set c.round.buf c.round.count) c.code.ensures
-    ∙ cycle_laid c.args.arena.now.model c.requires.sound (code c.args.first) c.requires.there c.args.buf.now (code c.round.at) c.round.buf c.round.count c.round.invariant
-    (code c.next-at.result) c.next-at.ensures.in_loop (codes_same c.next-at.result c.args.first (sym c.eq.ensures ∙ c.if-eq.true))
+pub returns-then-next-first-clause-items : goal.returns-then-next-first-clause-items
+returns-then-next-first-clause-items g c =
+    let M = c.args.arena.now.model in
+    c.put_at.ensures ∙ ap (slice_set c.round.buf c.round.count) c.of.ensures
+    ∙ cycle_laid (g.T.Written.told M) M c.requires.ready.sound c.args.first c.requires.there c.args.buf.now c.round.at c.round.buf c.round.count c.round.invariant
+    c.next_code-next.result c.next_code-next.ensures.next c.if-next-first.true
 
 pub round-smaller : goal.round-smaller
-round-smaller c =
-    let shorter = round_shorter c.args.arena.now.model c.requires.sound (code c.args.first) c.requires.there c.args.buf.now (code c.round.at) c.round.buf c.round.count c.round.invariant
-    (code c.next-at.result) c.next-at.ensures.in_loop (codes_differ c.next-at.result c.args.first (sym c.eq.ensures ∙ c.if-eq.false)) in
+round-smaller g c =
+    let M = c.args.arena.now.model in
+    let shorter = round_shorter (g.T.Written.told M) M c.requires.ready.sound c.args.first c.requires.there c.args.buf.now c.round.at c.round.buf c.round.count c.round.invariant
+    c.next_code-next.result c.next_code-next.ensures.next c.if-next-first.false in
     omega (arith, shorter)
 
 pub round-preserved : goal.round-preserved
-round-preserved c =
-    let M = c.args.arena.now.model in
-    let put = c.put_at.ensures ∙ ap (slice_set c.round.buf c.round.count) c.code.ensures in
-    subst (λ (now : List ℕ). CycleRound M (code c.args.first) (code c.next-at.result) c.args.buf.now now (c.round.count + 1)) (sym put)
-    (round_more M c.requires.sound (code c.args.first) c.requires.there c.args.buf.now (code c.round.at) c.round.buf c.round.count c.round.invariant
-    (code c.next-at.result) c.next-at.ensures.in_loop (codes_differ c.next-at.result c.args.first (sym c.eq.ensures ∙ c.if-eq.false)))
+round-preserved g c =
+    let M = c.args.arena.now.model in let f = g.T.Written.told M in
+    let put = c.put_at.ensures ∙ ap (slice_set c.round.buf c.round.count) c.of.ensures in
+    subst (λ now. CycleRound f M c.args.first c.next_code-next.result c.args.buf.now now (c.round.count + 1)) (sym put)
+    (round_more f M c.requires.ready.sound c.args.first c.requires.there c.args.buf.now c.round.at c.round.buf c.round.count c.round.invariant
+    c.next_code-next.result c.next_code-next.ensures.next c.if-next-first.false)

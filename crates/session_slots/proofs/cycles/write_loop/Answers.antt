@@ -1,20 +1,32 @@
-use Rattle.euler_operators.specs.HalfEdge.{code}
-use Rattle.euler_operators.specs.Model.{content}
+use Rattle.std.proofs.Common.{◌∙◌, sym, ap, subst}
+use Rattle.euler_operators.specs.Model.{content, loop_of, cycle_of}
+use Rattle.euler_operators.specs.Sound.{HasHalf}
 use Rattle.solid_listing.proofs.Contents.{not_empty, told_there}
-use Rattle.session_slots.proofs.Numbers.{told_cycle, lone_items}
+use Rattle.solid_walks.proofs.face_walks_laws.HalfCodes.{edge_fits}
+use Rattle.session_slots.proofs.Numbers.{told_cycle, told_loop, lone_items}
 use Rattle.session_slots.proofs.Overlaid.{writes_none, writes_from}
 use Rattle.session_slots.proofs.cycles.write_loop.Goals as goal
 
 pub content-requires-clause-filled : goal.content-requires-clause-filled
-content-requires-clause-filled c = not_empty c.args.arena.now.model c.requires.sound c.args.l c.requires.there
+content-requires-clause-filled g c = not_empty c.args.arena.now.model c.requires.ready.sound c.args.l c.requires.there
+
+pub code-requires : goal.code-requires
+code-requires g c =
+    let M = c.args.arena.now.model in edge_fits M c.requires.ready.sound c.in-Ring.half (told_there M c.requires.ready.sound c.args.l c.in-Ring.half c.in-Ring.ensures)
 
 pub write_from-requires-clause-there : goal.write_from-requires-clause-there
-write_from-requires-clause-there c = told_there c.args.arena.now.model c.requires.sound c.args.l c.in-Ring.half c.in-Ring.ensures
+write_from-requires-clause-there g c = subst (HasHalf c.args.arena.now.model) (sym c.code.ensures) (told_there c.args.arena.now.model c.requires.ready.sound c.args.l c.in-Ring.half c.in-Ring.ensures)
+
+pub write_from-requires-clause-of_loop : goal.write_from-requires-clause-of_loop
+write_from-requires-clause-of_loop g c =
+    let M = c.args.arena.now.model in sym (ap (loop_of M) c.code.ensures ∙ told_loop M c.requires.ready.sound c.args.l c.in-Ring.half c.in-Ring.ensures)
 
 pub returns-in-Lone : goal.returns-in-Lone
-returns-in-Lone c = writes_none _ c.args.buf.now (lone_items (content c.args.arena.now.model c.args.l) _ c.in-Lone.ensures)
+returns-in-Lone g c =
+    let M = c.args.arena.now.model in writes_none g.T.Written.told M c.args.l c.args.buf.now (lone_items (content M c.args.l) _ c.in-Lone.ensures)
 
 pub returns-in-Ring : goal.returns-in-Ring
-returns-in-Ring c =
-    writes_from (code c.in-Ring.half) _ _ c.args.buf.now c.write_from.new.buf c.write_from.result
-    (told_cycle c.args.arena.now.model c.requires.sound c.args.l c.in-Ring.half c.in-Ring.ensures) c.write_from.ensures.count c.write_from.ensures.items
+returns-in-Ring g c =
+    let M = c.args.arena.now.model in
+    writes_from g.T.Written.told M c.args.l c.code.result _ c.args.buf.now c.write_from.new.buf c.write_from.result
+    (ap (cycle_of M) c.code.ensures ∙ told_cycle M c.requires.ready.sound c.args.l c.in-Ring.half c.in-Ring.ensures) c.write_from.ensures.count c.write_from.ensures.items
