@@ -1,28 +1,34 @@
 -- The faces of a solid that was split: those that the plane doesn't straddle are of the part on their side.
-use Rattle.std.specs.Prelude.{filter, map}
+use Rattle.std.specs.Prelude.{drop, filter, map}
 use Rattle.std.specs.List.{list_any}
 use Rattle.std.specs.Option.{option_map}
-use Rattle.std.proofs.Common.{◌≡◌, ◌≢◌, ℕ, ◌+◌, ◌≤◌, Bool, true, false, cond, not, ◌&&◌, ◌||◌, List, [], ◌∷◌, length, nat_eq, None, Some, is_some, pos, int_lt, refl, sym, ap, subst, ◌∙◌, arith, true≢false}
+use Rattle.std.proofs.Common.{◌≡◌, ◌≢◌, ℕ, ◌+◌, ◌≤◌, Bool, true, false, cond, not, ◌&&◌, ◌||◌, List, [], ◌∷◌, ◌++◌, length, nat_eq, None, Some, is_some, pos, int_lt, refl, sym, ap, subst, ◌∙◌, arith, true≢false, inl, inr}
 use Rattle.std.proofs.lemmas.Bool.{false_from_ne_true}
 use Rattle.std.proofs.lemmas.Grind.{flat_map-append}
+use Rattle.std.proofs.lemmas.List.{map-append}
 use Rattle.euler_operators.specs.declared.Plane.{Plane}
 use Rattle.euler_operators.specs.declared.Point.{Point}
 use Rattle.euler_operators.specs.Vectors.{direction, dot, is_above, is_below}
-use Rattle.euler_operators.specs.Items.{count}
-use Rattle.euler_operators.specs.HalfEdge.{edge_of}
+use Rattle.euler_operators.specs.Items.{count, head_or, IsIn}
+use Rattle.euler_operators.specs.Rings.{canonical}
+use Rattle.euler_operators.specs.HalfEdge.{edge_of, mate, plus}
 use Rattle.euler_operators.specs.Table as table
-use Rattle.euler_operators.specs.Model.{Model, FaceRow, LoopContent, content, cycle, faces_of, lone, outer, point_of, rings_of, solid_of, tail}
+use Rattle.euler_operators.specs.Model.{Model, FaceRow, LoopContent, content, cycle, face_of, faces_of, items_of, lone, outer, point_of, rings_of, solid_of, tail}
 use Rattle.euler_operators.specs.Sound.{Sound, Has}
-use Rattle.euler_operators.specs.Conditions.{lists}
+use Rattle.euler_operators.specs.Conditions.{face_at, lists}
 use Rattle.euler_operators.specs.Effect.{kfmrh, part}
-use Rattle.euler_operators.proofs.Lists.{count-append, tick_other, tick_same}
-use Rattle.euler_operators.proofs.Members.{IsIn-filter, filter_passes}
-use Rattle.euler_operators.proofs.Models.{item_there, number_real, outer_row, solid_row}
+use Rattle.euler_operators.proofs.Lists.{IsIn_or_not, count-append, tick_other, tick_same}
+use Rattle.euler_operators.proofs.Maps.{from_map}
+use Rattle.euler_operators.proofs.Members.{IsIn-filter, IsIn_rest, filter_passes}
+use Rattle.euler_operators.proofs.Rotations.{IsIn_head}
+use Rattle.euler_operators.proofs.Models.{item_loop, item_there, number_real, outer_row, solid_row}
 use Rattle.euler_operators.proofs.Tables.{in_use_within}
 use Rattle.euler_laws.proofs.shared.Listed.{IsIn-from_listed, listed-from_in}
 use Rattle.euler_laws.proofs.shared.Rows.{face_there, solid_either}
 use Rattle.euler_laws.proofs.shared.Same.{same_point, same_tail}
-use Rattle.shapes.specs.Faces.{corners, loops_of, vertices_on}
+use Rattle.shapes.specs.Faces.{corners, loops_of, start, vertices_in, vertices_on}
+use Rattle.shapes.specs.Fresh.{Taken, numbers_after}
+use Rattle.shapes.specs.Rewriting.{rewritten}
 use Rattle.shapes.specs.Measure.{is_flat, normal}
 use Rattle.shapes.specs.split.Sides.{face_is_above, faces_above, straddles}
 use Rattle.shapes.specs.split.Drawing.{Drawing, with_drawings}
@@ -34,6 +40,8 @@ use Rattle.split_drawing_laws.proofs.crossings.Premises.{in_solid}
 use Rattle.split_drawing_laws.proofs.cut_volumes.CutWhole.{all_flat}
 use Rattle.split_opening_laws.specs.sections.Capped.{cap_faces}
 use Rattle.split_opening_laws.specs.sections.InTurn.{upper_faces, CanBeOpenedInTurn}
+use Rattle.split_opening_laws.specs.strips.Opened.{CanBeOpened}
+use Rattle.split_opening_laws.proofs.sections.Numbered.{renamed_not}
 use Rattle.split_opening_laws.proofs.sections.InTurn.{can_open, new_caps, opened_next, openings_carry}
 use Rattle.split_laws.specs.volumes.Laws.{CanBeSplit}
 use Rattle.split_laws.proofs.Holes.{holes_counted}
@@ -49,13 +57,19 @@ use Rattle.split_laws.proofs.volumes.Taken as taken
 use Rattle.split_laws.proofs.volumes.Taken.{CanTake}
 use Rattle.undo_journal.specs.Machine.{held}
 use Rattle.command_laws.specs.LeftAlone.{StandsAsBefore}
+use Rattle.command_laws.specs.NewFaces.{corner_points}
 use Rattle.command_laws.specs.RingedFaces.{loop_points}
 use Rattle.command_laws.specs.TakenOver.{AreTurned, IsTakenOver}
 use Rattle.command_laws.proofs.Turned.{IsTurned, not_turned, rewritten_turned, turned_on, turned_over}
-use Rattle.split_frames.specs.Laws.{SplitSharesFaces}
+use Rattle.split_frames.specs.Laws.{SplitKeepsBelow, SplitSharesFaces}
 use Rattle.split_frames.proofs.PartedWithin.{kill_keeps, part_keeps}
 use Rattle.split_frames.proofs.Uncut.{uncut_stands, uncut_turned}
 use Rattle.split_frames.proofs.Whole.{after_is, after_sound}
+
+-- where half-edges start where they did, the points along them are those that they were
+points_along : (M N : Model) (hs : List ℕ) → ((h : ℕ) → IsIn h hs → start N h ≡ start M h) → map (point_of N) (map (tail N) hs) ≡ map (point_of M) (map (tail M) hs)
+points_along M N [] same = refl
+points_along M N (h ∷ hs) same = λ i. same h (IsIn_head h hs) i ∷ points_along M N hs (λ y j. same y (IsIn_rest y h hs j)) i
 
 -- ---- where edges, points and a loop stay, so do the points of its corners
 
@@ -63,13 +77,12 @@ module _ (M N : Model) (l : ℕ) (points : N.vertices ≡ M.vertices) (edges : N
   point : (v : ℕ) → point_of N v ≡ point_of M v
   point v = same_point M N v (ap (λ t. table.get t v) points)
 
-  starts : (hs : List ℕ) → map (point_of N) (map (tail N) hs) ≡ map (point_of M) (map (tail M) hs)
-  starts [] = refl
-  starts (h ∷ hs) = λ i. (ap (point_of N) (same_tail M N h (ap (λ t. table.get t (edge_of h)) edges)) ∙ point (tail M h)) i ∷ starts hs i
+  starts : (h : ℕ) → start N h ≡ start M h
+  starts h = ap (point_of N) (same_tail M N h (ap (λ t. table.get t (edge_of h)) edges)) ∙ point (tail M h)
 
   on : (c : LoopContent) → map (point_of N) (vertices_on N c) ≡ map (point_of M) (vertices_on M c)
   on (lone v) = λ i. point v i ∷ []
-  on (cycle hs) = starts hs
+  on (cycle hs) = points_along M N hs (λ h i. starts h)
 
   same_points : loop_points N l ≡ loop_points M l
   same_points = ap (λ c. map (point_of N) (vertices_on N c)) same ∙ on (content M l)
@@ -88,13 +101,54 @@ module _ (M N : Model) (swap : ℕ → ℕ) (w : Rewritten M N swap) (k : ℕ) (
     normal = kept.normal_is M N swap w k there;
   }
 
--- face k of D is in o's model, still of solid s, and no cap
-record IsLeft (D : Model) (s k : ℕ) (o : Opening) : Type 0 where
+-- a loop in which nothing is replaced has the points that it had
+module _ (M N : Model) (swap : ℕ → ℕ) (w : Rewritten M N swap) (l : ℕ) (has : Has M.loops l) (same : (y : ℕ) → IsIn y (items_of (content M l)) → swap y ≡ y) where
+  all_same : (hs : List ℕ) → ((y : ℕ) → IsIn y hs → swap y ≡ y) → map swap hs ≡ hs
+  all_same [] each = refl
+  all_same (h ∷ hs) each = λ i. each h (IsIn_head h hs) i ∷ all_same hs (λ y j. each y (IsIn_rest y h hs j)) i
+
+  on_content : (c : LoopContent) → content M l ≡ c → map (point_of N) (vertices_on N (rewritten (map swap) c)) ≡ map (point_of M) (vertices_on M c)
+  on_content (lone v) is = ap (λ q. q ∷ []) (w.points v (w.sound.lone_at_vertex l v is))
+  on_content (cycle hs) is =
+      let inside : (y : ℕ) → IsIn y hs → IsIn y (items_of (content M l)) = λ y j. subst (λ c. IsIn y (items_of c)) (sym is) j in
+      ap (λ xs. map (point_of N) (map (tail N) (canonical xs))) (all_same hs (λ y j. same y (inside y j)))
+      ∙ ap (λ xs. map (point_of N) (map (tail N) xs)) (w.sound.cycles l hs has is).from_least
+      ∙ points_along M N hs (λ y j. ap (start N) (sym (same y (inside y j))) ∙ (w.stays y (item_there M w.sound l y (inside y j))).0)
+
+  exact_points : loop_points N l ≡ loop_points M l
+  exact_points = ap (λ c. map (point_of N) (vertices_on N c)) (kept.content_is M N swap w l has) ∙ on_content (content M l) refl
+
+-- each loop of face k has the corner points that it had, in their order
+abbrev IsExact : Model → Model → ℕ → Type 0
+IsExact D N k = (l : ℕ) → IsIn l (loops_of D k) → loop_points N l ≡ loop_points D l
+
+-- face k of D is in o's model, still of solid s, and no cap; its loops are as they were where it isn't above
+record IsLeft (D : Model) (above : List ℕ) (s k : ℕ) (o : Opening) : Type 0 where
   turned : IsTurned D o.model k
+  exact : lists above k ≡ false → IsExact D o.model k
   of : solid_of o.model k ≡ s
   no_cap : count k (cap_faces o.caps) ≡ 0
 
-opened_left : (D : Model) (above : List ℕ) (s k : ℕ) (p : Plane) (o : Opening) (bs : List ℕ) (cs : List (List ℕ)) → CanBeOpenedInTurn above s o (bs ∷ cs) → IsLeft D s k o → IsLeft D s k (opened_next p above s o bs)
+-- the half-edges that are replaced are of faces above
+module _ (M : Model) (above : List ℕ) (s : ℕ) (c : Taken) (bs : List ℕ) (w : CanBeOpened M above s c bs) (k : ℕ) (there : Has M.faces k) (low : lists above k ≡ false) (l : ℕ) (i : IsIn l (loops_of M k)) where
+  own : Has M.loops l × (face_of M l ≡ k)
+  own = face_of_loop M w.sound k l there (listed-from_in l (loops_of M k) i)
+
+  no_mate : (y : ℕ) → IsIn y (items_of (content M l)) → count y (map mate bs) ≡ 0
+  no_mate y j = elim (IsIn_or_not y (map mate bs)) [
+    | inl m ↦
+        let r = from_map mate y bs m in
+        let at : face_at M y ≡ k = ap (face_of M) (item_loop M w.sound l y j) ∙ own.1 in
+        absurd (true≢false (sym (w.cycle.halves r.0 r.1).mate_above ∙ ap (λ h. lists above (face_at M h)) (sym r.2) ∙ ap (lists above) at ∙ low))
+    | inr z ↦ z
+  ]
+
+  opened_exact : loop_points (opened_along M above s c bs) l ≡ loop_points M l
+  opened_exact = exact_points M (opened_along M above s c bs) (swap M above s c bs w) (is_rewritten M above s c bs w) l own.0
+      (λ y j. renamed_not (map mate bs) (map plus (numbers_after c.edge (length bs))) y (no_mate y j))
+
+opened_left : (D : Model) (above : List ℕ) (s k : ℕ) (p : Plane) (o : Opening) (bs : List ℕ) (cs : List (List ℕ)) → CanBeOpenedInTurn above s o (bs ∷ cs) → IsLeft D above s k o →
+    IsLeft D above s k (opened_next p above s o bs)
 opened_left D above s k p o bs cs w a =
     let can = can_open above s o bs cs w in
     let N = opened_along o.model above s o.taken bs in
@@ -102,6 +156,7 @@ opened_left D above s k p o bs cs w a =
     let low : k ≤ o.taken.face = in_use_within o.model.faces o.taken.face w.free.faces k a.turned.there in
     record {
       turned = turned_on D o.model N k a.turned (opened_turned o.model N (swap o.model above s o.taken bs can) r k a.turned.there);
+      exact = λ off l i. opened_exact o.model above s o.taken bs can k a.turned.there off l (subst (IsIn l) (sym a.turned.loops) i) ∙ a.exact off l i;
       of = kept.solid_is o.model N (swap o.model above s o.taken bs can) r k a.turned.there ∙ a.of;
       no_cap = omega (
         arith,
@@ -224,30 +279,35 @@ module _ (M : Model) (s : ℕ) (p : Plane) (t : ℕ) (sound : Sound M) (accepted
   now_of : solid_of d.model k ≡ s
   now_of = stands.solid ∙ of
 
-  opened : IsLeft d.model s k X
-  opened = openings_carry above s p (λ x ds. IsLeft d.model s k x) (λ x bs ds w a. opened_left d.model above s k p x bs ds w a) (record { model = d.model; taken = d.taken; caps = [] })
-      (section_cycles d.model (below_halves d.model above s)) can.opens (record { turned = record { there = now.there; loops = refl; points = λ l i. not_turned _ _ refl; normal = refl }; of = now_of; no_cap = refl })
+  opened : IsLeft d.model above s k X
+  opened = openings_carry above s p (λ x ds. IsLeft d.model above s k x) (λ x bs ds w a. opened_left d.model above s k p x bs ds w a) (record { model = d.model; taken = d.taken; caps = [] })
+      (section_cycles d.model (below_halves d.model above s)) can.opens (record { turned = record { there = now.there; loops = refl; points = λ l i. not_turned _ _ refl; normal = refl }; exact = λ off l i. refl; of = now_of; no_cap = refl })
 
   real : k ≢ 0
   real = number_real k (sound.faces_fit k there)
 
   abbrev Stays : List (ℕ × ℕ) → Model → Type 0
-  Stays qs A = IsOther k qs × IsTurned d.model A k × (solid_of A k ≡ s)
+  Stays qs A = IsOther k qs × IsTurned d.model A k × (solid_of A k ≡ s) × (lists above k ≡ false → IsExact d.model A k)
 
   closed : Stays [] K
   closed =
       let other = outer_other k X.caps real opened.no_cap in
       closing_leads X.model s p X.caps Stays
-      (λ A q rs w clear a. (a.0.2, turned_on d.model A (kfmrh A q.0 q.1) k a.1 (closed_turned A p q.0 q.1 w k a.1.there a.0.0 a.0.1), taken.solid_same A p q.0 q.1 w k a.0.1 ∙ a.2))
+      (λ A q rs w clear a. (
+        a.0.2,
+        turned_on d.model A (kfmrh A q.0 q.1) k a.1 (closed_turned A p q.0 q.1 w k a.1.there a.0.0 a.0.1),
+        taken.solid_same A p q.0 q.1 w k a.0.1 ∙ a.2,
+        λ off l i. let keeps = kill_keeps A q.0 q.1 in same_points A (kfmrh A q.0 q.1) l keeps.0 keeps.1 (taken.content_same A p q.0 q.1 w l) ∙ a.3 off l i,
+      ))
       (split.closes d above s p t can)
-      (closing_other k (outer_caps X.caps) (filter (λ c. c.hole) X.caps) other.0 other.1 (omega (arith, holes_counted k X.caps, opened.no_cap)), opened.turned, opened.of)
+      (closing_other k (outer_caps X.caps) (filter (λ c. c.hole) X.caps) other.0 other.1 (omega (arith, holes_counted k X.caps, opened.no_cap)), opened.turned, opened.of, opened.exact)
+
+  inside : face_is_above d.model p k ≡ face_is_above M p k
+  inside = same_side M d.model p k stands now.normal
 
   -- it is one of the upper faces where it is above
   side : lists us k ≡ face_is_above M p k
   side = go (face_is_above M p k) refl where
-    inside : face_is_above d.model p k ≡ face_is_above M p k
-    inside = same_side M d.model p k stands now.normal
-
     go : (b : Bool) → face_is_above M p k ≡ b → lists us k ≡ b
     go true e = listed-from_in k us (omega (
       arith,
@@ -263,6 +323,23 @@ module _ (M : Model) (s : ℕ) (p : Plane) (t : ℕ) (sound : Sound M) (accepted
   pub shared_of : solid_of (part K s t us) k ≡ cond (face_is_above M p k) t s
   shared_of = parted_solid K s t us k closed.1.there ∙ (λ i. cond (side i) t (closed.2 i))
 
+  -- below, its loops have their points in their order
+  all_points : (ls : List ℕ) → ((l : ℕ) → IsIn l ls → loop_points (part K s t us) l ≡ loop_points d.model l) → map (point_of (part K s t us)) (vertices_in (part K s t us) ls) ≡ map (point_of d.model) (vertices_in d.model ls)
+  all_points [] each = refl
+  all_points (l ∷ ls) each = let P = part K s t us in
+      map-append (point_of P) (vertices_on P (content P l)) (vertices_in P ls)
+      ∙ (λ i. each l (IsIn_head l ls) i ++ all_points ls (λ q j. each q (IsIn_rest q l ls j)) i)
+      ∙ sym (map-append (point_of d.model) (vertices_on d.model (content d.model l)) (vertices_in d.model ls))
+
+  pub below_points : face_is_above M p k ≡ false → corner_points (part K s t us) k ≡ corner_points M k
+  unfolding corners
+  below_points low =
+      let P = part K s t us in
+      let keeps = part_keeps K s t us in
+      let off : lists above k ≡ false = false_from_ne_true (lists above k) (λ l. true≢false (sym (filter_passes (face_is_above d.model p) k (faces_of d.model s) (IsIn-from_listed k above l)) ∙ inside ∙ low)) in
+      ap (λ ls. map (point_of P) (vertices_in P ls)) (shared_turned.loops ∙ sym now.loops)
+      ∙ all_points (loops_of d.model k) (λ l i. same_points K P l keeps.0 keeps.1 (split.content_same K s t us l) ∙ closed.3 off l i) ∙ stands.points
+
   pub was_flat : is_flat M k ≡ true
   was_flat = all_flat M s p t sound (begins M s p t sound accepted) k there of
 
@@ -272,3 +349,22 @@ split_shares_faces before after s p t k sound made there of whole =
     subst (λ N. IsTakenOver M N k (cond (face_is_above M p k) t s)) (sym (after_is before after s p t sound made))
     (turned_over M _ k (cond (face_is_above M p k) t s) (after_sound before after s p t sound made) (was_flat M s p t sound made.0 k there of whole)
     (shared_of M s p t sound made.0 k there of whole) (shared_turned M s p t sound made.0 k there of whole))
+
+-- where it lies below it stands as it did
+below_stands : (M N : Model) (k s : ℕ) → solid_of M k ≡ s → IsTakenOver M N k s → corner_points N k ≡ corner_points M k → StandsAsBefore M N k
+unfolding loops_of
+below_stands M N k s of w points = record {
+  there = w.there;
+  solid = w.solid ∙ sym of;
+  outer = ap (head_or 0) w.loops;
+  rings = ap (drop 1) w.loops;
+  points = points;
+  plane = w.plane;
+}
+
+pub split_keeps_below : SplitKeepsBelow
+split_keeps_below before after s p t k sound made there of whole low =
+    let M = held before in
+    let is = after_is before after s p t sound made in
+    let over : IsTakenOver M (held after) k s = subst (IsTakenOver M (held after) k) (ap (λ b. cond b t s) low) (split_shares_faces before after s p t k sound made there of whole) in
+    below_stands M (held after) k s of over (ap (λ N. corner_points N k) is ∙ below_points M s p t sound made.0 k there of whole low)

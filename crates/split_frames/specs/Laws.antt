@@ -6,7 +6,7 @@ use Rattle.euler_operators.specs.Sound.{Sound, Has}
 use Rattle.shapes.specs.split.Sides.{face_is_above, straddles}
 use Rattle.undo_journal.specs.Machine.{Machine, held}
 use Rattle.plane_split.specs.SplitModels.{IsSplit}
-use Rattle.command_laws.specs.LeftAlone.{KeepsRows, KeepsOwners, KeepsLoops, KeepsEdges, KeepsPoints, KeepsShapes, OfOthers}
+use Rattle.command_laws.specs.LeftAlone.{KeepsRows, KeepsOwners, KeepsLoops, KeepsEdges, KeepsPoints, KeepsShapes, OfOthers, StandsAsBefore}
 use Rattle.command_laws.specs.TakenOver.{IsTakenOver}
 
 -- each face of another solid has its row
@@ -38,3 +38,8 @@ SplitKeepsShapes = (before after : Machine) (s : ℕ) (p : Plane) (t : ℕ) → 
 abbrev pub SplitSharesFaces : Type 0
 SplitSharesFaces = (before after : Machine) (s : ℕ) (p : Plane) (t k : ℕ) → Sound (held before) → IsSplit before after s p t → Has (held before).faces k → solid_of (held before) k ≡ s →
     straddles (held before) p k ≡ false → IsTakenOver (held before) (held after) k (cond (face_is_above (held before) p k) t s)
+
+-- and where it doesn't lie above it stands as it did
+abbrev pub SplitKeepsBelow : Type 0
+SplitKeepsBelow = (before after : Machine) (s : ℕ) (p : Plane) (t k : ℕ) → Sound (held before) → IsSplit before after s p t → Has (held before).faces k → solid_of (held before) k ≡ s →
+    straddles (held before) p k ≡ false → face_is_above (held before) p k ≡ false → StandsAsBefore (held before) (held after) k

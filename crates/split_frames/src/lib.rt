@@ -7,9 +7,9 @@
 //! Of a session after a split answered Ok: each face of another solid than the one that was split is of the solid, and has the outer
 //! loop, the rings, the corner points and the plane, that it had; each of its loops has its face and its content, each edge its
 //! ends, and each vertex its point. Each face of that solid that the plane doesn't straddle is of the part on its side, with its loops,
-//! their corner points, round from another on, and its plane.
+//! their corner points, round from another on, and its plane; in the lower part it stands as it did.
 
-ghost use Rattle.split_frames.specs.Laws.{SplitKeepsRows, SplitKeepsOwners, SplitKeepsLoops, SplitKeepsEdges, SplitKeepsPoints, SplitKeepsShapes, SplitSharesFaces};
+ghost use Rattle.split_frames.specs.Laws.{SplitKeepsRows, SplitKeepsOwners, SplitKeepsLoops, SplitKeepsEdges, SplitKeepsPoints, SplitKeepsShapes, SplitKeepsBelow, SplitSharesFaces};
 
 /// After a split the faces of other solids, their loops, edges and vertices are as they were.
 pub fn splits_leave_alone()
@@ -22,7 +22,9 @@ pub fn splits_leave_alone()
 {}
 
 /// After a split each face of the solid that the plane doesn't straddle is of the upper part where it lay above, else of the lower one. It
-/// has the loops and the plane that it had and is flat, and its loops have the corner points that they had, maybe from another on.
+/// has the loops and the plane that it had and is flat, and its loops have the corner points that they had, maybe from another on. One of
+/// the lower part stands as it did.
 pub fn splits_share_faces()
-    ensures { SplitSharesFaces }
+    ensures whole { SplitSharesFaces }
+    ensures below { SplitKeepsBelow }
 {}
