@@ -95,7 +95,7 @@ class Conversation:
         greatest = kernel.journal.greatest.after(made, killed)
         greatest.settle({kind: numbers[-1] for kind, numbers in fresh.items()})
         self._numbers.were_used(greatest)
-        kernel.journal.add(Given(call, greatest, Firsts(*[fresh[kind][0] for kind in COUNTED_KINDS]) if fresh else None))
+        kernel.journal.add(Given(call, greatest, Firsts(*[numbers.start for numbers in fresh.values()]) if fresh else None))
         if call.word == 'block':
             kernel.following.keep_up()
         return fresh

@@ -28,18 +28,25 @@ class Following:
             self._start()
         self._is_whole = False
         self._take_back(state)
-        for given in state.given_from(len(self._taken)):
-            self._mirror.follow(given)
-            self._taken.append(given)
+        self._follow(state)
         self._is_whole, self._seen = True, seen
         return self._mirror
 
     def keep_up(self) -> None:
         """Follows the last call, if all before it were followed: for those that cost next to nothing."""
-        state = self._journal.state
-        taken = len(self._taken)
-        if self._is_whole and taken == state.calls_held - 1 and (taken == 0 or state.given(taken - 1) is self._taken[-1]):
-            self.now()
+        state, taken = self._journal.state, len(self._taken)
+        if not self._is_whole or not self._mirror.is_whole or taken != state.calls_held - 1:
+            return
+        if taken == 0 or state.given(taken - 1) is self._taken[-1]:
+            self._is_whole = False
+            self._follow(state)
+            self._is_whole, self._seen = True, (state, taken + 1)
+
+    def _follow(self, state: State) -> None:
+        """Follows what is held beyond."""
+        for given in state.given_from(len(self._taken)):
+            self._mirror.follow(given)
+            self._taken.append(given)
 
     def _start(self) -> None:
         self._mirror = Mirror()

@@ -104,7 +104,11 @@ class State(NamedTuple):
 
     def given(self, place: int) -> Optional[Given]:
         """The call at a place of all that are held, from 0 on; None past the last one."""
-        return next(self.given_from(place), None)
+        commands, drafted = self._of_commands, self.draft or ()
+        if place < commands:
+            done = self.done[self._command_at(place)]
+            return done.given[place - done.before]
+        return drafted[place - commands] if place - commands < len(drafted) else None
 
     def given_from(self, place: int) -> Iterator[Given]:
         """The calls from a place on."""
@@ -116,8 +120,11 @@ class State(NamedTuple):
         yield from _from(max(place - self._of_commands, 0), self.draft or ())
 
     def _command_at(self, place: int) -> int:
-        """The command that the call at a place is one of."""
-        low, high = 0, self.at - 1
+        """The command that the call at a place is one of: mostly one of the last two."""
+        for command in range(self.at - 1, max(self.at - 3, -1), -1):
+            if self.done[command].before <= place:
+                return command
+        low, high = 0, self.at - 3
         while low < high:
             middle = (low + high + 1) // 2
             low, high = (middle, high) if self.done[middle].before <= place else (low, middle - 1)

@@ -431,14 +431,14 @@ class Mirror:
 
     def _fold(self, values: Sequence[Any], firsts: Firsts) -> bool:
         """Follows a block folded; False where its numbers don't lie above those of the ones before."""
-        fold = _Fold(values, firsts)
-        if self._folds and any(self._folds[-1].numbers(kind).stop > fold.numbers(kind).start for kind in _BLOCK):
+        if self._folds and any([last + count > first for last, count, first in zip(self._folds[-1].firsts, _BLOCK.values(), firsts)]):
             return False
+        fold = _Fold(values, firsts)
         self._marks.append(fold)
         self._folds.append(fold)
         self._folded[values[0]] = fold
-        for kind, starts in self._starts.items():
-            starts.append(fold.numbers(kind).start)
+        for starts, first in zip(self._starts.values(), firsts):
+            starts.append(first)
         return True
 
     def _take_back_fold(self, fold: _Fold) -> None:
