@@ -11,6 +11,7 @@ use Rattle.sweeps.specs.Vectors.{direction, dot}
 use Rattle.sweeps.specs.Model.{Model, solid_of}
 use Rattle.sweeps.specs.Sound.{Has}
 use Rattle.command_laws.specs.Counted.{counts}
+use Rattle.command_laws.specs.LeftAlone.{StandsAsBefore}
 use Rattle.command_laws.specs.TakenOver.{IsTakenOver}
 use Rattle.split_caps.specs.Capped.{IsCapOf, cap, caps_of, cycles_of}
 
@@ -33,6 +34,10 @@ ShareSums M N d s t = let plane = plane_with (pos 1) (pos 0) (pos 0) d in
 abbrev pub ShareFaces : Model → Model → ℤ → ℕ → ℕ → Type 0
 ShareFaces M N d s t = let plane = plane_with (pos 1) (pos 0) (pos 0) d in (k : ℕ) → Has M.faces k → solid_of M k ≡ s → straddles M plane k ≡ false →
     IsTakenOver M N k (cond (face_is_above M plane k) t s)
+
+-- and where it doesn't lie above it stands as it did
+abbrev pub KeepsBelow : Model → Model → ℤ → ℕ → Type 0
+KeepsBelow M N d s = let plane = plane_with (pos 1) (pos 0) (pos 0) d in (k : ℕ) → Has M.faces k → solid_of M k ≡ s → straddles M plane k ≡ false → face_is_above M plane k ≡ false → StandsAsBefore M N k
 
 -- in a section without holes no cap below points against the plane's direction, and the cap above is its opposite
 abbrev pub FaceApart : Model → Model → ℤ → ℕ → Type 0

@@ -1,9 +1,12 @@
--- A command that can be taken back, and what an operator makes of the counts.
-use Rattle.std.specs.Prelude.{◌≡◌, ◌≢◌, ℕ, suc, true, None}
+-- A command that can be taken back, and what an operator makes of counts and faces.
+use Rattle.std.specs.Prelude.{◌≡◌, ◌≢◌, ℕ, suc, true, false, None}
 use Rattle.euler_operators.specs.declared.Op.{Op}
+use Rattle.euler_operators.specs.Conditions.{lists}
 use Rattle.sweeps.specs.Model.{Model}
+use Rattle.sweeps.specs.Sound.{Has}
 use Rattle.command_laws.specs.Counted.{counts}
-use Rattle.command_laws.specs.Operators.{counted_on, is_inner, solid_in}
+use Rattle.command_laws.specs.Operators.{counted_on, faces_met, is_inner, leaves_vertices, solid_in}
+use Rattle.command_laws.specs.LeftAlone.{StandsAsBefore}
 use Rattle.sweeps.specs.PlainMachine.{Machine, depth, ahead, held, undo, undo_refusal}
 
 -- one command leads from the machine before to the one after: undo isn't refused, gives the model before, and leaves it to be redone
@@ -15,3 +18,7 @@ IsOneCommand before after =
 pub record AreCounted (M N : Model) (op : Op) : Type 0 where
   pub inner : is_inner op ≡ true → counts N (solid_in M op) ≡ counted_on op (counts M (solid_in M op))
   pub others : (u : ℕ) → is_inner op ≡ true → u ≢ solid_in M op → counts N u ≡ counts M u
+
+-- an operator that leaves all vertices leaves the faces that it doesn't change, make or kill
+abbrev pub LeavesFaces : Model → Model → Op → Type 0
+LeavesFaces M N op = (k : ℕ) → leaves_vertices op ≡ true → Has M.faces k → lists (faces_met M op) k ≡ false → StandsAsBefore M N k

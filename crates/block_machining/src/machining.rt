@@ -3,9 +3,9 @@ ghost use Rattle.std.specs.Prelude.{◌≡◌, ◌≢◌, pos, ◌+ℤ◌, ◌-�
 ghost use Rattle.command_laws.specs.Counted.{counts};
 ghost use Rattle.command_laws.specs.LeftAlone.{KeepsEdges, KeepsLoops, Each, OfOthers, OfOthersBut};
 ghost use Rattle.command_laws.specs.RingedFaces.{IsFarFace};
-ghost use Rattle.block_machining.specs.Cutting.{AreCapped, FaceApart, HasOuterCap, LieOnEitherSide, ShareFaces, ShareSums};
+ghost use Rattle.block_machining.specs.Cutting.{AreCapped, FaceApart, HasOuterCap, KeepsBelow, LieOnEitherSide, ShareFaces, ShareSums};
 ghost use Rattle.block_machining.specs.Joining.{TakesOver};
-ghost use Rattle.block_machining.specs.Undoing.{AreCounted, IsOneCommand};
+ghost use Rattle.block_machining.specs.Undoing.{AreCounted, IsOneCommand, LeavesFaces};
 ghost use Rattle.gluing.specs.Machine.{glue, glue_refusal};
 ghost use Rattle.plane_split.specs.Machine.{plane_with, split, split_refusal};
 ghost use Rattle.sweeps.specs.Machine.{sweep_refusal};
@@ -18,8 +18,8 @@ ghost use Rattle.sweeps.specs.Vectors.{dot};
 use call_lists::Refusal;
 use command_laws::{
     glues_join_counts, glues_keep_and_join, glues_leave_alone, glues_take_faces_over,
-    operators_count, ringed_sweeps_make_faces, solids_are_there, sweeps_add_counts,
-    sweeps_leave_alone,
+    operators_count, operators_leave_faces, ringed_sweeps_make_faces, solids_are_there,
+    sweeps_add_counts, sweeps_leave_alone,
 };
 use gluing::{glue, glue_measures, six_volume};
 use plane_split::{split, splits_are_held};
@@ -95,6 +95,7 @@ pub fn cut(
     ensures caps { OnOk result.1 (AreCapped (held session.machine) (held result.0.machine) d s upper) }
     ensures sum { OnOk result.1 (ShareSums (held session.machine) (held result.0.machine) d s upper) }
     ensures whole { OnOk result.1 (ShareFaces (held session.machine) (held result.0.machine) d s upper) }
+    ensures below { OnOk result.1 (KeepsBelow (held session.machine) (held result.0.machine) d s) }
     ensures apart { OnOk result.1 (FaceApart (held session.machine) (held result.0.machine) d s) }
     ensures crossed { OnOk result.1 (HasOuterCap (held session.machine) d s) }
     ensures kept { OnOk result.1 (KeepsLoops (OfOthers (held session.machine) s) (held session.machine) (held result.0.machine)) }
@@ -123,17 +124,19 @@ pub(crate) fn but_for_memory(done: Result<(), Failure>) -> Result<(), AllocError
     }
 }
 
-/// An operator as a command. Where it makes or kills an edge, a face or a ring, what the solids count then is told from what they did. Undo
-/// gives the model before.
+/// An operator as a command. Where it makes or kills an edge, a face or a ring, what the solids count then is told from what they did; where
+/// it leaves all vertices, the faces that it doesn't meet stand. Undo gives the model before.
 pub fn acted(mut session: Session, op: Op) -> (Session, Result<(), Failure>)
     ensures made { OnOk result.1 (result.0.machine ≡ act session.machine op) }
     ensures refused { (refusal : Refusal) → (result.1 ≡ Err (Failure.Refused refusal)) → (act_refusal session.machine op ≡ Some refusal) }
     ensures counted { OnOk result.1 (AreCounted (held session.machine) (held result.0.machine) op) }
+    ensures faces { OnOk result.1 (LeavesFaces (held session.machine) (held result.0.machine) op) }
     ensures undone { OnOk result.1 (IsOneCommand session.machine result.0.machine) }
     ensures err { OnErr result.1 (result.0 ≡ session) }
 {
     session.stays_consistent();
     operators_count();
+    operators_leave_faces();
     let done = session.act(op);
     (session, done)
 }

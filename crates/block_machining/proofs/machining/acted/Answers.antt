@@ -14,3 +14,7 @@ returns-clause-counted c = on_ok_weaker c.act-done.result (λ made.
     let sound = c.stays_consistent.ensures.held_sound in
     let step : IsStep M c.args.op N = (made.0, ap (λ j. held j.machine) made.1) in
     record { inner = c.operators_count.ensures.inner M N c.args.op sound step; others = λ u. c.operators_count.ensures.others M N c.args.op u sound step }) c.act-done.ensures.ok
+
+pub returns-clause-faces : goal.returns-clause-faces
+returns-clause-faces c = on_ok_weaker c.act-done.result (λ made k.
+    c.operators_leave_faces.ensures (held c.args.session.machine) (held c.act-done.new.self.machine) c.args.op k c.stays_consistent.ensures.held_sound (made.0, ap (λ j. held j.machine) made.1)) c.act-done.ensures.ok

@@ -3,7 +3,7 @@ use Rattle.std.proofs.lemmas.Int.{to_z-of_z}
 use Rattle.std.proofs.lemmas.Result.{on_ok_weaker}
 use Rattle.plane_split.specs.Machine.{plane_with, split, split_refusal}
 use Rattle.sweeps.specs.PlainMachine.{held}
-use Rattle.block_machining.specs.Cutting.{AreCapped, FaceApart, HasOuterCap, LieOnEitherSide, ShareFaces, ShareSums}
+use Rattle.block_machining.specs.Cutting.{AreCapped, FaceApart, HasOuterCap, KeepsBelow, LieOnEitherSide, ShareFaces, ShareSums}
 use Rattle.block_machining.proofs.Accepted.{accepted_undone}
 use Rattle.block_machining.proofs.machining.cut.Goals as goal
 
@@ -34,7 +34,7 @@ returns-clause-sum c = on_ok_weaker c.split.result.1 (λ made.
 pub returns-clause-whole : goal.returns-clause-whole
 returns-clause-whole c = on_ok_weaker c.split.result.1 (λ made.
     subst (λ d. ShareFaces (held c.args.session.machine) (held c.split.result.0.machine) d c.args.s c.args.upper) (to_z-of_z w64 c.args.d c.ranges.d)
-    (λ k. c.splits_share_faces.ensures c.args.session.machine c.split.result.0.machine c.args.s _ c.args.upper k c.split.ensures.sound made)) c.split.ensures.ok
+    (λ k. c.splits_share_faces.ensures.whole c.args.session.machine c.split.result.0.machine c.args.s _ c.args.upper k c.split.ensures.sound made)) c.split.ensures.ok
 
 pub returns-clause-crossed : goal.returns-clause-crossed
 returns-clause-crossed c = on_ok_weaker c.split.result.1 (λ made.
@@ -56,3 +56,8 @@ pub returns-clause-apart : goal.returns-clause-apart
 returns-clause-apart c = on_ok_weaker c.split.result.1 (λ made.
     subst (λ d. FaceApart (held c.args.session.machine) (held c.split.result.0.machine) d c.args.s) (to_z-of_z w64 c.args.d c.ranges.d)
     (λ i. c.caps_face_apart.ensures.plain c.args.session.machine c.split.result.0.machine c.args.s _ c.args.upper i c.split.ensures.sound made)) c.split.ensures.ok
+
+pub returns-clause-below : goal.returns-clause-below
+returns-clause-below c = on_ok_weaker c.split.result.1 (λ made.
+    subst (λ d. KeepsBelow (held c.args.session.machine) (held c.split.result.0.machine) d c.args.s) (to_z-of_z w64 c.args.d c.ranges.d)
+    (λ k. c.splits_share_faces.ensures.below c.args.session.machine c.split.result.0.machine c.args.s _ c.args.upper k c.split.ensures.sound made)) c.split.ensures.ok
