@@ -5,3 +5,4 @@ mod OpenedCaps
 mod Sizes
 mod Sectioned
 mod Crossed
+mod Ringed
