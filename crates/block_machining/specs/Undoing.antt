@@ -1,12 +1,16 @@
 -- A command that can be taken back, and what an operator makes of counts and faces.
 use Rattle.std.specs.Prelude.{◌≡◌, ◌≢◌, ℕ, suc, true, false, None}
 use Rattle.euler_operators.specs.declared.Op.{Op}
+use Rattle.euler_operators.specs.declared.Op.TheVariants.{Kfmrh}
+use Rattle.euler_operators.specs.declared.Plane.{Plane}
 use Rattle.euler_operators.specs.Conditions.{lists}
+use Rattle.sweeps.specs.Measure.{six_volume}
 use Rattle.sweeps.specs.Model.{Model}
 use Rattle.sweeps.specs.Sound.{Has}
 use Rattle.command_laws.specs.Counted.{counts}
 use Rattle.command_laws.specs.Operators.{counted_on, faces_met, is_inner, leaves_vertices, solid_in}
 use Rattle.command_laws.specs.LeftAlone.{StandsAsBefore}
+use Rattle.split_caps.specs.Ringed.{LiesOnPlane}
 use Rattle.sweeps.specs.PlainMachine.{Machine, depth, ahead, held, undo, undo_refusal}
 
 -- one command leads from the machine before to the one after: undo isn't refused, gives the model before, and leaves it to be redone
@@ -22,3 +26,7 @@ pub record AreCounted (M N : Model) (op : Op) : Type 0 where
 -- an operator that leaves all vertices leaves the faces that it doesn't change, make or kill
 abbrev pub LeavesFaces : Model → Model → Op → Type 0
 LeavesFaces M N op = (k : ℕ) → leaves_vertices op ≡ true → Has M.faces k → lists (faces_met M op) k ≡ false → StandsAsBefore M N k
+
+-- a face that becomes a ring of another on one plane changes no six volumes
+abbrev pub KeepsVolumes : Model → Model → Op → Type 0
+KeepsVolumes M N op = (f g u : ℕ) (p : Plane) → op ≡ Kfmrh f g → LiesOnPlane M p f → LiesOnPlane M p g → six_volume N u ≡ six_volume M u

@@ -5,7 +5,7 @@ ghost use Rattle.command_laws.specs.LeftAlone.{KeepsEdges, KeepsLoops, Each, OfO
 ghost use Rattle.command_laws.specs.RingedFaces.{IsFarFace};
 ghost use Rattle.block_machining.specs.Cutting.{AreCapped, FaceApart, HasOuterCap, KeepsBelow, LieOnEitherSide, ShareFaces, ShareSums};
 ghost use Rattle.block_machining.specs.Joining.{TakesOver};
-ghost use Rattle.block_machining.specs.Undoing.{AreCounted, IsOneCommand, LeavesFaces};
+ghost use Rattle.block_machining.specs.Undoing.{AreCounted, IsOneCommand, KeepsVolumes, LeavesFaces};
 ghost use Rattle.gluing.specs.Machine.{glue, glue_refusal};
 ghost use Rattle.plane_split.specs.Machine.{plane_with, split, split_refusal};
 ghost use Rattle.sweeps.specs.Machine.{sweep_refusal};
@@ -23,7 +23,10 @@ use command_laws::{
 };
 use gluing::{glue, glue_measures, six_volume};
 use plane_split::{split, splits_are_held};
-use split_caps::{caps_are_numbered, caps_close_the_parts, caps_face_apart, splits_share_counts};
+use split_caps::{
+    caps_are_numbered, caps_close_the_parts, caps_face_apart, rings_keep_volumes,
+    splits_share_counts,
+};
 use split_frames::{splits_leave_alone, splits_share_faces};
 use std::alloc::{AllocError, Global};
 use sweeps::{Draft, Failure, Op, Point, Session, sweep, sweep_measures};
@@ -125,18 +128,21 @@ pub(crate) fn but_for_memory(done: Result<(), Failure>) -> Result<(), AllocError
 }
 
 /// An operator as a command. Where it makes or kills an edge, a face or a ring, what the solids count then is told from what they did; where
-/// it leaves all vertices, the faces that it doesn't meet stand. Undo gives the model before.
+/// it leaves all vertices, the faces that it doesn't meet stand; and a face that it makes a ring on its plane changes no volume. Undo gives
+/// the model before.
 pub fn acted(mut session: Session, op: Op) -> (Session, Result<(), Failure>)
     ensures made { OnOk result.1 (result.0.machine ≡ act session.machine op) }
     ensures refused { (refusal : Refusal) → (result.1 ≡ Err (Failure.Refused refusal)) → (act_refusal session.machine op ≡ Some refusal) }
     ensures counted { OnOk result.1 (AreCounted (held session.machine) (held result.0.machine) op) }
     ensures faces { OnOk result.1 (LeavesFaces (held session.machine) (held result.0.machine) op) }
+    ensures volumes { OnOk result.1 (KeepsVolumes (held session.machine) (held result.0.machine) op) }
     ensures undone { OnOk result.1 (IsOneCommand session.machine result.0.machine) }
     ensures err { OnErr result.1 (result.0 ≡ session) }
 {
     session.stays_consistent();
     operators_count();
     operators_leave_faces();
+    rings_keep_volumes();
     let done = session.act(op);
     (session, done)
 }
