@@ -1,5 +1,5 @@
 -- A walk round a vertex from one half-edge up to before another, which lets each that it meets start elsewhere.
-use Rattle.std.proofs.Common.{◌≡◌, ◌≢◌, ℕ, ◌+◌, ◌<◌, Bool, true, false, cond, nat_lt, List, [], ◌∷◌, ◌++◌, length, Option, Some, None, is_some, unwrap_or, refl, sym, ap, ◌∙◌, subst, arith, inl, inr, true≢false, ne_eqb}
+use Rattle.std.proofs.Common.{◌≡◌, ◌≢◌, ℕ, ◌+◌, ◌<◌, ◌≤◌, Bool, true, false, cond, nat_lt, List, [], ◌∷◌, ◌++◌, length, Option, Some, None, is_some, unwrap_or, refl, sym, ap, ◌∙◌, subst, arith, inl, inr, true≢false, ne_eqb}
 use Rattle.std.specs.Option.{option_map}
 use Rattle.std.proofs.lemmas.Bool.Decides.{nat_tests, eqb_tells}
 use Rattle.euler_operators.specs.Items.{count, tick, IsIn, IsApart, head_or, before as before_item}
@@ -8,15 +8,17 @@ use Rattle.euler_operators.proofs.Lists.{tick_same, tick_other}
 use Rattle.euler_operators.proofs.Rings.{next_is_successor, IsIn_successor, rotation_at, count_at, apart_at}
 use Rattle.euler_operators.proofs.Rotations.{rotate_to_is, rotate_to_same, rotate_at}
 use Rattle.euler_operators.proofs.Cuts.{upto_itself}
-use Rattle.euler_operators.specs.HalfEdge.{mate, edge_of, is_first, plus, minus}
+use Rattle.euler_operators.specs.declared.HalfEdge.{HalfEdge}
+use Rattle.euler_operators.specs.HalfEdge.{code, mate, edge_of, is_first, plus, minus}
 use Rattle.euler_operators.specs.Table as table
 use Rattle.euler_operators.specs.Table.{Table, same_table}
 use Rattle.euler_operators.specs.Model.{Model, EdgeRow, no_edge, tail_in, tail, loop_of, after, round, arc, content, items_of}
 use Rattle.euler_operators.specs.Sound.{Sound, HasHalf, StandsIn}
-use Rattle.euler_operators.proofs.Halves.{plus_row, minus_row}
+use Rattle.euler_operators.proofs.Halves.{plus_row, minus_row, edge_of-code}
 use Rattle.euler_operators.proofs.Tables.{map_same, row_some, get-put_here, get-put_other}
 use Rattle.euler_operators.proofs.Models.{held_row, mate_there as half_mate}
 use Rattle.euler_operators.specs.Effect.{with_tails}
+use Rattle.euler_laws.proofs.shared.Bounds.{steps_are, half_below}
 use Rattle.euler_laws.proofs.shared.Fans.{Fan, fan_of}
 use Rattle.euler_laws.proofs.shared.Same.{mapped_some}
 use Rattle.euler_laws.proofs.mev.MevSound.{tails_of_row}
@@ -111,6 +113,11 @@ tails_step t x v xs there = same_table _ _ (λ q. table.get-map_rows (with_tails
   elsewhere : (q : ℕ) (o : Option EdgeRow) → q ≢ edge_of x → option_map (with_tails xs v q) o ≡ option_map (with_tails (x ∷ xs) v q) o
   elsewhere q None ne = refl
   elsewhere q (Some r) ne = ap Some (row_other x v q xs r ne)
+
+-- an edge that is there has a number in range
+pub edge_fits : (M : Model) → Sound M → (h : HalfEdge) → HasHalf M (code h) → h.edge ≤ 1000000
+unfolding edge_of
+edge_fits M sound h there = omega (arith, steps_are, half_below M sound (code h) there, edge_of-code h)
 
 -- ---- the walk
 

@@ -5,11 +5,11 @@ ghost use Rattle.euler_operators.specs.Model.{arc, tail};
 ghost use Rattle.euler_operators.specs.Sound.{Sound, HasHalf};
 ghost use Rattle.low_euler.specs.steps.Steps.{with_tails_at};
 
-use euler_conditions::{Arena, same};
+use euler_conditions::Arena;
 use euler_operators::HalfEdge;
 
 /// Goes round a vertex from one half-edge up to before another, and lets each that it meets start at `vertex`.
-/// It costs as many steps as there are half-edges on the way.
+/// It costs as many steps as there are half-edges on the way. It carries their codes, each one number, from step to step.
 pub(crate) fn move_tails(arena: &mut Arena, from: HalfEdge, to: HalfEdge, vertex: u32)
     requires sound { Sound arena.old.model }
     requires from { HasHalf arena.old.model (code from) }
@@ -17,9 +17,10 @@ pub(crate) fn move_tails(arena: &mut Arena, from: HalfEdge, to: HalfEdge, vertex
     requires one_tail { tail arena.old.model (code to) ≡ tail arena.old.model (code from) }
     ensures { arena.new ≡ with_tails_at arena.old (arc arena.old.model (code from) (code to)) vertex }
 {
-    let mut half = from;
-    'round: while !same(half, to) {
-        arena.set_tail(half, vertex);
-        half = arena.next(half.mate());
+    let end = to.code();
+    let mut code = from.code();
+    'round: while code != end {
+        arena.set_tail(HalfEdge::of_code(code), vertex);
+        code = arena.next(HalfEdge::of_code(code).mate()).code();
     }
 }
