@@ -23,6 +23,19 @@ impl Arena {
         if self.has_room(kind, number) {
             return Ok(());
         }
+        self.make_room(kind, number)
+    }
+
+    /// Gives a number of a kind its room, as `room_for` does, where it is known that it has none. So it doesn't ask first.
+    ///
+    /// Where it has its room, it keeps it, and an `Err` may come all the same.
+    #[inline(always)]
+    pub fn make_room(&mut self, kind: Kind, number: u32) -> Result<(), AllocError>
+        requires least { 1 ≤ number }
+        requires most { number ≤ 1000000 }
+        ensures grown { HasGrown self.old self.new }
+        ensures ok { OnOk result (has_room self.new kind number ≡ true) }
+    {
         match kind {
             Kind::Solid => self.room_solids(number),
             Kind::Face => self.room_faces(number),

@@ -16,19 +16,18 @@ pub struct Room {
     pub faces: FaceList,
 }
 
-/// Makes the room of one number. On `AllocError` the model is as it was, and no room is lost. It stands apart, so that the test
-/// whether the room is there is made in place.
+/// Makes the room of one number that has none. On `AllocError` the model is as it was, and no room is lost. It stands apart, so that the
+/// test whether the room is there is made in place.
 #[inline(never)]
 fn grow(arena: &mut Arena, number: (Kind, u32)) -> Result<(), AllocError>
     requires { AllFit (number ∷ []) }
     ensures grown { HasGrown arena.old arena.new }
     ensures ok { OnOk result (AllRoom arena.new (number ∷ [])) }
-    ensures known { AllRoom arena.old (number ∷ []) → IsOk result }
 {
-    arena.room_for(number.0, number.1)
+    arena.make_room(number.0, number.1)
 }
 
-/// Makes the room of one number where it isn't there, as `grow` does.
+/// Makes the room of one number where it isn't there, as `grow` does. Where it is, no `Err` comes.
 #[inline(always)]
 fn room_for_one(arena: &mut Arena, number: (Kind, u32)) -> Result<(), AllocError>
     requires { AllFit (number ∷ []) }
