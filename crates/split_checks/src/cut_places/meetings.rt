@@ -14,7 +14,7 @@ use crate::cut_places::found::{FaceMet, Looked, Met};
 use crate::cut_places::looking::look_at_loop;
 use crate::cut_places::noted::Sides;
 use euler_conditions::Arena;
-use euler_operators::{Kind, Plane};
+use euler_operators::{HalfEdge, Kind, Plane};
 use std::alloc::{AllocError, Global};
 
 /// The corners of the rings of face f are looked at. It tells whether each ring has a cut place.
@@ -122,8 +122,12 @@ fn look_at_face(
     Ok(())
 }
 
-/// Nothing is met yet.
-fn nothing_met(alloc: Global) -> Met
+/// For how many cut places there is room at first: those of eight faces, each cut once.
+const PLACES_AT_FIRST: usize = 16;
+
+/// Nothing is met yet; `places` is empty.
+fn nothing_met(alloc: Global, places: Vec<HalfEdge>) -> Met
+    requires { places.items ≡ [] }
     ensures above { result.above ≡ false }
     ensures below { result.below ≡ false }
     ensures faces { result.faces.items ≡ [] }
@@ -139,7 +143,7 @@ fn nothing_met(alloc: Global) -> Met
             below: false,
             touched: false,
             edges: Vec::new(alloc),
-            places: Vec::new(alloc),
+            places,
         },
     }
 }
@@ -158,7 +162,7 @@ pub(crate) fn meeting(
     ensures sides { AreSides arena.now.model plane sides.new }
     ensures met { IfOk result (λ met. IsSolidMet arena.now.model plane s met) }
 {
-    let mut met = nothing_met(alloc);
+    let mut met = nothing_met(alloc, Vec::with_capacity(alloc, PLACES_AT_FIRST)?);
     let mut last = 0;
     'faces: while let Some(f) = arena.face_after(s, last) {
         look_at_face(arena, &plane, sides, f, &mut met)?;
