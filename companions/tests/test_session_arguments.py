@@ -30,6 +30,7 @@ POINTS = (None, 7, 'abc', [(0, 0), (40, 0), (40, 5), (5, 5), (5, 40), (0, 40)], 
           bytearray(b'abc'), [P, Q, b'abc'], [P, Q, bytearray(b'abc')])
 LENGTH = (True, 1.0, '1', None, 0, -1, 2 ** 63)
 FLAG = (1, 0, 'yes', None)
+MEASURE = (True, 1.0, '1', 0, -1, Fraction(-1, 2))
 
 # For each method arguments that are right, and for each name the wrong ones.
 CASES = {
@@ -63,8 +64,9 @@ CASES = {
     'edge': ({'edge': 1}, {'edge': NUMBER}),
     'vertex': ({'vertex': 1}, {'vertex': NUMBER}),
     'faces': ({}, {'solid': GIVEN, 'plane': (*PLANE[:2], *PLANE[3:], (0, 0, 0, 1)), 'normal': ((0, 0), (0, 0, 0), 'abc', (0, 0, 1.0)),
-                   'containing': ((0, 0), 'abc', (0, 0, True))}),
-    'edges': ({}, {'solid': GIVEN, 'between': ((1,), 1, 'ab', (1, '2'), (1, 2, 3))}),
+                   'containing': ((0, 0), 'abc', (0, 0, True)), 'area': MEASURE}),
+    'edges': ({}, {'solid': GIVEN, 'between': ((1,), 1, 'ab', (1, '2'), (1, 2, 3)), 'length': MEASURE,
+                   'along': ((0, 0), (0, 0, 0), 'abc', (0, 0, 1.0))}),
     'vertices': ({}, {'solid': GIVEN, 'at': ((0, 0), 'abc', (0, 0, True))}),
     'profile': ({'points': TRIANGLE, 'along': (0, 0, 1)}, {'points': POINTS, 'along': POINT, 'solid': GIVEN}),
     'ring': ({'face': 1, 'points': TRIANGLE}, {'face': NUMBER, 'points': POINTS}),

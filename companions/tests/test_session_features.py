@@ -168,6 +168,25 @@ class Refusals(unittest.TestCase):
         with self.assertRaisesRegex(NotOne, r'none was found$'):
             bench.vertices(at=(5, 5, 5)).one()
 
+    def test_selection_by_measures(self):
+        bench = self.bench
+        prism = bench.profile([(100, 0, 0), (103, 0, 0), (103, 4, 0)], along=(0, 0, 2))
+        made = prism.solid
+        self.assertEqual([len(bench.edges(solid=made, length=length)) for length in (2, 3, 4, 5, Fraction(5, 2))], [3, 2, 2, 2, 0])
+        self.assertEqual([len(bench.edges(solid=made, along=way)) for way in ((0, 0, -7), (3, 4, 0), (-3, -4, 0), (3, 4, 1))], [3, 2, 2, 0])
+        self.assertEqual({edge.points for edge in bench.edges(solid=made, along=(3, 4, 0), length=5)},
+                         {((103, 4, level), (100, 0, level)) for level in (0, 2)})
+        self.assertEqual([len(bench.faces(solid=made, area=area)) for area in (6, 8, 10, Fraction(13, 2))], [3, 1, 1, 0])
+        self.assertEqual(bench.edges(between=(prism.base, prism.sides[0]), length=3).one().points[0][1:], (0, 0))
+        self.assertEqual(bench.vertices().nearest((104, 5, -1)).one().point, (103, 4, 0))
+        self.assertEqual(bench.solids().nearest((0, 0, 0)).one().number, self.block.solid)
+        self.assertEqual({edge.points for edge in bench.edges(solid=made).nearest((99, 0, 1))},
+                         {edge.points for edge in bench.edges(solid=made) if any(x == 100 for x, _, _ in edge.points)})
+        with self.assertRaisesRegex(TypeError, r'^point\b'):
+            bench.vertices().nearest(None)
+        with self.assertRaisesRegex(NotOne, r'^one edge with solid=.*, length=5 was wanted; 2 were found'):
+            bench.edges(solid=made, length=5).one()
+
     def test_parts_are_those_of_the_listing(self):
         bench, model = self.bench, self.bench.listing()
         solid = bench.solid(1)

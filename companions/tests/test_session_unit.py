@@ -48,6 +48,9 @@ class Unit(unittest.TestCase):
     def test_the_least_factor_that_makes_all_points_whole(self):
         self.assertEqual(self.bench.unit, 1)
         self.refused('NotLattice', lambda: self.bench.split(self.block, PLANE))
+        for cut in (self.bench.split, self.bench.cut, self.bench.trim):
+            with self.assertRaisesRegex(Refused, r'^split .*: NotLattice: the plane cuts edge 1 .*; times 6 all its points are whole, .*scale=True'):
+                cut(self.block, PLANE)
         made = self.bench.split(self.block, PLANE, scale=True)
         self.assertEqual(self.bench.unit, Fraction(1, 6))
         self.assertEqual(self.true_volume(self.block.solid), Fraction(3 * 11 * 11, 12))

@@ -6,7 +6,7 @@ from ..errors import NotOne, Refused
 from ..geometry.free_numbers import numbers_of
 from ..geometry.measures import area_vector
 from ..geometry.model import Face, Loop, Model
-from ..geometry.vectors import Vector, ZERO, dot, total
+from ..geometry.vectors import Vector, ZERO, dot, subtract, total
 from ..protocol.language import refusal
 from .turns import PartOfTurns
 
@@ -149,6 +149,12 @@ class Selection(Sequence[Found], Generic[Found]):
         if way == ZERO:
             raise ValueError('direction: it is zero')
         return self._best(lambda part: min(dot(way, point) for point in part.points), f', farthest along {way}')
+
+    def nearest(self, point: Sequence[int]) -> 'Selection[Found]':
+        """Those with the corner that lies nearest to the point; more than one where they are as near."""
+        from .arguments import point as taken
+        place = taken('point', point)
+        return self._best(lambda part: max(-dot(way, way) for corner in part.points for way in [subtract(corner, place)]), f', nearest to {place}')
 
     def top(self) -> 'Selection[Found]':
         """Those that lie highest, along z."""

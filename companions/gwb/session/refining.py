@@ -3,7 +3,8 @@
 So a plane whose cut has points between whole coordinates can cut after all.
 """
 
-from typing import Callable, TypeVar
+from contextlib import contextmanager
+from typing import Callable, Iterator, TypeVar
 
 from ..errors import Refused
 from ..geometry.crossings import Plane, crossings, without_common_factor
@@ -32,6 +33,18 @@ def with_finer_unit(bench: Bench, solid: int, plane: Plane, cut: Callable[[Plane
         refine(bench, factor)
         # (its offset stays in range, since it meets edges whose ends do)
         return cut(without_common_factor((*plane[:3], plane[3] * factor)))
+
+
+@contextmanager
+def telling_what_helps(bench: Bench, solid: int, plane: Plane) -> Iterator[None]:
+    """A cut that is refused NotLattice says the least factor by which its points are whole, and where to turn."""
+    try:
+        yield
+    except Refused as refused:
+        if refused.name == 'NotLattice':
+            factor = whole_factor(crossings(bench.solid_model(solid), solid, plane))
+            refused.args = (f'{refused}; times {factor} all its points are whole, as scale=True makes them; off_lattice() names planes near by',)
+        raise
 
 
 def refine(bench: Bench, factor: int) -> None:

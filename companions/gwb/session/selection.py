@@ -1,11 +1,11 @@
 """Finding things of the model by where they lie, exactly."""
 
-from typing import Callable, List, Optional, Sequence, Tuple
+from typing import Callable, List, Optional, Sequence, Set, Tuple
 
 from ..geometry.flat_face import FlatFace
 from ..geometry.measures import why_unfit
-from ..geometry.plane_figures import Place
-from ..geometry.vectors import Vector, ZERO, dot, same_direction
+from ..geometry.plane_figures import Exact, Place
+from ..geometry.vectors import Vector, ZERO, cross, dot, same_direction, subtract
 from . import arguments
 from .bench import Bench, Methods
 from .reading import EdgePart, FacePart, LoopPart, Part, Selection, SolidPart, VertexPart
@@ -39,9 +39,10 @@ class Selecting(Methods):
         return Selection('solid', '', [SolidPart(self._bench.kernel, number) for number in self._bench.kernel.reader().numbers('solid')])
 
     def faces(self, *, solid: Optional[arguments.Solid] = None, plane: Optional[arguments.Point] = None,
-              normal: Optional[arguments.Point] = None, containing: Optional[arguments.Point] = None) -> 'Selection[FacePart]':
+              normal: Optional[arguments.Point] = None, containing: Optional[arguments.Point] = None,
+              area: Optional[Exact] = None) -> 'Selection[FacePart]':
         """The faces that fit: of the solid; wholly in the plane a x + b y + c z + d = 0, four numbers or what `plane` returns, whichever way
-        they look; flat, and looking the way of the normal; flat, with the point inside or on the outline."""
+        they look; flat, and looking the way of the normal; flat, with the point inside or on the outline; flat, and so large, exactly."""
         tests: List[Callable[[FacePart], bool]] = []
         if plane is not None:
             level = arguments.plane('plane', plane)
@@ -56,11 +57,30 @@ class Selecting(Methods):
         if containing is not None:
             place = arguments.point('containing', containing)
             tests.append(lambda face: _contains(self._bench, face, place))
-        wanted = _wanted(solid=solid, plane=plane, normal=normal, containing=containing)
+        if area is not None:
+            four_squares = 4 * arguments.factor('area', area) ** 2
+            tests.append(lambda face: dot(face.normal, face.normal) == four_squares and _is_flat(face))
+        wanted = _wanted(solid=solid, plane=plane, normal=normal, containing=containing, area=area)
         return Selection('face', wanted, [face for face in _faces_in(self._bench, solid) if all(test(face) for test in tests)])
 
-    def edges(self, *, solid: Optional[arguments.Solid] = None, between: Optional[Tuple[arguments.Face, arguments.Face]] = None) -> 'Selection[EdgePart]':
-        """The edges of the solid, those between two faces, or all."""
+    def edges(self, *, solid: Optional[arguments.Solid] = None, between: Optional[Tuple[arguments.Face, arguments.Face]] = None,
+              along: Optional[arguments.Point] = None, length: Optional[Exact] = None) -> 'Selection[EdgePart]':
+        """The edges that fit: of the solid; between two faces; along the vector, one way or the other; so long, exactly."""
+        tests: List[Callable[[Vector], bool]] = []
+        if along is not None:
+            way = arguments.point('along', along)
+            if way == ZERO:
+                raise ValueError('along: it is zero')
+            tests.append(lambda run: run != ZERO and cross(run, way) == ZERO)
+        if length is not None:
+            square = arguments.factor('length', length) ** 2
+            tests.append(lambda run: dot(run, run) == square)
+        parts = [EdgePart(self._bench.kernel, number) for number in sorted(self._edges(solid, between))]
+        wanted = _wanted(solid=solid, between=between, along=along, length=length)
+        return Selection('edge', wanted, [part for part in parts if not tests or all(test(subtract(*part.points)) for test in tests)])
+
+    def _edges(self, solid: Optional[arguments.Solid], between: Optional[Tuple[arguments.Face, arguments.Face]]) -> Set[int]:
+        """The numbers of the edges of the solid, of those between two faces, or of all."""
         if between is not None:
             one, other = self._bench.pair('between', between, 'face')
             first, second = ({half for loop in FacePart(self._bench.kernel, face).loops for half in loop.half_edges} for face in (one, other))
@@ -71,7 +91,7 @@ class Selecting(Methods):
             found = set(self._bench.kernel.reader().numbers('edge'))
         if between is not None and solid is not None:
             found &= {edge.number for edge in self.solid(solid).edges}
-        return Selection('edge', _wanted(solid=solid, between=between), [EdgePart(self._bench.kernel, number) for number in sorted(found)])
+        return found
 
     def vertices(self, *, solid: Optional[arguments.Solid] = None, at: Optional[arguments.Point] = None) -> 'Selection[VertexPart]':
         """The vertices of the solid, or all; `at` a point."""

@@ -69,7 +69,8 @@ class SolidMethods(Methods):
         number, level = self._bench.number('solid', solid), arguments.plane('plane', plane)
         new = None if above is None else arguments.number('above', above)
         if not arguments.flag('scale', scale):
-            made = Commands(self._bench).split(number, level, above=new)
+            with refining.telling_what_helps(self._bench, number, level):
+                made = Commands(self._bench).split(number, level, above=new)
         else:
             made = refining.with_finer_unit(self._bench, number, level, lambda plane: Commands(self._bench).split(number, plane, above=new))
         self._bench.label_alike({('solid', number): made.solid})
@@ -88,7 +89,8 @@ class SolidMethods(Methods):
         if new is not None and wanted is not Keep.BOTH:
             raise ValueError(f'above: the part above the plane gets no number of its own where {keep!r} alone is kept')
         if not arguments.flag('scale', scale):
-            return _cut(self._bench, number, level, wanted, new)
+            with refining.telling_what_helps(self._bench, number, level):
+                return _cut(self._bench, number, level, wanted, new)
         return refining.with_finer_unit(self._bench, number, level, lambda plane: _cut(self._bench, number, plane, wanted, new))
 
     def trim(self, solid: arguments.Solid, plane: arguments.Point, *, scale: bool = False) -> Tuple[int, ...]:
