@@ -38,6 +38,9 @@ class _Parting:
         self._edges, self._vertices, self._faces = dict(model.edges), dict(model.vertices), dict(model.faces)
         self._loops = {number: loop.halves for number, loop in model.loops.items()}
         self._new_face, self._new_loop, self._new_edge, self._new_vertex = (count(first) for first in firsts)
+        # The copies of the vertices of the section, and what comes in the place of its half-edges above.
+        self._copies: Dict[int, int] = {}
+        self._instead: Dict[int, int] = {}
         self._heights = {vertex: dot(self._way, point) + plane[3] for vertex, point in model.vertices.items()}
 
     def parted(self, above: int) -> Model:
@@ -73,15 +76,7 @@ class _Parting:
         if len(pairs) == 1:
             self._lift_rings(face, self._cut_off([self._faces[face].outer], pairs[0]))
             return
-        rest = []
-        for pair in pairs:
-            up, down = (self._loop_with(self._faces[face].loops, half) for half in pair)
-            if up == down:
-                rest.append(pair)
-            elif up in self._faces[face].rings:
-                self._join(face, pair.down, pair.up)
-            else:
-                self._join(face, pair.up, pair.down)
+        rest = [pair for pair in pairs if not self._join_loops(face, pair)]
         loops = [*self._faces[face].loops]
         for pair in rest:
             loops.append(self._faces[self._cut_off(loops, pair)].outer)
@@ -94,6 +89,15 @@ class _Parting:
 
     def _loop_with(self, loops: Iterable[int], half: int) -> int:
         return next(loop for loop in loops if half in self._loops[loop])
+
+    def _join_loops(self, face: int, pair: _Pair) -> bool:
+        """Where the pair stands in two loops they become one; whether it did."""
+        up, down = (self._loop_with(self._faces[face].loops, half) for half in pair)
+        if up in self._faces[face].rings and up != down:
+            self._join(face, pair.down, pair.up)
+        elif up != down:
+            self._join(face, pair.up, pair.down)
+        return up != down
 
     def _join(self, face: int, first: int, second: int) -> None:
         """An edge from the first half-edge's start to the second one's makes the ring of the second one part of the loop of the first."""
@@ -127,20 +131,14 @@ class _Parting:
         """The faces above become those of a solid of their own."""
         halves = {half for face in lifted for loop in self._faces[face].loops for half in self._loops[loop]}
         section = {-half for half in halves if -half not in halves}
-        caps: List[Tuple[_Cap, _Cap]] = []
-        copies: Dict[int, int] = {}
-        instead: Dict[int, int] = {}
-        for cycle in self._cycles(section):
-            caps.append(self._caps(cycle, copies, instead))
-        for half in halves:
-            if -half not in section and self._tail(half) in copies:
-                self._put_tail(half, copies[self._tail(half)])
-        for face in lifted:
-            self._faces[face] = self._faces[face]._replace(solid=above)
-            for loop in self._faces[face].loops:
-                self._loops[loop] = tuple([instead.get(half, half) for half in self._loops[loop]])
-        for solid, side in ((self._solid, 0), (above, 1)):
-            self._close(solid, [pair[side] for pair in caps])
+        caps = [self._caps(cycle) for cycle in self._cycles(section)]
+        for half in (half for half in halves if -half not in section):
+            self._put_tail(half, self._copies.get(self._tail(half), self._tail(half)))
+        self._loops.update({loop: tuple([self._instead.get(half, half) for half in self._loops[loop]])
+                            for face in lifted for loop in self._faces[face].loops})
+        self._faces.update({face: self._faces[face]._replace(solid=above) for face in lifted})
+        self._close(self._solid, [lower for lower, _ in caps])
+        self._close(above, [upper for _, upper in caps])
 
     def _cycles(self, section: Set[int]) -> Iterator[List[int]]:
         """The half-edges below the section, in cycles, each from its least edge on."""
@@ -155,9 +153,8 @@ class _Parting:
             if cycle:
                 yield cycle
 
-    def _caps(self, cycle: Sequence[int], copies: Dict[int, int], instead: Dict[int, int]) -> Tuple[_Cap, _Cap]:
-        """The caps of a cycle, that of the part below first. The copies of its vertices go to `copies`, what comes instead of the mates of its
-        half-edges to `instead`."""
+    def _caps(self, cycle: Sequence[int]) -> Tuple[_Cap, _Cap]:
+        """The caps of a cycle, that of the part below first; its vertices and edges are copied."""
         size = len(cycle)
         edges = [next(self._new_edge) for _ in range(2 * size)][:size]
         faces, loops = ([next(numbers) for _ in range(size + 1)] for numbers in (self._new_face, self._new_loop))
@@ -166,19 +163,16 @@ class _Parting:
         for place, (half, edge, tail, copy) in enumerate(zip(cycle, edges, tails, copied)):
             self._vertices[copy] = self._vertices[tail]
             self._edges[edge] = (copied[(place + 1) % size], copy)
-            copies[tail], instead[-half] = copy, edge
+            self._copies[tail], self._instead[-half] = copy, edge
         is_hole = dot(area_vector([self._vertices[tail] for tail in tails]), self._way) > 0
         return (_Cap(faces[0], loops[0], tuple([-half for half in reversed(cycle)]), is_hole),
                 _Cap(faces[-1], loops[-1], tuple([-edge for edge in edges]), is_hole))
 
     def _close(self, solid: int, caps: Sequence[_Cap]) -> None:
         """Caps become faces of a solid; those of holes become rings of the only other one."""
-        for cap in caps:
-            self._loops[cap.loop] = cap.halves
+        self._loops.update({cap.loop: cap.halves for cap in caps})
         holes = tuple([cap.loop for cap in caps if cap.is_hole])
-        for cap in caps:
-            if not cap.is_hole:
-                self._faces[cap.face] = Face(solid, cap.loop, holes)
+        self._faces.update({cap.face: Face(solid, cap.loop, holes) for cap in caps if not cap.is_hole})
 
     # Reading
 

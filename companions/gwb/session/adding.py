@@ -79,12 +79,10 @@ def _anew(whole: Model, part: NearPart, made: Model, numbers: Numbers) -> List[s
 def _move(bench: Bench, ring: int, face: int, made: Combined) -> Optional[str]:
     """The operator that moves a ring to the one of the faces, which its face went into, in which it lies, empty where that is its own; None where
     all its corners lie on outlines."""
-    regions = {other: _region(made.model, other) for other in made.into[face]}
-    for point in bench.near().mirror.points_of(ring):
-        for other, region in regions.items():
-            if region and region.locate(region.flatten(point)) is Place.INSIDE:
-                return '' if other == face else f'ringmv {ring} {other} in'
-    return None
+    regions = [(other, region) for other in made.into[face] for region in [_region(made.model, other)] if region]
+    found = next((other for point in bench.near().mirror.points_of(ring) for other, region in regions
+                  if region.locate(region.flatten(point)) is Place.INSIDE), None)
+    return None if found is None else '' if found == face else f'ringmv {ring} {found} in'
 
 
 def _region(model: Model, face: int) -> Optional[Region]:
