@@ -78,9 +78,29 @@ class Exports(unittest.TestCase):
         base, top = (self.bench.labels[thing] for thing in (('solid', self.base.solid), ('face', self.base.top)))
         for made in (self.bench.copy(self.base, move=(0, 50, 0)), *self.bench.pattern(self.base, 3, (50, 0, 0))):
             self.assertEqual((self.bench.labels['solid', made.solid], self.bench.labels['face', made.face(self.base.top)]), (base, top))
-        self.assertEqual(self.bench.labels['solid', self.bench.split(self.base, (1, 0, 0, -2)).solid], base)
-        self.assertEqual(self.bench.labels['solid', self.bench.cut(self.base, (0, 2, 0, -5), scale=True).above], base)
-        self.assertEqual(len(self.bench.labels), 2 + 3 * 2 + 2)
+        for cut in (lambda: self.bench.split(self.base, (1, 0, 0, -2)).solid,
+                    lambda: self.bench.cut(self.base, (0, 2, 0, -5), scale=True).above):
+            held = set(self.bench.labels)
+            made = cut()
+            part = self.bench.faces(solid=made).top().one()
+            self.assertEqual(set(self.bench.labels) - held, {('solid', made), ('face', part.number)})
+            self.assertEqual((self.bench.labels['solid', made], self.bench.labels['face', part.number]), (base, top))
+
+    def test_parts_of_faces_have_those_of_the_face(self):
+        block = self.bench.block((0, 0, 50), (12, 8, 6))
+        self.bench.label(self.bench.face(block.top), 'Top')
+        self.bench.slot(block.top, (6, 0, 56), (6, 8, 56), 2, 2)
+        tops = self.bench.faces(solid=block, plane=(0, 0, 1, -56))
+        self.assertEqual([self.bench.labels['face', face.number].name for face in tops], ['Top', 'Top'])
+        made = self.bench.cut(block, (1, 0, 0, -5))             # along a wall of the slot, which split refuses
+        self.assertEqual(self.bench.labels['face', self.bench.faces(solid=made.above).top().one().number].name, 'Top')
+        floor = self.bench.faces(solid=made.above, plane=(0, 0, 1, -54), normal=(0, 0, 1)).one()
+        self.assertNotIn(('face', floor.number), self.bench.labels)
+        other = self.bench.block((0, 0, 56), (5, 4, 3))
+        self.bench.label(self.bench.face(other.top), 'Lid')
+        self.bench.union([block, other])
+        self.assertEqual(self.bench.labels['face', self.bench.faces(solid=block, plane=(0, 0, 1, -59)).one().number].name, 'Lid')
+        self.assertEqual(self.bench.labels['face', self.bench.faces(solid=block, plane=(0, 0, 1, -56)).one().number].name, 'Top')
 
     def test_they_are_saved_and_loaded(self):
         path = self.folder / 'part.gwb'

@@ -1,7 +1,7 @@
 """What an accepted split makes of a solid, as docs/MODEL.md says it: crossing edges are cut, faces are drawn, the solid is opened and closed."""
 
 from itertools import count
-from typing import Dict, Iterable, Iterator, List, NamedTuple, Sequence, Set, Tuple
+from typing import Dict, Iterable, Iterator, List, Mapping, NamedTuple, Sequence, Set, Tuple
 
 from .free_numbers import begun_at, from_least, sorted_model
 from .measures import area_vector
@@ -25,7 +25,14 @@ class _Cap(NamedTuple):
     is_hole: bool
 
 
-def parted(model: Model, plane: Tuple[int, int, int, int], above: int, firsts: Sequence[int]) -> Model:
+class Parted(NamedTuple):
+    """Two solids of one, and for each face that was cut off the one that it was part of."""
+
+    model: Model
+    cut_off: Mapping[int, int]
+
+
+def parted(model: Model, plane: Tuple[int, int, int, int], above: int, firsts: Sequence[int]) -> Parted:
     """The two solids that a split makes of the model's one; the first fresh numbers are those of a face, a loop, an edge and a vertex."""
     return _Parting(model, plane, firsts).parted(above)
 
@@ -38,20 +45,21 @@ class _Parting:
         self._edges, self._vertices, self._faces = dict(model.edges), dict(model.vertices), dict(model.faces)
         self._loops = {number: loop.halves for number, loop in model.loops.items()}
         self._new_face, self._new_loop, self._new_edge, self._new_vertex = (count(first) for first in firsts)
+        self._cut_off: Dict[int, int] = {}
         # The copies of the vertices of the section, and what comes in the place of its half-edges above.
         self._copies: Dict[int, int] = {}
         self._instead: Dict[int, int] = {}
         self._heights = {vertex: dot(self._way, point) + plane[3] for vertex, point in model.vertices.items()}
 
-    def parted(self, above: int) -> Model:
+    def parted(self, above: int) -> Parted:
         """The two solids, the part above of the number."""
         self._cut_edges()
         for face in [face for face in sorted(self._faces) if self._straddles(face)]:
             self._draw(face)
         lifted = [face for face in self._faces if self._is_above(face)]
         self._open(lifted, above)
-        return sorted_model((self._solid, above), self._faces, {loop: Loop(from_least(halves)) for loop, halves in self._loops.items()},
-                            self._edges, self._vertices)
+        loops = {loop: Loop(from_least(halves)) for loop, halves in self._loops.items()}
+        return Parted(sorted_model((self._solid, above), self._faces, loops, self._edges, self._vertices), self._cut_off)
 
     # Edges are cut
 
@@ -74,12 +82,12 @@ class _Parting:
         """Edges between the pairs of cut places of a face part what lies above from the rest."""
         pairs = self._pairs(face)
         if len(pairs) == 1:
-            self._lift_rings(face, self._cut_off([self._faces[face].outer], pairs[0]))
+            self._lift_rings(face, self._cut(face, [self._faces[face].outer], pairs[0]))
             return
         rest = [pair for pair in pairs if not self._join_loops(face, pair)]
         loops = [*self._faces[face].loops]
         for pair in rest:
-            loops.append(self._faces[self._cut_off(loops, pair)].outer)
+            loops.append(self._faces[self._cut(face, loops, pair)].outer)
 
     def _pairs(self, face: int) -> List[_Pair]:
         """The pairs of cut places, by their points: each is a half-edge that starts on the plane."""
@@ -107,15 +115,15 @@ class _Parting:
         self._loops[loop] = (edge, *begun_at(self._loops.pop(ring), second), -edge, *begun_at(self._loops[loop], first))
         self._faces[face] = row._replace(rings=tuple([other for other in row.rings if other != ring]))
 
-    def _cut_off(self, loops: Iterable[int], pair: _Pair) -> int:
-        """The part above of one of the loops becomes a face of its own: its number."""
+    def _cut(self, face: int, loops: Iterable[int], pair: _Pair) -> int:
+        """The part above of one of the loops, which were one of the face, becomes a face of its own: its number."""
         old, edge = self._loop_with(loops, pair.up), next(self._new_edge)
         new, loop = next(self._new_face), next(self._new_loop)
         halves = begun_at(self._loops[old], pair.up)
         place = halves.index(pair.down)
         self._edges[edge] = (self._tail(pair.up), self._tail(pair.down))
         self._loops[old], self._loops[loop] = (edge, *halves[place:]), (*halves[:place], -edge)
-        self._faces[new] = Face(self._solid, loop)
+        self._faces[new], self._cut_off[new] = Face(self._solid, loop), face
         return new
 
     def _lift_rings(self, face: int, new: int) -> None:

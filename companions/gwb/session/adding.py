@@ -56,6 +56,8 @@ def add_sheets(bench: Bench, held: Addition) -> Combined:
     if lines is None:
         return add_sheets(bench, addition(bench, wanted, all_rings=True))
     give(bench, [*(line for model in wanted.other for line in held.numbers.taking_away(model)), *lines])
+    old = {face for model in (part.model, *wanted.other) for face in model.faces}
+    bench.label_alike('face', [(face, other) for face, others in held.made.into.items() for other in others if other not in old])
     return held.made
 
 

@@ -1,6 +1,6 @@
 """What the methods of a workbench share: its kernel, and what stands above it."""
 
-from typing import ContextManager, Dict, List, Mapping, Optional, Sequence, Tuple, Union
+from typing import ContextManager, Dict, Iterable, List, Optional, Sequence, Tuple, Union
 
 from ..formats.appearance import Appearance, Thing
 from ..geometry.model import Model
@@ -57,10 +57,16 @@ class Bench:
 
     # Labels
 
-    def label_alike(self, others: Mapping[Thing, int]) -> None:
-        """For solids and faces, by kind and number, others of the kind get the labels that they have."""
-        looks = {thing: self.labels[thing] for thing in others if thing in self.labels}
-        self.labels.update({(thing[0], others[thing]): look for thing, look in looks.items()})
+    def label_alike(self, kind: str, others: Iterable[Tuple[int, int]]) -> None:
+        """Of each pair of solids or faces the second one gets the label that the first one has, if it has one."""
+        looks = {(kind, other): self.labels.get((kind, number)) for number, other in others}
+        self.labels.update({thing: look for thing, look in looks.items() if look})
+
+    def label_parts(self, solid: int, above: int) -> None:
+        """The part above of a solid that was split gets the label of the solid, and the parts of faces there get those of the faces."""
+        self.label_alike('solid', [(solid, above)])
+        if any(kind == 'face' for kind, _ in self.labels):
+            self.label_alike('face', [(face, part) for part, face in self.kernel.mirror().cut_off.items()])
 
     # Steps
 

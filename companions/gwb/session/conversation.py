@@ -106,7 +106,7 @@ class Conversation:
             return self._kernel.lines.fresh()
         firsts = Firsts(*[self._kernel.journal.greatest.of(kind) + 1 for kind in COUNTED_KINDS])
         if call.word == 'split':
-            made = numbers_of(self._kernel.following.now().parted(call.values, firsts))
+            made = numbers_of(self._kernel.following.now().parted(call.values, firsts).model)
             return {kind: range(first, max(made[kind]) + 1) for kind, first in zip(COUNTED_KINDS, firsts)}
         counts = fresh_counts(call, corners)
         return {kind: range(first, first + counts[kind]) for kind, first in zip(COUNTED_KINDS, firsts)}

@@ -47,13 +47,19 @@ class Cut(NamedTuple):
     upper_caps: Tuple[int, ...]
 
 
-class Halves(NamedTuple):
-    """The models of a solid's parts below and above a plane, and the faces that close them."""
+class Half(NamedTuple):
+    """The model of a solid's part on one side of a plane, the faces that close it, and for faces of other numbers those that they were part of."""
 
-    lower: Model
-    upper: Model
-    lower_caps: Tuple[int, ...]
-    upper_caps: Tuple[int, ...]
+    model: Model
+    caps: Tuple[int, ...]
+    parts: Sequence[Tuple[int, int]]
+
+
+class Halves(NamedTuple):
+    """The parts of a solid below and above a plane."""
+
+    below: Half
+    above: Half
 
 
 def cut(bench: Bench, solid: int, plane: Plane, above: Optional[int]) -> Cut:
@@ -61,12 +67,15 @@ def cut(bench: Bench, solid: int, plane: Plane, above: Optional[int]) -> Cut:
     number = bench.new('solid', above, 'above')
     with _another_way():
         made = Commands(bench).split(solid, plane, above=number)
+        bench.label_parts(solid, number)
         return Cut(solid, number, made.lower_caps, made.upper_caps)
     require_free(bench, number)
     model, numbers = bench.solid_model(solid), Numbers(bench)
     halves = cut_model(model, plane, number, numbers.take)
-    give(bench, [*numbers.taking_away(model), *numbers.making(joined([halves.lower, halves.upper]))])
-    return Cut(solid, number, halves.lower_caps, halves.upper_caps)
+    give(bench, [*numbers.taking_away(model), *numbers.making(joined([halves.below.model, halves.above.model]))])
+    bench.label_alike('solid', [(solid, number)])
+    bench.label_alike('face', [*halves.below.parts, *halves.above.parts])
+    return Cut(solid, number, halves.below.caps, halves.above.caps)
 
 
 def trimmed(bench: Bench, solid: int, plane: Plane) -> Tuple[int, ...]:
@@ -77,8 +86,9 @@ def trimmed(bench: Bench, solid: int, plane: Plane) -> Tuple[int, ...]:
         return made.lower_caps
     model, numbers = bench.solid_model(solid), Numbers(bench)
     halves = cut_model(model, plane, numbers.take('solid'), numbers.take)
-    give(bench, [*numbers.taking_away(model), *numbers.making(halves.lower)])
-    return halves.lower_caps
+    give(bench, [*numbers.taking_away(model), *numbers.making(halves.below.model)])
+    bench.label_alike('face', halves.below.parts)
+    return halves.below.caps
 
 
 def require_free(bench: Bench, solid: int) -> None:
@@ -124,18 +134,17 @@ def cut_model(model: Model, plane: Plane, above: int, take: Take) -> Halves:
     if max(heights) <= 0 or min(heights) >= 0:
         raise Impossible('PlaneMisses', solid, f'solid {solid} has nothing {"above" if max(heights) <= 0 else "below"} the plane')
     names = Names(model, take)
-    lower, lower_caps = _part(model, plane, solid, names)
-    upper, upper_caps = _part(model, opposite(plane), above, names)
-    return Halves(lower, upper, lower_caps, upper_caps)
+    return Halves(_part(model, plane, solid, names), _part(model, opposite(plane), above, names))
 
 
-def _part(model: Model, plane: Plane, solid: int, names: Names) -> Tuple[Model, Tuple[int, ...]]:
-    """The part of a model below the plane, closed by caps: these."""
+def _part(model: Model, plane: Plane, solid: int, names: Names) -> Half:
+    """The part of a model below the plane, closed by caps."""
     left = [part for sheet in sheets_of(model) for part in _below(sheet, plane)]
     caps = [Sheet(0, plane[:3], cycles, place) for place, cycles in enumerate(traced(_open_sides(left, plane), plane[:3]))]
     regions = list(overlaid(left, caps))
     made = assembled(solid, regions, names)
-    return made.model, tuple(sorted(face for face, region in zip(made.faces, regions) if region.marks))
+    closing = tuple(sorted(face for face, region in zip(made.faces, regions) if region.marks))
+    return Half(made.model, closing, [(owner, face) for face, region in zip(made.faces, regions) for owner in region.owners if owner != face])
 
 
 def _open_sides(sheets: Sequence[Sheet], plane: Plane) -> List[Side]:

@@ -6,11 +6,11 @@ of it is asked for.
 
 from bisect import bisect_right
 from functools import lru_cache
-from typing import Any, Callable, Dict, Iterator, List, NamedTuple, Optional, Sequence, Set, Tuple, TypeVar, Union
+from typing import Any, Callable, Dict, Iterator, List, Mapping, NamedTuple, Optional, Sequence, Set, Tuple, TypeVar, Union
 
 from ..geometry.free_numbers import begun_at, from_least
 from ..geometry.model import Face, Loop, Model
-from ..geometry.split_model import parted
+from ..geometry.split_model import Parted, parted
 from ..geometry.vectors import Vector, add
 from .journal import Firsts, Given
 from .part_models import model_of_faces
@@ -77,7 +77,7 @@ class Mirror:
         self._starts: Dict[str, List[int]] = {kind: [] for kind in _BLOCK}
         self._folded: Dict[int, _Fold] = {}
         # The split that was looked at last, by its values, and what it makes.
-        self._parted: Optional[Tuple[Sequence[Any], Model]] = None
+        self._parted: Optional[Tuple[Sequence[Any], Parted]] = None
         # False while a block is unfolded, and after an exception that left it half-way: then the mirror is of no more use.
         self.is_whole = True
         self._changes = Changes(set(), set(), set())
@@ -148,6 +148,11 @@ class Mirror:
         changes, self._changes = self._changes, Changes(set(), set(), set())
         return changes
 
+    @property
+    def cut_off(self) -> Mapping[int, int]:
+        """For each face that the split which was followed last cut off the one that it was part of."""
+        return self._parted[1].cut_off if self._parted else {}
+
     # Following commands
 
     def follow(self, given: Given) -> None:
@@ -158,8 +163,8 @@ class Mirror:
         self._marks.append(len(self._before))
         _EFFECTS[word](self, values, firsts)
 
-    def parted(self, values: Sequence[Any], firsts: Firsts) -> Model:
-        """The two solids that a split makes of one, by the command's values."""
+    def parted(self, values: Sequence[Any], firsts: Firsts) -> Parted:
+        """What a split makes of a solid, by the command's values."""
         if self._parted is None or self._parted[0] is not values:
             solid, a, b, c, d, above = values
             self._parted = (values, parted(model_of_faces(self, self.faces_of(solid)), (a, b, c, d), above, firsts))
@@ -504,7 +509,7 @@ class Mirror:
     def _split(self, values: Sequence[Any], firsts: Firsts) -> None:
         made = self.parted(values, firsts)
         self._remove(values[0])
-        self._put_in(made)
+        self._put_in(made.model)
 
     def _put_in(self, model: Model) -> None:
         """The things of a model, none of which is there."""

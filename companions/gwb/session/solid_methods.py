@@ -73,7 +73,7 @@ class SolidMethods(Methods):
                 made = Commands(self._bench).split(number, level, above=new)
         else:
             made = refining.with_finer_unit(self._bench, number, level, lambda plane: Commands(self._bench).split(number, plane, above=new))
-        self._bench.label_alike({('solid', number): made.solid})
+        self._bench.label_parts(number, made.solid)
         return made
 
     def cut(self, solid: arguments.Solid, plane: arguments.Point, *, keep: str = 'both', above: Optional[int] = None, scale: bool = False) -> Cut:
@@ -170,15 +170,14 @@ def _copied(bench: Bench, solid: arguments.Solid, ways: Sequence[Sequence[Change
     number = bench.number('solid', solid)
     made = solids.copies(bench, number, ways)
     for copy in made:
-        bench.label_alike({('solid', number): copy.solid, **{('face', face): other for face, other in copy.faces.items()}})
+        bench.label_alike('solid', [(number, copy.solid)])
+        bench.label_alike('face', copy.faces.items())
     return made
 
 
 def _cut(bench: Bench, solid: int, plane: Plane, wanted: Keep, above: Optional[int]) -> Cut:
     if wanted is Keep.BOTH:
-        made = cutting.cut(bench, solid, plane, above)
-        bench.label_alike({('solid', solid): made.above} if made.above else {})
-        return made
+        return cutting.cut(bench, solid, plane, above)
     if wanted is Keep.BELOW:
         return Cut(solid, None, cutting.trimmed(bench, solid, plane), ())
     return Cut(None, solid, (), cutting.trimmed(bench, solid, cutting.opposite(plane)))
