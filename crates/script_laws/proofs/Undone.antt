@@ -20,7 +20,7 @@ use Rattle.script_reader.specs.declared.command.Request.{Request}
 use Rattle.script_reader.specs.declared.command.Request.TheVariants as request
 use Rattle.script_reader.specs.declared.command.Fault.{Fault}
 use Rattle.solid_listing.specs.Listing.{listing}
-use Rattle.solid_listing.proofs.WorkedTexts.{empty-listing}
+use Rattle.solid_listing.proofs.EmptyModels.{empty-listing}
 use Rattle.script_running.specs.script_judging.Judging.{done, answer_when, answer_text}
 use Rattle.script_running.specs.Output.{moved, obeyed, answered, answer_of, machine_after, output_from}
 use Rattle.script_running.specs.declared.script_judging.judging.Answer.{Answer}

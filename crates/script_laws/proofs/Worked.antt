@@ -1,11 +1,19 @@
 -- A script and its answers, computed.
-use Rattle.std.proofs.Common.{refl}
-use Rattle.solid_listing.proofs.WorkedTexts.{computed}
+use Rattle.std.proofs.Common.{ℕ, refl}
+use Rattle.std.specs.Fmt.{digits}
+use Rattle.euler_operators.specs.HalfEdge.{mate, code, half, edge_of, is_first}
+use Rattle.euler_operators.specs.Table as table
+use Rattle.euler_operators.specs.Model.{empty_model, point_of, content, tail, loop_of, face_of, solid_of, outer, arc, holds, after}
+use Rattle.euler_operators.specs.Rings.{rotate_to, canonical, rest}
+use Rattle.euler_operators.specs.Conditions.{conditions, first_false, has_rings}
+use Rattle.euler_operators.specs.Effect.{effect, mvfs, mev_lone, mev_at}
+use Rattle.solid_listing.specs.Listing.{lines, listing}
+use Rattle.solid_listing.specs.Replies.{reply_text}
 use Rattle.script_reader.specs.Grammar.{arguments}
 use Rattle.script_running.specs.Output.{answer_of, machine_after}
 use Rattle.script_laws.specs.Scripts.{answers}
 use Rattle.script_laws.specs.Laws.{AnsweredSo}
 
 pub answered_so : AnsweredSo
-unfolding computed arguments answer_of machine_after answers
+unfolding digits mate code half edge_of is_first rotate_to canonical rest holds after table.empty table.get table.put table.remove table.map_rows table.first_where table.all_where empty_model point_of content tail loop_of face_of solid_of outer arc conditions first_false has_rings effect mvfs mev_lone mev_at lines listing reply_text arguments answer_of machine_after answers
 answered_so = refl

@@ -3,8 +3,9 @@ use Rattle.std.proofs.Common.{◌≡◌, ◌≢◌, ℕ, true, List, [], ◌∷�
 use Rattle.euler_operators.specs.declared.Kind.{Kind}
 use Rattle.euler_operators.specs.declared.Kind.TheVariants.{Solid, Face, Loop, Edge, Vertex}
 use Rattle.euler_operators.specs.HalfEdge.{plus}
+use Rattle.euler_operators.specs.Table as table
 use Rattle.euler_operators.specs.Table.{Table, has, numbers}
-use Rattle.euler_operators.specs.Model.{Model, solid_of, face_of, loop_of}
+use Rattle.euler_operators.specs.Model.{Model, empty_model, solid_of, face_of, loop_of}
 use Rattle.euler_operators.specs.Sound.{Sound, Has, HasHalf}
 use Rattle.euler_operators.proofs.Halves.{plus_row}
 use Rattle.euler_operators.proofs.Models.{held_row, lone_there, one_or_more}
@@ -56,6 +57,10 @@ module _ (M : Model) (sound : Sound M) (none : (k : ℕ) → Has M.solids k → 
 pub empty_text : (s : Store) → Sound s.model → IsGreatest s Solid 0 → listing s.model ≡ codes "empty\n"
 unfolding listing
 empty_text s sound greatest = ap (λ ls. text_of (or_empty ls)) (no_lines s.model sound (λ k there. true≢false (sym there ∙ greatest.above k (one_or_more k (sound.solids_fit k there)))))
+
+pub empty-listing : listing empty_model ≡ codes "empty\n"
+unfolding listing lines empty_model table.empty
+empty-listing = refl
 
 first_line : (n : ℕ) (f : ℕ → List (List ℕ)) (ns : List ℕ) (ls : List (List (List ℕ))) → member n ns ≡ true → or_empty (map f ns ++ ls) ≡ map f ns ++ ls
 first_line n f [] ls m = absurd (true≢false (sym m))
