@@ -1,2 +1,1 @@
 pub mod CommandLine
-mod WorkedWords

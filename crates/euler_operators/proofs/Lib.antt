@@ -1,4 +1,3 @@
-pub mod WorkedScripts
 pub use Rattle.boundary_model.proofs.Crossings
 pub use Rattle.boundary_model.proofs.Integers
 pub use Rattle.boundary_model.proofs.Magnitudes

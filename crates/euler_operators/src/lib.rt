@@ -3,8 +3,8 @@
 //!
 //! # What is proved
 //!
-//! The definitions of conditions, effects and inverses, checked by computation against worked scripts; `FaceList` is a list;
-//! `Why::code` is the printed number.
+//! `FaceList` is a list; `Why::code` is the printed number. What conditions, effects and inverses are is defined, and tried by scripts
+//! with their replies.
 
 ghost use Rattle.std.specs.Prelude.{◌≡◌, ℕ, List, [], ◌++◌, ◌∷◌, length, OnOk, OnErr, Err, slice_index, ◌<◌};
 ghost use Rattle.euler_operators.specs.Refusal.{code_of};

@@ -17,4 +17,3 @@ pub mod OptionLaws
 pub mod PartLaws
 pub mod PlaceLaws
 pub mod SayingLaws
-pub mod WorkedLines

@@ -1,4 +1,3 @@
-mod WorkedScripts
 pub mod Areas
 pub mod fresh
 pub mod walks

@@ -3,4 +3,3 @@ pub mod Swapped
 pub mod Facing
 pub mod Points
 pub mod Facts
-mod WorkedGlues

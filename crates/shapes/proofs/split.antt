@@ -1,4 +1,1 @@
-pub mod WorkedSplits
-pub mod WorkedSections
-pub mod WorkedRefusals
 pub mod Sorted

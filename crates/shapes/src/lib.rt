@@ -10,7 +10,5 @@
 //!
 //! # What is proved
 //!
-//! Checked by computation against worked ones: the models that a lamina, a sweep and a block make; the conditions of a glue and
-//! the model that it makes; the conditions of a split and the model that it makes, as three rewritings. The definitions of
-//! normals, planes and volumes, and that sums over half-edges may be joined and turned. The laws of walks over the faces of a
-//! solid, the loops of a face and the half-edges of a loop.
+//! That sums over half-edges may be joined and turned; the laws of walks over the faces of a solid, the loops of a face and the
+//! half-edges of a loop. Conditions and models of larger commands are definitions, tried by scripts with their replies.

@@ -4,7 +4,6 @@ pub mod EmptyModels
 pub mod HalfWords
 pub mod LineLaws
 pub mod Walks
-pub mod WorkedTexts
 pub mod WritingLaws
 pub mod TellingLaws
 pub mod Parsing

@@ -3,4 +3,3 @@ pub mod Sums
 pub mod LoopRounds
 pub mod FaceSums
 pub mod Tallies
-pub mod WorkedScripts

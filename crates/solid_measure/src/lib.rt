@@ -7,7 +7,7 @@
 //! # What is proved
 //!
 //! `counts`: the numbers of vertices, edges, faces and rings of a solid and `v - e + f - r`, refused exactly where NumberRange,
-//! or after it NoSolid, is false. The definition is checked by computation against the wire, the cut wire and the block.
+//! or after it NoSolid, is false.
 //! `normal`, `plane`, `is_flat`, `six_volume` are the sums over the model, refused exactly where NumberRange, or after it NoFace
 //! or NoSolid, is false. All partial sums fit 128 bits. The least lone loop, and the least face that isn't flat, of one solid or
 //! of two.

@@ -3,4 +3,3 @@ pub mod Steps
 pub mod Runs
 pub mod Premises
 pub mod Whole
-mod WorkedCrossings

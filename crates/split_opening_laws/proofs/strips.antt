@@ -2,4 +2,3 @@ pub mod Cycle
 pub mod Copied
 pub mod Strip
 pub mod Whole
-mod WorkedStrips

@@ -4,4 +4,3 @@ pub mod Loops
 pub mod Turns
 pub mod Whole
 pub mod Accepted
-mod WorkedSweeps

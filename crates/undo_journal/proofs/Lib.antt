@@ -1,4 +1,3 @@
-pub mod WorkedScripts
 pub mod Copies
 pub mod Journals
 pub mod Consistent
