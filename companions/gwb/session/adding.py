@@ -1,6 +1,6 @@
 """Sheets added to a solid: what the faces near them become, and the operators that make it."""
 
-from typing import Iterator, List, NamedTuple, Optional, Sequence
+from typing import List, NamedTuple, Optional, Sequence
 
 from ..geometry.box_index import box_of
 from ..geometry.joined_models import joined

@@ -8,7 +8,7 @@ from ..geometry.plane_figures import Exact, Place
 from ..geometry.vectors import Vector, ZERO, cross, dot, same_direction, subtract
 from . import arguments
 from .bench import Bench, Methods
-from .reading import EdgePart, FacePart, LoopPart, Part, Selection, SolidPart, VertexPart
+from .reading import EdgePart, FacePart, LoopPart, Selection, SolidPart, VertexPart
 
 
 class Selecting(Methods):
