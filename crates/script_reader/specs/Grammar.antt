@@ -14,6 +14,8 @@ use Rattle.script_reader.specs.declared.command.Request.{Request}
 use Rattle.script_reader.specs.declared.command.Request.TheVariants as request
 use Rattle.script_reader.specs.declared.command.Fault.{Fault}
 use Rattle.script_reader.specs.declared.command.Fault.TheVariants.{BadWord, ExtraWord, NotAscii, LongLine}
+use Rattle.script_reader.specs.declared.line.Opening.{Opening}
+use Rattle.script_reader.specs.declared.line.Opening.TheVariants as opening
 use Rattle.script_reader.specs.declared.name.Name.{Name}
 use Rattle.script_reader.specs.declared.name.Name.TheVariants as name
 use Rattle.script_reader.specs.declared.places.Way.{Way}
@@ -90,6 +92,26 @@ ring_move way.Out l f = op.RingOut l f
 abbrev pub operator : Op → Request
 operator o = request.Give (command.Change (change.Act o))
 
+-- what operators' words say, as what their line asks for
+abbrev pub asks : Result Op Fault → Result Request Fault
+asks (Ok o) = Ok (operator o)
+asks (Err f) = Err f
+
+-- the names of operators
+abbrev pub is_operator : Name → Bool
+is_operator name.Lamina = false
+is_operator name.Block = false
+is_operator name.Sweep = false
+is_operator name.Glue = false
+is_operator name.Split = false
+is_operator name.Plane = false
+is_operator name.Volume = false
+is_operator name.Count = false
+is_operator name.Undo = false
+is_operator name.Redo = false
+is_operator name.List = false
+is_operator n = true
+
 abbrev pub build : (n : Name) → Builder (kinds_of n)
 build name.Mvfs = λ s f l v p. operator (op.Mvfs s f l v p)
 build name.Kvfs = λ s. operator (op.Kvfs s)
@@ -133,18 +155,28 @@ name_of word = find (λ n. bytes_eq word (word_of n)) names
 unfoldable pub arguments : Name → List Word → Result Request Fault
 arguments n ws = read_all (kinds_of n) (build n) ws
 
-abbrev pub arguments_of : Option Name → List Word → Result Request Fault
-arguments_of None ws = Err BadWord
-arguments_of (Some n) ws = arguments n ws
-
 -- `#` begins a comment
 abbrev pub is_comment : Word → Bool
 is_comment [] = false
 is_comment (c ∷ cs) = c == 35
 
+-- what a line begins with: nothing that asks for something, a word that is no command's, or a command's name before these words
+abbrev pub named : Option Name → List Word → Opening
+named None ws = opening.BadWord
+named (Some n) ws = opening.Command n ws
+
+abbrev pub opening_of : List Word → Opening
+opening_of [] = opening.Nothing
+opening_of (word ∷ ws) = if is_comment word then opening.Nothing else named (name_of word) ws
+
+-- what a line asks for that begins so
+abbrev pub opened : Opening → Result Request Fault
+opened opening.Nothing = Ok request.Nothing
+opened opening.BadWord = Err BadWord
+opened (opening.Command n ws) = arguments n ws
+
 abbrev pub command_of_words : List Word → Result Request Fault
-command_of_words [] = Ok request.Nothing
-command_of_words (word ∷ ws) = if is_comment word then Ok request.Nothing else arguments_of (name_of word) ws
+command_of_words ws = opened (opening_of ws)
 
 abbrev pub is_ascii : List ℕ → Bool
 is_ascii [] = true

@@ -26,6 +26,10 @@ pub use command::{Fault, Request};
 pub use laws::{
     lines_and_words_are_parts, lines_come_in_order, reading_is_spelling, the_end_stays,
 };
-pub use line::{is_ascii, is_long, read_line, read_words};
+pub use line::{Opening, is_ascii, is_long, opening_of, read_line, read_words};
 pub use lines::{Found, Lines, NextLine};
+pub use name::{Name, is_operator};
+pub use operators::operator;
+pub use places::Words;
 pub use polygon::{Corners, Polygon};
+pub use reading::arguments;

@@ -1,11 +1,13 @@
 //! Reads a line.
-ghost use Rattle.std.specs.Prelude.{◌≡◌, nat_lt, length};
+ghost use Rattle.std.specs.Prelude.{◌≡◌, ⊤, nat_lt, length, MatchOption};
+ghost use Rattle.script_reader.specs.declared.line.Opening.TheVariants as opening;
 ghost use Rattle.script_reader.specs.Words.{words};
-ghost use Rattle.script_reader.specs.Grammar.{is_ascii, is_comment, command_of_words, command_of};
+ghost use Rattle.script_reader.specs.Grammar.{is_ascii, is_comment, opening_of, command_of_words, command_of};
 
 use super::buffer::LINE_LIMIT;
 use super::command::{Fault, Request};
-use super::name::name_of;
+use super::name::{Name, name_of};
+use super::places::Words;
 use super::reading::arguments;
 use super::words::next_word;
 
@@ -15,19 +17,60 @@ fn is_comment(word: &[u8]) -> bool
     matches!(word, [b'#', ..])
 }
 
+/// What the words of a line begin with.
+#[derive(Drop)]
+pub enum Opening<'a> {
+    /// No word, or a comment: the line asks for nothing.
+    Nothing,
+    /// A word that is no command's.
+    BadWord,
+    /// A command's name, and the words that follow it.
+    Command(Name, Words<'a>),
+}
+
+/// The name of an operator that is given often, where a line begins with it and a space, and what follows them. They are known by their letters.
+fn quick_name(line: &[u8]) -> Option<(Name, &[u8])>
+    ensures { MatchOption result ⊤ (λ r. opening_of (words line.now) ≡ opening.Command r.0 (words r.1.now)) }
+{
+    match line {
+        [b'm', b'e', b'v', b' ', rest @ ..] => Some((Name::Mev, rest)),
+        [b'm', b'e', b'f', b' ', rest @ ..] => Some((Name::Mef, rest)),
+        [b'k', b'e', b'v', b' ', rest @ ..] => Some((Name::Kev, rest)),
+        [b'k', b'e', b'f', b' ', rest @ ..] => Some((Name::Kef, rest)),
+        _ => None,
+    }
+}
+
+/// What the words of a line begin with, whatever its length and its other bytes.
+#[inline(always)]
+pub fn opening_of(line: &[u8]) -> Opening<'_>
+    ensures { result ≡ opening_of (words line.now) }
+{
+    if let Some((name, rest)) = quick_name(line) {
+        return Opening::Command(name, Words::of(rest));
+    }
+    let Some((word, rest)) = next_word(line) else {
+        return Opening::Nothing;
+    };
+    if is_comment(word) {
+        return Opening::Nothing;
+    }
+    match name_of(word) {
+        Some(name) => Opening::Command(name, Words::of(rest)),
+        None => Opening::BadWord,
+    }
+}
+
 /// What the words of a line say, whatever its length and its other bytes. A request for something is what `read_line` says of a line within
 /// the limit, since each of its bytes belongs to a word that was read, or separates two.
 pub fn read_words(line: &[u8]) -> Result<Request<'_>, Fault>
     ensures { result ≡ command_of_words (words line.now) }
 {
-    let Some((word, rest)) = next_word(line) else {
-        return Ok(Request::Nothing);
-    };
-    if is_comment(word) {
-        return Ok(Request::Nothing);
+    match opening_of(line) {
+        Opening::Nothing => Ok(Request::Nothing),
+        Opening::BadWord => Err(Fault::BadWord),
+        Opening::Command(name, mut words) => arguments(name, &mut words),
     }
-    let name = name_of(word).ok_or(Fault::BadWord)?;
-    arguments(name, rest)
 }
 
 /// Whether a line is past the limit.

@@ -1,6 +1,6 @@
 //! The command words.
 ghost use Rattle.std.specs.Prelude.{◌≡◌};
-ghost use Rattle.script_reader.specs.Grammar.{name_of};
+ghost use Rattle.script_reader.specs.Grammar.{name_of, is_operator};
 
 /// The command words of a script.
 #[derive(Clone, Copy, Debug, PartialEq, Eq)]
@@ -29,7 +29,20 @@ pub enum Name {
     List,
 }
 
+/// Whether an operator has the name.
+pub fn is_operator(name: Name) -> bool
+    ensures { result ≡ is_operator name }
+{
+    match name {
+        Name::Lamina | Name::Block | Name::Sweep | Name::Glue | Name::Split => false,
+        Name::Plane | Name::Volume | Name::Count => false,
+        Name::Undo | Name::Redo | Name::List => false,
+        _ => true,
+    }
+}
+
 /// The name that is written so. It is told by its letters, which costs less than to compare words.
+#[inline(always)]
 pub fn name_of(word: &[u8]) -> Option<Name>
     ensures { result ≡ name_of word.now }
 {

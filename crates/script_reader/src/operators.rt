@@ -1,11 +1,11 @@
-//! Reads the words after the command word of each Euler operator.
-ghost use Rattle.std.specs.Prelude.{◌≡◌};
-ghost use Rattle.script_reader.specs.Grammar.{plus, operator, arguments};
+//! Reads the words after the command word of each Euler operator. Each reader stands alone, so that its rooms are not cleared for the others.
+ghost use Rattle.std.specs.Prelude.{◌≡◌, true};
+ghost use Rattle.script_reader.specs.Grammar.{plus, asks, is_operator, arguments};
 ghost use Rattle.script_reader.specs.declared.name.Name.TheVariants as name;
 
-use super::command::{Fault, Request};
+use super::command::Fault;
+use super::name::Name;
 use super::places::{Way, Words};
-use commands::{Change, Command};
 use euler_operators::{HalfEdge, Op};
 
 /// The half-edge with `+` of an edge, which is how a script gives a new edge.
@@ -15,17 +15,10 @@ fn plus(edge: u32) -> HalfEdge
     HalfEdge { edge, first: true }
 }
 
-/// A line that asks for one Euler operator.
-#[inline(always)]
-fn operator<'a>(op: Op) -> Request<'a>
-    ensures { result ≡ operator op }
-{
-    Request::Give(Command::Change(Change::Act(op)))
-}
-
+#[inline(never)]
 #[tactic(auto, unfolding(crate::specs::Grammar::arguments))]
-pub(crate) fn mvfs<'a>(words: &mut Words<'a>) -> Result<Request<'a>, Fault>
-    ensures { result ≡ arguments name.Mvfs words.old }
+fn mvfs(words: &mut Words<'_>) -> Result<Op, Fault>
+    ensures { asks result ≡ arguments name.Mvfs words.old }
 {
     let solid = words.number()?;
     let face = words.number()?;
@@ -33,21 +26,23 @@ pub(crate) fn mvfs<'a>(words: &mut Words<'a>) -> Result<Request<'a>, Fault>
     let vertex = words.number()?;
     let place = words.point()?;
     words.finish()?;
-    Ok(operator(Op::Mvfs(solid, face, outer, vertex, place)))
+    Ok(Op::Mvfs(solid, face, outer, vertex, place))
 }
 
+#[inline(never)]
 #[tactic(auto, unfolding(crate::specs::Grammar::arguments))]
-pub(crate) fn kvfs<'a>(words: &mut Words<'a>) -> Result<Request<'a>, Fault>
-    ensures { result ≡ arguments name.Kvfs words.old }
+fn kvfs(words: &mut Words<'_>) -> Result<Op, Fault>
+    ensures { asks result ≡ arguments name.Kvfs words.old }
 {
     let solid = words.number()?;
     words.finish()?;
-    Ok(operator(Op::Kvfs(solid)))
+    Ok(Op::Kvfs(solid))
 }
 
+#[inline(never)]
 #[tactic(auto, unfolding(crate::specs::Grammar::arguments))]
-pub(crate) fn mev<'a>(words: &mut Words<'a>) -> Result<Request<'a>, Fault>
-    ensures { result ≡ arguments name.Mev words.old }
+fn mev(words: &mut Words<'_>) -> Result<Op, Fault>
+    ensures { asks result ≡ arguments name.Mev words.old }
 {
     let from = words.corner()?;
     let to = words.corner()?;
@@ -55,21 +50,23 @@ pub(crate) fn mev<'a>(words: &mut Words<'a>) -> Result<Request<'a>, Fault>
     let vertex = words.number()?;
     let place = words.point()?;
     words.finish()?;
-    Ok(operator(Op::Mev(from, to, plus(edge), vertex, place)))
+    Ok(Op::Mev(from, to, plus(edge), vertex, place))
 }
 
+#[inline(never)]
 #[tactic(auto, unfolding(crate::specs::Grammar::arguments))]
-pub(crate) fn kev<'a>(words: &mut Words<'a>) -> Result<Request<'a>, Fault>
-    ensures { result ≡ arguments name.Kev words.old }
+fn kev(words: &mut Words<'_>) -> Result<Op, Fault>
+    ensures { asks result ≡ arguments name.Kev words.old }
 {
     let half = words.half()?;
     words.finish()?;
-    Ok(operator(Op::Kev(half)))
+    Ok(Op::Kev(half))
 }
 
+#[inline(never)]
 #[tactic(auto, unfolding(crate::specs::Grammar::arguments))]
-pub(crate) fn mef<'a>(words: &mut Words<'a>) -> Result<Request<'a>, Fault>
-    ensures { result ≡ arguments name.Mef words.old }
+fn mef(words: &mut Words<'_>) -> Result<Op, Fault>
+    ensures { asks result ≡ arguments name.Mef words.old }
 {
     let from = words.half()?;
     let to = words.half()?;
@@ -77,62 +74,68 @@ pub(crate) fn mef<'a>(words: &mut Words<'a>) -> Result<Request<'a>, Fault>
     let face = words.number()?;
     let outer = words.number()?;
     words.finish()?;
-    Ok(operator(Op::Mef(from, to, plus(edge), face, outer)))
+    Ok(Op::Mef(from, to, plus(edge), face, outer))
 }
 
+#[inline(never)]
 #[tactic(auto, unfolding(crate::specs::Grammar::arguments))]
-pub(crate) fn kef<'a>(words: &mut Words<'a>) -> Result<Request<'a>, Fault>
-    ensures { result ≡ arguments name.Kef words.old }
+fn kef(words: &mut Words<'_>) -> Result<Op, Fault>
+    ensures { asks result ≡ arguments name.Kef words.old }
 {
     let half = words.half()?;
     words.finish()?;
-    Ok(operator(Op::Kef(half)))
+    Ok(Op::Kef(half))
 }
 
+#[inline(never)]
 #[tactic(auto, unfolding(crate::specs::Grammar::arguments))]
-pub(crate) fn kemr<'a>(words: &mut Words<'a>) -> Result<Request<'a>, Fault>
-    ensures { result ≡ arguments name.Kemr words.old }
+fn kemr(words: &mut Words<'_>) -> Result<Op, Fault>
+    ensures { asks result ≡ arguments name.Kemr words.old }
 {
     let half = words.half()?;
     let ring = words.number()?;
     words.finish()?;
-    Ok(operator(Op::Kemr(half, ring)))
+    Ok(Op::Kemr(half, ring))
 }
 
+#[inline(never)]
 #[tactic(auto, unfolding(crate::specs::Grammar::arguments))]
-pub(crate) fn mekr<'a>(words: &mut Words<'a>) -> Result<Request<'a>, Fault>
-    ensures { result ≡ arguments name.Mekr words.old }
+fn mekr(words: &mut Words<'_>) -> Result<Op, Fault>
+    ensures { asks result ≡ arguments name.Mekr words.old }
 {
     let from = words.corner()?;
     let to = words.corner()?;
     let edge = words.number()?;
     words.finish()?;
-    Ok(operator(Op::Mekr(from, to, plus(edge))))
+    Ok(Op::Mekr(from, to, plus(edge)))
 }
 
+#[inline(never)]
 #[tactic(auto, unfolding(crate::specs::Grammar::arguments))]
-pub(crate) fn kfmrh<'a>(words: &mut Words<'a>) -> Result<Request<'a>, Fault>
-    ensures { result ≡ arguments name.Kfmrh words.old }
+fn kfmrh(words: &mut Words<'_>) -> Result<Op, Fault>
+    ensures { asks result ≡ arguments name.Kfmrh words.old }
 {
     let kept = words.number()?;
     let killed = words.number()?;
     words.finish()?;
-    Ok(operator(Op::Kfmrh(kept, killed)))
+    Ok(Op::Kfmrh(kept, killed))
 }
 
+#[inline(never)]
 #[tactic(auto, unfolding(crate::specs::Grammar::arguments))]
-pub(crate) fn mfkrh<'a>(words: &mut Words<'a>) -> Result<Request<'a>, Fault>
-    ensures { result ≡ arguments name.Mfkrh words.old }
+fn mfkrh(words: &mut Words<'_>) -> Result<Op, Fault>
+    ensures { asks result ≡ arguments name.Mfkrh words.old }
 {
     let ring = words.number()?;
     let face = words.number()?;
     words.finish()?;
-    Ok(operator(Op::Mfkrh(ring, face)))
+    Ok(Op::Mfkrh(ring, face))
 }
 
+#[inline(never)]
 #[tactic(auto, unfolding(crate::specs::Grammar::arguments))]
-pub(crate) fn ringmv<'a>(words: &mut Words<'a>) -> Result<Request<'a>, Fault>
-    ensures { result ≡ arguments name.Ringmv words.old }
+fn ringmv(words: &mut Words<'_>) -> Result<Op, Fault>
+    ensures { asks result ≡ arguments name.Ringmv words.old }
 {
     let ring = words.number()?;
     let face = words.number()?;
@@ -142,5 +145,27 @@ pub(crate) fn ringmv<'a>(words: &mut Words<'a>) -> Result<Request<'a>, Fault>
         Way::Out => Op::RingOut(ring, face),
     };
     words.finish()?;
-    Ok(operator(op))
+    Ok(op)
+}
+
+/// The operator of this name, with the words after it.
+#[inline(always)]
+pub fn operator(name: Name, words: &mut Words<'_>) -> Result<Op, Fault>
+    requires { is_operator name ≡ true }
+    ensures { asks result ≡ arguments name words.old }
+{
+    match name {
+        Name::Mvfs => mvfs(words),
+        Name::Kvfs => kvfs(words),
+        Name::Mev => mev(words),
+        Name::Kev => kev(words),
+        Name::Mef => mef(words),
+        Name::Kef => kef(words),
+        Name::Kemr => kemr(words),
+        Name::Mekr => mekr(words),
+        Name::Kfmrh => kfmrh(words),
+        Name::Mfkrh => mfkrh(words),
+        Name::Ringmv => ringmv(words),
+        _ => unreachable!(),
+    }
 }

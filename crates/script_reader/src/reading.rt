@@ -1,12 +1,11 @@
 //! Reads the words after each command word.
-ghost use Rattle.std.specs.Prelude.{◌≡◌};
-ghost use Rattle.script_reader.specs.Words.{words};
-ghost use Rattle.script_reader.specs.Grammar.{arguments};
+ghost use Rattle.std.specs.Prelude.{◌≡◌, true};
+ghost use Rattle.script_reader.specs.Grammar.{arguments, is_operator};
 ghost use Rattle.script_reader.specs.declared.name.Name.TheVariants as name;
 
 use super::command::{Fault, Request};
 use super::name::Name;
-use super::operators::{kef, kemr, kev, kfmrh, kvfs, mef, mekr, mev, mfkrh, mvfs, ringmv};
+use super::operators::operator;
 use super::places::Words;
 use super::polygon::Polygon;
 use commands::{Change, Command, Question};
@@ -118,33 +117,32 @@ fn list<'a>(words: &mut Words<'a>) -> Result<Request<'a>, Fault>
     Ok(Request::List)
 }
 
-/// The command of this name, with the words in the rest of its line.
-pub fn arguments(name: Name, rest: &[u8]) -> Result<Request<'_>, Fault>
-    ensures { result ≡ arguments name (words rest.now) }
+/// A line that asks for one operator.
+#[inline(never)]
+fn operated<'a>(name: Name, words: &mut Words<'a>) -> Result<Request<'a>, Fault>
+    requires { is_operator name ≡ true }
+    ensures { result ≡ arguments name words.old }
 {
-    let mut words = Words::of(rest);
+    let op = operator(name, words)?;
+    Ok(Request::Give(Command::Change(Change::Act(op))))
+}
+
+/// What a line asks for that begins with this name, before these words.
+pub fn arguments<'a>(name: Name, words: &mut Words<'a>) -> Result<Request<'a>, Fault>
+    ensures { result ≡ arguments name words.old }
+{
     match name {
-        Name::Mvfs => mvfs(&mut words),
-        Name::Kvfs => kvfs(&mut words),
-        Name::Mev => mev(&mut words),
-        Name::Kev => kev(&mut words),
-        Name::Mef => mef(&mut words),
-        Name::Kef => kef(&mut words),
-        Name::Kemr => kemr(&mut words),
-        Name::Mekr => mekr(&mut words),
-        Name::Kfmrh => kfmrh(&mut words),
-        Name::Mfkrh => mfkrh(&mut words),
-        Name::Ringmv => ringmv(&mut words),
-        Name::Lamina => lamina(&mut words),
-        Name::Block => block(&mut words),
-        Name::Sweep => sweep(&mut words),
-        Name::Glue => glue(&mut words),
-        Name::Split => split(&mut words),
-        Name::Plane => plane(&mut words),
-        Name::Volume => volume(&mut words),
-        Name::Count => count(&mut words),
-        Name::Undo => undo(&mut words),
-        Name::Redo => redo(&mut words),
-        Name::List => list(&mut words),
+        Name::Lamina => lamina(words),
+        Name::Block => block(words),
+        Name::Sweep => sweep(words),
+        Name::Glue => glue(words),
+        Name::Split => split(words),
+        Name::Plane => plane(words),
+        Name::Volume => volume(words),
+        Name::Count => count(words),
+        Name::Undo => undo(words),
+        Name::Redo => redo(words),
+        Name::List => list(words),
+        _ => operated(name, words),
     }
 }

@@ -23,7 +23,8 @@ use Rattle.solid_listing.specs.Writing.{Stops, Puts, Outgoing, outgoing, Gathers
 use Rattle.solid_listing.proofs.TellingLaws.{Breaks, Gathers-nil, Gathers-trans, Breaks-after, all_out, went_out}
 use Rattle.solid_listing.specs.declared.reply.Reply.TheVariants as reply
 use Rattle.undo_journal.specs.Journal.{Journal, new_journal}
-use Rattle.script_running.specs.script_judging.Judging.{Obeys, Judges, Answers, answer_text, no_lines, one_line, counted}
+use Rattle.script_running.specs.script_judging.Settling.{Decides}
+use Rattle.script_running.specs.script_judging.Judging.{Judges, Answers, answer_text, no_lines, one_line, counted}
 use Rattle.script_running.specs.Outs.{stops, was_stopped, Outs}
 use Rattle.script_running.specs.Output.{output_of, output_from, summary_of, summary_from}
 use Rattle.script_running.specs.Runs.{Moves, Served, BreaksOff, WriteFails, IsTooLong, Runs}
@@ -94,15 +95,20 @@ module _ {R : Type 0} (remaining : R → Option (List ℕ)) (lines next : Lines 
   heard_as : (t u : Journal) (a b : Answer) → Hears remaining lines next s a t → b ≡ a → u ≡ t → Hears remaining lines next s b u
   heard_as t u a b h ea et = rw (ea, et) h
 
-  -- a line that is answered at once
-  pub heard_line : (line : List ℕ) (t u : Journal) (a b : Answer) → Went remaining lines next found.Line → line ≡ line_of next → Judges s line a t → b ≡ a → u ≡ t → Hears remaining lines next s b u
-  heard_line line t u a b went is judged = heard_as t u a b (inl (went, subst (λ (l : List ℕ). Judges s l a t) is judged))
+  heard_judged : (line : List ℕ) (t u : Journal) (a b : Answer) → Went remaining lines next found.Line → line ≡ line_of next → Judges s line a t → b ≡ a → u ≡ t → Hears remaining lines next s b u
+  heard_judged line t u a b went is judged = heard_as t u a b (inl (went, subst (λ (l : List ℕ). Judges s l a t) is judged))
 
-  -- a line of which what it asks for is carried out
-  pub heard_larger : (line : List ℕ) (m t u : Journal) (r : Request) (a b : Answer) → Went remaining lines next found.Line → line ≡ line_of next → (command_of line ≡ Ok r) × (m ≡ s) → Obeys m r a t → b ≡ a → u ≡ t → Hears remaining lines next s b u
-  heard_larger line m t u r a b went is decided obeys =
-      let judged : Judges s line a t = subst (λ (x : Result Request Fault). Answers s x a t) (sym decided.0) (subst (λ (q : Journal). Obeys q r a t) decided.1 obeys) in
-      heard_line line t u a b went is judged
+  -- a line that is answered where the session lies
+  pub heard_line : (line : List ℕ) (done : Bool) (t u : Journal) (a b : Answer) → Went remaining lines next found.Line → line ≡ line_of next → Decides s (λ x y. Judges s line x y) done a t → done ≡ true → b ≡ a → u ≡ t
+      → Hears remaining lines next s b u
+  heard_line line true t u a b went is decided e = heard_judged line t u a b went is decided
+  heard_line line false t u a b went is decided e = absurd (cc e)
+
+  -- a line for which the session was moved
+  pub heard_moved : (line again : List ℕ) (done : Bool) (m t u : Journal) (x a b : Answer) → Went remaining lines next found.Line → again ≡ line_of next → Decides s (λ y z. Judges s line y z) done x m → done ≡ false
+      → Judges m again a t → b ≡ a → u ≡ t → Hears remaining lines next s b u
+  heard_moved line again true m t u x a b went is decided e judged = absurd (cc e)
+  heard_moved line again false m t u x a b went is stays e judged = heard_judged again t u a b went is (subst (λ (q : Journal). Judges q again a t) stays judged)
 
   -- a line that is too long
   pub heard_long : (n : ℕ) (b : Answer) (u : Journal) → Went remaining lines next found.Long → n ≡ 6 → b ≡ Says (reply.Fault n) → u ≡ s → Hears remaining lines next s b u

@@ -7,8 +7,8 @@
 //!
 //! # What is proved
 //!
-//! `judge` answers a line as a session may be told what the line asks for (`Judges`), or gives back a request for which the session has to be
-//! moved, and nothing has changed; `carry_out` answers such a request likewise (`Obeys`). A command is answered what the call to give it is told
+//! `judge` answers a line as a session may be told what the line asks for (`Judges`), or leaves it, since the session has to be moved for it,
+//! and nothing has changed; `carry_out` answers any line likewise. A command is answered what the call to give it is told
 //! (`answer_when`; `lines_are_told`). Where the answer is something other than `ok`, the session is as it was, its records too. `complains`
 //! is true exactly of the answers that begin with `refused`, `fault` or `memory`; `Summary` counts lines and answers (`count`),
 //! and is clean (`is_clean`) exactly where it has none of these. `run` writes replies that the plain machine may give to the

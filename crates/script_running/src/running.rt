@@ -139,8 +139,8 @@ fn run_lines<R: Read, W: Write>(
         }
         match lines.advance() {
             Found::Line => {
-                if let Some(request) = judge(&mut session, lines.line(), &mut answer) {
-                    let (next, told) = carry_out(alloc, session, request);
+                if !judge(&mut session, lines.line(), &mut answer) {
+                    let (next, told) = carry_out(alloc, session, lines.line());
                     session = next;
                     answer = told;
                 }

@@ -1,11 +1,11 @@
 -- What a line does to a slot: it is a call, or is answered by itself.
-use Rattle.std.specs.Prelude.{◌≡◌, ℕ, Bool, true, false, cond, List, Option, Result, Ok, Err}
+use Rattle.std.specs.Prelude.{◌≡◌, ℕ, Bool, true, false, List, Option, Result, Ok, Err}
 use Rattle.script_reader.specs.declared.command.Request.{Request}
 use Rattle.script_reader.specs.declared.command.Request.TheVariants as request
 use Rattle.script_reader.specs.declared.command.Fault.{Fault}
-use Rattle.script_reader.specs.declared.command.Fault.TheVariants.{NotAscii}
-use Rattle.script_reader.specs.Grammar.{is_ascii, command_of}
+use Rattle.script_reader.specs.Grammar.{command_of}
 use Rattle.script_running.specs.script_judging.Judging.{faulty}
+use Rattle.script_running.specs.script_judging.Settling.{unless_not_ascii}
 use Rattle.script_running.specs.declared.script_judging.judging.Answer.{Answer}
 use Rattle.script_running.specs.declared.script_judging.judging.Answer.TheVariants.{Silent, Listing}
 use Rattle.commands.specs.declared.command.Change.{Change}
@@ -33,15 +33,16 @@ said request.List = tells Listing
 said (request.Lamina n ps) = changes (change.Lamina n ps)
 said (request.Give c) = gives c
 
--- the same of a line within the limit: where its words ask for nothing, it may not be ASCII
-abbrev pub said_of : List ℕ → Request → Spoken
-said_of bytes request.Nothing = tells (cond (is_ascii bytes) Silent (faulty NotAscii))
-said_of bytes r = said r
-
 -- a line with a fault is told it
 abbrev pub read : Result Request Fault → Spoken
 read (Ok r) = said r
 read (Err f) = tells (faulty f)
+
+-- the same of the words of a line within the limit: where they ask for nothing, or are wrong, it may not be ASCII
+abbrev pub said_of : List ℕ → Result Request Fault → Spoken
+said_of bytes (Ok request.Nothing) = tells (unless_not_ascii bytes Silent)
+said_of bytes (Ok r) = said r
+said_of bytes (Err f) = tells (unless_not_ascii bytes (faulty f))
 
 abbrev pub spoken : List ℕ → Spoken
 spoken line = read (command_of line)

@@ -1,7 +1,8 @@
 //! Lines: each is a call that it spells, or is answered by itself.
-ghost use Rattle.std.specs.Prelude.{◌≡◌, cond};
-ghost use Rattle.script_reader.specs.Grammar.{is_ascii};
+ghost use Rattle.std.specs.Prelude.{◌≡◌, Ok, true};
+ghost use Rattle.script_reader.specs.Grammar.{is_operator, arguments};
 ghost use Rattle.script_running.specs.script_judging.Judging.{faulty};
+ghost use Rattle.script_running.specs.script_judging.Settling.{unless_not_ascii};
 ghost use Rattle.commands.specs.declared.command.Change.TheVariants as change;
 ghost use Rattle.commands.specs.declared.command.Command.TheVariants as command;
 ghost use Rattle.session_slots.specs.Stages.{is_draft};
@@ -11,7 +12,10 @@ use crate::calls::{act_in, ask, move_in, redo_in, undo_in};
 use crate::slot::{Slot, counted_in, is_drafting};
 use commands::{Call, Change, Command, Points, Question};
 use euler_operators::Op;
-use script_reader::{Fault, Polygon, Request, is_ascii, is_long, read_words};
+use script_reader::{
+    Fault, Name, Opening, Polygon, Request, Words, arguments, is_ascii, is_long, is_operator,
+    opening_of, operator,
+};
 use script_running::Answer;
 use solid_listing::Reply;
 use std::alloc::Global;
@@ -28,7 +32,7 @@ fn tell_fault(slot: &mut Slot, fault: Fault)
 /// Answers a line within the limit of whose words this is the first fault: it is told, or that the line isn't ASCII.
 #[inline(never)]
 fn tell_first_fault(slot: &mut Slot, line: &[u8], fault: Fault)
-    ensures { Slot_says slot.old (tells (cond (is_ascii line.now) (faulty fault) (faulty Fault.NotAscii))) slot.new }
+    ensures { Slot_says slot.old (tells (unless_not_ascii line.now (faulty fault))) slot.new }
 {
     if is_ascii(line) {
         tell_fault(slot, fault);
@@ -48,7 +52,7 @@ fn tell(slot: &mut Slot, answer: Answer)
 /// Answers a line within the limit whose words ask for nothing: it has no reply, or is told that it isn't ASCII.
 #[inline(never)]
 fn tell_nothing(slot: &mut Slot, line: &[u8])
-    ensures { Slot_says slot.old (tells (cond (is_ascii line.now) Answer.Silent (faulty Fault.NotAscii))) slot.new }
+    ensures { Slot_says slot.old (tells (unless_not_ascii line.now Answer.Silent)) slot.new }
 {
     if is_ascii(line) {
         tell(slot, Answer::Silent);
@@ -75,7 +79,7 @@ fn act(slot: &mut Slot, op: Op)
     act_in(slot, op)
 }
 
-/// Makes a larger command.
+/// Makes a change.
 #[inline(never)]
 #[tactic(auto, unfolding(crate::specs::Lines::Slot_says))]
 fn carry(alloc: Global, slot: &mut Slot, wanted: Change<'_>)
@@ -126,7 +130,6 @@ fn give(alloc: Global, slot: &mut Slot, command: Command<'_>) -> bool
     ensures { Unless_lacking (lacks_said (gives command.entry) slot.old.stage) (λ x y. Slot_says x (gives command.entry) y) slot.old slot.new result }
 {
     match command {
-        Command::Change(Change::Act(op)) => act(slot, op),
         Command::Change(wanted) => carry(alloc, slot, wanted),
         Command::Ask(question) => ask_of_line(slot, question),
         Command::Undo => return undo_session(slot),
@@ -137,7 +140,7 @@ fn give(alloc: Global, slot: &mut Slot, command: Command<'_>) -> bool
 
 /// Does what the words of a line within the limit ask for. False where a draft hasn't the call; then nothing has changed.
 fn obey(alloc: Global, slot: &mut Slot, line: &[u8], request: Request<'_>) -> bool
-    ensures { Unless_lacking (lacks_said (said_of line.now request.entry) slot.old.stage) (λ x y. Slot_says x (said_of line.now request.entry) y) slot.old slot.new result }
+    ensures { Unless_lacking (lacks_said (said_of line.now (Ok request.entry)) slot.old.stage) (λ x y. Slot_says x (said_of line.now (Ok request.entry)) y) slot.old slot.new result }
 {
     match request {
         Request::Nothing => tell_nothing(slot, line),
@@ -148,9 +151,44 @@ fn obey(alloc: Global, slot: &mut Slot, line: &[u8], request: Request<'_>) -> bo
     true
 }
 
+/// Answers a line within the limit that begins with the name of an operator, before these words.
+#[inline(always)]
+fn answer_operator(slot: &mut Slot, line: &[u8], name: Name, words: &mut Words<'_>) -> bool
+    requires { is_operator name ≡ true }
+    ensures { Unless_lacking (lacks_said (said_of line.now (arguments name words.old)) slot.old.stage) (λ x y. Slot_says x (said_of line.now (arguments name words.old)) y) slot.old slot.new result }
+{
+    match operator(name, words) {
+        Ok(op) => act(slot, op),
+        Err(fault) => tell_first_fault(slot, line, fault),
+    }
+    true
+}
+
+/// Answers a line within the limit that begins with this name, before these words. False where a draft hasn't the call; then nothing has
+/// changed.
+#[inline(never)]
+fn answer_other(
+    alloc: Global,
+    slot: &mut Slot,
+    line: &[u8],
+    name: Name,
+    words: &mut Words<'_>,
+) -> bool
+    ensures { Unless_lacking (lacks_said (said_of line.now (arguments name words.old)) slot.old.stage) (λ x y. Slot_says x (said_of line.now (arguments name words.old)) y) slot.old slot.new result }
+{
+    match arguments(name, words) {
+        Ok(request) => obey(alloc, slot, line, request),
+        Err(fault) => {
+            tell_first_fault(slot, line, fault);
+            true
+        }
+    }
+}
+
 /// Answers a line, and keeps the answer. False where a draft hasn't the call that it spells; then nothing has changed.
 ///
 /// A line that spells a command is read once. Only one that spells none is looked at again, for a byte that isn't ASCII.
+#[tactic(auto, using(crate::proofs::Hearing::words_heard))]
 fn answer_line(alloc: Global, slot: &mut Slot, line: &[u8]) -> bool
     ensures { Unless_lacking (lacks_said (spoken line.now) slot.old.stage) (λ x y. Slot_hears x line.now y) slot.old slot.new result }
 {
@@ -158,13 +196,17 @@ fn answer_line(alloc: Global, slot: &mut Slot, line: &[u8]) -> bool
         tell_fault(slot, Fault::LongLine);
         return true;
     }
-    match read_words(line) {
-        Ok(request) => obey(alloc, slot, line, request),
-        Err(fault) => {
-            tell_first_fault(slot, line, fault);
-            true
+    match opening_of(line) {
+        Opening::Nothing => tell_nothing(slot, line),
+        Opening::BadWord => tell_first_fault(slot, line, Fault::BadWord),
+        Opening::Command(name, mut words) => {
+            if is_operator(name) {
+                return answer_operator(slot, line, name, &mut words);
+            }
+            return answer_other(alloc, slot, line, name, &mut words);
         }
     }
+    true
 }
 
 /// Answers a line, and keeps the answer and the greatest numbers in use before it. False where a draft hasn't the call that the line spells,

@@ -1,29 +1,30 @@
 -- What a line is answered whose words ask for something.
-use Rattle.std.proofs.Common.{◌≡◌, inl, inr, ℕ, false, List, codes, length, Option, Some, None, Ok, sym, ap, subst, ◌∙◌}
+use Rattle.std.proofs.Common.{◌≡◌, inl, inr, ℕ, false, List, codes, length, Result, Ok, Err, sym, subst}
 use Rattle.std.specs.Prelude.{nat_lt}
 use Rattle.std.proofs.lemmas.Bool.{cases_Bool}
 use Rattle.undo_journal.specs.Journal.{Journal}
 use Rattle.commands.specs.declared.command.Command.TheVariants as command
 use Rattle.script_reader.specs.Words.{words}
-use Rattle.script_reader.specs.Grammar.{is_ascii, arguments, command_of_words, command_of}
+use Rattle.script_reader.specs.Grammar.{is_ascii, arguments, command_of_words}
 use Rattle.script_reader.specs.declared.command.Request.{Request}
 use Rattle.script_reader.specs.declared.command.Request.TheVariants.{Nothing}
+use Rattle.script_reader.specs.declared.command.Fault.{Fault}
 use Rattle.script_reader.proofs.AsciiWords.{words_tell}
 use Rattle.script_running.specs.script_judging.Judging.{Gives, Judges}
-use Rattle.script_running.specs.script_judging.Settling.{Settles, SettlesLine, Decides}
+use Rattle.script_running.specs.script_judging.Settling.{AnswersWords}
 use Rattle.script_running.specs.declared.script_judging.judging.Answer.{Answer}
 
-decided : (s : Journal) (line : List ℕ) (r : Request) (q : Option Request) (a : Answer) (t : Journal) → command_of line ≡ Ok r → Settles s r q a t → Decides s line q a t
-decided s line r None a t e h = rw e h
-decided s line r (Some q) a t e h = (e ∙ ap (λ (d : Request). Ok d) h.0, h.1)
-
-pub decides : (s : Journal) (line : List ℕ) (r : Request) (q : Option Request) (a : Answer) (t : Journal) → nat_lt 65536 (length line) ≡ false → command_of_words (words line) ≡ Ok r → SettlesLine s line r q a t → Decides s line q a t
-decides s line Nothing (Some q) a t short e h = absurd (cc h.0)
-decides s line Nothing None a t short e h = elim (cases_Bool (is_ascii line)) [
-  | inl ascii ↦ rw (short, ascii, e) (rw ascii at h.1, h.2)
-  | inr other ↦ rw (short, other) (rw other at h.1, h.2)
+-- what the words of a line within the limit are answered is what the line is answered
+pub words_judged : (s : Journal) (line : List ℕ) (r : Result Request Fault) (a : Answer) (t : Journal) → nat_lt 65536 (length line) ≡ false → command_of_words (words line) ≡ r → AnswersWords s line r a t → Judges s line a t
+words_judged s line (Ok Nothing) a t short e h = elim (cases_Bool (is_ascii line)) [
+  | inl ascii ↦ rw (short, ascii, e) (rw ascii at h.0, h.1)
+  | inr other ↦ rw (short, other) (rw other at h.0, h.1)
 ]
-decides s line r q a t short e h = decided s line r q a t (words_tell line r short e (λ same. absurd (cc same))) h
+words_judged s line (Err f) a t short e h = elim (cases_Bool (is_ascii line)) [
+  | inl ascii ↦ rw (short, ascii, e) (rw ascii at h.0, h.1)
+  | inr other ↦ rw (short, other) (rw other at h.0, h.1)
+]
+words_judged s line (Ok r) a t short e h = rw (words_tell line r short e (λ same. absurd (cc same))) h
 
 -- the lines that are known by their letters
 pub undo_judged : (s : Journal) (line : List ℕ) (a : Answer) (t : Journal) → line ≡ codes "undo" → Gives s command.Undo a t → Judges s line a t

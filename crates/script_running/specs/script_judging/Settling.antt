@@ -1,25 +1,26 @@
--- What a line comes to where the session lies: an answer, or a request for which the session is yet to be moved.
-use Rattle.std.specs.Prelude.{◌≡◌, ℕ, cond, List, Option, Some, None, Ok}
+-- What a line comes to where the session lies: an answer; or nothing yet, since the session has to be moved for it.
+use Rattle.std.specs.Prelude.{◌≡◌, ℕ, Bool, true, false, cond, List, Result, Ok, Err}
 use Rattle.undo_journal.specs.Journal.{Journal}
 use Rattle.script_reader.specs.declared.command.Request.{Request}
 use Rattle.script_reader.specs.declared.command.Request.TheVariants as request
-use Rattle.script_reader.specs.Grammar.{is_ascii, command_of}
+use Rattle.script_reader.specs.Grammar.{is_ascii}
+use Rattle.script_reader.specs.declared.command.Fault.{Fault}
 use Rattle.script_reader.specs.declared.command.Fault.TheVariants.{NotAscii}
-use Rattle.script_running.specs.script_judging.Judging.{faulty, Obeys, Judges}
+use Rattle.script_running.specs.script_judging.Judging.{faulty, Obeys}
 use Rattle.script_running.specs.declared.script_judging.judging.Answer.{Answer}
 use Rattle.script_running.specs.declared.script_judging.judging.Answer.TheVariants.{Silent}
 
--- a request is answered, or is yet to be obeyed, and nothing has changed
-abbrev pub Settles : Journal → Request → Option Request → Answer → Journal → Type 0
-Settles s r None a t = Obeys s r a t
-Settles s r (Some q) a t = (r ≡ q) × (t ≡ s)
+-- what a line within the limit is answered of which this is known, unless it isn't ASCII
+abbrev pub unless_not_ascii : List ℕ → Answer → Answer
+unless_not_ascii line a = cond (is_ascii line) a (faulty NotAscii)
 
--- so what the words of a line within the limit ask for; where they ask for nothing, it may not be ASCII
-abbrev pub SettlesLine : Journal → List ℕ → Request → Option Request → Answer → Journal → Type 0
-SettlesLine s line request.Nothing q a t = (q ≡ None) × (a ≡ cond (is_ascii line) Silent (faulty NotAscii)) × (t ≡ s)
-SettlesLine s line r q a t = Settles s r q a t
+-- so what the words of a line within the limit ask for; where they ask for nothing, or are wrong, it may not be ASCII
+abbrev pub AnswersWords : Journal → List ℕ → Result Request Fault → Answer → Journal → Type 0
+AnswersWords s line (Ok request.Nothing) a t = (a ≡ unless_not_ascii line Silent) × (t ≡ s)
+AnswersWords s line (Ok r) a t = Obeys s r a t
+AnswersWords s line (Err f) a t = (a ≡ unless_not_ascii line (faulty f)) × (t ≡ s)
 
--- a line is answered, or what it asks for is yet to be obeyed, and nothing has changed
-abbrev pub Decides : Journal → List ℕ → Option Request → Answer → Journal → Type 0
-Decides s line None a t = Judges s line a t
-Decides s line (Some r) a t = (command_of line ≡ Ok r) × (t ≡ s)
+-- it is answered so, or isn't answered, and nothing has changed
+abbrev pub Decides : Journal → (Answer → Journal → Type 0) → Bool → Answer → Journal → Type 0
+Decides s Goes true a t = Goes a t
+Decides s Goes false a t = t ≡ s

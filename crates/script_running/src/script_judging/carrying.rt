@@ -1,11 +1,12 @@
-//! Requests for which the session is moved: it is taken, and given back with the answer.
+//! Lines for which the session is moved: it is taken, and given back with the answer.
 ghost use Rattle.commands.specs.declared.command.Change.TheVariants as change;
 ghost use Rattle.commands.specs.declared.command.Command.TheVariants as command;
-ghost use Rattle.script_running.specs.script_judging.Judging.{Gives, Obeys};
+ghost use Rattle.script_running.specs.script_judging.Judging.{Gives, Obeys, Judges};
 
 use crate::script_judging::judging::{Answer, answer_when};
 use commands::{Change, Command, Points, give};
-use script_reader::{Polygon, Request};
+use script_reader::{Polygon, Request, read_line};
+use solid_listing::Reply;
 use std::alloc::Global;
 use undo_journal::Session;
 
@@ -33,8 +34,8 @@ fn carry_lamina(
     )
 }
 
-/// Does what a line asks for, and gives the session back with the answer. What isn't answered `ok` leaves it as it was, its records too.
-pub fn carry_out(alloc: Global, session: Session, request: Request<'_>) -> (Session, Answer)
+/// Does what a line asks for, and gives the session back with the answer.
+fn obey(alloc: Global, session: Session, request: Request<'_>) -> (Session, Answer)
     ensures { Obeys session request.entry result.1 result.0 }
 {
     match request {
@@ -42,5 +43,15 @@ pub fn carry_out(alloc: Global, session: Session, request: Request<'_>) -> (Sess
         Request::List => (session, Answer::Listing),
         Request::Lamina(solid, polygon) => carry_lamina(alloc, session, solid, &polygon),
         Request::Give(wanted) => carry(alloc, session, wanted),
+    }
+}
+
+/// Answers a line, and gives the session back. What isn't answered `ok` leaves it as it was, its records too.
+pub fn carry_out(alloc: Global, session: Session, line: &[u8]) -> (Session, Answer)
+    ensures { Judges session line.now result.1 result.0 }
+{
+    match read_line(line) {
+        Ok(request) => obey(alloc, session, request),
+        Err(fault) => (session, Answer::Reply(Reply::Fault(fault.code()))),
     }
 }

@@ -1,16 +1,19 @@
 //! What a line is answered.
-ghost use Rattle.std.specs.Prelude.{◌≡◌, ◌<◌, ◌≤◌, cond};
+ghost use Rattle.std.specs.Prelude.{◌≡◌, ◌<◌, ◌≤◌, true};
 ghost use Rattle.commands.specs.declared.command.Change.TheVariants as change;
 ghost use Rattle.commands.specs.declared.command.Command.TheVariants as command;
 ghost use Rattle.commands.specs.Telling.{TellsSession, told_of, told_of_move};
-ghost use Rattle.script_running.specs.script_judging.Judging.{faulty, answer_when, Gives, complains, one_line, counted};
-ghost use Rattle.script_running.specs.script_judging.Settling.{SettlesLine, Decides};
-ghost use Rattle.script_reader.specs.Grammar.{is_ascii};
+ghost use Rattle.script_running.specs.script_judging.Judging.{faulty, answer_when, Gives, Judges, complains, one_line, counted};
+ghost use Rattle.script_running.specs.script_judging.Settling.{unless_not_ascii, AnswersWords, Decides};
+ghost use Rattle.script_reader.specs.Grammar.{is_operator, arguments};
 ghost use Rattle.script_running.specs.Outs.{is_clean};
 
-use commands::{Change, Command, Question, Told, act_on_session, ask};
+use commands::{Command, Question, Told, act_on_session, ask};
 use euler_operators::{Op, Refusal};
-use script_reader::{Fault, Request, is_ascii, is_long, read_words};
+use script_reader::{
+    Fault, Name, Opening, Request, Words, arguments, is_ascii, is_long, is_operator, opening_of,
+    operator,
+};
 use solid_listing::Reply;
 use solid_measure::Tally;
 use undo_journal::{Failure, Session};
@@ -186,7 +189,7 @@ fn tell_fault(fault: Fault, answer: &mut Answer)
 /// Answers a line within the limit of whose words this is the first fault: it is told, or that the line isn't ASCII.
 #[inline(never)]
 fn tell_first_fault(line: &[u8], fault: Fault, answer: &mut Answer)
-    ensures { answer.new ≡ cond (is_ascii line.now) (faulty fault) (faulty Fault.NotAscii) }
+    ensures { answer.new ≡ unless_not_ascii line.now (faulty fault) }
 {
     if is_ascii(line) {
         tell_fault(fault, answer);
@@ -198,7 +201,7 @@ fn tell_first_fault(line: &[u8], fault: Fault, answer: &mut Answer)
 /// Answers a line within the limit whose words ask for nothing: it has no reply, or is told that it isn't ASCII.
 #[inline(never)]
 fn tell_nothing(line: &[u8], answer: &mut Answer)
-    ensures { answer.new ≡ cond (is_ascii line.now) Answer.Silent (faulty Fault.NotAscii) }
+    ensures { answer.new ≡ unless_not_ascii line.now Answer.Silent }
 {
     if is_ascii(line) {
         *answer = Answer::Silent;
@@ -207,63 +210,87 @@ fn tell_nothing(line: &[u8], answer: &mut Answer)
     }
 }
 
-/// Answers a line within the limit whose words ask for this, or gives back a request for which the session has to be moved.
-fn obey<'a>(
+/// Answers a line within the limit that begins with the name of an operator, before these words.
+#[inline(always)]
+fn judge_operator(
     session: &mut Session,
-    line: &'a [u8],
-    request: Request<'a>,
+    line: &[u8],
+    name: Name,
+    words: &mut Words<'_>,
     answer: &mut Answer,
-) -> Option<Request<'a>>
-    ensures { SettlesLine session.old line.now request.entry result answer.new session.new }
+)
+    requires { is_operator name ≡ true }
+    ensures { AnswersWords session.old line.now (arguments name words.old) answer.new session.new }
 {
-    match request {
-        Request::Nothing => tell_nothing(line, answer),
-        Request::List => *answer = Answer::Listing,
-        Request::Give(Command::Change(Change::Act(op))) => act(session, op, answer),
-        Request::Give(Command::Ask(question)) => tell_question(session, question, answer),
-        Request::Give(Command::Undo) => undo(session, answer),
-        Request::Give(Command::Redo) => redo(session, answer),
-        larger => return Some(larger),
+    match operator(name, words) {
+        Ok(op) => act(session, op, answer),
+        Err(fault) => tell_first_fault(line, fault, answer),
     }
-    None
+}
+
+/// Answers a line within the limit that begins with the name of no operator, before these words, unless the session has to be moved for it.
+#[inline(never)]
+fn judge_other(
+    session: &mut Session,
+    line: &[u8],
+    name: Name,
+    words: &mut Words<'_>,
+    answer: &mut Answer,
+) -> bool
+    ensures { Decides session.old (λ a t. AnswersWords session.old line.now (arguments name words.old) a t) result answer.new session.new }
+{
+    if matches!(
+        name,
+        Name::Lamina | Name::Block | Name::Sweep | Name::Glue | Name::Split
+    ) {
+        return false;
+    }
+    match arguments(name, words) {
+        Ok(Request::List) => *answer = Answer::Listing,
+        Ok(Request::Give(Command::Ask(question))) => tell_question(session, question, answer),
+        Ok(Request::Give(Command::Undo)) => undo(session, answer),
+        Ok(Request::Give(Command::Redo)) => redo(session, answer),
+        Ok(_) => return false,
+        Err(fault) => tell_first_fault(line, fault, answer),
+    }
+    true
 }
 
 /// Judges any line.
 ///
 /// A line that asks for something is read once. Only one that asks for nothing is looked at again, for a byte that isn't ASCII.
 #[inline(never)]
-#[tactic(auto, using(crate::proofs::script_judging_laws::Decided::decides))]
-fn judge_line<'a>(session: &mut Session, line: &'a [u8], answer: &mut Answer) -> Option<Request<'a>>
-    ensures { Decides session.old line.now result answer.new session.new }
+#[tactic(auto, using(crate::proofs::script_judging_laws::Decided::words_judged))]
+fn judge_line(session: &mut Session, line: &[u8], answer: &mut Answer) -> bool
+    ensures { Decides session.old (λ a t. Judges session.old line.now a t) result answer.new session.new }
 {
     if is_long(line) {
         tell_fault(Fault::LongLine, answer);
-        return None;
+        return true;
     }
-    match read_words(line) {
-        Ok(request) => obey(session, line, request, answer),
-        Err(fault) => {
-            tell_first_fault(line, fault, answer);
-            None
+    match opening_of(line) {
+        Opening::Nothing => tell_nothing(line, answer),
+        Opening::BadWord => tell_first_fault(line, Fault::BadWord, answer),
+        Opening::Command(name, mut words) => {
+            if !is_operator(name) {
+                return judge_other(session, line, name, &mut words, answer);
+            }
+            judge_operator(session, line, name, &mut words, answer);
         }
     }
+    true
 }
 
-/// Judges a line: its answer is put where it is kept, since it has the size of a plane; a request for which the session has to be moved is given
-/// back, for `carry_out`. The lines that are given most often, `undo` and `redo` alone, are known by their letters.
+/// Judges a line: its answer is put where it is kept, since it has the size of a plane. False where the session has to be moved, which is for
+/// `carry_out`; then nothing has changed. The lines that are given most often, `undo` and `redo` alone, are known by their letters.
 #[inline(always)]
-pub fn judge<'a>(session: &mut Session, line: &'a [u8], answer: &mut Answer) -> Option<Request<'a>>
-    ensures { Decides session.old line.now result answer.new session.new }
+pub fn judge(session: &mut Session, line: &[u8], answer: &mut Answer) -> bool
+    ensures { Decides session.old (λ a t. Judges session.old line.now a t) result answer.new session.new }
 {
     match line {
-        [b'u', b'n', b'd', b'o'] => {
-            undo(session, answer);
-            None
-        }
-        [b'r', b'e', b'd', b'o'] => {
-            redo(session, answer);
-            None
-        }
-        _ => judge_line(session, line, answer),
+        [b'u', b'n', b'd', b'o'] => undo(session, answer),
+        [b'r', b'e', b'd', b'o'] => redo(session, answer),
+        _ => return judge_line(session, line, answer),
     }
+    true
 }

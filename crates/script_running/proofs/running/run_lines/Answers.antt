@@ -3,8 +3,8 @@ use Rattle.script_reader.specs.State.{reader_of}
 use Rattle.script_running.specs.declared.script_judging.judging.Summary.{Summary}
 use Rattle.script_running.specs.script_judging.Judging.{no_lines}
 use Rattle.script_running.proofs.Counting.{IsWithin, same_counts, counted_within, one_more}
-use Rattle.script_running.proofs.RunLaws.{Progress, Hears, begins, flushed, turn_of, goes_on, heard_line, heard_larger, heard_long, ends, read_fails, too_long, same_run, telling_fails, stops_there, flush_fails, falls}
-use Rattle.script_running.proofs.running.run_lines.Goals.{in-Line+in-Some, in-Line+in_default-judge, in-Long, in-Err, in_default+in-End, in_default+in-Read, in_default+in-TooLong, in_default+in-Err-say, in_default+in_default-say+then-stops}
+use Rattle.script_running.proofs.RunLaws.{Progress, Hears, begins, flushed, turn_of, goes_on, heard_line, heard_moved, heard_long, ends, read_fails, too_long, same_run, telling_fails, stops_there, flush_fails, falls}
+use Rattle.script_running.proofs.running.run_lines.Goals.{in-Line+then-not-judge, in-Line+else-not-judge, in-Long, in-Err, in_default+in-End, in_default+in-Read, in_default+in-TooLong, in_default+in-Err-say, in_default+in_default-say+then-stops}
 use Rattle.script_reader.specs.declared.lines.Found.TheVariants as found
 use Rattle.script_reader.proofs.EndLaws.{no_whole_line}
 use Rattle.solid_listing.specs.Writing.{outgoing}
@@ -42,8 +42,8 @@ returns g c =
       | in_default+in-Err-say w ↦
           let at = flushed g.R.Read.remaining _ c.script.lines _ (outgoing (g.W.Write.contents c.script.writer) c.script.text) (outgoing (g.W.Write.contents c.flush.new.writer) c.flush.new.text) _ _ _ c.script.invariant.progress w.in_default.ensures.tells in
           let told : Hears g.R.Read.remaining c.script.lines w.advance.new.self c.script.session w.match-advance.answer w.match-advance.session = elim w.match-advance.branch [
-            | in-Line+in-Some v ↦ heard_larger g.R.Read.remaining _ _ _ _ _ _ _ _ _ _ v.in-Line.ensures v.line.ensures v.in-Some.ensures v.carry_out-next.ensures v.answer-is v.session-is
-            | in-Line+in_default-judge v ↦ heard_line g.R.Read.remaining _ _ _ v.line.result.now v.judge.new.session _ v.judge.new.answer _ v.in-Line.ensures v.line.ensures v.in_default-judge.ensures v.answer-is v.session-is
+            | in-Line+then-not-judge v ↦ heard_moved g.R.Read.remaining _ _ _ v.line.result.now v.line-then-not-judge.result.now v.judge.result v.judge.new.session _ _ v.judge.new.answer _ _ v.in-Line.ensures v.line-then-not-judge.ensures v.judge.ensures v.if-not-judge.true v.carry_out-next.ensures v.answer-is v.session-is
+            | in-Line+else-not-judge v ↦ heard_line g.R.Read.remaining _ _ _ v.line.result.now v.judge.result v.judge.new.session _ v.judge.new.answer _ v.in-Line.ensures v.line.ensures v.judge.ensures v.if-not-judge.false v.answer-is v.session-is
             | in-Long v ↦ heard_long g.R.Read.remaining _ _ _ _ _ _ v.in-Long.ensures v.code.ensures v.answer-is v.session-is
           ] in
           let turn = turn_of g.R.Read.remaining _ c.script.lines w.advance.new.self _ _ _ _ _ w.match-advance.answer w.match-advance.session at told in
@@ -51,8 +51,8 @@ returns g c =
       | in_default+in_default-say+then-stops w ↦
           let at = flushed g.R.Read.remaining _ c.script.lines _ (outgoing (g.W.Write.contents c.script.writer) c.script.text) (outgoing (g.W.Write.contents c.flush.new.writer) c.flush.new.text) _ _ _ c.script.invariant.progress w.in_default.ensures.tells in
           let told : Hears g.R.Read.remaining c.script.lines w.advance.new.self c.script.session w.match-advance.answer w.match-advance.session = elim w.match-advance.branch [
-            | in-Line+in-Some v ↦ heard_larger g.R.Read.remaining _ _ _ _ _ _ _ _ _ _ v.in-Line.ensures v.line.ensures v.in-Some.ensures v.carry_out-next.ensures v.answer-is v.session-is
-            | in-Line+in_default-judge v ↦ heard_line g.R.Read.remaining _ _ _ v.line.result.now v.judge.new.session _ v.judge.new.answer _ v.in-Line.ensures v.line.ensures v.in_default-judge.ensures v.answer-is v.session-is
+            | in-Line+then-not-judge v ↦ heard_moved g.R.Read.remaining _ _ _ v.line.result.now v.line-then-not-judge.result.now v.judge.result v.judge.new.session _ _ v.judge.new.answer _ _ v.in-Line.ensures v.line-then-not-judge.ensures v.judge.ensures v.if-not-judge.true v.carry_out-next.ensures v.answer-is v.session-is
+            | in-Line+else-not-judge v ↦ heard_line g.R.Read.remaining _ _ _ v.line.result.now v.judge.result v.judge.new.session _ v.judge.new.answer _ v.in-Line.ensures v.line.ensures v.judge.ensures v.if-not-judge.false v.answer-is v.session-is
             | in-Long v ↦ heard_long g.R.Read.remaining _ _ _ _ _ _ v.in-Long.ensures v.code.ensures v.answer-is v.session-is
           ] in
           let turn = turn_of g.R.Read.remaining _ c.script.lines w.advance.new.self _ _ _ _ _ w.match-advance.answer w.match-advance.session at told in
@@ -64,8 +64,8 @@ returns g c =
 pub count-requires-clause-lines : goal.count-requires-clause-lines
 count-requires-clause-lines g c =
     let told : Hears g.R.Read.remaining c.script.lines c.advance.new.self c.script.session c.match-advance.answer c.match-advance.session = elim c.match-advance.branch [
-      | in-Line+in-Some w ↦ heard_larger g.R.Read.remaining _ _ _ _ _ _ _ _ _ _ w.in-Line.ensures w.line.ensures w.in-Some.ensures w.carry_out-next.ensures w.answer-is w.session-is
-      | in-Line+in_default-judge w ↦ heard_line g.R.Read.remaining _ _ _ w.line.result.now w.judge.new.session _ w.judge.new.answer _ w.in-Line.ensures w.line.ensures w.in_default-judge.ensures w.answer-is w.session-is
+      | in-Line+then-not-judge w ↦ heard_moved g.R.Read.remaining _ _ _ w.line.result.now w.line-then-not-judge.result.now w.judge.result w.judge.new.session _ _ w.judge.new.answer _ _ w.in-Line.ensures w.line-then-not-judge.ensures w.judge.ensures w.if-not-judge.true w.carry_out-next.ensures w.answer-is w.session-is
+      | in-Line+else-not-judge w ↦ heard_line g.R.Read.remaining _ _ _ w.line.result.now w.judge.result w.judge.new.session _ w.judge.new.answer _ w.in-Line.ensures w.line.ensures w.judge.ensures w.if-not-judge.false w.answer-is w.session-is
       | in-Long w ↦ heard_long g.R.Read.remaining _ _ _ _ _ _ w.in-Long.ensures w.code.ensures w.answer-is w.session-is
     ] in
     let less = falls g.R.Read.remaining c.script.lines c.advance.new.self c.script.session c.match-advance.answer c.match-advance.session told in
@@ -74,8 +74,8 @@ count-requires-clause-lines g c =
 pub script-smaller : goal.script-smaller
 script-smaller g c =
     let told : Hears g.R.Read.remaining c.script.lines c.advance.new.self c.script.session c.match-advance.answer c.match-advance.session = elim c.match-advance.branch [
-      | in-Line+in-Some w ↦ heard_larger g.R.Read.remaining _ _ _ _ _ _ _ _ _ _ w.in-Line.ensures w.line.ensures w.in-Some.ensures w.carry_out-next.ensures w.answer-is w.session-is
-      | in-Line+in_default-judge w ↦ heard_line g.R.Read.remaining _ _ _ w.line.result.now w.judge.new.session _ w.judge.new.answer _ w.in-Line.ensures w.line.ensures w.in_default-judge.ensures w.answer-is w.session-is
+      | in-Line+then-not-judge w ↦ heard_moved g.R.Read.remaining _ _ _ w.line.result.now w.line-then-not-judge.result.now w.judge.result w.judge.new.session _ _ w.judge.new.answer _ _ w.in-Line.ensures w.line-then-not-judge.ensures w.judge.ensures w.if-not-judge.true w.carry_out-next.ensures w.answer-is w.session-is
+      | in-Line+else-not-judge w ↦ heard_line g.R.Read.remaining _ _ _ w.line.result.now w.judge.result w.judge.new.session _ w.judge.new.answer _ w.in-Line.ensures w.line.ensures w.judge.ensures w.if-not-judge.false w.answer-is w.session-is
       | in-Long w ↦ heard_long g.R.Read.remaining _ _ _ _ _ _ w.in-Long.ensures w.code.ensures w.answer-is w.session-is
     ] in
     falls g.R.Read.remaining c.script.lines c.advance.new.self c.script.session c.match-advance.answer c.match-advance.session told
@@ -83,8 +83,8 @@ script-smaller g c =
 pub script-preserved : goal.script-preserved
 script-preserved g c =
     let told : Hears g.R.Read.remaining c.script.lines c.advance.new.self c.script.session c.match-advance.answer c.match-advance.session = elim c.match-advance.branch [
-      | in-Line+in-Some w ↦ heard_larger g.R.Read.remaining _ _ _ _ _ _ _ _ _ _ w.in-Line.ensures w.line.ensures w.in-Some.ensures w.carry_out-next.ensures w.answer-is w.session-is
-      | in-Line+in_default-judge w ↦ heard_line g.R.Read.remaining _ _ _ w.line.result.now w.judge.new.session _ w.judge.new.answer _ w.in-Line.ensures w.line.ensures w.in_default-judge.ensures w.answer-is w.session-is
+      | in-Line+then-not-judge w ↦ heard_moved g.R.Read.remaining _ _ _ w.line.result.now w.line-then-not-judge.result.now w.judge.result w.judge.new.session _ _ w.judge.new.answer _ _ w.in-Line.ensures w.line-then-not-judge.ensures w.judge.ensures w.if-not-judge.true w.carry_out-next.ensures w.answer-is w.session-is
+      | in-Line+else-not-judge w ↦ heard_line g.R.Read.remaining _ _ _ w.line.result.now w.judge.result w.judge.new.session _ w.judge.new.answer _ w.in-Line.ensures w.line.ensures w.judge.ensures w.if-not-judge.false w.answer-is w.session-is
       | in-Long w ↦ heard_long g.R.Read.remaining _ _ _ _ _ _ w.in-Long.ensures w.code.ensures w.answer-is w.session-is
     ] in
     let at = flushed g.R.Read.remaining _ c.script.lines _ (outgoing (g.W.Write.contents c.script.writer) c.script.text) (outgoing (g.W.Write.contents c.flush.new.writer) c.flush.new.text) _ _ _ c.script.invariant.progress c.in_default.ensures.tells in
