@@ -1,32 +1,38 @@
 /* The model at once, by the readers. */
 #include "walks.h"
 
+enum { AHEAD = 64 };
+
 /* What is written, and where: how many rows there are, as many of them written as there is room for. */
 struct writing {
     const gwb *g;
     gwb_half_edge_row *rows;
     size_t room, count;
+    uint32_t read; /* the greatest edge that was read ahead */
 };
 
-static void write_loop(struct writing *w, uint32_t loop)
+/* Edges mostly rise with their faces. Read one after another they come from memory in a stream; a walk round a loop would wait for each. */
+static void read_ahead(struct writing *w, uint32_t edge)
 {
-    size_t written = w->count < w->room ? w->count : w->room;
-    w->count += gwb_half_edge_rows(w->g, loop, w->rows + written, w->room - written);
+    gwb_edge_row ends;
+    if (w->read >= edge + AHEAD / 2)
+        return;
+    w->read = w->read < edge ? edge : w->read;
+    while (w->read < edge + AHEAD && gwb_edge(w->g, w->read + 1, &ends) == GWB_FOUND)
+        w->read++;
 }
 
 static void write_face(struct writing *w, uint32_t face)
 {
-    gwb_face_row row;
-    if (gwb_face(w->g, face, &row) != GWB_FOUND)
-        return;
-    write_loop(w, row.outer_loop);
-    for (uint32_t ring = 0; gwb_ring_after(w->g, face, ring, &ring) == GWB_FOUND;)
-        write_loop(w, ring);
+    size_t written = w->count < w->room ? w->count : w->room;
+    w->count += gwb_half_edge_rows(w->g, face, w->rows + written, w->room - written);
+    if (written < w->count && written < w->room)
+        read_ahead(w, w->rows[written].half_edge / 2);
 }
 
 size_t gwb_read_half_edges(const gwb *g, uint32_t solid, gwb_half_edge_row *rows, size_t room)
 {
-    struct writing w = {g, rows, room, 0};
+    struct writing w = {g, rows, room, 0, 0};
     if (!gwb_is_open(g))
         return SIZE_MAX;
     for (uint32_t face = 0; next_face(g, solid, face, &face) == GWB_FOUND;)

@@ -382,8 +382,8 @@ static void try_rows()
     for (const gwb_vertex_row &row : vertices)
         are_right = are_right && bench.vertex(Vertex(row.vertex)).z == row.point.z;
     check(are_right && vertices.size() == 16, "all rows at once");
-    const std::vector<gwb_half_edge_row> of_loop = bench.half_edge_rows(Loop(rows[0].loop));
-    check(of_loop.size() == 4 && of_loop[0].half_edge == rows[0].half_edge && of_loop[3].next == rows[0].half_edge, "the rows of a loop");
+    const std::vector<gwb_half_edge_row> of_face = bench.half_edge_rows(Face(rows[0].face));
+    check(of_face.size() == 4 && of_face[0].half_edge == rows[0].half_edge && of_face[3].next == rows[0].half_edge, "the rows of a face");
     gwb_half_edge_row few[3] = {};
     check(gwb_read_half_edges(bench.handle(), 0, few, 2) == 48 && few[1].half_edge == rows[1].half_edge && few[2].half_edge == 0,
           "too little room");

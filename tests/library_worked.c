@@ -145,7 +145,7 @@ static void too_little_room(void)
     HOLDS(memcmp(many, all, sizeof all) == 0);
     HOLDS(gwb_half_edges(&g, 99, few, 3) == 0);
     gwb_half_edge_row one[2] = {{7, 7, 7, 7, 7}, {7, 7, 7, 7, 7}};
-    HOLDS(gwb_half_edge_rows(&g, row.outer_loop, one, 1) == 4);
+    HOLDS(gwb_half_edge_rows(&g, 15, one, 1) == 4);
     HOLDS(one[0].half_edge == few[0] && one[0].next == few[1] && one[0].loop == 15 && one[0].face == 15 && one[1].half_edge == 7);
     gwb_edge_row ends = {0, 0};
     HOLDS(gwb_edge(&g, few[0] / 2, &ends) == 1);

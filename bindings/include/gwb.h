@@ -296,7 +296,7 @@ uint32_t gwb_lent_loop(gwb *copy, uint32_t loop, uint32_t *face);
 uint32_t gwb_lent_lone_vertex(gwb *copy, uint32_t loop, uint32_t *vertex);
 uint32_t gwb_lent_first_half_edge(gwb *copy, uint32_t loop, uint32_t *half_edge);
 size_t gwb_lent_half_edges(gwb *copy, uint32_t loop, uint32_t *buf, size_t room);
-size_t gwb_lent_half_edge_rows(gwb *copy, uint32_t loop, gwb_half_edge_row *rows, size_t room);
+size_t gwb_lent_half_edge_rows(gwb *copy, uint32_t face, gwb_half_edge_row *rows, size_t room);
 uint32_t gwb_lent_next_half_edge(gwb *copy, uint32_t half_edge, uint32_t *next);
 uint32_t gwb_lent_previous_half_edge(gwb *copy, uint32_t half_edge, uint32_t *previous);
 uint32_t gwb_lent_half_edge_loop(gwb *copy, uint32_t half_edge, uint32_t *loop);
@@ -381,11 +381,13 @@ static inline size_t gwb_half_edges(const gwb *g, uint32_t loop, uint32_t *buf, 
     return gwb_lent_half_edges(&copy, loop, buf, room);
 }
 
-/** The same with a row of each half-edge: all that is known of it, in one walk round the loop. A reader. */
-static inline size_t gwb_half_edge_rows(const gwb *g, uint32_t loop, gwb_half_edge_row *rows, size_t room)
+/** Writes a row of each half-edge of a face, as far as there is room in `rows`: those of its outer loop, then those of its rings, rising, in
+ * their order round each loop, from any on. A reader.
+ * @return how many there are: 0 where the face is not there, SIZE_MAX where the handle is closed; then nothing is written. */
+static inline size_t gwb_half_edge_rows(const gwb *g, uint32_t face, gwb_half_edge_row *rows, size_t room)
 {
     gwb copy = *g;
-    return gwb_lent_half_edge_rows(&copy, loop, rows, room);
+    return gwb_lent_half_edge_rows(&copy, face, rows, room);
 }
 
 /** The half-edge after another in its loop. GWB_ABSENT where its edge is not there. A reader. */

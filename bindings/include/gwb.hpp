@@ -1194,11 +1194,11 @@ public:
         return rows<gwb_half_edge_row>(
             [&](gwb_half_edge_row *at, std::size_t room) { return gwb_read_half_edges(seen(), solid.number(), at, room); });
     }
-    /// Those of a loop, in their order round it from any of them on.
-    [[nodiscard]] std::vector<gwb_half_edge_row> half_edge_rows(Loop loop) const
+    /// Those of a face, loop by loop.
+    [[nodiscard]] std::vector<gwb_half_edge_row> half_edge_rows(Face face) const
     {
         return rows<gwb_half_edge_row>(
-            [&](gwb_half_edge_row *at, std::size_t room) { return gwb_half_edge_rows(seen(), loop.number(), at, room); });
+            [&](gwb_half_edge_row *at, std::size_t room) { return gwb_half_edge_rows(seen(), face.number(), at, room); });
     }
     /// All vertices with their points.
     [[nodiscard]] std::vector<gwb_vertex_row> vertex_rows() const

@@ -273,11 +273,11 @@ impl Readers {
         rows.into_iter().map(HalfEdgeRow::from).collect()
     }
 
-    /// Those of a loop, in their order round it from any of them on.
+    /// Those of a face, loop by loop.
     #[must_use]
-    pub fn loop_rows(&self, of_loop: Loop) -> Vec<HalfEdgeRow> {
+    pub fn face_rows(&self, face: Face) -> Vec<HalfEdgeRow> {
         let rows = rows(|rows: *mut gwb_sys::HalfEdgeRow, room| unsafe {
-            gwb_sys::gwb_lent_half_edge_rows(&mut self.lent(), of_loop.0, rows, room)
+            gwb_sys::gwb_lent_half_edge_rows(&mut self.lent(), face.0, rows, room)
         });
         rows.into_iter().map(HalfEdgeRow::from).collect()
     }

@@ -348,7 +348,7 @@ fn all_rows_come_at_once() {
         assert_eq!((session.loop_of(at), session.face_of(at)), (Some(row.of_loop), Some(row.face)));
     }
     assert_eq!((rows.len(), session.half_edge_rows(above).len(), session.half_edge_rows(Solid(9)).len()), (48, 24, 0));
-    assert_eq!(session.loop_rows(rows[0].of_loop), rows[..4]);
+    assert_eq!(session.face_rows(rows[0].face), rows[..4]);
     assert!(session.vertex_rows().iter().all(|&(vertex, point)| session.vertex(vertex) == Some(point)));
 }
 

@@ -1,7 +1,7 @@
 //! Calls of C: the model held, read without text. Each says 1 where the value is there, and writes it; 0 where it is not there, and 9
 //! where there is no session: then nothing is written.
 ghost use Rattle.std.specs.Prelude.{◌≡◌, Some};
-ghost use Rattle.session_slots.specs.Reading.{face_in, face_of_loop_in, edge_in, point_in, lone_in, after_in, before_in, loop_in, row_of, IsRingAfter, IsFaceAfter, AreHalfEdges, AreTold, IsFirst, kind_of, IsNumberAfter};
+ghost use Rattle.session_slots.specs.Reading.{face_in, face_of_loop_in, edge_in, point_in, lone_in, after_in, before_in, loop_in, IsRingAfter, IsFaceAfter, AreHalfEdges, AreRows, IsFirst, kind_of, IsNumberAfter};
 ghost use Rattle.session_slots.specs.Owned.{slot_in};
 ghost use Rattle.session_slots.specs.Spokes.{IsStart};
 ghost use Rattle.gwb_c.specs.Handle.{Reads, Finds, Lists, GivesFresh};
@@ -235,29 +235,30 @@ pub extern "C" fn gwb_lent_half_edges(gwb: &mut GwbLent, l: u32, buf: &mut [u32]
     count
 }
 
-fn list_half_edge_rows(slot: &Slot, l: u32, rows: &mut [HalfEdgeRow]) -> usize
-    ensures { Lists (AreTold row_of l) (Some slot.now) rows.old rows.new result }
+fn list_half_edge_rows(slot: &Slot, face: u32, rows: &mut [HalfEdgeRow]) -> usize
+    ensures { Lists (AreRows face) (Some slot.now) rows.old rows.new result }
 {
     match &slot.stage {
-        Some(stage) => session_slots::half_edge_rows(stage.arena(), l, rows),
+        Some(stage) => session_slots::half_edge_rows(stage.arena(), face, rows),
         None => 0,
     }
 }
 
-/// The same with a row of each half-edge: where it starts, the one after it, its loop and its face.
+/// Writes a row of each half-edge of a face, as far as there is room, and says how many there are: those of its outer loop, then those of
+/// its rings, rising, in their order round each; none where the face is not there, `SIZE_MAX` where there is no session.
 #[unsafe(no_mangle)]
 pub extern "C" fn gwb_lent_half_edge_rows(
     gwb: &mut GwbLent,
-    l: u32,
+    face: u32,
     rows: &mut [HalfEdgeRow],
 ) -> usize
     ensures state { gwb.new.lent.loan ≡ gwb.old.lent.loan }
-    ensures items { Lists (AreTold row_of l) (slot_in gwb.old.lent.loan) rows.old rows.new result }
+    ensures items { Lists (AreRows face) (slot_in gwb.old.lent.loan) rows.old rows.new result }
 {
     let Some(shown) = show(gwb) else {
         return usize::MAX;
     };
-    let count = list_half_edge_rows(shown.slot(), l, rows);
+    let count = list_half_edge_rows(shown.slot(), face, rows);
     hide(gwb, shown);
     count
 }

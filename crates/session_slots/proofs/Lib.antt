@@ -1,5 +1,6 @@
 pub mod Overlaid
 pub mod CycleRounds
+mod FaceRows
 mod Numbers
 mod Values
 mod Loans

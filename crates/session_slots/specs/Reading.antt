@@ -1,5 +1,5 @@
 -- What readers tell of a model.
-use Rattle.std.specs.Prelude.{◌≡◌, ℕ, true, false, cond, nat_eq, List, map, Option, Some, None}
+use Rattle.std.specs.Prelude.{◌≡◌, ℕ, true, false, cond, nat_eq, List, [], ◌∷◌, ◌++◌, map, Option, Some, None}
 use Rattle.euler_operators.specs.Items.{IsIn}
 use Rattle.euler_operators.specs.Rings.{IsRotation}
 use Rattle.euler_operators.specs.Table as table
@@ -7,6 +7,7 @@ use Rattle.euler_operators.specs.HalfEdge.{plus, minus, edge_of}
 use Rattle.euler_operators.specs.Model.{Model, LoopContent, lone, cycle, items_of, solid_of, outer, face_of, content, tail, after, before, loop_of, point_of}
 use Rattle.euler_operators.specs.declared.Kind.{Kind}
 use Rattle.euler_operators.specs.declared.Kind.TheVariants as kind
+use Rattle.shapes.specs.Faces.{loops_of}
 use Rattle.euler_conditions.specs.Store.{Store, empty_store, IsNextNumber, IsNextRing, IsNextFace}
 use Rattle.session_slots.specs.declared.readers.FaceRow.{FaceRow}
 use Rattle.session_slots.specs.declared.readers.EdgeRow.{EdgeRow}
@@ -51,13 +52,22 @@ IsFirst l M o = (table.has M.loops l ≡ true → IsItemOf (content M l) o) × (
 abbrev pub AreHalfEdges : ℕ → Model → List ℕ → Type 0
 AreHalfEdges l M hs = IsRotation (items_of (content M l)) hs
 
--- what f tells of each of them
+-- those of some loops, one loop after another
+abbrev pub AreRound : Model → List ℕ → List ℕ → Type 0
+AreRound M [] hs = hs ≡ []
+AreRound M (l ∷ ls) hs = (here rest : List ℕ) × AreHalfEdges l M here × AreRound M ls rest × (hs ≡ here ++ rest)
+
+-- what f tells of each half-edge of loop l
 abbrev pub AreTold : {X : Type 0} → (Model → ℕ → X) → ℕ → Model → List X → Type 0
 AreTold f l M xs = (hs : List ℕ) × AreHalfEdges l M hs × (xs ≡ map (f M) hs)
 
 -- half-edge h, the vertex at which it starts, the one after it, and the loop and the face in which it stands
 abbrev pub row_of : Model → ℕ → HalfEdgeRow
 row_of M h = record { half_edge = h; start = tail M h; next = after M h; of_loop = loop_of M h; face = face_of M (loop_of M h) }
+
+-- the rows of the half-edges of face f: those of its outer loop, then those of its rings, rising; none where f is not there
+abbrev pub AreRows : ℕ → Model → List HalfEdgeRow → Type 0
+AreRows f M rows = (hs : List ℕ) × AreRound M (cond (table.has M.faces f) (loops_of M f) []) hs × (rows ≡ map (row_of M) hs)
 
 -- the item after half-edge h in its loop, if h's edge is there
 abbrev pub after_in : ℕ → Model → Option ℕ

@@ -1,15 +1,15 @@
-//! The half-edges of a loop, written into a buffer of the caller's: their codes, or a row of each.
-ghost use Rattle.std.specs.Prelude.{◌≡◌, ℕ, true, length, map, slice_set};
+//! Half-edges written into a buffer of the caller's: those of a loop by their codes, or those of a face, a row of each.
+ghost use Rattle.std.specs.Prelude.{◌≡◌, ℕ, ◌+◌, ◌≤◌, true, length, map, slice_set};
 ghost use Rattle.euler_operators.specs.Rings.{rotate_to};
-ghost use Rattle.euler_operators.specs.Model.{Model, has_half, cycle_of, loop_of, face_of, after};
+ghost use Rattle.euler_operators.specs.Model.{Model, has_half, cycle_of, loop_of, face_of, rings_of, after};
 ghost use Rattle.euler_conditions.specs.Store.{has_number};
 ghost use Rattle.euler_conditions.specs.Ready.{IsReady};
-ghost use Rattle.session_slots.specs.Written.{laid_over, WritesOne};
-ghost use Rattle.session_slots.specs.Reading.{AreHalfEdges, AreTold, row_of};
+ghost use Rattle.session_slots.specs.Written.{laid_at, WritesOne, WritesFrom};
+ghost use Rattle.session_slots.specs.Reading.{AreHalfEdges, AreTold, AreRows, row_of};
 
 use euler_conditions::Arena;
 use euler_operators::{Content, HalfEdge, Kind};
-use solid_walks::next_code;
+use solid_walks::{loops_of, next_code};
 
 /// A half-edge, the vertex at which it starts, the one after it in its loop, and the loop and the face in which it stands.
 #[repr(C)]
@@ -68,56 +68,48 @@ fn put_at<T: Copy>(buf: &mut [T], at: usize, item: T)
     }
 }
 
-/// Writes what there is of the half-edges of a loop from the given one on, as far as there is room, and says how many there are. It
-/// walks round the loop once.
+/// Writes what there is of the half-edges of a loop from the given one on, from a place on and as far as there is room, and says at
+/// which place they end. It walks round the loop once.
 fn write_from<T: Written>(
     arena: &Arena,
     first: u32,
     of_loop: u32,
     face: u32,
+    place: usize,
     buf: &mut [T],
 ) -> usize
     requires ready { IsReady arena.now }
     requires there { has_half arena.now.model first ≡ true }
     requires of_loop { of_loop ≡ loop_of arena.now.model first }
     requires face { face ≡ face_of arena.now.model of_loop }
-    ensures count { result ≡ length (cycle_of arena.now.model first) }
-    ensures items { buf.new ≡ laid_over (map (T.told arena.now.model) (rotate_to first (cycle_of arena.now.model first))) buf.old }
+    requires place { place ≤ 2000002 }
+    ensures count { result ≡ place + length (cycle_of arena.now.model first) }
+    ensures items { buf.new ≡ laid_at place (map (T.told arena.now.model) (rotate_to first (cycle_of arena.now.model first))) buf.old }
 {
     let mut at = first;
-    let mut count = 0;
+    let mut end = place;
     'round: loop {
         let next = next_code(arena, at);
-        put_at(buf, count, T::of(arena, at, next, of_loop, face));
-        count += 1;
+        put_at(buf, end, T::of(arena, at, next, of_loop, face));
+        end += 1;
         if next == first {
-            return count;
+            return end;
         }
         at = next;
     }
 }
 
 /// The same for a loop that is there, from any half-edge on; one with a vertex alone has none.
-fn write_loop<T: Written>(arena: &Arena, l: u32, buf: &mut [T]) -> usize
+fn write_loop<T: Written>(arena: &Arena, l: u32, place: usize, buf: &mut [T]) -> usize
     requires ready { IsReady arena.now }
     requires there { has_number arena.now Kind.Loop l ≡ true }
-    ensures { WritesOne (AreTold T.told l arena.now.model) buf.old buf.new result }
+    requires place { place ≤ 2000002 }
+    ensures { WritesFrom (AreTold T.told l arena.now.model) place buf.old buf.new result }
 {
     match arena.content(l) {
-        Content::Lone(_) => 0,
-        Content::Ring(half) => write_from(arena, half.code(), l, arena.face_of(l), buf),
+        Content::Lone(_) => place,
+        Content::Ring(half) => write_from(arena, half.code(), l, arena.face_of(l), place, buf),
     }
-}
-
-/// The same for any loop.
-fn write<T: Written>(arena: &Arena, l: u32, buf: &mut [T]) -> usize
-    requires { IsReady arena.now }
-    ensures { WritesOne (AreTold T.told l arena.now.model) buf.old buf.new result }
-{
-    if !arena.has(Kind::Loop, l) {
-        return 0;
-    }
-    write_loop(arena, l, buf)
 }
 
 /// Writes the half-edges of a loop in their order round it, as far as there is room, and says how many there are.
@@ -125,13 +117,46 @@ pub fn half_edges(arena: &Arena, l: u32, buf: &mut [u32]) -> usize
     requires { IsReady arena.now }
     ensures { WritesOne (AreHalfEdges l arena.now.model) buf.old buf.new result }
 {
-    write(arena, l, buf)
+    if !arena.has(Kind::Loop, l) {
+        return 0;
+    }
+    write_loop(arena, l, 0, buf)
 }
 
-/// Writes the rows of the half-edges of a loop in their order round it, as far as there is room, and says how many there are.
-pub fn half_edge_rows(arena: &Arena, l: u32, buf: &mut [HalfEdgeRow]) -> usize
-    requires { IsReady arena.now }
-    ensures { WritesOne (AreTold row_of l arena.now.model) buf.old buf.new result }
+/// Writes the rows of the half-edges of a face that is there.
+fn write_loops(arena: &Arena, f: u32, rows: &mut [HalfEdgeRow]) -> usize
+    requires ready { IsReady arena.now }
+    requires there { has_number arena.now Kind.Face f ≡ true }
+    ensures { WritesOne (AreRows f arena.now.model) rows.old rows.new result }
 {
-    write(arena, l, buf)
+    let mut end = 0;
+    'loops: for l in loops_of(arena, f) {
+        end = write_loop(arena, l, end, rows);
+    }
+    end
+}
+
+/// The same for a face that has no ring, as most do.
+fn write_outer(arena: &Arena, f: u32, rows: &mut [HalfEdgeRow]) -> usize
+    requires ready { IsReady arena.now }
+    requires there { has_number arena.now Kind.Face f ≡ true }
+    requires bare { length (rings_of arena.now.model f) ≡ 0 }
+    ensures { WritesOne (AreRows f arena.now.model) rows.old rows.new result }
+{
+    write_loop(arena, arena.outer(f), 0, rows)
+}
+
+/// Writes the rows of the half-edges of a face, as far as there is room, and says how many there are: those of its outer loop, then those
+/// of its rings, rising, those of each in their order round it.
+pub fn half_edge_rows(arena: &Arena, f: u32, rows: &mut [HalfEdgeRow]) -> usize
+    requires { IsReady arena.now }
+    ensures { WritesOne (AreRows f arena.now.model) rows.old rows.new result }
+{
+    if !arena.has(Kind::Face, f) {
+        return 0;
+    }
+    if arena.ring_count(f) == 0 {
+        return write_outer(arena, f, rows);
+    }
+    write_loops(arena, f, rows)
 }

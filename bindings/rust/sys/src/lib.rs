@@ -229,7 +229,7 @@ extern "C" {
     pub fn gwb_lent_loop(copy: *mut Gwb, l: u32, face: *mut u32) -> u32;
     pub fn gwb_lent_lone_vertex(copy: *mut Gwb, l: u32, vertex: *mut u32) -> u32;
     pub fn gwb_lent_half_edges(copy: *mut Gwb, l: u32, buf: *mut u32, room: usize) -> usize;
-    pub fn gwb_lent_half_edge_rows(copy: *mut Gwb, l: u32, rows: *mut HalfEdgeRow, room: usize) -> usize;
+    pub fn gwb_lent_half_edge_rows(copy: *mut Gwb, face: u32, rows: *mut HalfEdgeRow, room: usize) -> usize;
     pub fn gwb_lent_next_half_edge(copy: *mut Gwb, half_edge: u32, next: *mut u32) -> u32;
     pub fn gwb_lent_previous_half_edge(copy: *mut Gwb, half_edge: u32, previous: *mut u32) -> u32;
     pub fn gwb_lent_half_edge_loop(copy: *mut Gwb, half_edge: u32, l: *mut u32) -> u32;

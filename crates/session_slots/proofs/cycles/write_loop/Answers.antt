@@ -23,10 +23,10 @@ write_from-requires-clause-of_loop g c =
 
 pub returns-in-Lone : goal.returns-in-Lone
 returns-in-Lone g c =
-    let M = c.args.arena.now.model in writes_none g.T.Written.told M c.args.l c.args.buf.now (lone_items (content M c.args.l) _ c.in-Lone.ensures)
+    let M = c.args.arena.now.model in writes_none g.T.Written.told M c.args.l c.args.place c.args.buf.now (lone_items (content M c.args.l) _ c.in-Lone.ensures)
 
 pub returns-in-Ring : goal.returns-in-Ring
 returns-in-Ring g c =
     let M = c.args.arena.now.model in
-    writes_from g.T.Written.told M c.args.l c.code.result _ c.args.buf.now c.write_from.new.buf c.write_from.result
+    writes_from g.T.Written.told M c.args.l c.args.place c.code.result _ c.args.buf.now c.write_from.new.buf c.write_from.result
     (ap (cycle_of M) c.code.ensures ∙ told_cycle M c.requires.ready.sound c.args.l c.in-Ring.half c.in-Ring.ensures) c.write_from.ensures.count c.write_from.ensures.items
