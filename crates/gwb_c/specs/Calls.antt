@@ -12,7 +12,7 @@ use Rattle.session_slots.specs.Stages.{lacks}
 use Rattle.session_slots.specs.Slots.{Slot_does, Slot_asks}
 use Rattle.session_slots.specs.Parting.{Slot_makes_part}
 use Rattle.session_slots.specs.declared.slot.Slot.{Slot}
-use Rattle.gwb_c.specs.Handle.{Calls, none, Recalls, RecallsBy}
+use Rattle.gwb_c.specs.Handle.{Calls, none, Recalls}
 
 -- a call, but where the session or the draft hasn't it
 abbrev pub Does : Option Slot → Call → Option Slot → ℕ → Type 0
@@ -40,9 +40,5 @@ Leaves None k new kind = (new ≡ None) × (kind ≡ 9)
 Leaves (Some x) k new kind = (new ≡ Some x) × (kind ≡ k)
 
 -- what the reader of the last answer writes is written
-abbrev pub Tells : {X : Type 0} → (Answer → Option X) → Option Slot → X → X → Type 0
-Tells f slot old new = (told : ℕ) × Recalls f slot old new told
-
--- the same where it is written in another form
-abbrev pub TellsBy : {X Y : Type 0} → (Y → X) → (Answer → Option X) → Option Slot → Y → Y → Type 0
-TellsBy g f slot old new = (told : ℕ) × RecallsBy g f slot old new told
+abbrev pub Tells : {X : Type 0} → (Answer → X → X → ℕ → Type 0) → Option Slot → X → X → Type 0
+Tells G slot old new = (told : ℕ) × Recalls G slot old new told

@@ -8,9 +8,12 @@ use Rattle.gwb_c.specs.FreshNumbers.{fresh_in}
 use Rattle.script_running.specs.declared.script_judging.judging.Answer.TheVariants.{Silent, Listing}
 use Rattle.commands.specs.declared.command.Question.{Question}
 use Rattle.commands.specs.Telling.{asked}
-use Rattle.session_slots.specs.Answered.{status_of, refusal_in}
+use Rattle.session_slots.specs.Answered.{status_of, refusal_in, counts_in, volume_in, plane_in, joined, joined_plane}
 use Rattle.session_slots.specs.Slots.{answer_after}
 use Rattle.session_slots.specs.declared.answers.Refused.{Refused}
+use Rattle.session_slots.specs.declared.answers.Counts.{Counts}
+use Rattle.session_slots.specs.declared.answers.Wide.{Wide}
+use Rattle.session_slots.specs.declared.answers.PlaneRow.{PlaneRow}
 use Rattle.session_slots.specs.Stages.{shown, is_draft, text_in}
 use Rattle.session_slots.specs.Lines.{spoken, lacks_said, Slot_notes}
 use Rattle.session_slots.specs.Written.{laid_over, WritesOne}
@@ -66,19 +69,28 @@ abbrev pub Gives : {X : Type 0} → Option X → X → X → ℕ → Type 0
 Gives None old new told = (told ≡ 0) × (new ≡ old)
 Gives (Some x) old new told = (told ≡ 1) × (new ≡ x)
 
--- a value of the last answer; a closed handle has none
-abbrev pub Recalls : {X : Type 0} → (Answer → Option X) → Option Slot → X → X → ℕ → Type 0
-Recalls f None old new told = (told ≡ 9) × (new ≡ old)
-Recalls f (Some y) old new told = Gives (f y.answer) old new told
-
 -- the same where it is written in another form
 abbrev pub GivesBy : {X Y : Type 0} → (Y → X) → Option X → Y → Y → ℕ → Type 0
 GivesBy f None old new told = (told ≡ 0) × (new ≡ old)
 GivesBy f (Some x) old new told = (told ≡ 1) × (f new ≡ x)
 
-abbrev pub RecallsBy : {X Y : Type 0} → (Y → X) → (Answer → Option X) → Option Slot → Y → Y → ℕ → Type 0
-RecallsBy g f None old new told = (told ≡ 9) × (new ≡ old)
-RecallsBy g f (Some y) old new told = GivesBy g (f y.answer) old new told
+-- what an answer gives: what it refuses, what it counts, a volume and a plane
+abbrev pub gives_refusal : Answer → Refused → Refused → ℕ → Type 0
+gives_refusal a = Gives (refusal_in a)
+
+abbrev pub gives_counts : Answer → Counts → Counts → ℕ → Type 0
+gives_counts a = Gives (counts_in a)
+
+abbrev pub gives_volume : Answer → Wide → Wide → ℕ → Type 0
+gives_volume a = GivesBy joined (volume_in a)
+
+abbrev pub gives_plane : Answer → PlaneRow → PlaneRow → ℕ → Type 0
+gives_plane a = GivesBy joined_plane (plane_in a)
+
+-- what the last answer gives; a closed handle has none
+abbrev pub Recalls : {X : Type 0} → (Answer → X → X → ℕ → Type 0) → Option Slot → X → X → ℕ → Type 0
+Recalls G None old new told = (told ≡ 9) × (new ≡ old)
+Recalls G (Some y) old new told = G y.answer old new told
 
 -- a value of the model shown; a closed handle has none
 abbrev pub Reads : {X : Type 0} → (Model → Option X) → Option Slot → X → X → ℕ → Type 0
@@ -88,7 +100,7 @@ Reads f (Some y) old new told = (g : Stage) → y.stage ≡ Some g → Gives (f 
 -- a number that a relation to the model shown fixes; a closed handle has none
 abbrev pub Finds : (Model → Option ℕ → Type 0) → Option Slot → ℕ → ℕ → ℕ → Type 0
 Finds R None old new told = (told ≡ 9) × (new ≡ old)
-Finds R (Some y) old new told = (g : Stage) → y.stage ≡ Some g → ((told ≡ 1) × R (shown g) (Some new)) ⊎ ((told ≡ 0) × (new ≡ old) × R (shown g) None)
+Finds R (Some y) old new told = (g : Stage) → y.stage ≡ Some g → (n : Option ℕ) × R (shown g) n × Gives n old new told
 
 -- the fresh numbers of the kind k; a closed handle has none
 abbrev pub GivesFresh : ℕ → Option Slot → Range → Range → ℕ → Type 0
@@ -100,11 +112,11 @@ abbrev pub Lists : {X : Type 0} → (Model → List X → Type 0) → Option Slo
 Lists R None old new n = (n ≡ 2 ^ 64 - 1) × (new ≡ old)
 Lists R (Some y) old new n = (g : Stage) → y.stage ≡ Some g → WritesOne (R (shown g)) old new n
 
--- an answer in numbers: its kind, its value in another form, and what it refuses; what it hasn't is not written
-abbrev pub Reports : {X Y : Type 0} → (Y → X) → (Answer → Option X) → Answer → Y → Y → Refused → Refused → ℕ → Type 0
-Reports g f a old new was is kind = (kind ≡ status_of a) × (told : ℕ) × GivesBy g (f a) old new told × (refused : ℕ) × Gives (refusal_in a) was is refused
+-- an answer in numbers: its kind, what it gives, and what it refuses; what it hasn't is not written
+abbrev pub Reports : {X : Type 0} → (Answer → X → X → ℕ → Type 0) → Answer → X → X → Refused → Refused → ℕ → Type 0
+Reports G a old new was is kind = (kind ≡ status_of a) × (told : ℕ) × G a old new told × (refused : ℕ) × gives_refusal a was is refused
 
 -- what a question is answered of the model shown; a closed handle has no answer
-abbrev pub Measures : {X Y : Type 0} → (Y → X) → (Answer → Option X) → Question → Option Slot → Y → Y → Refused → Refused → ℕ → Type 0
-Measures g f q None old new was is kind = (kind ≡ 9) × (new ≡ old) × (is ≡ was)
-Measures g f q (Some x) old new was is kind = (h : Stage) → x.stage ≡ Some h → Reports g f (answer_after Silent (asked (shown h) q)) old new was is kind
+abbrev pub Measures : {X : Type 0} → (Answer → X → X → ℕ → Type 0) → Question → Option Slot → X → X → Refused → Refused → ℕ → Type 0
+Measures G q None old new was is kind = (kind ≡ 9) × (new ≡ old) × (is ≡ was)
+Measures G q (Some x) old new was is kind = (g : Stage) → x.stage ≡ Some g → Reports G (answer_after Silent (asked (shown g) q)) old new was is kind

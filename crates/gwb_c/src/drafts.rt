@@ -7,7 +7,8 @@ ghost use Rattle.gwb_c.specs.Calls.{Does};
 ghost use Rattle.gwb_c.specs.Handle.{Numbers};
 
 use crate::calling::call;
-use session_slots::{Call, Gwb, GwbLent, Slot, hide, show};
+use crate::told::told_of;
+use session_slots::{Call, Gwb, GwbLent, Slot};
 use std::alloc::Global;
 
 /// Opens a draft of the next command: from then on operators and larger commands are its steps.
@@ -57,10 +58,5 @@ pub extern "C" fn gwb_lent_mark(gwb: &mut GwbLent) -> usize
     ensures state { gwb.new.lent.loan ≡ gwb.old.lent.loan }
     ensures value { Numbers steps_in (slot_in gwb.old.lent.loan) result }
 {
-    let Some(shown) = show(gwb) else {
-        return usize::MAX;
-    };
-    let count = steps_of(shown.slot());
-    hide(gwb, shown);
-    count
+    told_of!(gwb, usize::MAX, slot => steps_of(slot))
 }

@@ -5,9 +5,9 @@ ghost use Rattle.session_slots.specs.Opening.{Opened};
 ghost use Rattle.session_slots.specs.Owned.{slot_in};
 ghost use Rattle.gwb_c.specs.Handle.{Hears, Numbers, Says, Replies, Lists_model};
 
-use crate::told::{CLOSED, told_of_line};
+use crate::told::{CLOSED, told_of, told_of_line};
 use script_running::Answer;
-use session_slots::{Gwb, GwbLent, Slot, begin, copy_front, hear, hide, put, show, take, text_of};
+use session_slots::{Gwb, GwbLent, Slot, begin, copy_front, hear, put, take, text_of};
 use std::alloc::Global;
 
 /// Opens a session that holds the empty model. False where memory is refused, or there is a session; then nothing has changed.
@@ -63,12 +63,7 @@ pub extern "C" fn gwb_lent_reply(alloc: Global, gwb: &mut GwbLent, buf: &mut [u8
     ensures state { gwb.new.lent.loan ≡ gwb.old.lent.loan }
     ensures text { Replies (slot_in gwb.old.lent.loan) buf.old buf.new result }
 {
-    let Some(shown) = show(gwb) else {
-        return usize::MAX;
-    };
-    let length = write_text(alloc, shown.slot(), &shown.slot().answer, buf);
-    hide(gwb, shown);
-    length
+    told_of!(gwb, usize::MAX, slot => write_text(alloc, slot, &slot.answer, buf))
 }
 
 /// Writes the listing of the model shown, as far as there is room, and says how long it is: `SIZE_MAX` where memory is refused, or there is
@@ -78,12 +73,7 @@ pub extern "C" fn gwb_lent_listing(alloc: Global, gwb: &mut GwbLent, buf: &mut [
     ensures state { gwb.new.lent.loan ≡ gwb.old.lent.loan }
     ensures text { Lists_model (slot_in gwb.old.lent.loan) buf.old buf.new result }
 {
-    let Some(shown) = show(gwb) else {
-        return usize::MAX;
-    };
-    let length = write_text(alloc, shown.slot(), &Answer::Listing, buf);
-    hide(gwb, shown);
-    length
+    told_of!(gwb, usize::MAX, slot => write_text(alloc, slot, &Answer::Listing, buf))
 }
 
 fn depth_of(slot: &Slot) -> usize
@@ -110,12 +100,7 @@ pub extern "C" fn gwb_lent_depth(gwb: &mut GwbLent) -> usize
     ensures state { gwb.new.lent.loan ≡ gwb.old.lent.loan }
     ensures value { Numbers undos (slot_in gwb.old.lent.loan) result }
 {
-    let Some(shown) = show(gwb) else {
-        return usize::MAX;
-    };
-    let count = depth_of(shown.slot());
-    hide(gwb, shown);
-    count
+    told_of!(gwb, usize::MAX, slot => depth_of(slot))
 }
 
 /// How many commands can be redone, in a draft none: `SIZE_MAX` where there is no session.
@@ -124,10 +109,5 @@ pub extern "C" fn gwb_lent_ahead(gwb: &mut GwbLent) -> usize
     ensures state { gwb.new.lent.loan ≡ gwb.old.lent.loan }
     ensures value { Numbers redos (slot_in gwb.old.lent.loan) result }
 {
-    let Some(shown) = show(gwb) else {
-        return usize::MAX;
-    };
-    let count = ahead_of(shown.slot());
-    hide(gwb, shown);
-    count
+    told_of!(gwb, usize::MAX, slot => ahead_of(slot))
 }

@@ -4,7 +4,7 @@
 //! `exports` has the calls that take and give text, `operators`, `larger`, `laminas`, `parts` and `queries` those that are a command each,
 //! `drafts` those that make operators one command, `recalls` those that give the last answer as values, `reads` and `measures` those that
 //! read the model shown; the contract of each says what the handle stands for before and after it. What is done to that stands in `session_slots`, and `told`
-//! has the numbers by which C is told. `bindings/include/gwb.h` declares the calls for C.
+//! has the numbers by which C is told, and `values` what an answer gives. `bindings/include/gwb.h` declares the calls for C.
 //!
 //! # What is proved
 //!
@@ -32,6 +32,7 @@ mod queries;
 mod reads;
 mod recalls;
 mod told;
+mod values;
 mod version;
 
 pub use fresh::Range;

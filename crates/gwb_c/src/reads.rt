@@ -7,8 +7,8 @@ ghost use Rattle.session_slots.specs.Spokes.{IsStart};
 ghost use Rattle.gwb_c.specs.Handle.{Reads, Finds, Lists, GivesFresh};
 
 use crate::fresh::{Range, fresh_of};
-use crate::told::{ABSENT, CLOSED, FOUND, give};
-use session_slots::{EdgeRow, FaceRow, GwbLent, HalfEdgeRow, Place, Slot, hide, show};
+use crate::told::{ABSENT, CLOSED, give, told_of};
+use session_slots::{EdgeRow, FaceRow, GwbLent, HalfEdgeRow, Place, Slot};
 
 /// The solid and the outer loop of a face.
 #[unsafe(no_mangle)]
@@ -16,15 +16,10 @@ pub extern "C" fn gwb_lent_face(gwb: &mut GwbLent, face: u32, row: &mut FaceRow)
     ensures state { gwb.new.lent.loan ≡ gwb.old.lent.loan }
     ensures value { Reads (face_in face) (slot_in gwb.old.lent.loan) row.old row.new result }
 {
-    let Some(shown) = show(gwb) else {
-        return CLOSED;
-    };
-    let told = match &shown.slot().stage {
+    told_of!(gwb, CLOSED, slot => match &slot.stage {
         Some(stage) => give(session_slots::face(stage.arena(), face), row),
         None => ABSENT,
-    };
-    hide(gwb, shown);
-    told
+    })
 }
 
 /// The face of a loop.
@@ -33,15 +28,10 @@ pub extern "C" fn gwb_lent_loop(gwb: &mut GwbLent, l: u32, face: &mut u32) -> u3
     ensures state { gwb.new.lent.loan ≡ gwb.old.lent.loan }
     ensures value { Reads (face_of_loop_in l) (slot_in gwb.old.lent.loan) face.old face.new result }
 {
-    let Some(shown) = show(gwb) else {
-        return CLOSED;
-    };
-    let told = match &shown.slot().stage {
+    told_of!(gwb, CLOSED, slot => match &slot.stage {
         Some(stage) => give(session_slots::face_of_loop(stage.arena(), l), face),
         None => ABSENT,
-    };
-    hide(gwb, shown);
-    told
+    })
 }
 
 /// The vertices at which the half-edges of an edge start.
@@ -50,15 +40,10 @@ pub extern "C" fn gwb_lent_edge(gwb: &mut GwbLent, edge: u32, row: &mut EdgeRow)
     ensures state { gwb.new.lent.loan ≡ gwb.old.lent.loan }
     ensures value { Reads (edge_in edge) (slot_in gwb.old.lent.loan) row.old row.new result }
 {
-    let Some(shown) = show(gwb) else {
-        return CLOSED;
-    };
-    let told = match &shown.slot().stage {
+    told_of!(gwb, CLOSED, slot => match &slot.stage {
         Some(stage) => give(session_slots::edge(stage.arena(), edge), row),
         None => ABSENT,
-    };
-    hide(gwb, shown);
-    told
+    })
 }
 
 /// The coordinates of a vertex.
@@ -67,15 +52,10 @@ pub extern "C" fn gwb_lent_vertex(gwb: &mut GwbLent, vertex: u32, place: &mut Pl
     ensures state { gwb.new.lent.loan ≡ gwb.old.lent.loan }
     ensures value { Reads (point_in vertex) (slot_in gwb.old.lent.loan) place.old place.new result }
 {
-    let Some(shown) = show(gwb) else {
-        return CLOSED;
-    };
-    let told = match &shown.slot().stage {
+    told_of!(gwb, CLOSED, slot => match &slot.stage {
         Some(stage) => give(session_slots::vertex(stage.arena(), vertex), place),
         None => ABSENT,
-    };
-    hide(gwb, shown);
-    told
+    })
 }
 
 /// The vertex of a loop that has one and no edge.
@@ -84,15 +64,10 @@ pub extern "C" fn gwb_lent_lone_vertex(gwb: &mut GwbLent, l: u32, vertex: &mut u
     ensures state { gwb.new.lent.loan ≡ gwb.old.lent.loan }
     ensures value { Reads (lone_in l) (slot_in gwb.old.lent.loan) vertex.old vertex.new result }
 {
-    let Some(shown) = show(gwb) else {
-        return CLOSED;
-    };
-    let told = match &shown.slot().stage {
+    told_of!(gwb, CLOSED, slot => match &slot.stage {
         Some(stage) => give(session_slots::lone_vertex(stage.arena(), l), vertex),
         None => ABSENT,
-    };
-    hide(gwb, shown);
-    told
+    })
 }
 
 /// The half-edge after another in its loop.
@@ -101,15 +76,10 @@ pub extern "C" fn gwb_lent_next_half_edge(gwb: &mut GwbLent, item: u32, next: &m
     ensures state { gwb.new.lent.loan ≡ gwb.old.lent.loan }
     ensures value { Reads (after_in item) (slot_in gwb.old.lent.loan) next.old next.new result }
 {
-    let Some(shown) = show(gwb) else {
-        return CLOSED;
-    };
-    let told = match &shown.slot().stage {
+    told_of!(gwb, CLOSED, slot => match &slot.stage {
         Some(stage) => give(session_slots::next_half_edge(stage.arena(), item), next),
         None => ABSENT,
-    };
-    hide(gwb, shown);
-    told
+    })
 }
 
 /// The half-edge before another in its loop.
@@ -122,18 +92,13 @@ pub extern "C" fn gwb_lent_previous_half_edge(
     ensures state { gwb.new.lent.loan ≡ gwb.old.lent.loan }
     ensures value { Reads (before_in item) (slot_in gwb.old.lent.loan) previous.old previous.new result }
 {
-    let Some(shown) = show(gwb) else {
-        return CLOSED;
-    };
-    let told = match &shown.slot().stage {
+    told_of!(gwb, CLOSED, slot => match &slot.stage {
         Some(stage) => give(
             session_slots::previous_half_edge(stage.arena(), item),
             previous,
         ),
         None => ABSENT,
-    };
-    hide(gwb, shown);
-    told
+    })
 }
 
 /// The loop in which a half-edge stands.
@@ -142,28 +107,17 @@ pub extern "C" fn gwb_lent_half_edge_loop(gwb: &mut GwbLent, item: u32, l: &mut 
     ensures state { gwb.new.lent.loan ≡ gwb.old.lent.loan }
     ensures value { Reads (loop_in item) (slot_in gwb.old.lent.loan) l.old l.new result }
 {
-    let Some(shown) = show(gwb) else {
-        return CLOSED;
-    };
-    let told = match &shown.slot().stage {
+    told_of!(gwb, CLOSED, slot => match &slot.stage {
         Some(stage) => give(session_slots::half_edge_loop(stage.arena(), item), l),
         None => ABSENT,
-    };
-    hide(gwb, shown);
-    told
+    })
 }
 
 fn find_first_half_edge(slot: &Slot, l: u32, item: &mut u32) -> u32
     ensures { Finds (IsFirst l) (Some slot.now) item.old item.new result }
 {
-    let Some(stage) = &slot.stage else {
-        return ABSENT;
-    };
-    match session_slots::first_half_edge(stage.arena(), l) {
-        Some(found) => {
-            *item = found;
-            FOUND
-        }
+    match &slot.stage {
+        Some(stage) => give(session_slots::first_half_edge(stage.arena(), l), item),
         None => ABSENT,
     }
 }
@@ -174,25 +128,17 @@ pub extern "C" fn gwb_lent_first_half_edge(gwb: &mut GwbLent, l: u32, item: &mut
     ensures state { gwb.new.lent.loan ≡ gwb.old.lent.loan }
     ensures value { Finds (IsFirst l) (slot_in gwb.old.lent.loan) item.old item.new result }
 {
-    let Some(shown) = show(gwb) else {
-        return CLOSED;
-    };
-    let told = find_first_half_edge(shown.slot(), l, item);
-    hide(gwb, shown);
-    told
+    told_of!(gwb, CLOSED, slot => find_first_half_edge(slot, l, item))
 }
 
 fn find_vertex_half_edge(slot: &Slot, vertex: u32, item: &mut u32) -> u32
     ensures { Finds (IsStart vertex) (Some slot.now) item.old item.new result }
 {
-    let Some(stage) = &slot.stage else {
-        return ABSENT;
-    };
-    match session_slots::vertex_half_edge(stage.arena(), stage.greatest(), vertex) {
-        Some(found) => {
-            *item = found;
-            FOUND
-        }
+    match &slot.stage {
+        Some(stage) => give(
+            session_slots::vertex_half_edge(stage.arena(), stage.greatest(), vertex),
+            item,
+        ),
         None => ABSENT,
     }
 }
@@ -203,12 +149,7 @@ pub extern "C" fn gwb_lent_vertex_half_edge(gwb: &mut GwbLent, vertex: u32, item
     ensures state { gwb.new.lent.loan ≡ gwb.old.lent.loan }
     ensures value { Finds (IsStart vertex) (slot_in gwb.old.lent.loan) item.old item.new result }
 {
-    let Some(shown) = show(gwb) else {
-        return CLOSED;
-    };
-    let told = find_vertex_half_edge(shown.slot(), vertex, item);
-    hide(gwb, shown);
-    told
+    told_of!(gwb, CLOSED, slot => find_vertex_half_edge(slot, vertex, item))
 }
 
 fn list_half_edges(slot: &Slot, l: u32, buf: &mut [u32]) -> usize
@@ -227,12 +168,7 @@ pub extern "C" fn gwb_lent_half_edges(gwb: &mut GwbLent, l: u32, buf: &mut [u32]
     ensures state { gwb.new.lent.loan ≡ gwb.old.lent.loan }
     ensures items { Lists (AreHalfEdges l) (slot_in gwb.old.lent.loan) buf.old buf.new result }
 {
-    let Some(shown) = show(gwb) else {
-        return usize::MAX;
-    };
-    let count = list_half_edges(shown.slot(), l, buf);
-    hide(gwb, shown);
-    count
+    told_of!(gwb, usize::MAX, slot => list_half_edges(slot, l, buf))
 }
 
 fn list_half_edge_rows(slot: &Slot, face: u32, rows: &mut [HalfEdgeRow]) -> usize
@@ -255,25 +191,14 @@ pub extern "C" fn gwb_lent_half_edge_rows(
     ensures state { gwb.new.lent.loan ≡ gwb.old.lent.loan }
     ensures items { Lists (AreRows face) (slot_in gwb.old.lent.loan) rows.old rows.new result }
 {
-    let Some(shown) = show(gwb) else {
-        return usize::MAX;
-    };
-    let count = list_half_edge_rows(shown.slot(), face, rows);
-    hide(gwb, shown);
-    count
+    told_of!(gwb, usize::MAX, slot => list_half_edge_rows(slot, face, rows))
 }
 
 fn find_ring_after(slot: &Slot, face: u32, last: u32, ring: &mut u32) -> u32
     ensures { Finds (IsRingAfter face last) (Some slot.now) ring.old ring.new result }
 {
-    let Some(stage) = &slot.stage else {
-        return ABSENT;
-    };
-    match session_slots::ring_after(stage.arena(), face, last) {
-        Some(found) => {
-            *ring = found;
-            FOUND
-        }
+    match &slot.stage {
+        Some(stage) => give(session_slots::ring_after(stage.arena(), face, last), ring),
         None => ABSENT,
     }
 }
@@ -289,25 +214,14 @@ pub extern "C" fn gwb_lent_ring_after(
     ensures state { gwb.new.lent.loan ≡ gwb.old.lent.loan }
     ensures value { Finds (IsRingAfter face last) (slot_in gwb.old.lent.loan) ring.old ring.new result }
 {
-    let Some(shown) = show(gwb) else {
-        return CLOSED;
-    };
-    let told = find_ring_after(shown.slot(), face, last, ring);
-    hide(gwb, shown);
-    told
+    told_of!(gwb, CLOSED, slot => find_ring_after(slot, face, last, ring))
 }
 
 fn find_face_after(slot: &Slot, solid: u32, last: u32, face: &mut u32) -> u32
     ensures { Finds (IsFaceAfter solid last) (Some slot.now) face.old face.new result }
 {
-    let Some(stage) = &slot.stage else {
-        return ABSENT;
-    };
-    match session_slots::face_after(stage.arena(), solid, last) {
-        Some(found) => {
-            *face = found;
-            FOUND
-        }
+    match &slot.stage {
+        Some(stage) => give(session_slots::face_after(stage.arena(), solid, last), face),
         None => ABSENT,
     }
 }
@@ -323,25 +237,17 @@ pub extern "C" fn gwb_lent_face_after(
     ensures state { gwb.new.lent.loan ≡ gwb.old.lent.loan }
     ensures value { Finds (IsFaceAfter solid last) (slot_in gwb.old.lent.loan) face.old face.new result }
 {
-    let Some(shown) = show(gwb) else {
-        return CLOSED;
-    };
-    let told = find_face_after(shown.slot(), solid, last, face);
-    hide(gwb, shown);
-    told
+    told_of!(gwb, CLOSED, slot => find_face_after(slot, solid, last, face))
 }
 
 fn find_number_after(slot: &Slot, entity: u32, last: u32, number: &mut u32) -> u32
     ensures { Finds (IsNumberAfter (kind_of entity) last) (Some slot.now) number.old number.new result }
 {
-    let Some(stage) = &slot.stage else {
-        return ABSENT;
-    };
-    match session_slots::number_after(stage.arena(), entity, last) {
-        Some(found) => {
-            *number = found;
-            FOUND
-        }
+    match &slot.stage {
+        Some(stage) => give(
+            session_slots::number_after(stage.arena(), entity, last),
+            number,
+        ),
         None => ABSENT,
     }
 }
@@ -357,12 +263,7 @@ pub extern "C" fn gwb_lent_number_after(
     ensures state { gwb.new.lent.loan ≡ gwb.old.lent.loan }
     ensures value { Finds (IsNumberAfter (kind_of entity) last) (slot_in gwb.old.lent.loan) number.old number.new result }
 {
-    let Some(shown) = show(gwb) else {
-        return CLOSED;
-    };
-    let told = find_number_after(shown.slot(), entity, last, number);
-    hide(gwb, shown);
-    told
+    told_of!(gwb, CLOSED, slot => find_number_after(slot, entity, last, number))
 }
 
 fn give_fresh(slot: &Slot, entity: u32, range: &mut Range) -> u32
@@ -381,10 +282,5 @@ pub extern "C" fn gwb_lent_fresh(gwb: &mut GwbLent, entity: u32, range: &mut Ran
     ensures state { gwb.new.lent.loan ≡ gwb.old.lent.loan }
     ensures value { GivesFresh entity (slot_in gwb.old.lent.loan) range.old range.new result }
 {
-    let Some(shown) = show(gwb) else {
-        return CLOSED;
-    };
-    let told = give_fresh(shown.slot(), entity, range);
-    hide(gwb, shown);
-    told
+    told_of!(gwb, CLOSED, slot => give_fresh(slot, entity, range))
 }

@@ -1,10 +1,9 @@
 //! What C is told: why there was no call, and of a value whether it is there.
 ghost use Rattle.std.specs.Prelude.{◌≡◌, cond};
-ghost use Rattle.session_slots.specs.Answered.{joined, joined_plane, status_of};
-ghost use Rattle.gwb_c.specs.Handle.{lacking, Gives, GivesBy};
+ghost use Rattle.session_slots.specs.Answered.{status_of};
+ghost use Rattle.gwb_c.specs.Handle.{lacking, Gives};
 
-use euler_operators::Plane;
-use session_slots::{PlaneRow, Slot, Wide, halves, is_drafting, plane_row, status};
+use session_slots::{Slot, is_drafting, status};
 
 /// What a call says of a closed handle, of arguments that make no command, of a call that no draft has, and of one that only a draft has.
 pub(crate) const CLOSED: u32 = 9;
@@ -55,28 +54,17 @@ pub(crate) fn give<T: Copy>(value: Option<T>, out: &mut T) -> u32
     }
 }
 
-/// Writes a number that is there in two halves, and says whether it is.
-pub(crate) fn give_wide(value: Option<i128>, out: &mut Wide) -> u32
-    ensures { GivesBy joined value out.old out.new result }
-{
-    match value {
-        Some(n) => {
-            *out = halves(n);
-            FOUND
-        }
-        None => ABSENT,
-    }
+/// What is told of the slot that is lent, or of none where the handle is closed.
+macro_rules! told_of {
+    ($gwb:ident, $closed:expr, $slot:ident => $told:expr) => {{
+        let Some(shown) = session_slots::show($gwb) else {
+            return $closed;
+        };
+        let $slot = shown.slot();
+        let told = $told;
+        session_slots::hide($gwb, shown);
+        told
+    }};
 }
 
-/// Writes a plane that is there with its coefficients in halves, and says whether it is.
-pub(crate) fn give_plane(value: Option<(Plane, u32)>, out: &mut PlaneRow) -> u32
-    ensures { GivesBy joined_plane value out.old out.new result }
-{
-    match value {
-        Some((plane, flat)) => {
-            *out = plane_row(plane, flat);
-            FOUND
-        }
-        None => ABSENT,
-    }
-}
+pub(crate) use told_of;

@@ -1,13 +1,12 @@
-use Rattle.std.proofs.Common.{inl, inr, Some, None, refl, subst}
+use Rattle.std.proofs.Common.{subst}
 use Rattle.euler_operators.specs.Model.{Model}
 use Rattle.session_slots.specs.Reading.{IsRingAfter}
 use Rattle.session_slots.proofs.Acting.{seen}
 use Rattle.gwb_c.proofs.reads.find_ring_after.Goals as goal
 
-pub returns-in-Some-ring_after : goal.returns-in-Some-ring_after
-returns-in-Some-ring_after c = λ g is.
-    inl (refl, subst (λ (M : Model). IsRingAfter c.args.face c.args.last M (Some c.in-Some-ring_after.found)) (seen c.in-Some.stage g c.args.slot.now.stage c.in-Some.is is c.arena.result.now.model c.arena.ensures.model) c.in-Some-ring_after.ensures)
-
-pub returns-in-None : goal.returns-in-None
-returns-in-None c = λ g is.
-    inr (refl, refl, subst (λ (M : Model). IsRingAfter c.args.face c.args.last M None) (seen c.in-Some.stage g c.args.slot.now.stage c.in-Some.is is c.arena.result.now.model c.arena.ensures.model) c.in-None.ensures)
+pub returns-in-Some : goal.returns-in-Some
+returns-in-Some c = λ g is. (
+  c.ring_after.result,
+  subst (λ (M : Model). IsRingAfter c.args.face c.args.last M c.ring_after.result) (seen c.in-Some.stage g c.args.slot.now.stage c.in-Some.is is c.arena.result.now.model c.arena.ensures.model) c.ring_after.ensures,
+  c.give.ensures,
+)

@@ -9,4 +9,4 @@ pub returns-clause-value : goal.returns-clause-value
 returns-clause-value c =
     let old = c.args.item.now in let new = c.find_first_half_edge-told.new.item in let told = c.find_first_half_edge-told.result in
     subst (λ (o : Option Loan). Finds (IsFirst c.args.l) (slot_in o) old new told) (sym c.in-Some.ensures.shown)
-    (subst (λ (x : Slot). Finds (IsFirst c.args.l) (Some x) old new told) c.slot.ensures c.find_first_half_edge-told.ensures)
+    (subst (λ (x : Slot). Finds (IsFirst c.args.l) (Some x) old new told) c.slot-slot.ensures c.find_first_half_edge-told.ensures)

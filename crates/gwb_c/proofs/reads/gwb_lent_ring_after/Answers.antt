@@ -9,4 +9,4 @@ pub returns-clause-value : goal.returns-clause-value
 returns-clause-value c =
     let old = c.args.ring.now in let new = c.find_ring_after-told.new.ring in let told = c.find_ring_after-told.result in
     subst (λ (o : Option Loan). Finds (IsRingAfter c.args.face c.args.last) (slot_in o) old new told) (sym c.in-Some.ensures.shown)
-    (subst (λ (x : Slot). Finds (IsRingAfter c.args.face c.args.last) (Some x) old new told) c.slot.ensures c.find_ring_after-told.ensures)
+    (subst (λ (x : Slot). Finds (IsRingAfter c.args.face c.args.last) (Some x) old new told) c.slot-slot.ensures c.find_ring_after-told.ensures)

@@ -1,0 +1,65 @@
+//! What an answer gives, as C has it.
+ghost use Rattle.std.specs.Prelude.{ℕ};
+ghost use Rattle.script_running.specs.declared.script_judging.judging.Answer.{Answer};
+ghost use Rattle.gwb_c.specs.Handle.{gives_refusal, gives_counts, gives_volume, gives_plane};
+
+use crate::told::{ABSENT, FOUND, give};
+use script_running::Answer;
+use session_slots::{
+    Counts, PlaneRow, Refused, Wide, counts_of, halves, plane_of, plane_row, refusal_of, volume_of,
+};
+
+/// What an answer may give.
+pub(crate) trait Value: Copy {
+    ghost gives: { Answer → Self → Self → ℕ → Type 0 };
+
+    /// Writes it, if the answer gives it, and says whether it does.
+    fn give(answer: &Answer, out: &mut Self) -> u32
+        ensures { gives answer.now out.old out.new result };
+}
+
+impl Value for Refused {
+    ghost gives = { gives_refusal };
+
+    fn give(answer: &Answer, out: &mut Refused) -> u32 {
+        give(refusal_of(answer), out)
+    }
+}
+
+impl Value for Counts {
+    ghost gives = { gives_counts };
+
+    fn give(answer: &Answer, out: &mut Counts) -> u32 {
+        give(counts_of(answer), out)
+    }
+}
+
+/// In two halves.
+impl Value for Wide {
+    ghost gives = { gives_volume };
+
+    fn give(answer: &Answer, out: &mut Wide) -> u32 {
+        match volume_of(answer) {
+            Some(n) => {
+                *out = halves(n);
+                FOUND
+            }
+            None => ABSENT,
+        }
+    }
+}
+
+/// Its coefficients in two halves each.
+impl Value for PlaneRow {
+    ghost gives = { gives_plane };
+
+    fn give(answer: &Answer, out: &mut PlaneRow) -> u32 {
+        match plane_of(answer) {
+            Some((plane, flat)) => {
+                *out = plane_row(plane, flat);
+                FOUND
+            }
+            None => ABSENT,
+        }
+    }
+}
